@@ -1,0 +1,1 @@
+"""Makers of records and stores, seeded and reproducible."""

@@ -1,0 +1,237 @@
+"""Shapes: graphs without values. A shape is an entry and a (kind, targets) for each region."""
+
+from reading.record import BRANCH, EXIT, IF, RETURN, SWITCH, UNREACHABLE
+
+
+class Program:
+    """A structured program, flattened as it is made."""
+
+    def __init__(self, rng, most, ends):
+        self.rng, self.most, self.ends = rng, most, ends
+        self.nodes = []
+        self.trap = None
+
+    def new(self):
+        self.nodes.append((UNREACHABLE, []))
+        return len(self.nodes) - 1
+
+    def room(self, wanted=1):
+        return len(self.nodes) + wanted <= self.most
+
+    def leave(self, at):
+        """End a region for good: return, exit or a dead end, the latter at times shared."""
+        kind = self.rng.choices((RETURN, EXIT, UNREACHABLE), self.ends)[0]
+        if kind == UNREACHABLE and self.rng.random() < 0.5 and (self.trap or self.room()):
+            if self.trap is None:
+                self.trap = self.new()
+            self.nodes[at] = (BRANCH, [self.trap])
+        else:
+            self.nodes[at] = (kind, [])
+
+    def fork(self, at, targets):
+        rng = self.rng
+        if len(targets) == 1 and rng.random() < 0.8:
+            self.nodes[at] = (BRANCH, targets)
+        elif len(targets) == 2 and rng.random() < 0.8:
+            rng.shuffle(targets)
+            self.nodes[at] = (IF, targets)
+        else:
+            while len(targets) < 8 and rng.random() < 0.2:
+                targets.append(rng.choice(targets))
+            rng.shuffle(targets)
+            self.nodes[at] = (SWITCH, targets)
+
+    def body(self, at, depth, breaks, continues):
+        """Statements from region `at` on; answers the region where they end, or None."""
+        rng = self.rng
+        for _ in range(rng.randint(1, 3)):
+            choice = rng.random()
+            if choice < 0.3 and depth and self.room(4):
+                at = self.select(at, depth, breaks, continues)
+            elif choice < 0.55 and depth and self.room(4):
+                at = self.loop(at, depth, breaks, continues)
+            elif choice < 0.75 and self.room(2) and (breaks or continues):
+                on, away = self.new(), rng.choice(breaks + continues)
+                self.fork(at, [away, on])
+                at = on
+            elif choice < 0.85 and self.room(3):
+                on, end = self.new(), self.new()
+                self.fork(at, [end, on])
+                self.leave(end)
+                at = on
+            elif choice < 0.9:
+                if (breaks or continues) and rng.random() < 0.7:
+                    self.nodes[at] = (BRANCH, [rng.choice(breaks + continues)])
+                else:
+                    self.leave(at)
+                return None
+            elif self.room():
+                on = self.new()
+                self.nodes[at] = (BRANCH, [on])
+                at = on
+            if at is None:
+                return None
+        return at
+
+    def select(self, at, depth, breaks, continues):
+        rng = self.rng
+        ways = rng.choice((2, 2, 2, 3, 4, 8))
+        cases, join, used = [], None, False
+        for _ in range(ways):
+            if rng.random() < 0.25 or not self.room(2):
+                cases.append(None)
+            else:
+                cases.append(self.new())
+        if self.room():
+            join = self.new()
+        else:
+            self.leave(at)
+            return None
+        self.fork(at, [join if case is None else case for case in cases])
+        used = None in cases
+        for case in cases:
+            if case is not None:
+                end = self.body(case, depth - 1, breaks, continues)
+                if end is not None:
+                    self.nodes[end] = (BRANCH, [join])
+                    used = True
+        return join if used else None
+
+    def loop(self, at, depth, breaks, continues):
+        rng = self.rng
+        head, out = self.new(), self.new()
+        self.nodes[at] = (BRANCH, [head])
+        begin = head
+        if rng.random() < 0.4 and self.room():      # while
+            begin = self.new()
+            self.fork(head, [begin, out])
+        near = rng.random() < 0.7
+        end = self.body(begin, depth - 1, [out] + ([] if near else breaks),
+                        [head] + ([] if near else continues))
+        if end is not None:
+            if rng.random() < 0.5:                  # do while
+                self.fork(end, [head, out])
+            else:
+                self.nodes[end] = (BRANCH, [head])
+        return out
+
+
+def structured(rng, most):
+    program = Program(rng, most, rng.choice(((6, 1, 1), (2, 1, 1), (1, 0, 0), (1, 3, 3))))
+    end = program.body(program.new(), rng.randint(1, 4), [], [])
+    if end is not None:
+        program.leave(end)
+    return 0, program.nodes
+
+
+def terminator(rng, target, ways):
+    kind = rng.choices((UNREACHABLE, RETURN, EXIT, BRANCH, IF, SWITCH),
+                       (1, 3, 1, 8, 10, ways))[0]
+    places = {BRANCH: 1, IF: 2, SWITCH: rng.choice((1, 2, 3, 3, 4, 8))}.get(kind, 0)
+    return kind, [target() for _ in range(places)]
+
+
+def wild(rng, most):
+    """Any targets at all."""
+    count = rng.randint(min(2, most), most)
+    ways = rng.choice((0, 2, 10))
+    low = rng.choice((0, 1, 1, 1))      # often nothing leads back to the entry
+    nodes = [terminator(rng, lambda: rng.randint(min(low, count - 1), count - 1), ways)
+             for _ in range(count)]
+    return 0, nodes
+
+
+def near(rng, most):
+    """Targets not far off: chains and ladders with short loops, reducible or not."""
+    count, far = rng.randint(min(2, most), most), rng.randint(2, 6)
+    back, ways = rng.choice((0.05, 0.15, 0.3)), rng.choice((0, 2, 6))
+    nodes = []
+    for at in range(count):
+        def target():
+            if rng.random() < back:
+                return max(1 if count > 1 else 0, at - rng.randint(0, far))
+            return min(count - 1, at + rng.randint(1, far))
+        nodes.append(terminator(rng, target, ways))
+    return 0, nodes
+
+
+def reducible(rng, most):
+    """Forward edges, and back edges to dominators only."""
+    count, ways = rng.randint(min(2, most), most), rng.choice((0, 2, 6))
+    back = rng.choice((0.1, 0.3, 0.5))
+    dominators = {0: {0}}
+    incoming = {at: [] for at in range(count)}
+    nodes = []
+    for at in range(count):
+        above = [dominators[p] for p in incoming[at]]
+        dominators[at] = (set.intersection(*above) if above else set()) | {at}
+        heads = sorted(dominators[at] - {0})
+
+        def target():
+            if heads and (rng.random() < back or at == count - 1):
+                return rng.choice(heads)
+            to = min(count - 1, at + 1 + int(rng.random() ** 3 * 6))
+            incoming[to].append(at)
+            return to
+        if at == count - 1 and not heads:
+            nodes.append((RETURN, []))
+        else:
+            nodes.append(terminator(rng, target, ways))
+    return 0, nodes
+
+
+def nest_of_loops(rng, most):
+    """Loops in loops, each header passing to an inner header, its exit or back."""
+    depth = rng.randint(1, max(1, min(5, (most - 2) // 2)))
+    nodes = [(BRANCH, [1])]
+    for level in range(1, depth + 1):       # heads, a tail for each, an end
+        inner, out = level + 1, 2 * depth + 2 - level
+        nodes.append((IF, [inner, out]) if rng.random() < 0.5 else (BRANCH, [inner]))
+    for level in range(depth, 0, -1):
+        tail = 2 * depth + 1 - level
+        outer = rng.randint(1, level) if rng.random() < 0.3 else level
+        nodes.append((IF, rng.sample([outer, tail + 1], 2)) if rng.random() < 0.8 else
+                     (SWITCH, rng.choices([outer, tail + 1, level], k=rng.randint(2, 8))))
+    nodes.append((RETURN, []))
+    return 0, nodes
+
+
+def crowded(rng, most):
+    """Many targets for each region, none far back: many cases, outputs and conditions."""
+    count, far = rng.randint(min(most, 8), most), rng.choice((3, 6, 12, 31))
+    ways, back = rng.choice((3, 4, 8, 8)), rng.choice((0, 0, 0.03))
+    nodes = []
+    for at in range(count - 1):
+        few = [min(count - 1, at + rng.randint(1, far)) for _ in range(ways)]
+        if at > 1 and rng.random() < back:
+            few[0] = rng.randint(1, at)
+        nodes.append((IF, few[:2]) if rng.random() < 0.1 else (SWITCH, few))
+    nodes.append((rng.choice((RETURN, EXIT, UNREACHABLE)), []))
+    return 0, nodes
+
+
+def small(rng, most):
+    """Few regions, any targets: everything small sooner or later."""
+    count = rng.randint(1, min(5, most))
+    nodes = [terminator(rng, lambda: rng.randint(min(1, count - 1), count - 1), 2)
+             for _ in range(count)]
+    return 0, nodes
+
+
+def shuffled(rng, entry, nodes):
+    """The same graph with its regions numbered anew."""
+    order = list(range(len(nodes)))
+    rng.shuffle(order)                      # old number at each new place
+    new = {old: place for place, old in enumerate(order)}
+    return new[entry], [(nodes[old][0], [new[t] for t in nodes[old][1]]) for old in order]
+
+
+KINDS = {structured: 5, reducible: 3, nest_of_loops: 3, near: 2, wild: 1, crowded: 1, small: 1}
+
+
+def shape(rng, most, make=None):
+    make = make or rng.choices(list(KINDS), KINDS.values())[0]
+    entry, nodes = make(rng, most)
+    if rng.random() < 0.3:
+        entry, nodes = shuffled(rng, entry, nodes)
+    return entry, nodes

@@ -1,0 +1,204 @@
+"""Makes lists/stores.vectors: stores, more than half of them damaged, with `show` or refusal.
+
+    python3 -m generate.stores > lists/stores.vectors
+"""
+
+import collections
+import random
+import sys
+
+from reading.record import (BRANCH, EXIT, IF, RETURN, SWITCH, UNDEF, UNREACHABLE, Inst, Record,
+                            Region, read, refer, show, words_of)
+from reading.store import Refused, blocks, pack, payload
+from . import damage
+from .records import record
+from .vectors import vector
+
+SEED = 5
+
+
+def answer(store):
+    try:
+        found = read(payload(store))
+        refer(found)
+        return show(found)
+    except Refused as refused:
+        return f"{refused}\n"
+
+
+def plain(**changed):
+    """A region that returns nothing, but for what is changed."""
+    given = dict(inputs=[], blocks=[], limit=1, kind=RETURN)
+    return Region(**{**given, **changed})
+
+
+def only(*regions, entry=0, test=0, constants=()):
+    return pack(words_of(Record(entry, test, constants, regions)))
+
+
+def filled(rng, used):
+    """An accepted record of exactly so many words (W), by instructions put in."""
+    while True:
+        made = record(rng, rng.choice((2, 6, 32)))
+        missing = used - 1 - len(words_of(made))
+        for _ in range(1000):
+            region = rng.choice(made.regions)
+            insts, reads = list(region.insts), rng.randint(0, 3)
+            if missing <= 0:
+                break
+            if region.kind in (RETURN, EXIT) and rng.random() < 0.05:
+                continue
+            if len(region.blocks) == 8 and len(region.blocks[7]) == 8:
+                continue
+            new = not region.blocks or len(region.blocks[-1]) == 8 or \
+                rng.random() < 0.2 and len(region.blocks) < 8
+            size = 4 + 3 * reads + new
+            if size > missing or 0 < missing - size < 4:
+                continue
+            inst = Inst(rng.randint(0, 20), rng.randint(0, 2), rng.randint(0, 9),
+                        [(UNDEF, 0, 2) for _ in range(reads)])
+            if new:
+                region.blocks.append([inst])
+            else:
+                region.blocks[-1].append(inst)
+            region.insts.append(inst)
+            missing -= size
+        if len(words_of(made)) == used - 1:
+            return pack(words_of(made))
+
+
+def edges():
+    """Stores at the edges of every range."""
+    def one(**changed):
+        return only(plain(**changed))
+
+    def to(count, kind=SWITCH, **changed):
+        return plain(kind=kind, values=[(4, 0, 1)], targets=[0] * count, passed={0: []}, **changed)
+
+    inst = Inst(1, 0, 1, [])
+    for n in (0, 1, 8, 9):
+        yield one(blocks=[[inst]] * n)
+        yield one(blocks=[[inst] * n])
+        yield only(to(n))
+    for n in (0, 3, 4, 5):
+        yield one(inputs=[2] * n)
+        yield one(values=[(UNDEF, 0, 9)] * n)
+        yield one(kind=EXIT, values=[(UNDEF, 0, 9)] * n)
+        yield one(blocks=[[Inst(1, 2, 1, [(4, 0, 0)] * n)]])
+        yield only(plain(kind=BRANCH, targets=[1], passed={1: [(4, 0, 0)] * n}),
+                   plain(inputs=[1] * min(n, 4)))
+    for n in (0, 1, 2, 3):
+        yield only(to(n, IF))
+        yield only(to(n, BRANCH))
+        for kind in (UNREACHABLE, BRANCH, IF):
+            yield one(kind=kind, values=[(4, 0, 0)] * n)
+    for n in (0, 1, 255, 256, 65535):
+        yield one(inputs=[n])
+        yield only(plain(), constants=[n])
+        yield one(blocks=[[Inst(n, n, n, [])]])
+        yield one(values=[(UNDEF, 0, n)])
+        yield one(limit=n)
+        yield only(plain(), entry=n)
+        yield only(plain(), test=n)
+    for n in (0, 1, 2, 3, 4, 5, 6, 7, 255, 256, 65535):
+        yield one(kind=n)
+        yield one(values=[(n, 0, 0)])
+        yield one(values=[(n, 0, 1)])
+        yield one(values=[(n, 1, 0)])
+        yield one(inputs=[2], values=[(n, 0, 0)])
+        yield only(plain(values=[(n, 0, 1)]), constants=[2, 3])
+        yield one(blocks=[[Inst(1, 2, 3, []), Inst(1, 0, 3, [])]], values=[(n, 0, 0)])
+        yield one(blocks=[[Inst(1, 2, 3, []), Inst(1, 0, 3, [])]], values=[(n, 0, 1)])
+        yield one(blocks=[[Inst(1, 2, 3, [(n, 0, 0)]), Inst(1, 0, 3, [])]])
+        yield one(blocks=[[Inst(1, 2, 3, []), Inst(1, 0, 3, [(n, 0, 0)])]])
+    for n in (63, 64, 65):
+        yield only(plain(), constants=[3] * n)
+    for n in (31, 32, 33):
+        yield only(*[plain() for _ in range(n)])
+        yield only(*[plain() for _ in range(n)], entry=n - 1)
+        yield only(*[plain(exits=list(range(n))) if r == 30 else plain() for r in range(32)])
+        yield only(*[plain(exits=[n, n]) if r == 7 else plain() for r in range(32)])
+    yield only(plain(exits=[0, 0]))
+    yield only(plain(exits=[1, 1]))
+    yield only(plain(values=[(UNDEF, 0, 1)]), plain(), plain(values=[(UNDEF, 0, 2)]))
+    yield only(plain(values=[(UNDEF, 0, 1)]), plain(values=[(UNDEF, 0, 1)]),
+               plain(values=[(UNDEF, 0, 2)]))
+    yield only(plain(kind=IF, values=[(0, 0, 0)], targets=[1, 1], passed={1: []}), plain(),
+               constants=[2])
+    yield only(plain(kind=IF, values=[(UNDEF, 0, 1)], targets=[1, 1], passed={1: []}), plain())
+    for words in ([], [0], [1], [1, 0], [1, 0, 0], [1, 0, 0, 0], [33], [32, 0, 0, 65],
+                  [1, 0, 0, 1], [1, 0, 0, 1, 0]):
+        yield pack(words)
+    yield blocks([0])
+    yield blocks([1, 5])
+    yield blocks([0] * 254)
+    yield blocks([65535])
+
+
+def many_small(rng):
+    """Up to 32 regions in one block, so that late regions can be wrong."""
+    count = rng.randint(8, 30)
+    regions = []
+    for number in range(count):
+        kind = rng.choice((UNREACHABLE, RETURN, BRANCH))
+        targets = [rng.randrange(count)] if kind == BRANCH else []
+        regions.append(plain(kind=kind, targets=targets, passed={t: [] for t in targets}))
+    return Record(rng.randrange(count), rng.randrange(9), [], regions)
+
+
+def stores():
+    rng = random.Random(SEED)
+    for size in (0, 1, 2, 508, 511, 513, 1023, 1025, 8191, 8193, 8704, 9000):
+        yield bytes(size)
+    yield bytes(512)
+    yield bytes(1024)
+    yield from edges()
+    for used in (253, 254, 506, 507, 759, 760):
+        store = filled(rng, used)
+        yield store
+        for harm in (damage.byte, damage.number, damage.checked, damage.used, damage.after):
+            yield harm(rng, store)
+        if used in (253, 506):
+            yield damage.count(rng, store)
+    full = filled(rng, 4048)
+    yield full
+    for harm, block in ((damage.number, 15), (damage.number, 9), (damage.checked, 15),
+                        (damage.checked, 12)):
+        yield full[:512 * block] + harm(rng, full[512 * block:512 * block + 512]) + \
+            full[512 * block + 512:]
+    yield full[:-512]
+    yield full + bytes(512)
+    yield damage.after(rng, filled(rng, 4047))
+
+    def good(most=1):
+        while True:
+            made = many_small(rng) if rng.random() < 0.15 else record(rng, 20)
+            if len(words_of(made)) + 1 <= 253 * most:
+                return made
+
+    for _ in range(720):
+        yield pack(words_of(good()))
+    for most, times in ((2, 12), (3, 10), (5, 6)):
+        for _ in range(times):
+            store = pack(words_of(good(most)))
+            yield store
+            yield rng.choice(damage.BYTES + damage.REPAIRED)(rng, store)
+    for harm in damage.BYTES:
+        for _ in range(12):
+            yield harm(rng, pack(words_of(good())))
+    for _ in range(420):
+        store = rng.choice(damage.REPAIRED)(rng, pack(words_of(good())))
+        if len(store) <= 1024:
+            yield store
+    seen = collections.Counter()
+    while sum(seen.values()) < 480:     # at most nine of each answer
+        store = damage.meaning(rng, good())
+        line = answer(store)
+        if len(store) <= 1024 and line.startswith("refused") and seen[line] < 9:
+            seen[line] += 1
+            yield store
+
+
+if __name__ == "__main__":
+    for store in dict.fromkeys(stores()):   # each store once
+        sys.stdout.write(vector(store, answer(store)))

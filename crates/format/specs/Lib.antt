@@ -1,0 +1,9 @@
+pub mod Store
+pub mod Read
+pub mod References
+pub mod Accept
+pub mod Valid
+pub mod Places
+pub mod ReadLaws
+pub mod WellRead
+pub mod AcceptValid

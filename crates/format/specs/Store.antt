@@ -1,0 +1,73 @@
+-- A store of bytes and the words that it holds (document 01, "store and record"): refusals 1, 2, 3, and 4 for W.
+use mathlib.Core.Bool.{Bool, true, false, _&&_, _||_, not}
+use mathlib.Core.List.{List, [], _∷_, _++_}
+use Prim.Native.Nat.{ℕ, zero, suc, _+_, _-_, _*_, _/_, _%_}
+use lib.ListN.{length, getD}
+use lib.Dec.{eqb, leb, ltb}
+
+-- What is taken, or the refusal's number and its word.
+pub data Answer (A : Type 0) : Type 0 where
+  accepted : A → Answer A
+  refused : ℕ → ℕ → Answer A
+
+abbrev pub andThen : {A B : Type 0} → Answer A → (A → Answer B) → Answer B
+andThen (accepted a) k = k a
+andThen (refused n w) k = refused n w
+
+-- f 0, f 1, .., f (n - 1)
+unfoldable pub tabulate : ℕ → (ℕ → ℕ) → List ℕ
+tabulate zero f = []
+tabulate (suc n) f = tabulate n f ++ (f n ∷ [])
+
+-- Two bytes from a place on, little-endian.
+abbrev pub pair : List ℕ → ℕ → ℕ
+pair s at = getD s at 0 + 256 * getD s (at + 1) 0
+
+-- The check of a block that begins at a byte: over its first n bytes, the sum of byte times (place + 1).
+unfoldable pub weighted : List ℕ → ℕ → ℕ → ℕ
+weighted s at zero = 0
+weighted s at (suc n) = weighted s at n + getD s (at + n) 0 * (n + 1)
+
+-- A block's number is in bytes 0 and 1, its check in bytes 508 to 511.
+abbrev pub numberRight : List ℕ → ℕ → Bool
+numberRight s b = eqb (pair s (512 * b)) b
+
+abbrev pub checkRight : List ℕ → ℕ → Bool
+checkRight s b = eqb (pair s (512 * b + 508) + 65536 * pair s (512 * b + 510)) (weighted s (512 * b) 508)
+
+-- The first fault among the first n blocks: 2 for a wrong number, 3 for a wrong check, each with the block.
+unfoldable pub blocksChecked : List ℕ → ℕ → Answer Unit
+unfolding weighted
+blocksChecked s zero = accepted tt
+blocksChecked s (suc n) =
+    andThen (blocksChecked s n) λ _.
+    elim (numberRight s n) [ false ↦ refused 2 n | true ↦ elim (checkRight s n) [ false ↦ refused 3 n | true ↦ accepted tt ] ]
+
+-- Word j of the joined payloads: 253 words to a block, from its byte 2 on.
+abbrev pub wordAt : List ℕ → ℕ → ℕ
+wordAt s j = pair s (512 * (j / 253) + 2 + 2 * (j % 253))
+
+-- Whether the n words from word j on are zero.
+unfoldable pub allZero : List ℕ → ℕ → ℕ → Bool
+allZero s j zero = true
+allZero s j (suc n) = allZero s j n && eqb (wordAt s (j + n)) 0
+
+abbrev pub lengthRight : ℕ → Bool
+lengthRight n = ltb 0 n && (leb n 8192 && eqb (n % 512) 0)
+
+-- W, which is word 0, against the number of blocks, and the words after W.
+abbrev pub countRight : List ℕ → ℕ → ℕ → Bool
+countRight s n w = ltb 0 w && (eqb n ((w + 252) / 253) && allZero s w (253 * n - w))
+
+-- The words of a store: word 0, which is W, to word W - 1.
+unfoldable pub storeWords : List ℕ → Answer (List ℕ)
+unfolding blocksChecked allZero tabulate
+storeWords s =
+    elim (lengthRight (length s)) [
+      | false ↦ refused 1 0
+      | true ↦ andThen (blocksChecked s (length s / 512)) λ _.
+          elim (countRight s (length s / 512) (wordAt s 0)) [
+            | false ↦ refused 4 0
+            | true ↦ accepted (tabulate (wordAt s 0) (wordAt s))
+          ]
+    ]

@@ -1,0 +1,104 @@
+-- The graph that a record describes: values, instructions, regions, terminators (document 01, "store and record").
+use mathlib.Core.Bool.{Bool, true, false, _&&_}
+use mathlib.Core.List.{List, [], _∷_, map}
+use Prim.Native.Nat.{ℕ}
+use lib.ListN.{getD}
+use lib.Dec.{eqb}
+
+-- A value. Kinds 0, 4 and 5 (constant, bool, undef) are the Rust's Value::Const; `output` and `held` arise only in nesting.
+-- `output o` is the node output that was defined as number o, counted over all nodes from 0; the sheet shows its node and place.
+-- `held r k` is input k of region r after the renumbering of a loop: document 01's marked input, never rewritten again.
+pub data Value : Type 0 where
+  const : ℕ → Value
+  input : ℕ → ℕ → Value
+  instr : ℕ → ℕ → Value
+  output : ℕ → Value
+  bool : Bool → Value
+  undef : ℕ → Value
+  held : ℕ → ℕ → Value
+
+abbrev pub pick : {A : Type 0} → Bool → A → A → A
+pick true a b = a
+pick false a b = b
+
+abbrev pub bit : Bool → ℕ
+bit b = pick b 1 0
+
+-- Three words of a value: kind, region, index. A marked input has a kind of its own, 6, which no sheet shows.
+pub record Code : Type 0 where
+  pub kind : ℕ
+  pub region : ℕ
+  pub index : ℕ
+
+abbrev pub codeOf : Value → Code
+codeOf (const i) = record { kind = 0; region = 0; index = i }
+codeOf (input r k) = record { kind = 1; region = r; index = k }
+codeOf (instr r k) = record { kind = 2; region = r; index = k }
+codeOf (output o) = record { kind = 3; region = 0; index = o }
+codeOf (bool b) = record { kind = 4; region = 0; index = bit b }
+codeOf (undef t) = record { kind = 5; region = 0; index = t }
+codeOf (held r k) = record { kind = 6; region = r; index = k }
+
+abbrev pub sameCode : Code → Code → Bool
+sameCode a b = eqb (a .kind) (b .kind) && (eqb (a .region) (b .region) && eqb (a .index) (b .index))
+
+-- Two values are equal if all three words are.
+abbrev pub sameValue : Value → Value → Bool
+sameValue v w = sameCode (codeOf v) (codeOf w)
+
+-- Type 0: the instruction has no output.
+pub record Instr : Type 0 where
+  pub opcode : ℕ
+  pub type : ℕ
+  pub cost : ℕ
+  pub reads : List Value
+
+-- The Rust's SelectionKind: a boolean test, or a test of a number.
+pub data SelectionKind : Type 0 where
+  bool-cond number : SelectionKind
+
+-- One place of a terminator's targets, with the values passed on. Each place of a target named twice has the same values.
+pub record Edge : Type 0 where
+  pub target : ℕ
+  pub inputs : List Value
+
+-- The terminator of a region, the Rust's ControlInst: kinds 0 to 3, and 4 and 5 together.
+pub data ControlInst : Type 0 where
+  unreachable : ControlInst
+  return : List Value → ControlInst
+  exit-invocation : ℕ → List Value → ControlInst
+  branch : Edge → ControlInst
+  select-branch : SelectionKind → Value → List Edge → ControlInst
+
+-- `exits` is the record's list of loop exit targets, the Rust's loop_header_to_exit_targets.
+pub record Region : Type 0 where
+  pub inputs : List ℕ
+  pub blocks : List (List Instr)
+  pub limit : ℕ
+  pub terminator : ControlInst
+  pub exits : List ℕ
+
+-- `constants` and a region's `inputs` are types.
+pub record Graph : Type 0 where
+  pub entry : ℕ
+  pub test-cost : ℕ
+  pub constants : List ℕ
+  pub regions : List Region
+
+-- What stands at a number that names no region.
+abbrev pub nowhere : Region
+nowhere = record { inputs = []; blocks = []; limit = 1; terminator = unreachable; exits = [] }
+
+abbrev pub region : Graph → ℕ → Region
+region g r = getD (g .regions) r nowhere
+
+-- The edges that lead from a region, by place.
+abbrev pub edgesOf : ControlInst → List Edge
+edgesOf unreachable = []
+edgesOf (return vs) = []
+edgesOf (exit-invocation op vs) = []
+edgesOf (branch e) = e ∷ []
+edgesOf (select-branch k v es) = es
+
+abbrev pub targetsOf : Graph → ℕ → List ℕ
+targetsOf g r = map (λ e. e .target) (edgesOf (region g r .terminator))

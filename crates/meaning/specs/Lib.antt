@@ -1,0 +1,6 @@
+pub mod Graph
+pub mod Form
+pub mod Run
+pub mod GraphRun
+pub mod NestedRun
+pub mod MoreBudget

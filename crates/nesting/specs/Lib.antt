@@ -1,0 +1,16 @@
+pub mod Deferred
+pub mod Nested
+pub mod State
+pub mod Change
+pub mod Rewrite
+pub mod Cond
+pub mod BundleSet
+pub mod Case
+pub mod Blocks
+pub mod Plan
+pub mod Select
+pub mod Count
+pub mod Loop
+pub mod Claim
+pub mod Last
+pub mod Func

@@ -1,0 +1,3 @@
+pub mod Stands
+pub mod Parts
+pub mod PartsWithin

@@ -1,0 +1,178 @@
+-- What a reading that succeeds consists of: each part read at its place (format's Places).
+use mathlib.Core.Path.{_≡_, refl, sym, ap, subst, _∙_}
+use mathlib.Core.Bool.{Bool, true, false, _&&_}
+use mathlib.Core.List.{List, [], _∷_}
+use Prim.Native.Nat.{ℕ, zero, suc, _+_, _≤_, _<_}
+use native.Mathlib.Omega.{arith}
+use lib.ListN.{length, getD}
+use lib.Dec.{eqb, leb, ltb}
+use borrow.Author.Tests.{ltb-true, leb-true, eqb-true}
+use Rattle.meaning.specs.Graph.{Value, ControlInst, Region, Graph, nowhere}
+use Rattle.meaning.specs.Graph as graph
+use Rattle.format.specs.Store.{Answer, accepted, refused, andThen}
+use Rattle.format.specs.Read.{Read, got, bad, Reader, follow, expect, word, within, many, counted, type, value, instruction, block, opcodeFor, fewestValues, mostValues, fewestTargets, mostTargets, distinctFrom, edgesFrom, controlInst, terminator, region, wordFor, settle, regionsFrom, Head, head, readRecord}
+use Rattle.format.specs.Places.{next, after, startOf, blocksOf, blockOf, limitOf, exitsOf}
+use Rattle.format.specs.ReadLaws.{clash, Parted, part, got-value, got-place, many-length, many-end, many-at}
+
+-- two tests at once
+pub both : (a b : Bool) → (a && b) ≡ true → (a ≡ true) × (b ≡ true)
+both true b h = (refl, h)
+both false b h = absurd (clash (cc))
+
+-- a word stands below W
+pub record WordParts (ws : List ℕ) (at n e : ℕ) : Type 0 where
+  pub inside : at < length ws
+  pub is : n ≡ getD ws at 0
+  pub end : e ≡ at + 1
+
+pub word-parts : (ws : List ℕ) (at : ℕ) {n e : ℕ} → word ws at ≡ got n e → WordParts ws at n e
+unfolding word
+word-parts ws at {n} {e} h = by-test (ltb at (length ws)) refl h
+  where
+    by-test : (t : Bool) → ltb at (length ws) ≡ t → elim t [ true ↦ got (getD ws at 0) (at + 1) | false ↦ bad 4 ] ≡ got n e → WordParts ws at n e
+    by-test true q r = record { inside = ltb-true at (length ws) q; is = cc; end = cc }
+    by-test false q r = absurd (clash (cc))
+
+pub record WithinParts (low high : ℕ) (ws : List ℕ) (at n e : ℕ) : Type 0 where
+  pub inside : at < length ws
+  pub is : n ≡ getD ws at 0
+  pub end : e ≡ at + 1
+  pub low-bound : low ≤ n
+  pub high-bound : n ≤ high
+
+pub within-parts : (low high : ℕ) (ws : List ℕ) (at : ℕ) {n e : ℕ} → within low high ws at ≡ got n e → WithinParts low high ws at n e
+unfolding within
+within-parts low high ws at {n} {e} h =
+    let a = part (word ws at) (λ k i. follow (expect (leb low k && leb k high) ws i) λ u j. got k j) n e h in
+    by-test (a .value) (a .place) (leb low (a .value) && leb (a .value) high) refl (word-parts ws at (a .first)) (a .second)
+  where
+    by-test : (k i : ℕ) (t : Bool) → (leb low k && leb k high) ≡ t → WordParts ws at k i → follow (expect t ws i) (λ u j. got k j) ≡ got n e → WithinParts low high ws at n e
+    by-test k i true q w r =
+        let same : k ≡ n = cc in
+        let there : i ≡ e = cc in
+        let bounds = both (leb low k) (leb k high) q in
+        record { inside = w .inside; is = sym same ∙ w .is; end = sym there ∙ w .end; low-bound = omega (arith, leb-true low k (bounds .0)); high-bound = omega (arith, leb-true k high (bounds .1)) }
+    by-test k i false q w r = absurd (clash (cc))
+
+-- a count, and so many from the next place on
+pub record CountedParts {A : Type 0} (low high : ℕ) (p : Reader A) (ws : List ℕ) (at : ℕ) (xs : List A) (e : ℕ) : Type 0 where
+  pub inside : at < length ws
+  pub count : getD ws at 0 ≡ length xs
+  pub low-bound : low ≤ length xs
+  pub high-bound : length xs ≤ high
+  pub items : many (length xs) p ws (at + 1) ≡ got xs e
+
+pub counted-parts : {A : Type 0} (low high : ℕ) (p : Reader A) (ws : List ℕ) (at : ℕ) {xs : List A} {e : ℕ} → counted low high p ws at ≡ got xs e → CountedParts low high p ws at xs e
+unfolding counted
+counted-parts low high p ws at {xs} {e} h =
+    let a = part (within low high ws at) (λ n i. many n p ws i) xs e h in
+    let w = within-parts low high ws at (a .first) in
+    let size : length xs ≡ a .value = many-length p ws (a .value) (a .place) (a .second) in
+    let items : many (length xs) p ws (at + 1) ≡ got xs e = ap (λ n. many n p ws (at + 1)) size ∙ ap (many (a .value) p ws) (sym (w .end)) ∙ a .second in
+    record { inside = w .inside; count = sym (size ∙ w .is); low-bound = omega (arith, w .low-bound); high-bound = omega (arith, w .high-bound); items = items }
+
+-- Each part of a region at its place; the region ends at e.
+pub record RegionParts (ws : List ℕ) (at : ℕ) (x : Region) (e : ℕ) : Type 0 where
+  pub inputs : counted 0 4 type ws at ≡ got (x .inputs) (blocksOf ws at)
+  pub blocks : counted 0 8 block ws (blocksOf ws at) ≡ got (x .blocks) (limitOf ws at)
+  pub limit : within 1 65535 ws (limitOf ws at) ≡ got (x .limit) (limitOf ws at + 1)
+  pub terminator : terminator ws (limitOf ws at + 1) ≡ got (x .terminator) (exitsOf ws at)
+  pub exits : counted 0 32 word ws (exitsOf ws at) ≡ got (x .exits) e
+
+-- what is read, and the place after it
+pub at-next : {A : Type 0} {r : Read A} {a : A} {e : ℕ} → r ≡ got a e → r ≡ got a (next r)
+at-next {r = r} {a} {e} h = h ∙ ap (got a) (sym (ap next h))
+
+pub region-join : (ws : List ℕ) (at : ℕ) (x : Region) (i j k m e : ℕ) → counted 0 4 type ws at ≡ got (x .inputs) i → counted 0 8 block ws i ≡ got (x .blocks) j → within 1 65535 ws j ≡ got (x .limit) k → terminator ws k ≡ got (x .terminator) m → counted 0 32 word ws m ≡ got (x .exits) e → RegionParts ws at x e
+unfolding blocksOf limitOf exitsOf
+region-join ws at x i j k m e a b l t o =
+    let i-is : blocksOf ws at ≡ i = ap next a in
+    let j-is : limitOf ws at ≡ j = ap (λ n. next (counted 0 8 block ws n)) i-is ∙ ap next b in
+    let k-is : k ≡ limitOf ws at + 1 = within-parts 1 65535 ws j l .end ∙ ap (λ n. n + 1) (sym j-is) in
+    let m-is : exitsOf ws at ≡ m = ap (λ n. next (terminator ws n)) (sym k-is) ∙ ap next t in
+    record {
+      inputs = a ∙ ap (got (x .inputs)) (sym i-is);
+      blocks = ap (counted 0 8 block ws) i-is ∙ b ∙ ap (got (x .blocks)) (sym j-is);
+      limit = ap (within 1 65535 ws) j-is ∙ l ∙ ap (got (x .limit)) k-is;
+      terminator = ap (terminator ws) (sym k-is) ∙ t ∙ ap (got (x .terminator)) (sym m-is);
+      exits = ap (counted 0 32 word ws) m-is ∙ o;
+    }
+
+pub region-parts : (ws : List ℕ) (at : ℕ) {x : Region} {e : ℕ} → region ws at ≡ got x e → RegionParts ws at x e
+unfolding region
+region-parts ws at {x} {e} h =
+    let a = part (counted 0 4 type ws at) _ x e h in
+    let b = part (counted 0 8 block ws (a .place)) _ x e (a .second) in
+    let l = part (within 1 65535 ws (b .place)) _ x e (b .second) in
+    let t = part (terminator ws (l .place)) _ x e (l .second) in
+    let o = part (counted 0 32 word ws (t .place)) _ x e (t .second) in
+    let y : Region = record { inputs = a .value; blocks = b .value; limit = l .value; terminator = t .value; exits = o .value } in
+    subst (λ z. RegionParts ws at z e) (got-value (o .second))
+    (region-join ws at y (a .place) (b .place) (l .place) (t .place) e (a .first) (b .first) (l .first) (t .first) (o .first ∙ ap (got (o .value)) (got-place (o .second))))
+
+-- What an answer that accepts consists of.
+pub record Settled {A B : Type 0} (r : Read A) (k : A → ℕ → Answer B) (b : B) : Type 0 where
+  pub value : A
+  pub place : ℕ
+  pub first : r ≡ got value place
+  pub second : k value place ≡ accepted b
+
+pub settled : {A B : Type 0} (m : ℕ) (r : Read A) (k : A → ℕ → Answer B) (b : B) → settle m r k ≡ accepted b → Settled r k b
+settled m (got a at) k b h = record { value = a; place = at; first = refl; second = h }
+settled m (bad n) k b h = absurd (clash (cc))
+
+pub record Then {A B : Type 0} (r : Answer A) (k : A → Answer B) (b : B) : Type 0 where
+  pub value : A
+  pub first : r ≡ accepted value
+  pub second : k value ≡ accepted b
+
+pub then : {A B : Type 0} (r : Answer A) (k : A → Answer B) (b : B) → andThen r k ≡ accepted b → Then r k b
+then (accepted a) k b h = record { value = a; first = refl; second = h }
+then (refused n w) k b h = absurd (clash (cc))
+
+pub accepted-value : {A : Type 0} {a b : A} → accepted a ≡ accepted b → a ≡ b
+accepted-value h = cc
+
+-- Regions that are accepted are read one after the other, to W.
+pub regions-many : (n r : ℕ) (ws : List ℕ) (at : ℕ) {xs : List Region} → regionsFrom n r ws at ≡ accepted xs → many n region ws at ≡ got xs (length ws)
+unfolding regionsFrom many
+regions-many zero r ws at {xs} h = by-test (eqb at (length ws)) refl h
+  where
+    by-test : (t : Bool) → eqb at (length ws) ≡ t → elim t [ true ↦ accepted [] | false ↦ refused 4 0 ] ≡ accepted xs → got [] at ≡ got xs (length ws)
+    by-test true q p = ap (λ x. got x at) (accepted-value p) ∙ ap (got xs) (eqb-true at (length ws) q)
+    by-test false q p = absurd (clash (cc))
+regions-many (suc n) r ws at {xs} h =
+    let a = settled r (region ws at) _ xs h in
+    let b = then (regionsFrom n (suc r) ws (a .place)) _ xs (a .second) in
+    joined (a .value) (a .place) (b .value) (a .first) (regions-many n (suc r) ws (a .place) (b .first)) (accepted-value (b .second))
+  where
+    joined : (x : Region) (i : ℕ) (ys : List Region) → region ws at ≡ got x i → many n region ws i ≡ got ys (length ws) → x ∷ ys ≡ xs → follow (region ws at) (λ z j. follow (many n region ws j) λ zs l. got (z ∷ zs) l) ≡ got xs (length ws)
+    joined x i ys first rest whole = rw (first, rest, whole)
+
+-- The head, and each region at its start; the last ends at W.
+pub record RecordParts (ws : List ℕ) (g : Graph) : Type 0 where
+  pub head : head ws 1 ≡ got (record { count = length (g .regions); entry = g .entry; test-cost = g .test-cost; constants = g .constants }) (startOf ws 0)
+  pub region : (r : ℕ) → r < length (g .regions) → region ws (startOf ws r) ≡ got (graph.region g r) (startOf ws (suc r))
+  pub whole : startOf ws (length (g .regions)) ≡ length ws
+
+pub record-join : (ws : List ℕ) (h : Head) (at : ℕ) (rs : List Region) → head ws 1 ≡ got h at → many (h .count) region ws at ≡ got rs (length ws) → RecordParts ws (record { entry = h .entry; test-cost = h .test-cost; constants = h .constants; regions = rs })
+unfolding startOf after
+record-join ws h at rs front rest =
+    let there : next (head ws 1) ≡ at = ap next front in
+    let count : length rs ≡ h .count = many-length region ws (h .count) at rest in
+    let rest′ : many (h .count) region ws (next (head ws 1)) ≡ got rs (length ws) = ap (many (h .count) region ws) there ∙ rest in
+    let whole : Head = record { count = length rs; entry = h .entry; test-cost = h .test-cost; constants = h .constants } in
+    let same : h ≡ whole = ap (λ n. record { count = n; entry = h .entry; test-cost = h .test-cost; constants = h .constants }) (sym count) in
+    record {
+      head = front ∙ ap (λ n. got n at) same ∙ ap (got whole) (sym there);
+      region = λ r below. many-at region ws (h .count) (next (head ws 1)) nowhere rest′ r (omega arith);
+      whole = ap (λ n. after n region ws (next (head ws 1))) count ∙ sym (many-end region ws (h .count) (next (head ws 1)) rest′);
+    }
+
+pub record-parts : (ws : List ℕ) {g : Graph} → readRecord ws ≡ accepted g → RecordParts ws g
+unfolding readRecord
+record-parts ws {g} h =
+    let a = settled 0 (head ws 1) _ g h in
+    let b = then (regionsFrom (a .value .count) 0 ws (a .place)) _ g (a .second) in
+    subst (RecordParts ws) (accepted-value (b .second))
+    (record-join ws (a .value) (a .place) (b .value) (a .first) (regions-many (a .value .count) 0 ws (a .place) (b .first)))
