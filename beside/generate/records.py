@@ -34,11 +34,11 @@ def exit_lists(rng, entry, nodes, style=None):
 class Filler:
     """Chooses values for one record. Each region's inputs stand for some of the variables."""
 
-    def __init__(self, rng, entry, nodes):
+    def __init__(self, rng, entry, nodes, most=None):
         self.rng, self.entry, self.nodes = rng, entry, nodes
         self.types = rng.choice(([1], [1, 2], [1, 2], [1, 2, 3, 255]))
         self.constants = [rng.choice(self.types) for _ in range(rng.choice((0, 1, 2, 2, 3, 6)))]
-        most = rng.choice((0, 1, 2, 2, 3, 4, 4))
+        most = rng.choice((0, 1, 2, 2, 3, 4, 4)) if most is None else most
         self.variables = [rng.choice(self.types) for _ in range(most)]
         every = rng.random() < 0.4      # every region takes every variable
         self.takes = []
@@ -134,13 +134,13 @@ class Filler:
                       [self.region(number, exits[number]) for number in range(len(self.nodes))])
 
 
-def record(rng, most=32, make=None, exits=None):
-    """A random record of at most so many regions, of any or one kind of shape and exit lists."""
+def record(rng, most=32, make=None, exits=None, inputs=None):
+    """A random record of at most so many regions. Shape, exit lists and inputs may be given."""
     if most > 14 and rng.random() < 0.7 and not make:
-        most = rng.randint(1, 14)
+        most = rng.randint(3, 14)
     while True:
         entry, nodes = shape(rng, most, make)
-        made = Filler(rng, entry, nodes).record(exit_lists(rng, entry, nodes, exits))
+        made = Filler(rng, entry, nodes, inputs).record(exit_lists(rng, entry, nodes, exits))
         if len(words_of(made)) < 4048:
             return made
 

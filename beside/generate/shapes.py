@@ -210,6 +210,33 @@ def crowded(rng, most):
     return 0, nodes
 
 
+def ladder(rng, most):
+    """A chain that names all others, which come one after another: the most conditions."""
+    chain = rng.randint(4, 8)
+    others, wide = most - chain, rng.choice((0, 0.1, 0.2, 0.4))
+    named = [[] for _ in range(chain)]
+    named[0], named[-1] = [0, 1], [0, 1]        # nothing can be claimed before region 0
+    for other in rng.sample(range(2, others), others - 2):
+        room = [k for k in range(chain) if len(named[k]) < 7 + (k == chain - 1)]
+        if room:
+            named[room[-1] if rng.random() < 0.9 else rng.choice(room)].append(other)
+    nodes = []
+    for at in range(chain):
+        targets = [chain + other for other in named[at]] + [at + 1] * (at < chain - 1)
+        rng.shuffle(targets)
+        nodes.append((IF if len(targets) == 2 else SWITCH, targets))
+    for at in range(chain, most):
+        later = rng.sample(range(at + 2, most), min(most - at - 2, rng.choice((1, 2, 3, 7)))) \
+            if at + 2 < most and rng.random() < wide else []
+        if at == chain or at == most - 1:
+            nodes.append((RETURN, []))
+        elif later:
+            nodes.append((IF if len(later) == 1 else SWITCH, [at + 1, *later]))
+        else:
+            nodes.append((BRANCH, [at + 1]))
+    return 0, nodes
+
+
 def small(rng, most):
     """Few regions, any targets: everything small sooner or later."""
     count = rng.randint(1, min(5, most))
