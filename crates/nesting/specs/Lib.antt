@@ -14,3 +14,16 @@ pub mod Loop
 pub mod Claim
 pub mod Last
 pub mod Func
+pub mod Post
+pub mod Keeps
+pub mod Still
+pub mod Text
+pub mod Figure
+pub mod Line
+pub mod Sheet
+pub mod Fields
+pub mod Decode
+pub mod Top
+pub mod Pack
+pub mod Fewer
+pub mod ScanEnds

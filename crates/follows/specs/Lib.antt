@@ -1,0 +1,12 @@
+pub mod Members
+pub mod Reach
+pub mod Usable
+pub mod ValidUse
+pub mod Reaches
+pub mod Statements
+pub mod Bounded
+pub mod Sound
+pub mod JustReached
+pub mod CaseA
+pub mod CaseB
+pub mod Examples

@@ -1,0 +1,92 @@
+-- What is proved of nesting, in four statements. The proofs stand elsewhere: `follows`, `bounded`, `attempts`, `sound`.
+-- Words: a graph and its run, a nested form and its run stand in the crate meaning; the sheet of a store in the crate nesting.
+use mathlib.Core.Path.{_≡_}
+use mathlib.Core.Bool.{true, false}
+use mathlib.Core.List.{List, [], _∷_}
+use mathlib.Core.Option.{Option, none, some}
+use Prim.Native.Nat.{ℕ, _+_, _-_, _*_, _≤_}
+use lib.ListN.{length}
+use Rattle.meaning.specs.Graph.{Value, Graph, region, edgesOf}
+use Rattle.meaning.specs.Form.{Nodes}
+use Rattle.meaning.specs.Run.{Given}
+use Rattle.meaning.specs.GraphRun.{Ended, graph-run}
+use Rattle.meaning.specs.NestedRun.{NestedEnded, nested-run}
+use Rattle.format.specs.Store.{accepted}
+use Rattle.format.specs.Read.{isIn}
+use Rattle.format.specs.Accept.{accept}
+use Rattle.format.specs.Valid.{Distinct, Valid}
+use Rattle.nesting.specs.Nested.{whole, closed, Nested, nested}
+use Rattle.nesting.specs.Count.{reachable}
+use Rattle.nesting.specs.Func.{structurize-func}
+use Rattle.nesting.specs.Figure.{figure}
+use Rattle.nesting.specs.Line.{Sheet}
+use Rattle.nesting.specs.Sheet.{sheet-of}
+use Rattle.nesting.specs.Top.{answer}
+use Rattle.follows.specs.Reaches.{Reaches}
+
+-- Two outcomes give a form to run: whole, which returns the entry's outputs after its last child, and closed, which has none.
+pub data HasForm (n : Nested) : Option (List Value) → Type 0 where
+  is-whole : n .outcome ≡ whole → HasForm n (some (n .entry .outputs))
+  is-closed : n .outcome ≡ closed → HasForm n none
+
+-- 1. FOLLOWS. Whenever the graph's run ends, the nested run ends: at the same end with the same values, after the same
+-- events in the same order, each with the same reads. This for every valid graph that nests whole or closed, all words for
+-- constants and entry inputs, and every rule; there is no premise about exit lists, twice, or what instructions answer.
+pub record Followed (g : Graph) (x : Given) (ks : Nodes) (outs : Option (List Value)) (e : Ended) : Type 0 where
+  pub budget : ℕ
+  pub run : NestedEnded
+  pub ends : nested-run g x ks outs budget ≡ some run
+  pub end : run .end ≡ e .end
+  pub events : run .events ≡ e .events
+
+abbrev pub FollowsRun : Graph → Nested → Type 0
+FollowsRun g n =
+    (outs : Option (List Value)) → HasForm n outs → (x : Given) (b : ℕ) (e : Ended) → graph-run g x b ≡ some e
+    → Followed g x (n .entry .children) outs e
+
+abbrev pub Follows : Type 0
+Follows = (g : Graph) → Valid g → (n : Nested) → structurize-func g ≡ nested n → FollowsRun g n
+
+-- 2. BOUNDED. A nested run that ends costs at most the figure, if no loop, any time it is entered, starts its body more
+-- often than its header's turn limit. Whole runs, exits inside loops and selects included; for every form, however made.
+abbrev pub Bounded : Type 0
+Bounded =
+    (g : Graph) (x : Given) (ks : Nodes) (outs : Option (List Value)) (b : ℕ) (e : NestedEnded)
+    → nested-run g x ks outs b ≡ some e → e .over-limit ≡ false → e .cost ≤ figure (g .test-cost) ks
+
+-- 3. ATTEMPTS. At most 1 + e + n × (2n - 1), for n reachable regions and e edges that lead from them. The list of
+-- reachable regions is just what the entry reaches, each once.
+pub record JustReached (g : Graph) (live : List ℕ) : Type 0 where
+  pub once : Distinct live
+  pub sound : (r : ℕ) → isIn r live ≡ true → Reaches g r
+  pub complete : (r : ℕ) → Reaches g r → isIn r live ≡ true
+
+-- A target named twice is two edges.
+abbrev pub edges-from : Graph → List ℕ → ℕ
+edges-from g [] = 0
+edges-from g (r ∷ rs) = length (edgesOf (region g r .terminator)) + edges-from g rs
+
+abbrev pub most-attempts : Graph → List ℕ → ℕ
+most-attempts g live = 1 + edges-from g live + length live * (2 * length live - 1)
+
+pub record FewAttempts (g : Graph) (made : ℕ) : Type 0 where
+  pub reached : JustReached g (reachable g)
+  pub few : made ≤ most-attempts g (reachable g)
+
+abbrev pub Attempts : Type 0
+Attempts = (g : Graph) → Valid g → (n : Nested) → structurize-func g ≡ nested n → FewAttempts g (n .attempts)
+
+-- 4. SOUND. All three of the sheet that the top definition gives for a store, whatever it accepts.
+pub record SoundSheet (store : List ℕ) (s : Sheet) : Type 0 where
+  pub graph : Graph
+  pub nest : Nested
+  pub accepts : accept store ≡ accepted graph
+  pub nests : structurize-func graph ≡ nested nest
+  pub shows : s ≡ sheet-of graph nest
+  pub follows : FollowsRun graph nest
+  pub bounded : (outs : Option (List Value)) → HasForm nest outs → (x : Given) (b : ℕ) (e : NestedEnded)
+      → nested-run graph x (nest .entry .children) outs b ≡ some e → e .over-limit ≡ false → e .cost ≤ s .figure
+  pub attempts : FewAttempts graph (s .attempts)
+
+abbrev pub Sound : Type 0
+Sound = (store : List ℕ) (lent : ℕ) (s : Sheet) → answer store lent ≡ accepted s → SoundSheet store s

@@ -1,0 +1,66 @@
+use Rattle.store.proofs.Words.{place-within, word-read, copied-more}
+use Rattle.store.specs.Block.{placeOf}
+use Rattle.format.specs.Store.{tabulate, wordAt}
+use lib.ListN.{drop}
+use native.Mathlib.Omega.{arith}
+use Prim.Native.Nat.{_+_, _-_, _≤_}
+use mathlib.Core.List.{_++_}
+use mathlib.Core.Path.{_≡_, refl, _∙_, ap}
+use borrow.Author.Needs.{needs}
+use Rattle.store.proofs.copy_words.Statement.{statement}
+use Rattle.store.proofs.copy_words.Tie as tie
+
+abbrev Inv-loop : tie.InvT-loop
+Inv-loop bytes words₀ w at₀ j₀ words at j = (j ≤ w) × ((at ≡ placeOf j) × (words ≡ tabulate j (wordAt bytes) ++ drop j words₀))
+
+abbrev μ-loop : tie.MeasureT-loop
+μ-loop bytes words₀ w at₀ j₀ words at j = w - j
+
+span-requires : tie.Need-span-requires Inv-loop μ-loop
+span-requires c κs = search needs
+
+loop-holds : tie.Need-loop-holds Inv-loop μ-loop
+unfolding tabulate
+loop-holds c = (omega arith, (refl, refl))
+
+pair-at-requires : tie.Need-pair-at-requires Inv-loop μ-loop
+pair-at-requires c κs = place-within (c .before .loop .j) _ _ (c .before .loop .inv .1 .0) (c .before .before .before .before .before .before .pre .0) (omega arith)
+
+mul-words : tie.Need-mul-words Inv-loop μ-loop
+mul-words c = omega arith
+
+element-write-words : tie.Need-element-write-words Inv-loop μ-loop
+element-write-words c = omega arith
+
+next-place-requires : tie.Need-next-place-requires Inv-loop μ-loop
+next-place-requires c κs = omega (arith, place-within (c .before .before .loop .j) _ _ (c .before .before .loop .inv .1 .0) (c .before .before .before .before .before .before .before .pre .0) (omega arith))
+
+add-j : tie.Need-add-j Inv-loop μ-loop
+add-j c = omega arith
+
+loop-less : tie.Need-loop-less Inv-loop μ-loop
+loop-less c = omega arith
+
+loop-again : tie.Need-loop-again Inv-loop μ-loop
+loop-again c =
+    (omega arith, (c .next-place .ensures _ (c .before .before .before .loop .inv .1 .0), rw (c .before .before .before .loop .inv .1 .1, word-read (c .before .before .before .before .before .before .before .before .args .bytes .now) _ _ _ (c .before .pair-at .ensures) (c .before .before .before .loop .inv .1 .0)) (copied-more _ _ _ (omega arith))))
+
+returns : tie.Need-returns Inv-loop μ-loop
+returns c = c .before .loop .inv .1 .1 ∙ ap (λ n. tabulate n (wordAt (c .before .before .before .before .before .before .args .bytes .now)) ++ drop n (c .before .before .before .before .before .before .args .words .now)) (omega arith)
+
+pub copy-words-spec : {M : Type 1} → statement M
+copy-words-spec =
+    tie.close
+    (tie.spec
+    Inv-loop
+    μ-loop
+    span-requires
+    loop-holds
+    pair-at-requires
+    mul-words
+    element-write-words
+    next-place-requires
+    add-j
+    loop-less
+    loop-again
+    returns)

@@ -1,0 +1,193 @@
+// A store of blocks, checked and loaded into lent words: refusals 1 to 3, and 4 for W.
+ghost use mathlib.Core.Path.{_≡_};
+ghost use mathlib.Core.List.{_++_};
+ghost use Prim.Native.Nat.{ℕ, _+_, _*_, _/_, _≤_, _<_};
+ghost use lib.ListN.{length, drop};
+ghost use Rattle.format.specs.Store.{pair, weighted, blocksChecked, wordAt, allZero, countRight, tabulate, storeWords};
+ghost use Rattle.store.specs.Loaded.{answered, blocksAnswered, counted, Loads};
+ghost use Rattle.store.specs.Block.{firstWrong, blockChecked, placeOf};
+
+// How many words are lent: the record's stand in front.
+pub const WORDS: usize = 32256;
+
+// W, the words that a store holds, or a refusal's number and its word.
+pub enum Loaded {
+    Words(u16),
+    Refused(u16, u16),
+}
+
+// What stands at the blocks: the first wrong one's refusal.
+enum Checked {
+    Right,
+    Wrong(u16, u16),
+}
+
+// Tells its caller how long the array is.
+fn span(words: &[u16]) {}
+
+fn wide(byte: u8) -> u16
+    ensures { λ r. ⌜ r ≡ byte ⌝ }
+{
+    byte as u16
+}
+
+// Two bytes, little-endian.
+fn pair_at(bytes: &[u8], at: usize) -> u16
+    requires { ⌜ at + 1 < length (now bytes) ⌝ }
+    ensures { λ r. ⌜ r ≡ pair (now (bytes .entry)) at ⌝ }
+{
+    wide(bytes[at]) + 256 * wide(bytes[at + 1])
+}
+
+// The sum over a block's bytes 0 to 507 of byte times (place + 1).
+fn check_of(bytes: &[u8], at: usize) -> u32
+    requires { ⌜ at + 508 ≤ length (now bytes) ⌝ }
+    ensures { λ r. ⌜ r ≡ weighted (now (bytes .entry)) at 508 ⌝ }
+{
+    let mut sum: u32 = 0;
+    let mut place: usize = 0;
+    while place < 508 {
+        sum += (bytes[at + place] as u32) * ((place + 1) as u32);
+        place += 1;
+    }
+    sum
+}
+
+// The refusal of the first test that failed, each with its number, for a block.
+fn first_wrong(b: u16, first: bool, m: u16, second: bool, n: u16) -> Checked
+    ensures { λ r. ⌜ blocksAnswered r ≡ firstWrong b first m second n ⌝ }
+{
+    if !first {
+        return Checked::Wrong(m, b);
+    }
+    if !second {
+        return Checked::Wrong(n, b);
+    }
+    Checked::Right
+}
+
+// One block: its number, then its check.
+fn block_checked(bytes: &[u8], b: usize) -> Checked
+    requires { ⌜ (b < 16) × (512 * b + 512 ≤ length (now bytes)) ⌝ }
+    ensures { λ r. ⌜ blocksAnswered r ≡ blockChecked (now (bytes .entry)) b ⌝ }
+{
+    let at = 512 * b;
+    let number = pair_at(bytes, at) as usize;
+    let low = pair_at(bytes, at + 508) as u32;
+    let high = pair_at(bytes, at + 510) as u32;
+    let stated = low + 65536 * high;
+    let sum = check_of(bytes, at);
+    first_wrong(b as u16, number == b, 2, stated == sum, 3)
+}
+
+// The blocks in turn, up to the first that is wrong.
+fn blocks_checked(bytes: &[u8], n: usize) -> Checked
+    requires { ⌜ (n ≤ 16) × (512 * n ≤ length (now bytes)) ⌝ }
+    ensures { λ r. ⌜ blocksAnswered r ≡ blocksChecked (now (bytes .entry)) n ⌝ }
+{
+    let mut b: usize = 0;
+    while b < n {
+        let c = block_checked(bytes, b);
+        if let Checked::Wrong(number, word) = c {
+            return Checked::Wrong(number, word);
+        }
+        b += 1;
+    }
+    Checked::Right
+}
+
+// The byte at which the next word begins: from the last of a block's 253 words, byte 2 of the next block.
+fn next_place(at: usize) -> usize
+    requires { ⌜ at < 8192 ⌝ }
+    ensures { λ r. ⌜ ((j : ℕ) → at ≡ placeOf j → r ≡ placeOf (j + 1)) ⌝ }
+{
+    if at % 512 == 506 {
+        return at + 8;
+    }
+    at + 2
+}
+
+// Whether the words from a place among the words on are zero.
+fn all_zero(bytes: &[u8], from: usize, count: usize) -> bool
+    requires { ⌜ (length (now bytes) ≤ 8192) × (from + count ≤ 253 * (length (now bytes) / 512)) ⌝ }
+    ensures { λ r. ⌜ r ≡ allZero (now (bytes .entry)) from count ⌝ }
+{
+    let mut at = 512 * (from / 253) + 2 + 2 * (from % 253);
+    let mut n: usize = 0;
+    while n < count {
+        if pair_at(bytes, at) != 0 {
+            return false;
+        }
+        at = next_place(at);
+        n += 1;
+    }
+    true
+}
+
+// W against the number of blocks, and the words after W.
+fn count_right(bytes: &[u8], n: usize, w: u16) -> bool
+    requires { ⌜ (length (now bytes) ≤ 8192) × (n ≡ length (now bytes) / 512) ⌝ }
+    ensures { λ r. ⌜ r ≡ countRight (now (bytes .entry)) n w ⌝ }
+{
+    let used = w as usize;
+    if used == 0 {
+        return false;
+    }
+    if (used + 252) / 253 != n {
+        return false;
+    }
+    all_zero(bytes, used, 253 * n - used)
+}
+
+// W, or the store's refusal.
+fn words_used(bytes: &[u8]) -> Loaded
+    ensures { λ r. ⌜ answered r ≡ counted (storeWords (now (bytes .entry))) ⌝ }
+{
+    let length = bytes.len();
+    if length == 0 {
+        return Loaded::Refused(1, 0);
+    }
+    if 8192 < length {
+        return Loaded::Refused(1, 0);
+    }
+    if length % 512 != 0 {
+        return Loaded::Refused(1, 0);
+    }
+    let n = length / 512;
+    let c = blocks_checked(bytes, n);
+    if let Checked::Wrong(number, word) = c {
+        return Loaded::Refused(number, word);
+    }
+    let w = pair_at(bytes, 2);
+    if count_right(bytes, n, w) {
+        return Loaded::Words(w);
+    }
+    Loaded::Refused(4, 0)
+}
+
+// The first w words of a store, in front of the lent words.
+fn copy_words(bytes: &[u8], words: &mut [u16; WORDS], w: u16)
+    requires { ⌜ (length (now bytes) ≤ 8192) × (w ≤ 253 * (length (now bytes) / 512)) ⌝ }
+    ensures { λ _. ⌜ now (words .exit) ≡ tabulate w (wordAt (now (bytes .entry))) ++ drop w (now (words .entry)) ⌝ }
+{
+    span(words);
+    let mut at: usize = 2;
+    let mut j: usize = 0;
+    while j < w as usize {
+        words[j] = pair_at(bytes, at);
+        at = next_place(at);
+        j += 1;
+    }
+}
+
+// The words of a store, in front of the lent words, or its refusal with the words as lent.
+pub fn load(bytes: &[u8], words: &mut [u16; WORDS]) -> Loaded
+    ensures { λ r. ⌜ Loads (now (bytes .entry)) (now (words .entry)) (now (words .exit)) r ⌝ }
+{
+    let answer = words_used(bytes);
+    let Loaded::Words(w) = answer else {
+        return answer;
+    };
+    copy_words(bytes, words, w);
+    Loaded::Words(w)
+}
