@@ -81,36 +81,35 @@ module _ (rule : Rule) (test-cost : ℕ) where
       both (instr-costs (i ∷ is)) (omega arith) first (block-costs r (suc k) is (do-instr rule r k i s))
 
   -- ---- the turns of a loop whose body costs at most n
+  once-more-costs : (m : ℕ) (f : RunState → Ran) → ((t : RunState) → Costs m t (f t)) → (w : ℕ) (s : RunState)
+      → Costs (test-cost + m) s (once-more f w (pay test-cost s))
+  once-more-costs m f later zero s = record { costs = both _ (omega arith) (pay-costs test-cost s) (stands m _) }
+  once-more-costs m f later (suc w) s = after _ (omega arith) (pay-costs test-cost s) _ (later _)
+
   module _ (body : RunState → Ran) (n : ℕ) (body-costs : (s : RunState) → Costs n s (body s)) (r limit : ℕ) (vs : List Value) (v : Value) where
     -- what the turns that are left may cost
     abbrev left : ℕ → ℕ
     left made = (limit - made) * (n + test-cost)
 
-    one-turn : (made : ℕ) → made < limit → n + (test-cost + left (suc made)) ≤ left made
-    one-turn made l = let e : limit - made ≡ suc (limit - suc made) = omega arith in rw e (omega arith)
+    one-less : (made : ℕ) → made < limit → n + (test-cost + left (suc made)) ≤ left made
+    one-less made l = let e : limit - made ≡ suc (limit - suc made) = omega arith in rw e (omega arith)
+
+    -- one turn, and f after it
+    turn-costs : (made : ℕ) (s : RunState) (f : RunState → Ran) → ((t : RunState) → Costs (test-cost + left (suc made)) t (f t))
+        → (o : Bool) → leb limit made ≡ o → Costs (left made) s (and-then (body (note-over o s)) f)
+    turn-costs made s f later true e =
+        over-limit _ s _ (and-then-costs (n + (test-cost + left (suc made))) (omega arith) (body (note-over true s)) f (body-costs _) later)
+    turn-costs made s f later false e =
+        after {m = left made} _ (omega arith) (within-limit s) _
+        (and-then-costs (left made) (one-less made (leb-false limit made e)) (body (note-over false s)) f (body-costs _) later)
 
     turns-cost : (b made : ℕ) (s : RunState) → Costs (left made) s (turns rule test-cost b made body r limit vs v s)
     unfolding turns
     turns-cost zero made s = record { costs = tt }
-    turns-cost (suc b) made s = by-limit (λ t. turns-cost b (suc made) t) (leb limit made) refl
-      where
-        Later : Type 0
-        Later = (t : RunState) → Costs (left (suc made)) t (turns rule test-cost b (suc made) body r limit vs v t)
-
-        again : RunState → Ran
-        again t = turns rule test-cost b (suc made) body r limit vs v (assign-inputs r vs t)
-
-        tail : Later → (t : RunState) (w : ℕ) → Costs (test-cost + left (suc made)) t (once-more again w (pay test-cost t))
-        tail ih t zero = record { costs = both _ (omega arith) (pay-costs test-cost t) (stands 0 _) }
-        tail ih t (suc w) = after _ (omega arith) (both test-cost (omega arith) (pay-costs test-cost t) (inputs-cost-nothing r vs (pay test-cost t))) _ (ih _)
-
-        turn : Later → (t : RunState) → Costs (n + (test-cost + left (suc made))) t (and-then (body t) λ u. tested (u .env v) λ w. once-more again w (pay test-cost u))
-        turn ih t = and-then-costs _ (omega arith) (body t) _ (body-costs t) (λ u. tested-costs (u .env v) _ (tail ih u))
-
-        by-limit : Later → (o : Bool) → leb limit made ≡ o
-            → Costs (left made) s (and-then (body (note-over o s)) λ u. tested (u .env v) λ w. once-more again w (pay test-cost u))
-        by-limit ih true e = over-limit _ s _ (turn ih (note-over true s))
-        by-limit ih false e = after _ (omega (arith, one-turn made (leb-false limit made e))) (within-limit s) _ (turn ih (note-over false s))
+    turns-cost (suc b) made s =
+        turn-costs made s _
+        (λ t. tested-costs (t .env v) _ λ w. once-more-costs (left (suc made)) _ (λ u. after {n = 0} _ (omega arith) (inputs-cost-nothing r vs u) _ (turns-cost b (suc made) _)) w t)
+        (leb limit made) refl
 
   mutual
     unfolding run-nodes figure

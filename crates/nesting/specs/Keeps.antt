@@ -137,14 +137,14 @@ module _ {L : NestState → NestState → Type 0} (S : Steady L) (Q : ℕ → Ty
   scrutinee-keeps (value v) = give-keeps v
   scrutinee-keeps (lazy c) = materialize-keeps c
 
-  define-select-keeps : (kind : SelectionKind) (x : Scrutinee) (cs : List MaybeClaimedRegion) → Keeps (define-select kind x cs)
+  pub define-select-keeps : (kind : SelectionKind) (x : Scrutinee) (cs : List MaybeClaimedRegion) → Keeps (define-select kind x cs)
   unfolding define-select
   define-select-keeps kind x cs =
       then-keeps (case-regions cs) _ (case-regions-keeps cs) λ rest.
       then-keeps (scrutinee-value x) _ (scrutinee-keeps x) λ v.
       then-keeps define-node _ define-node-keeps λ n. give-keeps _
 
-  emit-inputs-keeps : (n : DefinedSelect) (is : List PlannedInput) → Keeps (emit-inputs n is)
+  pub emit-inputs-keeps : (n : DefinedSelect) (is : List PlannedInput) → Keeps (emit-inputs n is)
   unfolding emit-inputs
   emit-inputs-keeps n [] = give-keeps []
   emit-inputs-keeps n (shared v ∷ is) = then-keeps (emit-inputs n is) _ (emit-inputs-keeps n is) λ vs. give-keeps _
@@ -152,7 +152,7 @@ module _ {L : NestState → NestState → Type 0} (S : Steady L) (Q : ℕ → Ty
       then-keeps (define-output (n .node) ty vs) _ (define-output-keeps (n .node) ty vs) λ w.
       then-keeps (emit-inputs n is) _ (emit-inputs-keeps n is) λ ws. give-keeps _
 
-  emit-condition-keeps : (n : DefinedSelect) (o : Option LazyConds) → Keeps (emit-condition n o)
+  pub emit-condition-keeps : (n : DefinedSelect) (o : Option LazyConds) → Keeps (emit-condition n o)
   emit-condition-keeps n none = give-keeps _
   emit-condition-keeps n (some cs) = next-keeps define-merge _ define-merge-keeps (give-keeps _)
 

@@ -27,3 +27,6 @@ pub mod Top
 pub mod Pack
 pub mod Fewer
 pub mod ScanEnds
+pub mod Cases
+pub mod Quick
+pub mod QuickPrint

@@ -1,7 +1,7 @@
 -- The loop over deferred edges never stops early: each turn but the last claims a region, so with more fuel than regions
 -- unclaimed any larger fuel gives the same answer, and structurize-region's fuel is more.
-use mathlib.Core.Path.{_≡_, refl, ap, _∙_}
-use mathlib.Core.List.{List, [], _∷_}
+use mathlib.Core.Path.{_≡_, refl, ap}
+use mathlib.Core.List.{[], _∷_}
 use mathlib.Core.Option.{Option, none, some}
 use Prim.Native.Nat.{ℕ, zero, suc, _≤_, _<_}
 use native.Mathlib.Omega.{arith}
@@ -10,13 +10,13 @@ use Rattle.meaning.specs.Graph.{bool-cond, Graph, region, edgesOf}
 use Rattle.nesting.specs.State.{not-begun, in-progress, ready, NestState, Answer, done, turned-away, Step, follow, _>>=_, _>>_}
 use Rattle.nesting.specs.Change.{with-region-states, set-state}
 use Rattle.nesting.specs.BundleSet.{condition-in, count-to}
-use Rattle.nesting.specs.Case.{MaybeClaimedRegion, ok, err, lazy, Body, convergent-cases}
+use Rattle.nesting.specs.Case.{ok, err, lazy, Body, convergent-cases}
 use Rattle.nesting.specs.Blocks.{blocks-of}
 use Rattle.nesting.specs.Select.{structurize-select-into}
 use Rattle.nesting.specs.Claim.{Claim, SplitOut, by-control-inst, resolve-by, target-regions, split-out-matching, resolve-deferred, structurize-region}
 use Rattle.nesting.specs.Post.{Post}
 use Rattle.nesting.specs.Keeps.{structurize-select-by-keeps, by-control-inst-keeps}
-use Rattle.nesting.specs.Still.{Still, still-steady}
+use Rattle.nesting.specs.Still.{still-steady}
 use Rattle.nesting.specs.Fewer.{state-of, unclaimed-one, unclaimed-count, unclaimed-most, count-set, Fewer, fewer-still, AnyRefusal, claimed-count, ClaimFewer, target-regions-fewer, split-out-fewer}
 
 -- Two ways to go on that agree on what the step gives.

@@ -1,0 +1,277 @@
+-- Statement 1: the nested run of a whole or closed form follows the graph's run.
+use mathlib.Core.Path.{_≡_, refl, sym, ap, _∙_, subst}
+use mathlib.Core.Logic.{_⊎_, inl, inr}
+use mathlib.Core.Bool.{Bool, true, false}
+use mathlib.Core.List.{List, [], _∷_, map}
+use mathlib.Core.Option.{Option, none, some}
+use Prim.Native.Nat.{ℕ, zero, suc, _+_, _≤_}
+use native.Mathlib.Omega.{arith}
+use lib.ListN.{length, getD, replicate, length-replicate, getD-replicate, List·getD-eq-default}
+use lib.Dec.{eqb, eqb→eq, leb, leb→le, nleb→lt}
+use Rattle.meaning.specs.Graph.{Value, const, input, held, instr, output, bool, undef, sameValue, Graph, region, pick}
+use Rattle.meaning.specs.Run.{Word, Env, Event, End, returned, Given, RunState, put-inputs, base-env, words-from, entry-words}
+use Rattle.meaning.specs.Form.{Nodes, ⟨⟩}
+use Rattle.meaning.specs.GraphRun.{Ended, run-from, graph-run}
+use Rattle.meaning.specs.NestedRun.{Ran, through, ended, no-end, run-nodes, ended-at, after-last, start, nested-run}
+use Rattle.format.specs.ReadLaws.{clash}
+use Rattle.format.specs.Valid.{Valid}
+use Rattle.nesting.specs.Deferred.{DeferredTarget, to-region, to-return, DeferredEdgeBundle, DeferredEdgeBundleSet}
+use Rattle.nesting.specs.Nested.{Outcome, untouched, whole, closed, leftover, Nested, NestAnswer, nested, refused}
+use Rattle.nesting.specs.State.{IncomingEdgeCount, StructurizeRegionState, not-begun, in-progress, claimed, ready, RewriteEntry, NestState, Answer, done, turned-away, give, follow, _>>_, turn-away}
+use Rattle.nesting.specs.Change.{set-state, get-state, with-attempt}
+use Rattle.nesting.specs.Rewrite.{rewrites-of, rewrite, rewrite-chain}
+use Rattle.nesting.specs.Case.{ClaimedRegion}
+use Rattle.nesting.specs.Claim.{try-claim-edge-bundle, claim-by-state, claim-body, backedge-of, begin, structurize-region}
+use Rattle.nesting.specs.Count.{incoming-edge-counts}
+use Rattle.nesting.specs.Last.{rewrite-nodes}
+use Rattle.nesting.specs.Func.{initial-state, outcome-of, outcome-by, returned-values, piece, conclude-by, conclude, structurize-func-by, structurize-func}
+use Rattle.follows.specs.Usable.{arity}
+use Rattle.follows.specs.Reach.{entry-reachable}
+use Rattle.follows.specs.ValidUse.{usable-graph}
+use Rattle.follows.specs.Statements.{HasForm, is-whole, is-closed, Followed, FollowsRun}
+use Rattle.follows.specs.Statements as statements
+use Rattle.follows.specs.Key.{is-constant, nodes-none, owns-nodes, key, prefix-refl}
+use Rattle.follows.specs.Frame.{puts-other}
+use Rattle.follows.specs.Sim.{Resolver, In, OnwardTo, ends-with}
+use Rattle.follows.specs.Loop.{puts-at}
+use Rattle.follows.specs.Steps.{Post, bind, map-post}
+use Rattle.follows.specs.Final.{Ends, Final, final-respects}
+use Rattle.follows.specs.Own.{input-numbered}
+use Rattle.follows.specs.World.{World, size}
+use Rattle.follows.specs.Inv.{state-of, Inv}
+use Rattle.follows.specs.Hold.{unlogged-stays}
+use Rattle.follows.specs.Split.{Follows₁}
+use Rattle.follows.specs.Close.{ClaimDone, at-state}
+use Rattle.follows.specs.Walk.{claim-post}
+
+-- ---- the state at first
+all-new : (n r : ℕ) → getD (replicate n not-begun) r not-begun ≡ not-begun
+all-new n r = go (leb (suc r) n) refl
+  where
+    go : (b : Bool) → leb (suc r) n ≡ b → getD (replicate n not-begun) r not-begun ≡ not-begun
+    go true p = getD-replicate n r not-begun not-begun (leb→le (suc r) n (rw p tt))
+    go false p = List·getD-eq-default (replicate n not-begun) not-begun (let z = nleb→lt (suc r) n (rw p tt) in let y : length (replicate n not-begun) ≡ n = length-replicate n not-begun in omega arith)
+
+final-first : (v : Value) → Final [] (rewrite-chain 0 [] v)
+unfolding rewrite-chain
+final-first (input r k) = refl
+final-first (const i) = tt
+final-first (held r k) = tt
+final-first (instr r k) = tt
+final-first (output o) = tt
+final-first (bool b) = tt
+final-first (undef ty) = tt
+
+no-ends : Ends []
+no-ends = record { steps = 0; settles = record { settled = final-first }; enough = refl; single = tt }
+
+module _ (W : World) where
+  pub at-first : Inv W (initial-state (W .g))
+  at-first = record {
+    ends = no-ends;
+    sized = length-replicate (size W) not-begun;
+    room = omega arith;
+    sims = λ r b ks d p. absurd (not-ready r b ks d p);
+    sets = λ r b ks d p. absurd (not-ready r b ks d p);
+    disjoint = λ r r′ b b′ ks ks′ d d′ p p′ ne κ o o′. not-ready r b ks d p;
+    fresh = λ κ o n. not-ready (o .region) (o .back) (o .children) (o .deferred-edges) (o .is);
+    unlogged = λ q l. refl;
+  }
+    where
+      not-ready : (r b : ℕ) (ks : Nodes) (d : DeferredEdgeBundleSet) → state-of (initial-state (W .g)) r ≡ ready b ks d → ⊥
+      not-ready r b ks d p = let z : not-begun ≡ ready b ks d = sym (all-new (size W) r) ∙ p in clash (cc)
+
+-- ---- the entry is no loop
+module _ (g : Graph) (counts : List IncomingEdgeCount) where
+  abbrev Itself : ℕ → ℕ → Option ClaimedRegion → NestState → Type 0
+  Itself r n none s = Unit
+  Itself r n (some c) s = getD counts r 0 ≡ n → c .structured-body ≡ r
+
+  anything : {A : Type 0} (x : Answer A) → Post (λ a s. Unit {0}) x
+  anything (done a s) = record { post = tt }
+  anything (turned-away n w) = record { post = tt }
+
+  as-itself : (r n : ℕ) (ins : List Value) (x : StructurizeRegionState) (s : NestState) → Post (Itself r n) (claim-by-state g r n ins (getD counts r 0) x s)
+  as-itself r n ins not-begun s = record { post = tt }
+  as-itself r n ins claimed s = record { post = tt }
+  as-itself r n ins in-progress s = go (eqb (getD counts r 0) n)
+    where
+      go : (o : Bool) → Post (Itself r n) (at-state {A = Option ClaimedRegion} (elim o [ false ↦ give none | true ↦ turn-away 12 r ]) s)
+      go false = record { post = tt }
+      go true = record { post = tt }
+  as-itself r n ins (ready b ks d) s = go (eqb (getD counts r 0) (n + b)) refl
+    where
+      by : (b : ℕ) → eqb (getD counts r 0) (n + b) ≡ true → (s₁ : NestState) → Post (Itself r n) (claim-body g r ins ks d (backedge-of r b d) s₁)
+      by zero p s₁ = record { post = λ q. refl }
+      by (suc b) p s₁ = map-post (claim-body g r ins ks d (backedge-of r (suc b) d) s₁) (anything _) λ o s₂ u. no-way o s₂
+        where
+          no-way : (o : Option ClaimedRegion) (s₂ : NestState) → Itself r n o s₂
+          no-way none s₂ = tt
+          no-way (some c) s₂ = λ q. absurd (let z : getD counts r 0 ≡ n + suc b = eqb→eq (getD counts r 0) (n + suc b) (rw p tt) in omega arith)
+
+      go : (o : Bool) → eqb (getD counts r 0) (n + b) ≡ o → Post (Itself r n) (at-state {A = Option ClaimedRegion} (elim o [ false ↦ give none | true ↦ set-state r claimed >> claim-body g r ins ks d (backedge-of r b d) ]) s)
+      go false p = record { post = tt }
+      go true p = by b p _
+
+  claim-itself : (fuel r n : ℕ) (ins : List Value) (s : NestState) → Post (Itself r n) (try-claim-edge-bundle g counts fuel r n ins s)
+  unfolding try-claim-edge-bundle
+  claim-itself zero r n ins s = record { post = tt }
+  claim-itself (suc fuel) r n ins s =
+      bind (follow (begin (state-of s r) (structurize-region g (λ r′ n′ ins′. try-claim-edge-bundle g counts fuel r′ n′ ins′) r) (with-attempt s)) (λ u. get-state r)) _ (anything _) λ x s₂ u. as-itself r n ins x s₂
+
+-- ---- the run from the entry
+abbrev world : (g : Graph) → Valid g → Given → World
+world g v x = record { g = g; valid = usable-graph g v; rule = x .rule; base = base-env x; on-bool = λ b. refl; on-undef = λ ty. refl }
+
+not-input : (x : ℕ) (v : Value) → is-constant v ≡ true → (k : ℕ) → sameValue v (input x k) ≡ false
+not-input x (const i) c k = refl
+not-input x (bool y) c k = refl
+not-input x (undef ty) c k = refl
+not-input x (input q i) c k = cc
+not-input x (held q i) c k = cc
+not-input x (instr q i) c k = cc
+not-input x (output o) c k = cc
+
+map-map : (ρ : Resolver) (σ : Env) (vs : List Value) → map (λ v. σ (ρ v)) vs ≡ map σ (map ρ vs)
+map-map ρ σ [] = refl
+map-map ρ σ (v ∷ vs) = ap (λ l. σ (ρ v) ∷ l) (map-map ρ σ vs)
+
+words-many : (f : ℕ → ℕ) (k : ℕ) (ts : List ℕ) → length (words-from f k ts) ≡ length ts
+unfolding words-from
+words-many f k [] = refl
+words-many f k (t ∷ ts) = ap suc (words-many f (suc k) ts)
+
+entry-many : (g : Graph) (x : Given) → length (entry-words g x) ≡ arity g (g .entry)
+unfolding entry-words
+entry-many g x = words-many (x .entry-inputs) 0 (region g (g .entry) .inputs)
+
+module _ (g : Graph) (valid : Valid g) (x : Given) (c : ClaimedRegion) (s : NestState)
+    (cd : ClaimDone (world g valid x) (g .entry) [] (initial-state g) (some c) s) (itself : c .structured-body ≡ g .entry) where
+  abbrev ρ : Resolver
+  ρ = rewrite (s .region-input-rewrites)
+
+  abbrev form : Nodes
+  form = rewrite-nodes ρ (s .node-outputs) (c .children)
+
+  entry-follows : (b : ℕ) (e : Ended) → graph-run g x b ≡ some e
+      → Follows₁ (world g valid x) ρ (s .node-outputs) b (c .deferred-edges) (e .end) (e .events) (run-nodes (x .rule) (g .test-cost) b form (start g x))
+  unfolding graph-run start
+  entry-follows b e gr =
+      let hd = cd .got .0 in
+      let origin : c .origin ≡ g .entry = cd .got .2 in
+      let un : rewrites-of (s .region-input-rewrites) (g .entry) ≡ none = subst (λ q. rewrites-of (s .region-input-rewrites) q ≡ none) itself (hd .unlogged) in
+      hd .sim .sim ρ (s .node-outputs) (final-respects (s .region-input-rewrites) (cd .inv .ends)) (prefix-refl (s .node-outputs)) b b (omega arith) (start g x) (entry-words g x)
+      (record { based = λ v k. puts-other (λ i. input (g .entry) i) v (not-input (g .entry) v k) 0 (entry-words g x) (base-env x) })
+      (entry-many g x ∙ ap (λ q. length (region g q .inputs)) (sym origin))
+      (record {
+        reads = λ k lt. ap (λ q. start g x .env (ρ (input q k))) itself ∙ ap (start g x .env) (unlogged-stays (s .region-input-rewrites) (g .entry) k un)
+            ∙ puts-at (λ i. input (g .entry) i) (input-numbered (g .entry)) (entry-words g x) k k 0 (omega arith) lt (base-env x);
+        apart = λ k lt. ap (λ q. owns-nodes (c .children) (key (s .node-outputs) (ρ (input q k)))) itself
+            ∙ ap (λ v. owns-nodes (c .children) (key (s .node-outputs) v)) (unlogged-stays (s .region-input-rewrites) (g .entry) k un) ∙ nodes-none (c .children);
+      })
+      (e .end) (e .events) (subst (λ q. run-from (x .rule) g (base-env x) b q (entry-words g x) [] ≡ some e) (sym origin) gr)
+
+  abbrev Comes : Option (List Value) → ℕ → Ended → Ran → Type 0
+  Comes outs b e R = (run-nodes (x .rule) (g .test-cost) b form (start g x) ≡ R) → Followed g x form outs e
+
+  at-end : (outs : Option (List Value)) (b : ℕ) (e : Ended) (e′ : End) (st : RunState) → e′ ≡ e .end → st .events ≡ e .events → Comes outs b e (ended e′ st)
+  unfolding nested-run
+  at-end outs b e e′ st p q came = record { budget = b; run = ended-at e′ st; ends = ap (after-last outs) came; end = p; events = q }
+
+  closed-follows : c .deferred-edges ≡ [] → (b : ℕ) (e : Ended) → graph-run g x b ≡ some e → Followed g x form none e
+  closed-follows is-empty b e gr = go _ (entry-follows b e gr) refl
+    where
+      go : (R : Ran) → Follows₁ (world g valid x) ρ (s .node-outputs) b (c .deferred-edges) (e .end) (e .events) R → Comes none b e R
+      go (ended e′ st) fl = at-end none b e e′ st (fl .follows .0) (fl .follows .1)
+      go (through st) fl = λ came. absurd (subst (λ l. In (fl .follows .entry) l) is-empty (fl .follows .chosen .member))
+      go no-end fl = λ came. absurd (fl .follows)
+
+  whole-follows : (y : DeferredEdgeBundle) → y .target ≡ to-return → c .deferred-edges ≡ y ∷ [] → (b : ℕ) (e : Ended) → graph-run g x b ≡ some e
+      → Followed g x form (some (map ρ (y .target-inputs))) e
+  unfolding nested-run
+  whole-follows y returns is-one b e gr = go _ (entry-follows b e gr) refl
+    where
+      only : {a d : DeferredEdgeBundle} → (a ≡ d) ⊎ ⊥ → a ≡ d
+      only (inl q) = q
+      only (inr no-way) = absurd no-way
+
+      go : (R : Ran) → Follows₁ (world g valid x) ρ (s .node-outputs) b (c .deferred-edges) (e .end) (e .events) R → Comes (some (map ρ (y .target-inputs))) b e R
+      go (ended e′ st) fl = at-end _ b e e′ st (fl .follows .0) (fl .follows .1)
+      go no-end fl = λ came. absurd (fl .follows)
+      go (through st) fl =
+          let here : fl .follows .entry ≡ y = only (subst (λ l. In (fl .follows .entry) l) is-one (fl .follows .chosen .member)) in
+          let onw : OnwardTo (x .rule) g (base-env x) ρ st b (e .end) (e .events) to-return (y .target-inputs) =
+          subst (λ z. OnwardTo (x .rule) g (base-env x) ρ st b (e .end) (e .events) z (y .target-inputs)) returns
+          (subst (λ z. OnwardTo (x .rule) g (base-env x) ρ st b (e .end) (e .events) (z .target) (z .target-inputs)) here (fl .follows .onward)) in
+          λ came. record {
+            budget = b;
+            run = ended-at (returned (map (st .env) (map ρ (y .target-inputs)))) st;
+            ends = ap (after-last (some (map ρ (y .target-inputs)))) came;
+            end = ap returned (sym (map-map ρ (st .env) (y .target-inputs))) ∙ sym (onw .0);
+            events = sym (onw .1);
+          }
+
+-- ---- what the answer shows of the claimed entry
+module _ (g : Graph) (valid : Valid g) (c : ClaimedRegion) (s : NestState)
+    (cd : (x : Given) → ClaimDone (world g valid x) (g .entry) [] (initial-state g) (some c) s) (itself : c .structured-body ≡ g .entry) where
+  no-form : (n : Nested) → n .outcome ≡ leftover → FollowsRun g n
+  no-form n p outs (is-closed q) x b e gr = absurd (let z : leftover ≡ closed = sym p ∙ q in clash (cc))
+  no-form n p outs (is-whole q) x b e gr = absurd (let z : leftover ≡ whole = sym p ∙ q in clash (cc))
+
+  module _ (y : DeferredEdgeBundle) (ys : DeferredEdgeBundleSet) where
+    abbrev Shows : Outcome → Type 0
+    Shows o = FollowsRun g (conclude-by g s (c .children) (y ∷ ys) o)
+
+    one : y .target ≡ to-return → c .deferred-edges ≡ y ∷ [] → Shows whole
+    unfolding piece
+    one t q outs (is-closed r) x b e gr = absurd (clash (cc))
+    one t q outs (is-whole r) x b e gr = whole-follows g valid x c s (cd x) itself y t q b e gr
+
+    by-others : c .deferred-edges ≡ y ∷ ys → y .target ≡ to-return → (zs : DeferredEdgeBundleSet) → ys ≡ zs → Shows (outcome-by to-return zs)
+    by-others p t [] q = one t (p ∙ ap (λ l. y ∷ l) q)
+    by-others p t (z ∷ zs) q = no-form _ refl
+
+    by-target : c .deferred-edges ≡ y ∷ ys → (t : DeferredTarget) → y .target ≡ t → Shows (outcome-by t ys)
+    by-target p (to-region r) t = no-form _ refl
+    by-target p to-return t = by-others p t ys refl
+
+  none-follows : c .deferred-edges ≡ [] → FollowsRun g (conclude-by g s (c .children) [] closed)
+  unfolding piece
+  none-follows p outs (is-closed q) x b e gr = closed-follows g valid x c s (cd x) itself p b e gr
+  none-follows p outs (is-whole q) x b e gr = absurd (clash (cc))
+
+  shown-follows : (d : DeferredEdgeBundleSet) → c .deferred-edges ≡ d → FollowsRun g (conclude-by g s (c .children) d (outcome-of d))
+  shown-follows [] p = none-follows p
+  shown-follows (y ∷ ys) p = by-target y ys p (y .target) refl
+
+nested-is : (a b : Nested) → nested a ≡ nested b → a ≡ b
+nested-is a b p = cc
+
+untouched-run : (g : Graph) (n : Nested) → n .outcome ≡ untouched → FollowsRun g n
+untouched-run g n p outs (is-whole q) x b e gr = absurd (let z : untouched ≡ whole = sym p ∙ q in clash (cc))
+untouched-run g n p outs (is-closed q) x b e gr = absurd (let z : untouched ≡ closed = sym p ∙ q in clash (cc))
+
+module _ (g : Graph) (valid : Valid g) (n : Nested) where
+  by-answer : (counts : List IncomingEdgeCount) → getD counts (g .entry) 0 ≡ 1 → (a : Answer (Option ClaimedRegion))
+      → ((x : Given) → Post (ClaimDone (world g valid x) (g .entry) [] (initial-state g)) a) → Post (Itself g counts (g .entry) 1) a → conclude g a ≡ nested n → FollowsRun g n
+  unfolding conclude
+  by-answer counts once (turned-away k w) p q r = absurd (clash (cc))
+  by-answer counts once (done none s) p q r = absurd (clash (cc))
+  by-answer counts once (done (some c) s) p q r =
+      subst (λ z. FollowsRun g z) (nested-is _ n r) (shown-follows g valid c s (λ x. p x .post) (q .post once) (c .deferred-edges) refl)
+
+  by-counts : (counts : List IncomingEdgeCount) → structurize-func-by g counts ≡ nested n → FollowsRun g n
+  unfolding structurize-func-by
+  by-counts counts r = go (eqb (getD counts (g .entry) 0) 1) refl r
+    where
+      go : (b : Bool) → eqb (getD counts (g .entry) 0) 1 ≡ b
+          → _≡_ {A = NestAnswer} (elim b [ false ↦ nested (conclude-by g (initial-state g) ⟨⟩ [] untouched) | true ↦ conclude g (try-claim-edge-bundle g counts (suc (length (g .regions))) (g .entry) 1 [] (initial-state g)) ]) (nested n)
+          → FollowsRun g n
+      go false p r = untouched-run g n (ap (λ z. z .outcome) (sym (nested-is _ n r)))
+      go true p r = by-answer counts (eqb→eq (getD counts (g .entry) 0) 1 (rw p tt)) _
+          (λ x. claim-post (world g valid x) counts (suc (length (g .regions))) (g .entry) 1 [] (initial-state g) (at-first (world g valid x)) (valid .entry) (entry-reachable g))
+          (claim-itself g counts (suc (length (g .regions))) (g .entry) 1 [] (initial-state g)) r
+
+pub follows : statements.Follows
+unfolding structurize-func
+follows g valid n h = by-counts g valid n (incoming-edge-counts g) h

@@ -1,0 +1,148 @@
+-- Keys: whose variable a value is, as a table of outputs has it, and which keys a node owns.
+use mathlib.Core.Path.{_≡_, refl, sym, ap, _∙_}
+use mathlib.Core.Bool.{Bool, true, false, _||_, or-assoc}
+use mathlib.Core.List.{List, [], _∷_, _++_, append-assoc, append-nil}
+use mathlib.Core.Option.{Option, none, some}
+use Prim.Native.Nat.{ℕ}
+use lib.Dec.{eqb, eqb→eq}
+use Rattle.meaning.specs.Graph.{Value, const, input, instr, output, bool, undef, held}
+use Rattle.meaning.specs.Form.{Node, block, select, loop, exit, Nodes, ⟨⟩, _▸_, Cases, ∅, case}
+use Rattle.nesting.specs.State.{NodeOutput}
+use Rattle.nesting.specs.Case.{join}
+use Rattle.format.specs.ReadLaws.{clash}
+use Rattle.follows.specs.Small.{nth, nth-append}
+
+-- A variable of a run is an instruction's output, a node's output, or a loop's body input.
+pub data Key : Type 0 where
+  of-none : Key
+  of-instr of-node of-held : ℕ → Key
+
+abbrev pub key-at : Option NodeOutput → Key
+key-at none = of-none
+key-at (some x) = of-node (x .node)
+
+abbrev pub key : List NodeOutput → Value → Key
+key os (instr r k) = of-instr r
+key os (held r k) = of-held r
+key os (output o) = key-at (nth os o)
+key os (const i) = of-none
+key os (input r k) = of-none
+key os (bool b) = of-none
+key os (undef ty) = of-none
+
+-- Output number k is this output, and it is of node n.
+pub record OutputAt (n : ℕ) (os : List NodeOutput) (k : ℕ) (o : NodeOutput) : Type 0 where
+  pub there : nth os k ≡ some o
+  pub node : o .node ≡ n
+
+pub key-output : {n : ℕ} {os : List NodeOutput} {k : ℕ} {o : NodeOutput} → OutputAt n os k o → key os (output k) ≡ of-node n
+key-output h = ap key-at (h .there) ∙ ap of-node (h .node)
+
+-- ---- the table of outputs gains
+pub record Prefix (a b : List NodeOutput) : Type 0 where
+  pub more : List NodeOutput
+  pub whole : b ≡ a ++ more
+
+pub prefix-refl : (a : List NodeOutput) → Prefix a a
+prefix-refl a = record { more = []; whole = sym (append-nil a) }
+
+pub prefix-then : {a b c : List NodeOutput} → Prefix a b → Prefix b c → Prefix a c
+prefix-then {a} p q = record { more = p .more ++ q .more; whole = q .whole ∙ ap (λ l. l ++ q .more) (p .whole) ∙ append-assoc a (p .more) (q .more) }
+
+-- an output stays where it is
+pub stays : {a b : List NodeOutput} {n k : ℕ} {o : NodeOutput} → Prefix a b → OutputAt n a k o → OutputAt n b k o
+stays {a} {b} {n} {k} {o} p h = record { there = ap (λ l. nth l k) (p .whole) ∙ nth-append a (p .more) k o (h .there); node = h .node }
+
+-- ---- what is constant
+abbrev pub is-constant : Value → Bool
+is-constant (const i) = true
+is-constant (bool b) = true
+is-constant (undef ty) = true
+is-constant (input r k) = false
+is-constant (held r k) = false
+is-constant (instr r k) = false
+is-constant (output o) = false
+
+pub key-constant : (os : List NodeOutput) (v : Value) → is-constant v ≡ true → key os v ≡ of-none
+key-constant os (const i) h = refl
+key-constant os (bool x) h = refl
+key-constant os (undef ty) h = refl
+key-constant os (input q k) h = refl
+key-constant os (held q k) h = absurd (clash (cc))
+key-constant os (instr q k) h = absurd (clash (cc))
+key-constant os (output o) h = absurd (clash (cc))
+
+-- ---- one key
+abbrev pub is-instr : ℕ → Key → Bool
+is-instr r of-none = false
+is-instr r (of-instr q) = eqb q r
+is-instr r (of-node n) = false
+is-instr r (of-held q) = false
+
+abbrev pub is-node : ℕ → Key → Bool
+is-node n of-none = false
+is-node n (of-instr q) = false
+is-node n (of-node m) = eqb m n
+is-node n (of-held q) = false
+
+abbrev pub is-held : ℕ → Key → Bool
+is-held r of-none = false
+is-held r (of-instr q) = false
+is-held r (of-node n) = false
+is-held r (of-held q) = eqb q r
+
+pub instr-key : (r : ℕ) (κ : Key) → is-instr r κ ≡ true → κ ≡ of-instr r
+instr-key r of-none p = absurd (clash (cc))
+instr-key r (of-instr q) p = ap of-instr (eqb→eq q r (rw p tt))
+instr-key r (of-node n) p = absurd (clash (cc))
+instr-key r (of-held q) p = absurd (clash (cc))
+
+pub node-key : (n : ℕ) (κ : Key) → is-node n κ ≡ true → κ ≡ of-node n
+node-key n of-none p = absurd (clash (cc))
+node-key n (of-instr q) p = absurd (clash (cc))
+node-key n (of-node q) p = ap of-node (eqb→eq q n (rw p tt))
+node-key n (of-held q) p = absurd (clash (cc))
+
+pub held-key : (r : ℕ) (κ : Key) → is-held r κ ≡ true → κ ≡ of-held r
+held-key r of-none p = absurd (clash (cc))
+held-key r (of-instr q) p = absurd (clash (cc))
+held-key r (of-node n) p = absurd (clash (cc))
+held-key r (of-held q) p = ap of-held (eqb→eq q r (rw p tt))
+
+-- ---- what a node owns: its run changes nothing else
+unfoldable mutual
+  pub owns : Node → Key → Bool
+  owns (block n r k is) κ = is-instr r κ
+  owns (select n kind v os cs) κ = is-node n κ || owns-cases cs κ
+  owns (loop n init r tys limit ks us v) κ = is-held r κ || owns-nodes ks κ
+  owns (exit n op vs) κ = false
+
+  pub owns-nodes : Nodes → Key → Bool
+  owns-nodes ⟨⟩ κ = false
+  owns-nodes (x ▸ ks) κ = owns x κ || owns-nodes ks κ
+
+  pub owns-cases : Cases → Key → Bool
+  owns-cases ∅ κ = false
+  owns-cases (case r ks vs cs) κ = owns-nodes ks κ || owns-cases cs κ
+
+mutual
+  unfolding owns
+
+  node-none : (x : Node) → owns x of-none ≡ false
+  node-none (block n r k is) = refl
+  node-none (select n kind v os cs) = cases-none cs
+  node-none (loop n init r tys limit ks us v) = nodes-none ks
+  node-none (exit n op vs) = refl
+
+  pub nodes-none : (ks : Nodes) → owns-nodes ks of-none ≡ false
+  nodes-none ⟨⟩ = refl
+  nodes-none (x ▸ ks) = rw (node-none x) (nodes-none ks)
+
+  cases-none : (cs : Cases) → owns-cases cs of-none ≡ false
+  cases-none ∅ = refl
+  cases-none (case r ks vs cs) = rw (nodes-none ks) (cases-none cs)
+
+pub owns-join : (a b : Nodes) (κ : Key) → owns-nodes (join a b) κ ≡ (owns-nodes a κ || owns-nodes b κ)
+unfolding owns-nodes
+owns-join ⟨⟩ b κ = refl
+owns-join (x ▸ a) b κ = rw (owns-join a b κ) (sym (or-assoc (owns x κ) (owns-nodes a κ) (owns-nodes b κ)))

@@ -1,0 +1,77 @@
+-- Small facts that several files use.
+use mathlib.Core.Path.{_≡_, refl, sym}
+use mathlib.Core.Logic.{_⊎_, inl, inr}
+use mathlib.Core.Bool.{Bool, true, false, _||_}
+use mathlib.Core.List.{List, [], _∷_, _++_}
+use mathlib.Core.Option.{Option, none, some}
+use Prim.Native.Nat.{ℕ, zero, suc, _<_}
+use native.Mathlib.Omega.{arith}
+use lib.ListN.{length, getD}
+use lib.Dec.{eqb, eqb→eq}
+use borrow.Author.Tests.{eq-eqb}
+use Rattle.meaning.specs.Graph.{pick}
+use Rattle.format.specs.ReadLaws.{clash}
+use Rattle.nesting.specs.State.{RewriteEntry}
+use Rattle.nesting.specs.Rewrite.{rewrites-of}
+
+-- ---- tests
+pub or-either : (a b : Bool) → (a || b) ≡ true → (a ≡ true) ⊎ (b ≡ true)
+or-either true b h = inl refl
+or-either false b h = inr h
+
+pub or-left : (a b : Bool) → (a || b) ≡ false → a ≡ false
+or-left true b h = h
+or-left false b h = refl
+
+pub or-right : (a b : Bool) → (a || b) ≡ false → b ≡ false
+or-right true b h = let z : true ≡ false = h in cc
+or-right false b h = h
+
+pub eqb-self : (n : ℕ) → eqb n n ≡ true
+eqb-self n = eq-eqb n n refl
+
+pub eqb-less : (a b : ℕ) → a < b → eqb a b ≡ false
+eqb-less a b lt = go (eqb a b) refl
+  where
+    go : (x : Bool) → eqb a b ≡ x → x ≡ false
+    go true e = absurd (let p : a ≡ b = eqb→eq a b (rw e tt) in omega arith)
+    go false e = refl
+
+pub eqb-sym : (a b : ℕ) → eqb a b ≡ eqb b a
+eqb-sym a b = go (eqb a b) (eqb b a) refl refl
+  where
+    go : (p q : Bool) → eqb a b ≡ p → eqb b a ≡ q → p ≡ q
+    go true true e e′ = refl
+    go false false e e′ = refl
+    go true false e e′ = let h : a ≡ b = eqb→eq a b (rw e tt) in let z : eqb b a ≡ true = rw h (eqb-self b) in cc
+    go false true e e′ = let h : b ≡ a = eqb→eq b a (rw e′ tt) in let z : eqb a b ≡ true = rw h (eqb-self a) in cc
+
+-- ---- an element by its place
+abbrev pub nth : {A : Type 0} → List A → ℕ → Option A
+nth [] k = none
+nth (x ∷ xs) zero = some x
+nth (x ∷ xs) (suc k) = nth xs k
+
+pub nth-append : {A : Type 0} (a b : List A) (k : ℕ) (x : A) → nth a k ≡ some x → nth (a ++ b) k ≡ some x
+nth-append [] b k x p = absurd (clash (cc))
+nth-append (y ∷ a) b zero x p = p
+nth-append (y ∷ a) b (suc k) x p = nth-append a b k x p
+
+pub nth-last : {A : Type 0} (a : List A) (x : A) → nth (a ++ (x ∷ [])) (length a) ≡ some x
+nth-last [] x = refl
+nth-last (y ∷ a) x = nth-last a x
+
+pub nth-getD : {A : Type 0} (l : List A) (j : ℕ) (d : A) → j < length l → nth l j ≡ some (getD l j d)
+nth-getD [] j d lt = absurd (omega arith)
+nth-getD (x ∷ l) zero d lt = refl
+nth-getD (x ∷ l) (suc j) d lt = nth-getD l j d (omega arith)
+
+-- an entry for another region leaves a region without one
+pub entry-keeps : (es : List RewriteEntry) (x : RewriteEntry) (q : ℕ) → eqb q (x .region) ≡ false → rewrites-of es q ≡ none → rewrites-of (es ++ (x ∷ [])) q ≡ none
+entry-keeps [] x q ne h = rw ne
+entry-keeps (y ∷ es) x q ne h = go (eqb q (y .region)) (λ p. entry-keeps es x q ne p) h
+  where
+    go : (b : Bool) → (rewrites-of es q ≡ none → rewrites-of (es ++ (x ∷ [])) q ≡ none) → pick b (some (y .rewrites)) (rewrites-of es q) ≡ none
+        → pick b (some (y .rewrites)) (rewrites-of (es ++ (x ∷ [])) q) ≡ none
+    go true ih p = absurd (clash (cc))
+    go false ih p = ih p

@@ -1,0 +1,40 @@
+-- What the simulation is about: a graph whose values are usable, a rule, and words for the constants.
+use mathlib.Core.Path.{_≡_, sym, _∙_}
+use mathlib.Core.Bool.{Bool, true}
+use Prim.Native.Nat.{ℕ, _<_}
+use lib.ListN.{length}
+use Rattle.meaning.specs.Graph.{Graph, bool, undef, pick, region}
+use Rattle.meaning.specs.Run.{Env, Rule, mark, word}
+use Rattle.format.specs.Read.{isIn}
+use Rattle.format.specs.References.{returnTypes}
+use Rattle.nesting.specs.Deferred.{DeferredTarget, to-region, to-return}
+use Rattle.nesting.specs.Count.{reachable}
+use Rattle.follows.specs.Usable.{UsableGraph, arity}
+
+pub record World : Type 0 where
+  pub g : Graph
+  pub valid : UsableGraph g
+  pub rule : Rule
+  pub base : Env
+  pub on-bool : (b : Bool) → base (bool b) ≡ word (pick b 1 0)
+  pub on-undef : (ty : ℕ) → base (undef ty) ≡ mark
+
+module _ (W : World) where
+  abbrev pub size : ℕ
+  size = length (W .g .regions)
+
+  abbrev pub ar : ℕ → ℕ
+  ar r = arity (W .g) r
+
+  -- The entry reaches it.
+  abbrev pub Live : ℕ → Type 0
+  Live r = isIn r (reachable (W .g)) ≡ true
+
+  -- So many values can be passed to the target.
+  abbrev pub Fits : DeferredTarget → ℕ → Type 0
+  Fits (to-region r) n = (r < size) × (n ≡ ar r) × Live r
+  Fits to-return n = n ≡ length (returnTypes (W .g))
+
+  pub fits-same : (x : DeferredTarget) (a b : ℕ) → Fits x a → Fits x b → a ≡ b
+  fits-same (to-region r) a b p q = p .1 ∙ sym (q .1)
+  fits-same to-return a b p q = p ∙ sym q
