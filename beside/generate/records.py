@@ -16,8 +16,9 @@ def exit_lists(rng, entry, nodes, style=None):
         return [[] for _ in nodes]
     if style == "random":
         some = rng.choice((0.1, 0.3))
-        return [rng.sample(range(count), rng.randint(1, min(count, 3)))
-                if rng.random() < some else [] for _ in nodes]
+        named = [r for r in range(count) if r != entry or rng.random() < 0.1]
+        return [rng.sample(named, rng.randint(1, min(len(named), 3)))
+                if named and rng.random() < some else [] for _ in nodes]
     exits = loop_exits(entry, [kind for kind, _ in nodes], [targets for _, targets in nodes])
     if style == "damaged":
         for _ in range(rng.randint(1, 3)):
@@ -26,7 +27,7 @@ def exit_lists(rng, entry, nodes, style=None):
                 one.remove(rng.choice(one))
             else:
                 more = rng.randrange(count)
-                if more not in one:
+                if more not in one and more != entry:
                     one.insert(rng.randint(0, len(one)), more)
     return exits
 

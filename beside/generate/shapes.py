@@ -135,7 +135,7 @@ def wild(rng, most):
     """Any targets at all."""
     count = rng.randint(min(2, most), most)
     ways = rng.choice((0, 2, 10))
-    low = rng.choice((0, 1, 1, 1))      # often nothing leads back to the entry
+    low = rng.choice((0, *[1] * 9))     # often nothing leads back to the entry
     nodes = [terminator(rng, lambda: rng.randint(min(low, count - 1), count - 1), ways)
              for _ in range(count)]
     return 0, nodes

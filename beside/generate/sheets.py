@@ -6,16 +6,15 @@ Where twice is 0 the Rust's sheet is written, and must be the reading's; otherwi
 refusals 9 and 10, the reading's. SOURCE is the folder of spirt's source files.
 """
 
-import itertools
 import pathlib
 import random
 import re
 import sys
 
 from reading.nesting import Loop, Nesting, Select
-from reading.record import (BRANCH, EXIT, FALSE, IF, INPUT, INSTR, RETURN, SWITCH, TRUE, UNDEF,
-                            UNREACHABLE, Inst, Record, Region, refer, words_of)
-from reading.sheet import LEFTOVER, OUTCOMES, nest, printed, text
+from reading.record import (BRANCH, EXIT, FALSE, IF, INPUT, INSTR, SWITCH, TRUE, UNDEF,
+                            UNREACHABLE, Inst, refer, words_of)
+from reading.sheet import OUTCOMES, nest, printed, text
 from reading.store import Refused, pack
 from . import shapes
 from .compare import rust
@@ -161,7 +160,7 @@ def parts(rng):
                 found.append(made.store)
         yield name, found
     for (what, over), found in limits(rng, 3).items():
-        yield f"{what}, {'over' if over else 'at'} the limit", [pack(words_of(m)) for m in found]
+        yield f"{what} {'one over' if over else 'at'} the limit", [pack(words_of(m)) for m in found]
     refusals = {}       # a few of each refusal 1 to 8, from the other list
     for store, answer in read_vectors(LISTS / "stores.vectors"):
         if answer.startswith("refused") and len(store) <= 1024:

@@ -12,7 +12,7 @@ import sys
 
 from reading.nesting import Nesting
 from reading.record import (BRANCH, EXIT, FALSE, IF, INPUT, INSTR, RETURN, SWITCH, TRUE, UNDEF,
-                            UNREACHABLE, Region, refer, show, words_of)
+                            UNREACHABLE, refer, show, words_of)
 from reading.runs import differs, rule
 from reading.sheet import CLOSED, WHOLE, nest, text
 from reading.store import Refused, pack

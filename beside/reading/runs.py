@@ -5,8 +5,8 @@ An undefined value is None. Events are (region, place, opcode, reads). An end is
 "unreachable", "undefined", "off", and "budget" where this reading gave up.
 """
 
-from .nesting import Block, Exit, Loop, Select
-from .record import (BOOL, BRANCH, CONST, EXIT, HELD, IF, INPUT, INSTR, OUTPUT, RETURN, UNDEF,
+from .nesting import Block, Loop, Select
+from .record import (BOOL, BRANCH, CONST, EXIT, HELD, IF, INPUT, INSTR, OUTPUT, RETURN,
                      UNREACHABLE)
 from .sheet import WHOLE
 

@@ -23,10 +23,14 @@ use Rattle.nesting.specs.Figure.{figure}
 use Rattle.nesting.specs.Line.{Sheet}
 use Rattle.nesting.specs.Sheet.{sheet-of}
 use Rattle.nesting.specs.Top.{answer}
-use Rattle.follows.specs.Statements.{is-whole, Followed, Follows, most-attempts, FewAttempts, Attempts, SoundSheet, Sound}
+use Rattle.follows.specs.Statements.{is-whole, Followed, most-attempts, FewAttempts, SoundSheet}
+use Rattle.follows.specs.Follows.{follows}
 use Rattle.follows.specs.Bounded.{bounded}
-use Rattle.follows.specs.CaseA.{A-store, A, A-accepted, A-valid, instr-of, A-form, A-nested, A-nests}
-use Rattle.follows.specs.CaseB.{B-store, B, B-accepted, B-valid, B-loop, B-nested, B-nests}
+use Rattle.follows.specs.Attempts.{attempts}
+use Rattle.follows.specs.Sound.{sound}
+use Rattle.nesting.specs.Pack.{store-of}
+use Rattle.nesting.specs.CaseGraphs.{op, A, B}
+use Rattle.follows.specs.CaseForms.{A-accepted, A-valid, A-form, A-nested, A-nests, B-accepted, B-valid, B-loop, B-nested, B-nests}
 
 abbrev event : ℕ → ℕ → ℕ → Event
 event r k op = record { region = r; index = k; opcode = op; reads = [] }
@@ -42,8 +46,8 @@ A-run : graph-run A ones 10 ≡ some A-ended
 unfolding graph-run run-from entry-words words-from put put-inputs do-instr do-block do-blocks
 A-run = refl
 
-A-followed : Follows → Followed A ones A-form (some (output 0 ∷ [])) A-ended
-A-followed follows = follows A A-valid A-nested A-nests (some (output 0 ∷ [])) (is-whole refl) ones 10 A-ended A-run
+A-followed : Followed A ones A-form (some (output 0 ∷ [])) A-ended
+A-followed = follows A A-valid A-nested A-nests (some (output 0 ∷ [])) (is-whole refl) ones 10 A-ended A-run
 
 -- One run shows what all show: a form that does other things with some budget follows with none.
 record SameRun (w : NestedEnded) (e : Ended) : Type 0 where
@@ -63,9 +67,9 @@ same-run {g} {x} {ks} {outs} {e} b w h f =
 -- A nester that crosses the two cases: constant 1 is returned, after opcode 9.
 abbrev A-crossed : Nodes
 A-crossed =
-    block 0 0 0 (instr-of 7 1 5 ∷ [])
+    block 0 0 0 (op 7 1 5 ∷ [])
     ▸ select 3 bool-cond (instr 0 0) (record { number = 0; type = 2 } ∷ [])
-    (case 2 (block 2 2 0 (instr-of 9 0 4 ∷ []) ▸ ⟨⟩) (const 1 ∷ []) (case 1 (block 1 1 0 (instr-of 8 0 3 ∷ []) ▸ ⟨⟩) (const 0 ∷ []) ∅))
+    (case 2 (block 2 2 0 (op 9 0 4 ∷ []) ▸ ⟨⟩) (const 1 ∷ []) (case 1 (block 1 1 0 (op 8 0 3 ∷ []) ▸ ⟨⟩) (const 0 ∷ []) ∅))
     ▸ ⟨⟩
 
 A-crossed-run : nested-run A ones A-crossed (some (output 0 ∷ [])) 1
@@ -87,8 +91,8 @@ B-run : graph-run B five 10 ≡ some B-ended
 unfolding graph-run run-from entry-words words-from put put-inputs do-instr do-block do-blocks
 B-run = refl
 
-B-followed : Follows → Followed B five (B-loop (instr 1 0)) (some []) B-ended
-B-followed follows = follows B B-valid B-nested B-nests (some []) (is-whole refl) five 10 B-ended B-run
+B-followed : Followed B five (B-loop (instr 1 0)) (some []) B-ended
+B-followed = follows B B-valid B-nested B-nests (some []) (is-whole refl) five 10 B-ended B-run
 
 -- A nester that lets the loop test another value than its header's: one turn.
 B-once-run : nested-run B five (B-loop (bool false)) (some []) 1 ≡ some (record { end = returned []; events = event 1 0 5 ∷ []; cost = 10; over-limit = false })
@@ -145,20 +149,20 @@ A-most : most-attempts A (reachable A) ≡ 33
 unfolding visit
 A-most = refl
 
-A-attempts : Attempts → FewAttempts A 8
-A-attempts attempts = attempts A A-valid A-nested A-nests
+A-attempts : FewAttempts A 8
+A-attempts = attempts A A-valid A-nested A-nests
 
 -- A nester that tries each target again whenever a claim is made: one attempt more than the bound is no longer few.
 A-more-wrong : FewAttempts A 34 → ⊥
 A-more-wrong h = omega (arith, A-most, h .few)
 
 -- ---- 4, at A: the sheet of its store.
-A-answer : answer A-store 16384 ≡ accepted (sheet-of A A-nested)
-unfolding answer A-store
+A-answer : answer (store-of A) 16384 ≡ accepted (sheet-of A A-nested)
+unfolding answer store-of
 A-answer = refl
 
-A-sound : Sound → SoundSheet A-store (sheet-of A A-nested)
-A-sound sound = sound A-store 16384 (sheet-of A A-nested) A-answer
+A-sound : SoundSheet (store-of A) (sheet-of A A-nested)
+A-sound = sound (store-of A) 16384 (sheet-of A A-nested) A-answer
 
 -- A store has one sound sheet at most.
 one-sheet : {store : List ℕ} {g : Graph} {n : Nested} {s : Sheet} → accept store ≡ accepted g → structurize-func g ≡ nested n → SoundSheet store s → s ≡ sheet-of g n
@@ -168,11 +172,11 @@ one-sheet {g = g} {n = n} a b h =
     let c = h .shows in cc
 
 -- A nester that gives each store the sheet of A.
-A-for-B-wrong : SoundSheet B-store (sheet-of A A-nested) → ⊥
+A-for-B-wrong : SoundSheet (store-of B) (sheet-of A A-nested) → ⊥
 unfolding sheet-of
 A-for-B-wrong h = let z : _≡_ {A = ℕ} 8 7 = ap (λ s. s .attempts) (one-sheet B-accepted B-nests h) in omega arith
 
 -- A nester that invents a figure.
-A-invented-wrong : (s : Sheet) → s .figure ≡ 10 → SoundSheet A-store s → ⊥
+A-invented-wrong : (s : Sheet) → s .figure ≡ 10 → SoundSheet (store-of A) s → ⊥
 unfolding sheet-of figure
 A-invented-wrong s e h = let z : s .figure ≡ 11 = ap (λ s. s .figure) (one-sheet A-accepted A-nests h) in omega arith

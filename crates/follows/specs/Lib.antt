@@ -7,8 +7,6 @@ pub mod Statements
 pub mod Bounded
 pub mod Sound
 pub mod JustReached
-pub mod CaseA
-pub mod CaseB
 pub mod Examples
 pub mod Over
 pub mod Totals
@@ -48,3 +46,5 @@ pub mod Close
 pub mod Edges
 pub mod Walk
 pub mod Follows
+pub mod ChainFuel
+pub mod CaseForms

@@ -19,7 +19,10 @@ use Rattle.nesting.specs.Line.{Sheet}
 use Rattle.nesting.specs.Sheet.{sheet-of}
 use Rattle.nesting.specs.Fields.{sheet-words}
 use Rattle.nesting.specs.Top.{nesting-of, sheet-for, words-fit, answer}
-use Rattle.follows.specs.Statements.{HasForm, is-whole, is-closed, Follows, Bounded, Attempts, SoundSheet, Sound}
+use Rattle.follows.specs.Statements.{HasForm, is-whole, is-closed, SoundSheet, Sound}
+use Rattle.follows.specs.Follows.{follows}
+use Rattle.follows.specs.Bounded.{bounded}
+use Rattle.follows.specs.Attempts.{attempts}
 
 -- ---- what the sheet shows of a form
 nest-accepted : (a : NestAnswer) (n : Nested) → nesting-of a ≡ accepted n → a ≡ nested n
@@ -74,8 +77,8 @@ shown store lent s h =
     let z : s ≡ a .value = fitting (leb (length (sheet-words (a .value))) lent) 10 (a .value) s (a .second) in
     rw z (shown-for store (a .value) (a .first))
 
-sound-sheet : Follows → Bounded → Attempts → (store : List ℕ) (s : Sheet) → Shown store s → SoundSheet store s
-sound-sheet follows bounded attempts store s y =
+sound-sheet : (store : List ℕ) (s : Sheet) → Shown store s → SoundSheet store s
+sound-sheet store s y =
     let valid = accept-valid store (y .graph) (y .accepts) in
     let same-attempts : s .attempts ≡ y .nest .attempts = ap (λ t. t .attempts) (y .shows) ∙ attempts-shown (y .graph) (y .nest) in
     record {
@@ -91,5 +94,6 @@ sound-sheet follows bounded attempts store s y =
       attempts = rw same-attempts (attempts (y .graph) valid (y .nest) (y .nests));
     }
 
-pub sound-from : Follows → Bounded → Attempts → Sound
-sound-from follows bounded attempts store lent s h = sound-sheet follows bounded attempts store s (shown store lent s h)
+-- Statement 4.
+pub sound : Sound
+sound store lent s h = sound-sheet store s (shown store lent s h)

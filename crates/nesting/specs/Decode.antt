@@ -17,7 +17,7 @@ pub data Got (A : Type 0) : Type 0 where
 abbrev pub Reader : Type 0 → Type 0
 Reader A = List ℕ → Got A
 
-abbrev pub next : {A B : Type 0} → Got A → (A → Reader B) → Got B
+unfoldable pub next : {A B : Type 0} → Got A → (A → Reader B) → Got B
 next (got a ws) f = f a ws
 next nothing f = nothing
 

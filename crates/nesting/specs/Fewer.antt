@@ -53,7 +53,7 @@ count-set w [] r x h = absurd (omega arith)
 count-set w (y ∷ l) zero x h = omega arith
 count-set w (y ∷ l) (suc r) x h = let z = count-set w l r x (omega arith) in omega arith
 
-in-or-out : (r n : ℕ) → (r < n) ⊎ (n ≤ r)
+pub in-or-out : (r n : ℕ) → (r < n) ⊎ (n ≤ r)
 in-or-out r n = go (ltb r n) refl
   where
     go : (b : Bool) → ltb r n ≡ b → (r < n) ⊎ (n ≤ r)

@@ -30,3 +30,11 @@ pub mod ScanEnds
 pub mod Cases
 pub mod Quick
 pub mod QuickPrint
+pub mod ChainEnds
+pub mod CaseGraphs
+pub mod UnmarkedChain
+pub mod RoundTrip
+pub mod SheetLength
+pub mod CaseRuns
+pub mod Decimal
+pub mod CaseWords

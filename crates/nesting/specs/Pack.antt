@@ -1,8 +1,56 @@
--- A store made of a record's words: W in front, padded to blocks of 253 words, each with its number and its check.
-use mathlib.Core.List.{List, [], _∷_, _++_}
+-- A store made of a graph: the record's words, W in front, padded to blocks, each with its number and its check.
+use mathlib.Core.Bool.{true, false}
+use mathlib.Core.List.{List, [], _∷_, _++_, map}
 use Prim.Native.Nat.{ℕ, zero, suc, _+_, _*_, _/_, _%_}
-use lib.ListN.{length, take, drop}
+use lib.ListN.{length, drop}
+use Rattle.meaning.specs.Graph.{Value, codeOf, Instr, SelectionKind, bool-cond, number, Edge, ControlInst, unreachable, return, exit-invocation, branch, select-branch, Region, Graph, edgesOf}
+use Rattle.format.specs.Read.{isIn}
+use Rattle.nesting.specs.Fields.{concat, counted, value-words}
 
+-- ---- the record's words
+abbrev pub values-words : List Value → List ℕ
+values-words vs = counted (λ v. value-words (codeOf v)) vs
+
+abbrev pub numbers-words : List ℕ → List ℕ
+numbers-words ns = counted (λ n. n ∷ []) ns
+
+abbrev pub instr-words : Instr → List ℕ
+instr-words i = i .opcode ∷ i .type ∷ i .cost ∷ values-words (i .reads)
+
+-- Kind, the opcode of ExitInvocation, values.
+abbrev pub terminator-words : ControlInst → List ℕ
+terminator-words unreachable = 0 ∷ 0 ∷ []
+terminator-words (return vs) = 1 ∷ values-words vs
+terminator-words (exit-invocation op vs) = 2 ∷ op ∷ values-words vs
+terminator-words (branch e) = 3 ∷ 0 ∷ []
+terminator-words (select-branch bool-cond v es) = 4 ∷ values-words (v ∷ [])
+terminator-words (select-branch number v es) = 5 ∷ values-words (v ∷ [])
+
+-- The inputs of each distinct target, by first standing.
+unfoldable pub passed-words : List ℕ → List Edge → List ℕ
+passed-words seen [] = []
+passed-words seen (e ∷ es) =
+    elim (isIn (e .target) seen) [
+      | true ↦ passed-words seen es
+      | false ↦ values-words (e .inputs) ++ passed-words (e .target ∷ seen) es
+    ]
+
+unfoldable pub region-words : Region → List ℕ
+unfolding passed-words
+region-words r =
+    numbers-words (r .inputs)
+    ++ counted (λ b. counted instr-words b) (r .blocks)
+    ++ (r .limit ∷ terminator-words (r .terminator))
+    ++ numbers-words (map (λ e. e .target) (edgesOf (r .terminator)))
+    ++ passed-words [] (edgesOf (r .terminator))
+    ++ numbers-words (r .exits)
+
+unfoldable pub record-words : Graph → List ℕ
+unfolding region-words
+record-words g =
+    length (g .regions) ∷ g .entry ∷ g .test-cost ∷ (numbers-words (g .constants) ++ concat (map region-words (g .regions)))
+
+-- ---- the store's bytes
 -- A word as two bytes, little-endian.
 abbrev pub two-bytes : ℕ → List ℕ
 two-bytes w = w % 256 ∷ w / 256 ∷ []
@@ -22,13 +70,17 @@ unfoldable pub checked : List ℕ → List ℕ
 unfolding check-from
 checked bs = let c = check-from 0 bs in bs ++ two-bytes (c % 65536) ++ two-bytes (c / 65536)
 
--- Blocks from a number on, as many as `n`.
+-- n blocks from block b on.
 unfoldable pub blocks-from : ℕ → ℕ → List ℕ → List ℕ
 unfolding checked payload
 blocks-from b zero ws = []
 blocks-from b (suc n) ws = checked (two-bytes b ++ payload 253 ws) ++ blocks-from (suc b) n (drop 253 ws)
 
--- The record's words without W.
+-- The record's words are without W.
 unfoldable pub store-of : List ℕ → List ℕ
 unfolding blocks-from
 store-of ws = let w = suc (length ws) in blocks-from 0 ((w + 252) / 253) (w ∷ ws)
+
+unfoldable pub store-of-graph : Graph → List ℕ
+unfolding store-of record-words
+store-of-graph g = store-of (record-words g)

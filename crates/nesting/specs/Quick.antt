@@ -193,7 +193,7 @@ same-count : (s : List ℕ) (n w : ℕ) → words-if (countRight s n w) (tabulat
 same-count s n w =
     ap (λ z. words-if (ltb 0 w && (eqb n ((w + 252) / 253) && z)) (tabulate w (wordAt s))) (rest-zero s n w)
     ∙ same-if (ltb 0 w) (eqb n ((w + 252) / 253)) (zeros (drop w (all-words n s))) (tabulate w (wordAt s)) (take w (all-words n s))
-      λ e. words-tabulated n w s (omega (arith, eqb-true n ((w + 252) / 253) e))
+    λ e. words-tabulated n w s (omega (arith, eqb-true n ((w + 252) / 253) e))
 
 abbrev definition : List ℕ → Bool → Answer (List ℕ)
 definition s right =

@@ -25,7 +25,7 @@ unfoldable pub printed-after : Answer (List ℕ) → Text
 unfolding readRecord references structurize-func sheet-of sheet-words answer-text
 printed-after x =
     answer-text (
-      andThen (andThen (accept-words x) λ g. andThen (nesting-of (structurize-func g)) λ y. figure-fits (sheet-of g y)) (words-fit 16384)
+    andThen (andThen (accept-words x) λ g. andThen (nesting-of (structurize-func g)) λ y. figure-fits (sheet-of g y)) (words-fit 16384)
     )
 
 unfoldable pub quick-printed : List ℕ → Text

@@ -2,7 +2,7 @@
 use mathlib.Core.Bool.{true, false}
 use mathlib.Core.List.{List, [], _∷_, _++_}
 use Prim.Native.Nat.{ℕ}
-use lib.ListN.{length}
+use lib.ListN.{length, drop}
 use lib.Dec.{leb}
 use Rattle.meaning.specs.Graph.{Graph}
 use Rattle.format.specs.Store.{Answer, accepted, refused, andThen}
@@ -38,10 +38,15 @@ unfoldable pub answer : List ℕ → ℕ → Answer Sheet
 unfolding sheet-for sheet-words
 answer store lent = andThen (sheet-for store) (words-fit lent)
 
--- What the lent words begin with; the words beyond stay as lent, and all of them do after a refusal.
+-- The words of the sheet, which the lent words then begin with.
 unfoldable pub answer-words : List ℕ → ℕ → Answer (List ℕ)
 unfolding answer sheet-words
 answer-words store lent = andThen (answer store lent) λ s. accepted (sheet-words s)
+
+-- What the lent words hold afterwards: the words beyond the sheet stay as lent, and all of them do after a refusal.
+abbrev pub lent-after : Answer (List ℕ) → List ℕ → List ℕ
+lent-after (refused n w) lent = lent
+lent-after (accepted ws) lent = ws ++ drop (length ws) lent
 
 unfoldable pub answer-text : Answer Sheet → Text
 unfolding sheet-text decimal joined
