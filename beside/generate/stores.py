@@ -42,28 +42,21 @@ def filled(rng, used):
         made = record(rng, rng.choice((2, 6, 32)))
         missing = used - 1 - len(words_of(made))
         for _ in range(1000):
-            region = rng.choice(made.regions)
-            insts, reads = list(region.insts), rng.randint(0, 3)
-            if missing <= 0:
-                break
-            if region.kind in (RETURN, EXIT) and rng.random() < 0.05:
-                continue
-            if len(region.blocks) == 8 and len(region.blocks[7]) == 8:
-                continue
-            new = not region.blocks or len(region.blocks[-1]) == 8 or \
-                rng.random() < 0.2 and len(region.blocks) < 8
+            region, reads = rng.choice(made.regions), rng.randint(0, 3)
+            last = region.blocks[-1] if region.blocks else []
+            new = not 0 < len(last) < 8 or len(region.blocks) < 8 and rng.random() < 0.2
             size = 4 + 3 * reads + new
-            if size > missing or 0 < missing - size < 4:
+            if new and len(region.blocks) == 8 or size > missing or 0 < missing - size < 4:
                 continue
             inst = Inst(rng.randint(0, 20), rng.randint(0, 2), rng.randint(0, 9),
-                        [(UNDEF, 0, 2) for _ in range(reads)])
+                        [(UNDEF, 0, 2)] * reads)
             if new:
                 region.blocks.append([inst])
             else:
-                region.blocks[-1].append(inst)
+                last.append(inst)
             region.insts.append(inst)
             missing -= size
-        if len(words_of(made)) == used - 1:
+        if missing == 0:
             return pack(words_of(made))
 
 

@@ -159,7 +159,7 @@ class Nesting:
                 return new
             value = new
         if value[0] == HELD and self.rewrites[value[1]][value[2]] != value:
-            self.twice = 1
+            self.twice = 1      # looking it up once more would change it
         return value
 
     def look_up_all(self, values):

@@ -1,49 +1,50 @@
--- A claimed region is put after the children that lead to it.
+-- A claimed region is put behind the children that lead to it.
 use mathlib.Core.Bool.{false, true}
 use mathlib.Core.List.{List, []}
 use mathlib.Core.Logic.{_⊎_, inl, inr}
 use mathlib.Core.Path.{_∙_, _≡_, refl, subst, sym}
 use Prim.Native.Nat.{_<_, ℕ}
-use lib.Dec.{eqb}
-use lib.ListN.{getD}
+use lib.Dec.{T, eqb}
+use lib.ListN.{getD, set}
 use Rattle.meaning.specs.Form.{Nodes}
 use Rattle.meaning.specs.Graph.{Value, input, undef}
 use Rattle.format.specs.ReadLaws.{clash}
 use Rattle.nesting.specs.Case.{Body, ClaimedRegion, MaybeClaimedRegion, append-maybe-claimed-region, deferred-of, err, join, ok}
 use Rattle.nesting.specs.Deferred.{DeferredEdgeBundle, DeferredEdgeBundleSet, LazyCond, false-cond, merge, true-cond, undef-cond}
-use Rattle.nesting.specs.State.{NestState, NodeOutput, RewriteEntry}
+use Rattle.nesting.specs.State.{NestState, NodeOutput}
 use Rattle.follows.specs.Small.{or-either, or-right}
-use Rattle.follows.specs.Key.{Key, Prefix, key, of-node, owns-join, owns-nodes, prefix-refl, prefix-then}
-use Rattle.follows.specs.Sim.{Resolver, Respects, laws-right}
-use Rattle.follows.specs.Steps.{Post}
+use Rattle.follows.specs.Key.{Key, key, of-node, owns-join, owns-nodes}
 use Rattle.follows.specs.World.{World, ar}
-use Rattle.follows.specs.Scope.{AllScoped, CondOk, EntryOk, Gains, InScope, Scoped, SetOk, Sim₁, Within, constant, gains-refl, own-input, owned, respects-back, scoped-later, within-left, within-right}
-use Rattle.follows.specs.Inv.{Wild}
-use Rattle.follows.specs.Hold.{CaseOk, Doing, Holds, Since}
-use Rattle.follows.specs.Split.{Enters, Leads, children-in, enter-follows, leads-then}
-use Rattle.follows.specs.Pick.{Moves, ToLog, join-nil, log-doing, log-moves}
+use Rattle.follows.specs.Tables.{Gains, Resolver, Respects, Tables, gains-refl, laws-last, respects-back, tables}
+use Rattle.follows.specs.Leads.{Leads, Sim, leads-then}
+use Rattle.follows.specs.Defined.{IfDone}
+use Rattle.follows.specs.Scope.{AllScoped, CondOk, EntryOk, InScope, Scoped, SetOk, Within, constant, own-input, owned, scoped-later, within-left, within-right}
+use Rattle.follows.specs.Invariant.{Wild}
+use Rattle.follows.specs.Holding.{CaseOk, Doing, Holds, Since}
+use Rattle.follows.specs.EnterCase.{Enters, children-in, enter-follows}
+use Rattle.follows.specs.SelectSteps.{Moved, ToLog, join-nil, log-doing, log-moved}
 
 -- ---- from one scope to another
-module _ {rs rs′ : List RewriteEntry} {os os′ : List NodeOutput} {q a r a′ : ℕ} {ks ks′ : Nodes} (gains : Gains rs rs′) (more : Prefix os os′) (wi : Within ks ks′)
-    (through : (ρ : Resolver) (os″ : List NodeOutput) → Respects ρ rs′ → Prefix os′ os″ → (k : ℕ) → k < a → InScope ρ os″ r a′ ks′ (ρ (input q k))) where
-  pub scoped-through : (v : Value) → Scoped rs os q a ks v → Scoped rs′ os′ r a′ ks′ v
-  scoped-through v h = record { scoped = λ ρ os″ res pre. go ρ os″ res pre (h .scoped ρ os″ (respects-back gains res) (prefix-then more pre)) }
+module _ {T T′ : Tables} {q a r a′ : ℕ} {ks ks′ : Nodes} (gains : Gains T T′) (wi : Within ks ks′)
+    (through : (ρ : Resolver) (os : List NodeOutput) → Respects ρ os T′ → (k : ℕ) → k < a → InScope ρ os r a′ ks′ (ρ (input q k))) where
+  pub scoped-through : (v : Value) → Scoped T q a ks v → Scoped T′ r a′ ks′ v
+  scoped-through v h = record { scoped = λ ρ os res. go ρ os res (h .scoped ρ os (respects-back gains res)) }
     where
-      go : (ρ : Resolver) (os″ : List NodeOutput) → Respects ρ rs′ → Prefix os′ os″ → InScope ρ os″ q a ks (ρ v) → InScope ρ os″ r a′ ks′ (ρ v)
-      go ρ os″ res pre (constant c) = constant c
-      go ρ os″ res pre (own-input k lt e) = rw e (through ρ os″ res pre k lt)
-      go ρ os″ res pre (owned o) = owned (wi .into (key os″ (ρ v)) o)
+      go : (ρ : Resolver) (os : List NodeOutput) → Respects ρ os T′ → InScope ρ os q a ks (ρ v) → InScope ρ os r a′ ks′ (ρ v)
+      go ρ os res (constant c) = constant c
+      go ρ os res (own-input k lt e) = rw e (through ρ os res k lt)
+      go ρ os res (owned o) = owned (wi .into (key os (ρ v)) o)
 
-  pub cond-through : (c : LazyCond) → CondOk rs os q a ks c → CondOk rs′ os′ r a′ ks′ c
+  pub cond-through : (c : LazyCond) → CondOk T q a ks c → CondOk T′ r a′ ks′ c
   cond-through true-cond h = record { is = tt }
   cond-through false-cond h = record { is = tt }
   cond-through undef-cond h = record { is = tt }
   cond-through (merge n kind sc cs) h = record { is = (scoped-through sc (h .is .0), wi .into (of-node n) (h .is .1)) }
 
-  pub entry-through : (W : World) (e : DeferredEdgeBundle) → EntryOk W rs os q a ks e → EntryOk W rs′ os′ r a′ ks′ e
+  pub entry-through : (W : World) (e : DeferredEdgeBundle) → EntryOk W T q a ks e → EntryOk W T′ r a′ ks′ e
   entry-through W e h = record { fits = h .fits; inputs = λ i. scoped-through (getD (e .target-inputs) i (undef 0)) (h .inputs i); condition = cond-through (e .condition) (h .condition) }
 
-  pub set-through : (W : World) (d : DeferredEdgeBundleSet) → SetOk W rs os q a ks d → SetOk W rs′ os′ r a′ ks′ d
+  pub set-through : (W : World) (d : DeferredEdgeBundleSet) → SetOk W T q a ks d → SetOk W T′ r a′ ks′ d
   set-through W d h = record { distinct = h .distinct; entries = λ e i. entry-through W e (h .entries e i) }
 
 module _ (W : World) where
@@ -51,12 +52,12 @@ module _ (W : World) where
   pub record TailOk (s₀ : NestState) (r : ℕ) (ks : Nodes) (s : NestState) (c : ClaimedRegion) : Type 0 where
     pub holds : Holds W c s
     pub since : Since W s₀ c
-    pub inputs : AllScoped (s .region-input-rewrites) (s .node-outputs) r (ar W r) ks (c .structured-body-inputs)
+    pub inputs : AllScoped (tables s) r (ar W r) ks (c .structured-body-inputs)
     pub other : eqb r (c .structured-body) ≡ false
 
   abbrev pub TailIs : NestState → ℕ → Nodes → NestState → MaybeClaimedRegion → Type 0
   TailIs s₀ r ks s (ok c) = TailOk s₀ r ks s c
-  TailIs s₀ r ks s (err d) = SetOk W (s .region-input-rewrites) (s .node-outputs) r (ar W r) ks d
+  TailIs s₀ r ks s (err d) = SetOk W (tables s) r (ar W r) ks d
 
   pub with-kids : {s₀ s : NestState} {r : ℕ} {ks : Nodes} (c : ClaimedRegion) → Doing W s₀ r ks s → Holds W c s → Since W s₀ c → Doing W s₀ r (join ks (c .children)) s
   with-kids {s₀} {s} {r} {ks} c d h si = record {
@@ -82,23 +83,23 @@ module _ (W : World) where
       clear v (inr o) w = h .clear v o w
 
   pub record Appended (s₀ : NestState) (r : ℕ) (ks : Nodes) (c : MaybeClaimedRegion) (s : NestState) (y : Body) (s′ : NestState) : Type 0 where
-    pub kids-is : y .children ≡ join ks (children-in W c)
+    pub kids-is : y .children ≡ join ks (children-in c)
     pub set-is : y .deferred-edges ≡ deferred-of c
-    pub doing : Doing W s₀ r (join ks (children-in W c)) s′
-    pub moves : Moves W s s′
-    pub set : SetOk W (s′ .region-input-rewrites) (s′ .node-outputs) r (ar W r) (join ks (children-in W c)) (deferred-of c)
-    pub law : (ρ : Resolver) → Respects ρ (s′ .region-input-rewrites) → (x : ClaimedRegion) → c ≡ ok x → (k : ℕ) → ρ (input (x .structured-body) k) ≡ ρ (getD (x .structured-body-inputs) k (undef 0))
+    pub doing : Doing W s₀ r (join ks (children-in c)) s′
+    pub moves : Moved W s s′
+    pub set : SetOk W (tables s′) r (ar W r) (join ks (children-in c)) (deferred-of c)
+    pub law : (ρ : Resolver) (os : List NodeOutput) → Respects ρ os (tables s′) → (x : ClaimedRegion) → c ≡ ok x → (k : ℕ) → ρ (input (x .structured-body) k) ≡ ρ (getD (x .structured-body-inputs) k (undef 0))
 
-  pub append-post : (s₀ : NestState) (r : ℕ) (ks : Nodes) (c : MaybeClaimedRegion) (s : NestState) → Doing W s₀ r ks s → TailIs s₀ r ks s c → Post (Appended s₀ r ks c s) (append-maybe-claimed-region ks c s)
+  pub append-post : (s₀ : NestState) (r : ℕ) (ks : Nodes) (c : MaybeClaimedRegion) (s : NestState) → Doing W s₀ r ks s → TailIs s₀ r ks s c → IfDone (Appended s₀ r ks c s) (append-maybe-claimed-region ks c s)
   unfolding append-maybe-claimed-region
   append-post s₀ r ks (err d) s dg fit = record {
     post = record {
       kids-is = sym (join-nil ks);
       set-is = refl;
       doing = subst (λ k. Doing W s₀ r k s) (sym (join-nil ks)) dg;
-      moves = record { logs = gains-refl (s .region-input-rewrites); outputs = prefix-refl (s .node-outputs); wild = λ v h. h; loggable = λ q h. h };
-      set = subst (λ k. SetOk W (s .region-input-rewrites) (s .node-outputs) r (ar W r) k d) (sym (join-nil ks)) fit;
-      law = λ ρ res x p k. absurd (clash (cc));
+      moves = record { gains = gains-refl (tables s); wild = λ v h. h; loggable = λ q h. h };
+      set = subst (λ k. SetOk W (tables s) r (ar W r) k d) (sym (join-nil ks)) fit;
+      law = λ ρ os res x p k. absurd (clash (cc));
     };
   }
   append-post s₀ r ks (ok c) s dg fit =
@@ -108,24 +109,24 @@ module _ (W : World) where
         unlogged = fit .holds .unlogged;
         other = fit .other;
         since = fit .since .region;
-        inputs = λ i. scoped-later (gains-refl (s .region-input-rewrites)) (prefix-refl (s .node-outputs)) (within-left ks (c .children)) (fit .inputs i);
+        inputs = λ i. scoped-later (gains-refl (tables s)) (within-left ks (c .children)) (fit .inputs i);
       } in
-      let mv = log-moves W s₀ s r (join ks (c .children)) c dg₁ tl in
+      let mv = log-moved W s₀ s r (join ks (c .children)) c dg₁ tl in
       record {
         post = record {
           kids-is = refl;
           set-is = refl;
           doing = log-doing W s₀ s r (join ks (c .children)) c dg₁ tl;
           moves = mv;
-          set = set-through (mv .logs) (mv .outputs) (within-right ks (c .children)) (λ ρ os res pre k lt. rw (laws-right ρ (s .region-input-rewrites) _ (res .laws) .0 k) (tl .inputs k .scoped ρ os (respects-back (mv .logs) res) (prefix-then (mv .outputs) pre))) W (c .deferred-edges) (fit .holds .set);
-          law = λ ρ res x p k. let e : c ≡ x = cc in subst (λ z. ρ (input (z .structured-body) k) ≡ ρ (getD (z .structured-body-inputs) k (undef 0))) e (laws-right ρ (s .region-input-rewrites) _ (res .laws) .0 k);
+          set = set-through (mv .gains) (within-right ks (c .children)) (λ ρ os res k lt. rw (laws-last (s .region-input-rewrites) _ refl res .0 k) (tl .inputs k .scoped ρ os (respects-back (mv .gains) res))) W (c .deferred-edges) (fit .holds .set);
+          law = λ ρ os res x p k. let e : c ≡ x = cc in subst (λ z. ρ (input (z .structured-body) k) ≡ ρ (getD (z .structured-body-inputs) k (undef 0))) e (laws-last (s .region-input-rewrites) _ refl res .0 k);
         };
       }
 
   -- the children lead to the case, and then its own follow
   pub append-sim : (s₀ : NestState) (r : ℕ) (ks : Nodes) (c : MaybeClaimedRegion) (s : NestState) (y : Body) (s′ : NestState) → CaseOk W s₀ r ks s c → Appended s₀ r ks c s y s′
-      → Leads W r ks (s .region-input-rewrites) (s .node-outputs) (λ ρ os n e h st. Enters W ρ os n e h st c) → Sim₁ W r r (join ks (children-in W c)) (deferred-of c) (s′ .region-input-rewrites) (s′ .node-outputs)
-  append-sim s₀ r ks c s y s′ fit ad ld = leads-then W r ks (children-in W c) (deferred-of c) (s .region-input-rewrites) (s′ .region-input-rewrites) (s .node-outputs) (s′ .node-outputs) _ ld (ad .moves .logs) (ad .moves .outputs)
-      λ ρ os res pre b n le st bs apart e h en.
-      enter-follows W s₀ r ks s c fit ρ os (respects-back (ad .moves .logs) res) (prefix-then (ad .moves .outputs) pre) b n le st bs (ad .law ρ res)
-      (λ k lt. or-right (owns-nodes ks (key os (ρ (input r k)))) (owns-nodes (children-in W c) (key os (ρ (input r k)))) (sym (owns-join ks (children-in W c) (key os (ρ (input r k)))) ∙ apart k lt)) e h en
+      → Leads W r r ks (tables s) (λ ρ os n e h st. Enters W ρ os n e h st c) → Sim W r r (join ks (children-in c)) (deferred-of c) (tables s′)
+  append-sim s₀ r ks c s y s′ fit ad ld = leads-then W (children-in c) (deferred-of c) _ ld (ad .moves .gains)
+      λ ρ os res b n le st bs apart e h en.
+      enter-follows W s₀ r ks s c fit ρ os (respects-back (ad .moves .gains) res) b n le st bs (ad .law ρ os res)
+      (λ k lt. or-right (owns-nodes ks (key os (ρ (input r k)))) (owns-nodes (children-in c) (key os (ρ (input r k)))) (sym (owns-join ks (children-in c) (key os (ρ (input r k)))) ∙ apart k lt)) e h en

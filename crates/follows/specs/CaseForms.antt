@@ -10,16 +10,16 @@ use Rattle.format.specs.AcceptValid.{accept-valid}
 use Rattle.format.specs.Valid.{Valid}
 use Rattle.nesting.specs.Nested.{whole, Nested, nested}
 use Rattle.nesting.specs.Func.{structurize-func}
-use Rattle.nesting.specs.Pack.{store-of}
+use Rattle.nesting.specs.Pack.{store-of-graph}
 use Rattle.nesting.specs.CaseGraphs.{op, A, B}
 
 -- ---- A
-pub A-accepted : accept (store-of A) ≡ accepted A
-unfolding accept store-of
+pub A-accepted : accept (store-of-graph A) ≡ accepted A
+unfolding accept store-of-graph
 A-accepted = refl
 
 pub A-valid : Valid A
-A-valid = accept-valid (store-of A) A A-accepted
+A-valid = accept-valid (store-of-graph A) A A-accepted
 
 abbrev pub A-form : Nodes
 A-form =
@@ -43,12 +43,12 @@ unfolding structurize-func
 A-nests = refl
 
 -- ---- B
-pub B-accepted : accept (store-of B) ≡ accepted B
-unfolding accept store-of
+pub B-accepted : accept (store-of-graph B) ≡ accepted B
+unfolding accept store-of-graph
 B-accepted = refl
 
 pub B-valid : Valid B
-B-valid = accept-valid (store-of B) B B-accepted
+B-valid = accept-valid (store-of-graph B) B B-accepted
 
 -- its loop, with a repeat value
 abbrev pub B-loop : Value → Nodes

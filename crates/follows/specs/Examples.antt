@@ -28,7 +28,7 @@ use Rattle.follows.specs.Follows.{follows}
 use Rattle.follows.specs.Bounded.{bounded}
 use Rattle.follows.specs.Attempts.{attempts}
 use Rattle.follows.specs.Sound.{sound}
-use Rattle.nesting.specs.Pack.{store-of}
+use Rattle.nesting.specs.Pack.{store-of-graph}
 use Rattle.nesting.specs.CaseGraphs.{op, A, B}
 use Rattle.follows.specs.CaseForms.{A-accepted, A-valid, A-form, A-nested, A-nests, B-accepted, B-valid, B-loop, B-nested, B-nests}
 
@@ -157,12 +157,12 @@ A-more-wrong : FewAttempts A 34 → ⊥
 A-more-wrong h = omega (arith, A-most, h .few)
 
 -- ---- 4, at A: the sheet of its store.
-A-answer : answer (store-of A) 16384 ≡ accepted (sheet-of A A-nested)
-unfolding answer store-of
+A-answer : answer (store-of-graph A) 16384 ≡ accepted (sheet-of A A-nested)
+unfolding answer store-of-graph
 A-answer = refl
 
-A-sound : SoundSheet (store-of A) (sheet-of A A-nested)
-A-sound = sound (store-of A) 16384 (sheet-of A A-nested) A-answer
+A-sound : SoundSheet (store-of-graph A) (sheet-of A A-nested)
+A-sound = sound (store-of-graph A) 16384 (sheet-of A A-nested) A-answer
 
 -- A store has one sound sheet at most.
 one-sheet : {store : List ℕ} {g : Graph} {n : Nested} {s : Sheet} → accept store ≡ accepted g → structurize-func g ≡ nested n → SoundSheet store s → s ≡ sheet-of g n
@@ -172,11 +172,11 @@ one-sheet {g = g} {n = n} a b h =
     let c = h .shows in cc
 
 -- A nester that gives each store the sheet of A.
-A-for-B-wrong : SoundSheet (store-of B) (sheet-of A A-nested) → ⊥
+A-for-B-wrong : SoundSheet (store-of-graph B) (sheet-of A A-nested) → ⊥
 unfolding sheet-of
 A-for-B-wrong h = let z : _≡_ {A = ℕ} 8 7 = ap (λ s. s .attempts) (one-sheet B-accepted B-nests h) in omega arith
 
 -- A nester that invents a figure.
-A-invented-wrong : (s : Sheet) → s .figure ≡ 10 → SoundSheet (store-of A) s → ⊥
+A-invented-wrong : (s : Sheet) → s .figure ≡ 10 → SoundSheet (store-of-graph A) s → ⊥
 unfolding sheet-of figure
 A-invented-wrong s e h = let z : s .figure ≡ 11 = ap (λ s. s .figure) (one-sheet A-accepted A-nests h) in omega arith

@@ -1,18 +1,18 @@
--- The final lookup respects the log: chains end.
+-- The final look-up respects its rewrites: chains end, since each new entry leads to no input of its own region.
 use mathlib.Core.Bool.{Bool, false, true}
 use mathlib.Core.List.{List, [], _++_, _∷_}
 use mathlib.Core.Option.{Option, none, some}
 use mathlib.Core.Path.{_∙_, _≡_, refl, subst, sym}
 use Prim.Native.Nat.{_+_, _^_, suc, zero, ℕ}
 use native.Mathlib.Omega.{arith}
-use lib.Dec.{eqb, eqb→eq}
+use lib.Dec.{T, eqb, eqb→eq}
 use lib.ListN.{getD, length}
-use Rattle.meaning.specs.Graph.{Value, bool, const, held, input, instr, output, pick, undef}
+use Rattle.meaning.specs.Graph.{Value, bool, const, held, input, instr, output, pick, region, undef}
 use Rattle.format.specs.ReadLaws.{clash}
 use Rattle.nesting.specs.Rewrite.{rewrite, rewrite-chain, rewrites-of, step-chain, step-input}
 use Rattle.nesting.specs.State.{InputRewrite, RegionInputRewrites, RewriteEntry, renumber-or-replace-with, renumber-to, replace-by, replace-with}
 use Rattle.follows.specs.Small.{eqb-self}
-use Rattle.follows.specs.Sim.{EntryLaw, Laws, Resolver, Respects}
+use Rattle.follows.specs.Tables.{EntryLaw, Laws, Resolver, Respects, Tables, extends-refl}
 
 -- no entry applies
 abbrev pub Final : List RewriteEntry → Value → Type 0
@@ -34,13 +34,13 @@ NotOf q (bool b) = Unit
 NotOf q (undef ty) = Unit
 
 -- the value that an entry gives for an input
-abbrev pub atSlot : ℕ → InputRewrite → Value
-atSlot r (replace-by v) = v
-atSlot r (renumber-to i) = held r i
+abbrev pub at-slot : ℕ → InputRewrite → Value
+at-slot r (replace-by v) = v
+at-slot r (renumber-to i) = held r i
 
 abbrev pub gives : ℕ → ℕ → RegionInputRewrites → Value
 gives r k (replace-with vs) = getD vs k (undef 0)
-gives r k (renumber-or-replace-with ss) = atSlot r (getD ss k (renumber-to k))
+gives r k (renumber-or-replace-with ss) = at-slot r (getD ss k (renumber-to k))
 
 pub held-stays : (es : List RewriteEntry) (d r i : ℕ) → rewrite-chain d es (held r i) ≡ held r i
 unfolding rewrite-chain
@@ -51,7 +51,7 @@ by-entry : (es : List RewriteEntry) (d r k : ℕ) (e : RegionInputRewrites) → 
 by-entry es d r k (replace-with vs) = refl
 by-entry es d r k (renumber-or-replace-with ss) = go (getD ss k (renumber-to k))
   where
-    go : (sl : InputRewrite) → step-input (λ v. rewrite-chain d es v) r sl ≡ rewrite-chain d es (atSlot r sl)
+    go : (sl : InputRewrite) → step-input (λ v. rewrite-chain d es v) r sl ≡ rewrite-chain d es (at-slot r sl)
     go (replace-by v) = refl
     go (renumber-to i) = sym (held-stays es d r i)
 
@@ -224,7 +224,7 @@ law-of : (ρ : Resolver) → ((r i : ℕ) → ρ (held r i) ≡ held r i) → (r
 law-of ρ on-held r (replace-with vs) h = h
 law-of ρ on-held r (renumber-or-replace-with ss) h = λ k. h k ∙ go (getD ss k (renumber-to k))
   where
-    go : (sl : InputRewrite) → ρ (atSlot r sl) ≡ step-input ρ r sl
+    go : (sl : InputRewrite) → ρ (at-slot r sl) ≡ step-input ρ r sl
     go (replace-by v) = refl
     go (renumber-to i) = on-held r i
 
@@ -240,14 +240,16 @@ laws-of ρ on-held (x ∷ es) (one, s) h =
         go false q = p
         go true q = let r-x : r ≡ x .region = eqb→eq r (x .region) (rw q tt) in let z : rewrites-of es r ≡ none = rw r-x one in cc
 
-pub final-respects : (es : List RewriteEntry) → Ends es → Respects (rewrite es) es
+pub final-respects : (T : Tables) → Ends (T .rewrites) → Respects (rewrite (T .rewrites)) (T .outputs) T
 unfolding rewrite
-final-respects es h = subst (λ n. Respects (λ v. rewrite-chain n es v) es) (h .enough) (record {
-  on-const = λ i. final-stays es (suc (h .steps)) (const i) tt;
-  on-held = λ r k. held-stays es (suc (h .steps)) r k;
-  on-instr = λ r k. final-stays es (suc (h .steps)) (instr r k) tt;
-  on-output = λ k. final-stays es (suc (h .steps)) (output k) tt;
-  on-bool = λ b. final-stays es (suc (h .steps)) (bool b) tt;
-  on-undef = λ ty. final-stays es (suc (h .steps)) (undef ty) tt;
-  laws = laws-of (λ v. rewrite-chain (suc (h .steps)) es v) (λ r i. held-stays es (suc (h .steps)) r i) es (h .single) (λ r k e p. entry-respected es (h .steps) (h .settles) r k e p);
+final-respects T h = subst (λ n. Respects (λ v. rewrite-chain n (T .rewrites) v) (T .outputs) T) (h .enough) (record {
+  on-const = λ i. final-stays (T .rewrites) (suc (h .steps)) (const i) tt;
+  on-held = λ r k. held-stays (T .rewrites) (suc (h .steps)) r k;
+  on-instr = λ r k. final-stays (T .rewrites) (suc (h .steps)) (instr r k) tt;
+  on-output = λ k. final-stays (T .rewrites) (suc (h .steps)) (output k) tt;
+  on-bool = λ b. final-stays (T .rewrites) (suc (h .steps)) (bool b) tt;
+  on-undef = λ ty. final-stays (T .rewrites) (suc (h .steps)) (undef ty) tt;
+  laws = laws-of (λ v. rewrite-chain (suc (h .steps)) (T .rewrites) v) (λ r i. held-stays (T .rewrites) (suc (h .steps)) r i) (T .rewrites) (h .single)
+      (λ r k e p. entry-respected (T .rewrites) (h .steps) (h .settles) r k e p);
+  outputs = extends-refl (T .outputs);
 })

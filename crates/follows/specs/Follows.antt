@@ -30,19 +30,22 @@ use Rattle.follows.specs.Reach.{entry-reachable}
 use Rattle.follows.specs.ValidUse.{usable-graph}
 use Rattle.follows.specs.Statements.{HasForm, is-whole, is-closed, Followed, FollowsRun}
 use Rattle.follows.specs.Statements as statements
-use Rattle.follows.specs.Key.{is-constant, nodes-none, owns-nodes, key, prefix-refl}
-use Rattle.follows.specs.Frame.{puts-other}
-use Rattle.follows.specs.Sim.{Resolver, In, OnwardTo, ends-with}
-use Rattle.follows.specs.Loop.{puts-at}
-use Rattle.follows.specs.Steps.{Post, bind, map-post}
-use Rattle.follows.specs.Final.{Ends, Final, final-respects}
-use Rattle.follows.specs.Own.{input-numbered}
+use Rattle.nesting.specs.Post.{bind, map-post}
+use Rattle.nesting.specs.Fewer.{state-of}
+use Rattle.follows.specs.Small.{map-map}
+use Rattle.follows.specs.Key.{is-constant, nodes-none, owns-nodes, key}
+use Rattle.follows.specs.Tables.{Resolver, tables}
 use Rattle.follows.specs.World.{World, size}
-use Rattle.follows.specs.Inv.{state-of, Inv}
-use Rattle.follows.specs.Hold.{unlogged-stays}
-use Rattle.follows.specs.Split.{Follows₁}
-use Rattle.follows.specs.Close.{ClaimDone, at-state}
-use Rattle.follows.specs.Walk.{claim-post}
+use Rattle.follows.specs.Frame.{puts-other}
+use Rattle.follows.specs.Inputs.{puts-at, input-numbered}
+use Rattle.follows.specs.Small.{In}
+use Rattle.follows.specs.Leads.{OnwardTo, Tracks}
+use Rattle.follows.specs.Final.{Ends, Final, final-respects}
+use Rattle.follows.specs.Defined.{IfDone}
+use Rattle.follows.specs.Invariant.{Inv}
+use Rattle.follows.specs.Holding.{unlogged-stays}
+use Rattle.follows.specs.ClaimReady.{ClaimDone, at-state}
+use Rattle.follows.specs.Claims.{claim-post}
 
 -- ---- the state at first
 all-new : (n r : ℕ) → getD (replicate n not-begun) r not-begun ≡ not-begun
@@ -87,21 +90,21 @@ module _ (g : Graph) (counts : List IncomingEdgeCount) where
   Itself r n none s = Unit
   Itself r n (some c) s = getD counts r 0 ≡ n → c .structured-body ≡ r
 
-  anything : {A : Type 0} (x : Answer A) → Post (λ a s. Unit {0}) x
+  anything : {A : Type 0} (x : Answer A) → IfDone (λ a s. Unit {0}) x
   anything (done a s) = record { post = tt }
   anything (turned-away n w) = record { post = tt }
 
-  as-itself : (r n : ℕ) (ins : List Value) (x : StructurizeRegionState) (s : NestState) → Post (Itself r n) (claim-by-state g r n ins (getD counts r 0) x s)
+  as-itself : (r n : ℕ) (ins : List Value) (x : StructurizeRegionState) (s : NestState) → IfDone (Itself r n) (claim-by-state g r n ins (getD counts r 0) x s)
   as-itself r n ins not-begun s = record { post = tt }
   as-itself r n ins claimed s = record { post = tt }
   as-itself r n ins in-progress s = go (eqb (getD counts r 0) n)
     where
-      go : (o : Bool) → Post (Itself r n) (at-state {A = Option ClaimedRegion} (elim o [ false ↦ give none | true ↦ turn-away 12 r ]) s)
+      go : (o : Bool) → IfDone (Itself r n) (at-state {A = Option ClaimedRegion} (elim o [ false ↦ give none | true ↦ turn-away 12 r ]) s)
       go false = record { post = tt }
       go true = record { post = tt }
   as-itself r n ins (ready b ks d) s = go (eqb (getD counts r 0) (n + b)) refl
     where
-      by : (b : ℕ) → eqb (getD counts r 0) (n + b) ≡ true → (s₁ : NestState) → Post (Itself r n) (claim-body g r ins ks d (backedge-of r b d) s₁)
+      by : (b : ℕ) → eqb (getD counts r 0) (n + b) ≡ true → (s₁ : NestState) → IfDone (Itself r n) (claim-body g r ins ks d (backedge-of r b d) s₁)
       by zero p s₁ = record { post = λ q. refl }
       by (suc b) p s₁ = map-post (claim-body g r ins ks d (backedge-of r (suc b) d) s₁) (anything _) λ o s₂ u. no-way o s₂
         where
@@ -109,11 +112,11 @@ module _ (g : Graph) (counts : List IncomingEdgeCount) where
           no-way none s₂ = tt
           no-way (some c) s₂ = λ q. absurd (let z : getD counts r 0 ≡ n + suc b = eqb→eq (getD counts r 0) (n + suc b) (rw p tt) in omega arith)
 
-      go : (o : Bool) → eqb (getD counts r 0) (n + b) ≡ o → Post (Itself r n) (at-state {A = Option ClaimedRegion} (elim o [ false ↦ give none | true ↦ set-state r claimed >> claim-body g r ins ks d (backedge-of r b d) ]) s)
+      go : (o : Bool) → eqb (getD counts r 0) (n + b) ≡ o → IfDone (Itself r n) (at-state {A = Option ClaimedRegion} (elim o [ false ↦ give none | true ↦ set-state r claimed >> claim-body g r ins ks d (backedge-of r b d) ]) s)
       go false p = record { post = tt }
       go true p = by b p _
 
-  claim-itself : (fuel r n : ℕ) (ins : List Value) (s : NestState) → Post (Itself r n) (try-claim-edge-bundle g counts fuel r n ins s)
+  claim-itself : (fuel r n : ℕ) (ins : List Value) (s : NestState) → IfDone (Itself r n) (try-claim-edge-bundle g counts fuel r n ins s)
   unfolding try-claim-edge-bundle
   claim-itself zero r n ins s = record { post = tt }
   claim-itself (suc fuel) r n ins s =
@@ -131,10 +134,6 @@ not-input x (input q i) c k = cc
 not-input x (held q i) c k = cc
 not-input x (instr q i) c k = cc
 not-input x (output o) c k = cc
-
-map-map : (ρ : Resolver) (σ : Env) (vs : List Value) → map (λ v. σ (ρ v)) vs ≡ map σ (map ρ vs)
-map-map ρ σ [] = refl
-map-map ρ σ (v ∷ vs) = ap (λ l. σ (ρ v) ∷ l) (map-map ρ σ vs)
 
 words-many : (f : ℕ → ℕ) (k : ℕ) (ts : List ℕ) → length (words-from f k ts) ≡ length ts
 unfolding words-from
@@ -154,13 +153,13 @@ module _ (g : Graph) (valid : Valid g) (x : Given) (c : ClaimedRegion) (s : Nest
   form = rewrite-nodes ρ (s .node-outputs) (c .children)
 
   entry-follows : (b : ℕ) (e : Ended) → graph-run g x b ≡ some e
-      → Follows₁ (world g valid x) ρ (s .node-outputs) b (c .deferred-edges) (e .end) (e .events) (run-nodes (x .rule) (g .test-cost) b form (start g x))
+      → Tracks (world g valid x) ρ (s .node-outputs) b (c .deferred-edges) (e .end) (e .events) (run-nodes (x .rule) (g .test-cost) b form (start g x))
   unfolding graph-run start
   entry-follows b e gr =
       let hd = cd .got .0 in
       let origin : c .origin ≡ g .entry = cd .got .2 in
       let un : rewrites-of (s .region-input-rewrites) (g .entry) ≡ none = subst (λ q. rewrites-of (s .region-input-rewrites) q ≡ none) itself (hd .unlogged) in
-      hd .sim .sim ρ (s .node-outputs) (final-respects (s .region-input-rewrites) (cd .inv .ends)) (prefix-refl (s .node-outputs)) b b (omega arith) (start g x) (entry-words g x)
+      hd .sim .leads ρ (s .node-outputs) (final-respects (tables s) (cd .inv .ends)) b b (omega arith) (start g x) (entry-words g x)
       (record { based = λ v k. puts-other (λ i. input (g .entry) i) v (not-input (g .entry) v k) 0 (entry-words g x) (base-env x) })
       (entry-many g x ∙ ap (λ q. length (region g q .inputs)) (sym origin))
       (record {
@@ -181,10 +180,10 @@ module _ (g : Graph) (valid : Valid g) (x : Given) (c : ClaimedRegion) (s : Nest
   closed-follows : c .deferred-edges ≡ [] → (b : ℕ) (e : Ended) → graph-run g x b ≡ some e → Followed g x form none e
   closed-follows is-empty b e gr = go _ (entry-follows b e gr) refl
     where
-      go : (R : Ran) → Follows₁ (world g valid x) ρ (s .node-outputs) b (c .deferred-edges) (e .end) (e .events) R → Comes none b e R
-      go (ended e′ st) fl = at-end none b e e′ st (fl .follows .0) (fl .follows .1)
-      go (through st) fl = λ came. absurd (subst (λ l. In (fl .follows .entry) l) is-empty (fl .follows .chosen .member))
-      go no-end fl = λ came. absurd (fl .follows)
+      go : (R : Ran) → Tracks (world g valid x) ρ (s .node-outputs) b (c .deferred-edges) (e .end) (e .events) R → Comes none b e R
+      go (ended e′ st) fl = at-end none b e e′ st (fl .leads-to .0) (fl .leads-to .1)
+      go (through st) fl = λ came. absurd (subst (λ l. In (fl .leads-to .entry) l) is-empty (fl .leads-to .chosen .member))
+      go no-end fl = λ came. absurd (fl .leads-to)
 
   whole-follows : (y : DeferredEdgeBundle) → y .target ≡ to-return → c .deferred-edges ≡ y ∷ [] → (b : ℕ) (e : Ended) → graph-run g x b ≡ some e
       → Followed g x form (some (map ρ (y .target-inputs))) e
@@ -195,19 +194,19 @@ module _ (g : Graph) (valid : Valid g) (x : Given) (c : ClaimedRegion) (s : Nest
       only (inl q) = q
       only (inr no-way) = absurd no-way
 
-      go : (R : Ran) → Follows₁ (world g valid x) ρ (s .node-outputs) b (c .deferred-edges) (e .end) (e .events) R → Comes (some (map ρ (y .target-inputs))) b e R
-      go (ended e′ st) fl = at-end _ b e e′ st (fl .follows .0) (fl .follows .1)
-      go no-end fl = λ came. absurd (fl .follows)
+      go : (R : Ran) → Tracks (world g valid x) ρ (s .node-outputs) b (c .deferred-edges) (e .end) (e .events) R → Comes (some (map ρ (y .target-inputs))) b e R
+      go (ended e′ st) fl = at-end _ b e e′ st (fl .leads-to .0) (fl .leads-to .1)
+      go no-end fl = λ came. absurd (fl .leads-to)
       go (through st) fl =
-          let here : fl .follows .entry ≡ y = only (subst (λ l. In (fl .follows .entry) l) is-one (fl .follows .chosen .member)) in
-          let onw : OnwardTo (x .rule) g (base-env x) ρ st b (e .end) (e .events) to-return (y .target-inputs) =
-          subst (λ z. OnwardTo (x .rule) g (base-env x) ρ st b (e .end) (e .events) z (y .target-inputs)) returns
-          (subst (λ z. OnwardTo (x .rule) g (base-env x) ρ st b (e .end) (e .events) (z .target) (z .target-inputs)) here (fl .follows .onward)) in
+          let here : fl .leads-to .entry ≡ y = only (subst (λ l. In (fl .leads-to .entry) l) is-one (fl .leads-to .chosen .member)) in
+          let onw : OnwardTo (world g valid x) ρ st b (e .end) (e .events) to-return (y .target-inputs) =
+          subst (λ z. OnwardTo (world g valid x) ρ st b (e .end) (e .events) z (y .target-inputs)) returns
+          (subst (λ z. OnwardTo (world g valid x) ρ st b (e .end) (e .events) (z .target) (z .target-inputs)) here (fl .leads-to .onward)) in
           λ came. record {
             budget = b;
             run = ended-at (returned (map (st .env) (map ρ (y .target-inputs)))) st;
             ends = ap (after-last (some (map ρ (y .target-inputs)))) came;
-            end = ap returned (sym (map-map ρ (st .env) (y .target-inputs))) ∙ sym (onw .0);
+            end = ap returned (map-map (st .env) ρ (y .target-inputs)) ∙ sym (onw .0);
             events = sym (onw .1);
           }
 
@@ -253,7 +252,7 @@ untouched-run g n p outs (is-closed q) x b e gr = absurd (let z : untouched ≡ 
 
 module _ (g : Graph) (valid : Valid g) (n : Nested) where
   by-answer : (counts : List IncomingEdgeCount) → getD counts (g .entry) 0 ≡ 1 → (a : Answer (Option ClaimedRegion))
-      → ((x : Given) → Post (ClaimDone (world g valid x) (g .entry) [] (initial-state g)) a) → Post (Itself g counts (g .entry) 1) a → conclude g a ≡ nested n → FollowsRun g n
+      → ((x : Given) → IfDone (ClaimDone (world g valid x) (g .entry) [] (initial-state g)) a) → IfDone (Itself g counts (g .entry) 1) a → conclude g a ≡ nested n → FollowsRun g n
   unfolding conclude
   by-answer counts once (turned-away k w) p q r = absurd (clash (cc))
   by-answer counts once (done none s) p q r = absurd (clash (cc))

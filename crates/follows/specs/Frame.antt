@@ -1,21 +1,20 @@
 -- A run of rewritten nodes changes the environment only at variables that the nodes own.
-use mathlib.Core.Path.{_≡_, refl, sym, ap, _∙_}
-use mathlib.Core.Bool.{Bool, true, false, _||_}
+use mathlib.Core.Bool.{Bool, false, true}
 use mathlib.Core.List.{List, [], _∷_, map}
-use mathlib.Core.Option.{some}
-use Prim.Native.Nat.{ℕ, zero, suc, _+_, _<_, _≤_}
+use mathlib.Core.Path.{_∙_, _≡_, ap, refl, sym}
+use Prim.Native.Nat.{_+_, suc, zero, ℕ}
 use native.Mathlib.Omega.{arith}
+use lib.Dec.{eqb, eqb→eq, leb}
 use lib.ListN.{getD}
-use lib.Dec.{eqb, leb, eqb→eq}
-use Rattle.meaning.specs.Graph.{Value, const, input, instr, output, bool, undef, held, sameValue, pick, Instr}
-use Rattle.meaning.specs.Form.{OutputDecl, Node, block, select, loop, exit, Nodes, ⟨⟩, _▸_, Cases, ∅, case}
-use Rattle.meaning.specs.Run.{Word, word, mark, Env, RunState, Rule, place-taken, put, put-inputs, do-instr, do-block}
-use Rattle.meaning.specs.NestedRun.{case-count, Ran, through, ended, no-end, and-then, tested, once-more, assign-inputs, assign-outputs, put-outputs, pay, note-over, turns, run-node, run-nodes, run-case}
-use Rattle.nesting.specs.State.{NodeOutput}
-use Rattle.nesting.specs.Last.{outputs-of, output-decls, case-outputs, rewrite-reads, rewrite-node, rewrite-nodes, rewrite-cases-of}
+use Rattle.meaning.specs.Form.{Cases, Node, Nodes, _▸_, block, case, exit, loop, select, ∅, ⟨⟩}
+use Rattle.meaning.specs.Graph.{Instr, Value, bool, const, held, input, instr, output, pick, sameValue, undef}
+use Rattle.meaning.specs.NestedRun.{Ran, and-then, assign-inputs, assign-outputs, case-count, ended, no-end, note-over, once-more, pay, put-outputs, run-case, run-node, run-nodes, tested, through, turns}
+use Rattle.meaning.specs.Run.{Env, Rule, RunState, Word, do-block, do-instr, mark, place-taken, put, put-inputs, word}
 use Rattle.format.specs.ReadLaws.{clash}
-use Rattle.follows.specs.Small.{nth, or-left, or-right, eqb-self, eqb-less}
-use Rattle.follows.specs.Key.{key, OutputAt, key-output, is-instr, is-node, is-held, owns, owns-nodes, owns-cases}
+use Rattle.nesting.specs.Last.{case-outputs, output-decls, outputs-of, rewrite-cases-of, rewrite-node, rewrite-nodes, rewrite-reads}
+use Rattle.nesting.specs.State.{NodeOutput}
+use Rattle.follows.specs.Small.{eqb-less, eqb-self, map-map, or-left, or-right}
+use Rattle.follows.specs.Key.{OutputAt, is-held, is-instr, is-node, key, key-output, owns, owns-cases, owns-nodes}
 
 -- ---- one variable is put
 pub put-other : (v u : Value) (w : Word) (σ : Env) → sameValue u v ≡ false → put v w σ u ≡ σ u
@@ -127,11 +126,7 @@ pub output-read : (ρ : Value → Value) (os : List NodeOutput) (n j : ℕ) (s :
     → (assign-outputs (output-decls n 0 os) (map ρ (case-outputs j (outputs-of n os))) s) .env (output k) ≡ s .env (ρ (getD (o .values) j (undef 0)))
 output-read ρ os n j s k o at-k =
     let z : 0 + k ≡ k = omega arith in
-    rw (map-map (case-outputs j (outputs-of n os)), ← z) (outputs-at n 0 j os (λ v. s .env (ρ v)) k o at-k (s .env))
-  where
-    map-map : (vs : List Value) → map (s .env) (map ρ vs) ≡ map (λ v. s .env (ρ v)) vs
-    map-map [] = refl
-    map-map (v ∷ vs) = ap (λ l. s .env (ρ v) ∷ l) (map-map vs)
+    rw (map-map (s .env) ρ (case-outputs j (outputs-of n os)), ← z) (outputs-at n 0 j os (λ v. s .env (ρ v)) k o at-k (s .env))
 
 -- ---- a run keeps what it does not own
 abbrev pub KeptRan : Value → RunState → Ran → Type 0

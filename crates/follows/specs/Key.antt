@@ -1,16 +1,16 @@
 -- Keys: whose variable a value is, as a table of outputs has it, and which keys a node owns.
-use mathlib.Core.Path.{_≡_, refl, sym, ap, _∙_}
-use mathlib.Core.Bool.{Bool, true, false, _||_, or-assoc}
-use mathlib.Core.List.{List, [], _∷_, _++_, append-assoc, append-nil}
+use mathlib.Core.Bool.{Bool, _||_, false, or-assoc, true}
+use mathlib.Core.List.{List, []}
 use mathlib.Core.Option.{Option, none, some}
+use mathlib.Core.Path.{_∙_, _≡_, ap, refl, sym}
 use Prim.Native.Nat.{ℕ}
 use lib.Dec.{eqb, eqb→eq}
-use Rattle.meaning.specs.Graph.{Value, const, input, instr, output, bool, undef, held}
-use Rattle.meaning.specs.Form.{Node, block, select, loop, exit, Nodes, ⟨⟩, _▸_, Cases, ∅, case}
-use Rattle.nesting.specs.State.{NodeOutput}
-use Rattle.nesting.specs.Case.{join}
+use Rattle.meaning.specs.Form.{Cases, Node, Nodes, _▸_, block, case, exit, loop, select, ∅, ⟨⟩}
+use Rattle.meaning.specs.Graph.{Value, bool, const, held, input, instr, output, undef}
 use Rattle.format.specs.ReadLaws.{clash}
-use Rattle.follows.specs.Small.{nth, nth-append}
+use Rattle.nesting.specs.Case.{join}
+use Rattle.nesting.specs.State.{NodeOutput}
+use Rattle.follows.specs.Small.{nth}
 
 -- A variable of a run is an instruction's output, a node's output, or a loop's body input.
 pub data Key : Type 0 where
@@ -37,21 +37,6 @@ pub record OutputAt (n : ℕ) (os : List NodeOutput) (k : ℕ) (o : NodeOutput) 
 
 pub key-output : {n : ℕ} {os : List NodeOutput} {k : ℕ} {o : NodeOutput} → OutputAt n os k o → key os (output k) ≡ of-node n
 key-output h = ap key-at (h .there) ∙ ap of-node (h .node)
-
--- ---- the table of outputs gains
-pub record Prefix (a b : List NodeOutput) : Type 0 where
-  pub more : List NodeOutput
-  pub whole : b ≡ a ++ more
-
-pub prefix-refl : (a : List NodeOutput) → Prefix a a
-prefix-refl a = record { more = []; whole = sym (append-nil a) }
-
-pub prefix-then : {a b c : List NodeOutput} → Prefix a b → Prefix b c → Prefix a c
-prefix-then {a} p q = record { more = p .more ++ q .more; whole = q .whole ∙ ap (λ l. l ++ q .more) (p .whole) ∙ append-assoc a (p .more) (q .more) }
-
--- an output stays where it is
-pub stays : {a b : List NodeOutput} {n k : ℕ} {o : NodeOutput} → Prefix a b → OutputAt n a k o → OutputAt n b k o
-stays {a} {b} {n} {k} {o} p h = record { there = ap (λ l. nth l k) (p .whole) ∙ nth-append a (p .more) k o (h .there); node = h .node }
 
 -- ---- what is constant
 abbrev pub is-constant : Value → Bool

@@ -1,18 +1,18 @@
 -- Small facts that several files use.
-use mathlib.Core.Path.{_≡_, refl, sym}
+use mathlib.Core.Bool.{Bool, _||_, false, true}
+use mathlib.Core.List.{List, [], _++_, _∷_, map}
 use mathlib.Core.Logic.{_⊎_, inl, inr}
-use mathlib.Core.Bool.{Bool, true, false, _||_}
-use mathlib.Core.List.{List, [], _∷_, _++_}
 use mathlib.Core.Option.{Option, none, some}
-use Prim.Native.Nat.{ℕ, zero, suc, _<_}
+use mathlib.Core.Path.{_≡_, ap, refl}
+use Prim.Native.Nat.{_<_, suc, zero, ℕ}
 use native.Mathlib.Omega.{arith}
-use lib.ListN.{length, getD}
 use lib.Dec.{eqb, eqb→eq}
+use lib.ListN.{getD, length}
 use borrow.Author.Tests.{eq-eqb}
 use Rattle.meaning.specs.Graph.{pick}
 use Rattle.format.specs.ReadLaws.{clash}
-use Rattle.nesting.specs.State.{RewriteEntry}
 use Rattle.nesting.specs.Rewrite.{rewrites-of}
+use Rattle.nesting.specs.State.{RewriteEntry}
 
 -- ---- tests
 pub or-either : (a b : Bool) → (a || b) ≡ true → (a ≡ true) ⊎ (b ≡ true)
@@ -65,6 +65,41 @@ pub nth-getD : {A : Type 0} (l : List A) (j : ℕ) (d : A) → j < length l → 
 nth-getD [] j d lt = absurd (omega arith)
 nth-getD (x ∷ l) zero d lt = refl
 nth-getD (x ∷ l) (suc j) d lt = nth-getD l j d (omega arith)
+
+pub nth-map : {A B : Type 0} (f : A → B) (l : List A) (j : ℕ) (a : A) → nth l j ≡ some a → nth (map f l) j ≡ some (f a)
+nth-map f [] j a p = absurd (clash (cc))
+nth-map f (x ∷ l) zero a p = let e : x ≡ a = cc in rw e
+nth-map f (x ∷ l) (suc j) a p = nth-map f l j a p
+
+-- ---- membership
+abbrev pub In : {A : Type 0} → A → List A → Type 0
+In x [] = ⊥
+In x (y ∷ ys) = (x ≡ y) ⊎ In x ys
+
+pub in-map : {A B : Type 0} (f : A → B) (l : List A) (x : A) → In x l → In (f x) (map f l)
+in-map f [] x i = absurd i
+in-map f (y ∷ l) x (inl p) = inl (ap f p)
+in-map f (y ∷ l) x (inr i) = inr (in-map f l x i)
+
+pub from-map : {A B : Type 0} (f : A → B) (l : List A) (y : B) → In y (map f l) → (x : A) × In x l × (y ≡ f x)
+from-map f [] y i = absurd i
+from-map f (x ∷ l) y (inl p) = (x, inl refl, p)
+from-map f (x ∷ l) y (inr i) = let z = from-map f l y i in (z .0, inr (z .1), z .2)
+
+pub nth-in : {A : Type 0} (l : List A) (j : ℕ) (a : A) → nth l j ≡ some a → In a l
+nth-in [] j a p = absurd (clash (cc))
+nth-in (x ∷ l) zero a p = inl (cc)
+nth-in (x ∷ l) (suc j) a p = inr (nth-in l j a p)
+
+-- ---- maps
+pub getD-map-in : {A B : Type 0} (f : A → B) (l : List A) (k : ℕ) (d : A) (d′ : B) → k < length l → getD (map f l) k d′ ≡ f (getD l k d)
+getD-map-in f [] k d d′ lt = absurd (omega arith)
+getD-map-in f (x ∷ l) zero d d′ lt = refl
+getD-map-in f (x ∷ l) (suc k) d d′ lt = getD-map-in f l k d d′ (omega arith)
+
+pub map-map : {A B C : Type 0} (f : B → C) (g : A → B) (l : List A) → map f (map g l) ≡ map (λ x. f (g x)) l
+map-map f g [] = refl
+map-map f g (x ∷ l) = ap (λ z. f (g x) ∷ z) (map-map f g l)
 
 -- an entry for another region leaves a region without one
 pub entry-keeps : (es : List RewriteEntry) (x : RewriteEntry) (q : ℕ) → eqb q (x .region) ≡ false → rewrites-of es q ≡ none → rewrites-of (es ++ (x ∷ [])) q ≡ none

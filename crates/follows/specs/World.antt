@@ -1,14 +1,19 @@
 -- What the simulation is about: a graph whose values are usable, a rule, and words for the constants.
-use mathlib.Core.Path.{_≡_, sym, _∙_}
 use mathlib.Core.Bool.{Bool, true}
-use Prim.Native.Nat.{ℕ, _<_}
+use mathlib.Core.List.{List, []}
+use mathlib.Core.Option.{Option}
+use mathlib.Core.Path.{_∙_, _≡_, sym}
+use Prim.Native.Nat.{_<_, ℕ}
 use lib.ListN.{length}
-use Rattle.meaning.specs.Graph.{Graph, bool, undef, pick, region}
-use Rattle.meaning.specs.Run.{Env, Rule, mark, word}
+use Rattle.meaning.specs.Form.{Nodes}
+use Rattle.meaning.specs.Graph.{Graph, bool, pick, undef}
+use Rattle.meaning.specs.GraphRun.{Ended, run-from}
+use Rattle.meaning.specs.NestedRun.{Ran, run-nodes}
+use Rattle.meaning.specs.Run.{Env, Event, Rule, RunState, Word, mark, word}
 use Rattle.format.specs.Read.{isIn}
 use Rattle.format.specs.References.{returnTypes}
-use Rattle.nesting.specs.Deferred.{DeferredTarget, to-region, to-return}
 use Rattle.nesting.specs.Count.{reachable}
+use Rattle.nesting.specs.Deferred.{DeferredTarget, to-region, to-return}
 use Rattle.follows.specs.Usable.{UsableGraph, arity}
 
 pub record World : Type 0 where
@@ -20,6 +25,13 @@ pub record World : Type 0 where
   pub on-undef : (ty : ℕ) → base (undef ty) ≡ mark
 
 module _ (W : World) where
+  -- The graph's run from a region, and a run of children.
+  abbrev pub from-region : ℕ → ℕ → List Word → List Event → Option Ended
+  from-region n r ws h = run-from (W .rule) (W .g) (W .base) n r ws h
+
+  abbrev pub runs : ℕ → Nodes → RunState → Ran
+  runs b ks s = run-nodes (W .rule) (W .g .test-cost) b ks s
+
   abbrev pub size : ℕ
   size = length (W .g .regions)
 

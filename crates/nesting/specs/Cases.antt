@@ -7,9 +7,8 @@ use Prim.Native.Nat.{ℕ, suc}
 use Prim.Native.String.{String}
 use lib.ListN.{length, getD}
 use lib.Dec.{eqb, leb}
-use borrow.Author.Tests.{eqb-true}
 use Rattle.meaning.specs.Graph.{Graph, pick, return, unreachable, branch}
-use Rattle.format.specs.Store.{Answer, accepted, refused, storeWords}
+use Rattle.format.specs.Store.{Answer, accepted, refused}
 use Rattle.format.specs.Read.{readRecord}
 use Rattle.format.specs.References.{references}
 use Rattle.format.specs.Accept.{accept}
@@ -23,7 +22,7 @@ use Rattle.nesting.specs.Text.{Text, ascii}
 use Rattle.nesting.specs.Pack.{store-of-graph}
 use Rattle.nesting.specs.Top.{printed}
 use Rattle.nesting.specs.Quick.{quick-store-words, same-store-words}
-use Rattle.nesting.specs.QuickPrint.{accept-words, quick-printed, prints}
+use Rattle.nesting.specs.QuickPrint.{same-numbers, both, numbers-same, accept-words, quick-printed, prints}
 use Rattle.nesting.specs.CaseGraphs.{A, B, one-region, to, both-the-same, targets, regions, no-loop, one-goes-on, loop-in-loop, two-exits, renumbered, crossing, dear}
 
 -- What a case shows: the printed answer, and the wrapper regions of its loops, which the sheet does not name.
@@ -98,6 +97,8 @@ case-B = case B (
 abbrev pub empty-form : String → List String
 empty-form line-1 = line-1 ∷ "region 0 in - kids - out -" ∷ []
 
+-- A; B; one region, Return; one region, Unreachable; a branch to the entry; both targets the same empty Return region;
+-- 8 targets, and 9; 32 regions, and 33; an empty store.
 abbrev pub document-cases : List Case
 document-cases =
     case-A
@@ -235,31 +236,12 @@ unfolding shown quick-shown
 same-shown s = rw (prints s (quick-printed s) refl, same-accept s)
 
 -- ---- the test that is computed: one bit
-abbrev pub same-numbers : List ℕ → List ℕ → Bool
-same-numbers [] [] = true
-same-numbers [] (y ∷ ys) = false
-same-numbers (x ∷ xs) [] = false
-same-numbers (x ∷ xs) (y ∷ ys) = eqb x y && same-numbers xs ys
-
 abbrev pub right : Case → Bool
 right c = same-numbers (quick-shown (c .store) .prints) (c .shows .prints) && same-numbers (quick-shown (c .store) .wrappers) (c .shows .wrappers)
 
 unfoldable pub all-right : List Case → Bool
 all-right [] = true
 all-right (c ∷ cs) = right c && all-right cs
-
-both : (a b : Bool) → (a && b) ≡ true → (a ≡ true) × (b ≡ true)
-both true true e = (refl, refl)
-both true false e = (refl, e)
-both false b e = (e, cc)
-
-numbers-same : (xs ys : List ℕ) → same-numbers xs ys ≡ true → xs ≡ ys
-numbers-same [] [] e = refl
-numbers-same [] (y ∷ ys) e = cc
-numbers-same (x ∷ xs) [] e = cc
-numbers-same (x ∷ xs) (y ∷ ys) e =
-    let h = both (eqb x y) (same-numbers xs ys) e in
-    rw (eqb-true x y (h .0), numbers-same xs ys (h .1))
 
 shown-same : (a b : Shown) → a .prints ≡ b .prints → a .wrappers ≡ b .wrappers → a ≡ b
 shown-same a b p q = λ i. record { prints = p i; wrappers = q i }
@@ -278,6 +260,7 @@ all-shown (c ∷ cs) e =
     let h = both (right c) (all-right cs) e in
     rw (case-right c (h .0), all-shown cs (h .1))
 
+-- For each case of the list the definitions show, from its bytes, what it states.
 pub proved-cases : map (λ c. shown (c .store)) cases ≡ map (λ c. c .shows) cases
 unfolding all-right quick-shown quick-printed quick-store-words wrappers-of readRecord references store-of-graph
 proved-cases = all-shown cases refl

@@ -1,7 +1,11 @@
 -- What the program prints, by way of the quick walk along the store.
 use mathlib.Core.Path.{_≡_, refl, ap, _∙_}
-use mathlib.Core.List.{List}
+use mathlib.Core.Bool.{Bool, true, false, _&&_}
+use mathlib.Core.List.{List, [], _∷_}
 use Prim.Native.Nat.{ℕ}
+use lib.Dec.{eqb}
+use borrow.Author.Tests.{eqb-true}
+use Rattle.meaning.specs.Graph.{Graph}
 use Rattle.format.specs.Store.{Answer, accepted, andThen, storeWords}
 use Rattle.format.specs.Read.{readRecord}
 use Rattle.format.specs.References.{references}
@@ -13,7 +17,7 @@ use Rattle.nesting.specs.Text.{Text}
 use Rattle.nesting.specs.Top.{nesting-of, figure-fits, words-fit, answer-text, sheet-for, answer, printed}
 use Rattle.nesting.specs.Quick.{quick-store-words, same-store-words}
 
-abbrev pub accept-words : Answer (List ℕ) → Answer Rattle.meaning.specs.Graph.Graph
+abbrev pub accept-words : Answer (List ℕ) → Answer Graph
 accept-words x =
     andThen x λ ws.
     andThen (readRecord ws) λ g.
@@ -39,3 +43,26 @@ printed-by-words s = refl
 pub prints : (s : List ℕ) (t : Text) → quick-printed s ≡ t → printed s ≡ t
 unfolding quick-printed
 prints s t e = printed-by-words s ∙ ap printed-after (same-store-words s) ∙ e
+
+-- ---- by a test that computes to one bit
+abbrev pub same-numbers : List ℕ → List ℕ → Bool
+same-numbers [] [] = true
+same-numbers [] (y ∷ ys) = false
+same-numbers (x ∷ xs) [] = false
+same-numbers (x ∷ xs) (y ∷ ys) = eqb x y && same-numbers xs ys
+
+pub both : (a b : Bool) → (a && b) ≡ true → (a ≡ true) × (b ≡ true)
+both true true e = (refl, refl)
+both true false e = (refl, e)
+both false b e = (e, cc)
+
+pub numbers-same : (xs ys : List ℕ) → same-numbers xs ys ≡ true → xs ≡ ys
+numbers-same [] [] e = refl
+numbers-same [] (y ∷ ys) e = cc
+numbers-same (x ∷ xs) [] e = cc
+numbers-same (x ∷ xs) (y ∷ ys) e =
+    let h = both (eqb x y) (same-numbers xs ys) e in
+    rw (eqb-true x y (h .0), numbers-same xs ys (h .1))
+
+pub prints-by-test : (s : List ℕ) (t : Text) → same-numbers (quick-printed s) t ≡ true → printed s ≡ t
+prints-by-test s t e = prints s t (numbers-same (quick-printed s) t e)

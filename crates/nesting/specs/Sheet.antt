@@ -1,27 +1,23 @@
 -- The sheet of a nested form, line by line (document 01, "The printed sheet").
 use mathlib.Core.List.{List, [], _∷_, _++_, map}
-use Prim.Native.Nat.{ℕ, zero, suc, _+_}
+use Prim.Native.Nat.{ℕ, suc}
 use lib.ListN.{getD, take}
-use lib.Dec.{eqb, leb}
+use lib.Dec.{leb}
 use Rattle.meaning.specs.Graph.{Value, const, input, instr, output, bool, undef, held, Code, codeOf, pick, Instr, SelectionKind, Graph}
 use Rattle.meaning.specs.Form.{OutputDecl, Node, block, select, loop, exit, Nodes, ⟨⟩, _▸_, Cases, ∅, case}
 use Rattle.nesting.specs.Deferred.{LazyCond, undef-cond, false-cond, true-cond, merge, LazyConds, _&_, DeferredTarget, to-region, to-return, DeferredEdgeBundle}
 use Rattle.nesting.specs.Nested.{Outcome, untouched, whole, closed, leftover, Piece, Nested}
+use Rattle.nesting.specs.Count.{times-in}
 use Rattle.nesting.specs.Figure.{figure}
 use Rattle.nesting.specs.Line.{Item, Condition, t-cond, f-cond, u-cond, m-cond, Conditions, no-part, part, Line, region-line, block-line, select-line, loop-line, exit-line, defer-line, Sheet}
 
--- How often a number stands in a list.
-abbrev pub times : ℕ → List ℕ → ℕ
-times a [] = 0
-times a (x ∷ xs) = pick (eqb a x) 1 0 + times a xs
-
--- ---- from the nested form
 abbrev pub node-number : Node → ℕ
 node-number (block n r k is) = n
 node-number (select n kind v os cs) = n
 node-number (loop n vs r ts limit ks us v) = n
 node-number (exit n op vs) = n
 
+-- The child nodes of a region line.
 abbrev pub kids : Nodes → List ℕ
 kids ⟨⟩ = []
 kids (k ▸ ks) = node-number k ∷ kids ks
@@ -47,25 +43,26 @@ unfoldable mutual
   shown-conds (c & cs) = part (shown-cond c) (shown-conds cs)
 
 -- `nodes` has the node of each output ever defined, in order: an output is shown as its node and its place among that node's.
+-- A marked input is shown as an input.
 module _ (nodes : List ℕ) where
   abbrev pub shown : Value → Code
   shown (const i) = codeOf (const i)
   shown (input r k) = codeOf (input r k)
   shown (instr r k) = codeOf (instr r k)
-  shown (output o) = record { kind = 3; region = getD nodes o 0; index = times (getD nodes o 0) (take o nodes) }
+  shown (output o) = record { kind = 3; region = getD nodes o 0; index = times-in (getD nodes o 0) (take o nodes) }
   shown (bool b) = codeOf (bool b)
   shown (undef ty) = codeOf (undef ty)
   shown (held r k) = codeOf (input r k)
 
-  abbrev pub items : ℕ → ℕ → List Instr → List Item
-  items r k [] = []
-  items r k (i ∷ is) =
-      record { region = r; index = k; opcode = i .opcode; type = i .type; reads = map shown (i .reads) } ∷ items r (suc k) is
+  abbrev pub block-items : ℕ → ℕ → List Instr → List Item
+  block-items r k [] = []
+  block-items r k (i ∷ is) =
+      record { region = r; index = k; opcode = i .opcode; type = i .type; reads = map shown (i .reads) } ∷ block-items r (suc k) is
 
   -- Each child, a select's cases or a loop's body following it. A case has no inputs.
   unfoldable mutual
     pub node-lines : Node → List Line
-    node-lines (block n r k is) = block-line n (items r k is) ∷ []
+    node-lines (block n r k is) = block-line n (block-items r k is) ∷ []
     node-lines (select n kind v os cs) =
         select-line n kind (shown v) (case-regions cs) (map (λ o. o .type) os) ∷ case-lines cs
     node-lines (loop n vs r ts limit ks us v) =

@@ -1,0 +1,15 @@
+use borrow.Author.Needs.{needs}
+use Rattle.fields.proofs.constant_type.Statement.{statement}
+use Rattle.fields.proofs.constant_type.Tie as tie
+use mathlib.Core.Path.{_∙_}
+use Rattle.fields.specs.Regions.{constants-at}
+use Rattle.fields.specs.Lists.{word-item}
+
+word-item-requires : tie.Need-word-item-requires
+word-item-requires c κs = search needs
+
+returns : tie.Need-returns
+returns c g s = c .word-item .ensures ∙ word-item _ (constants-at s) _
+
+pub constant-type-spec : {M : Type 1} → statement M
+constant-type-spec = tie.close (tie.spec word-item-requires returns)

@@ -1,0 +1,20 @@
+use borrow.Author.Needs.{needs}
+use Rattle.fields.proofs.words.place.Statement.{statement}
+use Rattle.fields.proofs.words.place.Tie as tie
+use borrow.Author.Tests.{lt-ltb, le-ltb}
+use Rattle.fields.specs.Words.{placed}
+use Rattle.fields.specs.Picks.{picked, passed-over}
+
+cast-result : tie.Need-cast-result
+cast-result c = search needs
+
+returns : tie.Need-returns
+unfolding placed
+returns c = picked _ _ (lt-ltb _ _ (c .if1 .taken))
+
+returns-2 : tie.Need-returns-2
+unfolding placed
+returns-2 c = passed-over _ _ (le-ltb _ _ (c .if1 .left))
+
+pub place-spec : {M : Type 1} → statement M
+place-spec = tie.close (tie.spec cast-result returns returns-2)

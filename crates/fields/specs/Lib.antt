@@ -1,0 +1,13 @@
+pub mod Shape
+pub mod Words
+pub mod Lists
+pub mod Regions
+pub mod Instructions
+pub mod Terminators
+pub mod Targets
+pub mod Passed
+pub mod Repeats
+pub mod Numbered
+pub mod Picks
+pub mod Turns
+pub mod Unchanged

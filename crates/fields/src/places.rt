@@ -1,0 +1,116 @@
+// Where the parts of a region stand, by the index of places behind the record.
+ghost use mathlib.Core.Path.{_≡_};
+ghost use Prim.Native.Nat.{_≤_};
+ghost use lib.ListN.{getD};
+ghost use Rattle.fields.specs.Words as words;
+use super::words::BEYOND;
+use super::words::behind_values;
+use super::words::behind_words;
+use super::words::place;
+use super::words::stood_before;
+use super::words::word_at;
+use super::words::word_item;
+
+// Word i of region r's eleven in the index: its start, its limit, its exits, its blocks.
+pub fn indexed(w: &[u16; 32256], r: u16, i: usize) -> u16
+    requires { ⌜ i ≤ 65538 ⌝ }
+    ensures { λ a. ⌜ a ≡ words.indexed (now (w .entry)) r i ⌝ }
+{
+    if r < word_at(w, 1) {
+        return word_at(w, 4048 + 11 * (r as usize) + i);
+    }
+    BEYOND
+}
+
+// The block count stands behind the inputs.
+pub fn blocks_place(w: &[u16; 32256], r: u16) -> u16
+    ensures { λ a. ⌜ a ≡ words.blocksPlace (now (w .entry)) r ⌝ }
+{
+    behind_words(w, indexed(w, r, 0))
+}
+
+pub fn block_place(w: &[u16; 32256], r: u16, b: u16) -> u16
+    ensures { λ a. ⌜ a ≡ words.blockPlace (now (w .entry)) r b ⌝ }
+{
+    if b < word_at(w, blocks_place(w, r) as usize) {
+        return indexed(w, r, 3 + (b as usize));
+    }
+    BEYOND
+}
+
+// The place behind i instructions: each has four words, the last of them the count of its reads.
+fn behind_instructions(w: &[u16; 32256], first: u16, i: u16) -> u16
+    ensures { λ a. ⌜ a ≡ words.behindInstructions (now (w .entry)) i first ⌝ }
+{
+    let mut p = first;
+    let mut n: u16 = 0;
+    while n < i {
+        p = behind_values(w, place((p as usize) + 3));
+        n += 1;
+    }
+    p
+}
+
+pub fn instruction_place(w: &[u16; 32256], r: u16, b: u16, i: u16) -> u16
+    ensures { λ a. ⌜ a ≡ words.instructionPlace (now (w .entry)) r b i ⌝ }
+{
+    let p = block_place(w, r, b);
+    if i < word_at(w, p as usize) {
+        return behind_instructions(w, place((p as usize) + 1), i);
+    }
+    BEYOND
+}
+
+// The kind stands behind the turn limit; an opcode word stands for kind 2 only.
+pub fn values_place(w: &[u16; 32256], r: u16) -> u16
+    ensures { λ a. ⌜ a ≡ words.valuesPlace (now (w .entry)) r ⌝ }
+{
+    let p = indexed(w, r, 1) as usize;
+    if word_at(w, p + 1) == 2 {
+        return place(p + 3);
+    }
+    place(p + 2)
+}
+
+pub fn targets_place(w: &[u16; 32256], r: u16) -> u16
+    ensures { λ a. ⌜ a ≡ words.targetsPlace (now (w .entry)) r ⌝ }
+{
+    behind_values(w, values_place(w, r))
+}
+
+// The place behind the list of the target at place q, which has one where it stands for the first time.
+fn behind_list(w: &[u16; 32256], targets: u16, q: u16, p: u16) -> u16
+    ensures { λ a. ⌜ a ≡ words.behindList (now (w .entry)) targets q p ⌝ }
+{
+    if stood_before(w, targets, q) {
+        return p;
+    }
+    behind_values(w, p)
+}
+
+// The values passed to target t, of those that stand at `targets`: each distinct target has a list.
+fn list_for(w: &[u16; 32256], targets: u16, t: u16) -> u16
+    ensures { λ a. ⌜ a ≡ words.listFor (now (w .entry)) targets t (getD (now (w .entry)) targets 0) 0 (words.behindWords (now (w .entry)) targets) ⌝ }
+{
+    let n = word_at(w, targets as usize);
+    let mut p = behind_words(w, targets);
+    let mut q: u16 = 0;
+    while q < n {
+        if word_item(w, targets, q) == t {
+            return p;
+        }
+        p = behind_list(w, targets, q, p);
+        q += 1;
+    }
+    p
+}
+
+pub fn passed_place(w: &[u16; 32256], r: u16, j: u16) -> u16
+    ensures { λ a. ⌜ a ≡ words.passedPlace (now (w .entry)) r j ⌝ }
+{
+    let targets = targets_place(w, r);
+    if j < word_at(w, targets as usize) {
+        return list_for(w, targets, word_item(w, targets, j));
+    }
+    BEYOND
+}

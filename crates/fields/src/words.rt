@@ -1,0 +1,108 @@
+// Words of the lent array by place; a place beyond it holds 0, and a list there is empty.
+ghost use mathlib.Core.Path.{_≡_};
+ghost use lib.ListN.{getD};
+ghost use Rattle.format.specs.Read.{valueOf};
+ghost use Rattle.fields.specs.Shape.{valueIs};
+ghost use Rattle.fields.specs.Words.{placed, wordItem, valueItem, behindWords, behindValues, again};
+use super::shape::Value;
+
+// The place that answers for a list that is not there.
+pub const BEYOND: u16 = 65535;
+
+// Tells its caller how long the array is.
+fn span(w: &[u16]) {}
+
+pub fn word_at(w: &[u16; 32256], p: usize) -> u16
+    ensures { λ a. ⌜ a ≡ getD (now (w .entry)) p 0 ⌝ }
+{
+    span(w);
+    if p < 32256 {
+        return w[p];
+    }
+    0
+}
+
+// A place among the words.
+pub fn place(p: usize) -> u16
+    ensures { λ a. ⌜ a ≡ placed p ⌝ }
+{
+    if p < 32256 {
+        return p as u16;
+    }
+    BEYOND
+}
+
+// Item k of a list of words: its count stands at p, its items behind it.
+pub fn word_item(w: &[u16; 32256], p: u16, k: u16) -> u16
+    ensures { λ a. ⌜ a ≡ wordItem (now (w .entry)) p k ⌝ }
+{
+    if k < word_at(w, p as usize) {
+        return word_at(w, (p as usize) + 1 + (k as usize));
+    }
+    0
+}
+
+// A value by its three words: kind, region, index.
+fn value_of(kind: u16, region: u16, index: u16) -> Value
+    ensures { λ a. ⌜ valueIs a ≡ valueOf kind region index ⌝ }
+{
+    if kind == 1 {
+        return Value::Input(region, index);
+    }
+    if kind == 2 {
+        return Value::Instr(region, index);
+    }
+    if region != 0 {
+        return Value::Nothing;
+    }
+    if kind == 0 {
+        return Value::Const(index);
+    }
+    if kind != 4 {
+        return Value::Undef(index);
+    }
+    if index < 2 {
+        return Value::Bool(index == 1);
+    }
+    Value::Nothing
+}
+
+// Item k of a list of values.
+pub fn value_item(w: &[u16; 32256], p: u16, k: u16) -> Value
+    ensures { λ a. ⌜ valueIs a ≡ valueItem (now (w .entry)) p k ⌝ }
+{
+    if k < word_at(w, p as usize) {
+        let at = (p as usize) + 1 + 3 * (k as usize);
+        return value_of(word_at(w, at), word_at(w, at + 1), word_at(w, at + 2));
+    }
+    Value::Nothing
+}
+
+// The place behind a list of words.
+pub fn behind_words(w: &[u16; 32256], p: u16) -> u16
+    ensures { λ a. ⌜ a ≡ behindWords (now (w .entry)) p ⌝ }
+{
+    place((p as usize) + 1 + (word_at(w, p as usize) as usize))
+}
+
+// The place behind a list of values.
+pub fn behind_values(w: &[u16; 32256], p: u16) -> u16
+    ensures { λ a. ⌜ a ≡ behindValues (now (w .entry)) p ⌝ }
+{
+    place((p as usize) + 1 + 3 * (word_at(w, p as usize) as usize))
+}
+
+// Whether item q of a list of words stands among the items before it.
+pub fn stood_before(w: &[u16; 32256], p: u16, q: u16) -> bool
+    ensures { λ a. ⌜ a ≡ again (now (w .entry)) p q ⌝ }
+{
+    let x = word_item(w, p, q);
+    let mut k: u16 = 0;
+    while k < q {
+        if word_item(w, p, k) == x {
+            return true;
+        }
+        k += 1;
+    }
+    false
+}

@@ -1,0 +1,126 @@
+-- A region at its terminator: what it may use is in scope, and the case of an edge that is steered to.
+use mathlib.Core.Bool.{false, true}
+use mathlib.Core.List.{List, [], _∷_, map}
+use mathlib.Core.Logic.{_⊎_, inl, inr}
+use mathlib.Core.Option.{none}
+use mathlib.Core.Path.{_∙_, _≡_, ap, refl, sym}
+use Prim.Native.Nat.{_<_, _≤_, suc, zero, ℕ}
+use native.Mathlib.Omega.{arith}
+use lib.Dec.{T}
+use lib.ListN.{length, take}
+use Rattle.meaning.specs.Form.{⟨⟩}
+use Rattle.meaning.specs.Graph.{Instr, Value, bool, const, held, input, instr, output, region, sameValue, undef}
+use Rattle.meaning.specs.GraphRun.{by-terminator}
+use Rattle.meaning.specs.NestedRun.{run-nodes}
+use Rattle.meaning.specs.Run.{End, Event, RunState, Word, put-inputs, word}
+use Rattle.nesting.specs.Blocks.{block-count, blocks-from, blocks-of}
+use Rattle.nesting.specs.BundleSet.{same-target}
+use Rattle.nesting.specs.Case.{MaybeClaimedRegion}
+use Rattle.nesting.specs.Deferred.{DeferredEdgeBundle, to-region, true-cond}
+use Rattle.nesting.specs.Fewer.{state-of}
+use Rattle.nesting.specs.Last.{rewrite-nodes}
+use Rattle.nesting.specs.Rewrite.{rewrite, rewrites-of}
+use Rattle.nesting.specs.State.{NestState, NodeOutput, ready}
+use Rattle.follows.specs.Usable.{AllUsable, Usable, total}
+use Rattle.follows.specs.Small.{eqb-self}
+use Rattle.follows.specs.Key.{is-constant, key, of-instr, owns-nodes}
+use Rattle.follows.specs.World.{World, ar, from-region, size}
+use Rattle.follows.specs.Tables.{Gains, Resolver, Respects, Tables, respects-back, tables}
+use Rattle.follows.specs.Frame.{puts-other}
+use Rattle.follows.specs.Conditions.{Mat}
+use Rattle.follows.specs.Leads.{Based, Goes, Leads, OnwardTo, ends-with}
+use Rattle.follows.specs.Inputs.{input-numbered, puts-at}
+use Rattle.follows.specs.OwnBlocks.{Agree, stands, usable-reads}
+use Rattle.follows.specs.Bundles.{same-target-self}
+use Rattle.follows.specs.Final.{final-respects}
+use Rattle.follows.specs.Scope.{AllScoped, Scoped, own-input, owned, scoped-const}
+use Rattle.follows.specs.Invariant.{Inv, waiting}
+use Rattle.follows.specs.Holding.{unlogged-stays}
+use Rattle.follows.specs.EnterCase.{Enters}
+use Rattle.follows.specs.SelectFollows.{none-owns}
+
+module _ (W : World) where
+  -- ---- the blocks lead to the terminator
+  pub record AtTerminator (r : ℕ) (ρ : Resolver) (n : ℕ) (e : End) (h : List Event) (st : RunState) : Type 0 where
+    pub graph : RunState
+    pub agree : Agree ρ r (ar W r) (total 0 (region (W .g) r .blocks)) graph st
+    pub fewer : ℕ
+    pub is-fewer : fewer < n
+    pub ends : by-terminator (λ x vs h′. from-region W fewer x vs h′) (graph .env) (graph .events) (region (W .g) r .terminator) ≡ ends-with e h
+
+  pub blocks-lead : (r : ℕ) → r < size W → (T : Tables) → Leads W r r (blocks-of (W .g) r) T (λ ρ os n e h st. AtTerminator r ρ n e h st)
+  blocks-lead r r-in T = record {
+    leads = λ ρ os res b n le s w bs lw gv e h gr.
+        let y = stands W r (W .valid .blocks r r-in) ρ os T res b n s w bs lw gv e h gr in
+        rw (y .runs-on) (record { leads-to = record { graph = y .graph; agree = y .agree; fewer = y .fewer; is-fewer = y .is-fewer; ends = y .ends } });
+  }
+
+  pub reads-of : (r : ℕ) → r < size W → (ρ : Resolver) (a st : RunState) → Agree ρ r (ar W r) (total 0 (region (W .g) r .blocks)) a st → (vs : List Value) → AllUsable r (ar W r) (total 0 (region (W .g) r .blocks)) vs
+      → map (a .env) vs ≡ map (λ v. st .env (ρ v)) vs
+  reads-of r r-in ρ a st ag vs us = usable-reads W r (W .valid .blocks r r-in) ρ _ a st ag vs us
+
+  -- ---- what the region may use is in scope
+  own-instr : (n r k i : ℕ) (bs : List (List Instr)) → i < total k bs → k ≤ i → owns-nodes (blocks-from n r k bs) (of-instr r) ≡ true
+  unfolding owns-nodes
+  own-instr n r k i [] lt le = absurd (omega arith)
+  own-instr n r k i (x ∷ bs) lt le = rw (eqb-self r)
+
+  pub usable-scoped : (r : ℕ) (T : Tables) (v : Value) → Usable r (ar W r) (total 0 (region (W .g) r .blocks)) v → Scoped T r (ar W r) (blocks-of (W .g) r) v
+  usable-scoped r T (const i) h = scoped-const (const i) refl
+  usable-scoped r T (bool b) h = scoped-const (bool b) refl
+  usable-scoped r T (undef ty) h = scoped-const (undef ty) refl
+  usable-scoped r T (held q i) h = absurd h
+  usable-scoped r T (output i) h = absurd h
+  usable-scoped r T (input q i) (p, lt) = record { scoped = λ ρ os res. own-input i lt (ap (λ z. ρ (input z i)) p) }
+  usable-scoped r T (instr q i) (p, lt) = record { scoped = λ ρ os res. owned (rw (res .on-instr q i, p) (own-instr (block-count (take r (W .g .regions))) r 0 i (region (W .g) r .blocks) lt (omega arith))) }
+
+  pub usable-all : (r : ℕ) (T : Tables) (vs : List Value) → AllUsable r (ar W r) (total 0 (region (W .g) r .blocks)) vs → AllScoped T r (ar W r) (blocks-of (W .g) r) vs
+  usable-all r T [] h i = scoped-const (undef 0) refl
+  usable-all r T (v ∷ vs) (h, hs) zero = usable-scoped r T v h
+  usable-all r T (v ∷ vs) (h, hs) (suc i) = usable-all r T vs hs i
+
+  -- ---- an edge's case
+  pub record Steers (T : Tables) (x : ℕ) (vs : List Value) (c : MaybeClaimedRegion) : Type 0 where
+    pub steer : (ρ : Resolver) (os : List NodeOutput) → Respects ρ os T → (n : ℕ) (e : End) (h : List Event) (st : RunState) → Based W st → OnwardTo W ρ st n e h (to-region x) vs → Enters W ρ os n e h st c
+
+  pub steers-on : {T T′ : Tables} {x : ℕ} {vs : List Value} {c : MaybeClaimedRegion} → Gains T T′ → Steers T x vs c → Steers T′ x vs c
+  steers-on p h = record { steer = λ ρ os res. h .steer ρ os (respects-back p res) }
+
+  -- one entry whose condition is true
+  pub single-goes : (ρ : Resolver) (os : List NodeOutput) (T : Tables) → Respects ρ os T → (n : ℕ) (e : End) (h : List Event) (st : RunState) → Based W st → (x : DeferredEdgeBundle) → x .condition ≡ true-cond → OnwardTo W ρ st n e h (x .target) (x .target-inputs) → Goes W ρ os n (x ∷ []) e h st
+  unfolding Mat
+  single-goes ρ os T res n e h st bs x c onw = record {
+    entry = x;
+    chosen = record {
+      member = inl refl;
+      holds = λ v mat. record { less = 0; is = let q : v ≡ bool true = rw c at mat in ap (λ z. st .env (ρ z)) q ∙ ap (st .env) (res .on-bool true) ∙ bs .based (bool true) refl ∙ W .on-bool true };
+      others = λ y i ne v mat. only y i ne;
+    };
+    onward = onw;
+  }
+    where
+      only : {v : Value} (y : DeferredEdgeBundle) → (y ≡ x) ⊎ ⊥ → same-target (y .target) (x .target) ≡ false → st .env (ρ v) ≡ word 0
+      only y (inl p) ne = let z : same-target (x .target) (x .target) ≡ false = rw p at ne in let z′ : true ≡ false = sym (same-target-self (x .target)) ∙ z in cc
+      only y (inr no-way) ne = absurd no-way
+
+  -- a region with no children and no way on never ends
+  pub dead : (s : NestState) → Inv W s → (x b : ℕ) → x < size W → state-of s x ≡ ready b ⟨⟩ [] → (n : ℕ) (ws : List Word) (past : List Event) (e : End) (h : List Event) → length ws ≡ ar W x
+      → from-region W n x ws past ≡ ends-with e h → ⊥
+  unfolding run-nodes rewrite-nodes
+  dead s inv x b x-in is n ws past e h len gr =
+      let ρ : Resolver = rewrite (s .region-input-rewrites) in
+      let st : RunState = record { env = put-inputs (λ k. input x k) 0 ws (W .base); events = past; cost = 0; over-limit = false } in
+      let un : rewrites-of (s .region-input-rewrites) x ≡ none = inv .unlogged x (waiting x-in (rw is)) in
+      let fl = inv .sims x b ⟨⟩ [] is .leads ρ (s .node-outputs) (final-respects (tables s) (inv .ends)) n n (omega arith) st ws
+      (record { based = λ v c. puts-other (λ k. input x k) v (λ k. not-input v c k) 0 ws (W .base) }) len
+      (record { reads = λ k lt. ap (st .env) (unlogged-stays (s .region-input-rewrites) x k un) ∙ puts-at (λ k. input x k) (input-numbered x) ws k k 0 (omega arith) lt (W .base); apart = λ k lt. none-owns (key (s .node-outputs) (ρ (input x k))) }) e h gr in
+      fl .leads-to .chosen .member
+    where
+      not-input : (v : Value) → is-constant v ≡ true → (k : ℕ) → sameValue v (input x k) ≡ false
+      not-input (const i) c k = refl
+      not-input (bool y) c k = refl
+      not-input (undef ty) c k = refl
+      not-input (input q i) c k = cc
+      not-input (held q i) c k = cc
+      not-input (instr q i) c k = cc
+      not-input (output i) c k = cc

@@ -1,0 +1,102 @@
+-- The invariant through structurize-region and try-claim-edge-bundle.
+use mathlib.Core.Bool.{Bool, false, true}
+use mathlib.Core.List.{List, []}
+use mathlib.Core.Option.{Option, none, some}
+use mathlib.Core.Path.{_∙_, _≡_, refl, subst, sym}
+use Prim.Native.Nat.{_<_, suc, zero, ℕ}
+use native.Mathlib.Omega.{arith}
+use lib.Dec.{eqb}
+use lib.ListN.{getD, length}
+use Rattle.meaning.specs.Graph.{Value, edgesOf, region}
+use Rattle.format.specs.ReadLaws.{clash}
+use Rattle.nesting.specs.Blocks.{blocks-of}
+use Rattle.nesting.specs.BundleSet.{count-to}
+use Rattle.nesting.specs.Case.{ClaimedRegion}
+use Rattle.nesting.specs.Change.{get-state, with-attempt}
+use Rattle.nesting.specs.Claim.{Claim, begin, by-control-inst, claim-by-state, resolve-deferred, structurize-region, target-regions, try-claim-edge-bundle}
+use Rattle.nesting.specs.Fewer.{state-of}
+use Rattle.nesting.specs.Post.{bind, map-post}
+use Rattle.nesting.specs.State.{IncomingEdgeCount, NestState, StructurizeRegionState, claimed, follow, give, in-progress, not-begun, ready, turn-away}
+use Rattle.follows.specs.Reach.{target-reachable}
+use Rattle.follows.specs.ValidUse.{edges-of-usable}
+use Rattle.follows.specs.Key.{of-instr}
+use Rattle.follows.specs.World.{Live, World, size}
+use Rattle.follows.specs.Tables.{extends-refl}
+use Rattle.follows.specs.Defined.{Grew, IfDone}
+use Rattle.follows.specs.Invariant.{Inv, Later, Wild, idle, inv-grew, later-grew, later-refl, later-then, new, old, waiting}
+use Rattle.follows.specs.StateChanges.{blocks-own, inv-busy, later-busy, now, owned-was, turned}
+use Rattle.follows.specs.Holding.{Doing, doing-on, inv-ready, later-ready}
+use Rattle.follows.specs.ClaimReady.{ClaimDone, at-state, claim-ready-post}
+use Rattle.follows.specs.TargetRegions.{ClaimOk, cases-back, in-targets, since-back, target-regions-post}
+use Rattle.follows.specs.ByTerminator.{by-control-inst-post}
+use Rattle.follows.specs.Scan.{resolve-deferred-post}
+
+module _ (W : World) where
+  not-wild : (r : ℕ) (r-in : r < size W) (s : NestState) (inv : Inv W s) → state-of s r ≡ not-begun → (was : idle (state-of s r) ≡ true) → Wild (turned W s r in-progress inv r-in) (of-instr r) → ⊥
+  not-wild r r-in s inv fresh was (new n) = let z : in-progress ≡ not-begun = sym (now W s r in-progress inv r-in) ∙ n in clash (cc)
+  not-wild r r-in s inv fresh was (old o) = inv .fresh (of-instr r) (owned-was W s r in-progress inv r-in was refl (of-instr r) o) fresh
+
+  pub first-doing : (r : ℕ) (r-in : r < size W) (s : NestState) (inv : Inv W s) → state-of s r ≡ not-begun → Doing W s r (blocks-of (W .g) r) (turned W s r in-progress inv r-in)
+  first-doing r r-in s inv fresh =
+      let was : idle (state-of s r) ≡ true = rw fresh in
+      record {
+        in-range = r-in;
+        inv = inv-busy W s r in-progress inv r-in was refl;
+        step = later-busy W s r in-progress inv r-in was refl;
+        began = fresh;
+        busy = now W s r in-progress inv r-in;
+        unlogged = inv .unlogged r (waiting r-in was);
+        since = λ v o. rw (blocks-own _ r 0 (region (W .g) r .blocks) v o) (new fresh);
+        clear = λ v o w. not-wild r r-in s inv fresh was (subst (λ z. Wild (turned W s r in-progress inv r-in) z) (blocks-own _ r 0 (region (W .g) r .blocks) v o) w);
+      }
+
+  -- ---- a region is structurized
+  pub structurize-region-post : (cl : Claim) → ClaimOk W cl → (r : ℕ) → r < size W → Live W r → (s : NestState) → Inv W s → state-of s r ≡ not-begun → IfDone (λ u s′. Inv W s′ × Later W s s′) (structurize-region (W .g) cl r s)
+  unfolding structurize-region
+  structurize-region-post cl cl-ok r r-in lv s inv fresh =
+      let tm = region (W .g) r .terminator in
+      let tok = W .valid .terminator r r-in in
+      let s₁ : NestState = turned W s r in-progress inv r-in in
+      let dg₁ : Doing W s r (blocks-of (W .g) r) s₁ = first-doing r r-in s inv fresh in
+      bind (target-regions (W .g) cl (edgesOf tm) s₁) _ (target-regions-post W cl cl-ok s r (edgesOf tm) (edges-of-usable (W .g) r tm tok) (λ ed i. target-reachable (W .g) r (ed .target) lv (in-targets W (edgesOf tm) ed i)) s₁ dg₁) λ cs s₂ cd.
+      bind (by-control-inst (W .g) (blocks-of (W .g) r) tm cs s₂) _
+      (by-control-inst-post W s r s₂ (doing-on W dg₁ (cd .inv) (cd .step)) cs (cases-back W (dg₁ .step) (cd .is)) tm refl tok (cd .len) (cd .steers)) λ x s₃ cm.
+      bind (resolve-deferred (W .g) cl (length (W .g .regions)) x s₃) _ (resolve-deferred-post W cl cl-ok s r (length (W .g .regions)) x s₃ cm) λ y s₄ cm₄.
+      record { post = (inv-ready W s s₄ r (count-to r (y .deferred-edges)) (y .children) (y .deferred-edges) cm₄, later-ready W s s₄ r (count-to r (y .deferred-edges)) (y .children) (y .deferred-edges) cm₄) }
+
+  -- ---- a claim
+  claim-by-state-post : (r n inc : ℕ) (ins : List Value) (s : NestState) → Inv W s → r < size W → (x : StructurizeRegionState) → state-of s r ≡ x → IfDone (ClaimDone W r ins s) (claim-by-state (W .g) r n ins inc x s)
+  claim-by-state-post r n inc ins s inv r-in not-begun p = record { post = tt }
+  claim-by-state-post r n inc ins s inv r-in claimed p = record { post = tt }
+  claim-by-state-post r n inc ins s inv r-in (ready b ks d) p = claim-ready-post W s r b ks d inv r-in p n inc ins
+  claim-by-state-post r n inc ins s inv r-in in-progress p = go (eqb inc n)
+    where
+      go : (o : Bool) → IfDone (ClaimDone W r ins s) (at-state {A = Option ClaimedRegion} (elim o [ false ↦ give none | true ↦ turn-away 12 r ]) s)
+      go false = record { post = record { inv = inv; step = later-refl W s; got = tt } }
+      go true = record { post = tt }
+
+  done-back : (r : ℕ) (ins : List Value) (s s₁ : NestState) → Later W s s₁ → (o : Option ClaimedRegion) (s′ : NestState) → ClaimDone W r ins s₁ o s′ → ClaimDone W r ins s o s′
+  done-back r ins s s₁ st none s′ cd = record { inv = cd .inv; step = later-then W st (cd .step); got = tt }
+  done-back r ins s s₁ st (some c) s′ cd = record { inv = cd .inv; step = later-then W st (cd .step); got = (cd .got .0, since-back W st (cd .got .1), cd .got .2, cd .got .3) }
+
+  pub claim-post : (counts : List IncomingEdgeCount) (d : ℕ) → ClaimOk W (try-claim-edge-bundle (W .g) counts d)
+  unfolding try-claim-edge-bundle
+  claim-post counts zero r n ins s inv r-in lv = record { post = tt }
+  claim-post counts (suc d) r n ins s inv r-in lv =
+      let s₁ : NestState = with-attempt s in
+      let gr : Grew s s₁ = record { outputs = extends-refl (s .node-outputs); rewrites = refl; region-states = refl; regions = omega arith; node-count = omega arith } in
+      let inv₁ = inv-grew W gr inv in
+      bind {P = Found₁ s₁} (follow (begin (state-of s r) (structurize-region (W .g) (λ r′ n′ ins′. try-claim-edge-bundle (W .g) counts d r′ n′ ins′) r) s₁) (λ u. get-state r)) _
+      (bind (begin (state-of s r) (structurize-region (W .g) (λ r′ n′ ins′. try-claim-edge-bundle (W .g) counts d r′ n′ ins′) r) s₁) (λ u. get-state r)
+      (begun s₁ inv₁ (λ r′ n′ ins′ s′ i l m. claim-post counts d r′ n′ ins′ s′ i l m) (state-of s r) refl) λ u s₂ st. record { post = (refl, st .0, st .1) }) λ x s₂ st.
+      map-post (claim-by-state (W .g) r n ins (getD counts r 0) x s₂) (claim-by-state-post r n (getD counts r 0) ins s₂ (st .1) r-in x (sym (st .0))) λ o s₃ cd.
+      done-back r ins s s₂ (later-then W (later-grew W gr) (st .2)) o s₃ cd
+    where
+      Found₁ : NestState → StructurizeRegionState → NestState → Type 0
+      Found₁ s₁ x s₂ = (x ≡ state-of s₂ r) × Inv W s₂ × Later W s₁ s₂
+
+      begun : (s₁ : NestState) → Inv W s₁ → ClaimOk W (λ r′ n′ ins′. try-claim-edge-bundle (W .g) counts d r′ n′ ins′) → (x : StructurizeRegionState) → state-of s₁ r ≡ x → IfDone (λ u s₂. Inv W s₂ × Later W s₁ s₂) (begin x (structurize-region (W .g) (λ r′ n′ ins′. try-claim-edge-bundle (W .g) counts d r′ n′ ins′) r) s₁)
+      begun s₁ inv₁ ih not-begun p = structurize-region-post (λ r′ n′ ins′. try-claim-edge-bundle (W .g) counts d r′ n′ ins′) ih r r-in lv s₁ inv₁ p
+      begun s₁ inv₁ ih in-progress p = record { post = (inv₁, later-refl W s₁) }
+      begun s₁ inv₁ ih claimed p = record { post = (inv₁, later-refl W s₁) }
+      begun s₁ inv₁ ih (ready b ks d′) p = record { post = (inv₁, later-refl W s₁) }

@@ -1,0 +1,337 @@
+-- What a select over cases does to the state: the values looked up, the select defined if it is needed, the inputs replaced.
+use mathlib.Core.Bool.{Bool, _||_, false, or-false, true}
+use mathlib.Core.List.{List, [], _++_, _∷_, append-assoc, append-nil, map}
+use mathlib.Core.Logic.{_⊎_, inl, inr}
+use mathlib.Core.Option.{none}
+use mathlib.Core.Path.{_∙_, _≡_, ap, refl, subst, sym}
+use Prim.Native.Nat.{_≤_, ℕ}
+use native.Mathlib.Omega.{arith}
+use lib.Dec.{eqb}
+use lib.ListN.{getD, set}
+use Rattle.meaning.specs.Form.{Cases, Nodes, _▸_, select, ⟨⟩}
+use Rattle.meaning.specs.Graph.{SelectionKind, Value, input, region, undef}
+use Rattle.format.specs.ReadLaws.{clash}
+use Rattle.nesting.specs.Case.{Body, ClaimedRegion, MaybeClaimedRegion, Scrutinee, err, join, ok}
+use Rattle.nesting.specs.Change.{with-twice}
+use Rattle.nesting.specs.Deferred.{DeferredEdgeBundleSet}
+use Rattle.nesting.specs.Plan.{any-needs-select, any-non-empty-case, plan-bundles}
+use Rattle.nesting.specs.Post.{bind, map-post}
+use Rattle.nesting.specs.Rewrite.{any, meets, rewrite, rewrites-of}
+use Rattle.nesting.specs.Select.{DefinedSelect, define-select, emit, meets-in-case, replace-inputs, rewrite-case, rewrite-cases, rewrite-claimed, select-if, shared-bundle, structurize-select}
+use Rattle.nesting.specs.State.{NestState, NodeOutput, RewriteEntry, not-begun, replace-with}
+use Rattle.follows.specs.Small.{In, entry-keeps, from-map, in-map, or-either, or-left, or-right}
+use Rattle.follows.specs.Key.{Key, is-node, node-key, of-held, of-instr, of-node, of-none, owns, owns-cases, owns-join, owns-nodes}
+use Rattle.follows.specs.World.{World, ar}
+use Rattle.follows.specs.Tables.{EntryLaw, Gains, Laws, Resolver, Respects, extends-refl, gains-refl, gains-then, laws-last, lookup-keeps, respects-back, tables}
+use Rattle.follows.specs.Leads.{leads-on}
+use Rattle.follows.specs.Planned.{EmitsAll}
+use Rattle.follows.specs.Defined.{Grew, IfDone, emit-post, grew-then}
+use Rattle.follows.specs.Scope.{AllScoped, Within, scoped-later, scoped-rewritten, set-later, within-left, within-refl}
+use Rattle.follows.specs.Invariant.{Later, Loggable, New, Wild, inv-grew, inv-log, later-grew, later-log, logged-gains, logging, new, old, unborn, waiting}
+use Rattle.follows.specs.Holding.{Apart, CasesOk, ClaimedOk, Doing, Holds, doing-on, scoped-not-of}
+use Rattle.follows.specs.EnterCase.{ScrutineeIs, children-in, getD-rewritten}
+use Rattle.follows.specs.SelectDefined.{CasesFrom, DefinesSelect, cases-own, define-select-post, scrutinee-stays}
+
+pub join-nil : (ks : Nodes) → join ks ⟨⟩ ≡ ks
+join-nil ⟨⟩ = refl
+join-nil (x ▸ ks) = ap (λ k. x ▸ k) (join-nil ks)
+
+pub none-owned : (v : Key) → owns-nodes ⟨⟩ v ≡ true → ⊥
+unfolding owns-nodes
+none-owned v o = clash (cc)
+
+own-select : (v : Key) (n : ℕ) (kind : SelectionKind) (sc : Value) (ccs : Cases) → owns-nodes (select n kind sc [] ccs ▸ ⟨⟩) v ≡ true → (is-node n v ≡ true) ⊎ (owns-cases ccs v ≡ true)
+unfolding owns-nodes
+own-select v n kind sc ccs o = or-either (is-node n v) (owns-cases ccs v) (sym (or-false (is-node n v || owns-cases ccs v)) ∙ o)
+
+module _ (W : World) where
+  -- a step that logs what its caller held
+  pub record Moved (s s′ : NestState) : Type 0 where
+    pub gains : Gains (tables s) (tables s′)
+    pub wild : (v : Key) → Wild s′ v → Wild s v
+    pub loggable : (q : ℕ) → Loggable W s′ q → Loggable W s q
+
+  pub later-moves : {s s′ : NestState} → Later W s s′ → Moved s s′
+  later-moves p = record { gains = p .gains; wild = p .wild; loggable = p .loggable }
+
+  pub moved-then : {s s′ s″ : NestState} → Moved s s′ → Moved s′ s″ → Moved s s″
+  moved-then p q = record { gains = gains-then (p .gains) (q .gains); wild = λ v h. p .wild v (q .wild v h); loggable = λ r h. p .loggable r (q .loggable r h) }
+
+  pub holds-moved : {c : ClaimedRegion} {s s′ : NestState} → Holds W c s → Moved s s′ → rewrites-of (s′ .region-input-rewrites) (c .structured-body) ≡ none → Holds W c s′
+  holds-moved {c} h st un = record {
+    sim = leads-on W (st .gains) (h .sim);
+    set = set-later W (st .gains) (within-refl (c .children)) (h .set);
+    clear = λ v o w. h .clear v o (st .wild v w);
+    closed = λ l. h .closed (st .loggable (c .structured-body) l);
+    unlogged = un;
+  }
+
+  -- ---- logging
+  pub record ToLog (s₀ : NestState) (r : ℕ) (ks : Nodes) (s : NestState) (c : ClaimedRegion) : Type 0 where
+    pub closed : Loggable W s (c .structured-body) → ⊥
+    pub unlogged : rewrites-of (s .region-input-rewrites) (c .structured-body) ≡ none
+    pub inputs : AllScoped (tables s) r (ar W r) ks (c .structured-body-inputs)
+    pub other : eqb r (c .structured-body) ≡ false
+    pub since : Loggable W s₀ (c .structured-body)
+
+  module _ (s₀ s : NestState) (r : ℕ) (ks : Nodes) (c : ClaimedRegion) (dg : Doing W s₀ r ks s) (tl : ToLog s₀ r ks s c) where
+    abbrev s⁺ : NestState
+    s⁺ = logging W (c .structured-body) (replace-with (c .structured-body-inputs)) s
+
+    pub log-moved : Moved s s⁺
+    log-moved = record { gains = logged-gains W s (c .structured-body) (replace-with (c .structured-body-inputs)); wild = λ v h. wild v h; loggable = λ q h. lg q h }
+      where
+        same-new : (v : Key) → New s⁺ v → New s v
+        same-new (of-instr q) n = n
+        same-new (of-held q) n = n
+        same-new (of-node a) n = n
+        same-new of-none n = n
+
+        wild : (v : Key) → Wild s⁺ v → Wild s v
+        wild v (old o) = old (record { region = o .region; back = o .back; children = o .children; deferred-edges = o .deferred-edges; is = o .is; owns = o .owns })
+        wild v (new n) = new (same-new v n)
+
+        lg : (q : ℕ) → Loggable W s⁺ q → Loggable W s q
+        lg q (unborn le) = unborn le
+        lg q (waiting lt p) = waiting lt p
+
+    pub log-doing : Doing W s₀ r ks s⁺
+    log-doing = record {
+      in-range = dg .in-range;
+      inv = inv-log W s (c .structured-body) (replace-with (c .structured-body-inputs)) (dg .inv) (tl .unlogged) (tl .closed)
+          (λ k. scoped-not-of (s .region-input-rewrites) (dg .inv .ends) (c .structured-body) r (tl .other) (dg .unlogged) (ar W r) ks (s .node-outputs) (getD (c .structured-body-inputs) k (undef 0)) (tl .inputs k));
+      step = later-log W s (c .structured-body) (replace-with (c .structured-body-inputs)) (dg .step) (tl .since);
+      began = dg .began;
+      busy = dg .busy;
+      unlogged = entry-keeps (s .region-input-rewrites) _ r (tl .other) (dg .unlogged);
+      since = dg .since;
+      clear = λ v o w. dg .clear v o (log-moved .wild v w);
+    }
+
+    pub log-keeps : (q : ℕ) → eqb q (c .structured-body) ≡ false → rewrites-of (s .region-input-rewrites) q ≡ none → rewrites-of (s⁺ .region-input-rewrites) q ≡ none
+    log-keeps q ne h = entry-keeps (s .region-input-rewrites) _ q ne h
+
+    pub log-on : (c′ : ClaimedRegion) → eqb (c′ .structured-body) (c .structured-body) ≡ false → ToLog s₀ r ks s c′ → ToLog s₀ r ks s⁺ c′
+    log-on c′ ne t = record {
+      closed = λ l. t .closed (log-moved .loggable (c′ .structured-body) l);
+      unlogged = log-keeps (c′ .structured-body) ne (t .unlogged);
+      inputs = λ i. scoped-later (log-moved .gains) (within-refl ks) (t .inputs i);
+      other = t .other;
+      since = t .since;
+    }
+
+  abbrev pub entries-of : List MaybeClaimedRegion → List RewriteEntry
+  entries-of [] = []
+  entries-of (err d ∷ cs) = entries-of cs
+  entries-of (ok c ∷ cs) = record { region = c .structured-body; rewrites = replace-with (c .structured-body-inputs) } ∷ entries-of cs
+
+  pub record Replaced (s₀ : NestState) (r : ℕ) (ks : Nodes) (cs : List MaybeClaimedRegion) (s s′ : NestState) : Type 0 where
+    pub doing : Doing W s₀ r ks s′
+    pub log : s′ .region-input-rewrites ≡ s .region-input-rewrites ++ entries-of cs
+    pub outputs : s′ .node-outputs ≡ s .node-outputs
+    pub moves : Moved s s′
+    pub keeps : (q : ℕ) → ((c : ClaimedRegion) → In (ok c) cs → eqb q (c .structured-body) ≡ false) → rewrites-of (s .region-input-rewrites) q ≡ none → rewrites-of (s′ .region-input-rewrites) q ≡ none
+
+  pub replace-inputs-post : (s₀ : NestState) (r : ℕ) (ks : Nodes) (cs : List MaybeClaimedRegion) (s : NestState) → Doing W s₀ r ks s → ((c : ClaimedRegion) → In (ok c) cs → ToLog s₀ r ks s c) → Apart W cs
+      → IfDone (λ u s′. Replaced s₀ r ks cs s s′) (replace-inputs cs s)
+  unfolding replace-inputs
+  replace-inputs-post s₀ r ks [] s dg tl ap = record { post = record { doing = dg; log = sym (append-nil (s .region-input-rewrites)); outputs = refl; moves = record { gains = gains-refl (tables s); wild = λ v h. h; loggable = λ q h. h }; keeps = λ q n h. h } }
+  replace-inputs-post s₀ r ks (err d ∷ cs) s dg tl ap =
+      map-post (replace-inputs cs s) (replace-inputs-post s₀ r ks cs s dg (λ c i. tl c (inr i)) ap) λ u s′ h.
+      record { doing = h .doing; log = h .log; outputs = h .outputs; moves = h .moves; keeps = λ q n. h .keeps q (λ c i. n c (inr i)) }
+  replace-inputs-post s₀ r ks (ok c ∷ cs) s dg tl (ne, ap) =
+      let mine = tl c (inl refl) in
+      let s₁ : NestState = logging W (c .structured-body) (replace-with (c .structured-body-inputs)) s in
+      map-post (replace-inputs cs s₁)
+      (replace-inputs-post s₀ r ks cs s₁ (log-doing s₀ s r ks c dg mine) (λ c′ i. log-on s₀ s r ks c dg mine c′ (ne c′ i) (tl c′ (inr i))) ap) λ u s′ h.
+      record {
+        doing = h .doing;
+        log = h .log ∙ append-assoc (s .region-input-rewrites) _ (entries-of cs);
+        outputs = h .outputs;
+        moves = moved-then (log-moved s₀ s r ks c dg mine) (h .moves);
+        keeps = λ q n p. h .keeps q (λ c′ i. n c′ (inr i)) (log-keeps s₀ s r ks c dg mine q (n c (inl refl)) p);
+      }
+
+  law-of : (ρ : Resolver) (cs : List MaybeClaimedRegion) → Laws ρ (entries-of cs) → (c : ClaimedRegion) → In (ok c) cs → EntryLaw ρ (c .structured-body) (replace-with (c .structured-body-inputs))
+  law-of ρ [] h c i = absurd i
+  law-of ρ (err d ∷ cs) h c (inl p) = absurd (clash (cc))
+  law-of ρ (err d ∷ cs) h c (inr i) = law-of ρ cs h c i
+  law-of ρ (ok x ∷ cs) h c (inl p) = let e : c ≡ x = cc in rw e (h .0)
+  law-of ρ (ok x ∷ cs) h c (inr i) = law-of ρ cs (h .1) c i
+
+  -- ---- the cases as looked up
+  rewritten-claimed : (σ : Resolver) (x : MaybeClaimedRegion) (c : ClaimedRegion) → ok c ≡ rewrite-case σ x → (y : ClaimedRegion) × (x ≡ ok y) × (c .structured-body ≡ y .structured-body) × (c .structured-body-inputs ≡ map σ (y .structured-body-inputs))
+  rewritten-claimed σ (err d) c p = absurd (clash (cc))
+  rewritten-claimed σ (ok y) c p =
+      let e : c ≡ rewrite-claimed σ y = cc in
+      (y, refl, ap (λ z. z .structured-body) e, ap (λ z. z .structured-body-inputs) e)
+
+  apart-rewritten : (σ : Resolver) (cs : List MaybeClaimedRegion) → Apart W cs → Apart W (map (rewrite-case σ) cs)
+  apart-rewritten σ [] h = tt
+  apart-rewritten σ (err d ∷ cs) h = apart-rewritten σ cs h
+  apart-rewritten σ (ok c ∷ cs) (ne, h) =
+      ((λ c′ i. let y = from-map (rewrite-case σ) cs (ok c′) i in let z = rewritten-claimed σ (y .0) c′ (y .2) in rw (z .2) (ne (z .0) (rw (z .1) at (y .1)))), apart-rewritten σ cs h)
+
+  module _ (s₀ : NestState) (r : ℕ) (ks : Nodes) (kind : SelectionKind) (sc : Scrutinee) (cases : List MaybeClaimedRegion) (s : NestState)
+      (dg : Doing W s₀ r ks s) (fit : CasesOk W s₀ r ks s cases) where
+    abbrev pub σ : Resolver
+    σ = rewrite (s .region-input-rewrites)
+
+    abbrev pub cs : List MaybeClaimedRegion
+    cs = map (rewrite-case σ) cases
+
+    pub data Shape (more : Nodes) (d : DeferredEdgeBundleSet) (os : List NodeOutput) : Type 0 where
+      made : (n : DefinedSelect) (ccs : Cases) → more ≡ select (n .node) (n .kind) (n .scrutinee) [] ccs ▸ ⟨⟩ → n .kind ≡ kind → ScrutineeIs sc os (n .scrutinee) → CasesFrom cases ccs → s .node-count ≤ n .node
+          → EmitsAll os n (plan-bundles (W .g) cs) d → Shape more d os
+      unmade : more ≡ ⟨⟩ → any-non-empty-case cases ≡ false → any-needs-select (plan-bundles (W .g) cs) ≡ false → d ≡ map shared-bundle (plan-bundles (W .g) cs) → Shape more d os
+
+    pub record Selected (x : Body) (s′ : NestState) : Type 0 where
+      pub shape : Shape (x .children) (x .deferred-edges) (s′ .node-outputs)
+      pub grew : Grew s s′
+      pub doing : Doing W s₀ r (join ks (x .children)) s′
+
+    -- the children with the select's
+    with-select : (n : DefinedSelect) (s₁ s₂ : NestState) → (mk : DefinesSelect kind sc cases s n s₁) → Grew s₁ s₂ → Doing W s₀ r (join ks (n .children)) s₂
+    with-select n s₁ s₂ mk gr₂ =
+        let gr = grew-then (mk .grew) gr₂ in
+        let d₂ = doing-on W dg (inv-grew W gr (dg .inv)) (later-grew W gr) in
+        record {
+          in-range = d₂ .in-range;
+          inv = d₂ .inv;
+          step = d₂ .step;
+          began = d₂ .began;
+          busy = d₂ .busy;
+          unlogged = d₂ .unlogged;
+          since = λ v o. since v (whose v o);
+          clear = λ v o w. clear gr d₂ v (whose v o) w;
+        }
+      where
+        Who : Key → Type 0
+        Who v = (owns-nodes ks v ≡ true) ⊎ ((v ≡ of-node (n .node)) ⊎ ((c : ClaimedRegion) × In (ok c) cases × (owns-nodes (c .children) v ≡ true)))
+
+        in-case : (v : Key) (c : MaybeClaimedRegion) → In c cases → owns-nodes (children-in c) v ≡ true → (x : ClaimedRegion) × In (ok x) cases × (owns-nodes (x .children) v ≡ true)
+        in-case v (ok x) i o = (x, i, o)
+        in-case v (err d) i o = absurd (none-owned v o)
+
+        tree : (v : Key) → owns-nodes (select (n .node) (n .kind) (n .scrutinee) [] (mk .cases-of) ▸ ⟨⟩) v ≡ true → Who v
+        tree v o = at (own-select v (n .node) (n .kind) (n .scrutinee) (mk .cases-of) o)
+          where
+            at : (is-node (n .node) v ≡ true) ⊎ (owns-cases (mk .cases-of) v ≡ true) → Who v
+            at (inl p) = inr (inl (node-key (n .node) v p))
+            at (inr p) = let y = cases-own cases (mk .cases-of) (mk .from) v p in inr (inr (in-case v (y .0) (y .1) (y .2)))
+
+        whose : (v : Key) → owns-nodes (join ks (n .children)) v ≡ true → Who v
+        whose v o = at (or-either (owns-nodes ks v) (owns-nodes (n .children) v) (sym (owns-join ks (n .children) v) ∙ o))
+          where
+            at : (owns-nodes ks v ≡ true) ⊎ (owns-nodes (n .children) v ≡ true) → Who v
+            at (inl p) = inl p
+            at (inr p) = tree v (rw (mk .tree-is) at p)
+
+        fresh : Wild s (of-node (n .node))
+        fresh = new (mk .above)
+
+        tk : (c : ClaimedRegion) → In (ok c) cases → ClaimedOk W s₀ r ks s c
+        tk c i = fit .each (ok c) i .is
+
+        since : (v : Key) → Who v → Wild s₀ v
+        since v (inl o) = dg .since v o
+        since v (inr (inl e)) = rw e (dg .step .wild (of-node (n .node)) fresh)
+        since v (inr (inr (c, i, o))) = tk c i .since .kids v o
+
+        clear : Grew s s₂ → Doing W s₀ r ks s₂ → (v : Key) → Who v → Wild s₂ v → ⊥
+        clear gr d₂ v (inl o) w = d₂ .clear v o w
+        clear gr d₂ v (inr (inl e)) w = not-new (subst (λ x. Wild s₂ x) e w)
+          where
+            not-new : Wild s₂ (of-node (n .node)) → ⊥
+            not-new (old o) = dg .inv .fresh (of-node (n .node)) (record { region = o .region; back = o .back; children = o .children; deferred-edges = o .deferred-edges; is = ap (λ l. getD l (o .region) not-begun) (sym (gr .region-states)) ∙ o .is; owns = o .owns }) (mk .above)
+            not-new (new h) = omega (arith, h, mk .below, gr₂ .node-count)
+        clear gr d₂ v (inr (inr (c, i, o))) w = tk c i .holds .clear v o (later-grew W gr .wild v w)
+
+    makes-from : (n : DefinedSelect) (s₁ s₂ : NestState) → Grew s s₁ → DefinesSelect kind sc cases s₁ n s₂ → DefinesSelect kind sc cases s n s₂
+    makes-from n s₁ s₂ gr mk = record {
+      cases-of = mk .cases-of;
+      tree-is = mk .tree-is;
+      kind-is = mk .kind-is;
+      scrut-is = mk .scrut-is;
+      from = mk .from;
+      above = omega (arith, gr .node-count, mk .above);
+      below = mk .below;
+      grew = grew-then gr (mk .grew);
+    }
+
+    no-more : {s₁ : NestState} → Doing W s₀ r ks s₁ → Doing W s₀ r (join ks ⟨⟩) s₁
+    no-more {s₁} d = subst (λ k. Doing W s₀ r k s₁) (sym (join-nil ks)) d
+
+    select-if-post : (b : Bool) → (any-non-empty-case cases || any-needs-select (plan-bundles (W .g) cs)) ≡ b → (s₁ : NestState) → Grew s s₁ → IfDone Selected (select-if b kind sc cases (plan-bundles (W .g) cs) s₁)
+    unfolding select-if
+    select-if-post true p s₁ gr =
+        bind (define-select kind sc cases s₁) _ (define-select-post kind sc cases s₁) λ n s₂ mk.
+        bind (emit n (plan-bundles (W .g) cs) s₂) _ (emit-post n (plan-bundles (W .g) cs) s₂) λ d s₃ em.
+        record {
+          post = record {
+            shape = made n (mk .cases-of) (mk .tree-is) (mk .kind-is) (scrutinee-stays sc (s₂ .node-outputs) (s₃ .node-outputs) (em .grew .outputs) (n .scrutinee) (mk .scrut-is)) (mk .from) (omega (arith, gr .node-count, mk .above)) (em .emits);
+            grew = grew-then gr (grew-then (mk .grew) (em .grew));
+            doing = with-select n s₂ s₃ (makes-from n s₁ s₂ gr mk) (em .grew);
+          };
+        }
+    select-if-post false p s₁ gr = record {
+      post = record {
+        shape = unmade refl (or-left (any-non-empty-case cases) _ p) (or-right (any-non-empty-case cases) _ p) refl;
+        grew = gr;
+        doing = no-more (doing-on W dg (inv-grew W gr (dg .inv)) (later-grew W gr));
+      };
+    }
+
+    pub record All (y : Body) (s′ : NestState) : Type 0 where
+      pub more : Nodes
+      pub kids-is : y .children ≡ join ks more
+      pub shape : Shape more (y .deferred-edges) (s′ .node-outputs)
+      pub doing : Doing W s₀ r (join ks more) s′
+      pub moves : Moved s s′
+      pub keeps : (q : ℕ) → ((c : ClaimedRegion) → In (ok c) cases → eqb q (c .structured-body) ≡ false) → rewrites-of (s .region-input-rewrites) q ≡ none → rewrites-of (s′ .region-input-rewrites) q ≡ none
+      pub law : (ρ : Resolver) (os : List NodeOutput) → Respects ρ os (tables s′) → (c : ClaimedRegion) → In (ok c) cases → (k : ℕ) → ρ (input (c .structured-body) k) ≡ ρ (getD (c .structured-body-inputs) k (undef 0))
+
+    to-log : (ks′ : Nodes) → Within ks ks′ → (s₂ : NestState) → Grew s s₂ → (c : ClaimedRegion) → In (ok c) cs → ToLog s₀ r ks′ s₂ c
+    to-log ks′ wi s₂ gr c i =
+        let x = from-map (rewrite-case σ) cases (ok c) i in
+        let y = rewritten-claimed σ (x .0) c (x .2) in
+        let tk : ClaimedOk W s₀ r ks s (y .0) = fit .each (ok (y .0)) (rw (y .1) at (x .1)) .is in
+        let st = later-grew W gr in
+        record {
+          closed = λ l. tk .holds .closed (st .loggable (y .0 .structured-body) (subst (λ z. Loggable W s₂ z) (y .2) l));
+          unlogged = rw (y .2, gr .rewrites) (tk .holds .unlogged);
+          inputs = λ k. rw (y .3, getD-rewritten W (s .region-input-rewrites) (y .0 .structured-body-inputs) k) (scoped-later (st .gains) wi (scoped-rewritten (getD (y .0 .structured-body-inputs) k (undef 0)) (tk .inputs k)));
+          other = rw (y .2) (tk .other);
+          since = rw (y .2) (tk .since .region);
+        }
+
+    pub structurize-select-post : IfDone All (structurize-select (W .g) ks kind sc cases s)
+    unfolding structurize-select rewrite-cases
+    structurize-select-post =
+        let s₁ : NestState = with-twice (any (meets-in-case (meets (s .region-input-rewrites))) cases) s in
+        let gr₁ : Grew s s₁ = record { outputs = extends-refl (s .node-outputs); rewrites = refl; region-states = refl; regions = omega arith; node-count = omega arith } in
+        bind (select-if (any-non-empty-case cases || any-needs-select (plan-bundles (W .g) cs)) kind sc cases (plan-bundles (W .g) cs) s₁) _ (select-if-post _ refl s₁ gr₁) λ x s₂ sel.
+        bind (replace-inputs cs s₂) _ (replace-inputs-post s₀ r (join ks (x .children)) cs s₂ (sel .doing) (to-log (join ks (x .children)) (within-left ks (x .children)) s₂ (sel .grew)) (apart-rewritten σ cases (fit .apart))) λ u s₃ rp.
+        record {
+          post = record {
+            more = x .children;
+            kids-is = refl;
+            shape = subst (λ l. Shape (x .children) (x .deferred-edges) l) (sym (rp .outputs)) (sel .shape);
+            doing = rp .doing;
+            moves = moved-then (later-moves (later-grew W (sel .grew))) (rp .moves);
+            keeps = λ q n h. rp .keeps q (λ c i. keep q n c i) (rw (sel .grew .rewrites) h);
+            law = λ ρ os res c i k. law ρ os s₂ s₃ (moved-then (later-moves (later-grew W (sel .grew))) (rp .moves) .gains) (rp .log) res c i k;
+          };
+        }
+      where
+        keep : (q : ℕ) → ((c : ClaimedRegion) → In (ok c) cases → eqb q (c .structured-body) ≡ false) → (c : ClaimedRegion) → In (ok c) cs → eqb q (c .structured-body) ≡ false
+        keep q n c i =
+            let x = from-map (rewrite-case σ) cases (ok c) i in
+            let y = rewritten-claimed σ (x .0) c (x .2) in
+            rw (y .2) (n (y .0) (rw (y .1) at (x .1)))
+
+        law : (ρ : Resolver) (os : List NodeOutput) (s₂ s₃ : NestState) → Gains (tables s) (tables s₃) → s₃ .region-input-rewrites ≡ s₂ .region-input-rewrites ++ entries-of cs → Respects ρ os (tables s₃)
+            → (c : ClaimedRegion) → In (ok c) cases → (k : ℕ) → ρ (input (c .structured-body) k) ≡ ρ (getD (c .structured-body-inputs) k (undef 0))
+        law ρ os s₂ s₃ gains e res c i k =
+            law-of ρ cs (laws-last (s₂ .region-input-rewrites) (entries-of cs) e res) (rewrite-claimed σ c) (in-map (rewrite-case σ) cases (ok c) i) k
+            ∙ ap ρ (getD-rewritten W (s .region-input-rewrites) (c .structured-body-inputs) k) ∙ lookup-keeps (respects-back gains res) (getD (c .structured-body-inputs) k (undef 0))
