@@ -1,11 +1,11 @@
 -- A claimed region is put behind the children that lead to it.
 use mathlib.Core.Bool.{false, true}
-use mathlib.Core.List.{List, []}
+use mathlib.Core.List.{List}
 use mathlib.Core.Logic.{_⊎_, inl, inr}
 use mathlib.Core.Path.{_∙_, _≡_, refl, subst, sym}
 use Prim.Native.Nat.{_<_, ℕ}
 use lib.Dec.{T, eqb}
-use lib.ListN.{getD, set}
+use lib.ListN.{getD}
 use Rattle.meaning.specs.Form.{Nodes}
 use Rattle.meaning.specs.Graph.{Value, input, undef}
 use Rattle.format.specs.ReadLaws.{clash}
@@ -19,10 +19,10 @@ use Rattle.follows.specs.Tables.{Gains, Resolver, Respects, Tables, gain
 use Rattle.follows.specs.Leads.{Leads, Sim, leads-then}
 use Rattle.follows.specs.Defined.{IfDone}
 use Rattle.follows.specs.Scope.{AllScoped, CondOk, EntryOk, InScope, Scoped, SetOk, Within, constant, own-input, owned, scoped-later, within-left, within-right}
-use Rattle.follows.specs.Invariant.{Wild}
+use Rattle.follows.specs.Invariant.{Free}
 use Rattle.follows.specs.Holding.{CaseOk, Doing, Holds, Since}
 use Rattle.follows.specs.EnterCase.{Enters, children-in, enter-follows}
-use Rattle.follows.specs.SelectSteps.{Moved, ToLog, join-nil, log-doing, log-moved}
+use Rattle.follows.specs.SelectSteps.{Moved, ToRewrite, join-nil, rewrite-doing, rewrite-moved}
 
 -- ---- from one scope to another
 module _ {T T′ : Tables} {q a r a′ : ℕ} {ks ks′ : Nodes} (gains : Gains T T′) (wi : Within ks ks′)
@@ -42,7 +42,12 @@ module _ {T T′ : Tables} {q a r a′ : ℕ} {ks ks′ : Nodes} (gains : Gains 
   cond-through (merge n kind sc cs) h = record { is = (scoped-through sc (h .is .0), wi .into (of-node n) (h .is .1)) }
 
   pub entry-through : (W : World) (e : DeferredEdgeBundle) → EntryOk W T q a ks e → EntryOk W T′ r a′ ks′ e
-  entry-through W e h = record { fits = h .fits; inputs = λ i. scoped-through (getD (e .target-inputs) i (undef 0)) (h .inputs i); condition = cond-through (e .condition) (h .condition) }
+  entry-through W e h = record {
+    fits = h .fits;
+    inputs = λ i. scoped-through (getD (e .target-inputs) i (undef 0)) (h .inputs i);
+    condition = cond-through
+        (e .condition) (h .condition);
+  }
 
   pub set-through : (W : World) (d : DeferredEdgeBundleSet) → SetOk W T q a ks d → SetOk W T′ r a′ ks′ d
   set-through W d h = record { distinct = h .distinct; entries = λ e i. entry-through W e (h .entries e i) }
@@ -59,67 +64,72 @@ module _ (W : World) where
   TailIs s₀ r ks s (ok c) = TailOk s₀ r ks s c
   TailIs s₀ r ks s (err d) = SetOk W (tables s) r (ar W r) ks d
 
-  pub with-kids : {s₀ s : NestState} {r : ℕ} {ks : Nodes} (c : ClaimedRegion) → Doing W s₀ r ks s → Holds W c s → Since W s₀ c → Doing W s₀ r (join ks (c .children)) s
-  with-kids {s₀} {s} {r} {ks} c d h si = record {
+  pub with-children : {s₀ s : NestState} {r : ℕ} {ks : Nodes} (c : ClaimedRegion) → Doing W s₀ r ks s → Holds W c s → Since W s₀ c → Doing W s₀ r (join ks (c .children)) s
+  with-children {s₀} {s} {r} {ks} c d h si = record {
     in-range = d .in-range;
     inv = d .inv;
     step = d .step;
     began = d .began;
     busy = d .busy;
-    unlogged = d .unlogged;
-    since = λ v o. at v (whose v o);
-    clear = λ v o w. clear v (whose v o) w;
+    unrewritten = d .unrewritten;
+    since = λ κ o. at κ (whose κ o);
+    clear = λ κ o w. clear κ (whose κ o) w;
   }
     where
-      whose : (v : Key) → owns-nodes (join ks (c .children)) v ≡ true → (owns-nodes ks v ≡ true) ⊎ (owns-nodes (c .children) v ≡ true)
-      whose v o = or-either (owns-nodes ks v) (owns-nodes (c .children) v) (sym (owns-join ks (c .children) v) ∙ o)
+      whose : (κ : Key) → owns-nodes (join ks (c .children)) κ ≡ true → (owns-nodes ks κ ≡ true) ⊎ (owns-nodes (c .children) κ ≡ true)
+      whose κ o = or-either (owns-nodes ks κ) (owns-nodes (c .children) κ) (sym (owns-join ks (c .children) κ) ∙ o)
 
-      at : (v : Key) → (owns-nodes ks v ≡ true) ⊎ (owns-nodes (c .children) v ≡ true) → Wild s₀ v
-      at v (inl o) = d .since v o
-      at v (inr o) = si .kids v o
+      at : (κ : Key) → (owns-nodes ks κ ≡ true) ⊎ (owns-nodes (c .children) κ ≡ true) → Free s₀ κ
+      at κ (inl o) = d .since κ o
+      at κ (inr o) = si .children κ o
 
-      clear : (v : Key) → (owns-nodes ks v ≡ true) ⊎ (owns-nodes (c .children) v ≡ true) → Wild s v → ⊥
-      clear v (inl o) w = d .clear v o w
-      clear v (inr o) w = h .clear v o w
+      clear : (κ : Key) → (owns-nodes ks κ ≡ true) ⊎ (owns-nodes (c .children) κ ≡ true) → Free s κ → ⊥
+      clear κ (inl o) w = d .clear κ o w
+      clear κ (inr o) w = h .clear κ o w
 
   pub record Appended (s₀ : NestState) (r : ℕ) (ks : Nodes) (c : MaybeClaimedRegion) (s : NestState) (y : Body) (s′ : NestState) : Type 0 where
-    pub kids-is : y .children ≡ join ks (children-in c)
+    pub children-is : y .children ≡ join ks (children-in c)
     pub set-is : y .deferred-edges ≡ deferred-of c
     pub doing : Doing W s₀ r (join ks (children-in c)) s′
     pub moves : Moved W s s′
     pub set : SetOk W (tables s′) r (ar W r) (join ks (children-in c)) (deferred-of c)
-    pub law : (ρ : Resolver) (os : List NodeOutput) → Respects ρ os (tables s′) → (x : ClaimedRegion) → c ≡ ok x → (k : ℕ) → ρ (input (x .structured-body) k) ≡ ρ (getD (x .structured-body-inputs) k (undef 0))
+    pub law : (ρ : Resolver) (os : List NodeOutput) → Respects ρ os (tables s′) → (x : ClaimedRegion) → c ≡ ok x → (k : ℕ)
+        → ρ (input (x .structured-body) k) ≡ ρ (getD (x .structured-body-inputs) k (undef 0))
 
-  pub append-post : (s₀ : NestState) (r : ℕ) (ks : Nodes) (c : MaybeClaimedRegion) (s : NestState) → Doing W s₀ r ks s → TailIs s₀ r ks s c → IfDone (Appended s₀ r ks c s) (append-maybe-claimed-region ks c s)
+  pub append-post : (s₀ : NestState) (r : ℕ) (ks : Nodes) (c : MaybeClaimedRegion) (s : NestState) → Doing W s₀ r ks s → TailIs s₀ r ks s c
+      → IfDone (Appended s₀ r ks c s) (append-maybe-claimed-region ks c s)
   unfolding append-maybe-claimed-region
   append-post s₀ r ks (err d) s dg fit = record {
     post = record {
-      kids-is = sym (join-nil ks);
+      children-is = sym (join-nil ks);
       set-is = refl;
       doing = subst (λ k. Doing W s₀ r k s) (sym (join-nil ks)) dg;
-      moves = record { gains = gains-refl (tables s); wild = λ v h. h; loggable = λ q h. h };
+      moves = record { gains = gains-refl (tables s); free = λ κ h. h; rewritable = λ q h. h };
       set = subst (λ k. SetOk W (tables s) r (ar W r) k d) (sym (join-nil ks)) fit;
       law = λ ρ os res x p k. absurd (clash (cc));
     };
   }
   append-post s₀ r ks (ok c) s dg fit =
-      let dg₁ = with-kids c dg (fit .holds) (fit .since) in
-      let tl : ToLog W s₀ r (join ks (c .children)) s c = record {
+      let dg₁ = with-children c dg (fit .holds) (fit .since) in
+      let tl : ToRewrite W s₀ r (join ks (c .children)) s c = record {
         closed = fit .holds .closed;
-        unlogged = fit .holds .unlogged;
+        unrewritten = fit .holds .unrewritten;
         other = fit .other;
         since = fit .since .region;
         inputs = λ i. scoped-later (gains-refl (tables s)) (within-left ks (c .children)) (fit .inputs i);
       } in
-      let mv = log-moved W s₀ s r (join ks (c .children)) c dg₁ tl in
+      let mv = rewrite-moved W s₀ s r (join ks (c .children)) c dg₁ tl in
       record {
         post = record {
-          kids-is = refl;
+          children-is = refl;
           set-is = refl;
-          doing = log-doing W s₀ s r (join ks (c .children)) c dg₁ tl;
+          doing = rewrite-doing W s₀ s r (join ks (c .children)) c dg₁ tl;
           moves = mv;
-          set = set-through (mv .gains) (within-right ks (c .children)) (λ ρ os res k lt. rw (laws-last (s .region-input-rewrites) _ refl res .0 k) (tl .inputs k .scoped ρ os (respects-back (mv .gains) res))) W (c .deferred-edges) (fit .holds .set);
-          law = λ ρ os res x p k. let e : c ≡ x = cc in subst (λ z. ρ (input (z .structured-body) k) ≡ ρ (getD (z .structured-body-inputs) k (undef 0))) e (laws-last (s .region-input-rewrites) _ refl res .0 k);
+          set = set-through (mv .gains) (within-right ks (c .children))
+              (λ ρ os res k lt. rw (laws-last (s .region-input-rewrites) _ refl res .0 k) (tl .inputs k .scoped ρ os (respects-back (mv .gains) res))) W
+              (c .deferred-edges) (fit .holds .set);
+          law = λ ρ os res x p k. let e : c ≡ x = cc in subst (λ z. ρ (input (z .structured-body) k) ≡ ρ (getD (z .structured-body-inputs) k (undef 0))) e
+              (laws-last (s .region-input-rewrites) _ refl res .0 k);
         };
       }
 
@@ -129,4 +139,5 @@ module _ (W : World) where
   append-sim s₀ r ks c s y s′ fit ad ld = leads-then W (children-in c) (deferred-of c) _ ld (ad .moves .gains)
       λ ρ os res b n le st bs apart e h en.
       enter-follows W s₀ r ks s c fit ρ os (respects-back (ad .moves .gains) res) b n le st bs (ad .law ρ os res)
-      (λ k lt. or-right (owns-nodes ks (key os (ρ (input r k)))) (owns-nodes (children-in c) (key os (ρ (input r k)))) (sym (owns-join ks (children-in c) (key os (ρ (input r k)))) ∙ apart k lt)) e h en
+      (λ k lt. or-right (owns-nodes ks (key os (ρ (input r k)))) (owns-nodes (children-in c) (key os (ρ (input r k))))
+      (sym (owns-join ks (children-in c) (key os (ρ (input r k)))) ∙ apart k lt)) e h en

@@ -35,7 +35,7 @@ use Rattle.follows.specs.Bundles.{same-target-self}
 use Rattle.follows.specs.Final.{final-respects}
 use Rattle.follows.specs.Scope.{AllScoped, Scoped, own-input, owned, scoped-const}
 use Rattle.follows.specs.Invariant.{Inv, waiting}
-use Rattle.follows.specs.Holding.{unlogged-stays}
+use Rattle.follows.specs.Holding.{unrewritten-stays}
 use Rattle.follows.specs.EnterCase.{Enters}
 use Rattle.follows.specs.SelectFollows.{none-owns}
 
@@ -55,7 +55,8 @@ module _ (W : World) where
         rw (y .runs-on) (record { leads-to = record { graph = y .graph; agree = y .agree; fewer = y .fewer; is-fewer = y .is-fewer; ends = y .ends } });
   }
 
-  pub reads-of : (r : ℕ) → r < size W → (ρ : Resolver) (a st : RunState) → Agree ρ r (ar W r) (total 0 (region (W .g) r .blocks)) a st → (vs : List Value) → AllUsable r (ar W r) (total 0 (region (W .g) r .blocks)) vs
+  pub reads-of : (r : ℕ) → r < size W → (ρ : Resolver) (a st : RunState) → Agree ρ r (ar W r) (total 0 (region (W .g) r .blocks)) a st → (vs : List Value)
+      → AllUsable r (ar W r) (total 0 (region (W .g) r .blocks)) vs
       → map (a .env) vs ≡ map (λ v. st .env (ρ v)) vs
   reads-of r r-in ρ a st ag vs us = usable-reads W r (W .valid .blocks r r-in) ρ _ a st ag vs us
 
@@ -72,28 +73,38 @@ module _ (W : World) where
   usable-scoped r T (held q i) h = absurd h
   usable-scoped r T (output i) h = absurd h
   usable-scoped r T (input q i) (p, lt) = record { scoped = λ ρ os res. own-input i lt (ap (λ z. ρ (input z i)) p) }
-  usable-scoped r T (instr q i) (p, lt) = record { scoped = λ ρ os res. owned (rw (res .on-instr q i, p) (own-instr (block-count (take r (W .g .regions))) r 0 i (region (W .g) r .blocks) lt (omega arith))) }
+  usable-scoped r T (instr q i) (p, lt) =
+      record {
+        scoped = λ ρ os res. owned
+            (rw (res .on-instr q i, p) (own-instr (block-count (take r (W .g .regions))) r 0 i (region (W .g) r .blocks) lt (omega arith)));
+      }
 
   pub usable-all : (r : ℕ) (T : Tables) (vs : List Value) → AllUsable r (ar W r) (total 0 (region (W .g) r .blocks)) vs → AllScoped T r (ar W r) (blocks-of (W .g) r) vs
   usable-all r T [] h i = scoped-const (undef 0) refl
   usable-all r T (v ∷ vs) (h, hs) zero = usable-scoped r T v h
   usable-all r T (v ∷ vs) (h, hs) (suc i) = usable-all r T vs hs i
 
-  -- ---- an edge's case
-  pub record Steers (T : Tables) (x : ℕ) (vs : List Value) (c : MaybeClaimedRegion) : Type 0 where
-    pub steer : (ρ : Resolver) (os : List NodeOutput) → Respects ρ os T → (n : ℕ) (e : End) (h : List Event) (st : RunState) → Based W st → OnwardTo W ρ st n e h (to-region x) vs → Enters W ρ os n e h st c
+  -- ---- an edge's case: where the graph's run goes on along the edge, the case is entered
+  pub record EdgeEnters (T : Tables) (x : ℕ) (vs : List Value) (c : MaybeClaimedRegion) : Type 0 where
+    pub enters : (ρ : Resolver) (os : List NodeOutput) → Respects ρ os T → (n : ℕ) (e : End) (h : List Event) (st : RunState) → Based W st
+        → OnwardTo W ρ st n e h (to-region x) vs → Enters W ρ os n e h st c
 
-  pub steers-on : {T T′ : Tables} {x : ℕ} {vs : List Value} {c : MaybeClaimedRegion} → Gains T T′ → Steers T x vs c → Steers T′ x vs c
-  steers-on p h = record { steer = λ ρ os res. h .steer ρ os (respects-back p res) }
+  pub edge-enters-on : {T T′ : Tables} {x : ℕ} {vs : List Value} {c : MaybeClaimedRegion} → Gains T T′ → EdgeEnters T x vs c → EdgeEnters T′ x vs c
+  edge-enters-on p h = record { enters = λ ρ os res. h .enters ρ os (respects-back p res) }
 
   -- one entry whose condition is true
-  pub single-goes : (ρ : Resolver) (os : List NodeOutput) (T : Tables) → Respects ρ os T → (n : ℕ) (e : End) (h : List Event) (st : RunState) → Based W st → (x : DeferredEdgeBundle) → x .condition ≡ true-cond → OnwardTo W ρ st n e h (x .target) (x .target-inputs) → Goes W ρ os n (x ∷ []) e h st
+  pub one-goes : (ρ : Resolver) (os : List NodeOutput) (T : Tables) → Respects ρ os T → (n : ℕ) (e : End) (h : List Event) (st : RunState) → Based W st
+      → (x : DeferredEdgeBundle) → x .condition ≡ true-cond → OnwardTo W ρ st n e h (x .target) (x .target-inputs) → Goes W ρ os n (x ∷ []) e h st
   unfolding Mat
-  single-goes ρ os T res n e h st bs x c onw = record {
+  one-goes ρ os T res n e h st bs x c onw = record {
     entry = x;
     chosen = record {
       member = inl refl;
-      holds = λ v mat. record { less = 0; is = let q : v ≡ bool true = rw c at mat in ap (λ z. st .env (ρ z)) q ∙ ap (st .env) (res .on-bool true) ∙ bs .based (bool true) refl ∙ W .on-bool true };
+      holds = λ v mat. record {
+        less = 0;
+        is = let q : v ≡ bool true = rw c at mat in ap (λ z. st .env (ρ z)) q ∙ ap (st .env) (res .on-bool true) ∙ bs .based
+            (bool true) refl ∙ W .on-bool true;
+      };
       others = λ y i ne v mat. only y i ne;
     };
     onward = onw;
@@ -104,16 +115,21 @@ module _ (W : World) where
       only y (inr no-way) ne = absurd no-way
 
   -- a region with no children and no way on never ends
-  pub dead : (s : NestState) → Inv W s → (x b : ℕ) → x < size W → state-of s x ≡ ready b ⟨⟩ [] → (n : ℕ) (ws : List Word) (past : List Event) (e : End) (h : List Event) → length ws ≡ ar W x
+  pub never-ends : (s : NestState) → Inv W s → (x b : ℕ) → x < size W → state-of s x ≡ ready b ⟨⟩ []
+      → (n : ℕ) (ws : List Word) (past : List Event) (e : End) (h : List Event) → length ws ≡ ar W x
       → from-region W n x ws past ≡ ends-with e h → ⊥
   unfolding run-nodes rewrite-nodes
-  dead s inv x b x-in is n ws past e h len gr =
+  never-ends s inv x b x-in is n ws past e h len gr =
       let ρ : Resolver = rewrite (s .region-input-rewrites) in
       let st : RunState = record { env = put-inputs (λ k. input x k) 0 ws (W .base); events = past; cost = 0; over-limit = false } in
-      let un : rewrites-of (s .region-input-rewrites) x ≡ none = inv .unlogged x (waiting x-in (rw is)) in
+      let un : rewrites-of (s .region-input-rewrites) x ≡ none = inv .unrewritten x (waiting x-in (rw is)) in
       let fl = inv .sims x b ⟨⟩ [] is .leads ρ (s .node-outputs) (final-respects (tables s) (inv .ends)) n n (omega arith) st ws
       (record { based = λ v c. puts-other (λ k. input x k) v (λ k. not-input v c k) 0 ws (W .base) }) len
-      (record { reads = λ k lt. ap (st .env) (unlogged-stays (s .region-input-rewrites) x k un) ∙ puts-at (λ k. input x k) (input-numbered x) ws k k 0 (omega arith) lt (W .base); apart = λ k lt. none-owns (key (s .node-outputs) (ρ (input x k))) }) e h gr in
+      (record {
+        reads = λ k lt. ap (st .env) (unrewritten-stays (s .region-input-rewrites) x k un) ∙ puts-at (λ k. input x k) (input-numbered x) ws k k 0
+            (omega arith) lt (W .base);
+        apart = λ k lt. none-owns (key (s .node-outputs) (ρ (input x k)));
+      }) e h gr in
       fl .leads-to .chosen .member
     where
       not-input : (v : Value) → is-constant v ≡ true → (k : ℕ) → sameValue v (input x k) ≡ false

@@ -11,7 +11,8 @@ use Rattle.meaning.specs.Graph.{Value, Instr}
 use Rattle.meaning.specs.Form.{OutputDecl, Node, block, select, loop, exit, Nodes, ⟨⟩, _▸_, Cases, ∅, case}
 use Rattle.meaning.specs.Run.{Word, word, mark, Rule, RunState, place-taken, do-instr, do-block}
 use Rattle.meaning.specs.NestedRun.{Ran, through, ended, no-end, and-then, tested, once-more, pay, note-over, assign-inputs, assign-outputs, case-count, turns, run-node, run-nodes, run-case, after-last, start, nested-run}
-use Rattle.nesting.specs.Figure.{instr-costs, node-figure, figure, dearest}
+use Rattle.nesting.specs.Figure.{instr-costs, node-figure, figure}
+use Rattle.nesting.specs.DearestCase.{case-at, dearest-case}
 use Rattle.format.specs.ReadLaws.{clash}
 use Rattle.follows.specs.Statements.{Bounded}
 
@@ -117,7 +118,8 @@ module _ (rule : Rule) (test-cost : ℕ) where
     node-costs : (k : Node) (b : ℕ) (s : RunState) → Costs (node-figure test-cost k) s (run-node rule test-cost b k s)
     node-costs (block n r k is) b s = record { costs = block-costs r k is s }
     node-costs (select n kind v os cs) b s =
-        tested-costs (s .env v) _ λ w. after _ (omega arith) (pay-costs test-cost s) _ (case-costs cs b (place-taken kind w (case-count cs)) os (pay test-cost s))
+        tested-costs (s .env v) _ λ w.
+        after _ (omega (arith, dearest-case test-cost cs (place-taken kind w (case-count cs)))) (pay-costs test-cost s) _ (case-costs cs b (place-taken kind w (case-count cs)) os (pay test-cost s))
     node-costs (loop n vs r ts limit ks us v) b s =
         let e : limit - 0 ≡ limit = omega arith in
         after {n = 0} _ (rw e (omega arith)) (inputs-cost-nothing r vs s) _
@@ -128,12 +130,12 @@ module _ (rule : Rule) (test-cost : ℕ) where
     nodes-cost ⟨⟩ b s = record { costs = stands 0 s }
     nodes-cost (k ▸ ks) b s = and-then-costs _ (omega arith) (run-node rule test-cost b k s) _ (node-costs k b s) (λ t. nodes-cost ks b t)
 
-    -- the case taken costs at most the dearest
-    case-costs : (cs : Cases) (b j : ℕ) (os : List OutputDecl) (s : RunState) → Costs (dearest test-cost cs) s (run-case rule test-cost b cs j os s)
+    -- the case at place j costs at most its own figure
+    case-costs : (cs : Cases) (b j : ℕ) (os : List OutputDecl) (s : RunState) → Costs (figure test-cost (case-at cs j)) s (run-case rule test-cost b cs j os s)
     case-costs ∅ b j os s = record { costs = tt }
     case-costs (case r ks vs cs) b zero os s =
         and-then-costs {m = 0} _ (omega arith) (run-nodes rule test-cost b ks s) _ (nodes-cost ks b s) (λ t. record { costs = outputs-cost-nothing os vs t })
-    case-costs (case r ks vs cs) b (suc j) os s = after {n = 0} {m = dearest test-cost cs} _ (omega arith) (stands 0 s) _ (case-costs cs b j os s)
+    case-costs (case r ks vs cs) b (suc j) os s = case-costs cs b j os s
 
 -- Statement 2.
 pub bounded : Bounded

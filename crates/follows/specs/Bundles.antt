@@ -6,8 +6,8 @@ use mathlib.Core.Option.{some}
 use mathlib.Core.Path.{_∙_, _≡_, ap, refl, sym}
 use Prim.Native.Nat.{suc}
 use native.Mathlib.Omega.{arith}
-use lib.Dec.{eqb→eq}
 use lib.ListN.{length}
+use borrow.Author.Tests.{eqb-true}
 use Rattle.meaning.specs.Graph.{pick}
 use Rattle.format.specs.ReadLaws.{clash}
 use Rattle.nesting.specs.BundleSet.{drop-last, fill-gap, get-by-target, is-always, last-or, same-target, split-out-target}
@@ -25,7 +25,7 @@ same-target-self (to-region a) = eqb-self a
 same-target-self to-return = refl
 
 pub same-target→eq : (a b : DeferredTarget) → same-target a b ≡ true → a ≡ b
-same-target→eq (to-region a) (to-region b) p = ap to-region (eqb→eq a b (rw p tt))
+same-target→eq (to-region a) (to-region b) p = ap to-region (eqb-true a b p)
 same-target→eq (to-region a) to-return p = cc
 same-target→eq to-return (to-region b) p = cc
 same-target→eq to-return to-return p = refl
@@ -82,7 +82,8 @@ distinct-drop-last [] h = tt
 distinct-drop-last (x ∷ []) h = tt
 distinct-drop-last (x ∷ z ∷ zs) (h, hs) = ((λ y i. h y (in-drop-last (z ∷ zs) y i)), distinct-drop-last (z ∷ zs) hs)
 
-last-apart : (x : DeferredEdgeBundle) (d : DeferredEdgeBundleSet) → Distinct (x ∷ d) → (y : DeferredEdgeBundle) → In y (drop-last (x ∷ d)) → same-target (y .target) (last-or x d .target) ≡ false
+last-apart : (x : DeferredEdgeBundle) (d : DeferredEdgeBundleSet) → Distinct (x ∷ d) → (y : DeferredEdgeBundle) → In y (drop-last (x ∷ d))
+    → same-target (y .target) (last-or x d .target) ≡ false
 last-apart x [] h y i = absurd i
 last-apart x (z ∷ zs) (h, hs) y (inl p) = rw p (same-target-sym (x .target) (last-or z zs .target) ∙ h (last-or z zs) (last-in z zs))
 last-apart x (z ∷ zs) (h, hs) y (inr i) = last-apart z zs hs y i
@@ -146,13 +147,15 @@ pub split-at : (a b : DeferredEdgeBundleSet) (x : DeferredEdgeBundle) → In x (
 split-at [] b x = inl refl
 split-at (e ∷ a) b x = inr (split-at a b x)
 
-pub split-distinct : (a b : DeferredEdgeBundleSet) (x : DeferredEdgeBundle) → Distinct (a ++ (x ∷ b)) → Distinct (a ++ b) × ((y : DeferredEdgeBundle) → In y (a ++ b) → same-target (x .target) (y .target) ≡ false)
+pub split-distinct : (a b : DeferredEdgeBundleSet) (x : DeferredEdgeBundle) → Distinct (a ++ (x ∷ b))
+    → Distinct (a ++ b) × ((y : DeferredEdgeBundle) → In y (a ++ b) → same-target (x .target) (y .target) ≡ false)
 split-distinct [] b x (h, hs) = (hs, λ y i. same-target-sym (x .target) (y .target) ∙ h y i)
 split-distinct (e ∷ a) b x (h, hs) =
     let z = split-distinct a b x hs in
     (((λ y i. h y (split-in a b x y i)), z .0), λ y i. other z y i)
   where
-    other : Distinct (a ++ b) × ((y : DeferredEdgeBundle) → In y (a ++ b) → same-target (x .target) (y .target) ≡ false) → (y : DeferredEdgeBundle) → (y ≡ e) ⊎ In y (a ++ b) → same-target (x .target) (y .target) ≡ false
+    other : Distinct (a ++ b) × ((y : DeferredEdgeBundle) → In y (a ++ b) → same-target (x .target) (y .target) ≡ false) → (y : DeferredEdgeBundle)
+        → (y ≡ e) ⊎ In y (a ++ b) → same-target (x .target) (y .target) ≡ false
     other z y (inl p) = rw p (h x (split-at a b x))
     other z y (inr i) = z .1 y i
 

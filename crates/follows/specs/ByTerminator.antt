@@ -6,8 +6,9 @@ use mathlib.Core.Option.{none, some}
 use mathlib.Core.Path.{_∙_, _≡_, ap, refl, subst, sym}
 use Prim.Native.Nat.{_<_, _≤_, pred, suc, zero, ℕ}
 use native.Mathlib.Omega.{arith}
-use lib.Dec.{T, ltb, ltb→lt}
-use lib.ListN.{getD, length, set}
+use lib.Dec.{T, ltb}
+use lib.ListN.{getD, length}
+use borrow.Author.Tests.{ltb-true}
 use Rattle.meaning.specs.Form.{Nodes, _▸_, exit, ⟨⟩}
 use Rattle.meaning.specs.Graph.{ControlInst, Edge, SelectionKind, Value, bool-cond, branch, edgesOf, exit-invocation, number, pick, region, return, select-branch, unreachable}
 use Rattle.meaning.specs.GraphRun.{Ended, along, edge-taken}
@@ -37,7 +38,7 @@ use Rattle.follows.specs.Holding.{Came, CaseOk, CasesOk, Doing, doing-on
 use Rattle.follows.specs.EnterCase.{Takes, children-in}
 use Rattle.follows.specs.Append.{TailIs, append-post, append-sim}
 use Rattle.follows.specs.ConvergentFollows.{structurize-select-into-post}
-use Rattle.follows.specs.AtTerminator.{AtTerminator, Steers, blocks-lead, reads-of, single-goes, usable-all, usable-scoped}
+use Rattle.follows.specs.AtTerminator.{AtTerminator, EdgeEnters, blocks-lead, one-goes, reads-of, usable-all, usable-scoped}
 
 pred-below : (n : ℕ) → 1 ≤ n → pred n < n
 pred-below zero le = absurd (omega arith)
@@ -49,7 +50,7 @@ place-below bool-cond (suc x) n two le = omega arith
 place-below number x n two le = go (ltb x n) refl
   where
     go : (b : Bool) → ltb x n ≡ b → pick b x (pred n) < n
-    go true p = ltb→lt x n (rw p tt)
+    go true p = ltb-true x n p
     go false p = pred-below n le
 
 ends-same : {a b : End} {x y : List Event} → ends-with a x ≡ ends-with b y → (a ≡ b) × (x ≡ y)
@@ -61,11 +62,12 @@ module _ (W : World) where
   edge-at r (x ∷ es) (h, hs) zero ed q = let z : x ≡ ed = cc in subst (λ y. EdgeUsable (W .g) r y) z h
   edge-at r (x ∷ es) (h, hs) (suc j) ed q = edge-at r es hs j ed q
 
-  exit-owns : (ks : Nodes) (n op : ℕ) (vs : List Value) (v : Key) → owns-nodes (join ks (exit n op vs ▸ ⟨⟩)) v ≡ true → owns-nodes ks v ≡ true
+  exit-owns : (ks : Nodes) (n op : ℕ) (vs : List Value) (κ : Key) → owns-nodes (join ks (exit n op vs ▸ ⟨⟩)) κ ≡ true → owns-nodes ks κ ≡ true
   unfolding owns-nodes
-  exit-owns ks n op vs v o = sym (or-false (owns-nodes ks v)) ∙ sym (owns-join ks (exit n op vs ▸ ⟨⟩) v) ∙ o
+  exit-owns ks n op vs κ o = sym (or-false (owns-nodes ks κ)) ∙ sym (owns-join ks (exit n op vs ▸ ⟨⟩) κ) ∙ o
 
-  exit-follows : (ρ : Resolver) (os : List NodeOutput) (b k n op : ℕ) (vs : List Value) (st : RunState) (e : End) (h : List Event) → exited op (map (λ v. st .env (ρ v)) vs) ≡ e → st .events ≡ h → Tracks W ρ os k [] e h (runs W b (rewrite-nodes ρ os (exit n op vs ▸ ⟨⟩)) st)
+  exit-follows : (ρ : Resolver) (os : List NodeOutput) (b k n op : ℕ) (vs : List Value) (st : RunState) (e : End) (h : List Event)
+      → exited op (map (λ v. st .env (ρ v)) vs) ≡ e → st .events ≡ h → Tracks W ρ os k [] e h (runs W b (rewrite-nodes ρ os (exit n op vs ▸ ⟨⟩)) st)
   unfolding run-nodes rewrite-nodes
   exit-follows ρ os b k n op vs st e h p q = record { leads-to = (ap (exited op) (map-map (st .env) ρ vs) ∙ p, q) }
 
@@ -73,7 +75,8 @@ module _ (W : World) where
     abbrev ks : Nodes
     ks = blocks-of (W .g) r
 
-    lead : (Q : Reached W) → ((ρ : Resolver) (os′ : List NodeOutput) → Respects ρ os′ (tables s) → (n : ℕ) (e : End) (h : List Event) (st : RunState) → Based W st → AtTerminator W r ρ n e h st → Q ρ os′ n e h st) → Leads W r r ks (tables s) Q
+    lead : (Q : Reached W) → ((ρ : Resolver) (os′ : List NodeOutput) → Respects ρ os′ (tables s) → (n : ℕ) (e : End) (h : List Event) (st : RunState) → Based W st
+        → AtTerminator W r ρ n e h st → Q ρ os′ n e h st) → Leads W r r ks (tables s) Q
     lead Q f = leads-map W _ Q (blocks-lead W r (dg .in-range) (tables s)) f
 
     unreachable-came : region (W .g) r .terminator ≡ unreachable → Came W s₀ r ks [] s
@@ -83,7 +86,8 @@ module _ (W : World) where
       set = record { distinct = tt; entries = λ e i. absurd i };
     }
 
-    return-came : (vs : List Value) → region (W .g) r .terminator ≡ return vs → TerminatorUsable (W .g) r (return vs) → Came W s₀ r ks (record { target = to-return; accumulated-count = 0; target-inputs = vs; condition = true-cond } ∷ []) s
+    return-came : (vs : List Value) → region (W .g) r .terminator ≡ return vs → TerminatorUsable (W .g) r (return vs)
+        → Came W s₀ r ks (record { target = to-return; accumulated-count = 0; target-inputs = vs; condition = true-cond } ∷ []) s
     return-came vs p (us, len) = record {
       doing = dg;
       sim = (lead _ λ ρ os′ res n e h st bs at.
@@ -92,23 +96,29 @@ module _ (W : World) where
           let e₂ = both .1 in
           let rd = reads-of W r (dg .in-range) ρ (at .graph) st (at .agree) vs us in
           let ps = at .agree .events in
-          single-goes W ρ os′ (tables s) res n e h st bs (record { target = to-return; accumulated-count = 0; target-inputs = vs; condition = true-cond }) refl (sym e₁ ∙ ap returned rd, sym e₂ ∙ ps));
+          one-goes W ρ os′ (tables s) res n e h st bs (record { target = to-return; accumulated-count = 0; target-inputs = vs; condition = true-cond }) refl
+          (sym e₁ ∙ ap returned rd, sym e₂ ∙ ps));
       set = record { distinct = ((λ y i. absurd i), tt); entries = one };
     }
       where
-        one : (e : DeferredEdgeBundle) → (e ≡ record { target = to-return; accumulated-count = 0; target-inputs = vs; condition = true-cond }) ⊎ ⊥ → EntryOk W (tables s) r (ar W r) ks e
+        one : (e : DeferredEdgeBundle) → (e ≡ record { target = to-return; accumulated-count = 0; target-inputs = vs; condition = true-cond }) ⊎ ⊥
+            → EntryOk W (tables s) r (ar W r) ks e
         one e (inl q) = rw q (record { fits = len; inputs = usable-all W r (tables s) vs us; condition = record { is = tt } })
         one e (inr no-way) = absurd no-way
 
-    onward-to : (ed : Edge) → EdgeUsable (W .g) r ed → (ρ : Resolver) (n fewer : ℕ) → fewer < n → (e : End) (h : List Event) (a st : RunState) → Agree ρ r (ar W r) (total 0 (region (W .g) r .blocks)) a st
+    onward-to : (ed : Edge) → EdgeUsable (W .g) r ed → (ρ : Resolver) (n fewer : ℕ) → fewer < n → (e : End) (h : List Event) (a st : RunState)
+        → Agree ρ r (ar W r) (total 0 (region (W .g) r .blocks)) a st
         → from-region W fewer (ed .target) (map (a .env) (ed .inputs)) (a .events) ≡ ends-with e h → OnwardTo W ρ st n e h (to-region (ed .target)) (ed .inputs)
     onward-to ed eo ρ n fewer is-fewer e h a st ag gr = (fewer, is-fewer, eo .many, rw (reads-of W r (dg .in-range) ρ a st ag (ed .inputs) (eo .inputs), ag .events) at gr)
 
-    branch-post : (ed : Edge) → region (W .g) r .terminator ≡ branch ed → EdgeUsable (W .g) r ed → (c : MaybeClaimedRegion) → CaseOk W s₀ r ks s c → Steers W (tables s) (ed .target) (ed .inputs) c → IfDone (λ x s′. Came W s₀ r (x .children) (x .deferred-edges) s′) (append-maybe-claimed-region ks c s)
+    branch-post : (ed : Edge) → region (W .g) r .terminator ≡ branch ed → EdgeUsable (W .g) r ed → (c : MaybeClaimedRegion) → CaseOk W s₀ r ks s c
+        → EdgeEnters W (tables s) (ed .target) (ed .inputs) c → IfDone (λ x s′. Came W s₀ r (x .children) (x .deferred-edges) s′) (append-maybe-claimed-region ks c s)
     branch-post ed p eo c c-ok stc = map-post (append-maybe-claimed-region ks c s) (append-post W s₀ r ks c s dg (tail c c-ok)) λ y s′ ad.
-        subst (λ k. Came W s₀ r k (y .deferred-edges) s′) (sym (ad .kids-is)) (subst (λ d. Came W s₀ r (join ks (children-in c)) d s′) (sym (ad .set-is)) (record {
+        subst (λ k. Came W s₀ r k (y .deferred-edges) s′) (sym (ad .children-is)) (subst (λ d. Came W s₀ r (join ks (children-in c)) d s′) (sym (ad .set-is)) (record {
           doing = ad .doing;
-          sim = append-sim W s₀ r ks c s y s′ c-ok ad (lead _ λ ρ os′ res n e h st bs at. stc .steer ρ os′ res n e h st bs (onward-to ed eo ρ n (at .fewer) (at .is-fewer) e h (at .graph) st (at .agree) (rw p at (at .ends))));
+          sim = append-sim W s₀ r ks c s y s′ c-ok ad
+              (lead _ λ ρ os′ res n e h st bs at. stc .enters ρ os′ res n e h st bs
+              (onward-to ed eo ρ n (at .fewer) (at .is-fewer) e h (at .graph) st (at .agree) (rw p at (at .ends))));
           set = ad .set;
         }))
       where
@@ -116,7 +126,8 @@ module _ (W : World) where
         tail (ok c) h = record { holds = h .is .holds; since = h .is .since; inputs = h .is .inputs; other = h .is .other }
         tail (err d) h = h .is
 
-    exit-post : (op : ℕ) (vs : List Value) → region (W .g) r .terminator ≡ exit-invocation op vs → AllUsable r (ar W r) (total 0 (region (W .g) r .blocks)) vs → IfDone (λ x s′. Came W s₀ r (x .children) (x .deferred-edges) s′) (by-control-inst (W .g) ks (exit-invocation op vs) cs s)
+    exit-post : (op : ℕ) (vs : List Value) → region (W .g) r .terminator ≡ exit-invocation op vs → AllUsable r (ar W r) (total 0 (region (W .g) r .blocks)) vs
+        → IfDone (λ x s′. Came W s₀ r (x .children) (x .deferred-edges) s′) (by-control-inst (W .g) ks (exit-invocation op vs) cs s)
     exit-post op vs p us =
         bind (define-node s) _ (define-node-post s) λ n s₁ hn.
         let gr = hn .2 in
@@ -129,7 +140,7 @@ module _ (W : World) where
               step = dg₁ .step;
               began = dg₁ .began;
               busy = dg₁ .busy;
-              unlogged = dg₁ .unlogged;
+              unrewritten = dg₁ .unrewritten;
               since = λ v o. dg₁ .since v (exit-owns ks n op vs v o);
               clear = λ v o. dg₁ .clear v (exit-owns ks n op vs v o);
             };
@@ -142,13 +153,15 @@ module _ (W : World) where
           };
         }
 
-    select-branch-post : (kind : SelectionKind) (v : Value) (es : List Edge) → region (W .g) r .terminator ≡ select-branch kind v es → TerminatorUsable (W .g) r (select-branch kind v es) → length cs ≡ length es
-        → ((j : ℕ) (ed : Edge) → nth es j ≡ some ed → (c : MaybeClaimedRegion) × (nth cs j ≡ some c) × Steers W (tables s) (ed .target) (ed .inputs) c)
+    select-branch-post : (kind : SelectionKind) (v : Value) (es : List Edge) → region (W .g) r .terminator ≡ select-branch kind v es
+        → TerminatorUsable (W .g) r (select-branch kind v es) → length cs ≡ length es
+        → ((j : ℕ) (ed : Edge) → nth es j ≡ some ed → (c : MaybeClaimedRegion) × (nth cs j ≡ some c) × EdgeEnters W (tables s) (ed .target) (ed .inputs) c)
         → IfDone (λ x s′. Came W s₀ r (x .children) (x .deferred-edges) s′) (structurize-select-into (W .g) ks kind (value v) cs s)
     select-branch-post kind v es p tu len steers =
         structurize-select-into-post W s₀ r ks kind (value v) cs s dg fit (λ T p u q. rw q (usable-scoped W r T v (tu .scrutinee))) (lead _ takes)
       where
-        takes : (ρ : Resolver) (os : List NodeOutput) → Respects ρ os (tables s) → (n : ℕ) (e : End) (h : List Event) (st : RunState) → Based W st → AtTerminator W r ρ n e h st → Takes W kind (value v) cs ρ os n e h st
+        takes : (ρ : Resolver) (os : List NodeOutput) → Respects ρ os (tables s) → (n : ℕ) (e : End) (h : List Event) (st : RunState) → Based W st
+            → AtTerminator W r ρ n e h st → Takes W kind (value v) cs ρ os n e h st
         takes ρ os res n e h st bs at = by (at .graph .env v) refl (rw p at (at .ends))
           where
             by : (x : Word) → at .graph .env v ≡ x → along (λ y vs h′. from-region W (at .fewer) y vs h′) (at .graph .env) (at .graph .events) (edge-taken kind x es) ≡ ends-with e h
@@ -163,12 +176,12 @@ module _ (W : World) where
                   place-of = j;
                   case-of = c .0;
                   at-place = c .1;
-                  enters = c .2 .steer ρ os res n e h st bs (onward-to ed (edge-at r es (tu .edges) j ed at-ed) ρ n (at .fewer) (at .is-fewer) e h (at .graph) st (at .agree) gr);
+                  enters = c .2 .enters ρ os res n e h st bs (onward-to ed (edge-at r es (tu .edges) j ed at-ed) ρ n (at .fewer) (at .is-fewer) e h (at .graph) st (at .agree) gr);
                   tests = λ u is. (x, ap (λ z. st .env (ρ z)) is ∙ sym (at .agree .reads v (tu .scrutinee)) ∙ q, rw len);
                 }
 
     pub by-control-inst-post : (tm : ControlInst) → region (W .g) r .terminator ≡ tm → TerminatorUsable (W .g) r tm → length cs ≡ length (edgesOf tm)
-        → ((j : ℕ) (ed : Edge) → nth (edgesOf tm) j ≡ some ed → (c : MaybeClaimedRegion) × (nth cs j ≡ some c) × Steers W (tables s) (ed .target) (ed .inputs) c)
+        → ((j : ℕ) (ed : Edge) → nth (edgesOf tm) j ≡ some ed → (c : MaybeClaimedRegion) × (nth cs j ≡ some c) × EdgeEnters W (tables s) (ed .target) (ed .inputs) c)
         → IfDone (λ x s′. Came W s₀ r (x .children) (x .deferred-edges) s′) (by-control-inst (W .g) ks tm cs s)
     by-control-inst-post unreachable p tok len steers = record { post = unreachable-came p }
     by-control-inst-post (return vs) p tok len steers = record { post = return-came vs p tok }
@@ -182,4 +195,4 @@ module _ (W : World) where
             let st = steers 0 ed refl in
             let z : some c ≡ some (st .0) = rw q at (st .1) in
             let e : st .0 ≡ c = cc in
-            branch-post ed p tok c (fit .each c (subst (λ m. In c m) (sym q) (inl refl))) (subst (λ y. Steers W (tables s) (ed .target) (ed .inputs) y) e (st .2))
+            branch-post ed p tok c (fit .each c (subst (λ m. In c m) (sym q) (inl refl))) (subst (λ y. EdgeEnters W (tables s) (ed .target) (ed .inputs) y) e (st .2))

@@ -6,13 +6,15 @@ use mathlib.Core.Option.{Option, none, some}
 use mathlib.Core.Path.{_∙_, _≡_, ap, refl, subst, sym}
 use Prim.Native.Nat.{_+_, _<_, _≤_, suc, zero, ℕ}
 use native.Mathlib.Omega.{arith}
-use lib.Dec.{eqb, eqb→eq, leb, leb→le, nleb→lt}
-use lib.ListN.{List·getD-eq-default, getD, length, length-map, set}
+use lib.Dec.{eqb, leb}
+use lib.ListN.{List·getD-eq-default, getD, length, length-map}
+use borrow.Author.Tests.{eqb-true, leb-false, leb-true, ne-eqb}
 use Rattle.meaning.specs.Form.{Nodes, _▸_, loop, ⟨⟩}
 use Rattle.meaning.specs.Graph.{Value, bool, input, pick, region, undef}
 use Rattle.format.specs.ReadLaws.{clash}
 use Rattle.nesting.specs.BundleSet.{get-by-target, is-always, same-target, split-out-target}
 use Rattle.nesting.specs.Case.{ClaimedRegion}
+use Rattle.nesting.specs.CaseGraphs.{A}
 use Rattle.nesting.specs.Change.{define-node, define-region, set-state, with-twice}
 use Rattle.nesting.specs.Claim.{backedge-of, claim-body, claim-by-state}
 use Rattle.nesting.specs.Cond.{materialize-lazy-cond}
@@ -22,40 +24,35 @@ use Rattle.nesting.specs.Loop.{LoopInputs, structurize-loop, take-inputs}
 use Rattle.nesting.specs.Post.{bind}
 use Rattle.nesting.specs.Rewrite.{any, meets, rewrite, rewrite-chain, rewrite-values, rewrites-of, step-input}
 use Rattle.nesting.specs.State.{Answer, InputRewrite, NestState, NodeOutput, Step, _>>_, claimed, give, ready, renumber-or-replace-with, renumber-to, replace-by}
-use Rattle.follows.specs.Small.{In, entry-keeps, eqb-self, or-either}
-use Rattle.follows.specs.Key.{Key, held-key, is-held, of-held, of-instr, of-node, of-none, owns, owns-nodes}
+use Rattle.follows.specs.Small.{In, entry-keeps, eqb-self, false-if, or-either}
+use Rattle.follows.specs.Key.{Key, held-key, is-held, of-held, owns-nodes}
 use Rattle.follows.specs.World.{Fits, World, ar, size}
 use Rattle.follows.specs.Tables.{Extends, Resolver, Respects, Tables, extends-refl, extends-then, laws-last, lookup-keeps, respects-back, tables}
 use Rattle.follows.specs.Conditions.{Mat, mat-stays}
 use Rattle.follows.specs.Leads.{Sim, leads-on}
 use Rattle.follows.specs.Bundles.{Distinct, find-in, found-in, same-target-sym, same-target→eq}
-use Rattle.follows.specs.LoopFollows.{SlotOk, loop-sim}
+use Rattle.follows.specs.LoopFollows.{HeaderInput, loop-sim}
 use Rattle.follows.specs.Final.{NotOf, at-slot, gives, held-stays, step-none}
 use Rattle.follows.specs.Defined.{Grew, IfDone, Materialized, define-node-post, define-region-post, grew-then, materialize-post}
 use Rattle.follows.specs.Scope.{EntryOk, InScope, SetOk, Within, own-input, owned}
-use Rattle.follows.specs.Invariant.{Inv, Later, Loggable, New, Owned, Wild, idle, inv-grew, inv-log, later-grew, later-log, later-refl, later-then, logging, new, old, unborn, waiting}
-use Rattle.follows.specs.StateChanges.{inv-busy, later-busy, new-was, not-loggable, not-r, now, owned-was, still, turned}
+use Rattle.follows.specs.Invariant.{Free, Inv, Later, New, Owned, Rewritable, free⁺, idle, inv-grew, inv-rewrite, later-grew, later-refl, later-rewrite, later-then, new, old, rewritable⁺, rewriting, unborn, waiting}
+use Rattle.follows.specs.StateChanges.{changed, inv-busy, later-busy, new-was, not-r, not-rewritable, now, owned-was, still}
 use Rattle.follows.specs.Holding.{Holds, Since}
 use Rattle.follows.specs.EnterCase.{getD-rewritten}
 use Rattle.follows.specs.Append.{set-through}
 use Rattle.follows.specs.LoopParts.{KeptOrLifted, Renumbered, SameBundle, leaving, leaving-distinct, leaving-from, leaving-in, renumbered}
 
-eqb-above : (w r : ℕ) → r < w → eqb w r ≡ false
-eqb-above w r lt = go (eqb w r) refl
-  where
-    go : (b : Bool) → eqb w r ≡ b → b ≡ false
-    go false p = refl
-    go true p = absurd (let e : w ≡ r = eqb→eq w r (rw p tt) in omega arith)
-
-loop-owns : (n : ℕ) (init : List Value) (r : ℕ) (tys : List ℕ) (limit : ℕ) (ks : Nodes) (os : List Value) (rep : Value) (v : Key) → owns-nodes (loop n init r tys limit ks os rep ▸ ⟨⟩) v ≡ true → (v ≡ of-held r) ⊎ (owns-nodes ks v ≡ true)
+loop-owns : (n : ℕ) (init : List Value) (r : ℕ) (tys : List ℕ) (limit : ℕ) (ks : Nodes) (os : List Value) (rep : Value) (κ : Key)
+    → owns-nodes (loop n init r tys limit ks os rep ▸ ⟨⟩) κ ≡ true → (κ ≡ of-held r) ⊎ (owns-nodes ks κ ≡ true)
 unfolding owns-nodes
-loop-owns n init r tys limit ks os rep v o = go (or-either (is-held r v) (owns-nodes ks v) (sym (or-false (is-held r v || owns-nodes ks v)) ∙ o))
+loop-owns n init r tys limit ks os rep κ o = go (or-either (is-held r κ) (owns-nodes ks κ) (sym (or-false (is-held r κ || owns-nodes ks κ)) ∙ o))
   where
-    go : (is-held r v ≡ true) ⊎ (owns-nodes ks v ≡ true) → (v ≡ of-held r) ⊎ (owns-nodes ks v ≡ true)
-    go (inl p) = inl (held-key r v p)
+    go : (is-held r κ ≡ true) ⊎ (owns-nodes ks κ ≡ true) → (κ ≡ of-held r) ⊎ (owns-nodes ks κ ≡ true)
+    go (inl p) = inl (held-key r κ p)
     go (inr p) = inr p
 
-loop-held : (n : ℕ) (init : List Value) (r : ℕ) (tys : List ℕ) (limit : ℕ) (ks : Nodes) (os : List Value) (rep : Value) → owns-nodes (loop n init r tys limit ks os rep ▸ ⟨⟩) (of-held r) ≡ true
+loop-held : (n : ℕ) (init : List Value) (r : ℕ) (tys : List ℕ) (limit : ℕ) (ks : Nodes) (os : List Value) (rep : Value)
+    → owns-nodes (loop n init r tys limit ks os rep ▸ ⟨⟩) (of-held r) ≡ true
 unfolding owns-nodes
 loop-held n init r tys limit ks os rep = rw (eqb-self r)
 
@@ -89,7 +86,7 @@ module _ (W : World) where
     was = rw is-ready
 
     abbrev s₁ : NestState
-    s₁ = turned W s r claimed h r-in
+    s₁ = changed W s r claimed h r-in
 
     inv₁ : Inv W s₁
     inv₁ = inv-busy W s r claimed h r-in was refl
@@ -97,28 +94,25 @@ module _ (W : World) where
     step₁ : Later W s s₁
     step₁ = later-busy W s r claimed h r-in was refl
 
-    mine : (v : Key) → owns-nodes ks v ≡ true → Owned s v
-    mine v o = record { region = r; back = b; children = ks; deferred-edges = d; is = is-ready; owns = o }
+    mine : (κ : Key) → owns-nodes ks κ ≡ true → Owned s κ
+    mine κ o = record { region = r; back = b; children = ks; deferred-edges = d; is = is-ready; owns = o }
 
     unheld : New s (of-held r)
     unheld = rw is-ready
 
-    clear₁ : (v : Key) → owns-nodes ks v ≡ true → Wild s₁ v → ⊥
-    clear₁ v o (new n) = h .fresh v (mine v o) (new-was W s r claimed h r-in was refl v n)
-    clear₁ v o (old x) =
-        h .disjoint (x .region) r (x .back) b (x .children) ks (x .deferred-edges) d (still W s r claimed h r-in was refl (x .region) (x .back) (x .children) (x .deferred-edges) (x .is)) is-ready
-        (not-r W s r claimed h r-in was refl (x .region) (x .back) (x .children) (x .deferred-edges) (x .is)) v (x .owns) o
+    clear₁ : (κ : Key) → owns-nodes ks κ ≡ true → Free s₁ κ → ⊥
+    clear₁ κ o (new n) = h .fresh κ (mine κ o) (new-was W s r claimed h r-in was refl κ n)
+    clear₁ κ o (old x) =
+        h .disjoint (x .region) r (x .back) b (x .children) ks (x .deferred-edges) d
+        (still W s r claimed h r-in was refl (x .region) (x .back) (x .children) (x .deferred-edges) (x .is)) is-ready
+        (not-r W s r claimed h r-in was refl (x .region) (x .back) (x .children) (x .deferred-edges) (x .is)) κ (x .owns) o
 
-    held₁ : Wild s₁ (of-held r) → ⊥
+    held₁ : Free s₁ (of-held r) → ⊥
     held₁ (new n) = let z : true ≡ false = rw (now W s r claimed h r-in) at n in clash (cc)
     held₁ (old x) = h .fresh (of-held r) (owned-was W s r claimed h r-in was refl (of-held r) x) unheld
 
     held-apart : owns-nodes ks (of-held r) ≡ false
-    held-apart = go (owns-nodes ks (of-held r)) refl
-      where
-        go : (x : Bool) → owns-nodes ks (of-held r) ≡ x → x ≡ false
-        go false p = refl
-        go true p = absurd (h .fresh (of-held r) (mine (of-held r) p) unheld)
+    held-apart = false-if (owns-nodes ks (of-held r)) (λ p. h .fresh (of-held r) (mine (of-held r) p) unheld)
 
     -- ---- no loop
     abbrev plainly-claimed : List Value → ClaimedRegion
@@ -129,8 +123,8 @@ module _ (W : World) where
       inv = inv₁;
       step = step₁;
       got = (
-        record { sim = h .sims r b ks d is-ready; set = h .sets r b ks d is-ready; clear = clear₁; closed = not-loggable W s r claimed h r-in was refl; unlogged = h .unlogged r (waiting r-in was) },
-        record { kids = λ v o. old (mine v o); region = waiting r-in was },
+        record { sim = h .sims r b ks d is-ready; set = h .sets r b ks d is-ready; clear = clear₁; closed = not-rewritable W s r claimed h r-in was refl; unrewritten = h .unrewritten r (waiting r-in was) },
+        record { children = λ v o. old (mine v o); region = waiting r-in was },
         refl,
         refl,
       );
@@ -181,23 +175,23 @@ module _ (W : World) where
         r-w = omega (arith, h .room, w-is)
 
         ne : eqb w r ≡ false
-        ne = eqb-above w r r-w
+        ne = ne-eqb w r (λ p. omega (arith, r-w))
 
-        w-open : Loggable W s w
+        w-open : Rewritable W s w
         w-open = unborn (omega (arith, w-is))
 
-        closed₃ : Loggable W s₃ w → ⊥
+        closed₃ : Rewritable W s₃ w → ⊥
         closed₃ (unborn le) = omega (arith, w-next)
         closed₃ (waiting lt p) = omega (arith, h .room, w-is)
 
-        r-closed₃ : Loggable W s₃ r → ⊥
-        r-closed₃ l = not-loggable W s r claimed h r-in was refl (later-grew W gr₃ .loggable r l)
+        r-closed₃ : Rewritable W s₃ r → ⊥
+        r-closed₃ l = not-rewritable W s r claimed h r-in was refl (later-grew W gr₃ .rewritable r l)
 
-        r-unlogged₃ : rewrites-of (s₃ .region-input-rewrites) r ≡ none
-        r-unlogged₃ = rw (gr₂ .rewrites) (h .unlogged r (waiting r-in was))
+        r-unrewritten₃ : rewrites-of (s₃ .region-input-rewrites) r ≡ none
+        r-unrewritten₃ = rw (gr₂ .rewrites) (h .unrewritten r (waiting r-in was))
 
-        w-unlogged₃ : rewrites-of (s₃ .region-input-rewrites) w ≡ none
-        w-unlogged₃ = rw (gr₂ .rewrites) (h .unlogged w w-open)
+        w-unrewritten₃ : rewrites-of (s₃ .region-input-rewrites) w ≡ none
+        w-unrewritten₃ = rw (gr₂ .rewrites) (h .unrewritten w w-open)
 
         rn : Renumbered (W .g) r w vs (length vs) x
         rn = renumbered (W .g) r w vs
@@ -206,7 +200,7 @@ module _ (W : World) where
         n-vs = length-map (e .target-inputs) (rewrite (s₂ .region-input-rewrites)) ∙ e-arity
 
         abbrev s₄ : NestState
-        s₄ = logging W r (renumber-or-replace-with (x .rewrites)) s₃
+        s₄ = rewriting W r (renumber-or-replace-with (x .rewrites)) s₃
 
         gives-not : (k : ℕ) → NotOf r (rewrite-chain (inv₃ .ends .steps) (s₃ .region-input-rewrites) (gives r k (renumber-or-replace-with (x .rewrites))))
         gives-not k = by (getD (x .rewrites) k (renumber-to k)) refl
@@ -217,28 +211,29 @@ module _ (W : World) where
               where
                 at : (o : Bool) → leb (suc k) (length vs) ≡ o → NotOf r (rewrite-chain (inv₃ .ends .steps) (s₃ .region-input-rewrites) v)
                 at true q =
-                    let lt : k < length vs = leb→le (suc k) (length vs) (rw q tt) in
+                    let lt : k < length vs = leb-true (suc k) (length vs) q in
                     let g : KeptOrLifted (W .g) r w vs x k (replace-by v) = subst (λ z. KeptOrLifted (W .g) r w vs x k z) p (rn .good k lt) in
-                    rw (g .0, step-none (s₃ .region-input-rewrites) (inv₃ .ends .steps) w k w-unlogged₃) ne
+                    rw (g .0, step-none (s₃ .region-input-rewrites) (inv₃ .ends .steps) w k w-unrewritten₃) ne
                 at false q =
-                    let ge : length vs ≤ k = let z = nleb→lt (suc k) (length vs) (rw q tt) in omega arith in
+                    let ge : length vs ≤ k = let z = leb-false (suc k) (length vs) q in omega arith in
                     let z : getD (x .rewrites) k (renumber-to k) ≡ renumber-to k = List·getD-eq-default (x .rewrites) (renumber-to k) (omega (arith, rn .many)) in
                     absurd (let z′ : renumber-to k ≡ replace-by v = sym z ∙ p in clash (cc))
 
         inv₄ : Inv W s₄
-        inv₄ = inv-log W s₃ r (renumber-or-replace-with (x .rewrites)) inv₃ r-unlogged₃ r-closed₃ gives-not
+        inv₄ = inv-rewrite W s₃ r (renumber-or-replace-with (x .rewrites)) inv₃ r-unrewritten₃ r-closed₃ gives-not
 
         step₄ : Later W s s₄
-        step₄ = later-log W s₃ r (renumber-or-replace-with (x .rewrites)) step₃ (waiting r-in was)
+        step₄ = later-rewrite W s₃ r (renumber-or-replace-with (x .rewrites)) step₃ (waiting r-in was)
 
         -- how a header's input goes on
-        slot-ok : (os₅ : List NodeOutput) (ρ : Resolver) (os : List NodeOutput) → Respects ρ os (record { rewrites = s₃ .region-input-rewrites; outputs = os₅ }) → (k : ℕ) → k < ar W r → SlotOk W ρ r w (e .target-inputs) (x .initial-inputs) (x .outputs) k (getD (x .rewrites) k (renumber-to k))
-        slot-ok os₅ ρ os res k lt = by (getD (x .rewrites) k (renumber-to k)) (rn .good k (omega (arith, n-vs)))
+        header-input : (os₅ : List NodeOutput) (ρ : Resolver) (os : List NodeOutput) → Respects ρ os (record { rewrites = s₃ .region-input-rewrites; outputs = os₅ })
+            → (k : ℕ) → k < ar W r → HeaderInput W ρ r w (e .target-inputs) (x .initial-inputs) (x .outputs) k (getD (x .rewrites) k (renumber-to k))
+        header-input os₅ ρ os res k lt = by (getD (x .rewrites) k (renumber-to k)) (rn .good k (omega (arith, n-vs)))
           where
             look : ρ (getD vs k (undef 0)) ≡ ρ (getD (e .target-inputs) k (undef 0))
             look = ap ρ (getD-rewritten W (s₂ .region-input-rewrites) (e .target-inputs) k) ∙ lookup-keeps res (getD (e .target-inputs) k (undef 0))
 
-            by : (sl : InputRewrite) → KeptOrLifted (W .g) r w vs x k sl → SlotOk W ρ r w (e .target-inputs) (x .initial-inputs) (x .outputs) k sl
+            by : (sl : InputRewrite) → KeptOrLifted (W .g) r w vs x k sl → HeaderInput W ρ r w (e .target-inputs) (x .initial-inputs) (x .outputs) k sl
             by (replace-by v) (p, q) = (p, sym look ∙ ap ρ q)
             by (renumber-to i) (l, p, l′, q) = (l, p, l′, ap ρ q ∙ look)
 
@@ -259,8 +254,9 @@ module _ (W : World) where
           unfolding Mat
           repeats os pre = by (is-always d) refl (hm .mat)
             where
-              by : (o : Bool) → is-always d ≡ o → Mat (pick o true-cond (e .condition)) (s₅ .node-outputs) v → Mat (e .condition) os v ⊎ ((v ≡ bool true) × ((y : DeferredEdgeBundle) → In y d → y ≡ e))
-              by true p mt = inr (mt, λ y i. alone d (eqb→eq (length d) 1 (rw p tt)) e y back-in i)
+              by : (o : Bool) → is-always d ≡ o → Mat (pick o true-cond (e .condition)) (s₅ .node-outputs) v
+                  → Mat (e .condition) os v ⊎ ((v ≡ bool true) × ((y : DeferredEdgeBundle) → In y d → y ≡ e))
+              by true p mt = inr (mt, λ y i. alone d (eqb-true (length d) 1 p) e y back-in i)
               by false p mt = inl (mat-stays (e .condition) (s₅ .node-outputs) os pre v mt)
 
           abbrev T₅ : Tables
@@ -269,14 +265,15 @@ module _ (W : World) where
           looped-sim : Sim W r w looped (leaving r exits d) (record { rewrites = s₄ .region-input-rewrites; outputs = s₅ .node-outputs })
           looped-sim = loop-sim W r w ks d T₅ e (x .rewrites) (x .initial-inputs) (x .outputs) (x .types) n (region (W .g) r .limit) v (leaving r exits d)
               (leads-on W (record { rewrites = step₃ .gains .rewrites; outputs = extends-then (step₄ .gains .outputs) (hm .grew .outputs) }) (h .sims r b ks d is-ready))
-              back-target only-back back-in e-arity (slot-ok (s₅ .node-outputs)) repeats
+              back-target only-back back-in e-arity (header-input (s₅ .node-outputs)) repeats
               (λ y i ne′. let z = leaving-in r exits d y i (same-target-sym (to-region r) (y .target) ∙ ne′) in (z .0, z .1, z .2 .target, z .2 .inputs, z .2 .condition))
               (λ z i. let y = leaving-from r exits d z i in (y .0, y .1, y .2 .target, y .2 .condition))
               held-apart
 
           through : (ρ : Resolver) (os : List NodeOutput) → Respects ρ os (tables s₆) → (k : ℕ) → k < ar W r → InScope ρ os w (ar W r) looped (ρ (input r k))
           through ρ os res k lt =
-              let law : ρ (input r k) ≡ step-input ρ r (getD (x .rewrites) k (renumber-to k)) = laws-last (s₃ .region-input-rewrites) _ refl (respects-back (later-grew W gr₄₆ .gains) res) .0 k in
+              let law : ρ (input r k) ≡ step-input ρ r (getD (x .rewrites) k (renumber-to k)) = laws-last (s₃ .region-input-rewrites) _ refl
+              (respects-back (later-grew W gr₄₆ .gains) res) .0 k in
               rw law (by (getD (x .rewrites) k (renumber-to k)) (rn .good k (omega (arith, n-vs))))
             where
               by : (sl : InputRewrite) → KeptOrLifted (W .g) r w vs x k sl → InScope ρ os w (ar W r) looped (step-input ρ r sl)
@@ -285,41 +282,34 @@ module _ (W : World) where
 
           looped-set : SetOk W (tables s₆) w (ar W r) looped (leaving r exits d)
           looped-set =
-              let all = set-through (step₆ .gains) (loop-within n (x .initial-inputs) r (x .types) (region (W .g) r .limit) ks (x .outputs) v) through W d (h .sets r b ks d is-ready) in
+              let all = set-through (step₆ .gains) (loop-within n (x .initial-inputs) r (x .types) (region (W .g) r .limit) ks (x .outputs) v) through W d
+              (h .sets r b ks d is-ready) in
               record {
                 distinct = leaving-distinct r exits d dist;
                 entries = λ z i. entry z (leaving-from r exits d z i) all;
               }
             where
-              entry : (z : DeferredEdgeBundle) → (y : DeferredEdgeBundle) × In y d × SameBundle y z → SetOk W (tables s₆) w (ar W r) looped d → EntryOk W (tables s₆) w (ar W r) looped z
+              entry : (z : DeferredEdgeBundle) → (y : DeferredEdgeBundle) × In y d × SameBundle y z → SetOk W (tables s₆) w (ar W r) looped d
+                  → EntryOk W (tables s₆) w (ar W r) looped z
               entry z (y, i, bm) all =
                   let y-ok = all .entries y i in
                   record { fits = rw (bm .target, bm .inputs) (y-ok .fits); inputs = λ k. rw (bm .inputs) (y-ok .inputs k); condition = rw (bm .condition) (y-ok .condition) }
 
-          looped-clear : (u : Key) → owns-nodes looped u ≡ true → Wild s₆ u → ⊥
-          looped-clear u o wd = by (loop-owns n (x .initial-inputs) r (x .types) (region (W .g) r .limit) ks (x .outputs) v u o)
+          looped-clear : (κ : Key) → owns-nodes looped κ ≡ true → Free s₆ κ → ⊥
+          looped-clear κ o wd = by (loop-owns n (x .initial-inputs) r (x .types) (region (W .g) r .limit) ks (x .outputs) v κ o)
             where
-              wd₁ : Wild s₁ u
-              wd₁ = later-grew W gr₃ .wild u (at₃ (later-grew W gr₄₆ .wild u wd))
-                where
-                  at-new : (u : Key) → New s₄ u → New s₃ u
-                  at-new (of-instr q) m = m
-                  at-new (of-held q) m = m
-                  at-new (of-node a) m = m
-                  at-new of-none m = m
+              wd₁ : Free s₁ κ
+              wd₁ = later-grew W gr₃ .free κ (free⁺ W s₃ r (renumber-or-replace-with (x .rewrites)) κ (later-grew W gr₄₆ .free κ wd))
 
-                  at₃ : Wild s₄ u → Wild s₃ u
-                  at₃ (old y) = old (record { region = y .region; back = y .back; children = y .children; deferred-edges = y .deferred-edges; is = y .is; owns = y .owns })
-                  at₃ (new m) = new (at-new u m)
+              by : (κ ≡ of-held r) ⊎ (owns-nodes ks κ ≡ true) → ⊥
+              by (inl p) = held₁ (subst (λ z. Free s₁ z) p wd₁)
+              by (inr p) = clear₁ κ p wd₁
 
-              by : (u ≡ of-held r) ⊎ (owns-nodes ks u ≡ true) → ⊥
-              by (inl p) = held₁ (subst (λ z. Wild s₁ z) p wd₁)
-              by (inr p) = clear₁ u p wd₁
+          w-unrewritten₆ : rewrites-of (s₆ .region-input-rewrites) w ≡ none
+          w-unrewritten₆ = rw (gr₄₆ .rewrites) (entry-keeps (s₃ .region-input-rewrites) _ w ne w-unrewritten₃)
 
-          w-unlogged₆ : rewrites-of (s₆ .region-input-rewrites) w ≡ none
-          w-unlogged₆ = rw (gr₄₆ .rewrites) (entry-keeps (s₃ .region-input-rewrites) _ w ne w-unlogged₃)
-
-          pub loop-done : ClaimDone r ins s (some (record { origin = r; structured-body = w; structured-body-inputs = ins; children = looped; deferred-edges = leaving r exits d })) s₆
+          pub loop-done : ClaimDone r ins s
+              (some (record { origin = r; structured-body = w; structured-body-inputs = ins; children = looped; deferred-edges = leaving r exits d })) s₆
           loop-done = record {
             inv = inv-grew W gr₄₆ inv₄;
             step = step₆;
@@ -328,32 +318,30 @@ module _ (W : World) where
                 sim = leads-on W (record { rewrites = later-grew W gr₄₆ .gains .rewrites; outputs = gr₆ .outputs }) looped-sim;
                 set = looped-set;
                 clear = looped-clear;
-                closed = λ l. closed₄ (later-grew W gr₄₆ .loggable w l);
-                unlogged = w-unlogged₆;
+                closed = λ l. closed₃ (rewritable⁺ W s₃ r (renumber-or-replace-with (x .rewrites)) w (later-grew W gr₄₆ .rewritable w l));
+                unrewritten = w-unrewritten₆;
               },
-              record { kids = λ u o. since u (loop-owns n (x .initial-inputs) r (x .types) (region (W .g) r .limit) ks (x .outputs) v u o); region = w-open },
+              record { children = λ u o. since u (loop-owns n (x .initial-inputs) r (x .types) (region (W .g) r .limit) ks (x .outputs) v u o); region = w-open },
               refl,
               refl,
             );
           }
             where
-              closed₄ : Loggable W s₄ w → ⊥
-              closed₄ (unborn le) = closed₃ (unborn le)
-              closed₄ (waiting lt p) = closed₃ (waiting lt p)
-
-              since : (u : Key) → (u ≡ of-held r) ⊎ (owns-nodes ks u ≡ true) → Wild s u
-              since u (inl p) = rw p (new unheld)
-              since u (inr p) = old (mine u p)
+              since : (κ : Key) → (κ ≡ of-held r) ⊎ (owns-nodes ks κ ≡ true) → Free s κ
+              since κ (inl p) = rw p (new unheld)
+              since κ (inr p) = old (mine κ p)
 
       pub structurize-loop-post : IfDone (ClaimDone r ins s) (structurize-loop (W .g) r ks e (pick (is-always d) true-cond (e .condition)) (split-out-target (to-region r) d) ins s₁)
       unfolding structurize-loop rewrite-values
       structurize-loop-post =
           bind (define-region s₁) _ (define-region-post s₁) λ w s₂ hw.
-          bind (materialize-lazy-cond (pick (is-always d) true-cond (e .condition)) (s₄ w s₂ (hw .0) (hw .1) (hw .2))) _ (materialize-post (pick (is-always d) true-cond (e .condition)) (s₄ w s₂ (hw .0) (hw .1) (hw .2))) λ v s₅ hm.
+          bind (materialize-lazy-cond (pick (is-always d) true-cond (e .condition)) (s₄ w s₂ (hw .0) (hw .1) (hw .2))) _
+          (materialize-post (pick (is-always d) true-cond (e .condition)) (s₄ w s₂ (hw .0) (hw .1) (hw .2))) λ v s₅ hm.
           bind (define-node s₅) _ (define-node-post s₅) λ n s₆ hn.
           record { post = loop-done w s₂ (hw .0) (hw .1) (hw .2) v s₅ hm n s₆ (hn .2) }
 
-    claim-body-post : (ins : List Value) (o : Option DeferredEdgeBundle) → ((e : DeferredEdgeBundle) → o ≡ some e → get-by-target (to-region r) d ≡ some e) → IfDone (ClaimDone r ins s) (claim-body (W .g) r ins ks d o s₁)
+    claim-body-post : (ins : List Value) (o : Option DeferredEdgeBundle) → ((e : DeferredEdgeBundle) → o ≡ some e → get-by-target (to-region r) d ≡ some e)
+        → IfDone (ClaimDone r ins s) (claim-body (W .g) r ins ks d o s₁)
     claim-body-post ins none f = record { post = plain-done ins }
     claim-body-post ins (some e) f = structurize-loop-post ins e (f e refl)
 
@@ -364,6 +352,7 @@ module _ (W : World) where
         found zero e p = absurd (clash (cc))
         found (suc i) e p = p
 
-        go : (o : Bool) → IfDone (ClaimDone r ins s) (at-state {A = Option ClaimedRegion} (elim o [ false ↦ give none | true ↦ set-state r claimed >> claim-body (W .g) r ins ks d (backedge-of r b d) ]) s)
+        go : (o : Bool) → IfDone (ClaimDone r ins s)
+            (at-state {A = Option ClaimedRegion} (elim o [ false ↦ give none | true ↦ set-state r claimed >> claim-body (W .g) r ins ks d (backedge-of r b d) ]) s)
         go false = record { post = record { inv = h; step = later-refl W s; got = tt } }
         go true = claim-body-post ins (backedge-of r b d) (found b)

@@ -1,6 +1,6 @@
 -- The invariant through structurize-region and try-claim-edge-bundle.
 use mathlib.Core.Bool.{Bool, false, true}
-use mathlib.Core.List.{List, []}
+use mathlib.Core.List.{List}
 use mathlib.Core.Option.{Option, none, some}
 use mathlib.Core.Path.{_∙_, _≡_, refl, subst, sym}
 use Prim.Native.Nat.{_<_, suc, zero, ℕ}
@@ -23,8 +23,8 @@ use Rattle.follows.specs.Key.{of-instr}
 use Rattle.follows.specs.World.{Live, World, size}
 use Rattle.follows.specs.Tables.{extends-refl}
 use Rattle.follows.specs.Defined.{Grew, IfDone}
-use Rattle.follows.specs.Invariant.{Inv, Later, Wild, idle, inv-grew, later-grew, later-refl, later-then, new, old, waiting}
-use Rattle.follows.specs.StateChanges.{blocks-own, inv-busy, later-busy, now, owned-was, turned}
+use Rattle.follows.specs.Invariant.{Free, Inv, Later, idle, inv-grew, later-grew, later-refl, later-then, new, old, waiting}
+use Rattle.follows.specs.StateChanges.{blocks-own, changed, inv-busy, later-busy, now, owned-was}
 use Rattle.follows.specs.Holding.{Doing, doing-on, inv-ready, later-ready}
 use Rattle.follows.specs.ClaimReady.{ClaimDone, at-state, claim-ready-post}
 use Rattle.follows.specs.TargetRegions.{ClaimOk, cases-back, in-targets, since-back, target-regions-post}
@@ -32,11 +32,12 @@ use Rattle.follows.specs.ByTerminator.{by-control-inst-post}
 use Rattle.follows.specs.Scan.{resolve-deferred-post}
 
 module _ (W : World) where
-  not-wild : (r : ℕ) (r-in : r < size W) (s : NestState) (inv : Inv W s) → state-of s r ≡ not-begun → (was : idle (state-of s r) ≡ true) → Wild (turned W s r in-progress inv r-in) (of-instr r) → ⊥
-  not-wild r r-in s inv fresh was (new n) = let z : in-progress ≡ not-begun = sym (now W s r in-progress inv r-in) ∙ n in clash (cc)
-  not-wild r r-in s inv fresh was (old o) = inv .fresh (of-instr r) (owned-was W s r in-progress inv r-in was refl (of-instr r) o) fresh
+  not-free : (r : ℕ) (r-in : r < size W) (s : NestState) (inv : Inv W s) → state-of s r ≡ not-begun → (was : idle (state-of s r) ≡ true)
+      → Free (changed W s r in-progress inv r-in) (of-instr r) → ⊥
+  not-free r r-in s inv fresh was (new n) = let z : in-progress ≡ not-begun = sym (now W s r in-progress inv r-in) ∙ n in clash (cc)
+  not-free r r-in s inv fresh was (old o) = inv .fresh (of-instr r) (owned-was W s r in-progress inv r-in was refl (of-instr r) o) fresh
 
-  pub first-doing : (r : ℕ) (r-in : r < size W) (s : NestState) (inv : Inv W s) → state-of s r ≡ not-begun → Doing W s r (blocks-of (W .g) r) (turned W s r in-progress inv r-in)
+  pub first-doing : (r : ℕ) (r-in : r < size W) (s : NestState) (inv : Inv W s) → state-of s r ≡ not-begun → Doing W s r (blocks-of (W .g) r) (changed W s r in-progress inv r-in)
   first-doing r r-in s inv fresh =
       let was : idle (state-of s r) ≡ true = rw fresh in
       record {
@@ -45,27 +46,37 @@ module _ (W : World) where
         step = later-busy W s r in-progress inv r-in was refl;
         began = fresh;
         busy = now W s r in-progress inv r-in;
-        unlogged = inv .unlogged r (waiting r-in was);
+        unrewritten = inv .unrewritten r (waiting r-in was);
         since = λ v o. rw (blocks-own _ r 0 (region (W .g) r .blocks) v o) (new fresh);
-        clear = λ v o w. not-wild r r-in s inv fresh was (subst (λ z. Wild (turned W s r in-progress inv r-in) z) (blocks-own _ r 0 (region (W .g) r .blocks) v o) w);
+        clear = λ v o w. not-free r r-in s inv fresh was (subst (λ z. Free (changed W s r in-progress inv r-in) z) (blocks-own _ r 0 (region (W .g) r .blocks) v o) w);
       }
 
   -- ---- a region is structurized
-  pub structurize-region-post : (cl : Claim) → ClaimOk W cl → (r : ℕ) → r < size W → Live W r → (s : NestState) → Inv W s → state-of s r ≡ not-begun → IfDone (λ u s′. Inv W s′ × Later W s s′) (structurize-region (W .g) cl r s)
+  pub structurize-region-post : (cl : Claim) → ClaimOk W cl → (r : ℕ) → r < size W → Live W r → (s : NestState) → Inv W s → state-of s r ≡ not-begun
+      → IfDone (λ u s′. Inv W s′ × Later W s s′) (structurize-region (W .g) cl r s)
   unfolding structurize-region
   structurize-region-post cl cl-ok r r-in lv s inv fresh =
       let tm = region (W .g) r .terminator in
       let tok = W .valid .terminator r r-in in
-      let s₁ : NestState = turned W s r in-progress inv r-in in
+      let s₁ : NestState = changed W s r in-progress inv r-in in
       let dg₁ : Doing W s r (blocks-of (W .g) r) s₁ = first-doing r r-in s inv fresh in
-      bind (target-regions (W .g) cl (edgesOf tm) s₁) _ (target-regions-post W cl cl-ok s r (edgesOf tm) (edges-of-usable (W .g) r tm tok) (λ ed i. target-reachable (W .g) r (ed .target) lv (in-targets W (edgesOf tm) ed i)) s₁ dg₁) λ cs s₂ cd.
+      bind (target-regions (W .g) cl (edgesOf tm) s₁) _
+      (target-regions-post W cl cl-ok s r (edgesOf tm) (edges-of-usable (W .g) r tm tok)
+      (λ ed i. target-reachable (W .g) r (ed .target) lv (in-targets W (edgesOf tm) ed i)) s₁ dg₁) λ cs s₂ cd.
       bind (by-control-inst (W .g) (blocks-of (W .g) r) tm cs s₂) _
-      (by-control-inst-post W s r s₂ (doing-on W dg₁ (cd .inv) (cd .step)) cs (cases-back W (dg₁ .step) (cd .is)) tm refl tok (cd .len) (cd .steers)) λ x s₃ cm.
+      (by-control-inst-post W s r s₂ (doing-on W dg₁ (cd .inv) (cd .step)) cs (cases-back W (dg₁ .step) (cd .is)) tm refl tok (cd .len) (cd .enters)) λ x s₃ cm.
       bind (resolve-deferred (W .g) cl (length (W .g .regions)) x s₃) _ (resolve-deferred-post W cl cl-ok s r (length (W .g .regions)) x s₃ cm) λ y s₄ cm₄.
-      record { post = (inv-ready W s s₄ r (count-to r (y .deferred-edges)) (y .children) (y .deferred-edges) cm₄, later-ready W s s₄ r (count-to r (y .deferred-edges)) (y .children) (y .deferred-edges) cm₄) }
+      record {
+        post = (
+          inv-ready W s s₄ r (count-to r (y .deferred-edges)) (y .children) (y .deferred-edges) cm₄,
+          later-ready W s s₄ r (count-to r (y .deferred-edges))
+              (y .children) (y .deferred-edges) cm₄,
+        );
+      }
 
   -- ---- a claim
-  claim-by-state-post : (r n inc : ℕ) (ins : List Value) (s : NestState) → Inv W s → r < size W → (x : StructurizeRegionState) → state-of s r ≡ x → IfDone (ClaimDone W r ins s) (claim-by-state (W .g) r n ins inc x s)
+  claim-by-state-post : (r n inc : ℕ) (ins : List Value) (s : NestState) → Inv W s → r < size W → (x : StructurizeRegionState) → state-of s r ≡ x
+      → IfDone (ClaimDone W r ins s) (claim-by-state (W .g) r n ins inc x s)
   claim-by-state-post r n inc ins s inv r-in not-begun p = record { post = tt }
   claim-by-state-post r n inc ins s inv r-in claimed p = record { post = tt }
   claim-by-state-post r n inc ins s inv r-in (ready b ks d) p = claim-ready-post W s r b ks d inv r-in p n inc ins
@@ -95,7 +106,8 @@ module _ (W : World) where
       Found₁ : NestState → StructurizeRegionState → NestState → Type 0
       Found₁ s₁ x s₂ = (x ≡ state-of s₂ r) × Inv W s₂ × Later W s₁ s₂
 
-      begun : (s₁ : NestState) → Inv W s₁ → ClaimOk W (λ r′ n′ ins′. try-claim-edge-bundle (W .g) counts d r′ n′ ins′) → (x : StructurizeRegionState) → state-of s₁ r ≡ x → IfDone (λ u s₂. Inv W s₂ × Later W s₁ s₂) (begin x (structurize-region (W .g) (λ r′ n′ ins′. try-claim-edge-bundle (W .g) counts d r′ n′ ins′) r) s₁)
+      begun : (s₁ : NestState) → Inv W s₁ → ClaimOk W (λ r′ n′ ins′. try-claim-edge-bundle (W .g) counts d r′ n′ ins′) → (x : StructurizeRegionState) → state-of s₁ r ≡ x
+          → IfDone (λ u s₂. Inv W s₂ × Later W s₁ s₂) (begin x (structurize-region (W .g) (λ r′ n′ ins′. try-claim-edge-bundle (W .g) counts d r′ n′ ins′) r) s₁)
       begun s₁ inv₁ ih not-begun p = structurize-region-post (λ r′ n′ ins′. try-claim-edge-bundle (W .g) counts d r′ n′ ins′) ih r r-in lv s₁ inv₁ p
       begun s₁ inv₁ ih in-progress p = record { post = (inv₁, later-refl W s₁) }
       begun s₁ inv₁ ih claimed p = record { post = (inv₁, later-refl W s₁) }

@@ -25,11 +25,13 @@ module _ (W : World) where
   none-converges [] h j x p = cc
   none-converges (c ∷ cs) h j x p = go (λ q i e. none-converges cs q i x e) (empty (deferred-of c)) refl h
     where
-      at : (convergent-cases cs ≡ no-one → (i : ℕ) → nth cs i ≡ some x → deferred-of x ≡ []) → deferred-of c ≡ [] → convergent-cases cs ≡ no-one → (i : ℕ) → nth (c ∷ cs) i ≡ some x → deferred-of x ≡ []
+      at : (convergent-cases cs ≡ no-one → (i : ℕ) → nth cs i ≡ some x → deferred-of x ≡ []) → deferred-of c ≡ [] → convergent-cases cs ≡ no-one → (i : ℕ)
+          → nth (c ∷ cs) i ≡ some x → deferred-of x ≡ []
       at ih e q zero r = let z : c ≡ x = cc in rw (← z) e
       at ih e q (suc i) r = ih q i r
 
-      go : (convergent-cases cs ≡ no-one → (i : ℕ) → nth cs i ≡ some x → deferred-of x ≡ []) → (b : Bool) → empty (deferred-of c) ≡ b → pick b (with-unreachable c (convergent-cases cs)) (with-convergent c cs (convergent-cases cs)) ≡ no-one → deferred-of x ≡ []
+      go : (convergent-cases cs ≡ no-one → (i : ℕ) → nth cs i ≡ some x → deferred-of x ≡ []) → (b : Bool) → empty (deferred-of c) ≡ b
+          → pick b (with-unreachable c (convergent-cases cs)) (with-convergent c cs (convergent-cases cs)) ≡ no-one → deferred-of x ≡ []
       go ih true e q = at ih (is-empty (deferred-of c) e) (by (convergent-cases cs) refl q) j p
         where
           by : (v : Convergent) → convergent-cases cs ≡ v → with-unreachable c v ≡ no-one → convergent-cases cs ≡ no-one
@@ -83,7 +85,8 @@ module _ (W : World) where
               still z′ (inl q) = cc
               still z′ (inr k) = ne z′ k
 
-          others : (x : MaybeClaimedRegion) → Apart W (x ∷ cs) → (y : ClaimedRegion) → c ≡ ok y → (z : ClaimedRegion) → In (ok z) (x ∷ r) → eqb (y .structured-body) (z .structured-body) ≡ false
+          others : (x : MaybeClaimedRegion) → Apart W (x ∷ cs) → (y : ClaimedRegion) → c ≡ ok y → (z : ClaimedRegion) → In (ok z) (x ∷ r)
+              → eqb (y .structured-body) (z .structured-body) ≡ false
           others (err d) h y q z (inl k) = cc
           others (err d) h y q z (inr i) = cv .others h y q z i
           others (ok x′) (ne, h) y q z (inl k) =
@@ -106,12 +109,14 @@ module _ (W : World) where
           apart (err d) h = h
           apart (ok z) h = h .1
 
-          others : (x : MaybeClaimedRegion) → c ≡ x → Apart W (x ∷ cs) → (y : ClaimedRegion) → c ≡ ok y → (z : ClaimedRegion) → In (ok z) (err [] ∷ cs) → eqb (y .structured-body) (z .structured-body) ≡ false
+          others : (x : MaybeClaimedRegion) → c ≡ x → Apart W (x ∷ cs) → (y : ClaimedRegion) → c ≡ ok y → (z : ClaimedRegion) → In (ok z) (err [] ∷ cs)
+              → eqb (y .structured-body) (z .structured-body) ≡ false
           others (err d) e′ h y q z i = cc
           others (ok x′) e′ h y q z (inl k) = cc
           others (ok x′) e′ (ne, h) y q z (inr i) = let w : y ≡ x′ = cc in rw w (eqb-sym (x′ .structured-body) (z .structured-body) ∙ ne z i)
 
-      go : IH → (b : Bool) → empty (deferred-of x) ≡ b → pick b (with-unreachable x (convergent-cases cs)) (with-convergent x cs (convergent-cases cs)) ≡ exactly-one c rest → Converges (x ∷ cs) c rest
+      go : IH → (b : Bool) → empty (deferred-of x) ≡ b
+          → pick b (with-unreachable x (convergent-cases cs)) (with-convergent x cs (convergent-cases cs)) ≡ exactly-one c rest → Converges (x ∷ cs) c rest
       go ih true e q = by (convergent-cases cs) refl q
         where
           by : (v : Convergent) → convergent-cases cs ≡ v → with-unreachable x v ≡ exactly-one c rest → Converges (x ∷ cs) c rest

@@ -7,7 +7,7 @@ use mathlib.Core.Path.{_∙_, _≡_, ap, refl, subst, sym}
 use Prim.Native.Nat.{_+_, _<_, _≤_, ℕ}
 use native.Mathlib.Omega.{arith}
 use lib.Dec.{T, eqb}
-use lib.ListN.{length, set}
+use lib.ListN.{length}
 use Rattle.meaning.specs.Form.{Cases, Nodes, _▸_, select, ⟨⟩}
 use Rattle.meaning.specs.Graph.{SelectionKind, Value, input}
 use Rattle.meaning.specs.NestedRun.{Ran, and-then, case-count, ended, no-end, pay, run-nodes, through}
@@ -24,8 +24,7 @@ use Rattle.follows.specs.Key.{Key, is-node, key, key-constant, owns-case
 use Rattle.follows.specs.World.{World, ar, runs}
 use Rattle.follows.specs.Tables.{Gains, Resolver, Respects, Tables, respects-back, tables}
 use Rattle.follows.specs.Frame.{outputs-kept}
-use Rattle.follows.specs.Leads.{Based, Leads, Sim, Tracks, forms-join, leads-then, then-runs}
-use Rattle.follows.specs.LoopFollows.{then-on}
+use Rattle.follows.specs.Leads.{Based, Leads, Sim, Tracks, forms-join, leads-then, then-on, then-runs}
 use Rattle.follows.specs.SelectGoes.{outputs-set}
 use Rattle.follows.specs.SelectRuns.{case-run, children-at, count-form}
 use Rattle.follows.specs.Defined.{IfDone}
@@ -43,15 +42,18 @@ join-assoc ⟨⟩ b c = refl
 join-assoc (x ▸ a) b c = ap (λ k. x ▸ k) (join-assoc a b c)
 
 module _ (W : World) where
-  -- ---- the run of a made select
-  select-runs : (ρ : Resolver) (os : List NodeOutput) (b n : ℕ) (kind : SelectionKind) (sc : Value) (ccs : Cases) (j w : ℕ) (ksj : Nodes) (st : RunState) → children-at ccs j ≡ some ksj → st .env (ρ sc) ≡ word w → place-taken kind w (case-count ccs) ≡ j
-      → runs W b (rewrite-nodes ρ os (select n kind sc [] ccs ▸ ⟨⟩)) st ≡ and-then (runs W b (rewrite-nodes ρ os ksj) (pay (W .g .test-cost) st)) (λ s′. through (outputs-set ρ os n j s′))
+  -- ---- the run of a defined select
+  select-runs : (ρ : Resolver) (os : List NodeOutput) (b n : ℕ) (kind : SelectionKind) (sc : Value) (ccs : Cases) (j w : ℕ) (ksj : Nodes) (st : RunState)
+      → children-at ccs j ≡ some ksj → st .env (ρ sc) ≡ word w → place-taken kind w (case-count ccs) ≡ j
+      → runs W b (rewrite-nodes ρ os (select n kind sc [] ccs ▸ ⟨⟩)) st ≡ and-then (runs W b (rewrite-nodes ρ os ksj) (pay (W .g .test-cost) st))
+      (λ s′. through (outputs-set ρ os n j s′))
   unfolding run-nodes rewrite-nodes
   select-runs ρ os b n kind sc ccs j w ksj st kj tests takes =
       let z : 0 + j ≡ j = omega arith in
       rw (then-on _, tests, count-form ρ os ccs n 0, takes, case-run ρ os (W .rule) (W .g .test-cost) b ccs n 0 j ksj (pay (W .g .test-cost) st) kj, z)
 
-  ends-there : (ρ : Resolver) (os : List NodeOutput) (n : ℕ) (x : MaybeClaimedRegion) (d : DeferredEdgeBundleSet) (e : End) (h : List Event) (R : Ran) (k : RunState → Ran) → deferred-of x ≡ [] → Tracks W ρ os n (deferred-of x) e h R → Tracks W ρ os n d e h (and-then R k)
+  ends-there : (ρ : Resolver) (os : List NodeOutput) (n : ℕ) (x : MaybeClaimedRegion) (d : DeferredEdgeBundleSet) (e : End) (h : List Event) (R : Ran) (k : RunState
+      → Ran) → deferred-of x ≡ [] → Tracks W ρ os n (deferred-of x) e h R → Tracks W ρ os n d e h (and-then R k)
   ends-there ρ os n x d e h (through s) k p fl = absurd (subst (λ l. In (fl .leads-to .entry) l) p (fl .leads-to .chosen .member))
   ends-there ρ os n x d e h (ended e′ s) k p fl = record { leads-to = fl .leads-to }
   ends-there ρ os n x d e h no-end k p fl = record { leads-to = fl .leads-to }
@@ -64,7 +66,8 @@ module _ (W : World) where
   abbrev tailRun : Resolver → List NodeOutput → ℕ → MaybeClaimedRegion → RunState → Ran
   tailRun ρ os b c st = runs W b (rewrite-nodes ρ os (children-in c)) st
 
-  none-runs : (ρ : Resolver) (os : List NodeOutput) (k b : ℕ) (e : End) (h : List Event) (n j : ℕ) (st : RunState) {d : DeferredEdgeBundleSet} (f : RunState → Ran) → Tracks W ρ os k d e h (f (outputs-set ρ os n j (pay (W .g .test-cost) st)))
+  none-runs : (ρ : Resolver) (os : List NodeOutput) (k b : ℕ) (e : End) (h : List Event) (n j : ℕ) (st : RunState) {d : DeferredEdgeBundleSet} (f : RunState → Ran)
+      → Tracks W ρ os k d e h (f (outputs-set ρ os n j (pay (W .g .test-cost) st)))
       → Tracks W ρ os k d e h (and-then (and-then (runs W b (rewrite-nodes ρ os ⟨⟩) (pay (W .g .test-cost) st)) (λ s′. through (outputs-set ρ os n j s′))) f)
   unfolding run-nodes rewrite-nodes
   none-runs ρ os k b e h n j st f fl = fl
@@ -74,7 +77,7 @@ module _ (W : World) where
       (scrutinee-ok : (T : Tables) → Gains (tables s) T → (v : Value) → ScrutineeIs sc (T .outputs) v → Scoped T r (ar W r) ks v)
       (ld : Leads W r r ks (tables s) (Takes W kind sc cases)) where
     all-came : (x : Body) (s′ : NestState) → All W s₀ r ks kind sc cases s dg fit x s′ → Came W s₀ r (x .children) (x .deferred-edges) s′
-    all-came x s′ al = subst (λ k. Came W s₀ r k (x .deferred-edges) s′) (sym (al .kids-is)) (record
+    all-came x s′ al = subst (λ k. Came W s₀ r k (x .deferred-edges) s′) (sym (al .children-is)) (record
         { doing = al .doing; sim = select-sim W s₀ r ks kind sc cases s dg fit scrutinee-ok x s′ al ld; set = select-set W s₀ r ks kind sc cases s dg fit scrutinee-ok x s′ al })
 
     module _ (c : MaybeClaimedRegion) (rest : List MaybeClaimedRegion) (cv : Converges W cases c rest) where
@@ -89,9 +92,11 @@ module _ (W : World) where
       c-in = nth-in cases (cv .at) c (cv .is)
 
       module _ (x : Body) (s₁ : NestState) (al : All W s₀ r ks kind sc rest s dg ok′ x s₁) where
-        tail : (c : MaybeClaimedRegion) → CaseOk W s₀ r ks s c → ((y : ClaimedRegion) → c ≡ ok y → (z : ClaimedRegion) → In (ok z) rest → eqb (y .structured-body) (z .structured-body) ≡ false) → TailIs W s₀ r (join ks (al .more)) s₁ c
+        tail : (c : MaybeClaimedRegion) → CaseOk W s₀ r ks s c
+            → ((y : ClaimedRegion) → c ≡ ok y → (z : ClaimedRegion) → In (ok z) rest → eqb (y .structured-body) (z .structured-body) ≡ false)
+            → TailIs W s₀ r (join ks (al .more)) s₁ c
         tail (ok y) k ne = record {
-          holds = holds-moved W (k .is .holds) (al .moves) (al .keeps (y .structured-body) (ne y refl) (k .is .holds .unlogged));
+          holds = holds-moved W (k .is .holds) (al .moves) (al .keeps (y .structured-body) (ne y refl) (k .is .holds .unrewritten));
           since = k .is .since;
           inputs = λ i. scoped-later (al .moves .gains) (within-left ks (al .more)) (k .is .inputs i);
           other = k .is .other;
@@ -121,17 +126,20 @@ module _ (W : World) where
             apart₁ i lt = parts i lt .0
 
             -- the case that goes on
-            enter-c : (st′ : RunState) → Agrees W ρ os r (ar W r) ks st st′ → Based W st′ → Enters W ρ os k e h st c → Tracks W ρ os k (deferred-of c) e h (runs W b (rewrite-nodes ρ os (children-in c)) st′)
+            enter-c : (st′ : RunState) → Agrees W ρ os r (ar W r) ks st st′ → Based W st′ → Enters W ρ os k e h st c
+                → Tracks W ρ os k (deferred-of c) e h (runs W b (rewrite-nodes ρ os (children-in c)) st′)
             enter-c st′ ag bs′ en =
                 enter-follows W s₀ r ks s c (fit .each c c-in) ρ os res₀ b k le st′ bs′ (ad .law ρ os res) (λ i lt. parts i lt .1) e h
                 (enters-same W c (fit .each c c-in) ρ os res₀ st st′ ag k e h en)
 
             -- one of the others
-            enter-x : (z : MaybeClaimedRegion) → In z rest → ((i : ℕ) → i < ar W r → owns-nodes (children-in z) (key os (ρ (input r i))) ≡ false) → (st′ : RunState) → Agrees W ρ os r (ar W r) ks st st′ → Based W st′
+            enter-x : (z : MaybeClaimedRegion) → In z rest → ((i : ℕ) → i < ar W r → owns-nodes (children-in z) (key os (ρ (input r i))) ≡ false) → (st′ : RunState)
+                → Agrees W ρ os r (ar W r) ks st st′ → Based W st′
                 → Enters W ρ os k e h st z → Tracks W ρ os k (deferred-of z) e h (runs W b (rewrite-nodes ρ os (children-in z)) st′)
             enter-x z i far st′ ag bs′ en = entered W s₀ r ks kind sc rest s dg ok′ scrutinee-ok x s₁ al ρ os res₁ b k le st bs apart₁ e h z i far st′ ag bs′ en
 
-            follow-made : (n : DefinedSelect) (ccs : Cases) → al .more ≡ select (n .node) (n .kind) (n .scrutinee) [] ccs ▸ ⟨⟩ → n .kind ≡ kind → ScrutineeIs sc (s₁ .node-outputs) (n .scrutinee) → CasesFrom rest ccs → s .node-count ≤ n .node
+            follow-made : (n : DefinedSelect) (ccs : Cases) → al .more ≡ select (n .node) (n .kind) (n .scrutinee) [] ccs ▸ ⟨⟩ → n .kind ≡ kind
+                → ScrutineeIs sc (s₁ .node-outputs) (n .scrutinee) → CasesFrom rest ccs → s .node-count ≤ n .node
                 → Takes W kind sc cases ρ os k e h st → Tracks W ρ os k (deferred-of c) e h (and-then (runs W b (rewrite-nodes ρ os (al .more)) st) (tailRun ρ os b c))
             follow-made n ccs te ke is mf above tk = by (cv .each (tk .place-of) (tk .case-of) (tk .at-place))
               where
@@ -161,20 +169,29 @@ module _ (W : World) where
                     → Tracks W ρ os k (deferred-of c) e h (and-then (runs W b (rewrite-nodes ρ os (al .more)) st) (tailRun ρ os b c))
                 by (inl (is-c, blank)) =
                     let en : Enters W ρ os k e h st c = subst (λ z. Enters W ρ os k e h st z) is-c (tk .enters) in
-                    rw (te, select-runs ρ os b (n .node) (n .kind) (n .scrutinee) ccs (tk .place-of) (tst .0) ⟨⟩ st (cases-children rest ccs mf (tk .place-of) (err []) blank) (tst .1) takes)
-                    (none-runs ρ os k b e h (n .node) (tk .place-of) st (tailRun ρ os b c) (enter-c st₂ ag (record { based = λ v con. kept v (rw (key-constant os v con)) ∙ bs .based v con }) en))
+                    rw (
+                      te,
+                      select-runs ρ os b (n .node) (n .kind) (n .scrutinee) ccs (tk .place-of) (tst .0) ⟨⟩ st
+                          (cases-children rest ccs mf (tk .place-of) (err []) blank) (tst .1) takes,
+                    )
+                    (none-runs ρ os k b e h (n .node) (tk .place-of) st (tailRun ρ os b c)
+                    (enter-c st₂ ag (record { based = λ v con. kept v (rw (key-constant os v con)) ∙ bs .based v con }) en))
                 by (inr (there, no-set)) =
                     let z : MaybeClaimedRegion = tk .case-of in
                     let i = nth-in rest (tk .place-of) z there in
                     rw (
                       te,
-                      select-runs ρ os b (n .node) (n .kind) (n .scrutinee) ccs (tk .place-of) (tst .0) (children-in z) st (cases-children rest ccs mf (tk .place-of) z there) (tst .1) takes,
-                      and-assoc (runs W b (rewrite-nodes ρ os (children-in z)) (pay (W .g .test-cost) st)) (λ s′. through (outputs-set ρ os (n .node) (tk .place-of) s′)) (tailRun ρ os b c),
+                      select-runs ρ os b (n .node) (n .kind) (n .scrutinee) ccs (tk .place-of) (tst .0) (children-in z) st
+                          (cases-children rest ccs mf (tk .place-of) z there) (tst .1) takes,
+                      and-assoc (runs W b (rewrite-nodes ρ os (children-in z)) (pay (W .g .test-cost) st)) (λ s′. through (outputs-set ρ os (n .node) (tk .place-of) s′))
+                          (tailRun ρ os b c),
                     )
                     (ends-there ρ os k z (deferred-of c) e h (runs W b (rewrite-nodes ρ os (children-in z)) (pay (W .g .test-cost) st)) _ no-set
-                    (enter-x z i (λ l lt. cases-apart rest ccs mf (key os (ρ (input r l))) (far l lt .1) z i) (pay (W .g .test-cost) st) (pay-agrees W ρ os r (ar W r) ks (W .g .test-cost) st) (based-pay W (W .g .test-cost) st bs) (tk .enters)))
+                    (enter-x z i (λ l lt. cases-apart rest ccs mf (key os (ρ (input r l))) (far l lt .1) z i) (pay (W .g .test-cost) st)
+                    (pay-agrees W ρ os r (ar W r) ks (W .g .test-cost) st) (based-pay W (W .g .test-cost) st bs) (tk .enters)))
 
-            follow-unmade : al .more ≡ ⟨⟩ → any-non-empty-case rest ≡ false → Takes W kind sc cases ρ os k e h st → Tracks W ρ os k (deferred-of c) e h (and-then (runs W b (rewrite-nodes ρ os (al .more)) st) (tailRun ρ os b c))
+            follow-unmade : al .more ≡ ⟨⟩ → any-non-empty-case rest ≡ false → Takes W kind sc cases ρ os k e h st
+                → Tracks W ρ os k (deferred-of c) e h (and-then (runs W b (rewrite-nodes ρ os (al .more)) st) (tailRun ρ os b c))
             unfolding run-nodes rewrite-nodes
             follow-unmade te nk tk = rw te (by (cv .each (tk .place-of) (tk .case-of) (tk .at-place)))
               where
@@ -188,7 +205,8 @@ module _ (W : World) where
                     let z : MaybeClaimedRegion = tk .case-of in
                     let i = nth-in rest (tk .place-of) z there in
                     let none : children-in z ≡ ⟨⟩ = no-children rest nk z i in
-                    let fl : Tracks W ρ os k (deferred-of z) e h (runs W b (rewrite-nodes ρ os (children-in z)) st) = enter-x z i (λ l lt. rw none (none-owns (key os (ρ (input r l))))) st same bs (tk .enters) in
+                    let fl : Tracks W ρ os k (deferred-of z) e h (runs W b (rewrite-nodes ρ os (children-in z)) st) = enter-x z i
+                    (λ l lt. rw none (none-owns (key os (ρ (input r l))))) st same bs (tk .enters) in
                     let fl′ : Tracks W ρ os k (deferred-of z) e h (through st) = rw none at fl in
                     absurd (subst (λ l. In (fl′ .leads-to .entry) l) no-set (fl′ .leads-to .chosen .member))
 
@@ -199,20 +217,24 @@ module _ (W : World) where
               (by ρ os res b n le st bs apart e h tk (al .more) refl (al .shape))
             where
               by : (ρ : Resolver) (os : List NodeOutput) → Respects ρ os (tables s₂) → (b n : ℕ) → n ≤ b → (st : RunState) → Based W st
-                  → ((i : ℕ) → i < ar W r → owns-nodes (join ks (join (al .more) (children-in c))) (key os (ρ (input r i))) ≡ false) → (e : End) (h : List Event) → Takes W kind sc cases ρ os n e h st
-                  → (T : Nodes) → al .more ≡ T → Shape W s₀ r ks kind sc rest s dg ok′ T (x .deferred-edges) (s₁ .node-outputs) → Tracks W ρ os n (deferred-of c) e h (and-then (runs W b (rewrite-nodes ρ os (al .more)) st) (tailRun ρ os b c))
-              by ρ os res b n le st bs apart e h tk T te (made nd ccs is-tree is-kind is-scrut mf above em) = follow-made ρ os res b n le st bs apart e h nd ccs (te ∙ is-tree) is-kind is-scrut mf above tk
+                  → ((i : ℕ) → i < ar W r → owns-nodes (join ks (join (al .more) (children-in c))) (key os (ρ (input r i))) ≡ false) → (e : End) (h : List Event)
+                  → Takes W kind sc cases ρ os n e h st
+                  → (T : Nodes) → al .more ≡ T → Shape W s₀ r ks kind sc rest s dg ok′ T (x .deferred-edges) (s₁ .node-outputs)
+                  → Tracks W ρ os n (deferred-of c) e h (and-then (runs W b (rewrite-nodes ρ os (al .more)) st) (tailRun ρ os b c))
+              by ρ os res b n le st bs apart e h tk T te (made nd ccs is-tree is-kind is-scrut mf above em) = follow-made ρ os res b n le st bs apart e h nd ccs
+                  (te ∙ is-tree) is-kind is-scrut mf above tk
               by ρ os res b n le st bs apart e h tk T te (unmade is-tree nk nn is-d) = follow-unmade ρ os res b n le st bs apart e h (te ∙ is-tree) nk tk
 
           just-came : Came W s₀ r (y .children) (y .deferred-edges) s₂
-          just-came = subst (λ k. Came W s₀ r k (y .deferred-edges) s₂) (sym (ad .kids-is)) (subst (λ d. Came W s₀ r (join (join ks (al .more)) (children-in c)) d s₂) (sym (ad .set-is)) (record {
-            doing = ad .doing;
-            sim = subst (λ k. Sim W r r k (deferred-of c) (tables s₂)) (sym (join-assoc ks (al .more) (children-in c))) just-sim;
-            set = ad .set;
-          }))
+          just-came = subst (λ k. Came W s₀ r k (y .deferred-edges) s₂) (sym (ad .children-is))
+              (subst (λ d. Came W s₀ r (join (join ks (al .more)) (children-in c)) d s₂) (sym (ad .set-is)) (record {
+                doing = ad .doing;
+                sim = subst (λ k. Sim W r r k (deferred-of c) (tables s₂)) (sym (join-assoc ks (al .more) (children-in c))) just-sim;
+                set = ad .set;
+              }))
 
         append-came : IfDone (λ y s₂. Came W s₀ r (y .children) (y .deferred-edges) s₂) (append-maybe-claimed-region (x .children) c s₁)
-        append-came = subst (λ k. IfDone (λ y s₂. Came W s₀ r (y .children) (y .deferred-edges) s₂) (append-maybe-claimed-region k c s₁)) (sym (al .kids-is))
+        append-came = subst (λ k. IfDone (λ y s₂. Came W s₀ r (y .children) (y .deferred-edges) s₂) (append-maybe-claimed-region k c s₁)) (sym (al .children-is))
             (map-post (append-maybe-claimed-region (join ks (al .more)) c s₁)
             (append-post W s₀ r (join ks (al .more)) c s₁ (al .doing) (tail c (fit .each c c-in) (cv .others (fit .apart))))
             λ y s₂ ad. just-came y s₂ ad)

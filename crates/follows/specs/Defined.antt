@@ -10,6 +10,7 @@ use lib.Dec.{ltb}
 use lib.ListN.{length}
 use Rattle.meaning.specs.Graph.{SelectionKind, Value, bool, bool-cond, number, output, pick}
 use Rattle.format.specs.WellRead.{and-both}
+use Rattle.nesting.specs.CaseGraphs.{A}
 use Rattle.nesting.specs.Change.{define-merge, define-node, define-output, define-region, with-merge, with-node, with-node-outputs, with-region}
 use Rattle.nesting.specs.Cond.{is-bool-cond, materialize-lazy-cond, materialize-lazy-conds, same-values}
 use Rattle.nesting.specs.Deferred.{DeferredEdgeBundleSet, LazyCond, LazyConds, _&_, false-cond, merge, true-cond, undef-cond, ∅}
@@ -41,7 +42,14 @@ pub grew-refl : (s : NestState) → Grew s s
 grew-refl s = record { outputs = extends-refl (s .node-outputs); rewrites = refl; region-states = refl; regions = omega arith; node-count = omega arith }
 
 pub grew-then : {s s′ s″ : NestState} → Grew s s′ → Grew s′ s″ → Grew s s″
-grew-then p q = record { outputs = extends-then (p .outputs) (q .outputs); rewrites = q .rewrites ∙ p .rewrites; region-states = q .region-states ∙ p .region-states; regions = omega (arith, p .regions, q .regions); node-count = omega (arith, p .node-count, q .node-count) }
+grew-then p q = record {
+  outputs = extends-then (p .outputs) (q .outputs);
+  rewrites = q .rewrites ∙ p .rewrites;
+  region-states = q .region-states
+      ∙ p .region-states;
+  regions = omega (arith, p .regions, q .regions);
+  node-count = omega (arith, p .node-count, q .node-count);
+}
 
 -- ---- a new output
 pub record NewOutput (n ty : ℕ) (vs : List Value) (s : NestState) (v : Value) (s′ : NestState) : Type 0 where
@@ -87,7 +95,8 @@ merge-post : (n : ℕ) (kind : SelectionKind) (sc : Value) (cs : LazyConds) (s :
 unfolding Mat
 merge-post n kind sc cs s vs s₁ ms = go (is-bool-cond kind && same-values vs (bool true ∷ bool false ∷ [])) refl
   where
-    go : (b : Bool) → (is-bool-cond kind && same-values vs (bool true ∷ bool false ∷ [])) ≡ b → IfDone (Materialized (merge n kind sc cs) s) (pick b (give sc) (define-output n 1 vs) s₁)
+    go : (b : Bool) → (is-bool-cond kind && same-values vs (bool true ∷ bool false ∷ [])) ≡ b
+        → IfDone (Materialized (merge n kind sc cs) s) (pick b (give sc) (define-output n 1 vs) s₁)
     go true q =
         let x = and-both (is-bool-cond kind) (same-values vs (bool true ∷ bool false ∷ [])) q in
         record { post = record { mat = inl (is-boolean kind (x .0), refl, rw (same-values→eq vs (bool true ∷ bool false ∷ []) (x .1)) at (ms .mats)); grew = ms .grew } }
@@ -185,14 +194,28 @@ pub define-region-post : (s : NestState) → IfDone (λ w s′. (w ≡ s .region
 unfolding define-region
 define-region-post s = go (ltb (s .region-count) 128)
   where
-    go : (b : Bool) → IfDone {A = ℕ} (λ w s′. (w ≡ s .region-count) × (s′ .region-count ≡ suc w) × Grew s s′) (elim b [ true ↦ done (s .region-count) (with-region s) | false ↦ turned-away 9 0 ])
-    go true = record { post = (refl, refl, record { outputs = extends-refl (s .node-outputs); rewrites = refl; region-states = refl; regions = omega arith; node-count = omega arith }) }
+    go : (b : Bool) → IfDone {A = ℕ} (λ w s′. (w ≡ s .region-count) × (s′ .region-count ≡ suc w) × Grew s s′)
+        (elim b [ true ↦ done (s .region-count) (with-region s) | false ↦ turned-away 9 0 ])
+    go true = record {
+      post = (
+        refl,
+        refl,
+        record { outputs = extends-refl (s .node-outputs); rewrites = refl; region-states = refl; regions = omega arith; node-count = omega arith },
+      );
+    }
     go false = record { post = tt }
 
 pub define-node-post : (s : NestState) → IfDone (λ n s′. (n ≡ s .node-count) × (s′ .node-count ≡ suc n) × Grew s s′) (define-node s)
 unfolding define-node
 define-node-post s = go (ltb (s .node-count) 512)
   where
-    go : (b : Bool) → IfDone {A = ℕ} (λ n s′. (n ≡ s .node-count) × (s′ .node-count ≡ suc n) × Grew s s′) (elim b [ true ↦ done (s .node-count) (with-node s) | false ↦ turned-away 9 0 ])
-    go true = record { post = (refl, refl, record { outputs = extends-refl (s .node-outputs); rewrites = refl; region-states = refl; regions = omega arith; node-count = omega arith }) }
+    go : (b : Bool) → IfDone {A = ℕ} (λ n s′. (n ≡ s .node-count) × (s′ .node-count ≡ suc n) × Grew s s′)
+        (elim b [ true ↦ done (s .node-count) (with-node s) | false ↦ turned-away 9 0 ])
+    go true = record {
+      post = (
+        refl,
+        refl,
+        record { outputs = extends-refl (s .node-outputs); rewrites = refl; region-states = refl; regions = omega arith; node-count = omega arith },
+      );
+    }
     go false = record { post = tt }

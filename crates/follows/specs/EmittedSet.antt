@@ -27,11 +27,13 @@ use Rattle.follows.specs.Defined.{emits-stay}
 use Rattle.follows.specs.Scope.{AllScoped, CondOk, EntryOk, Scoped, SetOk, scoped-const}
 use Rattle.follows.specs.Targets.{DistinctTargets, FitAll}
 
-per-case-from : (x : DeferredTarget) (d : DeferredEdgeBundleSet) (vs : List Value) → per-case-deferred x d .inputs ≡ some vs → (y : DeferredEdgeBundle) × In y d × (y .target-inputs ≡ vs)
+per-case-from : (x : DeferredTarget) (d : DeferredEdgeBundleSet) (vs : List Value) → per-case-deferred x d .inputs ≡ some vs
+    → (y : DeferredEdgeBundle) × In y d × (y .target-inputs ≡ vs)
 per-case-from x [] vs p = absurd (clash (cc))
 per-case-from x (e ∷ es) vs p = go (get-by-target x (e ∷ es)) refl p
   where
-    go : (o : Option DeferredEdgeBundle) → get-by-target x (e ∷ es) ≡ o → per-case-of (e ∷ es) o .inputs ≡ some vs → (y : DeferredEdgeBundle) × In y (e ∷ es) × (y .target-inputs ≡ vs)
+    go : (o : Option DeferredEdgeBundle) → get-by-target x (e ∷ es) ≡ o → per-case-of (e ∷ es) o .inputs ≡ some vs
+        → (y : DeferredEdgeBundle) × In y (e ∷ es) × (y .target-inputs ≡ vs)
     go none q h = absurd (clash (cc))
     go (some y) q h = (y, found-in x (e ∷ es) y q .0, cc)
 
@@ -52,16 +54,16 @@ none-above [] n le k o at-k = let p = at-k .there in clash (cc)
 none-above (x ∷ os) n le zero o at-k = let e : x ≡ o = let p = at-k .there in cc in let q : x .node ≡ n = ap (λ y. y .node) e ∙ at-k .node in omega arith
 none-above (x ∷ os) n le (suc k) o at-k = none-above os n (omega arith) k o (record { there = at-k .there; node = at-k .node })
 
-pub nobody : List NodeOutput → DefinedSelect
-nobody os = record { node = above os; kind = number; scrutinee = undef 0; children = ⟨⟩ }
+pub no-select : List NodeOutput → DefinedSelect
+no-select os = record { node = above os; kind = number; scrutinee = undef 0; children = ⟨⟩ }
 
-pub nobody-number : (os : List NodeOutput) → nobody os .kind ≡ number
-unfolding nobody
-nobody-number os = refl
+pub no-select-number : (os : List NodeOutput) → no-select os .kind ≡ number
+unfolding no-select
+no-select-number os = refl
 
-pub nobody-outputs : (os : List NodeOutput) (k : ℕ) (o : NodeOutput) → OutputAt (nobody os .node) os k o → ⊥
-unfolding nobody
-nobody-outputs os k o at-k = none-above os (above os) (omega arith) k o at-k
+pub no-select-outputs : (os : List NodeOutput) (k : ℕ) (o : NodeOutput) → OutputAt (no-select os .node) os k o → ⊥
+unfolding no-select
+no-select-outputs os k o at-k = none-above os (above os) (omega arith) k o at-k
 
 or-parts : (a b : Bool) → (a || b) ≡ false → (a ≡ false) × (b ≡ false)
 or-parts false false h = (refl, refl)
@@ -77,14 +79,20 @@ pub shared-all : (os : List NodeOutput) (n : DefinedSelect) (ps : List PlannedBu
 shared-all os n [] h = refl
 shared-all os n (p ∷ ps) h =
     let x = or-parts (any-merged (p .inputs) || is-some (p .condition)) (any-needs-select ps) h in
-    let y = or-parts (any-merged (p .inputs)) (is-some (p .condition)) (x .0) in
-    (shared-bundle p, map shared-bundle ps, refl, record { target = refl; inputs = shared-emits os n (p .inputs) (y .0); condition = sym (is-t (p .condition) (y .1)) }, shared-all os n ps (x .1))
+    let y = or-parts (any-merged (p .inputs)) (is-some (p .condition)) (x .0) in (
+      shared-bundle p,
+      map shared-bundle ps,
+      refl,
+      record { target = refl; inputs = shared-emits os n (p .inputs) (y .0); condition = sym (is-t (p .condition) (y .1)) },
+      shared-all os n ps (x .1),
+    )
   where
     is-t : (o : Option LazyConds) → is-some o ≡ false → condition-from n o ≡ true-cond
     is-t none q = refl
     is-t (some cs) q = absurd (clash (cc))
 
-pub shared-no-condition : (g : Graph) (cs : List MaybeClaimedRegion) (ws : List DeferredTargetSummary) → any-needs-select (map (plan-bundle g cs) ws) ≡ false → (w : DeferredTargetSummary) → In w ws → (cds : LazyConds) → plan-bundle g cs w .condition ≡ some cds → ⊥
+pub shared-no-condition : (g : Graph) (cs : List MaybeClaimedRegion) (ws : List DeferredTargetSummary) → any-needs-select (map (plan-bundle g cs) ws) ≡ false
+    → (w : DeferredTargetSummary) → In w ws → (cds : LazyConds) → plan-bundle g cs w .condition ≡ some cds → ⊥
 shared-no-condition g cs [] h w i cds p = i
 shared-no-condition g cs (x ∷ ws) h w (inl e) cds p =
     let y = or-parts (any-merged (plan-bundle g cs x .inputs) || is-some (plan-bundle g cs x .condition)) _ h in
@@ -103,16 +111,19 @@ module _ (W : World) where
       Out : List MaybeClaimedRegion → Type 0
       Out l = (c : MaybeClaimedRegion) × In c l × ((vs : List Value) × (per-case-deferred x (deferred-of c) .inputs ≡ some vs) × (in-parent c (getD vs k (undef 0)) ≡ some v))
 
-      go : (unique-input k cs (per-cases x cs) ≡ unique v → Out cs) → (o : Option (List Value)) → per-case-deferred x (deferred-of c) .inputs ≡ o → with-case k c o (unique-input k cs (per-cases x cs)) ≡ unique v → Out (c ∷ cs)
+      go : (unique-input k cs (per-cases x cs) ≡ unique v → Out cs) → (o : Option (List Value)) → per-case-deferred x (deferred-of c) .inputs ≡ o
+          → with-case k c o (unique-input k cs (per-cases x cs)) ≡ unique v → Out (c ∷ cs)
       go ih none p q = let y = ih q in (y .0, inr (y .1), y .2)
       go ih (some vs) p q = (c, inl refl, (vs, p, with-value-inv (in-parent c (getD vs k (undef 0))) (unique-input k cs (per-cases x cs)) v q .0))
 
-  -- what can be seen in-parent of a case is in scope
+  -- what can be seen outside of a case is in scope
   module _ (T : Tables) (r : ℕ) (ks : Nodes) (cs : List MaybeClaimedRegion)
-      (shares : (c : MaybeClaimedRegion) → In c cs → (y : DeferredEdgeBundle) → In y (deferred-of c) → (i : ℕ) (v : Value) → in-parent c (getD (y .target-inputs) i (undef 0)) ≡ some v → Scoped T r (ar W r) ks v)
+      (shares : (c : MaybeClaimedRegion) → In c cs → (y : DeferredEdgeBundle) → In y (deferred-of c) → (i : ℕ) (v : Value) → in-parent c
+      (getD (y .target-inputs) i (undef 0)) ≡ some v → Scoped T r (ar W r) ks v)
       (n : DefinedSelect)
       (outs : (k : ℕ) (o : NodeOutput) → OutputAt (n .node) (T .outputs) k o → Scoped T r (ar W r) ks (output k)) where
-    one-scoped : (k ty : ℕ) (x : DeferredTarget) (v : Value) → EmitsOne (T .outputs) n (plan-input k ty (per-cases x cs) (unique-input k cs (per-cases x cs))) v → Scoped T r (ar W r) ks v
+    one-scoped : (k ty : ℕ) (x : DeferredTarget) (v : Value) → EmitsOne (T .outputs) n (plan-input k ty (per-cases x cs) (unique-input k cs (per-cases x cs))) v
+        → Scoped T r (ar W r) ks v
     one-scoped k ty x v em = go (unique-input k cs (per-cases x cs)) refl em
       where
         is-out : EmitsOne (T .outputs) n (merged ty (map (value-in-case k ty) (per-cases x cs))) v → Scoped T r (ar W r) ks v
@@ -126,7 +137,8 @@ module _ (W : World) where
             let z = per-case-from x (deferred-of (y .0)) (y .2 .0) (y .2 .1) in
             rw e (shares (y .0) (y .1) (z .0) (z .1) k w (rw (z .2) (y .2 .2)))
 
-    inputs-scoped : (x : DeferredTarget) (a k : ℕ) (vs : List Value) → Emits (T .outputs) n (plan-inputs (W .g) a k x cs (per-cases x cs)) vs → AllScoped T r (ar W r) ks vs × (length vs ≡ a)
+    inputs-scoped : (x : DeferredTarget) (a k : ℕ) (vs : List Value) → Emits (T .outputs) n (plan-inputs (W .g) a k x cs (per-cases x cs)) vs
+        → AllScoped T r (ar W r) ks vs × (length vs ≡ a)
     inputs-scoped x zero k vs em = ((λ i. rw em (scoped-const (undef 0) refl)), rw em)
     inputs-scoped x (suc a) k vs (v, ws, e, one, rest) =
         let y = inputs-scoped x a (suc k) ws rest in
@@ -142,7 +154,8 @@ module _ (W : World) where
         rw e ((λ y i. let f = emits-from (W .g) (T .outputs) n cs ws d′ h y i in rw (f .2 .target, em .target) (dw (f .0) (f .1))), emitted-distinct ws d′ h dws)
 
     pub set-emitted : (ws : List DeferredTargetSummary) (d : DeferredEdgeBundleSet) → EmitsAll (T .outputs) n (map (plan-bundle (W .g) cs) ws) d → FitAll W ws → DistinctTargets ws
-        → ((w : DeferredTargetSummary) → In w ws → (cds : LazyConds) → plan-bundle (W .g) cs w .condition ≡ some cds → CondOk T r (ar W r) ks (merge (n .node) (n .kind) (n .scrutinee) cds))
+        → ((w : DeferredTargetSummary) → In w ws → (cds : LazyConds) → plan-bundle (W .g) cs w .condition ≡ some cds
+        → CondOk T r (ar W r) ks (merge (n .node) (n .kind) (n .scrutinee) cds))
         → SetOk W T r (ar W r) ks d
     set-emitted ws d em fits dist conds = record { distinct = emitted-distinct ws d em dist; entries = λ e i. entry e (emits-from (W .g) (T .outputs) n cs ws d em e i) }
       where

@@ -1,5 +1,5 @@
 -- A case of a select is entered: its children follow the graph's run from there. Looking its values up changes nothing.
-use mathlib.Core.Bool.{Bool, false, true}
+use mathlib.Core.Bool.{false, true}
 use mathlib.Core.List.{List, [], _∷_, map}
 use mathlib.Core.Option.{some}
 use mathlib.Core.Path.{_∙_, _≡_, ap, refl, sym}
@@ -17,7 +17,7 @@ use Rattle.nesting.specs.Last.{rewrite-nodes}
 use Rattle.nesting.specs.Rewrite.{rewrite}
 use Rattle.nesting.specs.Select.{rewrite-bundle, rewrite-case}
 use Rattle.nesting.specs.State.{NestState, NodeOutput, RewriteEntry}
-use Rattle.follows.specs.Small.{In, from-map, getD-map-in, in-map, nth}
+use Rattle.follows.specs.Small.{In, false-if, from-map, getD-map-in, in-map, nth}
 use Rattle.follows.specs.Key.{Key, key, nodes-none, owns-nodes}
 use Rattle.follows.specs.World.{World, ar, runs}
 use Rattle.follows.specs.Tables.{Resolver, Respects, Tables, tables}
@@ -39,11 +39,14 @@ ScrutineeIs (value u) os v = v ≡ u
 ScrutineeIs (lazy c) os v = Mat c os v
 
 module _ (W : World) where
+  -- The case is entered: the graph's run goes on from its region, or along one of its deferred edges.
   abbrev pub Enters : Resolver → List NodeOutput → ℕ → End → List Event → RunState → MaybeClaimedRegion → Type 0
   Enters ρ os n e h s (ok c) = OnwardTo W ρ s n e h (to-region (c .origin)) (c .structured-body-inputs)
   Enters ρ os n e h s (err d) = Goes W ρ os n d e h s
 
-  pub record Takes (kind : SelectionKind) (sc : Scrutinee) (cases : List MaybeClaimedRegion) (ρ : Resolver) (os : List NodeOutput) (n : ℕ) (e : End) (h : List Event) (s : RunState) : Type 0 where
+  -- The test takes a case, and that case is entered.
+  pub record Takes (kind : SelectionKind) (sc : Scrutinee) (cases : List MaybeClaimedRegion) (ρ : Resolver) (os : List NodeOutput) (n : ℕ) (e : End) (h : List Event)
+      (s : RunState) : Type 0 where
     pub place-of : ℕ
     pub case-of : MaybeClaimedRegion
     pub at-place : nth cases place-of ≡ some case-of
@@ -64,16 +67,14 @@ module _ (W : World) where
       (fit .is .holds .sim .leads ρ os res b k (omega arith) s words bs lw
       (record {
         reads = λ i i-lt. ap (s .env) (law c refl i) ∙ sym (getD-map-in (λ v. s .env (ρ v)) (c .structured-body-inputs) i (undef 0) mark (omega (arith, lw, len)));
-        apart = λ i i-lt. rw (law c refl i) (in-apart {os = os} {q = r} {a = ar W r} {ks = ks} (owns-nodes (c .children)) (ρ (getD (c .structured-body-inputs) i (undef 0))) (nodes-none (c .children)) far (λ u o. not-both u o) (fit .is .inputs i .scoped ρ os res));
+        apart = λ i i-lt. rw (law c refl i)
+            (in-apart {os = os} {q = r} {a = ar W r} {ks = ks} (owns-nodes (c .children)) (ρ (getD (c .structured-body-inputs) i (undef 0)))
+            (nodes-none (c .children)) far (λ κ o. not-both κ o) (fit .is .inputs i .scoped ρ os res));
       })
       e h gr)
     where
-      not-both : (u : Key) → owns-nodes ks u ≡ true → owns-nodes (c .children) u ≡ false
-      not-both u o = by (owns-nodes (c .children) u) refl
-        where
-          by : (x : Bool) → owns-nodes (c .children) u ≡ x → x ≡ false
-          by false p = refl
-          by true p = absurd (fit .is .apart u o p)
+      not-both : (κ : Key) → owns-nodes ks κ ≡ true → owns-nodes (c .children) κ ≡ false
+      not-both κ o = false-if (owns-nodes (c .children) κ) (λ p. fit .is .apart κ o p)
 
   -- ---- values looked up
   distinct-rewritten : (σ : Resolver) (d : DeferredEdgeBundleSet) → Distinct d → Distinct (map (rewrite-bundle σ) d)
@@ -84,11 +85,14 @@ module _ (W : World) where
   read-rewritten ρ σ same s [] = refl
   read-rewritten ρ σ same s (v ∷ vs) = let p = same v in let q = read-rewritten ρ σ same s vs in cc
 
-  onward-rewritten : (ρ σ : Resolver) → ((v : Value) → ρ (σ v) ≡ ρ v) → (s : RunState) (n : ℕ) (e : End) (h : List Event) (x : DeferredTarget) (vs : List Value) → OnwardTo W ρ s n e h x vs → OnwardTo W ρ s n e h x (map σ vs)
+  onward-rewritten : (ρ σ : Resolver) → ((v : Value) → ρ (σ v) ≡ ρ v) → (s : RunState) (n : ℕ) (e : End) (h : List Event) (x : DeferredTarget) (vs : List Value)
+      → OnwardTo W ρ s n e h x vs → OnwardTo W ρ s n e h x (map σ vs)
   onward-rewritten ρ σ same s n e h (to-region r) vs (k, lt, len, gr) = (k, lt, length-map vs σ ∙ len, rw (read-rewritten ρ σ same s vs) gr)
   onward-rewritten ρ σ same s n e h to-return vs (p, q) = (rw (read-rewritten ρ σ same s vs) p, q)
 
-  goes-rewritten : (ρ σ : Resolver) → ((v : Value) → ρ (σ v) ≡ ρ v) → (os : List NodeOutput) (n : ℕ) (d : DeferredEdgeBundleSet) (e : End) (h : List Event) (s : RunState) → Goes W ρ os n d e h s → Goes W ρ os n (map (rewrite-bundle σ) d) e h s
+  goes-rewritten : (ρ σ : Resolver) → ((v : Value) → ρ (σ v) ≡ ρ v)
+      → (os : List NodeOutput) (n : ℕ) (d : DeferredEdgeBundleSet) (e : End) (h : List Event) (s : RunState) → Goes W ρ os n d e h s
+      → Goes W ρ os n (map (rewrite-bundle σ) d) e h s
   goes-rewritten ρ σ same os n d e h s go = record {
     entry = rewrite-bundle σ (go .entry);
     chosen = record {
@@ -103,7 +107,8 @@ module _ (W : World) where
   set-of-rewritten σ (ok c) = refl
   set-of-rewritten σ (err d) = refl
 
-  pub tracks-rewritten : (ρ σ : Resolver) → ((v : Value) → ρ (σ v) ≡ ρ v) → (os : List NodeOutput) (n : ℕ) (c : MaybeClaimedRegion) (e : End) (h : List Event) (R : Ran) → Tracks W ρ os n (deferred-of c) e h R → Tracks W ρ os n (deferred-of (rewrite-case σ c)) e h R
+  pub tracks-rewritten : (ρ σ : Resolver) → ((v : Value) → ρ (σ v) ≡ ρ v) → (os : List NodeOutput) (n : ℕ) (c : MaybeClaimedRegion) (e : End) (h : List Event) (R : Ran)
+      → Tracks W ρ os n (deferred-of c) e h R → Tracks W ρ os n (deferred-of (rewrite-case σ c)) e h R
   tracks-rewritten ρ σ same os n c e h R fl = rw (set-of-rewritten σ c) (go R fl)
     where
       go : (R : Ran) → Tracks W ρ os n (deferred-of c) e h R → Tracks W ρ os n (map (rewrite-bundle σ) (deferred-of c)) e h R
@@ -119,9 +124,16 @@ module _ (W : World) where
   getD-rewritten rs vs i = ap (λ z. getD (map (rewrite rs) vs) i z) (sym (undef-stays rs)) ∙ List·getD-map (rewrite rs) vs i (undef 0)
 
   pub set-rewritten : {T : Tables} {q a : ℕ} {ks : Nodes} (d : DeferredEdgeBundleSet) → SetOk W T q a ks d → SetOk W T q a ks (map (rewrite-bundle (rewrite (T .rewrites))) d)
-  set-rewritten {T} {q} {a} {ks} d h = record { distinct = distinct-rewritten (rewrite (T .rewrites)) d (h .distinct); entries = λ e i. go e (from-map (rewrite-bundle (rewrite (T .rewrites))) d e i) }
+  set-rewritten {T} {q} {a} {ks} d h =
+      record { distinct = distinct-rewritten (rewrite (T .rewrites)) d (h .distinct); entries = λ e i. go e (from-map (rewrite-bundle (rewrite (T .rewrites))) d e i) }
     where
       go : (e : DeferredEdgeBundle) → (z : DeferredEdgeBundle) × In z d × (e ≡ rewrite-bundle (rewrite (T .rewrites)) z) → EntryOk W T q a ks e
       go e (z, i, p) =
           let x = h .entries z i in
-          rw p (record { fits = rw (length-map (z .target-inputs) (rewrite (T .rewrites))) (x .fits); inputs = λ j. rw (getD-rewritten (T .rewrites) (z .target-inputs) j) (scoped-rewritten (getD (z .target-inputs) j (undef 0)) (x .inputs j)); condition = x .condition })
+          rw p (record {
+            fits = rw (length-map (z .target-inputs) (rewrite (T .rewrites))) (x .fits);
+            inputs =
+                λ j. rw (getD-rewritten (T .rewrites) (z .target-inputs) j)
+                (scoped-rewritten (getD (z .target-inputs) j (undef 0)) (x .inputs j));
+            condition = x .condition;
+          })

@@ -5,9 +5,10 @@ use mathlib.Core.Option.{Option, none, some}
 use mathlib.Core.Path.{_∙_, _≡_, refl, subst, sym}
 use Prim.Native.Nat.{_+_, _^_, suc, zero, ℕ}
 use native.Mathlib.Omega.{arith}
-use lib.Dec.{T, eqb, eqb→eq}
+use lib.Dec.{T, eqb}
 use lib.ListN.{getD, length}
-use Rattle.meaning.specs.Graph.{Value, bool, const, held, input, instr, output, pick, region, undef}
+use borrow.Author.Tests.{eqb-true}
+use Rattle.meaning.specs.Graph.{Value, bool, const, held, input, instr, output, pick, undef}
 use Rattle.format.specs.ReadLaws.{clash}
 use Rattle.nesting.specs.Rewrite.{rewrite, rewrite-chain, rewrites-of, step-chain, step-input}
 use Rattle.nesting.specs.State.{InputRewrite, RegionInputRewrites, RewriteEntry, renumber-or-replace-with, renumber-to, replace-by, replace-with}
@@ -87,7 +88,8 @@ entry-append : (es : List RewriteEntry) (x : RewriteEntry) (r : ℕ) (e : Region
 entry-append [] x r e p = absurd (clash (cc))
 entry-append (y ∷ es) x r e p = go (λ q. entry-append es x r e q) (eqb r (y .region)) p
   where
-    go : (rewrites-of es r ≡ some e → rewrites-of (es ++ (x ∷ [])) r ≡ some e) → (b : Bool) → pick b (some (y .rewrites)) (rewrites-of es r) ≡ some e → pick b (some (y .rewrites)) (rewrites-of (es ++ (x ∷ [])) r) ≡ some e
+    go : (rewrites-of es r ≡ some e → rewrites-of (es ++ (x ∷ [])) r ≡ some e) → (b : Bool) → pick b (some (y .rewrites)) (rewrites-of es r) ≡ some e
+        → pick b (some (y .rewrites)) (rewrites-of (es ++ (x ∷ [])) r) ≡ some e
     go ih true q = q
     go ih false q = ih q
 
@@ -95,7 +97,8 @@ entry-new : (es : List RewriteEntry) (x : RewriteEntry) (r : ℕ) → rewrites-o
 entry-new [] x r p = refl
 entry-new (y ∷ es) x r p = go (λ q. entry-new es x r q) (eqb r (y .region)) p
   where
-    go : (rewrites-of es r ≡ none → rewrites-of (es ++ (x ∷ [])) r ≡ pick (eqb r (x .region)) (some (x .rewrites)) none) → (b : Bool) → pick b (some (y .rewrites)) (rewrites-of es r) ≡ none
+    go : (rewrites-of es r ≡ none → rewrites-of (es ++ (x ∷ [])) r ≡ pick (eqb r (x .region)) (some (x .rewrites)) none) → (b : Bool)
+        → pick b (some (y .rewrites)) (rewrites-of es r) ≡ none
         → pick b (some (y .rewrites)) (rewrites-of (es ++ (x ∷ [])) r) ≡ pick (eqb r (x .region)) (some (x .rewrites)) none
     go ih true q = absurd (clash (cc))
     go ih false q = ih q
@@ -140,7 +143,8 @@ module _ (es : List RewriteEntry) (q : ℕ) (e : RegionInputRewrites) (d : ℕ) 
       IH : Type 0
       IH = (w : Value) → Final es (rewrite-chain n es w) → NotOf q (rewrite-chain n es w) → rewrite-chain (n + m) es⁺ w ≡ rewrite-chain n es w
 
-      at-input : IH → (r k : ℕ) → Final es (rewrite-chain (suc n) es (input r k)) → NotOf q (rewrite-chain (suc n) es (input r k)) → (o : Option RegionInputRewrites) → rewrites-of es r ≡ o
+      at-input : IH → (r k : ℕ) → Final es (rewrite-chain (suc n) es (input r k)) → NotOf q (rewrite-chain (suc n) es (input r k)) → (o : Option RegionInputRewrites)
+          → rewrites-of es r ≡ o
           → rewrite-chain (suc (n + m)) es⁺ (input r k) ≡ rewrite-chain (suc n) es (input r k)
       at-input ih r k h x none p =
           let stop : rewrite-chain (suc n) es (input r k) ≡ input r k = step-none es (suc n) r k p in
@@ -163,7 +167,7 @@ module _ (es : List RewriteEntry) (q : ℕ) (e : RegionInputRewrites) (d : ℕ) 
   stopped m r k p = go (eqb r q) refl
     where
       go : (b : Bool) → eqb r q ≡ b → Final es⁺ (rewrite-chain (suc (d + m)) es⁺ (input r k))
-      go true x = let r-q : r ≡ q = eqb→eq r q (rw x tt) in rw r-q (at-q m k)
+      go true x = let r-q : r ≡ q = eqb-true r q x in rw r-q (at-q m k)
       go false x = final-at (suc (d + m)) (input r k) (still-final (input r k) p x)
 
   goes-on : (n : ℕ) (v : Value) → Final es (rewrite-chain n es v) → Final es⁺ (rewrite-chain (suc (d + n)) es⁺ v)
@@ -175,7 +179,8 @@ module _ (es : List RewriteEntry) (q : ℕ) (e : RegionInputRewrites) (d : ℕ) 
       go (an-input r k p) = rw p (stopped 0 r k (rw p at h))
   goes-on (suc n) v h = go (λ w h′. goes-on n w h′) (shape v)
     where
-      at-input : ((w : Value) → Final es (rewrite-chain n es w) → Final es⁺ (rewrite-chain (suc (d + n)) es⁺ w)) → (r k : ℕ) → Final es (rewrite-chain (suc n) es (input r k)) → (o : Option RegionInputRewrites) → rewrites-of es r ≡ o
+      at-input : ((w : Value) → Final es (rewrite-chain n es w) → Final es⁺ (rewrite-chain (suc (d + n)) es⁺ w)) → (r k : ℕ)
+          → Final es (rewrite-chain (suc n) es (input r k)) → (o : Option RegionInputRewrites) → rewrites-of es r ≡ o
           → Final es⁺ (rewrite-chain (suc (d + suc n)) es⁺ (input r k))
       at-input ih r k h none p = stopped (suc n) r k p
       at-input ih r k h (some e′) p =
@@ -190,13 +195,14 @@ module _ (es : List RewriteEntry) (q : ℕ) (e : RegionInputRewrites) (d : ℕ) 
   pub settled-add : Settled es⁺ (suc (d + d))
   settled-add = record { settled = λ v. goes-on d v (old .settled v) }
 
--- ---- so the lookup respects its log
+-- ---- so the look-up respects its entries
 pub one-more : (es : List RewriteEntry) (d : ℕ) (v : Value) → Final es (rewrite-chain d es v) → rewrite-chain d es v ≡ rewrite-chain (suc d) es v
 unfolding rewrite-chain
 one-more es zero v h = sym (final-stays es 1 v h)
 one-more es (suc d) v h = go (λ w h′. one-more es d w h′) (shape v)
   where
-    at-input : ((w : Value) → Final es (rewrite-chain d es w) → rewrite-chain d es w ≡ rewrite-chain (suc d) es w) → (r k : ℕ) → Final es (rewrite-chain (suc d) es (input r k)) → (o : Option RegionInputRewrites) → rewrites-of es r ≡ o
+    at-input : ((w : Value) → Final es (rewrite-chain d es w) → rewrite-chain d es w ≡ rewrite-chain (suc d) es w) → (r k : ℕ)
+        → Final es (rewrite-chain (suc d) es (input r k)) → (o : Option RegionInputRewrites) → rewrites-of es r ≡ o
         → rewrite-chain (suc d) es (input r k) ≡ rewrite-chain (suc (suc d)) es (input r k)
     at-input ih r k h none p = step-none es (suc d) r k p ∙ sym (step-none es (suc (suc d)) r k p)
     at-input ih r k h (some e) p =
@@ -206,7 +212,8 @@ one-more es (suc d) v h = go (λ w h′. one-more es d w h′) (shape v)
     go ih (no-input fin nt) = final-stays es (suc d) v (fin es) ∙ sym (final-stays es (suc (suc d)) v (fin es))
     go ih (an-input r k p) = rw p (at-input ih r k (rw p at h) (rewrites-of es r) refl)
 
-pub entry-respected : (es : List RewriteEntry) (d : ℕ) → Settled es d → (r k : ℕ) (e : RegionInputRewrites) → rewrites-of es r ≡ some e → rewrite-chain (suc d) es (input r k) ≡ rewrite-chain (suc d) es (gives r k e)
+pub entry-respected : (es : List RewriteEntry) (d : ℕ) → Settled es d → (r k : ℕ) (e : RegionInputRewrites) → rewrites-of es r ≡ some e
+    → rewrite-chain (suc d) es (input r k) ≡ rewrite-chain (suc d) es (gives r k e)
 entry-respected es d h r k e p = step-some es d r k e p ∙ one-more es d (gives r k e) (h .settled (gives r k e))
 
 -- each region has one entry
@@ -228,7 +235,8 @@ law-of ρ on-held r (renumber-or-replace-with ss) h = λ k. h k ∙ go (getD ss 
     go (replace-by v) = refl
     go (renumber-to i) = on-held r i
 
-laws-of : (ρ : Resolver) (on-held : (r i : ℕ) → ρ (held r i) ≡ held r i) (es : List RewriteEntry) → Single es → ((r k : ℕ) (e : RegionInputRewrites) → rewrites-of es r ≡ some e → ρ (input r k) ≡ ρ (gives r k e)) → Laws ρ es
+laws-of : (ρ : Resolver) (on-held : (r i : ℕ) → ρ (held r i) ≡ held r i) (es : List RewriteEntry) → Single es
+    → ((r k : ℕ) (e : RegionInputRewrites) → rewrites-of es r ≡ some e → ρ (input r k) ≡ ρ (gives r k e)) → Laws ρ es
 laws-of ρ on-held [] s h = tt
 laws-of ρ on-held (x ∷ es) (one, s) h =
     (law-of ρ on-held (x .region) (x .rewrites) (λ k. h (x .region) k (x .rewrites) (rw (eqb-self (x .region)))), laws-of ρ on-held es s (λ r k e p. h r k e (later r e p)))
@@ -238,7 +246,7 @@ laws-of ρ on-held (x ∷ es) (one, s) h =
       where
         go : (b : Bool) → eqb r (x .region) ≡ b → pick b (some (x .rewrites)) (rewrites-of es r) ≡ some e
         go false q = p
-        go true q = let r-x : r ≡ x .region = eqb→eq r (x .region) (rw q tt) in let z : rewrites-of es r ≡ none = rw r-x one in cc
+        go true q = let r-x : r ≡ x .region = eqb-true r (x .region) q in let z : rewrites-of es r ≡ none = rw r-x one in cc
 
 pub final-respects : (T : Tables) → Ends (T .rewrites) → Respects (rewrite (T .rewrites)) (T .outputs) T
 unfolding rewrite

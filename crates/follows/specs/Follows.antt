@@ -4,31 +4,32 @@ use mathlib.Core.Logic.{_⊎_, inl, inr}
 use mathlib.Core.Bool.{Bool, true, false}
 use mathlib.Core.List.{List, [], _∷_, map}
 use mathlib.Core.Option.{Option, none, some}
-use Prim.Native.Nat.{ℕ, zero, suc, _+_, _≤_}
+use Prim.Native.Nat.{ℕ, zero, suc, _+_}
 use native.Mathlib.Omega.{arith}
 use lib.ListN.{length, getD, replicate, length-replicate, getD-replicate, List·getD-eq-default}
-use lib.Dec.{eqb, eqb→eq, leb, leb→le, nleb→lt}
-use Rattle.meaning.specs.Graph.{Value, const, input, held, instr, output, bool, undef, sameValue, Graph, region, pick}
-use Rattle.meaning.specs.Run.{Word, Env, Event, End, returned, Given, RunState, put-inputs, base-env, words-from, entry-words}
+use lib.Dec.{eqb, leb}
+use borrow.Author.Tests.{eqb-true, leb-true, leb-false}
+use Rattle.meaning.specs.Graph.{Value, const, input, held, instr, output, bool, undef, sameValue, Graph, region}
+use Rattle.meaning.specs.Run.{End, returned, Given, RunState, base-env, words-from, entry-words}
 use Rattle.meaning.specs.Form.{Nodes, ⟨⟩}
 use Rattle.meaning.specs.GraphRun.{Ended, run-from, graph-run}
 use Rattle.meaning.specs.NestedRun.{Ran, through, ended, no-end, run-nodes, ended-at, after-last, start, nested-run}
 use Rattle.format.specs.ReadLaws.{clash}
 use Rattle.format.specs.Valid.{Valid}
 use Rattle.nesting.specs.Deferred.{DeferredTarget, to-region, to-return, DeferredEdgeBundle, DeferredEdgeBundleSet}
-use Rattle.nesting.specs.Nested.{Outcome, untouched, whole, closed, leftover, Nested, NestAnswer, nested, refused}
-use Rattle.nesting.specs.State.{IncomingEdgeCount, StructurizeRegionState, not-begun, in-progress, claimed, ready, RewriteEntry, NestState, Answer, done, turned-away, give, follow, _>>_, turn-away}
+use Rattle.nesting.specs.Nested.{Outcome, untouched, whole, closed, leftover, Nested, NestAnswer, nested}
+use Rattle.nesting.specs.State.{IncomingEdgeCount, StructurizeRegionState, not-begun, in-progress, claimed, ready, NestState, Answer, done, turned-away, give, follow, _>>_, turn-away}
 use Rattle.nesting.specs.Change.{set-state, get-state, with-attempt}
 use Rattle.nesting.specs.Rewrite.{rewrites-of, rewrite, rewrite-chain}
 use Rattle.nesting.specs.Case.{ClaimedRegion}
 use Rattle.nesting.specs.Claim.{try-claim-edge-bundle, claim-by-state, claim-body, backedge-of, begin, structurize-region}
 use Rattle.nesting.specs.Count.{incoming-edge-counts}
 use Rattle.nesting.specs.Last.{rewrite-nodes}
-use Rattle.nesting.specs.Func.{initial-state, outcome-of, outcome-by, returned-values, piece, conclude-by, conclude, structurize-func-by, structurize-func}
+use Rattle.nesting.specs.Func.{initial-state, outcome-of, outcome-by, piece, conclude-by, conclude, structurize-func-by, structurize-func}
 use Rattle.follows.specs.Usable.{arity}
 use Rattle.follows.specs.Reach.{entry-reachable}
 use Rattle.follows.specs.ValidUse.{usable-graph}
-use Rattle.follows.specs.Statements.{HasForm, is-whole, is-closed, Followed, FollowsRun}
+use Rattle.follows.specs.Statements.{is-whole, is-closed, Followed, FollowsRun}
 use Rattle.follows.specs.Statements as statements
 use Rattle.nesting.specs.Post.{bind, map-post}
 use Rattle.nesting.specs.Fewer.{state-of}
@@ -43,7 +44,7 @@ use Rattle.follows.specs.Leads.{OnwardTo, Tracks}
 use Rattle.follows.specs.Final.{Ends, Final, final-respects}
 use Rattle.follows.specs.Defined.{IfDone}
 use Rattle.follows.specs.Invariant.{Inv}
-use Rattle.follows.specs.Holding.{unlogged-stays}
+use Rattle.follows.specs.Holding.{unrewritten-stays}
 use Rattle.follows.specs.ClaimReady.{ClaimDone, at-state}
 use Rattle.follows.specs.Claims.{claim-post}
 
@@ -52,8 +53,9 @@ all-new : (n r : ℕ) → getD (replicate n not-begun) r not-begun ≡ not-begun
 all-new n r = go (leb (suc r) n) refl
   where
     go : (b : Bool) → leb (suc r) n ≡ b → getD (replicate n not-begun) r not-begun ≡ not-begun
-    go true p = getD-replicate n r not-begun not-begun (leb→le (suc r) n (rw p tt))
-    go false p = List·getD-eq-default (replicate n not-begun) not-begun (let z = nleb→lt (suc r) n (rw p tt) in let y : length (replicate n not-begun) ≡ n = length-replicate n not-begun in omega arith)
+    go true p = getD-replicate n r not-begun not-begun (leb-true (suc r) n p)
+    go false p = List·getD-eq-default (replicate n not-begun) not-begun
+        (let z = leb-false (suc r) n p in let y : length (replicate n not-begun) ≡ n = length-replicate n not-begun in omega arith)
 
 final-first : (v : Value) → Final [] (rewrite-chain 0 [] v)
 unfolding rewrite-chain
@@ -78,7 +80,7 @@ module _ (W : World) where
     sets = λ r b ks d p. absurd (not-ready r b ks d p);
     disjoint = λ r r′ b b′ ks ks′ d d′ p p′ ne κ o o′. not-ready r b ks d p;
     fresh = λ κ o n. not-ready (o .region) (o .back) (o .children) (o .deferred-edges) (o .is);
-    unlogged = λ q l. refl;
+    unrewritten = λ q l. refl;
   }
     where
       not-ready : (r b : ℕ) (ks : Nodes) (d : DeferredEdgeBundleSet) → state-of (initial-state (W .g)) r ≡ ready b ks d → ⊥
@@ -110,9 +112,11 @@ module _ (g : Graph) (counts : List IncomingEdgeCount) where
         where
           no-way : (o : Option ClaimedRegion) (s₂ : NestState) → Itself r n o s₂
           no-way none s₂ = tt
-          no-way (some c) s₂ = λ q. absurd (let z : getD counts r 0 ≡ n + suc b = eqb→eq (getD counts r 0) (n + suc b) (rw p tt) in omega arith)
+          no-way (some c) s₂ = λ q. absurd (let z : getD counts r 0 ≡ n + suc b = eqb-true (getD counts r 0) (n + suc b) p in omega arith)
 
-      go : (o : Bool) → eqb (getD counts r 0) (n + b) ≡ o → IfDone (Itself r n) (at-state {A = Option ClaimedRegion} (elim o [ false ↦ give none | true ↦ set-state r claimed >> claim-body g r ins ks d (backedge-of r b d) ]) s)
+      go : (o : Bool) → eqb (getD counts r 0) (n + b) ≡ o
+          → IfDone (Itself r n) (at-state {A = Option ClaimedRegion}
+          (elim o [ false ↦ give none | true ↦ set-state r claimed >> claim-body g r ins ks d (backedge-of r b d) ]) s)
       go false p = record { post = tt }
       go true p = by b p _
 
@@ -120,7 +124,8 @@ module _ (g : Graph) (counts : List IncomingEdgeCount) where
   unfolding try-claim-edge-bundle
   claim-itself zero r n ins s = record { post = tt }
   claim-itself (suc fuel) r n ins s =
-      bind (follow (begin (state-of s r) (structurize-region g (λ r′ n′ ins′. try-claim-edge-bundle g counts fuel r′ n′ ins′) r) (with-attempt s)) (λ u. get-state r)) _ (anything _) λ x s₂ u. as-itself r n ins x s₂
+      bind (follow (begin (state-of s r) (structurize-region g (λ r′ n′ ins′. try-claim-edge-bundle g counts fuel r′ n′ ins′) r) (with-attempt s)) (λ u. get-state r)) _
+      (anything _) λ x s₂ u. as-itself r n ins x s₂
 
 -- ---- the run from the entry
 abbrev world : (g : Graph) → Valid g → Given → World
@@ -158,15 +163,15 @@ module _ (g : Graph) (valid : Valid g) (x : Given) (c : ClaimedRegion) (s : Nest
   entry-follows b e gr =
       let hd = cd .got .0 in
       let origin : c .origin ≡ g .entry = cd .got .2 in
-      let un : rewrites-of (s .region-input-rewrites) (g .entry) ≡ none = subst (λ q. rewrites-of (s .region-input-rewrites) q ≡ none) itself (hd .unlogged) in
+      let un : rewrites-of (s .region-input-rewrites) (g .entry) ≡ none = subst (λ q. rewrites-of (s .region-input-rewrites) q ≡ none) itself (hd .unrewritten) in
       hd .sim .leads ρ (s .node-outputs) (final-respects (tables s) (cd .inv .ends)) b b (omega arith) (start g x) (entry-words g x)
       (record { based = λ v k. puts-other (λ i. input (g .entry) i) v (not-input (g .entry) v k) 0 (entry-words g x) (base-env x) })
       (entry-many g x ∙ ap (λ q. length (region g q .inputs)) (sym origin))
       (record {
-        reads = λ k lt. ap (λ q. start g x .env (ρ (input q k))) itself ∙ ap (start g x .env) (unlogged-stays (s .region-input-rewrites) (g .entry) k un)
+        reads = λ k lt. ap (λ q. start g x .env (ρ (input q k))) itself ∙ ap (start g x .env) (unrewritten-stays (s .region-input-rewrites) (g .entry) k un)
             ∙ puts-at (λ i. input (g .entry) i) (input-numbered (g .entry)) (entry-words g x) k k 0 (omega arith) lt (base-env x);
         apart = λ k lt. ap (λ q. owns-nodes (c .children) (key (s .node-outputs) (ρ (input q k)))) itself
-            ∙ ap (λ v. owns-nodes (c .children) (key (s .node-outputs) v)) (unlogged-stays (s .region-input-rewrites) (g .entry) k un) ∙ nodes-none (c .children);
+            ∙ ap (λ v. owns-nodes (c .children) (key (s .node-outputs) v)) (unrewritten-stays (s .region-input-rewrites) (g .entry) k un) ∙ nodes-none (c .children);
       })
       (e .end) (e .events) (subst (λ q. run-from (x .rule) g (base-env x) b q (entry-words g x) [] ≡ some e) (sym origin) gr)
 
@@ -264,10 +269,14 @@ module _ (g : Graph) (valid : Valid g) (n : Nested) where
   by-counts counts r = go (eqb (getD counts (g .entry) 0) 1) refl r
     where
       go : (b : Bool) → eqb (getD counts (g .entry) 0) 1 ≡ b
-          → _≡_ {A = NestAnswer} (elim b [ false ↦ nested (conclude-by g (initial-state g) ⟨⟩ [] untouched) | true ↦ conclude g (try-claim-edge-bundle g counts (suc (length (g .regions))) (g .entry) 1 [] (initial-state g)) ]) (nested n)
+          → _≡_ {A = NestAnswer} (elim b [
+            | false ↦ nested (conclude-by g (initial-state g) ⟨⟩ [] untouched)
+            | true ↦ conclude g
+                (try-claim-edge-bundle g counts (suc (length (g .regions))) (g .entry) 1 [] (initial-state g))
+          ]) (nested n)
           → FollowsRun g n
       go false p r = untouched-run g n (ap (λ z. z .outcome) (sym (nested-is _ n r)))
-      go true p r = by-answer counts (eqb→eq (getD counts (g .entry) 0) 1 (rw p tt)) _
+      go true p r = by-answer counts (eqb-true (getD counts (g .entry) 0) 1 p) _
           (λ x. claim-post (world g valid x) counts (suc (length (g .regions))) (g .entry) 1 [] (initial-state g) (at-first (world g valid x)) (valid .entry) (entry-reachable g))
           (claim-itself g counts (suc (length (g .regions))) (g .entry) 1 [] (initial-state g)) r
 

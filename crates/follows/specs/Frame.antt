@@ -4,8 +4,9 @@ use mathlib.Core.List.{List, [], _∷_, map}
 use mathlib.Core.Path.{_∙_, _≡_, ap, refl, sym}
 use Prim.Native.Nat.{_+_, suc, zero, ℕ}
 use native.Mathlib.Omega.{arith}
-use lib.Dec.{eqb, eqb→eq, leb}
+use lib.Dec.{eqb, leb}
 use lib.ListN.{getD}
+use borrow.Author.Tests.{eqb-true, ne-eqb}
 use Rattle.meaning.specs.Form.{Cases, Node, Nodes, _▸_, block, case, exit, loop, select, ∅, ⟨⟩}
 use Rattle.meaning.specs.Graph.{Instr, Value, bool, const, held, input, instr, output, pick, sameValue, undef}
 use Rattle.meaning.specs.NestedRun.{Ran, and-then, assign-inputs, assign-outputs, case-count, ended, no-end, note-over, once-more, pay, put-outputs, run-case, run-node, run-nodes, tested, through, turns}
@@ -14,7 +15,7 @@ use Rattle.format.specs.ReadLaws.{clash}
 use Rattle.nesting.specs.Last.{case-outputs, output-decls, outputs-of, rewrite-cases-of, rewrite-node, rewrite-nodes, rewrite-reads}
 use Rattle.nesting.specs.State.{NodeOutput}
 use Rattle.follows.specs.Small.{eqb-less, eqb-self, map-map, or-left, or-right}
-use Rattle.follows.specs.Key.{OutputAt, is-held, is-instr, is-node, key, key-output, owns, owns-cases, owns-nodes}
+use Rattle.follows.specs.Key.{OutputAt, is-held, is-instr, is-node, key, key-output, of-node, owns, owns-cases, owns-nodes}
 
 -- ---- one variable is put
 pub put-other : (v u : Value) (w : Word) (σ : Env) → sameValue u v ≡ false → put v w σ u ≡ σ u
@@ -50,15 +51,10 @@ held-other os r k (bool b) h = refl
 held-other os r k (undef ty) h = refl
 
 output-other : {n : ℕ} {os : List NodeOutput} {k : ℕ} {o : NodeOutput} → OutputAt n os k o → (u : Value) → is-node n (key os u) ≡ false → sameValue u (output k) ≡ false
-output-other {n} {os} {k} at-k (output i) h = go (eqb i k) refl
-  where
-    go : (b : Bool) → eqb i k ≡ b → b ≡ false
-    go false p = refl
-    go true p =
-        let e : i ≡ k = eqb→eq i k (rw p tt) in
-        let z : key os (output i) ≡ _ = ap (λ x. key os (output x)) e ∙ key-output at-k in
-        let z′ : eqb n n ≡ false = rw z at h in
-        sym (eqb-self n) ∙ z′
+output-other {n} {os} {k} at-k (output i) h = ne-eqb i k λ e.
+    let z : key os (output i) ≡ of-node n = ap (λ x. key os (output x)) e ∙ key-output at-k in
+    let z′ : eqb n n ≡ false = rw z at h in
+    clash (cc (eqb-self n))
 output-other at-k (instr q i) h = refl
 output-other at-k (held q i) h = refl
 output-other at-k (const i) h = refl
@@ -88,11 +84,12 @@ outputs-others n k (o ∷ os) u h ws σ = go (λ x. outputs-others n (suc k) os 
     go ih false p ws σ = rest ih ws σ
     go ih true p [] σ = refl
     go ih true p (w ∷ ws) σ =
-        let e : n ≡ o .node = eqb→eq n (o .node) (rw p tt) in
+        let e : n ≡ o .node = eqb-true n (o .node) p in
         let z : k + 0 ≡ k = omega arith in
         rest ih ws _ ∙ put-other (output k) u w σ (rw z at (h 0 o (record { there = refl; node = sym e })))
 
-pub outputs-kept : (n : ℕ) (os : List NodeOutput) (u : Value) → is-node n (key os u) ≡ false → (vs : List Value) (s : RunState) → (assign-outputs (output-decls n 0 os) vs s) .env u ≡ s .env u
+pub outputs-kept : (n : ℕ) (os : List NodeOutput) (u : Value) → is-node n (key os u) ≡ false → (vs : List Value) (s : RunState)
+    → (assign-outputs (output-decls n 0 os) vs s) .env u ≡ s .env u
 outputs-kept n os u h vs s =
     outputs-others n 0 os u (λ i o at-i. let z : 0 + i ≡ i = omega arith in rw z (output-other at-i u h)) (map (s .env) vs) (s .env)
 
@@ -104,7 +101,8 @@ outputs-at n k j [] f i o at-i σ = absurd (let z = at-i .there in clash (cc))
 outputs-at n k j (x ∷ os) f i o at-i σ = go (λ i at-i σ. outputs-at n (suc k) j os f i o at-i σ) (eqb n (x .node)) refl i at-i σ
   where
     IH : Type 0
-    IH = (i : ℕ) → OutputAt n os i o → (σ : Env) → put-outputs (output-decls n (suc k) os) (map f (case-outputs j (outputs-of n os))) σ (output (suc k + i)) ≡ f (getD (o .values) j (undef 0))
+    IH = (i : ℕ) → OutputAt n os i o → (σ : Env) → put-outputs (output-decls n (suc k) os) (map f (case-outputs j (outputs-of n os))) σ (output (suc k + i)) ≡ f
+        (getD (o .values) j (undef 0))
 
     number-of : (i : ℕ) → k + suc i ≡ suc k + i
     number-of i = omega arith
@@ -182,11 +180,13 @@ module _ (rule : Rule) (test : ℕ) (ρ : Value → Value) (os : List NodeOutput
     node-kept (block n r k is) h b s = record { kept = block-kept r h k (map (rewrite-reads ρ) is) s }
     node-kept (select n kind v ds cs) h b s =
         tested-kept (s .env (ρ v)) _ λ w. trans-kept s (pay test s) refl _
-        (case-kept cs (or-right (is-node n (key os u)) (owns-cases cs (key os u)) h) b (place-taken kind w (case-count (rewrite-cases-of ρ os cs n 0))) n 0 (or-left (is-node n (key os u)) (owns-cases cs (key os u)) h) (pay test s))
+        (case-kept cs (or-right (is-node n (key os u)) (owns-cases cs (key os u)) h) b (place-taken kind w (case-count (rewrite-cases-of ρ os cs n 0))) n 0
+        (or-left (is-node n (key os u)) (owns-cases cs (key os u)) h) (pay test s))
     node-kept (loop n init r tys limit ks vs v) h b s =
         let k : is-held r (key os u) ≡ false = or-left (is-held r (key os u)) (owns-nodes ks (key os u)) h in
         trans-kept s (assign-inputs r (map ρ init) s) (inputs-kept os r u k (map ρ init) s) _
-        (turns-kept (λ s′. run-nodes rule test b (rewrite-nodes ρ os ks) s′) (λ s′. nodes-kept ks (or-right (is-held r (key os u)) (owns-nodes ks (key os u)) h) b s′) r limit k (map ρ vs) (ρ v) b 0 (assign-inputs r (map ρ init) s))
+        (turns-kept (λ s′. run-nodes rule test b (rewrite-nodes ρ os ks) s′)
+        (λ s′. nodes-kept ks (or-right (is-held r (key os u)) (owns-nodes ks (key os u)) h) b s′) r limit k (map ρ vs) (ρ v) b 0 (assign-inputs r (map ρ init) s))
     node-kept (exit n op vs) h b s = record { kept = tt }
 
     nodes-kept : (ks : Nodes) → owns-nodes ks (key os u) ≡ false → (b : ℕ) (s : RunState) → Kept u s (run-nodes rule test b (rewrite-nodes ρ os ks) s)

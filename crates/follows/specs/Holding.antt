@@ -1,5 +1,5 @@
 -- A region in progress, a claimed region that is held, and the cases of a select.
--- Doing s₀ r ks s: region r, begun at s₀, has the children ks at s; they own nothing Wild at s, and only what was Wild at s₀.
+-- Doing s₀ r ks s: region r, begun at s₀, has the children ks at s; they own nothing Free at s, and only what was Free at s₀.
 -- Came: and they lead to the deferred edges d, which are in scope. Holds c s: a claimed region, not yet put into place.
 use mathlib.Core.Bool.{Bool, false, true}
 use mathlib.Core.List.{List, [], _∷_}
@@ -8,10 +8,11 @@ use mathlib.Core.Option.{none}
 use mathlib.Core.Path.{_∙_, _≡_, ap, refl, sym}
 use Prim.Native.Nat.{_<_, _^_, ℕ}
 use native.Mathlib.Omega.{arith}
-use lib.Dec.{eqb, eqb→eq}
-use lib.ListN.{length, length-set, set}
+use lib.Dec.{eqb}
+use lib.ListN.{length, length-set}
+use borrow.Author.Tests.{eqb-true}
 use Rattle.meaning.specs.Form.{Nodes}
-use Rattle.meaning.specs.Graph.{Value, bool, const, held, input, instr, output, region, undef}
+use Rattle.meaning.specs.Graph.{Value, bool, const, held, input, instr, output, undef}
 use Rattle.format.specs.ReadLaws.{clash}
 use Rattle.nesting.specs.Case.{ClaimedRegion, MaybeClaimedRegion, err, ok}
 use Rattle.nesting.specs.Deferred.{DeferredEdgeBundleSet}
@@ -19,27 +20,28 @@ use Rattle.nesting.specs.Fewer.{state-of}
 use Rattle.nesting.specs.Rewrite.{rewrite, rewrite-chain, rewrites-of}
 use Rattle.nesting.specs.State.{NestState, NodeOutput, RewriteEntry, in-progress, not-begun, ready}
 use Rattle.follows.specs.Small.{In, eqb-self}
-use Rattle.follows.specs.Key.{Key, nodes-none, of-held, of-instr, of-node, of-none, owns, owns-nodes}
+use Rattle.follows.specs.Key.{Key, nodes-none, of-held, of-instr, of-node, of-none, owns-nodes}
 use Rattle.follows.specs.World.{World, ar, size}
 use Rattle.follows.specs.Tables.{tables}
 use Rattle.follows.specs.Leads.{Sim, leads-on}
 use Rattle.follows.specs.Final.{Ends, NotOf, final-respects, one-more, step-none}
 use Rattle.follows.specs.Scope.{AllScoped, InScope, Scoped, SetOk, constant, own-input, owned, scoped-later, set-later, within-refl}
-use Rattle.follows.specs.Invariant.{Inv, Later, Loggable, New, Owned, Wild, idle, is-claimed, later-then, new, old, unborn, waiting}
-use Rattle.follows.specs.StateChanges.{else, now, turned}
+use Rattle.follows.specs.Invariant.{Free, Inv, Later, New, Owned, Rewritable, idle, is-claimed, later-then, new, old, unborn, waiting}
+use Rattle.follows.specs.StateChanges.{changed, else, now}
 
--- what is not logged stays; a lookup is at rest
-pub unlogged-stays : (es : List RewriteEntry) (r k : ℕ) → rewrites-of es r ≡ none → rewrite es (input r k) ≡ input r k
+-- what has no rewrites stays as it is; a look-up is at rest
+pub unrewritten-stays : (es : List RewriteEntry) (r k : ℕ) → rewrites-of es r ≡ none → rewrite es (input r k) ≡ input r k
 unfolding rewrite
-unlogged-stays es r k un = step-none es (2 ^ length es) r k un
+unrewritten-stays es r k un = step-none es (2 ^ length es) r k un
 
 at-rest : (es : List RewriteEntry) (h : Ends es) (v : Value) → rewrite-chain (h .steps) es v ≡ rewrite es v
 unfolding rewrite
 at-rest es h v = one-more es (h .steps) v (h .settles .settled v) ∙ ap (λ n. rewrite-chain n es v) (h .enough)
 
-not-of : (es : List RewriteEntry) (q r : ℕ) → eqb r q ≡ false → rewrites-of es r ≡ none → (a : ℕ) (ks : Nodes) (os : List NodeOutput) (w : Value) → InScope (rewrite es) os r a ks w → NotOf q w
+not-of : (es : List RewriteEntry) (q r : ℕ) → eqb r q ≡ false → rewrites-of es r ≡ none → (a : ℕ) (ks : Nodes) (os : List NodeOutput) (w : Value)
+    → InScope (rewrite es) os r a ks w → NotOf q w
 not-of es q r ne un a ks os (input p k) (constant c) = cc
-not-of es q r ne un a ks os (input p k) (own-input i lt e) = let z : input p k ≡ input r i = e ∙ unlogged-stays es r i un in let z′ : p ≡ r = cc in rw z′ ne
+not-of es q r ne un a ks os (input p k) (own-input i lt e) = let z : input p k ≡ input r i = e ∙ unrewritten-stays es r i un in let z′ : p ≡ r = cc in rw z′ ne
 not-of es q r ne un a ks os (input p k) (owned o) = let z : true ≡ false = sym o ∙ nodes-none ks in cc
 not-of es q r ne un a ks os (const i) x = tt
 not-of es q r ne un a ks os (held p k) x = tt
@@ -48,15 +50,17 @@ not-of es q r ne un a ks os (output k) x = tt
 not-of es q r ne un a ks os (bool b) x = tt
 not-of es q r ne un a ks os (undef ty) x = tt
 
--- values in the scope of an unlogged region r come to no input of another region q
-pub scoped-not-of : (es : List RewriteEntry) (h : Ends es) (q r : ℕ) → eqb r q ≡ false → rewrites-of es r ≡ none → (a : ℕ) (ks : Nodes) (os : List NodeOutput) (v : Value) → Scoped (record { rewrites = es; outputs = os }) r a ks v → NotOf q (rewrite-chain (h .steps) es v)
-scoped-not-of es h q r ne un a ks os v sc = rw (at-rest es h v) (not-of es q r ne un a ks os (rewrite es v) (sc .scoped (rewrite es) os (final-respects (record { rewrites = es; outputs = os }) h)))
+-- values in the scope of a region r without rewrites come to no input of another region q
+pub scoped-not-of : (es : List RewriteEntry) (h : Ends es) (q r : ℕ) → eqb r q ≡ false → rewrites-of es r ≡ none
+    → (a : ℕ) (ks : Nodes) (os : List NodeOutput) (v : Value) → Scoped (record { rewrites = es; outputs = os }) r a ks v → NotOf q (rewrite-chain (h .steps) es v)
+scoped-not-of es h q r ne un a ks os v sc = rw (at-rest es h v)
+    (not-of es q r ne un a ks os (rewrite es v) (sc .scoped (rewrite es) os (final-respects (record { rewrites = es; outputs = os }) h)))
 
 pub at-or-else : (P : Type 0) (q r : ℕ) → (q ≡ r → P) → (eqb q r ≡ false → P) → P
 at-or-else P q r p e = go (eqb q r) refl
   where
     go : (o : Bool) → eqb q r ≡ o → P
-    go true x = p (eqb→eq q r (rw x tt))
+    go true x = p (eqb-true q r x)
     go false x = e x
 
 module _ (W : World) where
@@ -67,9 +71,9 @@ module _ (W : World) where
     pub step : Later W s₀ s
     pub began : state-of s₀ r ≡ not-begun
     pub busy : state-of s r ≡ in-progress
-    pub unlogged : rewrites-of (s .region-input-rewrites) r ≡ none
-    pub since : (v : Key) → owns-nodes ks v ≡ true → Wild s₀ v
-    pub clear : (v : Key) → owns-nodes ks v ≡ true → Wild s v → ⊥
+    pub unrewritten : rewrites-of (s .region-input-rewrites) r ≡ none
+    pub since : (κ : Key) → owns-nodes ks κ ≡ true → Free s₀ κ
+    pub clear : (κ : Key) → owns-nodes ks κ ≡ true → Free s κ → ⊥
 
   pub record Came (s₀ : NestState) (r : ℕ) (ks : Nodes) (d : DeferredEdgeBundleSet) (s : NestState) : Type 0 where
     pub doing : Doing s₀ r ks s
@@ -80,14 +84,14 @@ module _ (W : World) where
   pub record Holds (c : ClaimedRegion) (s : NestState) : Type 0 where
     pub sim : Sim W (c .origin) (c .structured-body) (c .children) (c .deferred-edges) (tables s)
     pub set : SetOk W (tables s) (c .structured-body) (ar W (c .origin)) (c .children) (c .deferred-edges)
-    pub clear : (v : Key) → owns-nodes (c .children) v ≡ true → Wild s v → ⊥
-    pub closed : Loggable W s (c .structured-body) → ⊥
-    pub unlogged : rewrites-of (s .region-input-rewrites) (c .structured-body) ≡ none
+    pub clear : (κ : Key) → owns-nodes (c .children) κ ≡ true → Free s κ → ⊥
+    pub closed : Rewritable W s (c .structured-body) → ⊥
+    pub unrewritten : rewrites-of (s .region-input-rewrites) (c .structured-body) ≡ none
 
   -- it was none of s₀'s
   pub record Since (s₀ : NestState) (c : ClaimedRegion) : Type 0 where
-    pub kids : (v : Key) → owns-nodes (c .children) v ≡ true → Wild s₀ v
-    pub region : Loggable W s₀ (c .structured-body)
+    pub children : (κ : Key) → owns-nodes (c .children) κ ≡ true → Free s₀ κ
+    pub region : Rewritable W s₀ (c .structured-body)
 
   pub doing-on : {s₀ s s′ : NestState} {r : ℕ} {ks : Nodes} → Doing s₀ r ks s → Inv W s′ → Later W s s′ → Doing s₀ r ks s′
   doing-on {r} d h st = record {
@@ -96,16 +100,16 @@ module _ (W : World) where
     step = later-then W (d .step) st;
     began = d .began;
     busy = st .busy r (d .busy);
-    unlogged = st .kept r (closed d) (d .unlogged);
+    unrewritten = st .kept r (closed d) (d .unrewritten);
     since = d .since;
-    clear = λ v o w. d .clear v o (st .wild v w);
+    clear = λ κ o w. d .clear κ o (st .free κ w);
   }
     where
-      closed : {s₀ s : NestState} {r : ℕ} {ks : Nodes} → Doing s₀ r ks s → Loggable W s r → ⊥
+      closed : {s₀ s : NestState} {r : ℕ} {ks : Nodes} → Doing s₀ r ks s → Rewritable W s r → ⊥
       closed e (unborn le) = omega (arith, e .inv .room, e .in-range)
       closed e (waiting lt p) = let z : idle in-progress ≡ true = rw (e .busy) at p in clash (cc)
 
-  pub doing-closed : {s₀ s : NestState} {r : ℕ} {ks : Nodes} → Doing s₀ r ks s → Loggable W s r → ⊥
+  pub doing-closed : {s₀ s : NestState} {r : ℕ} {ks : Nodes} → Doing s₀ r ks s → Rewritable W s r → ⊥
   doing-closed e (unborn le) = omega (arith, e .inv .room, e .in-range)
   doing-closed e (waiting lt p) = let z : idle in-progress ≡ true = rw (e .busy) at p in clash (cc)
 
@@ -113,9 +117,9 @@ module _ (W : World) where
   holds-on {c} h st = record {
     sim = leads-on W (st .gains) (h .sim);
     set = set-later W (st .gains) (within-refl (c .children)) (h .set);
-    clear = λ v o w. h .clear v o (st .wild v w);
-    closed = λ l. h .closed (st .loggable (c .structured-body) l);
-    unlogged = st .kept (c .structured-body) (h .closed) (h .unlogged);
+    clear = λ κ o w. h .clear κ o (st .free κ w);
+    closed = λ l. h .closed (st .rewritable (c .structured-body) l);
+    unrewritten = st .kept (c .structured-body) (h .closed) (h .unrewritten);
   }
 
   pub came-on : {s₀ s s′ : NestState} {r : ℕ} {ks : Nodes} {d : DeferredEdgeBundleSet} → Came s₀ r ks d s → Inv W s′ → Later W s s′ → Came s₀ r ks d s′
@@ -127,7 +131,7 @@ module _ (W : World) where
     pub since : Since s₀ c
     pub inputs : AllScoped (tables s) r (ar W r) ks (c .structured-body-inputs)
     pub other : eqb r (c .structured-body) ≡ false
-    pub apart : (v : Key) → owns-nodes ks v ≡ true → owns-nodes (c .children) v ≡ true → ⊥
+    pub apart : (κ : Key) → owns-nodes ks κ ≡ true → owns-nodes (c .children) κ ≡ true → ⊥
 
   abbrev pub CaseIs : NestState → ℕ → Nodes → NestState → MaybeClaimedRegion → Type 0
   CaseIs s₀ r ks s (ok c) = ClaimedOk s₀ r ks s c
@@ -147,7 +151,14 @@ module _ (W : World) where
     pub apart : Apart cs
 
   pub claimed-on : {s₀ s s′ : NestState} {r : ℕ} {ks : Nodes} {c : ClaimedRegion} → ClaimedOk s₀ r ks s c → Later W s s′ → ClaimedOk s₀ r ks s′ c
-  claimed-on {ks} h st = record { holds = holds-on (h .holds) st; since = h .since; inputs = λ i. scoped-later (st .gains) (within-refl ks) (h .inputs i); other = h .other; apart = h .apart }
+  claimed-on {ks} h st = record {
+    holds = holds-on (h .holds) st;
+    since = h .since;
+    inputs = λ i. scoped-later (st .gains) (within-refl ks)
+        (h .inputs i);
+    other = h .other;
+    apart = h .apart;
+  }
 
   pub case-on : {s₀ s s′ : NestState} {r : ℕ} {ks : Nodes} (c : MaybeClaimedRegion) → CaseOk s₀ r ks s c → Later W s s′ → CaseOk s₀ r ks s′ c
   case-on (ok c) h st = record { is = claimed-on (h .is) st }
@@ -159,7 +170,7 @@ module _ (W : World) where
     h = cm .doing .inv
 
     abbrev s⁺ : NestState
-    s⁺ = turned W s r (ready b ks d) h (cm .doing .in-range)
+    s⁺ = changed W s r (ready b ks d) h (cm .doing .in-range)
 
     now⁺ : state-of s⁺ r ≡ ready b ks d
     now⁺ = now W s r (ready b ks d) h (cm .doing .in-range)
@@ -170,13 +181,13 @@ module _ (W : World) where
     ready-was : (q b′ : ℕ) (ks′ : Nodes) (d′ : DeferredEdgeBundleSet) → state-of s⁺ q ≡ ready b′ ks′ d′ → eqb q r ≡ false → state-of s q ≡ ready b′ ks′ d′
     ready-was q b′ ks′ d′ p ne = sym (else⁺ q ne) ∙ p
 
-    its-kids : (q b′ : ℕ) (ks′ : Nodes) (d′ : DeferredEdgeBundleSet) → state-of s⁺ q ≡ ready b′ ks′ d′ → q ≡ r → ks′ ≡ ks
-    its-kids q b′ ks′ d′ p e = let z : ready b′ ks′ d′ ≡ ready b ks d = sym p ∙ ap (λ x. state-of s⁺ x) e ∙ now⁺ in cc
+    its-children : (q b′ : ℕ) (ks′ : Nodes) (d′ : DeferredEdgeBundleSet) → state-of s⁺ q ≡ ready b′ ks′ d′ → q ≡ r → ks′ ≡ ks
+    its-children q b′ ks′ d′ p e = let z : ready b′ ks′ d′ ≡ ready b ks d = sym p ∙ ap (λ x. state-of s⁺ x) e ∙ now⁺ in cc
 
     its-set : (q b′ : ℕ) (ks′ : Nodes) (d′ : DeferredEdgeBundleSet) → state-of s⁺ q ≡ ready b′ ks′ d′ → q ≡ r → d′ ≡ d
     its-set q b′ ks′ d′ p e = let z : ready b′ ks′ d′ ≡ ready b ks d = sym p ∙ ap (λ x. state-of s⁺ x) e ∙ now⁺ in cc
 
-    new-was : (v : Key) → New s⁺ v → New s v
+    new-was : (κ : Key) → New s⁺ κ → New s κ
     new-was (of-instr q) n = at-or-else (state-of s q ≡ not-begun) q r
         (λ e. absurd (let z : ready b ks d ≡ not-begun = sym now⁺ ∙ ap (λ x. state-of s⁺ x) (sym e) ∙ n in clash (cc)))
         (λ ne. sym (else⁺ q ne) ∙ n)
@@ -184,14 +195,22 @@ module _ (W : World) where
     new-was (of-node a) n = n
     new-was of-none n = n
 
-    loggable-was : (q : ℕ) → eqb q r ≡ false → Loggable W s⁺ q → Loggable W s q
-    loggable-was q ne (unborn le) = unborn le
-    loggable-was q ne (waiting lt p) = waiting lt (rw (else⁺ q ne) at p)
+    rewritable-was : (q : ℕ) → eqb q r ≡ false → Rewritable W s⁺ q → Rewritable W s q
+    rewritable-was q ne (unborn le) = unborn le
+    rewritable-was q ne (waiting lt p) = waiting lt (rw (else⁺ q ne) at p)
 
-    owned-was : (v : Key) → Owned s⁺ v → (owns-nodes ks v ≡ true) ⊎ Owned s v
-    owned-was v o = at-or-else ((owns-nodes ks v ≡ true) ⊎ Owned s v) (o .region) r
-        (λ e. inl (rw (its-kids (o .region) (o .back) (o .children) (o .deferred-edges) (o .is) e) at (o .owns)))
-        (λ ne. inr (record { region = o .region; back = o .back; children = o .children; deferred-edges = o .deferred-edges; is = ready-was (o .region) (o .back) (o .children) (o .deferred-edges) (o .is) ne; owns = o .owns }))
+    owned-was : (κ : Key) → Owned s⁺ κ → (owns-nodes ks κ ≡ true) ⊎ Owned s κ
+    owned-was κ o = at-or-else ((owns-nodes ks κ ≡ true) ⊎ Owned s κ) (o .region) r
+        (λ e. inl (rw (its-children (o .region) (o .back) (o .children) (o .deferred-edges) (o .is) e) at (o .owns)))
+        (λ ne. inr (record {
+          region = o .region;
+          back = o .back;
+          children = o .children;
+          deferred-edges = o .deferred-edges;
+          is = ready-was (o .region) (o .back)
+              (o .children) (o .deferred-edges) (o .is) ne;
+          owns = o .owns;
+        }))
 
     pub inv-ready : Inv W s⁺
     inv-ready = record {
@@ -199,47 +218,48 @@ module _ (W : World) where
       sized = length-set (s .region-states) r (ready b ks d) ∙ h .sized;
       room = h .room;
       sims = λ q b′ ks′ d′ p. at-or-else (Sim W q q ks′ d′ (tables s)) q r
-          (λ e. rw (e, its-kids q b′ ks′ d′ p e, its-set q b′ ks′ d′ p e) (cm .sim)) (λ ne. h .sims q b′ ks′ d′ (ready-was q b′ ks′ d′ p ne));
+          (λ e. rw (e, its-children q b′ ks′ d′ p e, its-set q b′ ks′ d′ p e) (cm .sim)) (λ ne. h .sims q b′ ks′ d′ (ready-was q b′ ks′ d′ p ne));
       sets = λ q b′ ks′ d′ p. at-or-else (SetOk W (tables s) q (ar W q) ks′ d′) q r
-          (λ e. rw (e, its-kids q b′ ks′ d′ p e, its-set q b′ ks′ d′ p e) (cm .set)) (λ ne. h .sets q b′ ks′ d′ (ready-was q b′ ks′ d′ p ne));
-      disjoint = λ q q′ b₁ b₂ k₁ k₂ d₁ d₂ p p′ ne v o o′. apart q q′ b₁ b₂ k₁ k₂ d₁ d₂ p p′ ne v o o′;
-      fresh = λ v o n. fresh v (owned-was v o) n;
-      unlogged = λ q l. at-or-else (rewrites-of (s .region-input-rewrites) q ≡ none) q r (λ e. rw e (cm .doing .unlogged)) (λ ne. h .unlogged q (loggable-was q ne l));
+          (λ e. rw (e, its-children q b′ ks′ d′ p e, its-set q b′ ks′ d′ p e) (cm .set)) (λ ne. h .sets q b′ ks′ d′ (ready-was q b′ ks′ d′ p ne));
+      disjoint = λ q q′ b₁ b₂ k₁ k₂ d₁ d₂ p p′ ne κ o o′. apart q q′ b₁ b₂ k₁ k₂ d₁ d₂ p p′ ne κ o o′;
+      fresh = λ κ o n. fresh κ (owned-was κ o) n;
+      unrewritten = λ q l. at-or-else (rewrites-of (s .region-input-rewrites) q ≡ none) q r (λ e. rw e (cm .doing .unrewritten)) (λ ne. h .unrewritten q (rewritable-was q ne l));
     }
       where
-        fresh : (v : Key) → (owns-nodes ks v ≡ true) ⊎ Owned s v → New s⁺ v → ⊥
-        fresh v (inl o) n = cm .doing .clear v o (new (new-was v n))
-        fresh v (inr o) n = h .fresh v o (new-was v n)
+        fresh : (κ : Key) → (owns-nodes ks κ ≡ true) ⊎ Owned s κ → New s⁺ κ → ⊥
+        fresh κ (inl o) n = cm .doing .clear κ o (new (new-was κ n))
+        fresh κ (inr o) n = h .fresh κ o (new-was κ n)
 
-        mine : (q b′ : ℕ) (ks′ : Nodes) (d′ : DeferredEdgeBundleSet) → state-of s⁺ q ≡ ready b′ ks′ d′ → eqb q r ≡ false → (v : Key) → owns-nodes ks′ v ≡ true → owns-nodes ks v ≡ true → ⊥
-        mine q b′ ks′ d′ p ne v o o′ = cm .doing .clear v o′ (old (record { region = q; back = b′; children = ks′; deferred-edges = d′; is = ready-was q b′ ks′ d′ p ne; owns = o }))
+        mine : (q b′ : ℕ) (ks′ : Nodes) (d′ : DeferredEdgeBundleSet) → state-of s⁺ q ≡ ready b′ ks′ d′ → eqb q r ≡ false → (κ : Key) → owns-nodes ks′ κ ≡ true
+            → owns-nodes ks κ ≡ true → ⊥
+        mine q b′ ks′ d′ p ne κ o o′ = cm .doing .clear κ o′ (old (record { region = q; back = b′; children = ks′; deferred-edges = d′; is = ready-was q b′ ks′ d′ p ne; owns = o }))
 
         apart : (q q′ b₁ b₂ : ℕ) (k₁ k₂ : Nodes) (d₁ d₂ : DeferredEdgeBundleSet) → state-of s⁺ q ≡ ready b₁ k₁ d₁ → state-of s⁺ q′ ≡ ready b₂ k₂ d₂ → eqb q q′ ≡ false
-            → (v : Key) → owns-nodes k₁ v ≡ true → owns-nodes k₂ v ≡ true → ⊥
-        apart q q′ b₁ b₂ k₁ k₂ d₁ d₂ p p′ ne v o o′ = at-or-else ⊥ q r
+            → (κ : Key) → owns-nodes k₁ κ ≡ true → owns-nodes k₂ κ ≡ true → ⊥
+        apart q q′ b₁ b₂ k₁ k₂ d₁ d₂ p p′ ne κ o o′ = at-or-else ⊥ q r
             (λ e. at-or-else ⊥ q′ r
             (λ e′. let z : eqb r r ≡ false = rw (e, e′) at ne in let z′ : true ≡ false = sym (eqb-self r) ∙ z in clash (cc))
-            (λ ne′. mine q′ b₂ k₂ d₂ p′ ne′ v o′ (rw (its-kids q b₁ k₁ d₁ p e) at o)))
+            (λ ne′. mine q′ b₂ k₂ d₂ p′ ne′ κ o′ (rw (its-children q b₁ k₁ d₁ p e) at o)))
             (λ ne₁. at-or-else ⊥ q′ r
-            (λ e′. mine q b₁ k₁ d₁ p ne₁ v o (rw (its-kids q′ b₂ k₂ d₂ p′ e′) at o′))
-            (λ ne₂. h .disjoint q q′ b₁ b₂ k₁ k₂ d₁ d₂ (ready-was q b₁ k₁ d₁ p ne₁) (ready-was q′ b₂ k₂ d₂ p′ ne₂) ne v o o′))
+            (λ e′. mine q b₁ k₁ d₁ p ne₁ κ o (rw (its-children q′ b₂ k₂ d₂ p′ e′) at o′))
+            (λ ne₂. h .disjoint q q′ b₁ b₂ k₁ k₂ d₁ d₂ (ready-was q b₁ k₁ d₁ p ne₁) (ready-was q′ b₂ k₂ d₂ p′ ne₂) ne κ o o′))
 
     pub later-ready : Later W s₀ s⁺
     later-ready = record {
       gains = cm .doing .step .gains;
-      wild = wild;
-      loggable = λ q l. at-or-else (Loggable W s₀ q) q r
-          (λ e. waiting (rw e (cm .doing .in-range)) (rw (e, cm .doing .began))) (λ ne. cm .doing .step .loggable q (loggable-was q ne l));
+      free = free;
+      rewritable = λ q l. at-or-else (Rewritable W s₀ q) q r
+          (λ e. waiting (rw e (cm .doing .in-range)) (rw (e, cm .doing .began))) (λ ne. cm .doing .step .rewritable q (rewritable-was q ne l));
       kept = cm .doing .step .kept;
       busy = λ q p. at-or-else (state-of s⁺ q ≡ in-progress) q r
           (λ e. absurd (let z : in-progress ≡ not-begun = sym p ∙ ap (λ x. state-of s₀ x) e ∙ cm .doing .began in clash (cc)))
           (λ ne. else⁺ q ne ∙ cm .doing .step .busy q p);
     }
       where
-        owned₀ : (v : Key) → (owns-nodes ks v ≡ true) ⊎ Owned s v → Wild s₀ v
-        owned₀ v (inl o) = cm .doing .since v o
-        owned₀ v (inr o) = cm .doing .step .wild v (old o)
+        owned₀ : (κ : Key) → (owns-nodes ks κ ≡ true) ⊎ Owned s κ → Free s₀ κ
+        owned₀ κ (inl o) = cm .doing .since κ o
+        owned₀ κ (inr o) = cm .doing .step .free κ (old o)
 
-        wild : (v : Key) → Wild s⁺ v → Wild s₀ v
-        wild v (old o) = owned₀ v (owned-was v o)
-        wild v (new n) = cm .doing .step .wild v (new (new-was v n))
+        free : (κ : Key) → Free s⁺ κ → Free s₀ κ
+        free κ (old o) = owned₀ κ (owned-was κ o)
+        free κ (new n) = cm .doing .step .free κ (new (new-was κ n))

@@ -1,16 +1,17 @@
 -- The invariant of nesting's state, and what a step may change.
 -- A key is Owned if a Ready region's children own it, New if no children can own it yet: instructions of a region not begun,
--- body inputs of a region not claimed, outputs of a node not defined. Wild is either: what a call may still use.
--- A region is Loggable if someone other than its holder may still give it rewrites: not begun, Ready, or not yet defined.
--- Whoever holds children that own nothing Wild, or a region that is not Loggable, still does after any call: no list of holders is kept.
+-- body inputs of a region not claimed, outputs of a node not defined. Free is either: what a call may still use.
+-- A region is Rewritable if someone other than its holder may still give it rewrites: not begun, Ready, or not yet defined.
+-- Whoever holds children that own nothing Free, or a region that is not Rewritable, still does after any call: no list of holders is kept.
 use mathlib.Core.Bool.{Bool, false, true}
 use mathlib.Core.List.{List, [], _++_, _∷_, append-nil}
 use mathlib.Core.Option.{none, some}
 use mathlib.Core.Path.{_∙_, _≡_, ap, refl, subst, sym}
 use Prim.Native.Nat.{_+_, _<_, _^_, _≤_, suc, ℕ}
 use native.Mathlib.Omega.{arith}
-use lib.Dec.{eqb, eqb→eq}
+use lib.Dec.{eqb}
 use lib.ListN.{getD, length, length-append}
+use borrow.Author.Tests.{ne-eqb}
 use Rattle.meaning.specs.Form.{Nodes}
 use Rattle.meaning.specs.Graph.{pick, region}
 use Rattle.format.specs.ReadLaws.{clash}
@@ -19,8 +20,8 @@ use Rattle.nesting.specs.Deferred.{DeferredEdgeBundleSet}
 use Rattle.nesting.specs.Fewer.{state-of}
 use Rattle.nesting.specs.Rewrite.{rewrite-chain, rewrites-of}
 use Rattle.nesting.specs.State.{NestState, RegionInputRewrites, RewriteEntry, StructurizeRegionState, claimed, in-progress, not-begun, ready}
-use Rattle.follows.specs.Small.{entry-keeps, eqb-self}
-use Rattle.follows.specs.Key.{Key, of-held, of-instr, of-node, of-none, owns, owns-nodes}
+use Rattle.follows.specs.Small.{entry-keeps, eqb-sym}
+use Rattle.follows.specs.Key.{Key, of-held, of-instr, of-node, of-none, owns-nodes}
 use Rattle.follows.specs.World.{World, ar, size}
 use Rattle.follows.specs.Tables.{Gains, extends-refl, gains-refl, gains-then, tables}
 use Rattle.follows.specs.Leads.{Sim, leads-on}
@@ -40,7 +41,7 @@ is-claimed in-progress = false
 is-claimed claimed = true
 is-claimed (ready b ks d) = false
 
--- some Ready region's children own the variable
+-- Some Ready region's children own the key.
 pub record Owned (s : NestState) (κ : Key) : Type 0 where
   pub region : ℕ
   pub back : ℕ
@@ -49,25 +50,25 @@ pub record Owned (s : NestState) (κ : Key) : Type 0 where
   pub is : state-of s region ≡ ready back children deferred-edges
   pub owns : owns-nodes children κ ≡ true
 
--- no children own it yet
+-- No children own it yet.
 abbrev pub New : NestState → Key → Type 0
 New s (of-instr q) = state-of s q ≡ not-begun
 New s (of-held q) = is-claimed (state-of s q) ≡ false
 New s (of-node n) = s .node-count ≤ n
 New s of-none = ⊥
 
-pub data Wild (s : NestState) (κ : Key) : Type 0 where
-  old : Owned s κ → Wild s κ
-  new : New s κ → Wild s κ
+pub data Free (s : NestState) (κ : Key) : Type 0 where
+  old : Owned s κ → Free s κ
+  new : New s κ → Free s κ
 
 module _ (W : World) where
-  -- the region may yet be logged by someone other than who holds it
-  pub data Loggable (s : NestState) (q : ℕ) : Type 0 where
-    unborn : s .region-count ≤ q → Loggable s q
-    waiting : q < size W → idle (state-of s q) ≡ true → Loggable s q
+  -- Someone other than its holder may yet give the region rewrites.
+  pub data Rewritable (s : NestState) (q : ℕ) : Type 0 where
+    unborn : s .region-count ≤ q → Rewritable s q
+    waiting : q < size W → idle (state-of s q) ≡ true → Rewritable s q
 
   -- Look-ups end; a Ready region's children follow the graph, its deferred edges are in scope; the children of two Ready regions
-  -- own nothing in common, and nothing New; what is Loggable has no rewrites.
+  -- own nothing in common, and nothing New; what is Rewritable has no rewrites.
   pub record Inv (s : NestState) : Type 0 where
     pub ends : Ends (s .region-input-rewrites)
     pub sized : length (s .region-states) ≡ size W
@@ -77,25 +78,25 @@ module _ (W : World) where
     pub disjoint : (r r′ b b′ : ℕ) (ks ks′ : Nodes) (d d′ : DeferredEdgeBundleSet) → state-of s r ≡ ready b ks d → state-of s r′ ≡ ready b′ ks′ d′ → eqb r r′ ≡ false
         → (κ : Key) → owns-nodes ks κ ≡ true → owns-nodes ks′ κ ≡ true → ⊥
     pub fresh : (κ : Key) → Owned s κ → New s κ → ⊥
-    pub unlogged : (q : ℕ) → Loggable s q → rewrites-of (s .region-input-rewrites) q ≡ none
+    pub unrewritten : (q : ℕ) → Rewritable s q → rewrites-of (s .region-input-rewrites) q ≡ none
 
-  -- Tables gain; nothing becomes Wild or Loggable again; what is not Loggable gets no rewrites; who is in progress stays so.
+  -- Tables gain; nothing becomes Free or Rewritable again; what is not Rewritable gets no rewrites; who is in progress stays so.
   pub record Later (s s′ : NestState) : Type 0 where
     pub gains : Gains (tables s) (tables s′)
-    pub wild : (κ : Key) → Wild s′ κ → Wild s κ
-    pub loggable : (q : ℕ) → Loggable s′ q → Loggable s q
-    pub kept : (q : ℕ) → (Loggable s q → ⊥) → rewrites-of (s .region-input-rewrites) q ≡ none → rewrites-of (s′ .region-input-rewrites) q ≡ none
+    pub free : (κ : Key) → Free s′ κ → Free s κ
+    pub rewritable : (q : ℕ) → Rewritable s′ q → Rewritable s q
+    pub kept : (q : ℕ) → (Rewritable s q → ⊥) → rewrites-of (s .region-input-rewrites) q ≡ none → rewrites-of (s′ .region-input-rewrites) q ≡ none
     pub busy : (q : ℕ) → state-of s q ≡ in-progress → state-of s′ q ≡ in-progress
 
   pub later-refl : (s : NestState) → Later s s
-  later-refl s = record { gains = gains-refl (tables s); wild = λ v h. h; loggable = λ q h. h; kept = λ q n h. h; busy = λ q h. h }
+  later-refl s = record { gains = gains-refl (tables s); free = λ κ h. h; rewritable = λ q h. h; kept = λ q n h. h; busy = λ q h. h }
 
   pub later-then : {s s′ s″ : NestState} → Later s s′ → Later s′ s″ → Later s s″
   later-then p q = record {
     gains = gains-then (p .gains) (q .gains);
-    wild = λ v h. p .wild v (q .wild v h);
-    loggable = λ r h. p .loggable r (q .loggable r h);
-    kept = λ r n h. q .kept r (λ l. n (p .loggable r l)) (p .kept r n h);
+    free = λ κ h. p .free κ (q .free κ h);
+    rewritable = λ r h. p .rewritable r (q .rewritable r h);
+    kept = λ r n h. q .kept r (λ l. n (p .rewritable r l)) (p .kept r n h);
     busy = λ r h. q .busy r (p .busy r h);
   }
 
@@ -105,7 +106,15 @@ module _ (W : World) where
     status-same r = ap (λ l. getD l r not-begun) (gr .region-states)
 
     owned-same : (κ : Key) → Owned s′ κ → Owned s κ
-    owned-same v o = record { region = o .region; back = o .back; children = o .children; deferred-edges = o .deferred-edges; is = sym (status-same (o .region)) ∙ o .is; owns = o .owns }
+    owned-same v o = record {
+      region = o .region;
+      back = o .back;
+      children = o .children;
+      deferred-edges = o .deferred-edges;
+      is = sym (status-same (o .region))
+          ∙ o .is;
+      owns = o .owns;
+    }
 
     new-same : (κ : Key) → New s′ κ → New s κ
     new-same (of-instr q) h = sym (status-same q) ∙ h
@@ -113,9 +122,9 @@ module _ (W : World) where
     new-same (of-node n) h = omega (arith, gr .node-count)
     new-same of-none h = h
 
-    loggable-same : (q : ℕ) → Loggable s′ q → Loggable s q
-    loggable-same q (unborn h) = unborn (omega (arith, gr .regions))
-    loggable-same q (waiting lt h) = waiting lt (rw (status-same q) at h)
+    rewritable-same : (q : ℕ) → Rewritable s′ q → Rewritable s q
+    rewritable-same q (unborn h) = unborn (omega (arith, gr .regions))
+    rewritable-same q (waiting lt h) = waiting lt (rw (status-same q) at h)
 
     pub grew-gains : Gains (tables s) (tables s′)
     grew-gains = record { rewrites = record { more = []; whole = gr .rewrites ∙ sym (append-nil (s .region-input-rewrites)) }; outputs = gr .outputs }
@@ -123,13 +132,13 @@ module _ (W : World) where
     pub later-grew : Later s s′
     later-grew = record {
       gains = grew-gains;
-      wild = λ v h. go v h;
-      loggable = loggable-same;
+      free = λ v h. go v h;
+      rewritable = rewritable-same;
       kept = λ q n h. rw (gr .rewrites) h;
       busy = λ q h. status-same q ∙ h;
     }
       where
-        go : (κ : Key) → Wild s′ κ → Wild s κ
+        go : (κ : Key) → Free s′ κ → Free s κ
         go v (old o) = old (owned-same v o)
         go v (new n) = new (new-same v n)
 
@@ -142,52 +151,46 @@ module _ (W : World) where
       sets = λ r b ks d p. set-later W grew-gains (within-refl ks) (h .sets r b ks d (sym (status-same r) ∙ p));
       disjoint = λ r r′ b b′ ks ks′ d d′ p p′ ne. h .disjoint r r′ b b′ ks ks′ d d′ (sym (status-same r) ∙ p) (sym (status-same r′) ∙ p′) ne;
       fresh = λ v o n. h .fresh v (owned-same v o) (new-same v n);
-      unlogged = λ q l. rw (gr .rewrites) (h .unlogged q (loggable-same q l));
+      unrewritten = λ q l. rw (gr .rewrites) (h .unrewritten q (rewritable-same q l));
     }
 
-  -- ---- an entry is logged
+  -- ---- an entry is added
   single-add : (es : List RewriteEntry) (x : RewriteEntry) → Single es → rewrites-of es (x .region) ≡ none → Single (es ++ (x ∷ []))
   single-add [] x s h = (refl, tt)
   single-add (y ∷ es) x (one, s) h = go (λ p. single-add es x s p) (eqb (x .region) (y .region)) refl h
     where
-      go : (rewrites-of es (x .region) ≡ none → Single (es ++ (x ∷ []))) → (b : Bool) → eqb (x .region) (y .region) ≡ b → pick b (some (y .rewrites)) (rewrites-of es (x .region)) ≡ none → Single ((y ∷ es) ++ (x ∷ []))
+      go : (rewrites-of es (x .region) ≡ none → Single (es ++ (x ∷ []))) → (b : Bool) → eqb (x .region) (y .region) ≡ b
+          → pick b (some (y .rewrites)) (rewrites-of es (x .region)) ≡ none → Single ((y ∷ es) ++ (x ∷ []))
       go ih true q p = absurd (clash (cc))
-      go ih false q p = (entry-keeps es x (y .region) (flip q) one, ih p)
-        where
-          flip : eqb (x .region) (y .region) ≡ false → eqb (y .region) (x .region) ≡ false
-          flip q′ = by (eqb (y .region) (x .region)) refl
-            where
-              by : (b : Bool) → eqb (y .region) (x .region) ≡ b → b ≡ false
-              by false e = refl
-              by true e =
-                  let same : y .region ≡ x .region = eqb→eq (y .region) (x .region) (rw e tt) in
-                  let z : eqb (x .region) (y .region) ≡ true = rw same (eqb-self (x .region)) in cc
+      go ih false q p = (entry-keeps es x (y .region) (eqb-sym (y .region) (x .region) ∙ q) one, ih p)
 
-  ends-add : (es : List RewriteEntry) (q : ℕ) (e : RegionInputRewrites) → (h : Ends es) → rewrites-of es q ≡ none → ((k : ℕ) → NotOf q (rewrite-chain (h .steps) es (gives q k e))) → Ends (es ++ (record { region = q; rewrites = e } ∷ []))
+  ends-add : (es : List RewriteEntry) (q : ℕ) (e : RegionInputRewrites) → (h : Ends es) → rewrites-of es q ≡ none
+      → ((k : ℕ) → NotOf q (rewrite-chain (h .steps) es (gives q k e))) → Ends (es ++ (record { region = q; rewrites = e } ∷ []))
   ends-add es q e h no-q nots =
       record {
         steps = suc (h .steps + h .steps);
         settles = settled-add es q e (h .steps) no-q (h .settles) nots;
-        enough = let l : length (es ++ (record { region = q; rewrites = e } ∷ [])) ≡ suc (length es) = length-append es _ ∙ omega arith in rw l (enough′ (length es) (h .steps) (h .enough));
+        enough = let l : length (es ++ (record { region = q; rewrites = e } ∷ [])) ≡ suc (length es) = length-append es _ ∙ omega arith in rw l
+            (enough′ (length es) (h .steps) (h .enough));
         single = single-add es (record { region = q; rewrites = e }) (h .single) no-q;
       }
     where
       enough′ : (n d : ℕ) → suc d ≡ 2 ^ n → suc (suc (d + d)) ≡ 2 ^ suc n
       enough′ n d p = let z : 2 ^ suc n ≡ 2 ^ n + 2 ^ n = omega arith in omega (arith, p, z)
 
-  abbrev pub logging : ℕ → RegionInputRewrites → NestState → NestState
-  logging q e s = with-rewrites (s .region-input-rewrites ++ (record { region = q; rewrites = e } ∷ [])) s
+  abbrev pub rewriting : ℕ → RegionInputRewrites → NestState → NestState
+  rewriting q e s = with-rewrites (s .region-input-rewrites ++ (record { region = q; rewrites = e } ∷ [])) s
 
   module _ (s : NestState) (q : ℕ) (e : RegionInputRewrites) where
     abbrev s⁺ : NestState
-    s⁺ = logging q e s
+    s⁺ = rewriting q e s
 
-    pub logged-gains : Gains (tables s) (tables s⁺)
-    logged-gains = record { rewrites = record { more = record { region = q; rewrites = e } ∷ []; whole = refl }; outputs = extends-refl (s .node-outputs) }
+    pub rewrite-gains : Gains (tables s) (tables s⁺)
+    rewrite-gains = record { rewrites = record { more = record { region = q; rewrites = e } ∷ []; whole = refl }; outputs = extends-refl (s .node-outputs) }
 
-    loggable⁺ : (r : ℕ) → Loggable s⁺ r → Loggable s r
-    loggable⁺ r (unborn h) = unborn h
-    loggable⁺ r (waiting lt h) = waiting lt h
+    pub rewritable⁺ : (r : ℕ) → Rewritable s⁺ r → Rewritable s r
+    rewritable⁺ r (unborn h) = unborn h
+    rewritable⁺ r (waiting lt h) = waiting lt h
 
     owned⁺ : (κ : Key) → Owned s⁺ κ → Owned s κ
     owned⁺ v o = record { region = o .region; back = o .back; children = o .children; deferred-edges = o .deferred-edges; is = o .is; owns = o .owns }
@@ -198,36 +201,35 @@ module _ (W : World) where
     new⁺ (of-node n) h = h
     new⁺ of-none h = h
 
-    pub inv-log : (h : Inv s) → rewrites-of (s .region-input-rewrites) q ≡ none → (Loggable s q → ⊥) → ((k : ℕ) → NotOf q (rewrite-chain (h .ends .steps) (s .region-input-rewrites) (gives q k e))) → Inv s⁺
-    inv-log h no-q closed nots = record {
+    pub free⁺ : (κ : Key) → Free s⁺ κ → Free s κ
+    free⁺ κ (old o) = old (owned⁺ κ o)
+    free⁺ κ (new n) = new (new⁺ κ n)
+
+    pub inv-rewrite : (h : Inv s) → rewrites-of (s .region-input-rewrites) q ≡ none → (Rewritable s q → ⊥)
+        → ((k : ℕ) → NotOf q (rewrite-chain (h .ends .steps) (s .region-input-rewrites) (gives q k e))) → Inv s⁺
+    inv-rewrite h no-q closed nots = record {
       ends = ends-add (s .region-input-rewrites) q e (h .ends) no-q nots;
       sized = h .sized;
       room = h .room;
-      sims = λ r b ks d p. leads-on W logged-gains (h .sims r b ks d p);
-      sets = λ r b ks d p. set-later W logged-gains (within-refl ks) (h .sets r b ks d p);
+      sims = λ r b ks d p. leads-on W rewrite-gains (h .sims r b ks d p);
+      sets = λ r b ks d p. set-later W rewrite-gains (within-refl ks) (h .sets r b ks d p);
       disjoint = λ r r′ b b′ ks ks′ d d′ p p′ ne. h .disjoint r r′ b b′ ks ks′ d d′ p p′ ne;
       fresh = λ v o n. h .fresh v (owned⁺ v o) (new⁺ v n);
-      unlogged = λ r l. entry-keeps (s .region-input-rewrites) (record { region = q; rewrites = e }) r (other r (eqb r q) refl l) (h .unlogged r (loggable⁺ r l));
+      unrewritten = λ r l. entry-keeps (s .region-input-rewrites) (record { region = q; rewrites = e }) r (other r l) (h .unrewritten r (rewritable⁺ r l));
     }
       where
-        other : (r : ℕ) (b : Bool) → eqb r q ≡ b → Loggable s⁺ r → b ≡ false
-        other r false p l = refl
-        other r true p l = let same : r ≡ q = eqb→eq r q (rw p tt) in absurd (closed (subst (λ x. Loggable s x) same (loggable⁺ r l)))
+        other : (r : ℕ) → Rewritable s⁺ r → eqb r q ≡ false
+        other r l = ne-eqb r q (λ p. closed (subst (λ x. Rewritable s x) p (rewritable⁺ r l)))
 
-    -- since s₀, when the region could still be logged
-    pub later-log : {s₀ : NestState} → Later s₀ s → Loggable s₀ q → Later s₀ s⁺
-    later-log {s₀} st l = record {
-      gains = gains-then (st .gains) logged-gains;
-      wild = λ v h. st .wild v (go v h);
-      loggable = λ r h. st .loggable r (loggable⁺ r h);
-      kept = λ r n h. entry-keeps (s .region-input-rewrites) (record { region = q; rewrites = e }) r (other r n (eqb r q) refl) (st .kept r n h);
+    -- since s₀, when the region could still get rewrites
+    pub later-rewrite : {s₀ : NestState} → Later s₀ s → Rewritable s₀ q → Later s₀ s⁺
+    later-rewrite {s₀} st l = record {
+      gains = gains-then (st .gains) rewrite-gains;
+      free = λ κ h. st .free κ (free⁺ κ h);
+      rewritable = λ r h. st .rewritable r (rewritable⁺ r h);
+      kept = λ r n h. entry-keeps (s .region-input-rewrites) (record { region = q; rewrites = e }) r (other r n) (st .kept r n h);
       busy = λ r h. st .busy r h;
     }
       where
-        go : (κ : Key) → Wild s⁺ κ → Wild s κ
-        go v (old o) = old (owned⁺ v o)
-        go v (new n) = new (new⁺ v n)
-
-        other : (r : ℕ) → (Loggable s₀ r → ⊥) → (b : Bool) → eqb r q ≡ b → b ≡ false
-        other r n false p = refl
-        other r n true p = let same : r ≡ q = eqb→eq r q (rw p tt) in absurd (n (subst (λ x. Loggable s₀ x) (sym same) l))
+        other : (r : ℕ) → (Rewritable s₀ r → ⊥) → eqb r q ≡ false
+        other r n = ne-eqb r q (λ p. n (subst (λ x. Rewritable s₀ x) (sym p) l))

@@ -1,10 +1,11 @@
 -- Keys: whose variable a value is, as a table of outputs has it, and which keys a node owns.
 use mathlib.Core.Bool.{Bool, _||_, false, or-assoc, true}
-use mathlib.Core.List.{List, []}
+use mathlib.Core.List.{List}
 use mathlib.Core.Option.{Option, none, some}
 use mathlib.Core.Path.{_∙_, _≡_, ap, refl, sym}
 use Prim.Native.Nat.{ℕ}
-use lib.Dec.{eqb, eqb→eq}
+use lib.Dec.{eqb}
+use borrow.Author.Tests.{eqb-true}
 use Rattle.meaning.specs.Form.{Cases, Node, Nodes, _▸_, block, case, exit, loop, select, ∅, ⟨⟩}
 use Rattle.meaning.specs.Graph.{Value, bool, const, held, input, instr, output, undef}
 use Rattle.format.specs.ReadLaws.{clash}
@@ -78,21 +79,21 @@ is-held r (of-held q) = eqb q r
 
 pub instr-key : (r : ℕ) (κ : Key) → is-instr r κ ≡ true → κ ≡ of-instr r
 instr-key r of-none p = absurd (clash (cc))
-instr-key r (of-instr q) p = ap of-instr (eqb→eq q r (rw p tt))
+instr-key r (of-instr q) p = ap of-instr (eqb-true q r p)
 instr-key r (of-node n) p = absurd (clash (cc))
 instr-key r (of-held q) p = absurd (clash (cc))
 
 pub node-key : (n : ℕ) (κ : Key) → is-node n κ ≡ true → κ ≡ of-node n
 node-key n of-none p = absurd (clash (cc))
 node-key n (of-instr q) p = absurd (clash (cc))
-node-key n (of-node q) p = ap of-node (eqb→eq q n (rw p tt))
+node-key n (of-node q) p = ap of-node (eqb-true q n p)
 node-key n (of-held q) p = absurd (clash (cc))
 
 pub held-key : (r : ℕ) (κ : Key) → is-held r κ ≡ true → κ ≡ of-held r
 held-key r of-none p = absurd (clash (cc))
 held-key r (of-instr q) p = absurd (clash (cc))
 held-key r (of-node n) p = absurd (clash (cc))
-held-key r (of-held q) p = ap of-held (eqb→eq q r (rw p tt))
+held-key r (of-held q) p = ap of-held (eqb-true q r p)
 
 -- ---- what a node owns: its run changes nothing else
 unfoldable mutual

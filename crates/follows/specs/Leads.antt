@@ -1,6 +1,6 @@
 -- Where children lead: a run of a region's children ends as the graph's run does, or comes to a state from which that goes on.
 use mathlib.Core.Bool.{_||_, false, true}
-use mathlib.Core.List.{List, [], map}
+use mathlib.Core.List.{List, map}
 use mathlib.Core.Option.{Option, some}
 use mathlib.Core.Path.{_∙_, _≡_, ap, refl, sym}
 use Prim.Native.Nat.{_<_, _≤_, ℕ}
@@ -9,9 +9,10 @@ use lib.Dec.{T}
 use lib.ListN.{getD, length}
 use Rattle.meaning.specs.Form.{Nodes, _▸_, ⟨⟩}
 use Rattle.meaning.specs.Graph.{Value, input}
-use Rattle.meaning.specs.GraphRun.{Ended}
+use Rattle.meaning.specs.GraphRun.{Ended, run-from}
 use Rattle.meaning.specs.NestedRun.{Ran, and-then, ended, no-end, run-node, run-nodes, through}
 use Rattle.meaning.specs.Run.{End, Event, RunState, Word, mark, returned, word}
+use Rattle.format.specs.ReadLaws.{clash}
 use Rattle.nesting.specs.BundleSet.{same-target}
 use Rattle.nesting.specs.Case.{join}
 use Rattle.nesting.specs.Deferred.{DeferredEdgeBundle, DeferredEdgeBundleSet, DeferredTarget, to-region, to-return}
@@ -47,6 +48,11 @@ pub forms-join : (ρ : Resolver) (os : List NodeOutput) (a b : Nodes) → rewrit
 unfolding rewrite-nodes
 forms-join ρ os ⟨⟩ b = refl
 forms-join ρ os (x ▸ a) b = ap (λ ks. rewrite-node ρ os x ▸ ks) (forms-join ρ os a b)
+
+pub then-on : (R : Ran) → and-then R (λ s. through s) ≡ R
+then-on (through s) = refl
+then-on (ended e s) = refl
+then-on no-end = refl
 
 module _ (W : World) where
   pub then-runs : (b : ℕ) (a c : Nodes) (s : RunState) → runs W b (join a c) s ≡ and-then (runs W b a s) (λ s′. runs W b c s′)
@@ -101,6 +107,10 @@ module _ (W : World) where
   abbrev pub Sim : ℕ → ℕ → Nodes → DeferredEdgeBundleSet → Tables → Type 0
   Sim r q ks d T = Leads r q ks T (λ ρ os n e h s. Goes ρ os n d e h s)
 
+  pub none-run : (r : ℕ) (ws : List Word) (past : List Event) (e : End) (h : List Event) → from-region W 0 r ws past ≡ ends-with e h → ⊥
+  unfolding run-from
+  none-run r ws past e h p = clash (cc)
+
   pub leads-on : {r q : ℕ} {ks : Nodes} {T T′ : Tables} {Q : Reached} → Gains T T′ → Leads r q ks T Q → Leads r q ks T′ Q
   leads-on p h = record { leads = λ ρ os res. h .leads ρ os (respects-back p res) }
 
@@ -122,11 +132,13 @@ module _ (W : World) where
       go ρ os res b n s bs e h (ended e′ s′) p q = record { leads-to = q .leads-to }
       go ρ os res b n s bs e h no-end p q = record { leads-to = q .leads-to }
 
-  onward-less : (ρ : Resolver) (s : RunState) (n n′ : ℕ) → n ≤ n′ → (e : End) (h : List Event) (x : DeferredTarget) (vs : List Value) → OnwardTo ρ s n e h x vs → OnwardTo ρ s n′ e h x vs
+  onward-less : (ρ : Resolver) (s : RunState) (n n′ : ℕ) → n ≤ n′ → (e : End) (h : List Event) (x : DeferredTarget) (vs : List Value) → OnwardTo ρ s n e h x vs
+      → OnwardTo ρ s n′ e h x vs
   onward-less ρ s n n′ le e h (to-region r) vs p = (p .0, omega arith, p .2, p .3)
   onward-less ρ s n n′ le e h to-return vs p = p
 
-  pub tracks-less : (ρ : Resolver) (os : List NodeOutput) (n n′ : ℕ) → n ≤ n′ → (d : DeferredEdgeBundleSet) (e : End) (h : List Event) (r : Ran) → Tracks ρ os n d e h r → Tracks ρ os n′ d e h r
+  pub tracks-less : (ρ : Resolver) (os : List NodeOutput) (n n′ : ℕ) → n ≤ n′ → (d : DeferredEdgeBundleSet) (e : End) (h : List Event) (r : Ran) → Tracks ρ os n d e h r
+      → Tracks ρ os n′ d e h r
   tracks-less ρ os n n′ le d e h (through s) p =
       let y = p .leads-to in
       record { leads-to = record { entry = y .entry; chosen = y .chosen; onward = onward-less ρ s n n′ le e h (y .entry .target) (y .entry .target-inputs) (y .onward) } }
@@ -141,7 +153,8 @@ module _ (W : World) where
       → Sim r r (join ks more) d T′
   leads-then {r} {ks} {T} {T′} more d Q ld gains next = record {
     leads = λ ρ os res b n le s w bs lw gv e h gr.
-        let first = ld .leads ρ os (respects-back gains res) b n le s w bs lw (record { reads = gv .reads; apart = λ k lt. or-left _ _ (both (key os (ρ (input r k))) (gv .apart k lt)) }) e h gr in
+        let first = ld .leads ρ os (respects-back gains res) b n le s w bs lw
+        (record { reads = gv .reads; apart = λ k lt. or-left _ _ (both (key os (ρ (input r k))) (gv .apart k lt)) }) e h gr in
         rw (forms-join ρ os ks more, then-runs b (rewrite-nodes ρ os ks) (rewrite-nodes ρ os more) s)
         (go ρ os res b n le s w bs lw (gv .apart) e h (runs W b (rewrite-nodes ρ os ks) s) refl first);
   }

@@ -8,11 +8,9 @@ use native.Mathlib.Omega.{arith}
 use lib.Dec.{T, leb}
 use lib.ListN.{getD, length, length-map}
 use Rattle.meaning.specs.Form.{Nodes, _▸_, loop, ⟨⟩}
-use Rattle.meaning.specs.Graph.{Value, bool, held, input, region, undef}
-use Rattle.meaning.specs.GraphRun.{run-from}
+use Rattle.meaning.specs.Graph.{Value, bool, held, input, undef}
 use Rattle.meaning.specs.NestedRun.{Ran, and-then, assign-inputs, ended, no-end, note-over, once-more, pay, run-nodes, tested, through, turns}
 use Rattle.meaning.specs.Run.{End, Event, RunState, Word, mark, put-inputs, word}
-use Rattle.format.specs.ReadLaws.{clash}
 use Rattle.nesting.specs.BundleSet.{same-target}
 use Rattle.nesting.specs.Deferred.{DeferredEdgeBundle, DeferredEdgeBundleSet, DeferredTarget, to-region, to-return}
 use Rattle.nesting.specs.Last.{rewrite-nodes}
@@ -24,31 +22,24 @@ use Rattle.follows.specs.World.{World, ar, from-region, runs}
 use Rattle.follows.specs.Tables.{Extends, Gains, Resolver, Respects, Tables, extends-refl, laws-last, respects-back}
 use Rattle.follows.specs.Frame.{inputs-kept}
 use Rattle.follows.specs.Conditions.{Mat, Truthy}
-use Rattle.follows.specs.Leads.{Based, Chosen, Goes, OnwardTo, Sim, Tracks, based-after, ends-with, read, tracks-less}
+use Rattle.follows.specs.Leads.{Based, Chosen, Goes, OnwardTo, Sim, Tracks, based-after, ends-with, none-run, read, then-on, tracks-less}
 use Rattle.follows.specs.Inputs.{held-numbered, puts-at}
 use Rattle.follows.specs.Bundles.{same-target-sym}
 
-pub then-on : (R : Ran) → and-then R (λ s. through s) ≡ R
-then-on (through s) = refl
-then-on (ended e s) = refl
-then-on no-end = refl
-
 module _ (W : World) where
   -- how a header's input goes on, for the back edge's inputs `ins`, the wrapper q, and the loop's own lists
-  abbrev pub SlotOk : Resolver → ℕ → ℕ → List Value → List Value → List Value → ℕ → InputRewrite → Type 0
-  SlotOk ρ r q ins init outs k (replace-by v) = (v ≡ input q k) × (ρ (getD ins k (undef 0)) ≡ ρ (input r k))
-  SlotOk ρ r q ins init outs k (renumber-to i) = (i < length init) × (getD init i (undef 0) ≡ input q k) × (i < length outs) × (ρ (getD outs i (undef 0)) ≡ ρ (getD ins k (undef 0)))
+  abbrev pub HeaderInput : Resolver → ℕ → ℕ → List Value → List Value → List Value → ℕ → InputRewrite → Type 0
+  HeaderInput ρ r q ins init outs k (replace-by v) = (v ≡ input q k) × (ρ (getD ins k (undef 0)) ≡ ρ (input r k))
+  HeaderInput ρ r q ins init outs k (renumber-to i) = (i < length init) × (getD init i (undef 0) ≡ input q k) × (i < length outs)
+      × (ρ (getD outs i (undef 0)) ≡ ρ (getD ins k (undef 0)))
 
-  onward-pay : (ρ : Resolver) (s : RunState) (n : ℕ) (e : End) (h : List Event) (x : DeferredTarget) (vs : List Value) → OnwardTo W ρ s n e h x vs → OnwardTo W ρ (pay (W .g .test-cost) s) n e h x vs
+  onward-pay : (ρ : Resolver) (s : RunState) (n : ℕ) (e : End) (h : List Event) (x : DeferredTarget) (vs : List Value) → OnwardTo W ρ s n e h x vs
+      → OnwardTo W ρ (pay (W .g .test-cost) s) n e h x vs
   onward-pay ρ s n e h (to-region r) vs p = p
   onward-pay ρ s n e h to-return vs p = p
 
   based-assign : (r : ℕ) (us : List Value) (s : RunState) → Based W s → Based W (assign-inputs r us s)
   based-assign r us s bs = record { based = λ v c. inputs-kept [] r v (rw (key-constant [] v c)) us s ∙ bs .based v c }
-
-  pub none-run : (r : ℕ) (ws : List Word) (past : List Event) (e : End) (h : List Event) → from-region W 0 r ws past ≡ ends-with e h → ⊥
-  unfolding run-from
-  none-run r ws past e h p = clash (cc)
 
   module _ (r q : ℕ) (ks : Nodes) (d : DeferredEdgeBundleSet) (T : Tables)
       (x : DeferredEdgeBundle) (ss : List InputRewrite) (init outs : List Value) (tys : List ℕ) (n limit : ℕ) (rep : Value) (d′ : DeferredEdgeBundleSet)
@@ -57,9 +48,10 @@ module _ (W : World) where
       (only-back : (y : DeferredEdgeBundle) → In y d → same-target (y .target) (to-region r) ≡ true → y ≡ x)
       (x-in : In x d)
       (x-arity : length (x .target-inputs) ≡ ar W r)
-      (slots : (ρ : Resolver) (os : List NodeOutput) → Respects ρ os T → (k : ℕ) → k < ar W r → SlotOk ρ r q (x .target-inputs) init outs k (getD ss k (renumber-to k)))
+      (slots : (ρ : Resolver) (os : List NodeOutput) → Respects ρ os T → (k : ℕ) → k < ar W r → HeaderInput ρ r q (x .target-inputs) init outs k (getD ss k (renumber-to k)))
       (repeats : (os′ : List NodeOutput) → Extends (T .outputs) os′ → Mat (x .condition) os′ rep ⊎ ((rep ≡ bool true) × ((y : DeferredEdgeBundle) → In y d → y ≡ x)))
-      (on-to : (y : DeferredEdgeBundle) → In y d → same-target (y .target) (to-region r) ≡ false → (z : DeferredEdgeBundle) × In z d′ × (z .target ≡ y .target) × (z .target-inputs ≡ y .target-inputs) × (z .condition ≡ y .condition))
+      (on-to : (y : DeferredEdgeBundle) → In y d → same-target (y .target) (to-region r) ≡ false → (z : DeferredEdgeBundle) × In z d′ × (z .target ≡ y .target)
+      × (z .target-inputs ≡ y .target-inputs) × (z .condition ≡ y .condition))
       (from : (z : DeferredEdgeBundle) → In z d′ → (y : DeferredEdgeBundle) × In y d × (z .target ≡ y .target) × (z .condition ≡ y .condition))
       (held-apart : owns-nodes ks (of-held r) ≡ false)
     where
@@ -78,7 +70,7 @@ module _ (W : World) where
         law : (k : ℕ) → ρ (input r k) ≡ step-input ρ r (getD ss k (renumber-to k))
         law = laws-last (T .rewrites) _ refl res .0
 
-        ok : (k : ℕ) → k < ar W r → SlotOk ρ r q (x .target-inputs) init outs k (getD ss k (renumber-to k))
+        ok : (k : ℕ) → k < ar W r → HeaderInput ρ r q (x .target-inputs) init outs k (getD ss k (renumber-to k))
         ok = slots ρ os′ (respects-back gains res)
 
         abbrev body : RunState → Ran
@@ -95,7 +87,7 @@ module _ (W : World) where
         apart : (k : ℕ) → k < ar W r → owns-nodes ks (key os′ (ρ (input r k))) ≡ false
         apart k lt = rw (law k) (go (getD ss k (renumber-to k)) (ok k lt))
           where
-            go : (sl : InputRewrite) → SlotOk ρ r q (x .target-inputs) init outs k sl → owns-nodes ks (key os′ (step-input ρ r sl)) ≡ false
+            go : (sl : InputRewrite) → HeaderInput ρ r q (x .target-inputs) init outs k sl → owns-nodes ks (key os′ (step-input ρ r sl)) ≡ false
             go (replace-by v) o = rw (o .0) (not-owned k lt)
             go (renumber-to i) o = held-apart
 
@@ -106,7 +98,7 @@ module _ (W : World) where
             → (k : ℕ) → k < ar W r → (assign-inputs r (map ρ us) s) .env (ρ (input r k)) ≡ getD ws k mark
         assigned us s ws on-same on-kept k lt = rw (law k) (go (getD ss k (renumber-to k)) refl (ok k lt))
           where
-            go : (sl : InputRewrite) → getD ss k (renumber-to k) ≡ sl → SlotOk ρ r q (x .target-inputs) init outs k sl
+            go : (sl : InputRewrite) → getD ss k (renumber-to k) ≡ sl → HeaderInput ρ r q (x .target-inputs) init outs k sl
                 → put-inputs (λ k. held r k) 0 (map (s .env) (map ρ us)) (s .env) (step-input ρ r sl) ≡ getD ws k mark
             go (replace-by v) p o = rw (o .0) (inputs-kept os′ r (ρ (input q k)) (not-held k lt) (map ρ us) s ∙ on-same k v lt p)
             go (renumber-to i) p o =
@@ -123,13 +115,14 @@ module _ (W : World) where
 
             on-same : (k : ℕ) (v : Value) → k < ar W r → getD ss k (renumber-to k) ≡ replace-by v → s .env (ρ (input q k)) ≡ getD (read ρ s (x .target-inputs)) k mark
             on-same k v lt p =
-                let o : SlotOk ρ r q (x .target-inputs) init outs k (replace-by v) = rw p at (ok k lt) in
+                let o : HeaderInput ρ r q (x .target-inputs) init outs k (replace-by v) = rw p at (ok k lt) in
                 let l : ρ (input r k) ≡ ρ v = rw p at (law k) in
                 sym (at-ins k lt ∙ ap (s .env) (o .1 ∙ l ∙ ap ρ (o .0)))
 
-            on-kept : (k i : ℕ) → k < ar W r → getD ss k (renumber-to k) ≡ renumber-to i → (i < length outs) × (s .env (ρ (getD outs i (undef 0))) ≡ getD (read ρ s (x .target-inputs)) k mark)
+            on-kept : (k i : ℕ) → k < ar W r → getD ss k (renumber-to k) ≡ renumber-to i
+                → (i < length outs) × (s .env (ρ (getD outs i (undef 0))) ≡ getD (read ρ s (x .target-inputs)) k mark)
             on-kept k i lt p =
-                let o : SlotOk ρ r q (x .target-inputs) init outs k (renumber-to i) = rw p at (ok k lt) in
+                let o : HeaderInput ρ r q (x .target-inputs) init outs k (renumber-to i) = rw p at (ok k lt) in
                 (o .2, ap (s .env) (o .3) ∙ sym (at-ins k lt))
 
         first : (s : RunState) (ws : List Word) → ((k : ℕ) → k < length ws → s .env (ρ (input q k)) ≡ getD ws k mark) → length ws ≡ ar W r
@@ -138,7 +131,7 @@ module _ (W : World) where
           where
             on-kept : (k i : ℕ) → k < ar W r → getD ss k (renumber-to k) ≡ renumber-to i → (i < length init) × (s .env (ρ (getD init i (undef 0))) ≡ getD ws k mark)
             on-kept k i lt p =
-                let o : SlotOk ρ r q (x .target-inputs) init outs k (renumber-to i) = rw p at (ok k lt) in
+                let o : HeaderInput ρ r q (x .target-inputs) init outs k (renumber-to i) = rw p at (ok k lt) in
                 (o .0, ap (λ v. s .env (ρ v)) (o .1) ∙ reads k (omega (arith, lw)))
 
         again : (s : RunState) (y : DeferredEdgeBundle) → Based W s → Chosen ρ os′ s d y → y ≡ x → Truthy (s .env (ρ rep))
@@ -175,19 +168,21 @@ module _ (W : World) where
             → from-region W n r ws (s .events) ≡ ends-with e h
             → Tracks W ρ os′ n d′ e h (turns (W .rule) (W .g .test-cost) c made body r limit (map ρ outs) (ρ rep) s)
         unfolding turns
-        turns-follow zero zero made le le′ s ws bs lw reads gr = absurd (none-run r ws (s .events) e h gr)
+        turns-follow zero zero made le le′ s ws bs lw reads gr = absurd (none-run W r ws (s .events) e h gr)
         turns-follow zero (suc n) made le le′ s ws bs lw reads gr = absurd (omega arith)
         turns-follow (suc c) n made le le′ s ws bs lw reads gr =
             after
             (λ n′ lt s′ ws′ bs′ lw′ reads′ gr′. turns-follow c n′ (suc made) (omega arith) (omega arith) s′ ws′ bs′ lw′ reads′ gr′)
             (body s₁) refl
-            (body-sim .leads ρ os′ (respects-back gains res) b n le′ s₁ ws (record { based = bs .based }) lw (record { reads = λ k lt. reads k (omega (arith, lw)); apart = λ k lt. apart k (omega (arith, lw)) }) e h gr)
+            (body-sim .leads ρ os′ (respects-back gains res) b n le′ s₁ ws (record { based = bs .based }) lw
+            (record { reads = λ k lt. reads k (omega (arith, lw)); apart = λ k lt. apart k (omega (arith, lw)) }) e h gr)
           where
             s₁ : RunState
             s₁ = note-over (leb limit made) s
 
             tail : RunState → Ran
-            tail s′ = tested (s′ .env (ρ rep)) λ w. once-more (λ s″. turns (W .rule) (W .g .test-cost) c (suc made) body r limit (map ρ outs) (ρ rep) (assign-inputs r (map ρ outs) s″)) w (pay (W .g .test-cost) s′)
+            tail s′ = tested (s′ .env (ρ rep)) λ w. once-more
+                (λ s″. turns (W .rule) (W .g .test-cost) c (suc made) body r limit (map ρ outs) (ρ rep) (assign-inputs r (map ρ outs) s″)) w (pay (W .g .test-cost) s′)
 
             IH : Type 0
             IH = (n′ : ℕ) → n′ < n → (s′ : RunState) (ws′ : List Word) → Based W s′ → length ws′ ≡ ar W r
@@ -195,16 +190,18 @@ module _ (W : World) where
                 → from-region W n′ r ws′ (s′ .events) ≡ ends-with e h
                 → Tracks W ρ os′ n′ d′ e h (turns (W .rule) (W .g .test-cost) c (suc made) body r limit (map ρ outs) (ρ rep) s′)
 
-            turned : IH → (s′ : RunState) → Based W s′ → (go : Goes W ρ os′ n d e h s′) → go .entry ≡ x → Tracks W ρ os′ n d′ e h (tail s′)
-            turned ih s′ bs′ go p =
+            changed : IH → (s′ : RunState) → Based W s′ → (go : Goes W ρ os′ n d e h s′) → go .entry ≡ x → Tracks W ρ os′ n d′ e h (tail s′)
+            changed ih s′ bs′ go p =
                 let yes! = again s′ (go .entry) bs′ (go .chosen) p in
                 let on′ : OnwardTo W ρ s′ n e h (to-region r) (x .target-inputs) = rw back at (rw p at (go .onward)) in
                 let s″ : RunState = assign-inputs r (map ρ outs) (pay (W .g .test-cost) s′) in
                 rw (yes! .is) (tracks-less W ρ os′ (on′ .0) n (omega (arith, on′ .1)) d′ e h _
-                (ih (on′ .0) (on′ .1) s″ (read ρ s′ (x .target-inputs)) (based-assign r (map ρ outs) (pay (W .g .test-cost) s′) (record { based = bs′ .based })) (length-map (x .target-inputs) (λ v. s′ .env (ρ v)) ∙ on′ .2) (next (pay (W .g .test-cost) s′)) (on′ .3)))
+                (ih (on′ .0) (on′ .1) s″ (read ρ s′ (x .target-inputs)) (based-assign r (map ρ outs) (pay (W .g .test-cost) s′) (record { based = bs′ .based }))
+                (length-map (x .target-inputs) (λ v. s′ .env (ρ v)) ∙ on′ .2) (next (pay (W .g .test-cost) s′)) (on′ .3)))
 
-            came : IH → (s′ : RunState) → Based W s′ → (go : Goes W ρ os′ n d e h s′) → (o : Bool) → same-target (go .entry .target) (to-region r) ≡ o → Tracks W ρ os′ n d′ e h (tail s′)
-            came ih s′ bs′ go true p = turned ih s′ bs′ go (only-back (go .entry) (go .chosen .member) p)
+            came : IH → (s′ : RunState) → Based W s′ → (go : Goes W ρ os′ n d e h s′) → (o : Bool) → same-target (go .entry .target) (to-region r) ≡ o
+                → Tracks W ρ os′ n d′ e h (tail s′)
+            came ih s′ bs′ go true p = changed ih s′ bs′ go (only-back (go .entry) (go .chosen .member) p)
             came ih s′ bs′ go false p = rw (stops s′ (go .entry) (go .chosen) p) (record { leads-to = leaves n s′ go p })
 
             after : IH → (R : Ran) → body s₁ ≡ R → Tracks W ρ os′ n d e h R → Tracks W ρ os′ n d′ e h (and-then R tail)

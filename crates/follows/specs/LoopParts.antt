@@ -5,12 +5,14 @@ use mathlib.Core.Logic.{_≢_}
 use mathlib.Core.Path.{_∙_, _≡_, ap, refl, subst, sym}
 use Prim.Native.Nat.{_+_, _<_, suc, ℕ}
 use native.Mathlib.Omega.{arith}
-use lib.Dec.{eqb, eqb→eq}
+use lib.Dec.{eqb}
 use lib.ListN.{List·getD-append, getD, length, length-append}
+use borrow.Author.Tests.{eqb-true}
 use Rattle.meaning.specs.Graph.{Graph, Value, input, pick, region, sameValue, undef}
 use Rattle.format.specs.Read.{isIn}
 use Rattle.format.specs.ReadLaws.{clash}
 use Rattle.nesting.specs.BundleSet.{same-target, split-out-target}
+use Rattle.nesting.specs.CaseGraphs.{A}
 use Rattle.nesting.specs.Deferred.{DeferredEdgeBundle, DeferredEdgeBundleSet, DeferredTarget, to-region, to-return}
 use Rattle.nesting.specs.Loop.{LoopInputs, add-exit-edge, keep-input, lift-input, take-input, take-inputs}
 use Rattle.nesting.specs.State.{InputRewrite, renumber-to, replace-by}
@@ -28,14 +30,26 @@ pub record SameBundle (e z : DeferredEdgeBundle) : Type 0 where
 same-bundle : (xs : List ℕ) (e : DeferredEdgeBundle) → SameBundle e (add-exit-edge xs e)
 same-bundle xs e = go (e .target) refl
   where
-    go : (x : DeferredTarget) → e .target ≡ x → SameBundle e (elim x [ to-region r ↦ record { target = to-region r; accumulated-count = pick (isIn r xs) (suc (e .accumulated-count)) (e .accumulated-count); target-inputs = e .target-inputs; condition = e .condition } | to-return ↦ e ])
+    go : (x : DeferredTarget) → e .target ≡ x
+        → SameBundle e (elim x [
+          | to-region r ↦
+              record {
+                target = to-region r;
+                accumulated-count = pick (isIn r xs) (suc (e .accumulated-count))
+                    (e .accumulated-count);
+                target-inputs = e .target-inputs;
+                condition = e .condition;
+              }
+          | to-return ↦ e
+        ])
     go (to-region r) p = record { target = sym p; inputs = refl; condition = refl }
     go to-return p = record { target = refl; inputs = refl; condition = refl }
 
 abbrev pub leaving : ℕ → List ℕ → DeferredEdgeBundleSet → DeferredEdgeBundleSet
 leaving r xs d = map (add-exit-edge xs) (split-out-target (to-region r) d)
 
-pub leaving-in : (r : ℕ) (xs : List ℕ) (d : DeferredEdgeBundleSet) (y : DeferredEdgeBundle) → In y d → same-target (to-region r) (y .target) ≡ false → (z : DeferredEdgeBundle) × In z (leaving r xs d) × SameBundle y z
+pub leaving-in : (r : ℕ) (xs : List ℕ) (d : DeferredEdgeBundleSet) (y : DeferredEdgeBundle) → In y d → same-target (to-region r) (y .target) ≡ false
+    → (z : DeferredEdgeBundle) × In z (leaving r xs d) × SameBundle y z
 leaving-in r xs d y i ne = (add-exit-edge xs y, in-map (add-exit-edge xs) (split-out-target (to-region r) d) y (in-split-out (to-region r) d y ne i), same-bundle xs y)
 
 pub leaving-from : (r : ℕ) (xs : List ℕ) (d : DeferredEdgeBundleSet) (z : DeferredEdgeBundle) → In z (leaving r xs d) → (y : DeferredEdgeBundle) × In y d × SameBundle y z
@@ -48,13 +62,18 @@ leaving-distinct r xs d h = go (split-out-target (to-region r) d) (distinct-spli
   where
     go : (l : DeferredEdgeBundleSet) → Distinct l → Distinct (map (add-exit-edge xs) l)
     go [] x = tt
-    go (e ∷ l) (x, xs′) = ((λ z i. let y = from-map (add-exit-edge xs) l z i in let b = same-bundle xs (y .0) in let b′ = same-bundle xs e in rw (y .2, b .target, b′ .target) (x (y .0) (y .1))), go l xs′)
+    go (e ∷ l) (x, xs′) = (
+      (λ z i. let y = from-map (add-exit-edge xs) l z i in let b = same-bundle xs
+          (y .0) in let b′ = same-bundle xs e in rw (y .2, b .target, b′ .target) (x (y .0) (y .1))),
+      go l xs′,
+    )
 
 module _ (g : Graph) where
   -- ---- renumbering
   abbrev pub KeptOrLifted : ℕ → ℕ → List Value → LoopInputs → ℕ → InputRewrite → Type 0
   KeptOrLifted r w vs x k (replace-by v) = (v ≡ input w k) × (getD vs k (undef 0) ≡ input r k)
-  KeptOrLifted r w vs x k (renumber-to i) = (i < length (x .initial-inputs)) × (getD (x .initial-inputs) i (undef 0) ≡ input w k) × (i < length (x .outputs)) × (getD (x .outputs) i (undef 0) ≡ getD vs k (undef 0))
+  KeptOrLifted r w vs x k (renumber-to i) = (i < length (x .initial-inputs)) × (getD (x .initial-inputs) i (undef 0) ≡ input w k) × (i < length (x .outputs))
+      × (getD (x .outputs) i (undef 0) ≡ getD vs k (undef 0))
 
   getD-last : {A : Type 0} (l : List A) (a d : A) → getD (l ++ (a ∷ [])) (length l) d ≡ a
   getD-last [] a d = refl
@@ -65,7 +84,8 @@ module _ (g : Graph) where
     pub even : length (x .initial-inputs) ≡ length (x .outputs)
     pub good : (k : ℕ) → k < done → KeptOrLifted r w vs x k (getD (x .rewrites) k (renumber-to k))
 
-  good-more : (r w : ℕ) (vs : List Value) (x x′ : LoopInputs) (a b : List Value) → x′ .initial-inputs ≡ x .initial-inputs ++ a → x′ .outputs ≡ x .outputs ++ b → (k : ℕ) (sl : InputRewrite) → KeptOrLifted r w vs x k sl → KeptOrLifted r w vs x′ k sl
+  good-more : (r w : ℕ) (vs : List Value) (x x′ : LoopInputs) (a b : List Value) → x′ .initial-inputs ≡ x .initial-inputs ++ a → x′ .outputs ≡ x .outputs ++ b
+      → (k : ℕ) (sl : InputRewrite) → KeptOrLifted r w vs x k sl → KeptOrLifted r w vs x′ k sl
   good-more r w vs x x′ a b p q k (replace-by v) h = h
   good-more r w vs x x′ a b p q k (renumber-to i) (lt, e, lt′, e′) = (
     rw (p, length-append (x .initial-inputs) a) (omega arith),
@@ -74,25 +94,30 @@ module _ (g : Graph) where
     rw q (List·getD-append (x .outputs) b (undef 0) i lt′ ∙ e′),
   )
 
-  one-more-input : (r w : ℕ) (all : List Value) (k : ℕ) (v : Value) (x : LoopInputs) → getD all k (undef 0) ≡ v → Renumbered r w all k x → Renumbered r w all (suc k) (take-input g r w k v x)
+  one-more-input : (r w : ℕ) (all : List Value) (k : ℕ) (v : Value) (x : LoopInputs) → getD all k (undef 0) ≡ v → Renumbered r w all k x
+      → Renumbered r w all (suc k) (take-input g r w k v x)
   one-more-input r w all k v x at h = go (sameValue v (input r k)) refl
     where
       ty : ℕ
       ty = getD (region g r .inputs) k 0
 
-      slot-at : (sl : InputRewrite) (x′ : LoopInputs) (a b : List Value) → x′ .rewrites ≡ x .rewrites ++ (sl ∷ []) → x′ .initial-inputs ≡ x .initial-inputs ++ a → x′ .outputs ≡ x .outputs ++ b → KeptOrLifted r w all x′ k sl
+      slot-at : (sl : InputRewrite) (x′ : LoopInputs) (a b : List Value) → x′ .rewrites ≡ x .rewrites ++ (sl ∷ []) → x′ .initial-inputs ≡ x .initial-inputs ++ a
+          → x′ .outputs ≡ x .outputs ++ b → KeptOrLifted r w all x′ k sl
           → (i : ℕ) → i < suc k → KeptOrLifted r w all x′ i (getD (x′ .rewrites) i (renumber-to i))
       slot-at sl x′ a b p q q′ here i lt = by (eqb i k) refl
         where
           by : (o : Bool) → eqb i k ≡ o → KeptOrLifted r w all x′ i (getD (x′ .rewrites) i (renumber-to i))
           by true e =
-              let i-k : i ≡ k = eqb→eq i k (rw e tt) in
-              let z : getD (x .rewrites ++ (sl ∷ [])) k (renumber-to k) ≡ sl = ap (λ n. getD (x .rewrites ++ (sl ∷ [])) n (renumber-to k)) (sym (h .many)) ∙ getD-last (x .rewrites) sl (renumber-to k) in
+              let i-k : i ≡ k = eqb-true i k e in
+              let z : getD (x .rewrites ++ (sl ∷ [])) k (renumber-to k) ≡ sl = ap (λ n. getD (x .rewrites ++ (sl ∷ [])) n (renumber-to k)) (sym (h .many)) ∙ getD-last
+              (x .rewrites) sl (renumber-to k) in
               rw i-k (subst (λ sl′. KeptOrLifted r w all x′ k sl′) (sym (ap (λ l. getD l k (renumber-to k)) p ∙ z)) here)
           by false e =
               let lt′ : i < k = below i k lt e in
-              let z : getD (x .rewrites ++ (sl ∷ [])) i (renumber-to i) ≡ getD (x .rewrites) i (renumber-to i) = List·getD-append (x .rewrites) (sl ∷ []) (renumber-to i) i (omega (arith, h .many)) in
-              subst (λ sl′. KeptOrLifted r w all x′ i sl′) (sym (ap (λ l. getD l i (renumber-to i)) p ∙ z)) (good-more r w all x x′ a b q q′ i (getD (x .rewrites) i (renumber-to i)) (h .good i lt′))
+              let z : getD (x .rewrites ++ (sl ∷ [])) i (renumber-to i) ≡ getD (x .rewrites) i (renumber-to i) = List·getD-append (x .rewrites) (sl ∷ [])
+              (renumber-to i) i (omega (arith, h .many)) in
+              subst (λ sl′. KeptOrLifted r w all x′ i sl′) (sym (ap (λ l. getD l i (renumber-to i)) p ∙ z))
+              (good-more r w all x x′ a b q q′ i (getD (x .rewrites) i (renumber-to i)) (h .good i lt′))
             where
               below : (i k : ℕ) → i < suc k → eqb i k ≡ false → i < k
               below i k l ne = let z : i ≢ k = λ q. let y : eqb i k ≡ true = rw q (eqb-self k) in let z′ : true ≡ false = sym y ∙ ne in clash (cc) in omega arith
@@ -120,7 +145,8 @@ module _ (g : Graph) where
         );
       }
 
-  all-renumbered : (r w : ℕ) (all : List Value) (k : ℕ) (vs : List Value) (x : LoopInputs) → ((j : ℕ) → getD all (k + j) (undef 0) ≡ getD vs j (undef 0)) → Renumbered r w all k x → Renumbered r w all (k + length vs) (take-inputs g r w k vs x)
+  all-renumbered : (r w : ℕ) (all : List Value) (k : ℕ) (vs : List Value) (x : LoopInputs) → ((j : ℕ) → getD all (k + j) (undef 0) ≡ getD vs j (undef 0))
+      → Renumbered r w all k x → Renumbered r w all (k + length vs) (take-inputs g r w k vs x)
   all-renumbered r w all k [] x at h = let z : k + 0 ≡ k = omega arith in rw z h
   all-renumbered r w all k (v ∷ vs) x at h =
       let z : k + suc (length vs) ≡ suc k + length vs = omega arith in
@@ -129,4 +155,6 @@ module _ (g : Graph) where
       rw z (all-renumbered r w all (suc k) vs (take-input g r w k v x) (λ j. let y : suc k + j ≡ k + suc j = omega arith in rw y (at (suc j))) (one-more-input r w all k v x here h))
 
   pub renumbered : (r w : ℕ) (vs : List Value) → Renumbered r w vs (length vs) (take-inputs g r w 0 vs (record { rewrites = []; initial-inputs = []; types = []; outputs = [] }))
-  renumbered r w vs = let z : 0 + length vs ≡ length vs = omega arith in rw z at (all-renumbered r w vs 0 vs (record { rewrites = []; initial-inputs = []; types = []; outputs = [] }) (λ j. let y : 0 + j ≡ j = omega arith in rw y) (record { many = refl; even = refl; good = λ k lt. absurd (omega arith) }))
+  renumbered r w vs = let z : 0 + length vs ≡ length vs = omega arith in rw z at (all-renumbered r w vs 0 vs
+      (record { rewrites = []; initial-inputs = []; types = []; outputs = [] }) (λ j. let y : 0 + j ≡ j = omega arith in rw y)
+      (record { many = refl; even = refl; good = λ k lt. absurd (omega arith) }))

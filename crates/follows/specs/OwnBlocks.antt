@@ -5,8 +5,9 @@ use mathlib.Core.Logic.{_≢_}
 use mathlib.Core.Path.{_∙_, _≡_, ap, refl, sym}
 use Prim.Native.Nat.{_+_, _<_, suc, zero, ℕ}
 use native.Mathlib.Omega.{arith}
-use lib.Dec.{T, eqb, eqb→eq}
+use lib.Dec.{T, eqb}
 use lib.ListN.{length, take}
+use borrow.Author.Tests.{eqb-true}
 use Rattle.meaning.specs.Form.{Nodes}
 use Rattle.meaning.specs.Graph.{Instr, Value, bool, const, held, input, instr, output, region, sameValue, undef}
 use Rattle.meaning.specs.GraphRun.{by-terminator, enter, run-from}
@@ -22,9 +23,8 @@ use Rattle.follows.specs.Key.{is-constant, is-instr, key, nodes-none, ow
 use Rattle.follows.specs.World.{World, ar, from-region, runs}
 use Rattle.follows.specs.Tables.{Resolver, Respects, Tables}
 use Rattle.follows.specs.Frame.{instr-other, put-other, put-same, puts-other}
-use Rattle.follows.specs.Leads.{Based, InputsAre, ends-with, read}
+use Rattle.follows.specs.Leads.{Based, InputsAre, ends-with, none-run, read}
 use Rattle.follows.specs.Inputs.{input-numbered, puts-at}
-use Rattle.follows.specs.LoopFollows.{none-run}
 
 -- the two environments agree on what the region may use
 pub record Agree (ρ : Resolver) (r ar k : ℕ) (a s : RunState) : Type 0 where
@@ -42,7 +42,8 @@ module _ (rule : Rule) (ρ : Resolver) (on-instr : (q k : ℕ) → ρ (instr q k
   elsewhere k w σ τ v h ne p =
       put-other (instr r k) v w σ ne ∙ p ∙ sym (put-other (instr r k) (ρ v) w τ (instr-other os r k (ρ v) (apart v h)))
 
-  put-agree : (k : ℕ) (w : Word) (σ τ : Env) → ((v : Value) → Usable r ar k v → σ v ≡ τ (ρ v)) → (v : Value) → Usable r ar (suc k) v → put (instr r k) w σ v ≡ put (instr r k) w τ (ρ v)
+  put-agree : (k : ℕ) (w : Word) (σ τ : Env) → ((v : Value) → Usable r ar k v → σ v ≡ τ (ρ v)) → (v : Value) → Usable r ar (suc k) v
+      → put (instr r k) w σ v ≡ put (instr r k) w τ (ρ v)
   put-agree k w σ τ h (const i) us = elsewhere k w σ τ (const i) tt refl (h (const i) tt)
   put-agree k w σ τ h (bool b) us = elsewhere k w σ τ (bool b) tt refl (h (bool b) tt)
   put-agree k w σ τ h (undef ty) us = elsewhere k w σ τ (undef ty) tt refl (h (undef ty) tt)
@@ -56,13 +57,14 @@ module _ (rule : Rule) (ρ : Resolver) (on-instr : (q k : ℕ) → ρ (instr q k
 
       go : (o : Bool) → eqb i k ≡ o → put (instr r k) w σ (instr r i) ≡ put (instr r k) w τ (instr r i)
       go true e =
-          let i-k : i ≡ k = eqb→eq i k (rw e tt) in
+          let i-k : i ≡ k = eqb-true i k e in
           rw i-k (put-same (instr r k) w σ (rw (eqb-self r) (eqb-self k)) ∙ sym (put-same (instr r k) w τ (rw (eqb-self r) (eqb-self k))))
       go false e =
           let ne : i ≢ k = λ p. let z : eqb i k ≡ true = rw p (eqb-self k) in clash (cc) in
           put-other (instr r k) (instr r i) w σ (here ∙ e) ∙ h (instr r i) (refl, omega arith) ∙ ap τ (on-instr r i) ∙ sym (put-other (instr r k) (instr r i) w τ (here ∙ e))
 
-  instr-agree : (k : ℕ) (i : Instr) (a s : RunState) → AllUsable r ar k (i .reads) → Agree ρ r ar k a s → Agree ρ r ar (suc k) (do-instr rule r k i a) (do-instr rule r k (rewrite-reads ρ i) s)
+  instr-agree : (k : ℕ) (i : Instr) (a s : RunState) → AllUsable r ar k (i .reads) → Agree ρ r ar k a s
+      → Agree ρ r ar (suc k) (do-instr rule r k i a) (do-instr rule r k (rewrite-reads ρ i) s)
   unfolding do-instr
   instr-agree k i a s us ag =
       let q = reads-agree k a s ag (i .reads) us in
@@ -70,7 +72,8 @@ module _ (rule : Rule) (ρ : Resolver) (on-instr : (q k : ℕ) → ρ (instr q k
       let same-word : word32 (rule (i .opcode) (map (a .env) (i .reads)) (a .events)) ≡ word32 (rule (i .opcode) (map (s .env) (map ρ (i .reads))) (s .events)) = cc in
       record { events = cc; reads = λ v u. rw same-word (put-agree k _ (a .env) (s .env) (ag .reads) v u) }
 
-  block-agree : (k : ℕ) (is : List Instr) (a s : RunState) → BlockUsable r ar k is → Agree ρ r ar k a s → Agree ρ r ar (k + length is) (do-block rule r k is a) (do-block rule r k (map (rewrite-reads ρ) is) s)
+  block-agree : (k : ℕ) (is : List Instr) (a s : RunState) → BlockUsable r ar k is → Agree ρ r ar k a s
+      → Agree ρ r ar (k + length is) (do-block rule r k is a) (do-block rule r k (map (rewrite-reads ρ) is) s)
   unfolding do-block
   block-agree k [] a s us ag = let z : k + 0 ≡ k = omega arith in rw z ag
   block-agree k (i ∷ is) a s (u, us) ag =
@@ -88,9 +91,12 @@ module _ (rule : Rule) (ρ : Resolver) (on-instr : (q k : ℕ) → ρ (instr q k
   unfolding run-nodes rewrite-nodes do-blocks owns-nodes
   blocks-agree os test b n k [] apart a s us ag = record { state = s; runs-on = refl; agree = ag }
   blocks-agree os test b n k (x ∷ bs) apart a s (u, us) ag =
-      let apart′ : (v : Value) → Usable r ar 0 v → is-instr r (key os (ρ v)) ≡ false = λ v h. or-left (is-instr r (key os (ρ v))) (owns-nodes (blocks-from (suc n) r (k + length x) bs) (key os (ρ v))) (apart v h) in
-      let rest : (v : Value) → Usable r ar 0 v → owns-nodes (blocks-from (suc n) r (k + length x) bs) (key os (ρ v)) ≡ false = λ v h. or-right (is-instr r (key os (ρ v))) (owns-nodes (blocks-from (suc n) r (k + length x) bs) (key os (ρ v))) (apart v h) in
-      let y = blocks-agree os test b (suc n) (k + length x) bs rest (do-block rule r k x a) (do-block rule r k (map (rewrite-reads ρ) x) s) us (block-agree rule ρ on-instr r ar os apart′ k x a s u ag) in
+      let apart′ : (v : Value) → Usable r ar 0 v → is-instr r (key os (ρ v)) ≡ false = λ v h. or-left (is-instr r (key os (ρ v)))
+      (owns-nodes (blocks-from (suc n) r (k + length x) bs) (key os (ρ v))) (apart v h) in
+      let rest : (v : Value) → Usable r ar 0 v → owns-nodes (blocks-from (suc n) r (k + length x) bs) (key os (ρ v)) ≡ false = λ v h. or-right
+      (is-instr r (key os (ρ v))) (owns-nodes (blocks-from (suc n) r (k + length x) bs) (key os (ρ v))) (apart v h) in
+      let y = blocks-agree os test b (suc n) (k + length x) bs rest (do-block rule r k x a) (do-block rule r k (map (rewrite-reads ρ) x) s) us
+      (block-agree rule ρ on-instr r ar os apart′ k x a s u ag) in
       record { state = y .state; runs-on = y .runs-on; agree = y .agree }
 
 module _ (W : World) (r : ℕ)
@@ -120,7 +126,8 @@ module _ (W : World) (r : ℕ)
           let lt : i < length w = omega (arith, h .1, lw) in
           rw (h .0) (puts-at (λ k. input r k) (input-numbered r) w i i 0 (omega arith) lt (W .base) ∙ sym (gv .reads i lt))
 
-  apart : (ρ : Resolver) (os : List NodeOutput) (T : Tables) → Respects ρ os T → (s : RunState) (w : List Word) → length w ≡ many → (ks : Nodes) → InputsAre ρ os r ks w s → (v : Value) → Usable r many 0 v → owns-nodes ks (key os (ρ v)) ≡ false
+  apart : (ρ : Resolver) (os : List NodeOutput) (T : Tables) → Respects ρ os T → (s : RunState) (w : List Word) → length w ≡ many → (ks : Nodes)
+      → InputsAre ρ os r ks w s → (v : Value) → Usable r many 0 v → owns-nodes ks (key os (ρ v)) ≡ false
   apart ρ os T res s w lw ks gv (const i) h = rw (res .on-const i) (nodes-none ks)
   apart ρ os T res s w lw ks gv (bool b) h = rw (res .on-bool b) (nodes-none ks)
   apart ρ os T res s w lw ks gv (undef ty) h = rw (res .on-undef ty) (nodes-none ks)
@@ -139,14 +146,24 @@ module _ (W : World) (r : ℕ)
     pub is-fewer : fewer < n
     pub ends : by-terminator (λ t vs h′. from-region W fewer t vs h′) (graph .env) (graph .events) (region (W .g) r .terminator) ≡ ends-with e h
 
-  pub stands : (ρ : Resolver) (os : List NodeOutput) (T : Tables) → Respects ρ os T → (b n : ℕ) (s : RunState) (w : List Word) → Based W s → length w ≡ many → InputsAre ρ os r (blocks-of (W .g) r) w s
+  pub stands : (ρ : Resolver) (os : List NodeOutput) (T : Tables) → Respects ρ os T → (b n : ℕ) (s : RunState) (w : List Word) → Based W s → length w ≡ many
+      → InputsAre ρ os r (blocks-of (W .g) r) w s
       → (e : End) (h : List Event) → from-region W n r w (s .events) ≡ ends-with e h → Stands ρ os b n w s e h
   unfolding run-from
   stands ρ os T res b zero s w bs lw gv e h gr = absurd (none-run W r w (s .events) e h gr)
   stands ρ os T res b (suc n) s w bs lw gv e h gr =
       let y = blocks-agree (W .rule) ρ (res .on-instr) r many os (W .g .test-cost) b (block-count (take r (W .g .regions))) 0 blocks (apart ρ os T res s w lw (blocks-of (W .g) r) gv)
       (enter (W .rule) (W .g) (W .base) r w (s .events)) s usable (begin ρ os T res s w bs lw (blocks-of (W .g) r) gv) in
-      record { graph = do-blocks (W .rule) r 0 blocks (enter (W .rule) (W .g) (W .base) r w (s .events)); nested = y .state; runs-on = y .runs-on; agree = y .agree; fewer = n; is-fewer = omega arith; ends = gr }
+      record {
+        graph = do-blocks (W .rule) r 0 blocks
+            (enter (W .rule) (W .g) (W .base) r w (s .events));
+        nested = y .state;
+        runs-on = y .runs-on;
+        agree = y .agree;
+        fewer = n;
+        is-fewer = omega arith;
+        ends = gr;
+      }
 
   pub usable-reads : (ρ : Resolver) (k : ℕ) (a s : RunState) → Agree ρ r many k a s → (vs : List Value) → AllUsable r many k vs → map (a .env) vs ≡ read ρ s vs
   usable-reads ρ k a s ag [] h = refl

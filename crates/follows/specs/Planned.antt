@@ -23,17 +23,20 @@ use Rattle.follows.specs.Values.{sameValue→eq}
 abbrev pub per-cases : DeferredTarget → List MaybeClaimedRegion → List PerCaseDeferred
 per-cases x cs = map (λ c. per-case-deferred x (deferred-of c)) cs
 
-pub per-cases-condition : (x : DeferredTarget) (cs : List MaybeClaimedRegion) (j : ℕ) (cj : MaybeClaimedRegion) → nth cs j ≡ some cj → condition-at (conditions-of (per-cases x cs)) j ≡ some (per-case-deferred x (deferred-of cj) .condition)
+pub per-cases-condition : (x : DeferredTarget) (cs : List MaybeClaimedRegion) (j : ℕ) (cj : MaybeClaimedRegion) → nth cs j ≡ some cj
+    → condition-at (conditions-of (per-cases x cs)) j ≡ some (per-case-deferred x (deferred-of cj) .condition)
 per-cases-condition x [] j cj p = cc
 per-cases-condition x (c ∷ cs) zero cj p = let e : c ≡ cj = cc in rw e
 per-cases-condition x (c ∷ cs) (suc j) cj p = per-cases-condition x cs j cj p
 
-pub per-cases-true : (x : DeferredTarget) (cs : List MaybeClaimedRegion) (j : ℕ) (cj : MaybeClaimedRegion) → nth cs j ≡ some cj → all-true (per-cases x cs) ≡ true → is-true-or-undef (per-case-deferred x (deferred-of cj) .condition) ≡ true
+pub per-cases-true : (x : DeferredTarget) (cs : List MaybeClaimedRegion) (j : ℕ) (cj : MaybeClaimedRegion) → nth cs j ≡ some cj → all-true (per-cases x cs) ≡ true
+    → is-true-or-undef (per-case-deferred x (deferred-of cj) .condition) ≡ true
 per-cases-true x [] j cj p h = cc
 per-cases-true x (c ∷ cs) zero cj p h = let e : c ≡ cj = cc in rw (← e) (and-both (is-true-or-undef (per-case-deferred x (deferred-of c) .condition)) _ h .0)
 per-cases-true x (c ∷ cs) (suc j) cj p h = per-cases-true x cs j cj p (and-both (is-true-or-undef (per-case-deferred x (deferred-of c) .condition)) _ h .1)
 
-pub per-cases-at : (k ty : ℕ) (x : DeferredTarget) (cs : List MaybeClaimedRegion) (j : ℕ) (cj : MaybeClaimedRegion) → nth cs j ≡ some cj → getD (map (value-in-case k ty) (per-cases x cs)) j (undef 0) ≡ value-in-case k ty (per-case-deferred x (deferred-of cj))
+pub per-cases-at : (k ty : ℕ) (x : DeferredTarget) (cs : List MaybeClaimedRegion) (j : ℕ) (cj : MaybeClaimedRegion) → nth cs j ≡ some cj
+    → getD (map (value-in-case k ty) (per-cases x cs)) j (undef 0) ≡ value-in-case k ty (per-case-deferred x (deferred-of cj))
 per-cases-at k ty x [] j cj p = cc
 per-cases-at k ty x (c ∷ cs) zero cj p = let e : c ≡ cj = cc in rw e
 per-cases-at k ty x (c ∷ cs) (suc j) cj p = per-cases-at k ty x cs j cj p
@@ -76,8 +79,9 @@ module _ (k : ℕ) (x : DeferredTarget) (cj : MaybeClaimedRegion) (vs : List Val
       with-value-closed (in-parent cj (getD vs k (undef 0))) _ h′
   unique-closed (c ∷ cs) (suc j) p h = unique-closed cs j p (with-case-open k c (per-case-deferred x (deferred-of c) .inputs) (unique-input k cs (per-cases x cs)) h)
 
-  -- what all with-value on, this case agrees on
-  pub unique-at : (cs : List MaybeClaimedRegion) (j : ℕ) (v : Value) → nth cs j ≡ some cj → unique-input k cs (per-cases x cs) ≡ unique v → in-parent cj (getD vs k (undef 0)) ≡ some v
+  -- what is the same in all cases is so in this one
+  pub unique-at : (cs : List MaybeClaimedRegion) (j : ℕ) (v : Value) → nth cs j ≡ some cj → unique-input k cs (per-cases x cs) ≡ unique v
+      → in-parent cj (getD vs k (undef 0)) ≡ some v
   unique-at [] j v p h = cc
   unique-at (c ∷ cs) zero v p h =
       let e : c ≡ cj = cc in
@@ -113,15 +117,18 @@ EmitsAll os n [] d = d ≡ []
 EmitsAll os n (p ∷ ps) d = (z : DeferredEdgeBundle) × (d′ : DeferredEdgeBundleSet) × (d ≡ z ∷ d′) × EmitsBundle os n p z × EmitsAll os n ps d′
 
 module _ (g : Graph) (os : List NodeOutput) (n : DefinedSelect) (cs : List MaybeClaimedRegion) where
-  pub emits-in : (ws : List DeferredTargetSummary) (d : DeferredEdgeBundleSet) → EmitsAll os n (map (plan-bundle g cs) ws) d → (w : DeferredTargetSummary) → In w ws → (z : DeferredEdgeBundle) × In z d × EmitsBundle os n (plan-bundle g cs w) z
+  pub emits-in : (ws : List DeferredTargetSummary) (d : DeferredEdgeBundleSet) → EmitsAll os n (map (plan-bundle g cs) ws) d → (w : DeferredTargetSummary) → In w ws
+      → (z : DeferredEdgeBundle) × In z d × EmitsBundle os n (plan-bundle g cs w) z
   emits-in [] d h w i = absurd i
   emits-in (x ∷ ws) d h w (inl p) = (h .0, rw (h .2) (inl refl), rw p (h .3))
   emits-in (x ∷ ws) d h w (inr i) = let r = emits-in ws (h .1) (h .4) w i in (r .0, rw (h .2) (inr (r .1)), r .2)
 
-  pub emits-from : (ws : List DeferredTargetSummary) (d : DeferredEdgeBundleSet) → EmitsAll os n (map (plan-bundle g cs) ws) d → (z : DeferredEdgeBundle) → In z d → (w : DeferredTargetSummary) × In w ws × EmitsBundle os n (plan-bundle g cs w) z
+  pub emits-from : (ws : List DeferredTargetSummary) (d : DeferredEdgeBundleSet) → EmitsAll os n (map (plan-bundle g cs) ws) d → (z : DeferredEdgeBundle) → In z d
+      → (w : DeferredTargetSummary) × In w ws × EmitsBundle os n (plan-bundle g cs w) z
   emits-from [] d h z i = absurd (rw h at i)
   emits-from (x ∷ ws) d h z i = go (λ k. emits-from ws (h .1) (h .4) z k) (rw (h .2) at i)
     where
-      go : (In z (h .1) → (w : DeferredTargetSummary) × In w ws × EmitsBundle os n (plan-bundle g cs w) z) → (z ≡ h .0) ⊎ In z (h .1) → (w : DeferredTargetSummary) × In w (x ∷ ws) × EmitsBundle os n (plan-bundle g cs w) z
+      go : (In z (h .1) → (w : DeferredTargetSummary) × In w ws × EmitsBundle os n (plan-bundle g cs w) z) → (z ≡ h .0) ⊎ In z (h .1)
+          → (w : DeferredTargetSummary) × In w (x ∷ ws) × EmitsBundle os n (plan-bundle g cs w) z
       go ih (inl p) = (x, inl refl, rw p (h .3))
       go ih (inr k) = let r = ih k in (r .0, inr (r .1), r .2)

@@ -5,8 +5,9 @@ use mathlib.Core.Logic.{_⊎_, inl, inr}
 use mathlib.Core.Option.{Option, none, some}
 use mathlib.Core.Path.{_∙_, _≡_, ap, refl, subst, sym}
 use Prim.Native.Nat.{suc, zero, ℕ}
-use lib.Dec.{T, eqb, eqb→eq}
+use lib.Dec.{T, eqb}
 use lib.ListN.{length}
+use borrow.Author.Tests.{eqb-true}
 use Rattle.meaning.specs.Graph.{Value, bool, bool-cond, pick, region}
 use Rattle.meaning.specs.Run.{End, Event, RunState, place-taken, word}
 use Rattle.nesting.specs.BundleSet.{is-always, same-target}
@@ -51,7 +52,8 @@ module _ (W : World) (cl : Claim) (cl-ok : ClaimOk W cl) where
     pub step : Later W s s′
     pub found : FoundIs before d s s′ o
 
-  further : (before : DeferredEdgeBundleSet) (e : DeferredEdgeBundle) (es : DeferredEdgeBundleSet) (s s₁ : NestState) → Later W s s₁ → (o : Option SplitOut) (s′ : NestState) → FirstDone (before ++ (e ∷ [])) es s₁ o s′ → FirstDone before (e ∷ es) s o s′
+  further : (before : DeferredEdgeBundleSet) (e : DeferredEdgeBundle) (es : DeferredEdgeBundleSet) (s s₁ : NestState) → Later W s s₁
+      → (o : Option SplitOut) (s′ : NestState) → FirstDone (before ++ (e ∷ [])) es s₁ o s′ → FirstDone before (e ∷ es) s o s′
   further before e es s s₁ st o s′ fd = record { inv = fd .inv; step = later-then W st (fd .step); found = by o (fd .found) }
     where
       by : (o : Option SplitOut) → FoundIs (before ++ (e ∷ [])) es s₁ s′ o → FoundIs before (e ∷ es) s s′ o
@@ -66,26 +68,39 @@ module _ (W : World) (cl : Claim) (cl-ok : ClaimOk W cl) where
         done = record { inv = f .done .inv; step = later-then W st (f .done .step); got = (f .done .got .0, since-back W st (f .done .got .1), f .done .got .2, f .done .got .3) };
       }
 
-  pub split-out-matching-post : (before d : DeferredEdgeBundleSet) (s : NestState) → Inv W s → ((e : DeferredEdgeBundle) → In e d → Fits W (e .target) (length (e .target-inputs))) → IfDone (FirstDone before d s) (split-out-matching (W .g) cl before d s)
+  pub split-out-matching-post : (before d : DeferredEdgeBundleSet) (s : NestState) → Inv W s
+      → ((e : DeferredEdgeBundle) → In e d → Fits W (e .target) (length (e .target-inputs))) → IfDone (FirstDone before d s) (split-out-matching (W .g) cl before d s)
   unfolding split-out-matching
   split-out-matching-post before [] s inv fits = record { post = record { inv = inv; step = later-refl W s; found = tt } }
-  split-out-matching-post before (e ∷ es) s inv fits = go (e .target) refl (λ s₁ inv₁. split-out-matching-post (before ++ (e ∷ [])) es s₁ inv₁ (λ x i. fits x (inr i))) (fits e (inl refl))
+  split-out-matching-post before (e ∷ es) s inv fits = go (e .target) refl (λ s₁ inv₁. split-out-matching-post (before ++ (e ∷ [])) es s₁ inv₁ (λ x i. fits x (inr i)))
+      (fits e (inl refl))
     where
       IH : Type 0
       IH = (s₁ : NestState) → Inv W s₁ → IfDone (FirstDone (before ++ (e ∷ [])) es s₁) (split-out-matching (W .g) cl (before ++ (e ∷ [])) es s₁)
 
       go : (x : DeferredTarget) → e .target ≡ x → IH → Fits W x (length (e .target-inputs))
-          → IfDone (FirstDone before (e ∷ es) s) (at-state {A = Option SplitOut} (elim x [ to-return ↦ split-out-matching (W .g) cl (before ++ (e ∷ [])) es | to-region q ↦ cl q (e .accumulated-count) (e .target-inputs) >>= split-out-or e (before ++ es) (split-out-matching (W .g) cl (before ++ (e ∷ [])) es) ]) s)
+          → IfDone (FirstDone before (e ∷ es) s)
+          (at-state {A = Option SplitOut}
+          (elim x [
+            | to-return ↦ split-out-matching (W .g) cl (before ++ (e ∷ [])) es
+            | to-region q ↦ cl q (e .accumulated-count) (e .target-inputs) >>= split-out-or e
+                (before ++ es) (split-out-matching (W .g) cl (before ++ (e ∷ [])) es)
+          ]) s)
       go to-return p ih f = map-post (split-out-matching (W .g) cl (before ++ (e ∷ [])) es s) (ih s inv) λ o s′ fd. further before e es s s (later-refl W s) o s′ fd
       go (to-region q) p ih f =
           bind (cl q (e .accumulated-count) (e .target-inputs) s) _ (cl-ok q (e .accumulated-count) (e .target-inputs) s inv (f .0) (f .2)) λ o s₁ cd. by o s₁ cd
         where
-          by : (o : Option ClaimedRegion) (s₁ : NestState) → ClaimDone W q (e .target-inputs) s o s₁ → IfDone (FirstDone before (e ∷ es) s) (split-out-or e (before ++ es) (split-out-matching (W .g) cl (before ++ (e ∷ [])) es) o s₁)
+          by : (o : Option ClaimedRegion) (s₁ : NestState) → ClaimDone W q (e .target-inputs) s o s₁
+              → IfDone (FirstDone before (e ∷ es) s) (split-out-or e (before ++ es) (split-out-matching (W .g) cl (before ++ (e ∷ [])) es) o s₁)
           by none s₁ cd = map-post (split-out-matching (W .g) cl (before ++ (e ∷ [])) es s₁) (ih s₁ (cd .inv)) λ o s′ fd. further before e es s s₁ (cd .step) o s′ fd
-          by (some c) s₁ cd = record { post = record { inv = cd .inv; step = cd .step; found = record { front = []; behind = es; split = refl; left = refl; region = q; target = p; done = cd } } }
+          by (some c) s₁ cd = record {
+            post =
+                record { inv = cd .inv; step = cd .step; found = record { front = []; behind = es; split = refl; left = refl; region = q; target = p; done = cd } };
+          }
 
   -- ---- and its select
-  module _ (s₀ : NestState) (r : ℕ) (x : Body) (s s₁ : NestState) (cm : Came W s₀ r (x .children) (x .deferred-edges) s) (y : SplitOut) (inv₁ : Inv W s₁) (st₁ : Later W s s₁) (fo : FoundOk [] (x .deferred-edges) s y s₁) where
+  module _ (s₀ : NestState) (r : ℕ) (x : Body) (s s₁ : NestState) (cm : Came W s₀ r (x .children) (x .deferred-edges) s) (y : SplitOut) (inv₁ : Inv W s₁)
+      (st₁ : Later W s s₁) (fo : FoundOk [] (x .deferred-edges) s y s₁) where
     cm₁ : Came W s₀ r (x .children) (x .deferred-edges) s₁
     cm₁ = came-on W cm inv₁ st₁
 
@@ -115,7 +130,10 @@ module _ (W : World) (cl : Claim) (cl-ok : ClaimOk W cl) where
         no-took c′ (inr i) = absurd i
 
         each : (c : MaybeClaimedRegion) → (c ≡ ok (y .claimed-region)) ⊎ ((c ≡ err (y .others)) ⊎ ⊥) → CaseOk W s₀ r (x .children) s₁ c
-        each c (inl p) = rw p (record { is = claimed-back W (cm .doing .step) (claimed-ok W (y .claimed-region) (cm .doing) (fo .done) (cm₁ .set .entries (y .bundle) entry-in .inputs)) })
+        each c (inl p) = rw p (record {
+          is = claimed-back W (cm .doing .step)
+              (claimed-ok W (y .claimed-region) (cm .doing) (fo .done) (cm₁ .set .entries (y .bundle) entry-in .inputs));
+        })
         each c (inr (inl p)) = rw p (record { is = rest-ok })
         each c (inr (inr i)) = absurd i
 
@@ -126,7 +144,8 @@ module _ (W : World) (cl : Claim) (cl-ok : ClaimOk W cl) where
         go true = record { is = tt }
         go false = cm₁ .set .entries (y .bundle) entry-in .condition
 
-    takes : (ρ : Resolver) (os : List NodeOutput) → Respects ρ os (tables s₁) → (n : ℕ) (e : End) (h : List Event) (st : RunState) → Based W st → Goes W ρ os n (x .deferred-edges) e h st
+    takes : (ρ : Resolver) (os : List NodeOutput) → Respects ρ os (tables s₁) → (n : ℕ) (e : End) (h : List Event) (st : RunState) → Based W st
+        → Goes W ρ os n (x .deferred-edges) e h st
         → Takes W bool-cond (lazy sc) (ok (y .claimed-region) ∷ err (y .others) ∷ []) ρ os n e h st
     unfolding Mat
     takes ρ os res n e h st bs go = by (in-split (fo .front) (fo .behind) (y .bundle) (go .entry) (subst (λ l. In (go .entry) l) d-is (go .chosen .member)))
@@ -134,12 +153,14 @@ module _ (W : World) (cl : Claim) (cl-ok : ClaimOk W cl) where
         Two : Type 0
         Two = Takes W bool-cond (lazy sc) (ok (y .claimed-region) ∷ err (y .others) ∷ []) ρ os n e h st
 
-        yes-test : go .entry ≡ y .bundle → (b : Bool) (v : Value) → Mat (pick b true-cond (y .bundle .condition)) os v → (w : ℕ) × (st .env (ρ v) ≡ word w) × (place-taken bool-cond w 2 ≡ 0)
+        yes-test : go .entry ≡ y .bundle → (b : Bool) (v : Value) → Mat (pick b true-cond (y .bundle .condition)) os v
+            → (w : ℕ) × (st .env (ρ v) ≡ word w) × (place-taken bool-cond w 2 ≡ 0)
         yes-test p true v mt = (1, ap (λ z. st .env (ρ z)) mt ∙ ap (st .env) (res .on-bool true) ∙ bs .based (bool true) refl ∙ W .on-bool true, refl)
         yes-test p false v mt = let tr = go .chosen .holds v (subst (λ z. Mat (z .condition) os v) (sym p) mt) in (suc (tr .less), tr .is, refl)
 
-        no-test : In (go .entry) (fo .front ++ fo .behind) → (b : Bool) → is-always (x .deferred-edges) ≡ b → (v : Value) → Mat (pick b true-cond (y .bundle .condition)) os v → (w : ℕ) × (st .env (ρ v) ≡ word w) × (place-taken bool-cond w 2 ≡ 1)
-        no-test i true p v mt = absurd (one-only (fo .front) (fo .behind) (y .bundle) (go .entry) (subst (λ l. length l ≡ 1) d-is (eqb→eq (length (x .deferred-edges)) 1 (rw p tt))) i)
+        no-test : In (go .entry) (fo .front ++ fo .behind) → (b : Bool) → is-always (x .deferred-edges) ≡ b → (v : Value)
+            → Mat (pick b true-cond (y .bundle .condition)) os v → (w : ℕ) × (st .env (ρ v) ≡ word w) × (place-taken bool-cond w 2 ≡ 1)
+        no-test i true p v mt = absurd (one-only (fo .front) (fo .behind) (y .bundle) (go .entry) (subst (λ l. length l ≡ 1) d-is (eqb-true (length (x .deferred-edges)) 1 p)) i)
         no-test i false p v mt = (0, go .chosen .others (y .bundle) entry-in (parted .1 (go .entry) i) v mt, refl)
 
         by : (go .entry ≡ y .bundle) ⊎ In (go .entry) (fo .front ++ fo .behind) → Two
@@ -148,8 +169,10 @@ module _ (W : World) (cl : Claim) (cl-ok : ClaimOk W cl) where
           case-of = ok (y .claimed-region);
           at-place = refl;
           enters =
-              let onw : OnwardTo W ρ st n e h (to-region (fo .region)) (y .bundle .target-inputs) = subst (λ z. OnwardTo W ρ st n e h z (y .bundle .target-inputs)) (fo .target) (subst (λ z. OnwardTo W ρ st n e h (z .target) (z .target-inputs)) p (go .onward)) in
-              subst (λ z. OnwardTo W ρ st n e h (to-region z) (y .claimed-region .structured-body-inputs)) (sym (fo .done .got .2)) (subst (λ l. OnwardTo W ρ st n e h (to-region (fo .region)) l) (sym (fo .done .got .3)) onw);
+              let onw : OnwardTo W ρ st n e h (to-region (fo .region)) (y .bundle .target-inputs) = subst (λ z. OnwardTo W ρ st n e h z (y .bundle .target-inputs))
+              (fo .target) (subst (λ z. OnwardTo W ρ st n e h (z .target) (z .target-inputs)) p (go .onward)) in
+              subst (λ z. OnwardTo W ρ st n e h (to-region z) (y .claimed-region .structured-body-inputs)) (sym (fo .done .got .2))
+              (subst (λ l. OnwardTo W ρ st n e h (to-region (fo .region)) l) (sym (fo .done .got .3)) onw);
           tests = λ v mt. yes-test p (is-always (x .deferred-edges)) v mt;
         }
         by (inr i) = record {
@@ -168,19 +191,27 @@ module _ (W : World) (cl : Claim) (cl-ok : ClaimOk W cl) where
           tests = λ v mt. no-test i (is-always (x .deferred-edges)) refl v mt;
         }
 
-    pub found-post : IfDone (λ z s′. Came W s₀ r (z .children) (z .deferred-edges) s′) (structurize-select-into (W .g) (x .children) bool-cond (lazy sc) (ok (y .claimed-region) ∷ err (y .others) ∷ []) s₁)
-    found-post = structurize-select-into-post W s₀ r (x .children) bool-cond (lazy sc) (ok (y .claimed-region) ∷ err (y .others) ∷ []) s₁ (cm₁ .doing) cases-ok (λ T p v mt. mat-scoped sc v p sc-ok mt)
+    pub found-post : IfDone (λ z s′. Came W s₀ r (z .children) (z .deferred-edges) s′)
+        (structurize-select-into (W .g) (x .children) bool-cond (lazy sc) (ok (y .claimed-region) ∷ err (y .others) ∷ []) s₁)
+    found-post = structurize-select-into-post W s₀ r (x .children) bool-cond (lazy sc) (ok (y .claimed-region) ∷ err (y .others) ∷ []) s₁ (cm₁ .doing) cases-ok
+        (λ T p v mt. mat-scoped sc v p sc-ok mt)
         (leads-map W _ _ (cm₁ .sim) takes)
 
-  pub resolve-deferred-post : (s₀ : NestState) (r n : ℕ) (x : Body) (s : NestState) → Came W s₀ r (x .children) (x .deferred-edges) s → IfDone (λ z s′. Came W s₀ r (z .children) (z .deferred-edges) s′) (resolve-deferred (W .g) cl n x s)
+  pub resolve-deferred-post : (s₀ : NestState) (r n : ℕ) (x : Body) (s : NestState) → Came W s₀ r (x .children) (x .deferred-edges) s
+      → IfDone (λ z s′. Came W s₀ r (z .children) (z .deferred-edges) s′) (resolve-deferred (W .g) cl n x s)
   unfolding resolve-deferred
   resolve-deferred-post s₀ r zero x s cm = record { post = cm }
   resolve-deferred-post s₀ r (suc n) x s cm =
-      bind (split-out-matching (W .g) cl [] (x .deferred-edges) s) _ (split-out-matching-post [] (x .deferred-edges) s (cm .doing .inv) (λ e i. cm .set .entries e i .fits)) λ o s₁ fd. by (λ x′ s₂ cm₂. resolve-deferred-post s₀ r n x′ s₂ cm₂) o s₁ fd
+      bind (split-out-matching (W .g) cl [] (x .deferred-edges) s) _
+      (split-out-matching-post [] (x .deferred-edges) s (cm .doing .inv) (λ e i. cm .set .entries e i .fits)) λ o s₁ fd. by
+      (λ x′ s₂ cm₂. resolve-deferred-post s₀ r n x′ s₂ cm₂) o s₁ fd
     where
-      by : ((x′ : Body) (s₂ : NestState) → Came W s₀ r (x′ .children) (x′ .deferred-edges) s₂ → IfDone (λ z s′. Came W s₀ r (z .children) (z .deferred-edges) s′) (resolve-deferred (W .g) cl n x′ s₂))
-          → (o : Option SplitOut) (s₁ : NestState) → FirstDone [] (x .deferred-edges) s o s₁ → IfDone (λ z s′. Came W s₀ r (z .children) (z .deferred-edges) s′) (resolve-by (W .g) (λ x′. resolve-deferred (W .g) cl n x′) x o s₁)
+      by : ((x′ : Body) (s₂ : NestState) → Came W s₀ r (x′ .children) (x′ .deferred-edges) s₂
+          → IfDone (λ z s′. Came W s₀ r (z .children) (z .deferred-edges) s′) (resolve-deferred (W .g) cl n x′ s₂))
+          → (o : Option SplitOut) (s₁ : NestState) → FirstDone [] (x .deferred-edges) s o s₁
+          → IfDone (λ z s′. Came W s₀ r (z .children) (z .deferred-edges) s′) (resolve-by (W .g) (λ x′. resolve-deferred (W .g) cl n x′) x o s₁)
       by ih none s₁ fd = record { post = came-on W cm (fd .inv) (fd .step) }
       by ih (some y) s₁ fd =
-          bind (structurize-select-into (W .g) (x .children) bool-cond (lazy (pick (is-always (x .deferred-edges)) true-cond (y .bundle .condition))) (ok (y .claimed-region) ∷ err (y .others) ∷ []) s₁) _
+          bind (structurize-select-into (W .g) (x .children) bool-cond (lazy (pick (is-always (x .deferred-edges)) true-cond (y .bundle .condition)))
+          (ok (y .claimed-region) ∷ err (y .others) ∷ []) s₁) _
           (found-post s₀ r x s s₁ cm y (fd .inv) (fd .step) (fd .found)) ih

@@ -90,7 +90,8 @@ cond-later p w undef-cond h = record { is = tt }
 cond-later p w (merge n kind sc cs) h = record { is = (scoped-later p w (h .is .0), w .into (of-node n) (h .is .1)) }
 
 -- what materializes is in scope
-mat-in-scope : {ρ : Resolver} {os : List NodeOutput} {T : Tables} {q a : ℕ} {ks : Nodes} (c : LazyCond) (v : Value) → Respects ρ os T → CondOk T q a ks c → Mat c os v → InScope ρ os q a ks (ρ v)
+mat-in-scope : {ρ : Resolver} {os : List NodeOutput} {T : Tables} {q a : ℕ} {ks : Nodes} (c : LazyCond) (v : Value) → Respects ρ os T → CondOk T q a ks c → Mat c os v
+    → InScope ρ os q a ks (ρ v)
 unfolding Mat
 mat-in-scope true-cond v res h mt = rw mt (constant (constant-stays res (bool true) refl))
 mat-in-scope false-cond v res h mt = rw mt (constant (constant-stays res (bool false) refl))
@@ -125,7 +126,8 @@ module _ (W : World) where
   pub set-later : {T T′ : Tables} {q a : ℕ} {ks ks′ : Nodes} {d : DeferredEdgeBundleSet} → Gains T T′ → Within ks ks′ → SetOk T q a ks d → SetOk T′ q a ks′ d
   set-later p w h = record { distinct = h .distinct; entries = λ e i. entry-later p w e (h .entries e i) }
 
-  read-same : (ρ : Resolver) (s s′ : RunState) (vs : List Value) → ((i : ℕ) → s′ .env (ρ (getD vs i (undef 0))) ≡ s .env (ρ (getD vs i (undef 0)))) → map (λ v. s′ .env (ρ v)) vs ≡ map (λ v. s .env (ρ v)) vs
+  read-same : (ρ : Resolver) (s s′ : RunState) (vs : List Value) → ((i : ℕ) → s′ .env (ρ (getD vs i (undef 0))) ≡ s .env (ρ (getD vs i (undef 0))))
+      → map (λ v. s′ .env (ρ v)) vs ≡ map (λ v. s .env (ρ v)) vs
   read-same ρ s s′ [] h = refl
   read-same ρ s s′ (v ∷ vs) h = let p = h 0 in let q = read-same ρ s s′ vs (λ i. h (suc i)) in cc
 

@@ -39,20 +39,23 @@ pub cases-count : (cs : List MaybeClaimedRegion) (ccs : Cases) → CasesFrom cs 
 cases-count [] ccs h = rw h
 cases-count (x ∷ cs) ccs (r, rest, e, h) = rw e (ap suc (cases-count cs rest h))
 
-pub cases-own : (cs : List MaybeClaimedRegion) (ccs : Cases) → CasesFrom cs ccs → (v : Key) → owns-cases ccs v ≡ true → (c : MaybeClaimedRegion) × In c cs × (owns-nodes (children-in c) v ≡ true)
+pub cases-own : (cs : List MaybeClaimedRegion) (ccs : Cases) → CasesFrom cs ccs → (κ : Key) → owns-cases ccs κ ≡ true
+    → (c : MaybeClaimedRegion) × In c cs × (owns-nodes (children-in c) κ ≡ true)
 unfolding owns-cases
-cases-own [] ccs h v o = absurd (let z : false ≡ true = rw h at o in clash (cc))
-cases-own (x ∷ cs) ccs (r, rest, e, h) v o = go (λ o′. cases-own cs rest h v o′) (or-either (owns-nodes (children-in x) v) (owns-cases rest v) (rw e at o))
+cases-own [] ccs h κ o = absurd (let z : false ≡ true = rw h at o in clash (cc))
+cases-own (x ∷ cs) ccs (r, rest, e, h) κ o = go (λ o′. cases-own cs rest h κ o′) (or-either (owns-nodes (children-in x) κ) (owns-cases rest κ) (rw e at o))
   where
-    go : (owns-cases rest v ≡ true → (c : MaybeClaimedRegion) × In c cs × (owns-nodes (children-in c) v ≡ true)) → (owns-nodes (children-in x) v ≡ true) ⊎ (owns-cases rest v ≡ true) → (c : MaybeClaimedRegion) × In c (x ∷ cs) × (owns-nodes (children-in c) v ≡ true)
+    go : (owns-cases rest κ ≡ true → (c : MaybeClaimedRegion) × In c cs × (owns-nodes (children-in c) κ ≡ true))
+        → (owns-nodes (children-in x) κ ≡ true) ⊎ (owns-cases rest κ ≡ true) → (c : MaybeClaimedRegion) × In c (x ∷ cs) × (owns-nodes (children-in c) κ ≡ true)
     go ih (inl p) = (x, inl refl, p)
     go ih (inr p) = let y = ih p in (y .0, inr (y .1), y .2)
 
-pub cases-apart : (cs : List MaybeClaimedRegion) (ccs : Cases) → CasesFrom cs ccs → (v : Key) → owns-cases ccs v ≡ false → (c : MaybeClaimedRegion) → In c cs → owns-nodes (children-in c) v ≡ false
+pub cases-apart : (cs : List MaybeClaimedRegion) (ccs : Cases) → CasesFrom cs ccs → (κ : Key) → owns-cases ccs κ ≡ false → (c : MaybeClaimedRegion) → In c cs
+    → owns-nodes (children-in c) κ ≡ false
 unfolding owns-cases
-cases-apart [] ccs h v o c i = absurd i
-cases-apart (x ∷ cs) ccs (r, rest, e, h) v o c (inl p) = rw p (or-left (owns-nodes (children-in x) v) (owns-cases rest v) (rw e at o))
-cases-apart (x ∷ cs) ccs (r, rest, e, h) v o c (inr i) = cases-apart cs rest h v (or-right (owns-nodes (children-in x) v) (owns-cases rest v) (rw e at o)) c i
+cases-apart [] ccs h κ o c i = absurd i
+cases-apart (x ∷ cs) ccs (r, rest, e, h) κ o c (inl p) = rw p (or-left (owns-nodes (children-in x) κ) (owns-cases rest κ) (rw e at o))
+cases-apart (x ∷ cs) ccs (r, rest, e, h) κ o c (inr i) = cases-apart cs rest h κ (or-right (owns-nodes (children-in x) κ) (owns-cases rest κ) (rw e at o)) c i
 
 case-regions-post : (cs : List MaybeClaimedRegion) (s : NestState) → IfDone (λ ccs s′. CasesFrom cs ccs × Grew s s′) (case-regions cs s)
 unfolding case-regions
@@ -75,7 +78,7 @@ scrutinee-value-post (lazy c) s = map-post (materialize-lazy-cond c s) (material
 
 pub record DefinesSelect (kind : SelectionKind) (sc : Scrutinee) (cases : List MaybeClaimedRegion) (s : NestState) (n : DefinedSelect) (s′ : NestState) : Type 0 where
   pub cases-of : Cases
-  pub tree-is : n .children ≡ select (n .node) (n .kind) (n .scrutinee) [] cases-of ▸ ⟨⟩
+  pub children-is : n .children ≡ select (n .node) (n .kind) (n .scrutinee) [] cases-of ▸ ⟨⟩
   pub kind-is : n .kind ≡ kind
   pub scrut-is : ScrutineeIs sc (s′ .node-outputs) (n .scrutinee)
   pub from : CasesFrom cases cases-of
@@ -83,7 +86,8 @@ pub record DefinesSelect (kind : SelectionKind) (sc : Scrutinee) (cases : List M
   pub below : n .node < s′ .node-count
   pub grew : Grew s s′
 
-pub define-select-post : (kind : SelectionKind) (sc : Scrutinee) (cases : List MaybeClaimedRegion) (s : NestState) → IfDone (DefinesSelect kind sc cases s) (define-select kind sc cases s)
+pub define-select-post : (kind : SelectionKind) (sc : Scrutinee) (cases : List MaybeClaimedRegion) (s : NestState)
+    → IfDone (DefinesSelect kind sc cases s) (define-select kind sc cases s)
 unfolding define-select
 define-select-post kind sc cases s =
     bind (case-regions cases s) _ (case-regions-post cases s) λ ccs s₁ hc.
@@ -92,7 +96,7 @@ define-select-post kind sc cases s =
     record {
       post = record {
         cases-of = ccs;
-        tree-is = refl;
+        children-is = refl;
         kind-is = refl;
         scrut-is = scrutinee-stays sc (s₂ .node-outputs) (s₃ .node-outputs) (hn .2 .outputs) v (hv .0);
         from = hc .0;

@@ -114,7 +114,8 @@ module _ (W : World) (ρ : Resolver) (os : List NodeOutput) (n : DefinedSelect) 
     (reads : (k : ℕ) (o : NodeOutput) → OutputAt (n .node) os k o → s′ .env (output k) ≡ s .env (ρ (getD (o .values) j (undef 0))))
     (taken : Took (n .kind) j (s′ .env (ρ (n .scrutinee))))
     (b : ℕ) (e : End) (h : List Event) (goes : Goes W ρ os b (deferred-of cj) e h s) (dist : Distinct (deferred-of cj))
-    (shares : (k : ℕ) (w : Value) → in-parent cj (getD (goes .entry .target-inputs) k (undef 0)) ≡ some w → s′ .env (ρ w) ≡ s .env (ρ (getD (goes .entry .target-inputs) k (undef 0)))) where
+    (shares : (k : ℕ) (w : Value) → in-parent cj (getD (goes .entry .target-inputs) k (undef 0)) ≡ some w → s′ .env (ρ w) ≡ s .env
+    (ρ (getD (goes .entry .target-inputs) k (undef 0)))) where
   abbrev y : DeferredEdgeBundle
   y = goes .entry
 
@@ -124,7 +125,8 @@ module _ (W : World) (ρ : Resolver) (os : List NodeOutput) (n : DefinedSelect) 
   mine : per-case-deferred (y .target) (deferred-of cj) .inputs ≡ some ys
   mine = ap (λ p. p .inputs) (per-case-mine ρ os s on-bool on-undef (deferred-of cj) dist y (goes .chosen))
 
-  one-input : (k ty : ℕ) (v : Value) → EmitsOne os n (plan-input k ty (per-cases (y .target) cs) (unique-input k cs (per-cases (y .target) cs))) v → s′ .env (ρ v) ≡ s .env (ρ (getD ys k (undef 0)))
+  one-input : (k ty : ℕ) (v : Value) → EmitsOne os n (plan-input k ty (per-cases (y .target) cs) (unique-input k cs (per-cases (y .target) cs))) v
+      → s′ .env (ρ v) ≡ s .env (ρ (getD ys k (undef 0)))
   one-input k ty v em = go (unique-input k cs (per-cases (y .target) cs)) refl em
     where
       out-of : EmitsOne os n (merged ty (map (value-in-case k ty) (per-cases (y .target) cs))) v → s′ .env (ρ v) ≡ s .env (ρ (getD ys k (undef 0)))
@@ -132,7 +134,8 @@ module _ (W : World) (ρ : Resolver) (os : List NodeOutput) (n : DefinedSelect) 
           ap (λ z. s′ .env (ρ z)) is-out ∙ ap (s′ .env) (on-output i) ∙ reads i o at-i
           ∙ ap (λ z. s .env (ρ z)) (ap (λ l. getD l j (undef 0)) vals ∙ per-cases-at k ty (y .target) cs j cj at-j ∙ rw (mine, value-in-case))
 
-      go : (a : UniqueInput) → unique-input k cs (per-cases (y .target) cs) ≡ a → EmitsOne os n (plan-input k ty (per-cases (y .target) cs) a) v → s′ .env (ρ v) ≡ s .env (ρ (getD ys k (undef 0)))
+      go : (a : UniqueInput) → unique-input k cs (per-cases (y .target) cs) ≡ a → EmitsOne os n (plan-input k ty (per-cases (y .target) cs) a) v
+          → s′ .env (ρ v) ≡ s .env (ρ (getD ys k (undef 0)))
       go no-value p x = out-of x
       go differing p x = out-of x
       go (unique w) p x = rw x (shares k w (unique-at k (y .target) cj ys mine cs j w at-j p))
@@ -182,7 +185,8 @@ module _ (W : World) (ρ : Resolver) (os : List NodeOutput) (n : DefinedSelect) 
       where
         goes-on : (z : DeferredEdgeBundle) → EmitsBundle os n (plan-bundle (W .g) cs w) z → OnwardTo W ρ s′ b e h (z .target) (z .target-inputs)
         goes-on z em =
-            rw (em .target, w-target) (onward-same (y .target) (z .target-inputs) (all-inputs (w .input-count) 0 (z .target-inputs) (omega arith) (rw w-target at (em .inputs))) (goes .onward))
+            rw (em .target, w-target) (onward-same (y .target) (z .target-inputs)
+            (all-inputs (w .input-count) 0 (z .target-inputs) (omega arith) (rw w-target at (em .inputs))) (goes .onward))
 
         holds : (z : DeferredEdgeBundle) → EmitsBundle os n (plan-bundle (W .g) cs w) z → (v : Value) → Mat (z .condition) os v → Truthy (s′ .env (ρ v))
         holds z em v mat = go (all-true (per-cases (w .target) cs)) (rw (em .condition) at mat)
@@ -190,17 +194,21 @@ module _ (W : World) (ρ : Resolver) (os : List NodeOutput) (n : DefinedSelect) 
             go : (o : Bool) → Mat (condition-from n (pick o none (some (conds (w .target))))) os v → Truthy (s′ .env (ρ v))
             go true mt = record { less = 0; is = ap (λ x. s′ .env (ρ x)) mt ∙ on-bool′ true }
             go false mt =
-                merged-true ρ os (n .node) j (n .kind) (n .scrutinee) s s′ on-output on-bool reads taken (conds (y .target)) (per-case-deferred (y .target) (deferred-of cj) .condition) (per-cases-condition (y .target) cs j cj at-j)
+                merged-true ρ os (n .node) j (n .kind) (n .scrutinee) s s′ on-output on-bool reads taken (conds (y .target))
+                (per-case-deferred (y .target) (deferred-of cj) .condition) (per-cases-condition (y .target) cs j cj at-j)
                 (per-case-true ρ os s on-bool on-undef (deferred-of cj) dist y (goes .chosen)) v (rw w-target at mt)
 
-        others : (z : DeferredEdgeBundle) → EmitsBundle os n (plan-bundle (W .g) cs w) z → (z′ : DeferredEdgeBundle) → In z′ d → same-target (z′ .target) (z .target) ≡ false → (v : Value) → Mat (z′ .condition) os v → s′ .env (ρ v) ≡ word 0
+        others : (z : DeferredEdgeBundle) → EmitsBundle os n (plan-bundle (W .g) cs w) z → (z′ : DeferredEdgeBundle) → In z′ d
+            → same-target (z′ .target) (z .target) ≡ false → (v : Value) → Mat (z′ .condition) os v → s′ .env (ρ v) ≡ word 0
         others z em z′ i ne v mat =
             let from = emits-from (W .g) os n cs ws d emits z′ i in
             let ne′ : same-target (from .0 .target) (y .target) ≡ false = rw (from .2 .target, em .target, w-target) at ne in
             go (from .0 .target) ne′ (all-true (per-cases (from .0 .target) cs)) refl (rw (from .2 .condition) at mat)
           where
-            go : (x : DeferredTarget) → same-target x (y .target) ≡ false → (o : Bool) → all-true (per-cases x cs) ≡ o → Mat (condition-from n (pick o none (some (conds x)))) os v → s′ .env (ρ v) ≡ word 0
+            go : (x : DeferredTarget) → same-target x (y .target) ≡ false → (o : Bool) → all-true (per-cases x cs) ≡ o
+                → Mat (condition-from n (pick o none (some (conds x)))) os v → s′ .env (ρ v) ≡ word 0
             go x ne″ true p mt = absurd (all-false x ne″ p)
             go x ne″ false p mt =
-                merged-false ρ os (n .node) j (n .kind) (n .scrutinee) s s′ on-output on-bool reads taken (conds x) (per-case-deferred x (deferred-of cj) .condition) (per-cases-condition x cs j cj at-j)
+                merged-false ρ os (n .node) j (n .kind) (n .scrutinee) s s′ on-output on-bool reads taken (conds x) (per-case-deferred x (deferred-of cj) .condition)
+                (per-cases-condition x cs j cj at-j)
                 (per-case-false ρ os s on-bool on-undef (deferred-of cj) dist y (goes .chosen) x ne″) v mt

@@ -1,6 +1,6 @@
 -- The run of a defined select follows the graph's run.
 use mathlib.Core.Bool.{Bool, false}
-use mathlib.Core.List.{List, [], map}
+use mathlib.Core.List.{List, map}
 use mathlib.Core.Logic.{_⊎_, inl, inr}
 use mathlib.Core.Option.{Option, none, some}
 use mathlib.Core.Path.{_∙_, _≡_, ap, refl, sym}
@@ -24,9 +24,8 @@ use Rattle.follows.specs.World.{World, runs}
 use Rattle.follows.specs.Tables.{Resolver, Respects, Tables}
 use Rattle.follows.specs.Frame.{frame, outputs-kept}
 use Rattle.follows.specs.Conditions.{Truthy}
-use Rattle.follows.specs.Leads.{Based, Goes, Tracks, based-after}
+use Rattle.follows.specs.Leads.{Based, Goes, Tracks, based-after, then-on}
 use Rattle.follows.specs.Bundles.{Distinct}
-use Rattle.follows.specs.LoopFollows.{then-on}
 use Rattle.follows.specs.Planned.{EmitsAll}
 use Rattle.follows.specs.SelectGoes.{Took, output-after, outputs-set, select-goes}
 
@@ -42,46 +41,53 @@ module _ (ρ : Resolver) (os : List NodeOutput) where
   count-form (case r ks vs cs) n j = ap suc (count-form cs n (suc j))
 
   pub case-run : (rule : Rule) (test b : ℕ) (cs : Cases) (n i j : ℕ) (ks : Nodes) (s : RunState) → children-at cs j ≡ some ks
-      → run-case rule test b (rewrite-cases-of ρ os cs n i) j (output-decls n 0 os) s ≡ and-then (run-nodes rule test b (rewrite-nodes ρ os ks) s) (λ s′. through (outputs-set ρ os n (i + j) s′))
+      → run-case rule test b (rewrite-cases-of ρ os cs n i) j (output-decls n 0 os) s ≡ and-then (run-nodes rule test b (rewrite-nodes ρ os ks) s)
+      (λ s′. through (outputs-set ρ os n (i + j) s′))
   unfolding rewrite-cases-of run-case
   case-run rule test b ∅ n i j ks s p = cc
   case-run rule test b (case r ks′ vs cs) n i zero ks s p = let e : ks′ ≡ ks = cc in let z : i + 0 ≡ i = omega arith in rw (e, z)
   case-run rule test b (case r ks′ vs cs) n i (suc j) ks s p = let z : i + suc j ≡ suc i + j = omega arith in rw z (case-run rule test b cs n (suc i) j ks s p)
 
 module _ (W : World)
-    (ρ : Resolver) (os : List NodeOutput) (T : Tables) (res : Respects ρ os T) (n : DefinedSelect) (ccs : Cases) (cs : List MaybeClaimedRegion) (j : ℕ) (cj : MaybeClaimedRegion) (ksj : Nodes)
+    (ρ : Resolver) (os : List NodeOutput) (T : Tables) (res : Respects ρ os T) (n : DefinedSelect) (ccs : Cases) (cs : List MaybeClaimedRegion) (j : ℕ)
+    (cj : MaybeClaimedRegion) (ksj : Nodes)
     (at-j : nth cs j ≡ some cj) (kids-j : children-at ccs j ≡ some ksj) (dist : Distinct (deferred-of cj))
     (b k : ℕ) (s : RunState) (bs : Based W s) (w : ℕ) (tests : s .env (ρ (n .scrutinee)) ≡ word w) (takes : place-taken (n .kind) w (case-count ccs) ≡ j)
     (e : End) (h : List Event) (inside : Tracks W ρ os k (deferred-of cj) e h (runs W b (rewrite-nodes ρ os ksj) (pay (W .g .test-cost) s)))
     -- the scrutinee is none of the select's own, nor of the case's
     (scrut-apart : owns-nodes ksj (key os (ρ (n .scrutinee))) ≡ false) (scrut-out : is-node (n .node) (key os (ρ (n .scrutinee))) ≡ false)
     -- what is shared means the same outside of the case, and is none of the select's own
-    (shares : (y : DeferredEdgeBundle) → In y (deferred-of cj) → (i : ℕ) (v : Value) → in-parent cj (getD (y .target-inputs) i (undef 0)) ≡ some v → (ρ v ≡ ρ (getD (y .target-inputs) i (undef 0))) × (is-node (n .node) (key os (ρ v)) ≡ false))
-    (ws : List DeferredTargetSummary) (wants : (y : DeferredEdgeBundle) → In y (deferred-of cj) → (x : DeferredTargetSummary) × In x ws × (x .target ≡ y .target) × (x .input-count ≡ length (y .target-inputs)))
+    (shares : (y : DeferredEdgeBundle) → In y (deferred-of cj) → (i : ℕ) (v : Value) → in-parent cj (getD (y .target-inputs) i (undef 0)) ≡ some v
+    → (ρ v ≡ ρ (getD (y .target-inputs) i (undef 0))) × (is-node (n .node) (key os (ρ v)) ≡ false))
+    (ws : List DeferredTargetSummary)
+    (wants : (y : DeferredEdgeBundle) → In y (deferred-of cj) → (x : DeferredTargetSummary) × In x ws × (x .target ≡ y .target)
+    × (x .input-count ≡ length (y .target-inputs)))
     (d : DeferredEdgeBundleSet) (emits : EmitsAll os n (map (plan-bundle (W .g) cs) ws) d) where
   at-bool : (s′ : RunState) → Based W s′ → (x : Bool) → s′ .env (ρ (bool x)) ≡ word (pick x 1 0)
   at-bool s′ bs′ x = ap (s′ .env) (res .on-bool x) ∙ bs′ .based (bool x) refl ∙ W .on-bool x
 
-  after : (s₁ : RunState) → runs W b (rewrite-nodes ρ os ksj) (pay (W .g .test-cost) s) ≡ through s₁ → Goes W ρ os k (deferred-of cj) e h s₁ → Goes W ρ os k d e h (outputs-set ρ os (n .node) j s₁)
+  after : (s₁ : RunState) → runs W b (rewrite-nodes ρ os ksj) (pay (W .g .test-cost) s) ≡ through s₁ → Goes W ρ os k (deferred-of cj) e h s₁
+      → Goes W ρ os k d e h (outputs-set ρ os (n .node) j s₁)
   after s₁ p goes =
       let s₂ : RunState = outputs-set ρ os (n .node) j s₁ in
       let vs : List Value = map ρ (case-outputs j (outputs-of (n .node) os)) in
       let out-kept : (u : Value) → is-node (n .node) (key os u) ≡ false → s₂ .env u ≡ s₁ .env u = λ u c. outputs-kept (n .node) os u c vs s₁ in
       let bs₁ : Based W s₁ = based-after W ρ os ksj b (pay (W .g .test-cost) s) s₁ p (record { based = bs .based }) in
       let bs₂ : Based W s₂ = record { based = λ v c. out-kept v (rw (key-constant os v c)) ∙ bs₁ .based v c } in
-      let scrut : s₂ .env (ρ (n .scrutinee)) ≡ word w =
+      let scrutinee-kept : s₂ .env (ρ (n .scrutinee)) ≡ word w =
       out-kept (ρ (n .scrutinee)) scrut-out ∙ frame (W .rule) (W .g .test-cost) ρ os (ρ (n .scrutinee)) ksj b (pay (W .g .test-cost) s) s₁ p scrut-apart ∙ tests in
       let x = wants (goes .entry) (goes .chosen .member) in
       select-goes W ρ os n cs j cj at-j s₁ s₂ refl (res .on-output) (at-bool s₁ bs₁) (at-bool s₂ bs₂)
       (λ ty. ap (s₁ .env) (res .on-undef ty) ∙ bs₁ .based (undef ty) refl ∙ W .on-undef ty)
-      (output-after ρ os (n .node) j s₁) (taken s₂ scrut) k e h goes dist
+      (output-after ρ os (n .node) j s₁) (taken s₂ scrutinee-kept) k e h goes dist
       (λ i v q. let y = shares (goes .entry) (goes .chosen .member) i v q in out-kept (ρ v) (y .1) ∙ ap (s₁ .env) (y .0))
       ws (x .0) (x .1) (x .2) (x .3) d emits
     where
       taken : (s₂ : RunState) → s₂ .env (ρ (n .scrutinee)) ≡ word w → Took (n .kind) j (s₂ .env (ρ (n .scrutinee)))
       taken s₂ p q = go w p (rw q at takes)
         where
-          go : (x : ℕ) → s₂ .env (ρ (n .scrutinee)) ≡ word x → place-taken bool-cond x (case-count ccs) ≡ j → ((j ≡ 0) × Truthy (s₂ .env (ρ (n .scrutinee)))) ⊎ ((j ≡ 1) × (s₂ .env (ρ (n .scrutinee)) ≡ word 0))
+          go : (x : ℕ) → s₂ .env (ρ (n .scrutinee)) ≡ word x → place-taken bool-cond x (case-count ccs) ≡ j
+              → ((j ≡ 0) × Truthy (s₂ .env (ρ (n .scrutinee)))) ⊎ ((j ≡ 1) × (s₂ .env (ρ (n .scrutinee)) ≡ word 0))
           go zero r l = inr (sym l, r)
           go (suc x) r l = inl (sym l, record { less = x; is = r })
 

@@ -7,9 +7,9 @@ use mathlib.Core.Path.{_∙_, _≡_, ap, refl, subst, sym}
 use Prim.Native.Nat.{_≤_, ℕ}
 use native.Mathlib.Omega.{arith}
 use lib.Dec.{eqb}
-use lib.ListN.{getD, set}
+use lib.ListN.{getD}
 use Rattle.meaning.specs.Form.{Cases, Nodes, _▸_, select, ⟨⟩}
-use Rattle.meaning.specs.Graph.{SelectionKind, Value, input, region, undef}
+use Rattle.meaning.specs.Graph.{SelectionKind, Value, input, undef}
 use Rattle.format.specs.ReadLaws.{clash}
 use Rattle.nesting.specs.Case.{Body, ClaimedRegion, MaybeClaimedRegion, Scrutinee, err, join, ok}
 use Rattle.nesting.specs.Change.{with-twice}
@@ -20,14 +20,14 @@ use Rattle.nesting.specs.Rewrite.{any, meets, rewrite, rewrites-of}
 use Rattle.nesting.specs.Select.{DefinedSelect, define-select, emit, meets-in-case, replace-inputs, rewrite-case, rewrite-cases, rewrite-claimed, select-if, shared-bundle, structurize-select}
 use Rattle.nesting.specs.State.{NestState, NodeOutput, RewriteEntry, not-begun, replace-with}
 use Rattle.follows.specs.Small.{In, entry-keeps, from-map, in-map, or-either, or-left, or-right}
-use Rattle.follows.specs.Key.{Key, is-node, node-key, of-held, of-instr, of-node, of-none, owns, owns-cases, owns-join, owns-nodes}
+use Rattle.follows.specs.Key.{Key, is-node, node-key, of-node, owns-cases, owns-join, owns-nodes}
 use Rattle.follows.specs.World.{World, ar}
 use Rattle.follows.specs.Tables.{EntryLaw, Gains, Laws, Resolver, Respects, extends-refl, gains-refl, gains-then, laws-last, lookup-keeps, respects-back, tables}
 use Rattle.follows.specs.Leads.{leads-on}
 use Rattle.follows.specs.Planned.{EmitsAll}
 use Rattle.follows.specs.Defined.{Grew, IfDone, emit-post, grew-then}
 use Rattle.follows.specs.Scope.{AllScoped, Within, scoped-later, scoped-rewritten, set-later, within-left, within-refl}
-use Rattle.follows.specs.Invariant.{Later, Loggable, New, Wild, inv-grew, inv-log, later-grew, later-log, logged-gains, logging, new, old, unborn, waiting}
+use Rattle.follows.specs.Invariant.{Free, Later, Rewritable, free⁺, inv-grew, inv-rewrite, later-grew, later-rewrite, new, old, rewritable⁺, rewrite-gains, rewriting}
 use Rattle.follows.specs.Holding.{Apart, CasesOk, ClaimedOk, Doing, Holds, doing-on, scoped-not-of}
 use Rattle.follows.specs.EnterCase.{ScrutineeIs, children-in, getD-rewritten}
 use Rattle.follows.specs.SelectDefined.{CasesFrom, DefinesSelect, cases-own, define-select-post, scrutinee-stays}
@@ -36,86 +36,78 @@ pub join-nil : (ks : Nodes) → join ks ⟨⟩ ≡ ks
 join-nil ⟨⟩ = refl
 join-nil (x ▸ ks) = ap (λ k. x ▸ k) (join-nil ks)
 
-pub none-owned : (v : Key) → owns-nodes ⟨⟩ v ≡ true → ⊥
+pub none-owned : (κ : Key) → owns-nodes ⟨⟩ κ ≡ true → ⊥
 unfolding owns-nodes
-none-owned v o = clash (cc)
+none-owned κ o = clash (cc)
 
-own-select : (v : Key) (n : ℕ) (kind : SelectionKind) (sc : Value) (ccs : Cases) → owns-nodes (select n kind sc [] ccs ▸ ⟨⟩) v ≡ true → (is-node n v ≡ true) ⊎ (owns-cases ccs v ≡ true)
+own-select : (κ : Key) (n : ℕ) (kind : SelectionKind) (sc : Value) (ccs : Cases) → owns-nodes (select n kind sc [] ccs ▸ ⟨⟩) κ ≡ true
+    → (is-node n κ ≡ true) ⊎ (owns-cases ccs κ ≡ true)
 unfolding owns-nodes
-own-select v n kind sc ccs o = or-either (is-node n v) (owns-cases ccs v) (sym (or-false (is-node n v || owns-cases ccs v)) ∙ o)
+own-select κ n kind sc ccs o = or-either (is-node n κ) (owns-cases ccs κ) (sym (or-false (is-node n κ || owns-cases ccs κ)) ∙ o)
 
 module _ (W : World) where
-  -- a step that logs what its caller held
+  -- A step that gives rewrites to what its caller held.
   pub record Moved (s s′ : NestState) : Type 0 where
     pub gains : Gains (tables s) (tables s′)
-    pub wild : (v : Key) → Wild s′ v → Wild s v
-    pub loggable : (q : ℕ) → Loggable W s′ q → Loggable W s q
+    pub free : (κ : Key) → Free s′ κ → Free s κ
+    pub rewritable : (q : ℕ) → Rewritable W s′ q → Rewritable W s q
 
   pub later-moves : {s s′ : NestState} → Later W s s′ → Moved s s′
-  later-moves p = record { gains = p .gains; wild = p .wild; loggable = p .loggable }
+  later-moves p = record { gains = p .gains; free = p .free; rewritable = p .rewritable }
 
   pub moved-then : {s s′ s″ : NestState} → Moved s s′ → Moved s′ s″ → Moved s s″
-  moved-then p q = record { gains = gains-then (p .gains) (q .gains); wild = λ v h. p .wild v (q .wild v h); loggable = λ r h. p .loggable r (q .loggable r h) }
+  moved-then p q = record { gains = gains-then (p .gains) (q .gains); free = λ κ h. p .free κ (q .free κ h); rewritable = λ r h. p .rewritable r (q .rewritable r h) }
 
   pub holds-moved : {c : ClaimedRegion} {s s′ : NestState} → Holds W c s → Moved s s′ → rewrites-of (s′ .region-input-rewrites) (c .structured-body) ≡ none → Holds W c s′
   holds-moved {c} h st un = record {
     sim = leads-on W (st .gains) (h .sim);
     set = set-later W (st .gains) (within-refl (c .children)) (h .set);
-    clear = λ v o w. h .clear v o (st .wild v w);
-    closed = λ l. h .closed (st .loggable (c .structured-body) l);
-    unlogged = un;
+    clear = λ κ o w. h .clear κ o (st .free κ w);
+    closed = λ l. h .closed (st .rewritable (c .structured-body) l);
+    unrewritten = un;
   }
 
-  -- ---- logging
-  pub record ToLog (s₀ : NestState) (r : ℕ) (ks : Nodes) (s : NestState) (c : ClaimedRegion) : Type 0 where
-    pub closed : Loggable W s (c .structured-body) → ⊥
-    pub unlogged : rewrites-of (s .region-input-rewrites) (c .structured-body) ≡ none
+  -- ---- inputs replaced
+  pub record ToRewrite (s₀ : NestState) (r : ℕ) (ks : Nodes) (s : NestState) (c : ClaimedRegion) : Type 0 where
+    pub closed : Rewritable W s (c .structured-body) → ⊥
+    pub unrewritten : rewrites-of (s .region-input-rewrites) (c .structured-body) ≡ none
     pub inputs : AllScoped (tables s) r (ar W r) ks (c .structured-body-inputs)
     pub other : eqb r (c .structured-body) ≡ false
-    pub since : Loggable W s₀ (c .structured-body)
+    pub since : Rewritable W s₀ (c .structured-body)
 
-  module _ (s₀ s : NestState) (r : ℕ) (ks : Nodes) (c : ClaimedRegion) (dg : Doing W s₀ r ks s) (tl : ToLog s₀ r ks s c) where
+  module _ (s₀ s : NestState) (r : ℕ) (ks : Nodes) (c : ClaimedRegion) (dg : Doing W s₀ r ks s) (tl : ToRewrite s₀ r ks s c) where
     abbrev s⁺ : NestState
-    s⁺ = logging W (c .structured-body) (replace-with (c .structured-body-inputs)) s
+    s⁺ = rewriting W (c .structured-body) (replace-with (c .structured-body-inputs)) s
 
-    pub log-moved : Moved s s⁺
-    log-moved = record { gains = logged-gains W s (c .structured-body) (replace-with (c .structured-body-inputs)); wild = λ v h. wild v h; loggable = λ q h. lg q h }
-      where
-        same-new : (v : Key) → New s⁺ v → New s v
-        same-new (of-instr q) n = n
-        same-new (of-held q) n = n
-        same-new (of-node a) n = n
-        same-new of-none n = n
-
-        wild : (v : Key) → Wild s⁺ v → Wild s v
-        wild v (old o) = old (record { region = o .region; back = o .back; children = o .children; deferred-edges = o .deferred-edges; is = o .is; owns = o .owns })
-        wild v (new n) = new (same-new v n)
-
-        lg : (q : ℕ) → Loggable W s⁺ q → Loggable W s q
-        lg q (unborn le) = unborn le
-        lg q (waiting lt p) = waiting lt p
-
-    pub log-doing : Doing W s₀ r ks s⁺
-    log-doing = record {
-      in-range = dg .in-range;
-      inv = inv-log W s (c .structured-body) (replace-with (c .structured-body-inputs)) (dg .inv) (tl .unlogged) (tl .closed)
-          (λ k. scoped-not-of (s .region-input-rewrites) (dg .inv .ends) (c .structured-body) r (tl .other) (dg .unlogged) (ar W r) ks (s .node-outputs) (getD (c .structured-body-inputs) k (undef 0)) (tl .inputs k));
-      step = later-log W s (c .structured-body) (replace-with (c .structured-body-inputs)) (dg .step) (tl .since);
-      began = dg .began;
-      busy = dg .busy;
-      unlogged = entry-keeps (s .region-input-rewrites) _ r (tl .other) (dg .unlogged);
-      since = dg .since;
-      clear = λ v o w. dg .clear v o (log-moved .wild v w);
+    pub rewrite-moved : Moved s s⁺
+    rewrite-moved = record {
+      gains = rewrite-gains W s (c .structured-body) (replace-with (c .structured-body-inputs));
+      free = free⁺ W s (c .structured-body) (replace-with (c .structured-body-inputs));
+      rewritable = rewritable⁺ W s (c .structured-body) (replace-with (c .structured-body-inputs));
     }
 
-    pub log-keeps : (q : ℕ) → eqb q (c .structured-body) ≡ false → rewrites-of (s .region-input-rewrites) q ≡ none → rewrites-of (s⁺ .region-input-rewrites) q ≡ none
-    log-keeps q ne h = entry-keeps (s .region-input-rewrites) _ q ne h
+    pub rewrite-doing : Doing W s₀ r ks s⁺
+    rewrite-doing = record {
+      in-range = dg .in-range;
+      inv = inv-rewrite W s (c .structured-body) (replace-with (c .structured-body-inputs)) (dg .inv) (tl .unrewritten) (tl .closed)
+          (λ k. scoped-not-of (s .region-input-rewrites) (dg .inv .ends) (c .structured-body) r (tl .other) (dg .unrewritten) (ar W r) ks (s .node-outputs)
+          (getD (c .structured-body-inputs) k (undef 0)) (tl .inputs k));
+      step = later-rewrite W s (c .structured-body) (replace-with (c .structured-body-inputs)) (dg .step) (tl .since);
+      began = dg .began;
+      busy = dg .busy;
+      unrewritten = entry-keeps (s .region-input-rewrites) _ r (tl .other) (dg .unrewritten);
+      since = dg .since;
+      clear = λ κ o w. dg .clear κ o (rewrite-moved .free κ w);
+    }
 
-    pub log-on : (c′ : ClaimedRegion) → eqb (c′ .structured-body) (c .structured-body) ≡ false → ToLog s₀ r ks s c′ → ToLog s₀ r ks s⁺ c′
-    log-on c′ ne t = record {
-      closed = λ l. t .closed (log-moved .loggable (c′ .structured-body) l);
-      unlogged = log-keeps (c′ .structured-body) ne (t .unlogged);
-      inputs = λ i. scoped-later (log-moved .gains) (within-refl ks) (t .inputs i);
+    pub rewrite-keeps : (q : ℕ) → eqb q (c .structured-body) ≡ false → rewrites-of (s .region-input-rewrites) q ≡ none → rewrites-of (s⁺ .region-input-rewrites) q ≡ none
+    rewrite-keeps q ne h = entry-keeps (s .region-input-rewrites) _ q ne h
+
+    pub rewrite-on : (c′ : ClaimedRegion) → eqb (c′ .structured-body) (c .structured-body) ≡ false → ToRewrite s₀ r ks s c′ → ToRewrite s₀ r ks s⁺ c′
+    rewrite-on c′ ne t = record {
+      closed = λ l. t .closed (rewrite-moved .rewritable (c′ .structured-body) l);
+      unrewritten = rewrite-keeps (c′ .structured-body) ne (t .unrewritten);
+      inputs = λ i. scoped-later (rewrite-moved .gains) (within-refl ks) (t .inputs i);
       other = t .other;
       since = t .since;
     }
@@ -127,40 +119,54 @@ module _ (W : World) where
 
   pub record Replaced (s₀ : NestState) (r : ℕ) (ks : Nodes) (cs : List MaybeClaimedRegion) (s s′ : NestState) : Type 0 where
     pub doing : Doing W s₀ r ks s′
-    pub log : s′ .region-input-rewrites ≡ s .region-input-rewrites ++ entries-of cs
+    pub rewrites : s′ .region-input-rewrites ≡ s .region-input-rewrites ++ entries-of cs
     pub outputs : s′ .node-outputs ≡ s .node-outputs
     pub moves : Moved s s′
-    pub keeps : (q : ℕ) → ((c : ClaimedRegion) → In (ok c) cs → eqb q (c .structured-body) ≡ false) → rewrites-of (s .region-input-rewrites) q ≡ none → rewrites-of (s′ .region-input-rewrites) q ≡ none
+    pub keeps : (q : ℕ) → ((c : ClaimedRegion) → In (ok c) cs → eqb q (c .structured-body) ≡ false) → rewrites-of (s .region-input-rewrites) q ≡ none
+        → rewrites-of (s′ .region-input-rewrites) q ≡ none
 
-  pub replace-inputs-post : (s₀ : NestState) (r : ℕ) (ks : Nodes) (cs : List MaybeClaimedRegion) (s : NestState) → Doing W s₀ r ks s → ((c : ClaimedRegion) → In (ok c) cs → ToLog s₀ r ks s c) → Apart W cs
+  pub replace-inputs-post : (s₀ : NestState) (r : ℕ) (ks : Nodes) (cs : List MaybeClaimedRegion) (s : NestState) → Doing W s₀ r ks s
+      → ((c : ClaimedRegion) → In (ok c) cs → ToRewrite s₀ r ks s c) → Apart W cs
       → IfDone (λ u s′. Replaced s₀ r ks cs s s′) (replace-inputs cs s)
   unfolding replace-inputs
-  replace-inputs-post s₀ r ks [] s dg tl ap = record { post = record { doing = dg; log = sym (append-nil (s .region-input-rewrites)); outputs = refl; moves = record { gains = gains-refl (tables s); wild = λ v h. h; loggable = λ q h. h }; keeps = λ q n h. h } }
+  replace-inputs-post s₀ r ks [] s dg tl ap =
+      record {
+        post = record {
+          doing = dg;
+          rewrites = sym (append-nil (s .region-input-rewrites));
+          outputs = refl;
+          moves =
+              record { gains = gains-refl (tables s); free = λ κ h. h; rewritable = λ q h. h };
+          keeps = λ q n h. h;
+        };
+      }
   replace-inputs-post s₀ r ks (err d ∷ cs) s dg tl ap =
       map-post (replace-inputs cs s) (replace-inputs-post s₀ r ks cs s dg (λ c i. tl c (inr i)) ap) λ u s′ h.
-      record { doing = h .doing; log = h .log; outputs = h .outputs; moves = h .moves; keeps = λ q n. h .keeps q (λ c i. n c (inr i)) }
+      record { doing = h .doing; rewrites = h .rewrites; outputs = h .outputs; moves = h .moves; keeps = λ q n. h .keeps q (λ c i. n c (inr i)) }
   replace-inputs-post s₀ r ks (ok c ∷ cs) s dg tl (ne, ap) =
       let mine = tl c (inl refl) in
-      let s₁ : NestState = logging W (c .structured-body) (replace-with (c .structured-body-inputs)) s in
+      let s₁ : NestState = rewriting W (c .structured-body) (replace-with (c .structured-body-inputs)) s in
       map-post (replace-inputs cs s₁)
-      (replace-inputs-post s₀ r ks cs s₁ (log-doing s₀ s r ks c dg mine) (λ c′ i. log-on s₀ s r ks c dg mine c′ (ne c′ i) (tl c′ (inr i))) ap) λ u s′ h.
+      (replace-inputs-post s₀ r ks cs s₁ (rewrite-doing s₀ s r ks c dg mine) (λ c′ i. rewrite-on s₀ s r ks c dg mine c′ (ne c′ i) (tl c′ (inr i))) ap) λ u s′ h.
       record {
         doing = h .doing;
-        log = h .log ∙ append-assoc (s .region-input-rewrites) _ (entries-of cs);
+        rewrites = h .rewrites ∙ append-assoc (s .region-input-rewrites) _ (entries-of cs);
         outputs = h .outputs;
-        moves = moved-then (log-moved s₀ s r ks c dg mine) (h .moves);
-        keeps = λ q n p. h .keeps q (λ c′ i. n c′ (inr i)) (log-keeps s₀ s r ks c dg mine q (n c (inl refl)) p);
+        moves = moved-then (rewrite-moved s₀ s r ks c dg mine) (h .moves);
+        keeps = λ q n p. h .keeps q (λ c′ i. n c′ (inr i)) (rewrite-keeps s₀ s r ks c dg mine q (n c (inl refl)) p);
       }
 
-  law-of : (ρ : Resolver) (cs : List MaybeClaimedRegion) → Laws ρ (entries-of cs) → (c : ClaimedRegion) → In (ok c) cs → EntryLaw ρ (c .structured-body) (replace-with (c .structured-body-inputs))
+  law-of : (ρ : Resolver) (cs : List MaybeClaimedRegion) → Laws ρ (entries-of cs) → (c : ClaimedRegion) → In (ok c) cs
+      → EntryLaw ρ (c .structured-body) (replace-with (c .structured-body-inputs))
   law-of ρ [] h c i = absurd i
   law-of ρ (err d ∷ cs) h c (inl p) = absurd (clash (cc))
   law-of ρ (err d ∷ cs) h c (inr i) = law-of ρ cs h c i
   law-of ρ (ok x ∷ cs) h c (inl p) = let e : c ≡ x = cc in rw e (h .0)
   law-of ρ (ok x ∷ cs) h c (inr i) = law-of ρ cs (h .1) c i
 
-  -- ---- the cases as looked up
-  rewritten-claimed : (σ : Resolver) (x : MaybeClaimedRegion) (c : ClaimedRegion) → ok c ≡ rewrite-case σ x → (y : ClaimedRegion) × (x ≡ ok y) × (c .structured-body ≡ y .structured-body) × (c .structured-body-inputs ≡ map σ (y .structured-body-inputs))
+  -- ---- the cases with their values looked up
+  rewritten-claimed : (σ : Resolver) (x : MaybeClaimedRegion) (c : ClaimedRegion) → ok c ≡ rewrite-case σ x
+      → (y : ClaimedRegion) × (x ≡ ok y) × (c .structured-body ≡ y .structured-body) × (c .structured-body-inputs ≡ map σ (y .structured-body-inputs))
   rewritten-claimed σ (err d) c p = absurd (clash (cc))
   rewritten-claimed σ (ok y) c p =
       let e : c ≡ rewrite-claimed σ y = cc in
@@ -169,8 +175,11 @@ module _ (W : World) where
   apart-rewritten : (σ : Resolver) (cs : List MaybeClaimedRegion) → Apart W cs → Apart W (map (rewrite-case σ) cs)
   apart-rewritten σ [] h = tt
   apart-rewritten σ (err d ∷ cs) h = apart-rewritten σ cs h
-  apart-rewritten σ (ok c ∷ cs) (ne, h) =
-      ((λ c′ i. let y = from-map (rewrite-case σ) cs (ok c′) i in let z = rewritten-claimed σ (y .0) c′ (y .2) in rw (z .2) (ne (z .0) (rw (z .1) at (y .1)))), apart-rewritten σ cs h)
+  apart-rewritten σ (ok c ∷ cs) (ne, h) = (
+    (λ c′ i. let y = from-map (rewrite-case σ) cs (ok c′) i in let z = rewritten-claimed σ (y .0) c′ (y .2) in rw (z .2)
+        (ne (z .0) (rw (z .1) at (y .1)))),
+    apart-rewritten σ cs h,
+  )
 
   module _ (s₀ : NestState) (r : ℕ) (ks : Nodes) (kind : SelectionKind) (sc : Scrutinee) (cases : List MaybeClaimedRegion) (s : NestState)
       (dg : Doing W s₀ r ks s) (fit : CasesOk W s₀ r ks s cases) where
@@ -181,7 +190,8 @@ module _ (W : World) where
     cs = map (rewrite-case σ) cases
 
     pub data Shape (more : Nodes) (d : DeferredEdgeBundleSet) (os : List NodeOutput) : Type 0 where
-      made : (n : DefinedSelect) (ccs : Cases) → more ≡ select (n .node) (n .kind) (n .scrutinee) [] ccs ▸ ⟨⟩ → n .kind ≡ kind → ScrutineeIs sc os (n .scrutinee) → CasesFrom cases ccs → s .node-count ≤ n .node
+      made : (n : DefinedSelect) (ccs : Cases) → more ≡ select (n .node) (n .kind) (n .scrutinee) [] ccs ▸ ⟨⟩ → n .kind ≡ kind → ScrutineeIs sc os (n .scrutinee)
+          → CasesFrom cases ccs → s .node-count ≤ n .node
           → EmitsAll os n (plan-bundles (W .g) cs) d → Shape more d os
       unmade : more ≡ ⟨⟩ → any-non-empty-case cases ≡ false → any-needs-select (plan-bundles (W .g) cs) ≡ false → d ≡ map shared-bundle (plan-bundles (W .g) cs) → Shape more d os
 
@@ -201,7 +211,7 @@ module _ (W : World) where
           step = d₂ .step;
           began = d₂ .began;
           busy = d₂ .busy;
-          unlogged = d₂ .unlogged;
+          unrewritten = d₂ .unrewritten;
           since = λ v o. since v (whose v o);
           clear = λ v o w. clear gr d₂ v (whose v o) w;
         }
@@ -209,48 +219,57 @@ module _ (W : World) where
         Who : Key → Type 0
         Who v = (owns-nodes ks v ≡ true) ⊎ ((v ≡ of-node (n .node)) ⊎ ((c : ClaimedRegion) × In (ok c) cases × (owns-nodes (c .children) v ≡ true)))
 
-        in-case : (v : Key) (c : MaybeClaimedRegion) → In c cases → owns-nodes (children-in c) v ≡ true → (x : ClaimedRegion) × In (ok x) cases × (owns-nodes (x .children) v ≡ true)
-        in-case v (ok x) i o = (x, i, o)
-        in-case v (err d) i o = absurd (none-owned v o)
+        in-case : (κ : Key) (c : MaybeClaimedRegion) → In c cases → owns-nodes (children-in c) κ ≡ true → (x : ClaimedRegion) × In (ok x) cases × (owns-nodes (x .children) κ ≡ true)
+        in-case κ (ok x) i o = (x, i, o)
+        in-case κ (err d) i o = absurd (none-owned κ o)
 
-        tree : (v : Key) → owns-nodes (select (n .node) (n .kind) (n .scrutinee) [] (mk .cases-of) ▸ ⟨⟩) v ≡ true → Who v
-        tree v o = at (own-select v (n .node) (n .kind) (n .scrutinee) (mk .cases-of) o)
+        tree : (κ : Key) → owns-nodes (select (n .node) (n .kind) (n .scrutinee) [] (mk .cases-of) ▸ ⟨⟩) κ ≡ true → Who κ
+        tree κ o = at (own-select κ (n .node) (n .kind) (n .scrutinee) (mk .cases-of) o)
           where
-            at : (is-node (n .node) v ≡ true) ⊎ (owns-cases (mk .cases-of) v ≡ true) → Who v
-            at (inl p) = inr (inl (node-key (n .node) v p))
-            at (inr p) = let y = cases-own cases (mk .cases-of) (mk .from) v p in inr (inr (in-case v (y .0) (y .1) (y .2)))
+            at : (is-node (n .node) κ ≡ true) ⊎ (owns-cases (mk .cases-of) κ ≡ true) → Who κ
+            at (inl p) = inr (inl (node-key (n .node) κ p))
+            at (inr p) = let y = cases-own cases (mk .cases-of) (mk .from) κ p in inr (inr (in-case κ (y .0) (y .1) (y .2)))
 
-        whose : (v : Key) → owns-nodes (join ks (n .children)) v ≡ true → Who v
-        whose v o = at (or-either (owns-nodes ks v) (owns-nodes (n .children) v) (sym (owns-join ks (n .children) v) ∙ o))
+        whose : (κ : Key) → owns-nodes (join ks (n .children)) κ ≡ true → Who κ
+        whose κ o = at (or-either (owns-nodes ks κ) (owns-nodes (n .children) κ) (sym (owns-join ks (n .children) κ) ∙ o))
           where
-            at : (owns-nodes ks v ≡ true) ⊎ (owns-nodes (n .children) v ≡ true) → Who v
+            at : (owns-nodes ks κ ≡ true) ⊎ (owns-nodes (n .children) κ ≡ true) → Who κ
             at (inl p) = inl p
-            at (inr p) = tree v (rw (mk .tree-is) at p)
+            at (inr p) = tree κ (rw (mk .children-is) at p)
 
-        fresh : Wild s (of-node (n .node))
+        fresh : Free s (of-node (n .node))
         fresh = new (mk .above)
 
         tk : (c : ClaimedRegion) → In (ok c) cases → ClaimedOk W s₀ r ks s c
         tk c i = fit .each (ok c) i .is
 
-        since : (v : Key) → Who v → Wild s₀ v
-        since v (inl o) = dg .since v o
-        since v (inr (inl e)) = rw e (dg .step .wild (of-node (n .node)) fresh)
-        since v (inr (inr (c, i, o))) = tk c i .since .kids v o
+        since : (κ : Key) → Who κ → Free s₀ κ
+        since κ (inl o) = dg .since κ o
+        since κ (inr (inl e)) = rw e (dg .step .free (of-node (n .node)) fresh)
+        since κ (inr (inr (c, i, o))) = tk c i .since .children κ o
 
-        clear : Grew s s₂ → Doing W s₀ r ks s₂ → (v : Key) → Who v → Wild s₂ v → ⊥
-        clear gr d₂ v (inl o) w = d₂ .clear v o w
-        clear gr d₂ v (inr (inl e)) w = not-new (subst (λ x. Wild s₂ x) e w)
+        clear : Grew s s₂ → Doing W s₀ r ks s₂ → (κ : Key) → Who κ → Free s₂ κ → ⊥
+        clear gr d₂ κ (inl o) w = d₂ .clear κ o w
+        clear gr d₂ κ (inr (inl e)) w = not-new (subst (λ x. Free s₂ x) e w)
           where
-            not-new : Wild s₂ (of-node (n .node)) → ⊥
-            not-new (old o) = dg .inv .fresh (of-node (n .node)) (record { region = o .region; back = o .back; children = o .children; deferred-edges = o .deferred-edges; is = ap (λ l. getD l (o .region) not-begun) (sym (gr .region-states)) ∙ o .is; owns = o .owns }) (mk .above)
+            not-new : Free s₂ (of-node (n .node)) → ⊥
+            not-new (old o) = dg .inv .fresh (of-node (n .node))
+                (record {
+                  region = o .region;
+                  back = o .back;
+                  children = o .children;
+                  deferred-edges = o .deferred-edges;
+                  is = ap (λ l. getD l (o .region) not-begun)
+                      (sym (gr .region-states)) ∙ o .is;
+                  owns = o .owns;
+                }) (mk .above)
             not-new (new h) = omega (arith, h, mk .below, gr₂ .node-count)
-        clear gr d₂ v (inr (inr (c, i, o))) w = tk c i .holds .clear v o (later-grew W gr .wild v w)
+        clear gr d₂ κ (inr (inr (c, i, o))) w = tk c i .holds .clear κ o (later-grew W gr .free κ w)
 
     makes-from : (n : DefinedSelect) (s₁ s₂ : NestState) → Grew s s₁ → DefinesSelect kind sc cases s₁ n s₂ → DefinesSelect kind sc cases s n s₂
     makes-from n s₁ s₂ gr mk = record {
       cases-of = mk .cases-of;
-      tree-is = mk .tree-is;
+      children-is = mk .children-is;
       kind-is = mk .kind-is;
       scrut-is = mk .scrut-is;
       from = mk .from;
@@ -262,14 +281,17 @@ module _ (W : World) where
     no-more : {s₁ : NestState} → Doing W s₀ r ks s₁ → Doing W s₀ r (join ks ⟨⟩) s₁
     no-more {s₁} d = subst (λ k. Doing W s₀ r k s₁) (sym (join-nil ks)) d
 
-    select-if-post : (b : Bool) → (any-non-empty-case cases || any-needs-select (plan-bundles (W .g) cs)) ≡ b → (s₁ : NestState) → Grew s s₁ → IfDone Selected (select-if b kind sc cases (plan-bundles (W .g) cs) s₁)
+    select-if-post : (b : Bool) → (any-non-empty-case cases || any-needs-select (plan-bundles (W .g) cs)) ≡ b → (s₁ : NestState) → Grew s s₁
+        → IfDone Selected (select-if b kind sc cases (plan-bundles (W .g) cs) s₁)
     unfolding select-if
     select-if-post true p s₁ gr =
         bind (define-select kind sc cases s₁) _ (define-select-post kind sc cases s₁) λ n s₂ mk.
         bind (emit n (plan-bundles (W .g) cs) s₂) _ (emit-post n (plan-bundles (W .g) cs) s₂) λ d s₃ em.
         record {
           post = record {
-            shape = made n (mk .cases-of) (mk .tree-is) (mk .kind-is) (scrutinee-stays sc (s₂ .node-outputs) (s₃ .node-outputs) (em .grew .outputs) (n .scrutinee) (mk .scrut-is)) (mk .from) (omega (arith, gr .node-count, mk .above)) (em .emits);
+            shape = made n (mk .cases-of) (mk .children-is) (mk .kind-is)
+                (scrutinee-stays sc (s₂ .node-outputs) (s₃ .node-outputs) (em .grew .outputs) (n .scrutinee) (mk .scrut-is)) (mk .from)
+                (omega (arith, gr .node-count, mk .above)) (em .emits);
             grew = grew-then gr (grew-then (mk .grew) (em .grew));
             doing = with-select n s₂ s₃ (makes-from n s₁ s₂ gr mk) (em .grew);
           };
@@ -284,23 +306,26 @@ module _ (W : World) where
 
     pub record All (y : Body) (s′ : NestState) : Type 0 where
       pub more : Nodes
-      pub kids-is : y .children ≡ join ks more
+      pub children-is : y .children ≡ join ks more
       pub shape : Shape more (y .deferred-edges) (s′ .node-outputs)
       pub doing : Doing W s₀ r (join ks more) s′
       pub moves : Moved s s′
-      pub keeps : (q : ℕ) → ((c : ClaimedRegion) → In (ok c) cases → eqb q (c .structured-body) ≡ false) → rewrites-of (s .region-input-rewrites) q ≡ none → rewrites-of (s′ .region-input-rewrites) q ≡ none
-      pub law : (ρ : Resolver) (os : List NodeOutput) → Respects ρ os (tables s′) → (c : ClaimedRegion) → In (ok c) cases → (k : ℕ) → ρ (input (c .structured-body) k) ≡ ρ (getD (c .structured-body-inputs) k (undef 0))
+      pub keeps : (q : ℕ) → ((c : ClaimedRegion) → In (ok c) cases → eqb q (c .structured-body) ≡ false) → rewrites-of (s .region-input-rewrites) q ≡ none
+          → rewrites-of (s′ .region-input-rewrites) q ≡ none
+      pub law : (ρ : Resolver) (os : List NodeOutput) → Respects ρ os (tables s′) → (c : ClaimedRegion) → In (ok c) cases → (k : ℕ)
+          → ρ (input (c .structured-body) k) ≡ ρ (getD (c .structured-body-inputs) k (undef 0))
 
-    to-log : (ks′ : Nodes) → Within ks ks′ → (s₂ : NestState) → Grew s s₂ → (c : ClaimedRegion) → In (ok c) cs → ToLog s₀ r ks′ s₂ c
-    to-log ks′ wi s₂ gr c i =
+    to-rewrite : (ks′ : Nodes) → Within ks ks′ → (s₂ : NestState) → Grew s s₂ → (c : ClaimedRegion) → In (ok c) cs → ToRewrite s₀ r ks′ s₂ c
+    to-rewrite ks′ wi s₂ gr c i =
         let x = from-map (rewrite-case σ) cases (ok c) i in
         let y = rewritten-claimed σ (x .0) c (x .2) in
         let tk : ClaimedOk W s₀ r ks s (y .0) = fit .each (ok (y .0)) (rw (y .1) at (x .1)) .is in
         let st = later-grew W gr in
         record {
-          closed = λ l. tk .holds .closed (st .loggable (y .0 .structured-body) (subst (λ z. Loggable W s₂ z) (y .2) l));
-          unlogged = rw (y .2, gr .rewrites) (tk .holds .unlogged);
-          inputs = λ k. rw (y .3, getD-rewritten W (s .region-input-rewrites) (y .0 .structured-body-inputs) k) (scoped-later (st .gains) wi (scoped-rewritten (getD (y .0 .structured-body-inputs) k (undef 0)) (tk .inputs k)));
+          closed = λ l. tk .holds .closed (st .rewritable (y .0 .structured-body) (subst (λ z. Rewritable W s₂ z) (y .2) l));
+          unrewritten = rw (y .2, gr .rewrites) (tk .holds .unrewritten);
+          inputs = λ k. rw (y .3, getD-rewritten W (s .region-input-rewrites) (y .0 .structured-body-inputs) k)
+              (scoped-later (st .gains) wi (scoped-rewritten (getD (y .0 .structured-body-inputs) k (undef 0)) (tk .inputs k)));
           other = rw (y .2) (tk .other);
           since = rw (y .2) (tk .since .region);
         }
@@ -310,17 +335,19 @@ module _ (W : World) where
     structurize-select-post =
         let s₁ : NestState = with-twice (any (meets-in-case (meets (s .region-input-rewrites))) cases) s in
         let gr₁ : Grew s s₁ = record { outputs = extends-refl (s .node-outputs); rewrites = refl; region-states = refl; regions = omega arith; node-count = omega arith } in
-        bind (select-if (any-non-empty-case cases || any-needs-select (plan-bundles (W .g) cs)) kind sc cases (plan-bundles (W .g) cs) s₁) _ (select-if-post _ refl s₁ gr₁) λ x s₂ sel.
-        bind (replace-inputs cs s₂) _ (replace-inputs-post s₀ r (join ks (x .children)) cs s₂ (sel .doing) (to-log (join ks (x .children)) (within-left ks (x .children)) s₂ (sel .grew)) (apart-rewritten σ cases (fit .apart))) λ u s₃ rp.
+        bind (select-if (any-non-empty-case cases || any-needs-select (plan-bundles (W .g) cs)) kind sc cases (plan-bundles (W .g) cs) s₁) _
+        (select-if-post _ refl s₁ gr₁) λ x s₂ sel.
+        bind (replace-inputs cs s₂) _ (replace-inputs-post s₀ r (join ks (x .children)) cs s₂ (sel .doing)
+        (to-rewrite (join ks (x .children)) (within-left ks (x .children)) s₂ (sel .grew)) (apart-rewritten σ cases (fit .apart))) λ u s₃ rp.
         record {
           post = record {
             more = x .children;
-            kids-is = refl;
+            children-is = refl;
             shape = subst (λ l. Shape (x .children) (x .deferred-edges) l) (sym (rp .outputs)) (sel .shape);
             doing = rp .doing;
             moves = moved-then (later-moves (later-grew W (sel .grew))) (rp .moves);
             keeps = λ q n h. rp .keeps q (λ c i. keep q n c i) (rw (sel .grew .rewrites) h);
-            law = λ ρ os res c i k. law ρ os s₂ s₃ (moved-then (later-moves (later-grew W (sel .grew))) (rp .moves) .gains) (rp .log) res c i k;
+            law = λ ρ os res c i k. law ρ os s₂ s₃ (moved-then (later-moves (later-grew W (sel .grew))) (rp .moves) .gains) (rp .rewrites) res c i k;
           };
         }
       where
@@ -330,7 +357,8 @@ module _ (W : World) where
             let y = rewritten-claimed σ (x .0) c (x .2) in
             rw (y .2) (n (y .0) (rw (y .1) at (x .1)))
 
-        law : (ρ : Resolver) (os : List NodeOutput) (s₂ s₃ : NestState) → Gains (tables s) (tables s₃) → s₃ .region-input-rewrites ≡ s₂ .region-input-rewrites ++ entries-of cs → Respects ρ os (tables s₃)
+        law : (ρ : Resolver) (os : List NodeOutput) (s₂ s₃ : NestState) → Gains (tables s) (tables s₃)
+            → s₃ .region-input-rewrites ≡ s₂ .region-input-rewrites ++ entries-of cs → Respects ρ os (tables s₃)
             → (c : ClaimedRegion) → In (ok c) cases → (k : ℕ) → ρ (input (c .structured-body) k) ≡ ρ (getD (c .structured-body-inputs) k (undef 0))
         law ρ os s₂ s₃ gains e res c i k =
             law-of ρ cs (laws-last (s₂ .region-input-rewrites) (entries-of cs) e res) (rewrite-claimed σ c) (in-map (rewrite-case σ) cases (ok c) i) k

@@ -3,14 +3,15 @@ use mathlib.Core.Bool.{Bool, _||_, false, true}
 use mathlib.Core.List.{List, [], _++_, _∷_, map}
 use mathlib.Core.Logic.{_⊎_, inl, inr}
 use mathlib.Core.Option.{Option, none, some}
-use mathlib.Core.Path.{_≡_, ap, refl}
+use mathlib.Core.Path.{_≡_, ap, refl, sym}
 use Prim.Native.Nat.{_<_, suc, zero, ℕ}
 use native.Mathlib.Omega.{arith}
-use lib.Dec.{eqb, eqb→eq}
+use lib.Dec.{eqb}
 use lib.ListN.{getD, length}
-use borrow.Author.Tests.{eq-eqb}
+use borrow.Author.Tests.{eq-eqb, eqb-false, eqb-true, ne-eqb}
 use Rattle.meaning.specs.Graph.{pick}
 use Rattle.format.specs.ReadLaws.{clash}
+use Rattle.nesting.specs.CaseGraphs.{A, B}
 use Rattle.nesting.specs.Rewrite.{rewrites-of}
 use Rattle.nesting.specs.State.{RewriteEntry}
 
@@ -27,15 +28,15 @@ pub or-right : (a b : Bool) → (a || b) ≡ false → b ≡ false
 or-right true b h = let z : true ≡ false = h in cc
 or-right false b h = h
 
+pub false-if : (b : Bool) → (b ≡ true → ⊥) → b ≡ false
+false-if true h = absurd (h refl)
+false-if false h = refl
+
 pub eqb-self : (n : ℕ) → eqb n n ≡ true
 eqb-self n = eq-eqb n n refl
 
 pub eqb-less : (a b : ℕ) → a < b → eqb a b ≡ false
-eqb-less a b lt = go (eqb a b) refl
-  where
-    go : (x : Bool) → eqb a b ≡ x → x ≡ false
-    go true e = absurd (let p : a ≡ b = eqb→eq a b (rw e tt) in omega arith)
-    go false e = refl
+eqb-less a b lt = ne-eqb a b (λ p. omega arith)
 
 pub eqb-sym : (a b : ℕ) → eqb a b ≡ eqb b a
 eqb-sym a b = go (eqb a b) (eqb b a) refl refl
@@ -43,8 +44,8 @@ eqb-sym a b = go (eqb a b) (eqb b a) refl refl
     go : (p q : Bool) → eqb a b ≡ p → eqb b a ≡ q → p ≡ q
     go true true e e′ = refl
     go false false e e′ = refl
-    go true false e e′ = let h : a ≡ b = eqb→eq a b (rw e tt) in let z : eqb b a ≡ true = rw h (eqb-self b) in cc
-    go false true e e′ = let h : b ≡ a = eqb→eq b a (rw e′ tt) in let z : eqb a b ≡ true = rw h (eqb-self a) in cc
+    go true false e e′ = absurd (eqb-false b a e′ (sym (eqb-true a b e)))
+    go false true e e′ = absurd (eqb-false a b e (sym (eqb-true b a e′)))
 
 -- ---- an element by its place
 abbrev pub nth : {A : Type 0} → List A → ℕ → Option A

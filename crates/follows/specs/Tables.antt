@@ -4,10 +4,12 @@ use mathlib.Core.List.{List, [], _++_, _∷_, append-assoc, append-nil}
 use mathlib.Core.Option.{Option, none, some}
 use mathlib.Core.Path.{_∙_, _≡_, ap, refl, subst, sym}
 use Prim.Native.Nat.{_^_, suc, zero, ℕ}
-use lib.Dec.{T, eqb, eqb→eq}
+use lib.Dec.{T, eqb}
 use lib.ListN.{getD, length}
+use borrow.Author.Tests.{eqb-true}
 use Rattle.meaning.specs.Graph.{Value, bool, const, held, input, instr, output, undef}
 use Rattle.format.specs.ReadLaws.{clash}
+use Rattle.nesting.specs.CaseGraphs.{A}
 use Rattle.nesting.specs.Rewrite.{rewrite, rewrite-chain, rewrites-of, step-chain, step-input}
 use Rattle.nesting.specs.State.{InputRewrite, NestState, NodeOutput, RegionInputRewrites, RewriteEntry, renumber-or-replace-with, renumber-to, replace-by, replace-with}
 use Rattle.follows.specs.Small.{nth, nth-append}
@@ -93,14 +95,14 @@ respects-back {T} {ρ} p h = record {
 pub laws-last : {ρ : Resolver} {os : List NodeOutput} {T : Tables} (rs more : List RewriteEntry) → T .rewrites ≡ rs ++ more → Respects ρ os T → Laws ρ more
 laws-last {ρ} rs more p h = laws-right ρ rs more (subst (λ l. Laws ρ l) p (h .laws))
 
--- ---- a lookup keeps what a value will rewrite to
+-- ---- a look-up now keeps what a value will be looked up to
 entry-law : (ρ : Resolver) (rs : List RewriteEntry) → Laws ρ rs → (r : ℕ) (e : RegionInputRewrites) → rewrites-of rs r ≡ some e → EntryLaw ρ r e
 entry-law ρ [] h r e p = absurd (clash (cc))
 entry-law ρ (x ∷ rs) h r e p = go (λ q. entry-law ρ rs (h .1) r e q) (eqb r (x .region)) refl
   where
     go : (rewrites-of rs r ≡ some e → EntryLaw ρ r e) → (b : Bool) → eqb r (x .region) ≡ b → EntryLaw ρ r e
     go ih true q =
-        let same-r : r ≡ x .region = eqb→eq r (x .region) (rw q tt) in
+        let same-r : r ≡ x .region = eqb-true r (x .region) q in
         let same-e : x .rewrites ≡ e = let z : some (x .rewrites) ≡ some e = rw q at p in cc in
         rw (same-r, ← same-e) (h .0)
     go ih false q = ih (rw q at p)
@@ -116,7 +118,8 @@ chain-keeps h (suc d) (bool b) = refl
 chain-keeps h (suc d) (undef ty) = refl
 chain-keeps {ρ} {T} h (suc d) (input r k) = go (λ v. chain-keeps h d v) (rewrites-of (T .rewrites) r) refl
   where
-    go : ((v : Value) → ρ (rewrite-chain d (T .rewrites) v) ≡ ρ v) → (o : Option RegionInputRewrites) → rewrites-of (T .rewrites) r ≡ o → ρ (step-chain (λ v. rewrite-chain d (T .rewrites) v) r k o) ≡ ρ (input r k)
+    go : ((v : Value) → ρ (rewrite-chain d (T .rewrites) v) ≡ ρ v) → (o : Option RegionInputRewrites) → rewrites-of (T .rewrites) r ≡ o
+        → ρ (step-chain (λ v. rewrite-chain d (T .rewrites) v) r k o) ≡ ρ (input r k)
     go ih none p = refl
     go ih (some (replace-with vs)) p = ih _ ∙ sym (entry-law ρ (T .rewrites) (h .laws) r (replace-with vs) p k)
     go ih (some (renumber-or-replace-with ss)) p = at-slot (getD ss k (renumber-to k)) (entry-law ρ (T .rewrites) (h .laws) r (renumber-or-replace-with ss) p k)

@@ -5,10 +5,11 @@ use mathlib.Core.Logic.{_⊎_, inl, inr}
 use mathlib.Core.Option.{Option, none, some}
 use mathlib.Core.Path.{_∙_, _≡_, ap, refl, subst, sym}
 use Prim.Native.Nat.{_<_, suc, zero, ℕ}
-use lib.Dec.{T, eqb, eqb→eq}
+use lib.Dec.{T}
 use lib.ListN.{getD, length, length-map}
+use borrow.Author.Tests.{ne-eqb}
 use Rattle.meaning.specs.Form.{Nodes, _▸_, ⟨⟩}
-use Rattle.meaning.specs.Graph.{Edge, Value, pick, region, undef}
+use Rattle.meaning.specs.Graph.{Edge, Value, pick, undef}
 use Rattle.format.specs.Read.{isIn}
 use Rattle.format.specs.ReadLaws.{clash}
 use Rattle.format.specs.WellRead.{and-both}
@@ -27,10 +28,10 @@ use Rattle.follows.specs.World.{Live, World, ar, size}
 use Rattle.follows.specs.Tables.{Tables, tables}
 use Rattle.follows.specs.Defined.{IfDone}
 use Rattle.follows.specs.Scope.{AllScoped, EntryOk, Scoped, SetOk}
-use Rattle.follows.specs.Invariant.{Inv, Later, Loggable, later-refl, later-then}
-use Rattle.follows.specs.Holding.{Apart, CaseOk, CasesOk, ClaimedOk, Doing, Since, at-or-else, case-on, doing-closed, doing-on}
+use Rattle.follows.specs.Invariant.{Inv, Later, Rewritable, later-refl, later-then}
+use Rattle.follows.specs.Holding.{Apart, CaseOk, CasesOk, ClaimedOk, Doing, Since, case-on, doing-closed, doing-on}
 use Rattle.follows.specs.ClaimReady.{ClaimDone}
-use Rattle.follows.specs.AtTerminator.{Steers, dead, single-goes, steers-on, usable-all}
+use Rattle.follows.specs.AtTerminator.{EdgeEnters, edge-enters-on, never-ends, one-goes, usable-all}
 
 empty-is : (d : DeferredEdgeBundleSet) → empty d ≡ true → d ≡ []
 empty-is [] h = refl
@@ -45,7 +46,7 @@ module _ (W : World) where
   ClaimOk cl = (r n : ℕ) (ins : List Value) (s : NestState) → Inv W s → r < size W → Live W r → IfDone (ClaimDone W r ins s) (cl r n ins s)
 
   pub since-back : {s₀ s : NestState} {c : ClaimedRegion} → Later W s₀ s → Since W s c → Since W s₀ c
-  since-back {c} st h = record { kids = λ v o. st .wild v (h .kids v o); region = st .loggable (c .structured-body) (h .region) }
+  since-back {c} st h = record { children = λ v o. st .free v (h .children v o); region = st .rewritable (c .structured-body) (h .region) }
 
   pub claimed-back : {s₀ s s′ : NestState} {r : ℕ} {ks : Nodes} {c : ClaimedRegion} → Later W s₀ s → ClaimedOk W s r ks s′ c → ClaimedOk W s₀ r ks s′ c
   claimed-back st h = record { holds = h .holds; since = since-back st (h .since); inputs = h .inputs; other = h .other; apart = h .apart }
@@ -57,19 +58,16 @@ module _ (W : World) where
   pub cases-back : {s₀ s s′ : NestState} {r : ℕ} {ks : Nodes} {cs : List MaybeClaimedRegion} → Later W s₀ s → CasesOk W s r ks s′ cs → CasesOk W s₀ r ks s′ cs
   cases-back st h = record { each = λ c i. case-back c st (h .each c i); apart = h .apart }
 
-  -- what a try-claim-edge-bundle gives, to a region in progress
-  pub claimed-ok : {s₀ s s₁ : NestState} {r x : ℕ} {ks : Nodes} {vs : List Value} (c : ClaimedRegion) → Doing W s₀ r ks s → ClaimDone W x vs s (some c) s₁ → AllScoped (tables s₁) r (ar W r) ks vs → ClaimedOk W s r ks s₁ c
+  -- what a claim gives, to a region in progress
+  pub claimed-ok : {s₀ s s₁ : NestState} {r x : ℕ} {ks : Nodes} {vs : List Value} (c : ClaimedRegion) → Doing W s₀ r ks s → ClaimDone W x vs s (some c) s₁
+      → AllScoped (tables s₁) r (ar W r) ks vs → ClaimedOk W s r ks s₁ c
   claimed-ok {s} {s₁} {r} {ks} c dg cd sc = record {
     holds = cd .got .0;
     since = cd .got .1;
     inputs = λ i. subst (λ l. Scoped (tables s₁) r (ar W r) ks (getD l i (undef 0))) (sym (cd .got .3)) (sc i);
-    other = go (eqb r (c .structured-body)) refl;
-    apart = λ v o o′. dg .clear v o (cd .got .1 .kids v o′);
+    other = ne-eqb r (c .structured-body) (λ e. doing-closed W dg (subst (λ q. Rewritable W s q) (sym e) (cd .got .1 .region)));
+    apart = λ v o o′. dg .clear v o (cd .got .1 .children v o′);
   }
-    where
-      go : (b : Bool) → eqb r (c .structured-body) ≡ b → b ≡ false
-      go false p = refl
-      go true p = let e : r ≡ c .structured-body = eqb→eq r (c .structured-body) (rw p tt) in absurd (doing-closed W dg (subst (λ q. Loggable W s q) (sym e) (cd .got .1 .region)))
 
   pub in-targets : (es : List Edge) (ed : Edge) → In ed es → isIn (ed .target) (map (λ e. e .target) es) ≡ true
   in-targets [] ed i = absurd i
@@ -84,7 +82,7 @@ module _ (W : World) where
       pub record CaseDone (s s₁ : NestState) (ed : Edge) (c : MaybeClaimedRegion) (s′ : NestState) : Type 0 where
         pub same : s′ ≡ s₁
         pub is : CaseOk W s r ks s₁ c
-        pub steers : Steers W (tables s₁) (ed .target) (ed .inputs) c
+        pub enters : EdgeEnters W (tables s₁) (ed .target) (ed .inputs) c
 
       deferred-ok : (ed : Edge) → EdgeUsable (W .g) r ed → Live W (ed .target) → (T : Tables) → SetOk W T r (ar W r) ks (deferred-of (defer-edge ed))
       deferred-ok ed eo lv T = record {
@@ -92,7 +90,8 @@ module _ (W : World) where
         entries = λ e i. one e i;
       }
         where
-          one : (e : DeferredEdgeBundle) → (e ≡ record { target = to-region (ed .target); accumulated-count = 1; target-inputs = ed .inputs; condition = true-cond }) ⊎ ⊥ → EntryOk W T r (ar W r) ks e
+          one : (e : DeferredEdgeBundle) → (e ≡ record { target = to-region (ed .target); accumulated-count = 1; target-inputs = ed .inputs; condition = true-cond }) ⊎ ⊥
+              → EntryOk W T r (ar W r) ks e
           one e (inl p) = rw p (record { fits = (eo .target, eo .many, lv); inputs = usable-all W r T (ed .inputs) (eo .inputs); condition = record { is = tt } })
           one e (inr no-way) = absurd no-way
 
@@ -100,10 +99,14 @@ module _ (W : World) where
       deferred-done ed eo lv s s₁ = record {
         same = refl;
         is = record { is = deferred-ok ed eo lv (tables s₁) };
-        steers = record { steer = λ ρ os res n e h st bs onw. single-goes W ρ os (tables s₁) res n e h st bs (record { target = to-region (ed .target); accumulated-count = 1; target-inputs = ed .inputs; condition = true-cond }) refl onw };
+        enters = record {
+          enters = λ ρ os res n e h st bs onw. one-goes W ρ os (tables s₁) res n e h st bs
+              (record { target = to-region (ed .target); accumulated-count = 1; target-inputs = ed .inputs; condition = true-cond }) refl onw;
+        };
       }
 
-      unclaimed-done : (ed : Edge) → EdgeUsable (W .g) r ed → Live W (ed .target) → (s s₁ : NestState) → Inv W s₁ → (x : StructurizeRegionState) → state-of s₁ (ed .target) ≡ x → CaseDone s s₁ ed (unclaimed-edge ed x) s₁
+      unclaimed-done : (ed : Edge) → EdgeUsable (W .g) r ed → Live W (ed .target) → (s s₁ : NestState) → Inv W s₁ → (x : StructurizeRegionState)
+          → state-of s₁ (ed .target) ≡ x → CaseDone s s₁ ed (unclaimed-edge ed x) s₁
       unclaimed-done ed eo lv s s₁ inv not-begun p = deferred-done ed eo lv s s₁
       unclaimed-done ed eo lv s s₁ inv in-progress p = deferred-done ed eo lv s s₁
       unclaimed-done ed eo lv s s₁ inv claimed p = deferred-done ed eo lv s s₁
@@ -117,16 +120,20 @@ module _ (W : World) where
               record {
                 same = refl;
                 is = record { is = record { distinct = tt; entries = λ e i. absurd i } };
-                steers = record { steer = λ ρ os res n e h st bs onw. absurd (dead W s₁ inv (ed .target) b (eo .target) is (onw .0) _ (st .events) e h (length-map (ed .inputs) (λ v. st .env (ρ v)) ∙ onw .2) (onw .3)) };
+                enters = record {
+                  enters = λ ρ os res n e h st bs onw. absurd (never-ends W s₁ inv (ed .target) b (eo .target) is (onw .0) _ (st .events) e h
+                      (length-map (ed .inputs) (λ v. st .env (ρ v)) ∙ onw .2) (onw .3));
+                };
               }
 
-      edge-case-post : (ed : Edge) → EdgeUsable (W .g) r ed → Live W (ed .target) → (s s₁ : NestState) → Doing W s₀ r ks s → (o : Option ClaimedRegion) → ClaimDone W (ed .target) (ed .inputs) s o s₁ → IfDone (CaseDone s s₁ ed) (edge-case ed o s₁)
+      edge-case-post : (ed : Edge) → EdgeUsable (W .g) r ed → Live W (ed .target) → (s s₁ : NestState) → Doing W s₀ r ks s → (o : Option ClaimedRegion)
+          → ClaimDone W (ed .target) (ed .inputs) s o s₁ → IfDone (CaseDone s s₁ ed) (edge-case ed o s₁)
       edge-case-post ed eo lv s s₁ dg none cd = record { post = unclaimed-done ed eo lv s s₁ (cd .inv) (state-of s₁ (ed .target)) refl }
       edge-case-post ed eo lv s s₁ dg (some c) cd = record {
         post = record {
           same = refl;
           is = record { is = claimed-ok c dg cd (usable-all W r (tables s₁) (ed .inputs) (eo .inputs)) };
-          steers = record { steer = λ ρ os res n e h st bs onw. rw (cd .got .2, cd .got .3) onw };
+          enters = record { enters = λ ρ os res n e h st bs onw. rw (cd .got .2, cd .got .3) onw };
         };
       }
 
@@ -135,38 +142,57 @@ module _ (W : World) where
         pub step : Later W s s′
         pub is : CasesOk W s r ks s′ cs
         pub len : length cs ≡ length es
-        pub steers : (j : ℕ) (ed : Edge) → nth es j ≡ some ed → (c : MaybeClaimedRegion) × (nth cs j ≡ some c) × Steers W (tables s′) (ed .target) (ed .inputs) c
+        pub enters : (j : ℕ) (ed : Edge) → nth es j ≡ some ed → (c : MaybeClaimedRegion) × (nth cs j ≡ some c) × EdgeEnters W (tables s′) (ed .target) (ed .inputs) c
 
-      pub target-regions-post : (es : List Edge) → EdgesUsable (W .g) r es → ((ed : Edge) → In ed es → Live W (ed .target)) → (s : NestState) → Doing W s₀ r ks s → IfDone (CasesDone s es) (target-regions (W .g) cl es s)
+      pub target-regions-post : (es : List Edge) → EdgesUsable (W .g) r es → ((ed : Edge) → In ed es → Live W (ed .target)) → (s : NestState) → Doing W s₀ r ks s
+          → IfDone (CasesDone s es) (target-regions (W .g) cl es s)
       unfolding target-regions
-      target-regions-post [] eo lv s dg = record { post = record { inv = dg .inv; step = later-refl W s; is = record { each = λ c i. absurd i; apart = tt }; len = refl; steers = λ j ed p. absurd (clash (cc)) } }
+      target-regions-post [] eo lv s dg =
+          record {
+            post = record {
+              inv = dg .inv;
+              step = later-refl W s;
+              is = record { each = λ c i. absurd i; apart = tt };
+              len = refl;
+              enters =
+                  λ j ed p. absurd (clash (cc));
+            };
+          }
       target-regions-post (ed ∷ es) (eo, eos) lv s dg =
           bind (cl (ed .target) 1 (ed .inputs) s) _ (cl-ok (ed .target) 1 (ed .inputs) s (dg .inv) (eo .target) (lv ed (inl refl))) λ o s₁ cd.
           bind (edge-case ed o s₁) _ (edge-case-post ed eo (lv ed (inl refl)) s s₁ dg o cd) λ c s₁′ ca.
-          bind (target-regions (W .g) cl es s₁′) _ (subst (λ z. IfDone (CasesDone s₁ es) (target-regions (W .g) cl es z)) (sym (ca .same)) (target-regions-post es eos (λ x i. lv x (inr i)) s₁ (doing-on W dg (cd .inv) (cd .step)))) λ cs s₂ cs-ok.
+          bind (target-regions (W .g) cl es s₁′) _
+          (subst (λ z. IfDone (CasesDone s₁ es) (target-regions (W .g) cl es z)) (sym (ca .same))
+          (target-regions-post es eos (λ x i. lv x (inr i)) s₁ (doing-on W dg (cd .inv) (cd .step)))) λ cs s₂ cs-ok.
           record {
             post = record {
               inv = cs-ok .inv;
               step = later-then W (cd .step) (cs-ok .step);
-              is = record { each = λ x i. each c cs s₁ s₂ (case-on W c (ca .is) (cs-ok .step)) (cases-back (cd .step) (cs-ok .is)) x i; apart = apart c cs s₁ s₂ (ca .is) (cs-ok .is) };
+              is = record {
+                each = λ x i. each c cs s₁ s₂ (case-on W c (ca .is) (cs-ok .step)) (cases-back (cd .step) (cs-ok .is)) x i;
+                apart = apart c cs s₁ s₂ (ca .is)
+                    (cs-ok .is);
+              };
               len = ap suc (cs-ok .len);
-              steers = λ j x p. steers c cs s₁ s₂ (steers-on W (cs-ok .step .gains) (ca .steers)) (cs-ok .steers) j x p;
+              enters = λ j x p. steers c cs s₁ s₂ (edge-enters-on W (cs-ok .step .gains) (ca .enters)) (cs-ok .enters) j x p;
             };
           }
         where
-          each : (c : MaybeClaimedRegion) (cs : List MaybeClaimedRegion) (s₁ s₂ : NestState) → CaseOk W s r ks s₂ c → CasesOk W s r ks s₂ cs → (x : MaybeClaimedRegion) → (x ≡ c) ⊎ In x cs → CaseOk W s r ks s₂ x
+          each : (c : MaybeClaimedRegion) (cs : List MaybeClaimedRegion) (s₁ s₂ : NestState) → CaseOk W s r ks s₂ c → CasesOk W s r ks s₂ cs → (x : MaybeClaimedRegion)
+              → (x ≡ c) ⊎ In x cs → CaseOk W s r ks s₂ x
           each c cs s₁ s₂ h hs x (inl p) = rw p h
           each c cs s₁ s₂ h hs x (inr i) = hs .each x i
 
           apart : (c : MaybeClaimedRegion) (cs : List MaybeClaimedRegion) (s₁ s₂ : NestState) → CaseOk W s r ks s₁ c → CasesOk W s₁ r ks s₂ cs → Apart W (c ∷ cs)
           apart (err d) cs s₁ s₂ h hs = hs .apart
           apart (ok c) cs s₁ s₂ h hs = (
-            (λ c′ i. at-or-else (eqb (c′ .structured-body) (c .structured-body) ≡ false) (c′ .structured-body) (c .structured-body)
-                (λ e. absurd (h .is .holds .closed (subst (λ q. Loggable W s₁ q) e (hs .each (ok c′) i .is .since .region)))) (λ ne. ne)),
+            (λ c′ i. ne-eqb (c′ .structured-body) (c .structured-body)
+                (λ e. h .is .holds .closed (subst (λ q. Rewritable W s₁ q) e (hs .each (ok c′) i .is .since .region)))),
             hs .apart,
           )
 
-          steers : (c : MaybeClaimedRegion) (cs : List MaybeClaimedRegion) (s₁ s₂ : NestState) → Steers W (tables s₂) (ed .target) (ed .inputs) c → ((j : ℕ) (x : Edge) → nth es j ≡ some x → (c : MaybeClaimedRegion) × (nth cs j ≡ some c) × Steers W (tables s₂) (x .target) (x .inputs) c)
-              → (j : ℕ) (x : Edge) → nth (ed ∷ es) j ≡ some x → (z : MaybeClaimedRegion) × (nth (c ∷ cs) j ≡ some z) × Steers W (tables s₂) (x .target) (x .inputs) z
-          steers c cs s₁ s₂ h hs zero x p = let e : ed ≡ x = cc in (c, refl, subst (λ z. Steers W (tables s₂) (z .target) (z .inputs) c) e h)
+          steers : (c : MaybeClaimedRegion) (cs : List MaybeClaimedRegion) (s₁ s₂ : NestState) → EdgeEnters W (tables s₂) (ed .target) (ed .inputs) c
+              → ((j : ℕ) (x : Edge) → nth es j ≡ some x → (c : MaybeClaimedRegion) × (nth cs j ≡ some c) × EdgeEnters W (tables s₂) (x .target) (x .inputs) c)
+              → (j : ℕ) (x : Edge) → nth (ed ∷ es) j ≡ some x → (z : MaybeClaimedRegion) × (nth (c ∷ cs) j ≡ some z) × EdgeEnters W (tables s₂) (x .target) (x .inputs) z
+          steers c cs s₁ s₂ h hs zero x p = let e : ed ≡ x = cc in (c, refl, subst (λ z. EdgeEnters W (tables s₂) (z .target) (z .inputs) c) e h)
           steers c cs s₁ s₂ h hs (suc j) x p = hs j x p

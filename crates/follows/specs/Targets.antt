@@ -23,22 +23,31 @@ pub record Has (x : DeferredTarget) (ws : List DeferredTargetSummary) : Type 0 w
   pub there : In it ws
   pub target : it .target ≡ x
 
+abbrev counted : DeferredEdgeBundle → DeferredTargetSummary → DeferredTargetSummary
+counted e w = record { target = w .target; input-count = w .input-count; total-edge-count = w .total-edge-count + e .accumulated-count }
+
+-- It stood there already, but for its count, or it is the bundle's.
+abbrev Whence : DeferredEdgeBundle → List DeferredTargetSummary → DeferredTargetSummary → Type 0
+Whence e ws y =
+    ((z : DeferredTargetSummary) × In z ws × (y .target ≡ z .target) × (y .input-count ≡ z .input-count))
+    ⊎ ((y .target ≡ e .target) × (y .input-count ≡ length (e .target-inputs)))
+
 from-summary : (e : DeferredEdgeBundle) (ws : List DeferredTargetSummary) (y : DeferredTargetSummary) → In y (summarize-bundle e ws)
-    → ((z : DeferredTargetSummary) × In z ws × (y .target ≡ z .target) × (y .input-count ≡ z .input-count)) ⊎ ((y .target ≡ e .target) × (y .input-count ≡ length (e .target-inputs)))
+    → Whence e ws y
 from-summary e [] y (inl p) = inr (ap (λ w. w .target) p, ap (λ w. w .input-count) p)
 from-summary e [] y (inr no-way) = absurd no-way
 from-summary e (w ∷ ws) y i = go (λ k. from-summary e ws y k) (same-target (e .target) (w .target)) i
   where
-    go : (In y (summarize-bundle e ws) → ((z : DeferredTargetSummary) × In z ws × (y .target ≡ z .target) × (y .input-count ≡ z .input-count)) ⊎ ((y .target ≡ e .target) × (y .input-count ≡ length (e .target-inputs))))
-        → (b : Bool) → In y (pick b (record { target = w .target; input-count = w .input-count; total-edge-count = w .total-edge-count + e .accumulated-count } ∷ ws) (w ∷ summarize-bundle e ws))
-        → ((z : DeferredTargetSummary) × In z (w ∷ ws) × (y .target ≡ z .target) × (y .input-count ≡ z .input-count)) ⊎ ((y .target ≡ e .target) × (y .input-count ≡ length (e .target-inputs)))
+    go : (In y (summarize-bundle e ws) → Whence e ws y)
+        → (b : Bool) → In y (pick b (counted e w ∷ ws) (w ∷ summarize-bundle e ws))
+        → Whence e (w ∷ ws) y
     go ih true (inl p) = inl (w, inl refl, ap (λ x. x .target) p, ap (λ x. x .input-count) p)
     go ih true (inr k) = inl (y, inr k, refl, refl)
     go ih false (inl p) = inl (w, inl refl, ap (λ x. x .target) p, ap (λ x. x .input-count) p)
     go ih false (inr k) = more (ih k)
       where
-        more : ((z : DeferredTargetSummary) × In z ws × (y .target ≡ z .target) × (y .input-count ≡ z .input-count)) ⊎ ((y .target ≡ e .target) × (y .input-count ≡ length (e .target-inputs)))
-            → ((z : DeferredTargetSummary) × In z (w ∷ ws) × (y .target ≡ z .target) × (y .input-count ≡ z .input-count)) ⊎ ((y .target ≡ e .target) × (y .input-count ≡ length (e .target-inputs)))
+        more : Whence e ws y
+            → Whence e (w ∷ ws) y
         more (inl (z, l, p, q)) = inl (z, inr l, p, q)
         more (inr x) = inr x
 
@@ -46,11 +55,11 @@ summarize-distinct : (e : DeferredEdgeBundle) (ws : List DeferredTargetSummary) 
 summarize-distinct e [] h = ((λ y i. absurd i), tt)
 summarize-distinct e (w ∷ ws) (h, hs) = go (summarize-distinct e ws hs) (same-target (e .target) (w .target)) refl
   where
-    go : DistinctTargets (summarize-bundle e ws) → (b : Bool) → same-target (e .target) (w .target) ≡ b → DistinctTargets (pick b (record { target = w .target; input-count = w .input-count; total-edge-count = w .total-edge-count + e .accumulated-count } ∷ ws) (w ∷ summarize-bundle e ws))
+    go : DistinctTargets (summarize-bundle e ws) → (b : Bool) → same-target (e .target) (w .target) ≡ b → DistinctTargets (pick b (counted e w ∷ ws) (w ∷ summarize-bundle e ws))
     go ih true p = (h, hs)
     go ih false p = ((λ y i. other y (from-summary e ws y i)), ih)
       where
-        other : (y : DeferredTargetSummary) → ((z : DeferredTargetSummary) × In z ws × (y .target ≡ z .target) × (y .input-count ≡ z .input-count)) ⊎ ((y .target ≡ e .target) × (y .input-count ≡ length (e .target-inputs))) → same-target (y .target) (w .target) ≡ false
+        other : (y : DeferredTargetSummary) → Whence e ws y → same-target (y .target) (w .target) ≡ false
         other y (inl (z, l, q, a)) = rw q (h z l)
         other y (inr (q, a)) = rw q p
 
@@ -58,7 +67,7 @@ summarize-has : (e : DeferredEdgeBundle) (ws : List DeferredTargetSummary) → H
 summarize-has e [] = record { it = _; there = inl refl; target = refl }
 summarize-has e (w ∷ ws) = go (summarize-has e ws) (same-target (e .target) (w .target)) refl
   where
-    go : Has (e .target) (summarize-bundle e ws) → (b : Bool) → same-target (e .target) (w .target) ≡ b → Has (e .target) (pick b (record { target = w .target; input-count = w .input-count; total-edge-count = w .total-edge-count + e .accumulated-count } ∷ ws) (w ∷ summarize-bundle e ws))
+    go : Has (e .target) (summarize-bundle e ws) → (b : Bool) → same-target (e .target) (w .target) ≡ b → Has (e .target) (pick b (counted e w ∷ ws) (w ∷ summarize-bundle e ws))
     go ih true p = record { it = _; there = inl refl; target = sym (same-target→eq (e .target) (w .target) p) }
     go ih false p = record { it = ih .it; there = inr (ih .there); target = ih .target }
 
@@ -66,7 +75,7 @@ summarize-keeps : (e : DeferredEdgeBundle) (ws : List DeferredTargetSummary) (x 
 summarize-keeps e [] x h = absurd (h .there)
 summarize-keeps e (w ∷ ws) x h = go (λ k. summarize-keeps e ws x k) (same-target (e .target) (w .target)) (h .there)
   where
-    go : (Has x ws → Has x (summarize-bundle e ws)) → (b : Bool) → (h .it ≡ w) ⊎ In (h .it) ws → Has x (pick b (record { target = w .target; input-count = w .input-count; total-edge-count = w .total-edge-count + e .accumulated-count } ∷ ws) (w ∷ summarize-bundle e ws))
+    go : (Has x ws → Has x (summarize-bundle e ws)) → (b : Bool) → (h .it ≡ w) ⊎ In (h .it) ws → Has x (pick b (counted e w ∷ ws) (w ∷ summarize-bundle e ws))
     go ih true (inl p) = record { it = _; there = inl refl; target = ap (λ z. z .target) (sym p) ∙ h .target }
     go ih true (inr i) = record { it = h .it; there = inr i; target = h .target }
     go ih false (inl p) = record { it = w; there = inl refl; target = ap (λ z. z .target) (sym p) ∙ h .target }
@@ -100,19 +109,23 @@ module _ (W : World) where
   summarize-fits : (e : DeferredEdgeBundle) → Fits W (e .target) (length (e .target-inputs)) → (ws : List DeferredTargetSummary) → FitAll ws → FitAll (summarize-bundle e ws)
   summarize-fits e f ws h y i = go (from-summary e ws y i)
     where
-      go : ((z : DeferredTargetSummary) × In z ws × (y .target ≡ z .target) × (y .input-count ≡ z .input-count)) ⊎ ((y .target ≡ e .target) × (y .input-count ≡ length (e .target-inputs))) → Fits W (y .target) (y .input-count)
+      go : Whence e ws y → Fits W (y .target) (y .input-count)
       go (inl (z, l, p, q)) = rw (p, q) (h z l)
       go (inr (p, q)) = rw (p, q) f
 
-  set-fits : (d : DeferredEdgeBundleSet) → ((e : DeferredEdgeBundle) → In e d → Fits W (e .target) (length (e .target-inputs))) → (ws : List DeferredTargetSummary) → FitAll ws → FitAll (summarize-set d ws)
+  set-fits : (d : DeferredEdgeBundleSet) → ((e : DeferredEdgeBundle) → In e d → Fits W (e .target) (length (e .target-inputs))) → (ws : List DeferredTargetSummary)
+      → FitAll ws → FitAll (summarize-set d ws)
   set-fits [] f ws h = h
   set-fits (e ∷ d) f ws h = set-fits d (λ x i. f x (inr i)) (summarize-bundle e ws) (summarize-fits e (f e (inl refl)) ws h)
 
-  pub targets-fit : (cs : List MaybeClaimedRegion) → ((c : MaybeClaimedRegion) → In c cs → (e : DeferredEdgeBundle) → In e (deferred-of c) → Fits W (e .target) (length (e .target-inputs))) → (ws : List DeferredTargetSummary) → FitAll ws → FitAll (deferred-targets cs ws)
+  pub targets-fit : (cs : List MaybeClaimedRegion)
+      → ((c : MaybeClaimedRegion) → In c cs → (e : DeferredEdgeBundle) → In e (deferred-of c) → Fits W (e .target) (length (e .target-inputs)))
+      → (ws : List DeferredTargetSummary) → FitAll ws → FitAll (deferred-targets cs ws)
   targets-fit [] f ws h = h
   targets-fit (c ∷ cs) f ws h = targets-fit cs (λ x i. f x (inr i)) (summarize-set (deferred-of c) ws) (set-fits (deferred-of c) (λ e i. f c (inl refl) e i) ws h)
 
-  pub targets-have : (cs : List MaybeClaimedRegion) (ws : List DeferredTargetSummary) (c : MaybeClaimedRegion) → In c cs → (y : DeferredEdgeBundle) → In y (deferred-of c) → Has (y .target) (deferred-targets cs ws)
+  pub targets-have : (cs : List MaybeClaimedRegion) (ws : List DeferredTargetSummary) (c : MaybeClaimedRegion) → In c cs → (y : DeferredEdgeBundle)
+      → In y (deferred-of c) → Has (y .target) (deferred-targets cs ws)
   targets-have [] ws c i y k = absurd i
   targets-have (x ∷ cs) ws c (inl p) y k = targets-keep cs (summarize-set (deferred-of x) ws) (y .target) (set-has (deferred-of x) ws y (rw p at k))
   targets-have (x ∷ cs) ws c (inr i) y k = targets-have cs (summarize-set (deferred-of x) ws) c i y k

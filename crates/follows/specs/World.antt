@@ -1,6 +1,6 @@
 -- What the simulation is about: a graph whose values are usable, a rule, and words for the constants.
 use mathlib.Core.Bool.{Bool, true}
-use mathlib.Core.List.{List, []}
+use mathlib.Core.List.{List}
 use mathlib.Core.Option.{Option}
 use mathlib.Core.Path.{_∙_, _≡_, sym}
 use Prim.Native.Nat.{_<_, ℕ}

@@ -4,3 +4,4 @@ pub mod Run
 pub mod GraphRun
 pub mod NestedRun
 pub mod MoreBudget
+pub mod RunLaws

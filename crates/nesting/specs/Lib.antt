@@ -38,3 +38,6 @@ pub mod SheetLength
 pub mod CaseRuns
 pub mod Decimal
 pub mod CaseWords
+pub mod HeldStays
+pub mod DearestCase
+pub mod FirstClaim
