@@ -21,7 +21,7 @@ use Rattle.nesting.specs.Count.{times-in, numbers-from, exit-targets, reachable
 use Rattle.nesting.specs.Claim.{try-claim-edge-bundle}
 use Rattle.nesting.specs.Func.{initial-state, outcome-of, conclude-by, conclude, structurize-func-by, structurize-func}
 use Rattle.nesting.specs.Post.{Post}
-use Rattle.nesting.specs.Fewer.{not-begun-one, count-states}
+use Rattle.nesting.specs.Fewer.{all-not-begun, not-begun-one, count-states}
 use Rattle.follows.specs.Reach.{entry-reachable, target-reachable, reachable-once}
 use Rattle.follows.specs.Statements.{edges-from, most-attempts, Attempts}
 use Rattle.follows.specs.JustReached.{just-reached}
@@ -43,11 +43,6 @@ unfolding incoming-edge-counts
 incoming-at g r h = let z : 0 + r ≡ r = omega arith in numbered (incoming-edge-count g (reachable g)) 0 (g .regions) r h ∙ ap (incoming-edge-count g (reachable g)) z
 
 -- ---- before anything is begun
-all-new : (n i : ℕ) → getD (replicate n not-begun) i not-begun ≡ not-begun
-all-new zero i = refl
-all-new (suc n) zero = refl
-all-new (suc n) (suc i) = all-new n i
-
 count-new : (n : ℕ) → count-states not-begun-one (replicate n not-begun) ≡ n
 count-new zero = refl
 count-new (suc n) = let z = count-new n in omega arith
@@ -80,22 +75,22 @@ module _ (g : Graph) where
     owed-start : owed counting start ≡ edges-from g (reachable g) + length (reachable g) * (2 * length (reachable g))
     unfolding owed
     owed-start =
-        over-same (λ i. owed-by counting i (getD start i not-begun)) (λ i. length (edgesOf (region g i .terminator)) + 2 * length (reachable g)) (λ i. ap (owed-by counting i) (all-new (length (g .regions)) i)) (reachable g)
+        over-same (λ i. owed-by counting i (getD start i not-begun)) (λ i. length (edgesOf (region g i .terminator)) + 2 * length (reachable g)) (λ i. ap (owed-by counting i) (all-not-begun (length (g .regions)) i)) (reachable g)
         ∙ over-add (λ i. length (edgesOf (region g i .terminator))) (λ i. 2 * length (reachable g)) (reachable g)
         ∙ (let z = edges-over (reachable g) in let y = over-each (2 * length (reachable g)) (reachable g) in omega arith)
 
     held-start : (r : ℕ) → held counting r start ≡ incoming-from g r (reachable g)
     unfolding held
     held-start r =
-        over-same (λ i. held-by counting r i (getD start i not-begun)) (λ i. times-in r (targetsOf g i) + times-in r (exit-targets g i)) (λ i. ap (held-by counting r i) (all-new (length (g .regions)) i)) (reachable g)
+        over-same (λ i. held-by counting r i (getD start i not-begun)) (λ i. times-in r (targetsOf g i) + times-in r (exit-targets g i)) (λ i. ap (held-by counting r i) (all-not-begun (length (g .regions)) i)) (reachable g)
         ∙ over-incoming r (reachable g)
 
     start-pre : Pre counting (suc (length (g .regions))) (λ r. 0) (λ r. edges-to r (to-region (g .entry)) 1) (initial-state g)
     start-pre = record {
-      inv = record { length = length-replicate (length (g .regions)) not-begun; fine = λ i. let z = all-new (length (g .regions)) i in rw z tt };
+      inv = record { length = length-replicate (length (g .regions)) not-begun; fine = λ i. let z = all-not-begun (length (g .regions)) i in rw z tt };
       enough = let z = count-new (length (g .regions)) in omega arith;
       room = λ r. let z = held-start r in omega arith;
-      waits = λ r b. absurd (let z : false ≡ true = sym (ap busy (all-new (length (g .regions)) r)) ∙ b in clash (cc));
+      waits = λ r b. absurd (let z : false ≡ true = sym (ap busy (all-not-begun (length (g .regions)) r)) ∙ b in clash (cc));
     }
 
     pub entry-counted : Post Nine (λ o s′. Claims counting 1 (g .entry) 1 (initial-state g) o s′) (try-claim-edge-bundle g (incoming-edge-counts g) (suc (length (g .regions))) (g .entry) 1 [] (initial-state g))

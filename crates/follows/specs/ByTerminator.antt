@@ -6,7 +6,7 @@ use mathlib.Core.Option.{none, some}
 use mathlib.Core.Path.{_∙_, _≡_, ap, refl, subst, sym}
 use Prim.Native.Nat.{_<_, _≤_, pred, suc, zero, ℕ}
 use native.Mathlib.Omega.{arith}
-use lib.Dec.{T, ltb}
+use lib.Dec.{ltb}
 use lib.ListN.{getD, length}
 use borrow.Author.Tests.{ltb-true}
 use Rattle.meaning.specs.Form.{Nodes, _▸_, exit, ⟨⟩}

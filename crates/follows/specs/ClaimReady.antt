@@ -14,7 +14,6 @@ use Rattle.meaning.specs.Graph.{Value, bool, input, pick, region, undef}
 use Rattle.format.specs.ReadLaws.{clash}
 use Rattle.nesting.specs.BundleSet.{get-by-target, is-always, same-target, split-out-target}
 use Rattle.nesting.specs.Case.{ClaimedRegion}
-use Rattle.nesting.specs.CaseGraphs.{A}
 use Rattle.nesting.specs.Change.{define-node, define-region, set-state, with-twice}
 use Rattle.nesting.specs.Claim.{backedge-of, claim-body, claim-by-state}
 use Rattle.nesting.specs.Cond.{materialize-lazy-cond}

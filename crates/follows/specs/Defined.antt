@@ -10,7 +10,6 @@ use lib.Dec.{ltb}
 use lib.ListN.{length}
 use Rattle.meaning.specs.Graph.{SelectionKind, Value, bool, bool-cond, number, output, pick}
 use Rattle.format.specs.WellRead.{and-both}
-use Rattle.nesting.specs.CaseGraphs.{A}
 use Rattle.nesting.specs.Change.{define-merge, define-node, define-output, define-region, with-merge, with-node, with-node-outputs, with-region}
 use Rattle.nesting.specs.Cond.{is-bool-cond, materialize-lazy-cond, materialize-lazy-conds, same-values}
 use Rattle.nesting.specs.Deferred.{DeferredEdgeBundleSet, LazyCond, LazyConds, _&_, false-cond, merge, true-cond, undef-cond, ∅}

@@ -6,7 +6,6 @@ use mathlib.Core.Option.{Option, none, some}
 use mathlib.Core.Path.{_∙_, _≡_, ap, refl, sym}
 use Prim.Native.Nat.{_+_, _≤_, suc, zero, ℕ}
 use native.Mathlib.Omega.{arith}
-use lib.Dec.{T}
 use lib.ListN.{getD, length}
 use Rattle.meaning.specs.Form.{Nodes, ⟨⟩}
 use Rattle.meaning.specs.Graph.{Graph, Value, number, output, undef}

@@ -5,7 +5,6 @@ use mathlib.Core.Option.{some}
 use mathlib.Core.Path.{_∙_, _≡_, ap, refl, sym}
 use Prim.Native.Nat.{_<_, _^_, _≤_, ℕ}
 use native.Mathlib.Omega.{arith}
-use lib.Dec.{T}
 use lib.ListN.{List·getD-map, getD, length, length-map}
 use Rattle.meaning.specs.Form.{Nodes, ⟨⟩}
 use Rattle.meaning.specs.Graph.{SelectionKind, Value, input, undef}

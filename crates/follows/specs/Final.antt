@@ -5,12 +5,13 @@ use mathlib.Core.Option.{Option, none, some}
 use mathlib.Core.Path.{_∙_, _≡_, refl, subst, sym}
 use Prim.Native.Nat.{_+_, _^_, suc, zero, ℕ}
 use native.Mathlib.Omega.{arith}
-use lib.Dec.{T, eqb}
+use lib.Dec.{eqb}
 use lib.ListN.{getD, length}
 use borrow.Author.Tests.{eqb-true}
 use Rattle.meaning.specs.Graph.{Value, bool, const, held, input, instr, output, pick, undef}
 use Rattle.format.specs.ReadLaws.{clash}
-use Rattle.nesting.specs.Rewrite.{rewrite, rewrite-chain, rewrites-of, step-chain, step-input}
+use Rattle.nesting.specs.HeldStays.{rewrite-held}
+use Rattle.nesting.specs.Rewrite.{chain-fuel, rewrite, rewrite-chain, rewrites-of, step-chain, step-input}
 use Rattle.nesting.specs.State.{InputRewrite, RegionInputRewrites, RewriteEntry, renumber-or-replace-with, renumber-to, replace-by, replace-with}
 use Rattle.follows.specs.Small.{eqb-self}
 use Rattle.follows.specs.Tables.{EntryLaw, Laws, Resolver, Respects, Tables, extends-refl}
@@ -250,14 +251,15 @@ laws-of ρ on-held (x ∷ es) (one, s) h =
 
 pub final-respects : (T : Tables) → Ends (T .rewrites) → Respects (rewrite (T .rewrites)) (T .outputs) T
 unfolding rewrite
-final-respects T h = subst (λ n. Respects (λ v. rewrite-chain n (T .rewrites) v) (T .outputs) T) (h .enough) (record {
-  on-const = λ i. final-stays (T .rewrites) (suc (h .steps)) (const i) tt;
-  on-held = λ r k. held-stays (T .rewrites) (suc (h .steps)) r k;
-  on-instr = λ r k. final-stays (T .rewrites) (suc (h .steps)) (instr r k) tt;
-  on-output = λ k. final-stays (T .rewrites) (suc (h .steps)) (output k) tt;
-  on-bool = λ b. final-stays (T .rewrites) (suc (h .steps)) (bool b) tt;
-  on-undef = λ ty. final-stays (T .rewrites) (suc (h .steps)) (undef ty) tt;
-  laws = laws-of (λ v. rewrite-chain (suc (h .steps)) (T .rewrites) v) (λ r i. held-stays (T .rewrites) (suc (h .steps)) r i) (T .rewrites) (h .single)
-      (λ r k e p. entry-respected (T .rewrites) (h .steps) (h .settles) r k e p);
+final-respects T h = record {
+  on-const = λ i. final-stays (T .rewrites) (chain-fuel (T .rewrites)) (const i) tt;
+  on-held = λ r k. rewrite-held (T .rewrites) r k;
+  on-instr = λ r k. final-stays (T .rewrites) (chain-fuel (T .rewrites)) (instr r k) tt;
+  on-output = λ k. final-stays (T .rewrites) (chain-fuel (T .rewrites)) (output k) tt;
+  on-bool = λ b. final-stays (T .rewrites) (chain-fuel (T .rewrites)) (bool b) tt;
+  on-undef = λ ty. final-stays (T .rewrites) (chain-fuel (T .rewrites)) (undef ty) tt;
+  laws = laws-of (rewrite (T .rewrites)) (λ r i. rewrite-held (T .rewrites) r i) (T .rewrites) (h .single) (λ r k e p.
+      subst (λ n. rewrite-chain n (T .rewrites) (input r k) ≡ rewrite-chain n (T .rewrites) (gives r k e)) (h .enough)
+      (entry-respected (T .rewrites) (h .steps) (h .settles) r k e p));
   outputs = extends-refl (T .outputs);
-})
+}

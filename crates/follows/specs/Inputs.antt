@@ -5,7 +5,7 @@ use Prim.Native.Nat.{_+_, _<_, suc, zero, ℕ}
 use native.Mathlib.Omega.{arith}
 use lib.Dec.{eqb}
 use lib.ListN.{getD, length}
-use Rattle.meaning.specs.Graph.{Value, held, input, sameValue}
+use Rattle.meaning.specs.Graph.{Value, input, sameValue}
 use Rattle.meaning.specs.Run.{Env, Word, mark, put, put-inputs}
 use Rattle.follows.specs.Small.{eqb-less, eqb-self}
 use Rattle.follows.specs.Frame.{put-other, put-same}
@@ -13,9 +13,6 @@ use Rattle.follows.specs.Frame.{put-other, put-same}
 -- v 0, v 1, .. are told apart by their numbers
 abbrev pub Numbered : (ℕ → Value) → Type 0
 Numbered v = (a b : ℕ) → sameValue (v a) (v b) ≡ eqb a b
-
-pub held-numbered : (r : ℕ) → Numbered (λ k. held r k)
-held-numbered r a b = rw (eqb-self r)
 
 puts-below : (v : ℕ → Value) → Numbered v → (j k : ℕ) → j < k → (ws : List Word) (σ : Env) → put-inputs v k ws σ (v j) ≡ σ (v j)
 unfolding put-inputs

@@ -5,7 +5,6 @@ use mathlib.Core.Option.{Option, some}
 use mathlib.Core.Path.{_∙_, _≡_, ap, refl, sym}
 use Prim.Native.Nat.{_<_, _≤_, ℕ}
 use native.Mathlib.Omega.{arith}
-use lib.Dec.{T}
 use lib.ListN.{getD, length}
 use Rattle.meaning.specs.Form.{Nodes, _▸_, ⟨⟩}
 use Rattle.meaning.specs.Graph.{Value, input}

@@ -17,8 +17,14 @@ pub mod CountClaim
 pub mod CountScan
 pub mod CountRegion
 pub mod Attempts
-pub mod ChainFuel
 pub mod CaseForms
+pub mod ContextState
+pub mod ContextCases
+pub mod ContextPlan
+pub mod ContextSelect
+pub mod ContextLoop
+pub mod ContextWalk
+pub mod ContextRegion
 pub mod Small
 pub mod Key
 pub mod World

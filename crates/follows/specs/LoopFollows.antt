@@ -2,15 +2,16 @@
 use mathlib.Core.Bool.{Bool, false, true}
 use mathlib.Core.List.{List, [], _++_, _∷_, map}
 use mathlib.Core.Logic.{_⊎_, inl, inr}
-use mathlib.Core.Path.{_∙_, _≡_, ap, refl, sym}
+use mathlib.Core.Path.{_∙_, _≡_, ap, refl, subst, sym}
 use Prim.Native.Nat.{_<_, _≤_, suc, zero, ℕ}
 use native.Mathlib.Omega.{arith}
-use lib.Dec.{T, leb}
+use lib.Dec.{leb}
 use lib.ListN.{getD, length, length-map}
 use Rattle.meaning.specs.Form.{Nodes, _▸_, loop, ⟨⟩}
-use Rattle.meaning.specs.Graph.{Value, bool, held, input, undef}
-use Rattle.meaning.specs.NestedRun.{Ran, and-then, assign-inputs, ended, no-end, note-over, once-more, pay, run-nodes, tested, through, turns}
-use Rattle.meaning.specs.Run.{End, Event, RunState, Word, mark, put-inputs, word}
+use Rattle.meaning.specs.Graph.{Value, bool, input, undef}
+use Rattle.meaning.specs.NestedRun.{Ran, assign-inputs, ended, no-end, note-over, pay, run-nodes, through, turns}
+use Rattle.meaning.specs.Run.{End, Event, RunState, Word, mark, word}
+use Rattle.meaning.specs.RunLaws.{inputs-at-once, last-turn, next-turn}
 use Rattle.nesting.specs.BundleSet.{same-target}
 use Rattle.nesting.specs.Deferred.{DeferredEdgeBundle, DeferredEdgeBundleSet, DeferredTarget, to-region, to-return}
 use Rattle.nesting.specs.Last.{rewrite-nodes}
@@ -23,7 +24,6 @@ use Rattle.follows.specs.Tables.{Extends, Gains, Resolver, Respects, Tab
 use Rattle.follows.specs.Frame.{inputs-kept}
 use Rattle.follows.specs.Conditions.{Mat, Truthy}
 use Rattle.follows.specs.Leads.{Based, Chosen, Goes, OnwardTo, Sim, Tracks, based-after, ends-with, none-run, read, then-on, tracks-less}
-use Rattle.follows.specs.Inputs.{held-numbered, puts-at}
 use Rattle.follows.specs.Bundles.{same-target-sym}
 
 module _ (W : World) where
@@ -99,13 +99,12 @@ module _ (W : World) where
         assigned us s ws on-same on-kept k lt = rw (law k) (go (getD ss k (renumber-to k)) refl (ok k lt))
           where
             go : (sl : InputRewrite) → getD ss k (renumber-to k) ≡ sl → HeaderInput ρ r q (x .target-inputs) init outs k sl
-                → put-inputs (λ k. held r k) 0 (map (s .env) (map ρ us)) (s .env) (step-input ρ r sl) ≡ getD ws k mark
+                → (assign-inputs r (map ρ us) s) .env (step-input ρ r sl) ≡ getD ws k mark
             go (replace-by v) p o = rw (o .0) (inputs-kept os′ r (ρ (input q k)) (not-held k lt) (map ρ us) s ∙ on-same k v lt p)
             go (renumber-to i) p o =
                 let on-i = on-kept k i lt p in
                 let len : i < length (map ρ us) = rw (length-map us ρ) (on-i .0) in
-                puts-at (λ k. held r k) (held-numbered r) (map (s .env) (map ρ us)) i i 0 (omega arith) (rw (length-map (map ρ us) (s .env)) len) (s .env)
-                ∙ getD-map-in (s .env) (map ρ us) i (ρ (undef 0)) mark len ∙ ap (s .env) (getD-map-in ρ us i (undef 0) (ρ (undef 0)) (on-i .0)) ∙ on-i .1
+                inputs-at-once r (map ρ us) s i len ∙ ap (s .env) (getD-map-in ρ us i (undef 0) (undef 0) (on-i .0)) ∙ on-i .1
 
         next : (s : RunState) (k : ℕ) → k < ar W r → (assign-inputs r (map ρ outs) s) .env (ρ (input r k)) ≡ getD (read ρ s (x .target-inputs)) k mark
         next s = assigned outs s (read ρ s (x .target-inputs)) on-same on-kept
@@ -180,9 +179,8 @@ module _ (W : World) where
             s₁ : RunState
             s₁ = note-over (leb limit made) s
 
-            tail : RunState → Ran
-            tail s′ = tested (s′ .env (ρ rep)) λ w. once-more
-                (λ s″. turns (W .rule) (W .g .test-cost) c (suc made) body r limit (map ρ outs) (ρ rep) (assign-inputs r (map ρ outs) s″)) w (pay (W .g .test-cost) s′)
+            turning : Ran
+            turning = turns (W .rule) (W .g .test-cost) (suc c) made body r limit (map ρ outs) (ρ rep) s
 
             IH : Type 0
             IH = (n′ : ℕ) → n′ < n → (s′ : RunState) (ws′ : List Word) → Based W s′ → length ws′ ≡ ar W r
@@ -190,24 +188,28 @@ module _ (W : World) where
                 → from-region W n′ r ws′ (s′ .events) ≡ ends-with e h
                 → Tracks W ρ os′ n′ d′ e h (turns (W .rule) (W .g .test-cost) c (suc made) body r limit (map ρ outs) (ρ rep) s′)
 
-            changed : IH → (s′ : RunState) → Based W s′ → (go : Goes W ρ os′ n d e h s′) → go .entry ≡ x → Tracks W ρ os′ n d′ e h (tail s′)
-            changed ih s′ bs′ go p =
+            turned : IH → (s′ : RunState) → body s₁ ≡ through s′ → Based W s′ → (go : Goes W ρ os′ n d e h s′) → go .entry ≡ x → Tracks W ρ os′ n d′ e h turning
+            turned ih s′ comes bs′ go p =
                 let yes! = again s′ (go .entry) bs′ (go .chosen) p in
                 let on′ : OnwardTo W ρ s′ n e h (to-region r) (x .target-inputs) = rw back at (rw p at (go .onward)) in
                 let s″ : RunState = assign-inputs r (map ρ outs) (pay (W .g .test-cost) s′) in
-                rw (yes! .is) (tracks-less W ρ os′ (on′ .0) n (omega (arith, on′ .1)) d′ e h _
+                subst (λ R. Tracks W ρ os′ n d′ e h R)
+                (sym (next-turn (W .rule) (W .g .test-cost) c made body r limit (map ρ outs) (ρ rep) s s′ comes (yes! .less) (yes! .is)))
+                (tracks-less W ρ os′ (on′ .0) n (omega (arith, on′ .1)) d′ e h _
                 (ih (on′ .0) (on′ .1) s″ (read ρ s′ (x .target-inputs)) (based-assign r (map ρ outs) (pay (W .g .test-cost) s′) (record { based = bs′ .based }))
                 (length-map (x .target-inputs) (λ v. s′ .env (ρ v)) ∙ on′ .2) (next (pay (W .g .test-cost) s′)) (on′ .3)))
 
-            came : IH → (s′ : RunState) → Based W s′ → (go : Goes W ρ os′ n d e h s′) → (o : Bool) → same-target (go .entry .target) (to-region r) ≡ o
-                → Tracks W ρ os′ n d′ e h (tail s′)
-            came ih s′ bs′ go true p = changed ih s′ bs′ go (only-back (go .entry) (go .chosen .member) p)
-            came ih s′ bs′ go false p = rw (stops s′ (go .entry) (go .chosen) p) (record { leads-to = leaves n s′ go p })
+            came : IH → (s′ : RunState) → body s₁ ≡ through s′ → Based W s′ → (go : Goes W ρ os′ n d e h s′)
+                → (o : Bool) → same-target (go .entry .target) (to-region r) ≡ o → Tracks W ρ os′ n d′ e h turning
+            came ih s′ comes bs′ go true p = turned ih s′ comes bs′ go (only-back (go .entry) (go .chosen .member) p)
+            came ih s′ comes bs′ go false p = subst (λ R. Tracks W ρ os′ n d′ e h R)
+                (sym (last-turn (W .rule) (W .g .test-cost) c made body r limit (map ρ outs) (ρ rep) s s′ comes (stops s′ (go .entry) (go .chosen) p)))
+                (record { leads-to = leaves n s′ go p })
 
-            after : IH → (R : Ran) → body s₁ ≡ R → Tracks W ρ os′ n d e h R → Tracks W ρ os′ n d′ e h (and-then R tail)
-            after ih (through s′) p fl = came ih s′ (based-after W ρ os′ ks b s₁ s′ p (record { based = bs .based })) (fl .leads-to) _ refl
-            after ih (ended e′ s′) p fl = record { leads-to = fl .leads-to }
-            after ih no-end p fl = record { leads-to = fl .leads-to }
+            after : IH → (R : Ran) → body s₁ ≡ R → Tracks W ρ os′ n d e h R → Tracks W ρ os′ n d′ e h turning
+            after ih (through s′) p fl = came ih s′ p (based-after W ρ os′ ks b s₁ s′ p (record { based = bs .based })) (fl .leads-to) _ refl
+            after ih (ended e′ s′) p fl = rw p (record { leads-to = fl .leads-to })
+            after ih no-end p fl = rw p (record { leads-to = fl .leads-to })
 
       pub loop-sim : Sim W r q ks′ d′ T′
       unfolding run-nodes rewrite-nodes

@@ -12,7 +12,6 @@ use Rattle.meaning.specs.Graph.{Graph, Value, input, pick, region, sameValue, u
 use Rattle.format.specs.Read.{isIn}
 use Rattle.format.specs.ReadLaws.{clash}
 use Rattle.nesting.specs.BundleSet.{same-target, split-out-target}
-use Rattle.nesting.specs.CaseGraphs.{A}
 use Rattle.nesting.specs.Deferred.{DeferredEdgeBundle, DeferredEdgeBundleSet, DeferredTarget, to-region, to-return}
 use Rattle.nesting.specs.Loop.{LoopInputs, add-exit-edge, keep-input, lift-input, take-input, take-inputs}
 use Rattle.nesting.specs.State.{InputRewrite, renumber-to, replace-by}

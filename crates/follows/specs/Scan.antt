@@ -5,18 +5,19 @@ use mathlib.Core.Logic.{_⊎_, inl, inr}
 use mathlib.Core.Option.{Option, none, some}
 use mathlib.Core.Path.{_∙_, _≡_, ap, refl, subst, sym}
 use Prim.Native.Nat.{suc, zero, ℕ}
-use lib.Dec.{T, eqb}
+use lib.Dec.{eqb}
 use lib.ListN.{length}
 use borrow.Author.Tests.{eqb-true}
 use Rattle.meaning.specs.Graph.{Value, bool, bool-cond, pick, region}
 use Rattle.meaning.specs.Run.{End, Event, RunState, place-taken, word}
 use Rattle.nesting.specs.BundleSet.{is-always, same-target}
 use Rattle.nesting.specs.Case.{Body, ClaimedRegion, MaybeClaimedRegion, err, lazy, ok}
-use Rattle.nesting.specs.Claim.{Claim, SplitOut, resolve-by, resolve-deferred, split-out-matching, split-out-or}
+use Rattle.nesting.specs.Claim.{Claim, SplitOut, resolve-by, resolve-deferred, split-out-matching}
 use Rattle.nesting.specs.Deferred.{DeferredEdgeBundle, DeferredEdgeBundleSet, DeferredTarget, LazyCond, to-region, to-return, true-cond}
+use Rattle.nesting.specs.FirstClaim.{bundle-to, first-claim}
 use Rattle.nesting.specs.Post.{bind, map-post}
 use Rattle.nesting.specs.Select.{structurize-select-into}
-use Rattle.nesting.specs.State.{NestState, NodeOutput, _>>=_}
+use Rattle.nesting.specs.State.{Answer, NestState, NodeOutput, done, turned-away}
 use Rattle.follows.specs.Small.{In}
 use Rattle.follows.specs.World.{Fits, World, ar}
 use Rattle.follows.specs.Tables.{Resolver, Respects, tables}
@@ -29,7 +30,7 @@ use Rattle.follows.specs.Invariant.{Inv, Later, later-refl, later-then}
 use Rattle.follows.specs.Holding.{Came, CaseOk, CasesOk, came-on}
 use Rattle.follows.specs.EnterCase.{Takes}
 use Rattle.follows.specs.ConvergentFollows.{structurize-select-into-post}
-use Rattle.follows.specs.ClaimReady.{ClaimDone, at-state}
+use Rattle.follows.specs.ClaimReady.{ClaimDone}
 use Rattle.follows.specs.TargetRegions.{ClaimOk, claimed-back, claimed-ok, since-back}
 
 module _ (W : World) (cl : Claim) (cl-ok : ClaimOk W cl) where
@@ -68,35 +69,44 @@ module _ (W : World) (cl : Claim) (cl-ok : ClaimOk W cl) where
         done = record { inv = f .done .inv; step = later-then W st (f .done .step); got = (f .done .got .0, since-back W st (f .done .got .1), f .done .got .2, f .done .got .3) };
       }
 
+  abbrev Scans : DeferredEdgeBundleSet → DeferredEdgeBundleSet → NestState → Type 0
+  Scans before d s = IfDone (FirstDone before d s) (split-out-matching (W .g) cl before d s)
+
+  -- a bundle to a region: claimed, the scan stops there; else it goes on
+  module _ (before es : DeferredEdgeBundleSet) (q n : ℕ) (inputs : List Value) (c : LazyCond) (s : NestState)
+      (later : (s₁ : NestState) → Inv W s₁ → Scans (before ++ (bundle-to q n inputs c ∷ [])) es s₁) where
+    by-answer : (a : Answer (Option ClaimedRegion)) → cl q n inputs s ≡ a → IfDone (ClaimDone W q inputs s) a → Scans before (bundle-to q n inputs c ∷ es) s
+    unfolding split-out-matching
+    by-answer (done (some x) t) comes h =
+        subst (λ a. IfDone (FirstDone before (bundle-to q n inputs c ∷ es) s) a) (sym (first-claim (W .g) cl before es q n inputs c s t x comes)) (record {
+          post =
+              record { inv = h .post .inv; step = h .post .step; found = record { front = []; behind = es; split = refl; left = refl; region = q; target = refl; done = h .post } };
+        })
+    by-answer (done none t) comes h = rw comes (map-post (split-out-matching (W .g) cl (before ++ (bundle-to q n inputs c ∷ [])) es t) (later t (h .post .inv)) λ o s′ fd.
+        further before (bundle-to q n inputs c) es s t (h .post .step) o s′ fd)
+    by-answer (turned-away refusal at-word) comes h = rw comes (record { post = tt })
+
   pub split-out-matching-post : (before d : DeferredEdgeBundleSet) (s : NestState) → Inv W s
-      → ((e : DeferredEdgeBundle) → In e d → Fits W (e .target) (length (e .target-inputs))) → IfDone (FirstDone before d s) (split-out-matching (W .g) cl before d s)
+      → ((e : DeferredEdgeBundle) → In e d → Fits W (e .target) (length (e .target-inputs))) → Scans before d s
   unfolding split-out-matching
   split-out-matching-post before [] s inv fits = record { post = record { inv = inv; step = later-refl W s; found = tt } }
-  split-out-matching-post before (e ∷ es) s inv fits = go (e .target) refl (λ s₁ inv₁. split-out-matching-post (before ++ (e ∷ [])) es s₁ inv₁ (λ x i. fits x (inr i)))
-      (fits e (inl refl))
+  split-out-matching-post before (e ∷ es) s inv fits =
+      go (e .target) refl (λ s₁ inv₁. split-out-matching-post (before ++ (e ∷ [])) es s₁ inv₁ (λ x i. fits x (inr i))) (fits e (inl refl))
     where
-      IH : Type 0
-      IH = (s₁ : NestState) → Inv W s₁ → IfDone (FirstDone (before ++ (e ∷ [])) es s₁) (split-out-matching (W .g) cl (before ++ (e ∷ [])) es s₁)
+      Rest : DeferredEdgeBundle → Type 0
+      Rest z = (s₁ : NestState) → Inv W s₁ → Scans (before ++ (z ∷ [])) es s₁
 
-      go : (x : DeferredTarget) → e .target ≡ x → IH → Fits W x (length (e .target-inputs))
-          → IfDone (FirstDone before (e ∷ es) s)
-          (at-state {A = Option SplitOut}
-          (elim x [
-            | to-return ↦ split-out-matching (W .g) cl (before ++ (e ∷ [])) es
-            | to-region q ↦ cl q (e .accumulated-count) (e .target-inputs) >>= split-out-or e
-                (before ++ es) (split-out-matching (W .g) cl (before ++ (e ∷ [])) es)
-          ]) s)
-      go to-return p ih f = map-post (split-out-matching (W .g) cl (before ++ (e ∷ [])) es s) (ih s inv) λ o s′ fd. further before e es s s (later-refl W s) o s′ fd
-      go (to-region q) p ih f =
-          bind (cl q (e .accumulated-count) (e .target-inputs) s) _ (cl-ok q (e .accumulated-count) (e .target-inputs) s inv (f .0) (f .2)) λ o s₁ cd. by o s₁ cd
-        where
-          by : (o : Option ClaimedRegion) (s₁ : NestState) → ClaimDone W q (e .target-inputs) s o s₁
-              → IfDone (FirstDone before (e ∷ es) s) (split-out-or e (before ++ es) (split-out-matching (W .g) cl (before ++ (e ∷ [])) es) o s₁)
-          by none s₁ cd = map-post (split-out-matching (W .g) cl (before ++ (e ∷ [])) es s₁) (ih s₁ (cd .inv)) λ o s′ fd. further before e es s s₁ (cd .step) o s′ fd
-          by (some c) s₁ cd = record {
-            post =
-                record { inv = cd .inv; step = cd .step; found = record { front = []; behind = es; split = refl; left = refl; region = q; target = p; done = cd } };
-          }
+      with-target : DeferredTarget → DeferredEdgeBundle
+      with-target x = record { target = x; accumulated-count = e .accumulated-count; target-inputs = e .target-inputs; condition = e .condition }
+
+      at : (x : DeferredTarget) → Rest (with-target x) → Fits W x (length (e .target-inputs)) → Scans before (with-target x ∷ es) s
+      at to-return rest f = map-post (split-out-matching (W .g) cl (before ++ (with-target to-return ∷ [])) es s) (rest s inv) λ o s′ fd.
+          further before (with-target to-return) es s s (later-refl W s) o s′ fd
+      at (to-region q) rest f = by-answer before es q (e .accumulated-count) (e .target-inputs) (e .condition) s rest _ refl
+          (cl-ok q (e .accumulated-count) (e .target-inputs) s inv (f .0) (f .2))
+
+      go : (x : DeferredTarget) → e .target ≡ x → Rest e → Fits W x (length (e .target-inputs)) → Scans before (e ∷ es) s
+      go x p rest f = subst (λ y. Rest (with-target y) → Scans before (with-target y ∷ es) s) (sym p) (λ rest′. at x rest′ f) rest
 
   -- ---- and its select
   module _ (s₀ : NestState) (r : ℕ) (x : Body) (s s₁ : NestState) (cm : Came W s₀ r (x .children) (x .deferred-edges) s) (y : SplitOut) (inv₁ : Inv W s₁)

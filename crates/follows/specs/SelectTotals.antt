@@ -15,7 +15,7 @@ use Rattle.nesting.specs.Plan.{DeferredTargetSummary, deferred-targets, Planned
 use Rattle.nesting.specs.Select.{rewrite-bundle, rewrite-case, rewrite-cases, DefinedSelect, define-select, emit-inputs, emit-condition, emit, shared-bundle, select-if, replace-inputs, structurize-select, structurize-select-by, structurize-select-into}
 use Rattle.nesting.specs.Post.{Post, map-post, bind}
 use Rattle.nesting.specs.Keeps.{define-select-keeps, emit-inputs-keeps, emit-condition-keeps, replace-inputs-keeps}
-use Rattle.nesting.specs.Still.{Still, still-refl, still-then, still-steady}
+use Rattle.nesting.specs.Still.{Still, still-refl, still-then, still-steady, still-log}
 use Rattle.follows.specs.Totals.{Measure, total, totals, summary-total, planned-total, bundles-to, edges-to, edgeless, Fits, FitsAll, targets-fit, targets-add, edges-add, edgeless-adds}
 
 -- ---- look-ups change values alone
@@ -121,7 +121,7 @@ module _ (Q : ℕ → Type 0) (q9 : Q 9) where
         let cs = map (rewrite-case (rewrite (s .region-input-rewrites))) cases in
         bind (select-if (any-non-empty-case cases || any-needs-select (plan-bundles g cs)) kind x cases (plan-bundles g cs) _) _
         (select-if-total (any-non-empty-case cases || any-needs-select (plan-bundles g cs)) kind x cases (plan-bundles g cs) _) λ y s₁ a.
-        bind (replace-inputs cs s₁) _ (replace-inputs-keeps still-steady Q q9 cs s₁) λ u s₂ q.
+        bind (replace-inputs cs s₁) _ (replace-inputs-keeps still-steady Q q9 still-log cs s₁) λ u s₂ q.
         record { post = record { still = record { states = q .states ∙ a .still .states; attempts = q .attempts ∙ a .still .attempts }; chosen = planned cases (rewrite (s .region-input-rewrites)) (y .deferred-edges) (a .same) } }
 
     pub append-total : (parent : Nodes) (c : MaybeClaimedRegion) (s : NestState) → Post Q (λ y s′. Still s s′ × (y .deferred-edges ≡ deferred-of c)) (append-maybe-claimed-region parent c s)

@@ -11,7 +11,6 @@ use lib.ListN.{getD, length}
 use borrow.Author.Tests.{eq-eqb, eqb-false, eqb-true, ne-eqb}
 use Rattle.meaning.specs.Graph.{pick}
 use Rattle.format.specs.ReadLaws.{clash}
-use Rattle.nesting.specs.CaseGraphs.{A, B}
 use Rattle.nesting.specs.Rewrite.{rewrites-of}
 use Rattle.nesting.specs.State.{RewriteEntry}
 

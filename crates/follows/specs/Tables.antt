@@ -4,12 +4,11 @@ use mathlib.Core.List.{List, [], _++_, _∷_, append-assoc, append-nil}
 use mathlib.Core.Option.{Option, none, some}
 use mathlib.Core.Path.{_∙_, _≡_, ap, refl, subst, sym}
 use Prim.Native.Nat.{_^_, suc, zero, ℕ}
-use lib.Dec.{T, eqb}
+use lib.Dec.{eqb}
 use lib.ListN.{getD, length}
 use borrow.Author.Tests.{eqb-true}
 use Rattle.meaning.specs.Graph.{Value, bool, const, held, input, instr, output, undef}
 use Rattle.format.specs.ReadLaws.{clash}
-use Rattle.nesting.specs.CaseGraphs.{A}
 use Rattle.nesting.specs.Rewrite.{rewrite, rewrite-chain, rewrites-of, step-chain, step-input}
 use Rattle.nesting.specs.State.{InputRewrite, NestState, NodeOutput, RegionInputRewrites, RewriteEntry, renumber-or-replace-with, renumber-to, replace-by, replace-with}
 use Rattle.follows.specs.Small.{nth, nth-append}

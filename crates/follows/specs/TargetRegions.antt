@@ -5,7 +5,6 @@ use mathlib.Core.Logic.{_⊎_, inl, inr}
 use mathlib.Core.Option.{Option, none, some}
 use mathlib.Core.Path.{_∙_, _≡_, ap, refl, subst, sym}
 use Prim.Native.Nat.{_<_, suc, zero, ℕ}
-use lib.Dec.{T}
 use lib.ListN.{getD, length, length-map}
 use borrow.Author.Tests.{ne-eqb}
 use Rattle.meaning.specs.Form.{Nodes, _▸_, ⟨⟩}

@@ -1,280 +1,249 @@
--- A look-up's chain that ends at all ends within one step more than there are inputs with an entry, and from there on any fuel
--- gives the same answer. So code may stop at that count where the definition goes on for 2 to the number of entries.
-use mathlib.Core.Path.{_≡_, refl, sym, ap, _∙_}
+-- Where the inputs of every region lead to their end, no chain passes a region twice: a look-up, marked or not, ends within as many
+-- steps as the log has entries, and any fuel from there on gives the same answer.
+use mathlib.Core.Path.{_≡_, refl, sym, ap, _∙_, subst}
 use mathlib.Core.Logic.{_⊎_, inl, inr}
 use mathlib.Core.Bool.{Bool, true, false}
-use mathlib.Core.List.{List, [], _∷_, _++_, List·Memᴰ, List·Memᴰ·head, List·Memᴰ·tail, List·Memᴰ·not-nil, List·Memᴰ·cases-cons, Memᴰ·cast, Memᴰ·append-left, Memᴰ·append-right}
+use mathlib.Core.List.{List, [], _∷_, _++_, map, List·Memᴰ, List·Memᴰ·head, List·Memᴰ·tail, List·Memᴰ·not-nil, List·Memᴰ·cases-cons}
 use mathlib.Core.Option.{Option, none, some}
-use Prim.Native.Nat.{ℕ, zero, suc, _+_, _*_, _-_, _≤_, _<_}
+use Prim.Native.Nat.{ℕ, zero, suc, _^_, _≤_, _<_}
 use native.Mathlib.Omega.{arith}
-use lib.ListN.{length, getD, length-append, List·getD-eq-default}
+use native.Mathlib.Nat.{pow-suc}
+use lib.ListN.{length, getD, length-map, List·getD-map}
 use lib.Dec.{eqb}
 use borrow.Author.Tests.{eqb-true}
 use Rattle.meaning.specs.Graph.{Value, const, input, instr, output, bool, undef, held, pick}
 use Rattle.format.specs.ReadLaws.{clash}
 use Rattle.nesting.specs.State.{InputRewrite, renumber-to, replace-by, RegionInputRewrites, replace-with, renumber-or-replace-with, RewriteEntry}
-use Rattle.nesting.specs.Fewer.{in-or-out}
-use Rattle.nesting.specs.Rewrite.{rewrites-of, step-input, step-chain, chain-fuel, rewrite-chain, rewrite, changes-again, meets-chain, meets}
+use Rattle.nesting.specs.Rewrite.{rewrites-of, chain-fuel, rewrite-chain, rewrite, unmarked, rewrite-unmarked, meets-chain, meets}
+use Rattle.nesting.specs.ChainSteps.{next-value, Stops, EndsIn, ends-later, chain-same, meets-same}
+use Rattle.nesting.specs.UnmarkedChain.{unmarked-input, unmarked-rewrites, unmarked-log, unmarked-of, unmarked-chain}
 
--- ---- a chain step by step
-abbrev pub next-value : List RewriteEntry → Value → Value
-next-value es (input r k) = step-chain (λ v. v) r k (rewrites-of es r)
-next-value es (const i) = const i
-next-value es (held r k) = held r k
-next-value es (instr r k) = instr r k
-next-value es (output o) = output o
-next-value es (bool b) = bool b
-next-value es (undef ty) = undef ty
+-- the region whose input a value is, marked or not
+abbrev pub names : Value → Option ℕ
+names (input r k) = some r
+names (held r k) = some r
+names (const i) = none
+names (instr r k) = none
+names (output o) = none
+names (bool b) = none
+names (undef ty) = none
 
-abbrev pub after-steps : ℕ → List RewriteEntry → Value → Value
-after-steps zero es v = v
-after-steps (suc n) es v = after-steps n es (next-value es v)
+-- the value that an entry puts in the place of input k; an input that it renumbers has none
+abbrev pub Gives : RegionInputRewrites → ℕ → Value → Type 0
+Gives (replace-with vs) k v = getD vs k (undef 0) ≡ v
+Gives (renumber-or-replace-with xs) k v = getD xs k (renumber-to k) ≡ replace-by v
 
-module _ (es : List RewriteEntry) where
-  abbrev pub Stops : Value → Type 0
-  Stops v = next-value es v ≡ v
+abbrev pub Open : List RewriteEntry → ℕ → Type 0
+Open es r = rewrites-of es r ≡ none
 
-  stops-after : (n : ℕ) (v : Value) → Stops v → after-steps n es v ≡ v
-  stops-after zero v h = refl
-  stops-after (suc n) v h = rw h (stops-after n v h)
+-- The chains from the inputs of region r end, past every mark: it has no entry, or all that its entry names has this.
+pub data ChainsEnd (es : List RewriteEntry) : ℕ → Type 0 where
+  no-more : {r : ℕ} → Open es r → ChainsEnd es r
+  goes-on : {r : ℕ} (x : RegionInputRewrites) → rewrites-of es r ≡ some x → ((k : ℕ) (v : Value) (q : ℕ) → Gives x k v → names v ≡ some q → ChainsEnd es q) → ChainsEnd es r
 
-  after-sum : (n m : ℕ) (v : Value) → after-steps (n + m) es v ≡ after-steps m es (after-steps n es v)
-  after-sum zero m v = let z : 0 + m ≡ m = omega arith in rw z
-  after-sum (suc n) m v = let z : suc n + m ≡ suc (n + m) = omega arith in rw z (after-sum n m (next-value es v))
-
-  -- The chain of v ends within n steps.
-  pub record EndsIn (n : ℕ) (v : Value) : Type 0 where
-    pub ends : Stops (after-steps n es v)
-
-  after-more : (n m : ℕ) (v : Value) → EndsIn n v → n ≤ m → after-steps m es v ≡ after-steps n es v
-  after-more n m v h l = go (m - n) (omega arith)
-    where
-      go : (k : ℕ) → m ≡ n + k → after-steps m es v ≡ after-steps n es v
-      go k e = rw e (after-sum n k v ∙ stops-after k (after-steps n es v) (h .ends))
-
-  -- ---- that is what rewrite-chain does
-  pub chain-steps : (fuel : ℕ) (v : Value) → rewrite-chain fuel es v ≡ after-steps fuel es v
-  unfolding rewrite-chain
-  chain-steps zero v = refl
-  chain-steps (suc fuel) (const i) = sym (stops-after fuel (const i) refl)
-  chain-steps (suc fuel) (held r k) = sym (stops-after fuel (held r k) refl)
-  chain-steps (suc fuel) (instr r k) = sym (stops-after fuel (instr r k) refl)
-  chain-steps (suc fuel) (output o) = sym (stops-after fuel (output o) refl)
-  chain-steps (suc fuel) (bool b) = sym (stops-after fuel (bool b) refl)
-  chain-steps (suc fuel) (undef ty) = sym (stops-after fuel (undef ty) refl)
-  chain-steps (suc fuel) (input r k) = go (rewrites-of es r) refl (λ v. chain-steps fuel v)
-    where
-      slot : (x : InputRewrite) → ((v : Value) → rewrite-chain fuel es v ≡ after-steps fuel es v) → step-input (λ v. rewrite-chain fuel es v) r x ≡ after-steps fuel es (step-input (λ v. v) r x)
-      slot (replace-by v) ih = ih v
-      slot (renumber-to i) ih = sym (stops-after fuel (held r i) refl)
-
-      go : (o : Option RegionInputRewrites) → rewrites-of es r ≡ o → ((v : Value) → rewrite-chain fuel es v ≡ after-steps fuel es v)
-          → step-chain (λ v. rewrite-chain fuel es v) r k o ≡ after-steps fuel es (step-chain (λ v. v) r k o)
-      go none p ih = sym (stops-after fuel (input r k) (rw p))
-      go (some (replace-with vs)) p ih = ih (getD vs k (undef 0))
-      go (some (renumber-or-replace-with xs)) p ih = slot (getD xs k (renumber-to k)) ih
-
--- ---- the inputs with an entry
-abbrev pub entry-size : RegionInputRewrites → ℕ
-entry-size (replace-with vs) = length vs
-entry-size (renumber-or-replace-with xs) = length xs
-
-abbrev pub entry-inputs : List RewriteEntry → ℕ
-entry-inputs [] = 0
-entry-inputs (e ∷ es) = entry-size (e .rewrites) + entry-inputs es
-
--- n inputs of region r from number k on
-abbrev inputs-from : ℕ → ℕ → ℕ → List Value
-inputs-from r k zero = []
-inputs-from r k (suc n) = input r k ∷ inputs-from r (suc k) n
-
-abbrev logged : List RewriteEntry → List Value
-logged [] = []
-logged (e ∷ es) = inputs-from (e .region) 0 (entry-size (e .rewrites)) ++ logged es
-
-logged-length : (es : List RewriteEntry) → length (logged es) ≡ entry-inputs es
-logged-length [] = refl
-logged-length (e ∷ es) = length-append (inputs-from (e .region) 0 (entry-size (e .rewrites))) (logged es) ∙ (let z = from (e .region) 0 (entry-size (e .rewrites)) in let y = logged-length es in omega arith)
+pub entry-kept : (es t : List RewriteEntry) (r : ℕ) (x : RegionInputRewrites) → rewrites-of es r ≡ some x → rewrites-of (es ++ t) r ≡ some x
+entry-kept [] t r x p = absurd (clash (cc))
+entry-kept (y ∷ es) t r x p = go (eqb r (y .region)) p (λ q. entry-kept es t r x q)
   where
-    from : (r k n : ℕ) → length (inputs-from r k n) ≡ n
-    from r k zero = refl
-    from r k (suc n) = ap suc (from r (suc k) n)
+    go : (b : Bool) → pick b (some (y .rewrites)) (rewrites-of es r) ≡ some x → (rewrites-of es r ≡ some x → rewrites-of (es ++ t) r ≡ some x) → pick b (some (y .rewrites)) (rewrites-of (es ++ t) r) ≡ some x
+    go true q ih = q
+    go false q ih = ih q
 
-in-inputs : (r k n i : ℕ) → i < n → List·Memᴰ (input r (k + i)) (inputs-from r k n)
-in-inputs r k zero i h = absurd (omega arith)
-in-inputs r k (suc n) zero h = let z : k + 0 ≡ k = omega arith in List·Memᴰ·head (ap (input r) z)
-in-inputs r k (suc n) (suc i) h = let z : k + suc i ≡ suc k + i = omega arith in List·Memᴰ·tail (Memᴰ·cast (ap (input r) z) (in-inputs r (suc k) n i (omega arith)))
-
-in-logged : (es : List RewriteEntry) (r k : ℕ) (x : RegionInputRewrites) → rewrites-of es r ≡ some x → k < entry-size x → List·Memᴰ (input r k) (logged es)
-in-logged [] r k x p h = absurd (clash (cc))
-in-logged (e ∷ es) r k x p h = go (eqb r (e .region)) refl p (λ q. in-logged es r k x q h)
+-- A log's chains end if those of a longer one do.
+pub end-before : {es : List RewriteEntry} {r : ℕ} (t : List RewriteEntry) → ChainsEnd (es ++ t) r → ChainsEnd es r
+end-before {es} {r} t (no-more o) = no-more (go (rewrites-of es r) refl)
   where
-    go : (b : Bool) → eqb r (e .region) ≡ b → pick b (some (e .rewrites)) (rewrites-of es r) ≡ some x → (rewrites-of es r ≡ some x → List·Memᴰ (input r k) (logged es)) → List·Memᴰ (input r k) (logged (e ∷ es))
-    go true q p ih =
-        let same : e .rewrites ≡ x = cc in
-        let z : 0 + k ≡ k = omega arith in
-        let here = in-inputs (e .region) 0 (entry-size (e .rewrites)) k (rw same h) in
-        Memᴰ·append-left (logged es) (Memᴰ·cast (ap (input r) (sym z) ∙ ap (λ q. input q (0 + k)) (eqb-true r (e .region) q)) here)
-    go false q p ih = Memᴰ·append-right (inputs-from (e .region) 0 (entry-size (e .rewrites))) (ih p)
+    go : (y : Option RegionInputRewrites) → rewrites-of es r ≡ y → Open es r
+    go none e = e
+    go (some y) e = let z = entry-kept es t r y e in absurd (clash (cc))
+end-before {es} {r} t (goes-on x f h) = go (rewrites-of es r) refl (λ k v q g n. end-before t (h k v q g n))
+  where
+    go : (y : Option RegionInputRewrites) → rewrites-of es r ≡ y → ((k : ℕ) (v : Value) (q : ℕ) → Gives x k v → names v ≡ some q → ChainsEnd es q) → ChainsEnd es r
+    go none e ih = no-more e
+    go (some y) e ih = let z = entry-kept es t r y e in let same : y ≡ x = cc in goes-on y e (λ k v q g n. ih k v q (subst (λ w. Gives w k v) same g) n)
+
+-- ---- the entry of r names an input of q
+record Leads (es : List RewriteEntry) (r q : ℕ) : Type 0 where
+  by : RegionInputRewrites
+  is : rewrites-of es r ≡ some by
+  at : ℕ
+  value : Value
+  gives : Gives by at value
+  named : names value ≡ some q
+
+data Path (es : List RewriteEntry) : ℕ → ℕ → Type 0 where
+  one : {r q : ℕ} → Leads es r q → Path es r q
+  more : {r q z : ℕ} → Leads es r q → Path es q z → Path es r z
+
+path-then : {es : List RewriteEntry} {r q z : ℕ} → Path es r q → Leads es q z → Path es r z
+path-then (one l) m = more l (one m)
+path-then (more l p) m = more l (path-then p m)
+
+gives-same : {es : List RewriteEntry} {r q : ℕ} (x : RegionInputRewrites) → rewrites-of es r ≡ some x → (l : Leads es r q) → Gives x (l .at) (l .value)
+gives-same x e l = let i = l .is in let same : l .by ≡ x = cc in rw same at (l .gives)
+
+no-leads : {es : List RewriteEntry} {r q : ℕ} → Open es r → Leads es r q → ⊥
+no-leads o l = let i = l .is in clash (cc)
+
+acyclic : {es : List RewriteEntry} {r : ℕ} → ChainsEnd es r → Path es r r → ⊥
+acyclic (no-more o) (one l) = no-leads o l
+acyclic (no-more o) (more l m) = no-leads o l
+acyclic (goes-on x e h) (one l) = acyclic (h (l .at) (l .value) _ (gives-same x e l) (l .named)) (one l)
+acyclic (goes-on x e h) (more l m) = acyclic (h (l .at) (l .value) _ (gives-same x e l) (l .named)) (path-then m l)
 
 -- ---- a list with one of its elements taken out
-record Without (v : Value) (l : List Value) : Type 0 where
-  others : List Value
+record Without (r : ℕ) (l : List ℕ) : Type 0 where
+  others : List ℕ
   fewer : length l ≡ suc (length others)
-  kept : (w : Value) → List·Memᴰ w l → (w ≡ v) ⊎ List·Memᴰ w others
+  kept : (q : ℕ) → List·Memᴰ q l → (q ≡ r) ⊎ List·Memᴰ q others
 
-take-out : (v : Value) (l : List Value) → List·Memᴰ v l → Without v l
-take-out v [] m = absurd (List·Memᴰ·not-nil m)
-take-out v (x ∷ l) m = go (List·Memᴰ·cases-cons m) (λ i. take-out v l i)
+take-out : (r : ℕ) (l : List ℕ) → List·Memᴰ r l → Without r l
+take-out r [] m = absurd (List·Memᴰ·not-nil m)
+take-out r (x ∷ l) m = go (List·Memᴰ·cases-cons m) (λ i. take-out r l i)
   where
-    first : v ≡ x → (w : Value) → (w ≡ x) ⊎ List·Memᴰ w l → (w ≡ v) ⊎ List·Memᴰ w l
-    first e w (inl p) = inl (p ∙ sym e)
-    first e w (inr i) = inr i
+    first : r ≡ x → (q : ℕ) → (q ≡ x) ⊎ List·Memᴰ q l → (q ≡ r) ⊎ List·Memᴰ q l
+    first e q (inl p) = inl (p ∙ sym e)
+    first e q (inr i) = inr i
 
-    later : (h : Without v l) (w : Value) → (w ≡ x) ⊎ List·Memᴰ w l → (w ≡ v) ⊎ List·Memᴰ w (x ∷ h .others)
-    later h w (inl p) = inr (List·Memᴰ·head p)
-    later h w (inr i) = elim (h .kept w i) [ inl p ↦ inl p | inr j ↦ inr (List·Memᴰ·tail j) ]
+    later : (h : Without r l) (q : ℕ) → (q ≡ x) ⊎ List·Memᴰ q l → (q ≡ r) ⊎ List·Memᴰ q (x ∷ h .others)
+    later h q (inl p) = inr (List·Memᴰ·head p)
+    later h q (inr i) = elim (h .kept q i) [ inl p ↦ inl p | inr j ↦ inr (List·Memᴰ·tail j) ]
 
-    go : (v ≡ x) ⊎ List·Memᴰ v l → (List·Memᴰ v l → Without v l) → Without v (x ∷ l)
-    go (inl e) ih = record { others = l; fewer = refl; kept = λ w i. first e w (List·Memᴰ·cases-cons i) }
-    go (inr i) ih = let h = ih i in record { others = x ∷ h .others; fewer = ap suc (h .fewer); kept = λ w j. later h w (List·Memᴰ·cases-cons j) }
+    go : (r ≡ x) ⊎ List·Memᴰ r l → (List·Memᴰ r l → Without r l) → Without r (x ∷ l)
+    go (inl e) ih = record { others = l; fewer = refl; kept = λ q i. first e q (List·Memᴰ·cases-cons i) }
+    go (inr i) ih = let h = ih i in record { others = x ∷ h .others; fewer = ap suc (h .fewer); kept = λ q j. later h q (List·Memᴰ·cases-cons j) }
+
+abbrev logged : List RewriteEntry → List ℕ
+logged es = map (λ e. e .region) es
+
+in-logged : (es : List RewriteEntry) (r : ℕ) (x : RegionInputRewrites) → rewrites-of es r ≡ some x → List·Memᴰ r (logged es)
+in-logged [] r x p = absurd (clash (cc))
+in-logged (e ∷ es) r x p = go (eqb r (e .region)) refl p (λ q. in-logged es r x q)
+  where
+    go : (b : Bool) → eqb r (e .region) ≡ b → pick b (some (e .rewrites)) (rewrites-of es r) ≡ some x → (rewrites-of es r ≡ some x → List·Memᴰ r (logged es)) → List·Memᴰ r (logged (e ∷ es))
+    go true q p ih = List·Memᴰ·head (eqb-true r (e .region) q)
+    go false q p ih = List·Memᴰ·tail (ih p)
+
+-- ---- the next value stops, or the entry gives it
+data Next (es : List RewriteEntry) (r k : ℕ) (x : RegionInputRewrites) : Type 0 where
+  last : Stops es (next-value es (input r k)) → Next es r k x
+  given : Gives x k (next-value es (input r k)) → Next es r k x
+
+next : (es : List RewriteEntry) (r k : ℕ) (x : RegionInputRewrites) → rewrites-of es r ≡ some x → Next es r k x
+next es r k (replace-with vs) e = given (rw e)
+next es r k (renumber-or-replace-with xs) e = go (getD xs k (renumber-to k)) refl
+  where
+    go : (y : InputRewrite) → getD xs k (renumber-to k) ≡ y → Next es r k (renumber-or-replace-with xs)
+    go (replace-by v) g = given (rw (e, g))
+    go (renumber-to i) g = last (rw (e, g))
+
+end-given : {es : List RewriteEntry} {r : ℕ} (x : RegionInputRewrites) (k : ℕ) (v : Value) → ChainsEnd es r → rewrites-of es r ≡ some x → Gives x k v → (q : ℕ) → names v ≡ some q → ChainsEnd es q
+end-given x k v (no-more o) e g q n = absurd (clash (cc))
+end-given x k v (goes-on y f h) e g q n = let same : x ≡ y = cc in h k v q (subst (λ w. Gives w k v) same g) n
 
 module _ (es : List RewriteEntry) where
-  -- ---- where a value stands in its chain
-  data Place (v : Value) : Type 0 where
-    stops : Stops es v → Place v
-    -- the next value stops
-    last : Stops es (next-value es v) → Place v
-    passes : List·Memᴰ v (logged es) → Place v
+  abbrev ValueEnds : Value → Type 0
+  ValueEnds v = (q : ℕ) → names v ≡ some q → ChainsEnd es q
 
-  place-by : (r k : ℕ) (x : RegionInputRewrites) → rewrites-of es r ≡ some x → (k < entry-size x) ⊎ (entry-size x ≤ k) → Place (input r k)
-  place-by r k x p (inl h) = passes (in-logged es r k x p h)
-  place-by r k (replace-with vs) p (inr h) = last (let z = List·getD-eq-default vs (undef 0) h in rw (p, z))
-  place-by r k (renumber-or-replace-with xs) p (inr h) = last (let z = List·getD-eq-default xs (renumber-to k) h in rw (p, z))
+  -- every logged region is still to be passed, or leads to where the chain is
+  abbrev Covers : List ℕ → Value → Type 0
+  Covers left v = (z : ℕ) → List·Memᴰ z (logged es) → List·Memᴰ z left ⊎ ((r : ℕ) → names v ≡ some r → Path es z r)
 
-  place : (v : Value) → Place v
-  place (const i) = stops refl
-  place (held r k) = stops refl
-  place (instr r k) = stops refl
-  place (output o) = stops refl
-  place (bool b) = stops refl
-  place (undef ty) = stops refl
-  place (input r k) = go (rewrites-of es r) refl
+  covers-next : (r k : ℕ) (x : RegionInputRewrites) → rewrites-of es r ≡ some x → Gives x k (next-value es (input r k)) → (left : List ℕ) (w : Without r left) → Covers left (input r k)
+      → Covers (w .others) (next-value es (input r k))
+  covers-next r k x e g left w c z m = go (c z m)
     where
-      go : (o : Option RegionInputRewrites) → rewrites-of es r ≡ o → Place (input r k)
-      go none p = stops (rw p)
-      go (some x) p = place-by r k x p (in-or-out k (entry-size x))
+      here : (q : ℕ) → names (next-value es (input r k)) ≡ some q → Leads es r q
+      here q n = record { by = x; is = e; at = k; value = next-value es (input r k); gives = g; named = n }
 
-  -- ---- a chain that comes back to a value and ends, stops there
-  comes-back : (n i : ℕ) (v : Value) → after-steps (suc i) es v ≡ v → after-steps (n * suc i) es v ≡ v
-  comes-back zero i v h = let z : 0 * suc i ≡ 0 = omega arith in rw z
-  comes-back (suc n) i v h = let z : suc n * suc i ≡ suc i + n * suc i = omega arith in rw z (after-sum es (suc i) (n * suc i) v ∙ rw h (comes-back n i v h))
-
-  back-stops : (d i : ℕ) (v : Value) → EndsIn es d v → after-steps (suc i) es v ≡ v → Stops es v
-  back-stops d i v e h =
-      let z : after-steps d es v ≡ v = sym (after-more es d (d * suc i) v e (omega arith)) ∙ comes-back d i v h in
-      rw z at (e .ends)
-
-  ends-next : (d : ℕ) (v : Value) → EndsIn es d v → EndsIn es d (next-value es v)
-  ends-next d v e = record { ends = let z = after-more es d (suc d) v e (omega arith) in rw z (e .ends) }
-
-  pub ends-later : (n m : ℕ) (v : Value) → EndsIn es n v → n ≤ m → EndsIn es m v
-  ends-later n m v e l = record { ends = let z = after-more es n m v e l in rw z (e .ends) }
-
-  last-step : (n : ℕ) (v : Value) → after-steps (suc n) es v ≡ next-value es (after-steps n es v)
-  last-step n v = let z : suc n ≡ n + 1 = omega arith in ap (λ m. after-steps m es v) z ∙ after-sum es n 1 v
-
-  -- v was passed on the way to w
-  record Passed (w v : Value) : Type 0 where
-    before : ℕ
-    comes : after-steps (suc before) es v ≡ w
-
-  abbrev Covers : List Value → Value → Type 0
-  Covers left v = (w : Value) → List·Memᴰ w (logged es) → List·Memᴰ w left ⊎ Passed v w
-
-  covers-next : (v : Value) (left : List Value) (x : Without v left) → Covers left v → Covers (x .others) (next-value es v)
-  covers-next v left x c w m = go (c w m)
-    where
-      split : (w ≡ v) ⊎ List·Memᴰ w (x .others) → List·Memᴰ w (x .others) ⊎ Passed (next-value es v) w
-      split (inl p) = inr (record { before = 0; comes = ap (next-value es) p })
+      split : (z ≡ r) ⊎ List·Memᴰ z (w .others) → List·Memᴰ z (w .others) ⊎ ((q : ℕ) → names (next-value es (input r k)) ≡ some q → Path es z q)
+      split (inl same) = inr (λ q n. rw same (one (here q n)))
       split (inr i) = inl i
 
-      go : List·Memᴰ w left ⊎ Passed v w → List·Memᴰ w (x .others) ⊎ Passed (next-value es v) w
-      go (inl i) = split (x .kept w i)
-      go (inr p) = inr (record { before = suc (p .before); comes = last-step (suc (p .before)) w ∙ ap (next-value es) (p .comes) })
+      go : List·Memᴰ z left ⊎ ((q : ℕ) → some r ≡ some q → Path es z q) → List·Memᴰ z (w .others) ⊎ ((q : ℕ) → names (next-value es (input r k)) ≡ some q → Path es z q)
+      go (inl i) = split (w .kept z i)
+      go (inr f) = inr (λ q n. path-then (f r refl) (here q n))
 
-  by-place : (n : ℕ) (left : List Value) (d : ℕ) (v : Value) → EndsIn es d v → Covers left v → (Without v left → EndsIn es n (next-value es v)) → Place v → EndsIn es (suc n) v
-  by-place n left d v e c go (stops h) = ends-later 0 (suc n) v (record { ends = h }) (omega arith)
-  by-place n left d v e c go (last h) = ends-later 1 (suc n) v (record { ends = h }) (omega arith)
-  by-place n left d v e c go (passes m) =
-      elim (c v m) [
-        | inl i ↦ record { ends = go (take-out v left i) .ends }
-        | inr p ↦ ends-later 0 (suc n) v (record { ends = back-stops d (p .before) v e (p .comes) }) (omega arith)
+  ends-by : (n : ℕ) (left : List ℕ) → length left ≡ n → (v : Value) → ValueEnds v → Covers left v
+      → ((m : ℕ) → n ≡ suc m → (l : List ℕ) → length l ≡ m → ValueEnds (next-value es v) → Covers l (next-value es v) → EndsIn es m (next-value es v)) → EndsIn es n v
+  ends-by n left len (const i) h c ih = ends-later es 0 n (const i) (record { ends = refl }) (omega arith)
+  ends-by n left len (held r k) h c ih = ends-later es 0 n (held r k) (record { ends = refl }) (omega arith)
+  ends-by n left len (instr r k) h c ih = ends-later es 0 n (instr r k) (record { ends = refl }) (omega arith)
+  ends-by n left len (output o) h c ih = ends-later es 0 n (output o) (record { ends = refl }) (omega arith)
+  ends-by n left len (bool b) h c ih = ends-later es 0 n (bool b) (record { ends = refl }) (omega arith)
+  ends-by n left len (undef ty) h c ih = ends-later es 0 n (undef ty) (record { ends = refl }) (omega arith)
+  ends-by n left len (input r k) h c ih = go (rewrites-of es r) refl
+    where
+      passed : (x : RegionInputRewrites) → rewrites-of es r ≡ some x → (w : Without r left) → Next es r k x → (m : ℕ) → n ≡ suc m → EndsIn es n (input r k)
+      passed x e w (last s) m l = ends-later es 1 n (input r k) (record { ends = s }) (omega arith)
+      passed x e w (given g) m l = rw l (record { ends = ih m l (w .others) (let z = w .fewer in omega arith) (end-given x k (next-value es (input r k)) (h r refl) e g) (covers-next r k x e g left w c) .ends })
+
+      go : (o : Option RegionInputRewrites) → rewrites-of es r ≡ o → EndsIn es n (input r k)
+      go none e = ends-later es 0 n (input r k) (record { ends = rw e }) (omega arith)
+      go (some x) e = elim (c r (in-logged es r x e)) [
+        | inl i ↦ (let w = take-out r left i in passed x e w (next es r k x e) (length (w .others)) (let z = w .fewer in omega arith))
+        | inr f ↦ absurd (acyclic (h r refl) (f r refl))
       ]
 
-  -- Every logged input is still to be passed or was: as many steps as there are to be passed, and one more.
-  within : (n : ℕ) (left : List Value) → length left ≡ n → (d : ℕ) (v : Value) → EndsIn es d v → Covers left v → EndsIn es (suc n) v
-  within zero left len d v e c = by-place 0 left d v e c (λ x. absurd (let z = x .fewer in omega arith)) (place v)
-  within (suc n) left len d v e c =
-      by-place (suc n) left d v e c (λ x. within n (x .others) (let z = x .fewer in omega arith) d (next-value es v) (ends-next d v e) (covers-next v left x c)) (place v)
+  ends-within : (n : ℕ) (left : List ℕ) → length left ≡ n → (v : Value) → ValueEnds v → Covers left v → EndsIn es n v
+  ends-within zero left len v h c = ends-by 0 left len v h c (λ m l. absurd (omega arith))
+  ends-within (suc n) left len v h c = ends-by (suc n) left len v h c (λ m l t q h′ c′. let same : m ≡ n = omega arith in rw same (ends-within n t (rw same at q) (next-value es v) h′ c′))
 
-  pub ends-soon : (d : ℕ) (v : Value) → EndsIn es d v → EndsIn es (suc (entry-inputs es)) v
-  ends-soon d v e = within (entry-inputs es) (logged es) (logged-length es) d v e (λ w m. inl m)
+  pub value-ends : (v : Value) → ValueEnds v → EndsIn es (length es) v
+  value-ends v h = ends-within (length es) (logged es) (length-map es (λ e. e .region)) v h (λ z m. inl m)
 
-  -- From its end on a chain has one answer.
-  pub chain-same : (n m : ℕ) (v : Value) → EndsIn es n v → EndsIn es m v → rewrite-chain n es v ≡ rewrite-chain m es v
-  chain-same n m v a b =
-      let all = after-more es n (n + m) v a (omega arith) in
-      let both = after-more es m (n + m) v b (omega arith) in
-      chain-steps es n v ∙ sym all ∙ both ∙ sym (chain-steps es m v)
+-- ---- without marks
+names-unmarked : (v : Value) → names (unmarked v) ≡ names v
+names-unmarked (input r k) = refl
+names-unmarked (held r k) = refl
+names-unmarked (const i) = refl
+names-unmarked (instr r k) = refl
+names-unmarked (output o) = refl
+names-unmarked (bool b) = refl
+names-unmarked (undef ty) = refl
 
-  -- What a look-up answers is there after one step more than there are inputs with an entry.
-  pub rewrite-soon : (v : Value) → EndsIn es (chain-fuel es) v → (fuel : ℕ) → entry-inputs es < fuel → rewrite-chain fuel es v ≡ rewrite es v
+record Marked (x : RegionInputRewrites) (k : ℕ) (v : Value) : Type 0 where
+  value : Value
+  gives : Gives x k value
+  is : unmarked value ≡ v
+
+marked : (x : RegionInputRewrites) (k : ℕ) (v : Value) → Gives (unmarked-rewrites x) k v → Marked x k v
+marked (replace-with vs) k v g = record { value = getD vs k (undef 0); gives = refl; is = sym (List·getD-map unmarked vs k (undef 0)) ∙ g }
+marked (renumber-or-replace-with xs) k v g = go (getD xs k (renumber-to k)) refl (sym (List·getD-map unmarked-input xs k (renumber-to k)) ∙ g)
+  where
+    go : (y : InputRewrite) → getD xs k (renumber-to k) ≡ y → unmarked-input y ≡ replace-by v → Marked (renumber-or-replace-with xs) k v
+    go (replace-by w) e h = record { value = w; gives = e; is = let z : unmarked w ≡ v = cc in z }
+    go (renumber-to i) e h = absurd (clash (cc))
+
+end-unmarked : {es : List RewriteEntry} {r : ℕ} → ChainsEnd es r → ChainsEnd (unmarked-log es) r
+end-unmarked {es} {r} (no-more o) = no-more (unmarked-of es r ∙ rw o)
+end-unmarked {es} {r} (goes-on x e h) =
+    goes-on (unmarked-rewrites x) (unmarked-of es r ∙ rw e) (λ k v q g n. let m = marked x k v g in end-unmarked (h k (m .value) q (m .gives) (sym (names-unmarked (m .value)) ∙ ap names (m .is) ∙ n)))
+
+unmarked-length : (es : List RewriteEntry) → length (unmarked-log es) ≡ length es
+unmarked-length [] = refl
+unmarked-length (e ∷ es) = ap suc (unmarked-length es)
+
+-- ---- the fuel of a look-up is more than enough
+less-power : (n : ℕ) → n < 2 ^ n
+less-power zero = omega arith
+less-power (suc n) = let z = pow-suc 2 n in let y = less-power n in omega arith
+
+module _ (es : List RewriteEntry) (all : (r : ℕ) → ChainsEnd es r) where
+  pub rewrite-enough : (v : Value) (fuel : ℕ) → length es ≤ fuel → rewrite-chain fuel es v ≡ rewrite es v
   unfolding rewrite
-  rewrite-soon v e fuel l = chain-same fuel (chain-fuel es) v (ends-later (suc (entry-inputs es)) fuel v (ends-soon (chain-fuel es) v e) l) e
+  rewrite-enough v fuel l =
+      let e = value-ends es v (λ q n. all q) in
+      chain-same es fuel (chain-fuel es) v (ends-later es (length es) fuel v e l) (ends-later es (length es) (chain-fuel es) v e (let z = less-power (length es) in omega arith))
 
-  -- ---- the note `twice` goes along the same chain
-  data MeetsStep (v : Value) : Type 0 where
-    goes-on : ((fuel : ℕ) → meets-chain (suc fuel) es v ≡ meets-chain fuel es (next-value es v)) → MeetsStep v
-    known : (b : Bool) → ((fuel : ℕ) → meets-chain (suc fuel) es v ≡ b) → MeetsStep v
-
-  meets-step : (v : Value) → MeetsStep v
-  unfolding meets-chain
-  meets-step (const i) = known false (λ fuel. refl)
-  meets-step (held r k) = known (changes-again es (held r k)) (λ fuel. refl)
-  meets-step (instr r k) = known false (λ fuel. refl)
-  meets-step (output o) = known false (λ fuel. refl)
-  meets-step (bool b) = known false (λ fuel. refl)
-  meets-step (undef ty) = known false (λ fuel. refl)
-  meets-step (input r k) = go (rewrites-of es r) refl
-    where
-      slot : (xs : List InputRewrite) → rewrites-of es r ≡ some (renumber-or-replace-with xs) → (x : InputRewrite) → getD xs k (renumber-to k) ≡ x → MeetsStep (input r k)
-      slot xs p (replace-by v) q = goes-on (λ fuel. rw (p, q))
-      slot xs p (renumber-to i) q = known false (λ fuel. rw (p, q))
-
-      go : (o : Option RegionInputRewrites) → rewrites-of es r ≡ o → MeetsStep (input r k)
-      go none p = known false (λ fuel. rw p)
-      go (some (replace-with vs)) p = goes-on (λ fuel. rw p)
-      go (some (renumber-or-replace-with xs)) p = slot xs p (getD xs k (renumber-to k)) refl
-
-  stopped-meets : (v : Value) → Stops es v → ((fuel : ℕ) → meets-chain (suc fuel) es v ≡ meets-chain fuel es (next-value es v)) → (fuel : ℕ) → meets-chain fuel es v ≡ false
-  unfolding meets-chain
-  stopped-meets v h go zero = refl
-  stopped-meets v h go (suc fuel) = go fuel ∙ rw h (stopped-meets v h go fuel)
-
-  pub meets-same : (d : ℕ) (v : Value) → EndsIn es d v → (n m : ℕ) → d < n → d < m → meets-chain n es v ≡ meets-chain m es v
-  meets-same d v e zero m a b = absurd (omega arith)
-  meets-same d v e (suc n) zero a b = absurd (omega arith)
-  meets-same zero v e (suc n) (suc m) a b = elim (meets-step v) [
-    | goes-on go ↦ stopped-meets v (e .ends) go (suc n) ∙ sym (stopped-meets v (e .ends) go (suc m))
-    | known x h ↦ h n ∙ sym (h m)
-  ]
-  meets-same (suc d) v e (suc n) (suc m) a b = elim (meets-step v) [
-    | goes-on go ↦ go n ∙ meets-same d (next-value es v) (record { ends = e .ends }) n m (omega arith) (omega arith) ∙ sym (go m)
-    | known x h ↦ h n ∙ sym (h m)
-  ]
-
-  pub meets-soon : (d : ℕ) (v : Value) → EndsIn es d v → d < chain-fuel es → (fuel : ℕ) → suc (entry-inputs es) < fuel → meets-chain fuel es v ≡ meets es v
+  pub meets-enough : (v : Value) (fuel : ℕ) → length es < fuel → meets-chain fuel es v ≡ meets es v
   unfolding meets
-  meets-soon d v e l fuel h =
-      meets-same (suc (entry-inputs es)) v (ends-soon d v e) fuel (fuel + chain-fuel es) h (omega arith) ∙ meets-same d v e (fuel + chain-fuel es) (chain-fuel es) (omega arith) l
+  meets-enough v fuel l = meets-same es (length es) v (value-ends es v (λ q n. all q)) fuel (chain-fuel es) l (less-power (length es))
+
+  pub unmarked-enough : (v : Value) (fuel : ℕ) → length es ≤ fuel → rewrite-unmarked fuel es (unmarked v) ≡ rewrite-unmarked (chain-fuel es) es (unmarked v)
+  unmarked-enough v fuel l =
+      let len = unmarked-length es in
+      let e = value-ends (unmarked-log es) (unmarked v) (λ q n. end-unmarked (all q)) in
+      let a = ends-later (unmarked-log es) (length (unmarked-log es)) fuel (unmarked v) e (omega arith) in
+      let b = ends-later (unmarked-log es) (length (unmarked-log es)) (chain-fuel es) (unmarked v) e (let z = less-power (length es) in omega arith) in
+      unmarked-chain es fuel v ∙ ap unmarked (chain-same (unmarked-log es) fuel (chain-fuel es) (unmarked v) a b) ∙ sym (unmarked-chain es (chain-fuel es) v)

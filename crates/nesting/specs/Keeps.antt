@@ -39,8 +39,11 @@ pub record Steady (L : NestState → NestState → Type 0) : Type 0 where
   pub node : (s : NestState) → L s (with-node s)
   pub merge : (s : NestState) → L s (with-merge s)
   pub output : (x : NodeOutput) (s : NestState) → L s (with-node-outputs (s .node-outputs ++ (x ∷ [])) s)
-  pub rewrites : (x : RewriteEntry) (s : NestState) → L s (with-rewrites (s .region-input-rewrites ++ (x ∷ [])) s)
   pub twice : (b : Bool) (s : NestState) → L s (with-twice b s)
+
+-- and every entry of the log
+abbrev pub KeepsLog : (NestState → NestState → Type 0) → Type 0
+KeepsLog L = (x : RewriteEntry) (s : NestState) → L s (with-rewrites (s .region-input-rewrites ++ (x ∷ [])) s)
 
 module _ {L : NestState → NestState → Type 0} (S : Steady L) (Q : ℕ → Type 0) (q9 : Q 9) where
   abbrev pub Keeps : {A : Type 0} → Step A → Type 0
@@ -90,9 +93,6 @@ module _ {L : NestState → NestState → Type 0} (S : Steady L) (Q : ℕ → Ty
       go true = record { post = S .output new s }
       go false = record { post = q9 }
 
-  pub insert-rewrites-keeps : (r : ℕ) (x : RegionInputRewrites) → Keeps (insert-rewrites r x)
-  insert-rewrites-keeps r x s = record { post = S .rewrites (record { region = r; rewrites = x }) s }
-
   pub rewrite-values-keeps : (vs : List Value) → Keeps (rewrite-values vs)
   unfolding rewrite-values
   rewrite-values-keeps vs s = record { post = S .twice (any (meets (s .region-input-rewrites)) vs) s }
@@ -117,11 +117,6 @@ module _ {L : NestState → NestState → Type 0} (S : Steady L) (Q : ℕ → Ty
     materializes-keep (c & cs) =
         then-keeps (materialize-lazy-cond c) _ (materialize-keeps c) λ v.
         then-keeps (materialize-lazy-conds cs) _ (materializes-keep cs) λ vs. give-keeps (v ∷ vs)
-
-  pub append-keeps : (parent : Nodes) (c : MaybeClaimedRegion) → Keeps (append-maybe-claimed-region parent c)
-  unfolding append-maybe-claimed-region
-  append-keeps parent (err d) = give-keeps _
-  append-keeps parent (ok c) = next-keeps (insert-rewrites (c .structured-body) (replace-with (c .structured-body-inputs))) _ (insert-rewrites-keeps _ _) (give-keeps _)
 
   pub rewrite-cases-keeps : (cs : List MaybeClaimedRegion) → Keeps (rewrite-cases cs)
   unfolding rewrite-cases
@@ -169,44 +164,54 @@ module _ {L : NestState → NestState → Type 0} (S : Steady L) (Q : ℕ → Ty
   select-if-keeps false kind x cs ps = give-keeps _
   select-if-keeps true kind x cs ps = then-keeps (define-select kind x cs) _ (define-select-keeps kind x cs) λ n. then-keeps (emit n ps) _ (emit-keeps n ps) λ d. give-keeps _
 
-  pub replace-inputs-keeps : (cs : List MaybeClaimedRegion) → Keeps (replace-inputs cs)
-  unfolding replace-inputs
-  replace-inputs-keeps [] = give-keeps tt
-  replace-inputs-keeps (err d ∷ cs) = replace-inputs-keeps cs
-  replace-inputs-keeps (ok c ∷ cs) = next-keeps (insert-rewrites (c .structured-body) (replace-with (c .structured-body-inputs))) (replace-inputs cs) (insert-rewrites-keeps _ _) (replace-inputs-keeps cs)
+  -- ---- the steps that insert rewrites
+  module _ (log : KeepsLog L) where
+    pub insert-rewrites-keeps : (r : ℕ) (x : RegionInputRewrites) → Keeps (insert-rewrites r x)
+    insert-rewrites-keeps r x s = record { post = log (record { region = r; rewrites = x }) s }
 
-  module _ (g : Graph) where
-    structurize-select-keeps : (parent : Nodes) (kind : SelectionKind) (x : Scrutinee) (cases : List MaybeClaimedRegion) → Keeps (structurize-select g parent kind x cases)
-    unfolding structurize-select
-    structurize-select-keeps parent kind x cases =
-        then-keeps (rewrite-cases cases) _ (rewrite-cases-keeps cases) λ cs.
-        then-keeps (select-if (any-non-empty-case cases || any-needs-select (plan-bundles g cs)) kind x cases (plan-bundles g cs)) _
-        (select-if-keeps (any-non-empty-case cases || any-needs-select (plan-bundles g cs)) kind x cases (plan-bundles g cs)) λ y.
-        next-keeps (replace-inputs cs) _ (replace-inputs-keeps cs) (give-keeps (record { children = join parent (y .children); deferred-edges = y .deferred-edges }))
+    pub append-keeps : (parent : Nodes) (c : MaybeClaimedRegion) → Keeps (append-maybe-claimed-region parent c)
+    unfolding append-maybe-claimed-region
+    append-keeps parent (err d) = give-keeps _
+    append-keeps parent (ok c) = next-keeps (insert-rewrites (c .structured-body) (replace-with (c .structured-body-inputs))) _ (insert-rewrites-keeps _ _) (give-keeps _)
 
-    pub structurize-select-by-keeps : (parent : Nodes) (kind : SelectionKind) (x : Scrutinee) (cases : List MaybeClaimedRegion) (c : Convergent) → Keeps (structurize-select-by g parent kind x cases c)
-    structurize-select-by-keeps parent kind x cases no-one = structurize-select-keeps parent kind x cases
-    structurize-select-by-keeps parent kind x cases several = structurize-select-keeps parent kind x cases
-    structurize-select-by-keeps parent kind x cases (exactly-one c others) =
-        then-keeps (structurize-select g parent kind x others) _ (structurize-select-keeps parent kind x others) λ y. append-keeps (y .children) c
+    pub replace-inputs-keeps : (cs : List MaybeClaimedRegion) → Keeps (replace-inputs cs)
+    unfolding replace-inputs
+    replace-inputs-keeps [] = give-keeps tt
+    replace-inputs-keeps (err d ∷ cs) = replace-inputs-keeps cs
+    replace-inputs-keeps (ok c ∷ cs) = next-keeps (insert-rewrites (c .structured-body) (replace-with (c .structured-body-inputs))) (replace-inputs cs) (insert-rewrites-keeps _ _) (replace-inputs-keeps cs)
 
-    structurize-loop-keeps : (body : ℕ) (children : Nodes) (backedge : DeferredEdgeBundle) (repeat : LazyCond) (exits : DeferredEdgeBundleSet) (inputs : List Value)
-        → Keeps (structurize-loop g body children backedge repeat exits inputs)
-    unfolding structurize-loop
-    structurize-loop-keeps body children backedge repeat exits inputs =
-        then-keeps define-region _ define-region-keeps λ wrapper.
-        then-keeps (rewrite-values (backedge .target-inputs)) _ (rewrite-values-keeps (backedge .target-inputs)) λ vs.
-        next-keeps (insert-rewrites body (renumber-or-replace-with (take-inputs g body wrapper 0 vs no-inputs .rewrites))) _ (insert-rewrites-keeps _ _)
-        (then-keeps (materialize-lazy-cond repeat) _ (materialize-keeps repeat) λ v. then-keeps define-node _ define-node-keeps λ n. give-keeps (some (loop-claimed g body children exits inputs wrapper vs v n)))
+    module _ (g : Graph) where
+      structurize-select-keeps : (parent : Nodes) (kind : SelectionKind) (x : Scrutinee) (cases : List MaybeClaimedRegion) → Keeps (structurize-select g parent kind x cases)
+      unfolding structurize-select
+      structurize-select-keeps parent kind x cases =
+          then-keeps (rewrite-cases cases) _ (rewrite-cases-keeps cases) λ cs.
+          then-keeps (select-if (any-non-empty-case cases || any-needs-select (plan-bundles g cs)) kind x cases (plan-bundles g cs)) _
+          (select-if-keeps (any-non-empty-case cases || any-needs-select (plan-bundles g cs)) kind x cases (plan-bundles g cs)) λ y.
+          next-keeps (replace-inputs cs) _ (replace-inputs-keeps cs) (give-keeps (record { children = join parent (y .children); deferred-edges = y .deferred-edges }))
 
-    pub claim-body-keeps : (r : ℕ) (inputs : List Value) (children : Nodes) (d : DeferredEdgeBundleSet) (o : Option DeferredEdgeBundle) → Keeps (claim-body g r inputs children d o)
-    claim-body-keeps r inputs children d none = give-keeps _
-    claim-body-keeps r inputs children d (some e) = structurize-loop-keeps r children e _ _ inputs
+      pub structurize-select-by-keeps : (parent : Nodes) (kind : SelectionKind) (x : Scrutinee) (cases : List MaybeClaimedRegion) (c : Convergent) → Keeps (structurize-select-by g parent kind x cases c)
+      structurize-select-by-keeps parent kind x cases no-one = structurize-select-keeps parent kind x cases
+      structurize-select-by-keeps parent kind x cases several = structurize-select-keeps parent kind x cases
+      structurize-select-by-keeps parent kind x cases (exactly-one c others) =
+          then-keeps (structurize-select g parent kind x others) _ (structurize-select-keeps parent kind x others) λ y. append-keeps (y .children) c
 
-    pub by-control-inst-keeps : (parent : Nodes) (x : ControlInst) (cs : List MaybeClaimedRegion) → Keeps (by-control-inst g parent x cs)
-    by-control-inst-keeps parent unreachable cs = give-keeps _
-    by-control-inst-keeps parent (return vs) cs = give-keeps _
-    by-control-inst-keeps parent (exit-invocation op vs) cs = then-keeps define-node _ define-node-keeps λ n. give-keeps _
-    by-control-inst-keeps parent (branch e) [] = give-keeps _
-    by-control-inst-keeps parent (branch e) (c ∷ cs) = append-keeps parent c
-    by-control-inst-keeps parent (select-branch kind v es) cs = structurize-select-by-keeps parent kind (value v) cs (convergent-cases cs)
+      structurize-loop-keeps : (body : ℕ) (children : Nodes) (backedge : DeferredEdgeBundle) (repeat : LazyCond) (exits : DeferredEdgeBundleSet) (inputs : List Value)
+          → Keeps (structurize-loop g body children backedge repeat exits inputs)
+      unfolding structurize-loop
+      structurize-loop-keeps body children backedge repeat exits inputs =
+          then-keeps define-region _ define-region-keeps λ wrapper.
+          then-keeps (rewrite-values (backedge .target-inputs)) _ (rewrite-values-keeps (backedge .target-inputs)) λ vs.
+          next-keeps (insert-rewrites body (renumber-or-replace-with (take-inputs g body wrapper 0 vs no-inputs .rewrites))) _ (insert-rewrites-keeps _ _)
+          (then-keeps (materialize-lazy-cond repeat) _ (materialize-keeps repeat) λ v. then-keeps define-node _ define-node-keeps λ n. give-keeps (some (loop-claimed g body children exits inputs wrapper vs v n)))
+
+      pub claim-body-keeps : (r : ℕ) (inputs : List Value) (children : Nodes) (d : DeferredEdgeBundleSet) (o : Option DeferredEdgeBundle) → Keeps (claim-body g r inputs children d o)
+      claim-body-keeps r inputs children d none = give-keeps _
+      claim-body-keeps r inputs children d (some e) = structurize-loop-keeps r children e _ _ inputs
+
+      pub by-control-inst-keeps : (parent : Nodes) (x : ControlInst) (cs : List MaybeClaimedRegion) → Keeps (by-control-inst g parent x cs)
+      by-control-inst-keeps parent unreachable cs = give-keeps _
+      by-control-inst-keeps parent (return vs) cs = give-keeps _
+      by-control-inst-keeps parent (exit-invocation op vs) cs = then-keeps define-node _ define-node-keeps λ n. give-keeps _
+      by-control-inst-keeps parent (branch e) [] = give-keeps _
+      by-control-inst-keeps parent (branch e) (c ∷ cs) = append-keeps parent c
+      by-control-inst-keeps parent (select-branch kind v es) cs = structurize-select-by-keeps parent kind (value v) cs (convergent-cases cs)

@@ -41,3 +41,6 @@ pub mod CaseWords
 pub mod HeldStays
 pub mod DearestCase
 pub mod FirstClaim
+pub mod ChainSteps
+pub mod Contexts
+pub mod UnclaimedFalls

@@ -16,8 +16,9 @@ use Rattle.nesting.specs.Select.{structurize-select-into}
 use Rattle.nesting.specs.Claim.{Claim, SplitOut, by-control-inst, resolve-by, target-regions, split-out-matching, resolve-deferred, structurize-region}
 use Rattle.nesting.specs.Post.{Post}
 use Rattle.nesting.specs.Keeps.{structurize-select-by-keeps, by-control-inst-keeps}
-use Rattle.nesting.specs.Still.{still-steady}
-use Rattle.nesting.specs.Fewer.{state-of, unclaimed-one, unclaimed-count, unclaimed-most, count-set, Fewer, fewer-still, AnyRefusal, claimed-count, ClaimFewer, target-regions-fewer, split-out-fewer}
+use Rattle.nesting.specs.Still.{still-steady, still-log}
+use Rattle.nesting.specs.Fewer.{state-of, unclaimed-one, unclaimed-count, unclaimed-most, count-set, Fewer, fewer-still, AnyRefusal, claimed-count, ClaimFewer}
+use Rattle.nesting.specs.UnclaimedFalls.{target-regions-fewer, split-out-fewer}
 
 -- Two ways to go on that agree on what the step gives.
 pub follow-same : {A B : Type 0} {Q : ℕ → Type 0} {P : A → NestState → Type 0} (x : Answer A) (k k′ : A → Step B) → Post Q P x → ((a : A) (s : NestState) → P a s → k a s ≡ k′ a s)
@@ -42,7 +43,7 @@ module _ (g : Graph) (claim : Claim) (claim-fewer : ClaimFewer claim) where
           let cs = ok (y .claimed-region) ∷ err (y .others) ∷ [] in
           let scrutinee = lazy (condition-in (x .deferred-edges) (y .bundle)) in
           follow-same (structurize-select-into g (x .children) bool-cond scrutinee cs s₁) _ _
-          (structurize-select-by-keeps still-steady AnyRefusal tt g (x .children) bool-cond scrutinee cs (convergent-cases cs) s₁) λ z s₂ q.
+          (structurize-select-by-keeps still-steady AnyRefusal tt still-log g (x .children) bool-cond scrutinee cs (convergent-cases cs) s₁) λ z s₂ q.
           ih z s₂ (let a = fewer-still q in omega arith)
 
   -- structurize-region with another fuel for its loop
@@ -64,6 +65,6 @@ module _ (g : Graph) (claim : Claim) (claim-fewer : ClaimFewer claim) where
       let was = ap unclaimed-one new in
       let most = unclaimed-most (s .region-states) in
       follow-same (target-regions g claim (edgesOf (region g r .terminator)) s₀) _ _ (target-regions-fewer g claim claim-fewer (edgesOf (region g r .terminator)) s₀) λ cs s₁ a.
-      follow-same (by-control-inst g (blocks-of g r) (region g r .terminator) cs s₁) _ _ (by-control-inst-keeps still-steady AnyRefusal tt g (blocks-of g r) (region g r .terminator) cs s₁) λ x s₂ q.
+      follow-same (by-control-inst g (blocks-of g r) (region g r .terminator) cs s₁) _ _ (by-control-inst-keeps still-steady AnyRefusal tt still-log g (blocks-of g r) (region g r .terminator) cs s₁) λ x s₂ q.
       ap (λ z. follow z (λ y. set-state r (ready (count-to r (y .deferred-edges)) (y .children) (y .deferred-edges))))
       (resolve-same (length (g .regions)) fuel x s₂ (let b = fewer-still q in omega arith) l)

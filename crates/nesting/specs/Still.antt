@@ -1,7 +1,7 @@
 -- What changes neither a region's state nor the number of attempts, as selects and loops do not.
 use mathlib.Core.Path.{_≡_, refl, _∙_}
 use Rattle.nesting.specs.State.{NestState}
-use Rattle.nesting.specs.Keeps.{Steady}
+use Rattle.nesting.specs.Keeps.{Steady, KeepsLog}
 
 pub record Still (s s′ : NestState) : Type 0 where
   pub states : s′ .region-states ≡ s .region-states
@@ -21,6 +21,8 @@ still-steady = record {
   node = λ s. record { states = refl; attempts = refl };
   merge = λ s. record { states = refl; attempts = refl };
   output = λ x s. record { states = refl; attempts = refl };
-  rewrites = λ x s. record { states = refl; attempts = refl };
   twice = λ b s. record { states = refl; attempts = refl };
 }
+
+pub still-log : KeepsLog Still
+still-log x s = record { states = refl; attempts = refl }

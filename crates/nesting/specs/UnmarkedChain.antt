@@ -1,16 +1,14 @@
--- The look-up without marks, by which `twice` is judged, follows the chain of a log without marks: what holds of chains holds of it.
-use mathlib.Core.Path.{_≡_, refl, sym, ap, _∙_}
+-- The look-up without marks, by which `twice` is judged, follows the chain of a log without marks.
+use mathlib.Core.Path.{_≡_, refl, sym}
 use mathlib.Core.Bool.{Bool, true, false}
 use mathlib.Core.List.{List, [], _∷_, map}
 use mathlib.Core.Option.{Option, none, some}
-use Prim.Native.Nat.{ℕ, zero, suc, _<_}
-use native.Mathlib.Omega.{arith}
-use lib.ListN.{getD, length-map, List·getD-map}
+use Prim.Native.Nat.{ℕ, zero, suc}
+use lib.ListN.{getD, List·getD-map}
 use lib.Dec.{eqb}
 use Rattle.meaning.specs.Graph.{Value, const, input, instr, output, bool, undef, held, pick}
 use Rattle.nesting.specs.State.{InputRewrite, renumber-to, replace-by, RegionInputRewrites, replace-with, renumber-or-replace-with, RewriteEntry}
-use Rattle.nesting.specs.Rewrite.{rewrites-of, step-chain, step-input, chain-fuel, rewrite-chain, unmarked, step-unmarked-input, step-unmarked, rewrite-unmarked}
-use Rattle.nesting.specs.ChainEnds.{EndsIn, entry-size, entry-inputs, ends-later, ends-soon, chain-same}
+use Rattle.nesting.specs.Rewrite.{rewrites-of, step-chain, step-input, rewrite-chain, unmarked, step-unmarked-input, step-unmarked, rewrite-unmarked}
 
 abbrev pub unmarked-input : InputRewrite → InputRewrite
 unmarked-input (replace-by v) = replace-by (unmarked v)
@@ -28,7 +26,7 @@ abbrev pub unmarked-entry : Option RegionInputRewrites → Option RegionInputRew
 unmarked-entry none = none
 unmarked-entry (some x) = some (unmarked-rewrites x)
 
-unmarked-of : (es : List RewriteEntry) (r : ℕ) → rewrites-of (unmarked-log es) r ≡ unmarked-entry (rewrites-of es r)
+pub unmarked-of : (es : List RewriteEntry) (r : ℕ) → rewrites-of (unmarked-log es) r ≡ unmarked-entry (rewrites-of es r)
 unmarked-of [] r = refl
 unmarked-of (e ∷ es) r = go (eqb r (e .region)) (unmarked-of es r)
   where
@@ -36,14 +34,6 @@ unmarked-of (e ∷ es) r = go (eqb r (e .region)) (unmarked-of es r)
         → pick b (some (unmarked-rewrites (e .rewrites))) (rewrites-of (unmarked-log es) r) ≡ unmarked-entry (pick b (some (e .rewrites)) (rewrites-of es r))
     go true ih = refl
     go false ih = ih
-
-same-inputs : (es : List RewriteEntry) → entry-inputs (unmarked-log es) ≡ entry-inputs es
-same-inputs [] = refl
-same-inputs (e ∷ es) = let z = size (e .rewrites) in let y = same-inputs es in omega arith
-  where
-    size : (x : RegionInputRewrites) → entry-size (unmarked-rewrites x) ≡ entry-size x
-    size (replace-with vs) = length-map vs unmarked
-    size (renumber-or-replace-with xs) = length-map xs unmarked-input
 
 module _ (es : List RewriteEntry) where
   -- at input k of region r, where the look-up goes on as `before` says
@@ -76,10 +66,3 @@ module _ (es : List RewriteEntry) where
   unmarked-chain (suc fuel) (undef ty) = refl
   unmarked-chain (suc fuel) (input r k) = let z = unmarked-of es r in rw z (at-input fuel (λ v. unmarked-chain fuel v) r k (rewrites-of es r))
   unmarked-chain (suc fuel) (held r k) = let z = unmarked-of es r in rw z (at-input fuel (λ v. unmarked-chain fuel v) r k (rewrites-of es r))
-
-  pub unmarked-soon : (v : Value) → EndsIn (unmarked-log es) (chain-fuel es) (unmarked v) → (fuel : ℕ) → entry-inputs es < fuel
-      → rewrite-unmarked fuel es (unmarked v) ≡ rewrite-unmarked (chain-fuel es) es (unmarked v)
-  unmarked-soon v e fuel l =
-      let soon = ends-soon (unmarked-log es) (chain-fuel es) (unmarked v) e in
-      let later = ends-later (unmarked-log es) (suc (entry-inputs (unmarked-log es))) fuel (unmarked v) soon (let z = same-inputs es in omega arith) in
-      unmarked-chain fuel v ∙ ap unmarked (chain-same (unmarked-log es) fuel (chain-fuel es) (unmarked v) later e) ∙ sym (unmarked-chain (chain-fuel es) v)

@@ -1,0 +1,120 @@
+-- A look-up's chain step by step: once it has ended, any further fuel gives the same answer.
+use mathlib.Core.Path.{_≡_, refl, sym, _∙_}
+use mathlib.Core.Bool.{Bool, false}
+use mathlib.Core.List.{List, []}
+use mathlib.Core.Option.{Option, none, some}
+use Prim.Native.Nat.{ℕ, zero, suc, _+_, _-_, _≤_, _<_}
+use native.Mathlib.Omega.{arith}
+use lib.ListN.{getD}
+use Rattle.meaning.specs.Graph.{Value, const, input, instr, output, bool, undef, held}
+use Rattle.nesting.specs.State.{InputRewrite, renumber-to, replace-by, RegionInputRewrites, replace-with, renumber-or-replace-with, RewriteEntry}
+use Rattle.nesting.specs.Rewrite.{rewrites-of, step-input, step-chain, rewrite-chain, changes-again, meets-chain}
+
+-- ---- a chain step by step
+abbrev pub next-value : List RewriteEntry → Value → Value
+next-value es (input r k) = step-chain (λ v. v) r k (rewrites-of es r)
+next-value es (const i) = const i
+next-value es (held r k) = held r k
+next-value es (instr r k) = instr r k
+next-value es (output o) = output o
+next-value es (bool b) = bool b
+next-value es (undef ty) = undef ty
+
+abbrev pub after-steps : ℕ → List RewriteEntry → Value → Value
+after-steps zero es v = v
+after-steps (suc n) es v = after-steps n es (next-value es v)
+
+module _ (es : List RewriteEntry) where
+  abbrev pub Stops : Value → Type 0
+  Stops v = next-value es v ≡ v
+
+  stops-after : (n : ℕ) (v : Value) → Stops v → after-steps n es v ≡ v
+  stops-after zero v h = refl
+  stops-after (suc n) v h = rw h (stops-after n v h)
+
+  after-sum : (n m : ℕ) (v : Value) → after-steps (n + m) es v ≡ after-steps m es (after-steps n es v)
+  after-sum zero m v = let z : 0 + m ≡ m = omega arith in rw z
+  after-sum (suc n) m v = let z : suc n + m ≡ suc (n + m) = omega arith in rw z (after-sum n m (next-value es v))
+
+  -- The chain of v ends within n steps.
+  pub record EndsIn (n : ℕ) (v : Value) : Type 0 where
+    pub ends : Stops (after-steps n es v)
+
+  after-more : (n m : ℕ) (v : Value) → EndsIn n v → n ≤ m → after-steps m es v ≡ after-steps n es v
+  after-more n m v h l = go (m - n) (omega arith)
+    where
+      go : (k : ℕ) → m ≡ n + k → after-steps m es v ≡ after-steps n es v
+      go k e = rw e (after-sum n k v ∙ stops-after k (after-steps n es v) (h .ends))
+
+  -- ---- that is what rewrite-chain does
+  pub chain-steps : (fuel : ℕ) (v : Value) → rewrite-chain fuel es v ≡ after-steps fuel es v
+  unfolding rewrite-chain
+  chain-steps zero v = refl
+  chain-steps (suc fuel) (const i) = sym (stops-after fuel (const i) refl)
+  chain-steps (suc fuel) (held r k) = sym (stops-after fuel (held r k) refl)
+  chain-steps (suc fuel) (instr r k) = sym (stops-after fuel (instr r k) refl)
+  chain-steps (suc fuel) (output o) = sym (stops-after fuel (output o) refl)
+  chain-steps (suc fuel) (bool b) = sym (stops-after fuel (bool b) refl)
+  chain-steps (suc fuel) (undef ty) = sym (stops-after fuel (undef ty) refl)
+  chain-steps (suc fuel) (input r k) = go (rewrites-of es r) refl (λ v. chain-steps fuel v)
+    where
+      slot : (x : InputRewrite) → ((v : Value) → rewrite-chain fuel es v ≡ after-steps fuel es v) → step-input (λ v. rewrite-chain fuel es v) r x ≡ after-steps fuel es (step-input (λ v. v) r x)
+      slot (replace-by v) ih = ih v
+      slot (renumber-to i) ih = sym (stops-after fuel (held r i) refl)
+
+      go : (o : Option RegionInputRewrites) → rewrites-of es r ≡ o → ((v : Value) → rewrite-chain fuel es v ≡ after-steps fuel es v)
+          → step-chain (λ v. rewrite-chain fuel es v) r k o ≡ after-steps fuel es (step-chain (λ v. v) r k o)
+      go none p ih = sym (stops-after fuel (input r k) (rw p))
+      go (some (replace-with vs)) p ih = ih (getD vs k (undef 0))
+      go (some (renumber-or-replace-with xs)) p ih = slot (getD xs k (renumber-to k)) ih
+
+  pub ends-later : (n m : ℕ) (v : Value) → EndsIn n v → n ≤ m → EndsIn m v
+  ends-later n m v e l = record { ends = let z = after-more n m v e l in rw z (e .ends) }
+
+  -- From its end on a chain has one answer.
+  pub chain-same : (n m : ℕ) (v : Value) → EndsIn n v → EndsIn m v → rewrite-chain n es v ≡ rewrite-chain m es v
+  chain-same n m v a b =
+      let all = after-more n (n + m) v a (omega arith) in
+      let both = after-more m (n + m) v b (omega arith) in
+      chain-steps n v ∙ sym all ∙ both ∙ sym (chain-steps m v)
+
+  -- ---- the note `twice` goes along the same chain
+  data MeetsStep (v : Value) : Type 0 where
+    goes-on : ((fuel : ℕ) → meets-chain (suc fuel) es v ≡ meets-chain fuel es (next-value es v)) → MeetsStep v
+    known : (b : Bool) → ((fuel : ℕ) → meets-chain (suc fuel) es v ≡ b) → MeetsStep v
+
+  meets-step : (v : Value) → MeetsStep v
+  unfolding meets-chain
+  meets-step (const i) = known false (λ fuel. refl)
+  meets-step (held r k) = known (changes-again es (held r k)) (λ fuel. refl)
+  meets-step (instr r k) = known false (λ fuel. refl)
+  meets-step (output o) = known false (λ fuel. refl)
+  meets-step (bool b) = known false (λ fuel. refl)
+  meets-step (undef ty) = known false (λ fuel. refl)
+  meets-step (input r k) = go (rewrites-of es r) refl
+    where
+      slot : (xs : List InputRewrite) → rewrites-of es r ≡ some (renumber-or-replace-with xs) → (x : InputRewrite) → getD xs k (renumber-to k) ≡ x → MeetsStep (input r k)
+      slot xs p (replace-by v) q = goes-on (λ fuel. rw (p, q))
+      slot xs p (renumber-to i) q = known false (λ fuel. rw (p, q))
+
+      go : (o : Option RegionInputRewrites) → rewrites-of es r ≡ o → MeetsStep (input r k)
+      go none p = known false (λ fuel. rw p)
+      go (some (replace-with vs)) p = goes-on (λ fuel. rw p)
+      go (some (renumber-or-replace-with xs)) p = slot xs p (getD xs k (renumber-to k)) refl
+
+  stopped-meets : (v : Value) → Stops v → ((fuel : ℕ) → meets-chain (suc fuel) es v ≡ meets-chain fuel es (next-value es v)) → (fuel : ℕ) → meets-chain fuel es v ≡ false
+  unfolding meets-chain
+  stopped-meets v h go zero = refl
+  stopped-meets v h go (suc fuel) = go fuel ∙ rw h (stopped-meets v h go fuel)
+
+  pub meets-same : (d : ℕ) (v : Value) → EndsIn d v → (n m : ℕ) → d < n → d < m → meets-chain n es v ≡ meets-chain m es v
+  meets-same d v e zero m a b = absurd (omega arith)
+  meets-same d v e (suc n) zero a b = absurd (omega arith)
+  meets-same zero v e (suc n) (suc m) a b = elim (meets-step v) [
+    | goes-on go ↦ stopped-meets v (e .ends) go (suc n) ∙ sym (stopped-meets v (e .ends) go (suc m))
+    | known x h ↦ h n ∙ sym (h m)
+  ]
+  meets-same (suc d) v e (suc n) (suc m) a b = elim (meets-step v) [
+    | goes-on go ↦ go n ∙ meets-same d (next-value es v) (record { ends = e .ends }) n m (omega arith) (omega arith) ∙ sym (go m)
+    | known x h ↦ h n ∙ sym (h m)
+  ]
