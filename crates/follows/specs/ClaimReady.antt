@@ -31,7 +31,7 @@ use Rattle.follows.specs.Conditions.{Mat, mat-stays}
 use Rattle.follows.specs.Leads.{Sim, leads-on}
 use Rattle.follows.specs.Bundles.{Distinct, find-in, found-in, same-target-sym, same-target→eq}
 use Rattle.follows.specs.LoopFollows.{HeaderInput, loop-sim}
-use Rattle.follows.specs.Final.{NotOf, at-slot, gives, held-stays, step-none}
+use Rattle.follows.specs.Final.{NotOf, of-rewrite, gives, held-stays, step-none}
 use Rattle.follows.specs.Defined.{Grew, IfDone, Materialized, define-node-post, define-region-post, grew-then, materialize-post}
 use Rattle.follows.specs.Scope.{EntryOk, InScope, SetOk, Within, own-input, owned}
 use Rattle.follows.specs.Invariant.{Free, Inv, Later, New, Owned, Rewritable, free⁺, idle, inv-grew, inv-rewrite, later-grew, later-refl, later-rewrite, later-then, new, old, rewritable⁺, rewriting, unborn, waiting}
@@ -59,6 +59,7 @@ loop-within : (n : ℕ) (init : List Value) (r : ℕ) (tys : List ℕ) (limit : 
 unfolding owns-nodes
 loop-within n init r tys limit ks os rep = record { into = λ v p. rw (p, or-true (is-held r v)) }
 
+-- a step that a branch gives, at a state
 abbrev pub at-state : {A : Type 0} → Step A → NestState → Answer A
 at-state x s = x s
 
@@ -71,9 +72,16 @@ alone (e ∷ []) p x y (inr i) k = absurd i
 alone (e ∷ e′ ∷ d) p x y i k = absurd (omega arith)
 
 module _ (W : World) where
+  -- What a claim of region r with these inputs at s gives: a region that is held at s′, and was none of the caller's.
+  pub record Gives (r : ℕ) (ins : List Value) (s s′ : NestState) (c : ClaimedRegion) : Type 0 where
+    pub holds : Holds W c s′
+    pub since : Since W s c
+    pub origin : c .origin ≡ r
+    pub inputs : c .structured-body-inputs ≡ ins
+
   abbrev pub Got : ℕ → List Value → NestState → NestState → Option ClaimedRegion → Type 0
   Got r ins s s′ none = Unit
-  Got r ins s s′ (some c) = Holds W c s′ × Since W s c × (c .origin ≡ r) × (c .structured-body-inputs ≡ ins)
+  Got r ins s s′ (some c) = Gives r ins s s′ c
 
   pub record ClaimDone (r : ℕ) (ins : List Value) (s : NestState) (o : Option ClaimedRegion) (s′ : NestState) : Type 0 where
     pub inv : Inv W s′
@@ -121,12 +129,18 @@ module _ (W : World) where
     plain-done ins = record {
       inv = inv₁;
       step = step₁;
-      got = (
-        record { sim = h .sims r b ks d is-ready; set = h .sets r b ks d is-ready; clear = clear₁; closed = not-rewritable W s r claimed h r-in was refl; unrewritten = h .unrewritten r (waiting r-in was) },
-        record { children = λ v o. old (mine v o); region = waiting r-in was },
-        refl,
-        refl,
-      );
+      got = record {
+        holds = record {
+          sim = h .sims r b ks d is-ready;
+          set = h .sets r b ks d is-ready;
+          clear = clear₁;
+          closed = not-rewritable W s r claimed h r-in was refl;
+          unrewritten = h .unrewritten r (waiting r-in was);
+        };
+        since = record { children = λ κ o. old (mine κ o); region = waiting r-in was };
+        origin = refl;
+        inputs = refl;
+      };
     }
 
     -- ---- a loop
@@ -204,7 +218,7 @@ module _ (W : World) where
         gives-not : (k : ℕ) → NotOf r (rewrite-chain (inv₃ .ends .steps) (s₃ .region-input-rewrites) (gives r k (renumber-or-replace-with (x .rewrites))))
         gives-not k = by (getD (x .rewrites) k (renumber-to k)) refl
           where
-            by : (sl : InputRewrite) → getD (x .rewrites) k (renumber-to k) ≡ sl → NotOf r (rewrite-chain (inv₃ .ends .steps) (s₃ .region-input-rewrites) (at-slot r sl))
+            by : (sl : InputRewrite) → getD (x .rewrites) k (renumber-to k) ≡ sl → NotOf r (rewrite-chain (inv₃ .ends .steps) (s₃ .region-input-rewrites) (of-rewrite r sl))
             by (renumber-to i) p = rw (held-stays (s₃ .region-input-rewrites) (inv₃ .ends .steps) r i) tt
             by (replace-by v) p = at (leb (suc k) (length vs)) refl
               where
@@ -312,18 +326,18 @@ module _ (W : World) where
           loop-done = record {
             inv = inv-grew W gr₄₆ inv₄;
             step = step₆;
-            got = (
-              record {
+            got = record {
+              holds = record {
                 sim = leads-on W (record { rewrites = later-grew W gr₄₆ .gains .rewrites; outputs = gr₆ .outputs }) looped-sim;
                 set = looped-set;
                 clear = looped-clear;
                 closed = λ l. closed₃ (rewritable⁺ W s₃ r (renumber-or-replace-with (x .rewrites)) w (later-grew W gr₄₆ .rewritable w l));
                 unrewritten = w-unrewritten₆;
-              },
-              record { children = λ u o. since u (loop-owns n (x .initial-inputs) r (x .types) (region (W .g) r .limit) ks (x .outputs) v u o); region = w-open },
-              refl,
-              refl,
-            );
+              };
+              since = record { children = λ κ o. since κ (loop-owns n (x .initial-inputs) r (x .types) (region (W .g) r .limit) ks (x .outputs) v κ o); region = w-open };
+              origin = refl;
+              inputs = refl;
+            };
           }
             where
               since : (κ : Key) → (κ ≡ of-held r) ⊎ (owns-nodes ks κ ≡ true) → Free s κ

@@ -88,7 +88,13 @@ module _ (W : World) where
 
   done-back : (r : ℕ) (ins : List Value) (s s₁ : NestState) → Later W s s₁ → (o : Option ClaimedRegion) (s′ : NestState) → ClaimDone W r ins s₁ o s′ → ClaimDone W r ins s o s′
   done-back r ins s s₁ st none s′ cd = record { inv = cd .inv; step = later-then W st (cd .step); got = tt }
-  done-back r ins s s₁ st (some c) s′ cd = record { inv = cd .inv; step = later-then W st (cd .step); got = (cd .got .0, since-back W st (cd .got .1), cd .got .2, cd .got .3) }
+  done-back r ins s s₁ st (some c) s′ cd =
+      record {
+        inv = cd .inv;
+        step = later-then W st (cd .step);
+        got =
+            record { holds = cd .got .holds; since = since-back W st (cd .got .since); origin = cd .got .origin; inputs = cd .got .inputs };
+      }
 
   pub claim-post : (counts : List IncomingEdgeCount) (d : ℕ) → ClaimOk W (try-claim-edge-bundle (W .g) counts d)
   unfolding try-claim-edge-bundle

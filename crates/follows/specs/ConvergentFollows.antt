@@ -4,8 +4,7 @@ use mathlib.Core.List.{List, [], map}
 use mathlib.Core.Logic.{_⊎_, inl, inr}
 use mathlib.Core.Option.{none, some}
 use mathlib.Core.Path.{_∙_, _≡_, ap, refl, subst, sym}
-use Prim.Native.Nat.{_+_, _<_, _≤_, ℕ}
-use native.Mathlib.Omega.{arith}
+use Prim.Native.Nat.{_<_, _≤_, ℕ}
 use lib.Dec.{eqb}
 use lib.ListN.{length}
 use Rattle.meaning.specs.Form.{Cases, Nodes, _▸_, select, ⟨⟩}
@@ -24,15 +23,15 @@ use Rattle.follows.specs.Key.{Key, is-node, key, key-constant, owns-case
 use Rattle.follows.specs.World.{World, ar, runs}
 use Rattle.follows.specs.Tables.{Gains, Resolver, Respects, Tables, respects-back, tables}
 use Rattle.follows.specs.Frame.{outputs-kept}
-use Rattle.follows.specs.Leads.{Based, Leads, Sim, Tracks, forms-join, leads-then, then-on, then-runs}
+use Rattle.follows.specs.Leads.{Based, Leads, Sim, Tracks, leads-then, rewrite-join, then-runs}
 use Rattle.follows.specs.SelectGoes.{outputs-set}
-use Rattle.follows.specs.SelectRuns.{case-run, children-at, count-form}
+use Rattle.follows.specs.SelectRuns.{select-runs}
 use Rattle.follows.specs.Defined.{IfDone}
 use Rattle.follows.specs.Scope.{Agrees, Scoped, in-apart, scoped-later, set-later, within-left}
 use Rattle.follows.specs.Holding.{Came, CaseOk, CasesOk, Doing}
 use Rattle.follows.specs.EnterCase.{Enters, ScrutineeIs, Takes, children-in, enter-follows}
 use Rattle.follows.specs.SelectDefined.{CasesFrom, cases-apart, cases-children, cases-count, scrutinee-stays}
-use Rattle.follows.specs.SelectSteps.{All, Moved, Shape, holds-moved, made, moved-then, structurize-select-post, unmade}
+use Rattle.follows.specs.SelectSteps.{Moved, SelectDone, Shape, holds-moved, made, moved-then, structurize-select-post, unmade}
 use Rattle.follows.specs.SelectFollows.{based-pay, entered, enters-same, far-made, no-children, none-owns, not-out, pay-agrees, select-set, select-sim}
 use Rattle.follows.specs.Append.{Appended, TailIs, append-post}
 use Rattle.follows.specs.ConvergentCase.{Converges, converges}
@@ -42,16 +41,6 @@ join-assoc ⟨⟩ b c = refl
 join-assoc (x ▸ a) b c = ap (λ k. x ▸ k) (join-assoc a b c)
 
 module _ (W : World) where
-  -- ---- the run of a defined select
-  select-runs : (ρ : Resolver) (os : List NodeOutput) (b n : ℕ) (kind : SelectionKind) (sc : Value) (ccs : Cases) (j w : ℕ) (ksj : Nodes) (st : RunState)
-      → children-at ccs j ≡ some ksj → st .env (ρ sc) ≡ word w → place-taken kind w (case-count ccs) ≡ j
-      → runs W b (rewrite-nodes ρ os (select n kind sc [] ccs ▸ ⟨⟩)) st ≡ and-then (runs W b (rewrite-nodes ρ os ksj) (pay (W .g .test-cost) st))
-      (λ s′. through (outputs-set ρ os n j s′))
-  unfolding run-nodes rewrite-nodes
-  select-runs ρ os b n kind sc ccs j w ksj st kj tests takes =
-      let z : 0 + j ≡ j = omega arith in
-      rw (then-on _, tests, count-form ρ os ccs n 0, takes, case-run ρ os (W .rule) (W .g .test-cost) b ccs n 0 j ksj (pay (W .g .test-cost) st) kj, z)
-
   ends-there : (ρ : Resolver) (os : List NodeOutput) (n : ℕ) (x : MaybeClaimedRegion) (d : DeferredEdgeBundleSet) (e : End) (h : List Event) (R : Ran) (k : RunState
       → Ran) → deferred-of x ≡ [] → Tracks W ρ os n (deferred-of x) e h R → Tracks W ρ os n d e h (and-then R k)
   ends-there ρ os n x d e h (through s) k p fl = absurd (subst (λ l. In (fl .leads-to .entry) l) p (fl .leads-to .chosen .member))
@@ -76,7 +65,7 @@ module _ (W : World) where
       (dg : Doing W s₀ r ks s) (fit : CasesOk W s₀ r ks s cases)
       (scrutinee-ok : (T : Tables) → Gains (tables s) T → (v : Value) → ScrutineeIs sc (T .outputs) v → Scoped T r (ar W r) ks v)
       (ld : Leads W r r ks (tables s) (Takes W kind sc cases)) where
-    all-came : (x : Body) (s′ : NestState) → All W s₀ r ks kind sc cases s dg fit x s′ → Came W s₀ r (x .children) (x .deferred-edges) s′
+    all-came : (x : Body) (s′ : NestState) → SelectDone W s₀ r ks kind sc cases s dg fit x s′ → Came W s₀ r (x .children) (x .deferred-edges) s′
     all-came x s′ al = subst (λ k. Came W s₀ r k (x .deferred-edges) s′) (sym (al .children-is)) (record
         { doing = al .doing; sim = select-sim W s₀ r ks kind sc cases s dg fit scrutinee-ok x s′ al ld; set = select-set W s₀ r ks kind sc cases s dg fit scrutinee-ok x s′ al })
 
@@ -91,7 +80,7 @@ module _ (W : World) where
       c-in : In c cases
       c-in = nth-in cases (cv .at) c (cv .is)
 
-      module _ (x : Body) (s₁ : NestState) (al : All W s₀ r ks kind sc rest s dg ok′ x s₁) where
+      module _ (x : Body) (s₁ : NestState) (al : SelectDone W s₀ r ks kind sc rest s dg ok′ x s₁) where
         tail : (c : MaybeClaimedRegion) → CaseOk W s₀ r ks s c
             → ((y : ClaimedRegion) → c ≡ ok y → (z : ClaimedRegion) → In (ok z) rest → eqb (y .structured-body) (z .structured-body) ≡ false)
             → TailIs W s₀ r (join ks (al .more)) s₁ c
@@ -171,7 +160,7 @@ module _ (W : World) where
                     let en : Enters W ρ os k e h st c = subst (λ z. Enters W ρ os k e h st z) is-c (tk .enters) in
                     rw (
                       te,
-                      select-runs ρ os b (n .node) (n .kind) (n .scrutinee) ccs (tk .place-of) (tst .0) ⟨⟩ st
+                      select-runs W ρ os b (n .node) (n .kind) (n .scrutinee) ccs (tk .place-of) (tst .0) ⟨⟩ st
                           (cases-children rest ccs mf (tk .place-of) (err []) blank) (tst .1) takes,
                     )
                     (none-runs ρ os k b e h (n .node) (tk .place-of) st (tailRun ρ os b c)
@@ -181,7 +170,7 @@ module _ (W : World) where
                     let i = nth-in rest (tk .place-of) z there in
                     rw (
                       te,
-                      select-runs ρ os b (n .node) (n .kind) (n .scrutinee) ccs (tk .place-of) (tst .0) (children-in z) st
+                      select-runs W ρ os b (n .node) (n .kind) (n .scrutinee) ccs (tk .place-of) (tst .0) (children-in z) st
                           (cases-children rest ccs mf (tk .place-of) z there) (tst .1) takes,
                       and-assoc (runs W b (rewrite-nodes ρ os (children-in z)) (pay (W .g .test-cost) st)) (λ s′. through (outputs-set ρ os (n .node) (tk .place-of) s′))
                           (tailRun ρ os b c),
@@ -213,7 +202,7 @@ module _ (W : World) where
           just-sim : Sim W r r (join ks (join (al .more) (children-in c))) (deferred-of c) (tables s₂)
           just-sim = leads-then W (join (al .more) (children-in c)) (deferred-of c) (Takes W kind sc cases) ld (moves₂ .gains)
               λ ρ os res b n le st bs apart e h tk.
-              rw (forms-join ρ os (al .more) (children-in c), then-runs W b (rewrite-nodes ρ os (al .more)) (rewrite-nodes ρ os (children-in c)) st)
+              rw (rewrite-join ρ os (al .more) (children-in c), then-runs W b (rewrite-nodes ρ os (al .more)) (rewrite-nodes ρ os (children-in c)) st)
               (by ρ os res b n le st bs apart e h tk (al .more) refl (al .shape))
             where
               by : (ρ : Resolver) (os : List NodeOutput) → Respects ρ os (tables s₂) → (b n : ℕ) → n ≤ b → (st : RunState) → Based W st

@@ -11,7 +11,7 @@ use Rattle.meaning.specs.Graph.{SelectionKind, Value, input, undef}
 use Rattle.meaning.specs.NestedRun.{Ran, ended, no-end, run-nodes, through}
 use Rattle.meaning.specs.Run.{End, Event, RunState, Word, mark, place-taken, word}
 use Rattle.nesting.specs.Case.{ClaimedRegion, MaybeClaimedRegion, Scrutinee, deferred-of, err, lazy, ok, value}
-use Rattle.nesting.specs.Deferred.{DeferredEdgeBundle, DeferredEdgeBundleSet, DeferredTarget, to-region, to-return}
+use Rattle.nesting.specs.Deferred.{DeferredEdgeBundle, DeferredEdgeBundleSet, DeferredTarget, to-region}
 use Rattle.nesting.specs.Last.{rewrite-nodes}
 use Rattle.nesting.specs.Rewrite.{rewrite}
 use Rattle.nesting.specs.Select.{rewrite-bundle, rewrite-case}
@@ -21,7 +21,7 @@ use Rattle.follows.specs.Key.{Key, key, nodes-none, owns-nodes}
 use Rattle.follows.specs.World.{World, ar, runs}
 use Rattle.follows.specs.Tables.{Resolver, Respects, Tables, tables}
 use Rattle.follows.specs.Conditions.{Mat}
-use Rattle.follows.specs.Leads.{Based, Goes, OnwardTo, Tracks, tracks-less}
+use Rattle.follows.specs.Leads.{Based, Goes, OnwardTo, Tracks, onward-reads, tracks-less}
 use Rattle.follows.specs.Bundles.{Distinct}
 use Rattle.follows.specs.Final.{final-stays}
 use Rattle.follows.specs.Scope.{EntryOk, SetOk, in-apart, scoped-rewritten}
@@ -86,8 +86,7 @@ module _ (W : World) where
 
   onward-rewritten : (ρ σ : Resolver) → ((v : Value) → ρ (σ v) ≡ ρ v) → (s : RunState) (n : ℕ) (e : End) (h : List Event) (x : DeferredTarget) (vs : List Value)
       → OnwardTo W ρ s n e h x vs → OnwardTo W ρ s n e h x (map σ vs)
-  onward-rewritten ρ σ same s n e h (to-region r) vs (k, lt, len, gr) = (k, lt, length-map vs σ ∙ len, rw (read-rewritten ρ σ same s vs) gr)
-  onward-rewritten ρ σ same s n e h to-return vs (p, q) = (rw (read-rewritten ρ σ same s vs) p, q)
+  onward-rewritten ρ σ same s n e h x vs = onward-reads W ρ s s refl n e h x vs (map σ vs) (read-rewritten ρ σ same s vs)
 
   goes-rewritten : (ρ σ : Resolver) → ((v : Value) → ρ (σ v) ≡ ρ v)
       → (os : List NodeOutput) (n : ℕ) (d : DeferredEdgeBundleSet) (e : End) (h : List Event) (s : RunState) → Goes W ρ os n d e h s

@@ -36,13 +36,13 @@ NotOf q (bool b) = Unit
 NotOf q (undef ty) = Unit
 
 -- the value that an entry gives for an input
-abbrev pub at-slot : ℕ → InputRewrite → Value
-at-slot r (replace-by v) = v
-at-slot r (renumber-to i) = held r i
+abbrev pub of-rewrite : ℕ → InputRewrite → Value
+of-rewrite r (replace-by v) = v
+of-rewrite r (renumber-to i) = held r i
 
 abbrev pub gives : ℕ → ℕ → RegionInputRewrites → Value
 gives r k (replace-with vs) = getD vs k (undef 0)
-gives r k (renumber-or-replace-with ss) = at-slot r (getD ss k (renumber-to k))
+gives r k (renumber-or-replace-with ss) = of-rewrite r (getD ss k (renumber-to k))
 
 pub held-stays : (es : List RewriteEntry) (d r i : ℕ) → rewrite-chain d es (held r i) ≡ held r i
 unfolding rewrite-chain
@@ -53,7 +53,7 @@ by-entry : (es : List RewriteEntry) (d r k : ℕ) (e : RegionInputRewrites) → 
 by-entry es d r k (replace-with vs) = refl
 by-entry es d r k (renumber-or-replace-with ss) = go (getD ss k (renumber-to k))
   where
-    go : (sl : InputRewrite) → step-input (λ v. rewrite-chain d es v) r sl ≡ rewrite-chain d es (at-slot r sl)
+    go : (sl : InputRewrite) → step-input (λ v. rewrite-chain d es v) r sl ≡ rewrite-chain d es (of-rewrite r sl)
     go (replace-by v) = refl
     go (renumber-to i) = sym (held-stays es d r i)
 
@@ -104,11 +104,11 @@ entry-new (y ∷ es) x r p = go (λ q. entry-new es x r q) (eqb r (y .region)) p
     go ih true q = absurd (clash (cc))
     go ih false q = ih q
 
-data Shape (v : Value) : Type 0 where
-  an-input : (r k : ℕ) → v ≡ input r k → Shape v
-  no-input : ((es : List RewriteEntry) → Final es v) → ((q : ℕ) → NotOf q v) → Shape v
+data InputOrNot (v : Value) : Type 0 where
+  an-input : (r k : ℕ) → v ≡ input r k → InputOrNot v
+  no-input : ((es : List RewriteEntry) → Final es v) → ((q : ℕ) → NotOf q v) → InputOrNot v
 
-shape : (v : Value) → Shape v
+shape : (v : Value) → InputOrNot v
 shape (input r k) = an-input r k refl
 shape (const i) = no-input (λ es. tt) (λ q. tt)
 shape (held r k) = no-input (λ es. tt) (λ q. tt)
@@ -154,7 +154,7 @@ module _ (es : List RewriteEntry) (q : ℕ) (e : RegionInputRewrites) (d : ℕ) 
           let one : rewrite-chain (suc n) es (input r k) ≡ rewrite-chain n es (gives r k e′) = step-some es n r k e′ p in
           step-some es⁺ (n + m) r k e′ (entry-append es _ r e′ p) ∙ ih (gives r k e′) (rw one at h) (rw one at x) ∙ sym one
 
-      go : IH → Shape v → rewrite-chain (suc (n + m)) es⁺ v ≡ rewrite-chain (suc n) es v
+      go : IH → InputOrNot v → rewrite-chain (suc (n + m)) es⁺ v ≡ rewrite-chain (suc n) es v
       go ih (no-input fin nt) = final-stays es⁺ (suc (n + m)) v (fin es⁺) ∙ sym (final-stays es (suc n) v (fin es))
       go ih (an-input r k p) = rw p (at-input ih r k (rw p at h) (rw p at x) (rewrites-of es r) refl)
 
@@ -175,7 +175,7 @@ module _ (es : List RewriteEntry) (q : ℕ) (e : RegionInputRewrites) (d : ℕ) 
   unfolding rewrite-chain
   goes-on zero v h = go (shape v)
     where
-      go : Shape v → Final es⁺ (rewrite-chain (suc (d + 0)) es⁺ v)
+      go : InputOrNot v → Final es⁺ (rewrite-chain (suc (d + 0)) es⁺ v)
       go (no-input fin nt) = final-at (suc (d + 0)) v (fin es⁺)
       go (an-input r k p) = rw p (stopped 0 r k (rw p at h))
   goes-on (suc n) v h = go (λ w h′. goes-on n w h′) (shape v)
@@ -188,7 +188,7 @@ module _ (es : List RewriteEntry) (q : ℕ) (e : RegionInputRewrites) (d : ℕ) 
           let z : d + suc n ≡ suc (d + n) = omega arith in
           rw (step-some es⁺ (d + suc n) r k e′ (entry-append es _ r e′ p), z) (ih (gives r k e′) (rw (step-some es n r k e′ p) at h))
 
-      go : ((w : Value) → Final es (rewrite-chain n es w) → Final es⁺ (rewrite-chain (suc (d + n)) es⁺ w)) → Shape v → Final es⁺ (rewrite-chain (suc (d + suc n)) es⁺ v)
+      go : ((w : Value) → Final es (rewrite-chain n es w) → Final es⁺ (rewrite-chain (suc (d + n)) es⁺ w)) → InputOrNot v → Final es⁺ (rewrite-chain (suc (d + suc n)) es⁺ v)
       go ih (no-input fin nt) = final-at (suc (d + suc n)) v (fin es⁺)
       go ih (an-input r k p) = rw p (at-input ih r k (rw p at h) (rewrites-of es r) refl)
 
@@ -209,7 +209,8 @@ one-more es (suc d) v h = go (λ w h′. one-more es d w h′) (shape v)
     at-input ih r k h (some e) p =
         step-some es d r k e p ∙ ih (gives r k e) (rw (step-some es d r k e p) at h) ∙ sym (step-some es (suc d) r k e p)
 
-    go : ((w : Value) → Final es (rewrite-chain d es w) → rewrite-chain d es w ≡ rewrite-chain (suc d) es w) → Shape v → rewrite-chain (suc d) es v ≡ rewrite-chain (suc (suc d)) es v
+    go : ((w : Value) → Final es (rewrite-chain d es w) → rewrite-chain d es w ≡ rewrite-chain (suc d) es w) → InputOrNot v
+        → rewrite-chain (suc d) es v ≡ rewrite-chain (suc (suc d)) es v
     go ih (no-input fin nt) = final-stays es (suc d) v (fin es) ∙ sym (final-stays es (suc (suc d)) v (fin es))
     go ih (an-input r k p) = rw p (at-input ih r k (rw p at h) (rewrites-of es r) refl)
 
@@ -232,7 +233,7 @@ law-of : (ρ : Resolver) → ((r i : ℕ) → ρ (held r i) ≡ held r i) → (r
 law-of ρ on-held r (replace-with vs) h = h
 law-of ρ on-held r (renumber-or-replace-with ss) h = λ k. h k ∙ go (getD ss k (renumber-to k))
   where
-    go : (sl : InputRewrite) → ρ (at-slot r sl) ≡ step-input ρ r sl
+    go : (sl : InputRewrite) → ρ (of-rewrite r sl) ≡ step-input ρ r sl
     go (replace-by v) = refl
     go (renumber-to i) = on-held r i
 

@@ -33,13 +33,12 @@ use Rattle.follows.specs.Statements.{is-whole, is-closed, Followed, Foll
 use Rattle.follows.specs.Statements as statements
 use Rattle.nesting.specs.Post.{bind, map-post}
 use Rattle.nesting.specs.Fewer.{state-of}
-use Rattle.follows.specs.Small.{map-map}
+use Rattle.follows.specs.Small.{In, map-map}
 use Rattle.follows.specs.Key.{is-constant, nodes-none, owns-nodes, key}
 use Rattle.follows.specs.Tables.{Resolver, tables}
 use Rattle.follows.specs.World.{World, size}
 use Rattle.follows.specs.Frame.{puts-other}
 use Rattle.follows.specs.Inputs.{puts-at, input-numbered}
-use Rattle.follows.specs.Small.{In}
 use Rattle.follows.specs.Leads.{OnwardTo, Tracks}
 use Rattle.follows.specs.Final.{Ends, Final, final-respects}
 use Rattle.follows.specs.Defined.{IfDone}
@@ -161,8 +160,8 @@ module _ (g : Graph) (valid : Valid g) (x : Given) (c : ClaimedRegion) (s : Nest
       → Tracks (world g valid x) ρ (s .node-outputs) b (c .deferred-edges) (e .end) (e .events) (run-nodes (x .rule) (g .test-cost) b form (start g x))
   unfolding graph-run start
   entry-follows b e gr =
-      let hd = cd .got .0 in
-      let origin : c .origin ≡ g .entry = cd .got .2 in
+      let hd = cd .got .holds in
+      let origin : c .origin ≡ g .entry = cd .got .origin in
       let un : rewrites-of (s .region-input-rewrites) (g .entry) ≡ none = subst (λ q. rewrites-of (s .region-input-rewrites) q ≡ none) itself (hd .unrewritten) in
       hd .sim .leads ρ (s .node-outputs) (final-respects (tables s) (cd .inv .ends)) b b (omega arith) (start g x) (entry-words g x)
       (record { based = λ v k. puts-other (λ i. input (g .entry) i) v (not-input (g .entry) v k) 0 (entry-words g x) (base-env x) })

@@ -5,7 +5,7 @@ use mathlib.Core.Option.{Option, some}
 use mathlib.Core.Path.{_∙_, _≡_, ap, refl, sym}
 use Prim.Native.Nat.{_<_, _≤_, ℕ}
 use native.Mathlib.Omega.{arith}
-use lib.ListN.{getD, length}
+use lib.ListN.{getD, length, length-map}
 use Rattle.meaning.specs.Form.{Nodes, _▸_, ⟨⟩}
 use Rattle.meaning.specs.Graph.{Value, input}
 use Rattle.meaning.specs.GraphRun.{Ended, run-from}
@@ -43,10 +43,10 @@ pub record InputsAre (ρ : Resolver) (os : List NodeOutput) (q : ℕ) (ks : Node
   pub apart : (k : ℕ) → k < length w → owns-nodes ks (key os (ρ (input q k))) ≡ false
 
 -- ---- joining
-pub forms-join : (ρ : Resolver) (os : List NodeOutput) (a b : Nodes) → rewrite-nodes ρ os (join a b) ≡ join (rewrite-nodes ρ os a) (rewrite-nodes ρ os b)
+pub rewrite-join : (ρ : Resolver) (os : List NodeOutput) (a b : Nodes) → rewrite-nodes ρ os (join a b) ≡ join (rewrite-nodes ρ os a) (rewrite-nodes ρ os b)
 unfolding rewrite-nodes
-forms-join ρ os ⟨⟩ b = refl
-forms-join ρ os (x ▸ a) b = ap (λ ks. rewrite-node ρ os x ▸ ks) (forms-join ρ os a b)
+rewrite-join ρ os ⟨⟩ b = refl
+rewrite-join ρ os (x ▸ a) b = ap (λ ks. rewrite-node ρ os x ▸ ks) (rewrite-join ρ os a b)
 
 pub then-on : (R : Ran) → and-then R (λ s. through s) ≡ R
 then-on (through s) = refl
@@ -131,6 +131,13 @@ module _ (W : World) where
       go ρ os res b n s bs e h (ended e′ s′) p q = record { leads-to = q .leads-to }
       go ρ os res b n s bs e h no-end p q = record { leads-to = q .leads-to }
 
+  -- what the inputs read as, and the events, alone decide
+  pub onward-reads : (ρ : Resolver) (s s′ : RunState) → s′ .events ≡ s .events → (n : ℕ) (e : End) (h : List Event) (x : DeferredTarget) (us vs : List Value)
+      → read ρ s′ vs ≡ read ρ s us → OnwardTo ρ s n e h x us → OnwardTo ρ s′ n e h x vs
+  onward-reads ρ s s′ past n e h (to-region r) us vs p (k, lt, len, gr) =
+      (k, lt, sym (length-map vs (λ v. s′ .env (ρ v))) ∙ ap length p ∙ length-map us (λ v. s .env (ρ v)) ∙ len, rw (p, past) gr)
+  onward-reads ρ s s′ past n e h to-return us vs p (q, r) = (rw p q, rw past r)
+
   onward-less : (ρ : Resolver) (s : RunState) (n n′ : ℕ) → n ≤ n′ → (e : End) (h : List Event) (x : DeferredTarget) (vs : List Value) → OnwardTo ρ s n e h x vs
       → OnwardTo ρ s n′ e h x vs
   onward-less ρ s n n′ le e h (to-region r) vs p = (p .0, omega arith, p .2, p .3)
@@ -154,7 +161,7 @@ module _ (W : World) where
     leads = λ ρ os res b n le s w bs lw gv e h gr.
         let first = ld .leads ρ os (respects-back gains res) b n le s w bs lw
         (record { reads = gv .reads; apart = λ k lt. or-left _ _ (both (key os (ρ (input r k))) (gv .apart k lt)) }) e h gr in
-        rw (forms-join ρ os ks more, then-runs b (rewrite-nodes ρ os ks) (rewrite-nodes ρ os more) s)
+        rw (rewrite-join ρ os ks more, then-runs b (rewrite-nodes ρ os ks) (rewrite-nodes ρ os more) s)
         (go ρ os res b n le s w bs lw (gv .apart) e h (runs W b (rewrite-nodes ρ os ks) s) refl first);
   }
     where

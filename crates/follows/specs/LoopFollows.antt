@@ -13,7 +13,7 @@ use Rattle.meaning.specs.NestedRun.{Ran, assign-inputs, ended, no-end, note-ove
 use Rattle.meaning.specs.Run.{End, Event, RunState, Word, mark, word}
 use Rattle.meaning.specs.RunLaws.{inputs-at-once, last-turn, next-turn}
 use Rattle.nesting.specs.BundleSet.{same-target}
-use Rattle.nesting.specs.Deferred.{DeferredEdgeBundle, DeferredEdgeBundleSet, DeferredTarget, to-region, to-return}
+use Rattle.nesting.specs.Deferred.{DeferredEdgeBundle, DeferredEdgeBundleSet, to-region}
 use Rattle.nesting.specs.Last.{rewrite-nodes}
 use Rattle.nesting.specs.Rewrite.{step-input}
 use Rattle.nesting.specs.State.{InputRewrite, NodeOutput, renumber-or-replace-with, renumber-to, replace-by}
@@ -23,7 +23,7 @@ use Rattle.follows.specs.World.{World, ar, from-region, runs}
 use Rattle.follows.specs.Tables.{Extends, Gains, Resolver, Respects, Tables, extends-refl, laws-last, respects-back}
 use Rattle.follows.specs.Frame.{inputs-kept}
 use Rattle.follows.specs.Conditions.{Mat, Truthy}
-use Rattle.follows.specs.Leads.{Based, Chosen, Goes, OnwardTo, Sim, Tracks, based-after, ends-with, none-run, read, then-on, tracks-less}
+use Rattle.follows.specs.Leads.{Based, Chosen, Goes, OnwardTo, Sim, Tracks, based-after, ends-with, none-run, onward-reads, read, then-on, tracks-less}
 use Rattle.follows.specs.Bundles.{same-target-sym}
 
 module _ (W : World) where
@@ -32,11 +32,6 @@ module _ (W : World) where
   HeaderInput ρ r q ins init outs k (replace-by v) = (v ≡ input q k) × (ρ (getD ins k (undef 0)) ≡ ρ (input r k))
   HeaderInput ρ r q ins init outs k (renumber-to i) = (i < length init) × (getD init i (undef 0) ≡ input q k) × (i < length outs)
       × (ρ (getD outs i (undef 0)) ≡ ρ (getD ins k (undef 0)))
-
-  onward-pay : (ρ : Resolver) (s : RunState) (n : ℕ) (e : End) (h : List Event) (x : DeferredTarget) (vs : List Value) → OnwardTo W ρ s n e h x vs
-      → OnwardTo W ρ (pay (W .g .test-cost) s) n e h x vs
-  onward-pay ρ s n e h (to-region r) vs p = p
-  onward-pay ρ s n e h to-return vs p = p
 
   based-assign : (r : ℕ) (us : List Value) (s : RunState) → Based W s → Based W (assign-inputs r us s)
   based-assign r us s bs = record { based = λ v c. inputs-kept [] r v (rw (key-constant [] v c)) us s ∙ bs .based v c }
@@ -48,7 +43,7 @@ module _ (W : World) where
       (only-back : (y : DeferredEdgeBundle) → In y d → same-target (y .target) (to-region r) ≡ true → y ≡ x)
       (x-in : In x d)
       (x-arity : length (x .target-inputs) ≡ ar W r)
-      (slots : (ρ : Resolver) (os : List NodeOutput) → Respects ρ os T → (k : ℕ) → k < ar W r → HeaderInput ρ r q (x .target-inputs) init outs k (getD ss k (renumber-to k)))
+      (header-inputs : (ρ : Resolver) (os : List NodeOutput) → Respects ρ os T → (k : ℕ) → k < ar W r → HeaderInput ρ r q (x .target-inputs) init outs k (getD ss k (renumber-to k)))
       (repeats : (os′ : List NodeOutput) → Extends (T .outputs) os′ → Mat (x .condition) os′ rep ⊎ ((rep ≡ bool true) × ((y : DeferredEdgeBundle) → In y d → y ≡ x)))
       (on-to : (y : DeferredEdgeBundle) → In y d → same-target (y .target) (to-region r) ≡ false → (z : DeferredEdgeBundle) × In z d′ × (z .target ≡ y .target)
       × (z .target-inputs ≡ y .target-inputs) × (z .condition ≡ y .condition))
@@ -71,7 +66,7 @@ module _ (W : World) where
         law = laws-last (T .rewrites) _ refl res .0
 
         ok : (k : ℕ) → k < ar W r → HeaderInput ρ r q (x .target-inputs) init outs k (getD ss k (renumber-to k))
-        ok = slots ρ os′ (respects-back gains res)
+        ok = header-inputs ρ os′ (respects-back gains res)
 
         abbrev body : RunState → Ran
         body s = runs W b (rewrite-nodes ρ os′ ks) s
@@ -159,7 +154,8 @@ module _ (W : World) where
                 holds = λ v mat. go .chosen .holds v (rw (z .4) at mat);
                 others = λ y y-in ne v mat. let w = from y y-in in go .chosen .others (w .0) (w .1) (rw (z .2, w .2) at ne) v (rw (w .3) at mat);
               };
-              onward = rw (z .2, z .3) (onward-pay ρ s n e h (go .entry .target) (go .entry .target-inputs) (go .onward));
+              onward = rw (z .2, z .3) (onward-reads W ρ s (pay (W .g .test-cost) s) refl n e h (go .entry .target) (go .entry .target-inputs)
+                  (go .entry .target-inputs) refl (go .onward));
             }
 
         turns-follow : (c n made : ℕ) → n ≤ c → n ≤ b → (s : RunState) (ws : List Word) → Based W s → length ws ≡ ar W r

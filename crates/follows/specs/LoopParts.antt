@@ -100,10 +100,10 @@ module _ (g : Graph) where
       ty : ℕ
       ty = getD (region g r .inputs) k 0
 
-      slot-at : (sl : InputRewrite) (x′ : LoopInputs) (a b : List Value) → x′ .rewrites ≡ x .rewrites ++ (sl ∷ []) → x′ .initial-inputs ≡ x .initial-inputs ++ a
+      rewrite-at : (sl : InputRewrite) (x′ : LoopInputs) (a b : List Value) → x′ .rewrites ≡ x .rewrites ++ (sl ∷ []) → x′ .initial-inputs ≡ x .initial-inputs ++ a
           → x′ .outputs ≡ x .outputs ++ b → KeptOrLifted r w all x′ k sl
           → (i : ℕ) → i < suc k → KeptOrLifted r w all x′ i (getD (x′ .rewrites) i (renumber-to i))
-      slot-at sl x′ a b p q q′ here i lt = by (eqb i k) refl
+      rewrite-at sl x′ a b p q q′ here i lt = by (eqb i k) refl
         where
           by : (o : Bool) → eqb i k ≡ o → KeptOrLifted r w all x′ i (getD (x′ .rewrites) i (renumber-to i))
           by true e =
@@ -131,12 +131,12 @@ module _ (g : Graph) where
       go true e = record {
         many = len (replace-by (input w k));
         even = h .even;
-        good = slot-at (replace-by (input w k)) (lift-input w k x) [] [] refl (nil (x .initial-inputs)) (nil (x .outputs)) (refl, at ∙ sameValue→eq v (input r k) e);
+        good = rewrite-at (replace-by (input w k)) (lift-input w k x) [] [] refl (nil (x .initial-inputs)) (nil (x .outputs)) (refl, at ∙ sameValue→eq v (input r k) e);
       }
       go false e = record {
         many = len (renumber-to (length (x .initial-inputs)));
         even = length-append (x .initial-inputs) _ ∙ ap (λ n. n + 1) (h .even) ∙ sym (length-append (x .outputs) _);
-        good = slot-at (renumber-to (length (x .initial-inputs))) (keep-input w k ty v x) (input w k ∷ []) (v ∷ []) refl refl refl (
+        good = rewrite-at (renumber-to (length (x .initial-inputs))) (keep-input w k ty v x) (input w k ∷ []) (v ∷ []) refl refl refl (
           (let z : length (x .initial-inputs ++ (input w k ∷ [])) ≡ length (x .initial-inputs) + 1 = length-append (x .initial-inputs) (input w k ∷ []) in omega (arith, z)),
           getD-last (x .initial-inputs) (input w k) (undef 0),
           (let z : length (x .outputs ++ (v ∷ [])) ≡ length (x .outputs) + 1 = length-append (x .outputs) (v ∷ []) in omega (arith, z, h .even)),

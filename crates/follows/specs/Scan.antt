@@ -66,7 +66,12 @@ module _ (W : World) (cl : Claim) (cl-ok : ClaimOk W cl) where
         left = f .left ∙ append-assoc before (e ∷ []) (f .front ++ f .behind);
         region = f .region;
         target = f .target;
-        done = record { inv = f .done .inv; step = later-then W st (f .done .step); got = (f .done .got .0, since-back W st (f .done .got .1), f .done .got .2, f .done .got .3) };
+        done = record {
+          inv = f .done .inv;
+          step = later-then W st (f .done .step);
+          got =
+              record { holds = f .done .got .holds; since = since-back W st (f .done .got .since); origin = f .done .got .origin; inputs = f .done .got .inputs };
+        };
       }
 
   abbrev Scans : DeferredEdgeBundleSet → DeferredEdgeBundleSet → NestState → Type 0
@@ -133,11 +138,11 @@ module _ (W : World) (cl : Claim) (cl-ok : ClaimOk W cl) where
     rest-ok = record { distinct = subst (λ l. Distinct l) (sym (fo .left)) (parted .0); entries = λ z i. cm₁ .set .entries z (rest-in z i) }
 
     cases-ok : CasesOk W s₀ r (x .children) s₁ (ok (y .claimed-region) ∷ err (y .others) ∷ [])
-    cases-ok = record { each = each; apart = ((λ c′ i. no-took c′ i), tt) }
+    cases-ok = record { each = each; apart = ((λ c′ i. no-other c′ i), tt) }
       where
-        no-took : (c′ : ClaimedRegion) → (ok c′ ≡ err (y .others)) ⊎ ⊥ → eqb (c′ .structured-body) (y .claimed-region .structured-body) ≡ false
-        no-took c′ (inl p) = cc
-        no-took c′ (inr i) = absurd i
+        no-other : (c′ : ClaimedRegion) → (ok c′ ≡ err (y .others)) ⊎ ⊥ → eqb (c′ .structured-body) (y .claimed-region .structured-body) ≡ false
+        no-other c′ (inl p) = cc
+        no-other c′ (inr i) = absurd i
 
         each : (c : MaybeClaimedRegion) → (c ≡ ok (y .claimed-region)) ⊎ ((c ≡ err (y .others)) ⊎ ⊥) → CaseOk W s₀ r (x .children) s₁ c
         each c (inl p) = rw p (record {
@@ -181,8 +186,8 @@ module _ (W : World) (cl : Claim) (cl-ok : ClaimOk W cl) where
           enters =
               let onw : OnwardTo W ρ st n e h (to-region (fo .region)) (y .bundle .target-inputs) = subst (λ z. OnwardTo W ρ st n e h z (y .bundle .target-inputs))
               (fo .target) (subst (λ z. OnwardTo W ρ st n e h (z .target) (z .target-inputs)) p (go .onward)) in
-              subst (λ z. OnwardTo W ρ st n e h (to-region z) (y .claimed-region .structured-body-inputs)) (sym (fo .done .got .2))
-              (subst (λ l. OnwardTo W ρ st n e h (to-region (fo .region)) l) (sym (fo .done .got .3)) onw);
+              subst (λ z. OnwardTo W ρ st n e h (to-region z) (y .claimed-region .structured-body-inputs)) (sym (fo .done .got .origin))
+              (subst (λ l. OnwardTo W ρ st n e h (to-region (fo .region)) l) (sym (fo .done .got .inputs)) onw);
           tests = λ v mt. yes-test p (is-always (x .deferred-edges)) v mt;
         }
         by (inr i) = record {

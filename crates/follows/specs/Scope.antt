@@ -10,7 +10,7 @@ use Rattle.meaning.specs.Graph.{Value, bool, const, held, input, instr, output,
 use Rattle.meaning.specs.Run.{End, Event, RunState}
 use Rattle.format.specs.ReadLaws.{clash}
 use Rattle.nesting.specs.Case.{join}
-use Rattle.nesting.specs.Deferred.{DeferredEdgeBundle, DeferredEdgeBundleSet, DeferredTarget, LazyCond, false-cond, merge, to-region, to-return, true-cond, undef-cond}
+use Rattle.nesting.specs.Deferred.{DeferredEdgeBundle, DeferredEdgeBundleSet, DeferredTarget, LazyCond, false-cond, merge, true-cond, undef-cond}
 use Rattle.nesting.specs.Rewrite.{rewrite}
 use Rattle.nesting.specs.State.{NodeOutput}
 use Rattle.follows.specs.Small.{In}
@@ -18,7 +18,7 @@ use Rattle.follows.specs.Key.{Key, OutputAt, is-constant, key, key-const
 use Rattle.follows.specs.World.{Fits, World}
 use Rattle.follows.specs.Tables.{Gains, Resolver, Respects, Tables, lookup-keeps, respects-back, stays}
 use Rattle.follows.specs.Conditions.{Mat, mat-stays}
-use Rattle.follows.specs.Leads.{Goes, OnwardTo}
+use Rattle.follows.specs.Leads.{Goes, OnwardTo, onward-reads}
 use Rattle.follows.specs.Bundles.{Distinct}
 
 -- ---- scope
@@ -132,8 +132,7 @@ module _ (W : World) where
 
   pub onward-same : (ρ : Resolver) (s s′ : RunState) → s′ .events ≡ s .events → (n : ℕ) (e : End) (h : List Event) (x : DeferredTarget) (vs : List Value)
       → ((i : ℕ) → s′ .env (ρ (getD vs i (undef 0))) ≡ s .env (ρ (getD vs i (undef 0)))) → OnwardTo W ρ s n e h x vs → OnwardTo W ρ s′ n e h x vs
-  onward-same ρ s s′ past n e h (to-region r) vs same (k, lt, len, gr) = (k, lt, len, rw (read-same ρ s s′ vs same, past) gr)
-  onward-same ρ s s′ past n e h to-return vs same (p, q) = (rw (read-same ρ s s′ vs same) p, rw past q)
+  onward-same ρ s s′ past n e h x vs same = onward-reads W ρ s s′ past n e h x vs vs (read-same ρ s s′ vs same)
 
   -- two states that agree on all that is in scope
   pub record Agrees (ρ : Resolver) (os : List NodeOutput) (q a : ℕ) (ks : Nodes) (s s′ : RunState) : Type 0 where

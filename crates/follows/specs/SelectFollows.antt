@@ -36,7 +36,7 @@ use Rattle.follows.specs.EnterCase.{Enters, ScrutineeIs, Takes, children
 use Rattle.follows.specs.Targets.{FitAll, targets-distinct, targets-fit, targets-have}
 use Rattle.follows.specs.SelectDefined.{CasesFrom, cases-apart, cases-children, cases-count, scrutinee-stays}
 use Rattle.follows.specs.EmittedSet.{emits-all-stay, no-select, no-select-number, no-select-outputs, set-emitted, shared-all, shared-no-condition}
-use Rattle.follows.specs.SelectSteps.{All, Shape, made, unmade}
+use Rattle.follows.specs.SelectSteps.{SelectDone, Shape, made, unmade}
 
 -- A case's value u is v outside of it: the same constant, or what stands for an input of its own.
 abbrev SeenOutside : ClaimedRegion → Value → Value → Type 0
@@ -99,7 +99,7 @@ module _ (W : World) where
   module _ (s₀ : NestState) (r : ℕ) (ks : Nodes) (kind : SelectionKind) (sc : Scrutinee) (cases : List MaybeClaimedRegion) (s : NestState)
       (dg : Doing W s₀ r ks s) (fit : CasesOk W s₀ r ks s cases)
       (scrutinee-ok : (T : Tables) → Gains (tables s) T → (v : Value) → ScrutineeIs sc (T .outputs) v → Scoped T r (ar W r) ks v)
-      (y : Body) (s′ : NestState) (al : All W s₀ r ks kind sc cases s dg fit y s′) where
+      (y : Body) (s′ : NestState) (al : SelectDone W s₀ r ks kind sc cases s dg fit y s′) where
     abbrev σ : Resolver
     σ = rewrite (s .region-input-rewrites)
 
@@ -238,7 +238,7 @@ module _ (W : World) where
             in-apart (is-node (n .node)) (ρ v) refl (λ z lt. far-made n ccs te z lt .0) (not-out (n .node) above)
                 (rewritten-shares c i x x-in j v p .scoped ρ os res₀),
           ))
-          ws (wants c i i′) (y .deferred-edges) (emits-all-stay n (plan-bundles (W .g) cs) (s′ .node-outputs) os (res .outputs) (y .deferred-edges) em) [])
+          ws (wants c i i′) (y .deferred-edges) (emits-all-stay n (plan-bundles (W .g) cs) (s′ .node-outputs) os (res .outputs) (y .deferred-edges) em))
         where
           not-in : (c : MaybeClaimedRegion) → In c cases → (κ : Key) → owns-nodes ks κ ≡ true → owns-nodes (children-in c) κ ≡ false
           not-in (ok x) i κ o = false-if (owns-nodes (x .children) κ) (λ p. fit .each (ok x) i .is .apart κ o p)

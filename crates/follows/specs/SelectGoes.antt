@@ -6,7 +6,7 @@ use mathlib.Core.Option.{Option, none, some}
 use mathlib.Core.Path.{_∙_, _≡_, ap, refl, sym}
 use Prim.Native.Nat.{_+_, suc, zero, ℕ}
 use native.Mathlib.Omega.{arith}
-use lib.ListN.{drop, drop-of-length-le, getD, length, length-map}
+use lib.ListN.{drop, drop-of-length-le, getD, length}
 use lib.Seq.{drop-cons}
 use Rattle.meaning.specs.Graph.{SelectionKind, Value, bool, bool-cond, output, pick, undef}
 use Rattle.meaning.specs.NestedRun.{assign-outputs}
@@ -14,7 +14,7 @@ use Rattle.meaning.specs.Run.{End, Event, RunState, Word, mark, word}
 use Rattle.format.specs.ReadLaws.{clash}
 use Rattle.nesting.specs.BundleSet.{get-by-target, is-always, same-target}
 use Rattle.nesting.specs.Case.{MaybeClaimedRegion, deferred-of}
-use Rattle.nesting.specs.Deferred.{DeferredEdgeBundle, DeferredEdgeBundleSet, DeferredTarget, LazyCond, LazyConds, false-cond, merge, to-region, to-return, true-cond, undef-cond}
+use Rattle.nesting.specs.Deferred.{DeferredEdgeBundle, DeferredEdgeBundleSet, DeferredTarget, LazyCond, LazyConds, false-cond, merge, true-cond, undef-cond}
 use Rattle.nesting.specs.Last.{case-outputs, output-decls, outputs-of}
 use Rattle.nesting.specs.Plan.{DeferredTargetSummary, UniqueInput, all-true, conditions-of, differing, in-parent, is-true-or-undef, merged, no-value, per-case-deferred, per-case-of, plan-bundle, plan-input, plan-inputs, target-type, unique, unique-input, value-in-case}
 use Rattle.nesting.specs.Select.{DefinedSelect}
@@ -25,7 +25,7 @@ use Rattle.follows.specs.World.{World}
 use Rattle.follows.specs.Tables.{Resolver}
 use Rattle.follows.specs.Frame.{output-read}
 use Rattle.follows.specs.Conditions.{Mat, Truthy, condition-at, mats-at}
-use Rattle.follows.specs.Leads.{Chosen, Goes, OnwardTo, read}
+use Rattle.follows.specs.Leads.{Chosen, Goes, OnwardTo, onward-reads, read}
 use Rattle.follows.specs.Bundles.{Distinct, find-in, found-in, two-apart}
 use Rattle.follows.specs.Planned.{Emits, EmitsAll, EmitsBundle, EmitsOne, condition-from, emits-from, emits-in, per-cases, per-cases-at, per-cases-condition, per-cases-true, unique-at}
 
@@ -148,11 +148,6 @@ module _ (W : World) (ρ : Resolver) (os : List NodeOutput) (n : DefinedSelect) 
       let rest = all-inputs a (suc k) (em .1) (omega arith) (em .4) in
       rw (em .2, drop-cons ys k (undef 0) (omega arith)) (cc)
 
-  onward-same : (x : DeferredTarget) (vs : List Value) → read ρ s′ vs ≡ read ρ s ys → OnwardTo W ρ s b e h x ys → OnwardTo W ρ s′ b e h x vs
-  onward-same (to-region r) vs p (k, lt, len, gr) =
-      (k, lt, sym (length-map vs (λ v. s′ .env (ρ v))) ∙ ap length p ∙ length-map ys (λ v. s .env (ρ v)) ∙ len, rw (p, past) gr)
-  onward-same to-return vs p (q, r) = (rw p q, rw past r)
-
   module _ (ws : List DeferredTargetSummary) (w : DeferredTargetSummary) (w-in : In w ws) (w-target : w .target ≡ y .target) (w-arity : w .input-count ≡ length ys)
       (d : DeferredEdgeBundleSet) (emits : EmitsAll os n (map (plan-bundle (W .g) cs) ws) d) where
     abbrev conds : DeferredTarget → LazyConds
@@ -185,7 +180,7 @@ module _ (W : World) (ρ : Resolver) (os : List NodeOutput) (n : DefinedSelect) 
       where
         goes-on : (z : DeferredEdgeBundle) → EmitsBundle os n (plan-bundle (W .g) cs w) z → OnwardTo W ρ s′ b e h (z .target) (z .target-inputs)
         goes-on z em =
-            rw (em .target, w-target) (onward-same (y .target) (z .target-inputs)
+            rw (em .target, w-target) (onward-reads W ρ s s′ past b e h (y .target) ys (z .target-inputs)
             (all-inputs (w .input-count) 0 (z .target-inputs) (omega arith) (rw w-target at (em .inputs))) (goes .onward))
 
         holds : (z : DeferredEdgeBundle) → EmitsBundle os n (plan-bundle (W .g) cs w) z → (v : Value) → Mat (z .condition) os v → Truthy (s′ .env (ρ v))

@@ -1,14 +1,14 @@
 -- The run of a defined select follows the graph's run.
 use mathlib.Core.Bool.{Bool, false}
-use mathlib.Core.List.{List, map}
+use mathlib.Core.List.{List, [], map}
 use mathlib.Core.Logic.{_⊎_, inl, inr}
 use mathlib.Core.Option.{Option, none, some}
-use mathlib.Core.Path.{_∙_, _≡_, ap, refl, sym}
+use mathlib.Core.Path.{_∙_, _≡_, ap, refl, subst, sym}
 use Prim.Native.Nat.{_+_, suc, zero, ℕ}
 use native.Mathlib.Omega.{arith}
 use lib.ListN.{getD, length}
-use Rattle.meaning.specs.Form.{Cases, Nodes, OutputDecl, _▸_, case, select, ∅, ⟨⟩}
-use Rattle.meaning.specs.Graph.{Value, bool, bool-cond, pick, undef}
+use Rattle.meaning.specs.Form.{Cases, Nodes, _▸_, case, select, ∅, ⟨⟩}
+use Rattle.meaning.specs.Graph.{SelectionKind, Value, bool, bool-cond, pick, undef}
 use Rattle.meaning.specs.NestedRun.{Ran, and-then, case-count, ended, no-end, pay, run-case, run-nodes, through}
 use Rattle.meaning.specs.Run.{End, Event, Rule, RunState, place-taken, word}
 use Rattle.nesting.specs.Case.{MaybeClaimedRegion, deferred-of}
@@ -47,10 +47,21 @@ module _ (ρ : Resolver) (os : List NodeOutput) where
   case-run rule test b (case r ks′ vs cs) n i zero ks s p = let e : ks′ ≡ ks = cc in let z : i + 0 ≡ i = omega arith in rw (e, z)
   case-run rule test b (case r ks′ vs cs) n i (suc j) ks s p = let z : i + suc j ≡ suc i + j = omega arith in rw z (case-run rule test b cs n (suc i) j ks s p)
 
+-- The run of a select is its test and the case taken, whose outputs become the select's.
+module _ (W : World) where
+  pub select-runs : (ρ : Resolver) (os : List NodeOutput) (b n : ℕ) (kind : SelectionKind) (sc : Value) (ccs : Cases) (j w : ℕ) (ksj : Nodes) (st : RunState)
+      → children-at ccs j ≡ some ksj → st .env (ρ sc) ≡ word w → place-taken kind w (case-count ccs) ≡ j
+      → runs W b (rewrite-nodes ρ os (select n kind sc [] ccs ▸ ⟨⟩)) st ≡ and-then (runs W b (rewrite-nodes ρ os ksj) (pay (W .g .test-cost) st))
+      (λ s′. through (outputs-set ρ os n j s′))
+  unfolding run-nodes rewrite-nodes
+  select-runs ρ os b n kind sc ccs j w ksj st kj tests takes =
+      let z : 0 + j ≡ j = omega arith in
+      rw (then-on _, tests, count-form ρ os ccs n 0, takes, case-run ρ os (W .rule) (W .g .test-cost) b ccs n 0 j ksj (pay (W .g .test-cost) st) kj, z)
+
 module _ (W : World)
     (ρ : Resolver) (os : List NodeOutput) (T : Tables) (res : Respects ρ os T) (n : DefinedSelect) (ccs : Cases) (cs : List MaybeClaimedRegion) (j : ℕ)
     (cj : MaybeClaimedRegion) (ksj : Nodes)
-    (at-j : nth cs j ≡ some cj) (kids-j : children-at ccs j ≡ some ksj) (dist : Distinct (deferred-of cj))
+    (at-j : nth cs j ≡ some cj) (children-j : children-at ccs j ≡ some ksj) (dist : Distinct (deferred-of cj))
     (b k : ℕ) (s : RunState) (bs : Based W s) (w : ℕ) (tests : s .env (ρ (n .scrutinee)) ≡ word w) (takes : place-taken (n .kind) w (case-count ccs) ≡ j)
     (e : End) (h : List Event) (inside : Tracks W ρ os k (deferred-of cj) e h (runs W b (rewrite-nodes ρ os ksj) (pay (W .g .test-cost) s)))
     -- the scrutinee is none of the select's own, nor of the case's
@@ -90,11 +101,8 @@ module _ (W : World)
           go zero r l = inr (sym l, r)
           go (suc x) r l = inl (sym l, record { less = x; is = r })
 
-  pub select-follows : (ty : List OutputDecl) → Tracks W ρ os k d e h (runs W b (rewrite-nodes ρ os (select (n .node) (n .kind) (n .scrutinee) ty ccs ▸ ⟨⟩)) s)
-  unfolding run-nodes rewrite-nodes
-  select-follows ty =
-      let z : 0 + j ≡ j = omega arith in
-      rw (then-on _, tests, count-form ρ os ccs (n .node) 0, takes, case-run ρ os (W .rule) (W .g .test-cost) b ccs (n .node) 0 j ksj (pay (W .g .test-cost) s) kids-j, z)
+  pub select-follows : Tracks W ρ os k d e h (runs W b (rewrite-nodes ρ os (select (n .node) (n .kind) (n .scrutinee) [] ccs ▸ ⟨⟩)) s)
+  select-follows = subst (λ R. Tracks W ρ os k d e h R) (sym (select-runs W ρ os b (n .node) (n .kind) (n .scrutinee) ccs j w ksj s children-j tests takes))
       (go (runs W b (rewrite-nodes ρ os ksj) (pay (W .g .test-cost) s)) refl inside)
     where
       go : (R : Ran) → runs W b (rewrite-nodes ρ os ksj) (pay (W .g .test-cost) s) ≡ R → Tracks W ρ os k (deferred-of cj) e h R

@@ -156,13 +156,13 @@ module _ (W : World) where
         keeps = λ q n p. h .keeps q (λ c′ i. n c′ (inr i)) (rewrite-keeps s₀ s r ks c dg mine q (n c (inl refl)) p);
       }
 
-  law-of : (ρ : Resolver) (cs : List MaybeClaimedRegion) → Laws ρ (entries-of cs) → (c : ClaimedRegion) → In (ok c) cs
+  replaced-law : (ρ : Resolver) (cs : List MaybeClaimedRegion) → Laws ρ (entries-of cs) → (c : ClaimedRegion) → In (ok c) cs
       → EntryLaw ρ (c .structured-body) (replace-with (c .structured-body-inputs))
-  law-of ρ [] h c i = absurd i
-  law-of ρ (err d ∷ cs) h c (inl p) = absurd (clash (cc))
-  law-of ρ (err d ∷ cs) h c (inr i) = law-of ρ cs h c i
-  law-of ρ (ok x ∷ cs) h c (inl p) = let e : c ≡ x = cc in rw e (h .0)
-  law-of ρ (ok x ∷ cs) h c (inr i) = law-of ρ cs (h .1) c i
+  replaced-law ρ [] h c i = absurd i
+  replaced-law ρ (err d ∷ cs) h c (inl p) = absurd (clash (cc))
+  replaced-law ρ (err d ∷ cs) h c (inr i) = replaced-law ρ cs h c i
+  replaced-law ρ (ok x ∷ cs) h c (inl p) = let e : c ≡ x = cc in rw e (h .0)
+  replaced-law ρ (ok x ∷ cs) h c (inr i) = replaced-law ρ cs (h .1) c i
 
   -- ---- the cases with their values looked up
   rewritten-claimed : (σ : Resolver) (x : MaybeClaimedRegion) (c : ClaimedRegion) → ok c ≡ rewrite-case σ x
@@ -304,7 +304,7 @@ module _ (W : World) where
       };
     }
 
-    pub record All (y : Body) (s′ : NestState) : Type 0 where
+    pub record SelectDone (y : Body) (s′ : NestState) : Type 0 where
       pub more : Nodes
       pub children-is : y .children ≡ join ks more
       pub shape : Shape more (y .deferred-edges) (s′ .node-outputs)
@@ -330,7 +330,7 @@ module _ (W : World) where
           since = rw (y .2) (tk .since .region);
         }
 
-    pub structurize-select-post : IfDone All (structurize-select (W .g) ks kind sc cases s)
+    pub structurize-select-post : IfDone SelectDone (structurize-select (W .g) ks kind sc cases s)
     unfolding structurize-select rewrite-cases
     structurize-select-post =
         let s₁ : NestState = with-twice (any (meets-in-case (meets (s .region-input-rewrites))) cases) s in
@@ -361,5 +361,5 @@ module _ (W : World) where
             → s₃ .region-input-rewrites ≡ s₂ .region-input-rewrites ++ entries-of cs → Respects ρ os (tables s₃)
             → (c : ClaimedRegion) → In (ok c) cases → (k : ℕ) → ρ (input (c .structured-body) k) ≡ ρ (getD (c .structured-body-inputs) k (undef 0))
         law ρ os s₂ s₃ gains e res c i k =
-            law-of ρ cs (laws-last (s₂ .region-input-rewrites) (entries-of cs) e res) (rewrite-claimed σ c) (in-map (rewrite-case σ) cases (ok c) i) k
+            replaced-law ρ cs (laws-last (s₂ .region-input-rewrites) (entries-of cs) e res) (rewrite-claimed σ c) (in-map (rewrite-case σ) cases (ok c) i) k
             ∙ ap ρ (getD-rewritten W (s .region-input-rewrites) (c .structured-body-inputs) k) ∙ lookup-keeps (respects-back gains res) (getD (c .structured-body-inputs) k (undef 0))

@@ -121,11 +121,11 @@ chain-keeps {ρ} {T} h (suc d) (input r k) = go (λ v. chain-keeps h d v) (rewri
         → ρ (step-chain (λ v. rewrite-chain d (T .rewrites) v) r k o) ≡ ρ (input r k)
     go ih none p = refl
     go ih (some (replace-with vs)) p = ih _ ∙ sym (entry-law ρ (T .rewrites) (h .laws) r (replace-with vs) p k)
-    go ih (some (renumber-or-replace-with ss)) p = at-slot (getD ss k (renumber-to k)) (entry-law ρ (T .rewrites) (h .laws) r (renumber-or-replace-with ss) p k)
+    go ih (some (renumber-or-replace-with ss)) p = of-rewrite (getD ss k (renumber-to k)) (entry-law ρ (T .rewrites) (h .laws) r (renumber-or-replace-with ss) p k)
       where
-        at-slot : (sl : InputRewrite) → ρ (input r k) ≡ step-input ρ r sl → ρ (step-input (λ v. rewrite-chain d (T .rewrites) v) r sl) ≡ ρ (input r k)
-        at-slot (replace-by v) e = ih v ∙ sym e
-        at-slot (renumber-to i) e = h .on-held r i ∙ sym e
+        of-rewrite : (sl : InputRewrite) → ρ (input r k) ≡ step-input ρ r sl → ρ (step-input (λ v. rewrite-chain d (T .rewrites) v) r sl) ≡ ρ (input r k)
+        of-rewrite (replace-by v) e = ih v ∙ sym e
+        of-rewrite (renumber-to i) e = h .on-held r i ∙ sym e
 
 pub lookup-keeps : {ρ : Resolver} {os : List NodeOutput} {T : Tables} → Respects ρ os T → (v : Value) → ρ (rewrite (T .rewrites) v) ≡ ρ v
 unfolding rewrite

@@ -61,11 +61,11 @@ module _ (W : World) where
   pub claimed-ok : {s₀ s s₁ : NestState} {r x : ℕ} {ks : Nodes} {vs : List Value} (c : ClaimedRegion) → Doing W s₀ r ks s → ClaimDone W x vs s (some c) s₁
       → AllScoped (tables s₁) r (ar W r) ks vs → ClaimedOk W s r ks s₁ c
   claimed-ok {s} {s₁} {r} {ks} c dg cd sc = record {
-    holds = cd .got .0;
-    since = cd .got .1;
-    inputs = λ i. subst (λ l. Scoped (tables s₁) r (ar W r) ks (getD l i (undef 0))) (sym (cd .got .3)) (sc i);
-    other = ne-eqb r (c .structured-body) (λ e. doing-closed W dg (subst (λ q. Rewritable W s q) (sym e) (cd .got .1 .region)));
-    apart = λ v o o′. dg .clear v o (cd .got .1 .children v o′);
+    holds = cd .got .holds;
+    since = cd .got .since;
+    inputs = λ i. subst (λ l. Scoped (tables s₁) r (ar W r) ks (getD l i (undef 0))) (sym (cd .got .inputs)) (sc i);
+    other = ne-eqb r (c .structured-body) (λ e. doing-closed W dg (subst (λ q. Rewritable W s q) (sym e) (cd .got .since .region)));
+    apart = λ v o o′. dg .clear v o (cd .got .since .children v o′);
   }
 
   pub in-targets : (es : List Edge) (ed : Edge) → In ed es → isIn (ed .target) (map (λ e. e .target) es) ≡ true
@@ -132,7 +132,7 @@ module _ (W : World) where
         post = record {
           same = refl;
           is = record { is = claimed-ok c dg cd (usable-all W r (tables s₁) (ed .inputs) (eo .inputs)) };
-          enters = record { enters = λ ρ os res n e h st bs onw. rw (cd .got .2, cd .got .3) onw };
+          enters = record { enters = λ ρ os res n e h st bs onw. rw (cd .got .origin, cd .got .inputs) onw };
         };
       }
 

@@ -1,3 +1,10 @@
 pub mod Stands
 pub mod Parts
 pub mod PartsWithin
+pub mod SkimRegions
+pub mod Answers
+pub mod RegionSteps
+pub mod Row
+pub mod Outcome
+pub mod OutcomeSteps
+pub mod RecordSteps

@@ -1,75 +1,19 @@
--- What a reading that succeeds consists of: each part read at its place (format's Places).
+-- What the reading of a region and of a record consists of: each part read at its place (format's Places).
 use mathlib.Core.Path.{_≡_, refl, sym, ap, subst, _∙_}
-use mathlib.Core.Bool.{Bool, true, false, _&&_}
+use mathlib.Core.Bool.{Bool, true, false}
 use mathlib.Core.List.{List, [], _∷_}
-use Prim.Native.Nat.{ℕ, zero, suc, _+_, _≤_, _<_}
+use Prim.Native.Nat.{ℕ, zero, suc, _+_, _<_}
 use native.Mathlib.Omega.{arith}
-use lib.ListN.{length, getD}
-use lib.Dec.{eqb, leb, ltb}
-use borrow.Author.Tests.{ltb-true, leb-true, eqb-true}
-use Rattle.meaning.specs.Graph.{Value, ControlInst, Region, Graph, nowhere}
+use lib.ListN.{length}
+use lib.Dec.{eqb}
+use borrow.Author.Tests.{eqb-true}
+use Rattle.meaning.specs.Graph.{Region, Graph, nowhere}
 use Rattle.meaning.specs.Graph as graph
 use Rattle.format.specs.Store.{Answer, accepted, refused, andThen}
-use Rattle.format.specs.Read.{Read, got, bad, Reader, follow, expect, word, within, many, counted, type, value, instruction, block, opcodeFor, fewestValues, mostValues, fewestTargets, mostTargets, distinctFrom, edgesFrom, controlInst, terminator, region, wordFor, settle, regionsFrom, Head, head, readRecord}
-use Rattle.format.specs.Places.{next, after, startOf, blocksOf, blockOf, limitOf, exitsOf}
-use Rattle.format.specs.ReadLaws.{clash, Parted, part, got-value, got-place, many-length, many-end, many-at}
-
--- two tests at once
-pub both : (a b : Bool) → (a && b) ≡ true → (a ≡ true) × (b ≡ true)
-both true b h = (refl, h)
-both false b h = absurd (clash (cc))
-
--- a word stands below W
-pub record WordParts (ws : List ℕ) (at n e : ℕ) : Type 0 where
-  pub inside : at < length ws
-  pub is : n ≡ getD ws at 0
-  pub end : e ≡ at + 1
-
-pub word-parts : (ws : List ℕ) (at : ℕ) {n e : ℕ} → word ws at ≡ got n e → WordParts ws at n e
-unfolding word
-word-parts ws at {n} {e} h = by-test (ltb at (length ws)) refl h
-  where
-    by-test : (t : Bool) → ltb at (length ws) ≡ t → elim t [ true ↦ got (getD ws at 0) (at + 1) | false ↦ bad 4 ] ≡ got n e → WordParts ws at n e
-    by-test true q r = record { inside = ltb-true at (length ws) q; is = cc; end = cc }
-    by-test false q r = absurd (clash (cc))
-
-pub record WithinParts (low high : ℕ) (ws : List ℕ) (at n e : ℕ) : Type 0 where
-  pub inside : at < length ws
-  pub is : n ≡ getD ws at 0
-  pub end : e ≡ at + 1
-  pub low-bound : low ≤ n
-  pub high-bound : n ≤ high
-
-pub within-parts : (low high : ℕ) (ws : List ℕ) (at : ℕ) {n e : ℕ} → within low high ws at ≡ got n e → WithinParts low high ws at n e
-unfolding within
-within-parts low high ws at {n} {e} h =
-    let a = part (word ws at) (λ k i. follow (expect (leb low k && leb k high) ws i) λ u j. got k j) n e h in
-    by-test (a .value) (a .place) (leb low (a .value) && leb (a .value) high) refl (word-parts ws at (a .first)) (a .second)
-  where
-    by-test : (k i : ℕ) (t : Bool) → (leb low k && leb k high) ≡ t → WordParts ws at k i → follow (expect t ws i) (λ u j. got k j) ≡ got n e → WithinParts low high ws at n e
-    by-test k i true q w r =
-        let same : k ≡ n = cc in
-        let there : i ≡ e = cc in
-        let bounds = both (leb low k) (leb k high) q in
-        record { inside = w .inside; is = sym same ∙ w .is; end = sym there ∙ w .end; low-bound = omega (arith, leb-true low k (bounds .0)); high-bound = omega (arith, leb-true k high (bounds .1)) }
-    by-test k i false q w r = absurd (clash (cc))
-
--- a count, and so many from the next place on
-pub record CountedParts {A : Type 0} (low high : ℕ) (p : Reader A) (ws : List ℕ) (at : ℕ) (xs : List A) (e : ℕ) : Type 0 where
-  pub inside : at < length ws
-  pub count : getD ws at 0 ≡ length xs
-  pub low-bound : low ≤ length xs
-  pub high-bound : length xs ≤ high
-  pub items : many (length xs) p ws (at + 1) ≡ got xs e
-
-pub counted-parts : {A : Type 0} (low high : ℕ) (p : Reader A) (ws : List ℕ) (at : ℕ) {xs : List A} {e : ℕ} → counted low high p ws at ≡ got xs e → CountedParts low high p ws at xs e
-unfolding counted
-counted-parts low high p ws at {xs} {e} h =
-    let a = part (within low high ws at) (λ n i. many n p ws i) xs e h in
-    let w = within-parts low high ws at (a .first) in
-    let size : length xs ≡ a .value = many-length p ws (a .value) (a .place) (a .second) in
-    let items : many (length xs) p ws (at + 1) ≡ got xs e = ap (λ n. many n p ws (at + 1)) size ∙ ap (many (a .value) p ws) (sym (w .end)) ∙ a .second in
-    record { inside = w .inside; count = sym (size ∙ w .is); low-bound = omega (arith, w .low-bound); high-bound = omega (arith, w .high-bound); items = items }
+use Rattle.format.specs.Read.{Read, got, bad, follow, word, within, many, counted, type, block, terminator, region, settle, regionsFrom, Head, head, readRecord}
+use Rattle.format.specs.Places.{next, after, startOf, blocksOf, limitOf, exitsOf}
+use Rattle.format.specs.ReadLaws.{clash, part, got-value, got-place, many-length, many-end, many-at}
+pub use Rattle.reading.specs.Parts.{both, WordParts, word-parts, WithinParts, within-parts, CountedParts, counted-parts}
 
 -- Each part of a region at its place; the region ends at e.
 pub record RegionParts (ws : List ℕ) (at : ℕ) (x : Region) (e : ℕ) : Type 0 where
@@ -78,10 +22,6 @@ pub record RegionParts (ws : List ℕ) (at : ℕ) (x : Region) (e : ℕ) : Type 
   pub limit : within 1 65535 ws (limitOf ws at) ≡ got (x .limit) (limitOf ws at + 1)
   pub terminator : terminator ws (limitOf ws at + 1) ≡ got (x .terminator) (exitsOf ws at)
   pub exits : counted 0 32 word ws (exitsOf ws at) ≡ got (x .exits) e
-
--- what is read, and the place after it
-pub at-next : {A : Type 0} {r : Read A} {a : A} {e : ℕ} → r ≡ got a e → r ≡ got a (next r)
-at-next {r = r} {a} {e} h = h ∙ ap (got a) (sym (ap next h))
 
 pub region-join : (ws : List ℕ) (at : ℕ) (x : Region) (i j k m e : ℕ) → counted 0 4 type ws at ≡ got (x .inputs) i → counted 0 8 block ws i ≡ got (x .blocks) j → within 1 65535 ws j ≡ got (x .limit) k → terminator ws k ≡ got (x .terminator) m → counted 0 32 word ws m ≡ got (x .exits) e → RegionParts ws at x e
 unfolding blocksOf limitOf exitsOf

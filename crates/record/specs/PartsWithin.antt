@@ -5,10 +5,9 @@ use mathlib.Core.List.{List, []}
 use Prim.Native.Nat.{ℕ, _+_, _≤_, _<_}
 use native.Mathlib.Omega.{arith}
 use lib.ListN.{length, getD}
-use lib.Dec.{eqb}
 use Rattle.meaning.specs.Graph.{Value, Instr, ControlInst}
-use Rattle.format.specs.Read.{Read, got, bad, Reader, follow, expect, word, within, many, counted, type, isKind, valueOf, indexRight, value, instruction, opcodeFor, fewestValues, mostValues, fewestTargets, mostTargets, distinctFrom, edgesFrom, controlInst, terminator, Head, head}
-use Rattle.format.specs.ReadLaws.{clash, Parted, part, got-value, got-place}
+use Rattle.format.specs.Read.{got, expect, word, within, many, counted, type, isKind, valueOf, indexRight, value, instruction, opcodeFor, fewestValues, mostValues, fewestTargets, mostTargets, distinctFrom, edgesFrom, controlInst, terminator, Head, head}
+use Rattle.format.specs.ReadLaws.{clash, part, got-value, got-place}
 use Rattle.record.specs.Parts.{WordParts, word-parts, WithinParts, within-parts}
 
 -- a test that was passed

@@ -1,0 +1,68 @@
+-- Each answer is a path through `operandsRead`, at the bounds of the kind.
+use mathlib.Core.Path.{_∙_}
+use Rattle.reading.specs.Answers.{item-is, step-is}
+use Rattle.reading.specs.SkimTerminators.{operands-stop, operands-count, operands-rest}
+use borrow.Author.Needs.{needs}
+use Rattle.reading.proofs.terminators.operands.Statement.{statement}
+use Rattle.reading.proofs.terminators.operands.Tie as tie
+
+fewest-values-requires : tie.Need-fewest-values-requires
+fewest-values-requires c κs = search needs
+
+most-values-requires : tie.Need-most-values-requires
+most-values-requires c κs = search needs
+
+counted-values-requires : tie.Need-counted-values-requires
+counted-values-requires c κs = search needs
+
+enum-known-m : tie.Need-enum-known-m
+enum-known-m c = search needs
+
+enum-known-p : tie.Need-enum-known-p
+enum-known-p c = search needs
+
+fewest-targets-requires : tie.Need-fewest-targets-requires
+fewest-targets-requires c κs = search needs
+
+most-targets-requires : tie.Need-most-targets-requires
+most-targets-requires c κs = search needs
+
+within-requires : tie.Need-within-requires
+within-requires c κs = search needs
+
+enum-known-m-2 : tie.Need-enum-known-m-2
+enum-known-m-2 c = search needs
+
+enum-known-n : tie.Need-enum-known-n
+enum-known-n c = search needs
+
+edges-requires : tie.Need-edges-requires
+edges-requires c κs = search needs
+
+returns : tie.Need-returns
+returns c = operands-stop _ _ _ (c .before .before .before .before .before .fewest-values .ensures) (c .before .before .before .before .most-values .ensures) (step-is (c .before .before .before .counted-values .ensures) (c .before .m .given .1))
+
+returns-2 : tie.Need-returns-2
+returns-2 c = operands-count _ _ _ (c .before .before .before .before .before .before .before .before .before .before .before .fewest-values .ensures) (c .before .before .before .before .before .before .before .before .before .before .most-values .ensures) (step-is (c .before .before .before .before .before .before .before .before .before .counted-values .ensures) (c .before .before .before .before .before .before .before .p .given .1)) (c .before .before .before .before .before .fewest-targets .ensures) (c .before .before .before .before .most-targets .ensures) (item-is (c .before .before .before .within .ensures) (c .before .m2 .given .1))
+
+returns-3 : tie.Need-returns-3
+returns-3 c = c .edges .ensures ∙ operands-rest _ _ _ (c .before .before .before .before .before .before .before .before .before .before .before .before .fewest-values .ensures) (c .before .before .before .before .before .before .before .before .before .before .before .most-values .ensures) (step-is (c .before .before .before .before .before .before .before .before .before .before .counted-values .ensures) (c .before .before .before .before .before .before .before .before .p .given .1)) (c .before .before .before .before .before .before .fewest-targets .ensures) (c .before .before .before .before .before .most-targets .ensures) (item-is (c .before .before .before .before .within .ensures) (c .before .before .n .given .1))
+
+pub operands-spec : {M : Type 1} → statement M
+operands-spec =
+    tie.close
+    (tie.spec
+    fewest-values-requires
+    most-values-requires
+    counted-values-requires
+    enum-known-m
+    enum-known-p
+    fewest-targets-requires
+    most-targets-requires
+    within-requires
+    enum-known-m-2
+    enum-known-n
+    edges-requires
+    returns
+    returns-2
+    returns-3)

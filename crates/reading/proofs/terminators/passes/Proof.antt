@@ -1,0 +1,59 @@
+-- The loop follows `many`: `Going` says what is left to read, and from where.
+use native.Mathlib.Omega.{arith}
+use Prim.Native.Nat.{_-_}
+use lib.ListN.{take}
+use Rattle.format.specs.Read.{counted, value}
+use Rattle.reading.specs.Skims.{Going, going-start, going-next, going-stop, going-end}
+use Rattle.reading.specs.Answers.{step-is}
+use borrow.Author.Needs.{needs}
+use Rattle.reading.proofs.terminators.passes.Statement.{statement}
+use Rattle.reading.proofs.terminators.passes.Tie as tie
+
+abbrev Inv-loop : tie.InvT-loop
+Inv-loop w count from n i₀ at₀ i at = Going (counted 0 4 value) (take count w) n from i at
+
+abbrev μ-loop : tie.MeasureT-loop
+μ-loop w count from n i₀ at₀ i at = n - i
+
+loop-holds : tie.Need-loop-holds Inv-loop μ-loop
+loop-holds c = going-start
+
+counted-values-requires : tie.Need-counted-values-requires Inv-loop μ-loop
+counted-values-requires c κs = search needs
+
+enum-known-m : tie.Need-enum-known-m Inv-loop μ-loop
+enum-known-m c = search needs
+
+returns : tie.Need-returns Inv-loop μ-loop
+returns c = going-stop (c .before .before .before .before .before .loop .inv) (c .before .before .before .before .loop-test .taken) (step-is (c .before .before .before .counted-values .ensures) (c .before .m .given .1))
+
+enum-known-e : tie.Need-enum-known-e Inv-loop μ-loop
+enum-known-e c = search needs
+
+add-i : tie.Need-add-i Inv-loop μ-loop
+add-i c = omega arith
+
+loop-less : tie.Need-loop-less Inv-loop μ-loop
+loop-less c = omega arith
+
+loop-again : tie.Need-loop-again Inv-loop μ-loop
+loop-again c = going-next (c .before .before .before .before .before .loop .inv) (c .before .before .before .before .loop-test .taken) (step-is (c .before .before .before .counted-values .ensures) (c .before .e .given .1))
+
+returns-2 : tie.Need-returns-2 Inv-loop μ-loop
+returns-2 c = going-end (c .before .loop .inv) (c .loop-test .left)
+
+pub passes-spec : {M : Type 1} → statement M
+passes-spec =
+    tie.close
+    (tie.spec
+    Inv-loop
+    μ-loop
+    loop-holds
+    counted-values-requires
+    enum-known-m
+    returns
+    enum-known-e
+    add-i
+    loop-less
+    loop-again
+    returns-2)

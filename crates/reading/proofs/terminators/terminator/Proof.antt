@@ -1,0 +1,52 @@
+-- Each answer is a path through the reader `terminator`.
+use mathlib.Core.Path.{_∙_}
+use Rattle.reading.specs.Answers.{item-is, step-is}
+use Rattle.reading.specs.SkimTerminators.{terminator-stop, terminator-opcode, terminator-rest}
+use borrow.Author.Needs.{needs}
+use Rattle.reading.proofs.terminators.terminator.Statement.{statement}
+use Rattle.reading.proofs.terminators.terminator.Tie as tie
+
+within-requires : tie.Need-within-requires
+within-requires c κs = search needs
+
+enum-known-m : tie.Need-enum-known-m
+enum-known-m c = search needs
+
+enum-known-k : tie.Need-enum-known-k
+enum-known-k c = search needs
+
+opcode-for-requires : tie.Need-opcode-for-requires
+opcode-for-requires c κs = search needs
+
+enum-known-m-2 : tie.Need-enum-known-m-2
+enum-known-m-2 c = search needs
+
+enum-known-e : tie.Need-enum-known-e
+enum-known-e c = search needs
+
+operands-requires : tie.Need-operands-requires
+operands-requires c κs = search needs
+
+returns : tie.Need-returns
+returns c = terminator-stop _ _ (item-is (c .before .before .before .within .ensures) (c .before .m .given .1))
+
+returns-2 : tie.Need-returns-2
+returns-2 c = terminator-opcode _ _ (item-is (c .before .before .before .before .before .before .before .within .ensures) (c .before .before .before .before .before .k .given .1)) (step-is (c .before .before .before .opcode-for .ensures) (c .before .m2 .given .1))
+
+returns-3 : tie.Need-returns-3
+returns-3 c = c .operands .ensures ∙ terminator-rest _ _ (item-is (c .before .before .before .before .before .before .before .before .within .ensures) (c .before .before .before .before .before .before .k .given .1)) (step-is (c .before .before .before .before .opcode-for .ensures) (c .before .before .e .given .1))
+
+pub terminator-spec : {M : Type 1} → statement M
+terminator-spec =
+    tie.close
+    (tie.spec
+    within-requires
+    enum-known-m
+    enum-known-k
+    opcode-for-requires
+    enum-known-m-2
+    enum-known-e
+    operands-requires
+    returns
+    returns-2
+    returns-3)

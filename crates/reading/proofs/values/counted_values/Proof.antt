@@ -1,0 +1,30 @@
+-- The count is refused, or so many are read.
+use mathlib.Core.Path.{_∙_}
+use Rattle.reading.specs.Answers.{item-is}
+use Rattle.reading.specs.Skims.{counted-stop, counted-rest}
+use borrow.Author.Needs.{needs}
+use Rattle.reading.proofs.values.counted_values.Statement.{statement}
+use Rattle.reading.proofs.values.counted_values.Tie as tie
+
+within-requires : tie.Need-within-requires
+within-requires c κs = search needs
+
+enum-known-m : tie.Need-enum-known-m
+enum-known-m c = search needs
+
+enum-known-n : tie.Need-enum-known-n
+enum-known-n c = search needs
+
+values-requires : tie.Need-values-requires
+values-requires c κs = search needs
+
+returns : tie.Need-returns
+returns c = counted-stop _ _ _ _ _ (item-is (c .before .before .before .within .ensures) (c .before .m .given .1))
+
+returns-2 : tie.Need-returns-2
+returns-2 c = c .values .ensures ∙ counted-rest _ _ _ _ _ (item-is (c .before .before .before .before .within .ensures) (c .before .before .n .given .1))
+
+pub counted-values-spec : {M : Type 1} → statement M
+counted-values-spec =
+    tie.close
+    (tie.spec within-requires enum-known-m enum-known-n values-requires returns returns-2)

@@ -1,0 +1,68 @@
+-- Each answer is a path through the reader `instruction`.
+use mathlib.Core.Path.{_∙_}
+use Rattle.reading.specs.Answers.{item-is}
+use Rattle.reading.specs.SkimValues.{instruction-stop, instruction-type, instruction-cost, instruction-rest}
+use borrow.Author.Needs.{needs}
+use Rattle.reading.proofs.values.instruction.Statement.{statement}
+use Rattle.reading.proofs.values.instruction.Tie as tie
+
+word-requires : tie.Need-word-requires
+word-requires c κs = search needs
+
+enum-known-m : tie.Need-enum-known-m
+enum-known-m c = search needs
+
+enum-known-p : tie.Need-enum-known-p
+enum-known-p c = search needs
+
+within-requires : tie.Need-within-requires
+within-requires c κs = search needs
+
+enum-known-m-2 : tie.Need-enum-known-m-2
+enum-known-m-2 c = search needs
+
+enum-known-q : tie.Need-enum-known-q
+enum-known-q c = search needs
+
+word-requires-2 : tie.Need-word-requires-2
+word-requires-2 c κs = search needs
+
+enum-known-m-3 : tie.Need-enum-known-m-3
+enum-known-m-3 c = search needs
+
+enum-known-e : tie.Need-enum-known-e
+enum-known-e c = search needs
+
+counted-values-requires : tie.Need-counted-values-requires
+counted-values-requires c κs = search needs
+
+returns : tie.Need-returns
+returns c = instruction-stop _ _ (item-is (c .before .before .before .word .ensures) (c .before .m .given .1))
+
+returns-2 : tie.Need-returns-2
+returns-2 c = instruction-type _ _ (item-is (c .before .before .before .before .before .before .before .word .ensures) (c .before .before .before .before .before .p .given .1)) (item-is (c .before .before .before .within .ensures) (c .before .m2 .given .1))
+
+returns-3 : tie.Need-returns-3
+returns-3 c = instruction-cost _ _ (item-is (c .before .before .before .before .before .before .before .before .before .before .before .word .ensures) (c .before .before .before .before .before .before .before .before .before .p .given .1)) (item-is (c .before .before .before .before .before .before .before .within .ensures) (c .before .before .before .before .before .q .given .1)) (item-is (c .before .before .before .word2 .ensures) (c .before .m3 .given .1))
+
+returns-4 : tie.Need-returns-4
+returns-4 c = c .counted-values .ensures ∙ instruction-rest _ _ (item-is (c .before .before .before .before .before .before .before .before .before .before .before .before .word .ensures) (c .before .before .before .before .before .before .before .before .before .before .p .given .1)) (item-is (c .before .before .before .before .before .before .before .before .within .ensures) (c .before .before .before .before .before .before .q .given .1)) (item-is (c .before .before .before .before .word2 .ensures) (c .before .before .e .given .1))
+
+pub instruction-spec : {M : Type 1} → statement M
+instruction-spec =
+    tie.close
+    (tie.spec
+    word-requires
+    enum-known-m
+    enum-known-p
+    within-requires
+    enum-known-m-2
+    enum-known-q
+    word-requires-2
+    enum-known-m-3
+    enum-known-e
+    counted-values-requires
+    returns
+    returns-2
+    returns-3
+    returns-4)

@@ -1,0 +1,56 @@
+-- Each answer is a path through `namedBy`.
+use mathlib.Core.Path.{sym, _∙_}
+use Rattle.reading.specs.Answers.{item-is}
+use Rattle.reading.specs.SkimValues.{named-stop, named-short, named-bad, named-in}
+use borrow.Author.Needs.{needs}
+use Rattle.reading.proofs.values.named.Statement.{statement}
+use Rattle.reading.proofs.values.named.Tie as tie
+
+word-requires : tie.Need-word-requires
+word-requires c κs = search needs
+
+enum-known-m : tie.Need-enum-known-m
+enum-known-m c = search needs
+
+enum-known-p : tie.Need-enum-known-p
+enum-known-p c = search needs
+
+word-requires-2 : tie.Need-word-requires-2
+word-requires-2 c κs = search needs
+
+enum-known-m-2 : tie.Need-enum-known-m-2
+enum-known-m-2 c = search needs
+
+enum-known-i : tie.Need-enum-known-i
+enum-known-i c = search needs
+
+index-right-requires : tie.Need-index-right-requires
+index-right-requires c κs = search needs
+
+returns : tie.Need-returns
+returns c = named-in _ _ _ (item-is (c .before .before .before .before .before .before .before .before .before .word .ensures) (c .before .before .before .before .before .before .before .p .given .1)) (item-is (c .before .before .before .before .before .word2 .ensures) (c .before .before .before .i .given .1)) (sym (c .before .index-right .ensures) ∙ c .if1 .taken)
+
+returns-2 : tie.Need-returns-2
+returns-2 c = named-stop _ _ _ (item-is (c .before .before .before .word .ensures) (c .before .m .given .1))
+
+returns-3 : tie.Need-returns-3
+returns-3 c = named-short _ _ _ (item-is (c .before .before .before .before .before .before .before .word .ensures) (c .before .before .before .before .before .p .given .1)) (item-is (c .before .before .before .word2 .ensures) (c .before .m2 .given .1))
+
+returns-4 : tie.Need-returns-4
+returns-4 c = named-bad _ _ _ (item-is (c .before .before .before .before .before .before .before .before .before .word .ensures) (c .before .before .before .before .before .before .before .p .given .1)) (item-is (c .before .before .before .before .before .word2 .ensures) (c .before .before .before .i .given .1)) (sym (c .before .index-right .ensures) ∙ c .if1 .left)
+
+pub named-spec : {M : Type 1} → statement M
+named-spec =
+    tie.close
+    (tie.spec
+    word-requires
+    enum-known-m
+    enum-known-p
+    word-requires-2
+    enum-known-m-2
+    enum-known-i
+    index-right-requires
+    returns
+    returns-2
+    returns-3
+    returns-4)

@@ -1,0 +1,44 @@
+-- Each answer is a path through the reader `value`.
+use mathlib.Core.Path.{sym, _∙_}
+use Rattle.reading.specs.Answers.{item-is}
+use Rattle.reading.specs.SkimValues.{value-stop, value-kind, value-rest}
+use borrow.Author.Needs.{needs}
+use Rattle.reading.proofs.values.value.Statement.{statement}
+use Rattle.reading.proofs.values.value.Tie as tie
+
+word-requires : tie.Need-word-requires
+word-requires c κs = search needs
+
+enum-known-m : tie.Need-enum-known-m
+enum-known-m c = search needs
+
+enum-known-k : tie.Need-enum-known-k
+enum-known-k c = search needs
+
+is-kind-requires : tie.Need-is-kind-requires
+is-kind-requires c κs = search needs
+
+named-requires : tie.Need-named-requires
+named-requires c κs = search needs
+
+returns : tie.Need-returns
+returns c = c .named .ensures ∙ value-rest _ _ (item-is (c .before .before .before .before .before .before .word .ensures) (c .before .before .before .before .k .given .1)) (sym (c .before .before .is-kind .ensures) ∙ c .before .if1 .taken)
+
+returns-2 : tie.Need-returns-2
+returns-2 c = value-stop _ _ (item-is (c .before .before .before .word .ensures) (c .before .m .given .1))
+
+returns-3 : tie.Need-returns-3
+returns-3 c = value-kind _ _ (item-is (c .before .before .before .before .before .word .ensures) (c .before .before .before .k .given .1)) (sym (c .before .is-kind .ensures) ∙ c .if1 .left)
+
+pub value-spec : {M : Type 1} → statement M
+value-spec =
+    tie.close
+    (tie.spec
+    word-requires
+    enum-known-m
+    enum-known-k
+    is-kind-requires
+    named-requires
+    returns
+    returns-2
+    returns-3)

@@ -1,0 +1,29 @@
+-- The count is refused, or so many are read.
+use mathlib.Core.Path.{_∙_}
+use Rattle.reading.specs.Skims.{counted-stop, counted-rest}
+use Rattle.reading.specs.Answers.{item-is}
+use borrow.Author.Needs.{needs}
+use Rattle.reading.proofs.words.counted_types.Statement.{statement}
+use Rattle.reading.proofs.words.counted_types.Tie as tie
+
+within-requires : tie.Need-within-requires
+within-requires c κs = search needs
+
+enum-known-m : tie.Need-enum-known-m
+enum-known-m c = search needs
+
+enum-known-n : tie.Need-enum-known-n
+enum-known-n c = search needs
+
+types-requires : tie.Need-types-requires
+types-requires c κs = search needs
+
+returns : tie.Need-returns
+returns c = counted-stop _ _ _ _ _ (item-is (c .before .before .before .within .ensures) (c .before .m .given .1))
+
+returns-2 : tie.Need-returns-2
+returns-2 c = c .types .ensures ∙ counted-rest _ _ _ _ _ (item-is (c .before .before .before .before .within .ensures) (c .before .before .n .given .1))
+
+pub counted-types-spec : {M : Type 1} → statement M
+counted-types-spec =
+    tie.close (tie.spec within-requires enum-known-m enum-known-n types-requires returns returns-2)

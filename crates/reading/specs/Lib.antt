@@ -1,0 +1,6 @@
+pub mod Parts
+pub mod Skims
+pub mod SkimValues
+pub mod Targets
+pub mod SkimTerminators
+pub mod Answers

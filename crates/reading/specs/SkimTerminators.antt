@@ -1,0 +1,129 @@
+-- Terminators with their values forgotten, in the order in which the code reads them.
+use mathlib.Core.Path.{_≡_, refl, sym, ap, _∙_}
+use mathlib.Core.Bool.{true, false}
+use mathlib.Core.List.{List, [], _∷_}
+use Prim.Native.Nat.{ℕ, _+_, _<_}
+use native.Mathlib.Omega.{arith}
+use lib.ListN.{length, take, length-take}
+use lib.Dec.{eqb}
+use Rattle.meaning.specs.Graph.{Value, ControlInst}
+use Rattle.format.specs.Read.{Read, got, bad, Reader, follow, word, within, many, counted, value, opcodeFor, fewestValues, mostValues, fewestTargets, mostTargets, distinctFrom, edgesFrom, controlInst, terminator}
+use Rattle.format.specs.Places.{skim}
+use Rattle.format.specs.ReadLaws.{clash, got-place}
+use Rattle.reading.specs.Targets.{firsts, firsts-distinct, firsts-taken, many-words, words-inside}
+
+-- a reading of which the place is known
+pub record Found {A : Type 0} (r : Read A) (e : ℕ) : Type 0 where
+  pub value : A
+  pub is : r ≡ got value e
+
+pub found : {A : Type 0} (r : Read A) {e : ℕ} → skim r ≡ got tt e → Found r e
+found (got a i) h = record { value = a; is = ap (got a) (got-place h) }
+found (bad n) h = absurd (clash (cc))
+
+-- n targets, and the values passed to each distinct one
+unfoldable pub edgesRead : ℕ → Reader Unit
+edgesRead n ws at = follow (many n word ws at) λ ts e. skim (many (length (distinctFrom [] ts)) (counted 0 4 value) ws e)
+
+-- the values of a terminator of kind k, its targets and what is passed to them
+unfoldable pub operandsRead : ℕ → Reader Unit
+unfolding edgesRead
+operandsRead k ws at =
+    follow (skim (counted (fewestValues k) (mostValues k) value ws at)) λ u p.
+    follow (within (fewestTargets k) (mostTargets k) ws p) λ n e. edgesRead n ws e
+
+module _ (k : ℕ) (ws : List ℕ) (at : ℕ) where
+  pub opcode-none : eqb k 2 ≡ false → got tt at ≡ skim (opcodeFor k ws at)
+  unfolding opcodeFor
+  opcode-none h = rw (opcodeFor, h)
+
+  pub opcode-word : eqb k 2 ≡ true → skim (many 1 word ws at) ≡ skim (opcodeFor k ws at)
+  unfolding opcodeFor many
+  opcode-word h = rw (opcodeFor, h) (one (word ws at))
+    where
+      one : (r : Read ℕ) → skim (follow r λ x i. follow (many 0 word ws i) λ xs j. got (x ∷ xs) j) ≡ skim r
+      one (got x i) = refl
+      one (bad m) = refl
+
+-- targets read from the lent words, W of them in use
+module _ (n : ℕ) (w : List ℕ) (count at : ℕ) where
+  pub edges-stop : {m : ℕ} → skim (many n word (take count w) at) ≡ bad m → bad m ≡ edgesRead n (take count w) at
+  unfolding edgesRead
+  edges-stop {m} h = by-first (many n word (take count w) at) h
+    where
+      by-first : (r : Read (List ℕ)) → skim r ≡ bad m → bad m ≡ follow r λ ts e. skim (many (length (distinctFrom [] ts)) (counted 0 4 value) (take count w) e)
+      by-first (got ts i) q = absurd (clash (cc))
+      by-first (bad j) q = sym q
+
+  pub targets-inside : {e : ℕ} → skim (many n word (take count w) at) ≡ got tt e → (j : ℕ) → j < n → at + j < count
+  targets-inside h j l =
+      let f = found (many n word (take count w) at) h in
+      omega (arith, words-inside n (take count w) at (f .is) j l, length-take count w)
+
+  pub edges-rest : {e : ℕ} → skim (many n word (take count w) at) ≡ got tt e → skim (many (firsts w at n) (counted 0 4 value) (take count w) e) ≡ edgesRead n (take count w) at
+  unfolding edgesRead
+  edges-rest {e} h =
+      let f = found (many n word (take count w) at) h in
+      let same : firsts w at n ≡ length (distinctFrom [] (f .value)) = sym (firsts-taken w count at n (targets-inside h)) ∙ firsts-distinct (take count w) at n ∙ ap (λ ts. length (distinctFrom [] ts)) (sym (many-words n (take count w) at (f .is))) in
+      rw (f .is, same)
+
+-- low and high bound the values, fewest and most the targets
+module _ (k : ℕ) (ws : List ℕ) (at : ℕ) {low high : ℕ} (is-low : low ≡ fewestValues k) (is-high : high ≡ mostValues k) where
+  bounds : skim (counted (fewestValues k) (mostValues k) value ws at) ≡ skim (counted low high value ws at)
+  bounds = rw (is-low, is-high)
+
+  pub operands-stop : {m : ℕ} → skim (counted low high value ws at) ≡ bad m → bad m ≡ operandsRead k ws at
+  unfolding operandsRead
+  operands-stop h = rw (bounds ∙ h)
+
+  module _ {p : ℕ} (values : skim (counted low high value ws at) ≡ got tt p) {fewest most : ℕ} (is-fewest : fewest ≡ fewestTargets k) (is-most : most ≡ mostTargets k) where
+    places : within (fewestTargets k) (mostTargets k) ws p ≡ within fewest most ws p
+    places = rw (is-fewest, is-most)
+
+    pub operands-count : {m : ℕ} → within fewest most ws p ≡ bad m → bad m ≡ operandsRead k ws at
+    unfolding operandsRead
+    operands-count h = rw (bounds ∙ values, places ∙ h)
+
+    pub operands-rest : {n e : ℕ} → within fewest most ws p ≡ got n e → edgesRead n ws e ≡ operandsRead k ws at
+    unfolding operandsRead
+    operands-rest h = rw (bounds ∙ values, places ∙ h)
+
+-- what stands after the opcode, with the terminator made of it
+operands-made : (k op : ℕ) (ws : List ℕ) (at : ℕ) → operandsRead k ws at ≡ skim (follow (counted (fewestValues k) (mostValues k) value ws at) λ vs p. follow (counted (fewestTargets k) (mostTargets k) word ws p) λ ts e. follow (many (length (distinctFrom [] ts)) (counted 0 4 value) ws e) λ passes j. got (controlInst k op vs (edgesFrom ts passes)) j)
+unfolding operandsRead edgesRead counted
+operands-made k op ws at = by-values (counted (fewestValues k) (mostValues k) value ws at)
+  where
+    by-passes : (vs : List Value) (ts : List ℕ) (r : Read (List (List Value))) → skim r ≡ skim (follow r λ passes j. got (controlInst k op vs (edgesFrom ts passes)) j)
+    by-passes vs ts (got a i) = refl
+    by-passes vs ts (bad m) = refl
+
+    by-targets : (vs : List Value) (r : Read (List ℕ)) → (follow r λ ts e. skim (many (length (distinctFrom [] ts)) (counted 0 4 value) ws e)) ≡ skim (follow r λ ts e. follow (many (length (distinctFrom [] ts)) (counted 0 4 value) ws e) λ passes j. got (controlInst k op vs (edgesFrom ts passes)) j)
+    by-targets vs (got ts e) = by-passes vs ts (many (length (distinctFrom [] ts)) (counted 0 4 value) ws e)
+    by-targets vs (bad m) = refl
+
+    by-count : (vs : List Value) (r : Read ℕ) → (follow r λ n e. follow (many n word ws e) λ ts i. skim (many (length (distinctFrom [] ts)) (counted 0 4 value) ws i)) ≡ skim (follow (follow r λ n e. many n word ws e) λ ts i. follow (many (length (distinctFrom [] ts)) (counted 0 4 value) ws i) λ passes j. got (controlInst k op vs (edgesFrom ts passes)) j)
+    by-count vs (got n e) = by-targets vs (many n word ws e)
+    by-count vs (bad m) = refl
+
+    by-values : (r : Read (List Value)) → (follow (skim r) λ u p. follow (within (fewestTargets k) (mostTargets k) ws p) λ n e. follow (many n word ws e) λ ts i. skim (many (length (distinctFrom [] ts)) (counted 0 4 value) ws i)) ≡ skim (follow r λ vs p. follow (follow (within (fewestTargets k) (mostTargets k) ws p) λ n e. many n word ws e) λ ts i. follow (many (length (distinctFrom [] ts)) (counted 0 4 value) ws i) λ passes j. got (controlInst k op vs (edgesFrom ts passes)) j)
+    by-values (got vs p) = by-count vs (within (fewestTargets k) (mostTargets k) ws p)
+    by-values (bad m) = refl
+
+module _ (ws : List ℕ) (at : ℕ) where
+  pub terminator-stop : {m : ℕ} → within 0 5 ws at ≡ bad m → bad m ≡ skim (terminator ws at)
+  unfolding terminator
+  terminator-stop h = rw h
+
+  pub terminator-opcode : {k p m : ℕ} → within 0 5 ws at ≡ got k p → skim (opcodeFor k ws p) ≡ bad m → bad m ≡ skim (terminator ws at)
+  unfolding terminator
+  terminator-opcode {k} {p} {m} h j = rw h (by-opcode (opcodeFor k ws p) j _)
+    where
+      by-opcode : (r : Read ℕ) → skim r ≡ bad m → (f : ℕ → ℕ → Read ControlInst) → bad m ≡ skim (follow r f)
+      by-opcode (got a i) q f = absurd (clash (cc))
+      by-opcode (bad n) q f = sym q
+
+  pub terminator-rest : {k p e : ℕ} → within 0 5 ws at ≡ got k p → skim (opcodeFor k ws p) ≡ got tt e → operandsRead k ws e ≡ skim (terminator ws at)
+  unfolding terminator
+  terminator-rest {k} {p} {e} h j =
+      let f = found (opcodeFor k ws p) j in
+      rw (h, f .is) (operands-made k (f .value) ws e)

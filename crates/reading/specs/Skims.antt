@@ -1,0 +1,90 @@
+-- Readings with their values forgotten: what is left of each reader, in the order in which the code goes.
+use mathlib.Core.Path.{_≡_, refl, sym, ap, _∙_}
+use mathlib.Core.List.{List}
+use Prim.Native.Nat.{ℕ, suc, _+_, _-_, _≤_, _<_}
+use native.Mathlib.Omega.{arith}
+use native.Mathlib.Numerals.{add-one}
+use lib.ListN.{length, getD, take}
+use lib.Seq.{getD-take, length-take-le}
+use borrow.Author.Tests.{lt-ltb, le-ltb, le-leb, lt-leb}
+use Rattle.format.specs.Read.{Read, got, bad, Reader, follow, word, within, many, counted, value}
+use Rattle.format.specs.Places.{next, skim, after}
+use Rattle.format.specs.ReadLaws.{clash, many-step, many-stop}
+
+-- a value that is made of what was read
+pub skim-made : {A B : Type 0} (r : Read A) (f : A → B) → skim (follow r (λ a i. got (f a) i)) ≡ skim r
+skim-made (got a i) f = refl
+skim-made (bad n) f = refl
+
+-- A word of the record is one of the lent words below W.
+module _ (w : List ℕ) (count at : ℕ) (fits : count ≤ length w) where
+  pub word-in : at < count → got (getD w at 0) (at + 1) ≡ word (take count w) at
+  unfolding word
+  word-in h = rw (word, length-take-le count w fits, lt-ltb at count h, getD-take count w at 0 h)
+
+  pub word-out : count ≤ at → bad 4 ≡ word (take count w) at
+  unfolding word
+  word-out h = rw (word, length-take-le count w fits, le-ltb at count h)
+
+module _ (low high : ℕ) (ws : List ℕ) (at : ℕ) where
+  pub within-stop : {m : ℕ} → word ws at ≡ bad m → bad m ≡ within low high ws at
+  unfolding within
+  within-stop h = rw h
+
+  pub within-low : {n e : ℕ} → word ws at ≡ got n e → n < low → bad 5 ≡ within low high ws at
+  unfolding within
+  within-low {n} h l = rw (h, lt-leb low n l)
+
+  pub within-high : {n e : ℕ} → word ws at ≡ got n e → low ≤ n → high < n → bad 5 ≡ within low high ws at
+  unfolding within
+  within-high {n} h l m = rw (h, le-leb low n l, lt-leb n high m)
+
+  pub within-in : {n e : ℕ} → word ws at ≡ got n e → low ≤ n → n ≤ high → got n e ≡ within low high ws at
+  unfolding within
+  within-in {n} h l m = rw (h, le-leb low n l, le-leb n high m)
+
+left : (n k : ℕ) → k < n → n - k ≡ suc (n - (k + 1))
+left n k l = omega arith
+
+pub next-of : {A : Type 0} (r : Read A) {e : ℕ} → skim r ≡ got tt e → e ≡ next r
+next-of (got a i) h = cc
+next-of (bad m) h = absurd (clash (cc))
+
+-- The k-th turn of a loop that reads n of them: the rest is read from a place, where k of them end.
+pub record Going {A : Type 0} (p : Reader A) (ws : List ℕ) (n from k at : ℕ) : Type 0 where
+  pub bound : k ≤ n
+  pub rest : skim (many n p ws from) ≡ skim (many (n - k) p ws at)
+  pub place : at ≡ after k p ws from
+
+module _ {A : Type 0} {p : Reader A} {ws : List ℕ} {n from : ℕ} where
+  pub going-start : Going p ws n from 0 from
+  unfolding after
+  going-start = record { bound = omega arith; rest = ap (λ k. skim (many k p ws from)) (omega arith); place = refl }
+
+  pub going-next : {k at e : ℕ} → Going p ws n from k at → k < n → skim (p ws at) ≡ got tt e → Going p ws n from (k + 1) e
+  unfolding after
+  going-next {k} {at} {e} g l h =
+      record {
+        bound = omega arith;
+        rest = g .rest ∙ ap (λ m. skim (many m p ws at)) (left n k l) ∙ many-step p ws (n - (k + 1)) at h;
+        place = next-of (p ws at) h ∙ ap (λ i. next (p ws i)) (g .place) ∙ ap (λ j. after j p ws from) (sym (add-one k));
+      }
+
+  pub going-stop : {k at m : ℕ} → Going p ws n from k at → k < n → skim (p ws at) ≡ bad m → bad m ≡ skim (many n p ws from)
+  going-stop {k} {at} {m} g l h = sym (g .rest ∙ ap (λ j. skim (many j p ws at)) (left n k l) ∙ many-stop p ws (n - (k + 1)) at h)
+
+  pub going-end : {k at : ℕ} → Going p ws n from k at → n ≤ k → got tt at ≡ skim (many n p ws from)
+  unfolding many
+  going-end {k} {at} g l = sym (g .rest ∙ ap (λ j. skim (many j p ws at)) none)
+    where
+      none : n - k ≡ 0
+      none = omega arith
+
+module _ {A : Type 0} (low high : ℕ) (p : Reader A) (ws : List ℕ) (at : ℕ) where
+  pub counted-stop : {m : ℕ} → within low high ws at ≡ bad m → bad m ≡ skim (counted low high p ws at)
+  unfolding counted
+  counted-stop h = rw h
+
+  pub counted-rest : {n e : ℕ} → within low high ws at ≡ got n e → skim (many n p ws e) ≡ skim (counted low high p ws at)
+  unfolding counted
+  counted-rest h = rw h

@@ -1,0 +1,4 @@
+// Reading the words of a record, in layers: words, values and instructions, terminators (document 01, refusals 4 and 5).
+pub mod terminators;
+pub mod values;
+pub mod words;

@@ -1,0 +1,185 @@
+// Terminators: kind, opcode, values, targets, and the values passed to each distinct target.
+use crate::values::counted_values;
+use crate::words::Item;
+use crate::words::Step;
+use crate::words::within;
+use crate::words::word;
+use crate::words::words;
+ghost use mathlib.Core.Path.{_≡_};
+ghost use Prim.Native.Nat.{ℕ, _+_, _≤_, _<_};
+ghost use lib.ListN.{take};
+ghost use Rattle.format.specs.Read as read;
+ghost use Rattle.format.specs.Places.{skim};
+ghost use Rattle.reading.specs.Answers.{stepOf};
+ghost use Rattle.reading.specs.Targets.{stands, first, firsts};
+ghost use Rattle.reading.specs.SkimTerminators.{edgesRead, operandsRead};
+
+// How many values and targets a terminator of kind k has, at least and at most.
+fn fewest_values(k: u16) -> u16
+    ensures { λ r. ⌜ r ≡ read.fewestValues k ⌝ }
+{
+    if 4 <= k {
+        return 1;
+    }
+    0
+}
+
+fn most_values(k: u16) -> u16
+    ensures { λ r. ⌜ r ≡ read.mostValues k ⌝ }
+{
+    if 4 <= k {
+        return 1;
+    }
+    if k == 1 {
+        return 4;
+    }
+    if k == 2 {
+        return 4;
+    }
+    0
+}
+
+fn fewest_targets(k: u16) -> u16
+    ensures { λ r. ⌜ r ≡ read.fewestTargets k ⌝ }
+{
+    if k == 4 {
+        return 2;
+    }
+    if 3 <= k {
+        return 1;
+    }
+    0
+}
+
+fn most_targets(k: u16) -> u16
+    ensures { λ r. ⌜ r ≡ read.mostTargets k ⌝ }
+{
+    if k == 5 {
+        return 8;
+    }
+    if k == 4 {
+        return 2;
+    }
+    if k == 3 {
+        return 1;
+    }
+    0
+}
+
+// The opcode word stands for ExitInvocation, kind 2, only.
+fn opcode_for(w: &[u16; 32256], count: usize, at: usize, k: u16) -> Step
+    requires { ⌜ count ≤ 4048 ⌝ }
+    ensures { λ r. ⌜ stepOf r ≡ skim (read.opcodeFor k (take count (now (w .entry))) at) ⌝ }
+{
+    if k == 2 {
+        return words(w, count, at, 1);
+    }
+    Step::At(at)
+}
+
+// Whether t is among n words.
+fn stands_before(w: &[u16; 32256], from: usize, t: u16, n: u16) -> bool
+    requires { ⌜ ((j : ℕ) → j < n → from + j < 4048) ⌝ }
+    ensures { λ r. ⌜ r ≡ stands (now (w .entry)) from t n ⌝ }
+{
+    let mut i: u16 = 0;
+    while i < n {
+        if t == w[from + i as usize] {
+            return true;
+        }
+        i += 1;
+    }
+    false
+}
+
+// 1 if word n of them stands for the first time, else 0.
+fn first_standing(w: &[u16; 32256], from: usize, n: u16) -> u16
+    requires { ⌜ ((j : ℕ) → j < n + 1 → from + j < 4048) ⌝ }
+    ensures { λ r. ⌜ r ≡ first (now (w .entry)) from n ⌝ }
+{
+    let t = w[from + n as usize];
+    if stands_before(w, from, t, n) {
+        return 0;
+    }
+    1
+}
+
+// How many of n words stand for the first time.
+fn distinct(w: &[u16; 32256], from: usize, n: u16) -> u16
+    requires { ⌜ ((j : ℕ) → j < n → from + j < 4048) ⌝ }
+    ensures { λ r. ⌜ r ≡ firsts (now (w .entry)) from n ⌝ }
+{
+    let mut k: u16 = 0;
+    let mut j: u16 = 0;
+    while j < n {
+        k += first_standing(w, from, j);
+        j += 1;
+    }
+    k
+}
+
+// n lists of passed values
+fn passes(w: &[u16; 32256], count: usize, from: usize, n: u16) -> Step
+    requires { ⌜ count ≤ 4048 ⌝ }
+    ensures { λ r. ⌜ stepOf r ≡ skim (read.many n (read.counted 0 4 read.value) (take count (now (w .entry))) from) ⌝ }
+{
+    let mut i: u16 = 0;
+    let mut at = from;
+    while i < n {
+        match counted_values(w, count, at, 0, 4) {
+            Step::Bad(m) => return Step::Bad(m),
+            Step::At(e) => {
+                at = e;
+                i += 1;
+            }
+        }
+    }
+    Step::At(at)
+}
+
+// n targets and what is passed to them
+fn edges(w: &[u16; 32256], count: usize, at: usize, n: u16) -> Step
+    requires { ⌜ count ≤ 4048 ⌝ }
+    ensures { λ r. ⌜ stepOf r ≡ edgesRead n (take count (now (w .entry))) at ⌝ }
+{
+    match words(w, count, at, n) {
+        Step::Bad(m) => Step::Bad(m),
+        Step::At(e) => {
+            let k = distinct(w, at, n);
+            passes(w, count, e, k)
+        }
+    }
+}
+
+// What stands after the opcode of a terminator of kind k.
+fn operands(w: &[u16; 32256], count: usize, at: usize, k: u16) -> Step
+    requires { ⌜ count ≤ 4048 ⌝ }
+    ensures { λ r. ⌜ stepOf r ≡ operandsRead k (take count (now (w .entry))) at ⌝ }
+{
+    let low = fewest_values(k);
+    let high = most_values(k);
+    match counted_values(w, count, at, low, high) {
+        Step::Bad(m) => Step::Bad(m),
+        Step::At(p) => {
+            let fewest = fewest_targets(k);
+            let most = most_targets(k);
+            match within(w, count, p, fewest, most) {
+                Item::Bad(m) => Step::Bad(m),
+                Item::Word(n, e) => edges(w, count, e, n),
+            }
+        }
+    }
+}
+
+pub fn terminator(w: &[u16; 32256], count: usize, at: usize) -> Step
+    requires { ⌜ count ≤ 4048 ⌝ }
+    ensures { λ r. ⌜ stepOf r ≡ skim (read.terminator (take count (now (w .entry))) at) ⌝ }
+{
+    match within(w, count, at, 0, 5) {
+        Item::Bad(m) => Step::Bad(m),
+        Item::Word(k, p) => match opcode_for(w, count, p, k) {
+            Step::Bad(m) => Step::Bad(m),
+            Step::At(e) => operands(w, count, e, k),
+        },
+    }
+}

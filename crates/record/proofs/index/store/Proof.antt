@@ -1,0 +1,66 @@
+-- Three stores and the blocks are a row of 11 words.
+use Rattle.record.specs.OutcomeSteps.{store-row}
+use borrow.Author.Needs.{needs}
+use Rattle.record.proofs.index.store.Statement.{statement}
+use Rattle.record.proofs.index.store.Tie as tie
+
+span-requires : tie.Need-span-requires
+span-requires c κs = search needs
+
+mul-at : tie.Need-mul-at
+mul-at c = search needs
+
+add-at : tie.Need-add-at
+add-at c = search needs
+
+mul-w : tie.Need-mul-w
+mul-w c = search needs
+
+element-write-w : tie.Need-element-write-w
+element-write-w c = search needs
+
+add-w : tie.Need-add-w
+add-w c = search needs
+
+mul-w-2 : tie.Need-mul-w-2
+mul-w-2 c = search needs
+
+element-write-w-2 : tie.Need-element-write-w-2
+element-write-w-2 c = search needs
+
+add-w-2 : tie.Need-add-w-2
+add-w-2 c = search needs
+
+mul-w-3 : tie.Need-mul-w-3
+mul-w-3 c = search needs
+
+element-write-w-3 : tie.Need-element-write-w-3
+element-write-w-3 c = search needs
+
+add-store-blocks : tie.Need-add-store-blocks
+add-store-blocks c = search needs
+
+store-blocks-requires : tie.Need-store-blocks-requires
+store-blocks-requires c κs = search needs
+
+returns : tie.Need-returns
+returns c = store-row _ _ _ _ _ (c .before .before .before .before .before .before .pre) (c .before .before .before .before .span-arg2 .given .0) (c .store-blocks .ensures)
+
+pub store-spec : {M : Type 1} → statement M
+store-spec =
+    tie.close
+    (tie.spec
+    span-requires
+    mul-at
+    add-at
+    mul-w
+    element-write-w
+    add-w
+    mul-w-2
+    element-write-w-2
+    add-w-2
+    mul-w-3
+    element-write-w-3
+    add-store-blocks
+    store-blocks-requires
+    returns)

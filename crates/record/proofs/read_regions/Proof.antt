@@ -1,0 +1,80 @@
+-- The loop follows `regionsFrom`, and the index has each region passed (`RegionsGoing`).
+use borrow.Author.Needs.{needs}
+use native.Mathlib.Omega.{arith}
+use mathlib.Core.Path.{ap}
+use Prim.Native.Nat.{_-_}
+use Rattle.reading.specs.Answers.{step-is, stepOf}
+use Rattle.record.specs.SkimRegions.{region-inside, below-count}
+use Rattle.record.specs.Outcome.{RegionsGoing}
+use Rattle.record.specs.OutcomeSteps.{regions-start, regions-next, regions-refused, regions-read, regions-left}
+use Rattle.record.proofs.read_regions.Statement.{statement}
+use Rattle.record.proofs.read_regions.Tie as tie
+
+abbrev Inv-loop : tie.InvT-loop
+Inv-loop w₀ count n from r₀ at₀ w r at = RegionsGoing n count from w₀ r at w
+
+abbrev μ-loop : tie.MeasureT-loop
+μ-loop w₀ count n from r₀ at₀ w r at = n - r
+
+span-requires : tie.Need-span-requires Inv-loop μ-loop
+span-requires c κs = search needs
+
+loop-holds : tie.Need-loop-holds Inv-loop μ-loop
+loop-holds c = regions-start _ _ _ _
+
+region-requires : tie.Need-region-requires Inv-loop μ-loop
+region-requires c κs = search needs
+
+enum-known-step : tie.Need-enum-known-step Inv-loop μ-loop
+enum-known-step c = search needs
+
+refusal-requires : tie.Need-refusal-requires Inv-loop μ-loop
+refusal-requires c κs = search needs
+
+returns : tie.Need-returns Inv-loop μ-loop
+returns c = regions-refused _ _ _ _ (c .before .before .before .before .region .result) (c .before .before .before .before .before .before .before .loop .inv) (c .before .before .before .before .before .before .loop-test .taken) (c .before .before .before .before .before .before .before .before .before .before .before .pre .0) (c .before .before .before .before .region .ensures) _ (ap stepOf (c .before .before .step .given .1)) (c .refusal .ensures)
+
+enum-known-step-2 : tie.Need-enum-known-step-2 Inv-loop μ-loop
+enum-known-step-2 c = search needs
+
+cast-store : tie.Need-cast-store Inv-loop μ-loop
+cast-store c = omega (arith, below-count (c .before .before .before .before .before .before .before .loop .w) (c .before .before .before .before .before .before .before .before .before .before .before .args .count) (region-inside _ _ (step-is (c .before .before .before .before .region .ensures .step) (c .before .before .step2 .given .1))))
+
+store-requires : tie.Need-store-requires Inv-loop μ-loop
+store-requires c κs = omega arith
+
+add-r : tie.Need-add-r Inv-loop μ-loop
+add-r c = omega arith
+
+loop-less : tie.Need-loop-less Inv-loop μ-loop
+loop-less c = omega arith
+
+loop-again : tie.Need-loop-again Inv-loop μ-loop
+loop-again c = regions-next _ _ _ _ (c .before .before .before .before .before .region .result) (c .before .before .before .before .before .before .before .before .loop .inv) (c .before .before .before .before .before .before .before .loop-test .taken) (c .before .before .before .before .before .before .before .before .before .before .before .before .pre .0) (c .before .before .before .before .before .region .ensures) _ (c .before .before .before .before .before .before .before .before .before .before .before .before .pre .1) (ap stepOf (c .before .before .before .step2 .given .1)) (c .store .ensures)
+
+returns-2 : tie.Need-returns-2 Inv-loop μ-loop
+returns-2 c = regions-read _ _ _ _ (c .before .before .loop .inv) (c .before .loop-test .left) (omega (arith, c .before .before .before .before .span-arg2 .given)) (c .if1 .taken)
+
+returns-3 : tie.Need-returns-3 Inv-loop μ-loop
+returns-3 c = regions-left _ _ _ _ (c .before .before .loop .inv) (c .before .loop-test .left) (omega (arith, c .before .before .before .before .span-arg2 .given)) (c .if1 .left)
+
+pub read-regions-spec : {M : Type 1} → statement M
+read-regions-spec =
+    tie.close
+    (tie.spec
+    Inv-loop
+    μ-loop
+    span-requires
+    loop-holds
+    region-requires
+    enum-known-step
+    refusal-requires
+    returns
+    enum-known-step-2
+    cast-store
+    store-requires
+    add-r
+    loop-less
+    loop-again
+    returns-2
+    returns-3)

@@ -1,0 +1,13 @@
+-- By the number.
+use borrow.Author.Tests.{eq-eqb, ne-eqb}
+use Rattle.record.proofs.refusal.Statement.{statement}
+use Rattle.record.proofs.refusal.Tie as tie
+
+returns : tie.Need-returns
+returns c = rw (eq-eqb _ _ (c .if1 .taken))
+
+returns-2 : tie.Need-returns-2
+returns-2 c = rw (ne-eqb _ _ (c .if1 .left))
+
+pub refusal-spec : {M : Type 1} → statement M
+refusal-spec = tie.close (tie.spec returns returns-2)

@@ -1,0 +1,52 @@
+-- Each answer is a path through `afterCount`.
+use mathlib.Core.Path.{_∙_}
+use Rattle.reading.specs.Answers.{item-is}
+use Rattle.record.specs.SkimRegions.{after-count-entry, after-count-test, after-count-rest}
+use borrow.Author.Needs.{needs}
+use Rattle.record.proofs.regions.after_count.Statement.{statement}
+use Rattle.record.proofs.regions.after_count.Tie as tie
+
+word-requires : tie.Need-word-requires
+word-requires c κs = search needs
+
+enum-known-m : tie.Need-enum-known-m
+enum-known-m c = search needs
+
+enum-known-p : tie.Need-enum-known-p
+enum-known-p c = search needs
+
+word-requires-2 : tie.Need-word-requires-2
+word-requires-2 c κs = search needs
+
+enum-known-m-2 : tie.Need-enum-known-m-2
+enum-known-m-2 c = search needs
+
+enum-known-e : tie.Need-enum-known-e
+enum-known-e c = search needs
+
+counted-types-requires : tie.Need-counted-types-requires
+counted-types-requires c κs = search needs
+
+returns : tie.Need-returns
+returns c = after-count-entry _ _ (item-is (c .before .before .before .word .ensures) (c .before .m .given .1))
+
+returns-2 : tie.Need-returns-2
+returns-2 c = after-count-test _ _ (item-is (c .before .before .before .before .before .before .before .word .ensures) (c .before .before .before .before .before .p .given .1)) (item-is (c .before .before .before .word2 .ensures) (c .before .m2 .given .1))
+
+returns-3 : tie.Need-returns-3
+returns-3 c = c .counted-types .ensures ∙ after-count-rest _ _ (item-is (c .before .before .before .before .before .before .before .before .word .ensures) (c .before .before .before .before .before .before .p .given .1)) (item-is (c .before .before .before .before .word2 .ensures) (c .before .before .e .given .1))
+
+pub after-count-spec : {M : Type 1} → statement M
+after-count-spec =
+    tie.close
+    (tie.spec
+    word-requires
+    enum-known-m
+    enum-known-p
+    word-requires-2
+    enum-known-m-2
+    enum-known-e
+    counted-types-requires
+    returns
+    returns-2
+    returns-3)

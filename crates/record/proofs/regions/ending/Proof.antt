@@ -1,0 +1,87 @@
+-- Each answer is a path through `endingRead`; a place that is kept stands below W.
+use native.Mathlib.Omega.{arith}
+use Rattle.format.specs.Read.{word}
+use Rattle.reading.specs.Answers.{item-is, step-is}
+use Rattle.record.specs.Parts.{within-parts}
+use Rattle.record.specs.SkimRegions.{ending-limit, ending-terminator, ending-exits, counted-inside, below-count}
+use Rattle.record.specs.RegionSteps.{ending-stop, ending-whole}
+use borrow.Author.Needs.{needs}
+use Rattle.record.proofs.regions.ending.Statement.{statement}
+use Rattle.record.proofs.regions.ending.Tie as tie
+
+within-requires : tie.Need-within-requires
+within-requires c κs = search needs
+
+enum-known-m : tie.Need-enum-known-m
+enum-known-m c = search needs
+
+no-region-requires : tie.Need-no-region-requires
+no-region-requires c κs = search needs
+
+enum-known-p : tie.Need-enum-known-p
+enum-known-p c = search needs
+
+terminator-requires : tie.Need-terminator-requires
+terminator-requires c κs = search needs
+
+enum-known-m-2 : tie.Need-enum-known-m-2
+enum-known-m-2 c = search needs
+
+no-region-requires-2 : tie.Need-no-region-requires-2
+no-region-requires-2 c κs = search needs
+
+enum-known-q : tie.Need-enum-known-q
+enum-known-q c = search needs
+
+counted-words-requires : tie.Need-counted-words-requires
+counted-words-requires c κs = search needs
+
+enum-known-m-3 : tie.Need-enum-known-m-3
+enum-known-m-3 c = search needs
+
+no-region-requires-3 : tie.Need-no-region-requires-3
+no-region-requires-3 c κs = search needs
+
+enum-known-e : tie.Need-enum-known-e
+enum-known-e c = search needs
+
+cast-t18 : tie.Need-cast-t18
+cast-t18 c = omega (arith, below-count (c .before .before .before .before .before .before .before .before .before .before .before .before .args .w .now) (c .before .before .before .before .before .before .before .before .before .before .before .before .args .count) (within-parts 1 65535 _ _ (item-is (c .before .before .before .before .before .before .before .before .before .before .before .within .ensures) (c .before .before .before .before .before .before .before .before .before .p .given .1)) .inside))
+
+cast-t19 : tie.Need-cast-t19
+cast-t19 c = omega (arith, below-count (c .before .before .before .before .before .before .before .before .before .before .before .before .args .w .now) (c .before .before .before .before .before .before .before .before .before .before .before .before .args .count) (counted-inside _ _ 0 32 word (step-is (c .before .before .before .counted-words .ensures) (c .before .e .given .1))))
+
+returns : tie.Need-returns
+returns c = ending-stop _ _ _ _ (c .no-region .ensures) (ending-limit _ _ (item-is (c .before .before .before .before .within .ensures) (c .before .before .m .given .1)))
+
+returns-2 : tie.Need-returns-2
+returns-2 c = ending-stop _ _ _ _ (c .no-region2 .ensures) (ending-terminator _ _ (item-is (c .before .before .before .before .before .before .before .before .within .ensures) (c .before .before .before .before .before .before .p .given .1)) (step-is (c .before .before .before .before .terminator .ensures) (c .before .before .m2 .given .1)))
+
+returns-3 : tie.Need-returns-3
+returns-3 c = ending-stop _ _ _ _ (c .no-region3 .ensures) (ending-exits _ _ (item-is (c .before .before .before .before .before .before .before .before .before .before .before .before .within .ensures) (c .before .before .before .before .before .before .before .before .before .before .p .given .1)) (step-is (c .before .before .before .before .before .before .before .before .terminator .ensures) (c .before .before .before .before .before .before .q .given .1)) (step-is (c .before .before .before .before .counted-words .ensures) (c .before .before .m3 .given .1)))
+
+returns-4 : tie.Need-returns-4
+returns-4 c = ending-whole _ _ _ (item-is (c .before .before .before .before .before .before .before .before .before .before .before .within .ensures) (c .before .before .before .before .before .before .before .before .before .p .given .1)) (step-is (c .before .before .before .before .before .before .before .terminator .ensures) (c .before .before .before .before .before .q .given .1)) (step-is (c .before .before .before .counted-words .ensures) (c .before .e .given .1))
+
+pub ending-spec : {M : Type 1} → statement M
+ending-spec =
+    tie.close
+    (tie.spec
+    within-requires
+    enum-known-m
+    no-region-requires
+    enum-known-p
+    terminator-requires
+    enum-known-m-2
+    no-region-requires-2
+    enum-known-q
+    counted-words-requires
+    enum-known-m-3
+    no-region-requires-3
+    enum-known-e
+    cast-t18
+    cast-t19
+    returns
+    returns-2
+    returns-3
+    returns-4)

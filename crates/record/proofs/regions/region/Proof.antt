@@ -1,0 +1,61 @@
+-- Each answer is a path through the reader `region`.
+use mathlib.Core.Path.{ap}
+use Rattle.reading.specs.Answers.{step-is, stepOf}
+use Rattle.record.specs.SkimRegions.{region-inputs, region-blocks}
+use Rattle.record.specs.RegionSteps.{region-stop, region-whole}
+use borrow.Author.Needs.{needs}
+use Rattle.record.proofs.regions.region.Statement.{statement}
+use Rattle.record.proofs.regions.region.Tie as tie
+
+counted-types-requires : tie.Need-counted-types-requires
+counted-types-requires c κs = search needs
+
+enum-known-m : tie.Need-enum-known-m
+enum-known-m c = search needs
+
+no-region-requires : tie.Need-no-region-requires
+no-region-requires c κs = search needs
+
+enum-known-p : tie.Need-enum-known-p
+enum-known-p c = search needs
+
+counted-blocks-requires : tie.Need-counted-blocks-requires
+counted-blocks-requires c κs = search needs
+
+enum-known-step : tie.Need-enum-known-step
+enum-known-step c = search needs
+
+no-region-requires-2 : tie.Need-no-region-requires-2
+no-region-requires-2 c κs = search needs
+
+enum-known-step-2 : tie.Need-enum-known-step-2
+enum-known-step-2 c = search needs
+
+ending-requires : tie.Need-ending-requires
+ending-requires c κs = search needs
+
+returns : tie.Need-returns
+returns c = region-stop _ _ _ (c .no-region .ensures) (region-inputs _ _ (step-is (c .before .before .before .before .counted-types .ensures) (c .before .before .m .given .1)))
+
+returns-2 : tie.Need-returns-2
+returns-2 c = region-stop _ _ _ (c .no-region2 .ensures) (region-blocks _ _ (step-is (c .before .before .before .before .before .before .before .before .before .counted-types .ensures) (c .before .before .before .before .before .before .before .p .given .1)) (step-is (c .before .before .before .before .before .counted-blocks .ensures .step) (c .before .before .step .given .1)))
+
+returns-3 : tie.Need-returns-3
+returns-3 c = region-whole _ _ (c .before .before .before .before .before .counted-blocks .result) _ (step-is (c .before .before .before .before .before .before .before .before .before .counted-types .ensures) (c .before .before .before .before .before .before .before .p .given .1)) (c .before .before .before .before .before .counted-blocks .ensures) (ap stepOf (c .before .before .step2 .given .1)) (c .ending .ensures)
+
+pub region-spec : {M : Type 1} → statement M
+region-spec =
+    tie.close
+    (tie.spec
+    counted-types-requires
+    enum-known-m
+    no-region-requires
+    enum-known-p
+    counted-blocks-requires
+    enum-known-step
+    no-region-requires-2
+    enum-known-step-2
+    ending-requires
+    returns
+    returns-2
+    returns-3)

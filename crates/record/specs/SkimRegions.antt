@@ -1,0 +1,139 @@
+-- Regions and the head with their values forgotten, in the order in which the code reads them.
+use mathlib.Core.Path.{_≡_, refl, sym, ap, _∙_}
+use mathlib.Core.List.{List}
+use Prim.Native.Nat.{ℕ, _<_}
+use native.Mathlib.Omega.{arith}
+use lib.ListN.{length, take, length-take}
+use Rattle.meaning.specs.Graph.{Instr, ControlInst, Region}
+use Rattle.format.specs.Read.{Read, got, bad, Reader, follow, word, within, counted, type, instruction, block, terminator, region, Head, head}
+use Rattle.format.specs.Places.{skim}
+use Rattle.format.specs.ReadLaws.{clash}
+use Rattle.record.specs.Parts.{counted-parts, region-parts}
+use Rattle.reading.specs.SkimTerminators.{found}
+
+-- what a refusal leaves of a sequence
+pub stopped : {A B : Type 0} (r : Read A) (k : A → ℕ → Read B) {m : ℕ} → skim r ≡ bad m → bad m ≡ skim (follow r k)
+stopped (got a i) k h = absurd (clash (cc))
+stopped (bad n) k h = sym h
+
+-- from the turn limit of a region on
+unfoldable pub endingRead : Reader Unit
+endingRead ws at = follow (within 1 65535 ws at) λ l p. follow (skim (terminator ws p)) λ u q. skim (counted 0 32 word ws q)
+
+module _ (ws : List ℕ) (at : ℕ) where
+  pub ending-limit : {m : ℕ} → within 1 65535 ws at ≡ bad m → bad m ≡ endingRead ws at
+  unfolding endingRead
+  ending-limit h = rw h
+
+  pub ending-terminator : {l p m : ℕ} → within 1 65535 ws at ≡ got l p → skim (terminator ws p) ≡ bad m → bad m ≡ endingRead ws at
+  unfolding endingRead
+  ending-terminator h j = rw (h, j)
+
+  pub ending-exits : {l p q : ℕ} {r : Read Unit} → within 1 65535 ws at ≡ got l p → skim (terminator ws p) ≡ got tt q → skim (counted 0 32 word ws q) ≡ r → r ≡ endingRead ws at
+  unfolding endingRead
+  ending-exits h j k = rw (h, j, k)
+
+-- what stands after the blocks, with the region made of it
+ending-made : (inputs : List ℕ) (blocks : List (List Instr)) (ws : List ℕ) (at : ℕ) → endingRead ws at ≡ skim {A = Region} (follow (within 1 65535 ws at) λ limit p. follow (terminator ws p) λ end q. follow (counted 0 32 word ws q) λ exits e. got (record { inputs = inputs; blocks = blocks; limit = limit; terminator = end; exits = exits }) e)
+unfolding endingRead
+ending-made inputs blocks ws at = by-limit (within 1 65535 ws at)
+  where
+    by-exits : (limit : ℕ) (end : ControlInst) (r : Read (List ℕ)) → skim r ≡ skim {A = Region} (follow r λ exits e. got (record { inputs = inputs; blocks = blocks; limit = limit; terminator = end; exits = exits }) e)
+    by-exits limit end (got a i) = refl
+    by-exits limit end (bad m) = refl
+
+    by-end : (limit : ℕ) (r : Read ControlInst) → (follow (skim r) λ u q. skim (counted 0 32 word ws q)) ≡ skim {A = Region} (follow r λ end q. follow (counted 0 32 word ws q) λ exits e. got (record { inputs = inputs; blocks = blocks; limit = limit; terminator = end; exits = exits }) e)
+    by-end limit (got end q) = by-exits limit end (counted 0 32 word ws q)
+    by-end limit (bad m) = refl
+
+    by-limit : (r : Read ℕ) → (follow r λ l p. follow (skim (terminator ws p)) λ u q. skim (counted 0 32 word ws q)) ≡ skim {A = Region} (follow r λ limit p. follow (terminator ws p) λ end q. follow (counted 0 32 word ws q) λ exits e. got (record { inputs = inputs; blocks = blocks; limit = limit; terminator = end; exits = exits }) e)
+    by-limit (got limit p) = by-end limit (terminator ws p)
+    by-limit (bad m) = refl
+
+module _ (ws : List ℕ) (at : ℕ) where
+  pub region-inputs : {m : ℕ} → skim (counted 0 4 type ws at) ≡ bad m → bad m ≡ skim (region ws at)
+  unfolding region
+  region-inputs h = stopped (counted 0 4 type ws at) _ h
+
+  pub region-blocks : {p m : ℕ} → skim (counted 0 4 type ws at) ≡ got tt p → skim (counted 0 8 block ws p) ≡ bad m → bad m ≡ skim (region ws at)
+  unfolding region
+  region-blocks {p} h j = let f = found (counted 0 4 type ws at) h in rw (f .is) (stopped (counted 0 8 block ws p) _ j)
+
+  pub region-rest : {p q : ℕ} → skim (counted 0 4 type ws at) ≡ got tt p → skim (counted 0 8 block ws p) ≡ got tt q → endingRead ws q ≡ skim (region ws at)
+  unfolding region
+  region-rest {p} {q} h j =
+      let f = found (counted 0 4 type ws at) h in
+      let g = found (counted 0 8 block ws p) j in
+      rw (f .is, g .is) (ending-made (f .value) (g .value) ws q)
+
+-- Of the head only its region count is kept.
+abbrev pub countOf : Read Head → Read ℕ
+countOf (got h at) = got (h .count) at
+countOf (bad n) = bad n
+
+-- entry, test cost, the types of the constants
+unfoldable pub afterCount : Reader Unit
+afterCount ws at = follow (word ws at) λ a p. follow (word ws p) λ b e. skim (counted 0 64 type ws e)
+
+module _ (ws : List ℕ) (at : ℕ) where
+  pub after-count-entry : {m : ℕ} → word ws at ≡ bad m → bad m ≡ afterCount ws at
+  unfolding afterCount
+  after-count-entry h = rw h
+
+  pub after-count-test : {a p m : ℕ} → word ws at ≡ got a p → word ws p ≡ bad m → bad m ≡ afterCount ws at
+  unfolding afterCount
+  after-count-test h j = rw (h, j)
+
+  pub after-count-rest : {a p b e : ℕ} → word ws at ≡ got a p → word ws p ≡ got b e → skim (counted 0 64 type ws e) ≡ afterCount ws at
+  unfolding afterCount
+  after-count-rest h j = rw (h, j)
+
+-- the region count n, once the rest is read
+counting : ℕ → Read Unit → Read ℕ
+counting n (got u at) = got n at
+counting n (bad m) = bad m
+
+after-count-made : (n : ℕ) (ws : List ℕ) (at : ℕ) → counting n (afterCount ws at) ≡ countOf (follow (word ws at) λ entry p. follow (word ws p) λ test e. follow (counted 0 64 type ws e) λ constants j. got (record { count = n; entry = entry; test-cost = test; constants = constants }) j)
+unfolding afterCount counting
+after-count-made n ws at = by-entry (word ws at)
+  where
+    by-constants : (entry test : ℕ) (r : Read (List ℕ)) → counting n (skim r) ≡ countOf (follow r λ constants j. got (record { count = n; entry = entry; test-cost = test; constants = constants }) j)
+    by-constants entry test (got a i) = refl
+    by-constants entry test (bad m) = refl
+
+    by-test : (entry : ℕ) (r : Read ℕ) → counting n (follow r λ b e. skim (counted 0 64 type ws e)) ≡ countOf (follow r λ test e. follow (counted 0 64 type ws e) λ constants j. got (record { count = n; entry = entry; test-cost = test; constants = constants }) j)
+    by-test entry (got test e) = by-constants entry test (counted 0 64 type ws e)
+    by-test entry (bad m) = refl
+
+    by-entry : (r : Read ℕ) → counting n (follow r λ a p. follow (word ws p) λ b e. skim (counted 0 64 type ws e)) ≡ countOf (follow r λ entry p. follow (word ws p) λ test e. follow (counted 0 64 type ws e) λ constants j. got (record { count = n; entry = entry; test-cost = test; constants = constants }) j)
+    by-entry (got entry p) = by-test entry (word ws p)
+    by-entry (bad m) = refl
+
+module _ (ws : List ℕ) where
+  pub head-count : {m : ℕ} → within 1 32 ws 1 ≡ bad m → bad m ≡ countOf (head ws 1)
+  unfolding head
+  head-count h = rw h
+
+  pub head-stop : {n p m : ℕ} → within 1 32 ws 1 ≡ got n p → afterCount ws p ≡ bad m → bad m ≡ countOf (head ws 1)
+  unfolding head counting
+  head-stop {n} {p} h j = rw h (sym (ap (counting n) j) ∙ after-count-made n ws p)
+
+  pub head-rest : {n p e : ℕ} → within 1 32 ws 1 ≡ got n p → afterCount ws p ≡ got tt e → got n e ≡ countOf (head ws 1)
+  unfolding head counting
+  head-rest {n} {p} h j = rw h (sym (ap (counting n) j) ∙ after-count-made n ws p)
+
+-- what is read begins below W
+module _ (ws : List ℕ) (at : ℕ) where
+  pub counted-inside : {A : Type 0} (low high : ℕ) (p : Reader A) {e : ℕ} → skim (counted low high p ws at) ≡ got tt e → at < length ws
+  counted-inside low high p h = let f = found (counted low high p ws at) h in counted-parts low high p ws at (f .is) .inside
+
+  pub block-inside : {e : ℕ} → skim (block ws at) ≡ got tt e → at < length ws
+  unfolding block
+  block-inside h = counted-inside 1 8 instruction h
+
+  pub region-inside : {e : ℕ} → skim (region ws at) ≡ got tt e → at < length ws
+  region-inside h = let f = found (region ws at) h in counted-parts 0 4 type ws at (region-parts ws at (f .is) .inputs) .inside
+
+-- the same of the lent words, W of them in use
+pub below-count : (w : List ℕ) (count : ℕ) {at : ℕ} → at < length (take count w) → at < count
+below-count w count h = omega (arith, length-take count w)

@@ -1,0 +1,9 @@
+-- What checking the references answers (document 01, refusals 6 to 8).
+use Rattle.format.specs.Store.{Answer, accepted, refused}
+use Rattle.references.specs.declared.Checked.{Checked}
+use Rattle.references.specs.declared.Checked.the-variants.{Right, Refused}
+
+-- Document 01's number and word of each refusal.
+abbrev pub answered : Checked → Answer Unit
+answered Right = accepted tt
+answered (Refused n w) = refused n w

@@ -1,0 +1,343 @@
+// References in record order: refusals 6, 7 and 8 (document 01, "What turns a record away").
+ghost use mathlib.Core.Path.{_≡_};
+ghost use mathlib.Core.List.{[]};
+ghost use Prim.Native.Nat.{_≤_};
+ghost use lib.ListN.{getD};
+ghost use Rattle.meaning.specs.Graph.{Graph, output, region, edgesOf};
+ghost use Rattle.format.specs.Read.{noEdge};
+ghost use Rattle.format.specs.References as format;
+ghost use Rattle.record.specs.Stands.{Stands};
+ghost use Rattle.fields.specs.Shape.{valueIs};
+ghost use Rattle.references.specs.Answers.{answered};
+ghost use Rattle.references.specs.Walks.{typed};
+ghost use Rattle.references.specs.EdgesWalk.{firstRight};
+use fields::Terminator;
+use fields::Value;
+
+// Nothing to refuse so far, or a refusal's number and its word.
+pub enum Checked {
+    Right,
+    Refused(u16, u16),
+}
+
+// The type of a value used in region r behind its first `before` instructions; 0 where it names nothing allowed there.
+fn type_in(w: &[u16; 32256], r: u16, before: usize, v: Value) -> u16
+    ensures { λ a. ⌜ ((g : Graph) → Stands (now (w .entry)) g → a ≡ format.typeIn g r before (valueIs v)) ⌝ }
+{
+    match v {
+        Value::Const(i) => fields::constant_type(w, i),
+        Value::Input(q, k) => {
+            if q == r {
+                return fields::input_type(w, r, k);
+            }
+            0
+        }
+        Value::Instr(q, k) => {
+            if q == r {
+                if (k as usize) < before {
+                    return fields::output_type(w, r, k);
+                }
+            }
+            0
+        }
+        Value::Bool(_) => 1,
+        Value::Undef(t) => t,
+        Value::Nothing => 0,
+    }
+}
+
+fn named(w: &[u16; 32256], r: u16, before: usize, v: Value) -> Checked
+    ensures { λ a. ⌜ ((g : Graph) → Stands (now (w .entry)) g → answered a ≡ format.named g r before (valueIs v)) ⌝ }
+{
+    if type_in(w, r, before, v) == 0 {
+        return Checked::Refused(6, r);
+    }
+    Checked::Right
+}
+
+// A value behind all instructions of region r: named, and of type t.
+fn named_of_type(w: &[u16; 32256], r: u16, t: u16, v: Value) -> Checked
+    ensures { λ a. ⌜ ((g : Graph) → Stands (now (w .entry)) g → answered a ≡ typed g r t (valueIs v)) ⌝ }
+{
+    let found = type_in(w, r, fields::instruction_count(w, r), v);
+    if found == 0 {
+        return Checked::Refused(6, r);
+    }
+    if found != t {
+        return Checked::Refused(7, r);
+    }
+    Checked::Right
+}
+
+// Each read of instruction i of block b, which stands behind `before` instructions of the region.
+fn instruction_reads_right(w: &[u16; 32256], r: u16, b: u16, i: u16, before: usize) -> Checked
+    ensures { λ a. ⌜ ((g : Graph) → Stands (now (w .entry)) g → answered a ≡ format.each (format.named g r before) (getD (getD (region g r .blocks) b []) i format.noInstr .reads)) ⌝ }
+{
+    let x = fields::instruction(w, r, b, i);
+    let n = x.reads;
+    let mut k: u16 = 0;
+    while k < n {
+        let c = named(w, r, before, fields::read(w, r, b, i, k));
+        if let Checked::Refused(number, word) = c {
+            return Checked::Refused(number, word);
+        }
+        k += 1;
+    }
+    Checked::Right
+}
+
+fn block_reads_right(w: &[u16; 32256], r: u16, b: u16, before: usize) -> Checked
+    requires { ⌜ before ≤ 4294836225 ⌝ }
+    ensures { λ a. ⌜ ((g : Graph) → Stands (now (w .entry)) g → answered a ≡ format.readsRight g r before (getD (region g r .blocks) b [])) ⌝ }
+{
+    let n = fields::block_length(w, r, b);
+    let mut i: u16 = 0;
+    while i < n {
+        let c = instruction_reads_right(w, r, b, i, before + (i as usize));
+        if let Checked::Refused(number, word) = c {
+            return Checked::Refused(number, word);
+        }
+        i += 1;
+    }
+    Checked::Right
+}
+
+fn reads_right(w: &[u16; 32256], r: u16) -> Checked
+    ensures { λ a. ⌜ ((g : Graph) → Stands (now (w .entry)) g → answered a ≡ format.readsRight g r 0 (format.instructions (region g r .blocks))) ⌝ }
+{
+    let n = fields::block_count(w, r);
+    let mut before: usize = 0;
+    let mut b: u16 = 0;
+    while b < n {
+        let c = block_reads_right(w, r, b, before);
+        if let Checked::Refused(number, word) = c {
+            return Checked::Refused(number, word);
+        }
+        before += fields::block_length(w, r, b) as usize;
+        b += 1;
+    }
+    Checked::Right
+}
+
+fn is_return(w: &[u16; 32256], r: u16) -> bool
+    ensures { λ a. ⌜ ((g : Graph) → Stands (now (w .entry)) g → a ≡ format.isReturn (region g r .terminator)) ⌝ }
+{
+    let t = fields::terminator(w, r);
+    match t {
+        Terminator::Unreachable => false,
+        Terminator::Return => true,
+        Terminator::ExitInvocation(_) => false,
+        Terminator::Branch => false,
+        Terminator::SelectBool => false,
+        Terminator::SelectNumber => false,
+    }
+}
+
+// How many regions stand before the first Return region.
+fn first_return(w: &[u16; 32256]) -> u16
+    ensures { λ a. ⌜ ((g : Graph) → Stands (now (w .entry)) g → a ≡ format.firstReturn (g .regions)) ⌝ }
+{
+    let n = fields::region_count(w);
+    let mut q: u16 = 0;
+    while q < n {
+        if is_return(w, q) {
+            return q;
+        }
+        q += 1;
+    }
+    q
+}
+
+// The type of value k that region q returns.
+fn return_type(w: &[u16; 32256], q: u16, k: u16) -> u16
+    ensures { λ a. ⌜ ((g : Graph) → Stands (now (w .entry)) g → a ≡ format.typeIn g q (format.behindAll g q) (getD (format.valuesOf (region g q .terminator)) k (output 0))) ⌝ }
+{
+    type_in(
+        w,
+        q,
+        fields::instruction_count(w, q),
+        fields::value(w, q, k),
+    )
+}
+
+// What region r returns has the types of what the first Return region returns.
+fn returned_right(w: &[u16; 32256], r: u16) -> Checked
+    ensures { λ a. ⌜ ((g : Graph) → Stands (now (w .entry)) g → answered a ≡ format.passedRight g r (format.returnTypes g) (format.valuesOf (region g r .terminator))) ⌝ }
+{
+    let q = first_return(w);
+    let n = fields::value_count(w, r);
+    if n != fields::value_count(w, q) {
+        return Checked::Refused(7, r);
+    }
+    let mut k: u16 = 0;
+    while k < n {
+        let c = named_of_type(w, r, return_type(w, q, k), fields::value(w, r, k));
+        if let Checked::Refused(number, word) = c {
+            return Checked::Refused(number, word);
+        }
+        k += 1;
+    }
+    Checked::Right
+}
+
+// Each value that ExitInvocation names.
+fn exit_values_right(w: &[u16; 32256], r: u16) -> Checked
+    ensures { λ a. ⌜ ((g : Graph) → Stands (now (w .entry)) g → answered a ≡ format.each (format.named g r (format.behindAll g r)) (format.valuesOf (region g r .terminator))) ⌝ }
+{
+    let before = fields::instruction_count(w, r);
+    let n = fields::value_count(w, r);
+    let mut k: u16 = 0;
+    while k < n {
+        let c = named(w, r, before, fields::value(w, r, k));
+        if let Checked::Refused(number, word) = c {
+            return Checked::Refused(number, word);
+        }
+        k += 1;
+    }
+    Checked::Right
+}
+
+fn values_right(w: &[u16; 32256], r: u16) -> Checked
+    ensures { λ a. ⌜ ((g : Graph) → Stands (now (w .entry)) g → answered a ≡ format.valuesRight g r (region g r .terminator)) ⌝ }
+{
+    let t = fields::terminator(w, r);
+    match t {
+        Terminator::Unreachable => Checked::Right,
+        Terminator::Return => returned_right(w, r),
+        Terminator::ExitInvocation(_) => exit_values_right(w, r),
+        Terminator::Branch => Checked::Right,
+        Terminator::SelectBool => named_of_type(w, r, 1, fields::value(w, r, 0)),
+        Terminator::SelectNumber => named(
+            w,
+            r,
+            fields::instruction_count(w, r),
+            fields::value(w, r, 0),
+        ),
+    }
+}
+
+fn targets_right(w: &[u16; 32256], r: u16) -> Checked
+    ensures { λ a. ⌜ ((g : Graph) → Stands (now (w .entry)) g → answered a ≡ format.each (format.targetRight g r) (edgesOf (region g r .terminator))) ⌝ }
+{
+    let count = fields::region_count(w);
+    let n = fields::target_count(w, r);
+    let mut j: u16 = 0;
+    while j < n {
+        if count <= fields::target(w, r, j) {
+            return Checked::Refused(6, r);
+        }
+        j += 1;
+    }
+    Checked::Right
+}
+
+// Values for the inputs of the target at place j: as many, then each named, and of its type.
+fn passed_right(w: &[u16; 32256], r: u16, j: u16) -> Checked
+    ensures { λ a. ⌜ ((g : Graph) → Stands (now (w .entry)) g → answered a ≡ format.edgeRight g r (getD (edgesOf (region g r .terminator)) j noEdge)) ⌝ }
+{
+    let t = fields::target(w, r, j);
+    let n = fields::passed_count(w, r, j);
+    if n != fields::input_count(w, t) {
+        return Checked::Refused(7, r);
+    }
+    let mut k: u16 = 0;
+    while k < n {
+        let c = named_of_type(
+            w,
+            r,
+            fields::input_type(w, t, k),
+            fields::passed(w, r, j, k),
+        );
+        if let Checked::Refused(number, word) = c {
+            return Checked::Refused(number, word);
+        }
+        k += 1;
+    }
+    Checked::Right
+}
+
+// The values for the target at place j, where it stands for the first time.
+fn edge_right(w: &[u16; 32256], r: u16, j: u16) -> Checked
+    ensures { λ a. ⌜ ((g : Graph) → Stands (now (w .entry)) g → answered a ≡ firstRight g r (edgesOf (region g r .terminator)) j) ⌝ }
+{
+    if fields::target_again(w, r, j) {
+        return Checked::Right;
+    }
+    passed_right(w, r, j)
+}
+
+// The values passed to each distinct target.
+fn edges_right(w: &[u16; 32256], r: u16) -> Checked
+    ensures { λ a. ⌜ ((g : Graph) → Stands (now (w .entry)) g → answered a ≡ format.each (format.edgeRight g r) (format.firstEdges [] (edgesOf (region g r .terminator)))) ⌝ }
+{
+    let n = fields::target_count(w, r);
+    let mut j: u16 = 0;
+    while j < n {
+        let c = edge_right(w, r, j);
+        if let Checked::Refused(number, word) = c {
+            return Checked::Refused(number, word);
+        }
+        j += 1;
+    }
+    Checked::Right
+}
+
+// Each exit is a region (6), and none stands twice (8).
+fn exits_right(w: &[u16; 32256], r: u16) -> Checked
+    ensures { λ a. ⌜ ((g : Graph) → Stands (now (w .entry)) g → answered a ≡ format.exitsRight g r [] (region g r .exits)) ⌝ }
+{
+    let count = fields::region_count(w);
+    let n = fields::exit_count(w, r);
+    let mut k: u16 = 0;
+    while k < n {
+        if count <= fields::exit_target(w, r, k) {
+            return Checked::Refused(6, r);
+        }
+        if fields::exit_again(w, r, k) {
+            return Checked::Refused(8, r);
+        }
+        k += 1;
+    }
+    Checked::Right
+}
+
+fn region_right(w: &[u16; 32256], r: u16) -> Checked
+    ensures { λ a. ⌜ ((g : Graph) → Stands (now (w .entry)) g → answered a ≡ format.regionRight g r (region g r)) ⌝ }
+{
+    let reads = reads_right(w, r);
+    if let Checked::Refused(number, word) = reads {
+        return Checked::Refused(number, word);
+    }
+    let values = values_right(w, r);
+    if let Checked::Refused(number, word) = values {
+        return Checked::Refused(number, word);
+    }
+    let targets = targets_right(w, r);
+    if let Checked::Refused(number, word) = targets {
+        return Checked::Refused(number, word);
+    }
+    let edges = edges_right(w, r);
+    if let Checked::Refused(number, word) = edges {
+        return Checked::Refused(number, word);
+    }
+    exits_right(w, r)
+}
+
+// The entry, then each region, also where it is out of reach.
+pub fn references(w: &[u16; 32256]) -> Checked
+    ensures { λ a. ⌜ ((g : Graph) → Stands (now (w .entry)) g → answered a ≡ format.references g) ⌝ }
+{
+    let n = fields::region_count(w);
+    if n <= fields::entry(w) {
+        return Checked::Refused(6, 0);
+    }
+    let mut r: u16 = 0;
+    while r < n {
+        let c = region_right(w, r);
+        if let Checked::Refused(number, word) = c {
+            return Checked::Refused(number, word);
+        }
+        r += 1;
+    }
+    Checked::Right
+}
