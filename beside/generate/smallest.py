@@ -90,6 +90,21 @@ def without_region(made, gone, instead):
     replaced(made, lambda v: (v[0], new(v[1]), v[2]) if v[0] in (INPUT, INSTR) else None)
 
 
+def without_passage(made, gone):
+    """An empty region with one target taken out; edges to it go on to its target."""
+    (target, onward), = made.regions[gone].passed.items()
+    for region in made.regions:
+        if gone in region.targets:
+            if target in region.targets:
+                raise ValueError
+            given = region.passed[gone]
+            region.passed[gone] = [given[v[2]] if v[0] == INPUT else v for v in onward]
+            region.passed = {target if t == gone else t: values
+                             for t, values in region.passed.items()}
+            region.targets = [target if t == gone else t for t in region.targets]
+    without_region(made, gone, target)
+
+
 def smaller(made):
     """Records that are a step smaller or plainer; many mean nothing."""
     def step(change, *of):
@@ -155,6 +170,8 @@ def smaller(made):
         for instead in range(count):
             if instead != number:
                 yield from step(without_region, number, instead)
+        if region.kind == BRANCH and not region.insts:
+            yield from step(without_passage, number)
         for kind in (UNREACHABLE, RETURN):
             yield from step(set_kind, number, kind, [], [])
         for target in dict.fromkeys(region.targets):

@@ -82,9 +82,11 @@ def edges():
                    plain(inputs=[1] * min(n, 4)))
     for n in (0, 1, 2, 3):
         yield only(to(n, IF))
-        yield only(to(n, BRANCH))
-        for kind in (UNREACHABLE, BRANCH, IF):
-            yield one(kind=kind, values=[(4, 0, 0)] * n)
+        yield one(kind=UNREACHABLE, values=[(4, 0, 0)] * n)
+        for kind, targets in ((BRANCH, [0]), (IF, [0, 0]), (SWITCH, [0, 0])):
+            yield one(kind=kind, values=[(4, 0, 0)] * n, targets=targets, passed={0: []})
+        for kind in (UNREACHABLE, RETURN, EXIT, BRANCH):
+            yield one(kind=kind, targets=[0] * n, passed={0: []} if n else {})
     for n in (0, 1, 255, 256, 65535):
         yield one(inputs=[n])
         yield only(plain(), constants=[n])

@@ -6,6 +6,7 @@ use mathlib.Core.Path.{_∙_, _≡_, refl, subst, sym}
 use Prim.Native.Nat.{_<_, ℕ}
 use lib.Dec.{eqb}
 use lib.ListN.{getD}
+use Rattle.nesting.specs.Contexts.{InContext, context-replaced, entry-at}
 use Rattle.meaning.specs.Form.{Nodes}
 use Rattle.meaning.specs.Graph.{Value, input, undef}
 use Rattle.format.specs.ReadLaws.{clash}
@@ -15,20 +16,21 @@ use Rattle.nesting.specs.State.{NestState, NodeOutput}
 use Rattle.follows.specs.Small.{or-either, or-right}
 use Rattle.follows.specs.Key.{Key, key, of-node, owns-join, owns-nodes}
 use Rattle.follows.specs.World.{World, ar}
-use Rattle.follows.specs.Tables.{Gains, Resolver, Respects, Tables, gains-refl, laws-last, respects-back, tables}
+use Rattle.follows.specs.Tables.{Gains, Resolver, Respects, Tables, entry-law, gains-refl, respects-back, tables}
 use Rattle.follows.specs.Leads.{Leads, Sim, leads-then}
 use Rattle.follows.specs.Defined.{IfDone}
 use Rattle.follows.specs.Scope.{AllScoped, CondOk, EntryOk, InScope, Scoped, SetOk, Within, constant, own-input, owned, scoped-later, within-left, within-right}
 use Rattle.follows.specs.Invariant.{Free}
 use Rattle.follows.specs.Holding.{CaseOk, Doing, Holds, Since}
 use Rattle.follows.specs.EnterCase.{Enters, children-in, enter-follows}
-use Rattle.follows.specs.SelectSteps.{Moved, ToRewrite, join-nil, rewrite-doing, rewrite-moved}
+use Rattle.follows.specs.SelectSteps.{Moved, ToRewrite, given, join-nil, rewrite-doing, rewrite-moved}
 
 -- ---- from one scope to another
 module _ {T T′ : Tables} {q a r a′ : ℕ} {ks ks′ : Nodes} (gains : Gains T T′) (wi : Within ks ks′)
-    (through : (ρ : Resolver) (os : List NodeOutput) → Respects ρ os T′ → (k : ℕ) → k < a → InScope ρ os r a′ ks′ (ρ (input q k))) where
+    (through : (ρ : Resolver) (os : List NodeOutput) → Respects ρ os T′ → (k : ℕ) → k < a → InScope ρ os r a′ ks′ (ρ (input q k)))
+    (joins : (v : Value) → InContext (T .rewrites) q v → InContext (T′ .rewrites) r v) where
   pub scoped-through : (v : Value) → Scoped T q a ks v → Scoped T′ r a′ ks′ v
-  scoped-through v h = record { scoped = λ ρ os res. go ρ os res (h .scoped ρ os (respects-back gains res)) }
+  scoped-through v h = record { scoped = λ ρ os res. go ρ os res (h .scoped ρ os (respects-back gains res)); context = joins v (h .context) }
     where
       go : (ρ : Resolver) (os : List NodeOutput) → Respects ρ os T′ → InScope ρ os q a ks (ρ v) → InScope ρ os r a′ ks′ (ρ v)
       go ρ os res (constant c) = constant c
@@ -126,10 +128,11 @@ module _ (W : World) where
           doing = rewrite-doing W s₀ s r (join ks (c .children)) c dg₁ tl;
           moves = mv;
           set = set-through (mv .gains) (within-right ks (c .children))
-              (λ ρ os res k lt. rw (laws-last (s .region-input-rewrites) _ refl res .0 k) (tl .inputs k .scoped ρ os (respects-back (mv .gains) res))) W
+              (λ ρ os res k lt. rw (entry-law res (c .structured-body) _ (entry-at (s .region-input-rewrites) (c .structured-body) _ (tl .unrewritten)) k) (tl .inputs k .scoped ρ os (respects-back (mv .gains) res)))
+              (λ v y. context-replaced (s .region-input-rewrites) (c .structured-body) r _ (tl .unrewritten) (given W s₀ s r (join ks (c .children)) c dg₁ tl) y) W
               (c .deferred-edges) (fit .holds .set);
           law = λ ρ os res x p k. let e : c ≡ x = cc in subst (λ z. ρ (input (z .structured-body) k) ≡ ρ (getD (z .structured-body-inputs) k (undef 0))) e
-              (laws-last (s .region-input-rewrites) _ refl res .0 k);
+              (entry-law res (c .structured-body) _ (entry-at (s .region-input-rewrites) (c .structured-body) _ (tl .unrewritten)) k);
         };
       }
 

@@ -7,8 +7,9 @@ use mathlib.Core.Path.{_∙_, _≡_, ap, refl, sym}
 use Prim.Native.Nat.{_<_, _≤_, suc, zero, ℕ}
 use native.Mathlib.Omega.{arith}
 use lib.ListN.{length, take}
+use Rattle.nesting.specs.Contexts.{no-input, own-in, rooted-ends}
 use Rattle.meaning.specs.Form.{⟨⟩}
-use Rattle.meaning.specs.Graph.{Instr, Value, bool, const, held, input, instr, output, region, sameValue, undef}
+use Rattle.meaning.specs.Graph.{Instr, Value, bool, const, held, input, instr, output, region, undef}
 use Rattle.meaning.specs.GraphRun.{by-terminator}
 use Rattle.meaning.specs.NestedRun.{run-nodes}
 use Rattle.meaning.specs.Run.{End, Event, RunState, Word, put-inputs, word}
@@ -22,7 +23,7 @@ use Rattle.nesting.specs.Rewrite.{rewrite, rewrites-of}
 use Rattle.nesting.specs.State.{NestState, NodeOutput, ready}
 use Rattle.follows.specs.Usable.{AllUsable, Usable, total}
 use Rattle.follows.specs.Small.{eqb-self}
-use Rattle.follows.specs.Key.{is-constant, key, of-instr, owns-nodes}
+use Rattle.follows.specs.Key.{constant-not-input, key, of-instr, owns-nodes}
 use Rattle.follows.specs.World.{World, ar, from-region, size}
 use Rattle.follows.specs.Tables.{Gains, Resolver, Respects, Tables, respects-back, tables}
 use Rattle.follows.specs.Frame.{puts-other}
@@ -31,10 +32,9 @@ use Rattle.follows.specs.Leads.{Based, Goes, Leads, OnwardTo, ends-with}
 use Rattle.follows.specs.Inputs.{input-numbered, puts-at}
 use Rattle.follows.specs.OwnBlocks.{Agree, stands, usable-reads}
 use Rattle.follows.specs.Bundles.{same-target-self}
-use Rattle.follows.specs.Final.{final-respects}
+use Rattle.follows.specs.Final.{final-respects, unrewritten-stays}
 use Rattle.follows.specs.Scope.{AllScoped, Scoped, own-input, owned, scoped-const}
 use Rattle.follows.specs.Invariant.{Inv, waiting}
-use Rattle.follows.specs.Holding.{unrewritten-stays}
 use Rattle.follows.specs.EnterCase.{Enters}
 use Rattle.follows.specs.SelectFollows.{none-owns}
 
@@ -71,11 +71,12 @@ module _ (W : World) where
   usable-scoped r T (undef ty) h = scoped-const (undef ty) refl
   usable-scoped r T (held q i) h = absurd h
   usable-scoped r T (output i) h = absurd h
-  usable-scoped r T (input q i) (p, lt) = record { scoped = λ ρ os res. own-input i lt (ap (λ z. ρ (input z i)) p) }
+  usable-scoped r T (input q i) (p, lt) = record { scoped = λ ρ os res. own-input i lt (ap (λ z. ρ (input z i)) p); context = rw p (own-in r i) }
   usable-scoped r T (instr q i) (p, lt) =
       record {
         scoped = λ ρ os res. owned
             (rw (res .on-instr q i, p) (own-instr (block-count (take r (W .g .regions))) r 0 i (region (W .g) r .blocks) lt (omega arith)));
+        context = no-input (instr q i) refl;
       }
 
   pub usable-all : (r : ℕ) (T : Tables) (vs : List Value) → AllUsable r (ar W r) (total 0 (region (W .g) r .blocks)) vs → AllScoped T r (ar W r) (blocks-of (W .g) r) vs
@@ -122,20 +123,11 @@ module _ (W : World) where
       let ρ : Resolver = rewrite (s .region-input-rewrites) in
       let st : RunState = record { env = put-inputs (λ k. input x k) 0 ws (W .base); events = past; cost = 0; over-limit = false } in
       let un : rewrites-of (s .region-input-rewrites) x ≡ none = inv .unrewritten x (waiting x-in (rw is)) in
-      let fl = inv .sims x b ⟨⟩ [] is .leads ρ (s .node-outputs) (final-respects (tables s) (inv .ends)) n n (omega arith) st ws
-      (record { based = λ v c. puts-other (λ k. input x k) v (λ k. not-input v c k) 0 ws (W .base) }) len
+      let fl = inv .sims x b ⟨⟩ [] is .leads ρ (s .node-outputs) (final-respects (tables s) (λ q. rooted-ends (inv .rooted q))) n n (omega arith) st ws
+      (record { based = λ v c. puts-other (λ k. input x k) v (constant-not-input x v c) 0 ws (W .base) }) len
       (record {
         reads = λ k lt. ap (st .env) (unrewritten-stays (s .region-input-rewrites) x k un) ∙ puts-at (λ k. input x k) (input-numbered x) ws k k 0
             (omega arith) lt (W .base);
         apart = λ k lt. none-owns (key (s .node-outputs) (ρ (input x k)));
       }) e h gr in
       fl .leads-to .chosen .member
-    where
-      not-input : (v : Value) → is-constant v ≡ true → (k : ℕ) → sameValue v (input x k) ≡ false
-      not-input (const i) c k = refl
-      not-input (bool y) c k = refl
-      not-input (undef ty) c k = refl
-      not-input (input q i) c k = cc
-      not-input (held q i) c k = cc
-      not-input (instr q i) c k = cc
-      not-input (output i) c k = cc

@@ -10,7 +10,7 @@ use lib.ListN.{length}
 use borrow.Author.Tests.{eqb-true}
 use Rattle.meaning.specs.Graph.{pick}
 use Rattle.format.specs.ReadLaws.{clash}
-use Rattle.nesting.specs.BundleSet.{drop-last, fill-gap, get-by-target, is-always, last-or, same-target, split-out-target}
+use Rattle.nesting.specs.BundleSet.{drop-last, empty, fill-gap, get-by-target, is-always, last-or, same-target, split-out-target}
 use Rattle.nesting.specs.Deferred.{DeferredEdgeBundle, DeferredEdgeBundleSet, DeferredTarget, to-region, to-return}
 use Rattle.follows.specs.Small.{In, eqb-less, eqb-self, eqb-sym}
 
@@ -47,6 +47,10 @@ found-in x (e ∷ es) y p = go (λ r. found-in x es y r) (same-target x (e .targ
     go : (get-by-target x es ≡ some y → In y es × (x ≡ y .target)) → (o : Bool) → same-target x (e .target) ≡ o → In y (e ∷ es) × (x ≡ y .target)
     go ih true q = let r : some e ≡ some y = rw q at p in let r′ : y ≡ e = cc in (inl r′, same-target→eq x (e .target) q ∙ ap (λ z. z .target) (sym r′))
     go ih false q = let r : get-by-target x es ≡ some y = rw q at p in let z = ih r in (inr (z .0), z .1)
+
+pub is-empty : (d : DeferredEdgeBundleSet) → empty d ≡ true → d ≡ []
+is-empty [] h = refl
+is-empty (x ∷ d) h = cc
 
 -- two bundles, so their conditions are kept
 pub two-apart : (d : DeferredEdgeBundleSet) (x y : DeferredEdgeBundle) → In x d → In y d → same-target (x .target) (y .target) ≡ false → is-always d ≡ false

@@ -4,11 +4,12 @@ use mathlib.Core.List.{List, [], _∷_, map}
 use mathlib.Core.Logic.{_⊎_, inl, inr}
 use mathlib.Core.Option.{Option, none, some}
 use mathlib.Core.Path.{_∙_, _≡_, ap, refl, subst, sym}
-use Prim.Native.Nat.{_+_, _<_, _≤_, suc, zero, ℕ}
+use Prim.Native.Nat.{_+_, _<_, suc, zero, ℕ}
 use native.Mathlib.Omega.{arith}
 use lib.Dec.{eqb, leb}
 use lib.ListN.{List·getD-eq-default, getD, length, length-map}
-use borrow.Author.Tests.{eqb-true, leb-false, leb-true, ne-eqb}
+use borrow.Author.Tests.{eqb-false, eqb-true, leb-false, leb-true, ne-eqb}
+use Rattle.nesting.specs.Contexts.{InContext, context-replaced, entry-at, open-else, own-in}
 use Rattle.meaning.specs.Form.{Nodes, _▸_, loop, ⟨⟩}
 use Rattle.meaning.specs.Graph.{Value, bool, input, pick, region, undef}
 use Rattle.format.specs.ReadLaws.{clash}
@@ -21,19 +22,18 @@ use Rattle.nesting.specs.Deferred.{DeferredEdgeBundle, DeferredEdgeBundleSet, t
 use Rattle.nesting.specs.Fewer.{state-of}
 use Rattle.nesting.specs.Loop.{LoopInputs, structurize-loop, take-inputs}
 use Rattle.nesting.specs.Post.{bind}
-use Rattle.nesting.specs.Rewrite.{any, meets, rewrite, rewrite-chain, rewrite-values, rewrites-of, step-input}
+use Rattle.nesting.specs.Rewrite.{any, meets, rewrite, rewrite-values, rewrites-of, step-input}
 use Rattle.nesting.specs.State.{Answer, InputRewrite, NestState, NodeOutput, Step, _>>_, claimed, give, ready, renumber-or-replace-with, renumber-to, replace-by}
-use Rattle.follows.specs.Small.{In, entry-keeps, eqb-self, false-if, or-either}
+use Rattle.follows.specs.Small.{In, eqb-self, false-if, or-either}
 use Rattle.follows.specs.Key.{Key, held-key, is-held, of-held, owns-nodes}
 use Rattle.follows.specs.World.{Fits, World, ar, size}
-use Rattle.follows.specs.Tables.{Extends, Resolver, Respects, Tables, extends-refl, extends-then, laws-last, lookup-keeps, respects-back, tables}
+use Rattle.follows.specs.Tables.{Extends, Resolver, Respects, Tables, entry-law, extends-refl, extends-then, lookup-keeps, respects-back, tables}
 use Rattle.follows.specs.Conditions.{Mat, mat-stays}
 use Rattle.follows.specs.Leads.{Sim, leads-on}
 use Rattle.follows.specs.Bundles.{Distinct, find-in, found-in, same-target-sym, same-target→eq}
 use Rattle.follows.specs.LoopFollows.{HeaderInput, loop-sim}
-use Rattle.follows.specs.Final.{NotOf, of-rewrite, gives, held-stays, step-none}
 use Rattle.follows.specs.Defined.{Grew, IfDone, Materialized, define-node-post, define-region-post, grew-then, materialize-post}
-use Rattle.follows.specs.Scope.{EntryOk, InScope, SetOk, Within, own-input, owned}
+use Rattle.follows.specs.Scope.{EntryOk, InScope, SetOk, Within, context-stays, own-input, owned}
 use Rattle.follows.specs.Invariant.{Free, Inv, Later, New, Owned, Rewritable, free⁺, idle, inv-grew, inv-rewrite, later-grew, later-refl, later-rewrite, later-then, new, old, rewritable⁺, rewriting, unborn, waiting}
 use Rattle.follows.specs.StateChanges.{changed, inv-busy, later-busy, new-was, not-r, not-rewritable, now, owned-was, still}
 use Rattle.follows.specs.Holding.{Holds, Since}
@@ -215,25 +215,20 @@ module _ (W : World) where
         abbrev s₄ : NestState
         s₄ = rewriting W r (renumber-or-replace-with (x .rewrites)) s₃
 
-        gives-not : (k : ℕ) → NotOf r (rewrite-chain (inv₃ .ends .steps) (s₃ .region-input-rewrites) (gives r k (renumber-or-replace-with (x .rewrites))))
-        gives-not k = by (getD (x .rewrites) k (renumber-to k)) refl
+        lifted : (k : ℕ) (v : Value) → getD (x .rewrites) k (renumber-to k) ≡ replace-by v → InContext (s₃ .region-input-rewrites) w v
+        lifted k v p = at (leb (suc k) (length vs)) refl
           where
-            by : (sl : InputRewrite) → getD (x .rewrites) k (renumber-to k) ≡ sl → NotOf r (rewrite-chain (inv₃ .ends .steps) (s₃ .region-input-rewrites) (of-rewrite r sl))
-            by (renumber-to i) p = rw (held-stays (s₃ .region-input-rewrites) (inv₃ .ends .steps) r i) tt
-            by (replace-by v) p = at (leb (suc k) (length vs)) refl
-              where
-                at : (o : Bool) → leb (suc k) (length vs) ≡ o → NotOf r (rewrite-chain (inv₃ .ends .steps) (s₃ .region-input-rewrites) v)
-                at true q =
-                    let lt : k < length vs = leb-true (suc k) (length vs) q in
-                    let g : KeptOrLifted (W .g) r w vs x k (replace-by v) = subst (λ z. KeptOrLifted (W .g) r w vs x k z) p (rn .good k lt) in
-                    rw (g .0, step-none (s₃ .region-input-rewrites) (inv₃ .ends .steps) w k w-unrewritten₃) ne
-                at false q =
-                    let ge : length vs ≤ k = let z = leb-false (suc k) (length vs) q in omega arith in
-                    let z : getD (x .rewrites) k (renumber-to k) ≡ renumber-to k = List·getD-eq-default (x .rewrites) (renumber-to k) (omega (arith, rn .many)) in
-                    absurd (let z′ : renumber-to k ≡ replace-by v = sym z ∙ p in clash (cc))
+            at : (o : Bool) → leb (suc k) (length vs) ≡ o → InContext (s₃ .region-input-rewrites) w v
+            at true q =
+                let g : KeptOrLifted (W .g) r w vs x k (replace-by v) = subst (λ z. KeptOrLifted (W .g) r w vs x k z) p (rn .good k (leb-true (suc k) (length vs) q)) in
+                rw (g .0) (own-in w k)
+            at false q =
+                let z : getD (x .rewrites) k (renumber-to k) ≡ renumber-to k =
+                List·getD-eq-default (x .rewrites) (renumber-to k) (let y = leb-false (suc k) (length vs) q in omega (arith, rn .many)) in
+                absurd (let z′ : renumber-to k ≡ replace-by v = sym z ∙ p in clash (cc))
 
         inv₄ : Inv W s₄
-        inv₄ = inv-rewrite W s₃ r (renumber-or-replace-with (x .rewrites)) inv₃ r-unrewritten₃ r-closed₃ gives-not
+        inv₄ = inv-rewrite W s₃ r (renumber-or-replace-with (x .rewrites)) inv₃ r-unrewritten₃ r-closed₃ w w-unrewritten₃ (eqb-false w r ne) lifted
 
         step₄ : Later W s s₄
         step₄ = later-rewrite W s₃ r (renumber-or-replace-with (x .rewrites)) step₃ (waiting r-in was)
@@ -276,7 +271,7 @@ module _ (W : World) where
           T₅ = record { rewrites = s₃ .region-input-rewrites; outputs = s₅ .node-outputs }
 
           looped-sim : Sim W r w looped (leaving r exits d) (record { rewrites = s₄ .region-input-rewrites; outputs = s₅ .node-outputs })
-          looped-sim = loop-sim W r w ks d T₅ e (x .rewrites) (x .initial-inputs) (x .outputs) (x .types) n (region (W .g) r .limit) v (leaving r exits d)
+          looped-sim = loop-sim W r w ks d T₅ e (x .rewrites) (x .initial-inputs) (x .outputs) (x .types) n (region (W .g) r .limit) v (leaving r exits d) r-unrewritten₃
               (leads-on W (record { rewrites = step₃ .gains .rewrites; outputs = extends-then (step₄ .gains .outputs) (hm .grew .outputs) }) (h .sims r b ks d is-ready))
               back-target only-back back-in e-arity (header-input (s₅ .node-outputs)) repeats
               (λ y i ne′. let z = leaving-in r exits d y i (same-target-sym (to-region r) (y .target) ∙ ne′) in (z .0, z .1, z .2 .target, z .2 .inputs, z .2 .condition))
@@ -285,8 +280,8 @@ module _ (W : World) where
 
           through : (ρ : Resolver) (os : List NodeOutput) → Respects ρ os (tables s₆) → (k : ℕ) → k < ar W r → InScope ρ os w (ar W r) looped (ρ (input r k))
           through ρ os res k lt =
-              let law : ρ (input r k) ≡ step-input ρ r (getD (x .rewrites) k (renumber-to k)) = laws-last (s₃ .region-input-rewrites) _ refl
-              (respects-back (later-grew W gr₄₆ .gains) res) .0 k in
+              let law : ρ (input r k) ≡ step-input ρ r (getD (x .rewrites) k (renumber-to k)) = entry-law
+              (respects-back (later-grew W gr₄₆ .gains) res) r _ (entry-at (s₃ .region-input-rewrites) r _ r-unrewritten₃) k in
               rw law (by (getD (x .rewrites) k (renumber-to k)) (rn .good k (omega (arith, n-vs))))
             where
               by : (sl : InputRewrite) → KeptOrLifted (W .g) r w vs x k sl → InScope ρ os w (ar W r) looped (step-input ρ r sl)
@@ -295,7 +290,8 @@ module _ (W : World) where
 
           looped-set : SetOk W (tables s₆) w (ar W r) looped (leaving r exits d)
           looped-set =
-              let all = set-through (step₆ .gains) (loop-within n (x .initial-inputs) r (x .types) (region (W .g) r .limit) ks (x .outputs) v) through W d
+              let all = set-through (step₆ .gains) (loop-within n (x .initial-inputs) r (x .types) (region (W .g) r .limit) ks (x .outputs) v) through
+              (λ u y. context-stays (later-grew W gr₄₆ .gains .rewrites) (context-replaced (s₃ .region-input-rewrites) r w _ r-unrewritten₃ lifted (context-stays (step₃ .gains .rewrites) y))) W d
               (h .sets r b ks d is-ready) in
               record {
                 distinct = leaving-distinct r exits d dist;
@@ -319,7 +315,7 @@ module _ (W : World) where
               by (inr p) = clear₁ κ p wd₁
 
           w-unrewritten₆ : rewrites-of (s₆ .region-input-rewrites) w ≡ none
-          w-unrewritten₆ = rw (gr₄₆ .rewrites) (entry-keeps (s₃ .region-input-rewrites) _ w ne w-unrewritten₃)
+          w-unrewritten₆ = rw (gr₄₆ .rewrites) (open-else (s₃ .region-input-rewrites) _ _ w w-unrewritten₃ (eqb-false _ _ ne))
 
           pub loop-done : ClaimDone r ins s
               (some (record { origin = r; structured-body = w; structured-body-inputs = ins; children = looped; deferred-edges = leaving r exits d })) s₆

@@ -6,7 +6,11 @@ use mathlib.Core.Path.{_∙_, _≡_, refl, subst, sym}
 use Prim.Native.Nat.{_<_, suc, zero, ℕ}
 use native.Mathlib.Omega.{arith}
 use lib.Dec.{eqb}
-use lib.ListN.{getD, length}
+use lib.ListN.{getD, length, length-replicate}
+use Rattle.nesting.specs.Deferred.{DeferredEdgeBundleSet}
+use Rattle.meaning.specs.Form.{Nodes}
+use Rattle.nesting.specs.Func.{initial-state}
+use Rattle.nesting.specs.Contexts.{itself}
 use Rattle.meaning.specs.Graph.{Value, edgesOf, region}
 use Rattle.format.specs.ReadLaws.{clash}
 use Rattle.nesting.specs.Blocks.{blocks-of}
@@ -14,7 +18,7 @@ use Rattle.nesting.specs.BundleSet.{count-to}
 use Rattle.nesting.specs.Case.{ClaimedRegion}
 use Rattle.nesting.specs.Change.{get-state, with-attempt}
 use Rattle.nesting.specs.Claim.{Claim, begin, by-control-inst, claim-by-state, resolve-deferred, structurize-region, target-regions, try-claim-edge-bundle}
-use Rattle.nesting.specs.Fewer.{state-of}
+use Rattle.nesting.specs.Fewer.{all-not-begun, state-of}
 use Rattle.nesting.specs.Post.{bind, map-post}
 use Rattle.nesting.specs.State.{IncomingEdgeCount, NestState, StructurizeRegionState, claimed, follow, give, in-progress, not-begun, ready, turn-away}
 use Rattle.follows.specs.Reach.{target-reachable}
@@ -118,3 +122,19 @@ module _ (W : World) where
       begun s₁ inv₁ ih in-progress p = record { post = (inv₁, later-refl W s₁) }
       begun s₁ inv₁ ih claimed p = record { post = (inv₁, later-refl W s₁) }
       begun s₁ inv₁ ih (ready b ks d′) p = record { post = (inv₁, later-refl W s₁) }
+
+  -- ---- the state at first
+  pub at-first : Inv W (initial-state (W .g))
+  at-first = record {
+    rooted = λ r. record { root = r; no-entry = refl; within = itself };
+    sized = length-replicate (size W) not-begun;
+    room = omega arith;
+    sims = λ r b ks d p. absurd (not-ready r b ks d p);
+    sets = λ r b ks d p. absurd (not-ready r b ks d p);
+    disjoint = λ r r′ b b′ ks ks′ d d′ p p′ ne κ o o′. not-ready r b ks d p;
+    fresh = λ κ o n. not-ready (o .region) (o .back) (o .children) (o .deferred-edges) (o .is);
+    unrewritten = λ q l. refl;
+  }
+    where
+      not-ready : (r b : ℕ) (ks : Nodes) (d : DeferredEdgeBundleSet) → state-of (initial-state (W .g)) r ≡ ready b ks d → ⊥
+      not-ready r b ks d p = let z : not-begun ≡ ready b ks d = sym (all-not-begun (size W) r) ∙ p in clash (cc)

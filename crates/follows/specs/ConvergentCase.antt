@@ -7,18 +7,14 @@ use mathlib.Core.Path.{_∙_, _≡_, ap, refl, subst, sym}
 use Prim.Native.Nat.{suc, zero, ℕ}
 use lib.Dec.{eqb}
 use lib.ListN.{length}
+use Rattle.follows.specs.Bundles.{is-empty}
 use Rattle.meaning.specs.Graph.{pick}
 use Rattle.format.specs.ReadLaws.{clash}
 use Rattle.nesting.specs.BundleSet.{empty}
 use Rattle.nesting.specs.Case.{ClaimedRegion, Convergent, MaybeClaimedRegion, convergent-cases, deferred-of, err, exactly-one, no-one, ok, several, with-convergent, with-unreachable}
-use Rattle.nesting.specs.Deferred.{DeferredEdgeBundleSet}
 use Rattle.follows.specs.Small.{In, eqb-sym, nth, nth-in}
 use Rattle.follows.specs.World.{World}
 use Rattle.follows.specs.Holding.{Apart}
-
-is-empty : (d : DeferredEdgeBundleSet) → empty d ≡ true → d ≡ []
-is-empty [] h = refl
-is-empty (x ∷ d) h = cc
 
 module _ (W : World) where
   none-converges : (cs : List MaybeClaimedRegion) → convergent-cases cs ≡ no-one → (j : ℕ) (x : MaybeClaimedRegion) → nth cs j ≡ some x → deferred-of x ≡ []

@@ -8,6 +8,7 @@ use native.Mathlib.Omega.{arith}
 use lib.ListN.{length, set}
 use lib.Dec.{eqb}
 use borrow.Author.Tests.{eqb-true, eqb-false, eq-eqb}
+use Rattle.follows.specs.Bundles.{found-in}
 use Rattle.meaning.specs.Graph.{Value, Graph, pick}
 use Rattle.meaning.specs.Form.{Nodes}
 use Rattle.format.specs.Read.{isIn}
@@ -27,7 +28,7 @@ use Rattle.nesting.specs.Keeps.{loop-claimed, define-region-keeps, define-node-
 use Rattle.nesting.specs.Still.{Still, still-refl, still-then, still-steady}
 use Rattle.nesting.specs.Fewer.{state-of, not-begun-one, count-set}
 use Rattle.follows.specs.Totals.{total, at, bundles-to, edges-to, edgeless}
-use Rattle.follows.specs.SplitTotals.{split-total, found-target, not-found, no-bundles, exits-bundles, exits-edges, exits-edgeless}
+use Rattle.follows.specs.SplitTotals.{split-total, not-found, no-bundles, exits-bundles, exits-edges, exits-edgeless}
 use Rattle.follows.specs.Counting.{Counting, Nine, busy, many, one, owed-by, held-by, held, owed-set, held-set, held-at, Good, Fine, Inv, Pre, Counted, counted-then, counted-still, inv-set, busy-else, busy-here}
 
 abbrev pub is-new : StructurizeRegionState → Bool
@@ -135,7 +136,7 @@ module _ (K : Counting) where
       exits-held : (r : ℕ) (x : Bool) → eqb r q ≡ x → total (edges-to r) exits + pick x b 0 ≤ total (edges-to r) d + times-in r (exit-targets (K .g) q)
       exits-held r true p =
           let r-q = eqb-true r q p in
-          let t : at r (e .target) ≡ 1 = ap (at r) (found-target q d e found) ∙ rw p in
+          let t : at r (e .target) ≡ 1 = ap (at r) (sym (found-in (to-region q) d e found .1)) ∙ rw p in
           let none-left : total (bundles-to r) exits ≡ 0 = let a = others-few r in let z = good .fits r in let y = one-less r in omega (arith, exits-bundles (exit-targets (K .g) q) r others) in
           let w = no-bundles r exits none-left in
           let k = ap (λ i. total (edges-to i) d) r-q in

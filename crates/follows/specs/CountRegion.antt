@@ -13,7 +13,7 @@ use Rattle.meaning.specs.Graph.{bool-cond, Edge, region, edgesOf}
 use Rattle.format.specs.Read.{isIn}
 use Rattle.format.specs.ReadLaws.{clash}
 use Rattle.nesting.specs.Deferred.{to-region}
-use Rattle.nesting.specs.State.{StructurizeRegionState, not-begun, in-progress, claimed, ready, NestState, follow, _>>=_}
+use Rattle.nesting.specs.State.{StructurizeRegionState, not-begun, in-progress, claimed, ready, NestState, follow}
 use Rattle.nesting.specs.Change.{with-region-states, with-attempt, get-state}
 use Rattle.nesting.specs.BundleSet.{condition-in, count-to}
 use Rattle.nesting.specs.Case.{MaybeClaimedRegion, ok, err, lazy, Body}

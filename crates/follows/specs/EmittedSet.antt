@@ -1,5 +1,5 @@
 -- The deferred edges that a select emits are in scope; where no select is needed, they are as if one had emitted them.
-use mathlib.Core.Bool.{Bool, _||_, false, true}
+use mathlib.Core.Bool.{_||_, false}
 use mathlib.Core.List.{List, [], _∷_, map}
 use mathlib.Core.Logic.{inl, inr}
 use mathlib.Core.Option.{Option, none, some}
@@ -16,7 +16,7 @@ use Rattle.nesting.specs.Deferred.{DeferredEdgeBundle, DeferredEdgeBundleSet, D
 use Rattle.nesting.specs.Plan.{DeferredTargetSummary, PlannedBundle, PlannedInput, UniqueInput, any-merged, any-needs-select, differing, in-parent, is-some, merged, no-value, per-case-deferred, per-case-of, plan-bundle, plan-input, plan-inputs, shared, target-type, unique, unique-input, value-in-case, with-case}
 use Rattle.nesting.specs.Select.{DefinedSelect, shared-bundle, shared-value}
 use Rattle.nesting.specs.State.{NodeOutput}
-use Rattle.follows.specs.Small.{In}
+use Rattle.follows.specs.Small.{In, or-left, or-right}
 use Rattle.follows.specs.Key.{OutputAt}
 use Rattle.follows.specs.World.{World, ar}
 use Rattle.follows.specs.Tables.{Extends, Tables}
@@ -64,11 +64,6 @@ pub no-select-outputs : (os : List NodeOutput) (k : ℕ) (o : NodeOutput) → Ou
 unfolding no-select
 no-select-outputs os k o at-k = none-above os (above os) (omega arith) k o at-k
 
-or-parts : (a b : Bool) → (a || b) ≡ false → (a ≡ false) × (b ≡ false)
-or-parts false false h = (refl, refl)
-or-parts false true h = (refl, h)
-or-parts true b h = (h, cc)
-
 shared-emits : (os : List NodeOutput) (n : DefinedSelect) (is : List PlannedInput) → any-merged is ≡ false → Emits os n is (map shared-value is)
 shared-emits os n [] h = refl
 shared-emits os n (shared v ∷ is) h = (v, map shared-value is, refl, refl, shared-emits os n is h)
@@ -77,13 +72,12 @@ shared-emits os n (merged ty vs ∷ is) h = absurd (clash (cc))
 pub shared-all : (os : List NodeOutput) (n : DefinedSelect) (ps : List PlannedBundle) → any-needs-select ps ≡ false → EmitsAll os n ps (map shared-bundle ps)
 shared-all os n [] h = refl
 shared-all os n (p ∷ ps) h =
-    let x = or-parts (any-merged (p .inputs) || is-some (p .condition)) (any-needs-select ps) h in
-    let y = or-parts (any-merged (p .inputs)) (is-some (p .condition)) (x .0) in (
+    let x = or-left (any-merged (p .inputs) || is-some (p .condition)) (any-needs-select ps) h in (
       shared-bundle p,
       map shared-bundle ps,
       refl,
-      record { target = refl; inputs = shared-emits os n (p .inputs) (y .0); condition = sym (is-t (p .condition) (y .1)) },
-      shared-all os n ps (x .1),
+      record { target = refl; inputs = shared-emits os n (p .inputs) (or-left _ _ x); condition = sym (is-t (p .condition) (or-right (any-merged (p .inputs)) _ x)) },
+      shared-all os n ps (or-right (any-merged (p .inputs) || is-some (p .condition)) _ h),
     )
   where
     is-t : (o : Option LazyConds) → is-some o ≡ false → condition-from n o ≡ true-cond
@@ -94,12 +88,11 @@ pub shared-no-condition : (g : Graph) (cs : List MaybeClaimedRegion) (ws : List 
     → (w : DeferredTargetSummary) → In w ws → (cds : LazyConds) → plan-bundle g cs w .condition ≡ some cds → ⊥
 shared-no-condition g cs [] h w i cds p = i
 shared-no-condition g cs (x ∷ ws) h w (inl e) cds p =
-    let y = or-parts (any-merged (plan-bundle g cs x .inputs) || is-some (plan-bundle g cs x .condition)) _ h in
-    let z = or-parts (any-merged (plan-bundle g cs x .inputs)) (is-some (plan-bundle g cs x .condition)) (y .0) in
+    let y = or-left (any-merged (plan-bundle g cs x .inputs) || is-some (plan-bundle g cs x .condition)) _ h in
     let q : plan-bundle g cs x .condition ≡ some cds = rw e at p in
-    let z′ : is-some (some cds) ≡ false = rw q at (z .1) in clash (cc)
+    let z : is-some (some cds) ≡ false = rw q at (or-right (any-merged (plan-bundle g cs x .inputs)) _ y) in clash (cc)
 shared-no-condition g cs (x ∷ ws) h w (inr i) cds p =
-    shared-no-condition g cs ws (or-parts (any-merged (plan-bundle g cs x .inputs) || is-some (plan-bundle g cs x .condition)) _ h .1) w i cds p
+    shared-no-condition g cs ws (or-right (any-merged (plan-bundle g cs x .inputs) || is-some (plan-bundle g cs x .condition)) _ h) w i cds p
 
 module _ (W : World) where
   unique-from : (k : ℕ) (x : DeferredTarget) (cs : List MaybeClaimedRegion) (v : Value) → unique-input k cs (per-cases x cs) ≡ unique v

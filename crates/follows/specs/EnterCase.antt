@@ -1,9 +1,9 @@
 -- A case of a select is entered: its children follow the graph's run from there. Looking its values up changes nothing.
 use mathlib.Core.Bool.{false, true}
 use mathlib.Core.List.{List, [], _∷_, map}
-use mathlib.Core.Option.{some}
+use mathlib.Core.Option.{none, some}
 use mathlib.Core.Path.{_∙_, _≡_, ap, refl, sym}
-use Prim.Native.Nat.{_<_, _^_, _≤_, ℕ}
+use Prim.Native.Nat.{_<_, _≤_, ℕ}
 use native.Mathlib.Omega.{arith}
 use lib.ListN.{List·getD-map, getD, length, length-map}
 use Rattle.meaning.specs.Form.{Nodes, ⟨⟩}
@@ -13,7 +13,7 @@ use Rattle.meaning.specs.Run.{End, Event, RunState, Word, mark, place-taken, wo
 use Rattle.nesting.specs.Case.{ClaimedRegion, MaybeClaimedRegion, Scrutinee, deferred-of, err, lazy, ok, value}
 use Rattle.nesting.specs.Deferred.{DeferredEdgeBundle, DeferredEdgeBundleSet, DeferredTarget, to-region}
 use Rattle.nesting.specs.Last.{rewrite-nodes}
-use Rattle.nesting.specs.Rewrite.{rewrite}
+use Rattle.nesting.specs.Rewrite.{rewrite, rewrites-of}
 use Rattle.nesting.specs.Select.{rewrite-bundle, rewrite-case}
 use Rattle.nesting.specs.State.{NestState, NodeOutput, RewriteEntry}
 use Rattle.follows.specs.Small.{In, false-if, from-map, getD-map-in, in-map, nth}
@@ -23,7 +23,7 @@ use Rattle.follows.specs.Tables.{Resolver, Respects, Tables, tables}
 use Rattle.follows.specs.Conditions.{Mat}
 use Rattle.follows.specs.Leads.{Based, Goes, OnwardTo, Tracks, onward-reads, tracks-less}
 use Rattle.follows.specs.Bundles.{Distinct}
-use Rattle.follows.specs.Final.{final-stays}
+use Rattle.nesting.specs.ChainSteps.{stops-rewrite}
 use Rattle.follows.specs.Scope.{EntryOk, SetOk, in-apart, scoped-rewritten}
 use Rattle.follows.specs.Holding.{CaseOk}
 
@@ -114,15 +114,11 @@ module _ (W : World) where
       go (ended e′ s) fl′ = record { leads-to = fl′ .leads-to }
       go no-end fl′ = record { leads-to = fl′ .leads-to }
 
-  undef-stays : (rs : List RewriteEntry) → rewrite rs (undef 0) ≡ undef 0
-  unfolding rewrite
-  undef-stays rs = final-stays rs (2 ^ length rs) (undef 0) tt
-
   pub getD-rewritten : (rs : List RewriteEntry) (vs : List Value) (i : ℕ) → getD (map (rewrite rs) vs) i (undef 0) ≡ rewrite rs (getD vs i (undef 0))
-  getD-rewritten rs vs i = ap (λ z. getD (map (rewrite rs) vs) i z) (sym (undef-stays rs)) ∙ List·getD-map (rewrite rs) vs i (undef 0)
+  getD-rewritten rs vs i = ap (λ z. getD (map (rewrite rs) vs) i z) (sym (stops-rewrite rs (undef 0) refl)) ∙ List·getD-map (rewrite rs) vs i (undef 0)
 
-  pub set-rewritten : {T : Tables} {q a : ℕ} {ks : Nodes} (d : DeferredEdgeBundleSet) → SetOk W T q a ks d → SetOk W T q a ks (map (rewrite-bundle (rewrite (T .rewrites))) d)
-  set-rewritten {T} {q} {a} {ks} d h =
+  pub set-rewritten : {T : Tables} {q a : ℕ} {ks : Nodes} → rewrites-of (T .rewrites) q ≡ none → (d : DeferredEdgeBundleSet) → SetOk W T q a ks d → SetOk W T q a ks (map (rewrite-bundle (rewrite (T .rewrites))) d)
+  set-rewritten {T} {q} {a} {ks} un d h =
       record { distinct = distinct-rewritten (rewrite (T .rewrites)) d (h .distinct); entries = λ e i. go e (from-map (rewrite-bundle (rewrite (T .rewrites))) d e i) }
     where
       go : (e : DeferredEdgeBundle) → (z : DeferredEdgeBundle) × In z d × (e ≡ rewrite-bundle (rewrite (T .rewrites)) z) → EntryOk W T q a ks e
@@ -132,6 +128,6 @@ module _ (W : World) where
             fits = rw (length-map (z .target-inputs) (rewrite (T .rewrites))) (x .fits);
             inputs =
                 λ j. rw (getD-rewritten (T .rewrites) (z .target-inputs) j)
-                (scoped-rewritten (getD (z .target-inputs) j (undef 0)) (x .inputs j));
+                (scoped-rewritten un (getD (z .target-inputs) j (undef 0)) (x .inputs j));
             condition = x .condition;
           })

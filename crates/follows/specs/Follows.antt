@@ -6,10 +6,11 @@ use mathlib.Core.List.{List, [], _∷_, map}
 use mathlib.Core.Option.{Option, none, some}
 use Prim.Native.Nat.{ℕ, zero, suc, _+_}
 use native.Mathlib.Omega.{arith}
-use lib.ListN.{length, getD, replicate, length-replicate, getD-replicate, List·getD-eq-default}
-use lib.Dec.{eqb, leb}
-use borrow.Author.Tests.{eqb-true, leb-true, leb-false}
-use Rattle.meaning.specs.Graph.{Value, const, input, held, instr, output, bool, undef, sameValue, Graph, region}
+use lib.ListN.{length, getD}
+use lib.Dec.{eqb}
+use borrow.Author.Tests.{eqb-true}
+use Rattle.nesting.specs.Contexts.{rooted-ends}
+use Rattle.meaning.specs.Graph.{Value, input, Graph, region}
 use Rattle.meaning.specs.Run.{End, returned, Given, RunState, base-env, words-from, entry-words}
 use Rattle.meaning.specs.Form.{Nodes, ⟨⟩}
 use Rattle.meaning.specs.GraphRun.{Ended, run-from, graph-run}
@@ -20,7 +21,7 @@ use Rattle.nesting.specs.Deferred.{DeferredTarget, to-region, to-return, Deferr
 use Rattle.nesting.specs.Nested.{Outcome, untouched, whole, closed, leftover, Nested, NestAnswer, nested}
 use Rattle.nesting.specs.State.{IncomingEdgeCount, StructurizeRegionState, not-begun, in-progress, claimed, ready, NestState, Answer, done, turned-away, give, follow, _>>_, turn-away}
 use Rattle.nesting.specs.Change.{set-state, get-state, with-attempt}
-use Rattle.nesting.specs.Rewrite.{rewrites-of, rewrite, rewrite-chain}
+use Rattle.nesting.specs.Rewrite.{rewrites-of, rewrite}
 use Rattle.nesting.specs.Case.{ClaimedRegion}
 use Rattle.nesting.specs.Claim.{try-claim-edge-bundle, claim-by-state, claim-body, backedge-of, begin, structurize-region}
 use Rattle.nesting.specs.Count.{incoming-edge-counts}
@@ -34,56 +35,16 @@ use Rattle.follows.specs.Statements as statements
 use Rattle.nesting.specs.Post.{bind, map-post}
 use Rattle.nesting.specs.Fewer.{state-of}
 use Rattle.follows.specs.Small.{In, map-map}
-use Rattle.follows.specs.Key.{is-constant, nodes-none, owns-nodes, key}
+use Rattle.follows.specs.Key.{constant-not-input, key, nodes-none, owns-nodes}
 use Rattle.follows.specs.Tables.{Resolver, tables}
-use Rattle.follows.specs.World.{World, size}
+use Rattle.follows.specs.World.{World}
 use Rattle.follows.specs.Frame.{puts-other}
 use Rattle.follows.specs.Inputs.{puts-at, input-numbered}
 use Rattle.follows.specs.Leads.{OnwardTo, Tracks}
-use Rattle.follows.specs.Final.{Ends, Final, final-respects}
+use Rattle.follows.specs.Final.{final-respects, unrewritten-stays}
 use Rattle.follows.specs.Defined.{IfDone}
-use Rattle.follows.specs.Invariant.{Inv}
-use Rattle.follows.specs.Holding.{unrewritten-stays}
 use Rattle.follows.specs.ClaimReady.{ClaimDone, at-state}
-use Rattle.follows.specs.Claims.{claim-post}
-
--- ---- the state at first
-all-new : (n r : ℕ) → getD (replicate n not-begun) r not-begun ≡ not-begun
-all-new n r = go (leb (suc r) n) refl
-  where
-    go : (b : Bool) → leb (suc r) n ≡ b → getD (replicate n not-begun) r not-begun ≡ not-begun
-    go true p = getD-replicate n r not-begun not-begun (leb-true (suc r) n p)
-    go false p = List·getD-eq-default (replicate n not-begun) not-begun
-        (let z = leb-false (suc r) n p in let y : length (replicate n not-begun) ≡ n = length-replicate n not-begun in omega arith)
-
-final-first : (v : Value) → Final [] (rewrite-chain 0 [] v)
-unfolding rewrite-chain
-final-first (input r k) = refl
-final-first (const i) = tt
-final-first (held r k) = tt
-final-first (instr r k) = tt
-final-first (output o) = tt
-final-first (bool b) = tt
-final-first (undef ty) = tt
-
-no-ends : Ends []
-no-ends = record { steps = 0; settles = record { settled = final-first }; enough = refl; single = tt }
-
-module _ (W : World) where
-  pub at-first : Inv W (initial-state (W .g))
-  at-first = record {
-    ends = no-ends;
-    sized = length-replicate (size W) not-begun;
-    room = omega arith;
-    sims = λ r b ks d p. absurd (not-ready r b ks d p);
-    sets = λ r b ks d p. absurd (not-ready r b ks d p);
-    disjoint = λ r r′ b b′ ks ks′ d d′ p p′ ne κ o o′. not-ready r b ks d p;
-    fresh = λ κ o n. not-ready (o .region) (o .back) (o .children) (o .deferred-edges) (o .is);
-    unrewritten = λ q l. refl;
-  }
-    where
-      not-ready : (r b : ℕ) (ks : Nodes) (d : DeferredEdgeBundleSet) → state-of (initial-state (W .g)) r ≡ ready b ks d → ⊥
-      not-ready r b ks d p = let z : not-begun ≡ ready b ks d = sym (all-new (size W) r) ∙ p in clash (cc)
+use Rattle.follows.specs.Claims.{at-first, claim-post}
 
 -- ---- the entry is no loop
 module _ (g : Graph) (counts : List IncomingEdgeCount) where
@@ -130,15 +91,6 @@ module _ (g : Graph) (counts : List IncomingEdgeCount) where
 abbrev world : (g : Graph) → Valid g → Given → World
 world g v x = record { g = g; valid = usable-graph g v; rule = x .rule; base = base-env x; on-bool = λ b. refl; on-undef = λ ty. refl }
 
-not-input : (x : ℕ) (v : Value) → is-constant v ≡ true → (k : ℕ) → sameValue v (input x k) ≡ false
-not-input x (const i) c k = refl
-not-input x (bool y) c k = refl
-not-input x (undef ty) c k = refl
-not-input x (input q i) c k = cc
-not-input x (held q i) c k = cc
-not-input x (instr q i) c k = cc
-not-input x (output o) c k = cc
-
 words-many : (f : ℕ → ℕ) (k : ℕ) (ts : List ℕ) → length (words-from f k ts) ≡ length ts
 unfolding words-from
 words-many f k [] = refl
@@ -163,8 +115,8 @@ module _ (g : Graph) (valid : Valid g) (x : Given) (c : ClaimedRegion) (s : Nest
       let hd = cd .got .holds in
       let origin : c .origin ≡ g .entry = cd .got .origin in
       let un : rewrites-of (s .region-input-rewrites) (g .entry) ≡ none = subst (λ q. rewrites-of (s .region-input-rewrites) q ≡ none) itself (hd .unrewritten) in
-      hd .sim .leads ρ (s .node-outputs) (final-respects (tables s) (cd .inv .ends)) b b (omega arith) (start g x) (entry-words g x)
-      (record { based = λ v k. puts-other (λ i. input (g .entry) i) v (not-input (g .entry) v k) 0 (entry-words g x) (base-env x) })
+      hd .sim .leads ρ (s .node-outputs) (final-respects (tables s) (λ q. rooted-ends (cd .inv .rooted q))) b b (omega arith) (start g x) (entry-words g x)
+      (record { based = λ v k. puts-other (λ i. input (g .entry) i) v (constant-not-input (g .entry) v k) 0 (entry-words g x) (base-env x) })
       (entry-many g x ∙ ap (λ q. length (region g q .inputs)) (sym origin))
       (record {
         reads = λ k lt. ap (λ q. start g x .env (ρ (input q k))) itself ∙ ap (start g x .env) (unrewritten-stays (s .region-input-rewrites) (g .entry) k un)

@@ -6,55 +6,26 @@ use mathlib.Core.List.{List, [], _∷_}
 use mathlib.Core.Logic.{_⊎_, inl, inr}
 use mathlib.Core.Option.{none}
 use mathlib.Core.Path.{_∙_, _≡_, ap, refl, sym}
-use Prim.Native.Nat.{_<_, _^_, ℕ}
+use Prim.Native.Nat.{_<_, ℕ}
 use native.Mathlib.Omega.{arith}
 use lib.Dec.{eqb}
-use lib.ListN.{length, length-set}
+use lib.ListN.{length-set}
 use borrow.Author.Tests.{eqb-true}
 use Rattle.meaning.specs.Form.{Nodes}
-use Rattle.meaning.specs.Graph.{Value, bool, const, held, input, instr, output, undef}
 use Rattle.format.specs.ReadLaws.{clash}
 use Rattle.nesting.specs.Case.{ClaimedRegion, MaybeClaimedRegion, err, ok}
 use Rattle.nesting.specs.Deferred.{DeferredEdgeBundleSet}
 use Rattle.nesting.specs.Fewer.{state-of}
-use Rattle.nesting.specs.Rewrite.{rewrite, rewrite-chain, rewrites-of}
-use Rattle.nesting.specs.State.{NestState, NodeOutput, RewriteEntry, in-progress, not-begun, ready}
+use Rattle.nesting.specs.Rewrite.{rewrites-of}
+use Rattle.nesting.specs.State.{NestState, in-progress, not-begun, ready}
 use Rattle.follows.specs.Small.{In, eqb-self}
-use Rattle.follows.specs.Key.{Key, nodes-none, of-held, of-instr, of-node, of-none, owns-nodes}
+use Rattle.follows.specs.Key.{Key, of-held, of-instr, of-node, of-none, owns-nodes}
 use Rattle.follows.specs.World.{World, ar, size}
 use Rattle.follows.specs.Tables.{tables}
 use Rattle.follows.specs.Leads.{Sim, leads-on}
-use Rattle.follows.specs.Final.{Ends, NotOf, final-respects, one-more, step-none}
-use Rattle.follows.specs.Scope.{AllScoped, InScope, Scoped, SetOk, constant, own-input, owned, scoped-later, set-later, within-refl}
+use Rattle.follows.specs.Scope.{AllScoped, SetOk, scoped-later, set-later, within-refl}
 use Rattle.follows.specs.Invariant.{Free, Inv, Later, New, Owned, Rewritable, idle, is-claimed, later-then, new, old, unborn, waiting}
 use Rattle.follows.specs.StateChanges.{changed, else, now}
-
--- what has no rewrites stays as it is; a look-up is at rest
-pub unrewritten-stays : (es : List RewriteEntry) (r k : ℕ) → rewrites-of es r ≡ none → rewrite es (input r k) ≡ input r k
-unfolding rewrite
-unrewritten-stays es r k un = step-none es (2 ^ length es) r k un
-
-at-rest : (es : List RewriteEntry) (h : Ends es) (v : Value) → rewrite-chain (h .steps) es v ≡ rewrite es v
-unfolding rewrite
-at-rest es h v = one-more es (h .steps) v (h .settles .settled v) ∙ ap (λ n. rewrite-chain n es v) (h .enough)
-
-not-of : (es : List RewriteEntry) (q r : ℕ) → eqb r q ≡ false → rewrites-of es r ≡ none → (a : ℕ) (ks : Nodes) (os : List NodeOutput) (w : Value)
-    → InScope (rewrite es) os r a ks w → NotOf q w
-not-of es q r ne un a ks os (input p k) (constant c) = cc
-not-of es q r ne un a ks os (input p k) (own-input i lt e) = let z : input p k ≡ input r i = e ∙ unrewritten-stays es r i un in let z′ : p ≡ r = cc in rw z′ ne
-not-of es q r ne un a ks os (input p k) (owned o) = let z : true ≡ false = sym o ∙ nodes-none ks in cc
-not-of es q r ne un a ks os (const i) x = tt
-not-of es q r ne un a ks os (held p k) x = tt
-not-of es q r ne un a ks os (instr p k) x = tt
-not-of es q r ne un a ks os (output k) x = tt
-not-of es q r ne un a ks os (bool b) x = tt
-not-of es q r ne un a ks os (undef ty) x = tt
-
--- values in the scope of a region r without rewrites come to no input of another region q
-pub scoped-not-of : (es : List RewriteEntry) (h : Ends es) (q r : ℕ) → eqb r q ≡ false → rewrites-of es r ≡ none
-    → (a : ℕ) (ks : Nodes) (os : List NodeOutput) (v : Value) → Scoped (record { rewrites = es; outputs = os }) r a ks v → NotOf q (rewrite-chain (h .steps) es v)
-scoped-not-of es h q r ne un a ks os v sc = rw (at-rest es h v)
-    (not-of es q r ne un a ks os (rewrite es v) (sc .scoped (rewrite es) os (final-respects (record { rewrites = es; outputs = os }) h)))
 
 pub at-or-else : (P : Type 0) (q r : ℕ) → (q ≡ r → P) → (eqb q r ≡ false → P) → P
 at-or-else P q r p e = go (eqb q r) refl
@@ -214,7 +185,7 @@ module _ (W : World) where
 
     pub inv-ready : Inv W s⁺
     inv-ready = record {
-      ends = h .ends;
+      rooted = h .rooted;
       sized = length-set (s .region-states) r (ready b ks d) ∙ h .sized;
       room = h .room;
       sims = λ q b′ ks′ d′ p. at-or-else (Sim W q q ks′ d′ (tables s)) q r

@@ -4,28 +4,26 @@
 -- A region is Rewritable if someone other than its holder may still give it rewrites: not begun, Ready, or not yet defined.
 -- Whoever holds children that own nothing Free, or a region that is not Rewritable, still does after any call: no list of holders is kept.
 use mathlib.Core.Bool.{Bool, false, true}
-use mathlib.Core.List.{List, [], _++_, _∷_, append-nil}
-use mathlib.Core.Option.{none, some}
+use mathlib.Core.List.{[], _++_, _∷_}
+use mathlib.Core.Option.{none}
 use mathlib.Core.Path.{_∙_, _≡_, ap, refl, subst, sym}
-use Prim.Native.Nat.{_+_, _<_, _^_, _≤_, suc, ℕ}
+use Prim.Native.Nat.{_<_, _≤_, ℕ}
 use native.Mathlib.Omega.{arith}
 use lib.Dec.{eqb}
-use lib.ListN.{getD, length, length-append}
-use borrow.Author.Tests.{ne-eqb}
+use lib.ListN.{getD, length}
+use Rattle.nesting.specs.ChainEnds.{Gives}
+use Rattle.nesting.specs.Contexts.{InContext, Rooted, open-else, rooted-add}
 use Rattle.meaning.specs.Form.{Nodes}
-use Rattle.meaning.specs.Graph.{pick, region}
-use Rattle.format.specs.ReadLaws.{clash}
+use Rattle.meaning.specs.Graph.{Value, region}
 use Rattle.nesting.specs.Change.{with-rewrites}
 use Rattle.nesting.specs.Deferred.{DeferredEdgeBundleSet}
 use Rattle.nesting.specs.Fewer.{state-of}
-use Rattle.nesting.specs.Rewrite.{rewrite-chain, rewrites-of}
-use Rattle.nesting.specs.State.{NestState, RegionInputRewrites, RewriteEntry, StructurizeRegionState, claimed, in-progress, not-begun, ready}
-use Rattle.follows.specs.Small.{entry-keeps, eqb-sym}
+use Rattle.nesting.specs.Rewrite.{rewrites-of}
+use Rattle.nesting.specs.State.{NestState, RegionInputRewrites, StructurizeRegionState, claimed, in-progress, not-begun, ready}
 use Rattle.follows.specs.Key.{Key, of-held, of-instr, of-node, of-none, owns-nodes}
 use Rattle.follows.specs.World.{World, ar, size}
-use Rattle.follows.specs.Tables.{Gains, extends-refl, gains-refl, gains-then, tables}
+use Rattle.follows.specs.Tables.{Gains, extends-refl, extends-same, gains-refl, gains-then, tables}
 use Rattle.follows.specs.Leads.{Sim, leads-on}
-use Rattle.follows.specs.Final.{Ends, NotOf, Single, gives, settled-add}
 use Rattle.follows.specs.Defined.{Grew}
 use Rattle.follows.specs.Scope.{SetOk, set-later, within-refl}
 
@@ -67,10 +65,10 @@ module _ (W : World) where
     unborn : s .region-count ≤ q → Rewritable s q
     waiting : q < size W → idle (state-of s q) ≡ true → Rewritable s q
 
-  -- Look-ups end; a Ready region's children follow the graph, its deferred edges are in scope; the children of two Ready regions
+  -- Every region's inputs lead to those of one without rewrites, so look-ups end; a Ready region's children follow the graph, its deferred edges are in scope; the children of two Ready regions
   -- own nothing in common, and nothing New; what is Rewritable has no rewrites.
   pub record Inv (s : NestState) : Type 0 where
-    pub ends : Ends (s .region-input-rewrites)
+    pub rooted : (r : ℕ) → Rooted (s .region-input-rewrites) r
     pub sized : length (s .region-states) ≡ size W
     pub room : size W ≤ s .region-count
     pub sims : (r b : ℕ) (ks : Nodes) (d : DeferredEdgeBundleSet) → state-of s r ≡ ready b ks d → Sim W r r ks d (tables s)
@@ -127,7 +125,7 @@ module _ (W : World) where
     rewritable-same q (waiting lt h) = waiting lt (rw (status-same q) at h)
 
     pub grew-gains : Gains (tables s) (tables s′)
-    grew-gains = record { rewrites = record { more = []; whole = gr .rewrites ∙ sym (append-nil (s .region-input-rewrites)) }; outputs = gr .outputs }
+    grew-gains = record { rewrites = extends-same (gr .rewrites); outputs = gr .outputs }
 
     pub later-grew : Later s s′
     later-grew = record {
@@ -144,7 +142,7 @@ module _ (W : World) where
 
     pub inv-grew : Inv s → Inv s′
     inv-grew h = record {
-      ends = subst (λ l. Ends l) (sym (gr .rewrites)) (h .ends);
+      rooted = λ r. subst (λ l. Rooted l r) (sym (gr .rewrites)) (h .rooted r);
       sized = ap length (gr .region-states) ∙ h .sized;
       room = omega (arith, h .room, gr .regions);
       sims = λ r b ks d p. leads-on W grew-gains (h .sims r b ks d (sym (status-same r) ∙ p));
@@ -155,29 +153,6 @@ module _ (W : World) where
     }
 
   -- ---- an entry is added
-  single-add : (es : List RewriteEntry) (x : RewriteEntry) → Single es → rewrites-of es (x .region) ≡ none → Single (es ++ (x ∷ []))
-  single-add [] x s h = (refl, tt)
-  single-add (y ∷ es) x (one, s) h = go (λ p. single-add es x s p) (eqb (x .region) (y .region)) refl h
-    where
-      go : (rewrites-of es (x .region) ≡ none → Single (es ++ (x ∷ []))) → (b : Bool) → eqb (x .region) (y .region) ≡ b
-          → pick b (some (y .rewrites)) (rewrites-of es (x .region)) ≡ none → Single ((y ∷ es) ++ (x ∷ []))
-      go ih true q p = absurd (clash (cc))
-      go ih false q p = (entry-keeps es x (y .region) (eqb-sym (y .region) (x .region) ∙ q) one, ih p)
-
-  ends-add : (es : List RewriteEntry) (q : ℕ) (e : RegionInputRewrites) → (h : Ends es) → rewrites-of es q ≡ none
-      → ((k : ℕ) → NotOf q (rewrite-chain (h .steps) es (gives q k e))) → Ends (es ++ (record { region = q; rewrites = e } ∷ []))
-  ends-add es q e h no-q nots =
-      record {
-        steps = suc (h .steps + h .steps);
-        settles = settled-add es q e (h .steps) no-q (h .settles) nots;
-        enough = let l : length (es ++ (record { region = q; rewrites = e } ∷ [])) ≡ suc (length es) = length-append es _ ∙ omega arith in rw l
-            (enough′ (length es) (h .steps) (h .enough));
-        single = single-add es (record { region = q; rewrites = e }) (h .single) no-q;
-      }
-    where
-      enough′ : (n d : ℕ) → suc d ≡ 2 ^ n → suc (suc (d + d)) ≡ 2 ^ suc n
-      enough′ n d p = let z : 2 ^ suc n ≡ 2 ^ n + 2 ^ n = omega arith in omega (arith, p, z)
-
   abbrev pub rewriting : ℕ → RegionInputRewrites → NestState → NestState
   rewriting q e s = with-rewrites (s .region-input-rewrites ++ (record { region = q; rewrites = e } ∷ [])) s
 
@@ -205,21 +180,18 @@ module _ (W : World) where
     free⁺ κ (old o) = old (owned⁺ κ o)
     free⁺ κ (new n) = new (new⁺ κ n)
 
-    pub inv-rewrite : (h : Inv s) → rewrites-of (s .region-input-rewrites) q ≡ none → (Rewritable s q → ⊥)
-        → ((k : ℕ) → NotOf q (rewrite-chain (h .ends .steps) (s .region-input-rewrites) (gives q k e))) → Inv s⁺
-    inv-rewrite h no-q closed nots = record {
-      ends = ends-add (s .region-input-rewrites) q e (h .ends) no-q nots;
+    pub inv-rewrite : (h : Inv s) → rewrites-of (s .region-input-rewrites) q ≡ none → (Rewritable s q → ⊥) → (p : ℕ) → rewrites-of (s .region-input-rewrites) p ≡ none → (p ≡ q → ⊥)
+        → ((k : ℕ) (v : Value) → Gives e k v → InContext (s .region-input-rewrites) p v) → Inv s⁺
+    inv-rewrite h no-q closed p no-p ne given = record {
+      rooted = rooted-add (s .region-input-rewrites) q p e no-q no-p ne given (h .rooted);
       sized = h .sized;
       room = h .room;
       sims = λ r b ks d p. leads-on W rewrite-gains (h .sims r b ks d p);
       sets = λ r b ks d p. set-later W rewrite-gains (within-refl ks) (h .sets r b ks d p);
       disjoint = λ r r′ b b′ ks ks′ d d′ p p′ ne. h .disjoint r r′ b b′ ks ks′ d d′ p p′ ne;
       fresh = λ v o n. h .fresh v (owned⁺ v o) (new⁺ v n);
-      unrewritten = λ r l. entry-keeps (s .region-input-rewrites) (record { region = q; rewrites = e }) r (other r l) (h .unrewritten r (rewritable⁺ r l));
+      unrewritten = λ r l. open-else (s .region-input-rewrites) q e r (h .unrewritten r (rewritable⁺ r l)) (λ p. closed (subst (λ x. Rewritable s x) p (rewritable⁺ r l)));
     }
-      where
-        other : (r : ℕ) → Rewritable s⁺ r → eqb r q ≡ false
-        other r l = ne-eqb r q (λ p. closed (subst (λ x. Rewritable s x) p (rewritable⁺ r l)))
 
     -- since s₀, when the region could still get rewrites
     pub later-rewrite : {s₀ : NestState} → Later s₀ s → Rewritable s₀ q → Later s₀ s⁺
@@ -227,9 +199,6 @@ module _ (W : World) where
       gains = gains-then (st .gains) rewrite-gains;
       free = λ κ h. st .free κ (free⁺ κ h);
       rewritable = λ r h. st .rewritable r (rewritable⁺ r h);
-      kept = λ r n h. entry-keeps (s .region-input-rewrites) (record { region = q; rewrites = e }) r (other r n) (st .kept r n h);
+      kept = λ r n h. open-else (s .region-input-rewrites) q e r (st .kept r n h) (λ p. n (subst (λ x. Rewritable s₀ x) (sym p) l));
       busy = λ r h. st .busy r h;
     }
-      where
-        other : (r : ℕ) → (Rewritable s₀ r → ⊥) → eqb r q ≡ false
-        other r n = ne-eqb r q (λ p. n (subst (λ x. Rewritable s₀ x) (sym p) l))

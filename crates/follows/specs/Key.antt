@@ -7,7 +7,7 @@ use Prim.Native.Nat.{ℕ}
 use lib.Dec.{eqb}
 use borrow.Author.Tests.{eqb-true}
 use Rattle.meaning.specs.Form.{Cases, Node, Nodes, _▸_, block, case, exit, loop, select, ∅, ⟨⟩}
-use Rattle.meaning.specs.Graph.{Value, bool, const, held, input, instr, output, undef}
+use Rattle.meaning.specs.Graph.{Value, bool, const, held, input, instr, output, sameValue, undef}
 use Rattle.format.specs.ReadLaws.{clash}
 use Rattle.nesting.specs.Case.{join}
 use Rattle.nesting.specs.State.{NodeOutput}
@@ -57,6 +57,15 @@ key-constant os (input q k) h = refl
 key-constant os (held q k) h = absurd (clash (cc))
 key-constant os (instr q k) h = absurd (clash (cc))
 key-constant os (output o) h = absurd (clash (cc))
+
+pub constant-not-input : (x : ℕ) (v : Value) → is-constant v ≡ true → (k : ℕ) → sameValue v (input x k) ≡ false
+constant-not-input x (const i) c k = refl
+constant-not-input x (bool y) c k = refl
+constant-not-input x (undef ty) c k = refl
+constant-not-input x (input q i) c k = cc
+constant-not-input x (held q i) c k = cc
+constant-not-input x (instr q i) c k = cc
+constant-not-input x (output o) c k = cc
 
 -- ---- one key
 abbrev pub is-instr : ℕ → Key → Bool

@@ -18,13 +18,6 @@ pub mod CountScan
 pub mod CountRegion
 pub mod Attempts
 pub mod CaseForms
-pub mod ContextState
-pub mod ContextCases
-pub mod ContextPlan
-pub mod ContextSelect
-pub mod ContextLoop
-pub mod ContextWalk
-pub mod ContextRegion
 pub mod Small
 pub mod Key
 pub mod World
@@ -62,4 +55,5 @@ pub mod TargetRegions
 pub mod ByTerminator
 pub mod Scan
 pub mod Claims
+pub mod Chains
 pub mod Follows

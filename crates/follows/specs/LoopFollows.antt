@@ -7,6 +7,8 @@ use Prim.Native.Nat.{_<_, _≤_, suc, zero, ℕ}
 use native.Mathlib.Omega.{arith}
 use lib.Dec.{leb}
 use lib.ListN.{getD, length, length-map}
+use mathlib.Core.Option.{none}
+use Rattle.nesting.specs.Contexts.{entry-at}
 use Rattle.meaning.specs.Form.{Nodes, _▸_, loop, ⟨⟩}
 use Rattle.meaning.specs.Graph.{Value, bool, input, undef}
 use Rattle.meaning.specs.NestedRun.{Ran, assign-inputs, ended, no-end, note-over, pay, run-nodes, through, turns}
@@ -15,12 +17,12 @@ use Rattle.meaning.specs.RunLaws.{inputs-at-once, last-turn, next-turn}
 use Rattle.nesting.specs.BundleSet.{same-target}
 use Rattle.nesting.specs.Deferred.{DeferredEdgeBundle, DeferredEdgeBundleSet, to-region}
 use Rattle.nesting.specs.Last.{rewrite-nodes}
-use Rattle.nesting.specs.Rewrite.{step-input}
+use Rattle.nesting.specs.Rewrite.{rewrites-of, step-input}
 use Rattle.nesting.specs.State.{InputRewrite, NodeOutput, renumber-or-replace-with, renumber-to, replace-by}
 use Rattle.follows.specs.Small.{In, eqb-self, getD-map-in, or-left, or-right}
 use Rattle.follows.specs.Key.{is-held, key, key-constant, of-held, owns-nodes}
 use Rattle.follows.specs.World.{World, ar, from-region, runs}
-use Rattle.follows.specs.Tables.{Extends, Gains, Resolver, Respects, Tables, extends-refl, laws-last, respects-back}
+use Rattle.follows.specs.Tables.{Extends, Gains, Resolver, Respects, Tables, entry-law, extends-refl, respects-back}
 use Rattle.follows.specs.Frame.{inputs-kept}
 use Rattle.follows.specs.Conditions.{Mat, Truthy}
 use Rattle.follows.specs.Leads.{Based, Chosen, Goes, OnwardTo, Sim, Tracks, based-after, ends-with, none-run, onward-reads, read, then-on, tracks-less}
@@ -38,6 +40,7 @@ module _ (W : World) where
 
   module _ (r q : ℕ) (ks : Nodes) (d : DeferredEdgeBundleSet) (T : Tables)
       (x : DeferredEdgeBundle) (ss : List InputRewrite) (init outs : List Value) (tys : List ℕ) (n limit : ℕ) (rep : Value) (d′ : DeferredEdgeBundleSet)
+      (no-entry : rewrites-of (T .rewrites) r ≡ none)
       (body-sim : Sim W r r ks d T)
       (back : x .target ≡ to-region r)
       (only-back : (y : DeferredEdgeBundle) → In y d → same-target (y .target) (to-region r) ≡ true → y ≡ x)
@@ -63,7 +66,7 @@ module _ (W : World) where
           (b : ℕ) (e : End) (h : List Event)
           (outside : (k : ℕ) → k < ar W r → owns-nodes ks′ (key os′ (ρ (input q k))) ≡ false) where
         law : (k : ℕ) → ρ (input r k) ≡ step-input ρ r (getD ss k (renumber-to k))
-        law = laws-last (T .rewrites) _ refl res .0
+        law = entry-law res r _ (entry-at (T .rewrites) r _ no-entry)
 
         ok : (k : ℕ) → k < ar W r → HeaderInput ρ r q (x .target-inputs) init outs k (getD ss k (renumber-to k))
         ok = header-inputs ρ os′ (respects-back gains res)

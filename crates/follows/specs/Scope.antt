@@ -2,21 +2,24 @@
 use mathlib.Core.Bool.{Bool, false, or-true, true}
 use mathlib.Core.List.{List, [], _∷_, map}
 use mathlib.Core.Logic.{inl, inr}
-use mathlib.Core.Path.{_∙_, _≡_, refl}
+use mathlib.Core.Path.{_∙_, _≡_, refl, subst, sym}
 use Prim.Native.Nat.{_<_, suc, ℕ}
 use lib.ListN.{getD, length}
+use mathlib.Core.Option.{none}
+use Rattle.nesting.specs.ChainEnds.{names}
+use Rattle.nesting.specs.Contexts.{InContext, context-more, context-rewritten, no-input}
 use Rattle.meaning.specs.Form.{Nodes}
 use Rattle.meaning.specs.Graph.{Value, bool, const, held, input, instr, output, undef}
 use Rattle.meaning.specs.Run.{End, Event, RunState}
 use Rattle.format.specs.ReadLaws.{clash}
 use Rattle.nesting.specs.Case.{join}
 use Rattle.nesting.specs.Deferred.{DeferredEdgeBundle, DeferredEdgeBundleSet, DeferredTarget, LazyCond, false-cond, merge, true-cond, undef-cond}
-use Rattle.nesting.specs.Rewrite.{rewrite}
-use Rattle.nesting.specs.State.{NodeOutput}
+use Rattle.nesting.specs.Rewrite.{rewrite, rewrites-of}
+use Rattle.nesting.specs.State.{NodeOutput, RewriteEntry}
 use Rattle.follows.specs.Small.{In}
 use Rattle.follows.specs.Key.{Key, OutputAt, is-constant, key, key-constant, key-output, of-node, of-none, owns-join, owns-nodes}
 use Rattle.follows.specs.World.{Fits, World}
-use Rattle.follows.specs.Tables.{Gains, Resolver, Respects, Tables, lookup-keeps, respects-back, stays}
+use Rattle.follows.specs.Tables.{Extends, Gains, Resolver, Respects, Tables, lookup-keeps, respects-back, stays}
 use Rattle.follows.specs.Conditions.{Mat, mat-stays}
 use Rattle.follows.specs.Leads.{Goes, OnwardTo, onward-reads}
 use Rattle.follows.specs.Bundles.{Distinct}
@@ -28,9 +31,10 @@ pub data InScope (ρ : Resolver) (os : List NodeOutput) (q a : ℕ) (ks : Nodes)
   own-input : (k : ℕ) → k < a → v ≡ ρ (input q k) → InScope ρ os q a ks v
   owned : owns-nodes ks (key os v) ≡ true → InScope ρ os q a ks v
 
--- Whatever the tables will be at the end.
+-- Whatever the tables will be at the end; and its look-up leads, past every mark, to no inputs but those of q.
 pub record Scoped (T : Tables) (q a : ℕ) (ks : Nodes) (v : Value) : Type 0 where
   pub scoped : (ρ : Resolver) (os : List NodeOutput) → Respects ρ os T → InScope ρ os q a ks (ρ v)
+  pub context : InContext (T .rewrites) q v
 
 abbrev pub AllScoped : Tables → ℕ → ℕ → Nodes → List Value → Type 0
 AllScoped T q a ks vs = (i : ℕ) → Scoped T q a ks (getD vs i (undef 0))
@@ -56,8 +60,11 @@ within-right a b = record { into = λ κ p. rw (owns-join a b κ, p) (or-true (o
 pub within-refl : (a : Nodes) → Within a a
 within-refl a = record { into = λ κ p. p }
 
+pub context-stays : {es es′ : List RewriteEntry} {q : ℕ} {v : Value} → Extends es es′ → InContext es q v → InContext es′ q v
+context-stays {q = q} {v = v} p h = subst (λ l. InContext l q v) (sym (p .whole)) (context-more (p .more) h)
+
 pub scoped-later : {T T′ : Tables} {q a : ℕ} {ks ks′ : Nodes} {v : Value} → Gains T T′ → Within ks ks′ → Scoped T q a ks v → Scoped T′ q a ks′ v
-scoped-later {q} {a} {ks} {ks′} {v} p w h = record { scoped = λ ρ os res. go ρ os (h .scoped ρ os (respects-back p res)) }
+scoped-later {q} {a} {ks} {ks′} {v} p w h = record { scoped = λ ρ os res. go ρ os (h .scoped ρ os (respects-back p res)); context = context-stays (p .rewrites) (h .context) }
   where
     go : (ρ : Resolver) (os : List NodeOutput) → InScope ρ os q a ks (ρ v) → InScope ρ os q a ks′ (ρ v)
     go ρ os (constant c) = constant c
@@ -73,14 +80,23 @@ constant-stays res (held r k) h = absurd (clash (cc))
 constant-stays res (instr r k) h = absurd (clash (cc))
 constant-stays res (output k) h = absurd (clash (cc))
 
+constant-names : (v : Value) → is-constant v ≡ true → names v ≡ none
+constant-names (const i) h = refl
+constant-names (bool b) h = refl
+constant-names (undef ty) h = refl
+constant-names (input r k) h = absurd (clash (cc))
+constant-names (held r k) h = absurd (clash (cc))
+constant-names (instr r k) h = refl
+constant-names (output k) h = refl
+
 pub scoped-const : {T : Tables} {q a : ℕ} {ks : Nodes} (v : Value) → is-constant v ≡ true → Scoped T q a ks v
-scoped-const v c = record { scoped = λ ρ os res. constant (constant-stays res v c) }
+scoped-const v c = record { scoped = λ ρ os res. constant (constant-stays res v c); context = no-input v (constant-names v c) }
 
 pub scoped-output : {T : Tables} {q a : ℕ} {ks : Nodes} {n k : ℕ} {o : NodeOutput} → OutputAt n (T .outputs) k o → owns-nodes ks (of-node n) ≡ true → Scoped T q a ks (output k)
-scoped-output {k} at-k p = record { scoped = λ ρ os res. owned (rw (res .on-output k, key-output (stays (res .outputs) at-k)) p) }
+scoped-output {k} at-k p = record { scoped = λ ρ os res. owned (rw (res .on-output k, key-output (stays (res .outputs) at-k)) p); context = no-input (output k) refl }
 
-pub scoped-rewritten : {T : Tables} {q a : ℕ} {ks : Nodes} (v : Value) → Scoped T q a ks v → Scoped T q a ks (rewrite (T .rewrites) v)
-scoped-rewritten v h = record { scoped = λ ρ os res. rw (lookup-keeps res v) (h .scoped ρ os res) }
+pub scoped-rewritten : {T : Tables} {q a : ℕ} {ks : Nodes} → rewrites-of (T .rewrites) q ≡ none → (v : Value) → Scoped T q a ks v → Scoped T q a ks (rewrite (T .rewrites) v)
+scoped-rewritten {T} {q} o v h = record { scoped = λ ρ os res. rw (lookup-keeps res v) (h .scoped ρ os res); context = context-rewritten (T .rewrites) q o v (h .context) }
 
 pub cond-later : {T T′ : Tables} {q a : ℕ} {ks ks′ : Nodes} → Gains T T′ → Within ks ks′ → (c : LazyCond) → CondOk T q a ks c → CondOk T′ q a ks′ c
 cond-later p w true-cond h = record { is = tt }
@@ -98,8 +114,19 @@ mat-in-scope undef-cond v res h mt = rw mt (constant (constant-stays res (undef 
 mat-in-scope {ρ} {os} (merge n kind sc cs) v res h (inl (b, e, ms)) = rw e (h .is .0 .scoped ρ os res)
 mat-in-scope (merge n kind sc cs) v res h (inr (k, o, e, at-k, ms)) = rw e (owned (rw (res .on-output k, key-output at-k) (h .is .1)))
 
+mat-in-context : {T : Tables} {q a : ℕ} {ks : Nodes} (c : LazyCond) (v : Value) (os : List NodeOutput) → CondOk T q a ks c → Mat c os v → InContext (T .rewrites) q v
+unfolding Mat
+mat-in-context true-cond v os h mt = rw mt (no-input (bool true) refl)
+mat-in-context false-cond v os h mt = rw mt (no-input (bool false) refl)
+mat-in-context undef-cond v os h mt = rw mt (no-input (undef 1) refl)
+mat-in-context (merge n kind sc cs) v os h (inl (b, e, ms)) = rw e (h .is .0 .context)
+mat-in-context (merge n kind sc cs) v os h (inr (k, o, e, at-k, ms)) = rw e (no-input (output k) refl)
+
 pub mat-scoped : {T T′ : Tables} {q a : ℕ} {ks : Nodes} (c : LazyCond) (v : Value) → Gains T T′ → CondOk T q a ks c → Mat c (T′ .outputs) v → Scoped T′ q a ks v
-mat-scoped {T′} c v p h mt = record { scoped = λ ρ os res. mat-in-scope c v (respects-back p res) h (mat-stays c (T′ .outputs) os (res .outputs) v mt) }
+mat-scoped {T′} c v p h mt = record {
+  scoped = λ ρ os res. mat-in-scope c v (respects-back p res) h (mat-stays c (T′ .outputs) os (res .outputs) v mt);
+  context = context-stays (p .rewrites) (mat-in-context c v (T′ .outputs) h mt);
+}
 
 -- values in scope are none of what is apart from the children, if the own inputs are not
 pub in-apart : {ρ : Resolver} {os : List NodeOutput} {q a : ℕ} {ks : Nodes} (P : Key → Bool) (v : Value) → P of-none ≡ false → ((k : ℕ) → k < a → P (key os (ρ (input q k))) ≡ false)

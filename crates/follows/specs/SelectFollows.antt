@@ -111,22 +111,22 @@ module _ (W : World) where
 
     -- each looked-up case's set, in its own scope
     rewritten-distinct : (c : MaybeClaimedRegion) → In c cases → Distinct (deferred-of (rewrite-case σ c))
-    rewritten-distinct (ok c) i = set-rewritten W (c .deferred-edges) (fit .each (ok c) i .is .holds .set) .distinct
-    rewritten-distinct (err d) i = set-rewritten W d (fit .each (err d) i .is) .distinct
+    rewritten-distinct (ok c) i = set-rewritten W (fit .each (ok c) i .is .holds .unrewritten) (c .deferred-edges) (fit .each (ok c) i .is .holds .set) .distinct
+    rewritten-distinct (err d) i = set-rewritten W (dg .unrewritten) d (fit .each (err d) i .is) .distinct
 
     rewritten-fits : (c : MaybeClaimedRegion) → In c cases → (e : DeferredEdgeBundle) → In e (deferred-of (rewrite-case σ c)) → Fits W (e .target) (length (e .target-inputs))
-    rewritten-fits (ok c) i e k = set-rewritten W (c .deferred-edges) (fit .each (ok c) i .is .holds .set) .entries e k .fits
-    rewritten-fits (err d) i e k = set-rewritten W d (fit .each (err d) i .is) .entries e k .fits
+    rewritten-fits (ok c) i e k = set-rewritten W (fit .each (ok c) i .is .holds .unrewritten) (c .deferred-edges) (fit .each (ok c) i .is .holds .set) .entries e k .fits
+    rewritten-fits (err d) i e k = set-rewritten W (dg .unrewritten) d (fit .each (err d) i .is) .entries e k .fits
 
     rewritten-shares : (c : MaybeClaimedRegion) → In c cases → (e : DeferredEdgeBundle) → In e (deferred-of (rewrite-case σ c)) → (i : ℕ) (v : Value)
         → in-parent (rewrite-case σ c) (getD (e .target-inputs) i (undef 0)) ≡ some v → Scoped (tables s) r (ar W r) ks v
-    rewritten-shares (err d) i e k j v p = let q : v ≡ getD (e .target-inputs) j (undef 0) = cc in rw q (set-rewritten W d (fit .each (err d) i .is) .entries e k .inputs j)
+    rewritten-shares (err d) i e k j v p = let q : v ≡ getD (e .target-inputs) j (undef 0) = cc in rw q (set-rewritten W (dg .unrewritten) d (fit .each (err d) i .is) .entries e k .inputs j)
     rewritten-shares (ok c) i e k j v p = go (in-parent-of (rewrite-claimed σ c) (getD (e .target-inputs) j (undef 0)) v p)
       where
         go : SeenOutside (rewrite-claimed σ c) (getD (e .target-inputs) j (undef 0)) v → Scoped (tables s) r (ar W r) ks v
         go (inl (q, con)) = rw q (scoped-const _ con)
         go (inr (l, q, q′)) = rw (q′, getD-rewritten W (s .region-input-rewrites) (c .structured-body-inputs) l)
-            (scoped-rewritten (getD (c .structured-body-inputs) l (undef 0)) (fit .each (ok c) i .is .inputs l))
+            (scoped-rewritten (dg .unrewritten) (getD (c .structured-body-inputs) l (undef 0)) (fit .each (ok c) i .is .inputs l))
 
     shares : (c : MaybeClaimedRegion) → In c cs → (e : DeferredEdgeBundle) → In e (deferred-of c) → (i : ℕ) (v : Value)
         → in-parent c (getD (e .target-inputs) i (undef 0)) ≡ some v → Scoped (tables s′) r (ar W r) (join ks (al .more)) v

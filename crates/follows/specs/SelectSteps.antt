@@ -1,13 +1,16 @@
 -- What a select over cases does to the state: the values looked up, the select defined if it is needed, the inputs replaced.
 use mathlib.Core.Bool.{Bool, _||_, false, or-false, true}
-use mathlib.Core.List.{List, [], _++_, _∷_, append-assoc, append-nil, map}
+use mathlib.Core.List.{List, [], _∷_, map}
 use mathlib.Core.Logic.{_⊎_, inl, inr}
-use mathlib.Core.Option.{none}
+use mathlib.Core.Option.{none, some}
 use mathlib.Core.Path.{_∙_, _≡_, ap, refl, subst, sym}
 use Prim.Native.Nat.{_≤_, ℕ}
 use native.Mathlib.Omega.{arith}
 use lib.Dec.{eqb}
 use lib.ListN.{getD}
+use borrow.Author.Tests.{eqb-false}
+use Rattle.nesting.specs.ChainEnds.{Gives}
+use Rattle.nesting.specs.Contexts.{InContext, entry-at, open-else}
 use Rattle.meaning.specs.Form.{Cases, Nodes, _▸_, select, ⟨⟩}
 use Rattle.meaning.specs.Graph.{SelectionKind, Value, input, undef}
 use Rattle.format.specs.ReadLaws.{clash}
@@ -18,17 +21,17 @@ use Rattle.nesting.specs.Plan.{any-needs-select, any-non-empty-case, plan-bundl
 use Rattle.nesting.specs.Post.{bind, map-post}
 use Rattle.nesting.specs.Rewrite.{any, meets, rewrite, rewrites-of}
 use Rattle.nesting.specs.Select.{DefinedSelect, define-select, emit, meets-in-case, replace-inputs, rewrite-case, rewrite-cases, rewrite-claimed, select-if, shared-bundle, structurize-select}
-use Rattle.nesting.specs.State.{NestState, NodeOutput, RewriteEntry, not-begun, replace-with}
-use Rattle.follows.specs.Small.{In, entry-keeps, from-map, in-map, or-either, or-left, or-right}
+use Rattle.nesting.specs.State.{NestState, NodeOutput, not-begun, replace-with}
+use Rattle.follows.specs.Small.{In, from-map, in-map, or-either, or-left, or-right}
 use Rattle.follows.specs.Key.{Key, is-node, node-key, of-node, owns-cases, owns-join, owns-nodes}
 use Rattle.follows.specs.World.{World, ar}
-use Rattle.follows.specs.Tables.{EntryLaw, Gains, Laws, Resolver, Respects, extends-refl, gains-refl, gains-then, laws-last, lookup-keeps, respects-back, tables}
+use Rattle.follows.specs.Tables.{Gains, Resolver, Respects, entry-law, entry-stays, extends-refl, gains-refl, gains-then, lookup-keeps, respects-back, tables}
 use Rattle.follows.specs.Leads.{leads-on}
 use Rattle.follows.specs.Planned.{EmitsAll}
 use Rattle.follows.specs.Defined.{Grew, IfDone, emit-post, grew-then}
 use Rattle.follows.specs.Scope.{AllScoped, Within, scoped-later, scoped-rewritten, set-later, within-left, within-refl}
 use Rattle.follows.specs.Invariant.{Free, Later, Rewritable, free⁺, inv-grew, inv-rewrite, later-grew, later-rewrite, new, old, rewritable⁺, rewrite-gains, rewriting}
-use Rattle.follows.specs.Holding.{Apart, CasesOk, ClaimedOk, Doing, Holds, doing-on, scoped-not-of}
+use Rattle.follows.specs.Holding.{Apart, CasesOk, ClaimedOk, Doing, Holds, doing-on}
 use Rattle.follows.specs.EnterCase.{ScrutineeIs, children-in, getD-rewritten}
 use Rattle.follows.specs.SelectDefined.{CasesFrom, DefinesSelect, cases-own, define-select-post, scrutinee-stays}
 
@@ -79,6 +82,9 @@ module _ (W : World) where
     abbrev s⁺ : NestState
     s⁺ = rewriting W (c .structured-body) (replace-with (c .structured-body-inputs)) s
 
+    pub given : (k : ℕ) (v : Value) → Gives (replace-with (c .structured-body-inputs)) k v → InContext (s .region-input-rewrites) r v
+    given k v p = subst (λ z. InContext (s .region-input-rewrites) r z) p (tl .inputs k .context)
+
     pub rewrite-moved : Moved s s⁺
     rewrite-moved = record {
       gains = rewrite-gains W s (c .structured-body) (replace-with (c .structured-body-inputs));
@@ -89,19 +95,18 @@ module _ (W : World) where
     pub rewrite-doing : Doing W s₀ r ks s⁺
     rewrite-doing = record {
       in-range = dg .in-range;
-      inv = inv-rewrite W s (c .structured-body) (replace-with (c .structured-body-inputs)) (dg .inv) (tl .unrewritten) (tl .closed)
-          (λ k. scoped-not-of (s .region-input-rewrites) (dg .inv .ends) (c .structured-body) r (tl .other) (dg .unrewritten) (ar W r) ks (s .node-outputs)
-          (getD (c .structured-body-inputs) k (undef 0)) (tl .inputs k));
+      inv = inv-rewrite W s (c .structured-body) (replace-with (c .structured-body-inputs)) (dg .inv) (tl .unrewritten) (tl .closed) r (dg .unrewritten)
+          (eqb-false _ _ (tl .other)) given;
       step = later-rewrite W s (c .structured-body) (replace-with (c .structured-body-inputs)) (dg .step) (tl .since);
       began = dg .began;
       busy = dg .busy;
-      unrewritten = entry-keeps (s .region-input-rewrites) _ r (tl .other) (dg .unrewritten);
+      unrewritten = open-else (s .region-input-rewrites) _ _ r (dg .unrewritten) (eqb-false _ _ (tl .other));
       since = dg .since;
       clear = λ κ o w. dg .clear κ o (rewrite-moved .free κ w);
     }
 
     pub rewrite-keeps : (q : ℕ) → eqb q (c .structured-body) ≡ false → rewrites-of (s .region-input-rewrites) q ≡ none → rewrites-of (s⁺ .region-input-rewrites) q ≡ none
-    rewrite-keeps q ne h = entry-keeps (s .region-input-rewrites) _ q ne h
+    rewrite-keeps q ne h = open-else (s .region-input-rewrites) _ _ q h (eqb-false _ _ ne)
 
     pub rewrite-on : (c′ : ClaimedRegion) → eqb (c′ .structured-body) (c .structured-body) ≡ false → ToRewrite s₀ r ks s c′ → ToRewrite s₀ r ks s⁺ c′
     rewrite-on c′ ne t = record {
@@ -112,14 +117,9 @@ module _ (W : World) where
       since = t .since;
     }
 
-  abbrev pub entries-of : List MaybeClaimedRegion → List RewriteEntry
-  entries-of [] = []
-  entries-of (err d ∷ cs) = entries-of cs
-  entries-of (ok c ∷ cs) = record { region = c .structured-body; rewrites = replace-with (c .structured-body-inputs) } ∷ entries-of cs
-
   pub record Replaced (s₀ : NestState) (r : ℕ) (ks : Nodes) (cs : List MaybeClaimedRegion) (s s′ : NestState) : Type 0 where
     pub doing : Doing W s₀ r ks s′
-    pub rewrites : s′ .region-input-rewrites ≡ s .region-input-rewrites ++ entries-of cs
+    pub given : (c : ClaimedRegion) → In (ok c) cs → rewrites-of (s′ .region-input-rewrites) (c .structured-body) ≡ some (replace-with (c .structured-body-inputs))
     pub outputs : s′ .node-outputs ≡ s .node-outputs
     pub moves : Moved s s′
     pub keeps : (q : ℕ) → ((c : ClaimedRegion) → In (ok c) cs → eqb q (c .structured-body) ≡ false) → rewrites-of (s .region-input-rewrites) q ≡ none
@@ -133,7 +133,7 @@ module _ (W : World) where
       record {
         post = record {
           doing = dg;
-          rewrites = sym (append-nil (s .region-input-rewrites));
+          given = λ c i. absurd i;
           outputs = refl;
           moves =
               record { gains = gains-refl (tables s); free = λ κ h. h; rewritable = λ q h. h };
@@ -142,7 +142,7 @@ module _ (W : World) where
       }
   replace-inputs-post s₀ r ks (err d ∷ cs) s dg tl ap =
       map-post (replace-inputs cs s) (replace-inputs-post s₀ r ks cs s dg (λ c i. tl c (inr i)) ap) λ u s′ h.
-      record { doing = h .doing; rewrites = h .rewrites; outputs = h .outputs; moves = h .moves; keeps = λ q n. h .keeps q (λ c i. n c (inr i)) }
+      record { doing = h .doing; given = λ c i. elim i [ inl p ↦ absurd (clash (cc)) | inr j ↦ h .given c j ]; outputs = h .outputs; moves = h .moves; keeps = λ q n. h .keeps q (λ c i. n c (inr i)) }
   replace-inputs-post s₀ r ks (ok c ∷ cs) s dg tl (ne, ap) =
       let mine = tl c (inl refl) in
       let s₁ : NestState = rewriting W (c .structured-body) (replace-with (c .structured-body-inputs)) s in
@@ -150,19 +150,14 @@ module _ (W : World) where
       (replace-inputs-post s₀ r ks cs s₁ (rewrite-doing s₀ s r ks c dg mine) (λ c′ i. rewrite-on s₀ s r ks c dg mine c′ (ne c′ i) (tl c′ (inr i))) ap) λ u s′ h.
       record {
         doing = h .doing;
-        rewrites = h .rewrites ∙ append-assoc (s .region-input-rewrites) _ (entries-of cs);
+        given = λ x i. elim i [
+          | inl p ↦ let e : x ≡ c = cc in rw e (entry-stays (c .structured-body) (h .moves .gains .rewrites) (entry-at (s .region-input-rewrites) (c .structured-body) _ (mine .unrewritten)))
+          | inr j ↦ h .given x j
+        ];
         outputs = h .outputs;
         moves = moved-then (rewrite-moved s₀ s r ks c dg mine) (h .moves);
         keeps = λ q n p. h .keeps q (λ c′ i. n c′ (inr i)) (rewrite-keeps s₀ s r ks c dg mine q (n c (inl refl)) p);
       }
-
-  replaced-law : (ρ : Resolver) (cs : List MaybeClaimedRegion) → Laws ρ (entries-of cs) → (c : ClaimedRegion) → In (ok c) cs
-      → EntryLaw ρ (c .structured-body) (replace-with (c .structured-body-inputs))
-  replaced-law ρ [] h c i = absurd i
-  replaced-law ρ (err d ∷ cs) h c (inl p) = absurd (clash (cc))
-  replaced-law ρ (err d ∷ cs) h c (inr i) = replaced-law ρ cs h c i
-  replaced-law ρ (ok x ∷ cs) h c (inl p) = let e : c ≡ x = cc in rw e (h .0)
-  replaced-law ρ (ok x ∷ cs) h c (inr i) = replaced-law ρ cs (h .1) c i
 
   -- ---- the cases with their values looked up
   rewritten-claimed : (σ : Resolver) (x : MaybeClaimedRegion) (c : ClaimedRegion) → ok c ≡ rewrite-case σ x
@@ -325,7 +320,7 @@ module _ (W : World) where
           closed = λ l. tk .holds .closed (st .rewritable (y .0 .structured-body) (subst (λ z. Rewritable W s₂ z) (y .2) l));
           unrewritten = rw (y .2, gr .rewrites) (tk .holds .unrewritten);
           inputs = λ k. rw (y .3, getD-rewritten W (s .region-input-rewrites) (y .0 .structured-body-inputs) k)
-              (scoped-later (st .gains) wi (scoped-rewritten (getD (y .0 .structured-body-inputs) k (undef 0)) (tk .inputs k)));
+              (scoped-later (st .gains) wi (scoped-rewritten (dg .unrewritten) (getD (y .0 .structured-body-inputs) k (undef 0)) (tk .inputs k)));
           other = rw (y .2) (tk .other);
           since = rw (y .2) (tk .since .region);
         }
@@ -347,7 +342,10 @@ module _ (W : World) where
             doing = rp .doing;
             moves = moved-then (later-moves (later-grew W (sel .grew))) (rp .moves);
             keeps = λ q n h. rp .keeps q (λ c i. keep q n c i) (rw (sel .grew .rewrites) h);
-            law = λ ρ os res c i k. law ρ os s₂ s₃ (moved-then (later-moves (later-grew W (sel .grew))) (rp .moves) .gains) (rp .rewrites) res c i k;
+            law = λ ρ os res c i k.
+                entry-law res (c .structured-body) _ (rp .given (rewrite-claimed σ c) (in-map (rewrite-case σ) cases (ok c) i)) k
+                ∙ ap ρ (getD-rewritten W (s .region-input-rewrites) (c .structured-body-inputs) k)
+                ∙ lookup-keeps (respects-back (moved-then (later-moves (later-grew W (sel .grew))) (rp .moves) .gains) res) (getD (c .structured-body-inputs) k (undef 0));
           };
         }
       where
@@ -356,10 +354,3 @@ module _ (W : World) where
             let x = from-map (rewrite-case σ) cases (ok c) i in
             let y = rewritten-claimed σ (x .0) c (x .2) in
             rw (y .2) (n (y .0) (rw (y .1) at (x .1)))
-
-        law : (ρ : Resolver) (os : List NodeOutput) (s₂ s₃ : NestState) → Gains (tables s) (tables s₃)
-            → s₃ .region-input-rewrites ≡ s₂ .region-input-rewrites ++ entries-of cs → Respects ρ os (tables s₃)
-            → (c : ClaimedRegion) → In (ok c) cases → (k : ℕ) → ρ (input (c .structured-body) k) ≡ ρ (getD (c .structured-body-inputs) k (undef 0))
-        law ρ os s₂ s₃ gains e res c i k =
-            replaced-law ρ cs (laws-last (s₂ .region-input-rewrites) (entries-of cs) e res) (rewrite-claimed σ c) (in-map (rewrite-case σ) cases (ok c) i) k
-            ∙ ap ρ (getD-rewritten W (s .region-input-rewrites) (c .structured-body-inputs) k) ∙ lookup-keeps (respects-back gains res) (getD (c .structured-body-inputs) k (undef 0))

@@ -9,10 +9,7 @@ use native.Mathlib.Omega.{arith}
 use lib.Dec.{eqb}
 use lib.ListN.{getD, length}
 use borrow.Author.Tests.{eq-eqb, eqb-false, eqb-true, ne-eqb}
-use Rattle.meaning.specs.Graph.{pick}
 use Rattle.format.specs.ReadLaws.{clash}
-use Rattle.nesting.specs.Rewrite.{rewrites-of}
-use Rattle.nesting.specs.State.{RewriteEntry}
 
 -- ---- tests
 pub or-either : (a b : Bool) → (a || b) ≡ true → (a ≡ true) ⊎ (b ≡ true)
@@ -100,13 +97,3 @@ getD-map-in f (x ∷ l) (suc k) d d′ lt = getD-map-in f l k d d′ (omega arit
 pub map-map : {A B C : Type 0} (f : B → C) (g : A → B) (l : List A) → map f (map g l) ≡ map (λ x. f (g x)) l
 map-map f g [] = refl
 map-map f g (x ∷ l) = ap (λ z. f (g x) ∷ z) (map-map f g l)
-
--- an entry for another region leaves a region without one
-pub entry-keeps : (es : List RewriteEntry) (x : RewriteEntry) (q : ℕ) → eqb q (x .region) ≡ false → rewrites-of es q ≡ none → rewrites-of (es ++ (x ∷ [])) q ≡ none
-entry-keeps [] x q ne h = rw ne
-entry-keeps (y ∷ es) x q ne h = go (eqb q (y .region)) (λ p. entry-keeps es x q ne p) h
-  where
-    go : (b : Bool) → (rewrites-of es q ≡ none → rewrites-of (es ++ (x ∷ [])) q ≡ none) → pick b (some (y .rewrites)) (rewrites-of es q) ≡ none
-        → pick b (some (y .rewrites)) (rewrites-of (es ++ (x ∷ [])) q) ≡ none
-    go true ih p = absurd (clash (cc))
-    go false ih p = ih p

@@ -7,6 +7,7 @@ use Prim.Native.Nat.{ℕ, zero, suc, _+_, _≤_}
 use native.Mathlib.Omega.{arith}
 use lib.Dec.{eqb}
 use borrow.Author.Tests.{eqb-true, eq-eqb}
+use Rattle.follows.specs.Bundles.{found-in}
 use Rattle.meaning.specs.Graph.{Value, pick}
 use Rattle.format.specs.Read.{isIn}
 use Rattle.format.specs.ReadLaws.{clash}
@@ -34,18 +35,6 @@ split-total μ x (y ∷ ys) e p = go (same-target x (y .target)) p (λ h. split-
         → μ (y .target) (y .accumulated-count) + total μ ys ≡ μ (e .target) (e .accumulated-count) + total μ (pick b (fill-gap ys) (y ∷ split-out-target x ys))
     go true h ih = let z : y ≡ e = cc in let w = gap-total μ ys in let v = ap (λ n. μ (n .target) (n .accumulated-count)) z in omega arith
     go false h ih = let z = ih h in omega arith
-
-target-same : (r : ℕ) (x : DeferredTarget) → same-target (to-region r) x ≡ true → x ≡ to-region r
-target-same r (to-region q) p = ap to-region (sym (eqb-true r q p))
-target-same r to-return p = absurd (clash (cc))
-
-pub found-target : (r : ℕ) (d : DeferredEdgeBundleSet) (e : DeferredEdgeBundle) → get-by-target (to-region r) d ≡ some e → e .target ≡ to-region r
-found-target r [] e p = absurd (clash (cc))
-found-target r (y ∷ ys) e p = go (same-target (to-region r) (y .target)) refl p (λ h. found-target r ys e h)
-  where
-    go : (b : Bool) → same-target (to-region r) (y .target) ≡ b → pick b (some y) (get-by-target (to-region r) ys) ≡ some e → (get-by-target (to-region r) ys ≡ some e → e .target ≡ to-region r) → e .target ≡ to-region r
-    go true h l ih = let z : y ≡ e = cc in ap (λ n. n .target) (sym z) ∙ target-same r (y .target) h
-    go false h l ih = ih l
 
 -- no bundle to a region, no edge to it
 edges-elsewhere : (r : ℕ) (x : DeferredTarget) (n : ℕ) → same-target (to-region r) x ≡ false → edges-to r x n ≡ 0
@@ -80,7 +69,7 @@ count-total r d h = go (get-by-target (to-region r) d) refl
     go : (o : Option DeferredEdgeBundle) → get-by-target (to-region r) d ≡ o → _≡_ {A = ℕ} (elim o [ none ↦ 0 | some e ↦ e .accumulated-count ]) (total (edges-to r) d)
     go none p = sym (not-found r d p)
     go (some e) p =
-        let t = found-target r d e p in
+        let t = sym (found-in (to-region r) d e p .1) in
         let self = eq-eqb r r refl in
         let one : at r (e .target) ≡ 1 = rw (t, self) in
         let here : edges-to r (e .target) (e .accumulated-count) ≡ e .accumulated-count = rw (t, self) in

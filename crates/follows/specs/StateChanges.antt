@@ -99,7 +99,7 @@ module _ (W : World) (s : NestState) (r : ℕ) (x : StructurizeRegionState) (h :
 
     pub inv-busy : Inv W changed
     inv-busy = record {
-      ends = h .ends;
+      rooted = h .rooted;
       sized = length-set (s .region-states) r x ∙ h .sized;
       room = h .room;
       sims = λ q b ks d p. h .sims q b ks d (still q b ks d p);

@@ -7,6 +7,7 @@ use mathlib.Core.Path.{_∙_, _≡_, ap, refl, subst, sym}
 use Prim.Native.Nat.{_<_, suc, zero, ℕ}
 use lib.ListN.{getD, length, length-map}
 use borrow.Author.Tests.{ne-eqb}
+use Rattle.follows.specs.Bundles.{is-empty}
 use Rattle.meaning.specs.Form.{Nodes, _▸_, ⟨⟩}
 use Rattle.meaning.specs.Graph.{Edge, Value, pick, undef}
 use Rattle.format.specs.Read.{isIn}
@@ -16,7 +17,7 @@ use Rattle.nesting.specs.Blocks.{blocks-of}
 use Rattle.nesting.specs.BundleSet.{empty}
 use Rattle.nesting.specs.Case.{ClaimedRegion, MaybeClaimedRegion, deferred-of, err, has-children, ok}
 use Rattle.nesting.specs.Claim.{Claim, defer-edge, edge-case, target-regions, unclaimed-edge}
-use Rattle.nesting.specs.Deferred.{DeferredEdgeBundle, DeferredEdgeBundleSet, to-region, true-cond}
+use Rattle.nesting.specs.Deferred.{DeferredEdgeBundle, to-region, true-cond}
 use Rattle.nesting.specs.Fewer.{state-of}
 use Rattle.nesting.specs.Post.{bind}
 use Rattle.nesting.specs.State.{NestState, StructurizeRegionState, claimed, in-progress, not-begun, ready}
@@ -31,10 +32,6 @@ use Rattle.follows.specs.Invariant.{Inv, Later, Rewritable, later-refl, 
 use Rattle.follows.specs.Holding.{Apart, CaseOk, CasesOk, ClaimedOk, Doing, Since, case-on, doing-closed, doing-on}
 use Rattle.follows.specs.ClaimReady.{ClaimDone}
 use Rattle.follows.specs.AtTerminator.{EdgeEnters, edge-enters-on, never-ends, one-goes, usable-all}
-
-empty-is : (d : DeferredEdgeBundleSet) → empty d ≡ true → d ≡ []
-empty-is [] h = refl
-empty-is (x ∷ d) h = cc
 
 children-none : (ks : Nodes) → not (has-children ks) ≡ true → ks ≡ ⟨⟩
 children-none ⟨⟩ h = refl
@@ -115,7 +112,7 @@ module _ (W : World) where
           go false q = deferred-done ed eo lv s s₁
           go true q =
               let z = and-both (empty d) (not (has-children ks′)) q in
-              let is : state-of s₁ (ed .target) ≡ ready b ⟨⟩ [] = p ∙ ap (λ k. ready b k d) (children-none ks′ (z .1)) ∙ ap (λ l. ready b ⟨⟩ l) (empty-is d (z .0)) in
+              let is : state-of s₁ (ed .target) ≡ ready b ⟨⟩ [] = p ∙ ap (λ k. ready b k d) (children-none ks′ (z .1)) ∙ ap (λ l. ready b ⟨⟩ l) (is-empty d (z .0)) in
               record {
                 same = refl;
                 is = record { is = record { distinct = tt; entries = λ e i. absurd i } };

@@ -5,3 +5,4 @@ pub mod GraphRun
 pub mod NestedRun
 pub mod MoreBudget
 pub mod RunLaws
+pub mod Text

@@ -18,7 +18,7 @@ use Rattle.nesting.specs.Case.{ClaimedRegion}
 use Rattle.nesting.specs.Count.{incoming-edge-counts}
 use Rattle.nesting.specs.Claim.{try-claim-edge-bundle}
 use Rattle.nesting.specs.Func.{initial-state}
-use Rattle.nesting.specs.Text.{Text, ascii}
+use Rattle.meaning.specs.Text.{Text, ascii}
 use Rattle.nesting.specs.Pack.{store-of-graph}
 use Rattle.nesting.specs.Top.{printed}
 use Rattle.nesting.specs.Quick.{quick-store-words, same-store-words}

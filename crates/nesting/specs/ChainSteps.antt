@@ -1,14 +1,14 @@
 -- A look-up's chain step by step: once it has ended, any further fuel gives the same answer.
 use mathlib.Core.Path.{_≡_, refl, sym, _∙_}
 use mathlib.Core.Bool.{Bool, false}
-use mathlib.Core.List.{List, []}
+use mathlib.Core.List.{List}
 use mathlib.Core.Option.{Option, none, some}
 use Prim.Native.Nat.{ℕ, zero, suc, _+_, _-_, _≤_, _<_}
 use native.Mathlib.Omega.{arith}
 use lib.ListN.{getD}
 use Rattle.meaning.specs.Graph.{Value, const, input, instr, output, bool, undef, held}
 use Rattle.nesting.specs.State.{InputRewrite, renumber-to, replace-by, RegionInputRewrites, replace-with, renumber-or-replace-with, RewriteEntry}
-use Rattle.nesting.specs.Rewrite.{rewrites-of, step-input, step-chain, rewrite-chain, changes-again, meets-chain}
+use Rattle.nesting.specs.Rewrite.{rewrites-of, step-input, step-chain, chain-fuel, rewrite-chain, rewrite, changes-again, meets-chain}
 
 -- ---- a chain step by step
 abbrev pub next-value : List RewriteEntry → Value → Value
@@ -70,6 +70,11 @@ module _ (es : List RewriteEntry) where
 
   pub ends-later : (n m : ℕ) (v : Value) → EndsIn n v → n ≤ m → EndsIn m v
   ends-later n m v e l = record { ends = let z = after-more n m v e l in rw z (e .ends) }
+
+  -- A value that stops is its own look-up.
+  pub stops-rewrite : (v : Value) → Stops v → rewrite es v ≡ v
+  unfolding rewrite
+  stops-rewrite v h = chain-steps (chain-fuel es) v ∙ stops-after (chain-fuel es) v h
 
   -- From its end on a chain has one answer.
   pub chain-same : (n m : ℕ) (v : Value) → EndsIn n v → EndsIn m v → rewrite-chain n es v ≡ rewrite-chain m es v

@@ -22,6 +22,13 @@ pub data Within (es : List RewriteEntry) (p : ℕ) : ℕ → Type 0 where
 pub record InContext (es : List RewriteEntry) (p : ℕ) (v : Value) : Type 0 where
   pub within : (q : ℕ) → names v ≡ some q → Within es p q
 
+-- what is no input, and an input of p itself
+pub no-input : {es : List RewriteEntry} {p : ℕ} (v : Value) → names v ≡ none → InContext es p v
+no-input v e = record { within = λ q n. absurd (clash (cc)) }
+
+pub own-in : {es : List RewriteEntry} (p k : ℕ) → InContext es p (input p k)
+own-in p k = record { within = λ q n. let z : p ≡ q = cc in rw (← z) itself }
+
 -- ---- the log gains entries
 pub within-more : {es : List RewriteEntry} {p r : ℕ} (t : List RewriteEntry) → Within es p r → Within (es ++ t) p r
 within-more t itself = itself
@@ -42,6 +49,9 @@ entry-new (y ∷ es) q x r p = go (eqb r (y .region)) p (λ h. entry-new es q x 
     go true h ih = absurd (clash (cc))
     go false h ih = ih h
 
+pub entry-at : (es : List RewriteEntry) (q : ℕ) (x : RegionInputRewrites) → Open es q → rewrites-of (es ++ (entry q x ∷ [])) q ≡ some x
+entry-at es q x p = let z = eq-eqb q q refl in entry-new es q x q p ∙ rw z
+
 pub open-else : (es : List RewriteEntry) (q : ℕ) (x : RegionInputRewrites) (r : ℕ) → Open es r → (r ≡ q → ⊥) → Open (es ++ (entry q x ∷ [])) r
 open-else es q x r p ne = let z = ne-eqb r q ne in entry-new es q x r p ∙ rw z
 
@@ -51,7 +61,7 @@ module _ (es : List RewriteEntry) (q p : ℕ) (x : RegionInputRewrites) (no-entr
   es⁺ = es ++ (entry q x ∷ [])
 
   pub replaced : {r : ℕ} → Within es q r → Within es⁺ p r
-  replaced itself = let z = eq-eqb q q refl in inner x (entry-new es q x q no-entry ∙ rw z) (λ k v w g n. within-more (entry q x ∷ []) (given k v g .within w n))
+  replaced itself = inner x (entry-at es q x no-entry) (λ k v w g n. within-more (entry q x ∷ []) (given k v g .within w n))
   replaced {r = r} (inner y e h) = inner y (entry-kept es (entry q x ∷ []) r y e) (λ k v w g n. replaced (h k v w g n))
 
   pub context-replaced : {v : Value} → InContext es q v → InContext es⁺ p v

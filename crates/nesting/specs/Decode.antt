@@ -7,7 +7,7 @@ use Rattle.meaning.specs.Graph.{Code, SelectionKind, bool-cond, number}
 use Rattle.nesting.specs.Nested.{Outcome, untouched, whole, closed, leftover}
 use Rattle.nesting.specs.Line.{Item, Condition, t-cond, f-cond, u-cond, m-cond, Conditions, no-part, part, Line, region-line, block-line, select-line, loop-line, exit-line, defer-line, Sheet}
 use Rattle.nesting.specs.Fields.{sheet-text}
-use Rattle.nesting.specs.Text.{Text}
+use Rattle.meaning.specs.Text.{Text}
 
 -- What was read and the words after it, or nothing readable.
 pub data Got (A : Type 0) : Type 0 where

@@ -7,7 +7,7 @@ use lib.Dec.{eqb}
 use Rattle.meaning.specs.Graph.{Code, SelectionKind, bool-cond, number, pick, bit}
 use Rattle.nesting.specs.Nested.{Outcome, untouched, whole, closed, leftover}
 use Rattle.nesting.specs.Line.{Item, Condition, t-cond, f-cond, u-cond, m-cond, Conditions, no-part, part, Line, region-line, block-line, select-line, loop-line, exit-line, defer-line, Sheet}
-use Rattle.nesting.specs.Text.{Text, ascii, decimal, joined, listed}
+use Rattle.meaning.specs.Text.{Text, ascii, decimal, joined, listed}
 
 pub record Field : Type 0 where
   pub words : List ℕ

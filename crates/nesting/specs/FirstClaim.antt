@@ -1,13 +1,13 @@
 -- The scan of deferred edges stops at its first claim, in the state that the claim left.
-use mathlib.Core.Path.{_≡_, refl}
-use mathlib.Core.List.{List, [], _∷_, _++_}
+use mathlib.Core.Path.{_≡_}
+use mathlib.Core.List.{List, _∷_, _++_}
 use mathlib.Core.Option.{some}
 use Prim.Native.Nat.{ℕ}
 use Rattle.meaning.specs.Graph.{Value, Graph}
 use Rattle.nesting.specs.Deferred.{LazyCond, to-region, DeferredEdgeBundle, DeferredEdgeBundleSet}
 use Rattle.nesting.specs.State.{NestState, done}
 use Rattle.nesting.specs.Case.{ClaimedRegion}
-use Rattle.nesting.specs.Claim.{Claim, SplitOut, split-out-matching}
+use Rattle.nesting.specs.Claim.{Claim, split-out-matching}
 
 -- a deferred edge to a region
 abbrev pub bundle-to : ℕ → ℕ → List Value → LazyCond → DeferredEdgeBundle

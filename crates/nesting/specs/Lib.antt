@@ -17,7 +17,6 @@ pub mod Func
 pub mod Post
 pub mod Keeps
 pub mod Still
-pub mod Text
 pub mod Figure
 pub mod Line
 pub mod Sheet
@@ -35,12 +34,11 @@ pub mod CaseGraphs
 pub mod UnmarkedChain
 pub mod RoundTrip
 pub mod SheetLength
-pub mod CaseRuns
-pub mod Decimal
-pub mod CaseWords
 pub mod HeldStays
 pub mod DearestCase
 pub mod FirstClaim
 pub mod ChainSteps
 pub mod Contexts
 pub mod UnclaimedFalls
+pub mod RunCases
+pub mod WordCases

@@ -13,7 +13,7 @@ use Rattle.format.specs.Accept.{accept}
 use Rattle.nesting.specs.Func.{structurize-func}
 use Rattle.nesting.specs.Sheet.{sheet-of}
 use Rattle.nesting.specs.Fields.{sheet-words}
-use Rattle.nesting.specs.Text.{Text}
+use Rattle.meaning.specs.Text.{Text}
 use Rattle.nesting.specs.Top.{nesting-of, figure-fits, words-fit, answer-text, sheet-for, answer, printed}
 use Rattle.nesting.specs.Quick.{quick-store-words, same-store-words}
 

@@ -12,7 +12,7 @@ use Rattle.nesting.specs.Func.{structurize-func}
 use Rattle.nesting.specs.Line.{Sheet}
 use Rattle.nesting.specs.Sheet.{sheet-of}
 use Rattle.nesting.specs.Fields.{sheet-words, sheet-text}
-use Rattle.nesting.specs.Text.{Text, ascii, decimal, joined}
+use Rattle.meaning.specs.Text.{Text, ascii, decimal, joined}
 
 abbrev pub nesting-of : NestAnswer → Answer Nested
 nesting-of (NestAnswer.nested x) = accepted x

@@ -6,10 +6,11 @@ use Prim.Native.Nat.{ℕ, _+_, _<_}
 use native.Mathlib.Omega.{arith}
 use lib.ListN.{length, take, length-take}
 use lib.Dec.{eqb}
-use Rattle.meaning.specs.Graph.{Value, ControlInst}
+use Rattle.meaning.specs.Graph.{ControlInst}
 use Rattle.format.specs.Read.{Read, got, bad, Reader, follow, word, within, many, counted, value, opcodeFor, fewestValues, mostValues, fewestTargets, mostTargets, distinctFrom, edgesFrom, controlInst, terminator}
 use Rattle.format.specs.Places.{skim}
 use Rattle.format.specs.ReadLaws.{clash, got-place}
+use Rattle.reading.specs.Skims.{skim-follow, skim-given, follow-skim, follow-follow}
 use Rattle.reading.specs.Targets.{firsts, firsts-distinct, firsts-taken, many-words, words-inside}
 
 -- a reading of which the place is known
@@ -91,23 +92,7 @@ module _ (k : ℕ) (ws : List ℕ) (at : ℕ) {low high : ℕ} (is-low : low ≡
 -- what stands after the opcode, with the terminator made of it
 operands-made : (k op : ℕ) (ws : List ℕ) (at : ℕ) → operandsRead k ws at ≡ skim (follow (counted (fewestValues k) (mostValues k) value ws at) λ vs p. follow (counted (fewestTargets k) (mostTargets k) word ws p) λ ts e. follow (many (length (distinctFrom [] ts)) (counted 0 4 value) ws e) λ passes j. got (controlInst k op vs (edgesFrom ts passes)) j)
 unfolding operandsRead edgesRead counted
-operands-made k op ws at = by-values (counted (fewestValues k) (mostValues k) value ws at)
-  where
-    by-passes : (vs : List Value) (ts : List ℕ) (r : Read (List (List Value))) → skim r ≡ skim (follow r λ passes j. got (controlInst k op vs (edgesFrom ts passes)) j)
-    by-passes vs ts (got a i) = refl
-    by-passes vs ts (bad m) = refl
-
-    by-targets : (vs : List Value) (r : Read (List ℕ)) → (follow r λ ts e. skim (many (length (distinctFrom [] ts)) (counted 0 4 value) ws e)) ≡ skim (follow r λ ts e. follow (many (length (distinctFrom [] ts)) (counted 0 4 value) ws e) λ passes j. got (controlInst k op vs (edgesFrom ts passes)) j)
-    by-targets vs (got ts e) = by-passes vs ts (many (length (distinctFrom [] ts)) (counted 0 4 value) ws e)
-    by-targets vs (bad m) = refl
-
-    by-count : (vs : List Value) (r : Read ℕ) → (follow r λ n e. follow (many n word ws e) λ ts i. skim (many (length (distinctFrom [] ts)) (counted 0 4 value) ws i)) ≡ skim (follow (follow r λ n e. many n word ws e) λ ts i. follow (many (length (distinctFrom [] ts)) (counted 0 4 value) ws i) λ passes j. got (controlInst k op vs (edgesFrom ts passes)) j)
-    by-count vs (got n e) = by-targets vs (many n word ws e)
-    by-count vs (bad m) = refl
-
-    by-values : (r : Read (List Value)) → (follow (skim r) λ u p. follow (within (fewestTargets k) (mostTargets k) ws p) λ n e. follow (many n word ws e) λ ts i. skim (many (length (distinctFrom [] ts)) (counted 0 4 value) ws i)) ≡ skim (follow r λ vs p. follow (follow (within (fewestTargets k) (mostTargets k) ws p) λ n e. many n word ws e) λ ts i. follow (many (length (distinctFrom [] ts)) (counted 0 4 value) ws i) λ passes j. got (controlInst k op vs (edgesFrom ts passes)) j)
-    by-values (got vs p) = by-count vs (within (fewestTargets k) (mostTargets k) ws p)
-    by-values (bad m) = refl
+operands-made k op ws at = simp (skim-follow, follow-skim, follow-follow, skim-given)
 
 module _ (ws : List ℕ) (at : ℕ) where
   pub terminator-stop : {m : ℕ} → within 0 5 ws at ≡ bad m → bad m ≡ skim (terminator ws at)

@@ -1,13 +1,13 @@
 -- Values and instructions with their values forgotten, in the order in which the code reads them.
-use mathlib.Core.Path.{_≡_, refl, sym}
-use mathlib.Core.Bool.{Bool, true, false}
+use mathlib.Core.Path.{_≡_, refl}
+use mathlib.Core.Bool.{true, false}
 use mathlib.Core.List.{List}
 use Prim.Native.Nat.{ℕ, _≤_, _<_}
 use lib.Dec.{eqb}
 use borrow.Author.Tests.{le-leb, lt-leb, eq-eqb, ne-eqb}
 use Rattle.format.specs.Read.{Read, got, bad, Reader, follow, expect, word, within, counted, isKind, indexRight, valueOf, value, instruction, many, block}
 use Rattle.format.specs.Places.{skim}
-use Rattle.reading.specs.Skims.{skim-made, counted-stop, counted-rest}
+use Rattle.reading.specs.Skims.{skim-follow, skim-given, counted-stop, counted-rest}
 
 -- the kinds that a record may have
 pub kind-low : (k : ℕ) → k ≤ 2 → true ≡ isKind k
@@ -40,22 +40,15 @@ module _ (k : ℕ) (ws : List ℕ) (at : ℕ) where
   unfolding namedBy
   named-in h j t = rw (h, j, t)
 
+-- a test has no value to forget
+skim-unit : (r : Read Unit) → skim r ≡ r
+skim-unit (got tt i) = refl
+skim-unit (bad n) = refl
+
 -- what stands after the kind, with the value made of it
 named-made : {B : Type 0} (k : ℕ) (f : ℕ → ℕ → B) (ws : List ℕ) (at : ℕ) → namedBy k ws at ≡ skim (follow (word ws at) λ r p. follow (word ws p) λ i e. follow (expect (indexRight k i) ws e) λ u j. got (f r i) j)
 unfolding namedBy
-named-made k f ws at = by-region (word ws at)
-  where
-    by-test : (t : Bool) (r i e : ℕ) → expect t ws e ≡ skim (follow (expect t ws e) λ u j. got (f r i) j)
-    by-test true r i e = refl
-    by-test false r i e = refl
-
-    by-index : (r : ℕ) (x : Read ℕ) → (follow x λ i e. expect (indexRight k i) ws e) ≡ skim (follow x λ i e. follow (expect (indexRight k i) ws e) λ u j. got (f r i) j)
-    by-index r (got i e) = by-test (indexRight k i) r i e
-    by-index r (bad m) = refl
-
-    by-region : (x : Read ℕ) → (follow x λ r p. follow (word ws p) λ i e. expect (indexRight k i) ws e) ≡ skim (follow x λ r p. follow (word ws p) λ i e. follow (expect (indexRight k i) ws e) λ u j. got (f r i) j)
-    by-region (got r p) = by-index r (word ws p)
-    by-region (bad m) = refl
+named-made k f ws at = simp (skim-follow, skim-given, skim-unit)
 
 module _ (ws : List ℕ) (at : ℕ) where
   pub value-stop : {m : ℕ} → word ws at ≡ bad m → bad m ≡ skim (value ws at)
@@ -84,7 +77,7 @@ module _ (ws : List ℕ) (at : ℕ) where
 
   pub instruction-rest : {a p b q d e : ℕ} → word ws at ≡ got a p → within 0 255 ws p ≡ got b q → word ws q ≡ got d e → skim (counted 0 3 value ws e) ≡ skim (instruction ws at)
   unfolding instruction
-  instruction-rest {e = e} h j i = rw (h, j, i) (sym (skim-made (counted 0 3 value ws e) _))
+  instruction-rest {e = e} h j i = rw (h, j, i) (simp (skim-follow, skim-given))
 
   pub block-stop : {m : ℕ} → within 1 8 ws at ≡ bad m → bad m ≡ skim (block ws at)
   unfolding block

@@ -7,14 +7,26 @@ use native.Mathlib.Numerals.{add-one}
 use lib.ListN.{length, getD, take}
 use lib.Seq.{getD-take, length-take-le}
 use borrow.Author.Tests.{lt-ltb, le-ltb, le-leb, lt-leb}
-use Rattle.format.specs.Read.{Read, got, bad, Reader, follow, word, within, many, counted, value}
+use Rattle.format.specs.Read.{Read, got, bad, Reader, follow, word, within, many, counted}
 use Rattle.format.specs.Places.{next, skim, after}
 use Rattle.format.specs.ReadLaws.{clash, many-step, many-stop}
 
--- a value that is made of what was read
-pub skim-made : {A B : Type 0} (r : Read A) (f : A → B) → skim (follow r (λ a i. got (f a) i)) ≡ skim r
-skim-made (got a i) f = refl
-skim-made (bad n) f = refl
+-- The value is forgotten at the end of a sequence; what is only given there is forgotten, and what does not look at a value may have it forgotten.
+pub skim-follow : {A B : Type 0} (r : Read A) (k : A → ℕ → Read B) → skim (follow r k) ≡ follow r (λ a i. skim (k a i))
+skim-follow (got a i) k = refl
+skim-follow (bad n) k = refl
+
+pub skim-given : {A : Type 0} (r : Read A) → follow r (λ a i. got tt i) ≡ skim r
+skim-given (got a i) = refl
+skim-given (bad n) = refl
+
+pub follow-skim : {A B : Type 0} (r : Read A) (k : ℕ → Read B) → follow (skim r) (λ u i. k i) ≡ follow r (λ a i. k i)
+follow-skim (got a i) k = refl
+follow-skim (bad n) k = refl
+
+pub follow-follow : {A B C : Type 0} (r : Read A) (j : A → ℕ → Read B) (k : B → ℕ → Read C) → follow (follow r j) k ≡ follow r (λ a i. follow (j a i) k)
+follow-follow (got a i) j k = refl
+follow-follow (bad n) j k = refl
 
 -- A word of the record is one of the lent words below W.
 module _ (w : List ℕ) (count at : ℕ) (fits : count ≤ length w) where

@@ -6,5 +6,6 @@ pub mod Answers
 pub mod RegionSteps
 pub mod Row
 pub mod Outcome
-pub mod OutcomeSteps
+pub mod Index
+pub mod IndexSteps
 pub mod RecordSteps

@@ -15,8 +15,9 @@ use Rattle.record.specs.Stands.{recordWords, Indexed, Stands}
 use Rattle.record.specs.Parts.{RecordParts, record-parts, region-parts, counted-parts, settled, then, regions-many, accepted-value}
 use Rattle.record.specs.PartsWithin.{head-parts}
 use Rattle.record.specs.SkimRegions.{countOf}
-use Rattle.record.specs.Outcome.{forget, answered, Outcome, IndexedFrom, RegionsOutcome}
-use Rattle.record.specs.OutcomeSteps.{never, forget-then, kept-none, kept-words}
+use Rattle.record.specs.Outcome.{forget, answered, Outcome}
+use Rattle.record.specs.Index.{IndexedFrom, RegionsOutcome}
+use Rattle.record.specs.IndexSteps.{never, forget-then, kept-none, kept-words}
 use Rattle.record.specs.declared.ReadAnswer.{ReadAnswer}
 
 -- A head of which the count and the place are known.

@@ -1,14 +1,15 @@
 -- Regions and the head with their values forgotten, in the order in which the code reads them.
-use mathlib.Core.Path.{_≡_, refl, sym, ap, _∙_}
+use mathlib.Core.Path.{_≡_, refl, sym}
 use mathlib.Core.List.{List}
 use Prim.Native.Nat.{ℕ, _<_}
 use native.Mathlib.Omega.{arith}
 use lib.ListN.{length, take, length-take}
-use Rattle.meaning.specs.Graph.{Instr, ControlInst, Region}
+use Rattle.meaning.specs.Graph.{Instr, Region}
 use Rattle.format.specs.Read.{Read, got, bad, Reader, follow, word, within, counted, type, instruction, block, terminator, region, Head, head}
 use Rattle.format.specs.Places.{skim}
 use Rattle.format.specs.ReadLaws.{clash}
 use Rattle.record.specs.Parts.{counted-parts, region-parts}
+use Rattle.reading.specs.Skims.{skim-follow, skim-given, follow-skim, follow-follow}
 use Rattle.reading.specs.SkimTerminators.{found}
 
 -- what a refusal leaves of a sequence
@@ -36,19 +37,7 @@ module _ (ws : List ℕ) (at : ℕ) where
 -- what stands after the blocks, with the region made of it
 ending-made : (inputs : List ℕ) (blocks : List (List Instr)) (ws : List ℕ) (at : ℕ) → endingRead ws at ≡ skim {A = Region} (follow (within 1 65535 ws at) λ limit p. follow (terminator ws p) λ end q. follow (counted 0 32 word ws q) λ exits e. got (record { inputs = inputs; blocks = blocks; limit = limit; terminator = end; exits = exits }) e)
 unfolding endingRead
-ending-made inputs blocks ws at = by-limit (within 1 65535 ws at)
-  where
-    by-exits : (limit : ℕ) (end : ControlInst) (r : Read (List ℕ)) → skim r ≡ skim {A = Region} (follow r λ exits e. got (record { inputs = inputs; blocks = blocks; limit = limit; terminator = end; exits = exits }) e)
-    by-exits limit end (got a i) = refl
-    by-exits limit end (bad m) = refl
-
-    by-end : (limit : ℕ) (r : Read ControlInst) → (follow (skim r) λ u q. skim (counted 0 32 word ws q)) ≡ skim {A = Region} (follow r λ end q. follow (counted 0 32 word ws q) λ exits e. got (record { inputs = inputs; blocks = blocks; limit = limit; terminator = end; exits = exits }) e)
-    by-end limit (got end q) = by-exits limit end (counted 0 32 word ws q)
-    by-end limit (bad m) = refl
-
-    by-limit : (r : Read ℕ) → (follow r λ l p. follow (skim (terminator ws p)) λ u q. skim (counted 0 32 word ws q)) ≡ skim {A = Region} (follow r λ limit p. follow (terminator ws p) λ end q. follow (counted 0 32 word ws q) λ exits e. got (record { inputs = inputs; blocks = blocks; limit = limit; terminator = end; exits = exits }) e)
-    by-limit (got limit p) = by-end limit (terminator ws p)
-    by-limit (bad m) = refl
+ending-made inputs blocks ws at = simp (skim-follow, follow-skim, skim-given)
 
 module _ (ws : List ℕ) (at : ℕ) where
   pub region-inputs : {m : ℕ} → skim (counted 0 4 type ws at) ≡ bad m → bad m ≡ skim (region ws at)
@@ -88,39 +77,24 @@ module _ (ws : List ℕ) (at : ℕ) where
   unfolding afterCount
   after-count-rest h j = rw (h, j)
 
--- the region count n, once the rest is read
-counting : ℕ → Read Unit → Read ℕ
-counting n (got u at) = got n at
-counting n (bad m) = bad m
+count-follow : {A : Type 0} (r : Read A) (k : A → ℕ → Read Head) → countOf (follow r k) ≡ follow r (λ a i. countOf (k a i))
+count-follow (got a i) k = refl
+count-follow (bad n) k = refl
 
-after-count-made : (n : ℕ) (ws : List ℕ) (at : ℕ) → counting n (afterCount ws at) ≡ countOf (follow (word ws at) λ entry p. follow (word ws p) λ test e. follow (counted 0 64 type ws e) λ constants j. got (record { count = n; entry = entry; test-cost = test; constants = constants }) j)
-unfolding afterCount counting
-after-count-made n ws at = by-entry (word ws at)
-  where
-    by-constants : (entry test : ℕ) (r : Read (List ℕ)) → counting n (skim r) ≡ countOf (follow r λ constants j. got (record { count = n; entry = entry; test-cost = test; constants = constants }) j)
-    by-constants entry test (got a i) = refl
-    by-constants entry test (bad m) = refl
-
-    by-test : (entry : ℕ) (r : Read ℕ) → counting n (follow r λ b e. skim (counted 0 64 type ws e)) ≡ countOf (follow r λ test e. follow (counted 0 64 type ws e) λ constants j. got (record { count = n; entry = entry; test-cost = test; constants = constants }) j)
-    by-test entry (got test e) = by-constants entry test (counted 0 64 type ws e)
-    by-test entry (bad m) = refl
-
-    by-entry : (r : Read ℕ) → counting n (follow r λ a p. follow (word ws p) λ b e. skim (counted 0 64 type ws e)) ≡ countOf (follow r λ entry p. follow (word ws p) λ test e. follow (counted 0 64 type ws e) λ constants j. got (record { count = n; entry = entry; test-cost = test; constants = constants }) j)
-    by-entry (got entry p) = by-test entry (word ws p)
-    by-entry (bad m) = refl
+-- the region count is kept once the rest is read
+head-counted : (ws : List ℕ) → countOf (head ws 1) ≡ follow (within 1 32 ws 1) λ n p. follow (afterCount ws p) λ u e. got n e
+unfolding head afterCount
+head-counted ws = simp (count-follow, follow-follow, follow-skim)
 
 module _ (ws : List ℕ) where
   pub head-count : {m : ℕ} → within 1 32 ws 1 ≡ bad m → bad m ≡ countOf (head ws 1)
-  unfolding head
-  head-count h = rw h
+  head-count h = rw (head-counted, h)
 
   pub head-stop : {n p m : ℕ} → within 1 32 ws 1 ≡ got n p → afterCount ws p ≡ bad m → bad m ≡ countOf (head ws 1)
-  unfolding head counting
-  head-stop {n} {p} h j = rw h (sym (ap (counting n) j) ∙ after-count-made n ws p)
+  head-stop h j = rw (head-counted, h, j)
 
   pub head-rest : {n p e : ℕ} → within 1 32 ws 1 ≡ got n p → afterCount ws p ≡ got tt e → got n e ≡ countOf (head ws 1)
-  unfolding head counting
-  head-rest {n} {p} h j = rw h (sym (ap (counting n) j) ∙ after-count-made n ws p)
+  head-rest h j = rw (head-counted, h, j)
 
 -- what is read begins below W
 module _ (ws : List ℕ) (at : ℕ) where

@@ -5,7 +5,7 @@ ghost use Prim.Native.Nat.{_+_, _≤_, _<_};
 ghost use lib.ListN.{getD};
 ghost use Rattle.record.specs.Stands.{indexAt};
 ghost use Rattle.record.specs.Row.{Row};
-ghost use Rattle.record.specs.Outcome.{rowOf};
+ghost use Rattle.record.specs.Index.{rowOf};
 
 fn store_blocks(w: &mut [u16; 32256], at: usize, places: [u16; 8])
     requires { ⌜ at + 8 ≤ 4400 ⌝ }

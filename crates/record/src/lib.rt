@@ -13,7 +13,8 @@ ghost use Prim.Native.Nat.{_≤_};
 ghost use lib.ListN.{getD};
 ghost use Rattle.format.specs.Store.{refused};
 ghost use Rattle.format.specs.Read.{wordFor};
-ghost use Rattle.record.specs.Outcome.{answered, Outcome, RegionsOutcome};
+ghost use Rattle.record.specs.Outcome.{answered, Outcome};
+ghost use Rattle.record.specs.Index.{RegionsOutcome};
 
 // What reading answers: a refusal has document 01's number and its word.
 pub enum ReadAnswer {

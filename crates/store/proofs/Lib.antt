@@ -1,3 +1,4 @@
 pub mod Blocks
 pub mod Words
 pub mod Store
+pub mod Front

@@ -4,9 +4,9 @@ use mathlib.Core.Bool.{Bool, true, false, _&&_}
 use mathlib.Core.List.{List, _++_}
 use Prim.Native.Nat.{ℕ, _+_, _*_, _/_, _%_, _-_, _≤_, _<_}
 use native.Mathlib.Omega.{arith}
-use borrow.Author.Tests.{lt-ltb, le-leb, lt-leb, eq-eqb, ne-eqb, leb-true, eqb-true}
 use lib.ListN.{length, drop}
 use lib.Dec.{eqb, ltb}
+use borrow.Author.Tests.{lt-ltb, le-leb, lt-leb, eq-eqb, ne-eqb, leb-true, ltb-true, eqb-true}
 use Rattle.format.specs.Store.{Answer, accepted, refused, andThen, blocksChecked, wordAt, allZero, lengthRight, countRight, tabulate, storeWords}
 use Rattle.store.specs.Loaded.{counted, heldAfter}
 use Rattle.store.proofs.Words.{length-tabulate}
@@ -59,6 +59,8 @@ pub record Holds (s : List ℕ) (w : ℕ) : Type 0 where
   pub words : storeWords s ≡ accepted (tabulate w (wordAt s))
   pub short : length s ≤ 8192
   pub within : w ≤ 253 * (length s / 512)
+  pub first : wordAt s 0 ≡ w
+  pub some : 0 < w
 
 and-left : (a b : Bool) → (a && b) ≡ true → a ≡ true
 and-left true b e = refl
@@ -76,6 +78,9 @@ few-enough s n w e =
     let q : n ≡ (w + 252) / 253 = eqb-true n ((w + 252) / 253) (and-left _ (allZero s w (253 * n - w)) (and-right (ltb 0 w) _ e)) in
     omega arith
 
+some-words : (s : List ℕ) (n w : ℕ) → countRight s n w ≡ true → 0 < w
+some-words s n w e = ltb-true 0 w (and-left _ _ e)
+
 module _ (s : List ℕ) (w : ℕ) where
   holds-by : (l t : Bool) (b : Answer Unit) → lengthRight (length s) ≡ l → countRight s (blockCount s) (wordAt s 0) ≡ t → storeWords s ≡ judged s l b t → accepted w ≡ counted (judged s l b t) → Holds s w
   holds-by false t b p q r e = let z : _≡_ {A = ℕ} 0 1 = cc in absurd (omega arith)
@@ -87,6 +92,8 @@ module _ (s : List ℕ) (w : ℕ) where
         words = r ∙ ap (λ n. accepted (tabulate n (wordAt s))) (sym k);
         short = short-enough (length s) p;
         within = subst (λ n. n ≤ 253 * (length s / 512)) (sym k) (few-enough s (blockCount s) (wordAt s 0) q);
+        first = sym k;
+        some = subst (λ n. 0 < n) (sym k) (some-words s (blockCount s) (wordAt s 0) q);
       }
 
   pub holds : accepted w ≡ counted (storeWords s) → Holds s w

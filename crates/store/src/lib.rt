@@ -40,7 +40,7 @@ fn pair_at(bytes: &[u8], at: usize) -> u16
 }
 
 // The sum over a block's bytes 0 to 507 of byte times (place + 1).
-fn check_of(bytes: &[u8], at: usize) -> u32
+pub fn check_of(bytes: &[u8], at: usize) -> u32
     requires { ⌜ at + 508 ≤ length (now bytes) ⌝ }
     ensures { λ r. ⌜ r ≡ weighted (now (bytes .entry)) at 508 ⌝ }
 {

@@ -5,8 +5,8 @@ use mathlib.Core.Path.{ap}
 use Prim.Native.Nat.{_-_}
 use Rattle.reading.specs.Answers.{step-is, stepOf}
 use Rattle.record.specs.SkimRegions.{region-inside, below-count}
-use Rattle.record.specs.Outcome.{RegionsGoing}
-use Rattle.record.specs.OutcomeSteps.{regions-start, regions-next, regions-refused, regions-read, regions-left}
+use Rattle.record.specs.Index.{RegionsGoing}
+use Rattle.record.specs.IndexSteps.{regions-start, regions-next, regions-refused, regions-read, regions-left}
 use Rattle.record.proofs.read_regions.Statement.{statement}
 use Rattle.record.proofs.read_regions.Tie as tie
 

@@ -1,11 +1,11 @@
-use native.Mathlib.Nat.{add-assoc}
-use Rattle.store.proofs.Words.{place-within, word-read, zero-more, zero-stays}
-use Rattle.store.specs.Block.{placeOf}
-use Rattle.format.specs.Store.{allZero}
-use native.Mathlib.Omega.{arith}
-use Prim.Native.Nat.{_+_, _-_, _≤_}
 use mathlib.Core.Bool.{true}
 use mathlib.Core.Path.{_≡_, refl, sym, _∙_, ap}
+use Prim.Native.Nat.{_+_, _-_, _≤_}
+use native.Mathlib.Nat.{add-assoc}
+use native.Mathlib.Omega.{arith}
+use Rattle.format.specs.Store.{allZero}
+use Rattle.store.specs.Block.{placeOf}
+use Rattle.store.proofs.Words.{place-within, word-read, zero-more, zero-stays}
 use Rattle.store.proofs.all_zero.Statement.{statement}
 use Rattle.store.proofs.all_zero.Tie as tie
 

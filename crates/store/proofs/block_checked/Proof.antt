@@ -1,6 +1,6 @@
-use Rattle.store.proofs.Blocks.{block-by}
 use mathlib.Core.Path.{_∙_}
 use borrow.Author.Needs.{needs}
+use Rattle.store.proofs.Blocks.{block-by}
 use Rattle.store.proofs.block_checked.Statement.{statement}
 use Rattle.store.proofs.block_checked.Tie as tie
 

@@ -1,10 +1,10 @@
-use Rattle.store.proofs.Blocks.{blocks-more, blocks-stop}
-use Rattle.store.specs.Loaded.{blocksAnswered}
-use Rattle.format.specs.Store.{accepted, blocksChecked}
-use native.Mathlib.Omega.{arith}
-use Prim.Native.Nat.{_-_, _≤_}
 use mathlib.Core.Path.{_≡_, refl, sym, ap, _∙_}
+use Prim.Native.Nat.{_-_, _≤_}
+use native.Mathlib.Omega.{arith}
 use borrow.Author.Needs.{needs}
+use Rattle.format.specs.Store.{accepted, blocksChecked}
+use Rattle.store.specs.Loaded.{blocksAnswered}
+use Rattle.store.proofs.Blocks.{blocks-more, blocks-stop}
 use Rattle.store.proofs.blocks_checked.Statement.{statement}
 use Rattle.store.proofs.blocks_checked.Tie as tie
 

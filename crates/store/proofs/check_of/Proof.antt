@@ -1,7 +1,7 @@
-use lib.ListN.{getD}
 use mathlib.Core.Path.{_≡_, refl, _∙_, ap}
 use Prim.Native.Nat.{_+_, _*_, _-_, _≤_}
 use native.Mathlib.Omega.{arith}
+use lib.ListN.{getD}
 use Rattle.format.specs.Store.{weighted}
 use Rattle.store.proofs.Blocks.{weight-bound, weighted-more}
 use Rattle.store.proofs.check_of.Statement.{statement}

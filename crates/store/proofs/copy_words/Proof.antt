@@ -1,12 +1,12 @@
-use Rattle.store.proofs.Words.{place-within, word-read, copied-more}
-use Rattle.store.specs.Block.{placeOf}
-use Rattle.format.specs.Store.{tabulate, wordAt}
-use lib.ListN.{drop}
-use native.Mathlib.Omega.{arith}
-use Prim.Native.Nat.{_+_, _-_, _≤_}
 use mathlib.Core.List.{_++_}
 use mathlib.Core.Path.{_≡_, refl, _∙_, ap}
+use Prim.Native.Nat.{_+_, _-_, _≤_}
+use native.Mathlib.Omega.{arith}
+use lib.ListN.{drop}
 use borrow.Author.Needs.{needs}
+use Rattle.format.specs.Store.{tabulate, wordAt}
+use Rattle.store.specs.Block.{placeOf}
+use Rattle.store.proofs.Words.{place-within, word-read, copied-more}
 use Rattle.store.proofs.copy_words.Statement.{statement}
 use Rattle.store.proofs.copy_words.Tie as tie
 

@@ -1,5 +1,5 @@
-use borrow.Author.Tests.{not-true, not-false}
 use mathlib.Core.Path.{refl}
+use borrow.Author.Tests.{not-true, not-false}
 use Rattle.store.proofs.first_wrong.Statement.{statement}
 use Rattle.store.proofs.first_wrong.Tie as tie
 

@@ -1,8 +1,8 @@
-use Rattle.format.specs.Store.{storeWords}
-use Rattle.store.proofs.Store.{holds, kept, filled}
-use Rattle.store.specs.Loaded.{answered}
 use mathlib.Core.Path.{sym, ap, _∙_}
 use borrow.Author.Needs.{needs}
+use Rattle.format.specs.Store.{storeWords}
+use Rattle.store.specs.Loaded.{answered}
+use Rattle.store.proofs.Store.{holds, kept, filled}
 use Rattle.store.proofs.load.Statement.{statement}
 use Rattle.store.proofs.load.Tie as tie
 

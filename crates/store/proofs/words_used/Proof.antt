@@ -1,8 +1,8 @@
-use Rattle.store.proofs.Store.{length-zero, length-over, length-part, length-right, length-wrong, blocks-wrong, count-wrong, words-right}
-use Rattle.format.specs.Store.{accepted, countRight}
-use Rattle.store.specs.Loaded.{blocksAnswered}
 use mathlib.Core.Path.{sym, ap, _∙_}
 use borrow.Author.Needs.{needs}
+use Rattle.format.specs.Store.{accepted, countRight}
+use Rattle.store.specs.Loaded.{blocksAnswered}
+use Rattle.store.proofs.Store.{length-zero, length-over, length-part, length-right, length-wrong, blocks-wrong, count-wrong, words-right}
 use Rattle.store.proofs.words_used.Statement.{statement}
 use Rattle.store.proofs.words_used.Tie as tie
 

@@ -1,5 +1,5 @@
 -- Three stores and the blocks are a row of 11 words.
-use Rattle.record.specs.OutcomeSteps.{store-row}
+use Rattle.record.specs.IndexSteps.{store-row}
 use borrow.Author.Needs.{needs}
 use Rattle.record.proofs.index.store.Statement.{statement}
 use Rattle.record.proofs.index.store.Tie as tie

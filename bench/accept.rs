@@ -1,0 +1,70 @@
+// How long a full store takes to load, read and check, as a ratio to summing its bytes once.
+// Both are timed in turns within one run, on the same bytes; the median of the turns' ratios is printed.
+use std::hint::black_box;
+use std::time::Instant;
+
+extern "C" {
+    fn rukvetta_accept(bytes: *const u8, length: usize, words: *mut u16) -> u32;
+}
+
+const WORDS: usize = 32_256;
+
+// The longest store of a vector file whose answer is no refusal.
+fn full_store(vectors: &str) -> Vec<u8> {
+    let mut best = Vec::new();
+    let mut lines = vectors.lines();
+    while let Some(line) = lines.next() {
+        let Some(hex) = line.strip_prefix("store ") else { continue };
+        let accepted = lines.next().is_some_and(|answer| !answer.starts_with("refused"));
+        if accepted && hex.len() / 2 > best.len() {
+            best = (0..hex.len() / 2).map(|i| u8::from_str_radix(&hex[2 * i..2 * i + 2], 16).unwrap()).collect();
+        }
+    }
+    best
+}
+
+// The sum of the bytes, as the compiler makes it, and one byte at a time.
+fn sum(bytes: &[u8]) -> u32 {
+    bytes.iter().map(|b| u32::from(*b)).sum()
+}
+
+fn sum_by_byte(bytes: &[u8]) -> u32 {
+    let mut total = 0u32;
+    for b in bytes {
+        total = black_box(total + u32::from(*b));
+    }
+    total
+}
+
+// Nanoseconds for one call.
+fn time(mut call: impl FnMut()) -> f64 {
+    let times = 50;
+    let start = Instant::now();
+    for _ in 0..times {
+        call();
+    }
+    start.elapsed().as_nanos() as f64 / times as f64
+}
+
+fn median(list: &mut [f64]) -> f64 {
+    list.sort_by(f64::total_cmp);
+    list[list.len() / 2]
+}
+
+fn main() {
+    let path = std::env::args().nth(1).expect("a vector file");
+    let store = full_store(&std::fs::read_to_string(path).unwrap());
+    let mut words = vec![0u16; WORDS];
+    let (mut accepts, mut sums, mut by_byte) = (Vec::new(), Vec::new(), Vec::new());
+    for _ in 0..201 {
+        accepts.push(time(|| {
+            let answer = unsafe { rukvetta_accept(store.as_ptr(), store.len(), words.as_mut_ptr()) };
+            assert_eq!(black_box(answer), 0);
+        }));
+        sums.push(time(|| { black_box(sum(black_box(&store))); }));
+        by_byte.push(time(|| { black_box(sum_by_byte(black_box(&store))); }));
+    }
+    let ratio = |others: &[f64]| median(&mut accepts.iter().zip(others).map(|(a, b)| a / b).collect::<Vec<_>>());
+    println!("{} bytes: {:.1} sums of the bytes as the compiler makes it, {:.1} one byte at a time", store.len(), ratio(&sums), ratio(&by_byte));
+    println!("accept {:.0} ns, sum {:.0} ns, byte by byte {:.0} ns", median(&mut accepts.clone()), median(&mut sums.clone()), median(&mut by_byte.clone()));
+}

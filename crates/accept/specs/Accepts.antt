@@ -1,0 +1,33 @@
+-- What accepting a store answers, and what the lent words hold then (document 01, refusals 1 to 8).
+use mathlib.Core.Path.{_≡_}
+use mathlib.Core.List.{List, _++_}
+use Prim.Native.Nat.{ℕ}
+use lib.ListN.{length, take, drop}
+use Rattle.meaning.specs.Graph.{Graph}
+use Rattle.format.specs.Store.{Answer, accepted, refused, storeWords}
+use Rattle.format.specs.Accept.{accept}
+use Rattle.record.specs.Stands.{Stands}
+use Rattle.record.specs.Outcome.{forget, Kept}
+use Rattle.accept.specs.declared.Accepted.{Accepted}
+use Rattle.accept.specs.declared.Accepted.the-variants.{Record, Refused}
+use Rattle.accept.specs.Judged.{Judged}
+
+-- Document 01's number and word of each refusal.
+abbrev pub answered : Accepted → Answer Unit
+answered Record = accepted tt
+answered (Refused n w) = refused n w
+
+-- `old` are the words as lent, `new` as they are handed back. A store that is refused leaves them as lent. Else its words
+-- stand in front, also where the record is refused; behind them the words are as lent, but for 352 that are the index's.
+pub record Accepts (s old new : List ℕ) (a : Accepted) : Type 0 where
+  pub answer : answered a ≡ forget (accept s)
+  pub stands : (g : Graph) → accept s ≡ accepted g → Stands new g
+  pub size : length new ≡ length old
+  pub front : (ws : List ℕ) → storeWords s ≡ accepted ws → take 4048 new ≡ take 4048 (ws ++ drop (length ws) old)
+  pub beyond : drop 4400 new ≡ drop 4400 old
+  pub as-lent : (n w : ℕ) → storeWords s ≡ refused n w → new ≡ old
+
+-- Of words with a record's in front, W of them.
+pub record ReadChecked (count : ℕ) (old new : List ℕ) (a : Accepted) : Type 0 where
+  pub judged : Judged (take count old) new (answered a)
+  pub kept : Kept old new

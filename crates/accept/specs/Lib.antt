@@ -1,0 +1,4 @@
+pub mod StoreParts
+pub mod Judged
+pub mod Accepts
+pub mod AcceptSteps

@@ -1,0 +1,55 @@
+-- The answer is that of `accept`, as a number.
+use borrow.Author.Needs.{needs}
+use mathlib.Core.Path.{_≡_, refl, sym, ap, _∙_}
+use Rattle.exports.specs.Exported.{asNumber, same-number}
+use Rattle.exports.proofs.rukvetta_accept.Statement.{statement}
+use Rattle.exports.proofs.rukvetta_accept.Tie as tie
+
+accept-requires : tie.Need-accept-requires
+accept-requires c κs = search needs
+
+enum-told : tie.Need-enum-told
+enum-told c = search needs
+
+enum-known-answer : tie.Need-enum-known-answer
+enum-known-answer c = search needs
+
+wide-requires : tie.Need-wide-requires
+wide-requires c κs = search needs
+
+mul-result : tie.Need-mul-result
+mul-result c = search needs
+
+wide-requires-2 : tie.Need-wide-requires-2
+wide-requires-2 c κs = search needs
+
+add-result : tie.Need-add-result
+add-result c = search needs
+
+returns : tie.Need-returns
+returns c = record { answer = c .before .before .accept .result; accepts = c .before .before .accept .ensures; is = sym (ap asNumber (c .enum-told .given .1)) }
+
+returns-2 : tie.Need-returns-2
+returns-2 c =
+    let accept = c .before .before .before .before .before .accept in
+    let number = c .before .wide .ensures .0 in
+    let word = c .wide2 .ensures .0 in
+    record {
+      answer = accept .result;
+      accepts = accept .ensures;
+      is = same-number number word ∙ sym (ap asNumber (c .before .before .before .answer .given .1));
+    }
+
+pub rukvetta-accept-spec : {M : Type 1} → statement M
+rukvetta-accept-spec =
+    tie.close
+    (tie.spec
+    accept-requires
+    enum-told
+    enum-known-answer
+    wide-requires
+    mul-result
+    wide-requires-2
+    add-result
+    returns
+    returns-2)

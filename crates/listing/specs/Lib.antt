@@ -1,0 +1,6 @@
+pub mod Listing
+pub mod Parts
+pub mod Steps
+pub mod Passes
+pub mod Ends
+pub mod CaseA

@@ -1,0 +1,180 @@
+-- The paths through the code that reads the regions and makes the index.
+use mathlib.Core.Path.{_≡_, refl, sym, ap, subst, _∙_}
+use mathlib.Core.Bool.{Bool, true, false}
+use mathlib.Core.List.{List, _∷_}
+use Prim.Native.Nat.{ℕ, suc, _+_, _-_, _≤_, _<_}
+use native.Mathlib.Omega.{arith}
+use native.Mathlib.Numerals.{add-one}
+use lib.ListN.{length, getD, set, take}
+use lib.Seq.{take-take, length-take-le}
+use lib.Dec.{ltb}
+use borrow.Author.Tests.{eq-eqb, ne-eqb, ltb-true, ltb-false}
+use Rattle.meaning.specs.Graph.{Region}
+use Rattle.meaning.specs.Graph as graph
+use Rattle.format.specs.Store.{Answer, accepted, refused, andThen}
+use Rattle.format.specs.Read.{Read, got, bad, region, block, wordFor, settle, regionsFrom}
+use Rattle.format.specs.Places.{next, skim, after, blockOf, limitOf, exitsOf}
+use Rattle.format.specs.ReadLaws.{clash}
+use Rattle.record.specs.Stands.{indexAt}
+use Rattle.reading.specs.Skims.{next-of}
+use Rattle.reading.specs.Answers.{stepOf}
+use Rattle.record.specs.Answers.{Placed, RegionRead}
+use Rattle.record.specs.Row.{Row, row-none, row-next, row-join, row-front, row-back}
+use Rattle.record.specs.Outcome.{forget, answered, Kept}
+use Rattle.record.specs.Index.{rowOf, IndexedFrom, RegionsOutcome, RegionsGoing}
+use Rattle.record.specs.declared.ReadAnswer.{ReadAnswer}
+use Rattle.record.specs.declared.ReadAnswer.the-variants as read
+use Rattle.record.specs.declared.regions.RegionPlaces.{RegionPlaces}
+
+-- one region more, refused, and the end
+pub forget-then : {A B : Type 0} (r : Answer A) (f : A → B) → forget (andThen r λ a. accepted (f a)) ≡ forget r
+forget-then (accepted a) f = refl
+forget-then (refused n w) f = refl
+
+module _ (n r : ℕ) (ws : List ℕ) (at : ℕ) where
+  regions-step : {e : ℕ} → skim (region ws at) ≡ got tt e → forget (regionsFrom (suc n) r ws at) ≡ forget (regionsFrom n (suc r) ws e)
+  unfolding regionsFrom
+  regions-step {e} h = by-first (region ws at) h
+    where
+      by-first : (x : Read Region) → skim x ≡ got tt e → forget (settle r x λ y i. andThen (regionsFrom n (suc r) ws i) λ ys. accepted (y ∷ ys)) ≡ forget (regionsFrom n (suc r) ws e)
+      by-first (got y i) q = let same : e ≡ i = next-of (got y i) q in rw same (forget-then (regionsFrom n (suc r) ws i) (λ ys. y ∷ ys))
+      by-first (bad m) q = absurd (clash (cc))
+
+  regions-stop : {m : ℕ} → skim (region ws at) ≡ bad m → forget (regionsFrom (suc n) r ws at) ≡ refused m (wordFor m r)
+  unfolding regionsFrom
+  regions-stop {m} h = by-first (region ws at) h
+    where
+      by-first : (x : Read Region) → skim x ≡ bad m → forget (settle r x λ y i. andThen (regionsFrom n (suc r) ws i) λ ys. accepted (y ∷ ys)) ≡ refused m (wordFor m r)
+      by-first (got y i) q = absurd (clash (cc))
+      by-first (bad k) q = let same : k ≡ m = cc in ap (λ j. refused j (wordFor j r)) same
+
+regions-end : (r : ℕ) (ws : List ℕ) (at : ℕ) → at ≡ length ws → accepted tt ≡ forget (regionsFrom 0 r ws at)
+unfolding regionsFrom
+regions-end r ws at h = rw (regionsFrom, eq-eqb at (length ws) h)
+
+regions-over : (r : ℕ) (ws : List ℕ) (at : ℕ) → (at ≡ length ws → ⊥) → refused 4 0 ≡ forget (regionsFrom 0 r ws at)
+unfolding regionsFrom
+regions-over r ws at h = rw (regionsFrom, ne-eqb at (length ws) h)
+
+-- what is refused is not accepted
+pub never : {A B : Type 0} (r : Answer A) {a : A} {m k : ℕ} → forget r ≡ refused m k → r ≡ accepted a → B
+never r {a} {m} {k} p q = absurd (unlike (sym (ap forget q) ∙ p))
+  where
+    unlike : _≡_ {A = Answer Unit} (accepted tt) (refused m k) → ⊥
+    unlike h = clash (cc)
+
+-- the three words in front of a region's blocks, and its blocks
+pub store-row : (old new : List ℕ) (r start : ℕ) (x : RegionPlaces) → r < 32 → length old ≡ 32256 → Row (set (set (set old (indexAt r) start) (indexAt r + 1) (x .limit)) (indexAt r + 2) (x .exits)) new (indexAt r + 3) 8 (λ b. getD (x .blocks) b 0) → Row old new (indexAt r) 11 (rowOf start x)
+unfolding rowOf
+store-row old new r start x l long blocks =
+    let at = indexAt r in
+    let f = rowOf start x in
+    let same : at + 0 ≡ at = omega arith in
+    let zeroth : Row old (set old at start) at 1 f = subst (λ i. Row old (set old i start) at 1 f) same (row-next old old at 0 f (row-none old at f) (omega arith) refl) in
+    let first = row-next old (set old at start) at 1 f zeroth (omega arith) refl in
+    let second = row-next old (set (set old at start) (at + 1) (x .limit)) at 2 f first (omega arith) refl in
+    row-join old _ new at 3 8 f (λ b. getD (x .blocks) b 0) second blocks (λ b. block-row b)
+  where
+    block-row : (b : ℕ) → getD (x .blocks) b 0 ≡ rowOf start x (3 + b)
+    block-row b = let same : 3 + b ≡ suc (suc (suc b)) = omega arith in rw same
+
+-- the index of the region just read, and of those before
+module _ (ws : List ℕ) (from : ℕ) where
+  indexed-here : (r at : ℕ) (x : RegionPlaces) (old new : List ℕ) → at ≡ after r region ws from → Placed ws at x → Row old new (indexAt r) 11 (rowOf at x) → IndexedFrom ws from new r
+  unfolding rowOf
+  indexed-here r at x old new place placed row =
+      record {
+        start = ap (λ i. getD new i 0) first ∙ row .row 0 (omega arith) ∙ place;
+        limit = row .row 1 (omega arith) ∙ placed .limit ∙ ap (limitOf ws) place;
+        exits = row .row 2 (omega arith) ∙ placed .exits ∙ ap (exitsOf ws) place;
+        block = λ b small below. ap (λ i. getD new i 0) (at-block b) ∙ row .row (suc (suc (suc b))) (omega arith) ∙ placed .blocks b (rw place below) ∙ ap (λ i. blockOf ws i b) place;
+      }
+    where
+      first : indexAt r ≡ indexAt r + 0
+      first = omega arith
+
+      at-block : (b : ℕ) → indexAt r + 3 + b ≡ indexAt r + suc (suc (suc b))
+      at-block b = omega arith
+
+  indexed-kept : (k r : ℕ) (old new : List ℕ) (f : ℕ → ℕ) → k < r → Row old new (indexAt r) 11 f → IndexedFrom ws from old k → IndexedFrom ws from new k
+  indexed-kept k r old new f l row x =
+      record {
+        start = row .below (indexAt k) (omega arith) ∙ x .start;
+        limit = row .below (indexAt k + 1) (omega arith) ∙ x .limit;
+        exits = row .below (indexAt k + 2) (omega arith) ∙ x .exits;
+        block = λ b small below. row .below (indexAt k + 3 + b) (omega arith) ∙ x .block b small below;
+      }
+
+pub kept-none : (old : List ℕ) → Kept old old
+kept-none old = record { size = refl; front = refl; back = refl }
+
+kept-row : (old mid new : List ℕ) (r : ℕ) (f : ℕ → ℕ) → r < 32 → Kept old mid → Row mid new (indexAt r) 11 f → Kept old new
+kept-row old mid new r f l k row =
+    record {
+      size = row .size ∙ k .size;
+      front = row-front row 4048 (omega arith) ∙ k .front;
+      back = row-back row 4400 (omega arith) ∙ k .back;
+    }
+
+-- the record's words stay
+pub kept-words : (old new : List ℕ) (count : ℕ) → count ≤ 4048 → Kept old new → take count new ≡ take count old
+kept-words old new count l k = sym (take-take count 4048 new l) ∙ ap (take count) (k .front) ∙ take-take count 4048 old l
+
+module _ (n count from : ℕ) (old : List ℕ) where
+  pub regions-start : RegionsGoing n count from old 0 from old
+  unfolding after
+  regions-start = record { bound = omega arith; rest = ap (λ k. forget (regionsFrom k 0 (take count old) from)) (omega arith); place = refl; index = λ k l. absurd (omega arith); kept = kept-none old }
+
+  module _ {r at : ℕ} {mid : List ℕ} (x : RegionPlaces) (g : RegionsGoing n count from old r at mid) (turn : r < n) (small : count ≤ 4048) (read : RegionRead (take count mid) at x) where
+    same-read : RegionRead (take count old) at x
+    same-read = subst (λ ws. RegionRead ws at x) (kept-words old mid count small (g .kept)) read
+
+    one-more : n - r ≡ suc (n - (r + 1))
+    one-more = omega arith
+
+    pub regions-next : {e : ℕ} (new : List ℕ) → n ≤ 32 → stepOf (x .step) ≡ got tt e → Row mid new (indexAt r) 11 (rowOf at x) → RegionsGoing n count from old (r + 1) e new
+    unfolding after
+    regions-next {e} new few step row =
+        let ws = take count old in
+        let whole : skim (region ws at) ≡ got tt e = sym (same-read .step) ∙ step in
+        record {
+          bound = omega arith;
+          rest = g .rest ∙ ap (λ k. forget (regionsFrom k r ws at)) one-more ∙ regions-step (n - (r + 1)) r ws at whole ∙ ap (λ k. forget (regionsFrom (n - (r + 1)) k ws e)) (sym (add-one r));
+          place = next-of (region ws at) whole ∙ ap (λ i. next (region ws i)) (g .place) ∙ ap (λ k. after k region ws from) (sym (add-one r));
+          index = λ k below. by-region k below (ltb k r) refl row step;
+          kept = kept-row old mid new r (rowOf at x) (omega arith) (g .kept) row;
+        }
+      where
+        by-region : (k : ℕ) → k < r + 1 → (t : Bool) → ltb k r ≡ t → Row mid new (indexAt r) 11 (rowOf at x) → stepOf (x .step) ≡ got tt e → IndexedFrom (take count old) from new k
+        by-region k below true q row step = indexed-kept (take count old) from k r mid new (rowOf at x) (ltb-true k r q) row (g .index k (ltb-true k r q))
+        by-region k below false q row step =
+            let same : k ≡ r = omega (arith, ltb-false k r q) in
+            rw same (indexed-here (take count old) from r at x mid new (g .place) (same-read .placed e step) row)
+
+    pub regions-refused : {m : ℕ} (a : ReadAnswer) → stepOf (x .step) ≡ bad m → answered a ≡ refused m (wordFor m r) → RegionsOutcome n count from old mid a
+    regions-refused {m} a step told =
+        let ws = take count old in
+        let stop : skim (region ws at) ≡ bad m = sym (same-read .step) ∙ step in
+        let answer : forget (regionsFrom n 0 ws from) ≡ refused m (wordFor m r) = g .rest ∙ ap (λ k. forget (regionsFrom k r ws at)) one-more ∙ regions-stop (n - (r + 1)) r ws at stop in
+        record { answer = told ∙ sym answer; index = λ rs q. never (regionsFrom n 0 ws from) answer q; kept = g .kept }
+
+  module _ {r at : ℕ} {mid : List ℕ} (g : RegionsGoing n count from old r at mid) (over : n ≤ r) (fits : count ≤ length old) where
+    none-left : n - r ≡ 0
+    none-left = omega arith
+
+    long : length (take count old) ≡ count
+    long = length-take-le count old fits
+
+    pub regions-read : at ≡ count → RegionsOutcome n count from old mid read.Read
+    regions-read h =
+        record {
+          answer = regions-end r (take count old) at (h ∙ sym long) ∙ sym (g .rest ∙ ap (λ k. forget (regionsFrom k r (take count old) at)) none-left);
+          index = λ rs q k below. g .index k (omega arith);
+          kept = g .kept;
+        }
+
+    pub regions-left : (at ≡ count → ⊥) → RegionsOutcome n count from old mid (read.Refused 4 0)
+    regions-left h =
+        let ws = take count old in
+        let answer : refused 4 0 ≡ forget (regionsFrom n 0 ws from) = regions-over r ws at (λ q. h (q ∙ long)) ∙ sym (g .rest ∙ ap (λ k. forget (regionsFrom k r ws at)) none-left) in
+        record { answer = answer; index = λ rs q. never (regionsFrom n 0 ws from) (sym answer) q; kept = g .kept }

@@ -1,0 +1,38 @@
+-- What stands in front of the lent words after W was answered: for the routines that read the record there.
+use mathlib.Core.Path.{_≡_, refl, sym, ap, _∙_}
+use mathlib.Core.List.{List, [], _∷_, _++_}
+use Prim.Native.Nat.{ℕ, zero, suc, _+_, _≤_, _<_}
+use native.Mathlib.Omega.{arith}
+use lib.ListN.{length, getD, take, drop, List·getD-append}
+use lib.Seq.{take-at, drop-at}
+use Rattle.format.specs.Store.{accepted, storeWords, tabulate, wordAt}
+use Rattle.store.specs.Loaded.{heldAfter, Loads}
+use Rattle.store.specs.declared.Loaded.the-variants.{Words}
+use Rattle.store.proofs.Words.{length-tabulate}
+use Rattle.store.proofs.Store.{holds}
+
+-- The store's words are the first w, w is among them as word 0, and the others are as lent.
+pub record Front (s before after : List ℕ) (w : ℕ) : Type 0 where
+  pub words : storeWords s ≡ accepted (take w after)
+  pub few : w ≤ 4048
+  pub first : getD after 0 0 ≡ w
+  pub rest : drop w after ≡ drop w before
+
+first-word : (n : ℕ) (f : ℕ → ℕ) → 0 < n → getD (tabulate n f) 0 0 ≡ f 0
+unfolding tabulate
+first-word zero f h = absurd (omega arith)
+first-word (suc zero) f h = refl
+first-word (suc (suc n)) f h = List·getD-append (tabulate (suc n) f) (f (suc n) ∷ []) 0 0 (omega (arith, length-tabulate (suc n) f)) ∙ first-word (suc n) f (omega arith)
+
+pub front : (s before after : List ℕ) (w : ℕ) → Loads s before after (Words w) → Front s before after w
+front s before after w l =
+    let h = holds s w (l .answer) in
+    let ws = tabulate w (wordAt s) in
+    let size : length ws ≡ w = length-tabulate w (wordAt s) in
+    let held : after ≡ ws ++ drop w before = l .words ∙ ap (heldAfter before) (h .words) ∙ ap (λ n. ws ++ drop n before) size in
+    record {
+      words = h .words ∙ ap accepted (sym (ap (take w) held ∙ take-at ws (drop w before) w size));
+      few = omega (arith, h .within, h .short);
+      first = ap (λ x. getD x 0 0) held ∙ List·getD-append ws (drop w before) 0 0 (omega (arith, h .some)) ∙ first-word w (wordAt s) (h .some) ∙ h .first;
+      rest = ap (drop w) held ∙ drop-at ws (drop w before) w size;
+    }

@@ -1,0 +1,5 @@
+pub mod Text
+pub mod Digits
+pub mod Buffer
+pub mod Lists
+pub mod Whole

@@ -1,0 +1,15 @@
+-- Texts of labeled numbers, and of items one after another.
+use mathlib.Core.List.{List, [], _∷_, _++_}
+use Prim.Native.Nat.{ℕ}
+use Prim.Native.String.{String}
+use Rattle.meaning.specs.Text.{Text, ascii, decimal}
+
+-- A label and a number.
+unfoldable pub labeled : String → ℕ → Text
+unfolding decimal
+labeled label n = ascii label ++ decimal n
+
+-- The texts of the items, one after another.
+unfoldable pub each : {A : Type 0} → (A → Text) → List A → Text
+each show [] = []
+each show (x ∷ xs) = show x ++ each show xs
