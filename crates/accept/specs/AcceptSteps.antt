@@ -1,19 +1,19 @@
 -- From a loaded store to the whole answer: the store's refusal, or the verdict on its words.
 use mathlib.Core.Path.{_≡_, refl, sym, ap, _∙_}
 use mathlib.Core.List.{List, _++_}
-use Prim.Native.Nat.{ℕ, _+_, _-_, _≤_}
+use Prim.Native.Nat.{ℕ, _+_, _-_}
 use native.Mathlib.Omega.{arith}
-use lib.ListN.{length, getD, take, drop, length-take, List·getD-append}
-use lib.Seq.{take-at, drop-append-add, drop-drop, length-front}
+use lib.ListN.{length, take, drop, length-append, length-drop}
+use lib.Seq.{take-take, drop-drop}
 use Rattle.format.specs.Store.{Answer, accepted, refused, andThen, storeWords}
 use Rattle.format.specs.Accept.{accept}
 use Rattle.format.specs.ReadLaws.{clash}
-use Rattle.store.specs.Loaded.{counted, heldAfter}
+use Rattle.store.specs.declared.Loaded.the-variants as loaded
+use Rattle.store.specs.Loaded.{counted, heldAfter, Loads}
+use Rattle.store.proofs.Front.{Front, front}
 use Rattle.record.specs.Outcome.{forget}
-use Rattle.record.specs.Parts.{accepted-value}
 use Rattle.accept.specs.declared.Accepted.{Accepted}
 use Rattle.accept.specs.declared.Accepted.the-variants.{Refused}
-use Rattle.accept.specs.StoreParts.{StoreParts, store-parts}
 use Rattle.accept.specs.Judged.{checkedFrom}
 use Rattle.accept.specs.Accepts.{Accepts, ReadChecked}
 
@@ -21,21 +21,8 @@ accept-is : (s : List ℕ) {r : Answer (List ℕ)} → storeWords s ≡ r → ac
 unfolding accept
 accept-is s h = ap (λ x. andThen x checkedFrom) h
 
--- The words of an accepted store, and their number.
-pub record Stored (s : List ℕ) (count : ℕ) : Type 0 where
-  pub words : List ℕ
-  pub is : storeWords s ≡ accepted words
-  pub size : count ≡ length words
-
-pub stored : (s : List ℕ) {count : ℕ} → accepted count ≡ counted (storeWords s) → Stored s count
-stored s {count} h = by-answer (storeWords s) refl h
-  where
-    by-answer : (a : Answer (List ℕ)) → storeWords s ≡ a → accepted count ≡ counted a → Stored s count
-    by-answer (accepted ws) q e = record { words = ws; is = q; size = cc }
-    by-answer (refused n w) q e = absurd (clash (cc))
-
-pub store-refused : (s old mid : List ℕ) {n w : ℕ} → refused n w ≡ counted (storeWords s) → mid ≡ heldAfter old (storeWords s) → Accepts s old mid (Refused n w)
-store-refused s old mid {n} {w} h held = by-answer (storeWords s) refl h held
+pub store-refused : (s old mid : List ℕ) {n w : ℕ} → Loads s old mid (loaded.Refused n w) → Accepts s old mid (Refused n w)
+store-refused s old mid {n} {w} l = by-answer (storeWords s) refl (l .answer) (l .words)
   where
     by-answer : (a : Answer (List ℕ)) → storeWords s ≡ a → refused n w ≡ counted a → mid ≡ heldAfter old a → Accepts s old mid (Refused n w)
     by-answer (accepted ws) q e k = absurd (clash (cc))
@@ -45,56 +32,49 @@ store-refused s old mid {n} {w} h held = by-answer (storeWords s) refl h held
         record {
           answer = same ∙ sym (ap forget whole);
           stands = λ g f. absurd (clash (cc));
+          in-front = λ ws f. absurd (clash (cc));
           size = ap length k;
-          front = λ ws f. absurd (clash (cc));
           beyond = ap (drop 4400) k;
           as-lent = λ i j f. k;
         }
 
--- The store's words in front of the lent words.
-module _ (s old mid : List ℕ) {count : ℕ} (size : length old ≡ 32256) (a : Stored s count) (held : mid ≡ heldAfter old (storeWords s)) where
-  parts : StoreParts s (a .words)
-  parts = store-parts s (a .is)
+-- The store's words in front of the lent words, W of them.
+module _ (s old mid : List ℕ) {count : ℕ} (size : length old ≡ 32256) (l : Loads s old mid (loaded.Words count)) where
+  held : Front s old mid count
+  held = front s old mid count l
 
-  mid-is : mid ≡ a .words ++ drop (length (a .words)) old
-  mid-is = held ∙ ap (heldAfter old) (a .is)
-
-  pub count-few : count ≤ 4048
-  count-few = let p = parts in omega (arith, a .size)
-
-  pub first-word : getD mid 0 0 ≡ count
-  first-word = let p = parts in ap (λ l. getD l 0 0) mid-is ∙ List·getD-append (a .words) (drop (length (a .words)) old) 0 0 (p .some) ∙ p .first ∙ sym (a .size)
-
-  record-words : take count mid ≡ a .words
-  record-words = ap (take count) mid-is ∙ take-at (a .words) (drop (length (a .words)) old) count (sym (a .size))
+  count-is : count ≡ length (take count mid)
+  count-is = let known = l .answer ∙ ap counted (held .words) in cc
 
   mid-size : length mid ≡ length old
   mid-size =
-      let p = parts in
-      ap length mid-is ∙ length-front old (a .words) (length (a .words)) (omega (arith, length-take (length (a .words)) old))
+      let few = held .few in
+      let all = count-is in
+      let parts : mid ≡ take count mid ++ drop (length (take count mid)) old = l .words ∙ ap (heldAfter old) (held .words) in
+      omega (arith, ap length parts, length-append (take count mid) (drop (length (take count mid)) old), length-drop (length (take count mid)) old)
 
   mid-beyond : drop 4400 mid ≡ drop 4400 old
   mid-beyond =
-      let p = parts in
-      let n = length (a .words) in
-      let split : 4400 ≡ n + (4400 - n) = omega arith in
-      ap (drop 4400) mid-is
-      ∙ ap (λ k. drop k (a .words ++ drop n old)) split
-      ∙ drop-append-add (a .words) (drop n old) (4400 - n)
-      ∙ drop-drop (4400 - n) n old
-      ∙ ap (λ k. drop k old) (sym split)
+      let few = held .few in
+      let split : count + (4400 - count) ≡ 4400 = omega arith in
+      ap (λ k. drop k mid) (sym split)
+      ∙ sym (drop-drop (4400 - count) count mid)
+      ∙ ap (drop (4400 - count)) (held .rest)
+      ∙ drop-drop (4400 - count) count old
+      ∙ ap (λ k. drop k old) split
+
+  front-words : (new : List ℕ) {x : Accepted} → ReadChecked count mid new x → take count new ≡ take count mid
+  front-words new r = sym (take-take count 4048 new (held .few)) ∙ ap (take count) (r .kept .front) ∙ take-take count 4048 mid (held .few)
 
   pub record-judged : (new : List ℕ) {x : Accepted} → ReadChecked count mid new x → Accepts s old new x
   record-judged new {x} r =
-      let whole = accept-is s (a .is) in
-      let same : checkedFrom (take count mid) ≡ accept s = ap checkedFrom record-words ∙ sym whole in
+      let same : checkedFrom (take count mid) ≡ accept s = sym (accept-is s (held .words)) in
+      let known = held .words in
       record {
         answer = r .judged .answer ∙ ap forget same;
         stands = λ g f. r .judged .stands g (same ∙ f);
+        in-front = λ ws f. let words : take count mid ≡ ws = cc in ap (λ n. take n new) (sym (count-is ∙ ap length words)) ∙ front-words new r ∙ words;
         size = r .kept .size ∙ mid-size;
-        front = λ ws f.
-            let same-words : a .words ≡ ws = accepted-value (sym (a .is) ∙ f) in
-            r .kept .front ∙ ap (take 4048) (rw same-words at mid-is);
         beyond = r .kept .back ∙ mid-beyond;
-        as-lent = λ n w f. let known = a .is in absurd (clash (cc));
+        as-lent = λ n w f. absurd (clash (cc));
       }

@@ -1,6 +1,6 @@
 -- What accepting a store answers, and what the lent words hold then (document 01, refusals 1 to 8).
 use mathlib.Core.Path.{_≡_}
-use mathlib.Core.List.{List, _++_}
+use mathlib.Core.List.{List}
 use Prim.Native.Nat.{ℕ}
 use lib.ListN.{length, take, drop}
 use Rattle.meaning.specs.Graph.{Graph}
@@ -17,13 +17,13 @@ abbrev pub answered : Accepted → Answer Unit
 answered Record = accepted tt
 answered (Refused n w) = refused n w
 
--- `old` are the words as lent, `new` as they are handed back. A store that is refused leaves them as lent. Else its words
--- stand in front, also where the record is refused; behind them the words are as lent, but for 352 that are the index's.
+-- `old` are the words as lent, `new` as they are handed back. A store that is refused leaves them as lent. Otherwise its words
+-- stand in front, also where its record is refused; then nothing is said of the words behind them, up to 4,400.
 pub record Accepts (s old new : List ℕ) (a : Accepted) : Type 0 where
   pub answer : answered a ≡ forget (accept s)
   pub stands : (g : Graph) → accept s ≡ accepted g → Stands new g
+  pub in-front : (ws : List ℕ) → storeWords s ≡ accepted ws → take (length ws) new ≡ ws
   pub size : length new ≡ length old
-  pub front : (ws : List ℕ) → storeWords s ≡ accepted ws → take 4048 new ≡ take 4048 (ws ++ drop (length ws) old)
   pub beyond : drop 4400 new ≡ drop 4400 old
   pub as-lent : (n w : ℕ) → storeWords s ≡ refused n w → new ≡ old
 

@@ -1,4 +1,3 @@
-pub mod StoreParts
 pub mod Judged
 pub mod Accepts
 pub mod AcceptSteps

@@ -1,4 +1,5 @@
-// An accepted record's fields, by the words that it stands in and the index behind them.
+// An accepted record's fields, by the words that it stands in and the index behind them. Each accessor takes any words and any
+// numbers; a number that names nothing gets the definition's answer for it: 0, an empty list, Nothing, an unreachable region.
 ghost use mathlib.Core.Path.{_≡_};
 ghost use mathlib.Core.List.{[]};
 ghost use lib.ListN.{length, getD};
@@ -13,6 +14,9 @@ mod places;
 pub mod shape;
 mod words;
 
+use places::EXITS;
+use places::LIMIT;
+use places::START;
 use places::block_place;
 use places::blocks_place;
 use places::indexed;
@@ -62,13 +66,13 @@ pub fn constant_type(w: &[u16; 32256], i: u16) -> u16
 pub fn input_count(w: &[u16; 32256], r: u16) -> u16
     ensures { λ a. ⌜ ((g : Graph) → Stands (now (w .entry)) g → a ≡ length (region g r .inputs)) ⌝ }
 {
-    word_at(w, indexed(w, r, 0) as usize)
+    word_at(w, indexed(w, r, START) as usize)
 }
 
 pub fn input_type(w: &[u16; 32256], r: u16, k: u16) -> u16
     ensures { λ a. ⌜ ((g : Graph) → Stands (now (w .entry)) g → a ≡ getD (region g r .inputs) k 0) ⌝ }
 {
-    word_item(w, indexed(w, r, 0), k)
+    word_item(w, indexed(w, r, START), k)
 }
 
 pub fn block_count(w: &[u16; 32256], r: u16) -> u16
@@ -138,7 +142,7 @@ pub fn limit(w: &[u16; 32256], r: u16) -> u16
     ensures { λ a. ⌜ ((g : Graph) → Stands (now (w .entry)) g → a ≡ region g r .limit) ⌝ }
 {
     if r < word_at(w, 1) {
-        return word_at(w, indexed(w, r, 1) as usize);
+        return word_at(w, indexed(w, r, LIMIT) as usize);
     }
     1
 }
@@ -146,7 +150,7 @@ pub fn limit(w: &[u16; 32256], r: u16) -> u16
 pub fn terminator(w: &[u16; 32256], r: u16) -> Terminator
     ensures { λ a. ⌜ ((g : Graph) → Stands (now (w .entry)) g → terminatorIs a (region g r .terminator) ≡ region g r .terminator) ⌝ }
 {
-    let p = indexed(w, r, 1) as usize;
+    let p = indexed(w, r, LIMIT) as usize;
     let kind = word_at(w, p + 1);
     if kind == 0 {
         return Terminator::Unreachable;
@@ -205,13 +209,13 @@ pub fn passed(w: &[u16; 32256], r: u16, j: u16, k: u16) -> Value
 pub fn exit_count(w: &[u16; 32256], r: u16) -> u16
     ensures { λ a. ⌜ ((g : Graph) → Stands (now (w .entry)) g → a ≡ length (region g r .exits)) ⌝ }
 {
-    word_at(w, indexed(w, r, 2) as usize)
+    word_at(w, indexed(w, r, EXITS) as usize)
 }
 
 pub fn exit_target(w: &[u16; 32256], r: u16, k: u16) -> u16
     ensures { λ a. ⌜ ((g : Graph) → Stands (now (w .entry)) g → a ≡ getD (region g r .exits) k 0) ⌝ }
 {
-    word_item(w, indexed(w, r, 2), k)
+    word_item(w, indexed(w, r, EXITS), k)
 }
 
 // Whether the target at place j stands at an earlier place too.
@@ -225,5 +229,5 @@ pub fn target_again(w: &[u16; 32256], r: u16, j: u16) -> bool
 pub fn exit_again(w: &[u16; 32256], r: u16, k: u16) -> bool
     ensures { λ a. ⌜ ((g : Graph) → Stands (now (w .entry)) g → a ≡ standsBefore (region g r .exits) k) ⌝ }
 {
-    stood_before(w, indexed(w, r, 2), k)
+    stood_before(w, indexed(w, r, EXITS), k)
 }

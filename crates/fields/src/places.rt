@@ -11,7 +11,16 @@ use super::words::stood_before;
 use super::words::word_at;
 use super::words::word_item;
 
-// Word i of region r's eleven in the index: its start, its limit, its exits, its blocks.
+// Where the words of a region stand among its eleven in the index.
+pub const START: usize = 0;
+
+pub const LIMIT: usize = 1;
+
+pub const EXITS: usize = 2;
+
+pub const BLOCKS: usize = 3;
+
+// Word i of region r's eleven in the index.
 pub fn indexed(w: &[u16; 32256], r: u16, i: usize) -> u16
     requires { ⌜ i ≤ 65538 ⌝ }
     ensures { λ a. ⌜ a ≡ words.indexed (now (w .entry)) r i ⌝ }
@@ -26,14 +35,14 @@ pub fn indexed(w: &[u16; 32256], r: u16, i: usize) -> u16
 pub fn blocks_place(w: &[u16; 32256], r: u16) -> u16
     ensures { λ a. ⌜ a ≡ words.blocksPlace (now (w .entry)) r ⌝ }
 {
-    behind_words(w, indexed(w, r, 0))
+    behind_words(w, indexed(w, r, START))
 }
 
 pub fn block_place(w: &[u16; 32256], r: u16, b: u16) -> u16
     ensures { λ a. ⌜ a ≡ words.blockPlace (now (w .entry)) r b ⌝ }
 {
     if b < word_at(w, blocks_place(w, r) as usize) {
-        return indexed(w, r, 3 + (b as usize));
+        return indexed(w, r, BLOCKS + (b as usize));
     }
     BEYOND
 }
@@ -65,7 +74,7 @@ pub fn instruction_place(w: &[u16; 32256], r: u16, b: u16, i: u16) -> u16
 pub fn values_place(w: &[u16; 32256], r: u16) -> u16
     ensures { λ a. ⌜ a ≡ words.valuesPlace (now (w .entry)) r ⌝ }
 {
-    let p = indexed(w, r, 1) as usize;
+    let p = indexed(w, r, LIMIT) as usize;
     if word_at(w, p + 1) == 2 {
         return place(p + 3);
     }

@@ -1,6 +1,6 @@
 -- Steps that define something: what they add to the tables, and what stands for what they were given.
 use mathlib.Core.Bool.{Bool, _&&_, false, true}
-use mathlib.Core.List.{List, [], _++_, _∷_}
+use mathlib.Core.List.{List, [], _∷_}
 use mathlib.Core.Logic.{inl, inr}
 use mathlib.Core.Option.{Option, none, some}
 use mathlib.Core.Path.{_∙_, _≡_, refl}
@@ -8,16 +8,17 @@ use Prim.Native.Nat.{_≤_, suc, ℕ}
 use native.Mathlib.Omega.{arith}
 use lib.Dec.{ltb}
 use lib.ListN.{length}
+use Rattle.nesting.specs.Keeps.{Steady, define-merge-keeps}
 use Rattle.meaning.specs.Graph.{SelectionKind, Value, bool, bool-cond, number, output, pick}
 use Rattle.format.specs.WellRead.{and-both}
-use Rattle.nesting.specs.Change.{define-merge, define-node, define-output, define-region, with-merge, with-node, with-node-outputs, with-region}
+use Rattle.nesting.specs.Change.{define-merge, define-node, define-output, define-region}
 use Rattle.nesting.specs.Cond.{is-bool-cond, materialize-lazy-cond, materialize-lazy-conds, same-values}
 use Rattle.nesting.specs.Deferred.{DeferredEdgeBundleSet, LazyCond, LazyConds, _&_, false-cond, merge, true-cond, undef-cond, ∅}
 use Rattle.nesting.specs.Fewer.{AnyRefusal}
 use Rattle.nesting.specs.Plan.{PlannedBundle, PlannedInput, merged, shared}
-use Rattle.nesting.specs.Post.{Post, bind, map-post}
+use Rattle.nesting.specs.Post.{Post, bind, map-post, when-room}
 use Rattle.nesting.specs.Select.{DefinedSelect, emit, emit-condition, emit-inputs}
-use Rattle.nesting.specs.State.{Answer, NestState, NodeOutput, done, give, turned-away}
+use Rattle.nesting.specs.State.{Answer, NestState, NodeOutput, give}
 use Rattle.follows.specs.Small.{nth-last}
 use Rattle.follows.specs.Key.{OutputAt}
 use Rattle.follows.specs.Tables.{Extends, extends-refl, extends-then, stays}
@@ -50,6 +51,17 @@ grew-then p q = record {
   node-count = omega (arith, p .node-count, q .node-count);
 }
 
+pub grew-steady : Steady Grew
+grew-steady = record {
+  same = grew-refl;
+  follows = grew-then;
+  region = λ s. record { outputs = extends-refl (s .node-outputs); rewrites = refl; region-states = refl; regions = omega arith; node-count = omega arith };
+  node = λ s. record { outputs = extends-refl (s .node-outputs); rewrites = refl; region-states = refl; regions = omega arith; node-count = omega arith };
+  merge = λ s. record { outputs = extends-refl (s .node-outputs); rewrites = refl; region-states = refl; regions = omega arith; node-count = omega arith };
+  output = λ x s. record { outputs = record { more = x ∷ []; whole = refl }; rewrites = refl; region-states = refl; regions = omega arith; node-count = omega arith };
+  twice = λ b s. record { outputs = extends-refl (s .node-outputs); rewrites = refl; region-states = refl; regions = omega arith; node-count = omega arith };
+}
+
 -- ---- a new output
 pub record NewOutput (n ty : ℕ) (vs : List Value) (s : NestState) (v : Value) (s′ : NestState) : Type 0 where
   pub place : ℕ
@@ -59,22 +71,14 @@ pub record NewOutput (n ty : ℕ) (vs : List Value) (s : NestState) (v : Value) 
 
 define-output-post : (n ty : ℕ) (vs : List Value) (s : NestState) → IfDone (NewOutput n ty vs s) (define-output n ty vs s)
 unfolding define-output
-define-output-post n ty vs s = go (ltb (length (s .node-outputs)) 512)
-  where
-    new : NodeOutput
-    new = record { node = n; type = ty; values = vs }
-
-    go : (b : Bool)
-        → IfDone (NewOutput n ty vs s) (elim b [ true ↦ done (output (length (s .node-outputs))) (with-node-outputs (s .node-outputs ++ (new ∷ [])) s) | false ↦ turned-away 9 0 ])
-    go true = record {
-      post = record {
-        place = length (s .node-outputs);
-        at-place = record { there = nth-last (s .node-outputs) new; node = refl };
-        is = refl;
-        grew = record { outputs = record { more = new ∷ []; whole = refl }; rewrites = refl; region-states = refl; regions = omega arith; node-count = omega arith };
-      };
-    }
-    go false = record { post = tt }
+define-output-post n ty vs s =
+    let new : NodeOutput = record { node = n; type = ty; values = vs } in
+    when-room tt (ltb (length (s .node-outputs)) 512) _ _ (record {
+      place = length (s .node-outputs);
+      at-place = record { there = nth-last (s .node-outputs) new; node = refl };
+      is = refl;
+      grew = grew-steady .output new s;
+    })
 
 -- ---- materializing
 pub record Materialized (c : LazyCond) (s : NestState) (v : Value) (s′ : NestState) : Type 0 where
@@ -156,17 +160,9 @@ pub record EmittedAll (n : DefinedSelect) (ps : List PlannedBundle) (s : NestSta
   pub emits : EmitsAll (s′ .node-outputs) n ps d
   pub grew : Grew s s′
 
-define-merge-post : (s : NestState) → IfDone (λ x s′. Grew s s′) (define-merge s)
-unfolding define-merge
-define-merge-post s = go (ltb (s .merge-count) 512)
-  where
-    go : (b : Bool) → IfDone {A = Unit {0}} (λ x s′. Grew s s′) (elim b [ true ↦ done tt (with-merge s) | false ↦ turned-away 9 0 ])
-    go true = record { post = record { outputs = extends-refl (s .node-outputs); rewrites = refl; region-states = refl; regions = omega arith; node-count = omega arith } }
-    go false = record { post = tt }
-
 emit-condition-post : (n : DefinedSelect) (o : Option LazyConds) (s : NestState) → IfDone (λ c s′. (c ≡ condition-from n o) × Grew s s′) (emit-condition n o s)
 emit-condition-post n none s = record { post = (refl, grew-refl s) }
-emit-condition-post n (some cs) s = bind (define-merge s) _ (define-merge-post s) λ x s₁ h. record { post = (refl, h) }
+emit-condition-post n (some cs) s = bind (define-merge s) _ (define-merge-keeps grew-steady AnyRefusal tt s) λ x s₁ h. record { post = (refl, h) }
 
 pub emit-post : (n : DefinedSelect) (ps : List PlannedBundle) (s : NestState) → IfDone (EmittedAll n ps s) (emit n ps s)
 unfolding emit
@@ -191,30 +187,8 @@ emit-post n (p ∷ ps) s =
 -- ---- regions and nodes
 pub define-region-post : (s : NestState) → IfDone (λ w s′. (w ≡ s .region-count) × (s′ .region-count ≡ suc w) × Grew s s′) (define-region s)
 unfolding define-region
-define-region-post s = go (ltb (s .region-count) 128)
-  where
-    go : (b : Bool) → IfDone {A = ℕ} (λ w s′. (w ≡ s .region-count) × (s′ .region-count ≡ suc w) × Grew s s′)
-        (elim b [ true ↦ done (s .region-count) (with-region s) | false ↦ turned-away 9 0 ])
-    go true = record {
-      post = (
-        refl,
-        refl,
-        record { outputs = extends-refl (s .node-outputs); rewrites = refl; region-states = refl; regions = omega arith; node-count = omega arith },
-      );
-    }
-    go false = record { post = tt }
+define-region-post s = when-room tt (ltb (s .region-count) 128) _ _ (refl, refl, grew-steady .region s)
 
 pub define-node-post : (s : NestState) → IfDone (λ n s′. (n ≡ s .node-count) × (s′ .node-count ≡ suc n) × Grew s s′) (define-node s)
 unfolding define-node
-define-node-post s = go (ltb (s .node-count) 512)
-  where
-    go : (b : Bool) → IfDone {A = ℕ} (λ n s′. (n ≡ s .node-count) × (s′ .node-count ≡ suc n) × Grew s s′)
-        (elim b [ true ↦ done (s .node-count) (with-node s) | false ↦ turned-away 9 0 ])
-    go true = record {
-      post = (
-        refl,
-        refl,
-        record { outputs = extends-refl (s .node-outputs); rewrites = refl; region-states = refl; regions = omega arith; node-count = omega arith },
-      );
-    }
-    go false = record { post = tt }
+define-node-post s = when-room tt (ltb (s .node-count) 512) _ _ (refl, refl, grew-steady .node s)

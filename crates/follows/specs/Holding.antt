@@ -24,7 +24,7 @@ use Rattle.follows.specs.World.{World, ar, size}
 use Rattle.follows.specs.Tables.{tables}
 use Rattle.follows.specs.Leads.{Sim, leads-on}
 use Rattle.follows.specs.Scope.{AllScoped, SetOk, scoped-later, set-later, within-refl}
-use Rattle.follows.specs.Invariant.{Free, Inv, Later, New, Owned, Rewritable, idle, is-claimed, later-then, new, old, unborn, waiting}
+use Rattle.follows.specs.Invariant.{Free, Inv, Later, New, Owned, Rewritable, idle, is-claimed, later-then, new, old, owned-by, unborn, waiting}
 use Rattle.follows.specs.StateChanges.{changed, else, now}
 
 pub at-or-else : (P : Type 0) (q r : ℕ) → (q ≡ r → P) → (eqb q r ≡ false → P) → P
@@ -173,15 +173,7 @@ module _ (W : World) where
     owned-was : (κ : Key) → Owned s⁺ κ → (owns-nodes ks κ ≡ true) ⊎ Owned s κ
     owned-was κ o = at-or-else ((owns-nodes ks κ ≡ true) ⊎ Owned s κ) (o .region) r
         (λ e. inl (rw (its-children (o .region) (o .back) (o .children) (o .deferred-edges) (o .is) e) at (o .owns)))
-        (λ ne. inr (record {
-          region = o .region;
-          back = o .back;
-          children = o .children;
-          deferred-edges = o .deferred-edges;
-          is = ready-was (o .region) (o .back)
-              (o .children) (o .deferred-edges) (o .is) ne;
-          owns = o .owns;
-        }))
+        (λ ne. inr (owned-by o (ready-was (o .region) (o .back) (o .children) (o .deferred-edges) (o .is) ne)))
 
     pub inv-ready : Inv W s⁺
     inv-ready = record {

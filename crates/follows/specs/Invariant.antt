@@ -55,6 +55,9 @@ New s (of-held q) = is-claimed (state-of s q) ≡ false
 New s (of-node n) = s .node-count ≤ n
 New s of-none = ⊥
 
+pub owned-by : {s s′ : NestState} {κ : Key} (o : Owned s′ κ) → state-of s (o .region) ≡ ready (o .back) (o .children) (o .deferred-edges) → Owned s κ
+owned-by o p = record { region = o .region; back = o .back; children = o .children; deferred-edges = o .deferred-edges; is = p; owns = o .owns }
+
 pub data Free (s : NestState) (κ : Key) : Type 0 where
   old : Owned s κ → Free s κ
   new : New s κ → Free s κ
@@ -103,16 +106,8 @@ module _ (W : World) where
     status-same : (r : ℕ) → state-of s′ r ≡ state-of s r
     status-same r = ap (λ l. getD l r not-begun) (gr .region-states)
 
-    owned-same : (κ : Key) → Owned s′ κ → Owned s κ
-    owned-same v o = record {
-      region = o .region;
-      back = o .back;
-      children = o .children;
-      deferred-edges = o .deferred-edges;
-      is = sym (status-same (o .region))
-          ∙ o .is;
-      owns = o .owns;
-    }
+    pub owned-same : (κ : Key) → Owned s′ κ → Owned s κ
+    owned-same v o = owned-by o (sym (status-same (o .region)) ∙ o .is)
 
     new-same : (κ : Key) → New s′ κ → New s κ
     new-same (of-instr q) h = sym (status-same q) ∙ h
@@ -168,7 +163,7 @@ module _ (W : World) where
     rewritable⁺ r (waiting lt h) = waiting lt h
 
     owned⁺ : (κ : Key) → Owned s⁺ κ → Owned s κ
-    owned⁺ v o = record { region = o .region; back = o .back; children = o .children; deferred-edges = o .deferred-edges; is = o .is; owns = o .owns }
+    owned⁺ v o = owned-by o (o .is)
 
     new⁺ : (κ : Key) → New s⁺ κ → New s κ
     new⁺ (of-instr r) h = h

@@ -21,16 +21,16 @@ use Rattle.nesting.specs.Plan.{any-needs-select, any-non-empty-case, plan-bundl
 use Rattle.nesting.specs.Post.{bind, map-post}
 use Rattle.nesting.specs.Rewrite.{any, meets, rewrite, rewrites-of}
 use Rattle.nesting.specs.Select.{DefinedSelect, define-select, emit, meets-in-case, replace-inputs, rewrite-case, rewrite-cases, rewrite-claimed, select-if, shared-bundle, structurize-select}
-use Rattle.nesting.specs.State.{NestState, NodeOutput, not-begun, replace-with}
+use Rattle.nesting.specs.State.{NestState, NodeOutput, replace-with}
 use Rattle.follows.specs.Small.{In, from-map, in-map, or-either, or-left, or-right}
 use Rattle.follows.specs.Key.{Key, is-node, node-key, of-node, owns-cases, owns-join, owns-nodes}
 use Rattle.follows.specs.World.{World, ar}
-use Rattle.follows.specs.Tables.{Gains, Resolver, Respects, entry-law, entry-stays, extends-refl, gains-refl, gains-then, lookup-keeps, respects-back, tables}
+use Rattle.follows.specs.Tables.{Gains, Resolver, Respects, entry-law, entry-stays, gains-refl, gains-then, lookup-keeps, respects-back, tables}
 use Rattle.follows.specs.Leads.{leads-on}
 use Rattle.follows.specs.Planned.{EmitsAll}
-use Rattle.follows.specs.Defined.{Grew, IfDone, emit-post, grew-then}
+use Rattle.follows.specs.Defined.{Grew, IfDone, emit-post, grew-steady, grew-then}
 use Rattle.follows.specs.Scope.{AllScoped, Within, scoped-later, scoped-rewritten, set-later, within-left, within-refl}
-use Rattle.follows.specs.Invariant.{Free, Later, Rewritable, free⁺, inv-grew, inv-rewrite, later-grew, later-rewrite, new, old, rewritable⁺, rewrite-gains, rewriting}
+use Rattle.follows.specs.Invariant.{Free, Later, Rewritable, free⁺, inv-grew, inv-rewrite, later-grew, later-rewrite, new, old, owned-same, rewritable⁺, rewrite-gains, rewriting}
 use Rattle.follows.specs.Holding.{Apart, CasesOk, ClaimedOk, Doing, Holds, doing-on}
 use Rattle.follows.specs.EnterCase.{ScrutineeIs, children-in, getD-rewritten}
 use Rattle.follows.specs.SelectDefined.{CasesFrom, DefinesSelect, cases-own, define-select-post, scrutinee-stays}
@@ -248,16 +248,7 @@ module _ (W : World) where
         clear gr d₂ κ (inr (inl e)) w = not-new (subst (λ x. Free s₂ x) e w)
           where
             not-new : Free s₂ (of-node (n .node)) → ⊥
-            not-new (old o) = dg .inv .fresh (of-node (n .node))
-                (record {
-                  region = o .region;
-                  back = o .back;
-                  children = o .children;
-                  deferred-edges = o .deferred-edges;
-                  is = ap (λ l. getD l (o .region) not-begun)
-                      (sym (gr .region-states)) ∙ o .is;
-                  owns = o .owns;
-                }) (mk .above)
+            not-new (old o) = dg .inv .fresh (of-node (n .node)) (owned-same W gr (of-node (n .node)) o) (mk .above)
             not-new (new h) = omega (arith, h, mk .below, gr₂ .node-count)
         clear gr d₂ κ (inr (inr (c, i, o))) w = tk c i .holds .clear κ o (later-grew W gr .free κ w)
 
@@ -329,7 +320,7 @@ module _ (W : World) where
     unfolding structurize-select rewrite-cases
     structurize-select-post =
         let s₁ : NestState = with-twice (any (meets-in-case (meets (s .region-input-rewrites))) cases) s in
-        let gr₁ : Grew s s₁ = record { outputs = extends-refl (s .node-outputs); rewrites = refl; region-states = refl; regions = omega arith; node-count = omega arith } in
+        let gr₁ : Grew s s₁ = grew-steady .twice _ s in
         bind (select-if (any-non-empty-case cases || any-needs-select (plan-bundles (W .g) cs)) kind sc cases (plan-bundles (W .g) cs) s₁) _
         (select-if-post _ refl s₁ gr₁) λ x s₂ sel.
         bind (replace-inputs cs s₂) _ (replace-inputs-post s₀ r (join ks (x .children)) cs s₂ (sel .doing)

@@ -21,7 +21,7 @@ use Rattle.follows.specs.Small.{or-either}
 use Rattle.follows.specs.Key.{Key, instr-key, is-instr, of-held, of-instr, of-node, of-none, owns-nodes}
 use Rattle.follows.specs.World.{World, size}
 use Rattle.follows.specs.Tables.{gains-refl, tables}
-use Rattle.follows.specs.Invariant.{Free, Inv, Later, New, Owned, Rewritable, idle, is-claimed, new, old, unborn, waiting}
+use Rattle.follows.specs.Invariant.{Free, Inv, Later, New, Owned, Rewritable, idle, is-claimed, new, old, owned-by, unborn, waiting}
 
 module _ (W : World) (s : NestState) (r : ℕ) (x : StructurizeRegionState) (h : Inv W s) (r-in : r < size W) where
   abbrev pub changed : NestState
@@ -45,15 +45,7 @@ module _ (W : World) (s : NestState) (r : ℕ) (x : StructurizeRegionState) (h :
     still q b ks d p = sym (else q (not-r q b ks d p)) ∙ p
 
     pub owned-was : (κ : Key) → Owned changed κ → Owned s κ
-    owned-was κ o = record {
-      region = o .region;
-      back = o .back;
-      children = o .children;
-      deferred-edges = o .deferred-edges;
-      is = still (o .region) (o .back)
-          (o .children) (o .deferred-edges) (o .is);
-      owns = o .owns;
-    }
+    owned-was κ o = owned-by o (still (o .region) (o .back) (o .children) (o .deferred-edges) (o .is))
 
     unclaimed-was : (q : ℕ) → is-claimed (state-of changed q) ≡ false → is-claimed (state-of s q) ≡ false
     unclaimed-was q p = go (eqb q r) refl

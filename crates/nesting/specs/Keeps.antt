@@ -5,10 +5,10 @@ use mathlib.Core.Option.{Option, none, some}
 use Prim.Native.Nat.{ℕ}
 use lib.ListN.{length}
 use lib.Dec.{ltb}
-use Rattle.meaning.specs.Graph.{Value, output, bool, undef, SelectionKind, ControlInst, unreachable, return, exit-invocation, branch, select-branch, Graph, region, pick}
+use Rattle.meaning.specs.Graph.{Value, bool, undef, SelectionKind, ControlInst, unreachable, return, exit-invocation, branch, select-branch, Graph, region, pick}
 use Rattle.meaning.specs.Form.{loop, Nodes, ⟨⟩, _▸_, Cases}
 use Rattle.nesting.specs.Deferred.{LazyCond, undef-cond, false-cond, true-cond, merge, LazyConds, ∅, _&_, DeferredEdgeBundle, DeferredEdgeBundleSet}
-use Rattle.nesting.specs.State.{RegionInputRewrites, replace-with, renumber-or-replace-with, RewriteEntry, NodeOutput, NestState, done, turned-away, Step, give, _>>=_, _>>_}
+use Rattle.nesting.specs.State.{RegionInputRewrites, replace-with, renumber-or-replace-with, RewriteEntry, NodeOutput, NestState, Step, give, _>>=_, _>>_}
 use Rattle.nesting.specs.Change.{with-region, with-node, with-merge, with-rewrites, with-node-outputs, with-twice, define-region, define-node, define-merge, define-output, insert-rewrites}
 use Rattle.nesting.specs.Rewrite.{meets, any, rewrite-values}
 use Rattle.nesting.specs.Cond.{same-values, is-bool-cond, materialize-lazy-cond, materialize-lazy-conds}
@@ -18,7 +18,7 @@ use Rattle.nesting.specs.Select.{meets-in-case, rewrite-cases, case-regi
 use Rattle.nesting.specs.Count.{exit-targets}
 use Rattle.nesting.specs.Loop.{take-inputs, no-inputs, add-exit-edge, structurize-loop}
 use Rattle.nesting.specs.Claim.{claim-body, by-control-inst}
-use Rattle.nesting.specs.Post.{Post, map-post, bind}
+use Rattle.nesting.specs.Post.{Post, bind, map-post, when-room}
 
 -- What structurize-loop answers, once its region, look-ups, condition and node are there.
 abbrev pub loop-claimed : Graph → ℕ → Nodes → DeferredEdgeBundleSet → List Value → ℕ → List Value → Value → ℕ → ClaimedRegion
@@ -60,38 +60,19 @@ module _ {L : NestState → NestState → Type 0} (S : Steady L) (Q : ℕ → Ty
 
   pub define-region-keeps : Keeps define-region
   unfolding define-region
-  define-region-keeps s = go (ltb (s .region-count) 128)
-    where
-      go : (b : Bool) → Post {A = ℕ} Q (λ a s′. L s s′) (elim b [ true ↦ done (s .region-count) (with-region s) | false ↦ turned-away 9 0 ])
-      go true = record { post = S .region s }
-      go false = record { post = q9 }
+  define-region-keeps s = when-room q9 (ltb (s .region-count) 128) _ _ (S .region s)
 
   pub define-node-keeps : Keeps define-node
   unfolding define-node
-  define-node-keeps s = go (ltb (s .node-count) 512)
-    where
-      go : (b : Bool) → Post {A = ℕ} Q (λ a s′. L s s′) (elim b [ true ↦ done (s .node-count) (with-node s) | false ↦ turned-away 9 0 ])
-      go true = record { post = S .node s }
-      go false = record { post = q9 }
+  define-node-keeps s = when-room q9 (ltb (s .node-count) 512) _ _ (S .node s)
 
-  define-merge-keeps : Keeps define-merge
+  pub define-merge-keeps : Keeps define-merge
   unfolding define-merge
-  define-merge-keeps s = go (ltb (s .merge-count) 512)
-    where
-      go : (b : Bool) → Post {A = Unit {0}} Q (λ a s′. L s s′) (elim b [ true ↦ done tt (with-merge s) | false ↦ turned-away 9 0 ])
-      go true = record { post = S .merge s }
-      go false = record { post = q9 }
+  define-merge-keeps s = when-room q9 (ltb (s .merge-count) 512) _ _ (S .merge s)
 
   define-output-keeps : (n type : ℕ) (vs : List Value) → Keeps (define-output n type vs)
   unfolding define-output
-  define-output-keeps n type vs s = go (ltb (length (s .node-outputs)) 512)
-    where
-      new : NodeOutput
-      new = record { node = n; type = type; values = vs }
-
-      go : (b : Bool) → Post {A = Value} Q (λ a s′. L s s′) (elim b [ true ↦ done (output (length (s .node-outputs))) (with-node-outputs (s .node-outputs ++ (new ∷ [])) s) | false ↦ turned-away 9 0 ])
-      go true = record { post = S .output new s }
-      go false = record { post = q9 }
+  define-output-keeps n type vs s = when-room q9 (ltb (length (s .node-outputs)) 512) _ _ (S .output (record { node = n; type = type; values = vs }) s)
 
   pub rewrite-values-keeps : (vs : List Value) → Keeps (rewrite-values vs)
   unfolding rewrite-values

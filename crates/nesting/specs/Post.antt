@@ -1,4 +1,5 @@
 -- What holds of a step's answer: P of what it gives and of the next state, or Q of the number of its refusal.
+use mathlib.Core.Bool.{Bool, true, false}
 use Prim.Native.Nat.{ℕ}
 use Rattle.nesting.specs.State.{NestState, Answer, done, turned-away, Step, follow}
 
@@ -17,3 +18,9 @@ pub bind : {A B : Type 0} {Q : ℕ → Type 0} {P : A → NestState → Type 0} 
     → Post Q P x → ((a : A) (s : NestState) → P a s → Post Q P′ (k a s)) → Post Q P′ (follow x k)
 bind (done a s) k p q = q a s (p .post)
 bind (turned-away refusal word) k p q = record { post = p .post }
+
+-- of what is defined while there is room for it
+pub when-room : {A : Type 0} {Q : ℕ → Type 0} {P : A → NestState → Type 0} → Q 9 → (b : Bool) (a : A) (s : NestState) → P a s
+    → Post {A = A} Q P (elim b [ true ↦ done a s | false ↦ turned-away 9 0 ])
+when-room q true a s p = record { post = p }
+when-room q false a s p = record { post = q }
