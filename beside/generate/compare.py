@@ -4,6 +4,7 @@
 
 SOURCE is the folder of spirt's source files, for tools/beside. Where twice is 0 both must
 print the same; the reading without the mark must print what the Rust prints, always.
+structurize_func must give what the claim gives (of a leftover, line 1).
 """
 
 import collections
@@ -52,27 +53,23 @@ def sheet(record, nesting=Nesting):
         return f"panic {panic}\n", 0
 
 
-def compare(source, made, told):
-    """Count how answers agree; print what should not be."""
-    seen = collections.Counter()
-    for record, answer in zip(made, told):
-        ours, twice = sheet(record)
-        bare, _ = sheet(record, Unmarked)
-        first = ours.split()[0]
-        if first == "refused":
-            first = " ".join(ours.split()[:2])
-        agree = ours == answer
-        seen[f"{first}{' twice' * twice}, {'same' if agree else 'other'}"] += 1
-        if answer.startswith("panic"):
-            seen["the Rust panics"] += 1
-            bare = answer if bare.startswith("panic") else bare
-        if not agree and not twice and first != "refused 9":
-            print("DIFFERS", pack(words_of(record)).hex(), ours, answer, sep="\n")
-            seen["wrong"] += 1
-        if bare != answer:
-            print("UNMARKED DIFFERS", pack(words_of(record)).hex(), bare, answer, sep="\n")
-            seen["wrong without mark"] += 1
-    return seen
+def compare(record, answer, whole):
+    """How the answers to a record agree; prints what should not be."""
+    ours, twice = sheet(record)
+    bare, _ = sheet(record, Unmarked)
+    first = " ".join(ours.split()[:2]) if ours.startswith("refused") else ours.split()[0]
+    theirs = "panic" if answer.startswith("panic") else "same" if ours == answer else "other"
+    if theirs != "same" and not twice and first != "refused 9":
+        wrong("differs", record, ours, answer)
+    if bare != answer:
+        wrong("differs without the mark", record, bare, answer)
+    if whole != (answer.split("\n")[0] + "\n" if answer.startswith("leftover") else answer):
+        wrong("structurize_func differs", record, answer, whole)
+    return f"{first}{' twice' * twice}, {theirs}"
+
+
+def wrong(what, record, *answers):
+    print(what.upper(), pack(words_of(record)).hex(), *answers, sep="\n")
 
 
 def main(source, seed, count):
@@ -82,10 +79,10 @@ def main(source, seed, count):
         some = list(itertools.islice(made, min(5000, count - batch)))
         stores = [pack(words_of(record)) for record in some]
         before = time.time()
-        told = rust(source, stores)
+        told, wholes = rust(source, stores), rust(source, stores, "--func")
         theirs += time.time() - before
-        assert len(told) == len(some)
-        seen += compare(source, some, told)
+        seen.update(map(compare, some, told, wholes))
+        assert len(some) == len(told) == len(wholes)
     for what, times in sorted(seen.items()):
         print(f"{times:8} {what}")
     print(f"{time.time() - start:.0f} s, the Rust {theirs:.0f} s of them")

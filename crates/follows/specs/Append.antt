@@ -1,27 +1,26 @@
 -- A claimed region is put behind the children that lead to it.
-use mathlib.Core.Bool.{false, true}
+use mathlib.Core.Bool.{false}
 use mathlib.Core.List.{List}
-use mathlib.Core.Logic.{_⊎_, inl, inr}
+use mathlib.Core.Logic.{inl, inr}
 use mathlib.Core.Path.{_∙_, _≡_, refl, subst, sym}
 use Prim.Native.Nat.{_<_, ℕ}
 use lib.Dec.{eqb}
 use lib.ListN.{getD}
-use Rattle.nesting.specs.Contexts.{InContext, context-replaced, entry-at}
 use Rattle.meaning.specs.Form.{Nodes}
 use Rattle.meaning.specs.Graph.{Value, input, undef}
 use Rattle.format.specs.ReadLaws.{clash}
+use Rattle.nesting.specs.Contexts.{InContext, context-replaced, entry-at}
 use Rattle.nesting.specs.Case.{Body, ClaimedRegion, MaybeClaimedRegion, append-maybe-claimed-region, deferred-of, err, join, ok}
 use Rattle.nesting.specs.Deferred.{DeferredEdgeBundle, DeferredEdgeBundleSet, LazyCond, false-cond, merge, true-cond, undef-cond}
 use Rattle.nesting.specs.State.{NestState, NodeOutput}
 use Rattle.follows.specs.Small.{or-either, or-right}
-use Rattle.follows.specs.Key.{Key, key, of-node, owns-join, owns-nodes}
+use Rattle.follows.specs.Key.{key, of-node, owns-join, owns-nodes}
 use Rattle.follows.specs.World.{World, ar}
 use Rattle.follows.specs.Tables.{Gains, Resolver, Respects, Tables, entry-law, gains-refl, respects-back, tables}
 use Rattle.follows.specs.Leads.{Leads, Sim, leads-then}
 use Rattle.follows.specs.Defined.{IfDone}
 use Rattle.follows.specs.Scope.{AllScoped, CondOk, EntryOk, InScope, Scoped, SetOk, Within, constant, own-input, owned, scoped-later, within-left, within-right}
-use Rattle.follows.specs.Invariant.{Free}
-use Rattle.follows.specs.Holding.{CaseOk, Doing, Holds, Since}
+use Rattle.follows.specs.Holding.{CaseOk, Doing, Holds, Since, doing-with}
 use Rattle.follows.specs.EnterCase.{Enters, children-in, enter-follows}
 use Rattle.follows.specs.SelectSteps.{Moved, ToRewrite, given, join-nil, rewrite-doing, rewrite-moved}
 
@@ -47,8 +46,7 @@ module _ {T T′ : Tables} {q a r a′ : ℕ} {ks ks′ : Nodes} (gains : Gains 
   entry-through W e h = record {
     fits = h .fits;
     inputs = λ i. scoped-through (getD (e .target-inputs) i (undef 0)) (h .inputs i);
-    condition = cond-through
-        (e .condition) (h .condition);
+    condition = cond-through (e .condition) (h .condition);
   }
 
   pub set-through : (W : World) (d : DeferredEdgeBundleSet) → SetOk W T q a ks d → SetOk W T′ r a′ ks′ d
@@ -67,27 +65,11 @@ module _ (W : World) where
   TailIs s₀ r ks s (err d) = SetOk W (tables s) r (ar W r) ks d
 
   pub with-children : {s₀ s : NestState} {r : ℕ} {ks : Nodes} (c : ClaimedRegion) → Doing W s₀ r ks s → Holds W c s → Since W s₀ c → Doing W s₀ r (join ks (c .children)) s
-  with-children {s₀} {s} {r} {ks} c d h si = record {
-    in-range = d .in-range;
-    inv = d .inv;
-    step = d .step;
-    began = d .began;
-    busy = d .busy;
-    unrewritten = d .unrewritten;
-    since = λ κ o. at κ (whose κ o);
-    clear = λ κ o w. clear κ (whose κ o) w;
-  }
-    where
-      whose : (κ : Key) → owns-nodes (join ks (c .children)) κ ≡ true → (owns-nodes ks κ ≡ true) ⊎ (owns-nodes (c .children) κ ≡ true)
-      whose κ o = or-either (owns-nodes ks κ) (owns-nodes (c .children) κ) (sym (owns-join ks (c .children) κ) ∙ o)
-
-      at : (κ : Key) → (owns-nodes ks κ ≡ true) ⊎ (owns-nodes (c .children) κ ≡ true) → Free s₀ κ
-      at κ (inl o) = d .since κ o
-      at κ (inr o) = si .children κ o
-
-      clear : (κ : Key) → (owns-nodes ks κ ≡ true) ⊎ (owns-nodes (c .children) κ ≡ true) → Free s κ → ⊥
-      clear κ (inl o) w = d .clear κ o w
-      clear κ (inr o) w = h .clear κ o w
+  with-children {ks} c d h si = doing-with W (join ks (c .children)) d λ κ o.
+      elim (or-either (owns-nodes ks κ) (owns-nodes (c .children) κ) (sym (owns-join ks (c .children) κ) ∙ o)) [
+        | inl p ↦ (d .since κ p, d .clear κ p)
+        | inr p ↦ (si .children κ p, h .clear κ p)
+      ]
 
   pub record Appended (s₀ : NestState) (r : ℕ) (ks : Nodes) (c : MaybeClaimedRegion) (s : NestState) (y : Body) (s′ : NestState) : Type 0 where
     pub children-is : y .children ≡ join ks (children-in c)

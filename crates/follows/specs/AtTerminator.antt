@@ -7,12 +7,11 @@ use mathlib.Core.Path.{_∙_, _≡_, ap, refl, sym}
 use Prim.Native.Nat.{_<_, _≤_, suc, zero, ℕ}
 use native.Mathlib.Omega.{arith}
 use lib.ListN.{length, take}
-use Rattle.nesting.specs.Contexts.{no-input, own-in, rooted-ends}
 use Rattle.meaning.specs.Form.{⟨⟩}
 use Rattle.meaning.specs.Graph.{Instr, Value, bool, const, held, input, instr, output, region, undef}
-use Rattle.meaning.specs.GraphRun.{by-terminator}
 use Rattle.meaning.specs.NestedRun.{run-nodes}
 use Rattle.meaning.specs.Run.{End, Event, RunState, Word, put-inputs, word}
+use Rattle.nesting.specs.Contexts.{no-input, own-in, rooted-ends}
 use Rattle.nesting.specs.Blocks.{block-count, blocks-from, blocks-of}
 use Rattle.nesting.specs.BundleSet.{same-target}
 use Rattle.nesting.specs.Case.{MaybeClaimedRegion}
@@ -28,9 +27,9 @@ use Rattle.follows.specs.World.{World, ar, from-region, size}
 use Rattle.follows.specs.Tables.{Gains, Resolver, Respects, Tables, respects-back, tables}
 use Rattle.follows.specs.Frame.{puts-other}
 use Rattle.follows.specs.Conditions.{Mat}
-use Rattle.follows.specs.Leads.{Based, Goes, Leads, OnwardTo, ends-with}
+use Rattle.follows.specs.Leads.{Based, Goes, OnwardTo, ends-with}
 use Rattle.follows.specs.Inputs.{input-numbered, puts-at}
-use Rattle.follows.specs.OwnBlocks.{Agree, stands, usable-reads}
+use Rattle.follows.specs.OwnBlocks.{Agree, usable-reads}
 use Rattle.follows.specs.Bundles.{same-target-self}
 use Rattle.follows.specs.Final.{final-respects, unrewritten-stays}
 use Rattle.follows.specs.Scope.{AllScoped, Scoped, own-input, owned, scoped-const}
@@ -39,21 +38,6 @@ use Rattle.follows.specs.EnterCase.{Enters}
 use Rattle.follows.specs.SelectFollows.{none-owns}
 
 module _ (W : World) where
-  -- ---- the blocks lead to the terminator
-  pub record AtTerminator (r : ℕ) (ρ : Resolver) (n : ℕ) (e : End) (h : List Event) (st : RunState) : Type 0 where
-    pub graph : RunState
-    pub agree : Agree ρ r (ar W r) (total 0 (region (W .g) r .blocks)) graph st
-    pub fewer : ℕ
-    pub is-fewer : fewer < n
-    pub ends : by-terminator (λ x vs h′. from-region W fewer x vs h′) (graph .env) (graph .events) (region (W .g) r .terminator) ≡ ends-with e h
-
-  pub blocks-lead : (r : ℕ) → r < size W → (T : Tables) → Leads W r r (blocks-of (W .g) r) T (λ ρ os n e h st. AtTerminator r ρ n e h st)
-  blocks-lead r r-in T = record {
-    leads = λ ρ os res b n le s w bs lw gv e h gr.
-        let y = stands W r (W .valid .blocks r r-in) ρ os T res b n s w bs lw gv e h gr in
-        rw (y .runs-on) (record { leads-to = record { graph = y .graph; agree = y .agree; fewer = y .fewer; is-fewer = y .is-fewer; ends = y .ends } });
-  }
-
   pub reads-of : (r : ℕ) → r < size W → (ρ : Resolver) (a st : RunState) → Agree ρ r (ar W r) (total 0 (region (W .g) r .blocks)) a st → (vs : List Value)
       → AllUsable r (ar W r) (total 0 (region (W .g) r .blocks)) vs
       → map (a .env) vs ≡ map (λ v. st .env (ρ v)) vs

@@ -11,9 +11,9 @@ use Rattle.meaning.specs.Graph.{Value, Instr}
 use Rattle.meaning.specs.Form.{OutputDecl, Node, block, select, loop, exit, Nodes, ⟨⟩, _▸_, Cases, ∅, case}
 use Rattle.meaning.specs.Run.{Word, word, mark, Rule, RunState, place-taken, do-instr, do-block}
 use Rattle.meaning.specs.NestedRun.{Ran, through, ended, no-end, and-then, tested, once-more, pay, note-over, assign-inputs, assign-outputs, case-count, turns, run-node, run-nodes, run-case, after-last, start, nested-run}
+use Rattle.format.specs.ReadLaws.{clash}
 use Rattle.nesting.specs.Figure.{instr-costs, node-figure, figure}
 use Rattle.nesting.specs.DearestCase.{case-at, dearest-case}
-use Rattle.format.specs.ReadLaws.{clash}
 use Rattle.follows.specs.Statements.{Bounded}
 
 -- From s to t at a cost of at most n, if no loop had passed its limit by t. What passed a limit stays so.

@@ -1,6 +1,6 @@
 -- A region's children after its terminator: nothing, an exit, the one target appended, or a select over the targets.
 use mathlib.Core.Bool.{Bool, false, or-false, true}
-use mathlib.Core.List.{List, [], _∷_, map}
+use mathlib.Core.List.{List, [], _∷_, map, map-map}
 use mathlib.Core.Logic.{_⊎_, inl, inr}
 use mathlib.Core.Option.{none, some}
 use mathlib.Core.Path.{_∙_, _≡_, ap, refl, subst, sym}
@@ -25,20 +25,20 @@ use Rattle.nesting.specs.Post.{bind, map-post}
 use Rattle.nesting.specs.Select.{structurize-select-into}
 use Rattle.nesting.specs.State.{NestState, NodeOutput}
 use Rattle.follows.specs.Usable.{AllUsable, EdgeUsable, EdgesUsable, TerminatorUsable, total}
-use Rattle.follows.specs.Small.{In, map-map, nth, nth-getD}
+use Rattle.follows.specs.Small.{In, nth, nth-getD}
 use Rattle.follows.specs.Key.{Key, owns-join, owns-nodes}
 use Rattle.follows.specs.World.{World, ar, from-region, runs}
 use Rattle.follows.specs.Tables.{Resolver, Respects, tables}
 use Rattle.follows.specs.Leads.{Based, Leads, OnwardTo, Reached, Tracks, ends-with, leads-map, leads-then}
-use Rattle.follows.specs.OwnBlocks.{Agree}
+use Rattle.follows.specs.OwnBlocks.{Agree, AtTerminator, blocks-lead}
 use Rattle.follows.specs.Defined.{IfDone, define-node-post}
 use Rattle.follows.specs.Scope.{EntryOk}
 use Rattle.follows.specs.Invariant.{inv-grew, later-grew}
-use Rattle.follows.specs.Holding.{Came, CaseOk, CasesOk, Doing, doing-on}
+use Rattle.follows.specs.Holding.{Came, CaseOk, CasesOk, Doing, doing-on, doing-with}
 use Rattle.follows.specs.EnterCase.{Takes, children-in}
 use Rattle.follows.specs.Append.{TailIs, append-post, append-sim}
 use Rattle.follows.specs.ConvergentFollows.{structurize-select-into-post}
-use Rattle.follows.specs.AtTerminator.{AtTerminator, EdgeEnters, blocks-lead, one-goes, reads-of, usable-all, usable-scoped}
+use Rattle.follows.specs.AtTerminator.{EdgeEnters, one-goes, reads-of, usable-all, usable-scoped}
 
 pred-below : (n : ℕ) → 1 ≤ n → pred n < n
 pred-below zero le = absurd (omega arith)
@@ -77,7 +77,7 @@ module _ (W : World) where
 
     lead : (Q : Reached W) → ((ρ : Resolver) (os′ : List NodeOutput) → Respects ρ os′ (tables s) → (n : ℕ) (e : End) (h : List Event) (st : RunState) → Based W st
         → AtTerminator W r ρ n e h st → Q ρ os′ n e h st) → Leads W r r ks (tables s) Q
-    lead Q f = leads-map W _ Q (blocks-lead W r (dg .in-range) (tables s)) f
+    lead Q f = leads-map W _ Q (blocks-lead W r (W .valid .blocks r (dg .in-range)) (tables s)) f
 
     unreachable-came : region (W .g) r .terminator ≡ unreachable → Came W s₀ r ks [] s
     unreachable-came p = record {
@@ -134,17 +134,8 @@ module _ (W : World) where
         let dg₁ = doing-on W dg (inv-grew W gr (dg .inv)) (later-grew W gr) in
         record {
           post = record {
-            doing = record {
-              in-range = dg₁ .in-range;
-              inv = dg₁ .inv;
-              step = dg₁ .step;
-              began = dg₁ .began;
-              busy = dg₁ .busy;
-              unrewritten = dg₁ .unrewritten;
-              since = λ v o. dg₁ .since v (exit-owns ks n op vs v o);
-              clear = λ v o. dg₁ .clear v (exit-owns ks n op vs v o);
-            };
-            sim = leads-then W (exit n op vs ▸ ⟨⟩) [] (λ ρ os′ n e h st. AtTerminator W r ρ n e h st) (blocks-lead W r (dg .in-range) (tables s)) (later-grew W gr .gains)
+            doing = doing-with W (join ks (exit n op vs ▸ ⟨⟩)) dg₁ (λ κ o. let q = exit-owns ks n op vs κ o in (dg₁ .since κ q, dg₁ .clear κ q));
+            sim = leads-then W (exit n op vs ▸ ⟨⟩) [] (λ ρ os′ n e h st. AtTerminator W r ρ n e h st) (blocks-lead W r (W .valid .blocks r (dg .in-range)) (tables s)) (later-grew W gr .gains)
                 λ ρ os′ res b k le st bs apart e h at.
                 let both = ends-same (rw p at (at .ends)) in
                 let rd = reads-of W r (dg .in-range) ρ (at .graph) st (at .agree) vs us in

@@ -9,10 +9,10 @@ use native.Mathlib.Omega.{arith}
 use lib.Dec.{eqb, leb}
 use lib.ListN.{List·getD-eq-default, getD, length, length-map}
 use borrow.Author.Tests.{eqb-false, eqb-true, leb-false, leb-true, ne-eqb}
-use Rattle.nesting.specs.Contexts.{InContext, context-replaced, entry-at, open-else, own-in}
 use Rattle.meaning.specs.Form.{Nodes, _▸_, loop, ⟨⟩}
 use Rattle.meaning.specs.Graph.{Value, bool, input, pick, region, undef}
 use Rattle.format.specs.ReadLaws.{clash}
+use Rattle.nesting.specs.Contexts.{InContext, context-replaced, entry-at, open-else, own-in}
 use Rattle.nesting.specs.BundleSet.{get-by-target, is-always, same-target, split-out-target}
 use Rattle.nesting.specs.Case.{ClaimedRegion}
 use Rattle.nesting.specs.Change.{define-node, define-region, set-state, with-twice}
@@ -20,19 +20,19 @@ use Rattle.nesting.specs.Claim.{backedge-of, claim-body, claim-by-state}
 use Rattle.nesting.specs.Cond.{materialize-lazy-cond}
 use Rattle.nesting.specs.Deferred.{DeferredEdgeBundle, DeferredEdgeBundleSet, to-region, true-cond}
 use Rattle.nesting.specs.Fewer.{state-of}
-use Rattle.nesting.specs.Loop.{LoopInputs, structurize-loop, take-inputs}
+use Rattle.nesting.specs.Loop.{LoopInputs, no-inputs, structurize-loop, take-inputs}
 use Rattle.nesting.specs.Post.{bind}
 use Rattle.nesting.specs.Rewrite.{any, meets, rewrite, rewrite-values, rewrites-of, step-input}
 use Rattle.nesting.specs.State.{Answer, InputRewrite, NestState, NodeOutput, Step, _>>_, claimed, give, ready, renumber-or-replace-with, renumber-to, replace-by}
 use Rattle.follows.specs.Small.{In, eqb-self, false-if, or-either}
 use Rattle.follows.specs.Key.{Key, held-key, is-held, of-held, owns-nodes}
 use Rattle.follows.specs.World.{Fits, World, ar, size}
-use Rattle.follows.specs.Tables.{Extends, Resolver, Respects, Tables, entry-law, extends-refl, extends-then, lookup-keeps, respects-back, tables}
+use Rattle.follows.specs.Tables.{Extends, Resolver, Respects, Tables, entry-law, extends-then, lookup-keeps, respects-back, tables}
 use Rattle.follows.specs.Conditions.{Mat, mat-stays}
 use Rattle.follows.specs.Leads.{Sim, leads-on}
 use Rattle.follows.specs.Bundles.{Distinct, find-in, found-in, same-target-sym, same-target→eq}
 use Rattle.follows.specs.LoopFollows.{HeaderInput, loop-sim}
-use Rattle.follows.specs.Defined.{Grew, IfDone, Materialized, define-node-post, define-region-post, grew-then, materialize-post}
+use Rattle.follows.specs.Defined.{Grew, IfDone, Materialized, define-node-post, define-region-post, grew-steady, grew-then, materialize-post}
 use Rattle.follows.specs.Scope.{EntryOk, InScope, SetOk, Within, context-stays, own-input, owned}
 use Rattle.follows.specs.Invariant.{Free, Inv, Later, New, Owned, Rewritable, free⁺, idle, inv-grew, inv-rewrite, later-grew, later-refl, later-rewrite, later-then, new, old, rewritable⁺, rewriting, unborn, waiting}
 use Rattle.follows.specs.StateChanges.{changed, inv-busy, later-busy, new-was, not-r, not-rewritable, now, owned-was, still}
@@ -170,13 +170,13 @@ module _ (W : World) where
         vs = map (rewrite (s₂ .region-input-rewrites)) (e .target-inputs)
 
         abbrev x : LoopInputs
-        x = take-inputs (W .g) r w 0 vs (record { rewrites = []; initial-inputs = []; types = []; outputs = [] })
+        x = take-inputs (W .g) r w 0 vs no-inputs
 
         abbrev s₃ : NestState
         s₃ = with-twice (any (meets (s₂ .region-input-rewrites)) (e .target-inputs)) s₂
 
         gr₃ : Grew s₁ s₃
-        gr₃ = grew-then gr₂ (record { outputs = extends-refl (s₂ .node-outputs); rewrites = refl; region-states = refl; regions = omega arith; node-count = omega arith })
+        gr₃ = grew-then gr₂ (grew-steady .twice _ s₂)
 
         inv₃ : Inv W s₃
         inv₃ = inv-grew W gr₃ inv₁

@@ -7,12 +7,12 @@ use Prim.Native.Nat.{_<_, suc, zero, ℕ}
 use native.Mathlib.Omega.{arith}
 use lib.Dec.{eqb}
 use lib.ListN.{getD, length, length-replicate}
-use Rattle.nesting.specs.Deferred.{DeferredEdgeBundleSet}
 use Rattle.meaning.specs.Form.{Nodes}
-use Rattle.nesting.specs.Func.{initial-state}
-use Rattle.nesting.specs.Contexts.{itself}
 use Rattle.meaning.specs.Graph.{Value, edgesOf, region}
 use Rattle.format.specs.ReadLaws.{clash}
+use Rattle.nesting.specs.Deferred.{DeferredEdgeBundleSet}
+use Rattle.nesting.specs.Func.{initial-state}
+use Rattle.nesting.specs.Contexts.{itself}
 use Rattle.nesting.specs.Blocks.{blocks-of}
 use Rattle.nesting.specs.BundleSet.{count-to}
 use Rattle.nesting.specs.Case.{ClaimedRegion}
@@ -73,8 +73,7 @@ module _ (W : World) where
       record {
         post = (
           inv-ready W s s₄ r (count-to r (y .deferred-edges)) (y .children) (y .deferred-edges) cm₄,
-          later-ready W s s₄ r (count-to r (y .deferred-edges))
-              (y .children) (y .deferred-edges) cm₄,
+          later-ready W s s₄ r (count-to r (y .deferred-edges)) (y .children) (y .deferred-edges) cm₄,
         );
       }
 
@@ -96,8 +95,7 @@ module _ (W : World) where
       record {
         inv = cd .inv;
         step = later-then W st (cd .step);
-        got =
-            record { holds = cd .got .holds; since = since-back W st (cd .got .since); origin = cd .got .origin; inputs = cd .got .inputs };
+        got = record { holds = cd .got .holds; since = since-back W st (cd .got .since); origin = cd .got .origin; inputs = cd .got .inputs };
       }
 
   pub claim-post : (counts : List IncomingEdgeCount) (d : ℕ) → ClaimOk W (try-claim-edge-bundle (W .g) counts d)

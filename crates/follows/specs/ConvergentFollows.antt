@@ -69,7 +69,7 @@ module _ (W : World) where
     all-came x s′ al = subst (λ k. Came W s₀ r k (x .deferred-edges) s′) (sym (al .children-is)) (record
         { doing = al .doing; sim = select-sim W s₀ r ks kind sc cases s dg fit scrutinee-ok x s′ al ld; set = select-set W s₀ r ks kind sc cases s dg fit scrutinee-ok x s′ al })
 
-    module _ (c : MaybeClaimedRegion) (rest : List MaybeClaimedRegion) (cv : Converges W cases c rest) where
+    module _ (c : MaybeClaimedRegion) (rest : List MaybeClaimedRegion) (cv : Converges cases c rest) where
       ok′ : CasesOk W s₀ r ks s rest
       ok′ = record { each = λ x i. each x (cv .from x i); apart = cv .apart (fit .apart) }
         where
@@ -235,5 +235,5 @@ module _ (W : World) where
         by no-one p = map-post (structurize-select (W .g) ks kind sc cases s) (structurize-select-post W s₀ r ks kind sc cases s dg fit) all-came
         by several p = map-post (structurize-select (W .g) ks kind sc cases s) (structurize-select-post W s₀ r ks kind sc cases s dg fit) all-came
         by (exactly-one c rest) p =
-            let cv = converges W cases c rest p in
+            let cv = converges cases c rest p in
             bind (structurize-select (W .g) ks kind sc rest s) _ (structurize-select-post W s₀ r ks kind sc rest s dg (ok′ c rest cv)) λ x s₁ al. append-came c rest cv x s₁ al

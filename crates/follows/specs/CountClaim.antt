@@ -8,7 +8,6 @@ use native.Mathlib.Omega.{arith}
 use lib.ListN.{length, set}
 use lib.Dec.{eqb}
 use borrow.Author.Tests.{eqb-true, eqb-false, eq-eqb}
-use Rattle.follows.specs.Bundles.{found-in}
 use Rattle.meaning.specs.Graph.{Value, Graph, pick}
 use Rattle.meaning.specs.Form.{Nodes}
 use Rattle.format.specs.Read.{isIn}
@@ -27,15 +26,10 @@ use Rattle.nesting.specs.Post.{Post, map-post, bind}
 use Rattle.nesting.specs.Keeps.{loop-claimed, define-region-keeps, define-node-keeps, rewrite-values-keeps, materialize-keeps}
 use Rattle.nesting.specs.Still.{Still, still-refl, still-then, still-steady}
 use Rattle.nesting.specs.Fewer.{state-of, not-begun-one, count-set}
+use Rattle.follows.specs.Bundles.{found-in}
 use Rattle.follows.specs.Totals.{total, at, bundles-to, edges-to, edgeless}
 use Rattle.follows.specs.SplitTotals.{split-total, not-found, no-bundles, exits-bundles, exits-edges, exits-edgeless}
 use Rattle.follows.specs.Counting.{Counting, Nine, busy, many, one, owed-by, held-by, held, owed-set, held-set, held-at, Good, Fine, Inv, Pre, Counted, counted-then, counted-still, inv-set, busy-else, busy-here}
-
-abbrev pub is-new : StructurizeRegionState → Bool
-is-new not-begun = true
-is-new in-progress = false
-is-new claimed = false
-is-new (ready b children d) = false
 
 abbrev SetIs : DeferredEdgeBundleSet → Option ClaimedRegion → Type 0
 SetIs d none = ⊥
@@ -199,7 +193,7 @@ module _ (K : Counting) where
             record { post = not-claimed q n s (omega arith) (pre .inv) }
         go true e = claim-body-counted q n b children d s (pre .inv) in-q p (eqb-true _ _ e) (fine .0) (fine .1) inputs
 
-    pub claim-by-state-counted : (x : StructurizeRegionState) → state-of s q ≡ x → is-new x ≡ false → Post Nine (λ o s′. Claims 0 q n s o s′) (claim-by-state (K .g) q n inputs (K .incoming q) x s)
+    pub claim-by-state-counted : (x : StructurizeRegionState) → state-of s q ≡ x → not-begun-one x ≡ 0 → Post Nine (λ o s′. Claims 0 q n s o s′) (claim-by-state (K .g) q n inputs (K .incoming q) x s)
     claim-by-state-counted not-begun p e = absurd (clash (cc))
     claim-by-state-counted claimed p e =
         let a = held-at K q q (s .region-states) in-q in

@@ -22,13 +22,13 @@ use Rattle.nesting.specs.Select.{structurize-select-into}
 use Rattle.nesting.specs.Claim.{Claim, SplitOut, begin, claim-by-state, by-control-inst, resolve-by, target-regions, split-out-matching, resolve-deferred, structurize-region, try-claim-edge-bundle}
 use Rattle.nesting.specs.Post.{Post, map-post, bind}
 use Rattle.nesting.specs.Still.{still-refl}
-use Rattle.nesting.specs.Fewer.{state-of, not-begun-one, count-set}
+use Rattle.nesting.specs.Fewer.{count-set, not-begun-one, state-of}
 use Rattle.follows.specs.Members.{in-front, in-rest}
 use Rattle.follows.specs.Totals.{total, totals, edges-to, to-regions}
 use Rattle.follows.specs.SplitTotals.{count-total}
 use Rattle.follows.specs.SelectTotals.{select-into-total}
 use Rattle.follows.specs.Counting.{Counting, Nine, busy, many, leaving, owed-by, held-by, held, owed-set, held-set, Good, Pre, Counted, counted-then, counted-as, counted-still, pre-after, pre-as, inv-set, busy-else, busy-here}
-use Rattle.follows.specs.CountClaim.{is-new, edges-self, one-less, claim-by-state-counted}
+use Rattle.follows.specs.CountClaim.{edges-self, one-less, claim-by-state-counted}
 use Rattle.follows.specs.CountScan.{ClaimCounted, aims, AllLive, BodyCounted, ScanCounted, selected-counted, by-control-inst-counted, scan-few, target-regions-counted, split-out-counted}
 
 module _ (K : Counting) where
@@ -47,7 +47,7 @@ module _ (K : Counting) where
 
   pub record Begun (q : ℕ) (f : ℕ → ℕ) (s s′ : NestState) : Type 0 where
     pub step : Counted K 0 0 f f s s′
-    pub old : is-new (state-of s′ q) ≡ false
+    pub old : not-begun-one (state-of s′ q) ≡ 0
 
   module _ (fuel : ℕ) (claim : Claim) (claim-counted : ClaimCounted K fuel claim) where
     pub resolve-counted : (n : ℕ) (x : Body) (H : ℕ → ℕ) (s : NestState) → Good K (x .deferred-edges) → Pre K fuel H (λ r. total (edges-to r) (x .deferred-edges)) s
@@ -149,7 +149,7 @@ module _ (K : Counting) where
                 omega arith;
             stay = λ r. go r (eqb r q) refl;
           };
-          old = ap is-new (getD-set-same (s₁ .region-states) q last not-begun lt-last);
+          old = ap not-begun-one (getD-set-same (s₁ .region-states) q last not-begun lt-last);
         }
           where
             go : (r : ℕ) (b : Bool) → eqb r q ≡ b → busy (getD (set (s₁ .region-states) q last) r not-begun) ≡ busy (state-of s r)
@@ -171,14 +171,14 @@ module _ (K : Counting) where
     begin-counted q n H s in-q pos pre not-begun p =
         map-post _ (structurize-counted q (λ r. edges-to r (to-region q) n + H r) s in-q p (let z = edges-self K q n in omega arith) (pre-as K pre (λ r. edges-to r (to-region q) n + H r) (λ r. 0) (λ r. omega arith) (λ r. omega arith)))
         λ u s′ h. record { step = counted-as K (h .step) 0 0 (λ r. edges-to r (to-region q) n) (λ r. edges-to r (to-region q) n) (omega arith) (λ r. omega arith); old = h .old }
-    begin-counted q n H s in-q pos pre in-progress p = record { post = record { step = counted-still K (still-refl s) (pre .inv) (λ r. omega arith); old = ap is-new p } }
-    begin-counted q n H s in-q pos pre claimed p = record { post = record { step = counted-still K (still-refl s) (pre .inv) (λ r. omega arith); old = ap is-new p } }
-    begin-counted q n H s in-q pos pre (ready b children d) p = record { post = record { step = counted-still K (still-refl s) (pre .inv) (λ r. omega arith); old = ap is-new p } }
+    begin-counted q n H s in-q pos pre in-progress p = record { post = record { step = counted-still K (still-refl s) (pre .inv) (λ r. omega arith); old = ap not-begun-one p } }
+    begin-counted q n H s in-q pos pre claimed p = record { post = record { step = counted-still K (still-refl s) (pre .inv) (λ r. omega arith); old = ap not-begun-one p } }
+    begin-counted q n H s in-q pos pre (ready b children d) p = record { post = record { step = counted-still K (still-refl s) (pre .inv) (λ r. omega arith); old = ap not-begun-one p } }
 
   record Observed (q n : ℕ) (s : NestState) (x : StructurizeRegionState) (s′ : NestState) : Type 0 where
     step : Counted K 0 0 (λ r. edges-to r (to-region q) n) (λ r. edges-to r (to-region q) n) s s′
     is : state-of s′ q ≡ x
-    old : is-new x ≡ false
+    old : not-begun-one x ≡ 0
 
   -- With more fuel than regions not begun: out of fuel and 12 are never answered.
   pub claim-counted : (fuel : ℕ) → ClaimCounted K fuel (try-claim-edge-bundle (K .g) (K .counts) fuel)

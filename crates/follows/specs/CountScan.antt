@@ -27,7 +27,7 @@ use Rattle.follows.specs.Over.{over, over-one, over-add, over-less, over
 use Rattle.follows.specs.Totals.{Measure, total, totals, at, bundles-to, edges-to, to-regions, edgeless, Fits, FitsAll, total-append}
 use Rattle.follows.specs.SelectTotals.{Selected, append-total, select-into-total}
 use Rattle.follows.specs.Counting.{Counting, Nine, many, one, Good, Inv, Pre, Counted, counted-then, counted-as, counted-still, pre-after, pre-as}
-use Rattle.follows.specs.CountClaim.{Claims, GoodClaim, in-hand}
+use Rattle.follows.specs.CountClaim.{Claims, GoodClaim, in-hand, one-less}
 
 module _ (K : Counting) where
   abbrev pub ClaimCounted : ℕ → Claim → Type 0
@@ -131,13 +131,9 @@ module _ (K : Counting) where
   pub scan-few : (d : DeferredEdgeBundleSet) → Fits (one K) d → total to-regions d ≤ many K
   scan-few d h =
       let z = regions-sum d h in
-      let y = over-less (λ i. total (bundles-to i) d) (λ i. 1) (λ i. let a = h i in let b = small (isIn i (K .live)) in omega arith) (K .live) in
+      let y = over-less (λ i. total (bundles-to i) d) (λ i. 1) (λ i. let a = h i in let b = one-less K i in omega arith) (K .live) in
       let x = over-each 1 (K .live) in
       omega arith
-    where
-      small : (b : Bool) → pick b 1 0 ≤ 1
-      small true = omega arith
-      small false = omega arith
 
   abbrev pub scan-gain : Option SplitOut → ℕ
   scan-gain none = 0

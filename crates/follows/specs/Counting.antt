@@ -1,5 +1,5 @@
 -- What is counted while nesting: the attempts that each live region may still cost, and the edges still held for a region.
-use mathlib.Core.Path.{_≡_, refl, sym, ap, _∙_}
+use mathlib.Core.Path.{_≡_, sym, ap, _∙_}
 use mathlib.Core.Bool.{Bool, true, false}
 use mathlib.Core.List.{List}
 use Prim.Native.Nat.{ℕ, _+_, _*_, _≤_, _<_}
@@ -7,7 +7,7 @@ use native.Mathlib.Omega.{arith}
 use lib.ListN.{length, getD, set, length-set}
 use lib.Seq.{getD-set-same, getD-set-other}
 use lib.Dec.{eqb}
-use borrow.Author.Tests.{eqb-true, eqb-false}
+use borrow.Author.Tests.{eqb-false}
 use Rattle.meaning.specs.Graph.{Graph, region, edgesOf, targetsOf, pick}
 use Rattle.format.specs.Read.{isIn}
 use Rattle.format.specs.Valid.{Distinct}
@@ -16,6 +16,7 @@ use Rattle.nesting.specs.State.{StructurizeRegionState, not-begun, in-progress,
 use Rattle.nesting.specs.Count.{times-in, exit-targets}
 use Rattle.nesting.specs.Still.{Still}
 use Rattle.nesting.specs.Fewer.{state-of, not-begun-one, count-states, not-begun-count}
+use Rattle.follows.specs.Small.{at-or-else}
 use Rattle.follows.specs.Over.{over, over-one, over-change}
 use Rattle.follows.specs.Totals.{total, edges-to, edgeless, Fits}
 
@@ -165,11 +166,12 @@ module _ (K : Counting) where
 
   -- ---- a state is set
   pub inv-set : (l : List StructurizeRegionState) (r : ℕ) (x : StructurizeRegionState) → Inv l → r < length l → Fine r x → Inv (set l r x)
-  inv-set l r x i h f = record { length = length-set l r x ∙ i .length; fine = λ j. go j (eqb j r) refl }
-    where
-      go : (j : ℕ) (b : Bool) → eqb j r ≡ b → Fine j (getD (set l r x) j not-begun)
-      go j true p = let e = eqb-true j r p in let z : getD (set l r x) r not-begun ≡ x = getD-set-same l r x not-begun h in rw (e, z) f
-      go j false p = let z : getD (set l r x) j not-begun ≡ getD l j not-begun = getD-set-other l r j x not-begun (eqb-false j r p) in rw z (i .fine j)
+  inv-set l r x i h f = record {
+    length = length-set l r x ∙ i .length;
+    fine = λ j. at-or-else (Fine j (getD (set l r x) j not-begun)) j r
+        (λ e. let z : getD (set l r x) r not-begun ≡ x = getD-set-same l r x not-begun h in rw (e, z) f)
+        (λ ne. let z : getD (set l r x) j not-begun ≡ getD l j not-begun = getD-set-other l r j x not-begun (eqb-false j r ne) in rw z (i .fine j));
+  }
 
 pub busy-else : (l : List StructurizeRegionState) (r : ℕ) (x : StructurizeRegionState) (p : ℕ) → eqb p r ≡ false → busy (getD (set l r x) p not-begun) ≡ busy (getD l p not-begun)
 busy-else l r x p h = ap busy (getD-set-other l r p x not-begun (eqb-false p r h))

@@ -8,9 +8,9 @@ use Prim.Native.Nat.{_≤_, suc, ℕ}
 use native.Mathlib.Omega.{arith}
 use lib.Dec.{ltb}
 use lib.ListN.{length}
-use Rattle.nesting.specs.Keeps.{Steady, define-merge-keeps}
 use Rattle.meaning.specs.Graph.{SelectionKind, Value, bool, bool-cond, number, output, pick}
 use Rattle.format.specs.WellRead.{and-both}
+use Rattle.nesting.specs.Keeps.{Steady, define-merge-keeps}
 use Rattle.nesting.specs.Change.{define-merge, define-node, define-output, define-region}
 use Rattle.nesting.specs.Cond.{is-bool-cond, materialize-lazy-cond, materialize-lazy-conds, same-values}
 use Rattle.nesting.specs.Deferred.{DeferredEdgeBundleSet, LazyCond, LazyConds, _&_, false-cond, merge, true-cond, undef-cond, ∅}
@@ -45,8 +45,7 @@ pub grew-then : {s s′ s″ : NestState} → Grew s s′ → Grew s′ s″ →
 grew-then p q = record {
   outputs = extends-then (p .outputs) (q .outputs);
   rewrites = q .rewrites ∙ p .rewrites;
-  region-states = q .region-states
-      ∙ p .region-states;
+  region-states = q .region-states ∙ p .region-states;
   regions = omega (arith, p .regions, q .regions);
   node-count = omega (arith, p .node-count, q .node-count);
 }

@@ -16,6 +16,7 @@ use Rattle.nesting.specs.Last.{rewrite-nodes}
 use Rattle.nesting.specs.Rewrite.{rewrite, rewrites-of}
 use Rattle.nesting.specs.Select.{rewrite-bundle, rewrite-case}
 use Rattle.nesting.specs.State.{NestState, NodeOutput, RewriteEntry}
+use Rattle.nesting.specs.ChainSteps.{stops-rewrite}
 use Rattle.follows.specs.Small.{In, false-if, from-map, getD-map-in, in-map, nth}
 use Rattle.follows.specs.Key.{Key, key, nodes-none, owns-nodes}
 use Rattle.follows.specs.World.{World, ar, runs}
@@ -23,7 +24,6 @@ use Rattle.follows.specs.Tables.{Resolver, Respects, Tables, tables}
 use Rattle.follows.specs.Conditions.{Mat}
 use Rattle.follows.specs.Leads.{Based, Goes, OnwardTo, Tracks, onward-reads, tracks-less}
 use Rattle.follows.specs.Bundles.{Distinct}
-use Rattle.nesting.specs.ChainSteps.{stops-rewrite}
 use Rattle.follows.specs.Scope.{EntryOk, SetOk, in-apart, scoped-rewritten}
 use Rattle.follows.specs.Holding.{CaseOk}
 
@@ -126,8 +126,7 @@ module _ (W : World) where
           let x = h .entries z i in
           rw p (record {
             fits = rw (length-map (z .target-inputs) (rewrite (T .rewrites))) (x .fits);
-            inputs =
-                λ j. rw (getD-rewritten (T .rewrites) (z .target-inputs) j)
+            inputs = λ j. rw (getD-rewritten (T .rewrites) (z .target-inputs) j)
                 (scoped-rewritten un (getD (z .target-inputs) j (undef 0)) (x .inputs j));
             condition = x .condition;
           })

@@ -23,13 +23,13 @@ use Rattle.nesting.specs.Figure.{figure}
 use Rattle.nesting.specs.Line.{Sheet}
 use Rattle.nesting.specs.Sheet.{sheet-of}
 use Rattle.nesting.specs.Top.{answer}
+use Rattle.nesting.specs.Pack.{store-of-graph}
+use Rattle.nesting.specs.CaseGraphs.{op, A, B}
 use Rattle.follows.specs.Statements.{is-whole, Followed, most-attempts, FewAttempts, SoundSheet}
 use Rattle.follows.specs.Follows.{follows}
 use Rattle.follows.specs.Bounded.{bounded}
 use Rattle.follows.specs.Attempts.{attempts}
 use Rattle.follows.specs.Sound.{sound}
-use Rattle.nesting.specs.Pack.{store-of-graph}
-use Rattle.nesting.specs.CaseGraphs.{op, A, B}
 use Rattle.follows.specs.CaseForms.{A-accepted, A-valid, A-form, A-nested, A-nests, B-accepted, B-valid, B-loop, B-nested, B-nests}
 
 abbrev event : ℕ → ℕ → ℕ → Event

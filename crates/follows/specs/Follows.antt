@@ -2,14 +2,13 @@
 use mathlib.Core.Path.{_≡_, refl, sym, ap, _∙_, subst}
 use mathlib.Core.Logic.{_⊎_, inl, inr}
 use mathlib.Core.Bool.{Bool, true, false}
-use mathlib.Core.List.{List, [], _∷_, map}
+use mathlib.Core.List.{List, [], _∷_, map, map-map}
 use mathlib.Core.Option.{Option, none, some}
 use Prim.Native.Nat.{ℕ, zero, suc, _+_}
 use native.Mathlib.Omega.{arith}
 use lib.ListN.{length, getD}
 use lib.Dec.{eqb}
 use borrow.Author.Tests.{eqb-true}
-use Rattle.nesting.specs.Contexts.{rooted-ends}
 use Rattle.meaning.specs.Graph.{Value, input, Graph, region}
 use Rattle.meaning.specs.Run.{End, returned, Given, RunState, base-env, words-from, entry-words}
 use Rattle.meaning.specs.Form.{Nodes, ⟨⟩}
@@ -17,6 +16,7 @@ use Rattle.meaning.specs.GraphRun.{Ended, run-from, graph-run}
 use Rattle.meaning.specs.NestedRun.{Ran, through, ended, no-end, run-nodes, ended-at, after-last, start, nested-run}
 use Rattle.format.specs.ReadLaws.{clash}
 use Rattle.format.specs.Valid.{Valid}
+use Rattle.nesting.specs.Contexts.{rooted-ends}
 use Rattle.nesting.specs.Deferred.{DeferredTarget, to-region, to-return, DeferredEdgeBundle, DeferredEdgeBundleSet}
 use Rattle.nesting.specs.Nested.{Outcome, untouched, whole, closed, leftover, Nested, NestAnswer, nested}
 use Rattle.nesting.specs.State.{IncomingEdgeCount, StructurizeRegionState, not-begun, in-progress, claimed, ready, NestState, Answer, done, turned-away, give, follow, _>>_, turn-away}
@@ -27,14 +27,14 @@ use Rattle.nesting.specs.Claim.{try-claim-edge-bundle, claim-by-state, claim-bo
 use Rattle.nesting.specs.Count.{incoming-edge-counts}
 use Rattle.nesting.specs.Last.{rewrite-nodes}
 use Rattle.nesting.specs.Func.{initial-state, outcome-of, outcome-by, piece, conclude-by, conclude, structurize-func-by, structurize-func}
+use Rattle.nesting.specs.Post.{bind, map-post}
+use Rattle.nesting.specs.Fewer.{state-of}
 use Rattle.follows.specs.Usable.{arity}
 use Rattle.follows.specs.Reach.{entry-reachable}
 use Rattle.follows.specs.ValidUse.{usable-graph}
 use Rattle.follows.specs.Statements.{is-whole, is-closed, Followed, FollowsRun}
 use Rattle.follows.specs.Statements as statements
-use Rattle.nesting.specs.Post.{bind, map-post}
-use Rattle.nesting.specs.Fewer.{state-of}
-use Rattle.follows.specs.Small.{In, map-map}
+use Rattle.follows.specs.Small.{In}
 use Rattle.follows.specs.Key.{constant-not-input, key, nodes-none, owns-nodes}
 use Rattle.follows.specs.Tables.{Resolver, tables}
 use Rattle.follows.specs.World.{World}

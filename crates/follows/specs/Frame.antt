@@ -1,21 +1,22 @@
 -- A run of rewritten nodes changes the environment only at variables that the nodes own.
 use mathlib.Core.Bool.{Bool, false, true}
-use mathlib.Core.List.{List, [], _∷_, map}
+use mathlib.Core.List.{List, [], _∷_, map, map-map}
 use mathlib.Core.Path.{_∙_, _≡_, ap, refl, sym}
 use Prim.Native.Nat.{_+_, suc, zero, ℕ}
 use native.Mathlib.Omega.{arith}
 use lib.Dec.{eqb, leb}
 use lib.ListN.{getD}
-use borrow.Author.Tests.{eqb-true, ne-eqb}
+use borrow.Author.Tests.{eqb-true}
 use Rattle.meaning.specs.Form.{Cases, Node, Nodes, _▸_, block, case, exit, loop, select, ∅, ⟨⟩}
-use Rattle.meaning.specs.Graph.{Instr, Value, bool, const, held, input, instr, output, pick, sameValue, undef}
+use Rattle.meaning.specs.Graph.{Instr, Value, held, instr, output, pick, sameValue, undef}
 use Rattle.meaning.specs.NestedRun.{Ran, and-then, assign-inputs, assign-outputs, case-count, ended, no-end, note-over, once-more, pay, put-outputs, run-case, run-node, run-nodes, tested, through, turns}
 use Rattle.meaning.specs.Run.{Env, Rule, RunState, Word, do-block, do-instr, mark, place-taken, put, put-inputs, word}
 use Rattle.format.specs.ReadLaws.{clash}
 use Rattle.nesting.specs.Last.{case-outputs, output-decls, outputs-of, rewrite-cases-of, rewrite-node, rewrite-nodes, rewrite-reads}
 use Rattle.nesting.specs.State.{NodeOutput}
-use Rattle.follows.specs.Small.{eqb-less, eqb-self, map-map, or-left, or-right}
-use Rattle.follows.specs.Key.{OutputAt, is-held, is-instr, is-node, key, key-output, of-node, owns, owns-cases, owns-nodes}
+use Rattle.follows.specs.Values.{sameValue→eq}
+use Rattle.follows.specs.Small.{eqb-less, eqb-self, false-if, or-left, or-right}
+use Rattle.follows.specs.Key.{OutputAt, is-held, is-instr, is-node, key, key-output, owns, owns-cases, owns-nodes}
 
 -- ---- one variable is put
 pub put-other : (v u : Value) (w : Word) (σ : Env) → sameValue u v ≡ false → put v w σ u ≡ σ u
@@ -33,34 +34,16 @@ puts-other v u h k (w ∷ ws) σ = puts-other v u h (suc k) ws (put (v k) w σ) 
 
 -- ---- a value of another key is another value
 pub instr-other : (os : List NodeOutput) (r k : ℕ) (u : Value) → is-instr r (key os u) ≡ false → sameValue u (instr r k) ≡ false
-instr-other os r k (instr q i) h = rw h
-instr-other os r k (held q i) h = refl
-instr-other os r k (output o) h = refl
-instr-other os r k (const i) h = refl
-instr-other os r k (input q i) h = refl
-instr-other os r k (bool b) h = refl
-instr-other os r k (undef ty) h = refl
+instr-other os r k u h = false-if _ λ p. let e = sameValue→eq u (instr r k) p in let z : eqb r r ≡ false = rw e at h in clash (cc (eqb-self r))
 
 pub held-other : (os : List NodeOutput) (r k : ℕ) (u : Value) → is-held r (key os u) ≡ false → sameValue u (held r k) ≡ false
-held-other os r k (held q i) h = rw h
-held-other os r k (instr q i) h = refl
-held-other os r k (output o) h = refl
-held-other os r k (const i) h = refl
-held-other os r k (input q i) h = refl
-held-other os r k (bool b) h = refl
-held-other os r k (undef ty) h = refl
+held-other os r k u h = false-if _ λ p. let e = sameValue→eq u (held r k) p in let z : eqb r r ≡ false = rw e at h in clash (cc (eqb-self r))
 
 output-other : {n : ℕ} {os : List NodeOutput} {k : ℕ} {o : NodeOutput} → OutputAt n os k o → (u : Value) → is-node n (key os u) ≡ false → sameValue u (output k) ≡ false
-output-other {n} {os} {k} at-k (output i) h = ne-eqb i k λ e.
-    let z : key os (output i) ≡ of-node n = ap (λ x. key os (output x)) e ∙ key-output at-k in
-    let z′ : eqb n n ≡ false = rw z at h in
+output-other {n} {k} at-k u h = false-if _ λ p.
+    let e = sameValue→eq u (output k) p in
+    let z : eqb n n ≡ false = rw (e, key-output at-k) at h in
     clash (cc (eqb-self n))
-output-other at-k (instr q i) h = refl
-output-other at-k (held q i) h = refl
-output-other at-k (const i) h = refl
-output-other at-k (input q i) h = refl
-output-other at-k (bool b) h = refl
-output-other at-k (undef ty) h = refl
 
 -- ---- the outputs of a node are put
 -- the outputs from number k on
@@ -156,8 +139,7 @@ module _ (rule : Rule) (test : ℕ) (ρ : Value → Value) (os : List NodeOutput
   block-kept : (r : ℕ) → is-instr r (key os u) ≡ false → (k : ℕ) (is : List Instr) (s : RunState) → (do-block rule r k is s) .env u ≡ s .env u
   unfolding do-block do-instr
   block-kept r h k [] s = refl
-  block-kept r h k (i ∷ is) s =
-      block-kept r h (suc k) is (do-instr rule r k i s) ∙ put-other (instr r k) u _ (s .env) (instr-other os r k u h)
+  block-kept r h k (i ∷ is) s = block-kept r h (suc k) is (do-instr rule r k i s) ∙ put-other (instr r k) u _ (s .env) (instr-other os r k u h)
 
   turns-kept : (body : RunState → Ran) → ((s : RunState) → Kept u s (body s)) → (r limit : ℕ) → is-held r (key os u) ≡ false → (vs : List Value) (v : Value)
       (b made : ℕ) (s : RunState) → Kept u s (turns rule test b made body r limit vs v s)

@@ -1,16 +1,15 @@
 -- A region in progress, a claimed region that is held, and the cases of a select.
 -- Doing s₀ r ks s: region r, begun at s₀, has the children ks at s; they own nothing Free at s, and only what was Free at s₀.
 -- Came: and they lead to the deferred edges d, which are in scope. Holds c s: a claimed region, not yet put into place.
-use mathlib.Core.Bool.{Bool, false, true}
-use mathlib.Core.List.{List, [], _∷_}
+use mathlib.Core.Bool.{false, true}
+use mathlib.Core.List.{List}
 use mathlib.Core.Logic.{_⊎_, inl, inr}
 use mathlib.Core.Option.{none}
-use mathlib.Core.Path.{_∙_, _≡_, ap, refl, sym}
+use mathlib.Core.Path.{_∙_, _≡_, ap, sym}
 use Prim.Native.Nat.{_<_, ℕ}
 use native.Mathlib.Omega.{arith}
 use lib.Dec.{eqb}
 use lib.ListN.{length-set}
-use borrow.Author.Tests.{eqb-true}
 use Rattle.meaning.specs.Form.{Nodes}
 use Rattle.format.specs.ReadLaws.{clash}
 use Rattle.nesting.specs.Case.{ClaimedRegion, MaybeClaimedRegion, err, ok}
@@ -18,7 +17,8 @@ use Rattle.nesting.specs.Deferred.{DeferredEdgeBundleSet}
 use Rattle.nesting.specs.Fewer.{state-of}
 use Rattle.nesting.specs.Rewrite.{rewrites-of}
 use Rattle.nesting.specs.State.{NestState, in-progress, not-begun, ready}
-use Rattle.follows.specs.Small.{In, eqb-self}
+use Rattle.follows.specs.ConvergentCase.{Apart}
+use Rattle.follows.specs.Small.{In, at-or-else, eqb-self}
 use Rattle.follows.specs.Key.{Key, of-held, of-instr, of-node, of-none, owns-nodes}
 use Rattle.follows.specs.World.{World, ar, size}
 use Rattle.follows.specs.Tables.{tables}
@@ -26,13 +26,6 @@ use Rattle.follows.specs.Leads.{Sim, leads-on}
 use Rattle.follows.specs.Scope.{AllScoped, SetOk, scoped-later, set-later, within-refl}
 use Rattle.follows.specs.Invariant.{Free, Inv, Later, New, Owned, Rewritable, idle, is-claimed, later-then, new, old, owned-by, unborn, waiting}
 use Rattle.follows.specs.StateChanges.{changed, else, now}
-
-pub at-or-else : (P : Type 0) (q r : ℕ) → (q ≡ r → P) → (eqb q r ≡ false → P) → P
-at-or-else P q r p e = go (eqb q r) refl
-  where
-    go : (o : Bool) → eqb q r ≡ o → P
-    go true x = p (eqb-true q r x)
-    go false x = e x
 
 module _ (W : World) where
   -- region r is in progress with these children, begun at s₀
@@ -64,6 +57,10 @@ module _ (W : World) where
     pub children : (κ : Key) → owns-nodes (c .children) κ ≡ true → Free s₀ κ
     pub region : Rewritable W s₀ (c .structured-body)
 
+  pub doing-closed : {s₀ s : NestState} {r : ℕ} {ks : Nodes} → Doing s₀ r ks s → Rewritable W s r → ⊥
+  doing-closed e (unborn le) = omega (arith, e .inv .room, e .in-range)
+  doing-closed e (waiting lt p) = let z : idle in-progress ≡ true = rw (e .busy) at p in clash (cc)
+
   pub doing-on : {s₀ s s′ : NestState} {r : ℕ} {ks : Nodes} → Doing s₀ r ks s → Inv W s′ → Later W s s′ → Doing s₀ r ks s′
   doing-on {r} d h st = record {
     in-range = d .in-range;
@@ -71,18 +68,23 @@ module _ (W : World) where
     step = later-then W (d .step) st;
     began = d .began;
     busy = st .busy r (d .busy);
-    unrewritten = st .kept r (closed d) (d .unrewritten);
+    unrewritten = st .kept r (doing-closed d) (d .unrewritten);
     since = d .since;
     clear = λ κ o w. d .clear κ o (st .free κ w);
   }
-    where
-      closed : {s₀ s : NestState} {r : ℕ} {ks : Nodes} → Doing s₀ r ks s → Rewritable W s r → ⊥
-      closed e (unborn le) = omega (arith, e .inv .room, e .in-range)
-      closed e (waiting lt p) = let z : idle in-progress ≡ true = rw (e .busy) at p in clash (cc)
 
-  pub doing-closed : {s₀ s : NestState} {r : ℕ} {ks : Nodes} → Doing s₀ r ks s → Rewritable W s r → ⊥
-  doing-closed e (unborn le) = omega (arith, e .inv .room, e .in-range)
-  doing-closed e (waiting lt p) = let z : idle in-progress ≡ true = rw (e .busy) at p in clash (cc)
+  -- with other children, which own nothing Free either
+  pub doing-with : {s₀ s : NestState} {r : ℕ} {ks : Nodes} (ks′ : Nodes) → Doing s₀ r ks s → ((κ : Key) → owns-nodes ks′ κ ≡ true → Free s₀ κ × (Free s κ → ⊥)) → Doing s₀ r ks′ s
+  doing-with ks′ d f = record {
+    in-range = d .in-range;
+    inv = d .inv;
+    step = d .step;
+    began = d .began;
+    busy = d .busy;
+    unrewritten = d .unrewritten;
+    since = λ κ o. f κ o .0;
+    clear = λ κ o. f κ o .1;
+  }
 
   pub holds-on : {c : ClaimedRegion} {s s′ : NestState} → Holds c s → Later W s s′ → Holds c s′
   holds-on {c} h st = record {
@@ -111,12 +113,6 @@ module _ (W : World) where
   pub record CaseOk (s₀ : NestState) (r : ℕ) (ks : Nodes) (s : NestState) (c : MaybeClaimedRegion) : Type 0 where
     pub is : CaseIs s₀ r ks s c
 
-  -- the claimed regions are distinct
-  abbrev pub Apart : List MaybeClaimedRegion → Type 0
-  Apart [] = Unit
-  Apart (err d ∷ cs) = Apart cs
-  Apart (ok c ∷ cs) = ((c′ : ClaimedRegion) → In (ok c′) cs → eqb (c′ .structured-body) (c .structured-body) ≡ false) × Apart cs
-
   pub record CasesOk (s₀ : NestState) (r : ℕ) (ks : Nodes) (s : NestState) (cs : List MaybeClaimedRegion) : Type 0 where
     pub each : (c : MaybeClaimedRegion) → In c cs → CaseOk s₀ r ks s c
     pub apart : Apart cs
@@ -125,8 +121,7 @@ module _ (W : World) where
   claimed-on {ks} h st = record {
     holds = holds-on (h .holds) st;
     since = h .since;
-    inputs = λ i. scoped-later (st .gains) (within-refl ks)
-        (h .inputs i);
+    inputs = λ i. scoped-later (st .gains) (within-refl ks) (h .inputs i);
     other = h .other;
     apart = h .apart;
   }

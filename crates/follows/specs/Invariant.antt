@@ -11,10 +11,10 @@ use Prim.Native.Nat.{_<_, _≤_, ℕ}
 use native.Mathlib.Omega.{arith}
 use lib.Dec.{eqb}
 use lib.ListN.{getD, length}
-use Rattle.nesting.specs.ChainEnds.{Gives}
-use Rattle.nesting.specs.Contexts.{InContext, Rooted, open-else, rooted-add}
 use Rattle.meaning.specs.Form.{Nodes}
 use Rattle.meaning.specs.Graph.{Value, region}
+use Rattle.nesting.specs.ChainEnds.{Gives}
+use Rattle.nesting.specs.Contexts.{InContext, Rooted, open-else, rooted-add}
 use Rattle.nesting.specs.Change.{with-rewrites}
 use Rattle.nesting.specs.Deferred.{DeferredEdgeBundleSet}
 use Rattle.nesting.specs.Fewer.{state-of}
@@ -68,8 +68,9 @@ module _ (W : World) where
     unborn : s .region-count ≤ q → Rewritable s q
     waiting : q < size W → idle (state-of s q) ≡ true → Rewritable s q
 
-  -- Every region's inputs lead to those of one without rewrites, so look-ups end; a Ready region's children follow the graph, its deferred edges are in scope; the children of two Ready regions
-  -- own nothing in common, and nothing New; what is Rewritable has no rewrites.
+  -- Every region's inputs lead to those of one without rewrites, so look-ups end; a Ready region's children follow the graph, its
+  -- deferred edges are in scope; the children of two Ready regions own nothing in common, and nothing New; what is Rewritable has
+  -- no rewrites.
   pub record Inv (s : NestState) : Type 0 where
     pub rooted : (r : ℕ) → Rooted (s .region-input-rewrites) r
     pub sized : length (s .region-states) ≡ size W

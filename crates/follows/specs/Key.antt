@@ -49,23 +49,20 @@ is-constant (held r k) = false
 is-constant (instr r k) = false
 is-constant (output o) = false
 
+pub constant-by : (P : Value → Type 0) → ((i : ℕ) → P (const i)) → ((b : Bool) → P (bool b)) → ((ty : ℕ) → P (undef ty)) → (v : Value) → is-constant v ≡ true → P v
+constant-by P c b u (const i) h = c i
+constant-by P c b u (bool x) h = b x
+constant-by P c b u (undef ty) h = u ty
+constant-by P c b u (input q k) h = absurd (clash (cc))
+constant-by P c b u (held q k) h = absurd (clash (cc))
+constant-by P c b u (instr q k) h = absurd (clash (cc))
+constant-by P c b u (output o) h = absurd (clash (cc))
+
 pub key-constant : (os : List NodeOutput) (v : Value) → is-constant v ≡ true → key os v ≡ of-none
-key-constant os (const i) h = refl
-key-constant os (bool x) h = refl
-key-constant os (undef ty) h = refl
-key-constant os (input q k) h = refl
-key-constant os (held q k) h = absurd (clash (cc))
-key-constant os (instr q k) h = absurd (clash (cc))
-key-constant os (output o) h = absurd (clash (cc))
+key-constant os v h = constant-by (λ u. key os u ≡ of-none) (λ i. refl) (λ b. refl) (λ ty. refl) v h
 
 pub constant-not-input : (x : ℕ) (v : Value) → is-constant v ≡ true → (k : ℕ) → sameValue v (input x k) ≡ false
-constant-not-input x (const i) c k = refl
-constant-not-input x (bool y) c k = refl
-constant-not-input x (undef ty) c k = refl
-constant-not-input x (input q i) c k = cc
-constant-not-input x (held q i) c k = cc
-constant-not-input x (instr q i) c k = cc
-constant-not-input x (output o) c k = cc
+constant-not-input x v h k = constant-by (λ u. sameValue u (input x k) ≡ false) (λ i. refl) (λ b. refl) (λ ty. refl) v h
 
 -- ---- one key
 abbrev pub is-instr : ℕ → Key → Bool

@@ -3,17 +3,17 @@ use mathlib.Core.Bool.{Bool, false, true}
 use mathlib.Core.List.{List, [], _++_, _∷_, map}
 use mathlib.Core.Logic.{_⊎_, inl, inr}
 use mathlib.Core.Path.{_∙_, _≡_, ap, refl, subst, sym}
+use mathlib.Core.Option.{none}
 use Prim.Native.Nat.{_<_, _≤_, suc, zero, ℕ}
 use native.Mathlib.Omega.{arith}
 use lib.Dec.{leb}
 use lib.ListN.{getD, length, length-map}
-use mathlib.Core.Option.{none}
-use Rattle.nesting.specs.Contexts.{entry-at}
 use Rattle.meaning.specs.Form.{Nodes, _▸_, loop, ⟨⟩}
 use Rattle.meaning.specs.Graph.{Value, bool, input, undef}
 use Rattle.meaning.specs.NestedRun.{Ran, assign-inputs, ended, no-end, note-over, pay, run-nodes, through, turns}
 use Rattle.meaning.specs.Run.{End, Event, RunState, Word, mark, word}
 use Rattle.meaning.specs.RunLaws.{inputs-at-once, last-turn, next-turn}
+use Rattle.nesting.specs.Contexts.{entry-at}
 use Rattle.nesting.specs.BundleSet.{same-target}
 use Rattle.nesting.specs.Deferred.{DeferredEdgeBundle, DeferredEdgeBundleSet, to-region}
 use Rattle.nesting.specs.Last.{rewrite-nodes}

@@ -7,15 +7,14 @@ use Prim.Native.Nat.{_+_, _<_, suc, ℕ}
 use native.Mathlib.Omega.{arith}
 use lib.Dec.{eqb}
 use lib.ListN.{List·getD-append, getD, length, length-append}
-use borrow.Author.Tests.{eqb-true}
+use borrow.Author.Tests.{eqb-false, eqb-true}
 use Rattle.meaning.specs.Graph.{Graph, Value, input, pick, region, sameValue, undef}
 use Rattle.format.specs.Read.{isIn}
-use Rattle.format.specs.ReadLaws.{clash}
 use Rattle.nesting.specs.BundleSet.{same-target, split-out-target}
 use Rattle.nesting.specs.Deferred.{DeferredEdgeBundle, DeferredEdgeBundleSet, DeferredTarget, to-region, to-return}
-use Rattle.nesting.specs.Loop.{LoopInputs, add-exit-edge, keep-input, lift-input, take-input, take-inputs}
+use Rattle.nesting.specs.Loop.{LoopInputs, add-exit-edge, keep-input, lift-input, no-inputs, take-input, take-inputs}
 use Rattle.nesting.specs.State.{InputRewrite, renumber-to, replace-by}
-use Rattle.follows.specs.Small.{In, eqb-self, from-map, in-map}
+use Rattle.follows.specs.Small.{In, from-map, in-map}
 use Rattle.follows.specs.Bundles.{Distinct, distinct-split-out, from-split-out, in-split-out}
 use Rattle.follows.specs.Values.{sameValue→eq}
 
@@ -34,8 +33,7 @@ same-bundle xs e = go (e .target) refl
           | to-region r ↦
               record {
                 target = to-region r;
-                accumulated-count = pick (isIn r xs) (suc (e .accumulated-count))
-                    (e .accumulated-count);
+                accumulated-count = pick (isIn r xs) (suc (e .accumulated-count)) (e .accumulated-count);
                 target-inputs = e .target-inputs;
                 condition = e .condition;
               }
@@ -112,14 +110,11 @@ module _ (g : Graph) where
               (x .rewrites) sl (renumber-to k) in
               rw i-k (subst (λ sl′. KeptOrLifted r w all x′ k sl′) (sym (ap (λ l. getD l k (renumber-to k)) p ∙ z)) here)
           by false e =
-              let lt′ : i < k = below i k lt e in
+              let lt′ : i < k = let ne : i ≢ k = eqb-false i k e in omega arith in
               let z : getD (x .rewrites ++ (sl ∷ [])) i (renumber-to i) ≡ getD (x .rewrites) i (renumber-to i) = List·getD-append (x .rewrites) (sl ∷ [])
               (renumber-to i) i (omega (arith, h .many)) in
               subst (λ sl′. KeptOrLifted r w all x′ i sl′) (sym (ap (λ l. getD l i (renumber-to i)) p ∙ z))
               (good-more r w all x x′ a b q q′ i (getD (x .rewrites) i (renumber-to i)) (h .good i lt′))
-            where
-              below : (i k : ℕ) → i < suc k → eqb i k ≡ false → i < k
-              below i k l ne = let z : i ≢ k = λ q. let y : eqb i k ≡ true = rw q (eqb-self k) in let z′ : true ≡ false = sym y ∙ ne in clash (cc) in omega arith
 
       len : (sl : InputRewrite) → length (x .rewrites ++ (sl ∷ [])) ≡ suc k
       len sl = length-append (x .rewrites) (sl ∷ []) ∙ omega (arith, h .many)
@@ -153,7 +148,7 @@ module _ (g : Graph) where
       let here : getD all k (undef 0) ≡ v = ap (λ n. getD all n (undef 0)) (sym z₀) ∙ at 0 in
       rw z (all-renumbered r w all (suc k) vs (take-input g r w k v x) (λ j. let y : suc k + j ≡ k + suc j = omega arith in rw y (at (suc j))) (one-more-input r w all k v x here h))
 
-  pub renumbered : (r w : ℕ) (vs : List Value) → Renumbered r w vs (length vs) (take-inputs g r w 0 vs (record { rewrites = []; initial-inputs = []; types = []; outputs = [] }))
-  renumbered r w vs = let z : 0 + length vs ≡ length vs = omega arith in rw z at (all-renumbered r w vs 0 vs
-      (record { rewrites = []; initial-inputs = []; types = []; outputs = [] }) (λ j. let y : 0 + j ≡ j = omega arith in rw y)
-      (record { many = refl; even = refl; good = λ k lt. absurd (omega arith) }))
+  pub renumbered : (r w : ℕ) (vs : List Value) → Renumbered r w vs (length vs) (take-inputs g r w 0 vs no-inputs)
+  renumbered r w vs =
+      let z : 0 + length vs ≡ length vs = omega arith in
+      rw z at (all-renumbered r w vs 0 vs no-inputs (λ j. let y : 0 + j ≡ j = omega arith in rw y) (record { many = refl; even = refl; good = λ k lt. absurd (omega arith) }))

@@ -7,13 +7,12 @@ use Prim.Native.Nat.{_+_, _<_, suc, zero, ℕ}
 use native.Mathlib.Omega.{arith}
 use lib.Dec.{eqb}
 use lib.ListN.{length, take}
-use borrow.Author.Tests.{eqb-true}
+use borrow.Author.Tests.{eqb-false, eqb-true}
 use Rattle.meaning.specs.Form.{Nodes}
 use Rattle.meaning.specs.Graph.{Instr, Value, bool, const, held, input, instr, output, region, sameValue, undef}
 use Rattle.meaning.specs.GraphRun.{by-terminator, enter, run-from}
 use Rattle.meaning.specs.NestedRun.{run-nodes, through}
 use Rattle.meaning.specs.Run.{End, Env, Event, Rule, RunState, Word, do-block, do-blocks, do-instr, put, put-inputs, word32}
-use Rattle.format.specs.ReadLaws.{clash}
 use Rattle.nesting.specs.Blocks.{block-count, blocks-from, blocks-of}
 use Rattle.nesting.specs.Last.{rewrite-nodes, rewrite-reads}
 use Rattle.nesting.specs.State.{NodeOutput}
@@ -23,7 +22,7 @@ use Rattle.follows.specs.Key.{is-constant, is-instr, key, nodes-none, ow
 use Rattle.follows.specs.World.{World, ar, from-region, runs}
 use Rattle.follows.specs.Tables.{Resolver, Respects, Tables}
 use Rattle.follows.specs.Frame.{instr-other, put-other, put-same, puts-other}
-use Rattle.follows.specs.Leads.{Based, InputsAre, ends-with, none-run, read}
+use Rattle.follows.specs.Leads.{Based, InputsAre, Leads, LeadsTo, ends-with, none-run, read}
 use Rattle.follows.specs.Inputs.{input-numbered, puts-at}
 
 -- the two environments agree on what the region may use
@@ -39,8 +38,7 @@ module _ (rule : Rule) (ρ : Resolver) (on-instr : (q k : ℕ) → ρ (instr q k
   reads-agree k a s ag (v ∷ vs) (h, hs) = let p = ag .reads v h in let q = reads-agree k a s ag vs hs in cc
 
   elsewhere : (k : ℕ) (w : Word) (σ τ : Env) (v : Value) → Usable r ar 0 v → sameValue v (instr r k) ≡ false → σ v ≡ τ (ρ v) → put (instr r k) w σ v ≡ put (instr r k) w τ (ρ v)
-  elsewhere k w σ τ v h ne p =
-      put-other (instr r k) v w σ ne ∙ p ∙ sym (put-other (instr r k) (ρ v) w τ (instr-other os r k (ρ v) (apart v h)))
+  elsewhere k w σ τ v h ne p = put-other (instr r k) v w σ ne ∙ p ∙ sym (put-other (instr r k) (ρ v) w τ (instr-other os r k (ρ v) (apart v h)))
 
   put-agree : (k : ℕ) (w : Word) (σ τ : Env) → ((v : Value) → Usable r ar k v → σ v ≡ τ (ρ v)) → (v : Value) → Usable r ar (suc k) v
       → put (instr r k) w σ v ≡ put (instr r k) w τ (ρ v)
@@ -60,7 +58,7 @@ module _ (rule : Rule) (ρ : Resolver) (on-instr : (q k : ℕ) → ρ (instr q k
           let i-k : i ≡ k = eqb-true i k e in
           rw i-k (put-same (instr r k) w σ (rw (eqb-self r) (eqb-self k)) ∙ sym (put-same (instr r k) w τ (rw (eqb-self r) (eqb-self k))))
       go false e =
-          let ne : i ≢ k = λ p. let z : eqb i k ≡ true = rw p (eqb-self k) in clash (cc) in
+          let ne : i ≢ k = eqb-false i k e in
           put-other (instr r k) (instr r i) w σ (here ∙ e) ∙ h (instr r i) (refl, omega arith) ∙ ap τ (on-instr r i) ∙ sym (put-other (instr r k) (instr r i) w τ (here ∙ e))
 
   instr-agree : (k : ℕ) (i : Instr) (a s : RunState) → AllUsable r ar k (i .reads) → Agree ρ r ar k a s
@@ -99,6 +97,14 @@ module _ (rule : Rule) (ρ : Resolver) (on-instr : (q k : ℕ) → ρ (instr q k
       (block-agree rule ρ on-instr r ar os apart′ k x a s u ag) in
       record { state = y .state; runs-on = y .runs-on; agree = y .agree }
 
+-- After its blocks the graph's run stands at its terminator, in a state that agrees.
+pub record AtTerminator (W : World) (r : ℕ) (ρ : Resolver) (n : ℕ) (e : End) (h : List Event) (st : RunState) : Type 0 where
+  pub graph : RunState
+  pub agree : Agree ρ r (ar W r) (total 0 (region (W .g) r .blocks)) graph st
+  pub fewer : ℕ
+  pub is-fewer : fewer < n
+  pub ends : by-terminator (λ x vs h′. from-region W fewer x vs h′) (graph .env) (graph .events) (region (W .g) r .terminator) ≡ ends-with e h
+
 module _ (W : World) (r : ℕ)
     (usable : BlocksUsable r (ar W r) 0 (region (W .g) r .blocks)) where
   abbrev many : ℕ
@@ -136,34 +142,19 @@ module _ (W : World) (r : ℕ)
   apart ρ os T res s w lw ks gv (instr q i) h = absurd (omega (arith, h .1))
   apart ρ os T res s w lw ks gv (input q i) h = rw (h .0) (gv .apart i (omega (arith, h .1, lw)))
 
-  -- after the blocks the graph's run stands at its terminator, in a state that agrees
-  pub record Stands (ρ : Resolver) (os : List NodeOutput) (b n : ℕ) (w : List Word) (s : RunState) (e : End) (h : List Event) : Type 0 where
-    pub graph : RunState
-    pub nested : RunState
-    pub runs-on : runs W b (rewrite-nodes ρ os (blocks-of (W .g) r)) s ≡ through nested
-    pub agree : Agree ρ r many (total 0 blocks) graph nested
-    pub fewer : ℕ
-    pub is-fewer : fewer < n
-    pub ends : by-terminator (λ t vs h′. from-region W fewer t vs h′) (graph .env) (graph .events) (region (W .g) r .terminator) ≡ ends-with e h
-
-  pub stands : (ρ : Resolver) (os : List NodeOutput) (T : Tables) → Respects ρ os T → (b n : ℕ) (s : RunState) (w : List Word) → Based W s → length w ≡ many
-      → InputsAre ρ os r (blocks-of (W .g) r) w s
-      → (e : End) (h : List Event) → from-region W n r w (s .events) ≡ ends-with e h → Stands ρ os b n w s e h
+  stands : (ρ : Resolver) (os : List NodeOutput) (T : Tables) → Respects ρ os T → (b n : ℕ) (s : RunState) (w : List Word) → Based W s → length w ≡ many
+      → InputsAre ρ os r (blocks-of (W .g) r) w s → (e : End) (h : List Event) → from-region W n r w (s .events) ≡ ends-with e h
+      → LeadsTo W (AtTerminator W r ρ n e h) e h (runs W b (rewrite-nodes ρ os (blocks-of (W .g) r)) s)
   unfolding run-from
   stands ρ os T res b zero s w bs lw gv e h gr = absurd (none-run W r w (s .events) e h gr)
   stands ρ os T res b (suc n) s w bs lw gv e h gr =
+      let a : RunState = enter (W .rule) (W .g) (W .base) r w (s .events) in
       let y = blocks-agree (W .rule) ρ (res .on-instr) r many os (W .g .test-cost) b (block-count (take r (W .g .regions))) 0 blocks (apart ρ os T res s w lw (blocks-of (W .g) r) gv)
-      (enter (W .rule) (W .g) (W .base) r w (s .events)) s usable (begin ρ os T res s w bs lw (blocks-of (W .g) r) gv) in
-      record {
-        graph = do-blocks (W .rule) r 0 blocks
-            (enter (W .rule) (W .g) (W .base) r w (s .events));
-        nested = y .state;
-        runs-on = y .runs-on;
-        agree = y .agree;
-        fewer = n;
-        is-fewer = omega arith;
-        ends = gr;
-      }
+      a s usable (begin ρ os T res s w bs lw (blocks-of (W .g) r) gv) in
+      rw (y .runs-on) (record { leads-to = record { graph = do-blocks (W .rule) r 0 blocks a; agree = y .agree; fewer = n; is-fewer = omega arith; ends = gr } })
+
+  pub blocks-lead : (T : Tables) → Leads W r r (blocks-of (W .g) r) T (λ ρ os n e h st. AtTerminator W r ρ n e h st)
+  blocks-lead T = record { leads = λ ρ os res b n le s w bs lw gv e h gr. stands ρ os T res b n s w bs lw gv e h gr }
 
   pub usable-reads : (ρ : Resolver) (k : ℕ) (a s : RunState) → Agree ρ r many k a s → (vs : List Value) → AllUsable r many k vs → map (a .env) vs ≡ read ρ s vs
   usable-reads ρ k a s ag [] h = refl

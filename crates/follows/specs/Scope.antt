@@ -3,21 +3,20 @@ use mathlib.Core.Bool.{Bool, false, or-true, true}
 use mathlib.Core.List.{List, [], _∷_, map}
 use mathlib.Core.Logic.{inl, inr}
 use mathlib.Core.Path.{_∙_, _≡_, refl, subst, sym}
+use mathlib.Core.Option.{none}
 use Prim.Native.Nat.{_<_, suc, ℕ}
 use lib.ListN.{getD, length}
-use mathlib.Core.Option.{none}
+use Rattle.meaning.specs.Form.{Nodes}
+use Rattle.meaning.specs.Graph.{Value, bool, input, output, undef}
+use Rattle.meaning.specs.Run.{End, Event, RunState}
 use Rattle.nesting.specs.ChainEnds.{names}
 use Rattle.nesting.specs.Contexts.{InContext, context-more, context-rewritten, no-input}
-use Rattle.meaning.specs.Form.{Nodes}
-use Rattle.meaning.specs.Graph.{Value, bool, const, held, input, instr, output, undef}
-use Rattle.meaning.specs.Run.{End, Event, RunState}
-use Rattle.format.specs.ReadLaws.{clash}
 use Rattle.nesting.specs.Case.{join}
 use Rattle.nesting.specs.Deferred.{DeferredEdgeBundle, DeferredEdgeBundleSet, DeferredTarget, LazyCond, false-cond, merge, true-cond, undef-cond}
 use Rattle.nesting.specs.Rewrite.{rewrite, rewrites-of}
 use Rattle.nesting.specs.State.{NodeOutput, RewriteEntry}
 use Rattle.follows.specs.Small.{In}
-use Rattle.follows.specs.Key.{Key, OutputAt, is-constant, key, key-constant, key-output, of-node, of-none, owns-join, owns-nodes}
+use Rattle.follows.specs.Key.{Key, OutputAt, constant-by, is-constant, key, key-constant, key-output, of-node, of-none, owns-join, owns-nodes}
 use Rattle.follows.specs.World.{Fits, World}
 use Rattle.follows.specs.Tables.{Extends, Gains, Resolver, Respects, Tables, lookup-keeps, respects-back, stays}
 use Rattle.follows.specs.Conditions.{Mat, mat-stays}
@@ -72,25 +71,10 @@ scoped-later {q} {a} {ks} {ks′} {v} p w h = record { scoped = λ ρ os res. go
     go ρ os (owned x) = owned (w .into (key os (ρ v)) x)
 
 constant-stays : {ρ : Resolver} {os : List NodeOutput} {T : Tables} → Respects ρ os T → (v : Value) → is-constant v ≡ true → is-constant (ρ v) ≡ true
-constant-stays res (const i) h = rw (res .on-const i)
-constant-stays res (bool b) h = rw (res .on-bool b)
-constant-stays res (undef ty) h = rw (res .on-undef ty)
-constant-stays res (input r k) h = absurd (clash (cc))
-constant-stays res (held r k) h = absurd (clash (cc))
-constant-stays res (instr r k) h = absurd (clash (cc))
-constant-stays res (output k) h = absurd (clash (cc))
-
-constant-names : (v : Value) → is-constant v ≡ true → names v ≡ none
-constant-names (const i) h = refl
-constant-names (bool b) h = refl
-constant-names (undef ty) h = refl
-constant-names (input r k) h = absurd (clash (cc))
-constant-names (held r k) h = absurd (clash (cc))
-constant-names (instr r k) h = refl
-constant-names (output k) h = refl
+constant-stays {ρ} res v h = constant-by (λ u. is-constant (ρ u) ≡ true) (λ i. rw (res .on-const i)) (λ b. rw (res .on-bool b)) (λ ty. rw (res .on-undef ty)) v h
 
 pub scoped-const : {T : Tables} {q a : ℕ} {ks : Nodes} (v : Value) → is-constant v ≡ true → Scoped T q a ks v
-scoped-const v c = record { scoped = λ ρ os res. constant (constant-stays res v c); context = no-input v (constant-names v c) }
+scoped-const v c = record { scoped = λ ρ os res. constant (constant-stays res v c); context = no-input v (constant-by (λ u. names u ≡ none) (λ i. refl) (λ b. refl) (λ ty. refl) v c) }
 
 pub scoped-output : {T : Tables} {q a : ℕ} {ks : Nodes} {n k : ℕ} {o : NodeOutput} → OutputAt n (T .outputs) k o → owns-nodes ks (of-node n) ≡ true → Scoped T q a ks (output k)
 scoped-output {k} at-k p = record { scoped = λ ρ os res. owned (rw (res .on-output k, key-output (stays (res .outputs) at-k)) p); context = no-input (output k) refl }

@@ -9,11 +9,11 @@ use native.Mathlib.Omega.{arith}
 use lib.Dec.{eqb}
 use lib.ListN.{getD}
 use borrow.Author.Tests.{eqb-false}
-use Rattle.nesting.specs.ChainEnds.{Gives}
-use Rattle.nesting.specs.Contexts.{InContext, entry-at, open-else}
 use Rattle.meaning.specs.Form.{Cases, Nodes, _▸_, select, ⟨⟩}
 use Rattle.meaning.specs.Graph.{SelectionKind, Value, input, undef}
 use Rattle.format.specs.ReadLaws.{clash}
+use Rattle.nesting.specs.ChainEnds.{Gives}
+use Rattle.nesting.specs.Contexts.{InContext, entry-at, open-else}
 use Rattle.nesting.specs.Case.{Body, ClaimedRegion, MaybeClaimedRegion, Scrutinee, err, join, ok}
 use Rattle.nesting.specs.Change.{with-twice}
 use Rattle.nesting.specs.Deferred.{DeferredEdgeBundleSet}
@@ -22,6 +22,7 @@ use Rattle.nesting.specs.Post.{bind, map-post}
 use Rattle.nesting.specs.Rewrite.{any, meets, rewrite, rewrites-of}
 use Rattle.nesting.specs.Select.{DefinedSelect, define-select, emit, meets-in-case, replace-inputs, rewrite-case, rewrite-cases, rewrite-claimed, select-if, shared-bundle, structurize-select}
 use Rattle.nesting.specs.State.{NestState, NodeOutput, replace-with}
+use Rattle.follows.specs.ConvergentCase.{Apart}
 use Rattle.follows.specs.Small.{In, from-map, in-map, or-either, or-left, or-right}
 use Rattle.follows.specs.Key.{Key, is-node, node-key, of-node, owns-cases, owns-join, owns-nodes}
 use Rattle.follows.specs.World.{World, ar}
@@ -31,7 +32,7 @@ use Rattle.follows.specs.Planned.{EmitsAll}
 use Rattle.follows.specs.Defined.{Grew, IfDone, emit-post, grew-steady, grew-then}
 use Rattle.follows.specs.Scope.{AllScoped, Within, scoped-later, scoped-rewritten, set-later, within-left, within-refl}
 use Rattle.follows.specs.Invariant.{Free, Later, Rewritable, free⁺, inv-grew, inv-rewrite, later-grew, later-rewrite, new, old, owned-same, rewritable⁺, rewrite-gains, rewriting}
-use Rattle.follows.specs.Holding.{Apart, CasesOk, ClaimedOk, Doing, Holds, doing-on}
+use Rattle.follows.specs.Holding.{CasesOk, ClaimedOk, Doing, Holds, doing-on, doing-with}
 use Rattle.follows.specs.EnterCase.{ScrutineeIs, children-in, getD-rewritten}
 use Rattle.follows.specs.SelectDefined.{CasesFrom, DefinesSelect, cases-own, define-select-post, scrutinee-stays}
 
@@ -126,7 +127,7 @@ module _ (W : World) where
         → rewrites-of (s′ .region-input-rewrites) q ≡ none
 
   pub replace-inputs-post : (s₀ : NestState) (r : ℕ) (ks : Nodes) (cs : List MaybeClaimedRegion) (s : NestState) → Doing W s₀ r ks s
-      → ((c : ClaimedRegion) → In (ok c) cs → ToRewrite s₀ r ks s c) → Apart W cs
+      → ((c : ClaimedRegion) → In (ok c) cs → ToRewrite s₀ r ks s c) → Apart cs
       → IfDone (λ u s′. Replaced s₀ r ks cs s s′) (replace-inputs cs s)
   unfolding replace-inputs
   replace-inputs-post s₀ r ks [] s dg tl ap =
@@ -135,8 +136,7 @@ module _ (W : World) where
           doing = dg;
           given = λ c i. absurd i;
           outputs = refl;
-          moves =
-              record { gains = gains-refl (tables s); free = λ κ h. h; rewritable = λ q h. h };
+          moves = record { gains = gains-refl (tables s); free = λ κ h. h; rewritable = λ q h. h };
           keeps = λ q n h. h;
         };
       }
@@ -167,7 +167,7 @@ module _ (W : World) where
       let e : c ≡ rewrite-claimed σ y = cc in
       (y, refl, ap (λ z. z .structured-body) e, ap (λ z. z .structured-body-inputs) e)
 
-  apart-rewritten : (σ : Resolver) (cs : List MaybeClaimedRegion) → Apart W cs → Apart W (map (rewrite-case σ) cs)
+  apart-rewritten : (σ : Resolver) (cs : List MaybeClaimedRegion) → Apart cs → Apart (map (rewrite-case σ) cs)
   apart-rewritten σ [] h = tt
   apart-rewritten σ (err d ∷ cs) h = apart-rewritten σ cs h
   apart-rewritten σ (ok c ∷ cs) (ne, h) = (
@@ -200,16 +200,7 @@ module _ (W : World) where
     with-select n s₁ s₂ mk gr₂ =
         let gr = grew-then (mk .grew) gr₂ in
         let d₂ = doing-on W dg (inv-grew W gr (dg .inv)) (later-grew W gr) in
-        record {
-          in-range = d₂ .in-range;
-          inv = d₂ .inv;
-          step = d₂ .step;
-          began = d₂ .began;
-          busy = d₂ .busy;
-          unrewritten = d₂ .unrewritten;
-          since = λ v o. since v (whose v o);
-          clear = λ v o w. clear gr d₂ v (whose v o) w;
-        }
+        doing-with W (join ks (n .children)) d₂ (λ κ o. (since κ (whose κ o), clear gr d₂ κ (whose κ o)))
       where
         Who : Key → Type 0
         Who v = (owns-nodes ks v ≡ true) ⊎ ((v ≡ of-node (n .node)) ⊎ ((c : ClaimedRegion) × In (ok c) cases × (owns-nodes (c .children) v ≡ true)))

@@ -2,20 +2,22 @@
 use mathlib.Core.Path.{_≡_, refl, ap, _∙_}
 use mathlib.Core.Bool.{Bool, true, false, _||_}
 use mathlib.Core.List.{List, [], _∷_, map}
+use mathlib.Core.Logic.{inl, inr}
 use Prim.Native.Nat.{ℕ, _+_, _≤_}
 use native.Mathlib.Omega.{arith}
-use Rattle.meaning.specs.Graph.{Value, SelectionKind, Graph, pick}
+use Rattle.meaning.specs.Graph.{Value, SelectionKind, Graph}
 use Rattle.meaning.specs.Form.{Nodes}
 use Rattle.nesting.specs.Deferred.{DeferredEdgeBundleSet}
-use Rattle.nesting.specs.BundleSet.{empty}
 use Rattle.nesting.specs.State.{NestState}
 use Rattle.nesting.specs.Rewrite.{rewrite}
-use Rattle.nesting.specs.Case.{MaybeClaimedRegion, ok, err, Scrutinee, deferred-of, append-maybe-claimed-region, Convergent, no-one, several, exactly-one, with-convergent, with-unreachable, convergent-cases}
+use Rattle.nesting.specs.Case.{MaybeClaimedRegion, ok, err, Scrutinee, deferred-of, append-maybe-claimed-region, Convergent, no-one, several, exactly-one, convergent-cases}
 use Rattle.nesting.specs.Plan.{DeferredTargetSummary, deferred-targets, PlannedBundle, plan-bundle, plan-bundles, any-needs-select, any-non-empty-case}
 use Rattle.nesting.specs.Select.{rewrite-bundle, rewrite-case, rewrite-cases, DefinedSelect, define-select, emit-inputs, emit-condition, emit, shared-bundle, select-if, replace-inputs, structurize-select, structurize-select-by, structurize-select-into}
 use Rattle.nesting.specs.Post.{Post, map-post, bind}
 use Rattle.nesting.specs.Keeps.{define-select-keeps, emit-inputs-keeps, emit-condition-keeps, replace-inputs-keeps}
 use Rattle.nesting.specs.Still.{Still, still-refl, still-then, still-steady, still-log}
+use Rattle.follows.specs.Small.{In, nth-in}
+use Rattle.follows.specs.ConvergentCase.{converges}
 use Rattle.follows.specs.Totals.{Measure, total, totals, summary-total, planned-total, bundles-to, edges-to, edgeless, Fits, FitsAll, targets-fit, targets-add, edges-add, edgeless-adds}
 
 -- ---- look-ups change values alone
@@ -41,28 +43,12 @@ pub record Chosen (cs : List MaybeClaimedRegion) (d : DeferredEdgeBundleSet) : T
   pub edges : (r : ℕ) → total (edges-to r) d ≤ totals (edges-to r) cs
   pub edgeless : total edgeless d ≤ totals edgeless cs
 
-abbrev OneOf : List MaybeClaimedRegion → Convergent → Type 0
-OneOf cs no-one = Unit
-OneOf cs several = Unit
-OneOf cs (exactly-one c others) = Chosen cs (deferred-of c)
-
-unreachable-one : (c : MaybeClaimedRegion) (cs : List MaybeClaimedRegion) (x : Convergent) → OneOf cs x → OneOf (c ∷ cs) (with-unreachable c x)
-unreachable-one c cs no-one h = tt
-unreachable-one c cs several h = tt
-unreachable-one c cs (exactly-one y ys) h = record { fits = λ k f. h .fits k (f .1); edges = λ r. let z = h .edges r in omega arith; edgeless = let z = h .edgeless in omega arith }
-
-convergent-one : (c : MaybeClaimedRegion) (cs : List MaybeClaimedRegion) (x : Convergent) → OneOf (c ∷ cs) (with-convergent c cs x)
-convergent-one c cs no-one = record { fits = λ k f. f .0; edges = λ r. omega arith; edgeless = omega arith }
-convergent-one c cs several = tt
-convergent-one c cs (exactly-one y ys) = tt
-
-one-of : (cs : List MaybeClaimedRegion) → OneOf cs (convergent-cases cs)
-one-of [] = tt
-one-of (c ∷ cs) = go (empty (deferred-of c)) (one-of cs)
-  where
-    go : (b : Bool) → OneOf cs (convergent-cases cs) → OneOf (c ∷ cs) (pick b (with-unreachable c (convergent-cases cs)) (with-convergent c cs (convergent-cases cs)))
-    go true h = unreachable-one c cs (convergent-cases cs) h
-    go false h = convergent-one c cs (convergent-cases cs)
+one-chosen : (cs : List MaybeClaimedRegion) (c : MaybeClaimedRegion) → In c cs → Chosen cs (deferred-of c)
+one-chosen [] c i = absurd i
+one-chosen (x ∷ cs) c (inl p) = rw p (record { fits = λ k f. f .0; edges = λ r. omega arith; edgeless = omega arith })
+one-chosen (x ∷ cs) c (inr i) =
+    let h = one-chosen cs c i in
+    record { fits = λ k f. h .fits k (f .1); edges = λ r. let z = h .edges r in omega arith; edgeless = let z = h .edgeless in omega arith }
 
 shared-total : (μ : Measure) (ps : List PlannedBundle) → total μ (map shared-bundle ps) ≡ planned-total μ ps
 shared-total μ [] = refl
@@ -129,14 +115,15 @@ module _ (Q : ℕ → Type 0) (q9 : Q 9) where
     append-total parent (err d) s = record { post = (still-refl s, refl) }
     append-total parent (ok c) s = record { post = (record { states = refl; attempts = refl }, refl) }
 
-    select-by-total : (parent : Nodes) (kind : SelectionKind) (x : Scrutinee) (cases : List MaybeClaimedRegion) (c : Convergent) → OneOf cases c → (s : NestState)
+    select-by-total : (parent : Nodes) (kind : SelectionKind) (x : Scrutinee) (cases : List MaybeClaimedRegion) (c : Convergent) → convergent-cases cases ≡ c → (s : NestState)
         → Post Q (λ y s′. Selected s cases s′ (y .deferred-edges)) (structurize-select-by g parent kind x cases c s)
     select-by-total parent kind x cases no-one h s = structurize-select-total parent kind x cases s
     select-by-total parent kind x cases several h s = structurize-select-total parent kind x cases s
     select-by-total parent kind x cases (exactly-one c others) h s =
+        let cv = converges cases c others h in
         bind (structurize-select g parent kind x others s) _ (structurize-select-total parent kind x others s) λ y s₁ a.
-        map-post (append-maybe-claimed-region (y .children) c s₁) (append-total (y .children) c s₁) λ z s₂ b. record { still = still-then (a .still) (b .0); chosen = rw (b .1) h }
+        map-post (append-maybe-claimed-region (y .children) c s₁) (append-total (y .children) c s₁) λ z s₂ b. record { still = still-then (a .still) (b .0); chosen = rw (b .1) (one-chosen cases c (nth-in cases (cv .at) c (cv .is))) }
 
     pub select-into-total : (parent : Nodes) (kind : SelectionKind) (x : Scrutinee) (cases : List MaybeClaimedRegion) (s : NestState)
         → Post Q (λ y s′. Selected s cases s′ (y .deferred-edges)) (structurize-select-into g parent kind x cases s)
-    select-into-total parent kind x cases s = select-by-total parent kind x cases (convergent-cases cases) (one-of cases) s
+    select-into-total parent kind x cases s = select-by-total parent kind x cases (convergent-cases cases) refl s

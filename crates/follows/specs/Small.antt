@@ -43,6 +43,13 @@ eqb-sym a b = go (eqb a b) (eqb b a) refl refl
     go true false e e′ = absurd (eqb-false b a e′ (sym (eqb-true a b e)))
     go false true e e′ = absurd (eqb-false a b e (sym (eqb-true b a e′)))
 
+pub at-or-else : (P : Type 0) (q r : ℕ) → (q ≡ r → P) → (eqb q r ≡ false → P) → P
+at-or-else P q r p e = go (eqb q r) refl
+  where
+    go : (o : Bool) → eqb q r ≡ o → P
+    go true x = p (eqb-true q r x)
+    go false x = e x
+
 -- ---- an element by its place
 abbrev pub nth : {A : Type 0} → List A → ℕ → Option A
 nth [] k = none
@@ -93,7 +100,3 @@ pub getD-map-in : {A B : Type 0} (f : A → B) (l : List A) (k : ℕ) (d : A) (d
 getD-map-in f [] k d d′ lt = absurd (omega arith)
 getD-map-in f (x ∷ l) zero d d′ lt = refl
 getD-map-in f (x ∷ l) (suc k) d d′ lt = getD-map-in f l k d d′ (omega arith)
-
-pub map-map : {A B C : Type 0} (f : B → C) (g : A → B) (l : List A) → map f (map g l) ≡ map (λ x. f (g x)) l
-map-map f g [] = refl
-map-map f g (x ∷ l) = ap (λ z. f (g x) ∷ z) (map-map f g l)

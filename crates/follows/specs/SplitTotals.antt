@@ -7,7 +7,6 @@ use Prim.Native.Nat.{ℕ, zero, suc, _+_, _≤_}
 use native.Mathlib.Omega.{arith}
 use lib.Dec.{eqb}
 use borrow.Author.Tests.{eqb-true, eq-eqb}
-use Rattle.follows.specs.Bundles.{found-in}
 use Rattle.meaning.specs.Graph.{Value, pick}
 use Rattle.format.specs.Read.{isIn}
 use Rattle.format.specs.ReadLaws.{clash}
@@ -15,6 +14,7 @@ use Rattle.nesting.specs.Deferred.{LazyCond, DeferredTarget, to-region, to-retu
 use Rattle.nesting.specs.BundleSet.{same-target, get-by-target, count-to, last-or, drop-last, fill-gap, split-out-target}
 use Rattle.nesting.specs.Count.{times-in}
 use Rattle.nesting.specs.Loop.{add-exit-edge}
+use Rattle.follows.specs.Bundles.{found-in}
 use Rattle.follows.specs.Totals.{Measure, total, at, bundles-to, edges-to, edgeless}
 
 -- ---- a bundle split out

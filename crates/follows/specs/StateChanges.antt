@@ -1,5 +1,5 @@
 -- A region's state changes: it begins, it is ready, it is claimed.
-use mathlib.Core.Bool.{Bool, false, true}
+use mathlib.Core.Bool.{false, true}
 use mathlib.Core.List.{List, [], _∷_}
 use mathlib.Core.Logic.{_⊎_, inl, inr}
 use mathlib.Core.Path.{_∙_, _≡_, refl, sym}
@@ -8,7 +8,7 @@ use native.Mathlib.Omega.{arith}
 use lib.Dec.{eqb}
 use lib.ListN.{length, length-set, set}
 use lib.Seq.{getD-set-other, getD-set-same}
-use borrow.Author.Tests.{eqb-false, eqb-true, ne-eqb}
+use borrow.Author.Tests.{eqb-false, ne-eqb}
 use Rattle.meaning.specs.Form.{Nodes}
 use Rattle.meaning.specs.Graph.{Instr}
 use Rattle.format.specs.ReadLaws.{clash}
@@ -17,7 +17,7 @@ use Rattle.nesting.specs.Change.{with-region-states}
 use Rattle.nesting.specs.Deferred.{DeferredEdgeBundleSet}
 use Rattle.nesting.specs.Fewer.{state-of}
 use Rattle.nesting.specs.State.{NestState, StructurizeRegionState, claimed, in-progress, not-begun, ready}
-use Rattle.follows.specs.Small.{or-either}
+use Rattle.follows.specs.Small.{at-or-else, or-either}
 use Rattle.follows.specs.Key.{Key, instr-key, is-instr, of-held, of-instr, of-node, of-none, owns-nodes}
 use Rattle.follows.specs.World.{World, size}
 use Rattle.follows.specs.Tables.{gains-refl, tables}
@@ -48,7 +48,8 @@ module _ (W : World) (s : NestState) (r : ℕ) (x : StructurizeRegionState) (h :
     owned-was κ o = owned-by o (still (o .region) (o .back) (o .children) (o .deferred-edges) (o .is))
 
     unclaimed-was : (q : ℕ) → is-claimed (state-of changed q) ≡ false → is-claimed (state-of s q) ≡ false
-    unclaimed-was q p = go (eqb q r) refl
+    unclaimed-was q p =
+        at-or-else (is-claimed (state-of s q) ≡ false) q r (λ e. rw e (idle-unclaimed (state-of s r) was)) (λ ne. rw (else q ne) at p)
       where
         idle-unclaimed : (y : StructurizeRegionState) → idle y ≡ true → is-claimed y ≡ false
         idle-unclaimed not-begun e = refl
@@ -56,16 +57,10 @@ module _ (W : World) (s : NestState) (r : ℕ) (x : StructurizeRegionState) (h :
         idle-unclaimed claimed e = cc
         idle-unclaimed (ready b ks d) e = refl
 
-        go : (o : Bool) → eqb q r ≡ o → is-claimed (state-of s q) ≡ false
-        go true e = let same : q ≡ r = eqb-true q r e in rw same (idle-unclaimed (state-of s r) was)
-        go false e = rw (else q e) at p
-
     unbegun-was : (q : ℕ) → state-of changed q ≡ not-begun → state-of s q ≡ not-begun
-    unbegun-was q p = go (eqb q r) refl
-      where
-        go : (o : Bool) → eqb q r ≡ o → state-of s q ≡ not-begun
-        go true e = let same : q ≡ r = eqb-true q r e in let z : x ≡ not-begun = sym now ∙ (rw same at p) in absurd (let z′ : true ≡ false = rw z at is in clash (cc))
-        go false e = sym (else q e) ∙ p
+    unbegun-was q p = at-or-else (state-of s q ≡ not-begun) q r
+        (λ e. let z : x ≡ not-begun = sym now ∙ (rw e at p) in absurd (let z′ : true ≡ false = rw z at is in clash (cc)))
+        (λ ne. sym (else q ne) ∙ p)
 
     pub new-was : (κ : Key) → New changed κ → New s κ
     new-was (of-instr q) n = unbegun-was q n
@@ -79,11 +74,9 @@ module _ (W : World) (s : NestState) (r : ℕ) (x : StructurizeRegionState) (h :
 
     pub rewritable-was : (q : ℕ) → Rewritable W changed q → Rewritable W s q
     rewritable-was q (unborn le) = unborn le
-    rewritable-was q (waiting lt p) = go (eqb q r) refl
-      where
-        go : (o : Bool) → eqb q r ≡ o → Rewritable W s q
-        go true e = let same : q ≡ r = eqb-true q r e in let z : idle x ≡ true = rw (same, now) at p in absurd (let z′ : true ≡ false = sym z ∙ is in clash (cc))
-        go false e = waiting lt (rw (else q e) at p)
+    rewritable-was q (waiting lt p) = at-or-else (Rewritable W s q) q r
+        (λ e. let z : idle x ≡ true = rw (e, now) at p in absurd (let z′ : true ≡ false = sym z ∙ is in clash (cc)))
+        (λ ne. waiting lt (rw (else q ne) at p))
 
     pub not-rewritable : Rewritable W changed r → ⊥
     not-rewritable (unborn le) = r-born le

@@ -7,7 +7,6 @@ use mathlib.Core.Path.{_∙_, _≡_, ap, refl, subst, sym}
 use Prim.Native.Nat.{_<_, suc, zero, ℕ}
 use lib.ListN.{getD, length, length-map}
 use borrow.Author.Tests.{ne-eqb}
-use Rattle.follows.specs.Bundles.{is-empty}
 use Rattle.meaning.specs.Form.{Nodes, _▸_, ⟨⟩}
 use Rattle.meaning.specs.Graph.{Edge, Value, pick, undef}
 use Rattle.format.specs.Read.{isIn}
@@ -21,6 +20,8 @@ use Rattle.nesting.specs.Deferred.{DeferredEdgeBundle, to-region, true-cond}
 use Rattle.nesting.specs.Fewer.{state-of}
 use Rattle.nesting.specs.Post.{bind}
 use Rattle.nesting.specs.State.{NestState, StructurizeRegionState, claimed, in-progress, not-begun, ready}
+use Rattle.follows.specs.ConvergentCase.{Apart}
+use Rattle.follows.specs.Bundles.{is-empty}
 use Rattle.follows.specs.Members.{in-front, in-rest}
 use Rattle.follows.specs.Usable.{EdgeUsable, EdgesUsable}
 use Rattle.follows.specs.Small.{In, nth}
@@ -29,7 +30,7 @@ use Rattle.follows.specs.Tables.{Tables, tables}
 use Rattle.follows.specs.Defined.{IfDone}
 use Rattle.follows.specs.Scope.{AllScoped, EntryOk, Scoped, SetOk}
 use Rattle.follows.specs.Invariant.{Inv, Later, Rewritable, later-refl, later-then}
-use Rattle.follows.specs.Holding.{Apart, CaseOk, CasesOk, ClaimedOk, Doing, Since, case-on, doing-closed, doing-on}
+use Rattle.follows.specs.Holding.{CaseOk, CasesOk, ClaimedOk, Doing, Since, case-on, doing-closed, doing-on}
 use Rattle.follows.specs.ClaimReady.{ClaimDone}
 use Rattle.follows.specs.AtTerminator.{EdgeEnters, edge-enters-on, never-ends, one-goes, usable-all}
 
@@ -150,8 +151,7 @@ module _ (W : World) where
               step = later-refl W s;
               is = record { each = λ c i. absurd i; apart = tt };
               len = refl;
-              enters =
-                  λ j ed p. absurd (clash (cc));
+              enters = λ j ed p. absurd (clash (cc));
             };
           }
       target-regions-post (ed ∷ es) (eo, eos) lv s dg =
@@ -166,8 +166,7 @@ module _ (W : World) where
               step = later-then W (cd .step) (cs-ok .step);
               is = record {
                 each = λ x i. each c cs s₁ s₂ (case-on W c (ca .is) (cs-ok .step)) (cases-back (cd .step) (cs-ok .is)) x i;
-                apart = apart c cs s₁ s₂ (ca .is)
-                    (cs-ok .is);
+                apart = apart c cs s₁ s₂ (ca .is) (cs-ok .is);
               };
               len = ap suc (cs-ok .len);
               enters = λ j x p. steers c cs s₁ s₂ (edge-enters-on W (cs-ok .step .gains) (ca .enters)) (cs-ok .enters) j x p;
@@ -179,7 +178,7 @@ module _ (W : World) where
           each c cs s₁ s₂ h hs x (inl p) = rw p h
           each c cs s₁ s₂ h hs x (inr i) = hs .each x i
 
-          apart : (c : MaybeClaimedRegion) (cs : List MaybeClaimedRegion) (s₁ s₂ : NestState) → CaseOk W s r ks s₁ c → CasesOk W s₁ r ks s₂ cs → Apart W (c ∷ cs)
+          apart : (c : MaybeClaimedRegion) (cs : List MaybeClaimedRegion) (s₁ s₂ : NestState) → CaseOk W s r ks s₁ c → CasesOk W s₁ r ks s₂ cs → Apart (c ∷ cs)
           apart (err d) cs s₁ s₂ h hs = hs .apart
           apart (ok c) cs s₁ s₂ h hs = (
             (λ c′ i. ne-eqb (c′ .structured-body) (c .structured-body)

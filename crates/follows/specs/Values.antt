@@ -1,5 +1,5 @@
 -- Values that have the same code are the same.
-use mathlib.Core.Bool.{Bool, _&&_, false, true}
+use mathlib.Core.Bool.{_&&_, false, true}
 use mathlib.Core.List.{List, [], _∷_}
 use mathlib.Core.Path.{_≡_, refl}
 use Prim.Native.Nat.{suc, zero, ℕ}
@@ -30,18 +30,13 @@ decode-code (bool true) = refl
 decode-code (bool false) = refl
 decode-code (undef ty) = refl
 
-and-all : (p q r : Bool) → (p && (q && r)) ≡ true → (p ≡ true) × (q ≡ true) × (r ≡ true)
-and-all true true true h = (refl, refl, refl)
-and-all true true false h = (refl, refl, h)
-and-all true false r h = (refl, h, cc)
-and-all false q r h = (h, cc, cc)
-
 pub sameValue→eq : (v w : Value) → sameValue v w ≡ true → v ≡ w
 sameValue→eq v w h =
-    let x = and-all (eqb (codeOf v .kind) (codeOf w .kind)) (eqb (codeOf v .region) (codeOf w .region)) (eqb (codeOf v .index) (codeOf w .index)) h in
+    let x = and-both (eqb (codeOf v .kind) (codeOf w .kind)) (eqb (codeOf v .region) (codeOf w .region) && eqb (codeOf v .index) (codeOf w .index)) h in
+    let y = and-both (eqb (codeOf v .region) (codeOf w .region)) (eqb (codeOf v .index) (codeOf w .index)) (x .1) in
     let a : codeOf v .kind ≡ codeOf w .kind = eqb-true (codeOf v .kind) (codeOf w .kind) (x .0) in
-    let b : codeOf v .region ≡ codeOf w .region = eqb-true (codeOf v .region) (codeOf w .region) (x .1) in
-    let c : codeOf v .index ≡ codeOf w .index = eqb-true (codeOf v .index) (codeOf w .index) (x .2) in
+    let b : codeOf v .region ≡ codeOf w .region = eqb-true (codeOf v .region) (codeOf w .region) (y .0) in
+    let c : codeOf v .index ≡ codeOf w .index = eqb-true (codeOf v .index) (codeOf w .index) (y .1) in
     cc (decode-code v, decode-code w)
 
 pub same-values→eq : (vs ws : List Value) → same-values vs ws ≡ true → vs ≡ ws
