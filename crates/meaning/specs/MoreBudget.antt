@@ -1,14 +1,14 @@
 -- More budget never changes a run that ended.
-use mathlib.Core.Path.{_≡_, refl}
+use mathlib.Core.Path.{_≡_}
 use mathlib.Core.List.{List, []}
 use mathlib.Core.Option.{Option, none, some}
 use Prim.Native.Nat.{ℕ, zero, suc, _≤_}
 use native.Mathlib.Nat.{le-of-suc-le-suc, not-suc-le-zero}
 use Rattle.meaning.specs.Graph.{Value, Edge, ControlInst, unreachable, return, exit-invocation, branch, select-branch, Graph, region}
 use Rattle.meaning.specs.Form.{OutputDecl, Node, block, select, loop, exit, Nodes, ⟨⟩, _▸_, Cases, ∅, case}
-use Rattle.meaning.specs.Run.{Word, word, mark, Env, Event, Rule, Given, RunState, put-inputs, base-env, entry-words, place-taken, do-block, do-blocks}
-use Rattle.meaning.specs.GraphRun.{Ended, GoesOn, edge-taken, along, by-terminator, enter, run-from, graph-run}
-use Rattle.meaning.specs.NestedRun.{Ran, through, ended, no-end, NestedEnded, and-then, tested, once-more, pay, note-over, assign-inputs, assign-outputs, put-outputs, case-count, turns, run-node, run-nodes, run-case, after-last, start, nested-run}
+use Rattle.meaning.specs.Run.{Word, word, mark, Env, Event, Rule, Given, RunState, base-env, entry-words, place-taken}
+use Rattle.meaning.specs.GraphRun.{Ended, GoesOn, edge-taken, along, by-terminator, run-from, graph-run}
+use Rattle.meaning.specs.NestedRun.{Ran, through, ended, no-end, NestedEnded, and-then, tested, once-more, pay, case-count, turns, run-node, run-nodes, run-case, after-last, start, nested-run}
 
 -- The first came to nothing (to `gone`), or the second is the same.
 data Stays {A : Type 0} (gone : A) : A → A → Type 0 where

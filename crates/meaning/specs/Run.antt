@@ -1,5 +1,5 @@
 -- What both runs share: words, environments, events, ends, and a block carried out (document 01, "What comes out").
-use mathlib.Core.Bool.{Bool, true, false}
+use mathlib.Core.Bool.{Bool}
 use mathlib.Core.List.{List, [], _∷_, map}
 use Prim.Native.Nat.{ℕ, zero, suc, pred, _+_, _%_}
 use lib.ListN.{length}

@@ -12,6 +12,7 @@ use Rattle.format.specs.Store.{Answer, accepted, refused}
 use Rattle.format.specs.Read.{readRecord}
 use Rattle.format.specs.References.{references}
 use Rattle.format.specs.Accept.{accept}
+use Rattle.format.specs.WellRead.{and-both}
 use Rattle.nesting.specs.State.{RewriteEntry, done, turned-away}
 use Rattle.nesting.specs.State
 use Rattle.nesting.specs.Case.{ClaimedRegion}
@@ -22,7 +23,7 @@ use Rattle.meaning.specs.Text.{Text, ascii}
 use Rattle.nesting.specs.Pack.{store-of-graph}
 use Rattle.nesting.specs.Top.{printed}
 use Rattle.nesting.specs.Quick.{quick-store-words, same-store-words}
-use Rattle.nesting.specs.QuickPrint.{same-numbers, both, numbers-same, accept-words, quick-printed, prints}
+use Rattle.nesting.specs.QuickPrint.{same-numbers, numbers-same, accept-words, quick-printed, prints}
 use Rattle.nesting.specs.CaseGraphs.{A, B, one-region, to, both-the-same, targets, regions, no-loop, one-goes-on, loop-in-loop, two-exits, renumbered, crossing, dear}
 
 -- What a case shows: the printed answer, and the wrapper regions of its loops, which the sheet does not name.
@@ -249,7 +250,7 @@ shown-same a b p q = λ i. record { prints = p i; wrappers = q i }
 case-right : (c : Case) → right c ≡ true → shown (c .store) ≡ c .shows
 case-right c e =
     let q = quick-shown (c .store) in
-    let h = both (same-numbers (q .prints) (c .shows .prints)) (same-numbers (q .wrappers) (c .shows .wrappers)) e in
+    let h = and-both (same-numbers (q .prints) (c .shows .prints)) (same-numbers (q .wrappers) (c .shows .wrappers)) e in
     same-shown (c .store)
     ∙ shown-same q (c .shows) (numbers-same (q .prints) (c .shows .prints) (h .0)) (numbers-same (q .wrappers) (c .shows .wrappers) (h .1))
 
@@ -257,7 +258,7 @@ all-shown : (cs : List Case) → all-right cs ≡ true → map (λ c. shown (c .
 unfolding all-right
 all-shown [] e = refl
 all-shown (c ∷ cs) e =
-    let h = both (right c) (all-right cs) e in
+    let h = and-both (right c) (all-right cs) e in
     rw (case-right c (h .0), all-shown cs (h .1))
 
 -- For each case of the list the definitions show, from its bytes, what it states.

@@ -3,7 +3,7 @@ use mathlib.Core.Bool.{true, false}
 use mathlib.Core.List.{List, [], _∷_, _++_, map}
 use Prim.Native.Nat.{ℕ, zero, suc, _+_, _*_, _/_, _%_}
 use lib.ListN.{length, drop}
-use Rattle.meaning.specs.Graph.{Value, codeOf, Instr, SelectionKind, bool-cond, number, Edge, ControlInst, unreachable, return, exit-invocation, branch, select-branch, Region, Graph, edgesOf}
+use Rattle.meaning.specs.Graph.{Value, codeOf, Instr, bool-cond, number, Edge, ControlInst, unreachable, return, exit-invocation, branch, select-branch, Region, Graph, edgesOf}
 use Rattle.format.specs.Read.{isIn}
 use Rattle.nesting.specs.Fields.{concat, counted, value-words}
 

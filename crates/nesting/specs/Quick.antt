@@ -6,8 +6,8 @@ use Prim.Native.Nat.{ℕ, zero, suc, _+_, _-_, _*_, _/_, _%_, _≤_, _<_}
 use native.Mathlib.Omega.{arith}
 use native.Mathlib.Nat.{add-assoc, not-suc-le-zero}
 use native.Mathlib.Decide.{decLe, decLt}
-use lib.ListN.{drop-of-length-le, length, getD, take, drop, length-append, length-take, length-drop, List·getD-append}
-use lib.Seq.{getD-drop, getD-take, getD-append-add, getD-append-seam, take-all, take-suc, ext-getD, drop-drop, length-take-le}
+use lib.ListN.{drop-of-length-le, length, getD, take, drop, length-append, length-drop, List·getD-append}
+use lib.Seq.{getD-drop, getD-take, getD-append-add, getD-append-seam, take-all, take-suc, ext-getD, length-take-le}
 use lib.Dec.{eqb, ltb}
 use borrow.Author.Tests.{eqb-true}
 use Rattle.format.specs.Store.{Answer, accepted, refused, andThen, tabulate, pair, weighted, numberRight, blocksChecked, wordAt, allZero, lengthRight, countRight, storeWords}

@@ -10,6 +10,7 @@ use Rattle.format.specs.Store.{Answer, accepted, andThen, storeWords}
 use Rattle.format.specs.Read.{readRecord}
 use Rattle.format.specs.References.{references}
 use Rattle.format.specs.Accept.{accept}
+use Rattle.format.specs.WellRead.{and-both}
 use Rattle.nesting.specs.Func.{structurize-func}
 use Rattle.nesting.specs.Sheet.{sheet-of}
 use Rattle.nesting.specs.Fields.{sheet-words}
@@ -51,17 +52,12 @@ same-numbers [] (y ∷ ys) = false
 same-numbers (x ∷ xs) [] = false
 same-numbers (x ∷ xs) (y ∷ ys) = eqb x y && same-numbers xs ys
 
-pub both : (a b : Bool) → (a && b) ≡ true → (a ≡ true) × (b ≡ true)
-both true true e = (refl, refl)
-both true false e = (refl, e)
-both false b e = (e, cc)
-
 pub numbers-same : (xs ys : List ℕ) → same-numbers xs ys ≡ true → xs ≡ ys
 numbers-same [] [] e = refl
 numbers-same [] (y ∷ ys) e = cc
 numbers-same (x ∷ xs) [] e = cc
 numbers-same (x ∷ xs) (y ∷ ys) e =
-    let h = both (eqb x y) (same-numbers xs ys) e in
+    let h = and-both (eqb x y) (same-numbers xs ys) e in
     rw (eqb-true x y (h .0), numbers-same xs ys (h .1))
 
 pub prints-by-test : (s : List ℕ) (t : Text) → same-numbers (quick-printed s) t ≡ true → printed s ≡ t

@@ -1,17 +1,17 @@
 -- Reading the words of a sheet gives the sheet back, so no two sheets have the same words.
 use mathlib.Core.Path.{_≡_, refl, sym, ap, _∙_}
 use mathlib.Core.Bool.{Bool, true, false}
-use mathlib.Core.List.{List, [], _∷_, _++_, map, append-assoc, append-nil}
-use Prim.Native.Nat.{ℕ, zero, suc, _+_, _≤_, max}
+use mathlib.Core.List.{List, [], _∷_, _++_, map, append-assoc}
+use Prim.Native.Nat.{ℕ, zero, suc, _≤_, max}
 use native.Mathlib.Omega.{arith}
 use native.Mathlib.Nat.{le-of-suc-le-suc, not-suc-le-zero}
 use lib.ListN.{length, length-append}
 use lib.Dec.{eqb}
-use Rattle.meaning.specs.Graph.{Code, SelectionKind, bool-cond, number, pick, bit}
+use Rattle.meaning.specs.Graph.{Code, bool-cond, number, pick, bit}
 use Rattle.nesting.specs.Nested.{Outcome, untouched, whole, closed, leftover}
 use Rattle.nesting.specs.Line.{Item, Condition, t-cond, f-cond, u-cond, m-cond, Conditions, no-part, part, Line, region-line, block-line, select-line, loop-line, exit-line, defer-line, Sheet}
-use Rattle.nesting.specs.Fields.{concat, counted, value-words, item-words, part-count, condition-words, parts-words, fields, words-of, lines-words, sheet-words, line-1, sheet-text, target, outcome, figure, a-number, named}
-use Rattle.nesting.specs.Decode.{Got, got, nothing, Reader, next, _>>=_, give, read-number, read-times, read-list, read-value, read-item, kind-of, parts, condition-by, read-condition, read-any-condition, line-by, read-line, read-lines, read-all-lines, outcome-of, flag-of, read-sheet, text-of-got, words-text}
+use Rattle.nesting.specs.Fields.{concat, counted, value-words, item-words, part-count, condition-words, parts-words, fields, words-of, lines-words, sheet-words, sheet-text, target, outcome, figure, a-number, named}
+use Rattle.nesting.specs.Decode.{Got, got, Reader, next, _>>=_, give, read-number, read-times, read-value, read-item, parts, read-condition, read-any-condition, read-line, read-lines, outcome-of, flag-of, read-sheet, text-of-got, words-text}
 
 -- ---- one thing after another
 step : {A B : Type 0} (x : Got A) (f : A → Reader B) (a : A) (rest : List ℕ) → x ≡ got a rest → next x f ≡ f a rest

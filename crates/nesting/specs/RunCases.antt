@@ -1,12 +1,12 @@
 -- Case A run, at both places of its test: events, end and cost, of the graph and of its nested form.
 use mathlib.Core.Path.{_≡_, refl}
 use mathlib.Core.Bool.{false}
-use mathlib.Core.List.{List, [], _∷_}
+use mathlib.Core.List.{[], _∷_}
 use mathlib.Core.Option.{Option, none, some}
 use Prim.Native.Nat.{ℕ, _+_}
-use Rattle.meaning.specs.Graph.{Value, Graph}
-use Rattle.meaning.specs.Run.{Word, word, Event, returned, Given, put, put-inputs, words-from, entry-words, do-instr, do-block, do-blocks}
-use Rattle.meaning.specs.GraphRun.{Ended, run-from, graph-run}
+use Rattle.meaning.specs.Graph.{Graph}
+use Rattle.meaning.specs.Run.{word, Event, returned, Given, put, put-inputs, words-from, entry-words, do-instr, do-block, do-blocks}
+use Rattle.meaning.specs.GraphRun.{run-from, graph-run}
 use Rattle.meaning.specs.NestedRun.{NestedEnded, put-outputs, turns, run-nodes, start, nested-run}
 use Rattle.nesting.specs.Nested.{Outcome, untouched, whole, closed, leftover, Nested, NestAnswer, nested, refused}
 use Rattle.nesting.specs.Func.{structurize-func}

@@ -3,10 +3,10 @@ use mathlib.Core.List.{List, [], _∷_, _++_, map}
 use Prim.Native.Nat.{ℕ, suc}
 use lib.ListN.{getD, take}
 use lib.Dec.{leb}
-use Rattle.meaning.specs.Graph.{Value, const, input, instr, output, bool, undef, held, Code, codeOf, pick, Instr, SelectionKind, Graph}
-use Rattle.meaning.specs.Form.{OutputDecl, Node, block, select, loop, exit, Nodes, ⟨⟩, _▸_, Cases, ∅, case}
+use Rattle.meaning.specs.Graph.{Value, const, input, instr, output, bool, undef, held, Code, codeOf, pick, Instr, Graph}
+use Rattle.meaning.specs.Form.{Node, block, select, loop, exit, Nodes, ⟨⟩, _▸_, Cases, ∅, case}
 use Rattle.nesting.specs.Deferred.{LazyCond, undef-cond, false-cond, true-cond, merge, LazyConds, _&_, DeferredTarget, to-region, to-return, DeferredEdgeBundle}
-use Rattle.nesting.specs.Nested.{Outcome, untouched, whole, closed, leftover, Piece, Nested}
+use Rattle.nesting.specs.Nested.{untouched, whole, closed, leftover, Piece, Nested}
 use Rattle.nesting.specs.Count.{times-in}
 use Rattle.nesting.specs.Figure.{figure}
 use Rattle.nesting.specs.Line.{Item, Condition, t-cond, f-cond, u-cond, m-cond, Conditions, no-part, part, Line, region-line, block-line, select-line, loop-line, exit-line, defer-line, Sheet}

@@ -4,7 +4,6 @@ use mathlib.Core.List.{List, [], _∷_, _++_}
 use Prim.Native.Nat.{ℕ}
 use lib.ListN.{length, drop}
 use lib.Dec.{leb}
-use Rattle.meaning.specs.Graph.{Graph}
 use Rattle.format.specs.Store.{Answer, accepted, refused, andThen}
 use Rattle.format.specs.Accept.{accept}
 use Rattle.nesting.specs.Nested.{NestAnswer, Nested}

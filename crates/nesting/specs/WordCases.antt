@@ -1,6 +1,6 @@
 -- The lent words of some cases, word by word, and refusal 10 where one word is missing.
 use mathlib.Core.Path.{_≡_, refl}
-use mathlib.Core.List.{List, [], _∷_, _++_}
+use mathlib.Core.List.{List, [], _∷_}
 use Prim.Native.Nat.{ℕ}
 use Rattle.format.specs.Store.{accepted, refused}
 use Rattle.nesting.specs.Pack.{store-of-graph}
