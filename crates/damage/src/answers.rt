@@ -1,0 +1,93 @@
+// Answers in two bytes each: a refusal's number and its word; 0 and the sum of its text's bytes, by 256, for a record.
+use accept::Accepted;
+use store::WORDS;
+use text::Written;
+
+pub struct Answer {
+    pub number: u8,
+    pub word: u8,
+}
+
+fn plus(sum: u8, b: u8) -> u8 {
+    (((sum as u16) + (b as u16)) % 256) as u8
+}
+
+fn sum_of(text: &[u8]) -> u8 {
+    let mut sum: u8 = 0;
+    let mut i: usize = 0;
+    while i < text.len() {
+        sum = plus(sum, text[i]);
+        i += 1;
+    }
+    sum
+}
+
+fn listed(written: Written, out: &[u8]) -> Answer {
+    match written {
+        Written::Bytes(n) => {
+            if n <= out.len() {
+                return Answer {
+                    number: 0,
+                    word: sum_of(&out[0..n]),
+                };
+            }
+            Answer {
+                number: 255,
+                word: 0,
+            }
+        }
+        Written::Full => Answer {
+            number: 255,
+            word: 0,
+        },
+    }
+}
+
+pub fn answer_of(bytes: &[u8], words: &mut [u16; WORDS], out: &mut [u8]) -> Answer {
+    match accept::accept(bytes, words) {
+        Accepted::Refused(number, word) => Answer {
+            number: (number % 256) as u8,
+            word: (word % 256) as u8,
+        },
+        Accepted::Record => {
+            let written = listing::list(words, out);
+            listed(written, out)
+        }
+    }
+}
+
+// Whether an answer is the one at place k of the list.
+pub fn is_listed(a: Answer, answers: &[u8], k: usize) -> bool {
+    if k >= answers.len() / 2 {
+        return false;
+    }
+    if answers[2 * k] != a.number {
+        return false;
+    }
+    answers[2 * k + 1] == a.word
+}
+
+pub struct Tally {
+    pub agree: u32,
+    pub differ: u32,
+}
+
+fn more(n: u32) -> u32 {
+    if n < 4294967295 {
+        return n + 1;
+    }
+    n
+}
+
+pub fn told(t: Tally, agreed: bool) -> Tally {
+    if agreed {
+        return Tally {
+            agree: more(t.agree),
+            differ: t.differ,
+        };
+    }
+    Tally {
+        agree: t.agree,
+        differ: more(t.differ),
+    }
+}

@@ -1,0 +1,47 @@
+use Prim.Native.Nat.{_≤_, _-_}
+use lib.ListN.{length}
+use borrow.Author.Needs.{needs}
+use Rattle.vectors.specs.Within.{Within}
+use Rattle.replay.proofs.fed_all.Statement.{statement}
+use Rattle.replay.proofs.fed_all.Tie as tie
+
+abbrev Inv-loop : tie.InvT-loop
+Inv-loop chunk bytes₀ expected₀ words₀ out₀ tally₀ i₀ bytes expected words out tally i = (i ≤ length chunk) × Within (tally .scan)
+
+abbrev μ-loop : tie.MeasureT-loop
+μ-loop chunk bytes₀ expected₀ words₀ out₀ tally₀ i₀ bytes expected words out tally i = length chunk - i
+
+loop-holds : tie.Need-loop-holds Inv-loop μ-loop
+loop-holds c = search needs
+
+shared-slice-read-fed : tie.Need-shared-slice-read-fed Inv-loop μ-loop
+shared-slice-read-fed c = search needs
+
+fed-requires : tie.Need-fed-requires Inv-loop μ-loop
+fed-requires c κs = search needs
+
+add-i : tie.Need-add-i Inv-loop μ-loop
+add-i c = search needs
+
+loop-less : tie.Need-loop-less Inv-loop μ-loop
+loop-less c = search needs
+
+loop-again : tie.Need-loop-again Inv-loop μ-loop
+loop-again c = search needs
+
+returns : tie.Need-returns Inv-loop μ-loop
+returns c = search needs
+
+pub fed-all-spec : {M : Type 1} → statement M
+fed-all-spec =
+    tie.close
+    (tie.spec
+    Inv-loop
+    μ-loop
+    loop-holds
+    shared-slice-read-fed
+    fed-requires
+    add-i
+    loop-less
+    loop-again
+    returns)

@@ -1,0 +1,73 @@
+use mathlib.Core.Path.{_≡_}
+use lib.ListN.{length}
+use borrow.Author.Needs.{needs}
+use Rattle.vectors.specs.Within.{Within}
+use Rattle.replay.proofs.replayed.Statement.{statement}
+use Rattle.replay.proofs.replayed.Tie as tie
+
+abbrev Inv-loop : tie.InvT-loop
+Inv-loop turns chunk₀ bytes₀ expected₀ words₀ out₀ tally₀ left₀ chunk bytes expected words out tally left =
+    (65536 ≡ length chunk) × Within (tally .scan)
+
+abbrev μ-loop : tie.MeasureT-loop
+μ-loop turns chunk₀ bytes₀ expected₀ words₀ out₀ tally₀ left₀ chunk bytes expected words out tally left =
+    left
+
+large-buffer-requires : tie.Need-large-buffer-requires Inv-loop μ-loop
+large-buffer-requires c κs = search needs
+
+start-requires : tie.Need-start-requires Inv-loop μ-loop
+start-requires c κs = search needs
+
+loop-holds : tie.Need-loop-holds Inv-loop μ-loop
+loop-holds c = search needs
+
+slice-aggregate-read-full : tie.Need-slice-aggregate-read-full Inv-loop μ-loop
+slice-aggregate-read-full c = search needs
+
+read-full-requires : tie.Need-read-full-requires Inv-loop μ-loop
+read-full-requires c κs = search needs
+
+returns : tie.Need-returns Inv-loop μ-loop
+returns c = search needs
+
+array-share-prefix-chunk : tie.Need-array-share-prefix-chunk Inv-loop μ-loop
+array-share-prefix-chunk c = search needs
+
+slice-aggregate-fed-all : tie.Need-slice-aggregate-fed-all Inv-loop μ-loop
+slice-aggregate-fed-all c = search needs
+
+fed-all-requires : tie.Need-fed-all-requires Inv-loop μ-loop
+fed-all-requires c κs = search needs
+
+sub-left : tie.Need-sub-left Inv-loop μ-loop
+sub-left c = search needs
+
+loop-less : tie.Need-loop-less Inv-loop μ-loop
+loop-less c = search needs
+
+loop-again : tie.Need-loop-again Inv-loop μ-loop
+loop-again c = search needs
+
+returns-2 : tie.Need-returns-2 Inv-loop μ-loop
+returns-2 c = search needs
+
+pub replayed-spec : {M : Type 1} → statement M
+replayed-spec =
+    tie.close
+    (tie.spec
+    Inv-loop
+    μ-loop
+    large-buffer-requires
+    start-requires
+    loop-holds
+    slice-aggregate-read-full
+    read-full-requires
+    returns
+    array-share-prefix-chunk
+    slice-aggregate-fed-all
+    fed-all-requires
+    sub-left
+    loop-less
+    loop-again
+    returns-2)
