@@ -7,54 +7,31 @@ use lib.Dec.{ltb}
 use Rattle.meaning.specs.Graph.{Value, output}
 use Rattle.nesting.specs.State.{StructurizeRegionState, not-begun, RegionInputRewrites, RewriteEntry, NodeOutput, NestState, done, turned-away, Step}
 
-abbrev pub with-region-states : List StructurizeRegionState → NestState → NestState
-with-region-states x s = record {
-  region-states = x;
-  region-input-rewrites = s .region-input-rewrites;
-  node-outputs = s .node-outputs;
-  region-count = s .region-count;
-  node-count = s .node-count;
-  merge-count = s .merge-count;
-  attempts = s .attempts;
-  twice = s .twice;
-}
-
-abbrev pub with-rewrites : List RewriteEntry → NestState → NestState
-with-rewrites x s = record {
-  region-states = s .region-states;
-  region-input-rewrites = x;
-  node-outputs = s .node-outputs;
-  region-count = s .region-count;
-  node-count = s .node-count;
-  merge-count = s .merge-count;
-  attempts = s .attempts;
-  twice = s .twice;
-}
-
-abbrev pub with-node-outputs : List NodeOutput → NestState → NestState
-with-node-outputs x s = record {
-  region-states = s .region-states;
-  region-input-rewrites = s .region-input-rewrites;
-  node-outputs = x;
-  region-count = s .region-count;
-  node-count = s .node-count;
-  merge-count = s .merge-count;
-  attempts = s .attempts;
-  twice = s .twice;
-}
-
--- regions, nodes, merges, attempts
-abbrev pub with-counts : ℕ → ℕ → ℕ → ℕ → NestState → NestState
-with-counts regions nodes merges tries s = record {
-  region-states = s .region-states;
-  region-input-rewrites = s .region-input-rewrites;
-  node-outputs = s .node-outputs;
+-- A state by its fields, in their order.
+abbrev pub nest-state : List StructurizeRegionState → List RewriteEntry → List NodeOutput → ℕ → ℕ → ℕ → ℕ → Bool → NestState
+nest-state states rewrites outputs regions nodes merges tries met = record {
+  region-states = states;
+  region-input-rewrites = rewrites;
+  node-outputs = outputs;
   region-count = regions;
   node-count = nodes;
   merge-count = merges;
   attempts = tries;
-  twice = s .twice;
+  twice = met;
 }
+
+abbrev pub with-region-states : List StructurizeRegionState → NestState → NestState
+with-region-states x s = nest-state x (s .region-input-rewrites) (s .node-outputs) (s .region-count) (s .node-count) (s .merge-count) (s .attempts) (s .twice)
+
+abbrev pub with-rewrites : List RewriteEntry → NestState → NestState
+with-rewrites x s = nest-state (s .region-states) x (s .node-outputs) (s .region-count) (s .node-count) (s .merge-count) (s .attempts) (s .twice)
+
+abbrev pub with-node-outputs : List NodeOutput → NestState → NestState
+with-node-outputs x s = nest-state (s .region-states) (s .region-input-rewrites) x (s .region-count) (s .node-count) (s .merge-count) (s .attempts) (s .twice)
+
+-- regions, nodes, merges, attempts
+abbrev pub with-counts : ℕ → ℕ → ℕ → ℕ → NestState → NestState
+with-counts regions nodes merges tries s = nest-state (s .region-states) (s .region-input-rewrites) (s .node-outputs) regions nodes merges tries (s .twice)
 
 abbrev pub with-region : NestState → NestState
 with-region s = with-counts (suc (s .region-count)) (s .node-count) (s .merge-count) (s .attempts) s
@@ -69,16 +46,7 @@ abbrev pub with-attempt : NestState → NestState
 with-attempt s = with-counts (s .region-count) (s .node-count) (s .merge-count) (suc (s .attempts)) s
 
 abbrev pub with-twice : Bool → NestState → NestState
-with-twice x s = record {
-  region-states = s .region-states;
-  region-input-rewrites = s .region-input-rewrites;
-  node-outputs = s .node-outputs;
-  region-count = s .region-count;
-  node-count = s .node-count;
-  merge-count = s .merge-count;
-  attempts = s .attempts;
-  twice = s .twice || x;
-}
+with-twice x s = nest-state (s .region-states) (s .region-input-rewrites) (s .node-outputs) (s .region-count) (s .node-count) (s .merge-count) (s .attempts) (s .twice || x)
 
 -- Definitions, each with its limit: the first beyond is refused.
 unfoldable pub define-region : Step ℕ

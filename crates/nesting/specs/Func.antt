@@ -10,6 +10,7 @@ use Rattle.meaning.specs.Form.{Nodes, ⟨⟩}
 use Rattle.nesting.specs.Deferred.{DeferredTarget, to-region, to-return, DeferredEdgeBundle, DeferredEdgeBundleSet}
 use Rattle.nesting.specs.Nested.{Outcome, untouched, whole, closed, leftover, Piece, Nested, NestAnswer, nested, refused}
 use Rattle.nesting.specs.State.{IncomingEdgeCount, StructurizeRegionState, not-begun, in-progress, claimed, ready, RewriteEntry, NestState, Answer, done, turned-away}
+use Rattle.nesting.specs.Change.{nest-state}
 use Rattle.nesting.specs.Rewrite.{rewrite, meets, any}
 use Rattle.nesting.specs.BundleSet.{condition-in}
 use Rattle.nesting.specs.Case.{ClaimedRegion}
@@ -20,16 +21,7 @@ use Rattle.nesting.specs.Claim.{try-claim-edge-bundle}
 use Rattle.nesting.specs.Last.{rewrite-nodes, meets-in-nodes}
 
 abbrev pub initial-state : Graph → NestState
-initial-state g = record {
-  region-states = replicate (length (g .regions)) not-begun;
-  region-input-rewrites = [];
-  node-outputs = [];
-  region-count = length (g .regions);
-  node-count = block-count (g .regions);
-  merge-count = 0;
-  attempts = 0;
-  twice = false;
-}
+initial-state g = nest-state (replicate (length (g .regions)) not-begun) [] [] (length (g .regions)) (block-count (g .regions)) 0 0 false
 
 -- Whole if the deferred set is Always Return, closed if it is Unreachable.
 abbrev pub outcome-by : DeferredTarget → DeferredEdgeBundleSet → Outcome
