@@ -23,17 +23,8 @@ fn full_store(vectors: &str) -> Vec<u8> {
     best
 }
 
-// The sum of the bytes, as the compiler makes it, and one byte at a time.
 fn sum(bytes: &[u8]) -> u32 {
     bytes.iter().map(|b| u32::from(*b)).sum()
-}
-
-fn sum_by_byte(bytes: &[u8]) -> u32 {
-    let mut total = 0u32;
-    for b in bytes {
-        total = black_box(total + u32::from(*b));
-    }
-    total
 }
 
 // Nanoseconds for one call.
@@ -55,16 +46,15 @@ fn main() {
     let path = std::env::args().nth(1).expect("a vector file");
     let store = full_store(&std::fs::read_to_string(path).unwrap());
     let mut words = vec![0u16; WORDS];
-    let (mut accepts, mut sums, mut by_byte) = (Vec::new(), Vec::new(), Vec::new());
+    let (mut accepts, mut sums) = (Vec::new(), Vec::new());
     for _ in 0..201 {
         accepts.push(time(|| {
             let answer = unsafe { rukvetta_accept(store.as_ptr(), store.len(), words.as_mut_ptr()) };
             assert_eq!(black_box(answer), 0);
         }));
         sums.push(time(|| { black_box(sum(black_box(&store))); }));
-        by_byte.push(time(|| { black_box(sum_by_byte(black_box(&store))); }));
     }
-    let ratio = |others: &[f64]| median(&mut accepts.iter().zip(others).map(|(a, b)| a / b).collect::<Vec<_>>());
-    println!("{} bytes: {:.1} sums of the bytes as the compiler makes it, {:.1} one byte at a time", store.len(), ratio(&sums), ratio(&by_byte));
-    println!("accept {:.0} ns, sum {:.0} ns, byte by byte {:.0} ns", median(&mut accepts.clone()), median(&mut sums.clone()), median(&mut by_byte.clone()));
+    let ratio = median(&mut accepts.iter().zip(&sums).map(|(a, b)| a / b).collect::<Vec<_>>());
+    println!("{} bytes: accept takes as long as {:.1} sums of the bytes", store.len(), ratio);
+    println!("accept {:.0} ns, sum {:.0} ns", median(&mut accepts), median(&mut sums));
 }

@@ -12,7 +12,7 @@ use Rattle.meaning.specs.Form.{Nodes, _▸_, loop, ⟨⟩}
 use Rattle.meaning.specs.Graph.{Value, bool, input, undef}
 use Rattle.meaning.specs.NestedRun.{Ran, assign-inputs, ended, no-end, note-over, pay, run-nodes, through, turns}
 use Rattle.meaning.specs.Run.{End, Event, RunState, Word, mark, word}
-use Rattle.meaning.specs.RunLaws.{inputs-at-once, last-turn, next-turn}
+use Rattle.meaning.specs.LoopTurns.{inputs-at-once, last-turn, next-turn}
 use Rattle.nesting.specs.Contexts.{entry-at}
 use Rattle.nesting.specs.BundleSet.{same-target}
 use Rattle.nesting.specs.Deferred.{DeferredEdgeBundle, DeferredEdgeBundleSet, to-region}

@@ -3,6 +3,6 @@ pub mod Form
 pub mod Run
 pub mod GraphRun
 pub mod NestedRun
+pub mod LoopTurns
 pub mod MoreBudget
-pub mod RunLaws
 pub mod Text
