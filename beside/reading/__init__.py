@@ -1,4 +1,4 @@
-"""An executable reading of document 01, independent of the Rust and of the proved code.
+"""An executable reading of document 01, independent of the proved code. nesting and loops were written with cfg.rs at hand.
 
 store    blocks, numbers, checks, payload words          refusals 1 to 3
 record   the record's words, its references, `show`      refusals 4 to 8
