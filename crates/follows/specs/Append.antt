@@ -6,13 +6,11 @@ use mathlib.Core.Path.{_∙_, _≡_, refl, subst, sym}
 use Prim.Native.Nat.{_<_, ℕ}
 use lib.Dec.{eqb}
 use lib.ListN.{getD}
-use Rattle.meaning.specs.Form.{Nodes}
+use Rattle.meaning.specs.Runs.{Nodes}
 use Rattle.meaning.specs.Graph.{Value, input, undef}
 use Rattle.format.specs.ReadLaws.{clash}
 use Rattle.nesting.specs.Contexts.{InContext, context-replaced, entry-at}
-use Rattle.nesting.specs.Case.{Body, ClaimedRegion, MaybeClaimedRegion, append-maybe-claimed-region, deferred-of, err, join, ok}
-use Rattle.nesting.specs.Deferred.{DeferredEdgeBundle, DeferredEdgeBundleSet, LazyCond, false-cond, merge, true-cond, undef-cond}
-use Rattle.nesting.specs.State.{NestState, NodeOutput}
+use Rattle.nesting.specs.Nesting.{Body, ClaimedRegion, MaybeClaimedRegion, append-maybe-claimed-region, deferred-of, err, join, ok, DeferredEdgeBundle, DeferredEdgeBundleSet, LazyCond, false-cond, merge, true-cond, undef-cond, NestState, NodeOutput}
 use Rattle.follows.specs.Small.{or-either, or-right}
 use Rattle.follows.specs.Key.{key, of-node, owns-join, owns-nodes}
 use Rattle.follows.specs.World.{World, ar}

@@ -7,19 +7,11 @@ use mathlib.Core.Path.{_∙_, _≡_, ap, refl, sym}
 use Prim.Native.Nat.{_<_, _≤_, suc, zero, ℕ}
 use native.Mathlib.Omega.{arith}
 use lib.ListN.{length, take}
-use Rattle.meaning.specs.Form.{⟨⟩}
+use Rattle.meaning.specs.Runs.{⟨⟩, run-nodes, End, Event, RunState, Word, put-inputs, word}
 use Rattle.meaning.specs.Graph.{Instr, Value, bool, const, held, input, instr, output, region, undef}
-use Rattle.meaning.specs.NestedRun.{run-nodes}
-use Rattle.meaning.specs.Run.{End, Event, RunState, Word, put-inputs, word}
 use Rattle.nesting.specs.Contexts.{no-input, own-in, rooted-ends}
-use Rattle.nesting.specs.Blocks.{block-count, blocks-from, blocks-of}
-use Rattle.nesting.specs.BundleSet.{same-target}
-use Rattle.nesting.specs.Case.{MaybeClaimedRegion}
-use Rattle.nesting.specs.Deferred.{DeferredEdgeBundle, to-region, true-cond}
+use Rattle.nesting.specs.Nesting.{block-count, blocks-from, blocks-of, same-target, MaybeClaimedRegion, DeferredEdgeBundle, to-region, true-cond, rewrite-nodes, rewrite, rewrites-of, NestState, NodeOutput, ready}
 use Rattle.nesting.specs.Fewer.{state-of}
-use Rattle.nesting.specs.Last.{rewrite-nodes}
-use Rattle.nesting.specs.Rewrite.{rewrite, rewrites-of}
-use Rattle.nesting.specs.State.{NestState, NodeOutput, ready}
 use Rattle.follows.specs.Usable.{AllUsable, Usable, total}
 use Rattle.follows.specs.Small.{eqb-self}
 use Rattle.follows.specs.Key.{constant-not-input, key, of-instr, owns-nodes}

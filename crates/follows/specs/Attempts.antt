@@ -10,16 +10,13 @@ use lib.ListN.{length, getD, replicate, length-replicate}
 use lib.Dec.{eqb}
 use borrow.Author.Tests.{eqb-true}
 use Rattle.meaning.specs.Graph.{Graph, region, edgesOf, targetsOf}
-use Rattle.meaning.specs.Form.{Nodes, ⟨⟩}
+use Rattle.meaning.specs.Runs.{Nodes, ⟨⟩}
 use Rattle.format.specs.ReadLaws.{clash}
 use Rattle.format.specs.Valid.{Valid}
-use Rattle.nesting.specs.Deferred.{to-region, DeferredEdgeBundleSet}
-use Rattle.nesting.specs.Nested.{Outcome, untouched, whole, closed, leftover, NestAnswer, nested, refused}
-use Rattle.nesting.specs.State.{StructurizeRegionState, not-begun, NestState, Answer, done, turned-away}
-use Rattle.nesting.specs.Case.{ClaimedRegion}
-use Rattle.nesting.specs.Count.{times-in, numbers-from, exit-targets, reachable, incoming-from, incoming-edge-count, incoming-edge-counts}
-use Rattle.nesting.specs.Claim.{try-claim-edge-bundle}
-use Rattle.nesting.specs.Func.{initial-state, outcome-of, conclude-by, conclude, structurize-func-by, structurize-func}
+use Rattle.meaning.specs.Lists.{times-in, numbers-from}
+use Rattle.format.specs.Store
+use Rattle.format.specs.Store.{accepted, refused}
+use Rattle.nesting.specs.Nesting.{Nested, to-region, DeferredEdgeBundleSet, Outcome, untouched, whole, closed, leftover, StructurizeRegionState, not-begun, NestState, Answer, done, turned-away, ClaimedRegion, exit-targets, reachable, incoming-from, incoming-edge-count, incoming-edge-counts, try-claim-edge-bundle, initial-state, outcome-of, conclude-by, conclude, structurize-func-by, structurize-func}
 use Rattle.nesting.specs.Post.{Post}
 use Rattle.nesting.specs.Fewer.{all-not-begun, not-begun-one, count-states}
 use Rattle.follows.specs.Reach.{entry-reachable, target-reachable, reachable-once}
@@ -101,8 +98,8 @@ module _ (g : Graph) where
     squared (suc n) a e h = let z : 2 * suc n - 1 ≡ 2 * n + 1 = omega arith in rw z (omega arith)
 
     -- what is shown of the answer
-    abbrev Within : NestAnswer → Type 0
-    Within (nested x) = x .attempts ≤ most-attempts g (reachable g)
+    abbrev Within : Store.Answer Nested → Type 0
+    Within (accepted x) = x .attempts ≤ most-attempts g (reachable g)
     Within (refused n w) = n ≡ 9
 
     of-outcome : (s : NestState) (children : Nodes) (d : DeferredEdgeBundleSet) (o : Outcome) → conclude-by g s children d o .attempts ≡ s .attempts
@@ -126,7 +123,7 @@ module _ (g : Graph) where
     within = go (eqb (getD (incoming-edge-counts g) (g .entry) 0) 1) refl
       where
         go : (b : Bool) → eqb (getD (incoming-edge-counts g) (g .entry) 0) 1 ≡ b
-            → Within (elim b [ false ↦ nested (conclude-by g (initial-state g) ⟨⟩ [] untouched) | true ↦ conclude g (try-claim-edge-bundle g (incoming-edge-counts g) (suc (length (g .regions))) (g .entry) 1 [] (initial-state g)) ])
+            → Within (elim b [ false ↦ accepted (conclude-by g (initial-state g) ⟨⟩ [] untouched) | true ↦ conclude g (try-claim-edge-bundle g (incoming-edge-counts g) (suc (length (g .regions))) (g .entry) 1 [] (initial-state g)) ])
         go false p = omega arith
         go true p = concluded _ (eqb-true _ 1 p) entry-counted
 

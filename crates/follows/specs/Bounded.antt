@@ -8,11 +8,9 @@ use native.Mathlib.Omega.{arith}
 use lib.Dec.{leb}
 use borrow.Author.Tests.{leb-false}
 use Rattle.meaning.specs.Graph.{Value, Instr}
-use Rattle.meaning.specs.Form.{OutputDecl, Node, block, select, loop, exit, Nodes, ⟨⟩, _▸_, Cases, ∅, case}
-use Rattle.meaning.specs.Run.{Word, word, mark, Rule, RunState, place-taken, do-instr, do-block}
-use Rattle.meaning.specs.NestedRun.{Ran, through, ended, no-end, and-then, tested, once-more, pay, note-over, assign-inputs, assign-outputs, case-count, turns, run-node, run-nodes, run-case, after-last, start, nested-run}
+use Rattle.meaning.specs.Runs.{OutputDecl, Node, block, select, loop, exit, Nodes, ⟨⟩, _▸_, Cases, ∅, case, Word, word, mark, Rule, RunState, place-taken, do-instr, do-block, Ran, through, ended, no-end, and-then, tested, once-more, pay, note-over, assign-inputs, assign-outputs, case-count, turns, run-node, run-nodes, run-case, after-last, start, nested-run}
 use Rattle.format.specs.ReadLaws.{clash}
-use Rattle.nesting.specs.Figure.{instr-costs, node-figure, figure}
+use Rattle.nesting.specs.Sheet.{instr-costs, node-figure, figure}
 use Rattle.nesting.specs.DearestCase.{case-at, dearest-case}
 use Rattle.follows.specs.Statements.{Bounded}
 
@@ -139,7 +137,7 @@ module _ (rule : Rule) (test-cost : ℕ) where
 
 -- Statement 2.
 pub bounded : Bounded
-unfolding nested-run start
+unfolding nested-run
 bounded g x ks outs b e = go outs (run-nodes (x .rule) (g .test-cost) b ks (start g x)) (nodes-cost (x .rule) (g .test-cost) ks b (start g x))
   where
     most : ℕ

@@ -10,8 +10,8 @@ use lib.ListN.{length}
 use borrow.Author.Tests.{eqb-true}
 use Rattle.meaning.specs.Graph.{pick}
 use Rattle.format.specs.ReadLaws.{clash}
-use Rattle.nesting.specs.BundleSet.{drop-last, empty, fill-gap, get-by-target, is-always, last-or, same-target, split-out-target}
-use Rattle.nesting.specs.Deferred.{DeferredEdgeBundle, DeferredEdgeBundleSet, DeferredTarget, to-region, to-return}
+use Rattle.meaning.specs.Lists.{empty}
+use Rattle.nesting.specs.Nesting.{drop-last, fill-gap, get-by-target, is-always, last-or, same-target, split-out-target, DeferredEdgeBundle, DeferredEdgeBundleSet, DeferredTarget, to-region, to-return}
 use Rattle.follows.specs.Small.{In, eqb-less, eqb-self, eqb-sym}
 
 pub same-target-sym : (a b : DeferredTarget) → same-target a b ≡ same-target b a

@@ -9,21 +9,11 @@ use native.Mathlib.Omega.{arith}
 use lib.Dec.{ltb}
 use lib.ListN.{getD, length}
 use borrow.Author.Tests.{ltb-true}
-use Rattle.meaning.specs.Form.{Nodes, _▸_, exit, ⟨⟩}
+use Rattle.meaning.specs.Runs.{Nodes, _▸_, exit, ⟨⟩, Ended, along, edge-taken, run-nodes, End, Event, RunState, Word, exited, mark, place-taken, returned, word}
 use Rattle.meaning.specs.Graph.{ControlInst, Edge, SelectionKind, Value, bool-cond, branch, edgesOf, exit-invocation, number, pick, region, return, select-branch, unreachable}
-use Rattle.meaning.specs.GraphRun.{Ended, along, edge-taken}
-use Rattle.meaning.specs.NestedRun.{run-nodes}
-use Rattle.meaning.specs.Run.{End, Event, RunState, Word, exited, mark, place-taken, returned, word}
 use Rattle.format.specs.ReadLaws.{clash}
-use Rattle.nesting.specs.Blocks.{blocks-of}
-use Rattle.nesting.specs.Case.{MaybeClaimedRegion, append-maybe-claimed-region, err, join, ok, value}
-use Rattle.nesting.specs.Change.{define-node}
-use Rattle.nesting.specs.Claim.{by-control-inst}
-use Rattle.nesting.specs.Deferred.{DeferredEdgeBundle, to-region, to-return, true-cond}
-use Rattle.nesting.specs.Last.{rewrite-nodes}
+use Rattle.nesting.specs.Nesting.{blocks-of, MaybeClaimedRegion, append-maybe-claimed-region, err, join, ok, value, define-node, by-control-inst, DeferredEdgeBundle, to-region, to-return, true-cond, rewrite-nodes, structurize-select-into, NestState, NodeOutput}
 use Rattle.nesting.specs.Post.{bind, map-post}
-use Rattle.nesting.specs.Select.{structurize-select-into}
-use Rattle.nesting.specs.State.{NestState, NodeOutput}
 use Rattle.follows.specs.Usable.{AllUsable, EdgeUsable, EdgesUsable, TerminatorUsable, total}
 use Rattle.follows.specs.Small.{In, nth, nth-getD}
 use Rattle.follows.specs.Key.{Key, owns-join, owns-nodes}

@@ -3,13 +3,13 @@ use mathlib.Core.Path.{_≡_, refl}
 use mathlib.Core.Bool.{true, false}
 use mathlib.Core.List.{[], _∷_}
 use Rattle.meaning.specs.Graph.{Value, const, instr, output, bool, bool-cond}
-use Rattle.meaning.specs.Form.{Nodes, block, select, loop, ⟨⟩, _▸_, ∅, case}
+use Rattle.meaning.specs.Runs.{Nodes, block, select, loop, ⟨⟩, _▸_, ∅, case}
 use Rattle.format.specs.Store.{accepted}
 use Rattle.format.specs.Accept.{accept}
 use Rattle.format.specs.AcceptValid.{accept-valid}
 use Rattle.format.specs.Valid.{Valid}
-use Rattle.nesting.specs.Nested.{whole, Nested, nested}
-use Rattle.nesting.specs.Func.{structurize-func}
+use Rattle.nesting.specs.Computes.{nesting-computes}
+use Rattle.nesting.specs.Nesting.{whole, Nested, structurize-func}
 use Rattle.nesting.specs.Pack.{store-of-graph}
 use Rattle.nesting.specs.CaseGraphs.{op, A, B}
 
@@ -38,8 +38,8 @@ A-nested = record {
   output-nodes = 3 ∷ [];
 }
 
-pub A-nests : structurize-func A ≡ nested A-nested
-unfolding structurize-func
+pub A-nests : structurize-func A ≡ accepted A-nested
+unfolding nesting-computes
 A-nests = refl
 
 -- ---- B
@@ -68,6 +68,6 @@ B-nested = record {
   output-nodes = [];
 }
 
-pub B-nests : structurize-func B ≡ nested B-nested
-unfolding structurize-func
+pub B-nests : structurize-func B ≡ accepted B-nested
+unfolding nesting-computes
 B-nests = refl

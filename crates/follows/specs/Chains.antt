@@ -5,14 +5,11 @@ use mathlib.Core.Option.{Option}
 use mathlib.Core.Path.{_≡_, refl, subst}
 use Prim.Native.Nat.{ℕ}
 use Rattle.meaning.specs.Graph.{Graph, Value}
-use Rattle.meaning.specs.Run.{Given, base-env}
+use Rattle.meaning.specs.Runs.{Given, base-env}
 use Rattle.format.specs.Valid.{Valid}
-use Rattle.nesting.specs.Case.{ClaimedRegion}
+use Rattle.nesting.specs.Nesting.{ClaimedRegion, try-claim-edge-bundle, initial-state, IncomingEdgeCount, NestState, RewriteEntry, done}
 use Rattle.nesting.specs.ChainEnds.{ChainsEnd, end-before}
-use Rattle.nesting.specs.Claim.{try-claim-edge-bundle}
 use Rattle.nesting.specs.Contexts.{rooted-ends}
-use Rattle.nesting.specs.Func.{initial-state}
-use Rattle.nesting.specs.State.{IncomingEdgeCount, NestState, RewriteEntry, done}
 use Rattle.follows.specs.Reach.{entry-reachable}
 use Rattle.follows.specs.ValidUse.{usable-graph}
 use Rattle.follows.specs.World.{World}

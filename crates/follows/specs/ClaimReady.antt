@@ -9,21 +9,15 @@ use native.Mathlib.Omega.{arith}
 use lib.Dec.{eqb, leb}
 use lib.ListN.{List·getD-eq-default, getD, length, length-map}
 use borrow.Author.Tests.{eqb-false, eqb-true, leb-false, leb-true, ne-eqb}
-use Rattle.meaning.specs.Form.{Nodes, _▸_, loop, ⟨⟩}
+use Rattle.meaning.specs.Runs.{Nodes, _▸_, loop, ⟨⟩}
 use Rattle.meaning.specs.Graph.{Value, bool, input, pick, region, undef}
 use Rattle.format.specs.ReadLaws.{clash}
 use Rattle.nesting.specs.Contexts.{InContext, context-replaced, entry-at, open-else, own-in}
-use Rattle.nesting.specs.BundleSet.{get-by-target, is-always, same-target, split-out-target}
-use Rattle.nesting.specs.Case.{ClaimedRegion}
-use Rattle.nesting.specs.Change.{define-node, define-region, set-state, with-twice}
-use Rattle.nesting.specs.Claim.{backedge-of, claim-body, claim-by-state}
-use Rattle.nesting.specs.Cond.{materialize-lazy-cond}
-use Rattle.nesting.specs.Deferred.{DeferredEdgeBundle, DeferredEdgeBundleSet, to-region, true-cond}
+use Rattle.meaning.specs.Lists.{any}
+use Rattle.nesting.specs.Nesting.{get-by-target, is-always, same-target, split-out-target, ClaimedRegion, define-node, define-region, set-state, with-twice, backedge-of, claim-body, claim-by-state, materialize-lazy-cond, DeferredEdgeBundle, DeferredEdgeBundleSet, to-region, true-cond, LoopInputs, no-inputs, structurize-loop, take-inputs, meets, rewrite, rewrite-values, rewrites-of, Answer, InputRewrite, NestState, NodeOutput, Step, _>>_, claimed, give, ready, renumber-or-replace-with, renumber-to, replace-by}
+use Rattle.nesting.specs.ChainSteps.{step-input}
 use Rattle.nesting.specs.Fewer.{state-of}
-use Rattle.nesting.specs.Loop.{LoopInputs, no-inputs, structurize-loop, take-inputs}
 use Rattle.nesting.specs.Post.{bind}
-use Rattle.nesting.specs.Rewrite.{any, meets, rewrite, rewrite-values, rewrites-of, step-input}
-use Rattle.nesting.specs.State.{Answer, InputRewrite, NestState, NodeOutput, Step, _>>_, claimed, give, ready, renumber-or-replace-with, renumber-to, replace-by}
 use Rattle.follows.specs.Small.{In, eqb-self, false-if, or-either}
 use Rattle.follows.specs.Key.{Key, held-key, is-held, of-held, owns-nodes}
 use Rattle.follows.specs.World.{Fits, World, ar, size}

@@ -7,20 +7,13 @@ use Prim.Native.Nat.{_<_, suc, zero, ℕ}
 use native.Mathlib.Omega.{arith}
 use lib.Dec.{eqb}
 use lib.ListN.{getD, length, length-replicate}
-use Rattle.meaning.specs.Form.{Nodes}
+use Rattle.meaning.specs.Runs.{Nodes}
 use Rattle.meaning.specs.Graph.{Value, edgesOf, region}
 use Rattle.format.specs.ReadLaws.{clash}
-use Rattle.nesting.specs.Deferred.{DeferredEdgeBundleSet}
-use Rattle.nesting.specs.Func.{initial-state}
+use Rattle.nesting.specs.Nesting.{DeferredEdgeBundleSet, initial-state, blocks-of, count-to, ClaimedRegion, get-state, with-attempt, Claim, begin, by-control-inst, claim-by-state, resolve-deferred, structurize-region, target-regions, try-claim-edge-bundle, IncomingEdgeCount, NestState, StructurizeRegionState, claimed, follow, give, in-progress, not-begun, ready, turn-away}
 use Rattle.nesting.specs.Contexts.{itself}
-use Rattle.nesting.specs.Blocks.{blocks-of}
-use Rattle.nesting.specs.BundleSet.{count-to}
-use Rattle.nesting.specs.Case.{ClaimedRegion}
-use Rattle.nesting.specs.Change.{get-state, with-attempt}
-use Rattle.nesting.specs.Claim.{Claim, begin, by-control-inst, claim-by-state, resolve-deferred, structurize-region, target-regions, try-claim-edge-bundle}
 use Rattle.nesting.specs.Fewer.{all-not-begun, state-of}
 use Rattle.nesting.specs.Post.{bind, map-post}
-use Rattle.nesting.specs.State.{IncomingEdgeCount, NestState, StructurizeRegionState, claimed, follow, give, in-progress, not-begun, ready, turn-away}
 use Rattle.follows.specs.Reach.{target-reachable}
 use Rattle.follows.specs.ValidUse.{edges-of-usable}
 use Rattle.follows.specs.Key.{of-instr}

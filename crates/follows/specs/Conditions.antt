@@ -7,10 +7,9 @@ use mathlib.Core.Path.{_≡_}
 use Prim.Native.Nat.{suc, zero, ℕ}
 use lib.ListN.{getD}
 use Rattle.meaning.specs.Graph.{Value, bool, bool-cond, output, undef}
-use Rattle.meaning.specs.Run.{Word, word}
+use Rattle.meaning.specs.Runs.{Word, word}
 use Rattle.format.specs.ReadLaws.{clash}
-use Rattle.nesting.specs.Deferred.{LazyCond, LazyConds, _&_, false-cond, merge, true-cond, undef-cond, ∅}
-use Rattle.nesting.specs.State.{NodeOutput}
+use Rattle.nesting.specs.Nesting.{LazyCond, LazyConds, _&_, false-cond, merge, true-cond, undef-cond, no-conds, NodeOutput}
 use Rattle.follows.specs.Key.{OutputAt}
 use Rattle.follows.specs.Tables.{Extends, stays}
 
@@ -25,7 +24,7 @@ unfoldable mutual
       ⊎ ((k : ℕ) × (o : NodeOutput) × (v ≡ output k) × OutputAt n os k o × Mats cs os (o .values))
 
   pub Mats : LazyConds → List NodeOutput → List Value → Type 0
-  Mats ∅ os vs = vs ≡ []
+  Mats no-conds os vs = vs ≡ []
   Mats (c & cs) os vs = (v : Value) × (ws : List Value) × (vs ≡ v ∷ ws) × Mat c os v × Mats cs os ws
 
 -- A test of it succeeds.
@@ -34,13 +33,13 @@ pub record Truthy (w : Word) : Type 0 where
   pub is : w ≡ word (suc less)
 
 abbrev pub condition-at : LazyConds → ℕ → Option LazyCond
-condition-at ∅ j = none
+condition-at no-conds j = none
 condition-at (c & cs) zero = some c
 condition-at (c & cs) (suc j) = condition-at cs j
 
 pub mats-at : (cs : LazyConds) (os : List NodeOutput) (vs : List Value) (j : ℕ) (c : LazyCond) → Mats cs os vs → condition-at cs j ≡ some c → Mat c os (getD vs j (undef 0))
 unfolding Mats
-mats-at ∅ os vs j c ms p = absurd (clash (cc))
+mats-at no-conds os vs j c ms p = absurd (clash (cc))
 mats-at (c′ & cs) os vs zero c ms p = let e : c′ ≡ c = cc in rw (ms .2, ← e) (ms .3)
 mats-at (c′ & cs) os vs (suc j) c ms p = rw (ms .2) (mats-at cs os (ms .1) j c (ms .4) p)
 
@@ -56,5 +55,5 @@ mutual
   mat-stays (merge n kind sc cs) a b p v (inr (k, o, e, at-k, ms)) = inr (k, o, e, stays p at-k, mats-stay cs a b p _ ms)
 
   pub mats-stay : (cs : LazyConds) (a b : List NodeOutput) → Extends a b → (vs : List Value) → Mats cs a vs → Mats cs b vs
-  mats-stay ∅ a b p vs h = h
+  mats-stay no-conds a b p vs h = h
   mats-stay (c & cs) a b p vs (v, ws, e, h, hs) = (v, ws, e, mat-stays c a b p v h, mats-stay cs a b p ws hs)

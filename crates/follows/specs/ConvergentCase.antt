@@ -9,8 +9,8 @@ use lib.Dec.{eqb}
 use lib.ListN.{length}
 use Rattle.meaning.specs.Graph.{pick}
 use Rattle.format.specs.ReadLaws.{clash}
-use Rattle.nesting.specs.BundleSet.{empty}
-use Rattle.nesting.specs.Case.{ClaimedRegion, Convergent, MaybeClaimedRegion, convergent-cases, deferred-of, err, exactly-one, no-one, ok, several, with-convergent, with-unreachable}
+use Rattle.meaning.specs.Lists.{empty}
+use Rattle.nesting.specs.Nesting.{ClaimedRegion, Convergent, MaybeClaimedRegion, convergent-cases, deferred-of, err, exactly-one, no-one, ok, several, with-convergent, with-unreachable}
 use Rattle.follows.specs.Bundles.{is-empty}
 use Rattle.follows.specs.Small.{In, eqb-sym, nth, nth-in}
 

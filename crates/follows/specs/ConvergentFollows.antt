@@ -7,17 +7,10 @@ use mathlib.Core.Path.{_∙_, _≡_, ap, refl, subst, sym}
 use Prim.Native.Nat.{_<_, _≤_, ℕ}
 use lib.Dec.{eqb}
 use lib.ListN.{length}
-use Rattle.meaning.specs.Form.{Cases, Nodes, _▸_, select, ⟨⟩}
+use Rattle.meaning.specs.Runs.{Cases, Nodes, _▸_, select, ⟨⟩, Ran, and-then, case-count, ended, no-end, pay, run-nodes, through, End, Event, RunState, place-taken, word}
 use Rattle.meaning.specs.Graph.{SelectionKind, Value, input}
-use Rattle.meaning.specs.NestedRun.{Ran, and-then, case-count, ended, no-end, pay, run-nodes, through}
-use Rattle.meaning.specs.Run.{End, Event, RunState, place-taken, word}
-use Rattle.nesting.specs.Case.{Body, ClaimedRegion, Convergent, MaybeClaimedRegion, Scrutinee, append-maybe-claimed-region, convergent-cases, deferred-of, err, exactly-one, join, no-one, ok, several}
-use Rattle.nesting.specs.Deferred.{DeferredEdgeBundleSet}
-use Rattle.nesting.specs.Last.{case-outputs, outputs-of, rewrite-nodes}
-use Rattle.nesting.specs.Plan.{any-non-empty-case}
+use Rattle.nesting.specs.Nesting.{Body, ClaimedRegion, Convergent, MaybeClaimedRegion, Scrutinee, append-maybe-claimed-region, convergent-cases, deferred-of, err, exactly-one, join, no-one, ok, several, DeferredEdgeBundleSet, case-outputs, outputs-of, rewrite-nodes, any-non-empty-case, DefinedSelect, structurize-select, structurize-select-by, structurize-select-into, NestState, NodeOutput}
 use Rattle.nesting.specs.Post.{bind, map-post}
-use Rattle.nesting.specs.Select.{DefinedSelect, structurize-select, structurize-select-by, structurize-select-into}
-use Rattle.nesting.specs.State.{NestState, NodeOutput}
 use Rattle.follows.specs.Small.{In, nth, nth-in, or-left, or-right}
 use Rattle.follows.specs.Key.{Key, is-node, key, key-constant, owns-cases, owns-join, owns-nodes}
 use Rattle.follows.specs.World.{World, ar, runs}

@@ -9,19 +9,11 @@ use lib.ListN.{length, set}
 use lib.Dec.{eqb}
 use borrow.Author.Tests.{eqb-true, eqb-false, eq-eqb}
 use Rattle.meaning.specs.Graph.{Value, Graph, pick}
-use Rattle.meaning.specs.Form.{Nodes}
+use Rattle.meaning.specs.Runs.{Nodes}
 use Rattle.format.specs.Read.{isIn}
 use Rattle.format.specs.ReadLaws.{clash}
-use Rattle.nesting.specs.Deferred.{LazyCond, to-region, DeferredEdgeBundle, DeferredEdgeBundleSet}
-use Rattle.nesting.specs.State.{StructurizeRegionState, not-begun, in-progress, claimed, ready, renumber-or-replace-with, NestState, Step, give, turn-away, _>>_}
-use Rattle.nesting.specs.Change.{with-region-states, with-rewrites, set-state, define-region, define-node}
-use Rattle.nesting.specs.Rewrite.{rewrite-values}
-use Rattle.nesting.specs.Cond.{materialize-lazy-cond}
-use Rattle.nesting.specs.BundleSet.{condition-in, get-by-target, split-out-target}
-use Rattle.nesting.specs.Case.{ClaimedRegion}
-use Rattle.nesting.specs.Count.{times-in, exit-targets}
-use Rattle.nesting.specs.Loop.{no-inputs, take-inputs, add-exit-edge, structurize-loop}
-use Rattle.nesting.specs.Claim.{backedge-of, claim-body, claim-by-state}
+use Rattle.meaning.specs.Lists.{times-in}
+use Rattle.nesting.specs.Nesting.{LazyCond, to-region, DeferredEdgeBundle, DeferredEdgeBundleSet, StructurizeRegionState, not-begun, in-progress, claimed, ready, renumber-or-replace-with, NestState, Step, give, turn-away, _>>_, with-region-states, with-rewrites, set-state, define-region, define-node, rewrite-values, materialize-lazy-cond, condition-in, get-by-target, split-out-target, ClaimedRegion, exit-targets, no-inputs, take-inputs, add-exit-edge, structurize-loop, backedge-of, claim-body, claim-by-state}
 use Rattle.nesting.specs.Post.{Post, map-post, bind}
 use Rattle.nesting.specs.Keeps.{loop-claimed, define-region-keeps, define-node-keeps, rewrite-values-keeps, materialize-keeps}
 use Rattle.nesting.specs.Still.{Still, still-refl, still-then, still-steady}

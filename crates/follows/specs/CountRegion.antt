@@ -12,14 +12,7 @@ use borrow.Author.Tests.{eqb-true}
 use Rattle.meaning.specs.Graph.{bool-cond, Edge, region, edgesOf}
 use Rattle.format.specs.Read.{isIn}
 use Rattle.format.specs.ReadLaws.{clash}
-use Rattle.nesting.specs.Deferred.{to-region}
-use Rattle.nesting.specs.State.{StructurizeRegionState, not-begun, in-progress, claimed, ready, NestState, follow}
-use Rattle.nesting.specs.Change.{with-region-states, with-attempt, get-state}
-use Rattle.nesting.specs.BundleSet.{condition-in, count-to}
-use Rattle.nesting.specs.Case.{MaybeClaimedRegion, ok, err, lazy, Body}
-use Rattle.nesting.specs.Blocks.{blocks-of}
-use Rattle.nesting.specs.Select.{structurize-select-into}
-use Rattle.nesting.specs.Claim.{Claim, SplitOut, begin, claim-by-state, by-control-inst, resolve-by, target-regions, split-out-matching, resolve-deferred, structurize-region, try-claim-edge-bundle}
+use Rattle.nesting.specs.Nesting.{to-region, StructurizeRegionState, not-begun, in-progress, claimed, ready, NestState, follow, with-region-states, with-attempt, get-state, condition-in, count-to, MaybeClaimedRegion, ok, err, lazy, Body, blocks-of, structurize-select-into, Claim, SplitOut, begin, claim-by-state, by-control-inst, resolve-by, target-regions, split-out-matching, resolve-deferred, structurize-region, try-claim-edge-bundle}
 use Rattle.nesting.specs.Post.{Post, map-post, bind}
 use Rattle.nesting.specs.Still.{still-refl}
 use Rattle.nesting.specs.Fewer.{count-set, not-begun-one, state-of}

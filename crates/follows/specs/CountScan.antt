@@ -9,16 +9,10 @@ use lib.ListN.{length}
 use lib.Dec.{eqb}
 use borrow.Author.Tests.{eqb-true, eq-eqb}
 use Rattle.meaning.specs.Graph.{Value, Edge, ControlInst, unreachable, return, exit-invocation, branch, select-branch, pick}
-use Rattle.meaning.specs.Form.{Nodes}
+use Rattle.meaning.specs.Runs.{Nodes}
 use Rattle.format.specs.Read.{isIn}
-use Rattle.nesting.specs.Deferred.{DeferredTarget, to-region, to-return, DeferredEdgeBundle, DeferredEdgeBundleSet}
-use Rattle.nesting.specs.State.{StructurizeRegionState, not-begun, in-progress, claimed, ready, NestState, Step, _>>=_}
-use Rattle.nesting.specs.Change.{define-node}
-use Rattle.nesting.specs.BundleSet.{empty}
-use Rattle.nesting.specs.Case.{ClaimedRegion, MaybeClaimedRegion, err, value, Body, deferred-of, has-children, append-maybe-claimed-region}
-use Rattle.nesting.specs.Select.{structurize-select-into}
-use Rattle.nesting.specs.Count.{times-in}
-use Rattle.nesting.specs.Claim.{Claim, SplitOut, defer-edge, unclaimed-edge, edge-case, split-out-or, by-control-inst, target-regions, split-out-matching}
+use Rattle.meaning.specs.Lists.{empty, times-in}
+use Rattle.nesting.specs.Nesting.{DeferredTarget, to-region, to-return, DeferredEdgeBundle, DeferredEdgeBundleSet, StructurizeRegionState, not-begun, in-progress, claimed, ready, NestState, Step, _>>=_, define-node, ClaimedRegion, MaybeClaimedRegion, err, value, Body, deferred-of, has-children, append-maybe-claimed-region, structurize-select-into, Claim, SplitOut, defer-edge, unclaimed-edge, edge-case, split-out-or, by-control-inst, target-regions, split-out-matching}
 use Rattle.nesting.specs.Post.{Post, map-post, bind}
 use Rattle.nesting.specs.Keeps.{define-node-keeps}
 use Rattle.nesting.specs.Still.{Still, still-refl, still-steady}

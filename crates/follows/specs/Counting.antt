@@ -11,9 +11,8 @@ use borrow.Author.Tests.{eqb-false}
 use Rattle.meaning.specs.Graph.{Graph, region, edgesOf, targetsOf, pick}
 use Rattle.format.specs.Read.{isIn}
 use Rattle.format.specs.Valid.{Distinct}
-use Rattle.nesting.specs.Deferred.{DeferredEdgeBundleSet}
-use Rattle.nesting.specs.State.{StructurizeRegionState, not-begun, in-progress, claimed, ready, NestState}
-use Rattle.nesting.specs.Count.{times-in, exit-targets}
+use Rattle.meaning.specs.Lists.{times-in}
+use Rattle.nesting.specs.Nesting.{DeferredEdgeBundleSet, StructurizeRegionState, not-begun, in-progress, claimed, ready, NestState, exit-targets}
 use Rattle.nesting.specs.Still.{Still}
 use Rattle.nesting.specs.Fewer.{state-of, not-begun-one, count-states, not-begun-count}
 use Rattle.follows.specs.Small.{at-or-else}

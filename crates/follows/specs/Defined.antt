@@ -11,14 +11,9 @@ use lib.ListN.{length}
 use Rattle.meaning.specs.Graph.{SelectionKind, Value, bool, bool-cond, number, output, pick}
 use Rattle.format.specs.WellRead.{and-both}
 use Rattle.nesting.specs.Keeps.{Steady, define-merge-keeps}
-use Rattle.nesting.specs.Change.{define-merge, define-node, define-output, define-region}
-use Rattle.nesting.specs.Cond.{is-bool-cond, materialize-lazy-cond, materialize-lazy-conds, same-values}
-use Rattle.nesting.specs.Deferred.{DeferredEdgeBundleSet, LazyCond, LazyConds, _&_, false-cond, merge, true-cond, undef-cond, ∅}
+use Rattle.nesting.specs.Nesting.{define-merge, define-node, define-output, define-region, is-bool-cond, materialize-lazy-cond, materialize-lazy-conds, same-values, DeferredEdgeBundleSet, LazyCond, LazyConds, _&_, false-cond, merge, true-cond, undef-cond, no-conds, PlannedBundle, PlannedInput, merged, shared, DefinedSelect, emit, emit-condition, emit-inputs, Answer, NestState, NodeOutput, give}
 use Rattle.nesting.specs.Fewer.{AnyRefusal}
-use Rattle.nesting.specs.Plan.{PlannedBundle, PlannedInput, merged, shared}
 use Rattle.nesting.specs.Post.{Post, bind, map-post, when-room}
-use Rattle.nesting.specs.Select.{DefinedSelect, emit, emit-condition, emit-inputs}
-use Rattle.nesting.specs.State.{Answer, NestState, NodeOutput, give}
 use Rattle.follows.specs.Small.{nth-last}
 use Rattle.follows.specs.Key.{OutputAt}
 use Rattle.follows.specs.Tables.{Extends, extends-refl, extends-then, stays}
@@ -117,7 +112,7 @@ mutual
   materialize-post (merge n kind sc cs) s = bind (materialize-lazy-conds cs s) _ (materializes-post cs s) λ vs s₁ ms. merge-post n kind sc cs s vs s₁ ms
 
   pub materializes-post : (cs : LazyConds) (s : NestState) → IfDone (Materializeds cs s) (materialize-lazy-conds cs s)
-  materializes-post ∅ s = record { post = record { mats = refl; grew = grew-refl s } }
+  materializes-post no-conds s = record { post = record { mats = refl; grew = grew-refl s } }
   materializes-post (c & cs) s =
       bind (materialize-lazy-cond c s) _ (materialize-post c s) λ v s₁ h.
       bind (materialize-lazy-conds cs s₁) _ (materializes-post cs s₁) λ vs s₂ hs.

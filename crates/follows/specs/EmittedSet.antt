@@ -7,15 +7,11 @@ use mathlib.Core.Path.{_∙_, _≡_, ap, refl, sym}
 use Prim.Native.Nat.{_+_, _≤_, suc, zero, ℕ}
 use native.Mathlib.Omega.{arith}
 use lib.ListN.{getD, length}
-use Rattle.meaning.specs.Form.{Nodes, ⟨⟩}
+use Rattle.meaning.specs.Runs.{Nodes, ⟨⟩}
 use Rattle.meaning.specs.Graph.{Graph, Value, number, output, undef}
 use Rattle.format.specs.ReadLaws.{clash}
-use Rattle.nesting.specs.BundleSet.{get-by-target}
-use Rattle.nesting.specs.Case.{MaybeClaimedRegion, deferred-of}
-use Rattle.nesting.specs.Deferred.{DeferredEdgeBundle, DeferredEdgeBundleSet, DeferredTarget, LazyConds, merge, true-cond}
-use Rattle.nesting.specs.Plan.{DeferredTargetSummary, PlannedBundle, PlannedInput, UniqueInput, any-merged, any-needs-select, differing, in-parent, is-some, merged, no-value, per-case-deferred, per-case-of, plan-bundle, plan-input, plan-inputs, shared, target-type, unique, unique-input, value-in-case, with-case}
-use Rattle.nesting.specs.Select.{DefinedSelect, shared-bundle, shared-value}
-use Rattle.nesting.specs.State.{NodeOutput}
+use Rattle.meaning.specs.Lists.{is-some, any}
+use Rattle.nesting.specs.Nesting.{get-by-target, MaybeClaimedRegion, deferred-of, DeferredEdgeBundle, DeferredEdgeBundleSet, DeferredTarget, LazyConds, merge, true-cond, DeferredTargetSummary, PlannedBundle, PlannedInput, UniqueInput, is-merged, any-needs-select, differing, in-parent, merged, no-value, per-case-deferred, per-case-of, plan-bundle, plan-input, plan-inputs, shared, target-type, unique, unique-input, value-in-case, with-case, DefinedSelect, shared-bundle, shared-value, NodeOutput}
 use Rattle.follows.specs.Small.{In, or-left, or-right}
 use Rattle.follows.specs.Key.{OutputAt}
 use Rattle.follows.specs.World.{World, ar}
@@ -64,7 +60,7 @@ pub no-select-outputs : (os : List NodeOutput) (k : ℕ) (o : NodeOutput) → Ou
 unfolding no-select
 no-select-outputs os k o at-k = none-above os (above os) (omega arith) k o at-k
 
-shared-emits : (os : List NodeOutput) (n : DefinedSelect) (is : List PlannedInput) → any-merged is ≡ false → Emits os n is (map shared-value is)
+shared-emits : (os : List NodeOutput) (n : DefinedSelect) (is : List PlannedInput) → any is-merged is ≡ false → Emits os n is (map shared-value is)
 shared-emits os n [] h = refl
 shared-emits os n (shared v ∷ is) h = (v, map shared-value is, refl, refl, shared-emits os n is h)
 shared-emits os n (merged ty vs ∷ is) h = absurd (clash (cc))
@@ -72,12 +68,12 @@ shared-emits os n (merged ty vs ∷ is) h = absurd (clash (cc))
 pub shared-all : (os : List NodeOutput) (n : DefinedSelect) (ps : List PlannedBundle) → any-needs-select ps ≡ false → EmitsAll os n ps (map shared-bundle ps)
 shared-all os n [] h = refl
 shared-all os n (p ∷ ps) h =
-    let x = or-left (any-merged (p .inputs) || is-some (p .condition)) (any-needs-select ps) h in (
+    let x = or-left (any is-merged (p .inputs) || is-some (p .condition)) (any-needs-select ps) h in (
       shared-bundle p,
       map shared-bundle ps,
       refl,
-      record { target = refl; inputs = shared-emits os n (p .inputs) (or-left _ _ x); condition = sym (is-t (p .condition) (or-right (any-merged (p .inputs)) _ x)) },
-      shared-all os n ps (or-right (any-merged (p .inputs) || is-some (p .condition)) _ h),
+      record { target = refl; inputs = shared-emits os n (p .inputs) (or-left _ _ x); condition = sym (is-t (p .condition) (or-right (any is-merged (p .inputs)) _ x)) },
+      shared-all os n ps (or-right (any is-merged (p .inputs) || is-some (p .condition)) _ h),
     )
   where
     is-t : (o : Option LazyConds) → is-some o ≡ false → condition-from n o ≡ true-cond
@@ -88,11 +84,11 @@ pub shared-no-condition : (g : Graph) (cs : List MaybeClaimedRegion) (ws : List 
     → (w : DeferredTargetSummary) → In w ws → (cds : LazyConds) → plan-bundle g cs w .condition ≡ some cds → ⊥
 shared-no-condition g cs [] h w i cds p = i
 shared-no-condition g cs (x ∷ ws) h w (inl e) cds p =
-    let y = or-left (any-merged (plan-bundle g cs x .inputs) || is-some (plan-bundle g cs x .condition)) _ h in
+    let y = or-left (any is-merged (plan-bundle g cs x .inputs) || is-some (plan-bundle g cs x .condition)) _ h in
     let q : plan-bundle g cs x .condition ≡ some cds = rw e at p in
-    let z : is-some (some cds) ≡ false = rw q at (or-right (any-merged (plan-bundle g cs x .inputs)) _ y) in clash (cc)
+    let z : is-some (some cds) ≡ false = rw q at (or-right (any is-merged (plan-bundle g cs x .inputs)) _ y) in clash (cc)
 shared-no-condition g cs (x ∷ ws) h w (inr i) cds p =
-    shared-no-condition g cs ws (or-right (any-merged (plan-bundle g cs x .inputs) || is-some (plan-bundle g cs x .condition)) _ h) w i cds p
+    shared-no-condition g cs ws (or-right (any is-merged (plan-bundle g cs x .inputs) || is-some (plan-bundle g cs x .condition)) _ h) w i cds p
 
 module _ (W : World) where
   unique-from : (k : ℕ) (x : DeferredTarget) (cs : List MaybeClaimedRegion) (v : Value) → unique-input k cs (per-cases x cs) ≡ unique v

@@ -6,16 +6,9 @@ use mathlib.Core.Path.{_∙_, _≡_, ap, refl, sym}
 use Prim.Native.Nat.{_<_, _≤_, ℕ}
 use native.Mathlib.Omega.{arith}
 use lib.ListN.{List·getD-map, getD, length, length-map}
-use Rattle.meaning.specs.Form.{Nodes, ⟨⟩}
+use Rattle.meaning.specs.Runs.{Nodes, ⟨⟩, Ran, ended, no-end, run-nodes, through, End, Event, RunState, Word, mark, place-taken, word}
 use Rattle.meaning.specs.Graph.{SelectionKind, Value, input, undef}
-use Rattle.meaning.specs.NestedRun.{Ran, ended, no-end, run-nodes, through}
-use Rattle.meaning.specs.Run.{End, Event, RunState, Word, mark, place-taken, word}
-use Rattle.nesting.specs.Case.{ClaimedRegion, MaybeClaimedRegion, Scrutinee, deferred-of, err, lazy, ok, value}
-use Rattle.nesting.specs.Deferred.{DeferredEdgeBundle, DeferredEdgeBundleSet, DeferredTarget, to-region}
-use Rattle.nesting.specs.Last.{rewrite-nodes}
-use Rattle.nesting.specs.Rewrite.{rewrite, rewrites-of}
-use Rattle.nesting.specs.Select.{rewrite-bundle, rewrite-case}
-use Rattle.nesting.specs.State.{NestState, NodeOutput, RewriteEntry}
+use Rattle.nesting.specs.Nesting.{ClaimedRegion, MaybeClaimedRegion, Scrutinee, deferred-of, err, lazy, ok, value, DeferredEdgeBundle, DeferredEdgeBundleSet, DeferredTarget, to-region, rewrite-nodes, rewrite, rewrites-of, rewrite-bundle, rewrite-case, NestState, NodeOutput, RewriteEntry}
 use Rattle.nesting.specs.ChainSteps.{stops-rewrite}
 use Rattle.follows.specs.Small.{In, false-if, from-map, getD-map-in, in-map, nth}
 use Rattle.follows.specs.Key.{Key, key, nodes-none, owns-nodes}

@@ -8,21 +8,14 @@ use native.Mathlib.Omega.{arith}
 use lib.ListN.{length}
 use lib.Dec.{ltb}
 use Rattle.meaning.specs.Graph.{Value, const, instr, output, bool, bit, bool-cond, Graph}
-use Rattle.meaning.specs.Form.{Nodes, block, select, ⟨⟩, _▸_, ∅, case}
-use Rattle.meaning.specs.Run.{word, Event, returned, Given, put, put-inputs, words-from, entry-words, do-instr, do-block, do-blocks}
-use Rattle.meaning.specs.GraphRun.{Ended, graph-run, run-from}
-use Rattle.meaning.specs.NestedRun.{NestedEnded, put-outputs, turns, run-nodes, start, nested-run}
+use Rattle.meaning.specs.Runs.{Nodes, block, select, ⟨⟩, _▸_, ∅, case, word, Event, returned, Given, put, put-inputs, entry-words, do-instr, do-block, do-blocks, Ended, graph-run, run-from, NestedEnded, put-outputs, turns, run-nodes, nested-run}
 use Rattle.meaning.specs.MoreBudget.{nested-run-stays}
 use Rattle.format.specs.Store.{accepted}
 use Rattle.format.specs.Accept.{accept}
 use Rattle.format.specs.ReadLaws.{clash}
-use Rattle.nesting.specs.Nested.{Nested, nested}
-use Rattle.nesting.specs.Func.{structurize-func}
-use Rattle.nesting.specs.Count.{visit, reachable}
-use Rattle.nesting.specs.Figure.{figure}
-use Rattle.nesting.specs.Line.{Sheet}
-use Rattle.nesting.specs.Sheet.{sheet-of}
-use Rattle.nesting.specs.Top.{answer}
+use Rattle.nesting.specs.Computes.{nesting-computes}
+use Rattle.nesting.specs.Nesting.{Nested, structurize-func, visit, reachable}
+use Rattle.nesting.specs.Sheet.{figure, Sheet, sheet-of, answer}
 use Rattle.nesting.specs.Pack.{store-of-graph}
 use Rattle.nesting.specs.CaseGraphs.{op, A, B}
 use Rattle.follows.specs.Statements.{is-whole, Followed, most-attempts, FewAttempts, SoundSheet}
@@ -43,7 +36,7 @@ abbrev A-ended : Ended
 A-ended = record { end = returned (word 0 ∷ []); events = event 1 0 8 ∷ event 0 0 7 ∷ [] }
 
 A-run : graph-run A ones 10 ≡ some A-ended
-unfolding graph-run run-from entry-words words-from put put-inputs do-instr do-block do-blocks
+unfolding graph-run run-from entry-words put put-inputs do-instr do-block do-blocks
 A-run = refl
 
 A-followed : Followed A ones A-form (some (output 0 ∷ [])) A-ended
@@ -74,7 +67,7 @@ A-crossed =
 
 A-crossed-run : nested-run A ones A-crossed (some (output 0 ∷ [])) 1
     ≡ some (record { end = returned (word 1 ∷ []); events = event 2 0 9 ∷ event 0 0 7 ∷ []; cost = 11; over-limit = false })
-unfolding nested-run start entry-words words-from put put-inputs put-outputs run-nodes do-instr do-block
+unfolding nested-run entry-words put put-inputs put-outputs run-nodes do-instr do-block
 A-crossed-run = refl
 
 A-crossed-wrong : Followed A ones A-crossed (some (output 0 ∷ [])) A-ended → ⊥
@@ -88,7 +81,7 @@ abbrev B-ended : Ended
 B-ended = record { end = returned []; events = event 1 0 5 ∷ event 1 0 5 ∷ event 1 0 5 ∷ event 1 0 5 ∷ event 1 0 5 ∷ [] }
 
 B-run : graph-run B five 10 ≡ some B-ended
-unfolding graph-run run-from entry-words words-from put put-inputs do-instr do-block do-blocks
+unfolding graph-run run-from entry-words put put-inputs do-instr do-block do-blocks
 B-run = refl
 
 B-followed : Followed B five (B-loop (instr 1 0)) (some []) B-ended
@@ -96,7 +89,7 @@ B-followed = follows B B-valid B-nested B-nests (some []) (is-whole refl) five 1
 
 -- A nester that lets the loop test another value than its header's: one turn.
 B-once-run : nested-run B five (B-loop (bool false)) (some []) 1 ≡ some (record { end = returned []; events = event 1 0 5 ∷ []; cost = 10; over-limit = false })
-unfolding nested-run start entry-words words-from put put-inputs put-outputs run-nodes turns do-instr do-block
+unfolding nested-run entry-words put put-inputs put-outputs run-nodes turns do-instr do-block
 B-once-run = refl
 
 B-once-wrong : Followed B five (B-loop (bool false)) (some []) B-ended → ⊥
@@ -110,7 +103,7 @@ abbrev A-dear : NestedEnded
 A-dear = record { end = returned (word 1 ∷ []); events = event 2 0 9 ∷ event 0 0 7 ∷ []; cost = 11; over-limit = false }
 
 A-dear-run : nested-run A zeros A-form (some (output 0 ∷ [])) 1 ≡ some A-dear
-unfolding nested-run start entry-words words-from put put-inputs put-outputs run-nodes do-instr do-block
+unfolding nested-run entry-words put put-inputs put-outputs run-nodes do-instr do-block
 A-dear-run = refl
 
 A-bounded : 11 ≤ figure 2 A-form
@@ -133,11 +126,11 @@ cost-of none = none
 cost-of (some e) = some (e .cost, e .over-limit)
 
 B-ten : cost-of (nested-run B (turning 10) (B-loop (instr 1 0)) (some []) 20) ≡ some (100, false)
-unfolding nested-run start entry-words words-from put put-inputs put-outputs run-nodes turns do-instr do-block
+unfolding nested-run entry-words put put-inputs put-outputs run-nodes turns do-instr do-block
 B-ten = refl
 
 B-eleven : cost-of (nested-run B (turning 11) (B-loop (instr 1 0)) (some []) 20) ≡ some (110, true)
-unfolding nested-run start entry-words words-from put put-inputs put-outputs run-nodes turns do-instr do-block
+unfolding nested-run entry-words put put-inputs put-outputs run-nodes turns do-instr do-block
 B-eleven = refl
 
 B-figure : figure 2 (B-loop (instr 1 0)) ≡ 100
@@ -158,14 +151,14 @@ A-more-wrong h = omega (arith, A-most, h .few)
 
 -- ---- 4, at A: the sheet of its store.
 A-answer : answer (store-of-graph A) 16384 ≡ accepted (sheet-of A A-nested)
-unfolding answer store-of-graph
+unfolding nesting-computes answer store-of-graph
 A-answer = refl
 
 A-sound : SoundSheet (store-of-graph A) (sheet-of A A-nested)
 A-sound = sound (store-of-graph A) 16384 (sheet-of A A-nested) A-answer
 
 -- A store has one sound sheet at most.
-one-sheet : {store : List ℕ} {g : Graph} {n : Nested} {s : Sheet} → accept store ≡ accepted g → structurize-func g ≡ nested n → SoundSheet store s → s ≡ sheet-of g n
+one-sheet : {store : List ℕ} {g : Graph} {n : Nested} {s : Sheet} → accept store ≡ accepted g → structurize-func g ≡ accepted n → SoundSheet store s → s ≡ sheet-of g n
 one-sheet {g = g} {n = n} a b h =
     let same-graph : h .graph ≡ g = let c = h .accepts in cc in
     let same-nest : h .nest ≡ n = let c = h .nests in cc in

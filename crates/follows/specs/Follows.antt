@@ -10,23 +10,14 @@ use lib.ListN.{length, getD}
 use lib.Dec.{eqb}
 use borrow.Author.Tests.{eqb-true}
 use Rattle.meaning.specs.Graph.{Value, input, Graph, region}
-use Rattle.meaning.specs.Run.{End, returned, Given, RunState, base-env, words-from, entry-words}
-use Rattle.meaning.specs.Form.{Nodes, ⟨⟩}
-use Rattle.meaning.specs.GraphRun.{Ended, run-from, graph-run}
-use Rattle.meaning.specs.NestedRun.{Ran, through, ended, no-end, run-nodes, ended-at, after-last, start, nested-run}
+use Rattle.meaning.specs.Lists.{numbers-from}
+use Rattle.meaning.specs.Runs.{Word, word32, End, returned, Given, RunState, base-env, entry-words, Nodes, ⟨⟩, Ended, run-from, graph-run, Ran, through, ended, no-end, run-nodes, ended-at, after-last, start, nested-run}
 use Rattle.format.specs.ReadLaws.{clash}
 use Rattle.format.specs.Valid.{Valid}
+use Rattle.format.specs.Store
+use Rattle.format.specs.Store.{accepted}
 use Rattle.nesting.specs.Contexts.{rooted-ends}
-use Rattle.nesting.specs.Deferred.{DeferredTarget, to-region, to-return, DeferredEdgeBundle, DeferredEdgeBundleSet}
-use Rattle.nesting.specs.Nested.{Outcome, untouched, whole, closed, leftover, Nested, NestAnswer, nested}
-use Rattle.nesting.specs.State.{IncomingEdgeCount, StructurizeRegionState, not-begun, in-progress, claimed, ready, NestState, Answer, done, turned-away, give, follow, _>>_, turn-away}
-use Rattle.nesting.specs.Change.{set-state, get-state, with-attempt}
-use Rattle.nesting.specs.Rewrite.{rewrites-of, rewrite}
-use Rattle.nesting.specs.Case.{ClaimedRegion}
-use Rattle.nesting.specs.Claim.{try-claim-edge-bundle, claim-by-state, claim-body, backedge-of, begin, structurize-region}
-use Rattle.nesting.specs.Count.{incoming-edge-counts}
-use Rattle.nesting.specs.Last.{rewrite-nodes}
-use Rattle.nesting.specs.Func.{initial-state, outcome-of, outcome-by, piece, conclude-by, conclude, structurize-func-by, structurize-func}
+use Rattle.nesting.specs.Nesting.{DeferredTarget, to-region, to-return, DeferredEdgeBundle, DeferredEdgeBundleSet, Outcome, untouched, whole, closed, leftover, Nested, IncomingEdgeCount, StructurizeRegionState, not-begun, in-progress, claimed, ready, NestState, Answer, done, turned-away, give, follow, _>>_, turn-away, set-state, get-state, with-attempt, rewrites-of, rewrite, ClaimedRegion, try-claim-edge-bundle, claim-by-state, claim-body, backedge-of, begin, structurize-region, incoming-edge-counts, rewrite-nodes, initial-state, outcome-of, outcome-by, rewrite-piece, conclude-by, conclude, structurize-func-by, structurize-func}
 use Rattle.nesting.specs.Post.{bind, map-post}
 use Rattle.nesting.specs.Fewer.{state-of}
 use Rattle.follows.specs.Usable.{arity}
@@ -91,14 +82,13 @@ module _ (g : Graph) (counts : List IncomingEdgeCount) where
 abbrev world : (g : Graph) → Valid g → Given → World
 world g v x = record { g = g; valid = usable-graph g v; rule = x .rule; base = base-env x; on-bool = λ b. refl; on-undef = λ ty. refl }
 
-words-many : (f : ℕ → ℕ) (k : ℕ) (ts : List ℕ) → length (words-from f k ts) ≡ length ts
-unfolding words-from
-words-many f k [] = refl
-words-many f k (t ∷ ts) = ap suc (words-many f (suc k) ts)
+numbers-many : (f : ℕ → Word) (k : ℕ) (ts : List ℕ) → length (map f (numbers-from k ts)) ≡ length ts
+numbers-many f k [] = refl
+numbers-many f k (t ∷ ts) = ap suc (numbers-many f (suc k) ts)
 
 entry-many : (g : Graph) (x : Given) → length (entry-words g x) ≡ arity g (g .entry)
 unfolding entry-words
-entry-many g x = words-many (x .entry-inputs) 0 (region g (g .entry) .inputs)
+entry-many g x = numbers-many (λ k. word32 (x .entry-inputs k)) 0 (region g (g .entry) .inputs)
 
 module _ (g : Graph) (valid : Valid g) (x : Given) (c : ClaimedRegion) (s : NestState)
     (cd : ClaimDone (world g valid x) (g .entry) [] (initial-state g) (some c) s) (itself : c .structured-body ≡ g .entry) where
@@ -110,7 +100,7 @@ module _ (g : Graph) (valid : Valid g) (x : Given) (c : ClaimedRegion) (s : Nest
 
   entry-follows : (b : ℕ) (e : Ended) → graph-run g x b ≡ some e
       → Tracks (world g valid x) ρ (s .node-outputs) b (c .deferred-edges) (e .end) (e .events) (run-nodes (x .rule) (g .test-cost) b form (start g x))
-  unfolding graph-run start
+  unfolding graph-run
   entry-follows b e gr =
       let hd = cd .got .holds in
       let origin : c .origin ≡ g .entry = cd .got .origin in
@@ -178,7 +168,7 @@ module _ (g : Graph) (valid : Valid g) (c : ClaimedRegion) (s : NestState)
     Shows o = FollowsRun g (conclude-by g s (c .children) (y ∷ ys) o)
 
     one : y .target ≡ to-return → c .deferred-edges ≡ y ∷ [] → Shows whole
-    unfolding piece
+    unfolding rewrite-piece
     one t q outs (is-closed r) x b e gr = absurd (clash (cc))
     one t q outs (is-whole r) x b e gr = whole-follows g valid x c s (cd x) itself y t q b e gr
 
@@ -191,7 +181,7 @@ module _ (g : Graph) (valid : Valid g) (c : ClaimedRegion) (s : NestState)
     by-target p to-return t = by-others p t ys refl
 
   none-follows : c .deferred-edges ≡ [] → FollowsRun g (conclude-by g s (c .children) [] closed)
-  unfolding piece
+  unfolding rewrite-piece
   none-follows p outs (is-closed q) x b e gr = closed-follows g valid x c s (cd x) itself p b e gr
   none-follows p outs (is-whole q) x b e gr = absurd (clash (cc))
 
@@ -199,7 +189,7 @@ module _ (g : Graph) (valid : Valid g) (c : ClaimedRegion) (s : NestState)
   shown-follows [] p = none-follows p
   shown-follows (y ∷ ys) p = by-target y ys p (y .target) refl
 
-nested-is : (a b : Nested) → nested a ≡ nested b → a ≡ b
+nested-is : (a b : Nested) → accepted a ≡ accepted b → a ≡ b
 nested-is a b p = cc
 
 untouched-run : (g : Graph) (n : Nested) → n .outcome ≡ untouched → FollowsRun g n
@@ -208,23 +198,23 @@ untouched-run g n p outs (is-closed q) x b e gr = absurd (let z : untouched ≡ 
 
 module _ (g : Graph) (valid : Valid g) (n : Nested) where
   by-answer : (counts : List IncomingEdgeCount) → getD counts (g .entry) 0 ≡ 1 → (a : Answer (Option ClaimedRegion))
-      → ((x : Given) → IfDone (ClaimDone (world g valid x) (g .entry) [] (initial-state g)) a) → IfDone (Itself g counts (g .entry) 1) a → conclude g a ≡ nested n → FollowsRun g n
+      → ((x : Given) → IfDone (ClaimDone (world g valid x) (g .entry) [] (initial-state g)) a) → IfDone (Itself g counts (g .entry) 1) a → conclude g a ≡ accepted n → FollowsRun g n
   unfolding conclude
   by-answer counts once (turned-away k w) p q r = absurd (clash (cc))
   by-answer counts once (done none s) p q r = absurd (clash (cc))
   by-answer counts once (done (some c) s) p q r =
       subst (λ z. FollowsRun g z) (nested-is _ n r) (shown-follows g valid c s (λ x. p x .post) (q .post once) (c .deferred-edges) refl)
 
-  by-counts : (counts : List IncomingEdgeCount) → structurize-func-by g counts ≡ nested n → FollowsRun g n
+  by-counts : (counts : List IncomingEdgeCount) → structurize-func-by g counts ≡ accepted n → FollowsRun g n
   unfolding structurize-func-by
   by-counts counts r = go (eqb (getD counts (g .entry) 0) 1) refl r
     where
       go : (b : Bool) → eqb (getD counts (g .entry) 0) 1 ≡ b
-          → _≡_ {A = NestAnswer} (elim b [
-            | false ↦ nested (conclude-by g (initial-state g) ⟨⟩ [] untouched)
+          → _≡_ {A = Store.Answer Nested} (elim b [
+            | false ↦ accepted (conclude-by g (initial-state g) ⟨⟩ [] untouched)
             | true ↦ conclude g
                 (try-claim-edge-bundle g counts (suc (length (g .regions))) (g .entry) 1 [] (initial-state g))
-          ]) (nested n)
+          ]) (accepted n)
           → FollowsRun g n
       go false p r = untouched-run g n (ap (λ z. z .outcome) (sym (nested-is _ n r)))
       go true p r = by-answer counts (eqb-true (getD counts (g .entry) 0) 1 p) _

@@ -7,13 +7,10 @@ use native.Mathlib.Omega.{arith}
 use lib.Dec.{eqb, leb}
 use lib.ListN.{getD}
 use borrow.Author.Tests.{eqb-true}
-use Rattle.meaning.specs.Form.{Cases, Node, Nodes, _▸_, block, case, exit, loop, select, ∅, ⟨⟩}
+use Rattle.meaning.specs.Runs.{Cases, Node, Nodes, _▸_, block, case, exit, loop, select, ∅, ⟨⟩, Ran, and-then, assign-inputs, assign-outputs, case-count, ended, no-end, note-over, once-more, pay, put-outputs, run-case, run-node, run-nodes, tested, through, turns, Env, Rule, RunState, Word, do-block, do-instr, mark, place-taken, put, put-inputs, word}
 use Rattle.meaning.specs.Graph.{Instr, Value, held, instr, output, pick, sameValue, undef}
-use Rattle.meaning.specs.NestedRun.{Ran, and-then, assign-inputs, assign-outputs, case-count, ended, no-end, note-over, once-more, pay, put-outputs, run-case, run-node, run-nodes, tested, through, turns}
-use Rattle.meaning.specs.Run.{Env, Rule, RunState, Word, do-block, do-instr, mark, place-taken, put, put-inputs, word}
 use Rattle.format.specs.ReadLaws.{clash}
-use Rattle.nesting.specs.Last.{case-outputs, output-decls, outputs-of, rewrite-cases-of, rewrite-node, rewrite-nodes, rewrite-reads}
-use Rattle.nesting.specs.State.{NodeOutput}
+use Rattle.nesting.specs.Nesting.{case-outputs, output-decls, outputs-of, rewrite-cases-of, rewrite-node, rewrite-nodes, rewrite-reads, NodeOutput}
 use Rattle.follows.specs.Values.{sameValue→eq}
 use Rattle.follows.specs.Small.{eqb-less, eqb-self, false-if, or-left, or-right}
 use Rattle.follows.specs.Key.{OutputAt, is-held, is-instr, is-node, key, key-output, owns, owns-cases, owns-nodes}

@@ -10,13 +10,10 @@ use Prim.Native.Nat.{_<_, ℕ}
 use native.Mathlib.Omega.{arith}
 use lib.Dec.{eqb}
 use lib.ListN.{length-set}
-use Rattle.meaning.specs.Form.{Nodes}
+use Rattle.meaning.specs.Runs.{Nodes}
 use Rattle.format.specs.ReadLaws.{clash}
-use Rattle.nesting.specs.Case.{ClaimedRegion, MaybeClaimedRegion, err, ok}
-use Rattle.nesting.specs.Deferred.{DeferredEdgeBundleSet}
+use Rattle.nesting.specs.Nesting.{ClaimedRegion, MaybeClaimedRegion, err, ok, DeferredEdgeBundleSet, rewrites-of, NestState, in-progress, not-begun, ready}
 use Rattle.nesting.specs.Fewer.{state-of}
-use Rattle.nesting.specs.Rewrite.{rewrites-of}
-use Rattle.nesting.specs.State.{NestState, in-progress, not-begun, ready}
 use Rattle.follows.specs.ConvergentCase.{Apart}
 use Rattle.follows.specs.Small.{In, at-or-else, eqb-self}
 use Rattle.follows.specs.Key.{Key, of-held, of-instr, of-node, of-none, owns-nodes}

@@ -6,7 +6,7 @@ use native.Mathlib.Omega.{arith}
 use lib.Dec.{eqb}
 use lib.ListN.{getD, length}
 use Rattle.meaning.specs.Graph.{Value, input, sameValue}
-use Rattle.meaning.specs.Run.{Env, Word, mark, put, put-inputs}
+use Rattle.meaning.specs.Runs.{Env, Word, mark, put, put-inputs}
 use Rattle.follows.specs.Small.{eqb-less, eqb-self}
 use Rattle.follows.specs.Frame.{put-other, put-same}
 

@@ -11,15 +11,12 @@ use Prim.Native.Nat.{_<_, _≤_, ℕ}
 use native.Mathlib.Omega.{arith}
 use lib.Dec.{eqb}
 use lib.ListN.{getD, length}
-use Rattle.meaning.specs.Form.{Nodes}
+use Rattle.meaning.specs.Runs.{Nodes}
 use Rattle.meaning.specs.Graph.{Value, region}
 use Rattle.nesting.specs.ChainEnds.{Gives}
 use Rattle.nesting.specs.Contexts.{InContext, Rooted, open-else, rooted-add}
-use Rattle.nesting.specs.Change.{with-rewrites}
-use Rattle.nesting.specs.Deferred.{DeferredEdgeBundleSet}
+use Rattle.nesting.specs.Nesting.{with-rewrites, DeferredEdgeBundleSet, rewrites-of, NestState, RegionInputRewrites, StructurizeRegionState, claimed, in-progress, not-begun, ready}
 use Rattle.nesting.specs.Fewer.{state-of}
-use Rattle.nesting.specs.Rewrite.{rewrites-of}
-use Rattle.nesting.specs.State.{NestState, RegionInputRewrites, StructurizeRegionState, claimed, in-progress, not-begun, ready}
 use Rattle.follows.specs.Key.{Key, of-held, of-instr, of-node, of-none, owns-nodes}
 use Rattle.follows.specs.World.{World, ar, size}
 use Rattle.follows.specs.Tables.{Gains, extends-refl, extends-same, gains-refl, gains-then, tables}

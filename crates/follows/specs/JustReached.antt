@@ -1,6 +1,6 @@
 -- The list of reachable regions is just what the entry reaches, each once.
 use Rattle.meaning.specs.Graph.{Graph}
-use Rattle.nesting.specs.Count.{reachable}
+use Rattle.nesting.specs.Nesting.{reachable}
 use Rattle.follows.specs.Statements.{JustReached}
 use Rattle.follows.specs.Reach.{reachable-sound, reachable-complete, reachable-once}
 

@@ -6,11 +6,10 @@ use mathlib.Core.Path.{_∙_, _≡_, ap, refl, sym}
 use Prim.Native.Nat.{ℕ}
 use lib.Dec.{eqb}
 use borrow.Author.Tests.{eqb-true}
-use Rattle.meaning.specs.Form.{Cases, Node, Nodes, _▸_, block, case, exit, loop, select, ∅, ⟨⟩}
+use Rattle.meaning.specs.Runs.{Cases, Node, Nodes, _▸_, block, case, exit, loop, select, ∅, ⟨⟩}
 use Rattle.meaning.specs.Graph.{Value, bool, const, held, input, instr, output, sameValue, undef}
 use Rattle.format.specs.ReadLaws.{clash}
-use Rattle.nesting.specs.Case.{join}
-use Rattle.nesting.specs.State.{NodeOutput}
+use Rattle.nesting.specs.Nesting.{join, NodeOutput}
 use Rattle.follows.specs.Small.{nth}
 
 -- A variable of a run is an instruction's output, a node's output, or a loop's body input.

@@ -6,17 +6,10 @@ use mathlib.Core.Path.{_∙_, _≡_, ap, refl, sym}
 use Prim.Native.Nat.{_<_, _≤_, ℕ}
 use native.Mathlib.Omega.{arith}
 use lib.ListN.{getD, length, length-map}
-use Rattle.meaning.specs.Form.{Nodes, _▸_, ⟨⟩}
+use Rattle.meaning.specs.Runs.{Nodes, _▸_, ⟨⟩, Ended, run-from, Ran, and-then, ended, no-end, run-node, run-nodes, through, End, Event, RunState, Word, mark, returned, word}
 use Rattle.meaning.specs.Graph.{Value, input}
-use Rattle.meaning.specs.GraphRun.{Ended, run-from}
-use Rattle.meaning.specs.NestedRun.{Ran, and-then, ended, no-end, run-node, run-nodes, through}
-use Rattle.meaning.specs.Run.{End, Event, RunState, Word, mark, returned, word}
 use Rattle.format.specs.ReadLaws.{clash}
-use Rattle.nesting.specs.BundleSet.{same-target}
-use Rattle.nesting.specs.Case.{join}
-use Rattle.nesting.specs.Deferred.{DeferredEdgeBundle, DeferredEdgeBundleSet, DeferredTarget, to-region, to-return}
-use Rattle.nesting.specs.Last.{rewrite-node, rewrite-nodes}
-use Rattle.nesting.specs.State.{NodeOutput}
+use Rattle.nesting.specs.Nesting.{same-target, join, DeferredEdgeBundle, DeferredEdgeBundleSet, DeferredTarget, to-region, to-return, rewrite-node, rewrite-nodes, NodeOutput}
 use Rattle.follows.specs.Small.{In, or-left}
 use Rattle.follows.specs.Key.{Key, is-constant, key, key-constant, nodes-none, owns-join, owns-nodes}
 use Rattle.follows.specs.World.{World, ar, from-region, runs}

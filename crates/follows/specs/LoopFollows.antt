@@ -8,17 +8,12 @@ use Prim.Native.Nat.{_<_, _≤_, suc, zero, ℕ}
 use native.Mathlib.Omega.{arith}
 use lib.Dec.{leb}
 use lib.ListN.{getD, length, length-map}
-use Rattle.meaning.specs.Form.{Nodes, _▸_, loop, ⟨⟩}
+use Rattle.meaning.specs.Runs.{Nodes, _▸_, loop, ⟨⟩, Ran, assign-inputs, ended, no-end, note-over, pay, run-nodes, through, turns, End, Event, RunState, Word, mark, word}
 use Rattle.meaning.specs.Graph.{Value, bool, input, undef}
-use Rattle.meaning.specs.NestedRun.{Ran, assign-inputs, ended, no-end, note-over, pay, run-nodes, through, turns}
-use Rattle.meaning.specs.Run.{End, Event, RunState, Word, mark, word}
 use Rattle.meaning.specs.LoopTurns.{inputs-at-once, last-turn, next-turn}
 use Rattle.nesting.specs.Contexts.{entry-at}
-use Rattle.nesting.specs.BundleSet.{same-target}
-use Rattle.nesting.specs.Deferred.{DeferredEdgeBundle, DeferredEdgeBundleSet, to-region}
-use Rattle.nesting.specs.Last.{rewrite-nodes}
-use Rattle.nesting.specs.Rewrite.{rewrites-of, step-input}
-use Rattle.nesting.specs.State.{InputRewrite, NodeOutput, renumber-or-replace-with, renumber-to, replace-by}
+use Rattle.nesting.specs.Nesting.{same-target, DeferredEdgeBundle, DeferredEdgeBundleSet, to-region, rewrite-nodes, rewrites-of, InputRewrite, NodeOutput, renumber-or-replace-with, renumber-to, replace-by}
+use Rattle.nesting.specs.ChainSteps.{step-input}
 use Rattle.follows.specs.Small.{In, eqb-self, getD-map-in, or-left, or-right}
 use Rattle.follows.specs.Key.{is-held, key, key-constant, of-held, owns-nodes}
 use Rattle.follows.specs.World.{World, ar, from-region, runs}

@@ -10,10 +10,7 @@ use lib.ListN.{List·getD-append, getD, length, length-append}
 use borrow.Author.Tests.{eqb-false, eqb-true}
 use Rattle.meaning.specs.Graph.{Graph, Value, input, pick, region, sameValue, undef}
 use Rattle.format.specs.Read.{isIn}
-use Rattle.nesting.specs.BundleSet.{same-target, split-out-target}
-use Rattle.nesting.specs.Deferred.{DeferredEdgeBundle, DeferredEdgeBundleSet, DeferredTarget, to-region, to-return}
-use Rattle.nesting.specs.Loop.{LoopInputs, add-exit-edge, keep-input, lift-input, no-inputs, take-input, take-inputs}
-use Rattle.nesting.specs.State.{InputRewrite, renumber-to, replace-by}
+use Rattle.nesting.specs.Nesting.{same-target, split-out-target, DeferredEdgeBundle, DeferredEdgeBundleSet, DeferredTarget, to-region, to-return, LoopInputs, add-exit-edge, keep-input, lift-input, no-inputs, take-input, take-inputs, InputRewrite, renumber-to, replace-by}
 use Rattle.follows.specs.Small.{In, from-map, in-map}
 use Rattle.follows.specs.Bundles.{Distinct, distinct-split-out, from-split-out, in-split-out}
 use Rattle.follows.specs.Values.{sameValue→eq}

@@ -8,14 +8,9 @@ use native.Mathlib.Omega.{arith}
 use lib.Dec.{eqb}
 use lib.ListN.{length, take}
 use borrow.Author.Tests.{eqb-false, eqb-true}
-use Rattle.meaning.specs.Form.{Nodes}
+use Rattle.meaning.specs.Runs.{Nodes, by-terminator, enter, run-from, run-nodes, through, End, Env, Event, Rule, RunState, Word, do-block, do-blocks, do-instr, put, put-inputs, word32}
 use Rattle.meaning.specs.Graph.{Instr, Value, bool, const, held, input, instr, output, region, sameValue, undef}
-use Rattle.meaning.specs.GraphRun.{by-terminator, enter, run-from}
-use Rattle.meaning.specs.NestedRun.{run-nodes, through}
-use Rattle.meaning.specs.Run.{End, Env, Event, Rule, RunState, Word, do-block, do-blocks, do-instr, put, put-inputs, word32}
-use Rattle.nesting.specs.Blocks.{block-count, blocks-from, blocks-of}
-use Rattle.nesting.specs.Last.{rewrite-nodes, rewrite-reads}
-use Rattle.nesting.specs.State.{NodeOutput}
+use Rattle.nesting.specs.Nesting.{block-count, blocks-from, blocks-of, rewrite-nodes, rewrite-reads, NodeOutput}
 use Rattle.follows.specs.Usable.{AllUsable, BlockUsable, BlocksUsable, Usable, total}
 use Rattle.follows.specs.Small.{eqb-self, or-left, or-right}
 use Rattle.follows.specs.Key.{is-constant, is-instr, key, nodes-none, owns-nodes}
@@ -115,7 +110,7 @@ module _ (W : World) (r : ℕ)
 
   -- the graph's run of the blocks, and the nested one
   begin : (ρ : Resolver) (os : List NodeOutput) (T : Tables) → Respects ρ os T → (s : RunState) (w : List Word) → Based W s → length w ≡ many → (ks : Nodes) → InputsAre ρ os r ks w s
-      → Agree ρ r many 0 (enter (W .rule) (W .g) (W .base) r w (s .events)) s
+      → Agree ρ r many 0 (enter (W .base) r w (s .events)) s
   begin ρ os T res s w bs lw ks gv = record { events = refl; reads = reads }
     where
       at-const : (v : Value) → is-constant v ≡ true → ρ v ≡ v → ((k : ℕ) → sameValue v (input r k) ≡ false) → put-inputs (λ k. input r k) 0 w (W .base) v ≡ s .env (ρ v)
@@ -148,7 +143,7 @@ module _ (W : World) (r : ℕ)
   unfolding run-from
   stands ρ os T res b zero s w bs lw gv e h gr = absurd (none-run W r w (s .events) e h gr)
   stands ρ os T res b (suc n) s w bs lw gv e h gr =
-      let a : RunState = enter (W .rule) (W .g) (W .base) r w (s .events) in
+      let a : RunState = enter (W .base) r w (s .events) in
       let y = blocks-agree (W .rule) ρ (res .on-instr) r many os (W .g .test-cost) b (block-count (take r (W .g .regions))) 0 blocks (apart ρ os T res s w lw (blocks-of (W .g) r) gv)
       a s usable (begin ρ os T res s w bs lw (blocks-of (W .g) r) gv) in
       rw (y .runs-on) (record { leads-to = record { graph = do-blocks (W .rule) r 0 blocks a; agree = y .agree; fewer = n; is-fewer = omega arith; ends = gr } })

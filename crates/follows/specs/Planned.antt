@@ -9,11 +9,7 @@ use lib.ListN.{getD}
 use Rattle.meaning.specs.Graph.{Graph, Value, output, pick, sameValue, undef}
 use Rattle.format.specs.ReadLaws.{clash}
 use Rattle.format.specs.WellRead.{and-both}
-use Rattle.nesting.specs.Case.{MaybeClaimedRegion, deferred-of}
-use Rattle.nesting.specs.Deferred.{DeferredEdgeBundle, DeferredEdgeBundleSet, DeferredTarget, LazyCond, LazyConds, merge, true-cond}
-use Rattle.nesting.specs.Plan.{DeferredTargetSummary, PerCaseDeferred, PlannedBundle, PlannedInput, UniqueInput, all-true, conditions-of, differing, in-parent, is-true-or-undef, merged, no-value, per-case-deferred, plan-bundle, shared, unique, unique-input, value-in-case, with-case, with-value}
-use Rattle.nesting.specs.Select.{DefinedSelect}
-use Rattle.nesting.specs.State.{NodeOutput}
+use Rattle.nesting.specs.Nesting.{MaybeClaimedRegion, deferred-of, DeferredEdgeBundle, DeferredEdgeBundleSet, DeferredTarget, LazyCond, LazyConds, merge, true-cond, DeferredTargetSummary, PerCaseDeferred, PlannedBundle, PlannedInput, UniqueInput, all-true, conditions-of, differing, in-parent, is-true-or-undef, merged, no-value, per-case-deferred, plan-bundle, shared, unique, unique-input, value-in-case, with-case, with-value, DefinedSelect, NodeOutput}
 use Rattle.follows.specs.Small.{In, nth}
 use Rattle.follows.specs.Key.{OutputAt}
 use Rattle.follows.specs.Conditions.{condition-at}

@@ -12,7 +12,7 @@ use Rattle.meaning.specs.Graph.{Region, Graph, region, nowhere, pick, edgesOf, 
 use Rattle.format.specs.Read.{isIn}
 use Rattle.format.specs.ReadLaws.{clash}
 use Rattle.format.specs.Valid.{Distinct}
-use Rattle.nesting.specs.Count.{visit, edge-count, reachable}
+use Rattle.nesting.specs.Nesting.{visit, edge-count, reachable}
 use Rattle.follows.specs.Reaches.{Reaches, entry, target}
 use Rattle.follows.specs.Members.{in-front, in-rest, FirstOrRest, first, rest, first-or-rest, in-left, in-right, left-or-right}
 

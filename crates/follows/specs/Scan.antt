@@ -9,15 +9,10 @@ use lib.Dec.{eqb}
 use lib.ListN.{length}
 use borrow.Author.Tests.{eqb-true}
 use Rattle.meaning.specs.Graph.{Value, bool, bool-cond, pick, region}
-use Rattle.meaning.specs.Run.{End, Event, RunState, place-taken, word}
-use Rattle.nesting.specs.BundleSet.{is-always, same-target}
-use Rattle.nesting.specs.Case.{Body, ClaimedRegion, MaybeClaimedRegion, err, lazy, ok}
-use Rattle.nesting.specs.Claim.{Claim, SplitOut, resolve-by, resolve-deferred, split-out-matching}
-use Rattle.nesting.specs.Deferred.{DeferredEdgeBundle, DeferredEdgeBundleSet, DeferredTarget, LazyCond, to-region, to-return, true-cond}
+use Rattle.meaning.specs.Runs.{End, Event, RunState, place-taken, word}
+use Rattle.nesting.specs.Nesting.{is-always, same-target, Body, ClaimedRegion, MaybeClaimedRegion, err, lazy, ok, Claim, SplitOut, resolve-by, resolve-deferred, split-out-matching, DeferredEdgeBundle, DeferredEdgeBundleSet, DeferredTarget, LazyCond, to-region, to-return, true-cond, structurize-select-into, Answer, NestState, NodeOutput, done, turned-away}
 use Rattle.nesting.specs.FirstClaim.{bundle-to, first-claim}
 use Rattle.nesting.specs.Post.{bind, map-post}
-use Rattle.nesting.specs.Select.{structurize-select-into}
-use Rattle.nesting.specs.State.{Answer, NestState, NodeOutput, done, turned-away}
 use Rattle.follows.specs.Small.{In}
 use Rattle.follows.specs.World.{Fits, World, ar}
 use Rattle.follows.specs.Tables.{Resolver, Respects, tables}

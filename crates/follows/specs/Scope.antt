@@ -6,15 +6,11 @@ use mathlib.Core.Path.{_∙_, _≡_, refl, subst, sym}
 use mathlib.Core.Option.{none}
 use Prim.Native.Nat.{_<_, suc, ℕ}
 use lib.ListN.{getD, length}
-use Rattle.meaning.specs.Form.{Nodes}
+use Rattle.meaning.specs.Runs.{Nodes, End, Event, RunState}
 use Rattle.meaning.specs.Graph.{Value, bool, input, output, undef}
-use Rattle.meaning.specs.Run.{End, Event, RunState}
 use Rattle.nesting.specs.ChainEnds.{names}
 use Rattle.nesting.specs.Contexts.{InContext, context-more, context-rewritten, no-input}
-use Rattle.nesting.specs.Case.{join}
-use Rattle.nesting.specs.Deferred.{DeferredEdgeBundle, DeferredEdgeBundleSet, DeferredTarget, LazyCond, false-cond, merge, true-cond, undef-cond}
-use Rattle.nesting.specs.Rewrite.{rewrite, rewrites-of}
-use Rattle.nesting.specs.State.{NodeOutput, RewriteEntry}
+use Rattle.nesting.specs.Nesting.{join, DeferredEdgeBundle, DeferredEdgeBundleSet, DeferredTarget, LazyCond, false-cond, merge, true-cond, undef-cond, rewrite, rewrites-of, NodeOutput, RewriteEntry}
 use Rattle.follows.specs.Small.{In}
 use Rattle.follows.specs.Key.{Key, OutputAt, constant-by, is-constant, key, key-constant, key-output, of-node, of-none, owns-join, owns-nodes}
 use Rattle.follows.specs.World.{Fits, World}

@@ -7,16 +7,11 @@ use mathlib.Core.Path.{_≡_, ap, refl}
 use Prim.Native.Nat.{_<_, _≤_, suc, zero, ℕ}
 use native.Mathlib.Omega.{arith}
 use lib.ListN.{length}
-use Rattle.meaning.specs.Form.{Cases, _▸_, case, select, ∅, ⟨⟩}
+use Rattle.meaning.specs.Runs.{Cases, _▸_, case, select, ∅, ⟨⟩, case-count}
 use Rattle.meaning.specs.Graph.{SelectionKind, Value}
-use Rattle.meaning.specs.NestedRun.{case-count}
 use Rattle.format.specs.ReadLaws.{clash}
-use Rattle.nesting.specs.Case.{MaybeClaimedRegion, Scrutinee, err, lazy, ok, value}
-use Rattle.nesting.specs.Change.{define-node, define-region}
-use Rattle.nesting.specs.Cond.{materialize-lazy-cond}
+use Rattle.nesting.specs.Nesting.{MaybeClaimedRegion, Scrutinee, err, lazy, ok, value, define-node, define-region, materialize-lazy-cond, DefinedSelect, case-regions, define-select, scrutinee-value, NestState, NodeOutput}
 use Rattle.nesting.specs.Post.{bind, map-post}
-use Rattle.nesting.specs.Select.{DefinedSelect, case-regions, define-select, scrutinee-value}
-use Rattle.nesting.specs.State.{NestState, NodeOutput}
 use Rattle.follows.specs.Small.{In, nth, or-either, or-left, or-right}
 use Rattle.follows.specs.Key.{Key, owns-cases, owns-nodes}
 use Rattle.follows.specs.Tables.{Extends}

@@ -8,18 +8,10 @@ use Prim.Native.Nat.{_<_, _≤_, ℕ}
 use lib.Dec.{eqb}
 use lib.ListN.{getD, length}
 use borrow.Author.Tests.{eqb-true}
-use Rattle.meaning.specs.Form.{Cases, Nodes, _▸_, select, ⟨⟩}
+use Rattle.meaning.specs.Runs.{Cases, Nodes, _▸_, select, ⟨⟩, pay, run-nodes, through, End, Event, RunState, mark, word}
 use Rattle.meaning.specs.Graph.{SelectionKind, Value, bool, bool-cond, const, held, input, instr, number, output, pick, undef}
-use Rattle.meaning.specs.NestedRun.{pay, run-nodes, through}
-use Rattle.meaning.specs.Run.{End, Event, RunState, mark, word}
 use Rattle.format.specs.ReadLaws.{clash}
-use Rattle.nesting.specs.Case.{Body, ClaimedRegion, MaybeClaimedRegion, Scrutinee, deferred-of, err, has-children, join, ok}
-use Rattle.nesting.specs.Deferred.{DeferredEdgeBundle, to-region}
-use Rattle.nesting.specs.Last.{rewrite-nodes}
-use Rattle.nesting.specs.Plan.{DeferredTargetSummary, any-needs-select, any-non-empty-case, deferred-targets, in-parent, plan-bundles}
-use Rattle.nesting.specs.Rewrite.{rewrite}
-use Rattle.nesting.specs.Select.{DefinedSelect, rewrite-case, rewrite-claimed, shared-bundle}
-use Rattle.nesting.specs.State.{NestState, NodeOutput}
+use Rattle.nesting.specs.Nesting.{Body, ClaimedRegion, MaybeClaimedRegion, Scrutinee, deferred-of, err, has-children, join, ok, DeferredEdgeBundle, to-region, rewrite-nodes, DeferredTargetSummary, any-needs-select, any-non-empty-case, deferred-targets, in-parent, plan-bundles, rewrite, DefinedSelect, rewrite-case, rewrite-claimed, shared-bundle, NestState, NodeOutput}
 use Rattle.follows.specs.Small.{In, eqb-self, false-if, from-map, nth, nth-in, nth-map, or-left, or-right}
 use Rattle.follows.specs.Key.{Key, is-constant, is-node, key, node-key, nodes-none, of-node, owns-cases, owns-join, owns-nodes}
 use Rattle.follows.specs.World.{Fits, World, ar, fits-same, runs}

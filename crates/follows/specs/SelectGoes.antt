@@ -9,16 +9,9 @@ use native.Mathlib.Omega.{arith}
 use lib.ListN.{drop, drop-of-length-le, getD, length}
 use lib.Seq.{drop-cons}
 use Rattle.meaning.specs.Graph.{SelectionKind, Value, bool, bool-cond, output, pick, undef}
-use Rattle.meaning.specs.NestedRun.{assign-outputs}
-use Rattle.meaning.specs.Run.{End, Event, RunState, Word, mark, word}
+use Rattle.meaning.specs.Runs.{assign-outputs, End, Event, RunState, Word, mark, word}
 use Rattle.format.specs.ReadLaws.{clash}
-use Rattle.nesting.specs.BundleSet.{get-by-target, is-always, same-target}
-use Rattle.nesting.specs.Case.{MaybeClaimedRegion, deferred-of}
-use Rattle.nesting.specs.Deferred.{DeferredEdgeBundle, DeferredEdgeBundleSet, DeferredTarget, LazyCond, LazyConds, false-cond, merge, true-cond, undef-cond}
-use Rattle.nesting.specs.Last.{case-outputs, output-decls, outputs-of}
-use Rattle.nesting.specs.Plan.{DeferredTargetSummary, UniqueInput, all-true, conditions-of, differing, in-parent, is-true-or-undef, merged, no-value, per-case-deferred, per-case-of, plan-bundle, plan-input, plan-inputs, target-type, unique, unique-input, value-in-case}
-use Rattle.nesting.specs.Select.{DefinedSelect}
-use Rattle.nesting.specs.State.{NodeOutput}
+use Rattle.nesting.specs.Nesting.{get-by-target, is-always, same-target, MaybeClaimedRegion, deferred-of, DeferredEdgeBundle, DeferredEdgeBundleSet, DeferredTarget, LazyCond, LazyConds, false-cond, merge, true-cond, undef-cond, case-outputs, output-decls, outputs-of, DeferredTargetSummary, UniqueInput, all-true, conditions-of, differing, in-parent, is-true-or-undef, merged, no-value, per-case-deferred, per-case-of, plan-bundle, plan-input, plan-inputs, target-type, unique, unique-input, value-in-case, DefinedSelect, NodeOutput}
 use Rattle.follows.specs.Small.{In, nth}
 use Rattle.follows.specs.Key.{OutputAt}
 use Rattle.follows.specs.World.{World}

@@ -7,16 +7,9 @@ use mathlib.Core.Path.{_∙_, _≡_, ap, refl, subst, sym}
 use Prim.Native.Nat.{_+_, suc, zero, ℕ}
 use native.Mathlib.Omega.{arith}
 use lib.ListN.{getD, length}
-use Rattle.meaning.specs.Form.{Cases, Nodes, _▸_, case, select, ∅, ⟨⟩}
+use Rattle.meaning.specs.Runs.{Cases, Nodes, _▸_, case, select, ∅, ⟨⟩, Ran, and-then, case-count, ended, no-end, pay, run-case, run-nodes, through, End, Event, Rule, RunState, place-taken, word}
 use Rattle.meaning.specs.Graph.{SelectionKind, Value, bool, bool-cond, pick, undef}
-use Rattle.meaning.specs.NestedRun.{Ran, and-then, case-count, ended, no-end, pay, run-case, run-nodes, through}
-use Rattle.meaning.specs.Run.{End, Event, Rule, RunState, place-taken, word}
-use Rattle.nesting.specs.Case.{MaybeClaimedRegion, deferred-of}
-use Rattle.nesting.specs.Deferred.{DeferredEdgeBundle, DeferredEdgeBundleSet}
-use Rattle.nesting.specs.Last.{case-outputs, output-decls, outputs-of, rewrite-cases-of, rewrite-nodes}
-use Rattle.nesting.specs.Plan.{DeferredTargetSummary, in-parent, plan-bundle}
-use Rattle.nesting.specs.Select.{DefinedSelect}
-use Rattle.nesting.specs.State.{NodeOutput}
+use Rattle.nesting.specs.Nesting.{MaybeClaimedRegion, deferred-of, DeferredEdgeBundle, DeferredEdgeBundleSet, case-outputs, output-decls, outputs-of, rewrite-cases-of, rewrite-nodes, DeferredTargetSummary, in-parent, plan-bundle, DefinedSelect, NodeOutput}
 use Rattle.follows.specs.Small.{In, nth}
 use Rattle.follows.specs.Key.{is-node, key, key-constant, owns-nodes}
 use Rattle.follows.specs.World.{World, runs}

@@ -9,19 +9,14 @@ use native.Mathlib.Omega.{arith}
 use lib.Dec.{eqb}
 use lib.ListN.{getD}
 use borrow.Author.Tests.{eqb-false}
-use Rattle.meaning.specs.Form.{Cases, Nodes, _▸_, select, ⟨⟩}
+use Rattle.meaning.specs.Runs.{Cases, Nodes, _▸_, select, ⟨⟩}
 use Rattle.meaning.specs.Graph.{SelectionKind, Value, input, undef}
 use Rattle.format.specs.ReadLaws.{clash}
 use Rattle.nesting.specs.ChainEnds.{Gives}
 use Rattle.nesting.specs.Contexts.{InContext, entry-at, open-else}
-use Rattle.nesting.specs.Case.{Body, ClaimedRegion, MaybeClaimedRegion, Scrutinee, err, join, ok}
-use Rattle.nesting.specs.Change.{with-twice}
-use Rattle.nesting.specs.Deferred.{DeferredEdgeBundleSet}
-use Rattle.nesting.specs.Plan.{any-needs-select, any-non-empty-case, plan-bundles}
+use Rattle.meaning.specs.Lists.{any}
+use Rattle.nesting.specs.Nesting.{Body, ClaimedRegion, MaybeClaimedRegion, Scrutinee, err, join, ok, with-twice, DeferredEdgeBundleSet, any-needs-select, any-non-empty-case, plan-bundles, meets, rewrite, rewrites-of, DefinedSelect, define-select, emit, meets-in-case, replace-inputs, rewrite-case, rewrite-cases, rewrite-claimed, select-if, shared-bundle, structurize-select, NestState, NodeOutput, replace-with}
 use Rattle.nesting.specs.Post.{bind, map-post}
-use Rattle.nesting.specs.Rewrite.{any, meets, rewrite, rewrites-of}
-use Rattle.nesting.specs.Select.{DefinedSelect, define-select, emit, meets-in-case, replace-inputs, rewrite-case, rewrite-cases, rewrite-claimed, select-if, shared-bundle, structurize-select}
-use Rattle.nesting.specs.State.{NestState, NodeOutput, replace-with}
 use Rattle.follows.specs.ConvergentCase.{Apart}
 use Rattle.follows.specs.Small.{In, from-map, in-map, or-either, or-left, or-right}
 use Rattle.follows.specs.Key.{Key, is-node, node-key, of-node, owns-cases, owns-join, owns-nodes}

@@ -6,13 +6,8 @@ use mathlib.Core.Logic.{inl, inr}
 use Prim.Native.Nat.{ℕ, _+_, _≤_}
 use native.Mathlib.Omega.{arith}
 use Rattle.meaning.specs.Graph.{Value, SelectionKind, Graph}
-use Rattle.meaning.specs.Form.{Nodes}
-use Rattle.nesting.specs.Deferred.{DeferredEdgeBundleSet}
-use Rattle.nesting.specs.State.{NestState}
-use Rattle.nesting.specs.Rewrite.{rewrite}
-use Rattle.nesting.specs.Case.{MaybeClaimedRegion, ok, err, Scrutinee, deferred-of, append-maybe-claimed-region, Convergent, no-one, several, exactly-one, convergent-cases}
-use Rattle.nesting.specs.Plan.{DeferredTargetSummary, deferred-targets, PlannedBundle, plan-bundle, plan-bundles, any-needs-select, any-non-empty-case}
-use Rattle.nesting.specs.Select.{rewrite-bundle, rewrite-case, rewrite-cases, DefinedSelect, define-select, emit-inputs, emit-condition, emit, shared-bundle, select-if, replace-inputs, structurize-select, structurize-select-by, structurize-select-into}
+use Rattle.meaning.specs.Runs.{Nodes}
+use Rattle.nesting.specs.Nesting.{DeferredEdgeBundleSet, NestState, rewrite, MaybeClaimedRegion, ok, err, Scrutinee, deferred-of, append-maybe-claimed-region, Convergent, no-one, several, exactly-one, convergent-cases, DeferredTargetSummary, deferred-targets, PlannedBundle, plan-bundle, plan-bundles, any-needs-select, any-non-empty-case, rewrite-bundle, rewrite-case, rewrite-cases, DefinedSelect, define-select, emit-inputs, emit-condition, emit, shared-bundle, select-if, replace-inputs, structurize-select, structurize-select-by, structurize-select-into}
 use Rattle.nesting.specs.Post.{Post, map-post, bind}
 use Rattle.nesting.specs.Keeps.{define-select-keeps, emit-inputs-keeps, emit-condition-keeps, replace-inputs-keeps}
 use Rattle.nesting.specs.Still.{Still, still-refl, still-then, still-steady, still-log}

@@ -7,28 +7,20 @@ use Prim.Native.Nat.{ℕ}
 use lib.ListN.{length}
 use lib.Dec.{leb}
 use Rattle.meaning.specs.Graph.{Value, Graph}
+use Rattle.format.specs.Store
 use Rattle.format.specs.Store.{Answer, accepted, refused}
 use Rattle.format.specs.Accept.{accept}
 use Rattle.format.specs.AcceptValid.{accept-valid}
 use Rattle.format.specs.ReadLaws.{clash}
 use Rattle.format.specs.WellRead.{step}
-use Rattle.nesting.specs.Nested.{Outcome, untouched, whole, closed, leftover, Nested, NestAnswer, nested}
-use Rattle.nesting.specs.Func.{structurize-func}
-use Rattle.nesting.specs.Figure.{figure}
-use Rattle.nesting.specs.Line.{Sheet}
-use Rattle.nesting.specs.Sheet.{sheet-of}
-use Rattle.nesting.specs.Fields.{sheet-words}
-use Rattle.nesting.specs.Top.{nesting-of, sheet-for, words-fit, answer}
+use Rattle.nesting.specs.Nesting.{Outcome, untouched, whole, closed, leftover, Nested, structurize-func}
+use Rattle.nesting.specs.Sheet.{figure, Sheet, sheet-of, sheet-words, sheet-for, words-fit, answer}
 use Rattle.follows.specs.Statements.{HasForm, is-whole, is-closed, SoundSheet, Sound}
 use Rattle.follows.specs.Follows.{follows}
 use Rattle.follows.specs.Bounded.{bounded}
 use Rattle.follows.specs.Attempts.{attempts}
 
 -- ---- what the sheet shows of a form
-nest-accepted : (a : NestAnswer) (n : Nested) → nesting-of a ≡ accepted n → a ≡ nested n
-nest-accepted (NestAnswer.nested m) n h = let z : m ≡ n = cc in ap nested z
-nest-accepted (NestAnswer.refused k w) n h = absurd (clash (cc))
-
 -- a sheet that fits is handed on as it is
 fitting : (b : Bool) (k : ℕ) (s t : Sheet) → elim b as (λ b. Answer Sheet) [ true ↦ accepted s | false ↦ refused k 0 ] ≡ accepted t → t ≡ s
 fitting true k s t h = cc
@@ -54,19 +46,19 @@ record Shown (store : List ℕ) (s : Sheet) : Type 0 where
   graph : Graph
   nest : Nested
   accepts : accept store ≡ accepted graph
-  nests : structurize-func graph ≡ nested nest
+  nests : structurize-func graph ≡ accepted nest
   shows : s ≡ sheet-of graph nest
 
 shown-for : (store : List ℕ) (s : Sheet) → sheet-for store ≡ accepted s → Shown store s
 unfolding sheet-for
 shown-for store s h =
     let a = step (accept store) _ s h in
-    let b = step (nesting-of (structurize-func (a .value))) _ s (a .second) in
+    let b = step (structurize-func (a .value)) _ s (a .second) in
     record {
       graph = a .value;
       nest = b .value;
       accepts = a .first;
-      nests = nest-accepted (structurize-func (a .value)) (b .value) (b .first);
+      nests = b .first;
       shows = fitting (leb (sheet-of (a .value) (b .value) .figure) 4294967295) 11 (sheet-of (a .value) (b .value)) s (b .second);
     }
 

@@ -10,10 +10,8 @@ use borrow.Author.Tests.{eqb-true, eq-eqb}
 use Rattle.meaning.specs.Graph.{Value, pick}
 use Rattle.format.specs.Read.{isIn}
 use Rattle.format.specs.ReadLaws.{clash}
-use Rattle.nesting.specs.Deferred.{LazyCond, DeferredTarget, to-region, to-return, DeferredEdgeBundle, DeferredEdgeBundleSet}
-use Rattle.nesting.specs.BundleSet.{same-target, get-by-target, count-to, last-or, drop-last, fill-gap, split-out-target}
-use Rattle.nesting.specs.Count.{times-in}
-use Rattle.nesting.specs.Loop.{add-exit-edge}
+use Rattle.meaning.specs.Lists.{times-in}
+use Rattle.nesting.specs.Nesting.{LazyCond, DeferredTarget, to-region, to-return, DeferredEdgeBundle, DeferredEdgeBundleSet, same-target, get-by-target, count-to, last-or, drop-last, fill-gap, split-out-target, add-exit-edge}
 use Rattle.follows.specs.Bundles.{found-in}
 use Rattle.follows.specs.Totals.{Measure, total, at, bundles-to, edges-to, edgeless}
 

@@ -9,14 +9,11 @@ use lib.Dec.{eqb}
 use lib.ListN.{length, length-set, set}
 use lib.Seq.{getD-set-other, getD-set-same}
 use borrow.Author.Tests.{eqb-false, ne-eqb}
-use Rattle.meaning.specs.Form.{Nodes}
+use Rattle.meaning.specs.Runs.{Nodes}
 use Rattle.meaning.specs.Graph.{Instr}
 use Rattle.format.specs.ReadLaws.{clash}
-use Rattle.nesting.specs.Blocks.{blocks-from}
-use Rattle.nesting.specs.Change.{with-region-states}
-use Rattle.nesting.specs.Deferred.{DeferredEdgeBundleSet}
+use Rattle.nesting.specs.Nesting.{blocks-from, with-region-states, DeferredEdgeBundleSet, NestState, StructurizeRegionState, claimed, in-progress, not-begun, ready}
 use Rattle.nesting.specs.Fewer.{state-of}
-use Rattle.nesting.specs.State.{NestState, StructurizeRegionState, claimed, in-progress, not-begun, ready}
 use Rattle.follows.specs.Small.{at-or-else, or-either}
 use Rattle.follows.specs.Key.{Key, instr-key, is-instr, of-held, of-instr, of-node, of-none, owns-nodes}
 use Rattle.follows.specs.World.{World, size}

@@ -7,21 +7,13 @@ use mathlib.Core.Option.{Option, none, some}
 use Prim.Native.Nat.{ℕ, _+_, _-_, _*_, _≤_}
 use lib.ListN.{length}
 use Rattle.meaning.specs.Graph.{Value, Graph, region, edgesOf}
-use Rattle.meaning.specs.Form.{Nodes}
-use Rattle.meaning.specs.Run.{Given}
-use Rattle.meaning.specs.GraphRun.{Ended, graph-run}
-use Rattle.meaning.specs.NestedRun.{NestedEnded, nested-run}
+use Rattle.meaning.specs.Runs.{Nodes, Given, Ended, graph-run, NestedEnded, nested-run}
 use Rattle.format.specs.Store.{accepted}
 use Rattle.format.specs.Read.{isIn}
 use Rattle.format.specs.Accept.{accept}
 use Rattle.format.specs.Valid.{Distinct, Valid}
-use Rattle.nesting.specs.Nested.{whole, closed, Nested, nested}
-use Rattle.nesting.specs.Count.{reachable}
-use Rattle.nesting.specs.Func.{structurize-func}
-use Rattle.nesting.specs.Figure.{figure}
-use Rattle.nesting.specs.Line.{Sheet}
-use Rattle.nesting.specs.Sheet.{sheet-of}
-use Rattle.nesting.specs.Top.{answer}
+use Rattle.nesting.specs.Nesting.{whole, closed, Nested, reachable, structurize-func}
+use Rattle.nesting.specs.Sheet.{figure, Sheet, sheet-of, answer}
 use Rattle.follows.specs.Reaches.{Reaches}
 
 -- Two outcomes give a form to run: whole, which returns the entry's outputs after its last child, and closed, which has none.
@@ -45,7 +37,7 @@ FollowsRun g n =
     → Followed g x (n .entry .children) outs e
 
 abbrev pub Follows : Type 0
-Follows = (g : Graph) → Valid g → (n : Nested) → structurize-func g ≡ nested n → FollowsRun g n
+Follows = (g : Graph) → Valid g → (n : Nested) → structurize-func g ≡ accepted n → FollowsRun g n
 
 -- 2. BOUNDED. A nested run that ends costs at most the figure, if no loop, any time it is entered, starts its body more
 -- often than its header's turn limit. Whole runs, exits inside loops and selects included; for every form, however made.
@@ -74,14 +66,14 @@ pub record FewAttempts (g : Graph) (made : ℕ) : Type 0 where
   pub few : made ≤ most-attempts g (reachable g)
 
 abbrev pub Attempts : Type 0
-Attempts = (g : Graph) → Valid g → (n : Nested) → structurize-func g ≡ nested n → FewAttempts g (n .attempts)
+Attempts = (g : Graph) → Valid g → (n : Nested) → structurize-func g ≡ accepted n → FewAttempts g (n .attempts)
 
 -- 4. SOUND. All three of the sheet that the top definition gives for a store, whatever it accepts.
 pub record SoundSheet (store : List ℕ) (s : Sheet) : Type 0 where
   pub graph : Graph
   pub nest : Nested
   pub accepts : accept store ≡ accepted graph
-  pub nests : structurize-func graph ≡ nested nest
+  pub nests : structurize-func graph ≡ accepted nest
   pub shows : s ≡ sheet-of graph nest
   pub follows : FollowsRun graph nest
   pub bounded : (outs : Option (List Value)) → HasForm nest outs → (x : Given) (b : ℕ) (e : NestedEnded)

@@ -6,10 +6,9 @@ use mathlib.Core.Path.{_∙_, _≡_, ap, refl, subst, sym}
 use Prim.Native.Nat.{suc, zero, ℕ}
 use lib.ListN.{getD}
 use Rattle.meaning.specs.Graph.{Value, bool, const, held, input, instr, output, undef}
-use Rattle.nesting.specs.Rewrite.{chain-fuel, rewrite, rewrites-of, step-chain, step-input}
-use Rattle.nesting.specs.ChainSteps.{after-steps, chain-steps, next-value}
+use Rattle.nesting.specs.Nesting.{chain-fuel, rewrite, rewrites-of, InputRewrite, NestState, NodeOutput, RegionInputRewrites, RewriteEntry, renumber-or-replace-with, renumber-to, replace-by, replace-with}
+use Rattle.nesting.specs.ChainSteps.{after-steps, chain-steps, next-value, step-input, step-chain}
 use Rattle.nesting.specs.ChainEnds.{entry-kept}
-use Rattle.nesting.specs.State.{InputRewrite, NestState, NodeOutput, RegionInputRewrites, RewriteEntry, renumber-or-replace-with, renumber-to, replace-by, replace-with}
 use Rattle.follows.specs.Small.{nth, nth-append}
 use Rattle.follows.specs.Key.{OutputAt}
 

@@ -7,19 +7,15 @@ use mathlib.Core.Path.{_∙_, _≡_, ap, refl, subst, sym}
 use Prim.Native.Nat.{_<_, suc, zero, ℕ}
 use lib.ListN.{getD, length, length-map}
 use borrow.Author.Tests.{ne-eqb}
-use Rattle.meaning.specs.Form.{Nodes, _▸_, ⟨⟩}
+use Rattle.meaning.specs.Runs.{Nodes, _▸_, ⟨⟩}
 use Rattle.meaning.specs.Graph.{Edge, Value, pick, undef}
 use Rattle.format.specs.Read.{isIn}
 use Rattle.format.specs.ReadLaws.{clash}
 use Rattle.format.specs.WellRead.{and-both}
-use Rattle.nesting.specs.Blocks.{blocks-of}
-use Rattle.nesting.specs.BundleSet.{empty}
-use Rattle.nesting.specs.Case.{ClaimedRegion, MaybeClaimedRegion, deferred-of, err, has-children, ok}
-use Rattle.nesting.specs.Claim.{Claim, defer-edge, edge-case, target-regions, unclaimed-edge}
-use Rattle.nesting.specs.Deferred.{DeferredEdgeBundle, to-region, true-cond}
+use Rattle.meaning.specs.Lists.{empty}
+use Rattle.nesting.specs.Nesting.{blocks-of, ClaimedRegion, MaybeClaimedRegion, deferred-of, err, has-children, ok, Claim, defer-edge, edge-case, target-regions, unclaimed-edge, DeferredEdgeBundle, to-region, true-cond, NestState, StructurizeRegionState, claimed, in-progress, not-begun, ready}
 use Rattle.nesting.specs.Fewer.{state-of}
 use Rattle.nesting.specs.Post.{bind}
-use Rattle.nesting.specs.State.{NestState, StructurizeRegionState, claimed, in-progress, not-begun, ready}
 use Rattle.follows.specs.ConvergentCase.{Apart}
 use Rattle.follows.specs.Bundles.{is-empty}
 use Rattle.follows.specs.Members.{in-front, in-rest}

@@ -6,10 +6,7 @@ use mathlib.Core.Path.{_∙_, _≡_, ap, refl, sym}
 use Prim.Native.Nat.{_+_}
 use lib.ListN.{length}
 use Rattle.meaning.specs.Graph.{pick}
-use Rattle.nesting.specs.BundleSet.{same-target}
-use Rattle.nesting.specs.Case.{MaybeClaimedRegion, deferred-of}
-use Rattle.nesting.specs.Deferred.{DeferredEdgeBundle, DeferredEdgeBundleSet, DeferredTarget}
-use Rattle.nesting.specs.Plan.{DeferredTargetSummary, deferred-targets, summarize-bundle, summarize-set}
+use Rattle.nesting.specs.Nesting.{same-target, MaybeClaimedRegion, deferred-of, DeferredEdgeBundle, DeferredEdgeBundleSet, DeferredTarget, DeferredTargetSummary, deferred-targets, summarize-bundle, summarize-set}
 use Rattle.follows.specs.Small.{In}
 use Rattle.follows.specs.World.{Fits, World}
 use Rattle.follows.specs.Bundles.{same-target→eq}

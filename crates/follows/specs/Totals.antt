@@ -7,10 +7,7 @@ use native.Mathlib.Omega.{arith}
 use lib.Dec.{eqb}
 use borrow.Author.Tests.{eqb-true, eqb-false}
 use Rattle.meaning.specs.Graph.{pick}
-use Rattle.nesting.specs.Deferred.{DeferredTarget, to-region, to-return, DeferredEdgeBundle, DeferredEdgeBundleSet}
-use Rattle.nesting.specs.BundleSet.{same-target}
-use Rattle.nesting.specs.Case.{MaybeClaimedRegion, deferred-of}
-use Rattle.nesting.specs.Plan.{DeferredTargetSummary, summarize-bundle, summarize-set, deferred-targets, PlannedBundle}
+use Rattle.nesting.specs.Nesting.{DeferredTarget, to-region, to-return, DeferredEdgeBundle, DeferredEdgeBundleSet, same-target, MaybeClaimedRegion, deferred-of, DeferredTargetSummary, summarize-bundle, summarize-set, deferred-targets, PlannedBundle}
 
 abbrev pub Measure : Type 0
 Measure = DeferredTarget → ℕ → ℕ

@@ -14,7 +14,7 @@ use Rattle.format.specs.References.{typeIn, instructions, instrType, behindAll,
 use Rattle.format.specs.WellRead.{and-both}
 use Rattle.format.specs.Valid.{All, Passed, ValidInstrs, ValidEdge, ValidEnd, TestRight, Valid}
 use Rattle.format.specs.Valid as valid
-use Rattle.nesting.specs.Count.{reachable}
+use Rattle.nesting.specs.Nesting.{reachable}
 use Rattle.follows.specs.Members.{first, rest, first-or-rest}
 use Rattle.follows.specs.Reaches.{Reaches, entry, target}
 use Rattle.follows.specs.Reach.{reachable-sound}

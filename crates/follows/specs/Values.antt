@@ -7,7 +7,7 @@ use lib.Dec.{eqb}
 use borrow.Author.Tests.{eqb-true}
 use Rattle.meaning.specs.Graph.{Value, bool, codeOf, const, held, input, instr, output, sameValue, undef}
 use Rattle.format.specs.WellRead.{and-both}
-use Rattle.nesting.specs.Cond.{same-values}
+use Rattle.nesting.specs.Nesting.{same-values}
 
 decode : ℕ → ℕ → ℕ → Value
 decode zero r k = const k

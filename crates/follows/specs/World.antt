@@ -5,15 +5,11 @@ use mathlib.Core.Option.{Option}
 use mathlib.Core.Path.{_∙_, _≡_, sym}
 use Prim.Native.Nat.{_<_, ℕ}
 use lib.ListN.{length}
-use Rattle.meaning.specs.Form.{Nodes}
+use Rattle.meaning.specs.Runs.{Nodes, Ended, run-from, Ran, run-nodes, Env, Event, Rule, RunState, Word, mark, word}
 use Rattle.meaning.specs.Graph.{Graph, bool, pick, undef}
-use Rattle.meaning.specs.GraphRun.{Ended, run-from}
-use Rattle.meaning.specs.NestedRun.{Ran, run-nodes}
-use Rattle.meaning.specs.Run.{Env, Event, Rule, RunState, Word, mark, word}
 use Rattle.format.specs.Read.{isIn}
 use Rattle.format.specs.References.{returnTypes}
-use Rattle.nesting.specs.Count.{reachable}
-use Rattle.nesting.specs.Deferred.{DeferredTarget, to-region, to-return}
+use Rattle.nesting.specs.Nesting.{reachable, DeferredTarget, to-region, to-return}
 use Rattle.follows.specs.Usable.{UsableGraph, arity}
 
 pub record World : Type 0 where

@@ -1,21 +1,21 @@
 -- What `accept` accepts is Valid.
-use mathlib.Core.Path.{_≡_, refl, sym, ap, _∙_}
-use mathlib.Core.Bool.{Bool, true, false, _&&_, _||_, not}
+use mathlib.Core.Path.{_≡_, refl, sym}
+use mathlib.Core.Bool.{Bool, true, false, _||_, not}
 use mathlib.Core.List.{List, [], _∷_, _++_}
 use Prim.Native.Nat.{ℕ, zero, suc, _+_, _≤_, _<_}
 use native.Mathlib.Omega.{arith}
 use lib.ListN.{length, getD}
-use lib.Dec.{eqb, ltb}
+use lib.Dec.{eqb}
 use borrow.Author.Tests.{ltb-true, eqb-true, eqb-false, ne-eqb}
 use Rattle.meaning.specs.Graph.{Value, Instr, SelectionKind, bool-cond, number, Edge, ControlInst, unreachable, return, exit-invocation, branch, select-branch, Region, Graph, nowhere, edgesOf}
 use Rattle.meaning.specs.Graph as graph
-use Rattle.format.specs.Store.{Answer, accepted, refused, andThen, storeWords}
+use Rattle.format.specs.Store.{Answer, accepted, storeWords}
 use Rattle.format.specs.Read.{isIn, readRecord}
 use Rattle.format.specs.References.{instructions, typeIn, expect, each, named, ofType, readsRight, typesRight, passedRight, testRight, valuesRight, targetRight, edgeRight, firstEdges, exitsRight, regionRight, regionsRight, references, behindAll, returnTypes, isRegion}
 use Rattle.format.specs.Accept.{accept}
-use Rattle.format.specs.Valid.{All, Distinct, Within, Usable, Passed, ValidInstr, ValidInstrs, ValidEdge, TestRight, ValidEnd, ValidRegion, Valid}
+use Rattle.format.specs.Valid.{All, Distinct, Within, Usable, Passed, ValidInstrs, ValidEdge, TestRight, ValidEnd, ValidRegion, Valid}
 use Rattle.format.specs.ReadLaws.{clash}
-use Rattle.format.specs.WellRead.{Counted, SamePasses, InstrRead, BlockRead, EndRead, TargetsRead, RegionRead, RecordRead, record-read, step}
+use Rattle.format.specs.WellRead.{SamePasses, InstrRead, BlockRead, EndRead, TargetsRead, RegionRead, RecordRead, record-read, step}
 
 all-map : {A : Type 0} (P Q : A → Type 0) → ((x : A) → P x → Q x) → (xs : List A) → All P xs → All Q xs
 all-map P Q f [] h = tt

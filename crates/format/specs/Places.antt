@@ -1,9 +1,7 @@
 -- Where the parts of a record stand among its words, by the readers that reach them.
-use mathlib.Core.Path.{_≡_, refl, sym, ap, _∙_}
-use mathlib.Core.List.{List, [], _∷_}
-use Prim.Native.Nat.{ℕ, zero, suc, _+_, _≤_, _<_}
-use lib.ListN.{length, getD}
-use Rattle.format.specs.Read.{Read, got, bad, Reader, follow, many, counted, within, word, type, block, terminator, region, head}
+use mathlib.Core.List.{List}
+use Prim.Native.Nat.{ℕ, zero, suc, _+_}
+use Rattle.format.specs.Read.{Read, got, bad, Reader, counted, type, block, terminator, region, head}
 
 -- The place after what was read; 0 after a refusal.
 abbrev pub next : {A : Type 0} → Read A → ℕ

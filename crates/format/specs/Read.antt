@@ -5,7 +5,7 @@ use Prim.Native.Nat.{ℕ, zero, suc, _+_}
 use lib.ListN.{length, getD}
 use lib.Dec.{eqb, leb, ltb}
 use Rattle.format.specs.Store.{Answer, accepted, refused, andThen}
-use Rattle.meaning.specs.Graph.{Value, const, input, instr, output, bool, undef, pick, Instr, SelectionKind, bool-cond, number, Edge, ControlInst, unreachable, return, exit-invocation, branch, select-branch, Region, Graph}
+use Rattle.meaning.specs.Graph.{Value, const, input, instr, output, bool, undef, pick, Instr, bool-cond, number, Edge, ControlInst, unreachable, return, exit-invocation, branch, select-branch, Region, Graph}
 
 -- What was read and the place after it, or the refusal's number.
 pub data Read (A : Type 0) : Type 0 where

@@ -1,12 +1,10 @@
 -- Laws of the readers: what a reading that succeeds consists of, and how a loop follows `many`.
 use mathlib.Core.Path.{_≡_, refl, sym, ap, _∙_}
-use mathlib.Core.Bool.{Bool, true, false}
 use mathlib.Core.List.{List, [], _∷_}
-use Prim.Native.Nat.{ℕ, zero, suc, _+_, _≤_, _<_}
+use Prim.Native.Nat.{ℕ, zero, suc, _<_}
 use native.Mathlib.Omega.{arith}
 use lib.ListN.{length, getD}
-use lib.Dec.{ltb, leb}
-use Rattle.format.specs.Read.{Read, got, bad, Reader, follow, expect, many, counted, within, word}
+use Rattle.format.specs.Read.{Read, got, bad, Reader, follow, many}
 use Rattle.format.specs.Places.{next, skim, after}
 
 -- Two different constructors are never equal: `clash (cc)`.

@@ -1,16 +1,16 @@
 -- What reading alone leaves of a region: every count, type and limit within its bounds.
-use mathlib.Core.Path.{_≡_, refl, sym, ap, _∙_}
-use mathlib.Core.Bool.{Bool, true, false, _&&_, _||_}
+use mathlib.Core.Path.{_≡_, refl, sym, ap}
+use mathlib.Core.Bool.{Bool, true, false, _&&_}
 use mathlib.Core.List.{List, [], _∷_, map}
-use Prim.Native.Nat.{ℕ, zero, suc, _+_, _≤_, _<_}
+use Prim.Native.Nat.{ℕ, zero, suc, _≤_}
 use native.Mathlib.Omega.{arith}
 use lib.ListN.{length, getD}
-use lib.Dec.{eqb, leb, ltb}
+use lib.Dec.{eqb, leb}
 use borrow.Author.Tests.{leb-true}
-use Rattle.meaning.specs.Graph.{Value, Instr, SelectionKind, bool-cond, number, Edge, ControlInst, unreachable, return, exit-invocation, branch, select-branch, Region, Graph, pick}
+use Rattle.meaning.specs.Graph.{Value, Instr, SelectionKind, bool-cond, number, Edge, ControlInst, unreachable, return, exit-invocation, branch, select-branch, Region, Graph}
 use Rattle.format.specs.Store.{Answer, accepted, refused, andThen}
-use Rattle.format.specs.Read.{Read, got, bad, Reader, follow, expect, many, counted, within, word, type, value, instruction, block, terminator, region, opcodeFor, fewestValues, mostValues, fewestTargets, mostTargets, distinctFrom, edgesFrom, rank, controlInst, noEdge, settle, regionsFrom, head, Head, readRecord}
-use Rattle.format.specs.ReadLaws.{clash, Parted, part, got-value, many-length}
+use Rattle.format.specs.Read.{Read, got, bad, Reader, follow, expect, many, counted, within, word, type, value, instruction, block, terminator, region, opcodeFor, fewestValues, mostValues, fewestTargets, mostTargets, distinctFrom, edgesFrom, rank, controlInst, settle, regionsFrom, head, Head, readRecord}
+use Rattle.format.specs.ReadLaws.{clash, part, got-value, many-length}
 use Rattle.format.specs.Valid.{All, Within}
 
 pub and-both : (a b : Bool) → (a && b) ≡ true → (a ≡ true) × (b ≡ true)

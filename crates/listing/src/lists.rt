@@ -2,7 +2,7 @@
 ghost use mathlib.Core.Path.{_≡_};
 ghost use mathlib.Core.List.{_∷_};
 ghost use lib.ListN.{length, getD};
-ghost use Rattle.meaning.specs.Graph.{Graph, output, region};
+ghost use Rattle.meaning.specs.Graph.{Graph, output};
 ghost use Rattle.record.specs.Stands.{Stands};
 ghost use Rattle.fields.specs.Shape.{valueIs};
 ghost use Rattle.text.specs.Buffer.{buffer, Wrote};

@@ -1,8 +1,6 @@
 pub mod Graph
-pub mod Form
-pub mod Run
-pub mod GraphRun
-pub mod NestedRun
+pub mod Lists
+pub mod Runs
 pub mod LoopTurns
 pub mod MoreBudget
 pub mod Text

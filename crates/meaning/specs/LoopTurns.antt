@@ -1,15 +1,14 @@
 -- What a loop's run rests on: its inputs change all at once, and its test comes after the body.
 use mathlib.Core.Path.{_≡_, refl, ap, _∙_}
-use mathlib.Core.Bool.{Bool, true, false}
+use mathlib.Core.Bool.{true, false}
 use mathlib.Core.List.{List, [], _∷_, map}
 use Prim.Native.Nat.{ℕ, zero, suc, _+_, _<_}
 use native.Mathlib.Omega.{arith}
 use lib.ListN.{length, getD}
 use lib.Dec.{eqb, leb}
 use borrow.Author.Tests.{eq-eqb, ne-eqb}
-use Rattle.meaning.specs.Graph.{Value, held, undef, sameValue}
-use Rattle.meaning.specs.Run.{Word, word, Env, Rule, RunState, put, put-inputs}
-use Rattle.meaning.specs.NestedRun.{Ran, through, note-over, pay, assign-inputs, turns}
+use Rattle.meaning.specs.Graph.{Value, held, undef}
+use Rattle.meaning.specs.Runs.{Word, word, Env, Rule, RunState, put, put-inputs, Ran, through, note-over, pay, assign-inputs, turns}
 
 put-earlier : (r k i : ℕ) (ws : List Word) (σ : Env) → k < i → put-inputs (λ k. held r k) i ws σ (held r k) ≡ σ (held r k)
 unfolding put-inputs put

@@ -5,10 +5,7 @@ use mathlib.Core.Option.{Option, none, some}
 use Prim.Native.Nat.{ℕ, zero, suc, _≤_}
 use native.Mathlib.Nat.{le-of-suc-le-suc, not-suc-le-zero}
 use Rattle.meaning.specs.Graph.{Value, Edge, ControlInst, unreachable, return, exit-invocation, branch, select-branch, Graph, region}
-use Rattle.meaning.specs.Form.{OutputDecl, Node, block, select, loop, exit, Nodes, ⟨⟩, _▸_, Cases, ∅, case}
-use Rattle.meaning.specs.Run.{Word, word, mark, Env, Event, Rule, Given, RunState, base-env, entry-words, place-taken}
-use Rattle.meaning.specs.GraphRun.{Ended, GoesOn, edge-taken, along, by-terminator, run-from, graph-run}
-use Rattle.meaning.specs.NestedRun.{Ran, through, ended, no-end, NestedEnded, and-then, tested, once-more, pay, case-count, turns, run-node, run-nodes, run-case, after-last, start, nested-run}
+use Rattle.meaning.specs.Runs.{OutputDecl, Node, block, select, loop, exit, Nodes, ⟨⟩, _▸_, Cases, ∅, case, Word, word, mark, Env, Event, Rule, Given, RunState, base-env, entry-words, place-taken, Ended, GoesOn, edge-taken, along, by-terminator, run-from, graph-run, Ran, through, ended, no-end, NestedEnded, and-then, tested, once-more, pay, case-count, turns, run-node, run-nodes, run-case, after-last, start, nested-run}
 
 -- The first came to nothing (to `gone`), or the second is the same.
 data Stays {A : Type 0} (gone : A) : A → A → Type 0 where

@@ -13,15 +13,12 @@ use Rattle.format.specs.Read.{readRecord}
 use Rattle.format.specs.References.{references}
 use Rattle.format.specs.Accept.{accept}
 use Rattle.format.specs.WellRead.{and-both}
-use Rattle.nesting.specs.State.{RewriteEntry, done, turned-away}
-use Rattle.nesting.specs.State
-use Rattle.nesting.specs.Case.{ClaimedRegion}
-use Rattle.nesting.specs.Count.{incoming-edge-counts}
-use Rattle.nesting.specs.Claim.{try-claim-edge-bundle}
-use Rattle.nesting.specs.Func.{initial-state}
+use Rattle.nesting.specs.Nesting.{RewriteEntry, done, turned-away, ClaimedRegion, incoming-edge-counts, try-claim-edge-bundle, initial-state}
+use Rattle.nesting.specs.Nesting
 use Rattle.meaning.specs.Text.{Text, ascii}
+use Rattle.nesting.specs.Computes.{nesting-computes}
 use Rattle.nesting.specs.Pack.{store-of-graph}
-use Rattle.nesting.specs.Top.{printed}
+use Rattle.nesting.specs.Sheet.{printed}
 use Rattle.nesting.specs.Quick.{quick-store-words, same-store-words}
 use Rattle.nesting.specs.QuickPrint.{same-numbers, numbers-same, accept-words, quick-printed, prints}
 use Rattle.nesting.specs.CaseGraphs.{A, B, one-region, to, both-the-same, targets, regions, no-loop, one-goes-on, loop-in-loop, two-exits, renumbered, crossing, dear}
@@ -48,7 +45,7 @@ abbrev pub added : ℕ → List RewriteEntry → List ℕ
 added n [] = []
 added n (e ∷ es) = pick (leb n (e .region)) (e .region ∷ added n es) (added n es)
 
-abbrev pub wrappers-after : ℕ → State.Answer (Option ClaimedRegion) → List ℕ
+abbrev pub wrappers-after : ℕ → Nesting.Answer (Option ClaimedRegion) → List ℕ
 wrappers-after n (done c s) = added n (s .region-input-rewrites)
 wrappers-after n (turned-away refusal word) = []
 
@@ -263,5 +260,5 @@ all-shown (c ∷ cs) e =
 
 -- For each case of the list the definitions show, from its bytes, what it states.
 pub proved-cases : map (λ c. shown (c .store)) cases ≡ map (λ c. c .shows) cases
-unfolding all-right quick-shown quick-printed quick-store-words wrappers-of readRecord references store-of-graph
+unfolding all-right quick-shown quick-printed quick-store-words nesting-computes wrappers-of readRecord references store-of-graph
 proved-cases = all-shown cases refl

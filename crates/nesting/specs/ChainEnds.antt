@@ -8,15 +8,13 @@ use mathlib.Core.Option.{Option, none, some}
 use Prim.Native.Nat.{ℕ, zero, suc, _^_, _≤_, _<_}
 use native.Mathlib.Omega.{arith}
 use native.Mathlib.Nat.{pow-suc}
-use lib.ListN.{length, getD, length-map, List·getD-map}
+use lib.ListN.{length, getD, length-map}
 use lib.Dec.{eqb}
 use borrow.Author.Tests.{eqb-true}
 use Rattle.meaning.specs.Graph.{Value, const, input, instr, output, bool, undef, held, pick}
 use Rattle.format.specs.ReadLaws.{clash}
-use Rattle.nesting.specs.State.{InputRewrite, renumber-to, replace-by, RegionInputRewrites, replace-with, renumber-or-replace-with, RewriteEntry}
-use Rattle.nesting.specs.Rewrite.{rewrites-of, chain-fuel, rewrite-chain, rewrite, unmarked, rewrite-unmarked, meets-chain, meets}
+use Rattle.nesting.specs.Nesting.{InputRewrite, renumber-to, replace-by, RegionInputRewrites, replace-with, renumber-or-replace-with, RewriteEntry, rewrites-of, chain-fuel, look-up-chain, rewrite, meets}
 use Rattle.nesting.specs.ChainSteps.{next-value, Stops, EndsIn, ends-later, chain-same, meets-same}
-use Rattle.nesting.specs.UnmarkedChain.{unmarked-input, unmarked-rewrites, unmarked-log, unmarked-of, unmarked-chain}
 
 -- the region whose input a value is, marked or not
 abbrev pub names : Value → Option ℕ
@@ -63,19 +61,19 @@ end-before {es} {r} t (goes-on x f h) = go (rewrites-of es r) refl (λ k v q g n
     go (some y) e ih = let z = entry-kept es t r y e in let same : y ≡ x = cc in goes-on y e (λ k v q g n. ih k v q (subst (λ w. Gives w k v) same g) n)
 
 -- ---- the entry of r names an input of q
-record Leads (es : List RewriteEntry) (r q : ℕ) : Type 0 where
-  by : RegionInputRewrites
-  is : rewrites-of es r ≡ some by
-  at : ℕ
-  value : Value
-  gives : Gives by at value
-  named : names value ≡ some q
+pub record Leads (es : List RewriteEntry) (r q : ℕ) : Type 0 where
+  pub by : RegionInputRewrites
+  pub is : rewrites-of es r ≡ some by
+  pub at : ℕ
+  pub value : Value
+  pub gives : Gives by at value
+  pub named : names value ≡ some q
 
-data Path (es : List RewriteEntry) : ℕ → ℕ → Type 0 where
+pub data Path (es : List RewriteEntry) : ℕ → ℕ → Type 0 where
   one : {r q : ℕ} → Leads es r q → Path es r q
   more : {r q z : ℕ} → Leads es r q → Path es q z → Path es r z
 
-path-then : {es : List RewriteEntry} {r q z : ℕ} → Path es r q → Leads es q z → Path es r z
+pub path-then : {es : List RewriteEntry} {r q z : ℕ} → Path es r q → Leads es q z → Path es r z
 path-then (one l) m = more l (one m)
 path-then (more l p) m = more l (path-then p m)
 
@@ -85,7 +83,7 @@ gives-same x e l = let i = l .is in let same : l .by ≡ x = cc in rw same at (l
 no-leads : {es : List RewriteEntry} {r q : ℕ} → Open es r → Leads es r q → ⊥
 no-leads o l = let i = l .is in clash (cc)
 
-acyclic : {es : List RewriteEntry} {r : ℕ} → ChainsEnd es r → Path es r r → ⊥
+pub acyclic : {es : List RewriteEntry} {r : ℕ} → ChainsEnd es r → Path es r r → ⊥
 acyclic (no-more o) (one l) = no-leads o l
 acyclic (no-more o) (more l m) = no-leads o l
 acyclic (goes-on x e h) (one l) = acyclic (h (l .at) (l .value) _ (gives-same x e l) (l .named)) (one l)
@@ -192,58 +190,18 @@ module _ (es : List RewriteEntry) where
   pub value-ends : (v : Value) → ValueEnds v → EndsIn es (length es) v
   value-ends v h = ends-within (length es) (logged es) (length-map es (λ e. e .region)) v h (λ z m. inl m)
 
--- ---- without marks
-names-unmarked : (v : Value) → names (unmarked v) ≡ names v
-names-unmarked (input r k) = refl
-names-unmarked (held r k) = refl
-names-unmarked (const i) = refl
-names-unmarked (instr r k) = refl
-names-unmarked (output o) = refl
-names-unmarked (bool b) = refl
-names-unmarked (undef ty) = refl
-
-record Marked (x : RegionInputRewrites) (k : ℕ) (v : Value) : Type 0 where
-  value : Value
-  gives : Gives x k value
-  is : unmarked value ≡ v
-
-marked : (x : RegionInputRewrites) (k : ℕ) (v : Value) → Gives (unmarked-rewrites x) k v → Marked x k v
-marked (replace-with vs) k v g = record { value = getD vs k (undef 0); gives = refl; is = sym (List·getD-map unmarked vs k (undef 0)) ∙ g }
-marked (renumber-or-replace-with xs) k v g = go (getD xs k (renumber-to k)) refl (sym (List·getD-map unmarked-input xs k (renumber-to k)) ∙ g)
-  where
-    go : (y : InputRewrite) → getD xs k (renumber-to k) ≡ y → unmarked-input y ≡ replace-by v → Marked (renumber-or-replace-with xs) k v
-    go (replace-by w) e h = record { value = w; gives = e; is = let z : unmarked w ≡ v = cc in z }
-    go (renumber-to i) e h = absurd (clash (cc))
-
-end-unmarked : {es : List RewriteEntry} {r : ℕ} → ChainsEnd es r → ChainsEnd (unmarked-log es) r
-end-unmarked {es} {r} (no-more o) = no-more (unmarked-of es r ∙ rw o)
-end-unmarked {es} {r} (goes-on x e h) =
-    goes-on (unmarked-rewrites x) (unmarked-of es r ∙ rw e) (λ k v q g n. let m = marked x k v g in end-unmarked (h k (m .value) q (m .gives) (sym (names-unmarked (m .value)) ∙ ap names (m .is) ∙ n)))
-
-unmarked-length : (es : List RewriteEntry) → length (unmarked-log es) ≡ length es
-unmarked-length [] = refl
-unmarked-length (e ∷ es) = ap suc (unmarked-length es)
-
 -- ---- the fuel of a look-up is more than enough
 less-power : (n : ℕ) → n < 2 ^ n
 less-power zero = omega arith
 less-power (suc n) = let z = pow-suc 2 n in let y = less-power n in omega arith
 
 module _ (es : List RewriteEntry) (all : (r : ℕ) → ChainsEnd es r) where
-  pub rewrite-enough : (v : Value) (fuel : ℕ) → length es ≤ fuel → rewrite-chain fuel es v ≡ rewrite es v
+  pub rewrite-enough : (v : Value) (fuel : ℕ) → length es ≤ fuel → look-up-chain fuel es v .value ≡ rewrite es v
   unfolding rewrite
   rewrite-enough v fuel l =
       let e = value-ends es v (λ q n. all q) in
       chain-same es fuel (chain-fuel es) v (ends-later es (length es) fuel v e l) (ends-later es (length es) (chain-fuel es) v e (let z = less-power (length es) in omega arith))
 
-  pub meets-enough : (v : Value) (fuel : ℕ) → length es < fuel → meets-chain fuel es v ≡ meets es v
+  pub meets-enough : (v : Value) (fuel : ℕ) → length es < fuel → look-up-chain fuel es v .twice ≡ meets es v
   unfolding meets
   meets-enough v fuel l = meets-same es (length es) v (value-ends es v (λ q n. all q)) fuel (chain-fuel es) l (less-power (length es))
-
-  pub unmarked-enough : (v : Value) (fuel : ℕ) → length es ≤ fuel → rewrite-unmarked fuel es (unmarked v) ≡ rewrite-unmarked (chain-fuel es) es (unmarked v)
-  unmarked-enough v fuel l =
-      let len = unmarked-length es in
-      let e = value-ends (unmarked-log es) (unmarked v) (λ q n. end-unmarked (all q)) in
-      let a = ends-later (unmarked-log es) (length (unmarked-log es)) fuel (unmarked v) e (omega arith) in
-      let b = ends-later (unmarked-log es) (length (unmarked-log es)) (chain-fuel es) (unmarked v) e (let z = less-power (length es) in omega arith) in
-      unmarked-chain es fuel v ∙ ap unmarked (chain-same (unmarked-log es) fuel (chain-fuel es) (unmarked v) a b) ∙ sym (unmarked-chain es (chain-fuel es) v)

@@ -7,10 +7,19 @@ use Prim.Native.Nat.{ℕ, zero, suc, _+_, _-_, _≤_, _<_}
 use native.Mathlib.Omega.{arith}
 use lib.ListN.{getD}
 use Rattle.meaning.specs.Graph.{Value, const, input, instr, output, bool, undef, held}
-use Rattle.nesting.specs.State.{InputRewrite, renumber-to, replace-by, RegionInputRewrites, replace-with, renumber-or-replace-with, RewriteEntry}
-use Rattle.nesting.specs.Rewrite.{rewrites-of, step-input, step-chain, chain-fuel, rewrite-chain, rewrite, changes-again, meets-chain}
+use Rattle.nesting.specs.Nesting.{InputRewrite, renumber-to, replace-by, RegionInputRewrites, replace-with, renumber-or-replace-with, RewriteEntry, rewrites-of, look-up-slot, look-up-input, chain-fuel, look-up-chain, rewrite, changes-again}
 
 -- ---- a chain step by step
+-- what comes of an input by its region's entry; `go` goes on from a value that replaces it
+abbrev pub step-input : (Value → Value) → ℕ → InputRewrite → Value
+step-input go r (replace-by v) = go v
+step-input go r (renumber-to i) = held r i
+
+abbrev pub step-chain : (Value → Value) → ℕ → ℕ → Option RegionInputRewrites → Value
+step-chain go r k none = input r k
+step-chain go r k (some (replace-with vs)) = go (getD vs k (undef 0))
+step-chain go r k (some (renumber-or-replace-with xs)) = step-input go r (getD xs k (renumber-to k))
+
 abbrev pub next-value : List RewriteEntry → Value → Value
 next-value es (input r k) = step-chain (λ v. v) r k (rewrites-of es r)
 next-value es (const i) = const i
@@ -28,7 +37,7 @@ module _ (es : List RewriteEntry) where
   abbrev pub Stops : Value → Type 0
   Stops v = next-value es v ≡ v
 
-  stops-after : (n : ℕ) (v : Value) → Stops v → after-steps n es v ≡ v
+  pub stops-after : (n : ℕ) (v : Value) → Stops v → after-steps n es v ≡ v
   stops-after zero v h = refl
   stops-after (suc n) v h = rw h (stops-after n v h)
 
@@ -46,9 +55,9 @@ module _ (es : List RewriteEntry) where
       go : (k : ℕ) → m ≡ n + k → after-steps m es v ≡ after-steps n es v
       go k e = rw e (after-sum n k v ∙ stops-after k (after-steps n es v) (h .ends))
 
-  -- ---- that is what rewrite-chain does
-  pub chain-steps : (fuel : ℕ) (v : Value) → rewrite-chain fuel es v ≡ after-steps fuel es v
-  unfolding rewrite-chain
+  -- ---- that is what a look-up does
+  pub chain-steps : (fuel : ℕ) (v : Value) → look-up-chain fuel es v .value ≡ after-steps fuel es v
+  unfolding look-up-chain
   chain-steps zero v = refl
   chain-steps (suc fuel) (const i) = sym (stops-after fuel (const i) refl)
   chain-steps (suc fuel) (held r k) = sym (stops-after fuel (held r k) refl)
@@ -58,12 +67,14 @@ module _ (es : List RewriteEntry) where
   chain-steps (suc fuel) (undef ty) = sym (stops-after fuel (undef ty) refl)
   chain-steps (suc fuel) (input r k) = go (rewrites-of es r) refl (λ v. chain-steps fuel v)
     where
-      slot : (x : InputRewrite) → ((v : Value) → rewrite-chain fuel es v ≡ after-steps fuel es v) → step-input (λ v. rewrite-chain fuel es v) r x ≡ after-steps fuel es (step-input (λ v. v) r x)
+      Before : Type 0
+      Before = (v : Value) → look-up-chain fuel es v .value ≡ after-steps fuel es v
+
+      slot : (x : InputRewrite) → Before → look-up-slot (λ v. look-up-chain fuel es v) r x .value ≡ after-steps fuel es (step-input (λ v. v) r x)
       slot (replace-by v) ih = ih v
       slot (renumber-to i) ih = sym (stops-after fuel (held r i) refl)
 
-      go : (o : Option RegionInputRewrites) → rewrites-of es r ≡ o → ((v : Value) → rewrite-chain fuel es v ≡ after-steps fuel es v)
-          → step-chain (λ v. rewrite-chain fuel es v) r k o ≡ after-steps fuel es (step-chain (λ v. v) r k o)
+      go : (o : Option RegionInputRewrites) → rewrites-of es r ≡ o → Before → look-up-input (λ v. look-up-chain fuel es v) r k o .value ≡ after-steps fuel es (step-chain (λ v. v) r k o)
       go none p ih = sym (stops-after fuel (input r k) (rw p))
       go (some (replace-with vs)) p ih = ih (getD vs k (undef 0))
       go (some (renumber-or-replace-with xs)) p ih = slot (getD xs k (renumber-to k)) ih
@@ -77,7 +88,7 @@ module _ (es : List RewriteEntry) where
   stops-rewrite v h = chain-steps (chain-fuel es) v ∙ stops-after (chain-fuel es) v h
 
   -- From its end on a chain has one answer.
-  pub chain-same : (n m : ℕ) (v : Value) → EndsIn n v → EndsIn m v → rewrite-chain n es v ≡ rewrite-chain m es v
+  pub chain-same : (n m : ℕ) (v : Value) → EndsIn n v → EndsIn m v → look-up-chain n es v .value ≡ look-up-chain m es v .value
   chain-same n m v a b =
       let all = after-more n (n + m) v a (omega arith) in
       let both = after-more m (n + m) v b (omega arith) in
@@ -85,13 +96,13 @@ module _ (es : List RewriteEntry) where
 
   -- ---- the note `twice` goes along the same chain
   data MeetsStep (v : Value) : Type 0 where
-    goes-on : ((fuel : ℕ) → meets-chain (suc fuel) es v ≡ meets-chain fuel es (next-value es v)) → MeetsStep v
-    known : (b : Bool) → ((fuel : ℕ) → meets-chain (suc fuel) es v ≡ b) → MeetsStep v
+    goes-on : ((fuel : ℕ) → look-up-chain (suc fuel) es v .twice ≡ look-up-chain fuel es (next-value es v) .twice) → MeetsStep v
+    known : (b : Bool) → ((fuel : ℕ) → look-up-chain (suc fuel) es v .twice ≡ b) → MeetsStep v
 
   meets-step : (v : Value) → MeetsStep v
-  unfolding meets-chain
+  unfolding look-up-chain
   meets-step (const i) = known false (λ fuel. refl)
-  meets-step (held r k) = known (changes-again es (held r k)) (λ fuel. refl)
+  meets-step (held r k) = known (changes-again k (rewrites-of es r)) (λ fuel. refl)
   meets-step (instr r k) = known false (λ fuel. refl)
   meets-step (output o) = known false (λ fuel. refl)
   meets-step (bool b) = known false (λ fuel. refl)
@@ -107,12 +118,12 @@ module _ (es : List RewriteEntry) where
       go (some (replace-with vs)) p = goes-on (λ fuel. rw p)
       go (some (renumber-or-replace-with xs)) p = slot xs p (getD xs k (renumber-to k)) refl
 
-  stopped-meets : (v : Value) → Stops v → ((fuel : ℕ) → meets-chain (suc fuel) es v ≡ meets-chain fuel es (next-value es v)) → (fuel : ℕ) → meets-chain fuel es v ≡ false
-  unfolding meets-chain
+  stopped-meets : (v : Value) → Stops v → ((fuel : ℕ) → look-up-chain (suc fuel) es v .twice ≡ look-up-chain fuel es (next-value es v) .twice) → (fuel : ℕ) → look-up-chain fuel es v .twice ≡ false
+  unfolding look-up-chain
   stopped-meets v h go zero = refl
   stopped-meets v h go (suc fuel) = go fuel ∙ rw h (stopped-meets v h go fuel)
 
-  pub meets-same : (d : ℕ) (v : Value) → EndsIn d v → (n m : ℕ) → d < n → d < m → meets-chain n es v ≡ meets-chain m es v
+  pub meets-same : (d : ℕ) (v : Value) → EndsIn d v → (n m : ℕ) → d < n → d < m → look-up-chain n es v .twice ≡ look-up-chain m es v .twice
   meets-same d v e zero m a b = absurd (omega arith)
   meets-same d v e (suc n) zero a b = absurd (omega arith)
   meets-same zero v e (suc n) (suc m) a b = elim (meets-step v) [

@@ -9,9 +9,8 @@ use lib.Dec.{eqb}
 use borrow.Author.Tests.{eqb-true, eqb-false, eq-eqb, ne-eqb}
 use Rattle.meaning.specs.Graph.{Value, const, input, instr, output, bool, undef, held, pick}
 use Rattle.format.specs.ReadLaws.{clash}
-use Rattle.nesting.specs.State.{InputRewrite, renumber-to, replace-by, RegionInputRewrites, replace-with, renumber-or-replace-with, RewriteEntry}
-use Rattle.nesting.specs.Rewrite.{rewrites-of, step-input, step-chain, rewrite, chain-fuel}
-use Rattle.nesting.specs.ChainSteps.{next-value, after-steps, chain-steps}
+use Rattle.nesting.specs.Nesting.{InputRewrite, renumber-to, replace-by, RegionInputRewrites, replace-with, renumber-or-replace-with, RewriteEntry, rewrites-of, rewrite, chain-fuel}
+use Rattle.nesting.specs.ChainSteps.{next-value, after-steps, chain-steps, step-input, step-chain}
 use Rattle.nesting.specs.ChainEnds.{names, Gives, Open, entry-kept, ChainsEnd, no-more, goes-on}
 
 pub data Within (es : List RewriteEntry) (p : ℕ) : ℕ → Type 0 where

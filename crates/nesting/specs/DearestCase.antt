@@ -1,8 +1,8 @@
 -- Each case of a select costs at most the dearest.
 use Prim.Native.Nat.{ℕ, zero, suc, _≤_}
 use native.Mathlib.Omega.{arith}
-use Rattle.meaning.specs.Form.{Nodes, ⟨⟩, Cases, ∅, case}
-use Rattle.nesting.specs.Figure.{figure, dearest}
+use Rattle.meaning.specs.Runs.{Nodes, ⟨⟩, Cases, ∅, case}
+use Rattle.nesting.specs.Sheet.{figure, dearest}
 
 -- the children of the case at place j
 abbrev pub case-at : Cases → ℕ → Nodes

@@ -1,12 +1,12 @@
--- The lent words read back as the sheet. RoundTrip shows that no two sheets have the same words.
+-- The lent words read back as the lines of a sheet. RoundTrip shows that no two such sheets have the same words.
 use mathlib.Core.Bool.{Bool, true, false}
 use mathlib.Core.List.{List, [], _∷_}
 use Prim.Native.Nat.{ℕ, zero, suc}
 use lib.ListN.{length}
 use Rattle.meaning.specs.Graph.{Code, SelectionKind, bool-cond, number}
-use Rattle.nesting.specs.Nested.{Outcome, untouched, whole, closed, leftover}
-use Rattle.nesting.specs.Line.{Item, Condition, t-cond, f-cond, u-cond, m-cond, Conditions, no-part, part, Line, region-line, block-line, select-line, loop-line, exit-line, defer-line, Sheet}
-use Rattle.nesting.specs.Fields.{sheet-text}
+use Rattle.nesting.specs.Nesting.{Outcome, untouched, whole, closed, leftover}
+use Rattle.nesting.specs.Sheet.{sheet-text}
+use Rattle.nesting.specs.Lines.{Item, Condition, t-cond, f-cond, u-cond, m-cond, Conditions, no-part, part, Line, region-line, block-line, select-line, loop-line, exit-line, defer-line, TypedSheet, written}
 use Rattle.meaning.specs.Text.{Text}
 
 -- What was read and the words after it, or nothing readable.
@@ -176,7 +176,7 @@ flag-of (suc (suc n)) = refuse
 abbrev pub read-all-lines : Reader (List Line)
 read-all-lines ws = read-lines (length ws) ws
 
-unfoldable pub read-sheet : Reader Sheet
+unfoldable pub read-sheet : Reader TypedSheet
 read-sheet = do
   o ← read-number >>= outcome-of
   f ← read-number
@@ -185,8 +185,8 @@ read-sheet = do
   ls ← read-all-lines
   give (record { outcome = o; figure = f; attempts = n; twice = b; lines = ls })
 
-abbrev pub text-of-got : Got Sheet → Text
-text-of-got (got s ws) = sheet-text s
+abbrev pub text-of-got : Got TypedSheet → Text
+text-of-got (got s ws) = sheet-text (written s)
 text-of-got nothing = []
 
 -- The text that is printed for the words of a sheet.

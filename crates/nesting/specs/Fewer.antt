@@ -6,8 +6,7 @@ use Prim.Native.Nat.{ℕ, zero, suc, _+_, _≤_, _<_}
 use native.Mathlib.Omega.{arith}
 use lib.ListN.{length, getD, set, replicate}
 use Rattle.meaning.specs.Graph.{Value}
-use Rattle.nesting.specs.State.{StructurizeRegionState, not-begun, in-progress, claimed, ready, NestState}
-use Rattle.nesting.specs.Claim.{Claim}
+use Rattle.nesting.specs.Nesting.{StructurizeRegionState, not-begun, in-progress, claimed, ready, NestState, Claim}
 use Rattle.nesting.specs.Post.{Post}
 use Rattle.nesting.specs.Still.{Still}
 

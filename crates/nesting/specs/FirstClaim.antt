@@ -4,10 +4,7 @@ use mathlib.Core.List.{List, _∷_, _++_}
 use mathlib.Core.Option.{some}
 use Prim.Native.Nat.{ℕ}
 use Rattle.meaning.specs.Graph.{Value, Graph}
-use Rattle.nesting.specs.Deferred.{LazyCond, to-region, DeferredEdgeBundle, DeferredEdgeBundleSet}
-use Rattle.nesting.specs.State.{NestState, done}
-use Rattle.nesting.specs.Case.{ClaimedRegion}
-use Rattle.nesting.specs.Claim.{Claim, split-out-matching}
+use Rattle.nesting.specs.Nesting.{LazyCond, to-region, DeferredEdgeBundle, DeferredEdgeBundleSet, NestState, done, ClaimedRegion, Claim, split-out-matching}
 
 -- a deferred edge to a region
 abbrev pub bundle-to : ℕ → ℕ → List Value → LazyCond → DeferredEdgeBundle

@@ -3,11 +3,10 @@ use mathlib.Core.Path.{_≡_, refl}
 use mathlib.Core.List.{List}
 use Prim.Native.Nat.{ℕ, zero, suc}
 use Rattle.meaning.specs.Graph.{held}
-use Rattle.nesting.specs.State.{RewriteEntry}
-use Rattle.nesting.specs.Rewrite.{chain-fuel, rewrite, rewrite-chain}
+use Rattle.nesting.specs.Nesting.{RewriteEntry, chain-fuel, rewrite, look-up-chain}
 
-chain-held : (fuel : ℕ) (es : List RewriteEntry) (r k : ℕ) → rewrite-chain fuel es (held r k) ≡ held r k
-unfolding rewrite-chain
+chain-held : (fuel : ℕ) (es : List RewriteEntry) (r k : ℕ) → look-up-chain fuel es (held r k) .value ≡ held r k
+unfolding look-up-chain
 chain-held zero es r k = refl
 chain-held (suc fuel) es r k = refl
 

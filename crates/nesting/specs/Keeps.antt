@@ -6,18 +6,9 @@ use Prim.Native.Nat.{ℕ}
 use lib.ListN.{length}
 use lib.Dec.{ltb}
 use Rattle.meaning.specs.Graph.{Value, bool, undef, SelectionKind, ControlInst, unreachable, return, exit-invocation, branch, select-branch, Graph, region, pick}
-use Rattle.meaning.specs.Form.{loop, Nodes, ⟨⟩, _▸_, Cases}
-use Rattle.nesting.specs.Deferred.{LazyCond, undef-cond, false-cond, true-cond, merge, LazyConds, ∅, _&_, DeferredEdgeBundle, DeferredEdgeBundleSet}
-use Rattle.nesting.specs.State.{RegionInputRewrites, replace-with, renumber-or-replace-with, RewriteEntry, NodeOutput, NestState, Step, give, _>>=_, _>>_}
-use Rattle.nesting.specs.Change.{with-region, with-node, with-merge, with-rewrites, with-node-outputs, with-twice, define-region, define-node, define-merge, define-output, insert-rewrites}
-use Rattle.nesting.specs.Rewrite.{meets, any, rewrite-values}
-use Rattle.nesting.specs.Cond.{same-values, is-bool-cond, materialize-lazy-cond, materialize-lazy-conds}
-use Rattle.nesting.specs.Case.{ClaimedRegion, MaybeClaimedRegion, ok, err, Scrutinee, value, lazy, join, append-maybe-claimed-region, Convergent, no-one, several, exactly-one, convergent-cases}
-use Rattle.nesting.specs.Plan.{PlannedInput, shared, merged, PlannedBundle, plan-bundles, any-needs-select, any-non-empty-case}
-use Rattle.nesting.specs.Select.{meets-in-case, rewrite-cases, case-regions, scrutinee-value, DefinedSelect, define-select, emit-inputs, emit-condition, emit, select-if, replace-inputs, structurize-select, structurize-select-by}
-use Rattle.nesting.specs.Count.{exit-targets}
-use Rattle.nesting.specs.Loop.{take-inputs, no-inputs, add-exit-edge, structurize-loop}
-use Rattle.nesting.specs.Claim.{claim-body, by-control-inst}
+use Rattle.meaning.specs.Runs.{loop, Nodes, ⟨⟩, _▸_, Cases}
+use Rattle.meaning.specs.Lists.{any}
+use Rattle.nesting.specs.Nesting.{LazyCond, undef-cond, false-cond, true-cond, merge, LazyConds, no-conds, _&_, DeferredEdgeBundle, DeferredEdgeBundleSet, RegionInputRewrites, replace-with, renumber-or-replace-with, RewriteEntry, NodeOutput, NestState, Step, give, _>>=_, _>>_, with-region, with-node, with-merge, with-rewrites, with-node-outputs, with-twice, define-region, define-node, define-merge, define-output, insert-rewrites, meets, rewrite-values, same-values, is-bool-cond, materialize-lazy-cond, materialize-lazy-conds, ClaimedRegion, MaybeClaimedRegion, ok, err, Scrutinee, value, lazy, join, append-maybe-claimed-region, Convergent, no-one, several, exactly-one, convergent-cases, PlannedInput, shared, merged, PlannedBundle, plan-bundles, any-needs-select, any-non-empty-case, meets-in-case, rewrite-cases, case-regions, scrutinee-value, DefinedSelect, define-select, emit-inputs, emit-condition, emit, select-if, replace-inputs, structurize-select, structurize-select-by, exit-targets, take-inputs, no-inputs, add-exit-edge, structurize-loop, claim-body, by-control-inst}
 use Rattle.nesting.specs.Post.{Post, bind, map-post, when-room}
 
 -- What structurize-loop answers, once its region, look-ups, condition and node are there.
@@ -94,7 +85,7 @@ module _ {L : NestState → NestState → Type 0} (S : Steady L) (Q : ℕ → Ty
         pick-keeps (is-bool-cond kind && same-values vs (bool true ∷ bool false ∷ [])) (give v) (define-output n 1 vs) (give-keeps v) (define-output-keeps n 1 vs)
 
     materializes-keep : (cs : LazyConds) → Keeps (materialize-lazy-conds cs)
-    materializes-keep ∅ = give-keeps []
+    materializes-keep no-conds = give-keeps []
     materializes-keep (c & cs) =
         then-keeps (materialize-lazy-cond c) _ (materialize-keeps c) λ v.
         then-keeps (materialize-lazy-conds cs) _ (materializes-keep cs) λ vs. give-keeps (v ∷ vs)

@@ -3,11 +3,19 @@ use mathlib.Core.Bool.{true, false}
 use mathlib.Core.List.{List, [], _∷_, _++_, map}
 use Prim.Native.Nat.{ℕ, zero, suc, _+_, _*_, _/_, _%_}
 use lib.ListN.{length, drop}
-use Rattle.meaning.specs.Graph.{Value, codeOf, Instr, bool-cond, number, Edge, ControlInst, unreachable, return, exit-invocation, branch, select-branch, Region, Graph, edgesOf}
+use Rattle.meaning.specs.Graph.{Value, Code, codeOf, Instr, bool-cond, number, Edge, ControlInst, unreachable, return, exit-invocation, branch, select-branch, Region, Graph, edgesOf}
 use Rattle.format.specs.Read.{isIn}
-use Rattle.nesting.specs.Fields.{concat, counted, value-words}
+use Rattle.meaning.specs.Lists.{concat}
 
 -- ---- the record's words
+-- A list its count, then its items.
+abbrev pub counted : {A : Type 0} → (A → List ℕ) → List A → List ℕ
+counted ws xs = length xs ∷ concat (map ws xs)
+
+-- Kind, region, index.
+abbrev pub value-words : Code → List ℕ
+value-words v = v .kind ∷ v .region ∷ v .index ∷ []
+
 abbrev pub values-words : List Value → List ℕ
 values-words vs = counted (λ v. value-words (codeOf v)) vs
 

@@ -1,7 +1,7 @@
 -- What holds of a step's answer: P of what it gives and of the next state, or Q of the number of its refusal.
 use mathlib.Core.Bool.{Bool, true, false}
 use Prim.Native.Nat.{ℕ}
-use Rattle.nesting.specs.State.{NestState, Answer, done, turned-away, Step, follow}
+use Rattle.nesting.specs.Nesting.{NestState, Answer, done, turned-away, Step, follow}
 
 abbrev pub OfAnswer : {A : Type 0} → (ℕ → Type 0) → (A → NestState → Type 0) → Answer A → Type 0
 OfAnswer Q P (done a s) = P a s

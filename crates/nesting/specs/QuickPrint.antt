@@ -11,11 +11,10 @@ use Rattle.format.specs.Read.{readRecord}
 use Rattle.format.specs.References.{references}
 use Rattle.format.specs.Accept.{accept}
 use Rattle.format.specs.WellRead.{and-both}
-use Rattle.nesting.specs.Func.{structurize-func}
-use Rattle.nesting.specs.Sheet.{sheet-of}
-use Rattle.nesting.specs.Fields.{sheet-words}
+use Rattle.nesting.specs.Nesting.{structurize-func}
+use Rattle.nesting.specs.Computes.{nesting-computes}
+use Rattle.nesting.specs.Sheet.{sheet-of, sheet-words, figure-fits, words-fit, answer-text, sheet-for, answer, printed}
 use Rattle.meaning.specs.Text.{Text}
-use Rattle.nesting.specs.Top.{nesting-of, figure-fits, words-fit, answer-text, sheet-for, answer, printed}
 use Rattle.nesting.specs.Quick.{quick-store-words, same-store-words}
 
 abbrev pub accept-words : Answer (List ℕ) → Answer Graph
@@ -27,10 +26,10 @@ accept-words x =
 
 -- what is printed once the words of the store are read, or the store is refused
 unfoldable pub printed-after : Answer (List ℕ) → Text
-unfolding readRecord references structurize-func sheet-of sheet-words answer-text
+unfolding readRecord references nesting-computes sheet-of sheet-words answer-text
 printed-after x =
     answer-text (
-    andThen (andThen (accept-words x) λ g. andThen (nesting-of (structurize-func g)) λ y. figure-fits (sheet-of g y)) (words-fit 16384)
+    andThen (andThen (accept-words x) λ g. andThen (structurize-func g) λ y. figure-fits (sheet-of g y)) (words-fit 16384)
     )
 
 unfoldable pub quick-printed : List ℕ → Text

@@ -1,4 +1,4 @@
--- Reading the words of a sheet gives the sheet back, so no two sheets have the same words.
+-- Reading the words of a sheet gives its lines back, so no two sheets have the same words.
 use mathlib.Core.Path.{_≡_, refl, sym, ap, _∙_}
 use mathlib.Core.Bool.{Bool, true, false}
 use mathlib.Core.List.{List, [], _∷_, _++_, map, append-assoc}
@@ -7,10 +7,11 @@ use native.Mathlib.Omega.{arith}
 use native.Mathlib.Nat.{le-of-suc-le-suc, not-suc-le-zero}
 use lib.ListN.{length, length-append}
 use lib.Dec.{eqb}
-use Rattle.meaning.specs.Graph.{Code, bool-cond, number, pick, bit}
-use Rattle.nesting.specs.Nested.{Outcome, untouched, whole, closed, leftover}
-use Rattle.nesting.specs.Line.{Item, Condition, t-cond, f-cond, u-cond, m-cond, Conditions, no-part, part, Line, region-line, block-line, select-line, loop-line, exit-line, defer-line, Sheet}
-use Rattle.nesting.specs.Fields.{concat, counted, value-words, item-words, part-count, condition-words, parts-words, fields, words-of, lines-words, sheet-words, sheet-text, target, outcome, figure, a-number, named}
+use Rattle.meaning.specs.Graph.{Graph, Code, bool-cond, number, pick, bit}
+use Rattle.nesting.specs.Nesting.{Outcome, untouched, whole, closed, leftover, Nested}
+use Rattle.nesting.specs.Sheet.{Field, sheet-of, sheet-words, sheet-text, outcome, figure-field, a-number, named}
+use Rattle.nesting.specs.Lines.{Item, Condition, t-cond, f-cond, u-cond, m-cond, Conditions, no-part, part, Line, region-line, block-line, select-line, loop-line, exit-line, defer-line, TypedSheet, value-field, values-field, item-field, target-field, condition-field, condition-fields, fields, words-of, lines-words, written, typed-sheet}
+use Rattle.nesting.specs.LinesWritten.{sheet-written}
 use Rattle.nesting.specs.Decode.{Got, got, Reader, next, _>>=_, give, read-number, read-times, read-value, read-item, parts, read-condition, read-any-condition, read-line, read-lines, outcome-of, flag-of, read-sheet, text-of-got, words-text}
 
 -- ---- one thing after another
@@ -19,32 +20,37 @@ unfolding next
 step x f a rest e = rw e
 
 -- ---- lists
-module _ {A : Type 0} (r : Reader A) (w : A → List ℕ) (h : (x : A) (rest : List ℕ) → r (w x ++ rest) ≡ got x rest) where
-  many : (xs : List A) (rest : List ℕ) → read-times r (length xs) (concat (map w xs) ++ rest) ≡ got xs rest
+module _ {A : Type 0} (r : Reader A) (w : A → Field) (h : (x : A) (rest : List ℕ) → r (w x .words ++ rest) ≡ got x rest) where
+  many : (xs : List A) (rest : List ℕ) → read-times r (length (map w xs)) (words-of (map w xs) ++ rest) ≡ got xs rest
   unfolding read-times next
   many [] rest = refl
-  many (x ∷ xs) rest = rw (append-assoc (w x) (concat (map w xs)) rest, h x (concat (map w xs) ++ rest), many xs rest)
+  many (x ∷ xs) rest =
+      rw (append-assoc (w x .words) (words-of (map w xs)) rest, h x (words-of (map w xs) ++ rest), many xs rest)
 
   -- with words between it and the rest
-  many-then : (xs : List A) (ys rest : List ℕ) → read-times r (length xs) (concat (map w xs) ++ ys ++ rest) ≡ got xs (ys ++ rest)
-  many-then xs ys rest = rw (append-assoc (concat (map w xs)) ys rest) (many xs (ys ++ rest))
+  many-then : (xs : List A) (ys rest : List ℕ)
+      → read-times r (length (map w xs)) (words-of (map w xs) ++ ys ++ rest) ≡ got xs (ys ++ rest)
+  many-then xs ys rest = rw (append-assoc (words-of (map w xs)) ys rest) (many xs (ys ++ rest))
 
-numbers-read : (ns ys rest : List ℕ) → read-times read-number (length ns) (concat (map (λ n. n ∷ []) ns) ++ ys ++ rest) ≡ got ns (ys ++ rest)
-numbers-read = many-then read-number (λ n. n ∷ []) (λ n rest. refl)
+numbers-read : (ns ys rest : List ℕ)
+    → read-times read-number (length (map a-number ns)) (words-of (map a-number ns) ++ ys ++ rest) ≡ got ns (ys ++ rest)
+numbers-read = many-then read-number a-number (λ n rest. refl)
 
-value-read : (v : Code) (rest : List ℕ) → read-value (value-words v ++ rest) ≡ got v rest
+value-read : (v : Code) (rest : List ℕ) → read-value (value-field v .words ++ rest) ≡ got v rest
 unfolding next
 value-read v rest = refl
 
-values-read : (vs : List Code) (ys rest : List ℕ) → read-times read-value (length vs) (concat (map value-words vs) ++ ys ++ rest) ≡ got vs (ys ++ rest)
-values-read = many-then read-value value-words value-read
+values-read : (vs : List Code) (ys rest : List ℕ)
+    → read-times read-value (length (map value-field vs)) (words-of (map value-field vs) ++ ys ++ rest) ≡ got vs (ys ++ rest)
+values-read = many-then read-value value-field value-read
 
-item-read : (i : Item) (rest : List ℕ) → read-item (item-words i ++ rest) ≡ got i rest
+item-read : (i : Item) (rest : List ℕ) → read-item (item-field i .words ++ rest) ≡ got i rest
 unfolding next
-item-read i rest = rw (many read-value value-words value-read (i .reads) rest)
+item-read i rest = step _ _ _ _ (values-read (i .reads) [] rest)
 
-items-read : (is : List Item) (ys rest : List ℕ) → read-times read-item (length is) (concat (map item-words is) ++ ys ++ rest) ≡ got is (ys ++ rest)
-items-read = many-then read-item item-words item-read
+items-read : (is : List Item) (ys rest : List ℕ)
+    → read-times read-item (length (map item-field is)) (words-of (map item-field is) ++ ys ++ rest) ≡ got is (ys ++ rest)
+items-read = many-then read-item item-field item-read
 
 -- ---- conditions
 mutual
@@ -59,17 +65,18 @@ mutual
   depths (part c cs) = max (depth c) (depths cs)
 
 mutual
-  unfolding depth condition-words
+  unfolding depth condition-field
 
-  depth-words : (c : Condition) → depth c ≤ length (condition-words c)
+  depth-words : (c : Condition) → depth c ≤ length (condition-field c .words)
   depth-words t-cond = omega arith
   depth-words f-cond = omega arith
   depth-words u-cond = omega arith
   depth-words (m-cond n cs) = omega (arith, depths-words cs)
 
-  depths-words : (cs : Conditions) → depths cs ≤ length (parts-words cs)
+  depths-words : (cs : Conditions) → depths cs ≤ length (words-of (condition-fields cs))
   depths-words no-part = omega arith
-  depths-words (part c cs) = omega (arith, depth-words c, depths-words cs, length-append (condition-words c) (parts-words cs))
+  depths-words (part c cs) =
+      omega (arith, depth-words c, depths-words cs, length-append (condition-field c .words) (words-of (condition-fields cs)))
 
 -- the parts, as they are read
 abbrev listed : Conditions → List Condition
@@ -81,9 +88,9 @@ parts-listed no-part = refl
 parts-listed (part c cs) = ap (part c) (parts-listed cs)
 
 mutual
-  unfolding depth condition-words read-condition read-times next
+  unfolding depth condition-field read-condition read-times next
 
-  condition-read : (c : Condition) (d : ℕ) → depth c ≤ d → (rest : List ℕ) → read-condition d (condition-words c ++ rest) ≡ got c rest
+  condition-read : (c : Condition) (d : ℕ) → depth c ≤ d → (rest : List ℕ) → read-condition d (condition-field c .words ++ rest) ≡ got c rest
   condition-read t-cond zero h rest = absurd (not-suc-le-zero h)
   condition-read t-cond (suc d) h rest = refl
   condition-read f-cond zero h rest = absurd (not-suc-le-zero h)
@@ -94,19 +101,21 @@ mutual
   condition-read (m-cond n cs) (suc d) h rest =
       step _ _ _ _ (parts-read cs d (le-of-suc-le-suc h) rest) ∙ ap (λ x. got (m-cond n x) rest) (parts-listed cs)
 
-  parts-read : (cs : Conditions) (d : ℕ) → depths cs ≤ d → (rest : List ℕ) → read-times (read-condition d) (part-count cs) (parts-words cs ++ rest) ≡ got (listed cs) rest
+  parts-read : (cs : Conditions) (d : ℕ) → depths cs ≤ d → (rest : List ℕ)
+      → read-times (read-condition d) (length (condition-fields cs)) (words-of (condition-fields cs) ++ rest) ≡ got (listed cs) rest
   parts-read no-part d h rest = refl
   parts-read (part c cs) d h rest =
-      ap (read-times (read-condition d) (suc (part-count cs))) (append-assoc (condition-words c) (parts-words cs) rest)
-      ∙ step _ _ _ _ (condition-read c d (omega arith) (parts-words cs ++ rest))
+      ap (read-times (read-condition d) (suc (length (condition-fields cs)))) (append-assoc (condition-field c .words) (words-of (condition-fields cs)) rest)
+      ∙ step _ _ _ _ (condition-read c d (omega arith) (words-of (condition-fields cs) ++ rest))
       ∙ step _ _ _ _ (parts-read cs d (omega arith) rest)
 
-any-condition-read : (c : Condition) (rest : List ℕ) → read-any-condition (condition-words c ++ rest) ≡ got c rest
+any-condition-read : (c : Condition) (rest : List ℕ) → read-any-condition (condition-field c .words ++ rest) ≡ got c rest
 any-condition-read c rest =
-    condition-read c (length (condition-words c ++ rest)) (omega (arith, depth-words c, length-append (condition-words c) rest)) rest
+    let ws = condition-field c .words in
+    condition-read c (length (ws ++ rest)) (omega (arith, depth-words c, length-append ws rest)) rest
 
 -- ---- lines
-target-words : (r : ℕ) → target r .words ≡ r ∷ []
+pub target-words : (r : ℕ) → target-field r .words ≡ r ∷ []
 target-words r = at (eqb r 65535)
   where
     at : (b : Bool) → pick b (named r "return") (a-number r) .words ≡ r ∷ []
@@ -123,9 +132,9 @@ line-read (select-line n number v rs ts) rest = step _ _ _ _ (numbers-read rs _ 
 line-read (loop-line n vs r v) rest = step _ _ _ _ (values-read vs _ rest)
 line-read (exit-line n op vs) rest = step _ _ _ _ (values-read vs [] rest)
 line-read (defer-line r x n vs c) rest =
-    ap (λ ws. read-line (5 ∷ r ∷ (ws ++ (n ∷ (counted value-words vs ++ (condition-words c ++ []))) ++ rest))) (target-words x)
+    ap (λ ws. read-line (5 ∷ r ∷ (ws ++ (n ∷ (values-field vs .words ++ (condition-field c .words ++ []))) ++ rest))) (target-words x)
     ∙ step _ _ _ _ (values-read vs _ rest)
-    ∙ step _ _ _ _ (ap read-any-condition (append-assoc (condition-words c) [] rest) ∙ any-condition-read c rest)
+    ∙ step _ _ _ _ (ap read-any-condition (append-assoc (condition-field c .words) [] rest) ∙ any-condition-read c rest)
 
 -- a line has a first word, so the reader of lines takes it
 takes-line : (l : Line) (n : ℕ) (rest : List ℕ)
@@ -147,12 +156,11 @@ some-words (exit-line b op vs) = omega arith
 some-words (defer-line r x k vs c) = omega arith
 
 fewer-lines : (ls : List Line) → length ls ≤ length (lines-words ls)
-unfolding lines-words
 fewer-lines [] = omega arith
 fewer-lines (l ∷ ls) = omega (arith, some-words l, fewer-lines ls, length-append (words-of (fields l)) (lines-words ls))
 
 lines-read : (ls : List Line) (n : ℕ) → length ls ≤ n → read-lines n (lines-words ls) ≡ got ls []
-unfolding read-lines lines-words
+unfolding read-lines
 lines-read [] zero h = refl
 lines-read [] (suc n) h = refl
 lines-read (l ∷ ls) zero h = absurd (not-suc-le-zero h)
@@ -170,7 +178,7 @@ outcome-read closed rest = refl
 outcome-read leftover rest = refl
 
 split-words : (o : Outcome) (f n t : ℕ) (rest : List ℕ)
-    → outcome o .words ++ (figure o f .words ++ (n ∷ t ∷ [])) ++ rest ≡ outcome o .words ++ (f ∷ n ∷ t ∷ rest)
+    → outcome o .words ++ (figure-field o f .words ++ (n ∷ t ∷ [])) ++ rest ≡ outcome o .words ++ (f ∷ n ∷ t ∷ rest)
 split-words untouched f n t rest = refl
 split-words whole f n t rest = refl
 split-words closed f n t rest = refl
@@ -181,7 +189,7 @@ unfolding next
 flag-read true rest = refl
 flag-read false rest = refl
 
-pub round-trip : (s : Sheet) → read-sheet (sheet-words s) ≡ got s []
+pub round-trip : (s : TypedSheet) → read-sheet (sheet-words (written s)) ≡ got s []
 unfolding read-sheet sheet-words next
 round-trip s =
     ap read-sheet (split-words (s .outcome) (s .figure) (s .attempts) (bit (s .twice)) (lines-words (s .lines)))
@@ -189,12 +197,15 @@ round-trip s =
     ∙ step _ _ _ _ (flag-read (s .twice) _)
     ∙ step _ _ _ _ (lines-read (s .lines) _ (fewer-lines (s .lines)))
 
-pub unambiguous : (s t : Sheet) → sheet-words s ≡ sheet-words t → s ≡ t
+pub unambiguous : (s t : TypedSheet) → sheet-words (written s) ≡ sheet-words (written t) → s ≡ t
 unambiguous s t e =
     let p : got s [] ≡ got t [] = sym (round-trip s) ∙ ap read-sheet e ∙ round-trip t in
     cc
 
 -- So the text can be had from the words alone.
-pub words-text-is : (s : Sheet) → words-text (sheet-words s) ≡ sheet-text s
+pub typed-text-is : (s : TypedSheet) → words-text (sheet-words (written s)) ≡ sheet-text (written s)
 unfolding words-text
-words-text-is s = ap text-of-got (round-trip s)
+typed-text-is s = ap text-of-got (round-trip s)
+
+pub words-text-is : (g : Graph) (x : Nested) → words-text (sheet-words (sheet-of g x)) ≡ sheet-text (sheet-of g x)
+words-text-is g x = rw (← sheet-written g x) (typed-text-is (typed-sheet g x))

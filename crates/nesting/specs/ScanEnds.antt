@@ -7,13 +7,7 @@ use Prim.Native.Nat.{ℕ, zero, suc, _≤_, _<_}
 use native.Mathlib.Omega.{arith}
 use lib.ListN.{length, set}
 use Rattle.meaning.specs.Graph.{bool-cond, Graph, region, edgesOf}
-use Rattle.nesting.specs.State.{not-begun, in-progress, ready, NestState, Answer, done, turned-away, Step, follow, _>>=_, _>>_}
-use Rattle.nesting.specs.Change.{with-region-states, set-state}
-use Rattle.nesting.specs.BundleSet.{condition-in, count-to}
-use Rattle.nesting.specs.Case.{ok, err, lazy, Body, convergent-cases}
-use Rattle.nesting.specs.Blocks.{blocks-of}
-use Rattle.nesting.specs.Select.{structurize-select-into}
-use Rattle.nesting.specs.Claim.{Claim, SplitOut, by-control-inst, resolve-by, target-regions, split-out-matching, resolve-deferred, structurize-region}
+use Rattle.nesting.specs.Nesting.{not-begun, in-progress, ready, NestState, Answer, done, turned-away, Step, follow, _>>=_, _>>_, with-region-states, set-state, condition-in, count-to, ok, err, lazy, Body, convergent-cases, blocks-of, structurize-select-into, Claim, SplitOut, by-control-inst, resolve-by, target-regions, split-out-matching, resolve-deferred, structurize-region}
 use Rattle.nesting.specs.Post.{Post}
 use Rattle.nesting.specs.Keeps.{structurize-select-by-keeps, by-control-inst-keeps}
 use Rattle.nesting.specs.Still.{still-steady, still-log}

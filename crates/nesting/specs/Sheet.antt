@@ -1,102 +1,170 @@
--- The sheet of a nested form, line by line (document 01, "The printed sheet").
+-- The figure, the sheet, and the whole answer (document 01, "What comes out", "The printed sheet").
 use mathlib.Core.List.{List, [], _∷_, _++_, map}
-use Prim.Native.Nat.{ℕ, suc}
-use lib.ListN.{getD, take}
-use lib.Dec.{leb}
-use Rattle.meaning.specs.Graph.{Value, const, input, instr, output, bool, undef, held, Code, codeOf, pick, Instr, Graph}
-use Rattle.meaning.specs.Form.{Node, block, select, loop, exit, Nodes, ⟨⟩, _▸_, Cases, ∅, case}
-use Rattle.nesting.specs.Deferred.{LazyCond, undef-cond, false-cond, true-cond, merge, LazyConds, _&_, DeferredTarget, to-region, to-return, DeferredEdgeBundle}
-use Rattle.nesting.specs.Nested.{untouched, whole, closed, leftover, Piece, Nested}
-use Rattle.nesting.specs.Count.{times-in}
-use Rattle.nesting.specs.Figure.{figure}
-use Rattle.nesting.specs.Line.{Item, Condition, t-cond, f-cond, u-cond, m-cond, Conditions, no-part, part, Line, region-line, block-line, select-line, loop-line, exit-line, defer-line, Sheet}
+use Prim.Native.Nat.{ℕ, _+_, _*_, max, suc}
+use mathlib.Core.Bool.{Bool, true, false}
+use lib.ListN.{getD, take, length, drop}
+use lib.Dec.{leb, eqb}
+use Prim.Native.String.{String}
+use Rattle.meaning.specs.Lists.{concat, times-in}
+use Rattle.meaning.specs.Graph.{Instr, SelectionKind, Value, const, input, instr, output, bool, undef, held, pick, Graph, bool-cond, number, bit}
+use Rattle.meaning.specs.Runs.{Node, block, select, loop, exit, Nodes, ⟨⟩, _▸_, Cases, ∅, case}
+use Rattle.meaning.specs.Text.{Text, ascii, decimal, joined, listed}
+use Rattle.format.specs.Store.{Answer, accepted, refused, andThen}
+use Rattle.format.specs.Accept.{accept}
+use Rattle.nesting.specs.Nesting.{Outcome, LazyCond, undef-cond, false-cond, true-cond, merge, LazyConds, _&_, DeferredTarget, to-region, to-return, DeferredEdgeBundle, untouched, whole, closed, leftover, Piece, Nested, structurize-func}
 
-abbrev pub node-number : Node → ℕ
-node-number (block n r k is) = n
-node-number (select n kind v os cs) = n
-node-number (loop n vs r ts limit ks us v) = n
-node-number (exit n op vs) = n
+-- ---- The figure of a nested form: what a run can cost at most (document 01, "What comes out").
+abbrev pub instr-costs : List Instr → ℕ
+instr-costs [] = 0
+instr-costs (i ∷ is) = i .cost + instr-costs is
 
+module _ (test-cost : ℕ) where
+  unfoldable mutual
+    -- A block its instructions' sum; a select the test cost and its dearest case; a loop its turn limit times body and test cost.
+    pub node-figure : Node → ℕ
+    node-figure (block n r k is) = instr-costs is
+    node-figure (select n kind v os cs) = test-cost + dearest cs
+    node-figure (loop n vs r ts limit ks us v) = limit * (figure ks + test-cost)
+    node-figure (exit n op vs) = 0
+
+    -- A region its children's sum.
+    pub figure : Nodes → ℕ
+    figure ⟨⟩ = 0
+    figure (k ▸ ks) = node-figure k + figure ks
+
+    pub dearest : Cases → ℕ
+    dearest ∅ = 0
+    dearest (case r ks vs cs) = max (figure ks) (dearest cs)
+
+-- ---- The fields of a line: the lent words and the text, side by side (document 01, "The printed sheet").
+pub record Field : Type 0 where
+  pub words : List ℕ
+  pub text : Text
+
+-- A word of the text alone.
+abbrev pub label : String → Field
+label s = record { words = []; text = ascii s }
+
+-- A number with a name for it in the text.
+abbrev pub named : ℕ → String → Field
+named n s = record { words = n ∷ []; text = ascii s }
+
+abbrev pub a-number : ℕ → Field
+a-number n = record { words = n ∷ []; text = decimal n }
+
+-- Fields as one: their words, and their texts with `sep` between them.
+abbrev pub joint : String → List Field → Field
+joint sep fs = record { words = concat (map (λ f. f .words) fs); text = joined (ascii sep) (map (λ f. f .text) fs) }
+
+-- A list: its count, then its items; joined by commas, `-` if empty.
+abbrev pub list : List Field → Field
+list fs = record { words = length fs ∷ joint "," fs .words; text = listed (λ f. f .text) fs }
+
+abbrev pub numbers : List ℕ → Field
+numbers ns = list (map a-number ns)
+
+-- As in 1.0: a region (or a node) and an index.
+abbrev pub dotted : ℕ → ℕ → Field
+dotted r k = joint "." (a-number r ∷ a-number k ∷ [])
+
+abbrev pub kind : SelectionKind → Field
+kind bool-cond = named 0 "bool"
+kind number = named 1 "num"
+
+-- The target Return prints `return` and is 65,535 as a word. That word prints so in any case; no region has it for a number.
+abbrev pub target : DeferredTarget → Field
+target to-return = named 65535 "return"
+target (to-region r) = pick (eqb r 65535) (named r "return") (a-number r)
+
+unfoldable mutual
+  -- A condition: t, f, u, or m, the node and its parts in brackets.
+  pub condition : LazyCond → Field
+  condition true-cond = named 1 "t"
+  condition false-cond = named 2 "f"
+  condition undef-cond = named 3 "u"
+  condition (merge n k v cs) =
+      let parts = conditions cs in
+      record { words = 4 ∷ n ∷ list parts .words; text = ascii "m" ++ decimal n ++ ascii "[" ++ joint "," parts .text ++ ascii "]" }
+
+  pub conditions : LazyConds → List Field
+  conditions LazyConds.no-conds = []
+  conditions (c & cs) = condition c ∷ conditions cs
+
+-- ---- The lines of a nested form (document 01, "The printed sheet").
 -- The child nodes of a region line.
 abbrev pub kids : Nodes → List ℕ
 kids ⟨⟩ = []
-kids (k ▸ ks) = node-number k ∷ kids ks
+kids (block n r k is ▸ ks) = n ∷ kids ks
+kids (select n kind v os cs ▸ ks) = n ∷ kids ks
+kids (loop n vs r ts limit body us v ▸ ks) = n ∷ kids ks
+kids (exit n op vs ▸ ks) = n ∷ kids ks
 
 abbrev pub case-regions : Cases → List ℕ
 case-regions ∅ = []
 case-regions (case r ks vs cs) = r ∷ case-regions cs
 
--- The target Return is 65,535 as a word.
-abbrev pub target-word : DeferredTarget → ℕ
-target-word (to-region r) = r
-target-word to-return = 65535
-
-unfoldable mutual
-  pub shown-cond : LazyCond → Condition
-  shown-cond undef-cond = u-cond
-  shown-cond false-cond = f-cond
-  shown-cond true-cond = t-cond
-  shown-cond (merge n kind v cs) = m-cond n (shown-conds cs)
-
-  pub shown-conds : LazyConds → Conditions
-  shown-conds LazyConds.∅ = no-part
-  shown-conds (c & cs) = part (shown-cond c) (shown-conds cs)
-
--- `nodes` has the node of each output ever defined, in order: an output is shown as its node and its place among that node's.
--- A marked input is shown as an input.
+-- `nodes` has the node of each output ever defined, in order.
 module _ (nodes : List ℕ) where
-  abbrev pub shown : Value → Code
-  shown (const i) = codeOf (const i)
-  shown (input r k) = codeOf (input r k)
-  shown (instr r k) = codeOf (instr r k)
-  shown (output o) = record { kind = 3; region = getD nodes o 0; index = times-in (getD nodes o 0) (take o nodes) }
-  shown (bool b) = codeOf (bool b)
-  shown (undef ty) = codeOf (undef ty)
-  shown (held r k) = codeOf (input r k)
+  -- A value: kind, region, index. An output is shown as its node and its place among that node's, a marked input as an input.
+  abbrev pub value : Value → Field
+  value (const i) = record { words = 0 ∷ 0 ∷ i ∷ []; text = ascii "c" ++ decimal i }
+  value (input r k) = joint "" (named 1 "i" ∷ dotted r k ∷ [])
+  value (instr r k) = joint "" (named 2 "d" ∷ dotted r k ∷ [])
+  value (output o) = let n = getD nodes o 0 in joint "" (named 3 "n" ∷ dotted n (times-in n (take o nodes)) ∷ [])
+  value (bool false) = record { words = 4 ∷ 0 ∷ 0 ∷ []; text = ascii "false" }
+  value (bool true) = record { words = 4 ∷ 0 ∷ 1 ∷ []; text = ascii "true" }
+  value (undef ty) = record { words = 5 ∷ 0 ∷ ty ∷ []; text = ascii "undef" ++ decimal ty }
+  value (held r k) = joint "" (named 1 "i" ∷ dotted r k ∷ [])
 
-  abbrev pub block-items : ℕ → ℕ → List Instr → List Item
-  block-items r k [] = []
-  block-items r k (i ∷ is) =
-      record { region = r; index = k; opcode = i .opcode; type = i .type; reads = map shown (i .reads) } ∷ block-items r (suc k) is
+  abbrev pub values : List Value → Field
+  values vs = list (map value vs)
 
-  -- Each child, a select's cases or a loop's body following it. A case has no inputs.
+  -- The items of a block, from index k on: region.index/opcode/type/reads.
+  abbrev pub items : ℕ → ℕ → List Instr → List Field
+  items r k [] = []
+  items r k (i ∷ is) = joint "/" (dotted r k ∷ a-number (i .opcode) ∷ a-number (i .type) ∷ values (i .reads) ∷ []) ∷ items r (suc k) is
+
+  -- Region, inputs' types, child nodes, output values.
+  abbrev pub region-fields : ℕ → List ℕ → Nodes → List Value → List Field
+  region-fields r ts ks vs =
+      named 0 "region" ∷ a-number r ∷ label "in" ∷ numbers ts ∷ label "kids" ∷ numbers (kids ks) ∷ label "out" ∷ values vs ∷ []
+
   unfoldable mutual
-    pub node-lines : Node → List Line
-    node-lines (block n r k is) = block-line n (block-items r k is) ∷ []
-    node-lines (select n kind v os cs) =
-        select-line n kind (shown v) (case-regions cs) (map (λ o. o .type) os) ∷ case-lines cs
+    -- Each child, a select's cases or a loop's body following it. Block: node, items. Select: node, kind, value, case regions,
+    -- types of its outputs. Loop: node, first inputs, body region, repeat value. Exit: node, opcode, values.
+    pub node-lines : Node → List (List Field)
+    node-lines (block n r k is) = (named 1 "block" ∷ a-number n ∷ list (items r k is) ∷ []) ∷ []
+    node-lines (select n k v os cs) =
+        let types = map (λ o. o .type) os in
+        (named 2 "select" ∷ a-number n ∷ kind k ∷ value v ∷ label "cases" ∷ numbers (case-regions cs) ∷ label "out" ∷ numbers types ∷ [])
+        ∷ case-lines cs
     node-lines (loop n vs r ts limit ks us v) =
-        loop-line n (map shown vs) r (shown v) ∷ region-line r ts (kids ks) (map shown us) ∷ nodes-lines ks
-    node-lines (exit n op vs) = exit-line n op (map shown vs) ∷ []
+        (named 3 "loop" ∷ a-number n ∷ label "in" ∷ values vs ∷ label "body" ∷ a-number r ∷ label "repeat" ∷ value v ∷ [])
+        ∷ region-fields r ts ks us
+        ∷ nodes-lines ks
+    node-lines (exit n op vs) = (named 4 "exit" ∷ a-number n ∷ a-number op ∷ label "in" ∷ values vs ∷ []) ∷ []
 
-    pub nodes-lines : Nodes → List Line
+    pub nodes-lines : Nodes → List (List Field)
     nodes-lines ⟨⟩ = []
     nodes-lines (k ▸ ks) = node-lines k ++ nodes-lines ks
 
-    pub case-lines : Cases → List Line
+    -- A case has no inputs.
+    pub case-lines : Cases → List (List Field)
     case-lines ∅ = []
-    case-lines (case r ks vs cs) = region-line r [] (kids ks) (map shown vs) ∷ (nodes-lines ks ++ case-lines cs)
+    case-lines (case r ks vs cs) = region-fields r [] ks vs ∷ (nodes-lines ks ++ case-lines cs)
 
-  unfoldable pub piece-lines : Piece → List Line
-  unfolding nodes-lines
-  piece-lines p = region-line (p .region) (p .inputs) (kids (p .children)) (map shown (p .outputs)) ∷ nodes-lines (p .children)
+  abbrev pub piece-lines : Piece → List (List Field)
+  piece-lines p = region-fields (p .region) (p .inputs) (p .children) (p .outputs) ∷ nodes-lines (p .children)
 
-  unfoldable pub pieces-lines : List Piece → List Line
-  unfolding piece-lines
-  pieces-lines [] = []
-  pieces-lines (p ∷ ps) = piece-lines p ++ pieces-lines ps
+  -- Region, target, count, inputs, condition.
+  abbrev pub defer-fields : ℕ → DeferredEdgeBundle → List Field
+  defer-fields r e =
+      named 5 "defer" ∷ a-number r ∷ label "to" ∷ target (e .target) ∷ label "count" ∷ a-number (e .accumulated-count)
+      ∷ label "in" ∷ values (e .target-inputs) ∷ label "if" ∷ condition (e .condition) ∷ []
 
-  unfoldable pub defer-lines : ℕ → List DeferredEdgeBundle → List Line
-  unfolding shown-cond
-  defer-lines r [] = []
-  defer-lines r (e ∷ es) =
-      defer-line r (target-word (e .target)) (e .accumulated-count) (map shown (e .target-inputs)) (shown-cond (e .condition))
-      ∷ defer-lines r es
-
-  unfoldable pub deferred-lines : List Piece → List Line
-  unfolding defer-lines
-  deferred-lines [] = []
-  deferred-lines (p ∷ ps) = defer-lines (p .region) (p .deferred) ++ deferred-lines ps
+  -- In the order of the region's set.
+  abbrev pub defer-lines : Piece → List (List Field)
+  defer-lines p = map (defer-fields (p .region)) (p .deferred)
 
 -- A piece put where its region belongs among pieces with ascending regions.
 abbrev pub ascending : Piece → List Piece → List Piece
@@ -104,20 +172,97 @@ ascending p [] = p ∷ []
 ascending p (q ∷ qs) = pick (leb (p .region) (q .region)) (p ∷ q ∷ qs) (q ∷ ascending p qs)
 
 -- The entry first, then each unclaimed Ready region, ascending; then the defer lines of all of them, ascending.
-unfoldable pub lines-of : Nested → List Line
-unfolding pieces-lines deferred-lines
+abbrev pub lines-of : Nested → List (List Field)
 lines-of x =
-    pieces-lines (x .output-nodes) (x .entry ∷ x .unclaimed)
-    ++ deferred-lines (x .output-nodes) (ascending (x .entry) (x .unclaimed))
+    concat (map (piece-lines (x .output-nodes)) (x .entry ∷ x .unclaimed))
+    ++ concat (map (defer-lines (x .output-nodes)) (ascending (x .entry) (x .unclaimed)))
+
+-- ---- The sheet (document 01, "The printed sheet"): what line 1 holds, and the other lines.
+pub record Sheet : Type 0 where
+  pub outcome : Outcome
+  pub figure : ℕ  -- 0 where there is none
+  pub attempts : ℕ
+  pub twice : Bool
+  pub lines : List (List Field)
 
 -- The figure exists for whole and closed; an untouched record has line 1 only.
 unfoldable pub sheet-of : Graph → Nested → Sheet
-unfolding lines-of figure
+unfolding figure node-lines condition decimal joined listed
 sheet-of g x =
     let figured = figure (g .test-cost) (x .entry .children) in
-    elim (x .outcome) [
-      | untouched ↦ record { outcome = untouched; figure = 0; attempts = x .attempts; twice = x .twice; lines = [] }
-      | whole ↦ record { outcome = whole; figure = figured; attempts = x .attempts; twice = x .twice; lines = lines-of x }
-      | closed ↦ record { outcome = closed; figure = figured; attempts = x .attempts; twice = x .twice; lines = lines-of x }
-      | leftover ↦ record { outcome = leftover; figure = 0; attempts = x .attempts; twice = x .twice; lines = lines-of x }
-    ]
+    record {
+      outcome = x .outcome;
+      figure = elim (x .outcome) [ untouched ↦ 0 | whole ↦ figured | closed ↦ figured | leftover ↦ 0 ];
+      attempts = x .attempts;
+      twice = x .twice;
+      lines = elim (x .outcome) [ untouched ↦ [] | whole ↦ lines-of x | closed ↦ lines-of x | leftover ↦ lines-of x ];
+    }
+
+abbrev pub outcome : Outcome → Field
+outcome untouched = named 0 "untouched"
+outcome whole = named 1 "whole"
+outcome closed = named 2 "closed"
+outcome leftover = named 3 "leftover"
+
+-- `-` if there is none, which is 0 as a word.
+abbrev pub figure-field : Outcome → ℕ → Field
+figure-field untouched n = named n "-"
+figure-field whole n = a-number n
+figure-field closed n = a-number n
+figure-field leftover n = named n "-"
+
+abbrev pub line-1 : Sheet → List Field
+line-1 s =
+    outcome (s .outcome)
+    ∷ label "figure" ∷ figure-field (s .outcome) (s .figure)
+    ∷ label "attempts" ∷ a-number (s .attempts)
+    ∷ label "twice" ∷ a-number (bit (s .twice)) ∷ []
+
+-- The sheet in the lent words, and as it is printed.
+unfoldable pub sheet-words : Sheet → List ℕ
+sheet-words s = concat (map (λ l. joint " " l .words) (line-1 s ∷ s .lines))
+
+unfoldable pub sheet-text : Sheet → Text
+unfolding decimal joined
+sheet-text s = concat (map (λ l. joint " " l .text ++ ascii "\n") (line-1 s ∷ s .lines))
+
+-- ---- From the bytes of a store to the whole answer: a refusal, or the sheet in the lent words and in print (document 01).
+-- Refusal 11: the figure exceeds 4,294,967,295.
+abbrev pub figure-fits : Sheet → Answer Sheet
+figure-fits s = elim (leb (s .figure) 4294967295) [ true ↦ accepted s | false ↦ refused 11 0 ]
+
+-- Store, reading, references, nesting, figure: the sheet, or a refusal other than 10.
+unfoldable pub sheet-for : List ℕ → Answer Sheet
+unfolding accept structurize-func sheet-of
+sheet-for store =
+    andThen (accept store) λ g.
+    andThen (structurize-func g) λ x.
+    figure-fits (sheet-of g x)
+
+-- Refusal 10: the lent words are too few.
+abbrev pub words-fit : ℕ → Sheet → Answer Sheet
+words-fit lent s = elim (leb (length (sheet-words s)) lent) [ true ↦ accepted s | false ↦ refused 10 0 ]
+
+unfoldable pub answer : List ℕ → ℕ → Answer Sheet
+unfolding sheet-for sheet-words
+answer store lent = andThen (sheet-for store) (words-fit lent)
+
+-- The words of the sheet, which the lent words then begin with.
+unfoldable pub answer-words : List ℕ → ℕ → Answer (List ℕ)
+unfolding answer
+answer-words store lent = andThen (answer store lent) λ s. accepted (sheet-words s)
+
+-- What the lent words hold afterwards: the words beyond the sheet stay as lent, and all of them do after a refusal.
+abbrev pub lent-after : Answer (List ℕ) → List ℕ → List ℕ
+lent-after (refused n w) lent = lent
+lent-after (accepted ws) lent = ws ++ drop (length ws) lent
+
+unfoldable pub answer-text : Answer Sheet → Text
+unfolding sheet-text
+answer-text (refused n w) = joined (ascii " ") (ascii "refused" ∷ decimal n ∷ decimal w ∷ []) ++ ascii "\n"
+answer-text (accepted s) = sheet-text s
+
+-- What the program prints for the bytes of standard input: it lends 16,384 words.
+unfoldable pub printed : List ℕ → Text
+unfolding answer answer-text
+printed store = answer-text (answer store 16384)

@@ -1,6 +1,6 @@
 -- What changes neither a region's state nor the number of attempts, as selects and loops do not.
 use mathlib.Core.Path.{_≡_, refl, _∙_}
-use Rattle.nesting.specs.State.{NestState}
+use Rattle.nesting.specs.Nesting.{NestState}
 use Rattle.nesting.specs.Keeps.{Steady, KeepsLog}
 
 pub record Still (s s′ : NestState) : Type 0 where

@@ -10,13 +10,7 @@ use lib.ListN.{length, getD, set, length-set, List·getD-eq-default}
 use lib.Seq.{set-out}
 use lib.Dec.{eqb, ltb, ltb→lt, nltb→le}
 use Rattle.meaning.specs.Graph.{Value, bool-cond, Edge, Graph, region, edgesOf}
-use Rattle.nesting.specs.Deferred.{DeferredTarget, to-region, to-return, DeferredEdgeBundleSet}
-use Rattle.nesting.specs.State.{IncomingEdgeCount, StructurizeRegionState, not-begun, in-progress, claimed, ready, NestState, Step, give, turn-away, follow, _>>=_, _>>_}
-use Rattle.nesting.specs.Change.{with-region-states, with-attempt, get-state, set-state}
-use Rattle.nesting.specs.BundleSet.{condition-in, count-to}
-use Rattle.nesting.specs.Case.{ClaimedRegion, ok, err, lazy, Body, convergent-cases}
-use Rattle.nesting.specs.Blocks.{blocks-of}
-use Rattle.nesting.specs.Claim.{Claim, SplitOut, backedge-of, edge-case, split-out-or, begin, claim-body, claim-by-state, by-control-inst, resolve-by, target-regions, split-out-matching, resolve-deferred, structurize-region, try-claim-edge-bundle}
+use Rattle.nesting.specs.Nesting.{DeferredTarget, to-region, to-return, DeferredEdgeBundleSet, IncomingEdgeCount, StructurizeRegionState, not-begun, in-progress, claimed, ready, NestState, Step, give, turn-away, follow, _>>=_, _>>_, with-region-states, with-attempt, get-state, set-state, condition-in, count-to, ClaimedRegion, ok, err, lazy, Body, convergent-cases, blocks-of, Claim, SplitOut, backedge-of, edge-case, split-out-or, begin, claim-body, claim-by-state, by-control-inst, resolve-by, target-regions, split-out-matching, resolve-deferred, structurize-region, try-claim-edge-bundle}
 use Rattle.nesting.specs.Post.{Post, map-post, bind}
 use Rattle.nesting.specs.Keeps.{structurize-select-by-keeps, claim-body-keeps, by-control-inst-keeps}
 use Rattle.nesting.specs.Still.{Still, still-steady, still-log}

@@ -1,25 +1,29 @@
--- What the readers' answers mean, as readings of the definitions (format's Read).
-use mathlib.Core.Path.{_≡_, sym, ap, _∙_}
+-- What the readers answer, by the definitions (format's Read).
+use mathlib.Core.List.{List}
 use Prim.Native.Nat.{ℕ}
-use Rattle.format.specs.Read.{Read, got, bad}
+use lib.ListN.{take}
+use Rattle.format.specs.Read.{Read, got, bad, Reader}
+use Rattle.format.specs.Places.{skim}
+use Rattle.reading.specs.declared.words.Cursor.{Cursor}
 use Rattle.reading.specs.declared.words.Item.{Item}
 use Rattle.reading.specs.declared.words.Item.the-variants as item
 use Rattle.reading.specs.declared.words.Step.{Step}
 use Rattle.reading.specs.declared.words.Step.the-variants as step
 
--- a word and the place after it, or the refusal's number
-abbrev pub itemOf : Item → Read ℕ
-itemOf (item.Word n at) = got n at
-itemOf (item.Bad n) = bad n
+-- a word and the cursor behind it, which has the same end, or the refusal's number
+abbrev pub itemFrom : ℕ → Read ℕ → Item
+itemFrom end (got n at) = item.Word n (record { at = at; end = end })
+itemFrom end (bad m) = item.Bad m
 
--- the place after what was read, or the refusal's number
-abbrev pub stepOf : Step → Read Unit
-stepOf (step.At at) = got tt at
-stepOf (step.Bad n) = bad n
+-- the cursor behind what was read, or the refusal's number
+abbrev pub stepFrom : ℕ → Read Unit → Step
+stepFrom end (got u at) = step.At (record { at = at; end = end })
+stepFrom end (bad m) = step.Bad m
 
--- what a call answered, told by the case that was met
-pub item-is : {r : Read ℕ} {x y : Item} → itemOf x ≡ r → x ≡ y → r ≡ itemOf y
-item-is e q = sym e ∙ ap itemOf q
+-- A reading of the lent words from a cursor on.
+unfoldable pub itemAt : Reader ℕ → List ℕ → Cursor → Item
+itemAt p w c = itemFrom (c .end) (p (take (c .end) w) (c .at))
 
-pub step-is : {r : Read Unit} {x y : Step} → stepOf x ≡ r → x ≡ y → r ≡ stepOf y
-step-is e q = sym e ∙ ap stepOf q
+-- The same with the value forgotten.
+unfoldable pub stepAt : {A : Type 0} → Reader A → List ℕ → Cursor → Step
+stepAt p w c = stepFrom (c .end) (skim (p (take (c .end) w) (c .at)))

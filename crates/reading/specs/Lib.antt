@@ -4,3 +4,4 @@ pub mod SkimValues
 pub mod Targets
 pub mod SkimTerminators
 pub mod Answers
+pub mod AnswerSteps

@@ -3,14 +3,13 @@ use mathlib.Core.Path.{_≡_, refl, sym, ap, _∙_}
 use mathlib.Core.Bool.{true, false}
 use mathlib.Core.List.{List, [], _∷_}
 use Prim.Native.Nat.{ℕ, _+_, _<_}
-use native.Mathlib.Omega.{arith}
-use lib.ListN.{length, take, length-take}
+use lib.ListN.{length, take}
 use lib.Dec.{eqb}
-use Rattle.meaning.specs.Graph.{ControlInst}
+use Rattle.meaning.specs.Graph.{Value, ControlInst}
 use Rattle.format.specs.Read.{Read, got, bad, Reader, follow, word, within, many, counted, value, opcodeFor, fewestValues, mostValues, fewestTargets, mostTargets, distinctFrom, edgesFrom, controlInst, terminator}
 use Rattle.format.specs.Places.{skim}
 use Rattle.format.specs.ReadLaws.{clash, got-place}
-use Rattle.reading.specs.Skims.{skim-follow, skim-given, follow-skim, follow-follow}
+use Rattle.reading.specs.Skims.{skim-follow, skim-given, follow-skim, follow-follow, taken-inside}
 use Rattle.reading.specs.Targets.{firsts, firsts-distinct, firsts-taken, many-words, words-inside}
 
 -- a reading of which the place is known
@@ -23,11 +22,11 @@ found (got a i) h = record { value = a; is = ap (got a) (got-place h) }
 found (bad n) h = absurd (clash (cc))
 
 -- n targets, and the values passed to each distinct one
-unfoldable pub edgesRead : ℕ → Reader Unit
-edgesRead n ws at = follow (many n word ws at) λ ts e. skim (many (length (distinctFrom [] ts)) (counted 0 4 value) ws e)
+unfoldable pub edgesRead : ℕ → Reader (List (List Value))
+edgesRead n ws at = follow (many n word ws at) λ ts e. many (length (distinctFrom [] ts)) (counted 0 4 value) ws e
 
 -- the values of a terminator of kind k, its targets and what is passed to them
-unfoldable pub operandsRead : ℕ → Reader Unit
+unfoldable pub operandsRead : ℕ → Reader (List (List Value))
 unfolding edgesRead
 operandsRead k ws at =
     follow (skim (counted (fewestValues k) (mostValues k) value ws at)) λ u p.
@@ -46,26 +45,26 @@ module _ (k : ℕ) (ws : List ℕ) (at : ℕ) where
       one (got x i) = refl
       one (bad m) = refl
 
--- targets read from the lent words, W of them in use
-module _ (n : ℕ) (w : List ℕ) (count at : ℕ) where
-  pub edges-stop : {m : ℕ} → skim (many n word (take count w) at) ≡ bad m → bad m ≡ edgesRead n (take count w) at
+-- targets read from the lent words
+module _ (n : ℕ) (w : List ℕ) (end at : ℕ) where
+  pub edges-stop : {m : ℕ} → skim (many n word (take end w) at) ≡ bad m → bad m ≡ skim (edgesRead n (take end w) at)
   unfolding edgesRead
-  edges-stop {m} h = by-first (many n word (take count w) at) h
+  edges-stop {m} h = by-first (many n word (take end w) at) h
     where
-      by-first : (r : Read (List ℕ)) → skim r ≡ bad m → bad m ≡ follow r λ ts e. skim (many (length (distinctFrom [] ts)) (counted 0 4 value) (take count w) e)
+      by-first : (r : Read (List ℕ)) → skim r ≡ bad m → bad m ≡ skim (follow r λ ts e. many (length (distinctFrom [] ts)) (counted 0 4 value) (take end w) e)
       by-first (got ts i) q = absurd (clash (cc))
       by-first (bad j) q = sym q
 
-  pub targets-inside : {e : ℕ} → skim (many n word (take count w) at) ≡ got tt e → (j : ℕ) → j < n → at + j < count
+  pub targets-inside : {e : ℕ} → skim (many n word (take end w) at) ≡ got tt e → (j : ℕ) → j < n → (at + j < end) × (at + j < length w)
   targets-inside h j l =
-      let f = found (many n word (take count w) at) h in
-      omega (arith, words-inside n (take count w) at (f .is) j l, length-take count w)
+      let f = found (many n word (take end w) at) h in
+      taken-inside w end (words-inside n (take end w) at (f .is) j l)
 
-  pub edges-rest : {e : ℕ} → skim (many n word (take count w) at) ≡ got tt e → skim (many (firsts w at n) (counted 0 4 value) (take count w) e) ≡ edgesRead n (take count w) at
+  pub edges-rest : {k e : ℕ} → k ≡ firsts w at n → skim (many n word (take end w) at) ≡ got tt e → skim (many k (counted 0 4 value) (take end w) e) ≡ skim (edgesRead n (take end w) at)
   unfolding edgesRead
-  edges-rest {e} h =
-      let f = found (many n word (take count w) at) h in
-      let same : firsts w at n ≡ length (distinctFrom [] (f .value)) = sym (firsts-taken w count at n (targets-inside h)) ∙ firsts-distinct (take count w) at n ∙ ap (λ ts. length (distinctFrom [] ts)) (sym (many-words n (take count w) at (f .is))) in
+  edges-rest {k} {e} q h =
+      let f = found (many n word (take end w) at) h in
+      let same : k ≡ length (distinctFrom [] (f .value)) = q ∙ sym (firsts-taken w end at n (λ j l. targets-inside h j l .0)) ∙ firsts-distinct (take end w) at n ∙ ap (λ ts. length (distinctFrom [] ts)) (sym (many-words n (take end w) at (f .is))) in
       rw (f .is, same)
 
 -- low and high bound the values, fewest and most the targets
@@ -73,7 +72,7 @@ module _ (k : ℕ) (ws : List ℕ) (at : ℕ) {low high : ℕ} (is-low : low ≡
   bounds : skim (counted (fewestValues k) (mostValues k) value ws at) ≡ skim (counted low high value ws at)
   bounds = rw (is-low, is-high)
 
-  pub operands-stop : {m : ℕ} → skim (counted low high value ws at) ≡ bad m → bad m ≡ operandsRead k ws at
+  pub operands-stop : {m : ℕ} → skim (counted low high value ws at) ≡ bad m → bad m ≡ skim (operandsRead k ws at)
   unfolding operandsRead
   operands-stop h = rw (bounds ∙ h)
 
@@ -81,16 +80,16 @@ module _ (k : ℕ) (ws : List ℕ) (at : ℕ) {low high : ℕ} (is-low : low ≡
     places : within (fewestTargets k) (mostTargets k) ws p ≡ within fewest most ws p
     places = rw (is-fewest, is-most)
 
-    pub operands-count : {m : ℕ} → within fewest most ws p ≡ bad m → bad m ≡ operandsRead k ws at
+    pub operands-count : {m : ℕ} → within fewest most ws p ≡ bad m → bad m ≡ skim (operandsRead k ws at)
     unfolding operandsRead
     operands-count h = rw (bounds ∙ values, places ∙ h)
 
-    pub operands-rest : {n e : ℕ} → within fewest most ws p ≡ got n e → edgesRead n ws e ≡ operandsRead k ws at
+    pub operands-rest : {n e : ℕ} → within fewest most ws p ≡ got n e → skim (edgesRead n ws e) ≡ skim (operandsRead k ws at)
     unfolding operandsRead
     operands-rest h = rw (bounds ∙ values, places ∙ h)
 
 -- what stands after the opcode, with the terminator made of it
-operands-made : (k op : ℕ) (ws : List ℕ) (at : ℕ) → operandsRead k ws at ≡ skim (follow (counted (fewestValues k) (mostValues k) value ws at) λ vs p. follow (counted (fewestTargets k) (mostTargets k) word ws p) λ ts e. follow (many (length (distinctFrom [] ts)) (counted 0 4 value) ws e) λ passes j. got (controlInst k op vs (edgesFrom ts passes)) j)
+operands-made : (k op : ℕ) (ws : List ℕ) (at : ℕ) → skim (operandsRead k ws at) ≡ skim (follow (counted (fewestValues k) (mostValues k) value ws at) λ vs p. follow (counted (fewestTargets k) (mostTargets k) word ws p) λ ts e. follow (many (length (distinctFrom [] ts)) (counted 0 4 value) ws e) λ passes j. got (controlInst k op vs (edgesFrom ts passes)) j)
 unfolding operandsRead edgesRead counted
 operands-made k op ws at = simp (skim-follow, follow-skim, follow-follow, skim-given)
 
@@ -107,7 +106,7 @@ module _ (ws : List ℕ) (at : ℕ) where
       by-opcode (got a i) q f = absurd (clash (cc))
       by-opcode (bad n) q f = sym q
 
-  pub terminator-rest : {k p e : ℕ} → within 0 5 ws at ≡ got k p → skim (opcodeFor k ws p) ≡ got tt e → operandsRead k ws e ≡ skim (terminator ws at)
+  pub terminator-rest : {k p e : ℕ} → within 0 5 ws at ≡ got k p → skim (opcodeFor k ws p) ≡ got tt e → skim (operandsRead k ws e) ≡ skim (terminator ws at)
   unfolding terminator
   terminator-rest {k} {p} {e} h j =
       let f = found (opcodeFor k ws p) j in

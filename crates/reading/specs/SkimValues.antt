@@ -24,19 +24,19 @@ unfoldable pub namedBy : ℕ → Reader Unit
 namedBy k ws at = follow (word ws at) λ r p. follow (word ws p) λ i e. expect (indexRight k i) ws e
 
 module _ (k : ℕ) (ws : List ℕ) (at : ℕ) where
-  pub named-stop : {m : ℕ} → word ws at ≡ bad m → bad m ≡ namedBy k ws at
+  pub named-stop : {m : ℕ} → word ws at ≡ bad m → bad m ≡ skim (namedBy k ws at)
   unfolding namedBy
   named-stop h = rw h
 
-  pub named-short : {r p m : ℕ} → word ws at ≡ got r p → word ws p ≡ bad m → bad m ≡ namedBy k ws at
+  pub named-short : {r p m : ℕ} → word ws at ≡ got r p → word ws p ≡ bad m → bad m ≡ skim (namedBy k ws at)
   unfolding namedBy
   named-short h j = rw (h, j)
 
-  pub named-bad : {r p i e : ℕ} → word ws at ≡ got r p → word ws p ≡ got i e → indexRight k i ≡ false → bad 5 ≡ namedBy k ws at
+  pub named-bad : {r p i e : ℕ} → word ws at ≡ got r p → word ws p ≡ got i e → indexRight k i ≡ false → bad 5 ≡ skim (namedBy k ws at)
   unfolding namedBy
   named-bad h j t = rw (h, j, t)
 
-  pub named-in : {r p i e : ℕ} → word ws at ≡ got r p → word ws p ≡ got i e → indexRight k i ≡ true → got tt e ≡ namedBy k ws at
+  pub named-in : {r p i e : ℕ} → word ws at ≡ got r p → word ws p ≡ got i e → indexRight k i ≡ true → got tt e ≡ skim (namedBy k ws at)
   unfolding namedBy
   named-in h j t = rw (h, j, t)
 
@@ -46,7 +46,7 @@ skim-unit (got tt i) = refl
 skim-unit (bad n) = refl
 
 -- what stands after the kind, with the value made of it
-named-made : {B : Type 0} (k : ℕ) (f : ℕ → ℕ → B) (ws : List ℕ) (at : ℕ) → namedBy k ws at ≡ skim (follow (word ws at) λ r p. follow (word ws p) λ i e. follow (expect (indexRight k i) ws e) λ u j. got (f r i) j)
+named-made : {B : Type 0} (k : ℕ) (f : ℕ → ℕ → B) (ws : List ℕ) (at : ℕ) → skim (namedBy k ws at) ≡ skim (follow (word ws at) λ r p. follow (word ws p) λ i e. follow (expect (indexRight k i) ws e) λ u j. got (f r i) j)
 unfolding namedBy
 named-made k f ws at = simp (skim-follow, skim-given, skim-unit)
 
@@ -59,7 +59,7 @@ module _ (ws : List ℕ) (at : ℕ) where
   unfolding value
   value-kind h t = rw (h, t)
 
-  pub value-rest : {k p : ℕ} → word ws at ≡ got k p → isKind k ≡ true → namedBy k ws p ≡ skim (value ws at)
+  pub value-rest : {k p : ℕ} → word ws at ≡ got k p → isKind k ≡ true → skim (namedBy k ws p) ≡ skim (value ws at)
   unfolding value
   value-rest {k} {p} h t = rw (h, t) (named-made k (valueOf k) ws p)
 

@@ -4,8 +4,8 @@ use mathlib.Core.List.{List}
 use Prim.Native.Nat.{ℕ, suc, _+_, _-_, _≤_, _<_}
 use native.Mathlib.Omega.{arith}
 use native.Mathlib.Numerals.{add-one}
-use lib.ListN.{length, getD, take}
-use lib.Seq.{getD-take, length-take-le}
+use lib.ListN.{length, getD, take, length-take}
+use lib.Seq.{getD-take}
 use borrow.Author.Tests.{lt-ltb, le-ltb, le-leb, lt-leb}
 use Rattle.format.specs.Read.{Read, got, bad, Reader, follow, word, within, many, counted}
 use Rattle.format.specs.Places.{next, skim, after}
@@ -28,15 +28,24 @@ pub follow-follow : {A B C : Type 0} (r : Read A) (j : A → ℕ → Read B) (k 
 follow-follow (got a i) j k = refl
 follow-follow (bad n) j k = refl
 
--- A word of the record is one of the lent words below W.
-module _ (w : List ℕ) (count at : ℕ) (fits : count ≤ length w) where
-  pub word-in : at < count → got (getD w at 0) (at + 1) ≡ word (take count w) at
-  unfolding word
-  word-in h = rw (word, length-take-le count w fits, lt-ltb at count h, getD-take count w at 0 h)
+-- A word of the record is one of the lent words, in front of the end.
+pub taken-inside : (w : List ℕ) (end : ℕ) {at : ℕ} → at < length (take end w) → (at < end) × (at < length w)
+taken-inside w end h = (omega (arith, length-take end w), omega (arith, length-take end w))
 
-  pub word-out : count ≤ at → bad 4 ≡ word (take count w) at
+module _ (w : List ℕ) (end at : ℕ) where
+  pub word-in : at < end → at < length w → got (getD w at 0) (at + 1) ≡ word (take end w) at
   unfolding word
-  word-out h = rw (word, length-take-le count w fits, le-ltb at count h)
+  word-in h l = rw (word, lt-ltb at (length (take end w)) (omega (arith, length-take end w)), getD-take end w at 0 h)
+
+  outside : length (take end w) ≤ at → bad 4 ≡ word (take end w) at
+  unfolding word
+  outside h = rw (word, le-ltb at (length (take end w)) h)
+
+  pub word-out : end ≤ at → bad 4 ≡ word (take end w) at
+  word-out h = outside (omega (arith, length-take end w))
+
+  pub word-past : length w ≤ at → bad 4 ≡ word (take end w) at
+  word-past h = outside (omega (arith, length-take end w))
 
 module _ (low high : ℕ) (ws : List ℕ) (at : ℕ) where
   pub within-stop : {m : ℕ} → word ws at ≡ bad m → bad m ≡ within low high ws at

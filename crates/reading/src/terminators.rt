@@ -1,16 +1,15 @@
 // Terminators: kind, opcode, values, targets, and the values passed to each distinct target.
 use crate::values::counted_values;
+use crate::words::Cursor;
 use crate::words::Item;
 use crate::words::Step;
+use crate::words::span;
 use crate::words::within;
-use crate::words::word;
 use crate::words::words;
 ghost use mathlib.Core.Path.{_≡_};
-ghost use Prim.Native.Nat.{ℕ, _+_, _≤_, _<_};
-ghost use lib.ListN.{take};
+ghost use Prim.Native.Nat.{ℕ, _+_, _<_};
 ghost use Rattle.format.specs.Read as read;
-ghost use Rattle.format.specs.Places.{skim};
-ghost use Rattle.reading.specs.Answers.{stepOf};
+ghost use Rattle.reading.specs.Answers.{stepAt};
 ghost use Rattle.reading.specs.Targets.{stands, first, firsts};
 ghost use Rattle.reading.specs.SkimTerminators.{edgesRead, operandsRead};
 
@@ -67,19 +66,18 @@ fn most_targets(k: u16) -> u16
 }
 
 // The opcode word stands for ExitInvocation, kind 2, only.
-fn opcode_for(w: &[u16; 32256], count: usize, at: usize, k: u16) -> Step
-    requires { ⌜ count ≤ 4048 ⌝ }
-    ensures { λ r. ⌜ stepOf r ≡ skim (read.opcodeFor k (take count (now (w .entry))) at) ⌝ }
+fn opcode_for(w: &[u16; 32256], c: Cursor, k: u16) -> Step
+    ensures { λ r. ⌜ r ≡ stepAt (read.opcodeFor k) (now (w .entry)) c ⌝ }
 {
     if k == 2 {
-        return words(w, count, at, 1);
+        return words(w, c, 1);
     }
-    Step::At(at)
+    Step::At(c)
 }
 
 // Whether t is among n words.
 fn stands_before(w: &[u16; 32256], from: usize, t: u16, n: u16) -> bool
-    requires { ⌜ ((j : ℕ) → j < n → from + j < 4048) ⌝ }
+    requires { ⌜ ((j : ℕ) → j < n → from + j < 32256) ⌝ }
     ensures { λ r. ⌜ r ≡ stands (now (w .entry)) from t n ⌝ }
 {
     let mut i: u16 = 0;
@@ -94,7 +92,7 @@ fn stands_before(w: &[u16; 32256], from: usize, t: u16, n: u16) -> bool
 
 // 1 if word n of them stands for the first time, else 0.
 fn first_standing(w: &[u16; 32256], from: usize, n: u16) -> u16
-    requires { ⌜ ((j : ℕ) → j < n + 1 → from + j < 4048) ⌝ }
+    requires { ⌜ ((j : ℕ) → j < n + 1 → from + j < 32256) ⌝ }
     ensures { λ r. ⌜ r ≡ first (now (w .entry)) from n ⌝ }
 {
     let t = w[from + n as usize];
@@ -106,7 +104,7 @@ fn first_standing(w: &[u16; 32256], from: usize, n: u16) -> u16
 
 // How many of n words stand for the first time.
 fn distinct(w: &[u16; 32256], from: usize, n: u16) -> u16
-    requires { ⌜ ((j : ℕ) → j < n → from + j < 4048) ⌝ }
+    requires { ⌜ ((j : ℕ) → j < n → from + j < 32256) ⌝ }
     ensures { λ r. ⌜ r ≡ firsts (now (w .entry)) from n ⌝ }
 {
     let mut k: u16 = 0;
@@ -119,67 +117,65 @@ fn distinct(w: &[u16; 32256], from: usize, n: u16) -> u16
 }
 
 // n lists of passed values
-fn passes(w: &[u16; 32256], count: usize, from: usize, n: u16) -> Step
-    requires { ⌜ count ≤ 4048 ⌝ }
-    ensures { λ r. ⌜ stepOf r ≡ skim (read.many n (read.counted 0 4 read.value) (take count (now (w .entry))) from) ⌝ }
+fn passes(w: &[u16; 32256], from: Cursor, n: u16) -> Step
+    ensures { λ r. ⌜ r ≡ stepAt (read.many n (read.counted 0 4 read.value)) (now (w .entry)) from ⌝ }
 {
     let mut i: u16 = 0;
-    let mut at = from;
+    let mut c = from;
     while i < n {
-        match counted_values(w, count, at, 0, 4) {
+        match counted_values(w, c, 0, 4) {
             Step::Bad(m) => return Step::Bad(m),
             Step::At(e) => {
-                at = e;
+                c = e;
                 i += 1;
             }
         }
     }
-    Step::At(at)
+    Step::At(c)
 }
 
 // n targets and what is passed to them
-fn edges(w: &[u16; 32256], count: usize, at: usize, n: u16) -> Step
-    requires { ⌜ count ≤ 4048 ⌝ }
-    ensures { λ r. ⌜ stepOf r ≡ edgesRead n (take count (now (w .entry))) at ⌝ }
+fn edges(w: &[u16; 32256], c: Cursor, n: u16) -> Step
+    ensures { λ r. ⌜ r ≡ stepAt (edgesRead n) (now (w .entry)) c ⌝ }
 {
-    match words(w, count, at, n) {
+    span(w);
+    match words(w, c, n) {
         Step::Bad(m) => Step::Bad(m),
         Step::At(e) => {
+            let at = c.at;
             let k = distinct(w, at, n);
-            passes(w, count, e, k)
+            passes(w, e, k)
         }
     }
 }
 
 // What stands after the opcode of a terminator of kind k.
-fn operands(w: &[u16; 32256], count: usize, at: usize, k: u16) -> Step
-    requires { ⌜ count ≤ 4048 ⌝ }
-    ensures { λ r. ⌜ stepOf r ≡ operandsRead k (take count (now (w .entry))) at ⌝ }
+fn operands(w: &[u16; 32256], c: Cursor, k: u16) -> Step
+    ensures { λ r. ⌜ r ≡ stepAt (operandsRead k) (now (w .entry)) c ⌝ }
 {
     let low = fewest_values(k);
     let high = most_values(k);
-    match counted_values(w, count, at, low, high) {
+    match counted_values(w, c, low, high) {
         Step::Bad(m) => Step::Bad(m),
         Step::At(p) => {
             let fewest = fewest_targets(k);
             let most = most_targets(k);
-            match within(w, count, p, fewest, most) {
+            match within(w, p, fewest, most) {
                 Item::Bad(m) => Step::Bad(m),
-                Item::Word(n, e) => edges(w, count, e, n),
+                Item::Word(n, e) => edges(w, e, n),
             }
         }
     }
 }
 
-pub fn terminator(w: &[u16; 32256], count: usize, at: usize) -> Step
-    requires { ⌜ count ≤ 4048 ⌝ }
-    ensures { λ r. ⌜ stepOf r ≡ skim (read.terminator (take count (now (w .entry))) at) ⌝ }
+pub fn terminator(w: &[u16; 32256], c: Cursor) -> Step
+    ensures { λ r. ⌜ r ≡ stepAt read.terminator (now (w .entry)) c ⌝ }
 {
-    match within(w, count, at, 0, 5) {
+    match within(w, c, 0, 5) {
         Item::Bad(m) => Step::Bad(m),
-        Item::Word(k, p) => match opcode_for(w, count, p, k) {
+        Item::Word(k, p) => match opcode_for(w, p, k) {
             Step::Bad(m) => Step::Bad(m),
-            Step::At(e) => operands(w, count, e, k),
+            Step::At(e) => operands(w, e, k),
         },
     }
 }

@@ -1,14 +1,12 @@
 // Values, instructions and blocks.
+use crate::words::Cursor;
 use crate::words::Item;
 use crate::words::Step;
 use crate::words::within;
 use crate::words::word;
 ghost use mathlib.Core.Path.{_≡_};
-ghost use Prim.Native.Nat.{_≤_};
-ghost use lib.ListN.{take};
 ghost use Rattle.format.specs.Read as read;
-ghost use Rattle.format.specs.Places.{skim};
-ghost use Rattle.reading.specs.Answers.{stepOf};
+ghost use Rattle.reading.specs.Answers.{stepAt};
 ghost use Rattle.reading.specs.SkimValues.{namedBy};
 
 // Whether a record may have kind k: 3 arises only in nesting.
@@ -38,13 +36,12 @@ fn index_right(k: u16, i: u16) -> bool
 }
 
 // The region and the index of a value of kind k.
-fn named(w: &[u16; 32256], count: usize, at: usize, k: u16) -> Step
-    requires { ⌜ count ≤ 4048 ⌝ }
-    ensures { λ r. ⌜ stepOf r ≡ namedBy k (take count (now (w .entry))) at ⌝ }
+fn named(w: &[u16; 32256], c: Cursor, k: u16) -> Step
+    ensures { λ r. ⌜ r ≡ stepAt (namedBy k) (now (w .entry)) c ⌝ }
 {
-    match word(w, count, at) {
+    match word(w, c) {
         Item::Bad(m) => Step::Bad(m),
-        Item::Word(_, p) => match word(w, count, p) {
+        Item::Word(_, p) => match word(w, p) {
             Item::Bad(m) => Step::Bad(m),
             Item::Word(i, e) => {
                 if index_right(k, i) {
@@ -56,15 +53,14 @@ fn named(w: &[u16; 32256], count: usize, at: usize, k: u16) -> Step
     }
 }
 
-pub fn value(w: &[u16; 32256], count: usize, at: usize) -> Step
-    requires { ⌜ count ≤ 4048 ⌝ }
-    ensures { λ r. ⌜ stepOf r ≡ skim (read.value (take count (now (w .entry))) at) ⌝ }
+pub fn value(w: &[u16; 32256], c: Cursor) -> Step
+    ensures { λ r. ⌜ r ≡ stepAt read.value (now (w .entry)) c ⌝ }
 {
-    match word(w, count, at) {
+    match word(w, c) {
         Item::Bad(m) => Step::Bad(m),
         Item::Word(k, p) => {
             if is_kind(k) {
-                return named(w, count, p, k);
+                return named(w, p, k);
             }
             Step::Bad(5)
         }
@@ -72,75 +68,70 @@ pub fn value(w: &[u16; 32256], count: usize, at: usize) -> Step
 }
 
 // n values
-pub fn values(w: &[u16; 32256], count: usize, from: usize, n: u16) -> Step
-    requires { ⌜ count ≤ 4048 ⌝ }
-    ensures { λ r. ⌜ stepOf r ≡ skim (read.many n read.value (take count (now (w .entry))) from) ⌝ }
+pub fn values(w: &[u16; 32256], from: Cursor, n: u16) -> Step
+    ensures { λ r. ⌜ r ≡ stepAt (read.many n read.value) (now (w .entry)) from ⌝ }
 {
     let mut i: u16 = 0;
-    let mut at = from;
+    let mut c = from;
     while i < n {
-        match value(w, count, at) {
+        match value(w, c) {
             Step::Bad(m) => return Step::Bad(m),
             Step::At(e) => {
-                at = e;
+                c = e;
                 i += 1;
             }
         }
     }
-    Step::At(at)
+    Step::At(c)
 }
 
-pub fn counted_values(w: &[u16; 32256], count: usize, at: usize, low: u16, high: u16) -> Step
-    requires { ⌜ count ≤ 4048 ⌝ }
-    ensures { λ r. ⌜ stepOf r ≡ skim (read.counted low high read.value (take count (now (w .entry))) at) ⌝ }
+pub fn counted_values(w: &[u16; 32256], c: Cursor, low: u16, high: u16) -> Step
+    ensures { λ r. ⌜ r ≡ stepAt (read.counted low high read.value) (now (w .entry)) c ⌝ }
 {
-    match within(w, count, at, low, high) {
+    match within(w, c, low, high) {
         Item::Bad(m) => Step::Bad(m),
-        Item::Word(n, e) => values(w, count, e, n),
+        Item::Word(n, e) => values(w, e, n),
     }
 }
 
-pub fn instruction(w: &[u16; 32256], count: usize, at: usize) -> Step
-    requires { ⌜ count ≤ 4048 ⌝ }
-    ensures { λ r. ⌜ stepOf r ≡ skim (read.instruction (take count (now (w .entry))) at) ⌝ }
+pub fn instruction(w: &[u16; 32256], c: Cursor) -> Step
+    ensures { λ r. ⌜ r ≡ stepAt read.instruction (now (w .entry)) c ⌝ }
 {
-    match word(w, count, at) {
+    match word(w, c) {
         Item::Bad(m) => Step::Bad(m),
-        Item::Word(_, p) => match within(w, count, p, 0, 255) {
+        Item::Word(_, p) => match within(w, p, 0, 255) {
             Item::Bad(m) => Step::Bad(m),
-            Item::Word(_, q) => match word(w, count, q) {
+            Item::Word(_, q) => match word(w, q) {
                 Item::Bad(m) => Step::Bad(m),
-                Item::Word(_, e) => counted_values(w, count, e, 0, 3),
+                Item::Word(_, e) => counted_values(w, e, 0, 3),
             },
         },
     }
 }
 
 // n instructions
-fn instructions(w: &[u16; 32256], count: usize, from: usize, n: u16) -> Step
-    requires { ⌜ count ≤ 4048 ⌝ }
-    ensures { λ r. ⌜ stepOf r ≡ skim (read.many n read.instruction (take count (now (w .entry))) from) ⌝ }
+fn instructions(w: &[u16; 32256], from: Cursor, n: u16) -> Step
+    ensures { λ r. ⌜ r ≡ stepAt (read.many n read.instruction) (now (w .entry)) from ⌝ }
 {
     let mut i: u16 = 0;
-    let mut at = from;
+    let mut c = from;
     while i < n {
-        match instruction(w, count, at) {
+        match instruction(w, c) {
             Step::Bad(m) => return Step::Bad(m),
             Step::At(e) => {
-                at = e;
+                c = e;
                 i += 1;
             }
         }
     }
-    Step::At(at)
+    Step::At(c)
 }
 
-pub fn block(w: &[u16; 32256], count: usize, at: usize) -> Step
-    requires { ⌜ count ≤ 4048 ⌝ }
-    ensures { λ r. ⌜ stepOf r ≡ skim (read.block (take count (now (w .entry))) at) ⌝ }
+pub fn block(w: &[u16; 32256], c: Cursor) -> Step
+    ensures { λ r. ⌜ r ≡ stepAt read.block (now (w .entry)) c ⌝ }
 {
-    match within(w, count, at, 1, 8) {
+    match within(w, c, 1, 8) {
         Item::Bad(m) => Step::Bad(m),
-        Item::Word(n, e) => instructions(w, count, e, n),
+        Item::Word(n, e) => instructions(w, e, n),
     }
 }

@@ -1,42 +1,49 @@
 // Words, words within bounds, and lists of them.
 ghost use mathlib.Core.Path.{_≡_};
-ghost use Prim.Native.Nat.{_≤_};
-ghost use lib.ListN.{take};
 ghost use Rattle.format.specs.Read as read;
-ghost use Rattle.format.specs.Places.{skim};
-ghost use Rattle.reading.specs.Answers.{itemOf, stepOf};
+ghost use Rattle.reading.specs.Answers.{itemAt, stepAt};
 
-// A word and the place after it, or the refusal's number.
+// Where reading stands: the next word to read, and the end of the record's words.
+pub struct Cursor {
+    pub at: usize,
+    pub end: usize,
+}
+
+// A word and the cursor behind it, or the refusal's number.
 pub enum Item {
-    Word(u16, usize),
+    Word(u16, Cursor),
     Bad(u16),
 }
 
-// The place after what was read, or the refusal's number.
+// The cursor behind what was read, or the refusal's number.
 pub enum Step {
-    At(usize),
+    At(Cursor),
     Bad(u16),
 }
 
 // Tells its caller how long the array is: it lends the array as a slice, and compiles to nothing.
 pub fn span(s: &[u16]) {}
 
-pub fn word(w: &[u16; 32256], count: usize, at: usize) -> Item
-    requires { ⌜ count ≤ 4048 ⌝ }
-    ensures { λ r. ⌜ itemOf r ≡ read.word (take count (now (w .entry))) at ⌝ }
+// No word stands past the end, nor past the array.
+pub fn word(w: &[u16; 32256], c: Cursor) -> Item
+    ensures { λ r. ⌜ r ≡ itemAt read.word (now (w .entry)) c ⌝ }
 {
     span(w);
-    if at < count {
-        return Item::Word(w[at], at + 1);
+    let at = c.at;
+    let end = c.end;
+    if end <= at {
+        return Item::Bad(4);
     }
-    Item::Bad(4)
+    if 32256 <= at {
+        return Item::Bad(4);
+    }
+    Item::Word(w[at], Cursor { at: at + 1, end })
 }
 
-pub fn within(w: &[u16; 32256], count: usize, at: usize, low: u16, high: u16) -> Item
-    requires { ⌜ count ≤ 4048 ⌝ }
-    ensures { λ r. ⌜ itemOf r ≡ read.within low high (take count (now (w .entry))) at ⌝ }
+pub fn within(w: &[u16; 32256], c: Cursor, low: u16, high: u16) -> Item
+    ensures { λ r. ⌜ r ≡ itemAt (read.within low high) (now (w .entry)) c ⌝ }
 {
-    match word(w, count, at) {
+    match word(w, c) {
         Item::Bad(m) => Item::Bad(m),
         Item::Word(n, e) => {
             if n < low {
@@ -51,59 +58,55 @@ pub fn within(w: &[u16; 32256], count: usize, at: usize, low: u16, high: u16) ->
 }
 
 // n words
-pub fn words(w: &[u16; 32256], count: usize, from: usize, n: u16) -> Step
-    requires { ⌜ count ≤ 4048 ⌝ }
-    ensures { λ r. ⌜ stepOf r ≡ skim (read.many n read.word (take count (now (w .entry))) from) ⌝ }
+pub fn words(w: &[u16; 32256], from: Cursor, n: u16) -> Step
+    ensures { λ r. ⌜ r ≡ stepAt (read.many n read.word) (now (w .entry)) from ⌝ }
 {
     let mut i: u16 = 0;
-    let mut at = from;
+    let mut c = from;
     while i < n {
-        match word(w, count, at) {
+        match word(w, c) {
             Item::Bad(m) => return Step::Bad(m),
             Item::Word(_, e) => {
-                at = e;
+                c = e;
                 i += 1;
             }
         }
     }
-    Step::At(at)
+    Step::At(c)
 }
 
 // n types
-pub fn types(w: &[u16; 32256], count: usize, from: usize, n: u16) -> Step
-    requires { ⌜ count ≤ 4048 ⌝ }
-    ensures { λ r. ⌜ stepOf r ≡ skim (read.many n read.type (take count (now (w .entry))) from) ⌝ }
+pub fn types(w: &[u16; 32256], from: Cursor, n: u16) -> Step
+    ensures { λ r. ⌜ r ≡ stepAt (read.many n read.type) (now (w .entry)) from ⌝ }
 {
     let mut i: u16 = 0;
-    let mut at = from;
+    let mut c = from;
     while i < n {
-        match within(w, count, at, 1, 255) {
+        match within(w, c, 1, 255) {
             Item::Bad(m) => return Step::Bad(m),
             Item::Word(_, e) => {
-                at = e;
+                c = e;
                 i += 1;
             }
         }
     }
-    Step::At(at)
+    Step::At(c)
 }
 
-pub fn counted_words(w: &[u16; 32256], count: usize, at: usize, low: u16, high: u16) -> Step
-    requires { ⌜ count ≤ 4048 ⌝ }
-    ensures { λ r. ⌜ stepOf r ≡ skim (read.counted low high read.word (take count (now (w .entry))) at) ⌝ }
+pub fn counted_words(w: &[u16; 32256], c: Cursor, low: u16, high: u16) -> Step
+    ensures { λ r. ⌜ r ≡ stepAt (read.counted low high read.word) (now (w .entry)) c ⌝ }
 {
-    match within(w, count, at, low, high) {
+    match within(w, c, low, high) {
         Item::Bad(m) => Step::Bad(m),
-        Item::Word(n, e) => words(w, count, e, n),
+        Item::Word(n, e) => words(w, e, n),
     }
 }
 
-pub fn counted_types(w: &[u16; 32256], count: usize, at: usize, high: u16) -> Step
-    requires { ⌜ count ≤ 4048 ⌝ }
-    ensures { λ r. ⌜ stepOf r ≡ skim (read.counted 0 high read.type (take count (now (w .entry))) at) ⌝ }
+pub fn counted_types(w: &[u16; 32256], c: Cursor, high: u16) -> Step
+    ensures { λ r. ⌜ r ≡ stepAt (read.counted 0 high read.type) (now (w .entry)) c ⌝ }
 {
-    match within(w, count, at, 0, high) {
+    match within(w, c, 0, high) {
         Item::Bad(m) => Step::Bad(m),
-        Item::Word(n, e) => types(w, count, e, n),
+        Item::Word(n, e) => types(w, e, n),
     }
 }

@@ -10,14 +10,15 @@ use lib.Seq.{take-take, length-take-le}
 use lib.Dec.{ltb}
 use borrow.Author.Tests.{eq-eqb, ne-eqb, ltb-true, ltb-false}
 use Rattle.meaning.specs.Graph.{Region}
-use Rattle.meaning.specs.Graph as graph
 use Rattle.format.specs.Store.{Answer, accepted, refused, andThen}
 use Rattle.format.specs.Read.{Read, got, bad, region, block, wordFor, settle, regionsFrom}
 use Rattle.format.specs.Places.{next, skim, after, blockOf, limitOf, exitsOf}
 use Rattle.format.specs.ReadLaws.{clash}
 use Rattle.record.specs.Stands.{indexAt}
 use Rattle.reading.specs.Skims.{next-of}
-use Rattle.reading.specs.Answers.{stepOf}
+use Rattle.reading.specs.AnswerSteps.{step-read, step-refused}
+use Rattle.reading.specs.declared.words.Cursor.{Cursor}
+use Rattle.reading.specs.declared.words.Step.the-variants.{At, Bad}
 use Rattle.record.specs.Answers.{Placed, RegionRead}
 use Rattle.record.specs.Row.{Row, row-none, row-next, row-join, row-front, row-back}
 use Rattle.record.specs.Outcome.{forget, answered, Kept}
@@ -125,36 +126,38 @@ module _ (n count from : ℕ) (old : List ℕ) where
   unfolding after
   regions-start = record { bound = omega arith; rest = ap (λ k. forget (regionsFrom k 0 (take count old) from)) (omega arith); place = refl; index = λ k l. absurd (omega arith); kept = kept-none old }
 
-  module _ {r at : ℕ} {mid : List ℕ} (x : RegionPlaces) (g : RegionsGoing n count from old r at mid) (turn : r < n) (small : count ≤ 4048) (read : RegionRead (take count mid) at x) where
-    same-read : RegionRead (take count old) at x
-    same-read = subst (λ ws. RegionRead ws at x) (kept-words old mid count small (g .kept)) read
+  module _ {r : ℕ} {mid : List ℕ} (c : Cursor) (x : RegionPlaces) (g : RegionsGoing n count from old r (c .at) mid) (ends : c .end ≡ count) (turn : r < n) (small : count ≤ 4048) (read : RegionRead mid c x) where
+    same-words : take count mid ≡ take count old
+    same-words = kept-words old mid count small (g .kept)
 
     one-more : n - r ≡ suc (n - (r + 1))
     one-more = omega arith
 
-    pub regions-next : {e : ℕ} (new : List ℕ) → n ≤ 32 → stepOf (x .step) ≡ got tt e → Row mid new (indexAt r) 11 (rowOf at x) → RegionsGoing n count from old (r + 1) e new
+    pub regions-next : {e : Cursor} (new : List ℕ) → n ≤ 32 → x .step ≡ At e → Row mid new (indexAt r) 11 (rowOf (c .at) x) → RegionsGoing n count from old (r + 1) (e .at) new
     unfolding after
     regions-next {e} new few step row =
         let ws = take count old in
-        let whole : skim (region ws at) ≡ got tt e = sym (same-read .step) ∙ step in
+        let at = c .at in
+        let whole : skim (region ws at) ≡ got tt (e .at) = rw same-words at (step-read region mid c ends (read .step) step .is) in
         record {
           bound = omega arith;
-          rest = g .rest ∙ ap (λ k. forget (regionsFrom k r ws at)) one-more ∙ regions-step (n - (r + 1)) r ws at whole ∙ ap (λ k. forget (regionsFrom (n - (r + 1)) k ws e)) (sym (add-one r));
+          rest = g .rest ∙ ap (λ k. forget (regionsFrom k r ws at)) one-more ∙ regions-step (n - (r + 1)) r ws at whole ∙ ap (λ k. forget (regionsFrom (n - (r + 1)) k ws (e .at))) (sym (add-one r));
           place = next-of (region ws at) whole ∙ ap (λ i. next (region ws i)) (g .place) ∙ ap (λ k. after k region ws from) (sym (add-one r));
-          index = λ k below. by-region k below (ltb k r) refl row step;
+          index = λ k below. by-region k below (ltb k r) refl row (rw (ends, same-words) at (read .placed e step));
           kept = kept-row old mid new r (rowOf at x) (omega arith) (g .kept) row;
         }
       where
-        by-region : (k : ℕ) → k < r + 1 → (t : Bool) → ltb k r ≡ t → Row mid new (indexAt r) 11 (rowOf at x) → stepOf (x .step) ≡ got tt e → IndexedFrom (take count old) from new k
-        by-region k below true q row step = indexed-kept (take count old) from k r mid new (rowOf at x) (ltb-true k r q) row (g .index k (ltb-true k r q))
-        by-region k below false q row step =
+        by-region : (k : ℕ) → k < r + 1 → (t : Bool) → ltb k r ≡ t → Row mid new (indexAt r) 11 (rowOf (c .at) x) → Placed (take count old) (c .at) x → IndexedFrom (take count old) from new k
+        by-region k below true q row placed = indexed-kept (take count old) from k r mid new (rowOf (c .at) x) (ltb-true k r q) row (g .index k (ltb-true k r q))
+        by-region k below false q row placed =
             let same : k ≡ r = omega (arith, ltb-false k r q) in
-            rw same (indexed-here (take count old) from r at x mid new (g .place) (same-read .placed e step) row)
+            rw same (indexed-here (take count old) from r (c .at) x mid new (g .place) placed row)
 
-    pub regions-refused : {m : ℕ} (a : ReadAnswer) → stepOf (x .step) ≡ bad m → answered a ≡ refused m (wordFor m r) → RegionsOutcome n count from old mid a
+    pub regions-refused : {m : ℕ} (a : ReadAnswer) → x .step ≡ Bad m → answered a ≡ refused m (wordFor m r) → RegionsOutcome n count from old mid a
     regions-refused {m} a step told =
         let ws = take count old in
-        let stop : skim (region ws at) ≡ bad m = sym (same-read .step) ∙ step in
+        let at = c .at in
+        let stop : skim (region ws at) ≡ bad m = rw same-words at (step-refused region mid c ends (read .step) step) in
         let answer : forget (regionsFrom n 0 ws from) ≡ refused m (wordFor m r) = g .rest ∙ ap (λ k. forget (regionsFrom k r ws at)) one-more ∙ regions-stop (n - (r + 1)) r ws at stop in
         record { answer = told ∙ sym answer; index = λ rs q. never (regionsFrom n 0 ws from) answer q; kept = g .kept }
 

@@ -14,7 +14,7 @@ use Rattle.format.specs.ReadLaws.{clash, many-length}
 use Rattle.record.specs.Stands.{recordWords, Indexed, Stands}
 use Rattle.record.specs.Parts.{RecordParts, record-parts, region-parts, counted-parts, settled, then, regions-many, accepted-value}
 use Rattle.record.specs.PartsWithin.{head-parts}
-use Rattle.record.specs.SkimRegions.{countOf}
+use Rattle.record.specs.SkimRegions.{countOf, headCount}
 use Rattle.record.specs.Outcome.{forget, answered, Outcome}
 use Rattle.record.specs.Index.{IndexedFrom, RegionsOutcome}
 use Rattle.record.specs.IndexSteps.{never, forget-then, kept-none, kept-words}
@@ -26,14 +26,15 @@ record HeadFound (ws : List ℕ) (n at : ℕ) : Type 0 where
   is : head ws 1 ≡ got h at
   count : h .count ≡ n
 
-head-found : (ws : List ℕ) {n at : ℕ} → countOf (head ws 1) ≡ got n at → HeadFound ws n at
+head-found : (ws : List ℕ) {n at : ℕ} → headCount ws 1 ≡ got n at → HeadFound ws n at
+unfolding headCount
 head-found ws {n} {at} q = by-head (head ws 1) refl q
   where
     by-head : (r : Read Head) → head ws 1 ≡ r → countOf r ≡ got n at → HeadFound ws n at
     by-head (got h i) p q = let there : i ≡ at = cc in record { h = h; is = p ∙ ap (got h) there; count = cc }
     by-head (bad m) p q = absurd (clash (cc))
 
-pub head-few : (ws : List ℕ) {n at : ℕ} → countOf (head ws 1) ≡ got n at → n ≤ 32
+pub head-few : (ws : List ℕ) {n at : ℕ} → headCount ws 1 ≡ got n at → n ≤ 32
 head-few ws h = let f = head-found ws h in omega (arith, head-parts ws (f .is) .high-bound, f .count)
 
 bad-head : (r : Read Head) {m : ℕ} → countOf r ≡ bad m → r ≡ bad m
@@ -41,8 +42,8 @@ bad-head (got h i) q = absurd (clash (cc))
 bad-head (bad n) q = cc
 
 -- the head is refused
-pub record-stop : (count : ℕ) (old : List ℕ) (a : ReadAnswer) {m : ℕ} → countOf (head (take count old) 1) ≡ bad m → answered a ≡ refused m (wordFor m 0) → Outcome count old old a
-unfolding readRecord
+pub record-stop : (count : ℕ) (old : List ℕ) (a : ReadAnswer) {m : ℕ} → headCount (take count old) 1 ≡ bad m → answered a ≡ refused m (wordFor m 0) → Outcome count old old a
+unfolding readRecord headCount
 record-stop count old a {m} h told =
     let stop = bad-head (head (take count old) 1) h in
     let answer : forget (readRecord (take count old)) ≡ refused m (wordFor m 0) = rw stop in
@@ -85,7 +86,7 @@ indexed-as ws w g at r words place parts below x =
       block = λ b l. x .block b (omega (arith, blocks .high-bound)) (omega (arith, count)) ∙ ap (λ i. blockOf ws i b) start ∙ ap (λ s. blockOf s (startOf (recordWords w) r) b) (sym words);
     }
 
-pub record-whole : (n count at : ℕ) (old new : List ℕ) (a : ReadAnswer) → count ≤ 4048 → getD old 0 0 ≡ count → length old ≡ 32256 → countOf (head (take count old) 1) ≡ got n at → RegionsOutcome n count at old new a → Outcome count old new a
+pub record-whole : (n count at : ℕ) (old new : List ℕ) (a : ReadAnswer) → count ≤ 4048 → getD old 0 0 ≡ count → length old ≡ 32256 → headCount (take count old) 1 ≡ got n at → RegionsOutcome n count at old new a → Outcome count old new a
 record-whole n count at old new a small first long h out =
     let ws = take count old in
     let f = head-found ws h in

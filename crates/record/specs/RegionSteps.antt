@@ -1,28 +1,30 @@
 -- The paths through the code that reads a region: what each answer means.
-use mathlib.Core.Path.{_≡_, refl, sym, ap, _∙_}
+use mathlib.Core.Path.{_≡_, refl, ap, _∙_}
 use mathlib.Core.List.{List}
 use Prim.Native.Nat.{ℕ, _+_, _≤_, _<_}
 use native.Mathlib.Omega.{arith}
-use lib.ListN.{length, getD, set, length-set, replicate}
+use lib.ListN.{length, getD, set, length-set, replicate, take}
 use lib.Seq.{getD-set-same, getD-set-other}
 use lib.Dec.{eqb}
 use mathlib.Core.Bool.{Bool, true, false}
 use borrow.Author.Tests.{eqb-true, eqb-false}
-use Rattle.format.specs.Read.{Read, got, bad, counted, within, word, type, block, terminator, region}
+use Rattle.format.specs.Read.{got, bad, counted, within, word, type, block, terminator, region}
 use Rattle.format.specs.Places.{next, skim, after, blocksOf, blockOf, limitOf, exitsOf}
 use Rattle.format.specs.ReadLaws.{clash}
 use Rattle.record.specs.Parts.{within-parts}
 use Rattle.reading.specs.Skims.{Going, going-start, going-next, going-stop, going-end, counted-stop, counted-rest, next-of}
 use Rattle.record.specs.SkimRegions.{endingRead, ending-exits, region-rest}
-use Rattle.reading.specs.Answers.{stepOf}
+use Rattle.reading.specs.AnswerSteps.{WordRead, StepRead, step-read, refuse-step, give-step, give-rest}
 use Rattle.record.specs.Answers.{BlocksRead, CountedBlocks, EndingRead, RegionRead}
+use Rattle.reading.specs.declared.words.Cursor.{Cursor}
+use Rattle.reading.specs.declared.words.Step.{Step}
 use Rattle.reading.specs.declared.words.Step.the-variants.{At, Bad}
 use Rattle.record.specs.declared.regions.BlockPlaces.{BlockPlaces}
 use Rattle.record.specs.declared.regions.RegionPlaces.{RegionPlaces}
 
--- a refusal has no place after it
-never : {A : Type 0} (r : Read Unit) {m e : ℕ} → r ≡ bad m → r ≡ got tt e → A
-never r p q = absurd (clash (cc))
+-- a refusal has no cursor behind it
+never : {A : Type 0} {s : Step} {m : ℕ} {e : Cursor} → s ≡ Bad m → s ≡ At e → A
+never p q = absurd (clash (cc))
 
 -- The k-th turn of the loop over n blocks.
 pub record BlocksGoing (n : ℕ) (ws : List ℕ) (from k at : ℕ) (places : List ℕ) : Type 0 where
@@ -49,54 +51,58 @@ module _ (n : ℕ) (ws : List ℕ) (from : ℕ) where
       by-place b below false q =
           getD-set-other places k b at 0 (eqb-false b k q) ∙ g .placed b (omega (arith, eqb-false b k q))
 
-  pub blocks-stop : {k at m : ℕ} {places : List ℕ} → BlocksGoing n ws from k at places → k < n → skim (block ws at) ≡ bad m → BlocksRead n ws from (record { step = Bad m; places = places })
-  blocks-stop {m = m} g l h = record { step = going-stop (g .going) l h; places = λ e q. never (bad m) refl q }
+-- The same from a cursor on.
+module _ (n : ℕ) (w : List ℕ) (from : Cursor) where
+  pub blocks-stop : {k at m : ℕ} {places : List ℕ} → BlocksGoing n (take (from .end) w) (from .at) k at places → k < n → skim (block (take (from .end) w) at) ≡ bad m → BlocksRead n w from (record { step = Bad m; places = places })
+  blocks-stop g l h = record { step = refuse-step _ w from (going-stop (g .going) l h); places = λ e q. never refl q }
 
-  pub blocks-end : {k at : ℕ} {places : List ℕ} → BlocksGoing n ws from k at places → n ≤ k → BlocksRead n ws from (record { step = At at; places = places })
-  blocks-end {k} g l = record { step = going-end (g .going) l; places = λ e q b below. g .placed b (omega arith) }
+  pub blocks-end : {k : ℕ} {c : Cursor} {places : List ℕ} → BlocksGoing n (take (from .end) w) (from .at) k (c .at) places → c .end ≡ from .end → n ≤ k → BlocksRead n w from (record { step = At c; places = places })
+  blocks-end {k} g s l = record { step = give-step _ w from s (going-end (g .going) l); places = λ e q b below. g .placed b (omega arith) }
 
-module _ (ws : List ℕ) (at : ℕ) where
-  pub counted-blocks-stop : {m : ℕ} (places : List ℕ) → within 0 8 ws at ≡ bad m → CountedBlocks ws at (record { step = Bad m; places = places })
-  counted-blocks-stop {m} places h = record { step = counted-stop 0 8 block ws at h; places = λ e q. never (bad m) refl q }
+module _ (w : List ℕ) (c : Cursor) where
+  pub counted-blocks-stop : {m : ℕ} (places : List ℕ) → within 0 8 (take (c .end) w) (c .at) ≡ bad m → CountedBlocks w c (record { step = Bad m; places = places })
+  counted-blocks-stop places h = record { step = refuse-step _ w c (counted-stop 0 8 block _ _ h); places = λ e q. never refl q }
 
-  pub counted-blocks-rest : {n p : ℕ} (x : BlockPlaces) → within 0 8 ws at ≡ got n p → BlocksRead n ws p x → CountedBlocks ws at x
-  counted-blocks-rest {n} {p} x h r =
-      let w = within-parts 0 8 ws at h in
+  pub counted-blocks-rest : {n : ℕ} {e : Cursor} (x : BlockPlaces) → WordRead (within 0 8) (take (c .end) w) (c .at) (c .end) n e → BlocksRead n w e x → CountedBlocks w c x
+  counted-blocks-rest {n} {e} x h r =
+      let ws = take (c .end) w in
+      let p = within-parts 0 8 ws (c .at) (h .is) in
       record {
-        step = r .step ∙ counted-rest 0 8 block ws at h;
-        places = λ e q b below. r .places e q b (omega (arith, w .is)) ∙ ap (after b block ws) (w .end);
+        step = give-rest _ w c _ e (h .same) (r .step) (counted-rest 0 8 block ws (c .at) (h .is));
+        places = λ i q b below. rw (h .same) at (r .places i q b (omega (arith, p .is))) ∙ ap (after b block ws) (p .end);
       }
 
-  pub ending-stop : (places : List ℕ) (x : RegionPlaces) {m : ℕ} → x .step ≡ Bad m → bad m ≡ endingRead ws at → EndingRead ws at places x
-  ending-stop places x {m} is h =
-      let step-is : stepOf (x .step) ≡ bad m = ap stepOf is in
-      record { step = step-is ∙ h; limit = λ e q. never _ step-is q; exits = λ e q. never _ step-is q; blocks = λ e q. never _ step-is q }
+  pub ending-stop : (places : List ℕ) (x : RegionPlaces) {m : ℕ} → x .step ≡ Bad m → bad m ≡ skim (endingRead (take (c .end) w) (c .at)) → EndingRead w c places x
+  ending-stop places x is h =
+      record { step = is ∙ refuse-step _ w c h; limit = λ e q. never is q; exits = λ e q. never is q; blocks = λ e q. never is q }
 
-  pub ending-whole : (places : List ℕ) {l p q e : ℕ} → within 1 65535 ws at ≡ got l p → skim (terminator ws p) ≡ got tt q → skim (counted 0 32 word ws q) ≡ got tt e → EndingRead ws at places (record { step = At e; limit = at; exits = q; blocks = places })
-  ending-whole places {l} {p} {q} {e} a b c =
+  pub ending-whole : (places : List ℕ) {l : ℕ} {p q e : Cursor} → WordRead (within 1 65535) (take (c .end) w) (c .at) (c .end) l p → StepRead terminator (take (c .end) w) (p .at) (c .end) q → StepRead (counted 0 32 word) (take (c .end) w) (q .at) (c .end) e → EndingRead w c places (record { step = At e; limit = c .at; exits = q .at; blocks = places })
+  ending-whole places {p = p} a b d =
+      let ws = take (c .end) w in
       record {
-        step = ending-exits ws at a b c;
+        step = give-step _ w c (d .same) (ending-exits ws (c .at) (a .is) (b .is) (d .is));
         limit = λ i r. refl;
-        exits = λ i r. next-of (terminator ws p) b ∙ ap (λ n. next (terminator ws n)) (within-parts 1 65535 ws at a .end);
+        exits = λ i r. next-of (terminator ws (p .at)) (b .is) ∙ ap (λ n. next (terminator ws n)) (within-parts 1 65535 ws (c .at) (a .is) .end);
         blocks = λ i r. refl;
       }
 
-  pub region-stop : (x : RegionPlaces) {m : ℕ} → x .step ≡ Bad m → bad m ≡ skim (region ws at) → RegionRead ws at x
-  region-stop x {m} is h =
-      let step-is : stepOf (x .step) ≡ bad m = ap stepOf is in
-      record { step = step-is ∙ h; placed = λ e q. never _ step-is q }
+  pub region-stop : (x : RegionPlaces) {m : ℕ} → x .step ≡ Bad m → bad m ≡ skim (region (take (c .end) w) (c .at)) → RegionRead w c x
+  region-stop x is h = record { step = is ∙ refuse-step _ w c h; placed = λ e q. never is q }
 
-  pub region-whole : (b : BlockPlaces) (x : RegionPlaces) {p q : ℕ} → skim (counted 0 4 type ws at) ≡ got tt p → CountedBlocks ws p b → stepOf (b .step) ≡ got tt q → EndingRead ws q (b .places) x → RegionRead ws at x
+  pub region-whole : (b : BlockPlaces) (x : RegionPlaces) {p q : Cursor} → StepRead (counted 0 4 type) (take (c .end) w) (c .at) (c .end) p → CountedBlocks w p b → b .step ≡ At q → EndingRead w q (b .places) x → RegionRead w c x
   unfolding blocksOf blockOf limitOf exitsOf
   region-whole b x {p} {q} inputs blocks step ending =
-      let p-is : p ≡ blocksOf ws at = next-of (counted 0 4 type ws at) inputs in
-      let blocks-read : skim (counted 0 8 block ws p) ≡ got tt q = sym (blocks .step) ∙ step in
-      let q-is : q ≡ limitOf ws at = next-of (counted 0 8 block ws p) blocks-read ∙ ap (λ n. next (counted 0 8 block ws n)) p-is in
+      let ws = take (c .end) w in
+      let at = c .at in
+      let read = step-read (counted 0 8 block) w p (inputs .same) (blocks .step) step in
+      let p-is : p .at ≡ blocksOf ws at = next-of (counted 0 4 type ws at) (inputs .is) in
+      let q-is : q .at ≡ limitOf ws at = next-of (counted 0 8 block ws (p .at)) (read .is) ∙ ap (λ n. next (counted 0 8 block ws n)) p-is in
+      let places = rw (inputs .same) at (blocks .places q step) in
       record {
-        step = ending .step ∙ region-rest ws at inputs blocks-read;
+        step = give-rest _ w c _ q (read .same) (ending .step) (region-rest ws at (inputs .is) (read .is));
         placed = λ e r. record {
           limit = ending .limit e r ∙ q-is;
-          exits = ending .exits e r ∙ ap (λ n. next (terminator ws (n + 1))) q-is;
-          blocks = λ k below. ap (λ l. getD l k 0) (ending .blocks e r) ∙ blocks .places q step k (rw p-is below) ∙ ap (λ n. after k block ws (n + 1)) p-is;
+          exits = rw (read .same) at (ending .exits e r) ∙ ap (λ n. next (terminator ws (n + 1))) q-is;
+          blocks = λ k below. ap (λ l. getD l k 0) (ending .blocks e r) ∙ places k (rw p-is below) ∙ ap (λ n. after k block ws (n + 1)) p-is;
         };
       }

@@ -2,8 +2,7 @@
 use mathlib.Core.Path.{_≡_, refl, sym}
 use mathlib.Core.List.{List}
 use Prim.Native.Nat.{ℕ, _<_}
-use native.Mathlib.Omega.{arith}
-use lib.ListN.{length, take, length-take}
+use lib.ListN.{length}
 use Rattle.meaning.specs.Graph.{Instr, Region}
 use Rattle.format.specs.Read.{Read, got, bad, Reader, follow, word, within, counted, type, instruction, block, terminator, region, Head, head}
 use Rattle.format.specs.Places.{skim}
@@ -18,24 +17,24 @@ stopped (got a i) k h = absurd (clash (cc))
 stopped (bad n) k h = sym h
 
 -- from the turn limit of a region on
-unfoldable pub endingRead : Reader Unit
-endingRead ws at = follow (within 1 65535 ws at) λ l p. follow (skim (terminator ws p)) λ u q. skim (counted 0 32 word ws q)
+unfoldable pub endingRead : Reader (List ℕ)
+endingRead ws at = follow (within 1 65535 ws at) λ l p. follow (skim (terminator ws p)) λ u q. counted 0 32 word ws q
 
 module _ (ws : List ℕ) (at : ℕ) where
-  pub ending-limit : {m : ℕ} → within 1 65535 ws at ≡ bad m → bad m ≡ endingRead ws at
+  pub ending-limit : {m : ℕ} → within 1 65535 ws at ≡ bad m → bad m ≡ skim (endingRead ws at)
   unfolding endingRead
   ending-limit h = rw h
 
-  pub ending-terminator : {l p m : ℕ} → within 1 65535 ws at ≡ got l p → skim (terminator ws p) ≡ bad m → bad m ≡ endingRead ws at
+  pub ending-terminator : {l p m : ℕ} → within 1 65535 ws at ≡ got l p → skim (terminator ws p) ≡ bad m → bad m ≡ skim (endingRead ws at)
   unfolding endingRead
   ending-terminator h j = rw (h, j)
 
-  pub ending-exits : {l p q : ℕ} {r : Read Unit} → within 1 65535 ws at ≡ got l p → skim (terminator ws p) ≡ got tt q → skim (counted 0 32 word ws q) ≡ r → r ≡ endingRead ws at
+  pub ending-exits : {l p q : ℕ} {r : Read Unit} → within 1 65535 ws at ≡ got l p → skim (terminator ws p) ≡ got tt q → skim (counted 0 32 word ws q) ≡ r → r ≡ skim (endingRead ws at)
   unfolding endingRead
   ending-exits h j k = rw (h, j, k)
 
 -- what stands after the blocks, with the region made of it
-ending-made : (inputs : List ℕ) (blocks : List (List Instr)) (ws : List ℕ) (at : ℕ) → endingRead ws at ≡ skim {A = Region} (follow (within 1 65535 ws at) λ limit p. follow (terminator ws p) λ end q. follow (counted 0 32 word ws q) λ exits e. got (record { inputs = inputs; blocks = blocks; limit = limit; terminator = end; exits = exits }) e)
+ending-made : (inputs : List ℕ) (blocks : List (List Instr)) (ws : List ℕ) (at : ℕ) → skim (endingRead ws at) ≡ skim {A = Region} (follow (within 1 65535 ws at) λ limit p. follow (terminator ws p) λ end q. follow (counted 0 32 word ws q) λ exits e. got (record { inputs = inputs; blocks = blocks; limit = limit; terminator = end; exits = exits }) e)
 unfolding endingRead
 ending-made inputs blocks ws at = simp (skim-follow, follow-skim, skim-given)
 
@@ -48,7 +47,7 @@ module _ (ws : List ℕ) (at : ℕ) where
   unfolding region
   region-blocks {p} h j = let f = found (counted 0 4 type ws at) h in rw (f .is) (stopped (counted 0 8 block ws p) _ j)
 
-  pub region-rest : {p q : ℕ} → skim (counted 0 4 type ws at) ≡ got tt p → skim (counted 0 8 block ws p) ≡ got tt q → endingRead ws q ≡ skim (region ws at)
+  pub region-rest : {p q : ℕ} → skim (counted 0 4 type ws at) ≡ got tt p → skim (counted 0 8 block ws p) ≡ got tt q → skim (endingRead ws q) ≡ skim (region ws at)
   unfolding region
   region-rest {p} {q} h j =
       let f = found (counted 0 4 type ws at) h in
@@ -60,20 +59,24 @@ abbrev pub countOf : Read Head → Read ℕ
 countOf (got h at) = got (h .count) at
 countOf (bad n) = bad n
 
+unfoldable pub headCount : Reader ℕ
+unfolding head
+headCount ws at = countOf (head ws at)
+
 -- entry, test cost, the types of the constants
-unfoldable pub afterCount : Reader Unit
-afterCount ws at = follow (word ws at) λ a p. follow (word ws p) λ b e. skim (counted 0 64 type ws e)
+unfoldable pub afterCount : Reader (List ℕ)
+afterCount ws at = follow (word ws at) λ a p. follow (word ws p) λ b e. counted 0 64 type ws e
 
 module _ (ws : List ℕ) (at : ℕ) where
-  pub after-count-entry : {m : ℕ} → word ws at ≡ bad m → bad m ≡ afterCount ws at
+  pub after-count-entry : {m : ℕ} → word ws at ≡ bad m → bad m ≡ skim (afterCount ws at)
   unfolding afterCount
   after-count-entry h = rw h
 
-  pub after-count-test : {a p m : ℕ} → word ws at ≡ got a p → word ws p ≡ bad m → bad m ≡ afterCount ws at
+  pub after-count-test : {a p m : ℕ} → word ws at ≡ got a p → word ws p ≡ bad m → bad m ≡ skim (afterCount ws at)
   unfolding afterCount
   after-count-test h j = rw (h, j)
 
-  pub after-count-rest : {a p b e : ℕ} → word ws at ≡ got a p → word ws p ≡ got b e → skim (counted 0 64 type ws e) ≡ afterCount ws at
+  pub after-count-rest : {a p b e : ℕ} → word ws at ≡ got a p → word ws p ≡ got b e → skim (counted 0 64 type ws e) ≡ skim (afterCount ws at)
   unfolding afterCount
   after-count-rest h j = rw (h, j)
 
@@ -82,21 +85,21 @@ count-follow (got a i) k = refl
 count-follow (bad n) k = refl
 
 -- the region count is kept once the rest is read
-head-counted : (ws : List ℕ) → countOf (head ws 1) ≡ follow (within 1 32 ws 1) λ n p. follow (afterCount ws p) λ u e. got n e
-unfolding head afterCount
-head-counted ws = simp (count-follow, follow-follow, follow-skim)
+head-counted : (ws : List ℕ) (at : ℕ) → headCount ws at ≡ follow (within 1 32 ws at) λ n p. follow (skim (afterCount ws p)) λ u e. got n e
+unfolding head headCount afterCount
+head-counted ws at = simp (count-follow, follow-follow, follow-skim)
 
-module _ (ws : List ℕ) where
-  pub head-count : {m : ℕ} → within 1 32 ws 1 ≡ bad m → bad m ≡ countOf (head ws 1)
+module _ (ws : List ℕ) (at : ℕ) where
+  pub head-count : {m : ℕ} → within 1 32 ws at ≡ bad m → bad m ≡ headCount ws at
   head-count h = rw (head-counted, h)
 
-  pub head-stop : {n p m : ℕ} → within 1 32 ws 1 ≡ got n p → afterCount ws p ≡ bad m → bad m ≡ countOf (head ws 1)
+  pub head-stop : {n p m : ℕ} → within 1 32 ws at ≡ got n p → skim (afterCount ws p) ≡ bad m → bad m ≡ headCount ws at
   head-stop h j = rw (head-counted, h, j)
 
-  pub head-rest : {n p e : ℕ} → within 1 32 ws 1 ≡ got n p → afterCount ws p ≡ got tt e → got n e ≡ countOf (head ws 1)
+  pub head-rest : {n p e : ℕ} → within 1 32 ws at ≡ got n p → skim (afterCount ws p) ≡ got tt e → got n e ≡ headCount ws at
   head-rest h j = rw (head-counted, h, j)
 
--- what is read begins below W
+-- what is read begins in front of the end
 module _ (ws : List ℕ) (at : ℕ) where
   pub counted-inside : {A : Type 0} (low high : ℕ) (p : Reader A) {e : ℕ} → skim (counted low high p ws at) ≡ got tt e → at < length ws
   counted-inside low high p h = let f = found (counted low high p ws at) h in counted-parts low high p ws at (f .is) .inside
@@ -107,7 +110,3 @@ module _ (ws : List ℕ) (at : ℕ) where
 
   pub region-inside : {e : ℕ} → skim (region ws at) ≡ got tt e → at < length ws
   region-inside h = let f = found (region ws at) h in counted-parts 0 4 type ws at (region-parts ws at (f .is) .inputs) .inside
-
--- the same of the lent words, W of them in use
-pub below-count : (w : List ℕ) (count : ℕ) {at : ℕ} → at < length (take count w) → at < count
-below-count w count h = omega (arith, length-take count w)

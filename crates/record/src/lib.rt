@@ -5,6 +5,7 @@ pub mod regions;
 use crate::index::store;
 use crate::regions::head;
 use crate::regions::region;
+use reading::words::Cursor;
 use reading::words::Item;
 use reading::words::Step;
 use reading::words::span;
@@ -32,27 +33,27 @@ fn refusal(n: u16, r: u16) -> ReadAnswer
     ReadAnswer::Refused(n, 0)
 }
 
-// n regions from a place on; words that stay over are 4.
-fn read_regions(w: &mut [u16; 32256], count: usize, n: u16, from: usize) -> ReadAnswer
-    requires { ⌜ (count ≤ 4048) × (n ≤ 32) ⌝ }
-    ensures { λ a. ⌜ RegionsOutcome n count from (now (w .entry)) (now (w .exit)) a ⌝ }
+// n regions from a cursor on; words that stay over are 4.
+fn read_regions(w: &mut [u16; 32256], from: Cursor, n: u16) -> ReadAnswer
+    requires { ⌜ (from .end ≤ 4048) × (n ≤ 32) ⌝ }
+    ensures { λ a. ⌜ RegionsOutcome n (from .end) (from .at) (now (w .entry)) (now (w .exit)) a ⌝ }
 {
     span(w);
     let mut r: u16 = 0;
-    let mut at = from;
+    let mut c = from;
     while r < n {
-        let x = region(w, count, at);
+        let x = region(w, c);
         let step = x.step;
         match step {
             Step::Bad(m) => return refusal(m, r),
             Step::At(e) => {
-                store(w, r, at as u16, x);
-                at = e;
+                store(w, r, c.at as u16, x);
+                c = e;
                 r += 1;
             }
         }
     }
-    if at == count {
+    if c.at == c.end {
         return ReadAnswer::Read;
     }
     ReadAnswer::Refused(4, 0)
@@ -64,8 +65,9 @@ pub fn read_record(w: &mut [u16; 32256], count: usize) -> ReadAnswer
     ensures { λ a. ⌜ Outcome count (now (w .entry)) (now (w .exit)) a ⌝ }
 {
     span(w);
-    match head(w, count) {
+    let first = Cursor { at: 1, end: count };
+    match head(w, first) {
         Item::Bad(m) => refusal(m, 0),
-        Item::Word(n, at) => read_regions(w, count, n, at),
+        Item::Word(n, c) => read_regions(w, c, n),
     }
 }

@@ -1,27 +1,27 @@
 // Regions and the head of a record.
 use reading::terminators::terminator;
 use reading::values::block;
+use reading::words::Cursor;
 use reading::words::Item;
 use reading::words::Step;
 use reading::words::counted_types;
 use reading::words::counted_words;
+use reading::words::span;
 use reading::words::within;
 use reading::words::word;
 ghost use mathlib.Core.Path.{_≡_};
 ghost use Prim.Native.Nat.{_≤_};
-ghost use lib.ListN.{take};
-ghost use Rattle.format.specs.Read as read;
-ghost use Rattle.reading.specs.Answers.{itemOf, stepOf};
+ghost use Rattle.reading.specs.Answers.{itemAt, stepAt};
 ghost use Rattle.record.specs.Answers.{BlocksRead, CountedBlocks, EndingRead, RegionRead};
-ghost use Rattle.record.specs.SkimRegions.{countOf, afterCount};
+ghost use Rattle.record.specs.SkimRegions.{afterCount, headCount};
 
-// The place after some blocks, and the place of each.
+// The cursor behind some blocks, and the place of each.
 pub struct BlockPlaces {
     pub step: Step,
     pub places: [u16; 8],
 }
 
-// The place after a region, and the places within it that the index keeps.
+// The cursor behind a region, and the places within it that the index keeps.
 pub struct RegionPlaces {
     pub step: Step,
     pub limit: u16,
@@ -30,15 +30,16 @@ pub struct RegionPlaces {
 }
 
 // n blocks
-fn blocks(w: &[u16; 32256], count: usize, from: usize, n: u16) -> BlockPlaces
-    requires { ⌜ (count ≤ 4048) × (n ≤ 8) ⌝ }
-    ensures { λ r. ⌜ BlocksRead n (take count (now (w .entry))) from r ⌝ }
+fn blocks(w: &[u16; 32256], from: Cursor, n: u16) -> BlockPlaces
+    requires { ⌜ n ≤ 8 ⌝ }
+    ensures { λ r. ⌜ BlocksRead n (now (w .entry)) from r ⌝ }
 {
+    span(w);
     let mut places = [0u16; 8];
     let mut i: u16 = 0;
-    let mut at = from;
+    let mut c = from;
     while i < n {
-        match block(w, count, at) {
+        match block(w, c) {
             Step::Bad(m) => {
                 return BlockPlaces {
                     step: Step::Bad(m),
@@ -46,23 +47,22 @@ fn blocks(w: &[u16; 32256], count: usize, from: usize, n: u16) -> BlockPlaces
                 };
             }
             Step::At(e) => {
-                places[i as usize] = at as u16;
-                at = e;
+                places[i as usize] = c.at as u16;
+                c = e;
                 i += 1;
             }
         }
     }
     BlockPlaces {
-        step: Step::At(at),
+        step: Step::At(c),
         places,
     }
 }
 
-fn counted_blocks(w: &[u16; 32256], count: usize, at: usize) -> BlockPlaces
-    requires { ⌜ count ≤ 4048 ⌝ }
-    ensures { λ r. ⌜ CountedBlocks (take count (now (w .entry))) at r ⌝ }
+fn counted_blocks(w: &[u16; 32256], c: Cursor) -> BlockPlaces
+    ensures { λ r. ⌜ CountedBlocks (now (w .entry)) c r ⌝ }
 {
-    match within(w, count, at, 0, 8) {
+    match within(w, c, 0, 8) {
         Item::Bad(m) => {
             let places = [0u16; 8];
             BlockPlaces {
@@ -70,7 +70,7 @@ fn counted_blocks(w: &[u16; 32256], count: usize, at: usize) -> BlockPlaces
                 places,
             }
         }
-        Item::Word(n, e) => blocks(w, count, e, n),
+        Item::Word(n, e) => blocks(w, e, n),
     }
 }
 
@@ -87,20 +87,20 @@ fn no_region(m: u16) -> RegionPlaces
 }
 
 // From the turn limit of a region on; its blocks stand at the places.
-fn ending(w: &[u16; 32256], count: usize, at: usize, places: [u16; 8]) -> RegionPlaces
-    requires { ⌜ count ≤ 4048 ⌝ }
-    ensures { λ r. ⌜ EndingRead (take count (now (w .entry))) at places r ⌝ }
+fn ending(w: &[u16; 32256], c: Cursor, places: [u16; 8]) -> RegionPlaces
+    ensures { λ r. ⌜ EndingRead (now (w .entry)) c places r ⌝ }
 {
-    match within(w, count, at, 1, 65535) {
+    span(w);
+    match within(w, c, 1, 65535) {
         Item::Bad(m) => no_region(m),
-        Item::Word(_, p) => match terminator(w, count, p) {
+        Item::Word(_, p) => match terminator(w, p) {
             Step::Bad(m) => no_region(m),
-            Step::At(q) => match counted_words(w, count, q, 0, 32) {
+            Step::At(q) => match counted_words(w, q, 0, 32) {
                 Step::Bad(m) => no_region(m),
                 Step::At(e) => RegionPlaces {
                     step: Step::At(e),
-                    limit: at as u16,
-                    exits: q as u16,
+                    limit: c.at as u16,
+                    exits: q.at as u16,
                     blocks: places,
                 },
             },
@@ -108,46 +108,43 @@ fn ending(w: &[u16; 32256], count: usize, at: usize, places: [u16; 8]) -> Region
     }
 }
 
-pub fn region(w: &[u16; 32256], count: usize, at: usize) -> RegionPlaces
-    requires { ⌜ count ≤ 4048 ⌝ }
-    ensures { λ r. ⌜ RegionRead (take count (now (w .entry))) at r ⌝ }
+pub fn region(w: &[u16; 32256], c: Cursor) -> RegionPlaces
+    ensures { λ r. ⌜ RegionRead (now (w .entry)) c r ⌝ }
 {
-    match counted_types(w, count, at, 4) {
+    match counted_types(w, c, 4) {
         Step::Bad(m) => no_region(m),
         Step::At(p) => {
-            let b = counted_blocks(w, count, p);
+            let b = counted_blocks(w, p);
             let step = b.step;
             let places = b.places;
             match step {
                 Step::Bad(m) => no_region(m),
-                Step::At(q) => ending(w, count, q, places),
+                Step::At(q) => ending(w, q, places),
             }
         }
     }
 }
 
 // Entry, test cost, and the types of the constants.
-fn after_count(w: &[u16; 32256], count: usize, at: usize) -> Step
-    requires { ⌜ count ≤ 4048 ⌝ }
-    ensures { λ r. ⌜ stepOf r ≡ afterCount (take count (now (w .entry))) at ⌝ }
+fn after_count(w: &[u16; 32256], c: Cursor) -> Step
+    ensures { λ r. ⌜ r ≡ stepAt afterCount (now (w .entry)) c ⌝ }
 {
-    match word(w, count, at) {
+    match word(w, c) {
         Item::Bad(m) => Step::Bad(m),
-        Item::Word(_, p) => match word(w, count, p) {
+        Item::Word(_, p) => match word(w, p) {
             Item::Bad(m) => Step::Bad(m),
-            Item::Word(_, e) => counted_types(w, count, e, 64),
+            Item::Word(_, e) => counted_types(w, e, 64),
         },
     }
 }
 
-// The region count and the place of the first region.
-pub fn head(w: &[u16; 32256], count: usize) -> Item
-    requires { ⌜ count ≤ 4048 ⌝ }
-    ensures { λ r. ⌜ itemOf r ≡ countOf (read.head (take count (now (w .entry))) 1) ⌝ }
+// The region count and the cursor at the first region.
+pub fn head(w: &[u16; 32256], c: Cursor) -> Item
+    ensures { λ r. ⌜ r ≡ itemAt headCount (now (w .entry)) c ⌝ }
 {
-    match within(w, count, 1, 1, 32) {
+    match within(w, c, 1, 32) {
         Item::Bad(m) => Item::Bad(m),
-        Item::Word(n, p) => match after_count(w, count, p) {
+        Item::Word(n, p) => match after_count(w, p) {
             Step::Bad(m) => Item::Bad(m),
             Step::At(e) => Item::Word(n, e),
         },

@@ -1,6 +1,6 @@
 -- The answer is that of `accept`, as a number.
 use borrow.Author.Needs.{needs}
-use mathlib.Core.Path.{_≡_, refl, sym, ap, _∙_}
+use mathlib.Core.Path.{sym, ap, _∙_}
 use Rattle.exports.specs.Exported.{asNumber, same-number}
 use Rattle.exports.proofs.rukvetta_accept.Statement.{statement}
 use Rattle.exports.proofs.rukvetta_accept.Tie as tie

@@ -1,26 +1,27 @@
 -- The loop follows `regionsFrom`, and the index has each region passed (`RegionsGoing`).
-use borrow.Author.Needs.{needs}
-use native.Mathlib.Omega.{arith}
-use mathlib.Core.Path.{ap}
+use mathlib.Core.Path.{_≡_, refl, sym, _∙_}
 use Prim.Native.Nat.{_-_}
-use Rattle.reading.specs.Answers.{step-is, stepOf}
-use Rattle.record.specs.SkimRegions.{region-inside, below-count}
+use native.Mathlib.Omega.{arith}
+use borrow.Author.Needs.{needs}
+use Rattle.reading.specs.AnswerSteps.{step-read}
+use Rattle.reading.specs.Skims.{taken-inside}
+use Rattle.record.specs.SkimRegions.{region-inside}
 use Rattle.record.specs.Index.{RegionsGoing}
 use Rattle.record.specs.IndexSteps.{regions-start, regions-next, regions-refused, regions-read, regions-left}
 use Rattle.record.proofs.read_regions.Statement.{statement}
 use Rattle.record.proofs.read_regions.Tie as tie
 
 abbrev Inv-loop : tie.InvT-loop
-Inv-loop w₀ count n from r₀ at₀ w r at = RegionsGoing n count from w₀ r at w
+Inv-loop w₀ n r₀ c₀ w r c = RegionsGoing n (c₀ .end) (c₀ .at) w₀ r (c .at) w × (c .end ≡ c₀ .end)
 
 abbrev μ-loop : tie.MeasureT-loop
-μ-loop w₀ count n from r₀ at₀ w r at = n - r
+μ-loop w₀ n r₀ c₀ w r c = n - r
 
 span-requires : tie.Need-span-requires Inv-loop μ-loop
 span-requires c κs = search needs
 
 loop-holds : tie.Need-loop-holds Inv-loop μ-loop
-loop-holds c = regions-start _ _ _ _
+loop-holds c = (regions-start _ _ _ _, refl)
 
 region-requires : tie.Need-region-requires Inv-loop μ-loop
 region-requires c κs = search needs
@@ -32,13 +33,15 @@ refusal-requires : tie.Need-refusal-requires Inv-loop μ-loop
 refusal-requires c κs = search needs
 
 returns : tie.Need-returns Inv-loop μ-loop
-returns c = regions-refused _ _ _ _ (c .before .before .before .before .region .result) (c .before .before .before .before .before .before .before .loop .inv) (c .before .before .before .before .before .before .loop-test .taken) (c .before .before .before .before .before .before .before .before .before .before .before .pre .0) (c .before .before .before .before .region .ensures) _ (ap stepOf (c .before .before .step .given .1)) (c .refusal .ensures)
+returns c = regions-refused _ _ _ _ _ (c .before .before .before .before .region .result) (c .before .before .before .before .before .before .before .loop .inv .0) (c .before .before .before .before .before .before .before .loop .inv .1) (c .before .before .before .before .before .before .loop-test .taken) (c .before .before .before .before .before .before .before .before .before .before .before .pre .0) (c .before .before .before .before .region .ensures) _ (c .before .before .step .given .1) (c .refusal .ensures)
 
 enum-known-step-2 : tie.Need-enum-known-step-2 Inv-loop μ-loop
 enum-known-step-2 c = search needs
 
 cast-store : tie.Need-cast-store Inv-loop μ-loop
-cast-store c = omega (arith, below-count (c .before .before .before .before .before .before .before .loop .w) (c .before .before .before .before .before .before .before .before .before .before .before .args .count) (region-inside _ _ (step-is (c .before .before .before .before .region .ensures .step) (c .before .before .step2 .given .1))))
+cast-store c =
+    let a = step-read _ _ _ (c .before .before .before .before .before .before .before .before .loop .inv .1) (c .before .before .before .before .before .region .ensures .step) (c .before .before .before .step2 .given .1) in
+    omega (arith, taken-inside (c .before .before .before .before .before .before .before .before .loop .w) (c .before .before .before .before .before .before .before .before .before .before .before .before .args .from .end) (region-inside _ _ (a .is)) .0)
 
 store-requires : tie.Need-store-requires Inv-loop μ-loop
 store-requires c κs = omega arith
@@ -50,13 +53,15 @@ loop-less : tie.Need-loop-less Inv-loop μ-loop
 loop-less c = omega arith
 
 loop-again : tie.Need-loop-again Inv-loop μ-loop
-loop-again c = regions-next _ _ _ _ (c .before .before .before .before .before .region .result) (c .before .before .before .before .before .before .before .before .loop .inv) (c .before .before .before .before .before .before .before .loop-test .taken) (c .before .before .before .before .before .before .before .before .before .before .before .before .pre .0) (c .before .before .before .before .before .region .ensures) _ (c .before .before .before .before .before .before .before .before .before .before .before .before .pre .1) (ap stepOf (c .before .before .before .step2 .given .1)) (c .store .ensures)
+loop-again c =
+    let a = step-read _ _ _ (c .before .before .before .before .before .before .before .before .before .loop .inv .1) (c .before .before .before .before .before .before .region .ensures .step) (c .before .before .before .before .step2 .given .1) in
+    (regions-next _ _ _ _ _ (c .before .before .before .before .before .before .region .result) (c .before .before .before .before .before .before .before .before .before .loop .inv .0) (c .before .before .before .before .before .before .before .before .before .loop .inv .1) (c .before .before .before .before .before .before .before .before .loop-test .taken) (c .before .before .before .before .before .before .before .before .before .before .before .before .before .pre .0) (c .before .before .before .before .before .before .region .ensures) _ (c .before .before .before .before .before .before .before .before .before .before .before .before .before .pre .1) (c .before .before .before .before .step2 .given .1) (c .store .ensures), a .same)
 
 returns-2 : tie.Need-returns-2 Inv-loop μ-loop
-returns-2 c = regions-read _ _ _ _ (c .before .before .loop .inv) (c .before .loop-test .left) (omega (arith, c .before .before .before .before .span-arg2 .given)) (c .if1 .taken)
+returns-2 c = regions-read _ _ _ _ (c .before .before .before .loop .inv .0) (c .before .before .loop-test .left) (omega (arith, c .before .before .before .before .before .span-arg2 .given)) (c .if1 .taken ∙ c .before .before .before .loop .inv .1)
 
 returns-3 : tie.Need-returns-3 Inv-loop μ-loop
-returns-3 c = regions-left _ _ _ _ (c .before .before .loop .inv) (c .before .loop-test .left) (omega (arith, c .before .before .before .before .span-arg2 .given)) (c .if1 .left)
+returns-3 c = regions-left _ _ _ _ (c .before .before .before .loop .inv .0) (c .before .before .loop-test .left) (omega (arith, c .before .before .before .before .before .span-arg2 .given)) (λ q. c .if1 .left (q ∙ sym (c .before .before .before .loop .inv .1)))
 
 pub read-regions-spec : {M : Type 1} → statement M
 read-regions-spec =

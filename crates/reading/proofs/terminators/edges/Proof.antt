@@ -1,14 +1,14 @@
--- Where the targets are read, each stands below W, and the scan counts the distinct ones.
+-- Where the targets are read, each stands among the lent words, and the scan counts the distinct ones; `span` tells their number.
+use mathlib.Core.Path.{refl}
 use native.Mathlib.Omega.{arith}
-use mathlib.Core.Path.{ap, _∙_}
-use lib.ListN.{take}
-use Rattle.format.specs.Read.{counted, value, many}
-use Rattle.format.specs.Places.{skim}
-use Rattle.reading.specs.Answers.{step-is}
-use Rattle.reading.specs.SkimTerminators.{edges-stop, edges-rest, targets-inside}
 use borrow.Author.Needs.{needs}
+use Rattle.reading.specs.SkimTerminators.{edges-stop, edges-rest, targets-inside}
+use Rattle.reading.specs.AnswerSteps.{step-read, step-refused, refuse-step, give-rest}
 use Rattle.reading.proofs.terminators.edges.Statement.{statement}
 use Rattle.reading.proofs.terminators.edges.Tie as tie
+
+span-requires : tie.Need-span-requires
+span-requires c κs = search needs
 
 words-requires : tie.Need-words-requires
 words-requires c κs = search needs
@@ -20,21 +20,26 @@ enum-known-e : tie.Need-enum-known-e
 enum-known-e c = search needs
 
 distinct-requires : tie.Need-distinct-requires
-distinct-requires c κs = λ j l. omega (arith, targets-inside (c .before .before .before .before .args .n) (c .before .before .before .before .args .w .now) (c .before .before .before .before .args .count) (c .before .before .before .before .args .at) (step-is (c .before .before .before .words .ensures) (c .before .e .given .1)) j l)
+distinct-requires c κs = λ j l.
+    let a = step-read _ _ _ refl (c .before .before .before .words .ensures) (c .before .e .given .1) in
+    omega (arith, targets-inside (c .before .before .before .before .before .before .args .n) (c .before .before .before .before .before .before .args .w .now) (c .before .before .before .before .before .before .args .c .end) (c .before .before .before .before .before .before .args .c .at) (a .is) j l .1, c .before .before .before .before .before .span-arg .given)
 
 passes-requires : tie.Need-passes-requires
 passes-requires c κs = search needs
 
 returns : tie.Need-returns
-returns c = edges-stop (c .before .before .before .before .args .n) (c .before .before .before .before .args .w .now) (c .before .before .before .before .args .count) (c .before .before .before .before .args .at) (step-is (c .before .before .before .words .ensures) (c .before .m .given .1))
+returns c = refuse-step _ _ _ (edges-stop _ (c .before .before .before .before .before .before .args .w .now) (c .before .before .before .before .before .before .args .c .end) _ (step-refused _ _ _ refl (c .before .before .before .words .ensures) (c .before .m .given .1)))
 
 returns-2 : tie.Need-returns-2
-returns-2 c = c .passes .ensures ∙ ap (λ k. skim (many k (counted 0 4 value) (take (c .before .before .before .before .before .before .args .count) (c .before .before .before .before .before .before .args .w .now)) (c .before .before .before .e .given .0 .0))) (c .before .distinct .ensures) ∙ edges-rest (c .before .before .before .before .before .before .args .n) (c .before .before .before .before .before .before .args .w .now) (c .before .before .before .before .before .before .args .count) (c .before .before .before .before .before .before .args .at) (step-is (c .before .before .before .before .before .words .ensures) (c .before .before .before .e .given .1))
+returns-2 c =
+    let a = step-read _ _ _ refl (c .before .before .before .before .before .words .ensures) (c .before .before .before .e .given .1) in
+    give-rest _ _ _ _ _ (a .same) (c .passes .ensures) (edges-rest _ (c .before .before .before .before .before .before .before .before .args .w .now) (c .before .before .before .before .before .before .before .before .args .c .end) _ (c .before .distinct .ensures) (a .is))
 
 pub edges-spec : {M : Type 1} → statement M
 edges-spec =
     tie.close
     (tie.spec
+    span-requires
     words-requires
     enum-known-m
     enum-known-e

@@ -1,8 +1,8 @@
 -- Each answer is a path through `operandsRead`, at the bounds of the kind.
-use mathlib.Core.Path.{_∙_}
-use Rattle.reading.specs.Answers.{item-is, step-is}
-use Rattle.reading.specs.SkimTerminators.{operands-stop, operands-count, operands-rest}
+use mathlib.Core.Path.{refl}
 use borrow.Author.Needs.{needs}
+use Rattle.reading.specs.SkimTerminators.{operands-stop, operands-count, operands-rest}
+use Rattle.reading.specs.AnswerSteps.{word-read, word-refused, step-read, step-refused, refuse-step, give-rest}
 use Rattle.reading.proofs.terminators.operands.Statement.{statement}
 use Rattle.reading.proofs.terminators.operands.Tie as tie
 
@@ -40,13 +40,18 @@ edges-requires : tie.Need-edges-requires
 edges-requires c κs = search needs
 
 returns : tie.Need-returns
-returns c = operands-stop _ _ _ (c .before .before .before .before .before .fewest-values .ensures) (c .before .before .before .before .most-values .ensures) (step-is (c .before .before .before .counted-values .ensures) (c .before .m .given .1))
+returns c = refuse-step _ _ _ (operands-stop _ _ _ (c .before .before .before .before .before .fewest-values .ensures) (c .before .before .before .before .most-values .ensures) (step-refused _ _ _ refl (c .before .before .before .counted-values .ensures) (c .before .m .given .1)))
 
 returns-2 : tie.Need-returns-2
-returns-2 c = operands-count _ _ _ (c .before .before .before .before .before .before .before .before .before .before .before .fewest-values .ensures) (c .before .before .before .before .before .before .before .before .before .before .most-values .ensures) (step-is (c .before .before .before .before .before .before .before .before .before .counted-values .ensures) (c .before .before .before .before .before .before .before .p .given .1)) (c .before .before .before .before .before .fewest-targets .ensures) (c .before .before .before .before .most-targets .ensures) (item-is (c .before .before .before .within .ensures) (c .before .m2 .given .1))
+returns-2 c =
+    let a = step-read _ _ _ refl (c .before .before .before .before .before .before .before .before .before .counted-values .ensures) (c .before .before .before .before .before .before .before .p .given .1) in
+    refuse-step _ _ _ (operands-count _ _ _ (c .before .before .before .before .before .before .before .before .before .before .before .fewest-values .ensures) (c .before .before .before .before .before .before .before .before .before .before .most-values .ensures) (a .is) (c .before .before .before .before .before .fewest-targets .ensures) (c .before .before .before .before .most-targets .ensures) (word-refused _ _ _ (a .same) (c .before .before .before .within .ensures) (c .before .m2 .given .1)))
 
 returns-3 : tie.Need-returns-3
-returns-3 c = c .edges .ensures ∙ operands-rest _ _ _ (c .before .before .before .before .before .before .before .before .before .before .before .before .fewest-values .ensures) (c .before .before .before .before .before .before .before .before .before .before .before .most-values .ensures) (step-is (c .before .before .before .before .before .before .before .before .before .before .counted-values .ensures) (c .before .before .before .before .before .before .before .before .p .given .1)) (c .before .before .before .before .before .before .fewest-targets .ensures) (c .before .before .before .before .before .most-targets .ensures) (item-is (c .before .before .before .before .within .ensures) (c .before .before .n .given .1))
+returns-3 c =
+    let a = step-read _ _ _ refl (c .before .before .before .before .before .before .before .before .before .before .counted-values .ensures) (c .before .before .before .before .before .before .before .before .p .given .1) in
+    let b = word-read _ _ _ (a .same) (c .before .before .before .before .within .ensures) (c .before .before .n .given .1) in
+    give-rest _ _ _ _ _ (b .same) (c .edges .ensures) (operands-rest _ _ _ (c .before .before .before .before .before .before .before .before .before .before .before .before .fewest-values .ensures) (c .before .before .before .before .before .before .before .before .before .before .before .most-values .ensures) (a .is) (c .before .before .before .before .before .before .fewest-targets .ensures) (c .before .before .before .before .before .most-targets .ensures) (b .is))
 
 pub operands-spec : {M : Type 1} → statement M
 operands-spec =

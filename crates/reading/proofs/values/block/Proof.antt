@@ -1,8 +1,8 @@
 -- The count is refused, or so many are read.
-use mathlib.Core.Path.{_∙_}
-use Rattle.reading.specs.Answers.{item-is}
-use Rattle.reading.specs.SkimValues.{block-stop, block-rest}
+use mathlib.Core.Path.{refl}
 use borrow.Author.Needs.{needs}
+use Rattle.reading.specs.SkimValues.{block-stop, block-rest}
+use Rattle.reading.specs.AnswerSteps.{word-read, word-refused, refuse-step, give-rest}
 use Rattle.reading.proofs.values.block.Statement.{statement}
 use Rattle.reading.proofs.values.block.Tie as tie
 
@@ -19,10 +19,12 @@ instructions-requires : tie.Need-instructions-requires
 instructions-requires c κs = search needs
 
 returns : tie.Need-returns
-returns c = block-stop _ _ (item-is (c .before .before .before .within .ensures) (c .before .m .given .1))
+returns c = refuse-step _ _ _ (block-stop _ _ (word-refused _ _ _ refl (c .before .before .before .within .ensures) (c .before .m .given .1)))
 
 returns-2 : tie.Need-returns-2
-returns-2 c = c .instructions .ensures ∙ block-rest _ _ (item-is (c .before .before .before .before .within .ensures) (c .before .before .n .given .1))
+returns-2 c =
+    let a = word-read _ _ _ refl (c .before .before .before .before .within .ensures) (c .before .before .n .given .1) in
+    give-rest _ _ _ _ _ (a .same) (c .instructions .ensures) (block-rest _ _ (a .is))
 
 pub block-spec : {M : Type 1} → statement M
 block-spec =

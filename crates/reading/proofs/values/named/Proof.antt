@@ -1,8 +1,9 @@
 -- Each answer is a path through `namedBy`.
-use mathlib.Core.Path.{sym, _∙_}
-use Rattle.reading.specs.Answers.{item-is}
-use Rattle.reading.specs.SkimValues.{named-stop, named-short, named-bad, named-in}
+use mathlib.Core.Path.{refl, sym, _∙_}
 use borrow.Author.Needs.{needs}
+use Rattle.format.specs.Read.{word}
+use Rattle.reading.specs.SkimValues.{named-stop, named-short, named-bad, named-in}
+use Rattle.reading.specs.AnswerSteps.{word-read, word-refused, refuse-step, give-step}
 use Rattle.reading.proofs.values.named.Statement.{statement}
 use Rattle.reading.proofs.values.named.Tie as tie
 
@@ -28,16 +29,24 @@ index-right-requires : tie.Need-index-right-requires
 index-right-requires c κs = search needs
 
 returns : tie.Need-returns
-returns c = named-in _ _ _ (item-is (c .before .before .before .before .before .before .before .before .before .word .ensures) (c .before .before .before .before .before .before .before .p .given .1)) (item-is (c .before .before .before .before .before .word2 .ensures) (c .before .before .before .i .given .1)) (sym (c .before .index-right .ensures) ∙ c .if1 .taken)
+returns c =
+    let a = word-read _ _ _ refl (c .before .before .before .before .before .before .before .before .before .word .ensures) (c .before .before .before .before .before .before .before .p .given .1) in
+    let b = word-read _ _ _ (a .same) (c .before .before .before .before .before .word2 .ensures) (c .before .before .before .i .given .1) in
+    give-step _ _ _ (b .same) (named-in _ _ _ (a .is) (b .is) (sym (c .before .index-right .ensures) ∙ c .if1 .taken))
 
 returns-2 : tie.Need-returns-2
-returns-2 c = named-stop _ _ _ (item-is (c .before .before .before .word .ensures) (c .before .m .given .1))
+returns-2 c = refuse-step _ _ _ (named-stop _ _ _ (word-refused _ _ _ refl (c .before .before .before .word .ensures) (c .before .m .given .1)))
 
 returns-3 : tie.Need-returns-3
-returns-3 c = named-short _ _ _ (item-is (c .before .before .before .before .before .before .before .word .ensures) (c .before .before .before .before .before .p .given .1)) (item-is (c .before .before .before .word2 .ensures) (c .before .m2 .given .1))
+returns-3 c =
+    let a = word-read _ _ _ refl (c .before .before .before .before .before .before .before .word .ensures) (c .before .before .before .before .before .p .given .1) in
+    refuse-step _ _ _ (named-short _ _ _ (a .is) (word-refused _ _ _ (a .same) (c .before .before .before .word2 .ensures) (c .before .m2 .given .1)))
 
 returns-4 : tie.Need-returns-4
-returns-4 c = named-bad _ _ _ (item-is (c .before .before .before .before .before .before .before .before .before .word .ensures) (c .before .before .before .before .before .before .before .p .given .1)) (item-is (c .before .before .before .before .before .word2 .ensures) (c .before .before .before .i .given .1)) (sym (c .before .index-right .ensures) ∙ c .if1 .left)
+returns-4 c =
+    let a = word-read _ _ _ refl (c .before .before .before .before .before .before .before .before .before .word .ensures) (c .before .before .before .before .before .before .before .p .given .1) in
+    let b = word-read _ _ _ (a .same) (c .before .before .before .before .before .word2 .ensures) (c .before .before .before .i .given .1) in
+    refuse-step _ _ _ (named-bad _ _ _ (a .is) (b .is) (sym (c .before .index-right .ensures) ∙ c .if1 .left))
 
 pub named-spec : {M : Type 1} → statement M
 named-spec =

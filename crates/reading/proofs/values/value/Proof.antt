@@ -1,8 +1,9 @@
 -- Each answer is a path through the reader `value`.
-use mathlib.Core.Path.{sym, _∙_}
-use Rattle.reading.specs.Answers.{item-is}
-use Rattle.reading.specs.SkimValues.{value-stop, value-kind, value-rest}
+use mathlib.Core.Path.{refl, sym, _∙_}
 use borrow.Author.Needs.{needs}
+use Rattle.format.specs.Read.{word}
+use Rattle.reading.specs.SkimValues.{value-stop, value-kind, value-rest}
+use Rattle.reading.specs.AnswerSteps.{word-read, word-refused, refuse-step, give-rest}
 use Rattle.reading.proofs.values.value.Statement.{statement}
 use Rattle.reading.proofs.values.value.Tie as tie
 
@@ -22,13 +23,17 @@ named-requires : tie.Need-named-requires
 named-requires c κs = search needs
 
 returns : tie.Need-returns
-returns c = c .named .ensures ∙ value-rest _ _ (item-is (c .before .before .before .before .before .before .word .ensures) (c .before .before .before .before .k .given .1)) (sym (c .before .before .is-kind .ensures) ∙ c .before .if1 .taken)
+returns c =
+    let a = word-read _ _ _ refl (c .before .before .before .before .before .before .word .ensures) (c .before .before .before .before .k .given .1) in
+    give-rest _ _ _ _ _ (a .same) (c .named .ensures) (value-rest _ _ (a .is) (sym (c .before .before .is-kind .ensures) ∙ c .before .if1 .taken))
 
 returns-2 : tie.Need-returns-2
-returns-2 c = value-stop _ _ (item-is (c .before .before .before .word .ensures) (c .before .m .given .1))
+returns-2 c = refuse-step _ _ _ (value-stop _ _ (word-refused _ _ _ refl (c .before .before .before .word .ensures) (c .before .m .given .1)))
 
 returns-3 : tie.Need-returns-3
-returns-3 c = value-kind _ _ (item-is (c .before .before .before .before .before .word .ensures) (c .before .before .before .k .given .1)) (sym (c .before .is-kind .ensures) ∙ c .if1 .left)
+returns-3 c =
+    let a = word-read _ _ _ refl (c .before .before .before .before .before .word .ensures) (c .before .before .before .k .given .1) in
+    refuse-step _ _ _ (value-kind _ _ (a .is) (sym (c .before .is-kind .ensures) ∙ c .if1 .left))
 
 pub value-spec : {M : Type 1} → statement M
 value-spec =

@@ -1,8 +1,8 @@
 -- The count is refused, or so many are read.
-use mathlib.Core.Path.{_∙_}
-use Rattle.reading.specs.Skims.{counted-stop, counted-rest}
-use Rattle.reading.specs.Answers.{item-is}
+use mathlib.Core.Path.{refl}
 use borrow.Author.Needs.{needs}
+use Rattle.reading.specs.Skims.{counted-stop, counted-rest}
+use Rattle.reading.specs.AnswerSteps.{word-read, word-refused, refuse-step, give-rest}
 use Rattle.reading.proofs.words.counted_words.Statement.{statement}
 use Rattle.reading.proofs.words.counted_words.Tie as tie
 
@@ -19,10 +19,12 @@ words-requires : tie.Need-words-requires
 words-requires c κs = search needs
 
 returns : tie.Need-returns
-returns c = counted-stop _ _ _ _ _ (item-is (c .before .before .before .within .ensures) (c .before .m .given .1))
+returns c = refuse-step _ _ _ (counted-stop _ _ _ _ _ (word-refused _ _ _ refl (c .before .before .before .within .ensures) (c .before .m .given .1)))
 
 returns-2 : tie.Need-returns-2
-returns-2 c = c .words .ensures ∙ counted-rest _ _ _ _ _ (item-is (c .before .before .before .before .within .ensures) (c .before .before .n .given .1))
+returns-2 c =
+    let a = word-read _ _ _ refl (c .before .before .before .before .within .ensures) (c .before .before .n .given .1) in
+    give-rest _ _ _ _ _ (a .same) (c .words .ensures) (counted-rest _ _ _ _ _ (a .is))
 
 pub counted-words-spec : {M : Type 1} → statement M
 counted-words-spec =

@@ -1,7 +1,9 @@
 -- Each answer is a path through the reader `within`.
+use mathlib.Core.Path.{refl}
 use borrow.Author.Needs.{needs}
+use Rattle.format.specs.Read.{word}
 use Rattle.reading.specs.Skims.{within-stop, within-low, within-high, within-in}
-use Rattle.reading.specs.Answers.{item-is}
+use Rattle.reading.specs.AnswerSteps.{word-read, word-refused, refuse-word, give-word}
 use Rattle.reading.proofs.words.within.Statement.{statement}
 use Rattle.reading.proofs.words.within.Tie as tie
 
@@ -15,16 +17,18 @@ enum-known-n : tie.Need-enum-known-n
 enum-known-n c = search needs
 
 returns : tie.Need-returns
-returns c = within-low _ _ _ _ (item-is (c .before .before .before .before .word .ensures) (c .before .before .n .given .1)) (c .if1 .taken)
+returns c = refuse-word _ _ _ (within-low _ _ _ _ (word-read _ _ _ refl (c .before .before .before .before .word .ensures) (c .before .before .n .given .1) .is) (c .if1 .taken))
 
 returns-2 : tie.Need-returns-2
-returns-2 c = within-high _ _ _ _ (item-is (c .before .before .before .before .before .word .ensures) (c .before .before .before .n .given .1)) (c .before .if1 .left) (c .if2 .taken)
+returns-2 c = refuse-word _ _ _ (within-high _ _ _ _ (word-read _ _ _ refl (c .before .before .before .before .before .word .ensures) (c .before .before .before .n .given .1) .is) (c .before .if1 .left) (c .if2 .taken))
 
 returns-3 : tie.Need-returns-3
-returns-3 c = within-stop _ _ _ _ (item-is (c .before .before .before .word .ensures) (c .before .m .given .1))
+returns-3 c = refuse-word _ _ _ (within-stop _ _ _ _ (word-refused _ _ _ refl (c .before .before .before .word .ensures) (c .before .m .given .1)))
 
 returns-4 : tie.Need-returns-4
-returns-4 c = within-in _ _ _ _ (item-is (c .before .before .before .before .before .word .ensures) (c .before .before .before .n .given .1)) (c .before .if1 .left) (c .if2 .left)
+returns-4 c =
+    let a = word-read _ _ _ refl (c .before .before .before .before .before .word .ensures) (c .before .before .before .n .given .1) in
+    give-word _ _ _ (a .same) (within-in _ _ _ _ (a .is) (c .before .if1 .left) (c .if2 .left))
 
 pub within-spec : {M : Type 1} → statement M
 within-spec =

@@ -1,28 +1,34 @@
--- The word is one of the lent words, or W is passed; `span` tells the array's length.
-use borrow.Author.Needs.{needs}
-use Rattle.reading.specs.Skims.{word-in, word-out}
+-- The word is one of the lent words, or the end or the array is passed; `span` tells the array's length.
+use mathlib.Core.Path.{refl}
 use native.Mathlib.Omega.{arith}
+use borrow.Author.Needs.{needs}
+use Rattle.reading.specs.Skims.{word-in, word-out, word-past}
+use Rattle.reading.specs.AnswerSteps.{refuse-word, give-word}
 use Rattle.reading.proofs.words.word.Statement.{statement}
 use Rattle.reading.proofs.words.word.Tie as tie
 
 span-requires : tie.Need-span-requires
 span-requires c κs = search needs
 
-mul-t8 : tie.Need-mul-t8
-mul-t8 c = search needs
-
-element-copy-out-t11 : tie.Need-element-copy-out-t11
-element-copy-out-t11 c = search needs
-
-add-t12 : tie.Need-add-t12
-add-t12 c = search needs
-
 returns : tie.Need-returns
-returns c = word-in _ _ _ (omega (arith, c .before .before .before .span-arg .given)) (c .before .if1 .taken)
+returns c = refuse-word _ _ _ (word-out _ _ _ (c .if1 .taken))
 
 returns-2 : tie.Need-returns-2
-returns-2 c = word-out _ _ _ (omega (arith, c .before .before .span-arg .given)) (c .if1 .left)
+returns-2 c = refuse-word _ _ _ (word-past (c .before .before .before .before .args .w .now) (c .before .before .before .before .args .c .end) (c .before .before .before .before .args .c .at) (omega (arith, c .before .before .before .span-arg .given)))
+
+mul-t9 : tie.Need-mul-t9
+mul-t9 c = search needs
+
+element-copy-out-t12 : tie.Need-element-copy-out-t12
+element-copy-out-t12 c = search needs
+
+add-t13 : tie.Need-add-t13
+add-t13 c = search needs
+
+returns-3 : tie.Need-returns-3
+returns-3 c = give-word _ _ _ refl (word-in (c .before .before .before .before .before .args .w .now) (c .before .before .before .before .before .args .c .end) (c .before .before .before .before .before .args .c .at) (c .before .before .if1 .left) (omega (arith, c .before .before .before .before .span-arg .given)))
 
 pub word-spec : {M : Type 1} → statement M
 word-spec =
-    tie.close (tie.spec span-requires mul-t8 element-copy-out-t11 add-t12 returns returns-2)
+    tie.close
+    (tie.spec span-requires returns returns-2 mul-t9 element-copy-out-t12 add-t13 returns-3)

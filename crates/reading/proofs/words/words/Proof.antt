@@ -1,24 +1,24 @@
 -- The loop follows `many`: `Going` says what is left to read, and from where.
-use native.Mathlib.Omega.{arith}
+use mathlib.Core.Path.{_≡_, refl, ap}
 use Prim.Native.Nat.{_-_}
+use native.Mathlib.Omega.{arith}
 use lib.ListN.{take}
-use Rattle.format.specs.Read.{word}
-use Rattle.reading.specs.Skims.{Going, going-start, going-next, going-stop, going-end}
-use Rattle.reading.specs.Answers.{item-is}
 use borrow.Author.Needs.{needs}
-use mathlib.Core.Path.{ap}
+use Rattle.format.specs.Read.{word}
 use Rattle.format.specs.Places.{skim}
+use Rattle.reading.specs.Skims.{Going, going-start, going-next, going-stop, going-end}
+use Rattle.reading.specs.AnswerSteps.{word-read, word-refused, refuse-step, give-step}
 use Rattle.reading.proofs.words.words.Statement.{statement}
 use Rattle.reading.proofs.words.words.Tie as tie
 
 abbrev Inv-loop : tie.InvT-loop
-Inv-loop w count from n i₀ at₀ i at = Going word (take count w) n from i at
+Inv-loop w n i₀ c₀ i c = Going word (take (c₀ .end) w) n (c₀ .at) i (c .at) × (c .end ≡ c₀ .end)
 
 abbrev μ-loop : tie.MeasureT-loop
-μ-loop w count from n i₀ at₀ i at = n - i
+μ-loop w n i₀ c₀ i c = n - i
 
 loop-holds : tie.Need-loop-holds Inv-loop μ-loop
-loop-holds c = going-start
+loop-holds c = (going-start, refl)
 
 word-requires : tie.Need-word-requires Inv-loop μ-loop
 word-requires c κs = search needs
@@ -27,7 +27,7 @@ enum-known-m : tie.Need-enum-known-m Inv-loop μ-loop
 enum-known-m c = search needs
 
 returns : tie.Need-returns Inv-loop μ-loop
-returns c = going-stop (c .before .before .before .before .before .loop .inv) (c .before .before .before .before .loop-test .taken) (ap skim (item-is (c .before .before .before .word .ensures) (c .before .m .given .1)))
+returns c = refuse-step _ _ _ (going-stop (c .before .before .before .before .before .loop .inv .0) (c .before .before .before .before .loop-test .taken) (ap skim (word-refused _ _ _ (c .before .before .before .before .before .loop .inv .1) (c .before .before .before .word .ensures) (c .before .m .given .1))))
 
 enum-known-e : tie.Need-enum-known-e Inv-loop μ-loop
 enum-known-e c = search needs
@@ -39,10 +39,12 @@ loop-less : tie.Need-loop-less Inv-loop μ-loop
 loop-less c = omega arith
 
 loop-again : tie.Need-loop-again Inv-loop μ-loop
-loop-again c = going-next (c .before .before .before .before .before .loop .inv) (c .before .before .before .before .loop-test .taken) (ap skim (item-is (c .before .before .before .word .ensures) (c .before .e .given .1)))
+loop-again c =
+    let a = word-read _ _ _ (c .before .before .before .before .before .loop .inv .1) (c .before .before .before .word .ensures) (c .before .e .given .1) in
+    (going-next (c .before .before .before .before .before .loop .inv .0) (c .before .before .before .before .loop-test .taken) (ap skim (a .is)), a .same)
 
 returns-2 : tie.Need-returns-2 Inv-loop μ-loop
-returns-2 c = going-end (c .before .loop .inv) (c .loop-test .left)
+returns-2 c = give-step _ _ _ (c .before .loop .inv .1) (going-end (c .before .loop .inv .0) (c .loop-test .left))
 
 pub words-spec : {M : Type 1} → statement M
 words-spec =

@@ -1,22 +1,27 @@
 -- The loop follows `many`, and keeps the place of each block passed (`BlocksGoing`).
-use borrow.Author.Needs.{needs}
-use native.Mathlib.Omega.{arith}
+use mathlib.Core.Path.{_≡_, refl}
 use Prim.Native.Nat.{_-_}
+use native.Mathlib.Omega.{arith}
 use lib.ListN.{take}
-use Rattle.reading.specs.Answers.{step-is}
-use Rattle.record.specs.SkimRegions.{block-inside, below-count}
+use borrow.Author.Needs.{needs}
+use Rattle.reading.specs.AnswerSteps.{step-read, step-refused}
+use Rattle.reading.specs.Skims.{taken-inside}
+use Rattle.record.specs.SkimRegions.{block-inside}
 use Rattle.record.specs.RegionSteps.{BlocksGoing, blocks-start, blocks-next, blocks-stop, blocks-end}
 use Rattle.record.proofs.regions.blocks.Statement.{statement}
 use Rattle.record.proofs.regions.blocks.Tie as tie
 
 abbrev Inv-loop : tie.InvT-loop
-Inv-loop w count from n places₀ i₀ at₀ places i at = BlocksGoing n (take count w) from i at places
+Inv-loop w n places₀ i₀ c₀ places i c = BlocksGoing n (take (c₀ .end) w) (c₀ .at) i (c .at) places × (c .end ≡ c₀ .end)
 
 abbrev μ-loop : tie.MeasureT-loop
-μ-loop w count from n places₀ i₀ at₀ places i at = n - i
+μ-loop w n places₀ i₀ c₀ places i c = n - i
+
+span-requires : tie.Need-span-requires Inv-loop μ-loop
+span-requires c κs = search needs
 
 loop-holds : tie.Need-loop-holds Inv-loop μ-loop
-loop-holds c = blocks-start _ _ _
+loop-holds c = (blocks-start _ _ _, refl)
 
 block-requires : tie.Need-block-requires Inv-loop μ-loop
 block-requires c κs = search needs
@@ -25,13 +30,15 @@ enum-known-m : tie.Need-enum-known-m Inv-loop μ-loop
 enum-known-m c = search needs
 
 returns : tie.Need-returns Inv-loop μ-loop
-returns c = blocks-stop _ _ _ (c .before .before .before .before .before .loop .inv) (c .before .before .before .before .loop-test .taken) (step-is (c .before .before .before .block .ensures) (c .before .m .given .1))
+returns c = blocks-stop _ _ _ (c .before .before .before .before .before .loop .inv .0) (c .before .before .before .before .loop-test .taken) (step-refused _ _ _ (c .before .before .before .before .before .loop .inv .1) (c .before .before .before .block .ensures) (c .before .m .given .1))
 
 enum-known-e : tie.Need-enum-known-e Inv-loop μ-loop
 enum-known-e c = search needs
 
 cast-places : tie.Need-cast-places Inv-loop μ-loop
-cast-places c = omega (arith, below-count (c .before .before .before .before .before .before .args .w .now) (c .before .before .before .before .before .before .args .count) (block-inside _ _ (step-is (c .before .before .before .block .ensures) (c .before .e .given .1))))
+cast-places c =
+    let a = step-read _ _ _ (c .before .before .before .before .before .before .loop .inv .1) (c .before .before .before .before .block .ensures) (c .before .before .e .given .1) in
+    omega (arith, taken-inside (c .before .before .before .before .before .before .before .before .before .args .w .now) (c .before .before .before .before .before .before .before .before .before .args .from .end) (block-inside _ _ (a .is)) .1, c .before .before .before .before .before .before .before .before .span-arg .given)
 
 cast-places-2 : tie.Need-cast-places-2 Inv-loop μ-loop
 cast-places-2 c = search needs
@@ -49,10 +56,12 @@ loop-less : tie.Need-loop-less Inv-loop μ-loop
 loop-less c = omega arith
 
 loop-again : tie.Need-loop-again Inv-loop μ-loop
-loop-again c = blocks-next _ _ _ (c .before .before .before .before .before .loop .inv) (c .before .before .before .before .loop-test .taken) (c .before .before .before .before .before .before .pre .1) (step-is (c .before .before .before .block .ensures) (c .before .e .given .1))
+loop-again c =
+    let a = step-read _ _ _ (c .before .before .before .before .before .before .loop .inv .1) (c .before .before .before .before .block .ensures) (c .before .before .e .given .1) in
+    (blocks-next _ _ _ (c .before .before .before .before .before .before .loop .inv .0) (c .before .before .before .before .before .loop-test .taken) (c .before .before .before .before .before .before .before .before .before .pre) (a .is), a .same)
 
 returns-2 : tie.Need-returns-2 Inv-loop μ-loop
-returns-2 c = blocks-end _ _ _ (c .before .loop .inv) (c .loop-test .left)
+returns-2 c = blocks-end _ _ _ (c .before .loop .inv .0) (c .before .loop .inv .1) (c .loop-test .left)
 
 pub blocks-spec : {M : Type 1} → statement M
 blocks-spec =
@@ -60,6 +69,7 @@ blocks-spec =
     (tie.spec
     Inv-loop
     μ-loop
+    span-requires
     loop-holds
     block-requires
     enum-known-m

@@ -1,10 +1,9 @@
 -- The count is refused, or so many are read.
-use native.Mathlib.Omega.{arith}
-use lib.ListN.{take}
-use Rattle.reading.specs.Answers.{item-is}
+use mathlib.Core.Path.{refl}
+use borrow.Author.Needs.{needs}
+use Rattle.reading.specs.AnswerSteps.{word-read, word-refused}
 use Rattle.record.specs.Parts.{within-parts}
 use Rattle.record.specs.RegionSteps.{counted-blocks-stop, counted-blocks-rest}
-use borrow.Author.Needs.{needs}
 use Rattle.record.proofs.regions.counted_blocks.Statement.{statement}
 use Rattle.record.proofs.regions.counted_blocks.Tie as tie
 
@@ -18,13 +17,15 @@ enum-known-n : tie.Need-enum-known-n
 enum-known-n c = search needs
 
 blocks-requires : tie.Need-blocks-requires
-blocks-requires c κs = (omega arith, within-parts 0 8 (take (c .before .before .before .before .args .count) (c .before .before .before .before .args .w .now)) (c .before .before .before .before .args .at) (item-is (c .before .before .before .within .ensures) (c .before .n .given .1)) .high-bound)
+blocks-requires c κs =
+    let a = word-read _ _ _ refl (c .before .before .before .within .ensures) (c .before .n .given .1) in
+    within-parts 0 8 _ _ (a .is) .high-bound
 
 returns : tie.Need-returns
-returns c = counted-blocks-stop _ _ _ (item-is (c .before .before .before .within .ensures) (c .before .m .given .1))
+returns c = counted-blocks-stop _ _ _ (word-refused _ _ _ refl (c .before .before .before .within .ensures) (c .before .m .given .1))
 
 returns-2 : tie.Need-returns-2
-returns-2 c = counted-blocks-rest _ _ _ (item-is (c .before .before .before .before .within .ensures) (c .before .before .n .given .1)) (c .blocks2 .ensures)
+returns-2 c = counted-blocks-rest _ _ _ (word-read _ _ _ refl (c .before .before .before .before .within .ensures) (c .before .before .n .given .1)) (c .blocks2 .ensures)
 
 pub counted-blocks-spec : {M : Type 1} → statement M
 counted-blocks-spec =

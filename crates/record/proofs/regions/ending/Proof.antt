@@ -1,13 +1,18 @@
--- Each answer is a path through `endingRead`; a place that is kept stands below W.
+-- Each answer is a path through `endingRead`; a place that is kept stands among the lent words.
+use mathlib.Core.Path.{refl}
 use native.Mathlib.Omega.{arith}
-use Rattle.format.specs.Read.{word}
-use Rattle.reading.specs.Answers.{item-is, step-is}
-use Rattle.record.specs.Parts.{within-parts}
-use Rattle.record.specs.SkimRegions.{ending-limit, ending-terminator, ending-exits, counted-inside, below-count}
-use Rattle.record.specs.RegionSteps.{ending-stop, ending-whole}
 use borrow.Author.Needs.{needs}
+use Rattle.format.specs.Read.{word}
+use Rattle.reading.specs.AnswerSteps.{word-read, word-refused, step-read, step-refused}
+use Rattle.reading.specs.Skims.{taken-inside}
+use Rattle.record.specs.Parts.{within-parts}
+use Rattle.record.specs.SkimRegions.{ending-limit, ending-terminator, ending-exits, counted-inside}
+use Rattle.record.specs.RegionSteps.{ending-stop, ending-whole}
 use Rattle.record.proofs.regions.ending.Statement.{statement}
 use Rattle.record.proofs.regions.ending.Tie as tie
+
+span-requires : tie.Need-span-requires
+span-requires c κs = search needs
 
 within-requires : tie.Need-within-requires
 within-requires c κs = search needs
@@ -45,28 +50,43 @@ no-region-requires-3 c κs = search needs
 enum-known-e : tie.Need-enum-known-e
 enum-known-e c = search needs
 
-cast-t18 : tie.Need-cast-t18
-cast-t18 c = omega (arith, below-count (c .before .before .before .before .before .before .before .before .before .before .before .before .args .w .now) (c .before .before .before .before .before .before .before .before .before .before .before .before .args .count) (within-parts 1 65535 _ _ (item-is (c .before .before .before .before .before .before .before .before .before .before .before .within .ensures) (c .before .before .before .before .before .before .before .before .before .p .given .1)) .inside))
+cast-t20 : tie.Need-cast-t20
+cast-t20 c =
+    let a = word-read _ _ _ refl (c .before .before .before .before .before .before .before .before .before .before .before .before .within .ensures) (c .before .before .before .before .before .before .before .before .before .before .p .given .1) in
+    omega (arith, taken-inside (c .before .before .before .before .before .before .before .before .before .before .before .before .before .before .before .args .w .now) (c .before .before .before .before .before .before .before .before .before .before .before .before .before .before .before .args .c .end) (within-parts 1 65535 _ _ (a .is) .inside) .1, c .before .before .before .before .before .before .before .before .before .before .before .before .before .before .span-arg .given)
 
-cast-t19 : tie.Need-cast-t19
-cast-t19 c = omega (arith, below-count (c .before .before .before .before .before .before .before .before .before .before .before .before .args .w .now) (c .before .before .before .before .before .before .before .before .before .before .before .before .args .count) (counted-inside _ _ 0 32 word (step-is (c .before .before .before .counted-words .ensures) (c .before .e .given .1))))
+cast-t21 : tie.Need-cast-t21
+cast-t21 c =
+    let a = word-read _ _ _ refl (c .before .before .before .before .before .before .before .before .before .before .before .before .before .within .ensures) (c .before .before .before .before .before .before .before .before .before .before .before .p .given .1) in
+    let b = step-read _ _ _ (a .same) (c .before .before .before .before .before .before .before .before .before .terminator .ensures) (c .before .before .before .before .before .before .before .q .given .1) in
+    let d = step-read _ _ _ (b .same) (c .before .before .before .before .before .counted-words .ensures) (c .before .before .before .e .given .1) in
+    omega (arith, taken-inside (c .before .before .before .before .before .before .before .before .before .before .before .before .before .before .before .before .args .w .now) (c .before .before .before .before .before .before .before .before .before .before .before .before .before .before .before .before .args .c .end) (counted-inside _ _ 0 32 word (d .is)) .1, c .before .before .before .before .before .before .before .before .before .before .before .before .before .before .before .span-arg .given)
 
 returns : tie.Need-returns
-returns c = ending-stop _ _ _ _ (c .no-region .ensures) (ending-limit _ _ (item-is (c .before .before .before .before .within .ensures) (c .before .before .m .given .1)))
+returns c = ending-stop _ _ _ _ (c .no-region .ensures) (ending-limit _ _ (word-refused _ _ _ refl (c .before .before .before .before .within .ensures) (c .before .before .m .given .1)))
 
 returns-2 : tie.Need-returns-2
-returns-2 c = ending-stop _ _ _ _ (c .no-region2 .ensures) (ending-terminator _ _ (item-is (c .before .before .before .before .before .before .before .before .within .ensures) (c .before .before .before .before .before .before .p .given .1)) (step-is (c .before .before .before .before .terminator .ensures) (c .before .before .m2 .given .1)))
+returns-2 c =
+    let a = word-read _ _ _ refl (c .before .before .before .before .before .before .before .before .within .ensures) (c .before .before .before .before .before .before .p .given .1) in
+    ending-stop _ _ _ _ (c .no-region2 .ensures) (ending-terminator _ _ (a .is) (step-refused _ _ _ (a .same) (c .before .before .before .before .terminator .ensures) (c .before .before .m2 .given .1)))
 
 returns-3 : tie.Need-returns-3
-returns-3 c = ending-stop _ _ _ _ (c .no-region3 .ensures) (ending-exits _ _ (item-is (c .before .before .before .before .before .before .before .before .before .before .before .before .within .ensures) (c .before .before .before .before .before .before .before .before .before .before .p .given .1)) (step-is (c .before .before .before .before .before .before .before .before .terminator .ensures) (c .before .before .before .before .before .before .q .given .1)) (step-is (c .before .before .before .before .counted-words .ensures) (c .before .before .m3 .given .1)))
+returns-3 c =
+    let a = word-read _ _ _ refl (c .before .before .before .before .before .before .before .before .before .before .before .before .within .ensures) (c .before .before .before .before .before .before .before .before .before .before .p .given .1) in
+    let b = step-read _ _ _ (a .same) (c .before .before .before .before .before .before .before .before .terminator .ensures) (c .before .before .before .before .before .before .q .given .1) in
+    ending-stop _ _ _ _ (c .no-region3 .ensures) (ending-exits _ _ (a .is) (b .is) (step-refused _ _ _ (b .same) (c .before .before .before .before .counted-words .ensures) (c .before .before .m3 .given .1)))
 
 returns-4 : tie.Need-returns-4
-returns-4 c = ending-whole _ _ _ (item-is (c .before .before .before .before .before .before .before .before .before .before .before .within .ensures) (c .before .before .before .before .before .before .before .before .before .p .given .1)) (step-is (c .before .before .before .before .before .before .before .terminator .ensures) (c .before .before .before .before .before .q .given .1)) (step-is (c .before .before .before .counted-words .ensures) (c .before .e .given .1))
+returns-4 c =
+    let a = word-read _ _ _ refl (c .before .before .before .before .before .before .before .before .before .before .before .before .before .within .ensures) (c .before .before .before .before .before .before .before .before .before .before .before .p .given .1) in
+    let b = step-read _ _ _ (a .same) (c .before .before .before .before .before .before .before .before .before .terminator .ensures) (c .before .before .before .before .before .before .before .q .given .1) in
+    ending-whole _ _ _ a b (step-read _ _ _ (b .same) (c .before .before .before .before .before .counted-words .ensures) (c .before .before .before .e .given .1))
 
 pub ending-spec : {M : Type 1} → statement M
 ending-spec =
     tie.close
     (tie.spec
+    span-requires
     within-requires
     enum-known-m
     no-region-requires
@@ -79,8 +99,8 @@ ending-spec =
     enum-known-m-3
     no-region-requires-3
     enum-known-e
-    cast-t18
-    cast-t19
+    cast-t20
+    cast-t21
     returns
     returns-2
     returns-3

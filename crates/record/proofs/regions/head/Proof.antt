@@ -1,7 +1,8 @@
 -- Each answer is a path through the reader `head`.
-use Rattle.reading.specs.Answers.{item-is, step-is}
-use Rattle.record.specs.SkimRegions.{head-count, head-stop, head-rest}
+use mathlib.Core.Path.{refl}
 use borrow.Author.Needs.{needs}
+use Rattle.reading.specs.AnswerSteps.{word-read, word-refused, step-read, step-refused, refuse-word, give-word}
+use Rattle.record.specs.SkimRegions.{head-count, head-stop, head-rest}
 use Rattle.record.proofs.regions.head.Statement.{statement}
 use Rattle.record.proofs.regions.head.Tie as tie
 
@@ -24,13 +25,18 @@ enum-known-e : tie.Need-enum-known-e
 enum-known-e c = search needs
 
 returns : tie.Need-returns
-returns c = head-count _ (item-is (c .before .before .before .within .ensures) (c .before .m .given .1))
+returns c = refuse-word _ _ _ (head-count _ _ (word-refused _ _ _ refl (c .before .before .before .within .ensures) (c .before .m .given .1)))
 
 returns-2 : tie.Need-returns-2
-returns-2 c = head-stop _ (item-is (c .before .before .before .before .before .before .before .within .ensures) (c .before .before .before .before .before .n .given .1)) (step-is (c .before .before .before .after-count .ensures) (c .before .m2 .given .1))
+returns-2 c =
+    let a = word-read _ _ _ refl (c .before .before .before .before .before .before .before .within .ensures) (c .before .before .before .before .before .n .given .1) in
+    refuse-word _ _ _ (head-stop _ _ (a .is) (step-refused _ _ _ (a .same) (c .before .before .before .after-count .ensures) (c .before .m2 .given .1)))
 
 returns-3 : tie.Need-returns-3
-returns-3 c = head-rest _ (item-is (c .before .before .before .before .before .before .before .within .ensures) (c .before .before .before .before .before .n .given .1)) (step-is (c .before .before .before .after-count .ensures) (c .before .e .given .1))
+returns-3 c =
+    let a = word-read _ _ _ refl (c .before .before .before .before .before .before .before .within .ensures) (c .before .before .before .before .before .n .given .1) in
+    let b = step-read _ _ _ (a .same) (c .before .before .before .after-count .ensures) (c .before .e .given .1) in
+    give-word _ _ _ (b .same) (head-rest _ _ (a .is) (b .is))
 
 pub head-spec : {M : Type 1} → statement M
 head-spec =

@@ -1,0 +1,42 @@
+-- Lists and options: what the definitions use of them beyond the library.
+use mathlib.Core.Bool.{Bool, true, false, _&&_, _||_}
+use mathlib.Core.List.{List, [], _∷_, _++_}
+use mathlib.Core.Option.{Option, none, some}
+use Prim.Native.Nat.{ℕ, suc, _+_}
+use lib.Dec.{eqb}
+use Rattle.meaning.specs.Graph.{pick}
+
+abbrev pub empty : {A : Type 0} → List A → Bool
+empty [] = true
+empty (x ∷ xs) = false
+
+abbrev pub is-some : {A : Type 0} → Option A → Bool
+is-some none = false
+is-some (some a) = true
+
+abbrev pub any : {A : Type 0} → (A → Bool) → List A → Bool
+any p [] = false
+any p (x ∷ xs) = p x || any p xs
+
+abbrev pub all : {A : Type 0} → (A → Bool) → List A → Bool
+all p [] = true
+all p (x ∷ xs) = p x && all p xs
+
+-- The sum of a number for each.
+abbrev pub total : {A : Type 0} → (A → ℕ) → List A → ℕ
+total f [] = 0
+total f (x ∷ xs) = f x + total f xs
+
+abbrev pub concat : {A : Type 0} → List (List A) → List A
+concat [] = []
+concat (x ∷ xs) = x ++ concat xs
+
+-- How often a number stands in a list.
+abbrev pub times-in : ℕ → List ℕ → ℕ
+times-in a [] = 0
+times-in a (x ∷ xs) = pick (eqb a x) 1 0 + times-in a xs
+
+-- The numbers from k on, one for each of a list.
+abbrev pub numbers-from : {A : Type 0} → ℕ → List A → List ℕ
+numbers-from k [] = []
+numbers-from k (x ∷ xs) = k ∷ numbers-from (suc k) xs

@@ -1,0 +1,10 @@
+-- What a computation of nesting opens. The definitions are shut where they are used; a proof that is to compute them says
+-- `unfolding nesting-computes`.
+use Rattle.meaning.specs.Graph.{Graph}
+use Rattle.format.specs.Store.{Answer}
+use Rattle.format.specs.References.{returnTypes}
+use Rattle.nesting.specs.Nesting.{Nested, define-region, define-node, define-merge, define-output, look-up-chain, rewrite, meets, rewrite-values, materialize-lazy-cond, append-maybe-claimed-region, rewrite-cases, case-regions, define-select, emit-inputs, emit, select-if, replace-inputs, structurize-select, visit, incoming-edge-counts, structurize-loop, target-regions, split-out-matching, resolve-deferred, structurize-region, try-claim-edge-bundle, rewrite-nodes, meets-in-nodes, rewrite-piece, meets-in-piece, conclude, structurize-func-by, structurize-func}
+
+unfoldable pub nesting-computes : Graph → Answer Nested
+unfolding returnTypes define-region define-node define-merge define-output look-up-chain rewrite meets rewrite-values materialize-lazy-cond append-maybe-claimed-region rewrite-cases case-regions define-select emit-inputs emit select-if replace-inputs structurize-select visit incoming-edge-counts structurize-loop target-regions split-out-matching resolve-deferred structurize-region try-claim-edge-bundle rewrite-nodes meets-in-nodes rewrite-piece meets-in-piece conclude structurize-func-by structurize-func
+nesting-computes g = structurize-func g

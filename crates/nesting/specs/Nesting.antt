@@ -1,0 +1,937 @@
+-- Nesting, as the Structurizer of src/cfg.rs has it, by its names (document 01, "What it does").
+use mathlib.Core.List.{List, [], _∷_, _++_, map}
+use Prim.Native.Nat.{ℕ, suc, zero, _^_, _+_}
+use mathlib.Core.Bool.{Bool, true, false, _||_, _&&_, not}
+use lib.ListN.{length, getD, set, take, replicate}
+use lib.Dec.{ltb, eqb}
+use mathlib.Core.Option.{Option, none, some}
+use Rattle.meaning.specs.Lists.{any, all, empty, is-some, total, times-in, numbers-from}
+use Rattle.meaning.specs.Graph.{Value, SelectionKind, output, const, input, instr, bool, undef, held, sameValue, pick, bool-cond, number, Instr, Region, Graph, region, edgesOf, targetsOf, Edge, ControlInst, unreachable, return, exit-invocation, branch, select-branch}
+use Rattle.meaning.specs.Runs.{Nodes, ⟨⟩, _▸_, block, select, Cases, ∅, case, loop, exit, OutputDecl, Node}
+use Rattle.format.specs.References.{returnTypes}
+use Rattle.format.specs.Read.{isIn}
+use Rattle.format.specs.Store.{accepted, refused}
+use Rattle.format.specs.Store
+
+-- ---- Deferred edges: what a region could not claim, each with the condition under which it is taken.
+-- A number of edges. It counts edges only and is never an index.
+abbrev pub IncomingEdgeCount : Type 0
+IncomingEdgeCount = ℕ
+
+infixr 30 _&_
+mutual
+  -- The Rust's LazyCond. `merge` has the select's node, kind and scrutinee, and the condition in each case.
+  pub data LazyCond : Type 0 where
+    undef-cond false-cond true-cond : LazyCond
+    merge : ℕ → SelectionKind → Value → LazyConds → LazyCond
+
+  pub data LazyConds : Type 0 where
+    no-conds : LazyConds
+    _&_ : LazyCond → LazyConds → LazyConds
+
+pub data DeferredTarget : Type 0 where
+  to-region : ℕ → DeferredTarget
+  to-return : DeferredTarget
+
+pub record DeferredEdgeBundle : Type 0 where
+  pub target : DeferredTarget
+  pub accumulated-count : IncomingEdgeCount
+  pub target-inputs : List Value
+  pub condition : LazyCond
+
+abbrev pub edge-bundle : DeferredTarget → IncomingEdgeCount → List Value → LazyCond → DeferredEdgeBundle
+edge-bundle x n vs c = record { target = x; accumulated-count = n; target-inputs = vs; condition = c }
+
+-- In the order of the Rust's map. None is Unreachable, one is Always (its condition is dropped), more are a Choice.
+abbrev pub DeferredEdgeBundleSet : Type 0
+DeferredEdgeBundleSet = List DeferredEdgeBundle
+
+-- ---- The state of nesting, the Rust's Structurizer, and the steps that change it or refuse.
+-- Its tables only gain at their end, and the children of a region never change: what was true of them stays true.
+-- `not-begun` is the Rust's region that nothing has observed yet.
+pub data StructurizeRegionState : Type 0 where
+  not-begun in-progress claimed : StructurizeRegionState
+  ready : IncomingEdgeCount → Nodes → DeferredEdgeBundleSet → StructurizeRegionState  -- back edge count, children, deferred edges
+
+-- The Rust's Result<u32, Value> of a loop header's input.
+pub data InputRewrite : Type 0 where
+  renumber-to : ℕ → InputRewrite  -- the body keeps it, under this number
+  replace-by : Value → InputRewrite  -- it is the same in every turn: what it is outside of the loop
+
+pub data RegionInputRewrites : Type 0 where
+  replace-with : List Value → RegionInputRewrites
+  renumber-or-replace-with : List InputRewrite → RegionInputRewrites
+
+-- One entry of the Rust's region_input_rewrites.
+pub record RewriteEntry : Type 0 where
+  pub region : ℕ
+  pub rewrites : RegionInputRewrites
+
+-- An output of a select node: its type, and its value in each case. Its place in the table is its number.
+pub record NodeOutput : Type 0 where
+  pub node : ℕ
+  pub type : ℕ
+  pub values : List Value
+
+-- The three counts are totals of all that was ever defined, given regions and blocks included.
+pub record NestState : Type 0 where
+  pub region-states : List StructurizeRegionState
+  pub region-input-rewrites : List RewriteEntry
+  pub node-outputs : List NodeOutput
+  pub region-count : ℕ
+  pub node-count : ℕ
+  pub merge-count : ℕ
+  pub attempts : ℕ
+  pub twice : Bool
+
+-- What a step answers: a value and the next state, or a refusal with document 01's number and word.
+pub data Answer (A : Type 0) : Type 0 where
+  done : A → NestState → Answer A
+  turned-away : ℕ → ℕ → Answer A
+
+abbrev pub Step : Type 0 → Type 0
+Step A = NestState → Answer A
+
+abbrev pub give : {A : Type 0} → A → Step A
+give a s = done a s
+
+abbrev pub turn-away : {A : Type 0} → ℕ → ℕ → Step A
+turn-away refusal word s = turned-away refusal word
+
+abbrev pub follow : {A B : Type 0} → Answer A → (A → Step B) → Answer B
+follow (done a s) k = k a s
+follow (turned-away refusal word) k = turned-away refusal word
+
+infixl 20 _>>=_ _>>_
+abbrev pub _>>=_ : {A B : Type 0} → Step A → (A → Step B) → Step B
+_>>=_ x k s = follow (x s) k
+
+abbrev pub _>>_ : {A B : Type 0} → Step A → Step B → Step B
+_>>_ x y s = follow (x s) (λ a. y)
+
+-- ---- Changes of the state: one field each, and the definitions that a limit stops (refusal 9).
+-- A state by its fields, in their order.
+abbrev pub nest-state : List StructurizeRegionState → List RewriteEntry → List NodeOutput → ℕ → ℕ → ℕ → ℕ → Bool → NestState
+nest-state states rewrites outputs regions nodes merges tries met =
+    record { region-states = states; region-input-rewrites = rewrites; node-outputs = outputs; region-count = regions; node-count = nodes; merge-count = merges; attempts = tries; twice = met }
+
+abbrev pub with-region-states : List StructurizeRegionState → NestState → NestState
+with-region-states x s = nest-state x (s .region-input-rewrites) (s .node-outputs) (s .region-count) (s .node-count) (s .merge-count) (s .attempts) (s .twice)
+
+abbrev pub with-rewrites : List RewriteEntry → NestState → NestState
+with-rewrites x s = nest-state (s .region-states) x (s .node-outputs) (s .region-count) (s .node-count) (s .merge-count) (s .attempts) (s .twice)
+
+abbrev pub with-node-outputs : List NodeOutput → NestState → NestState
+with-node-outputs x s = nest-state (s .region-states) (s .region-input-rewrites) x (s .region-count) (s .node-count) (s .merge-count) (s .attempts) (s .twice)
+
+abbrev pub with-region : NestState → NestState
+with-region s = nest-state (s .region-states) (s .region-input-rewrites) (s .node-outputs) (suc (s .region-count)) (s .node-count) (s .merge-count) (s .attempts) (s .twice)
+
+abbrev pub with-node : NestState → NestState
+with-node s = nest-state (s .region-states) (s .region-input-rewrites) (s .node-outputs) (s .region-count) (suc (s .node-count)) (s .merge-count) (s .attempts) (s .twice)
+
+abbrev pub with-merge : NestState → NestState
+with-merge s = nest-state (s .region-states) (s .region-input-rewrites) (s .node-outputs) (s .region-count) (s .node-count) (suc (s .merge-count)) (s .attempts) (s .twice)
+
+abbrev pub with-attempt : NestState → NestState
+with-attempt s = nest-state (s .region-states) (s .region-input-rewrites) (s .node-outputs) (s .region-count) (s .node-count) (s .merge-count) (suc (s .attempts)) (s .twice)
+
+abbrev pub with-twice : Bool → NestState → NestState
+with-twice x s = nest-state (s .region-states) (s .region-input-rewrites) (s .node-outputs) (s .region-count) (s .node-count) (s .merge-count) (s .attempts) (s .twice || x)
+
+-- Definitions, each with its limit: the first beyond is refused.
+unfoldable pub define-region : Step ℕ
+define-region s = elim (ltb (s .region-count) 128) [ true ↦ done (s .region-count) (with-region s) | false ↦ turned-away 9 0 ]
+
+unfoldable pub define-node : Step ℕ
+define-node s = elim (ltb (s .node-count) 512) [ true ↦ done (s .node-count) (with-node s) | false ↦ turned-away 9 0 ]
+
+-- A lazy condition record, the Rust's LazyCondMerge.
+unfoldable pub define-merge : Step Unit
+define-merge s = elim (ltb (s .merge-count) 512) [ true ↦ done tt (with-merge s) | false ↦ turned-away 9 0 ]
+
+-- An output of a node, of this type, with its value in each case.
+unfoldable pub define-output : ℕ → ℕ → List Value → Step Value
+define-output n type vs s =
+    let more = s .node-outputs ++ (record { node = n; type = type; values = vs } ∷ []) in
+    elim (ltb (length (s .node-outputs)) 512) [ true ↦ done (output (length (s .node-outputs))) (with-node-outputs more s) | false ↦ turned-away 9 0 ]
+
+abbrev pub get-state : ℕ → Step StructurizeRegionState
+get-state r s = done (getD (s .region-states) r not-begun) s
+
+abbrev pub set-state : ℕ → StructurizeRegionState → Step Unit
+set-state r x s = done tt (with-region-states (set (s .region-states) r x) s)
+
+-- Document 01's attempt: one call of try-claim-edge-bundle.
+abbrev pub count-attempt : Step Unit
+count-attempt s = done tt (with-attempt s)
+
+abbrev pub insert-rewrites : ℕ → RegionInputRewrites → Step Unit
+insert-rewrites r x s = done tt (with-rewrites (s .region-input-rewrites ++ (record { region = r; rewrites = x } ∷ [])) s)
+
+-- ---- Look-ups, the Rust's RegionInputRewrites::rewrite_all, with document 01's mark; and the note `twice`.
+abbrev pub rewrites-of : List RewriteEntry → ℕ → Option RegionInputRewrites
+rewrites-of [] r = none
+rewrites-of (e ∷ es) r = pick (eqb r (e .region)) (some (e .rewrites)) (rewrites-of es r)
+
+-- More than the longest chain: no chain passes a region twice.
+abbrev pub chain-fuel : List RewriteEntry → ℕ
+chain-fuel es = 2 ^ length es
+
+-- What a look-up answers: a value, and document 01's "twice", whether it met a marked value whose second look-up would change it.
+pub record LookUp : Type 0 where
+  pub value : Value
+  pub twice : Bool
+
+abbrev pub found : Value → LookUp
+found v = record { value = v; twice = false }
+
+-- Input k of region r, by the entry of r; `go` follows a replaced one on. A renumbered one is marked.
+abbrev pub look-up-slot : (Value → LookUp) → ℕ → InputRewrite → LookUp
+look-up-slot go r (replace-by v) = go v
+look-up-slot go r (renumber-to i) = found (held r i)
+
+abbrev pub look-up-input : (Value → LookUp) → ℕ → ℕ → Option RegionInputRewrites → LookUp
+look-up-input go r k none = found (input r k)
+look-up-input go r k (some (replace-with vs)) = go (getD vs k (undef 0))
+look-up-input go r k (some (renumber-or-replace-with xs)) = look-up-slot go r (getD xs k (renumber-to k))
+
+-- Whether the entry of a marked value's region would change it again: it does not renumber k to k.
+abbrev pub changes-again : ℕ → Option RegionInputRewrites → Bool
+changes-again k none = false
+changes-again k (some (replace-with vs)) = true
+changes-again k (some (renumber-or-replace-with xs)) =
+    elim (getD xs k (renumber-to k)) [ replace-by v ↦ true | renumber-to i ↦ not (eqb i k) ]
+
+-- An input is looked up until its region has no entry, or it is marked; a marked one stays.
+unfoldable pub look-up-chain : ℕ → List RewriteEntry → Value → LookUp
+look-up-chain zero es v = found v
+look-up-chain (suc fuel) es (input r k) = look-up-input (λ v. look-up-chain fuel es v) r k (rewrites-of es r)
+look-up-chain (suc fuel) es (held r k) = record { value = held r k; twice = changes-again k (rewrites-of es r) }
+look-up-chain (suc fuel) es (const i) = found (const i)
+look-up-chain (suc fuel) es (instr r k) = found (instr r k)
+look-up-chain (suc fuel) es (output o) = found (output o)
+look-up-chain (suc fuel) es (bool b) = found (bool b)
+look-up-chain (suc fuel) es (undef ty) = found (undef ty)
+
+unfoldable pub rewrite : List RewriteEntry → Value → Value
+rewrite es v = look-up-chain (chain-fuel es) es v .value
+
+unfoldable pub meets : List RewriteEntry → Value → Bool
+meets es v = look-up-chain (chain-fuel es) es v .twice
+
+-- A look-up changes no table.
+unfoldable pub rewrite-values : List Value → Step (List Value)
+rewrite-values vs s = done (map (rewrite (s .region-input-rewrites)) vs) (with-twice (any (meets (s .region-input-rewrites)) vs) s)
+
+-- ---- Lazy conditions made real: the Rust's materialize_lazy_cond.
+abbrev pub same-values : List Value → List Value → Bool
+same-values [] [] = true
+same-values [] (w ∷ ws) = false
+same-values (v ∷ vs) [] = false
+same-values (v ∷ vs) (w ∷ ws) = sameValue v w && same-values vs ws
+
+abbrev pub is-bool-cond : SelectionKind → Bool
+is-bool-cond bool-cond = true
+is-bool-cond number = false
+
+-- A boolean [true, false] is the scrutinee itself; anything else is a new output of the select, of type boolean.
+unfoldable mutual
+  pub materialize-lazy-cond : LazyCond → Step Value
+  materialize-lazy-cond true-cond = give (bool true)
+  materialize-lazy-cond false-cond = give (bool false)
+  materialize-lazy-cond undef-cond = give (undef 1)
+  materialize-lazy-cond (merge n kind v cs) = do
+    vs ← materialize-lazy-conds cs
+    pick (is-bool-cond kind && same-values vs (bool true ∷ bool false ∷ [])) (give v) (define-output n 1 vs)
+
+  pub materialize-lazy-conds : LazyConds → Step (List Value)
+  materialize-lazy-conds no-conds = give []
+  materialize-lazy-conds (c & cs) = materialize-lazy-cond c >>= λ v. materialize-lazy-conds cs >>= λ vs. give (v ∷ vs)
+
+-- ---- Sets of deferred edge bundles: find by target, and split one out.
+abbrev pub same-target : DeferredTarget → DeferredTarget → Bool
+same-target (to-region a) (to-region b) = eqb a b
+same-target (to-region a) to-return = false
+same-target to-return (to-region b) = false
+same-target to-return to-return = true
+
+-- The Rust's Always: a set of one, whose condition is dropped.
+abbrev pub is-always : DeferredEdgeBundleSet → Bool
+is-always d = eqb (length d) 1
+
+abbrev pub condition-in : DeferredEdgeBundleSet → DeferredEdgeBundle → LazyCond
+condition-in d e = pick (is-always d) true-cond (e .condition)
+
+abbrev pub get-by-target : DeferredTarget → DeferredEdgeBundleSet → Option DeferredEdgeBundle
+get-by-target x [] = none
+get-by-target x (e ∷ es) = pick (same-target x (e .target)) (some e) (get-by-target x es)
+
+abbrev pub count-to : ℕ → DeferredEdgeBundleSet → IncomingEdgeCount
+count-to r d = elim (get-by-target (to-region r) d) [ none ↦ 0 | some e ↦ e .accumulated-count ]
+
+-- What is left once a target is split out: by swap, the last bundle takes the gap.
+abbrev pub last-or : DeferredEdgeBundle → DeferredEdgeBundleSet → DeferredEdgeBundle
+last-or e [] = e
+last-or e (x ∷ xs) = last-or x xs
+
+abbrev pub drop-last : DeferredEdgeBundleSet → DeferredEdgeBundleSet
+drop-last [] = []
+drop-last (x ∷ []) = []
+drop-last (x ∷ y ∷ ys) = x ∷ drop-last (y ∷ ys)
+
+abbrev pub fill-gap : DeferredEdgeBundleSet → DeferredEdgeBundleSet
+fill-gap [] = []
+fill-gap (x ∷ xs) = last-or x xs ∷ drop-last (x ∷ xs)
+
+abbrev pub split-out-target : DeferredTarget → DeferredEdgeBundleSet → DeferredEdgeBundleSet
+split-out-target x [] = []
+split-out-target x (e ∷ es) = pick (same-target x (e .target)) (fill-gap es) (e ∷ split-out-target x es)
+
+-- ---- Claimed regions, and how one that stands alone is appended to its parent.
+-- `origin` is the region of the graph that was claimed; `structured-body` is the same, or the wrapper of its loop.
+pub record ClaimedRegion : Type 0 where
+  pub origin : ℕ
+  pub structured-body : ℕ
+  pub structured-body-inputs : List Value
+  pub children : Nodes
+  pub deferred-edges : DeferredEdgeBundleSet
+
+abbrev pub claimed-as : ℕ → ℕ → List Value → Nodes → DeferredEdgeBundleSet → ClaimedRegion
+claimed-as r body vs ks d = record { origin = r; structured-body = body; structured-body-inputs = vs; children = ks; deferred-edges = d }
+
+-- The Rust's Result<ClaimedRegion, DeferredEdgeBundleSet>: a case of a select, or the target of a branch.
+pub data MaybeClaimedRegion : Type 0 where
+  ok : ClaimedRegion → MaybeClaimedRegion
+  err : DeferredEdgeBundleSet → MaybeClaimedRegion
+
+-- The Rust's Result<Value, &LazyCond>.
+pub data Scrutinee : Type 0 where
+  value : Value → Scrutinee
+  lazy : LazyCond → Scrutinee
+
+-- A region under way: its children so far, and the edges that they defer.
+pub record Body : Type 0 where
+  pub children : Nodes
+  pub deferred-edges : DeferredEdgeBundleSet
+
+abbrev pub region-body : Nodes → DeferredEdgeBundleSet → Body
+region-body ks d = record { children = ks; deferred-edges = d }
+
+abbrev pub deferred-of : MaybeClaimedRegion → DeferredEdgeBundleSet
+deferred-of (ok c) = c .deferred-edges
+deferred-of (err d) = d
+
+abbrev pub join : Nodes → Nodes → Nodes
+join ⟨⟩ b = b
+join (n ▸ a) b = n ▸ join a b
+
+abbrev pub has-children : Nodes → Bool
+has-children ⟨⟩ = false
+has-children (n ▸ ns) = true
+
+unfoldable pub append-maybe-claimed-region : Nodes → MaybeClaimedRegion → Step Body
+append-maybe-claimed-region parent (err d) = give (region-body parent d)
+append-maybe-claimed-region parent (ok c) =
+    insert-rewrites (c .structured-body) (replace-with (c .structured-body-inputs)) >> give (region-body (join parent (c .children)) (c .deferred-edges))
+
+-- The convergent cases, those not Unreachable: none, exactly one (beside the cases with it taken out), or several.
+pub data Convergent : Type 0 where
+  no-one several : Convergent
+  exactly-one : MaybeClaimedRegion → List MaybeClaimedRegion → Convergent
+
+abbrev pub with-convergent : MaybeClaimedRegion → List MaybeClaimedRegion → Convergent → Convergent
+with-convergent c cs no-one = exactly-one c (err [] ∷ cs)
+with-convergent c cs (exactly-one x xs) = several
+with-convergent c cs several = several
+
+abbrev pub with-unreachable : MaybeClaimedRegion → Convergent → Convergent
+with-unreachable c no-one = no-one
+with-unreachable c (exactly-one x xs) = exactly-one x (c ∷ xs)
+with-unreachable c several = several
+
+abbrev pub convergent-cases : List MaybeClaimedRegion → Convergent
+convergent-cases [] = no-one
+convergent-cases (c ∷ cs) =
+    pick (empty (deferred-of c)) (with-unreachable c (convergent-cases cs)) (with-convergent c cs (convergent-cases cs))
+
+-- ---- A region's blocks as nodes.
+-- Nodes are numbered blocks first, in region order.
+abbrev pub block-count : List Region → ℕ
+block-count rs = total (λ r. length (r .blocks)) rs
+
+abbrev pub blocks-from : ℕ → ℕ → ℕ → List (List Instr) → Nodes  -- first node, region, first instruction
+blocks-from n r k [] = ⟨⟩
+blocks-from n r k (b ∷ bs) = block n r k b ▸ blocks-from (suc n) r (k + length b) bs
+
+abbrev pub blocks-of : Graph → ℕ → Nodes
+blocks-of g r = blocks-from (block-count (take r (g .regions))) r 0 (region g r .blocks)
+
+-- ---- What a select is to hand on, worked out from its cases before anything is defined.
+-- Each deferred target's inputs are either one value for all cases, or a new output of the select.
+-- The full set of deferred targets, in order of first standing.
+pub record DeferredTargetSummary : Type 0 where
+  pub target : DeferredTarget
+  pub input-count : ℕ
+  pub total-edge-count : IncomingEdgeCount
+
+abbrev pub summarize-bundle : DeferredEdgeBundle → List DeferredTargetSummary → List DeferredTargetSummary
+summarize-bundle e [] = record { target = e .target; input-count = length (e .target-inputs); total-edge-count = e .accumulated-count } ∷ []
+summarize-bundle e (w ∷ ws) =
+    pick (same-target (e .target) (w .target))
+    (record { target = w .target; input-count = w .input-count; total-edge-count = w .total-edge-count + e .accumulated-count } ∷ ws)
+    (w ∷ summarize-bundle e ws)
+
+abbrev pub summarize-set : DeferredEdgeBundleSet → List DeferredTargetSummary → List DeferredTargetSummary
+summarize-set [] ws = ws
+summarize-set (e ∷ es) ws = summarize-set es (summarize-bundle e ws)
+
+abbrev pub deferred-targets : List MaybeClaimedRegion → List DeferredTargetSummary → List DeferredTargetSummary
+deferred-targets [] ws = ws
+deferred-targets (c ∷ cs) ws = deferred-targets cs (summarize-set (deferred-of c) ws)
+
+-- What one case passes to a target, and under which condition: Undef if the case ends, False if it goes elsewhere.
+pub record PerCaseDeferred : Type 0 where
+  pub inputs : Option (List Value)
+  pub condition : LazyCond
+
+abbrev pub per-case-of : DeferredEdgeBundleSet → Option DeferredEdgeBundle → PerCaseDeferred
+per-case-of d none = record { inputs = none; condition = false-cond }
+per-case-of d (some e) = record { inputs = some (e .target-inputs); condition = condition-in d e }
+
+abbrev pub per-case-deferred : DeferredTarget → DeferredEdgeBundleSet → PerCaseDeferred
+per-case-deferred x [] = record { inputs = none; condition = undef-cond }
+per-case-deferred x (e ∷ es) = per-case-of (e ∷ es) (get-by-target x (e ∷ es))
+
+-- A case's value as one that is valid in the select's parent, if it can be.
+abbrev pub own-input : ClaimedRegion → ℕ → ℕ → Option Value
+own-input c r k = pick (eqb r (c .structured-body)) (some (getD (c .structured-body-inputs) k (undef 0))) none
+
+abbrev pub in-parent : MaybeClaimedRegion → Value → Option Value
+in-parent (err d) v = some v
+in-parent (ok c) (const i) = some (const i)
+in-parent (ok c) (bool b) = some (bool b)
+in-parent (ok c) (undef ty) = some (undef ty)
+in-parent (ok c) (input r k) = own-input c r k
+in-parent (ok c) (held r k) = none
+in-parent (ok c) (instr r k) = none
+in-parent (ok c) (output o) = none
+
+-- The Rust's unique_target_input_value: the same value in all cases that reach the target.
+pub data UniqueInput : Type 0 where
+  no-value : UniqueInput
+  unique : Value → UniqueInput
+  differing : UniqueInput
+
+abbrev pub with-value : Option Value → UniqueInput → UniqueInput
+with-value none u = differing
+with-value (some v) no-value = unique v
+with-value (some v) (unique w) = pick (sameValue v w) (unique w) differing
+with-value (some v) differing = differing
+
+abbrev pub with-case : ℕ → MaybeClaimedRegion → Option (List Value) → UniqueInput → UniqueInput
+with-case k c none u = u
+with-case k c (some vs) u = with-value (in-parent c (getD vs k (undef 0))) u
+
+abbrev pub unique-input : ℕ → List MaybeClaimedRegion → List PerCaseDeferred → UniqueInput
+unique-input k [] ps = no-value
+unique-input k (c ∷ cs) [] = no-value
+unique-input k (c ∷ cs) (p ∷ ps) = with-case k c (p .inputs) (unique-input k cs ps)
+
+-- An input of a deferred target: shared by all cases, or merged, an output of this type with a value for each case.
+pub data PlannedInput : Type 0 where
+  shared : Value → PlannedInput
+  merged : ℕ → List Value → PlannedInput
+
+-- A deferred edge to be; `condition` is none if True, else the condition in each case.
+pub record PlannedBundle : Type 0 where
+  pub target : DeferredTarget
+  pub total-edge-count : IncomingEdgeCount
+  pub inputs : List PlannedInput
+  pub condition : Option LazyConds
+
+abbrev pub value-in-case : ℕ → ℕ → PerCaseDeferred → Value
+value-in-case k ty p = elim (p .inputs) [ none ↦ undef ty | some vs ↦ getD vs k (undef 0) ]
+
+abbrev pub plan-input : ℕ → ℕ → List PerCaseDeferred → UniqueInput → PlannedInput
+plan-input k ty ps no-value = merged ty (map (value-in-case k ty) ps)
+plan-input k ty ps (unique v) = shared v
+plan-input k ty ps differing = merged ty (map (value-in-case k ty) ps)
+
+-- Document 01: a condition is True when every case is True or Undef.
+abbrev pub is-true-or-undef : LazyCond → Bool
+is-true-or-undef c = elim c [ true-cond ↦ true | undef-cond ↦ true | false-cond ↦ false | merge n k v cs ↦ false ]
+
+abbrev pub all-true : List PerCaseDeferred → Bool
+all-true ps = all (λ p. is-true-or-undef (p .condition)) ps
+
+abbrev pub conditions-of : List PerCaseDeferred → LazyConds
+conditions-of [] = no-conds
+conditions-of (p ∷ ps) = p .condition & conditions-of ps
+
+module _ (g : Graph) where
+  abbrev pub target-type : DeferredTarget → ℕ → ℕ  -- the type of input k of a target; all Return regions agree in types
+  target-type (to-region r) k = getD (region g r .inputs) k 0
+  target-type to-return k = getD (returnTypes g) k 0
+
+  abbrev pub plan-inputs : ℕ → ℕ → DeferredTarget → List MaybeClaimedRegion → List PerCaseDeferred → List PlannedInput  -- how many inputs are left, which comes next
+  plan-inputs zero k x cs ps = []
+  plan-inputs (suc n) k x cs ps = plan-input k (target-type x k) ps (unique-input k cs ps) ∷ plan-inputs n (suc k) x cs ps
+
+  abbrev pub plan-bundle : List MaybeClaimedRegion → DeferredTargetSummary → PlannedBundle
+  plan-bundle cs w =
+      let ps = map (λ c. per-case-deferred (w .target) (deferred-of c)) cs in
+      let inputs = plan-inputs (w .input-count) 0 (w .target) cs ps in
+      record { target = w .target; total-edge-count = w .total-edge-count; inputs = inputs; condition = pick (all-true ps) none (some (conditions-of ps)) }
+
+  abbrev pub plan-bundles : List MaybeClaimedRegion → List PlannedBundle
+  plan-bundles cs = map (plan-bundle cs) (deferred-targets cs [])
+
+-- Whether the select has to be defined: for a merged input, for a condition, or for a case's children.
+abbrev pub is-merged : PlannedInput → Bool
+is-merged (shared v) = false
+is-merged (merged ty vs) = true
+
+abbrev pub any-needs-select : List PlannedBundle → Bool
+any-needs-select ps = any (λ p. any is-merged (p .inputs) || is-some (p .condition)) ps
+
+abbrev pub any-non-empty-case : List MaybeClaimedRegion → Bool
+any-non-empty-case cs = any (λ c. elim c [ err d ↦ false | ok x ↦ has-children (x .children) ]) cs
+
+-- ---- The Rust's structurize_select_into: plan, define the select if it is needed, emit what it defers, replace inputs.
+-- The values of the cases, each looked up.
+abbrev pub rewrite-bundle : (Value → Value) → DeferredEdgeBundle → DeferredEdgeBundle
+rewrite-bundle ρ e = edge-bundle (e .target) (e .accumulated-count) (map ρ (e .target-inputs)) (e .condition)
+
+abbrev pub rewrite-claimed : (Value → Value) → ClaimedRegion → ClaimedRegion
+rewrite-claimed ρ c =
+    claimed-as (c .origin) (c .structured-body) (map ρ (c .structured-body-inputs)) (c .children) (map (rewrite-bundle ρ) (c .deferred-edges))
+
+abbrev pub rewrite-case : (Value → Value) → MaybeClaimedRegion → MaybeClaimedRegion
+rewrite-case ρ (err d) = err (map (rewrite-bundle ρ) d)
+rewrite-case ρ (ok c) = ok (rewrite-claimed ρ c)
+
+abbrev pub meets-in-set : (Value → Bool) → DeferredEdgeBundleSet → Bool
+meets-in-set p d = any (λ e. any p (e .target-inputs)) d
+
+abbrev pub meets-in-case : (Value → Bool) → MaybeClaimedRegion → Bool
+meets-in-case p (err d) = meets-in-set p d
+meets-in-case p (ok c) = any p (c .structured-body-inputs) || meets-in-set p (c .deferred-edges)
+
+unfoldable pub rewrite-cases : List MaybeClaimedRegion → Step (List MaybeClaimedRegion)
+rewrite-cases cs s =
+    done (map (rewrite-case (rewrite (s .region-input-rewrites))) cs) (with-twice (any (meets-in-case (meets (s .region-input-rewrites))) cs) s)
+
+-- The select's cases: a claimed region with its children, or a new region. Outputs are added by the last rewriting.
+unfoldable pub case-regions : List MaybeClaimedRegion → Step Cases
+case-regions [] = give ∅
+case-regions (err d ∷ cs) = define-region >>= λ r. case-regions cs >>= λ rest. give (case r ⟨⟩ [] rest)
+case-regions (ok c ∷ cs) = case-regions cs >>= λ rest. give (case (c .structured-body) (c .children) [] rest)
+
+abbrev pub scrutinee-value : Scrutinee → Step Value
+scrutinee-value (value v) = give v
+scrutinee-value (lazy c) = materialize-lazy-cond c
+
+pub record DefinedSelect : Type 0 where
+  pub node : ℕ
+  pub kind : SelectionKind
+  pub scrutinee : Value
+  pub children : Nodes
+
+-- Document 01's order of definitions: new case regions, what the scrutinee adds, the node.
+unfoldable pub define-select : SelectionKind → Scrutinee → List MaybeClaimedRegion → Step DefinedSelect
+define-select kind scrutinee cases = do
+  cs ← case-regions cases
+  v ← scrutinee-value scrutinee
+  n ← define-node
+  give (record { node = n; kind = kind; scrutinee = v; children = select n kind v [] cs ▸ ⟨⟩ })
+
+-- Outputs and conditions of the select, in the order of its deferred targets.
+unfoldable pub emit-inputs : DefinedSelect → List PlannedInput → Step (List Value)
+emit-inputs n [] = give []
+emit-inputs n (shared v ∷ is) = emit-inputs n is >>= λ vs. give (v ∷ vs)
+emit-inputs n (merged ty vs ∷ is) = define-output (n .node) ty vs >>= λ w. emit-inputs n is >>= λ ws. give (w ∷ ws)
+
+abbrev pub emit-condition : DefinedSelect → Option LazyConds → Step LazyCond
+emit-condition n none = give true-cond
+emit-condition n (some cs) = define-merge >> give (merge (n .node) (n .kind) (n .scrutinee) cs)
+
+unfoldable pub emit : DefinedSelect → List PlannedBundle → Step DeferredEdgeBundleSet
+emit n [] = give []
+emit n (p ∷ ps) = do
+  ins ← emit-inputs n (p .inputs)
+  c ← emit-condition n (p .condition)
+  rest ← emit n ps
+  give (edge-bundle (p .target) (p .total-edge-count) ins c ∷ rest)
+
+-- Where no select is needed every input is shared, and every condition true.
+abbrev pub shared-value : PlannedInput → Value
+shared-value (shared v) = v
+shared-value (merged ty vs) = undef 0
+
+abbrev pub shared-bundle : PlannedBundle → DeferredEdgeBundle
+shared-bundle p = edge-bundle (p .target) (p .total-edge-count) (map shared-value (p .inputs)) true-cond
+
+unfoldable pub select-if : Bool → SelectionKind → Scrutinee → List MaybeClaimedRegion → List PlannedBundle → Step Body
+select-if false kind scrutinee cases ps = give (region-body ⟨⟩ (map shared-bundle ps))
+select-if true kind scrutinee cases ps = do
+  n ← define-select kind scrutinee cases
+  d ← emit n ps
+  give (region-body (n .children) d)
+
+-- Only as the very last step the claimed cases' inputs are replaced.
+unfoldable pub replace-inputs : List MaybeClaimedRegion → Step Unit
+replace-inputs [] = give tt
+replace-inputs (err d ∷ cs) = replace-inputs cs
+replace-inputs (ok c ∷ cs) = insert-rewrites (c .structured-body) (replace-with (c .structured-body-inputs)) >> replace-inputs cs
+
+module _ (g : Graph) where
+  unfoldable pub structurize-select : Nodes → SelectionKind → Scrutinee → List MaybeClaimedRegion → Step Body  -- with no convergent case set aside
+  structurize-select parent kind scrutinee cases = do
+    cs ← rewrite-cases cases
+    x ← select-if (any-non-empty-case cases || any-needs-select (plan-bundles g cs)) kind scrutinee cases (plan-bundles g cs)
+    replace-inputs cs
+    give (region-body (join parent (x .children)) (x .deferred-edges))
+
+  -- The sole convergent case goes after the select; its deferred edges come back as they were.
+  abbrev pub structurize-select-by : Nodes → SelectionKind → Scrutinee → List MaybeClaimedRegion → Convergent → Step Body
+  structurize-select-by parent kind scrutinee cases no-one = structurize-select parent kind scrutinee cases
+  structurize-select-by parent kind scrutinee cases several = structurize-select parent kind scrutinee cases
+  structurize-select-by parent kind scrutinee cases (exactly-one c others) =
+      structurize-select parent kind scrutinee others >>= λ x. append-maybe-claimed-region (x .children) c
+
+  abbrev pub structurize-select-into : Nodes → SelectionKind → Scrutinee → List MaybeClaimedRegion → Step Body
+  structurize-select-into parent kind scrutinee cases = structurize-select-by parent kind scrutinee cases (convergent-cases cases)
+
+-- ---- Reachable regions, and document 01's incoming counts.
+abbrev pub edge-count : List Region → ℕ
+edge-count rs = total (λ r. length (edgesOf (r .terminator))) rs
+
+module _ (g : Graph) where
+  -- The Rust's loop_header_to_exit_targets: the record's own lists.
+  abbrev pub exit-targets : ℕ → List ℕ
+  exit-targets r = region g r .exits
+
+  unfoldable pub visit : ℕ → List ℕ → List ℕ → List ℕ  -- fuel, regions to visit, regions visited
+  visit zero todo seen = seen
+  visit (suc fuel) [] seen = seen
+  visit (suc fuel) (r ∷ todo) seen =
+      elim (isIn r seen) [ true ↦ visit fuel todo seen | false ↦ visit fuel (targetsOf g r ++ todo) (r ∷ seen) ]
+
+  -- The regions that the entry reaches, each once. One visit for the entry and one for each edge.
+  abbrev pub reachable : List ℕ
+  reachable = visit (suc (edge-count (g .regions))) (g .entry ∷ []) []
+
+  abbrev pub incoming-from : ℕ → List ℕ → IncomingEdgeCount  -- edges from these regions to region a, and exit lists of theirs that name it
+  incoming-from a rs = total (λ r. times-in a (targetsOf g r) + times-in a (exit-targets r)) rs
+
+  abbrev pub incoming-edge-count : List ℕ → ℕ → IncomingEdgeCount  -- of region a, where these regions are reachable
+  incoming-edge-count live a = pick (eqb a (g .entry)) 1 0 + incoming-from a live
+
+  -- The Rust's incoming_edge_counts_including_loop_exits, worked out once.
+  unfoldable pub incoming-edge-counts : List IncomingEdgeCount
+  incoming-edge-counts = let live = reachable in map (incoming-edge-count live) (numbers-from 0 (g .regions))
+
+-- ---- A claimed region with a back edge to itself becomes a loop in a wrapper region.
+-- The header's inputs taken so far: how each is rewritten, and of those kept the initial inputs, types and body outputs.
+pub record LoopInputs : Type 0 where
+  pub rewrites : List InputRewrite
+  pub initial-inputs : List Value
+  pub types : List ℕ
+  pub outputs : List Value
+
+abbrev pub no-inputs : LoopInputs
+no-inputs = record { rewrites = []; initial-inputs = []; types = []; outputs = [] }
+
+abbrev pub keep-input : ℕ → ℕ → ℕ → Value → LoopInputs → LoopInputs  -- wrapper region, input, its type, the value passed back
+keep-input wrapper k ty v x =
+    let number = renumber-to (length (x .initial-inputs)) in
+    record { rewrites = x .rewrites ++ (number ∷ []); initial-inputs = x .initial-inputs ++ (input wrapper k ∷ []); types = x .types ++ (ty ∷ []); outputs = x .outputs ++ (v ∷ []) }
+
+abbrev pub lift-input : ℕ → ℕ → LoopInputs → LoopInputs
+lift-input wrapper k x =
+    record { rewrites = x .rewrites ++ (replace-by (input wrapper k) ∷ []); initial-inputs = x .initial-inputs; types = x .types; outputs = x .outputs }
+
+-- A claimed loop adds ONE to each deferred target in its exit list, once.
+abbrev pub add-exit-edge : List ℕ → DeferredEdgeBundle → DeferredEdgeBundle
+add-exit-edge xs e =
+    let more : ℕ → IncomingEdgeCount = λ r. pick (isIn r xs) (suc (e .accumulated-count)) (e .accumulated-count) in
+    elim (e .target) [ to-region r ↦ edge-bundle (to-region r) (more r) (e .target-inputs) (e .condition) | to-return ↦ e ]
+
+module _ (g : Graph) where
+  -- An input that is passed back unchanged is lifted out of the loop.
+  abbrev pub take-input : ℕ → ℕ → ℕ → Value → LoopInputs → LoopInputs
+  take-input r wrapper k v x = pick (sameValue v (input r k)) (lift-input wrapper k x) (keep-input wrapper k (getD (region g r .inputs) k 0) v x)
+
+  abbrev pub take-inputs : ℕ → ℕ → ℕ → List Value → LoopInputs → LoopInputs
+  take-inputs r wrapper k [] x = x
+  take-inputs r wrapper k (v ∷ vs) x = take-inputs r wrapper (suc k) vs (take-input r wrapper k v x)
+
+  -- Document 01's order of definitions: wrapper region, look-ups, repeat condition, node.
+  -- body region, its children, the back edge, the repeat condition, the other deferred edges, the inputs from outside
+  unfoldable pub structurize-loop : ℕ → Nodes → DeferredEdgeBundle → LazyCond → DeferredEdgeBundleSet → List Value → Step (Option ClaimedRegion)
+  structurize-loop body children backedge repeat exits inputs = do
+    wrapper ← define-region
+    vs ← rewrite-values (backedge .target-inputs)
+    let x = take-inputs body wrapper 0 vs no-inputs
+    insert-rewrites body (renumber-or-replace-with (x .rewrites))
+    v ← materialize-lazy-cond repeat
+    n ← define-node
+    let looped = loop n (x .initial-inputs) body (x .types) (region g body .limit) children (x .outputs) v ▸ ⟨⟩
+    give (some (claimed-as body wrapper inputs looped (map (add-exit-edge (exit-targets g body)) exits)))
+
+-- ---- The Rust's try_claim_edge_bundle and structurize_region, which call each other.
+-- target, accumulated count, inputs; none is the Rust's Err, the bundle handed back as it was
+abbrev pub Claim : Type 0
+Claim = ℕ → IncomingEdgeCount → List Value → Step (Option ClaimedRegion)
+
+-- What split-out-matching hands out: the bundle, its claimed region, and the others in order.
+pub record SplitOut : Type 0 where
+  pub bundle : DeferredEdgeBundle
+  pub claimed-region : ClaimedRegion
+  pub others : DeferredEdgeBundleSet
+
+-- The back edge is looked for only where the back edge count is not 0.
+abbrev pub backedge-of : ℕ → IncomingEdgeCount → DeferredEdgeBundleSet → Option DeferredEdgeBundle
+backedge-of r zero d = none
+backedge-of r (suc b) d = get-by-target (to-region r) d
+
+abbrev pub defer-edge : Edge → MaybeClaimedRegion
+defer-edge e = err (edge-bundle (to-region (e .target)) 1 (e .inputs) true-cond ∷ [])
+
+-- A failed claim of a Ready region that is Unreachable and childless defers nothing.
+abbrev pub unclaimed-edge : Edge → StructurizeRegionState → MaybeClaimedRegion
+unclaimed-edge e not-begun = defer-edge e
+unclaimed-edge e in-progress = defer-edge e
+unclaimed-edge e claimed = defer-edge e
+unclaimed-edge e (ready b children d) = pick (empty d && not (has-children children)) (err []) (defer-edge e)
+
+abbrev pub edge-case : Edge → Option ClaimedRegion → Step MaybeClaimedRegion
+edge-case e (some c) = give (ok c)
+edge-case e none = get-state (e .target) >>= λ x. give (unclaimed-edge e x)
+
+-- bundle, the others, the rest of the scan
+abbrev pub split-out-or : DeferredEdgeBundle → DeferredEdgeBundleSet → Step (Option SplitOut) → Option ClaimedRegion → Step (Option SplitOut)
+split-out-or e others more none = more
+split-out-or e others more (some c) = give (some (record { bundle = e; claimed-region = c; others = others }))
+
+-- A region is structurized when it is first observed.
+abbrev pub begin : StructurizeRegionState → Step Unit → Step Unit
+begin x go = elim x [ not-begun ↦ go | in-progress ↦ give tt | claimed ↦ give tt | ready b children d ↦ give tt ]
+
+module _ (g : Graph) where
+  abbrev pub claim-body : ℕ → List Value → Nodes → DeferredEdgeBundleSet → Option DeferredEdgeBundle → Step (Option ClaimedRegion)
+  claim-body r inputs children d none = give (some (claimed-as r r inputs children d))
+  claim-body r inputs children d (some e) = structurize-loop g r children e (condition-in d e) (split-out-target (to-region r) d) inputs
+
+  -- target, accumulated count, inputs, its incoming count, its state: refusal 12 where the Rust stops
+  abbrev pub claim-by-state : ℕ → IncomingEdgeCount → List Value → IncomingEdgeCount → StructurizeRegionState → Step (Option ClaimedRegion)
+  claim-by-state r n inputs incoming not-begun = turn-away 0 r
+  claim-by-state r n inputs incoming claimed = turn-away 12 r
+  claim-by-state r n inputs incoming in-progress = elim (eqb incoming n) [ false ↦ give none | true ↦ turn-away 12 r ]
+  claim-by-state r n inputs incoming (ready b children d) =
+      elim (eqb incoming (n + b)) [ false ↦ give none | true ↦ set-state r claimed >> claim-body r inputs children d (backedge-of r b d) ]
+
+  abbrev pub by-control-inst : Nodes → ControlInst → List MaybeClaimedRegion → Step Body
+  by-control-inst parent unreachable cs = give (region-body parent [])
+  by-control-inst parent (return vs) cs = give (region-body parent (edge-bundle to-return 0 vs true-cond ∷ []))
+  by-control-inst parent (exit-invocation op vs) cs = define-node >>= λ n. give (region-body (join parent (exit n op vs ▸ ⟨⟩)) [])
+  by-control-inst parent (branch e) [] = give (region-body parent [])
+  by-control-inst parent (branch e) (c ∷ cs) = append-maybe-claimed-region parent c
+  by-control-inst parent (select-branch kind v es) cs = structurize-select-into g parent kind (value v) cs
+
+  abbrev pub resolve-by : (Body → Step Body) → Body → Option SplitOut → Step Body  -- a turn of the Rust's loop over deferred edges; `go` is what follows
+  resolve-by go x none = give x
+  resolve-by go x (some y) =
+      structurize-select-into g (x .children) bool-cond (lazy (condition-in (x .deferred-edges) (y .bundle))) (ok (y .claimed-region) ∷ err (y .others) ∷ []) >>= go
+
+  -- Structurizing a region, over a way to claim.
+  module _ (claim : Claim) where
+    unfoldable pub target-regions : List Edge → Step (List MaybeClaimedRegion)  -- the Rust's target_regions
+    target-regions [] = give []
+    target-regions (e ∷ es) = do
+      o ← claim (e .target) 1 (e .inputs)
+      c ← edge-case e o
+      cs ← target-regions es
+      give (c ∷ cs)
+
+    -- A scan that stops at the first claim and hands it out. `before`: the bundles already passed.
+    unfoldable pub split-out-matching : DeferredEdgeBundleSet → DeferredEdgeBundleSet → Step (Option SplitOut)
+    split-out-matching before [] = give none
+    split-out-matching before (e ∷ es) =
+        let more = split-out-matching (before ++ (e ∷ [])) es in
+        elim (e .target) [ to-return ↦ more | to-region r ↦ claim r (e .accumulated-count) (e .target-inputs) >>= split-out-or e (before ++ es) more ]
+
+    -- Until no deferred edge can be claimed. Each turn but the last claims a region, so the fuel is enough.
+    unfoldable pub resolve-deferred : ℕ → Body → Step Body
+    resolve-deferred zero x = give x
+    resolve-deferred (suc fuel) x = split-out-matching [] (x .deferred-edges) >>= resolve-by (λ y. resolve-deferred fuel y) x
+
+    unfoldable pub structurize-region : ℕ → Step Unit
+    structurize-region r = do
+      set-state r in-progress
+      cs ← target-regions (edgesOf (region g r .terminator))
+      x ← by-control-inst (blocks-of g r) (region g r .terminator) cs
+      y ← resolve-deferred (length (g .regions)) x
+      set-state r (ready (count-to r (y .deferred-edges)) (y .children) (y .deferred-edges))
+
+  -- `counts` are the incoming counts. What falls is the number of regions not begun; fuel is one more.
+  unfoldable pub try-claim-edge-bundle : List IncomingEdgeCount → ℕ → Claim
+  try-claim-edge-bundle counts zero r n inputs = turn-away 0 r
+  try-claim-edge-bundle counts (suc fuel) r n inputs =
+      count-attempt >> get-state r >>= λ x.
+      begin x (structurize-region (λ r′ n′ inputs′. try-claim-edge-bundle counts fuel r′ n′ inputs′) r)
+      >> get-state r >>= claim-by-state r n inputs (getD counts r 0)
+
+-- ---- The last rewriting: outputs take their places, and every value is looked up once more.
+-- The outputs of a node; the declarations count the table's entries from a number on.
+abbrev pub outputs-of : ℕ → List NodeOutput → List NodeOutput
+outputs-of n [] = []
+outputs-of n (o ∷ os) = pick (eqb n (o .node)) (o ∷ outputs-of n os) (outputs-of n os)
+
+abbrev pub output-decls : ℕ → ℕ → List NodeOutput → List OutputDecl
+output-decls n k [] = []
+output-decls n k (o ∷ os) = pick (eqb n (o .node)) (record { number = k; type = o .type } ∷ output-decls n (suc k) os) (output-decls n (suc k) os)
+
+abbrev pub case-outputs : ℕ → List NodeOutput → List Value  -- the outputs of the case at place j
+case-outputs j os = map (λ o. getD (o .values) j (undef 0)) os
+
+abbrev pub rewrite-reads : (Value → Value) → Instr → Instr
+rewrite-reads ρ i = record { opcode = i .opcode; type = i .type; cost = i .cost; reads = map ρ (i .reads) }
+
+-- ρ is the look-up, os all outputs that were defined.
+module _ (ρ : Value → Value) (os : List NodeOutput) where
+  unfoldable mutual
+    pub rewrite-node : Node → Node
+    rewrite-node (block n r k is) = block n r k (map (rewrite-reads ρ) is)
+    rewrite-node (select n kind v decls cs) = select n kind (ρ v) (output-decls n 0 os) (rewrite-cases-of cs n 0)
+    rewrite-node (loop n initial r types limit body outputs repeat) =
+        loop n (map ρ initial) r types limit (rewrite-nodes body) (map ρ outputs) (ρ repeat)
+    rewrite-node (exit n op vs) = exit n op (map ρ vs)
+
+    pub rewrite-nodes : Nodes → Nodes
+    rewrite-nodes ⟨⟩ = ⟨⟩
+    rewrite-nodes (x ▸ xs) = rewrite-node x ▸ rewrite-nodes xs
+
+    pub rewrite-cases-of : Cases → ℕ → ℕ → Cases  -- node, place of the first of these cases
+    rewrite-cases-of ∅ n j = ∅
+    rewrite-cases-of (case r body outputs cs) n j =
+        case r (rewrite-nodes body) (map ρ (case-outputs j (outputs-of n os))) (rewrite-cases-of cs n (suc j))
+
+-- Whether the last rewriting meets a marked value that a second look-up would change.
+module _ (es : List RewriteEntry) (os : List NodeOutput) where
+  unfoldable mutual
+    pub meets-in-node : Node → Bool
+    meets-in-node (block n r k is) = any (λ i. any (meets es) (i .reads)) is
+    meets-in-node (select n kind v decls cs) = meets es v || meets-in-cases cs n 0
+    meets-in-node (loop n initial r types limit body outputs repeat) =
+        (any (meets es) initial || meets-in-nodes body) || (any (meets es) outputs || meets es repeat)
+    meets-in-node (exit n op vs) = any (meets es) vs
+
+    pub meets-in-nodes : Nodes → Bool
+    meets-in-nodes ⟨⟩ = false
+    meets-in-nodes (x ▸ xs) = meets-in-node x || meets-in-nodes xs
+
+    pub meets-in-cases : Cases → ℕ → ℕ → Bool
+    meets-in-cases ∅ n j = false
+    meets-in-cases (case r body outputs cs) n j =
+        (meets-in-nodes body || any (meets es) (case-outputs j (outputs-of n os))) || meets-in-cases cs n (suc j)
+
+-- ---- What nesting answers: an outcome with the regions that it gives, or a refusal.
+-- Document 01's four outcomes, in its order.
+pub data Outcome : Type 0 where
+  untouched whole closed leftover : Outcome
+
+-- A region of the answer. `inputs` are types. Rewritten, a deferred set of one has the condition true.
+pub record Piece : Type 0 where
+  pub region : ℕ
+  pub inputs : List ℕ
+  pub children : Nodes
+  pub outputs : List Value
+  pub deferred : DeferredEdgeBundleSet
+
+-- `entry` has outputs if whole, deferred edges if leftover, no children if untouched; `unclaimed` are the unclaimed Ready regions of a
+-- leftover, ascending; `output-nodes` gives the node of `output o` at place o.
+pub record Nested : Type 0 where
+  pub outcome : Outcome
+  pub attempts : ℕ
+  pub twice : Bool
+  pub entry : Piece
+  pub unclaimed : List Piece
+  pub output-nodes : List ℕ
+
+-- ---- The Rust's structurize_func: the entry is claimed, and what comes of it is the answer.
+abbrev pub initial-state : Graph → NestState
+initial-state g = nest-state (replicate (length (g .regions)) not-begun) [] [] (length (g .regions)) (block-count (g .regions)) 0 0 false
+
+-- Whole if the deferred set is Always Return, closed if it is Unreachable.
+abbrev pub outcome-by : DeferredTarget → DeferredEdgeBundleSet → Outcome
+outcome-by x others = elim x [ to-region r ↦ leftover | to-return ↦ pick (empty others) whole leftover ]
+
+abbrev pub outcome-of : DeferredEdgeBundleSet → Outcome
+outcome-of [] = closed
+outcome-of (e ∷ es) = outcome-by (e .target) es
+
+-- The inputs of the one deferred edge to Return.
+abbrev pub returned-values : DeferredEdgeBundleSet → List Value
+returned-values [] = []
+returned-values (e ∷ d) = e .target-inputs
+
+-- A deferred edge as it is given: the condition of a set of one is dropped.
+abbrev pub given-bundle : (Value → Value) → DeferredEdgeBundleSet → DeferredEdgeBundle → DeferredEdgeBundle
+given-bundle ρ d e = edge-bundle (e .target) (e .accumulated-count) (map ρ (e .target-inputs)) (condition-in d e)
+
+module _ (g : Graph) where
+  abbrev pub piece : ℕ → Nodes → List Value → DeferredEdgeBundleSet → Piece  -- region, children, outputs, deferred edges
+  piece r children outputs d = record { region = r; inputs = region g r .inputs; children = children; outputs = outputs; deferred = d }
+
+  -- The Ready regions that no one claimed, ascending.
+  abbrev pub unclaimed-from : ℕ → List StructurizeRegionState → List Piece
+  unclaimed-from r [] = []
+  unclaimed-from r (ready b children d ∷ xs) = piece r children [] d ∷ unclaimed-from (suc r) xs
+  unclaimed-from r (not-begun ∷ xs) = unclaimed-from (suc r) xs
+  unclaimed-from r (in-progress ∷ xs) = unclaimed-from (suc r) xs
+  unclaimed-from r (claimed ∷ xs) = unclaimed-from (suc r) xs
+
+-- The last rewriting of a piece, and whether it meets what counts for twice; `es` and `os` are the tables at the end.
+module _ (es : List RewriteEntry) (os : List NodeOutput) where
+  unfoldable pub rewrite-piece : Piece → Piece
+  rewrite-piece p =
+      let ρ = rewrite es in
+      let given = map (given-bundle ρ (p .deferred)) (p .deferred) in
+      record { region = p .region; inputs = p .inputs; children = rewrite-nodes ρ os (p .children); outputs = map ρ (p .outputs); deferred = given }
+
+  unfoldable pub meets-in-piece : Piece → Bool
+  meets-in-piece p = meets-in-nodes es os (p .children) || (any (meets es) (p .outputs) || meets-in-set (meets es) (p .deferred))
+
+module _ (g : Graph) (s : NestState) where
+  abbrev pub conclude-with : Outcome → Piece → List Piece → Nested  -- outcome, entry, unclaimed regions
+  conclude-with outcome entry unclaimed =
+      let last = rewrite-piece (s .region-input-rewrites) (s .node-outputs) in
+      let met = any (meets-in-piece (s .region-input-rewrites) (s .node-outputs)) (entry ∷ unclaimed) in
+      let nodes = map (λ x. x .node) (s .node-outputs) in
+      record { outcome = outcome; attempts = s .attempts; twice = s .twice || met; entry = last entry; unclaimed = map last unclaimed; output-nodes = nodes }
+
+  -- A leftover also gives the Ready regions that no one claimed.
+  abbrev pub conclude-by : Nodes → DeferredEdgeBundleSet → Outcome → Nested
+  conclude-by children d untouched = conclude-with untouched (piece g (g .entry) ⟨⟩ [] []) []
+  conclude-by children d whole = conclude-with whole (piece g (g .entry) children (returned-values d) []) []
+  conclude-by children d closed = conclude-with closed (piece g (g .entry) children [] []) []
+  conclude-by children d leftover = conclude-with leftover (piece g (g .entry) children [] d) (unclaimed-from g 0 (s .region-states))
+
+-- The entry is always claimed: its incoming count is 1.
+unfoldable pub conclude : Graph → Answer (Option ClaimedRegion) → Store.Answer Nested
+conclude g (turned-away n w) = refused n w
+conclude g (done none s) = refused 0 0
+conclude g (done (some c) s) = accepted (conclude-by g s (c .children) (c .deferred-edges) (outcome-of (c .deferred-edges)))
+
+-- An untouched record has an entry count other than 1: nothing is structurized.
+unfoldable pub structurize-func-by : Graph → List IncomingEdgeCount → Store.Answer Nested
+structurize-func-by g counts =
+    elim (eqb (getD counts (g .entry) 0) 1) [
+      | false ↦ accepted (conclude-by g (initial-state g) ⟨⟩ [] untouched)
+      | true ↦ conclude g (try-claim-edge-bundle g counts (suc (length (g .regions))) (g .entry) 1 [] (initial-state g))
+    ]
+
+unfoldable pub structurize-func : Graph → Store.Answer Nested
+structurize-func g = structurize-func-by g (incoming-edge-counts g)
