@@ -10,7 +10,8 @@ use lib.ListN.{length, take}
 use Rattle.meaning.specs.Runs.{⟨⟩, run-nodes, End, Event, RunState, Word, put-inputs, word}
 use Rattle.meaning.specs.Graph.{Instr, Value, bool, const, held, input, instr, output, region, undef}
 use Rattle.nesting.specs.Contexts.{no-input, own-in, rooted-ends}
-use Rattle.nesting.specs.Nesting.{block-count, blocks-from, blocks-of, same-target, MaybeClaimedRegion, DeferredEdgeBundle, to-region, true-cond, rewrite-nodes, rewrite, rewrites-of, NestState, NodeOutput, ready}
+use Rattle.nesting.specs.Nesting.{block-count, blocks-from, blocks-of, same-target, MaybeClaimedRegion, DeferredEdgeBundle, to-region, true-cond, rewrites-of, NestState, NodeOutput, ready, look-up-nodes}
+use Rattle.nesting.specs.Rewriting.{rewrite}
 use Rattle.nesting.specs.Fewer.{state-of}
 use Rattle.follows.specs.Usable.{AllUsable, Usable, total}
 use Rattle.follows.specs.Small.{eqb-self}
@@ -94,7 +95,7 @@ module _ (W : World) where
   pub never-ends : (s : NestState) → Inv W s → (x b : ℕ) → x < size W → state-of s x ≡ ready b ⟨⟩ []
       → (n : ℕ) (ws : List Word) (past : List Event) (e : End) (h : List Event) → length ws ≡ ar W x
       → from-region W n x ws past ≡ ends-with e h → ⊥
-  unfolding run-nodes rewrite-nodes
+  unfolding run-nodes look-up-nodes
   never-ends s inv x b x-in is n ws past e h len gr =
       let ρ : Resolver = rewrite (s .region-input-rewrites) in
       let st : RunState = record { env = put-inputs (λ k. input x k) 0 ws (W .base); events = past; cost = 0; over-limit = false } in

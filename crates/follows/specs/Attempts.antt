@@ -13,10 +13,10 @@ use Rattle.meaning.specs.Graph.{Graph, region, edgesOf, targetsOf}
 use Rattle.meaning.specs.Runs.{Nodes, ⟨⟩}
 use Rattle.format.specs.ReadLaws.{clash}
 use Rattle.format.specs.Valid.{Valid}
-use Rattle.meaning.specs.Lists.{times-in, numbers-from}
+use Rattle.meaning.specs.Lists.{times-in, numbers-from, total}
 use Rattle.format.specs.Store
 use Rattle.format.specs.Store.{accepted, refused}
-use Rattle.nesting.specs.Nesting.{Nested, to-region, DeferredEdgeBundleSet, Outcome, untouched, whole, closed, leftover, StructurizeRegionState, not-begun, NestState, Answer, done, turned-away, ClaimedRegion, exit-targets, reachable, incoming-from, incoming-edge-count, incoming-edge-counts, try-claim-edge-bundle, initial-state, outcome-of, conclude-by, conclude, structurize-func-by, structurize-func}
+use Rattle.nesting.specs.Nesting.{Nested, to-region, DeferredEdgeBundleSet, Outcome, untouched, whole, closed, leftover, StructurizeRegionState, not-begun, NestState, Answer, done, turned-away, ClaimedRegion, reachable, incoming-edge-count, incoming-edge-counts, try-claim-edge-bundle, initial-state, outcome-of, conclude-by, conclude, structurize-func-by, structurize-func}
 use Rattle.nesting.specs.Post.{Post}
 use Rattle.nesting.specs.Fewer.{all-not-begun, not-begun-one, count-states}
 use Rattle.follows.specs.Reach.{entry-reachable, target-reachable, reachable-once}
@@ -49,7 +49,10 @@ module _ (g : Graph) where
   edges-over [] = refl
   edges-over (x ∷ l) = let z = edges-over l in omega arith
 
-  over-incoming : (a : ℕ) (l : List ℕ) → over (λ i. times-in a (targetsOf g i) + times-in a (exit-targets g i)) l ≡ incoming-from g a l
+  abbrev incoming-from : ℕ → List ℕ → ℕ
+  incoming-from a rs = total (λ r. times-in a (targetsOf g r) + times-in a (region g r .exits)) rs
+
+  over-incoming : (a : ℕ) (l : List ℕ) → over (λ i. times-in a (targetsOf g i) + times-in a (region g i .exits)) l ≡ incoming-from a l
   over-incoming a [] = refl
   over-incoming a (x ∷ l) = let z = over-incoming a l in omega arith
 
@@ -76,10 +79,10 @@ module _ (g : Graph) where
         ∙ over-add (λ i. length (edgesOf (region g i .terminator))) (λ i. 2 * length (reachable g)) (reachable g)
         ∙ (let z = edges-over (reachable g) in let y = over-each (2 * length (reachable g)) (reachable g) in omega arith)
 
-    held-start : (r : ℕ) → held counting r start ≡ incoming-from g r (reachable g)
+    held-start : (r : ℕ) → held counting r start ≡ incoming-from r (reachable g)
     unfolding held
     held-start r =
-        over-same (λ i. held-by counting r i (getD start i not-begun)) (λ i. times-in r (targetsOf g i) + times-in r (exit-targets g i)) (λ i. ap (held-by counting r i) (all-not-begun (length (g .regions)) i)) (reachable g)
+        over-same (λ i. held-by counting r i (getD start i not-begun)) (λ i. times-in r (targetsOf g i) + times-in r (region g i .exits)) (λ i. ap (held-by counting r i) (all-not-begun (length (g .regions)) i)) (reachable g)
         ∙ over-incoming r (reachable g)
 
     start-pre : Pre counting (suc (length (g .regions))) (λ r. 0) (λ r. edges-to r (to-region (g .entry)) 1) (initial-state g)

@@ -10,7 +10,8 @@ use borrow.Author.Tests.{leb-false}
 use Rattle.meaning.specs.Graph.{Value, Instr}
 use Rattle.meaning.specs.Runs.{OutputDecl, Node, block, select, loop, exit, Nodes, ⟨⟩, _▸_, Cases, ∅, case, Word, word, mark, Rule, RunState, place-taken, do-instr, do-block, Ran, through, ended, no-end, and-then, tested, once-more, pay, note-over, assign-inputs, assign-outputs, case-count, turns, run-node, run-nodes, run-case, after-last, start, nested-run}
 use Rattle.format.specs.ReadLaws.{clash}
-use Rattle.nesting.specs.Sheet.{instr-costs, node-figure, figure}
+use Rattle.meaning.specs.Lists.{total}
+use Rattle.nesting.specs.Sheet.{node-figure, figure}
 use Rattle.nesting.specs.DearestCase.{case-at, dearest-case}
 use Rattle.follows.specs.Statements.{Bounded}
 
@@ -72,12 +73,12 @@ over-limit n s (ended x t) a = record { costs = record { within = λ e. never-wi
 over-limit n s no-end a = record { costs = tt }
 
 module _ (rule : Rule) (test-cost : ℕ) where
-  block-costs : (r k : ℕ) (is : List Instr) (s : RunState) → AtMost (instr-costs is) s (do-block rule r k is s)
+  block-costs : (r k : ℕ) (is : List Instr) (s : RunState) → AtMost (total (λ i. i .cost) is) s (do-block rule r k is s)
   unfolding do-block do-instr
   block-costs r k [] s = stands 0 s
   block-costs r k (i ∷ is) s =
       let first : AtMost (i .cost) s (do-instr rule r k i s) = record { within = λ e. (e, omega arith) } in
-      both (instr-costs (i ∷ is)) (omega arith) first (block-costs r (suc k) is (do-instr rule r k i s))
+      both (total (λ i. i .cost) (i ∷ is)) (omega arith) first (block-costs r (suc k) is (do-instr rule r k i s))
 
   -- ---- the turns of a loop whose body costs at most n
   once-more-costs : (m : ℕ) (f : RunState → Ran) → ((t : RunState) → Costs m t (f t)) → (w : ℕ) (s : RunState)

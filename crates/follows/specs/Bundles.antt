@@ -6,12 +6,13 @@ use mathlib.Core.Option.{some}
 use mathlib.Core.Path.{_∙_, _≡_, ap, refl, sym}
 use Prim.Native.Nat.{suc}
 use native.Mathlib.Omega.{arith}
-use lib.ListN.{length}
+use lib.ListN.{getD, length, take}
+use lib.Dec.{eqb}
 use borrow.Author.Tests.{eqb-true}
 use Rattle.meaning.specs.Graph.{pick}
 use Rattle.format.specs.ReadLaws.{clash}
 use Rattle.meaning.specs.Lists.{empty}
-use Rattle.nesting.specs.Nesting.{drop-last, fill-gap, get-by-target, is-always, last-or, same-target, split-out-target, DeferredEdgeBundle, DeferredEdgeBundleSet, DeferredTarget, to-region, to-return}
+use Rattle.nesting.specs.Nesting.{fill-gap, get-edge-bundle-by-target, same-target, split-out-target, DeferredEdgeBundle, DeferredEdgeBundleSet, DeferredTarget, to-region, to-return}
 use Rattle.follows.specs.Small.{In, eqb-less, eqb-self, eqb-sym}
 
 pub same-target-sym : (a b : DeferredTarget) → same-target a b ≡ same-target b a
@@ -35,22 +36,25 @@ abbrev pub Distinct : DeferredEdgeBundleSet → Type 0
 Distinct [] = Unit
 Distinct (e ∷ es) = ((y : DeferredEdgeBundle) → In y es → same-target (y .target) (e .target) ≡ false) × Distinct es
 
-pub find-in : (d : DeferredEdgeBundleSet) → Distinct d → (y : DeferredEdgeBundle) → In y d → get-by-target (y .target) d ≡ some y
+pub find-in : (d : DeferredEdgeBundleSet) → Distinct d → (y : DeferredEdgeBundle) → In y d → get-edge-bundle-by-target (y .target) d ≡ some y
 find-in [] h y no-way = absurd no-way
 find-in (e ∷ es) h y (inl p) = rw (p, same-target-self (e .target))
 find-in (e ∷ es) h y (inr i) = rw (h .0 y i) (find-in es (h .1) y i)
 
-pub found-in : (x : DeferredTarget) (d : DeferredEdgeBundleSet) (y : DeferredEdgeBundle) → get-by-target x d ≡ some y → In y d × (x ≡ y .target)
+pub found-in : (x : DeferredTarget) (d : DeferredEdgeBundleSet) (y : DeferredEdgeBundle) → get-edge-bundle-by-target x d ≡ some y → In y d × (x ≡ y .target)
 found-in x [] y p = absurd (clash (cc))
 found-in x (e ∷ es) y p = go (λ r. found-in x es y r) (same-target x (e .target)) refl
   where
-    go : (get-by-target x es ≡ some y → In y es × (x ≡ y .target)) → (o : Bool) → same-target x (e .target) ≡ o → In y (e ∷ es) × (x ≡ y .target)
+    go : (get-edge-bundle-by-target x es ≡ some y → In y es × (x ≡ y .target)) → (o : Bool) → same-target x (e .target) ≡ o → In y (e ∷ es) × (x ≡ y .target)
     go ih true q = let r : some e ≡ some y = rw q at p in let r′ : y ≡ e = cc in (inl r′, same-target→eq x (e .target) q ∙ ap (λ z. z .target) (sym r′))
-    go ih false q = let r : get-by-target x es ≡ some y = rw q at p in let z = ih r in (inr (z .0), z .1)
+    go ih false q = let r : get-edge-bundle-by-target x es ≡ some y = rw q at p in let z = ih r in (inr (z .0), z .1)
 
 pub is-empty : (d : DeferredEdgeBundleSet) → empty d ≡ true → d ≡ []
 is-empty [] h = refl
 is-empty (x ∷ d) h = cc
+
+abbrev pub is-always : DeferredEdgeBundleSet → Bool
+is-always d = eqb (length d) 1
 
 -- two bundles, so their conditions are kept
 pub two-apart : (d : DeferredEdgeBundleSet) (x y : DeferredEdgeBundle) → In x d → In y d → same-target (x .target) (y .target) ≡ false → is-always d ≡ false
@@ -61,49 +65,55 @@ two-apart (e ∷ []) x y (inl p) (inl q) ne = let z : same-target (x .target) (y
 two-apart (e ∷ e′ ∷ es) x y i k ne = eqb-sym (suc (suc (length es))) 1 ∙ eqb-less 1 (suc (suc (length es))) (omega arith)
 
 -- ---- the last bundle takes the gap
-in-drop-last : (d : DeferredEdgeBundleSet) (y : DeferredEdgeBundle) → In y (drop-last d) → In y d
-in-drop-last [] y i = i
-in-drop-last (x ∷ []) y i = absurd i
-in-drop-last (x ∷ z ∷ zs) y (inl p) = inl p
-in-drop-last (x ∷ z ∷ zs) y (inr i) = inr (in-drop-last (z ∷ zs) y i)
+-- the last of x ∷ d, with any default, and the others
+abbrev pub last-or : DeferredEdgeBundle → DeferredEdgeBundle → DeferredEdgeBundleSet → DeferredEdgeBundle
+last-or o x d = getD (x ∷ d) (length d) o
 
-last-in : (x : DeferredEdgeBundle) (d : DeferredEdgeBundleSet) → In (last-or x d) (x ∷ d)
-last-in x [] = inl refl
-last-in x (z ∷ zs) = inr (last-in z zs)
+abbrev pub but-last : DeferredEdgeBundle → DeferredEdgeBundleSet → DeferredEdgeBundleSet
+but-last x d = take (length d) (x ∷ d)
 
-split-last : (x : DeferredEdgeBundle) (d : DeferredEdgeBundleSet) (y : DeferredEdgeBundle) → In y (x ∷ d) → (y ≡ last-or x d) ⊎ In y (drop-last (x ∷ d))
-split-last x [] y (inl p) = inl p
-split-last x [] y (inr i) = absurd i
-split-last x (z ∷ zs) y (inl p) = inr (inl p)
-split-last x (z ∷ zs) y (inr i) = go (split-last z zs y i)
-  where
-    go : (y ≡ last-or z zs) ⊎ In y (drop-last (z ∷ zs)) → (y ≡ last-or z zs) ⊎ ((y ≡ x) ⊎ In y (drop-last (z ∷ zs)))
-    go (inl p) = inl p
-    go (inr k) = inr (inr k)
+in-but-last : (x : DeferredEdgeBundle) (d : DeferredEdgeBundleSet) (y : DeferredEdgeBundle) → In y (but-last x d) → In y (x ∷ d)
+in-but-last x [] y i = absurd i
+in-but-last x (z ∷ zs) y (inl p) = inl p
+in-but-last x (z ∷ zs) y (inr i) = inr (in-but-last z zs y i)
 
-distinct-drop-last : (d : DeferredEdgeBundleSet) → Distinct d → Distinct (drop-last d)
-distinct-drop-last [] h = tt
-distinct-drop-last (x ∷ []) h = tt
-distinct-drop-last (x ∷ z ∷ zs) (h, hs) = ((λ y i. h y (in-drop-last (z ∷ zs) y i)), distinct-drop-last (z ∷ zs) hs)
+distinct-but-last : (x : DeferredEdgeBundle) (d : DeferredEdgeBundleSet) → Distinct (x ∷ d) → Distinct (but-last x d)
+distinct-but-last x [] h = tt
+distinct-but-last x (z ∷ zs) (h, hs) = ((λ y i. h y (in-but-last z zs y i)), distinct-but-last z zs hs)
 
-last-apart : (x : DeferredEdgeBundle) (d : DeferredEdgeBundleSet) → Distinct (x ∷ d) → (y : DeferredEdgeBundle) → In y (drop-last (x ∷ d))
-    → same-target (y .target) (last-or x d .target) ≡ false
-last-apart x [] h y i = absurd i
-last-apart x (z ∷ zs) (h, hs) y (inl p) = rw p (same-target-sym (x .target) (last-or z zs .target) ∙ h (last-or z zs) (last-in z zs))
-last-apart x (z ∷ zs) (h, hs) y (inr i) = last-apart z zs hs y i
+module _ (o : DeferredEdgeBundle) where
+  last-in : (x : DeferredEdgeBundle) (d : DeferredEdgeBundleSet) → In (last-or o x d) (x ∷ d)
+  last-in x [] = inl refl
+  last-in x (z ∷ zs) = inr (last-in z zs)
+
+  split-last : (x : DeferredEdgeBundle) (d : DeferredEdgeBundleSet) (y : DeferredEdgeBundle) → In y (x ∷ d) → (y ≡ last-or o x d) ⊎ In y (but-last x d)
+  split-last x [] y (inl p) = inl p
+  split-last x [] y (inr i) = absurd i
+  split-last x (z ∷ zs) y (inl p) = inr (inl p)
+  split-last x (z ∷ zs) y (inr i) = go (split-last z zs y i)
+    where
+      go : (y ≡ last-or o z zs) ⊎ In y (but-last z zs) → (y ≡ last-or o z zs) ⊎ ((y ≡ x) ⊎ In y (but-last z zs))
+      go (inl p) = inl p
+      go (inr k) = inr (inr k)
+
+  last-apart : (x : DeferredEdgeBundle) (d : DeferredEdgeBundleSet) → Distinct (x ∷ d) → (y : DeferredEdgeBundle) → In y (but-last x d)
+      → same-target (y .target) (last-or o x d .target) ≡ false
+  last-apart x [] h y i = absurd i
+  last-apart x (z ∷ zs) (h, hs) y (inl p) = rw p (same-target-sym (x .target) (last-or o z zs .target) ∙ h (last-or o z zs) (last-in z zs))
+  last-apart x (z ∷ zs) (h, hs) y (inr i) = last-apart z zs hs y i
 
 distinct-fill-gap : (d : DeferredEdgeBundleSet) → Distinct d → Distinct (fill-gap d)
 distinct-fill-gap [] h = tt
-distinct-fill-gap (x ∷ d) h = (last-apart x d h, distinct-drop-last (x ∷ d) h)
+distinct-fill-gap (x ∷ d) h = (last-apart x x d h, distinct-but-last x d h)
 
 in-fill-gap : (d : DeferredEdgeBundleSet) (y : DeferredEdgeBundle) → In y d → In y (fill-gap d)
 in-fill-gap [] y i = i
-in-fill-gap (x ∷ d) y i = split-last x d y i
+in-fill-gap (x ∷ d) y i = split-last x x d y i
 
 from-fill-gap : (d : DeferredEdgeBundleSet) (y : DeferredEdgeBundle) → In y (fill-gap d) → In y d
 from-fill-gap [] y i = i
-from-fill-gap (x ∷ d) y (inl p) = rw p (last-in x d)
-from-fill-gap (x ∷ d) y (inr i) = in-drop-last (x ∷ d) y i
+from-fill-gap (x ∷ d) y (inl p) = rw p (last-in x x d)
+from-fill-gap (x ∷ d) y (inr i) = in-but-last x d y i
 
 pub from-split-out : (x : DeferredTarget) (d : DeferredEdgeBundleSet) (y : DeferredEdgeBundle) → In y (split-out-target x d) → In y d
 from-split-out x [] y i = i

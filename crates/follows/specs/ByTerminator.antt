@@ -12,7 +12,8 @@ use borrow.Author.Tests.{ltb-true}
 use Rattle.meaning.specs.Runs.{Nodes, _▸_, exit, ⟨⟩, Ended, along, edge-taken, run-nodes, End, Event, RunState, Word, exited, mark, place-taken, returned, word}
 use Rattle.meaning.specs.Graph.{ControlInst, Edge, SelectionKind, Value, bool-cond, branch, edgesOf, exit-invocation, number, pick, region, return, select-branch, unreachable}
 use Rattle.format.specs.ReadLaws.{clash}
-use Rattle.nesting.specs.Nesting.{blocks-of, MaybeClaimedRegion, append-maybe-claimed-region, err, join, ok, value, define-node, by-control-inst, DeferredEdgeBundle, to-region, to-return, true-cond, rewrite-nodes, structurize-select-into, NestState, NodeOutput}
+use Rattle.nesting.specs.Nesting.{blocks-of, MaybeClaimedRegion, append-maybe-claimed-region, err, join, ok, value, define-node, by-control-inst, DeferredEdgeBundle, to-region, to-return, true-cond, structurize-select-into, NestState, NodeOutput, look-up-nodes}
+use Rattle.nesting.specs.Rewriting.{rewrite-nodes}
 use Rattle.nesting.specs.Post.{bind, map-post}
 use Rattle.follows.specs.Usable.{AllUsable, EdgeUsable, EdgesUsable, TerminatorUsable, total}
 use Rattle.follows.specs.Small.{In, nth, nth-getD}
@@ -58,7 +59,7 @@ module _ (W : World) where
 
   exit-follows : (ρ : Resolver) (os : List NodeOutput) (b k n op : ℕ) (vs : List Value) (st : RunState) (e : End) (h : List Event)
       → exited op (map (λ v. st .env (ρ v)) vs) ≡ e → st .events ≡ h → Tracks W ρ os k [] e h (runs W b (rewrite-nodes ρ os (exit n op vs ▸ ⟨⟩)) st)
-  unfolding run-nodes rewrite-nodes
+  unfolding run-nodes look-up-nodes
   exit-follows ρ os b k n op vs st e h p q = record { leads-to = (ap (exited op) (map-map (st .env) ρ vs) ∙ p, q) }
 
   module _ (s₀ : NestState) (r : ℕ) (s : NestState) (dg : Doing W s₀ r (blocks-of (W .g) r) s) (cs : List MaybeClaimedRegion) (fit : CasesOk W s₀ r (blocks-of (W .g) r) s cs) where

@@ -14,7 +14,8 @@ use Rattle.meaning.specs.Graph.{Value, bool, input, pick, region, undef}
 use Rattle.format.specs.ReadLaws.{clash}
 use Rattle.nesting.specs.Contexts.{InContext, context-replaced, entry-at, open-else, own-in}
 use Rattle.meaning.specs.Lists.{any}
-use Rattle.nesting.specs.Nesting.{get-by-target, is-always, same-target, split-out-target, ClaimedRegion, define-node, define-region, set-state, with-twice, backedge-of, claim-body, claim-by-state, materialize-lazy-cond, DeferredEdgeBundle, DeferredEdgeBundleSet, to-region, true-cond, LoopInputs, no-inputs, structurize-loop, take-inputs, meets, rewrite, rewrite-values, rewrites-of, Answer, InputRewrite, NestState, NodeOutput, Step, _>>_, claimed, give, ready, renumber-or-replace-with, renumber-to, replace-by}
+use Rattle.nesting.specs.Nesting.{get-edge-bundle-by-target, same-target, split-out-target, ClaimedRegion, define-node, define-region, set-state, with-twice, backedge-of, claim-body, claim-by-state, materialize-lazy-cond, DeferredEdgeBundle, DeferredEdgeBundleSet, to-region, true-cond, LoopInputs, no-inputs, structurize-loop, take-inputs, rewrite-values, rewrites-of, Answer, InputRewrite, NestState, NodeOutput, Step, _>>_, claimed, give, ready, renumber-or-replace-with, renumber-to, replace-by}
+use Rattle.nesting.specs.Rewriting.{meets, rewrite}
 use Rattle.nesting.specs.ChainSteps.{step-input}
 use Rattle.nesting.specs.Fewer.{state-of}
 use Rattle.nesting.specs.Post.{bind}
@@ -24,7 +25,7 @@ use Rattle.follows.specs.World.{Fits, World, ar, size}
 use Rattle.follows.specs.Tables.{Extends, Resolver, Respects, Tables, entry-law, extends-then, lookup-keeps, respects-back, tables}
 use Rattle.follows.specs.Conditions.{Mat, mat-stays}
 use Rattle.follows.specs.Leads.{Sim, leads-on}
-use Rattle.follows.specs.Bundles.{Distinct, find-in, found-in, same-target-sym, same-target→eq}
+use Rattle.follows.specs.Bundles.{Distinct, find-in, found-in, is-always, same-target-sym, same-target→eq}
 use Rattle.follows.specs.LoopFollows.{HeaderInput, loop-sim}
 use Rattle.follows.specs.Defined.{Grew, IfDone, Materialized, define-node-post, define-region-post, grew-steady, grew-then, materialize-post}
 use Rattle.follows.specs.Scope.{EntryOk, InScope, SetOk, Within, context-stays, own-input, owned}
@@ -138,7 +139,7 @@ module _ (W : World) where
     }
 
     -- ---- a loop
-    module _ (ins : List Value) (e : DeferredEdgeBundle) (is-back : get-by-target (to-region r) d ≡ some e) where
+    module _ (ins : List Value) (e : DeferredEdgeBundle) (is-back : get-edge-bundle-by-target (to-region r) d ≡ some e) where
       back-in : In e d
       back-in = found-in (to-region r) d e is-back .0
 
@@ -151,7 +152,7 @@ module _ (W : World) where
       only-back : (y : DeferredEdgeBundle) → In y d → same-target (y .target) (to-region r) ≡ true → y ≡ e
       only-back y i p =
           let q : y .target ≡ to-region r = same-target→eq (y .target) (to-region r) p in
-          let z : get-by-target (to-region r) d ≡ some y = ap (λ x. get-by-target x d) (sym q) ∙ find-in d dist y i in cc
+          let z : get-edge-bundle-by-target (to-region r) d ≡ some y = ap (λ x. get-edge-bundle-by-target x d) (sym q) ∙ find-in d dist y i in cc
 
       e-ok : EntryOk W (tables s) r (ar W r) ks e
       e-ok = h .sets r b ks d is-ready .entries e back-in
@@ -343,7 +344,7 @@ module _ (W : World) where
           bind (define-node s₅) _ (define-node-post s₅) λ n s₆ hn.
           record { post = loop-done w s₂ (hw .0) (hw .1) (hw .2) v s₅ hm n s₆ (hn .2) }
 
-    claim-body-post : (ins : List Value) (o : Option DeferredEdgeBundle) → ((e : DeferredEdgeBundle) → o ≡ some e → get-by-target (to-region r) d ≡ some e)
+    claim-body-post : (ins : List Value) (o : Option DeferredEdgeBundle) → ((e : DeferredEdgeBundle) → o ≡ some e → get-edge-bundle-by-target (to-region r) d ≡ some e)
         → IfDone (ClaimDone r ins s) (claim-body (W .g) r ins ks d o s₁)
     claim-body-post ins none f = record { post = plain-done ins }
     claim-body-post ins (some e) f = structurize-loop-post ins e (f e refl)
@@ -351,7 +352,7 @@ module _ (W : World) where
     pub claim-ready-post : (n inc : ℕ) (ins : List Value) → IfDone (ClaimDone r ins s) (claim-by-state (W .g) r n ins inc (ready b ks d) s)
     claim-ready-post n inc ins = go (eqb inc (n + b))
       where
-        found : (i : ℕ) (e : DeferredEdgeBundle) → backedge-of r i d ≡ some e → get-by-target (to-region r) d ≡ some e
+        found : (i : ℕ) (e : DeferredEdgeBundle) → backedge-of r i d ≡ some e → get-edge-bundle-by-target (to-region r) d ≡ some e
         found zero e p = absurd (clash (cc))
         found (suc i) e p = p
 

@@ -10,9 +10,9 @@ use lib.ListN.{getD, length, length-replicate}
 use Rattle.meaning.specs.Runs.{Nodes}
 use Rattle.meaning.specs.Graph.{Value, edgesOf, region}
 use Rattle.format.specs.ReadLaws.{clash}
-use Rattle.nesting.specs.Nesting.{DeferredEdgeBundleSet, initial-state, blocks-of, count-to, ClaimedRegion, get-state, with-attempt, Claim, begin, by-control-inst, claim-by-state, resolve-deferred, structurize-region, target-regions, try-claim-edge-bundle, IncomingEdgeCount, NestState, StructurizeRegionState, claimed, follow, give, in-progress, not-begun, ready, turn-away}
+use Rattle.nesting.specs.Nesting.{DeferredEdgeBundleSet, initial-state, blocks-of, count-to, ClaimedRegion, get-state, Claim, begin, by-control-inst, claim-by-state, resolve-deferred, structurize-region, target-regions, try-claim-edge-bundle, IncomingEdgeCount, NestState, StructurizeRegionState, claimed, follow, give, in-progress, not-begun, ready, turn-away}
 use Rattle.nesting.specs.Contexts.{itself}
-use Rattle.nesting.specs.Fewer.{all-not-begun, state-of}
+use Rattle.nesting.specs.Fewer.{all-not-begun, state-of, with-attempt}
 use Rattle.nesting.specs.Post.{bind, map-post}
 use Rattle.follows.specs.Reach.{target-reachable}
 use Rattle.follows.specs.ValidUse.{edges-of-usable}

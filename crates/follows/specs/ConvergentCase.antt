@@ -1,5 +1,5 @@
 -- A select with one convergent case: that case, and the others with it set aside.
-use mathlib.Core.Bool.{Bool, false, true}
+use mathlib.Core.Bool.{Bool, false, not, true}
 use mathlib.Core.List.{List, [], _∷_}
 use mathlib.Core.Logic.{_⊎_, inl, inr}
 use mathlib.Core.Option.{some}
@@ -10,7 +10,7 @@ use lib.ListN.{length}
 use Rattle.meaning.specs.Graph.{pick}
 use Rattle.format.specs.ReadLaws.{clash}
 use Rattle.meaning.specs.Lists.{empty}
-use Rattle.nesting.specs.Nesting.{ClaimedRegion, Convergent, MaybeClaimedRegion, convergent-cases, deferred-of, err, exactly-one, no-one, ok, several, with-convergent, with-unreachable}
+use Rattle.nesting.specs.Nesting.{ClaimedRegion, MaybeClaimedRegion, convergent-cases, deferred-of, err, ok, without-convergent}
 use Rattle.follows.specs.Bundles.{is-empty}
 use Rattle.follows.specs.Small.{In, eqb-sym, nth, nth-in}
 
@@ -20,29 +20,22 @@ Apart [] = Unit
 Apart (err d ∷ cs) = Apart cs
 Apart (ok c ∷ cs) = ((c′ : ClaimedRegion) → In (ok c′) cs → eqb (c′ .structured-body) (c .structured-body) ≡ false) × Apart cs
 
-none-converges : (cs : List MaybeClaimedRegion) → convergent-cases cs ≡ no-one → (j : ℕ) (x : MaybeClaimedRegion) → nth cs j ≡ some x → deferred-of x ≡ []
-none-converges [] h j x p = cc
-none-converges (c ∷ cs) h j x p = go (λ q i e. none-converges cs q i x e) (empty (deferred-of c)) refl h
+-- where none converges, taking them out changes nothing
+none-out : (cs : List MaybeClaimedRegion) → convergent-cases cs ≡ [] → (without-convergent cs ≡ cs) × ((j : ℕ) (x : MaybeClaimedRegion) → nth cs j ≡ some x → deferred-of x ≡ [])
+none-out [] h = (refl, λ j x p. cc)
+none-out (c ∷ cs) h = go (λ q. none-out cs q) (empty (deferred-of c)) refl h
   where
-    at : (convergent-cases cs ≡ no-one → (i : ℕ) → nth cs i ≡ some x → deferred-of x ≡ []) → deferred-of c ≡ [] → convergent-cases cs ≡ no-one → (i : ℕ)
-        → nth (c ∷ cs) i ≡ some x → deferred-of x ≡ []
-    at ih e q zero r = let z : c ≡ x = cc in rw (← z) e
-    at ih e q (suc i) r = ih q i r
+    Out : List MaybeClaimedRegion → List MaybeClaimedRegion → Type 0
+    Out rest l = (rest ≡ l) × ((j : ℕ) (x : MaybeClaimedRegion) → nth l j ≡ some x → deferred-of x ≡ [])
 
-    go : (convergent-cases cs ≡ no-one → (i : ℕ) → nth cs i ≡ some x → deferred-of x ≡ []) → (b : Bool) → empty (deferred-of c) ≡ b
-        → pick b (with-unreachable c (convergent-cases cs)) (with-convergent c cs (convergent-cases cs)) ≡ no-one → deferred-of x ≡ []
-    go ih true e q = at ih (is-empty (deferred-of c) e) (by (convergent-cases cs) refl q) j p
-      where
-        by : (v : Convergent) → convergent-cases cs ≡ v → with-unreachable c v ≡ no-one → convergent-cases cs ≡ no-one
-        by no-one r z = r
-        by (exactly-one a l) r z = cc
-        by several r z = cc
-    go ih false e q = by (convergent-cases cs) q
-      where
-        by : (v : Convergent) → with-convergent c cs v ≡ no-one → deferred-of x ≡ []
-        by no-one z = cc
-        by (exactly-one a l) z = cc
-        by several z = cc
+    each : deferred-of c ≡ [] → ((j : ℕ) (x : MaybeClaimedRegion) → nth cs j ≡ some x → deferred-of x ≡ []) → (j : ℕ) (x : MaybeClaimedRegion) → nth (c ∷ cs) j ≡ some x → deferred-of x ≡ []
+    each e on zero x p = let z : c ≡ x = cc in rw (← z) e
+    each e on (suc j) x p = on j x p
+
+    go : (convergent-cases cs ≡ [] → Out (without-convergent cs) cs) → (b : Bool) → empty (deferred-of c) ≡ b
+        → pick (not b) (c ∷ convergent-cases cs) (convergent-cases cs) ≡ [] → Out (pick b c (err []) ∷ without-convergent cs) (c ∷ cs)
+    go ih true e q = let y = ih q in (ap (λ l. c ∷ l) (y .0), each (is-empty (deferred-of c) e) (y .1))
+    go ih false e q = absurd (clash (cc))
 
 pub record Converges (cases : List MaybeClaimedRegion) (c : MaybeClaimedRegion) (rest : List MaybeClaimedRegion) : Type 0 where
   pub at : ℕ
@@ -53,13 +46,10 @@ pub record Converges (cases : List MaybeClaimedRegion) (c : MaybeClaimedRegion) 
   pub apart : Apart cases → Apart rest
   pub others : Apart cases → (y : ClaimedRegion) → c ≡ ok y → (z : ClaimedRegion) → In (ok z) rest → eqb (y .structured-body) (z .structured-body) ≡ false
 
-pub converges : (cases : List MaybeClaimedRegion) (c : MaybeClaimedRegion) (rest : List MaybeClaimedRegion) → convergent-cases cases ≡ exactly-one c rest → Converges cases c rest
-converges [] c rest p = absurd (clash (cc))
-converges (x ∷ cs) c rest p = go (λ r q. converges cs c r q) (empty (deferred-of x)) refl p
+pub converges : (cases : List MaybeClaimedRegion) (c : MaybeClaimedRegion) → convergent-cases cases ≡ c ∷ [] → Converges cases c (without-convergent cases)
+converges [] c p = absurd (clash (cc))
+converges (x ∷ cs) c p = go (λ q. converges cs c q) (empty (deferred-of x)) refl p
   where
-    IH : Type 0
-    IH = (r : List MaybeClaimedRegion) → convergent-cases cs ≡ exactly-one c r → Converges cs c r
-
     skip : (r : List MaybeClaimedRegion) → deferred-of x ≡ [] → Converges cs c r → Converges (x ∷ cs) c (x ∷ r)
     skip r e cv = record { at = suc (cv .at); is = cv .is; len = ap suc (cv .len); each = each; from = from; apart = apart x; others = others x }
       where
@@ -91,13 +81,13 @@ converges (x ∷ cs) c rest p = go (λ r q. converges cs c r q) (empty (deferred
             let e : z ≡ x′ = cc in rw e (ne y (subst (λ v. In v cs) q (nth-in cs (cv .at) c (cv .is))))
         others (ok x′) (ne, h) y q z (inr i) = cv .others h y q z i
 
-    here : convergent-cases cs ≡ no-one → c ≡ x → rest ≡ err [] ∷ cs → Converges (x ∷ cs) c rest
-    here none-on e re = record
+    here : ((j : ℕ) (y : MaybeClaimedRegion) → nth cs j ≡ some y → deferred-of y ≡ []) → c ≡ x → (rest : List MaybeClaimedRegion) → rest ≡ err [] ∷ cs → Converges (x ∷ cs) c rest
+    here none-on e rest re = record
         { at = 0; is = rw e; len = rw re; each = each; from = λ y i. from y (rw re at i); apart = λ h. rw re (apart x h); others = λ h y q z i. others x e h y q z (rw re at i) }
       where
         each : (j : ℕ) (y : MaybeClaimedRegion) → nth (x ∷ cs) j ≡ some y → ((y ≡ c) × (nth rest j ≡ some (err []))) ⊎ ((nth rest j ≡ some y) × (deferred-of y ≡ []))
         each zero y q = let z : x ≡ y = cc in inl (sym z ∙ sym e, rw re)
-        each (suc j) y q = inr (rw re q, none-converges cs none-on j y q)
+        each (suc j) y q = inr (rw re q, none-on j y q)
 
         from : (y : MaybeClaimedRegion) → In y (err [] ∷ cs) → (y ≡ err []) ⊎ In y (x ∷ cs)
         from y (inl q) = inl q
@@ -113,19 +103,7 @@ converges (x ∷ cs) c rest p = go (λ r q. converges cs c r q) (empty (deferred
         others (ok x′) e′ h y q z (inl k) = cc
         others (ok x′) e′ (ne, h) y q z (inr i) = let w : y ≡ x′ = cc in rw w (eqb-sym (x′ .structured-body) (z .structured-body) ∙ ne z i)
 
-    go : IH → (b : Bool) → empty (deferred-of x) ≡ b
-        → pick b (with-unreachable x (convergent-cases cs)) (with-convergent x cs (convergent-cases cs)) ≡ exactly-one c rest → Converges (x ∷ cs) c rest
-    go ih true e q = by (convergent-cases cs) refl q
-      where
-        by : (v : Convergent) → convergent-cases cs ≡ v → with-unreachable x v ≡ exactly-one c rest → Converges (x ∷ cs) c rest
-        by no-one r z = absurd (clash (cc))
-        by several r z = absurd (clash (cc))
-        by (exactly-one a l) r z =
-            let a-c : a ≡ c = cc in let re : rest ≡ x ∷ l = cc in
-            rw re (skip l (is-empty (deferred-of x) e) (ih l (rw a-c at r)))
-    go ih false e q = by (convergent-cases cs) refl q
-      where
-        by : (v : Convergent) → convergent-cases cs ≡ v → with-convergent x cs v ≡ exactly-one c rest → Converges (x ∷ cs) c rest
-        by no-one r z = here r (cc) (cc)
-        by several r z = absurd (clash (cc))
-        by (exactly-one a l) r z = absurd (clash (cc))
+    go : (convergent-cases cs ≡ c ∷ [] → Converges cs c (without-convergent cs)) → (b : Bool) → empty (deferred-of x) ≡ b
+        → pick (not b) (x ∷ convergent-cases cs) (convergent-cases cs) ≡ c ∷ [] → Converges (x ∷ cs) c (pick b x (err []) ∷ without-convergent cs)
+    go ih true e q = skip (without-convergent cs) (is-empty (deferred-of x) e) (ih q)
+    go ih false e q = let y = none-out cs (cc) in here (y .1) (cc) (err [] ∷ without-convergent cs) (ap (λ l. err [] ∷ l) (y .0))

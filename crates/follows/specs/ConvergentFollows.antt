@@ -1,6 +1,6 @@
 -- A select of which one case goes on: the others end inside it, and that case's children follow it.
 use mathlib.Core.Bool.{_||_, false}
-use mathlib.Core.List.{List, [], map}
+use mathlib.Core.List.{List, [], _∷_, map}
 use mathlib.Core.Logic.{_⊎_, inl, inr}
 use mathlib.Core.Option.{none, some}
 use mathlib.Core.Path.{_∙_, _≡_, ap, refl, subst, sym}
@@ -9,7 +9,8 @@ use lib.Dec.{eqb}
 use lib.ListN.{length}
 use Rattle.meaning.specs.Runs.{Cases, Nodes, _▸_, select, ⟨⟩, Ran, and-then, case-count, ended, no-end, pay, run-nodes, through, End, Event, RunState, place-taken, word}
 use Rattle.meaning.specs.Graph.{SelectionKind, Value, input}
-use Rattle.nesting.specs.Nesting.{Body, ClaimedRegion, Convergent, MaybeClaimedRegion, Scrutinee, append-maybe-claimed-region, convergent-cases, deferred-of, err, exactly-one, join, no-one, ok, several, DeferredEdgeBundleSet, case-outputs, outputs-of, rewrite-nodes, any-non-empty-case, DefinedSelect, structurize-select, structurize-select-by, structurize-select-into, NestState, NodeOutput}
+use Rattle.nesting.specs.Nesting.{Body, ClaimedRegion, MaybeClaimedRegion, Scrutinee, append-maybe-claimed-region, convergent-cases, deferred-of, err, join, ok, DeferredEdgeBundleSet, case-outputs, any-non-empty-case, DefinedSelect, structurize-select, structurize-select-by, without-convergent, structurize-select-into, NestState, NodeOutput, look-up-nodes}
+use Rattle.nesting.specs.Rewriting.{rewrite-nodes}
 use Rattle.nesting.specs.Post.{bind, map-post}
 use Rattle.follows.specs.Small.{In, nth, nth-in, or-left, or-right}
 use Rattle.follows.specs.Key.{Key, is-node, key, key-constant, owns-cases, owns-join, owns-nodes}
@@ -51,7 +52,7 @@ module _ (W : World) where
   none-runs : (ρ : Resolver) (os : List NodeOutput) (k b : ℕ) (e : End) (h : List Event) (n j : ℕ) (st : RunState) {d : DeferredEdgeBundleSet} (f : RunState → Ran)
       → Tracks W ρ os k d e h (f (outputs-set ρ os n j (pay (W .g .test-cost) st)))
       → Tracks W ρ os k d e h (and-then (and-then (runs W b (rewrite-nodes ρ os ⟨⟩) (pay (W .g .test-cost) st)) (λ s′. through (outputs-set ρ os n j s′))) f)
-  unfolding run-nodes rewrite-nodes
+  unfolding run-nodes look-up-nodes
   none-runs ρ os k b e h n j st f fl = fl
 
   module _ (s₀ : NestState) (r : ℕ) (ks : Nodes) (kind : SelectionKind) (sc : Scrutinee) (cases : List MaybeClaimedRegion) (s : NestState)
@@ -138,7 +139,7 @@ module _ (W : World) where
                 st₂ = outputs-set ρ os (n .node) (tk .place-of) (pay (W .g .test-cost) st)
 
                 kept : (v : Value) → is-node (n .node) (key os v) ≡ false → st₂ .env v ≡ st .env v
-                kept v p = outputs-kept (n .node) os v p (map ρ (case-outputs (tk .place-of) (outputs-of (n .node) os))) (pay (W .g .test-cost) st)
+                kept v p = outputs-kept (n .node) os v p (map ρ (case-outputs (n .node) (tk .place-of) os)) (pay (W .g .test-cost) st)
 
                 ag : Agrees W ρ os r (ar W r) ks st st₂
                 ag = record {
@@ -174,7 +175,7 @@ module _ (W : World) where
 
             follow-unmade : al .more ≡ ⟨⟩ → any-non-empty-case rest ≡ false → Takes W kind sc cases ρ os k e h st
                 → Tracks W ρ os k (deferred-of c) e h (and-then (runs W b (rewrite-nodes ρ os (al .more)) st) (tailRun ρ os b c))
-            unfolding run-nodes rewrite-nodes
+            unfolding run-nodes look-up-nodes
             follow-unmade te nk tk = rw te (by (cv .each (tk .place-of) (tk .case-of) (tk .at-place)))
               where
                 same : Agrees W ρ os r (ar W r) ks st st
@@ -224,9 +225,10 @@ module _ (W : World) where
     pub structurize-select-into-post : IfDone (λ y s′. Came W s₀ r (y .children) (y .deferred-edges) s′) (structurize-select-into (W .g) ks kind sc cases s)
     structurize-select-into-post = by (convergent-cases cases) refl
       where
-        by : (v : Convergent) → convergent-cases cases ≡ v → IfDone (λ y s′. Came W s₀ r (y .children) (y .deferred-edges) s′) (structurize-select-by (W .g) ks kind sc cases v s)
-        by no-one p = map-post (structurize-select (W .g) ks kind sc cases s) (structurize-select-post W s₀ r ks kind sc cases s dg fit) all-came
-        by several p = map-post (structurize-select (W .g) ks kind sc cases s) (structurize-select-post W s₀ r ks kind sc cases s dg fit) all-came
-        by (exactly-one c rest) p =
-            let cv = converges cases c rest p in
+        by : (v : List MaybeClaimedRegion) → convergent-cases cases ≡ v → IfDone (λ y s′. Came W s₀ r (y .children) (y .deferred-edges) s′) (structurize-select-by (W .g) ks kind sc cases v s)
+        by [] p = map-post (structurize-select (W .g) ks kind sc cases s) (structurize-select-post W s₀ r ks kind sc cases s dg fit) all-came
+        by (c ∷ d ∷ ds) p = map-post (structurize-select (W .g) ks kind sc cases s) (structurize-select-post W s₀ r ks kind sc cases s dg fit) all-came
+        by (c ∷ []) p =
+            let rest = without-convergent cases in
+            let cv = converges cases c p in
             bind (structurize-select (W .g) ks kind sc rest s) _ (structurize-select-post W s₀ r ks kind sc rest s dg (ok′ c rest cv)) λ x s₁ al. append-came c rest cv x s₁ al

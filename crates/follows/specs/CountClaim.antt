@@ -1,23 +1,23 @@
 -- A claim of a begun region, counted: refusal 12 is never met, and a claimed set holds no more edges than its region held.
 use mathlib.Core.Path.{_≡_, refl, sym, ap, _∙_}
 use mathlib.Core.Bool.{Bool, true, false}
-use mathlib.Core.List.{List, [], _∷_, _++_, map}
+use mathlib.Core.List.{List, map}
 use mathlib.Core.Option.{Option, none, some}
 use Prim.Native.Nat.{ℕ, zero, suc, _+_, _≤_, _<_}
 use native.Mathlib.Omega.{arith}
 use lib.ListN.{length, set}
 use lib.Dec.{eqb}
 use borrow.Author.Tests.{eqb-true, eqb-false, eq-eqb}
-use Rattle.meaning.specs.Graph.{Value, Graph, pick}
+use Rattle.meaning.specs.Graph.{Value, Graph, region, pick}
 use Rattle.meaning.specs.Runs.{Nodes}
 use Rattle.format.specs.Read.{isIn}
 use Rattle.format.specs.ReadLaws.{clash}
 use Rattle.meaning.specs.Lists.{times-in}
-use Rattle.nesting.specs.Nesting.{LazyCond, to-region, DeferredEdgeBundle, DeferredEdgeBundleSet, StructurizeRegionState, not-begun, in-progress, claimed, ready, renumber-or-replace-with, NestState, Step, give, turn-away, _>>_, with-region-states, with-rewrites, set-state, define-region, define-node, rewrite-values, materialize-lazy-cond, condition-in, get-by-target, split-out-target, ClaimedRegion, exit-targets, no-inputs, take-inputs, add-exit-edge, structurize-loop, backedge-of, claim-body, claim-by-state}
+use Rattle.nesting.specs.Nesting.{LazyCond, to-region, DeferredEdgeBundle, DeferredEdgeBundleSet, StructurizeRegionState, not-begun, in-progress, claimed, ready, renumber-or-replace-with, NestState, Step, give, turn-away, _>>_, set-state, define-region, define-node, rewrite-values, materialize-lazy-cond, condition-in, get-edge-bundle-by-target, split-out-target, ClaimedRegion, no-inputs, take-inputs, add-exit-edge, structurize-loop, backedge-of, claim-body, claim-by-state}
 use Rattle.nesting.specs.Post.{Post, map-post, bind}
-use Rattle.nesting.specs.Keeps.{loop-claimed, define-region-keeps, define-node-keeps, rewrite-values-keeps, materialize-keeps}
+use Rattle.nesting.specs.Keeps.{loop-claimed, with-entry, define-region-keeps, define-node-keeps, rewrite-values-keeps, materialize-keeps}
 use Rattle.nesting.specs.Still.{Still, still-refl, still-then, still-steady}
-use Rattle.nesting.specs.Fewer.{state-of, not-begun-one, count-set}
+use Rattle.nesting.specs.Fewer.{state-of, with-state, not-begun-one, count-set}
 use Rattle.follows.specs.Bundles.{found-in}
 use Rattle.follows.specs.Totals.{total, at, bundles-to, edges-to, edgeless}
 use Rattle.follows.specs.SplitTotals.{split-total, not-found, no-bundles, exits-bundles, exits-edges, exits-edgeless}
@@ -32,12 +32,12 @@ record Looped (d : DeferredEdgeBundleSet) (s : NestState) (o : Option ClaimedReg
   is : SetIs d o
 
 loop-set : (g : Graph) (body : ℕ) (children : Nodes) (backedge : DeferredEdgeBundle) (repeat : LazyCond) (exits : DeferredEdgeBundleSet) (inputs : List Value) (s : NestState)
-    → Post Nine (λ o s′. Looped (map (add-exit-edge (exit-targets g body)) exits) s o s′) (structurize-loop g body children backedge repeat exits inputs s)
+    → Post Nine (λ o s′. Looped (map (add-exit-edge (region g body .exits)) exits) s o s′) (structurize-loop g body children backedge repeat exits inputs s)
 unfolding structurize-loop
 loop-set g body children backedge repeat exits inputs s =
     bind (define-region s) _ (define-region-keeps still-steady Nine refl s) λ wrapper s₁ q₁.
     bind (rewrite-values (backedge .target-inputs) s₁) _ (rewrite-values-keeps still-steady Nine refl (backedge .target-inputs) s₁) λ vs s₂ q₂.
-    let s₃ = with-rewrites (s₂ .region-input-rewrites ++ (record { region = body; rewrites = renumber-or-replace-with (take-inputs g body wrapper 0 vs no-inputs .rewrites) } ∷ [])) s₂ in
+    let s₃ = with-entry (record { region = body; rewrites = renumber-or-replace-with (take-inputs g body wrapper 0 vs no-inputs .rewrites) }) s₂ in
     let q₃ : Still s₂ s₃ = record { states = refl; attempts = refl } in
     bind (materialize-lazy-cond repeat s₃) _ (materialize-keeps still-steady Nine refl repeat s₃) λ v s₄ q₄.
     bind (define-node s₄) (λ n. give (some (loop-claimed g body children exits inputs wrapper vs v n))) (define-node-keeps still-steady Nine refl s₄) λ n s₅ q₅.
@@ -76,12 +76,12 @@ module _ (K : Counting) where
   module _ (q n b : ℕ) (children : Nodes) (d : DeferredEdgeBundleSet) (s : NestState) (inv : Inv K (s .region-states)) (in-q : isIn q (K .live) ≡ true) (is : state-of s q ≡ ready b children d)
       (whole : K .incoming q ≡ n + b) (good : Good K d) (back : b ≡ total (edges-to q) d) where
     abbrev after : NestState
-    after = with-region-states (set (s .region-states) q claimed) s
+    after = with-state s q claimed
 
     lt-q : q < length (s .region-states)
     lt-q = let z = inv .length in let y = K .below q in-q in omega arith
 
-    claimed-step : (d′ : DeferredEdgeBundleSet) → ((r : ℕ) → total (edges-to r) d′ + pick (eqb r q) b 0 ≤ total (edges-to r) d + times-in r (exit-targets (K .g) q))
+    claimed-step : (d′ : DeferredEdgeBundleSet) → ((r : ℕ) → total (edges-to r) d′ + pick (eqb r q) b 0 ≤ total (edges-to r) d + times-in r (region (K .g) q .exits))
         → Counted K 0 (many K) (λ r. edges-to r (to-region q) n) (λ r. total (edges-to r) d′) s after
     claimed-step d′ l = record {
       inv = inv-set K (s .region-states) q claimed inv lt-q tt;
@@ -91,9 +91,9 @@ module _ (K : Counting) where
       stay = λ r. still-busy r (eqb r q) refl;
     }
       where
-        go : (r : ℕ) (x : Bool) → eqb r q ≡ x → total (edges-to r) d′ + pick x b 0 ≤ total (edges-to r) d + times-in r (exit-targets (K .g) q)
+        go : (r : ℕ) (x : Bool) → eqb r q ≡ x → total (edges-to r) d′ + pick x b 0 ≤ total (edges-to r) d + times-in r (region (K .g) q .exits)
             → held K r (set (s .region-states) q claimed) + held-by K r q (state-of s q) ≡ held K r (s .region-states) + pick x (K .incoming r) 0
-            → held-by K r q (state-of s q) ≡ times-in r (exit-targets (K .g) q) + total (edges-to r) d
+            → held-by K r q (state-of s q) ≡ times-in r (region (K .g) q .exits) + total (edges-to r) d
             → held K r (set (s .region-states) q claimed) + total (edges-to r) d′ ≤ held K r (s .region-states) + pick x n 0
         go r true p a u v = let z = ap (K .incoming) (eqb-true r q p) in omega arith
         go r false p a u v = omega arith
@@ -105,25 +105,25 @@ module _ (K : Counting) where
     without-back : (inputs : List Value) → b ≡ 0 → Claims 0 q n s (some (record { origin = q; structured-body = q; structured-body-inputs = inputs; children = children; deferred-edges = d })) after
     without-back inputs z = record { step = claimed-step d (λ r. go r (eqb r q)); good = good }
       where
-        go : (r : ℕ) (x : Bool) → total (edges-to r) d + pick x b 0 ≤ total (edges-to r) d + times-in r (exit-targets (K .g) q)
+        go : (r : ℕ) (x : Bool) → total (edges-to r) d + pick x b 0 ≤ total (edges-to r) d + times-in r (region (K .g) q .exits)
         go r true = omega arith
         go r false = omega arith
 
-    module _ (e : DeferredEdgeBundle) (found : get-by-target (to-region q) d ≡ some e) where
+    module _ (e : DeferredEdgeBundle) (found : get-edge-bundle-by-target (to-region q) d ≡ some e) where
       abbrev others : DeferredEdgeBundleSet
       others = split-out-target (to-region q) d
 
       abbrev exits : DeferredEdgeBundleSet
-      exits = map (add-exit-edge (exit-targets (K .g) q)) others
+      exits = map (add-exit-edge (region (K .g) q .exits)) others
 
       others-few : (r : ℕ) → total (bundles-to r) d ≡ at r (e .target) + total (bundles-to r) others
       others-few r = split-total (bundles-to r) (to-region q) d e found
 
-      exits-held : (r : ℕ) (x : Bool) → eqb r q ≡ x → total (edges-to r) exits + pick x b 0 ≤ total (edges-to r) d + times-in r (exit-targets (K .g) q)
+      exits-held : (r : ℕ) (x : Bool) → eqb r q ≡ x → total (edges-to r) exits + pick x b 0 ≤ total (edges-to r) d + times-in r (region (K .g) q .exits)
       exits-held r true p =
           let r-q = eqb-true r q p in
           let t : at r (e .target) ≡ 1 = ap (at r) (sym (found-in (to-region q) d e found .1)) ∙ rw p in
-          let none-left : total (bundles-to r) exits ≡ 0 = let a = others-few r in let z = good .fits r in let y = one-less r in omega (arith, exits-bundles (exit-targets (K .g) q) r others) in
+          let none-left : total (bundles-to r) exits ≡ 0 = let a = others-few r in let z = good .fits r in let y = one-less r in omega (arith, exits-bundles (region (K .g) q .exits) r others) in
           let w = no-bundles r exits none-left in
           let k = ap (λ i. total (edges-to i) d) r-q in
           omega arith
@@ -132,13 +132,13 @@ module _ (K : Counting) where
           let z = good .fits r in
           let y = one-less r in
           let c = split-total (edges-to r) (to-region q) d e found in
-          let v = exits-edges (exit-targets (K .g) q) r others (omega arith) in
+          let v = exits-edges (region (K .g) q .exits) r others (omega arith) in
           omega arith
 
       exits-good : Good K exits
       exits-good = record {
-        fits = λ r. let a = others-few r in let z = good .fits r in omega (arith, exits-bundles (exit-targets (K .g) q) r others);
-        full = let a = split-total edgeless (to-region q) d e found in let z = good .full in omega (arith, exits-edgeless (exit-targets (K .g) q) others);
+        fits = λ r. let a = others-few r in let z = good .fits r in omega (arith, exits-bundles (region (K .g) q .exits) r others);
+        full = let a = split-total edgeless (to-region q) d e found in let z = good .full in omega (arith, exits-edgeless (region (K .g) q .exits) others);
       }
 
       as-loop : (o : Option ClaimedRegion) (s′ : NestState) → Looped exits after o s′ → Claims 0 q n s o s′
@@ -153,13 +153,13 @@ module _ (K : Counting) where
     claim-body-counted : (inputs : List Value) → Post Nine (λ o s′. Claims 0 q n s o s′) (claim-body (K .g) q inputs children d (backedge-of q b d) after)
     claim-body-counted inputs = by-count b refl
       where
-        by-found : (o : Option DeferredEdgeBundle) → get-by-target (to-region q) d ≡ o → Post Nine (λ o s′. Claims 0 q n s o s′) (claim-body (K .g) q inputs children d o after)
+        by-found : (o : Option DeferredEdgeBundle) → get-edge-bundle-by-target (to-region q) d ≡ o → Post Nine (λ o s′. Claims 0 q n s o s′) (claim-body (K .g) q inputs children d o after)
         by-found none p = record { post = without-back inputs (back ∙ not-found q d p) }
         by-found (some e) p = map-post _ (loop-set (K .g) q children e (condition-in d e) (split-out-target (to-region q) d) inputs after) λ o s′ x. as-loop e p o s′ x
 
         by-count : (c : ℕ) → b ≡ c → Post Nine (λ o s′. Claims 0 q n s o s′) (claim-body (K .g) q inputs children d (backedge-of q c d) after)
         by-count zero p = record { post = without-back inputs p }
-        by-count (suc c) p = by-found (get-by-target (to-region q) d) refl
+        by-count (suc c) p = by-found (get-edge-bundle-by-target (to-region q) d) refl
 
   not-claimed : (q n : ℕ) (s : NestState) → n < K .incoming q → Inv K (s .region-states) → Claims 0 q n s none s
   not-claimed q n s l i = record { step = counted-still K (still-refl s) i (λ r. omega arith); good = l }

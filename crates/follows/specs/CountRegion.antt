@@ -12,10 +12,10 @@ use borrow.Author.Tests.{eqb-true}
 use Rattle.meaning.specs.Graph.{bool-cond, Edge, region, edgesOf}
 use Rattle.format.specs.Read.{isIn}
 use Rattle.format.specs.ReadLaws.{clash}
-use Rattle.nesting.specs.Nesting.{to-region, StructurizeRegionState, not-begun, in-progress, claimed, ready, NestState, follow, with-region-states, with-attempt, get-state, condition-in, count-to, MaybeClaimedRegion, ok, err, lazy, Body, blocks-of, structurize-select-into, Claim, SplitOut, begin, claim-by-state, by-control-inst, resolve-by, target-regions, split-out-matching, resolve-deferred, structurize-region, try-claim-edge-bundle}
+use Rattle.nesting.specs.Nesting.{to-region, StructurizeRegionState, not-begun, in-progress, claimed, ready, NestState, follow, get-state, condition-in, count-to, MaybeClaimedRegion, ok, err, lazy, Body, blocks-of, structurize-select-into, Claim, SplitOut, begin, claim-by-state, by-control-inst, resolve-by, target-regions, split-out-matching, resolve-deferred, structurize-region, try-claim-edge-bundle}
 use Rattle.nesting.specs.Post.{Post, map-post, bind}
 use Rattle.nesting.specs.Still.{still-refl}
-use Rattle.nesting.specs.Fewer.{count-set, not-begun-one, state-of}
+use Rattle.nesting.specs.Fewer.{count-set, not-begun-one, state-of, with-attempt, with-state}
 use Rattle.follows.specs.Members.{in-front, in-rest}
 use Rattle.follows.specs.Totals.{total, totals, edges-to, to-regions}
 use Rattle.follows.specs.SplitTotals.{count-total}
@@ -83,7 +83,7 @@ module _ (K : Counting) where
     -- ---- a region not begun
     module _ (q : ℕ) (H : ℕ → ℕ) (s : NestState) (in-q : isIn q (K .live) ≡ true) (new : state-of s q ≡ not-begun) (waiting : 1 ≤ H q) (pre : Pre K (suc fuel) H (λ r. 0) s) where
       abbrev under-way : NestState
-      under-way = with-region-states (set (s .region-states) q in-progress) s
+      under-way = with-state s q in-progress
 
       abbrev es : List Edge
       es = edgesOf (region (K .g) q .terminator)
@@ -119,7 +119,7 @@ module _ (K : Counting) where
         whole-count : count-to q (y .deferred-edges) ≡ total (edges-to q) (y .deferred-edges)
         whole-count = count-total q (y .deferred-edges) (let z = good .fits q in let w = one-less K q in omega arith)
 
-        ended : Begun q (λ r. 0) s (with-region-states (set (s₁ .region-states) q last) s₁)
+        ended : Begun q (λ r. 0) s (with-state s₁ q last)
         ended = record {
           step = record {
             inv = inv-set K (s₁ .region-states) q last (a .inv) lt-last (good, whole-count);

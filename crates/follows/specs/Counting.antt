@@ -12,7 +12,7 @@ use Rattle.meaning.specs.Graph.{Graph, region, edgesOf, targetsOf, pick}
 use Rattle.format.specs.Read.{isIn}
 use Rattle.format.specs.Valid.{Distinct}
 use Rattle.meaning.specs.Lists.{times-in}
-use Rattle.nesting.specs.Nesting.{DeferredEdgeBundleSet, StructurizeRegionState, not-begun, in-progress, claimed, ready, NestState, exit-targets}
+use Rattle.nesting.specs.Nesting.{DeferredEdgeBundleSet, StructurizeRegionState, not-begun, in-progress, claimed, ready, NestState}
 use Rattle.nesting.specs.Still.{Still}
 use Rattle.nesting.specs.Fewer.{state-of, not-begun-one, count-states, not-begun-count}
 use Rattle.follows.specs.Small.{at-or-else}
@@ -59,10 +59,10 @@ module _ (K : Counting) where
 
   -- the edges to r that region i has yet to give out, or holds; once r itself is claimed, all
   abbrev pub held-by : ℕ → ℕ → StructurizeRegionState → ℕ
-  held-by r i not-begun = times-in r (targetsOf (K .g) i) + times-in r (exit-targets (K .g) i)
-  held-by r i in-progress = times-in r (exit-targets (K .g) i)
+  held-by r i not-begun = times-in r (targetsOf (K .g) i) + times-in r (region (K .g) i .exits)
+  held-by r i in-progress = times-in r (region (K .g) i .exits)
   held-by r i claimed = pick (eqb r i) (K .incoming r) 0
-  held-by r i (ready b children d) = times-in r (exit-targets (K .g) i) + total (edges-to r) d
+  held-by r i (ready b children d) = times-in r (region (K .g) i .exits) + total (edges-to r) d
 
   weigh : (ℕ → StructurizeRegionState → ℕ) → List StructurizeRegionState → ℕ
   weigh W l = over (λ i. W i (getD l i not-begun)) (K .live)

@@ -1,5 +1,5 @@
 -- Steps that define something: what they add to the tables, and what stands for what they were given.
-use mathlib.Core.Bool.{Bool, _&&_, false, true}
+use mathlib.Core.Bool.{Bool, false, true}
 use mathlib.Core.List.{List, [], _∷_}
 use mathlib.Core.Logic.{inl, inr}
 use mathlib.Core.Option.{Option, none, some}
@@ -9,9 +9,9 @@ use native.Mathlib.Omega.{arith}
 use lib.Dec.{ltb}
 use lib.ListN.{length}
 use Rattle.meaning.specs.Graph.{SelectionKind, Value, bool, bool-cond, number, output, pick}
-use Rattle.format.specs.WellRead.{and-both}
 use Rattle.nesting.specs.Keeps.{Steady, define-merge-keeps}
-use Rattle.nesting.specs.Nesting.{define-merge, define-node, define-output, define-region, is-bool-cond, materialize-lazy-cond, materialize-lazy-conds, same-values, DeferredEdgeBundleSet, LazyCond, LazyConds, _&_, false-cond, merge, true-cond, undef-cond, no-conds, PlannedBundle, PlannedInput, merged, shared, DefinedSelect, emit, emit-condition, emit-inputs, Answer, NestState, NodeOutput, give}
+use Rattle.format.specs.ReadLaws.{clash}
+use Rattle.nesting.specs.Nesting.{define-merge, define-node, define-output, define-region, materialize-lazy-cond, materialize-lazy-conds, same-values, DeferredEdgeBundleSet, LazyCond, LazyConds, _&_, false-cond, merge, true-cond, undef-cond, no-conds, PlannedBundle, PlannedInput, merged, shared, DefinedSelect, emit, emit-condition, emit-inputs, Answer, NestState, NodeOutput, give}
 use Rattle.nesting.specs.Fewer.{AnyRefusal}
 use Rattle.nesting.specs.Post.{Post, bind, map-post, when-room}
 use Rattle.follows.specs.Small.{nth-last}
@@ -83,20 +83,24 @@ pub record Materializeds (cs : LazyConds) (s : NestState) (vs : List Value) (s�
   pub mats : Mats cs (s′ .node-outputs) vs
   pub grew : Grew s s′
 
-is-boolean : (k : SelectionKind) → is-bool-cond k ≡ true → k ≡ bool-cond
-is-boolean bool-cond h = refl
-is-boolean number h = cc
+-- a boolean [true, false] is the scrutinee itself
+abbrev is-scrutinee : SelectionKind → List Value → Bool
+is-scrutinee kind vs = elim kind [ bool-cond ↦ same-values vs (bool true ∷ bool false ∷ []) | number ↦ false ]
+
+scrutinee-is : (k : SelectionKind) (vs : List Value) → is-scrutinee k vs ≡ true → (k ≡ bool-cond) × (vs ≡ bool true ∷ bool false ∷ [])
+scrutinee-is bool-cond vs h = (refl, same-values→eq vs (bool true ∷ bool false ∷ []) h)
+scrutinee-is number vs h = absurd (clash (cc))
 
 merge-post : (n : ℕ) (kind : SelectionKind) (sc : Value) (cs : LazyConds) (s : NestState) (vs : List Value) (s₁ : NestState) → Materializeds cs s vs s₁
-    → IfDone (Materialized (merge n kind sc cs) s) (pick (is-bool-cond kind && same-values vs (bool true ∷ bool false ∷ [])) (give sc) (define-output n 1 vs) s₁)
+    → IfDone (Materialized (merge n kind sc cs) s) (pick (is-scrutinee kind vs) (give sc) (define-output n 1 vs) s₁)
 unfolding Mat
-merge-post n kind sc cs s vs s₁ ms = go (is-bool-cond kind && same-values vs (bool true ∷ bool false ∷ [])) refl
+merge-post n kind sc cs s vs s₁ ms = go (is-scrutinee kind vs) refl
   where
-    go : (b : Bool) → (is-bool-cond kind && same-values vs (bool true ∷ bool false ∷ [])) ≡ b
+    go : (b : Bool) → is-scrutinee kind vs ≡ b
         → IfDone (Materialized (merge n kind sc cs) s) (pick b (give sc) (define-output n 1 vs) s₁)
     go true q =
-        let x = and-both (is-bool-cond kind) (same-values vs (bool true ∷ bool false ∷ [])) q in
-        record { post = record { mat = inl (is-boolean kind (x .0), refl, rw (same-values→eq vs (bool true ∷ bool false ∷ []) (x .1)) at (ms .mats)); grew = ms .grew } }
+        let x = scrutinee-is kind vs q in
+        record { post = record { mat = inl (x .0, refl, rw (x .1) at (ms .mats)); grew = ms .grew } }
     go false q = map-post (define-output n 1 vs s₁) (define-output-post n 1 vs s₁) λ v s′ o. record {
       mat = inr (o .place, record { node = n; type = 1; values = vs }, o .is, o .at-place, mats-stay cs (s₁ .node-outputs) (s′ .node-outputs) (o .grew .outputs) vs (ms .mats));
       grew = grew-then (ms .grew) (o .grew);

@@ -1,5 +1,5 @@
 -- The deferred edges that a select emits are in scope; where no select is needed, they are as if one had emitted them.
-use mathlib.Core.Bool.{_||_, false}
+use mathlib.Core.Bool.{Bool, true, _||_, false}
 use mathlib.Core.List.{List, [], _∷_, map}
 use mathlib.Core.Logic.{inl, inr}
 use mathlib.Core.Option.{Option, none, some}
@@ -11,13 +11,13 @@ use Rattle.meaning.specs.Runs.{Nodes, ⟨⟩}
 use Rattle.meaning.specs.Graph.{Graph, Value, number, output, undef}
 use Rattle.format.specs.ReadLaws.{clash}
 use Rattle.meaning.specs.Lists.{is-some, any}
-use Rattle.nesting.specs.Nesting.{get-by-target, MaybeClaimedRegion, deferred-of, DeferredEdgeBundle, DeferredEdgeBundleSet, DeferredTarget, LazyConds, merge, true-cond, DeferredTargetSummary, PlannedBundle, PlannedInput, UniqueInput, is-merged, any-needs-select, differing, in-parent, merged, no-value, per-case-deferred, per-case-of, plan-bundle, plan-input, plan-inputs, shared, target-type, unique, unique-input, value-in-case, with-case, DefinedSelect, shared-bundle, shared-value, NodeOutput}
+use Rattle.nesting.specs.Nesting.{get-edge-bundle-by-target, MaybeClaimedRegion, deferred-of, DeferredEdgeBundle, DeferredEdgeBundleSet, DeferredTarget, LazyConds, merge, true-cond, DeferredTargetSummary, PlannedBundle, PlannedInput, any-needs-select, in-parent, merged, per-case-deferred, per-case-of, plan-bundle, plan-input, plan-inputs, shared, target-type, unique-input, value-in-case, DefinedSelect, shared-bundle, NodeOutput}
 use Rattle.follows.specs.Small.{In, or-left, or-right}
 use Rattle.follows.specs.Key.{OutputAt}
 use Rattle.follows.specs.World.{World, ar}
 use Rattle.follows.specs.Tables.{Extends, Tables}
 use Rattle.follows.specs.Bundles.{Distinct, found-in}
-use Rattle.follows.specs.Planned.{Emits, EmitsAll, EmitsBundle, EmitsOne, condition-from, emits-from, per-cases, with-value-inv}
+use Rattle.follows.specs.Planned.{Emits, EmitsAll, EmitsBundle, EmitsOne, condition-from, emits-from, passed, per-cases, unique-from}
 use Rattle.follows.specs.Defined.{emits-stay}
 use Rattle.follows.specs.Scope.{AllScoped, CondOk, EntryOk, Scoped, SetOk, scoped-const}
 use Rattle.follows.specs.Targets.{DistinctTargets, FitAll}
@@ -25,9 +25,9 @@ use Rattle.follows.specs.Targets.{DistinctTargets, FitAll}
 per-case-from : (x : DeferredTarget) (d : DeferredEdgeBundleSet) (vs : List Value) → per-case-deferred x d .inputs ≡ some vs
     → (y : DeferredEdgeBundle) × In y d × (y .target-inputs ≡ vs)
 per-case-from x [] vs p = absurd (clash (cc))
-per-case-from x (e ∷ es) vs p = go (get-by-target x (e ∷ es)) refl p
+per-case-from x (e ∷ es) vs p = go (get-edge-bundle-by-target x (e ∷ es)) refl p
   where
-    go : (o : Option DeferredEdgeBundle) → get-by-target x (e ∷ es) ≡ o → per-case-of (e ∷ es) o .inputs ≡ some vs
+    go : (o : Option DeferredEdgeBundle) → get-edge-bundle-by-target x (e ∷ es) ≡ o → per-case-of (e ∷ es) o .inputs ≡ some vs
         → (y : DeferredEdgeBundle) × In y (e ∷ es) × (y .target-inputs ≡ vs)
     go none q h = absurd (clash (cc))
     go (some y) q h = (y, found-in x (e ∷ es) y q .0, cc)
@@ -60,9 +60,12 @@ pub no-select-outputs : (os : List NodeOutput) (k : ℕ) (o : NodeOutput) → Ou
 unfolding no-select
 no-select-outputs os k o at-k = none-above os (above os) (omega arith) k o at-k
 
-shared-emits : (os : List NodeOutput) (n : DefinedSelect) (is : List PlannedInput) → any is-merged is ≡ false → Emits os n is (map shared-value is)
+abbrev is-merged : PlannedInput → Bool
+is-merged i = elim i [ shared v ↦ false | merged ty vs ↦ true ]
+
+shared-emits : (os : List NodeOutput) (n : DefinedSelect) (is : List PlannedInput) → any is-merged is ≡ false → Emits os n is (map (λ i. elim i [ shared v ↦ v | merged ty vs ↦ undef 0 ]) is)
 shared-emits os n [] h = refl
-shared-emits os n (shared v ∷ is) h = (v, map shared-value is, refl, refl, shared-emits os n is h)
+shared-emits os n (shared v ∷ is) h = (v, _, refl, refl, shared-emits os n is h)
 shared-emits os n (merged ty vs ∷ is) h = absurd (clash (cc))
 
 pub shared-all : (os : List NodeOutput) (n : DefinedSelect) (ps : List PlannedBundle) → any-needs-select ps ≡ false → EmitsAll os n ps (map shared-bundle ps)
@@ -91,36 +94,22 @@ shared-no-condition g cs (x ∷ ws) h w (inr i) cds p =
     shared-no-condition g cs ws (or-right (any is-merged (plan-bundle g cs x .inputs) || is-some (plan-bundle g cs x .condition)) _ h) w i cds p
 
 module _ (W : World) where
-  unique-from : (k : ℕ) (x : DeferredTarget) (cs : List MaybeClaimedRegion) (v : Value) → unique-input k cs (per-cases x cs) ≡ unique v
-      → (c : MaybeClaimedRegion) × In c cs × ((vs : List Value) × (per-case-deferred x (deferred-of c) .inputs ≡ some vs) × (in-parent c (getD vs k (undef 0)) ≡ some v))
-  unique-from k x [] v h = absurd (clash (cc))
-  unique-from k x (c ∷ cs) v h = go (λ q. unique-from k x cs v q) (per-case-deferred x (deferred-of c) .inputs) refl h
-    where
-      Out : List MaybeClaimedRegion → Type 0
-      Out l = (c : MaybeClaimedRegion) × In c l × ((vs : List Value) × (per-case-deferred x (deferred-of c) .inputs ≡ some vs) × (in-parent c (getD vs k (undef 0)) ≡ some v))
-
-      go : (unique-input k cs (per-cases x cs) ≡ unique v → Out cs) → (o : Option (List Value)) → per-case-deferred x (deferred-of c) .inputs ≡ o
-          → with-case k c o (unique-input k cs (per-cases x cs)) ≡ unique v → Out (c ∷ cs)
-      go ih none p q = let y = ih q in (y .0, inr (y .1), y .2)
-      go ih (some vs) p q = (c, inl refl, (vs, p, with-value-inv (in-parent c (getD vs k (undef 0))) (unique-input k cs (per-cases x cs)) v q .0))
-
   -- what can be seen outside of a case is in scope
   module _ (T : Tables) (r : ℕ) (ks : Nodes) (cs : List MaybeClaimedRegion)
       (shares : (c : MaybeClaimedRegion) → In c cs → (y : DeferredEdgeBundle) → In y (deferred-of c) → (i : ℕ) (v : Value) → in-parent c
       (getD (y .target-inputs) i (undef 0)) ≡ some v → Scoped T r (ar W r) ks v)
       (n : DefinedSelect)
       (outs : (k : ℕ) (o : NodeOutput) → OutputAt (n .node) (T .outputs) k o → Scoped T r (ar W r) ks (output k)) where
-    one-scoped : (k ty : ℕ) (x : DeferredTarget) (v : Value) → EmitsOne (T .outputs) n (plan-input k ty (per-cases x cs) (unique-input k cs (per-cases x cs))) v
+    one-scoped : (k ty : ℕ) (x : DeferredTarget) (v : Value) → EmitsOne (T .outputs) n (plan-input k ty (per-cases x cs) (unique-input (passed k x cs))) v
         → Scoped T r (ar W r) ks v
-    one-scoped k ty x v em = go (unique-input k cs (per-cases x cs)) refl em
+    one-scoped k ty x v em = go (unique-input (passed k x cs)) refl em
       where
         is-out : EmitsOne (T .outputs) n (merged ty (map (value-in-case k ty) (per-cases x cs))) v → Scoped T r (ar W r) ks v
         is-out (i, o, e, at-i, vals) = rw e (outs i o at-i)
 
-        go : (a : UniqueInput) → unique-input k cs (per-cases x cs) ≡ a → EmitsOne (T .outputs) n (plan-input k ty (per-cases x cs) a) v → Scoped T r (ar W r) ks v
-        go no-value p e = is-out e
-        go differing p e = is-out e
-        go (unique w) p e =
+        go : (a : Option Value) → unique-input (passed k x cs) ≡ a → EmitsOne (T .outputs) n (plan-input k ty (per-cases x cs) a) v → Scoped T r (ar W r) ks v
+        go none p e = is-out e
+        go (some w) p e =
             let y = unique-from k x cs w p in
             let z = per-case-from x (deferred-of (y .0)) (y .2 .0) (y .2 .1) in
             rw e (shares (y .0) (y .1) (z .0) (z .1) k w (rw (z .2) (y .2 .2)))

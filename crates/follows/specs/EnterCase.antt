@@ -8,7 +8,8 @@ use native.Mathlib.Omega.{arith}
 use lib.ListN.{List·getD-map, getD, length, length-map}
 use Rattle.meaning.specs.Runs.{Nodes, ⟨⟩, Ran, ended, no-end, run-nodes, through, End, Event, RunState, Word, mark, place-taken, word}
 use Rattle.meaning.specs.Graph.{SelectionKind, Value, input, undef}
-use Rattle.nesting.specs.Nesting.{ClaimedRegion, MaybeClaimedRegion, Scrutinee, deferred-of, err, lazy, ok, value, DeferredEdgeBundle, DeferredEdgeBundleSet, DeferredTarget, to-region, rewrite-nodes, rewrite, rewrites-of, rewrite-bundle, rewrite-case, NestState, NodeOutput, RewriteEntry}
+use Rattle.nesting.specs.Nesting.{ClaimedRegion, MaybeClaimedRegion, Scrutinee, deferred-of, err, lazy, ok, value, DeferredEdgeBundle, DeferredEdgeBundleSet, DeferredTarget, to-region, rewrites-of, NestState, NodeOutput, RewriteEntry, look-up-nodes}
+use Rattle.nesting.specs.Rewriting.{rewrite-nodes, rewrite, rewrite-bundle, rewrite-case}
 use Rattle.nesting.specs.ChainSteps.{stops-rewrite}
 use Rattle.follows.specs.Small.{In, false-if, from-map, getD-map-in, in-map, nth}
 use Rattle.follows.specs.Key.{Key, key, nodes-none, owns-nodes}
@@ -50,7 +51,7 @@ module _ (W : World) where
       → ((x : ClaimedRegion) → c ≡ ok x → (k : ℕ) → ρ (input (x .structured-body) k) ≡ ρ (getD (x .structured-body-inputs) k (undef 0)))
       → ((k : ℕ) → k < ar W r → owns-nodes (children-in c) (key os (ρ (input r k))) ≡ false)
       → (e : End) (h : List Event) → Enters ρ os n e h s c → Tracks W ρ os n (deferred-of c) e h (runs W b (rewrite-nodes ρ os (children-in c)) s)
-  unfolding run-nodes rewrite-nodes
+  unfolding run-nodes look-up-nodes
   enter-follows s₀ r ks s₁ (err d) fit ρ os res b n le s bs law far e h go = record { leads-to = go }
   enter-follows s₀ r ks s₁ (ok c) fit ρ os res b n le s bs law far e h (k, lt, len, gr) =
       let words : List Word = map (λ v. s .env (ρ v)) (c .structured-body-inputs) in

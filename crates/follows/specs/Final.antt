@@ -9,7 +9,8 @@ use Rattle.meaning.specs.Graph.{bool, const, input, instr, output, undef}
 use Rattle.nesting.specs.ChainEnds.{ChainsEnd, rewrite-enough}
 use Rattle.nesting.specs.ChainSteps.{chain-steps, next-value, stops-rewrite}
 use Rattle.nesting.specs.HeldStays.{rewrite-held}
-use Rattle.nesting.specs.Nesting.{rewrite, rewrites-of, RewriteEntry}
+use Rattle.nesting.specs.Nesting.{rewrites-of, RewriteEntry}
+use Rattle.nesting.specs.Rewriting.{rewrite}
 use Rattle.follows.specs.Tables.{Respects, Tables, extends-refl}
 
 -- what has no rewrites stays as it is

@@ -9,17 +9,18 @@ use native.Mathlib.Omega.{arith}
 use lib.ListN.{length, getD}
 use lib.Dec.{eqb}
 use borrow.Author.Tests.{eqb-true}
-use Rattle.meaning.specs.Graph.{Value, input, Graph, region}
-use Rattle.meaning.specs.Lists.{numbers-from}
+use Rattle.meaning.specs.Graph.{Value, input, Graph, region, pick}
+use Rattle.meaning.specs.Lists.{numbers-from, empty}
 use Rattle.meaning.specs.Runs.{Word, word32, End, returned, Given, RunState, base-env, entry-words, Nodes, ⟨⟩, Ended, run-from, graph-run, Ran, through, ended, no-end, run-nodes, ended-at, after-last, start, nested-run}
 use Rattle.format.specs.ReadLaws.{clash}
 use Rattle.format.specs.Valid.{Valid}
 use Rattle.format.specs.Store
 use Rattle.format.specs.Store.{accepted}
 use Rattle.nesting.specs.Contexts.{rooted-ends}
-use Rattle.nesting.specs.Nesting.{DeferredTarget, to-region, to-return, DeferredEdgeBundle, DeferredEdgeBundleSet, Outcome, untouched, whole, closed, leftover, Nested, IncomingEdgeCount, StructurizeRegionState, not-begun, in-progress, claimed, ready, NestState, Answer, done, turned-away, give, follow, _>>_, turn-away, set-state, get-state, with-attempt, rewrites-of, rewrite, ClaimedRegion, try-claim-edge-bundle, claim-by-state, claim-body, backedge-of, begin, structurize-region, incoming-edge-counts, rewrite-nodes, initial-state, outcome-of, outcome-by, rewrite-piece, conclude-by, conclude, structurize-func-by, structurize-func}
+use Rattle.nesting.specs.Nesting.{DeferredTarget, to-region, to-return, DeferredEdgeBundle, DeferredEdgeBundleSet, Outcome, untouched, whole, closed, leftover, Nested, IncomingEdgeCount, StructurizeRegionState, not-begun, in-progress, claimed, ready, NestState, Answer, done, turned-away, give, follow, _>>_, turn-away, set-state, get-state, rewrites-of, ClaimedRegion, try-claim-edge-bundle, claim-by-state, claim-body, backedge-of, begin, structurize-region, incoming-edge-counts, initial-state, outcome-of, conclude-by, conclude, structurize-func-by, structurize-func, look-up-piece, look-up-nodes, look-up}
+use Rattle.nesting.specs.Rewriting.{nodes-value, rewrite, rewrite-nodes}
 use Rattle.nesting.specs.Post.{bind, map-post}
-use Rattle.nesting.specs.Fewer.{state-of}
+use Rattle.nesting.specs.Fewer.{state-of, with-attempt}
 use Rattle.follows.specs.Usable.{arity}
 use Rattle.follows.specs.Reach.{entry-reachable}
 use Rattle.follows.specs.ValidUse.{usable-graph}
@@ -159,6 +160,10 @@ module _ (g : Graph) (valid : Valid g) (x : Given) (c : ClaimedRegion) (s : Nest
 -- ---- what the answer shows of the claimed entry
 module _ (g : Graph) (valid : Valid g) (c : ClaimedRegion) (s : NestState)
     (cd : (x : Given) → ClaimDone (world g valid x) (g .entry) [] (initial-state g) (some c) s) (itself : c .structured-body ≡ g .entry) where
+  -- the form that is given is the claimed children, rewritten
+  form-is : rewrite-nodes (rewrite (s .region-input-rewrites)) (s .node-outputs) (c .children) ≡ look-up-nodes (look-up (s .region-input-rewrites)) (s .node-outputs) (c .children) .value
+  form-is = sym (nodes-value (look-up (s .region-input-rewrites)) (s .node-outputs) (c .children))
+
   no-form : (n : Nested) → n .outcome ≡ leftover → FollowsRun g n
   no-form n p outs (is-closed q) x b e gr = absurd (let z : leftover ≡ closed = sym p ∙ q in clash (cc))
   no-form n p outs (is-whole q) x b e gr = absurd (let z : leftover ≡ whole = sym p ∙ q in clash (cc))
@@ -168,9 +173,12 @@ module _ (g : Graph) (valid : Valid g) (c : ClaimedRegion) (s : NestState)
     Shows o = FollowsRun g (conclude-by g s (c .children) (y ∷ ys) o)
 
     one : y .target ≡ to-return → c .deferred-edges ≡ y ∷ [] → Shows whole
-    unfolding rewrite-piece
+    unfolding look-up-piece
     one t q outs (is-closed r) x b e gr = absurd (clash (cc))
-    one t q outs (is-whole r) x b e gr = whole-follows g valid x c s (cd x) itself y t q b e gr
+    one t q outs (is-whole r) x b e gr = subst (λ ks. Followed g x ks (some (map (rewrite (s .region-input-rewrites)) (y .target-inputs))) e) form-is (whole-follows g valid x c s (cd x) itself y t q b e gr)
+
+    abbrev outcome-by : DeferredTarget → DeferredEdgeBundleSet → Outcome
+    outcome-by t zs = elim t [ to-region r ↦ leftover | to-return ↦ pick (empty zs) whole leftover ]
 
     by-others : c .deferred-edges ≡ y ∷ ys → y .target ≡ to-return → (zs : DeferredEdgeBundleSet) → ys ≡ zs → Shows (outcome-by to-return zs)
     by-others p t [] q = one t (p ∙ ap (λ l. y ∷ l) q)
@@ -181,8 +189,8 @@ module _ (g : Graph) (valid : Valid g) (c : ClaimedRegion) (s : NestState)
     by-target p to-return t = by-others p t ys refl
 
   none-follows : c .deferred-edges ≡ [] → FollowsRun g (conclude-by g s (c .children) [] closed)
-  unfolding rewrite-piece
-  none-follows p outs (is-closed q) x b e gr = closed-follows g valid x c s (cd x) itself p b e gr
+  unfolding look-up-piece
+  none-follows p outs (is-closed q) x b e gr = subst (λ ks. Followed g x ks none e) form-is (closed-follows g valid x c s (cd x) itself p b e gr)
   none-follows p outs (is-whole q) x b e gr = absurd (clash (cc))
 
   shown-follows : (d : DeferredEdgeBundleSet) → c .deferred-edges ≡ d → FollowsRun g (conclude-by g s (c .children) d (outcome-of d))

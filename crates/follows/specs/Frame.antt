@@ -9,8 +9,10 @@ use lib.ListN.{getD}
 use borrow.Author.Tests.{eqb-true}
 use Rattle.meaning.specs.Runs.{Cases, Node, Nodes, _▸_, block, case, exit, loop, select, ∅, ⟨⟩, Ran, and-then, assign-inputs, assign-outputs, case-count, ended, no-end, note-over, once-more, pay, put-outputs, run-case, run-node, run-nodes, tested, through, turns, Env, Rule, RunState, Word, do-block, do-instr, mark, place-taken, put, put-inputs, word}
 use Rattle.meaning.specs.Graph.{Instr, Value, held, instr, output, pick, sameValue, undef}
+use Rattle.meaning.specs.Lists.{filter}
 use Rattle.format.specs.ReadLaws.{clash}
-use Rattle.nesting.specs.Nesting.{case-outputs, output-decls, outputs-of, rewrite-cases-of, rewrite-node, rewrite-nodes, rewrite-reads, NodeOutput}
+use Rattle.nesting.specs.Nesting.{case-outputs, output-decls, NodeOutput, look-up-node}
+use Rattle.nesting.specs.Rewriting.{rewrite-cases-of, rewrite-node, rewrite-nodes, rewrite-reads}
 use Rattle.follows.specs.Values.{sameValue→eq}
 use Rattle.follows.specs.Small.{eqb-less, eqb-self, false-if, or-left, or-right}
 use Rattle.follows.specs.Key.{OutputAt, is-held, is-instr, is-node, key, key-output, owns, owns-cases, owns-nodes}
@@ -73,15 +75,18 @@ pub outputs-kept : (n : ℕ) (os : List NodeOutput) (u : Value) → is-node n (k
 outputs-kept n os u h vs s =
     outputs-others n 0 os u (λ i o at-i. let z : 0 + i ≡ i = omega arith in rw z (output-other at-i u h)) (map (s .env) vs) (s .env)
 
+abbrev outputs-of : ℕ → List NodeOutput → List NodeOutput
+outputs-of n os = filter (λ o. eqb n (o .node)) os
+
 -- output k + i becomes what the case at place j gives for it
 outputs-at : (n k j : ℕ) (os : List NodeOutput) (f : Value → Word) (i : ℕ) (o : NodeOutput) → OutputAt n os i o → (σ : Env)
-    → put-outputs (output-decls n k os) (map f (case-outputs j (outputs-of n os))) σ (output (k + i)) ≡ f (getD (o .values) j (undef 0))
+    → put-outputs (output-decls n k os) (map f (case-outputs n j os)) σ (output (k + i)) ≡ f (getD (o .values) j (undef 0))
 unfolding put-outputs
 outputs-at n k j [] f i o at-i σ = absurd (let z = at-i .there in clash (cc))
 outputs-at n k j (x ∷ os) f i o at-i σ = go (λ i at-i σ. outputs-at n (suc k) j os f i o at-i σ) (eqb n (x .node)) refl i at-i σ
   where
     IH : Type 0
-    IH = (i : ℕ) → OutputAt n os i o → (σ : Env) → put-outputs (output-decls n (suc k) os) (map f (case-outputs j (outputs-of n os))) σ (output (suc k + i)) ≡ f
+    IH = (i : ℕ) → OutputAt n os i o → (σ : Env) → put-outputs (output-decls n (suc k) os) (map f (case-outputs n j os)) σ (output (suc k + i)) ≡ f
         (getD (o .values) j (undef 0))
 
     number-of : (i : ℕ) → k + suc i ≡ suc k + i
@@ -89,7 +94,7 @@ outputs-at n k j (x ∷ os) f i o at-i σ = go (λ i at-i σ. outputs-at n (suc 
 
     go : IH → (b : Bool) → eqb n (x .node) ≡ b → (i : ℕ) → OutputAt n (x ∷ os) i o → (σ : Env)
         → put-outputs (pick b (record { number = k; type = x .type } ∷ output-decls n (suc k) os) (output-decls n (suc k) os))
-        (map f (case-outputs j (pick b (x ∷ outputs-of n os) (outputs-of n os)))) σ (output (k + i)) ≡ f (getD (o .values) j (undef 0))
+        (map f (map (λ o. getD (o .values) j (undef 0)) (pick b (x ∷ outputs-of n os) (outputs-of n os)))) σ (output (k + i)) ≡ f (getD (o .values) j (undef 0))
     go later false p zero at-i σ =
         let e : x ≡ o = let y = at-i .there in cc in
         let z : eqb n (x .node) ≡ true = rw (ap (λ y. y .node) e ∙ at-i .node) (eqb-self n) in absurd (clash (cc))
@@ -101,10 +106,10 @@ outputs-at n k j (x ∷ os) f i o at-i σ = go (λ i at-i σ. outputs-at n (suc 
         rw (z, ← e) (outputs-others n (suc k) os (output k) (λ i y at-y. eqb-less k (suc k + i) (omega arith)) _ _ ∙ put-same (output k) _ σ (eqb-self k))
 
 pub output-read : (ρ : Value → Value) (os : List NodeOutput) (n j : ℕ) (s : RunState) (k : ℕ) (o : NodeOutput) → OutputAt n os k o
-    → (assign-outputs (output-decls n 0 os) (map ρ (case-outputs j (outputs-of n os))) s) .env (output k) ≡ s .env (ρ (getD (o .values) j (undef 0)))
+    → (assign-outputs (output-decls n 0 os) (map ρ (case-outputs n j os)) s) .env (output k) ≡ s .env (ρ (getD (o .values) j (undef 0)))
 output-read ρ os n j s k o at-k =
     let z : 0 + k ≡ k = omega arith in
-    rw (map-map (s .env) ρ (case-outputs j (outputs-of n os)), ← z) (outputs-at n 0 j os (λ v. s .env (ρ v)) k o at-k (s .env))
+    rw (map-map (s .env) ρ (case-outputs n j os), ← z) (outputs-at n 0 j os (λ v. s .env (ρ v)) k o at-k (s .env))
 
 -- ---- a run keeps what it does not own
 abbrev pub KeptRan : Value → RunState → Ran → Type 0
@@ -153,7 +158,7 @@ module _ (rule : Rule) (test : ℕ) (ρ : Value → Value) (os : List NodeOutput
       turn ih s′ (suc w) = trans-kept s′ (assign-inputs r vs (pay test s′)) (inputs-kept os r u h vs (pay test s′)) _ (ih _)
 
   mutual
-    unfolding run-node owns rewrite-node
+    unfolding run-node owns look-up-node
 
     node-kept : (x : Node) → owns x (key os u) ≡ false → (b : ℕ) (s : RunState) → Kept u s (run-node rule test b (rewrite-node ρ os x) s)
     node-kept (block n r k is) h b s = record { kept = block-kept r h k (map (rewrite-reads ρ) is) s }
@@ -179,7 +184,7 @@ module _ (rule : Rule) (test : ℕ) (ρ : Value → Value) (os : List NodeOutput
     case-kept ∅ h b j n i g s = record { kept = tt }
     case-kept (case r ks vs cs) h b zero n i g s =
         then-kept (run-nodes rule test b (rewrite-nodes ρ os ks) s) _ (nodes-kept ks (or-left (owns-nodes ks (key os u)) (owns-cases cs (key os u)) h) b s)
-        (λ s′. record { kept = outputs-kept n os u g (map ρ (case-outputs i (outputs-of n os))) s′ })
+        (λ s′. record { kept = outputs-kept n os u g (map ρ (case-outputs n i os)) s′ })
     case-kept (case r ks vs cs) h b (suc j) n i g s = case-kept cs (or-right (owns-nodes ks (key os u)) (owns-cases cs (key os u)) h) b j n (suc i) g s
 
   pub frame : (ks : Nodes) (b : ℕ) (s s′ : RunState) → run-nodes rule test b (rewrite-nodes ρ os ks) s ≡ through s′ → owns-nodes ks (key os u) ≡ false → s′ .env u ≡ s .env u

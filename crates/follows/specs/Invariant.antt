@@ -4,7 +4,7 @@
 -- A region is Rewritable if someone other than its holder may still give it rewrites: not begun, Ready, or not yet defined.
 -- Whoever holds children that own nothing Free, or a region that is not Rewritable, still does after any call: no list of holders is kept.
 use mathlib.Core.Bool.{Bool, false, true}
-use mathlib.Core.List.{[], _++_, _∷_}
+use mathlib.Core.List.{[], _∷_}
 use mathlib.Core.Option.{none}
 use mathlib.Core.Path.{_∙_, _≡_, ap, refl, subst, sym}
 use Prim.Native.Nat.{_<_, _≤_, ℕ}
@@ -15,8 +15,9 @@ use Rattle.meaning.specs.Runs.{Nodes}
 use Rattle.meaning.specs.Graph.{Value, region}
 use Rattle.nesting.specs.ChainEnds.{Gives}
 use Rattle.nesting.specs.Contexts.{InContext, Rooted, open-else, rooted-add}
-use Rattle.nesting.specs.Nesting.{with-rewrites, DeferredEdgeBundleSet, rewrites-of, NestState, RegionInputRewrites, StructurizeRegionState, claimed, in-progress, not-begun, ready}
+use Rattle.nesting.specs.Nesting.{DeferredEdgeBundleSet, rewrites-of, NestState, RegionInputRewrites, StructurizeRegionState, claimed, in-progress, not-begun, ready}
 use Rattle.nesting.specs.Fewer.{state-of}
+use Rattle.nesting.specs.Keeps.{with-entry}
 use Rattle.follows.specs.Key.{Key, of-held, of-instr, of-node, of-none, owns-nodes}
 use Rattle.follows.specs.World.{World, ar, size}
 use Rattle.follows.specs.Tables.{Gains, extends-refl, extends-same, gains-refl, gains-then, tables}
@@ -147,7 +148,7 @@ module _ (W : World) where
 
   -- ---- an entry is added
   abbrev pub rewriting : ℕ → RegionInputRewrites → NestState → NestState
-  rewriting q e s = with-rewrites (s .region-input-rewrites ++ (record { region = q; rewrites = e } ∷ [])) s
+  rewriting q e s = with-entry (record { region = q; rewrites = e }) s
 
   module _ (s : NestState) (q : ℕ) (e : RegionInputRewrites) where
     abbrev s⁺ : NestState

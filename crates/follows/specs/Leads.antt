@@ -9,7 +9,8 @@ use lib.ListN.{getD, length, length-map}
 use Rattle.meaning.specs.Runs.{Nodes, _▸_, ⟨⟩, Ended, run-from, Ran, and-then, ended, no-end, run-node, run-nodes, through, End, Event, RunState, Word, mark, returned, word}
 use Rattle.meaning.specs.Graph.{Value, input}
 use Rattle.format.specs.ReadLaws.{clash}
-use Rattle.nesting.specs.Nesting.{same-target, join, DeferredEdgeBundle, DeferredEdgeBundleSet, DeferredTarget, to-region, to-return, rewrite-node, rewrite-nodes, NodeOutput}
+use Rattle.nesting.specs.Nesting.{same-target, join, DeferredEdgeBundle, DeferredEdgeBundleSet, DeferredTarget, to-region, to-return, NodeOutput, look-up-nodes}
+use Rattle.nesting.specs.Rewriting.{rewrite-node, rewrite-nodes}
 use Rattle.follows.specs.Small.{In, or-left}
 use Rattle.follows.specs.Key.{Key, is-constant, key, key-constant, nodes-none, owns-join, owns-nodes}
 use Rattle.follows.specs.World.{World, ar, from-region, runs}
@@ -37,7 +38,7 @@ pub record InputsAre (ρ : Resolver) (os : List NodeOutput) (q : ℕ) (ks : Node
 
 -- ---- joining
 pub rewrite-join : (ρ : Resolver) (os : List NodeOutput) (a b : Nodes) → rewrite-nodes ρ os (join a b) ≡ join (rewrite-nodes ρ os a) (rewrite-nodes ρ os b)
-unfolding rewrite-nodes
+unfolding look-up-nodes
 rewrite-join ρ os ⟨⟩ b = refl
 rewrite-join ρ os (x ▸ a) b = ap (λ ks. rewrite-node ρ os x ▸ ks) (rewrite-join ρ os a b)
 

@@ -12,7 +12,8 @@ use Rattle.meaning.specs.Runs.{Nodes, _▸_, loop, ⟨⟩, Ran, assign-inputs, 
 use Rattle.meaning.specs.Graph.{Value, bool, input, undef}
 use Rattle.meaning.specs.LoopTurns.{inputs-at-once, last-turn, next-turn}
 use Rattle.nesting.specs.Contexts.{entry-at}
-use Rattle.nesting.specs.Nesting.{same-target, DeferredEdgeBundle, DeferredEdgeBundleSet, to-region, rewrite-nodes, rewrites-of, InputRewrite, NodeOutput, renumber-or-replace-with, renumber-to, replace-by}
+use Rattle.nesting.specs.Nesting.{same-target, DeferredEdgeBundle, DeferredEdgeBundleSet, to-region, rewrites-of, InputRewrite, NodeOutput, renumber-or-replace-with, renumber-to, replace-by, look-up-nodes}
+use Rattle.nesting.specs.Rewriting.{rewrite-nodes}
 use Rattle.nesting.specs.ChainSteps.{step-input}
 use Rattle.follows.specs.Small.{In, eqb-self, getD-map-in, or-left, or-right}
 use Rattle.follows.specs.Key.{is-held, key, key-constant, of-held, owns-nodes}
@@ -206,7 +207,7 @@ module _ (W : World) where
             after ih no-end p fl = rw p (record { leads-to = fl .leads-to })
 
       pub loop-sim : Sim W r q ks′ d′ T′
-      unfolding run-nodes rewrite-nodes
+      unfolding run-nodes look-up-nodes
       loop-sim = record {
         leads = λ ρ os′ res b n le s w bs lw gv e h gr.
             let outside : (k : ℕ) → k < ar W r → owns-nodes ks′ (key os′ (ρ (input q k))) ≡ false = λ k lt. gv .apart k (omega (arith, lw)) in

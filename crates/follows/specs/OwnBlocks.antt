@@ -10,7 +10,8 @@ use lib.ListN.{length, take}
 use borrow.Author.Tests.{eqb-false, eqb-true}
 use Rattle.meaning.specs.Runs.{Nodes, by-terminator, enter, run-from, run-nodes, through, End, Env, Event, Rule, RunState, Word, do-block, do-blocks, do-instr, put, put-inputs, word32}
 use Rattle.meaning.specs.Graph.{Instr, Value, bool, const, held, input, instr, output, region, sameValue, undef}
-use Rattle.nesting.specs.Nesting.{block-count, blocks-from, blocks-of, rewrite-nodes, rewrite-reads, NodeOutput}
+use Rattle.nesting.specs.Nesting.{block-count, blocks-from, blocks-of, NodeOutput, look-up-nodes}
+use Rattle.nesting.specs.Rewriting.{rewrite-nodes, rewrite-reads}
 use Rattle.follows.specs.Usable.{AllUsable, BlockUsable, BlocksUsable, Usable, total}
 use Rattle.follows.specs.Small.{eqb-self, or-left, or-right}
 use Rattle.follows.specs.Key.{is-constant, is-instr, key, nodes-none, owns-nodes}
@@ -81,7 +82,7 @@ module _ (rule : Rule) (ρ : Resolver) (on-instr : (q k : ℕ) → ρ (instr q k
 
   pub blocks-agree : (os : List NodeOutput) (test b n k : ℕ) (bs : List (List Instr)) → ((v : Value) → Usable r ar 0 v → owns-nodes (blocks-from n r k bs) (key os (ρ v)) ≡ false)
       → (a s : RunState) → BlocksUsable r ar k bs → Agree ρ r ar k a s → Done os test b n k bs a s
-  unfolding run-nodes rewrite-nodes do-blocks owns-nodes
+  unfolding run-nodes look-up-nodes do-blocks owns-nodes
   blocks-agree os test b n k [] apart a s us ag = record { state = s; runs-on = refl; agree = ag }
   blocks-agree os test b n k (x ∷ bs) apart a s (u, us) ag =
       let apart′ : (v : Value) → Usable r ar 0 v → is-instr r (key os (ρ v)) ≡ false = λ v h. or-left (is-instr r (key os (ρ v)))

@@ -3,13 +3,14 @@ use mathlib.Core.Bool.{Bool, false, true}
 use mathlib.Core.List.{List, [], _∷_, map}
 use mathlib.Core.Logic.{_⊎_, inl, inr}
 use mathlib.Core.Option.{Option, none, some}
-use mathlib.Core.Path.{_≡_, refl}
+use mathlib.Core.Path.{_∙_, _≡_, ap, refl, sym}
 use Prim.Native.Nat.{suc, zero, ℕ}
 use lib.ListN.{getD}
 use Rattle.meaning.specs.Graph.{Graph, Value, output, pick, sameValue, undef}
+use Rattle.meaning.specs.Lists.{all}
 use Rattle.format.specs.ReadLaws.{clash}
 use Rattle.format.specs.WellRead.{and-both}
-use Rattle.nesting.specs.Nesting.{MaybeClaimedRegion, deferred-of, DeferredEdgeBundle, DeferredEdgeBundleSet, DeferredTarget, LazyCond, LazyConds, merge, true-cond, DeferredTargetSummary, PerCaseDeferred, PlannedBundle, PlannedInput, UniqueInput, all-true, conditions-of, differing, in-parent, is-true-or-undef, merged, no-value, per-case-deferred, plan-bundle, shared, unique, unique-input, value-in-case, with-case, with-value, DefinedSelect, NodeOutput}
+use Rattle.nesting.specs.Nesting.{MaybeClaimedRegion, deferred-of, DeferredEdgeBundle, DeferredEdgeBundleSet, DeferredTarget, LazyCond, LazyConds, false-cond, merge, true-cond, undef-cond, DeferredTargetSummary, PerCaseDeferred, PlannedBundle, PlannedInput, all-true, conditions-of, in-parent, merged, per-case-deferred, plan-bundle, shared, passed-inputs, unique-input, value-in-case, DefinedSelect, NodeOutput}
 use Rattle.follows.specs.Small.{In, nth}
 use Rattle.follows.specs.Key.{OutputAt}
 use Rattle.follows.specs.Conditions.{condition-at}
@@ -25,6 +26,10 @@ per-cases-condition x [] j cj p = cc
 per-cases-condition x (c ∷ cs) zero cj p = let e : c ≡ cj = cc in rw e
 per-cases-condition x (c ∷ cs) (suc j) cj p = per-cases-condition x cs j cj p
 
+-- document 01: a condition is True when every case is True or Undef
+abbrev pub is-true-or-undef : LazyCond → Bool
+is-true-or-undef c = elim c [ true-cond ↦ true | undef-cond ↦ true | false-cond ↦ false | merge n k v cs ↦ false ]
+
 pub per-cases-true : (x : DeferredTarget) (cs : List MaybeClaimedRegion) (j : ℕ) (cj : MaybeClaimedRegion) → nth cs j ≡ some cj → all-true (per-cases x cs) ≡ true
     → is-true-or-undef (per-case-deferred x (deferred-of cj) .condition) ≡ true
 per-cases-true x [] j cj p h = cc
@@ -38,57 +43,70 @@ per-cases-at k ty x (c ∷ cs) zero cj p = let e : c ≡ cj = cc in rw e
 per-cases-at k ty x (c ∷ cs) (suc j) cj p = per-cases-at k ty x cs j cj p
 
 -- ---- a value that all cases share
-pub with-value-inv : (o : Option Value) (a : UniqueInput) (v : Value) → with-value o a ≡ unique v → (o ≡ some v) × ((a ≡ unique v) ⊎ (a ≡ no-value))
-with-value-inv none a v h = absurd (clash (cc))
-with-value-inv (some w) no-value v h = (cc, inr refl)
-with-value-inv (some w) differing v h = absurd (clash (cc))
-with-value-inv (some w) (unique w′) v h = go (sameValue w w′) refl
+abbrev is-value : Value → Option Value → Bool
+is-value v o = elim o [ none ↦ false | some w ↦ sameValue w v ]
+
+all-value : (v : Value) (os : List (Option Value)) → all (is-value v) os ≡ true → (o : Option Value) → In o os → o ≡ some v
+all-value v [] h o i = absurd i
+all-value v (none ∷ os) h o i = absurd (clash (cc))
+all-value v (some w ∷ os) h o (inl p) = let e = sameValue→eq w v (and-both (sameValue w v) _ h .0) in p ∙ ap some e
+all-value v (some w ∷ os) h o (inr i) = all-value v os (and-both (sameValue w v) _ h .1) o i
+
+-- what is the same in all cases is so in each, and is in one
+pub unique-is : (os : List (Option Value)) (v : Value) → unique-input os ≡ some v → ((o : Option Value) → In o os → o ≡ some v) × In (some v) os
+unique-is [] v h = absurd (clash (cc))
+unique-is (none ∷ os) v h = absurd (clash (cc))
+unique-is (some w ∷ os) v h = go (all (is-value w) os) refl h
   where
-    go : (b : Bool) → sameValue w w′ ≡ b → (some w ≡ some v) × ((unique w′ ≡ unique v) ⊎ (unique w′ ≡ no-value))
-    go true p = let q : unique w′ ≡ unique v = rw p at h in let e = sameValue→eq w w′ p in (cc, inl q)
-    go false p = let q : differing ≡ unique v = rw p at h in absurd (clash (cc))
+    go : (b : Bool) → all (is-value w) os ≡ b → pick b (some w) none ≡ some v → ((o : Option Value) → (o ≡ some w) ⊎ In o os → o ≡ some v) × ((some v ≡ some w) ⊎ In (some v) os)
+    go false q p = absurd (clash (cc))
+    go true q p = (each, inl (sym p))
+      where
+        each : (o : Option Value) → (o ≡ some w) ⊎ In o os → o ≡ some v
+        each o (inl r) = r ∙ p
+        each o (inr i) = all-value w os q o i ∙ p
 
-with-case-inv : (k : ℕ) (c : MaybeClaimedRegion) (i : Option (List Value)) (a : UniqueInput) (v : Value) → with-case k c i a ≡ unique v → (a ≡ unique v) ⊎ (a ≡ no-value)
-with-case-inv k c none a v h = inl h
-with-case-inv k c (some vs) a v h = with-value-inv (in-parent c (getD vs k (undef 0))) a v h .1
+module _ (k : ℕ) (x : DeferredTarget) where
+  abbrev pub passed : List MaybeClaimedRegion → List (Option Value)
+  passed cs = passed-inputs k cs (per-cases x cs)
 
-with-value-closed : (o : Option Value) (a : UniqueInput) → with-value o a ≡ no-value → ⊥
-with-value-closed none a h = clash (cc)
-with-value-closed (some w) no-value h = clash (cc)
-with-value-closed (some w) differing h = clash (cc)
-with-value-closed (some w) (unique w′) h = go (sameValue w w′) h
-  where
-    go : (b : Bool) → pick b (unique w′) differing ≡ no-value → ⊥
-    go true q = clash (cc)
-    go false q = clash (cc)
+  abbrev also : MaybeClaimedRegion → Option (List Value) → List (Option Value) → List (Option Value)
+  also c i os = elim i [ none ↦ os | some vs ↦ in-parent c (getD vs k (undef 0)) ∷ os ]
 
-with-case-open : (k : ℕ) (c : MaybeClaimedRegion) (i : Option (List Value)) (a : UniqueInput) → with-case k c i a ≡ no-value → a ≡ no-value
-with-case-open k c none a h = h
-with-case-open k c (some vs) a h = absurd (with-value-closed (in-parent c (getD vs k (undef 0))) a h)
-
-module _ (k : ℕ) (x : DeferredTarget) (cj : MaybeClaimedRegion) (vs : List Value) (q : per-case-deferred x (deferred-of cj) .inputs ≡ some vs) where
-  unique-closed : (cs : List MaybeClaimedRegion) (j : ℕ) → nth cs j ≡ some cj → unique-input k cs (per-cases x cs) ≡ no-value → ⊥
-  unique-closed [] j p h = clash (cc)
-  unique-closed (c ∷ cs) zero p h =
-      let e : c ≡ cj = cc in
-      let h′ : with-case k cj (some vs) (unique-input k cs (per-cases x cs)) ≡ no-value = rw (e, q) at h in
-      with-value-closed (in-parent cj (getD vs k (undef 0))) _ h′
-  unique-closed (c ∷ cs) (suc j) p h = unique-closed cs j p (with-case-open k c (per-case-deferred x (deferred-of c) .inputs) (unique-input k cs (per-cases x cs)) h)
-
-  -- what is the same in all cases is so in this one
-  pub unique-at : (cs : List MaybeClaimedRegion) (j : ℕ) (v : Value) → nth cs j ≡ some cj → unique-input k cs (per-cases x cs) ≡ unique v
-      → in-parent cj (getD vs k (undef 0)) ≡ some v
-  unique-at [] j v p h = cc
-  unique-at (c ∷ cs) zero v p h =
-      let e : c ≡ cj = cc in
-      let h′ : with-case k cj (some vs) (unique-input k cs (per-cases x cs)) ≡ unique v = rw (e, q) at h in
-      with-value-inv (in-parent cj (getD vs k (undef 0))) _ v h′ .0
-  unique-at (c ∷ cs) (suc j) v p h = go (λ r. unique-at cs j v p r) (with-case-inv k c (per-case-deferred x (deferred-of c) .inputs) (unique-input k cs (per-cases x cs)) v h)
+  passed-in : (cj : MaybeClaimedRegion) (vs : List Value) → per-case-deferred x (deferred-of cj) .inputs ≡ some vs
+      → (cs : List MaybeClaimedRegion) (j : ℕ) → nth cs j ≡ some cj → In (in-parent cj (getD vs k (undef 0))) (passed cs)
+  passed-in cj vs q [] j p = absurd (clash (cc))
+  passed-in cj vs q (c ∷ cs) zero p =
+      let e : cj ≡ c = cc in
+      let q′ : per-case-deferred x (deferred-of c) .inputs ≡ some vs = rw (← e) q in
+      rw (e, passed-inputs, q′) (inl refl)
+  passed-in cj vs q (c ∷ cs) (suc j) p = go (per-case-deferred x (deferred-of c) .inputs) (passed-in cj vs q cs j p)
     where
-      go : (unique-input k cs (per-cases x cs) ≡ unique v → in-parent cj (getD vs k (undef 0)) ≡ some v)
-          → (unique-input k cs (per-cases x cs) ≡ unique v) ⊎ (unique-input k cs (per-cases x cs) ≡ no-value) → in-parent cj (getD vs k (undef 0)) ≡ some v
-      go ih (inl r) = ih r
-      go ih (inr r) = absurd (unique-closed cs j p r)
+      go : (i : Option (List Value)) → In (in-parent cj (getD vs k (undef 0))) (passed cs) → In (in-parent cj (getD vs k (undef 0))) (also c i (passed cs))
+      go none ih = ih
+      go (some ws) ih = inr ih
+
+  pub unique-at : (cj : MaybeClaimedRegion) (vs : List Value) → per-case-deferred x (deferred-of cj) .inputs ≡ some vs
+      → (cs : List MaybeClaimedRegion) (j : ℕ) (v : Value) → nth cs j ≡ some cj → unique-input (passed cs) ≡ some v → in-parent cj (getD vs k (undef 0)) ≡ some v
+  unique-at cj vs q cs j v p h = unique-is (passed cs) v h .0 _ (passed-in cj vs q cs j p)
+
+  abbrev Passes : List MaybeClaimedRegion → Option Value → Type 0
+  Passes cs o = (c : MaybeClaimedRegion) × In c cs × ((vs : List Value) × (per-case-deferred x (deferred-of c) .inputs ≡ some vs) × (in-parent c (getD vs k (undef 0)) ≡ o))
+
+  passed-from : (cs : List MaybeClaimedRegion) (o : Option Value) → In o (passed cs) → Passes cs o
+  passed-from [] o i = absurd i
+  passed-from (c ∷ cs) o i = go (per-case-deferred x (deferred-of c) .inputs) refl (λ h. passed-from cs o h) i
+    where
+      further : Passes cs o → Passes (c ∷ cs) o
+      further y = (y .0, inr (y .1), y .2)
+
+      go : (l : Option (List Value)) → per-case-deferred x (deferred-of c) .inputs ≡ l → (In o (passed cs) → Passes cs o) → In o (also c l (passed cs)) → Passes (c ∷ cs) o
+      go none p ih h = further (ih h)
+      go (some vs) p ih (inl q) = (c, inl refl, (vs, p, sym q))
+      go (some vs) p ih (inr h) = further (ih h)
+
+  pub unique-from : (cs : List MaybeClaimedRegion) (v : Value) → unique-input (passed cs) ≡ some v → Passes cs (some v)
+  unique-from cs v h = passed-from cs (some v) (unique-is (passed cs) v h .1)
 
 -- ---- what is emitted for a plan, as the outputs stand
 abbrev pub EmitsOne : List NodeOutput → DefinedSelect → PlannedInput → Value → Type 0

@@ -12,7 +12,8 @@ use Rattle.meaning.specs.Graph.{Region, Graph, region, nowhere, pick, edgesOf, 
 use Rattle.format.specs.Read.{isIn}
 use Rattle.format.specs.ReadLaws.{clash}
 use Rattle.format.specs.Valid.{Distinct}
-use Rattle.nesting.specs.Nesting.{visit, edge-count, reachable}
+use Rattle.meaning.specs.Lists.{total}
+use Rattle.nesting.specs.Nesting.{visit, reachable}
 use Rattle.follows.specs.Reaches.{Reaches, entry, target}
 use Rattle.follows.specs.Members.{in-front, in-rest, FirstOrRest, first, rest, first-or-rest, in-left, in-right, left-or-right}
 
@@ -46,7 +47,7 @@ module _ (g : Graph) where
   unseen-takes k (x ∷ xs) (suc i) r seen e h =
       omega (arith, unseen-takes (suc k) xs i r seen (omega arith) h, pick-less (outs x) (eqb k r) (isIn k seen))
 
-  unseen-all : (k : ℕ) (xs : List Region) → unseen k xs [] ≡ edge-count xs
+  unseen-all : (k : ℕ) (xs : List Region) → unseen k xs [] ≡ total (λ r. length (edgesOf (r .terminator))) xs
   unseen-all k [] = refl
   unseen-all k (x ∷ xs) = ap (λ n. outs x + n) (unseen-all (suc k) xs)
 

@@ -10,7 +10,7 @@ use lib.ListN.{length}
 use borrow.Author.Tests.{eqb-true}
 use Rattle.meaning.specs.Graph.{Value, bool, bool-cond, pick, region}
 use Rattle.meaning.specs.Runs.{End, Event, RunState, place-taken, word}
-use Rattle.nesting.specs.Nesting.{is-always, same-target, Body, ClaimedRegion, MaybeClaimedRegion, err, lazy, ok, Claim, SplitOut, resolve-by, resolve-deferred, split-out-matching, DeferredEdgeBundle, DeferredEdgeBundleSet, DeferredTarget, LazyCond, to-region, to-return, true-cond, structurize-select-into, Answer, NestState, NodeOutput, done, turned-away}
+use Rattle.nesting.specs.Nesting.{same-target, Body, ClaimedRegion, MaybeClaimedRegion, err, lazy, ok, Claim, SplitOut, resolve-by, resolve-deferred, split-out-matching, DeferredEdgeBundle, DeferredEdgeBundleSet, DeferredTarget, LazyCond, to-region, to-return, true-cond, structurize-select-into, Answer, NestState, NodeOutput, done, turned-away}
 use Rattle.nesting.specs.FirstClaim.{bundle-to, first-claim}
 use Rattle.nesting.specs.Post.{bind, map-post}
 use Rattle.follows.specs.Small.{In}
@@ -18,7 +18,7 @@ use Rattle.follows.specs.World.{Fits, World, ar}
 use Rattle.follows.specs.Tables.{Resolver, Respects, tables}
 use Rattle.follows.specs.Conditions.{Mat}
 use Rattle.follows.specs.Leads.{Based, Goes, OnwardTo, leads-map}
-use Rattle.follows.specs.Bundles.{Distinct, in-split, one-only, split-at, split-distinct, split-in}
+use Rattle.follows.specs.Bundles.{Distinct, in-split, is-always, one-only, split-at, split-distinct, split-in}
 use Rattle.follows.specs.Defined.{IfDone}
 use Rattle.follows.specs.Scope.{CondOk, SetOk, mat-scoped}
 use Rattle.follows.specs.Invariant.{Inv, Later, later-refl, later-then}

@@ -10,7 +10,8 @@ use Rattle.meaning.specs.Runs.{Nodes, End, Event, RunState}
 use Rattle.meaning.specs.Graph.{Value, bool, input, output, undef}
 use Rattle.nesting.specs.ChainEnds.{names}
 use Rattle.nesting.specs.Contexts.{InContext, context-more, context-rewritten, no-input}
-use Rattle.nesting.specs.Nesting.{join, DeferredEdgeBundle, DeferredEdgeBundleSet, DeferredTarget, LazyCond, false-cond, merge, true-cond, undef-cond, rewrite, rewrites-of, NodeOutput, RewriteEntry}
+use Rattle.nesting.specs.Nesting.{join, DeferredEdgeBundle, DeferredEdgeBundleSet, DeferredTarget, LazyCond, false-cond, merge, true-cond, undef-cond, rewrites-of, NodeOutput, RewriteEntry}
+use Rattle.nesting.specs.Rewriting.{rewrite}
 use Rattle.follows.specs.Small.{In}
 use Rattle.follows.specs.Key.{Key, OutputAt, constant-by, is-constant, key, key-constant, key-output, of-node, of-none, owns-join, owns-nodes}
 use Rattle.follows.specs.World.{Fits, World}

@@ -11,7 +11,8 @@ use borrow.Author.Tests.{eqb-true}
 use Rattle.meaning.specs.Runs.{Cases, Nodes, _▸_, select, ⟨⟩, pay, run-nodes, through, End, Event, RunState, mark, word}
 use Rattle.meaning.specs.Graph.{SelectionKind, Value, bool, bool-cond, const, held, input, instr, number, output, pick, undef}
 use Rattle.format.specs.ReadLaws.{clash}
-use Rattle.nesting.specs.Nesting.{Body, ClaimedRegion, MaybeClaimedRegion, Scrutinee, deferred-of, err, has-children, join, ok, DeferredEdgeBundle, to-region, rewrite-nodes, DeferredTargetSummary, any-needs-select, any-non-empty-case, deferred-targets, in-parent, plan-bundles, rewrite, DefinedSelect, rewrite-case, rewrite-claimed, shared-bundle, NestState, NodeOutput}
+use Rattle.nesting.specs.Nesting.{Body, ClaimedRegion, MaybeClaimedRegion, Scrutinee, deferred-of, err, has-children, join, ok, DeferredEdgeBundle, to-region, DeferredTargetSummary, any-needs-select, any-non-empty-case, deferred-targets, in-parent, plan-bundles, DefinedSelect, shared-bundle, NestState, NodeOutput, look-up-nodes}
+use Rattle.nesting.specs.Rewriting.{rewrite-claimed, rewrite-nodes, rewrite, rewrite-case}
 use Rattle.follows.specs.Small.{In, eqb-self, false-if, from-map, nth, nth-in, nth-map, or-left, or-right}
 use Rattle.follows.specs.Key.{Key, is-constant, is-node, key, node-key, nodes-none, of-node, owns-cases, owns-join, owns-nodes}
 use Rattle.follows.specs.World.{Fits, World, ar, fits-same, runs}
@@ -238,7 +239,7 @@ module _ (W : World) where
 
       unmade-goes : (c : MaybeClaimedRegion) (j : ℕ) → nth cases j ≡ some c → any-non-empty-case cases ≡ false → any-needs-select (plan-bundles (W .g) cs) ≡ false
           → Enters W ρ os k e h st c → Goes W ρ os k (map shared-bundle (plan-bundles (W .g) cs)) e h st
-      unfolding run-nodes rewrite-nodes
+      unfolding run-nodes look-up-nodes
       unmade-goes c j at-c nk nn en =
           let i = nth-in cases j c at-c in
           let at-j = nth-map (rewrite-case σ) cases j c at-c in
@@ -258,7 +259,7 @@ module _ (W : World) where
       pub unmade-follows : al .more ≡ ⟨⟩ → any-non-empty-case cases ≡ false → any-needs-select (plan-bundles (W .g) cs) ≡ false
           → y .deferred-edges ≡ map shared-bundle (plan-bundles (W .g) cs) → Takes W kind sc cases ρ os k e h st
           → Tracks W ρ os k (y .deferred-edges) e h (runs W b (rewrite-nodes ρ os (al .more)) st)
-      unfolding run-nodes rewrite-nodes
+      unfolding run-nodes look-up-nodes
       unmade-follows te nk nn de tk = rw (te, de) (record { leads-to = unmade-goes (tk .case-of) (tk .place-of) (tk .at-place) nk nn (tk .enters) })
 
     pub select-sim : Leads W r r ks (tables s) (Takes W kind sc cases) → Sim W r r (join ks (al .more)) (y .deferred-edges) (tables s′)

@@ -11,7 +11,7 @@ use lib.Seq.{drop-cons}
 use Rattle.meaning.specs.Graph.{SelectionKind, Value, bool, bool-cond, output, pick, undef}
 use Rattle.meaning.specs.Runs.{assign-outputs, End, Event, RunState, Word, mark, word}
 use Rattle.format.specs.ReadLaws.{clash}
-use Rattle.nesting.specs.Nesting.{get-by-target, is-always, same-target, MaybeClaimedRegion, deferred-of, DeferredEdgeBundle, DeferredEdgeBundleSet, DeferredTarget, LazyCond, LazyConds, false-cond, merge, true-cond, undef-cond, case-outputs, output-decls, outputs-of, DeferredTargetSummary, UniqueInput, all-true, conditions-of, differing, in-parent, is-true-or-undef, merged, no-value, per-case-deferred, per-case-of, plan-bundle, plan-input, plan-inputs, target-type, unique, unique-input, value-in-case, DefinedSelect, NodeOutput}
+use Rattle.nesting.specs.Nesting.{get-edge-bundle-by-target, same-target, MaybeClaimedRegion, deferred-of, DeferredEdgeBundle, DeferredEdgeBundleSet, DeferredTarget, LazyCond, LazyConds, false-cond, merge, true-cond, undef-cond, case-outputs, output-decls, DeferredTargetSummary, all-true, conditions-of, in-parent, merged, per-case-deferred, per-case-of, plan-bundle, plan-input, plan-inputs, target-type, unique-input, value-in-case, DefinedSelect, NodeOutput}
 use Rattle.follows.specs.Small.{In, nth}
 use Rattle.follows.specs.Key.{OutputAt}
 use Rattle.follows.specs.World.{World}
@@ -19,13 +19,13 @@ use Rattle.follows.specs.Tables.{Resolver}
 use Rattle.follows.specs.Frame.{output-read}
 use Rattle.follows.specs.Conditions.{Mat, Truthy, condition-at, mats-at}
 use Rattle.follows.specs.Leads.{Chosen, Goes, OnwardTo, onward-reads, read}
-use Rattle.follows.specs.Bundles.{Distinct, find-in, found-in, two-apart}
-use Rattle.follows.specs.Planned.{Emits, EmitsAll, EmitsBundle, EmitsOne, condition-from, emits-from, emits-in, per-cases, per-cases-at, per-cases-condition, per-cases-true, unique-at}
+use Rattle.follows.specs.Bundles.{Distinct, find-in, found-in, is-always, two-apart}
+use Rattle.follows.specs.Planned.{Emits, EmitsAll, EmitsBundle, EmitsOne, condition-from, emits-from, emits-in, is-true-or-undef, passed, per-cases, per-cases-at, per-cases-condition, per-cases-true, unique-at}
 
 -- the state after the outputs of node n became those of case j
 module _ (ρ : Resolver) (os : List NodeOutput) (n j : ℕ) (s : RunState) where
   abbrev pub outputs-set : RunState
-  outputs-set = assign-outputs (output-decls n 0 os) (map ρ (case-outputs j (outputs-of n os))) s
+  outputs-set = assign-outputs (output-decls n 0 os) (map ρ (case-outputs n j os)) s
 
   pub output-after : (k : ℕ) (o : NodeOutput) → OutputAt n os k o → outputs-set .env (output k) ≡ s .env (ρ (getD (o .values) j (undef 0)))
   output-after k o p = output-read ρ os n j s k o p
@@ -69,7 +69,7 @@ module _ (ρ : Resolver) (os : List NodeOutput) (n j : ℕ) (kind : SelectionKin
       ap (λ x. s′ .env (ρ x)) e ∙ ap (s′ .env) (on-output k) ∙ reads k o at-k ∙ fails (getD (o .values) j (undef 0)) (mats-at cs os (o .values) j c ms here)
 
 -- ---- the chosen case's part
-pub per-case-is : (x : DeferredTarget) (d : DeferredEdgeBundleSet) (y : DeferredEdgeBundle) → In y d → per-case-deferred x d ≡ per-case-of d (get-by-target x d)
+pub per-case-is : (x : DeferredTarget) (d : DeferredEdgeBundleSet) (y : DeferredEdgeBundle) → In y d → per-case-deferred x d ≡ per-case-of d (get-edge-bundle-by-target x d)
 per-case-is x [] y i = absurd i
 per-case-is x (e ∷ es) y i = refl
 
@@ -89,9 +89,9 @@ module _ (ρ : Resolver) (os : List NodeOutput) (s : RunState)
 
   per-case-false : (x : DeferredTarget) → same-target x (y .target) ≡ false → (v : Value) → Mat (per-case-deferred x d .condition) os v → s .env (ρ v) ≡ word 0
   unfolding Mat
-  per-case-false x ne v mat = go (get-by-target x d) refl (rw (per-case-is x d y (c .member)) at mat)
+  per-case-false x ne v mat = go (get-edge-bundle-by-target x d) refl (rw (per-case-is x d y (c .member)) at mat)
     where
-      go : (o : Option DeferredEdgeBundle) → get-by-target x d ≡ o → Mat (per-case-of d o .condition) os v → s .env (ρ v) ≡ word 0
+      go : (o : Option DeferredEdgeBundle) → get-edge-bundle-by-target x d ≡ o → Mat (per-case-of d o .condition) os v → s .env (ρ v) ≡ word 0
       go none p mt = ap (λ z. s .env (ρ z)) mt ∙ on-bool false
       go (some z) p mt =
           let in-d = found-in x d z p in
@@ -118,20 +118,19 @@ module _ (W : World) (ρ : Resolver) (os : List NodeOutput) (n : DefinedSelect) 
   mine : per-case-deferred (y .target) (deferred-of cj) .inputs ≡ some ys
   mine = ap (λ p. p .inputs) (per-case-mine ρ os s on-bool on-undef (deferred-of cj) dist y (goes .chosen))
 
-  one-input : (k ty : ℕ) (v : Value) → EmitsOne os n (plan-input k ty (per-cases (y .target) cs) (unique-input k cs (per-cases (y .target) cs))) v
+  one-input : (k ty : ℕ) (v : Value) → EmitsOne os n (plan-input k ty (per-cases (y .target) cs) (unique-input (passed k (y .target) cs))) v
       → s′ .env (ρ v) ≡ s .env (ρ (getD ys k (undef 0)))
-  one-input k ty v em = go (unique-input k cs (per-cases (y .target) cs)) refl em
+  one-input k ty v em = go (unique-input (passed k (y .target) cs)) refl em
     where
       out-of : EmitsOne os n (merged ty (map (value-in-case k ty) (per-cases (y .target) cs))) v → s′ .env (ρ v) ≡ s .env (ρ (getD ys k (undef 0)))
       out-of (i, o, is-out, at-i, vals) =
           ap (λ z. s′ .env (ρ z)) is-out ∙ ap (s′ .env) (on-output i) ∙ reads i o at-i
           ∙ ap (λ z. s .env (ρ z)) (ap (λ l. getD l j (undef 0)) vals ∙ per-cases-at k ty (y .target) cs j cj at-j ∙ rw (mine, value-in-case))
 
-      go : (a : UniqueInput) → unique-input k cs (per-cases (y .target) cs) ≡ a → EmitsOne os n (plan-input k ty (per-cases (y .target) cs) a) v
+      go : (a : Option Value) → unique-input (passed k (y .target) cs) ≡ a → EmitsOne os n (plan-input k ty (per-cases (y .target) cs) a) v
           → s′ .env (ρ v) ≡ s .env (ρ (getD ys k (undef 0)))
-      go no-value p x = out-of x
-      go differing p x = out-of x
-      go (unique w) p x = rw x (shares k w (unique-at k (y .target) cj ys mine cs j w at-j p))
+      go none p x = out-of x
+      go (some w) p x = rw x (shares k w (unique-at k (y .target) cj ys mine cs j w at-j p))
 
   all-inputs : (a k : ℕ) (vs : List Value) → k + a ≡ length ys → Emits os n (plan-inputs (W .g) a k (y .target) cs (per-cases (y .target) cs)) vs
       → read ρ s′ vs ≡ read ρ s (drop k ys)

@@ -9,7 +9,8 @@ use native.Mathlib.Omega.{arith}
 use lib.ListN.{getD, length}
 use Rattle.meaning.specs.Runs.{Cases, Nodes, _▸_, case, select, ∅, ⟨⟩, Ran, and-then, case-count, ended, no-end, pay, run-case, run-nodes, through, End, Event, Rule, RunState, place-taken, word}
 use Rattle.meaning.specs.Graph.{SelectionKind, Value, bool, bool-cond, pick, undef}
-use Rattle.nesting.specs.Nesting.{MaybeClaimedRegion, deferred-of, DeferredEdgeBundle, DeferredEdgeBundleSet, case-outputs, output-decls, outputs-of, rewrite-cases-of, rewrite-nodes, DeferredTargetSummary, in-parent, plan-bundle, DefinedSelect, NodeOutput}
+use Rattle.nesting.specs.Nesting.{MaybeClaimedRegion, deferred-of, DeferredEdgeBundle, DeferredEdgeBundleSet, case-outputs, output-decls, DeferredTargetSummary, in-parent, plan-bundle, DefinedSelect, NodeOutput, look-up-nodes, look-up-cases}
+use Rattle.nesting.specs.Rewriting.{rewrite-cases-of, rewrite-nodes}
 use Rattle.follows.specs.Small.{In, nth}
 use Rattle.follows.specs.Key.{is-node, key, key-constant, owns-nodes}
 use Rattle.follows.specs.World.{World, runs}
@@ -28,14 +29,14 @@ children-at (case r ks os cs) (suc j) = children-at cs j
 
 module _ (ρ : Resolver) (os : List NodeOutput) where
   pub count-form : (cs : Cases) (n j : ℕ) → case-count (rewrite-cases-of ρ os cs n j) ≡ case-count cs
-  unfolding rewrite-cases-of
+  unfolding look-up-cases
   count-form ∅ n j = refl
   count-form (case r ks vs cs) n j = ap suc (count-form cs n (suc j))
 
   pub case-run : (rule : Rule) (test b : ℕ) (cs : Cases) (n i j : ℕ) (ks : Nodes) (s : RunState) → children-at cs j ≡ some ks
       → run-case rule test b (rewrite-cases-of ρ os cs n i) j (output-decls n 0 os) s ≡ and-then (run-nodes rule test b (rewrite-nodes ρ os ks) s)
       (λ s′. through (outputs-set ρ os n (i + j) s′))
-  unfolding rewrite-cases-of run-case
+  unfolding look-up-cases run-case
   case-run rule test b ∅ n i j ks s p = cc
   case-run rule test b (case r ks′ vs cs) n i zero ks s p = let e : ks′ ≡ ks = cc in let z : i + 0 ≡ i = omega arith in rw (e, z)
   case-run rule test b (case r ks′ vs cs) n i (suc j) ks s p = let z : i + suc j ≡ suc i + j = omega arith in rw z (case-run rule test b cs n (suc i) j ks s p)
@@ -46,7 +47,7 @@ module _ (W : World) where
       → children-at ccs j ≡ some ksj → st .env (ρ sc) ≡ word w → place-taken kind w (case-count ccs) ≡ j
       → runs W b (rewrite-nodes ρ os (select n kind sc [] ccs ▸ ⟨⟩)) st ≡ and-then (runs W b (rewrite-nodes ρ os ksj) (pay (W .g .test-cost) st))
       (λ s′. through (outputs-set ρ os n j s′))
-  unfolding run-nodes rewrite-nodes
+  unfolding run-nodes look-up-nodes
   select-runs ρ os b n kind sc ccs j w ksj st kj tests takes =
       let z : 0 + j ≡ j = omega arith in
       rw (then-on _, tests, count-form ρ os ccs n 0, takes, case-run ρ os (W .rule) (W .g .test-cost) b ccs n 0 j ksj (pay (W .g .test-cost) st) kj, z)
@@ -73,7 +74,7 @@ module _ (W : World)
       → Goes W ρ os k d e h (outputs-set ρ os (n .node) j s₁)
   after s₁ p goes =
       let s₂ : RunState = outputs-set ρ os (n .node) j s₁ in
-      let vs : List Value = map ρ (case-outputs j (outputs-of (n .node) os)) in
+      let vs : List Value = map ρ (case-outputs (n .node) j os) in
       let out-kept : (u : Value) → is-node (n .node) (key os u) ≡ false → s₂ .env u ≡ s₁ .env u = λ u c. outputs-kept (n .node) os u c vs s₁ in
       let bs₁ : Based W s₁ = based-after W ρ os ksj b (pay (W .g .test-cost) s) s₁ p (record { based = bs .based }) in
       let bs₂ : Based W s₂ = record { based = λ v c. out-kept v (rw (key-constant os v c)) ∙ bs₁ .based v c } in

@@ -14,8 +14,8 @@ use Rattle.meaning.specs.Graph.{SelectionKind, Value, input, undef}
 use Rattle.format.specs.ReadLaws.{clash}
 use Rattle.nesting.specs.ChainEnds.{Gives}
 use Rattle.nesting.specs.Contexts.{InContext, entry-at, open-else}
-use Rattle.meaning.specs.Lists.{any}
-use Rattle.nesting.specs.Nesting.{Body, ClaimedRegion, MaybeClaimedRegion, Scrutinee, err, join, ok, with-twice, DeferredEdgeBundleSet, any-needs-select, any-non-empty-case, plan-bundles, meets, rewrite, rewrites-of, DefinedSelect, define-select, emit, meets-in-case, replace-inputs, rewrite-case, rewrite-cases, rewrite-claimed, select-if, shared-bundle, structurize-select, NestState, NodeOutput, replace-with}
+use Rattle.nesting.specs.Nesting.{each, look-up, look-up-case, Body, ClaimedRegion, MaybeClaimedRegion, Scrutinee, err, join, ok, with-twice, DeferredEdgeBundleSet, any-needs-select, any-non-empty-case, plan-bundles, rewrites-of, DefinedSelect, define-select, emit, replace-inputs, select-if, shared-bundle, structurize-select, NestState, NodeOutput, replace-with}
+use Rattle.nesting.specs.Rewriting.{rewrite-claimed, rewrite-cases-is, rewrite, rewrite-case}
 use Rattle.nesting.specs.Post.{bind, map-post}
 use Rattle.follows.specs.ConvergentCase.{Apart}
 use Rattle.follows.specs.Small.{In, from-map, in-map, or-either, or-left, or-right}
@@ -303,9 +303,10 @@ module _ (W : World) where
         }
 
     pub structurize-select-post : IfDone SelectDone (structurize-select (W .g) ks kind sc cases s)
-    unfolding structurize-select rewrite-cases
+    unfolding structurize-select
     structurize-select-post =
-        let s₁ : NestState = with-twice (any (meets-in-case (meets (s .region-input-rewrites))) cases) s in
+        rw (rewrite-cases-is cases s)
+        let s₁ : NestState = with-twice (each (look-up-case (look-up (s .region-input-rewrites))) cases .twice) s in
         let gr₁ : Grew s s₁ = grew-steady .twice _ s in
         bind (select-if (any-non-empty-case cases || any-needs-select (plan-bundles (W .g) cs)) kind sc cases (plan-bundles (W .g) cs) s₁) _
         (select-if-post _ refl s₁ gr₁) λ x s₂ sel.

@@ -7,7 +7,8 @@ use Prim.Native.Nat.{ℕ, _+_, _≤_}
 use native.Mathlib.Omega.{arith}
 use Rattle.meaning.specs.Graph.{Value, SelectionKind, Graph}
 use Rattle.meaning.specs.Runs.{Nodes}
-use Rattle.nesting.specs.Nesting.{DeferredEdgeBundleSet, NestState, rewrite, MaybeClaimedRegion, ok, err, Scrutinee, deferred-of, append-maybe-claimed-region, Convergent, no-one, several, exactly-one, convergent-cases, DeferredTargetSummary, deferred-targets, PlannedBundle, plan-bundle, plan-bundles, any-needs-select, any-non-empty-case, rewrite-bundle, rewrite-case, rewrite-cases, DefinedSelect, define-select, emit-inputs, emit-condition, emit, shared-bundle, select-if, replace-inputs, structurize-select, structurize-select-by, structurize-select-into}
+use Rattle.nesting.specs.Nesting.{DeferredEdgeBundleSet, NestState, MaybeClaimedRegion, ok, err, Scrutinee, deferred-of, append-maybe-claimed-region, convergent-cases, DeferredTargetSummary, deferred-targets, PlannedBundle, plan-bundle, plan-bundles, any-needs-select, any-non-empty-case, DefinedSelect, define-select, emit-inputs, emit-condition, emit, shared-bundle, select-if, replace-inputs, structurize-select, structurize-select-by, without-convergent, structurize-select-into}
+use Rattle.nesting.specs.Rewriting.{rewrite-cases-is, rewrite, rewrite-bundle, rewrite-case}
 use Rattle.nesting.specs.Post.{Post, map-post, bind}
 use Rattle.nesting.specs.Keeps.{define-select-keeps, emit-inputs-keeps, emit-condition-keeps, replace-inputs-keeps}
 use Rattle.nesting.specs.Still.{Still, still-refl, still-then, still-steady, still-log}
@@ -97,8 +98,9 @@ module _ (Q : ℕ → Type 0) (q9 : Q 9) where
 
     structurize-select-total : (parent : Nodes) (kind : SelectionKind) (x : Scrutinee) (cases : List MaybeClaimedRegion) (s : NestState)
         → Post Q (λ y s′. Selected s cases s′ (y .deferred-edges)) (structurize-select g parent kind x cases s)
-    unfolding structurize-select rewrite-cases
+    unfolding structurize-select
     structurize-select-total parent kind x cases s =
+        rw (rewrite-cases-is cases s)
         let cs = map (rewrite-case (rewrite (s .region-input-rewrites))) cases in
         bind (select-if (any-non-empty-case cases || any-needs-select (plan-bundles g cs)) kind x cases (plan-bundles g cs) _) _
         (select-if-total (any-non-empty-case cases || any-needs-select (plan-bundles g cs)) kind x cases (plan-bundles g cs) _) λ y s₁ a.
@@ -110,13 +112,13 @@ module _ (Q : ℕ → Type 0) (q9 : Q 9) where
     append-total parent (err d) s = record { post = (still-refl s, refl) }
     append-total parent (ok c) s = record { post = (record { states = refl; attempts = refl }, refl) }
 
-    select-by-total : (parent : Nodes) (kind : SelectionKind) (x : Scrutinee) (cases : List MaybeClaimedRegion) (c : Convergent) → convergent-cases cases ≡ c → (s : NestState)
-        → Post Q (λ y s′. Selected s cases s′ (y .deferred-edges)) (structurize-select-by g parent kind x cases c s)
-    select-by-total parent kind x cases no-one h s = structurize-select-total parent kind x cases s
-    select-by-total parent kind x cases several h s = structurize-select-total parent kind x cases s
-    select-by-total parent kind x cases (exactly-one c others) h s =
-        let cv = converges cases c others h in
-        bind (structurize-select g parent kind x others s) _ (structurize-select-total parent kind x others s) λ y s₁ a.
+    select-by-total : (parent : Nodes) (kind : SelectionKind) (x : Scrutinee) (cases cs : List MaybeClaimedRegion) → convergent-cases cases ≡ cs → (s : NestState)
+        → Post Q (λ y s′. Selected s cases s′ (y .deferred-edges)) (structurize-select-by g parent kind x cases cs s)
+    select-by-total parent kind x cases [] h s = structurize-select-total parent kind x cases s
+    select-by-total parent kind x cases (c ∷ d ∷ ds) h s = structurize-select-total parent kind x cases s
+    select-by-total parent kind x cases (c ∷ []) h s =
+        let cv = converges cases c h in
+        bind (structurize-select g parent kind x (without-convergent cases) s) _ (structurize-select-total parent kind x (without-convergent cases) s) λ y s₁ a.
         map-post (append-maybe-claimed-region (y .children) c s₁) (append-total (y .children) c s₁) λ z s₂ b. record { still = still-then (a .still) (b .0); chosen = rw (b .1) (one-chosen cases c (nth-in cases (cv .at) c (cv .is))) }
 
     pub select-into-total : (parent : Nodes) (kind : SelectionKind) (x : Scrutinee) (cases : List MaybeClaimedRegion) (s : NestState)

@@ -11,25 +11,25 @@ use Rattle.meaning.specs.Graph.{Value, pick}
 use Rattle.format.specs.Read.{isIn}
 use Rattle.format.specs.ReadLaws.{clash}
 use Rattle.meaning.specs.Lists.{times-in}
-use Rattle.nesting.specs.Nesting.{LazyCond, DeferredTarget, to-region, to-return, DeferredEdgeBundle, DeferredEdgeBundleSet, same-target, get-by-target, count-to, last-or, drop-last, fill-gap, split-out-target, add-exit-edge}
-use Rattle.follows.specs.Bundles.{found-in}
+use Rattle.nesting.specs.Nesting.{LazyCond, DeferredTarget, to-region, to-return, DeferredEdgeBundle, DeferredEdgeBundleSet, same-target, get-edge-bundle-by-target, count-to, fill-gap, split-out-target, add-exit-edge}
+use Rattle.follows.specs.Bundles.{but-last, found-in, last-or}
 use Rattle.follows.specs.Totals.{Measure, total, at, bundles-to, edges-to, edgeless}
 
 -- ---- a bundle split out
-last-total : (μ : Measure) (x : DeferredEdgeBundle) (xs : DeferredEdgeBundleSet) → μ (last-or x xs .target) (last-or x xs .accumulated-count) + total μ (drop-last (x ∷ xs)) ≡ total μ (x ∷ xs)
-last-total μ x [] = refl
-last-total μ x (y ∷ ys) = let z = last-total μ y ys in omega arith
+last-total : (μ : Measure) (o x : DeferredEdgeBundle) (xs : DeferredEdgeBundleSet) → μ (last-or o x xs .target) (last-or o x xs .accumulated-count) + total μ (but-last x xs) ≡ total μ (x ∷ xs)
+last-total μ o x [] = refl
+last-total μ o x (y ∷ ys) = let z = last-total μ o y ys in omega arith
 
 gap-total : (μ : Measure) (d : DeferredEdgeBundleSet) → total μ (fill-gap d) ≡ total μ d
 gap-total μ [] = refl
-gap-total μ (x ∷ xs) = last-total μ x xs
+gap-total μ (x ∷ xs) = last-total μ x x xs
 
-pub split-total : (μ : Measure) (x : DeferredTarget) (d : DeferredEdgeBundleSet) (e : DeferredEdgeBundle) → get-by-target x d ≡ some e
+pub split-total : (μ : Measure) (x : DeferredTarget) (d : DeferredEdgeBundleSet) (e : DeferredEdgeBundle) → get-edge-bundle-by-target x d ≡ some e
     → total μ d ≡ μ (e .target) (e .accumulated-count) + total μ (split-out-target x d)
 split-total μ x [] e p = absurd (clash (cc))
 split-total μ x (y ∷ ys) e p = go (same-target x (y .target)) p (λ h. split-total μ x ys e h)
   where
-    go : (b : Bool) → pick b (some y) (get-by-target x ys) ≡ some e → (get-by-target x ys ≡ some e → total μ ys ≡ μ (e .target) (e .accumulated-count) + total μ (split-out-target x ys))
+    go : (b : Bool) → pick b (some y) (get-edge-bundle-by-target x ys) ≡ some e → (get-edge-bundle-by-target x ys ≡ some e → total μ ys ≡ μ (e .target) (e .accumulated-count) + total μ (split-out-target x ys))
         → μ (y .target) (y .accumulated-count) + total μ ys ≡ μ (e .target) (e .accumulated-count) + total μ (pick b (fill-gap ys) (y ∷ split-out-target x ys))
     go true h ih = let z : y ≡ e = cc in let w = gap-total μ ys in let v = ap (λ n. μ (n .target) (n .accumulated-count)) z in omega arith
     go false h ih = let z = ih h in omega arith
@@ -39,11 +39,11 @@ edges-elsewhere : (r : ℕ) (x : DeferredTarget) (n : ℕ) → same-target (to-r
 edges-elsewhere r (to-region q) n p = rw p
 edges-elsewhere r to-return n p = refl
 
-pub not-found : (r : ℕ) (d : DeferredEdgeBundleSet) → get-by-target (to-region r) d ≡ none → total (edges-to r) d ≡ 0
+pub not-found : (r : ℕ) (d : DeferredEdgeBundleSet) → get-edge-bundle-by-target (to-region r) d ≡ none → total (edges-to r) d ≡ 0
 not-found r [] p = refl
 not-found r (y ∷ ys) p = go (same-target (to-region r) (y .target)) refl p (λ h. not-found r ys h)
   where
-    go : (b : Bool) → same-target (to-region r) (y .target) ≡ b → pick b (some y) (get-by-target (to-region r) ys) ≡ none → (get-by-target (to-region r) ys ≡ none → total (edges-to r) ys ≡ 0)
+    go : (b : Bool) → same-target (to-region r) (y .target) ≡ b → pick b (some y) (get-edge-bundle-by-target (to-region r) ys) ≡ none → (get-edge-bundle-by-target (to-region r) ys ≡ none → total (edges-to r) ys ≡ 0)
         → edges-to r (y .target) (y .accumulated-count) + total (edges-to r) ys ≡ 0
     go true h l ih = absurd (clash (cc))
     go false h l ih = let z = ih l in let w = edges-elsewhere r (y .target) (y .accumulated-count) h in omega arith
@@ -62,9 +62,9 @@ no-bundles r (e ∷ es) p = let y = no-bundle r (e .target) (e .accumulated-coun
 
 -- Where a region has one bundle at most, its count is all the edges to it.
 pub count-total : (r : ℕ) (d : DeferredEdgeBundleSet) → total (bundles-to r) d ≤ 1 → count-to r d ≡ total (edges-to r) d
-count-total r d h = go (get-by-target (to-region r) d) refl
+count-total r d h = go (get-edge-bundle-by-target (to-region r) d) refl
   where
-    go : (o : Option DeferredEdgeBundle) → get-by-target (to-region r) d ≡ o → _≡_ {A = ℕ} (elim o [ none ↦ 0 | some e ↦ e .accumulated-count ]) (total (edges-to r) d)
+    go : (o : Option DeferredEdgeBundle) → get-edge-bundle-by-target (to-region r) d ≡ o → _≡_ {A = ℕ} (elim o [ none ↦ 0 | some e ↦ e .accumulated-count ]) (total (edges-to r) d)
     go none p = sym (not-found r d p)
     go (some e) p =
         let t = sym (found-in (to-region r) d e p .1) in

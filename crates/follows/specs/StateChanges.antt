@@ -6,14 +6,14 @@ use mathlib.Core.Path.{_∙_, _≡_, refl, sym}
 use Prim.Native.Nat.{_+_, _<_, _≤_, suc, ℕ}
 use native.Mathlib.Omega.{arith}
 use lib.Dec.{eqb}
-use lib.ListN.{length, length-set, set}
+use lib.ListN.{length, length-set}
 use lib.Seq.{getD-set-other, getD-set-same}
 use borrow.Author.Tests.{eqb-false, ne-eqb}
 use Rattle.meaning.specs.Runs.{Nodes}
 use Rattle.meaning.specs.Graph.{Instr}
 use Rattle.format.specs.ReadLaws.{clash}
-use Rattle.nesting.specs.Nesting.{blocks-from, with-region-states, DeferredEdgeBundleSet, NestState, StructurizeRegionState, claimed, in-progress, not-begun, ready}
-use Rattle.nesting.specs.Fewer.{state-of}
+use Rattle.nesting.specs.Nesting.{blocks-from, DeferredEdgeBundleSet, NestState, StructurizeRegionState, claimed, in-progress, not-begun, ready}
+use Rattle.nesting.specs.Fewer.{state-of, with-state}
 use Rattle.follows.specs.Small.{at-or-else, or-either}
 use Rattle.follows.specs.Key.{Key, instr-key, is-instr, of-held, of-instr, of-node, of-none, owns-nodes}
 use Rattle.follows.specs.World.{World, size}
@@ -22,7 +22,7 @@ use Rattle.follows.specs.Invariant.{Free, Inv, Later, New, Owned, Rewrit
 
 module _ (W : World) (s : NestState) (r : ℕ) (x : StructurizeRegionState) (h : Inv W s) (r-in : r < size W) where
   abbrev pub changed : NestState
-  changed = with-region-states (set (s .region-states) r x) s
+  changed = with-state s r x
 
   pub now : state-of changed r ≡ x
   now = getD-set-same (s .region-states) r x not-begun (omega (arith, h .sized))

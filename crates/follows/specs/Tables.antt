@@ -6,7 +6,8 @@ use mathlib.Core.Path.{_∙_, _≡_, ap, refl, subst, sym}
 use Prim.Native.Nat.{suc, zero, ℕ}
 use lib.ListN.{getD}
 use Rattle.meaning.specs.Graph.{Value, bool, const, held, input, instr, output, undef}
-use Rattle.nesting.specs.Nesting.{chain-fuel, rewrite, rewrites-of, InputRewrite, NestState, NodeOutput, RegionInputRewrites, RewriteEntry, renumber-or-replace-with, renumber-to, replace-by, replace-with}
+use Rattle.nesting.specs.Nesting.{chain-fuel, rewrites-of, InputRewrite, NestState, NodeOutput, RegionInputRewrites, RewriteEntry, renumber-or-replace-with, renumber-to, replace-by, replace-with, look-up}
+use Rattle.nesting.specs.Rewriting.{rewrite}
 use Rattle.nesting.specs.ChainSteps.{after-steps, chain-steps, next-value, step-input, step-chain}
 use Rattle.nesting.specs.ChainEnds.{entry-kept}
 use Rattle.follows.specs.Small.{nth, nth-append}
@@ -106,7 +107,7 @@ entry-law {ρ} h r (renumber-or-replace-with ss) p = λ k. sym (rw p at (h .step
 
 -- ---- a look-up now keeps what a value will be looked up to
 pub lookup-keeps : {ρ : Resolver} {os : List NodeOutput} {T : Tables} → Respects ρ os T → (v : Value) → ρ (rewrite (T .rewrites) v) ≡ ρ v
-unfolding rewrite
+unfolding look-up
 lookup-keeps {ρ} {T} h v = ap ρ (chain-steps (T .rewrites) (chain-fuel (T .rewrites)) v) ∙ go (chain-fuel (T .rewrites)) v
   where
     go : (n : ℕ) (v : Value) → ρ (after-steps n (T .rewrites) v) ≡ ρ v

@@ -46,7 +46,7 @@ sameCode a b = eqb (a .kind) (b .kind) && (eqb (a .region) (b .region) && eqb (a
 abbrev pub sameValue : Value → Value → Bool
 sameValue v w = sameCode (codeOf v) (codeOf w)
 
--- Type 0: the instruction has no output.
+-- An instruction: its opcode, the type of its output (0: it has none), its cost, the values it reads.
 pub record Instr : Type 0 where
   pub opcode : ℕ
   pub type : ℕ
@@ -70,7 +70,8 @@ pub data ControlInst : Type 0 where
   branch : Edge → ControlInst
   select-branch : SelectionKind → Value → List Edge → ControlInst
 
--- `exits` is the record's list of loop exit targets, the Rust's loop_header_to_exit_targets.
+-- A region: the types of its inputs, its blocks of instructions, its turn limit, its terminator, and its exit list, the record's loop exit
+-- targets.
 pub record Region : Type 0 where
   pub inputs : List ℕ
   pub blocks : List (List Instr)
@@ -78,7 +79,7 @@ pub record Region : Type 0 where
   pub terminator : ControlInst
   pub exits : List ℕ
 
--- `constants` and a region's `inputs` are types.
+-- A record's graph: its entry region, the test cost, the types of its constants, its regions by number.
 pub record Graph : Type 0 where
   pub entry : ℕ
   pub test-cost : ℕ

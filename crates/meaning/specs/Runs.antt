@@ -188,12 +188,13 @@ pay c s = record { env = s .env; events = s .events; cost = s .cost + c; over-li
 abbrev pub note-over : Bool → RunState → RunState
 note-over b s = record { env = s .env; events = s .events; cost = s .cost; over-limit = s .over-limit || b }
 
-abbrev pub with-env : Env → RunState → RunState
-with-env σ s = record { env = σ; events = s .events; cost = s .cost; over-limit = s .over-limit }
+-- Values copied, all at once: each is read before any is given, and `given` says to what. A copy costs nothing.
+abbrev pub copied : (List Word → Env → Env) → List Value → RunState → RunState
+copied given vs s = record { env = given (map (s .env) vs) (s .env); events = s .events; cost = s .cost; over-limit = s .over-limit }
 
 -- The body inputs of a loop become the values, all at once.
 abbrev pub assign-inputs : ℕ → List Value → RunState → RunState
-assign-inputs r vs s = with-env (put-inputs (λ k. held r k) 0 (map (s .env) vs) (s .env)) s
+assign-inputs r vs s = copied (put-inputs (λ k. held r k) 0) vs s
 
 unfoldable pub put-outputs : List OutputDecl → List Word → Env → Env
 put-outputs [] ws σ = σ
@@ -202,7 +203,7 @@ put-outputs (o ∷ os) (w ∷ ws) σ = put-outputs os ws (put (output (o .number
 
 -- The outputs of a select become those of the case taken, all at once.
 abbrev pub assign-outputs : List OutputDecl → List Value → RunState → RunState
-assign-outputs os vs s = with-env (put-outputs os (map (s .env) vs) (s .env)) s
+assign-outputs os vs s = copied (put-outputs os) vs s
 
 abbrev pub case-count : Cases → ℕ
 case-count ∅ = 0
@@ -218,6 +219,7 @@ module _ (rule : Rule) (test-cost : ℕ) where
       once-more (λ s″. turns n (suc made) body r limit vs v (assign-inputs r vs s″)) w (pay test-cost s′)
 
   unfoldable mutual
+    -- A select tests its scrutinee and runs one case; a loop runs its turns; an exit ends the run.
     pub run-node : ℕ → Node → RunState → Ran
     run-node n (block b r k is) s = through (do-block rule r k is s)
     run-node n (select b kind v os cs) s =

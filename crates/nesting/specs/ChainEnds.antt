@@ -13,7 +13,8 @@ use lib.Dec.{eqb}
 use borrow.Author.Tests.{eqb-true}
 use Rattle.meaning.specs.Graph.{Value, const, input, instr, output, bool, undef, held, pick}
 use Rattle.format.specs.ReadLaws.{clash}
-use Rattle.nesting.specs.Nesting.{InputRewrite, renumber-to, replace-by, RegionInputRewrites, replace-with, renumber-or-replace-with, RewriteEntry, rewrites-of, chain-fuel, look-up-chain, rewrite, meets}
+use Rattle.nesting.specs.Nesting.{InputRewrite, renumber-to, replace-by, RegionInputRewrites, replace-with, renumber-or-replace-with, RewriteEntry, rewrites-of, chain-fuel, look-up-chain, look-up}
+use Rattle.nesting.specs.Rewriting.{rewrite, meets}
 use Rattle.nesting.specs.ChainSteps.{next-value, Stops, EndsIn, ends-later, chain-same, meets-same}
 
 -- the region whose input a value is, marked or not
@@ -197,11 +198,11 @@ less-power (suc n) = let z = pow-suc 2 n in let y = less-power n in omega arith
 
 module _ (es : List RewriteEntry) (all : (r : ℕ) → ChainsEnd es r) where
   pub rewrite-enough : (v : Value) (fuel : ℕ) → length es ≤ fuel → look-up-chain fuel es v .value ≡ rewrite es v
-  unfolding rewrite
+  unfolding look-up
   rewrite-enough v fuel l =
       let e = value-ends es v (λ q n. all q) in
       chain-same es fuel (chain-fuel es) v (ends-later es (length es) fuel v e l) (ends-later es (length es) (chain-fuel es) v e (let z = less-power (length es) in omega arith))
 
   pub meets-enough : (v : Value) (fuel : ℕ) → length es < fuel → look-up-chain fuel es v .twice ≡ meets es v
-  unfolding meets
+  unfolding look-up
   meets-enough v fuel l = meets-same es (length es) v (value-ends es v (λ q n. all q)) fuel (chain-fuel es) l (less-power (length es))

@@ -1,13 +1,14 @@
 -- A look-up's chain step by step: once it has ended, any further fuel gives the same answer.
 use mathlib.Core.Path.{_≡_, refl, sym, _∙_}
 use mathlib.Core.Bool.{Bool, false}
-use mathlib.Core.List.{List}
+use mathlib.Core.List.{List, [], _∷_}
 use mathlib.Core.Option.{Option, none, some}
 use Prim.Native.Nat.{ℕ, zero, suc, _+_, _-_, _≤_, _<_}
 use native.Mathlib.Omega.{arith}
 use lib.ListN.{getD}
 use Rattle.meaning.specs.Graph.{Value, const, input, instr, output, bool, undef, held}
-use Rattle.nesting.specs.Nesting.{InputRewrite, renumber-to, replace-by, RegionInputRewrites, replace-with, renumber-or-replace-with, RewriteEntry, rewrites-of, look-up-slot, look-up-input, chain-fuel, look-up-chain, rewrite, changes-again}
+use Rattle.nesting.specs.Nesting.{InputRewrite, renumber-to, replace-by, RegionInputRewrites, replace-with, renumber-or-replace-with, RewriteEntry, rewrites-of, look-up-input, chain-fuel, look-up-chain, changes-again, look-up}
+use Rattle.nesting.specs.Rewriting.{rewrite}
 
 -- ---- a chain step by step
 -- what comes of an input by its region's entry; `go` goes on from a value that replaces it
@@ -70,7 +71,7 @@ module _ (es : List RewriteEntry) where
       Before : Type 0
       Before = (v : Value) → look-up-chain fuel es v .value ≡ after-steps fuel es v
 
-      slot : (x : InputRewrite) → Before → look-up-slot (λ v. look-up-chain fuel es v) r x .value ≡ after-steps fuel es (step-input (λ v. v) r x)
+      slot : (x : InputRewrite) → Before → look-up-input (λ v. look-up-chain fuel es v) r 0 (some (renumber-or-replace-with (x ∷ []))) .value ≡ after-steps fuel es (step-input (λ v. v) r x)
       slot (replace-by v) ih = ih v
       slot (renumber-to i) ih = sym (stops-after fuel (held r i) refl)
 
@@ -84,7 +85,7 @@ module _ (es : List RewriteEntry) where
 
   -- A value that stops is its own look-up.
   pub stops-rewrite : (v : Value) → Stops v → rewrite es v ≡ v
-  unfolding rewrite
+  unfolding look-up
   stops-rewrite v h = chain-steps (chain-fuel es) v ∙ stops-after (chain-fuel es) v h
 
   -- From its end on a chain has one answer.
@@ -110,8 +111,8 @@ module _ (es : List RewriteEntry) where
   meets-step (input r k) = go (rewrites-of es r) refl
     where
       slot : (xs : List InputRewrite) → rewrites-of es r ≡ some (renumber-or-replace-with xs) → (x : InputRewrite) → getD xs k (renumber-to k) ≡ x → MeetsStep (input r k)
-      slot xs p (replace-by v) q = goes-on (λ fuel. rw (p, q))
-      slot xs p (renumber-to i) q = known false (λ fuel. rw (p, q))
+      slot xs p (replace-by v) q = goes-on (λ fuel. rw (p, look-up-input, q))
+      slot xs p (renumber-to i) q = known false (λ fuel. rw (p, look-up-input, q))
 
       go : (o : Option RegionInputRewrites) → rewrites-of es r ≡ o → MeetsStep (input r k)
       go none p = known false (λ fuel. rw p)

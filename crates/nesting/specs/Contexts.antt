@@ -9,7 +9,8 @@ use lib.Dec.{eqb}
 use borrow.Author.Tests.{eqb-true, eqb-false, eq-eqb, ne-eqb}
 use Rattle.meaning.specs.Graph.{Value, const, input, instr, output, bool, undef, held, pick}
 use Rattle.format.specs.ReadLaws.{clash}
-use Rattle.nesting.specs.Nesting.{InputRewrite, renumber-to, replace-by, RegionInputRewrites, replace-with, renumber-or-replace-with, RewriteEntry, rewrites-of, rewrite, chain-fuel}
+use Rattle.nesting.specs.Nesting.{InputRewrite, renumber-to, replace-by, RegionInputRewrites, replace-with, renumber-or-replace-with, RewriteEntry, rewrites-of, chain-fuel, look-up}
+use Rattle.nesting.specs.Rewriting.{rewrite}
 use Rattle.nesting.specs.ChainSteps.{next-value, after-steps, chain-steps, step-input, step-chain}
 use Rattle.nesting.specs.ChainEnds.{names, Gives, Open, entry-kept, ChainsEnd, no-more, goes-on}
 
@@ -119,5 +120,5 @@ module _ (es : List RewriteEntry) (p : ℕ) (no-entry : Open es p) where
   context-after (suc n) v h = context-after n (next-value es v) (context-next v h)
 
   pub context-rewritten : (v : Value) → InContext es p v → InContext es p (rewrite es v)
-  unfolding rewrite
+  unfolding look-up
   context-rewritten v h = rw (chain-steps es (chain-fuel es) v) (context-after (chain-fuel es) v h)

@@ -1,14 +1,15 @@
 -- A relation of states that every change of a table or a count keeps is kept by select and loop, and they refuse with 9 alone.
-use mathlib.Core.Bool.{Bool, true, false, _||_, _&&_}
+use mathlib.Core.Bool.{Bool, true, false, _||_}
 use mathlib.Core.List.{List, [], _∷_, _++_, map}
 use mathlib.Core.Option.{Option, none, some}
-use Prim.Native.Nat.{ℕ}
+use Prim.Native.Nat.{ℕ, suc}
 use lib.ListN.{length}
 use lib.Dec.{ltb}
-use Rattle.meaning.specs.Graph.{Value, bool, undef, SelectionKind, ControlInst, unreachable, return, exit-invocation, branch, select-branch, Graph, region, pick}
+use Rattle.meaning.specs.Graph.{Value, bool, undef, SelectionKind, bool-cond, number, ControlInst, unreachable, return, exit-invocation, branch, select-branch, Graph, region, pick}
 use Rattle.meaning.specs.Runs.{loop, Nodes, ⟨⟩, _▸_, Cases}
 use Rattle.meaning.specs.Lists.{any}
-use Rattle.nesting.specs.Nesting.{LazyCond, undef-cond, false-cond, true-cond, merge, LazyConds, no-conds, _&_, DeferredEdgeBundle, DeferredEdgeBundleSet, RegionInputRewrites, replace-with, renumber-or-replace-with, RewriteEntry, NodeOutput, NestState, Step, give, _>>=_, _>>_, with-region, with-node, with-merge, with-rewrites, with-node-outputs, with-twice, define-region, define-node, define-merge, define-output, insert-rewrites, meets, rewrite-values, same-values, is-bool-cond, materialize-lazy-cond, materialize-lazy-conds, ClaimedRegion, MaybeClaimedRegion, ok, err, Scrutinee, value, lazy, join, append-maybe-claimed-region, Convergent, no-one, several, exactly-one, convergent-cases, PlannedInput, shared, merged, PlannedBundle, plan-bundles, any-needs-select, any-non-empty-case, meets-in-case, rewrite-cases, case-regions, scrutinee-value, DefinedSelect, define-select, emit-inputs, emit-condition, emit, select-if, replace-inputs, structurize-select, structurize-select-by, exit-targets, take-inputs, no-inputs, add-exit-edge, structurize-loop, claim-body, by-control-inst}
+use Rattle.nesting.specs.Nesting.{LazyCond, undef-cond, false-cond, true-cond, merge, LazyConds, no-conds, _&_, DeferredEdgeBundle, DeferredEdgeBundleSet, RegionInputRewrites, replace-with, renumber-or-replace-with, RewriteEntry, NodeOutput, NestState, Step, give, _>>=_, _>>_, with-tables, with-counts, with-twice, define-region, define-node, define-merge, define-output, insert-rewrites, look-up, look-up-case, each, rewrite-values, same-values, materialize-lazy-cond, materialize-lazy-conds, ClaimedRegion, MaybeClaimedRegion, ok, err, Scrutinee, value, lazy, join, append-maybe-claimed-region, convergent-cases, without-convergent, PlannedInput, shared, merged, PlannedBundle, plan-bundles, any-needs-select, any-non-empty-case, rewrite-cases, case-regions, scrutinee-value, DefinedSelect, define-select, emit-inputs, emit-condition, emit, select-if, replace-inputs, structurize-select, structurize-select-by, take-inputs, no-inputs, add-exit-edge, structurize-loop, claim-body, by-control-inst}
+use Rattle.nesting.specs.Rewriting.{meets}
 use Rattle.nesting.specs.Post.{Post, bind, map-post, when-room}
 
 -- What structurize-loop answers, once its region, look-ups, condition and node are there.
@@ -20,21 +21,24 @@ loop-claimed g body children exits inputs wrapper vs v n =
       structured-body = wrapper;
       structured-body-inputs = inputs;
       children = loop n (x .initial-inputs) body (x .types) (region g body .limit) children (x .outputs) v ▸ ⟨⟩;
-      deferred-edges = map (add-exit-edge (exit-targets g body)) exits;
+      deferred-edges = map (add-exit-edge (region g body .exits)) exits;
     }
 
 pub record Steady (L : NestState → NestState → Type 0) : Type 0 where
   pub same : (s : NestState) → L s s
   pub follows : {s s′ s″ : NestState} → L s s′ → L s′ s″ → L s s″
-  pub region : (s : NestState) → L s (with-region s)
-  pub node : (s : NestState) → L s (with-node s)
-  pub merge : (s : NestState) → L s (with-merge s)
-  pub output : (x : NodeOutput) (s : NestState) → L s (with-node-outputs (s .node-outputs ++ (x ∷ [])) s)
+  pub region : (s : NestState) → L s (with-counts (suc (s .region-count)) (s .node-count) (s .merge-count) (s .attempts) s)
+  pub node : (s : NestState) → L s (with-counts (s .region-count) (suc (s .node-count)) (s .merge-count) (s .attempts) s)
+  pub merge : (s : NestState) → L s (with-counts (s .region-count) (s .node-count) (suc (s .merge-count)) (s .attempts) s)
+  pub output : (x : NodeOutput) (s : NestState) → L s (with-tables (s .region-states) (s .region-input-rewrites) (s .node-outputs ++ (x ∷ [])) s)
   pub twice : (b : Bool) (s : NestState) → L s (with-twice b s)
+
+abbrev pub with-entry : RewriteEntry → NestState → NestState
+with-entry x s = with-tables (s .region-states) (s .region-input-rewrites ++ (x ∷ [])) (s .node-outputs) s
 
 -- and every entry of the log
 abbrev pub KeepsLog : (NestState → NestState → Type 0) → Type 0
-KeepsLog L = (x : RewriteEntry) (s : NestState) → L s (with-rewrites (s .region-input-rewrites ++ (x ∷ [])) s)
+KeepsLog L = (x : RewriteEntry) (s : NestState) → L s (with-entry x s)
 
 module _ {L : NestState → NestState → Type 0} (S : Steady L) (Q : ℕ → Type 0) (q9 : Q 9) where
   abbrev pub Keeps : {A : Type 0} → Step A → Type 0
@@ -82,7 +86,7 @@ module _ {L : NestState → NestState → Type 0} (S : Steady L) (Q : ℕ → Ty
     materialize-keeps undef-cond = give-keeps (undef 1)
     materialize-keeps (merge n kind v cs) =
         then-keeps (materialize-lazy-conds cs) _ (materializes-keep cs) λ vs.
-        pick-keeps (is-bool-cond kind && same-values vs (bool true ∷ bool false ∷ [])) (give v) (define-output n 1 vs) (give-keeps v) (define-output-keeps n 1 vs)
+        pick-keeps (elim kind [ bool-cond ↦ same-values vs (bool true ∷ bool false ∷ []) | number ↦ false ]) (give v) (define-output n 1 vs) (give-keeps v) (define-output-keeps n 1 vs)
 
     materializes-keep : (cs : LazyConds) → Keeps (materialize-lazy-conds cs)
     materializes-keep no-conds = give-keeps []
@@ -92,7 +96,7 @@ module _ {L : NestState → NestState → Type 0} (S : Steady L) (Q : ℕ → Ty
 
   pub rewrite-cases-keeps : (cs : List MaybeClaimedRegion) → Keeps (rewrite-cases cs)
   unfolding rewrite-cases
-  rewrite-cases-keeps cs s = record { post = S .twice (any (meets-in-case (meets (s .region-input-rewrites))) cs) s }
+  rewrite-cases-keeps cs s = record { post = S .twice (each (look-up-case (look-up (s .region-input-rewrites))) cs .twice) s }
 
   case-regions-keeps : (cs : List MaybeClaimedRegion) → Keeps (case-regions cs)
   unfolding case-regions
@@ -161,11 +165,12 @@ module _ {L : NestState → NestState → Type 0} (S : Steady L) (Q : ℕ → Ty
           (select-if-keeps (any-non-empty-case cases || any-needs-select (plan-bundles g cs)) kind x cases (plan-bundles g cs)) λ y.
           next-keeps (replace-inputs cs) _ (replace-inputs-keeps cs) (give-keeps (record { children = join parent (y .children); deferred-edges = y .deferred-edges }))
 
-      pub structurize-select-by-keeps : (parent : Nodes) (kind : SelectionKind) (x : Scrutinee) (cases : List MaybeClaimedRegion) (c : Convergent) → Keeps (structurize-select-by g parent kind x cases c)
-      structurize-select-by-keeps parent kind x cases no-one = structurize-select-keeps parent kind x cases
-      structurize-select-by-keeps parent kind x cases several = structurize-select-keeps parent kind x cases
-      structurize-select-by-keeps parent kind x cases (exactly-one c others) =
-          then-keeps (structurize-select g parent kind x others) _ (structurize-select-keeps parent kind x others) λ y. append-keeps (y .children) c
+      pub structurize-select-by-keeps : (parent : Nodes) (kind : SelectionKind) (x : Scrutinee) (cases cs : List MaybeClaimedRegion) → Keeps (structurize-select-by g parent kind x cases cs)
+      structurize-select-by-keeps parent kind x cases [] = structurize-select-keeps parent kind x cases
+      structurize-select-by-keeps parent kind x cases (c ∷ d ∷ ds) = structurize-select-keeps parent kind x cases
+      structurize-select-by-keeps parent kind x cases (c ∷ []) =
+          then-keeps (structurize-select g parent kind x (without-convergent cases)) _ (structurize-select-keeps parent kind x (without-convergent cases)) λ y.
+          append-keeps (y .children) c
 
       structurize-loop-keeps : (body : ℕ) (children : Nodes) (backedge : DeferredEdgeBundle) (repeat : LazyCond) (exits : DeferredEdgeBundleSet) (inputs : List Value)
           → Keeps (structurize-loop g body children backedge repeat exits inputs)

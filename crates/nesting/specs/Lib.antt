@@ -4,6 +4,7 @@ pub mod Lines
 pub mod LinesWritten
 pub mod Computes
 pub mod Post
+pub mod Rewriting
 pub mod Keeps
 pub mod Still
 pub mod Decode

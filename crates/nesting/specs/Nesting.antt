@@ -1,11 +1,11 @@
--- Nesting, as the Structurizer of src/cfg.rs has it, by its names (document 01, "What it does").
+-- Nesting, as the Structurizer of src/cfg.rs has it, by its names (document 01, "Nesting steps", "Values").
 use mathlib.Core.List.{List, [], _∷_, _++_, map}
 use Prim.Native.Nat.{ℕ, suc, zero, _^_, _+_}
 use mathlib.Core.Bool.{Bool, true, false, _||_, _&&_, not}
 use lib.ListN.{length, getD, set, take, replicate}
 use lib.Dec.{ltb, eqb}
 use mathlib.Core.Option.{Option, none, some}
-use Rattle.meaning.specs.Lists.{any, all, empty, is-some, total, times-in, numbers-from}
+use Rattle.meaning.specs.Lists.{any, all, filter, empty, is-some, total, times-in, numbers-from}
 use Rattle.meaning.specs.Graph.{Value, SelectionKind, output, const, input, instr, bool, undef, held, sameValue, pick, bool-cond, number, Instr, Region, Graph, region, edgesOf, targetsOf, Edge, ControlInst, unreachable, return, exit-invocation, branch, select-branch}
 use Rattle.meaning.specs.Runs.{Nodes, ⟨⟩, _▸_, block, select, Cases, ∅, case, loop, exit, OutputDecl, Node}
 use Rattle.format.specs.References.{returnTypes}
@@ -109,65 +109,62 @@ _>>=_ x k s = follow (x s) k
 abbrev pub _>>_ : {A B : Type 0} → Step A → Step B → Step B
 _>>_ x y s = follow (x s) (λ a. y)
 
--- ---- Changes of the state: one field each, and the definitions that a limit stops (refusal 9).
+-- ---- Changes of the state, and the definitions that a limit stops (refusal 9): regions, nodes, lazy condition records, node outputs.
 -- A state by its fields, in their order.
 abbrev pub nest-state : List StructurizeRegionState → List RewriteEntry → List NodeOutput → ℕ → ℕ → ℕ → ℕ → Bool → NestState
 nest-state states rewrites outputs regions nodes merges tries met =
-    record { region-states = states; region-input-rewrites = rewrites; node-outputs = outputs; region-count = regions; node-count = nodes; merge-count = merges; attempts = tries; twice = met }
+    record {
+      region-states = states;
+      region-input-rewrites = rewrites;
+      node-outputs = outputs;
+      region-count = regions;
+      node-count = nodes;
+      merge-count = merges;
+      attempts = tries;
+      twice = met;
+    }
 
-abbrev pub with-region-states : List StructurizeRegionState → NestState → NestState
-with-region-states x s = nest-state x (s .region-input-rewrites) (s .node-outputs) (s .region-count) (s .node-count) (s .merge-count) (s .attempts) (s .twice)
+abbrev pub with-tables : List StructurizeRegionState → List RewriteEntry → List NodeOutput → NestState → NestState
+with-tables states rewrites outputs s = nest-state states rewrites outputs (s .region-count) (s .node-count) (s .merge-count) (s .attempts) (s .twice)
 
-abbrev pub with-rewrites : List RewriteEntry → NestState → NestState
-with-rewrites x s = nest-state (s .region-states) x (s .node-outputs) (s .region-count) (s .node-count) (s .merge-count) (s .attempts) (s .twice)
-
-abbrev pub with-node-outputs : List NodeOutput → NestState → NestState
-with-node-outputs x s = nest-state (s .region-states) (s .region-input-rewrites) x (s .region-count) (s .node-count) (s .merge-count) (s .attempts) (s .twice)
-
-abbrev pub with-region : NestState → NestState
-with-region s = nest-state (s .region-states) (s .region-input-rewrites) (s .node-outputs) (suc (s .region-count)) (s .node-count) (s .merge-count) (s .attempts) (s .twice)
-
-abbrev pub with-node : NestState → NestState
-with-node s = nest-state (s .region-states) (s .region-input-rewrites) (s .node-outputs) (s .region-count) (suc (s .node-count)) (s .merge-count) (s .attempts) (s .twice)
-
-abbrev pub with-merge : NestState → NestState
-with-merge s = nest-state (s .region-states) (s .region-input-rewrites) (s .node-outputs) (s .region-count) (s .node-count) (suc (s .merge-count)) (s .attempts) (s .twice)
-
-abbrev pub with-attempt : NestState → NestState
-with-attempt s = nest-state (s .region-states) (s .region-input-rewrites) (s .node-outputs) (s .region-count) (s .node-count) (s .merge-count) (suc (s .attempts)) (s .twice)
+abbrev pub with-counts : ℕ → ℕ → ℕ → ℕ → NestState → NestState
+with-counts regions nodes merges tries s = nest-state (s .region-states) (s .region-input-rewrites) (s .node-outputs) regions nodes merges tries (s .twice)
 
 abbrev pub with-twice : Bool → NestState → NestState
 with-twice x s = nest-state (s .region-states) (s .region-input-rewrites) (s .node-outputs) (s .region-count) (s .node-count) (s .merge-count) (s .attempts) (s .twice || x)
 
--- Definitions, each with its limit: the first beyond is refused.
+-- A definition where n are defined already, with its limit: the first beyond is refused.
+abbrev pub define : {A : Type 0} → ℕ → ℕ → A → NestState → Answer A
+define n limit a s = elim (ltb n limit) [ true ↦ done a s | false ↦ turned-away 9 0 ]
+
 unfoldable pub define-region : Step ℕ
-define-region s = elim (ltb (s .region-count) 128) [ true ↦ done (s .region-count) (with-region s) | false ↦ turned-away 9 0 ]
+define-region s = define (s .region-count) 128 (s .region-count) (with-counts (suc (s .region-count)) (s .node-count) (s .merge-count) (s .attempts) s)
 
 unfoldable pub define-node : Step ℕ
-define-node s = elim (ltb (s .node-count) 512) [ true ↦ done (s .node-count) (with-node s) | false ↦ turned-away 9 0 ]
+define-node s = define (s .node-count) 512 (s .node-count) (with-counts (s .region-count) (suc (s .node-count)) (s .merge-count) (s .attempts) s)
 
 -- A lazy condition record, the Rust's LazyCondMerge.
 unfoldable pub define-merge : Step Unit
-define-merge s = elim (ltb (s .merge-count) 512) [ true ↦ done tt (with-merge s) | false ↦ turned-away 9 0 ]
+define-merge s = define (s .merge-count) 512 tt (with-counts (s .region-count) (s .node-count) (suc (s .merge-count)) (s .attempts) s)
 
 -- An output of a node, of this type, with its value in each case.
 unfoldable pub define-output : ℕ → ℕ → List Value → Step Value
 define-output n type vs s =
     let more = s .node-outputs ++ (record { node = n; type = type; values = vs } ∷ []) in
-    elim (ltb (length (s .node-outputs)) 512) [ true ↦ done (output (length (s .node-outputs))) (with-node-outputs more s) | false ↦ turned-away 9 0 ]
+    define (length (s .node-outputs)) 512 (output (length (s .node-outputs))) (with-tables (s .region-states) (s .region-input-rewrites) more s)
 
 abbrev pub get-state : ℕ → Step StructurizeRegionState
 get-state r s = done (getD (s .region-states) r not-begun) s
 
 abbrev pub set-state : ℕ → StructurizeRegionState → Step Unit
-set-state r x s = done tt (with-region-states (set (s .region-states) r x) s)
+set-state r x s = done tt (with-tables (set (s .region-states) r x) (s .region-input-rewrites) (s .node-outputs) s)
 
 -- Document 01's attempt: one call of try-claim-edge-bundle.
 abbrev pub count-attempt : Step Unit
-count-attempt s = done tt (with-attempt s)
+count-attempt s = done tt (with-counts (s .region-count) (s .node-count) (s .merge-count) (suc (s .attempts)) s)
 
 abbrev pub insert-rewrites : ℕ → RegionInputRewrites → Step Unit
-insert-rewrites r x s = done tt (with-rewrites (s .region-input-rewrites ++ (record { region = r; rewrites = x } ∷ [])) s)
+insert-rewrites r x s = done tt (with-tables (s .region-states) (s .region-input-rewrites ++ (record { region = r; rewrites = x } ∷ [])) (s .node-outputs) s)
 
 -- ---- Look-ups, the Rust's RegionInputRewrites::rewrite_all, with document 01's mark; and the note `twice`.
 abbrev pub rewrites-of : List RewriteEntry → ℕ → Option RegionInputRewrites
@@ -178,23 +175,21 @@ rewrites-of (e ∷ es) r = pick (eqb r (e .region)) (some (e .rewrites)) (rewrit
 abbrev pub chain-fuel : List RewriteEntry → ℕ
 chain-fuel es = 2 ^ length es
 
--- What a look-up answers: a value, and document 01's "twice", whether it met a marked value whose second look-up would change it.
-pub record LookUp : Type 0 where
-  pub value : Value
+-- What a look-up answers, of a value or of all values in something; and document 01's "twice", whether a marked value was met whose
+-- second look-up would change it. `plain` is what has no such note.
+pub record LookUp (A : Type 0) : Type 0 where
+  pub value : A
   pub twice : Bool
 
-abbrev pub found : Value → LookUp
-found v = record { value = v; twice = false }
+abbrev pub plain : {A : Type 0} → A → LookUp A
+plain a = record { value = a; twice = false }
 
 -- Input k of region r, by the entry of r; `go` follows a replaced one on. A renumbered one is marked.
-abbrev pub look-up-slot : (Value → LookUp) → ℕ → InputRewrite → LookUp
-look-up-slot go r (replace-by v) = go v
-look-up-slot go r (renumber-to i) = found (held r i)
-
-abbrev pub look-up-input : (Value → LookUp) → ℕ → ℕ → Option RegionInputRewrites → LookUp
-look-up-input go r k none = found (input r k)
+abbrev pub look-up-input : (Value → LookUp Value) → ℕ → ℕ → Option RegionInputRewrites → LookUp Value
+look-up-input go r k none = plain (input r k)
 look-up-input go r k (some (replace-with vs)) = go (getD vs k (undef 0))
-look-up-input go r k (some (renumber-or-replace-with xs)) = look-up-slot go r (getD xs k (renumber-to k))
+look-up-input go r k (some (renumber-or-replace-with xs)) =
+    elim (getD xs k (renumber-to k)) [ replace-by v ↦ go v | renumber-to i ↦ plain (held r i) ]
 
 -- Whether the entry of a marked value's region would change it again: it does not renumber k to k.
 abbrev pub changes-again : ℕ → Option RegionInputRewrites → Bool
@@ -204,25 +199,33 @@ changes-again k (some (renumber-or-replace-with xs)) =
     elim (getD xs k (renumber-to k)) [ replace-by v ↦ true | renumber-to i ↦ not (eqb i k) ]
 
 -- An input is looked up until its region has no entry, or it is marked; a marked one stays.
-unfoldable pub look-up-chain : ℕ → List RewriteEntry → Value → LookUp
-look-up-chain zero es v = found v
+unfoldable pub look-up-chain : ℕ → List RewriteEntry → Value → LookUp Value
+look-up-chain zero es v = plain v
 look-up-chain (suc fuel) es (input r k) = look-up-input (λ v. look-up-chain fuel es v) r k (rewrites-of es r)
 look-up-chain (suc fuel) es (held r k) = record { value = held r k; twice = changes-again k (rewrites-of es r) }
-look-up-chain (suc fuel) es (const i) = found (const i)
-look-up-chain (suc fuel) es (instr r k) = found (instr r k)
-look-up-chain (suc fuel) es (output o) = found (output o)
-look-up-chain (suc fuel) es (bool b) = found (bool b)
-look-up-chain (suc fuel) es (undef ty) = found (undef ty)
+look-up-chain (suc fuel) es (const i) = plain (const i)
+look-up-chain (suc fuel) es (instr r k) = plain (instr r k)
+look-up-chain (suc fuel) es (output o) = plain (output o)
+look-up-chain (suc fuel) es (bool b) = plain (bool b)
+look-up-chain (suc fuel) es (undef ty) = plain (undef ty)
 
-unfoldable pub rewrite : List RewriteEntry → Value → Value
-rewrite es v = look-up-chain (chain-fuel es) es v .value
+unfoldable pub look-up : List RewriteEntry → Value → LookUp Value
+look-up es v = look-up-chain (chain-fuel es) es v
 
-unfoldable pub meets : List RewriteEntry → Value → Bool
-meets es v = look-up-chain (chain-fuel es) es v .twice
+-- What is put together, part by part, from parts looked up; and a list of which each is looked up. No note is lost.
+infixl 30 _⊛_
+abbrev pub _⊛_ : {A B : Type 0} → LookUp (A → B) → LookUp A → LookUp B
+_⊛_ f a = record { value = f .value (a .value); twice = f .twice || a .twice }
 
--- A look-up changes no table.
+abbrev pub each : {A B : Type 0} → (A → LookUp B) → List A → LookUp (List B)
+each f xs = record { value = map (λ x. f x .value) xs; twice = any (λ x. f x .twice) xs }
+
+-- The step that looks up takes the note, and changes no table.
+abbrev pub note : {A : Type 0} → LookUp A → Step A
+note x s = done (x .value) (with-twice (x .twice) s)
+
 unfoldable pub rewrite-values : List Value → Step (List Value)
-rewrite-values vs s = done (map (rewrite (s .region-input-rewrites)) vs) (with-twice (any (meets (s .region-input-rewrites)) vs) s)
+rewrite-values vs s = note (each (look-up (s .region-input-rewrites)) vs) s
 
 -- ---- Lazy conditions made real: the Rust's materialize_lazy_cond.
 abbrev pub same-values : List Value → List Value → Bool
@@ -230,10 +233,6 @@ same-values [] [] = true
 same-values [] (w ∷ ws) = false
 same-values (v ∷ vs) [] = false
 same-values (v ∷ vs) (w ∷ ws) = sameValue v w && same-values vs ws
-
-abbrev pub is-bool-cond : SelectionKind → Bool
-is-bool-cond bool-cond = true
-is-bool-cond number = false
 
 -- A boolean [true, false] is the scrutinee itself; anything else is a new output of the select, of type boolean.
 unfoldable mutual
@@ -243,7 +242,7 @@ unfoldable mutual
   materialize-lazy-cond undef-cond = give (undef 1)
   materialize-lazy-cond (merge n kind v cs) = do
     vs ← materialize-lazy-conds cs
-    pick (is-bool-cond kind && same-values vs (bool true ∷ bool false ∷ [])) (give v) (define-output n 1 vs)
+    pick (elim kind [ bool-cond ↦ same-values vs (bool true ∷ bool false ∷ []) | number ↦ false ]) (give v) (define-output n 1 vs)
 
   pub materialize-lazy-conds : LazyConds → Step (List Value)
   materialize-lazy-conds no-conds = give []
@@ -257,33 +256,22 @@ same-target to-return (to-region b) = false
 same-target to-return to-return = true
 
 -- The Rust's Always: a set of one, whose condition is dropped.
-abbrev pub is-always : DeferredEdgeBundleSet → Bool
-is-always d = eqb (length d) 1
-
 abbrev pub condition-in : DeferredEdgeBundleSet → DeferredEdgeBundle → LazyCond
-condition-in d e = pick (is-always d) true-cond (e .condition)
+condition-in d e = pick (eqb (length d) 1) true-cond (e .condition)
 
-abbrev pub get-by-target : DeferredTarget → DeferredEdgeBundleSet → Option DeferredEdgeBundle
-get-by-target x [] = none
-get-by-target x (e ∷ es) = pick (same-target x (e .target)) (some e) (get-by-target x es)
+abbrev pub get-edge-bundle-by-target : DeferredTarget → DeferredEdgeBundleSet → Option DeferredEdgeBundle
+get-edge-bundle-by-target x [] = none
+get-edge-bundle-by-target x (e ∷ es) = pick (same-target x (e .target)) (some e) (get-edge-bundle-by-target x es)
 
 abbrev pub count-to : ℕ → DeferredEdgeBundleSet → IncomingEdgeCount
-count-to r d = elim (get-by-target (to-region r) d) [ none ↦ 0 | some e ↦ e .accumulated-count ]
+count-to r d = elim (get-edge-bundle-by-target (to-region r) d) [ none ↦ 0 | some e ↦ e .accumulated-count ]
 
--- What is left once a target is split out: by swap, the last bundle takes the gap.
-abbrev pub last-or : DeferredEdgeBundle → DeferredEdgeBundleSet → DeferredEdgeBundle
-last-or e [] = e
-last-or e (x ∷ xs) = last-or x xs
-
-abbrev pub drop-last : DeferredEdgeBundleSet → DeferredEdgeBundleSet
-drop-last [] = []
-drop-last (x ∷ []) = []
-drop-last (x ∷ y ∷ ys) = x ∷ drop-last (y ∷ ys)
-
+-- The bundles behind the one that is split out: by swap, the last takes its place.
 abbrev pub fill-gap : DeferredEdgeBundleSet → DeferredEdgeBundleSet
 fill-gap [] = []
-fill-gap (x ∷ xs) = last-or x xs ∷ drop-last (x ∷ xs)
+fill-gap (x ∷ xs) = getD (x ∷ xs) (length xs) x ∷ take (length xs) (x ∷ xs)
 
+-- The Rust's split_out_target: what is left of the set.
 abbrev pub split-out-target : DeferredTarget → DeferredEdgeBundleSet → DeferredEdgeBundleSet
 split-out-target x [] = []
 split-out-target x (e ∷ es) = pick (same-target x (e .target)) (fill-gap es) (e ∷ split-out-target x es)
@@ -335,25 +323,12 @@ append-maybe-claimed-region parent (err d) = give (region-body parent d)
 append-maybe-claimed-region parent (ok c) =
     insert-rewrites (c .structured-body) (replace-with (c .structured-body-inputs)) >> give (region-body (join parent (c .children)) (c .deferred-edges))
 
--- The convergent cases, those not Unreachable: none, exactly one (beside the cases with it taken out), or several.
-pub data Convergent : Type 0 where
-  no-one several : Convergent
-  exactly-one : MaybeClaimedRegion → List MaybeClaimedRegion → Convergent
+-- The convergent cases, those not Unreachable; and all cases with these taken out, an Unreachable one in the place of each.
+abbrev pub convergent-cases : List MaybeClaimedRegion → List MaybeClaimedRegion
+convergent-cases cs = filter (λ c. not (empty (deferred-of c))) cs
 
-abbrev pub with-convergent : MaybeClaimedRegion → List MaybeClaimedRegion → Convergent → Convergent
-with-convergent c cs no-one = exactly-one c (err [] ∷ cs)
-with-convergent c cs (exactly-one x xs) = several
-with-convergent c cs several = several
-
-abbrev pub with-unreachable : MaybeClaimedRegion → Convergent → Convergent
-with-unreachable c no-one = no-one
-with-unreachable c (exactly-one x xs) = exactly-one x (c ∷ xs)
-with-unreachable c several = several
-
-abbrev pub convergent-cases : List MaybeClaimedRegion → Convergent
-convergent-cases [] = no-one
-convergent-cases (c ∷ cs) =
-    pick (empty (deferred-of c)) (with-unreachable c (convergent-cases cs)) (with-convergent c cs (convergent-cases cs))
+abbrev pub without-convergent : List MaybeClaimedRegion → List MaybeClaimedRegion
+without-convergent cs = map (λ c. pick (empty (deferred-of c)) c (err [])) cs
 
 -- ---- A region's blocks as nodes.
 -- Nodes are numbered blocks first, in region order.
@@ -401,42 +376,31 @@ per-case-of d (some e) = record { inputs = some (e .target-inputs); condition = 
 
 abbrev pub per-case-deferred : DeferredTarget → DeferredEdgeBundleSet → PerCaseDeferred
 per-case-deferred x [] = record { inputs = none; condition = undef-cond }
-per-case-deferred x (e ∷ es) = per-case-of (e ∷ es) (get-by-target x (e ∷ es))
+per-case-deferred x (e ∷ es) = per-case-of (e ∷ es) (get-edge-bundle-by-target x (e ∷ es))
 
 -- A case's value as one that is valid in the select's parent, if it can be.
-abbrev pub own-input : ClaimedRegion → ℕ → ℕ → Option Value
-own-input c r k = pick (eqb r (c .structured-body)) (some (getD (c .structured-body-inputs) k (undef 0))) none
-
 abbrev pub in-parent : MaybeClaimedRegion → Value → Option Value
 in-parent (err d) v = some v
 in-parent (ok c) (const i) = some (const i)
 in-parent (ok c) (bool b) = some (bool b)
 in-parent (ok c) (undef ty) = some (undef ty)
-in-parent (ok c) (input r k) = own-input c r k
+in-parent (ok c) (input r k) = pick (eqb r (c .structured-body)) (some (getD (c .structured-body-inputs) k (undef 0))) none
 in-parent (ok c) (held r k) = none
 in-parent (ok c) (instr r k) = none
 in-parent (ok c) (output o) = none
 
--- The Rust's unique_target_input_value: the same value in all cases that reach the target.
-pub data UniqueInput : Type 0 where
-  no-value : UniqueInput
-  unique : Value → UniqueInput
-  differing : UniqueInput
+-- What the cases that reach a target pass as its input k, each as valid in the select's parent, if it can be.
+abbrev pub passed-inputs : ℕ → List MaybeClaimedRegion → List PerCaseDeferred → List (Option Value)
+passed-inputs k [] ps = []
+passed-inputs k (c ∷ cs) [] = []
+passed-inputs k (c ∷ cs) (p ∷ ps) =
+    elim (p .inputs) [ none ↦ passed-inputs k cs ps | some vs ↦ in-parent c (getD vs k (undef 0)) ∷ passed-inputs k cs ps ]
 
-abbrev pub with-value : Option Value → UniqueInput → UniqueInput
-with-value none u = differing
-with-value (some v) no-value = unique v
-with-value (some v) (unique w) = pick (sameValue v w) (unique w) differing
-with-value (some v) differing = differing
-
-abbrev pub with-case : ℕ → MaybeClaimedRegion → Option (List Value) → UniqueInput → UniqueInput
-with-case k c none u = u
-with-case k c (some vs) u = with-value (in-parent c (getD vs k (undef 0))) u
-
-abbrev pub unique-input : ℕ → List MaybeClaimedRegion → List PerCaseDeferred → UniqueInput
-unique-input k [] ps = no-value
-unique-input k (c ∷ cs) [] = no-value
-unique-input k (c ∷ cs) (p ∷ ps) = with-case k c (p .inputs) (unique-input k cs ps)
+-- The Rust's unique_target_input_value: the same value in all of them.
+abbrev pub unique-input : List (Option Value) → Option Value
+unique-input [] = none
+unique-input (none ∷ os) = none
+unique-input (some v ∷ os) = pick (all (λ o. elim o [ none ↦ false | some w ↦ sameValue w v ]) os) (some v) none
 
 -- An input of a deferred target: shared by all cases, or merged, an output of this type with a value for each case.
 pub data PlannedInput : Type 0 where
@@ -453,17 +417,12 @@ pub record PlannedBundle : Type 0 where
 abbrev pub value-in-case : ℕ → ℕ → PerCaseDeferred → Value
 value-in-case k ty p = elim (p .inputs) [ none ↦ undef ty | some vs ↦ getD vs k (undef 0) ]
 
-abbrev pub plan-input : ℕ → ℕ → List PerCaseDeferred → UniqueInput → PlannedInput
-plan-input k ty ps no-value = merged ty (map (value-in-case k ty) ps)
-plan-input k ty ps (unique v) = shared v
-plan-input k ty ps differing = merged ty (map (value-in-case k ty) ps)
+abbrev pub plan-input : ℕ → ℕ → List PerCaseDeferred → Option Value → PlannedInput
+plan-input k ty ps u = elim u [ some v ↦ shared v | none ↦ merged ty (map (value-in-case k ty) ps) ]
 
 -- Document 01: a condition is True when every case is True or Undef.
-abbrev pub is-true-or-undef : LazyCond → Bool
-is-true-or-undef c = elim c [ true-cond ↦ true | undef-cond ↦ true | false-cond ↦ false | merge n k v cs ↦ false ]
-
 abbrev pub all-true : List PerCaseDeferred → Bool
-all-true ps = all (λ p. is-true-or-undef (p .condition)) ps
+all-true ps = all (λ p. elim (p .condition) [ true-cond ↦ true | undef-cond ↦ true | false-cond ↦ false | merge n k v cs ↦ false ]) ps
 
 abbrev pub conditions-of : List PerCaseDeferred → LazyConds
 conditions-of [] = no-conds
@@ -474,9 +433,10 @@ module _ (g : Graph) where
   target-type (to-region r) k = getD (region g r .inputs) k 0
   target-type to-return k = getD (returnTypes g) k 0
 
-  abbrev pub plan-inputs : ℕ → ℕ → DeferredTarget → List MaybeClaimedRegion → List PerCaseDeferred → List PlannedInput  -- how many inputs are left, which comes next
+  -- how many inputs are left, which comes next
+  abbrev pub plan-inputs : ℕ → ℕ → DeferredTarget → List MaybeClaimedRegion → List PerCaseDeferred → List PlannedInput
   plan-inputs zero k x cs ps = []
-  plan-inputs (suc n) k x cs ps = plan-input k (target-type x k) ps (unique-input k cs ps) ∷ plan-inputs n (suc k) x cs ps
+  plan-inputs (suc n) k x cs ps = plan-input k (target-type x k) ps (unique-input (passed-inputs k cs ps)) ∷ plan-inputs n (suc k) x cs ps
 
   abbrev pub plan-bundle : List MaybeClaimedRegion → DeferredTargetSummary → PlannedBundle
   plan-bundle cs w =
@@ -488,39 +448,25 @@ module _ (g : Graph) where
   plan-bundles cs = map (plan-bundle cs) (deferred-targets cs [])
 
 -- Whether the select has to be defined: for a merged input, for a condition, or for a case's children.
-abbrev pub is-merged : PlannedInput → Bool
-is-merged (shared v) = false
-is-merged (merged ty vs) = true
-
 abbrev pub any-needs-select : List PlannedBundle → Bool
-any-needs-select ps = any (λ p. any is-merged (p .inputs) || is-some (p .condition)) ps
+any-needs-select ps = any (λ p. any (λ i. elim i [ shared v ↦ false | merged ty vs ↦ true ]) (p .inputs) || is-some (p .condition)) ps
 
 abbrev pub any-non-empty-case : List MaybeClaimedRegion → Bool
 any-non-empty-case cs = any (λ c. elim c [ err d ↦ false | ok x ↦ has-children (x .children) ]) cs
 
 -- ---- The Rust's structurize_select_into: plan, define the select if it is needed, emit what it defers, replace inputs.
--- The values of the cases, each looked up.
-abbrev pub rewrite-bundle : (Value → Value) → DeferredEdgeBundle → DeferredEdgeBundle
-rewrite-bundle ρ e = edge-bundle (e .target) (e .accumulated-count) (map ρ (e .target-inputs)) (e .condition)
+-- The values of the cases, each looked up. `condition` gives the bundle's condition.
+abbrev pub look-up-bundle : (Value → LookUp Value) → (DeferredEdgeBundle → LazyCond) → DeferredEdgeBundle → LookUp DeferredEdgeBundle
+look-up-bundle ρ condition e = plain (edge-bundle (e .target) (e .accumulated-count)) ⊛ each ρ (e .target-inputs) ⊛ plain (condition e)
 
-abbrev pub rewrite-claimed : (Value → Value) → ClaimedRegion → ClaimedRegion
-rewrite-claimed ρ c =
-    claimed-as (c .origin) (c .structured-body) (map ρ (c .structured-body-inputs)) (c .children) (map (rewrite-bundle ρ) (c .deferred-edges))
-
-abbrev pub rewrite-case : (Value → Value) → MaybeClaimedRegion → MaybeClaimedRegion
-rewrite-case ρ (err d) = err (map (rewrite-bundle ρ) d)
-rewrite-case ρ (ok c) = ok (rewrite-claimed ρ c)
-
-abbrev pub meets-in-set : (Value → Bool) → DeferredEdgeBundleSet → Bool
-meets-in-set p d = any (λ e. any p (e .target-inputs)) d
-
-abbrev pub meets-in-case : (Value → Bool) → MaybeClaimedRegion → Bool
-meets-in-case p (err d) = meets-in-set p d
-meets-in-case p (ok c) = any p (c .structured-body-inputs) || meets-in-set p (c .deferred-edges)
+abbrev pub look-up-case : (Value → LookUp Value) → MaybeClaimedRegion → LookUp MaybeClaimedRegion
+look-up-case ρ (err d) = plain err ⊛ each (look-up-bundle ρ (λ e. e .condition)) d
+look-up-case ρ (ok c) =
+    let claimed-at = plain (claimed-as (c .origin) (c .structured-body)) ⊛ each ρ (c .structured-body-inputs) ⊛ plain (c .children) in
+    plain ok ⊛ (claimed-at ⊛ each (look-up-bundle ρ (λ e. e .condition)) (c .deferred-edges))
 
 unfoldable pub rewrite-cases : List MaybeClaimedRegion → Step (List MaybeClaimedRegion)
-rewrite-cases cs s =
-    done (map (rewrite-case (rewrite (s .region-input-rewrites))) cs) (with-twice (any (meets-in-case (meets (s .region-input-rewrites))) cs) s)
+rewrite-cases cs s = note (each (look-up-case (look-up (s .region-input-rewrites))) cs) s
 
 -- The select's cases: a claimed region with its children, or a new region. Outputs are added by the last rewriting.
 unfoldable pub case-regions : List MaybeClaimedRegion → Step Cases
@@ -538,7 +484,7 @@ pub record DefinedSelect : Type 0 where
   pub scrutinee : Value
   pub children : Nodes
 
--- Document 01's order of definitions: new case regions, what the scrutinee adds, the node.
+-- The Rust's order of definitions: new case regions, what the scrutinee adds, the node.
 unfoldable pub define-select : SelectionKind → Scrutinee → List MaybeClaimedRegion → Step DefinedSelect
 define-select kind scrutinee cases = do
   cs ← case-regions cases
@@ -565,12 +511,9 @@ emit n (p ∷ ps) = do
   give (edge-bundle (p .target) (p .total-edge-count) ins c ∷ rest)
 
 -- Where no select is needed every input is shared, and every condition true.
-abbrev pub shared-value : PlannedInput → Value
-shared-value (shared v) = v
-shared-value (merged ty vs) = undef 0
-
 abbrev pub shared-bundle : PlannedBundle → DeferredEdgeBundle
-shared-bundle p = edge-bundle (p .target) (p .total-edge-count) (map shared-value (p .inputs)) true-cond
+shared-bundle p =
+    edge-bundle (p .target) (p .total-edge-count) (map (λ i. elim i [ shared v ↦ v | merged ty vs ↦ undef 0 ]) (p .inputs)) true-cond
 
 unfoldable pub select-if : Bool → SelectionKind → Scrutinee → List MaybeClaimedRegion → List PlannedBundle → Step Body
 select-if false kind scrutinee cases ps = give (region-body ⟨⟩ (map shared-bundle ps))
@@ -586,7 +529,8 @@ replace-inputs (err d ∷ cs) = replace-inputs cs
 replace-inputs (ok c ∷ cs) = insert-rewrites (c .structured-body) (replace-with (c .structured-body-inputs)) >> replace-inputs cs
 
 module _ (g : Graph) where
-  unfoldable pub structurize-select : Nodes → SelectionKind → Scrutinee → List MaybeClaimedRegion → Step Body  -- with no convergent case set aside
+  -- With no convergent case set aside.
+  unfoldable pub structurize-select : Nodes → SelectionKind → Scrutinee → List MaybeClaimedRegion → Step Body
   structurize-select parent kind scrutinee cases = do
     cs ← rewrite-cases cases
     x ← select-if (any-non-empty-case cases || any-needs-select (plan-bundles g cs)) kind scrutinee cases (plan-bundles g cs)
@@ -594,21 +538,18 @@ module _ (g : Graph) where
     give (region-body (join parent (x .children)) (x .deferred-edges))
 
   -- The sole convergent case goes after the select; its deferred edges come back as they were.
-  abbrev pub structurize-select-by : Nodes → SelectionKind → Scrutinee → List MaybeClaimedRegion → Convergent → Step Body
-  structurize-select-by parent kind scrutinee cases no-one = structurize-select parent kind scrutinee cases
-  structurize-select-by parent kind scrutinee cases several = structurize-select parent kind scrutinee cases
-  structurize-select-by parent kind scrutinee cases (exactly-one c others) =
-      structurize-select parent kind scrutinee others >>= λ x. append-maybe-claimed-region (x .children) c
+  abbrev pub structurize-select-by : Nodes → SelectionKind → Scrutinee → List MaybeClaimedRegion → List MaybeClaimedRegion → Step Body
+  structurize-select-by parent kind scrutinee cases [] = structurize-select parent kind scrutinee cases
+  structurize-select-by parent kind scrutinee cases (c ∷ []) =
+      structurize-select parent kind scrutinee (without-convergent cases) >>= λ x. append-maybe-claimed-region (x .children) c
+  structurize-select-by parent kind scrutinee cases (c ∷ d ∷ ds) = structurize-select parent kind scrutinee cases
 
   abbrev pub structurize-select-into : Nodes → SelectionKind → Scrutinee → List MaybeClaimedRegion → Step Body
   structurize-select-into parent kind scrutinee cases = structurize-select-by parent kind scrutinee cases (convergent-cases cases)
 
 -- ---- Reachable regions, and document 01's incoming counts.
-abbrev pub edge-count : List Region → ℕ
-edge-count rs = total (λ r. length (edgesOf (r .terminator))) rs
-
 module _ (g : Graph) where
-  -- The Rust's loop_header_to_exit_targets: the record's own lists.
+  -- The loop exit targets of a region, the Rust's loop_header_to_exit_targets: the record's own exit list.
   abbrev pub exit-targets : ℕ → List ℕ
   exit-targets r = region g r .exits
 
@@ -620,13 +561,11 @@ module _ (g : Graph) where
 
   -- The regions that the entry reaches, each once. One visit for the entry and one for each edge.
   abbrev pub reachable : List ℕ
-  reachable = visit (suc (edge-count (g .regions))) (g .entry ∷ []) []
+  reachable = visit (suc (total (λ r. length (edgesOf (r .terminator))) (g .regions))) (g .entry ∷ []) []
 
-  abbrev pub incoming-from : ℕ → List ℕ → IncomingEdgeCount  -- edges from these regions to region a, and exit lists of theirs that name it
-  incoming-from a rs = total (λ r. times-in a (targetsOf g r) + times-in a (exit-targets r)) rs
-
-  abbrev pub incoming-edge-count : List ℕ → ℕ → IncomingEdgeCount  -- of region a, where these regions are reachable
-  incoming-edge-count live a = pick (eqb a (g .entry)) 1 0 + incoming-from a live
+  -- Of region a, where `live` are the reachable regions: 1 for the entry, each edge from them to a, each exit list of theirs that names a.
+  abbrev pub incoming-edge-count : List ℕ → ℕ → IncomingEdgeCount
+  incoming-edge-count live a = pick (eqb a (g .entry)) 1 0 + total (λ r. times-in a (targetsOf g r) + times-in a (exit-targets r)) live
 
   -- The Rust's incoming_edge_counts_including_loop_exits, worked out once.
   unfoldable pub incoming-edge-counts : List IncomingEdgeCount
@@ -646,7 +585,8 @@ no-inputs = record { rewrites = []; initial-inputs = []; types = []; outputs = [
 abbrev pub keep-input : ℕ → ℕ → ℕ → Value → LoopInputs → LoopInputs  -- wrapper region, input, its type, the value passed back
 keep-input wrapper k ty v x =
     let number = renumber-to (length (x .initial-inputs)) in
-    record { rewrites = x .rewrites ++ (number ∷ []); initial-inputs = x .initial-inputs ++ (input wrapper k ∷ []); types = x .types ++ (ty ∷ []); outputs = x .outputs ++ (v ∷ []) }
+    let initial = x .initial-inputs ++ (input wrapper k ∷ []) in
+    record { rewrites = x .rewrites ++ (number ∷ []); initial-inputs = initial; types = x .types ++ (ty ∷ []); outputs = x .outputs ++ (v ∷ []) }
 
 abbrev pub lift-input : ℕ → ℕ → LoopInputs → LoopInputs
 lift-input wrapper k x =
@@ -667,7 +607,7 @@ module _ (g : Graph) where
   take-inputs r wrapper k [] x = x
   take-inputs r wrapper k (v ∷ vs) x = take-inputs r wrapper (suc k) vs (take-input r wrapper k v x)
 
-  -- Document 01's order of definitions: wrapper region, look-ups, repeat condition, node.
+  -- The Rust's order of definitions: wrapper region, look-ups, repeat condition, node.
   -- body region, its children, the back edge, the repeat condition, the other deferred edges, the inputs from outside
   unfoldable pub structurize-loop : ℕ → Nodes → DeferredEdgeBundle → LazyCond → DeferredEdgeBundleSet → List Value → Step (Option ClaimedRegion)
   structurize-loop body children backedge repeat exits inputs = do
@@ -694,7 +634,7 @@ pub record SplitOut : Type 0 where
 -- The back edge is looked for only where the back edge count is not 0.
 abbrev pub backedge-of : ℕ → IncomingEdgeCount → DeferredEdgeBundleSet → Option DeferredEdgeBundle
 backedge-of r zero d = none
-backedge-of r (suc b) d = get-by-target (to-region r) d
+backedge-of r (suc b) d = get-edge-bundle-by-target (to-region r) d
 
 abbrev pub defer-edge : Edge → MaybeClaimedRegion
 defer-edge e = err (edge-bundle (to-region (e .target)) 1 (e .inputs) true-cond ∷ [])
@@ -732,6 +672,7 @@ module _ (g : Graph) where
   claim-by-state r n inputs incoming (ready b children d) =
       elim (eqb incoming (n + b)) [ false ↦ give none | true ↦ set-state r claimed >> claim-body r inputs children d (backedge-of r b d) ]
 
+  -- What a terminator makes of its targets, each claimed or deferred: children, and deferred edges.
   abbrev pub by-control-inst : Nodes → ControlInst → List MaybeClaimedRegion → Step Body
   by-control-inst parent unreachable cs = give (region-body parent [])
   by-control-inst parent (return vs) cs = give (region-body parent (edge-bundle to-return 0 vs true-cond ∷ []))
@@ -740,7 +681,8 @@ module _ (g : Graph) where
   by-control-inst parent (branch e) (c ∷ cs) = append-maybe-claimed-region parent c
   by-control-inst parent (select-branch kind v es) cs = structurize-select-into g parent kind (value v) cs
 
-  abbrev pub resolve-by : (Body → Step Body) → Body → Option SplitOut → Step Body  -- a turn of the Rust's loop over deferred edges; `go` is what follows
+  -- A turn of the Rust's loop over deferred edges; `go` is what follows.
+  abbrev pub resolve-by : (Body → Step Body) → Body → Option SplitOut → Step Body
   resolve-by go x none = give x
   resolve-by go x (some y) =
       structurize-select-into g (x .children) bool-cond (lazy (condition-in (x .deferred-edges) (y .bundle))) (ok (y .claimed-region) ∷ err (y .others) ∷ []) >>= go
@@ -767,6 +709,7 @@ module _ (g : Graph) where
     resolve-deferred zero x = give x
     resolve-deferred (suc fuel) x = split-out-matching [] (x .deferred-edges) >>= resolve-by (λ y. resolve-deferred fuel y) x
 
+    -- The Rust's structurize_region: a region becomes Ready, with its children and what they defer.
     unfoldable pub structurize-region : ℕ → Step Unit
     structurize-region r = do
       set-state r in-progress
@@ -785,57 +728,36 @@ module _ (g : Graph) where
 
 -- ---- The last rewriting: outputs take their places, and every value is looked up once more.
 -- The outputs of a node; the declarations count the table's entries from a number on.
-abbrev pub outputs-of : ℕ → List NodeOutput → List NodeOutput
-outputs-of n [] = []
-outputs-of n (o ∷ os) = pick (eqb n (o .node)) (o ∷ outputs-of n os) (outputs-of n os)
-
 abbrev pub output-decls : ℕ → ℕ → List NodeOutput → List OutputDecl
 output-decls n k [] = []
 output-decls n k (o ∷ os) = pick (eqb n (o .node)) (record { number = k; type = o .type } ∷ output-decls n (suc k) os) (output-decls n (suc k) os)
 
-abbrev pub case-outputs : ℕ → List NodeOutput → List Value  -- the outputs of the case at place j
-case-outputs j os = map (λ o. getD (o .values) j (undef 0)) os
+abbrev pub case-outputs : ℕ → ℕ → List NodeOutput → List Value  -- of node n in the case at place j
+case-outputs n j os = map (λ o. getD (o .values) j (undef 0)) (filter (λ o. eqb n (o .node)) os)
 
-abbrev pub rewrite-reads : (Value → Value) → Instr → Instr
-rewrite-reads ρ i = record { opcode = i .opcode; type = i .type; cost = i .cost; reads = map ρ (i .reads) }
+abbrev pub look-up-reads : (Value → LookUp Value) → Instr → LookUp Instr
+look-up-reads ρ i =
+    let vs = each ρ (i .reads) in
+    record { value = record { opcode = i .opcode; type = i .type; cost = i .cost; reads = vs .value }; twice = vs .twice }
 
 -- ρ is the look-up, os all outputs that were defined.
-module _ (ρ : Value → Value) (os : List NodeOutput) where
+module _ (ρ : Value → LookUp Value) (os : List NodeOutput) where
   unfoldable mutual
-    pub rewrite-node : Node → Node
-    rewrite-node (block n r k is) = block n r k (map (rewrite-reads ρ) is)
-    rewrite-node (select n kind v decls cs) = select n kind (ρ v) (output-decls n 0 os) (rewrite-cases-of cs n 0)
-    rewrite-node (loop n initial r types limit body outputs repeat) =
-        loop n (map ρ initial) r types limit (rewrite-nodes body) (map ρ outputs) (ρ repeat)
-    rewrite-node (exit n op vs) = exit n op (map ρ vs)
+    pub look-up-node : Node → LookUp Node
+    look-up-node (block n r k is) = plain (block n r k) ⊛ each (look-up-reads ρ) is
+    look-up-node (select n kind v decls cs) = plain (select n kind) ⊛ ρ v ⊛ plain (output-decls n 0 os) ⊛ look-up-cases cs n 0
+    look-up-node (loop n initial r types limit body outputs repeat) =
+        plain (loop n) ⊛ each ρ initial ⊛ plain r ⊛ plain types ⊛ plain limit ⊛ look-up-nodes body ⊛ each ρ outputs ⊛ ρ repeat
+    look-up-node (exit n op vs) = plain (exit n op) ⊛ each ρ vs
 
-    pub rewrite-nodes : Nodes → Nodes
-    rewrite-nodes ⟨⟩ = ⟨⟩
-    rewrite-nodes (x ▸ xs) = rewrite-node x ▸ rewrite-nodes xs
+    pub look-up-nodes : Nodes → LookUp Nodes
+    look-up-nodes ⟨⟩ = plain ⟨⟩
+    look-up-nodes (x ▸ xs) = plain _▸_ ⊛ look-up-node x ⊛ look-up-nodes xs
 
-    pub rewrite-cases-of : Cases → ℕ → ℕ → Cases  -- node, place of the first of these cases
-    rewrite-cases-of ∅ n j = ∅
-    rewrite-cases-of (case r body outputs cs) n j =
-        case r (rewrite-nodes body) (map ρ (case-outputs j (outputs-of n os))) (rewrite-cases-of cs n (suc j))
-
--- Whether the last rewriting meets a marked value that a second look-up would change.
-module _ (es : List RewriteEntry) (os : List NodeOutput) where
-  unfoldable mutual
-    pub meets-in-node : Node → Bool
-    meets-in-node (block n r k is) = any (λ i. any (meets es) (i .reads)) is
-    meets-in-node (select n kind v decls cs) = meets es v || meets-in-cases cs n 0
-    meets-in-node (loop n initial r types limit body outputs repeat) =
-        (any (meets es) initial || meets-in-nodes body) || (any (meets es) outputs || meets es repeat)
-    meets-in-node (exit n op vs) = any (meets es) vs
-
-    pub meets-in-nodes : Nodes → Bool
-    meets-in-nodes ⟨⟩ = false
-    meets-in-nodes (x ▸ xs) = meets-in-node x || meets-in-nodes xs
-
-    pub meets-in-cases : Cases → ℕ → ℕ → Bool
-    meets-in-cases ∅ n j = false
-    meets-in-cases (case r body outputs cs) n j =
-        (meets-in-nodes body || any (meets es) (case-outputs j (outputs-of n os))) || meets-in-cases cs n (suc j)
+    pub look-up-cases : Cases → ℕ → ℕ → LookUp Cases  -- node, place of the first of these cases
+    look-up-cases ∅ n j = plain ∅
+    look-up-cases (case r body outputs cs) n j =
+        plain (case r) ⊛ look-up-nodes body ⊛ each ρ (case-outputs n j os) ⊛ look-up-cases cs n (suc j)
 
 -- ---- What nesting answers: an outcome with the regions that it gives, or a refusal.
 -- Document 01's four outcomes, in its order.
@@ -860,26 +782,14 @@ pub record Nested : Type 0 where
   pub unclaimed : List Piece
   pub output-nodes : List ℕ
 
--- ---- The Rust's structurize_func: the entry is claimed, and what comes of it is the answer.
+-- ---- The entry is claimed, and what comes of it is the answer.
 abbrev pub initial-state : Graph → NestState
 initial-state g = nest-state (replicate (length (g .regions)) not-begun) [] [] (length (g .regions)) (block-count (g .regions)) 0 0 false
 
 -- Whole if the deferred set is Always Return, closed if it is Unreachable.
-abbrev pub outcome-by : DeferredTarget → DeferredEdgeBundleSet → Outcome
-outcome-by x others = elim x [ to-region r ↦ leftover | to-return ↦ pick (empty others) whole leftover ]
-
 abbrev pub outcome-of : DeferredEdgeBundleSet → Outcome
 outcome-of [] = closed
-outcome-of (e ∷ es) = outcome-by (e .target) es
-
--- The inputs of the one deferred edge to Return.
-abbrev pub returned-values : DeferredEdgeBundleSet → List Value
-returned-values [] = []
-returned-values (e ∷ d) = e .target-inputs
-
--- A deferred edge as it is given: the condition of a set of one is dropped.
-abbrev pub given-bundle : (Value → Value) → DeferredEdgeBundleSet → DeferredEdgeBundle → DeferredEdgeBundle
-given-bundle ρ d e = edge-bundle (e .target) (e .accumulated-count) (map ρ (e .target-inputs)) (condition-in d e)
+outcome-of (e ∷ es) = elim (e .target) [ to-region r ↦ leftover | to-return ↦ pick (empty es) whole leftover ]
 
 module _ (g : Graph) where
   abbrev pub piece : ℕ → Nodes → List Value → DeferredEdgeBundleSet → Piece  -- region, children, outputs, deferred edges
@@ -888,34 +798,28 @@ module _ (g : Graph) where
   -- The Ready regions that no one claimed, ascending.
   abbrev pub unclaimed-from : ℕ → List StructurizeRegionState → List Piece
   unclaimed-from r [] = []
-  unclaimed-from r (ready b children d ∷ xs) = piece r children [] d ∷ unclaimed-from (suc r) xs
-  unclaimed-from r (not-begun ∷ xs) = unclaimed-from (suc r) xs
-  unclaimed-from r (in-progress ∷ xs) = unclaimed-from (suc r) xs
-  unclaimed-from r (claimed ∷ xs) = unclaimed-from (suc r) xs
-
--- The last rewriting of a piece, and whether it meets what counts for twice; `es` and `os` are the tables at the end.
-module _ (es : List RewriteEntry) (os : List NodeOutput) where
-  unfoldable pub rewrite-piece : Piece → Piece
-  rewrite-piece p =
-      let ρ = rewrite es in
-      let given = map (given-bundle ρ (p .deferred)) (p .deferred) in
-      record { region = p .region; inputs = p .inputs; children = rewrite-nodes ρ os (p .children); outputs = map ρ (p .outputs); deferred = given }
-
-  unfoldable pub meets-in-piece : Piece → Bool
-  meets-in-piece p = meets-in-nodes es os (p .children) || (any (meets es) (p .outputs) || meets-in-set (meets es) (p .deferred))
+  unclaimed-from r (x ∷ xs) =
+      elim x [ not-begun ↦ [] | in-progress ↦ [] | claimed ↦ [] | ready b children d ↦ piece r children [] d ∷ [] ] ++ unclaimed-from (suc r) xs
 
 module _ (g : Graph) (s : NestState) where
+  -- The last rewriting of a piece, by the tables at the end.
+  unfoldable pub look-up-piece : Piece → LookUp Piece
+  look-up-piece p =
+      let ρ = look-up (s .region-input-rewrites) in
+      let given = each (look-up-bundle ρ (condition-in (p .deferred))) (p .deferred) in
+      plain (piece g (p .region)) ⊛ look-up-nodes ρ (s .node-outputs) (p .children) ⊛ each ρ (p .outputs) ⊛ given
+
   abbrev pub conclude-with : Outcome → Piece → List Piece → Nested  -- outcome, entry, unclaimed regions
   conclude-with outcome entry unclaimed =
-      let last = rewrite-piece (s .region-input-rewrites) (s .node-outputs) in
-      let met = any (meets-in-piece (s .region-input-rewrites) (s .node-outputs)) (entry ∷ unclaimed) in
-      let nodes = map (λ x. x .node) (s .node-outputs) in
-      record { outcome = outcome; attempts = s .attempts; twice = s .twice || met; entry = last entry; unclaimed = map last unclaimed; output-nodes = nodes }
+      let x = look-up-piece entry in
+      let xs = each look-up-piece unclaimed in
+      let nodes = map (λ o. o .node) (s .node-outputs) in
+      record { outcome = outcome; attempts = s .attempts; twice = s .twice || (x .twice || xs .twice); entry = x .value; unclaimed = xs .value; output-nodes = nodes }
 
-  -- A leftover also gives the Ready regions that no one claimed.
+  -- A whole form returns the values of its one deferred edge; a leftover also gives the Ready regions that no one claimed.
   abbrev pub conclude-by : Nodes → DeferredEdgeBundleSet → Outcome → Nested
   conclude-by children d untouched = conclude-with untouched (piece g (g .entry) ⟨⟩ [] []) []
-  conclude-by children d whole = conclude-with whole (piece g (g .entry) children (returned-values d) []) []
+  conclude-by children d whole = conclude-with whole (piece g (g .entry) children (getD (map (λ e. e .target-inputs) d) 0 []) []) []
   conclude-by children d closed = conclude-with closed (piece g (g .entry) children [] []) []
   conclude-by children d leftover = conclude-with leftover (piece g (g .entry) children [] d) (unclaimed-from g 0 (s .region-states))
 
@@ -933,5 +837,6 @@ structurize-func-by g counts =
       | true ↦ conclude g (try-claim-edge-bundle g counts (suc (length (g .regions))) (g .entry) 1 [] (initial-state g))
     ]
 
+-- The Rust's structurize_func, with the incoming counts of the graph.
 unfoldable pub structurize-func : Graph → Store.Answer Nested
 structurize-func g = structurize-func-by g (incoming-edge-counts g)

@@ -5,13 +5,13 @@ use mathlib.Core.List.{[], _∷_}
 use mathlib.Core.Option.{Option, none, some}
 use Prim.Native.Nat.{ℕ, zero, suc, _≤_, _<_}
 use native.Mathlib.Omega.{arith}
-use lib.ListN.{length, set}
+use lib.ListN.{length}
 use Rattle.meaning.specs.Graph.{bool-cond, Graph, region, edgesOf}
-use Rattle.nesting.specs.Nesting.{not-begun, in-progress, ready, NestState, Answer, done, turned-away, Step, follow, _>>=_, _>>_, with-region-states, set-state, condition-in, count-to, ok, err, lazy, Body, convergent-cases, blocks-of, structurize-select-into, Claim, SplitOut, by-control-inst, resolve-by, target-regions, split-out-matching, resolve-deferred, structurize-region}
+use Rattle.nesting.specs.Nesting.{not-begun, in-progress, ready, NestState, Answer, done, turned-away, Step, follow, _>>=_, _>>_, set-state, condition-in, count-to, ok, err, lazy, Body, convergent-cases, blocks-of, structurize-select-into, Claim, SplitOut, by-control-inst, resolve-by, target-regions, split-out-matching, resolve-deferred, structurize-region}
 use Rattle.nesting.specs.Post.{Post}
 use Rattle.nesting.specs.Keeps.{structurize-select-by-keeps, by-control-inst-keeps}
 use Rattle.nesting.specs.Still.{still-steady, still-log}
-use Rattle.nesting.specs.Fewer.{state-of, unclaimed-one, unclaimed-count, unclaimed-most, count-set, Fewer, fewer-still, AnyRefusal, claimed-count, ClaimFewer}
+use Rattle.nesting.specs.Fewer.{state-of, with-state, unclaimed-one, unclaimed-count, unclaimed-most, count-set, Fewer, fewer-still, AnyRefusal, claimed-count, ClaimFewer}
 use Rattle.nesting.specs.UnclaimedFalls.{target-regions-fewer, split-out-fewer}
 
 -- Two ways to go on that agree on what the step gives.
@@ -54,7 +54,7 @@ module _ (g : Graph) (claim : Claim) (claim-fewer : ClaimFewer claim) where
       → (fuel : ℕ) → length (g .regions) ≤ fuel → structurize-region g claim r s ≡ structurize-with fuel r s
   unfolding structurize-region structurize-with
   structurize-same r s in-r few new fuel l =
-      let s₀ = with-region-states (set (s .region-states) r in-progress) s in
+      let s₀ = with-state s r in-progress in
       let begun = count-set unclaimed-one (s .region-states) r in-progress in-r in
       let was = ap unclaimed-one new in
       let most = unclaimed-most (s .region-states) in

@@ -10,7 +10,8 @@ use lib.ListN.{length, getD}
 use lib.Dec.{eqb}
 use borrow.Author.Tests.{eqb-true, eq-eqb}
 use Rattle.meaning.specs.Graph.{Value, const, input, instr, output, bool, undef, held, sameValue}
-use Rattle.nesting.specs.Nesting.{InputRewrite, renumber-to, replace-by, RegionInputRewrites, replace-with, renumber-or-replace-with, RewriteEntry, rewrites-of, rewrite, changes-again}
+use Rattle.nesting.specs.Nesting.{InputRewrite, renumber-to, replace-by, RegionInputRewrites, replace-with, renumber-or-replace-with, RewriteEntry, rewrites-of, changes-again}
+use Rattle.nesting.specs.Rewriting.{rewrite}
 use Rattle.nesting.specs.ChainSteps.{next-value, after-steps, stops-after, chain-steps}
 use Rattle.nesting.specs.ChainEnds.{names, Gives, ChainsEnd, Leads, Path, one, path-then, acyclic, rewrite-enough}
 

@@ -2,10 +2,10 @@
 use mathlib.Core.List.{List, [], _∷_, _++_, map}
 use Prim.Native.Nat.{ℕ, _+_, _*_, max, suc}
 use mathlib.Core.Bool.{Bool, true, false}
-use lib.ListN.{getD, take, length, drop}
+use lib.ListN.{getD, take, length}
 use lib.Dec.{leb, eqb}
 use Prim.Native.String.{String}
-use Rattle.meaning.specs.Lists.{concat, times-in}
+use Rattle.meaning.specs.Lists.{concat, total, times-in}
 use Rattle.meaning.specs.Graph.{Instr, SelectionKind, Value, const, input, instr, output, bool, undef, held, pick, Graph, bool-cond, number, bit}
 use Rattle.meaning.specs.Runs.{Node, block, select, loop, exit, Nodes, ⟨⟩, _▸_, Cases, ∅, case}
 use Rattle.meaning.specs.Text.{Text, ascii, decimal, joined, listed}
@@ -14,15 +14,11 @@ use Rattle.format.specs.Accept.{accept}
 use Rattle.nesting.specs.Nesting.{Outcome, LazyCond, undef-cond, false-cond, true-cond, merge, LazyConds, _&_, DeferredTarget, to-region, to-return, DeferredEdgeBundle, untouched, whole, closed, leftover, Piece, Nested, structurize-func}
 
 -- ---- The figure of a nested form: what a run can cost at most (document 01, "What comes out").
-abbrev pub instr-costs : List Instr → ℕ
-instr-costs [] = 0
-instr-costs (i ∷ is) = i .cost + instr-costs is
-
 module _ (test-cost : ℕ) where
   unfoldable mutual
     -- A block its instructions' sum; a select the test cost and its dearest case; a loop its turn limit times body and test cost.
     pub node-figure : Node → ℕ
-    node-figure (block n r k is) = instr-costs is
+    node-figure (block n r k is) = total (λ i. i .cost) is
     node-figure (select n kind v os cs) = test-cost + dearest cs
     node-figure (loop n vs r ts limit ks us v) = limit * (figure ks + test-cost)
     node-figure (exit n op vs) = 0
@@ -67,6 +63,7 @@ numbers ns = list (map a-number ns)
 abbrev pub dotted : ℕ → ℕ → Field
 dotted r k = joint "." (a-number r ∷ a-number k ∷ [])
 
+-- The kind of a select: bool 0, num 1.
 abbrev pub kind : SelectionKind → Field
 kind bool-cond = named 0 "bool"
 kind number = named 1 "num"
@@ -198,6 +195,7 @@ sheet-of g x =
       lines = elim (x .outcome) [ untouched ↦ [] | whole ↦ lines-of x | closed ↦ lines-of x | leftover ↦ lines-of x ];
     }
 
+-- The outcomes, 0 to 3.
 abbrev pub outcome : Outcome → Field
 outcome untouched = named 0 "untouched"
 outcome whole = named 1 "whole"
@@ -211,6 +209,7 @@ figure-field whole n = a-number n
 figure-field closed n = a-number n
 figure-field leftover n = named n "-"
 
+-- Line 1: outcome, figure, attempts, twice.
 abbrev pub line-1 : Sheet → List Field
 line-1 s =
     outcome (s .outcome)
@@ -252,11 +251,7 @@ unfoldable pub answer-words : List ℕ → ℕ → Answer (List ℕ)
 unfolding answer
 answer-words store lent = andThen (answer store lent) λ s. accepted (sheet-words s)
 
--- What the lent words hold afterwards: the words beyond the sheet stay as lent, and all of them do after a refusal.
-abbrev pub lent-after : Answer (List ℕ) → List ℕ → List ℕ
-lent-after (refused n w) lent = lent
-lent-after (accepted ws) lent = ws ++ drop (length ws) lent
-
+-- A refusal prints one line: `refused`, the number and its word.
 unfoldable pub answer-text : Answer Sheet → Text
 unfolding sheet-text
 answer-text (refused n w) = joined (ascii " ") (ascii "refused" ∷ decimal n ∷ decimal w ∷ []) ++ ascii "\n"

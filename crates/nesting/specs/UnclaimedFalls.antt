@@ -6,15 +6,15 @@ use mathlib.Core.List.{List, [], _∷_, _++_}
 use mathlib.Core.Option.{Option, none, some}
 use Prim.Native.Nat.{ℕ, zero, suc, _+_, _≤_, _<_}
 use native.Mathlib.Omega.{arith}
-use lib.ListN.{length, getD, set, length-set, List·getD-eq-default}
+use lib.ListN.{length, getD, length-set, List·getD-eq-default}
 use lib.Seq.{set-out}
 use lib.Dec.{eqb, ltb, ltb→lt, nltb→le}
 use Rattle.meaning.specs.Graph.{Value, bool-cond, Edge, Graph, region, edgesOf}
-use Rattle.nesting.specs.Nesting.{DeferredTarget, to-region, to-return, DeferredEdgeBundleSet, IncomingEdgeCount, StructurizeRegionState, not-begun, in-progress, claimed, ready, NestState, Step, give, turn-away, follow, _>>=_, _>>_, with-region-states, with-attempt, get-state, set-state, condition-in, count-to, ClaimedRegion, ok, err, lazy, Body, convergent-cases, blocks-of, Claim, SplitOut, backedge-of, edge-case, split-out-or, begin, claim-body, claim-by-state, by-control-inst, resolve-by, target-regions, split-out-matching, resolve-deferred, structurize-region, try-claim-edge-bundle}
+use Rattle.nesting.specs.Nesting.{DeferredTarget, to-region, to-return, DeferredEdgeBundleSet, IncomingEdgeCount, StructurizeRegionState, not-begun, in-progress, claimed, ready, NestState, Step, give, turn-away, follow, _>>=_, _>>_, get-state, set-state, condition-in, count-to, ClaimedRegion, ok, err, lazy, Body, convergent-cases, blocks-of, Claim, SplitOut, backedge-of, edge-case, split-out-or, begin, claim-body, claim-by-state, by-control-inst, resolve-by, target-regions, split-out-matching, resolve-deferred, structurize-region, try-claim-edge-bundle}
 use Rattle.nesting.specs.Post.{Post, map-post, bind}
 use Rattle.nesting.specs.Keeps.{structurize-select-by-keeps, claim-body-keeps, by-control-inst-keeps}
 use Rattle.nesting.specs.Still.{Still, still-steady, still-log}
-use Rattle.nesting.specs.Fewer.{state-of, not-begun-one, unclaimed-one, count-states, count-set, Fewer, fewer-refl, fewer-then, fewer-less, fewer-still, AnyRefusal, claimed-count, ClaimFewer}
+use Rattle.nesting.specs.Fewer.{state-of, with-state, with-attempt, not-begun-one, unclaimed-one, count-states, count-set, Fewer, fewer-refl, fewer-then, fewer-less, fewer-still, AnyRefusal, claimed-count, ClaimFewer}
 
 in-or-out : (r n : ℕ) → (r < n) ⊎ (n ≤ r)
 in-or-out r n = go (ltb r n) refl
@@ -74,10 +74,10 @@ module _ (g : Graph) (claim : Claim) (claim-fewer : ClaimFewer claim) where
   -- Of a region that was not begun: its own state leaves `not-begun`, and comes back as ready at most.
   module _ (r : ℕ) (s : NestState) (new : state-of s r ≡ not-begun) where
     abbrev under-way : NestState
-    under-way = with-region-states (set (s .region-states) r in-progress) s
+    under-way = with-state s r in-progress
 
     ended : (x : StructurizeRegionState) → not-begun-one x ≡ 0 → unclaimed-one x ≤ 1 → {s₁ : NestState} → Fewer 0 under-way s₁ → (r < length (s .region-states)) ⊎ (length (s .region-states) ≤ r)
-        → Fewer 0 s (with-region-states (set (s₁ .region-states) r x) s₁)
+        → Fewer 0 s (with-state s₁ r x)
     ended x p q {s₁} a (inl h) =
         let len = length-set (s .region-states) r in-progress in
         let h₁ : r < length (s₁ .region-states) = let z = a .length in omega arith in
@@ -131,10 +131,10 @@ module _ (g : Graph) (counts : List IncomingEdgeCount) where
       go true = record { post = tt }
   claim-by-state-fewer r n inputs incoming s (ready b children d) p = go (eqb incoming (n + b))
     where
-      here : Fewer 1 s (with-region-states (set (s .region-states) r claimed) s)
+      here : Fewer 1 s (with-state s r claimed)
       here = by (in-or-out r (length (s .region-states)))
         where
-          by : (r < length (s .region-states)) ⊎ (length (s .region-states) ≤ r) → Fewer 1 s (with-region-states (set (s .region-states) r claimed) s)
+          by : (r < length (s .region-states)) ⊎ (length (s .region-states) ≤ r) → Fewer 1 s (with-state s r claimed)
           by (inl h) =
               let u = count-set not-begun-one (s .region-states) r claimed h in
               let v = count-set unclaimed-one (s .region-states) r claimed h in
@@ -142,7 +142,7 @@ module _ (g : Graph) (counts : List IncomingEdgeCount) where
               record { length = length-set (s .region-states) r claimed; not-begun = omega arith; unclaimed = omega arith }
           by (inr h) = let z : not-begun ≡ ready b children d = sym (List·getD-eq-default (s .region-states) not-begun h) ∙ p in let y : _≡_ {A = ℕ} 0 1 = cc in absurd (omega arith)
 
-      after : (o : Option ClaimedRegion) (s′ : NestState) → Still (with-region-states (set (s .region-states) r claimed) s) s′ → Fewer (claimed-count o) s s′
+      after : (o : Option ClaimedRegion) (s′ : NestState) → Still (with-state s r claimed) s′ → Fewer (claimed-count o) s s′
       after none s′ q = fewer-then (fewer-less here) (fewer-still q)
       after (some c) s′ q = let z = fewer-still q in let y = here in record { length = z .length ∙ y .length; not-begun = omega arith; unclaimed = omega arith }
 
