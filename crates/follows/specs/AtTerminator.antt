@@ -13,7 +13,7 @@ use Rattle.nesting.specs.Contexts.{no-input, own-in, rooted-ends}
 use Rattle.nesting.specs.Nesting.{block-count, blocks-from, blocks-of, same-target, MaybeClaimedRegion, DeferredEdgeBundle, to-region, true-cond, rewrites-of, NestState, NodeOutput, ready, look-up-nodes}
 use Rattle.nesting.specs.Rewriting.{rewrite}
 use Rattle.nesting.specs.Fewer.{state-of}
-use Rattle.follows.specs.Usable.{AllUsable, Usable, total}
+use Rattle.follows.specs.Usable.{AllUsable, Usable, after-blocks}
 use Rattle.follows.specs.Small.{eqb-self}
 use Rattle.follows.specs.Key.{constant-not-input, key, of-instr, owns-nodes}
 use Rattle.follows.specs.World.{World, ar, from-region, size}
@@ -31,18 +31,18 @@ use Rattle.follows.specs.EnterCase.{Enters}
 use Rattle.follows.specs.SelectFollows.{none-owns}
 
 module _ (W : World) where
-  pub reads-of : (r : ℕ) → r < size W → (ρ : Resolver) (a st : RunState) → Agree ρ r (ar W r) (total 0 (region (W .g) r .blocks)) a st → (vs : List Value)
-      → AllUsable r (ar W r) (total 0 (region (W .g) r .blocks)) vs
+  pub reads-of : (r : ℕ) → r < size W → (ρ : Resolver) (a st : RunState) → Agree ρ r (ar W r) (after-blocks 0 (region (W .g) r .blocks)) a st → (vs : List Value)
+      → AllUsable r (ar W r) (after-blocks 0 (region (W .g) r .blocks)) vs
       → map (a .env) vs ≡ map (λ v. st .env (ρ v)) vs
   reads-of r r-in ρ a st ag vs us = usable-reads W r (W .valid .blocks r r-in) ρ _ a st ag vs us
 
   -- ---- what the region may use is in scope
-  own-instr : (n r k i : ℕ) (bs : List (List Instr)) → i < total k bs → k ≤ i → owns-nodes (blocks-from n r k bs) (of-instr r) ≡ true
+  own-instr : (n r k i : ℕ) (bs : List (List Instr)) → i < after-blocks k bs → k ≤ i → owns-nodes (blocks-from n r k bs) (of-instr r) ≡ true
   unfolding owns-nodes
   own-instr n r k i [] lt le = absurd (omega arith)
   own-instr n r k i (x ∷ bs) lt le = rw (eqb-self r)
 
-  pub usable-scoped : (r : ℕ) (T : Tables) (v : Value) → Usable r (ar W r) (total 0 (region (W .g) r .blocks)) v → Scoped T r (ar W r) (blocks-of (W .g) r) v
+  pub usable-scoped : (r : ℕ) (T : Tables) (v : Value) → Usable r (ar W r) (after-blocks 0 (region (W .g) r .blocks)) v → Scoped T r (ar W r) (blocks-of (W .g) r) v
   usable-scoped r T (const i) h = scoped-const (const i) refl
   usable-scoped r T (bool b) h = scoped-const (bool b) refl
   usable-scoped r T (undef ty) h = scoped-const (undef ty) refl
@@ -56,7 +56,7 @@ module _ (W : World) where
         context = no-input (instr q i) refl;
       }
 
-  pub usable-all : (r : ℕ) (T : Tables) (vs : List Value) → AllUsable r (ar W r) (total 0 (region (W .g) r .blocks)) vs → AllScoped T r (ar W r) (blocks-of (W .g) r) vs
+  pub usable-all : (r : ℕ) (T : Tables) (vs : List Value) → AllUsable r (ar W r) (after-blocks 0 (region (W .g) r .blocks)) vs → AllScoped T r (ar W r) (blocks-of (W .g) r) vs
   usable-all r T [] h i = scoped-const (undef 0) refl
   usable-all r T (v ∷ vs) (h, hs) zero = usable-scoped r T v h
   usable-all r T (v ∷ vs) (h, hs) (suc i) = usable-all r T vs hs i

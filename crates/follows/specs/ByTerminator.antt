@@ -15,7 +15,7 @@ use Rattle.format.specs.ReadLaws.{clash}
 use Rattle.nesting.specs.Nesting.{blocks-of, MaybeClaimedRegion, append-maybe-claimed-region, err, join, ok, value, define-node, by-control-inst, DeferredEdgeBundle, to-region, to-return, true-cond, structurize-select-into, NestState, NodeOutput, look-up-nodes}
 use Rattle.nesting.specs.Rewriting.{rewrite-nodes}
 use Rattle.nesting.specs.Post.{bind, map-post}
-use Rattle.follows.specs.Usable.{AllUsable, EdgeUsable, EdgesUsable, TerminatorUsable, total}
+use Rattle.follows.specs.Usable.{AllUsable, EdgeUsable, EdgesUsable, TerminatorUsable, after-blocks}
 use Rattle.follows.specs.Small.{In, nth, nth-getD}
 use Rattle.follows.specs.Key.{Key, owns-join, owns-nodes}
 use Rattle.follows.specs.World.{World, ar, from-region, runs}
@@ -98,7 +98,7 @@ module _ (W : World) where
         one e (inr no-way) = absurd no-way
 
     onward-to : (ed : Edge) → EdgeUsable (W .g) r ed → (ρ : Resolver) (n fewer : ℕ) → fewer < n → (e : End) (h : List Event) (a st : RunState)
-        → Agree ρ r (ar W r) (total 0 (region (W .g) r .blocks)) a st
+        → Agree ρ r (ar W r) (after-blocks 0 (region (W .g) r .blocks)) a st
         → from-region W fewer (ed .target) (map (a .env) (ed .inputs)) (a .events) ≡ ends-with e h → OnwardTo W ρ st n e h (to-region (ed .target)) (ed .inputs)
     onward-to ed eo ρ n fewer is-fewer e h a st ag gr = (fewer, is-fewer, eo .many, rw (reads-of W r (dg .in-range) ρ a st ag (ed .inputs) (eo .inputs), ag .events) at gr)
 
@@ -117,7 +117,7 @@ module _ (W : World) where
         tail (ok c) h = record { holds = h .is .holds; since = h .is .since; inputs = h .is .inputs; other = h .is .other }
         tail (err d) h = h .is
 
-    exit-post : (op : ℕ) (vs : List Value) → region (W .g) r .terminator ≡ exit-invocation op vs → AllUsable r (ar W r) (total 0 (region (W .g) r .blocks)) vs
+    exit-post : (op : ℕ) (vs : List Value) → region (W .g) r .terminator ≡ exit-invocation op vs → AllUsable r (ar W r) (after-blocks 0 (region (W .g) r .blocks)) vs
         → IfDone (λ x s′. Came W s₀ r (x .children) (x .deferred-edges) s′) (by-control-inst (W .g) ks (exit-invocation op vs) cs s)
     exit-post op vs p us =
         bind (define-node s) _ (define-node-post s) λ n s₁ hn.

@@ -19,7 +19,7 @@ use Rattle.nesting.specs.Keeps.{loop-claimed, with-entry, define-region-keeps, 
 use Rattle.nesting.specs.Still.{Still, still-refl, still-then, still-steady}
 use Rattle.nesting.specs.Fewer.{state-of, with-state, not-begun-one, count-set}
 use Rattle.follows.specs.Bundles.{found-in}
-use Rattle.follows.specs.Totals.{total, at, bundles-to, edges-to, edgeless}
+use Rattle.follows.specs.Totals.{edge-total, at, bundles-to, edges-to, edgeless}
 use Rattle.follows.specs.SplitTotals.{split-total, not-found, no-bundles, exits-bundles, exits-edges, exits-edgeless}
 use Rattle.follows.specs.Counting.{Counting, Nine, busy, many, one, owed-by, held-by, held, owed-set, held-set, held-at, Good, Fine, Inv, Pre, Counted, counted-then, counted-still, inv-set, busy-else, busy-here}
 
@@ -51,7 +51,7 @@ module _ (K : Counting) where
   -- in hand after a claim: the edges of the bundle, handed back, or those of the claimed region's set
   abbrev pub in-hand : ℕ → ℕ → Option ClaimedRegion → ℕ → ℕ
   in-hand q n none r = edges-to r (to-region q) n
-  in-hand q n (some c) r = total (edges-to r) (c .deferred-edges)
+  in-hand q n (some c) r = edge-total (edges-to r) (c .deferred-edges)
 
   -- not claimed: there is another edge; claimed: a good set
   abbrev pub GoodClaim : ℕ → ℕ → Option ClaimedRegion → Type 0
@@ -74,15 +74,15 @@ module _ (K : Counting) where
 
   -- ---- a ready region is claimed
   module _ (q n b : ℕ) (children : Nodes) (d : DeferredEdgeBundleSet) (s : NestState) (inv : Inv K (s .region-states)) (in-q : isIn q (K .live) ≡ true) (is : state-of s q ≡ ready b children d)
-      (whole : K .incoming q ≡ n + b) (good : Good K d) (back : b ≡ total (edges-to q) d) where
+      (whole : K .incoming q ≡ n + b) (good : Good K d) (back : b ≡ edge-total (edges-to q) d) where
     abbrev after : NestState
     after = with-state s q claimed
 
     lt-q : q < length (s .region-states)
     lt-q = let z = inv .length in let y = K .below q in-q in omega arith
 
-    claimed-step : (d′ : DeferredEdgeBundleSet) → ((r : ℕ) → total (edges-to r) d′ + pick (eqb r q) b 0 ≤ total (edges-to r) d + times-in r (region (K .g) q .exits))
-        → Counted K 0 (many K) (λ r. edges-to r (to-region q) n) (λ r. total (edges-to r) d′) s after
+    claimed-step : (d′ : DeferredEdgeBundleSet) → ((r : ℕ) → edge-total (edges-to r) d′ + pick (eqb r q) b 0 ≤ edge-total (edges-to r) d + times-in r (region (K .g) q .exits))
+        → Counted K 0 (many K) (λ r. edges-to r (to-region q) n) (λ r. edge-total (edges-to r) d′) s after
     claimed-step d′ l = record {
       inv = inv-set K (s .region-states) q claimed inv lt-q tt;
       paid = let z = owed-set K q (s .region-states) claimed in-q lt-q in let y = ap (owed-by K q) is in omega arith;
@@ -91,10 +91,10 @@ module _ (K : Counting) where
       stay = λ r. still-busy r (eqb r q) refl;
     }
       where
-        go : (r : ℕ) (x : Bool) → eqb r q ≡ x → total (edges-to r) d′ + pick x b 0 ≤ total (edges-to r) d + times-in r (region (K .g) q .exits)
+        go : (r : ℕ) (x : Bool) → eqb r q ≡ x → edge-total (edges-to r) d′ + pick x b 0 ≤ edge-total (edges-to r) d + times-in r (region (K .g) q .exits)
             → held K r (set (s .region-states) q claimed) + held-by K r q (state-of s q) ≡ held K r (s .region-states) + pick x (K .incoming r) 0
-            → held-by K r q (state-of s q) ≡ times-in r (region (K .g) q .exits) + total (edges-to r) d
-            → held K r (set (s .region-states) q claimed) + total (edges-to r) d′ ≤ held K r (s .region-states) + pick x n 0
+            → held-by K r q (state-of s q) ≡ times-in r (region (K .g) q .exits) + edge-total (edges-to r) d
+            → held K r (set (s .region-states) q claimed) + edge-total (edges-to r) d′ ≤ held K r (s .region-states) + pick x n 0
         go r true p a u v = let z = ap (K .incoming) (eqb-true r q p) in omega arith
         go r false p a u v = omega arith
 
@@ -105,7 +105,7 @@ module _ (K : Counting) where
     without-back : (inputs : List Value) → b ≡ 0 → Claims 0 q n s (some (record { origin = q; structured-body = q; structured-body-inputs = inputs; children = children; deferred-edges = d })) after
     without-back inputs z = record { step = claimed-step d (λ r. go r (eqb r q)); good = good }
       where
-        go : (r : ℕ) (x : Bool) → total (edges-to r) d + pick x b 0 ≤ total (edges-to r) d + times-in r (region (K .g) q .exits)
+        go : (r : ℕ) (x : Bool) → edge-total (edges-to r) d + pick x b 0 ≤ edge-total (edges-to r) d + times-in r (region (K .g) q .exits)
         go r true = omega arith
         go r false = omega arith
 
@@ -116,16 +116,16 @@ module _ (K : Counting) where
       abbrev exits : DeferredEdgeBundleSet
       exits = map (add-exit-edge (region (K .g) q .exits)) others
 
-      others-few : (r : ℕ) → total (bundles-to r) d ≡ at r (e .target) + total (bundles-to r) others
+      others-few : (r : ℕ) → edge-total (bundles-to r) d ≡ at r (e .target) + edge-total (bundles-to r) others
       others-few r = split-total (bundles-to r) (to-region q) d e found
 
-      exits-held : (r : ℕ) (x : Bool) → eqb r q ≡ x → total (edges-to r) exits + pick x b 0 ≤ total (edges-to r) d + times-in r (region (K .g) q .exits)
+      exits-held : (r : ℕ) (x : Bool) → eqb r q ≡ x → edge-total (edges-to r) exits + pick x b 0 ≤ edge-total (edges-to r) d + times-in r (region (K .g) q .exits)
       exits-held r true p =
           let r-q = eqb-true r q p in
           let t : at r (e .target) ≡ 1 = ap (at r) (sym (found-in (to-region q) d e found .1)) ∙ rw p in
-          let none-left : total (bundles-to r) exits ≡ 0 = let a = others-few r in let z = good .fits r in let y = one-less r in omega (arith, exits-bundles (region (K .g) q .exits) r others) in
+          let none-left : edge-total (bundles-to r) exits ≡ 0 = let a = others-few r in let z = good .fits r in let y = one-less r in omega (arith, exits-bundles (region (K .g) q .exits) r others) in
           let w = no-bundles r exits none-left in
-          let k = ap (λ i. total (edges-to i) d) r-q in
+          let k = ap (λ i. edge-total (edges-to i) d) r-q in
           omega arith
       exits-held r false p =
           let a = others-few r in
@@ -146,7 +146,7 @@ module _ (K : Counting) where
       as-loop (some c) s′ h =
           let step = claimed-step (c .deferred-edges) (λ r. rw (h .is) (exits-held r (eqb r q) refl)) in
           record {
-            step = counted-then K step (counted-still K {f = λ r. total (edges-to r) (c .deferred-edges)} {f′ = λ r. total (edges-to r) (c .deferred-edges)} (h .still) (step .inv) (λ r. omega arith)) (omega arith) (λ r. omega arith);
+            step = counted-then K step (counted-still K {f = λ r. edge-total (edges-to r) (c .deferred-edges)} {f′ = λ r. edge-total (edges-to r) (c .deferred-edges)} (h .still) (step .inv) (λ r. omega arith)) (omega arith) (λ r. omega arith);
             good = rw (h .is) exits-good;
           }
 

@@ -17,7 +17,7 @@ use Rattle.nesting.specs.Post.{Post, map-post, bind}
 use Rattle.nesting.specs.Still.{still-refl}
 use Rattle.nesting.specs.Fewer.{count-set, not-begun-one, state-of, with-attempt, with-state}
 use Rattle.follows.specs.Members.{in-front, in-rest}
-use Rattle.follows.specs.Totals.{total, totals, edges-to, to-regions}
+use Rattle.follows.specs.Totals.{edge-total, totals, edges-to, to-regions}
 use Rattle.follows.specs.SplitTotals.{count-total}
 use Rattle.follows.specs.SelectTotals.{select-into-total}
 use Rattle.follows.specs.Counting.{Counting, Nine, busy, many, leaving, owed-by, held-by, held, owed-set, held-set, Good, Pre, Counted, counted-then, counted-as, counted-still, pre-after, pre-as, inv-set, busy-else, busy-here}
@@ -43,30 +43,30 @@ module _ (K : Counting) where
     pub old : not-begun-one (state-of s′ q) ≡ 0
 
   module _ (fuel : ℕ) (claim : Claim) (claim-counted : ClaimCounted K fuel claim) where
-    pub resolve-counted : (n : ℕ) (x : Body) (H : ℕ → ℕ) (s : NestState) → Good K (x .deferred-edges) → Pre K fuel H (λ r. total (edges-to r) (x .deferred-edges)) s
-        → Post Nine (λ y s′. BodyCounted K (many K) (λ r. total (edges-to r) (x .deferred-edges)) s y s′) (resolve-deferred (K .g) claim n x s)
+    pub resolve-counted : (n : ℕ) (x : Body) (H : ℕ → ℕ) (s : NestState) → Good K (x .deferred-edges) → Pre K fuel H (λ r. edge-total (edges-to r) (x .deferred-edges)) s
+        → Post Nine (λ y s′. BodyCounted K (many K) (λ r. edge-total (edges-to r) (x .deferred-edges)) s y s′) (resolve-deferred (K .g) claim n x s)
     unfolding resolve-deferred
     resolve-counted zero x H s good pre = record {
       post = record {
-        step = counted-as K (counted-still K {f = λ r. total (edges-to r) (x .deferred-edges)} {f′ = λ r. total (edges-to r) (x .deferred-edges)} (still-refl s) (pre .inv) (λ r. omega arith)) (many K) 0 (λ r. total (edges-to r) (x .deferred-edges)) (λ r. total (edges-to r) (x .deferred-edges)) (omega arith) (λ r. omega arith);
+        step = counted-as K (counted-still K {f = λ r. edge-total (edges-to r) (x .deferred-edges)} {f′ = λ r. edge-total (edges-to r) (x .deferred-edges)} (still-refl s) (pre .inv) (λ r. omega arith)) (many K) 0 (λ r. edge-total (edges-to r) (x .deferred-edges)) (λ r. edge-total (edges-to r) (x .deferred-edges)) (omega arith) (λ r. omega arith);
         good = good;
       };
     }
     resolve-counted (suc n) x H s good pre =
-        let pre₀ = pre-as K pre H (λ r. total (edges-to r) [] + total (edges-to r) (x .deferred-edges)) (λ r. omega arith) (λ r. omega arith) in
+        let pre₀ = pre-as K pre H (λ r. edge-total (edges-to r) [] + edge-total (edges-to r) (x .deferred-edges)) (λ r. omega arith) (λ r. omega arith) in
         bind (split-out-matching (K .g) claim [] (x .deferred-edges) s) _
         (split-out-counted K fuel claim claim-counted [] (x .deferred-edges) H s (λ r. let z = good .fits r in omega arith) (let z = good .full in omega arith) pre₀) λ o s₁ h.
         by o s₁ h (λ x′ s₂ good′ p. resolve-counted n x′ H s₂ good′ p)
       where
         f : ℕ → ℕ
-        f r = total (edges-to r) (x .deferred-edges)
+        f r = edge-total (edges-to r) (x .deferred-edges)
 
-        scan : total to-regions (x .deferred-edges) ≤ many K
+        scan : edge-total to-regions (x .deferred-edges) ≤ many K
         scan = scan-few K (x .deferred-edges) (good .fits)
 
         by : (o : Option SplitOut) (s₁ : NestState) → ScanCounted K [] (x .deferred-edges) s o s₁
-            → ((x′ : Body) (s₂ : NestState) → Good K (x′ .deferred-edges) → Pre K fuel H (λ r. total (edges-to r) (x′ .deferred-edges)) s₂
-            → Post Nine (λ y s′. BodyCounted K (many K) (λ r. total (edges-to r) (x′ .deferred-edges)) s₂ y s′) (resolve-deferred (K .g) claim n x′ s₂))
+            → ((x′ : Body) (s₂ : NestState) → Good K (x′ .deferred-edges) → Pre K fuel H (λ r. edge-total (edges-to r) (x′ .deferred-edges)) s₂
+            → Post Nine (λ y s′. BodyCounted K (many K) (λ r. edge-total (edges-to r) (x′ .deferred-edges)) s₂ y s′) (resolve-deferred (K .g) claim n x′ s₂))
             → Post Nine (λ y s′. BodyCounted K (many K) f s y s′) (resolve-by (K .g) (λ x′. resolve-deferred (K .g) claim n x′) x o s₁)
         by none s₁ h ih = record { post = record { step = counted-as K (h .step) (many K) 0 f f (let z = scan in omega arith) (λ r. omega arith); good = good } }
         by (some y) s₁ h ih =
@@ -76,7 +76,7 @@ module _ (K : Counting) where
             bind (structurize-select-into (K .g) (x .children) bool-cond scrutinee cs s₁) (λ x′. resolve-deferred (K .g) claim n x′)
             (map-post _ (select-into-total Nine refl (K .g) (x .children) bool-cond scrutinee cs s₁)
             λ x′ s₂ q. selected-counted K s₁ cs x′ s₂ (h .step .inv) (h .good .0 .fits, (h .good .1 .fits, tt)) (let u = h .good .0 .full in let v = h .good .1 .full in omega arith) q) λ x′ s₂ b.
-            let st₂ : Counted K 0 0 f (λ r. total (edges-to r) (x′ .deferred-edges)) s s₂ = counted-then K st₁ (b .step) (omega arith) (λ r. omega arith) in
+            let st₂ : Counted K 0 0 f (λ r. edge-total (edges-to r) (x′ .deferred-edges)) s s₂ = counted-then K st₁ (b .step) (omega arith) (λ r. omega arith) in
             map-post _ (ih x′ s₂ (b .good) (pre-after K pre st₂)) λ y′ s₃ c.
             record { step = counted-then K st₂ (c .step) (omega arith) (λ r. omega arith); good = c .good }
 
@@ -106,7 +106,7 @@ module _ (K : Counting) where
           go r b true e = let z = ap H (eqb-true r q e) in let w = waiting in omega arith
           go r b false e = pre .waits r (sym (busy-else (s .region-states) q in-progress r e) ∙ b)
 
-      module _ (y : Body) (s₁ : NestState) (a : Counted K (leaving K q + many K) 0 (aims K es) (λ r. total (edges-to r) (y .deferred-edges)) under-way s₁) (good : Good K (y .deferred-edges)) where
+      module _ (y : Body) (s₁ : NestState) (a : Counted K (leaving K q + many K) 0 (aims K es) (λ r. edge-total (edges-to r) (y .deferred-edges)) under-way s₁) (good : Good K (y .deferred-edges)) where
         abbrev last : StructurizeRegionState
         last = ready (count-to q (y .deferred-edges)) (y .children) (y .deferred-edges)
 
@@ -116,7 +116,7 @@ module _ (K : Counting) where
         still-under-way : state-of s₁ q ≡ in-progress
         still-under-way = busy-is (state-of s₁ q) (a .stay q ∙ busy-here (s .region-states) q in-progress lt-q)
 
-        whole-count : count-to q (y .deferred-edges) ≡ total (edges-to q) (y .deferred-edges)
+        whole-count : count-to q (y .deferred-edges) ≡ edge-total (edges-to q) (y .deferred-edges)
         whole-count = count-total q (y .deferred-edges) (let z = good .fits q in let w = one-less K q in omega arith)
 
         ended : Begun q (λ r. 0) s (with-state s₁ q last)
@@ -155,7 +155,7 @@ module _ (K : Counting) where
           bind (target-regions (K .g) claim es under-way) _ (target-regions-counted K fuel claim claim-counted es H under-way (targets-live q in-q) pre-under-way) λ cs s₁ a.
           bind (by-control-inst (K .g) (blocks-of (K .g) q) (region (K .g) q .terminator) cs s₁) _
           (by-control-inst-counted K (blocks-of (K .g) q) (region (K .g) q .terminator) cs s₁ (a .step .inv) (a .fits) (a .full)) λ x s₂ b.
-          let st : Counted K (leaving K q) 0 (aims K es) (λ r. total (edges-to r) (x .deferred-edges)) under-way s₂ = counted-then K (a .step) (b .step) (omega arith) (λ r. omega arith) in
+          let st : Counted K (leaving K q) 0 (aims K es) (λ r. edge-total (edges-to r) (x .deferred-edges)) under-way s₂ = counted-then K (a .step) (b .step) (omega arith) (λ r. omega arith) in
           bind (resolve-deferred (K .g) claim (length (K .g .regions)) x s₂) _ (resolve-counted (length (K .g .regions)) x H s₂ (b .good) (pre-after K pre-under-way st)) λ y s₃ c.
           record { post = ended y s₃ (counted-then K st (c .step) (omega arith) (λ r. omega arith)) (c .good) }
 

@@ -18,7 +18,7 @@ use Rattle.nesting.specs.Keeps.{define-node-keeps}
 use Rattle.nesting.specs.Still.{Still, still-refl, still-steady}
 use Rattle.nesting.specs.Fewer.{state-of}
 use Rattle.follows.specs.Over.{over, over-one, over-add, over-less, over-each}
-use Rattle.follows.specs.Totals.{Measure, total, totals, at, bundles-to, edges-to, to-regions, edgeless, Fits, FitsAll, total-append}
+use Rattle.follows.specs.Totals.{Measure, edge-total, totals, at, bundles-to, edges-to, to-regions, edgeless, Fits, FitsAll, total-append}
 use Rattle.follows.specs.SelectTotals.{Selected, append-total, select-into-total}
 use Rattle.follows.specs.Counting.{Counting, Nine, many, one, Good, Inv, Pre, Counted, counted-then, counted-as, counted-still, pre-after, pre-as}
 use Rattle.follows.specs.CountClaim.{Claims, GoodClaim, in-hand, one-less}
@@ -38,7 +38,7 @@ module _ (K : Counting) where
 
   pub record CaseCounted (q : ℕ) (o : Option ClaimedRegion) (s : NestState) (c : MaybeClaimedRegion) (s′ : NestState) : Type 0 where
     pub still : Still s s′
-    pub kept : (r : ℕ) → total (edges-to r) (deferred-of c) ≤ in-hand K q 1 o r
+    pub kept : (r : ℕ) → edge-total (edges-to r) (deferred-of c) ≤ in-hand K q 1 o r
     pub good : Good K (deferred-of c)
 
   pub record CasesCounted (es : List Edge) (s : NestState) (cs : List MaybeClaimedRegion) (s′ : NestState) : Type 0 where
@@ -47,7 +47,7 @@ module _ (K : Counting) where
     pub full : totals edgeless cs ≡ 0
 
   pub record BodyCounted (c : ℕ) (f : ℕ → ℕ) (s : NestState) (x : Body) (s′ : NestState) : Type 0 where
-    pub step : Counted K c 0 f (λ r. total (edges-to r) (x .deferred-edges)) s s′
+    pub step : Counted K c 0 f (λ r. edge-total (edges-to r) (x .deferred-edges)) s s′
     pub good : Good K (x .deferred-edges)
 
   fits-one : (q : ℕ) → isIn q (K .live) ≡ true → (r : ℕ) → at r (to-region q) ≤ one K r
@@ -94,7 +94,7 @@ module _ (K : Counting) where
   by-control-inst-counted parent (branch e) [] s i fi fu = record { post = record { step = counted-still K (still-refl s) i (λ r. omega arith); good = good-empty } }
   by-control-inst-counted parent (branch e) (c ∷ cs) s i fi fu =
       map-post (append-maybe-claimed-region parent c s) (append-total Nine refl (K .g) parent c s) λ y s₁ q.
-      record { step = counted-still K (q .0) i (λ r. let z = ap (total (edges-to r)) (q .1) in omega arith); good = rw (q .1) (record { fits = fi .0; full = omega arith }) }
+      record { step = counted-still K (q .0) i (λ r. let z = ap (edge-total (edges-to r)) (q .1) in omega arith); good = rw (q .1) (record { fits = fi .0; full = omega arith }) }
   by-control-inst-counted parent (select-branch kind v es) cs s i fi fu =
       map-post (structurize-select-into (K .g) parent kind (value v) cs s) (select-into-total Nine refl (K .g) parent kind (value v) cs s) λ y s₁ q. selected-counted s cs y s₁ i fi fu q
 
@@ -106,11 +106,11 @@ module _ (K : Counting) where
       go true x = refl
       go false x = absurd (omega arith)
 
-  regions-sum : (d : DeferredEdgeBundleSet) → Fits (one K) d → total to-regions d ≤ over (λ i. total (bundles-to i) d) (K .live)
+  regions-sum : (d : DeferredEdgeBundleSet) → Fits (one K) d → edge-total to-regions d ≤ over (λ i. edge-total (bundles-to i) d) (K .live)
   regions-sum [] h = omega arith
   regions-sum (e ∷ es) h =
       let z = regions-sum es (λ r. let y = h r in omega arith) in
-      let w = over-add (λ i. at i (e .target)) (λ i. total (bundles-to i) es) (K .live) in
+      let w = over-add (λ i. at i (e .target)) (λ i. edge-total (bundles-to i) es) (K .live) in
       let v = here (e .target) (e .accumulated-count) (λ r. let y = h r in omega arith) in
       omega arith
     where
@@ -122,10 +122,10 @@ module _ (K : Counting) where
           omega arith
       here to-return n l = omega arith
 
-  pub scan-few : (d : DeferredEdgeBundleSet) → Fits (one K) d → total to-regions d ≤ many K
+  pub scan-few : (d : DeferredEdgeBundleSet) → Fits (one K) d → edge-total to-regions d ≤ many K
   scan-few d h =
       let z = regions-sum d h in
-      let y = over-less (λ i. total (bundles-to i) d) (λ i. 1) (λ i. let a = h i in let b = one-less K i in omega arith) (K .live) in
+      let y = over-less (λ i. edge-total (bundles-to i) d) (λ i. 1) (λ i. let a = h i in let b = one-less K i in omega arith) (K .live) in
       let x = over-each 1 (K .live) in
       omega arith
 
@@ -134,29 +134,29 @@ module _ (K : Counting) where
   scan-gain (some y) = many K
 
   abbrev pub in-hand-scan : DeferredEdgeBundleSet → DeferredEdgeBundleSet → Option SplitOut → ℕ → ℕ
-  in-hand-scan before d none r = total (edges-to r) before + total (edges-to r) d
-  in-hand-scan before d (some y) r = total (edges-to r) (y .claimed-region .deferred-edges) + total (edges-to r) (y .others)
+  in-hand-scan before d none r = edge-total (edges-to r) before + edge-total (edges-to r) d
+  in-hand-scan before d (some y) r = edge-total (edges-to r) (y .claimed-region .deferred-edges) + edge-total (edges-to r) (y .others)
 
   abbrev pub GoodSplit : Option SplitOut → Type 0
   GoodSplit none = Unit
   GoodSplit (some y) = Good K (y .claimed-region .deferred-edges) × Good K (y .others)
 
   pub record ScanCounted (before d : DeferredEdgeBundleSet) (s : NestState) (o : Option SplitOut) (s′ : NestState) : Type 0 where
-    pub step : Counted K (total to-regions d) (scan-gain o) (λ r. total (edges-to r) before + total (edges-to r) d) (λ r. in-hand-scan before d o r) s s′
+    pub step : Counted K (edge-total to-regions d) (scan-gain o) (λ r. edge-total (edges-to r) before + edge-total (edges-to r) d) (λ r. in-hand-scan before d o r) s s′
     pub good : GoodSplit o
 
-  last-one : (μ : Measure) (before : DeferredEdgeBundleSet) (e : DeferredEdgeBundle) → total μ (before ++ (e ∷ [])) ≡ total μ before + μ (e .target) (e .accumulated-count)
+  last-one : (μ : Measure) (before : DeferredEdgeBundleSet) (e : DeferredEdgeBundle) → edge-total μ (before ++ (e ∷ [])) ≡ edge-total μ before + μ (e .target) (e .accumulated-count)
   last-one μ before e = let z = total-append μ before (e ∷ []) in omega arith
 
   passed : (before es : DeferredEdgeBundleSet) (e : DeferredEdgeBundle) (s s₁ : NestState) (o : Option SplitOut) (s′ : NestState) (c : ℕ)
-      → Counted K c 0 (λ r. total (edges-to r) before + total (edges-to r) (e ∷ es)) (λ r. total (edges-to r) before + total (edges-to r) (e ∷ es)) s s₁ → c ≤ to-regions (e .target) (e .accumulated-count)
+      → Counted K c 0 (λ r. edge-total (edges-to r) before + edge-total (edges-to r) (e ∷ es)) (λ r. edge-total (edges-to r) before + edge-total (edges-to r) (e ∷ es)) s s₁ → c ≤ to-regions (e .target) (e .accumulated-count)
       → ScanCounted (before ++ (e ∷ [])) es s₁ o s′ → ScanCounted before (e ∷ es) s o s′
   passed before es e s s₁ none s′ c st l h = record {
-    step = counted-then K st (counted-as K (h .step) (total to-regions es) 0 (λ r. total (edges-to r) before + total (edges-to r) (e ∷ es)) (λ r. total (edges-to r) before + total (edges-to r) (e ∷ es)) (omega arith) (λ r. omega arith)) (omega arith) (λ r. omega arith);
+    step = counted-then K st (counted-as K (h .step) (edge-total to-regions es) 0 (λ r. edge-total (edges-to r) before + edge-total (edges-to r) (e ∷ es)) (λ r. edge-total (edges-to r) before + edge-total (edges-to r) (e ∷ es)) (omega arith) (λ r. omega arith)) (omega arith) (λ r. omega arith);
     good = tt;
   }
   passed before es e s s₁ (some y) s′ c st l h = record {
-    step = counted-then K st (counted-as K (h .step) (total to-regions es) (many K) (λ r. total (edges-to r) before + total (edges-to r) (e ∷ es)) (λ r. total (edges-to r) (y .claimed-region .deferred-edges) + total (edges-to r) (y .others)) (omega arith) (λ r. let z = last-one (edges-to r) before e in omega arith)) (omega arith) (λ r. omega arith);
+    step = counted-then K st (counted-as K (h .step) (edge-total to-regions es) (many K) (λ r. edge-total (edges-to r) before + edge-total (edges-to r) (e ∷ es)) (λ r. edge-total (edges-to r) (y .claimed-region .deferred-edges) + edge-total (edges-to r) (y .others)) (omega arith) (λ r. let z = last-one (edges-to r) before e in omega arith)) (omega arith) (λ r. omega arith);
     good = h .good;
   }
 
@@ -172,28 +172,28 @@ module _ (K : Counting) where
         let pre₀ = pre-as K pre (λ r. aims es r + H r) (λ r. edges-to r (to-region (e .target)) 1) (λ r. omega arith) (λ r. omega arith) in
         bind (claim (e .target) 1 (e .inputs) s) _ (claim-counted (e .target) 1 (e .inputs) (λ r. aims es r + H r) s a (omega arith) pre₀) λ o s₁ x.
         bind (edge-case e o s₁) _ (edge-case-counted e o s₁ a (x .good)) λ c s₂ y.
-        let this : Counted K 1 0 (λ r. edges-to r (to-region (e .target)) 1) (λ r. total (edges-to r) (deferred-of c)) s s₂ = counted-then K (x .step) (counted-still K (y .still) (x .step .inv) (y .kept)) (omega arith) (λ r. omega arith) in
-        let beside = counted-as K this 1 0 (aims (e ∷ es)) (λ r. total (edges-to r) (deferred-of c) + aims es r) (omega arith) (λ r. omega arith) in
-        let pre₁ = pre-as K (pre-after K pre beside) (λ r. total (edges-to r) (deferred-of c) + H r) (aims es) (λ r. omega arith) (λ r. omega arith) in
-        bind (target-regions (K .g) claim es s₂) _ (target-regions-counted es (λ r. total (edges-to r) (deferred-of c) + H r) s₂ al pre₁) λ cs s₃ z.
+        let this : Counted K 1 0 (λ r. edges-to r (to-region (e .target)) 1) (λ r. edge-total (edges-to r) (deferred-of c)) s s₂ = counted-then K (x .step) (counted-still K (y .still) (x .step .inv) (y .kept)) (omega arith) (λ r. omega arith) in
+        let beside = counted-as K this 1 0 (aims (e ∷ es)) (λ r. edge-total (edges-to r) (deferred-of c) + aims es r) (omega arith) (λ r. omega arith) in
+        let pre₁ = pre-as K (pre-after K pre beside) (λ r. edge-total (edges-to r) (deferred-of c) + H r) (aims es) (λ r. omega arith) (λ r. omega arith) in
+        bind (target-regions (K .g) claim es s₂) _ (target-regions-counted es (λ r. edge-total (edges-to r) (deferred-of c) + H r) s₂ al pre₁) λ cs s₃ z.
         record {
           post = record {
-            step = counted-then K beside (counted-as K (z .step) (length es) 0 (λ r. total (edges-to r) (deferred-of c) + aims es r) (λ r. totals (edges-to r) (c ∷ cs)) (omega arith) (λ r. omega arith)) (omega arith) (λ r. omega arith);
+            step = counted-then K beside (counted-as K (z .step) (length es) 0 (λ r. edge-total (edges-to r) (deferred-of c) + aims es r) (λ r. totals (edges-to r) (c ∷ cs)) (omega arith) (λ r. omega arith)) (omega arith) (λ r. omega arith);
             fits = (y .good .fits, z .fits);
             full = let u = y .good .full in let v = z .full in omega arith;
           };
         }
 
-    pub split-out-counted : (before d : DeferredEdgeBundleSet) (H : ℕ → ℕ) (s : NestState) → ((r : ℕ) → total (bundles-to r) before + total (bundles-to r) d ≤ one K r) → total edgeless before + total edgeless d ≡ 0
-        → Pre K fuel H (λ r. total (edges-to r) before + total (edges-to r) d) s → Post Nine (λ o s′. ScanCounted before d s o s′) (split-out-matching (K .g) claim before d s)
+    pub split-out-counted : (before d : DeferredEdgeBundleSet) (H : ℕ → ℕ) (s : NestState) → ((r : ℕ) → edge-total (bundles-to r) before + edge-total (bundles-to r) d ≤ one K r) → edge-total edgeless before + edge-total edgeless d ≡ 0
+        → Pre K fuel H (λ r. edge-total (edges-to r) before + edge-total (edges-to r) d) s → Post Nine (λ o s′. ScanCounted before d s o s′) (split-out-matching (K .g) claim before d s)
     unfolding split-out-matching
     split-out-counted before [] H s hs vo pre = record { post = record { step = counted-still K (still-refl s) (pre .inv) (λ r. omega arith); good = tt } }
     split-out-counted before (e ∷ es) H s hs vo pre = go (e .target) refl λ s₁ p.
         split-out-counted (before ++ (e ∷ [])) es H s₁ (λ r. let z = last-one (bundles-to r) before e in let y = hs r in omega arith) (let z = last-one edgeless before e in omega arith)
-        (pre-as K p H (λ r. total (edges-to r) (before ++ (e ∷ [])) + total (edges-to r) es) (λ r. let z = last-one (edges-to r) before e in omega arith) (λ r. omega arith))
+        (pre-as K p H (λ r. edge-total (edges-to r) (before ++ (e ∷ [])) + edge-total (edges-to r) es) (λ r. let z = last-one (edges-to r) before e in omega arith) (λ r. omega arith))
       where
         f : ℕ → ℕ
-        f r = total (edges-to r) before + total (edges-to r) (e ∷ es)
+        f r = edge-total (edges-to r) before + edge-total (edges-to r) (e ∷ es)
 
         more : Step (Option SplitOut)
         more = split-out-matching (K .g) claim (before ++ (e ∷ [])) es
@@ -210,8 +210,8 @@ module _ (K : Counting) where
             let full : edgeless (to-region q) (e .accumulated-count) ≡ edgeless (e .target) (e .accumulated-count) = ap (λ y. edgeless y (e .accumulated-count)) (sym p) in
             let cost : to-regions (e .target) (e .accumulated-count) ≡ 1 = ap (λ y. to-regions y (e .accumulated-count)) p in
             let fit = hs q in
-            let pre₀ = pre-as K pre (λ r. (total (edges-to r) before + total (edges-to r) es) + H r) (λ r. edges-to r (to-region q) (e .accumulated-count)) (λ r. let z = same r in omega arith) (λ r. omega arith) in
-            bind (claim q (e .accumulated-count) (e .target-inputs) s) _ (claim-counted q (e .accumulated-count) (e .target-inputs) (λ r. (total (edges-to r) before + total (edges-to r) es) + H r) s (live-of q (omega arith)) (count-pos q (e .accumulated-count) (omega arith)) pre₀) λ o s₁ x.
+            let pre₀ = pre-as K pre (λ r. (edge-total (edges-to r) before + edge-total (edges-to r) es) + H r) (λ r. edges-to r (to-region q) (e .accumulated-count)) (λ r. let z = same r in omega arith) (λ r. omega arith) in
+            bind (claim q (e .accumulated-count) (e .target-inputs) s) _ (claim-counted q (e .accumulated-count) (e .target-inputs) (λ r. (edge-total (edges-to r) before + edge-total (edges-to r) es) + H r) s (live-of q (omega arith)) (count-pos q (e .accumulated-count) (omega arith)) pre₀) λ o s₁ x.
             by o s₁ x same cost ih
           where
             by : (o : Option ClaimedRegion) (s₁ : NestState) → Claims K 1 q (e .accumulated-count) s o s₁ → ((r : ℕ) → edges-to r (e .target) (e .accumulated-count) ≡ edges-to r (to-region q) (e .accumulated-count))
@@ -221,7 +221,7 @@ module _ (K : Counting) where
                 map-post _ (ih s₁ (pre-after K pre st)) λ o s′ h. passed before es e s s₁ o s′ 1 st (omega arith) h
             by (some c) s₁ x same cost ih = record {
               post = record {
-                step = counted-as K (x .step) (total to-regions (e ∷ es)) (many K) f (λ r. total (edges-to r) (c .deferred-edges) + total (edges-to r) (before ++ es)) (omega arith) (λ r. let z = same r in let y = total-append (edges-to r) before es in omega arith);
+                step = counted-as K (x .step) (edge-total to-regions (e ∷ es)) (many K) f (λ r. edge-total (edges-to r) (c .deferred-edges) + edge-total (edges-to r) (before ++ es)) (omega arith) (λ r. let z = same r in let y = total-append (edges-to r) before es in omega arith);
                 good = (x .good, record { fits = λ r. let z = hs r in let y = total-append (bundles-to r) before es in omega arith; full = let y = total-append edgeless before es in omega arith });
               };
             }

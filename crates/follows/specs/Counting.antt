@@ -17,7 +17,7 @@ use Rattle.nesting.specs.Still.{Still}
 use Rattle.nesting.specs.Fewer.{state-of, not-begun-one, count-states, not-begun-count}
 use Rattle.follows.specs.Small.{at-or-else}
 use Rattle.follows.specs.Over.{over, over-one, over-change}
-use Rattle.follows.specs.Totals.{total, edges-to, edgeless, Fits}
+use Rattle.follows.specs.Totals.{edge-total, edges-to, edgeless, Fits}
 
 -- The graph, its live regions, the incoming count of each, and the list in which claims look them up.
 pub record Counting : Type 0 where
@@ -62,7 +62,7 @@ module _ (K : Counting) where
   held-by r i not-begun = times-in r (targetsOf (K .g) i) + times-in r (region (K .g) i .exits)
   held-by r i in-progress = times-in r (region (K .g) i .exits)
   held-by r i claimed = pick (eqb r i) (K .incoming r) 0
-  held-by r i (ready b children d) = times-in r (region (K .g) i .exits) + total (edges-to r) d
+  held-by r i (ready b children d) = times-in r (region (K .g) i .exits) + edge-total (edges-to r) d
 
   weigh : (ℕ → StructurizeRegionState → ℕ) → List StructurizeRegionState → ℕ
   weigh W l = over (λ i. W i (getD l i not-begun)) (K .live)
@@ -97,13 +97,13 @@ module _ (K : Counting) where
   -- ---- a set: at most one bundle to each live region and none to another, each with an edge
   pub record Good (d : DeferredEdgeBundleSet) : Type 0 where
     pub fits : Fits one d
-    pub full : total edgeless d ≡ 0
+    pub full : edge-total edgeless d ≡ 0
 
   abbrev pub Fine : ℕ → StructurizeRegionState → Type 0
   Fine i not-begun = Unit
   Fine i in-progress = Unit
   Fine i claimed = Unit
-  Fine i (ready b children d) = Good d × (b ≡ total (edges-to i) d)
+  Fine i (ready b children d) = Good d × (b ≡ edge-total (edges-to i) d)
 
   pub record Inv (l : List StructurizeRegionState) : Type 0 where
     pub length : length l ≡ length (K .g .regions)

@@ -12,7 +12,7 @@ use Rattle.meaning.specs.Runs.{Nodes, by-terminator, enter, run-from, run-nodes
 use Rattle.meaning.specs.Graph.{Instr, Value, bool, const, held, input, instr, output, region, sameValue, undef}
 use Rattle.nesting.specs.Nesting.{block-count, blocks-from, blocks-of, NodeOutput, look-up-nodes}
 use Rattle.nesting.specs.Rewriting.{rewrite-nodes, rewrite-reads}
-use Rattle.follows.specs.Usable.{AllUsable, BlockUsable, BlocksUsable, Usable, total}
+use Rattle.follows.specs.Usable.{AllUsable, BlockUsable, BlocksUsable, Usable, after-blocks}
 use Rattle.follows.specs.Small.{eqb-self, or-left, or-right}
 use Rattle.follows.specs.Key.{is-constant, is-instr, key, nodes-none, owns-nodes}
 use Rattle.follows.specs.World.{World, ar, from-region, runs}
@@ -78,7 +78,7 @@ module _ (rule : Rule) (ρ : Resolver) (on-instr : (q k : ℕ) → ρ (instr q k
   pub record Done (os : List NodeOutput) (test b n k : ℕ) (bs : List (List Instr)) (a s : RunState) : Type 0 where
     pub state : RunState
     pub runs-on : run-nodes rule test b (rewrite-nodes ρ os (blocks-from n r k bs)) s ≡ through state
-    pub agree : Agree ρ r ar (total k bs) (do-blocks rule r k bs a) state
+    pub agree : Agree ρ r ar (after-blocks k bs) (do-blocks rule r k bs a) state
 
   pub blocks-agree : (os : List NodeOutput) (test b n k : ℕ) (bs : List (List Instr)) → ((v : Value) → Usable r ar 0 v → owns-nodes (blocks-from n r k bs) (key os (ρ v)) ≡ false)
       → (a s : RunState) → BlocksUsable r ar k bs → Agree ρ r ar k a s → Done os test b n k bs a s
@@ -96,7 +96,7 @@ module _ (rule : Rule) (ρ : Resolver) (on-instr : (q k : ℕ) → ρ (instr q k
 -- After its blocks the graph's run stands at its terminator, in a state that agrees.
 pub record AtTerminator (W : World) (r : ℕ) (ρ : Resolver) (n : ℕ) (e : End) (h : List Event) (st : RunState) : Type 0 where
   pub graph : RunState
-  pub agree : Agree ρ r (ar W r) (total 0 (region (W .g) r .blocks)) graph st
+  pub agree : Agree ρ r (ar W r) (after-blocks 0 (region (W .g) r .blocks)) graph st
   pub fewer : ℕ
   pub is-fewer : fewer < n
   pub ends : by-terminator (λ x vs h′. from-region W fewer x vs h′) (graph .env) (graph .events) (region (W .g) r .terminator) ≡ ends-with e h

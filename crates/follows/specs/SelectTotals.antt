@@ -14,14 +14,14 @@ use Rattle.nesting.specs.Keeps.{define-select-keeps, emit-inputs-keeps, emit-co
 use Rattle.nesting.specs.Still.{Still, still-refl, still-then, still-steady, still-log}
 use Rattle.follows.specs.Small.{In, nth-in}
 use Rattle.follows.specs.ConvergentCase.{converges}
-use Rattle.follows.specs.Totals.{Measure, total, totals, summary-total, planned-total, bundles-to, edges-to, edgeless, Fits, FitsAll, targets-fit, targets-add, edges-add, edgeless-adds}
+use Rattle.follows.specs.Totals.{Measure, edge-total, totals, summary-total, planned-total, bundles-to, edges-to, edgeless, Fits, FitsAll, targets-fit, targets-add, edges-add, edgeless-adds}
 
 -- ---- look-ups change values alone
-rewritten-total : (ρ : Value → Value) (μ : Measure) (d : DeferredEdgeBundleSet) → total μ (map (rewrite-bundle ρ) d) ≡ total μ d
+rewritten-total : (ρ : Value → Value) (μ : Measure) (d : DeferredEdgeBundleSet) → edge-total μ (map (rewrite-bundle ρ) d) ≡ edge-total μ d
 rewritten-total ρ μ [] = refl
 rewritten-total ρ μ (e ∷ es) = ap (λ n. μ (e .target) (e .accumulated-count) + n) (rewritten-total ρ μ es)
 
-rewritten-case : (ρ : Value → Value) (μ : Measure) (c : MaybeClaimedRegion) → total μ (deferred-of (rewrite-case ρ c)) ≡ total μ (deferred-of c)
+rewritten-case : (ρ : Value → Value) (μ : Measure) (c : MaybeClaimedRegion) → edge-total μ (deferred-of (rewrite-case ρ c)) ≡ edge-total μ (deferred-of c)
 rewritten-case ρ μ (err d) = rewritten-total ρ μ d
 rewritten-case ρ μ (ok c) = rewritten-total ρ μ (c .deferred-edges)
 
@@ -36,8 +36,8 @@ rewritten-fits ρ k (c ∷ cs) (f, fs) = (λ r. let z = rewritten-case ρ (bundl
 -- ---- from the cases to the select
 pub record Chosen (cs : List MaybeClaimedRegion) (d : DeferredEdgeBundleSet) : Type 0 where
   pub fits : (k : ℕ → ℕ) → FitsAll k cs → Fits k d
-  pub edges : (r : ℕ) → total (edges-to r) d ≤ totals (edges-to r) cs
-  pub edgeless : total edgeless d ≤ totals edgeless cs
+  pub edges : (r : ℕ) → edge-total (edges-to r) d ≤ totals (edges-to r) cs
+  pub edgeless : edge-total edgeless d ≤ totals edgeless cs
 
 one-chosen : (cs : List MaybeClaimedRegion) (c : MaybeClaimedRegion) → In c cs → Chosen cs (deferred-of c)
 one-chosen [] c i = absurd i
@@ -46,7 +46,7 @@ one-chosen (x ∷ cs) c (inr i) =
     let h = one-chosen cs c i in
     record { fits = λ k f. h .fits k (f .1); edges = λ r. let z = h .edges r in omega arith; edgeless = let z = h .edgeless in omega arith }
 
-shared-total : (μ : Measure) (ps : List PlannedBundle) → total μ (map shared-bundle ps) ≡ planned-total μ ps
+shared-total : (μ : Measure) (ps : List PlannedBundle) → edge-total μ (map shared-bundle ps) ≡ planned-total μ ps
 shared-total μ [] = refl
 shared-total μ (p ∷ ps) = ap (λ n. μ (p .target) (p .total-edge-count) + n) (shared-total μ ps)
 
@@ -56,7 +56,7 @@ plans-total g μ cs (w ∷ ws) = ap (λ n. μ (w .target) (w .total-edge-count) 
 
 pub record Emitted (s : NestState) (ps : List PlannedBundle) (s′ : NestState) (d : DeferredEdgeBundleSet) : Type 0 where
   pub still : Still s s′
-  pub same : (μ : Measure) → total μ d ≡ planned-total μ ps
+  pub same : (μ : Measure) → edge-total μ d ≡ planned-total μ ps
 
 pub record Selected (s : NestState) (cs : List MaybeClaimedRegion) (s′ : NestState) (d : DeferredEdgeBundleSet) : Type 0 where
   pub still : Still s s′
@@ -83,7 +83,7 @@ module _ (Q : ℕ → Type 0) (q9 : Q 9) where
 
   module _ (g : Graph) where
     -- of the cases as they were looked up
-    planned : (cases : List MaybeClaimedRegion) (ρ : Value → Value) (d : DeferredEdgeBundleSet) → ((μ : Measure) → total μ d ≡ planned-total μ (plan-bundles g (map (rewrite-case ρ) cases))) → Chosen cases d
+    planned : (cases : List MaybeClaimedRegion) (ρ : Value → Value) (d : DeferredEdgeBundleSet) → ((μ : Measure) → edge-total μ d ≡ planned-total μ (plan-bundles g (map (rewrite-case ρ) cases))) → Chosen cases d
     planned cases ρ d h = record {
       fits = λ k f r. let w = targets-fit r k cs [] (omega arith) (rewritten-fits ρ k cases f) in omega (arith, same (bundles-to r));
       edges = λ r. let w = targets-add (edges-to r) (edges-add r) cs [] in omega (arith, same (edges-to r), rewritten-totals ρ (edges-to r) cases);
@@ -93,7 +93,7 @@ module _ (Q : ℕ → Type 0) (q9 : Q 9) where
         cs : List MaybeClaimedRegion
         cs = map (rewrite-case ρ) cases
 
-        same : (μ : Measure) → total μ d ≡ summary-total μ (deferred-targets (map (rewrite-case ρ) cases) [])
+        same : (μ : Measure) → edge-total μ d ≡ summary-total μ (deferred-targets (map (rewrite-case ρ) cases) [])
         same μ = h μ ∙ plans-total g μ (map (rewrite-case ρ) cases) (deferred-targets (map (rewrite-case ρ) cases) [])
 
     structurize-select-total : (parent : Nodes) (kind : SelectionKind) (x : Scrutinee) (cases : List MaybeClaimedRegion) (s : NestState)

@@ -2,11 +2,12 @@
 -- Words: a graph and its run, a nested form and its run stand in the crate meaning; the sheet of a store in the crate nesting.
 use mathlib.Core.Path.{_≡_}
 use mathlib.Core.Bool.{true, false}
-use mathlib.Core.List.{List, [], _∷_}
+use mathlib.Core.List.{List}
 use mathlib.Core.Option.{Option, none, some}
 use Prim.Native.Nat.{ℕ, _+_, _-_, _*_, _≤_}
 use lib.ListN.{length}
 use Rattle.meaning.specs.Graph.{Value, Graph, region, edgesOf}
+use Rattle.meaning.specs.Lists.{total}
 use Rattle.meaning.specs.Runs.{Nodes, Given, Ended, graph-run, NestedEnded, nested-run}
 use Rattle.format.specs.Store.{accepted}
 use Rattle.format.specs.Read.{isIn}
@@ -55,8 +56,7 @@ pub record JustReached (g : Graph) (live : List ℕ) : Type 0 where
 
 -- A target named twice is two edges.
 abbrev pub edges-from : Graph → List ℕ → ℕ
-edges-from g [] = 0
-edges-from g (r ∷ rs) = length (edgesOf (region g r .terminator)) + edges-from g rs
+edges-from g live = total (λ r. length (edgesOf (region g r .terminator))) live
 
 abbrev pub most-attempts : Graph → List ℕ → ℕ
 most-attempts g live = 1 + edges-from g live + length live * (2 * length live - 1)

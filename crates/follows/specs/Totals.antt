@@ -12,13 +12,13 @@ use Rattle.nesting.specs.Nesting.{DeferredTarget, to-region, to-return, Deferre
 abbrev pub Measure : Type 0
 Measure = DeferredTarget → ℕ → ℕ
 
-abbrev pub total : Measure → DeferredEdgeBundleSet → ℕ
-total μ [] = 0
-total μ (e ∷ es) = μ (e .target) (e .accumulated-count) + total μ es
+abbrev pub edge-total : Measure → DeferredEdgeBundleSet → ℕ
+edge-total μ [] = 0
+edge-total μ (e ∷ es) = μ (e .target) (e .accumulated-count) + edge-total μ es
 
 abbrev pub totals : Measure → List MaybeClaimedRegion → ℕ
 totals μ [] = 0
-totals μ (c ∷ cs) = total μ (deferred-of c) + totals μ cs
+totals μ (c ∷ cs) = edge-total μ (deferred-of c) + totals μ cs
 
 abbrev pub summary-total : Measure → List DeferredTargetSummary → ℕ
 summary-total μ [] = 0
@@ -51,13 +51,13 @@ edgeless to-return n = 0
 
 -- at most as many bundles to each region as k says
 abbrev pub Fits : (ℕ → ℕ) → DeferredEdgeBundleSet → Type 0
-Fits k d = (r : ℕ) → total (bundles-to r) d ≤ k r
+Fits k d = (r : ℕ) → edge-total (bundles-to r) d ≤ k r
 
 abbrev pub FitsAll : (ℕ → ℕ) → List MaybeClaimedRegion → Type 0
 FitsAll k [] = Unit
 FitsAll k (c ∷ cs) = Fits k (deferred-of c) × FitsAll k cs
 
-pub total-append : (μ : Measure) (a b : DeferredEdgeBundleSet) → total μ (a ++ b) ≡ total μ a + total μ b
+pub total-append : (μ : Measure) (a b : DeferredEdgeBundleSet) → edge-total μ (a ++ b) ≡ edge-total μ a + edge-total μ b
 total-append μ [] b = omega arith
 total-append μ (e ∷ a) b = let z = total-append μ a b in omega arith
 
@@ -109,7 +109,7 @@ bundle-fits r k e (w ∷ ws) h l = go (same-target (e .target) (w .target)) refl
         let a = apart r (e .target) (w .target) p in
         once (at r (w .target)) (at r (e .target)) (summary-total (bundles-to r) (summarize-bundle e ws)) (summary-total (bundles-to r) ws) k (omega arith) (bundle-sum r e ws) h ih
 
-set-fits : (r k : ℕ) (d : DeferredEdgeBundleSet) (ws : List DeferredTargetSummary) → summary-total (bundles-to r) ws ≤ k → total (bundles-to r) d ≤ k → summary-total (bundles-to r) (summarize-set d ws) ≤ k
+set-fits : (r k : ℕ) (d : DeferredEdgeBundleSet) (ws : List DeferredTargetSummary) → summary-total (bundles-to r) ws ≤ k → edge-total (bundles-to r) d ≤ k → summary-total (bundles-to r) (summarize-set d ws) ≤ k
 set-fits r k [] ws h l = h
 set-fits r k (e ∷ es) ws h l = set-fits r k es (summarize-bundle e ws) (bundle-fits r k e ws h (omega arith)) (omega arith)
 
@@ -131,7 +131,7 @@ module _ (μ : Measure) (adds : Adds μ) where
       go true p ih = let z = adds (e .target) (w .target) (w .total-edge-count) (e .accumulated-count) p in omega arith
       go false p ih = omega arith
 
-  set-adds : (d : DeferredEdgeBundleSet) (ws : List DeferredTargetSummary) → summary-total μ (summarize-set d ws) ≤ summary-total μ ws + total μ d
+  set-adds : (d : DeferredEdgeBundleSet) (ws : List DeferredTargetSummary) → summary-total μ (summarize-set d ws) ≤ summary-total μ ws + edge-total μ d
   set-adds [] ws = omega arith
   set-adds (e ∷ es) ws = let z = bundle-adds e ws in let y = set-adds es (summarize-bundle e ws) in omega arith
 

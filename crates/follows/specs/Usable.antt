@@ -30,9 +30,9 @@ BlocksUsable r arity k [] = Unit
 BlocksUsable r arity k (b ∷ bs) = BlockUsable r arity k b × BlocksUsable r arity (k + length b) bs
 
 -- The number of the instruction that would follow the blocks, the first being number k.
-abbrev pub total : ℕ → List (List Instr) → ℕ
-total k [] = k
-total k (b ∷ bs) = total (k + length b) bs
+abbrev pub after-blocks : ℕ → List (List Instr) → ℕ
+after-blocks k [] = k
+after-blocks k (b ∷ bs) = after-blocks (k + length b) bs
 
 module _ (g : Graph) (r : ℕ) where
   abbrev pub arity : ℕ
@@ -40,10 +40,10 @@ module _ (g : Graph) (r : ℕ) where
 
   -- What the terminator may use: all instructions are done.
   abbrev pub EndUsable : Value → Type 0
-  EndUsable v = Usable r arity (total 0 (region g r .blocks)) v
+  EndUsable v = Usable r arity (after-blocks 0 (region g r .blocks)) v
 
   abbrev pub EndsUsable : List Value → Type 0
-  EndsUsable vs = AllUsable r arity (total 0 (region g r .blocks)) vs
+  EndsUsable vs = AllUsable r arity (after-blocks 0 (region g r .blocks)) vs
 
   pub record EdgeUsable (e : Edge) : Type 0 where
     pub inputs : EndsUsable (e .inputs)

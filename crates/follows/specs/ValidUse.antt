@@ -18,7 +18,7 @@ use Rattle.nesting.specs.Nesting.{reachable}
 use Rattle.follows.specs.Members.{first, rest, first-or-rest}
 use Rattle.follows.specs.Reaches.{Reaches, entry, target}
 use Rattle.follows.specs.Reach.{reachable-sound}
-use Rattle.follows.specs.Usable.{Usable, AllUsable, BlockUsable, BlocksUsable, total, arity, EndUsable, EndsUsable, EdgeUsable, EdgesUsable, TerminatorUsable, UsableGraph}
+use Rattle.follows.specs.Usable.{Usable, AllUsable, BlockUsable, BlocksUsable, after-blocks, arity, EndUsable, EndsUsable, EdgeUsable, EdgesUsable, TerminatorUsable, UsableGraph}
 
 picked : (b : Bool) (n : ℕ) → 1 ≤ pick b n 0 → (b ≡ true) × (1 ≤ n)
 picked true n h = (refl, h)
@@ -29,7 +29,7 @@ getD-within [] k h = absurd (omega arith)
 getD-within (x ∷ xs) zero h = omega arith
 getD-within (x ∷ xs) (suc k) h = omega (arith, getD-within xs k h)
 
-total-counts : (k : ℕ) (bs : List (List Instr)) → total k bs ≡ k + length (instructions bs)
+total-counts : (k : ℕ) (bs : List (List Instr)) → after-blocks k bs ≡ k + length (instructions bs)
 unfolding instructions
 total-counts k [] = omega arith
 total-counts k (b ∷ bs) = omega (arith, total-counts (k + length b) bs, length-append b (instructions bs))
@@ -69,7 +69,7 @@ module _ (g : Graph) (r : ℕ) where
   blocks-usable k (b ∷ bs) h = let s = split k b (instructions bs) h in (s .block, blocks-usable (k + length b) bs (s .behind))
 
   -- behind all instructions
-  last : total 0 (region g r .blocks) ≡ behindAll g r
+  last : after-blocks 0 (region g r .blocks) ≡ behindAll g r
   last = omega (arith, total-counts 0 (region g r .blocks))
 
   end-usable : (v : Value) → valid.Usable g r (behindAll g r) v → EndUsable g r v

@@ -62,7 +62,7 @@ end-before {es} {r} t (goes-on x f h) = go (rewrites-of es r) refl (λ k v q g n
     go (some y) e ih = let z = entry-kept es t r y e in let same : y ≡ x = cc in goes-on y e (λ k v q g n. ih k v q (subst (λ w. Gives w k v) same g) n)
 
 -- ---- the entry of r names an input of q
-pub record Leads (es : List RewriteEntry) (r q : ℕ) : Type 0 where
+pub record NamesInput (es : List RewriteEntry) (r q : ℕ) : Type 0 where
   pub by : RegionInputRewrites
   pub is : rewrites-of es r ≡ some by
   pub at : ℕ
@@ -71,17 +71,17 @@ pub record Leads (es : List RewriteEntry) (r q : ℕ) : Type 0 where
   pub named : names value ≡ some q
 
 pub data Path (es : List RewriteEntry) : ℕ → ℕ → Type 0 where
-  one : {r q : ℕ} → Leads es r q → Path es r q
-  more : {r q z : ℕ} → Leads es r q → Path es q z → Path es r z
+  one : {r q : ℕ} → NamesInput es r q → Path es r q
+  more : {r q z : ℕ} → NamesInput es r q → Path es q z → Path es r z
 
-pub path-then : {es : List RewriteEntry} {r q z : ℕ} → Path es r q → Leads es q z → Path es r z
+pub path-then : {es : List RewriteEntry} {r q z : ℕ} → Path es r q → NamesInput es q z → Path es r z
 path-then (one l) m = more l (one m)
 path-then (more l p) m = more l (path-then p m)
 
-gives-same : {es : List RewriteEntry} {r q : ℕ} (x : RegionInputRewrites) → rewrites-of es r ≡ some x → (l : Leads es r q) → Gives x (l .at) (l .value)
+gives-same : {es : List RewriteEntry} {r q : ℕ} (x : RegionInputRewrites) → rewrites-of es r ≡ some x → (l : NamesInput es r q) → Gives x (l .at) (l .value)
 gives-same x e l = let i = l .is in let same : l .by ≡ x = cc in rw same at (l .gives)
 
-no-leads : {es : List RewriteEntry} {r q : ℕ} → Open es r → Leads es r q → ⊥
+no-leads : {es : List RewriteEntry} {r q : ℕ} → Open es r → NamesInput es r q → ⊥
 no-leads o l = let i = l .is in clash (cc)
 
 pub acyclic : {es : List RewriteEntry} {r : ℕ} → ChainsEnd es r → Path es r r → ⊥
@@ -152,7 +152,7 @@ module _ (es : List RewriteEntry) where
       → Covers (w .others) (next-value es (input r k))
   covers-next r k x e g left w c z m = go (c z m)
     where
-      here : (q : ℕ) → names (next-value es (input r k)) ≡ some q → Leads es r q
+      here : (q : ℕ) → names (next-value es (input r k)) ≡ some q → NamesInput es r q
       here q n = record { by = x; is = e; at = k; value = next-value es (input r k); gives = g; named = n }
 
       split : (z ≡ r) ⊎ List·Memᴰ z (w .others) → List·Memᴰ z (w .others) ⊎ ((q : ℕ) → names (next-value es (input r k)) ≡ some q → Path es z q)

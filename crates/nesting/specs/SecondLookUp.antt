@@ -13,7 +13,7 @@ use Rattle.meaning.specs.Graph.{Value, const, input, instr, output, bool, undef
 use Rattle.nesting.specs.Nesting.{InputRewrite, renumber-to, replace-by, RegionInputRewrites, replace-with, renumber-or-replace-with, RewriteEntry, rewrites-of, changes-again}
 use Rattle.nesting.specs.Rewriting.{rewrite}
 use Rattle.nesting.specs.ChainSteps.{next-value, after-steps, stops-after, chain-steps}
-use Rattle.nesting.specs.ChainEnds.{names, Gives, ChainsEnd, Leads, Path, one, path-then, acyclic, rewrite-enough}
+use Rattle.nesting.specs.ChainEnds.{names, Gives, ChainsEnd, NamesInput, Path, one, path-then, acyclic, rewrite-enough}
 
 -- A value that names no input of r is not a marked one of r.
 not-held : (u : Value) (r k : ℕ) → (names u ≡ some r → ⊥) → sameValue u (held r k) ≡ false
@@ -34,7 +34,7 @@ module _ (es : List RewriteEntry) where
   abbrev Reaches : ℕ → Value → Type 0
   Reaches r v = (q : ℕ) → names v ≡ some q → Path es r q
 
-  leads : (r k : ℕ) (x : RegionInputRewrites) (v : Value) → rewrites-of es r ≡ some x → Gives x k v → (q : ℕ) → names v ≡ some q → Leads es r q
+  leads : (r k : ℕ) (x : RegionInputRewrites) (v : Value) → rewrites-of es r ≡ some x → Gives x k v → (q : ℕ) → names v ≡ some q → NamesInput es r q
   leads r k x v e g q n = record { by = x; is = e; at = k; value = v; gives = g; named = n }
 
   reaches-next : (r : ℕ) (v : Value) → Reaches r v → Reaches r (next-value es v)
