@@ -1,10 +1,10 @@
 -- From a loaded store to the whole answer: the store's refusal, or the verdict on its words.
 use mathlib.Core.Path.{_≡_, refl, sym, ap, _∙_}
 use mathlib.Core.List.{List, _++_}
-use Prim.Native.Nat.{ℕ, _+_, _-_}
+use Prim.Native.Nat.{ℕ, _+_, _-_, _≤_}
 use native.Mathlib.Omega.{arith}
 use lib.ListN.{length, take, drop, length-append, length-drop}
-use lib.Seq.{take-take, drop-drop}
+use lib.Seq.{slice, length-take-le, take-take, drop-drop, take-add, drop-at}
 use Rattle.format.specs.Store.{Answer, accepted, refused, andThen, storeWords}
 use Rattle.format.specs.Accept.{accept}
 use Rattle.format.specs.ReadLaws.{clash}
@@ -16,6 +16,13 @@ use Rattle.accept.specs.declared.Accepted.{Accepted}
 use Rattle.accept.specs.declared.Accepted.the-variants.{Refused}
 use Rattle.accept.specs.Judged.{checkedFrom}
 use Rattle.accept.specs.Accepts.{Accepts, ReadChecked}
+
+-- where the words behind the first n agree
+part-as-lent : (n m : ℕ) (xs ys : List ℕ) → n ≤ length xs → n ≤ length ys → drop n xs ≡ drop n ys → slice n (n + m) xs ≡ slice n (n + m) ys
+part-as-lent n m xs ys h k e = part xs h ∙ ap (take m) e ∙ sym (part ys k)
+  where
+    part : (l : List ℕ) → n ≤ length l → slice n (n + m) l ≡ take m (drop n l)
+    part l h = ap (drop n) (take-add n m l) ∙ drop-at (take n l) (take m (drop n l)) n (length-take-le n l h)
 
 accept-is : (s : List ℕ) {r : Answer (List ℕ)} → storeWords s ≡ r → accept s ≡ andThen r checkedFrom
 unfolding accept
@@ -33,6 +40,7 @@ store-refused s old mid {n} {w} l = by-answer (storeWords s) refl (l .answer) (l
           answer = same ∙ sym (ap forget whole);
           stands = λ g f. absurd (clash (cc));
           in-front = λ ws f. absurd (clash (cc));
+          between = λ ws f. absurd (clash (cc));
           size = ap length k;
           beyond = ap (drop 4400) k;
           as-lent = λ i j f. k;
@@ -63,6 +71,12 @@ module _ (s old mid : List ℕ) {count : ℕ} (size : length old ≡ 32256) (l :
       ∙ drop-drop (4400 - count) count old
       ∙ ap (λ k. drop k old) split
 
+  mid-between : slice count 4048 mid ≡ slice count 4048 old
+  mid-between =
+      let few = held .few in
+      let split : count + (4048 - count) ≡ 4048 = omega arith in
+      rw split at (part-as-lent count (4048 - count) mid old (omega (arith, mid-size)) (omega arith) (held .rest))
+
   front-words : (new : List ℕ) {x : Accepted} → ReadChecked count mid new x → take count new ≡ take count mid
   front-words new r = sym (take-take count 4048 new (held .few)) ∙ ap (take count) (r .kept .front) ∙ take-take count 4048 mid (held .few)
 
@@ -74,6 +88,10 @@ module _ (s old mid : List ℕ) {count : ℕ} (size : length old ≡ 32256) (l :
         answer = r .judged .answer ∙ ap forget same;
         stands = λ g f. r .judged .stands g (same ∙ f);
         in-front = λ ws f. let words : take count mid ≡ ws = cc in ap (λ n. take n new) (sym (count-is ∙ ap length words)) ∙ front-words new r ∙ words;
+        between = λ ws f.
+            let words : take count mid ≡ ws = cc in
+            let same : length ws ≡ count = sym (count-is ∙ ap length words) in
+            rw same (ap (drop count) (r .kept .front) ∙ mid-between);
         size = r .kept .size ∙ mid-size;
         beyond = r .kept .back ∙ mid-beyond;
         as-lent = λ n w f. absurd (clash (cc));

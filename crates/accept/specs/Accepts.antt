@@ -3,6 +3,7 @@ use mathlib.Core.Path.{_≡_}
 use mathlib.Core.List.{List}
 use Prim.Native.Nat.{ℕ}
 use lib.ListN.{length, take, drop}
+use lib.Seq.{slice}
 use Rattle.meaning.specs.Graph.{Graph}
 use Rattle.format.specs.Store.{Answer, accepted, refused, storeWords}
 use Rattle.format.specs.Accept.{accept}
@@ -18,11 +19,12 @@ answered Record = accepted tt
 answered (Refused n w) = refused n w
 
 -- `old` are the words as lent, `new` as they are handed back. A store that is refused leaves them as lent. Otherwise its words
--- stand in front, also where its record is refused; then nothing is said of the words behind them, up to 4,400.
+-- stand in front, also where its record is refused, and only the index, words 4,048 to 4,400, may have changed besides.
 pub record Accepts (s old new : List ℕ) (a : Accepted) : Type 0 where
   pub answer : answered a ≡ forget (accept s)
   pub stands : (g : Graph) → accept s ≡ accepted g → Stands new g
   pub in-front : (ws : List ℕ) → storeWords s ≡ accepted ws → take (length ws) new ≡ ws
+  pub between : (ws : List ℕ) → storeWords s ≡ accepted ws → slice (length ws) 4048 new ≡ slice (length ws) 4048 old
   pub size : length new ≡ length old
   pub beyond : drop 4400 new ≡ drop 4400 old
   pub as-lent : (n w : ℕ) → storeWords s ≡ refused n w → new ≡ old

@@ -20,16 +20,16 @@ pub record Judged (ws new : List ℕ) (a : Answer Unit) : Type 0 where
   pub answer : a ≡ forget (checkedFrom ws)
   pub stands : (g : Graph) → checkedFrom ws ≡ accepted g → Stands new g
 
--- what was taken, again
+-- An answer that is no refusal, and what was taken.
 pub record Given {A : Type 0} (a : Answer A) : Type 0 where
   pub value : A
   pub is : a ≡ accepted value
 
-given : {A : Type 0} (a : Answer A) → accepted tt ≡ forget a → Given a
+pub given : {A : Type 0} (a : Answer A) → accepted tt ≡ forget a → Given a
 given (accepted x) h = record { value = x; is = refl }
 given (refused n w) h = absurd (clash (cc))
 
-not-given : {A : Type 0} (a : Answer A) {n w : ℕ} → refused n w ≡ forget a → a ≡ refused n w
+pub not-given : {A : Type 0} (a : Answer A) {n w : ℕ} → refused n w ≡ forget a → a ≡ refused n w
 not-given (accepted x) h = absurd (clash (cc))
 not-given (refused m v) h = cc
 

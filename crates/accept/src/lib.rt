@@ -6,6 +6,8 @@ ghost use Rattle.accept.specs.Accepts.{Accepts, ReadChecked};
 use record::ReadAnswer;
 use references::Checked;
 use store::Loaded;
+use store::WORDS;
+use store::span;
 
 // The record stands in the lent words, or a refusal's number and its word.
 pub enum Accepted {
@@ -13,11 +15,8 @@ pub enum Accepted {
     Refused(u16, u16),
 }
 
-// Tells its caller how long the array is.
-fn span(words: &[u16]) {}
-
 // Reading is whole before the first reference is looked at.
-fn read_and_checked(words: &mut [u16; 32256], count: usize) -> Accepted
+fn read_and_checked(words: &mut [u16; WORDS], count: usize) -> Accepted
     requires { ⌜ (count ≤ 4048) × (getD (now words) 0 0 ≡ count) ⌝ }
     ensures { λ a. ⌜ ReadChecked count (now (words .entry)) (now (words .exit)) a ⌝ }
 {
@@ -33,7 +32,7 @@ fn read_and_checked(words: &mut [u16; 32256], count: usize) -> Accepted
 }
 
 // Store, reading, references, in this order.
-pub fn accept(bytes: &[u8], words: &mut [u16; 32256]) -> Accepted
+pub fn accept(bytes: &[u8], words: &mut [u16; WORDS]) -> Accepted
     ensures { λ a. ⌜ Accepts (now (bytes .entry)) (now (words .entry)) (now (words .exit)) a ⌝ }
 {
     span(words);

@@ -11,7 +11,6 @@ use libc::STDOUT_FILENO;
 use store::WORDS;
 use vectors::ANSWER;
 use vectors::STORE;
-use vectors::Scan;
 
 // The store of the next vector, and the place behind it.
 fn taken(list: &[u8], at: usize, bytes: &mut [u8; STORE], expected: &mut [u8; ANSWER]) -> usize {

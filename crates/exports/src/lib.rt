@@ -11,7 +11,7 @@ fn wide(x: u16) -> u32
     x as u32
 }
 
-// 0 for a record, which then stands in the lent words; else the refusal's number times 65,536, and its word.
+// 0 for a record, which then stands in the lent words; else the refusal's number, 1 to 8, times 65,536, and its word.
 #[no_mangle]
 pub extern "C" fn rukvetta_accept(bytes: &[u8], words: &mut [u16; 32256]) -> u32
     ensures { λ a. ⌜ AcceptExported (now (bytes .entry)) (now (words .entry)) (now (words .exit)) a ⌝ }

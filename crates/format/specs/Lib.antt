@@ -7,3 +7,5 @@ pub mod Places
 pub mod ReadLaws
 pub mod WellRead
 pub mod AcceptValid
+pub mod ReadingStops
+pub mod Refusals

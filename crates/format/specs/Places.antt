@@ -9,9 +9,9 @@ next (got a at) = at
 next (bad n) = 0
 
 -- What is left of a reading when the value is forgotten.
-abbrev pub skim : {A : Type 0} → Read A → Read Unit
-skim (got a at) = got tt at
-skim (bad n) = bad n
+abbrev pub forgetValue : {A : Type 0} → Read A → Read Unit
+forgetValue (got a at) = got tt at
+forgetValue (bad n) = bad n
 
 -- The place after k of them, each read where the one before ends.
 unfoldable pub after : {A : Type 0} → ℕ → Reader A → List ℕ → ℕ → ℕ

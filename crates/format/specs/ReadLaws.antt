@@ -5,7 +5,7 @@ use Prim.Native.Nat.{ℕ, zero, suc, _<_}
 use native.Mathlib.Omega.{arith}
 use lib.ListN.{length, getD}
 use Rattle.format.specs.Read.{Read, got, bad, Reader, follow, many}
-use Rattle.format.specs.Places.{next, skim, after}
+use Rattle.format.specs.Places.{next, forgetValue, after}
 
 -- Two different constructors are never equal: `clash (cc)`.
 pub clash : _≡_ {A = ℕ} 0 1 → ⊥
@@ -31,23 +31,23 @@ got-place h = cc
 
 module _ {A : Type 0} (p : Reader A) (ws : List ℕ) where
   -- One step of a loop: the rest is read from the next place.
-  pub many-step : (n at : ℕ) {e : ℕ} → skim (p ws at) ≡ got tt e → skim (many (suc n) p ws at) ≡ skim (many n p ws e)
+  pub many-step : (n at : ℕ) {e : ℕ} → forgetValue (p ws at) ≡ got tt e → forgetValue (many (suc n) p ws at) ≡ forgetValue (many n p ws e)
   unfolding many
   many-step n at {e} h = by-first (p ws at) h
     where
-      by-rest : (x : A) (r : Read (List A)) → skim (follow r λ xs i. got (x ∷ xs) i) ≡ skim r
+      by-rest : (x : A) (r : Read (List A)) → forgetValue (follow r λ xs i. got (x ∷ xs) i) ≡ forgetValue r
       by-rest x (got xs i) = refl
       by-rest x (bad k) = refl
 
-      by-first : (r : Read A) → skim r ≡ got tt e → skim (follow r λ x i. follow (many n p ws i) λ xs j. got (x ∷ xs) j) ≡ skim (many n p ws e)
+      by-first : (r : Read A) → forgetValue r ≡ got tt e → forgetValue (follow r λ x i. follow (many n p ws i) λ xs j. got (x ∷ xs) j) ≡ forgetValue (many n p ws e)
       by-first (got x i) q = let same : i ≡ e = cc in rw same (by-rest x (many n p ws e))
       by-first (bad k) q = cc
 
-  pub many-stop : (n at : ℕ) {k : ℕ} → skim (p ws at) ≡ bad k → skim (many (suc n) p ws at) ≡ bad k
+  pub many-stop : (n at : ℕ) {k : ℕ} → forgetValue (p ws at) ≡ bad k → forgetValue (many (suc n) p ws at) ≡ bad k
   unfolding many
   many-stop n at {k} h = by-first (p ws at) h
     where
-      by-first : (r : Read A) → skim r ≡ bad k → skim (follow r λ x i. follow (many n p ws i) λ xs j. got (x ∷ xs) j) ≡ bad k
+      by-first : (r : Read A) → forgetValue r ≡ bad k → forgetValue (follow r λ x i. follow (many n p ws i) λ xs j. got (x ∷ xs) j) ≡ bad k
       by-first (got x i) q = cc
       by-first (bad m) q = cc
 

@@ -1,17 +1,17 @@
 -- References in record order: refusals 6, 7 and 8 (document 01, "What turns a record away").
 use mathlib.Core.Bool.{Bool, true, false, _&&_, not}
-use mathlib.Core.List.{List, [], _∷_, _++_, map}
+use mathlib.Core.List.{List, [], _∷_, map}
 use Prim.Native.Nat.{ℕ, suc}
 use lib.ListN.{length, getD}
 use lib.Dec.{eqb, ltb}
 use Rattle.meaning.specs.Graph.{Value, const, input, instr, output, bool, undef, held, pick, Instr, SelectionKind, bool-cond, number, Edge, ControlInst, unreachable, return, exit-invocation, branch, select-branch, Region, Graph, region, edgesOf}
+use Rattle.meaning.specs.Lists.{concat}
 use Rattle.format.specs.Store.{Answer, accepted, refused, andThen}
 use Rattle.format.specs.Read.{isIn}
 
 -- A region's instructions are counted from 0 through its blocks.
 unfoldable pub instructions : List (List Instr) → List Instr
-instructions [] = []
-instructions (b ∷ bs) = b ++ instructions bs
+instructions bs = concat bs
 
 abbrev pub noInstr : Instr
 noInstr = record { opcode = 0; type = 0; cost = 0; reads = [] }

@@ -225,7 +225,7 @@ pub record RecordRead (g : Graph) : Type 0 where
   pub constants : Counted 0 64 (Within 1 255) (g .constants)
   pub regions : All RegionRead (g .regions)
 
-head-read : (ws : List ℕ) (at : ℕ) (h : Head) (e : ℕ) → head ws at ≡ got h e → Within 1 32 (h .count) × Counted 0 64 (Within 1 255) (h .constants)
+pub head-read : (ws : List ℕ) (at : ℕ) (h : Head) (e : ℕ) → head ws at ≡ got h e → Within 1 32 (h .count) × Counted 0 64 (Within 1 255) (h .constants)
 unfolding head
 head-read ws at x e h =
     let a = part (within 1 32 ws at) _ x e h in

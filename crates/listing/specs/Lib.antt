@@ -3,4 +3,8 @@ pub mod Parts
 pub mod Steps
 pub mod Passes
 pub mod Ends
+pub mod PassLines
+pub mod ItemBytes
+pub mod RegionBytes
+pub mod Fits
 pub mod CaseA

@@ -4,7 +4,7 @@ use mathlib.Core.List.{List}
 use Prim.Native.Nat.{ℕ}
 use lib.ListN.{take}
 use Rattle.format.specs.Read.{Read, got, bad, Reader}
-use Rattle.format.specs.Places.{skim}
+use Rattle.format.specs.Places.{forgetValue}
 use Rattle.format.specs.ReadLaws.{clash}
 use Rattle.reading.specs.Answers.{itemFrom, stepFrom, itemAt, stepAt}
 use Rattle.reading.specs.declared.words.Cursor.{Cursor}
@@ -19,7 +19,7 @@ pub record WordRead (p : Reader ℕ) (ws : List ℕ) (at end n : ℕ) (e : Curso
   pub same : e .end ≡ end
 
 pub record StepRead {A : Type 0} (p : Reader A) (ws : List ℕ) (at end : ℕ) (e : Cursor) : Type 0 where
-  pub is : skim (p ws at) ≡ got tt (e .at)
+  pub is : forgetValue (p ws at) ≡ got tt (e .at)
   pub same : e .end ≡ end
 
 module _ (p : Reader ℕ) (w : List ℕ) (c : Cursor) {end : ℕ} {x : Item} (ends : c .end ≡ end) (answer : x ≡ itemAt p w c) where
@@ -44,21 +44,21 @@ module _ (p : Reader ℕ) (w : List ℕ) (c : Cursor) {end : ℕ} {x : Item} (en
       by-case (bad n) h = cc
 
 module _ {A : Type 0} (p : Reader A) (w : List ℕ) (c : Cursor) {end : ℕ} {x : Step} (ends : c .end ≡ end) (answer : x ≡ stepAt p w c) where
-  step-is : {y : Step} → x ≡ y → stepFrom end (skim (p (take end w) (c .at))) ≡ y
+  step-is : {y : Step} → x ≡ y → stepFrom end (forgetValue (p (take end w) (c .at))) ≡ y
   unfolding stepAt
   step-is q = sym (rw ends at answer) ∙ q
 
   pub step-read : {e : Cursor} → x ≡ step.At e → StepRead p (take end w) (c .at) end e
-  step-read {e} q = by-case (skim (p (take end w) (c .at))) refl (step-is q)
+  step-read {e} q = by-case (forgetValue (p (take end w) (c .at))) refl (step-is q)
     where
-      by-case : (r : Read Unit) → skim (p (take end w) (c .at)) ≡ r → stepFrom end r ≡ step.At e → StepRead p (take end w) (c .at) end e
+      by-case : (r : Read Unit) → forgetValue (p (take end w) (c .at)) ≡ r → stepFrom end r ≡ step.At e → StepRead p (take end w) (c .at) end e
       by-case (got tt i) is h =
           let behind : record { at = i; end = end } ≡ e = cc in
           record { is = is ∙ ap (λ (d : Cursor). got tt (d .at)) behind; same = sym (ap (λ (d : Cursor). d .end) behind) }
       by-case (bad m) is h = absurd (clash (cc))
 
-  pub step-refused : {m : ℕ} → x ≡ step.Bad m → skim (p (take end w) (c .at)) ≡ bad m
-  step-refused {m} q = by-case (skim (p (take end w) (c .at))) (step-is q)
+  pub step-refused : {m : ℕ} → x ≡ step.Bad m → forgetValue (p (take end w) (c .at)) ≡ bad m
+  step-refused {m} q = by-case (forgetValue (p (take end w) (c .at))) (step-is q)
     where
       by-case : (r : Read Unit) → stepFrom end r ≡ step.Bad m → r ≡ bad m
       by-case (got u i) h = absurd (clash (cc))
@@ -75,14 +75,14 @@ module _ (p : Reader ℕ) (w : List ℕ) (c : Cursor) where
   give-word {n} {e} s h = rw (← s) (ap (itemFrom (e .end)) (rw (← s) at h))
 
 module _ {A : Type 0} (p : Reader A) (w : List ℕ) (c : Cursor) where
-  pub refuse-step : {m : ℕ} → bad m ≡ skim (p (take (c .end) w) (c .at)) → step.Bad m ≡ stepAt p w c
+  pub refuse-step : {m : ℕ} → bad m ≡ forgetValue (p (take (c .end) w) (c .at)) → step.Bad m ≡ stepAt p w c
   unfolding stepAt
   refuse-step h = ap (stepFrom (c .end)) h
 
-  pub give-step : {e : Cursor} → e .end ≡ c .end → got tt (e .at) ≡ skim (p (take (c .end) w) (c .at)) → step.At e ≡ stepAt p w c
+  pub give-step : {e : Cursor} → e .end ≡ c .end → got tt (e .at) ≡ forgetValue (p (take (c .end) w) (c .at)) → step.At e ≡ stepAt p w c
   unfolding stepAt
   give-step {e} s h = rw (← s) (ap (stepFrom (e .end)) (rw (← s) at h))
 
-  pub give-rest : {B : Type 0} (q : Reader B) (e : Cursor) {y : Step} → e .end ≡ c .end → y ≡ stepAt q w e → skim (q (take (c .end) w) (e .at)) ≡ skim (p (take (c .end) w) (c .at)) → y ≡ stepAt p w c
+  pub give-rest : {B : Type 0} (q : Reader B) (e : Cursor) {y : Step} → e .end ≡ c .end → y ≡ stepAt q w e → forgetValue (q (take (c .end) w) (e .at)) ≡ forgetValue (p (take (c .end) w) (c .at)) → y ≡ stepAt p w c
   unfolding stepAt
   give-rest q e s answer h = rw s at answer ∙ ap (stepFrom (c .end)) h

@@ -3,7 +3,7 @@ use mathlib.Core.List.{List}
 use Prim.Native.Nat.{ℕ}
 use lib.ListN.{take}
 use Rattle.format.specs.Read.{Read, got, bad, Reader}
-use Rattle.format.specs.Places.{skim}
+use Rattle.format.specs.Places.{forgetValue}
 use Rattle.reading.specs.declared.words.Cursor.{Cursor}
 use Rattle.reading.specs.declared.words.Item.{Item}
 use Rattle.reading.specs.declared.words.Item.the-variants as item
@@ -26,4 +26,4 @@ itemAt p w c = itemFrom (c .end) (p (take (c .end) w) (c .at))
 
 -- The same with the value forgotten.
 unfoldable pub stepAt : {A : Type 0} → Reader A → List ℕ → Cursor → Step
-stepAt p w c = stepFrom (c .end) (skim (p (take (c .end) w) (c .at)))
+stepAt p w c = stepFrom (c .end) (forgetValue (p (take (c .end) w) (c .at)))

@@ -1,7 +1,7 @@
 pub mod Parts
-pub mod Skims
-pub mod SkimValues
+pub mod Forgotten
+pub mod ValuesForgotten
 pub mod Targets
-pub mod SkimTerminators
+pub mod TerminatorsForgotten
 pub mod Answers
 pub mod AnswerSteps

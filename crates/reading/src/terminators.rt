@@ -11,7 +11,7 @@ ghost use Prim.Native.Nat.{ℕ, _+_, _<_};
 ghost use Rattle.format.specs.Read as read;
 ghost use Rattle.reading.specs.Answers.{stepAt};
 ghost use Rattle.reading.specs.Targets.{stands, first, firsts};
-ghost use Rattle.reading.specs.SkimTerminators.{edgesRead, operandsRead};
+ghost use Rattle.reading.specs.TerminatorsForgotten.{edgesRead, operandsRead};
 
 // How many values and targets a terminator of kind k has, at least and at most.
 fn fewest_values(k: u16) -> u16

@@ -7,7 +7,7 @@ use crate::words::word;
 ghost use mathlib.Core.Path.{_≡_};
 ghost use Rattle.format.specs.Read as read;
 ghost use Rattle.reading.specs.Answers.{stepAt};
-ghost use Rattle.reading.specs.SkimValues.{namedBy};
+ghost use Rattle.reading.specs.ValuesForgotten.{namedBy};
 
 // Whether a record may have kind k: 3 arises only in nesting.
 fn is_kind(k: u16) -> bool

@@ -8,7 +8,7 @@ use Rattle.format.specs.Places.{next, after, blocksOf, blockOf, limitOf, exitsO
 use Rattle.reading.specs.Answers.{stepAt}
 use Rattle.reading.specs.declared.words.Cursor.{Cursor}
 use Rattle.reading.specs.declared.words.Step.the-variants.{At}
-use Rattle.record.specs.SkimRegions.{endingRead}
+use Rattle.record.specs.RegionsForgotten.{endingRead}
 use Rattle.record.specs.declared.regions.BlockPlaces.{BlockPlaces}
 use Rattle.record.specs.declared.regions.RegionPlaces.{RegionPlaces}
 

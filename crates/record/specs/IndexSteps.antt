@@ -12,10 +12,10 @@ use borrow.Author.Tests.{eq-eqb, ne-eqb, ltb-true, ltb-false}
 use Rattle.meaning.specs.Graph.{Region}
 use Rattle.format.specs.Store.{Answer, accepted, refused, andThen}
 use Rattle.format.specs.Read.{Read, got, bad, region, block, wordFor, settle, regionsFrom}
-use Rattle.format.specs.Places.{next, skim, after, blockOf, limitOf, exitsOf}
+use Rattle.format.specs.Places.{next, forgetValue, after, blockOf, limitOf, exitsOf}
 use Rattle.format.specs.ReadLaws.{clash}
 use Rattle.record.specs.Stands.{indexAt}
-use Rattle.reading.specs.Skims.{next-of}
+use Rattle.reading.specs.Forgotten.{next-of}
 use Rattle.reading.specs.AnswerSteps.{step-read, step-refused}
 use Rattle.reading.specs.declared.words.Cursor.{Cursor}
 use Rattle.reading.specs.declared.words.Step.the-variants.{At, Bad}
@@ -33,19 +33,19 @@ forget-then (accepted a) f = refl
 forget-then (refused n w) f = refl
 
 module _ (n r : ℕ) (ws : List ℕ) (at : ℕ) where
-  regions-step : {e : ℕ} → skim (region ws at) ≡ got tt e → forget (regionsFrom (suc n) r ws at) ≡ forget (regionsFrom n (suc r) ws e)
+  regions-step : {e : ℕ} → forgetValue (region ws at) ≡ got tt e → forget (regionsFrom (suc n) r ws at) ≡ forget (regionsFrom n (suc r) ws e)
   unfolding regionsFrom
   regions-step {e} h = by-first (region ws at) h
     where
-      by-first : (x : Read Region) → skim x ≡ got tt e → forget (settle r x λ y i. andThen (regionsFrom n (suc r) ws i) λ ys. accepted (y ∷ ys)) ≡ forget (regionsFrom n (suc r) ws e)
+      by-first : (x : Read Region) → forgetValue x ≡ got tt e → forget (settle r x λ y i. andThen (regionsFrom n (suc r) ws i) λ ys. accepted (y ∷ ys)) ≡ forget (regionsFrom n (suc r) ws e)
       by-first (got y i) q = let same : e ≡ i = next-of (got y i) q in rw same (forget-then (regionsFrom n (suc r) ws i) (λ ys. y ∷ ys))
       by-first (bad m) q = absurd (clash (cc))
 
-  regions-stop : {m : ℕ} → skim (region ws at) ≡ bad m → forget (regionsFrom (suc n) r ws at) ≡ refused m (wordFor m r)
+  regions-stop : {m : ℕ} → forgetValue (region ws at) ≡ bad m → forget (regionsFrom (suc n) r ws at) ≡ refused m (wordFor m r)
   unfolding regionsFrom
   regions-stop {m} h = by-first (region ws at) h
     where
-      by-first : (x : Read Region) → skim x ≡ bad m → forget (settle r x λ y i. andThen (regionsFrom n (suc r) ws i) λ ys. accepted (y ∷ ys)) ≡ refused m (wordFor m r)
+      by-first : (x : Read Region) → forgetValue x ≡ bad m → forget (settle r x λ y i. andThen (regionsFrom n (suc r) ws i) λ ys. accepted (y ∷ ys)) ≡ refused m (wordFor m r)
       by-first (got y i) q = absurd (clash (cc))
       by-first (bad k) q = let same : k ≡ m = cc in ap (λ j. refused j (wordFor j r)) same
 
@@ -138,7 +138,7 @@ module _ (n count from : ℕ) (old : List ℕ) where
     regions-next {e} new few step row =
         let ws = take count old in
         let at = c .at in
-        let whole : skim (region ws at) ≡ got tt (e .at) = rw same-words at (step-read region mid c ends (read .step) step .is) in
+        let whole : forgetValue (region ws at) ≡ got tt (e .at) = rw same-words at (step-read region mid c ends (read .step) step .is) in
         record {
           bound = omega arith;
           rest = g .rest ∙ ap (λ k. forget (regionsFrom k r ws at)) one-more ∙ regions-step (n - (r + 1)) r ws at whole ∙ ap (λ k. forget (regionsFrom (n - (r + 1)) k ws (e .at))) (sym (add-one r));
@@ -157,7 +157,7 @@ module _ (n count from : ℕ) (old : List ℕ) where
     regions-refused {m} a step told =
         let ws = take count old in
         let at = c .at in
-        let stop : skim (region ws at) ≡ bad m = rw same-words at (step-refused region mid c ends (read .step) step) in
+        let stop : forgetValue (region ws at) ≡ bad m = rw same-words at (step-refused region mid c ends (read .step) step) in
         let answer : forget (regionsFrom n 0 ws from) ≡ refused m (wordFor m r) = g .rest ∙ ap (λ k. forget (regionsFrom k r ws at)) one-more ∙ regions-stop (n - (r + 1)) r ws at stop in
         record { answer = told ∙ sym answer; index = λ rs q. never (regionsFrom n 0 ws from) answer q; kept = g .kept }
 

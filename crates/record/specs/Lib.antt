@@ -1,7 +1,7 @@
 pub mod Stands
 pub mod Parts
 pub mod PartsWithin
-pub mod SkimRegions
+pub mod RegionsForgotten
 pub mod Answers
 pub mod RegionSteps
 pub mod Row

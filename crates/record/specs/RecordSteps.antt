@@ -14,7 +14,7 @@ use Rattle.format.specs.ReadLaws.{clash, many-length}
 use Rattle.record.specs.Stands.{recordWords, Indexed, Stands}
 use Rattle.record.specs.Parts.{RecordParts, record-parts, region-parts, counted-parts, settled, then, regions-many, accepted-value}
 use Rattle.record.specs.PartsWithin.{head-parts}
-use Rattle.record.specs.SkimRegions.{countOf, headCount}
+use Rattle.record.specs.RegionsForgotten.{countOf, headCount}
 use Rattle.record.specs.Outcome.{forget, answered, Outcome}
 use Rattle.record.specs.Index.{IndexedFrom, RegionsOutcome}
 use Rattle.record.specs.IndexSteps.{never, forget-then, kept-none, kept-words}

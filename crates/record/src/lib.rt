@@ -1,5 +1,5 @@
 // Reading a record's words: refusals 4 and 5 of document 01, and the index of the places where its regions begin.
-pub mod index;
+mod index;
 pub mod regions;
 
 use crate::index::store;

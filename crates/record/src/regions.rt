@@ -13,7 +13,7 @@ ghost use mathlib.Core.Path.{_≡_};
 ghost use Prim.Native.Nat.{_≤_};
 ghost use Rattle.reading.specs.Answers.{itemAt, stepAt};
 ghost use Rattle.record.specs.Answers.{BlocksRead, CountedBlocks, EndingRead, RegionRead};
-ghost use Rattle.record.specs.SkimRegions.{afterCount, headCount};
+ghost use Rattle.record.specs.RegionsForgotten.{afterCount, headCount};
 
 // The cursor behind some blocks, and the place of each.
 pub struct BlockPlaces {

@@ -23,7 +23,7 @@ enum Checked {
 }
 
 // Tells its caller how long the array is.
-fn span(words: &[u16]) {}
+pub fn span(words: &[u16]) {}
 
 fn wide(byte: u8) -> u16
     ensures { λ r. ⌜ r ≡ byte ⌝ }

@@ -3,3 +3,4 @@ pub mod Digits
 pub mod Buffer
 pub mod Lists
 pub mod Whole
+pub mod Lengths

@@ -1,4 +1,5 @@
 use mathlib.Core.Path.{subst}
+use native.Mathlib.Omega.{arith}
 use borrow.Author.Needs.{needs}
 use Rattle.accept.specs.Accepts.{Accepts}
 use Rattle.display.specs.Shows.{record-shown, refusal-shown}
@@ -27,6 +28,7 @@ returns : tie.Need-returns
 returns c =
     let a = c .before .before .before .before .before .before .before .before .before .before .before .args in
     record-shown (a .bytes .now) (a .words .now) (c .before .before .before .before .before .before .before .accept .last .1 .0) (a .out .now) _ _
+    (λ k. omega (arith, c .before .before .before .before .before .before .before .before .before .before .shared-slice-known .given k))
     (subst (Accepts (a .bytes .now) (a .words .now) (c .before .before .before .before .before .before .before .accept .last .1 .0)) (c .before .before .before .before .before .enum-told .given .1) (c .before .before .before .before .before .before .before .accept .ensures))
     (c .before .before .list .ensures)
 
@@ -36,7 +38,8 @@ same-length-2 c = search needs
 returns-2 : tie.Need-returns-2
 returns-2 c =
     let a = c .before .before .before .before .before .before .before .before .before .before .before .args in
-    refusal-shown (a .bytes .now) (a .words .now) (c .before .before .before .before .before .before .before .accept .last .1 .0) (a .out .now) _ _ _ _
+    refusal-shown (a .bytes .now) (a .words .now) (c .before .before .before .before .before .before .before .accept .last .1 .0) (a .out .now) _ _
+    (λ k. omega (arith, c .before .before .before .before .before .before .before .before .before .before .shared-slice-known .given k)) _ _
     (subst (Accepts (a .bytes .now) (a .words .now) (c .before .before .before .before .before .before .before .accept .last .1 .0)) (c .before .before .before .before .before .verdict .given .1) (c .before .before .before .before .before .before .before .accept .ensures))
     (c .before .before .refusal .ensures)
 

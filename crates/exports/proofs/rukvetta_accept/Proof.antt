@@ -1,7 +1,6 @@
 -- The answer is that of `accept`, as a number.
 use borrow.Author.Needs.{needs}
-use mathlib.Core.Path.{sym, ap, _∙_}
-use Rattle.exports.specs.Exported.{asNumber, same-number}
+use Rattle.exports.specs.Exported.{record-exported, refusal-exported}
 use Rattle.exports.proofs.rukvetta_accept.Statement.{statement}
 use Rattle.exports.proofs.rukvetta_accept.Tie as tie
 
@@ -27,18 +26,12 @@ add-result : tie.Need-add-result
 add-result c = search needs
 
 returns : tie.Need-returns
-returns c = record { answer = c .before .before .accept .result; accepts = c .before .before .accept .ensures; is = sym (ap asNumber (c .enum-told .given .1)) }
+returns c = record-exported _ _ _ (rw (c .enum-told .given .1) at (c .before .before .accept .ensures))
 
 returns-2 : tie.Need-returns-2
 returns-2 c =
-    let accept = c .before .before .before .before .before .accept in
-    let number = c .before .wide .ensures .0 in
-    let word = c .wide2 .ensures .0 in
-    record {
-      answer = accept .result;
-      accepts = accept .ensures;
-      is = same-number number word ∙ sym (ap asNumber (c .before .before .before .answer .given .1));
-    }
+    refusal-exported _ _ _ (c .before .wide .ensures .0) (c .wide2 .ensures .0) (c .wide2 .ensures .1)
+    (rw (c .before .before .before .answer .given .1) at (c .before .before .before .before .before .accept .ensures))
 
 pub rukvetta-accept-spec : {M : Type 1} → statement M
 rukvetta-accept-spec =

@@ -4,8 +4,8 @@ use Prim.Native.Nat.{_-_}
 use native.Mathlib.Omega.{arith}
 use borrow.Author.Needs.{needs}
 use Rattle.reading.specs.AnswerSteps.{step-read}
-use Rattle.reading.specs.Skims.{taken-inside}
-use Rattle.record.specs.SkimRegions.{region-inside}
+use Rattle.reading.specs.Forgotten.{taken-inside}
+use Rattle.record.specs.RegionsForgotten.{region-inside}
 use Rattle.record.specs.Index.{RegionsGoing}
 use Rattle.record.specs.IndexSteps.{regions-start, regions-next, regions-refused, regions-read, regions-left}
 use Rattle.record.proofs.read_regions.Statement.{statement}

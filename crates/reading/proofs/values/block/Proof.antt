@@ -1,7 +1,7 @@
 -- The count is refused, or so many are read.
 use mathlib.Core.Path.{refl}
 use borrow.Author.Needs.{needs}
-use Rattle.reading.specs.SkimValues.{block-stop, block-rest}
+use Rattle.reading.specs.ValuesForgotten.{block-stop, block-rest}
 use Rattle.reading.specs.AnswerSteps.{word-read, word-refused, refuse-step, give-rest}
 use Rattle.reading.proofs.values.block.Statement.{statement}
 use Rattle.reading.proofs.values.block.Tie as tie

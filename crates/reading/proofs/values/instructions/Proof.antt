@@ -5,7 +5,7 @@ use native.Mathlib.Omega.{arith}
 use lib.ListN.{take}
 use borrow.Author.Needs.{needs}
 use Rattle.format.specs.Read.{instruction}
-use Rattle.reading.specs.Skims.{Going, going-start, going-next, going-stop, going-end}
+use Rattle.reading.specs.Forgotten.{Going, going-start, going-next, going-stop, going-end}
 use Rattle.reading.specs.AnswerSteps.{step-read, step-refused, refuse-step, give-step}
 use Rattle.reading.proofs.values.instructions.Statement.{statement}
 use Rattle.reading.proofs.values.instructions.Tie as tie

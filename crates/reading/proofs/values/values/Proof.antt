@@ -5,7 +5,7 @@ use native.Mathlib.Omega.{arith}
 use lib.ListN.{take}
 use borrow.Author.Needs.{needs}
 use Rattle.format.specs.Read.{value}
-use Rattle.reading.specs.Skims.{Going, going-start, going-next, going-stop, going-end}
+use Rattle.reading.specs.Forgotten.{Going, going-start, going-next, going-stop, going-end}
 use Rattle.reading.specs.AnswerSteps.{step-read, step-refused, refuse-step, give-step}
 use Rattle.reading.proofs.values.values.Statement.{statement}
 use Rattle.reading.proofs.values.values.Tie as tie

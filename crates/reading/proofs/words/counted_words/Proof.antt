@@ -1,7 +1,7 @@
 -- The count is refused, or so many are read.
 use mathlib.Core.Path.{refl}
 use borrow.Author.Needs.{needs}
-use Rattle.reading.specs.Skims.{counted-stop, counted-rest}
+use Rattle.reading.specs.Forgotten.{counted-stop, counted-rest}
 use Rattle.reading.specs.AnswerSteps.{word-read, word-refused, refuse-step, give-rest}
 use Rattle.reading.proofs.words.counted_words.Statement.{statement}
 use Rattle.reading.proofs.words.counted_words.Tie as tie

@@ -5,8 +5,8 @@ use native.Mathlib.Omega.{arith}
 use lib.ListN.{take}
 use borrow.Author.Needs.{needs}
 use Rattle.reading.specs.AnswerSteps.{step-read, step-refused}
-use Rattle.reading.specs.Skims.{taken-inside}
-use Rattle.record.specs.SkimRegions.{block-inside}
+use Rattle.reading.specs.Forgotten.{taken-inside}
+use Rattle.record.specs.RegionsForgotten.{block-inside}
 use Rattle.record.specs.RegionSteps.{BlocksGoing, blocks-start, blocks-next, blocks-stop, blocks-end}
 use Rattle.record.proofs.regions.blocks.Statement.{statement}
 use Rattle.record.proofs.regions.blocks.Tie as tie

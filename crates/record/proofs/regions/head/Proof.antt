@@ -2,7 +2,7 @@
 use mathlib.Core.Path.{refl}
 use borrow.Author.Needs.{needs}
 use Rattle.reading.specs.AnswerSteps.{word-read, word-refused, step-read, step-refused, refuse-word, give-word}
-use Rattle.record.specs.SkimRegions.{head-count, head-stop, head-rest}
+use Rattle.record.specs.RegionsForgotten.{head-count, head-stop, head-rest}
 use Rattle.record.proofs.regions.head.Statement.{statement}
 use Rattle.record.proofs.regions.head.Tie as tie
 

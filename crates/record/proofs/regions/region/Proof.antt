@@ -2,7 +2,7 @@
 use mathlib.Core.Path.{refl}
 use borrow.Author.Needs.{needs}
 use Rattle.reading.specs.AnswerSteps.{step-read, step-refused}
-use Rattle.record.specs.SkimRegions.{region-inputs, region-blocks}
+use Rattle.record.specs.RegionsForgotten.{region-inputs, region-blocks}
 use Rattle.record.specs.RegionSteps.{region-stop, region-whole}
 use Rattle.record.proofs.regions.region.Statement.{statement}
 use Rattle.record.proofs.regions.region.Tie as tie
