@@ -5,17 +5,23 @@ use Prim.Native.Nat.{ℕ, _+_, _-_, _≤_}
 use native.Mathlib.Omega.{arith}
 use lib.ListN.{length, take, drop, length-append, length-drop}
 use lib.Seq.{slice, length-take-le, take-take, drop-drop, take-add, drop-at}
+use Rattle.meaning.specs.Graph.{Graph}
 use Rattle.format.specs.Store.{Answer, accepted, refused, andThen, storeWords}
+use Rattle.format.specs.Read.{readRecord}
+use Rattle.format.specs.References.{references}
 use Rattle.format.specs.Accept.{accept}
 use Rattle.format.specs.ReadLaws.{clash}
 use Rattle.store.specs.declared.Loaded.the-variants as loaded
 use Rattle.store.specs.Loaded.{counted, heldAfter, Loads}
 use Rattle.store.proofs.Front.{Front, front}
-use Rattle.record.specs.Outcome.{forget}
+use Rattle.record.specs.declared.ReadAnswer.{ReadAnswer}
+use Rattle.record.specs.declared.ReadAnswer.the-variants as reading
+use Rattle.record.specs.Stands.{Stands}
+use Rattle.record.specs.Outcome.{forget, answered as read-answered}
 use Rattle.accept.specs.declared.Accepted.{Accepted}
 use Rattle.accept.specs.declared.Accepted.the-variants.{Refused}
-use Rattle.accept.specs.Judged.{checkedFrom}
-use Rattle.accept.specs.Accepts.{Accepts, ReadChecked}
+use Rattle.accept.specs.Judged.{checkedFrom, Judged, unread, checked}
+use Rattle.accept.specs.Accepts.{answered, Accepts, AfterReading, ReadChecked}
 
 -- where the words behind the first n agree
 part-as-lent : (n m : ℕ) (xs ys : List ℕ) → n ≤ length xs → n ≤ length ys → drop n xs ≡ drop n ys → slice n (n + m) xs ≡ slice n (n + m) ys
@@ -24,6 +30,24 @@ part-as-lent n m xs ys h k e = part xs h ∙ ap (take m) e ∙ sym (part ys k)
     part : (l : List ℕ) → n ≤ length l → slice n (n + m) l ≡ take m (drop n l)
     part l h = ap (drop n) (take-add n m l) ∙ drop-at (take n l) (take m (drop n l)) n (length-take-le n l h)
 
+-- ---- after reading
+pub handed-on : {read : ReadAnswer} {ws : List ℕ} {n w : ℕ} → read ≡ reading.Refused n w → AfterReading read ws (Refused n w)
+handed-on e = record { unread = λ m v h. sym (ap read-answered e) ∙ h; whole = λ h. let same = ap read-answered e in absurd (clash (cc)) }
+
+pub by-references : {read : ReadAnswer} {ws : List ℕ} {r : Answer Unit} {a : Accepted} → read ≡ reading.Read → r ≡ answered a
+    → ((g : Graph) → Stands ws g → r ≡ references g) → AfterReading read ws a
+by-references e same refs =
+    record { unread = λ n w h. let is = ap read-answered e in absurd (clash (cc)); whole = λ h g s. sym same ∙ refs g s }
+
+pub judged-after : (ws new : List ℕ) {read : ReadAnswer} {a : Accepted} → read-answered read ≡ forget (readRecord ws)
+    → ((g : Graph) → readRecord ws ≡ accepted g → Stands new g) → AfterReading read new a → Judged ws new (answered a)
+judged-after ws new {read} {a} is stands after = by-answer (read-answered read) refl
+  where
+    by-answer : (r : Answer Unit) → read-answered read ≡ r → Judged ws new (answered a)
+    by-answer (accepted tt) q = checked ws new stands (sym q ∙ is) (after .whole q)
+    by-answer (refused n w) q = let same = after .unread n w q in rw same (unread ws new (sym q ∙ is))
+
+-- ---- after loading
 accept-is : (s : List ℕ) {r : Answer (List ℕ)} → storeWords s ≡ r → accept s ≡ andThen r checkedFrom
 unfolding accept
 accept-is s h = ap (λ x. andThen x checkedFrom) h

@@ -6,9 +6,11 @@ use lib.ListN.{length, take, drop}
 use lib.Seq.{slice}
 use Rattle.meaning.specs.Graph.{Graph}
 use Rattle.format.specs.Store.{Answer, accepted, refused, storeWords}
+use Rattle.format.specs.References.{references}
 use Rattle.format.specs.Accept.{accept}
 use Rattle.record.specs.Stands.{Stands}
-use Rattle.record.specs.Outcome.{forget, Kept}
+use Rattle.record.specs.declared.ReadAnswer.{ReadAnswer}
+use Rattle.record.specs.Outcome.{forget, Kept, answered as read-answered}
 use Rattle.accept.specs.declared.Accepted.{Accepted}
 use Rattle.accept.specs.declared.Accepted.the-variants.{Record, Refused}
 use Rattle.accept.specs.Judged.{Judged}
@@ -28,6 +30,11 @@ pub record Accepts (s old new : List ℕ) (a : Accepted) : Type 0 where
   pub size : length new ≡ length old
   pub beyond : drop 4400 new ≡ drop 4400 old
   pub as-lent : (n w : ℕ) → storeWords s ≡ refused n w → new ≡ old
+
+-- Of words that were read: a refusal of reading is handed on; where reading is whole the answer is that of the references.
+pub record AfterReading (read : ReadAnswer) (ws : List ℕ) (a : Accepted) : Type 0 where
+  pub unread : (n w : ℕ) → read-answered read ≡ refused n w → answered a ≡ refused n w
+  pub whole : read-answered read ≡ accepted tt → (g : Graph) → Stands ws g → answered a ≡ references g
 
 -- Of words with a record's in front, W of them.
 pub record ReadChecked (count : ℕ) (old new : List ℕ) (a : Accepted) : Type 0 where

@@ -2,7 +2,7 @@
 ghost use mathlib.Core.Path.{_≡_};
 ghost use Prim.Native.Nat.{_≤_};
 ghost use lib.ListN.{getD};
-ghost use Rattle.accept.specs.Accepts.{Accepts, ReadChecked};
+ghost use Rattle.accept.specs.Accepts.{Accepts, AfterReading, ReadChecked};
 use record::ReadAnswer;
 use references::Checked;
 use store::Loaded;
@@ -15,20 +15,27 @@ pub enum Accepted {
     Refused(u16, u16),
 }
 
-// Reading is whole before the first reference is looked at.
-fn read_and_checked(words: &mut [u16; WORDS], count: usize) -> Accepted
-    requires { ⌜ (count ≤ 4048) × (getD (now words) 0 0 ≡ count) ⌝ }
-    ensures { λ a. ⌜ ReadChecked count (now (words .entry)) (now (words .exit)) a ⌝ }
+// What comes after reading: its refusal, or, where it is whole, what the references say.
+fn after_reading(read: ReadAnswer, words: &[u16; WORDS]) -> Accepted
+    ensures { λ a. ⌜ AfterReading read (now (words .entry)) a ⌝ }
 {
-    let read = record::read_record(words, count);
-    if let ReadAnswer::Refused(unread, word) = read {
-        return Accepted::Refused(unread, word);
+    if let ReadAnswer::Refused(number, word) = read {
+        return Accepted::Refused(number, word);
     }
     let checked = references::references(words);
     if let Checked::Refused(number, word) = checked {
         return Accepted::Refused(number, word);
     }
     Accepted::Record
+}
+
+// Reading is whole before the first reference is looked at.
+fn read_and_checked(words: &mut [u16; WORDS], count: usize) -> Accepted
+    requires { ⌜ (count ≤ 4048) × (getD (now words) 0 0 ≡ count) ⌝ }
+    ensures { λ a. ⌜ ReadChecked count (now (words .entry)) (now (words .exit)) a ⌝ }
+{
+    let read = record::read_record(words, count);
+    after_reading(read, words)
 }
 
 // Store, reading, references, in this order.

@@ -6,7 +6,7 @@ use Prim.Native.Nat.{ℕ, zero, suc, _+_, _*_, _≤_, _<_}
 use native.Mathlib.Omega.{arith}
 use lib.ListN.{length, getD, length-append}
 use lib.Dec.{eqb, leb}
-use Rattle.meaning.specs.Graph.{Value, output, bool, undef, pick, Instr}
+use Rattle.meaning.specs.Graph.{Value, output, bool, pick, Instr}
 use Rattle.meaning.specs.Lists.{total}
 use Rattle.meaning.specs.Text.{Text, decimal, listed}
 use Rattle.format.specs.Read.{got, Reader, follow, word, many, counted, type, valueOf, value, instruction, block}
