@@ -1,4 +1,6 @@
 // Answers in two bytes each: a refusal's number and its word; 0 and the sum of its text's bytes, by 256, for a record.
+ghost use mathlib.Core.Path.{_≡_};
+ghost use Rattle.damage.specs.Answers.{OfRecord, AnswerOf, isListed};
 use accept::Accepted;
 use store::WORDS;
 use text::Written;
@@ -22,7 +24,9 @@ fn sum_of(text: &[u8]) -> u8 {
     sum
 }
 
-fn listed(written: Written, out: &[u8]) -> Answer {
+fn listed(written: Written, out: &[u8]) -> Answer
+    ensures { λ a. ⌜ OfRecord a ⌝ }
+{
     match written {
         Written::Bytes(n) => {
             if n <= out.len() {
@@ -43,7 +47,9 @@ fn listed(written: Written, out: &[u8]) -> Answer {
     }
 }
 
-pub fn answer_of(bytes: &[u8], words: &mut [u16; WORDS], out: &mut [u8]) -> Answer {
+pub fn answer_of(bytes: &[u8], words: &mut [u16; WORDS], out: &mut [u8]) -> Answer
+    ensures { λ a. ⌜ AnswerOf (now (bytes .entry)) a ⌝ }
+{
     match accept::accept(bytes, words) {
         Accepted::Refused(number, word) => Answer {
             number: (number % 256) as u8,
@@ -57,7 +63,9 @@ pub fn answer_of(bytes: &[u8], words: &mut [u16; WORDS], out: &mut [u8]) -> Answ
 }
 
 // Whether an answer is the one at place k of the list.
-pub fn is_listed(a: Answer, answers: &[u8], k: usize) -> bool {
+pub fn is_listed(a: Answer, answers: &[u8], k: usize) -> bool
+    ensures { λ r. ⌜ r ≡ isListed a (now (answers .entry)) k ⌝ }
+{
     if k >= answers.len() / 2 {
         return false;
     }
@@ -65,29 +73,4 @@ pub fn is_listed(a: Answer, answers: &[u8], k: usize) -> bool {
         return false;
     }
     answers[2 * k + 1] == a.word
-}
-
-pub struct Tally {
-    pub agree: u32,
-    pub differ: u32,
-}
-
-fn more(n: u32) -> u32 {
-    if n < 4294967295 {
-        return n + 1;
-    }
-    n
-}
-
-pub fn told(t: Tally, agreed: bool) -> Tally {
-    if agreed {
-        return Tally {
-            agree: more(t.agree),
-            differ: t.differ,
-        };
-    }
-    Tally {
-        agree: t.agree,
-        differ: more(t.differ),
-    }
 }

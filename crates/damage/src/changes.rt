@@ -1,12 +1,14 @@
 // Changed stores and their answers.
+ghost use mathlib.Core.Path.{_≡_};
+ghost use Prim.Native.Nat.{_+_, _-_, _≤_};
 use super::answers::Answer;
-use super::answers::Tally;
 use super::answers::answer_of;
 use super::answers::is_listed;
-use super::answers::told;
 use store::WORDS;
 use vectors::ANSWER;
 use vectors::STORE;
+use vectors::Tally;
+use vectors::told;
 
 fn flip(bytes: &mut [u8; STORE], bit: usize) {
     let k = bit / 8;
@@ -56,7 +58,7 @@ fn changed(
     a
 }
 
-// Each bit of the first block in a range.
+// Each bit of the first block in a range, counted once.
 pub fn bits(
     from: usize,
     to: usize,
@@ -65,7 +67,10 @@ pub fn bits(
     answers: &[u8; STORE],
     words: &mut [u16; WORDS],
     out: &mut [u8; ANSWER],
-) -> Tally {
+) -> Tally
+    requires { ⌜ to ≤ 4294967295 ⌝ }
+    ensures { λ t. ⌜ t .agree + t .differ ≡ to - from ⌝ }
+{
     let mut t = Tally {
         agree: 0,
         differ: 0,
@@ -90,13 +95,15 @@ fn is_right(a: Answer, answers: &[u8], n: usize) -> bool {
     a.word == 0
 }
 
-// Each length up to the whole.
+// Each length up to the whole, counted once.
 pub fn lengths(
     bytes: &[u8; STORE],
     answers: &[u8; STORE],
     words: &mut [u16; WORDS],
     out: &mut [u8; ANSWER],
-) -> Tally {
+) -> Tally
+    ensures { λ t. ⌜ t .agree + t .differ ≡ 8705 ⌝ }
+{
     let mut t = Tally {
         agree: 0,
         differ: 0,

@@ -3,7 +3,6 @@
 mod answers;
 mod changes;
 
-use answers::Tally;
 use changes::bits;
 use changes::lengths;
 use libc::STDIN_FILENO;
@@ -11,6 +10,7 @@ use libc::STDOUT_FILENO;
 use store::WORDS;
 use vectors::ANSWER;
 use vectors::STORE;
+use vectors::Tally;
 
 // The store of the next vector, and the place behind it.
 fn taken(list: &[u8], at: usize, bytes: &mut [u8; STORE], expected: &mut [u8; ANSWER]) -> usize {

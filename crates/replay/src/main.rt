@@ -7,6 +7,7 @@ use text::Written;
 use vectors::ANSWER;
 use vectors::STORE;
 use vectors::Scan;
+use vectors::Tally;
 
 // Whether what is shown of a store is the expected text.
 fn agrees(bytes: &[u8], expected: &[u8], words: &mut [u16; WORDS], out: &mut [u8]) -> bool {
@@ -39,84 +40,57 @@ fn agrees_at(
     agrees(&bytes[0..size], &expected[0..length], words, out)
 }
 
-// The scan of the vectors, and how many agreed and differed so far.
-struct Tally {
+// The scan of the vectors, and how many answers agreed and differed so far.
+struct Replay {
     scan: Scan,
-    agree: u32,
-    differ: u32,
-}
-
-fn more(n: u32) -> u32 {
-    if n < 4294967295 {
-        return n + 1;
-    }
-    n
-}
-
-// The tally behind one more vector, and the scan anew.
-fn told(t: Tally, agreed: bool) -> Tally
-    ensures { λ r. ⌜ Within (r .scan) ⌝ }
-{
-    let scan = vectors::start();
-    if agreed {
-        return Tally {
-            scan: scan,
-            agree: more(t.agree),
-            differ: t.differ,
-        };
-    }
-    Tally {
-        scan: scan,
-        agree: t.agree,
-        differ: more(t.differ),
-    }
+    tally: Tally,
 }
 
 // One byte of the list; the last of a vector has its store shown and compared.
 fn fed(
-    t: Tally,
+    t: Replay,
     b: u8,
     bytes: &mut [u8; STORE],
     expected: &mut [u8; ANSWER],
     words: &mut [u16; WORDS],
     out: &mut [u8; ANSWER],
-) -> Tally
+) -> Replay
     requires { ⌜ Within (t .scan) ⌝ }
     ensures { λ r. ⌜ Within (r .scan) ⌝ }
 {
     let s = t.scan;
+    let tally = t.tally;
     let scan = vectors::step(s, b, bytes, expected);
     if scan.whole {
         let size = scan.size;
         let length = scan.length;
         let agreed = agrees_at(bytes, size, expected, length, words, out);
-        return told(t, agreed);
+        return Replay {
+            scan: vectors::start(),
+            tally: vectors::told(tally, agreed),
+        };
     }
-    Tally {
-        scan: scan,
-        agree: t.agree,
-        differ: t.differ,
-    }
+    Replay { scan, tally }
 }
 
 fn fed_all(
-    t: Tally,
+    t: Replay,
     chunk: &[u8],
     bytes: &mut [u8; STORE],
     expected: &mut [u8; ANSWER],
     words: &mut [u16; WORDS],
     out: &mut [u8; ANSWER],
-) -> Tally
+) -> Replay
     requires { ⌜ Within (t .scan) ⌝ }
     ensures { λ r. ⌜ Within (r .scan) ⌝ }
 {
-    let mut tally = t;
+    let mut replay = t;
     let mut i: usize = 0;
     while i < chunk.len() {
-        tally = fed(tally, chunk[i], bytes, expected, words, out);
+        replay = fed(replay, chunk[i], bytes, expected, words, out);
         i += 1;
     }
-    tally
+    replay
 }
 
 // The whole list, in at most so many chunks.
@@ -126,19 +100,23 @@ fn replayed(turns: u32) -> Tally {
     let mut expected = [0u8; ANSWER];
     let mut words = [0u16; WORDS];
     let mut out = [0u8; ANSWER];
-    let mut tally = Tally {
-        scan: vectors::start(),
+    let none = Tally {
         agree: 0,
         differ: 0,
+    };
+    let mut replay = Replay {
+        scan: vectors::start(),
+        tally: none,
     };
     let mut left = turns;
     while left > 0 {
         let n = io::read_full(STDIN_FILENO, &mut chunk);
         if n == 0 {
+            let tally = replay.tally;
             return tally;
         }
-        tally = fed_all(
-            tally,
+        replay = fed_all(
+            replay,
             &chunk[..n],
             &mut bytes,
             &mut expected,
@@ -147,6 +125,7 @@ fn replayed(turns: u32) -> Tally {
         );
         left -= 1;
     }
+    let tally = replay.tally;
     tally
 }
 

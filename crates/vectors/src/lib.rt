@@ -1,5 +1,7 @@
 // A list of vectors, byte by byte: a line `store` with the bytes in hex, the lines of its answer, a line with a dot.
+ghost use mathlib.Core.Path.{_≡_};
 ghost use Prim.Native.Nat.{_<_};
+ghost use Rattle.vectors.specs.Tally.{oneMore, toldOf};
 ghost use Rattle.vectors.specs.Within.{Within};
 
 // The longest store and the longest answer that are kept whole.
@@ -143,5 +145,36 @@ pub fn step(s: Scan, b: u8, bytes: &mut [u8; STORE], expected: &mut [u8; ANSWER]
             in_answer(s, b, expected)
         }
         Part::Text => in_answer(s, b, expected),
+    }
+}
+
+// How many answers agreed with a list, and how many differed.
+pub struct Tally {
+    pub agree: u32,
+    pub differ: u32,
+}
+
+fn more(n: u32) -> u32
+    ensures { λ r. ⌜ r ≡ oneMore n ⌝ }
+{
+    if n < 4294967295 {
+        return n + 1;
+    }
+    n
+}
+
+// One more answer.
+pub fn told(t: Tally, agreed: bool) -> Tally
+    ensures { λ r. ⌜ r ≡ toldOf t agreed ⌝ }
+{
+    if agreed {
+        return Tally {
+            agree: more(t.agree),
+            differ: t.differ,
+        };
+    }
+    Tally {
+        agree: t.agree,
+        differ: more(t.differ),
     }
 }

@@ -6,10 +6,10 @@ use Rattle.replay.proofs.fed_all.Statement.{statement}
 use Rattle.replay.proofs.fed_all.Tie as tie
 
 abbrev Inv-loop : tie.InvT-loop
-Inv-loop chunk bytes₀ expected₀ words₀ out₀ tally₀ i₀ bytes expected words out tally i = (i ≤ length chunk) × Within (tally .scan)
+Inv-loop chunk bytes₀ expected₀ words₀ out₀ replay₀ i₀ bytes expected words out replay i = (i ≤ length chunk) × Within (replay .scan)
 
 abbrev μ-loop : tie.MeasureT-loop
-μ-loop chunk bytes₀ expected₀ words₀ out₀ tally₀ i₀ bytes expected words out tally i = length chunk - i
+μ-loop chunk bytes₀ expected₀ words₀ out₀ replay₀ i₀ bytes expected words out replay i = length chunk - i
 
 loop-holds : tie.Need-loop-holds Inv-loop μ-loop
 loop-holds c = search needs

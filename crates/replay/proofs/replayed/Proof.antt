@@ -6,11 +6,11 @@ use Rattle.replay.proofs.replayed.Statement.{statement}
 use Rattle.replay.proofs.replayed.Tie as tie
 
 abbrev Inv-loop : tie.InvT-loop
-Inv-loop turns chunk₀ bytes₀ expected₀ words₀ out₀ tally₀ left₀ chunk bytes expected words out tally left =
-    (65536 ≡ length chunk) × Within (tally .scan)
+Inv-loop turns chunk₀ bytes₀ expected₀ words₀ out₀ replay₀ left₀ chunk bytes expected words out replay left =
+    (65536 ≡ length chunk) × Within (replay .scan)
 
 abbrev μ-loop : tie.MeasureT-loop
-μ-loop turns chunk₀ bytes₀ expected₀ words₀ out₀ tally₀ left₀ chunk bytes expected words out tally left =
+μ-loop turns chunk₀ bytes₀ expected₀ words₀ out₀ replay₀ left₀ chunk bytes expected words out replay left =
     left
 
 large-buffer-requires : tie.Need-large-buffer-requires Inv-loop μ-loop

@@ -1,16 +1,19 @@
-use Prim.Native.Nat.{_-_}
+use mathlib.Core.Path.{_≡_}
+use Prim.Native.Nat.{_+_, _-_, _≤_}
+use native.Mathlib.Omega.{arith}
+use Rattle.vectors.specs.Tally.{told-next}
 use borrow.Author.Needs.{needs}
 use Rattle.damage.proofs.changes.lengths.Statement.{statement}
 use Rattle.damage.proofs.changes.lengths.Tie as tie
 
 abbrev Inv-loop : tie.InvT-loop
-Inv-loop bytes answers words₀ out₀ t₀ n₀ words out t n = Unit
+Inv-loop bytes answers words₀ out₀ t₀ n₀ words out t n = (n ≤ 8705) × (t .agree + t .differ ≡ n)
 
 abbrev μ-loop : tie.MeasureT-loop
 μ-loop bytes answers words₀ out₀ t₀ n₀ words out t n = 8705 - n
 
 loop-holds : tie.Need-loop-holds Inv-loop μ-loop
-loop-holds c = search needs
+loop-holds c = (omega arith, omega arith)
 
 answer-at-requires : tie.Need-answer-at-requires Inv-loop μ-loop
 answer-at-requires c κs = search needs
@@ -28,10 +31,10 @@ loop-less : tie.Need-loop-less Inv-loop μ-loop
 loop-less c = search needs
 
 loop-again : tie.Need-loop-again Inv-loop μ-loop
-loop-again c = search needs
+loop-again c = (omega arith, told-next _ _ _ (c .before .is-right .result) (c .told .ensures) (c .before .before .before .before .before .before .before .before .loop .inv .1) (omega arith))
 
 returns : tie.Need-returns Inv-loop μ-loop
-returns c = search needs
+returns c = omega (arith, c .before .loop .inv .1)
 
 pub lengths-spec : {M : Type 1} → statement M
 lengths-spec =
