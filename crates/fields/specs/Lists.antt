@@ -9,7 +9,7 @@ use lib.ListN.{length, getD, length-take, List·getD-eq-default}
 use lib.Seq.{getD-take}
 use lib.Dec.{ltb}
 use borrow.Author.Tests.{lt-ltb, ltb-true, ltb-false}
-use Rattle.meaning.specs.Graph.{Value, output, pick}
+use Rattle.meaning.specs.Graph.{Value, no-value, pick}
 use Rattle.format.specs.Read.{got, Reader, follow, many, counted, word, type, value}
 use Rattle.format.specs.ReadLaws.{part}
 use Rattle.record.specs.Parts.{word-parts, within-parts, counted-parts}
@@ -113,9 +113,9 @@ module _ (w : List ℕ) {p : ℕ} where
   unfolding wordItem
   word-item l k = rw (one-mul k) at (item-of w 1 (λ at. getD w at 0) l 0 k)
 
-  pub value-item : {xs : List Value} → ListAt w 3 (valueAt w) p xs → (k : ℕ) → valueItem w p k ≡ getD xs k (output 0)
+  pub value-item : {xs : List Value} → ListAt w 3 (valueAt w) p xs → (k : ℕ) → valueItem w p k ≡ getD xs k no-value
   unfolding valueItem
-  value-item l k = item-of w 3 (valueAt w) l (output 0) k
+  value-item l k = item-of w 3 (valueAt w) l no-value k
 
 -- A list that is not there has no items.
 pub no-list : {A : Type 0} (w : List ℕ) (width : ℕ) (item : ℕ → A) (p : ℕ) → length w ≤ p → ListAt w width item p []

@@ -18,7 +18,7 @@ valueIs (Input r k) = graph.Value.input r k
 valueIs (Output r k) = graph.Value.instr r k
 valueIs (Truth b) = graph.Value.bool b
 valueIs (Undef t) = graph.Value.undef t
-valueIs Nothing = graph.Value.output 0
+valueIs Nothing = graph.Value.no-value
 
 -- Opcode, type, cost and the number of reads.
 abbrev pub instructionIs : Instr → Instruction

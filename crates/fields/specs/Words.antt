@@ -4,7 +4,7 @@ use mathlib.Core.List.{List, [], _∷_}
 use Prim.Native.Nat.{ℕ, zero, suc, _+_, _*_}
 use lib.ListN.{getD}
 use lib.Dec.{eqb, ltb}
-use Rattle.meaning.specs.Graph.{Value, output, pick}
+use Rattle.meaning.specs.Graph.{Value, no-value, pick}
 use Rattle.format.specs.Read.{valueOf, isIn}
 use Rattle.record.specs.Stands.{indexAt}
 
@@ -22,7 +22,7 @@ module _ (w : List ℕ) where
   wordItem p k = pick (ltb k (getD w p 0)) (getD w (p + 1 + k) 0) 0
 
   unfoldable pub valueItem : ℕ → ℕ → Value
-  valueItem p k = pick (ltb k (getD w p 0)) (valueAt (p + 1 + 3 * k)) (output 0)
+  valueItem p k = pick (ltb k (getD w p 0)) (valueAt (p + 1 + 3 * k)) no-value
 
   unfoldable pub behindWords : ℕ → ℕ
   behindWords p = placed (p + 1 + getD w p 0)

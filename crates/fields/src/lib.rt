@@ -3,7 +3,7 @@
 ghost use mathlib.Core.Path.{_≡_};
 ghost use mathlib.Core.List.{[]};
 ghost use lib.ListN.{length, getD};
-ghost use Rattle.meaning.specs.Graph.{Graph, output, region, edgesOf, targetsOf};
+ghost use Rattle.meaning.specs.Graph.{Graph, no-value, region, edgesOf, targetsOf};
 ghost use Rattle.format.specs.Read.{noEdge};
 ghost use Rattle.format.specs.References.{instructions, noInstr, instrType, valuesOf};
 ghost use Rattle.record.specs.Stands.{Stands};
@@ -100,7 +100,7 @@ pub fn instruction(w: &[u16; 32256], r: u16, b: u16, i: u16) -> Instruction
 }
 
 pub fn read(w: &[u16; 32256], r: u16, b: u16, i: u16, k: u16) -> Value
-    ensures { λ a. ⌜ ((g : Graph) → Stands (now (w .entry)) g → valueIs a ≡ getD (getD (getD (region g r .blocks) b []) i noInstr .reads) k (output 0)) ⌝ }
+    ensures { λ a. ⌜ ((g : Graph) → Stands (now (w .entry)) g → valueIs a ≡ getD (getD (getD (region g r .blocks) b []) i noInstr .reads) k no-value) ⌝ }
 {
     value_item(w, place((instruction_place(w, r, b, i) as usize) + 3), k)
 }
@@ -177,7 +177,7 @@ pub fn value_count(w: &[u16; 32256], r: u16) -> u16
 }
 
 pub fn value(w: &[u16; 32256], r: u16, k: u16) -> Value
-    ensures { λ a. ⌜ ((g : Graph) → Stands (now (w .entry)) g → valueIs a ≡ getD (valuesOf (region g r .terminator)) k (output 0)) ⌝ }
+    ensures { λ a. ⌜ ((g : Graph) → Stands (now (w .entry)) g → valueIs a ≡ getD (valuesOf (region g r .terminator)) k no-value) ⌝ }
 {
     value_item(w, values_place(w, r), k)
 }
@@ -201,7 +201,7 @@ pub fn passed_count(w: &[u16; 32256], r: u16, j: u16) -> u16
 }
 
 pub fn passed(w: &[u16; 32256], r: u16, j: u16, k: u16) -> Value
-    ensures { λ a. ⌜ ((g : Graph) → Stands (now (w .entry)) g → valueIs a ≡ getD (getD (edgesOf (region g r .terminator)) j noEdge .inputs) k (output 0)) ⌝ }
+    ensures { λ a. ⌜ ((g : Graph) → Stands (now (w .entry)) g → valueIs a ≡ getD (getD (edgesOf (region g r .terminator)) j noEdge .inputs) k no-value) ⌝ }
 {
     value_item(w, passed_place(w, r, j), k)
 }

@@ -8,7 +8,7 @@ use Prim.Native.Nat.{_<_, _≤_, suc, zero, ℕ}
 use native.Mathlib.Omega.{arith}
 use lib.ListN.{length, take}
 use Rattle.meaning.specs.Runs.{⟨⟩, run-nodes, End, Event, RunState, Word, put-inputs, word}
-use Rattle.meaning.specs.Graph.{Instr, Value, bool, const, held, input, instr, output, region, undef}
+use Rattle.meaning.specs.Graph.{Instr, Value, bool, const, held, input, instr, output, region, undef, no-value}
 use Rattle.nesting.specs.Contexts.{no-input, own-in, rooted-ends}
 use Rattle.nesting.specs.Nesting.{block-count, blocks-from, blocks-of, same-target, MaybeClaimedRegion, DeferredEdgeBundle, to-region, true-cond, rewrites-of, NestState, NodeOutput, ready, look-up-nodes}
 use Rattle.nesting.specs.Rewriting.{rewrite}
@@ -46,6 +46,7 @@ module _ (W : World) where
   usable-scoped r T (const i) h = scoped-const (const i) refl
   usable-scoped r T (bool b) h = scoped-const (bool b) refl
   usable-scoped r T (undef ty) h = scoped-const (undef ty) refl
+  usable-scoped r T no-value h = absurd h
   usable-scoped r T (held q i) h = absurd h
   usable-scoped r T (output i) h = absurd h
   usable-scoped r T (input q i) (p, lt) = record { scoped = λ ρ os res. own-input i lt (ap (λ z. ρ (input z i)) p); context = rw p (own-in r i) }

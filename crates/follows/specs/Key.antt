@@ -7,7 +7,7 @@ use Prim.Native.Nat.{ℕ}
 use lib.Dec.{eqb}
 use borrow.Author.Tests.{eqb-true}
 use Rattle.meaning.specs.Runs.{Cases, Node, Nodes, _▸_, block, case, exit, loop, select, ∅, ⟨⟩}
-use Rattle.meaning.specs.Graph.{Value, bool, const, held, input, instr, output, sameValue, undef}
+use Rattle.meaning.specs.Graph.{Value, bool, const, held, input, instr, output, sameValue, undef, no-value}
 use Rattle.format.specs.ReadLaws.{clash}
 use Rattle.nesting.specs.Nesting.{join, NodeOutput}
 use Rattle.follows.specs.Small.{nth}
@@ -29,6 +29,7 @@ key os (const i) = of-none
 key os (input r k) = of-none
 key os (bool b) = of-none
 key os (undef ty) = of-none
+key os no-value = of-none
 
 -- Output number k is this output, and it is of node n.
 pub record OutputAt (n : ℕ) (os : List NodeOutput) (k : ℕ) (o : NodeOutput) : Type 0 where
@@ -43,6 +44,7 @@ abbrev pub is-constant : Value → Bool
 is-constant (const i) = true
 is-constant (bool b) = true
 is-constant (undef ty) = true
+is-constant no-value = false
 is-constant (input r k) = false
 is-constant (held r k) = false
 is-constant (instr r k) = false
@@ -52,6 +54,7 @@ pub constant-by : (P : Value → Type 0) → ((i : ℕ) → P (const i)) → ((b
 constant-by P c b u (const i) h = c i
 constant-by P c b u (bool x) h = b x
 constant-by P c b u (undef ty) h = u ty
+constant-by P c b u no-value h = absurd (clash (cc))
 constant-by P c b u (input q k) h = absurd (clash (cc))
 constant-by P c b u (held q k) h = absurd (clash (cc))
 constant-by P c b u (instr q k) h = absurd (clash (cc))

@@ -9,7 +9,7 @@ use lib.Dec.{eqb}
 use lib.ListN.{length, take}
 use borrow.Author.Tests.{eqb-false, eqb-true}
 use Rattle.meaning.specs.Runs.{Nodes, by-terminator, enter, run-from, run-nodes, through, End, Env, Event, Rule, RunState, Word, do-block, do-blocks, do-instr, put, put-inputs, word32}
-use Rattle.meaning.specs.Graph.{Instr, Value, bool, const, held, input, instr, output, region, sameValue, undef}
+use Rattle.meaning.specs.Graph.{Instr, Value, bool, const, held, input, instr, output, region, sameValue, undef, no-value}
 use Rattle.nesting.specs.Nesting.{block-count, blocks-from, blocks-of, NodeOutput, look-up-nodes}
 use Rattle.nesting.specs.Rewriting.{rewrite-nodes, rewrite-reads}
 use Rattle.follows.specs.Usable.{AllUsable, BlockUsable, BlocksUsable, Usable, after-blocks}
@@ -41,6 +41,7 @@ module _ (rule : Rule) (ρ : Resolver) (on-instr : (q k : ℕ) → ρ (instr q k
   put-agree k w σ τ h (const i) us = elsewhere k w σ τ (const i) tt refl (h (const i) tt)
   put-agree k w σ τ h (bool b) us = elsewhere k w σ τ (bool b) tt refl (h (bool b) tt)
   put-agree k w σ τ h (undef ty) us = elsewhere k w σ τ (undef ty) tt refl (h (undef ty) tt)
+  put-agree k w σ τ h no-value us = absurd us
   put-agree k w σ τ h (input q i) us = elsewhere k w σ τ (input q i) us refl (h (input q i) us)
   put-agree k w σ τ h (held q i) us = absurd us
   put-agree k w σ τ h (output i) us = absurd us
@@ -121,6 +122,7 @@ module _ (W : World) (r : ℕ)
       reads (const i) h = at-const (const i) refl (res .on-const i) (λ k. refl)
       reads (bool b) h = at-const (bool b) refl (res .on-bool b) (λ k. refl)
       reads (undef ty) h = at-const (undef ty) refl (res .on-undef ty) (λ k. refl)
+      reads no-value h = absurd h
       reads (held q i) h = absurd h
       reads (output i) h = absurd h
       reads (instr q i) h = absurd (omega (arith, h .1))
@@ -133,6 +135,7 @@ module _ (W : World) (r : ℕ)
   apart ρ os T res s w lw ks gv (const i) h = rw (res .on-const i) (nodes-none ks)
   apart ρ os T res s w lw ks gv (bool b) h = rw (res .on-bool b) (nodes-none ks)
   apart ρ os T res s w lw ks gv (undef ty) h = rw (res .on-undef ty) (nodes-none ks)
+  apart ρ os T res s w lw ks gv no-value h = absurd h
   apart ρ os T res s w lw ks gv (held q i) h = absurd h
   apart ρ os T res s w lw ks gv (output i) h = absurd h
   apart ρ os T res s w lw ks gv (instr q i) h = absurd (omega (arith, h .1))

@@ -9,7 +9,7 @@ use lib.Dec.{eqb}
 use lib.ListN.{getD, length}
 use borrow.Author.Tests.{eqb-true}
 use Rattle.meaning.specs.Runs.{Cases, Nodes, _▸_, select, ⟨⟩, pay, run-nodes, through, End, Event, RunState, mark, word}
-use Rattle.meaning.specs.Graph.{SelectionKind, Value, bool, bool-cond, const, held, input, instr, number, output, pick, undef}
+use Rattle.meaning.specs.Graph.{SelectionKind, Value, bool, bool-cond, const, held, input, instr, number, output, pick, undef, no-value}
 use Rattle.format.specs.ReadLaws.{clash}
 use Rattle.nesting.specs.Nesting.{Body, ClaimedRegion, MaybeClaimedRegion, Scrutinee, deferred-of, err, has-children, join, ok, DeferredEdgeBundle, to-region, DeferredTargetSummary, any-needs-select, any-non-empty-case, deferred-targets, in-parent, plan-bundles, DefinedSelect, shared-bundle, NestState, NodeOutput, look-up-nodes}
 use Rattle.nesting.specs.Rewriting.{rewrite-claimed, rewrite-nodes, rewrite, rewrite-case}
@@ -39,6 +39,7 @@ in-parent-of : (c : ClaimedRegion) (u v : Value) → in-parent (ok c) u ≡ some
 in-parent-of c (const i) v p = inl (cc, refl)
 in-parent-of c (bool b) v p = inl (cc, refl)
 in-parent-of c (undef ty) v p = inl (cc, refl)
+in-parent-of c no-value v p = absurd (clash (cc))
 in-parent-of c (held r k) v p = absurd (clash (cc))
 in-parent-of c (instr r k) v p = absurd (clash (cc))
 in-parent-of c (output k) v p = absurd (clash (cc))

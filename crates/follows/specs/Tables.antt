@@ -5,7 +5,7 @@ use mathlib.Core.Option.{Option, none, some}
 use mathlib.Core.Path.{_∙_, _≡_, ap, refl, subst, sym}
 use Prim.Native.Nat.{suc, zero, ℕ}
 use lib.ListN.{getD}
-use Rattle.meaning.specs.Graph.{Value, bool, const, held, input, instr, output, undef}
+use Rattle.meaning.specs.Graph.{Value, bool, const, held, input, instr, output, undef, no-value}
 use Rattle.nesting.specs.Nesting.{chain-fuel, rewrites-of, InputRewrite, NestState, NodeOutput, RegionInputRewrites, RewriteEntry, renumber-or-replace-with, renumber-to, replace-by, replace-with, look-up}
 use Rattle.nesting.specs.Rewriting.{rewrite}
 use Rattle.nesting.specs.ChainSteps.{after-steps, chain-steps, next-value, step-input, step-chain}
@@ -78,6 +78,7 @@ steps-before ρ es t h (instr r k) = refl
 steps-before ρ es t h (output k) = refl
 steps-before ρ es t h (bool b) = refl
 steps-before ρ es t h (undef ty) = refl
+steps-before ρ es t h no-value = refl
 steps-before ρ es t h (input r k) = go (rewrites-of es r) refl
   where
     go : (o : Option RegionInputRewrites) → rewrites-of es r ≡ o → ρ (step-chain (λ v. v) r k o) ≡ ρ (input r k)

@@ -3,7 +3,7 @@ use mathlib.Core.Path.{_≡_}
 use mathlib.Core.List.{List, [], _∷_}
 use Prim.Native.Nat.{ℕ, suc, _+_, _≤_, _<_}
 use lib.ListN.{length}
-use Rattle.meaning.specs.Graph.{Value, const, input, instr, output, bool, undef, held, Instr, SelectionKind, bool-cond, Edge, ControlInst, unreachable, return, exit-invocation, branch, select-branch, Graph, region}
+use Rattle.meaning.specs.Graph.{Value, const, input, instr, output, bool, undef, held, Instr, SelectionKind, bool-cond, Edge, ControlInst, unreachable, return, exit-invocation, branch, select-branch, Graph, region, no-value}
 use Rattle.format.specs.References.{returnTypes}
 
 -- The values that region r may use once k of its instructions are done.
@@ -11,6 +11,7 @@ abbrev pub Usable : ℕ → ℕ → ℕ → Value → Type 0
 Usable r arity k (const i) = Unit
 Usable r arity k (bool b) = Unit
 Usable r arity k (undef t) = Unit
+Usable r arity k no-value = ⊥
 Usable r arity k (input q i) = (q ≡ r) × (i < arity)
 Usable r arity k (instr q i) = (q ≡ r) × (i < k)
 Usable r arity k (held q i) = ⊥

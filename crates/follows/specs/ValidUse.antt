@@ -7,7 +7,7 @@ use native.Mathlib.Omega.{arith}
 use lib.ListN.{length, getD, length-append}
 use lib.Dec.{eqb, ltb}
 use borrow.Author.Tests.{eqb-true, ltb-true}
-use Rattle.meaning.specs.Graph.{Value, const, input, instr, output, bool, undef, held, pick, Instr, SelectionKind, bool-cond, number, Edge, ControlInst, unreachable, return, exit-invocation, branch, select-branch, Graph, region, edgesOf}
+use Rattle.meaning.specs.Graph.{Value, const, input, instr, output, bool, undef, held, pick, Instr, SelectionKind, bool-cond, number, Edge, ControlInst, unreachable, return, exit-invocation, branch, select-branch, Graph, region, edgesOf, no-value}
 use Rattle.format.specs.Read.{isIn}
 use Rattle.format.specs.ReadLaws.{clash}
 use Rattle.format.specs.References.{typeIn, instructions, instrType, behindAll, returnTypes}
@@ -39,6 +39,7 @@ module _ (g : Graph) (r : ℕ) where
   named k (const i) h = tt
   named k (bool b) h = tt
   named k (undef t) h = tt
+  named k no-value h = absurd (omega arith)
   named k (input q i) h =
       let p = picked (eqb q r) (getD (region g r .inputs) i 0) h in (eqb-true q r (p .0), getD-within (region g r .inputs) i (p .1))
   named k (instr q i) h =

@@ -5,7 +5,7 @@ use mathlib.Core.Path.{_≡_, refl}
 use Prim.Native.Nat.{suc, zero, ℕ}
 use lib.Dec.{eqb}
 use borrow.Author.Tests.{eqb-true}
-use Rattle.meaning.specs.Graph.{Value, bool, codeOf, const, held, input, instr, output, sameValue, undef}
+use Rattle.meaning.specs.Graph.{Value, bool, codeOf, const, held, input, instr, output, sameValue, undef, no-value}
 use Rattle.format.specs.WellRead.{and-both}
 use Rattle.nesting.specs.Nesting.{same-values}
 
@@ -17,7 +17,8 @@ decode (suc (suc (suc zero))) r k = output k
 decode (suc (suc (suc (suc zero)))) r zero = bool false
 decode (suc (suc (suc (suc zero)))) r (suc k) = bool true
 decode (suc (suc (suc (suc (suc zero))))) r k = undef k
-decode (suc (suc (suc (suc (suc (suc n)))))) r k = held r k
+decode (suc (suc (suc (suc (suc (suc zero)))))) r k = held r k
+decode (suc (suc (suc (suc (suc (suc (suc n))))))) r k = no-value
 
 decode-code : (v : Value) → decode (codeOf v .kind) (codeOf v .region) (codeOf v .index) ≡ v
 unfolding decode
@@ -29,6 +30,7 @@ decode-code (output k) = refl
 decode-code (bool true) = refl
 decode-code (bool false) = refl
 decode-code (undef ty) = refl
+decode-code no-value = refl
 
 pub sameValue→eq : (v w : Value) → sameValue v w ≡ true → v ≡ w
 sameValue→eq v w h =

@@ -5,7 +5,7 @@ use Prim.Native.Nat.{ℕ, zero, suc, _+_}
 use lib.ListN.{length, getD}
 use lib.Dec.{eqb, leb, ltb}
 use Rattle.format.specs.Store.{Answer, accepted, refused, andThen}
-use Rattle.meaning.specs.Graph.{Value, const, input, instr, output, bool, undef, pick, Instr, bool-cond, number, Edge, ControlInst, unreachable, return, exit-invocation, branch, select-branch, Region, Graph}
+use Rattle.meaning.specs.Graph.{Value, const, input, instr, bool, undef, no-value, pick, Instr, bool-cond, number, Edge, ControlInst, unreachable, return, exit-invocation, branch, select-branch, Region, Graph}
 
 -- What was read and the place after it, or the refusal's number.
 pub data Read (A : Type 0) : Type 0 where
@@ -64,17 +64,17 @@ type = within 1 255
 abbrev pub isKind : ℕ → Bool
 isKind k = leb k 2 || (eqb k 4 || eqb k 5)
 
--- Kinds 0, 4 and 5 have region 0, and kind 4 has index 0 or 1. What breaks that names nothing:
--- it reads as the output of a node, which no record can name, and the references refuse it.
+-- Kinds 0, 4 and 5 have region 0, and kind 4 has index 0 or 1. What breaks that names nothing,
+-- and the references refuse it.
 abbrev pub boolOf : ℕ → Value
-boolOf i = pick (leb i 1) (bool (eqb i 1)) (output 0)
+boolOf i = pick (leb i 1) (bool (eqb i 1)) no-value
 
 abbrev pub fixedOf : ℕ → ℕ → Value
 fixedOf k i = pick (eqb k 0) (const i) (pick (eqb k 4) (boolOf i) (undef i))
 
 abbrev pub valueOf : ℕ → ℕ → ℕ → Value
 valueOf k r i =
-    pick (eqb k 1) (input r i) (pick (eqb k 2) (instr r i) (pick (eqb r 0) (fixedOf k i) (output 0)))
+    pick (eqb k 1) (input r i) (pick (eqb k 2) (instr r i) (pick (eqb r 0) (fixedOf k i) no-value))
 
 -- The index of kind 5, undefined, is a type.
 abbrev pub indexRight : ℕ → ℕ → Bool

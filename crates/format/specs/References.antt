@@ -4,7 +4,7 @@ use mathlib.Core.List.{List, [], _∷_, map}
 use Prim.Native.Nat.{ℕ, suc}
 use lib.ListN.{length, getD}
 use lib.Dec.{eqb, ltb}
-use Rattle.meaning.specs.Graph.{Value, const, input, instr, output, bool, undef, held, pick, Instr, SelectionKind, bool-cond, number, Edge, ControlInst, unreachable, return, exit-invocation, branch, select-branch, Region, Graph, region, edgesOf}
+use Rattle.meaning.specs.Graph.{Value, const, input, instr, output, bool, undef, held, pick, Instr, SelectionKind, bool-cond, number, Edge, ControlInst, unreachable, return, exit-invocation, branch, select-branch, Region, Graph, region, edgesOf, no-value}
 use Rattle.meaning.specs.Lists.{concat}
 use Rattle.format.specs.Store.{Answer, accepted, refused, andThen}
 use Rattle.format.specs.Read.{isIn}
@@ -28,6 +28,7 @@ typeIn g r before (instr q k) = pick (eqb q r && ltb k before) (instrType (regio
 typeIn g r before (output o) = 0
 typeIn g r before (bool b) = 1
 typeIn g r before (undef t) = t
+typeIn g r before no-value = 0
 typeIn g r before (held q k) = 0
 
 -- The refusal of a number in region r, unless the test holds.

@@ -4,7 +4,7 @@ use mathlib.Core.List.{_++_, map}
 use Prim.Native.Nat.{ℕ}
 use Prim.Native.String.{String}
 use lib.ListN.{getD}
-use Rattle.meaning.specs.Graph.{output, undef, SelectionKind, bool-cond, number, ControlInst, select-branch, edgesOf}
+use Rattle.meaning.specs.Graph.{no-value, undef, SelectionKind, bool-cond, number, ControlInst, select-branch, edgesOf}
 use Rattle.meaning.specs.Text.{Text, ascii, decimal}
 use Rattle.format.specs.Read.{noEdge}
 use Rattle.format.specs.References.{valuesOf}
@@ -31,12 +31,12 @@ module _ (x : ControlInst) where
   branch-text e = ap terminatorText e
 
   -- The value that is tested, also by the accessor's default.
-  tested : (k : SelectionKind) → select-branch k (getD (valuesOf x) 0 (undef 0)) (edgesOf x) ≡ x → getD (valuesOf x) 0 (output 0) ≡ getD (valuesOf x) 0 (undef 0)
-  tested k e = ap (λ y. getD (valuesOf y) 0 (output 0)) (sym e)
+  tested : (k : SelectionKind) → select-branch k (getD (valuesOf x) 0 (undef 0)) (edgesOf x) ≡ x → getD (valuesOf x) 0 no-value ≡ getD (valuesOf x) 0 (undef 0)
+  tested k e = ap (λ y. getD (valuesOf y) 0 no-value) (sym e)
 
   abbrev select-text : String → Text
   select-text label =
-      ascii label ++ valueText (getD (valuesOf x) 0 (output 0)) ++ ascii " to " ++ numbers (map (λ e. e .target) (edgesOf x)) ++ ascii "\n"
+      ascii label ++ valueText (getD (valuesOf x) 0 no-value) ++ ascii " to " ++ numbers (map (λ e. e .target) (edgesOf x)) ++ ascii "\n"
 
   select-same : (k : SelectionKind) (label : String) → select-branch k (getD (valuesOf x) 0 (undef 0)) (edgesOf x) ≡ x → select-text label ≡ selectLine label (getD (valuesOf x) 0 (undef 0)) (edgesOf x)
   unfolding selectLine

@@ -6,7 +6,7 @@ use Prim.Native.Nat.{ℕ, zero, suc, _+_, _*_, _≤_, _<_}
 use native.Mathlib.Omega.{arith}
 use lib.ListN.{length, getD, length-append}
 use lib.Dec.{eqb, leb}
-use Rattle.meaning.specs.Graph.{Value, output, bool, pick, Instr}
+use Rattle.meaning.specs.Graph.{Value, no-value, bool, pick, Instr}
 use Rattle.meaning.specs.Lists.{total}
 use Rattle.meaning.specs.Text.{Text, decimal, listed}
 use Rattle.format.specs.Read.{got, Reader, follow, word, many, counted, type, valueOf, value, instruction, block}
@@ -46,7 +46,7 @@ value-short k r i p q =
     (short-pick (eqb k 4) _ _ (short-pick (leb i 1) _ _ (short-bool (eqb i 1)) none) (omega (arith, labeled-length "undef" i q))))
     none))
   where
-    none : Short (output 0)
+    none : Short no-value
     none = omega (arith, labeled-length "n" 0 (omega arith))
 
 -- The bytes of what is read are at most 16 for each word that was read.

@@ -4,7 +4,7 @@ use mathlib.Core.List.{List, [], _∷_, _++_, map}
 use Prim.Native.Nat.{ℕ, suc, _+_}
 use Prim.Native.String.{String}
 use lib.ListN.{length}
-use Rattle.meaning.specs.Graph.{Value, const, input, instr, output, bool, undef, held, Instr, bool-cond, number, Edge, ControlInst, unreachable, return, exit-invocation, branch, select-branch, Region, Graph, edgesOf}
+use Rattle.meaning.specs.Graph.{Value, const, input, instr, output, bool, undef, held, Instr, bool-cond, number, Edge, ControlInst, unreachable, return, exit-invocation, branch, select-branch, Region, Graph, edgesOf, no-value}
 use Rattle.meaning.specs.Text.{Text, ascii, decimal, listed}
 use Rattle.format.specs.References.{firstEdges}
 use Rattle.format.specs.Store.{Answer, accepted, refused}
@@ -25,6 +25,7 @@ valueText (output o) = labeled "n" o
 valueText (bool true) = ascii "true"
 valueText (bool false) = ascii "false"
 valueText (undef t) = labeled "undef" t
+valueText no-value = ascii "-"
 valueText (held r k) = ascii "i" ++ dotted r k
 
 unfoldable pub numbers : List ℕ → Text

@@ -2,7 +2,7 @@
 ghost use mathlib.Core.Path.{_≡_};
 ghost use mathlib.Core.List.{_∷_};
 ghost use lib.ListN.{length, getD};
-ghost use Rattle.meaning.specs.Graph.{Graph, output};
+ghost use Rattle.meaning.specs.Graph.{Graph, no-value};
 ghost use Rattle.record.specs.Stands.{Stands};
 ghost use Rattle.fields.specs.Shape.{valueIs};
 ghost use Rattle.text.specs.Buffer.{buffer, Wrote};
@@ -115,7 +115,7 @@ fn value_count(w: &[u16; WORDS], l: Values) -> u16
 }
 
 fn value_item(w: &[u16; WORDS], l: Values, k: u16) -> Value
-    ensures { λ v. ⌜ ((g : Graph) → Stands (now (w .entry)) g → valueIs v ≡ getD (listOf g l) k (output 0)) ⌝ }
+    ensures { λ v. ⌜ ((g : Graph) → Stands (now (w .entry)) g → valueIs v ≡ getD (listOf g l) k no-value) ⌝ }
 {
     match l {
         Values::Terminator(r) => fields::value(w, r, k),

@@ -2,7 +2,7 @@
 ghost use mathlib.Core.List.{[], _++_};
 ghost use Prim.Native.Nat.{_+_, _≤_};
 ghost use lib.ListN.{getD};
-ghost use Rattle.meaning.specs.Graph.{Graph, output, region, edgesOf, targetsOf};
+ghost use Rattle.meaning.specs.Graph.{Graph, no-value, region, edgesOf, targetsOf};
 ghost use Rattle.meaning.specs.Text.{ascii, listed};
 ghost use Rattle.format.specs.Read.{noEdge};
 ghost use Rattle.format.specs.References.{noInstr, valuesOf};
@@ -89,7 +89,7 @@ fn put_end_values(w: &[u16; WORDS], out: &mut [u8], at: usize, label: &[u8], r: 
 }
 
 fn put_select(w: &[u16; WORDS], out: &mut [u8], at: usize, label: &[u8], r: u16) -> usize
-    ensures { λ p. ⌜ ((g : Graph) → Stands (now (w .entry)) g → Wrote (buffer (now (out .entry)) at) (now (label .entry) ++ valueText (getD (valuesOf (region g r .terminator)) 0 (output 0)) ++ ascii " to " ++ numbers (targetsOf g r) ++ ascii "\n") (buffer (now (out .exit)) p)) ⌝ }
+    ensures { λ p. ⌜ ((g : Graph) → Stands (now (w .entry)) g → Wrote (buffer (now (out .entry)) at) (now (label .entry) ++ valueText (getD (valuesOf (region g r .terminator)) 0 no-value) ++ ascii " to " ++ numbers (targetsOf g r) ++ ascii "\n") (buffer (now (out .exit)) p)) ⌝ }
 {
     let mut place = put_text(out, at, label);
     place = put_value(out, place, fields::value(w, r, 0));

@@ -8,6 +8,7 @@ use lib.Dec.{eqb}
 -- A value. Kinds 0, 4 and 5 (constant, bool, undef) are the Rust's Value::Const; `output` and `held` arise only in nesting.
 -- `output o` is the node output that was defined as number o, counted over all nodes from 0; the sheet shows its node and place.
 -- `held r k` is input k of region r after the renumbering of a loop: document 01's marked input, never rewritten again.
+-- `no-value` is what names nothing; only a record that the references refuse has it.
 pub data Value : Type 0 where
   const : ℕ → Value
   input : ℕ → ℕ → Value
@@ -16,6 +17,7 @@ pub data Value : Type 0 where
   bool : Bool → Value
   undef : ℕ → Value
   held : ℕ → ℕ → Value
+  no-value : Value
 
 abbrev pub pick : {A : Type 0} → Bool → A → A → A
 pick true a b = a
@@ -38,6 +40,7 @@ codeOf (output o) = record { kind = 3; region = 0; index = o }
 codeOf (bool b) = record { kind = 4; region = 0; index = bit b }
 codeOf (undef t) = record { kind = 5; region = 0; index = t }
 codeOf (held r k) = record { kind = 6; region = r; index = k }
+codeOf no-value = record { kind = 7; region = 0; index = 0 }
 
 abbrev pub sameCode : Code → Code → Bool
 sameCode a b = eqb (a .kind) (b .kind) && (eqb (a .region) (b .region) && eqb (a .index) (b .index))

@@ -6,7 +6,7 @@ use lib.ListN.{length, getD}
 use lib.Dec.{ltb, leb}
 use mathlib.Core.Option.{Option, none, some}
 use Rattle.meaning.specs.Lists.{numbers-from}
-use Rattle.meaning.specs.Graph.{Value, Instr, SelectionKind, const, input, instr, output, bool, undef, held, sameValue, pick, bit, bool-cond, number, Graph, region, Edge, ControlInst, unreachable, return, exit-invocation, branch, select-branch}
+use Rattle.meaning.specs.Graph.{Value, Instr, SelectionKind, const, input, instr, output, bool, undef, held, sameValue, pick, bit, bool-cond, number, Graph, region, Edge, ControlInst, unreachable, return, exit-invocation, branch, select-branch, no-value}
 
 -- ---- the nested form: sequences, selects and loops
 -- An output of a select: its number in order of definition, and its type.
@@ -81,6 +81,7 @@ abbrev pub base-env : Given → Env
 base-env x (const i) = word32 (x .constants i)
 base-env x (bool b) = word (bit b)
 base-env x (undef t) = mark
+base-env x no-value = mark
 base-env x (input r k) = mark
 base-env x (instr r k) = mark
 base-env x (output o) = mark

@@ -11,7 +11,7 @@ use native.Mathlib.Nat.{pow-suc}
 use lib.ListN.{length, getD, length-map}
 use lib.Dec.{eqb}
 use borrow.Author.Tests.{eqb-true}
-use Rattle.meaning.specs.Graph.{Value, const, input, instr, output, bool, undef, held, pick}
+use Rattle.meaning.specs.Graph.{Value, const, input, instr, output, bool, undef, held, pick, no-value}
 use Rattle.format.specs.ReadLaws.{clash}
 use Rattle.nesting.specs.Nesting.{InputRewrite, renumber-to, replace-by, RegionInputRewrites, replace-with, renumber-or-replace-with, RewriteEntry, rewrites-of, chain-fuel, look-up-chain, look-up}
 use Rattle.nesting.specs.Rewriting.{rewrite, meets}
@@ -26,6 +26,7 @@ names (instr r k) = none
 names (output o) = none
 names (bool b) = none
 names (undef ty) = none
+names no-value = none
 
 -- the value that an entry puts in the place of input k; an input that it renumbers has none
 abbrev pub Gives : RegionInputRewrites → ℕ → Value → Type 0
@@ -171,6 +172,7 @@ module _ (es : List RewriteEntry) where
   ends-by n left len (output o) h c ih = ends-later es 0 n (output o) (record { ends = refl }) (omega arith)
   ends-by n left len (bool b) h c ih = ends-later es 0 n (bool b) (record { ends = refl }) (omega arith)
   ends-by n left len (undef ty) h c ih = ends-later es 0 n (undef ty) (record { ends = refl }) (omega arith)
+  ends-by n left len no-value h c ih = ends-later es 0 n no-value (record { ends = refl }) (omega arith)
   ends-by n left len (input r k) h c ih = go (rewrites-of es r) refl
     where
       passed : (x : RegionInputRewrites) → rewrites-of es r ≡ some x → (w : Without r left) → Next es r k x → (m : ℕ) → n ≡ suc m → EndsIn es n (input r k)

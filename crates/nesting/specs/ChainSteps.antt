@@ -6,7 +6,7 @@ use mathlib.Core.Option.{Option, none, some}
 use Prim.Native.Nat.{ℕ, zero, suc, _+_, _-_, _≤_, _<_}
 use native.Mathlib.Omega.{arith}
 use lib.ListN.{getD}
-use Rattle.meaning.specs.Graph.{Value, const, input, instr, output, bool, undef, held}
+use Rattle.meaning.specs.Graph.{Value, const, input, instr, output, bool, undef, held, no-value}
 use Rattle.nesting.specs.Nesting.{InputRewrite, renumber-to, replace-by, RegionInputRewrites, replace-with, renumber-or-replace-with, RewriteEntry, rewrites-of, look-up-input, chain-fuel, look-up-chain, changes-again, look-up}
 use Rattle.nesting.specs.Rewriting.{rewrite}
 
@@ -29,6 +29,7 @@ next-value es (instr r k) = instr r k
 next-value es (output o) = output o
 next-value es (bool b) = bool b
 next-value es (undef ty) = undef ty
+next-value es no-value = no-value
 
 abbrev pub after-steps : ℕ → List RewriteEntry → Value → Value
 after-steps zero es v = v
@@ -66,6 +67,7 @@ module _ (es : List RewriteEntry) where
   chain-steps (suc fuel) (output o) = sym (stops-after fuel (output o) refl)
   chain-steps (suc fuel) (bool b) = sym (stops-after fuel (bool b) refl)
   chain-steps (suc fuel) (undef ty) = sym (stops-after fuel (undef ty) refl)
+  chain-steps (suc fuel) no-value = sym (stops-after fuel no-value refl)
   chain-steps (suc fuel) (input r k) = go (rewrites-of es r) refl (λ v. chain-steps fuel v)
     where
       Before : Type 0
@@ -108,6 +110,7 @@ module _ (es : List RewriteEntry) where
   meets-step (output o) = known false (λ fuel. refl)
   meets-step (bool b) = known false (λ fuel. refl)
   meets-step (undef ty) = known false (λ fuel. refl)
+  meets-step no-value = known false (λ fuel. refl)
   meets-step (input r k) = go (rewrites-of es r) refl
     where
       slot : (xs : List InputRewrite) → rewrites-of es r ≡ some (renumber-or-replace-with xs) → (x : InputRewrite) → getD xs k (renumber-to k) ≡ x → MeetsStep (input r k)

@@ -7,7 +7,7 @@ use Prim.Native.Nat.{ℕ, zero, suc}
 use lib.ListN.{getD}
 use lib.Dec.{eqb}
 use borrow.Author.Tests.{eqb-true, eqb-false, eq-eqb, ne-eqb}
-use Rattle.meaning.specs.Graph.{Value, const, input, instr, output, bool, undef, held, pick}
+use Rattle.meaning.specs.Graph.{Value, const, input, instr, output, bool, undef, held, pick, no-value}
 use Rattle.format.specs.ReadLaws.{clash}
 use Rattle.nesting.specs.Nesting.{InputRewrite, renumber-to, replace-by, RegionInputRewrites, replace-with, renumber-or-replace-with, RewriteEntry, rewrites-of, chain-fuel, look-up}
 use Rattle.nesting.specs.Rewriting.{rewrite}
@@ -114,6 +114,7 @@ module _ (es : List RewriteEntry) (p : ℕ) (no-entry : Open es p) where
   context-next (output o) h = h
   context-next (bool b) h = h
   context-next (undef ty) h = h
+  context-next no-value h = h
 
   context-after : (n : ℕ) (v : Value) → InContext es p v → InContext es p (after-steps n es v)
   context-after zero v h = h

@@ -5,7 +5,7 @@ use Prim.Native.Nat.{ℕ, suc}
 use lib.ListN.{getD, take}
 use lib.Dec.{eqb}
 use Rattle.meaning.specs.Lists.{concat, times-in}
-use Rattle.meaning.specs.Graph.{Instr, Code, SelectionKind, Value, const, input, instr, output, bool, undef, held, codeOf, pick, Graph}
+use Rattle.meaning.specs.Graph.{Instr, Code, SelectionKind, Value, const, input, instr, output, bool, undef, held, codeOf, pick, Graph, no-value}
 use Rattle.meaning.specs.Runs.{Node, block, select, loop, exit, Nodes, ⟨⟩, _▸_, Cases, ∅, case}
 use Rattle.meaning.specs.Text.{Text, ascii, decimal}
 use Rattle.nesting.specs.Nesting.{Outcome, LazyCond, undef-cond, false-cond, true-cond, merge, LazyConds, _&_, DeferredTarget, to-region, to-return, DeferredEdgeBundle, untouched, whole, closed, leftover, Piece, Nested}
@@ -128,6 +128,7 @@ module _ (nodes : List ℕ) where
   shown (output o) = record { kind = 3; region = getD nodes o 0; index = times-in (getD nodes o 0) (take o nodes) }
   shown (bool b) = codeOf (bool b)
   shown (undef ty) = codeOf (undef ty)
+  shown no-value = codeOf (undef 0)
   shown (held r k) = codeOf (input r k)
 
   abbrev pub block-items : ℕ → ℕ → List Instr → List Item

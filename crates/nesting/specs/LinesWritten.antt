@@ -4,7 +4,7 @@ use mathlib.Core.Bool.{true, false}
 use mathlib.Core.List.{List, [], _∷_, _++_, map, map-append}
 use Prim.Native.Nat.{ℕ, suc}
 use Rattle.meaning.specs.Lists.{concat}
-use Rattle.meaning.specs.Graph.{Instr, Value, const, input, instr, output, bool, undef, held, Graph}
+use Rattle.meaning.specs.Graph.{Instr, Value, const, input, instr, output, bool, undef, held, Graph, no-value}
 use Rattle.meaning.specs.Runs.{Node, block, select, loop, exit, Nodes, ⟨⟩, _▸_, Cases, ∅, case}
 use Rattle.meaning.specs.Text.{joined}
 use Rattle.nesting.specs.Nesting.{Outcome, LazyCond, undef-cond, false-cond, true-cond, merge, LazyConds, _&_, DeferredTarget, to-region, to-return, DeferredEdgeBundle, untouched, whole, closed, leftover, Piece, Nested}
@@ -38,6 +38,7 @@ module _ (nodes : List ℕ) where
   value-written (bool false) = refl
   value-written (bool true) = refl
   value-written (undef ty) = refl
+  value-written no-value = refl
   value-written (held r k) = refl
 
   values-written : (vs : List Value) → map value-field (map (shown nodes) vs) ≡ map (value nodes) vs

@@ -6,7 +6,7 @@ use lib.ListN.{length, getD, set, take, replicate}
 use lib.Dec.{ltb, eqb}
 use mathlib.Core.Option.{Option, none, some}
 use Rattle.meaning.specs.Lists.{any, all, filter, empty, is-some, total, times-in, numbers-from}
-use Rattle.meaning.specs.Graph.{Value, SelectionKind, output, const, input, instr, bool, undef, held, sameValue, pick, bool-cond, number, Instr, Region, Graph, region, edgesOf, targetsOf, Edge, ControlInst, unreachable, return, exit-invocation, branch, select-branch}
+use Rattle.meaning.specs.Graph.{Value, SelectionKind, output, const, input, instr, bool, undef, held, sameValue, pick, bool-cond, number, Instr, Region, Graph, region, edgesOf, targetsOf, Edge, ControlInst, unreachable, return, exit-invocation, branch, select-branch, no-value}
 use Rattle.meaning.specs.Runs.{Nodes, ⟨⟩, _▸_, block, select, Cases, ∅, case, loop, exit, OutputDecl, Node}
 use Rattle.format.specs.References.{returnTypes}
 use Rattle.format.specs.Read.{isIn}
@@ -208,6 +208,7 @@ look-up-chain (suc fuel) es (instr r k) = plain (instr r k)
 look-up-chain (suc fuel) es (output o) = plain (output o)
 look-up-chain (suc fuel) es (bool b) = plain (bool b)
 look-up-chain (suc fuel) es (undef ty) = plain (undef ty)
+look-up-chain (suc fuel) es no-value = plain no-value
 
 unfoldable pub look-up : List RewriteEntry → Value → LookUp Value
 look-up es v = look-up-chain (chain-fuel es) es v
@@ -384,6 +385,7 @@ in-parent (err d) v = some v
 in-parent (ok c) (const i) = some (const i)
 in-parent (ok c) (bool b) = some (bool b)
 in-parent (ok c) (undef ty) = some (undef ty)
+in-parent (ok c) no-value = none
 in-parent (ok c) (input r k) = pick (eqb r (c .structured-body)) (some (getD (c .structured-body-inputs) k (undef 0))) none
 in-parent (ok c) (held r k) = none
 in-parent (ok c) (instr r k) = none

@@ -9,7 +9,7 @@ use native.Mathlib.Omega.{arith}
 use lib.ListN.{length, getD}
 use lib.Dec.{eqb}
 use borrow.Author.Tests.{eqb-true, eq-eqb}
-use Rattle.meaning.specs.Graph.{Value, const, input, instr, output, bool, undef, held, sameValue}
+use Rattle.meaning.specs.Graph.{Value, const, input, instr, output, bool, undef, held, sameValue, no-value}
 use Rattle.nesting.specs.Nesting.{InputRewrite, renumber-to, replace-by, RegionInputRewrites, replace-with, renumber-or-replace-with, RewriteEntry, rewrites-of, changes-again}
 use Rattle.nesting.specs.Rewriting.{rewrite}
 use Rattle.nesting.specs.ChainSteps.{next-value, after-steps, stops-after, chain-steps}
@@ -23,6 +23,7 @@ not-held (instr q j) r k h = refl
 not-held (output o) r k h = refl
 not-held (bool b) r k h = refl
 not-held (undef ty) r k h = refl
+not-held no-value r k h = refl
 not-held (held q j) r k h = go (eqb q r) refl
   where
     go : (b : Bool) → eqb q r ≡ b → sameValue (held q j) (held r k) ≡ false
@@ -44,6 +45,7 @@ module _ (es : List RewriteEntry) where
   reaches-next r (output o) h = h
   reaches-next r (bool b) h = h
   reaches-next r (undef ty) h = h
+  reaches-next r no-value h = h
   reaches-next r (input z k) h = go (rewrites-of es z) refl
     where
       to : (x : RegionInputRewrites) (v : Value) → rewrites-of es z ≡ some x → Gives x k v → Reaches r v

@@ -6,7 +6,7 @@ use lib.ListN.{getD, take, length}
 use lib.Dec.{leb, eqb}
 use Prim.Native.String.{String}
 use Rattle.meaning.specs.Lists.{concat, total, times-in}
-use Rattle.meaning.specs.Graph.{Instr, SelectionKind, Value, const, input, instr, output, bool, undef, held, pick, Graph, bool-cond, number, bit}
+use Rattle.meaning.specs.Graph.{Instr, SelectionKind, Value, const, input, instr, output, bool, undef, held, pick, Graph, bool-cond, number, bit, no-value}
 use Rattle.meaning.specs.Runs.{Node, block, select, loop, exit, Nodes, ⟨⟩, _▸_, Cases, ∅, case}
 use Rattle.meaning.specs.Text.{Text, ascii, decimal, joined, listed}
 use Rattle.format.specs.Store.{Answer, accepted, refused, andThen}
@@ -111,6 +111,7 @@ module _ (nodes : List ℕ) where
   value (bool false) = record { words = 4 ∷ 0 ∷ 0 ∷ []; text = ascii "false" }
   value (bool true) = record { words = 4 ∷ 0 ∷ 1 ∷ []; text = ascii "true" }
   value (undef ty) = record { words = 5 ∷ 0 ∷ ty ∷ []; text = ascii "undef" ++ decimal ty }
+  value no-value = record { words = 5 ∷ 0 ∷ 0 ∷ []; text = ascii "undef" ++ decimal 0 }  -- on no sheet
   value (held r k) = joint "" (named 1 "i" ∷ dotted r k ∷ [])
 
   abbrev pub values : List Value → Field

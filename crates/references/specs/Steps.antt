@@ -8,7 +8,7 @@ use native.Mathlib.Nat.{add-zero}
 use lib.ListN.{length, getD, drop, length-map, List·getD-map}
 use lib.Dec.{eqb}
 use borrow.Author.Tests.{lt-ltb, le-ltb, eq-eqb, ne-eqb}
-use Rattle.meaning.specs.Graph.{Graph, Value, output, undef, Instr, Edge, SelectionKind, bool-cond, number, ControlInst, select-branch, Region, region, nowhere, edgesOf}
+use Rattle.meaning.specs.Graph.{Graph, Value, no-value, undef, Instr, Edge, SelectionKind, bool-cond, number, ControlInst, select-branch, Region, region, nowhere, edgesOf}
 use Rattle.format.specs.Store.{Answer, accepted, refused, andThen}
 use Rattle.format.specs.References.{instructions, typeIn, behindAll, expect, each, isReturn, firstReturn, returnTypes, valuesOf, isRegion, named, ofType, readsRight, typesRight, passedRight, testRight, valuesRight, targetRight, edgeRight, firstEdges, exitsRight, regionsRight, references}
 use Rattle.fields.specs.Repeats.{standsBefore}
@@ -163,23 +163,23 @@ pub return-count : (g : Graph) {q n : ℕ} → q ≡ firstReturn (g .regions) �
 unfolding returnTypes
 return-count g h size = size ∙ ap (λ q. length (valuesOf (region g q .terminator))) h ∙ sym (length-map (valuesOf (region g (firstReturn (g .regions)) .terminator)) _)
 
-pub return-type : (g : Graph) {q : ℕ} (k : ℕ) → q ≡ firstReturn (g .regions) → typeIn g q (behindAll g q) (getD (valuesOf (region g q .terminator)) k (output 0)) ≡ getD (returnTypes g) k 0
+pub return-type : (g : Graph) {q : ℕ} (k : ℕ) → q ≡ firstReturn (g .regions) → typeIn g q (behindAll g q) (getD (valuesOf (region g q .terminator)) k no-value) ≡ getD (returnTypes g) k 0
 unfolding returnTypes
 return-type g k h =
     let q = firstReturn (g .regions) in
-    ap (λ q. typeIn g q (behindAll g q) (getD (valuesOf (region g q .terminator)) k (output 0))) h
-    ∙ sym (List·getD-map (typeIn g q (behindAll g q)) (valuesOf (region g q .terminator)) k (output 0))
+    ap (λ q. typeIn g q (behindAll g q) (getD (valuesOf (region g q .terminator)) k no-value)) h
+    ∙ sym (List·getD-map (typeIn g q (behindAll g q)) (valuesOf (region g q .terminator)) k no-value)
 
 -- A test's value, of which the terminator has one.
 module _ (g : Graph) (r : ℕ) (x : ControlInst) where
-  tested : {k : SelectionKind} → select-branch k (getD (valuesOf x) 0 (undef 0)) (edgesOf x) ≡ x → getD (valuesOf x) 0 (output 0) ≡ getD (valuesOf x) 0 (undef 0)
-  tested h = ap (λ y. getD (valuesOf y) 0 (output 0)) (sym h)
+  tested : {k : SelectionKind} → select-branch k (getD (valuesOf x) 0 (undef 0)) (edgesOf x) ≡ x → getD (valuesOf x) 0 no-value ≡ getD (valuesOf x) 0 (undef 0)
+  tested h = ap (λ y. getD (valuesOf y) 0 no-value) (sym h)
 
-  pub test-bool : select-branch bool-cond (getD (valuesOf x) 0 (undef 0)) (edgesOf x) ≡ x → typed g r 1 (getD (valuesOf x) 0 (output 0)) ≡ valuesRight g r x
+  pub test-bool : select-branch bool-cond (getD (valuesOf x) 0 (undef 0)) (edgesOf x) ≡ x → typed g r 1 (getD (valuesOf x) 0 no-value) ≡ valuesRight g r x
   unfolding valuesRight testRight
   test-bool h = ap (typed g r 1) (tested h) ∙ ap (valuesRight g r) h
 
-  pub test-number : select-branch number (getD (valuesOf x) 0 (undef 0)) (edgesOf x) ≡ x → named g r (behindAll g r) (getD (valuesOf x) 0 (output 0)) ≡ valuesRight g r x
+  pub test-number : select-branch number (getD (valuesOf x) 0 (undef 0)) (edgesOf x) ≡ x → named g r (behindAll g r) (getD (valuesOf x) 0 no-value) ≡ valuesRight g r x
   unfolding valuesRight testRight
   test-number h = ap (named g r (behindAll g r)) (tested h) ∙ sym (then-accepted (named g r (behindAll g r) (getD (valuesOf x) 0 (undef 0)))) ∙ ap (valuesRight g r) h
 

@@ -7,7 +7,7 @@ use native.Mathlib.Omega.{arith}
 use native.Mathlib.Numerals.{add-one}
 use lib.ListN.{length, getD, drop, drop-of-length-le}
 use lib.Seq.{drop-cons}
-use Rattle.meaning.specs.Graph.{Graph, Value, output, Instr, Edge, region, nowhere, edgesOf}
+use Rattle.meaning.specs.Graph.{Graph, Value, no-value, Instr, Edge, region, nowhere, edgesOf}
 use Rattle.format.specs.Store.{Answer, andThen}
 use Rattle.format.specs.Read.{isIn, noEdge}
 use Rattle.format.specs.References.{noInstr, behindAll, expect, each, isRegion, named, ofType, readsRight, typesRight, exitsRight, regionRight, regionsRight}
@@ -47,14 +47,14 @@ module _ (g : Graph) (r : ℕ) where
   abbrev pub typed : ℕ → Value → Answer Unit
   typed t v = andThen (named g r (behindAll g r) v) λ _. ofType g r t v
 
-  pub types-walk : (ts : List ℕ) (vs : List Value) {m : ℕ} → m ≡ length ts → m ≡ length vs → Walk (λ k. typesRight g r (drop k ts) (drop k vs)) (λ k. typed (getD ts k 0) (getD vs k (output 0))) m
+  pub types-walk : (ts : List ℕ) (vs : List Value) {m : ℕ} → m ≡ length ts → m ≡ length vs → Walk (λ k. typesRight g r (drop k ts) (drop k vs)) (λ k. typed (getD ts k 0) (getD vs k no-value)) m
   unfolding typesRight
   types-walk ts vs sizes size =
       record {
         more = λ k l.
             ap (λ us. typesRight g r us (drop k vs)) (from ts 0 sizes k l)
-            ∙ ap (typesRight g r (getD ts k 0 ∷ drop (k + 1) ts)) (from vs (output 0) size k l)
-            ∙ then-then (named g r (behindAll g r) (getD vs k (output 0))) (λ _. ofType g r (getD ts k 0) (getD vs k (output 0))) (λ _. typesRight g r (drop (k + 1) ts) (drop (k + 1) vs));
+            ∙ ap (typesRight g r (getD ts k 0 ∷ drop (k + 1) ts)) (from vs no-value size k l)
+            ∙ then-then (named g r (behindAll g r) (getD vs k no-value)) (λ _. ofType g r (getD ts k 0) (getD vs k no-value)) (λ _. typesRight g r (drop (k + 1) ts) (drop (k + 1) vs));
         done = λ k l. ap (λ us. typesRight g r us (drop k vs)) (none-from ts 0 sizes k l);
       }
 

@@ -3,7 +3,7 @@ ghost use mathlib.Core.Path.{_≡_};
 ghost use mathlib.Core.List.{[]};
 ghost use Prim.Native.Nat.{_≤_};
 ghost use lib.ListN.{getD};
-ghost use Rattle.meaning.specs.Graph.{Graph, output, region, edgesOf};
+ghost use Rattle.meaning.specs.Graph.{Graph, no-value, region, edgesOf};
 ghost use Rattle.format.specs.Read.{noEdge};
 ghost use Rattle.format.specs.References as format;
 ghost use Rattle.record.specs.Stands.{Stands};
@@ -150,7 +150,7 @@ fn first_return(w: &[u16; 32256]) -> u16
 
 // The type of value k that region q returns.
 fn return_type(w: &[u16; 32256], q: u16, k: u16) -> u16
-    ensures { λ a. ⌜ ((g : Graph) → Stands (now (w .entry)) g → a ≡ format.typeIn g q (format.behindAll g q) (getD (format.valuesOf (region g q .terminator)) k (output 0))) ⌝ }
+    ensures { λ a. ⌜ ((g : Graph) → Stands (now (w .entry)) g → a ≡ format.typeIn g q (format.behindAll g q) (getD (format.valuesOf (region g q .terminator)) k no-value)) ⌝ }
 {
     type_in(
         w,

@@ -5,7 +5,7 @@ use mathlib.Core.Path.{_≡_, refl, sym, ap, _∙_}
 use Prim.Native.Nat.{_≤_, _-_}
 use native.Mathlib.Omega.{arith}
 use lib.ListN.{drop}
-use Rattle.meaning.specs.Graph.{Graph, output, region}
+use Rattle.meaning.specs.Graph.{Graph, no-value, region}
 use Rattle.format.specs.References as format
 use Rattle.record.specs.Stands.{Stands}
 use Rattle.references.specs.Answers.{answered}
@@ -39,7 +39,7 @@ enum-known-c c = search needs
 returns : tie.Need-returns Inv-loop μ-loop
 returns c g s =
     let r = c .before .before .before .before .before .before .before .before .before .args .r in
-    stops (each-walk (format.valuesOf (region g r .terminator)) (output 0) (c .before .before .before .before .before .before .before .value-count .ensures g s) (format.named g r (format.behindAll g r))) _ _ (c .before .before .before .before .before .loop-test .taken) (c .before .before .before .before .before .before .loop .inv .1 g s)
+    stops (each-walk (format.valuesOf (region g r .terminator)) no-value (c .before .before .before .before .before .before .before .value-count .ensures g s) (format.named g r (format.behindAll g r))) _ _ (c .before .before .before .before .before .loop-test .taken) (c .before .before .before .before .before .before .loop .inv .1 g s)
     (sym (ap answered (c .before .c .given .1)) ∙ c .before .before .before .named .ensures g s ∙ rw (c .before .before .before .before .before .before .before .before .instruction-count .ensures g s) (ap (format.named g r (format.behindAll g r)) (c .before .before .before .before .value .ensures g s)))
 
 enum-told : tie.Need-enum-told Inv-loop μ-loop
@@ -56,14 +56,14 @@ loop-again c = (
   omega arith,
   λ g s.
       let r = c .before .before .before .before .before .before .before .before .args .r in
-      passes (each-walk (format.valuesOf (region g r .terminator)) (output 0) (c .before .before .before .before .before .before .value-count .ensures g s) (format.named g r (format.behindAll g r))) _ _ (c .before .before .before .before .loop-test .taken) (c .before .before .before .before .before .loop .inv .1 g s)
+      passes (each-walk (format.valuesOf (region g r .terminator)) no-value (c .before .before .before .before .before .before .value-count .ensures g s) (format.named g r (format.behindAll g r))) _ _ (c .before .before .before .before .loop-test .taken) (c .before .before .before .before .before .loop .inv .1 g s)
       (sym (ap answered (c .enum-told .given .1)) ∙ c .before .before .named .ensures g s ∙ rw (c .before .before .before .before .before .before .before .instruction-count .ensures g s) (ap (format.named g r (format.behindAll g r)) (c .before .before .before .value .ensures g s))),
 )
 
 returns-2 : tie.Need-returns-2 Inv-loop μ-loop
 returns-2 c g s =
     let r = c .before .before .before .before .args .r in
-    ends (each-walk (format.valuesOf (region g r .terminator)) (output 0) (c .before .before .value-count .ensures g s) (format.named g r (format.behindAll g r))) _ _ (c .loop-test .left) (c .before .loop .inv .1 g s)
+    ends (each-walk (format.valuesOf (region g r .terminator)) no-value (c .before .before .value-count .ensures g s) (format.named g r (format.behindAll g r))) _ _ (c .loop-test .left) (c .before .loop .inv .1 g s)
 
 pub exit-values-right-spec : {M : Type 1} → statement M
 exit-values-right-spec =

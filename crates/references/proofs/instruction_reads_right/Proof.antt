@@ -5,7 +5,7 @@ use mathlib.Core.Path.{_≡_, refl, sym, ap, _∙_}
 use Prim.Native.Nat.{_≤_, _-_}
 use native.Mathlib.Omega.{arith}
 use lib.ListN.{drop}
-use Rattle.meaning.specs.Graph.{Graph, output}
+use Rattle.meaning.specs.Graph.{Graph, no-value}
 use Rattle.format.specs.References as format
 use Rattle.record.specs.Stands.{Stands}
 use Rattle.references.specs.Answers.{answered}
@@ -36,7 +36,7 @@ enum-known-c c = search needs
 returns : tie.Need-returns Inv-loop μ-loop
 returns c g s =
     let a = c .before .before .before .before .before .before .before .before .args in
-    stops (each-walk (readsOf g (a .r) (a .b) (a .i)) (output 0) (ap (λ x. x .reads) (c .before .before .before .before .before .before .before .instruction .ensures g s)) (format.named g (a .r) (a .before))) _ _ (c .before .before .before .before .before .loop-test .taken) (c .before .before .before .before .before .before .loop .inv .1 g s)
+    stops (each-walk (readsOf g (a .r) (a .b) (a .i)) no-value (ap (λ x. x .reads) (c .before .before .before .before .before .before .before .instruction .ensures g s)) (format.named g (a .r) (a .before))) _ _ (c .before .before .before .before .before .loop-test .taken) (c .before .before .before .before .before .before .loop .inv .1 g s)
     (sym (ap answered (c .before .c .given .1)) ∙ c .before .before .before .named .ensures g s ∙ ap (format.named g (a .r) (a .before)) (c .before .before .before .before .read .ensures g s))
 
 enum-told : tie.Need-enum-told Inv-loop μ-loop
@@ -53,14 +53,14 @@ loop-again c = (
   omega arith,
   λ g s.
       let a = c .before .before .before .before .before .before .before .args in
-      passes (each-walk (readsOf g (a .r) (a .b) (a .i)) (output 0) (ap (λ x. x .reads) (c .before .before .before .before .before .before .instruction .ensures g s)) (format.named g (a .r) (a .before))) _ _ (c .before .before .before .before .loop-test .taken) (c .before .before .before .before .before .loop .inv .1 g s)
+      passes (each-walk (readsOf g (a .r) (a .b) (a .i)) no-value (ap (λ x. x .reads) (c .before .before .before .before .before .before .instruction .ensures g s)) (format.named g (a .r) (a .before))) _ _ (c .before .before .before .before .loop-test .taken) (c .before .before .before .before .before .loop .inv .1 g s)
       (sym (ap answered (c .enum-told .given .1)) ∙ c .before .before .named .ensures g s ∙ ap (format.named g (a .r) (a .before)) (c .before .before .before .read .ensures g s)),
 )
 
 returns-2 : tie.Need-returns-2 Inv-loop μ-loop
 returns-2 c g s =
     let a = c .before .before .before .args in
-    ends (each-walk (readsOf g (a .r) (a .b) (a .i)) (output 0) (ap (λ x. x .reads) (c .before .before .instruction .ensures g s)) (format.named g (a .r) (a .before))) _ _ (c .loop-test .left) (c .before .loop .inv .1 g s)
+    ends (each-walk (readsOf g (a .r) (a .b) (a .i)) no-value (ap (λ x. x .reads) (c .before .before .instruction .ensures g s)) (format.named g (a .r) (a .before))) _ _ (c .loop-test .left) (c .before .loop .inv .1 g s)
 
 pub instruction-reads-right-spec : {M : Type 1} → statement M
 instruction-reads-right-spec =

@@ -3,7 +3,7 @@ use Prim.Native.Nat.{_≤_, _-_}
 use native.Mathlib.Omega.{arith}
 use lib.ListN.{length, drop}
 use borrow.Author.Needs.{needs}
-use Rattle.meaning.specs.Graph.{Graph, output}
+use Rattle.meaning.specs.Graph.{Graph, no-value}
 use Rattle.record.specs.Stands.{Stands}
 use Rattle.text.specs.Lists.{other, wrote-empty, wrote-listed, wrote-next, wrote-all}
 use Rattle.text.specs.Buffer.{Buffer, buffer, Wrote, _▸_, of-text}
@@ -65,7 +65,7 @@ loop-again c = (
     λ g s q w.
         let xs = listOf g (c .before .before .before .before .before .before .before .before .before .before .before .before .before .before .before .before .before .before .before .args .l) in
         c .before .before .before .before .before .before .before .before .before .before .loop .inv .1 .1 g s q
-        (wrote-next (other valueText) (output 0) xs (c .before .before .before .before .before .before .before .before .before .before .loop .k) (omega (arith, c .before .before .before .before .before .before .before .before .before .before .before .before .before .before .before .before .before .value-count .ensures g s))
+        (wrote-next (other valueText) no-value xs (c .before .before .before .before .before .before .before .before .before .before .loop .k) (omega (arith, c .before .before .before .before .before .before .before .before .before .before .before .before .before .before .before .before .before .value-count .ensures g s))
         (c .before .before .before .before .before .before .before .put-byte2 .ensures ▸ of-text (ap valueText (c .before .before .before .value-item2 .ensures g s)) (c .before .before .put-value2 .ensures))
         w),
   ),
@@ -79,7 +79,7 @@ unfolding values
 returns-2 c = λ g s.
     let xs = listOf g (c .before .before .before .before .before .before .before .before .before .before .args .l) in
     let size = c .before .before .before .before .before .before .before .before .value-count .ensures g s in
-    wrote-listed valueText (output 0) xs (omega arith)
+    wrote-listed valueText no-value xs (omega arith)
     (of-text (ap valueText (c .before .before .before .before .before .value-item .ensures g s)) (c .before .before .before .before .put-value .ensures))
     (c .before .loop .inv .1 .1 g s _ (wrote-all (other valueText) xs (c .before .loop .k) (omega arith)))
 

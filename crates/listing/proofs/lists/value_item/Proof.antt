@@ -1,7 +1,7 @@
 use mathlib.Core.Path.{sym, ap, _∙_}
 use lib.ListN.{getD}
 use borrow.Author.Needs.{needs}
-use Rattle.meaning.specs.Graph.{output}
+use Rattle.meaning.specs.Graph.{no-value}
 use Rattle.listing.specs.Parts.{listOf}
 use Rattle.listing.proofs.lists.value_item.Statement.{statement}
 use Rattle.listing.proofs.lists.value_item.Tie as tie
@@ -25,13 +25,13 @@ passed-requires : tie.Need-passed-requires
 passed-requires c κs = search needs
 
 returns : tie.Need-returns
-returns c = λ g s. c .value .ensures g s ∙ ap (λ l. getD (listOf g l) (c .before .before .before .before .args .k) (output 0)) (sym (c .before .before .l .given .1))
+returns c = λ g s. c .value .ensures g s ∙ ap (λ l. getD (listOf g l) (c .before .before .before .before .args .k) no-value) (sym (c .before .before .l .given .1))
 
 returns-2 : tie.Need-returns-2
-returns-2 c = λ g s. c .read .ensures g s ∙ ap (λ l. getD (listOf g l) (c .before .before .before .before .args .k) (output 0)) (sym (c .before .before .l2 .given .1))
+returns-2 c = λ g s. c .read .ensures g s ∙ ap (λ l. getD (listOf g l) (c .before .before .before .before .args .k) no-value) (sym (c .before .before .l2 .given .1))
 
 returns-3 : tie.Need-returns-3
-returns-3 c = λ g s. c .passed .ensures g s ∙ ap (λ l. getD (listOf g l) (c .before .before .before .before .args .k) (output 0)) (sym (c .before .before .l3 .given .1))
+returns-3 c = λ g s. c .passed .ensures g s ∙ ap (λ l. getD (listOf g l) (c .before .before .before .before .args .k) no-value) (sym (c .before .before .l3 .given .1))
 
 pub value-item-spec : {M : Type 1} → statement M
 value-item-spec =
