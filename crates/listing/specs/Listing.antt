@@ -25,7 +25,7 @@ valueText (output o) = labeled "n" o
 valueText (bool true) = ascii "true"
 valueText (bool false) = ascii "false"
 valueText (undef t) = labeled "undef" t
-valueText no-value = ascii "-"
+valueText no-value = labeled "n" 0  -- in no accepted record
 valueText (held r k) = ascii "i" ++ dotted r k
 
 unfoldable pub numbers : List ℕ → Text
