@@ -6,22 +6,22 @@ use native.Mathlib.Omega.{arith}
 use lib.ListN.{length, take, drop, length-append, length-drop}
 use lib.Seq.{slice, length-take-le, take-take, drop-drop, take-add, drop-at}
 use Rattle.meaning.specs.Graph.{Graph}
-use Rattle.format.specs.Store.{Answer, accepted, refused, andThen, storeWords}
-use Rattle.format.specs.Read.{readRecord}
+use Rattle.format.specs.Store.{Answer, accepted, refused, if-accepted, store-words}
+use Rattle.format.specs.Read.{read-record}
 use Rattle.format.specs.References.{references}
 use Rattle.format.specs.Accept.{accept}
-use Rattle.format.specs.ReadLaws.{clash}
+use Rattle.meaning.specs.facts.Tests.{clash}
 use Rattle.store.specs.declared.Loaded.the-variants as loaded
-use Rattle.store.specs.Loaded.{counted, heldAfter, Loads}
+use Rattle.store.specs.Loaded.{words-counted, words-after, Loads}
 use Rattle.store.proofs.Front.{Front, front}
 use Rattle.record.specs.declared.ReadAnswer.{ReadAnswer}
 use Rattle.record.specs.declared.ReadAnswer.the-variants as reading
 use Rattle.record.specs.Stands.{Stands}
-use Rattle.record.specs.Outcome.{forget, answered as read-answered}
+use Rattle.record.specs.Outcome.{forget, read-answered}
 use Rattle.accept.specs.declared.Accepted.{Accepted}
 use Rattle.accept.specs.declared.Accepted.the-variants.{Refused}
-use Rattle.accept.specs.Judged.{checkedFrom, Judged, unread, checked}
-use Rattle.accept.specs.Accepts.{answered, Accepts, AfterReading, ReadChecked}
+use Rattle.accept.specs.Judged.{checked-from, Judged, unread, checked}
+use Rattle.accept.specs.Accepts.{accept-answered, Accepts, AfterReading, ReadChecked}
 
 -- where the words behind the first n agree
 part-as-lent : (n m : ℕ) (xs ys : List ℕ) → n ≤ length xs → n ≤ length ys → drop n xs ≡ drop n ys → slice n (n + m) xs ≡ slice n (n + m) ys
@@ -34,28 +34,28 @@ part-as-lent n m xs ys h k e = part xs h ∙ ap (take m) e ∙ sym (part ys k)
 pub handed-on : {read : ReadAnswer} {ws : List ℕ} {n w : ℕ} → read ≡ reading.Refused n w → AfterReading read ws (Refused n w)
 handed-on e = record { unread = λ m v h. sym (ap read-answered e) ∙ h; whole = λ h. let same = ap read-answered e in absurd (clash (cc)) }
 
-pub by-references : {read : ReadAnswer} {ws : List ℕ} {r : Answer Unit} {a : Accepted} → read ≡ reading.Read → r ≡ answered a
+pub by-references : {read : ReadAnswer} {ws : List ℕ} {r : Answer Unit} {a : Accepted} → read ≡ reading.Read → r ≡ accept-answered a
     → ((g : Graph) → Stands ws g → r ≡ references g) → AfterReading read ws a
 by-references e same refs =
     record { unread = λ n w h. let is = ap read-answered e in absurd (clash (cc)); whole = λ h g s. sym same ∙ refs g s }
 
-pub judged-after : (ws new : List ℕ) {read : ReadAnswer} {a : Accepted} → read-answered read ≡ forget (readRecord ws)
-    → ((g : Graph) → readRecord ws ≡ accepted g → Stands new g) → AfterReading read new a → Judged ws new (answered a)
+pub judged-after : (ws new : List ℕ) {read : ReadAnswer} {a : Accepted} → read-answered read ≡ forget (read-record ws)
+    → ((g : Graph) → read-record ws ≡ accepted g → Stands new g) → AfterReading read new a → Judged ws new (accept-answered a)
 judged-after ws new {read} {a} is stands after = by-answer (read-answered read) refl
   where
-    by-answer : (r : Answer Unit) → read-answered read ≡ r → Judged ws new (answered a)
+    by-answer : (r : Answer Unit) → read-answered read ≡ r → Judged ws new (accept-answered a)
     by-answer (accepted tt) q = checked ws new stands (sym q ∙ is) (after .whole q)
     by-answer (refused n w) q = let same = after .unread n w q in rw same (unread ws new (sym q ∙ is))
 
 -- ---- after loading
-accept-is : (s : List ℕ) {r : Answer (List ℕ)} → storeWords s ≡ r → accept s ≡ andThen r checkedFrom
+accept-is : (s : List ℕ) {r : Answer (List ℕ)} → store-words s ≡ r → accept s ≡ if-accepted r checked-from
 unfolding accept
-accept-is s h = ap (λ x. andThen x checkedFrom) h
+accept-is s h = ap (λ x. if-accepted x checked-from) h
 
 pub store-refused : (s old mid : List ℕ) {n w : ℕ} → Loads s old mid (loaded.Refused n w) → Accepts s old mid (Refused n w)
-store-refused s old mid {n} {w} l = by-answer (storeWords s) refl (l .answer) (l .words)
+store-refused s old mid {n} {w} l = by-answer (store-words s) refl (l .answer) (l .words)
   where
-    by-answer : (a : Answer (List ℕ)) → storeWords s ≡ a → refused n w ≡ counted a → mid ≡ heldAfter old a → Accepts s old mid (Refused n w)
+    by-answer : (a : Answer (List ℕ)) → store-words s ≡ a → refused n w ≡ words-counted a → mid ≡ words-after old a → Accepts s old mid (Refused n w)
     by-answer (accepted ws) q e k = absurd (clash (cc))
     by-answer (refused m v) q e k =
         let whole = accept-is s q in
@@ -76,13 +76,13 @@ module _ (s old mid : List ℕ) {count : ℕ} (size : length old ≡ 32256) (l :
   held = front s old mid count l
 
   count-is : count ≡ length (take count mid)
-  count-is = let known = l .answer ∙ ap counted (held .words) in cc
+  count-is = let known = l .answer ∙ ap words-counted (held .words) in cc
 
   mid-size : length mid ≡ length old
   mid-size =
       let few = held .few in
       let all = count-is in
-      let parts : mid ≡ take count mid ++ drop (length (take count mid)) old = l .words ∙ ap (heldAfter old) (held .words) in
+      let parts : mid ≡ take count mid ++ drop (length (take count mid)) old = l .words ∙ ap (words-after old) (held .words) in
       omega (arith, ap length parts, length-append (take count mid) (drop (length (take count mid)) old), length-drop (length (take count mid)) old)
 
   mid-beyond : drop 4400 mid ≡ drop 4400 old
@@ -106,7 +106,7 @@ module _ (s old mid : List ℕ) {count : ℕ} (size : length old ≡ 32256) (l :
 
   pub record-judged : (new : List ℕ) {x : Accepted} → ReadChecked count mid new x → Accepts s old new x
   record-judged new {x} r =
-      let same : checkedFrom (take count mid) ≡ accept s = sym (accept-is s (held .words)) in
+      let same : checked-from (take count mid) ≡ accept s = sym (accept-is s (held .words)) in
       let known = held .words in
       record {
         answer = r .judged .answer ∙ ap forget same;

@@ -10,8 +10,8 @@ use lib.Dec.{eqb, ltb}
 use Rattle.meaning.specs.Graph.{Graph}
 use Rattle.format.specs.Store.{accepted, refused}
 use Rattle.format.specs.Accept.{accept}
-use Rattle.format.specs.ReadLaws.{clash}
-use Rattle.format.specs.Refusals.{refusal-range}
+use Rattle.meaning.specs.facts.Tests.{clash}
+use Rattle.format.specs.laws.Refusals.{refusal-range}
 use Rattle.accept.specs.declared.Accepted.the-variants.{Record, Refused}
 use Rattle.accept.specs.Judged.{given, not-given}
 use Rattle.accept.specs.Accepts.{Accepts}
@@ -26,8 +26,8 @@ pub record AnswerOf (s : List ℕ) (a : Answer) : Type 0 where
   pub if-accepted : (g : Graph) → accept s ≡ accepted g → OfRecord a
 
 -- The two bytes at place k of the list.
-abbrev pub isListed : Answer → List ℕ → ℕ → Bool
-isListed a answers k = ltb k (length answers / 2) && (eqb (getD answers (2 * k) 0) (a .number) && eqb (getD answers (2 * k + 1) 0) (a .word))
+abbrev pub is-listed : Answer → List ℕ → ℕ → Bool
+is-listed a answers k = ltb k (length answers / 2) && (eqb (getD answers (2 * k) 0) (a .number) && eqb (getD answers (2 * k + 1) 0) (a .word))
 
 module _ (s old new : List ℕ) (a : Answer) where
   pub of-refusal : {n w : ℕ} → Accepts s old new (Refused n w) → a .number ≡ n % 256 → a .word ≡ w % 256 → AnswerOf s a

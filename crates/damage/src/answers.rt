@@ -1,6 +1,6 @@
 // Answers in two bytes each: a refusal's number and its word; 0 and the sum of its text's bytes, by 256, for a record.
 ghost use mathlib.Core.Path.{_≡_};
-ghost use Rattle.damage.specs.Answers.{OfRecord, AnswerOf, isListed};
+ghost use Rattle.damage.specs.Answers.{OfRecord, AnswerOf, is-listed};
 use accept::Accepted;
 use store::WORDS;
 use text::Written;
@@ -56,7 +56,7 @@ pub fn answer_of(bytes: &[u8], words: &mut [u16; WORDS], out: &mut [u8]) -> Answ
             word: (word % 256) as u8,
         },
         Accepted::Record => {
-            let written = listing::list(words, out);
+            let written = record_text::list(words, out);
             listed(written, out)
         }
     }
@@ -64,7 +64,7 @@ pub fn answer_of(bytes: &[u8], words: &mut [u16; WORDS], out: &mut [u8]) -> Answ
 
 // Whether an answer is the one at place k of the list.
 pub fn is_listed(a: Answer, answers: &[u8], k: usize) -> bool
-    ensures { λ r. ⌜ r ≡ isListed a (now (answers .entry)) k ⌝ }
+    ensures { λ r. ⌜ r ≡ is-listed a (now (answers .entry)) k ⌝ }
 {
     if k >= answers.len() / 2 {
         return false;

@@ -10,12 +10,12 @@ use lib.Seq.{getD-take}
 use lib.Dec.{ltb}
 use borrow.Author.Tests.{lt-ltb, ltb-true, ltb-false}
 use Rattle.meaning.specs.Graph.{Value, no-value, pick}
-use Rattle.format.specs.Read.{got, Reader, follow, many, counted, word, type, value}
-use Rattle.format.specs.ReadLaws.{part}
+use Rattle.format.specs.Read.{got, Reader, read-then, many, counted, word, type, read-value}
+use Rattle.format.specs.laws.Readers.{part}
 use Rattle.record.specs.Parts.{word-parts, within-parts, counted-parts}
 use Rattle.record.specs.PartsWithin.{ValueParts, value-parts}
-use Rattle.record.specs.Stands.{recordWords}
-use Rattle.fields.specs.Words.{placed, valueAt, wordItem, valueItem, behindWords, behindValues}
+use Rattle.record.specs.Stands.{words-of-record}
+use Rattle.fields.specs.Words.{placed, value-at, word-item, value-item, behind-words, behind-values}
 
 -- A reader of items of one width, by what stands at their places.
 pub record Fixed {A : Type 0} (read : Reader A) (ws : List ℕ) (width : ℕ) (item : ℕ → A) : Type 0 where
@@ -32,13 +32,13 @@ module _ {A : Type 0} (read : Reader A) (ws : List ℕ) (width : ℕ) (item : �
   unfolding many
   many-items zero at h d k l = absurd (omega arith)
   many-items (suc n) at {xs} {e} h d zero l =
-      let a = part (read ws at) (λ x i. follow (many n read ws i) λ ys j. got (x ∷ ys) j) xs e h in
+      let a = part (read ws at) (λ x i. read-then (many n read ws i) λ ys j. got (x ∷ ys) j) xs e h in
       let b = part (many n read ws (a .place)) (λ ys j. got (a .value ∷ ys) j) xs e (a .second) in
       let same : xs ≡ a .value ∷ b .value = cc in
       let here : at ≡ at + width * 0 = omega arith in
       ap (λ l. getD l 0 d) same ∙ f .is at (a .first) ∙ ap item here
   many-items (suc n) at {xs} {e} h d (suc k) l =
-      let a = part (read ws at) (λ x i. follow (many n read ws i) λ ys j. got (x ∷ ys) j) xs e h in
+      let a = part (read ws at) (λ x i. read-then (many n read ws i) λ ys j. got (x ∷ ys) j) xs e h in
       let b = part (many n read ws (a .place)) (λ ys j. got (a .value ∷ ys) j) xs e (a .second) in
       let same : xs ≡ a .value ∷ b .value = cc in
       let there : a .place + width * k ≡ at + width * suc k = omega (arith, f .end at (a .first)) in
@@ -48,7 +48,7 @@ module _ {A : Type 0} (read : Reader A) (ws : List ℕ) (width : ℕ) (item : �
   unfolding many
   many-width zero at {e = e} h = let same : at ≡ e = cc in omega arith
   many-width (suc n) at {xs} {e} h =
-      let a = part (read ws at) (λ x i. follow (many n read ws i) λ ys j. got (x ∷ ys) j) xs e h in
+      let a = part (read ws at) (λ x i. read-then (many n read ws i) λ ys j. got (x ∷ ys) j) xs e h in
       let b = part (many n read ws (a .place)) (λ ys j. got (a .value ∷ ys) j) xs e (a .second) in
       let same : b .place ≡ e = cc in
       omega (arith, f .end at (a .first), many-width n (a .place) (b .first))
@@ -61,29 +61,29 @@ pub record ReadAt {A : Type 0} (w ws : List ℕ) (width : ℕ) (item : ℕ → A
 
 -- The record's words are the words in front.
 module _ (w : List ℕ) where
-  pub front : (i : ℕ) → i < length (recordWords w) → getD (recordWords w) i 0 ≡ getD w i 0
+  pub front : (i : ℕ) → i < length (words-of-record w) → getD (words-of-record w) i 0 ≡ getD w i 0
   front i l = getD-take (getD w 0 0) w i 0 (omega (arith, length-take (getD w 0 0) w))
 
-  pub word-fixed : Fixed word (recordWords w) 1 (λ at. getD w at 0)
+  pub word-fixed : Fixed word (words-of-record w) 1 (λ at. getD w at 0)
   word-fixed =
       record {
-        is = λ at h. let a = word-parts (recordWords w) at h in a .is ∙ front at (a .inside);
-        end = λ at h. word-parts (recordWords w) at h .end;
+        is = λ at h. let a = word-parts (words-of-record w) at h in a .is ∙ front at (a .inside);
+        end = λ at h. word-parts (words-of-record w) at h .end;
       }
 
-  pub type-fixed : Fixed type (recordWords w) 1 (λ at. getD w at 0)
+  pub type-fixed : Fixed type (words-of-record w) 1 (λ at. getD w at 0)
   unfolding type
   type-fixed =
       record {
-        is = λ at h. let a = within-parts 1 255 (recordWords w) at h in a .is ∙ front at (a .inside);
-        end = λ at h. within-parts 1 255 (recordWords w) at h .end;
+        is = λ at h. let a = within-parts 1 255 (words-of-record w) at h in a .is ∙ front at (a .inside);
+        end = λ at h. within-parts 1 255 (words-of-record w) at h .end;
       }
 
-  pub value-fixed : Fixed value (recordWords w) 3 (valueAt w)
-  unfolding valueAt
-  value-fixed = record { is = λ at h. is at (value-parts (recordWords w) at h); end = λ at h. value-parts (recordWords w) at h .end }
+  pub value-fixed : Fixed read-value (words-of-record w) 3 (value-at w)
+  unfolding value-at
+  value-fixed = record { is = λ at h. is at (value-parts (words-of-record w) at h); end = λ at h. value-parts (words-of-record w) at h .end }
     where
-      is : (at : ℕ) {v : Value} {e : ℕ} → ValueParts (recordWords w) at v e → v ≡ valueAt w at
+      is : (at : ℕ) {v : Value} {e : ℕ} → ValueParts (words-of-record w) at v e → v ≡ value-at w at
       is at a =
           let i = a .inside in
           let first = front at (omega arith) in
@@ -91,12 +91,12 @@ module _ (w : List ℕ) where
           let third = front (at + 2) (omega arith) in
           a .is ∙ rw (first, second, third)
 
-  pub counted-at : {A : Type 0} (read : Reader A) (width : ℕ) (item : ℕ → A) → Fixed read (recordWords w) width item → (low high p : ℕ) {xs : List A} {e : ℕ} → counted low high read (recordWords w) p ≡ got xs e → ReadAt w (recordWords w) width item p xs e
+  pub counted-at : {A : Type 0} (read : Reader A) (width : ℕ) (item : ℕ → A) → Fixed read (words-of-record w) width item → (low high p : ℕ) {xs : List A} {e : ℕ} → counted low high read (words-of-record w) p ≡ got xs e → ReadAt w (words-of-record w) width item p xs e
   counted-at read width item f low high p {xs} h =
-      let a = counted-parts low high read (recordWords w) p h in
+      let a = counted-parts low high read (words-of-record w) p h in
       record {
-        list = record { count = sym (front p (a .inside)) ∙ a .count; items = many-items read (recordWords w) width item f (length xs) (p + 1) (a .items) };
-        end = many-width read (recordWords w) width item f (length xs) (p + 1) (a .items);
+        list = record { count = sym (front p (a .inside)) ∙ a .count; items = many-items read (words-of-record w) width item f (length xs) (p + 1) (a .items) };
+        end = many-width read (words-of-record w) width item f (length xs) (p + 1) (a .items);
         inside = a .inside;
       }
 
@@ -109,13 +109,13 @@ item-of w width item {p} {xs} l d k = by-test (ltb k (length xs)) refl
     by-test false q = let above = ltb-false k (length xs) q in rw (l .count, q, List·getD-eq-default xs d above)
 
 module _ (w : List ℕ) {p : ℕ} where
-  pub word-item : {xs : List ℕ} → ListAt w 1 (λ at. getD w at 0) p xs → (k : ℕ) → wordItem w p k ≡ getD xs k 0
-  unfolding wordItem
-  word-item l k = rw (one-mul k) at (item-of w 1 (λ at. getD w at 0) l 0 k)
+  pub word-item-is : {xs : List ℕ} → ListAt w 1 (λ at. getD w at 0) p xs → (k : ℕ) → word-item w p k ≡ getD xs k 0
+  unfolding word-item
+  word-item-is l k = rw (one-mul k) at (item-of w 1 (λ at. getD w at 0) l 0 k)
 
-  pub value-item : {xs : List Value} → ListAt w 3 (valueAt w) p xs → (k : ℕ) → valueItem w p k ≡ getD xs k no-value
-  unfolding valueItem
-  value-item l k = item-of w 3 (valueAt w) l no-value k
+  pub value-item-is : {xs : List Value} → ListAt w 3 (value-at w) p xs → (k : ℕ) → value-item w p k ≡ getD xs k no-value
+  unfolding value-item
+  value-item-is l k = item-of w 3 (value-at w) l no-value k
 
 -- A list that is not there has no items.
 pub no-list : {A : Type 0} (w : List ℕ) (width : ℕ) (item : ℕ → A) (p : ℕ) → length w ≤ p → ListAt w width item p []
@@ -127,10 +127,10 @@ unfolding placed
 placed-small p l = rw (lt-ltb p 32256 l)
 
 module _ {A : Type 0} {w ws : List ℕ} {item : ℕ → A} {p : ℕ} {xs : List A} {e : ℕ} where
-  pub behind-words : ReadAt w ws 1 item p xs e → e < 32256 → behindWords w p ≡ e
-  unfolding behindWords
-  behind-words a l = let there : p + 1 + getD w p 0 ≡ e = omega (arith, a .end, a .list .count) in ap placed there ∙ placed-small e l
+  pub behind-words-is : ReadAt w ws 1 item p xs e → e < 32256 → behind-words w p ≡ e
+  unfolding behind-words
+  behind-words-is a l = let there : p + 1 + getD w p 0 ≡ e = omega (arith, a .end, a .list .count) in ap placed there ∙ placed-small e l
 
-  pub behind-values : ReadAt w ws 3 item p xs e → e < 32256 → behindValues w p ≡ e
-  unfolding behindValues
-  behind-values a l = let there : p + 1 + 3 * getD w p 0 ≡ e = omega (arith, a .end, a .list .count) in ap placed there ∙ placed-small e l
+  pub behind-values-is : ReadAt w ws 3 item p xs e → e < 32256 → behind-values w p ≡ e
+  unfolding behind-values
+  behind-values-is a l = let there : p + 1 + 3 * getD w p 0 ≡ e = omega (arith, a .end, a .list .count) in ap placed there ∙ placed-small e l

@@ -10,21 +10,21 @@ use lib.Dec.{ltb}
 use borrow.Author.Tests.{lt-ltb, le-ltb, ltb-true, ltb-false}
 use Rattle.meaning.specs.Graph.{Graph, Region, nowhere, region, pick}
 use Rattle.format.specs.Read.{type, word}
-use Rattle.format.specs.Places.{startOf, blocksOf, blockOf, limitOf, exitsOf}
+use Rattle.format.specs.Places.{start-of-region, blocks-of-region, block-of-region, limit-of-region, exits-of-region}
 use Rattle.record.specs.Parts.{within-parts, counted-parts, RegionParts, region-parts, record-parts}
 use Rattle.record.specs.PartsWithin.{HeadParts, head-parts}
-use Rattle.record.specs.Stands.{recordWords, indexAt, Stands}
-use Rattle.fields.specs.Words.{placed, behindWords, behindValues, indexed, blocksPlace}
-use Rattle.fields.specs.Lists.{ListAt, front, word-fixed, type-fixed, counted-at, no-list, behind-words}
+use Rattle.record.specs.Stands.{words-of-record, index-at, Stands}
+use Rattle.fields.specs.Words.{placed, behind-words, behind-values, indexed, blocks-place}
+use Rattle.fields.specs.Lists.{ListAt, front, word-fixed, type-fixed, counted-at, no-list, behind-words-is}
 
 -- A region of the record: its places in the index, and its parts there.
 pub record Known (w : List ℕ) (g : Graph) (r : ℕ) : Type 0 where
   pub below : r < length (g .regions)
-  pub start : indexed w r 0 ≡ startOf (recordWords w) r
-  pub limit : indexed w r 1 ≡ limitOf (recordWords w) (startOf (recordWords w) r)
-  pub exits : indexed w r 2 ≡ exitsOf (recordWords w) (startOf (recordWords w) r)
-  pub block : (b : ℕ) → b < length (region g r .blocks) → indexed w r (3 + b) ≡ blockOf (recordWords w) (startOf (recordWords w) r) b
-  pub parts : RegionParts (recordWords w) (startOf (recordWords w) r) (region g r) (startOf (recordWords w) (suc r))
+  pub start : indexed w r 0 ≡ start-of-region (words-of-record w) r
+  pub limit : indexed w r 1 ≡ limit-of-region (words-of-record w) (start-of-region (words-of-record w) r)
+  pub exits : indexed w r 2 ≡ exits-of-region (words-of-record w) (start-of-region (words-of-record w) r)
+  pub block : (b : ℕ) → b < length (region g r .blocks) → indexed w r (3 + b) ≡ block-of-region (words-of-record w) (start-of-region (words-of-record w) r) b
+  pub parts : RegionParts (words-of-record w) (start-of-region (words-of-record w) r) (region g r) (start-of-region (words-of-record w) (suc r))
 
 -- A number that names no region.
 pub record Beyond (w : List ℕ) (g : Graph) (r : ℕ) : Type 0 where
@@ -34,7 +34,7 @@ pub record Beyond (w : List ℕ) (g : Graph) (r : ℕ) : Type 0 where
 
 module _ {w : List ℕ} {g : Graph} (s : Stands w g) where
   -- a place of the record
-  pub small : {p : ℕ} → p < length (recordWords w) → p < 4048
+  pub small : {p : ℕ} → p < length (words-of-record w) → p < 4048
   small l = omega (arith, length-take (getD w 0 0) w, s .fits)
 
   pub beyond-words : {p : ℕ} → 32256 ≤ p → length w ≤ p
@@ -44,16 +44,16 @@ module _ {w : List ℕ} {g : Graph} (s : Stands w g) where
   no-word l = List·getD-eq-default w 0 (omega (arith, s .size))
 
   -- behind a list that is not there
-  pub beyond-behind : behindWords w 65535 ≡ 65535
-  unfolding behindWords behindValues placed
+  pub beyond-behind : behind-words w 65535 ≡ 65535
+  unfolding behind-words behind-values placed
   beyond-behind = rw (no-word {p = 65535} (omega arith))
 
-  pub beyond-values : behindValues w 65535 ≡ 65535
-  unfolding behindWords behindValues placed
+  pub beyond-values : behind-values w 65535 ≡ 65535
+  unfolding behind-words behind-values placed
   beyond-values = rw (no-word {p = 65535} (omega arith))
 
-  pub head-at : HeadParts (recordWords w) (record { count = length (g .regions); entry = g .entry; test-cost = g .test-cost; constants = g .constants }) (startOf (recordWords w) 0)
-  head-at = head-parts (recordWords w) (record-parts (recordWords w) (s .reads) .head)
+  pub head-at : HeadParts (words-of-record w) (record { count = length (g .regions); entry = g .entry; test-cost = g .test-cost; constants = g .constants }) (start-of-region (words-of-record w) 0)
+  head-at = head-parts (words-of-record w) (record-parts (words-of-record w) (s .reads) .head)
 
   pub region-count : getD w 1 0 ≡ length (g .regions)
   region-count = let h = head-at in sym (h .count ∙ front w 1 (omega (arith, h .inside)))
@@ -74,14 +74,14 @@ module _ {w : List ℕ} {g : Graph} (s : Stands w g) where
         let i = s .index r l in
         record {
           below = l;
-          start = at 0 (indexAt r) _ (omega arith) (i .start);
-          limit = at 1 (indexAt r + 1) _ refl (i .limit);
-          exits = at 2 (indexAt r + 2) _ refl (i .exits);
-          block = λ b below. at (3 + b) (indexAt r + 3 + b) _ (omega arith) (i .block b below);
-          parts = region-parts (recordWords w) (startOf (recordWords w) r) (record-parts (recordWords w) (s .reads) .region r l);
+          start = at 0 (index-at r) _ (omega arith) (i .start);
+          limit = at 1 (index-at r + 1) _ refl (i .limit);
+          exits = at 2 (index-at r + 2) _ refl (i .exits);
+          block = λ b below. at (3 + b) (index-at r + 3 + b) _ (omega arith) (i .block b below);
+          parts = region-parts (words-of-record w) (start-of-region (words-of-record w) r) (record-parts (words-of-record w) (s .reads) .region r l);
         }
       where
-        at : (i j p : ℕ) → indexAt r + i ≡ j → getD w j 0 ≡ p → indexed w r i ≡ p
+        at : (i j p : ℕ) → index-at r + i ≡ j → getD w j 0 ≡ p → indexed w r i ≡ p
         at i j p same h = rw (region-count, lt-ltb r (length (g .regions)) l) (ap (λ n. getD w n 0) same ∙ h)
 
     beyond : length (g .regions) ≤ r → Beyond w g r
@@ -118,7 +118,7 @@ module _ {w : List ℕ} {g : Graph} (s : Stands w g) where
       where
         here : Known w g r → pick (ltb r (getD w 1 0)) (getD w (indexed w r 1) 0) 1 ≡ region g r .limit
         here k =
-            let a = within-parts 1 65535 (recordWords w) _ (k .parts .limit) in
+            let a = within-parts 1 65535 (words-of-record w) _ (k .parts .limit) in
             let found = sym (a .is ∙ front w _ (a .inside)) in
             let test : ltb r (getD w 1 0) ≡ true = ap (ltb r) region-count ∙ lt-ltb r _ (k .below) in
             ap (λ t. pick t (getD w (indexed w r 1) 0) 1) test ∙ ap (λ p. getD w p 0) (k .limit) ∙ found
@@ -129,22 +129,22 @@ module _ {w : List ℕ} {g : Graph} (s : Stands w g) where
             ap (λ t. pick t (getD w (indexed w r 1) 0) 1) test ∙ ap (λ x. x .limit) (sym (k .none))
 
     -- the place of the block count
-    pub blocks-place : Known w g r → blocksPlace w r ≡ blocksOf (recordWords w) (startOf (recordWords w) r)
-    unfolding blocksPlace
-    blocks-place k =
+    pub blocks-place-is : Known w g r → blocks-place w r ≡ blocks-of-region (words-of-record w) (start-of-region (words-of-record w) r)
+    unfolding blocks-place
+    blocks-place-is k =
         let a = counted-at w type 1 _ (type-fixed w) 0 4 _ (k .parts .inputs) in
-        let b = counted-parts 0 8 _ (recordWords w) _ (k .parts .blocks) in
-        ap (behindWords w) (k .start) ∙ behind-words a (omega (arith, small (b .inside)))
+        let b = counted-parts 0 8 _ (words-of-record w) _ (k .parts .blocks) in
+        ap (behind-words w) (k .start) ∙ behind-words-is a (omega (arith, small (b .inside)))
 
-    pub block-count : getD w (blocksPlace w r) 0 ≡ length (region g r .blocks)
-    unfolding blocksPlace
-    block-count = ⊎-elim here there region-case
+    pub block-count-is : getD w (blocks-place w r) 0 ≡ length (region g r .blocks)
+    unfolding blocks-place
+    block-count-is = ⊎-elim here there region-case
       where
-        here : Known w g r → getD w (blocksPlace w r) 0 ≡ length (region g r .blocks)
+        here : Known w g r → getD w (blocks-place w r) 0 ≡ length (region g r .blocks)
         here k =
-            let b = counted-parts 0 8 _ (recordWords w) _ (k .parts .blocks) in
-            ap (λ p. getD w p 0) (blocks-place k) ∙ sym (front w _ (b .inside)) ∙ b .count
+            let b = counted-parts 0 8 _ (words-of-record w) _ (k .parts .blocks) in
+            ap (λ p. getD w p 0) (blocks-place-is k) ∙ sym (front w _ (b .inside)) ∙ b .count
 
-        there : Beyond w g r → getD w (blocksPlace w r) 0 ≡ length (region g r .blocks)
+        there : Beyond w g r → getD w (blocks-place w r) 0 ≡ length (region g r .blocks)
         there k =
-            ap (λ p. getD w (behindWords w p) 0) (k .index 0) ∙ ap (λ p. getD w p 0) beyond-behind ∙ no-word (omega arith) ∙ ap (λ x. length (x .blocks)) (sym (k .none))
+            ap (λ p. getD w (behind-words w p) 0) (k .index 0) ∙ ap (λ p. getD w p 0) beyond-behind ∙ no-word (omega arith) ∙ ap (λ x. length (x .blocks)) (sym (k .none))

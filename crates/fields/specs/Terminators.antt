@@ -7,18 +7,18 @@ use Prim.Native.Nat.{ℕ, zero, suc, _+_, _≤_, _<_}
 use native.Mathlib.Omega.{arith}
 use lib.ListN.{length, getD, length-map}
 use lib.Dec.{eqb}
-use Rattle.meaning.specs.Graph.{Graph, Value, Edge, ControlInst, region, edgesOf, pick}
-use Rattle.format.specs.Read.{got, word, value, fewestValues, mostValues, fewestTargets, mostTargets, opcodeFor, edgesFrom, noEdge, controlInst}
-use Rattle.format.specs.References.{valuesOf}
-use Rattle.format.specs.Places.{startOf, limitOf, exitsOf}
-use Rattle.format.specs.ReadLaws.{got-value, got-place}
+use Rattle.meaning.specs.Graph.{Graph, Value, Edge, ControlInst, region, edges-of, pick}
+use Rattle.format.specs.Read.{got, word, read-value, fewest-values, most-values, fewest-targets, most-targets, opcode-for, edges-passed, no-edge, control-inst}
+use Rattle.format.specs.References.{values-of}
+use Rattle.format.specs.Places.{start-of-region, limit-of-region, exits-of-region}
+use Rattle.format.specs.laws.Readers.{got-value, got-place}
 use Rattle.record.specs.Parts.{word-parts, counted-parts, CountedParts}
 use Rattle.record.specs.PartsWithin.{TerminatorParts, terminator-parts}
-use Rattle.record.specs.Stands.{recordWords, Stands}
+use Rattle.record.specs.Stands.{words-of-record, Stands}
 use Rattle.fields.specs.declared.shape.Terminator.{Terminator}
-use Rattle.fields.specs.Shape.{kindIs, opcodeIs, terminatorIs}
-use Rattle.fields.specs.Words.{placed, valueAt, behindValues, indexed, valuesPlace, targetsPlace}
-use Rattle.fields.specs.Lists.{ListAt, ReadAt, front, word-fixed, value-fixed, counted-at, no-list, placed-small, behind-values}
+use Rattle.fields.specs.Shape.{kind-is, opcode-is, terminator-is}
+use Rattle.fields.specs.Words.{placed, value-at, behind-values, indexed, values-place, targets-place}
+use Rattle.fields.specs.Lists.{ListAt, ReadAt, front, word-fixed, value-fixed, counted-at, no-list, placed-small, behind-values-is}
 use Rattle.fields.specs.Regions.{Known, Beyond, small, beyond-words, no-word, beyond-values, region-case}
 
 -- A list by its bounds.
@@ -32,7 +32,7 @@ single d (x ∷ []) l h = refl
 single d (x ∷ y ∷ xs) l h = absurd (omega arith)
 
 -- A terminator has the values and the edges that it was made from, in the numbers that its kind allows.
-pub control-values : (k op : ℕ) (vs : List Value) (es : List Edge) → k ≤ 5 → fewestValues k ≤ length vs → length vs ≤ mostValues k → valuesOf (controlInst k op vs es) ≡ vs
+pub control-values : (k op : ℕ) (vs : List Value) (es : List Edge) → k ≤ 5 → fewest-values k ≤ length vs → length vs ≤ most-values k → values-of (control-inst k op vs es) ≡ vs
 control-values zero op vs es b l h = empty vs h
 control-values (suc zero) op vs es b l h = refl
 control-values (suc (suc zero)) op vs es b l h = refl
@@ -41,11 +41,11 @@ control-values (suc (suc (suc (suc zero)))) op vs es b l h = single _ vs l h
 control-values (suc (suc (suc (suc (suc zero))))) op vs es b l h = single _ vs l h
 control-values (suc (suc (suc (suc (suc (suc k)))))) op vs es b l h = absurd (omega arith)
 
-pub control-edges : (k op : ℕ) (vs : List Value) (es : List Edge) → k ≤ 5 → fewestTargets k ≤ length es → length es ≤ mostTargets k → edgesOf (controlInst k op vs es) ≡ es
+pub control-edges : (k op : ℕ) (vs : List Value) (es : List Edge) → k ≤ 5 → fewest-targets k ≤ length es → length es ≤ most-targets k → edges-of (control-inst k op vs es) ≡ es
 control-edges zero op vs es b l h = empty es h
 control-edges (suc zero) op vs es b l h = empty es h
 control-edges (suc (suc zero)) op vs es b l h = empty es h
-control-edges (suc (suc (suc zero))) op vs es b l h = single noEdge es l h
+control-edges (suc (suc (suc zero))) op vs es b l h = single no-edge es l h
 control-edges (suc (suc (suc (suc zero)))) op vs es b l h = refl
 control-edges (suc (suc (suc (suc (suc zero))))) op vs es b l h = refl
 control-edges (suc (suc (suc (suc (suc (suc k)))))) op vs es b l h = absurd (omega arith)
@@ -55,56 +55,56 @@ pub record OpcodeParts (w : List ℕ) (k at op e : ℕ) : Type 0 where
   pub is : op ≡ pick (eqb k 2) (getD w at 0) 0
   pub end : e ≡ pick (eqb k 2) (at + 1) at
 
-pub opcode-parts : (w : List ℕ) (k at : ℕ) {op e : ℕ} → opcodeFor k (recordWords w) at ≡ got op e → OpcodeParts w k at op e
-unfolding opcodeFor
+pub opcode-parts : (w : List ℕ) (k at : ℕ) {op e : ℕ} → opcode-for k (words-of-record w) at ≡ got op e → OpcodeParts w k at op e
+unfolding opcode-for
 opcode-parts w k at {op} {e} h = by-test (eqb k 2) refl h
   where
-    by-test : (t : Bool) → eqb k 2 ≡ t → elim t [ true ↦ word (recordWords w) at | false ↦ got 0 at ] ≡ got op e → OpcodeParts w k at op e
-    by-test true q p = let a = word-parts (recordWords w) at p in record { is = rw q (a .is ∙ front w at (a .inside)); end = rw q (a .end) }
+    by-test : (t : Bool) → eqb k 2 ≡ t → elim t [ true ↦ word (words-of-record w) at | false ↦ got 0 at ] ≡ got op e → OpcodeParts w k at op e
+    by-test true q p = let a = word-parts (words-of-record w) at p in record { is = rw q (a .is ∙ front w at (a .inside)); end = rw q (a .end) }
     by-test false q p = record { is = rw q (sym (got-value p)); end = rw q (sym (got-place p)) }
 
 -- A terminator's parts, and where the words lead to them.
 pub record KnownTerminator (w : List ℕ) (r : ℕ) (x : ControlInst) (at e : ℕ) : Type 0 where
-  pub parts : TerminatorParts (recordWords w) at x e
-  pub kind-is : getD w (indexed w r 1 + 1) 0 ≡ parts .k
-  pub opcode-is : pick (eqb (parts .k) 2) (getD w (indexed w r 1 + 2) 0) 0 ≡ parts .op
-  pub values-place : valuesPlace w r ≡ parts .values-at
-  pub targets-place : targetsPlace w r ≡ parts .targets-at
-  pub values-is : valuesOf x ≡ parts .vs
-  pub edges-is : edgesOf x ≡ edgesFrom (parts .ts) (parts .passes)
+  pub parts : TerminatorParts (words-of-record w) at x e
+  pub kind-word : getD w (indexed w r 1 + 1) 0 ≡ parts .k
+  pub opcode-word : pick (eqb (parts .k) 2) (getD w (indexed w r 1 + 2) 0) 0 ≡ parts .op
+  pub values-place-is : values-place w r ≡ parts .values-at
+  pub targets-place-is : targets-place w r ≡ parts .targets-at
+  pub values-is : values-of x ≡ parts .vs
+  pub edges-is : edges-of x ≡ edges-passed (parts .ts) (parts .passes)
 
-pub edges-length : (ts : List ℕ) (passes : List (List Value)) → length (edgesFrom ts passes) ≡ length ts
-unfolding edgesFrom
+pub edges-length : (ts : List ℕ) (passes : List (List Value)) → length (edges-passed ts passes) ≡ length ts
+unfolding edges-passed
 edges-length ts passes = length-map ts _
 
 module _ {w : List ℕ} {g : Graph} (s : Stands w g) where
   -- the list at a place that the words lead to
-  pub known-terminator : (r at e : ℕ) {x : ControlInst} → indexed w r 1 + 1 ≡ at → TerminatorParts (recordWords w) at x e → KnownTerminator w r x at e
-  unfolding valuesPlace targetsPlace
+  pub known-terminator : (r at e : ℕ) {x : ControlInst} → indexed w r 1 + 1 ≡ at → TerminatorParts (words-of-record w) at x e → KnownTerminator w r x at e
+  unfolding values-place targets-place
   known-terminator r at e {x} here t =
       record {
         parts = t;
-        kind-is = kind;
-        opcode-is = ap (λ p. pick (eqb (t .k) 2) (getD w p 0) 0) opcode-at ∙ sym (o .is);
-        values-place = values-at;
-        targets-place = ap (behindValues w) values-at ∙ behind-values va (omega (arith, small s (ta .inside)));
-        values-is = ap valuesOf (t .is) ∙ control-values (t .k) (t .op) (t .vs) (edgesFrom (t .ts) (t .passes)) (t .kind .high-bound) (vp .low-bound) (vp .high-bound);
-        edges-is = ap edgesOf (t .is) ∙ control-edges (t .k) (t .op) (t .vs) (edgesFrom (t .ts) (t .passes)) (t .kind .high-bound) (omega (arith, tp .low-bound, size)) (omega (arith, tp .high-bound, size));
+        kind-word = kind;
+        opcode-word = ap (λ p. pick (eqb (t .k) 2) (getD w p 0) 0) opcode-at ∙ sym (o .is);
+        values-place-is = values-at;
+        targets-place-is = ap (behind-values w) values-at ∙ behind-values-is va (omega (arith, small s (ta .inside)));
+        values-is = ap values-of (t .is) ∙ control-values (t .k) (t .op) (t .vs) (edges-passed (t .ts) (t .passes)) (t .kind .high-bound) (vp .low-bound) (vp .high-bound);
+        edges-is = ap edges-of (t .is) ∙ control-edges (t .k) (t .op) (t .vs) (edges-passed (t .ts) (t .passes)) (t .kind .high-bound) (omega (arith, tp .low-bound, size)) (omega (arith, tp .high-bound, size));
       }
     where
-      va : ReadAt w (recordWords w) 3 (valueAt w) (t .values-at) (t .vs) (t .targets-at)
-      va = counted-at w value 3 _ (value-fixed w) _ _ (t .values-at) (t .values)
+      va : ReadAt w (words-of-record w) 3 (value-at w) (t .values-at) (t .vs) (t .targets-at)
+      va = counted-at w read-value 3 _ (value-fixed w) _ _ (t .values-at) (t .values)
 
-      ta : ReadAt w (recordWords w) 1 (λ at. getD w at 0) (t .targets-at) (t .ts) (t .passes-at)
+      ta : ReadAt w (words-of-record w) 1 (λ at. getD w at 0) (t .targets-at) (t .ts) (t .passes-at)
       ta = counted-at w word 1 _ (word-fixed w) _ _ (t .targets-at) (t .targets)
 
-      vp : CountedParts (fewestValues (t .k)) (mostValues (t .k)) value (recordWords w) (t .values-at) (t .vs) (t .targets-at)
-      vp = counted-parts _ _ value (recordWords w) (t .values-at) (t .values)
+      vp : CountedParts (fewest-values (t .k)) (most-values (t .k)) read-value (words-of-record w) (t .values-at) (t .vs) (t .targets-at)
+      vp = counted-parts _ _ read-value (words-of-record w) (t .values-at) (t .values)
 
-      tp : CountedParts (fewestTargets (t .k)) (mostTargets (t .k)) word (recordWords w) (t .targets-at) (t .ts) (t .passes-at)
-      tp = counted-parts _ _ word (recordWords w) (t .targets-at) (t .targets)
+      tp : CountedParts (fewest-targets (t .k)) (most-targets (t .k)) word (words-of-record w) (t .targets-at) (t .ts) (t .passes-at)
+      tp = counted-parts _ _ word (words-of-record w) (t .targets-at) (t .targets)
 
-      size : length (edgesFrom (t .ts) (t .passes)) ≡ length (t .ts)
+      size : length (edges-passed (t .ts) (t .passes)) ≡ length (t .ts)
       size = edges-length (t .ts) (t .passes)
 
       o : OpcodeParts w (t .k) (at + 1) (t .op) (t .values-at)
@@ -120,64 +120,64 @@ module _ {w : List ℕ} {g : Graph} (s : Stands w g) where
       by-kind true e q l = let same : indexed w r 1 + 3 ≡ e = omega arith in ap placed same ∙ placed-small e (omega arith)
       by-kind false e q l = let same : indexed w r 1 + 2 ≡ e = omega arith in ap placed same ∙ placed-small e (omega arith)
 
-      values-at : valuesPlace w r ≡ t .values-at
+      values-at : values-place w r ≡ t .values-at
       values-at = ap (λ k. pick (eqb k 2) (placed (indexed w r 1 + 3)) (placed (indexed w r 1 + 2))) kind ∙ by-kind (eqb (t .k) 2) (t .values-at) (o .end) (small s (va .inside))
 
   module _ (r : ℕ) where
-    pub known-end : Known w g r → KnownTerminator w r (region g r .terminator) (limitOf (recordWords w) (startOf (recordWords w) r) + 1) (exitsOf (recordWords w) (startOf (recordWords w) r))
-    known-end k = known-terminator r _ _ (ap (λ p. p + 1) (k .limit)) (terminator-parts (recordWords w) _ (k .parts .terminator))
+    pub known-end : Known w g r → KnownTerminator w r (region g r .terminator) (limit-of-region (words-of-record w) (start-of-region (words-of-record w) r) + 1) (exits-of-region (words-of-record w) (start-of-region (words-of-record w) r))
+    known-end k = known-terminator r _ _ (ap (λ p. p + 1) (k .limit)) (terminator-parts (words-of-record w) _ (k .parts .terminator))
 
     -- The places of a region that is not there.
-    pub no-values : Beyond w g r → valuesPlace w r ≡ 65535
-    unfolding valuesPlace placed
+    pub no-values : Beyond w g r → values-place w r ≡ 65535
+    unfolding values-place placed
     no-values k = rw (k .index 1, no-word s {p = 65536} (omega arith))
 
-    pub no-targets : Beyond w g r → targetsPlace w r ≡ 65535
-    unfolding targetsPlace
-    no-targets k = ap (behindValues w) (no-values k) ∙ beyond-values s
+    pub no-targets : Beyond w g r → targets-place w r ≡ 65535
+    unfolding targets-place
+    no-targets k = ap (behind-values w) (no-values k) ∙ beyond-values s
 
     pub kind-bound : getD w (indexed w r 1 + 1) 0 ≤ 5
     kind-bound =
         ⊎-elim
-        (λ k. let t = known-end k in omega (arith, t .kind-is, t .parts .kind .high-bound))
+        (λ k. let t = known-end k in omega (arith, t .kind-word, t .parts .kind .high-bound))
         (λ k. let none : getD w (indexed w r 1 + 1) 0 ≡ 0 = ap (λ p. getD w (p + 1) 0) (k .index 1) ∙ no-word s (omega arith) in omega arith)
         (region-case s r)
 
-    pub values-at : ListAt w 3 (valueAt w) (valuesPlace w r) (valuesOf (region g r .terminator))
+    pub values-at : ListAt w 3 (value-at w) (values-place w r) (values-of (region g r .terminator))
     values-at = ⊎-elim here there (region-case s r)
       where
-        here : Known w g r → ListAt w 3 (valueAt w) (valuesPlace w r) (valuesOf (region g r .terminator))
+        here : Known w g r → ListAt w 3 (value-at w) (values-place w r) (values-of (region g r .terminator))
         here k =
             let t = known-end k in
-            rw (t .values-place, t .values-is) (counted-at w value 3 _ (value-fixed w) _ _ (t .parts .values-at) (t .parts .values) .list)
+            rw (t .values-place-is, t .values-is) (counted-at w read-value 3 _ (value-fixed w) _ _ (t .parts .values-at) (t .parts .values) .list)
 
-        there : Beyond w g r → ListAt w 3 (valueAt w) (valuesPlace w r) (valuesOf (region g r .terminator))
+        there : Beyond w g r → ListAt w 3 (value-at w) (values-place w r) (values-of (region g r .terminator))
         there k = rw (no-values k, k .none) (no-list w 3 _ 65535 (beyond-words s (omega arith)))
 
     -- The answer for a kind and an opcode word gives the terminator again.
-    pub terminator-is : (t : Terminator) → getD w (indexed w r 1 + 1) 0 ≡ kindIs t → pick (eqb (kindIs t) 2) (getD w (indexed w r 1 + 2) 0) 0 ≡ opcodeIs t → terminatorIs t (region g r .terminator) ≡ region g r .terminator
-    terminator-is t kind op = ⊎-elim here there (region-case s r)
+    pub terminator-from-words : (t : Terminator) → getD w (indexed w r 1 + 1) 0 ≡ kind-is t → pick (eqb (kind-is t) 2) (getD w (indexed w r 1 + 2) 0) 0 ≡ opcode-is t → terminator-is t (region g r .terminator) ≡ region g r .terminator
+    terminator-from-words t kind op = ⊎-elim here there (region-case s r)
       where
-        here : Known w g r → terminatorIs t (region g r .terminator) ≡ region g r .terminator
+        here : Known w g r → terminator-is t (region g r .terminator) ≡ region g r .terminator
         here k =
             let e = known-end k in
-            let same : kindIs t ≡ e .parts .k = sym kind ∙ e .kind-is in
-            let code : opcodeIs t ≡ e .parts .op = sym op ∙ ap (λ n. pick (eqb n 2) (getD w (indexed w r 1 + 2) 0) 0) same ∙ e .opcode-is in
-            ap (λ n. controlInst n (opcodeIs t) (valuesOf (region g r .terminator)) (edgesOf (region g r .terminator))) same
-            ∙ ap (λ n. controlInst (e .parts .k) n (valuesOf (region g r .terminator)) (edgesOf (region g r .terminator))) code
-            ∙ ap (λ vs. controlInst (e .parts .k) (e .parts .op) vs (edgesOf (region g r .terminator))) (e .values-is)
-            ∙ ap (controlInst (e .parts .k) (e .parts .op) (e .parts .vs)) (e .edges-is)
+            let same : kind-is t ≡ e .parts .k = sym kind ∙ e .kind-word in
+            let code : opcode-is t ≡ e .parts .op = sym op ∙ ap (λ n. pick (eqb n 2) (getD w (indexed w r 1 + 2) 0) 0) same ∙ e .opcode-word in
+            ap (λ n. control-inst n (opcode-is t) (values-of (region g r .terminator)) (edges-of (region g r .terminator))) same
+            ∙ ap (λ n. control-inst (e .parts .k) n (values-of (region g r .terminator)) (edges-of (region g r .terminator))) code
+            ∙ ap (λ vs. control-inst (e .parts .k) (e .parts .op) vs (edges-of (region g r .terminator))) (e .values-is)
+            ∙ ap (control-inst (e .parts .k) (e .parts .op) (e .parts .vs)) (e .edges-is)
             ∙ sym (e .parts .is)
 
-        there : Beyond w g r → terminatorIs t (region g r .terminator) ≡ region g r .terminator
+        there : Beyond w g r → terminator-is t (region g r .terminator) ≡ region g r .terminator
         there k =
-            let none : kindIs t ≡ 0 = sym kind ∙ ap (λ p. getD w (p + 1) 0) (k .index 1) ∙ no-word s (omega arith) in
-            ap (λ n. controlInst n (opcodeIs t) (valuesOf (region g r .terminator)) (edgesOf (region g r .terminator))) none
+            let none : kind-is t ≡ 0 = sym kind ∙ ap (λ p. getD w (p + 1) 0) (k .index 1) ∙ no-word s (omega arith) in
+            ap (λ n. control-inst n (opcode-is t) (values-of (region g r .terminator)) (edges-of (region g r .terminator))) none
             ∙ ap (λ x. x .terminator) (sym (k .none))
 
     -- The same by the place and the kind that the code has.
     pub kind-by : {p kind : ℕ} → p ≡ indexed w r 1 → kind ≡ getD w (p + 1) 0 → kind ≤ 5
     kind-by here is = rw (is, here) kind-bound
 
-    pub terminator-by : {p kind : ℕ} → p ≡ indexed w r 1 → kind ≡ getD w (p + 1) 0 → (t : Terminator) → kind ≡ kindIs t → pick (eqb (kindIs t) 2) (getD w (p + 2) 0) 0 ≡ opcodeIs t → terminatorIs t (region g r .terminator) ≡ region g r .terminator
-    terminator-by here is t kind op = terminator-is t (ap (λ p. getD w (p + 1) 0) (sym here) ∙ sym is ∙ kind) (ap (λ p. pick (eqb (kindIs t) 2) (getD w (p + 2) 0) 0) (sym here) ∙ op)
+    pub terminator-by : {p kind : ℕ} → p ≡ indexed w r 1 → kind ≡ getD w (p + 1) 0 → (t : Terminator) → kind ≡ kind-is t → pick (eqb (kind-is t) 2) (getD w (p + 2) 0) 0 ≡ opcode-is t → terminator-is t (region g r .terminator) ≡ region g r .terminator
+    terminator-by here is t kind op = terminator-from-words t (ap (λ p. getD w (p + 1) 0) (sym here) ∙ sym is ∙ kind) (ap (λ p. pick (eqb (kind-is t) 2) (getD w (p + 2) 0) 0) (sym here) ∙ op)

@@ -6,34 +6,34 @@ use native.Mathlib.Omega.{arith}
 use lib.ListN.{length, getD, take}
 use lib.Seq.{getD-take, take-take}
 use Rattle.meaning.specs.Graph.{Graph, region}
-use Rattle.format.specs.Read.{readRecord}
-use Rattle.format.specs.Places.{startOf, blockOf, limitOf, exitsOf}
+use Rattle.format.specs.Read.{read-record}
+use Rattle.format.specs.Places.{start-of-region, block-of-region, limit-of-region, exits-of-region}
 use Rattle.record.specs.Parts.{counted-parts, region-parts, record-parts}
-use Rattle.record.specs.Stands.{recordWords, Indexed, Stands}
+use Rattle.record.specs.Stands.{words-of-record, Indexed, Stands}
 use Rattle.fields.specs.Regions.{head-at}
 
 module _ {w : List ℕ} {g : Graph} (s : Stands w g) (w′ : List ℕ) (size : length w′ ≡ length w) (same : take 4400 w′ ≡ take 4400 w) where
   word-same : (i : ℕ) → i < 4400 → getD w′ i 0 ≡ getD w i 0
   word-same i l = sym (getD-take 4400 w′ i 0 l) ∙ ap (λ x. getD x i 0) same ∙ getD-take 4400 w i 0 l
 
-  record-same : recordWords w′ ≡ recordWords w
+  record-same : words-of-record w′ ≡ words-of-record w
   record-same =
       let n = getD w 0 0 in
       let few : n ≤ 4400 = omega (arith, s .fits) in
       ap (λ k. take k w′) (word-same 0 (omega arith)) ∙ sym (take-take n 4400 w′ few) ∙ ap (take n) same ∙ take-take n 4400 w few
 
   few-blocks : (r : ℕ) → r < length (g .regions) → length (region g r .blocks) ≤ 8
-  few-blocks r l = counted-parts 0 8 _ (recordWords w) _ (region-parts (recordWords w) (startOf (recordWords w) r) (record-parts (recordWords w) (s .reads) .region r l) .blocks) .high-bound
+  few-blocks r l = counted-parts 0 8 _ (words-of-record w) _ (region-parts (words-of-record w) (start-of-region (words-of-record w) r) (record-parts (words-of-record w) (s .reads) .region r l) .blocks) .high-bound
 
   index-same : (r : ℕ) → r < length (g .regions) → Indexed w′ g r
   index-same r l =
       let i = s .index r l in
       let few = head-at s .high-bound in
       record {
-        start = word-same _ (omega arith) ∙ i .start ∙ ap (λ ws. startOf ws r) (sym record-same);
-        limit = word-same _ (omega arith) ∙ i .limit ∙ ap (λ ws. limitOf ws (startOf ws r)) (sym record-same);
-        exits = word-same _ (omega arith) ∙ i .exits ∙ ap (λ ws. exitsOf ws (startOf ws r)) (sym record-same);
-        block = λ b below. let n = few-blocks r l in word-same _ (omega arith) ∙ i .block b below ∙ ap (λ ws. blockOf ws (startOf ws r) b) (sym record-same);
+        start = word-same _ (omega arith) ∙ i .start ∙ ap (λ ws. start-of-region ws r) (sym record-same);
+        limit = word-same _ (omega arith) ∙ i .limit ∙ ap (λ ws. limit-of-region ws (start-of-region ws r)) (sym record-same);
+        exits = word-same _ (omega arith) ∙ i .exits ∙ ap (λ ws. exits-of-region ws (start-of-region ws r)) (sym record-same);
+        block = λ b below. let n = few-blocks r l in word-same _ (omega arith) ∙ i .block b below ∙ ap (λ ws. block-of-region ws (start-of-region ws r) b) (sym record-same);
       }
 
   pub still-stands : Stands w′ g
@@ -41,6 +41,6 @@ module _ {w : List ℕ} {g : Graph} (s : Stands w g) (w′ : List ℕ) (size : l
       record {
         size = size ∙ s .size;
         fits = rw (word-same 0 (omega arith)) (s .fits);
-        reads = ap readRecord record-same ∙ s .reads;
+        reads = ap read-record record-same ∙ s .reads;
         index = index-same;
       }

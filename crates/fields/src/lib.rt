@@ -3,12 +3,12 @@
 ghost use mathlib.Core.Path.{_≡_};
 ghost use mathlib.Core.List.{[]};
 ghost use lib.ListN.{length, getD};
-ghost use Rattle.meaning.specs.Graph.{Graph, no-value, region, edgesOf, targetsOf};
-ghost use Rattle.format.specs.Read.{noEdge};
-ghost use Rattle.format.specs.References.{instructions, noInstr, instrType, valuesOf};
+ghost use Rattle.meaning.specs.Graph.{Graph, no-value, region, edges-of, targets-of};
+ghost use Rattle.format.specs.Read.{no-edge};
+ghost use Rattle.format.specs.References.{instructions, no-instr, instr-type, values-of};
 ghost use Rattle.record.specs.Stands.{Stands};
-ghost use Rattle.fields.specs.Shape.{valueIs, instructionIs, terminatorIs};
-ghost use Rattle.fields.specs.Repeats.{standsBefore};
+ghost use Rattle.fields.specs.Shape.{value-is, instruction-is, terminator-is};
+ghost use Rattle.fields.specs.Repeats.{stands-before};
 
 mod places;
 pub mod shape;
@@ -88,7 +88,7 @@ pub fn block_length(w: &[u16; 32256], r: u16, b: u16) -> u16
 }
 
 pub fn instruction(w: &[u16; 32256], r: u16, b: u16, i: u16) -> Instruction
-    ensures { λ a. ⌜ ((g : Graph) → Stands (now (w .entry)) g → a ≡ instructionIs (getD (getD (region g r .blocks) b []) i noInstr)) ⌝ }
+    ensures { λ a. ⌜ ((g : Graph) → Stands (now (w .entry)) g → a ≡ instruction-is (getD (getD (region g r .blocks) b []) i no-instr)) ⌝ }
 {
     let p = instruction_place(w, r, b, i) as usize;
     Instruction {
@@ -100,7 +100,7 @@ pub fn instruction(w: &[u16; 32256], r: u16, b: u16, i: u16) -> Instruction
 }
 
 pub fn read(w: &[u16; 32256], r: u16, b: u16, i: u16, k: u16) -> Value
-    ensures { λ a. ⌜ ((g : Graph) → Stands (now (w .entry)) g → valueIs a ≡ getD (getD (getD (region g r .blocks) b []) i noInstr .reads) k no-value) ⌝ }
+    ensures { λ a. ⌜ ((g : Graph) → Stands (now (w .entry)) g → value-is a ≡ getD (getD (getD (region g r .blocks) b []) i no-instr .reads) k no-value) ⌝ }
 {
     value_item(w, place((instruction_place(w, r, b, i) as usize) + 3), k)
 }
@@ -121,7 +121,7 @@ pub fn instruction_count(w: &[u16; 32256], r: u16) -> usize
 
 // The type of the output of instruction k, counted through the blocks of region r.
 pub fn output_type(w: &[u16; 32256], r: u16, k: u16) -> u16
-    ensures { λ a. ⌜ ((g : Graph) → Stands (now (w .entry)) g → a ≡ instrType (region g r) k) ⌝ }
+    ensures { λ a. ⌜ ((g : Graph) → Stands (now (w .entry)) g → a ≡ instr-type (region g r) k) ⌝ }
 {
     let n = block_count(w, r);
     let mut left = k;
@@ -148,7 +148,7 @@ pub fn limit(w: &[u16; 32256], r: u16) -> u16
 }
 
 pub fn terminator(w: &[u16; 32256], r: u16) -> Terminator
-    ensures { λ a. ⌜ ((g : Graph) → Stands (now (w .entry)) g → terminatorIs a (region g r .terminator) ≡ region g r .terminator) ⌝ }
+    ensures { λ a. ⌜ ((g : Graph) → Stands (now (w .entry)) g → terminator-is a (region g r .terminator) ≡ region g r .terminator) ⌝ }
 {
     let p = indexed(w, r, LIMIT) as usize;
     let kind = word_at(w, p + 1);
@@ -171,37 +171,37 @@ pub fn terminator(w: &[u16; 32256], r: u16) -> Terminator
 }
 
 pub fn value_count(w: &[u16; 32256], r: u16) -> u16
-    ensures { λ a. ⌜ ((g : Graph) → Stands (now (w .entry)) g → a ≡ length (valuesOf (region g r .terminator))) ⌝ }
+    ensures { λ a. ⌜ ((g : Graph) → Stands (now (w .entry)) g → a ≡ length (values-of (region g r .terminator))) ⌝ }
 {
     word_at(w, values_place(w, r) as usize)
 }
 
 pub fn value(w: &[u16; 32256], r: u16, k: u16) -> Value
-    ensures { λ a. ⌜ ((g : Graph) → Stands (now (w .entry)) g → valueIs a ≡ getD (valuesOf (region g r .terminator)) k no-value) ⌝ }
+    ensures { λ a. ⌜ ((g : Graph) → Stands (now (w .entry)) g → value-is a ≡ getD (values-of (region g r .terminator)) k no-value) ⌝ }
 {
     value_item(w, values_place(w, r), k)
 }
 
 pub fn target_count(w: &[u16; 32256], r: u16) -> u16
-    ensures { λ a. ⌜ ((g : Graph) → Stands (now (w .entry)) g → a ≡ length (edgesOf (region g r .terminator))) ⌝ }
+    ensures { λ a. ⌜ ((g : Graph) → Stands (now (w .entry)) g → a ≡ length (edges-of (region g r .terminator))) ⌝ }
 {
     word_at(w, targets_place(w, r) as usize)
 }
 
 pub fn target(w: &[u16; 32256], r: u16, j: u16) -> u16
-    ensures { λ a. ⌜ ((g : Graph) → Stands (now (w .entry)) g → a ≡ getD (edgesOf (region g r .terminator)) j noEdge .target) ⌝ }
+    ensures { λ a. ⌜ ((g : Graph) → Stands (now (w .entry)) g → a ≡ getD (edges-of (region g r .terminator)) j no-edge .target) ⌝ }
 {
     word_item(w, targets_place(w, r), j)
 }
 
 pub fn passed_count(w: &[u16; 32256], r: u16, j: u16) -> u16
-    ensures { λ a. ⌜ ((g : Graph) → Stands (now (w .entry)) g → a ≡ length (getD (edgesOf (region g r .terminator)) j noEdge .inputs)) ⌝ }
+    ensures { λ a. ⌜ ((g : Graph) → Stands (now (w .entry)) g → a ≡ length (getD (edges-of (region g r .terminator)) j no-edge .inputs)) ⌝ }
 {
     word_at(w, passed_place(w, r, j) as usize)
 }
 
 pub fn passed(w: &[u16; 32256], r: u16, j: u16, k: u16) -> Value
-    ensures { λ a. ⌜ ((g : Graph) → Stands (now (w .entry)) g → valueIs a ≡ getD (getD (edgesOf (region g r .terminator)) j noEdge .inputs) k no-value) ⌝ }
+    ensures { λ a. ⌜ ((g : Graph) → Stands (now (w .entry)) g → value-is a ≡ getD (getD (edges-of (region g r .terminator)) j no-edge .inputs) k no-value) ⌝ }
 {
     value_item(w, passed_place(w, r, j), k)
 }
@@ -220,14 +220,14 @@ pub fn exit_target(w: &[u16; 32256], r: u16, k: u16) -> u16
 
 // Whether the target at place j stands at an earlier place too.
 pub fn target_again(w: &[u16; 32256], r: u16, j: u16) -> bool
-    ensures { λ a. ⌜ ((g : Graph) → Stands (now (w .entry)) g → a ≡ standsBefore (targetsOf g r) j) ⌝ }
+    ensures { λ a. ⌜ ((g : Graph) → Stands (now (w .entry)) g → a ≡ stands-before (targets-of g r) j) ⌝ }
 {
     stood_before(w, targets_place(w, r), j)
 }
 
 // Whether exit k stands earlier in its list too.
 pub fn exit_again(w: &[u16; 32256], r: u16, k: u16) -> bool
-    ensures { λ a. ⌜ ((g : Graph) → Stands (now (w .entry)) g → a ≡ standsBefore (region g r .exits) k) ⌝ }
+    ensures { λ a. ⌜ ((g : Graph) → Stands (now (w .entry)) g → a ≡ stands-before (region g r .exits) k) ⌝ }
 {
     stood_before(w, indexed(w, r, EXITS), k)
 }

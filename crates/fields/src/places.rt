@@ -33,13 +33,13 @@ pub fn indexed(w: &[u16; 32256], r: u16, i: usize) -> u16
 
 // The block count stands behind the inputs.
 pub fn blocks_place(w: &[u16; 32256], r: u16) -> u16
-    ensures { λ a. ⌜ a ≡ words.blocksPlace (now (w .entry)) r ⌝ }
+    ensures { λ a. ⌜ a ≡ words.blocks-place (now (w .entry)) r ⌝ }
 {
     behind_words(w, indexed(w, r, START))
 }
 
 pub fn block_place(w: &[u16; 32256], r: u16, b: u16) -> u16
-    ensures { λ a. ⌜ a ≡ words.blockPlace (now (w .entry)) r b ⌝ }
+    ensures { λ a. ⌜ a ≡ words.block-place (now (w .entry)) r b ⌝ }
 {
     if b < word_at(w, blocks_place(w, r) as usize) {
         return indexed(w, r, BLOCKS + (b as usize));
@@ -49,7 +49,7 @@ pub fn block_place(w: &[u16; 32256], r: u16, b: u16) -> u16
 
 // The place behind i instructions: each has four words, the last of them the count of its reads.
 fn behind_instructions(w: &[u16; 32256], first: u16, i: u16) -> u16
-    ensures { λ a. ⌜ a ≡ words.behindInstructions (now (w .entry)) i first ⌝ }
+    ensures { λ a. ⌜ a ≡ words.behind-instructions (now (w .entry)) i first ⌝ }
 {
     let mut p = first;
     let mut n: u16 = 0;
@@ -61,7 +61,7 @@ fn behind_instructions(w: &[u16; 32256], first: u16, i: u16) -> u16
 }
 
 pub fn instruction_place(w: &[u16; 32256], r: u16, b: u16, i: u16) -> u16
-    ensures { λ a. ⌜ a ≡ words.instructionPlace (now (w .entry)) r b i ⌝ }
+    ensures { λ a. ⌜ a ≡ words.instruction-place (now (w .entry)) r b i ⌝ }
 {
     let p = block_place(w, r, b);
     if i < word_at(w, p as usize) {
@@ -72,7 +72,7 @@ pub fn instruction_place(w: &[u16; 32256], r: u16, b: u16, i: u16) -> u16
 
 // The kind stands behind the turn limit; an opcode word stands for kind 2 only.
 pub fn values_place(w: &[u16; 32256], r: u16) -> u16
-    ensures { λ a. ⌜ a ≡ words.valuesPlace (now (w .entry)) r ⌝ }
+    ensures { λ a. ⌜ a ≡ words.values-place (now (w .entry)) r ⌝ }
 {
     let p = indexed(w, r, LIMIT) as usize;
     if word_at(w, p + 1) == 2 {
@@ -82,14 +82,14 @@ pub fn values_place(w: &[u16; 32256], r: u16) -> u16
 }
 
 pub fn targets_place(w: &[u16; 32256], r: u16) -> u16
-    ensures { λ a. ⌜ a ≡ words.targetsPlace (now (w .entry)) r ⌝ }
+    ensures { λ a. ⌜ a ≡ words.targets-place (now (w .entry)) r ⌝ }
 {
     behind_values(w, values_place(w, r))
 }
 
 // The place behind the list of the target at place q, which has one where it stands for the first time.
 fn behind_list(w: &[u16; 32256], targets: u16, q: u16, p: u16) -> u16
-    ensures { λ a. ⌜ a ≡ words.behindList (now (w .entry)) targets q p ⌝ }
+    ensures { λ a. ⌜ a ≡ words.behind-list (now (w .entry)) targets q p ⌝ }
 {
     if stood_before(w, targets, q) {
         return p;
@@ -99,7 +99,7 @@ fn behind_list(w: &[u16; 32256], targets: u16, q: u16, p: u16) -> u16
 
 // The values passed to target t, of those that stand at `targets`: each distinct target has a list.
 fn list_for(w: &[u16; 32256], targets: u16, t: u16) -> u16
-    ensures { λ a. ⌜ a ≡ words.listFor (now (w .entry)) targets t (getD (now (w .entry)) targets 0) 0 (words.behindWords (now (w .entry)) targets) ⌝ }
+    ensures { λ a. ⌜ a ≡ words.list-for (now (w .entry)) targets t (getD (now (w .entry)) targets 0) 0 (words.behind-words (now (w .entry)) targets) ⌝ }
 {
     let n = word_at(w, targets as usize);
     let mut p = behind_words(w, targets);
@@ -115,7 +115,7 @@ fn list_for(w: &[u16; 32256], targets: u16, t: u16) -> u16
 }
 
 pub fn passed_place(w: &[u16; 32256], r: u16, j: u16) -> u16
-    ensures { λ a. ⌜ a ≡ words.passedPlace (now (w .entry)) r j ⌝ }
+    ensures { λ a. ⌜ a ≡ words.passed-place (now (w .entry)) r j ⌝ }
 {
     let targets = targets_place(w, r);
     if j < word_at(w, targets as usize) {

@@ -1,9 +1,9 @@
 // Words of the lent array by place; a place beyond it holds 0, and a list there is empty.
 ghost use mathlib.Core.Path.{_≡_};
 ghost use lib.ListN.{getD};
-ghost use Rattle.format.specs.Read.{valueOf};
-ghost use Rattle.fields.specs.Shape.{valueIs};
-ghost use Rattle.fields.specs.Words.{placed, wordItem, valueItem, behindWords, behindValues, again};
+ghost use Rattle.format.specs.Read.{value-from-words};
+ghost use Rattle.fields.specs.Shape.{value-is};
+ghost use Rattle.fields.specs.Words.{placed, word-item, value-item, behind-words, behind-values, again};
 use super::shape::Value;
 
 // The place that answers for a list that is not there.
@@ -34,7 +34,7 @@ pub fn place(p: usize) -> u16
 
 // Item k of a list of words: its count stands at p, its items behind it.
 pub fn word_item(w: &[u16; 32256], p: u16, k: u16) -> u16
-    ensures { λ a. ⌜ a ≡ wordItem (now (w .entry)) p k ⌝ }
+    ensures { λ a. ⌜ a ≡ word-item (now (w .entry)) p k ⌝ }
 {
     if k < word_at(w, p as usize) {
         return word_at(w, (p as usize) + 1 + (k as usize));
@@ -44,7 +44,7 @@ pub fn word_item(w: &[u16; 32256], p: u16, k: u16) -> u16
 
 // A value by its three words: kind, region, index.
 fn value_of(kind: u16, region: u16, index: u16) -> Value
-    ensures { λ a. ⌜ valueIs a ≡ valueOf kind region index ⌝ }
+    ensures { λ a. ⌜ value-is a ≡ value-from-words kind region index ⌝ }
 {
     if kind == 1 {
         return Value::Input(region, index);
@@ -69,7 +69,7 @@ fn value_of(kind: u16, region: u16, index: u16) -> Value
 
 // Item k of a list of values.
 pub fn value_item(w: &[u16; 32256], p: u16, k: u16) -> Value
-    ensures { λ a. ⌜ valueIs a ≡ valueItem (now (w .entry)) p k ⌝ }
+    ensures { λ a. ⌜ value-is a ≡ value-item (now (w .entry)) p k ⌝ }
 {
     if k < word_at(w, p as usize) {
         let at = (p as usize) + 1 + 3 * (k as usize);
@@ -80,14 +80,14 @@ pub fn value_item(w: &[u16; 32256], p: u16, k: u16) -> Value
 
 // The place behind a list of words.
 pub fn behind_words(w: &[u16; 32256], p: u16) -> u16
-    ensures { λ a. ⌜ a ≡ behindWords (now (w .entry)) p ⌝ }
+    ensures { λ a. ⌜ a ≡ behind-words (now (w .entry)) p ⌝ }
 {
     place((p as usize) + 1 + (word_at(w, p as usize) as usize))
 }
 
 // The place behind a list of values.
 pub fn behind_values(w: &[u16; 32256], p: u16) -> u16
-    ensures { λ a. ⌜ a ≡ behindValues (now (w .entry)) p ⌝ }
+    ensures { λ a. ⌜ a ≡ behind-values (now (w .entry)) p ⌝ }
 {
     place((p as usize) + 1 + 3 * (word_at(w, p as usize) as usize))
 }

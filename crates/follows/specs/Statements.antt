@@ -6,13 +6,12 @@ use mathlib.Core.List.{List}
 use mathlib.Core.Option.{Option, none, some}
 use Prim.Native.Nat.{ℕ, _+_, _-_, _*_, _≤_}
 use lib.ListN.{length}
-use Rattle.meaning.specs.Graph.{Value, Graph, region, edgesOf}
-use Rattle.meaning.specs.Lists.{total}
+use Rattle.meaning.specs.Graph.{Value, Graph, region, edges-of}
+use Rattle.meaning.specs.Lists.{total, is-in, Distinct}
 use Rattle.meaning.specs.Runs.{Nodes, Given, Ended, graph-run, NestedEnded, nested-run}
 use Rattle.format.specs.Store.{accepted}
-use Rattle.format.specs.Read.{isIn}
 use Rattle.format.specs.Accept.{accept}
-use Rattle.format.specs.Valid.{Distinct, Valid}
+use Rattle.format.specs.Valid.{Valid}
 use Rattle.nesting.specs.Nesting.{whole, closed, Nested, reachable, structurize-func}
 use Rattle.nesting.specs.Sheet.{figure, Sheet, sheet-of, answer}
 use Rattle.follows.specs.Reaches.{Reaches}
@@ -51,12 +50,12 @@ Bounded =
 -- reachable regions is just what the entry reaches, each once.
 pub record JustReached (g : Graph) (live : List ℕ) : Type 0 where
   pub once : Distinct live
-  pub sound : (r : ℕ) → isIn r live ≡ true → Reaches g r
-  pub complete : (r : ℕ) → Reaches g r → isIn r live ≡ true
+  pub sound : (r : ℕ) → is-in r live ≡ true → Reaches g r
+  pub complete : (r : ℕ) → Reaches g r → is-in r live ≡ true
 
 -- A target named twice is two edges.
 abbrev pub edges-from : Graph → List ℕ → ℕ
-edges-from g live = total (λ r. length (edgesOf (region g r .terminator))) live
+edges-from g live = total (λ r. length (edges-of (region g r .terminator))) live
 
 abbrev pub most-attempts : Graph → List ℕ → ℕ
 most-attempts g live = 1 + edges-from g live + length live * (2 * length live - 1)

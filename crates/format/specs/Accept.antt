@@ -2,15 +2,15 @@
 use mathlib.Core.List.{List}
 use Prim.Native.Nat.{ℕ}
 use Rattle.meaning.specs.Graph.{Graph}
-use Rattle.format.specs.Store.{Answer, accepted, andThen, storeWords}
-use Rattle.format.specs.Read.{readRecord}
+use Rattle.format.specs.Store.{Answer, accepted, if-accepted, store-words}
+use Rattle.format.specs.Read.{read-record}
 use Rattle.format.specs.References.{references}
 
 -- Store, reading, references, in this order: reading is whole before the first reference is looked at.
 unfoldable pub accept : List ℕ → Answer Graph
-unfolding storeWords readRecord references
+unfolding store-words read-record references
 accept s =
-    andThen (storeWords s) λ ws.
-    andThen (readRecord ws) λ g.
-    andThen (references g) λ _.
+    if-accepted (store-words s) λ ws.
+    if-accepted (read-record ws) λ g.
+    if-accepted (references g) λ _.
     accepted g

@@ -4,8 +4,5 @@ pub mod References
 pub mod Accept
 pub mod Valid
 pub mod Places
-pub mod ReadLaws
-pub mod WellRead
-pub mod AcceptValid
-pub mod ReadingStops
-pub mod Refusals
+pub mod stores
+pub mod laws

@@ -10,9 +10,9 @@ pub data Answer (A : Type 0) : Type 0 where
   accepted : A → Answer A
   refused : ℕ → ℕ → Answer A
 
-abbrev pub andThen : {A B : Type 0} → Answer A → (A → Answer B) → Answer B
-andThen (accepted a) k = k a
-andThen (refused n w) k = refused n w
+abbrev pub if-accepted : {A B : Type 0} → Answer A → (A → Answer B) → Answer B
+if-accepted (accepted a) k = k a
+if-accepted (refused n w) k = refused n w
 
 -- f 0, f 1, .., f (n - 1)
 unfoldable pub tabulate : ℕ → (ℕ → ℕ) → List ℕ
@@ -29,45 +29,45 @@ weighted s at zero = 0
 weighted s at (suc n) = weighted s at n + getD s (at + n) 0 * (n + 1)
 
 -- A block's number is in bytes 0 and 1, its check in bytes 508 to 511.
-abbrev pub numberRight : List ℕ → ℕ → Bool
-numberRight s b = eqb (pair s (512 * b)) b
+abbrev pub number-right : List ℕ → ℕ → Bool
+number-right s b = eqb (pair s (512 * b)) b
 
-abbrev pub checkRight : List ℕ → ℕ → Bool
-checkRight s b = eqb (pair s (512 * b + 508) + 65536 * pair s (512 * b + 510)) (weighted s (512 * b) 508)
+abbrev pub check-right : List ℕ → ℕ → Bool
+check-right s b = eqb (pair s (512 * b + 508) + 65536 * pair s (512 * b + 510)) (weighted s (512 * b) 508)
 
 -- The first fault among the first n blocks: 2 for a wrong number, 3 for a wrong check, each with the block.
-unfoldable pub blocksChecked : List ℕ → ℕ → Answer Unit
+unfoldable pub blocks-checked : List ℕ → ℕ → Answer Unit
 unfolding weighted
-blocksChecked s zero = accepted tt
-blocksChecked s (suc n) =
-    andThen (blocksChecked s n) λ _.
-    elim (numberRight s n) [ false ↦ refused 2 n | true ↦ elim (checkRight s n) [ false ↦ refused 3 n | true ↦ accepted tt ] ]
+blocks-checked s zero = accepted tt
+blocks-checked s (suc n) =
+    if-accepted (blocks-checked s n) λ _.
+    elim (number-right s n) [ false ↦ refused 2 n | true ↦ elim (check-right s n) [ false ↦ refused 3 n | true ↦ accepted tt ] ]
 
 -- Word j of the joined payloads: 253 words to a block, from its byte 2 on.
-abbrev pub wordAt : List ℕ → ℕ → ℕ
-wordAt s j = pair s (512 * (j / 253) + 2 + 2 * (j % 253))
+abbrev pub word-at : List ℕ → ℕ → ℕ
+word-at s j = pair s (512 * (j / 253) + 2 + 2 * (j % 253))
 
 -- Whether the n words from word j on are zero.
-unfoldable pub allZero : List ℕ → ℕ → ℕ → Bool
-allZero s j zero = true
-allZero s j (suc n) = allZero s j n && eqb (wordAt s (j + n)) 0
+unfoldable pub all-zero : List ℕ → ℕ → ℕ → Bool
+all-zero s j zero = true
+all-zero s j (suc n) = all-zero s j n && eqb (word-at s (j + n)) 0
 
-abbrev pub lengthRight : ℕ → Bool
-lengthRight n = ltb 0 n && (leb n 8192 && eqb (n % 512) 0)
+abbrev pub length-right : ℕ → Bool
+length-right n = ltb 0 n && (leb n 8192 && eqb (n % 512) 0)
 
 -- W, which is word 0, against the number of blocks, and the words after W.
-abbrev pub countRight : List ℕ → ℕ → ℕ → Bool
-countRight s n w = ltb 0 w && (eqb n ((w + 252) / 253) && allZero s w (253 * n - w))
+abbrev pub count-right : List ℕ → ℕ → ℕ → Bool
+count-right s n w = ltb 0 w && (eqb n ((w + 252) / 253) && all-zero s w (253 * n - w))
 
 -- The words of a store: word 0, which is W, to word W - 1.
-unfoldable pub storeWords : List ℕ → Answer (List ℕ)
-unfolding blocksChecked allZero tabulate
-storeWords s =
-    elim (lengthRight (length s)) [
+unfoldable pub store-words : List ℕ → Answer (List ℕ)
+unfolding blocks-checked all-zero tabulate
+store-words s =
+    elim (length-right (length s)) [
       | false ↦ refused 1 0
-      | true ↦ andThen (blocksChecked s (length s / 512)) λ _.
-          elim (countRight s (length s / 512) (wordAt s 0)) [
+      | true ↦ if-accepted (blocks-checked s (length s / 512)) λ _.
+          elim (count-right s (length s / 512) (word-at s 0)) [
             | false ↦ refused 4 0
-            | true ↦ accepted (tabulate (wordAt s 0) (wordAt s))
+            | true ↦ accepted (tabulate (word-at s 0) (word-at s))
           ]
     ]

@@ -5,17 +5,12 @@ use mathlib.Core.List.{List, [], _∷_}
 use Prim.Native.Nat.{ℕ, suc, _≤_, _<_}
 use lib.ListN.{length}
 use Rattle.meaning.specs.Graph.{Value, Instr, SelectionKind, bool-cond, number, Edge, ControlInst, unreachable, return, exit-invocation, branch, select-branch, Region, Graph, region}
-use Rattle.format.specs.Read.{isIn}
-use Rattle.format.specs.References.{typeIn, instructions, behindAll, returnTypes}
+use Rattle.meaning.specs.Lists.{is-in, Distinct}
+use Rattle.format.specs.References.{type-in, instructions, behind-all, return-types}
 
 abbrev pub All : {A : Type 0} → (A → Type 0) → List A → Type 0
 All P [] = Unit
 All P (x ∷ xs) = P x × All P xs
-
--- None stands twice.
-abbrev pub Distinct : List ℕ → Type 0
-Distinct [] = Unit
-Distinct (x ∷ xs) = (isIn x xs ≡ false) × Distinct xs
 
 abbrev pub Within : ℕ → ℕ → ℕ → Type 0
 Within low high n = (low ≤ n) × (n ≤ high)
@@ -23,14 +18,14 @@ Within low high n = (low ≤ n) × (n ≤ high)
 module _ (g : Graph) (r : ℕ) where
   -- The value may be used in region r behind its first `before` instructions: it has a type there, and no type is 0.
   pub record Usable (before : ℕ) (v : Value) : Type 0 where
-    pub typed : 1 ≤ typeIn g r before v
+    pub typed : 1 ≤ type-in g r before v
 
   -- As many values as types, each usable by the terminator, and of its type.
   abbrev pub Passed : List ℕ → List Value → Type 0
   Passed [] [] = Unit
   Passed [] (v ∷ vs) = ⊥
   Passed (t ∷ ts) [] = ⊥
-  Passed (t ∷ ts) (v ∷ vs) = Usable (behindAll g r) v × (typeIn g r (behindAll g r) v ≡ t) × Passed ts vs
+  Passed (t ∷ ts) (v ∷ vs) = Usable (behind-all g r) v × (type-in g r (behind-all g r) v ≡ t) × Passed ts vs
 
   pub record ValidInstr (k : ℕ) (i : Instr) : Type 0 where
     pub type : i .type ≤ 255
@@ -47,15 +42,15 @@ module _ (g : Graph) (r : ℕ) where
     pub inputs : Passed (region g (e .target) .inputs) (e .inputs)
 
   abbrev pub TestRight : SelectionKind → Value → List Edge → Type 0
-  TestRight bool-cond v es = (typeIn g r (behindAll g r) v ≡ 1) × (length es ≡ 2)
+  TestRight bool-cond v es = (type-in g r (behind-all g r) v ≡ 1) × (length es ≡ 2)
   TestRight number v es = Within 1 8 (length es)
 
   abbrev pub ValidEnd : ControlInst → Type 0
   ValidEnd unreachable = Unit
-  ValidEnd (return vs) = (length vs ≤ 4) × Passed (returnTypes g) vs
-  ValidEnd (exit-invocation op vs) = (length vs ≤ 4) × All (Usable (behindAll g r)) vs
+  ValidEnd (return vs) = (length vs ≤ 4) × Passed (return-types g) vs
+  ValidEnd (exit-invocation op vs) = (length vs ≤ 4) × All (Usable (behind-all g r)) vs
   ValidEnd (branch e) = ValidEdge e
-  ValidEnd (select-branch k v es) = Usable (behindAll g r) v × TestRight k v es × All ValidEdge es
+  ValidEnd (select-branch k v es) = Usable (behind-all g r) v × TestRight k v es × All ValidEdge es
 
   pub record ValidRegion (x : Region) : Type 0 where
     pub inputs-few : length (x .inputs) ≤ 4

@@ -32,22 +32,22 @@ pub record Code : Type 0 where
   pub region : ℕ
   pub index : ℕ
 
-abbrev pub codeOf : Value → Code
-codeOf (const i) = record { kind = 0; region = 0; index = i }
-codeOf (input r k) = record { kind = 1; region = r; index = k }
-codeOf (instr r k) = record { kind = 2; region = r; index = k }
-codeOf (output o) = record { kind = 3; region = 0; index = o }
-codeOf (bool b) = record { kind = 4; region = 0; index = bit b }
-codeOf (undef t) = record { kind = 5; region = 0; index = t }
-codeOf (held r k) = record { kind = 6; region = r; index = k }
-codeOf no-value = record { kind = 7; region = 0; index = 0 }
+abbrev pub code-of : Value → Code
+code-of (const i) = record { kind = 0; region = 0; index = i }
+code-of (input r k) = record { kind = 1; region = r; index = k }
+code-of (instr r k) = record { kind = 2; region = r; index = k }
+code-of (output o) = record { kind = 3; region = 0; index = o }
+code-of (bool b) = record { kind = 4; region = 0; index = bit b }
+code-of (undef t) = record { kind = 5; region = 0; index = t }
+code-of (held r k) = record { kind = 6; region = r; index = k }
+code-of no-value = record { kind = 7; region = 0; index = 0 }
 
-abbrev pub sameCode : Code → Code → Bool
-sameCode a b = eqb (a .kind) (b .kind) && (eqb (a .region) (b .region) && eqb (a .index) (b .index))
+abbrev pub same-code : Code → Code → Bool
+same-code a b = eqb (a .kind) (b .kind) && (eqb (a .region) (b .region) && eqb (a .index) (b .index))
 
 -- Two values are equal if all three words are.
-abbrev pub sameValue : Value → Value → Bool
-sameValue v w = sameCode (codeOf v) (codeOf w)
+abbrev pub same-value : Value → Value → Bool
+same-value v w = same-code (code-of v) (code-of w)
 
 -- An instruction: its opcode, the type of its output (0: it has none), its cost, the values it reads.
 pub record Instr : Type 0 where
@@ -97,12 +97,12 @@ abbrev pub region : Graph → ℕ → Region
 region g r = getD (g .regions) r nowhere
 
 -- The edges that lead from a region, by place.
-abbrev pub edgesOf : ControlInst → List Edge
-edgesOf unreachable = []
-edgesOf (return vs) = []
-edgesOf (exit-invocation op vs) = []
-edgesOf (branch e) = e ∷ []
-edgesOf (select-branch k v es) = es
+abbrev pub edges-of : ControlInst → List Edge
+edges-of unreachable = []
+edges-of (return vs) = []
+edges-of (exit-invocation op vs) = []
+edges-of (branch e) = e ∷ []
+edges-of (select-branch k v es) = es
 
-abbrev pub targetsOf : Graph → ℕ → List ℕ
-targetsOf g r = map (λ e. e .target) (edgesOf (region g r .terminator))
+abbrev pub targets-of : Graph → ℕ → List ℕ
+targets-of g r = map (λ e. e .target) (edges-of (region g r .terminator))

@@ -1,6 +1,6 @@
 pub mod Graph
 pub mod Lists
-pub mod Runs
-pub mod LoopTurns
-pub mod MoreBudget
 pub mod Text
+pub mod Runs
+pub mod facts
+pub mod laws

@@ -2,6 +2,7 @@
 use mathlib.Core.Bool.{Bool, true, false, _&&_, _||_}
 use mathlib.Core.List.{List, [], _∷_, _++_}
 use mathlib.Core.Option.{Option, none, some}
+use mathlib.Core.Path.{_≡_}
 use Prim.Native.Nat.{ℕ, suc, _+_}
 use lib.Dec.{eqb}
 use Rattle.meaning.specs.Graph.{pick}
@@ -44,3 +45,12 @@ times-in a (x ∷ xs) = pick (eqb a x) 1 0 + times-in a xs
 abbrev pub numbers-from : {A : Type 0} → ℕ → List A → List ℕ
 numbers-from k [] = []
 numbers-from k (x ∷ xs) = k ∷ numbers-from (suc k) xs
+
+abbrev pub is-in : ℕ → List ℕ → Bool
+is-in a [] = false
+is-in a (x ∷ xs) = eqb a x || is-in a xs
+
+-- None stands twice.
+abbrev pub Distinct : List ℕ → Type 0
+Distinct [] = Unit
+Distinct (x ∷ xs) = (is-in x xs ≡ false) × Distinct xs

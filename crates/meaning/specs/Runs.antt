@@ -6,7 +6,7 @@ use lib.ListN.{length, getD}
 use lib.Dec.{ltb, leb}
 use mathlib.Core.Option.{Option, none, some}
 use Rattle.meaning.specs.Lists.{numbers-from}
-use Rattle.meaning.specs.Graph.{Value, Instr, SelectionKind, const, input, instr, output, bool, undef, held, sameValue, pick, bit, bool-cond, number, Graph, region, Edge, ControlInst, unreachable, return, exit-invocation, branch, select-branch, no-value}
+use Rattle.meaning.specs.Graph.{Value, Instr, SelectionKind, const, input, instr, output, bool, undef, held, same-value, pick, bit, bool-cond, number, Graph, region, Edge, ControlInst, unreachable, return, exit-invocation, branch, select-branch, no-value}
 
 -- ---- the nested form: sequences, selects and loops
 -- An output of a select: its number in order of definition, and its type.
@@ -47,7 +47,7 @@ abbrev pub Env : Type 0
 Env = Value → Word
 
 unfoldable pub put : Value → Word → Env → Env
-put v w σ u = pick (sameValue u v) w (σ u)
+put v w σ u = pick (same-value u v) w (σ u)
 
 -- v k, v (k + 1), .. become the words: a region's inputs, all at once.
 unfoldable pub put-inputs : (ℕ → Value) → ℕ → List Word → Env → Env

@@ -5,22 +5,21 @@ use mathlib.Core.Bool.{Bool, true, false, _||_, _&&_, not}
 use lib.ListN.{length, getD, set, take, replicate}
 use lib.Dec.{ltb, eqb}
 use mathlib.Core.Option.{Option, none, some}
-use Rattle.meaning.specs.Lists.{any, all, filter, empty, is-some, total, times-in, numbers-from}
-use Rattle.meaning.specs.Graph.{Value, SelectionKind, output, const, input, instr, bool, undef, held, sameValue, pick, bool-cond, number, Instr, Region, Graph, region, edgesOf, targetsOf, Edge, ControlInst, unreachable, return, exit-invocation, branch, select-branch, no-value}
+use Rattle.meaning.specs.Lists.{any, all, filter, empty, is-some, total, times-in, numbers-from, is-in}
+use Rattle.meaning.specs.Graph.{Value, SelectionKind, output, const, input, instr, bool, undef, held, same-value, pick, bool-cond, number, Instr, Region, Graph, region, edges-of, targets-of, Edge, ControlInst, unreachable, return, exit-invocation, branch, select-branch, no-value}
 use Rattle.meaning.specs.Runs.{Nodes, ⟨⟩, _▸_, block, select, Cases, ∅, case, loop, exit, OutputDecl, Node}
-use Rattle.format.specs.References.{returnTypes}
-use Rattle.format.specs.Read.{isIn}
+use Rattle.format.specs.References.{return-types}
 use Rattle.format.specs.Store.{accepted, refused}
 use Rattle.format.specs.Store
 
--- ---- Deferred edges: what a region could not claim, each with the condition under which it is taken.
+-- ---- Deferred edges: what a region could not claim, look-up-each with the condition under which it is taken.
 -- A number of edges. It counts edges only and is never an index.
 abbrev pub IncomingEdgeCount : Type 0
 IncomingEdgeCount = ℕ
 
 infixr 30 _&_
 mutual
-  -- The Rust's LazyCond. `merge` has the select's node, kind and scrutinee, and the condition in each case.
+  -- The Rust's LazyCond. `merge` has the select's node, kind and scrutinee, and the condition in look-up-each case.
   pub data LazyCond : Type 0 where
     undef-cond false-cond true-cond : LazyCond
     merge : ℕ → SelectionKind → Value → LazyConds → LazyCond
@@ -67,7 +66,7 @@ pub record RewriteEntry : Type 0 where
   pub region : ℕ
   pub rewrites : RegionInputRewrites
 
--- An output of a select node: its type, and its value in each case. Its place in the table is its number.
+-- An output of a select node: its type, and its value in look-up-each case. Its place in the table is its number.
 pub record NodeOutput : Type 0 where
   pub node : ℕ
   pub type : ℕ
@@ -85,12 +84,12 @@ pub record NestState : Type 0 where
   pub twice : Bool
 
 -- What a step answers: a value and the next state, or a refusal with document 01's number and word.
-pub data Answer (A : Type 0) : Type 0 where
-  done : A → NestState → Answer A
-  turned-away : ℕ → ℕ → Answer A
+pub data StepAnswer (A : Type 0) : Type 0 where
+  done : A → NestState → StepAnswer A
+  turned-away : ℕ → ℕ → StepAnswer A
 
 abbrev pub Step : Type 0 → Type 0
-Step A = NestState → Answer A
+Step A = NestState → StepAnswer A
 
 abbrev pub give : {A : Type 0} → A → Step A
 give a s = done a s
@@ -98,7 +97,7 @@ give a s = done a s
 abbrev pub turn-away : {A : Type 0} → ℕ → ℕ → Step A
 turn-away refusal word s = turned-away refusal word
 
-abbrev pub follow : {A B : Type 0} → Answer A → (A → Step B) → Answer B
+abbrev pub follow : {A B : Type 0} → StepAnswer A → (A → Step B) → StepAnswer B
 follow (done a s) k = k a s
 follow (turned-away refusal word) k = turned-away refusal word
 
@@ -134,7 +133,7 @@ abbrev pub with-twice : Bool → NestState → NestState
 with-twice x s = nest-state (s .region-states) (s .region-input-rewrites) (s .node-outputs) (s .region-count) (s .node-count) (s .merge-count) (s .attempts) (s .twice || x)
 
 -- A definition where n are defined already, with its limit: the first beyond is refused.
-abbrev pub define : {A : Type 0} → ℕ → ℕ → A → NestState → Answer A
+abbrev pub define : {A : Type 0} → ℕ → ℕ → A → NestState → StepAnswer A
 define n limit a s = elim (ltb n limit) [ true ↦ done a s | false ↦ turned-away 9 0 ]
 
 unfoldable pub define-region : Step ℕ
@@ -147,7 +146,7 @@ define-node s = define (s .node-count) 512 (s .node-count) (with-counts (s .regi
 unfoldable pub define-merge : Step Unit
 define-merge s = define (s .merge-count) 512 tt (with-counts (s .region-count) (s .node-count) (suc (s .merge-count)) (s .attempts) s)
 
--- An output of a node, of this type, with its value in each case.
+-- An output of a node, of this type, with its value in look-up-each case.
 unfoldable pub define-output : ℕ → ℕ → List Value → Step Value
 define-output n type vs s =
     let more = s .node-outputs ++ (record { node = n; type = type; values = vs } ∷ []) in
@@ -213,27 +212,27 @@ look-up-chain (suc fuel) es no-value = plain no-value
 unfoldable pub look-up : List RewriteEntry → Value → LookUp Value
 look-up es v = look-up-chain (chain-fuel es) es v
 
--- What is put together, part by part, from parts looked up; and a list of which each is looked up. No note is lost.
+-- What is put together, part by part, from parts looked up; and a list of which look-up-each is looked up. No note is lost.
 infixl 30 _⊛_
 abbrev pub _⊛_ : {A B : Type 0} → LookUp (A → B) → LookUp A → LookUp B
 _⊛_ f a = record { value = f .value (a .value); twice = f .twice || a .twice }
 
-abbrev pub each : {A B : Type 0} → (A → LookUp B) → List A → LookUp (List B)
-each f xs = record { value = map (λ x. f x .value) xs; twice = any (λ x. f x .twice) xs }
+abbrev pub look-up-each : {A B : Type 0} → (A → LookUp B) → List A → LookUp (List B)
+look-up-each f xs = record { value = map (λ x. f x .value) xs; twice = any (λ x. f x .twice) xs }
 
 -- The step that looks up takes the note, and changes no table.
 abbrev pub note : {A : Type 0} → LookUp A → Step A
 note x s = done (x .value) (with-twice (x .twice) s)
 
 unfoldable pub rewrite-values : List Value → Step (List Value)
-rewrite-values vs s = note (each (look-up (s .region-input-rewrites)) vs) s
+rewrite-values vs s = note (look-up-each (look-up (s .region-input-rewrites)) vs) s
 
 -- ---- Lazy conditions made real: the Rust's materialize_lazy_cond.
 abbrev pub same-values : List Value → List Value → Bool
 same-values [] [] = true
 same-values [] (w ∷ ws) = false
 same-values (v ∷ vs) [] = false
-same-values (v ∷ vs) (w ∷ ws) = sameValue v w && same-values vs ws
+same-values (v ∷ vs) (w ∷ ws) = same-value v w && same-values vs ws
 
 -- A boolean [true, false] is the scrutinee itself; anything else is a new output of the select, of type boolean.
 unfoldable mutual
@@ -324,7 +323,7 @@ append-maybe-claimed-region parent (err d) = give (region-body parent d)
 append-maybe-claimed-region parent (ok c) =
     insert-rewrites (c .structured-body) (replace-with (c .structured-body-inputs)) >> give (region-body (join parent (c .children)) (c .deferred-edges))
 
--- The convergent cases, those not Unreachable; and all cases with these taken out, an Unreachable one in the place of each.
+-- The convergent cases, those not Unreachable; and all cases with these taken out, an Unreachable one in the place of look-up-each.
 abbrev pub convergent-cases : List MaybeClaimedRegion → List MaybeClaimedRegion
 convergent-cases cs = filter (λ c. not (empty (deferred-of c))) cs
 
@@ -391,7 +390,7 @@ in-parent (ok c) (held r k) = none
 in-parent (ok c) (instr r k) = none
 in-parent (ok c) (output o) = none
 
--- What the cases that reach a target pass as its input k, each as valid in the select's parent, if it can be.
+-- What the cases that reach a target pass as its input k, look-up-each as valid in the select's parent, if it can be.
 abbrev pub passed-inputs : ℕ → List MaybeClaimedRegion → List PerCaseDeferred → List (Option Value)
 passed-inputs k [] ps = []
 passed-inputs k (c ∷ cs) [] = []
@@ -402,14 +401,14 @@ passed-inputs k (c ∷ cs) (p ∷ ps) =
 abbrev pub unique-input : List (Option Value) → Option Value
 unique-input [] = none
 unique-input (none ∷ os) = none
-unique-input (some v ∷ os) = pick (all (λ o. elim o [ none ↦ false | some w ↦ sameValue w v ]) os) (some v) none
+unique-input (some v ∷ os) = pick (all (λ o. elim o [ none ↦ false | some w ↦ same-value w v ]) os) (some v) none
 
--- An input of a deferred target: shared by all cases, or merged, an output of this type with a value for each case.
+-- An input of a deferred target: shared by all cases, or merged, an output of this type with a value for look-up-each case.
 pub data PlannedInput : Type 0 where
   shared : Value → PlannedInput
   merged : ℕ → List Value → PlannedInput
 
--- A deferred edge to be; `condition` is none if True, else the condition in each case.
+-- A deferred edge to be; `condition` is none if True, else the condition in look-up-each case.
 pub record PlannedBundle : Type 0 where
   pub target : DeferredTarget
   pub total-edge-count : IncomingEdgeCount
@@ -433,7 +432,7 @@ conditions-of (p ∷ ps) = p .condition & conditions-of ps
 module _ (g : Graph) where
   abbrev pub target-type : DeferredTarget → ℕ → ℕ  -- the type of input k of a target; all Return regions agree in types
   target-type (to-region r) k = getD (region g r .inputs) k 0
-  target-type to-return k = getD (returnTypes g) k 0
+  target-type to-return k = getD (return-types g) k 0
 
   -- how many inputs are left, which comes next
   abbrev pub plan-inputs : ℕ → ℕ → DeferredTarget → List MaybeClaimedRegion → List PerCaseDeferred → List PlannedInput
@@ -457,18 +456,18 @@ abbrev pub any-non-empty-case : List MaybeClaimedRegion → Bool
 any-non-empty-case cs = any (λ c. elim c [ err d ↦ false | ok x ↦ has-children (x .children) ]) cs
 
 -- ---- The Rust's structurize_select_into: plan, define the select if it is needed, emit what it defers, replace inputs.
--- The values of the cases, each looked up. `condition` gives the bundle's condition.
+-- The values of the cases, look-up-each looked up. `condition` gives the bundle's condition.
 abbrev pub look-up-bundle : (Value → LookUp Value) → (DeferredEdgeBundle → LazyCond) → DeferredEdgeBundle → LookUp DeferredEdgeBundle
-look-up-bundle ρ condition e = plain (edge-bundle (e .target) (e .accumulated-count)) ⊛ each ρ (e .target-inputs) ⊛ plain (condition e)
+look-up-bundle ρ condition e = plain (edge-bundle (e .target) (e .accumulated-count)) ⊛ look-up-each ρ (e .target-inputs) ⊛ plain (condition e)
 
 abbrev pub look-up-case : (Value → LookUp Value) → MaybeClaimedRegion → LookUp MaybeClaimedRegion
-look-up-case ρ (err d) = plain err ⊛ each (look-up-bundle ρ (λ e. e .condition)) d
+look-up-case ρ (err d) = plain err ⊛ look-up-each (look-up-bundle ρ (λ e. e .condition)) d
 look-up-case ρ (ok c) =
-    let claimed-at = plain (claimed-as (c .origin) (c .structured-body)) ⊛ each ρ (c .structured-body-inputs) ⊛ plain (c .children) in
-    plain ok ⊛ (claimed-at ⊛ each (look-up-bundle ρ (λ e. e .condition)) (c .deferred-edges))
+    let claimed-at = plain (claimed-as (c .origin) (c .structured-body)) ⊛ look-up-each ρ (c .structured-body-inputs) ⊛ plain (c .children) in
+    plain ok ⊛ (claimed-at ⊛ look-up-each (look-up-bundle ρ (λ e. e .condition)) (c .deferred-edges))
 
 unfoldable pub rewrite-cases : List MaybeClaimedRegion → Step (List MaybeClaimedRegion)
-rewrite-cases cs s = note (each (look-up-case (look-up (s .region-input-rewrites))) cs) s
+rewrite-cases cs s = note (look-up-each (look-up-case (look-up (s .region-input-rewrites))) cs) s
 
 -- The select's cases: a claimed region with its children, or a new region. Outputs are added by the last rewriting.
 unfoldable pub case-regions : List MaybeClaimedRegion → Step Cases
@@ -559,22 +558,22 @@ module _ (g : Graph) where
   visit zero todo seen = seen
   visit (suc fuel) [] seen = seen
   visit (suc fuel) (r ∷ todo) seen =
-      elim (isIn r seen) [ true ↦ visit fuel todo seen | false ↦ visit fuel (targetsOf g r ++ todo) (r ∷ seen) ]
+      elim (is-in r seen) [ true ↦ visit fuel todo seen | false ↦ visit fuel (targets-of g r ++ todo) (r ∷ seen) ]
 
-  -- The regions that the entry reaches, each once. One visit for the entry and one for each edge.
+  -- The regions that the entry reaches, look-up-each once. One visit for the entry and one for look-up-each edge.
   abbrev pub reachable : List ℕ
-  reachable = visit (suc (total (λ r. length (edgesOf (r .terminator))) (g .regions))) (g .entry ∷ []) []
+  reachable = visit (suc (total (λ r. length (edges-of (r .terminator))) (g .regions))) (g .entry ∷ []) []
 
-  -- Of region a, where `live` are the reachable regions: 1 for the entry, each edge from them to a, each exit list of theirs that names a.
+  -- Of region a, where `live` are the reachable regions: 1 for the entry, look-up-each edge from them to a, look-up-each exit list of theirs that names a.
   abbrev pub incoming-edge-count : List ℕ → ℕ → IncomingEdgeCount
-  incoming-edge-count live a = pick (eqb a (g .entry)) 1 0 + total (λ r. times-in a (targetsOf g r) + times-in a (exit-targets r)) live
+  incoming-edge-count live a = pick (eqb a (g .entry)) 1 0 + total (λ r. times-in a (targets-of g r) + times-in a (exit-targets r)) live
 
   -- The Rust's incoming_edge_counts_including_loop_exits, worked out once.
   unfoldable pub incoming-edge-counts : List IncomingEdgeCount
   incoming-edge-counts = let live = reachable in map (incoming-edge-count live) (numbers-from 0 (g .regions))
 
 -- ---- A claimed region with a back edge to itself becomes a loop in a wrapper region.
--- The header's inputs taken so far: how each is rewritten, and of those kept the initial inputs, types and body outputs.
+-- The header's inputs taken so far: how look-up-each is rewritten, and of those kept the initial inputs, types and body outputs.
 pub record LoopInputs : Type 0 where
   pub rewrites : List InputRewrite
   pub initial-inputs : List Value
@@ -594,16 +593,16 @@ abbrev pub lift-input : ℕ → ℕ → LoopInputs → LoopInputs
 lift-input wrapper k x =
     record { rewrites = x .rewrites ++ (replace-by (input wrapper k) ∷ []); initial-inputs = x .initial-inputs; types = x .types; outputs = x .outputs }
 
--- A claimed loop adds ONE to each deferred target in its exit list, once.
+-- A claimed loop adds ONE to look-up-each deferred target in its exit list, once.
 abbrev pub add-exit-edge : List ℕ → DeferredEdgeBundle → DeferredEdgeBundle
 add-exit-edge xs e =
-    let more : ℕ → IncomingEdgeCount = λ r. pick (isIn r xs) (suc (e .accumulated-count)) (e .accumulated-count) in
+    let more : ℕ → IncomingEdgeCount = λ r. pick (is-in r xs) (suc (e .accumulated-count)) (e .accumulated-count) in
     elim (e .target) [ to-region r ↦ edge-bundle (to-region r) (more r) (e .target-inputs) (e .condition) | to-return ↦ e ]
 
 module _ (g : Graph) where
   -- An input that is passed back unchanged is lifted out of the loop.
   abbrev pub take-input : ℕ → ℕ → ℕ → Value → LoopInputs → LoopInputs
-  take-input r wrapper k v x = pick (sameValue v (input r k)) (lift-input wrapper k x) (keep-input wrapper k (getD (region g r .inputs) k 0) v x)
+  take-input r wrapper k v x = pick (same-value v (input r k)) (lift-input wrapper k x) (keep-input wrapper k (getD (region g r .inputs) k 0) v x)
 
   abbrev pub take-inputs : ℕ → ℕ → ℕ → List Value → LoopInputs → LoopInputs
   take-inputs r wrapper k [] x = x
@@ -622,7 +621,7 @@ module _ (g : Graph) where
     let looped = loop n (x .initial-inputs) body (x .types) (region g body .limit) children (x .outputs) v ▸ ⟨⟩
     give (some (claimed-as body wrapper inputs looped (map (add-exit-edge (exit-targets g body)) exits)))
 
--- ---- The Rust's try_claim_edge_bundle and structurize_region, which call each other.
+-- ---- The Rust's try_claim_edge_bundle and structurize_region, which call look-up-each other.
 -- target, accumulated count, inputs; none is the Rust's Err, the bundle handed back as it was
 abbrev pub Claim : Type 0
 Claim = ℕ → IncomingEdgeCount → List Value → Step (Option ClaimedRegion)
@@ -674,7 +673,7 @@ module _ (g : Graph) where
   claim-by-state r n inputs incoming (ready b children d) =
       elim (eqb incoming (n + b)) [ false ↦ give none | true ↦ set-state r claimed >> claim-body r inputs children d (backedge-of r b d) ]
 
-  -- What a terminator makes of its targets, each claimed or deferred: children, and deferred edges.
+  -- What a terminator makes of its targets, look-up-each claimed or deferred: children, and deferred edges.
   abbrev pub by-control-inst : Nodes → ControlInst → List MaybeClaimedRegion → Step Body
   by-control-inst parent unreachable cs = give (region-body parent [])
   by-control-inst parent (return vs) cs = give (region-body parent (edge-bundle to-return 0 vs true-cond ∷ []))
@@ -715,7 +714,7 @@ module _ (g : Graph) where
     unfoldable pub structurize-region : ℕ → Step Unit
     structurize-region r = do
       set-state r in-progress
-      cs ← target-regions (edgesOf (region g r .terminator))
+      cs ← target-regions (edges-of (region g r .terminator))
       x ← by-control-inst (blocks-of g r) (region g r .terminator) cs
       y ← resolve-deferred (length (g .regions)) x
       set-state r (ready (count-to r (y .deferred-edges)) (y .children) (y .deferred-edges))
@@ -739,18 +738,18 @@ case-outputs n j os = map (λ o. getD (o .values) j (undef 0)) (filter (λ o. eq
 
 abbrev pub look-up-reads : (Value → LookUp Value) → Instr → LookUp Instr
 look-up-reads ρ i =
-    let vs = each ρ (i .reads) in
+    let vs = look-up-each ρ (i .reads) in
     record { value = record { opcode = i .opcode; type = i .type; cost = i .cost; reads = vs .value }; twice = vs .twice }
 
 -- ρ is the look-up, os all outputs that were defined.
 module _ (ρ : Value → LookUp Value) (os : List NodeOutput) where
   unfoldable mutual
     pub look-up-node : Node → LookUp Node
-    look-up-node (block n r k is) = plain (block n r k) ⊛ each (look-up-reads ρ) is
+    look-up-node (block n r k is) = plain (block n r k) ⊛ look-up-each (look-up-reads ρ) is
     look-up-node (select n kind v decls cs) = plain (select n kind) ⊛ ρ v ⊛ plain (output-decls n 0 os) ⊛ look-up-cases cs n 0
     look-up-node (loop n initial r types limit body outputs repeat) =
-        plain (loop n) ⊛ each ρ initial ⊛ plain r ⊛ plain types ⊛ plain limit ⊛ look-up-nodes body ⊛ each ρ outputs ⊛ ρ repeat
-    look-up-node (exit n op vs) = plain (exit n op) ⊛ each ρ vs
+        plain (loop n) ⊛ look-up-each ρ initial ⊛ plain r ⊛ plain types ⊛ plain limit ⊛ look-up-nodes body ⊛ look-up-each ρ outputs ⊛ ρ repeat
+    look-up-node (exit n op vs) = plain (exit n op) ⊛ look-up-each ρ vs
 
     pub look-up-nodes : Nodes → LookUp Nodes
     look-up-nodes ⟨⟩ = plain ⟨⟩
@@ -759,7 +758,7 @@ module _ (ρ : Value → LookUp Value) (os : List NodeOutput) where
     pub look-up-cases : Cases → ℕ → ℕ → LookUp Cases  -- node, place of the first of these cases
     look-up-cases ∅ n j = plain ∅
     look-up-cases (case r body outputs cs) n j =
-        plain (case r) ⊛ look-up-nodes body ⊛ each ρ (case-outputs n j os) ⊛ look-up-cases cs n (suc j)
+        plain (case r) ⊛ look-up-nodes body ⊛ look-up-each ρ (case-outputs n j os) ⊛ look-up-cases cs n (suc j)
 
 -- ---- What nesting answers: an outcome with the regions that it gives, or a refusal.
 -- Document 01's four outcomes, in its order.
@@ -808,13 +807,13 @@ module _ (g : Graph) (s : NestState) where
   unfoldable pub look-up-piece : Piece → LookUp Piece
   look-up-piece p =
       let ρ = look-up (s .region-input-rewrites) in
-      let given = each (look-up-bundle ρ (condition-in (p .deferred))) (p .deferred) in
-      plain (piece g (p .region)) ⊛ look-up-nodes ρ (s .node-outputs) (p .children) ⊛ each ρ (p .outputs) ⊛ given
+      let given = look-up-each (look-up-bundle ρ (condition-in (p .deferred))) (p .deferred) in
+      plain (piece g (p .region)) ⊛ look-up-nodes ρ (s .node-outputs) (p .children) ⊛ look-up-each ρ (p .outputs) ⊛ given
 
   abbrev pub conclude-with : Outcome → Piece → List Piece → Nested  -- outcome, entry, unclaimed regions
   conclude-with outcome entry unclaimed =
       let x = look-up-piece entry in
-      let xs = each look-up-piece unclaimed in
+      let xs = look-up-each look-up-piece unclaimed in
       let nodes = map (λ o. o .node) (s .node-outputs) in
       record { outcome = outcome; attempts = s .attempts; twice = s .twice || (x .twice || xs .twice); entry = x .value; unclaimed = xs .value; output-nodes = nodes }
 
@@ -826,7 +825,7 @@ module _ (g : Graph) (s : NestState) where
   conclude-by children d leftover = conclude-with leftover (piece g (g .entry) children [] d) (unclaimed-from g 0 (s .region-states))
 
 -- The entry is always claimed: its incoming count is 1.
-unfoldable pub conclude : Graph → Answer (Option ClaimedRegion) → Store.Answer Nested
+unfoldable pub conclude : Graph → StepAnswer (Option ClaimedRegion) → Store.Answer Nested
 conclude g (turned-away n w) = refused n w
 conclude g (done none s) = refused 0 0
 conclude g (done (some c) s) = accepted (conclude-by g s (c .children) (c .deferred-edges) (outcome-of (c .deferred-edges)))

@@ -9,7 +9,7 @@ use Rattle.meaning.specs.Lists.{concat, total, times-in}
 use Rattle.meaning.specs.Graph.{Instr, SelectionKind, Value, const, input, instr, output, bool, undef, held, pick, Graph, bool-cond, number, bit, no-value}
 use Rattle.meaning.specs.Runs.{Node, block, select, loop, exit, Nodes, ⟨⟩, _▸_, Cases, ∅, case}
 use Rattle.meaning.specs.Text.{Text, ascii, decimal, joined, listed}
-use Rattle.format.specs.Store.{Answer, accepted, refused, andThen}
+use Rattle.format.specs.Store.{Answer, accepted, refused, if-accepted}
 use Rattle.format.specs.Accept.{accept}
 use Rattle.nesting.specs.Nesting.{Outcome, LazyCond, undef-cond, false-cond, true-cond, merge, LazyConds, _&_, DeferredTarget, to-region, to-return, DeferredEdgeBundle, untouched, whole, closed, leftover, Piece, Nested, structurize-func}
 
@@ -42,8 +42,8 @@ abbrev pub label : String → Field
 label s = record { words = []; text = ascii s }
 
 -- A number with a name for it in the text.
-abbrev pub named : ℕ → String → Field
-named n s = record { words = n ∷ []; text = ascii s }
+abbrev pub number-as : ℕ → String → Field
+number-as n s = record { words = n ∷ []; text = ascii s }
 
 abbrev pub a-number : ℕ → Field
 a-number n = record { words = n ∷ []; text = decimal n }
@@ -65,20 +65,20 @@ dotted r k = joint "." (a-number r ∷ a-number k ∷ [])
 
 -- The kind of a select: bool 0, num 1.
 abbrev pub kind : SelectionKind → Field
-kind bool-cond = named 0 "bool"
-kind number = named 1 "num"
+kind bool-cond = number-as 0 "bool"
+kind number = number-as 1 "num"
 
 -- The target Return prints `return` and is 65,535 as a word. That word prints so in any case; no region has it for a number.
 abbrev pub target : DeferredTarget → Field
-target to-return = named 65535 "return"
-target (to-region r) = pick (eqb r 65535) (named r "return") (a-number r)
+target to-return = number-as 65535 "return"
+target (to-region r) = pick (eqb r 65535) (number-as r "return") (a-number r)
 
 unfoldable mutual
   -- A condition: t, f, u, or m, the node and its parts in brackets.
   pub condition : LazyCond → Field
-  condition true-cond = named 1 "t"
-  condition false-cond = named 2 "f"
-  condition undef-cond = named 3 "u"
+  condition true-cond = number-as 1 "t"
+  condition false-cond = number-as 2 "f"
+  condition undef-cond = number-as 3 "u"
   condition (merge n k v cs) =
       let parts = conditions cs in
       record { words = 4 ∷ n ∷ list parts .words; text = ascii "m" ++ decimal n ++ ascii "[" ++ joint "," parts .text ++ ascii "]" }
@@ -96,23 +96,23 @@ kids (select n kind v os cs ▸ ks) = n ∷ kids ks
 kids (loop n vs r ts limit body us v ▸ ks) = n ∷ kids ks
 kids (exit n op vs ▸ ks) = n ∷ kids ks
 
-abbrev pub case-regions : Cases → List ℕ
-case-regions ∅ = []
-case-regions (case r ks vs cs) = r ∷ case-regions cs
+abbrev pub case-numbers : Cases → List ℕ
+case-numbers ∅ = []
+case-numbers (case r ks vs cs) = r ∷ case-numbers cs
 
 -- `nodes` has the node of each output ever defined, in order.
 module _ (nodes : List ℕ) where
   -- A value: kind, region, index. An output is shown as its node and its place among that node's, a marked input as an input.
   abbrev pub value : Value → Field
   value (const i) = record { words = 0 ∷ 0 ∷ i ∷ []; text = ascii "c" ++ decimal i }
-  value (input r k) = joint "" (named 1 "i" ∷ dotted r k ∷ [])
-  value (instr r k) = joint "" (named 2 "d" ∷ dotted r k ∷ [])
-  value (output o) = let n = getD nodes o 0 in joint "" (named 3 "n" ∷ dotted n (times-in n (take o nodes)) ∷ [])
+  value (input r k) = joint "" (number-as 1 "i" ∷ dotted r k ∷ [])
+  value (instr r k) = joint "" (number-as 2 "d" ∷ dotted r k ∷ [])
+  value (output o) = let n = getD nodes o 0 in joint "" (number-as 3 "n" ∷ dotted n (times-in n (take o nodes)) ∷ [])
   value (bool false) = record { words = 4 ∷ 0 ∷ 0 ∷ []; text = ascii "false" }
   value (bool true) = record { words = 4 ∷ 0 ∷ 1 ∷ []; text = ascii "true" }
   value (undef ty) = record { words = 5 ∷ 0 ∷ ty ∷ []; text = ascii "undef" ++ decimal ty }
   value no-value = record { words = 5 ∷ 0 ∷ 0 ∷ []; text = ascii "undef" ++ decimal 0 }  -- on no sheet
-  value (held r k) = joint "" (named 1 "i" ∷ dotted r k ∷ [])
+  value (held r k) = joint "" (number-as 1 "i" ∷ dotted r k ∷ [])
 
   abbrev pub values : List Value → Field
   values vs = list (map value vs)
@@ -125,22 +125,22 @@ module _ (nodes : List ℕ) where
   -- Region, inputs' types, child nodes, output values.
   abbrev pub region-fields : ℕ → List ℕ → Nodes → List Value → List Field
   region-fields r ts ks vs =
-      named 0 "region" ∷ a-number r ∷ label "in" ∷ numbers ts ∷ label "kids" ∷ numbers (kids ks) ∷ label "out" ∷ values vs ∷ []
+      number-as 0 "region" ∷ a-number r ∷ label "in" ∷ numbers ts ∷ label "kids" ∷ numbers (kids ks) ∷ label "out" ∷ values vs ∷ []
 
   unfoldable mutual
     -- Each child, a select's cases or a loop's body following it. Block: node, items. Select: node, kind, value, case regions,
     -- types of its outputs. Loop: node, first inputs, body region, repeat value. Exit: node, opcode, values.
     pub node-lines : Node → List (List Field)
-    node-lines (block n r k is) = (named 1 "block" ∷ a-number n ∷ list (items r k is) ∷ []) ∷ []
+    node-lines (block n r k is) = (number-as 1 "block" ∷ a-number n ∷ list (items r k is) ∷ []) ∷ []
     node-lines (select n k v os cs) =
         let types = map (λ o. o .type) os in
-        (named 2 "select" ∷ a-number n ∷ kind k ∷ value v ∷ label "cases" ∷ numbers (case-regions cs) ∷ label "out" ∷ numbers types ∷ [])
+        (number-as 2 "select" ∷ a-number n ∷ kind k ∷ value v ∷ label "cases" ∷ numbers (case-numbers cs) ∷ label "out" ∷ numbers types ∷ [])
         ∷ case-lines cs
     node-lines (loop n vs r ts limit ks us v) =
-        (named 3 "loop" ∷ a-number n ∷ label "in" ∷ values vs ∷ label "body" ∷ a-number r ∷ label "repeat" ∷ value v ∷ [])
+        (number-as 3 "loop" ∷ a-number n ∷ label "in" ∷ values vs ∷ label "body" ∷ a-number r ∷ label "repeat" ∷ value v ∷ [])
         ∷ region-fields r ts ks us
         ∷ nodes-lines ks
-    node-lines (exit n op vs) = (named 4 "exit" ∷ a-number n ∷ a-number op ∷ label "in" ∷ values vs ∷ []) ∷ []
+    node-lines (exit n op vs) = (number-as 4 "exit" ∷ a-number n ∷ a-number op ∷ label "in" ∷ values vs ∷ []) ∷ []
 
     pub nodes-lines : Nodes → List (List Field)
     nodes-lines ⟨⟩ = []
@@ -157,7 +157,7 @@ module _ (nodes : List ℕ) where
   -- Region, target, count, inputs, condition.
   abbrev pub defer-fields : ℕ → DeferredEdgeBundle → List Field
   defer-fields r e =
-      named 5 "defer" ∷ a-number r ∷ label "to" ∷ target (e .target) ∷ label "count" ∷ a-number (e .accumulated-count)
+      number-as 5 "defer" ∷ a-number r ∷ label "to" ∷ target (e .target) ∷ label "count" ∷ a-number (e .accumulated-count)
       ∷ label "in" ∷ values (e .target-inputs) ∷ label "if" ∷ condition (e .condition) ∷ []
 
   -- In the order of the region's set.
@@ -198,17 +198,17 @@ sheet-of g x =
 
 -- The outcomes, 0 to 3.
 abbrev pub outcome : Outcome → Field
-outcome untouched = named 0 "untouched"
-outcome whole = named 1 "whole"
-outcome closed = named 2 "closed"
-outcome leftover = named 3 "leftover"
+outcome untouched = number-as 0 "untouched"
+outcome whole = number-as 1 "whole"
+outcome closed = number-as 2 "closed"
+outcome leftover = number-as 3 "leftover"
 
 -- `-` if there is none, which is 0 as a word.
 abbrev pub figure-field : Outcome → ℕ → Field
-figure-field untouched n = named n "-"
+figure-field untouched n = number-as n "-"
 figure-field whole n = a-number n
 figure-field closed n = a-number n
-figure-field leftover n = named n "-"
+figure-field leftover n = number-as n "-"
 
 -- Line 1: outcome, figure, attempts, twice.
 abbrev pub line-1 : Sheet → List Field
@@ -235,8 +235,8 @@ figure-fits s = elim (leb (s .figure) 4294967295) [ true ↦ accepted s | false 
 unfoldable pub sheet-for : List ℕ → Answer Sheet
 unfolding accept structurize-func sheet-of
 sheet-for store =
-    andThen (accept store) λ g.
-    andThen (structurize-func g) λ x.
+    if-accepted (accept store) λ g.
+    if-accepted (structurize-func g) λ x.
     figure-fits (sheet-of g x)
 
 -- Refusal 10: the lent words are too few.
@@ -245,12 +245,12 @@ words-fit lent s = elim (leb (length (sheet-words s)) lent) [ true ↦ accepted 
 
 unfoldable pub answer : List ℕ → ℕ → Answer Sheet
 unfolding sheet-for sheet-words
-answer store lent = andThen (sheet-for store) (words-fit lent)
+answer store lent = if-accepted (sheet-for store) (words-fit lent)
 
 -- The words of the sheet, which the lent words then begin with.
 unfoldable pub answer-words : List ℕ → ℕ → Answer (List ℕ)
 unfolding answer
-answer-words store lent = andThen (answer store lent) λ s. accepted (sheet-words s)
+answer-words store lent = if-accepted (answer store lent) λ s. accepted (sheet-words s)
 
 -- A refusal prints one line: `refused`, the number and its word.
 unfoldable pub answer-text : Answer Sheet → Text

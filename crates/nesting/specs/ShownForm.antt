@@ -6,7 +6,7 @@ use Rattle.meaning.specs.Graph.{Code, SelectionKind, Graph}
 use Rattle.meaning.specs.Runs.{Node, block, select, loop, exit, Nodes, ⟨⟩, _▸_, Cases, ∅, case}
 use Rattle.nesting.specs.Nesting.{DeferredEdgeBundle, Outcome, untouched, whole, closed, leftover, Piece, Nested}
 use Rattle.nesting.specs.Sheet.{figure, ascending}
-use Rattle.nesting.specs.Lines.{Item, Condition, target-word, shown-cond, shown, block-items}
+use Rattle.nesting.specs.decoding.Lines.{Item, Condition, target-word, shown-cond, shown, block-items}
 
 infixr 40 _▹_ _▹▹_
 mutual

@@ -7,24 +7,25 @@ use native.Mathlib.Numerals.{add-one}
 use lib.ListN.{length, getD, take, length-take}
 use lib.Seq.{getD-take}
 use borrow.Author.Tests.{lt-ltb, le-ltb, le-leb, lt-leb}
-use Rattle.format.specs.Read.{Read, got, bad, Reader, follow, word, within, many, counted}
-use Rattle.format.specs.Places.{next, forgetValue, after}
-use Rattle.format.specs.ReadLaws.{clash, many-step, many-stop}
+use Rattle.format.specs.Read.{Read, got, bad, Reader, read-then, word, within, many, counted}
+use Rattle.format.specs.Places.{next, forget-value, after}
+use Rattle.meaning.specs.facts.Tests.{clash}
+use Rattle.format.specs.laws.Readers.{many-step, many-stop}
 
 -- The value is forgotten at the end of a sequence; what is only given there is forgotten, and what does not look at a value may have it forgotten.
-pub forgetValue-follow : {A B : Type 0} (r : Read A) (k : A → ℕ → Read B) → forgetValue (follow r k) ≡ follow r (λ a i. forgetValue (k a i))
-forgetValue-follow (got a i) k = refl
-forgetValue-follow (bad n) k = refl
+pub forget-value-follow : {A B : Type 0} (r : Read A) (k : A → ℕ → Read B) → forget-value (read-then r k) ≡ read-then r (λ a i. forget-value (k a i))
+forget-value-follow (got a i) k = refl
+forget-value-follow (bad n) k = refl
 
-pub forgetValue-given : {A : Type 0} (r : Read A) → follow r (λ a i. got tt i) ≡ forgetValue r
-forgetValue-given (got a i) = refl
-forgetValue-given (bad n) = refl
+pub forget-value-given : {A : Type 0} (r : Read A) → read-then r (λ a i. got tt i) ≡ forget-value r
+forget-value-given (got a i) = refl
+forget-value-given (bad n) = refl
 
-pub follow-forgetValue : {A B : Type 0} (r : Read A) (k : ℕ → Read B) → follow (forgetValue r) (λ u i. k i) ≡ follow r (λ a i. k i)
-follow-forgetValue (got a i) k = refl
-follow-forgetValue (bad n) k = refl
+pub follow-forget-value : {A B : Type 0} (r : Read A) (k : ℕ → Read B) → read-then (forget-value r) (λ u i. k i) ≡ read-then r (λ a i. k i)
+follow-forget-value (got a i) k = refl
+follow-forget-value (bad n) k = refl
 
-pub follow-follow : {A B C : Type 0} (r : Read A) (j : A → ℕ → Read B) (k : B → ℕ → Read C) → follow (follow r j) k ≡ follow r (λ a i. follow (j a i) k)
+pub follow-follow : {A B C : Type 0} (r : Read A) (j : A → ℕ → Read B) (k : B → ℕ → Read C) → read-then (read-then r j) k ≡ read-then r (λ a i. read-then (j a i) k)
 follow-follow (got a i) j k = refl
 follow-follow (bad n) j k = refl
 
@@ -67,45 +68,45 @@ module _ (low high : ℕ) (ws : List ℕ) (at : ℕ) where
 left : (n k : ℕ) → k < n → n - k ≡ suc (n - (k + 1))
 left n k l = omega arith
 
-pub next-of : {A : Type 0} (r : Read A) {e : ℕ} → forgetValue r ≡ got tt e → e ≡ next r
+pub next-of : {A : Type 0} (r : Read A) {e : ℕ} → forget-value r ≡ got tt e → e ≡ next r
 next-of (got a i) h = cc
 next-of (bad m) h = absurd (clash (cc))
 
 -- The k-th turn of a loop that reads n of them: the rest is read from a place, where k of them end.
 pub record Going {A : Type 0} (p : Reader A) (ws : List ℕ) (n from k at : ℕ) : Type 0 where
   pub bound : k ≤ n
-  pub rest : forgetValue (many n p ws from) ≡ forgetValue (many (n - k) p ws at)
+  pub rest : forget-value (many n p ws from) ≡ forget-value (many (n - k) p ws at)
   pub place : at ≡ after k p ws from
 
 module _ {A : Type 0} {p : Reader A} {ws : List ℕ} {n from : ℕ} where
   pub going-start : Going p ws n from 0 from
   unfolding after
-  going-start = record { bound = omega arith; rest = ap (λ k. forgetValue (many k p ws from)) (omega arith); place = refl }
+  going-start = record { bound = omega arith; rest = ap (λ k. forget-value (many k p ws from)) (omega arith); place = refl }
 
-  pub going-next : {k at e : ℕ} → Going p ws n from k at → k < n → forgetValue (p ws at) ≡ got tt e → Going p ws n from (k + 1) e
+  pub going-next : {k at e : ℕ} → Going p ws n from k at → k < n → forget-value (p ws at) ≡ got tt e → Going p ws n from (k + 1) e
   unfolding after
   going-next {k} {at} {e} g l h =
       record {
         bound = omega arith;
-        rest = g .rest ∙ ap (λ m. forgetValue (many m p ws at)) (left n k l) ∙ many-step p ws (n - (k + 1)) at h;
+        rest = g .rest ∙ ap (λ m. forget-value (many m p ws at)) (left n k l) ∙ many-step p ws (n - (k + 1)) at h;
         place = next-of (p ws at) h ∙ ap (λ i. next (p ws i)) (g .place) ∙ ap (λ j. after j p ws from) (sym (add-one k));
       }
 
-  pub going-stop : {k at m : ℕ} → Going p ws n from k at → k < n → forgetValue (p ws at) ≡ bad m → bad m ≡ forgetValue (many n p ws from)
-  going-stop {k} {at} {m} g l h = sym (g .rest ∙ ap (λ j. forgetValue (many j p ws at)) (left n k l) ∙ many-stop p ws (n - (k + 1)) at h)
+  pub going-stop : {k at m : ℕ} → Going p ws n from k at → k < n → forget-value (p ws at) ≡ bad m → bad m ≡ forget-value (many n p ws from)
+  going-stop {k} {at} {m} g l h = sym (g .rest ∙ ap (λ j. forget-value (many j p ws at)) (left n k l) ∙ many-stop p ws (n - (k + 1)) at h)
 
-  pub going-end : {k at : ℕ} → Going p ws n from k at → n ≤ k → got tt at ≡ forgetValue (many n p ws from)
+  pub going-end : {k at : ℕ} → Going p ws n from k at → n ≤ k → got tt at ≡ forget-value (many n p ws from)
   unfolding many
-  going-end {k} {at} g l = sym (g .rest ∙ ap (λ j. forgetValue (many j p ws at)) none)
+  going-end {k} {at} g l = sym (g .rest ∙ ap (λ j. forget-value (many j p ws at)) none)
     where
       none : n - k ≡ 0
       none = omega arith
 
 module _ {A : Type 0} (low high : ℕ) (p : Reader A) (ws : List ℕ) (at : ℕ) where
-  pub counted-stop : {m : ℕ} → within low high ws at ≡ bad m → bad m ≡ forgetValue (counted low high p ws at)
+  pub counted-stop : {m : ℕ} → within low high ws at ≡ bad m → bad m ≡ forget-value (counted low high p ws at)
   unfolding counted
   counted-stop h = rw h
 
-  pub counted-rest : {n e : ℕ} → within low high ws at ≡ got n e → forgetValue (many n p ws e) ≡ forgetValue (counted low high p ws at)
+  pub counted-rest : {n e : ℕ} → within low high ws at ≡ got n e → forget-value (many n p ws e) ≡ forget-value (counted low high p ws at)
   unfolding counted
   counted-rest h = rw h

@@ -7,8 +7,9 @@ use native.Mathlib.Omega.{arith}
 use lib.ListN.{length, getD}
 use lib.Dec.{leb, ltb}
 use borrow.Author.Tests.{ltb-true, leb-true}
-use Rattle.format.specs.Read.{got, bad, Reader, follow, expect, word, within, many, counted}
-use Rattle.format.specs.ReadLaws.{clash, part, many-length}
+use Rattle.format.specs.Read.{got, bad, Reader, read-then, expect, word, within, many, counted}
+use Rattle.meaning.specs.facts.Tests.{clash}
+use Rattle.format.specs.laws.Readers.{part, many-length}
 
 -- two tests at once
 pub both : (a b : Bool) → (a && b) ≡ true → (a ≡ true) × (b ≡ true)
@@ -39,10 +40,10 @@ pub record WithinParts (low high : ℕ) (ws : List ℕ) (at n e : ℕ) : Type 0 
 pub within-parts : (low high : ℕ) (ws : List ℕ) (at : ℕ) {n e : ℕ} → within low high ws at ≡ got n e → WithinParts low high ws at n e
 unfolding within
 within-parts low high ws at {n} {e} h =
-    let a = part (word ws at) (λ k i. follow (expect (leb low k && leb k high) ws i) λ u j. got k j) n e h in
+    let a = part (word ws at) (λ k i. read-then (expect (leb low k && leb k high) ws i) λ u j. got k j) n e h in
     by-test (a .value) (a .place) (leb low (a .value) && leb (a .value) high) refl (word-parts ws at (a .first)) (a .second)
   where
-    by-test : (k i : ℕ) (t : Bool) → (leb low k && leb k high) ≡ t → WordParts ws at k i → follow (expect t ws i) (λ u j. got k j) ≡ got n e → WithinParts low high ws at n e
+    by-test : (k i : ℕ) (t : Bool) → (leb low k && leb k high) ≡ t → WordParts ws at k i → read-then (expect t ws i) (λ u j. got k j) ≡ got n e → WithinParts low high ws at n e
     by-test k i true q w r =
         let same : k ≡ n = cc in
         let there : i ≡ e = cc in

@@ -10,8 +10,9 @@ use lib.Seq.{getD-take}
 use lib.Dec.{eqb, leb}
 use borrow.Author.Tests.{eqb-true, leb-true, leb-false, eq-eqb, ne-eqb}
 use Rattle.meaning.specs.Graph.{pick}
-use Rattle.format.specs.Read.{got, word, many, isIn, distinctFrom}
-use Rattle.format.specs.ReadLaws.{part, got-value}
+use Rattle.format.specs.Read.{got, word, many, distinct-from}
+use Rattle.meaning.specs.Lists.{is-in}
+use Rattle.format.specs.laws.Readers.{part, got-value}
 use Rattle.reading.specs.Parts.{word-parts}
 
 -- Whether t is among the n words from a place on.
@@ -46,9 +47,9 @@ pub firsts-end : (w : List ℕ) (from n k : ℕ) {d : ℕ} → n ≤ k → k ≤
 firsts-end w from n k p q h = let same : k ≡ n = omega arith in rw same h
 
 -- The n words from a place on.
-unfoldable pub wordsFrom : List ℕ → ℕ → ℕ → List ℕ
-wordsFrom w from zero = []
-wordsFrom w from (suc n) = wordsFrom w from n ++ (getD w (from + n) 0 ∷ [])
+unfoldable pub words-from : List ℕ → ℕ → ℕ → List ℕ
+words-from w from zero = []
+words-from w from (suc n) = words-from w from n ++ (getD w (from + n) 0 ∷ [])
 
 or-assoc : (a b c : Bool) → ((a || b) || c) ≡ (a || (b || c))
 or-assoc true b c = refl
@@ -62,22 +63,22 @@ or-false : (b : Bool) → (b || false) ≡ b
 or-false true = refl
 or-false false = refl
 
-isIn-snoc : (t u : ℕ) (ts : List ℕ) → isIn t (ts ++ (u ∷ [])) ≡ (isIn t ts || eqb t u)
-isIn-snoc t u [] = or-false (eqb t u)
-isIn-snoc t u (x ∷ ts) = ap (λ b. eqb t x || b) (isIn-snoc t u ts) ∙ sym (or-assoc (eqb t x) (isIn t ts) (eqb t u))
+is-in-snoc : (t u : ℕ) (ts : List ℕ) → is-in t (ts ++ (u ∷ [])) ≡ (is-in t ts || eqb t u)
+is-in-snoc t u [] = or-false (eqb t u)
+is-in-snoc t u (x ∷ ts) = ap (λ b. eqb t x || b) (is-in-snoc t u ts) ∙ sym (or-assoc (eqb t x) (is-in t ts) (eqb t u))
 
 -- one target more
-distinct-snoc : (seen ts : List ℕ) (t : ℕ) → length (distinctFrom seen (ts ++ (t ∷ []))) ≡ length (distinctFrom seen ts) + pick (isIn t seen || isIn t ts) 0 1
-unfolding distinctFrom
-distinct-snoc seen [] t = by-test (isIn t seen)
+distinct-snoc : (seen ts : List ℕ) (t : ℕ) → length (distinct-from seen (ts ++ (t ∷ []))) ≡ length (distinct-from seen ts) + pick (is-in t seen || is-in t ts) 0 1
+unfolding distinct-from
+distinct-snoc seen [] t = by-test (is-in t seen)
   where
     by-test : (b : Bool) → length {A = ℕ} (elim b [ true ↦ [] | false ↦ t ∷ [] ]) ≡ 0 + pick (b || false) 0 1
     by-test true = refl
     by-test false = refl
-distinct-snoc seen (x ∷ ts) t = by-test (isIn x seen) refl (λ more. distinct-snoc more ts t)
+distinct-snoc seen (x ∷ ts) t = by-test (is-in x seen) refl (λ more. distinct-snoc more ts t)
   where
     -- x stood before: t is not in doubt for x alone
-    covered : isIn x seen ≡ true → (b : Bool) → eqb t x ≡ b → (isIn t seen || isIn t ts) ≡ (isIn t seen || (b || isIn t ts))
+    covered : is-in x seen ≡ true → (b : Bool) → eqb t x ≡ b → (is-in t seen || is-in t ts) ≡ (is-in t seen || (b || is-in t ts))
     covered h true q = let same : t ≡ x = eqb-true t x q in rw (same, h)
     covered h false q = refl
 
@@ -87,26 +88,26 @@ distinct-snoc seen (x ∷ ts) t = by-test (isIn x seen) refl (λ more. distinct-
     shuffle false true d = refl
     shuffle false false d = refl
 
-    by-test : (b : Bool) → isIn x seen ≡ b → ((more : List ℕ) → length (distinctFrom more (ts ++ (t ∷ []))) ≡ length (distinctFrom more ts) + pick (isIn t more || isIn t ts) 0 1) → length {A = ℕ} (elim b [ true ↦ distinctFrom seen (ts ++ (t ∷ [])) | false ↦ x ∷ distinctFrom (x ∷ seen) (ts ++ (t ∷ [])) ]) ≡ length {A = ℕ} (elim b [ true ↦ distinctFrom seen ts | false ↦ x ∷ distinctFrom (x ∷ seen) ts ]) + pick (isIn t seen || (eqb t x || isIn t ts)) 0 1
-    by-test true h rest = rest seen ∙ ap (λ b. length (distinctFrom seen ts) + pick b 0 1) (covered h (eqb t x) refl)
+    by-test : (b : Bool) → is-in x seen ≡ b → ((more : List ℕ) → length (distinct-from more (ts ++ (t ∷ []))) ≡ length (distinct-from more ts) + pick (is-in t more || is-in t ts) 0 1) → length {A = ℕ} (elim b [ true ↦ distinct-from seen (ts ++ (t ∷ [])) | false ↦ x ∷ distinct-from (x ∷ seen) (ts ++ (t ∷ [])) ]) ≡ length {A = ℕ} (elim b [ true ↦ distinct-from seen ts | false ↦ x ∷ distinct-from (x ∷ seen) ts ]) + pick (is-in t seen || (eqb t x || is-in t ts)) 0 1
+    by-test true h rest = rest seen ∙ ap (λ b. length (distinct-from seen ts) + pick b 0 1) (covered h (eqb t x) refl)
     by-test false h rest =
         let deeper = ap suc (rest (x ∷ seen)) in
-        let sorted : pick {A = ℕ} ((eqb t x || isIn t seen) || isIn t ts) 0 1 ≡ pick (isIn t seen || (eqb t x || isIn t ts)) 0 1 = ap (λ b. pick b 0 1) (shuffle (eqb t x) (isIn t seen) (isIn t ts)) in
+        let sorted : pick {A = ℕ} ((eqb t x || is-in t seen) || is-in t ts) 0 1 ≡ pick (is-in t seen || (eqb t x || is-in t ts)) 0 1 = ap (λ b. pick b 0 1) (shuffle (eqb t x) (is-in t seen) (is-in t ts)) in
         deeper ∙ omega (arith, sorted)
 
-stands-in : (w : List ℕ) (from t n : ℕ) → stands w from t n ≡ isIn t (wordsFrom w from n)
-unfolding stands wordsFrom
+stands-in : (w : List ℕ) (from t n : ℕ) → stands w from t n ≡ is-in t (words-from w from n)
+unfolding stands words-from
 stands-in w from t zero = refl
-stands-in w from t (suc n) = ap (λ b. b || eqb t (getD w (from + n) 0)) (stands-in w from t n) ∙ sym (isIn-snoc t (getD w (from + n) 0) (wordsFrom w from n))
+stands-in w from t (suc n) = ap (λ b. b || eqb t (getD w (from + n) 0)) (stands-in w from t n) ∙ sym (is-in-snoc t (getD w (from + n) 0) (words-from w from n))
 
-pub firsts-distinct : (w : List ℕ) (from n : ℕ) → firsts w from n ≡ length (distinctFrom [] (wordsFrom w from n))
-unfolding firsts first wordsFrom distinctFrom
+pub firsts-distinct : (w : List ℕ) (from n : ℕ) → firsts w from n ≡ length (distinct-from [] (words-from w from n))
+unfolding firsts first words-from distinct-from
 firsts-distinct w from zero = refl
 firsts-distinct w from (suc n) =
     let t = getD w (from + n) 0 in
     ap (λ k. k + pick (stands w from t n) 0 1) (firsts-distinct w from n)
-    ∙ ap (λ b. length (distinctFrom [] (wordsFrom w from n)) + pick b 0 1) (stands-in w from t n)
-    ∙ sym (distinct-snoc [] (wordsFrom w from n) t)
+    ∙ ap (λ b. length (distinct-from [] (words-from w from n)) + pick b 0 1) (stands-in w from t n)
+    ∙ sym (distinct-snoc [] (words-from w from n) t)
 
 -- a word that stands among the first stands among more
 pub stands-more : (w : List ℕ) (from t n k : ℕ) → n ≤ k → stands w from t n ≡ true → stands w from t k ≡ true
@@ -138,24 +139,24 @@ pub first-one : (w : List ℕ) (from n : ℕ) → stands w from (getD w (from + 
 unfolding first
 first-one w from n h = rw h
 
-wordsFrom-front : (w : List ℕ) (from n : ℕ) → wordsFrom w from (suc n) ≡ getD w from 0 ∷ wordsFrom w (from + 1) n
-unfolding wordsFrom
-wordsFrom-front w from zero = ap (λ i. getD w i 0 ∷ []) (omega arith)
-wordsFrom-front w from (suc n) =
-    ap (λ l. l ++ (getD w (from + suc n) 0 ∷ [])) (wordsFrom-front w from n)
-    ∙ ap (λ i. getD w from 0 ∷ (wordsFrom w (from + 1) n ++ (getD w i 0 ∷ []))) (omega arith)
+words-from-front : (w : List ℕ) (from n : ℕ) → words-from w from (suc n) ≡ getD w from 0 ∷ words-from w (from + 1) n
+unfolding words-from
+words-from-front w from zero = ap (λ i. getD w i 0 ∷ []) (omega arith)
+words-from-front w from (suc n) =
+    ap (λ l. l ++ (getD w (from + suc n) 0 ∷ [])) (words-from-front w from n)
+    ∙ ap (λ i. getD w from 0 ∷ (words-from w (from + 1) n ++ (getD w i 0 ∷ []))) (omega arith)
 
 -- What n readings of a word give.
-pub many-words : (n : ℕ) (ws : List ℕ) (at : ℕ) {ts : List ℕ} {e : ℕ} → many n word ws at ≡ got ts e → ts ≡ wordsFrom ws at n
-unfolding many wordsFrom
+pub many-words : (n : ℕ) (ws : List ℕ) (at : ℕ) {ts : List ℕ} {e : ℕ} → many n word ws at ≡ got ts e → ts ≡ words-from ws at n
+unfolding many words-from
 many-words zero ws at h = sym (got-value h)
 many-words (suc n) ws at {ts} {e} h =
     let a = part (word ws at) _ ts e h in
     let b = part (many n word ws (a .place)) _ ts e (a .second) in
     joined (a .value) (a .place) (b .value) (word-parts ws at (a .first) .is) (word-parts ws at (a .first) .end) (many-words n ws (a .place) (b .first)) (got-value (b .second))
   where
-    joined : (x p : ℕ) (xs : List ℕ) → x ≡ getD ws at 0 → p ≡ at + 1 → xs ≡ wordsFrom ws p n → x ∷ xs ≡ ts → ts ≡ wordsFrom ws at (suc n)
-    joined x p xs is end rest whole = sym whole ∙ ap (λ z. z ∷ xs) is ∙ ap (λ l. getD ws at 0 ∷ l) (rest ∙ ap (λ i. wordsFrom ws i n) end) ∙ sym (wordsFrom-front ws at n)
+    joined : (x p : ℕ) (xs : List ℕ) → x ≡ getD ws at 0 → p ≡ at + 1 → xs ≡ words-from ws p n → x ∷ xs ≡ ts → ts ≡ words-from ws at (suc n)
+    joined x p xs is end rest whole = sym whole ∙ ap (λ z. z ∷ xs) is ∙ ap (λ l. getD ws at 0 ∷ l) (rest ∙ ap (λ i. words-from ws i n) end) ∙ sym (words-from-front ws at n)
 
 -- each of them stands below W
 pub words-inside : (n : ℕ) (ws : List ℕ) (at : ℕ) {ts : List ℕ} {e : ℕ} → many n word ws at ≡ got ts e → (j : ℕ) → j < n → at + j < length ws

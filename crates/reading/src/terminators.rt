@@ -9,13 +9,13 @@ use crate::words::words;
 ghost use mathlib.Core.Path.{_≡_};
 ghost use Prim.Native.Nat.{ℕ, _+_, _<_};
 ghost use Rattle.format.specs.Read as read;
-ghost use Rattle.reading.specs.Answers.{stepAt};
+ghost use Rattle.reading.specs.Answers.{step-at};
 ghost use Rattle.reading.specs.Targets.{stands, first, firsts};
-ghost use Rattle.reading.specs.TerminatorsForgotten.{edgesRead, operandsRead};
+ghost use Rattle.reading.specs.TerminatorsForgotten.{edges-lists, operands-read};
 
 // How many values and targets a terminator of kind k has, at least and at most.
 fn fewest_values(k: u16) -> u16
-    ensures { λ r. ⌜ r ≡ read.fewestValues k ⌝ }
+    ensures { λ r. ⌜ r ≡ read.fewest-values k ⌝ }
 {
     if 4 <= k {
         return 1;
@@ -24,7 +24,7 @@ fn fewest_values(k: u16) -> u16
 }
 
 fn most_values(k: u16) -> u16
-    ensures { λ r. ⌜ r ≡ read.mostValues k ⌝ }
+    ensures { λ r. ⌜ r ≡ read.most-values k ⌝ }
 {
     if 4 <= k {
         return 1;
@@ -39,7 +39,7 @@ fn most_values(k: u16) -> u16
 }
 
 fn fewest_targets(k: u16) -> u16
-    ensures { λ r. ⌜ r ≡ read.fewestTargets k ⌝ }
+    ensures { λ r. ⌜ r ≡ read.fewest-targets k ⌝ }
 {
     if k == 4 {
         return 2;
@@ -51,7 +51,7 @@ fn fewest_targets(k: u16) -> u16
 }
 
 fn most_targets(k: u16) -> u16
-    ensures { λ r. ⌜ r ≡ read.mostTargets k ⌝ }
+    ensures { λ r. ⌜ r ≡ read.most-targets k ⌝ }
 {
     if k == 5 {
         return 8;
@@ -67,7 +67,7 @@ fn most_targets(k: u16) -> u16
 
 // The opcode word stands for ExitInvocation, kind 2, only.
 fn opcode_for(w: &[u16; 32256], c: Cursor, k: u16) -> Step
-    ensures { λ r. ⌜ r ≡ stepAt (read.opcodeFor k) (now (w .entry)) c ⌝ }
+    ensures { λ r. ⌜ r ≡ step-at (read.opcode-for k) (now (w .entry)) c ⌝ }
 {
     if k == 2 {
         return words(w, c, 1);
@@ -118,7 +118,7 @@ fn distinct(w: &[u16; 32256], from: usize, n: u16) -> u16
 
 // n lists of passed values
 fn passes(w: &[u16; 32256], from: Cursor, n: u16) -> Step
-    ensures { λ r. ⌜ r ≡ stepAt (read.many n (read.counted 0 4 read.value)) (now (w .entry)) from ⌝ }
+    ensures { λ r. ⌜ r ≡ step-at (read.many n (read.counted 0 4 read.read-value)) (now (w .entry)) from ⌝ }
 {
     let mut i: u16 = 0;
     let mut c = from;
@@ -136,7 +136,7 @@ fn passes(w: &[u16; 32256], from: Cursor, n: u16) -> Step
 
 // n targets and what is passed to them
 fn edges(w: &[u16; 32256], c: Cursor, n: u16) -> Step
-    ensures { λ r. ⌜ r ≡ stepAt (edgesRead n) (now (w .entry)) c ⌝ }
+    ensures { λ r. ⌜ r ≡ step-at (edges-lists n) (now (w .entry)) c ⌝ }
 {
     span(w);
     match words(w, c, n) {
@@ -151,7 +151,7 @@ fn edges(w: &[u16; 32256], c: Cursor, n: u16) -> Step
 
 // What stands after the opcode of a terminator of kind k.
 fn operands(w: &[u16; 32256], c: Cursor, k: u16) -> Step
-    ensures { λ r. ⌜ r ≡ stepAt (operandsRead k) (now (w .entry)) c ⌝ }
+    ensures { λ r. ⌜ r ≡ step-at (operands-read k) (now (w .entry)) c ⌝ }
 {
     let low = fewest_values(k);
     let high = most_values(k);
@@ -169,7 +169,7 @@ fn operands(w: &[u16; 32256], c: Cursor, k: u16) -> Step
 }
 
 pub fn terminator(w: &[u16; 32256], c: Cursor) -> Step
-    ensures { λ r. ⌜ r ≡ stepAt read.terminator (now (w .entry)) c ⌝ }
+    ensures { λ r. ⌜ r ≡ step-at read.terminator (now (w .entry)) c ⌝ }
 {
     match within(w, c, 0, 5) {
         Item::Bad(m) => Step::Bad(m),

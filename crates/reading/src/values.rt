@@ -6,12 +6,12 @@ use crate::words::within;
 use crate::words::word;
 ghost use mathlib.Core.Path.{_≡_};
 ghost use Rattle.format.specs.Read as read;
-ghost use Rattle.reading.specs.Answers.{stepAt};
-ghost use Rattle.reading.specs.ValuesForgotten.{namedBy};
+ghost use Rattle.reading.specs.Answers.{step-at};
+ghost use Rattle.reading.specs.ValuesForgotten.{named-by};
 
 // Whether a record may have kind k: 3 arises only in nesting.
 fn is_kind(k: u16) -> bool
-    ensures { λ r. ⌜ r ≡ read.isKind k ⌝ }
+    ensures { λ r. ⌜ r ≡ read.is-kind k ⌝ }
 {
     if k <= 2 {
         return true;
@@ -24,7 +24,7 @@ fn is_kind(k: u16) -> bool
 
 // Whether i can be the index of a value of kind k: of kind 5 it is a type.
 fn index_right(k: u16, i: u16) -> bool
-    ensures { λ r. ⌜ r ≡ read.indexRight k i ⌝ }
+    ensures { λ r. ⌜ r ≡ read.index-right k i ⌝ }
 {
     if k == 5 {
         if i < 1 {
@@ -37,7 +37,7 @@ fn index_right(k: u16, i: u16) -> bool
 
 // The region and the index of a value of kind k.
 fn named(w: &[u16; 32256], c: Cursor, k: u16) -> Step
-    ensures { λ r. ⌜ r ≡ stepAt (namedBy k) (now (w .entry)) c ⌝ }
+    ensures { λ r. ⌜ r ≡ step-at (named-by k) (now (w .entry)) c ⌝ }
 {
     match word(w, c) {
         Item::Bad(m) => Step::Bad(m),
@@ -54,7 +54,7 @@ fn named(w: &[u16; 32256], c: Cursor, k: u16) -> Step
 }
 
 pub fn value(w: &[u16; 32256], c: Cursor) -> Step
-    ensures { λ r. ⌜ r ≡ stepAt read.value (now (w .entry)) c ⌝ }
+    ensures { λ r. ⌜ r ≡ step-at read.read-value (now (w .entry)) c ⌝ }
 {
     match word(w, c) {
         Item::Bad(m) => Step::Bad(m),
@@ -69,7 +69,7 @@ pub fn value(w: &[u16; 32256], c: Cursor) -> Step
 
 // n values
 pub fn values(w: &[u16; 32256], from: Cursor, n: u16) -> Step
-    ensures { λ r. ⌜ r ≡ stepAt (read.many n read.value) (now (w .entry)) from ⌝ }
+    ensures { λ r. ⌜ r ≡ step-at (read.many n read.read-value) (now (w .entry)) from ⌝ }
 {
     let mut i: u16 = 0;
     let mut c = from;
@@ -86,7 +86,7 @@ pub fn values(w: &[u16; 32256], from: Cursor, n: u16) -> Step
 }
 
 pub fn counted_values(w: &[u16; 32256], c: Cursor, low: u16, high: u16) -> Step
-    ensures { λ r. ⌜ r ≡ stepAt (read.counted low high read.value) (now (w .entry)) c ⌝ }
+    ensures { λ r. ⌜ r ≡ step-at (read.counted low high read.read-value) (now (w .entry)) c ⌝ }
 {
     match within(w, c, low, high) {
         Item::Bad(m) => Step::Bad(m),
@@ -95,7 +95,7 @@ pub fn counted_values(w: &[u16; 32256], c: Cursor, low: u16, high: u16) -> Step
 }
 
 pub fn instruction(w: &[u16; 32256], c: Cursor) -> Step
-    ensures { λ r. ⌜ r ≡ stepAt read.instruction (now (w .entry)) c ⌝ }
+    ensures { λ r. ⌜ r ≡ step-at read.instruction (now (w .entry)) c ⌝ }
 {
     match word(w, c) {
         Item::Bad(m) => Step::Bad(m),
@@ -111,7 +111,7 @@ pub fn instruction(w: &[u16; 32256], c: Cursor) -> Step
 
 // n instructions
 fn instructions(w: &[u16; 32256], from: Cursor, n: u16) -> Step
-    ensures { λ r. ⌜ r ≡ stepAt (read.many n read.instruction) (now (w .entry)) from ⌝ }
+    ensures { λ r. ⌜ r ≡ step-at (read.many n read.instruction) (now (w .entry)) from ⌝ }
 {
     let mut i: u16 = 0;
     let mut c = from;
@@ -128,7 +128,7 @@ fn instructions(w: &[u16; 32256], from: Cursor, n: u16) -> Step
 }
 
 pub fn block(w: &[u16; 32256], c: Cursor) -> Step
-    ensures { λ r. ⌜ r ≡ stepAt read.block (now (w .entry)) c ⌝ }
+    ensures { λ r. ⌜ r ≡ step-at read.block (now (w .entry)) c ⌝ }
 {
     match within(w, c, 1, 8) {
         Item::Bad(m) => Step::Bad(m),

@@ -1,7 +1,7 @@
 // Words, words within bounds, and lists of them.
 ghost use mathlib.Core.Path.{_≡_};
 ghost use Rattle.format.specs.Read as read;
-ghost use Rattle.reading.specs.Answers.{itemAt, stepAt};
+ghost use Rattle.reading.specs.Answers.{item-at, step-at};
 
 // Where reading stands: the next word to read, and the end of the record's words.
 pub struct Cursor {
@@ -26,7 +26,7 @@ pub fn span(s: &[u16]) {}
 
 // No word stands past the end, nor past the array.
 pub fn word(w: &[u16; 32256], c: Cursor) -> Item
-    ensures { λ r. ⌜ r ≡ itemAt read.word (now (w .entry)) c ⌝ }
+    ensures { λ r. ⌜ r ≡ item-at read.word (now (w .entry)) c ⌝ }
 {
     span(w);
     let at = c.at;
@@ -41,7 +41,7 @@ pub fn word(w: &[u16; 32256], c: Cursor) -> Item
 }
 
 pub fn within(w: &[u16; 32256], c: Cursor, low: u16, high: u16) -> Item
-    ensures { λ r. ⌜ r ≡ itemAt (read.within low high) (now (w .entry)) c ⌝ }
+    ensures { λ r. ⌜ r ≡ item-at (read.within low high) (now (w .entry)) c ⌝ }
 {
     match word(w, c) {
         Item::Bad(m) => Item::Bad(m),
@@ -59,7 +59,7 @@ pub fn within(w: &[u16; 32256], c: Cursor, low: u16, high: u16) -> Item
 
 // n words
 pub fn words(w: &[u16; 32256], from: Cursor, n: u16) -> Step
-    ensures { λ r. ⌜ r ≡ stepAt (read.many n read.word) (now (w .entry)) from ⌝ }
+    ensures { λ r. ⌜ r ≡ step-at (read.many n read.word) (now (w .entry)) from ⌝ }
 {
     let mut i: u16 = 0;
     let mut c = from;
@@ -77,7 +77,7 @@ pub fn words(w: &[u16; 32256], from: Cursor, n: u16) -> Step
 
 // n types
 pub fn types(w: &[u16; 32256], from: Cursor, n: u16) -> Step
-    ensures { λ r. ⌜ r ≡ stepAt (read.many n read.type) (now (w .entry)) from ⌝ }
+    ensures { λ r. ⌜ r ≡ step-at (read.many n read.type) (now (w .entry)) from ⌝ }
 {
     let mut i: u16 = 0;
     let mut c = from;
@@ -94,7 +94,7 @@ pub fn types(w: &[u16; 32256], from: Cursor, n: u16) -> Step
 }
 
 pub fn counted_words(w: &[u16; 32256], c: Cursor, low: u16, high: u16) -> Step
-    ensures { λ r. ⌜ r ≡ stepAt (read.counted low high read.word) (now (w .entry)) c ⌝ }
+    ensures { λ r. ⌜ r ≡ step-at (read.counted low high read.word) (now (w .entry)) c ⌝ }
 {
     match within(w, c, low, high) {
         Item::Bad(m) => Step::Bad(m),
@@ -103,7 +103,7 @@ pub fn counted_words(w: &[u16; 32256], c: Cursor, low: u16, high: u16) -> Step
 }
 
 pub fn counted_types(w: &[u16; 32256], c: Cursor, high: u16) -> Step
-    ensures { λ r. ⌜ r ≡ stepAt (read.counted 0 high read.type) (now (w .entry)) c ⌝ }
+    ensures { λ r. ⌜ r ≡ step-at (read.counted 0 high read.type) (now (w .entry)) c ⌝ }
 {
     match within(w, c, 0, high) {
         Item::Bad(m) => Step::Bad(m),

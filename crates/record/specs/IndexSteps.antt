@@ -10,52 +10,52 @@ use lib.Seq.{take-take, length-take-le}
 use lib.Dec.{ltb}
 use borrow.Author.Tests.{eq-eqb, ne-eqb, ltb-true, ltb-false}
 use Rattle.meaning.specs.Graph.{Region}
-use Rattle.format.specs.Store.{Answer, accepted, refused, andThen}
-use Rattle.format.specs.Read.{Read, got, bad, region, block, wordFor, settle, regionsFrom}
-use Rattle.format.specs.Places.{next, forgetValue, after, blockOf, limitOf, exitsOf}
-use Rattle.format.specs.ReadLaws.{clash}
-use Rattle.record.specs.Stands.{indexAt}
+use Rattle.format.specs.Store.{Answer, accepted, refused, if-accepted}
+use Rattle.format.specs.Read.{Read, got, bad, read-region, block, word-for, settle, regions-from}
+use Rattle.format.specs.Places.{next, forget-value, after, block-of-region, limit-of-region, exits-of-region}
+use Rattle.meaning.specs.facts.Tests.{clash}
+use Rattle.record.specs.Stands.{index-at}
 use Rattle.reading.specs.Forgotten.{next-of}
 use Rattle.reading.specs.AnswerSteps.{step-read, step-refused}
 use Rattle.reading.specs.declared.words.Cursor.{Cursor}
 use Rattle.reading.specs.declared.words.Step.the-variants.{At, Bad}
-use Rattle.record.specs.Answers.{Placed, RegionRead}
+use Rattle.record.specs.Answers.{Placed, RegionPlacesRead}
 use Rattle.record.specs.Row.{Row, row-none, row-next, row-join, row-front, row-back}
-use Rattle.record.specs.Outcome.{forget, answered, Kept}
-use Rattle.record.specs.Index.{rowOf, IndexedFrom, RegionsOutcome, RegionsGoing}
+use Rattle.record.specs.Outcome.{forget, read-answered, RestKept}
+use Rattle.record.specs.Index.{row-of, IndexedFrom, RegionsOutcome, RegionsGoing}
 use Rattle.record.specs.declared.ReadAnswer.{ReadAnswer}
 use Rattle.record.specs.declared.ReadAnswer.the-variants as read
 use Rattle.record.specs.declared.regions.RegionPlaces.{RegionPlaces}
 
--- one region more, refused, and the end
-pub forget-then : {A B : Type 0} (r : Answer A) (f : A → B) → forget (andThen r λ a. accepted (f a)) ≡ forget r
+-- one read-region more, refused, and the end
+pub forget-then : {A B : Type 0} (r : Answer A) (f : A → B) → forget (if-accepted r λ a. accepted (f a)) ≡ forget r
 forget-then (accepted a) f = refl
 forget-then (refused n w) f = refl
 
 module _ (n r : ℕ) (ws : List ℕ) (at : ℕ) where
-  regions-step : {e : ℕ} → forgetValue (region ws at) ≡ got tt e → forget (regionsFrom (suc n) r ws at) ≡ forget (regionsFrom n (suc r) ws e)
-  unfolding regionsFrom
-  regions-step {e} h = by-first (region ws at) h
+  regions-step : {e : ℕ} → forget-value (read-region ws at) ≡ got tt e → forget (regions-from (suc n) r ws at) ≡ forget (regions-from n (suc r) ws e)
+  unfolding regions-from
+  regions-step {e} h = by-first (read-region ws at) h
     where
-      by-first : (x : Read Region) → forgetValue x ≡ got tt e → forget (settle r x λ y i. andThen (regionsFrom n (suc r) ws i) λ ys. accepted (y ∷ ys)) ≡ forget (regionsFrom n (suc r) ws e)
-      by-first (got y i) q = let same : e ≡ i = next-of (got y i) q in rw same (forget-then (regionsFrom n (suc r) ws i) (λ ys. y ∷ ys))
+      by-first : (x : Read Region) → forget-value x ≡ got tt e → forget (settle r x λ y i. if-accepted (regions-from n (suc r) ws i) λ ys. accepted (y ∷ ys)) ≡ forget (regions-from n (suc r) ws e)
+      by-first (got y i) q = let same : e ≡ i = next-of (got y i) q in rw same (forget-then (regions-from n (suc r) ws i) (λ ys. y ∷ ys))
       by-first (bad m) q = absurd (clash (cc))
 
-  regions-stop : {m : ℕ} → forgetValue (region ws at) ≡ bad m → forget (regionsFrom (suc n) r ws at) ≡ refused m (wordFor m r)
-  unfolding regionsFrom
-  regions-stop {m} h = by-first (region ws at) h
+  regions-stop : {m : ℕ} → forget-value (read-region ws at) ≡ bad m → forget (regions-from (suc n) r ws at) ≡ refused m (word-for m r)
+  unfolding regions-from
+  regions-stop {m} h = by-first (read-region ws at) h
     where
-      by-first : (x : Read Region) → forgetValue x ≡ bad m → forget (settle r x λ y i. andThen (regionsFrom n (suc r) ws i) λ ys. accepted (y ∷ ys)) ≡ refused m (wordFor m r)
+      by-first : (x : Read Region) → forget-value x ≡ bad m → forget (settle r x λ y i. if-accepted (regions-from n (suc r) ws i) λ ys. accepted (y ∷ ys)) ≡ refused m (word-for m r)
       by-first (got y i) q = absurd (clash (cc))
-      by-first (bad k) q = let same : k ≡ m = cc in ap (λ j. refused j (wordFor j r)) same
+      by-first (bad k) q = let same : k ≡ m = cc in ap (λ j. refused j (word-for j r)) same
 
-regions-end : (r : ℕ) (ws : List ℕ) (at : ℕ) → at ≡ length ws → accepted tt ≡ forget (regionsFrom 0 r ws at)
-unfolding regionsFrom
-regions-end r ws at h = rw (regionsFrom, eq-eqb at (length ws) h)
+regions-end : (r : ℕ) (ws : List ℕ) (at : ℕ) → at ≡ length ws → accepted tt ≡ forget (regions-from 0 r ws at)
+unfolding regions-from
+regions-end r ws at h = rw (regions-from, eq-eqb at (length ws) h)
 
-regions-over : (r : ℕ) (ws : List ℕ) (at : ℕ) → (at ≡ length ws → ⊥) → refused 4 0 ≡ forget (regionsFrom 0 r ws at)
-unfolding regionsFrom
-regions-over r ws at h = rw (regionsFrom, ne-eqb at (length ws) h)
+regions-over : (r : ℕ) (ws : List ℕ) (at : ℕ) → (at ≡ length ws → ⊥) → refused 4 0 ≡ forget (regions-from 0 r ws at)
+unfolding regions-from
+regions-over r ws at h = rw (regions-from, ne-eqb at (length ws) h)
 
 -- what is refused is not accepted
 pub never : {A B : Type 0} (r : Answer A) {a : A} {m k : ℕ} → forget r ≡ refused m k → r ≡ accepted a → B
@@ -65,51 +65,51 @@ never r {a} {m} {k} p q = absurd (unlike (sym (ap forget q) ∙ p))
     unlike h = clash (cc)
 
 -- the three words in front of a region's blocks, and its blocks
-pub store-row : (old new : List ℕ) (r start : ℕ) (x : RegionPlaces) → r < 32 → length old ≡ 32256 → Row (set (set (set old (indexAt r) start) (indexAt r + 1) (x .limit)) (indexAt r + 2) (x .exits)) new (indexAt r + 3) 8 (λ b. getD (x .blocks) b 0) → Row old new (indexAt r) 11 (rowOf start x)
-unfolding rowOf
+pub store-row : (old new : List ℕ) (r start : ℕ) (x : RegionPlaces) → r < 32 → length old ≡ 32256 → Row (set (set (set old (index-at r) start) (index-at r + 1) (x .limit)) (index-at r + 2) (x .exits)) new (index-at r + 3) 8 (λ b. getD (x .blocks) b 0) → Row old new (index-at r) 11 (row-of start x)
+unfolding row-of
 store-row old new r start x l long blocks =
-    let at = indexAt r in
-    let f = rowOf start x in
+    let at = index-at r in
+    let f = row-of start x in
     let same : at + 0 ≡ at = omega arith in
     let zeroth : Row old (set old at start) at 1 f = subst (λ i. Row old (set old i start) at 1 f) same (row-next old old at 0 f (row-none old at f) (omega arith) refl) in
     let first = row-next old (set old at start) at 1 f zeroth (omega arith) refl in
     let second = row-next old (set (set old at start) (at + 1) (x .limit)) at 2 f first (omega arith) refl in
     row-join old _ new at 3 8 f (λ b. getD (x .blocks) b 0) second blocks (λ b. block-row b)
   where
-    block-row : (b : ℕ) → getD (x .blocks) b 0 ≡ rowOf start x (3 + b)
+    block-row : (b : ℕ) → getD (x .blocks) b 0 ≡ row-of start x (3 + b)
     block-row b = let same : 3 + b ≡ suc (suc (suc b)) = omega arith in rw same
 
--- the index of the region just read, and of those before
+-- the index of the read-region just read, and of those before
 module _ (ws : List ℕ) (from : ℕ) where
-  indexed-here : (r at : ℕ) (x : RegionPlaces) (old new : List ℕ) → at ≡ after r region ws from → Placed ws at x → Row old new (indexAt r) 11 (rowOf at x) → IndexedFrom ws from new r
-  unfolding rowOf
+  indexed-here : (r at : ℕ) (x : RegionPlaces) (old new : List ℕ) → at ≡ after r read-region ws from → Placed ws at x → Row old new (index-at r) 11 (row-of at x) → IndexedFrom ws from new r
+  unfolding row-of
   indexed-here r at x old new place placed row =
       record {
         start = ap (λ i. getD new i 0) first ∙ row .row 0 (omega arith) ∙ place;
-        limit = row .row 1 (omega arith) ∙ placed .limit ∙ ap (limitOf ws) place;
-        exits = row .row 2 (omega arith) ∙ placed .exits ∙ ap (exitsOf ws) place;
-        block = λ b small below. ap (λ i. getD new i 0) (at-block b) ∙ row .row (suc (suc (suc b))) (omega arith) ∙ placed .blocks b (rw place below) ∙ ap (λ i. blockOf ws i b) place;
+        limit = row .row 1 (omega arith) ∙ placed .limit ∙ ap (limit-of-region ws) place;
+        exits = row .row 2 (omega arith) ∙ placed .exits ∙ ap (exits-of-region ws) place;
+        block = λ b small below. ap (λ i. getD new i 0) (at-block b) ∙ row .row (suc (suc (suc b))) (omega arith) ∙ placed .blocks b (rw place below) ∙ ap (λ i. block-of-region ws i b) place;
       }
     where
-      first : indexAt r ≡ indexAt r + 0
+      first : index-at r ≡ index-at r + 0
       first = omega arith
 
-      at-block : (b : ℕ) → indexAt r + 3 + b ≡ indexAt r + suc (suc (suc b))
+      at-block : (b : ℕ) → index-at r + 3 + b ≡ index-at r + suc (suc (suc b))
       at-block b = omega arith
 
-  indexed-kept : (k r : ℕ) (old new : List ℕ) (f : ℕ → ℕ) → k < r → Row old new (indexAt r) 11 f → IndexedFrom ws from old k → IndexedFrom ws from new k
+  indexed-kept : (k r : ℕ) (old new : List ℕ) (f : ℕ → ℕ) → k < r → Row old new (index-at r) 11 f → IndexedFrom ws from old k → IndexedFrom ws from new k
   indexed-kept k r old new f l row x =
       record {
-        start = row .below (indexAt k) (omega arith) ∙ x .start;
-        limit = row .below (indexAt k + 1) (omega arith) ∙ x .limit;
-        exits = row .below (indexAt k + 2) (omega arith) ∙ x .exits;
-        block = λ b small below. row .below (indexAt k + 3 + b) (omega arith) ∙ x .block b small below;
+        start = row .below (index-at k) (omega arith) ∙ x .start;
+        limit = row .below (index-at k + 1) (omega arith) ∙ x .limit;
+        exits = row .below (index-at k + 2) (omega arith) ∙ x .exits;
+        block = λ b small below. row .below (index-at k + 3 + b) (omega arith) ∙ x .block b small below;
       }
 
-pub kept-none : (old : List ℕ) → Kept old old
+pub kept-none : (old : List ℕ) → RestKept old old
 kept-none old = record { size = refl; front = refl; back = refl }
 
-kept-row : (old mid new : List ℕ) (r : ℕ) (f : ℕ → ℕ) → r < 32 → Kept old mid → Row mid new (indexAt r) 11 f → Kept old new
+kept-row : (old mid new : List ℕ) (r : ℕ) (f : ℕ → ℕ) → r < 32 → RestKept old mid → Row mid new (index-at r) 11 f → RestKept old new
 kept-row old mid new r f l k row =
     record {
       size = row .size ∙ k .size;
@@ -118,48 +118,48 @@ kept-row old mid new r f l k row =
     }
 
 -- the record's words stay
-pub kept-words : (old new : List ℕ) (count : ℕ) → count ≤ 4048 → Kept old new → take count new ≡ take count old
+pub kept-words : (old new : List ℕ) (count : ℕ) → count ≤ 4048 → RestKept old new → take count new ≡ take count old
 kept-words old new count l k = sym (take-take count 4048 new l) ∙ ap (take count) (k .front) ∙ take-take count 4048 old l
 
 module _ (n count from : ℕ) (old : List ℕ) where
   pub regions-start : RegionsGoing n count from old 0 from old
   unfolding after
-  regions-start = record { bound = omega arith; rest = ap (λ k. forget (regionsFrom k 0 (take count old) from)) (omega arith); place = refl; index = λ k l. absurd (omega arith); kept = kept-none old }
+  regions-start = record { bound = omega arith; rest = ap (λ k. forget (regions-from k 0 (take count old) from)) (omega arith); place = refl; index = λ k l. absurd (omega arith); kept = kept-none old }
 
-  module _ {r : ℕ} {mid : List ℕ} (c : Cursor) (x : RegionPlaces) (g : RegionsGoing n count from old r (c .at) mid) (ends : c .end ≡ count) (turn : r < n) (small : count ≤ 4048) (read : RegionRead mid c x) where
+  module _ {r : ℕ} {mid : List ℕ} (c : Cursor) (x : RegionPlaces) (g : RegionsGoing n count from old r (c .at) mid) (ends : c .end ≡ count) (turn : r < n) (small : count ≤ 4048) (read : RegionPlacesRead mid c x) where
     same-words : take count mid ≡ take count old
     same-words = kept-words old mid count small (g .kept)
 
     one-more : n - r ≡ suc (n - (r + 1))
     one-more = omega arith
 
-    pub regions-next : {e : Cursor} (new : List ℕ) → n ≤ 32 → x .step ≡ At e → Row mid new (indexAt r) 11 (rowOf (c .at) x) → RegionsGoing n count from old (r + 1) (e .at) new
+    pub regions-next : {e : Cursor} (new : List ℕ) → n ≤ 32 → x .step ≡ At e → Row mid new (index-at r) 11 (row-of (c .at) x) → RegionsGoing n count from old (r + 1) (e .at) new
     unfolding after
     regions-next {e} new few step row =
         let ws = take count old in
         let at = c .at in
-        let whole : forgetValue (region ws at) ≡ got tt (e .at) = rw same-words at (step-read region mid c ends (read .step) step .is) in
+        let whole : forget-value (read-region ws at) ≡ got tt (e .at) = rw same-words at (step-read read-region mid c ends (read .step) step .is) in
         record {
           bound = omega arith;
-          rest = g .rest ∙ ap (λ k. forget (regionsFrom k r ws at)) one-more ∙ regions-step (n - (r + 1)) r ws at whole ∙ ap (λ k. forget (regionsFrom (n - (r + 1)) k ws (e .at))) (sym (add-one r));
-          place = next-of (region ws at) whole ∙ ap (λ i. next (region ws i)) (g .place) ∙ ap (λ k. after k region ws from) (sym (add-one r));
+          rest = g .rest ∙ ap (λ k. forget (regions-from k r ws at)) one-more ∙ regions-step (n - (r + 1)) r ws at whole ∙ ap (λ k. forget (regions-from (n - (r + 1)) k ws (e .at))) (sym (add-one r));
+          place = next-of (read-region ws at) whole ∙ ap (λ i. next (read-region ws i)) (g .place) ∙ ap (λ k. after k read-region ws from) (sym (add-one r));
           index = λ k below. by-region k below (ltb k r) refl row (rw (ends, same-words) at (read .placed e step));
-          kept = kept-row old mid new r (rowOf at x) (omega arith) (g .kept) row;
+          kept = kept-row old mid new r (row-of at x) (omega arith) (g .kept) row;
         }
       where
-        by-region : (k : ℕ) → k < r + 1 → (t : Bool) → ltb k r ≡ t → Row mid new (indexAt r) 11 (rowOf (c .at) x) → Placed (take count old) (c .at) x → IndexedFrom (take count old) from new k
-        by-region k below true q row placed = indexed-kept (take count old) from k r mid new (rowOf (c .at) x) (ltb-true k r q) row (g .index k (ltb-true k r q))
+        by-region : (k : ℕ) → k < r + 1 → (t : Bool) → ltb k r ≡ t → Row mid new (index-at r) 11 (row-of (c .at) x) → Placed (take count old) (c .at) x → IndexedFrom (take count old) from new k
+        by-region k below true q row placed = indexed-kept (take count old) from k r mid new (row-of (c .at) x) (ltb-true k r q) row (g .index k (ltb-true k r q))
         by-region k below false q row placed =
             let same : k ≡ r = omega (arith, ltb-false k r q) in
             rw same (indexed-here (take count old) from r (c .at) x mid new (g .place) placed row)
 
-    pub regions-refused : {m : ℕ} (a : ReadAnswer) → x .step ≡ Bad m → answered a ≡ refused m (wordFor m r) → RegionsOutcome n count from old mid a
+    pub regions-refused : {m : ℕ} (a : ReadAnswer) → x .step ≡ Bad m → read-answered a ≡ refused m (word-for m r) → RegionsOutcome n count from old mid a
     regions-refused {m} a step told =
         let ws = take count old in
         let at = c .at in
-        let stop : forgetValue (region ws at) ≡ bad m = rw same-words at (step-refused region mid c ends (read .step) step) in
-        let answer : forget (regionsFrom n 0 ws from) ≡ refused m (wordFor m r) = g .rest ∙ ap (λ k. forget (regionsFrom k r ws at)) one-more ∙ regions-stop (n - (r + 1)) r ws at stop in
-        record { answer = told ∙ sym answer; index = λ rs q. never (regionsFrom n 0 ws from) answer q; kept = g .kept }
+        let stop : forget-value (read-region ws at) ≡ bad m = rw same-words at (step-refused read-region mid c ends (read .step) step) in
+        let answer : forget (regions-from n 0 ws from) ≡ refused m (word-for m r) = g .rest ∙ ap (λ k. forget (regions-from k r ws at)) one-more ∙ regions-stop (n - (r + 1)) r ws at stop in
+        record { answer = told ∙ sym answer; index = λ rs q. never (regions-from n 0 ws from) answer q; kept = g .kept }
 
   module _ {r at : ℕ} {mid : List ℕ} (g : RegionsGoing n count from old r at mid) (over : n ≤ r) (fits : count ≤ length old) where
     none-left : n - r ≡ 0
@@ -171,7 +171,7 @@ module _ (n count from : ℕ) (old : List ℕ) where
     pub regions-read : at ≡ count → RegionsOutcome n count from old mid read.Read
     regions-read h =
         record {
-          answer = regions-end r (take count old) at (h ∙ sym long) ∙ sym (g .rest ∙ ap (λ k. forget (regionsFrom k r (take count old) at)) none-left);
+          answer = regions-end r (take count old) at (h ∙ sym long) ∙ sym (g .rest ∙ ap (λ k. forget (regions-from k r (take count old) at)) none-left);
           index = λ rs q k below. g .index k (omega arith);
           kept = g .kept;
         }
@@ -179,5 +179,5 @@ module _ (n count from : ℕ) (old : List ℕ) where
     pub regions-left : (at ≡ count → ⊥) → RegionsOutcome n count from old mid (read.Refused 4 0)
     regions-left h =
         let ws = take count old in
-        let answer : refused 4 0 ≡ forget (regionsFrom n 0 ws from) = regions-over r ws at (λ q. h (q ∙ long)) ∙ sym (g .rest ∙ ap (λ k. forget (regionsFrom k r ws at)) none-left) in
-        record { answer = answer; index = λ rs q. never (regionsFrom n 0 ws from) (sym answer) q; kept = g .kept }
+        let answer : refused 4 0 ≡ forget (regions-from n 0 ws from) = regions-over r ws at (λ q. h (q ∙ long)) ∙ sym (g .rest ∙ ap (λ k. forget (regions-from k r ws at)) none-left) in
+        record { answer = answer; index = λ rs q. never (regions-from n 0 ws from) (sym answer) q; kept = g .kept }

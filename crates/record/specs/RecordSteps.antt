@@ -8,14 +8,15 @@ use lib.Seq.{getD-take}
 use Rattle.meaning.specs.Graph.{Graph, Region}
 use Rattle.meaning.specs.Graph as graph
 use Rattle.format.specs.Store.{accepted, refused}
-use Rattle.format.specs.Read.{Read, got, bad, block, region, wordFor, regionsFrom, Head, head, readRecord}
-use Rattle.format.specs.Places.{next, after, startOf, blocksOf, blockOf, limitOf, exitsOf}
-use Rattle.format.specs.ReadLaws.{clash, many-length}
-use Rattle.record.specs.Stands.{recordWords, Indexed, Stands}
-use Rattle.record.specs.Parts.{RecordParts, record-parts, region-parts, counted-parts, settled, then, regions-many, accepted-value}
+use Rattle.format.specs.Read.{Read, got, bad, block, read-region, word-for, regions-from, Head, head, read-record}
+use Rattle.format.specs.Places.{next, after, start-of-region, blocks-of-region, block-of-region, limit-of-region, exits-of-region}
+use Rattle.meaning.specs.facts.Tests.{clash}
+use Rattle.format.specs.laws.Readers.{many-length}
+use Rattle.record.specs.Stands.{words-of-record, Indexed, Stands}
+use Rattle.record.specs.Parts.{RecordParts, record-parts, region-parts, counted-parts, settled-at, then, regions-many, accepted-value}
 use Rattle.record.specs.PartsWithin.{head-parts}
-use Rattle.record.specs.RegionsForgotten.{countOf, headCount}
-use Rattle.record.specs.Outcome.{forget, answered, Outcome}
+use Rattle.record.specs.RegionsForgotten.{count-of, head-count}
+use Rattle.record.specs.Outcome.{forget, read-answered, ReadOutcome}
 use Rattle.record.specs.Index.{IndexedFrom, RegionsOutcome}
 use Rattle.record.specs.IndexSteps.{never, forget-then, kept-none, kept-words}
 use Rattle.record.specs.declared.ReadAnswer.{ReadAnswer}
@@ -26,67 +27,67 @@ record HeadFound (ws : List ℕ) (n at : ℕ) : Type 0 where
   is : head ws 1 ≡ got h at
   count : h .count ≡ n
 
-head-found : (ws : List ℕ) {n at : ℕ} → headCount ws 1 ≡ got n at → HeadFound ws n at
-unfolding headCount
+head-found : (ws : List ℕ) {n at : ℕ} → head-count ws 1 ≡ got n at → HeadFound ws n at
+unfolding head-count
 head-found ws {n} {at} q = by-head (head ws 1) refl q
   where
-    by-head : (r : Read Head) → head ws 1 ≡ r → countOf r ≡ got n at → HeadFound ws n at
+    by-head : (r : Read Head) → head ws 1 ≡ r → count-of r ≡ got n at → HeadFound ws n at
     by-head (got h i) p q = let there : i ≡ at = cc in record { h = h; is = p ∙ ap (got h) there; count = cc }
     by-head (bad m) p q = absurd (clash (cc))
 
-pub head-few : (ws : List ℕ) {n at : ℕ} → headCount ws 1 ≡ got n at → n ≤ 32
+pub head-few : (ws : List ℕ) {n at : ℕ} → head-count ws 1 ≡ got n at → n ≤ 32
 head-few ws h = let f = head-found ws h in omega (arith, head-parts ws (f .is) .high-bound, f .count)
 
-bad-head : (r : Read Head) {m : ℕ} → countOf r ≡ bad m → r ≡ bad m
+bad-head : (r : Read Head) {m : ℕ} → count-of r ≡ bad m → r ≡ bad m
 bad-head (got h i) q = absurd (clash (cc))
 bad-head (bad n) q = cc
 
 -- the head is refused
-pub record-stop : (count : ℕ) (old : List ℕ) (a : ReadAnswer) {m : ℕ} → headCount (take count old) 1 ≡ bad m → answered a ≡ refused m (wordFor m 0) → Outcome count old old a
-unfolding readRecord headCount
+pub record-stop : (count : ℕ) (old : List ℕ) (a : ReadAnswer) {m : ℕ} → head-count (take count old) 1 ≡ bad m → read-answered a ≡ refused m (word-for m 0) → ReadOutcome count old old a
+unfolding read-record head-count
 record-stop count old a {m} h told =
     let stop = bad-head (head (take count old) 1) h in
-    let answer : forget (readRecord (take count old)) ≡ refused m (wordFor m 0) = rw stop in
-    record { answer = told ∙ sym answer; stands = λ g q. never (readRecord (take count old)) answer q; kept = kept-none old }
+    let answer : forget (read-record (take count old)) ≡ refused m (word-for m 0) = rw stop in
+    record { answer = told ∙ sym answer; stands = λ g q. never (read-record (take count old)) answer q; kept = kept-none old }
 
 -- the regions decide
-record-answer : (ws : List ℕ) (n at : ℕ) → HeadFound ws n at → forget (readRecord ws) ≡ forget (regionsFrom n 0 ws at)
-unfolding readRecord
+record-answer : (ws : List ℕ) (n at : ℕ) → HeadFound ws n at → forget (read-record ws) ≡ forget (regions-from n 0 ws at)
+unfolding read-record
 record-answer ws n at f =
     rw (f .is)
-    (forget-then (regionsFrom (f .h .count) 0 ws at) (λ rs. record { entry = f .h .entry; test-cost = f .h .test-cost; constants = f .h .constants; regions = rs })
-    ∙ ap (λ k. forget (regionsFrom k 0 ws at)) (f .count))
+    (forget-then (regions-from (f .h .count) 0 ws at) (λ rs. record { entry = f .h .entry; test-cost = f .h .test-cost; constants = f .h .constants; regions = rs })
+    ∙ ap (λ k. forget (regions-from k 0 ws at)) (f .count))
 
 -- the regions of a record that is accepted
-regions-accepted : (ws : List ℕ) (n at : ℕ) {g : Graph} → HeadFound ws n at → readRecord ws ≡ accepted g → regionsFrom n 0 ws at ≡ accepted (g .regions)
-unfolding readRecord
+regions-accepted : (ws : List ℕ) (n at : ℕ) {g : Graph} → HeadFound ws n at → read-record ws ≡ accepted g → regions-from n 0 ws at ≡ accepted (g .regions)
+unfolding read-record
 regions-accepted ws n at {g} f h =
-    let a = settled 0 (head ws 1) _ g h in
-    let b = then (regionsFrom (a .value .count) 0 ws (a .place)) _ g (a .second) in
+    let a = settled-at 0 (head ws 1) _ g h in
+    let b = then (regions-from (a .value .count) 0 ws (a .place)) _ g (a .second) in
     same-head (a .value) (a .place) (b .value) (sym (a .first) ∙ f .is) (b .first) (accepted-value (b .second))
   where
-    same-head : (v : Head) (p : ℕ) (rs : List Region) → got v p ≡ got (f .h) at → regionsFrom (v .count) 0 ws p ≡ accepted rs → record { entry = v .entry; test-cost = v .test-cost; constants = v .constants; regions = rs } ≡ g → regionsFrom n 0 ws at ≡ accepted (g .regions)
+    same-head : (v : Head) (p : ℕ) (rs : List Region) → got v p ≡ got (f .h) at → regions-from (v .count) 0 ws p ≡ accepted rs → record { entry = v .entry; test-cost = v .test-cost; constants = v .constants; regions = rs } ≡ g → regions-from n 0 ws at ≡ accepted (g .regions)
     same-head v p rs q r whole =
         let place : at ≡ p = cc in
         let value : f .h ≡ v = cc in
         let count : n ≡ v .count = sym (f .count) ∙ ap (λ x. x .count) value in
-        ap (λ k. regionsFrom k 0 ws at) count ∙ ap (regionsFrom (v .count) 0 ws) place ∙ r ∙ ap (λ x. accepted (x .regions)) whole
+        ap (λ k. regions-from k 0 ws at) count ∙ ap (regions-from (v .count) 0 ws) place ∙ r ∙ ap (λ x. accepted (x .regions)) whole
 
 -- The index that the regions made is the index of the graph.
-indexed-as : (ws w : List ℕ) (g : Graph) (at r : ℕ) → recordWords w ≡ ws → at ≡ next (head ws 1) → RecordParts ws g → r < length (g .regions) → IndexedFrom ws at w r → Indexed w g r
-unfolding startOf
+indexed-as : (ws w : List ℕ) (g : Graph) (at r : ℕ) → words-of-record w ≡ ws → at ≡ next (head ws 1) → RecordParts ws g → r < length (g .regions) → IndexedFrom ws at w r → Indexed w g r
+unfolding start-of-region
 indexed-as ws w g at r words place parts below x =
-    let start : after r region ws at ≡ startOf (recordWords w) r = ap (after r region ws) place ∙ ap (λ s. startOf s r) (sym words) in
-    let blocks = counted-parts 0 8 block ws (blocksOf ws (startOf ws r)) (region-parts ws (startOf ws r) (parts .region r below) .blocks) in
-    let count : getD ws (blocksOf ws (after r region ws at)) 0 ≡ length (graph.region g r .blocks) = ap (λ i. getD ws (blocksOf ws i) 0) (ap (after r region ws) place) ∙ blocks .count in
+    let start : after r read-region ws at ≡ start-of-region (words-of-record w) r = ap (after r read-region ws) place ∙ ap (λ s. start-of-region s r) (sym words) in
+    let blocks = counted-parts 0 8 block ws (blocks-of-region ws (start-of-region ws r)) (region-parts ws (start-of-region ws r) (parts .region r below) .blocks) in
+    let count : getD ws (blocks-of-region ws (after r read-region ws at)) 0 ≡ length (graph.region g r .blocks) = ap (λ i. getD ws (blocks-of-region ws i) 0) (ap (after r read-region ws) place) ∙ blocks .count in
     record {
       start = x .start ∙ start;
-      limit = x .limit ∙ ap (limitOf ws) start ∙ ap (λ s. limitOf s (startOf (recordWords w) r)) (sym words);
-      exits = x .exits ∙ ap (exitsOf ws) start ∙ ap (λ s. exitsOf s (startOf (recordWords w) r)) (sym words);
-      block = λ b l. x .block b (omega (arith, blocks .high-bound)) (omega (arith, count)) ∙ ap (λ i. blockOf ws i b) start ∙ ap (λ s. blockOf s (startOf (recordWords w) r) b) (sym words);
+      limit = x .limit ∙ ap (limit-of-region ws) start ∙ ap (λ s. limit-of-region s (start-of-region (words-of-record w) r)) (sym words);
+      exits = x .exits ∙ ap (exits-of-region ws) start ∙ ap (λ s. exits-of-region s (start-of-region (words-of-record w) r)) (sym words);
+      block = λ b l. x .block b (omega (arith, blocks .high-bound)) (omega (arith, count)) ∙ ap (λ i. block-of-region ws i b) start ∙ ap (λ s. block-of-region s (start-of-region (words-of-record w) r) b) (sym words);
     }
 
-pub record-whole : (n count at : ℕ) (old new : List ℕ) (a : ReadAnswer) → count ≤ 4048 → getD old 0 0 ≡ count → length old ≡ 32256 → headCount (take count old) 1 ≡ got n at → RegionsOutcome n count at old new a → Outcome count old new a
+pub record-whole : (n count at : ℕ) (old new : List ℕ) (a : ReadAnswer) → count ≤ 4048 → getD old 0 0 ≡ count → length old ≡ 32256 → head-count (take count old) 1 ≡ got n at → RegionsOutcome n count at old new a → ReadOutcome count old new a
 record-whole n count at old new a small first long h out =
     let ws = take count old in
     let f = head-found ws h in
@@ -99,18 +100,18 @@ record-whole n count at old new a small first long h out =
     first-kept : getD new 0 0 ≡ getD old 0 0
     first-kept = sym (getD-take 4048 new 0 0 (omega arith)) ∙ ap (λ l. getD l 0 0) (out .kept .front) ∙ getD-take 4048 old 0 0 (omega arith)
 
-    words : recordWords new ≡ take count old
+    words : words-of-record new ≡ take count old
     words = ap (λ k. take k new) (first-kept ∙ first) ∙ kept-words old new count small (out .kept)
 
-    stand : (g : Graph) → readRecord (take count old) ≡ accepted g → HeadFound (take count old) n at → Stands new g
+    stand : (g : Graph) → read-record (take count old) ≡ accepted g → HeadFound (take count old) n at → Stands new g
     stand g q f =
         let ws = take count old in
         let parts = record-parts ws q in
         let regions = regions-accepted ws n at f q in
-        let size : length (g .regions) ≡ n = many-length region ws n at (regions-many n 0 ws at regions) in
+        let size : length (g .regions) ≡ n = many-length read-region ws n at (regions-many n 0 ws at regions) in
         record {
           size = out .kept .size ∙ long;
           fits = omega (arith, first-kept);
-          reads = ap readRecord words ∙ q;
+          reads = ap read-record words ∙ q;
           index = λ r below. indexed-as ws new g at r words (sym (ap next (f .is))) parts below (out .index (g .regions) regions r (omega (arith, size)));
         }

@@ -8,14 +8,14 @@ use lib.Seq.{getD-set-same, getD-set-other}
 use lib.Dec.{eqb}
 use mathlib.Core.Bool.{Bool, true, false}
 use borrow.Author.Tests.{eqb-true, eqb-false}
-use Rattle.format.specs.Read.{got, bad, counted, within, word, type, block, terminator, region}
-use Rattle.format.specs.Places.{next, forgetValue, after, blocksOf, blockOf, limitOf, exitsOf}
-use Rattle.format.specs.ReadLaws.{clash}
+use Rattle.format.specs.Read.{got, bad, counted, within, word, type, block, terminator, read-region}
+use Rattle.format.specs.Places.{next, forget-value, after, blocks-of-region, block-of-region, limit-of-region, exits-of-region}
+use Rattle.meaning.specs.facts.Tests.{clash}
 use Rattle.record.specs.Parts.{within-parts}
 use Rattle.reading.specs.Forgotten.{Going, going-start, going-next, going-stop, going-end, counted-stop, counted-rest, next-of}
-use Rattle.record.specs.RegionsForgotten.{endingRead, ending-exits, region-rest}
+use Rattle.record.specs.RegionsForgotten.{ending-read, ending-exits, region-rest}
 use Rattle.reading.specs.AnswerSteps.{WordRead, StepRead, step-read, refuse-step, give-step, give-rest}
-use Rattle.record.specs.Answers.{BlocksRead, CountedBlocks, EndingRead, RegionRead}
+use Rattle.record.specs.Answers.{BlocksRead, CountedBlocks, EndingRead, RegionPlacesRead}
 use Rattle.reading.specs.declared.words.Cursor.{Cursor}
 use Rattle.reading.specs.declared.words.Step.{Step}
 use Rattle.reading.specs.declared.words.Step.the-variants.{At, Bad}
@@ -36,7 +36,7 @@ module _ (n : ℕ) (ws : List ℕ) (from : ℕ) where
   pub blocks-start : BlocksGoing n ws from 0 from (replicate 8 0)
   blocks-start = record { going = going-start; size = refl; placed = λ b l. absurd (omega arith) }
 
-  pub blocks-next : {k at e : ℕ} {places : List ℕ} → BlocksGoing n ws from k at places → k < n → n ≤ 8 → forgetValue (block ws at) ≡ got tt e → BlocksGoing n ws from (k + 1) e (set places k at)
+  pub blocks-next : {k at e : ℕ} {places : List ℕ} → BlocksGoing n ws from k at places → k < n → n ≤ 8 → forget-value (block ws at) ≡ got tt e → BlocksGoing n ws from (k + 1) e (set places k at)
   blocks-next {k} {at} {e} {places} g l m h =
       record {
         going = going-next (g .going) l h;
@@ -53,7 +53,7 @@ module _ (n : ℕ) (ws : List ℕ) (from : ℕ) where
 
 -- The same from a cursor on.
 module _ (n : ℕ) (w : List ℕ) (from : Cursor) where
-  pub blocks-stop : {k at m : ℕ} {places : List ℕ} → BlocksGoing n (take (from .end) w) (from .at) k at places → k < n → forgetValue (block (take (from .end) w) at) ≡ bad m → BlocksRead n w from (record { step = Bad m; places = places })
+  pub blocks-stop : {k at m : ℕ} {places : List ℕ} → BlocksGoing n (take (from .end) w) (from .at) k at places → k < n → forget-value (block (take (from .end) w) at) ≡ bad m → BlocksRead n w from (record { step = Bad m; places = places })
   blocks-stop g l h = record { step = refuse-step _ w from (going-stop (g .going) l h); places = λ e q. never refl q }
 
   pub blocks-end : {k : ℕ} {c : Cursor} {places : List ℕ} → BlocksGoing n (take (from .end) w) (from .at) k (c .at) places → c .end ≡ from .end → n ≤ k → BlocksRead n w from (record { step = At c; places = places })
@@ -72,7 +72,7 @@ module _ (w : List ℕ) (c : Cursor) where
         places = λ i q b below. rw (h .same) at (r .places i q b (omega (arith, p .is))) ∙ ap (after b block ws) (p .end);
       }
 
-  pub ending-stop : (places : List ℕ) (x : RegionPlaces) {m : ℕ} → x .step ≡ Bad m → bad m ≡ forgetValue (endingRead (take (c .end) w) (c .at)) → EndingRead w c places x
+  pub ending-stop : (places : List ℕ) (x : RegionPlaces) {m : ℕ} → x .step ≡ Bad m → bad m ≡ forget-value (ending-read (take (c .end) w) (c .at)) → EndingRead w c places x
   ending-stop places x is h =
       record { step = is ∙ refuse-step _ w c h; limit = λ e q. never is q; exits = λ e q. never is q; blocks = λ e q. never is q }
 
@@ -86,17 +86,17 @@ module _ (w : List ℕ) (c : Cursor) where
         blocks = λ i r. refl;
       }
 
-  pub region-stop : (x : RegionPlaces) {m : ℕ} → x .step ≡ Bad m → bad m ≡ forgetValue (region (take (c .end) w) (c .at)) → RegionRead w c x
+  pub region-stop : (x : RegionPlaces) {m : ℕ} → x .step ≡ Bad m → bad m ≡ forget-value (read-region (take (c .end) w) (c .at)) → RegionPlacesRead w c x
   region-stop x is h = record { step = is ∙ refuse-step _ w c h; placed = λ e q. never is q }
 
-  pub region-whole : (b : BlockPlaces) (x : RegionPlaces) {p q : Cursor} → StepRead (counted 0 4 type) (take (c .end) w) (c .at) (c .end) p → CountedBlocks w p b → b .step ≡ At q → EndingRead w q (b .places) x → RegionRead w c x
-  unfolding blocksOf blockOf limitOf exitsOf
+  pub region-whole : (b : BlockPlaces) (x : RegionPlaces) {p q : Cursor} → StepRead (counted 0 4 type) (take (c .end) w) (c .at) (c .end) p → CountedBlocks w p b → b .step ≡ At q → EndingRead w q (b .places) x → RegionPlacesRead w c x
+  unfolding blocks-of-region block-of-region limit-of-region exits-of-region
   region-whole b x {p} {q} inputs blocks step ending =
       let ws = take (c .end) w in
       let at = c .at in
       let read = step-read (counted 0 8 block) w p (inputs .same) (blocks .step) step in
-      let p-is : p .at ≡ blocksOf ws at = next-of (counted 0 4 type ws at) (inputs .is) in
-      let q-is : q .at ≡ limitOf ws at = next-of (counted 0 8 block ws (p .at)) (read .is) ∙ ap (λ n. next (counted 0 8 block ws n)) p-is in
+      let p-is : p .at ≡ blocks-of-region ws at = next-of (counted 0 4 type ws at) (inputs .is) in
+      let q-is : q .at ≡ limit-of-region ws at = next-of (counted 0 8 block ws (p .at)) (read .is) ∙ ap (λ n. next (counted 0 8 block ws n)) p-is in
       let places = rw (inputs .same) at (blocks .places q step) in
       record {
         step = give-rest _ w c _ q (read .same) (ending .step) (region-rest ws at (inputs .is) (read .is));

@@ -3,9 +3,9 @@ use crate::regions::RegionPlaces;
 use reading::words::span;
 ghost use Prim.Native.Nat.{_+_, _≤_, _<_};
 ghost use lib.ListN.{getD};
-ghost use Rattle.record.specs.Stands.{indexAt};
+ghost use Rattle.record.specs.Stands.{index-at};
 ghost use Rattle.record.specs.Row.{Row};
-ghost use Rattle.record.specs.Index.{rowOf};
+ghost use Rattle.record.specs.Index.{row-of};
 
 fn store_blocks(w: &mut [u16; 32256], at: usize, places: [u16; 8])
     requires { ⌜ at + 8 ≤ 4400 ⌝ }
@@ -22,7 +22,7 @@ fn store_blocks(w: &mut [u16; 32256], at: usize, places: [u16; 8])
 // The places of region r, which begins at start.
 pub fn store(w: &mut [u16; 32256], r: u16, start: u16, x: RegionPlaces)
     requires { ⌜ r < 32 ⌝ }
-    ensures { λ _. ⌜ Row (now (w .entry)) (now (w .exit)) (indexAt r) 11 (rowOf start x) ⌝ }
+    ensures { λ _. ⌜ Row (now (w .entry)) (now (w .exit)) (index-at r) 11 (row-of start x) ⌝ }
 {
     span(w);
     let at = 4048 + 11 * r as usize;

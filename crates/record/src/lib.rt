@@ -13,8 +13,8 @@ ghost use mathlib.Core.Path.{_≡_};
 ghost use Prim.Native.Nat.{_≤_};
 ghost use lib.ListN.{getD};
 ghost use Rattle.format.specs.Store.{refused};
-ghost use Rattle.format.specs.Read.{wordFor};
-ghost use Rattle.record.specs.Outcome.{answered, Outcome};
+ghost use Rattle.format.specs.Read.{word-for};
+ghost use Rattle.record.specs.Outcome.{read-answered, ReadOutcome};
 ghost use Rattle.record.specs.Index.{RegionsOutcome};
 
 // What reading answers: a refusal has document 01's number and its word.
@@ -25,7 +25,7 @@ pub enum ReadAnswer {
 
 // 5 has the region being read for its word, 4 has 0.
 fn refusal(n: u16, r: u16) -> ReadAnswer
-    ensures { λ a. ⌜ answered a ≡ refused n (wordFor n r) ⌝ }
+    ensures { λ a. ⌜ read-answered a ≡ refused n (word-for n r) ⌝ }
 {
     if n == 5 {
         return ReadAnswer::Refused(n, r);
@@ -62,7 +62,7 @@ fn read_regions(w: &mut [u16; 32256], from: Cursor, n: u16) -> ReadAnswer
 // The record in the first words, W of them, which word 0 says; the index is made on the way.
 pub fn read_record(w: &mut [u16; 32256], count: usize) -> ReadAnswer
     requires { ⌜ (count ≤ 4048) × (getD (now w) 0 0 ≡ count) ⌝ }
-    ensures { λ a. ⌜ Outcome count (now (w .entry)) (now (w .exit)) a ⌝ }
+    ensures { λ a. ⌜ ReadOutcome count (now (w .entry)) (now (w .exit)) a ⌝ }
 {
     span(w);
     let first = Cursor { at: 1, end: count };

@@ -11,9 +11,9 @@ use reading::words::within;
 use reading::words::word;
 ghost use mathlib.Core.Path.{_≡_};
 ghost use Prim.Native.Nat.{_≤_};
-ghost use Rattle.reading.specs.Answers.{itemAt, stepAt};
-ghost use Rattle.record.specs.Answers.{BlocksRead, CountedBlocks, EndingRead, RegionRead};
-ghost use Rattle.record.specs.RegionsForgotten.{afterCount, headCount};
+ghost use Rattle.reading.specs.Answers.{item-at, step-at};
+ghost use Rattle.record.specs.Answers.{BlocksRead, CountedBlocks, EndingRead, RegionPlacesRead};
+ghost use Rattle.record.specs.RegionsForgotten.{after-count, head-count};
 
 // The cursor behind some blocks, and the place of each.
 pub struct BlockPlaces {
@@ -109,7 +109,7 @@ fn ending(w: &[u16; 32256], c: Cursor, places: [u16; 8]) -> RegionPlaces
 }
 
 pub fn region(w: &[u16; 32256], c: Cursor) -> RegionPlaces
-    ensures { λ r. ⌜ RegionRead (now (w .entry)) c r ⌝ }
+    ensures { λ r. ⌜ RegionPlacesRead (now (w .entry)) c r ⌝ }
 {
     match counted_types(w, c, 4) {
         Step::Bad(m) => no_region(m),
@@ -127,7 +127,7 @@ pub fn region(w: &[u16; 32256], c: Cursor) -> RegionPlaces
 
 // Entry, test cost, and the types of the constants.
 fn after_count(w: &[u16; 32256], c: Cursor) -> Step
-    ensures { λ r. ⌜ r ≡ stepAt afterCount (now (w .entry)) c ⌝ }
+    ensures { λ r. ⌜ r ≡ step-at after-count (now (w .entry)) c ⌝ }
 {
     match word(w, c) {
         Item::Bad(m) => Step::Bad(m),
@@ -140,7 +140,7 @@ fn after_count(w: &[u16; 32256], c: Cursor) -> Step
 
 // The region count and the cursor at the first region.
 pub fn head(w: &[u16; 32256], c: Cursor) -> Item
-    ensures { λ r. ⌜ r ≡ itemAt headCount (now (w .entry)) c ⌝ }
+    ensures { λ r. ⌜ r ≡ item-at head-count (now (w .entry)) c ⌝ }
 {
     match within(w, c, 1, 32) {
         Item::Bad(m) => Item::Bad(m),

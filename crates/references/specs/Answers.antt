@@ -4,6 +4,6 @@ use Rattle.references.specs.declared.Checked.{Checked}
 use Rattle.references.specs.declared.Checked.the-variants.{Right, Refused}
 
 -- Document 01's number and word of each refusal.
-abbrev pub answered : Checked → Answer Unit
-answered Right = accepted tt
-answered (Refused n w) = refused n w
+abbrev pub references-answered : Checked → Answer Unit
+references-answered Right = accepted tt
+references-answered (Refused n w) = refused n w

@@ -7,19 +7,20 @@ use native.Mathlib.Omega.{arith}
 use native.Mathlib.Numerals.{add-one}
 use lib.ListN.{length, getD, drop, drop-of-length-le}
 use lib.Seq.{drop-cons}
-use Rattle.meaning.specs.Graph.{Graph, Value, no-value, Instr, Edge, region, nowhere, edgesOf}
-use Rattle.format.specs.Store.{Answer, andThen}
-use Rattle.format.specs.Read.{isIn, noEdge}
-use Rattle.format.specs.References.{noInstr, behindAll, expect, each, isRegion, named, ofType, readsRight, typesRight, exitsRight, regionRight, regionsRight}
-use Rattle.fields.specs.Repeats.{before, standsBefore}
+use Rattle.meaning.specs.Graph.{Graph, Value, no-value, Instr, Edge, region, nowhere, edges-of}
+use Rattle.format.specs.Store.{Answer, if-accepted}
+use Rattle.meaning.specs.Lists.{is-in}
+use Rattle.format.specs.Read.{no-edge}
+use Rattle.format.specs.References.{no-instr, behind-all, refuse-unless, first-refusal, is-region, named-right, of-type, reads-right, types-right, exits-right, region-right, regions-right}
+use Rattle.fields.specs.Repeats.{before, stands-before}
 use Rattle.references.specs.Walk.{Walk, then-then}
 
 -- The reads of an instruction by block and place.
-abbrev pub readsOf : Graph → ℕ → ℕ → ℕ → List Value
-readsOf g r b i = getD (getD (region g r .blocks) b []) i noInstr .reads
+abbrev pub reads-at : Graph → ℕ → ℕ → ℕ → List Value
+reads-at g r b i = getD (getD (region g r .blocks) b []) i no-instr .reads
 
-abbrev pub edgeAt : Graph → ℕ → ℕ → Edge
-edgeAt g r j = getD (edgesOf (region g r .terminator)) j noEdge
+abbrev pub nth-edge : Graph → ℕ → ℕ → Edge
+nth-edge g r j = getD (edges-of (region g r .terminator)) j no-edge
 
 -- The items from place k on.
 module _ {A : Type 0} (xs : List A) (d : A) {m : ℕ} (size : m ≡ length xs) where
@@ -29,56 +30,56 @@ module _ {A : Type 0} (xs : List A) (d : A) {m : ℕ} (size : m ≡ length xs) w
   pub none-from : (k : ℕ) → m ≤ k → drop k xs ≡ []
   none-from k l = drop-of-length-le xs {i = k} (omega arith)
 
-  pub each-walk : (f : A → Answer Unit) → Walk (λ k. each f (drop k xs)) (λ k. f (getD xs k d)) m
-  unfolding each
-  each-walk f = record { more = λ k l. ap (each f) (from k l); done = λ k l. ap (each f) (none-from k l) }
+  pub each-walk : (f : A → Answer Unit) → Walk (λ k. first-refusal f (drop k xs)) (λ k. f (getD xs k d)) m
+  unfolding first-refusal
+  each-walk f = record { more = λ k l. ap (first-refusal f) (from k l); done = λ k l. ap (first-refusal f) (none-from k l) }
 
 module _ (g : Graph) (r : ℕ) where
-  pub reads-walk : (first : ℕ) (xs : List Instr) {m : ℕ} → m ≡ length xs → Walk (λ k. readsRight g r (first + k) (drop k xs)) (λ k. each (named g r (first + k)) (getD xs k noInstr .reads)) m
-  unfolding readsRight
+  pub reads-walk : (first : ℕ) (xs : List Instr) {m : ℕ} → m ≡ length xs → Walk (λ k. reads-right g r (first + k) (drop k xs)) (λ k. first-refusal (named-right g r (first + k)) (getD xs k no-instr .reads)) m
+  unfolding reads-right
   reads-walk first xs size =
       record {
         more = λ k l. let next : suc (first + k) ≡ first + (k + 1) = omega arith in
-            ap (readsRight g r (first + k)) (from xs noInstr size k l) ∙ ap (λ j. andThen (each (named g r (first + k)) (getD xs k noInstr .reads)) (λ _. readsRight g r j (drop (k + 1) xs))) next;
-        done = λ k l. ap (readsRight g r (first + k)) (none-from xs noInstr size k l);
+            ap (reads-right g r (first + k)) (from xs no-instr size k l) ∙ ap (λ j. if-accepted (first-refusal (named-right g r (first + k)) (getD xs k no-instr .reads)) (λ _. reads-right g r j (drop (k + 1) xs))) next;
+        done = λ k l. ap (reads-right g r (first + k)) (none-from xs no-instr size k l);
       }
 
-  -- a value that is named, and of its type
+  -- a value that is named-right, and of its type
   abbrev pub typed : ℕ → Value → Answer Unit
-  typed t v = andThen (named g r (behindAll g r) v) λ _. ofType g r t v
+  typed t v = if-accepted (named-right g r (behind-all g r) v) λ _. of-type g r t v
 
-  pub types-walk : (ts : List ℕ) (vs : List Value) {m : ℕ} → m ≡ length ts → m ≡ length vs → Walk (λ k. typesRight g r (drop k ts) (drop k vs)) (λ k. typed (getD ts k 0) (getD vs k no-value)) m
-  unfolding typesRight
+  pub types-walk : (ts : List ℕ) (vs : List Value) {m : ℕ} → m ≡ length ts → m ≡ length vs → Walk (λ k. types-right g r (drop k ts) (drop k vs)) (λ k. typed (getD ts k 0) (getD vs k no-value)) m
+  unfolding types-right
   types-walk ts vs sizes size =
       record {
         more = λ k l.
-            ap (λ us. typesRight g r us (drop k vs)) (from ts 0 sizes k l)
-            ∙ ap (typesRight g r (getD ts k 0 ∷ drop (k + 1) ts)) (from vs no-value size k l)
-            ∙ then-then (named g r (behindAll g r) (getD vs k no-value)) (λ _. ofType g r (getD ts k 0) (getD vs k no-value)) (λ _. typesRight g r (drop (k + 1) ts) (drop (k + 1) vs));
-        done = λ k l. ap (λ us. typesRight g r us (drop k vs)) (none-from ts 0 sizes k l);
+            ap (λ us. types-right g r us (drop k vs)) (from ts 0 sizes k l)
+            ∙ ap (types-right g r (getD ts k 0 ∷ drop (k + 1) ts)) (from vs no-value size k l)
+            ∙ then-then (named-right g r (behind-all g r) (getD vs k no-value)) (λ _. of-type g r (getD ts k 0) (getD vs k no-value)) (λ _. types-right g r (drop (k + 1) ts) (drop (k + 1) vs));
+        done = λ k l. ap (λ us. types-right g r us (drop k vs)) (none-from ts 0 sizes k l);
       }
 
   -- an exit that is a region, and stands for the first time
-  abbrev pub exitRight : List ℕ → ℕ → Answer Unit
-  exitRight xs k = andThen (expect 6 r (isRegion g r (getD xs k 0))) λ _. expect 8 r (not (standsBefore xs k))
+  abbrev pub exit-right : List ℕ → ℕ → Answer Unit
+  exit-right xs k = if-accepted (refuse-unless 6 r (is-region g r (getD xs k 0))) λ _. refuse-unless 8 r (not (stands-before xs k))
 
-  pub exits-walk : (xs : List ℕ) {m : ℕ} → m ≡ length xs → Walk (λ k. exitsRight g r (before xs k) (drop k xs)) (λ k. exitRight xs k) m
-  unfolding exitsRight before standsBefore
+  pub exits-walk : (xs : List ℕ) {m : ℕ} → m ≡ length xs → Walk (λ k. exits-right g r (before xs k) (drop k xs)) (λ k. exit-right xs k) m
+  unfolding exits-right before stands-before
   exits-walk xs size =
       record {
         more = λ k l.
-            ap (exitsRight g r (before xs k)) (from xs 0 size k l)
-            ∙ then-then (expect 6 r (isRegion g r (getD xs k 0))) (λ _. expect 8 r (not (isIn (getD xs k 0) (before xs k)))) (λ _. exitsRight g r (getD xs k 0 ∷ before xs k) (drop (k + 1) xs))
-            ∙ ap (λ j. andThen (andThen (expect 6 r (isRegion g r (getD xs k 0))) λ _. expect 8 r (not (isIn (getD xs k 0) (before xs k)))) (λ _. exitsRight g r (before xs j) (drop (k + 1) xs))) (sym (add-one k));
-        done = λ k l. ap (exitsRight g r (before xs k)) (none-from xs 0 size k l);
+            ap (exits-right g r (before xs k)) (from xs 0 size k l)
+            ∙ then-then (refuse-unless 6 r (is-region g r (getD xs k 0))) (λ _. refuse-unless 8 r (not (is-in (getD xs k 0) (before xs k)))) (λ _. exits-right g r (getD xs k 0 ∷ before xs k) (drop (k + 1) xs))
+            ∙ ap (λ j. if-accepted (if-accepted (refuse-unless 6 r (is-region g r (getD xs k 0))) λ _. refuse-unless 8 r (not (is-in (getD xs k 0) (before xs k)))) (λ _. exits-right g r (before xs j) (drop (k + 1) xs))) (sym (add-one k));
+        done = λ k l. ap (exits-right g r (before xs k)) (none-from xs 0 size k l);
       }
 
-pub regions-walk : (g : Graph) {m : ℕ} → m ≡ length (g .regions) → Walk (λ k. regionsRight g k (drop k (g .regions))) (λ k. regionRight g k (region g k)) m
-unfolding regionsRight
+pub regions-walk : (g : Graph) {m : ℕ} → m ≡ length (g .regions) → Walk (λ k. regions-right g k (drop k (g .regions))) (λ k. region-right g k (region g k)) m
+unfolding regions-right
 regions-walk g size =
     record {
       more = λ k l.
-          ap (regionsRight g k) (from (g .regions) nowhere size k l)
-          ∙ ap (λ j. andThen (regionRight g k (region g k)) (λ _. regionsRight g j (drop (k + 1) (g .regions)))) (sym (add-one k));
-      done = λ k l. ap (regionsRight g k) (none-from (g .regions) nowhere size k l);
+          ap (regions-right g k) (from (g .regions) nowhere size k l)
+          ∙ ap (λ j. if-accepted (region-right g k (region g k)) (λ _. regions-right g j (drop (k + 1) (g .regions)))) (sym (add-one k));
+      done = λ k l. ap (regions-right g k) (none-from (g .regions) nowhere size k l);
     }

@@ -3,14 +3,14 @@ ghost use mathlib.Core.Path.{_≡_};
 ghost use mathlib.Core.List.{[]};
 ghost use Prim.Native.Nat.{_≤_};
 ghost use lib.ListN.{getD};
-ghost use Rattle.meaning.specs.Graph.{Graph, no-value, region, edgesOf};
-ghost use Rattle.format.specs.Read.{noEdge};
+ghost use Rattle.meaning.specs.Graph.{Graph, no-value, region, edges-of};
+ghost use Rattle.format.specs.Read.{no-edge};
 ghost use Rattle.format.specs.References as format;
 ghost use Rattle.record.specs.Stands.{Stands};
-ghost use Rattle.fields.specs.Shape.{valueIs};
-ghost use Rattle.references.specs.Answers.{answered};
+ghost use Rattle.fields.specs.Shape.{value-is};
+ghost use Rattle.references.specs.Answers.{references-answered};
 ghost use Rattle.references.specs.Walks.{typed};
-ghost use Rattle.references.specs.EdgesWalk.{firstRight};
+ghost use Rattle.references.specs.EdgesWalk.{first-right};
 use fields::Terminator;
 use fields::Value;
 
@@ -22,7 +22,7 @@ pub enum Checked {
 
 // The type of a value used in region r behind its first `before` instructions; 0 where it names nothing allowed there.
 fn type_in(w: &[u16; 32256], r: u16, before: usize, v: Value) -> u16
-    ensures { λ a. ⌜ ((g : Graph) → Stands (now (w .entry)) g → a ≡ format.typeIn g r before (valueIs v)) ⌝ }
+    ensures { λ a. ⌜ ((g : Graph) → Stands (now (w .entry)) g → a ≡ format.type-in g r before (value-is v)) ⌝ }
 {
     match v {
         Value::Const(i) => fields::constant_type(w, i),
@@ -47,7 +47,7 @@ fn type_in(w: &[u16; 32256], r: u16, before: usize, v: Value) -> u16
 }
 
 fn named(w: &[u16; 32256], r: u16, before: usize, v: Value) -> Checked
-    ensures { λ a. ⌜ ((g : Graph) → Stands (now (w .entry)) g → answered a ≡ format.named g r before (valueIs v)) ⌝ }
+    ensures { λ a. ⌜ ((g : Graph) → Stands (now (w .entry)) g → references-answered a ≡ format.named-right g r before (value-is v)) ⌝ }
 {
     if type_in(w, r, before, v) == 0 {
         return Checked::Refused(6, r);
@@ -57,7 +57,7 @@ fn named(w: &[u16; 32256], r: u16, before: usize, v: Value) -> Checked
 
 // A value behind all instructions of region r: named, and of type t.
 fn named_of_type(w: &[u16; 32256], r: u16, t: u16, v: Value) -> Checked
-    ensures { λ a. ⌜ ((g : Graph) → Stands (now (w .entry)) g → answered a ≡ typed g r t (valueIs v)) ⌝ }
+    ensures { λ a. ⌜ ((g : Graph) → Stands (now (w .entry)) g → references-answered a ≡ typed g r t (value-is v)) ⌝ }
 {
     let found = type_in(w, r, fields::instruction_count(w, r), v);
     if found == 0 {
@@ -71,7 +71,7 @@ fn named_of_type(w: &[u16; 32256], r: u16, t: u16, v: Value) -> Checked
 
 // Each read of instruction i of block b, which stands behind `before` instructions of the region.
 fn instruction_reads_right(w: &[u16; 32256], r: u16, b: u16, i: u16, before: usize) -> Checked
-    ensures { λ a. ⌜ ((g : Graph) → Stands (now (w .entry)) g → answered a ≡ format.each (format.named g r before) (getD (getD (region g r .blocks) b []) i format.noInstr .reads)) ⌝ }
+    ensures { λ a. ⌜ ((g : Graph) → Stands (now (w .entry)) g → references-answered a ≡ format.first-refusal (format.named-right g r before) (getD (getD (region g r .blocks) b []) i format.no-instr .reads)) ⌝ }
 {
     let x = fields::instruction(w, r, b, i);
     let n = x.reads;
@@ -88,7 +88,7 @@ fn instruction_reads_right(w: &[u16; 32256], r: u16, b: u16, i: u16, before: usi
 
 fn block_reads_right(w: &[u16; 32256], r: u16, b: u16, before: usize) -> Checked
     requires { ⌜ before ≤ 4294836225 ⌝ }
-    ensures { λ a. ⌜ ((g : Graph) → Stands (now (w .entry)) g → answered a ≡ format.readsRight g r before (getD (region g r .blocks) b [])) ⌝ }
+    ensures { λ a. ⌜ ((g : Graph) → Stands (now (w .entry)) g → references-answered a ≡ format.reads-right g r before (getD (region g r .blocks) b [])) ⌝ }
 {
     let n = fields::block_length(w, r, b);
     let mut i: u16 = 0;
@@ -103,7 +103,7 @@ fn block_reads_right(w: &[u16; 32256], r: u16, b: u16, before: usize) -> Checked
 }
 
 fn reads_right(w: &[u16; 32256], r: u16) -> Checked
-    ensures { λ a. ⌜ ((g : Graph) → Stands (now (w .entry)) g → answered a ≡ format.readsRight g r 0 (format.instructions (region g r .blocks))) ⌝ }
+    ensures { λ a. ⌜ ((g : Graph) → Stands (now (w .entry)) g → references-answered a ≡ format.reads-right g r 0 (format.instructions (region g r .blocks))) ⌝ }
 {
     let n = fields::block_count(w, r);
     let mut before: usize = 0;
@@ -120,7 +120,7 @@ fn reads_right(w: &[u16; 32256], r: u16) -> Checked
 }
 
 fn is_return(w: &[u16; 32256], r: u16) -> bool
-    ensures { λ a. ⌜ ((g : Graph) → Stands (now (w .entry)) g → a ≡ format.isReturn (region g r .terminator)) ⌝ }
+    ensures { λ a. ⌜ ((g : Graph) → Stands (now (w .entry)) g → a ≡ format.is-return (region g r .terminator)) ⌝ }
 {
     let t = fields::terminator(w, r);
     match t {
@@ -135,7 +135,7 @@ fn is_return(w: &[u16; 32256], r: u16) -> bool
 
 // How many regions stand before the first Return region.
 fn first_return(w: &[u16; 32256]) -> u16
-    ensures { λ a. ⌜ ((g : Graph) → Stands (now (w .entry)) g → a ≡ format.firstReturn (g .regions)) ⌝ }
+    ensures { λ a. ⌜ ((g : Graph) → Stands (now (w .entry)) g → a ≡ format.first-return (g .regions)) ⌝ }
 {
     let n = fields::region_count(w);
     let mut q: u16 = 0;
@@ -150,7 +150,7 @@ fn first_return(w: &[u16; 32256]) -> u16
 
 // The type of value k that region q returns.
 fn return_type(w: &[u16; 32256], q: u16, k: u16) -> u16
-    ensures { λ a. ⌜ ((g : Graph) → Stands (now (w .entry)) g → a ≡ format.typeIn g q (format.behindAll g q) (getD (format.valuesOf (region g q .terminator)) k no-value)) ⌝ }
+    ensures { λ a. ⌜ ((g : Graph) → Stands (now (w .entry)) g → a ≡ format.type-in g q (format.behind-all g q) (getD (format.values-of (region g q .terminator)) k no-value)) ⌝ }
 {
     type_in(
         w,
@@ -162,7 +162,7 @@ fn return_type(w: &[u16; 32256], q: u16, k: u16) -> u16
 
 // What region r returns has the types of what the first Return region returns.
 fn returned_right(w: &[u16; 32256], r: u16) -> Checked
-    ensures { λ a. ⌜ ((g : Graph) → Stands (now (w .entry)) g → answered a ≡ format.passedRight g r (format.returnTypes g) (format.valuesOf (region g r .terminator))) ⌝ }
+    ensures { λ a. ⌜ ((g : Graph) → Stands (now (w .entry)) g → references-answered a ≡ format.passed-right g r (format.return-types g) (format.values-of (region g r .terminator))) ⌝ }
 {
     let q = first_return(w);
     let n = fields::value_count(w, r);
@@ -182,7 +182,7 @@ fn returned_right(w: &[u16; 32256], r: u16) -> Checked
 
 // Each value that ExitInvocation names.
 fn exit_values_right(w: &[u16; 32256], r: u16) -> Checked
-    ensures { λ a. ⌜ ((g : Graph) → Stands (now (w .entry)) g → answered a ≡ format.each (format.named g r (format.behindAll g r)) (format.valuesOf (region g r .terminator))) ⌝ }
+    ensures { λ a. ⌜ ((g : Graph) → Stands (now (w .entry)) g → references-answered a ≡ format.first-refusal (format.named-right g r (format.behind-all g r)) (format.values-of (region g r .terminator))) ⌝ }
 {
     let before = fields::instruction_count(w, r);
     let n = fields::value_count(w, r);
@@ -198,7 +198,7 @@ fn exit_values_right(w: &[u16; 32256], r: u16) -> Checked
 }
 
 fn values_right(w: &[u16; 32256], r: u16) -> Checked
-    ensures { λ a. ⌜ ((g : Graph) → Stands (now (w .entry)) g → answered a ≡ format.valuesRight g r (region g r .terminator)) ⌝ }
+    ensures { λ a. ⌜ ((g : Graph) → Stands (now (w .entry)) g → references-answered a ≡ format.values-right g r (region g r .terminator)) ⌝ }
 {
     let t = fields::terminator(w, r);
     match t {
@@ -217,7 +217,7 @@ fn values_right(w: &[u16; 32256], r: u16) -> Checked
 }
 
 fn targets_right(w: &[u16; 32256], r: u16) -> Checked
-    ensures { λ a. ⌜ ((g : Graph) → Stands (now (w .entry)) g → answered a ≡ format.each (format.targetRight g r) (edgesOf (region g r .terminator))) ⌝ }
+    ensures { λ a. ⌜ ((g : Graph) → Stands (now (w .entry)) g → references-answered a ≡ format.first-refusal (format.target-right g r) (edges-of (region g r .terminator))) ⌝ }
 {
     let count = fields::region_count(w);
     let n = fields::target_count(w, r);
@@ -233,7 +233,7 @@ fn targets_right(w: &[u16; 32256], r: u16) -> Checked
 
 // Values for the inputs of the target at place j: as many, then each named, and of its type.
 fn passed_right(w: &[u16; 32256], r: u16, j: u16) -> Checked
-    ensures { λ a. ⌜ ((g : Graph) → Stands (now (w .entry)) g → answered a ≡ format.edgeRight g r (getD (edgesOf (region g r .terminator)) j noEdge)) ⌝ }
+    ensures { λ a. ⌜ ((g : Graph) → Stands (now (w .entry)) g → references-answered a ≡ format.edge-right g r (getD (edges-of (region g r .terminator)) j no-edge)) ⌝ }
 {
     let t = fields::target(w, r, j);
     let n = fields::passed_count(w, r, j);
@@ -258,7 +258,7 @@ fn passed_right(w: &[u16; 32256], r: u16, j: u16) -> Checked
 
 // The values for the target at place j, where it stands for the first time.
 fn edge_right(w: &[u16; 32256], r: u16, j: u16) -> Checked
-    ensures { λ a. ⌜ ((g : Graph) → Stands (now (w .entry)) g → answered a ≡ firstRight g r (edgesOf (region g r .terminator)) j) ⌝ }
+    ensures { λ a. ⌜ ((g : Graph) → Stands (now (w .entry)) g → references-answered a ≡ first-right g r (edges-of (region g r .terminator)) j) ⌝ }
 {
     if fields::target_again(w, r, j) {
         return Checked::Right;
@@ -268,7 +268,7 @@ fn edge_right(w: &[u16; 32256], r: u16, j: u16) -> Checked
 
 // The values passed to each distinct target.
 fn edges_right(w: &[u16; 32256], r: u16) -> Checked
-    ensures { λ a. ⌜ ((g : Graph) → Stands (now (w .entry)) g → answered a ≡ format.each (format.edgeRight g r) (format.firstEdges [] (edgesOf (region g r .terminator)))) ⌝ }
+    ensures { λ a. ⌜ ((g : Graph) → Stands (now (w .entry)) g → references-answered a ≡ format.first-refusal (format.edge-right g r) (format.first-edges [] (edges-of (region g r .terminator)))) ⌝ }
 {
     let n = fields::target_count(w, r);
     let mut j: u16 = 0;
@@ -284,7 +284,7 @@ fn edges_right(w: &[u16; 32256], r: u16) -> Checked
 
 // Each exit is a region (6), and none stands twice (8).
 fn exits_right(w: &[u16; 32256], r: u16) -> Checked
-    ensures { λ a. ⌜ ((g : Graph) → Stands (now (w .entry)) g → answered a ≡ format.exitsRight g r [] (region g r .exits)) ⌝ }
+    ensures { λ a. ⌜ ((g : Graph) → Stands (now (w .entry)) g → references-answered a ≡ format.exits-right g r [] (region g r .exits)) ⌝ }
 {
     let count = fields::region_count(w);
     let n = fields::exit_count(w, r);
@@ -302,7 +302,7 @@ fn exits_right(w: &[u16; 32256], r: u16) -> Checked
 }
 
 fn region_right(w: &[u16; 32256], r: u16) -> Checked
-    ensures { λ a. ⌜ ((g : Graph) → Stands (now (w .entry)) g → answered a ≡ format.regionRight g r (region g r)) ⌝ }
+    ensures { λ a. ⌜ ((g : Graph) → Stands (now (w .entry)) g → references-answered a ≡ format.region-right g r (region g r)) ⌝ }
 {
     let reads = reads_right(w, r);
     if let Checked::Refused(number, word) = reads {
@@ -325,7 +325,7 @@ fn region_right(w: &[u16; 32256], r: u16) -> Checked
 
 // The entry, then each region, also where it is out of reach.
 pub fn references(w: &[u16; 32256]) -> Checked
-    ensures { λ a. ⌜ ((g : Graph) → Stands (now (w .entry)) g → answered a ≡ format.references g) ⌝ }
+    ensures { λ a. ⌜ ((g : Graph) → Stands (now (w .entry)) g → references-answered a ≡ format.references g) ⌝ }
 {
     let n = fields::region_count(w);
     if n <= fields::entry(w) {

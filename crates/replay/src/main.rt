@@ -11,7 +11,7 @@ use vectors::Tally;
 
 // Whether what is shown of a store is the expected text.
 fn agrees(bytes: &[u8], expected: &[u8], words: &mut [u16; WORDS], out: &mut [u8]) -> bool {
-    match display::show(bytes, words, out) {
+    match show_text::show(bytes, words, out) {
         Written::Bytes(n) => {
             if n <= out.len() {
                 return check::same(&out[0..n], expected);

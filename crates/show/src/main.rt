@@ -26,6 +26,6 @@ fn main() {
     let mut words = [0u16; WORDS];
     let mut out = io::large_buffer();
     let n = io::read_full(STDIN_FILENO, &mut bytes);
-    let written = display::show(&bytes[..n], &mut words, &mut out);
+    let written = show_text::show(&bytes[..n], &mut words, &mut out);
     print(written, &out);
 }

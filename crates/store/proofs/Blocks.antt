@@ -8,8 +8,8 @@ use native.Mathlib.Numerals.{add-one}
 use native.Mathlib.Omega.{arith}
 use lib.ListN.{getD}
 use lib.Dec.{eqb}
-use Rattle.format.specs.Store.{accepted, refused, pair, weighted, blocksChecked}
-use Rattle.store.specs.Block.{firstWrong, blockChecked}
+use Rattle.format.specs.Store.{accepted, refused, pair, weighted, blocks-checked}
+use Rattle.store.specs.Block.{first-wrong, block-checked}
 
 -- A byte times its weight in a block.
 pub weight-bound : (b n : ℕ) → b < 256 → n < 508 → b * (n + 1) ≤ 129540
@@ -19,22 +19,22 @@ pub weighted-more : (s : List ℕ) (at n : ℕ) → weighted s at (n + 1) ≡ we
 unfolding weighted
 weighted-more s at n = ap (weighted s at) (add-one n)
 
-pub blocks-more : (s : List ℕ) (n : ℕ) → blocksChecked s n ≡ accepted tt → blocksChecked s (n + 1) ≡ blockChecked s n
-unfolding blocksChecked
+pub blocks-more : (s : List ℕ) (n : ℕ) → blocks-checked s n ≡ accepted tt → blocks-checked s (n + 1) ≡ block-checked s n
+unfolding blocks-checked
 blocks-more s n e = rw (add-one, e) refl
 
 -- A refusal among the first blocks stands, whatever follows.
-pub blocks-stay : (s : List ℕ) (m n a b : ℕ) → m ≤ n → blocksChecked s m ≡ refused a b → blocksChecked s n ≡ refused a b
-unfolding blocksChecked
+pub blocks-stay : (s : List ℕ) (m n a b : ℕ) → m ≤ n → blocks-checked s m ≡ refused a b → blocks-checked s n ≡ refused a b
+unfolding blocks-checked
 blocks-stay s zero zero a b l e = e
 blocks-stay s (suc m) zero a b l e = absurd (not-suc-le-zero l)
 blocks-stay s m (suc n) a b l e =
-    ⊎-elim (λ q. ap (blocksChecked s) (sym q) ∙ e) (λ q. rw (blocks-stay s m n a b (le-of-suc-le-suc q) e) refl) (eq-or-lt-of-le l)
+    ⊎-elim (λ q. ap (blocks-checked s) (sym q) ∙ e) (λ q. rw (blocks-stay s m n a b (le-of-suc-le-suc q) e) refl) (eq-or-lt-of-le l)
 
 -- The loop over the blocks stops at the first refusal.
-pub blocks-stop : (s : List ℕ) (m n a b : ℕ) → blocksChecked s m ≡ accepted tt → m < n → refused a b ≡ blockChecked s m → refused a b ≡ blocksChecked s n
+pub blocks-stop : (s : List ℕ) (m n a b : ℕ) → blocks-checked s m ≡ accepted tt → m < n → refused a b ≡ block-checked s m → refused a b ≡ blocks-checked s n
 blocks-stop s m n a b e l h = sym (blocks-stay s (m + 1) n a b (omega arith) (blocks-more s m e ∙ sym h))
 
 -- The verdict by the numbers that were read.
-pub block-by : (s : List ℕ) (b number low high sum : ℕ) → number ≡ pair s (512 * b) → low ≡ pair s (512 * b + 508) → high ≡ pair s (512 * b + 510) → sum ≡ weighted s (512 * b) 508 → firstWrong b (eqb number b) 2 (eqb (low + 65536 * high) sum) 3 ≡ blockChecked s b
+pub block-by : (s : List ℕ) (b number low high sum : ℕ) → number ≡ pair s (512 * b) → low ≡ pair s (512 * b + 508) → high ≡ pair s (512 * b + 510) → sum ≡ weighted s (512 * b) 508 → first-wrong b (eqb number b) 2 (eqb (low + 65536 * high) sum) 3 ≡ block-checked s b
 block-by s b number low high sum p q r t = rw (p, q, r, t) refl

@@ -2,17 +2,17 @@
 use mathlib.Core.Bool.{Bool, true, false}
 use mathlib.Core.List.{List}
 use Prim.Native.Nat.{ℕ, _+_, _*_, _/_, _%_}
-use Rattle.format.specs.Store.{Answer, accepted, refused, numberRight, checkRight}
+use Rattle.format.specs.Store.{Answer, accepted, refused, number-right, check-right}
 
 -- The refusal of the first test that failed: m or n, with block b.
-abbrev pub firstWrong : ℕ → Bool → ℕ → Bool → ℕ → Answer Unit
-firstWrong b first m second n =
+abbrev pub first-wrong : ℕ → Bool → ℕ → Bool → ℕ → Answer Unit
+first-wrong b first m second n =
     elim first [ false ↦ refused m b | true ↦ elim second [ false ↦ refused n b | true ↦ accepted tt ] ]
 
 -- Of block b alone: 2 for a wrong number, 3 for a wrong check.
-abbrev pub blockChecked : List ℕ → ℕ → Answer Unit
-blockChecked s b = firstWrong b (numberRight s b) 2 (checkRight s b) 3
+abbrev pub block-checked : List ℕ → ℕ → Answer Unit
+block-checked s b = first-wrong b (number-right s b) 2 (check-right s b) 3
 
 -- The byte at which word j of the joined payloads begins.
-abbrev pub placeOf : ℕ → ℕ
-placeOf j = 512 * (j / 253) + 2 + 2 * (j % 253)
+abbrev pub byte-place : ℕ → ℕ
+byte-place j = 512 * (j / 253) + 2 + 2 * (j % 253)

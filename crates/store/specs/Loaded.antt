@@ -3,31 +3,31 @@ use mathlib.Core.Path.{_≡_}
 use mathlib.Core.List.{List, _++_}
 use Prim.Native.Nat.{ℕ}
 use lib.ListN.{length, drop}
-use Rattle.format.specs.Store.{Answer, accepted, refused, storeWords}
+use Rattle.format.specs.Store.{Answer, accepted, refused, store-words}
 use Rattle.store.specs.declared.Loaded.{Loaded}
 use Rattle.store.specs.declared.Loaded.the-variants.{Words, Refused}
 use Rattle.store.specs.declared.Checked.{Checked}
 use Rattle.store.specs.declared.Checked.the-variants as checked
 
 -- Document 01's number and word of each refusal, or W.
-abbrev pub answered : Loaded → Answer ℕ
-answered (Words n) = accepted n
-answered (Refused n w) = refused n w
+abbrev pub load-answered : Loaded → Answer ℕ
+load-answered (Words n) = accepted n
+load-answered (Refused n w) = refused n w
 
-abbrev pub blocksAnswered : Checked → Answer Unit
-blocksAnswered checked.Right = accepted tt
-blocksAnswered (checked.Wrong n w) = refused n w
+abbrev pub blocks-answered : Checked → Answer Unit
+blocks-answered checked.Right = accepted tt
+blocks-answered (checked.Wrong n w) = refused n w
 
--- The words of a store, counted: W.
-abbrev pub counted : Answer (List ℕ) → Answer ℕ
-counted (accepted ws) = accepted (length ws)
-counted (refused n w) = refused n w
+-- The words of a store, words-counted: W.
+abbrev pub words-counted : Answer (List ℕ) → Answer ℕ
+words-counted (accepted ws) = accepted (length ws)
+words-counted (refused n w) = refused n w
 
 -- The store's words stand in front of the lent words; a refusal leaves these as lent.
-abbrev pub heldAfter : List ℕ → Answer (List ℕ) → List ℕ
-heldAfter before (accepted ws) = ws ++ drop (length ws) before
-heldAfter before (refused n w) = before
+abbrev pub words-after : List ℕ → Answer (List ℕ) → List ℕ
+words-after before (accepted ws) = ws ++ drop (length ws) before
+words-after before (refused n w) = before
 
 pub record Loads (s before after : List ℕ) (r : Loaded) : Type 0 where
-  pub answer : answered r ≡ counted (storeWords s)
-  pub words : after ≡ heldAfter before (storeWords s)
+  pub answer : load-answered r ≡ words-counted (store-words s)
+  pub words : after ≡ words-after before (store-words s)

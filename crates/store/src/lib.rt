@@ -3,9 +3,9 @@ ghost use mathlib.Core.Path.{_≡_};
 ghost use mathlib.Core.List.{_++_};
 ghost use Prim.Native.Nat.{ℕ, _+_, _*_, _/_, _≤_, _<_};
 ghost use lib.ListN.{length, drop};
-ghost use Rattle.format.specs.Store.{pair, weighted, blocksChecked, wordAt, allZero, countRight, tabulate, storeWords};
-ghost use Rattle.store.specs.Loaded.{answered, blocksAnswered, counted, Loads};
-ghost use Rattle.store.specs.Block.{firstWrong, blockChecked, placeOf};
+ghost use Rattle.format.specs.Store.{pair, weighted, blocks-checked, word-at, all-zero, count-right, tabulate, store-words};
+ghost use Rattle.store.specs.Loaded.{load-answered, blocks-answered, words-counted, Loads};
+ghost use Rattle.store.specs.Block.{first-wrong, block-checked, byte-place};
 
 // How many words are lent: the record's stand in front.
 pub const WORDS: usize = 32256;
@@ -55,7 +55,7 @@ pub fn check_of(bytes: &[u8], at: usize) -> u32
 
 // The refusal of the first test that failed, each with its number, for a block.
 fn first_wrong(b: u16, first: bool, m: u16, second: bool, n: u16) -> Checked
-    ensures { λ r. ⌜ blocksAnswered r ≡ firstWrong b first m second n ⌝ }
+    ensures { λ r. ⌜ blocks-answered r ≡ first-wrong b first m second n ⌝ }
 {
     if !first {
         return Checked::Wrong(m, b);
@@ -69,7 +69,7 @@ fn first_wrong(b: u16, first: bool, m: u16, second: bool, n: u16) -> Checked
 // One block: its number, then its check.
 fn block_checked(bytes: &[u8], b: usize) -> Checked
     requires { ⌜ (b < 16) × (512 * b + 512 ≤ length (now bytes)) ⌝ }
-    ensures { λ r. ⌜ blocksAnswered r ≡ blockChecked (now (bytes .entry)) b ⌝ }
+    ensures { λ r. ⌜ blocks-answered r ≡ block-checked (now (bytes .entry)) b ⌝ }
 {
     let at = 512 * b;
     let number = pair_at(bytes, at) as usize;
@@ -83,7 +83,7 @@ fn block_checked(bytes: &[u8], b: usize) -> Checked
 // The blocks in turn, up to the first that is wrong.
 fn blocks_checked(bytes: &[u8], n: usize) -> Checked
     requires { ⌜ (n ≤ 16) × (512 * n ≤ length (now bytes)) ⌝ }
-    ensures { λ r. ⌜ blocksAnswered r ≡ blocksChecked (now (bytes .entry)) n ⌝ }
+    ensures { λ r. ⌜ blocks-answered r ≡ blocks-checked (now (bytes .entry)) n ⌝ }
 {
     let mut b: usize = 0;
     while b < n {
@@ -99,7 +99,7 @@ fn blocks_checked(bytes: &[u8], n: usize) -> Checked
 // The byte at which the next word begins: from the last of a block's 253 words, byte 2 of the next block.
 fn next_place(at: usize) -> usize
     requires { ⌜ at < 8192 ⌝ }
-    ensures { λ r. ⌜ ((j : ℕ) → at ≡ placeOf j → r ≡ placeOf (j + 1)) ⌝ }
+    ensures { λ r. ⌜ ((j : ℕ) → at ≡ byte-place j → r ≡ byte-place (j + 1)) ⌝ }
 {
     if at % 512 == 506 {
         return at + 8;
@@ -110,7 +110,7 @@ fn next_place(at: usize) -> usize
 // Whether the words from a place among the words on are zero.
 fn all_zero(bytes: &[u8], from: usize, count: usize) -> bool
     requires { ⌜ (length (now bytes) ≤ 8192) × (from + count ≤ 253 * (length (now bytes) / 512)) ⌝ }
-    ensures { λ r. ⌜ r ≡ allZero (now (bytes .entry)) from count ⌝ }
+    ensures { λ r. ⌜ r ≡ all-zero (now (bytes .entry)) from count ⌝ }
 {
     let mut at = 512 * (from / 253) + 2 + 2 * (from % 253);
     let mut n: usize = 0;
@@ -127,7 +127,7 @@ fn all_zero(bytes: &[u8], from: usize, count: usize) -> bool
 // W against the number of blocks, and the words after W.
 fn count_right(bytes: &[u8], n: usize, w: u16) -> bool
     requires { ⌜ (length (now bytes) ≤ 8192) × (n ≡ length (now bytes) / 512) ⌝ }
-    ensures { λ r. ⌜ r ≡ countRight (now (bytes .entry)) n w ⌝ }
+    ensures { λ r. ⌜ r ≡ count-right (now (bytes .entry)) n w ⌝ }
 {
     let used = w as usize;
     if used == 0 {
@@ -141,7 +141,7 @@ fn count_right(bytes: &[u8], n: usize, w: u16) -> bool
 
 // W, or the store's refusal.
 fn words_used(bytes: &[u8]) -> Loaded
-    ensures { λ r. ⌜ answered r ≡ counted (storeWords (now (bytes .entry))) ⌝ }
+    ensures { λ r. ⌜ load-answered r ≡ words-counted (store-words (now (bytes .entry))) ⌝ }
 {
     let length = bytes.len();
     if length == 0 {
@@ -168,7 +168,7 @@ fn words_used(bytes: &[u8]) -> Loaded
 // The first w words of a store, in front of the lent words.
 fn copy_words(bytes: &[u8], words: &mut [u16; WORDS], w: u16)
     requires { ⌜ (length (now bytes) ≤ 8192) × (w ≤ 253 * (length (now bytes) / 512)) ⌝ }
-    ensures { λ _. ⌜ now (words .exit) ≡ tabulate w (wordAt (now (bytes .entry))) ++ drop w (now (words .entry)) ⌝ }
+    ensures { λ _. ⌜ now (words .exit) ≡ tabulate w (word-at (now (bytes .entry))) ++ drop w (now (words .entry)) ⌝ }
 {
     span(words);
     let mut at: usize = 2;

@@ -18,14 +18,14 @@ abbrev pub buffer : List ℕ → ℕ → Buffer
 buffer bytes place = record { bytes = bytes; place = place }
 
 -- The next byte; one that finds no room is dropped.
-abbrev pub put : Buffer → ℕ → Buffer
-put o b =
+abbrev pub put-byte-at : Buffer → ℕ → Buffer
+put-byte-at o b =
     buffer (set (o .bytes) (o .place) b) (pick (leb (o .place) (length (o .bytes))) (o .place + 1) (o .place))
 
 -- The bytes of a text, one after another.
 unfoldable pub puts : Buffer → List ℕ → Buffer
 puts o [] = o
-puts o (b ∷ t) = puts (put o b) t
+puts o (b ∷ t) = puts (put-byte-at o b) t
 
 -- What a routine that writes a text makes of the buffer.
 pub record Wrote (o : Buffer) (t : List ℕ) (p : Buffer) : Type 0 where
@@ -34,13 +34,13 @@ pub record Wrote (o : Buffer) (t : List ℕ) (p : Buffer) : Type 0 where
 puts-append : (o : Buffer) (t u : List ℕ) → puts o (t ++ u) ≡ puts (puts o t) u
 unfolding puts
 puts-append o [] u = refl
-puts-append o (b ∷ t) u = puts-append (put o b) t u
+puts-append o (b ∷ t) u = puts-append (put-byte-at o b) t u
 
 pub wrote-none : {o : Buffer} → Wrote o [] o
 unfolding puts
 wrote-none = record { is = refl }
 
-pub wrote-byte : (o : Buffer) (b : ℕ) → Wrote o (b ∷ []) (put o b)
+pub wrote-byte : (o : Buffer) (b : ℕ) → Wrote o (b ∷ []) (put-byte-at o b)
 unfolding puts
 wrote-byte o b = record { is = refl }
 

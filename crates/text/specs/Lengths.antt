@@ -33,15 +33,15 @@ labeled-length label n h = rw length-append (omega (arith, five-digits n h))
 
 module _ {A : Type 0} (show : A → Text) where
   -- An item with its comma.
-  abbrev pub itemLength : A → ℕ
-  itemLength x = suc (length (show x))
+  abbrev pub item-length : A → ℕ
+  item-length x = suc (length (show x))
 
-  joined-length : (x : A) (xs : List A) → length (joined (ascii ",") (map show (x ∷ xs))) ≤ total itemLength (x ∷ xs)
+  joined-length : (x : A) (xs : List A) → length (joined (ascii ",") (map show (x ∷ xs))) ≤ total item-length (x ∷ xs)
   unfolding joined
   joined-length x [] = omega arith
   joined-length x (y ∷ ys) = simp length-append (omega (arith, joined-length y ys))
 
-  pub listed-length : (xs : List A) → length (listed show xs) ≤ 1 + total itemLength xs
+  pub listed-length : (xs : List A) → length (listed show xs) ≤ 1 + total item-length xs
   unfolding listed
   listed-length [] = omega arith
   listed-length (x ∷ xs) = omega (arith, joined-length x xs)

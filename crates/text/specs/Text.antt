@@ -10,6 +10,6 @@ unfolding decimal
 labeled label n = ascii label ++ decimal n
 
 -- The texts of the items, one after another.
-unfoldable pub each : {A : Type 0} → (A → Text) → List A → Text
-each show [] = []
-each show (x ∷ xs) = show x ++ each show xs
+unfoldable pub text-of-each : {A : Type 0} → (A → Text) → List A → Text
+text-of-each show [] = []
+text-of-each show (x ∷ xs) = show x ++ text-of-each show xs

@@ -14,8 +14,8 @@ use Rattle.text.specs.declared.Written.the-variants.{Bytes, Full}
 use Rattle.text.specs.Buffer.{buffer, puts, Wrote}
 
 -- A place beyond the buffer's end says that some byte found no room.
-abbrev pub writtenTo : ℕ → ℕ → Written
-writtenTo room place = pick (leb place room) (Bytes place) Full
+abbrev pub written-to : ℕ → ℕ → Written
+written-to room place = pick (leb place room) (Bytes place) Full
 
 -- Bytes n: the text, of n bytes, stands in front, and the rest is as lent. Full: the text is longer than the buffer, which its front fills.
 pub record Whole (text before after : List ℕ) (r : Written) : Type 0 where
@@ -43,7 +43,7 @@ behind (x ∷ t) (y ∷ rest) front at h =
     rw (le-leb at (length (front ++ (y ∷ rest))) (omega arith), set-at front y rest x at h, ← append-snoc front x rest)
     (behind t rest (front ++ (x ∷ [])) (at + 1) (length-append front (x ∷ []) ∙ ap (λ n. n + 1) h) ∙ same (append-snoc front x _) (omega arith))
 
-answer-by : (t : Bool) (size room place : ℕ) → leb size room ≡ t → place ≡ min size (room + 1) → writtenTo room place ≡ pick t (Bytes size) Full
+answer-by : (t : Bool) (size room place : ℕ) → leb size room ≡ t → place ≡ min size (room + 1) → written-to room place ≡ pick t (Bytes size) Full
 answer-by true size room place e h =
     let fits : size ≤ room = leb-true size room e in
     let q : place ≡ size = omega arith in
@@ -52,7 +52,7 @@ answer-by false size room place e h =
     let over : room < size = leb-false size room e in
     rw (lt-leb place room (omega arith))
 
-pub whole : (text before after : List ℕ) (place : ℕ) → Wrote (buffer before 0) text (buffer after place) → Whole text before after (writtenTo (length before) place)
+pub whole : (text before after : List ℕ) (place : ℕ) → Wrote (buffer before 0) text (buffer after place) → Whole text before after (written-to (length before) place)
 whole text before after place w =
     let e : buffer after place ≡ buffer (take (length before) text ++ drop (length text) before) (0 + min (length text) (length before + 1)) = w .is ∙ behind text before [] 0 refl in
     record { answer = answer-by _ (length text) (length before) place refl (ap (λ o. o .place) e ∙ omega arith); bytes = ap (λ o. o .bytes) e }

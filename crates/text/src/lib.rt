@@ -3,7 +3,7 @@ ghost use mathlib.Core.Path.{_≡_};
 ghost use mathlib.Core.List.{[], _∷_, _++_};
 ghost use Rattle.meaning.specs.Text.{decimal};
 ghost use Rattle.text.specs.Buffer.{buffer, Wrote};
-ghost use Rattle.text.specs.Whole.{writtenTo};
+ghost use Rattle.text.specs.Whole.{written-to};
 
 // One byte, and the next place. Where the buffer is full the byte is dropped, and the place beyond its end says so.
 pub fn put_byte(out: &mut [u8], at: usize, b: u8) -> usize
@@ -58,7 +58,7 @@ pub enum Written {
 
 // By the place behind a text that was written from the buffer's beginning on.
 pub fn finish(room: usize, place: usize) -> Written
-    ensures { λ r. ⌜ r ≡ writtenTo room place ⌝ }
+    ensures { λ r. ⌜ r ≡ written-to room place ⌝ }
 {
     if place <= room {
         return Written::Bytes(place);

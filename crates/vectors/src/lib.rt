@@ -1,7 +1,7 @@
 // A list of vectors, byte by byte: a line `store` with the bytes in hex, the lines of its answer, a line with a dot.
 ghost use mathlib.Core.Path.{_≡_};
 ghost use Prim.Native.Nat.{_<_};
-ghost use Rattle.vectors.specs.Tally.{oneMore, toldOf};
+ghost use Rattle.vectors.specs.Tally.{one-more-told, told-of};
 ghost use Rattle.vectors.specs.Within.{Within};
 
 // The longest store and the longest answer that are kept whole.
@@ -155,7 +155,7 @@ pub struct Tally {
 }
 
 fn more(n: u32) -> u32
-    ensures { λ r. ⌜ r ≡ oneMore n ⌝ }
+    ensures { λ r. ⌜ r ≡ one-more-told n ⌝ }
 {
     if n < 4294967295 {
         return n + 1;
@@ -165,7 +165,7 @@ fn more(n: u32) -> u32
 
 // One more answer.
 pub fn told(t: Tally, agreed: bool) -> Tally
-    ensures { λ r. ⌜ r ≡ toldOf t agreed ⌝ }
+    ensures { λ r. ⌜ r ≡ told-of t agreed ⌝ }
 {
     if agreed {
         return Tally {

@@ -2,7 +2,7 @@ use borrow.Author.Needs.{needs}
 use Rattle.accept.proofs.after_reading.Statement.{statement}
 use Rattle.accept.proofs.after_reading.Tie as tie
 use mathlib.Core.Path.{ap}
-use Rattle.references.specs.Answers.{answered as checked-answered}
+use Rattle.references.specs.Answers.{references-answered as checked-answered}
 use Rattle.accept.specs.AcceptSteps.{handed-on, by-references}
 
 enum-known-read : tie.Need-enum-known-read

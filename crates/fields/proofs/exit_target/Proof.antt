@@ -3,7 +3,7 @@ use Rattle.fields.proofs.exit_target.Statement.{statement}
 use Rattle.fields.proofs.exit_target.Tie as tie
 use mathlib.Core.Path.{_∙_}
 use Rattle.fields.specs.Regions.{exits-at}
-use Rattle.fields.specs.Lists.{word-item}
+use Rattle.fields.specs.Lists.{word-item-is}
 
 indexed-requires : tie.Need-indexed-requires
 indexed-requires c κs = search needs
@@ -12,7 +12,7 @@ word-item-requires : tie.Need-word-item-requires
 word-item-requires c κs = search needs
 
 returns : tie.Need-returns
-returns c g s = c .word-item .ensures ∙ rw (c .before .indexed .ensures) (word-item _ (exits-at s _) _)
+returns c g s = c .word-item .ensures ∙ rw (c .before .indexed .ensures) (word-item-is _ (exits-at s _) _)
 
 pub exit-target-spec : {M : Type 1} → statement M
 exit-target-spec = tie.close (tie.spec indexed-requires word-item-requires returns)

@@ -3,7 +3,7 @@ use Rattle.fields.proofs.target.Statement.{statement}
 use Rattle.fields.proofs.target.Tie as tie
 use mathlib.Core.Path.{_∙_}
 use Rattle.fields.specs.Passed.{targets-at, target-is}
-use Rattle.fields.specs.Lists.{word-item}
+use Rattle.fields.specs.Lists.{word-item-is}
 
 targets-place-requires : tie.Need-targets-place-requires
 targets-place-requires c κs = search needs
@@ -12,7 +12,7 @@ word-item-requires : tie.Need-word-item-requires
 word-item-requires c κs = search needs
 
 returns : tie.Need-returns
-returns c g s = c .word-item .ensures ∙ rw (c .before .targets-place .ensures) (word-item _ (targets-at s _) _ ∙ target-is s _ _)
+returns c g s = c .word-item .ensures ∙ rw (c .before .targets-place .ensures) (word-item-is _ (targets-at s _) _ ∙ target-is s _ _)
 
 pub target-spec : {M : Type 1} → statement M
 target-spec = tie.close (tie.spec targets-place-requires word-item-requires returns)

@@ -1,4 +1,4 @@
--- The loop follows `regionsFrom`, and the index has each region passed (`RegionsGoing`).
+-- The loop follows `regions-from`, and the index has each region passed (`RegionsGoing`).
 use mathlib.Core.Path.{_≡_, refl, sym, _∙_}
 use Prim.Native.Nat.{_-_}
 use native.Mathlib.Omega.{arith}

@@ -8,14 +8,14 @@ use lib.ListN.{getD, drop}
 use Rattle.meaning.specs.Graph.{Graph, region}
 use Rattle.format.specs.References as format
 use Rattle.record.specs.Stands.{Stands}
-use Rattle.references.specs.Answers.{answered}
+use Rattle.references.specs.Answers.{references-answered}
 use Rattle.references.specs.Walk.{passes, stops, ends}
 use Rattle.references.specs.Walks.{reads-walk}
 use mathlib.Core.List.{[]}
 use native.Mathlib.Nat.{add-zero}
 
 abbrev Inv-loop : tie.InvT-loop
-Inv-loop w r b before n i₀ i = (i ≤ n) × ((g : Graph) → Stands w g → format.readsRight g r (before + i) (drop i (getD (region g r .blocks) b [])) ≡ format.readsRight g r before (getD (region g r .blocks) b []))
+Inv-loop w r b before n i₀ i = (i ≤ n) × ((g : Graph) → Stands w g → format.reads-right g r (before + i) (drop i (getD (region g r .blocks) b [])) ≡ format.reads-right g r before (getD (region g r .blocks) b []))
 
 abbrev μ-loop : tie.MeasureT-loop
 μ-loop w r b before n i₀ i = n - i
@@ -42,7 +42,7 @@ returns : tie.Need-returns Inv-loop μ-loop
 returns c g s =
     let a = c .before .before .before .before .before .before .before .args in
     stops (reads-walk g (a .r) (a .before) (getD (region g (a .r) .blocks) (a .b) []) (c .before .before .before .before .before .before .block-length .ensures g s)) _ _ (c .before .before .before .before .loop-test .taken) (c .before .before .before .before .before .loop .inv .1 g s)
-    (sym (ap answered (c .before .c .given .1)) ∙ c .before .before .before .instruction-reads-right .ensures g s)
+    (sym (ap references-answered (c .before .c .given .1)) ∙ c .before .before .before .instruction-reads-right .ensures g s)
 
 enum-told : tie.Need-enum-told Inv-loop μ-loop
 enum-told c = search needs
@@ -59,7 +59,7 @@ loop-again c = (
   λ g s.
       let a = c .before .before .before .before .before .before .args in
       passes (reads-walk g (a .r) (a .before) (getD (region g (a .r) .blocks) (a .b) []) (c .before .before .before .before .before .block-length .ensures g s)) _ _ (c .before .before .before .loop-test .taken) (c .before .before .before .before .loop .inv .1 g s)
-      (sym (ap answered (c .enum-told .given .1)) ∙ c .before .before .instruction-reads-right .ensures g s),
+      (sym (ap references-answered (c .enum-told .given .1)) ∙ c .before .before .instruction-reads-right .ensures g s),
 )
 
 returns-2 : tie.Need-returns-2 Inv-loop μ-loop

@@ -5,17 +5,17 @@ use mathlib.Core.Path.{_≡_, refl, sym, ap, _∙_}
 use Prim.Native.Nat.{_≤_, _-_}
 use native.Mathlib.Omega.{arith}
 use lib.ListN.{drop}
-use Rattle.meaning.specs.Graph.{Graph, region, edgesOf, targetsOf}
+use Rattle.meaning.specs.Graph.{Graph, region, edges-of, targets-of}
 use Rattle.format.specs.References as format
 use Rattle.record.specs.Stands.{Stands}
-use Rattle.references.specs.Answers.{answered}
+use Rattle.references.specs.Answers.{references-answered}
 use Rattle.references.specs.Walk.{passes, stops, ends}
 use Rattle.references.specs.EdgesWalk.{edges-walk}
 use Rattle.fields.specs.Repeats.{before}
 use mathlib.Core.List.{[]}
 
 abbrev Inv-loop : tie.InvT-loop
-Inv-loop w r n j₀ j = (j ≤ n) × ((g : Graph) → Stands w g → format.each (format.edgeRight g r) (format.firstEdges (before (targetsOf g r) j) (drop j (edgesOf (region g r .terminator)))) ≡ format.each (format.edgeRight g r) (format.firstEdges [] (edgesOf (region g r .terminator))))
+Inv-loop w r n j₀ j = (j ≤ n) × ((g : Graph) → Stands w g → format.first-refusal (format.edge-right g r) (format.first-edges (before (targets-of g r) j) (drop j (edges-of (region g r .terminator)))) ≡ format.first-refusal (format.edge-right g r) (format.first-edges [] (edges-of (region g r .terminator))))
 
 abbrev μ-loop : tie.MeasureT-loop
 μ-loop w r n j₀ j = n - j
@@ -36,8 +36,8 @@ enum-known-c c = search needs
 returns : tie.Need-returns Inv-loop μ-loop
 returns c g s =
     let r = c .before .before .before .before .before .before .before .args .r in
-    stops (edges-walk (format.edgeRight g r) (edgesOf (region g r .terminator)) (c .before .before .before .before .before .before .target-count .ensures g s)) _ _ (c .before .before .before .before .loop-test .taken) (c .before .before .before .before .before .loop .inv .1 g s)
-    (sym (ap answered (c .before .c .given .1)) ∙ c .before .before .before .edge-right .ensures g s)
+    stops (edges-walk (format.edge-right g r) (edges-of (region g r .terminator)) (c .before .before .before .before .before .before .target-count .ensures g s)) _ _ (c .before .before .before .before .loop-test .taken) (c .before .before .before .before .before .loop .inv .1 g s)
+    (sym (ap references-answered (c .before .c .given .1)) ∙ c .before .before .before .edge-right .ensures g s)
 
 enum-told : tie.Need-enum-told Inv-loop μ-loop
 enum-told c = search needs
@@ -53,14 +53,14 @@ loop-again c = (
   omega arith,
   λ g s.
       let r = c .before .before .before .before .before .before .args .r in
-      passes (edges-walk (format.edgeRight g r) (edgesOf (region g r .terminator)) (c .before .before .before .before .before .target-count .ensures g s)) _ _ (c .before .before .before .loop-test .taken) (c .before .before .before .before .loop .inv .1 g s)
-      (sym (ap answered (c .enum-told .given .1)) ∙ c .before .before .edge-right .ensures g s),
+      passes (edges-walk (format.edge-right g r) (edges-of (region g r .terminator)) (c .before .before .before .before .before .target-count .ensures g s)) _ _ (c .before .before .before .loop-test .taken) (c .before .before .before .before .loop .inv .1 g s)
+      (sym (ap references-answered (c .enum-told .given .1)) ∙ c .before .before .edge-right .ensures g s),
 )
 
 returns-2 : tie.Need-returns-2 Inv-loop μ-loop
 returns-2 c g s =
     let r = c .before .before .before .args .r in
-    ends (edges-walk (format.edgeRight g r) (edgesOf (region g r .terminator)) (c .before .before .target-count .ensures g s)) _ _ (c .loop-test .left) (c .before .loop .inv .1 g s)
+    ends (edges-walk (format.edge-right g r) (edges-of (region g r .terminator)) (c .before .before .target-count .ensures g s)) _ _ (c .loop-test .left) (c .before .loop .inv .1 g s)
 
 pub edges-right-spec : {M : Type 1} → statement M
 edges-right-spec =

@@ -8,12 +8,12 @@ use lib.ListN.{drop}
 use Rattle.meaning.specs.Graph.{Graph, no-value, region}
 use Rattle.format.specs.References as format
 use Rattle.record.specs.Stands.{Stands}
-use Rattle.references.specs.Answers.{answered}
+use Rattle.references.specs.Answers.{references-answered}
 use Rattle.references.specs.Walk.{passes, stops, ends}
 use Rattle.references.specs.Walks.{each-walk}
 
 abbrev Inv-loop : tie.InvT-loop
-Inv-loop w r before n k₀ k = (k ≤ n) × ((g : Graph) → Stands w g → format.each (format.named g r (format.behindAll g r)) (drop k (format.valuesOf (region g r .terminator))) ≡ format.each (format.named g r (format.behindAll g r)) (format.valuesOf (region g r .terminator)))
+Inv-loop w r before n k₀ k = (k ≤ n) × ((g : Graph) → Stands w g → format.first-refusal (format.named-right g r (format.behind-all g r)) (drop k (format.values-of (region g r .terminator))) ≡ format.first-refusal (format.named-right g r (format.behind-all g r)) (format.values-of (region g r .terminator)))
 
 abbrev μ-loop : tie.MeasureT-loop
 μ-loop w r before n k₀ k = n - k
@@ -39,8 +39,8 @@ enum-known-c c = search needs
 returns : tie.Need-returns Inv-loop μ-loop
 returns c g s =
     let r = c .before .before .before .before .before .before .before .before .before .args .r in
-    stops (each-walk (format.valuesOf (region g r .terminator)) no-value (c .before .before .before .before .before .before .before .value-count .ensures g s) (format.named g r (format.behindAll g r))) _ _ (c .before .before .before .before .before .loop-test .taken) (c .before .before .before .before .before .before .loop .inv .1 g s)
-    (sym (ap answered (c .before .c .given .1)) ∙ c .before .before .before .named .ensures g s ∙ rw (c .before .before .before .before .before .before .before .before .instruction-count .ensures g s) (ap (format.named g r (format.behindAll g r)) (c .before .before .before .before .value .ensures g s)))
+    stops (each-walk (format.values-of (region g r .terminator)) no-value (c .before .before .before .before .before .before .before .value-count .ensures g s) (format.named-right g r (format.behind-all g r))) _ _ (c .before .before .before .before .before .loop-test .taken) (c .before .before .before .before .before .before .loop .inv .1 g s)
+    (sym (ap references-answered (c .before .c .given .1)) ∙ c .before .before .before .named .ensures g s ∙ rw (c .before .before .before .before .before .before .before .before .instruction-count .ensures g s) (ap (format.named-right g r (format.behind-all g r)) (c .before .before .before .before .value .ensures g s)))
 
 enum-told : tie.Need-enum-told Inv-loop μ-loop
 enum-told c = search needs
@@ -56,14 +56,14 @@ loop-again c = (
   omega arith,
   λ g s.
       let r = c .before .before .before .before .before .before .before .before .args .r in
-      passes (each-walk (format.valuesOf (region g r .terminator)) no-value (c .before .before .before .before .before .before .value-count .ensures g s) (format.named g r (format.behindAll g r))) _ _ (c .before .before .before .before .loop-test .taken) (c .before .before .before .before .before .loop .inv .1 g s)
-      (sym (ap answered (c .enum-told .given .1)) ∙ c .before .before .named .ensures g s ∙ rw (c .before .before .before .before .before .before .before .instruction-count .ensures g s) (ap (format.named g r (format.behindAll g r)) (c .before .before .before .value .ensures g s))),
+      passes (each-walk (format.values-of (region g r .terminator)) no-value (c .before .before .before .before .before .before .value-count .ensures g s) (format.named-right g r (format.behind-all g r))) _ _ (c .before .before .before .before .loop-test .taken) (c .before .before .before .before .before .loop .inv .1 g s)
+      (sym (ap references-answered (c .enum-told .given .1)) ∙ c .before .before .named .ensures g s ∙ rw (c .before .before .before .before .before .before .before .instruction-count .ensures g s) (ap (format.named-right g r (format.behind-all g r)) (c .before .before .before .value .ensures g s))),
 )
 
 returns-2 : tie.Need-returns-2 Inv-loop μ-loop
 returns-2 c g s =
     let r = c .before .before .before .before .args .r in
-    ends (each-walk (format.valuesOf (region g r .terminator)) no-value (c .before .before .value-count .ensures g s) (format.named g r (format.behindAll g r))) _ _ (c .loop-test .left) (c .before .loop .inv .1 g s)
+    ends (each-walk (format.values-of (region g r .terminator)) no-value (c .before .before .value-count .ensures g s) (format.named-right g r (format.behind-all g r))) _ _ (c .loop-test .left) (c .before .loop .inv .1 g s)
 
 pub exit-values-right-spec : {M : Type 1} → statement M
 exit-values-right-spec =

@@ -15,7 +15,7 @@ use Rattle.fields.specs.Repeats.{before}
 use mathlib.Core.List.{[]}
 
 abbrev Inv-loop : tie.InvT-loop
-Inv-loop w r count n k₀ k = (k ≤ n) × ((g : Graph) → Stands w g → format.exitsRight g r (before (region g r .exits) k) (drop k (region g r .exits)) ≡ format.exitsRight g r [] (region g r .exits))
+Inv-loop w r count n k₀ k = (k ≤ n) × ((g : Graph) → Stands w g → format.exits-right g r (before (region g r .exits) k) (drop k (region g r .exits)) ≡ format.exits-right g r [] (region g r .exits))
 
 abbrev μ-loop : tie.MeasureT-loop
 μ-loop w r count n k₀ k = n - k

@@ -11,7 +11,7 @@ use Rattle.record.specs.Stands.{Stands}
 use Rattle.references.specs.Steps.{return-here, return-later, no-return}
 
 abbrev Inv-loop : tie.InvT-loop
-Inv-loop w n q₀ q = (q ≤ n) × (q ≤ 65535) × ((g : Graph) → Stands w g → q + format.firstReturn (drop q (g .regions)) ≡ format.firstReturn (g .regions))
+Inv-loop w n q₀ q = (q ≤ n) × (q ≤ 65535) × ((g : Graph) → Stands w g → q + format.first-return (drop q (g .regions)) ≡ format.first-return (g .regions))
 
 abbrev μ-loop : tie.MeasureT-loop
 μ-loop w n q₀ q = n - q

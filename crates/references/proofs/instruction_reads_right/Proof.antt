@@ -8,12 +8,12 @@ use lib.ListN.{drop}
 use Rattle.meaning.specs.Graph.{Graph, no-value}
 use Rattle.format.specs.References as format
 use Rattle.record.specs.Stands.{Stands}
-use Rattle.references.specs.Answers.{answered}
+use Rattle.references.specs.Answers.{references-answered}
 use Rattle.references.specs.Walk.{passes, stops, ends}
-use Rattle.references.specs.Walks.{readsOf, each-walk}
+use Rattle.references.specs.Walks.{reads-at, each-walk}
 
 abbrev Inv-loop : tie.InvT-loop
-Inv-loop w r b i before n k₀ k = (k ≤ n) × ((g : Graph) → Stands w g → format.each (format.named g r before) (drop k (readsOf g r b i)) ≡ format.each (format.named g r before) (readsOf g r b i))
+Inv-loop w r b i before n k₀ k = (k ≤ n) × ((g : Graph) → Stands w g → format.first-refusal (format.named-right g r before) (drop k (reads-at g r b i)) ≡ format.first-refusal (format.named-right g r before) (reads-at g r b i))
 
 abbrev μ-loop : tie.MeasureT-loop
 μ-loop w r b i before n k₀ k = n - k
@@ -36,8 +36,8 @@ enum-known-c c = search needs
 returns : tie.Need-returns Inv-loop μ-loop
 returns c g s =
     let a = c .before .before .before .before .before .before .before .before .args in
-    stops (each-walk (readsOf g (a .r) (a .b) (a .i)) no-value (ap (λ x. x .reads) (c .before .before .before .before .before .before .before .instruction .ensures g s)) (format.named g (a .r) (a .before))) _ _ (c .before .before .before .before .before .loop-test .taken) (c .before .before .before .before .before .before .loop .inv .1 g s)
-    (sym (ap answered (c .before .c .given .1)) ∙ c .before .before .before .named .ensures g s ∙ ap (format.named g (a .r) (a .before)) (c .before .before .before .before .read .ensures g s))
+    stops (each-walk (reads-at g (a .r) (a .b) (a .i)) no-value (ap (λ x. x .reads) (c .before .before .before .before .before .before .before .instruction .ensures g s)) (format.named-right g (a .r) (a .before))) _ _ (c .before .before .before .before .before .loop-test .taken) (c .before .before .before .before .before .before .loop .inv .1 g s)
+    (sym (ap references-answered (c .before .c .given .1)) ∙ c .before .before .before .named .ensures g s ∙ ap (format.named-right g (a .r) (a .before)) (c .before .before .before .before .read .ensures g s))
 
 enum-told : tie.Need-enum-told Inv-loop μ-loop
 enum-told c = search needs
@@ -53,14 +53,14 @@ loop-again c = (
   omega arith,
   λ g s.
       let a = c .before .before .before .before .before .before .before .args in
-      passes (each-walk (readsOf g (a .r) (a .b) (a .i)) no-value (ap (λ x. x .reads) (c .before .before .before .before .before .before .instruction .ensures g s)) (format.named g (a .r) (a .before))) _ _ (c .before .before .before .before .loop-test .taken) (c .before .before .before .before .before .loop .inv .1 g s)
-      (sym (ap answered (c .enum-told .given .1)) ∙ c .before .before .named .ensures g s ∙ ap (format.named g (a .r) (a .before)) (c .before .before .before .read .ensures g s)),
+      passes (each-walk (reads-at g (a .r) (a .b) (a .i)) no-value (ap (λ x. x .reads) (c .before .before .before .before .before .before .instruction .ensures g s)) (format.named-right g (a .r) (a .before))) _ _ (c .before .before .before .before .loop-test .taken) (c .before .before .before .before .before .loop .inv .1 g s)
+      (sym (ap references-answered (c .enum-told .given .1)) ∙ c .before .before .named .ensures g s ∙ ap (format.named-right g (a .r) (a .before)) (c .before .before .before .read .ensures g s)),
 )
 
 returns-2 : tie.Need-returns-2 Inv-loop μ-loop
 returns-2 c g s =
     let a = c .before .before .before .args in
-    ends (each-walk (readsOf g (a .r) (a .b) (a .i)) no-value (ap (λ x. x .reads) (c .before .before .instruction .ensures g s)) (format.named g (a .r) (a .before))) _ _ (c .loop-test .left) (c .before .loop .inv .1 g s)
+    ends (each-walk (reads-at g (a .r) (a .b) (a .i)) no-value (ap (λ x. x .reads) (c .before .before .instruction .ensures g s)) (format.named-right g (a .r) (a .before))) _ _ (c .loop-test .left) (c .before .loop .inv .1 g s)
 
 pub instruction-reads-right-spec : {M : Type 1} → statement M
 instruction-reads-right-spec =

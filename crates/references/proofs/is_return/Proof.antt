@@ -26,22 +26,22 @@ enum-told-6 : tie.Need-enum-told-6
 enum-told-6 c = search needs
 
 returns : tie.Need-returns
-returns c g s = ap format.isReturn (rw (c .enum-told .given .1) at (c .before .before .terminator .ensures g s))
+returns c g s = ap format.is-return (rw (c .enum-told .given .1) at (c .before .before .terminator .ensures g s))
 
 returns-2 : tie.Need-returns-2
-returns-2 c g s = ap format.isReturn (rw (c .enum-told2 .given .1) at (c .before .before .terminator .ensures g s))
+returns-2 c g s = ap format.is-return (rw (c .enum-told2 .given .1) at (c .before .before .terminator .ensures g s))
 
 returns-3 : tie.Need-returns-3
-returns-3 c g s = ap format.isReturn (rw (c .enum-told3 .given .1) at (c .before .before .terminator .ensures g s))
+returns-3 c g s = ap format.is-return (rw (c .enum-told3 .given .1) at (c .before .before .terminator .ensures g s))
 
 returns-4 : tie.Need-returns-4
-returns-4 c g s = ap format.isReturn (rw (c .enum-told4 .given .1) at (c .before .before .terminator .ensures g s))
+returns-4 c g s = ap format.is-return (rw (c .enum-told4 .given .1) at (c .before .before .terminator .ensures g s))
 
 returns-5 : tie.Need-returns-5
-returns-5 c g s = ap format.isReturn (rw (c .enum-told5 .given .1) at (c .before .before .terminator .ensures g s))
+returns-5 c g s = ap format.is-return (rw (c .enum-told5 .given .1) at (c .before .before .terminator .ensures g s))
 
 returns-6 : tie.Need-returns-6
-returns-6 c g s = ap format.isReturn (rw (c .enum-told6 .given .1) at (c .before .before .terminator .ensures g s))
+returns-6 c g s = ap format.is-return (rw (c .enum-told6 .given .1) at (c .before .before .terminator .ensures g s))
 
 pub is-return-spec : {M : Type 1} → statement M
 is-return-spec =

@@ -8,13 +8,13 @@ use lib.ListN.{drop}
 use Rattle.meaning.specs.Graph.{Graph, region}
 use Rattle.format.specs.References as format
 use Rattle.record.specs.Stands.{Stands}
-use Rattle.references.specs.Answers.{answered}
+use Rattle.references.specs.Answers.{references-answered}
 use Rattle.references.specs.Walk.{passes, stops, ends}
-use Rattle.references.specs.Walks.{edgeAt, types-walk}
+use Rattle.references.specs.Walks.{nth-edge, types-walk}
 use Rattle.references.specs.Steps.{edge-differs, edge-agrees}
 
 abbrev Inv-loop : tie.InvT-loop
-Inv-loop w r j t n k₀ k = (k ≤ n) × ((g : Graph) → Stands w g → format.typesRight g r (drop k (region g t .inputs)) (drop k (edgeAt g r j .inputs)) ≡ format.edgeRight g r (edgeAt g r j))
+Inv-loop w r j t n k₀ k = (k ≤ n) × ((g : Graph) → Stands w g → format.types-right g r (drop k (region g t .inputs)) (drop k (nth-edge g r j .inputs)) ≡ format.edge-right g r (nth-edge g r j))
 
 abbrev μ-loop : tie.MeasureT-loop
 μ-loop w r j t n k₀ k = n - k
@@ -31,14 +31,14 @@ input-count-requires c κs = search needs
 returns : tie.Need-returns Inv-loop μ-loop
 returns c g s =
     let a = c .before .before .before .before .args in
-    edge-differs g (a .r) (edgeAt g (a .r) (a .j)) (c .before .before .before .target .ensures g s) (c .before .before .passed-count .ensures g s) (c .before .input-count .ensures g s) (c .if1 .taken)
+    edge-differs g (a .r) (nth-edge g (a .r) (a .j)) (c .before .before .before .target .ensures g s) (c .before .before .passed-count .ensures g s) (c .before .input-count .ensures g s) (c .if1 .taken)
 
 loop-holds : tie.Need-loop-holds Inv-loop μ-loop
 loop-holds c = (
   omega arith,
   λ g s.
       let a = c .before .before .before .before .args in
-      edge-agrees g (a .r) (edgeAt g (a .r) (a .j)) (c .before .before .before .target .ensures g s) (c .before .before .passed-count .ensures g s) (c .before .input-count .ensures g s) (c .if1 .left),
+      edge-agrees g (a .r) (nth-edge g (a .r) (a .j)) (c .before .before .before .target .ensures g s) (c .before .before .passed-count .ensures g s) (c .before .input-count .ensures g s) (c .if1 .left),
 )
 
 input-type-requires : tie.Need-input-type-requires Inv-loop μ-loop
@@ -56,8 +56,8 @@ enum-known-c c = search needs
 returns-2 : tie.Need-returns-2 Inv-loop μ-loop
 returns-2 c g s =
     let a = c .before .before .before .before .before .before .before .before .before .before .before .before .args in
-    stops (types-walk g (a .r) (region g (c .before .before .before .before .before .before .before .before .before .before .before .target .result) .inputs) (edgeAt g (a .r) (a .j) .inputs) (c .before .before .before .before .before .before .before .before .if1 .left ∙ c .before .before .before .before .before .before .before .before .before .input-count .ensures g s) (c .before .before .before .before .before .before .before .before .before .before .passed-count .ensures g s)) _ _ (c .before .before .before .before .before .before .loop-test .taken) (c .before .before .before .before .before .before .before .loop .inv .1 g s)
-    (sym (ap answered (c .before .c .given .1)) ∙ c .before .before .before .named-of-type .ensures g s ∙ rw (c .before .before .before .before .before .input-type .ensures g s, c .before .before .before .before .passed .ensures g s))
+    stops (types-walk g (a .r) (region g (c .before .before .before .before .before .before .before .before .before .before .before .target .result) .inputs) (nth-edge g (a .r) (a .j) .inputs) (c .before .before .before .before .before .before .before .before .if1 .left ∙ c .before .before .before .before .before .before .before .before .before .input-count .ensures g s) (c .before .before .before .before .before .before .before .before .before .before .passed-count .ensures g s)) _ _ (c .before .before .before .before .before .before .loop-test .taken) (c .before .before .before .before .before .before .before .loop .inv .1 g s)
+    (sym (ap references-answered (c .before .c .given .1)) ∙ c .before .before .before .named-of-type .ensures g s ∙ rw (c .before .before .before .before .before .input-type .ensures g s, c .before .before .before .before .passed .ensures g s))
 
 enum-told : tie.Need-enum-told Inv-loop μ-loop
 enum-told c = search needs
@@ -73,14 +73,14 @@ loop-again c = (
   omega arith,
   λ g s.
       let a = c .before .before .before .before .before .before .before .before .before .before .before .args in
-      passes (types-walk g (a .r) (region g (c .before .before .before .before .before .before .before .before .before .before .target .result) .inputs) (edgeAt g (a .r) (a .j) .inputs) (c .before .before .before .before .before .before .before .if1 .left ∙ c .before .before .before .before .before .before .before .before .input-count .ensures g s) (c .before .before .before .before .before .before .before .before .before .passed-count .ensures g s)) _ _ (c .before .before .before .before .before .loop-test .taken) (c .before .before .before .before .before .before .loop .inv .1 g s)
-      (sym (ap answered (c .enum-told .given .1)) ∙ c .before .before .named-of-type .ensures g s ∙ rw (c .before .before .before .before .input-type .ensures g s, c .before .before .before .passed .ensures g s)),
+      passes (types-walk g (a .r) (region g (c .before .before .before .before .before .before .before .before .before .before .target .result) .inputs) (nth-edge g (a .r) (a .j) .inputs) (c .before .before .before .before .before .before .before .if1 .left ∙ c .before .before .before .before .before .before .before .before .input-count .ensures g s) (c .before .before .before .before .before .before .before .before .before .passed-count .ensures g s)) _ _ (c .before .before .before .before .before .loop-test .taken) (c .before .before .before .before .before .before .loop .inv .1 g s)
+      (sym (ap references-answered (c .enum-told .given .1)) ∙ c .before .before .named-of-type .ensures g s ∙ rw (c .before .before .before .before .input-type .ensures g s, c .before .before .before .passed .ensures g s)),
 )
 
 returns-3 : tie.Need-returns-3 Inv-loop μ-loop
 returns-3 c g s =
     let a = c .before .before .before .before .before .before .args in
-    ends (types-walk g (a .r) (region g (c .before .before .before .before .before .target .result) .inputs) (edgeAt g (a .r) (a .j) .inputs) (c .before .before .if1 .left ∙ c .before .before .before .input-count .ensures g s) (c .before .before .before .before .passed-count .ensures g s)) _ _ (c .loop-test .left) (c .before .loop .inv .1 g s)
+    ends (types-walk g (a .r) (region g (c .before .before .before .before .before .target .result) .inputs) (nth-edge g (a .r) (a .j) .inputs) (c .before .before .if1 .left ∙ c .before .before .before .input-count .ensures g s) (c .before .before .before .before .passed-count .ensures g s)) _ _ (c .loop-test .left) (c .before .loop .inv .1 g s)
 
 pub passed-right-spec : {M : Type 1} → statement M
 passed-right-spec =

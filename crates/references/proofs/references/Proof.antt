@@ -8,13 +8,13 @@ use lib.ListN.{drop}
 use Rattle.meaning.specs.Graph.{Graph}
 use Rattle.format.specs.References as format
 use Rattle.record.specs.Stands.{Stands}
-use Rattle.references.specs.Answers.{answered}
+use Rattle.references.specs.Answers.{references-answered}
 use Rattle.references.specs.Walk.{passes, stops, ends}
 use Rattle.references.specs.Walks.{regions-walk}
 use Rattle.references.specs.Steps.{bad-entry, good-entry}
 
 abbrev Inv-loop : tie.InvT-loop
-Inv-loop w n r₀ r = (r ≤ n) × ((g : Graph) → Stands w g → format.regionsRight g r (drop r (g .regions)) ≡ format.references g)
+Inv-loop w n r₀ r = (r ≤ n) × ((g : Graph) → Stands w g → format.regions-right g r (drop r (g .regions)) ≡ format.references g)
 
 abbrev μ-loop : tie.MeasureT-loop
 μ-loop w n r₀ r = n - r
@@ -40,7 +40,7 @@ enum-known-c c = search needs
 returns-2 : tie.Need-returns-2 Inv-loop μ-loop
 returns-2 c g s =
     stops (regions-walk g (c .before .before .before .before .before .before .before .before .region-count .ensures g s)) _ _ (c .before .before .before .before .loop-test .taken) (c .before .before .before .before .before .loop .inv .1 g s)
-    (sym (ap answered (c .before .c .given .1)) ∙ c .before .before .before .region-right .ensures g s)
+    (sym (ap references-answered (c .before .c .given .1)) ∙ c .before .before .before .region-right .ensures g s)
 
 enum-told : tie.Need-enum-told Inv-loop μ-loop
 enum-told c = search needs
@@ -56,7 +56,7 @@ loop-again c = (
   omega arith,
   λ g s.
       passes (regions-walk g (c .before .before .before .before .before .before .before .region-count .ensures g s)) _ _ (c .before .before .before .loop-test .taken) (c .before .before .before .before .loop .inv .1 g s)
-      (sym (ap answered (c .enum-told .given .1)) ∙ c .before .before .region-right .ensures g s),
+      (sym (ap references-answered (c .enum-told .given .1)) ∙ c .before .before .region-right .ensures g s),
 )
 
 returns-3 : tie.Need-returns-3 Inv-loop μ-loop

@@ -4,9 +4,9 @@ use Rattle.references.proofs.region_right.Tie as tie
 use mathlib.Core.Path.{sym, ap, _∙_}
 use Rattle.meaning.specs.Graph.{region}
 use Rattle.format.specs.References as format
-use Rattle.references.specs.Answers.{answered}
+use Rattle.references.specs.Answers.{references-answered}
 use Rattle.references.specs.Walk.{then-refused, then-rest}
-use Rattle.references.specs.Steps.{afterReads, afterValues, afterTargets, afterEdges}
+use Rattle.references.specs.Steps.{after-reads, after-values, after-targets, after-edges}
 
 reads-right-requires : tie.Need-reads-right-requires
 reads-right-requires c κs = search needs
@@ -15,11 +15,11 @@ enum-known-reads : tie.Need-enum-known-reads
 enum-known-reads c = search needs
 
 returns : tie.Need-returns
-unfolding format.regionRight
+unfolding format.region-right
 returns c g s =
     let r = c .before .before .before .before .args .r in
     let x = region g r in
-    then-refused (afterReads g r x) (sym (ap answered (c .before .reads .given .1)) ∙ c .before .before .before .reads-right .ensures g s)
+    then-refused (after-reads g r x) (sym (ap references-answered (c .before .reads .given .1)) ∙ c .before .before .before .reads-right .ensures g s)
 
 enum-told : tie.Need-enum-told
 enum-told c = search needs
@@ -31,12 +31,12 @@ enum-known-values : tie.Need-enum-known-values
 enum-known-values c = search needs
 
 returns-2 : tie.Need-returns-2
-unfolding format.regionRight
+unfolding format.region-right
 returns-2 c g s =
     let r = c .before .before .before .before .before .before .before .args .r in
     let x = region g r in
-    then-refused (afterValues g r x) (sym (ap answered (c .before .values .given .1)) ∙ c .before .before .before .values-right .ensures g s)
-    ∙ then-rest (afterReads g r x) (sym (ap answered (c .before .before .before .before .enum-told .given .1)) ∙ c .before .before .before .before .before .before .reads-right .ensures g s)
+    then-refused (after-values g r x) (sym (ap references-answered (c .before .values .given .1)) ∙ c .before .before .before .values-right .ensures g s)
+    ∙ then-rest (after-reads g r x) (sym (ap references-answered (c .before .before .before .before .enum-told .given .1)) ∙ c .before .before .before .before .before .before .reads-right .ensures g s)
 
 enum-told-2 : tie.Need-enum-told-2
 enum-told-2 c = search needs
@@ -48,13 +48,13 @@ enum-known-targets : tie.Need-enum-known-targets
 enum-known-targets c = search needs
 
 returns-3 : tie.Need-returns-3
-unfolding format.regionRight
+unfolding format.region-right
 returns-3 c g s =
     let r = c .before .before .before .before .before .before .before .before .before .before .args .r in
     let x = region g r in
-    then-refused (afterTargets g r x) (sym (ap answered (c .before .targets .given .1)) ∙ c .before .before .before .targets-right .ensures g s)
-    ∙ then-rest (afterValues g r x) (sym (ap answered (c .before .before .before .before .enum-told2 .given .1)) ∙ c .before .before .before .before .before .before .values-right .ensures g s)
-    ∙ then-rest (afterReads g r x) (sym (ap answered (c .before .before .before .before .before .before .before .enum-told .given .1)) ∙ c .before .before .before .before .before .before .before .before .before .reads-right .ensures g s)
+    then-refused (after-targets g r x) (sym (ap references-answered (c .before .targets .given .1)) ∙ c .before .before .before .targets-right .ensures g s)
+    ∙ then-rest (after-values g r x) (sym (ap references-answered (c .before .before .before .before .enum-told2 .given .1)) ∙ c .before .before .before .before .before .before .values-right .ensures g s)
+    ∙ then-rest (after-reads g r x) (sym (ap references-answered (c .before .before .before .before .before .before .before .enum-told .given .1)) ∙ c .before .before .before .before .before .before .before .before .before .reads-right .ensures g s)
 
 enum-told-3 : tie.Need-enum-told-3
 enum-told-3 c = search needs
@@ -66,14 +66,14 @@ enum-known-edges : tie.Need-enum-known-edges
 enum-known-edges c = search needs
 
 returns-4 : tie.Need-returns-4
-unfolding format.regionRight
+unfolding format.region-right
 returns-4 c g s =
     let r = c .before .before .before .before .before .before .before .before .before .before .before .before .before .args .r in
     let x = region g r in
-    then-refused (afterEdges g r x) (sym (ap answered (c .before .edges .given .1)) ∙ c .before .before .before .edges-right .ensures g s)
-    ∙ then-rest (afterTargets g r x) (sym (ap answered (c .before .before .before .before .enum-told3 .given .1)) ∙ c .before .before .before .before .before .before .targets-right .ensures g s)
-    ∙ then-rest (afterValues g r x) (sym (ap answered (c .before .before .before .before .before .before .before .enum-told2 .given .1)) ∙ c .before .before .before .before .before .before .before .before .before .values-right .ensures g s)
-    ∙ then-rest (afterReads g r x) (sym (ap answered (c .before .before .before .before .before .before .before .before .before .before .enum-told .given .1)) ∙ c .before .before .before .before .before .before .before .before .before .before .before .before .reads-right .ensures g s)
+    then-refused (after-edges g r x) (sym (ap references-answered (c .before .edges .given .1)) ∙ c .before .before .before .edges-right .ensures g s)
+    ∙ then-rest (after-targets g r x) (sym (ap references-answered (c .before .before .before .before .enum-told3 .given .1)) ∙ c .before .before .before .before .before .before .targets-right .ensures g s)
+    ∙ then-rest (after-values g r x) (sym (ap references-answered (c .before .before .before .before .before .before .before .enum-told2 .given .1)) ∙ c .before .before .before .before .before .before .before .before .before .values-right .ensures g s)
+    ∙ then-rest (after-reads g r x) (sym (ap references-answered (c .before .before .before .before .before .before .before .before .before .before .enum-told .given .1)) ∙ c .before .before .before .before .before .before .before .before .before .before .before .before .reads-right .ensures g s)
 
 enum-told-4 : tie.Need-enum-told-4
 enum-told-4 c = search needs
@@ -82,15 +82,15 @@ exits-right-requires : tie.Need-exits-right-requires
 exits-right-requires c κs = search needs
 
 returns-5 : tie.Need-returns-5
-unfolding format.regionRight
+unfolding format.region-right
 returns-5 c g s =
     let r = c .before .before .before .before .before .before .before .before .before .before .before .before .before .args .r in
     let x = region g r in
     c .exits-right .ensures g s
-    ∙ then-rest (afterEdges g r x) (sym (ap answered (c .before .enum-told4 .given .1)) ∙ c .before .before .before .edges-right .ensures g s)
-    ∙ then-rest (afterTargets g r x) (sym (ap answered (c .before .before .before .before .enum-told3 .given .1)) ∙ c .before .before .before .before .before .before .targets-right .ensures g s)
-    ∙ then-rest (afterValues g r x) (sym (ap answered (c .before .before .before .before .before .before .before .enum-told2 .given .1)) ∙ c .before .before .before .before .before .before .before .before .before .values-right .ensures g s)
-    ∙ then-rest (afterReads g r x) (sym (ap answered (c .before .before .before .before .before .before .before .before .before .before .enum-told .given .1)) ∙ c .before .before .before .before .before .before .before .before .before .before .before .before .reads-right .ensures g s)
+    ∙ then-rest (after-edges g r x) (sym (ap references-answered (c .before .enum-told4 .given .1)) ∙ c .before .before .before .edges-right .ensures g s)
+    ∙ then-rest (after-targets g r x) (sym (ap references-answered (c .before .before .before .before .enum-told3 .given .1)) ∙ c .before .before .before .before .before .before .targets-right .ensures g s)
+    ∙ then-rest (after-values g r x) (sym (ap references-answered (c .before .before .before .before .before .before .before .enum-told2 .given .1)) ∙ c .before .before .before .before .before .before .before .before .before .values-right .ensures g s)
+    ∙ then-rest (after-reads g r x) (sym (ap references-answered (c .before .before .before .before .before .before .before .before .before .before .enum-told .given .1)) ∙ c .before .before .before .before .before .before .before .before .before .before .before .before .reads-right .ensures g s)
 
 pub region-right-spec : {M : Type 1} → statement M
 region-right-spec =

@@ -5,16 +5,16 @@ use mathlib.Core.Path.{_≡_, refl}
 use Prim.Native.Nat.{_≤_, _-_}
 use native.Mathlib.Omega.{arith}
 use lib.ListN.{drop}
-use Rattle.meaning.specs.Graph.{Graph, region, edgesOf}
+use Rattle.meaning.specs.Graph.{Graph, region, edges-of}
 use Rattle.format.specs.References as format
 use Rattle.record.specs.Stands.{Stands}
 use Rattle.references.specs.Walk.{passes, stops, ends}
-use Rattle.references.specs.Walks.{edgeAt, each-walk}
+use Rattle.references.specs.Walks.{nth-edge, each-walk}
 use Rattle.references.specs.Steps.{bad-target, good-target}
-use Rattle.format.specs.Read.{noEdge}
+use Rattle.format.specs.Read.{no-edge}
 
 abbrev Inv-loop : tie.InvT-loop
-Inv-loop w r count n j₀ j = (j ≤ n) × ((g : Graph) → Stands w g → format.each (format.targetRight g r) (drop j (edgesOf (region g r .terminator))) ≡ format.each (format.targetRight g r) (edgesOf (region g r .terminator)))
+Inv-loop w r count n j₀ j = (j ≤ n) × ((g : Graph) → Stands w g → format.first-refusal (format.target-right g r) (drop j (edges-of (region g r .terminator))) ≡ format.first-refusal (format.target-right g r) (edges-of (region g r .terminator)))
 
 abbrev μ-loop : tie.MeasureT-loop
 μ-loop w r count n j₀ j = n - j
@@ -34,8 +34,8 @@ target-requires c κs = search needs
 returns : tie.Need-returns Inv-loop μ-loop
 returns c g s =
     let r = c .before .before .before .before .before .before .args .r in
-    stops (each-walk (edgesOf (region g r .terminator)) noEdge (c .before .before .before .before .target-count .ensures g s) (format.targetRight g r)) _ _ (c .before .before .loop-test .taken) (c .before .before .before .loop .inv .1 g s)
-    (bad-target g r (c .before .before .before .before .before .region-count .ensures g s) (edgeAt g r _) (c .before .target .ensures g s) (c .if1 .taken))
+    stops (each-walk (edges-of (region g r .terminator)) no-edge (c .before .before .before .before .target-count .ensures g s) (format.target-right g r)) _ _ (c .before .before .loop-test .taken) (c .before .before .before .loop .inv .1 g s)
+    (bad-target g r (c .before .before .before .before .before .region-count .ensures g s) (nth-edge g r _) (c .before .target .ensures g s) (c .if1 .taken))
 
 add-j : tie.Need-add-j Inv-loop μ-loop
 add-j c = search needs
@@ -48,14 +48,14 @@ loop-again c = (
   omega arith,
   λ g s.
       let r = c .before .before .before .before .before .before .args .r in
-      passes (each-walk (edgesOf (region g r .terminator)) noEdge (c .before .before .before .before .target-count .ensures g s) (format.targetRight g r)) _ _ (c .before .before .loop-test .taken) (c .before .before .before .loop .inv .1 g s)
-      (good-target g r (c .before .before .before .before .before .region-count .ensures g s) (edgeAt g r _) (c .before .target .ensures g s) (c .if1 .left)),
+      passes (each-walk (edges-of (region g r .terminator)) no-edge (c .before .before .before .before .target-count .ensures g s) (format.target-right g r)) _ _ (c .before .before .loop-test .taken) (c .before .before .before .loop .inv .1 g s)
+      (good-target g r (c .before .before .before .before .before .region-count .ensures g s) (nth-edge g r _) (c .before .target .ensures g s) (c .if1 .left)),
 )
 
 returns-2 : tie.Need-returns-2 Inv-loop μ-loop
 returns-2 c g s =
     let r = c .before .before .before .before .args .r in
-    ends (each-walk (edgesOf (region g r .terminator)) noEdge (c .before .before .target-count .ensures g s) (format.targetRight g r)) _ _ (c .loop-test .left) (c .before .loop .inv .1 g s)
+    ends (each-walk (edges-of (region g r .terminator)) no-edge (c .before .before .target-count .ensures g s) (format.target-right g r)) _ _ (c .loop-test .left) (c .before .loop .inv .1 g s)
 
 pub targets-right-spec : {M : Type 1} → statement M
 targets-right-spec =

@@ -49,20 +49,20 @@ named-requires : tie.Need-named-requires
 named-requires c κs = search needs
 
 returns : tie.Need-returns
-unfolding format.valuesRight
-returns c g s = ap (format.valuesRight g _) (rw (c .enum-told .given .1) at (c .before .before .terminator .ensures g s))
+unfolding format.values-right
+returns c g s = ap (format.values-right g _) (rw (c .enum-told .given .1) at (c .before .before .terminator .ensures g s))
 
 returns-2 : tie.Need-returns-2
-unfolding format.valuesRight
-returns-2 c g s = c .returned-right .ensures g s ∙ ap (format.valuesRight g _) (rw (c .before .enum-told2 .given .1) at (c .before .before .before .terminator .ensures g s))
+unfolding format.values-right
+returns-2 c g s = c .returned-right .ensures g s ∙ ap (format.values-right g _) (rw (c .before .enum-told2 .given .1) at (c .before .before .before .terminator .ensures g s))
 
 returns-3 : tie.Need-returns-3
-unfolding format.valuesRight
-returns-3 c g s = c .exit-values-right .ensures g s ∙ ap (format.valuesRight g _) (rw (c .before .enum-told3 .given .1) at (c .before .before .before .terminator .ensures g s))
+unfolding format.values-right
+returns-3 c g s = c .exit-values-right .ensures g s ∙ ap (format.values-right g _) (rw (c .before .enum-told3 .given .1) at (c .before .before .before .terminator .ensures g s))
 
 returns-4 : tie.Need-returns-4
-unfolding format.valuesRight
-returns-4 c g s = ap (format.valuesRight g _) (rw (c .enum-told4 .given .1) at (c .before .before .terminator .ensures g s))
+unfolding format.values-right
+returns-4 c g s = ap (format.values-right g _) (rw (c .enum-told4 .given .1) at (c .before .before .terminator .ensures g s))
 
 returns-5 : tie.Need-returns-5
 returns-5 c g s =
@@ -71,7 +71,7 @@ returns-5 c g s =
 
 returns-6 : tie.Need-returns-6
 returns-6 c g s =
-    c .named .ensures g s ∙ rw (c .before .before .instruction-count .ensures g s) (ap (format.named g _ _) (c .before .value2 .ensures g s)
+    c .named .ensures g s ∙ rw (c .before .before .instruction-count .ensures g s) (ap (format.named-right g _ _) (c .before .value2 .ensures g s)
     ∙ test-number g _ _ (rw (c .before .before .before .enum-told6 .given .1) at (c .before .before .before .before .before .terminator .ensures g s)))
 
 pub values-right-spec : {M : Type 1} → statement M

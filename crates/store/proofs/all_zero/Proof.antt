@@ -3,14 +3,14 @@ use mathlib.Core.Path.{_≡_, refl, sym, _∙_, ap}
 use Prim.Native.Nat.{_+_, _-_, _≤_}
 use native.Mathlib.Nat.{add-assoc}
 use native.Mathlib.Omega.{arith}
-use Rattle.format.specs.Store.{allZero}
-use Rattle.store.specs.Block.{placeOf}
+use Rattle.format.specs.Store.{all-zero}
+use Rattle.store.specs.Block.{byte-place}
 use Rattle.store.proofs.Words.{place-within, word-read, zero-more, zero-stays}
 use Rattle.store.proofs.all_zero.Statement.{statement}
 use Rattle.store.proofs.all_zero.Tie as tie
 
 abbrev Inv-loop : tie.InvT-loop
-Inv-loop bytes from count at₀ n₀ at n = (n ≤ count) × ((at ≡ placeOf (from + n)) × (allZero bytes from n ≡ true))
+Inv-loop bytes from count at₀ n₀ at n = (n ≤ count) × ((at ≡ byte-place (from + n)) × (all-zero bytes from n ≡ true))
 
 abbrev μ-loop : tie.MeasureT-loop
 μ-loop bytes from count at₀ n₀ at n = count - n
@@ -28,7 +28,7 @@ add-at-2 : tie.Need-add-at-2 Inv-loop μ-loop
 add-at-2 c = omega arith
 
 loop-holds : tie.Need-loop-holds Inv-loop μ-loop
-unfolding allZero
+unfolding all-zero
 loop-holds c = (omega arith, (omega arith, refl))
 
 pair-at-requires : tie.Need-pair-at-requires Inv-loop μ-loop
@@ -52,10 +52,10 @@ loop-less c = omega arith
 
 loop-again : tie.Need-loop-again Inv-loop μ-loop
 loop-again c =
-    (omega arith, (c .next-place .ensures _ (c .before .before .before .before .loop .inv .1 .0) ∙ ap placeOf (add-assoc _ _ 1), zero-more _ _ _ (c .before .before .before .before .loop .inv .1 .1) (sym (word-read (c .before .before .before .before .before .before .args .bytes .now) _ _ _ (c .before .before .pair-at .ensures) (c .before .before .before .before .loop .inv .1 .0)) ∙ c .before .if1 .left)))
+    (omega arith, (c .next-place .ensures _ (c .before .before .before .before .loop .inv .1 .0) ∙ ap byte-place (add-assoc _ _ 1), zero-more _ _ _ (c .before .before .before .before .loop .inv .1 .1) (sym (word-read (c .before .before .before .before .before .before .args .bytes .now) _ _ _ (c .before .before .pair-at .ensures) (c .before .before .before .before .loop .inv .1 .0)) ∙ c .before .if1 .left)))
 
 returns-2 : tie.Need-returns-2 Inv-loop μ-loop
-returns-2 c = sym (c .before .loop .inv .1 .1) ∙ ap (allZero _ _) (omega arith)
+returns-2 c = sym (c .before .loop .inv .1 .1) ∙ ap (all-zero _ _) (omega arith)
 
 pub all-zero-spec : {M : Type 1} → statement M
 all-zero-spec =

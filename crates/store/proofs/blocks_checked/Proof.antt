@@ -2,20 +2,20 @@ use mathlib.Core.Path.{_≡_, refl, sym, ap, _∙_}
 use Prim.Native.Nat.{_-_, _≤_}
 use native.Mathlib.Omega.{arith}
 use borrow.Author.Needs.{needs}
-use Rattle.format.specs.Store.{accepted, blocksChecked}
-use Rattle.store.specs.Loaded.{blocksAnswered}
+use Rattle.format.specs.Store.{accepted, blocks-checked}
+use Rattle.store.specs.Loaded.{blocks-answered}
 use Rattle.store.proofs.Blocks.{blocks-more, blocks-stop}
 use Rattle.store.proofs.blocks_checked.Statement.{statement}
 use Rattle.store.proofs.blocks_checked.Tie as tie
 
 abbrev Inv-loop : tie.InvT-loop
-Inv-loop bytes n b₀ b = (b ≤ n) × (blocksChecked bytes b ≡ accepted tt)
+Inv-loop bytes n b₀ b = (b ≤ n) × (blocks-checked bytes b ≡ accepted tt)
 
 abbrev μ-loop : tie.MeasureT-loop
 μ-loop bytes n b₀ b = n - b
 
 loop-holds : tie.Need-loop-holds Inv-loop μ-loop
-unfolding blocksChecked
+unfolding blocks-checked
 loop-holds c = (omega arith, refl)
 
 block-checked-requires : tie.Need-block-checked-requires Inv-loop μ-loop
@@ -27,7 +27,7 @@ enum-known-c c = search needs
 returns : tie.Need-returns Inv-loop μ-loop
 returns c =
     blocks-stop _ _ _ _ _ (c .before .before .before .before .before .loop .inv .1) (omega arith)
-    (sym (ap blocksAnswered (c .before .c .given .1)) ∙ c .before .before .before .block-checked .ensures)
+    (sym (ap blocks-answered (c .before .c .given .1)) ∙ c .before .before .before .block-checked .ensures)
 
 enum-told : tie.Need-enum-told Inv-loop μ-loop
 enum-told c = search needs
@@ -40,10 +40,10 @@ loop-less c = omega arith
 
 loop-again : tie.Need-loop-again Inv-loop μ-loop
 loop-again c =
-    (omega arith, blocks-more _ _ (c .before .before .before .before .loop .inv .1) ∙ sym (sym (ap blocksAnswered (c .enum-told .given .1)) ∙ c .before .before .block-checked .ensures))
+    (omega arith, blocks-more _ _ (c .before .before .before .before .loop .inv .1) ∙ sym (sym (ap blocks-answered (c .enum-told .given .1)) ∙ c .before .before .block-checked .ensures))
 
 returns-2 : tie.Need-returns-2 Inv-loop μ-loop
-returns-2 c = sym (c .before .loop .inv .1) ∙ ap (blocksChecked _) (omega arith)
+returns-2 c = sym (c .before .loop .inv .1) ∙ ap (blocks-checked _) (omega arith)
 
 pub blocks-checked-spec : {M : Type 1} → statement M
 blocks-checked-spec =

@@ -4,14 +4,14 @@ use Prim.Native.Nat.{_+_, _-_, _≤_}
 use native.Mathlib.Omega.{arith}
 use lib.ListN.{drop}
 use borrow.Author.Needs.{needs}
-use Rattle.format.specs.Store.{tabulate, wordAt}
-use Rattle.store.specs.Block.{placeOf}
+use Rattle.format.specs.Store.{tabulate, word-at}
+use Rattle.store.specs.Block.{byte-place}
 use Rattle.store.proofs.Words.{place-within, word-read, copied-more}
 use Rattle.store.proofs.copy_words.Statement.{statement}
 use Rattle.store.proofs.copy_words.Tie as tie
 
 abbrev Inv-loop : tie.InvT-loop
-Inv-loop bytes words₀ w at₀ j₀ words at j = (j ≤ w) × ((at ≡ placeOf j) × (words ≡ tabulate j (wordAt bytes) ++ drop j words₀))
+Inv-loop bytes words₀ w at₀ j₀ words at j = (j ≤ w) × ((at ≡ byte-place j) × (words ≡ tabulate j (word-at bytes) ++ drop j words₀))
 
 abbrev μ-loop : tie.MeasureT-loop
 μ-loop bytes words₀ w at₀ j₀ words at j = w - j
@@ -46,7 +46,7 @@ loop-again c =
     (omega arith, (c .next-place .ensures _ (c .before .before .before .loop .inv .1 .0), rw (c .before .before .before .loop .inv .1 .1, word-read (c .before .before .before .before .before .before .before .before .args .bytes .now) _ _ _ (c .before .pair-at .ensures) (c .before .before .before .loop .inv .1 .0)) (copied-more _ _ _ (omega arith))))
 
 returns : tie.Need-returns Inv-loop μ-loop
-returns c = c .before .loop .inv .1 .1 ∙ ap (λ n. tabulate n (wordAt (c .before .before .before .before .before .before .args .bytes .now)) ++ drop n (c .before .before .before .before .before .before .args .words .now)) (omega arith)
+returns c = c .before .loop .inv .1 .1 ∙ ap (λ n. tabulate n (word-at (c .before .before .before .before .before .before .args .bytes .now)) ++ drop n (c .before .before .before .before .before .before .args .words .now)) (omega arith)
 
 pub copy-words-spec : {M : Type 1} → statement M
 copy-words-spec =

@@ -1,7 +1,7 @@
 use mathlib.Core.Path.{sym, ap, _∙_}
 use borrow.Author.Needs.{needs}
-use Rattle.format.specs.Store.{storeWords}
-use Rattle.store.specs.Loaded.{answered}
+use Rattle.format.specs.Store.{store-words}
+use Rattle.store.specs.Loaded.{load-answered}
 use Rattle.store.proofs.Store.{holds, kept, filled}
 use Rattle.store.proofs.load.Statement.{statement}
 use Rattle.store.proofs.load.Tie as tie
@@ -19,17 +19,17 @@ returns : tie.Need-returns
 returns c =
     record {
       answer = c .before .before .words-used .ensures;
-      words = kept _ (storeWords (c .before .before .before .before .args .bytes .now)) _ _ (sym (ap answered (c .enum-told .given .1)) ∙ c .before .before .words-used .ensures);
+      words = kept _ (store-words (c .before .before .before .before .args .bytes .now)) _ _ (sym (ap load-answered (c .enum-told .given .1)) ∙ c .before .before .words-used .ensures);
     }
 
 copy-words-requires : tie.Need-copy-words-requires
 copy-words-requires c κs =
-    let h = holds (c .before .before .before .before .before .before .args .bytes .now) _ (sym (ap answered (c .before .before .answer .given .1)) ∙ c .before .before .before .before .words-used .ensures) in
+    let h = holds (c .before .before .before .before .before .before .args .bytes .now) _ (sym (ap load-answered (c .before .before .answer .given .1)) ∙ c .before .before .before .before .words-used .ensures) in
     (h .short, h .within)
 
 returns-2 : tie.Need-returns-2
 returns-2 c =
-    let e = sym (ap answered (c .before .before .before .answer .given .1)) ∙ c .before .before .before .before .before .words-used .ensures in
+    let e = sym (ap load-answered (c .before .before .before .answer .given .1)) ∙ c .before .before .before .before .before .words-used .ensures in
     record {
       answer = e;
       words = c .copy-words .ensures ∙ filled _ _ _ (holds (c .before .before .before .before .before .before .before .args .bytes .now) _ e);

@@ -8,7 +8,7 @@ use Rattle.fields.specs.Words as words
 use Rattle.fields.specs.Turns.{instr-turn, instr-stop, all-left}
 
 abbrev Inv-loop : tie.InvT-loop
-Inv-loop w first i p₀ n₀ p n = (n ≤ i) × (p ≤ 65535) × (words.behindInstructions w (i - n) p ≡ words.behindInstructions w i first)
+Inv-loop w first i p₀ n₀ p n = (n ≤ i) × (p ≤ 65535) × (words.behind-instructions w (i - n) p ≡ words.behind-instructions w i first)
 
 abbrev μ-loop : tie.MeasureT-loop
 μ-loop w first i p₀ n₀ p n = i - n

@@ -21,11 +21,11 @@ indexed-requires : tie.Need-indexed-requires
 indexed-requires c κs = search needs
 
 returns : tie.Need-returns
-unfolding words.blockPlace
+unfolding words.block-place
 returns c = rw (← c .before .before .before .blocks-place .ensures) (c .indexed .ensures ∙ picked _ _ (is-below (c .before .if1 .taken) (c .before .before .word-at .ensures)))
 
 returns-2 : tie.Need-returns-2
-unfolding words.blockPlace
+unfolding words.block-place
 returns-2 c = rw (← c .before .before .blocks-place .ensures) (passed-over _ _ (not-below (c .if1 .left) (c .before .word-at .ensures)))
 
 pub block-place-spec : {M : Type 1} → statement M

@@ -27,11 +27,11 @@ behind-instructions-requires : tie.Need-behind-instructions-requires
 behind-instructions-requires c κs = search needs
 
 returns : tie.Need-returns
-unfolding words.instructionPlace
-returns c = rw (← c .before .before .before .before .block-place .ensures) (c .behind-instructions .ensures ∙ ap (words.behindInstructions _ _) (c .before .place .ensures) ∙ picked _ _ (is-below (c .before .before .if1 .taken) (c .before .before .before .word-at .ensures)))
+unfolding words.instruction-place
+returns c = rw (← c .before .before .before .before .block-place .ensures) (c .behind-instructions .ensures ∙ ap (words.behind-instructions _ _) (c .before .place .ensures) ∙ picked _ _ (is-below (c .before .before .if1 .taken) (c .before .before .before .word-at .ensures)))
 
 returns-2 : tie.Need-returns-2
-unfolding words.instructionPlace
+unfolding words.instruction-place
 returns-2 c = rw (← c .before .before .block-place .ensures) (passed-over _ _ (not-below (c .if1 .left) (c .before .word-at .ensures)))
 
 pub instruction-place-spec : {M : Type 1} → statement M

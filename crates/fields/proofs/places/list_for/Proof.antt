@@ -8,7 +8,7 @@ use Rattle.fields.specs.Words as words
 use Rattle.fields.specs.Turns.{list-found, list-turn, list-stop, all-left}
 
 abbrev Inv-loop : tie.InvT-loop
-Inv-loop w targets t n p₀ q₀ p q = (q ≤ n) × (words.listFor w targets t (n - q) q p ≡ words.listFor w targets t n 0 p₀)
+Inv-loop w targets t n p₀ q₀ p q = (q ≤ n) × (words.list-for w targets t (n - q) q p ≡ words.list-for w targets t n 0 p₀)
 
 abbrev μ-loop : tie.MeasureT-loop
 μ-loop w targets t n p₀ q₀ p q = n - q

@@ -21,11 +21,11 @@ list-for-requires : tie.Need-list-for-requires
 list-for-requires c κs = search needs
 
 returns : tie.Need-returns
-unfolding words.passedPlace
+unfolding words.passed-place
 returns c = rw (← c .before .before .before .before .targets-place .ensures) (c .list-for .ensures ∙ rw (c .before .word-item .ensures) (picked _ _ (is-below (c .before .before .if1 .taken) (c .before .before .before .word-at .ensures))))
 
 returns-2 : tie.Need-returns-2
-unfolding words.passedPlace
+unfolding words.passed-place
 returns-2 c = rw (← c .before .before .targets-place .ensures) (passed-over _ _ (not-below (c .if1 .left) (c .before .word-at .ensures)))
 
 pub passed-place-spec : {M : Type 1} → statement M

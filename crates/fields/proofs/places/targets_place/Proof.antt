@@ -11,8 +11,8 @@ behind-values-requires : tie.Need-behind-values-requires
 behind-values-requires c κs = search needs
 
 returns : tie.Need-returns
-unfolding words.targetsPlace
-returns c = c .behind-values .ensures ∙ ap (words.behindValues _) (c .before .values-place .ensures)
+unfolding words.targets-place
+returns c = c .behind-values .ensures ∙ ap (words.behind-values _) (c .before .values-place .ensures)
 
 pub targets-place-spec : {M : Type 1} → statement M
 targets-place-spec = tie.close (tie.spec values-place-requires behind-values-requires returns)

@@ -24,7 +24,7 @@ place-requires : tie.Need-place-requires
 place-requires c κs = search needs
 
 returns : tie.Need-returns
-unfolding words.valuesPlace
+unfolding words.values-place
 returns c = rw (← c .before .before .before .indexed .ensures) (c .place .ensures ∙ picked _ _ (is-equal (c .before .if1 .taken) (c .before .before .word-at .ensures)))
 
 add-place-2 : tie.Need-add-place-2
@@ -34,7 +34,7 @@ place-requires-2 : tie.Need-place-requires-2
 place-requires-2 c κs = search needs
 
 returns-2 : tie.Need-returns-2
-unfolding words.valuesPlace
+unfolding words.values-place
 returns-2 c = rw (← c .before .before .before .indexed .ensures) (c .place2 .ensures ∙ passed-over _ _ (not-equal (c .before .if1 .left) (c .before .before .word-at .ensures)))
 
 pub values-place-spec : {M : Type 1} → statement M

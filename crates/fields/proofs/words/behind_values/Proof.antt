@@ -3,7 +3,7 @@ use Rattle.fields.proofs.words.behind_values.Statement.{statement}
 use Rattle.fields.proofs.words.behind_values.Tie as tie
 use mathlib.Core.Path.{_∙_, ap}
 use Prim.Native.Nat.{_+_, _*_}
-use Rattle.fields.specs.Words.{placed, behindValues}
+use Rattle.fields.specs.Words.{placed, behind-values}
 
 add-place : tie.Need-add-place
 add-place c = search needs
@@ -24,7 +24,7 @@ place-requires : tie.Need-place-requires
 place-requires c κs = search needs
 
 returns : tie.Need-returns
-unfolding behindValues
+unfolding behind-values
 returns c = c .place .ensures ∙ ap (λ n. placed (c .before .before .args .p + 1 + 3 * n)) (c .before .word-at .ensures)
 
 pub behind-values-spec : {M : Type 1} → statement M

@@ -3,7 +3,7 @@ use Rattle.fields.proofs.words.behind_words.Statement.{statement}
 use Rattle.fields.proofs.words.behind_words.Tie as tie
 use mathlib.Core.Path.{_∙_, ap}
 use Prim.Native.Nat.{_+_}
-use Rattle.fields.specs.Words.{placed, behindWords}
+use Rattle.fields.specs.Words.{placed, behind-words}
 
 add-place : tie.Need-add-place
 add-place c = search needs
@@ -21,7 +21,7 @@ place-requires : tie.Need-place-requires
 place-requires c κs = search needs
 
 returns : tie.Need-returns
-unfolding behindWords
+unfolding behind-words
 returns c = c .place .ensures ∙ ap (λ n. placed (c .before .before .args .p + 1 + n)) (c .before .word-at .ensures)
 
 pub behind-words-spec : {M : Type 1} → statement M

@@ -4,14 +4,14 @@ use Rattle.fields.proofs.words.stood_before.Tie as tie
 use mathlib.Core.Bool.{false}
 use Prim.Native.Nat.{_≤_, _-_}
 use native.Mathlib.Omega.{arith}
-use Rattle.format.specs.Read.{isIn}
+use Rattle.meaning.specs.Lists.{is-in}
 use Rattle.fields.specs.Words.{earlier}
 use native.Mathlib.Numerals.{add-one}
 use mathlib.Core.Path.{_≡_, refl, sym, _∙_}
 use Rattle.fields.specs.Repeats.{not-yet, found-again, not-found}
 
 abbrev Inv-loop : tie.InvT-loop
-Inv-loop w p q x k₀ k = (k ≤ q) × (isIn x (earlier w p k) ≡ false)
+Inv-loop w p q x k₀ k = (k ≤ q) × (is-in x (earlier w p k) ≡ false)
 
 abbrev μ-loop : tie.MeasureT-loop
 μ-loop w p q x k₀ k = q - k

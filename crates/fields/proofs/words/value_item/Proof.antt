@@ -2,7 +2,7 @@ use borrow.Author.Needs.{needs}
 use Rattle.fields.proofs.words.value_item.Statement.{statement}
 use Rattle.fields.proofs.words.value_item.Tie as tie
 use mathlib.Core.Path.{_∙_}
-use Rattle.fields.specs.Words.{valueItem, valueAt}
+use Rattle.fields.specs.Words.{value-item, value-at}
 use Rattle.fields.specs.Picks.{picked, passed-over, is-below, not-below}
 
 word-at-requires : tie.Need-word-at-requires
@@ -36,11 +36,11 @@ value-of-requires : tie.Need-value-of-requires
 value-of-requires c κs = search needs
 
 returns : tie.Need-returns
-unfolding valueItem valueAt
+unfolding value-item value-at
 returns c = c .value-of .ensures ∙ rw (c .before .word-at4 .ensures, c .before .before .word-at3 .ensures, c .before .before .before .word-at2 .ensures) (picked _ _ (is-below (c .before .before .before .before .if1 .taken) (c .before .before .before .before .before .word-at .ensures)))
 
 returns-2 : tie.Need-returns-2
-unfolding valueItem
+unfolding value-item
 returns-2 c = passed-over _ _ (not-below (c .if1 .left) (c .before .word-at .ensures))
 
 pub value-item-spec : {M : Type 1} → statement M

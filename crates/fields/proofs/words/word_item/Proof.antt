@@ -2,7 +2,7 @@ use borrow.Author.Needs.{needs}
 use Rattle.fields.proofs.words.word_item.Statement.{statement}
 use Rattle.fields.proofs.words.word_item.Tie as tie
 use mathlib.Core.Path.{_∙_}
-use Rattle.fields.specs.Words.{wordItem}
+use Rattle.fields.specs.Words.{word-item}
 use Rattle.fields.specs.Picks.{picked, passed-over, is-below, not-below}
 
 word-at-requires : tie.Need-word-at-requires
@@ -18,11 +18,11 @@ word-at-requires-2 : tie.Need-word-at-requires-2
 word-at-requires-2 c κs = search needs
 
 returns : tie.Need-returns
-unfolding wordItem
+unfolding word-item
 returns c = c .word-at2 .ensures ∙ picked _ _ (is-below (c .before .if1 .taken) (c .before .before .word-at .ensures))
 
 returns-2 : tie.Need-returns-2
-unfolding wordItem
+unfolding word-item
 returns-2 c = passed-over _ _ (not-below (c .if1 .left) (c .before .word-at .ensures))
 
 pub word-item-spec : {M : Type 1} → statement M

@@ -1,4 +1,4 @@
--- Each answer is a path through `operandsRead`, at the bounds of the kind.
+-- Each answer is a path through `operands-read`, at the bounds of the kind.
 use mathlib.Core.Path.{refl}
 use borrow.Author.Needs.{needs}
 use Rattle.reading.specs.TerminatorsForgotten.{operands-stop, operands-count, operands-rest}

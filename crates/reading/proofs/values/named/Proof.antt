@@ -1,4 +1,4 @@
--- Each answer is a path through `namedBy`.
+-- Each answer is a path through `named-by`.
 use mathlib.Core.Path.{refl, sym, _∙_}
 use borrow.Author.Needs.{needs}
 use Rattle.format.specs.Read.{word}

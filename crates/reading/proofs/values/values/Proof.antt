@@ -4,14 +4,14 @@ use Prim.Native.Nat.{_-_}
 use native.Mathlib.Omega.{arith}
 use lib.ListN.{take}
 use borrow.Author.Needs.{needs}
-use Rattle.format.specs.Read.{value}
+use Rattle.format.specs.Read.{read-value}
 use Rattle.reading.specs.Forgotten.{Going, going-start, going-next, going-stop, going-end}
 use Rattle.reading.specs.AnswerSteps.{step-read, step-refused, refuse-step, give-step}
 use Rattle.reading.proofs.values.values.Statement.{statement}
 use Rattle.reading.proofs.values.values.Tie as tie
 
 abbrev Inv-loop : tie.InvT-loop
-Inv-loop w n i₀ c₀ i c = Going value (take (c₀ .end) w) n (c₀ .at) i (c .at) × (c .end ≡ c₀ .end)
+Inv-loop w n i₀ c₀ i c = Going read-value (take (c₀ .end) w) n (c₀ .at) i (c .at) × (c .end ≡ c₀ .end)
 
 abbrev μ-loop : tie.MeasureT-loop
 μ-loop w n i₀ c₀ i c = n - i

@@ -5,7 +5,7 @@ use native.Mathlib.Omega.{arith}
 use lib.ListN.{take}
 use borrow.Author.Needs.{needs}
 use Rattle.format.specs.Read.{word}
-use Rattle.format.specs.Places.{forgetValue}
+use Rattle.format.specs.Places.{forget-value}
 use Rattle.reading.specs.Forgotten.{Going, going-start, going-next, going-stop, going-end}
 use Rattle.reading.specs.AnswerSteps.{word-read, word-refused, refuse-step, give-step}
 use Rattle.reading.proofs.words.words.Statement.{statement}
@@ -27,7 +27,7 @@ enum-known-m : tie.Need-enum-known-m Inv-loop μ-loop
 enum-known-m c = search needs
 
 returns : tie.Need-returns Inv-loop μ-loop
-returns c = refuse-step _ _ _ (going-stop (c .before .before .before .before .before .loop .inv .0) (c .before .before .before .before .loop-test .taken) (ap forgetValue (word-refused _ _ _ (c .before .before .before .before .before .loop .inv .1) (c .before .before .before .word .ensures) (c .before .m .given .1))))
+returns c = refuse-step _ _ _ (going-stop (c .before .before .before .before .before .loop .inv .0) (c .before .before .before .before .loop-test .taken) (ap forget-value (word-refused _ _ _ (c .before .before .before .before .before .loop .inv .1) (c .before .before .before .word .ensures) (c .before .m .given .1))))
 
 enum-known-e : tie.Need-enum-known-e Inv-loop μ-loop
 enum-known-e c = search needs
@@ -41,7 +41,7 @@ loop-less c = omega arith
 loop-again : tie.Need-loop-again Inv-loop μ-loop
 loop-again c =
     let a = word-read _ _ _ (c .before .before .before .before .before .loop .inv .1) (c .before .before .before .word .ensures) (c .before .e .given .1) in
-    (going-next (c .before .before .before .before .before .loop .inv .0) (c .before .before .before .before .loop-test .taken) (ap forgetValue (a .is)), a .same)
+    (going-next (c .before .before .before .before .before .loop .inv .0) (c .before .before .before .before .loop-test .taken) (ap forget-value (a .is)), a .same)
 
 returns-2 : tie.Need-returns-2 Inv-loop μ-loop
 returns-2 c = give-step _ _ _ (c .before .loop .inv .1) (going-end (c .before .loop .inv .0) (c .loop-test .left))

@@ -1,4 +1,4 @@
--- Each answer is a path through `afterCount`.
+-- Each answer is a path through `after-count`.
 use mathlib.Core.Path.{refl}
 use borrow.Author.Needs.{needs}
 use Rattle.format.specs.Read.{word}

@@ -1,4 +1,4 @@
--- Each answer is a path through `endingRead`; a place that is kept stands among the lent words.
+-- Each answer is a path through `ending-read`; a place that is kept stands among the lent words.
 use mathlib.Core.Path.{refl}
 use native.Mathlib.Omega.{arith}
 use borrow.Author.Needs.{needs}

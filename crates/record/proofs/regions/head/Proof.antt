@@ -2,7 +2,7 @@
 use mathlib.Core.Path.{refl}
 use borrow.Author.Needs.{needs}
 use Rattle.reading.specs.AnswerSteps.{word-read, word-refused, step-read, step-refused, refuse-word, give-word}
-use Rattle.record.specs.RegionsForgotten.{head-count, head-stop, head-rest}
+use Rattle.record.specs.RegionsForgotten.{head-count-is, head-stop, head-rest}
 use Rattle.record.proofs.regions.head.Statement.{statement}
 use Rattle.record.proofs.regions.head.Tie as tie
 
@@ -25,7 +25,7 @@ enum-known-e : tie.Need-enum-known-e
 enum-known-e c = search needs
 
 returns : tie.Need-returns
-returns c = refuse-word _ _ _ (head-count _ _ (word-refused _ _ _ refl (c .before .before .before .within .ensures) (c .before .m .given .1)))
+returns c = refuse-word _ _ _ (head-count-is _ _ (word-refused _ _ _ refl (c .before .before .before .within .ensures) (c .before .m .given .1)))
 
 returns-2 : tie.Need-returns-2
 returns-2 c =

@@ -1,0 +1,24 @@
+// The public routines for C and Rust, under plain names.
+ghost use mathlib.Core.Path.{_≡_};
+ghost use Prim.Native.Nat.{_<_};
+ghost use Rattle.c_interface.specs.Exported.{AcceptExported};
+use accept::Accepted;
+
+fn wide(x: u16) -> u32
+    ensures same { λ r. ⌜ r ≡ x ⌝ }
+    ensures small { λ r. ⌜ r < 65536 ⌝ }
+{
+    x as u32
+}
+
+// 0 for a record, which then stands in the lent words; else the refusal's number, 1 to 8, times 65,536, and its word.
+#[no_mangle]
+pub extern "C" fn rukvetta_accept(bytes: &[u8], words: &mut [u16; 32256]) -> u32
+    ensures { λ a. ⌜ AcceptExported (now (bytes .entry)) (now (words .entry)) (now (words .exit)) a ⌝ }
+{
+    let answer = accept::accept(bytes, words);
+    match answer {
+        Accepted::Record => 0,
+        Accepted::Refused(number, word) => wide(number) * 65536 + wide(word),
+    }
+}

@@ -1,0 +1,10 @@
+pub mod Reach
+pub mod JustReached
+pub mod Totals
+pub mod SelectTotals
+pub mod SplitTotals
+pub mod Counting
+pub mod CountClaim
+pub mod CountScan
+pub mod CountRegion
+pub mod Attempts

@@ -1,0 +1,5 @@
+pub mod Readers
+pub mod WellRead
+pub mod AcceptValid
+pub mod ReadingStops
+pub mod Refusals

@@ -1,0 +1,60 @@
+-- Elements of a list: by place, by membership, under a map.
+use mathlib.Core.Bool.{Bool, _||_, false, true}
+use mathlib.Core.List.{List, [], _++_, _∷_, map}
+use mathlib.Core.Logic.{_⊎_, inl, inr}
+use mathlib.Core.Option.{Option, none, some}
+use mathlib.Core.Path.{_≡_, ap, refl, sym}
+use Prim.Native.Nat.{_<_, suc, zero, ℕ}
+use native.Mathlib.Omega.{arith}
+use lib.Dec.{eqb}
+use lib.ListN.{getD, length}
+use borrow.Author.Tests.{eq-eqb, eqb-false, eqb-true, ne-eqb}
+use Rattle.meaning.specs.facts.Tests.{clash}
+
+abbrev pub nth : {A : Type 0} → List A → ℕ → Option A
+nth [] k = none
+nth (x ∷ xs) zero = some x
+nth (x ∷ xs) (suc k) = nth xs k
+
+pub nth-append : {A : Type 0} (a b : List A) (k : ℕ) (x : A) → nth a k ≡ some x → nth (a ++ b) k ≡ some x
+nth-append [] b k x p = absurd (clash (cc))
+nth-append (y ∷ a) b zero x p = p
+nth-append (y ∷ a) b (suc k) x p = nth-append a b k x p
+
+pub nth-last : {A : Type 0} (a : List A) (x : A) → nth (a ++ (x ∷ [])) (length a) ≡ some x
+nth-last [] x = refl
+nth-last (y ∷ a) x = nth-last a x
+
+pub nth-getD : {A : Type 0} (l : List A) (j : ℕ) (d : A) → j < length l → nth l j ≡ some (getD l j d)
+nth-getD [] j d lt = absurd (omega arith)
+nth-getD (x ∷ l) zero d lt = refl
+nth-getD (x ∷ l) (suc j) d lt = nth-getD l j d (omega arith)
+
+pub nth-map : {A B : Type 0} (f : A → B) (l : List A) (j : ℕ) (a : A) → nth l j ≡ some a → nth (map f l) j ≡ some (f a)
+nth-map f [] j a p = absurd (clash (cc))
+nth-map f (x ∷ l) zero a p = let e : x ≡ a = cc in rw e
+nth-map f (x ∷ l) (suc j) a p = nth-map f l j a p
+
+abbrev pub In : {A : Type 0} → A → List A → Type 0
+In x [] = ⊥
+In x (y ∷ ys) = (x ≡ y) ⊎ In x ys
+
+pub in-map : {A B : Type 0} (f : A → B) (l : List A) (x : A) → In x l → In (f x) (map f l)
+in-map f [] x i = absurd i
+in-map f (y ∷ l) x (inl p) = inl (ap f p)
+in-map f (y ∷ l) x (inr i) = inr (in-map f l x i)
+
+pub from-map : {A B : Type 0} (f : A → B) (l : List A) (y : B) → In y (map f l) → (x : A) × In x l × (y ≡ f x)
+from-map f [] y i = absurd i
+from-map f (x ∷ l) y (inl p) = (x, inl refl, p)
+from-map f (x ∷ l) y (inr i) = let z = from-map f l y i in (z .0, inr (z .1), z .2)
+
+pub nth-in : {A : Type 0} (l : List A) (j : ℕ) (a : A) → nth l j ≡ some a → In a l
+nth-in [] j a p = absurd (clash (cc))
+nth-in (x ∷ l) zero a p = inl (cc)
+nth-in (x ∷ l) (suc j) a p = inr (nth-in l j a p)
+
+pub getD-map-in : {A B : Type 0} (f : A → B) (l : List A) (k : ℕ) (d : A) (d′ : B) → k < length l → getD (map f l) k d′ ≡ f (getD l k d)
+getD-map-in f [] k d d′ lt = absurd (omega arith)
+getD-map-in f (x ∷ l) zero d d′ lt = refl
+getD-map-in f (x ∷ l) (suc k) d d′ lt = getD-map-in f l k d d′ (omega arith)

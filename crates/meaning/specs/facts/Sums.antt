@@ -1,0 +1,53 @@
+-- Sums over a list of numbers; where each stands once, what a change at one of them does to the sum.
+use mathlib.Core.Path.{_≡_, refl}
+use mathlib.Core.Bool.{Bool, true, false, _||_}
+use mathlib.Core.List.{List, [], _∷_}
+use Prim.Native.Nat.{ℕ, _+_, _*_, _≤_}
+use native.Mathlib.Omega.{arith}
+use lib.ListN.{length}
+use lib.Dec.{eqb}
+use borrow.Author.Tests.{eqb-true, eqb-false}
+use Rattle.meaning.specs.Lists.{is-in, Distinct, total}
+use Rattle.meaning.specs.facts.Tests.{clash}
+use Rattle.meaning.specs.facts.Members.{FirstOrRest, first, rest, first-or-rest}
+
+pub total-less : (f h : ℕ → ℕ) → ((i : ℕ) → f i ≤ h i) → (l : List ℕ) → total f l ≤ total h l
+total-less f h p [] = omega arith
+total-less f h p (x ∷ l) = let a = p x in let b = total-less f h p l in omega arith
+
+pub total-same : (f h : ℕ → ℕ) → ((i : ℕ) → f i ≡ h i) → (l : List ℕ) → total f l ≡ total h l
+total-same f h p [] = refl
+total-same f h p (x ∷ l) = let a = p x in let b = total-same f h p l in omega arith
+
+pub total-add : (f h : ℕ → ℕ) (l : List ℕ) → total (λ i. f i + h i) l ≡ total f l + total h l
+total-add f h [] = refl
+total-add f h (x ∷ l) = let b = total-add f h l in omega arith
+
+pub total-each : (k : ℕ) (l : List ℕ) → total (λ i. k) l ≡ length l * k
+total-each k [] = omega arith
+total-each k (x ∷ l) = let b = total-each k l in omega arith
+
+pub total-one : (f : ℕ → ℕ) (r : ℕ) (l : List ℕ) → is-in r l ≡ true → f r ≤ total f l
+total-one f r [] i = absurd (clash (cc))
+total-one f r (x ∷ l) i = go (first-or-rest r x l i) (λ j. total-one f r l j)
+  where
+    go : FirstOrRest r x l → (is-in r l ≡ true → f r ≤ total f l) → f r ≤ f x + total f l
+    go (first e) ih = rw e (omega arith)
+    go (rest j) ih = let z = ih j in omega arith
+
+module _ (f h : ℕ → ℕ) (r : ℕ) (else : (i : ℕ) → (i ≡ r → ⊥) → h i ≡ f i) where
+  unchanged : (l : List ℕ) → is-in r l ≡ false → total h l ≡ total f l
+  unchanged [] i = refl
+  unchanged (x ∷ l) i = go (eqb r x) refl i (λ j. unchanged l j)
+    where
+      go : (b : Bool) → eqb r x ≡ b → (b || is-in r l) ≡ false → (is-in r l ≡ false → total h l ≡ total f l) → h x + total h l ≡ f x + total f l
+      go true e j ih = absurd (clash (cc))
+      go false e j ih = let a = else x (λ p. eqb-false r x e (omega arith)) in let b = ih j in omega arith
+
+  pub total-change : (l : List ℕ) → Distinct l → is-in r l ≡ true → total h l + f r ≡ total f l + h r
+  total-change [] u i = absurd (clash (cc))
+  total-change (x ∷ l) (n, u) i = go (eqb r x) refl i (λ j. total-change l u j)
+    where
+      go : (b : Bool) → eqb r x ≡ b → (b || is-in r l) ≡ true → (is-in r l ≡ true → total h l + f r ≡ total f l + h r) → (h x + total h l) + f r ≡ (f x + total f l) + h r
+      go true e j ih = let p = eqb-true r x e in let z = unchanged l (rw p n) in rw p (omega arith)
+      go false e j ih = let a = else x (λ p. eqb-false r x e (omega arith)) in let b = ih j in omega arith

@@ -1,0 +1,53 @@
+-- Tests: what a boolean or a comparison of numbers says.
+use mathlib.Core.Bool.{Bool, _||_, false, true}
+use mathlib.Core.List.{List, [], _++_, _∷_, map}
+use mathlib.Core.Logic.{_⊎_, inl, inr}
+use mathlib.Core.Option.{Option, none, some}
+use mathlib.Core.Path.{_≡_, ap, refl, sym}
+use Prim.Native.Nat.{_<_, suc, zero, ℕ}
+use native.Mathlib.Omega.{arith}
+use lib.Dec.{eqb}
+use lib.ListN.{getD, length}
+use borrow.Author.Tests.{eq-eqb, eqb-false, eqb-true, ne-eqb}
+
+-- Two different constructors are never equal: `clash (cc)`.
+pub clash : _≡_ {A = ℕ} 0 1 → ⊥
+clash h = omega arith
+
+pub or-either : (a b : Bool) → (a || b) ≡ true → (a ≡ true) ⊎ (b ≡ true)
+or-either true b h = inl refl
+or-either false b h = inr h
+
+pub or-left : (a b : Bool) → (a || b) ≡ false → a ≡ false
+or-left true b h = h
+or-left false b h = refl
+
+pub or-right : (a b : Bool) → (a || b) ≡ false → b ≡ false
+or-right true b h = let z : true ≡ false = h in cc
+or-right false b h = h
+
+pub false-if : (b : Bool) → (b ≡ true → ⊥) → b ≡ false
+false-if true h = absurd (h refl)
+false-if false h = refl
+
+pub eqb-self : (n : ℕ) → eqb n n ≡ true
+eqb-self n = eq-eqb n n refl
+
+pub eqb-less : (a b : ℕ) → a < b → eqb a b ≡ false
+eqb-less a b lt = ne-eqb a b (λ p. omega arith)
+
+pub eqb-sym : (a b : ℕ) → eqb a b ≡ eqb b a
+eqb-sym a b = go (eqb a b) (eqb b a) refl refl
+  where
+    go : (p q : Bool) → eqb a b ≡ p → eqb b a ≡ q → p ≡ q
+    go true true e e′ = refl
+    go false false e e′ = refl
+    go true false e e′ = absurd (eqb-false b a e′ (sym (eqb-true a b e)))
+    go false true e e′ = absurd (eqb-false a b e (sym (eqb-true b a e′)))
+
+pub at-or-else : (P : Type 0) (q r : ℕ) → (q ≡ r → P) → (eqb q r ≡ false → P) → P
+at-or-else P q r p e = go (eqb q r) refl
+  where
+    go : (o : Bool) → eqb q r ≡ o → P
+    go true x = p (eqb-true q r x)
+    go false x = e x

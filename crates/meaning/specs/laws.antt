@@ -1,0 +1,2 @@
+pub mod LoopTurns
+pub mod MoreBudget

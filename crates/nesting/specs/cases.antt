@@ -1,0 +1,6 @@
+pub mod CaseGraphs
+pub mod Cases
+pub mod Computes
+pub mod QuickPrint
+pub mod RunCases
+pub mod WordCases

@@ -1,0 +1,184 @@
+-- The lines of a sheet by what they hold, for reading them back: LinesWritten shows that a sheet's lines are these, written.
+use mathlib.Core.List.{List, [], _∷_, _++_, map}
+use mathlib.Core.Bool.{Bool}
+use Prim.Native.Nat.{ℕ, suc}
+use lib.ListN.{getD, take}
+use lib.Dec.{eqb}
+use Rattle.meaning.specs.Lists.{concat, times-in}
+use Rattle.meaning.specs.Graph.{Instr, Code, SelectionKind, Value, const, input, instr, output, bool, undef, held, code-of, pick, Graph, no-value}
+use Rattle.meaning.specs.Runs.{Node, block, select, loop, exit, Nodes, ⟨⟩, _▸_, Cases, ∅, case}
+use Rattle.meaning.specs.Text.{Text, ascii, decimal}
+use Rattle.nesting.specs.Nesting.{Outcome, LazyCond, undef-cond, false-cond, true-cond, merge, LazyConds, _&_, DeferredTarget, to-region, to-return, DeferredEdgeBundle, untouched, whole, closed, leftover, Piece, Nested}
+use Rattle.nesting.specs.Sheet.{figure, Field, label, number-as, a-number, joint, list, numbers, dotted, kind, kids, case-numbers, ascending, Sheet}
+
+-- An instruction of a block line. A value is its three words.
+pub record Item : Type 0 where
+  pub region : ℕ
+  pub index : ℕ
+  pub opcode : ℕ
+  pub type : ℕ
+  pub reads : List Code
+
+mutual
+  pub data Condition : Type 0 where
+    t-cond f-cond u-cond : Condition
+    m-cond : ℕ → Conditions → Condition
+
+  pub data Conditions : Type 0 where
+    no-part : Conditions
+    part : Condition → Conditions → Conditions
+
+pub data Line : Type 0 where
+  region-line : ℕ → List ℕ → List ℕ → List Code → Line  -- region, inputs' types, child nodes, output values
+  block-line : ℕ → List Item → Line  -- node, items
+  select-line : ℕ → SelectionKind → Code → List ℕ → List ℕ → Line  -- node, kind, value, case regions, types of its outputs
+  loop-line : ℕ → List Code → ℕ → Code → Line  -- node, first inputs, body region, repeat value
+  exit-line : ℕ → ℕ → List Code → Line  -- node, opcode, values
+  defer-line : ℕ → ℕ → ℕ → List Code → Condition → Line  -- region, target (65,535 for return), count, inputs, condition
+
+pub record TypedSheet : Type 0 where
+  pub outcome : Outcome
+  pub figure : ℕ
+  pub attempts : ℕ
+  pub twice : Bool
+  pub lines : List Line
+
+-- ---- how a line is written
+-- By kind, 0 to 5.
+abbrev pub value-texts : ℕ → ℕ → List Text
+value-texts r k =
+    (ascii "c" ++ decimal k)
+    ∷ (ascii "i" ++ dotted r k .text)
+    ∷ (ascii "d" ++ dotted r k .text)
+    ∷ (ascii "n" ++ dotted r k .text)
+    ∷ pick (eqb k 1) (ascii "true") (ascii "false")
+    ∷ (ascii "undef" ++ decimal k)
+    ∷ []
+
+abbrev pub value-field : Code → Field
+value-field v =
+    record { words = v .kind ∷ v .region ∷ v .index ∷ []; text = getD (value-texts (v .region) (v .index)) (v .kind) [] }
+
+abbrev pub values-field : List Code → Field
+values-field vs = list (map value-field vs)
+
+abbrev pub item-field : Item → Field
+item-field i = joint "/" (dotted (i .region) (i .index) ∷ a-number (i .opcode) ∷ a-number (i .type) ∷ values-field (i .reads) ∷ [])
+
+abbrev pub target-field : ℕ → Field
+target-field r = pick (eqb r 65535) (number-as r "return") (a-number r)
+
+unfoldable mutual
+  pub condition-field : Condition → Field
+  condition-field t-cond = number-as 1 "t"
+  condition-field f-cond = number-as 2 "f"
+  condition-field u-cond = number-as 3 "u"
+  condition-field (m-cond n cs) =
+      let parts = condition-fields cs in
+      record { words = 4 ∷ n ∷ list parts .words; text = ascii "m" ++ decimal n ++ ascii "[" ++ joint "," parts .text ++ ascii "]" }
+
+  pub condition-fields : Conditions → List Field
+  condition-fields no-part = []
+  condition-fields (part c cs) = condition-field c ∷ condition-fields cs
+
+abbrev pub fields : Line → List Field
+fields (region-line r ts ks vs) =
+    number-as 0 "region" ∷ a-number r ∷ label "in" ∷ numbers ts ∷ label "kids" ∷ numbers ks ∷ label "out" ∷ values-field vs ∷ []
+fields (block-line n is) = number-as 1 "block" ∷ a-number n ∷ list (map item-field is) ∷ []
+fields (select-line n k v rs ts) =
+    number-as 2 "select" ∷ a-number n ∷ kind k ∷ value-field v ∷ label "cases" ∷ numbers rs ∷ label "out" ∷ numbers ts ∷ []
+fields (loop-line n vs r v) =
+    number-as 3 "loop" ∷ a-number n ∷ label "in" ∷ values-field vs ∷ label "body" ∷ a-number r ∷ label "repeat" ∷ value-field v ∷ []
+fields (exit-line n op vs) = number-as 4 "exit" ∷ a-number n ∷ a-number op ∷ label "in" ∷ values-field vs ∷ []
+fields (defer-line r x n vs c) =
+    number-as 5 "defer" ∷ a-number r ∷ label "to" ∷ target-field x ∷ label "count" ∷ a-number n ∷ label "in" ∷ values-field vs
+    ∷ label "if" ∷ condition-field c ∷ []
+
+abbrev pub words-of : List Field → List ℕ
+words-of fs = concat (map (λ f. f .words) fs)
+
+abbrev pub lines-words : List Line → List ℕ
+lines-words ls = concat (map words-of (map fields ls))
+
+abbrev pub written : TypedSheet → Sheet
+written s = record { outcome = s .outcome; figure = s .figure; attempts = s .attempts; twice = s .twice; lines = map fields (s .lines) }
+
+-- ---- the lines of a nested form
+abbrev pub target-word : DeferredTarget → ℕ
+target-word (to-region r) = r
+target-word to-return = 65535
+
+unfoldable mutual
+  pub shown-cond : LazyCond → Condition
+  shown-cond undef-cond = u-cond
+  shown-cond false-cond = f-cond
+  shown-cond true-cond = t-cond
+  shown-cond (merge n kind v cs) = m-cond n (shown-conds cs)
+
+  pub shown-conds : LazyConds → Conditions
+  shown-conds LazyConds.no-conds = no-part
+  shown-conds (c & cs) = part (shown-cond c) (shown-conds cs)
+
+-- `nodes` has the node of each output ever defined, in order.
+module _ (nodes : List ℕ) where
+  abbrev pub shown : Value → Code
+  shown (const i) = code-of (const i)
+  shown (input r k) = code-of (input r k)
+  shown (instr r k) = code-of (instr r k)
+  shown (output o) = record { kind = 3; region = getD nodes o 0; index = times-in (getD nodes o 0) (take o nodes) }
+  shown (bool b) = code-of (bool b)
+  shown (undef ty) = code-of (undef ty)
+  shown no-value = code-of (undef 0)
+  shown (held r k) = code-of (input r k)
+
+  abbrev pub block-items : ℕ → ℕ → List Instr → List Item
+  block-items r k [] = []
+  block-items r k (i ∷ is) =
+      record { region = r; index = k; opcode = i .opcode; type = i .type; reads = map shown (i .reads) } ∷ block-items r (suc k) is
+
+  unfoldable mutual
+    pub typed-node : Node → List Line
+    typed-node (block n r k is) = block-line n (block-items r k is) ∷ []
+    typed-node (select n kind v os cs) =
+        select-line n kind (shown v) (case-numbers cs) (map (λ o. o .type) os) ∷ typed-cases cs
+    typed-node (loop n vs r ts limit ks us v) =
+        loop-line n (map shown vs) r (shown v) ∷ region-line r ts (kids ks) (map shown us) ∷ typed-nodes ks
+    typed-node (exit n op vs) = exit-line n op (map shown vs) ∷ []
+
+    pub typed-nodes : Nodes → List Line
+    typed-nodes ⟨⟩ = []
+    typed-nodes (k ▸ ks) = typed-node k ++ typed-nodes ks
+
+    pub typed-cases : Cases → List Line
+    typed-cases ∅ = []
+    typed-cases (case r ks vs cs) = region-line r [] (kids ks) (map shown vs) ∷ (typed-nodes ks ++ typed-cases cs)
+
+  abbrev pub typed-pieces : List Piece → List Line
+  typed-pieces [] = []
+  typed-pieces (p ∷ ps) =
+      region-line (p .region) (p .inputs) (kids (p .children)) (map shown (p .outputs))
+      ∷ (typed-nodes (p .children) ++ typed-pieces ps)
+
+  abbrev pub typed-edge : ℕ → DeferredEdgeBundle → Line
+  typed-edge r e = defer-line r (target-word (e .target)) (e .accumulated-count) (map shown (e .target-inputs)) (shown-cond (e .condition))
+
+  abbrev pub typed-deferred : List Piece → List Line
+  typed-deferred [] = []
+  typed-deferred (p ∷ ps) = map (typed-edge (p .region)) (p .deferred) ++ typed-deferred ps
+
+abbrev pub typed-lines : Nested → List Line
+typed-lines x =
+    typed-pieces (x .output-nodes) (x .entry ∷ x .unclaimed)
+    ++ typed-deferred (x .output-nodes) (ascending (x .entry) (x .unclaimed))
+
+abbrev pub typed-sheet : Graph → Nested → TypedSheet
+typed-sheet g x =
+    let figured = figure (g .test-cost) (x .entry .children) in
+    let ls = typed-lines x in
+    record {
+      outcome = x .outcome;
+      figure = elim (x .outcome) [ untouched ↦ 0 | whole ↦ figured | closed ↦ figured | leftover ↦ 0 ];
+      attempts = x .attempts;
+      twice = x .twice;
+      lines = elim (x .outcome) [ untouched ↦ [] | whole ↦ ls | closed ↦ ls | leftover ↦ ls ];
+    }

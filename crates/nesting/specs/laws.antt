@@ -1,0 +1,3 @@
+pub mod HeldStays
+pub mod DearestCase
+pub mod FirstClaim

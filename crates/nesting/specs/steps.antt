@@ -1,0 +1,6 @@
+pub mod Post
+pub mod Keeps
+pub mod StatesKept
+pub mod RegionsLeft
+pub mod ScanEnds
+pub mod UnclaimedFalls

@@ -1,0 +1,19 @@
+use borrow.Author.Needs.{needs}
+use Rattle.text.specs.Buffer.{_▸_}
+use Rattle.record_text.proofs.lists.put_held.Statement.{statement}
+use Rattle.record_text.proofs.lists.put_held.Tie as tie
+
+put-byte-requires : tie.Need-put-byte-requires
+put-byte-requires c κs = search needs
+
+put-dotted-requires : tie.Need-put-dotted-requires
+put-dotted-requires c κs = search needs
+
+same-length : tie.Need-same-length
+same-length c = search needs
+
+returns : tie.Need-returns
+returns c = c .before .before .before .before .before .before .put-byte .ensures ▸ c .before .before .put-dotted .ensures
+
+pub put-held-spec : {M : Type 1} → statement M
+put-held-spec = tie.close (tie.spec put-byte-requires put-dotted-requires same-length returns)

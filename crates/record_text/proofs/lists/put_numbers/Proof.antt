@@ -1,0 +1,116 @@
+use mathlib.Core.List.{_++_}
+use mathlib.Core.Path.{_≡_, refl, sym, ap, _∙_}
+use Prim.Native.Nat.{_≤_, _-_, _+_}
+use native.Mathlib.Omega.{arith}
+use lib.ListN.{length, drop}
+use borrow.Author.Needs.{needs}
+use Rattle.meaning.specs.Graph.{Graph}
+use Rattle.meaning.specs.Text.{decimal, ascii}
+use Rattle.record.specs.Stands.{Stands}
+use Rattle.text.specs.Lists.{other, wrote-empty, wrote-listed, wrote-next, wrote-all}
+use Rattle.text.specs.Buffer.{Buffer, buffer, Wrote, of-text}
+use Rattle.text.specs.Text.{text-of-each}
+use Rattle.record_text.specs.Parts.{numbers-of}
+use Rattle.record_text.specs.Listing.{numbers-text}
+use Rattle.record_text.proofs.lists.put_numbers.Statement.{statement}
+use Rattle.record_text.proofs.lists.put_numbers.Tie as tie
+
+abbrev Inv-loop : tie.InvT-loop
+Inv-loop w out₀ at l n place₀ k₀ t8 out place k =
+    (k ≤ n) × ((length out ≡ length out₀) × ((g : Graph) → Stands w g → (q : Buffer) → Wrote (buffer out place) (text-of-each (other decimal) (drop k (numbers-of g l))) q → Wrote (buffer out₀ place₀) (text-of-each (other decimal) (drop 1 (numbers-of g l))) q))
+
+abbrev μ-loop : tie.MeasureT-loop
+μ-loop w out₀ at l n place₀ k₀ t8 out place k = n - k
+
+number-count-requires : tie.Need-number-count-requires Inv-loop μ-loop
+number-count-requires c κs = search needs
+
+put-byte-requires : tie.Need-put-byte-requires Inv-loop μ-loop
+put-byte-requires c κs = search needs
+
+same-length : tie.Need-same-length Inv-loop μ-loop
+same-length c = c .before .before .put-byte .kept .0
+
+returns : tie.Need-returns Inv-loop μ-loop
+unfolding numbers-text
+returns c = λ g s. wrote-empty decimal (numbers-of g (c .before .before .before .before .before .before .before .args .l)) (sym (c .before .before .before .before .before .number-count .ensures g s) ∙ c .before .before .before .before .if1 .taken) (c .before .before .put-byte .ensures)
+
+number-item-requires : tie.Need-number-item-requires Inv-loop μ-loop
+number-item-requires c κs = search needs
+
+cast-put-number : tie.Need-cast-put-number Inv-loop μ-loop
+cast-put-number c = search needs
+
+put-number-requires : tie.Need-put-number-requires Inv-loop μ-loop
+put-number-requires c κs = search needs
+
+loop-holds : tie.Need-loop-holds Inv-loop μ-loop
+loop-holds c = (omega arith, (refl, λ g s q w. w))
+
+slice-aggregate-put-labeled : tie.Need-slice-aggregate-put-labeled Inv-loop μ-loop
+slice-aggregate-put-labeled c = refl
+
+number-item-requires-2 : tie.Need-number-item-requires-2 Inv-loop μ-loop
+number-item-requires-2 c κs = search needs
+
+cast-put-labeled : tie.Need-cast-put-labeled Inv-loop μ-loop
+cast-put-labeled c = search needs
+
+put-labeled-requires : tie.Need-put-labeled-requires Inv-loop μ-loop
+put-labeled-requires c κs = search needs
+
+add-k : tie.Need-add-k Inv-loop μ-loop
+add-k c = omega arith
+
+loop-less : tie.Need-loop-less Inv-loop μ-loop
+loop-less c = omega arith
+
+loop-again : tie.Need-loop-again Inv-loop μ-loop
+loop-again c = (
+  omega arith,
+  (
+    c .before .before .put-labeled .kept .0 ∙ c .before .before .before .before .before .before .before .loop .inv .1 .0,
+    λ g s q w.
+        let xs = numbers-of g (c .before .before .before .before .before .before .before .before .before .before .before .before .before .before .before .before .args .l) in
+        c .before .before .before .before .before .before .before .loop .inv .1 .1 g s q
+        (wrote-next (other decimal) 0 xs (c .before .before .before .before .before .before .before .loop .k) (omega (arith, c .before .before .before .before .before .before .before .before .before .before .before .before .before .before .number-count .ensures g s))
+        (of-text (ap (λ n. ascii "," ++ decimal n) (c .before .before .before .number-item2 .ensures g s)) (c .before .before .put-labeled .ensures))
+        w),
+  ),
+)
+
+same-length-2 : tie.Need-same-length-2 Inv-loop μ-loop
+same-length-2 c = c .before .loop .inv .1 .0 ∙ c .before .before .before .before .put-number .kept .0
+
+returns-2 : tie.Need-returns-2 Inv-loop μ-loop
+unfolding numbers-text
+returns-2 c = λ g s.
+    let xs = numbers-of g (c .before .before .before .before .before .before .before .before .before .before .args .l) in
+    let size = c .before .before .before .before .before .before .before .before .number-count .ensures g s in
+    wrote-listed decimal 0 xs (omega arith)
+    (of-text (ap decimal (c .before .before .before .before .before .number-item .ensures g s)) (c .before .before .before .before .put-number .ensures))
+    (c .before .loop .inv .1 .1 g s _ (wrote-all (other decimal) xs (c .before .loop .k) (omega arith)))
+
+pub put-numbers-spec : {M : Type 1} → statement M
+put-numbers-spec =
+    tie.close
+    (tie.spec
+    Inv-loop
+    μ-loop
+    number-count-requires
+    put-byte-requires
+    same-length
+    returns
+    number-item-requires
+    cast-put-number
+    put-number-requires
+    loop-holds
+    slice-aggregate-put-labeled
+    number-item-requires-2
+    cast-put-labeled
+    put-labeled-requires
+    add-k
+    loop-less
+    loop-again
+    same-length-2
+    returns-2)

@@ -1,0 +1,156 @@
+use mathlib.Core.Path.{sym, ap, refl, _∙_}
+use borrow.Author.Needs.{needs}
+use Rattle.fields.specs.Shape.{value-is}
+use Rattle.text.specs.Text.{labeled}
+use Rattle.text.specs.Buffer.{of-text}
+use Rattle.record_text.specs.Listing.{value-text}
+use Rattle.record_text.proofs.lists.put_value.Statement.{statement}
+use Rattle.record_text.proofs.lists.put_value.Tie as tie
+
+enum-known-v : tie.Need-enum-known-v
+enum-known-v c = search needs
+
+slice-aggregate-put-labeled : tie.Need-slice-aggregate-put-labeled
+slice-aggregate-put-labeled c = search needs
+
+cast-put-labeled : tie.Need-cast-put-labeled
+cast-put-labeled c = search needs
+
+put-labeled-requires : tie.Need-put-labeled-requires
+put-labeled-requires c κs = search needs
+
+enum-known-v-2 : tie.Need-enum-known-v-2
+enum-known-v-2 c = search needs
+
+put-held-requires : tie.Need-put-held-requires
+put-held-requires c κs = search needs
+
+enum-known-v-3 : tie.Need-enum-known-v-3
+enum-known-v-3 c = search needs
+
+put-held-requires-2 : tie.Need-put-held-requires-2
+put-held-requires-2 c κs = search needs
+
+enum-known-v-4 : tie.Need-enum-known-v-4
+enum-known-v-4 c = search needs
+
+slice-aggregate-put-text : tie.Need-slice-aggregate-put-text
+slice-aggregate-put-text c = search needs
+
+put-text-requires : tie.Need-put-text-requires
+put-text-requires c κs = search needs
+
+same-length : tie.Need-same-length
+same-length c = search needs
+
+returns : tie.Need-returns
+unfolding value-text labeled
+returns c = of-text (sym (ap (λ v. value-text (value-is v)) (c .before .before .before .before .before .before .before .v4 .given .1) ∙ rw (c .before .before .before .before .before .if1 .taken) refl)) (c .before .before .put-text .ensures)
+
+slice-aggregate-put-text-2 : tie.Need-slice-aggregate-put-text-2
+slice-aggregate-put-text-2 c = search needs
+
+put-text-requires-2 : tie.Need-put-text-requires-2
+put-text-requires-2 c κs = search needs
+
+enum-known-v-5 : tie.Need-enum-known-v-5
+enum-known-v-5 c = search needs
+
+slice-aggregate-put-labeled-2 : tie.Need-slice-aggregate-put-labeled-2
+slice-aggregate-put-labeled-2 c = search needs
+
+cast-put-labeled-2 : tie.Need-cast-put-labeled-2
+cast-put-labeled-2 c = search needs
+
+put-labeled-requires-2 : tie.Need-put-labeled-requires-2
+put-labeled-requires-2 c κs = search needs
+
+enum-told : tie.Need-enum-told
+enum-told c = search needs
+
+slice-aggregate-put-labeled-3 : tie.Need-slice-aggregate-put-labeled-3
+slice-aggregate-put-labeled-3 c = search needs
+
+put-labeled-requires-3 : tie.Need-put-labeled-requires-3
+put-labeled-requires-3 c κs = search needs
+
+same-length-2 : tie.Need-same-length-2
+same-length-2 c = search needs
+
+returns-2 : tie.Need-returns-2
+unfolding value-text labeled
+returns-2 c = of-text (sym (ap (λ v. value-text (value-is v)) (c .before .before .before .before .before .before .v .given .1))) (c .before .before .put-labeled .ensures)
+
+same-length-3 : tie.Need-same-length-3
+same-length-3 c = search needs
+
+returns-3 : tie.Need-returns-3
+unfolding value-text
+returns-3 c = of-text (sym (ap (λ v. value-text (value-is v)) (c .before .before .before .before .before .v2 .given .1))) (c .before .before .put-held .ensures)
+
+same-length-4 : tie.Need-same-length-4
+same-length-4 c = search needs
+
+returns-4 : tie.Need-returns-4
+unfolding value-text
+returns-4 c = of-text (sym (ap (λ v. value-text (value-is v)) (c .before .before .before .before .before .v3 .given .1))) (c .before .before .put-held2 .ensures)
+
+same-length-5 : tie.Need-same-length-5
+same-length-5 c = search needs
+
+returns-5 : tie.Need-returns-5
+unfolding value-text
+returns-5 c = of-text (sym (ap (λ v. value-text (value-is v)) (c .before .before .before .before .before .before .before .v4 .given .1) ∙ rw (c .before .before .before .before .before .if1 .left) refl)) (c .before .before .put-text2 .ensures)
+
+same-length-6 : tie.Need-same-length-6
+same-length-6 c = search needs
+
+returns-6 : tie.Need-returns-6
+unfolding value-text labeled
+returns-6 c = of-text (sym (ap (λ v. value-text (value-is v)) (c .before .before .before .before .before .before .v5 .given .1))) (c .before .before .put-labeled2 .ensures)
+
+same-length-7 : tie.Need-same-length-7
+same-length-7 c = search needs
+
+returns-7 : tie.Need-returns-7
+unfolding value-text labeled
+returns-7 c = of-text (sym (ap (λ v. value-text (value-is v)) (c .before .before .before .before .before .enum-told .given .1))) (c .before .before .put-labeled3 .ensures)
+
+pub put-value-spec : {M : Type 1} → statement M
+put-value-spec =
+    tie.close
+    (tie.spec
+    enum-known-v
+    slice-aggregate-put-labeled
+    cast-put-labeled
+    put-labeled-requires
+    enum-known-v-2
+    put-held-requires
+    enum-known-v-3
+    put-held-requires-2
+    enum-known-v-4
+    slice-aggregate-put-text
+    put-text-requires
+    same-length
+    returns
+    slice-aggregate-put-text-2
+    put-text-requires-2
+    enum-known-v-5
+    slice-aggregate-put-labeled-2
+    cast-put-labeled-2
+    put-labeled-requires-2
+    enum-told
+    slice-aggregate-put-labeled-3
+    put-labeled-requires-3
+    same-length-2
+    returns-2
+    same-length-3
+    returns-3
+    same-length-4
+    returns-4
+    same-length-5
+    returns-5
+    same-length-6
+    returns-6
+    same-length-7
+    returns-7)

@@ -1,0 +1,106 @@
+use mathlib.Core.Path.{_≡_, refl, sym, ap, _∙_}
+use Prim.Native.Nat.{_≤_, _-_}
+use native.Mathlib.Omega.{arith}
+use lib.ListN.{length, drop}
+use borrow.Author.Needs.{needs}
+use Rattle.meaning.specs.Graph.{Graph, no-value}
+use Rattle.record.specs.Stands.{Stands}
+use Rattle.text.specs.Lists.{other, wrote-empty, wrote-listed, wrote-next, wrote-all}
+use Rattle.text.specs.Buffer.{Buffer, buffer, Wrote, _▸_, of-text}
+use Rattle.text.specs.Text.{text-of-each}
+use Rattle.record_text.specs.Parts.{list-of}
+use Rattle.record_text.specs.Listing.{value-text, values-text}
+use Rattle.record_text.proofs.lists.put_values.Statement.{statement}
+use Rattle.record_text.proofs.lists.put_values.Tie as tie
+
+abbrev Inv-loop : tie.InvT-loop
+Inv-loop w out₀ at l n place₀ k₀ out place k =
+    (k ≤ n) × ((length out ≡ length out₀) × ((g : Graph) → Stands w g → (q : Buffer) → Wrote (buffer out place) (text-of-each (other value-text) (drop k (list-of g l))) q → Wrote (buffer out₀ place₀) (text-of-each (other value-text) (drop 1 (list-of g l))) q))
+
+abbrev μ-loop : tie.MeasureT-loop
+μ-loop w out₀ at l n place₀ k₀ out place k = n - k
+
+value-count-requires : tie.Need-value-count-requires Inv-loop μ-loop
+value-count-requires c κs = search needs
+
+put-byte-requires : tie.Need-put-byte-requires Inv-loop μ-loop
+put-byte-requires c κs = search needs
+
+same-length : tie.Need-same-length Inv-loop μ-loop
+same-length c = c .before .before .put-byte .kept .0
+
+returns : tie.Need-returns Inv-loop μ-loop
+unfolding values-text
+returns c = λ g s. wrote-empty value-text (list-of g (c .before .before .before .before .before .before .before .args .l)) (sym (c .before .before .before .before .before .value-count .ensures g s) ∙ c .before .before .before .before .if1 .taken) (c .before .before .put-byte .ensures)
+
+value-item-requires : tie.Need-value-item-requires Inv-loop μ-loop
+value-item-requires c κs = search needs
+
+put-value-requires : tie.Need-put-value-requires Inv-loop μ-loop
+put-value-requires c κs = search needs
+
+loop-holds : tie.Need-loop-holds Inv-loop μ-loop
+loop-holds c = (omega arith, (refl, λ g s q w. w))
+
+put-byte-requires-2 : tie.Need-put-byte-requires-2 Inv-loop μ-loop
+put-byte-requires-2 c κs = search needs
+
+value-item-requires-2 : tie.Need-value-item-requires-2 Inv-loop μ-loop
+value-item-requires-2 c κs = search needs
+
+put-value-requires-2 : tie.Need-put-value-requires-2 Inv-loop μ-loop
+put-value-requires-2 c κs = search needs
+
+add-k : tie.Need-add-k Inv-loop μ-loop
+add-k c = omega arith
+
+loop-less : tie.Need-loop-less Inv-loop μ-loop
+loop-less c = omega arith
+
+loop-again : tie.Need-loop-again Inv-loop μ-loop
+loop-again c = (
+  omega arith,
+  (
+    c .before .before .put-value2 .kept .0 ∙ c .before .before .before .before .before .before .before .put-byte2 .kept .0 ∙ c .before .before .before .before .before .before .before .before .before .before .loop .inv .1 .0,
+    λ g s q w.
+        let xs = list-of g (c .before .before .before .before .before .before .before .before .before .before .before .before .before .before .before .before .before .before .before .args .l) in
+        c .before .before .before .before .before .before .before .before .before .before .loop .inv .1 .1 g s q
+        (wrote-next (other value-text) no-value xs (c .before .before .before .before .before .before .before .before .before .before .loop .k) (omega (arith, c .before .before .before .before .before .before .before .before .before .before .before .before .before .before .before .before .before .value-count .ensures g s))
+        (c .before .before .before .before .before .before .before .put-byte2 .ensures ▸ of-text (ap value-text (c .before .before .before .value-item2 .ensures g s)) (c .before .before .put-value2 .ensures))
+        w),
+  ),
+)
+
+same-length-2 : tie.Need-same-length-2 Inv-loop μ-loop
+same-length-2 c = c .before .loop .inv .1 .0 ∙ c .before .before .before .before .put-value .kept .0
+
+returns-2 : tie.Need-returns-2 Inv-loop μ-loop
+unfolding values-text
+returns-2 c = λ g s.
+    let xs = list-of g (c .before .before .before .before .before .before .before .before .before .before .args .l) in
+    let size = c .before .before .before .before .before .before .before .before .value-count .ensures g s in
+    wrote-listed value-text no-value xs (omega arith)
+    (of-text (ap value-text (c .before .before .before .before .before .value-item .ensures g s)) (c .before .before .before .before .put-value .ensures))
+    (c .before .loop .inv .1 .1 g s _ (wrote-all (other value-text) xs (c .before .loop .k) (omega arith)))
+
+pub put-values-spec : {M : Type 1} → statement M
+put-values-spec =
+    tie.close
+    (tie.spec
+    Inv-loop
+    μ-loop
+    value-count-requires
+    put-byte-requires
+    same-length
+    returns
+    value-item-requires
+    put-value-requires
+    loop-holds
+    put-byte-requires-2
+    value-item-requires-2
+    put-value-requires-2
+    add-k
+    loop-less
+    loop-again
+    same-length-2
+    returns-2)

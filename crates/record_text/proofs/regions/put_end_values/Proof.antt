@@ -1,0 +1,24 @@
+use borrow.Author.Needs.{needs}
+use Rattle.text.specs.Buffer.{_▸_}
+use Rattle.record_text.proofs.regions.put_end_values.Statement.{statement}
+use Rattle.record_text.proofs.regions.put_end_values.Tie as tie
+
+put-text-requires : tie.Need-put-text-requires
+put-text-requires c κs = search needs
+
+put-values-requires : tie.Need-put-values-requires
+put-values-requires c κs = search needs
+
+put-byte-requires : tie.Need-put-byte-requires
+put-byte-requires c κs = search needs
+
+same-length : tie.Need-same-length
+same-length c = search needs
+
+returns : tie.Need-returns
+returns c = λ g s. c .before .before .before .before .before .before .before .before .before .before .put-text .ensures ▸ c .before .before .before .before .before .before .put-values .ensures g s ▸ c .before .before .put-byte .ensures
+
+pub put-end-values-spec : {M : Type 1} → statement M
+put-end-values-spec =
+    tie.close
+    (tie.spec put-text-requires put-values-requires put-byte-requires same-length returns)

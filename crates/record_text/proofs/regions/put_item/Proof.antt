@@ -1,0 +1,80 @@
+use mathlib.Core.Path.{ap, _∙_}
+use borrow.Author.Needs.{needs}
+use Rattle.text.specs.Text.{labeled}
+use Rattle.text.specs.Buffer.{_▸_, of-text}
+use Rattle.record_text.specs.Listing.{item-text}
+use Rattle.record_text.proofs.regions.put_item.Statement.{statement}
+use Rattle.record_text.proofs.regions.put_item.Tie as tie
+
+instruction-requires : tie.Need-instruction-requires
+instruction-requires c κs = search needs
+
+put-dotted-requires : tie.Need-put-dotted-requires
+put-dotted-requires c κs = search needs
+
+slice-aggregate-put-labeled : tie.Need-slice-aggregate-put-labeled
+slice-aggregate-put-labeled c = search needs
+
+cast-put-labeled : tie.Need-cast-put-labeled
+cast-put-labeled c = search needs
+
+put-labeled-requires : tie.Need-put-labeled-requires
+put-labeled-requires c κs = search needs
+
+slice-aggregate-put-labeled-2 : tie.Need-slice-aggregate-put-labeled-2
+slice-aggregate-put-labeled-2 c = search needs
+
+cast-put-labeled-2 : tie.Need-cast-put-labeled-2
+cast-put-labeled-2 c = search needs
+
+put-labeled-requires-2 : tie.Need-put-labeled-requires-2
+put-labeled-requires-2 c κs = search needs
+
+slice-aggregate-put-labeled-3 : tie.Need-slice-aggregate-put-labeled-3
+slice-aggregate-put-labeled-3 c = search needs
+
+cast-put-labeled-3 : tie.Need-cast-put-labeled-3
+cast-put-labeled-3 c = search needs
+
+put-labeled-requires-3 : tie.Need-put-labeled-requires-3
+put-labeled-requires-3 c κs = search needs
+
+put-byte-requires : tie.Need-put-byte-requires
+put-byte-requires c κs = search needs
+
+put-values-requires : tie.Need-put-values-requires
+put-values-requires c κs = search needs
+
+same-length : tie.Need-same-length
+same-length c = c .before .before .put-values .kept .1 .0 ∙ c .before .before .before .before .before .before .put-byte .kept .0 ∙ c .before .before .before .before .before .before .before .before .before .before .put-labeled3 .kept .0 ∙ c .before .before .before .before .before .before .before .before .before .before .before .before .before .before .before .before .put-labeled2 .kept .0 ∙ c .before .before .before .before .before .before .before .before .before .before .before .before .before .before .before .before .before .before .before .before .before .before .put-labeled .kept .0 ∙ c .before .before .before .before .before .before .before .before .before .before .before .before .before .before .before .before .before .before .before .before .before .before .before .before .before .before .before .before .put-dotted .kept .0
+
+returns : tie.Need-returns
+unfolding item-text labeled
+returns c = λ g s.
+    let x = c .before .before .before .before .before .before .before .before .before .before .before .before .before .before .before .before .before .before .before .before .before .before .before .before .before .before .before .before .before .before .instruction .ensures g s in
+    c .before .before .before .before .before .before .before .before .before .before .before .before .before .before .before .before .before .before .before .before .before .before .before .before .before .before .before .before .put-dotted .ensures
+    ▸ of-text (ap (λ i. labeled "/" (i .opcode)) x) (c .before .before .before .before .before .before .before .before .before .before .before .before .before .before .before .before .before .before .before .before .before .before .put-labeled .ensures)
+    ▸ of-text (ap (λ i. labeled "/" (i .ty)) x) (c .before .before .before .before .before .before .before .before .before .before .before .before .before .before .before .before .put-labeled2 .ensures)
+    ▸ of-text (ap (λ i. labeled "/" (i .cost)) x) (c .before .before .before .before .before .before .before .before .before .before .put-labeled3 .ensures)
+    ▸ c .before .before .before .before .before .before .put-byte .ensures
+    ▸ c .before .before .put-values .ensures g s
+
+pub put-item-spec : {M : Type 1} → statement M
+put-item-spec =
+    tie.close
+    (tie.spec
+    instruction-requires
+    put-dotted-requires
+    slice-aggregate-put-labeled
+    cast-put-labeled
+    put-labeled-requires
+    slice-aggregate-put-labeled-2
+    cast-put-labeled-2
+    put-labeled-requires-2
+    slice-aggregate-put-labeled-3
+    cast-put-labeled-3
+    put-labeled-requires-3
+    put-byte-requires
+    put-values-requires
+    same-length
+    returns)

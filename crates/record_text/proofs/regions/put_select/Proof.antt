@@ -1,0 +1,52 @@
+use mathlib.Core.Path.{ap}
+use borrow.Author.Needs.{needs}
+use Rattle.text.specs.Buffer.{_▸_, of-text}
+use Rattle.record_text.specs.Listing.{value-text}
+use Rattle.record_text.proofs.regions.put_select.Statement.{statement}
+use Rattle.record_text.proofs.regions.put_select.Tie as tie
+
+put-text-requires : tie.Need-put-text-requires
+put-text-requires c κs = search needs
+
+value-requires : tie.Need-value-requires
+value-requires c κs = search needs
+
+put-value-requires : tie.Need-put-value-requires
+put-value-requires c κs = search needs
+
+slice-aggregate-put-text : tie.Need-slice-aggregate-put-text
+slice-aggregate-put-text c = search needs
+
+put-text-requires-2 : tie.Need-put-text-requires-2
+put-text-requires-2 c κs = search needs
+
+put-numbers-requires : tie.Need-put-numbers-requires
+put-numbers-requires c κs = search needs
+
+put-byte-requires : tie.Need-put-byte-requires
+put-byte-requires c κs = search needs
+
+same-length : tie.Need-same-length
+same-length c = search needs
+
+returns : tie.Need-returns
+returns c = λ g s.
+    c .before .before .before .before .before .before .before .before .before .before .before .before .before .before .before .before .before .before .before .before .put-text .ensures
+    ▸ of-text (ap value-text (c .before .before .before .before .before .before .before .before .before .before .before .before .before .before .before .before .value .ensures g s)) (c .before .before .before .before .before .before .before .before .before .before .before .before .before .before .before .put-value .ensures)
+    ▸ c .before .before .before .before .before .before .before .before .before .before .put-text2 .ensures
+    ▸ c .before .before .before .before .before .before .put-numbers .ensures g s
+    ▸ c .before .before .put-byte .ensures
+
+pub put-select-spec : {M : Type 1} → statement M
+put-select-spec =
+    tie.close
+    (tie.spec
+    put-text-requires
+    value-requires
+    put-value-requires
+    slice-aggregate-put-text
+    put-text-requires-2
+    put-numbers-requires
+    put-byte-requires
+    same-length
+    returns)

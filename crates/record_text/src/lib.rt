@@ -1,0 +1,48 @@
+// An accepted record as text, in a lent buffer.
+ghost use Rattle.meaning.specs.Graph.{Graph};
+ghost use Rattle.record.specs.Stands.{Stands};
+ghost use Rattle.text.specs.Buffer.{buffer, Wrote};
+ghost use Rattle.text.specs.Whole.{Whole};
+ghost use Rattle.record_text.specs.Listing.{head-text, listing-of, refusal-text};
+
+mod lists;
+mod regions;
+
+use lists::Numbers;
+use lists::put_numbers;
+use regions::put_regions;
+use store::WORDS;
+use text::Written;
+use text::put_byte;
+use text::put_labeled;
+use text::put_text;
+
+fn put_head(w: &[u16; WORDS], out: &mut [u8], at: usize) -> usize
+    ensures { λ p. ⌜ ((g : Graph) → Stands (now (w .entry)) g → Wrote (buffer (now (out .entry)) at) (head-text g) (buffer (now (out .exit)) p)) ⌝ }
+{
+    let mut place = put_labeled(out, at, b"record regions ", fields::region_count(w) as u32);
+    place = put_labeled(out, place, b" entry ", fields::entry(w) as u32);
+    place = put_labeled(out, place, b" test ", fields::test_cost(w) as u32);
+    place = put_text(out, place, b" constants ");
+    place = put_numbers(w, out, place, Numbers::Constants);
+    put_byte(out, place, b'\n')
+}
+
+// The record that stands in the words, from the buffer's beginning on.
+pub fn list(w: &[u16; WORDS], out: &mut [u8]) -> Written
+    ensures { λ r. ⌜ ((g : Graph) → Stands (now (w .entry)) g → Whole (listing-of g) (now (out .entry)) (now (out .exit)) r) ⌝ }
+{
+    let mut place = put_head(w, out, 0);
+    place = put_regions(w, out, place);
+    text::finish(out.len(), place)
+}
+
+// The line of a refusal, from the buffer's beginning on.
+pub fn refusal(number: u16, word: u16, out: &mut [u8]) -> Written
+    ensures { λ r. ⌜ Whole (refusal-text number word) (now (out .entry)) (now (out .exit)) r ⌝ }
+{
+    let mut place = put_labeled(out, 0, b"refused ", number as u32);
+    place = put_labeled(out, place, b" ", word as u32);
+    place = put_byte(out, place, b'\n');
+    text::finish(out.len(), place)
+}

@@ -1,0 +1,194 @@
+// The lines of the regions.
+ghost use mathlib.Core.List.{[], _++_};
+ghost use Prim.Native.Nat.{_+_, _≤_};
+ghost use lib.ListN.{getD};
+ghost use Rattle.meaning.specs.Graph.{Graph, no-value, region, edges-of, targets-of};
+ghost use Rattle.meaning.specs.Text.{ascii, listed};
+ghost use Rattle.format.specs.Read.{no-edge};
+ghost use Rattle.format.specs.References.{no-instr, values-of};
+ghost use Rattle.record.specs.Stands.{Stands};
+ghost use Rattle.fields.specs.Repeats.{stands-before};
+ghost use Rattle.text.specs.Buffer.{buffer, Wrote};
+ghost use Rattle.record_text.specs.Passes.{pass-once};
+ghost use Rattle.record_text.specs.Listing.{value-text, numbers-text, values-text, item-text, items-text, block-text, blocks-text, terminator-text, pass-text, passes-text, region-line-text, exits-line, region-text, regions-text};
+use super::lists::Numbers;
+use super::lists::Values;
+use super::lists::put_dotted;
+use super::lists::put_numbers;
+use super::lists::put_value;
+use super::lists::put_values;
+use fields::Terminator;
+use store::WORDS;
+use text::put_byte;
+use text::put_labeled;
+use text::put_text;
+
+// Instruction i of block b, which has number k in its region.
+fn put_item(w: &[u16; WORDS], out: &mut [u8], at: usize, r: u16, b: u16, i: u16, k: u32) -> usize
+    ensures { λ p. ⌜ ((g : Graph) → Stands (now (w .entry)) g → Wrote (buffer (now (out .entry)) at) (item-text r k (getD (getD (region g r .blocks) b []) i no-instr)) (buffer (now (out .exit)) p)) ⌝ }
+{
+    let x = fields::instruction(w, r, b, i);
+    let mut place = put_dotted(out, at, r, k);
+    place = put_labeled(out, place, b"/", x.opcode as u32);
+    place = put_labeled(out, place, b"/", x.ty as u32);
+    place = put_labeled(out, place, b"/", x.cost as u32);
+    place = put_byte(out, place, b'/');
+    put_values(w, out, place, Values::Reads(r, b, i))
+}
+
+// The instructions of block b, the first of which has number k; the bound leaves room to count 65,535 more.
+fn put_items(w: &[u16; WORDS], out: &mut [u8], at: usize, r: u16, b: u16, k: u32) -> usize
+    requires { ⌜ k ≤ 4294901760 ⌝ }
+    ensures { λ p. ⌜ ((g : Graph) → Stands (now (w .entry)) g → Wrote (buffer (now (out .entry)) at) (listed (λ t. t) (items-text r k (getD (region g r .blocks) b []))) (buffer (now (out .exit)) p)) ⌝ }
+{
+    let n = fields::block_length(w, r, b);
+    if n == 0 {
+        return put_byte(out, at, b'-');
+    }
+    let mut place = put_item(w, out, at, r, b, 0, k);
+    let mut i: u16 = 1;
+    while i < n {
+        place = put_byte(out, place, b',');
+        place = put_item(w, out, place, r, b, i, k + (i as u32));
+        i += 1;
+    }
+    place
+}
+
+fn put_block(w: &[u16; WORDS], out: &mut [u8], at: usize, r: u16, b: u16, k: u32) -> usize
+    requires { ⌜ k ≤ 4294901760 ⌝ }
+    ensures { λ p. ⌜ ((g : Graph) → Stands (now (w .entry)) g → Wrote (buffer (now (out .entry)) at) (block-text r k (getD (region g r .blocks) b [])) (buffer (now (out .exit)) p)) ⌝ }
+{
+    let mut place = put_text(out, at, b"block ");
+    place = put_items(w, out, place, r, b, k);
+    put_byte(out, place, b'\n')
+}
+
+fn put_blocks(w: &[u16; WORDS], out: &mut [u8], at: usize, r: u16) -> usize
+    ensures { λ p. ⌜ ((g : Graph) → Stands (now (w .entry)) g → Wrote (buffer (now (out .entry)) at) (blocks-text r 0 (region g r .blocks)) (buffer (now (out .exit)) p)) ⌝ }
+{
+    let n = fields::block_count(w, r);
+    let mut place = at;
+    let mut k: u32 = 0;
+    let mut b: u16 = 0;
+    while b < n {
+        place = put_block(w, out, place, r, b, k);
+        k += fields::block_length(w, r, b) as u32;
+        b += 1;
+    }
+    place
+}
+
+// A label and the terminator's values-text, to the line's end.
+fn put_end_values(w: &[u16; WORDS], out: &mut [u8], at: usize, label: &[u8], r: u16) -> usize
+    ensures { λ p. ⌜ ((g : Graph) → Stands (now (w .entry)) g → Wrote (buffer (now (out .entry)) at) (now (label .entry) ++ values-text (values-of (region g r .terminator)) ++ ascii "\n") (buffer (now (out .exit)) p)) ⌝ }
+{
+    let mut place = put_text(out, at, label);
+    place = put_values(w, out, place, Values::Terminator(r));
+    put_byte(out, place, b'\n')
+}
+
+fn put_select(w: &[u16; WORDS], out: &mut [u8], at: usize, label: &[u8], r: u16) -> usize
+    ensures { λ p. ⌜ ((g : Graph) → Stands (now (w .entry)) g → Wrote (buffer (now (out .entry)) at) (now (label .entry) ++ value-text (getD (values-of (region g r .terminator)) 0 no-value) ++ ascii " to " ++ numbers-text (targets-of g r) ++ ascii "\n") (buffer (now (out .exit)) p)) ⌝ }
+{
+    let mut place = put_text(out, at, label);
+    place = put_value(out, place, fields::value(w, r, 0));
+    place = put_text(out, place, b" to ");
+    place = put_numbers(w, out, place, Numbers::Targets(r));
+    put_byte(out, place, b'\n')
+}
+
+fn put_terminator(w: &[u16; WORDS], out: &mut [u8], at: usize, r: u16) -> usize
+    ensures { λ p. ⌜ ((g : Graph) → Stands (now (w .entry)) g → Wrote (buffer (now (out .entry)) at) (terminator-text (region g r .terminator)) (buffer (now (out .exit)) p)) ⌝ }
+{
+    match fields::terminator(w, r) {
+        Terminator::Unreachable => put_text(out, at, b"unreachable\n"),
+        Terminator::Return => put_end_values(w, out, at, b"return ", r),
+        Terminator::ExitInvocation(op) => {
+            let place = put_labeled(out, at, b"exit ", op as u32);
+            put_end_values(w, out, place, b" ", r)
+        }
+        Terminator::Branch => {
+            let place = put_labeled(out, at, b"branch to ", fields::target(w, r, 0) as u32);
+            put_byte(out, place, b'\n')
+        }
+        Terminator::SelectBool => put_select(w, out, at, b"select bool ", r),
+        Terminator::SelectNumber => put_select(w, out, at, b"select num ", r),
+    }
+}
+
+// The values-text passed to the target at place j.
+fn put_pass(w: &[u16; WORDS], out: &mut [u8], at: usize, r: u16, j: u16) -> usize
+    ensures { λ p. ⌜ ((g : Graph) → Stands (now (w .entry)) g → Wrote (buffer (now (out .entry)) at) (pass-text (getD (edges-of (region g r .terminator)) j no-edge)) (buffer (now (out .exit)) p)) ⌝ }
+{
+    let mut place = put_labeled(out, at, b"pass ", fields::target(w, r, j) as u32);
+    place = put_text(out, place, b" in ");
+    place = put_values(w, out, place, Values::Passed(r, j));
+    put_byte(out, place, b'\n')
+}
+
+// The same, unless that target stood before.
+fn put_pass_once(w: &[u16; WORDS], out: &mut [u8], at: usize, r: u16, j: u16) -> usize
+    ensures { λ p. ⌜ ((g : Graph) → Stands (now (w .entry)) g → Wrote (buffer (now (out .entry)) at) (pass-once (stands-before (targets-of g r) j) (getD (edges-of (region g r .terminator)) j no-edge)) (buffer (now (out .exit)) p)) ⌝ }
+{
+    if fields::target_again(w, r, j) {
+        return at;
+    }
+    put_pass(w, out, at, r, j)
+}
+
+// Each distinct target, by first standing.
+fn put_passes(w: &[u16; WORDS], out: &mut [u8], at: usize, r: u16) -> usize
+    ensures { λ p. ⌜ ((g : Graph) → Stands (now (w .entry)) g → Wrote (buffer (now (out .entry)) at) (passes-text (edges-of (region g r .terminator))) (buffer (now (out .exit)) p)) ⌝ }
+{
+    let n = fields::target_count(w, r);
+    let mut place = at;
+    let mut j: u16 = 0;
+    while j < n {
+        place = put_pass_once(w, out, place, r, j);
+        j += 1;
+    }
+    place
+}
+
+// A region's first line: its inputs' types and its turn limit.
+fn put_region_head(w: &[u16; WORDS], out: &mut [u8], at: usize, r: u16) -> usize
+    ensures { λ p. ⌜ ((g : Graph) → Stands (now (w .entry)) g → Wrote (buffer (now (out .entry)) at) (region-line-text r (region g r)) (buffer (now (out .exit)) p)) ⌝ }
+{
+    let mut place = put_labeled(out, at, b"region ", r as u32);
+    place = put_text(out, place, b" in ");
+    place = put_numbers(w, out, place, Numbers::Inputs(r));
+    place = put_labeled(out, place, b" limit ", fields::limit(w, r) as u32);
+    put_byte(out, place, b'\n')
+}
+
+fn put_exits(w: &[u16; WORDS], out: &mut [u8], at: usize, r: u16) -> usize
+    ensures { λ p. ⌜ ((g : Graph) → Stands (now (w .entry)) g → Wrote (buffer (now (out .entry)) at) (exits-line (region g r .exits)) (buffer (now (out .exit)) p)) ⌝ }
+{
+    let mut place = put_text(out, at, b"exits ");
+    place = put_numbers(w, out, place, Numbers::Exits(r));
+    put_byte(out, place, b'\n')
+}
+
+fn put_region(w: &[u16; WORDS], out: &mut [u8], at: usize, r: u16) -> usize
+    ensures { λ p. ⌜ ((g : Graph) → Stands (now (w .entry)) g → Wrote (buffer (now (out .entry)) at) (region-text r (region g r)) (buffer (now (out .exit)) p)) ⌝ }
+{
+    let mut place = put_region_head(w, out, at, r);
+    place = put_blocks(w, out, place, r);
+    place = put_terminator(w, out, place, r);
+    place = put_passes(w, out, place, r);
+    put_exits(w, out, place, r)
+}
+
+pub fn put_regions(w: &[u16; WORDS], out: &mut [u8], at: usize) -> usize
+    ensures { λ p. ⌜ ((g : Graph) → Stands (now (w .entry)) g → Wrote (buffer (now (out .entry)) at) (regions-text 0 (g .regions)) (buffer (now (out .exit)) p)) ⌝ }
+{
+    let n = fields::region_count(w);
+    let mut place = at;
+    let mut r: u16 = 0;
+    while r < n {
+        place = put_region(w, out, place, r);
+        r += 1;
+    }
+    place
+}

@@ -1,0 +1,58 @@
+use mathlib.Core.Path.{subst}
+use native.Mathlib.Omega.{arith}
+use borrow.Author.Needs.{needs}
+use Rattle.accept.specs.Accepts.{Accepts}
+use Rattle.show_text.specs.Shows.{record-shown, refusal-shown}
+use Rattle.show_text.proofs.show.Statement.{statement}
+use Rattle.show_text.proofs.show.Tie as tie
+
+accept-requires : tie.Need-accept-requires
+accept-requires c κs = search needs
+
+enum-told : tie.Need-enum-told
+enum-told c = search needs
+
+list-requires : tie.Need-list-requires
+list-requires c κs = search needs
+
+enum-known-verdict : tie.Need-enum-known-verdict
+enum-known-verdict c = search needs
+
+refusal-requires : tie.Need-refusal-requires
+refusal-requires c κs = search needs
+
+same-length : tie.Need-same-length
+same-length c = search needs
+
+returns : tie.Need-returns
+returns c =
+    let a = c .before .before .before .before .before .before .before .before .before .before .before .args in
+    record-shown (a .bytes .now) (a .words .now) (c .before .before .before .before .before .before .before .accept .last .1 .0) (a .out .now) _ _
+    (λ k. omega (arith, c .before .before .before .before .before .before .before .before .before .before .shared-slice-known .given k))
+    (subst (Accepts (a .bytes .now) (a .words .now) (c .before .before .before .before .before .before .before .accept .last .1 .0)) (c .before .before .before .before .before .enum-told .given .1) (c .before .before .before .before .before .before .before .accept .ensures))
+    (c .before .before .list .ensures)
+
+same-length-2 : tie.Need-same-length-2
+same-length-2 c = search needs
+
+returns-2 : tie.Need-returns-2
+returns-2 c =
+    let a = c .before .before .before .before .before .before .before .before .before .before .before .args in
+    refusal-shown (a .bytes .now) (a .words .now) (c .before .before .before .before .before .before .before .accept .last .1 .0) (a .out .now) _ _
+    (λ k. omega (arith, c .before .before .before .before .before .before .before .before .before .before .shared-slice-known .given k)) _ _
+    (subst (Accepts (a .bytes .now) (a .words .now) (c .before .before .before .before .before .before .before .accept .last .1 .0)) (c .before .before .before .before .before .verdict .given .1) (c .before .before .before .before .before .before .before .accept .ensures))
+    (c .before .before .refusal .ensures)
+
+pub show-spec : {M : Type 1} → statement M
+show-spec =
+    tie.close
+    (tie.spec
+    accept-requires
+    enum-told
+    list-requires
+    enum-known-verdict
+    refusal-requires
+    same-length
+    returns
+    same-length-2
+    returns-2)

@@ -1,0 +1,55 @@
+-- What is shown of a store: its refusal's line, or its record as text.
+use mathlib.Core.Path.{_≡_, refl, subst, _∙_}
+use mathlib.Core.List.{List}
+use Prim.Native.Nat.{ℕ, _≤_}
+use native.Mathlib.Omega.{arith}
+use lib.ListN.{length}
+use borrow.Author.Tests.{le-leb}
+use Rattle.meaning.specs.Graph.{Graph}
+use Rattle.format.specs.Store.{Answer, accepted, refused}
+use Rattle.format.specs.Accept.{accept}
+use Rattle.meaning.specs.facts.Tests.{clash}
+use Rattle.record.specs.Outcome.{forget}
+use Rattle.record.specs.Stands.{Stands}
+use Rattle.text.specs.declared.Written.{Written}
+use Rattle.text.specs.declared.Written.the-variants.{Bytes, Full}
+use Rattle.text.specs.Whole.{Whole}
+use Rattle.accept.specs.declared.Accepted.{Accepted}
+use Rattle.accept.specs.declared.Accepted.the-variants.{Record, Refused}
+use Rattle.accept.specs.Accepts.{Accepts}
+use Rattle.record_text.specs.Listing.{listing-of, refusal-text, shown-text}
+use Rattle.record_text.specs.Fits.{AllBytes, shown-fits}
+
+-- The text is that of the definition's answer; the lent words are as accepting the store leaves them. 65,536 bytes are always room enough.
+pub record Shows (s old new before after : List ℕ) (r : Written) : Type 0 where
+  pub text : Whole (shown-text (accept s)) before after r
+  pub fits : 65536 ≤ length before → r ≡ Bytes (length (shown-text (accept s)))
+  pub verdict : Accepted
+  pub words : Accepts s old new verdict
+
+module _ (s old new before after : List ℕ) (r : Written) (bytes : AllBytes s) where
+  room-enough : Whole (shown-text (accept s)) before after r → 65536 ≤ length before → r ≡ Bytes (length (shown-text (accept s)))
+  room-enough w l = w .answer ∙ rw (le-leb (length (shown-text (accept s))) (length before) (omega (arith, shown-fits s bytes)))
+
+  pub record-shown : Accepts s old new Record → ((g : Graph) → Stands new g → Whole (listing-of g) before after r) → Shows s old new before after r
+  record-shown a h =
+      let text = by-answer (accept s) refl (a .answer) in
+      record { text = text; fits = room-enough text; verdict = Record; words = a }
+    where
+      by-answer : (x : Answer Graph) → accept s ≡ x → accepted tt ≡ forget x → Whole (shown-text x) before after r
+      by-answer (accepted g) q e = h g (a .stands g q)
+      by-answer (refused n w) q e = absurd (clash (cc))
+
+  pub refusal-shown : (n w : ℕ) → Accepts s old new (Refused n w) → Whole (refusal-text n w) before after r → Shows s old new before after r
+  refusal-shown n w a h =
+      let text = by-answer (accept s) (a .answer) in
+      record { text = text; fits = room-enough text; verdict = Refused n w; words = a }
+    where
+      by-answer : (x : Answer Graph) → refused n w ≡ forget x → Whole (shown-text x) before after r
+      by-answer (accepted g) e = absurd (clash (cc))
+      by-answer (refused m v) e =
+          let same : _≡_ {A = Answer Graph} (refused n w) (refused m v) = cc in
+          subst (λ x. Whole (shown-text x) before after r) same h
+
+pub never-full : {s old new before after : List ℕ} {r : Written} → Shows s old new before after r → 65536 ≤ length before → r ≡ Full → ⊥
+never-full x l full = let whole = x .fits l in clash (cc)
