@@ -8,7 +8,7 @@ use Prim.Native.Nat.{ℕ, _+_, _-_, _*_, _≤_}
 use lib.ListN.{length}
 use Rattle.meaning.specs.Graph.{Value, Graph, region, edges-of}
 use Rattle.meaning.specs.Lists.{total, is-in, Distinct}
-use Rattle.meaning.specs.Runs.{Nodes, Given, Ended, graph-run, NestedEnded, nested-run}
+use Rattle.meaning.specs.Runs.{Nodes, Given, Ended, graph-run, NestedEnded, ends-as, nested-run}
 use Rattle.format.specs.Store.{accepted}
 use Rattle.format.specs.Accept.{accept}
 use Rattle.format.specs.Valid.{Valid}
@@ -27,7 +27,7 @@ pub data HasForm (n : Nested) : Option (List Value) → Type 0 where
 pub record Followed (g : Graph) (x : Given) (ks : Nodes) (outs : Option (List Value)) (e : Ended) : Type 0 where
   pub budget : ℕ
   pub run : NestedEnded
-  pub ends : nested-run g x ks outs budget ≡ some run
+  pub ends : nested-run g x ks outs budget ≡ ends-as run
   pub end : run .end ≡ e .end
   pub events : run .events ≡ e .events
 
@@ -44,7 +44,7 @@ Follows = (g : Graph) → Valid g → (n : Nested) → structurize-func g ≡ ac
 abbrev pub Bounded : Type 0
 Bounded =
     (g : Graph) (x : Given) (ks : Nodes) (outs : Option (List Value)) (b : ℕ) (e : NestedEnded)
-    → nested-run g x ks outs b ≡ some e → e .over-limit ≡ false → e .cost ≤ figure (g .test-cost) ks
+    → nested-run g x ks outs b ≡ ends-as e → e .over-limit ≡ false → e .cost ≤ figure (g .test-cost) ks
 
 -- 3. ATTEMPTS. At most 1 + e + n × (2n - 1), for n reachable regions and e edges that lead from them. The list of
 -- reachable regions is just what the entry reaches, each once.
@@ -76,7 +76,7 @@ pub record SoundSheet (store : List ℕ) (s : Sheet) : Type 0 where
   pub shows : s ≡ sheet-of graph nest
   pub follows : FollowsRun graph nest
   pub bounded : (outs : Option (List Value)) → HasForm nest outs → (x : Given) (b : ℕ) (e : NestedEnded)
-      → nested-run graph x (nest .entry .children) outs b ≡ some e → e .over-limit ≡ false → e .cost ≤ s .figure
+      → nested-run graph x (nest .entry .children) outs b ≡ ends-as e → e .over-limit ≡ false → e .cost ≤ s .figure
   pub attempts : FewAttempts graph (s .attempts)
 
 abbrev pub Sound : Type 0

@@ -7,7 +7,8 @@ use lib.Dec.{eqb}
 
 -- A value. Kinds 0, 4 and 5 (constant, bool, undef) are the Rust's Value::Const; `output` and `held` arise only in nesting.
 -- `output o` is the node output that was defined as number o, counted over all nodes from 0; the sheet shows its node and place.
--- `held r k` is input k of region r after the renumbering of a loop: document 01's marked input, never rewritten again.
+-- `held r k` is input k of region r after the renumbering of a loop: document 01's marked input, never rewritten again; what nesting
+-- answers has none.
 -- `no-value` is what names nothing; only a record that the references refuse has it.
 pub data Value : Type 0 where
   const : ℕ → Value

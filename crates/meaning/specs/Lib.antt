@@ -4,3 +4,4 @@ pub mod Text
 pub mod Runs
 pub mod facts
 pub mod laws
+pub mod cases

@@ -14,13 +14,33 @@ pub record OutputDecl : Type 0 where
   pub number : ℕ
   pub type : ℕ
 
+pub record SelectNode : Type 0 where
+  pub number : ℕ
+  pub kind : SelectionKind
+  pub scrutinee : Value
+  pub outputs : List OutputDecl
+
+-- A case of a select: its region, and what it gives for the select's outputs.
+pub record CaseRegion : Type 0 where
+  pub region : ℕ
+  pub outputs : List Value
+
+-- A loop: `body` is its body's region, `types` are those of the body inputs, `limit` is the header's turn limit; `outputs` are the body's.
+pub record LoopNode : Type 0 where
+  pub number : ℕ
+  pub initial-inputs : List Value
+  pub body : ℕ
+  pub types : List ℕ
+  pub limit : ℕ
+  pub outputs : List Value
+  pub repeat : Value
+
 infixr 40 _▸_
 mutual
   pub data Node : Type 0 where
     block : ℕ → ℕ → ℕ → List Instr → Node  -- number, region, index of the first instruction, the instructions
-    select : ℕ → SelectionKind → Value → List OutputDecl → Cases → Node  -- number, kind, scrutinee, outputs, cases
-    -- number, initial inputs, body region, body input types, turn limit of the header, body, body outputs, repeat condition
-    loop : ℕ → List Value → ℕ → List ℕ → ℕ → Nodes → List Value → Value → Node
+    select : SelectNode → Cases → Node
+    loop : LoopNode → Nodes → Node  -- with the body's children
     exit : ℕ → ℕ → List Value → Node  -- number, opcode, values
 
   -- The children of a region, in order.
@@ -30,7 +50,7 @@ mutual
 
   pub data Cases : Type 0 where
     ∅ : Cases
-    case : ℕ → Nodes → List Value → Cases → Cases  -- region, children, outputs, the other cases
+    case : CaseRegion → Nodes → Cases → Cases  -- with its children, and the other cases
 
 -- ---- what both runs share: words, environments, events, ends, and a block carried out
 -- A 32-bit word, or what an undefined value reads as: the mark, which is no word.
@@ -162,26 +182,28 @@ unfoldable pub graph-run : Graph → Given → ℕ → Option Ended
 graph-run g x n = run-from (x .rule) g (base-env x) n (g .entry) (entry-words g x) []
 
 -- ---- the nested run, within a number of turns for each loop
--- A run of nodes comes through, or is ended by an exit, or neither: a mark was tested, or the turns are used up.
+-- What is no end of a nested run. `turns-used-up` alone is the budget's doing.
+pub data NoEnd : Type 0 where
+  turns-used-up : NoEnd  -- a loop went on beyond the turns that the run is given
+  tested-mark : NoEnd  -- a mark was tested
+  ran-off : NoEnd  -- the run came through a closed form
+  no-case : NoEnd  -- a select has no case at the place taken
+
+-- A run of nodes comes through, or is ended by an exit, or comes to no end.
 pub data Ran : Type 0 where
   through : RunState → Ran
   ended : End → RunState → Ran
-  no-end : Ran
+  no-end : NoEnd → Ran
 
 abbrev pub and-then : Ran → (RunState → Ran) → Ran
 and-then (through s) k = k s
 and-then (ended e s) k = ended e s
-and-then no-end k = no-end
+and-then (no-end x) k = no-end x
 
 -- A test goes on with the word tested.
 abbrev pub tested : Word → (ℕ → Ran) → Ran
-tested mark k = no-end
+tested mark k = no-end tested-mark
 tested (word w) k = k w
-
--- After a turn's test: any word but 0 is once more.
-abbrev pub once-more : (RunState → Ran) → ℕ → RunState → Ran
-once-more again zero s = through s
-once-more again (suc w) s = again s
 
 abbrev pub pay : ℕ → RunState → RunState
 pay c s = record { env = s .env; events = s .events; cost = s .cost + c; over-limit = s .over-limit }
@@ -195,7 +217,16 @@ copied given vs s = record { env = given (map (s .env) vs) (s .env); events = s 
 
 -- The body inputs of a loop become the values, all at once.
 abbrev pub assign-inputs : ℕ → List Value → RunState → RunState
-assign-inputs r vs s = copied (put-inputs (λ k. held r k) 0) vs s
+assign-inputs r vs s = copied (put-inputs (λ k. input r k) 0) vs s
+
+-- At the end of its last turn a loop copies the body's outputs too, to nowhere: later uses see the inputs of that turn.
+abbrev pub leave-loop : List Value → RunState → RunState
+leave-loop vs s = copied (λ ws σ. σ) vs s
+
+-- After a turn's test, with the body's outputs: any word but 0 is once more.
+abbrev pub once-more : (RunState → Ran) → List Value → ℕ → RunState → Ran
+once-more again vs zero s = through (leave-loop vs s)
+once-more again vs (suc w) s = again s
 
 unfoldable pub put-outputs : List OutputDecl → List Word → Env → Env
 put-outputs [] ws σ = σ
@@ -208,35 +239,35 @@ assign-outputs os vs s = copied (put-outputs os) vs s
 
 abbrev pub case-count : Cases → ℕ
 case-count ∅ = 0
-case-count (case r ks vs cs) = suc (case-count cs)
+case-count (case c ks cs) = suc (case-count cs)
 
 module _ (rule : Rule) (test-cost : ℕ) where
-  -- A loop's turns: the turns left, the turns made, how the body runs, the body region, its turn limit, its outputs, its repeat value.
-  -- The test at a turn's end costs; the body inputs change only if it is true, so later uses see the last turn.
-  unfoldable pub turns : ℕ → ℕ → (RunState → Ran) → ℕ → ℕ → List Value → Value → RunState → Ran
-  turns zero made body r limit vs v s = no-end
-  turns (suc n) made body r limit vs v s =
-      and-then (body (note-over (leb limit made) s)) λ s′. tested (s′ .env v) λ w.
-      once-more (λ s″. turns n (suc made) body r limit vs v (assign-inputs r vs s″)) w (pay test-cost s′)
+  -- A loop's turns: the turns left, the turns made, the loop, how its body runs.
+  -- The test at a turn's end costs; the body inputs change only if it is true.
+  unfoldable pub turns : ℕ → ℕ → LoopNode → (RunState → Ran) → RunState → Ran
+  turns zero made x run s = no-end turns-used-up
+  turns (suc n) made x run s =
+      and-then (run (note-over (leb (x .limit) made) s)) λ s′. tested (s′ .env (x .repeat)) λ w.
+      once-more (λ s″. turns n (suc made) x run (assign-inputs (x .body) (x .outputs) s″)) (x .outputs) w (pay test-cost s′)
 
   unfoldable mutual
     -- A select tests its scrutinee and runs one case; a loop runs its turns; an exit ends the run.
     pub run-node : ℕ → Node → RunState → Ran
     run-node n (block b r k is) s = through (do-block rule r k is s)
-    run-node n (select b kind v os cs) s =
-        tested (s .env v) λ w. run-case n cs (place-taken kind w (case-count cs)) os (pay test-cost s)
-    run-node n (loop b vs r ts limit ks us v) s =
-        turns n 0 (λ s′. run-nodes n ks s′) r limit us v (assign-inputs r vs s)
+    run-node n (select x cs) s =
+        tested (s .env (x .scrutinee)) λ w. run-case n cs (place-taken (x .kind) w (case-count cs)) (x .outputs) (pay test-cost s)
+    run-node n (loop x ks) s = turns n 0 x (λ s′. run-nodes n ks s′) (assign-inputs (x .body) (x .initial-inputs) s)
     run-node n (exit b op vs) s = ended (exited op (map (s .env) vs)) s
 
     pub run-nodes : ℕ → Nodes → RunState → Ran
     run-nodes n ⟨⟩ s = through s
     run-nodes n (k ▸ ks) s = and-then (run-node n k s) λ s′. run-nodes n ks s′
 
+    -- The case at a place; its outputs become the select's.
     pub run-case : ℕ → Cases → ℕ → List OutputDecl → RunState → Ran
-    run-case n ∅ j os s = no-end
-    run-case n (case r ks vs cs) zero os s = and-then (run-nodes n ks s) λ s′. through (assign-outputs os vs s′)
-    run-case n (case r ks vs cs) (suc j) os s = run-case n cs j os s
+    run-case n ∅ j os s = no-end no-case
+    run-case n (case c ks cs) zero os s = and-then (run-nodes n ks s) λ s′. through (assign-outputs os (c .outputs) s′)
+    run-case n (case c ks cs) (suc j) os s = run-case n cs j os s
 
 -- What a nested run shows: its end, its events, the latest first, its cost, and whether some loop passed its turn limit.
 pub record NestedEnded : Type 0 where
@@ -248,16 +279,20 @@ pub record NestedEnded : Type 0 where
 abbrev pub ended-at : End → RunState → NestedEnded
 ended-at e s = record { end = e; events = s .events; cost = s .cost; over-limit = s .over-limit }
 
+pub data NestedRun : Type 0 where
+  ends-as : NestedEnded → NestedRun
+  without-end : NoEnd → NestedRun
+
 -- After the last child a whole form returns the entry's outputs; running off a closed form is no end.
-abbrev pub after-last : Option (List Value) → Ran → Option NestedEnded
-after-last outs no-end = none
-after-last outs (ended e s) = some (ended-at e s)
-after-last none (through s) = none
-after-last (some vs) (through s) = some (ended-at (returned (map (s .env) vs)) s)
+abbrev pub after-last : Option (List Value) → Ran → NestedRun
+after-last outs (no-end x) = without-end x
+after-last outs (ended e s) = ends-as (ended-at e s)
+after-last none (through s) = without-end ran-off
+after-last (some vs) (through s) = ends-as (ended-at (returned (map (s .env) vs)) s)
 
 abbrev pub start : Graph → Given → RunState
 start g x = enter (base-env x) (g .entry) (entry-words g x) []
 
 -- The nested run of a form's children with the entry's outputs (none for a closed form), within a number of turns for each loop.
-unfoldable pub nested-run : Graph → Given → Nodes → Option (List Value) → ℕ → Option NestedEnded
+unfoldable pub nested-run : Graph → Given → Nodes → Option (List Value) → ℕ → NestedRun
 nested-run g x ks outs n = after-last outs (run-nodes (x .rule) (g .test-cost) n ks (start g x))

@@ -7,7 +7,7 @@ use lib.Dec.{ltb, eqb}
 use mathlib.Core.Option.{Option, none, some}
 use Rattle.meaning.specs.Lists.{any, all, filter, empty, is-some, total, times-in, numbers-from, is-in}
 use Rattle.meaning.specs.Graph.{Value, SelectionKind, output, const, input, instr, bool, undef, held, same-value, pick, bool-cond, number, Instr, Region, Graph, region, edges-of, targets-of, Edge, ControlInst, unreachable, return, exit-invocation, branch, select-branch, no-value}
-use Rattle.meaning.specs.Runs.{Nodes, ⟨⟩, _▸_, block, select, Cases, ∅, case, loop, exit, OutputDecl, Node}
+use Rattle.meaning.specs.Runs.{Nodes, ⟨⟩, _▸_, block, select, Cases, ∅, case, loop, exit, OutputDecl, SelectNode, CaseRegion, LoopNode, Node}
 use Rattle.format.specs.References.{return-types}
 use Rattle.format.specs.Store.{accepted, refused}
 use Rattle.format.specs.Store
@@ -108,7 +108,7 @@ _>>=_ x k s = follow (x s) k
 abbrev pub _>>_ : {A B : Type 0} → Step A → Step B → Step B
 _>>_ x y s = follow (x s) (λ a. y)
 
--- ---- Changes of the state, and the definitions that a limit stops (refusal 9): regions, nodes, lazy condition records, node outputs.
+-- ---- Changes of the state, and the definitions that a limit stops (refusal 9).
 -- A state by its fields, in their order.
 abbrev pub nest-state : List StructurizeRegionState → List RewriteEntry → List NodeOutput → ℕ → ℕ → ℕ → ℕ → Bool → NestState
 nest-state states rewrites outputs regions nodes merges tries met =
@@ -124,33 +124,57 @@ nest-state states rewrites outputs regions nodes merges tries met =
     }
 
 abbrev pub with-tables : List StructurizeRegionState → List RewriteEntry → List NodeOutput → NestState → NestState
-with-tables states rewrites outputs s = nest-state states rewrites outputs (s .region-count) (s .node-count) (s .merge-count) (s .attempts) (s .twice)
+with-tables states rewrites outputs s =
+    nest-state states rewrites outputs (s .region-count) (s .node-count) (s .merge-count) (s .attempts) (s .twice)
 
 abbrev pub with-counts : ℕ → ℕ → ℕ → ℕ → NestState → NestState
-with-counts regions nodes merges tries s = nest-state (s .region-states) (s .region-input-rewrites) (s .node-outputs) regions nodes merges tries (s .twice)
+with-counts regions nodes merges tries s =
+    nest-state (s .region-states) (s .region-input-rewrites) (s .node-outputs) regions nodes merges tries (s .twice)
 
 abbrev pub with-twice : Bool → NestState → NestState
-with-twice x s = nest-state (s .region-states) (s .region-input-rewrites) (s .node-outputs) (s .region-count) (s .node-count) (s .merge-count) (s .attempts) (s .twice || x)
+with-twice x s =
+    nest-state (s .region-states) (s .region-input-rewrites) (s .node-outputs)
+    (s .region-count) (s .node-count) (s .merge-count) (s .attempts) (s .twice || x)
+
+-- Document 01's limits: regions, nodes, lazy condition records, node outputs.
+abbrev pub most-regions : ℕ
+most-regions = 128
+
+abbrev pub most-nodes : ℕ
+most-nodes = 512
+
+abbrev pub most-merges : ℕ
+most-merges = 512
+
+abbrev pub most-outputs : ℕ
+most-outputs = 512
 
 -- A definition where n are defined already, with its limit: the first beyond is refused.
 abbrev pub define : {A : Type 0} → ℕ → ℕ → A → NestState → StepAnswer A
 define n limit a s = elim (ltb n limit) [ true ↦ done a s | false ↦ turned-away 9 0 ]
 
 unfoldable pub define-region : Step ℕ
-define-region s = define (s .region-count) 128 (s .region-count) (with-counts (suc (s .region-count)) (s .node-count) (s .merge-count) (s .attempts) s)
+define-region s =
+    define (s .region-count) most-regions (s .region-count)
+    (with-counts (suc (s .region-count)) (s .node-count) (s .merge-count) (s .attempts) s)
 
 unfoldable pub define-node : Step ℕ
-define-node s = define (s .node-count) 512 (s .node-count) (with-counts (s .region-count) (suc (s .node-count)) (s .merge-count) (s .attempts) s)
+define-node s =
+    define (s .node-count) most-nodes (s .node-count)
+    (with-counts (s .region-count) (suc (s .node-count)) (s .merge-count) (s .attempts) s)
 
 -- A lazy condition record, the Rust's LazyCondMerge.
 unfoldable pub define-merge : Step Unit
-define-merge s = define (s .merge-count) 512 tt (with-counts (s .region-count) (s .node-count) (suc (s .merge-count)) (s .attempts) s)
+define-merge s =
+    define (s .merge-count) most-merges tt
+    (with-counts (s .region-count) (s .node-count) (suc (s .merge-count)) (s .attempts) s)
 
 -- An output of a node, of this type, with its value in look-up-each case.
 unfoldable pub define-output : ℕ → ℕ → List Value → Step Value
 define-output n type vs s =
     let more = s .node-outputs ++ (record { node = n; type = type; values = vs } ∷ []) in
-    define (length (s .node-outputs)) 512 (output (length (s .node-outputs))) (with-tables (s .region-states) (s .region-input-rewrites) more s)
+    define (length (s .node-outputs)) most-outputs (output (length (s .node-outputs)))
+    (with-tables (s .region-states) (s .region-input-rewrites) more s)
 
 abbrev pub get-state : ℕ → Step StructurizeRegionState
 get-state r s = done (getD (s .region-states) r not-begun) s
@@ -163,7 +187,9 @@ abbrev pub count-attempt : Step Unit
 count-attempt s = done tt (with-counts (s .region-count) (s .node-count) (s .merge-count) (suc (s .attempts)) s)
 
 abbrev pub insert-rewrites : ℕ → RegionInputRewrites → Step Unit
-insert-rewrites r x s = done tt (with-tables (s .region-states) (s .region-input-rewrites ++ (record { region = r; rewrites = x } ∷ [])) (s .node-outputs) s)
+insert-rewrites r x s =
+    let entry : RewriteEntry = record { region = r; rewrites = x } in
+    done tt (with-tables (s .region-states) (s .region-input-rewrites ++ (entry ∷ [])) (s .node-outputs) s)
 
 -- ---- Look-ups, the Rust's RegionInputRewrites::rewrite_all, with document 01's mark; and the note `twice`.
 abbrev pub rewrites-of : List RewriteEntry → ℕ → Option RegionInputRewrites
@@ -219,6 +245,20 @@ _⊛_ f a = record { value = f .value (a .value); twice = f .twice || a .twice }
 
 abbrev pub look-up-each : {A B : Type 0} → (A → LookUp B) → List A → LookUp (List B)
 look-up-each f xs = record { value = map (λ x. f x .value) xs; twice = any (λ x. f x .twice) xs }
+
+-- The mark is nesting's own. The last look-up takes it off: a marked input is the body input of its loop, under its new number.
+abbrev pub unmarked : Value → Value
+unmarked (held r k) = input r k
+unmarked (const i) = const i
+unmarked (input r k) = input r k
+unmarked (instr r k) = instr r k
+unmarked (output o) = output o
+unmarked (bool b) = bool b
+unmarked (undef ty) = undef ty
+unmarked no-value = no-value
+
+abbrev pub look-up-last : List RewriteEntry → Value → LookUp Value
+look-up-last es v = plain unmarked ⊛ look-up es v
 
 -- The step that looks up takes the note, and changes no table.
 abbrev pub note : {A : Type 0} → LookUp A → Step A
@@ -321,7 +361,8 @@ has-children (n ▸ ns) = true
 unfoldable pub append-maybe-claimed-region : Nodes → MaybeClaimedRegion → Step Body
 append-maybe-claimed-region parent (err d) = give (region-body parent d)
 append-maybe-claimed-region parent (ok c) =
-    insert-rewrites (c .structured-body) (replace-with (c .structured-body-inputs)) >> give (region-body (join parent (c .children)) (c .deferred-edges))
+    insert-rewrites (c .structured-body) (replace-with (c .structured-body-inputs))
+    >> give (region-body (join parent (c .children)) (c .deferred-edges))
 
 -- The convergent cases, those not Unreachable; and all cases with these taken out, an Unreachable one in the place of look-up-each.
 abbrev pub convergent-cases : List MaybeClaimedRegion → List MaybeClaimedRegion
@@ -443,7 +484,8 @@ module _ (g : Graph) where
   plan-bundle cs w =
       let ps = map (λ c. per-case-deferred (w .target) (deferred-of c)) cs in
       let inputs = plan-inputs (w .input-count) 0 (w .target) cs ps in
-      record { target = w .target; total-edge-count = w .total-edge-count; inputs = inputs; condition = pick (all-true ps) none (some (conditions-of ps)) }
+      let condition = pick (all-true ps) none (some (conditions-of ps)) in
+      record { target = w .target; total-edge-count = w .total-edge-count; inputs = inputs; condition = condition }
 
   abbrev pub plan-bundles : List MaybeClaimedRegion → List PlannedBundle
   plan-bundles cs = map (plan-bundle cs) (deferred-targets cs [])
@@ -469,11 +511,18 @@ look-up-case ρ (ok c) =
 unfoldable pub rewrite-cases : List MaybeClaimedRegion → Step (List MaybeClaimedRegion)
 rewrite-cases cs s = note (look-up-each (look-up-case (look-up (s .region-input-rewrites))) cs) s
 
--- The select's cases: a claimed region with its children, or a new region. Outputs are added by the last rewriting.
+-- A case and a select as they are made: their outputs are added by the last rewriting.
+abbrev pub new-case : ℕ → Nodes → Cases → Cases
+new-case r ks cs = case (record { region = r; outputs = [] }) ks cs
+
+abbrev pub new-select : ℕ → SelectionKind → Value → Cases → Node
+new-select n kind v cs = select (record { number = n; kind = kind; scrutinee = v; outputs = [] }) cs
+
+-- The select's cases: a claimed region with its children, or a new region.
 unfoldable pub case-regions : List MaybeClaimedRegion → Step Cases
 case-regions [] = give ∅
-case-regions (err d ∷ cs) = define-region >>= λ r. case-regions cs >>= λ rest. give (case r ⟨⟩ [] rest)
-case-regions (ok c ∷ cs) = case-regions cs >>= λ rest. give (case (c .structured-body) (c .children) [] rest)
+case-regions (err d ∷ cs) = define-region >>= λ r. case-regions cs >>= λ rest. give (new-case r ⟨⟩ rest)
+case-regions (ok c ∷ cs) = case-regions cs >>= λ rest. give (new-case (c .structured-body) (c .children) rest)
 
 abbrev pub scrutinee-value : Scrutinee → Step Value
 scrutinee-value (value v) = give v
@@ -491,7 +540,7 @@ define-select kind scrutinee cases = do
   cs ← case-regions cases
   v ← scrutinee-value scrutinee
   n ← define-node
-  give (record { node = n; kind = kind; scrutinee = v; children = select n kind v [] cs ▸ ⟨⟩ })
+  give (record { node = n; kind = kind; scrutinee = v; children = new-select n kind v cs ▸ ⟨⟩ })
 
 -- Outputs and conditions of the select, in the order of its deferred targets.
 unfoldable pub emit-inputs : DefinedSelect → List PlannedInput → Step (List Value)
@@ -551,7 +600,7 @@ module _ (g : Graph) where
 -- ---- Reachable regions, and document 01's incoming counts.
 module _ (g : Graph) where
   -- The loop exit targets of a region, the Rust's loop_header_to_exit_targets: the record's own exit list.
-  abbrev pub exit-targets : ℕ → List ℕ
+  unfoldable pub exit-targets : ℕ → List ℕ
   exit-targets r = region g r .exits
 
   unfoldable pub visit : ℕ → List ℕ → List ℕ → List ℕ  -- fuel, regions to visit, regions visited
@@ -587,11 +636,17 @@ abbrev pub keep-input : ℕ → ℕ → ℕ → Value → LoopInputs → LoopInp
 keep-input wrapper k ty v x =
     let number = renumber-to (length (x .initial-inputs)) in
     let initial = x .initial-inputs ++ (input wrapper k ∷ []) in
-    record { rewrites = x .rewrites ++ (number ∷ []); initial-inputs = initial; types = x .types ++ (ty ∷ []); outputs = x .outputs ++ (v ∷ []) }
+    record {
+      rewrites = x .rewrites ++ (number ∷ []);
+      initial-inputs = initial;
+      types = x .types ++ (ty ∷ []);
+      outputs = x .outputs ++ (v ∷ []);
+    }
 
 abbrev pub lift-input : ℕ → ℕ → LoopInputs → LoopInputs
 lift-input wrapper k x =
-    record { rewrites = x .rewrites ++ (replace-by (input wrapper k) ∷ []); initial-inputs = x .initial-inputs; types = x .types; outputs = x .outputs }
+    let lifted = x .rewrites ++ (replace-by (input wrapper k) ∷ []) in
+    record { rewrites = lifted; initial-inputs = x .initial-inputs; types = x .types; outputs = x .outputs }
 
 -- A claimed loop adds ONE to look-up-each deferred target in its exit list, once.
 abbrev pub add-exit-edge : List ℕ → DeferredEdgeBundle → DeferredEdgeBundle
@@ -602,15 +657,22 @@ add-exit-edge xs e =
 module _ (g : Graph) where
   -- An input that is passed back unchanged is lifted out of the loop.
   abbrev pub take-input : ℕ → ℕ → ℕ → Value → LoopInputs → LoopInputs
-  take-input r wrapper k v x = pick (same-value v (input r k)) (lift-input wrapper k x) (keep-input wrapper k (getD (region g r .inputs) k 0) v x)
+  take-input r wrapper k v x =
+      pick (same-value v (input r k)) (lift-input wrapper k x) (keep-input wrapper k (getD (region g r .inputs) k 0) v x)
 
   abbrev pub take-inputs : ℕ → ℕ → ℕ → List Value → LoopInputs → LoopInputs
   take-inputs r wrapper k [] x = x
   take-inputs r wrapper k (v ∷ vs) x = take-inputs r wrapper (suc k) vs (take-input r wrapper k v x)
 
+  abbrev pub loop-node : ℕ → ℕ → LoopInputs → Value → LoopNode  -- number, header, its inputs taken, repeat value
+  loop-node n r x v =
+      let limit = region g r .limit in
+      record { number = n; initial-inputs = x .initial-inputs; body = r; types = x .types; limit = limit; outputs = x .outputs; repeat = v }
+
   -- The Rust's order of definitions: wrapper region, look-ups, repeat condition, node.
   -- body region, its children, the back edge, the repeat condition, the other deferred edges, the inputs from outside
-  unfoldable pub structurize-loop : ℕ → Nodes → DeferredEdgeBundle → LazyCond → DeferredEdgeBundleSet → List Value → Step (Option ClaimedRegion)
+  unfoldable pub structurize-loop : ℕ → Nodes → DeferredEdgeBundle → LazyCond → DeferredEdgeBundleSet → List Value
+      → Step (Option ClaimedRegion)
   structurize-loop body children backedge repeat exits inputs = do
     wrapper ← define-region
     vs ← rewrite-values (backedge .target-inputs)
@@ -618,7 +680,7 @@ module _ (g : Graph) where
     insert-rewrites body (renumber-or-replace-with (x .rewrites))
     v ← materialize-lazy-cond repeat
     n ← define-node
-    let looped = loop n (x .initial-inputs) body (x .types) (region g body .limit) children (x .outputs) v ▸ ⟨⟩
+    let looped = loop (loop-node n body x v) children ▸ ⟨⟩
     give (some (claimed-as body wrapper inputs looped (map (add-exit-edge (exit-targets g body)) exits)))
 
 -- ---- The Rust's try_claim_edge_bundle and structurize_region, which call look-up-each other.
@@ -652,7 +714,8 @@ edge-case e (some c) = give (ok c)
 edge-case e none = get-state (e .target) >>= λ x. give (unclaimed-edge e x)
 
 -- bundle, the others, the rest of the scan
-abbrev pub split-out-or : DeferredEdgeBundle → DeferredEdgeBundleSet → Step (Option SplitOut) → Option ClaimedRegion → Step (Option SplitOut)
+abbrev pub split-out-or : DeferredEdgeBundle → DeferredEdgeBundleSet → Step (Option SplitOut) → Option ClaimedRegion
+    → Step (Option SplitOut)
 split-out-or e others more none = more
 split-out-or e others more (some c) = give (some (record { bundle = e; claimed-region = c; others = others }))
 
@@ -686,7 +749,8 @@ module _ (g : Graph) where
   abbrev pub resolve-by : (Body → Step Body) → Body → Option SplitOut → Step Body
   resolve-by go x none = give x
   resolve-by go x (some y) =
-      structurize-select-into g (x .children) bool-cond (lazy (condition-in (x .deferred-edges) (y .bundle))) (ok (y .claimed-region) ∷ err (y .others) ∷ []) >>= go
+      structurize-select-into g (x .children) bool-cond (lazy (condition-in (x .deferred-edges) (y .bundle)))
+      (ok (y .claimed-region) ∷ err (y .others) ∷ []) >>= go
 
   -- Structurizing a region, over a way to claim.
   module _ (claim : Claim) where
@@ -703,7 +767,10 @@ module _ (g : Graph) where
     split-out-matching before [] = give none
     split-out-matching before (e ∷ es) =
         let more = split-out-matching (before ++ (e ∷ [])) es in
-        elim (e .target) [ to-return ↦ more | to-region r ↦ claim r (e .accumulated-count) (e .target-inputs) >>= split-out-or e (before ++ es) more ]
+        elim (e .target) [
+          | to-return ↦ more
+          | to-region r ↦ claim r (e .accumulated-count) (e .target-inputs) >>= split-out-or e (before ++ es) more
+        ]
 
     -- Until no deferred edge can be claimed. Each turn but the last claims a region, so the fuel is enough.
     unfoldable pub resolve-deferred : ℕ → Body → Step Body
@@ -731,7 +798,8 @@ module _ (g : Graph) where
 -- The outputs of a node; the declarations count the table's entries from a number on.
 abbrev pub output-decls : ℕ → ℕ → List NodeOutput → List OutputDecl
 output-decls n k [] = []
-output-decls n k (o ∷ os) = pick (eqb n (o .node)) (record { number = k; type = o .type } ∷ output-decls n (suc k) os) (output-decls n (suc k) os)
+output-decls n k (o ∷ os) =
+    pick (eqb n (o .node)) (record { number = k; type = o .type } ∷ output-decls n (suc k) os) (output-decls n (suc k) os)
 
 abbrev pub case-outputs : ℕ → ℕ → List NodeOutput → List Value  -- of node n in the case at place j
 case-outputs n j os = map (λ o. getD (o .values) j (undef 0)) (filter (λ o. eqb n (o .node)) os)
@@ -741,14 +809,31 @@ look-up-reads ρ i =
     let vs = look-up-each ρ (i .reads) in
     record { value = record { opcode = i .opcode; type = i .type; cost = i .cost; reads = vs .value }; twice = vs .twice }
 
+abbrev pub with-values : LoopNode → List Value → List Value → Value → LoopNode  -- initial inputs, outputs, repeat value
+with-values x vs us v =
+    record { number = x .number; initial-inputs = vs; body = x .body; types = x .types; limit = x .limit; outputs = us; repeat = v }
+
 -- ρ is the look-up, os all outputs that were defined.
 module _ (ρ : Value → LookUp Value) (os : List NodeOutput) where
+  abbrev pub look-up-select : SelectNode → LookUp SelectNode
+  look-up-select x =
+      let v = ρ (x .scrutinee) in
+      let outputs = output-decls (x .number) 0 os in
+      record { value = record { number = x .number; kind = x .kind; scrutinee = v .value; outputs = outputs }; twice = v .twice }
+
+  abbrev pub look-up-case-region : CaseRegion → ℕ → ℕ → LookUp CaseRegion  -- of node n, at place j
+  look-up-case-region c n j =
+      let vs = look-up-each ρ (case-outputs n j os) in
+      record { value = record { region = c .region; outputs = vs .value }; twice = vs .twice }
+
+  abbrev pub look-up-loop : LoopNode → LookUp LoopNode
+  look-up-loop x = plain (with-values x) ⊛ look-up-each ρ (x .initial-inputs) ⊛ look-up-each ρ (x .outputs) ⊛ ρ (x .repeat)
+
   unfoldable mutual
     pub look-up-node : Node → LookUp Node
     look-up-node (block n r k is) = plain (block n r k) ⊛ look-up-each (look-up-reads ρ) is
-    look-up-node (select n kind v decls cs) = plain (select n kind) ⊛ ρ v ⊛ plain (output-decls n 0 os) ⊛ look-up-cases cs n 0
-    look-up-node (loop n initial r types limit body outputs repeat) =
-        plain (loop n) ⊛ look-up-each ρ initial ⊛ plain r ⊛ plain types ⊛ plain limit ⊛ look-up-nodes body ⊛ look-up-each ρ outputs ⊛ ρ repeat
+    look-up-node (select x cs) = plain select ⊛ look-up-select x ⊛ look-up-cases cs (x .number) 0
+    look-up-node (loop x body) = plain loop ⊛ look-up-loop x ⊛ look-up-nodes body
     look-up-node (exit n op vs) = plain (exit n op) ⊛ look-up-each ρ vs
 
     pub look-up-nodes : Nodes → LookUp Nodes
@@ -757,8 +842,7 @@ module _ (ρ : Value → LookUp Value) (os : List NodeOutput) where
 
     pub look-up-cases : Cases → ℕ → ℕ → LookUp Cases  -- node, place of the first of these cases
     look-up-cases ∅ n j = plain ∅
-    look-up-cases (case r body outputs cs) n j =
-        plain (case r) ⊛ look-up-nodes body ⊛ look-up-each ρ (case-outputs n j os) ⊛ look-up-cases cs n (suc j)
+    look-up-cases (case c body cs) n j = plain case ⊛ look-up-case-region c n j ⊛ look-up-nodes body ⊛ look-up-cases cs n (suc j)
 
 -- ---- What nesting answers: an outcome with the regions that it gives, or a refusal.
 -- Document 01's four outcomes, in its order.
@@ -800,13 +884,14 @@ module _ (g : Graph) where
   abbrev pub unclaimed-from : ℕ → List StructurizeRegionState → List Piece
   unclaimed-from r [] = []
   unclaimed-from r (x ∷ xs) =
-      elim x [ not-begun ↦ [] | in-progress ↦ [] | claimed ↦ [] | ready b children d ↦ piece r children [] d ∷ [] ] ++ unclaimed-from (suc r) xs
+      elim x [ not-begun ↦ [] | in-progress ↦ [] | claimed ↦ [] | ready b children d ↦ piece r children [] d ∷ [] ]
+      ++ unclaimed-from (suc r) xs
 
 module _ (g : Graph) (s : NestState) where
-  -- The last rewriting of a piece, by the tables at the end.
+  -- The last rewriting of a piece, by the tables at the end; it takes the marks off.
   unfoldable pub look-up-piece : Piece → LookUp Piece
   look-up-piece p =
-      let ρ = look-up (s .region-input-rewrites) in
+      let ρ = look-up-last (s .region-input-rewrites) in
       let given = look-up-each (look-up-bundle ρ (condition-in (p .deferred))) (p .deferred) in
       plain (piece g (p .region)) ⊛ look-up-nodes ρ (s .node-outputs) (p .children) ⊛ look-up-each ρ (p .outputs) ⊛ given
 
@@ -815,7 +900,14 @@ module _ (g : Graph) (s : NestState) where
       let x = look-up-piece entry in
       let xs = look-up-each look-up-piece unclaimed in
       let nodes = map (λ o. o .node) (s .node-outputs) in
-      record { outcome = outcome; attempts = s .attempts; twice = s .twice || (x .twice || xs .twice); entry = x .value; unclaimed = xs .value; output-nodes = nodes }
+      record {
+        outcome = outcome;
+        attempts = s .attempts;
+        twice = s .twice || (x .twice || xs .twice);
+        entry = x .value;
+        unclaimed = xs .value;
+        output-nodes = nodes;
+      }
 
   -- A whole form returns the values of its one deferred edge; a leftover also gives the Ready regions that no one claimed.
   abbrev pub conclude-by : Nodes → DeferredEdgeBundleSet → Outcome → Nested

@@ -19,8 +19,8 @@ module _ (test-cost : ℕ) where
     -- A block its instructions' sum; a select the test cost and its dearest case; a loop its turn limit times body and test cost.
     pub node-figure : Node → ℕ
     node-figure (block n r k is) = total (λ i. i .cost) is
-    node-figure (select n kind v os cs) = test-cost + dearest cs
-    node-figure (loop n vs r ts limit ks us v) = limit * (figure ks + test-cost)
+    node-figure (select x cs) = test-cost + dearest cs
+    node-figure (loop x ks) = x .limit * (figure ks + test-cost)
     node-figure (exit n op vs) = 0
 
     -- A region its children's sum.
@@ -30,7 +30,7 @@ module _ (test-cost : ℕ) where
 
     pub dearest : Cases → ℕ
     dearest ∅ = 0
-    dearest (case r ks vs cs) = max (figure ks) (dearest cs)
+    dearest (case c ks cs) = max (figure ks) (dearest cs)
 
 -- ---- The fields of a line: the lent words and the text, side by side (document 01, "The printed sheet").
 pub record Field : Type 0 where
@@ -63,6 +63,10 @@ numbers ns = list (map a-number ns)
 abbrev pub dotted : ℕ → ℕ → Field
 dotted r k = joint "." (a-number r ∷ a-number k ∷ [])
 
+-- An undefined value, by its type.
+abbrev pub undefined : ℕ → Field
+undefined ty = record { words = 5 ∷ 0 ∷ ty ∷ []; text = ascii "undef" ++ decimal ty }
+
 -- The kind of a select: bool 0, num 1.
 abbrev pub kind : SelectionKind → Field
 kind bool-cond = number-as 0 "bool"
@@ -92,17 +96,17 @@ unfoldable mutual
 abbrev pub kids : Nodes → List ℕ
 kids ⟨⟩ = []
 kids (block n r k is ▸ ks) = n ∷ kids ks
-kids (select n kind v os cs ▸ ks) = n ∷ kids ks
-kids (loop n vs r ts limit body us v ▸ ks) = n ∷ kids ks
+kids (select x cs ▸ ks) = x .number ∷ kids ks
+kids (loop x body ▸ ks) = x .number ∷ kids ks
 kids (exit n op vs ▸ ks) = n ∷ kids ks
 
 abbrev pub case-numbers : Cases → List ℕ
 case-numbers ∅ = []
-case-numbers (case r ks vs cs) = r ∷ case-numbers cs
+case-numbers (case c ks cs) = c .region ∷ case-numbers cs
 
 -- `nodes` has the node of each output ever defined, in order.
 module _ (nodes : List ℕ) where
-  -- A value: kind, region, index. An output is shown as its node and its place among that node's, a marked input as an input.
+  -- A value: kind, region, index. An output is shown as its node and its place among that node's.
   abbrev pub value : Value → Field
   value (const i) = record { words = 0 ∷ 0 ∷ i ∷ []; text = ascii "c" ++ decimal i }
   value (input r k) = joint "" (number-as 1 "i" ∷ dotted r k ∷ [])
@@ -110,9 +114,9 @@ module _ (nodes : List ℕ) where
   value (output o) = let n = getD nodes o 0 in joint "" (number-as 3 "n" ∷ dotted n (times-in n (take o nodes)) ∷ [])
   value (bool false) = record { words = 4 ∷ 0 ∷ 0 ∷ []; text = ascii "false" }
   value (bool true) = record { words = 4 ∷ 0 ∷ 1 ∷ []; text = ascii "true" }
-  value (undef ty) = record { words = 5 ∷ 0 ∷ ty ∷ []; text = ascii "undef" ++ decimal ty }
-  value no-value = record { words = 5 ∷ 0 ∷ 0 ∷ []; text = ascii "undef" ++ decimal 0 }  -- on no sheet
-  value (held r k) = joint "" (number-as 1 "i" ∷ dotted r k ∷ [])
+  value (undef ty) = undefined ty
+  value no-value = undefined 0  -- on no sheet
+  value (held r k) = undefined 0  -- on no sheet
 
   abbrev pub values : List Value → Field
   values vs = list (map value vs)
@@ -132,13 +136,15 @@ module _ (nodes : List ℕ) where
     -- types of its outputs. Loop: node, first inputs, body region, repeat value. Exit: node, opcode, values.
     pub node-lines : Node → List (List Field)
     node-lines (block n r k is) = (number-as 1 "block" ∷ a-number n ∷ list (items r k is) ∷ []) ∷ []
-    node-lines (select n k v os cs) =
-        let types = map (λ o. o .type) os in
-        (number-as 2 "select" ∷ a-number n ∷ kind k ∷ value v ∷ label "cases" ∷ numbers (case-numbers cs) ∷ label "out" ∷ numbers types ∷ [])
+    node-lines (select x cs) =
+        let types = map (λ o. o .type) (x .outputs) in
+        (number-as 2 "select" ∷ a-number (x .number) ∷ kind (x .kind) ∷ value (x .scrutinee)
+        ∷ label "cases" ∷ numbers (case-numbers cs) ∷ label "out" ∷ numbers types ∷ [])
         ∷ case-lines cs
-    node-lines (loop n vs r ts limit ks us v) =
-        (number-as 3 "loop" ∷ a-number n ∷ label "in" ∷ values vs ∷ label "body" ∷ a-number r ∷ label "repeat" ∷ value v ∷ [])
-        ∷ region-fields r ts ks us
+    node-lines (loop x ks) =
+        (number-as 3 "loop" ∷ a-number (x .number) ∷ label "in" ∷ values (x .initial-inputs)
+        ∷ label "body" ∷ a-number (x .body) ∷ label "repeat" ∷ value (x .repeat) ∷ [])
+        ∷ region-fields (x .body) (x .types) ks (x .outputs)
         ∷ nodes-lines ks
     node-lines (exit n op vs) = (number-as 4 "exit" ∷ a-number n ∷ a-number op ∷ label "in" ∷ values vs ∷ []) ∷ []
 
@@ -149,7 +155,7 @@ module _ (nodes : List ℕ) where
     -- A case has no inputs.
     pub case-lines : Cases → List (List Field)
     case-lines ∅ = []
-    case-lines (case r ks vs cs) = region-fields r [] ks vs ∷ (nodes-lines ks ++ case-lines cs)
+    case-lines (case c ks cs) = region-fields (c .region) [] ks (c .outputs) ∷ (nodes-lines ks ++ case-lines cs)
 
   abbrev pub piece-lines : Piece → List (List Field)
   piece-lines p = region-fields (p .region) (p .inputs) (p .children) (p .outputs) ∷ nodes-lines (p .children)

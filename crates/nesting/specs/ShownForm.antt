@@ -2,19 +2,18 @@
 use mathlib.Core.Bool.{Bool}
 use mathlib.Core.List.{List, [], _∷_, _++_, map}
 use Prim.Native.Nat.{ℕ}
-use Rattle.meaning.specs.Graph.{Code, SelectionKind, Graph}
+use Rattle.meaning.specs.Graph.{Code, Graph}
 use Rattle.meaning.specs.Runs.{Node, block, select, loop, exit, Nodes, ⟨⟩, _▸_, Cases, ∅, case}
-use Rattle.nesting.specs.Nesting.{DeferredEdgeBundle, Outcome, untouched, whole, closed, leftover, Piece, Nested}
+use Rattle.nesting.specs.Nesting.{Outcome, untouched, whole, closed, leftover, Piece, Nested}
 use Rattle.nesting.specs.Sheet.{figure, ascending}
-use Rattle.nesting.specs.decoding.Lines.{Item, Condition, target-word, shown-cond, shown, block-items}
+use Rattle.nesting.specs.decoding.Lines.{Item, ShownSelect, ShownEdge, shown, block-items, shown-select, shown-edge}
 
 infixr 40 _▹_ _▹▹_
 mutual
   pub data ShownNode : Type 0 where
     -- number, items
     block-shown : ℕ → List Item → ShownNode
-    -- number, kind, scrutinee, types of its outputs, cases
-    select-shown : ℕ → SelectionKind → Code → List ℕ → ShownRegions → ShownNode
+    select-shown : ShownSelect → ShownRegions → ShownNode
     -- number, initial inputs, body, repeat condition
     loop-shown : ℕ → List Code → ShownRegion → Code → ShownNode
     -- number, opcode, values
@@ -32,14 +31,6 @@ mutual
     no-region : ShownRegions
     _▹▹_ : ShownRegion → ShownRegions → ShownRegions
 
-pub record ShownEdge : Type 0 where
-  pub region : ℕ
-  -- 65,535 for return
-  pub target : ℕ
-  pub count : ℕ
-  pub inputs : List Code
-  pub condition : Condition
-
 -- `figure` is 0 where there is none. The pieces begin with the entry; the deferred edges ascend by region.
 pub record ShownForm : Type 0 where
   pub outcome : Outcome
@@ -54,9 +45,10 @@ module _ (nodes : List ℕ) where
   unfoldable mutual
     pub shown-node : Node → ShownNode
     shown-node (block n r k is) = block-shown n (block-items nodes r k is)
-    shown-node (select n kind v os cs) = select-shown n kind (shown nodes v) (map (λ o. o .type) os) (shown-cases cs)
-    shown-node (loop n vs r ts limit ks us v) =
-        loop-shown n (map (shown nodes) vs) (region-shown r ts (shown-nodes ks) (map (shown nodes) us)) (shown nodes v)
+    shown-node (select x cs) = select-shown (shown-select nodes x) (shown-cases cs)
+    shown-node (loop x ks) =
+        loop-shown (x .number) (map (shown nodes) (x .initial-inputs))
+        (region-shown (x .body) (x .types) (shown-nodes ks) (map (shown nodes) (x .outputs))) (shown nodes (x .repeat))
     shown-node (exit n op vs) = exit-shown n op (map (shown nodes) vs)
 
     pub shown-nodes : Nodes → ShownNodes
@@ -65,7 +57,7 @@ module _ (nodes : List ℕ) where
 
     pub shown-cases : Cases → ShownRegions
     shown-cases ∅ = no-region
-    shown-cases (case r ks vs cs) = region-shown r [] (shown-nodes ks) (map (shown nodes) vs) ▹▹ shown-cases cs
+    shown-cases (case c ks cs) = region-shown (c .region) [] (shown-nodes ks) (map (shown nodes) (c .outputs)) ▹▹ shown-cases cs
 
   unfoldable pub shown-pieces : List Piece → ShownRegions
   unfolding shown-nodes
@@ -73,19 +65,9 @@ module _ (nodes : List ℕ) where
   shown-pieces (p ∷ ps) =
       region-shown (p .region) (p .inputs) (shown-nodes (p .children)) (map (shown nodes) (p .outputs)) ▹▹ shown-pieces ps
 
-  abbrev pub shown-edge : ℕ → DeferredEdgeBundle → ShownEdge
-  shown-edge r e =
-      record {
-        region = r;
-        target = target-word (e .target);
-        count = e .accumulated-count;
-        inputs = map (shown nodes) (e .target-inputs);
-        condition = shown-cond (e .condition);
-      }
-
   abbrev pub shown-deferred : List Piece → List ShownEdge
   shown-deferred [] = []
-  shown-deferred (p ∷ ps) = map (shown-edge (p .region)) (p .deferred) ++ shown-deferred ps
+  shown-deferred (p ∷ ps) = map (shown-edge nodes (p .region)) (p .deferred) ++ shown-deferred ps
 
 abbrev pub form-with : Nested → Outcome → ℕ → ShownForm
 form-with x o f =

@@ -1,3 +1,4 @@
 pub mod HeldStays
 pub mod DearestCase
 pub mod FirstClaim
+pub mod NoMarks

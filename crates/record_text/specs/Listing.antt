@@ -25,7 +25,7 @@ value-text (output o) = labeled "n" o
 value-text (bool true) = ascii "true"
 value-text (bool false) = ascii "false"
 value-text (undef t) = labeled "undef" t
-value-text no-value = labeled "n" 0  -- in no accepted record
+value-text no-value = ascii "-"
 value-text (held r k) = ascii "i" ++ dotted-text r k
 
 unfoldable pub numbers-text : List ℕ → Text

@@ -8,7 +8,7 @@ use native.Mathlib.Omega.{arith}
 use lib.Dec.{leb}
 use borrow.Author.Tests.{leb-false}
 use Rattle.meaning.specs.Graph.{Value, Instr}
-use Rattle.meaning.specs.Runs.{OutputDecl, Node, block, select, loop, exit, Nodes, ⟨⟩, _▸_, Cases, ∅, case, Word, word, mark, Rule, RunState, place-taken, do-instr, do-block, Ran, through, ended, no-end, and-then, tested, once-more, pay, note-over, assign-inputs, assign-outputs, case-count, turns, run-node, run-nodes, run-case, after-last, start, nested-run}
+use Rattle.meaning.specs.Runs.{LoopNode, OutputDecl, Node, block, select, loop, exit, Nodes, ⟨⟩, _▸_, Cases, ∅, case, Word, word, mark, Rule, RunState, place-taken, do-instr, do-block, Ran, through, ended, no-end, and-then, tested, once-more, pay, note-over, assign-inputs, leave-loop, assign-outputs, case-count, turns, run-node, run-nodes, run-case, ends-as, after-last, start, nested-run}
 use Rattle.meaning.specs.facts.Tests.{clash}
 use Rattle.meaning.specs.Lists.{total}
 use Rattle.nesting.specs.Sheet.{node-figure, figure}
@@ -23,7 +23,7 @@ record AtMost (n : ℕ) (s t : RunState) : Type 0 where
 abbrev ComesTo : ℕ → RunState → Ran → Type 0
 ComesTo n s (through t) = AtMost n s t
 ComesTo n s (ended e t) = AtMost n s t
-ComesTo n s no-end = Unit
+ComesTo n s (no-end why) = Unit
 
 record Costs (n : ℕ) (s : RunState) (x : Ran) : Type 0 where
   costs : ComesTo n s x
@@ -35,13 +35,13 @@ both k l a b = record { within = λ e. let y = b .within e in let x = a .within 
 after : {n m : ℕ} {s t : RunState} (k : ℕ) → n + m ≤ k → AtMost n s t → (x : Ran) → Costs m t x → Costs k s x
 after k l a (through u) b = record { costs = both k l a (b .costs) }
 after k l a (ended e u) b = record { costs = both k l a (b .costs) }
-after k l a no-end b = record { costs = tt }
+after k l a (no-end why) b = record { costs = tt }
 
 and-then-costs : {n m : ℕ} {s : RunState} (k : ℕ) → n + m ≤ k → (x : Ran) (f : RunState → Ran) → Costs n s x → ((t : RunState) → Costs m t (f t))
     → Costs k s (and-then x f)
 and-then-costs k l (through t) f a b = after k l (a .costs) (f t) (b t)
 and-then-costs k l (ended e t) f a b = record { costs = record { within = λ h. let x = a .costs .within h in (x .0, omega arith) } }
-and-then-costs k l no-end f a b = record { costs = tt }
+and-then-costs k l (no-end why) f a b = record { costs = tt }
 
 tested-costs : {n : ℕ} {s : RunState} (w : Word) (f : ℕ → Ran) → ((m : ℕ) → Costs n s (f m)) → Costs n s (tested w f)
 tested-costs (word m) f a = a m
@@ -53,6 +53,9 @@ pay-costs c s = record { within = λ e. (e, omega arith) }
 
 inputs-cost-nothing : (r : ℕ) (vs : List Value) (s : RunState) → AtMost 0 s (assign-inputs r vs s)
 inputs-cost-nothing r vs s = record { within = λ e. (e, omega arith) }
+
+leaving-costs-nothing : (n : ℕ) (vs : List Value) (s : RunState) → AtMost n s (leave-loop vs s)
+leaving-costs-nothing n vs s = record { within = λ e. (e, omega arith) }
 
 outputs-cost-nothing : (os : List OutputDecl) (vs : List Value) (s : RunState) → AtMost 0 s (assign-outputs os vs s)
 outputs-cost-nothing os vs s = record { within = λ e. (e, omega arith) }
@@ -70,7 +73,7 @@ never-within b h = let z = or-true b in absurd (clash (cc))
 over-limit : (n : ℕ) (s : RunState) (x : Ran) {m : ℕ} → Costs m (note-over true s) x → Costs n s x
 over-limit n s (through t) a = record { costs = record { within = λ e. never-within (s .over-limit) (a .costs .within e .0) } }
 over-limit n s (ended x t) a = record { costs = record { within = λ e. never-within (s .over-limit) (a .costs .within e .0) } }
-over-limit n s no-end a = record { costs = tt }
+over-limit n s (no-end why) a = record { costs = tt }
 
 module _ (rule : Rule) (test-cost : ℕ) where
   block-costs : (r k : ℕ) (is : List Instr) (s : RunState) → AtMost (total (λ i. i .cost) is) s (do-block rule r k is s)
@@ -81,48 +84,50 @@ module _ (rule : Rule) (test-cost : ℕ) where
       both (total (λ i. i .cost) (i ∷ is)) (omega arith) first (block-costs r (suc k) is (do-instr rule r k i s))
 
   -- ---- the turns of a loop whose body costs at most n
-  once-more-costs : (m : ℕ) (f : RunState → Ran) → ((t : RunState) → Costs m t (f t)) → (w : ℕ) (s : RunState)
-      → Costs (test-cost + m) s (once-more f w (pay test-cost s))
-  once-more-costs m f later zero s = record { costs = both _ (omega arith) (pay-costs test-cost s) (stands m _) }
-  once-more-costs m f later (suc w) s = after _ (omega arith) (pay-costs test-cost s) _ (later _)
+  once-more-costs : (m : ℕ) (f : RunState → Ran) (vs : List Value) → ((t : RunState) → Costs m t (f t)) → (w : ℕ) (s : RunState)
+      → Costs (test-cost + m) s (once-more f vs w (pay test-cost s))
+  once-more-costs m f vs later zero s = record { costs = both _ (omega arith) (pay-costs test-cost s) (leaving-costs-nothing m vs _) }
+  once-more-costs m f vs later (suc w) s = after _ (omega arith) (pay-costs test-cost s) _ (later _)
 
-  module _ (body : RunState → Ran) (n : ℕ) (body-costs : (s : RunState) → Costs n s (body s)) (r limit : ℕ) (vs : List Value) (v : Value) where
+  module _ (x : LoopNode) (run : RunState → Ran) (n : ℕ) (body-costs : (s : RunState) → Costs n s (run s)) where
     -- what the turns that are left may cost
     abbrev left : ℕ → ℕ
-    left made = (limit - made) * (n + test-cost)
+    left made = (x .limit - made) * (n + test-cost)
 
-    one-less : (made : ℕ) → made < limit → n + (test-cost + left (suc made)) ≤ left made
-    one-less made l = let e : limit - made ≡ suc (limit - suc made) = omega arith in rw e (omega arith)
+    one-less : (made : ℕ) → made < x .limit → n + (test-cost + left (suc made)) ≤ left made
+    one-less made l = let e : x .limit - made ≡ suc (x .limit - suc made) = omega arith in rw e (omega arith)
 
     -- one turn, and f after it
     turn-costs : (made : ℕ) (s : RunState) (f : RunState → Ran) → ((t : RunState) → Costs (test-cost + left (suc made)) t (f t))
-        → (o : Bool) → leb limit made ≡ o → Costs (left made) s (and-then (body (note-over o s)) f)
+        → (o : Bool) → leb (x .limit) made ≡ o → Costs (left made) s (and-then (run (note-over o s)) f)
     turn-costs made s f later true e =
-        over-limit _ s _ (and-then-costs (n + (test-cost + left (suc made))) (omega arith) (body (note-over true s)) f (body-costs _) later)
+        over-limit _ s _ (and-then-costs (n + (test-cost + left (suc made))) (omega arith) (run (note-over true s)) f (body-costs _) later)
     turn-costs made s f later false e =
         after {m = left made} _ (omega arith) (within-limit s) _
-        (and-then-costs (left made) (one-less made (leb-false limit made e)) (body (note-over false s)) f (body-costs _) later)
+        (and-then-costs (left made) (one-less made (leb-false (x .limit) made e)) (run (note-over false s)) f (body-costs _) later)
 
-    turns-cost : (b made : ℕ) (s : RunState) → Costs (left made) s (turns rule test-cost b made body r limit vs v s)
+    turns-cost : (b made : ℕ) (s : RunState) → Costs (left made) s (turns rule test-cost b made x run s)
     unfolding turns
     turns-cost zero made s = record { costs = tt }
     turns-cost (suc b) made s =
         turn-costs made s _
-        (λ t. tested-costs (t .env v) _ λ w. once-more-costs (left (suc made)) _ (λ u. after {n = 0} _ (omega arith) (inputs-cost-nothing r vs u) _ (turns-cost b (suc made) _)) w t)
-        (leb limit made) refl
+        (λ t. tested-costs (t .env (x .repeat)) _ λ w. once-more-costs (left (suc made)) _ (x .outputs)
+        (λ u. after {n = 0} _ (omega arith) (inputs-cost-nothing (x .body) (x .outputs) u) _ (turns-cost b (suc made) _)) w t)
+        (leb (x .limit) made) refl
 
   mutual
     unfolding run-nodes figure
 
     node-costs : (k : Node) (b : ℕ) (s : RunState) → Costs (node-figure test-cost k) s (run-node rule test-cost b k s)
     node-costs (block n r k is) b s = record { costs = block-costs r k is s }
-    node-costs (select n kind v os cs) b s =
-        tested-costs (s .env v) _ λ w.
-        after _ (omega (arith, dearest-case test-cost cs (place-taken kind w (case-count cs)))) (pay-costs test-cost s) _ (case-costs cs b (place-taken kind w (case-count cs)) os (pay test-cost s))
-    node-costs (loop n vs r ts limit ks us v) b s =
-        let e : limit - 0 ≡ limit = omega arith in
-        after {n = 0} _ (rw e (omega arith)) (inputs-cost-nothing r vs s) _
-        (turns-cost (λ t. run-nodes rule test-cost b ks t) (figure test-cost ks) (λ t. nodes-cost ks b t) r limit us v b 0 (assign-inputs r vs s))
+    node-costs (select x cs) b s =
+        tested-costs (s .env (x .scrutinee)) _ λ w.
+        let j = place-taken (x .kind) w (case-count cs) in
+        after _ (omega (arith, dearest-case test-cost cs j)) (pay-costs test-cost s) _ (case-costs cs b j (x .outputs) (pay test-cost s))
+    node-costs (loop x ks) b s =
+        let e : x .limit - 0 ≡ x .limit = omega arith in
+        after {n = 0} _ (rw e (omega arith)) (inputs-cost-nothing (x .body) (x .initial-inputs) s) _
+        (turns-cost x (λ t. run-nodes rule test-cost b ks t) (figure test-cost ks) (λ t. nodes-cost ks b t) b 0 _)
     node-costs (exit n op vs) b s = record { costs = stands 0 s }
 
     nodes-cost : (ks : Nodes) (b : ℕ) (s : RunState) → Costs (figure test-cost ks) s (run-nodes rule test-cost b ks s)
@@ -132,9 +137,10 @@ module _ (rule : Rule) (test-cost : ℕ) where
     -- the case at place j costs at most its own figure
     case-costs : (cs : Cases) (b j : ℕ) (os : List OutputDecl) (s : RunState) → Costs (figure test-cost (case-at cs j)) s (run-case rule test-cost b cs j os s)
     case-costs ∅ b j os s = record { costs = tt }
-    case-costs (case r ks vs cs) b zero os s =
-        and-then-costs {m = 0} _ (omega arith) (run-nodes rule test-cost b ks s) _ (nodes-cost ks b s) (λ t. record { costs = outputs-cost-nothing os vs t })
-    case-costs (case r ks vs cs) b (suc j) os s = case-costs cs b j os s
+    case-costs (case c ks cs) b zero os s =
+        and-then-costs {m = 0} _ (omega arith) (run-nodes rule test-cost b ks s) _ (nodes-cost ks b s)
+        (λ t. record { costs = outputs-cost-nothing os (c .outputs) t })
+    case-costs (case c ks cs) b (suc j) os s = case-costs cs b j os s
 
 -- Statement 2.
 pub bounded : Bounded
@@ -144,8 +150,9 @@ bounded g x ks outs b e = go outs (run-nodes (x .rule) (g .test-cost) b ks (star
     most : ℕ
     most = figure (g .test-cost) ks
 
-    go : (outs : Option (List Value)) (y : Ran) → Costs most (start g x) y → after-last outs y ≡ some e → e .over-limit ≡ false → e .cost ≤ most
-    go outs no-end c p h = absurd (clash (cc))
+    go : (outs : Option (List Value)) (y : Ran) → Costs most (start g x) y → after-last outs y ≡ ends-as e → e .over-limit ≡ false
+        → e .cost ≤ most
+    go outs (no-end why) c p h = absurd (clash (cc))
     go outs (ended z t) c p h = let o : t .over-limit ≡ false = cc in let q : t .cost ≡ e .cost = cc in omega (arith, c .costs .within o .1)
     go none (through t) c p h = absurd (clash (cc))
     go (some vs) (through t) c p h = let o : t .over-limit ≡ false = cc in let q : t .cost ≡ e .cost = cc in omega (arith, c .costs .within o .1)

@@ -16,7 +16,7 @@ use Rattle.format.specs.Valid.{Valid}
 use Rattle.meaning.specs.Lists.{times-in, numbers-from, total}
 use Rattle.format.specs.Store
 use Rattle.format.specs.Store.{accepted, refused}
-use Rattle.nesting.specs.Nesting.{Nested, to-region, DeferredEdgeBundleSet, Outcome, untouched, whole, closed, leftover, StructurizeRegionState, not-begun, NestState, StepAnswer, done, turned-away, ClaimedRegion, reachable, incoming-edge-count, incoming-edge-counts, try-claim-edge-bundle, initial-state, outcome-of, conclude-by, conclude, structurize-func-by, structurize-func}
+use Rattle.nesting.specs.Nesting.{exit-targets, Nested, to-region, DeferredEdgeBundleSet, Outcome, untouched, whole, closed, leftover, StructurizeRegionState, not-begun, NestState, StepAnswer, done, turned-away, ClaimedRegion, reachable, incoming-edge-count, incoming-edge-counts, try-claim-edge-bundle, initial-state, outcome-of, conclude-by, conclude, structurize-func-by, structurize-func}
 use Rattle.nesting.specs.steps.Post.{Post}
 use Rattle.nesting.specs.steps.RegionsLeft.{all-not-begun, not-begun-one, count-states}
 use Rattle.follows.specs.counting.Reach.{entry-reachable, target-reachable, reachable-once}
@@ -50,9 +50,9 @@ module _ (g : Graph) where
   edges-over (x ∷ l) = let z = edges-over l in omega arith
 
   abbrev incoming-from : ℕ → List ℕ → ℕ
-  incoming-from a rs = total (λ r. times-in a (targets-of g r) + times-in a (region g r .exits)) rs
+  incoming-from a rs = total (λ r. times-in a (targets-of g r) + times-in a (exit-targets g r)) rs
 
-  over-incoming : (a : ℕ) (l : List ℕ) → total (λ i. times-in a (targets-of g i) + times-in a (region g i .exits)) l ≡ incoming-from a l
+  over-incoming : (a : ℕ) (l : List ℕ) → total (λ i. times-in a (targets-of g i) + times-in a (exit-targets g i)) l ≡ incoming-from a l
   over-incoming a [] = refl
   over-incoming a (x ∷ l) = let z = over-incoming a l in omega arith
 
@@ -82,7 +82,8 @@ module _ (g : Graph) where
     held-start : (r : ℕ) → held counting r start ≡ incoming-from r (reachable g)
     unfolding held
     held-start r =
-        total-same (λ i. held-by counting r i (getD start i not-begun)) (λ i. times-in r (targets-of g i) + times-in r (region g i .exits)) (λ i. ap (held-by counting r i) (all-not-begun (length (g .regions)) i)) (reachable g)
+        total-same (λ i. held-by counting r i (getD start i not-begun)) (λ i. times-in r (targets-of g i) + times-in r (exit-targets g i))
+        (λ i. ap (held-by counting r i) (all-not-begun (length (g .regions)) i)) (reachable g)
         ∙ over-incoming r (reachable g)
 
     start-pre : Pre counting (suc (length (g .regions))) (λ r. 0) (λ r. edges-to r (to-region (g .entry)) 1) (initial-state g)

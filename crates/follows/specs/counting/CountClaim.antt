@@ -8,11 +8,11 @@ use native.Mathlib.Omega.{arith}
 use lib.ListN.{length, set}
 use lib.Dec.{eqb}
 use borrow.Author.Tests.{eqb-true, eqb-false, eq-eqb}
-use Rattle.meaning.specs.Graph.{Value, Graph, region, pick}
+use Rattle.meaning.specs.Graph.{Value, Graph, pick}
 use Rattle.meaning.specs.Runs.{Nodes}
 use Rattle.meaning.specs.Lists.{is-in, times-in}
 use Rattle.meaning.specs.facts.Tests.{clash}
-use Rattle.nesting.specs.Nesting.{LazyCond, to-region, DeferredEdgeBundle, DeferredEdgeBundleSet, StructurizeRegionState, not-begun, in-progress, claimed, ready, renumber-or-replace-with, NestState, Step, give, turn-away, _>>_, set-state, define-region, define-node, rewrite-values, materialize-lazy-cond, condition-in, get-edge-bundle-by-target, split-out-target, ClaimedRegion, no-inputs, take-inputs, add-exit-edge, structurize-loop, backedge-of, claim-body, claim-by-state}
+use Rattle.nesting.specs.Nesting.{exit-targets, LazyCond, to-region, DeferredEdgeBundle, DeferredEdgeBundleSet, StructurizeRegionState, not-begun, in-progress, claimed, ready, renumber-or-replace-with, NestState, Step, give, turn-away, _>>_, set-state, define-region, define-node, rewrite-values, materialize-lazy-cond, condition-in, get-edge-bundle-by-target, split-out-target, ClaimedRegion, no-inputs, take-inputs, add-exit-edge, structurize-loop, backedge-of, claim-body, claim-by-state}
 use Rattle.nesting.specs.steps.Post.{Post, map-post, bind}
 use Rattle.nesting.specs.steps.Keeps.{loop-claimed, with-entry, define-region-keeps, define-node-keeps, rewrite-values-keeps, materialize-keeps}
 use Rattle.nesting.specs.steps.StatesKept.{Still, still-refl, still-then, still-steady}
@@ -31,7 +31,8 @@ record Looped (d : DeferredEdgeBundleSet) (s : NestState) (o : Option ClaimedReg
   is : SetIs d o
 
 loop-set : (g : Graph) (body : ℕ) (children : Nodes) (backedge : DeferredEdgeBundle) (repeat : LazyCond) (exits : DeferredEdgeBundleSet) (inputs : List Value) (s : NestState)
-    → Post Nine (λ o s′. Looped (map (add-exit-edge (region g body .exits)) exits) s o s′) (structurize-loop g body children backedge repeat exits inputs s)
+    → Post Nine (λ o s′. Looped (map (add-exit-edge (exit-targets g body)) exits) s o s′)
+    (structurize-loop g body children backedge repeat exits inputs s)
 unfolding structurize-loop
 loop-set g body children backedge repeat exits inputs s =
     bind (define-region s) _ (define-region-keeps still-steady Nine refl s) λ wrapper s₁ q₁.
@@ -80,7 +81,8 @@ module _ (K : Counting) where
     lt-q : q < length (s .region-states)
     lt-q = let z = inv .length in let y = K .below q in-q in omega arith
 
-    claimed-step : (d′ : DeferredEdgeBundleSet) → ((r : ℕ) → edge-total (edges-to r) d′ + pick (eqb r q) b 0 ≤ edge-total (edges-to r) d + times-in r (region (K .g) q .exits))
+    claimed-step : (d′ : DeferredEdgeBundleSet)
+        → ((r : ℕ) → edge-total (edges-to r) d′ + pick (eqb r q) b 0 ≤ edge-total (edges-to r) d + times-in r (exit-targets (K .g) q))
         → Counted K 0 (live-count K) (λ r. edges-to r (to-region q) n) (λ r. edge-total (edges-to r) d′) s after
     claimed-step d′ l = record {
       inv = inv-set K (s .region-states) q claimed inv lt-q tt;
@@ -90,9 +92,10 @@ module _ (K : Counting) where
       stay = λ r. still-busy r (eqb r q) refl;
     }
       where
-        go : (r : ℕ) (x : Bool) → eqb r q ≡ x → edge-total (edges-to r) d′ + pick x b 0 ≤ edge-total (edges-to r) d + times-in r (region (K .g) q .exits)
+        go : (r : ℕ) (x : Bool) → eqb r q ≡ x
+            → edge-total (edges-to r) d′ + pick x b 0 ≤ edge-total (edges-to r) d + times-in r (exit-targets (K .g) q)
             → held K r (set (s .region-states) q claimed) + held-by K r q (state-of s q) ≡ held K r (s .region-states) + pick x (K .incoming r) 0
-            → held-by K r q (state-of s q) ≡ times-in r (region (K .g) q .exits) + edge-total (edges-to r) d
+            → held-by K r q (state-of s q) ≡ times-in r (exit-targets (K .g) q) + edge-total (edges-to r) d
             → held K r (set (s .region-states) q claimed) + edge-total (edges-to r) d′ ≤ held K r (s .region-states) + pick x n 0
         go r true p a u v = let z = ap (K .incoming) (eqb-true r q p) in omega arith
         go r false p a u v = omega arith
@@ -104,7 +107,7 @@ module _ (K : Counting) where
     without-back : (inputs : List Value) → b ≡ 0 → Claims 0 q n s (some (record { origin = q; structured-body = q; structured-body-inputs = inputs; children = children; deferred-edges = d })) after
     without-back inputs z = record { step = claimed-step d (λ r. go r (eqb r q)); good = good }
       where
-        go : (r : ℕ) (x : Bool) → edge-total (edges-to r) d + pick x b 0 ≤ edge-total (edges-to r) d + times-in r (region (K .g) q .exits)
+        go : (r : ℕ) (x : Bool) → edge-total (edges-to r) d + pick x b 0 ≤ edge-total (edges-to r) d + times-in r (exit-targets (K .g) q)
         go r true = omega arith
         go r false = omega arith
 
@@ -113,16 +116,18 @@ module _ (K : Counting) where
       others = split-out-target (to-region q) d
 
       abbrev exits : DeferredEdgeBundleSet
-      exits = map (add-exit-edge (region (K .g) q .exits)) others
+      exits = map (add-exit-edge (exit-targets (K .g) q)) others
 
       others-few : (r : ℕ) → edge-total (bundles-to r) d ≡ at r (e .target) + edge-total (bundles-to r) others
       others-few r = split-total (bundles-to r) (to-region q) d e found
 
-      exits-held : (r : ℕ) (x : Bool) → eqb r q ≡ x → edge-total (edges-to r) exits + pick x b 0 ≤ edge-total (edges-to r) d + times-in r (region (K .g) q .exits)
+      exits-held : (r : ℕ) (x : Bool) → eqb r q ≡ x
+          → edge-total (edges-to r) exits + pick x b 0 ≤ edge-total (edges-to r) d + times-in r (exit-targets (K .g) q)
       exits-held r true p =
           let r-q = eqb-true r q p in
           let t : at r (e .target) ≡ 1 = ap (at r) (sym (found-in (to-region q) d e found .1)) ∙ rw p in
-          let none-left : edge-total (bundles-to r) exits ≡ 0 = let a = others-few r in let z = good .fits r in let y = one-less r in omega (arith, exits-bundles (region (K .g) q .exits) r others) in
+          let none-left : edge-total (bundles-to r) exits ≡ 0 = let a = others-few r in let z = good .fits r in let y = one-less r in
+          omega (arith, exits-bundles (exit-targets (K .g) q) r others) in
           let w = no-bundles r exits none-left in
           let k = ap (λ i. edge-total (edges-to i) d) r-q in
           omega arith
@@ -131,13 +136,14 @@ module _ (K : Counting) where
           let z = good .fits r in
           let y = one-less r in
           let c = split-total (edges-to r) (to-region q) d e found in
-          let v = exits-edges (region (K .g) q .exits) r others (omega arith) in
+          let v = exits-edges (exit-targets (K .g) q) r others (omega arith) in
           omega arith
 
       exits-good : Good K exits
       exits-good = record {
-        fits = λ r. let a = others-few r in let z = good .fits r in omega (arith, exits-bundles (region (K .g) q .exits) r others);
-        full = let a = split-total edgeless (to-region q) d e found in let z = good .full in omega (arith, exits-edgeless (region (K .g) q .exits) others);
+        fits = λ r. let a = others-few r in let z = good .fits r in omega (arith, exits-bundles (exit-targets (K .g) q) r others);
+        full = let a = split-total edgeless (to-region q) d e found in let z = good .full in
+            omega (arith, exits-edgeless (exit-targets (K .g) q) others);
       }
 
       as-loop : (o : Option ClaimedRegion) (s′ : NestState) → Looped exits after o s′ → Claims 0 q n s o s′

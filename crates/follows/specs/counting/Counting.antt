@@ -10,7 +10,7 @@ use lib.Dec.{eqb}
 use borrow.Author.Tests.{eqb-false}
 use Rattle.meaning.specs.Graph.{Graph, region, edges-of, targets-of, pick}
 use Rattle.meaning.specs.Lists.{is-in, Distinct, times-in, total}
-use Rattle.nesting.specs.Nesting.{DeferredEdgeBundleSet, StructurizeRegionState, not-begun, in-progress, claimed, ready, NestState}
+use Rattle.nesting.specs.Nesting.{exit-targets, DeferredEdgeBundleSet, StructurizeRegionState, not-begun, in-progress, claimed, ready, NestState}
 use Rattle.nesting.specs.steps.StatesKept.{Still}
 use Rattle.nesting.specs.steps.RegionsLeft.{state-of, not-begun-one, count-states, not-begun-count}
 use Rattle.meaning.specs.facts.Tests.{at-or-else}
@@ -57,10 +57,10 @@ module _ (K : Counting) where
 
   -- the edges to r that region i has yet to give out, or holds; once r itself is claimed, all
   abbrev pub held-by : ℕ → ℕ → StructurizeRegionState → ℕ
-  held-by r i not-begun = times-in r (targets-of (K .g) i) + times-in r (region (K .g) i .exits)
-  held-by r i in-progress = times-in r (region (K .g) i .exits)
+  held-by r i not-begun = times-in r (targets-of (K .g) i) + times-in r (exit-targets (K .g) i)
+  held-by r i in-progress = times-in r (exit-targets (K .g) i)
   held-by r i claimed = pick (eqb r i) (K .incoming r) 0
-  held-by r i (ready b children d) = times-in r (region (K .g) i .exits) + edge-total (edges-to r) d
+  held-by r i (ready b children d) = times-in r (exit-targets (K .g) i) + edge-total (edges-to r) d
 
   weigh : (ℕ → StructurizeRegionState → ℕ) → List StructurizeRegionState → ℕ
   weigh W l = total (λ i. W i (getD l i not-begun)) (K .live)

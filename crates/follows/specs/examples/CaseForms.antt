@@ -9,7 +9,7 @@ use Rattle.format.specs.Accept.{accept}
 use Rattle.format.specs.laws.AcceptValid.{accept-valid}
 use Rattle.format.specs.Valid.{Valid}
 use Rattle.nesting.specs.cases.Computes.{nesting-computes}
-use Rattle.nesting.specs.Nesting.{whole, Nested, structurize-func}
+use Rattle.nesting.specs.Nesting.{new-select, new-case, whole, Nested, structurize-func}
 use Rattle.format.specs.stores.Pack.{store-of-graph}
 use Rattle.nesting.specs.cases.CaseGraphs.{op, A, B}
 
@@ -24,8 +24,9 @@ A-valid = accept-valid (store-of-graph A) A A-accepted
 abbrev pub A-form : Nodes
 A-form =
     block 0 0 0 (op 7 1 5 ∷ [])
-    ▸ select 3 bool-cond (instr 0 0) (record { number = 0; type = 2 } ∷ [])
-    (case 1 (block 1 1 0 (op 8 0 3 ∷ []) ▸ ⟨⟩) (const 0 ∷ []) (case 2 (block 2 2 0 (op 9 0 4 ∷ []) ▸ ⟨⟩) (const 1 ∷ []) ∅))
+    ▸ select (record { number = 3; kind = bool-cond; scrutinee = instr 0 0; outputs = record { number = 0; type = 2 } ∷ [] })
+    (case (record { region = 1; outputs = const 0 ∷ [] }) (block 1 1 0 (op 8 0 3 ∷ []) ▸ ⟨⟩)
+    (case (record { region = 2; outputs = const 1 ∷ [] }) (block 2 2 0 (op 9 0 4 ∷ []) ▸ ⟨⟩) ∅))
     ▸ ⟨⟩
 
 abbrev pub A-nested : Nested
@@ -53,9 +54,16 @@ B-valid = accept-valid (store-of-graph B) B B-accepted
 -- its loop, with a repeat value
 abbrev pub B-loop : Value → Nodes
 B-loop repeat =
-    loop 2 (bool true ∷ []) 1 (1 ∷ []) 10
-    (block 0 1 0 (op 5 1 6 ∷ []) ▸ select 1 bool-cond (instr 1 0) [] (case 3 ⟨⟩ [] (case 4 ⟨⟩ [] ∅)) ▸ ⟨⟩)
-    (instr 1 0 ∷ []) repeat
+    loop (record {
+      number = 2;
+      initial-inputs = bool true ∷ [];
+      body = 1;
+      types = 1 ∷ [];
+      limit = 10;
+      outputs = instr 1 0 ∷ [];
+      repeat = repeat;
+    })
+    (block 0 1 0 (op 5 1 6 ∷ []) ▸ new-select 1 bool-cond (instr 1 0) (new-case 3 ⟨⟩ (new-case 4 ⟨⟩ ∅)) ▸ ⟨⟩)
     ▸ ⟨⟩
 
 abbrev pub B-nested : Nested

@@ -7,8 +7,8 @@ use Prim.Native.Nat.{ℕ, suc, _+_, _≤_}
 use native.Mathlib.Omega.{arith}
 use lib.ListN.{length}
 use lib.Dec.{ltb}
-use Rattle.meaning.specs.Graph.{Value, const, instr, output, bool, bit, bool-cond, Graph}
-use Rattle.meaning.specs.Runs.{Nodes, block, select, ⟨⟩, _▸_, ∅, case, word, Event, returned, Given, put, put-inputs, entry-words, do-instr, do-block, do-blocks, Ended, graph-run, run-from, NestedEnded, put-outputs, turns, run-nodes, nested-run}
+use Rattle.meaning.specs.Graph.{Value, const, input, instr, output, unreachable, bool, bit, bool-cond, Graph}
+use Rattle.meaning.specs.Runs.{Nodes, block, select, loop, ⟨⟩, _▸_, ∅, case, word, Event, returned, Given, put, put-inputs, entry-words, do-instr, do-block, do-blocks, Ended, graph-run, run-from, NestedEnded, NestedRun, ends-as, without-end, put-outputs, turns, run-nodes, nested-run}
 use Rattle.meaning.specs.laws.MoreBudget.{nested-run-stays}
 use Rattle.format.specs.Store.{accepted}
 use Rattle.format.specs.Accept.{accept}
@@ -48,10 +48,10 @@ record SameRun (w : NestedEnded) (e : Ended) : Type 0 where
   events : w .events ≡ e .events
 
 same-run : {g : Graph} {x : Given} {ks : Nodes} {outs : Option (List Value)} {e : Ended} (b : ℕ) (w : NestedEnded)
-    → nested-run g x ks outs b ≡ some w → Followed g x ks outs e → SameRun w e
+    → nested-run g x ks outs b ≡ ends-as w → Followed g x ks outs e → SameRun w e
 same-run {g} {x} {ks} {outs} {e} b w h f =
-    let more = nested-run-stays g x ks outs b (b + f .budget) w (omega arith) h in
-    let also = nested-run-stays g x ks outs (f .budget) (b + f .budget) (f .run) (omega arith) (f .ends) in
+    let more = nested-run-stays g x ks outs b (b + f .budget) (ends-as w) (omega arith) (λ p. clash (cc)) h in
+    let also = nested-run-stays g x ks outs (f .budget) (b + f .budget) (ends-as (f .run)) (omega arith) (λ p. clash (cc)) (f .ends) in
     let same : w ≡ f .run = cc in
     let one = f .end in
     let two = f .events in
@@ -61,12 +61,13 @@ same-run {g} {x} {ks} {outs} {e} b w h f =
 abbrev A-crossed : Nodes
 A-crossed =
     block 0 0 0 (op 7 1 5 ∷ [])
-    ▸ select 3 bool-cond (instr 0 0) (record { number = 0; type = 2 } ∷ [])
-    (case 2 (block 2 2 0 (op 9 0 4 ∷ []) ▸ ⟨⟩) (const 1 ∷ []) (case 1 (block 1 1 0 (op 8 0 3 ∷ []) ▸ ⟨⟩) (const 0 ∷ []) ∅))
+    ▸ select (record { number = 3; kind = bool-cond; scrutinee = instr 0 0; outputs = record { number = 0; type = 2 } ∷ [] })
+    (case (record { region = 2; outputs = const 1 ∷ [] }) (block 2 2 0 (op 9 0 4 ∷ []) ▸ ⟨⟩)
+    (case (record { region = 1; outputs = const 0 ∷ [] }) (block 1 1 0 (op 8 0 3 ∷ []) ▸ ⟨⟩) ∅))
     ▸ ⟨⟩
 
 A-crossed-run : nested-run A ones A-crossed (some (output 0 ∷ [])) 1
-    ≡ some (record { end = returned (word 1 ∷ []); events = event 2 0 9 ∷ event 0 0 7 ∷ []; cost = 11; over-limit = false })
+    ≡ ends-as (record { end = returned (word 1 ∷ []); events = event 2 0 9 ∷ event 0 0 7 ∷ []; cost = 11; over-limit = false })
 unfolding nested-run entry-words put put-inputs put-outputs run-nodes do-instr do-block
 A-crossed-run = refl
 
@@ -88,12 +89,44 @@ B-followed : Followed B five (B-loop (instr 1 0)) (some []) B-ended
 B-followed = follows B B-valid B-nested B-nests (some []) (is-whole refl) five 10 B-ended B-run
 
 -- A nester that lets the loop test another value than its header's: one turn.
-B-once-run : nested-run B five (B-loop (bool false)) (some []) 1 ≡ some (record { end = returned []; events = event 1 0 5 ∷ []; cost = 10; over-limit = false })
+B-once-run : nested-run B five (B-loop (bool false)) (some []) 1
+    ≡ ends-as (record { end = returned []; events = event 1 0 5 ∷ []; cost = 10; over-limit = false })
 unfolding nested-run entry-words put put-inputs put-outputs run-nodes turns do-instr do-block
 B-once-run = refl
 
 B-once-wrong : Followed B five (B-loop (bool false)) (some []) B-ended → ⊥
 B-once-wrong f = let y = same-run 1 _ B-once-run f in let e = y .events in clash (cc)
+
+-- ---- 1, of the form as printed: one name is one variable. Here the entry is the body of its own loop, so `i0.0` after the loop is the
+-- input of the second turn, constant 0. A run that kept the loop's inputs apart would return the entry's word for the same sheet.
+abbrev own-body : Graph
+own-body = record {
+  entry = 0;
+  test-cost = 0;
+  constants = 2 ∷ [];
+  regions = record { inputs = 2 ∷ []; blocks = []; limit = 2; terminator = unreachable; exits = [] } ∷ [];
+}
+
+abbrev own-loop : Nodes
+own-loop =
+    loop (record {
+      number = 1;
+      initial-inputs = input 0 0 ∷ [];
+      body = 0;
+      types = 2 ∷ [];
+      limit = 2;
+      outputs = const 0 ∷ [];
+      repeat = instr 0 0;
+    }) (block 0 0 0 (op 5 1 6 ∷ []) ▸ ⟨⟩)
+    ▸ ⟨⟩
+
+abbrev twice-around : Given
+twice-around = record { constants = λ i. 9; entry-inputs = λ k. 7; rule = λ op reads h. bit (ltb (length h) 1) }
+
+own-loop-run : nested-run own-body twice-around own-loop (some (input 0 0 ∷ [])) 2
+    ≡ ends-as (record { end = returned (word 9 ∷ []); events = event 0 0 5 ∷ event 0 0 5 ∷ []; cost = 12; over-limit = false })
+unfolding nested-run entry-words put put-inputs put-outputs run-nodes turns do-instr do-block
+own-loop-run = refl
 
 -- ---- 2, at A: every instruction answers 0, so the second case is taken, the dearer one.
 abbrev zeros : Given
@@ -102,7 +135,7 @@ zeros = record { constants = λ i. i; entry-inputs = λ k. 0; rule = λ op reads
 abbrev A-dear : NestedEnded
 A-dear = record { end = returned (word 1 ∷ []); events = event 2 0 9 ∷ event 0 0 7 ∷ []; cost = 11; over-limit = false }
 
-A-dear-run : nested-run A zeros A-form (some (output 0 ∷ [])) 1 ≡ some A-dear
+A-dear-run : nested-run A zeros A-form (some (output 0 ∷ [])) 1 ≡ ends-as A-dear
 unfolding nested-run entry-words put put-inputs put-outputs run-nodes do-instr do-block
 A-dear-run = refl
 
@@ -121,9 +154,9 @@ A-first-case-wrong h = omega arith
 abbrev turning : ℕ → Given
 turning n = record { constants = λ i. i; entry-inputs = λ k. 0; rule = λ op reads h. bit (ltb (suc (length h)) n) }
 
-abbrev cost-of : Option NestedEnded → Option (ℕ × Bool)
-cost-of none = none
-cost-of (some e) = some (e .cost, e .over-limit)
+abbrev cost-of : NestedRun → Option (ℕ × Bool)
+cost-of (without-end x) = none
+cost-of (ends-as e) = some (e .cost, e .over-limit)
 
 B-ten : cost-of (nested-run B (turning 10) (B-loop (instr 1 0)) (some []) 20) ≡ some (100, false)
 unfolding nested-run entry-words put put-inputs put-outputs run-nodes turns do-instr do-block

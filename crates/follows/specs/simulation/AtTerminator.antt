@@ -11,7 +11,7 @@ use Rattle.meaning.specs.Runs.{⟨⟩, run-nodes, End, Event, RunState, Word, p
 use Rattle.meaning.specs.Graph.{Instr, Value, bool, const, held, input, instr, output, region, undef, no-value}
 use Rattle.nesting.specs.lookups.Contexts.{no-input, own-in, rooted-ends}
 use Rattle.nesting.specs.Nesting.{block-count, blocks-from, blocks-of, same-target, MaybeClaimedRegion, DeferredEdgeBundle, to-region, true-cond, rewrites-of, NestState, NodeOutput, ready, look-up-nodes}
-use Rattle.nesting.specs.lookups.Rewriting.{rewrite}
+use Rattle.nesting.specs.lookups.Rewriting.{rewrite-last}
 use Rattle.nesting.specs.steps.RegionsLeft.{state-of}
 use Rattle.follows.specs.simulation.Usable.{AllUsable, UsableIn, after-blocks}
 use Rattle.meaning.specs.facts.Tests.{eqb-self}
@@ -98,7 +98,7 @@ module _ (W : World) where
       → from-region W n x ws past ≡ ends-with e h → ⊥
   unfolding run-nodes look-up-nodes
   never-ends s inv x b x-in is n ws past e h len gr =
-      let ρ : Resolver = rewrite (s .region-input-rewrites) in
+      let ρ : Resolver = rewrite-last (s .region-input-rewrites) in
       let st : RunState = record { env = put-inputs (λ k. input x k) 0 ws (W .base); events = past; cost = 0; over-limit = false } in
       let un : rewrites-of (s .region-input-rewrites) x ≡ none = inv .unrewritten x (waiting x-in (rw is)) in
       let fl = inv .sims x b ⟨⟩ [] is .leads ρ (s .node-outputs) (final-respects (tables s) (λ q. rooted-ends (inv .rooted q))) n n (omega arith) st ws

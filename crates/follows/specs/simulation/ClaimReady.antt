@@ -9,50 +9,48 @@ use native.Mathlib.Omega.{arith}
 use lib.Dec.{eqb, leb}
 use lib.ListN.{List·getD-eq-default, getD, length, length-map}
 use borrow.Author.Tests.{eqb-false, eqb-true, leb-false, leb-true, ne-eqb}
-use Rattle.meaning.specs.Runs.{Nodes, _▸_, loop, ⟨⟩}
+use Rattle.meaning.specs.Runs.{LoopNode, Nodes, _▸_, loop, ⟨⟩}
 use Rattle.meaning.specs.Graph.{Value, bool, input, pick, region, undef}
 use Rattle.meaning.specs.facts.Tests.{clash, eqb-self, false-if, or-either}
 use Rattle.nesting.specs.lookups.Contexts.{InContext, context-replaced, entry-at, open-else, own-in}
 use Rattle.meaning.specs.Lists.{any}
-use Rattle.nesting.specs.Nesting.{get-edge-bundle-by-target, same-target, split-out-target, ClaimedRegion, define-node, define-region, set-state, with-twice, backedge-of, claim-body, claim-by-state, materialize-lazy-cond, DeferredEdgeBundle, DeferredEdgeBundleSet, to-region, true-cond, LoopInputs, no-inputs, structurize-loop, take-inputs, rewrite-values, rewrites-of, StepAnswer, InputRewrite, NestState, NodeOutput, Step, _>>_, claimed, give, ready, renumber-or-replace-with, renumber-to, replace-by}
+use Rattle.nesting.specs.Nesting.{loop-node, exit-targets, get-edge-bundle-by-target, same-target, split-out-target, ClaimedRegion, define-node, define-region, set-state, with-twice, backedge-of, claim-body, claim-by-state, materialize-lazy-cond, DeferredEdgeBundle, DeferredEdgeBundleSet, to-region, true-cond, LoopInputs, no-inputs, structurize-loop, take-inputs, rewrite-values, rewrites-of, StepAnswer, InputRewrite, NestState, NodeOutput, Step, _>>_, claimed, give, ready, renumber-or-replace-with, renumber-to, replace-by}
 use Rattle.nesting.specs.lookups.Rewriting.{meets, rewrite}
-use Rattle.nesting.specs.lookups.ChainSteps.{step-input}
 use Rattle.nesting.specs.steps.RegionsLeft.{state-of}
 use Rattle.nesting.specs.steps.Post.{bind}
 use Rattle.meaning.specs.facts.Elements.{In}
 use Rattle.follows.specs.simulation.Key.{Key, held-key, is-held, of-held, owns-nodes}
 use Rattle.follows.specs.simulation.World.{Fits, World, ar, size}
-use Rattle.follows.specs.simulation.Tables.{Extends, Resolver, Respects, Tables, entry-law, extends-then, lookup-keeps, respects-back, tables}
+use Rattle.follows.specs.simulation.Tables.{Extends, Resolver, Respects, Tables, entry-law, extends-then, final-input, lookup-keeps, respects-back, tables}
 use Rattle.follows.specs.simulation.Conditions.{Mat, mat-stays}
 use Rattle.follows.specs.simulation.Leads.{Sim, leads-on}
 use Rattle.follows.specs.simulation.Bundles.{DistinctBundles, find-in, found-in, is-always, same-target-sym, same-target→eq}
 use Rattle.follows.specs.simulation.LoopFollows.{HeaderInput, loop-sim}
 use Rattle.follows.specs.simulation.Defined.{Grew, IfDone, Materialized, define-node-post, define-region-post, grew-steady, grew-then, materialize-post}
 use Rattle.follows.specs.simulation.Scope.{EntryOk, InScope, SetOk, OwnedWithin, context-stays, own-input, owned}
-use Rattle.follows.specs.simulation.Invariant.{Free, Inv, Later, New, Owned, Rewritable, free⁺, idle, inv-grew, inv-rewrite, later-grew, later-refl, later-rewrite, later-then, new, old, rewritable⁺, rewriting, unborn, waiting}
-use Rattle.follows.specs.simulation.StateChanges.{changed, inv-busy, later-busy, new-was, not-r, not-rewritable, now, owned-was, still}
+use Rattle.follows.specs.simulation.Invariant.{Free, Inv, Later, New, Owned, Rewritable, free⁺, idle, inv-grew, inv-rewrite, later-grew, later-refl, later-rewrite, later-then, new, old, owned-same, owned⁺, rewritable⁺, rewriting, unborn, waiting}
+use Rattle.follows.specs.simulation.StateChanges.{changed, inv-busy, later-busy, new-was, not-r, not-rewritable, owned-was, still}
 use Rattle.follows.specs.simulation.ClaimedRegions.{Holds, Since}
 use Rattle.follows.specs.simulation.EnterCase.{getD-rewritten}
 use Rattle.follows.specs.simulation.Append.{set-through}
 use Rattle.follows.specs.simulation.LoopParts.{KeptOrLifted, Renumbered, SameBundle, leaving, leaving-distinct, leaving-from, leaving-in, renumbered}
 
-loop-owns : (n : ℕ) (init : List Value) (r : ℕ) (tys : List ℕ) (limit : ℕ) (ks : Nodes) (os : List Value) (rep : Value) (κ : Key)
-    → owns-nodes (loop n init r tys limit ks os rep ▸ ⟨⟩) κ ≡ true → (κ ≡ of-held r) ⊎ (owns-nodes ks κ ≡ true)
+loop-owns : (x : LoopNode) (ks : Nodes) (κ : Key) → owns-nodes (loop x ks ▸ ⟨⟩) κ ≡ true
+    → (κ ≡ of-held (x .body)) ⊎ (owns-nodes ks κ ≡ true)
 unfolding owns-nodes
-loop-owns n init r tys limit ks os rep κ o = go (or-either (is-held r κ) (owns-nodes ks κ) (sym (or-false (is-held r κ || owns-nodes ks κ)) ∙ o))
+loop-owns x ks κ o = go (or-either (is-held (x .body) κ) (owns-nodes ks κ) (sym (or-false (is-held (x .body) κ || owns-nodes ks κ)) ∙ o))
   where
-    go : (is-held r κ ≡ true) ⊎ (owns-nodes ks κ ≡ true) → (κ ≡ of-held r) ⊎ (owns-nodes ks κ ≡ true)
-    go (inl p) = inl (held-key r κ p)
+    go : (is-held (x .body) κ ≡ true) ⊎ (owns-nodes ks κ ≡ true) → (κ ≡ of-held (x .body)) ⊎ (owns-nodes ks κ ≡ true)
+    go (inl p) = inl (held-key (x .body) κ p)
     go (inr p) = inr p
 
-loop-held : (n : ℕ) (init : List Value) (r : ℕ) (tys : List ℕ) (limit : ℕ) (ks : Nodes) (os : List Value) (rep : Value)
-    → owns-nodes (loop n init r tys limit ks os rep ▸ ⟨⟩) (of-held r) ≡ true
+loop-held : (x : LoopNode) (ks : Nodes) → owns-nodes (loop x ks ▸ ⟨⟩) (of-held (x .body)) ≡ true
 unfolding owns-nodes
-loop-held n init r tys limit ks os rep = rw (eqb-self r)
+loop-held x ks = rw (eqb-self (x .body))
 
-loop-within : (n : ℕ) (init : List Value) (r : ℕ) (tys : List ℕ) (limit : ℕ) (ks : Nodes) (os : List Value) (rep : Value) → OwnedWithin ks (loop n init r tys limit ks os rep ▸ ⟨⟩)
+loop-within : (x : LoopNode) (ks : Nodes) → OwnedWithin ks (loop x ks ▸ ⟨⟩)
 unfolding owns-nodes
-loop-within n init r tys limit ks os rep = record { into = λ v p. rw (p, or-true (is-held r v)) }
+loop-within x ks = record { into = λ v p. rw (p, or-true (is-held (x .body) v)) }
 
 -- a step that a branch gives, at a state
 abbrev pub at-state : {A : Type 0} → Step A → NestState → StepAnswer A
@@ -100,7 +98,7 @@ module _ (W : World) where
     mine κ o = record { region = r; back = b; children = ks; deferred-edges = d; is = is-ready; owns = o }
 
     unheld : New s (of-held r)
-    unheld = rw is-ready
+    unheld = h .unrewritten r (waiting r-in was)
 
     clear₁ : (κ : Key) → owns-nodes ks κ ≡ true → Free s₁ κ → ⊥
     clear₁ κ o (new n) = h .fresh κ (mine κ o) (new-was W s r claimed h r-in was refl κ n)
@@ -109,9 +107,8 @@ module _ (W : World) where
         (still W s r claimed h r-in was refl (x .region) (x .back) (x .children) (x .deferred-edges) (x .is)) is-ready
         (not-r W s r claimed h r-in was refl (x .region) (x .back) (x .children) (x .deferred-edges) (x .is)) κ (x .owns) o
 
-    held₁ : Free s₁ (of-held r) → ⊥
-    held₁ (new n) = let z : true ≡ false = rw (now W s r claimed h r-in) at n in clash (cc)
-    held₁ (old x) = h .fresh (of-held r) (owned-was W s r claimed h r-in was refl (of-held r) x) unheld
+    held₁ : Owned s₁ (of-held r) → ⊥
+    held₁ x = h .fresh (of-held r) (owned-was W s r claimed h r-in was refl (of-held r) x) unheld
 
     held-apart : owns-nodes ks (of-held r) ≡ false
     held-apart = false-if (owns-nodes ks (of-held r)) (λ p. h .fresh (of-held r) (mine (of-held r) p) unheld)
@@ -242,10 +239,13 @@ module _ (W : World) where
 
         module _ (v : Value) (s₅ : NestState) (hm : Materialized (pick (is-always d) true-cond (e .condition)) s₄ v s₅) (n : ℕ) (s₆ : NestState) (gr₆ : Grew s₅ s₆) where
           abbrev exits : List ℕ
-          exits = region (W .g) r .exits
+          exits = exit-targets (W .g) r
+
+          abbrev node : LoopNode
+          node = loop-node (W .g) n r x v
 
           abbrev looped : Nodes
-          looped = loop n (x .initial-inputs) r (x .types) (region (W .g) r .limit) ks (x .outputs) v ▸ ⟨⟩
+          looped = loop node ks ▸ ⟨⟩
 
           gr₄₆ : Grew s₄ s₆
           gr₄₆ = grew-then (hm .grew) gr₆
@@ -266,7 +266,7 @@ module _ (W : World) where
           T₅ = record { rewrites = s₃ .region-input-rewrites; outputs = s₅ .node-outputs }
 
           looped-sim : Sim W r w looped (leaving r exits d) (record { rewrites = s₄ .region-input-rewrites; outputs = s₅ .node-outputs })
-          looped-sim = loop-sim W r w ks d T₅ e (x .rewrites) (x .initial-inputs) (x .outputs) (x .types) n (region (W .g) r .limit) v (leaving r exits d) r-unrewritten₃
+          looped-sim = loop-sim W node w ks d T₅ e (x .rewrites) (leaving r exits d) r-unrewritten₃
               (leads-on W (record { rewrites = step₃ .gains .rewrites; outputs = extends-then (step₄ .gains .outputs) (hm .grew .outputs) }) (h .sims r b ks d is-ready))
               back-target only-back back-in e-arity (header-input (s₅ .node-outputs)) repeats
               (λ y i ne′. let z = leaving-in r exits d y i (same-target-sym (to-region r) (y .target) ∙ ne′) in (z .0, z .1, z .2 .target, z .2 .inputs, z .2 .condition))
@@ -275,17 +275,17 @@ module _ (W : World) where
 
           through : (ρ : Resolver) (os : List NodeOutput) → Respects ρ os (tables s₆) → (k : ℕ) → k < ar W r → InScope ρ os w (ar W r) looped (ρ (input r k))
           through ρ os res k lt =
-              let law : ρ (input r k) ≡ step-input ρ r (getD (x .rewrites) k (renumber-to k)) = entry-law
+              let law : ρ (input r k) ≡ final-input ρ r (getD (x .rewrites) k (renumber-to k)) = entry-law
               (respects-back (later-grew W gr₄₆ .gains) res) r _ (entry-at (s₃ .region-input-rewrites) r _ r-unrewritten₃) k in
               rw law (by (getD (x .rewrites) k (renumber-to k)) (rn .good k (omega (arith, n-vs))))
             where
-              by : (sl : InputRewrite) → KeptOrLifted (W .g) r w vs x k sl → InScope ρ os w (ar W r) looped (step-input ρ r sl)
+              by : (sl : InputRewrite) → KeptOrLifted (W .g) r w vs x k sl → InScope ρ os w (ar W r) looped (final-input ρ r sl)
               by (replace-by u) (p, q) = own-input k lt (ap ρ p)
-              by (renumber-to i) g = owned (loop-held n (x .initial-inputs) r (x .types) (region (W .g) r .limit) ks (x .outputs) v)
+              by (renumber-to i) g = owned (loop-held node ks)
 
           looped-set : SetOk W (tables s₆) w (ar W r) looped (leaving r exits d)
           looped-set =
-              let all = set-through (step₆ .gains) (loop-within n (x .initial-inputs) r (x .types) (region (W .g) r .limit) ks (x .outputs) v) through
+              let all = set-through (step₆ .gains) (loop-within node ks) through
               (λ u y. context-stays (later-grew W gr₄₆ .gains .rewrites) (context-replaced (s₃ .region-input-rewrites) r w _ r-unrewritten₃ lifted (context-stays (step₃ .gains .rewrites) y))) W d
               (h .sets r b ks d is-ready) in
               record {
@@ -300,13 +300,22 @@ module _ (W : World) where
                   record { fits = rw (bm .target, bm .inputs) (y-ok .fits); inputs = λ k. rw (bm .inputs) (y-ok .inputs k); condition = rw (bm .condition) (y-ok .condition) }
 
           looped-clear : (κ : Key) → owns-nodes looped κ ≡ true → Free s₆ κ → ⊥
-          looped-clear κ o wd = by (loop-owns n (x .initial-inputs) r (x .types) (region (W .g) r .limit) ks (x .outputs) v κ o)
+          looped-clear κ o wd = by (loop-owns node ks κ o)
             where
               wd₁ : Free s₁ κ
               wd₁ = later-grew W gr₃ .free κ (free⁺ W s₃ r (renumber-or-replace-with (x .rewrites)) κ (later-grew W gr₄₆ .free κ wd))
 
+              held₆ : Free s₆ (of-held r) → ⊥
+              held₆ (old y) =
+                  held₁ (owned-same W gr₃ (of-held r)
+                  (owned⁺ W s₃ r (renumber-or-replace-with (x .rewrites)) (of-held r) (owned-same W gr₄₆ (of-held r) y)))
+              held₆ (new m) =
+                  let z = ap (λ l. rewrites-of l r) (sym (gr₄₆ .rewrites)) ∙ m in
+                  let y = entry-at (s₃ .region-input-rewrites) r (renumber-or-replace-with (x .rewrites)) r-unrewritten₃ in
+                  clash (cc)
+
               by : (κ ≡ of-held r) ⊎ (owns-nodes ks κ ≡ true) → ⊥
-              by (inl p) = held₁ (subst (λ z. Free s₁ z) p wd₁)
+              by (inl p) = held₆ (subst (λ z. Free s₆ z) p wd)
               by (inr p) = clear₁ κ p wd₁
 
           w-unrewritten₆ : rewrites-of (s₆ .region-input-rewrites) w ≡ none
@@ -325,7 +334,7 @@ module _ (W : World) where
                 closed = λ l. closed₃ (rewritable⁺ W s₃ r (renumber-or-replace-with (x .rewrites)) w (later-grew W gr₄₆ .rewritable w l));
                 unrewritten = w-unrewritten₆;
               };
-              since = record { children = λ κ o. since κ (loop-owns n (x .initial-inputs) r (x .types) (region (W .g) r .limit) ks (x .outputs) v κ o); region = w-open };
+              since = record { children = λ κ o. since κ (loop-owns node ks κ o); region = w-open };
               origin = refl;
               inputs = refl;
             };

@@ -21,7 +21,7 @@ use Rattle.follows.specs.simulation.World.{World, ar, size}
 use Rattle.follows.specs.simulation.Tables.{tables}
 use Rattle.follows.specs.simulation.Leads.{Sim, leads-on}
 use Rattle.follows.specs.simulation.Scope.{AllScoped, SetOk, scoped-later, set-later, within-refl}
-use Rattle.follows.specs.simulation.Invariant.{Free, Inv, Later, New, Owned, Rewritable, idle, is-claimed, later-then, new, old, owned-by, unborn, waiting}
+use Rattle.follows.specs.simulation.Invariant.{Free, Inv, Later, New, Owned, Rewritable, idle, later-then, new, old, owned-by, unborn, waiting}
 use Rattle.follows.specs.simulation.StateChanges.{changed, else, now}
 
 module _ (W : World) where
@@ -154,7 +154,7 @@ module _ (W : World) where
     new-was (of-instr q) n = at-or-else (state-of s q ≡ not-begun) q r
         (λ e. absurd (let z : ready b ks d ≡ not-begun = sym now⁺ ∙ ap (λ x. state-of s⁺ x) (sym e) ∙ n in clash (cc)))
         (λ ne. sym (else⁺ q ne) ∙ n)
-    new-was (of-held q) n = at-or-else (is-claimed (state-of s q) ≡ false) q r (λ e. rw (e, cm .doing .busy)) (λ ne. rw (else⁺ q ne) at n)
+    new-was (of-held q) n = n
     new-was (of-node a) n = n
     new-was of-none n = n
 

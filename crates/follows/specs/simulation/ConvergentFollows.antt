@@ -7,9 +7,9 @@ use mathlib.Core.Path.{_∙_, _≡_, ap, refl, subst, sym}
 use Prim.Native.Nat.{_<_, _≤_, ℕ}
 use lib.Dec.{eqb}
 use lib.ListN.{length}
-use Rattle.meaning.specs.Runs.{Cases, Nodes, _▸_, select, ⟨⟩, Ran, and-then, case-count, ended, no-end, pay, run-nodes, through, End, Event, RunState, place-taken, word}
+use Rattle.meaning.specs.Runs.{Cases, Nodes, _▸_, ⟨⟩, Ran, and-then, case-count, ended, no-end, pay, run-nodes, through, End, Event, RunState, place-taken, word}
 use Rattle.meaning.specs.Graph.{SelectionKind, Value, input}
-use Rattle.nesting.specs.Nesting.{Body, ClaimedRegion, MaybeClaimedRegion, Scrutinee, append-maybe-claimed-region, convergent-cases, deferred-of, err, join, ok, DeferredEdgeBundleSet, case-outputs, any-non-empty-case, DefinedSelect, structurize-select, structurize-select-by, without-convergent, structurize-select-into, NestState, NodeOutput, look-up-nodes}
+use Rattle.nesting.specs.Nesting.{new-select, Body, ClaimedRegion, MaybeClaimedRegion, Scrutinee, append-maybe-claimed-region, convergent-cases, deferred-of, err, join, ok, DeferredEdgeBundleSet, case-outputs, any-non-empty-case, DefinedSelect, structurize-select, structurize-select-by, without-convergent, structurize-select-into, NestState, NodeOutput, look-up-nodes}
 use Rattle.nesting.specs.lookups.Rewriting.{rewrite-nodes}
 use Rattle.nesting.specs.steps.Post.{bind, map-post}
 use Rattle.meaning.specs.facts.Elements.{In, nth, nth-in}
@@ -40,12 +40,12 @@ module _ (W : World) where
       → Ran) → deferred-of x ≡ [] → Tracks W ρ os n (deferred-of x) e h R → Tracks W ρ os n d e h (and-then R k)
   ends-there ρ os n x d e h (through s) k p fl = absurd (subst (λ l. In (fl .leads-to .entry) l) p (fl .leads-to .chosen .member))
   ends-there ρ os n x d e h (ended e′ s) k p fl = record { leads-to = fl .leads-to }
-  ends-there ρ os n x d e h no-end k p fl = record { leads-to = fl .leads-to }
+  ends-there ρ os n x d e h (no-end why) k p fl = record { leads-to = fl .leads-to }
 
   and-assoc : (R : Ran) (f g : RunState → Ran) → and-then (and-then R f) g ≡ and-then R (λ s. and-then (f s) g)
   and-assoc (through s) f g = refl
   and-assoc (ended e s) f g = refl
-  and-assoc no-end f g = refl
+  and-assoc (no-end why) f g = refl
 
   abbrev tail-run : Resolver → List NodeOutput → ℕ → MaybeClaimedRegion → RunState → Ran
   tail-run ρ os b c st = runs W b (rewrite-nodes ρ os (children-in c)) st
@@ -122,7 +122,8 @@ module _ (W : World) where
                 → Enters W ρ os k e h st z → Tracks W ρ os k (deferred-of z) e h (runs W b (rewrite-nodes ρ os (children-in z)) st′)
             enter-x z i far st′ ag bs′ en = entered W s₀ r ks kind sc rest s dg ok′ scrutinee-ok x s₁ al ρ os res₁ b k le st bs apart₁ e h z i far st′ ag bs′ en
 
-            follow-made : (n : DefinedSelect) (ccs : Cases) → al .more ≡ select (n .node) (n .kind) (n .scrutinee) [] ccs ▸ ⟨⟩ → n .kind ≡ kind
+            follow-made : (n : DefinedSelect) (ccs : Cases) → al .more ≡ new-select (n .node) (n .kind) (n .scrutinee) ccs ▸ ⟨⟩
+                → n .kind ≡ kind
                 → ScrutineeIs sc (s₁ .node-outputs) (n .scrutinee) → CasesFrom rest ccs → s .node-count ≤ n .node
                 → Takes W kind sc cases ρ os k e h st → Tracks W ρ os k (deferred-of c) e h (and-then (runs W b (rewrite-nodes ρ os (al .more)) st) (tail-run ρ os b c))
             follow-made n ccs te ke is mf above tk = by (cv .each (tk .place-of) (tk .case-of) (tk .at-place))
@@ -205,8 +206,9 @@ module _ (W : World) where
                   → Takes W kind sc cases ρ os n e h st
                   → (T : Nodes) → al .more ≡ T → Shape W s₀ r ks kind sc rest s dg ok′ T (x .deferred-edges) (s₁ .node-outputs)
                   → Tracks W ρ os n (deferred-of c) e h (and-then (runs W b (rewrite-nodes ρ os (al .more)) st) (tail-run ρ os b c))
-              by ρ os res b n le st bs apart e h tk T te (made nd ccs is-tree is-kind is-scrut mf above em) = follow-made ρ os res b n le st bs apart e h nd ccs
-                  (te ∙ is-tree) is-kind is-scrut mf above tk
+              by ρ os res b n le st bs apart e h tk T te (made m) =
+                  follow-made ρ os res b n le st bs apart e h (m .node) (m .cases-of) (te ∙ m .children-is) (m .kind-is) (m .scrutinee-is)
+                  (m .from) (m .above) tk
               by ρ os res b n le st bs apart e h tk T te (unmade is-tree nk nn is-d) = follow-unmade ρ os res b n le st bs apart e h (te ∙ is-tree) nk tk
 
           just-came : Came W s₀ r (y .children) (y .deferred-edges) s₂

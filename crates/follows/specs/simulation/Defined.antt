@@ -11,7 +11,7 @@ use lib.ListN.{length}
 use Rattle.meaning.specs.Graph.{SelectionKind, Value, bool, bool-cond, number, output, pick}
 use Rattle.nesting.specs.steps.Keeps.{Steady, define-merge-keeps}
 use Rattle.meaning.specs.facts.Tests.{clash}
-use Rattle.nesting.specs.Nesting.{define-merge, define-node, define-output, define-region, materialize-lazy-cond, materialize-lazy-conds, same-values, DeferredEdgeBundleSet, LazyCond, LazyConds, _&_, false-cond, merge, true-cond, undef-cond, no-conds, PlannedBundle, PlannedInput, merged, shared, DefinedSelect, emit, emit-condition, emit-inputs, StepAnswer, NestState, NodeOutput, give}
+use Rattle.nesting.specs.Nesting.{most-nodes, most-outputs, most-regions, define-merge, define-node, define-output, define-region, materialize-lazy-cond, materialize-lazy-conds, same-values, DeferredEdgeBundleSet, LazyCond, LazyConds, _&_, false-cond, merge, true-cond, undef-cond, no-conds, PlannedBundle, PlannedInput, merged, shared, DefinedSelect, emit, emit-condition, emit-inputs, StepAnswer, NestState, NodeOutput, give}
 use Rattle.nesting.specs.steps.RegionsLeft.{AnyRefusal}
 use Rattle.nesting.specs.steps.Post.{Post, bind, map-post, when-room}
 use Rattle.meaning.specs.facts.Elements.{nth-last}
@@ -67,7 +67,7 @@ define-output-post : (n ty : ℕ) (vs : List Value) (s : NestState) → IfDone (
 unfolding define-output
 define-output-post n ty vs s =
     let new : NodeOutput = record { node = n; type = ty; values = vs } in
-    when-room tt (ltb (length (s .node-outputs)) 512) _ _ (record {
+    when-room tt (ltb (length (s .node-outputs)) most-outputs) _ _ (record {
       place = length (s .node-outputs);
       at-place = record { there = nth-last (s .node-outputs) new; node = refl };
       is = refl;
@@ -185,8 +185,8 @@ emit-post n (p ∷ ps) s =
 -- ---- regions and nodes
 pub define-region-post : (s : NestState) → IfDone (λ w s′. (w ≡ s .region-count) × (s′ .region-count ≡ suc w) × Grew s s′) (define-region s)
 unfolding define-region
-define-region-post s = when-room tt (ltb (s .region-count) 128) _ _ (refl, refl, grew-steady .region s)
+define-region-post s = when-room tt (ltb (s .region-count) most-regions) _ _ (refl, refl, grew-steady .region s)
 
 pub define-node-post : (s : NestState) → IfDone (λ n s′. (n ≡ s .node-count) × (s′ .node-count ≡ suc n) × Grew s s′) (define-node s)
 unfolding define-node
-define-node-post s = when-room tt (ltb (s .node-count) 512) _ _ (refl, refl, grew-steady .node s)
+define-node-post s = when-room tt (ltb (s .node-count) most-nodes) _ _ (refl, refl, grew-steady .node s)

@@ -107,7 +107,7 @@ module _ (W : World) where
       go : (R : Ran) → Tracks W ρ os n (deferred-of c) e h R → Tracks W ρ os n (map (rewrite-bundle σ) (deferred-of c)) e h R
       go (through s) fl′ = record { leads-to = goes-rewritten ρ σ same os n (deferred-of c) e h s (fl′ .leads-to) }
       go (ended e′ s) fl′ = record { leads-to = fl′ .leads-to }
-      go no-end fl′ = record { leads-to = fl′ .leads-to }
+      go (no-end why) fl′ = record { leads-to = fl′ .leads-to }
 
   pub getD-rewritten : (rs : List RewriteEntry) (vs : List Value) (i : ℕ) → getD (map (rewrite rs) vs) i (undef 0) ≡ rewrite rs (getD vs i (undef 0))
   getD-rewritten rs vs i = ap (λ z. getD (map (rewrite rs) vs) i z) (sym (stops-rewrite rs (undef 0) refl)) ∙ List·getD-map (rewrite rs) vs i (undef 0)

@@ -12,13 +12,13 @@ use borrow.Author.Tests.{eqb-true}
 use Rattle.meaning.specs.Graph.{Value, input, Graph, region, pick}
 use Rattle.meaning.specs.Lists.{numbers-from, empty}
 use Rattle.meaning.specs.Runs.{Word, word32, End, returned, Given, RunState, base-env, entry-words, Nodes, ⟨⟩, Ended, run-from, graph-run, Ran, through, ended, no-end, run-nodes, ended-at, after-last, start, nested-run}
-use Rattle.meaning.specs.facts.Tests.{clash}
+use Rattle.meaning.specs.facts.Tests.{clash, false-if}
 use Rattle.format.specs.Valid.{Valid}
 use Rattle.format.specs.Store
 use Rattle.format.specs.Store.{accepted}
 use Rattle.nesting.specs.lookups.Contexts.{rooted-ends}
-use Rattle.nesting.specs.Nesting.{DeferredTarget, to-region, to-return, DeferredEdgeBundle, DeferredEdgeBundleSet, Outcome, untouched, whole, closed, leftover, Nested, IncomingEdgeCount, StructurizeRegionState, not-begun, in-progress, claimed, ready, NestState, StepAnswer, done, turned-away, give, follow, _>>_, turn-away, set-state, get-state, rewrites-of, ClaimedRegion, try-claim-edge-bundle, claim-by-state, claim-body, backedge-of, begin, structurize-region, incoming-edge-counts, initial-state, outcome-of, conclude-by, conclude, structurize-func-by, structurize-func, look-up-piece, look-up-nodes, look-up}
-use Rattle.nesting.specs.lookups.Rewriting.{nodes-value, rewrite, rewrite-nodes}
+use Rattle.nesting.specs.Nesting.{DeferredTarget, to-region, to-return, DeferredEdgeBundle, DeferredEdgeBundleSet, Outcome, untouched, whole, closed, leftover, Nested, IncomingEdgeCount, StructurizeRegionState, not-begun, in-progress, claimed, ready, NestState, StepAnswer, done, turned-away, give, follow, _>>_, turn-away, set-state, get-state, rewrites-of, ClaimedRegion, try-claim-edge-bundle, claim-by-state, claim-body, backedge-of, begin, structurize-region, incoming-edge-counts, initial-state, outcome-of, conclude-by, conclude, structurize-func-by, structurize-func, look-up-piece, look-up-nodes, look-up-last}
+use Rattle.nesting.specs.lookups.Rewriting.{nodes-value, rewrite-last, rewrite-nodes}
 use Rattle.nesting.specs.steps.Post.{bind, map-post}
 use Rattle.nesting.specs.steps.RegionsLeft.{state-of, with-attempt}
 use Rattle.follows.specs.simulation.Usable.{arity}
@@ -27,7 +27,7 @@ use Rattle.follows.specs.simulation.ValidUse.{usable-graph}
 use Rattle.follows.specs.Statements.{is-whole, is-closed, Followed, FollowsRun}
 use Rattle.follows.specs.Statements as statements
 use Rattle.meaning.specs.facts.Elements.{In}
-use Rattle.follows.specs.simulation.Key.{constant-not-input, key, nodes-none, owns-nodes}
+use Rattle.follows.specs.simulation.Key.{constant-not-input, key, of-held, owns-nodes}
 use Rattle.follows.specs.simulation.Tables.{Resolver, tables}
 use Rattle.follows.specs.simulation.World.{World}
 use Rattle.follows.specs.simulation.Frame.{puts-other}
@@ -35,6 +35,7 @@ use Rattle.follows.specs.simulation.Inputs.{puts-at, input-numbered}
 use Rattle.follows.specs.simulation.Leads.{OnwardTo, Tracks}
 use Rattle.follows.specs.simulation.Final.{final-respects, unrewritten-stays}
 use Rattle.follows.specs.simulation.Defined.{IfDone}
+use Rattle.follows.specs.simulation.Invariant.{new}
 use Rattle.follows.specs.simulation.ClaimReady.{ClaimDone, at-state}
 use Rattle.follows.specs.simulation.Claims.{at-first, claim-post}
 
@@ -94,7 +95,7 @@ entry-many g x = numbers-many (λ k. word32 (x .entry-inputs k)) 0 (region g (g 
 module _ (g : Graph) (valid : Valid g) (x : Given) (c : ClaimedRegion) (s : NestState)
     (cd : ClaimDone (world g valid x) (g .entry) [] (initial-state g) (some c) s) (itself : c .structured-body ≡ g .entry) where
   abbrev ρ : Resolver
-  ρ = rewrite (s .region-input-rewrites)
+  ρ = rewrite-last (s .region-input-rewrites)
 
   abbrev form : Nodes
   form = rewrite-nodes ρ (s .node-outputs) (c .children)
@@ -113,7 +114,8 @@ module _ (g : Graph) (valid : Valid g) (x : Given) (c : ClaimedRegion) (s : Nest
         reads = λ k lt. ap (λ q. start g x .env (ρ (input q k))) itself ∙ ap (start g x .env) (unrewritten-stays (s .region-input-rewrites) (g .entry) k un)
             ∙ puts-at (λ i. input (g .entry) i) (input-numbered (g .entry)) (entry-words g x) k k 0 (omega arith) lt (base-env x);
         apart = λ k lt. ap (λ q. owns-nodes (c .children) (key (s .node-outputs) (ρ (input q k)))) itself
-            ∙ ap (λ v. owns-nodes (c .children) (key (s .node-outputs) v)) (unrewritten-stays (s .region-input-rewrites) (g .entry) k un) ∙ nodes-none (c .children);
+            ∙ ap (λ v. owns-nodes (c .children) (key (s .node-outputs) v)) (unrewritten-stays (s .region-input-rewrites) (g .entry) k un)
+            ∙ false-if _ (λ o. hd .clear (of-held (g .entry)) o (new un));
       })
       (e .end) (e .events) (subst (λ q. run-from (x .rule) g (base-env x) b q (entry-words g x) [] ≡ some e) (sym origin) gr)
 
@@ -130,7 +132,7 @@ module _ (g : Graph) (valid : Valid g) (x : Given) (c : ClaimedRegion) (s : Nest
       go : (R : Ran) → Tracks (world g valid x) ρ (s .node-outputs) b (c .deferred-edges) (e .end) (e .events) R → Comes none b e R
       go (ended e′ st) fl = at-end none b e e′ st (fl .leads-to .0) (fl .leads-to .1)
       go (through st) fl = λ came. absurd (subst (λ l. In (fl .leads-to .entry) l) is-empty (fl .leads-to .chosen .member))
-      go no-end fl = λ came. absurd (fl .leads-to)
+      go (no-end why) fl = λ came. absurd (fl .leads-to)
 
   whole-follows : (y : DeferredEdgeBundle) → y .target ≡ to-return → c .deferred-edges ≡ y ∷ [] → (b : ℕ) (e : Ended) → graph-run g x b ≡ some e
       → Followed g x form (some (map ρ (y .target-inputs))) e
@@ -143,7 +145,7 @@ module _ (g : Graph) (valid : Valid g) (x : Given) (c : ClaimedRegion) (s : Nest
 
       go : (R : Ran) → Tracks (world g valid x) ρ (s .node-outputs) b (c .deferred-edges) (e .end) (e .events) R → Comes (some (map ρ (y .target-inputs))) b e R
       go (ended e′ st) fl = at-end _ b e e′ st (fl .leads-to .0) (fl .leads-to .1)
-      go no-end fl = λ came. absurd (fl .leads-to)
+      go (no-end why) fl = λ came. absurd (fl .leads-to)
       go (through st) fl =
           let here : fl .leads-to .entry ≡ y = only (subst (λ l. In (fl .leads-to .entry) l) is-one (fl .leads-to .chosen .member)) in
           let onw : OnwardTo (world g valid x) ρ st b (e .end) (e .events) to-return (y .target-inputs) =
@@ -161,8 +163,9 @@ module _ (g : Graph) (valid : Valid g) (x : Given) (c : ClaimedRegion) (s : Nest
 module _ (g : Graph) (valid : Valid g) (c : ClaimedRegion) (s : NestState)
     (cd : (x : Given) → ClaimDone (world g valid x) (g .entry) [] (initial-state g) (some c) s) (itself : c .structured-body ≡ g .entry) where
   -- the form that is given is the claimed children, rewritten
-  form-is : rewrite-nodes (rewrite (s .region-input-rewrites)) (s .node-outputs) (c .children) ≡ look-up-nodes (look-up (s .region-input-rewrites)) (s .node-outputs) (c .children) .value
-  form-is = sym (nodes-value (look-up (s .region-input-rewrites)) (s .node-outputs) (c .children))
+  form-is : rewrite-nodes (rewrite-last (s .region-input-rewrites)) (s .node-outputs) (c .children)
+      ≡ look-up-nodes (look-up-last (s .region-input-rewrites)) (s .node-outputs) (c .children) .value
+  form-is = sym (nodes-value (look-up-last (s .region-input-rewrites)) (s .node-outputs) (c .children))
 
   no-form : (n : Nested) → n .outcome ≡ leftover → FollowsRun g n
   no-form n p outs (is-closed q) x b e gr = absurd (let z : leftover ≡ closed = sym p ∙ q in clash (cc))
@@ -175,7 +178,9 @@ module _ (g : Graph) (valid : Valid g) (c : ClaimedRegion) (s : NestState)
     one : y .target ≡ to-return → c .deferred-edges ≡ y ∷ [] → Shows whole
     unfolding look-up-piece
     one t q outs (is-closed r) x b e gr = absurd (clash (cc))
-    one t q outs (is-whole r) x b e gr = subst (λ ks. Followed g x ks (some (map (rewrite (s .region-input-rewrites)) (y .target-inputs))) e) form-is (whole-follows g valid x c s (cd x) itself y t q b e gr)
+    one t q outs (is-whole r) x b e gr =
+        subst (λ ks. Followed g x ks (some (map (rewrite-last (s .region-input-rewrites)) (y .target-inputs))) e) form-is
+        (whole-follows g valid x c s (cd x) itself y t q b e gr)
 
     abbrev outcome-by : DeferredTarget → DeferredEdgeBundleSet → Outcome
     outcome-by t zs = elim t [ to-region r ↦ leftover | to-return ↦ pick (empty zs) whole leftover ]

@@ -7,12 +7,12 @@ use native.Mathlib.Omega.{arith}
 use lib.Dec.{eqb, leb}
 use lib.ListN.{getD}
 use borrow.Author.Tests.{eqb-true}
-use Rattle.meaning.specs.Runs.{Cases, Node, Nodes, _▸_, block, case, exit, loop, select, ∅, ⟨⟩, Ran, and-then, assign-inputs, assign-outputs, case-count, ended, no-end, note-over, once-more, pay, put-outputs, run-case, run-node, run-nodes, tested, through, turns, Env, Rule, RunState, Word, do-block, do-instr, mark, place-taken, put, put-inputs, word}
-use Rattle.meaning.specs.Graph.{Instr, Value, held, instr, output, pick, same-value, undef}
+use Rattle.meaning.specs.Runs.{LoopNode, Cases, Node, Nodes, _▸_, block, case, exit, loop, select, ∅, ⟨⟩, Ran, and-then, assign-inputs, assign-outputs, case-count, ended, no-end, note-over, once-more, pay, put-outputs, run-case, run-node, run-nodes, tested, through, turns, Env, Rule, RunState, Word, do-block, do-instr, mark, place-taken, put, put-inputs, word}
+use Rattle.meaning.specs.Graph.{Instr, Value, input, instr, output, pick, same-value, undef}
 use Rattle.meaning.specs.Lists.{filter}
 use Rattle.meaning.specs.facts.Tests.{clash, eqb-less, eqb-self, false-if, or-left, or-right}
 use Rattle.nesting.specs.Nesting.{case-outputs, output-decls, NodeOutput, look-up-node}
-use Rattle.nesting.specs.lookups.Rewriting.{rewrite-cases-of, rewrite-node, rewrite-nodes, rewrite-reads}
+use Rattle.nesting.specs.lookups.Rewriting.{rewrite-loop, rewrite-cases-of, rewrite-node, rewrite-nodes, rewrite-reads}
 use Rattle.follows.specs.simulation.Values.{same-value→eq}
 use Rattle.follows.specs.simulation.Key.{OutputAt, is-held, is-instr, is-node, key, key-output, owns, owns-cases, owns-nodes}
 
@@ -34,8 +34,9 @@ puts-other v u h k (w ∷ ws) σ = puts-other v u h (suc k) ws (put (v k) w σ) 
 pub instr-other : (os : List NodeOutput) (r k : ℕ) (u : Value) → is-instr r (key os u) ≡ false → same-value u (instr r k) ≡ false
 instr-other os r k u h = false-if _ λ p. let e = same-value→eq u (instr r k) p in let z : eqb r r ≡ false = rw e at h in clash (cc (eqb-self r))
 
-pub held-other : (os : List NodeOutput) (r k : ℕ) (u : Value) → is-held r (key os u) ≡ false → same-value u (held r k) ≡ false
-held-other os r k u h = false-if _ λ p. let e = same-value→eq u (held r k) p in let z : eqb r r ≡ false = rw e at h in clash (cc (eqb-self r))
+pub held-other : (os : List NodeOutput) (r k : ℕ) (u : Value) → is-held r (key os u) ≡ false → same-value u (input r k) ≡ false
+held-other os r k u h = false-if _ λ p. let e = same-value→eq u (input r k) p in let z : eqb r r ≡ false = rw e at h in
+    clash (cc (eqb-self r))
 
 output-other : {n : ℕ} {os : List NodeOutput} {k : ℕ} {o : NodeOutput} → OutputAt n os k o → (u : Value) → is-node n (key os u) ≡ false → same-value u (output k) ≡ false
 output-other {n} {k} at-k u h = false-if _ λ p.
@@ -114,7 +115,7 @@ output-read ρ os n j s k o at-k =
 abbrev pub KeptRan : Value → RunState → Ran → Type 0
 KeptRan u s (through s′) = s′ .env u ≡ s .env u
 KeptRan u s (ended e s′) = Unit
-KeptRan u s no-end = Unit
+KeptRan u s (no-end why) = Unit
 
 pub record Kept (u : Value) (s : RunState) (r : Ran) : Type 0 where
   pub kept : KeptRan u s r
@@ -122,19 +123,19 @@ pub record Kept (u : Value) (s : RunState) (r : Ran) : Type 0 where
 trans-kept : {u : Value} (s s′ : RunState) → s′ .env u ≡ s .env u → (r : Ran) → Kept u s′ r → Kept u s r
 trans-kept s s′ p (through s″) x = record { kept = x .kept ∙ p }
 trans-kept s s′ p (ended e s″) x = record { kept = tt }
-trans-kept s s′ p no-end x = record { kept = tt }
+trans-kept s s′ p (no-end why) x = record { kept = tt }
 
 then-kept : {u : Value} {s : RunState} (r : Ran) (f : RunState → Ran) → Kept u s r → ((s′ : RunState) → Kept u s′ (f s′)) → Kept u s (and-then r f)
 then-kept {s} (through s′) f p q = trans-kept s s′ (p .kept) (f s′) (q s′)
 then-kept (ended e s′) f p q = record { kept = tt }
-then-kept no-end f p q = record { kept = tt }
+then-kept (no-end why) f p q = record { kept = tt }
 
 tested-kept : {u : Value} {s : RunState} (w : Word) (f : ℕ → Ran) → ((x : ℕ) → Kept u s (f x)) → Kept u s (tested w f)
 tested-kept (word x) f p = p x
 tested-kept mark f p = record { kept = tt }
 
 pub inputs-kept : (os : List NodeOutput) (r : ℕ) (u : Value) → is-held r (key os u) ≡ false → (us : List Value) (s : RunState) → (assign-inputs r us s) .env u ≡ s .env u
-inputs-kept os r u h us s = puts-other (λ k. held r k) u (λ k. held-other os r k u h) 0 (map (s .env) us) (s .env)
+inputs-kept os r u h us s = puts-other (λ k. input r k) u (λ k. held-other os r k u h) 0 (map (s .env) us) (s .env)
 
 module _ (rule : Rule) (test : ℕ) (ρ : Value → Value) (os : List NodeOutput) (u : Value) where
   block-kept : (r : ℕ) → is-instr r (key os u) ≡ false → (k : ℕ) (is : List Instr) (s : RunState) → (do-block rule r k is s) .env u ≡ s .env u
@@ -142,34 +143,41 @@ module _ (rule : Rule) (test : ℕ) (ρ : Value → Value) (os : List NodeOutput
   block-kept r h k [] s = refl
   block-kept r h k (i ∷ is) s = block-kept r h (suc k) is (do-instr rule r k i s) ∙ put-other (instr r k) u _ (s .env) (instr-other os r k u h)
 
-  turns-kept : (body : RunState → Ran) → ((s : RunState) → Kept u s (body s)) → (r limit : ℕ) → is-held r (key os u) ≡ false → (vs : List Value) (v : Value)
-      (b made : ℕ) (s : RunState) → Kept u s (turns rule test b made body r limit vs v s)
+  turns-kept : (x : LoopNode) (run : RunState → Ran) → ((s : RunState) → Kept u s (run s)) → is-held (x .body) (key os u) ≡ false
+      → (b made : ℕ) (s : RunState) → Kept u s (turns rule test b made x run s)
   unfolding turns
-  turns-kept body p r limit h vs v zero made s = record { kept = tt }
-  turns-kept body p r limit h vs v (suc b) made s =
-      let ih : (s″ : RunState) → Kept u s″ (turns rule test b (suc made) body r limit vs v s″) = λ s″. turns-kept body p r limit h vs v b (suc made) s″ in
-      trans-kept s (note-over (leb limit made) s) refl _
-      (then-kept (body (note-over (leb limit made) s)) _ (p (note-over (leb limit made) s)) (λ s′. tested-kept (s′ .env v) _ (turn ih s′)))
+  turns-kept x run p h zero made s = record { kept = tt }
+  turns-kept x run p h (suc b) made s =
+      let ih : (s″ : RunState) → Kept u s″ (turns rule test b (suc made) x run s″) = λ s″. turns-kept x run p h b (suc made) s″ in
+      let s₁ : RunState = note-over (leb (x .limit) made) s in
+      trans-kept s s₁ refl _ (then-kept (run s₁) _ (p s₁) (λ s′. tested-kept (s′ .env (x .repeat)) _ (turn ih s′)))
     where
-      turn : ((s″ : RunState) → Kept u s″ (turns rule test b (suc made) body r limit vs v s″)) → (s′ : RunState) (w : ℕ)
-          → Kept u s′ (once-more (λ s″. turns rule test b (suc made) body r limit vs v (assign-inputs r vs s″)) w (pay test s′))
+      turn : ((s″ : RunState) → Kept u s″ (turns rule test b (suc made) x run s″)) → (s′ : RunState) (w : ℕ)
+          → Kept u s′ (once-more (λ s″. turns rule test b (suc made) x run (assign-inputs (x .body) (x .outputs) s″)) (x .outputs) w
+          (pay test s′))
       turn ih s′ zero = record { kept = refl }
-      turn ih s′ (suc w) = trans-kept s′ (assign-inputs r vs (pay test s′)) (inputs-kept os r u h vs (pay test s′)) _ (ih _)
+      turn ih s′ (suc w) =
+          trans-kept s′ (assign-inputs (x .body) (x .outputs) (pay test s′)) (inputs-kept os (x .body) u h (x .outputs) (pay test s′)) _
+          (ih _)
 
   mutual
     unfolding run-node owns look-up-node
 
     node-kept : (x : Node) → owns x (key os u) ≡ false → (b : ℕ) (s : RunState) → Kept u s (run-node rule test b (rewrite-node ρ os x) s)
     node-kept (block n r k is) h b s = record { kept = block-kept r h k (map (rewrite-reads ρ) is) s }
-    node-kept (select n kind v ds cs) h b s =
-        tested-kept (s .env (ρ v)) _ λ w. trans-kept s (pay test s) refl _
-        (case-kept cs (or-right (is-node n (key os u)) (owns-cases cs (key os u)) h) b (place-taken kind w (case-count (rewrite-cases-of ρ os cs n 0))) n 0
+    node-kept (select x cs) h b s =
+        let n = x .number in
+        tested-kept (s .env (ρ (x .scrutinee))) _ λ w. trans-kept s (pay test s) refl _
+        (case-kept cs (or-right (is-node n (key os u)) (owns-cases cs (key os u)) h) b
+        (place-taken (x .kind) w (case-count (rewrite-cases-of ρ os cs n 0))) n 0
         (or-left (is-node n (key os u)) (owns-cases cs (key os u)) h) (pay test s))
-    node-kept (loop n init r tys limit ks vs v) h b s =
+    node-kept (loop x ks) h b s =
+        let r = x .body in
         let k : is-held r (key os u) ≡ false = or-left (is-held r (key os u)) (owns-nodes ks (key os u)) h in
-        trans-kept s (assign-inputs r (map ρ init) s) (inputs-kept os r u k (map ρ init) s) _
-        (turns-kept (λ s′. run-nodes rule test b (rewrite-nodes ρ os ks) s′)
-        (λ s′. nodes-kept ks (or-right (is-held r (key os u)) (owns-nodes ks (key os u)) h) b s′) r limit k (map ρ vs) (ρ v) b 0 (assign-inputs r (map ρ init) s))
+        let s₁ : RunState = assign-inputs r (map ρ (x .initial-inputs)) s in
+        trans-kept s s₁ (inputs-kept os r u k (map ρ (x .initial-inputs)) s) _
+        (turns-kept (rewrite-loop ρ os x) (λ s′. run-nodes rule test b (rewrite-nodes ρ os ks) s′)
+        (λ s′. nodes-kept ks (or-right (is-held r (key os u)) (owns-nodes ks (key os u)) h) b s′) k b 0 s₁)
     node-kept (exit n op vs) h b s = record { kept = tt }
 
     nodes-kept : (ks : Nodes) → owns-nodes ks (key os u) ≡ false → (b : ℕ) (s : RunState) → Kept u s (run-nodes rule test b (rewrite-nodes ρ os ks) s)
@@ -181,10 +189,11 @@ module _ (rule : Rule) (test : ℕ) (ρ : Value → Value) (os : List NodeOutput
     case-kept : (cs : Cases) → owns-cases cs (key os u) ≡ false → (b j n i : ℕ) → is-node n (key os u) ≡ false → (s : RunState)
         → Kept u s (run-case rule test b (rewrite-cases-of ρ os cs n i) j (output-decls n 0 os) s)
     case-kept ∅ h b j n i g s = record { kept = tt }
-    case-kept (case r ks vs cs) h b zero n i g s =
+    case-kept (case c ks cs) h b zero n i g s =
         then-kept (run-nodes rule test b (rewrite-nodes ρ os ks) s) _ (nodes-kept ks (or-left (owns-nodes ks (key os u)) (owns-cases cs (key os u)) h) b s)
         (λ s′. record { kept = outputs-kept n os u g (map ρ (case-outputs n i os)) s′ })
-    case-kept (case r ks vs cs) h b (suc j) n i g s = case-kept cs (or-right (owns-nodes ks (key os u)) (owns-cases cs (key os u)) h) b j n (suc i) g s
+    case-kept (case c ks cs) h b (suc j) n i g s =
+        case-kept cs (or-right (owns-nodes ks (key os u)) (owns-cases cs (key os u)) h) b j n (suc i) g s
 
   pub frame : (ks : Nodes) (b : ℕ) (s s′ : RunState) → run-nodes rule test b (rewrite-nodes ρ os ks) s ≡ through s′ → owns-nodes ks (key os u) ≡ false → s′ .env u ≡ s .env u
   frame ks b s s′ p h = (rw p at (nodes-kept ks h b s)) .kept

@@ -1,11 +1,11 @@
 -- The invariant of nesting's state, and what a step may change.
 -- A key is Owned if a Ready region's children own it, New if no children can own it yet: instructions of a region not begun,
--- body inputs of a region not claimed, outputs of a node not defined. Free is either: what a call may still use.
+-- inputs of a region without rewrites, outputs of a node not defined. Free is either: what a call may still use.
 -- A region is Rewritable if someone other than its holder may still give it rewrites: not begun, Ready, or not yet defined.
 -- Whoever holds children that own nothing Free, or a region that is not Rewritable, still does after any call: no list of holders is kept.
 use mathlib.Core.Bool.{Bool, false, true}
-use mathlib.Core.List.{[], _∷_}
-use mathlib.Core.Option.{none}
+use mathlib.Core.List.{List, [], _∷_, _++_}
+use mathlib.Core.Option.{Option, none, some}
 use mathlib.Core.Path.{_∙_, _≡_, ap, refl, subst, sym}
 use Prim.Native.Nat.{_<_, _≤_, ℕ}
 use native.Mathlib.Omega.{arith}
@@ -13,9 +13,10 @@ use lib.Dec.{eqb}
 use lib.ListN.{getD, length}
 use Rattle.meaning.specs.Runs.{Nodes}
 use Rattle.meaning.specs.Graph.{Value, region}
-use Rattle.nesting.specs.lookups.ChainEnds.{RewritesTo}
+use Rattle.nesting.specs.lookups.ChainEnds.{RewritesTo, entry-kept}
+use Rattle.meaning.specs.facts.Tests.{clash}
 use Rattle.nesting.specs.lookups.Contexts.{InContext, Rooted, open-else, rooted-add}
-use Rattle.nesting.specs.Nesting.{DeferredEdgeBundleSet, rewrites-of, NestState, RegionInputRewrites, StructurizeRegionState, claimed, in-progress, not-begun, ready}
+use Rattle.nesting.specs.Nesting.{DeferredEdgeBundleSet, rewrites-of, NestState, RegionInputRewrites, RewriteEntry, StructurizeRegionState, claimed, in-progress, not-begun, ready}
 use Rattle.nesting.specs.steps.RegionsLeft.{state-of}
 use Rattle.nesting.specs.steps.Keeps.{with-entry}
 use Rattle.follows.specs.simulation.Key.{Key, of-held, of-instr, of-node, of-none, owns-nodes}
@@ -31,11 +32,12 @@ idle in-progress = false
 idle claimed = false
 idle (ready b ks d) = true
 
-abbrev pub is-claimed : StructurizeRegionState → Bool
-is-claimed not-begun = false
-is-claimed in-progress = false
-is-claimed claimed = true
-is-claimed (ready b ks d) = false
+pub open-before : (es t : List RewriteEntry) (r : ℕ) → rewrites-of (es ++ t) r ≡ none → rewrites-of es r ≡ none
+open-before es t r h = go (rewrites-of es r) refl
+  where
+    go : (y : Option RegionInputRewrites) → rewrites-of es r ≡ y → rewrites-of es r ≡ none
+    go none e = e
+    go (some y) e = let z = entry-kept es t r y e in absurd (clash (cc))
 
 -- Some Ready region's children own the key.
 pub record Owned (s : NestState) (κ : Key) : Type 0 where
@@ -49,7 +51,7 @@ pub record Owned (s : NestState) (κ : Key) : Type 0 where
 -- No children own it yet.
 abbrev pub New : NestState → Key → Type 0
 New s (of-instr q) = state-of s q ≡ not-begun
-New s (of-held q) = is-claimed (state-of s q) ≡ false
+New s (of-held q) = rewrites-of (s .region-input-rewrites) q ≡ none
 New s (of-node n) = s .node-count ≤ n
 New s of-none = ⊥
 
@@ -110,7 +112,7 @@ module _ (W : World) where
 
     new-same : (κ : Key) → New s′ κ → New s κ
     new-same (of-instr q) h = sym (status-same q) ∙ h
-    new-same (of-held q) h = rw (status-same q) at h
+    new-same (of-held q) h = ap (λ l. rewrites-of l q) (sym (gr .rewrites)) ∙ h
     new-same (of-node n) h = omega (arith, gr .node-count)
     new-same of-none h = h
 
@@ -161,12 +163,12 @@ module _ (W : World) where
     rewritable⁺ r (unborn h) = unborn h
     rewritable⁺ r (waiting lt h) = waiting lt h
 
-    owned⁺ : (κ : Key) → Owned s⁺ κ → Owned s κ
+    pub owned⁺ : (κ : Key) → Owned s⁺ κ → Owned s κ
     owned⁺ v o = owned-by o (o .is)
 
     new⁺ : (κ : Key) → New s⁺ κ → New s κ
     new⁺ (of-instr r) h = h
-    new⁺ (of-held r) h = h
+    new⁺ (of-held r) h = open-before (s .region-input-rewrites) _ r h
     new⁺ (of-node n) h = h
     new⁺ of-none h = h
 

@@ -26,7 +26,7 @@ key os (instr r k) = of-instr r
 key os (held r k) = of-held r
 key os (output o) = key-at (nth os o)
 key os (const i) = of-none
-key os (input r k) = of-none
+key os (input r k) = of-held r
 key os (bool b) = of-none
 key os (undef ty) = of-none
 key os no-value = of-none
@@ -107,8 +107,8 @@ held-key r (of-held q) p = ap of-held (eqb-true q r p)
 unfoldable mutual
   pub owns : Node → Key → Bool
   owns (block n r k is) κ = is-instr r κ
-  owns (select n kind v os cs) κ = is-node n κ || owns-cases cs κ
-  owns (loop n init r tys limit ks us v) κ = is-held r κ || owns-nodes ks κ
+  owns (select x cs) κ = is-node (x .number) κ || owns-cases cs κ
+  owns (loop x ks) κ = is-held (x .body) κ || owns-nodes ks κ
   owns (exit n op vs) κ = false
 
   pub owns-nodes : Nodes → Key → Bool
@@ -117,15 +117,15 @@ unfoldable mutual
 
   pub owns-cases : Cases → Key → Bool
   owns-cases ∅ κ = false
-  owns-cases (case r ks vs cs) κ = owns-nodes ks κ || owns-cases cs κ
+  owns-cases (case c ks cs) κ = owns-nodes ks κ || owns-cases cs κ
 
 mutual
   unfolding owns
 
   node-none : (x : Node) → owns x of-none ≡ false
   node-none (block n r k is) = refl
-  node-none (select n kind v os cs) = cases-none cs
-  node-none (loop n init r tys limit ks us v) = nodes-none ks
+  node-none (select x cs) = cases-none cs
+  node-none (loop x ks) = nodes-none ks
   node-none (exit n op vs) = refl
 
   pub nodes-none : (ks : Nodes) → owns-nodes ks of-none ≡ false
@@ -134,7 +134,7 @@ mutual
 
   cases-none : (cs : Cases) → owns-cases cs of-none ≡ false
   cases-none ∅ = refl
-  cases-none (case r ks vs cs) = rw (nodes-none ks) (cases-none cs)
+  cases-none (case c ks cs) = rw (nodes-none ks) (cases-none cs)
 
 pub owns-join : (a b : Nodes) (κ : Key) → owns-nodes (join a b) κ ≡ (owns-nodes a κ || owns-nodes b κ)
 unfolding owns-nodes

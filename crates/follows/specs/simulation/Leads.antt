@@ -45,7 +45,7 @@ rewrite-join ρ os (x ▸ a) b = ap (λ ks. rewrite-node ρ os x ▸ ks) (rewrit
 pub then-on : (R : Ran) → and-then R (λ s. through s) ≡ R
 then-on (through s) = refl
 then-on (ended e s) = refl
-then-on no-end = refl
+then-on (no-end why) = refl
 
 module _ (W : World) where
   pub then-runs : (b : ℕ) (a c : Nodes) (s : RunState) → runs W b (join a c) s ≡ and-then (runs W b a s) (λ s′. runs W b c s′)
@@ -57,7 +57,7 @@ module _ (W : World) where
           → and-then r (λ s′. runs W b (join a c) s′) ≡ and-then (and-then r (λ s′. runs W b a s′)) (λ s′. runs W b c s′)
       go ih (through s′) = ih s′
       go ih (ended e s′) = refl
-      go ih no-end = refl
+      go ih (no-end why) = refl
 
   -- ---- where a run leads
   -- The graph's run goes on to the target with these inputs, in fewer than n regions, to this end.
@@ -73,7 +73,7 @@ module _ (W : World) where
   abbrev pub LeadsRan : (RunState → Type 0) → End → List Event → Ran → Type 0
   LeadsRan Q e h (through s) = Q s
   LeadsRan Q e h (ended e′ s) = (e′ ≡ e) × (s .events ≡ h)
-  LeadsRan Q e h no-end = ⊥
+  LeadsRan Q e h (no-end why) = ⊥
 
   pub record LeadsTo (Q : RunState → Type 0) (e : End) (h : List Event) (r : Ran) : Type 0 where
     pub leads-to : LeadsRan Q e h r
@@ -123,7 +123,7 @@ module _ (W : World) where
           → (R : Ran) → runs W b (rewrite-nodes ρ os ks) s ≡ R → LeadsTo (Q ρ os n e h) e h R → LeadsTo (Q′ ρ os n e h) e h R
       go ρ os res b n s bs e h (through s′) p q = record { leads-to = f ρ os res n e h s′ (based-after ρ os ks b s s′ p bs) (q .leads-to) }
       go ρ os res b n s bs e h (ended e′ s′) p q = record { leads-to = q .leads-to }
-      go ρ os res b n s bs e h no-end p q = record { leads-to = q .leads-to }
+      go ρ os res b n s bs e h (no-end why) p q = record { leads-to = q .leads-to }
 
   -- what the inputs read as, and the events, alone decide
   pub onward-reads : (ρ : Resolver) (s s′ : RunState) → s′ .events ≡ s .events → (n : ℕ) (e : End) (h : List Event) (x : DeferredTarget) (us vs : List Value)
@@ -143,7 +143,7 @@ module _ (W : World) where
       let y = p .leads-to in
       record { leads-to = record { entry = y .entry; chosen = y .chosen; onward = onward-less ρ s n n′ le e h (y .entry .target) (y .entry .target-inputs) (y .onward) } }
   tracks-less ρ os n n′ le d e h (ended e′ s) p = record { leads-to = p .leads-to }
-  tracks-less ρ os n n′ le d e h no-end p = record { leads-to = p .leads-to }
+  tracks-less ρ os n n′ le d e h (no-end why) p = record { leads-to = p .leads-to }
 
   -- ---- more children follow
   pub leads-then : {r : ℕ} {ks : Nodes} {T T′ : Tables} (more : Nodes) (d : DeferredEdgeBundleSet) (Q : Reached) → Leads r r ks T Q → Gains T T′
@@ -168,4 +168,4 @@ module _ (W : World) where
       go ρ os res b n le s w bs lw apart e h (through s′) p q =
           next ρ os res b n le s′ (based-after ρ os ks b s s′ p bs) (λ k lt. apart k (omega (arith, lw))) e h (q .leads-to)
       go ρ os res b n le s w bs lw apart e h (ended e′ s′) p q = record { leads-to = q .leads-to }
-      go ρ os res b n le s w bs lw apart e h no-end p q = record { leads-to = q .leads-to }
+      go ρ os res b n le s w bs lw apart e h (no-end why) p q = record { leads-to = q .leads-to }

@@ -7,10 +7,10 @@ use mathlib.Core.Path.{_≡_, ap, refl}
 use Prim.Native.Nat.{_<_, _≤_, suc, zero, ℕ}
 use native.Mathlib.Omega.{arith}
 use lib.ListN.{length}
-use Rattle.meaning.specs.Runs.{Cases, _▸_, case, select, ∅, ⟨⟩, case-count}
+use Rattle.meaning.specs.Runs.{Cases, _▸_, ∅, ⟨⟩, case-count}
 use Rattle.meaning.specs.Graph.{SelectionKind, Value}
 use Rattle.meaning.specs.facts.Tests.{clash, or-either, or-left, or-right}
-use Rattle.nesting.specs.Nesting.{MaybeClaimedRegion, Scrutinee, err, lazy, ok, value, define-node, define-region, materialize-lazy-cond, DefinedSelect, case-regions, define-select, scrutinee-value, NestState, NodeOutput}
+use Rattle.nesting.specs.Nesting.{new-case, new-select, MaybeClaimedRegion, Scrutinee, err, lazy, ok, value, define-node, define-region, materialize-lazy-cond, DefinedSelect, case-regions, define-select, scrutinee-value, NestState, NodeOutput}
 use Rattle.nesting.specs.steps.Post.{bind, map-post}
 use Rattle.meaning.specs.facts.Elements.{In, nth}
 use Rattle.follows.specs.simulation.Key.{Key, owns-cases, owns-nodes}
@@ -23,7 +23,7 @@ use Rattle.follows.specs.simulation.EnterCase.{ScrutineeIs, children-in}
 -- ---- the select's cases
 abbrev pub CasesFrom : List MaybeClaimedRegion → Cases → Type 0
 CasesFrom [] ccs = ccs ≡ ∅
-CasesFrom (c ∷ cs) ccs = (r : ℕ) × (rest : Cases) × (ccs ≡ case r (children-in c) [] rest) × CasesFrom cs rest
+CasesFrom (c ∷ cs) ccs = (r : ℕ) × (rest : Cases) × (ccs ≡ new-case r (children-in c) rest) × CasesFrom cs rest
 
 pub cases-children : (cs : List MaybeClaimedRegion) (ccs : Cases) → CasesFrom cs ccs → (j : ℕ) (c : MaybeClaimedRegion) → nth cs j ≡ some c → children-at ccs j ≡ some (children-in c)
 cases-children [] ccs h j c p = absurd (clash (cc))
@@ -73,7 +73,7 @@ scrutinee-value-post (lazy c) s = map-post (materialize-lazy-cond c s) (material
 
 pub record DefinesSelect (kind : SelectionKind) (sc : Scrutinee) (cases : List MaybeClaimedRegion) (s : NestState) (n : DefinedSelect) (s′ : NestState) : Type 0 where
   pub cases-of : Cases
-  pub children-is : n .children ≡ select (n .node) (n .kind) (n .scrutinee) [] cases-of ▸ ⟨⟩
+  pub children-is : n .children ≡ new-select (n .node) (n .kind) (n .scrutinee) cases-of ▸ ⟨⟩
   pub kind-is : n .kind ≡ kind
   pub scrut-is : ScrutineeIs sc (s′ .node-outputs) (n .scrutinee)
   pub from : CasesFrom cases cases-of

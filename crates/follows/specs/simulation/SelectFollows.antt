@@ -8,10 +8,10 @@ use Prim.Native.Nat.{_<_, _≤_, ℕ}
 use lib.Dec.{eqb}
 use lib.ListN.{getD, length}
 use borrow.Author.Tests.{eqb-true}
-use Rattle.meaning.specs.Runs.{Cases, Nodes, _▸_, select, ⟨⟩, pay, run-nodes, through, End, Event, RunState, mark, word}
+use Rattle.meaning.specs.Runs.{Cases, Nodes, _▸_, ⟨⟩, pay, run-nodes, through, End, Event, RunState, mark, word}
 use Rattle.meaning.specs.Graph.{SelectionKind, Value, bool, bool-cond, const, held, input, instr, number, output, pick, undef, no-value}
 use Rattle.meaning.specs.facts.Tests.{clash, eqb-self, false-if, or-left, or-right}
-use Rattle.nesting.specs.Nesting.{Body, ClaimedRegion, MaybeClaimedRegion, Scrutinee, deferred-of, err, has-children, join, ok, DeferredEdgeBundle, to-region, DeferredTargetSummary, any-needs-select, any-non-empty-case, deferred-targets, in-parent, plan-bundles, DefinedSelect, shared-bundle, NestState, NodeOutput, look-up-nodes}
+use Rattle.nesting.specs.Nesting.{new-select, Body, ClaimedRegion, MaybeClaimedRegion, Scrutinee, deferred-of, err, has-children, join, ok, DeferredEdgeBundle, to-region, DeferredTargetSummary, any-needs-select, any-non-empty-case, deferred-targets, in-parent, plan-bundles, DefinedSelect, shared-bundle, NestState, NodeOutput, look-up-nodes}
 use Rattle.nesting.specs.lookups.Rewriting.{rewrite-claimed, rewrite-nodes, rewrite, rewrite-case}
 use Rattle.meaning.specs.facts.Elements.{In, from-map, nth, nth-in, nth-map}
 use Rattle.follows.specs.simulation.Key.{Key, is-constant, is-node, key, node-key, nodes-none, of-node, owns-cases, owns-join, owns-nodes}
@@ -49,7 +49,7 @@ in-parent-of c (input r k) v p = go (eqb r (c .structured-body)) refl p
     go true e q = inr (k, ap (λ z. input z k) (eqb-true r (c .structured-body) e), cc)
     go false e q = absurd (clash (cc))
 
-pub select-owns : (κ : Key) (n : ℕ) (kind : SelectionKind) (sc : Value) (ccs : Cases) → owns-nodes (select n kind sc [] ccs ▸ ⟨⟩) κ ≡ false
+pub select-owns : (κ : Key) (n : ℕ) (kind : SelectionKind) (sc : Value) (ccs : Cases) → owns-nodes (new-select n kind sc ccs ▸ ⟨⟩) κ ≡ false
     → (is-node n κ ≡ false) × (owns-cases ccs κ ≡ false)
 unfolding owns-nodes
 select-owns κ n kind sc ccs h =
@@ -60,7 +60,7 @@ pub none-owns : (κ : Key) → owns-nodes ⟨⟩ κ ≡ false
 unfolding owns-nodes
 none-owns κ = refl
 
-own-node : (n : ℕ) (kind : SelectionKind) (sc : Value) (ccs : Cases) → owns-nodes (select n kind sc [] ccs ▸ ⟨⟩) (of-node n) ≡ true
+own-node : (n : ℕ) (kind : SelectionKind) (sc : Value) (ccs : Cases) → owns-nodes (new-select n kind sc ccs ▸ ⟨⟩) (of-node n) ≡ true
 unfolding owns-nodes
 own-node n kind sc ccs = rw (eqb-self n)
 
@@ -136,15 +136,19 @@ module _ (W : World) where
       where
         by : (T : Nodes) → al .more ≡ T → Shape W s₀ r ks kind sc cases s dg fit T (y .deferred-edges) (s′ .node-outputs)
             → SetOk W (tables s′) r (ar W r) (join ks (al .more)) (y .deferred-edges)
-        by T te (made n ccs is-tree is-kind is-scrut mf above em) =
+        by T te (made m) =
+            let n = m .node in
             let own : owns-nodes (join ks (al .more)) (of-node (n .node)) ≡ true =
-            owns-join ks (al .more) (of-node (n .node)) ∙ ap (λ x. owns-nodes ks (of-node (n .node)) || owns-nodes x (of-node (n .node))) (te ∙ is-tree) ∙ ap
-            (λ x. owns-nodes ks (of-node (n .node)) || x) (own-node (n .node) (n .kind) (n .scrutinee) ccs) ∙ or-true (owns-nodes ks (of-node (n .node))) in
-            set-emitted W (tables s′) r (join ks (al .more)) cs shares n (λ k o p. scoped-output p own) ws (y .deferred-edges) em fits (targets-distinct cs [] tt)
+            owns-join ks (al .more) (of-node (n .node))
+            ∙ ap (λ x. owns-nodes ks (of-node (n .node)) || owns-nodes x (of-node (n .node))) (te ∙ m .children-is) ∙ ap
+            (λ x. owns-nodes ks (of-node (n .node)) || x) (own-node (n .node) (n .kind) (n .scrutinee) (m .cases-of))
+            ∙ or-true (owns-nodes ks (of-node (n .node))) in
+            set-emitted W (tables s′) r (join ks (al .more)) cs shares n (λ k o p. scoped-output p own) ws (y .deferred-edges)
+            (m .emits) fits (targets-distinct cs [] tt)
             (λ w i cds p. record {
               is = (
                 scoped-later (gains-refl (tables s′)) (within-left ks (al .more))
-                    (scrutinee-ok (tables s′) (al .moves .gains) (n .scrutinee) is-scrut),
+                    (scrutinee-ok (tables s′) (al .moves .gains) (n .scrutinee) (m .scrutinee-is)),
                 own,
               );
             })
@@ -204,11 +208,13 @@ module _ (W : World) where
       at-undef : (ty : ℕ) → st .env (ρ (undef ty)) ≡ mark
       at-undef ty = ap (st .env) (res .on-undef ty) ∙ bs .based (undef ty) refl ∙ W .on-undef ty
 
-      pub far-made : (n : DefinedSelect) (ccs : Cases) → al .more ≡ select (n .node) (n .kind) (n .scrutinee) [] ccs ▸ ⟨⟩ → (i : ℕ) → i < ar W r
+      pub far-made : (n : DefinedSelect) (ccs : Cases) → al .more ≡ new-select (n .node) (n .kind) (n .scrutinee) ccs ▸ ⟨⟩ → (i : ℕ)
+          → i < ar W r
           → (is-node (n .node) (key os (ρ (input r i))) ≡ false) × (owns-cases ccs (key os (ρ (input r i))) ≡ false)
       far-made n ccs te i lt = select-owns (key os (ρ (input r i))) (n .node) (n .kind) (n .scrutinee) ccs (rw te at (in-more i lt))
 
-      pub made-follows : (n : DefinedSelect) (ccs : Cases) → al .more ≡ select (n .node) (n .kind) (n .scrutinee) [] ccs ▸ ⟨⟩ → n .kind ≡ kind
+      pub made-follows : (n : DefinedSelect) (ccs : Cases) → al .more ≡ new-select (n .node) (n .kind) (n .scrutinee) ccs ▸ ⟨⟩
+          → n .kind ≡ kind
           → ScrutineeIs sc (s′ .node-outputs) (n .scrutinee) → CasesFrom cases ccs → s .node-count ≤ n .node
           → EmitsAll (s′ .node-outputs) n (plan-bundles (W .g) cs) (y .deferred-edges) → Takes W kind sc cases ρ os k e h st
           → Tracks W ρ os k (y .deferred-edges) e h (runs W b (rewrite-nodes ρ os (al .more)) st)
@@ -271,6 +277,7 @@ module _ (W : World) where
             → ((i : ℕ) → i < ar W r → owns-nodes (join ks (al .more)) (key os (ρ (input r i))) ≡ false) → (e : End) (h : List Event) → Takes W kind sc cases ρ os n e h st
             → (T : Nodes) → al .more ≡ T → Shape W s₀ r ks kind sc cases s dg fit T (y .deferred-edges) (s′ .node-outputs)
             → Tracks W ρ os n (y .deferred-edges) e h (runs W b (rewrite-nodes ρ os (al .more)) st)
-        by ρ os res b n le st bs apart e h tk T te (made nd ccs is-tree is-kind is-scrut mf above em) = made-follows ρ os res b n le st bs apart e h nd ccs
-            (te ∙ is-tree) is-kind is-scrut mf above em tk
+        by ρ os res b n le st bs apart e h tk T te (made m) =
+            made-follows ρ os res b n le st bs apart e h (m .node) (m .cases-of) (te ∙ m .children-is) (m .kind-is) (m .scrutinee-is)
+            (m .from) (m .above) (m .emits) tk
         by ρ os res b n le st bs apart e h tk T te (unmade is-tree nk nn is-d) = unmade-follows ρ os res b n le st bs apart e h (te ∙ is-tree) nk nn is-d tk

@@ -1,15 +1,15 @@
 -- The run of a defined select follows the graph's run.
 use mathlib.Core.Bool.{Bool, false}
-use mathlib.Core.List.{List, [], map}
+use mathlib.Core.List.{List, map}
 use mathlib.Core.Logic.{_⊎_, inl, inr}
 use mathlib.Core.Option.{Option, none, some}
 use mathlib.Core.Path.{_∙_, _≡_, ap, refl, subst, sym}
 use Prim.Native.Nat.{_+_, suc, zero, ℕ}
 use native.Mathlib.Omega.{arith}
 use lib.ListN.{getD, length}
-use Rattle.meaning.specs.Runs.{Cases, Nodes, _▸_, case, select, ∅, ⟨⟩, Ran, and-then, case-count, ended, no-end, pay, run-case, run-nodes, through, End, Event, Rule, RunState, place-taken, word}
+use Rattle.meaning.specs.Runs.{Cases, Nodes, _▸_, case, ∅, ⟨⟩, Ran, and-then, case-count, ended, no-end, pay, run-case, run-nodes, through, End, Event, Rule, RunState, place-taken, word}
 use Rattle.meaning.specs.Graph.{SelectionKind, Value, bool, bool-cond, pick, undef}
-use Rattle.nesting.specs.Nesting.{MaybeClaimedRegion, deferred-of, DeferredEdgeBundle, DeferredEdgeBundleSet, case-outputs, output-decls, DeferredTargetSummary, in-parent, plan-bundle, DefinedSelect, NodeOutput, look-up-nodes, look-up-cases}
+use Rattle.nesting.specs.Nesting.{new-select, MaybeClaimedRegion, deferred-of, DeferredEdgeBundle, DeferredEdgeBundleSet, case-outputs, output-decls, DeferredTargetSummary, in-parent, plan-bundle, DefinedSelect, NodeOutput, look-up-nodes, look-up-cases}
 use Rattle.nesting.specs.lookups.Rewriting.{rewrite-cases-of, rewrite-nodes}
 use Rattle.meaning.specs.facts.Elements.{In, nth}
 use Rattle.follows.specs.simulation.Key.{is-node, key, key-constant, owns-nodes}
@@ -24,28 +24,30 @@ use Rattle.follows.specs.simulation.SelectGoes.{Took, output-after, outp
 
 abbrev pub children-at : Cases → ℕ → Option Nodes
 children-at ∅ j = none
-children-at (case r ks os cs) zero = some ks
-children-at (case r ks os cs) (suc j) = children-at cs j
+children-at (case c ks cs) zero = some ks
+children-at (case c ks cs) (suc j) = children-at cs j
 
 module _ (ρ : Resolver) (os : List NodeOutput) where
   pub count-form : (cs : Cases) (n j : ℕ) → case-count (rewrite-cases-of ρ os cs n j) ≡ case-count cs
   unfolding look-up-cases
   count-form ∅ n j = refl
-  count-form (case r ks vs cs) n j = ap suc (count-form cs n (suc j))
+  count-form (case c ks cs) n j = ap suc (count-form cs n (suc j))
 
   pub case-run : (rule : Rule) (test b : ℕ) (cs : Cases) (n i j : ℕ) (ks : Nodes) (s : RunState) → children-at cs j ≡ some ks
       → run-case rule test b (rewrite-cases-of ρ os cs n i) j (output-decls n 0 os) s ≡ and-then (run-nodes rule test b (rewrite-nodes ρ os ks) s)
       (λ s′. through (outputs-set ρ os n (i + j) s′))
   unfolding look-up-cases run-case
   case-run rule test b ∅ n i j ks s p = cc
-  case-run rule test b (case r ks′ vs cs) n i zero ks s p = let e : ks′ ≡ ks = cc in let z : i + 0 ≡ i = omega arith in rw (e, z)
-  case-run rule test b (case r ks′ vs cs) n i (suc j) ks s p = let z : i + suc j ≡ suc i + j = omega arith in rw z (case-run rule test b cs n (suc i) j ks s p)
+  case-run rule test b (case c ks′ cs) n i zero ks s p = let e : ks′ ≡ ks = cc in let z : i + 0 ≡ i = omega arith in rw (e, z)
+  case-run rule test b (case c ks′ cs) n i (suc j) ks s p = let z : i + suc j ≡ suc i + j = omega arith in
+      rw z (case-run rule test b cs n (suc i) j ks s p)
 
 -- The run of a select is its test and the case taken, whose outputs become the select's.
 module _ (W : World) where
   pub select-runs : (ρ : Resolver) (os : List NodeOutput) (b n : ℕ) (kind : SelectionKind) (sc : Value) (ccs : Cases) (j w : ℕ) (ksj : Nodes) (st : RunState)
       → children-at ccs j ≡ some ksj → st .env (ρ sc) ≡ word w → place-taken kind w (case-count ccs) ≡ j
-      → runs W b (rewrite-nodes ρ os (select n kind sc [] ccs ▸ ⟨⟩)) st ≡ and-then (runs W b (rewrite-nodes ρ os ksj) (pay (W .g .test-cost) st))
+      → runs W b (rewrite-nodes ρ os (new-select n kind sc ccs ▸ ⟨⟩)) st
+      ≡ and-then (runs W b (rewrite-nodes ρ os ksj) (pay (W .g .test-cost) st))
       (λ s′. through (outputs-set ρ os n j s′))
   unfolding run-nodes look-up-nodes
   select-runs ρ os b n kind sc ccs j w ksj st kj tests takes =
@@ -95,7 +97,7 @@ module _ (W : World)
           go zero r l = inr (sym l, r)
           go (suc x) r l = inl (sym l, record { less = x; is = r })
 
-  pub select-follows : Tracks W ρ os k d e h (runs W b (rewrite-nodes ρ os (select (n .node) (n .kind) (n .scrutinee) [] ccs ▸ ⟨⟩)) s)
+  pub select-follows : Tracks W ρ os k d e h (runs W b (rewrite-nodes ρ os (new-select (n .node) (n .kind) (n .scrutinee) ccs ▸ ⟨⟩)) s)
   select-follows = subst (λ R. Tracks W ρ os k d e h R) (sym (select-runs W ρ os b (n .node) (n .kind) (n .scrutinee) ccs j w ksj s children-j tests takes))
       (go (runs W b (rewrite-nodes ρ os ksj) (pay (W .g .test-cost) s)) refl inside)
     where
@@ -103,4 +105,4 @@ module _ (W : World)
           → Tracks W ρ os k d e h (and-then R (λ s′. through (outputs-set ρ os (n .node) j s′)))
       go (through s₁) p fl = record { leads-to = after s₁ p (fl .leads-to) }
       go (ended e′ s₁) p fl = record { leads-to = fl .leads-to }
-      go no-end p fl = record { leads-to = fl .leads-to }
+      go (no-end why) p fl = record { leads-to = fl .leads-to }

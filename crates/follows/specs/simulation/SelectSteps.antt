@@ -9,12 +9,12 @@ use native.Mathlib.Omega.{arith}
 use lib.Dec.{eqb}
 use lib.ListN.{getD}
 use borrow.Author.Tests.{eqb-false}
-use Rattle.meaning.specs.Runs.{Cases, Nodes, _▸_, select, ⟨⟩}
+use Rattle.meaning.specs.Runs.{Cases, Nodes, _▸_, ⟨⟩}
 use Rattle.meaning.specs.Graph.{SelectionKind, Value, input, undef}
 use Rattle.meaning.specs.facts.Tests.{clash, or-either, or-left, or-right}
 use Rattle.nesting.specs.lookups.ChainEnds.{RewritesTo}
 use Rattle.nesting.specs.lookups.Contexts.{InContext, entry-at, open-else}
-use Rattle.nesting.specs.Nesting.{look-up-each, look-up, look-up-case, Body, ClaimedRegion, MaybeClaimedRegion, Scrutinee, err, join, ok, with-twice, DeferredEdgeBundleSet, any-needs-select, any-non-empty-case, plan-bundles, rewrites-of, DefinedSelect, define-select, emit, replace-inputs, select-if, shared-bundle, structurize-select, NestState, NodeOutput, replace-with}
+use Rattle.nesting.specs.Nesting.{new-select, look-up-each, look-up, look-up-case, Body, ClaimedRegion, MaybeClaimedRegion, Scrutinee, err, join, ok, with-twice, DeferredEdgeBundleSet, any-needs-select, any-non-empty-case, plan-bundles, rewrites-of, DefinedSelect, define-select, emit, replace-inputs, select-if, shared-bundle, structurize-select, NestState, NodeOutput, replace-with}
 use Rattle.nesting.specs.lookups.Rewriting.{rewrite-claimed, rewrite-cases-is, rewrite, rewrite-case}
 use Rattle.nesting.specs.steps.Post.{bind, map-post}
 use Rattle.follows.specs.simulation.ConvergentCase.{Apart}
@@ -39,7 +39,7 @@ pub none-owned : (κ : Key) → owns-nodes ⟨⟩ κ ≡ true → ⊥
 unfolding owns-nodes
 none-owned κ o = clash (cc)
 
-own-select : (κ : Key) (n : ℕ) (kind : SelectionKind) (sc : Value) (ccs : Cases) → owns-nodes (select n kind sc [] ccs ▸ ⟨⟩) κ ≡ true
+own-select : (κ : Key) (n : ℕ) (kind : SelectionKind) (sc : Value) (ccs : Cases) → owns-nodes (new-select n kind sc ccs ▸ ⟨⟩) κ ≡ true
     → (is-node n κ ≡ true) ⊎ (owns-cases ccs κ ≡ true)
 unfolding owns-nodes
 own-select κ n kind sc ccs o = or-either (is-node n κ) (owns-cases ccs κ) (sym (or-false (is-node n κ || owns-cases ccs κ)) ∙ o)
@@ -179,10 +179,19 @@ module _ (W : World) where
     abbrev pub cs : List MaybeClaimedRegion
     cs = map (rewrite-case σ) cases
 
+    -- a select with these cases, which emits d
+    pub record Made (more : Nodes) (d : DeferredEdgeBundleSet) (os : List NodeOutput) : Type 0 where
+      pub node : DefinedSelect
+      pub cases-of : Cases
+      pub children-is : more ≡ new-select (node .node) (node .kind) (node .scrutinee) cases-of ▸ ⟨⟩
+      pub kind-is : node .kind ≡ kind
+      pub scrutinee-is : ScrutineeIs sc os (node .scrutinee)
+      pub from : CasesFrom cases cases-of
+      pub above : s .node-count ≤ node .node
+      pub emits : EmitsAll os node (plan-bundles (W .g) cs) d
+
     pub data Shape (more : Nodes) (d : DeferredEdgeBundleSet) (os : List NodeOutput) : Type 0 where
-      made : (n : DefinedSelect) (ccs : Cases) → more ≡ select (n .node) (n .kind) (n .scrutinee) [] ccs ▸ ⟨⟩ → n .kind ≡ kind → ScrutineeIs sc os (n .scrutinee)
-          → CasesFrom cases ccs → s .node-count ≤ n .node
-          → EmitsAll os n (plan-bundles (W .g) cs) d → Shape more d os
+      made : Made more d os → Shape more d os
       unmade : more ≡ ⟨⟩ → any-non-empty-case cases ≡ false → any-needs-select (plan-bundles (W .g) cs) ≡ false → d ≡ map shared-bundle (plan-bundles (W .g) cs) → Shape more d os
 
     pub record Selected (x : Body) (s′ : NestState) : Type 0 where
@@ -204,7 +213,7 @@ module _ (W : World) where
         in-case κ (ok x) i o = (x, i, o)
         in-case κ (err d) i o = absurd (none-owned κ o)
 
-        tree : (κ : Key) → owns-nodes (select (n .node) (n .kind) (n .scrutinee) [] (mk .cases-of) ▸ ⟨⟩) κ ≡ true → Who κ
+        tree : (κ : Key) → owns-nodes (new-select (n .node) (n .kind) (n .scrutinee) (mk .cases-of) ▸ ⟨⟩) κ ≡ true → Who κ
         tree κ o = at (own-select κ (n .node) (n .kind) (n .scrutinee) (mk .cases-of) o)
           where
             at : (is-node (n .node) κ ≡ true) ⊎ (owns-cases (mk .cases-of) κ ≡ true) → Who κ
@@ -261,9 +270,16 @@ module _ (W : World) where
         bind (emit n (plan-bundles (W .g) cs) s₂) _ (emit-post n (plan-bundles (W .g) cs) s₂) λ d s₃ em.
         record {
           post = record {
-            shape = made n (mk .cases-of) (mk .children-is) (mk .kind-is)
-                (scrutinee-stays sc (s₂ .node-outputs) (s₃ .node-outputs) (em .grew .outputs) (n .scrutinee) (mk .scrut-is)) (mk .from)
-                (omega (arith, gr .node-count, mk .above)) (em .emits);
+            shape = made (record {
+              node = n;
+              cases-of = mk .cases-of;
+              children-is = mk .children-is;
+              kind-is = mk .kind-is;
+              scrutinee-is = scrutinee-stays sc (s₂ .node-outputs) (s₃ .node-outputs) (em .grew .outputs) (n .scrutinee) (mk .scrut-is);
+              from = mk .from;
+              above = omega (arith, gr .node-count, mk .above);
+              emits = em .emits;
+            });
             grew = grew-then gr (grew-then (mk .grew) (em .grew));
             doing = with-select n s₂ s₃ (makes-from n s₁ s₂ gr mk) (em .grew);
           };

@@ -2,7 +2,7 @@
 use mathlib.Core.Bool.{false, true}
 use mathlib.Core.List.{List, [], _∷_}
 use mathlib.Core.Logic.{_⊎_, inl, inr}
-use mathlib.Core.Path.{_∙_, _≡_, refl, sym}
+use mathlib.Core.Path.{_∙_, _≡_, sym}
 use Prim.Native.Nat.{_+_, _<_, _≤_, suc, ℕ}
 use native.Mathlib.Omega.{arith}
 use lib.Dec.{eqb}
@@ -12,12 +12,12 @@ use borrow.Author.Tests.{eqb-false, ne-eqb}
 use Rattle.meaning.specs.Runs.{Nodes}
 use Rattle.meaning.specs.Graph.{Instr}
 use Rattle.meaning.specs.facts.Tests.{clash, at-or-else, or-either}
-use Rattle.nesting.specs.Nesting.{blocks-from, DeferredEdgeBundleSet, NestState, StructurizeRegionState, claimed, in-progress, not-begun, ready}
+use Rattle.nesting.specs.Nesting.{blocks-from, DeferredEdgeBundleSet, NestState, StructurizeRegionState, in-progress, not-begun, ready}
 use Rattle.nesting.specs.steps.RegionsLeft.{state-of, with-state}
 use Rattle.follows.specs.simulation.Key.{Key, instr-key, is-instr, of-held, of-instr, of-node, of-none, owns-nodes}
 use Rattle.follows.specs.simulation.World.{World, size}
 use Rattle.follows.specs.simulation.Tables.{gains-refl, tables}
-use Rattle.follows.specs.simulation.Invariant.{Free, Inv, Later, New, Owned, Rewritable, idle, is-claimed, new, old, owned-by, unborn, waiting}
+use Rattle.follows.specs.simulation.Invariant.{Free, Inv, Later, New, Owned, Rewritable, idle, new, old, owned-by, unborn, waiting}
 
 module _ (W : World) (s : NestState) (r : ℕ) (x : StructurizeRegionState) (h : Inv W s) (r-in : r < size W) where
   abbrev pub changed : NestState
@@ -43,16 +43,6 @@ module _ (W : World) (s : NestState) (r : ℕ) (x : StructurizeRegionState) (h :
     pub owned-was : (κ : Key) → Owned changed κ → Owned s κ
     owned-was κ o = owned-by o (still (o .region) (o .back) (o .children) (o .deferred-edges) (o .is))
 
-    unclaimed-was : (q : ℕ) → is-claimed (state-of changed q) ≡ false → is-claimed (state-of s q) ≡ false
-    unclaimed-was q p =
-        at-or-else (is-claimed (state-of s q) ≡ false) q r (λ e. rw e (idle-unclaimed (state-of s r) was)) (λ ne. rw (else q ne) at p)
-      where
-        idle-unclaimed : (y : StructurizeRegionState) → idle y ≡ true → is-claimed y ≡ false
-        idle-unclaimed not-begun e = refl
-        idle-unclaimed in-progress e = cc
-        idle-unclaimed claimed e = cc
-        idle-unclaimed (ready b ks d) e = refl
-
     unbegun-was : (q : ℕ) → state-of changed q ≡ not-begun → state-of s q ≡ not-begun
     unbegun-was q p = at-or-else (state-of s q ≡ not-begun) q r
         (λ e. let z : x ≡ not-begun = sym now ∙ (rw e at p) in absurd (let z′ : true ≡ false = rw z at is in clash (cc)))
@@ -60,7 +50,7 @@ module _ (W : World) (s : NestState) (r : ℕ) (x : StructurizeRegionState) (h :
 
     pub new-was : (κ : Key) → New changed κ → New s κ
     new-was (of-instr q) n = unbegun-was q n
-    new-was (of-held q) n = unclaimed-was q n
+    new-was (of-held q) n = n
     new-was (of-node a) n = n
     new-was of-none n = n
 

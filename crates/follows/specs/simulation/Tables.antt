@@ -56,14 +56,19 @@ gains-then p q = record { rewrites = extends-then (p .rewrites) (q .rewrites); o
 abbrev pub Resolver : Type 0
 Resolver = Value → Value
 
+-- What an input of region r is at the end, by its rewrite: a renumbered one is the body input of its loop, the mark taken off.
+abbrev pub final-input : Resolver → ℕ → InputRewrite → Value
+final-input ρ r (replace-by v) = ρ v
+final-input ρ r (renumber-to i) = input r i
+
 abbrev pub EntryLaw : Resolver → ℕ → RegionInputRewrites → Type 0
 EntryLaw ρ r (replace-with vs) = (k : ℕ) → ρ (input r k) ≡ ρ (getD vs k (undef 0))
-EntryLaw ρ r (renumber-or-replace-with xs) = (k : ℕ) → ρ (input r k) ≡ step-input ρ r (getD xs k (renumber-to k))
+EntryLaw ρ r (renumber-or-replace-with xs) = (k : ℕ) → ρ (input r k) ≡ final-input ρ r (getD xs k (renumber-to k))
 
 -- Look-ups that obey the rewrites of T, and outputs os that begin with those of T.
 pub record Respects (ρ : Resolver) (os : List NodeOutput) (T : Tables) : Type 0 where
   pub on-const : (i : ℕ) → ρ (const i) ≡ const i
-  pub on-held : (r k : ℕ) → ρ (held r k) ≡ held r k
+  pub on-held : (r k : ℕ) → ρ (held r k) ≡ input r k
   pub on-instr : (r k : ℕ) → ρ (instr r k) ≡ instr r k
   pub on-output : (k : ℕ) → ρ (output k) ≡ output k
   pub on-bool : (b : Bool) → ρ (bool b) ≡ bool b
@@ -102,7 +107,7 @@ pub entry-law : {ρ : Resolver} {os : List NodeOutput} {T : Tables} → Respects
 entry-law h r (replace-with vs) p = λ k. sym (rw p at (h .steps (input r k)))
 entry-law {ρ} h r (renumber-or-replace-with ss) p = λ k. sym (rw p at (h .steps (input r k))) ∙ go (getD ss k (renumber-to k))
   where
-    go : (sl : InputRewrite) → ρ (step-input (λ v. v) r sl) ≡ step-input ρ r sl
+    go : (sl : InputRewrite) → ρ (step-input (λ v. v) r sl) ≡ final-input ρ r sl
     go (replace-by v) = refl
     go (renumber-to i) = h .on-held r i
 

@@ -7,26 +7,27 @@ use native.Mathlib.Omega.{arith}
 use lib.ListN.{length, getD}
 use lib.Dec.{eqb, leb}
 use borrow.Author.Tests.{eq-eqb, ne-eqb}
-use Rattle.meaning.specs.Graph.{Value, held, undef}
-use Rattle.meaning.specs.Runs.{Word, word, Env, Rule, RunState, put, put-inputs, Ran, through, note-over, pay, assign-inputs, turns}
+use Rattle.meaning.specs.Graph.{Value, input, undef}
+use Rattle.meaning.specs.Runs.{LoopNode, Word, word, Env, Rule, RunState, put, put-inputs, Ran, through, note-over, pay, assign-inputs, leave-loop, turns}
 
-put-earlier : (r k i : ℕ) (ws : List Word) (σ : Env) → k < i → put-inputs (λ k. held r k) i ws σ (held r k) ≡ σ (held r k)
+put-earlier : (r k i : ℕ) (ws : List Word) (σ : Env) → k < i → put-inputs (λ k. input r k) i ws σ (input r k) ≡ σ (input r k)
 unfolding put-inputs put
 put-earlier r k i [] σ l = refl
 put-earlier r k i (w ∷ ws) σ l =
     let other : eqb k i ≡ false = ne-eqb k i (λ e. omega arith) in
     let same : eqb r r ≡ true = eq-eqb r r refl in
-    put-earlier r k (suc i) ws (put (held r i) w σ) (omega arith) ∙ rw (same, other)
+    put-earlier r k (suc i) ws (put (input r i) w σ) (omega arith) ∙ rw (same, other)
 
-put-read : (r i k : ℕ) (ws : List Word) (σ : Env) (d : Word) → k < length ws → put-inputs (λ k. held r k) i ws σ (held r (i + k)) ≡ getD ws k d
+put-read : (r i k : ℕ) (ws : List Word) (σ : Env) (d : Word) → k < length ws
+    → put-inputs (λ k. input r k) i ws σ (input r (i + k)) ≡ getD ws k d
 unfolding put-inputs put
 put-read r i k [] σ d l = absurd (omega arith)
 put-read r i zero (w ∷ ws) σ d l =
     let z : i + 0 ≡ i = omega arith in
-    rw (z, put-earlier r i (suc i) ws (put (held r i) w σ) (omega arith), eq-eqb r r refl, eq-eqb i i refl)
+    rw (z, put-earlier r i (suc i) ws (put (input r i) w σ) (omega arith), eq-eqb r r refl, eq-eqb i i refl)
 put-read r i (suc k) (w ∷ ws) σ d l =
     let z : i + suc k ≡ suc i + k = omega arith in
-    rw z (put-read r (suc i) k ws (put (held r i) w σ) d (omega arith))
+    rw z (put-read r (suc i) k ws (put (input r i) w σ) d (omega arith))
 
 getD-map : (f : Value → Word) (vs : List Value) (k : ℕ) (d : Value) → k < length vs → getD (map f vs) k (f d) ≡ f (getD vs k d)
 getD-map f [] k d l = absurd (omega arith)
@@ -38,21 +39,24 @@ map-long f [] = refl
 map-long f (v ∷ vs) = ap suc (map-long f vs)
 
 -- Each body input becomes what its value was before any of them changed.
-pub inputs-at-once : (r : ℕ) (vs : List Value) (s : RunState) (k : ℕ) → k < length vs → assign-inputs r vs s .env (held r k) ≡ s .env (getD vs k (undef 0))
+pub inputs-at-once : (r : ℕ) (vs : List Value) (s : RunState) (k : ℕ) → k < length vs
+    → assign-inputs r vs s .env (input r k) ≡ s .env (getD vs k (undef 0))
 inputs-at-once r vs s k l =
     let z : 0 + k ≡ k = omega arith in
     let long = map-long (s .env) vs in
     (rw z at (put-read r 0 k (map (s .env) vs) (s .env) (s .env (undef 0)) (omega arith))) ∙ getD-map (s .env) vs k (undef 0) l
 
-module _ (rule : Rule) (test-cost n made : ℕ) (body : RunState → Ran) (r limit : ℕ) (vs : List Value) (v : Value) (s t : RunState)
-    (comes : body (note-over (leb limit made) s) ≡ through t) where
+module _ (rule : Rule) (test-cost n made : ℕ) (x : LoopNode) (run : RunState → Ran) (s t : RunState)
+    (comes : run (note-over (leb (x .limit) made) s) ≡ through t) where
   -- The test reads the state that the body left: 0 ends the loop there.
-  pub last-turn : t .env v ≡ word 0 → turns rule test-cost (suc n) made body r limit vs v s ≡ through (pay test-cost t)
+  pub last-turn : t .env (x .repeat) ≡ word 0
+      → turns rule test-cost (suc n) made x run s ≡ through (leave-loop (x .outputs) (pay test-cost t))
   unfolding turns
   last-turn e = rw (comes, e)
 
   -- Any other word is once more, with the body's outputs for inputs.
-  pub next-turn : (w : ℕ) → t .env v ≡ word (suc w)
-      → turns rule test-cost (suc n) made body r limit vs v s ≡ turns rule test-cost n (suc made) body r limit vs v (assign-inputs r vs (pay test-cost t))
+  pub next-turn : (w : ℕ) → t .env (x .repeat) ≡ word (suc w)
+      → turns rule test-cost (suc n) made x run s
+      ≡ turns rule test-cost n (suc made) x run (assign-inputs (x .body) (x .outputs) (pay test-cost t))
   unfolding turns
   next-turn w e = rw (comes, e)

@@ -5,7 +5,7 @@ use mathlib.Core.List.{[], _∷_}
 use mathlib.Core.Option.{Option, none, some}
 use Prim.Native.Nat.{ℕ, _+_}
 use Rattle.meaning.specs.Graph.{Graph}
-use Rattle.meaning.specs.Runs.{word, Event, returned, Given, put, put-inputs, entry-words, do-instr, do-block, do-blocks, run-from, graph-run, NestedEnded, put-outputs, turns, run-nodes, nested-run}
+use Rattle.meaning.specs.Runs.{word, Event, returned, Given, put, put-inputs, entry-words, do-instr, do-block, do-blocks, run-from, graph-run, NestedRun, ends-as, put-outputs, turns, run-nodes, nested-run}
 use Rattle.format.specs.Store
 use Rattle.format.specs.Store.{accepted, refused}
 use Rattle.nesting.specs.Nesting.{Outcome, untouched, whole, closed, leftover, Nested, structurize-func}
@@ -13,13 +13,13 @@ use Rattle.nesting.specs.cases.Computes.{nesting-computes}
 use Rattle.nesting.specs.cases.CaseGraphs.{A}
 
 -- A whole form is run with the entry's outputs, a closed one without; the others have no run.
-abbrev pub run-nested : Graph → Given → ℕ → Nested → Outcome → Option NestedEnded
+abbrev pub run-nested : Graph → Given → ℕ → Nested → Outcome → Option NestedRun
 run-nested g x n y untouched = none
-run-nested g x n y whole = nested-run g x (y .entry .children) (some (y .entry .outputs)) n
-run-nested g x n y closed = nested-run g x (y .entry .children) none n
+run-nested g x n y whole = some (nested-run g x (y .entry .children) (some (y .entry .outputs)) n)
+run-nested g x n y closed = some (nested-run g x (y .entry .children) none n)
 run-nested g x n y leftover = none
 
-abbrev pub run-answer : Graph → Given → ℕ → Store.Answer Nested → Option NestedEnded
+abbrev pub run-answer : Graph → Given → ℕ → Store.Answer Nested → Option NestedRun
 run-answer g x n (accepted y) = run-nested g x n y (y .outcome)
 run-answer g x n (refused n′ w) = none
 
@@ -39,10 +39,12 @@ unfolding graph-run run-from entry-words put-inputs put do-blocks do-block do-in
 A-false = refl
 
 -- An instruction of 5, a test of 2, an instruction of 3.
-pub A-true-nested : run-answer A (answering 5) 0 (structurize-func A) ≡ some (record { end = returned (word 100 ∷ []); events = event 1 8 ∷ event 0 7 ∷ []; cost = 10; over-limit = false })
+pub A-true-nested : run-answer A (answering 5) 0 (structurize-func A)
+    ≡ some (ends-as (record { end = returned (word 100 ∷ []); events = event 1 8 ∷ event 0 7 ∷ []; cost = 10; over-limit = false }))
 unfolding nesting-computes nested-run run-nodes turns entry-words put-inputs put-outputs put do-block do-instr
 A-true-nested = refl
 
-pub A-false-nested : run-answer A (answering 0) 0 (structurize-func A) ≡ some (record { end = returned (word 101 ∷ []); events = event 2 9 ∷ event 0 7 ∷ []; cost = 11; over-limit = false })
+pub A-false-nested : run-answer A (answering 0) 0 (structurize-func A)
+    ≡ some (ends-as (record { end = returned (word 101 ∷ []); events = event 2 9 ∷ event 0 7 ∷ []; cost = 11; over-limit = false }))
 unfolding nesting-computes nested-run run-nodes turns entry-words put-inputs put-outputs put do-block do-instr
 A-false-nested = refl

@@ -57,7 +57,8 @@ abbrev A-piece : ShownRegion
 A-piece =
     region-shown 0 [] (
     block-shown 0 (item 0 7 1 ∷ [])
-    ▹ select-shown 3 bool-cond (code 2 0 0) (2 ∷ []) (A-case 1 8 0 ▹▹ A-case 2 9 1 ▹▹ no-region)
+    ▹ select-shown (record { number = 3; kind = bool-cond; scrutinee = code 2 0 0; output-types = 2 ∷ [] })
+    (A-case 1 8 0 ▹▹ A-case 2 9 1 ▹▹ no-region)
     ▹ no-node
     ) (code 3 3 0 ∷ [])
 

@@ -111,7 +111,7 @@ read-select = do
   v ← read-value
   rs ← read-list read-number
   ts ← read-list read-number
-  decode-as (select-line n k v rs ts)
+  decode-as (select-line (record { number = n; kind = k; scrutinee = v; output-types = ts }) rs)
 
 abbrev pub read-loop : WordReader Line
 read-loop = do
@@ -135,7 +135,7 @@ read-defer = do
   n ← read-number
   vs ← read-list read-value
   c ← read-any-condition
-  decode-as (defer-line r x n vs c)
+  decode-as (defer-line (record { region = r; target = x; count = n; inputs = vs; condition = c }))
 
 -- By the word that leads the line.
 abbrev pub line-by : ℕ → WordReader Line

@@ -4,13 +4,13 @@ use mathlib.Core.Option.{Option, none, some, bind}
 use Prim.Native.Nat.{ℕ}
 use lib.Dec.{eqb}
 use Rattle.meaning.specs.Graph.{pick}
-use Rattle.nesting.specs.decoding.Lines.{Line, region-line, block-line, select-line, loop-line, exit-line, defer-line, TypedSheet}
+use Rattle.nesting.specs.decoding.Lines.{ShownEdge, Line, region-line, block-line, select-line, loop-line, exit-line, defer-line, TypedSheet}
 use Rattle.nesting.specs.decoding.Decode.{Got, got, nothing, next-word, read-times, read-lines, read-sheet}
-use Rattle.nesting.specs.ShownForm.{ShownNode, block-shown, select-shown, loop-shown, exit-shown, ShownNodes, no-node, _▹_, ShownRegion, region-shown, ShownRegions, no-region, _▹▹_, ShownEdge, ShownForm}
+use Rattle.nesting.specs.ShownForm.{ShownNode, block-shown, select-shown, loop-shown, exit-shown, ShownNodes, no-node, _▹_, ShownRegion, region-shown, ShownRegions, no-region, _▹▹_, ShownForm}
 
 abbrev pub shown-number : ShownNode → ℕ
 shown-number (block-shown n is) = n
-shown-number (select-shown n k v ts cs) = n
+shown-number (select-shown x cs) = x .number
 shown-number (loop-shown n vs b v) = n
 shown-number (exit-shown n op vs) = n
 
@@ -52,11 +52,10 @@ unfoldable pub add-line : Line → Parts → Option Parts
 unfolding with-nodes with-regions
 add-line (region-line r ts ns vs) ps = with-nodes ns ps λ ks rest. some (a-region (region-shown r ts ks vs) ∷ rest)
 add-line (block-line n is) ps = some (a-node (block-shown n is) ∷ ps)
-add-line (select-line n k v rs ts) ps = with-regions rs ps λ cs rest. some (a-node (select-shown n k v ts cs) ∷ rest)
+add-line (select-line x rs) ps = with-regions rs ps λ cs rest. some (a-node (select-shown x cs) ∷ rest)
 add-line (loop-line n vs r v) ps = with-region r ps λ b rest. some (a-node (loop-shown n vs b v) ∷ rest)
 add-line (exit-line n op vs) ps = some (a-node (exit-shown n op vs) ∷ ps)
-add-line (defer-line r x n vs c) ps =
-    some (an-edge (record { region = r; target = x; count = n; inputs = vs; condition = c }) ∷ ps)
+add-line (defer-line e) ps = some (an-edge e ∷ ps)
 
 unfoldable pub read-parts : List Line → Option Parts
 unfolding add-line bind

@@ -8,10 +8,10 @@ use Rattle.meaning.specs.Graph.{Graph}
 use Rattle.meaning.specs.Runs.{Node, block, select, loop, exit, Nodes, ⟨⟩, _▸_, Cases, ∅, case}
 use Rattle.nesting.specs.Nesting.{DeferredEdgeBundle, Outcome, untouched, whole, closed, leftover, Piece, Nested}
 use Rattle.nesting.specs.Sheet.{kids, case-numbers, ascending, sheet-of, sheet-words}
-use Rattle.nesting.specs.decoding.Lines.{Line, typed-node, typed-nodes, typed-cases, typed-pieces, typed-edge, typed-deferred, typed-lines, typed-sheet}
+use Rattle.nesting.specs.decoding.Lines.{ShownEdge, Line, shown-edge, typed-node, typed-nodes, typed-cases, typed-pieces, typed-edge, typed-deferred, typed-lines, typed-sheet}
 use Rattle.nesting.specs.decoding.LinesWritten.{sheet-written}
 use Rattle.nesting.specs.decoding.RoundTrip.{round-trip}
-use Rattle.nesting.specs.ShownForm.{ShownNodes, no-node, _▹_, ShownRegions, no-region, _▹▹_, ShownEdge, ShownForm, shown-node, shown-nodes, shown-cases, shown-pieces, shown-edge, shown-deferred, shown-form}
+use Rattle.nesting.specs.ShownForm.{ShownNodes, no-node, _▹_, ShownRegions, no-region, _▹▹_, ShownForm, shown-node, shown-nodes, shown-cases, shown-pieces, shown-deferred, shown-form}
 use Rattle.nesting.specs.decoding.DecodeForm.{shown-number, Parts, a-node, a-region, an-edge, with-nodes, with-regions, add-line, read-parts, with-edges, with-pieces, form-of, form-of-got, read-form}
 
 -- ---- parts with others in front
@@ -27,8 +27,8 @@ module _ (nodes : List ℕ) where
   kids-shown : (k : Node) (ks : Nodes) → kids (k ▸ ks) ≡ shown-number (shown-node nodes k) ∷ kids ks
   unfolding shown-node
   kids-shown (block n r k is) ks = refl
-  kids-shown (select n kind v os cs) ks = refl
-  kids-shown (loop n vs r ts limit body us v) ks = refl
+  kids-shown (select x cs) ks = refl
+  kids-shown (loop x body) ks = refl
   kids-shown (exit n op vs) ks = refl
 
   nodes-taken : (ks : Nodes) (ps : Parts) (f : ShownNodes → Parts → Option Parts)
@@ -43,7 +43,7 @@ module _ (nodes : List ℕ) where
       → with-regions (case-numbers cs) (regions-on (shown-cases nodes cs) ps) f ≡ f (shown-cases nodes cs) ps
   unfolding with-regions shown-cases
   cases-taken ∅ ps f = refl
-  cases-taken (case r ks vs cs) ps f = rw (eq-eqb r r refl) (cases-taken cs ps (λ x. f (_ ▹▹ x)))
+  cases-taken (case c ks cs) ps f = rw (eq-eqb (c .region) (c .region) refl) (cases-taken cs ps (λ x. f (_ ▹▹ x)))
 
   -- ---- lines, whatever follows them
   mutual
@@ -52,8 +52,8 @@ module _ (nodes : List ℕ) where
     node-read : (k : Node) (ls : List Line) (ps : Parts) → read-parts ls ≡ some ps
         → read-parts (typed-node nodes k ++ ls) ≡ some (a-node (shown-node nodes k) ∷ ps)
     node-read (block n r k is) ls ps e = rw e
-    node-read (select n kind v os cs) ls ps e = rw (cases-read cs ls ps e) (cases-taken cs ps _)
-    node-read (loop n vs r ts limit ks us v) ls ps e = rw (nodes-read ks ls ps e, nodes-taken ks ps, eq-eqb r r refl)
+    node-read (select x cs) ls ps e = rw (cases-read cs ls ps e) (cases-taken cs ps _)
+    node-read (loop x ks) ls ps e = rw (nodes-read ks ls ps e, nodes-taken ks ps, eq-eqb (x .body) (x .body) refl)
     node-read (exit n op vs) ls ps e = rw e
 
     nodes-read : (ks : Nodes) (ls : List Line) (ps : Parts) → read-parts ls ≡ some ps
@@ -65,7 +65,7 @@ module _ (nodes : List ℕ) where
     cases-read : (cs : Cases) (ls : List Line) (ps : Parts) → read-parts ls ≡ some ps
         → read-parts (typed-cases nodes cs ++ ls) ≡ some (regions-on (shown-cases nodes cs) ps)
     cases-read ∅ ls ps e = e
-    cases-read (case r ks vs cs) ls ps e =
+    cases-read (case c ks cs) ls ps e =
         rw (append-assoc (typed-nodes nodes ks) (typed-cases nodes cs) ls, nodes-read ks _ _ (cases-read cs ls ps e)) (nodes-taken ks _ _)
 
   pieces-read : (qs : List Piece) (ls : List Line) (ps : Parts) → read-parts ls ≡ some ps

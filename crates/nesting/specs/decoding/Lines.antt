@@ -6,7 +6,7 @@ use lib.ListN.{getD, take}
 use lib.Dec.{eqb}
 use Rattle.meaning.specs.Lists.{concat, times-in}
 use Rattle.meaning.specs.Graph.{Instr, Code, SelectionKind, Value, const, input, instr, output, bool, undef, held, code-of, pick, Graph, no-value}
-use Rattle.meaning.specs.Runs.{Node, block, select, loop, exit, Nodes, ⟨⟩, _▸_, Cases, ∅, case}
+use Rattle.meaning.specs.Runs.{SelectNode, Node, block, select, loop, exit, Nodes, ⟨⟩, _▸_, Cases, ∅, case}
 use Rattle.meaning.specs.Text.{Text, ascii, decimal}
 use Rattle.nesting.specs.Nesting.{Outcome, LazyCond, undef-cond, false-cond, true-cond, merge, LazyConds, _&_, DeferredTarget, to-region, to-return, DeferredEdgeBundle, untouched, whole, closed, leftover, Piece, Nested}
 use Rattle.nesting.specs.Sheet.{figure, Field, label, number-as, a-number, joint, list, numbers, dotted, kind, kids, case-numbers, ascending, Sheet}
@@ -28,13 +28,27 @@ mutual
     no-part : Conditions
     part : Condition → Conditions → Conditions
 
+-- A select, but for its cases; a deferred edge, whose target is 65,535 for Return.
+pub record ShownSelect : Type 0 where
+  pub number : ℕ
+  pub kind : SelectionKind
+  pub scrutinee : Code
+  pub output-types : List ℕ
+
+pub record ShownEdge : Type 0 where
+  pub region : ℕ
+  pub target : ℕ
+  pub count : ℕ
+  pub inputs : List Code
+  pub condition : Condition
+
 pub data Line : Type 0 where
   region-line : ℕ → List ℕ → List ℕ → List Code → Line  -- region, inputs' types, child nodes, output values
   block-line : ℕ → List Item → Line  -- node, items
-  select-line : ℕ → SelectionKind → Code → List ℕ → List ℕ → Line  -- node, kind, value, case regions, types of its outputs
+  select-line : ShownSelect → List ℕ → Line  -- with its case regions
   loop-line : ℕ → List Code → ℕ → Code → Line  -- node, first inputs, body region, repeat value
   exit-line : ℕ → ℕ → List Code → Line  -- node, opcode, values
-  defer-line : ℕ → ℕ → ℕ → List Code → Condition → Line  -- region, target (65,535 for return), count, inputs, condition
+  defer-line : ShownEdge → Line
 
 pub record TypedSheet : Type 0 where
   pub outcome : Outcome
@@ -85,14 +99,15 @@ abbrev pub fields : Line → List Field
 fields (region-line r ts ks vs) =
     number-as 0 "region" ∷ a-number r ∷ label "in" ∷ numbers ts ∷ label "kids" ∷ numbers ks ∷ label "out" ∷ values-field vs ∷ []
 fields (block-line n is) = number-as 1 "block" ∷ a-number n ∷ list (map item-field is) ∷ []
-fields (select-line n k v rs ts) =
-    number-as 2 "select" ∷ a-number n ∷ kind k ∷ value-field v ∷ label "cases" ∷ numbers rs ∷ label "out" ∷ numbers ts ∷ []
+fields (select-line x rs) =
+    number-as 2 "select" ∷ a-number (x .number) ∷ kind (x .kind) ∷ value-field (x .scrutinee)
+    ∷ label "cases" ∷ numbers rs ∷ label "out" ∷ numbers (x .output-types) ∷ []
 fields (loop-line n vs r v) =
     number-as 3 "loop" ∷ a-number n ∷ label "in" ∷ values-field vs ∷ label "body" ∷ a-number r ∷ label "repeat" ∷ value-field v ∷ []
 fields (exit-line n op vs) = number-as 4 "exit" ∷ a-number n ∷ a-number op ∷ label "in" ∷ values-field vs ∷ []
-fields (defer-line r x n vs c) =
-    number-as 5 "defer" ∷ a-number r ∷ label "to" ∷ target-field x ∷ label "count" ∷ a-number n ∷ label "in" ∷ values-field vs
-    ∷ label "if" ∷ condition-field c ∷ []
+fields (defer-line e) =
+    number-as 5 "defer" ∷ a-number (e .region) ∷ label "to" ∷ target-field (e .target) ∷ label "count" ∷ a-number (e .count)
+    ∷ label "in" ∷ values-field (e .inputs) ∷ label "if" ∷ condition-field (e .condition) ∷ []
 
 abbrev pub words-of : List Field → List ℕ
 words-of fs = concat (map (λ f. f .words) fs)
@@ -129,20 +144,35 @@ module _ (nodes : List ℕ) where
   shown (bool b) = code-of (bool b)
   shown (undef ty) = code-of (undef ty)
   shown no-value = code-of (undef 0)
-  shown (held r k) = code-of (input r k)
+  shown (held r k) = code-of (undef 0)
 
   abbrev pub block-items : ℕ → ℕ → List Instr → List Item
   block-items r k [] = []
   block-items r k (i ∷ is) =
       record { region = r; index = k; opcode = i .opcode; type = i .type; reads = map shown (i .reads) } ∷ block-items r (suc k) is
 
+  abbrev pub shown-select : SelectNode → ShownSelect
+  shown-select x =
+      record { number = x .number; kind = x .kind; scrutinee = shown (x .scrutinee); output-types = map (λ o. o .type) (x .outputs) }
+
+  abbrev pub shown-edge : ℕ → DeferredEdgeBundle → ShownEdge
+  shown-edge r e =
+      record {
+        region = r;
+        target = target-word (e .target);
+        count = e .accumulated-count;
+        inputs = map shown (e .target-inputs);
+        condition = shown-cond (e .condition);
+      }
+
   unfoldable mutual
     pub typed-node : Node → List Line
     typed-node (block n r k is) = block-line n (block-items r k is) ∷ []
-    typed-node (select n kind v os cs) =
-        select-line n kind (shown v) (case-numbers cs) (map (λ o. o .type) os) ∷ typed-cases cs
-    typed-node (loop n vs r ts limit ks us v) =
-        loop-line n (map shown vs) r (shown v) ∷ region-line r ts (kids ks) (map shown us) ∷ typed-nodes ks
+    typed-node (select x cs) = select-line (shown-select x) (case-numbers cs) ∷ typed-cases cs
+    typed-node (loop x ks) =
+        loop-line (x .number) (map shown (x .initial-inputs)) (x .body) (shown (x .repeat))
+        ∷ region-line (x .body) (x .types) (kids ks) (map shown (x .outputs))
+        ∷ typed-nodes ks
     typed-node (exit n op vs) = exit-line n op (map shown vs) ∷ []
 
     pub typed-nodes : Nodes → List Line
@@ -151,7 +181,7 @@ module _ (nodes : List ℕ) where
 
     pub typed-cases : Cases → List Line
     typed-cases ∅ = []
-    typed-cases (case r ks vs cs) = region-line r [] (kids ks) (map shown vs) ∷ (typed-nodes ks ++ typed-cases cs)
+    typed-cases (case c ks cs) = region-line (c .region) [] (kids ks) (map shown (c .outputs)) ∷ (typed-nodes ks ++ typed-cases cs)
 
   abbrev pub typed-pieces : List Piece → List Line
   typed-pieces [] = []
@@ -160,7 +190,7 @@ module _ (nodes : List ℕ) where
       ∷ (typed-nodes (p .children) ++ typed-pieces ps)
 
   abbrev pub typed-edge : ℕ → DeferredEdgeBundle → Line
-  typed-edge r e = defer-line r (target-word (e .target)) (e .accumulated-count) (map shown (e .target-inputs)) (shown-cond (e .condition))
+  typed-edge r e = defer-line (shown-edge r e)
 
   abbrev pub typed-deferred : List Piece → List Line
   typed-deferred [] = []

@@ -54,8 +54,9 @@ module _ (nodes : List ℕ) where
 
     node-written : (k : Node) → map fields (typed-node nodes k) ≡ node-lines nodes k
     node-written (block n r k is) = rw (items-written r k is)
-    node-written (select n kind v os cs) = rw (value-written v, cases-written cs)
-    node-written (loop n vs r ts limit ks us v) = rw (values-written vs, value-written v, values-written us, nodes-written ks)
+    node-written (select x cs) = rw (value-written (x .scrutinee), cases-written cs)
+    node-written (loop x ks) =
+        rw (values-written (x .initial-inputs), value-written (x .repeat), values-written (x .outputs), nodes-written ks)
     node-written (exit n op vs) = rw (values-written vs)
 
     nodes-written : (ks : Nodes) → map fields (typed-nodes nodes ks) ≡ nodes-lines nodes ks
@@ -64,8 +65,14 @@ module _ (nodes : List ℕ) where
 
     cases-written : (cs : Cases) → map fields (typed-cases nodes cs) ≡ case-lines nodes cs
     cases-written ∅ = refl
-    cases-written (case r ks vs cs) =
-        rw (values-written vs, map-append fields (typed-nodes nodes ks) (typed-cases nodes cs), nodes-written ks, cases-written cs)
+    cases-written (case c ks cs) =
+        rw (
+          values-written (c .outputs),
+          map-append fields (typed-nodes nodes ks)
+              (typed-cases nodes cs),
+          nodes-written ks,
+          cases-written cs,
+        )
 
   pieces-written : (ps : List Piece) → map fields (typed-pieces nodes ps) ≡ concat (map (piece-lines nodes) ps)
   pieces-written [] = refl

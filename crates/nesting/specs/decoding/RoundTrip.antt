@@ -7,10 +7,10 @@ use native.Mathlib.Omega.{arith}
 use native.Mathlib.Nat.{le-of-suc-le-suc, not-suc-le-zero}
 use lib.ListN.{length, length-append}
 use lib.Dec.{eqb}
-use Rattle.meaning.specs.Graph.{Graph, Code, bool-cond, number, pick, bit}
+use Rattle.meaning.specs.Graph.{Graph, Code, SelectionKind, bool-cond, number, pick, bit}
 use Rattle.nesting.specs.Nesting.{Outcome, untouched, whole, closed, leftover, Nested}
 use Rattle.nesting.specs.Sheet.{Field, sheet-of, sheet-words, sheet-text, outcome, figure-field, a-number, number-as}
-use Rattle.nesting.specs.decoding.Lines.{Item, Condition, t-cond, f-cond, u-cond, m-cond, Conditions, no-part, part, Line, region-line, block-line, select-line, loop-line, exit-line, defer-line, TypedSheet, value-field, values-field, item-field, target-field, condition-field, condition-fields, fields, words-of, lines-words, written, typed-sheet}
+use Rattle.nesting.specs.decoding.Lines.{ShownSelect, Item, Condition, t-cond, f-cond, u-cond, m-cond, Conditions, no-part, part, Line, region-line, block-line, select-line, loop-line, exit-line, defer-line, TypedSheet, value-field, values-field, item-field, target-field, condition-field, condition-fields, fields, words-of, lines-words, written, typed-sheet}
 use Rattle.nesting.specs.decoding.LinesWritten.{sheet-written}
 use Rattle.nesting.specs.decoding.Decode.{Got, got, WordReader, next-word, _>>=_, decode-as, read-number, read-times, read-value, read-item, parts, read-condition, read-any-condition, read-line, read-lines, outcome-of-word, flag-of, read-sheet, text-of-got, words-text}
 
@@ -122,17 +122,27 @@ target-words r = at (eqb r 65535)
     at true = refl
     at false = refl
 
+-- by the kind, since its word is one of two
+select-read : (n : ℕ) (k : SelectionKind) (v : Code) (rs ts rest : List ℕ)
+    → let x : ShownSelect = record { number = n; kind = k; scrutinee = v; output-types = ts } in
+    read-line (words-of (fields (select-line x rs)) ++ rest) ≡ got (select-line x rs) rest
+unfolding next-word
+select-read n bool-cond v rs ts rest = step _ _ _ _ (numbers-read rs _ rest) ∙ step _ _ _ _ (numbers-read ts [] rest)
+select-read n number v rs ts rest = step _ _ _ _ (numbers-read rs _ rest) ∙ step _ _ _ _ (numbers-read ts [] rest)
+
 line-read : (l : Line) (rest : List ℕ) → read-line (words-of (fields l) ++ rest) ≡ got l rest
 unfolding next-word
 line-read (region-line r ts ks vs) rest =
     step _ _ _ _ (numbers-read ts _ rest) ∙ step _ _ _ _ (numbers-read ks _ rest) ∙ step _ _ _ _ (values-read vs [] rest)
 line-read (block-line n is) rest = step _ _ _ _ (items-read is [] rest)
-line-read (select-line n bool-cond v rs ts) rest = step _ _ _ _ (numbers-read rs _ rest) ∙ step _ _ _ _ (numbers-read ts [] rest)
-line-read (select-line n number v rs ts) rest = step _ _ _ _ (numbers-read rs _ rest) ∙ step _ _ _ _ (numbers-read ts [] rest)
+line-read (select-line x rs) rest = select-read (x .number) (x .kind) (x .scrutinee) rs (x .output-types) rest
 line-read (loop-line n vs r v) rest = step _ _ _ _ (values-read vs _ rest)
 line-read (exit-line n op vs) rest = step _ _ _ _ (values-read vs [] rest)
-line-read (defer-line r x n vs c) rest =
-    ap (λ ws. read-line (5 ∷ r ∷ (ws ++ (n ∷ (values-field vs .words ++ (condition-field c .words ++ []))) ++ rest))) (target-words x)
+line-read (defer-line e) rest =
+    let vs = e .inputs in
+    let c = e .condition in
+    ap (λ ws. read-line (5 ∷ e .region ∷ (ws ++ (e .count ∷ (values-field vs .words ++ (condition-field c .words ++ []))) ++ rest)))
+    (target-words (e .target))
     ∙ step _ _ _ _ (values-read vs _ rest)
     ∙ step _ _ _ _ (ap read-any-condition (append-assoc (condition-field c .words) [] rest) ∙ any-condition-read c rest)
 
@@ -142,18 +152,18 @@ takes-line : (l : Line) (n : ℕ) (rest : List ℕ)
 unfolding read-lines
 takes-line (region-line r ts ks vs) n rest = refl
 takes-line (block-line b is) n rest = refl
-takes-line (select-line b k v rs ts) n rest = refl
+takes-line (select-line x rs) n rest = refl
 takes-line (loop-line b vs r v) n rest = refl
 takes-line (exit-line b op vs) n rest = refl
-takes-line (defer-line r x k vs c) n rest = refl
+takes-line (defer-line e) n rest = refl
 
 some-words : (l : Line) → 1 ≤ length (words-of (fields l))
 some-words (region-line r ts ks vs) = omega arith
 some-words (block-line b is) = omega arith
-some-words (select-line b k v rs ts) = omega arith
+some-words (select-line x rs) = omega arith
 some-words (loop-line b vs r v) = omega arith
 some-words (exit-line b op vs) = omega arith
-some-words (defer-line r x k vs c) = omega arith
+some-words (defer-line e) = omega arith
 
 fewer-lines : (ls : List Line) → length ls ≤ length (lines-words ls)
 fewer-lines [] = omega arith

@@ -4,9 +4,9 @@ use mathlib.Core.List.{List, [], _∷_, _++_, map}
 use Prim.Native.Nat.{ℕ, _+_, _*_}
 use native.Mathlib.Omega.{arith}
 use lib.ListN.{length, length-append}
-use Rattle.meaning.specs.Graph.{Graph, Code, bool-cond, number}
+use Rattle.meaning.specs.Graph.{Graph, Code, SelectionKind, bool-cond, number}
 use Rattle.nesting.specs.Nesting.{Outcome, untouched, whole, closed, leftover, Nested}
-use Rattle.nesting.specs.Sheet.{a-number, outcome, figure-field, sheet-of, sheet-words}
+use Rattle.nesting.specs.Sheet.{a-number, kind, outcome, figure-field, sheet-of, sheet-words}
 use Rattle.nesting.specs.decoding.Lines.{Item, Condition, t-cond, f-cond, u-cond, m-cond, Conditions, no-part, part, Line, region-line, block-line, select-line, loop-line, exit-line, defer-line, TypedSheet, value-field, item-field, condition-field, condition-fields, fields, words-of, lines-words, written, typed-sheet}
 use Rattle.nesting.specs.decoding.LinesWritten.{sheet-written}
 use Rattle.nesting.specs.decoding.RoundTrip.{target-words}
@@ -29,10 +29,10 @@ unfoldable mutual
 abbrev pub line-length : Line → ℕ
 line-length (region-line r ts ks vs) = 5 + length ts + length ks + 3 * length vs
 line-length (block-line n is) = 3 + items-length is
-line-length (select-line n k v rs ts) = 8 + length rs + length ts
+line-length (select-line x rs) = 8 + length rs + length (x .output-types)
 line-length (loop-line n vs r v) = 7 + 3 * length vs
 line-length (exit-line n op vs) = 4 + 3 * length vs
-line-length (defer-line r x n vs c) = 5 + 3 * length vs + condition-length c
+line-length (defer-line e) = 5 + 3 * length (e .inputs) + condition-length (e .condition)
 
 abbrev pub lines-length : List Line → ℕ
 lines-length [] = 0
@@ -71,14 +71,17 @@ mutual
   parts-long (part c cs) =
       omega (arith, condition-long c, parts-long cs, length-append (condition-field c .words) (words-of (condition-fields cs)))
 
+kind-long : (k : SelectionKind) → length (kind k .words) ≡ 1
+kind-long bool-cond = refl
+kind-long number = refl
+
 line-long : (l : Line) → length (words-of (fields l)) ≡ line-length l
 line-long (region-line r ts ks vs) = simp (length-append, numbers-long, values-long) (omega arith)
 line-long (block-line n is) = simp (length-append, items-long) (omega arith)
-line-long (select-line n bool-cond v rs ts) = simp (length-append, numbers-long) (omega arith)
-line-long (select-line n number v rs ts) = simp (length-append, numbers-long) (omega arith)
+line-long (select-line x rs) = simp (length-append, kind-long (x .kind), numbers-long) (omega arith)
 line-long (loop-line n vs r v) = simp (length-append, values-long) (omega arith)
 line-long (exit-line n op vs) = simp (length-append, values-long) (omega arith)
-line-long (defer-line r x n vs c) = simp (length-append, values-long, target-words, condition-long) (omega arith)
+line-long (defer-line e) = simp (length-append, values-long, target-words, condition-long) (omega arith)
 
 lines-long : (ls : List Line) → length (lines-words ls) ≡ lines-length ls
 lines-long [] = refl

@@ -4,11 +4,15 @@ use mathlib.Core.Bool.{Bool}
 use mathlib.Core.List.{List, [], _∷_, map}
 use Prim.Native.Nat.{ℕ, suc}
 use Rattle.meaning.specs.Graph.{Value, Instr}
-use Rattle.meaning.specs.Runs.{Node, Nodes, ⟨⟩, _▸_, block, select, loop, exit, Cases, ∅, case}
-use Rattle.nesting.specs.Nesting.{DeferredEdgeBundle, RewriteEntry, NodeOutput, LookUp, plain, look-up, edge-bundle, ClaimedRegion, claimed-as, NestState, done, with-twice, look-up-each, rewrite-cases, MaybeClaimedRegion, ok, err, look-up-case, output-decls, case-outputs, look-up-node, look-up-nodes, look-up-cases}
+use Rattle.meaning.specs.Runs.{SelectNode, LoopNode, Node, Nodes, ⟨⟩, _▸_, block, select, loop, exit, Cases, ∅, case}
+use Rattle.nesting.specs.Nesting.{DeferredEdgeBundle, RewriteEntry, NodeOutput, LookUp, plain, look-up, look-up-last, edge-bundle, ClaimedRegion, claimed-as, NestState, done, with-twice, look-up-each, rewrite-cases, MaybeClaimedRegion, ok, err, look-up-case, look-up-select, look-up-case-region, look-up-loop, look-up-node, look-up-nodes, look-up-cases}
 
 abbrev pub rewrite : List RewriteEntry → Value → Value
 rewrite es v = look-up es v .value
+
+-- by the last look-up, which takes the mark off
+abbrev pub rewrite-last : List RewriteEntry → Value → Value
+rewrite-last es v = look-up-last es v .value
 
 abbrev pub meets : List RewriteEntry → Value → Bool
 meets es v = look-up es v .twice
@@ -29,6 +33,12 @@ module _ (ρ : Value → Value) where
   rewrite-reads i = record { opcode = i .opcode; type = i .type; cost = i .cost; reads = map ρ (i .reads) }
 
   module _ (os : List NodeOutput) where
+    abbrev pub rewrite-select : SelectNode → SelectNode
+    rewrite-select x = look-up-select (λ v. plain (ρ v)) os x .value
+
+    abbrev pub rewrite-loop : LoopNode → LoopNode
+    rewrite-loop x = look-up-loop (λ v. plain (ρ v)) os x .value
+
     abbrev pub rewrite-node : Node → Node
     rewrite-node x = look-up-node (λ v. plain (ρ v)) os x .value
 
@@ -57,9 +67,8 @@ module _ (look : Value → LookUp Value) where
 
       node-value : (x : Node) → look-up-node look os x .value ≡ rewrite-node value-of os x
       node-value (block n r k is) = refl
-      node-value (select n kind v decls cs) = ap (λ c. select n kind (value-of v) (output-decls n 0 os) c) (of-cases cs n 0)
-      node-value (loop n initial r types limit body outputs repeat) =
-          ap (λ ks. loop n (map value-of initial) r types limit ks (map value-of outputs) (value-of repeat)) (nodes-value body)
+      node-value (select x cs) = ap (λ c. select (rewrite-select value-of os x) c) (of-cases cs (x .number) 0)
+      node-value (loop x body) = ap (λ ks. loop (rewrite-loop value-of os x) ks) (nodes-value body)
       node-value (exit n op vs) = refl
 
       pub nodes-value : (ks : Nodes) → look-up-nodes look os ks .value ≡ rewrite-nodes value-of os ks
@@ -68,9 +77,10 @@ module _ (look : Value → LookUp Value) where
 
       of-cases : (cs : Cases) (n j : ℕ) → look-up-cases look os cs n j .value ≡ rewrite-cases-of value-of os cs n j
       of-cases ∅ n j = refl
-      of-cases (case r body outputs cs) n j =
-          ap (λ ks. case r ks (map value-of (case-outputs n j os)) (look-up-cases look os cs n (suc j) .value)) (nodes-value body)
-          ∙ ap (λ c. case r (rewrite-nodes value-of os body) (map value-of (case-outputs n j os)) c) (of-cases cs n (suc j))
+      of-cases (case c body cs) n j =
+          let given = look-up-case-region look os c n j .value in
+          ap (λ ks. case given ks (look-up-cases look os cs n (suc j) .value)) (nodes-value body)
+          ∙ ap (λ more. case given (rewrite-nodes value-of os body) more) (of-cases cs n (suc j))
 
 -- the cases of a select, looked up
 pub rewrite-cases-is : (cs : List MaybeClaimedRegion) (s : NestState)

@@ -8,7 +8,7 @@ use lib.Dec.{ltb}
 use Rattle.meaning.specs.Graph.{Value, bool, undef, SelectionKind, bool-cond, number, ControlInst, unreachable, return, exit-invocation, branch, select-branch, Graph, region, pick}
 use Rattle.meaning.specs.Runs.{loop, Nodes, ⟨⟩, _▸_, Cases}
 use Rattle.meaning.specs.Lists.{any}
-use Rattle.nesting.specs.Nesting.{LazyCond, undef-cond, false-cond, true-cond, merge, LazyConds, no-conds, _&_, DeferredEdgeBundle, DeferredEdgeBundleSet, RegionInputRewrites, replace-with, renumber-or-replace-with, RewriteEntry, NodeOutput, NestState, Step, give, _>>=_, _>>_, with-tables, with-counts, with-twice, define-region, define-node, define-merge, define-output, insert-rewrites, look-up, look-up-case, look-up-each, rewrite-values, same-values, materialize-lazy-cond, materialize-lazy-conds, ClaimedRegion, MaybeClaimedRegion, ok, err, Scrutinee, value, lazy, join, append-maybe-claimed-region, convergent-cases, without-convergent, PlannedInput, shared, merged, PlannedBundle, plan-bundles, any-needs-select, any-non-empty-case, rewrite-cases, case-regions, scrutinee-value, DefinedSelect, define-select, emit-inputs, emit-condition, emit, select-if, replace-inputs, structurize-select, structurize-select-by, take-inputs, no-inputs, add-exit-edge, structurize-loop, claim-body, by-control-inst}
+use Rattle.nesting.specs.Nesting.{exit-targets, most-merges, most-nodes, most-outputs, most-regions, LazyCond, undef-cond, false-cond, true-cond, merge, LazyConds, no-conds, _&_, DeferredEdgeBundle, DeferredEdgeBundleSet, RegionInputRewrites, replace-with, renumber-or-replace-with, RewriteEntry, NodeOutput, NestState, Step, give, _>>=_, _>>_, with-tables, with-counts, with-twice, define-region, define-node, define-merge, define-output, insert-rewrites, look-up, look-up-case, look-up-each, rewrite-values, same-values, materialize-lazy-cond, materialize-lazy-conds, ClaimedRegion, MaybeClaimedRegion, ok, err, Scrutinee, value, lazy, join, append-maybe-claimed-region, convergent-cases, without-convergent, PlannedInput, shared, merged, PlannedBundle, plan-bundles, any-needs-select, any-non-empty-case, rewrite-cases, case-regions, scrutinee-value, DefinedSelect, define-select, emit-inputs, emit-condition, emit, select-if, replace-inputs, structurize-select, structurize-select-by, take-inputs, no-inputs, loop-node, add-exit-edge, structurize-loop, claim-body, by-control-inst}
 use Rattle.nesting.specs.lookups.Rewriting.{meets}
 use Rattle.nesting.specs.steps.Post.{Post, bind, map-post, when-room}
 
@@ -20,8 +20,8 @@ loop-claimed g body children exits inputs wrapper vs v n =
       origin = body;
       structured-body = wrapper;
       structured-body-inputs = inputs;
-      children = loop n (x .initial-inputs) body (x .types) (region g body .limit) children (x .outputs) v ▸ ⟨⟩;
-      deferred-edges = map (add-exit-edge (region g body .exits)) exits;
+      children = loop (loop-node g n body x v) children ▸ ⟨⟩;
+      deferred-edges = map (add-exit-edge (exit-targets g body)) exits;
     }
 
 pub record Steady (L : NestState → NestState → Type 0) : Type 0 where
@@ -55,19 +55,20 @@ module _ {L : NestState → NestState → Type 0} (S : Steady L) (Q : ℕ → Ty
 
   pub define-region-keeps : Keeps define-region
   unfolding define-region
-  define-region-keeps s = when-room q9 (ltb (s .region-count) 128) _ _ (S .region s)
+  define-region-keeps s = when-room q9 (ltb (s .region-count) most-regions) _ _ (S .region s)
 
   pub define-node-keeps : Keeps define-node
   unfolding define-node
-  define-node-keeps s = when-room q9 (ltb (s .node-count) 512) _ _ (S .node s)
+  define-node-keeps s = when-room q9 (ltb (s .node-count) most-nodes) _ _ (S .node s)
 
   pub define-merge-keeps : Keeps define-merge
   unfolding define-merge
-  define-merge-keeps s = when-room q9 (ltb (s .merge-count) 512) _ _ (S .merge s)
+  define-merge-keeps s = when-room q9 (ltb (s .merge-count) most-merges) _ _ (S .merge s)
 
   define-output-keeps : (n type : ℕ) (vs : List Value) → Keeps (define-output n type vs)
   unfolding define-output
-  define-output-keeps n type vs s = when-room q9 (ltb (length (s .node-outputs)) 512) _ _ (S .output (record { node = n; type = type; values = vs }) s)
+  define-output-keeps n type vs s =
+      when-room q9 (ltb (length (s .node-outputs)) most-outputs) _ _ (S .output (record { node = n; type = type; values = vs }) s)
 
   pub rewrite-values-keeps : (vs : List Value) → Keeps (rewrite-values vs)
   unfolding rewrite-values
