@@ -58,3 +58,4 @@ pub getD-map-in : {A B : Type 0} (f : A → B) (l : List A) (k : ℕ) (d : A) (d
 getD-map-in f [] k d d′ lt = absurd (omega arith)
 getD-map-in f (x ∷ l) zero d d′ lt = refl
 getD-map-in f (x ∷ l) (suc k) d d′ lt = getD-map-in f l k d d′ (omega arith)
+
