@@ -25,7 +25,7 @@ use Rattle.follows.specs.counting.JustReached.{just-reached}
 use Rattle.follows.specs.simulation.ValidUse.{usable-graph, reachable-region}
 use Rattle.meaning.specs.facts.Sums.{total-same, total-add, total-each}
 use Rattle.follows.specs.counting.Totals.{edges-to}
-use Rattle.follows.specs.counting.Counting.{Counting, Nine, busy, owed-by, held-by, owed, held, Pre}
+use Rattle.follows.specs.counting.Counting.{Counting, Nine, busy, owed-by, edges-held-by, owed, edges-held, Pre}
 use Rattle.follows.specs.counting.CountClaim.{Claims}
 use Rattle.follows.specs.counting.CountRegion.{claim-counted}
 
@@ -79,18 +79,18 @@ module _ (g : Graph) where
         ∙ total-add (λ i. length (edges-of (region g i .terminator))) (λ i. 2 * length (reachable g)) (reachable g)
         ∙ (let z = edges-over (reachable g) in let y = total-each (2 * length (reachable g)) (reachable g) in omega arith)
 
-    held-start : (r : ℕ) → held counting r start ≡ incoming-from r (reachable g)
-    unfolding held
-    held-start r =
-        total-same (λ i. held-by counting r i (getD start i not-begun)) (λ i. times-in r (targets-of g i) + times-in r (exit-targets g i))
-        (λ i. ap (held-by counting r i) (all-not-begun (length (g .regions)) i)) (reachable g)
+    edges-held-start : (r : ℕ) → edges-held counting r start ≡ incoming-from r (reachable g)
+    unfolding edges-held
+    edges-held-start r =
+        total-same (λ i. edges-held-by counting r i (getD start i not-begun)) (λ i. times-in r (targets-of g i) + times-in r (exit-targets g i))
+        (λ i. ap (edges-held-by counting r i) (all-not-begun (length (g .regions)) i)) (reachable g)
         ∙ over-incoming r (reachable g)
 
     start-pre : Pre counting (suc (length (g .regions))) (λ r. 0) (λ r. edges-to r (to-region (g .entry)) 1) (initial-state g)
     start-pre = record {
       inv = record { length = length-replicate (length (g .regions)) not-begun; fine = λ i. let z = all-not-begun (length (g .regions)) i in rw z tt };
       enough = let z = count-new (length (g .regions)) in omega arith;
-      room = λ r. let z = held-start r in omega arith;
+      room = λ r. let z = edges-held-start r in omega arith;
       waits = λ r b. absurd (let z : false ≡ true = sym (ap busy (all-not-begun (length (g .regions)) r)) ∙ b in clash (cc));
     }
 
