@@ -15,7 +15,7 @@ use Rattle.format.specs.Read.{read-record}
 use Rattle.format.specs.References.{instructions, type-in, refuse-unless, first-refusal, named-right, of-type, reads-right, types-right, passed-right, test-right, values-right, target-right, edge-right, first-edges, exits-right, region-right, regions-right, references, behind-all, return-types, is-region}
 use Rattle.format.specs.Accept.{accept}
 use Rattle.format.specs.Valid.{All, Within, Usable, Passed, ValidInstrs, ValidEdge, TestRight, ValidEnd, ValidRegion, Valid}
-use Rattle.meaning.specs.facts.Tests.{clash}
+use Rattle.meaning.specs.facts.Tests.{clash, not-true, neither}
 use Rattle.format.specs.laws.WellRead.{SamePasses, InstrRead, BlockRead, EndRead, TargetsRead, RegionRead, RecordRead, record-read, step}
 
 all-map : {A : Type 0} (P Q : A → Type 0) → ((x : A) → P x → Q x) → (xs : List A) → All P xs → All Q xs
@@ -40,14 +40,6 @@ instructions-read (b ∷ bs) h = all-append InstrRead b (instructions bs) (h .0 
 expected : (n r : ℕ) (b : Bool) → refuse-unless n r b ≡ accepted tt → b ≡ true
 expected n r true h = refl
 expected n r false h = absurd (clash (cc))
-
-not-true : (b : Bool) → not b ≡ true → b ≡ false
-not-true true h = absurd (clash (cc))
-not-true false h = refl
-
-neither : (a b : Bool) → (a || b) ≡ false → (a ≡ false) × (b ≡ false)
-neither true b h = absurd (clash (cc))
-neither false b h = (refl, h)
 
 each-all : {A : Type 0} (f : A → Answer Unit) (xs : List A) → first-refusal f xs ≡ accepted tt → All (λ x. f x ≡ accepted tt) xs
 unfolding first-refusal
