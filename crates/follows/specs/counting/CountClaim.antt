@@ -1,4 +1,4 @@
--- A claim of a begun region, counted: refusal 12 is never met, and a claimed set holds no more edges than its region edges-held.
+-- A claim of a begun region, counted: refusal 12 is never met, and a claimed set holds no more edges than its region held.
 use mathlib.Core.Path.{_≡_, refl, sym, ap, _∙_}
 use mathlib.Core.Bool.{Bool, true, false}
 use mathlib.Core.List.{List, map}

@@ -1,4 +1,4 @@
--- What is counted while nesting: the attempts that each live region may still cost, and the edges still edges-held for a region.
+-- What is counted while nesting: the attempts that each live region may still cost, and the edges still held for a region.
 use mathlib.Core.Path.{_≡_, sym, ap, _∙_}
 use mathlib.Core.Bool.{Bool, true, false}
 use mathlib.Core.List.{List}
@@ -92,7 +92,7 @@ module _ (K : Counting) where
   unfolding edges-held weigh
   edges-held-at q r l i = total-one (λ j. edges-held-by q j (getD l j not-begun)) r (K .live) i
 
-  -- ---- a set: at most live-one bundle to each live region and none to another, each with an edge
+  -- ---- a set: at most one bundle to each live region and none to another, each with an edge
   pub record Good (d : DeferredEdgeBundleSet) : Type 0 where
     pub fits : SetFits live-one d
     pub full : edge-total edgeless d ≡ 0

@@ -84,7 +84,7 @@ module _ (g : Graph) (r : ℕ) where
       let reads = all-map (λ v. named-right g r k v ≡ accepted tt) (Usable g r k) (named-usable k) (i .reads) (each-all (named-right g r k) (i .reads) (a .first)) in
       (record { type = w .0 .type; few = w .0 .few; reads = reads }, instrs-valid (suc k) is (w .1) (a .second))
 
-  -- What holds of the first edge to first-refusal target holds of every edge, where all edges to a target pass the same.
+  -- What holds of the first edge to each target holds of every edge, where all edges to a target pass the same.
   module _ (passed : ℕ → List Value) where
     abbrev Right : ℕ → Type 0
     Right t = Passed g r (graph.region g t .inputs) (passed t)
@@ -146,7 +146,7 @@ module _ (g : Graph) (r : ℕ) where
       let a = step (named-right g r (behind-all g r) x) _ tt v in
       (named-usable (behind-all g r) x (a .first), test-valid k x es (w .0) (a .second), edges-valid es (w .1) t p)
 
-  -- the exits: first-refusal a region, and none seen before
+  -- the exits: each a region, and none seen before
   pub record Exits (seen xs : List ℕ) : Type 0 where
     pub regions : All (λ t. t < length (g .regions)) xs
     pub new : All (λ t. is-in t seen ≡ false) xs

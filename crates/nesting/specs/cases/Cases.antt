@@ -95,8 +95,8 @@ case-B = case B (
 abbrev pub empty-form : String → List String
 empty-form line-1 = line-1 ∷ "region 0 in - kids - out -" ∷ []
 
--- A; B; one region, Return; one region, Unreachable; a branch to the entry; both many-targets the same empty Return region;
--- 8 many-targets, and 9; 32 regions, and 33; an empty store.
+-- A; B; one region, Return; one region, Unreachable; a branch to the entry; both targets the same empty Return region;
+-- 8 targets, and 9; 32 regions, and 33; an empty store.
 abbrev pub document-cases : List Case
 document-cases =
     case-A
