@@ -18,12 +18,12 @@ unfoldable pub after : {A : Type 0} → ℕ → Reader A → List ℕ → ℕ �
 after zero p ws at = at
 after (suc k) p ws at = next (p ws (after k p ws at))
 
--- Of a record: where read-region r begins.
+-- Of a record: where region r begins.
 unfoldable pub start-of-region : List ℕ → ℕ → ℕ
 unfolding after head read-region
 start-of-region ws r = after r read-region ws (next (head ws 1))
 
--- Of a read-region that begins at a place: where its block count stands, its block b, its turn limit, its terminator, its exit count.
+-- Of a region that begins at a place: where its block count stands, its block b, its turn limit, its terminator, its exit count.
 unfoldable pub blocks-of-region : List ℕ → ℕ → ℕ
 unfolding counted type
 blocks-of-region ws at = next (counted 0 4 type ws at)

@@ -65,7 +65,7 @@ type = within 1 255
 abbrev pub is-kind : ℕ → Bool
 is-kind k = leb k 2 || (eqb k 4 || eqb k 5)
 
--- Kinds 0, 4 and 5 have read-region 0, and kind 4 has index 0 or 1. What breaks that names nothing,
+-- Kinds 0, 4 and 5 have region 0, and kind 4 has index 0 or 1. What breaks that names nothing,
 -- and the references refuse it.
 abbrev pub bool-of : ℕ → Value
 bool-of i = pick (leb i 1) (bool (eqb i 1)) no-value
@@ -81,7 +81,7 @@ value-from-words k r i =
 abbrev pub index-right : ℕ → ℕ → Bool
 index-right k i = pick (eqb k 5) (leb 1 i && leb i 255) true
 
--- Three words: kind, read-region, index.
+-- Three words: kind, region, index.
 unfoldable pub read-value : Reader Value
 unfolding word
 read-value = do
@@ -170,7 +170,7 @@ read-region = do
   exits ← counted 0 32 word
   read-as (record { inputs = inputs; blocks = blocks; limit = limit; terminator = end; exits = exits })
 
--- 5 has the read-region being read for its word, 0 before the first; 4 has 0.
+-- 5 has the region being read for its word, 0 before the first; 4 has 0.
 abbrev pub word-for : ℕ → ℕ → ℕ
 word-for n r = pick (eqb n 5) r 0
 

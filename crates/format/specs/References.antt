@@ -101,7 +101,7 @@ module _ (g : Graph) (r : ℕ) where
   types-right (t ∷ ts) (v ∷ vs) =
       if-accepted (named-right (behind-all g r) v) λ _. if-accepted (of-type t v) λ _. types-right ts vs
 
-  -- Values for inputs of these types: as many, then first-refusal named-right, and of its type.
+  -- Values for inputs of these types: as many, then each named, and of its type.
   unfoldable pub passed-right : List ℕ → List Value → Answer Unit
   unfolding types-right
   passed-right types vs = if-accepted (refuse-unless 7 r (eqb (length vs) (length types))) λ _. types-right types vs
@@ -146,7 +146,7 @@ unfolding region-right
 regions-right g r [] = accepted tt
 regions-right g r (x ∷ xs) = if-accepted (region-right g r x) λ _. regions-right g (suc r) xs
 
--- The entry, then first-refusal region, also where it is out of reach.
+-- The entry, then each region, also where it is out of reach.
 unfoldable pub references : Graph → Answer Unit
 unfolding regions-right
 references g = if-accepted (refuse-unless 6 0 (is-region g 0 (g .entry))) λ _. regions-right g 0 (g .regions)

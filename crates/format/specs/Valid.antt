@@ -1,11 +1,10 @@
 -- What the references leave: a valid graph. Theorems about nesting assume this alone of a graph.
 use mathlib.Core.Path.{_≡_}
-use mathlib.Core.Bool.{false}
 use mathlib.Core.List.{List, [], _∷_}
 use Prim.Native.Nat.{ℕ, suc, _≤_, _<_}
 use lib.ListN.{length}
 use Rattle.meaning.specs.Graph.{Value, Instr, SelectionKind, bool-cond, number, Edge, ControlInst, unreachable, return, exit-invocation, branch, select-branch, Region, Graph, region}
-use Rattle.meaning.specs.Lists.{is-in, Distinct}
+use Rattle.meaning.specs.Lists.{Distinct}
 use Rattle.format.specs.References.{type-in, instructions, behind-all, return-types}
 
 abbrev pub All : {A : Type 0} → (A → Type 0) → List A → Type 0

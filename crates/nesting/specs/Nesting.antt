@@ -12,14 +12,14 @@ use Rattle.format.specs.References.{return-types}
 use Rattle.format.specs.Store.{accepted, refused}
 use Rattle.format.specs.Store
 
--- ---- Deferred edges: what a region could not claim, look-up-each with the condition under which it is taken.
+-- ---- Deferred edges: what a region could not claim, each with the condition under which it is taken.
 -- A number of edges. It counts edges only and is never an index.
 abbrev pub IncomingEdgeCount : Type 0
 IncomingEdgeCount = ℕ
 
 infixr 30 _&_
 mutual
-  -- The Rust's LazyCond. `merge` has the select's node, kind and scrutinee, and the condition in look-up-each case.
+  -- The Rust's LazyCond. `merge` has the select's node, kind and scrutinee, and the condition in each case.
   pub data LazyCond : Type 0 where
     undef-cond false-cond true-cond : LazyCond
     merge : ℕ → SelectionKind → Value → LazyConds → LazyCond
@@ -66,7 +66,7 @@ pub record RewriteEntry : Type 0 where
   pub region : ℕ
   pub rewrites : RegionInputRewrites
 
--- An output of a select node: its type, and its value in look-up-each case. Its place in the table is its number.
+-- An output of a select node: its type, and its value in each case. Its place in the table is its number.
 pub record NodeOutput : Type 0 where
   pub node : ℕ
   pub type : ℕ
@@ -169,7 +169,7 @@ define-merge s =
     define (s .merge-count) most-merges tt
     (with-counts (s .region-count) (s .node-count) (suc (s .merge-count)) (s .attempts) s)
 
--- An output of a node, of this type, with its value in look-up-each case.
+-- An output of a node, of this type, with its value in each case.
 unfoldable pub define-output : ℕ → ℕ → List Value → Step Value
 define-output n type vs s =
     let more = s .node-outputs ++ (record { node = n; type = type; values = vs } ∷ []) in
@@ -238,7 +238,7 @@ look-up-chain (suc fuel) es no-value = plain no-value
 unfoldable pub look-up : List RewriteEntry → Value → LookUp Value
 look-up es v = look-up-chain (chain-fuel es) es v
 
--- What is put together, part by part, from parts looked up; and a list of which look-up-each is looked up. No note is lost.
+-- What is put together, part by part, from parts looked up; and a list of which each is looked up. No note is lost.
 infixl 30 _⊛_
 abbrev pub _⊛_ : {A B : Type 0} → LookUp (A → B) → LookUp A → LookUp B
 _⊛_ f a = record { value = f .value (a .value); twice = f .twice || a .twice }
@@ -364,7 +364,7 @@ append-maybe-claimed-region parent (ok c) =
     insert-rewrites (c .structured-body) (replace-with (c .structured-body-inputs))
     >> give (region-body (join parent (c .children)) (c .deferred-edges))
 
--- The convergent cases, those not Unreachable; and all cases with these taken out, an Unreachable one in the place of look-up-each.
+-- The convergent cases, those not Unreachable; and all cases with these taken out, an Unreachable one in the place of each.
 abbrev pub convergent-cases : List MaybeClaimedRegion → List MaybeClaimedRegion
 convergent-cases cs = filter (λ c. not (empty (deferred-of c))) cs
 
@@ -431,7 +431,7 @@ in-parent (ok c) (held r k) = none
 in-parent (ok c) (instr r k) = none
 in-parent (ok c) (output o) = none
 
--- What the cases that reach a target pass as its input k, look-up-each as valid in the select's parent, if it can be.
+-- What the cases that reach a target pass as its input k, each as valid in the select's parent, if it can be.
 abbrev pub passed-inputs : ℕ → List MaybeClaimedRegion → List PerCaseDeferred → List (Option Value)
 passed-inputs k [] ps = []
 passed-inputs k (c ∷ cs) [] = []
@@ -444,12 +444,12 @@ unique-input [] = none
 unique-input (none ∷ os) = none
 unique-input (some v ∷ os) = pick (all (λ o. elim o [ none ↦ false | some w ↦ same-value w v ]) os) (some v) none
 
--- An input of a deferred target: shared by all cases, or merged, an output of this type with a value for look-up-each case.
+-- An input of a deferred target: shared by all cases, or merged, an output of this type with a value for each case.
 pub data PlannedInput : Type 0 where
   shared : Value → PlannedInput
   merged : ℕ → List Value → PlannedInput
 
--- A deferred edge to be; `condition` is none if True, else the condition in look-up-each case.
+-- A deferred edge to be; `condition` is none if True, else the condition in each case.
 pub record PlannedBundle : Type 0 where
   pub target : DeferredTarget
   pub total-edge-count : IncomingEdgeCount
@@ -498,7 +498,7 @@ abbrev pub any-non-empty-case : List MaybeClaimedRegion → Bool
 any-non-empty-case cs = any (λ c. elim c [ err d ↦ false | ok x ↦ has-children (x .children) ]) cs
 
 -- ---- The Rust's structurize_select_into: plan, define the select if it is needed, emit what it defers, replace inputs.
--- The values of the cases, look-up-each looked up. `condition` gives the bundle's condition.
+-- The values of the cases, each looked up. `condition` gives the bundle's condition.
 abbrev pub look-up-bundle : (Value → LookUp Value) → (DeferredEdgeBundle → LazyCond) → DeferredEdgeBundle → LookUp DeferredEdgeBundle
 look-up-bundle ρ condition e = plain (edge-bundle (e .target) (e .accumulated-count)) ⊛ look-up-each ρ (e .target-inputs) ⊛ plain (condition e)
 
@@ -609,11 +609,11 @@ module _ (g : Graph) where
   visit (suc fuel) (r ∷ todo) seen =
       elim (is-in r seen) [ true ↦ visit fuel todo seen | false ↦ visit fuel (targets-of g r ++ todo) (r ∷ seen) ]
 
-  -- The regions that the entry reaches, look-up-each once. One visit for the entry and one for look-up-each edge.
+  -- The regions that the entry reaches, each once. One visit for the entry and one for each edge.
   abbrev pub reachable : List ℕ
   reachable = visit (suc (total (λ r. length (edges-of (r .terminator))) (g .regions))) (g .entry ∷ []) []
 
-  -- Of region a, where `live` are the reachable regions: 1 for the entry, look-up-each edge from them to a, look-up-each exit list of theirs that names a.
+  -- Of region a, where `live` are the reachable regions: 1 for the entry, each edge from them to a, each exit list of theirs that names a.
   abbrev pub incoming-edge-count : List ℕ → ℕ → IncomingEdgeCount
   incoming-edge-count live a = pick (eqb a (g .entry)) 1 0 + total (λ r. times-in a (targets-of g r) + times-in a (exit-targets r)) live
 
@@ -622,7 +622,7 @@ module _ (g : Graph) where
   incoming-edge-counts = let live = reachable in map (incoming-edge-count live) (numbers-from 0 (g .regions))
 
 -- ---- A claimed region with a back edge to itself becomes a loop in a wrapper region.
--- The header's inputs taken so far: how look-up-each is rewritten, and of those kept the initial inputs, types and body outputs.
+-- The header's inputs taken so far: how each is rewritten, and of those kept the initial inputs, types and body outputs.
 pub record LoopInputs : Type 0 where
   pub rewrites : List InputRewrite
   pub initial-inputs : List Value
@@ -648,7 +648,7 @@ lift-input wrapper k x =
     let lifted = x .rewrites ++ (replace-by (input wrapper k) ∷ []) in
     record { rewrites = lifted; initial-inputs = x .initial-inputs; types = x .types; outputs = x .outputs }
 
--- A claimed loop adds ONE to look-up-each deferred target in its exit list, once.
+-- A claimed loop adds ONE to each deferred target in its exit list, once.
 abbrev pub add-exit-edge : List ℕ → DeferredEdgeBundle → DeferredEdgeBundle
 add-exit-edge xs e =
     let more : ℕ → IncomingEdgeCount = λ r. pick (is-in r xs) (suc (e .accumulated-count)) (e .accumulated-count) in
@@ -683,7 +683,7 @@ module _ (g : Graph) where
     let looped = loop (loop-node n body x v) children ▸ ⟨⟩
     give (some (claimed-as body wrapper inputs looped (map (add-exit-edge (exit-targets g body)) exits)))
 
--- ---- The Rust's try_claim_edge_bundle and structurize_region, which call look-up-each other.
+-- ---- The Rust's try_claim_edge_bundle and structurize_region, which call each other.
 -- target, accumulated count, inputs; none is the Rust's Err, the bundle handed back as it was
 abbrev pub Claim : Type 0
 Claim = ℕ → IncomingEdgeCount → List Value → Step (Option ClaimedRegion)
@@ -736,7 +736,7 @@ module _ (g : Graph) where
   claim-by-state r n inputs incoming (ready b children d) =
       elim (eqb incoming (n + b)) [ false ↦ give none | true ↦ set-state r claimed >> claim-body r inputs children d (backedge-of r b d) ]
 
-  -- What a terminator makes of its targets, look-up-each claimed or deferred: children, and deferred edges.
+  -- What a terminator makes of its targets, each claimed or deferred: children, and deferred edges.
   abbrev pub by-control-inst : Nodes → ControlInst → List MaybeClaimedRegion → Step Body
   by-control-inst parent unreachable cs = give (region-body parent [])
   by-control-inst parent (return vs) cs = give (region-body parent (edge-bundle to-return 0 vs true-cond ∷ []))

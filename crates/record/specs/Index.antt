@@ -12,14 +12,14 @@ use Rattle.record.specs.Outcome.{forget, read-answered, RestKept}
 use Rattle.record.specs.declared.ReadAnswer.{ReadAnswer}
 use Rattle.record.specs.declared.regions.RegionPlaces.{RegionPlaces}
 
--- The 11 words of the index for a read-region that begins at a place: start, turn limit, exits, blocks.
+-- The 11 words of the index for a region that begins at a place: start, turn limit, exits, blocks.
 unfoldable pub row-of : ℕ → RegionPlaces → ℕ → ℕ
 row-of start x zero = start
 row-of start x (suc zero) = x .limit
 row-of start x (suc (suc zero)) = x .exits
 row-of start x (suc (suc (suc b))) = getD (x .blocks) b 0
 
--- The index of read-region r, of regions that begin at a place.
+-- The index of region r, of regions that begin at a place.
 pub record IndexedFrom (ws : List ℕ) (from : ℕ) (w : List ℕ) (r : ℕ) : Type 0 where
   pub start : getD w (index-at r) 0 ≡ after r read-region ws from
   pub limit : getD w (index-at r + 1) 0 ≡ limit-of-region ws (after r read-region ws from)

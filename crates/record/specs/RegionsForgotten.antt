@@ -16,7 +16,7 @@ pub stopped : {A B : Type 0} (r : Read A) (k : A → ℕ → Read B) {m : ℕ} �
 stopped (got a i) k h = absurd (clash (cc))
 stopped (bad n) k h = sym h
 
--- from the turn limit of a read-region on
+-- from the turn limit of a region on
 unfoldable pub ending-read : Reader (List ℕ)
 ending-read ws at = read-then (within 1 65535 ws at) λ l p. read-then (forget-value (terminator ws p)) λ u q. counted 0 32 word ws q
 
@@ -33,7 +33,7 @@ module _ (ws : List ℕ) (at : ℕ) where
   unfolding ending-read
   ending-exits h j k = rw (h, j, k)
 
--- what stands after the blocks, with the read-region made of it
+-- what stands after the blocks, with the region made of it
 ending-made : (inputs : List ℕ) (blocks : List (List Instr)) (ws : List ℕ) (at : ℕ) → forget-value (ending-read ws at) ≡ forget-value {A = Region} (read-then (within 1 65535 ws at) λ limit p. read-then (terminator ws p) λ end q. read-then (counted 0 32 word ws q) λ exits e. got (record { inputs = inputs; blocks = blocks; limit = limit; terminator = end; exits = exits }) e)
 unfolding ending-read
 ending-made inputs blocks ws at = simp (forget-value-follow, follow-forget-value, forget-value-given)
@@ -54,7 +54,7 @@ module _ (ws : List ℕ) (at : ℕ) where
       let g = found (counted 0 8 block ws p) j in
       rw (f .is, g .is) (ending-made (f .value) (g .value) ws q)
 
--- Of the head only its read-region count is kept.
+-- Of the head only its region count is kept.
 abbrev pub count-of : Read Head → Read ℕ
 count-of (got h at) = got (h .count) at
 count-of (bad n) = bad n
@@ -84,7 +84,7 @@ count-follow : {A : Type 0} (r : Read A) (k : A → ℕ → Read Head) → count
 count-follow (got a i) k = refl
 count-follow (bad n) k = refl
 
--- the read-region count is kept once the rest is read
+-- the region count is kept once the rest is read
 head-counted : (ws : List ℕ) (at : ℕ) → head-count ws at ≡ read-then (within 1 32 ws at) λ n p. read-then (forget-value (after-count ws p)) λ u e. got n e
 unfolding head head-count after-count
 head-counted ws at = simp (count-follow, follow-follow, follow-forget-value)

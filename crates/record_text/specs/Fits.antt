@@ -70,7 +70,7 @@ refusal-fits : (n w : ℕ) → n ≤ 8 → w < 32 → length (refusal-text n w) 
 unfolding refusal-text
 refusal-fits n w a b = simp length-append (omega (arith, five-digits n (omega arith), five-digits w (omega arith)))
 
--- Whatever is shown-text of a store.
+-- Whatever is shown of a store.
 pub shown-fits : (s : List ℕ) → AllBytes s → length (shown-text (accept s)) ≤ 65536
 shown-fits s bytes = by-answer (accept s) refl (refusal-range s)
   where

@@ -53,7 +53,7 @@ value-short k r i p q =
 pub record Enough (ws : List ℕ) {A : Type 0} (p : Reader A) (bytes : A → ℕ) : Type 0 where
   pub enough : (at : ℕ) {x : A} {e : ℕ} → p ws at ≡ got x e → bytes x + 16 * at ≤ 16 * e
 
--- The same of a list whose items-text are numbered: the next number is at most the place behind it, since each item takes some words.
+-- The same of a list whose items are numbered: the next number is at most the place behind it, since each item takes some words.
 record NumberedEnough (bytes at next e : ℕ) : Type 0 where
   pub enough : bytes + 16 * at ≤ 16 * e
   pub number : next ≤ e

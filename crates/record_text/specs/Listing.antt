@@ -86,7 +86,7 @@ terminator-text (branch e) = labeled "branch to " (e .target) ++ ascii "\n"
 terminator-text (select-branch bool-cond v es) = select-line-text "select bool " v es
 terminator-text (select-branch number v es) = select-line-text "select num " v es
 
--- The values-text passed to a target.
+-- The values passed to a target.
 unfoldable pub pass-text : Edge → Text
 unfolding labeled values-text
 pass-text e = labeled "pass " (e .target) ++ ascii " in " ++ values-text (e .inputs) ++ ascii "\n"
@@ -129,7 +129,7 @@ unfoldable pub refusal-text : ℕ → ℕ → Text
 unfolding labeled
 refusal-text n w = labeled "refused " n ++ labeled " " w ++ ascii "\n"
 
--- What is shown-text of a store: its refusal, or its record.
+-- What is shown of a store: its refusal, or its record.
 abbrev pub shown-text : Answer Graph → Text
 shown-text (accepted g) = listing-of g
 shown-text (refused n w) = refusal-text n w

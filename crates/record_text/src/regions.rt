@@ -79,7 +79,7 @@ fn put_blocks(w: &[u16; WORDS], out: &mut [u8], at: usize, r: u16) -> usize
     place
 }
 
-// A label and the terminator's values-text, to the line's end.
+// A label and the terminator's values, to the line's end.
 fn put_end_values(w: &[u16; WORDS], out: &mut [u8], at: usize, label: &[u8], r: u16) -> usize
     ensures { λ p. ⌜ ((g : Graph) → Stands (now (w .entry)) g → Wrote (buffer (now (out .entry)) at) (now (label .entry) ++ values-text (values-of (region g r .terminator)) ++ ascii "\n") (buffer (now (out .exit)) p)) ⌝ }
 {
@@ -117,7 +117,7 @@ fn put_terminator(w: &[u16; WORDS], out: &mut [u8], at: usize, r: u16) -> usize
     }
 }
 
-// The values-text passed to the target at place j.
+// The values passed to the target at place j.
 fn put_pass(w: &[u16; WORDS], out: &mut [u8], at: usize, r: u16, j: u16) -> usize
     ensures { λ p. ⌜ ((g : Graph) → Stands (now (w .entry)) g → Wrote (buffer (now (out .entry)) at) (pass-text (getD (edges-of (region g r .terminator)) j no-edge)) (buffer (now (out .exit)) p)) ⌝ }
 {

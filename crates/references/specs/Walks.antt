@@ -44,7 +44,7 @@ module _ (g : Graph) (r : ℕ) where
         done = λ k l. ap (reads-right g r (first + k)) (none-from xs no-instr size k l);
       }
 
-  -- a value that is named-right, and of its type
+  -- a value that is named, and of its type
   abbrev pub typed : ℕ → Value → Answer Unit
   typed t v = if-accepted (named-right g r (behind-all g r) v) λ _. of-type g r t v
 

@@ -18,7 +18,7 @@ abbrev pub blocks-answered : Checked → Answer Unit
 blocks-answered checked.Right = accepted tt
 blocks-answered (checked.Wrong n w) = refused n w
 
--- The words of a store, words-counted: W.
+-- The words of a store, counted: W.
 abbrev pub words-counted : Answer (List ℕ) → Answer ℕ
 words-counted (accepted ws) = accepted (length ws)
 words-counted (refused n w) = refused n w

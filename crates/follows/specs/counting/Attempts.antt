@@ -2,7 +2,7 @@
 -- them, a target named twice two; and it is turned away by a limit alone: fuel never runs out, refusal 12 is never met.
 use mathlib.Core.Path.{_≡_, refl, sym, ap, _∙_}
 use mathlib.Core.Bool.{Bool, true, false}
-use mathlib.Core.List.{List, [], _∷_, map}
+use mathlib.Core.List.{List, [], _∷_}
 use mathlib.Core.Option.{Option, none, some}
 use Prim.Native.Nat.{ℕ, zero, suc, _+_, _*_, _-_, _≤_, _<_}
 use native.Mathlib.Omega.{arith}
@@ -13,7 +13,7 @@ use Rattle.meaning.specs.Graph.{Graph, region, edges-of, targets-of}
 use Rattle.meaning.specs.Runs.{Nodes, ⟨⟩}
 use Rattle.meaning.specs.facts.Tests.{clash}
 use Rattle.format.specs.Valid.{Valid}
-use Rattle.meaning.specs.Lists.{times-in, numbers-from, total}
+use Rattle.meaning.specs.Lists.{times-in, total}
 use Rattle.format.specs.Store
 use Rattle.format.specs.Store.{accepted, refused}
 use Rattle.nesting.specs.Nesting.{exit-targets, Nested, to-region, DeferredEdgeBundleSet, Outcome, untouched, whole, closed, leftover, StructurizeRegionState, not-begun, NestState, StepAnswer, done, turned-away, ClaimedRegion, reachable, incoming-edge-count, incoming-edge-counts, try-claim-edge-bundle, initial-state, outcome-of, conclude-by, conclude, structurize-func-by, structurize-func}
@@ -25,19 +25,14 @@ use Rattle.follows.specs.counting.JustReached.{just-reached}
 use Rattle.follows.specs.simulation.ValidUse.{usable-graph, reachable-region}
 use Rattle.meaning.specs.facts.Sums.{total-same, total-add, total-each}
 use Rattle.follows.specs.counting.Totals.{edges-to}
-use Rattle.follows.specs.counting.Counting.{Counting, Nine, busy, owed-by, held-by, owed, held, Pre}
+use Rattle.follows.specs.counting.Counting.{Counting, Nine, busy, owed-by, edges-held-by, owed, edges-held, Pre}
 use Rattle.follows.specs.counting.CountClaim.{Claims}
 use Rattle.follows.specs.counting.CountRegion.{claim-counted}
-
--- ---- the list of incoming counts
-numbered : {A : Type 0} (f : ℕ → ℕ) (k : ℕ) (l : List A) (r : ℕ) → r < length l → getD (map f (numbers-from k l)) r 0 ≡ f (k + r)
-numbered f k [] r h = absurd (omega arith)
-numbered f k (x ∷ l) zero h = let z : k ≡ k + 0 = omega arith in ap f z
-numbered f k (x ∷ l) (suc r) h = let z : suc k + r ≡ k + suc r = omega arith in numbered f (suc k) l r (omega arith) ∙ ap f z
+use Rattle.meaning.specs.facts.Elements.{numbered-map}
 
 pub incoming-at : (g : Graph) (r : ℕ) → r < length (g .regions) → getD (incoming-edge-counts g) r 0 ≡ incoming-edge-count g (reachable g) r
 unfolding incoming-edge-counts
-incoming-at g r h = let z : 0 + r ≡ r = omega arith in numbered (incoming-edge-count g (reachable g)) 0 (g .regions) r h ∙ ap (incoming-edge-count g (reachable g)) z
+incoming-at g r h = let z : 0 + r ≡ r = omega arith in numbered-map (incoming-edge-count g (reachable g)) 0 (g .regions) r h ∙ ap (incoming-edge-count g (reachable g)) z
 
 -- ---- before anything is begun
 count-new : (n : ℕ) → count-states not-begun-one (replicate n not-begun) ≡ n
@@ -79,18 +74,18 @@ module _ (g : Graph) where
         ∙ total-add (λ i. length (edges-of (region g i .terminator))) (λ i. 2 * length (reachable g)) (reachable g)
         ∙ (let z = edges-over (reachable g) in let y = total-each (2 * length (reachable g)) (reachable g) in omega arith)
 
-    held-start : (r : ℕ) → held counting r start ≡ incoming-from r (reachable g)
-    unfolding held
-    held-start r =
-        total-same (λ i. held-by counting r i (getD start i not-begun)) (λ i. times-in r (targets-of g i) + times-in r (exit-targets g i))
-        (λ i. ap (held-by counting r i) (all-not-begun (length (g .regions)) i)) (reachable g)
+    edges-held-start : (r : ℕ) → edges-held counting r start ≡ incoming-from r (reachable g)
+    unfolding edges-held
+    edges-held-start r =
+        total-same (λ i. edges-held-by counting r i (getD start i not-begun)) (λ i. times-in r (targets-of g i) + times-in r (exit-targets g i))
+        (λ i. ap (edges-held-by counting r i) (all-not-begun (length (g .regions)) i)) (reachable g)
         ∙ over-incoming r (reachable g)
 
     start-pre : Pre counting (suc (length (g .regions))) (λ r. 0) (λ r. edges-to r (to-region (g .entry)) 1) (initial-state g)
     start-pre = record {
       inv = record { length = length-replicate (length (g .regions)) not-begun; fine = λ i. let z = all-not-begun (length (g .regions)) i in rw z tt };
       enough = let z = count-new (length (g .regions)) in omega arith;
-      room = λ r. let z = held-start r in omega arith;
+      room = λ r. let z = edges-held-start r in omega arith;
       waits = λ r b. absurd (let z : false ≡ true = sym (ap busy (all-not-begun (length (g .regions)) r)) ∙ b in clash (cc));
     }
 

@@ -20,7 +20,7 @@ use Rattle.nesting.specs.steps.RegionsLeft.{state-of, with-state, not-begun-one
 use Rattle.follows.specs.simulation.Bundles.{found-in}
 use Rattle.follows.specs.counting.Totals.{edge-total, at, bundles-to, edges-to, edgeless}
 use Rattle.follows.specs.counting.SplitTotals.{split-total, not-found, no-bundles, exits-bundles, exits-edges, exits-edgeless}
-use Rattle.follows.specs.counting.Counting.{Counting, Nine, busy, live-count, live-one, owed-by, held-by, held, owed-set, held-set, held-at, Good, Fine, CountInv, Pre, Counted, counted-then, counted-still, inv-set, busy-else, busy-here}
+use Rattle.follows.specs.counting.Counting.{Counting, Nine, busy, live-count, live-one, owed-by, edges-held-by, edges-held, owed-set, edges-held-set, edges-held-at, Good, Fine, CountInv, Pre, Counted, counted-then, counted-still, inv-set, busy-else, busy-here}
 
 abbrev SetIs : DeferredEdgeBundleSet → Option ClaimedRegion → Type 0
 SetIs d none = ⊥
@@ -88,15 +88,15 @@ module _ (K : Counting) where
       inv = inv-set K (s .region-states) q claimed inv lt-q tt;
       paid = let z = owed-set K q (s .region-states) claimed in-q lt-q in let y = ap (owed-by K q) is in omega arith;
       begun = let z = count-set not-begun-one (s .region-states) q claimed lt-q in omega arith;
-      kept = λ r. go r (eqb r q) refl (l r) (held-set K r q (s .region-states) claimed in-q lt-q) (ap (held-by K r q) is);
+      kept = λ r. go r (eqb r q) refl (l r) (edges-held-set K r q (s .region-states) claimed in-q lt-q) (ap (edges-held-by K r q) is);
       stay = λ r. still-busy r (eqb r q) refl;
     }
       where
         go : (r : ℕ) (x : Bool) → eqb r q ≡ x
             → edge-total (edges-to r) d′ + pick x b 0 ≤ edge-total (edges-to r) d + times-in r (exit-targets (K .g) q)
-            → held K r (set (s .region-states) q claimed) + held-by K r q (state-of s q) ≡ held K r (s .region-states) + pick x (K .incoming r) 0
-            → held-by K r q (state-of s q) ≡ times-in r (exit-targets (K .g) q) + edge-total (edges-to r) d
-            → held K r (set (s .region-states) q claimed) + edge-total (edges-to r) d′ ≤ held K r (s .region-states) + pick x n 0
+            → edges-held K r (set (s .region-states) q claimed) + edges-held-by K r q (state-of s q) ≡ edges-held K r (s .region-states) + pick x (K .incoming r) 0
+            → edges-held-by K r q (state-of s q) ≡ times-in r (exit-targets (K .g) q) + edge-total (edges-to r) d
+            → edges-held K r (set (s .region-states) q claimed) + edge-total (edges-to r) d′ ≤ edges-held K r (s .region-states) + pick x n 0
         go r true p a u v = let z = ap (K .incoming) (eqb-true r q p) in omega arith
         go r false p a u v = omega arith
 
@@ -121,9 +121,9 @@ module _ (K : Counting) where
       others-few : (r : ℕ) → edge-total (bundles-to r) d ≡ at r (e .target) + edge-total (bundles-to r) others
       others-few r = split-total (bundles-to r) (to-region q) d e found
 
-      exits-held : (r : ℕ) (x : Bool) → eqb r q ≡ x
+      exits-counted : (r : ℕ) (x : Bool) → eqb r q ≡ x
           → edge-total (edges-to r) exits + pick x b 0 ≤ edge-total (edges-to r) d + times-in r (exit-targets (K .g) q)
-      exits-held r true p =
+      exits-counted r true p =
           let r-q = eqb-true r q p in
           let t : at r (e .target) ≡ 1 = ap (at r) (sym (found-in (to-region q) d e found .1)) ∙ rw p in
           let none-left : edge-total (bundles-to r) exits ≡ 0 = let a = others-few r in let z = good .fits r in let y = one-less r in
@@ -131,7 +131,7 @@ module _ (K : Counting) where
           let w = no-bundles r exits none-left in
           let k = ap (λ i. edge-total (edges-to i) d) r-q in
           omega arith
-      exits-held r false p =
+      exits-counted r false p =
           let a = others-few r in
           let z = good .fits r in
           let y = one-less r in
@@ -149,7 +149,7 @@ module _ (K : Counting) where
       as-loop : (o : Option ClaimedRegion) (s′ : NestState) → Looped exits after o s′ → Claims 0 q n s o s′
       as-loop none s′ h = absurd (h .is)
       as-loop (some c) s′ h =
-          let step = claimed-step (c .deferred-edges) (λ r. rw (h .is) (exits-held r (eqb r q) refl)) in
+          let step = claimed-step (c .deferred-edges) (λ r. rw (h .is) (exits-counted r (eqb r q) refl)) in
           record {
             step = counted-then K step (counted-still K {f = λ r. edge-total (edges-to r) (c .deferred-edges)} {f′ = λ r. edge-total (edges-to r) (c .deferred-edges)} (h .still) (step .inv) (λ r. omega arith)) (omega arith) (λ r. omega arith);
             good = rw (h .is) exits-good;
@@ -170,7 +170,7 @@ module _ (K : Counting) where
   not-claimed q n s l i = record { step = counted-still K (still-refl s) i (λ r. omega arith); good = l }
 
   module _ (q n : ℕ) (inputs : List Value) (fuel : ℕ) (H : ℕ → ℕ) (s : NestState) (in-q : is-in q (K .live) ≡ true) (pos : 1 ≤ n) (pre : Pre K fuel H (λ r. edges-to r (to-region q) n) s) where
-    q-room : held K q (s .region-states) + (n + H q) ≤ K .incoming q
+    q-room : edges-held K q (s .region-states) + (n + H q) ≤ K .incoming q
     q-room = let x = pre .room q in let y = edges-self q n in omega arith
 
     ready-counted : (b : ℕ) (children : Nodes) (d : DeferredEdgeBundleSet) → state-of s q ≡ ready b children d → Post Nine (λ o s′. Claims 0 q n s o s′) (claim-by-state (K .g) q n inputs (K .incoming q) (ready b children d) s)
@@ -182,8 +182,8 @@ module _ (K : Counting) where
         go : (x : Bool) → eqb (K .incoming q) (n + b) ≡ x
             → Post {A = Option ClaimedRegion} Nine (λ o s′. Claims 0 q n s o s′) (let y : Step (Option ClaimedRegion) = elim x [ false ↦ give none | true ↦ set-state q claimed >> claim-body (K .g) q inputs children d (backedge-of q b d) ] in y s)
         go false e =
-            let a = held-at K q q (s .region-states) in-q in
-            let c = ap (held-by K q q) p in
+            let a = edges-held-at K q q (s .region-states) in-q in
+            let c = ap (edges-held-by K q q) p in
             let y = q-room in
             let z = eqb-false (K .incoming q) (n + b) e in
             let w = fine .1 in
@@ -193,9 +193,9 @@ module _ (K : Counting) where
     pub claim-by-state-counted : (x : StructurizeRegionState) → state-of s q ≡ x → not-begun-one x ≡ 0 → Post Nine (λ o s′. Claims 0 q n s o s′) (claim-by-state (K .g) q n inputs (K .incoming q) x s)
     claim-by-state-counted not-begun p e = absurd (clash (cc))
     claim-by-state-counted claimed p e =
-        let a = held-at K q q (s .region-states) in-q in
-        let b = ap (held-by K q q) p in
-        let c : held-by K q q claimed ≡ K .incoming q = rw (eq-eqb q q refl) in
+        let a = edges-held-at K q q (s .region-states) in-q in
+        let b = ap (edges-held-by K q q) p in
+        let c : edges-held-by K q q claimed ≡ K .incoming q = rw (eq-eqb q q refl) in
         let y = q-room in
         absurd (omega arith)
     claim-by-state-counted in-progress p e = go (eqb (K .incoming q) n) refl

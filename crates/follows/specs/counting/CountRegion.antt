@@ -20,7 +20,7 @@ use Rattle.meaning.specs.facts.Members.{in-front, in-rest}
 use Rattle.follows.specs.counting.Totals.{edge-total, totals, edges-to, to-regions}
 use Rattle.follows.specs.counting.SplitTotals.{count-total}
 use Rattle.follows.specs.counting.SelectTotals.{select-into-total}
-use Rattle.follows.specs.counting.Counting.{Counting, Nine, busy, live-count, edges-leaving, owed-by, held-by, held, owed-set, held-set, Good, Pre, Counted, counted-then, counted-as, counted-still, pre-after, pre-as, inv-set, busy-else, busy-here}
+use Rattle.follows.specs.counting.Counting.{Counting, Nine, busy, live-count, edges-leaving, owed-by, edges-held-by, edges-held, owed-set, edges-held-set, Good, Pre, Counted, counted-then, counted-as, counted-still, pre-after, pre-as, inv-set, busy-else, busy-here}
 use Rattle.follows.specs.counting.CountClaim.{edges-self, one-less, claim-by-state-counted}
 use Rattle.follows.specs.counting.CountScan.{ClaimCounted, aims, AllLive, BodyCounted, ScanCounted, selected-counted, by-control-inst-counted, scan-few, target-regions-counted, split-out-counted}
 
@@ -91,14 +91,14 @@ module _ (K : Counting) where
       lt-q : q < length (s .region-states)
       lt-q = let z = pre .inv .length in let y = K .below q in-q in omega arith
 
-      held-under-way : (r : ℕ) → held K r (set (s .region-states) q in-progress) + aims K es r ≡ held K r (s .region-states)
-      held-under-way r = let z = held-set K r q (s .region-states) in-progress in-q lt-q in let y = ap (held-by K r q) new in omega arith
+      edges-held-under-way : (r : ℕ) → edges-held K r (set (s .region-states) q in-progress) + aims K es r ≡ edges-held K r (s .region-states)
+      edges-held-under-way r = let z = edges-held-set K r q (s .region-states) in-progress in-q lt-q in let y = ap (edges-held-by K r q) new in omega arith
 
       pre-under-way : Pre K fuel H (aims K es) under-way
       pre-under-way = record {
         inv = inv-set K (s .region-states) q in-progress (pre .inv) lt-q tt;
         enough = let z = count-set not-begun-one (s .region-states) q in-progress lt-q in let y = ap not-begun-one new in let w = pre .enough in omega arith;
-        room = λ r. let z = held-under-way r in let y = pre .room r in omega arith;
+        room = λ r. let z = edges-held-under-way r in let y = pre .room r in omega arith;
         waits = λ r b. go r b (eqb r q) refl;
       }
         where
@@ -135,9 +135,9 @@ module _ (K : Counting) where
                 let x = a .begun in
                 omega arith;
             kept = λ r.
-                let z = held-under-way r in
-                let v = held-set K r q (s₁ .region-states) last in-q lt-last in
-                let w = ap (held-by K r q) still-under-way in
+                let z = edges-held-under-way r in
+                let v = edges-held-set K r q (s₁ .region-states) last in-q lt-last in
+                let w = ap (edges-held-by K r q) still-under-way in
                 let x = a .kept r in
                 omega arith;
             stay = λ r. go r (eqb r q) refl;

@@ -97,7 +97,7 @@ module _ (K : Counting) where
   by-control-inst-counted parent (select-branch kind v es) cs s i fi fu =
       map-post (structurize-select-into (K .g) parent kind (value v) cs s) (select-into-total Nine refl (K .g) parent kind (value v) cs s) λ y s₁ q. selected-counted s cs y s₁ i fi fu q
 
-  -- ---- a scan makes live-one attempt for each region in the set, and these are no more than the live regions
+  -- ---- a scan makes one attempt for each region in the set, and these are no more than the live regions
   live-of : (q : ℕ) → 1 ≤ live-one K q → is-in q (K .live) ≡ true
   live-of q h = go (is-in q (K .live)) h
     where

@@ -56,11 +56,11 @@ module _ (K : Counting) where
   owed-by i (ready b children d) = live-count
 
   -- the edges to r that region i has yet to give out, or holds; once r itself is claimed, all
-  abbrev pub held-by : ℕ → ℕ → StructurizeRegionState → ℕ
-  held-by r i not-begun = times-in r (targets-of (K .g) i) + times-in r (exit-targets (K .g) i)
-  held-by r i in-progress = times-in r (exit-targets (K .g) i)
-  held-by r i claimed = pick (eqb r i) (K .incoming r) 0
-  held-by r i (ready b children d) = times-in r (exit-targets (K .g) i) + edge-total (edges-to r) d
+  abbrev pub edges-held-by : ℕ → ℕ → StructurizeRegionState → ℕ
+  edges-held-by r i not-begun = times-in r (targets-of (K .g) i) + times-in r (exit-targets (K .g) i)
+  edges-held-by r i in-progress = times-in r (exit-targets (K .g) i)
+  edges-held-by r i claimed = pick (eqb r i) (K .incoming r) 0
+  edges-held-by r i (ready b children d) = times-in r (exit-targets (K .g) i) + edge-total (edges-to r) d
 
   weigh : (ℕ → StructurizeRegionState → ℕ) → List StructurizeRegionState → ℕ
   weigh W l = total (λ i. W i (getD l i not-begun)) (K .live)
@@ -69,9 +69,9 @@ module _ (K : Counting) where
   unfolding weigh
   owed l = weigh owed-by l
 
-  unfoldable pub held : ℕ → List StructurizeRegionState → ℕ
+  unfoldable pub edges-held : ℕ → List StructurizeRegionState → ℕ
   unfolding weigh
-  held r l = weigh (held-by r) l
+  edges-held r l = weigh (edges-held-by r) l
 
   weigh-set : (W : ℕ → StructurizeRegionState → ℕ) (r : ℕ) (l : List StructurizeRegionState) (x : StructurizeRegionState) → is-in r (K .live) ≡ true → r < length l
       → weigh W (set l r x) + W r (getD l r not-begun) ≡ weigh W l + W r x
@@ -84,15 +84,15 @@ module _ (K : Counting) where
   unfolding owed
   owed-set r l x i h = weigh-set owed-by r l x i h
 
-  pub held-set : (q r : ℕ) (l : List StructurizeRegionState) (x : StructurizeRegionState) → is-in r (K .live) ≡ true → r < length l → held q (set l r x) + held-by q r (getD l r not-begun) ≡ held q l + held-by q r x
-  unfolding held
-  held-set q r l x i h = weigh-set (held-by q) r l x i h
+  pub edges-held-set : (q r : ℕ) (l : List StructurizeRegionState) (x : StructurizeRegionState) → is-in r (K .live) ≡ true → r < length l → edges-held q (set l r x) + edges-held-by q r (getD l r not-begun) ≡ edges-held q l + edges-held-by q r x
+  unfolding edges-held
+  edges-held-set q r l x i h = weigh-set (edges-held-by q) r l x i h
 
-  pub held-at : (q r : ℕ) (l : List StructurizeRegionState) → is-in r (K .live) ≡ true → held-by q r (getD l r not-begun) ≤ held q l
-  unfolding held weigh
-  held-at q r l i = total-one (λ j. held-by q j (getD l j not-begun)) r (K .live) i
+  pub edges-held-at : (q r : ℕ) (l : List StructurizeRegionState) → is-in r (K .live) ≡ true → edges-held-by q r (getD l r not-begun) ≤ edges-held q l
+  unfolding edges-held weigh
+  edges-held-at q r l i = total-one (λ j. edges-held-by q j (getD l j not-begun)) r (K .live) i
 
-  -- ---- a set: at most live-one bundle to each live region and none to another, each with an edge
+  -- ---- a set: at most one bundle to each live region and none to another, each with an edge
   pub record Good (d : DeferredEdgeBundleSet) : Type 0 where
     pub fits : SetFits live-one d
     pub full : edge-total edgeless d ≡ 0
@@ -111,7 +111,7 @@ module _ (K : Counting) where
   pub record Pre (fuel : ℕ) (H f : ℕ → ℕ) (s : NestState) : Type 0 where
     pub inv : CountInv (s .region-states)
     pub enough : not-begun-count s < fuel
-    pub room : (r : ℕ) → held r (s .region-states) + (f r + H r) ≤ K .incoming r
+    pub room : (r : ℕ) → edges-held r (s .region-states) + (f r + H r) ≤ K .incoming r
     pub waits : (r : ℕ) → busy (state-of s r) ≡ true → 1 ≤ H r
 
   -- A step at a cost of c attempts, with a gain; in hand was f, and then f′.
@@ -119,7 +119,7 @@ module _ (K : Counting) where
     pub inv : CountInv (s′ .region-states)
     pub paid : s′ .attempts + owed (s′ .region-states) + gain ≤ s .attempts + owed (s .region-states) + c
     pub begun : not-begun-count s′ ≤ not-begun-count s
-    pub kept : (r : ℕ) → held r (s′ .region-states) + f′ r ≤ held r (s .region-states) + f r
+    pub kept : (r : ℕ) → edges-held r (s′ .region-states) + f′ r ≤ edges-held r (s .region-states) + f r
     pub stay : (r : ℕ) → busy (state-of s′ r) ≡ busy (state-of s r)
 
   pub counted-then : {c c₁ c₂ gain gain₁ gain₂ : ℕ} {f f₁ f₁′ f₂ : ℕ → ℕ} {s s₁ s₂ : NestState} → Counted c₁ gain₁ f f₁ s s₁ → Counted c₂ gain₂ f₁′ f₂ s₁ s₂
@@ -141,7 +141,7 @@ module _ (K : Counting) where
     inv = rw (q .states) i;
     paid = let x = ap owed (q .states) in let y = q .attempts in omega arith;
     begun = let x = ap (count-states not-begun-one) (q .states) in omega arith;
-    kept = λ r. let x = ap (held r) (q .states) in let y = l r in omega arith;
+    kept = λ r. let x = ap (edges-held r) (q .states) in let y = l r in omega arith;
     stay = λ r. ap (λ l. busy (getD l r not-begun)) (q .states);
   }
 

@@ -1,6 +1,6 @@
 -- A loop takes the back edge out of its deferred set, and counts its exits one more: what that does to the set's measures.
 use mathlib.Core.Path.{_≡_, refl, sym, ap, _∙_}
-use mathlib.Core.Bool.{Bool, true, false, _||_}
+use mathlib.Core.Bool.{Bool, true, false}
 use mathlib.Core.List.{List, [], _∷_, map}
 use mathlib.Core.Option.{Option, none, some}
 use Prim.Native.Nat.{ℕ, zero, suc, _+_, _≤_}
@@ -13,6 +13,7 @@ use Rattle.meaning.specs.facts.Tests.{clash}
 use Rattle.nesting.specs.Nesting.{LazyCond, DeferredTarget, to-region, to-return, DeferredEdgeBundle, DeferredEdgeBundleSet, same-target, get-edge-bundle-by-target, count-to, fill-gap, split-out-target, add-exit-edge}
 use Rattle.follows.specs.simulation.Bundles.{but-last, found-in, last-or}
 use Rattle.follows.specs.counting.Totals.{Measure, edge-total, at, bundles-to, edges-to, edgeless}
+use Rattle.meaning.specs.facts.Members.{in-times}
 
 -- ---- a bundle split out
 last-total : (μ : Measure) (o x : DeferredEdgeBundle) (xs : DeferredEdgeBundleSet) → μ (last-or o x xs .target) (last-or o x xs .accumulated-count) + edge-total μ (but-last x xs) ≡ edge-total μ (x ∷ xs)
@@ -79,14 +80,6 @@ count-total r d h = go (get-edge-bundle-by-target (to-region r) d) refl
 exit-at : (xs : List ℕ) (r : ℕ) (x : DeferredTarget) (n : ℕ) (vs : List Value) (k : LazyCond) → at r (add-exit-edge xs (record { target = x; accumulated-count = n; target-inputs = vs; condition = k }) .target) ≡ at r x
 exit-at xs r (to-region q) n vs k = refl
 exit-at xs r to-return n vs k = refl
-
-in-times : (r : ℕ) (xs : List ℕ) → is-in r xs ≡ true → 1 ≤ times-in r xs
-in-times r [] p = absurd (clash (cc))
-in-times r (x ∷ xs) p = go (eqb r x) p (λ h. in-times r xs h)
-  where
-    go : (b : Bool) → (b || is-in r xs) ≡ true → (is-in r xs ≡ true → 1 ≤ times-in r xs) → 1 ≤ pick b 1 0 + times-in r xs
-    go true h ih = omega arith
-    go false h ih = let z = ih h in omega arith
 
 exit-edges : (xs : List ℕ) (r : ℕ) (x : DeferredTarget) (n : ℕ) (vs : List Value) (k : LazyCond)
     → (let e = add-exit-edge xs (record { target = x; accumulated-count = n; target-inputs = vs; condition = k }) in edges-to r (e .target) (e .accumulated-count)) ≤ edges-to r x n + times-in r xs

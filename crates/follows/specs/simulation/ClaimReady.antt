@@ -19,7 +19,7 @@ use Rattle.nesting.specs.lookups.Rewriting.{meets, rewrite}
 use Rattle.nesting.specs.steps.RegionsLeft.{state-of}
 use Rattle.nesting.specs.steps.Post.{bind}
 use Rattle.meaning.specs.facts.Elements.{In}
-use Rattle.follows.specs.simulation.Key.{Key, held-key, is-held, of-held, owns-nodes}
+use Rattle.follows.specs.simulation.Key.{Key, input-key, is-input-of, of-input, owns-nodes}
 use Rattle.follows.specs.simulation.World.{Fits, World, ar, size}
 use Rattle.follows.specs.simulation.Tables.{Extends, Resolver, Respects, Tables, entry-law, extends-then, final-input, lookup-keeps, respects-back, tables}
 use Rattle.follows.specs.simulation.Conditions.{Mat, mat-stays}
@@ -36,21 +36,21 @@ use Rattle.follows.specs.simulation.Append.{set-through}
 use Rattle.follows.specs.simulation.LoopParts.{KeptOrLifted, Renumbered, SameBundle, leaving, leaving-distinct, leaving-from, leaving-in, renumbered}
 
 loop-owns : (x : LoopNode) (ks : Nodes) (κ : Key) → owns-nodes (loop x ks ▸ ⟨⟩) κ ≡ true
-    → (κ ≡ of-held (x .body)) ⊎ (owns-nodes ks κ ≡ true)
+    → (κ ≡ of-input (x .body)) ⊎ (owns-nodes ks κ ≡ true)
 unfolding owns-nodes
-loop-owns x ks κ o = go (or-either (is-held (x .body) κ) (owns-nodes ks κ) (sym (or-false (is-held (x .body) κ || owns-nodes ks κ)) ∙ o))
+loop-owns x ks κ o = go (or-either (is-input-of (x .body) κ) (owns-nodes ks κ) (sym (or-false (is-input-of (x .body) κ || owns-nodes ks κ)) ∙ o))
   where
-    go : (is-held (x .body) κ ≡ true) ⊎ (owns-nodes ks κ ≡ true) → (κ ≡ of-held (x .body)) ⊎ (owns-nodes ks κ ≡ true)
-    go (inl p) = inl (held-key (x .body) κ p)
+    go : (is-input-of (x .body) κ ≡ true) ⊎ (owns-nodes ks κ ≡ true) → (κ ≡ of-input (x .body)) ⊎ (owns-nodes ks κ ≡ true)
+    go (inl p) = inl (input-key (x .body) κ p)
     go (inr p) = inr p
 
-loop-held : (x : LoopNode) (ks : Nodes) → owns-nodes (loop x ks ▸ ⟨⟩) (of-held (x .body)) ≡ true
+loop-owns-inputs : (x : LoopNode) (ks : Nodes) → owns-nodes (loop x ks ▸ ⟨⟩) (of-input (x .body)) ≡ true
 unfolding owns-nodes
-loop-held x ks = rw (eqb-self (x .body))
+loop-owns-inputs x ks = rw (eqb-self (x .body))
 
 loop-within : (x : LoopNode) (ks : Nodes) → OwnedWithin ks (loop x ks ▸ ⟨⟩)
 unfolding owns-nodes
-loop-within x ks = record { into = λ v p. rw (p, or-true (is-held (x .body) v)) }
+loop-within x ks = record { into = λ v p. rw (p, or-true (is-input-of (x .body) v)) }
 
 -- a step that a branch gives, at a state
 abbrev pub at-state : {A : Type 0} → Step A → NestState → StepAnswer A
@@ -97,8 +97,8 @@ module _ (W : World) where
     mine : (κ : Key) → owns-nodes ks κ ≡ true → Owned s κ
     mine κ o = record { region = r; back = b; children = ks; deferred-edges = d; is = is-ready; owns = o }
 
-    unheld : New s (of-held r)
-    unheld = h .unrewritten r (waiting r-in was)
+    not-rewritten : New s (of-input r)
+    not-rewritten = h .unrewritten r (waiting r-in was)
 
     clear₁ : (κ : Key) → owns-nodes ks κ ≡ true → Free s₁ κ → ⊥
     clear₁ κ o (new n) = h .fresh κ (mine κ o) (new-was W s r claimed h r-in was refl κ n)
@@ -107,11 +107,11 @@ module _ (W : World) where
         (still W s r claimed h r-in was refl (x .region) (x .back) (x .children) (x .deferred-edges) (x .is)) is-ready
         (not-r W s r claimed h r-in was refl (x .region) (x .back) (x .children) (x .deferred-edges) (x .is)) κ (x .owns) o
 
-    held₁ : Owned s₁ (of-held r) → ⊥
-    held₁ x = h .fresh (of-held r) (owned-was W s r claimed h r-in was refl (of-held r) x) unheld
+    held₁ : Owned s₁ (of-input r) → ⊥
+    held₁ x = h .fresh (of-input r) (owned-was W s r claimed h r-in was refl (of-input r) x) not-rewritten
 
-    held-apart : owns-nodes ks (of-held r) ≡ false
-    held-apart = false-if (owns-nodes ks (of-held r)) (λ p. h .fresh (of-held r) (mine (of-held r) p) unheld)
+    inputs-apart : owns-nodes ks (of-input r) ≡ false
+    inputs-apart = false-if (owns-nodes ks (of-input r)) (λ p. h .fresh (of-input r) (mine (of-input r) p) not-rewritten)
 
     -- ---- no loop
     abbrev plainly-claimed : List Value → ClaimedRegion
@@ -271,7 +271,7 @@ module _ (W : World) where
               back-target only-back back-in e-arity (header-input (s₅ .node-outputs)) repeats
               (λ y i ne′. let z = leaving-in r exits d y i (same-target-sym (to-region r) (y .target) ∙ ne′) in (z .0, z .1, z .2 .target, z .2 .inputs, z .2 .condition))
               (λ z i. let y = leaving-from r exits d z i in (y .0, y .1, y .2 .target, y .2 .condition))
-              held-apart
+              inputs-apart
 
           through : (ρ : Resolver) (os : List NodeOutput) → Respects ρ os (tables s₆) → (k : ℕ) → k < ar W r → InScope ρ os w (ar W r) looped (ρ (input r k))
           through ρ os res k lt =
@@ -281,7 +281,7 @@ module _ (W : World) where
             where
               by : (sl : InputRewrite) → KeptOrLifted (W .g) r w vs x k sl → InScope ρ os w (ar W r) looped (final-input ρ r sl)
               by (replace-by u) (p, q) = own-input k lt (ap ρ p)
-              by (renumber-to i) g = owned (loop-held node ks)
+              by (renumber-to i) g = owned (loop-owns-inputs node ks)
 
           looped-set : SetOk W (tables s₆) w (ar W r) looped (leaving r exits d)
           looped-set =
@@ -305,16 +305,16 @@ module _ (W : World) where
               wd₁ : Free s₁ κ
               wd₁ = later-grew W gr₃ .free κ (free⁺ W s₃ r (renumber-or-replace-with (x .rewrites)) κ (later-grew W gr₄₆ .free κ wd))
 
-              held₆ : Free s₆ (of-held r) → ⊥
+              held₆ : Free s₆ (of-input r) → ⊥
               held₆ (old y) =
-                  held₁ (owned-same W gr₃ (of-held r)
-                  (owned⁺ W s₃ r (renumber-or-replace-with (x .rewrites)) (of-held r) (owned-same W gr₄₆ (of-held r) y)))
+                  held₁ (owned-same W gr₃ (of-input r)
+                  (owned⁺ W s₃ r (renumber-or-replace-with (x .rewrites)) (of-input r) (owned-same W gr₄₆ (of-input r) y)))
               held₆ (new m) =
                   let z = ap (λ l. rewrites-of l r) (sym (gr₄₆ .rewrites)) ∙ m in
                   let y = entry-at (s₃ .region-input-rewrites) r (renumber-or-replace-with (x .rewrites)) r-unrewritten₃ in
                   clash (cc)
 
-              by : (κ ≡ of-held r) ⊎ (owns-nodes ks κ ≡ true) → ⊥
+              by : (κ ≡ of-input r) ⊎ (owns-nodes ks κ ≡ true) → ⊥
               by (inl p) = held₆ (subst (λ z. Free s₆ z) p wd)
               by (inr p) = clear₁ κ p wd₁
 
@@ -340,8 +340,8 @@ module _ (W : World) where
             };
           }
             where
-              since : (κ : Key) → (κ ≡ of-held r) ⊎ (owns-nodes ks κ ≡ true) → Free s κ
-              since κ (inl p) = rw p (new unheld)
+              since : (κ : Key) → (κ ≡ of-input r) ⊎ (owns-nodes ks κ ≡ true) → Free s κ
+              since κ (inl p) = rw p (new not-rewritten)
               since κ (inr p) = old (mine κ p)
 
       pub structurize-loop-post : IfDone (ClaimDone r ins s) (structurize-loop (W .g) r ks e (pick (is-always d) true-cond (e .condition)) (split-out-target (to-region r) d) ins s₁)

@@ -1,4 +1,4 @@
--- A region in progress, a claimed region that is held, and the cases of a select.
+-- A region in progress, a claimed region in its claimer's hands, and the cases of a select.
 -- Doing s₀ r ks s: region r, begun at s₀, has the children ks at s; they own nothing Free at s, and only what was Free at s₀.
 -- Came: and they lead to the deferred edges d, which are in scope. Holds c s: a claimed region, not yet put into place.
 use mathlib.Core.Bool.{false, true}
@@ -16,7 +16,7 @@ use Rattle.nesting.specs.Nesting.{ClaimedRegion, MaybeClaimedRegion, err, ok, D
 use Rattle.nesting.specs.steps.RegionsLeft.{state-of}
 use Rattle.follows.specs.simulation.ConvergentCase.{Apart}
 use Rattle.meaning.specs.facts.Elements.{In}
-use Rattle.follows.specs.simulation.Key.{Key, of-held, of-instr, of-node, of-none, owns-nodes}
+use Rattle.follows.specs.simulation.Key.{Key, of-input, of-instr, of-node, of-none, owns-nodes}
 use Rattle.follows.specs.simulation.World.{World, ar, size}
 use Rattle.follows.specs.simulation.Tables.{tables}
 use Rattle.follows.specs.simulation.Leads.{Sim, leads-on}
@@ -154,7 +154,7 @@ module _ (W : World) where
     new-was (of-instr q) n = at-or-else (state-of s q ≡ not-begun) q r
         (λ e. absurd (let z : ready b ks d ≡ not-begun = sym now⁺ ∙ ap (λ x. state-of s⁺ x) (sym e) ∙ n in clash (cc)))
         (λ ne. sym (else⁺ q ne) ∙ n)
-    new-was (of-held q) n = n
+    new-was (of-input q) n = n
     new-was (of-node a) n = n
     new-was of-none n = n
 

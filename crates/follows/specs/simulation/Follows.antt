@@ -27,7 +27,7 @@ use Rattle.follows.specs.simulation.ValidUse.{usable-graph}
 use Rattle.follows.specs.Statements.{is-whole, is-closed, Followed, FollowsRun}
 use Rattle.follows.specs.Statements as statements
 use Rattle.meaning.specs.facts.Elements.{In}
-use Rattle.follows.specs.simulation.Key.{constant-not-input, key, of-held, owns-nodes}
+use Rattle.follows.specs.simulation.Key.{constant-not-input, key, of-input, owns-nodes}
 use Rattle.follows.specs.simulation.Tables.{Resolver, tables}
 use Rattle.follows.specs.simulation.World.{World}
 use Rattle.follows.specs.simulation.Frame.{puts-other}
@@ -115,7 +115,7 @@ module _ (g : Graph) (valid : Valid g) (x : Given) (c : ClaimedRegion) (s : Nest
             ∙ puts-at (λ i. input (g .entry) i) (input-numbered (g .entry)) (entry-words g x) k k 0 (omega arith) lt (base-env x);
         apart = λ k lt. ap (λ q. owns-nodes (c .children) (key (s .node-outputs) (ρ (input q k)))) itself
             ∙ ap (λ v. owns-nodes (c .children) (key (s .node-outputs) v)) (unrewritten-stays (s .region-input-rewrites) (g .entry) k un)
-            ∙ false-if _ (λ o. hd .clear (of-held (g .entry)) o (new un));
+            ∙ false-if _ (λ o. hd .clear (of-input (g .entry)) o (new un));
       })
       (e .end) (e .events) (subst (λ q. run-from (x .rule) g (base-env x) b q (entry-words g x) [] ≡ some e) (sym origin) gr)
 

@@ -14,7 +14,7 @@ use Rattle.meaning.specs.facts.Tests.{clash, eqb-less, eqb-self, false-if, or-l
 use Rattle.nesting.specs.Nesting.{case-outputs, output-decls, NodeOutput, look-up-node}
 use Rattle.nesting.specs.lookups.Rewriting.{rewrite-loop, rewrite-cases-of, rewrite-node, rewrite-nodes, rewrite-reads}
 use Rattle.follows.specs.simulation.Values.{same-value→eq}
-use Rattle.follows.specs.simulation.Key.{OutputAt, is-held, is-instr, is-node, key, key-output, owns, owns-cases, owns-nodes}
+use Rattle.follows.specs.simulation.Key.{OutputAt, is-input-of, is-instr, is-node, key, key-output, owns, owns-cases, owns-nodes}
 
 -- ---- one variable is put
 pub put-other : (v u : Value) (w : Word) (σ : Env) → same-value u v ≡ false → put v w σ u ≡ σ u
@@ -34,8 +34,8 @@ puts-other v u h k (w ∷ ws) σ = puts-other v u h (suc k) ws (put (v k) w σ) 
 pub instr-other : (os : List NodeOutput) (r k : ℕ) (u : Value) → is-instr r (key os u) ≡ false → same-value u (instr r k) ≡ false
 instr-other os r k u h = false-if _ λ p. let e = same-value→eq u (instr r k) p in let z : eqb r r ≡ false = rw e at h in clash (cc (eqb-self r))
 
-pub held-other : (os : List NodeOutput) (r k : ℕ) (u : Value) → is-held r (key os u) ≡ false → same-value u (input r k) ≡ false
-held-other os r k u h = false-if _ λ p. let e = same-value→eq u (input r k) p in let z : eqb r r ≡ false = rw e at h in
+pub input-other : (os : List NodeOutput) (r k : ℕ) (u : Value) → is-input-of r (key os u) ≡ false → same-value u (input r k) ≡ false
+input-other os r k u h = false-if _ λ p. let e = same-value→eq u (input r k) p in let z : eqb r r ≡ false = rw e at h in
     clash (cc (eqb-self r))
 
 output-other : {n : ℕ} {os : List NodeOutput} {k : ℕ} {o : NodeOutput} → OutputAt n os k o → (u : Value) → is-node n (key os u) ≡ false → same-value u (output k) ≡ false
@@ -134,8 +134,8 @@ tested-kept : {u : Value} {s : RunState} (w : Word) (f : ℕ → Ran) → ((x : 
 tested-kept (word x) f p = p x
 tested-kept mark f p = record { kept = tt }
 
-pub inputs-kept : (os : List NodeOutput) (r : ℕ) (u : Value) → is-held r (key os u) ≡ false → (us : List Value) (s : RunState) → (assign-inputs r us s) .env u ≡ s .env u
-inputs-kept os r u h us s = puts-other (λ k. input r k) u (λ k. held-other os r k u h) 0 (map (s .env) us) (s .env)
+pub inputs-kept : (os : List NodeOutput) (r : ℕ) (u : Value) → is-input-of r (key os u) ≡ false → (us : List Value) (s : RunState) → (assign-inputs r us s) .env u ≡ s .env u
+inputs-kept os r u h us s = puts-other (λ k. input r k) u (λ k. input-other os r k u h) 0 (map (s .env) us) (s .env)
 
 module _ (rule : Rule) (test : ℕ) (ρ : Value → Value) (os : List NodeOutput) (u : Value) where
   block-kept : (r : ℕ) → is-instr r (key os u) ≡ false → (k : ℕ) (is : List Instr) (s : RunState) → (do-block rule r k is s) .env u ≡ s .env u
@@ -143,7 +143,7 @@ module _ (rule : Rule) (test : ℕ) (ρ : Value → Value) (os : List NodeOutput
   block-kept r h k [] s = refl
   block-kept r h k (i ∷ is) s = block-kept r h (suc k) is (do-instr rule r k i s) ∙ put-other (instr r k) u _ (s .env) (instr-other os r k u h)
 
-  turns-kept : (x : LoopNode) (run : RunState → Ran) → ((s : RunState) → Kept u s (run s)) → is-held (x .body) (key os u) ≡ false
+  turns-kept : (x : LoopNode) (run : RunState → Ran) → ((s : RunState) → Kept u s (run s)) → is-input-of (x .body) (key os u) ≡ false
       → (b made : ℕ) (s : RunState) → Kept u s (turns rule test b made x run s)
   unfolding turns
   turns-kept x run p h zero made s = record { kept = tt }
@@ -173,11 +173,11 @@ module _ (rule : Rule) (test : ℕ) (ρ : Value → Value) (os : List NodeOutput
         (or-left (is-node n (key os u)) (owns-cases cs (key os u)) h) (pay test s))
     node-kept (loop x ks) h b s =
         let r = x .body in
-        let k : is-held r (key os u) ≡ false = or-left (is-held r (key os u)) (owns-nodes ks (key os u)) h in
+        let k : is-input-of r (key os u) ≡ false = or-left (is-input-of r (key os u)) (owns-nodes ks (key os u)) h in
         let s₁ : RunState = assign-inputs r (map ρ (x .initial-inputs)) s in
         trans-kept s s₁ (inputs-kept os r u k (map ρ (x .initial-inputs)) s) _
         (turns-kept (rewrite-loop ρ os x) (λ s′. run-nodes rule test b (rewrite-nodes ρ os ks) s′)
-        (λ s′. nodes-kept ks (or-right (is-held r (key os u)) (owns-nodes ks (key os u)) h) b s′) k b 0 s₁)
+        (λ s′. nodes-kept ks (or-right (is-input-of r (key os u)) (owns-nodes ks (key os u)) h) b s′) k b 0 s₁)
     node-kept (exit n op vs) h b s = record { kept = tt }
 
     nodes-kept : (ks : Nodes) → owns-nodes ks (key os u) ≡ false → (b : ℕ) (s : RunState) → Kept u s (run-nodes rule test b (rewrite-nodes ρ os ks) s)

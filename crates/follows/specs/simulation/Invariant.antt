@@ -19,7 +19,7 @@ use Rattle.nesting.specs.lookups.Contexts.{InContext, Rooted, open-else, rooted
 use Rattle.nesting.specs.Nesting.{DeferredEdgeBundleSet, rewrites-of, NestState, RegionInputRewrites, RewriteEntry, StructurizeRegionState, claimed, in-progress, not-begun, ready}
 use Rattle.nesting.specs.steps.RegionsLeft.{state-of}
 use Rattle.nesting.specs.steps.Keeps.{with-entry}
-use Rattle.follows.specs.simulation.Key.{Key, of-held, of-instr, of-node, of-none, owns-nodes}
+use Rattle.follows.specs.simulation.Key.{Key, of-input, of-instr, of-node, of-none, owns-nodes}
 use Rattle.follows.specs.simulation.World.{World, ar, size}
 use Rattle.follows.specs.simulation.Tables.{Gains, extends-refl, extends-same, gains-refl, gains-then, tables}
 use Rattle.follows.specs.simulation.Leads.{Sim, leads-on}
@@ -51,7 +51,7 @@ pub record Owned (s : NestState) (κ : Key) : Type 0 where
 -- No children own it yet.
 abbrev pub New : NestState → Key → Type 0
 New s (of-instr q) = state-of s q ≡ not-begun
-New s (of-held q) = rewrites-of (s .region-input-rewrites) q ≡ none
+New s (of-input q) = rewrites-of (s .region-input-rewrites) q ≡ none
 New s (of-node n) = s .node-count ≤ n
 New s of-none = ⊥
 
@@ -112,7 +112,7 @@ module _ (W : World) where
 
     new-same : (κ : Key) → New s′ κ → New s κ
     new-same (of-instr q) h = sym (status-same q) ∙ h
-    new-same (of-held q) h = ap (λ l. rewrites-of l q) (sym (gr .rewrites)) ∙ h
+    new-same (of-input q) h = ap (λ l. rewrites-of l q) (sym (gr .rewrites)) ∙ h
     new-same (of-node n) h = omega (arith, gr .node-count)
     new-same of-none h = h
 
@@ -168,7 +168,7 @@ module _ (W : World) where
 
     new⁺ : (κ : Key) → New s⁺ κ → New s κ
     new⁺ (of-instr r) h = h
-    new⁺ (of-held r) h = open-before (s .region-input-rewrites) _ r h
+    new⁺ (of-input r) h = open-before (s .region-input-rewrites) _ r h
     new⁺ (of-node n) h = h
     new⁺ of-none h = h
 

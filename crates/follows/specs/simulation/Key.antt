@@ -15,7 +15,7 @@ use Rattle.meaning.specs.facts.Elements.{nth}
 -- A variable of a run is an instruction's output, a node's output, or a loop's body input.
 pub data Key : Type 0 where
   of-none : Key
-  of-instr of-node of-held : ℕ → Key
+  of-instr of-node of-input : ℕ → Key
 
 abbrev pub key-at : Option NodeOutput → Key
 key-at none = of-none
@@ -23,10 +23,10 @@ key-at (some x) = of-node (x .node)
 
 abbrev pub key : List NodeOutput → Value → Key
 key os (instr r k) = of-instr r
-key os (held r k) = of-held r
+key os (held r k) = of-input r
 key os (output o) = key-at (nth os o)
 key os (const i) = of-none
-key os (input r k) = of-held r
+key os (input r k) = of-input r
 key os (bool b) = of-none
 key os (undef ty) = of-none
 key os no-value = of-none
@@ -71,44 +71,44 @@ abbrev pub is-instr : ℕ → Key → Bool
 is-instr r of-none = false
 is-instr r (of-instr q) = eqb q r
 is-instr r (of-node n) = false
-is-instr r (of-held q) = false
+is-instr r (of-input q) = false
 
 abbrev pub is-node : ℕ → Key → Bool
 is-node n of-none = false
 is-node n (of-instr q) = false
 is-node n (of-node m) = eqb m n
-is-node n (of-held q) = false
+is-node n (of-input q) = false
 
-abbrev pub is-held : ℕ → Key → Bool
-is-held r of-none = false
-is-held r (of-instr q) = false
-is-held r (of-node n) = false
-is-held r (of-held q) = eqb q r
+abbrev pub is-input-of : ℕ → Key → Bool
+is-input-of r of-none = false
+is-input-of r (of-instr q) = false
+is-input-of r (of-node n) = false
+is-input-of r (of-input q) = eqb q r
 
 pub instr-key : (r : ℕ) (κ : Key) → is-instr r κ ≡ true → κ ≡ of-instr r
 instr-key r of-none p = absurd (clash (cc))
 instr-key r (of-instr q) p = ap of-instr (eqb-true q r p)
 instr-key r (of-node n) p = absurd (clash (cc))
-instr-key r (of-held q) p = absurd (clash (cc))
+instr-key r (of-input q) p = absurd (clash (cc))
 
 pub node-key : (n : ℕ) (κ : Key) → is-node n κ ≡ true → κ ≡ of-node n
 node-key n of-none p = absurd (clash (cc))
 node-key n (of-instr q) p = absurd (clash (cc))
 node-key n (of-node q) p = ap of-node (eqb-true q n p)
-node-key n (of-held q) p = absurd (clash (cc))
+node-key n (of-input q) p = absurd (clash (cc))
 
-pub held-key : (r : ℕ) (κ : Key) → is-held r κ ≡ true → κ ≡ of-held r
-held-key r of-none p = absurd (clash (cc))
-held-key r (of-instr q) p = absurd (clash (cc))
-held-key r (of-node n) p = absurd (clash (cc))
-held-key r (of-held q) p = ap of-held (eqb-true q r p)
+pub input-key : (r : ℕ) (κ : Key) → is-input-of r κ ≡ true → κ ≡ of-input r
+input-key r of-none p = absurd (clash (cc))
+input-key r (of-instr q) p = absurd (clash (cc))
+input-key r (of-node n) p = absurd (clash (cc))
+input-key r (of-input q) p = ap of-input (eqb-true q r p)
 
 -- ---- what a node owns: its run changes nothing else
 unfoldable mutual
   pub owns : Node → Key → Bool
   owns (block n r k is) κ = is-instr r κ
   owns (select x cs) κ = is-node (x .number) κ || owns-cases cs κ
-  owns (loop x ks) κ = is-held (x .body) κ || owns-nodes ks κ
+  owns (loop x ks) κ = is-input-of (x .body) κ || owns-nodes ks κ
   owns (exit n op vs) κ = false
 
   pub owns-nodes : Nodes → Key → Bool

@@ -16,7 +16,7 @@ use Rattle.nesting.specs.Nesting.{same-target, DeferredEdgeBundle, DeferredEdge
 use Rattle.nesting.specs.lookups.Rewriting.{rewrite-loop, rewrite-nodes}
 use Rattle.meaning.specs.facts.Elements.{In, getD-map-in}
 use Rattle.meaning.specs.facts.Tests.{eqb-self, or-left, or-right}
-use Rattle.follows.specs.simulation.Key.{is-held, key, key-constant, of-held, owns-nodes}
+use Rattle.follows.specs.simulation.Key.{is-input-of, key, key-constant, of-input, owns-nodes}
 use Rattle.follows.specs.simulation.World.{World, ar, from-region, runs}
 use Rattle.follows.specs.simulation.Tables.{Extends, Gains, Resolver, Respects, Tables, entry-law, extends-refl, final-input, respects-back}
 use Rattle.follows.specs.simulation.Frame.{inputs-kept}
@@ -65,7 +65,7 @@ module _ (W : World) where
         × (z .target-inputs ≡ y .target-inputs) × (z .condition ≡ y .condition))
         (from : (z : DeferredEdgeBundle) → In z d′
         → (y : DeferredEdgeBundle) × In y d × (z .target ≡ y .target) × (z .condition ≡ y .condition))
-        (held-apart : owns-nodes ks (of-held r) ≡ false)
+        (inputs-apart : owns-nodes ks (of-input r) ≡ false)
       where
         abbrev T′ : Tables
         T′ = record { rewrites = T .rewrites ++ (record { region = r; rewrites = renumber-or-replace-with ss } ∷ []); outputs = T .outputs }
@@ -88,13 +88,13 @@ module _ (W : World) where
           abbrev body : RunState → Ran
           body s = runs W b (rewrite-nodes ρ os′ ks) s
 
-          not-held : (k : ℕ) → k < ar W r → is-held r (key os′ (ρ (input q k))) ≡ false
+          not-own-input : (k : ℕ) → k < ar W r → is-input-of r (key os′ (ρ (input q k))) ≡ false
           unfolding owns-nodes
-          not-held k lt = or-left _ _ (or-left _ _ (outside k lt))
+          not-own-input k lt = or-left _ _ (or-left _ _ (outside k lt))
 
           not-owned : (k : ℕ) → k < ar W r → owns-nodes ks (key os′ (ρ (input q k))) ≡ false
           unfolding owns-nodes
-          not-owned k lt = or-right (is-held r (key os′ (ρ (input q k)))) _ (or-left _ _ (outside k lt))
+          not-owned k lt = or-right (is-input-of r (key os′ (ρ (input q k)))) _ (or-left _ _ (outside k lt))
 
           apart : (k : ℕ) → k < ar W r → owns-nodes ks (key os′ (ρ (input r k))) ≡ false
           apart k lt = rw (law k) (go (getD ss k (renumber-to k)) (ok k lt))
@@ -102,7 +102,7 @@ module _ (W : World) where
               go : (sl : InputRewrite) → HeaderInput ρ r q (x .target-inputs) init outs k sl
                   → owns-nodes ks (key os′ (final-input ρ r sl)) ≡ false
               go (replace-by v) o = rw (o .0) (not-owned k lt)
-              go (renumber-to i) o = held-apart
+              go (renumber-to i) o = inputs-apart
 
           -- the inputs after an assignment of `us`, of which the kept ones are the words
           assigned : (us : List Value) (s : RunState) (ws : List Word)
@@ -114,7 +114,7 @@ module _ (W : World) where
             where
               go : (sl : InputRewrite) → getD ss k (renumber-to k) ≡ sl → HeaderInput ρ r q (x .target-inputs) init outs k sl
                   → (assign-inputs r (map ρ us) s) .env (final-input ρ r sl) ≡ getD ws k mark
-              go (replace-by v) p o = rw (o .0) (inputs-kept os′ r (ρ (input q k)) (not-held k lt) (map ρ us) s ∙ on-same k v lt p)
+              go (replace-by v) p o = rw (o .0) (inputs-kept os′ r (ρ (input q k)) (not-own-input k lt) (map ρ us) s ∙ on-same k v lt p)
               go (renumber-to i) p o =
                   let on-i = on-kept k i lt p in
                   let len : i < length (map ρ us) = rw (length-map us ρ) (on-i .0) in

@@ -14,7 +14,7 @@ use Rattle.meaning.specs.Graph.{Instr}
 use Rattle.meaning.specs.facts.Tests.{clash, at-or-else, or-either}
 use Rattle.nesting.specs.Nesting.{blocks-from, DeferredEdgeBundleSet, NestState, StructurizeRegionState, in-progress, not-begun, ready}
 use Rattle.nesting.specs.steps.RegionsLeft.{state-of, with-state}
-use Rattle.follows.specs.simulation.Key.{Key, instr-key, is-instr, of-held, of-instr, of-node, of-none, owns-nodes}
+use Rattle.follows.specs.simulation.Key.{Key, instr-key, is-instr, of-input, of-instr, of-node, of-none, owns-nodes}
 use Rattle.follows.specs.simulation.World.{World, size}
 use Rattle.follows.specs.simulation.Tables.{gains-refl, tables}
 use Rattle.follows.specs.simulation.Invariant.{Free, Inv, Later, New, Owned, Rewritable, idle, new, old, owned-by, unborn, waiting}
@@ -50,7 +50,7 @@ module _ (W : World) (s : NestState) (r : ℕ) (x : StructurizeRegionState) (h :
 
     pub new-was : (κ : Key) → New changed κ → New s κ
     new-was (of-instr q) n = unbegun-was q n
-    new-was (of-held q) n = n
+    new-was (of-input q) n = n
     new-was (of-node a) n = n
     new-was of-none n = n
 

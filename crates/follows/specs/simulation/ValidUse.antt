@@ -1,17 +1,16 @@
 -- A valid graph in the shape in which the runs are compared; and its reachable regions are regions.
 use mathlib.Core.Path.{_≡_, refl, ap}
-use mathlib.Core.Bool.{Bool, true, false, _&&_}
+use mathlib.Core.Bool.{true, _&&_}
 use mathlib.Core.List.{List, [], _∷_, _++_, map}
-use Prim.Native.Nat.{ℕ, zero, suc, _+_, _≤_, _<_}
+use Prim.Native.Nat.{ℕ, suc, _+_, _≤_, _<_}
 use native.Mathlib.Omega.{arith}
 use lib.ListN.{length, getD, length-append}
 use lib.Dec.{eqb, ltb}
 use borrow.Author.Tests.{eqb-true, ltb-true}
-use Rattle.meaning.specs.Graph.{Value, const, input, instr, output, bool, undef, held, pick, Instr, SelectionKind, bool-cond, number, Edge, ControlInst, unreachable, return, exit-invocation, branch, select-branch, Graph, region, edges-of, no-value}
+use Rattle.meaning.specs.Graph.{Value, const, input, instr, output, bool, undef, held, Instr, SelectionKind, bool-cond, number, Edge, ControlInst, unreachable, return, exit-invocation, branch, select-branch, Graph, region, edges-of, no-value}
 use Rattle.meaning.specs.Lists.{is-in}
-use Rattle.meaning.specs.facts.Tests.{clash}
+use Rattle.meaning.specs.facts.Tests.{clash, and-both, picked-positive}
 use Rattle.format.specs.References.{type-in, instructions, instr-type, behind-all, return-types}
-use Rattle.format.specs.laws.WellRead.{and-both}
 use Rattle.format.specs.Valid.{All, Passed, ValidInstrs, ValidEdge, ValidEnd, TestRight, Valid}
 use Rattle.format.specs.Valid as valid
 use Rattle.nesting.specs.Nesting.{reachable}
@@ -19,15 +18,7 @@ use Rattle.meaning.specs.facts.Members.{first, rest, first-or-rest}
 use Rattle.follows.specs.Reaches.{Reaches, entry, target}
 use Rattle.follows.specs.counting.Reach.{reachable-sound}
 use Rattle.follows.specs.simulation.Usable.{UsableIn, AllUsable, BlockUsable, BlocksUsable, after-blocks, arity, EndUsable, EndsUsable, EdgeUsable, EdgesUsable, TerminatorUsable, UsableGraph}
-
-picked : (b : Bool) (n : ℕ) → 1 ≤ pick b n 0 → (b ≡ true) × (1 ≤ n)
-picked true n h = (refl, h)
-picked false n h = absurd (omega arith)
-
-getD-within : (xs : List ℕ) (k : ℕ) → 1 ≤ getD xs k 0 → k < length xs
-getD-within [] k h = absurd (omega arith)
-getD-within (x ∷ xs) zero h = omega arith
-getD-within (x ∷ xs) (suc k) h = omega (arith, getD-within xs k h)
+use Rattle.meaning.specs.facts.Elements.{getD-within}
 
 total-counts : (k : ℕ) (bs : List (List Instr)) → after-blocks k bs ≡ k + length (instructions bs)
 unfolding instructions
@@ -41,9 +32,9 @@ module _ (g : Graph) (r : ℕ) where
   named k (undef t) h = tt
   named k no-value h = absurd (omega arith)
   named k (input q i) h =
-      let p = picked (eqb q r) (getD (region g r .inputs) i 0) h in (eqb-true q r (p .0), getD-within (region g r .inputs) i (p .1))
+      let p = picked-positive (eqb q r) (getD (region g r .inputs) i 0) h in (eqb-true q r (p .0), getD-within (region g r .inputs) i (p .1))
   named k (instr q i) h =
-      let p = and-both (eqb q r) (ltb i k) (picked (eqb q r && ltb i k) (instr-type (region g r) i) h .0) in
+      let p = and-both (eqb q r) (ltb i k) (picked-positive (eqb q r && ltb i k) (instr-type (region g r) i) h .0) in
       (eqb-true q r (p .0), ltb-true i k (p .1))
   named k (held q i) h = absurd (omega arith)
   named k (output o) h = absurd (omega arith)

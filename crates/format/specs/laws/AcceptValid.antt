@@ -15,7 +15,7 @@ use Rattle.format.specs.Read.{read-record}
 use Rattle.format.specs.References.{instructions, type-in, refuse-unless, first-refusal, named-right, of-type, reads-right, types-right, passed-right, test-right, values-right, target-right, edge-right, first-edges, exits-right, region-right, regions-right, references, behind-all, return-types, is-region}
 use Rattle.format.specs.Accept.{accept}
 use Rattle.format.specs.Valid.{All, Within, Usable, Passed, ValidInstrs, ValidEdge, TestRight, ValidEnd, ValidRegion, Valid}
-use Rattle.meaning.specs.facts.Tests.{clash}
+use Rattle.meaning.specs.facts.Tests.{clash, not-true, neither}
 use Rattle.format.specs.laws.WellRead.{SamePasses, InstrRead, BlockRead, EndRead, TargetsRead, RegionRead, RecordRead, record-read, step}
 
 all-map : {A : Type 0} (P Q : A → Type 0) → ((x : A) → P x → Q x) → (xs : List A) → All P xs → All Q xs
@@ -40,14 +40,6 @@ instructions-read (b ∷ bs) h = all-append InstrRead b (instructions bs) (h .0 
 expected : (n r : ℕ) (b : Bool) → refuse-unless n r b ≡ accepted tt → b ≡ true
 expected n r true h = refl
 expected n r false h = absurd (clash (cc))
-
-not-true : (b : Bool) → not b ≡ true → b ≡ false
-not-true true h = absurd (clash (cc))
-not-true false h = refl
-
-neither : (a b : Bool) → (a || b) ≡ false → (a ≡ false) × (b ≡ false)
-neither true b h = absurd (clash (cc))
-neither false b h = (refl, h)
 
 each-all : {A : Type 0} (f : A → Answer Unit) (xs : List A) → first-refusal f xs ≡ accepted tt → All (λ x. f x ≡ accepted tt) xs
 unfolding first-refusal
@@ -92,7 +84,7 @@ module _ (g : Graph) (r : ℕ) where
       let reads = all-map (λ v. named-right g r k v ≡ accepted tt) (Usable g r k) (named-usable k) (i .reads) (each-all (named-right g r k) (i .reads) (a .first)) in
       (record { type = w .0 .type; few = w .0 .few; reads = reads }, instrs-valid (suc k) is (w .1) (a .second))
 
-  -- What holds of the first edge to first-refusal target holds of every edge, where all edges to a target pass the same.
+  -- What holds of the first edge to each target holds of every edge, where all edges to a target pass the same.
   module _ (passed : ℕ → List Value) where
     abbrev Right : ℕ → Type 0
     Right t = Passed g r (graph.region g t .inputs) (passed t)
@@ -154,7 +146,7 @@ module _ (g : Graph) (r : ℕ) where
       let a = step (named-right g r (behind-all g r) x) _ tt v in
       (named-usable (behind-all g r) x (a .first), test-valid k x es (w .0) (a .second), edges-valid es (w .1) t p)
 
-  -- the exits: first-refusal a region, and none seen before
+  -- the exits: each a region, and none seen before
   pub record Exits (seen xs : List ℕ) : Type 0 where
     pub regions : All (λ t. t < length (g .regions)) xs
     pub new : All (λ t. is-in t seen ≡ false) xs

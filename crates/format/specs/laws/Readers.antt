@@ -6,7 +6,6 @@ use native.Mathlib.Omega.{arith}
 use lib.ListN.{length, getD}
 use Rattle.format.specs.Read.{Read, got, bad, Reader, read-then, many}
 use Rattle.format.specs.Places.{next, forget-value, after}
-
 use Rattle.meaning.specs.facts.Tests.{clash}
 
 -- A sequence that succeeds: the first part succeeds, and the second from there.

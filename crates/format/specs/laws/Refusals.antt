@@ -15,8 +15,9 @@ use Rattle.meaning.specs.Lists.{is-in}
 use Rattle.format.specs.References.{refuse-unless, first-refusal, type-in, instructions, behind-all, return-types, is-region, named-right, of-type, reads-right, types-right, passed-right, test-right, values-right, target-right, edge-right, first-edges, exits-right, region-right, regions-right, references}
 use Rattle.format.specs.Accept.{accept}
 use Rattle.format.specs.Valid.{Within}
-use Rattle.format.specs.laws.WellRead.{and-both, head-read, record-read}
+use Rattle.format.specs.laws.WellRead.{head-read, record-read}
 use Rattle.format.specs.laws.ReadingStops.{StopsReading, region-stops, head-stops}
+use Rattle.meaning.specs.facts.Tests.{and-both}
 
 -- Nothing is said of what is accepted.
 abbrev pub InRange : {A : Type 0} → Answer A → Type 0

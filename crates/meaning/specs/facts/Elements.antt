@@ -1,14 +1,12 @@
 -- Elements of a list: by place, by membership, under a map.
-use mathlib.Core.Bool.{Bool, _||_, false, true}
 use mathlib.Core.List.{List, [], _++_, _∷_, map}
 use mathlib.Core.Logic.{_⊎_, inl, inr}
 use mathlib.Core.Option.{Option, none, some}
-use mathlib.Core.Path.{_≡_, ap, refl, sym}
-use Prim.Native.Nat.{_<_, suc, zero, ℕ}
+use mathlib.Core.Path.{_≡_, ap, refl, _∙_}
+use Prim.Native.Nat.{_<_, suc, zero, ℕ, _≤_, _+_}
 use native.Mathlib.Omega.{arith}
-use lib.Dec.{eqb}
 use lib.ListN.{getD, length}
-use borrow.Author.Tests.{eq-eqb, eqb-false, eqb-true, ne-eqb}
+use Rattle.meaning.specs.Lists.{numbers-from}
 use Rattle.meaning.specs.facts.Tests.{clash}
 
 abbrev pub nth : {A : Type 0} → List A → ℕ → Option A
@@ -59,3 +57,13 @@ getD-map-in f [] k d d′ lt = absurd (omega arith)
 getD-map-in f (x ∷ l) zero d d′ lt = refl
 getD-map-in f (x ∷ l) (suc k) d d′ lt = getD-map-in f l k d d′ (omega arith)
 
+pub getD-within : (xs : List ℕ) (k : ℕ) → 1 ≤ getD xs k 0 → k < length xs
+getD-within [] k h = absurd (omega arith)
+getD-within (x ∷ xs) zero h = omega arith
+getD-within (x ∷ xs) (suc k) h = omega (arith, getD-within xs k h)
+
+-- ---- the list of incoming counts
+pub numbered-map : {A : Type 0} (f : ℕ → ℕ) (k : ℕ) (l : List A) (r : ℕ) → r < length l → getD (map f (numbers-from k l)) r 0 ≡ f (k + r)
+numbered-map f k [] r h = absurd (omega arith)
+numbered-map f k (x ∷ l) zero h = let z : k ≡ k + 0 = omega arith in ap f z
+numbered-map f k (x ∷ l) (suc r) h = let z : suc k + r ≡ k + suc r = omega arith in numbered-map f (suc k) l r (omega arith) ∙ ap f z

@@ -3,10 +3,13 @@ use mathlib.Core.Path.{_≡_, refl}
 use mathlib.Core.Logic.{_⊎_, inl, inr}
 use mathlib.Core.Bool.{Bool, true, false, _||_, or-true}
 use mathlib.Core.List.{List, [], _∷_, _++_}
-use Prim.Native.Nat.{ℕ}
+use Prim.Native.Nat.{ℕ, _≤_, _+_}
 use lib.Dec.{eqb}
 use borrow.Author.Tests.{eqb-true, eq-eqb}
-use Rattle.meaning.specs.Lists.{is-in}
+use native.Mathlib.Omega.{arith}
+use Rattle.meaning.specs.Lists.{is-in, times-in}
+use Rattle.meaning.specs.Graph.{pick}
+use Rattle.meaning.specs.facts.Tests.{clash}
 
 pub in-front : (x : ℕ) (xs : List ℕ) → is-in x (x ∷ xs) ≡ true
 in-front x xs = rw (eq-eqb x x refl)
@@ -42,3 +45,11 @@ pub left-or-right : (x : ℕ) (a b : List ℕ) → is-in x (a ++ b) ≡ true →
 left-or-right x [] b h = inr h
 left-or-right x (y ∷ a) b h =
     elim (first-or-rest x y (a ++ b) h) [ first e ↦ inl (rw (eq-eqb x y e)) | rest i ↦ in-more x y a (left-or-right x a b i) ]
+
+pub in-times : (r : ℕ) (xs : List ℕ) → is-in r xs ≡ true → 1 ≤ times-in r xs
+in-times r [] p = absurd (clash (cc))
+in-times r (x ∷ xs) p = go (eqb r x) p (λ h. in-times r xs h)
+  where
+    go : (b : Bool) → (b || is-in r xs) ≡ true → (is-in r xs ≡ true → 1 ≤ times-in r xs) → 1 ≤ pick b 1 0 + times-in r xs
+    go true h ih = omega arith
+    go false h ih = let z = ih h in omega arith

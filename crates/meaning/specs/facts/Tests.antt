@@ -1,13 +1,11 @@
 -- Tests: what a boolean or a comparison of numbers says.
-use mathlib.Core.Bool.{Bool, _||_, false, true}
-use mathlib.Core.List.{List, [], _++_, _∷_, map}
+use mathlib.Core.Bool.{Bool, _||_, false, true, not, _&&_}
 use mathlib.Core.Logic.{_⊎_, inl, inr}
-use mathlib.Core.Option.{Option, none, some}
-use mathlib.Core.Path.{_≡_, ap, refl, sym}
-use Prim.Native.Nat.{_<_, suc, zero, ℕ}
+use mathlib.Core.Path.{_≡_, refl, sym}
+use Prim.Native.Nat.{_<_, suc, zero, ℕ, _≤_, pred}
 use native.Mathlib.Omega.{arith}
-use lib.Dec.{eqb}
-use lib.ListN.{getD, length}
+use Rattle.meaning.specs.Graph.{pick}
+use lib.Dec.{eqb, ltb, ltb→lt, nltb→le}
 use borrow.Author.Tests.{eq-eqb, eqb-false, eqb-true, ne-eqb}
 
 -- Two different constructors are never equal: `clash (cc)`.
@@ -51,3 +49,30 @@ at-or-else P q r p e = go (eqb q r) refl
     go : (o : Bool) → eqb q r ≡ o → P
     go true x = p (eqb-true q r x)
     go false x = e x
+
+pub and-both : (a b : Bool) → (a && b) ≡ true → (a ≡ true) × (b ≡ true)
+and-both true b h = (refl, h)
+and-both false b h = absurd (clash (cc))
+
+pub not-true : (b : Bool) → not b ≡ true → b ≡ false
+not-true true h = absurd (clash (cc))
+not-true false h = refl
+
+pub neither : (a b : Bool) → (a || b) ≡ false → (a ≡ false) × (b ≡ false)
+neither true b h = absurd (clash (cc))
+neither false b h = (refl, h)
+
+pub picked-positive : (b : Bool) (n : ℕ) → 1 ≤ pick b n 0 → (b ≡ true) × (1 ≤ n)
+picked-positive true n h = (refl, h)
+picked-positive false n h = absurd (omega arith)
+
+pub in-or-out : (r n : ℕ) → (r < n) ⊎ (n ≤ r)
+in-or-out r n = go (ltb r n) refl
+  where
+    go : (b : Bool) → ltb r n ≡ b → (r < n) ⊎ (n ≤ r)
+    go true p = inl (ltb→lt r n (rw p tt))
+    go false p = inr (nltb→le r n (rw p tt))
+
+pub pred-below : (n : ℕ) → 1 ≤ n → pred n < n
+pred-below zero le = absurd (omega arith)
+pred-below (suc n) le = omega arith

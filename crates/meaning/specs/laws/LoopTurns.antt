@@ -1,10 +1,10 @@
 -- What a loop's run rests on: its inputs change all at once, and its test comes after the body.
-use mathlib.Core.Path.{_≡_, refl, ap, _∙_}
+use mathlib.Core.Path.{_≡_, refl, _∙_}
 use mathlib.Core.Bool.{true, false}
 use mathlib.Core.List.{List, [], _∷_, map}
 use Prim.Native.Nat.{ℕ, zero, suc, _+_, _<_}
 use native.Mathlib.Omega.{arith}
-use lib.ListN.{length, getD}
+use lib.ListN.{length, getD, length-map, List·getD-map}
 use lib.Dec.{eqb, leb}
 use borrow.Author.Tests.{eq-eqb, ne-eqb}
 use Rattle.meaning.specs.Graph.{Value, input, undef}
@@ -29,22 +29,13 @@ put-read r i (suc k) (w ∷ ws) σ d l =
     let z : i + suc k ≡ suc i + k = omega arith in
     rw z (put-read r (suc i) k ws (put (input r i) w σ) d (omega arith))
 
-getD-map : (f : Value → Word) (vs : List Value) (k : ℕ) (d : Value) → k < length vs → getD (map f vs) k (f d) ≡ f (getD vs k d)
-getD-map f [] k d l = absurd (omega arith)
-getD-map f (v ∷ vs) zero d l = refl
-getD-map f (v ∷ vs) (suc k) d l = getD-map f vs k d (omega arith)
-
-map-long : (f : Value → Word) (vs : List Value) → length (map f vs) ≡ length vs
-map-long f [] = refl
-map-long f (v ∷ vs) = ap suc (map-long f vs)
-
 -- Each body input becomes what its value was before any of them changed.
 pub inputs-at-once : (r : ℕ) (vs : List Value) (s : RunState) (k : ℕ) → k < length vs
     → assign-inputs r vs s .env (input r k) ≡ s .env (getD vs k (undef 0))
 inputs-at-once r vs s k l =
     let z : 0 + k ≡ k = omega arith in
-    let long = map-long (s .env) vs in
-    (rw z at (put-read r 0 k (map (s .env) vs) (s .env) (s .env (undef 0)) (omega arith))) ∙ getD-map (s .env) vs k (undef 0) l
+    let long = length-map vs (s .env) in
+    (rw z at (put-read r 0 k (map (s .env) vs) (s .env) (s .env (undef 0)) (omega arith))) ∙ List·getD-map (s .env) vs k (undef 0)
 
 module _ (rule : Rule) (test-cost n made : ℕ) (x : LoopNode) (run : RunState → Ran) (s t : RunState)
     (comes : run (note-over (leb (x .limit) made) s) ≡ through t) where

@@ -15,7 +15,7 @@ to r vs = record { target = r; inputs = vs }
 abbrev pub plain-region : List (List Instr) → ControlInst → Region
 plain-region bs c = record { inputs = []; blocks = bs; limit = 1; terminator = c; exits = [] }
 
--- A header: inputs, its one-block instruction, turn limit, terminator, exit list.
+-- A header: inputs, its one instruction, turn limit, terminator, exit list.
 abbrev pub header : List ℕ → Instr → ℕ → ControlInst → List ℕ → Region
 header ts i n c xs = record { inputs = ts; blocks = ((i ∷ []) ∷ []); limit = n; terminator = c; exits = xs }
 
@@ -64,11 +64,11 @@ abbrev pub edges-to : ℕ → ℕ → List Edge
 edges-to k zero = []
 edges-to k (suc n) = to k [] ∷ edges-to (suc k) n
 
--- A number test with n many-targets.
+-- A number test with n targets.
 abbrev pub many-targets : ℕ → Graph
 many-targets n = graph 0 (2 ∷ []) (plain-region [] (select-branch number (const 0) (edges-to 1 n)) ∷ returns n)
 
--- n regions that branch from one-block to the next, the last numbered k, and a Return region
+-- n regions that branch from one to the next, the last numbered k, and a Return region
 abbrev pub chain : ℕ → ℕ → List Region
 chain k zero = plain-region [] (return []) ∷ []
 chain k (suc n) = plain-region [] (branch (to (suc k) [])) ∷ chain (suc k) n
@@ -86,7 +86,7 @@ no-loop = graph 0 [] (
     ∷ []
     )
 
--- The one-block convergent case goes after the select.
+-- The one convergent case goes after the select.
 abbrev pub one-goes-on : Graph
 one-goes-on = graph 1 [] (
     plain-region [] (select-branch bool-cond (bool true) (to 1 [] ∷ to 2 [] ∷ []))
@@ -95,7 +95,7 @@ one-goes-on = graph 1 [] (
     ∷ []
     )
 
--- The outer loop repeats where the inner one-block does not: [false, true] is an output of the select.
+-- The outer loop repeats where the inner one does not: [false, true] is an output of the select.
 abbrev pub loop-in-loop : Graph
 loop-in-loop = graph 2 [] (
     plain-region [] (branch (to 1 []))
@@ -104,7 +104,7 @@ loop-in-loop = graph 2 [] (
     ∷ []
     )
 
--- Three deferred edges, the back edge first: the last one-block takes its place.
+-- Three deferred edges, the back edge first: the last one takes its place.
 abbrev pub two-exits : Graph
 two-exits = graph 2 [] (
     plain-region [] (branch (to 1 []))

@@ -12,7 +12,6 @@ use Rattle.format.specs.Store.{Answer, accepted, refused}
 use Rattle.format.specs.Read.{read-record}
 use Rattle.format.specs.References.{references}
 use Rattle.format.specs.Accept.{accept}
-use Rattle.format.specs.laws.WellRead.{and-both}
 use Rattle.nesting.specs.Nesting.{RewriteEntry, done, turned-away, ClaimedRegion, incoming-edge-counts, try-claim-edge-bundle, initial-state}
 use Rattle.nesting.specs.Nesting
 use Rattle.meaning.specs.Text.{Text, ascii}
@@ -22,6 +21,7 @@ use Rattle.nesting.specs.Sheet.{printed}
 use Rattle.format.specs.stores.Quick.{quick-store-words, same-store-words}
 use Rattle.nesting.specs.cases.QuickPrint.{same-numbers, numbers-same, accept-words, quick-printed, prints}
 use Rattle.nesting.specs.cases.CaseGraphs.{A, B, one-region, to, both-the-same, many-targets, regions, no-loop, one-goes-on, loop-in-loop, two-exits, renumbered, crossing, dear}
+use Rattle.meaning.specs.facts.Tests.{and-both}
 
 -- What a case shows: the printed answer, and the wrapper regions of its loops, which the sheet does not name.
 pub record CaseShown : Type 0 where
@@ -95,8 +95,8 @@ case-B = case B (
 abbrev pub empty-form : String → List String
 empty-form line-1 = line-1 ∷ "region 0 in - kids - out -" ∷ []
 
--- A; B; one region, Return; one region, Unreachable; a branch to the entry; both many-targets the same empty Return region;
--- 8 many-targets, and 9; 32 regions, and 33; an empty store.
+-- A; B; one region, Return; one region, Unreachable; a branch to the entry; both targets the same empty Return region;
+-- 8 targets, and 9; 32 regions, and 33; an empty store.
 abbrev pub document-cases : List Case
 document-cases =
     case-A

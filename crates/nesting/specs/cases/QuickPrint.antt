@@ -10,12 +10,12 @@ use Rattle.format.specs.Store.{Answer, accepted, if-accepted, store-words}
 use Rattle.format.specs.Read.{read-record}
 use Rattle.format.specs.References.{references}
 use Rattle.format.specs.Accept.{accept}
-use Rattle.format.specs.laws.WellRead.{and-both}
 use Rattle.nesting.specs.Nesting.{structurize-func}
 use Rattle.nesting.specs.cases.Computes.{nesting-computes}
 use Rattle.nesting.specs.Sheet.{sheet-of, sheet-words, figure-fits, words-fit, answer-text, sheet-for, answer, printed}
 use Rattle.meaning.specs.Text.{Text}
 use Rattle.format.specs.stores.Quick.{quick-store-words, same-store-words}
+use Rattle.meaning.specs.facts.Tests.{and-both}
 
 abbrev pub accept-words : Answer (List ℕ) → Answer Graph
 accept-words x =

@@ -9,7 +9,7 @@ use lib.ListN.{length, replicate}
 use Rattle.meaning.specs.Graph.{Instr, instr, bool-cond, return, branch, select-branch, Region, Graph}
 use Rattle.meaning.specs.Lists.{concat}
 use Rattle.meaning.specs.Text.{Text}
-use Rattle.format.specs.laws.WellRead.{and-both}
+use Rattle.meaning.specs.facts.Tests.{and-both}
 use Rattle.nesting.specs.Sheet.{printed}
 use Rattle.nesting.specs.cases.QuickPrint.{same-numbers, quick-printed, prints-by-test}
 use Rattle.format.specs.stores.Hex.{hex}

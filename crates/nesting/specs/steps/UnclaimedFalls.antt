@@ -8,20 +8,14 @@ use Prim.Native.Nat.{ℕ, zero, suc, _+_, _≤_, _<_}
 use native.Mathlib.Omega.{arith}
 use lib.ListN.{length, getD, length-set, List·getD-eq-default}
 use lib.Seq.{set-out}
-use lib.Dec.{eqb, ltb, ltb→lt, nltb→le}
+use lib.Dec.{eqb}
 use Rattle.meaning.specs.Graph.{Value, bool-cond, Edge, Graph, region, edges-of}
 use Rattle.nesting.specs.Nesting.{DeferredTarget, to-region, to-return, DeferredEdgeBundleSet, IncomingEdgeCount, StructurizeRegionState, not-begun, in-progress, claimed, ready, NestState, Step, give, turn-away, follow, _>>=_, _>>_, get-state, set-state, condition-in, count-to, ClaimedRegion, ok, err, lazy, Body, convergent-cases, blocks-of, Claim, SplitOut, backedge-of, edge-case, split-out-or, begin, claim-body, claim-by-state, by-control-inst, resolve-by, target-regions, split-out-matching, resolve-deferred, structurize-region, try-claim-edge-bundle}
 use Rattle.nesting.specs.steps.Post.{Post, map-post, bind}
 use Rattle.nesting.specs.steps.Keeps.{structurize-select-by-keeps, claim-body-keeps, by-control-inst-keeps}
 use Rattle.nesting.specs.steps.StatesKept.{Still, still-steady, still-log}
 use Rattle.nesting.specs.steps.RegionsLeft.{state-of, with-state, with-attempt, not-begun-one, unclaimed-one, count-states, count-set, Fewer, fewer-refl, fewer-then, fewer-less, fewer-still, AnyRefusal, claimed-count, ClaimFewer}
-
-in-or-out : (r n : ℕ) → (r < n) ⊎ (n ≤ r)
-in-or-out r n = go (ltb r n) refl
-  where
-    go : (b : Bool) → ltb r n ≡ b → (r < n) ⊎ (n ≤ r)
-    go true p = inl (ltb→lt r n (rw p tt))
-    go false p = inr (nltb→le r n (rw p tt))
+use Rattle.meaning.specs.facts.Tests.{in-or-out}
 
 module _ (g : Graph) (claim : Claim) (claim-fewer : ClaimFewer claim) where
   edge-case-fewer : (e : Edge) (o : Option ClaimedRegion) (s : NestState) → Post AnyRefusal (λ c s′. Fewer 0 s s′) (edge-case e o s)
