@@ -1,0 +1,67 @@
+"""Parses a source by form.lark; what does not parse becomes a Fault that says what was expected."""
+
+import functools
+import os
+
+from .faults import Fault, either
+from .needs import need
+
+# How the grammar's terminals are called in a message; others are words of the form and stand for themselves.
+CALLED = {
+    "WORD": "a name", "NUMBER": "a number", "EMPTY": "`-`", "_NL": "the end of the line", "_COMMA": "`,`",
+    "ITEM": "an item as 0.0/7/1/5/-", "NEXT_ITEM": "another item", "LPAR": "`(`", "RPAR": "`)`", "EQUAL": "`=`",
+    "COLON": "`:`", "$END": "the end of the source",
+}
+
+
+@functools.cache
+def parser():
+    lark = need("lark")
+    with open(os.path.join(os.path.dirname(__file__), "form.lark"), encoding="ascii") as grammar:
+        return lark.Lark(grammar.read(), parser="lalr", lexer="basic", maybe_placeholders=True, propagate_positions=True)
+
+
+def called(terminals):
+    return either(sorted({CALLED.get(t, f"`{t.lower()}`") for t in terminals},
+                         key=lambda word: (word.startswith("`"), word)))
+
+
+def decoded(data):
+    """The source's text; a byte that is not UTF-8 is a fault."""
+    try:
+        return data.decode("utf-8")
+    except UnicodeDecodeError as error:
+        before = data[:error.start]
+        column = len(before[before.rfind(b"\n") + 1:].decode("utf-8")) + 1
+        raise Fault(before.count(b"\n") + 1, column,
+                    f"found the byte {data[error.start]}, expected text in UTF-8") from None
+
+
+def parse(source):
+    """The syntax tree of a source."""
+    exceptions = need("lark.exceptions")
+    try:
+        return parser().parse(source if source.endswith("\n") else source + "\n")
+    except exceptions.UnexpectedToken as error:
+        found = "the end of the source" if error.token.type == "$END" else \
+            "the end of the line" if error.token.type == "_NL" else f"`{error.token.strip()}`"
+        line, column = place(error, source)
+        raise Fault(line, column, f"found {found}, expected {called(error.accepts or error.expected)}") from None
+    except exceptions.UnexpectedCharacters as error:
+        raise Fault(error.line, error.column, f"found `{visible(source, error.pos_in_stream)}`, "
+                    f"expected {called(error.allowed)}") from None
+
+
+def place(error, source):
+    """Line and column; those of the source's end are its last line's."""
+    if error.token.type != "$END":
+        return error.line, error.column
+    lines = source.rstrip("\n").split("\n")
+    return len(lines), len(lines[-1]) + 1
+
+
+def visible(source, at):
+    """What stands at a place, up to the next blank."""
+    rest = source[at:at + 30].split()
+    word = rest[0] if rest and not source[at].isspace() else source[at:at + 1]
+    return word if word.isprintable() else f"\\u{ord(word[0]):04x}"
