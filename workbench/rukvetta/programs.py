@@ -25,12 +25,16 @@ class Programs:
     def has(self, name):
         return os.access(os.path.join(self.folder, name), os.X_OK)
 
-    def answer(self, name, store):
-        """What a program prints for a store."""
-        path = os.path.join(self.folder, name)
+    def path(self, name):
+        """Where a program is, if it is there."""
         if not self.has(name):
             raise Missing(f"The program `{name}` is not in {self.folder}: {BUILT_BY[name]}; "
                           f"--programs or ${VARIABLE} names another folder.")
+        return os.path.join(self.folder, name)
+
+    def answer(self, name, store):
+        """What a program prints for a store."""
+        path = self.path(name)
         try:
             done = subprocess.run([path], input=store, capture_output=True, check=True, timeout=600)
             return done.stdout.decode("ascii")
