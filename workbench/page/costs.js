@@ -28,7 +28,7 @@ function priceNode(node, record) {
 // `visits` becomes the regions of the record along the path, in order; a loop's header stands again after its body.
 function share(region, times, record, visits) {
   region.times = times;
-  if (region.id < record.regions.length) visits.push(region.id);
+  if (region.id < record.regions.length) visits.push({ region: region.id });
   for (const node of region.children) shareNode(node, times, record, visits);
 }
 
@@ -36,14 +36,14 @@ function shareNode(node, times, record, visits) {
   node.times = times;
   if (node.word === "block") {
     node.share = times * node.cost;
-    visits.push(node.items[0].region);
+    visits.push({ region: node.items[0].region });
   } else if (node.word === "select") {
     node.share = times * record.test;
     share(node.bodies[node.dearest], times, record, visits);
   } else if (node.word === "loop") {
     node.share = times * node.limit * record.test;
     share(node.region, times * node.limit, record, visits);
-    if (node.limit > 1) visits.push(node.body);
+    if (node.limit > 1) visits.push({ region: node.body, back: true });
   } else {
     node.share = 0;
   }
@@ -76,9 +76,11 @@ function markGraph(path, root, visits, record) {
     (node.bodies || (node.region ? [node.region] : [])).filter(body => body.times).forEach(add);
   });
   add(root);
-  visits.forEach(region => path.regions.has(region) || path.regions.set(region, 0));
-  for (let k = 1; k < visits.length; k++) way(record, visits[k - 1], visits[k], path);
-  const last = visits[visits.length - 1];
+  visits.forEach(({ region }) => path.regions.has(region) || path.regions.set(region, 0));
+  visits.forEach(({ region, back }, k) => {
+    if (k && (back || visits[k - 1].region !== region)) way(record, visits[k - 1].region, region, path);
+  });
+  const last = visits[visits.length - 1].region;
   const end = record.regions.find(region => /return|exit/.test(region.kind) && !region.blocks.length
     && record.regions[last].targets.includes(region.number));
   if (end) way(record, last, end.number, path);

@@ -2,7 +2,6 @@
 // A part has its least width `min`, its least height `tall`, and draw(x, y, w, h), which fills the place it is given.
 
 const ROW = FONT.line, STRIP = 19, HEAD = 44, BAR = 14;
-const CLASSES = { stripe: "stripe", title: "title", faint: "faint", share: "share" };
 
 const roomFor = rows => Math.max(60, ...rows.map(row => width(row.text, "bold") + (row.right ? width(row.right) + 18 : 0))) + 2 * FONT.pad + 4;
 
@@ -58,7 +57,7 @@ function Structogram(record, sheet, names, path) {
     group.append(tooltip(line.text), box(x, y, w, h));
     if (on(line)) {
       group.classList.add("dear");
-      group.append(box(x, y, 5, h, { class: CLASSES.stripe }));
+      group.append(box(x, y, 5, h, { class: "stripe" }));
     }
     group.append(...content.flat().filter(Boolean));
     return group;
@@ -73,11 +72,12 @@ function Structogram(record, sheet, names, path) {
   }
 
   function exit(node) {
-    const rows = [{ text: "   exit " + call(names.opcode(node.opcode), node.values.map(value)), class: "title" }];
+    const rows = [{ text: "exit " + call(names.opcode(node.opcode), node.values.map(value)), class: "title" }];
     const owner = exitOwner(node, record, sheet);
-    return { min: roomFor(rows), tall: ROW + 12,
+    return { min: roomFor(rows) + 18, tall: ROW + 12,
       draw: (x, y, w, h) => [boxed(node, "nest-node-" + node.id, owner, x, y, w, h,
-        element("path", { class: "mark", d: `M${x + 22} ${y} L${x + 7} ${y + h / 2} L${x + 22} ${y + h}` }), drawRows(rows, x, y + h / 2 + 4, w))] };
+        element("path", { class: "mark", d: `M${x + 22} ${y} L${x + 7} ${y + h / 2} L${x + 22} ${y + h}` }),
+        drawRows(rows, x + 18, y + h / 2 + 4, w - 18))] };
   }
 
   const caseName = (select, k) => select.kind === "bool" ? (k ? "false" : "true") : k === select.cases.length - 1 ? "else" : String(k);
@@ -100,7 +100,7 @@ function Structogram(record, sheet, names, path) {
   }
 
   function select(node) {
-    const bodies = node.bodies.map((body, k) => inner(body, body.out.map((out, o) => `n${node.id}.${o} = ${value(out)}`), "nothing"));
+    const bodies = node.bodies.map(body => inner(body, body.out.map((out, o) => `n${node.id}.${o} = ${value(out)}`), "nothing"));
     const labels = node.cases.map((_, k) => caseName(node, k));
     bodies.forEach((body, k) => { body.min = Math.max(body.min, width(labels[k]) + 24); });
     const side = columns(bodies);

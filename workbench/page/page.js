@@ -89,6 +89,12 @@ function linkUp(place) {
   });
 }
 
+// On paper the pictures take what the listings, in two columns each, leave of a landscape A4 sheet.
+function pictureHeight(sheet, record) {
+  const rows = Math.ceil(Math.max((sheet.lines || []).length + 1, record.lines.length) / 2);
+  return Math.max(70, Math.min(125, 142 - 2.45 * rows));
+}
+
 // Draws a routine into a place of the page from the texts that `show` and `nest` print.
 function drawRoutine(place, texts, options = {}) {
   const sheet = readSheet(texts.sheet), names = readNames(texts.names || "");
@@ -97,14 +103,16 @@ function drawRoutine(place, texts, options = {}) {
   const path = nested ? priceSheet(sheet, record) : { regions: new Map(), edges: new Set(), right: false };
   const pictures = record ? [panel("Graph", drawGraph(record, sheet, names, path))] : [];
   if (nested) pictures.push(panel("Nest", drawNest(record, sheet, names, path)));
+  const wide = pictures.some(one => one.querySelector("svg").width.baseVal.value > 980);    // then one below the other
   const badge = html("span", { class: "badge " + sheet.outcome }, sheet.refused ? sheet.first : sheet.outcome);
   place.append(
     html("header", {}, html("h1", {}, options.title || "Routine"), badge, html("p", {}, OUTCOMES[sheet.outcome])),
     facts(record, sheet, options),
     ...(texts.explained ? [html("p", { class: "explained" }, texts.explained)] : []),
     ...[legend(sheet, path)].filter(Boolean),
-    html("div", { class: "pictures" + (pictures.length > 1 ? " both" : "") }, ...pictures),
+    html("div", { class: "pictures" + (pictures.length > 1 ? " both" : "") + (wide ? " wide" : "") }, ...pictures),
     html("div", { class: "listings" }, listing("Sheet", sheetRows(sheet), 1), ...record ? [listing("Record", recordRows(record), 1)] : []));
+  if (record) place.style.setProperty("--picture-height", pictureHeight(sheet, record) + "mm");
   linkUp(place);
 }
 window.drawRoutine = drawRoutine;

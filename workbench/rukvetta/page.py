@@ -4,6 +4,7 @@ import functools
 import html
 import json
 import os
+from urllib.parse import quote
 
 from .needs import need_dagre
 
@@ -32,8 +33,8 @@ def filled(title, body, scripts=""):
 
 
 def kept(name, text):
-    """A text in the page; the texts that programs print have no `<`."""
-    return f'<script type="text/plain" id="text-{name}">\n{html.escape(text, quote=False)}</script>\n'
+    """A text that the page keeps for the script."""
+    return f'<pre hidden id="text-{name}">\n{html.escape(text, quote=False)}</pre>\n'
 
 
 def routine_page(title, texts, options):
@@ -52,10 +53,10 @@ def index_page(title, rows):
     """A table of routines; a row is a link and the cells of the catalogue's table."""
     heads = "".join(f'<th class="{"number" if k > 1 else ""}">{head}</th>' for k, head in enumerate(rows[0]))
     lines = []
-    for link, *cells in rows[1:]:
-        linked = f'<td><a href="{html.escape(link[1])}">{html.escape(link[0])}</a></td>'
-        lines.append("<tr>" + linked + "".join(f'<td class="{"number" if k else ""}">{html.escape(cell)}</td>'
-                                               for k, cell in enumerate(cells)) + "</tr>")
+    for (name, link), outcome, *cells in rows[1:]:
+        first = f'<td><a href="{html.escape(quote(link))}">{html.escape(name)}</a></td>'
+        second = f'<td><span class="badge {html.escape(outcome.split()[0])}">{html.escape(outcome)}</span></td>'
+        lines.append("<tr>" + first + second + "".join(f'<td class="number">{html.escape(cell)}</td>' for cell in cells) + "</tr>")
     body = f"<header><h1>{html.escape(title)}</h1><p>{len(rows) - 1} routines</p></header>" \
            f"<table><thead><tr>{heads}</tr></thead><tbody>\n" + "\n".join(lines) + "\n</tbody></table>"
     return filled(title, body)
