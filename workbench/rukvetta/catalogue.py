@@ -105,7 +105,7 @@ def main():
     add_clock(parser)
     add_option(parser)
     options = parser.parse_args()
-    names = sorted(name for name in os.listdir(options.folder) if name.endswith((SOURCE, STORE)))
+    names = sorted((name for name in os.listdir(options.folder) if name.endswith((SOURCE, STORE))), key=os.path.splitext)
     if not names:
         print(f"{options.folder}: there is no file that ends with {SOURCE} or {STORE}", file=sys.stderr)
         return USAGE

@@ -1,5 +1,7 @@
 """A fault in a source: line, column, the line itself, what was found and what was expected."""
 
+import difflib
+
 
 class Fault(Exception):
     def __init__(self, line, column, message):
@@ -24,3 +26,9 @@ def either(words):
     """`a`, `b` or `c`."""
     words = list(words)
     return words[0] if len(words) == 1 else ", ".join(words[:-1]) + " or " + words[-1]
+
+
+def near(word, names):
+    """Names that look like a word, as the end of a sentence."""
+    close = difflib.get_close_matches(word, names, 3)
+    return f" (near it: {', '.join(f'`{name}`' for name in close)})" if close else ""

@@ -1,10 +1,9 @@
 """The names of a source: types, opcodes, regions, constants and the values of each region."""
 
-import difflib
 import re
 
 from . import record as r
-from .faults import Fault
+from .faults import Fault, near
 
 NUMBERED = re.compile(r"c(?P<constant>[0-9]+)|(?P<letter>[idn])(?P<region>[0-9]+)\.(?P<index>[0-9]+)|undef(?P<type>[0-9]+)|true|false")
 LETTERS = {"i": r.INPUT, "d": r.INSTRUCTION}
@@ -17,12 +16,6 @@ def number(token, allowed=r.WORD, what="number"):
     if not least <= value <= most:
         raise Fault.at(token, f"found {what} {token}, expected {least} to {most}")
     return value
-
-
-def near(word, names):
-    """Names that look like a word, as the end of a sentence."""
-    close = difflib.get_close_matches(word, names, 3)
-    return f" (near it: {', '.join(f'`{name}`' for name in close)})" if close else ""
 
 
 def numbered_value(token):

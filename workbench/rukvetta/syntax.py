@@ -2,8 +2,9 @@
 
 import functools
 import os
+import re
 
-from .faults import Fault, either
+from .faults import Fault, either, near
 from .needs import need
 
 # How the grammar's terminals are called in a message; others are words of the form and stand for themselves.
@@ -12,6 +13,7 @@ CALLED = {
     "ITEM": "an item as 0.0/7/1/5/-", "NEXT_ITEM": "another item", "LPAR": "`(`", "RPAR": "`)`", "EQUAL": "`=`",
     "COLON": "`:`", "$END": "the end of the source",
 }
+TERMINATORS = "branch", "exit", "return", "select", "unreachable"
 
 
 @functools.cache
@@ -46,6 +48,7 @@ def parse(source):
         found = "the end of the source" if error.token.type == "$END" else \
             "the end of the line" if error.token.type == "_NL" else f"`{error.token.strip()}`"
         line, column = place(error, source)
+        misspelt_terminator(source, line + (error.token.type == "$END"), error.token)
         raise Fault(line, column, f"found {found}, expected {called(error.accepts or error.expected)}") from None
     except exceptions.UnexpectedCharacters as error:
         raise Fault(error.line, error.column, f"found `{visible(source, error.pos_in_stream)}`, "
@@ -58,6 +61,18 @@ def place(error, source):
         return error.line, error.column
     lines = source.rstrip("\n").split("\n")
     return len(lines), len(lines[-1]) + 1
+
+
+def misspelt_terminator(source, line, token):
+    """Where a region ends without a terminator, its last line may be one misspelt, which reads as an instruction."""
+    if token.type not in ("$END", "REGION"):
+        return
+    before = source.split("\n")[:line - 1]
+    while before and not before[-1].split("#")[0].strip():
+        before.pop()
+    word = re.match(r"[ \t]*([A-Za-z_][\w.-]*)(?![ \t]*=)", before[-1] if before else "")
+    if word and near(word[1], TERMINATORS) and not re.search(rf"^[ \t]*opcode[ \t]+{re.escape(word[1])}\b", source, re.M):
+        raise Fault(len(before), word.start(1) + 1, f"found `{word[1]}`, expected an opcode or a terminator{near(word[1], TERMINATORS)}")
 
 
 def visible(source, at):

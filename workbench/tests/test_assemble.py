@@ -57,6 +57,8 @@ FAULTS = [
     ("record\n", 1, 7, "found the end of the source, expected `constant`, `opcode`, `region` or `type`"),
     ("recrd\n", 1, 1, "found `recrd`"),
     (HEAD, 2, 9, "found the end of the source"),
+    (HEAD + "    retrun\n# end\n", 3, 5, "found `retrun`, expected an opcode or a terminator (near it: `return`)"),
+    (HEAD + "    unreachabel\n\nregion b\n    return\n", 3, 5, "found `unreachabel`, expected an opcode or a terminator"),
     (HEAD + "    branch tow a\n", 3, 12, "found `tow`, expected `to`"),
     (HEAD + "    branch to b\n", 3, 15, "found `b`, expected the name or the number of a region"),
     (HEAD + "    return x\n", 3, 12, "found `x`, expected a value of region a or a constant"),
