@@ -1,13 +1,26 @@
 // The record's graph: a box for each region, an arrow for each target, laid out in layers by dagre.
 
-function regionRows(region, names) {
-  const value = names.value;
+const MOST_ROWS = 10;       // of instructions in a box; the record's text has them all
+
+function instructionRows(region, names) {
   const rows = region.blocks.flatMap((block, k) => block.map((item, place) =>
-    ({ text: instructionText(item, names, value), cost: item.cost, first: k > 0 && place === 0 })));
-  if (rows.length > 10) rows.splice(9, rows.length - 9, { text: `… ${rows.length - 9} more`, cost: rows.slice(9).reduce((s, r) => s + r.cost, 0) });
-  if (region.kind.startsWith("select")) rows.push({ text: value(region.values[0]) + (region.kind.endsWith("bool") ? " ?" : " = ?"), end: true });
-  else if (region.kind === "exit") rows.push({ text: "exit " + call(names.opcode(region.opcode), region.values.map(value)), end: true });
-  else if (region.kind !== "branch") rows.push({ text: [region.kind, region.values.map(value).join(", ")].join(" ").trim(), end: true });
+    ({ text: instructionText(item, names, names.value), cost: item.cost, first: k > 0 && place === 0 })));
+  if (rows.length <= MOST_ROWS) return rows;
+  const rest = rows.splice(MOST_ROWS - 1);
+  return [...rows, { text: `… ${rest.length} more`, cost: rest.reduce((sum, row) => sum + row.cost, 0) }];
+}
+
+function endText(region, names) {
+  const values = region.values.map(names.value);
+  if (region.kind === "select bool") return values[0] + " ?";
+  if (region.kind === "select num") return values[0] + " = ?";
+  if (region.kind === "exit") return "exit " + call(names.opcode(region.opcode), values);
+  return region.kind === "branch" ? "" : [region.kind, values.join(", ")].join(" ").trim();
+}
+
+function regionRows(region, names) {
+  const rows = instructionRows(region, names), end = endText(region, names);
+  if (end) rows.push({ text: end, end: true });
   if (region.exits.length) rows.push({ text: "exits " + region.exits.map(names.region).join(", "), faint: true });
   return rows;
 }
@@ -42,7 +55,8 @@ function drawRegion(region, place, record, sheet, path) {
   group.append(label(portion || place.turns, right, y, { class: portion ? "share" : "faint", "text-anchor": "end" }));
   for (const row of place.rows) {
     y += FONT.line;
-    if (row.first || row.end) group.append(element("line", { x1: left, x2: left + place.width, y1: y - FONT.size - 1, y2: y - FONT.size - 1 }));
+    const above = y - FONT.size - 1;
+    if (row.first || row.end) group.append(element("line", { x1: left, x2: left + place.width, y1: above, y2: above }));
     group.append(label(row.shown, left + FONT.pad + 3, y, { class: row.faint ? "faint" : "" }));
     if (row.cost !== undefined) group.append(label(row.cost, right, y, { class: "faint", "text-anchor": "end" }));
   }
@@ -62,10 +76,10 @@ function edgeLabel(region, target, names) {
 
 function curve(points) {
   const at = p => p.x.toFixed(1) + " " + p.y.toFixed(1);
+  const between = (p, q) => ({ x: (p.x + q.x) / 2, y: (p.y + q.y) / 2 });
   let d = "M" + at(points[0]);
   for (let k = 1; k < points.length - 1; k++) {
-    const next = k === points.length - 2 ? points[k + 1] : { x: (points[k].x + points[k + 1].x) / 2, y: (points[k].y + points[k + 1].y) / 2 };
-    d += " Q" + at(points[k]) + " " + at(next);
+    d += " Q" + at(points[k]) + " " + at(k === points.length - 2 ? points[k + 1] : between(points[k], points[k + 1]));
   }
   return points.length === 2 ? d + " L" + at(points[1]) : d;
 }
@@ -75,7 +89,8 @@ function drawEdge(edge, text, on, back) {
   group.append(element("path", { d: curve(edge.points), "marker-end": on ? "url(#arrow-dear)" : "url(#arrow)" }));
   if (text) {
     const w = width(text) + 6;
-    group.append(box(edge.x - w / 2, edge.y - 9, w, 17, { class: "paper", rx: 3 }), label(text, edge.x, edge.y + 4, { "text-anchor": "middle" }));
+    group.append(box(edge.x - w / 2, edge.y - 9, w, 17, { class: "paper", rx: 3 }),
+      label(text, edge.x, edge.y + 4, { "text-anchor": "middle" }));
   }
   return group;
 }
@@ -87,8 +102,8 @@ function reached(record) {
 }
 
 function arrows() {
-  const arrow = id => element("marker", { id, viewBox: "0 0 8 8", refX: 7.5, refY: 4, markerWidth: 8, markerHeight: 8, orient: "auto-start-reverse",
-    markerUnits: "userSpaceOnUse" }, element("path", { d: "M0 0 L8 4 L0 8 z" }));
+  const shape = { viewBox: "0 0 8 8", refX: 7.5, refY: 4, markerWidth: 8, markerHeight: 8, orient: "auto", markerUnits: "userSpaceOnUse" };
+  const arrow = id => element("marker", { id, ...shape }, element("path", { d: "M0 0 L8 4 L0 8 z" }));
   return element("defs", {}, arrow("arrow"), arrow("arrow-dear"));
 }
 

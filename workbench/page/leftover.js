@@ -7,9 +7,8 @@ function alternatives(text) {
     const letter = text[at++];
     if (letter === "t") return [[]];
     if (letter !== "m") return [];
-    const node = /^\d+/.exec(text.slice(at))[0];
+    const node = /^\d+/.exec(text.slice(at))[0], found = [];
     at += node.length;
-    const found = [];
     for (let k = 0; text[at] !== "]"; k++) {
       at++;                                     // the bracket or the comma
       read().forEach(rest => found.push([[Number(node), k], ...rest]));
@@ -20,12 +19,13 @@ function alternatives(text) {
   return read();
 }
 
-function conditionRows(defer, tools) {
-  const told = alternatives(defer.condition).map(steps => steps.map(([node, k]) => {
-    const select = tools.selects.get(node);
-    return select ? `${tools.value(select.test)} is ${tools.caseName(select, k)}` : `select ${node} took ${k}`;
-  }).join(" and ") || "always");
-  return told.length > 3 ? [...told.slice(0, 2), `or ${told.length - 2} ways more`] : told.map((text, k) => (k ? "or " : "") + text);
+function conditionRows(form, condition) {
+  const step = ([node, k]) => {
+    const select = form.selects.get(node);
+    return select ? `${valueIn(form, select.test)} is ${caseName(select, k)}` : `select ${node} took ${k}`;
+  };
+  const ways = alternatives(condition).map(steps => steps.map(step).join(" and ") || "always");
+  return ways.length > 3 ? [...ways.slice(0, 2), `or ${ways.length - 2} ways more`] : ways.map((text, k) => (k ? "or " : "") + text);
 }
 
 function incomingCounts(record) {
@@ -39,40 +39,33 @@ function incomingCounts(record) {
 }
 
 // One branch: when it is taken, where it goes, and how many of the edges into its target it gathers.
-function branchColumn(defer, tools) {
-  const { record, names, value } = tools;
-  const counts = incomingCounts(record);
-  const to = defer.target === "return" ? "return" : names.region(defer.target);
+function branchPart(form, defer) {
+  const returns = defer.target === "return";
+  const to = returns ? "return" : form.names.region(defer.target);
   const rows = [
-    ...conditionRows(defer, tools).map(text => ({ text: short(text, 40), class: "faint" })),
-    { text: "→ " + short(call(to, defer.inputs.map(value)), 40), class: "title" },
-    ...defer.target === "return" ? [] : [{ text: `${defer.count} of ${counts[defer.target]} edges`, class: "faint" }],
+    ...conditionRows(form, defer.condition).map(text => ({ text: short(text, 40), class: "faint" })),
+    { text: "→ " + short(call(to, valuesIn(form, defer.inputs)), 40), class: "title" },
+    ...returns ? [] : [{ text: `${defer.count} of ${incomingCounts(form.record)[defer.target]} edges`, class: "faint" }],
   ];
-  const min = roomFor(rows), tall = rows.length * ROW + 12;
-  return { min, tall, draw: (x, y, w, h) => [tools.boxed(defer, "nest-defer-" + defer.number, defer.target === "return" ? undefined : defer.target,
-    x, y, w, h, drawRows(rows, x, y + 17, w))] };
+  return { min: roomFor(rows), tall: rows.length * ROW + 12, draw: (x, y, w, h) =>
+    [boxed(form, defer, "nest-defer-" + defer.number, returns ? undefined : defer.target, [x, y, w, h], drawRows(rows, x, y + 17, w))] };
 }
 
-function leftover(body, tools) {
-  const set = tools.sheet.deferred.filter(defer => defer.region === body.id);
-  if (!set.length) return [tools.note(body, "unreachable")];
-  const bars = set.map(defer => branchColumn(defer, tools));
-  const side = tools.columns(bars);
+// Arrows from the middle to each branch.
+function fork(x, y, w, h, widths) {
+  let left = x;
+  const arms = widths.map(wide => {
+    left += wide;
+    return element("path", { class: "fork", d: `M${x + w / 2} ${y} L${left - wide / 2} ${y + h}`, "marker-end": "url(#arrow)" });
+  });
+  return element("g", { class: "note" }, box(x, y, w, h), ...arms);
+}
+
+function branchesPart(form, region) {
+  const set = form.sheet.deferred.filter(defer => defer.region === region.id);
+  if (!set.length) return note("unreachable");
+  const side = columns(set.map(defer => branchPart(form, defer)));
   const top = set.length > 1 ? 24 : 0;
-  return [{ min: side.min, tall: top + side.tall, draw: (x, y, w, h) => {
-    const drawn = [], widths = side.widths(w);
-    if (top) {
-      drawn.push(element("g", { class: "note" }, box(x, y, w, top)));
-      let left = x;
-      widths.forEach(wide => {
-        drawn.push(element("path", { class: "fork", d: `M${x + w / 2} ${y} L${left + wide / 2} ${y + top}`, "marker-end": "url(#arrow)" }));
-        left += wide;
-      });
-    }
-    bars.forEach((bar, k) => {
-      drawn.push(...bar.draw(x, y + top, widths[k], h - top));
-      x += widths[k];
-    });
-    return drawn;
-  } }];
+  return { min: side.min, tall: top + side.tall, draw: (x, y, w, h) =>
+    [...top ? [fork(x, y, w, top, side.widths(w))] : [], ...side.draw(x, y + top, w, h - top)] };
 }

@@ -43,7 +43,10 @@ function facts(record, sheet, options) {
   return html("dl", { class: "facts" }, ...all);
 }
 
-const boxOf = line => line.word === "defer" ? "nest-defer-" + line.number : (line.word === "region" ? "nest-region-" : "nest-node-") + line.id;
+function boxOf(line) {
+  if (line.word === "defer") return "nest-defer-" + line.number;
+  return (line.word === "region" ? "nest-region-" : "nest-node-") + line.id;
+}
 
 function listing(title, rows, first) {
   return html("section", { class: "listing" }, html("h2", {}, title), html("ol", { start: first }, ...rows));
@@ -67,7 +70,9 @@ function recordRows(record) {
 }
 
 function legend(sheet, path) {
-  if (path.right) return html("p", { class: "legend" }, html("span", { class: "swatch" }), " the dearest path, with each box's share of the figure");
+  if (path.right) {
+    return html("p", { class: "legend" }, html("span", { class: "swatch" }), " the dearest path, with each box's share of the figure");
+  }
   return sheet.figure !== null && sheet.figure !== undefined
     ? html("p", { class: "legend wrong" }, "The costs in the record do not add up to the program's figure, so no path is marked.") : null;
 }

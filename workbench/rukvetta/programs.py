@@ -39,7 +39,7 @@ class Programs:
             done = subprocess.run([path], input=store, capture_output=True, check=True, timeout=600)
             return done.stdout.decode("ascii")
         except (OSError, subprocess.SubprocessError, UnicodeDecodeError) as error:
-            raise Missing(f"The program {path} did not answer: {error}.") from None
+            raise Missing(f"The program {path} did not answer: {str(error).rstrip('.')}.") from None
 
     def show(self, store):
         return self.answer("show", store)

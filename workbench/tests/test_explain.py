@@ -17,9 +17,9 @@ A = "region a in -\n"
 
 # A source, and what is said where the store that it gives is refused.
 REFUSALS = [
-    ("record entry 3\n" + A + "return\n", "refused 6 0", "The entry is region 3; region 0 would be allowed (the source's `record` line)."),
-    (HEAD + A + "7 (c1)\nreturn\n", "refused 6 0", "Region 0 reads c1 (block 0, instruction 0, read 0): the record has 1 constant (line 3"),
-    (HEAD + A + "7 (i0.0)\nreturn\n", "refused 6 0", "reads i0.0 (block 0, instruction 0, read 0): it has 0 inputs (line 3"),
+    ("record entry 3\n" + A + "return\n", "refused 6 0", "The entry is region 3; region 0 would be allowed"),
+    (HEAD + A + "7 (c1)\nreturn\n", "refused 6 0", "Region 0 reads c1 (block 0, instruction 0, read 0): the record has 1 constant."),
+    (HEAD + A + "7 (i0.0)\nreturn\n", "refused 6 0", "reads i0.0 (block 0, instruction 0, read 0): it has 0 inputs."),
     (HEAD + A + "7 (i1.0)\nreturn\n", "refused 6 0", "only region 0's own inputs and outputs would be allowed, or a constant"),
     (HEAD + A + "7 (d0.0) : 2\nreturn\n", "refused 6 0", "only an earlier instruction's output would be allowed"),
     (HEAD + A + "7\n8 (d0.0)\nreturn\n", "refused 6 0", "that instruction has type 0 and no output"),
@@ -27,8 +27,9 @@ REFUSALS = [
     (HEAD + A + "branch to 7\n", "refused 6 0", "goes to region 7 (target 0); region 0 would be allowed"),
     (HEAD + A + "return\nregion b\nreturn\nexits 2\n", "refused 6 1", "Region 1 has region 2 in its exit list (exit 0); regions 0 to 1"),
     (HEAD + A + "select bool c0 to a, a\n", "refused 7 0", "has a boolean test of c0, which has type 2; type 1 would be allowed"),
-    (HEAD + A + "branch to b\nregion b in 2\nreturn\n", "refused 7 0", "passes 0 values to region 1, which has 1 input (line 3"),
-    (HEAD + A + "branch to b(true)\nregion b in 2\nreturn\n", "refused 7 0", "passes true of type 1 to region 1 as input 0, which has type 2"),
+    (HEAD + A + "branch to b\nregion b in 2\nreturn\n", "refused 7 0", "passes 0 values to region 1, which has 1 input."),
+    (HEAD + A + "branch to b(true)\nregion b in 2\nreturn\n", "refused 7 0",
+     "passes true of type 1 to region 1 as input 0, which has type 2"),
     (HEAD + A + "return\nregion b\nreturn true\n", "refused 7 1", "returns 1 value, and region 0, the first that returns, 0"),
     (HEAD + A + "return c0\nregion b\nreturn true\n", "refused 7 1", "returns true of type 1 as value 0; region 0 returns type 2 there"),
     (HEAD + A + "return\nexits 0,0\n", "refused 8 0", "has region 0 twice in its exit list (exits 0 and 1); once would be allowed"),
@@ -71,7 +72,7 @@ class Refusals(Explain):
                 self.assertEqual(programs.show(store).strip(), answer)
                 status, text = self.explain(store)
                 self.assertEqual((status, text.split("\n")[0]), (1, answer))
-                self.assertIn(said.split(" (line")[0].split(" (the")[0], text)
+                self.assertIn(said, text)
 
     def test_sentences_with_lines_and_names(self):
         status, text = self.explain(SWEEP.replace(b"to sweep(next)", b"to sweep(next, true)"), ".routine")

@@ -61,7 +61,7 @@ class Page(unittest.TestCase):
         self.assertEqual(look.texts("#graph-0 text"), ["▸ test-it", "45%", "found = op 7", "5", "found ?"])
         self.assertEqual(look.texts("#nest-node-3 text"), ["found ?55%", "true", "false"])
         self.assertEqual(look.texts("#nest-node-2 text"), ["right", "36%", "op 9", "4"])
-        self.assertEqual(look.texts("li a")[:3], ["region 0 in - kids 0,3 out n3.0", "block 0 0.0/7/1/-", "select 3 bool d0.0 cases 1,2 out 2"])
+        self.assertEqual(look.texts("li a")[:2], ["region 0 in - kids 0,3 out n3.0", "block 0 0.0/7/1/-"])
         self.assertEqual(self.linked(), (7 + 19, 4 + 7))
 
     def test_the_dearest_path_is_marked_in_both(self):
@@ -169,7 +169,7 @@ class Page(unittest.TestCase):
             if refusal(shown):
                 continue
             texts = {"record": shown.strip(), "sheet": sheet.strip(), "names": ""}
-            self.browser.run("document.querySelector('main').replaceChildren(); drawRoutine(document.querySelector('main'), arguments[0])", texts)
+            self.browser.run("const main = document.querySelector('main'); main.replaceChildren(); drawRoutine(main, arguments[0])", texts)
             self.linked()
             self.assertEqual(self.browser.count(".legend.wrong"), 0, sheet)
             self.assertEqual(self.browser.count("svg.nest [id^=nest-defer-]"), len(re.findall("^defer", sheet, re.M)))
@@ -212,6 +212,7 @@ class Command(unittest.TestCase):
 class Missing(unittest.TestCase):
     def test_without_nest(self):
         with tempfile.TemporaryDirectory() as folder:
-            status, _, said = command("report", os.path.join(CATALOGUE, "case-a.routine"), "-o", os.path.join(folder, "p.html"), folder=folder)
+            source, page = os.path.join(CATALOGUE, "case-a.routine"), os.path.join(folder, "p.html")
+            status, _, said = command("report", source, "-o", page, folder=folder)
             self.assertEqual(status, 3)
             self.assertIn("The program `show` is not in", said)
