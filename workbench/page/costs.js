@@ -63,6 +63,7 @@ function priceSheet(sheet, record) {
   share(sheet.roots[0], 1, record, visits);
   path.right = total(sheet.roots[0]) === sheet.figure;
   if (path.right) markGraph(path, sheet.roots[0], visits, record);
+  if (path.right && sheet.outcome === "whole") markEnd(path, visits, record);
   return path;
 }
 
@@ -80,10 +81,15 @@ function markGraph(path, root, visits, record) {
   visits.forEach(({ region, back }, k) => {
     if (k && (back || visits[k - 1].region !== region)) way(record, visits[k - 1].region, region, path);
   });
-  const last = visits[visits.length - 1].region;
-  const end = record.regions.find(region => /return|exit/.test(region.kind) && !region.blocks.length
-    && record.regions[last].targets.includes(region.number));
-  if (end) way(record, last, end.number, path);
+}
+
+// A region that only returns leaves nothing in the nest: it is the path's end if the last region that leads to one is on it.
+function markEnd(path, visits, record) {
+  const returns = number => record.regions[number].kind === "return";
+  if (visits.some(({ region }) => returns(region))) return;
+  const ends = number => record.regions[number].targets.filter(target => returns(target) && !record.regions[target].blocks.length);
+  const last = [...visits].reverse().find(({ region }) => ends(region).length);
+  if (last) way(record, last.region, ends(last.region)[0], path);
 }
 
 // Marks the shortest way between two regions that goes through regions without blocks alone, if there is one.

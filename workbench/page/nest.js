@@ -1,7 +1,7 @@
 // The nested form as a structogram: boxes below each other, a select's cases side by side, a loop around its body.
 // A part has its least width `min`, its least height `tall`, and draw(x, y, w, h), which fills the place it is given.
 
-const ROW = FONT.line, STRIP = 19, HEAD = 44, BAR = 14, LETTERS = 46;
+const ROW = FONT.line, STRIP = 19, HEAD = 44, BAR = 14, LETTERS = 46, ACROSS = 640;
 
 function roomFor(rows) {
   const wide = rows.map(row => width(row.text, "bold") + (row.right ? width(row.right) + 18 : 0));
@@ -148,13 +148,20 @@ function rootPart(form, region) {
 
 function drawNest(record, sheet, names, path) {
   const form = formOf(record, sheet, names, path);
-  const roots = sheet.roots.map(region => rootPart(form, region));
-  const w = Math.max(180, ...roots.map(part => part.min));
-  let y = 8;
-  const drawn = roots.flatMap(part => {
-    const made = part.draw(8, y, w, part.tall);
-    y += part.tall + 16;
-    return made;
-  });
-  return picture("nest", w + 16, y - 8, arrows(), ...drawn);
+  return shelved(sheet.roots.map(region => rootPart(form, region)));
+}
+
+// Parts beside each other, in rows of at most ACROSS or the widest part.
+function shelved(parts) {
+  const most = Math.max(ACROSS, ...parts.map(part => part.min));
+  const drawn = [];
+  let x = 8, y = 8, tall = 0, wide = 0;
+  for (const part of parts) {
+    const w = Math.max(180, part.min);
+    if (x > 8 && x + w > most + 8) [x, y, tall] = [8, y + tall + 16, 0];
+    drawn.push(...part.draw(x, y, w, part.tall));
+    x += w + 16;
+    [tall, wide] = [Math.max(tall, part.tall), Math.max(wide, x)];
+  }
+  return picture("nest", wide - 8, y + tall + 8, arrows(), ...drawn);
 }

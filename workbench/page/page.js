@@ -71,7 +71,8 @@ function recordRows(record) {
 
 function legend(sheet, path) {
   if (path.right) {
-    return html("p", { class: "legend" }, html("span", { class: "swatch" }), " the dearest path, with each box's share of the figure");
+    const said = " the dearest path, as the figure counts it: of each select the dearest case. Each box has its share.";
+    return html("p", { class: "legend" }, html("span", { class: "swatch" }), said);
   }
   return sheet.figure !== null && sheet.figure !== undefined
     ? html("p", { class: "legend wrong" }, "The costs in the record do not add up to the program's figure, so no path is marked.") : null;

@@ -78,22 +78,32 @@ def consoles():
     return table, table if sys.stdout.isatty() else console(stderr=True)
 
 
-def check_all(jobs, workers):
-    """Check all jobs, print the table with a progress line, and answer how many failed."""
-    table, live = consoles()
+def tracked(results, total, live):
+    """The results one by one, with a progress line where there is a terminal."""
+    if not live.is_terminal:
+        yield from results
+        return
     progress = need("rich.progress")
+    columns = progress.BarColumn(), progress.MofNCompleteColumn(), progress.TimeElapsedColumn()
+    with progress.Progress(*columns, console=live, transient=True) as bar:
+        task = bar.add_task("", total=total)
+        for result in results:
+            yield result
+            bar.advance(task)
+
+
+def check_all(jobs, workers):
+    """Check all jobs, print the table, and answer how many failed."""
+    table, live = consoles()
     wide = max(len(HEADS[0]), *(len(os.path.splitext(os.path.basename(job.path))[0]) for job in jobs))
     failed = 0
     table.print(line(HEADS, wide), style="bold", markup=False)
-    columns = progress.BarColumn(), progress.MofNCompleteColumn(), progress.TimeElapsedColumn()
-    with multiprocessing.Pool(workers) as pool, progress.Progress(*columns, console=live, transient=True) as bar:
-        task = bar.add_task("", total=len(jobs))
-        for done in pool.imap(check, jobs, chunksize=4):
+    with multiprocessing.Pool(workers) as pool:
+        for done in tracked(pool.imap(check, jobs, chunksize=4), len(jobs), live):
             failed += bool(done.wrong)
             table.print(line(done.cells, wide).rstrip(), style="red" if done.wrong else None, markup=False)
             if done.wrong:
                 table.print("    failed: " + done.wrong.replace("\n", "\n    "), style="red", markup=False)
-            bar.advance(task)
     return failed
 
 

@@ -21,6 +21,11 @@ DESCRIPTION = ("Says of a store, or of a source that it assembles first, why it 
 class Differs(Exception):
     """The proved program and the search for the place do not agree."""
 
+    def __init__(self, answer, found):
+        ours = f"refused {found.number} {found.word}: {found.sentence}" if found else "no fault."
+        super().__init__(f"The proved program says `{answer}`; the search for the place found {ours} "
+                         "The program is right, and no place is given.")
+
 
 def place_of(store):
     """Our own search for a refusal from 1 to 8: the refusal, or None."""
@@ -76,28 +81,21 @@ def refused_text(routine, answer, programs):
     """The sentences for a refusal that a proved program gave."""
     number, word = refusal(answer)
     found = place_of(routine.store)
-    if number <= 8:
-        if found is None or (found.number, found.word) != (number, word):
-            ours = f"refused {found.number} {found.word}: {found.sentence}" if found else "no fault"
-            raise Differs(f"The proved program says `{answer.strip()}`; the search for the place found {ours} "
-                          "The program is right, and no place is given.")
-        sentence, part = found.sentence, found.part
+    expected = (number, word) if number <= 8 else None      # the search knows no later ones
+    if (found and (found.number, found.word)) != expected:
+        raise Differs(answer.strip(), found)
+    if found:
+        sentence = found.sentence.removesuffix(".") + line_of(routine.record, found.part) + "."
     else:
-        if found is not None:
-            raise Differs(f"The proved program says `{answer.strip()}`; the search for the place found refused "
-                          f"{found.number} {found.word}: {found.sentence} The program is right, and no place is given.")
-        record, _ = read_source(programs.show(routine.store).encode())
-        sentence, part = nesting_sentence(number, word, record), None
-    sentence = sentence.removesuffix(".") + line_of(routine.record, part) + "."
+        sentence = nesting_sentence(number, word, read_source(programs.show(routine.store).encode())[0])
     return [answer.strip(), f"Rule {number} of document 01: {RULES[number]}.", sentence]
 
 
 def accepted_text(routine, shown):
     """The summary of a record that `show` printed."""
     found = place_of(routine.store)
-    if found is not None:
-        raise Differs(f"The proved program accepts the store; the search for a place found refused {found.number} "
-                      f"{found.word}: {found.sentence} The program is right.")
+    if found:
+        raise Differs("accepted", found)
     record, _ = read_source(shown.encode())
     return record, list(record_sentences(record, words_of(routine.store)[0]))
 

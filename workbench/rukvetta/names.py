@@ -9,9 +9,14 @@ NUMBERED = re.compile(r"c(?P<constant>[0-9]+)|(?P<letter>[idn])(?P<region>[0-9]+
 LETTERS = {"i": r.INPUT, "d": r.INSTRUCTION}
 
 
+def decimal(digits):
+    """A number in base ten; of one with very many digits, a part that is too great as well."""
+    return int((digits.lstrip("0") or "0")[:9])
+
+
 def number(token, allowed=r.WORD, what="number"):
     """A number of the source, within what is allowed."""
-    value = int(token, 16) if token.startswith("0x") else int(token[:9])
+    value = int(token, 16) if token.startswith("0x") else decimal(token)
     least, most = allowed
     if not least <= value <= most:
         raise Fault.at(token, f"found {what} {token}, expected {least} to {most}")
@@ -23,7 +28,7 @@ def numbered_value(token):
     match = NUMBERED.fullmatch(token)
     if not match:
         return None
-    words = {key: int(digits[:9]) for key, digits in match.groupdict().items() if digits and key != "letter"}
+    words = {key: decimal(digits) for key, digits in match.groupdict().items() if digits and key != "letter"}
     if any(word > 65535 for word in words.values()) or not 1 <= words.get("type", 1) <= 255:
         raise Fault.at(token, f"found `{token}`, expected numbers up to 65535 and a type from 1 to 255")
     if match["letter"] == "n":

@@ -12,7 +12,7 @@ BUILT_BY = {"show": "`rt check show` builds it", "nest": "it comes with release 
 
 
 def add_option(parser):
-    parser.add_argument("--programs", metavar="FOLDER", default=os.environ.get(VARIABLE, DEFAULT),
+    parser.add_argument("--programs", metavar="FOLDER", default=os.environ.get(VARIABLE) or DEFAULT,
                         help=f"the folder of show and nest (else ${VARIABLE}, else target/bin)")
 
 
@@ -20,7 +20,7 @@ class Programs:
     """The programs of one folder."""
 
     def __init__(self, folder=None):
-        self.folder = folder or os.environ.get(VARIABLE, DEFAULT)
+        self.folder = folder or os.environ.get(VARIABLE) or DEFAULT
 
     def has(self, name):
         return os.access(os.path.join(self.folder, name), os.X_OK)

@@ -2,7 +2,7 @@
 
 from . import record as r
 from .faults import Fault
-from .names import number
+from .names import decimal, number
 
 TERMINATORS = {"unreachable": r.UNREACHABLE, "return_": r.RETURN, "exit_": r.EXIT, "branch": r.BRANCH, "select": None}
 
@@ -89,14 +89,14 @@ class RegionReader:
         """A block as `show` prints it: items of region.index/opcode/type/cost/reads."""
         block = []
         for item, reads in zip(tree.children[::2], tree.children[1::2]):
-            place, opcode, result, cost, _ = item.lstrip(",").split("/")
+            place, *fields, _ = item.lstrip(",").split("/")
             if place != f"{self.place}.{self.count}":
                 raise Fault.at(item, f"found the item {place}, expected {self.place}.{self.count}: region and place")
-            for digits, allowed in (opcode, r.WORD), (result, r.RESULT), (cost, r.WORD):
-                if not allowed[0] <= int(digits[:9]) <= allowed[1]:
-                    raise Fault.at(item, f"found {digits} in an item, expected up to {allowed[1]}")
+            for digits, (_, most) in zip(fields, (r.WORD, r.RESULT, r.WORD)):
+                if decimal(digits) > most:
+                    raise Fault.at(item, f"found {digits} in an item, expected up to {most}")
             values = self.values(reads.children[0], r.READS, "values read")
-            block.append(r.Instruction(int(opcode), int(result), int(cost), values, item.line))
+            block.append(r.Instruction(*map(decimal, fields), values, item.line))
             self.count += 1
         self.made.blocks.append(within(block, r.INSTRUCTIONS, tree.meta, "instructions in a block"))
 

@@ -73,7 +73,7 @@ def read_tree(tree):
         record.regions.append(reader.region())
         if reader.wants_exits or (reader.wants_exits is None and auto):
             wanted.append((place, part.meta.line))
-    for place, region in enumerate(record.regions):
+    for region in record.regions:       # by first standing; a target that is passed nothing gets no values
         region.passed = {target: region.passed.get(target, []) for target in region.targets}
     find_exits(record, wanted)
     return record, names
