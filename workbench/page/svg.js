@@ -48,5 +48,5 @@ const grouped = number => number.toLocaleString("en-US");
 
 function picture(name, w, h, ...children) {
   return element("svg", { class: name, viewBox: `0 0 ${Math.ceil(w)} ${Math.ceil(h)}`, width: Math.ceil(w), height: Math.ceil(h),
-    role: "img", "font-size": FONT.size, "font-family": FONT.family, style: `--natural: ${Math.ceil(w)}px` }, ...children);
+    role: "group", "aria-label": name, "font-size": FONT.size, "font-family": FONT.family, style: `--natural: ${Math.ceil(w)}px` }, ...children);
 }

@@ -3,6 +3,7 @@
 from . import record as r
 from .faults import Fault
 from .names import decimal, number
+from .syntax import trees
 
 TERMINATORS = {"unreachable": r.UNREACHABLE, "return_": r.RETURN, "exit_": r.EXIT, "branch": r.BRANCH, "select": None}
 
@@ -27,13 +28,11 @@ class RegionReader:
         _, inputs, limit, *parts = self.tree.children
         if limit:
             self.made.limit = number(limit, r.LIMIT, "limit")
-        for part in inputs.children if inputs else ():
-            if hasattr(part, "data"):
-                self.input(*part.children)
+        for part in trees(inputs):
+            self.input(*part.children)
         within(self.made.inputs, r.INPUTS, self.tree.meta, "inputs")
-        for part in parts:
-            if part is not None:
-                self.part(part)
+        for part in filter(None, parts):
+            self.part(part)
         within(self.made.blocks, r.BLOCKS, self.tree.meta, "blocks")
         return self.made
 
@@ -51,10 +50,12 @@ class RegionReader:
 
     def values(self, tree, allowed, what):
         """The values of a list: none where it is left out or `-`."""
-        if tree is None or not hasattr(tree.children[0], "data"):
-            return []
+        values = [self.value(part) for part in trees(tree)]
+        return within(values, allowed, tree.meta, what) if values else []
+
+    def value(self, tree):
         where = next((name for name, place in self.names.regions.items() if place == self.place), self.place)
-        return within([self.names.value(part, self.own, where) for part in tree.children], allowed, tree.meta, what)
+        return self.names.value(tree, self.own, where)
 
     def pass_to(self, reference, values):
         """Note what a target gets; a target named twice gets the same."""
@@ -121,7 +122,7 @@ class RegionReader:
     def select(self, tree):
         _, kind, test, *targets = tree.children
         self.made.kind = r.SELECT_BOOL if kind.children[0] == "bool" else r.SELECT_NUM
-        self.made.values = [self.names.value(test, self.own, self.place)]
+        self.made.values = [self.value(test)]
         self.targets(targets, tree)
 
     def targets(self, targets, tree):
@@ -140,6 +141,5 @@ class RegionReader:
 
     def exits(self, tree):
         self.made.lines["exits"] = tree.meta.line
-        references = [part for part in tree.children if hasattr(part, "data")]
         self.wants_exits = not tree.children
-        self.made.exits = within([self.names.region(part) for part in references], r.EXITS, tree.meta, "exits")
+        self.made.exits = within([self.names.region(part) for part in trees(tree)], r.EXITS, tree.meta, "exits")

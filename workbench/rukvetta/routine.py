@@ -31,11 +31,11 @@ def is_source(path, data):
 
 
 def read_file(path):
-    """A file's bytes, - for standard input. A store has at most 8,192 bytes; no source needs more than a million."""
+    """A file's bytes, - for standard input."""
     if path == "-":
-        return sys.stdin.buffer.read(1 << 20)
+        return sys.stdin.buffer.read()
     with open(path, "rb") as file:
-        return file.read(1 << 20)
+        return file.read()
 
 
 def load(path):

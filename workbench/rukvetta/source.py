@@ -5,24 +5,19 @@ from .faults import Fault
 from .loops import loop_exits
 from .names import Names, number
 from .regions import RegionReader, within
-from .syntax import decoded, parse
-
-
-def trees(parts, data=None):
-    """The parts that are trees, or those of one kind: what is left out is None, and `-` a token."""
-    return [part for part in parts if hasattr(part, "data") and data in (None, part.data)]
+from .syntax import decoded, parse, trees
 
 
 def define(names, tree):
     """Types, then opcodes, which name types, then regions."""
-    for part in trees(tree.children, "type_definition"):
+    for part in trees(tree, "type_definition"):
         name, given = part.children
         names.define(names.types, name, number(given, r.TYPE, "type"))
-    for part in trees(tree.children, "opcode_definition"):
+    for part in trees(tree, "opcode_definition"):
         name, code, given, cost = part.children
         meaning = number(code, r.WORD, "opcode"), names.type(given) if given else 0, number(cost) if cost else 0
         names.define(names.opcodes, name, meaning)
-    for place, part in enumerate(trees(tree.children, "region")):
+    for place, part in enumerate(trees(tree, "region")):
         token = part.children[0].children[0]
         if token.type == "WORD":
             names.define(names.regions, token, place)
@@ -33,8 +28,7 @@ def define(names, tree):
 def constants(names, header, tree):
     """The types of all constants: the header's, then the others in their order."""
     types = []
-    given = trees(header.children[3].children) if header.children[3] else []
-    for part in given + trees(tree.children, "constant_definition"):
+    for part in trees(header.children[3]) + trees(tree, "constant_definition"):
         name, of = part.children
         if name:
             names.name_value(names.constants, name, (r.CONSTANT, 0, len(types)))
@@ -46,23 +40,22 @@ def find_exits(record, wanted):
     """Fill in the lists of the regions that want them found."""
     if not wanted:
         return
-    for number, region in enumerate(record.regions):
-        for target in [*region.targets, record.entry]:
-            if target >= len(record.regions):
-                raise Fault(wanted[0][1], 1, f"found a way to region {target}, which is not there, from region {number}; "
-                            "expected regions of the record, or `exits auto` cannot look for loops")
+    for target in [record.entry, *(target for region in record.regions for target in region.targets)]:
+        if target >= len(record.regions):
+            raise Fault(wanted[0][1], 1, f"found a way to region {target}, which is not there; expected regions of the record, "
+                        "or `exits auto` cannot look for loops")
     found = loop_exits(record)
-    for number, _ in wanted:
-        record.regions[number].exits = found.get(number, [])
+    for place, _ in wanted:
+        record.regions[place].exits = found.get(place, [])
 
 
 def read_tree(tree):
     """The record of a syntax tree, and its names."""
     names = Names()
-    header = trees(tree.children, "header")[0]
+    header = trees(tree, "header")[0]
     count, entry, test, _, auto = header.children
     define(names, tree)
-    regions = within(trees(tree.children, "region"), r.REGIONS, header.meta, "regions")
+    regions = within(trees(tree, "region"), r.REGIONS, header.meta, "regions")
     if count and number(count) != len(regions):
         raise Fault.at(count, f"found regions {count}, expected {len(regions)}: as many as there are")
     record = r.Record(names.region(entry) if entry else 0, number(test, r.WORD, "test cost") if test else 0,

@@ -63,6 +63,12 @@ def place(error, source):
     return len(lines), len(lines[-1]) + 1
 
 
+def trees(tree, data=None):
+    """A tree's parts that are trees, or those of one kind. What a source leaves out is None, and `-` is a token."""
+    parts = tree.children if tree is not None else ()
+    return [part for part in parts if hasattr(part, "data") and data in (None, part.data)]
+
+
 def misspelt_terminator(source, line, token):
     """Where a region ends without a terminator, its last line may be one misspelt, which reads as an instruction."""
     if token.type not in ("$END", "REGION"):

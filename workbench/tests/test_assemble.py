@@ -152,10 +152,11 @@ class RoundTrip(unittest.TestCase):
         shown = [(store, answer) for store, answer in vectors("stores.vectors") if not answer.startswith("refused")]
         for store, answer in shown:
             self.assertEqual(assemble(answer.encode())[0], store)
-        accepted = [store for store, answer in vectors("sheets.vectors") if (refusal(answer) or (9, 0))[0] > 8]
+        nested = [*vectors("sheets.vectors"), *vectors("full.vectors")]
+        accepted = [store for store, answer in nested if (refusal(answer) or (9, 0))[0] > 8]
         for store in accepted:
             self.same(store)
-        self.assertEqual((len(shown), len(accepted)), (855, 1113))
+        self.assertEqual((len(shown), len(accepted)), (855, 1116))
 
     def test_random_stores(self):
         rng = random.Random(12)

@@ -67,11 +67,8 @@ region first in -
         set(x,
             undef : hertz, true)
     branch to second(x)
-region 1 in f : hertz, limit 4
-"""
-        with self.assertRaises(Exception):
-            assemble(source)        # a comma before `limit`
-        whole = source.replace(b"hertz, limit", b"hertz limit") + b"""block 1.0/7/1/5/-,1.1/8/0/3/d1.0,i1.0
+region second in f : hertz limit 4
+    block 1.0/7/1/5/-,1.1/8/0/3/d1.0,i1.0
     select bool d1.0 to second(f), third
     exits third
 region third
@@ -91,6 +88,6 @@ region seventh
     return base
     exits 6
 """
-        record = assemble(whole.replace(b"region 1 in", b"region second in"))[1]
+        record = assemble(source)[1]
         self.assertEqual([region.kind for region in record.regions], [3, 4, 5, 0, 3, 2, 1, 1])
         self.assertEqual(record.constants, [3, 2, 1])
