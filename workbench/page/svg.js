@@ -47,6 +47,7 @@ const percent = (part, whole) => {
 const grouped = number => number.toLocaleString("en-US");
 
 function picture(name, w, h, ...children) {
-  return element("svg", { class: name, viewBox: `0 0 ${Math.ceil(w)} ${Math.ceil(h)}`, width: Math.ceil(w), height: Math.ceil(h),
-    role: "group", "aria-label": name, "font-size": FONT.size, "font-family": FONT.family, style: `--natural: ${Math.ceil(w)}px` }, ...children);
+  const [wide, tall] = [Math.ceil(w), Math.ceil(h)];
+  return element("svg", { class: name, viewBox: `0 0 ${wide} ${tall}`, width: wide, height: tall, role: "group", "aria-label": name,
+    "font-size": FONT.size, "font-family": FONT.family, style: `--natural: ${wide}px` }, ...children);
 }

@@ -118,8 +118,9 @@ class Assemble(unittest.TestCase):
     def test_numbers(self):
         source = b"record entry 000 test 0x00ff\nregion 0 limit 00000000000000000012\n0x10 : 0x2 cost 007\nreturn\n"
         record, _ = read_source(source)
-        instruction = record.regions[0].blocks[0][0]
-        self.assertEqual((record.test, record.regions[0].limit, instruction.opcode, instruction.type, instruction.cost), (255, 12, 16, 2, 7))
+        region = record.regions[0]
+        made = region.blocks[0][0]
+        self.assertEqual((record.test, region.limit, made.opcode, made.type, made.cost), (255, 12, 16, 2, 7))
 
     def test_without_the_package(self):
         done = subprocess.run([sys.executable, "-S", os.path.join(WORKBENCH, "assemble")], input=SWEEP, capture_output=True, check=False)
