@@ -35,12 +35,12 @@ loop-set : (g : Graph) (body : ℕ) (children : Nodes) (backedge : DeferredEdgeB
     (structurize-loop g body children backedge repeat exits inputs s)
 unfolding structurize-loop
 loop-set g body children backedge repeat exits inputs s =
-    bind (define-region s) _ (define-region-keeps still-steady Nine refl s) λ wrapper s₁ q₁.
-    bind (rewrite-values (backedge .target-inputs) s₁) _ (rewrite-values-keeps still-steady Nine refl (backedge .target-inputs) s₁) λ vs s₂ q₂.
+    bind (define-region s) _ (define-region-keeps still-steady Nine (refl, refl) s) λ wrapper s₁ q₁.
+    bind (rewrite-values (backedge .target-inputs) s₁) _ (rewrite-values-keeps still-steady Nine (refl, refl) (backedge .target-inputs) s₁) λ vs s₂ q₂.
     let s₃ = with-entry (record { region = body; rewrites = renumber-or-replace-with (take-inputs g body wrapper 0 vs no-inputs .rewrites) }) s₂ in
     let q₃ : Still s₂ s₃ = record { states = refl; attempts = refl } in
-    bind (materialize-lazy-cond repeat s₃) _ (materialize-keeps still-steady Nine refl repeat s₃) λ v s₄ q₄.
-    bind (define-node s₄) (λ n. give (some (loop-claimed g body children exits inputs wrapper vs v n))) (define-node-keeps still-steady Nine refl s₄) λ n s₅ q₅.
+    bind (materialize-lazy-cond repeat s₃) _ (materialize-keeps still-steady Nine (refl, refl) repeat s₃) λ v s₄ q₄.
+    bind (define-node s₄) (λ n. give (some (loop-claimed g body children exits inputs wrapper vs v n))) (define-node-keeps still-steady Nine (refl, refl) s₄) λ n s₅ q₅.
     record { post = record { still = still-then q₁ (still-then q₂ (still-then q₃ (still-then q₄ q₅))); is = refl } }
 
 module _ (K : Counting) where

@@ -74,7 +74,7 @@ module _ (K : Counting) where
             let scrutinee = lazy (condition-in (x .deferred-edges) (y .bundle)) in
             let st₁ : Counted K 0 0 f (λ r. totals (edges-to r) (ok (y .claimed-region) ∷ err (y .others) ∷ [])) s s₁ = counted-as K (h .step) 0 0 f (λ r. totals (edges-to r) (ok (y .claimed-region) ∷ err (y .others) ∷ [])) (let z = scan in omega arith) (λ r. omega arith) in
             bind (structurize-select-into (K .g) (x .children) bool-cond scrutinee cs s₁) (λ x′. resolve-deferred (K .g) claim n x′)
-            (map-post _ (select-into-total Nine refl (K .g) (x .children) bool-cond scrutinee cs s₁)
+            (map-post _ (select-into-total Nine (refl, refl) (K .g) (x .children) bool-cond scrutinee cs s₁)
             λ x′ s₂ q. selected-counted K s₁ cs x′ s₂ (h .step .inv) (h .good .0 .fits, (h .good .1 .fits, tt)) (let u = h .good .0 .full in let v = h .good .1 .full in omega arith) q) λ x′ s₂ b.
             let st₂ : Counted K 0 0 f (λ r. edge-total (edges-to r) (x′ .deferred-edges)) s s₂ = counted-then K st₁ (b .step) (omega arith) (λ r. omega arith) in
             map-post _ (ih x′ s₂ (b .good) (pre-after K pre st₂)) λ y′ s₃ c.

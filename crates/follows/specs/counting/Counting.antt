@@ -28,9 +28,9 @@ pub record Counting : Type 0 where
   pub closed : (r x : ℕ) → is-in r live ≡ true → is-in x (targets-of g r) ≡ true → is-in x live ≡ true
   pub counted : (r : ℕ) → is-in r live ≡ true → getD counts r 0 ≡ incoming r
 
--- Only a limit refuses.
-abbrev pub Nine : ℕ → Type 0
-Nine n = n ≡ 9
+-- Only a limit refuses: number 9, word 0.
+abbrev pub Nine : ℕ → ℕ → Type 0
+Nine n w = (n ≡ 9) × (w ≡ 0)
 
 abbrev pub busy : StructurizeRegionState → Bool
 busy not-begun = false

@@ -62,7 +62,7 @@ pub record SelectedTotals (s : NestState) (cs : List MaybeClaimedRegion) (s′ :
   pub still : Still s s′
   pub chosen : ChosenTotals cs d
 
-module _ (Q : ℕ → Type 0) (q9 : Q 9) where
+module _ (Q : ℕ → ℕ → Type 0) (q9 : Q 9 0) where
   emit-total : (n : DefinedSelect) (ps : List PlannedBundle) (s : NestState) → Post Q (λ d s′. EmittedTotals s ps s′ d) (emit n ps s)
   unfolding emit
   emit-total n [] s = record { post = record { still = still-refl s; same = λ μ. refl } }

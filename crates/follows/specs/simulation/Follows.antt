@@ -11,7 +11,8 @@ use lib.Dec.{eqb}
 use borrow.Author.Tests.{eqb-true}
 use Rattle.meaning.specs.Graph.{Value, input, Graph, region, pick}
 use Rattle.meaning.specs.Lists.{numbers-from, empty}
-use Rattle.meaning.specs.Runs.{Word, word32, End, returned, Given, RunState, base-env, entry-words, Nodes, ⟨⟩, Ended, run-from, graph-run, Ran, through, ended, no-end, run-nodes, ended-at, after-last, start, nested-run}
+use Rattle.meaning.specs.Runs.{Word, word32, End, returned, Given, RunState, base-env, entry-words, Nodes, ⟨⟩, Ended, run-from, graph-run, Ran, through, ended, no-end, run-nodes, NestedEnded, ends-as, ended-at, after-last, start, nested-run}
+use Rattle.meaning.specs.laws.MoreBudget.{nested-run-one}
 use Rattle.meaning.specs.facts.Tests.{clash, false-if}
 use Rattle.format.specs.Valid.{Valid}
 use Rattle.format.specs.Store
@@ -119,12 +120,23 @@ module _ (g : Graph) (valid : Valid g) (x : Given) (c : ClaimedRegion) (s : Nest
       })
       (e .end) (e .events) (subst (λ q. run-from (x .rule) g (base-env x) b q (entry-words g x) [] ≡ some e) (sym origin) gr)
 
+  followed : {outs : Option (List Value)} {e : Ended} (b : ℕ) (r : NestedEnded) → nested-run g x form outs b ≡ ends-as r
+      → r .end ≡ e .end → r .events ≡ e .events → Followed g x form outs e
+  followed {outs} b r h p q = record {
+    budget = b;
+    run = r;
+    ends = h;
+    only = λ b′ r′ h′. nested-run-one g x form outs b′ b r′ r h′ h;
+    end = p;
+    events = q;
+  }
+
   abbrev Comes : Option (List Value) → ℕ → Ended → Ran → Type 0
   Comes outs b e R = (run-nodes (x .rule) (g .test-cost) b form (start g x) ≡ R) → Followed g x form outs e
 
   at-end : (outs : Option (List Value)) (b : ℕ) (e : Ended) (e′ : End) (st : RunState) → e′ ≡ e .end → st .events ≡ e .events → Comes outs b e (ended e′ st)
   unfolding nested-run
-  at-end outs b e e′ st p q came = record { budget = b; run = ended-at e′ st; ends = ap (after-last outs) came; end = p; events = q }
+  at-end outs b e e′ st p q came = followed b (ended-at e′ st) (ap (after-last outs) came) p q
 
   closed-follows : c .deferred-edges ≡ [] → (b : ℕ) (e : Ended) → graph-run g x b ≡ some e → Followed g x form none e
   closed-follows is-empty b e gr = go _ (entry-follows b e gr) refl
@@ -151,13 +163,8 @@ module _ (g : Graph) (valid : Valid g) (x : Given) (c : ClaimedRegion) (s : Nest
           let onw : OnwardTo (world g valid x) ρ st b (e .end) (e .events) to-return (y .target-inputs) =
           subst (λ z. OnwardTo (world g valid x) ρ st b (e .end) (e .events) z (y .target-inputs)) returns
           (subst (λ z. OnwardTo (world g valid x) ρ st b (e .end) (e .events) (z .target) (z .target-inputs)) here (fl .leads-to .onward)) in
-          λ came. record {
-            budget = b;
-            run = ended-at (returned (map (st .env) (map ρ (y .target-inputs)))) st;
-            ends = ap (after-last (some (map ρ (y .target-inputs)))) came;
-            end = ap returned (map-map (st .env) ρ (y .target-inputs)) ∙ sym (onw .0);
-            events = sym (onw .1);
-          }
+          λ came. followed b (ended-at (returned (map (st .env) (map ρ (y .target-inputs)))) st)
+          (ap (after-last (some (map ρ (y .target-inputs)))) came) (ap returned (map-map (st .env) ρ (y .target-inputs)) ∙ sym (onw .0)) (sym (onw .1))
 
 -- ---- what the answer shows of the claimed entry
 module _ (g : Graph) (valid : Valid g) (c : ClaimedRegion) (s : NestState)

@@ -19,14 +19,24 @@ use Rattle.format.specs.laws.WellRead.{head-read, record-read}
 use Rattle.format.specs.laws.ReadingStops.{StopsReading, region-stops, head-stops}
 use Rattle.meaning.specs.facts.Tests.{and-both}
 
--- Nothing is said of what is accepted.
+-- P of a refusal's number and word. Nothing is said of what is accepted.
+abbrev pub IfRefused : {A : Type 0} → (ℕ → ℕ → Type 0) → Answer A → Type 0
+IfRefused P (accepted a) = Unit
+IfRefused P (refused n w) = P n w
+
+pub then-refused : {A B : Type 0} (P : ℕ → ℕ → Type 0) (r : Answer A) (k : A → Answer B)
+    → IfRefused P r → ((a : A) → r ≡ accepted a → IfRefused P (k a)) → IfRefused P (if-accepted r k)
+then-refused P (accepted a) k h more = more a refl
+then-refused P (refused n w) k h more = h
+
+abbrev Ranges : ℕ → ℕ → Type 0
+Ranges n w = Within 1 8 n × (w < 32)
+
 abbrev pub InRange : {A : Type 0} → Answer A → Type 0
-InRange (accepted a) = Unit
-InRange (refused n w) = Within 1 8 n × (w < 32)
+InRange r = IfRefused Ranges r
 
 then-range : {A B : Type 0} (r : Answer A) (k : A → Answer B) → InRange r → ((a : A) → r ≡ accepted a → InRange (k a)) → InRange (if-accepted r k)
-then-range (accepted a) k h more = more a refl
-then-range (refused n w) k h more = h
+then-range r k h more = then-refused Ranges r k h more
 
 settle-range : {A B : Type 0} (r : ℕ) (x : Read A) (k : A → ℕ → Answer B) → r < 32 → StopsReading x → ((a : A) (at : ℕ) → x ≡ got a at → InRange (k a at)) → InRange (settle r x k)
 settle-range r (got a at) k l h more = more a at refl

@@ -40,7 +40,7 @@ with-entry x s = with-tables (s .region-states) (s .region-input-rewrites ++ (x 
 abbrev pub KeepsLog : (NestState → NestState → Type 0) → Type 0
 KeepsLog L = (x : RewriteEntry) (s : NestState) → L s (with-entry x s)
 
-module _ {L : NestState → NestState → Type 0} (S : Steady L) (Q : ℕ → Type 0) (q9 : Q 9) where
+module _ {L : NestState → NestState → Type 0} (S : Steady L) (Q : ℕ → ℕ → Type 0) (q9 : Q 9 0) where
   abbrev pub Keeps : {A : Type 0} → Step A → Type 0
   Keeps x = (s : NestState) → Post Q (λ a s′. L s s′) (x s)
 

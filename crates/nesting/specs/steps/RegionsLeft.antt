@@ -89,8 +89,8 @@ fewer-still q = record {
   unclaimed = let z = ap (count-states unclaimed-one) (q .states) in omega arith;
 }
 
-abbrev pub AnyRefusal : ℕ → Type 0
-AnyRefusal n = Unit
+abbrev pub AnyRefusal : ℕ → ℕ → Type 0
+AnyRefusal n w = Unit
 
 -- Claims: one fewer unclaimed if it succeeds.
 abbrev pub claimed-count : {A : Type 0} → Option A → ℕ
