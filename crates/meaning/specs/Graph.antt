@@ -27,7 +27,8 @@ pick false a b = b
 abbrev pub bit : Bool → ℕ
 bit b = pick b 1 0
 
--- Three words of a value: kind, region, index. A marked input has a kind of its own, 6, which no sheet shows.
+-- Three words of a value: kind, region, index. A marked input and what names nothing have kinds of their own,
+-- 6 and 7, which no sheet shows.
 pub record Code : Type 0 where
   pub kind : ℕ
   pub region : ℕ

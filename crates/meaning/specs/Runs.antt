@@ -220,6 +220,7 @@ abbrev pub assign-inputs : ℕ → List Value → RunState → RunState
 assign-inputs r vs s = copied (put-inputs (λ k. input r k) 0) vs s
 
 -- At the end of its last turn a loop copies the body's outputs too, to nowhere: later uses see the inputs of that turn.
+-- It is a place for a cost; today a copy has none.
 abbrev pub leave-loop : List Value → RunState → RunState
 leave-loop vs s = copied (λ ws σ. σ) vs s
 

@@ -196,7 +196,7 @@ abbrev pub rewrites-of : List RewriteEntry → ℕ → Option RegionInputRewrite
 rewrites-of [] r = none
 rewrites-of (e ∷ es) r = pick (eqb r (e .region)) (some (e .rewrites)) (rewrites-of es r)
 
--- More than the longest chain: no chain passes a region twice.
+-- More than the log is long, and no chain is longer: none passes a region twice (`chains-end`).
 abbrev pub chain-fuel : List RewriteEntry → ℕ
 chain-fuel es = 2 ^ length es
 
@@ -728,7 +728,8 @@ module _ (g : Graph) where
   claim-body r inputs children d none = give (some (claimed-as r r inputs children d))
   claim-body r inputs children d (some e) = structurize-loop g r children e (condition-in d e) (split-out-target (to-region r) d) inputs
 
-  -- target, accumulated count, inputs, its incoming count, its state: refusal 12 where the Rust stops
+  -- target, accumulated count, inputs, its incoming count, its state. Refusal 0 where it is not begun, as by then it is, and 12
+  -- where the Rust stops: neither is ever met (`refused-nine`).
   abbrev pub claim-by-state : ℕ → IncomingEdgeCount → List Value → IncomingEdgeCount → StructurizeRegionState → Step (Option ClaimedRegion)
   claim-by-state r n inputs incoming not-begun = turn-away 0 r
   claim-by-state r n inputs incoming claimed = turn-away 12 r
@@ -786,7 +787,8 @@ module _ (g : Graph) where
       y ← resolve-deferred (length (g .regions)) x
       set-state r (ready (count-to r (y .deferred-edges)) (y .children) (y .deferred-edges))
 
-  -- `counts` are the incoming counts. What falls is the number of regions not begun; fuel is one more.
+  -- `counts` are the incoming counts. What falls is the number of regions not begun; fuel is one more, so
+  -- refusal 0 is never met (`refused-nine`).
   unfoldable pub try-claim-edge-bundle : List IncomingEdgeCount → ℕ → Claim
   try-claim-edge-bundle counts zero r n inputs = turn-away 0 r
   try-claim-edge-bundle counts (suc fuel) r n inputs =
@@ -916,7 +918,7 @@ module _ (g : Graph) (s : NestState) where
   conclude-by children d closed = conclude-with closed (piece g (g .entry) children [] []) []
   conclude-by children d leftover = conclude-with leftover (piece g (g .entry) children [] d) (unclaimed-from g 0 (s .region-states))
 
--- The entry is always claimed: its incoming count is 1.
+-- The entry is always claimed, for its incoming count is 1: refusal 0 is never met (`refused-nine`).
 unfoldable pub conclude : Graph → StepAnswer (Option ClaimedRegion) → Store.Answer Nested
 conclude g (turned-away n w) = refused n w
 conclude g (done none s) = refused 0 0

@@ -62,7 +62,7 @@ getD-within [] k h = absurd (omega arith)
 getD-within (x ∷ xs) zero h = omega arith
 getD-within (x ∷ xs) (suc k) h = omega (arith, getD-within xs k h)
 
--- ---- the list of incoming counts
+-- ---- a number for each place
 pub numbered-map : {A : Type 0} (f : ℕ → ℕ) (k : ℕ) (l : List A) (r : ℕ) → r < length l → getD (map f (numbers-from k l)) r 0 ≡ f (k + r)
 numbered-map f k [] r h = absurd (omega arith)
 numbered-map f k (x ∷ l) zero h = let z : k ≡ k + 0 = omega arith in ap f z
