@@ -7,11 +7,11 @@ use mathlib.Core.Option.{Option, none, some}
 use Prim.Native.Nat.{ℕ, _+_, _-_, _*_, _≤_, _<_}
 use lib.ListN.{length}
 use Rattle.meaning.specs.Graph.{Value, Graph, region, edges-of}
-use Rattle.meaning.specs.Lists.{total, is-in, Distinct}
+use Rattle.meaning.specs.Lists.{total, is-in, Distinct, Within}
 use Rattle.meaning.specs.Runs.{Nodes, Given, Ended, graph-run, NestedEnded, ends-as, nested-run}
 use Rattle.format.specs.Store.{accepted, refused}
 use Rattle.format.specs.Accept.{accept}
-use Rattle.format.specs.Valid.{Valid, Within}
+use Rattle.format.specs.Valid.{Valid}
 use Rattle.nesting.specs.Nesting.{whole, closed, Nested, reachable, structurize-func}
 use Rattle.nesting.specs.Sheet.{figure, Sheet, sheet-of, answer}
 use Rattle.nesting.specs.laws.NoMarks.{NoMarks}

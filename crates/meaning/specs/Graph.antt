@@ -1,9 +1,10 @@
 -- The graph that a record describes: values, instructions, regions, terminators (document 01, "store and record").
-use mathlib.Core.Bool.{Bool, true, false, _&&_}
+use mathlib.Core.Bool.{Bool, _&&_}
 use mathlib.Core.List.{List, [], _∷_, map}
 use Prim.Native.Nat.{ℕ}
 use lib.ListN.{getD}
 use lib.Dec.{eqb}
+use Rattle.meaning.specs.Lists.{bit}
 
 -- A value. Kinds 0, 4 and 5 (constant, bool, undef) are the Rust's Value::Const; `output` and `held` arise only in nesting.
 -- `output o` is the node output that was defined as number o, counted over all nodes from 0; the sheet shows its node and place.
@@ -19,13 +20,6 @@ pub data Value : Type 0 where
   undef : ℕ → Value
   held : ℕ → ℕ → Value
   no-value : Value
-
-abbrev pub pick : {A : Type 0} → Bool → A → A → A
-pick true a b = a
-pick false a b = b
-
-abbrev pub bit : Bool → ℕ
-bit b = pick b 1 0
 
 -- Three words of a value: kind, region, index. A marked input and what names nothing have kinds of their own,
 -- 6 and 7, which no sheet shows.

@@ -5,8 +5,8 @@ use mathlib.Core.Bool.{Bool, true, false}
 use lib.ListN.{getD, take, length}
 use lib.Dec.{leb, eqb}
 use Prim.Native.String.{String}
-use Rattle.meaning.specs.Lists.{concat, total, times-in}
-use Rattle.meaning.specs.Graph.{Instr, SelectionKind, Value, const, input, instr, output, bool, undef, held, pick, Graph, bool-cond, number, bit, no-value}
+use Rattle.meaning.specs.Lists.{concat, total, times-in, pick, bit}
+use Rattle.meaning.specs.Graph.{Instr, SelectionKind, Value, const, input, instr, output, bool, undef, held, Graph, bool-cond, number, no-value}
 use Rattle.meaning.specs.Runs.{Node, block, select, loop, exit, Nodes, ⟨⟩, _▸_, Cases, ∅, case}
 use Rattle.meaning.specs.Text.{Text, ascii, decimal, joined, listed}
 use Rattle.format.specs.Store.{Answer, accepted, refused, if-accepted}

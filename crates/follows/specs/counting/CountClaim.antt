@@ -8,9 +8,9 @@ use native.Mathlib.Omega.{arith}
 use lib.ListN.{length, set}
 use lib.Dec.{eqb}
 use borrow.Author.Tests.{eqb-true, eqb-false, eq-eqb}
-use Rattle.meaning.specs.Graph.{Value, Graph, pick}
+use Rattle.meaning.specs.Graph.{Value, Graph}
 use Rattle.meaning.specs.Runs.{Nodes}
-use Rattle.meaning.specs.Lists.{is-in, times-in}
+use Rattle.meaning.specs.Lists.{is-in, times-in, pick}
 use Rattle.meaning.specs.facts.Tests.{clash}
 use Rattle.nesting.specs.Nesting.{exit-targets, LazyCond, to-region, DeferredEdgeBundle, DeferredEdgeBundleSet, StructurizeRegionState, not-begun, in-progress, claimed, ready, renumber-or-replace-with, NestState, Step, give, turn-away, _>>_, set-state, define-region, define-node, rewrite-values, materialize-lazy-cond, condition-in, get-edge-bundle-by-target, split-out-target, ClaimedRegion, no-inputs, take-inputs, add-exit-edge, structurize-loop, backedge-of, claim-body, claim-by-state}
 use Rattle.nesting.specs.steps.Post.{Post, map-post, bind}

@@ -8,9 +8,9 @@ use native.Mathlib.Omega.{arith}
 use lib.ListN.{length}
 use lib.Dec.{eqb}
 use borrow.Author.Tests.{eqb-true, eq-eqb}
-use Rattle.meaning.specs.Graph.{Value, Edge, ControlInst, unreachable, return, exit-invocation, branch, select-branch, pick}
+use Rattle.meaning.specs.Graph.{Value, Edge, ControlInst, unreachable, return, exit-invocation, branch, select-branch}
 use Rattle.meaning.specs.Runs.{Nodes}
-use Rattle.meaning.specs.Lists.{is-in, empty, times-in, total}
+use Rattle.meaning.specs.Lists.{is-in, empty, times-in, total, pick}
 use Rattle.nesting.specs.Nesting.{DeferredTarget, to-region, to-return, DeferredEdgeBundle, DeferredEdgeBundleSet, StructurizeRegionState, not-begun, in-progress, claimed, ready, NestState, Step, _>>=_, define-node, ClaimedRegion, MaybeClaimedRegion, err, value, Body, deferred-of, has-children, append-maybe-claimed-region, structurize-select-into, Claim, SplitOut, defer-edge, unclaimed-edge, edge-case, split-out-or, by-control-inst, target-regions, split-out-matching}
 use Rattle.nesting.specs.steps.Post.{Post, map-post, bind}
 use Rattle.nesting.specs.steps.Keeps.{define-node-keeps}

@@ -8,8 +8,8 @@ use lib.ListN.{length, getD, set, length-set}
 use lib.Seq.{getD-set-same, getD-set-other}
 use lib.Dec.{eqb}
 use borrow.Author.Tests.{eqb-false}
-use Rattle.meaning.specs.Graph.{Graph, region, edges-of, targets-of, pick}
-use Rattle.meaning.specs.Lists.{is-in, Distinct, times-in, total}
+use Rattle.meaning.specs.Graph.{Graph, region, edges-of, targets-of}
+use Rattle.meaning.specs.Lists.{is-in, Distinct, times-in, total, pick}
 use Rattle.nesting.specs.Nesting.{exit-targets, DeferredEdgeBundleSet, StructurizeRegionState, not-begun, in-progress, claimed, ready, NestState}
 use Rattle.nesting.specs.steps.StatesKept.{Still}
 use Rattle.nesting.specs.steps.RegionsLeft.{state-of, not-begun-one, count-states, not-begun-count}

@@ -6,8 +6,8 @@ use Prim.Native.Nat.{ℕ, zero, suc, _+_, _≤_}
 use native.Mathlib.Omega.{arith}
 use lib.Dec.{eqb}
 use borrow.Author.Tests.{eqb-true, eqb-false}
-use Rattle.meaning.specs.Graph.{pick}
 use Rattle.nesting.specs.Nesting.{DeferredTarget, to-region, to-return, DeferredEdgeBundle, DeferredEdgeBundleSet, same-target, MaybeClaimedRegion, deferred-of, DeferredTargetSummary, summarize-bundle, summarize-set, deferred-targets, PlannedBundle}
+use Rattle.meaning.specs.Lists.{pick}
 
 abbrev pub Measure : Type 0
 Measure = DeferredTarget → ℕ → ℕ

@@ -7,7 +7,7 @@ use Prim.Native.Nat.{ℕ, suc, _+_, _≤_}
 use native.Mathlib.Omega.{arith}
 use lib.ListN.{length}
 use lib.Dec.{ltb}
-use Rattle.meaning.specs.Graph.{Value, const, input, instr, output, unreachable, bool, bit, bool-cond, Graph}
+use Rattle.meaning.specs.Graph.{Value, const, input, instr, output, unreachable, bool, bool-cond, Graph}
 use Rattle.meaning.specs.Runs.{Nodes, block, select, loop, ⟨⟩, _▸_, ∅, case, word, Event, returned, Given, put, put-inputs, entry-words, do-instr, do-block, do-blocks, Ended, graph-run, run-from, NestedEnded, NestedRun, ends-as, without-end, put-outputs, turns, run-nodes, nested-run}
 use Rattle.format.specs.Store.{accepted}
 use Rattle.format.specs.Accept.{accept}
@@ -23,6 +23,7 @@ use Rattle.follows.specs.cost.Bounded.{bounded}
 use Rattle.follows.specs.counting.Attempts.{attempts}
 use Rattle.follows.specs.sound.Sound.{sound}
 use Rattle.follows.specs.examples.CaseForms.{A-accepted, A-valid, A-form, A-nested, A-nests, B-accepted, B-valid, B-loop, B-nested, B-nests}
+use Rattle.meaning.specs.Lists.{bit}
 
 abbrev event : ℕ → ℕ → ℕ → Event
 event r k op = record { region = r; index = k; opcode = op; reads = [] }

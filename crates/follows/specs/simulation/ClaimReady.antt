@@ -10,10 +10,10 @@ use lib.Dec.{eqb, leb}
 use lib.ListN.{List·getD-eq-default, getD, length, length-map}
 use borrow.Author.Tests.{eqb-false, eqb-true, leb-false, leb-true, ne-eqb}
 use Rattle.meaning.specs.Runs.{LoopNode, Nodes, _▸_, loop, ⟨⟩}
-use Rattle.meaning.specs.Graph.{Value, bool, input, pick, region, undef}
+use Rattle.meaning.specs.Graph.{Value, bool, input, region, undef}
 use Rattle.meaning.specs.facts.Tests.{clash, eqb-self, false-if, or-either}
 use Rattle.nesting.specs.lookups.Contexts.{InContext, context-replaced, entry-at, open-else, own-in}
-use Rattle.meaning.specs.Lists.{any}
+use Rattle.meaning.specs.Lists.{any, pick}
 use Rattle.nesting.specs.Nesting.{loop-node, exit-targets, get-edge-bundle-by-target, same-target, split-out-target, ClaimedRegion, define-node, define-region, set-state, with-twice, backedge-of, claim-body, claim-by-state, materialize-lazy-cond, DeferredEdgeBundle, DeferredEdgeBundleSet, to-region, true-cond, LoopInputs, no-inputs, structurize-loop, take-inputs, rewrite-values, rewrites-of, StepAnswer, InputRewrite, NestState, NodeOutput, Step, _>>_, claimed, give, ready, renumber-or-replace-with, renumber-to, replace-by}
 use Rattle.nesting.specs.lookups.Rewriting.{meets, rewrite}
 use Rattle.nesting.specs.steps.RegionsLeft.{state-of}

@@ -9,8 +9,8 @@ use native.Mathlib.Omega.{arith}
 use lib.ListN.{length, getD}
 use lib.Dec.{eqb}
 use borrow.Author.Tests.{eqb-true}
-use Rattle.meaning.specs.Graph.{Value, input, Graph, region, pick}
-use Rattle.meaning.specs.Lists.{numbers-from, empty}
+use Rattle.meaning.specs.Graph.{Value, input, Graph, region}
+use Rattle.meaning.specs.Lists.{numbers-from, empty, pick}
 use Rattle.meaning.specs.Runs.{Word, word32, End, returned, Given, RunState, base-env, entry-words, Nodes, ⟨⟩, Ended, run-from, graph-run, Ran, through, ended, no-end, run-nodes, NestedEnded, ends-as, ended-at, after-last, start, nested-run}
 use Rattle.meaning.specs.laws.MoreBudget.{nested-run-one}
 use Rattle.meaning.specs.facts.Tests.{clash, false-if}

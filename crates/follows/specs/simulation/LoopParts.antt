@@ -8,8 +8,8 @@ use native.Mathlib.Omega.{arith}
 use lib.Dec.{eqb}
 use lib.ListN.{List·getD-append, getD, length, length-append}
 use borrow.Author.Tests.{eqb-false, eqb-true}
-use Rattle.meaning.specs.Graph.{Graph, Value, input, pick, region, same-value, undef}
-use Rattle.meaning.specs.Lists.{is-in}
+use Rattle.meaning.specs.Graph.{Graph, Value, input, region, same-value, undef}
+use Rattle.meaning.specs.Lists.{is-in, pick}
 use Rattle.nesting.specs.Nesting.{same-target, split-out-target, DeferredEdgeBundle, DeferredEdgeBundleSet, DeferredTarget, to-region, to-return, LoopInputs, add-exit-edge, keep-input, lift-input, no-inputs, take-input, take-inputs, InputRewrite, renumber-to, replace-by}
 use Rattle.meaning.specs.facts.Elements.{In, from-map, in-map}
 use Rattle.follows.specs.simulation.Bundles.{DistinctBundles, distinct-split-out, from-split-out, in-split-out}

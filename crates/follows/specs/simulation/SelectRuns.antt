@@ -8,7 +8,7 @@ use Prim.Native.Nat.{_+_, suc, zero, ℕ}
 use native.Mathlib.Omega.{arith}
 use lib.ListN.{getD, length}
 use Rattle.meaning.specs.Runs.{Cases, Nodes, _▸_, case, ∅, ⟨⟩, Ran, and-then, case-count, ended, no-end, pay, run-case, run-nodes, through, End, Event, Rule, RunState, place-taken, word}
-use Rattle.meaning.specs.Graph.{SelectionKind, Value, bool, bool-cond, pick, undef}
+use Rattle.meaning.specs.Graph.{SelectionKind, Value, bool, bool-cond, undef}
 use Rattle.nesting.specs.Nesting.{new-select, MaybeClaimedRegion, deferred-of, DeferredEdgeBundle, DeferredEdgeBundleSet, case-outputs, output-decls, DeferredTargetSummary, in-parent, plan-bundle, DefinedSelect, NodeOutput, look-up-nodes, look-up-cases}
 use Rattle.nesting.specs.lookups.Rewriting.{rewrite-cases-of, rewrite-nodes}
 use Rattle.meaning.specs.facts.Elements.{In, nth}
@@ -21,6 +21,7 @@ use Rattle.follows.specs.simulation.Leads.{Based, Goes, Tracks, based-af
 use Rattle.follows.specs.simulation.Bundles.{DistinctBundles}
 use Rattle.follows.specs.simulation.Planned.{EmitsAll}
 use Rattle.follows.specs.simulation.SelectGoes.{Took, output-after, outputs-set, select-goes}
+use Rattle.meaning.specs.Lists.{pick}
 
 abbrev pub children-at : Cases → ℕ → Option Nodes
 children-at ∅ j = none

@@ -5,11 +5,11 @@ use mathlib.Core.Logic.{_⊎_, inl, inr}
 use mathlib.Core.Path.{_∙_, _≡_, ap, refl, sym}
 use Prim.Native.Nat.{_+_}
 use lib.ListN.{length}
-use Rattle.meaning.specs.Graph.{pick}
 use Rattle.nesting.specs.Nesting.{same-target, MaybeClaimedRegion, deferred-of, DeferredEdgeBundle, DeferredEdgeBundleSet, DeferredTarget, DeferredTargetSummary, deferred-targets, summarize-bundle, summarize-set}
 use Rattle.meaning.specs.facts.Elements.{In}
 use Rattle.follows.specs.simulation.World.{Fits, World}
 use Rattle.follows.specs.simulation.Bundles.{same-target→eq}
+use Rattle.meaning.specs.Lists.{pick}
 
 abbrev pub DistinctTargets : List DeferredTargetSummary → Type 0
 DistinctTargets [] = Unit

@@ -10,7 +10,7 @@ use Rattle.meaning.specs.Graph.{Value, Graph}
 use Rattle.format.specs.Store
 use Rattle.format.specs.Store.{Answer, accepted, refused}
 use Rattle.format.specs.Accept.{accept}
-use Rattle.format.specs.Valid.{Valid, Within}
+use Rattle.format.specs.Valid.{Valid}
 use Rattle.format.specs.laws.AcceptValid.{accept-valid}
 use Rattle.format.specs.laws.Refusals.{IfRefused, then-refused, refusal-range}
 use Rattle.nesting.specs.laws.NoMarks.{no-marks}
@@ -22,6 +22,7 @@ use Rattle.follows.specs.Statements.{HasForm, is-whole, is-closed, Sound
 use Rattle.follows.specs.simulation.Follows.{follows}
 use Rattle.follows.specs.cost.Bounded.{bounded}
 use Rattle.follows.specs.counting.Attempts.{attempts, refused-nine}
+use Rattle.meaning.specs.Lists.{Within}
 
 -- ---- what the sheet shows of a form
 -- a sheet that fits is handed on as it is

@@ -1,7 +1,7 @@
 -- What `accept` accepts is Valid.
 use mathlib.Core.Path.{_≡_, refl, sym}
 use mathlib.Core.Bool.{Bool, true, false, _||_, not}
-use mathlib.Core.List.{List, [], _∷_, _++_}
+use mathlib.Core.List.{List, [], _∷_}
 use Prim.Native.Nat.{ℕ, zero, suc, _+_, _≤_, _<_}
 use native.Mathlib.Omega.{arith}
 use lib.ListN.{length, getD}
@@ -10,26 +10,14 @@ use borrow.Author.Tests.{ltb-true, eqb-true, eqb-false, ne-eqb}
 use Rattle.meaning.specs.Graph.{Value, Instr, SelectionKind, bool-cond, number, Edge, ControlInst, unreachable, return, exit-invocation, branch, select-branch, Region, Graph, nowhere, edges-of}
 use Rattle.meaning.specs.Graph as graph
 use Rattle.format.specs.Store.{Answer, accepted, store-words}
-use Rattle.meaning.specs.Lists.{is-in, Distinct}
+use Rattle.meaning.specs.Lists.{is-in, Distinct, All, Within}
 use Rattle.format.specs.Read.{read-record}
 use Rattle.format.specs.References.{instructions, type-in, refuse-unless, first-refusal, named-right, of-type, reads-right, types-right, passed-right, test-right, values-right, target-right, edge-right, first-edges, exits-right, region-right, regions-right, references, behind-all, return-types, is-region}
 use Rattle.format.specs.Accept.{accept}
-use Rattle.format.specs.Valid.{All, Within, Usable, Passed, ValidInstrs, ValidEdge, TestRight, ValidEnd, ValidRegion, Valid}
+use Rattle.format.specs.Valid.{Usable, Passed, ValidInstrs, ValidEdge, TestRight, ValidEnd, ValidRegion, Valid}
 use Rattle.meaning.specs.facts.Tests.{clash, not-true, neither}
 use Rattle.format.specs.laws.WellRead.{SamePasses, InstrRead, BlockRead, EndRead, TargetsRead, RegionRead, RecordRead, record-read, step}
-
-all-map : {A : Type 0} (P Q : A → Type 0) → ((x : A) → P x → Q x) → (xs : List A) → All P xs → All Q xs
-all-map P Q f [] h = tt
-all-map P Q f (x ∷ xs) h = (f x (h .0), all-map P Q f xs (h .1))
-
-all-append : {A : Type 0} (P : A → Type 0) (xs ys : List A) → All P xs → All P ys → All P (xs ++ ys)
-all-append P [] ys h k = k
-all-append P (x ∷ xs) ys h k = (h .0, all-append P xs ys (h .1) k)
-
-all-at : {A : Type 0} (P : A → Type 0) (d : A) (xs : List A) → All P xs → (k : ℕ) → k < length xs → P (getD xs k d)
-all-at P d [] h k l = absurd (omega arith)
-all-at P d (x ∷ xs) h zero l = h .0
-all-at P d (x ∷ xs) h (suc k) l = all-at P d xs (h .1) k (omega arith)
+use Rattle.meaning.specs.facts.Elements.{all-map, all-append}
 
 -- the instructions of blocks that were read
 instructions-read : (bs : List (List Instr)) → All BlockRead bs → All InstrRead (instructions bs)

@@ -9,12 +9,11 @@ use lib.Dec.{eqb, leb, ltb}
 use borrow.Author.Tests.{leb-true}
 use Rattle.meaning.specs.Graph.{Value, Instr, SelectionKind, bool-cond, number, Edge, ControlInst, unreachable, return, exit-invocation, branch, select-branch, edges-of, Region, Graph}
 use Rattle.meaning.specs.Graph as graph
-use Rattle.format.specs.Store.{Answer, accepted, refused, if-accepted, blocks-checked, number-right, check-right, length-right, count-right, word-at, tabulate, store-words}
+use Rattle.format.specs.Store.{Answer, accepted, refused, if-accepted, blocks-checked, number-right, check-right, length-right, count-right, word-at, store-words}
 use Rattle.format.specs.Read.{Read, got, bad, read-region, settle, regions-from, head, read-record}
-use Rattle.meaning.specs.Lists.{is-in}
+use Rattle.meaning.specs.Lists.{pick, is-in, tabulate, Within}
 use Rattle.format.specs.References.{refuse-unless, first-refusal, type-in, instructions, behind-all, return-types, is-region, named-right, of-type, reads-right, types-right, passed-right, test-right, values-right, target-right, edge-right, first-edges, exits-right, region-right, regions-right, references}
 use Rattle.format.specs.Accept.{accept}
-use Rattle.format.specs.Valid.{Within}
 use Rattle.format.specs.laws.WellRead.{head-read, record-read}
 use Rattle.format.specs.laws.ReadingStops.{StopsReading, region-stops, head-stops}
 use Rattle.meaning.specs.facts.Tests.{and-both}
@@ -42,7 +41,7 @@ settle-range : {A B : Type 0} (r : ℕ) (x : Read A) (k : A → ℕ → Answer B
 settle-range r (got a at) k l h more = more a at refl
 settle-range r (bad n) k l h more = ((omega arith, omega arith), by-test (eqb n 5))
   where
-    by-test : (b : Bool) → graph.pick b r 0 < 32
+    by-test : (b : Bool) → pick b r 0 < 32
     by-test true = l
     by-test false = omega arith
 

@@ -7,11 +7,13 @@ use native.Mathlib.Omega.{arith}
 use native.Mathlib.Nat.{add-assoc, not-suc-le-zero}
 use native.Mathlib.Decide.{decLe, decLt}
 use lib.ListN.{drop-of-length-le, length, getD, take, drop, length-append, length-drop, List·getD-append}
-use lib.Seq.{getD-drop, getD-take, getD-append-add, getD-append-seam, take-all, take-suc, ext-getD, length-take-le}
+use lib.Seq.{getD-drop, getD-take, getD-append-add, take-all, take-suc, ext-getD, length-take-le}
 use lib.Dec.{eqb, ltb}
 use borrow.Author.Tests.{eqb-true}
-use Rattle.format.specs.Store.{Answer, accepted, refused, if-accepted, tabulate, pair, weighted, number-right, blocks-checked, word-at, all-zero, length-right, count-right, store-words}
+use Rattle.format.specs.Store.{Answer, accepted, refused, if-accepted, pair, weighted, number-right, blocks-checked, word-at, all-zero, length-right, count-right, store-words}
 use Rattle.format.specs.stores.Pack.{check-from}
+use Rattle.meaning.specs.Lists.{tabulate}
+use Rattle.meaning.specs.facts.Elements.{length-tabulate, tabulate-at}
 
 -- ---- the check of a block
 check-snoc : (k : ℕ) (xs : List ℕ) (y : ℕ) → check-from k (xs ++ (y ∷ [])) ≡ check-from k xs + y * suc (k + length xs)
@@ -91,23 +93,6 @@ all-word (suc n) s j h = at (all-word n (drop 512 s) (j - 253)) (decLt j 253)
         ∙ later (omega arith)
         ∙ word-drop s (j - 253)
         ∙ ap (word-at s) (omega arith)
-
-length-tabulate : (n : ℕ) (f : ℕ → ℕ) → length (tabulate n f) ≡ n
-unfolding tabulate
-length-tabulate zero f = refl
-length-tabulate (suc n) f = rw (length-append (tabulate n f) (f n ∷ []), length-tabulate n f) (omega arith)
-
-tabulate-at : (n : ℕ) (f : ℕ → ℕ) (j : ℕ) → j < n → getD (tabulate n f) j 0 ≡ f j
-unfolding tabulate
-tabulate-at zero f j h = absurd (not-suc-le-zero h)
-tabulate-at (suc n) f j h = at (tabulate-at n f j) (decLt j n)
-  where
-    at : (j < n → getD (tabulate n f) j 0 ≡ f j) → Dec (j < n) → getD (tabulate n f ++ (f n ∷ [])) j 0 ≡ f j
-    at i (yes l) = List·getD-append (tabulate n f) (f n ∷ []) 0 j (omega (arith, length-tabulate n f)) ∙ i l
-    at i (no g) =
-        ap (λ k. getD (tabulate n f ++ (f n ∷ [])) k 0) (omega (arith, length-tabulate n f))
-        ∙ getD-append-seam (tabulate n f) (f n) [] 0
-        ∙ ap f (omega arith)
 
 words-tabulated : (n w : ℕ) (s : List ℕ) → w ≤ 253 * n → tabulate w (word-at s) ≡ take w (all-words n s)
 words-tabulated n w s h =

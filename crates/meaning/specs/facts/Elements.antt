@@ -1,12 +1,15 @@
--- Elements of a list: by place, by membership, under a map.
+-- Elements of a list: by place, by membership, under a map; what each has; a table of a function.
 use mathlib.Core.List.{List, [], _++_, _∷_, map}
 use mathlib.Core.Logic.{_⊎_, inl, inr}
 use mathlib.Core.Option.{Option, none, some}
 use mathlib.Core.Path.{_≡_, ap, refl, _∙_}
 use Prim.Native.Nat.{_<_, suc, zero, ℕ, _≤_, _+_}
 use native.Mathlib.Omega.{arith}
-use lib.ListN.{getD, length}
-use Rattle.meaning.specs.Lists.{numbers-from}
+use native.Mathlib.Nat.{not-suc-le-zero}
+use native.Mathlib.Decide.{decLt}
+use lib.ListN.{getD, length, length-append, List·getD-append}
+use lib.Seq.{getD-append-seam}
+use Rattle.meaning.specs.Lists.{numbers-from, All, tabulate}
 use Rattle.meaning.specs.facts.Tests.{clash}
 
 abbrev pub nth : {A : Type 0} → List A → ℕ → Option A
@@ -67,3 +70,35 @@ pub numbered-map : {A : Type 0} (f : ℕ → ℕ) (k : ℕ) (l : List A) (r : �
 numbered-map f k [] r h = absurd (omega arith)
 numbered-map f k (x ∷ l) zero h = let z : k ≡ k + 0 = omega arith in ap f z
 numbered-map f k (x ∷ l) (suc r) h = let z : suc k + r ≡ k + suc r = omega arith in numbered-map f (suc k) l r (omega arith) ∙ ap f z
+
+-- ---- what each has
+pub all-map : {A : Type 0} (P Q : A → Type 0) → ((x : A) → P x → Q x) → (xs : List A) → All P xs → All Q xs
+all-map P Q f [] h = tt
+all-map P Q f (x ∷ xs) h = (f x (h .0), all-map P Q f xs (h .1))
+
+pub all-append : {A : Type 0} (P : A → Type 0) (xs ys : List A) → All P xs → All P ys → All P (xs ++ ys)
+all-append P [] ys h k = k
+all-append P (x ∷ xs) ys h k = (h .0, all-append P xs ys (h .1) k)
+
+pub all-at : {A : Type 0} (P : A → Type 0) (d : A) (xs : List A) → All P xs → (k : ℕ) → k < length xs → P (getD xs k d)
+all-at P d [] h k l = absurd (omega arith)
+all-at P d (x ∷ xs) h zero l = h .0
+all-at P d (x ∷ xs) h (suc k) l = all-at P d xs (h .1) k (omega arith)
+
+-- ---- a table of a function
+pub length-tabulate : (n : ℕ) (f : ℕ → ℕ) → length (tabulate n f) ≡ n
+unfolding tabulate
+length-tabulate zero f = refl
+length-tabulate (suc n) f = rw (length-append (tabulate n f) (f n ∷ []), length-tabulate n f) (omega arith)
+
+pub tabulate-at : (n : ℕ) (f : ℕ → ℕ) (j : ℕ) → j < n → getD (tabulate n f) j 0 ≡ f j
+unfolding tabulate
+tabulate-at zero f j h = absurd (not-suc-le-zero h)
+tabulate-at (suc n) f j h = at (tabulate-at n f j) (decLt j n)
+  where
+    at : (j < n → getD (tabulate n f) j 0 ≡ f j) → Dec (j < n) → getD (tabulate n f ++ (f n ∷ [])) j 0 ≡ f j
+    at i (yes l) = List·getD-append (tabulate n f) (f n ∷ []) 0 j (omega (arith, length-tabulate n f)) ∙ i l
+    at i (no g) =
+        ap (λ k. getD (tabulate n f ++ (f n ∷ [])) k 0) (omega (arith, length-tabulate n f))
+        ∙ getD-append-seam (tabulate n f) (f n) [] 0
+        ∙ ap f (omega arith)

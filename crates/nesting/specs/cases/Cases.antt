@@ -7,7 +7,7 @@ use Prim.Native.Nat.{ℕ, suc}
 use Prim.Native.String.{String}
 use lib.ListN.{length, getD}
 use lib.Dec.{eqb, leb}
-use Rattle.meaning.specs.Graph.{Graph, pick, return, unreachable, branch}
+use Rattle.meaning.specs.Graph.{Graph, return, unreachable, branch}
 use Rattle.format.specs.Store.{Answer, accepted, refused}
 use Rattle.format.specs.Read.{read-record}
 use Rattle.format.specs.References.{references}
@@ -22,6 +22,7 @@ use Rattle.format.specs.stores.Quick.{quick-store-words, same-store-words}
 use Rattle.nesting.specs.cases.QuickPrint.{same-numbers, numbers-same, accept-words, quick-printed, prints}
 use Rattle.nesting.specs.cases.CaseGraphs.{A, B, one-region, to, both-the-same, many-targets, regions, no-loop, one-goes-on, loop-in-loop, two-exits, renumbered, crossing, dear}
 use Rattle.meaning.specs.facts.Tests.{and-both}
+use Rattle.meaning.specs.Lists.{pick}
 
 -- What a case shows: the printed answer, and the wrapper regions of its loops, which the sheet does not name.
 pub record CaseShown : Type 0 where

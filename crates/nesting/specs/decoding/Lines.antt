@@ -4,8 +4,8 @@ use mathlib.Core.Bool.{Bool}
 use Prim.Native.Nat.{ℕ, suc}
 use lib.ListN.{getD, take}
 use lib.Dec.{eqb}
-use Rattle.meaning.specs.Lists.{concat, times-in}
-use Rattle.meaning.specs.Graph.{Instr, Code, SelectionKind, Value, const, input, instr, output, bool, undef, held, code-of, pick, Graph, no-value}
+use Rattle.meaning.specs.Lists.{concat, times-in, pick}
+use Rattle.meaning.specs.Graph.{Instr, Code, SelectionKind, Value, const, input, instr, output, bool, undef, held, code-of, Graph, no-value}
 use Rattle.meaning.specs.Runs.{SelectNode, Node, block, select, loop, exit, Nodes, ⟨⟩, _▸_, Cases, ∅, case}
 use Rattle.meaning.specs.Text.{Text, ascii, decimal}
 use Rattle.nesting.specs.Nesting.{Outcome, LazyCond, undef-cond, false-cond, true-cond, merge, LazyConds, _&_, DeferredTarget, to-region, to-return, DeferredEdgeBundle, untouched, whole, closed, leftover, Piece, Nested}

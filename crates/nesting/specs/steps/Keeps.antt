@@ -5,9 +5,9 @@ use mathlib.Core.Option.{Option, none, some}
 use Prim.Native.Nat.{ℕ, suc}
 use lib.ListN.{length}
 use lib.Dec.{ltb}
-use Rattle.meaning.specs.Graph.{Value, bool, undef, SelectionKind, bool-cond, number, ControlInst, unreachable, return, exit-invocation, branch, select-branch, Graph, region, pick}
+use Rattle.meaning.specs.Graph.{Value, bool, undef, SelectionKind, bool-cond, number, ControlInst, unreachable, return, exit-invocation, branch, select-branch, Graph, region}
 use Rattle.meaning.specs.Runs.{loop, Nodes, ⟨⟩, _▸_, Cases}
-use Rattle.meaning.specs.Lists.{any}
+use Rattle.meaning.specs.Lists.{any, pick}
 use Rattle.nesting.specs.Nesting.{exit-targets, most-merges, most-nodes, most-outputs, most-regions, LazyCond, undef-cond, false-cond, true-cond, merge, LazyConds, no-conds, _&_, DeferredEdgeBundle, DeferredEdgeBundleSet, RegionInputRewrites, replace-with, renumber-or-replace-with, RewriteEntry, NodeOutput, NestState, Step, give, _>>=_, _>>_, with-tables, with-counts, with-twice, define-region, define-node, define-merge, define-output, insert-rewrites, look-up, look-up-case, look-up-each, rewrite-values, same-values, materialize-lazy-cond, materialize-lazy-conds, ClaimedRegion, MaybeClaimedRegion, ok, err, Scrutinee, value, lazy, join, append-maybe-claimed-region, convergent-cases, without-convergent, PlannedInput, shared, merged, PlannedBundle, plan-bundles, any-needs-select, any-non-empty-case, rewrite-cases, case-regions, scrutinee-value, DefinedSelect, define-select, emit-inputs, emit-condition, emit, select-if, replace-inputs, structurize-select, structurize-select-by, take-inputs, no-inputs, loop-node, add-exit-edge, structurize-loop, claim-body, by-control-inst}
 use Rattle.nesting.specs.lookups.Rewriting.{meets}
 use Rattle.nesting.specs.steps.Post.{Post, bind, map-post, when-room}
