@@ -9,10 +9,9 @@ use Rattle.format.specs.Store.{accepted, refused}
 use Rattle.nesting.specs.cases.Computes.{nesting-computes}
 use Rattle.format.specs.stores.Pack.{store-of-graph}
 use Rattle.nesting.specs.Sheet.{answer-words}
-use Rattle.nesting.specs.decoding.Lines.{Item}
 use Rattle.nesting.specs.cases.CaseGraphs.{A, no-loop}
 use Rattle.nesting.specs.Nesting.{whole}
-use Rattle.nesting.specs.ShownForm.{ShownRegion, block-shown, select-shown, no-node, _▹_, region-shown, no-region, _▹▹_}
+use Rattle.nesting.specs.ShownForm.{ShownRegion, block-shown, select-shown, no-node, _▹_, region-shown, no-region, _▹▹_, Item}
 use Rattle.nesting.specs.decoding.DecodeForm.{read-form}
 
 -- whole figure 11 attempts 8 twice 0, then seven lines

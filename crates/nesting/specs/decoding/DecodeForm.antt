@@ -3,9 +3,9 @@ use mathlib.Core.List.{List, [], _∷_}
 use mathlib.Core.Option.{Option, none, some, bind}
 use Prim.Native.Nat.{ℕ}
 use lib.Dec.{eqb}
-use Rattle.nesting.specs.decoding.Lines.{ShownEdge, Line, region-line, block-line, select-line, loop-line, exit-line, defer-line, TypedSheet}
+use Rattle.nesting.specs.decoding.Lines.{Line, region-line, block-line, select-line, loop-line, exit-line, defer-line, TypedSheet}
 use Rattle.nesting.specs.decoding.Decode.{Got, got, nothing, next-word, read-times, read-lines, read-sheet}
-use Rattle.nesting.specs.ShownForm.{ShownNode, block-shown, select-shown, loop-shown, exit-shown, ShownNodes, no-node, _▹_, ShownRegion, region-shown, ShownRegions, no-region, _▹▹_, ShownForm}
+use Rattle.nesting.specs.ShownForm.{ShownNode, block-shown, select-shown, loop-shown, exit-shown, ShownNodes, no-node, _▹_, ShownRegion, region-shown, ShownRegions, no-region, _▹▹_, ShownForm, ShownEdge}
 use Rattle.meaning.specs.Lists.{pick}
 
 abbrev pub shown-number : ShownNode → ℕ

@@ -8,10 +8,10 @@ use Rattle.meaning.specs.Graph.{Graph}
 use Rattle.meaning.specs.Runs.{Node, block, select, loop, exit, Nodes, ⟨⟩, _▸_, Cases, ∅, case}
 use Rattle.nesting.specs.Nesting.{DeferredEdgeBundle, Outcome, untouched, whole, closed, leftover, Piece, Nested}
 use Rattle.nesting.specs.Sheet.{kids, case-numbers, ascending, sheet-of, sheet-words}
-use Rattle.nesting.specs.decoding.Lines.{ShownEdge, Line, shown-edge, typed-node, typed-nodes, typed-cases, typed-pieces, typed-edge, typed-deferred, typed-lines, typed-sheet}
+use Rattle.nesting.specs.decoding.Lines.{Line, typed-node, typed-nodes, typed-cases, typed-pieces, typed-edge, typed-deferred, typed-lines, typed-sheet}
 use Rattle.nesting.specs.decoding.LinesWritten.{sheet-written}
 use Rattle.nesting.specs.decoding.RoundTrip.{round-trip}
-use Rattle.nesting.specs.ShownForm.{ShownNodes, no-node, _▹_, ShownRegions, no-region, _▹▹_, ShownForm, shown-node, shown-nodes, shown-cases, shown-pieces, shown-deferred, shown-form}
+use Rattle.nesting.specs.ShownForm.{ShownNodes, no-node, _▹_, ShownRegions, no-region, _▹▹_, ShownForm, shown-node, shown-nodes, shown-cases, shown-pieces, shown-deferred, shown-form, ShownEdge, shown-edge}
 use Rattle.nesting.specs.decoding.DecodeForm.{shown-number, Parts, a-node, a-region, an-edge, with-nodes, with-regions, add-line, read-parts, with-edges, with-pieces, form-of, form-of-got, read-form}
 
 -- ---- parts with others in front

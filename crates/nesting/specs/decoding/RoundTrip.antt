@@ -10,10 +10,11 @@ use lib.Dec.{eqb}
 use Rattle.meaning.specs.Graph.{Graph, Code, SelectionKind, bool-cond, number}
 use Rattle.nesting.specs.Nesting.{Outcome, untouched, whole, closed, leftover, Nested}
 use Rattle.nesting.specs.Sheet.{Field, sheet-of, sheet-words, sheet-text, outcome, figure-field, a-number, number-as}
-use Rattle.nesting.specs.decoding.Lines.{ShownSelect, Item, Condition, t-cond, f-cond, u-cond, m-cond, Conditions, no-part, part, Line, region-line, block-line, select-line, loop-line, exit-line, defer-line, TypedSheet, value-field, values-field, item-field, target-field, condition-field, condition-fields, fields, words-of, lines-words, written, typed-sheet}
+use Rattle.nesting.specs.decoding.Lines.{Line, region-line, block-line, select-line, loop-line, exit-line, defer-line, TypedSheet, value-field, values-field, item-field, target-field, condition-field, condition-fields, fields, words-of, lines-words, written, typed-sheet}
 use Rattle.nesting.specs.decoding.LinesWritten.{sheet-written}
 use Rattle.nesting.specs.decoding.Decode.{Got, got, WordReader, next-word, _>>=_, decode-as, read-number, read-times, read-value, read-item, parts, read-condition, read-any-condition, read-line, read-lines, outcome-of-word, flag-of, read-sheet, text-of-got, words-text}
 use Rattle.meaning.specs.Lists.{pick, bit}
+use Rattle.nesting.specs.ShownForm.{Item, Condition, t-cond, f-cond, u-cond, m-cond, Conditions, no-part, part, ShownSelect}
 
 -- ---- one thing after another
 step : {A B : Type 0} (x : Got A) (f : A → WordReader B) (a : A) (rest : List ℕ) → x ≡ got a rest → next-word x f ≡ f a rest
