@@ -9,8 +9,8 @@ use native.Mathlib.Nat.{zero-add}
 use lib.ListN.{length, getD, length-map, List·getD-map, List·getD-eq-default}
 use lib.Dec.{eqb, ltb}
 use borrow.Author.Tests.{ltb-true, ltb-false}
-use Rattle.meaning.specs.Graph.{Graph, Value, Edge, ControlInst, region, edges-of, targets-of}
-use Rattle.format.specs.Read.{counted, word, read-value, most-targets, edges-passed, no-edge}
+use Rattle.meaning.specs.Graph.{Graph, Value, Edge, ControlInst, region, edges-of, targets-of, no-edge}
+use Rattle.format.specs.Read.{counted, word, read-value, most-targets, edges-passed}
 use Rattle.format.specs.laws.Readers.{many-at}
 use Rattle.record.specs.Parts.{counted-parts}
 use Rattle.record.specs.Stands.{words-of-record, Stands}

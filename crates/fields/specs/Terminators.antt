@@ -7,8 +7,8 @@ use Prim.Native.Nat.{ℕ, zero, suc, _+_, _≤_, _<_}
 use native.Mathlib.Omega.{arith}
 use lib.ListN.{length, getD, length-map}
 use lib.Dec.{eqb}
-use Rattle.meaning.specs.Graph.{Graph, Value, Edge, ControlInst, region, edges-of}
-use Rattle.format.specs.Read.{got, word, read-value, fewest-values, most-values, fewest-targets, most-targets, opcode-for, edges-passed, no-edge, control-inst}
+use Rattle.meaning.specs.Graph.{Graph, Value, Edge, ControlInst, region, edges-of, no-edge}
+use Rattle.format.specs.Read.{got, word, read-value, fewest-values, most-values, fewest-targets, most-targets, opcode-for, edges-passed, control-inst}
 use Rattle.format.specs.References.{values-of}
 use Rattle.format.specs.Places.{start-of-region, limit-of-region, exits-of-region}
 use Rattle.format.specs.laws.Readers.{got-value, got-place}

@@ -5,7 +5,7 @@ use Prim.Native.Nat.{ℕ, zero, suc, _+_}
 use lib.ListN.{length, getD}
 use lib.Dec.{eqb, leb, ltb}
 use Rattle.format.specs.Store.{Answer, accepted, refused, if-accepted}
-use Rattle.meaning.specs.Graph.{Value, const, input, instr, bool, undef, no-value, Instr, bool-cond, number, Edge, ControlInst, unreachable, return, exit-invocation, branch, select-branch, Region, Graph}
+use Rattle.meaning.specs.Graph.{Value, const, input, instr, bool, undef, no-value, Instr, bool-cond, number, Edge, ControlInst, unreachable, return, exit-invocation, branch, select-branch, Region, Graph, no-edge}
 use Rattle.meaning.specs.Lists.{pick, distinct-from, rank}
 
 -- What was read and the place after it, or the refusal's number.
@@ -127,9 +127,6 @@ most-targets k = pick (eqb k 5) 8 (pick (eqb k 4) 2 (pick (eqb k 3) 1 0))
 unfoldable pub edges-passed : List ℕ → List (List Value) → List Edge
 unfolding distinct-from rank
 edges-passed ts passes = map (λ t. record { target = t; inputs = getD passes (rank t (distinct-from [] ts)) [] }) ts
-
-abbrev pub no-edge : Edge
-no-edge = record { target = 0; inputs = [] }
 
 -- Kinds 0 Unreachable, 1 Return, 2 ExitInvocation, 3 Branch, 4 SelectBranch on a boolean, 5 SelectBranch on a number.
 abbrev pub control-inst : ℕ → ℕ → List Value → List Edge → ControlInst

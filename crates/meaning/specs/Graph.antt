@@ -1,5 +1,5 @@
 -- The graph that a record describes: values, instructions, regions, terminators (document 01, "store and record").
-use mathlib.Core.Bool.{Bool, _&&_}
+use mathlib.Core.Bool.{Bool, true, false, _&&_}
 use mathlib.Core.List.{List, [], _∷_, map}
 use Prim.Native.Nat.{ℕ}
 use lib.ListN.{getD}
@@ -45,6 +45,13 @@ same-code a b = eqb (a .kind) (b .kind) && (eqb (a .region) (b .region) && eqb (
 abbrev pub same-value : Value → Value → Bool
 same-value v w = same-code (code-of v) (code-of w)
 
+-- ---- Lazy conditions made real: the Rust's materialize_lazy_cond.
+abbrev pub same-values : List Value → List Value → Bool
+same-values [] [] = true
+same-values [] (w ∷ ws) = false
+same-values (v ∷ vs) [] = false
+same-values (v ∷ vs) (w ∷ ws) = same-value v w && same-values vs ws
+
 -- An instruction: its opcode, the type of its output (0: it has none), its cost, the values it reads.
 pub record Instr : Type 0 where
   pub opcode : ℕ
@@ -60,6 +67,10 @@ pub data SelectionKind : Type 0 where
 pub record Edge : Type 0 where
   pub target : ℕ
   pub inputs : List Value
+
+-- What stands at a place that has no edge.
+abbrev pub no-edge : Edge
+no-edge = record { target = 0; inputs = [] }
 
 -- The terminator of a region, the Rust's ControlInst: kinds 0 to 3, and 4 and 5 together.
 pub data ControlInst : Type 0 where

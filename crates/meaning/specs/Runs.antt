@@ -6,7 +6,7 @@ use lib.ListN.{length, getD}
 use lib.Dec.{ltb, leb}
 use mathlib.Core.Option.{Option, none, some}
 use Rattle.meaning.specs.Lists.{numbers-from, pick, bit}
-use Rattle.meaning.specs.Graph.{Value, Instr, SelectionKind, const, input, instr, output, bool, undef, held, same-value, bool-cond, number, Graph, region, Edge, ControlInst, unreachable, return, exit-invocation, branch, select-branch, no-value}
+use Rattle.meaning.specs.Graph.{Value, Instr, SelectionKind, const, input, instr, output, bool, undef, held, same-value, bool-cond, number, Graph, region, Edge, no-edge, ControlInst, unreachable, return, exit-invocation, branch, select-branch, no-value}
 
 -- ---- the nested form: sequences, selects and loops
 -- An output of a select: its number in order of definition, and its type.
@@ -156,7 +156,7 @@ GoesOn = ℕ → List Word → List Event → Option Ended
 -- The edge that a test takes; a tested mark is no end.
 abbrev pub edge-taken : SelectionKind → Word → List Edge → Option Edge
 edge-taken k mark es = none
-edge-taken k (word w) es = some (getD es (place-taken k w (length es)) (record { target = 0; inputs = [] }))
+edge-taken k (word w) es = some (getD es (place-taken k w (length es)) no-edge)
 
 abbrev pub along : GoesOn → Env → List Event → Option Edge → Option Ended
 along go σ h none = none

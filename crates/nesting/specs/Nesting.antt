@@ -6,7 +6,7 @@ use lib.ListN.{length, getD, set, take, replicate}
 use lib.Dec.{ltb, eqb}
 use mathlib.Core.Option.{Option, none, some}
 use Rattle.meaning.specs.Lists.{any, all, filter, empty, is-some, total, times-in, numbers-from, is-in, pick}
-use Rattle.meaning.specs.Graph.{Value, SelectionKind, output, const, input, instr, bool, undef, held, same-value, bool-cond, number, Instr, Region, Graph, region, edges-of, targets-of, Edge, ControlInst, unreachable, return, exit-invocation, branch, select-branch, no-value}
+use Rattle.meaning.specs.Graph.{Value, SelectionKind, output, const, input, instr, bool, undef, held, same-value, bool-cond, number, Instr, Region, Graph, region, edges-of, targets-of, Edge, ControlInst, unreachable, return, exit-invocation, branch, select-branch, no-value, same-values}
 use Rattle.meaning.specs.Runs.{Nodes, ⟨⟩, _▸_, block, select, Cases, ∅, case, loop, exit, OutputDecl, SelectNode, CaseRegion, LoopNode, Node}
 use Rattle.format.specs.References.{return-types}
 use Rattle.format.specs.Store.{accepted, refused}
@@ -109,32 +109,52 @@ abbrev pub _>>_ : {A B : Type 0} → Step A → Step B → Step B
 _>>_ x y s = follow (x s) (λ a. y)
 
 -- ---- Changes of the state, and the definitions that a limit stops (refusal 9).
--- A state by its fields, in their order.
-abbrev pub nest-state : List StructurizeRegionState → List RewriteEntry → List NodeOutput → ℕ → ℕ → ℕ → ℕ → Bool → NestState
-nest-state states rewrites outputs regions nodes merges tries met =
+pub record Counts : Type 0 where
+  pub regions : ℕ
+  pub nodes : ℕ
+  pub merges : ℕ
+  pub attempts : ℕ
+
+abbrev pub counts-of : NestState → Counts
+counts-of s = record { regions = s .region-count; nodes = s .node-count; merges = s .merge-count; attempts = s .attempts }
+
+abbrev pub nest-state : List StructurizeRegionState → List RewriteEntry → List NodeOutput → Counts → Bool → NestState
+nest-state states rewrites outputs counts met =
     record {
       region-states = states;
       region-input-rewrites = rewrites;
       node-outputs = outputs;
-      region-count = regions;
-      node-count = nodes;
-      merge-count = merges;
-      attempts = tries;
+      region-count = counts .regions;
+      node-count = counts .nodes;
+      merge-count = counts .merges;
+      attempts = counts .attempts;
       twice = met;
     }
 
 abbrev pub with-tables : List StructurizeRegionState → List RewriteEntry → List NodeOutput → NestState → NestState
-with-tables states rewrites outputs s =
-    nest-state states rewrites outputs (s .region-count) (s .node-count) (s .merge-count) (s .attempts) (s .twice)
+with-tables states rewrites outputs s = nest-state states rewrites outputs (counts-of s) (s .twice)
 
-abbrev pub with-counts : ℕ → ℕ → ℕ → ℕ → NestState → NestState
-with-counts regions nodes merges tries s =
-    nest-state (s .region-states) (s .region-input-rewrites) (s .node-outputs) regions nodes merges tries (s .twice)
+abbrev pub with-counts : Counts → NestState → NestState
+with-counts counts s = nest-state (s .region-states) (s .region-input-rewrites) (s .node-outputs) counts (s .twice)
 
 abbrev pub with-twice : Bool → NestState → NestState
-with-twice x s =
-    nest-state (s .region-states) (s .region-input-rewrites) (s .node-outputs)
-    (s .region-count) (s .node-count) (s .merge-count) (s .attempts) (s .twice || x)
+with-twice x s = nest-state (s .region-states) (s .region-input-rewrites) (s .node-outputs) (counts-of s) (s .twice || x)
+
+abbrev pub one-more-region : NestState → NestState
+one-more-region s =
+    with-counts (record { regions = suc (s .region-count); nodes = s .node-count; merges = s .merge-count; attempts = s .attempts }) s
+
+abbrev pub one-more-node : NestState → NestState
+one-more-node s =
+    with-counts (record { regions = s .region-count; nodes = suc (s .node-count); merges = s .merge-count; attempts = s .attempts }) s
+
+abbrev pub one-more-merge : NestState → NestState
+one-more-merge s =
+    with-counts (record { regions = s .region-count; nodes = s .node-count; merges = suc (s .merge-count); attempts = s .attempts }) s
+
+abbrev pub one-more-attempt : NestState → NestState
+one-more-attempt s =
+    with-counts (record { regions = s .region-count; nodes = s .node-count; merges = s .merge-count; attempts = suc (s .attempts) }) s
 
 -- Document 01's limits: regions, nodes, lazy condition records, node outputs.
 abbrev pub most-regions : ℕ
@@ -154,20 +174,14 @@ abbrev pub define : {A : Type 0} → ℕ → ℕ → A → NestState → StepAns
 define n limit a s = elim (ltb n limit) [ true ↦ done a s | false ↦ turned-away 9 0 ]
 
 unfoldable pub define-region : Step ℕ
-define-region s =
-    define (s .region-count) most-regions (s .region-count)
-    (with-counts (suc (s .region-count)) (s .node-count) (s .merge-count) (s .attempts) s)
+define-region s = define (s .region-count) most-regions (s .region-count) (one-more-region s)
 
 unfoldable pub define-node : Step ℕ
-define-node s =
-    define (s .node-count) most-nodes (s .node-count)
-    (with-counts (s .region-count) (suc (s .node-count)) (s .merge-count) (s .attempts) s)
+define-node s = define (s .node-count) most-nodes (s .node-count) (one-more-node s)
 
 -- A lazy condition record, the Rust's LazyCondMerge.
 unfoldable pub define-merge : Step Unit
-define-merge s =
-    define (s .merge-count) most-merges tt
-    (with-counts (s .region-count) (s .node-count) (suc (s .merge-count)) (s .attempts) s)
+define-merge s = define (s .merge-count) most-merges tt (one-more-merge s)
 
 -- An output of a node, of this type, with its value in each case.
 unfoldable pub define-output : ℕ → ℕ → List Value → Step Value
@@ -184,7 +198,7 @@ set-state r x s = done tt (with-tables (set (s .region-states) r x) (s .region-i
 
 -- Document 01's attempt: one call of try-claim-edge-bundle.
 abbrev pub count-attempt : Step Unit
-count-attempt s = done tt (with-counts (s .region-count) (s .node-count) (s .merge-count) (suc (s .attempts)) s)
+count-attempt s = done tt (one-more-attempt s)
 
 abbrev pub insert-rewrites : ℕ → RegionInputRewrites → Step Unit
 insert-rewrites r x s =
@@ -266,13 +280,6 @@ note x s = done (x .value) (with-twice (x .twice) s)
 
 unfoldable pub rewrite-values : List Value → Step (List Value)
 rewrite-values vs s = note (look-up-each (look-up (s .region-input-rewrites)) vs) s
-
--- ---- Lazy conditions made real: the Rust's materialize_lazy_cond.
-abbrev pub same-values : List Value → List Value → Bool
-same-values [] [] = true
-same-values [] (w ∷ ws) = false
-same-values (v ∷ vs) [] = false
-same-values (v ∷ vs) (w ∷ ws) = same-value v w && same-values vs ws
 
 -- A boolean [true, false] is the scrutinee itself; anything else is a new output of the select, of type boolean.
 unfoldable mutual
@@ -632,20 +639,18 @@ pub record LoopInputs : Type 0 where
 abbrev pub no-inputs : LoopInputs
 no-inputs = record { rewrites = []; initial-inputs = []; types = []; outputs = [] }
 
-abbrev pub keep-input : ℕ → ℕ → ℕ → Value → LoopInputs → LoopInputs  -- wrapper region, input, its type, the value passed back
-keep-input wrapper k ty v x =
-    let number = renumber-to (length (x .initial-inputs)) in
-    let initial = x .initial-inputs ++ (input wrapper k ∷ []) in
+abbrev pub keep-input : Value → ℕ → Value → LoopInputs → LoopInputs  -- the value from outside, its type, the value passed back
+keep-input initial ty v x =
     record {
-      rewrites = x .rewrites ++ (number ∷ []);
-      initial-inputs = initial;
+      rewrites = x .rewrites ++ (renumber-to (length (x .initial-inputs)) ∷ []);
+      initial-inputs = x .initial-inputs ++ (initial ∷ []);
       types = x .types ++ (ty ∷ []);
       outputs = x .outputs ++ (v ∷ []);
     }
 
-abbrev pub lift-input : ℕ → ℕ → LoopInputs → LoopInputs
-lift-input wrapper k x =
-    let lifted = x .rewrites ++ (replace-by (input wrapper k) ∷ []) in
+abbrev pub lift-input : Value → LoopInputs → LoopInputs
+lift-input initial x =
+    let lifted = x .rewrites ++ (replace-by initial ∷ []) in
     record { rewrites = lifted; initial-inputs = x .initial-inputs; types = x .types; outputs = x .outputs }
 
 -- A claimed loop adds ONE to each deferred target in its exit list, once.
@@ -654,16 +659,18 @@ add-exit-edge xs e =
     let more : ℕ → IncomingEdgeCount = λ r. pick (is-in r xs) (suc (e .accumulated-count)) (e .accumulated-count) in
     elim (e .target) [ to-region r ↦ edge-bundle (to-region r) (more r) (e .target-inputs) (e .condition) | to-return ↦ e ]
 
+-- Of header r: an input that is passed back unchanged is lifted out of the loop.
+module _ (g : Graph) (r wrapper : ℕ) where
+  abbrev pub take-input : ℕ → Value → LoopInputs → LoopInputs
+  take-input k v x =
+      let initial = input wrapper k in
+      pick (same-value v (input r k)) (lift-input initial x) (keep-input initial (getD (region g r .inputs) k 0) v x)
+
+  abbrev pub take-inputs : ℕ → List Value → LoopInputs → LoopInputs
+  take-inputs k [] x = x
+  take-inputs k (v ∷ vs) x = take-inputs (suc k) vs (take-input k v x)
+
 module _ (g : Graph) where
-  -- An input that is passed back unchanged is lifted out of the loop.
-  abbrev pub take-input : ℕ → ℕ → ℕ → Value → LoopInputs → LoopInputs
-  take-input r wrapper k v x =
-      pick (same-value v (input r k)) (lift-input wrapper k x) (keep-input wrapper k (getD (region g r .inputs) k 0) v x)
-
-  abbrev pub take-inputs : ℕ → ℕ → ℕ → List Value → LoopInputs → LoopInputs
-  take-inputs r wrapper k [] x = x
-  take-inputs r wrapper k (v ∷ vs) x = take-inputs r wrapper (suc k) vs (take-input r wrapper k v x)
-
   abbrev pub loop-node : ℕ → ℕ → LoopInputs → Value → LoopNode  -- number, header, its inputs taken, repeat value
   loop-node n r x v =
       let limit = region g r .limit in
@@ -676,7 +683,7 @@ module _ (g : Graph) where
   structurize-loop body children backedge repeat exits inputs = do
     wrapper ← define-region
     vs ← rewrite-values (backedge .target-inputs)
-    let x = take-inputs body wrapper 0 vs no-inputs
+    let x = take-inputs g body wrapper 0 vs no-inputs
     insert-rewrites body (renumber-or-replace-with (x .rewrites))
     v ← materialize-lazy-cond repeat
     n ← define-node
@@ -871,7 +878,9 @@ pub record Nested : Type 0 where
 
 -- ---- The entry is claimed, and what comes of it is the answer.
 abbrev pub initial-state : Graph → NestState
-initial-state g = nest-state (replicate (length (g .regions)) not-begun) [] [] (length (g .regions)) (block-count (g .regions)) 0 0 false
+initial-state g =
+    let counts : Counts = record { regions = length (g .regions); nodes = block-count (g .regions); merges = 0; attempts = 0 } in
+    nest-state (replicate (length (g .regions)) not-begun) [] [] counts false
 
 -- Whole if the deferred set is Always Return, closed if it is Unreachable.
 abbrev pub outcome-of : DeferredEdgeBundleSet → Outcome

@@ -8,10 +8,10 @@ use Prim.Native.Nat.{_≤_, suc, ℕ}
 use native.Mathlib.Omega.{arith}
 use lib.Dec.{ltb}
 use lib.ListN.{length}
-use Rattle.meaning.specs.Graph.{SelectionKind, Value, bool, bool-cond, number, output}
+use Rattle.meaning.specs.Graph.{SelectionKind, Value, bool, bool-cond, number, output, same-values}
 use Rattle.nesting.specs.steps.Keeps.{Steady, define-merge-keeps}
 use Rattle.meaning.specs.facts.Tests.{clash}
-use Rattle.nesting.specs.Nesting.{most-nodes, most-outputs, most-regions, define-merge, define-node, define-output, define-region, materialize-lazy-cond, materialize-lazy-conds, same-values, DeferredEdgeBundleSet, LazyCond, LazyConds, _&_, false-cond, merge, true-cond, undef-cond, no-conds, PlannedBundle, PlannedInput, merged, shared, DefinedSelect, emit, emit-condition, emit-inputs, StepAnswer, NestState, NodeOutput, give}
+use Rattle.nesting.specs.Nesting.{most-nodes, most-outputs, most-regions, define-merge, define-node, define-output, define-region, materialize-lazy-cond, materialize-lazy-conds, DeferredEdgeBundleSet, LazyCond, LazyConds, _&_, false-cond, merge, true-cond, undef-cond, no-conds, PlannedBundle, PlannedInput, merged, shared, DefinedSelect, emit, emit-condition, emit-inputs, StepAnswer, NestState, NodeOutput, give}
 use Rattle.nesting.specs.steps.RegionsLeft.{AnyRefusal}
 use Rattle.nesting.specs.steps.Post.{Post, bind, map-post, when-room}
 use Rattle.meaning.specs.facts.Elements.{nth-last}

@@ -119,16 +119,16 @@ module _ (g : Graph) where
       nil : (l : List Value) → l ≡ l ++ []
       nil l = sym (append-nil l)
 
-      go : (b : Bool) → same-value v (input r k) ≡ b → Renumbered r w all (suc k) (pick b (lift-input w k x) (keep-input w k ty v x))
+      go : (b : Bool) → same-value v (input r k) ≡ b → Renumbered r w all (suc k) (pick b (lift-input (input w k) x) (keep-input (input w k) ty v x))
       go true e = record {
         many = len (replace-by (input w k));
         even = h .even;
-        good = rewrite-at (replace-by (input w k)) (lift-input w k x) [] [] refl (nil (x .initial-inputs)) (nil (x .outputs)) (refl, at ∙ same-value→eq v (input r k) e);
+        good = rewrite-at (replace-by (input w k)) (lift-input (input w k) x) [] [] refl (nil (x .initial-inputs)) (nil (x .outputs)) (refl, at ∙ same-value→eq v (input r k) e);
       }
       go false e = record {
         many = len (renumber-to (length (x .initial-inputs)));
         even = length-append (x .initial-inputs) _ ∙ ap (λ n. n + 1) (h .even) ∙ sym (length-append (x .outputs) _);
-        good = rewrite-at (renumber-to (length (x .initial-inputs))) (keep-input w k ty v x) (input w k ∷ []) (v ∷ []) refl refl refl (
+        good = rewrite-at (renumber-to (length (x .initial-inputs))) (keep-input (input w k) ty v x) (input w k ∷ []) (v ∷ []) refl refl refl (
           (let z : length (x .initial-inputs ++ (input w k ∷ [])) ≡ length (x .initial-inputs) + 1 = length-append (x .initial-inputs) (input w k ∷ []) in omega (arith, z)),
           getD-last (x .initial-inputs) (input w k) (undef 0),
           (let z : length (x .outputs ++ (v ∷ [])) ≡ length (x .outputs) + 1 = length-append (x .outputs) (v ∷ []) in omega (arith, z, h .even)),

@@ -105,7 +105,7 @@ module _ (g : Graph) (r : ℕ) where
   unfolding target-right
   targets-right es h =
       all-map (λ (e : Edge). target-right g r e ≡ accepted tt) (λ (e : Edge). e .target < length (g .regions))
-      (λ e q. ltb-true (e .target) (length (g .regions)) (expected 6 r (is-region g r (e .target)) q)) es (each-all (target-right g r) es h)
+      (λ e q. ltb-true (e .target) (length (g .regions)) (expected 6 r (is-region g (e .target)) q)) es (each-all (target-right g r) es h)
 
   edges-valid : (es : List Edge) → SamePasses es → first-refusal (target-right g r) es ≡ accepted tt → first-refusal (edge-right g r) (first-edges [] es) ≡ accepted tt → All (ValidEdge g r) es
   edges-valid es same h k =
@@ -151,12 +151,12 @@ module _ (g : Graph) (r : ℕ) where
   unfolding exits-right
   exits-valid seen [] h = record { regions = tt; new = tt; distinct = tt }
   exits-valid seen (x ∷ xs) h =
-      let a = step (refuse-unless 6 r (is-region g r x)) _ tt h in
+      let a = step (refuse-unless 6 r (is-region g x)) _ tt h in
       let b = step (refuse-unless 8 r (not (is-in x seen))) _ tt (a .second) in
       let rest = exits-valid (x ∷ seen) xs (b .second) in
       let apart = not-in x seen xs (rest .new) in
       record {
-        regions = (ltb-true x (length (g .regions)) (expected 6 r (is-region g r x) (a .first)), rest .regions);
+        regions = (ltb-true x (length (g .regions)) (expected 6 r (is-region g x) (a .first)), rest .regions);
         new = (not-true (is-in x seen) (expected 8 r (not (is-in x seen)) (b .first)), apart .1);
         distinct = (apart .0, rest .distinct);
       }
@@ -197,10 +197,10 @@ regions-valid g r (x ∷ xs) w h (suc k) l =
 graph-valid : (g : Graph) → RecordRead g → references g ≡ accepted tt → Valid g
 unfolding references
 graph-valid g w h =
-    let a = step (refuse-unless 6 0 (is-region g 0 (g .entry))) _ tt h in
+    let a = step (refuse-unless 6 0 (is-region g (g .entry))) _ tt h in
     record {
       count = w .count;
-      entry = ltb-true (g .entry) (length (g .regions)) (expected 6 0 (is-region g 0 (g .entry)) (a .first));
+      entry = ltb-true (g .entry) (length (g .regions)) (expected 6 0 (is-region g (g .entry)) (a .first));
       constants-few = w .constants .count .1;
       constants = w .constants .all;
       regions = λ r l. let same : 0 + r ≡ r = omega arith in rw same at (regions-valid g 0 (g .regions) (w .regions) (a .second) r l);

@@ -139,7 +139,7 @@ module _ (g : Graph) (r : ℕ) (l : r < 32) where
 
   target-range : (e : Edge) → InRange (target-right g r e)
   unfolding target-right
-  target-range e = expect-range 6 r (is-region g r (e .target)) (omega arith, omega arith) l
+  target-range e = expect-range 6 r (is-region g (e .target)) (omega arith, omega arith) l
 
   edge-range : (e : Edge) → InRange (edge-right g r e)
   unfolding edge-right
@@ -149,7 +149,7 @@ module _ (g : Graph) (r : ℕ) (l : r < 32) where
   unfolding exits-right
   exits-range seen [] = tt
   exits-range seen (x ∷ xs) =
-      then-range (refuse-unless 6 r (is-region g r x)) _ (expect-range 6 r (is-region g r x) (omega arith, omega arith) l) λ u e.
+      then-range (refuse-unless 6 r (is-region g x)) _ (expect-range 6 r (is-region g x) (omega arith, omega arith) l) λ u e.
       then-range (refuse-unless 8 r (not (is-in x seen))) _ (expect-range 8 r (not (is-in x seen)) (omega arith, omega arith) l) λ w f.
       exits-range (x ∷ seen) xs
 
@@ -171,7 +171,7 @@ each-region-range g r (x ∷ xs) l =
 references-range : (g : Graph) → length (g .regions) ≤ 32 → InRange (references g)
 unfolding references
 references-range g l =
-    then-range (refuse-unless 6 0 (is-region g 0 (g .entry))) _ (expect-range 6 0 (is-region g 0 (g .entry)) (omega arith, omega arith) (omega arith)) λ u e.
+    then-range (refuse-unless 6 0 (is-region g (g .entry))) _ (expect-range 6 0 (is-region g (g .entry)) (omega arith, omega arith) (omega arith)) λ u e.
     each-region-range g 0 (g .regions) (omega arith)
 
 pub refusal-range : (s : List ℕ) → InRange (accept s)
