@@ -130,7 +130,8 @@ module _ (g : Graph) (r : ℕ) where
   unfoldable pub exits-right : List ℕ → List ℕ → Answer Unit
   exits-right seen [] = accepted tt
   exits-right seen (x ∷ xs) =
-      if-accepted (refuse-unless 6 r (is-region g x)) λ _. if-accepted (refuse-unless 8 r (not (is-in x seen))) λ _. exits-right (x ∷ seen) xs
+      if-accepted (refuse-unless 6 r (is-region g x)) λ _.
+      if-accepted (refuse-unless 8 r (not (is-in x seen))) λ _. exits-right (x ∷ seen) xs
 
   unfoldable pub region-right : Region → Answer Unit
   unfolding reads-right instructions values-right first-refusal target-right edge-right first-edges exits-right

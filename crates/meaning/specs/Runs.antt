@@ -219,8 +219,7 @@ copied given vs s = record { env = given (map (s .env) vs) (s .env); events = s 
 abbrev pub assign-inputs : ℕ → List Value → RunState → RunState
 assign-inputs r vs s = copied (put-inputs (λ k. input r k) 0) vs s
 
--- At the end of its last turn a loop copies the body's outputs too, to nowhere: later uses see the inputs of that turn.
--- It is a place for a cost; today a copy has none.
+-- After its last turn a loop copies the body's outputs to nowhere, a place for a cost (today none): later uses see that turn's inputs.
 abbrev pub leave-loop : List Value → RunState → RunState
 leave-loop vs s = copied (λ ws σ. σ) vs s
 

@@ -9,8 +9,7 @@ use Rattle.meaning.specs.Lists.{any, all, filter, empty, is-some, total, times-
 use Rattle.meaning.specs.Graph.{Value, SelectionKind, output, const, input, instr, bool, undef, held, same-value, bool-cond, number, Instr, Region, Graph, region, edges-of, targets-of, Edge, ControlInst, unreachable, return, exit-invocation, branch, select-branch, no-value, same-values}
 use Rattle.meaning.specs.Runs.{Nodes, ⟨⟩, _▸_, block, select, Cases, ∅, case, loop, exit, OutputDecl, SelectNode, CaseRegion, LoopNode, Node}
 use Rattle.format.specs.References.{return-types}
-use Rattle.format.specs.Store.{accepted, refused}
-use Rattle.format.specs.Store
+use Rattle.format.specs.Store.{Answer, accepted, refused}
 
 -- ---- Deferred edges: what a region could not claim, each with the condition under which it is taken.
 -- A number of edges. It counts edges only and is never an index.
@@ -109,11 +108,8 @@ abbrev pub _>>_ : {A B : Type 0} → Step A → Step B → Step B
 _>>_ x y s = follow (x s) (λ a. y)
 
 -- ---- Changes of the state, and the definitions that a limit stops (refusal 9).
-pub record Counts : Type 0 where
-  pub regions : ℕ
-  pub nodes : ℕ
-  pub merges : ℕ
-  pub attempts : ℕ
+abbrev pub Counts : Type 0
+Counts = record { regions : ℕ; nodes : ℕ; merges : ℕ; attempts : ℕ }
 
 abbrev pub counts-of : NestState → Counts
 counts-of s = record { regions = s .region-count; nodes = s .node-count; merges = s .merge-count; attempts = s .attempts }
@@ -134,27 +130,23 @@ nest-state states rewrites outputs counts met =
 abbrev pub with-tables : List StructurizeRegionState → List RewriteEntry → List NodeOutput → NestState → NestState
 with-tables states rewrites outputs s = nest-state states rewrites outputs (counts-of s) (s .twice)
 
-abbrev pub with-counts : Counts → NestState → NestState
-with-counts counts s = nest-state (s .region-states) (s .region-input-rewrites) (s .node-outputs) counts (s .twice)
+abbrev pub with-counts : (Counts → Counts) → NestState → NestState
+with-counts f s = nest-state (s .region-states) (s .region-input-rewrites) (s .node-outputs) (f (counts-of s)) (s .twice)
 
 abbrev pub with-twice : Bool → NestState → NestState
 with-twice x s = nest-state (s .region-states) (s .region-input-rewrites) (s .node-outputs) (counts-of s) (s .twice || x)
 
-abbrev pub one-more-region : NestState → NestState
-one-more-region s =
-    with-counts (record { regions = suc (s .region-count); nodes = s .node-count; merges = s .merge-count; attempts = s .attempts }) s
+abbrev pub add-region : NestState → NestState
+add-region s = with-counts (λ c. record { regions = suc (c .regions); nodes = c .nodes; merges = c .merges; attempts = c .attempts }) s
 
-abbrev pub one-more-node : NestState → NestState
-one-more-node s =
-    with-counts (record { regions = s .region-count; nodes = suc (s .node-count); merges = s .merge-count; attempts = s .attempts }) s
+abbrev pub add-node : NestState → NestState
+add-node s = with-counts (λ c. record { regions = c .regions; nodes = suc (c .nodes); merges = c .merges; attempts = c .attempts }) s
 
-abbrev pub one-more-merge : NestState → NestState
-one-more-merge s =
-    with-counts (record { regions = s .region-count; nodes = s .node-count; merges = suc (s .merge-count); attempts = s .attempts }) s
+abbrev pub add-merge : NestState → NestState
+add-merge s = with-counts (λ c. record { regions = c .regions; nodes = c .nodes; merges = suc (c .merges); attempts = c .attempts }) s
 
-abbrev pub one-more-attempt : NestState → NestState
-one-more-attempt s =
-    with-counts (record { regions = s .region-count; nodes = s .node-count; merges = s .merge-count; attempts = suc (s .attempts) }) s
+abbrev pub add-attempt : NestState → NestState
+add-attempt s = with-counts (λ c. record { regions = c .regions; nodes = c .nodes; merges = c .merges; attempts = suc (c .attempts) }) s
 
 -- Document 01's limits: regions, nodes, lazy condition records, node outputs.
 abbrev pub most-regions : ℕ
@@ -174,14 +166,14 @@ abbrev pub define : {A : Type 0} → ℕ → ℕ → A → NestState → StepAns
 define n limit a s = elim (ltb n limit) [ true ↦ done a s | false ↦ turned-away 9 0 ]
 
 unfoldable pub define-region : Step ℕ
-define-region s = define (s .region-count) most-regions (s .region-count) (one-more-region s)
+define-region s = define (s .region-count) most-regions (s .region-count) (add-region s)
 
 unfoldable pub define-node : Step ℕ
-define-node s = define (s .node-count) most-nodes (s .node-count) (one-more-node s)
+define-node s = define (s .node-count) most-nodes (s .node-count) (add-node s)
 
 -- A lazy condition record, the Rust's LazyCondMerge.
 unfoldable pub define-merge : Step Unit
-define-merge s = define (s .merge-count) most-merges tt (one-more-merge s)
+define-merge s = define (s .merge-count) most-merges tt (add-merge s)
 
 -- An output of a node, of this type, with its value in each case.
 unfoldable pub define-output : ℕ → ℕ → List Value → Step Value
@@ -198,12 +190,11 @@ set-state r x s = done tt (with-tables (set (s .region-states) r x) (s .region-i
 
 -- Document 01's attempt: one call of try-claim-edge-bundle.
 abbrev pub count-attempt : Step Unit
-count-attempt s = done tt (one-more-attempt s)
+count-attempt s = done tt (add-attempt s)
 
 abbrev pub insert-rewrites : ℕ → RegionInputRewrites → Step Unit
 insert-rewrites r x s =
-    let entry : RewriteEntry = record { region = r; rewrites = x } in
-    done tt (with-tables (s .region-states) (s .region-input-rewrites ++ (entry ∷ [])) (s .node-outputs) s)
+    done tt (with-tables (s .region-states) (s .region-input-rewrites ++ (record { region = r; rewrites = x } ∷ [])) (s .node-outputs) s)
 
 -- ---- Look-ups, the Rust's RegionInputRewrites::rewrite_all, with document 01's mark; and the note `twice`.
 abbrev pub rewrites-of : List RewriteEntry → ℕ → Option RegionInputRewrites
@@ -505,15 +496,15 @@ abbrev pub any-non-empty-case : List MaybeClaimedRegion → Bool
 any-non-empty-case cs = any (λ c. elim c [ err d ↦ false | ok x ↦ has-children (x .children) ]) cs
 
 -- ---- The Rust's structurize_select_into: plan, define the select if it is needed, emit what it defers, replace inputs.
--- The values of the cases, each looked up. `condition` gives the bundle's condition.
+-- The values of the cases, each looked up. `cond` gives the bundle's condition.
 abbrev pub look-up-bundle : (Value → LookUp Value) → (DeferredEdgeBundle → LazyCond) → DeferredEdgeBundle → LookUp DeferredEdgeBundle
-look-up-bundle ρ condition e = plain (edge-bundle (e .target) (e .accumulated-count)) ⊛ look-up-each ρ (e .target-inputs) ⊛ plain (condition e)
+look-up-bundle ρ cond e = plain (edge-bundle (e .target) (e .accumulated-count)) ⊛ look-up-each ρ (e .target-inputs) ⊛ plain (cond e)
 
 abbrev pub look-up-case : (Value → LookUp Value) → MaybeClaimedRegion → LookUp MaybeClaimedRegion
 look-up-case ρ (err d) = plain err ⊛ look-up-each (look-up-bundle ρ (λ e. e .condition)) d
 look-up-case ρ (ok c) =
-    let claimed-at = plain (claimed-as (c .origin) (c .structured-body)) ⊛ look-up-each ρ (c .structured-body-inputs) ⊛ plain (c .children) in
-    plain ok ⊛ (claimed-at ⊛ look-up-each (look-up-bundle ρ (λ e. e .condition)) (c .deferred-edges))
+    let front = plain (claimed-as (c .origin) (c .structured-body)) ⊛ look-up-each ρ (c .structured-body-inputs) ⊛ plain (c .children) in
+    plain ok ⊛ (front ⊛ look-up-each (look-up-bundle ρ (λ e. e .condition)) (c .deferred-edges))
 
 unfoldable pub rewrite-cases : List MaybeClaimedRegion → Step (List MaybeClaimedRegion)
 rewrite-cases cs s = note (look-up-each (look-up-case (look-up (s .region-input-rewrites))) cs) s
@@ -794,8 +785,7 @@ module _ (g : Graph) where
       y ← resolve-deferred (length (g .regions)) x
       set-state r (ready (count-to r (y .deferred-edges)) (y .children) (y .deferred-edges))
 
-  -- `counts` are the incoming counts. What falls is the number of regions not begun; fuel is one more, so
-  -- refusal 0 is never met (`refused-nine`).
+  -- `counts` are the incoming counts. Fuel is one more than the regions not begun, so refusal 0 is never met (`refused-nine`).
   unfoldable pub try-claim-edge-bundle : List IncomingEdgeCount → ℕ → Claim
   try-claim-edge-bundle counts zero r n inputs = turn-away 0 r
   try-claim-edge-bundle counts (suc fuel) r n inputs =
@@ -815,8 +805,7 @@ case-outputs n j os = map (λ o. getD (o .values) j (undef 0)) (filter (λ o. eq
 
 abbrev pub look-up-reads : (Value → LookUp Value) → Instr → LookUp Instr
 look-up-reads ρ i =
-    let vs = look-up-each ρ (i .reads) in
-    record { value = record { opcode = i .opcode; type = i .type; cost = i .cost; reads = vs .value }; twice = vs .twice }
+    plain (λ vs. record { opcode = i .opcode; type = i .type; cost = i .cost; reads = vs }) ⊛ look-up-each ρ (i .reads)
 
 abbrev pub with-values : LoopNode → List Value → List Value → Value → LoopNode  -- initial inputs, outputs, repeat value
 with-values x vs us v =
@@ -826,14 +815,11 @@ with-values x vs us v =
 module _ (ρ : Value → LookUp Value) (os : List NodeOutput) where
   abbrev pub look-up-select : SelectNode → LookUp SelectNode
   look-up-select x =
-      let v = ρ (x .scrutinee) in
       let outputs = output-decls (x .number) 0 os in
-      record { value = record { number = x .number; kind = x .kind; scrutinee = v .value; outputs = outputs }; twice = v .twice }
+      plain (λ v. record { number = x .number; kind = x .kind; scrutinee = v; outputs = outputs }) ⊛ ρ (x .scrutinee)
 
   abbrev pub look-up-case-region : CaseRegion → ℕ → ℕ → LookUp CaseRegion  -- of node n, at place j
-  look-up-case-region c n j =
-      let vs = look-up-each ρ (case-outputs n j os) in
-      record { value = record { region = c .region; outputs = vs .value }; twice = vs .twice }
+  look-up-case-region c n j = plain (λ vs. record { region = c .region; outputs = vs }) ⊛ look-up-each ρ (case-outputs n j os)
 
   abbrev pub look-up-loop : LoopNode → LookUp LoopNode
   look-up-loop x = plain (with-values x) ⊛ look-up-each ρ (x .initial-inputs) ⊛ look-up-each ρ (x .outputs) ⊛ ρ (x .repeat)
@@ -910,14 +896,13 @@ module _ (g : Graph) (s : NestState) where
   conclude-with outcome entry unclaimed =
       let x = look-up-piece entry in
       let xs = look-up-each look-up-piece unclaimed in
-      let nodes = map (λ o. o .node) (s .node-outputs) in
       record {
         outcome = outcome;
         attempts = s .attempts;
         twice = s .twice || (x .twice || xs .twice);
         entry = x .value;
         unclaimed = xs .value;
-        output-nodes = nodes;
+        output-nodes = map (λ o. o .node) (s .node-outputs);
       }
 
   -- A whole form returns the values of its one deferred edge; a leftover also gives the Ready regions that no one claimed.
@@ -928,13 +913,13 @@ module _ (g : Graph) (s : NestState) where
   conclude-by children d leftover = conclude-with leftover (piece g (g .entry) children [] d) (unclaimed-from g 0 (s .region-states))
 
 -- The entry is always claimed, for its incoming count is 1: refusal 0 is never met (`refused-nine`).
-unfoldable pub conclude : Graph → StepAnswer (Option ClaimedRegion) → Store.Answer Nested
+unfoldable pub conclude : Graph → StepAnswer (Option ClaimedRegion) → Answer Nested
 conclude g (turned-away n w) = refused n w
 conclude g (done none s) = refused 0 0
 conclude g (done (some c) s) = accepted (conclude-by g s (c .children) (c .deferred-edges) (outcome-of (c .deferred-edges)))
 
 -- An untouched record has an entry count other than 1: nothing is structurized.
-unfoldable pub structurize-func-by : Graph → List IncomingEdgeCount → Store.Answer Nested
+unfoldable pub structurize-func-by : Graph → List IncomingEdgeCount → Answer Nested
 structurize-func-by g counts =
     elim (eqb (getD counts (g .entry) 0) 1) [
       | false ↦ accepted (conclude-by g (initial-state g) ⟨⟩ [] untouched)
@@ -942,5 +927,5 @@ structurize-func-by g counts =
     ]
 
 -- The Rust's structurize_func, with the incoming counts of the graph.
-unfoldable pub structurize-func : Graph → Store.Answer Nested
+unfoldable pub structurize-func : Graph → Answer Nested
 structurize-func g = structurize-func-by g (incoming-edge-counts g)

@@ -72,8 +72,7 @@ abbrev pub kind : SelectionKind → Field
 kind bool-cond = number-as 0 "bool"
 kind number = number-as 1 "num"
 
--- The target Return prints `return` and is 65,535 as a word. That word prints so in any case; no region of an
--- accepted store has it for a number (`accept-valid`).
+-- The target Return prints `return` and is 65,535 as a word, which is no number of a region that is accepted (`accept-valid`).
 abbrev pub target : DeferredTarget → Field
 target to-return = number-as 65535 "return"
 target (to-region r) = pick (eqb r 65535) (number-as r "return") (a-number r)

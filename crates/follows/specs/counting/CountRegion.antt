@@ -12,7 +12,7 @@ use borrow.Author.Tests.{eqb-true}
 use Rattle.meaning.specs.Graph.{bool-cond, Edge, region, edges-of}
 use Rattle.meaning.specs.Lists.{is-in}
 use Rattle.meaning.specs.facts.Tests.{clash}
-use Rattle.nesting.specs.Nesting.{to-region, StructurizeRegionState, not-begun, in-progress, claimed, ready, NestState, follow, get-state, condition-in, count-to, MaybeClaimedRegion, ok, err, lazy, Body, blocks-of, structurize-select-into, Claim, SplitOut, begin, claim-by-state, by-control-inst, resolve-by, target-regions, split-out-matching, resolve-deferred, structurize-region, try-claim-edge-bundle, one-more-attempt}
+use Rattle.nesting.specs.Nesting.{to-region, StructurizeRegionState, not-begun, in-progress, claimed, ready, NestState, follow, get-state, condition-in, count-to, MaybeClaimedRegion, ok, err, lazy, Body, blocks-of, structurize-select-into, Claim, SplitOut, begin, claim-by-state, by-control-inst, resolve-by, target-regions, split-out-matching, resolve-deferred, structurize-region, try-claim-edge-bundle, add-attempt}
 use Rattle.nesting.specs.steps.Post.{Post, map-post, bind}
 use Rattle.nesting.specs.steps.StatesKept.{still-refl}
 use Rattle.nesting.specs.steps.RegionsLeft.{count-set, not-begun-one, state-of, with-state}
@@ -180,7 +180,7 @@ module _ (K : Counting) where
   claim-counted (suc fuel) q n inputs H s in-q pos pre =
       let f : ℕ → ℕ = λ r. edges-to r (to-region q) n in
       let claim : Claim = λ r′ n′ inputs′. try-claim-edge-bundle (K .g) (K .counts) fuel r′ n′ inputs′ in
-      let s₀ = one-more-attempt s in
+      let s₀ = add-attempt s in
       let st₀ : Counted K 1 0 f f s s₀ = record { inv = pre .inv; paid = omega arith; begun = omega arith; kept = λ r. omega arith; stay = λ r. refl } in
       let pre₀ = pre-after K pre st₀ in
       bind (follow (begin (state-of s q) (structurize-region (K .g) claim q) s₀) (λ u. get-state q)) (claim-by-state (K .g) q n inputs (getD (K .counts) q 0))

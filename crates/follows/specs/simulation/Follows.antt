@@ -18,7 +18,7 @@ use Rattle.format.specs.Valid.{Valid}
 use Rattle.format.specs.Store
 use Rattle.format.specs.Store.{accepted}
 use Rattle.nesting.specs.lookups.Contexts.{rooted-ends}
-use Rattle.nesting.specs.Nesting.{DeferredTarget, to-region, to-return, DeferredEdgeBundle, DeferredEdgeBundleSet, Outcome, untouched, whole, closed, leftover, Nested, IncomingEdgeCount, StructurizeRegionState, not-begun, in-progress, claimed, ready, NestState, StepAnswer, done, turned-away, give, follow, _>>_, turn-away, set-state, get-state, rewrites-of, ClaimedRegion, try-claim-edge-bundle, claim-by-state, claim-body, backedge-of, begin, structurize-region, incoming-edge-counts, initial-state, outcome-of, conclude-by, conclude, structurize-func-by, structurize-func, look-up-piece, look-up-nodes, look-up-last, one-more-attempt}
+use Rattle.nesting.specs.Nesting.{DeferredTarget, to-region, to-return, DeferredEdgeBundle, DeferredEdgeBundleSet, Outcome, untouched, whole, closed, leftover, Nested, IncomingEdgeCount, StructurizeRegionState, not-begun, in-progress, claimed, ready, NestState, StepAnswer, done, turned-away, give, follow, _>>_, turn-away, set-state, get-state, rewrites-of, ClaimedRegion, try-claim-edge-bundle, claim-by-state, claim-body, backedge-of, begin, structurize-region, incoming-edge-counts, initial-state, outcome-of, conclude-by, conclude, structurize-func-by, structurize-func, look-up-piece, look-up-nodes, look-up-last, add-attempt}
 use Rattle.nesting.specs.lookups.Rewriting.{nodes-value, rewrite-last, rewrite-nodes}
 use Rattle.nesting.specs.steps.Post.{bind, map-post}
 use Rattle.nesting.specs.steps.RegionsLeft.{state-of}
@@ -78,7 +78,7 @@ module _ (g : Graph) (counts : List IncomingEdgeCount) where
   unfolding try-claim-edge-bundle
   claim-itself zero r n ins s = record { post = tt }
   claim-itself (suc fuel) r n ins s =
-      bind (follow (begin (state-of s r) (structurize-region g (λ r′ n′ ins′. try-claim-edge-bundle g counts fuel r′ n′ ins′) r) (one-more-attempt s)) (λ u. get-state r)) _
+      bind (follow (begin (state-of s r) (structurize-region g (λ r′ n′ ins′. try-claim-edge-bundle g counts fuel r′ n′ ins′) r) (add-attempt s)) (λ u. get-state r)) _
       (anything _) λ x s₂ u. as-itself r n ins x s₂
 
 -- ---- the run from the entry

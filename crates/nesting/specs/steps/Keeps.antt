@@ -8,7 +8,7 @@ use lib.Dec.{ltb}
 use Rattle.meaning.specs.Graph.{Value, bool, undef, SelectionKind, bool-cond, number, ControlInst, unreachable, return, exit-invocation, branch, select-branch, Graph, region, same-values}
 use Rattle.meaning.specs.Runs.{loop, Nodes, ⟨⟩, _▸_, Cases}
 use Rattle.meaning.specs.Lists.{any, pick}
-use Rattle.nesting.specs.Nesting.{exit-targets, most-merges, most-nodes, most-outputs, most-regions, LazyCond, undef-cond, false-cond, true-cond, merge, LazyConds, no-conds, _&_, DeferredEdgeBundle, DeferredEdgeBundleSet, RegionInputRewrites, replace-with, renumber-or-replace-with, RewriteEntry, NodeOutput, NestState, Step, give, _>>=_, _>>_, with-tables, one-more-region, one-more-node, one-more-merge, with-twice, define-region, define-node, define-merge, define-output, insert-rewrites, look-up, look-up-case, look-up-each, rewrite-values, materialize-lazy-cond, materialize-lazy-conds, ClaimedRegion, MaybeClaimedRegion, ok, err, Scrutinee, value, lazy, join, append-maybe-claimed-region, convergent-cases, without-convergent, PlannedInput, shared, merged, PlannedBundle, plan-bundles, any-needs-select, any-non-empty-case, rewrite-cases, case-regions, scrutinee-value, DefinedSelect, define-select, emit-inputs, emit-condition, emit, select-if, replace-inputs, structurize-select, structurize-select-by, take-inputs, no-inputs, loop-node, add-exit-edge, structurize-loop, claim-body, by-control-inst}
+use Rattle.nesting.specs.Nesting.{exit-targets, most-merges, most-nodes, most-outputs, most-regions, LazyCond, undef-cond, false-cond, true-cond, merge, LazyConds, no-conds, _&_, DeferredEdgeBundle, DeferredEdgeBundleSet, RegionInputRewrites, replace-with, renumber-or-replace-with, RewriteEntry, NodeOutput, NestState, Step, give, _>>=_, _>>_, with-tables, add-region, add-node, add-merge, with-twice, define-region, define-node, define-merge, define-output, insert-rewrites, look-up, look-up-case, look-up-each, rewrite-values, materialize-lazy-cond, materialize-lazy-conds, ClaimedRegion, MaybeClaimedRegion, ok, err, Scrutinee, value, lazy, join, append-maybe-claimed-region, convergent-cases, without-convergent, PlannedInput, shared, merged, PlannedBundle, plan-bundles, any-needs-select, any-non-empty-case, rewrite-cases, case-regions, scrutinee-value, DefinedSelect, define-select, emit-inputs, emit-condition, emit, select-if, replace-inputs, structurize-select, structurize-select-by, take-inputs, no-inputs, loop-node, add-exit-edge, structurize-loop, claim-body, by-control-inst}
 use Rattle.nesting.specs.lookups.Rewriting.{meets}
 use Rattle.nesting.specs.steps.Post.{Post, bind, map-post, when-room}
 
@@ -27,9 +27,9 @@ loop-claimed g body children exits inputs wrapper vs v n =
 pub record Steady (L : NestState → NestState → Type 0) : Type 0 where
   pub same : (s : NestState) → L s s
   pub follows : {s s′ s″ : NestState} → L s s′ → L s′ s″ → L s s″
-  pub region : (s : NestState) → L s (one-more-region s)
-  pub node : (s : NestState) → L s (one-more-node s)
-  pub merge : (s : NestState) → L s (one-more-merge s)
+  pub region : (s : NestState) → L s (add-region s)
+  pub node : (s : NestState) → L s (add-node s)
+  pub merge : (s : NestState) → L s (add-merge s)
   pub output : (x : NodeOutput) (s : NestState) → L s (with-tables (s .region-states) (s .region-input-rewrites) (s .node-outputs ++ (x ∷ [])) s)
   pub twice : (b : Bool) (s : NestState) → L s (with-twice b s)
 
