@@ -18,10 +18,10 @@ use Rattle.nesting.specs.Nesting.{loop-node, exit-targets, get-edge-bundle-by-t
 use Rattle.nesting.specs.lookups.Rewriting.{meets, rewrite}
 use Rattle.nesting.specs.steps.RegionsLeft.{state-of}
 use Rattle.nesting.specs.steps.Post.{bind}
-use Rattle.meaning.specs.facts.Elements.{In}
+use Rattle.meaning.specs.facts.Elements.{In, Extends, extends-then}
 use Rattle.follows.specs.simulation.Key.{Key, input-key, is-input-of, of-input, owns-nodes}
 use Rattle.follows.specs.simulation.World.{Fits, World, ar, size}
-use Rattle.follows.specs.simulation.Tables.{Extends, Resolver, Respects, Tables, entry-law, extends-then, final-input, lookup-keeps, respects-back, tables}
+use Rattle.follows.specs.simulation.Tables.{Resolver, Respects, Tables, entry-law, final-input, lookup-keeps, respects-back, tables}
 use Rattle.follows.specs.simulation.Conditions.{Mat, mat-stays}
 use Rattle.follows.specs.simulation.Leads.{Sim, leads-on}
 use Rattle.follows.specs.simulation.Bundles.{DistinctBundles, find-in, found-in, is-always, same-target-sym, same-target→eq}

@@ -18,7 +18,6 @@ use Rattle.follows.specs.counting.Reach.{target-reachable}
 use Rattle.follows.specs.simulation.ValidUse.{edges-of-usable}
 use Rattle.follows.specs.simulation.Key.{of-instr}
 use Rattle.follows.specs.simulation.World.{Live, World, size}
-use Rattle.follows.specs.simulation.Tables.{extends-refl}
 use Rattle.follows.specs.simulation.Defined.{Grew, IfDone}
 use Rattle.follows.specs.simulation.Invariant.{Free, Inv, Later, idle, inv-grew, later-grew, later-refl, later-then, new, old, waiting}
 use Rattle.follows.specs.simulation.StateChanges.{blocks-own, changed, inv-busy, later-busy, now, owned-was}
@@ -27,6 +26,7 @@ use Rattle.follows.specs.simulation.ClaimReady.{ClaimDone, at-state, cla
 use Rattle.follows.specs.simulation.TargetRegions.{ClaimOk, cases-back, in-targets, since-back, target-regions-post}
 use Rattle.follows.specs.simulation.ByTerminator.{by-control-inst-post}
 use Rattle.follows.specs.simulation.Scan.{resolve-deferred-post}
+use Rattle.meaning.specs.facts.Elements.{extends-refl}
 
 module _ (W : World) where
   not-free : (r : ℕ) (r-in : r < size W) (s : NestState) (inv : Inv W s) → state-of s r ≡ not-begun → (was : idle (state-of s r) ≡ true)

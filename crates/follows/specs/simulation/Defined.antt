@@ -14,9 +14,9 @@ use Rattle.meaning.specs.facts.Tests.{clash}
 use Rattle.nesting.specs.Nesting.{most-nodes, most-outputs, most-regions, define-merge, define-node, define-output, define-region, materialize-lazy-cond, materialize-lazy-conds, DeferredEdgeBundleSet, LazyCond, LazyConds, _&_, false-cond, merge, true-cond, undef-cond, no-conds, PlannedBundle, PlannedInput, merged, shared, DefinedSelect, emit, emit-condition, emit-inputs, StepAnswer, NestState, NodeOutput, give}
 use Rattle.nesting.specs.steps.RegionsLeft.{AnyRefusal}
 use Rattle.nesting.specs.steps.Post.{Post, bind, map-post, when-room}
-use Rattle.meaning.specs.facts.Elements.{nth-last}
+use Rattle.meaning.specs.facts.Elements.{nth-last, Extends, extends-refl, extends-then}
 use Rattle.follows.specs.simulation.Key.{OutputAt}
-use Rattle.follows.specs.simulation.Tables.{Extends, extends-refl, extends-then, stays}
+use Rattle.follows.specs.simulation.Tables.{stays}
 use Rattle.follows.specs.simulation.Conditions.{Mat, Mats, mat-stays, mats-stay}
 use Rattle.follows.specs.simulation.Values.{same-values→eq}
 use Rattle.follows.specs.simulation.Planned.{Emits, EmitsAll, condition-from}

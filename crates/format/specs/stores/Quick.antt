@@ -11,6 +11,10 @@ use lib.Seq.{getD-drop, getD-take, getD-append-add, take-all, take-suc, ext-getD
 use lib.Dec.{eqb, ltb}
 use borrow.Author.Tests.{eqb-true}
 use Rattle.format.specs.Store.{Answer, accepted, refused, if-accepted, pair, weighted, number-right, blocks-checked, word-at, all-zero, length-right, count-right, store-words}
+use Rattle.format.specs.Read.{read-record}
+use Rattle.format.specs.References.{references}
+use Rattle.format.specs.Accept.{accept}
+use Rattle.meaning.specs.Graph.{Graph}
 use Rattle.format.specs.stores.Pack.{check-from}
 use Rattle.meaning.specs.Lists.{tabulate}
 use Rattle.meaning.specs.facts.Elements.{length-tabulate, tabulate-at}
@@ -203,3 +207,15 @@ same-answer s true =
 pub same-store-words : (s : List ℕ) → store-words s ≡ quick-store-words s
 unfolding store-words quick-store-words
 same-store-words s = same-answer s (length-right (length s))
+
+-- ---- what is accepted, once the words of the store are read, or the store is refused
+abbrev pub accept-words : Answer (List ℕ) → Answer Graph
+accept-words x =
+    if-accepted x λ ws.
+    if-accepted (read-record ws) λ g.
+    if-accepted (references g) λ _.
+    accepted g
+
+pub same-accept : (s : List ℕ) → accept s ≡ accept-words (quick-store-words s)
+unfolding accept
+same-accept s = ap accept-words (same-store-words s)

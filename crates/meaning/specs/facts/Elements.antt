@@ -1,16 +1,19 @@
--- Elements of a list: by place, by membership, under a map; what each has; a table of a function.
-use mathlib.Core.List.{List, [], _++_, _∷_, map}
+-- Elements of a list: by place, by membership, under a map; what each has; a table of a function; lists that gain; equal lists.
+use mathlib.Core.Bool.{Bool, true, false, _&&_}
+use mathlib.Core.List.{List, [], _++_, _∷_, map, append-assoc, append-nil}
 use mathlib.Core.Logic.{_⊎_, inl, inr}
 use mathlib.Core.Option.{Option, none, some}
-use mathlib.Core.Path.{_≡_, ap, refl, _∙_}
+use mathlib.Core.Path.{_≡_, ap, refl, sym, _∙_}
 use Prim.Native.Nat.{_<_, suc, zero, ℕ, _≤_, _+_}
 use native.Mathlib.Omega.{arith}
 use native.Mathlib.Nat.{not-suc-le-zero}
 use native.Mathlib.Decide.{decLt}
 use lib.ListN.{getD, length, length-append, List·getD-append}
 use lib.Seq.{getD-append-seam}
+use lib.Dec.{eqb}
+use borrow.Author.Tests.{eqb-true}
 use Rattle.meaning.specs.Lists.{numbers-from, All, tabulate}
-use Rattle.meaning.specs.facts.Tests.{clash}
+use Rattle.meaning.specs.facts.Tests.{clash, and-both}
 
 abbrev pub nth : {A : Type 0} → List A → ℕ → Option A
 nth [] k = none
@@ -102,3 +105,32 @@ tabulate-at (suc n) f j h = at (tabulate-at n f j) (decLt j n)
         ap (λ k. getD (tabulate n f ++ (f n ∷ [])) k 0) (omega (arith, length-tabulate n f))
         ∙ getD-append-seam (tabulate n f) (f n) [] 0
         ∙ ap f (omega arith)
+
+-- ---- a list and what it gains at its end
+pub record Extends {A : Type 0} (a b : List A) : Type 0 where
+  pub more : List A
+  pub whole : b ≡ a ++ more
+
+pub extends-same : {A : Type 0} {a b : List A} → b ≡ a → Extends a b
+extends-same {a} e = record { more = []; whole = e ∙ sym (append-nil a) }
+
+pub extends-refl : {A : Type 0} (a : List A) → Extends a a
+extends-refl a = extends-same refl
+
+pub extends-then : {A : Type 0} {a b c : List A} → Extends a b → Extends b c → Extends a c
+extends-then {a} p q = record { more = p .more ++ q .more; whole = q .whole ∙ ap (λ l. l ++ q .more) (p .whole) ∙ append-assoc a (p .more) (q .more) }
+
+-- ---- equal lists of numbers, by a test that computes to one bit
+abbrev pub same-numbers : List ℕ → List ℕ → Bool
+same-numbers [] [] = true
+same-numbers [] (y ∷ ys) = false
+same-numbers (x ∷ xs) [] = false
+same-numbers (x ∷ xs) (y ∷ ys) = eqb x y && same-numbers xs ys
+
+pub numbers-same : (xs ys : List ℕ) → same-numbers xs ys ≡ true → xs ≡ ys
+numbers-same [] [] e = refl
+numbers-same [] (y ∷ ys) e = cc
+numbers-same (x ∷ xs) [] e = cc
+numbers-same (x ∷ xs) (y ∷ ys) e =
+    let h = and-both (eqb x y) (same-numbers xs ys) e in
+    rw (eqb-true x y (h .0), numbers-same xs ys (h .1))
