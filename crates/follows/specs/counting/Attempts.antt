@@ -61,23 +61,23 @@ module _ (g : Graph) where
       once = reachable-once g;
       below = λ r i. reachable-region g (usable-graph g valid) r i;
       closed = target-reachable g;
-      counted = λ r i. incoming-at g r (reachable-region g (usable-graph g valid) r i);
+      counts-right = λ r i. incoming-at g r (reachable-region g (usable-graph g valid) r i);
     }
 
-    abbrev start : List StructurizeRegionState
-    start = replicate (length (g .regions)) not-begun
+    abbrev first-states : List StructurizeRegionState
+    first-states = replicate (length (g .regions)) not-begun
 
-    owed-start : owed counting start ≡ edges-from g (reachable g) + length (reachable g) * (2 * length (reachable g))
+    owed-start : owed counting first-states ≡ edges-from g (reachable g) + length (reachable g) * (2 * length (reachable g))
     unfolding owed
     owed-start =
-        total-same (λ i. owed-by counting i (getD start i not-begun)) (λ i. length (edges-of (region g i .terminator)) + 2 * length (reachable g)) (λ i. ap (owed-by counting i) (all-not-begun (length (g .regions)) i)) (reachable g)
+        total-same (λ i. owed-by counting i (getD first-states i not-begun)) (λ i. length (edges-of (region g i .terminator)) + 2 * length (reachable g)) (λ i. ap (owed-by counting i) (all-not-begun (length (g .regions)) i)) (reachable g)
         ∙ total-add (λ i. length (edges-of (region g i .terminator))) (λ i. 2 * length (reachable g)) (reachable g)
         ∙ (let z = edges-over (reachable g) in let y = total-each (2 * length (reachable g)) (reachable g) in omega arith)
 
-    edges-held-start : (r : ℕ) → edges-held counting r start ≡ incoming-from r (reachable g)
+    edges-held-start : (r : ℕ) → edges-held counting r first-states ≡ incoming-from r (reachable g)
     unfolding edges-held
     edges-held-start r =
-        total-same (λ i. edges-held-by counting r i (getD start i not-begun)) (λ i. times-in r (targets-of g i) + times-in r (exit-targets g i))
+        total-same (λ i. edges-held-by counting r i (getD first-states i not-begun)) (λ i. times-in r (targets-of g i) + times-in r (exit-targets g i))
         (λ i. ap (edges-held-by counting r i) (all-not-begun (length (g .regions)) i)) (reachable g)
         ∙ over-incoming r (reachable g)
 

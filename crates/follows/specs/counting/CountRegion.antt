@@ -188,5 +188,5 @@ module _ (K : Counting) where
       (begin-counted fuel claim (claim-counted fuel) q n H s₀ in-q pos pre₀ (state-of s q) refl) λ u s₁ b. record { post = record { step = b .step; is = refl; old = b .old } })
       λ x s₁ b.
       let st₁ : Counted K 1 0 f f s s₁ = counted-then K st₀ (b .step) (omega arith) (λ r. omega arith) in
-      rw (K .counted q in-q) (map-post _ (claim-by-state-counted K q n inputs (suc fuel) H s₁ in-q pos (pre-after K pre₀ (b .step)) x (b .is) (b .old)) λ o s′ h.
+      rw (K .counts-right q in-q) (map-post _ (claim-by-state-counted K q n inputs (suc fuel) H s₁ in-q pos (pre-after K pre₀ (b .step)) x (b .is) (b .old)) λ o s′ h.
       record { step = counted-then K st₁ (h .step) (omega arith) (λ r. omega arith); good = h .good })

@@ -26,7 +26,7 @@ pub record Counting : Type 0 where
   pub once : Distinct live
   pub below : (r : ℕ) → is-in r live ≡ true → r < length (g .regions)
   pub closed : (r x : ℕ) → is-in r live ≡ true → is-in x (targets-of g r) ≡ true → is-in x live ≡ true
-  pub counted : (r : ℕ) → is-in r live ≡ true → getD counts r 0 ≡ incoming r
+  pub counts-right : (r : ℕ) → is-in r live ≡ true → getD counts r 0 ≡ incoming r
 
 -- Only a limit refuses: number 9, word 0.
 abbrev pub Nine : ℕ → ℕ → Type 0

@@ -179,10 +179,10 @@ module _ (g : Graph) (valid : Valid g) (c : ClaimedRegion) (s : NestState)
   no-form n p outs (is-whole q) x b e gr = absurd (let z : leftover ≡ whole = sym p ∙ q in clash (cc))
 
   module _ (y : DeferredEdgeBundle) (ys : DeferredEdgeBundleSet) where
-    abbrev Shows : Outcome → Type 0
-    Shows o = FollowsRun g (conclude-by g s (c .children) (y ∷ ys) o)
+    abbrev FollowsAs : Outcome → Type 0
+    FollowsAs o = FollowsRun g (conclude-by g s (c .children) (y ∷ ys) o)
 
-    one : y .target ≡ to-return → c .deferred-edges ≡ y ∷ [] → Shows whole
+    one : y .target ≡ to-return → c .deferred-edges ≡ y ∷ [] → FollowsAs whole
     unfolding look-up-piece
     one t q outs (is-closed r) x b e gr = absurd (clash (cc))
     one t q outs (is-whole r) x b e gr =
@@ -192,11 +192,11 @@ module _ (g : Graph) (valid : Valid g) (c : ClaimedRegion) (s : NestState)
     abbrev outcome-by : DeferredTarget → DeferredEdgeBundleSet → Outcome
     outcome-by t zs = elim t [ to-region r ↦ leftover | to-return ↦ pick (empty zs) whole leftover ]
 
-    by-others : c .deferred-edges ≡ y ∷ ys → y .target ≡ to-return → (zs : DeferredEdgeBundleSet) → ys ≡ zs → Shows (outcome-by to-return zs)
+    by-others : c .deferred-edges ≡ y ∷ ys → y .target ≡ to-return → (zs : DeferredEdgeBundleSet) → ys ≡ zs → FollowsAs (outcome-by to-return zs)
     by-others p t [] q = one t (p ∙ ap (λ l. y ∷ l) q)
     by-others p t (z ∷ zs) q = no-form _ refl
 
-    by-target : c .deferred-edges ≡ y ∷ ys → (t : DeferredTarget) → y .target ≡ t → Shows (outcome-by t ys)
+    by-target : c .deferred-edges ≡ y ∷ ys → (t : DeferredTarget) → y .target ≡ t → FollowsAs (outcome-by t ys)
     by-target p (to-region r) t = no-form _ refl
     by-target p to-return t = by-others p t ys refl
 

@@ -145,7 +145,7 @@ module _ (g : Graph) where
       let here : getD all k (undef 0) ≡ v = ap (λ n. getD all n (undef 0)) (sym z₀) ∙ at 0 in
       rw z (all-renumbered r w all (suc k) vs (take-input g r w k v x) (λ j. let y : suc k + j ≡ k + suc j = omega arith in rw y (at (suc j))) (one-more-input r w all k v x here h))
 
-  pub renumbered : (r w : ℕ) (vs : List Value) → Renumbered r w vs (length vs) (take-inputs g r w 0 vs no-inputs)
-  renumbered r w vs =
+  pub inputs-renumbered : (r w : ℕ) (vs : List Value) → Renumbered r w vs (length vs) (take-inputs g r w 0 vs no-inputs)
+  inputs-renumbered r w vs =
       let z : 0 + length vs ≡ length vs = omega arith in
       rw z at (all-renumbered r w vs 0 vs no-inputs (λ j. let y : 0 + j ≡ j = omega arith in rw y) (record { many = refl; even = refl; good = λ k lt. absurd (omega arith) }))

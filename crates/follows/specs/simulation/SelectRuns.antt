@@ -73,9 +73,9 @@ module _ (W : World)
   at-bool : (s′ : RunState) → Based W s′ → (x : Bool) → s′ .env (ρ (bool x)) ≡ word (pick x 1 0)
   at-bool s′ bs′ x = ap (s′ .env) (res .on-bool x) ∙ bs′ .based (bool x) refl ∙ W .on-bool x
 
-  after : (s₁ : RunState) → runs W b (rewrite-nodes ρ os ksj) (pay (W .g .test-cost) s) ≡ through s₁ → Goes W ρ os k (deferred-of cj) e h s₁
+  goes-after : (s₁ : RunState) → runs W b (rewrite-nodes ρ os ksj) (pay (W .g .test-cost) s) ≡ through s₁ → Goes W ρ os k (deferred-of cj) e h s₁
       → Goes W ρ os k d e h (outputs-set ρ os (n .node) j s₁)
-  after s₁ p goes =
+  goes-after s₁ p goes =
       let s₂ : RunState = outputs-set ρ os (n .node) j s₁ in
       let vs : List Value = map ρ (case-outputs (n .node) j os) in
       let out-kept : (u : Value) → is-node (n .node) (key os u) ≡ false → s₂ .env u ≡ s₁ .env u = λ u c. outputs-kept (n .node) os u c vs s₁ in
@@ -104,6 +104,6 @@ module _ (W : World)
     where
       go : (R : Ran) → runs W b (rewrite-nodes ρ os ksj) (pay (W .g .test-cost) s) ≡ R → Tracks W ρ os k (deferred-of cj) e h R
           → Tracks W ρ os k d e h (and-then R (λ s′. through (outputs-set ρ os (n .node) j s′)))
-      go (through s₁) p fl = record { leads-to = after s₁ p (fl .leads-to) }
+      go (through s₁) p fl = record { leads-to = goes-after s₁ p (fl .leads-to) }
       go (ended e′ s₁) p fl = record { leads-to = fl .leads-to }
       go (no-end why) p fl = record { leads-to = fl .leads-to }

@@ -66,9 +66,9 @@ shown-for store s h =
       shows = fitting (leb (sheet-of (a .value) (b .value) .figure) 4294967295) 11 (sheet-of (a .value) (b .value)) s (b .second);
     }
 
-shown : (store : List ℕ) (lent : ℕ) (s : Sheet) → answer store lent ≡ accepted s → ShownSheet store s
+shown-answer : (store : List ℕ) (lent : ℕ) (s : Sheet) → answer store lent ≡ accepted s → ShownSheet store s
 unfolding answer
-shown store lent s h =
+shown-answer store lent s h =
     let a = step (sheet-for store) (words-fit lent) s h in
     let z : s ≡ a .value = fitting (leb (length (sheet-words (a .value))) lent) 10 (a .value) s (a .second) in
     rw z (shown-for store (a .value) (a .first))
@@ -93,7 +93,7 @@ sound-sheet store s y =
 
 -- Statement 4.
 pub sound : Sound
-sound store lent s h = sound-sheet store s (shown store lent s h)
+sound store lent s h = sound-sheet store s (shown-answer store lent s h)
 
 -- ---- the refusals of each part
 unless : (b : Bool) (k : ℕ) (s : Sheet) → Refusal k 0 → IfRefused {A = Sheet} Refusal (elim b as (λ b. Answer Sheet) [ true ↦ accepted s | false ↦ refused k 0 ])

@@ -126,32 +126,32 @@ same-blocks s (suc n) h =
     ap (λ a. if-accepted a λ _. quick-block-checked s n (weighted s (512 * n) 508)) (same-blocks s n (omega arith))
     ∙ ap (λ c. if-accepted (quick-blocks s n) λ _. quick-block-checked s n c) (weighted-walk s (512 * n) 508 (omega arith))
 
-unfoldable pub zeros : List ℕ → Bool
-zeros [] = true
-zeros (w ∷ ws) = eqb w 0 && zeros ws
+unfoldable pub only-zeros : List ℕ → Bool
+only-zeros [] = true
+only-zeros (w ∷ ws) = eqb w 0 && only-zeros ws
 
-zeros-snoc : (ws : List ℕ) (y : ℕ) → zeros (ws ++ (y ∷ [])) ≡ (zeros ws && eqb y 0)
-unfolding zeros
-zeros-snoc [] y = and-true (eqb y 0)
-zeros-snoc (w ∷ ws) y = ap (λ b. eqb w 0 && b) (zeros-snoc ws y) ∙ sym (and-assoc (eqb w 0) (zeros ws) (eqb y 0))
+only-zeros-snoc : (ws : List ℕ) (y : ℕ) → only-zeros (ws ++ (y ∷ [])) ≡ (only-zeros ws && eqb y 0)
+unfolding only-zeros
+only-zeros-snoc [] y = and-true (eqb y 0)
+only-zeros-snoc (w ∷ ws) y = ap (λ b. eqb w 0 && b) (only-zeros-snoc ws y) ∙ sym (and-assoc (eqb w 0) (only-zeros ws) (eqb y 0))
 
-all-zero-walk : (s : List ℕ) (n w k : ℕ) → w + k ≤ 253 * n → all-zero s w k ≡ zeros (take k (drop w (all-words n s)))
-unfolding all-zero zeros
+all-zero-walk : (s : List ℕ) (n w k : ℕ) → w + k ≤ 253 * n → all-zero s w k ≡ only-zeros (take k (drop w (all-words n s)))
+unfolding all-zero only-zeros
 all-zero-walk s n w zero h = refl
 all-zero-walk s n w (suc k) h =
     let l : k < length (drop w (all-words n s)) = simp length-drop (omega (arith, length-all-words n s)) in
     let e : getD (drop w (all-words n s)) k 0 ≡ word-at s (w + k) = getD-drop w (all-words n s) k 0 ∙ all-word n s (w + k) (omega arith) in
-    rw (take-suc (drop w (all-words n s)) k 0 l, zeros-snoc (take k (drop w (all-words n s))) (getD (drop w (all-words n s)) k 0), e, all-zero-walk s n w k (omega arith))
+    rw (take-suc (drop w (all-words n s)) k 0 l, only-zeros-snoc (take k (drop w (all-words n s))) (getD (drop w (all-words n s)) k 0), e, all-zero-walk s n w k (omega arith))
 
-rest-zero : (s : List ℕ) (n w : ℕ) → all-zero s w (253 * n - w) ≡ zeros (drop w (all-words n s))
-unfolding all-zero zeros
+rest-zero : (s : List ℕ) (n w : ℕ) → all-zero s w (253 * n - w) ≡ only-zeros (drop w (all-words n s))
+unfolding all-zero only-zeros
 rest-zero s n w = go (decLe w (253 * n))
   where
     all : take (253 * n - w) (drop w (all-words n s)) ≡ drop w (all-words n s)
     all = take-all (253 * n - w) (drop w (all-words n s)) (simp length-drop (omega (arith, length-all-words n s)))
 
-    go : Dec (w ≤ 253 * n) → all-zero s w (253 * n - w) ≡ zeros (drop w (all-words n s))
-    go (yes l) = all-zero-walk s n w (253 * n - w) (omega arith) ∙ ap zeros all
+    go : Dec (w ≤ 253 * n) → all-zero s w (253 * n - w) ≡ only-zeros (drop w (all-words n s))
+    go (yes l) = all-zero-walk s n w (253 * n - w) (omega arith) ∙ ap only-zeros all
     go (no g) =
         let e : 253 * n - w ≡ 0 = omega arith in
         rw (e, drop-of-length-le (all-words n s) {i = w} (omega (arith, length-all-words n s)))
@@ -162,10 +162,10 @@ words-if right ws = elim right [ false ↦ refused 4 0 | true ↦ accepted ws ]
 
 -- with n blocks, all their words, and W
 abbrev pub quick-count : ℕ → List ℕ → ℕ → Answer (List ℕ)
-quick-count n ws w = words-if (ltb 0 w && (eqb n ((w + 252) / 253) && zeros (drop w ws))) (take w ws)
+quick-count n ws w = words-if (ltb 0 w && (eqb n ((w + 252) / 253) && only-zeros (drop w ws))) (take w ws)
 
 unfoldable pub quick-store-words : List ℕ → Answer (List ℕ)
-unfolding quick-blocks check-from all-words front-words zeros
+unfolding quick-blocks check-from all-words front-words only-zeros
 quick-store-words s =
     elim (length-right (length s)) [
       | false ↦ refused 1 0
@@ -181,7 +181,7 @@ same-if true true true xs ys f = ap accepted (f refl)
 same-count : (s : List ℕ) (n w : ℕ) → words-if (count-right s n w) (tabulate w (word-at s)) ≡ quick-count n (all-words n s) w
 same-count s n w =
     ap (λ z. words-if (ltb 0 w && (eqb n ((w + 252) / 253) && z)) (tabulate w (word-at s))) (rest-zero s n w)
-    ∙ same-if (ltb 0 w) (eqb n ((w + 252) / 253)) (zeros (drop w (all-words n s))) (tabulate w (word-at s)) (take w (all-words n s))
+    ∙ same-if (ltb 0 w) (eqb n ((w + 252) / 253)) (only-zeros (drop w (all-words n s))) (tabulate w (word-at s)) (take w (all-words n s))
     λ e. words-tabulated n w s (omega (arith, eqb-true n ((w + 252) / 253) e))
 
 abbrev definition : List ℕ → Bool → Answer (List ℕ)

@@ -27,24 +27,24 @@ run-answer g x n (refused n′ w) = none
 abbrev answering : ℕ → Given
 answering w = record { constants = λ i. 100 + i; entry-inputs = λ k. 0; rule = λ op reads before. w }
 
-abbrev event : ℕ → ℕ → Event
-event r op = record { region = r; index = 0; opcode = op; reads = [] }
+abbrev first-event : ℕ → ℕ → Event
+first-event r op = record { region = r; index = 0; opcode = op; reads = [] }
 
-pub A-true : graph-run A (answering 5) 3 ≡ some (record { end = returned (word 100 ∷ []); events = event 1 8 ∷ event 0 7 ∷ [] })
+pub A-true : graph-run A (answering 5) 3 ≡ some (record { end = returned (word 100 ∷ []); events = first-event 1 8 ∷ first-event 0 7 ∷ [] })
 unfolding graph-run run-from entry-words put-inputs put do-blocks do-block do-instr
 A-true = refl
 
-pub A-false : graph-run A (answering 0) 3 ≡ some (record { end = returned (word 101 ∷ []); events = event 2 9 ∷ event 0 7 ∷ [] })
+pub A-false : graph-run A (answering 0) 3 ≡ some (record { end = returned (word 101 ∷ []); events = first-event 2 9 ∷ first-event 0 7 ∷ [] })
 unfolding graph-run run-from entry-words put-inputs put do-blocks do-block do-instr
 A-false = refl
 
 -- An instruction of 5, a test of 2, an instruction of 3.
 pub A-true-nested : run-answer A (answering 5) 0 (structurize-func A)
-    ≡ some (ends-as (record { end = returned (word 100 ∷ []); events = event 1 8 ∷ event 0 7 ∷ []; cost = 10; over-limit = false }))
+    ≡ some (ends-as (record { end = returned (word 100 ∷ []); events = first-event 1 8 ∷ first-event 0 7 ∷ []; cost = 10; over-limit = false }))
 unfolding nesting-computes nested-run run-nodes turns entry-words put-inputs put-outputs put do-block do-instr
 A-true-nested = refl
 
 pub A-false-nested : run-answer A (answering 0) 0 (structurize-func A)
-    ≡ some (ends-as (record { end = returned (word 101 ∷ []); events = event 2 9 ∷ event 0 7 ∷ []; cost = 11; over-limit = false }))
+    ≡ some (ends-as (record { end = returned (word 101 ∷ []); events = first-event 2 9 ∷ first-event 0 7 ∷ []; cost = 11; over-limit = false }))
 unfolding nesting-computes nested-run run-nodes turns entry-words put-inputs put-outputs put do-block do-instr
 A-false-nested = refl
