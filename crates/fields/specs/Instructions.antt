@@ -8,7 +8,7 @@ use native.Mathlib.Omega.{arith}
 use lib.ListN.{length, getD, List·getD-eq-default}
 use lib.Dec.{ltb}
 use borrow.Author.Tests.{ltb-true, ltb-false}
-use Rattle.meaning.specs.Graph.{Graph, Instr, region, pick}
+use Rattle.meaning.specs.Graph.{Graph, Instr, region}
 use Rattle.format.specs.Read.{got, read-then, many, counted, block, instruction, read-value}
 use Rattle.format.specs.References.{no-instr}
 use Rattle.format.specs.Places.{next, after, start-of-region, blocks-of-region, block-of-region}
@@ -21,6 +21,7 @@ use Rattle.fields.specs.Shape.{instruction-is}
 use Rattle.fields.specs.Words.{placed, value-at, behind-values, indexed, block-place, behind-instructions, instruction-place}
 use Rattle.fields.specs.Lists.{ListAt, front, value-fixed, counted-at, no-list, placed-small, behind-values-is}
 use Rattle.fields.specs.Regions.{Known, small, beyond-words, no-word, region-case, block-count-is}
+use Rattle.meaning.specs.Lists.{pick}
 
 -- An instruction that begins at p.
 pub record InstrAt (w : List ℕ) (p : ℕ) (x : Instr) : Type 0 where

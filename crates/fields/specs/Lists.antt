@@ -9,13 +9,14 @@ use lib.ListN.{length, getD, length-take, List·getD-eq-default}
 use lib.Seq.{getD-take}
 use lib.Dec.{ltb}
 use borrow.Author.Tests.{lt-ltb, ltb-true, ltb-false}
-use Rattle.meaning.specs.Graph.{Value, no-value, pick}
+use Rattle.meaning.specs.Graph.{Value, no-value}
 use Rattle.format.specs.Read.{got, Reader, read-then, many, counted, word, type, read-value}
 use Rattle.format.specs.laws.Readers.{part}
 use Rattle.record.specs.Parts.{word-parts, within-parts, counted-parts}
 use Rattle.record.specs.PartsWithin.{ValueParts, value-parts}
 use Rattle.record.specs.Stands.{words-of-record}
 use Rattle.fields.specs.Words.{placed, value-at, word-item, value-item, behind-words, behind-values}
+use Rattle.meaning.specs.Lists.{pick}
 
 -- A reader of items of one width, by what stands at their places.
 pub record Fixed {A : Type 0} (read : Reader A) (ws : List ℕ) (width : ℕ) (item : ℕ → A) : Type 0 where

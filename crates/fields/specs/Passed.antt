@@ -9,8 +9,8 @@ use native.Mathlib.Nat.{zero-add}
 use lib.ListN.{length, getD, length-map, List·getD-map, List·getD-eq-default}
 use lib.Dec.{eqb, ltb}
 use borrow.Author.Tests.{ltb-true, ltb-false}
-use Rattle.meaning.specs.Graph.{Graph, Value, Edge, ControlInst, region, edges-of, targets-of, pick}
-use Rattle.format.specs.Read.{counted, word, read-value, distinct-from, rank, most-targets, edges-passed, no-edge}
+use Rattle.meaning.specs.Graph.{Graph, Value, Edge, ControlInst, region, edges-of, targets-of, no-edge}
+use Rattle.format.specs.Read.{counted, word, read-value, most-targets, edges-passed}
 use Rattle.format.specs.laws.Readers.{many-at}
 use Rattle.record.specs.Parts.{counted-parts}
 use Rattle.record.specs.Stands.{words-of-record, Stands}
@@ -19,6 +19,7 @@ use Rattle.fields.specs.Lists.{ListAt, ReadAt, word-fixed, value-fixed, 
 use Rattle.fields.specs.Regions.{Known, Beyond, small, beyond-words, region-case}
 use Rattle.fields.specs.Terminators.{KnownTerminator, edges-length, known-end, no-targets}
 use Rattle.fields.specs.Targets.{is-in-at, Found, found}
+use Rattle.meaning.specs.Lists.{pick, distinct-from, rank}
 
 targets-of-map : (h : ℕ → List Value) (ts : List ℕ) → map (λ (e : Edge). e .target) (map (λ t. record { target = t; inputs = h t }) ts) ≡ ts
 targets-of-map h [] = refl

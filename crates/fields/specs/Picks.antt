@@ -5,7 +5,7 @@ use Prim.Native.Nat.{ℕ, _≤_, _<_}
 use native.Mathlib.Omega.{arith}
 use lib.Dec.{eqb, ltb}
 use borrow.Author.Tests.{lt-ltb, le-ltb, eq-eqb, ne-eqb}
-use Rattle.meaning.specs.Graph.{pick}
+use Rattle.meaning.specs.Lists.{pick}
 
 pub picked : {A : Type 0} {t : Bool} (a b : A) → t ≡ true → a ≡ pick t a b
 picked a b h = sym (ap (λ t. pick t a b) h)

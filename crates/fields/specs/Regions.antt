@@ -8,7 +8,7 @@ use native.Mathlib.Omega.{arith}
 use lib.ListN.{length, getD, length-take, List·getD-eq-default}
 use lib.Dec.{ltb}
 use borrow.Author.Tests.{lt-ltb, le-ltb, ltb-true, ltb-false}
-use Rattle.meaning.specs.Graph.{Graph, Region, nowhere, region, pick}
+use Rattle.meaning.specs.Graph.{Graph, Region, nowhere, region}
 use Rattle.format.specs.Read.{type, word}
 use Rattle.format.specs.Places.{start-of-region, blocks-of-region, block-of-region, limit-of-region, exits-of-region}
 use Rattle.record.specs.Parts.{within-parts, counted-parts, RegionParts, region-parts, record-parts}
@@ -16,6 +16,7 @@ use Rattle.record.specs.PartsWithin.{HeadParts, head-parts}
 use Rattle.record.specs.Stands.{words-of-record, index-at, Stands}
 use Rattle.fields.specs.Words.{placed, behind-words, behind-values, indexed, blocks-place}
 use Rattle.fields.specs.Lists.{ListAt, front, word-fixed, type-fixed, counted-at, no-list, behind-words-is}
+use Rattle.meaning.specs.Lists.{pick}
 
 -- A region of the record: its places in the index, and its parts there.
 pub record Known (w : List ℕ) (g : Graph) (r : ℕ) : Type 0 where

@@ -7,9 +7,9 @@ use native.Mathlib.Omega.{arith}
 use lib.ListN.{length, getD}
 use lib.Dec.{eqb}
 use borrow.Author.Tests.{eqb-true, eq-eqb}
-use Rattle.meaning.specs.Graph.{Graph, Value, pick}
-use Rattle.format.specs.Read.{got, many, counted, read-value, distinct-from, rank}
-use Rattle.meaning.specs.Lists.{is-in}
+use Rattle.meaning.specs.Graph.{Graph, Value}
+use Rattle.format.specs.Read.{got, many, counted, read-value}
+use Rattle.meaning.specs.Lists.{is-in, pick, distinct-from, rank}
 use Rattle.format.specs.Places.{next, after}
 use Rattle.meaning.specs.facts.Tests.{clash}
 use Rattle.format.specs.laws.Readers.{part, after-front}

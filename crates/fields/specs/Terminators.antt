@@ -7,8 +7,8 @@ use Prim.Native.Nat.{ℕ, zero, suc, _+_, _≤_, _<_}
 use native.Mathlib.Omega.{arith}
 use lib.ListN.{length, getD, length-map}
 use lib.Dec.{eqb}
-use Rattle.meaning.specs.Graph.{Graph, Value, Edge, ControlInst, region, edges-of, pick}
-use Rattle.format.specs.Read.{got, word, read-value, fewest-values, most-values, fewest-targets, most-targets, opcode-for, edges-passed, no-edge, control-inst}
+use Rattle.meaning.specs.Graph.{Graph, Value, Edge, ControlInst, region, edges-of, no-edge}
+use Rattle.format.specs.Read.{got, word, read-value, fewest-values, most-values, fewest-targets, most-targets, opcode-for, edges-passed, control-inst}
 use Rattle.format.specs.References.{values-of}
 use Rattle.format.specs.Places.{start-of-region, limit-of-region, exits-of-region}
 use Rattle.format.specs.laws.Readers.{got-value, got-place}
@@ -20,6 +20,7 @@ use Rattle.fields.specs.Shape.{kind-is, opcode-is, terminator-is}
 use Rattle.fields.specs.Words.{placed, value-at, behind-values, indexed, values-place, targets-place}
 use Rattle.fields.specs.Lists.{ListAt, ReadAt, front, word-fixed, value-fixed, counted-at, no-list, placed-small, behind-values-is}
 use Rattle.fields.specs.Regions.{Known, Beyond, small, beyond-words, no-word, beyond-values, region-case}
+use Rattle.meaning.specs.Lists.{pick}
 
 -- A list by its bounds.
 empty : {A : Type 0} (xs : List A) → length xs ≤ 0 → [] ≡ xs

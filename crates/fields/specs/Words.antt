@@ -4,9 +4,9 @@ use mathlib.Core.List.{List, [], _∷_}
 use Prim.Native.Nat.{ℕ, zero, suc, _+_, _*_}
 use lib.ListN.{getD}
 use lib.Dec.{eqb, ltb}
-use Rattle.meaning.specs.Graph.{Value, no-value, pick}
+use Rattle.meaning.specs.Graph.{Value, no-value}
 use Rattle.format.specs.Read.{value-from-words}
-use Rattle.meaning.specs.Lists.{is-in}
+use Rattle.meaning.specs.Lists.{is-in, pick}
 use Rattle.record.specs.Stands.{index-at}
 
 -- A place among the words; every other is the place that answers for a list that is not there.

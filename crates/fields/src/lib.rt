@@ -3,8 +3,7 @@
 ghost use mathlib.Core.Path.{_≡_};
 ghost use mathlib.Core.List.{[]};
 ghost use lib.ListN.{length, getD};
-ghost use Rattle.meaning.specs.Graph.{Graph, no-value, region, edges-of, targets-of};
-ghost use Rattle.format.specs.Read.{no-edge};
+ghost use Rattle.meaning.specs.Graph.{Graph, no-value, region, edges-of, targets-of, no-edge};
 ghost use Rattle.format.specs.References.{instructions, no-instr, instr-type, values-of};
 ghost use Rattle.record.specs.Stands.{Stands};
 ghost use Rattle.fields.specs.Shape.{value-is, instruction-is, terminator-is};

@@ -5,8 +5,8 @@ use Prim.Native.Nat.{ℕ, zero, suc, _+_}
 use lib.ListN.{length, getD}
 use lib.Dec.{eqb, leb, ltb}
 use Rattle.format.specs.Store.{Answer, accepted, refused, if-accepted}
-use Rattle.meaning.specs.Graph.{Value, const, input, instr, bool, undef, no-value, pick, Instr, bool-cond, number, Edge, ControlInst, unreachable, return, exit-invocation, branch, select-branch, Region, Graph}
-use Rattle.meaning.specs.Lists.{is-in}
+use Rattle.meaning.specs.Graph.{Value, const, input, instr, bool, undef, no-value, Instr, bool-cond, number, Edge, ControlInst, unreachable, return, exit-invocation, branch, select-branch, Region, Graph, no-edge}
+use Rattle.meaning.specs.Lists.{pick, distinct-from, rank}
 
 -- What was read and the place after it, or the refusal's number.
 pub data Read (A : Type 0) : Type 0 where
@@ -123,23 +123,10 @@ fewest-targets k = pick (eqb k 4) 2 (pick (leb 3 k) 1 0)
 abbrev pub most-targets : ℕ → ℕ
 most-targets k = pick (eqb k 5) 8 (pick (eqb k 4) 2 (pick (eqb k 3) 1 0))
 
--- The targets that stand for the first time, in order; `seen` stood before.
-unfoldable pub distinct-from : List ℕ → List ℕ → List ℕ
-distinct-from seen [] = []
-distinct-from seen (t ∷ ts) = elim (is-in t seen) [ true ↦ distinct-from seen ts | false ↦ t ∷ distinct-from (t ∷ seen) ts ]
-
--- How many distinct targets come before the first standing of t.
-unfoldable pub rank : ℕ → List ℕ → ℕ
-rank t [] = 0
-rank t (x ∷ xs) = elim (eqb t x) [ true ↦ 0 | false ↦ suc (rank t xs) ]
-
 -- Each place of the targets, with the values passed to its target.
 unfoldable pub edges-passed : List ℕ → List (List Value) → List Edge
 unfolding distinct-from rank
 edges-passed ts passes = map (λ t. record { target = t; inputs = getD passes (rank t (distinct-from [] ts)) [] }) ts
-
-abbrev pub no-edge : Edge
-no-edge = record { target = 0; inputs = [] }
 
 -- Kinds 0 Unreachable, 1 Return, 2 ExitInvocation, 3 Branch, 4 SelectBranch on a boolean, 5 SelectBranch on a number.
 abbrev pub control-inst : ℕ → ℕ → List Value → List Edge → ControlInst

@@ -4,8 +4,8 @@ use mathlib.Core.List.{List, [], _∷_, map}
 use Prim.Native.Nat.{ℕ, suc}
 use lib.ListN.{length, getD}
 use lib.Dec.{eqb, ltb}
-use Rattle.meaning.specs.Graph.{Value, const, input, instr, output, bool, undef, held, pick, Instr, SelectionKind, bool-cond, number, Edge, ControlInst, unreachable, return, exit-invocation, branch, select-branch, Region, Graph, region, edges-of, no-value}
-use Rattle.meaning.specs.Lists.{concat, is-in}
+use Rattle.meaning.specs.Graph.{Value, const, input, instr, output, bool, undef, held, Instr, SelectionKind, bool-cond, number, Edge, ControlInst, unreachable, return, exit-invocation, branch, select-branch, Region, Graph, region, edges-of, no-value}
+use Rattle.meaning.specs.Lists.{concat, is-in, pick}
 use Rattle.format.specs.Store.{Answer, accepted, refused, if-accepted}
 
 -- A region's instructions are counted from 0 through its blocks.
@@ -76,10 +76,10 @@ first-edges seen [] = []
 first-edges seen (e ∷ es) =
     elim (is-in (e .target) seen) [ true ↦ first-edges seen es | false ↦ e ∷ first-edges (e .target ∷ seen) es ]
 
-module _ (g : Graph) (r : ℕ) where
-  abbrev pub is-region : ℕ → Bool
-  is-region t = ltb t (length (g .regions))
+abbrev pub is-region : Graph → ℕ → Bool
+is-region g r = ltb r (length (g .regions))
 
+module _ (g : Graph) (r : ℕ) where
   unfoldable pub named-right : ℕ → Value → Answer Unit
   unfolding instructions
   named-right before v = refuse-unless 6 r (not (eqb (type-in g r before v) 0))
@@ -120,7 +120,7 @@ module _ (g : Graph) (r : ℕ) where
   values-right (select-branch k v es) = if-accepted (named-right (behind-all g r) v) λ _. test-right k v
 
   unfoldable pub target-right : Edge → Answer Unit
-  target-right e = refuse-unless 6 r (is-region (e .target))
+  target-right e = refuse-unless 6 r (is-region g (e .target))
 
   unfoldable pub edge-right : Edge → Answer Unit
   unfolding passed-right
@@ -130,7 +130,8 @@ module _ (g : Graph) (r : ℕ) where
   unfoldable pub exits-right : List ℕ → List ℕ → Answer Unit
   exits-right seen [] = accepted tt
   exits-right seen (x ∷ xs) =
-      if-accepted (refuse-unless 6 r (is-region x)) λ _. if-accepted (refuse-unless 8 r (not (is-in x seen))) λ _. exits-right (x ∷ seen) xs
+      if-accepted (refuse-unless 6 r (is-region g x)) λ _.
+      if-accepted (refuse-unless 8 r (not (is-in x seen))) λ _. exits-right (x ∷ seen) xs
 
   unfoldable pub region-right : Region → Answer Unit
   unfolding reads-right instructions values-right first-refusal target-right edge-right first-edges exits-right
@@ -149,4 +150,4 @@ regions-right g r (x ∷ xs) = if-accepted (region-right g r x) λ _. regions-ri
 -- The entry, then each region, also where it is out of reach.
 unfoldable pub references : Graph → Answer Unit
 unfolding regions-right
-references g = if-accepted (refuse-unless 6 0 (is-region g 0 (g .entry))) λ _. regions-right g 0 (g .regions)
+references g = if-accepted (refuse-unless 6 0 (is-region g (g .entry))) λ _. regions-right g 0 (g .regions)

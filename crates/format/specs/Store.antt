@@ -1,9 +1,10 @@
 -- A store of bytes and the words that it holds (document 01, "store and record"): refusals 1, 2, 3, and 4 for W.
 use mathlib.Core.Bool.{Bool, true, false, _&&_}
-use mathlib.Core.List.{List, [], _∷_, _++_}
+use mathlib.Core.List.{List}
 use Prim.Native.Nat.{ℕ, zero, suc, _+_, _-_, _*_, _/_, _%_}
 use lib.ListN.{length, getD}
 use lib.Dec.{eqb, leb, ltb}
+use Rattle.meaning.specs.Lists.{tabulate}
 
 -- What is taken, or the refusal's number and its word.
 pub data Answer (A : Type 0) : Type 0 where
@@ -13,11 +14,6 @@ pub data Answer (A : Type 0) : Type 0 where
 abbrev pub if-accepted : {A B : Type 0} → Answer A → (A → Answer B) → Answer B
 if-accepted (accepted a) k = k a
 if-accepted (refused n w) k = refused n w
-
--- f 0, f 1, .., f (n - 1)
-unfoldable pub tabulate : ℕ → (ℕ → ℕ) → List ℕ
-tabulate zero f = []
-tabulate (suc n) f = tabulate n f ++ (f n ∷ [])
 
 -- Two bytes from a place on, little-endian.
 abbrev pub pair : List ℕ → ℕ → ℕ

@@ -4,15 +4,8 @@ use mathlib.Core.List.{List, [], _∷_}
 use Prim.Native.Nat.{ℕ, suc, _≤_, _<_}
 use lib.ListN.{length}
 use Rattle.meaning.specs.Graph.{Value, Instr, SelectionKind, bool-cond, number, Edge, ControlInst, unreachable, return, exit-invocation, branch, select-branch, Region, Graph, region}
-use Rattle.meaning.specs.Lists.{Distinct}
+use Rattle.meaning.specs.Lists.{Distinct, All, Within}
 use Rattle.format.specs.References.{type-in, instructions, behind-all, return-types}
-
-abbrev pub All : {A : Type 0} → (A → Type 0) → List A → Type 0
-All P [] = Unit
-All P (x ∷ xs) = P x × All P xs
-
-abbrev pub Within : ℕ → ℕ → ℕ → Type 0
-Within low high n = (low ≤ n) × (n ≤ high)
 
 module _ (g : Graph) (r : ℕ) where
   -- The value may be used in region r behind its first `before` instructions: it has a type there, and no type is 0.

@@ -4,6 +4,7 @@ use mathlib.Core.List.{List, [], _∷_, map}
 use Prim.Native.Nat.{ℕ}
 use lib.ListN.{getD}
 use lib.Dec.{eqb}
+use Rattle.meaning.specs.Lists.{bit}
 
 -- A value. Kinds 0, 4 and 5 (constant, bool, undef) are the Rust's Value::Const; `output` and `held` arise only in nesting.
 -- `output o` is the node output that was defined as number o, counted over all nodes from 0; the sheet shows its node and place.
@@ -20,14 +21,8 @@ pub data Value : Type 0 where
   held : ℕ → ℕ → Value
   no-value : Value
 
-abbrev pub pick : {A : Type 0} → Bool → A → A → A
-pick true a b = a
-pick false a b = b
-
-abbrev pub bit : Bool → ℕ
-bit b = pick b 1 0
-
--- Three words of a value: kind, region, index. A marked input has a kind of its own, 6, which no sheet shows.
+-- Three words of a value: kind, region, index. A marked input and what names nothing have kinds of their own,
+-- 6 and 7, which no sheet shows.
 pub record Code : Type 0 where
   pub kind : ℕ
   pub region : ℕ
@@ -50,6 +45,13 @@ same-code a b = eqb (a .kind) (b .kind) && (eqb (a .region) (b .region) && eqb (
 abbrev pub same-value : Value → Value → Bool
 same-value v w = same-code (code-of v) (code-of w)
 
+-- ---- Lazy conditions made real: the Rust's materialize_lazy_cond.
+abbrev pub same-values : List Value → List Value → Bool
+same-values [] [] = true
+same-values [] (w ∷ ws) = false
+same-values (v ∷ vs) [] = false
+same-values (v ∷ vs) (w ∷ ws) = same-value v w && same-values vs ws
+
 -- An instruction: its opcode, the type of its output (0: it has none), its cost, the values it reads.
 pub record Instr : Type 0 where
   pub opcode : ℕ
@@ -65,6 +67,10 @@ pub data SelectionKind : Type 0 where
 pub record Edge : Type 0 where
   pub target : ℕ
   pub inputs : List Value
+
+-- What stands at a place that has no edge.
+abbrev pub no-edge : Edge
+no-edge = record { target = 0; inputs = [] }
 
 -- The terminator of a region, the Rust's ControlInst: kinds 0 to 3, and 4 and 5 together.
 pub data ControlInst : Type 0 where

@@ -1,11 +1,20 @@
--- Lists and options: what the definitions use of them beyond the library.
+-- Tests, lists and options: what the definitions use of them beyond the library.
 use mathlib.Core.Bool.{Bool, true, false, _&&_, _||_}
 use mathlib.Core.List.{List, [], _∷_, _++_}
 use mathlib.Core.Option.{Option, none, some}
 use mathlib.Core.Path.{_≡_}
-use Prim.Native.Nat.{ℕ, suc, _+_}
+use Prim.Native.Nat.{ℕ, zero, suc, _+_, _≤_}
 use lib.Dec.{eqb}
-use Rattle.meaning.specs.Graph.{pick}
+
+abbrev pub pick : {A : Type 0} → Bool → A → A → A
+pick true a b = a
+pick false a b = b
+
+abbrev pub bit : Bool → ℕ
+bit b = pick b 1 0
+
+abbrev pub Within : ℕ → ℕ → ℕ → Type 0
+Within low high n = (low ≤ n) × (n ≤ high)
 
 abbrev pub empty : {A : Type 0} → List A → Bool
 empty [] = true
@@ -26,6 +35,10 @@ all p (x ∷ xs) = p x && all p xs
 abbrev pub filter : {A : Type 0} → (A → Bool) → List A → List A
 filter p [] = []
 filter p (x ∷ xs) = pick (p x) (x ∷ filter p xs) (filter p xs)
+
+abbrev pub All : {A : Type 0} → (A → Type 0) → List A → Type 0
+All P [] = Unit
+All P (x ∷ xs) = P x × All P xs
 
 -- The sum of a number for each.
 abbrev pub total : {A : Type 0} → (A → ℕ) → List A → ℕ
@@ -54,3 +67,18 @@ is-in a (x ∷ xs) = eqb a x || is-in a xs
 abbrev pub Distinct : List ℕ → Type 0
 Distinct [] = Unit
 Distinct (x ∷ xs) = (is-in x xs ≡ false) × Distinct xs
+
+-- The numbers that stand for the first time, in order; `seen` stood before.
+unfoldable pub distinct-from : List ℕ → List ℕ → List ℕ
+distinct-from seen [] = []
+distinct-from seen (t ∷ ts) = elim (is-in t seen) [ true ↦ distinct-from seen ts | false ↦ t ∷ distinct-from (t ∷ seen) ts ]
+
+-- How many come before the first standing of t.
+unfoldable pub rank : ℕ → List ℕ → ℕ
+rank t [] = 0
+rank t (x ∷ xs) = elim (eqb t x) [ true ↦ 0 | false ↦ suc (rank t xs) ]
+
+-- f 0, f 1, .., f (n - 1)
+unfoldable pub tabulate : ℕ → (ℕ → ℕ) → List ℕ
+tabulate zero f = []
+tabulate (suc n) f = tabulate n f ++ (f n ∷ [])

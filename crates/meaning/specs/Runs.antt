@@ -5,8 +5,8 @@ use mathlib.Core.Bool.{Bool, false, _||_}
 use lib.ListN.{length, getD}
 use lib.Dec.{ltb, leb}
 use mathlib.Core.Option.{Option, none, some}
-use Rattle.meaning.specs.Lists.{numbers-from}
-use Rattle.meaning.specs.Graph.{Value, Instr, SelectionKind, const, input, instr, output, bool, undef, held, same-value, pick, bit, bool-cond, number, Graph, region, Edge, ControlInst, unreachable, return, exit-invocation, branch, select-branch, no-value}
+use Rattle.meaning.specs.Lists.{numbers-from, pick, bit}
+use Rattle.meaning.specs.Graph.{Value, Instr, SelectionKind, const, input, instr, output, bool, undef, held, same-value, bool-cond, number, Graph, region, Edge, no-edge, ControlInst, unreachable, return, exit-invocation, branch, select-branch, no-value}
 
 -- ---- the nested form: sequences, selects and loops
 -- An output of a select: its number in order of definition, and its type.
@@ -156,7 +156,7 @@ GoesOn = ℕ → List Word → List Event → Option Ended
 -- The edge that a test takes; a tested mark is no end.
 abbrev pub edge-taken : SelectionKind → Word → List Edge → Option Edge
 edge-taken k mark es = none
-edge-taken k (word w) es = some (getD es (place-taken k w (length es)) (record { target = 0; inputs = [] }))
+edge-taken k (word w) es = some (getD es (place-taken k w (length es)) no-edge)
 
 abbrev pub along : GoesOn → Env → List Event → Option Edge → Option Ended
 along go σ h none = none
@@ -219,7 +219,7 @@ copied given vs s = record { env = given (map (s .env) vs) (s .env); events = s 
 abbrev pub assign-inputs : ℕ → List Value → RunState → RunState
 assign-inputs r vs s = copied (put-inputs (λ k. input r k) 0) vs s
 
--- At the end of its last turn a loop copies the body's outputs too, to nowhere: later uses see the inputs of that turn.
+-- After its last turn a loop copies the body's outputs to nowhere, a place for a cost (today none): later uses see that turn's inputs.
 abbrev pub leave-loop : List Value → RunState → RunState
 leave-loop vs s = copied (λ ws σ. σ) vs s
 

@@ -5,12 +5,11 @@ use mathlib.Core.Bool.{Bool, true, false, _||_, _&&_, not}
 use lib.ListN.{length, getD, set, take, replicate}
 use lib.Dec.{ltb, eqb}
 use mathlib.Core.Option.{Option, none, some}
-use Rattle.meaning.specs.Lists.{any, all, filter, empty, is-some, total, times-in, numbers-from, is-in}
-use Rattle.meaning.specs.Graph.{Value, SelectionKind, output, const, input, instr, bool, undef, held, same-value, pick, bool-cond, number, Instr, Region, Graph, region, edges-of, targets-of, Edge, ControlInst, unreachable, return, exit-invocation, branch, select-branch, no-value}
+use Rattle.meaning.specs.Lists.{any, all, filter, empty, is-some, total, times-in, numbers-from, is-in, pick}
+use Rattle.meaning.specs.Graph.{Value, SelectionKind, output, const, input, instr, bool, undef, held, same-value, bool-cond, number, Instr, Region, Graph, region, edges-of, targets-of, Edge, ControlInst, unreachable, return, exit-invocation, branch, select-branch, no-value, same-values}
 use Rattle.meaning.specs.Runs.{Nodes, ⟨⟩, _▸_, block, select, Cases, ∅, case, loop, exit, OutputDecl, SelectNode, CaseRegion, LoopNode, Node}
 use Rattle.format.specs.References.{return-types}
-use Rattle.format.specs.Store.{accepted, refused}
-use Rattle.format.specs.Store
+use Rattle.format.specs.Store.{Answer, accepted, refused}
 
 -- ---- Deferred edges: what a region could not claim, each with the condition under which it is taken.
 -- A number of edges. It counts edges only and is never an index.
@@ -109,32 +108,45 @@ abbrev pub _>>_ : {A B : Type 0} → Step A → Step B → Step B
 _>>_ x y s = follow (x s) (λ a. y)
 
 -- ---- Changes of the state, and the definitions that a limit stops (refusal 9).
--- A state by its fields, in their order.
-abbrev pub nest-state : List StructurizeRegionState → List RewriteEntry → List NodeOutput → ℕ → ℕ → ℕ → ℕ → Bool → NestState
-nest-state states rewrites outputs regions nodes merges tries met =
+abbrev pub Counts : Type 0
+Counts = record { regions : ℕ; nodes : ℕ; merges : ℕ; attempts : ℕ }
+
+abbrev pub counts-of : NestState → Counts
+counts-of s = record { regions = s .region-count; nodes = s .node-count; merges = s .merge-count; attempts = s .attempts }
+
+abbrev pub nest-state : List StructurizeRegionState → List RewriteEntry → List NodeOutput → Counts → Bool → NestState
+nest-state states rewrites outputs counts met =
     record {
       region-states = states;
       region-input-rewrites = rewrites;
       node-outputs = outputs;
-      region-count = regions;
-      node-count = nodes;
-      merge-count = merges;
-      attempts = tries;
+      region-count = counts .regions;
+      node-count = counts .nodes;
+      merge-count = counts .merges;
+      attempts = counts .attempts;
       twice = met;
     }
 
 abbrev pub with-tables : List StructurizeRegionState → List RewriteEntry → List NodeOutput → NestState → NestState
-with-tables states rewrites outputs s =
-    nest-state states rewrites outputs (s .region-count) (s .node-count) (s .merge-count) (s .attempts) (s .twice)
+with-tables states rewrites outputs s = nest-state states rewrites outputs (counts-of s) (s .twice)
 
-abbrev pub with-counts : ℕ → ℕ → ℕ → ℕ → NestState → NestState
-with-counts regions nodes merges tries s =
-    nest-state (s .region-states) (s .region-input-rewrites) (s .node-outputs) regions nodes merges tries (s .twice)
+abbrev pub with-counts : (Counts → Counts) → NestState → NestState
+with-counts f s = nest-state (s .region-states) (s .region-input-rewrites) (s .node-outputs) (f (counts-of s)) (s .twice)
 
 abbrev pub with-twice : Bool → NestState → NestState
-with-twice x s =
-    nest-state (s .region-states) (s .region-input-rewrites) (s .node-outputs)
-    (s .region-count) (s .node-count) (s .merge-count) (s .attempts) (s .twice || x)
+with-twice x s = nest-state (s .region-states) (s .region-input-rewrites) (s .node-outputs) (counts-of s) (s .twice || x)
+
+abbrev pub add-region : NestState → NestState
+add-region s = with-counts (λ c. record { regions = suc (c .regions); nodes = c .nodes; merges = c .merges; attempts = c .attempts }) s
+
+abbrev pub add-node : NestState → NestState
+add-node s = with-counts (λ c. record { regions = c .regions; nodes = suc (c .nodes); merges = c .merges; attempts = c .attempts }) s
+
+abbrev pub add-merge : NestState → NestState
+add-merge s = with-counts (λ c. record { regions = c .regions; nodes = c .nodes; merges = suc (c .merges); attempts = c .attempts }) s
+
+abbrev pub add-attempt : NestState → NestState
+add-attempt s = with-counts (λ c. record { regions = c .regions; nodes = c .nodes; merges = c .merges; attempts = suc (c .attempts) }) s
 
 -- Document 01's limits: regions, nodes, lazy condition records, node outputs.
 abbrev pub most-regions : ℕ
@@ -154,20 +166,14 @@ abbrev pub define : {A : Type 0} → ℕ → ℕ → A → NestState → StepAns
 define n limit a s = elim (ltb n limit) [ true ↦ done a s | false ↦ turned-away 9 0 ]
 
 unfoldable pub define-region : Step ℕ
-define-region s =
-    define (s .region-count) most-regions (s .region-count)
-    (with-counts (suc (s .region-count)) (s .node-count) (s .merge-count) (s .attempts) s)
+define-region s = define (s .region-count) most-regions (s .region-count) (add-region s)
 
 unfoldable pub define-node : Step ℕ
-define-node s =
-    define (s .node-count) most-nodes (s .node-count)
-    (with-counts (s .region-count) (suc (s .node-count)) (s .merge-count) (s .attempts) s)
+define-node s = define (s .node-count) most-nodes (s .node-count) (add-node s)
 
 -- A lazy condition record, the Rust's LazyCondMerge.
 unfoldable pub define-merge : Step Unit
-define-merge s =
-    define (s .merge-count) most-merges tt
-    (with-counts (s .region-count) (s .node-count) (suc (s .merge-count)) (s .attempts) s)
+define-merge s = define (s .merge-count) most-merges tt (add-merge s)
 
 -- An output of a node, of this type, with its value in each case.
 unfoldable pub define-output : ℕ → ℕ → List Value → Step Value
@@ -184,19 +190,18 @@ set-state r x s = done tt (with-tables (set (s .region-states) r x) (s .region-i
 
 -- Document 01's attempt: one call of try-claim-edge-bundle.
 abbrev pub count-attempt : Step Unit
-count-attempt s = done tt (with-counts (s .region-count) (s .node-count) (s .merge-count) (suc (s .attempts)) s)
+count-attempt s = done tt (add-attempt s)
 
 abbrev pub insert-rewrites : ℕ → RegionInputRewrites → Step Unit
 insert-rewrites r x s =
-    let entry : RewriteEntry = record { region = r; rewrites = x } in
-    done tt (with-tables (s .region-states) (s .region-input-rewrites ++ (entry ∷ [])) (s .node-outputs) s)
+    done tt (with-tables (s .region-states) (s .region-input-rewrites ++ (record { region = r; rewrites = x } ∷ [])) (s .node-outputs) s)
 
 -- ---- Look-ups, the Rust's RegionInputRewrites::rewrite_all, with document 01's mark; and the note `twice`.
 abbrev pub rewrites-of : List RewriteEntry → ℕ → Option RegionInputRewrites
 rewrites-of [] r = none
 rewrites-of (e ∷ es) r = pick (eqb r (e .region)) (some (e .rewrites)) (rewrites-of es r)
 
--- More than the longest chain: no chain passes a region twice.
+-- More than the log is long, and no chain is longer: none passes a region twice (`chains-end`).
 abbrev pub chain-fuel : List RewriteEntry → ℕ
 chain-fuel es = 2 ^ length es
 
@@ -266,13 +271,6 @@ note x s = done (x .value) (with-twice (x .twice) s)
 
 unfoldable pub rewrite-values : List Value → Step (List Value)
 rewrite-values vs s = note (look-up-each (look-up (s .region-input-rewrites)) vs) s
-
--- ---- Lazy conditions made real: the Rust's materialize_lazy_cond.
-abbrev pub same-values : List Value → List Value → Bool
-same-values [] [] = true
-same-values [] (w ∷ ws) = false
-same-values (v ∷ vs) [] = false
-same-values (v ∷ vs) (w ∷ ws) = same-value v w && same-values vs ws
 
 -- A boolean [true, false] is the scrutinee itself; anything else is a new output of the select, of type boolean.
 unfoldable mutual
@@ -498,15 +496,15 @@ abbrev pub any-non-empty-case : List MaybeClaimedRegion → Bool
 any-non-empty-case cs = any (λ c. elim c [ err d ↦ false | ok x ↦ has-children (x .children) ]) cs
 
 -- ---- The Rust's structurize_select_into: plan, define the select if it is needed, emit what it defers, replace inputs.
--- The values of the cases, each looked up. `condition` gives the bundle's condition.
+-- The values of the cases, each looked up. `cond` gives the bundle's condition.
 abbrev pub look-up-bundle : (Value → LookUp Value) → (DeferredEdgeBundle → LazyCond) → DeferredEdgeBundle → LookUp DeferredEdgeBundle
-look-up-bundle ρ condition e = plain (edge-bundle (e .target) (e .accumulated-count)) ⊛ look-up-each ρ (e .target-inputs) ⊛ plain (condition e)
+look-up-bundle ρ cond e = plain (edge-bundle (e .target) (e .accumulated-count)) ⊛ look-up-each ρ (e .target-inputs) ⊛ plain (cond e)
 
 abbrev pub look-up-case : (Value → LookUp Value) → MaybeClaimedRegion → LookUp MaybeClaimedRegion
 look-up-case ρ (err d) = plain err ⊛ look-up-each (look-up-bundle ρ (λ e. e .condition)) d
 look-up-case ρ (ok c) =
-    let claimed-at = plain (claimed-as (c .origin) (c .structured-body)) ⊛ look-up-each ρ (c .structured-body-inputs) ⊛ plain (c .children) in
-    plain ok ⊛ (claimed-at ⊛ look-up-each (look-up-bundle ρ (λ e. e .condition)) (c .deferred-edges))
+    let front = plain (claimed-as (c .origin) (c .structured-body)) ⊛ look-up-each ρ (c .structured-body-inputs) ⊛ plain (c .children) in
+    plain ok ⊛ (front ⊛ look-up-each (look-up-bundle ρ (λ e. e .condition)) (c .deferred-edges))
 
 unfoldable pub rewrite-cases : List MaybeClaimedRegion → Step (List MaybeClaimedRegion)
 rewrite-cases cs s = note (look-up-each (look-up-case (look-up (s .region-input-rewrites))) cs) s
@@ -632,20 +630,18 @@ pub record LoopInputs : Type 0 where
 abbrev pub no-inputs : LoopInputs
 no-inputs = record { rewrites = []; initial-inputs = []; types = []; outputs = [] }
 
-abbrev pub keep-input : ℕ → ℕ → ℕ → Value → LoopInputs → LoopInputs  -- wrapper region, input, its type, the value passed back
-keep-input wrapper k ty v x =
-    let number = renumber-to (length (x .initial-inputs)) in
-    let initial = x .initial-inputs ++ (input wrapper k ∷ []) in
+abbrev pub keep-input : Value → ℕ → Value → LoopInputs → LoopInputs  -- the value from outside, its type, the value passed back
+keep-input initial ty v x =
     record {
-      rewrites = x .rewrites ++ (number ∷ []);
-      initial-inputs = initial;
+      rewrites = x .rewrites ++ (renumber-to (length (x .initial-inputs)) ∷ []);
+      initial-inputs = x .initial-inputs ++ (initial ∷ []);
       types = x .types ++ (ty ∷ []);
       outputs = x .outputs ++ (v ∷ []);
     }
 
-abbrev pub lift-input : ℕ → ℕ → LoopInputs → LoopInputs
-lift-input wrapper k x =
-    let lifted = x .rewrites ++ (replace-by (input wrapper k) ∷ []) in
+abbrev pub lift-input : Value → LoopInputs → LoopInputs
+lift-input initial x =
+    let lifted = x .rewrites ++ (replace-by initial ∷ []) in
     record { rewrites = lifted; initial-inputs = x .initial-inputs; types = x .types; outputs = x .outputs }
 
 -- A claimed loop adds ONE to each deferred target in its exit list, once.
@@ -654,16 +650,18 @@ add-exit-edge xs e =
     let more : ℕ → IncomingEdgeCount = λ r. pick (is-in r xs) (suc (e .accumulated-count)) (e .accumulated-count) in
     elim (e .target) [ to-region r ↦ edge-bundle (to-region r) (more r) (e .target-inputs) (e .condition) | to-return ↦ e ]
 
+-- Of header r: an input that is passed back unchanged is lifted out of the loop.
+module _ (g : Graph) (r wrapper : ℕ) where
+  abbrev pub take-input : ℕ → Value → LoopInputs → LoopInputs
+  take-input k v x =
+      let initial = input wrapper k in
+      pick (same-value v (input r k)) (lift-input initial x) (keep-input initial (getD (region g r .inputs) k 0) v x)
+
+  abbrev pub take-inputs : ℕ → List Value → LoopInputs → LoopInputs
+  take-inputs k [] x = x
+  take-inputs k (v ∷ vs) x = take-inputs (suc k) vs (take-input k v x)
+
 module _ (g : Graph) where
-  -- An input that is passed back unchanged is lifted out of the loop.
-  abbrev pub take-input : ℕ → ℕ → ℕ → Value → LoopInputs → LoopInputs
-  take-input r wrapper k v x =
-      pick (same-value v (input r k)) (lift-input wrapper k x) (keep-input wrapper k (getD (region g r .inputs) k 0) v x)
-
-  abbrev pub take-inputs : ℕ → ℕ → ℕ → List Value → LoopInputs → LoopInputs
-  take-inputs r wrapper k [] x = x
-  take-inputs r wrapper k (v ∷ vs) x = take-inputs r wrapper (suc k) vs (take-input r wrapper k v x)
-
   abbrev pub loop-node : ℕ → ℕ → LoopInputs → Value → LoopNode  -- number, header, its inputs taken, repeat value
   loop-node n r x v =
       let limit = region g r .limit in
@@ -676,7 +674,7 @@ module _ (g : Graph) where
   structurize-loop body children backedge repeat exits inputs = do
     wrapper ← define-region
     vs ← rewrite-values (backedge .target-inputs)
-    let x = take-inputs body wrapper 0 vs no-inputs
+    let x = take-inputs g body wrapper 0 vs no-inputs
     insert-rewrites body (renumber-or-replace-with (x .rewrites))
     v ← materialize-lazy-cond repeat
     n ← define-node
@@ -728,7 +726,8 @@ module _ (g : Graph) where
   claim-body r inputs children d none = give (some (claimed-as r r inputs children d))
   claim-body r inputs children d (some e) = structurize-loop g r children e (condition-in d e) (split-out-target (to-region r) d) inputs
 
-  -- target, accumulated count, inputs, its incoming count, its state: refusal 12 where the Rust stops
+  -- target, accumulated count, inputs, its incoming count, its state. Refusal 0 where it is not begun, as by then it is, and 12
+  -- where the Rust stops: neither is ever met (`refused-nine`).
   abbrev pub claim-by-state : ℕ → IncomingEdgeCount → List Value → IncomingEdgeCount → StructurizeRegionState → Step (Option ClaimedRegion)
   claim-by-state r n inputs incoming not-begun = turn-away 0 r
   claim-by-state r n inputs incoming claimed = turn-away 12 r
@@ -786,7 +785,7 @@ module _ (g : Graph) where
       y ← resolve-deferred (length (g .regions)) x
       set-state r (ready (count-to r (y .deferred-edges)) (y .children) (y .deferred-edges))
 
-  -- `counts` are the incoming counts. What falls is the number of regions not begun; fuel is one more.
+  -- `counts` are the incoming counts. Fuel is one more than the regions not begun, so refusal 0 is never met (`refused-nine`).
   unfoldable pub try-claim-edge-bundle : List IncomingEdgeCount → ℕ → Claim
   try-claim-edge-bundle counts zero r n inputs = turn-away 0 r
   try-claim-edge-bundle counts (suc fuel) r n inputs =
@@ -806,8 +805,7 @@ case-outputs n j os = map (λ o. getD (o .values) j (undef 0)) (filter (λ o. eq
 
 abbrev pub look-up-reads : (Value → LookUp Value) → Instr → LookUp Instr
 look-up-reads ρ i =
-    let vs = look-up-each ρ (i .reads) in
-    record { value = record { opcode = i .opcode; type = i .type; cost = i .cost; reads = vs .value }; twice = vs .twice }
+    plain (λ vs. record { opcode = i .opcode; type = i .type; cost = i .cost; reads = vs }) ⊛ look-up-each ρ (i .reads)
 
 abbrev pub with-values : LoopNode → List Value → List Value → Value → LoopNode  -- initial inputs, outputs, repeat value
 with-values x vs us v =
@@ -817,14 +815,11 @@ with-values x vs us v =
 module _ (ρ : Value → LookUp Value) (os : List NodeOutput) where
   abbrev pub look-up-select : SelectNode → LookUp SelectNode
   look-up-select x =
-      let v = ρ (x .scrutinee) in
       let outputs = output-decls (x .number) 0 os in
-      record { value = record { number = x .number; kind = x .kind; scrutinee = v .value; outputs = outputs }; twice = v .twice }
+      plain (λ v. record { number = x .number; kind = x .kind; scrutinee = v; outputs = outputs }) ⊛ ρ (x .scrutinee)
 
   abbrev pub look-up-case-region : CaseRegion → ℕ → ℕ → LookUp CaseRegion  -- of node n, at place j
-  look-up-case-region c n j =
-      let vs = look-up-each ρ (case-outputs n j os) in
-      record { value = record { region = c .region; outputs = vs .value }; twice = vs .twice }
+  look-up-case-region c n j = plain (λ vs. record { region = c .region; outputs = vs }) ⊛ look-up-each ρ (case-outputs n j os)
 
   abbrev pub look-up-loop : LoopNode → LookUp LoopNode
   look-up-loop x = plain (with-values x) ⊛ look-up-each ρ (x .initial-inputs) ⊛ look-up-each ρ (x .outputs) ⊛ ρ (x .repeat)
@@ -869,7 +864,9 @@ pub record Nested : Type 0 where
 
 -- ---- The entry is claimed, and what comes of it is the answer.
 abbrev pub initial-state : Graph → NestState
-initial-state g = nest-state (replicate (length (g .regions)) not-begun) [] [] (length (g .regions)) (block-count (g .regions)) 0 0 false
+initial-state g =
+    let counts : Counts = record { regions = length (g .regions); nodes = block-count (g .regions); merges = 0; attempts = 0 } in
+    nest-state (replicate (length (g .regions)) not-begun) [] [] counts false
 
 -- Whole if the deferred set is Always Return, closed if it is Unreachable.
 abbrev pub outcome-of : DeferredEdgeBundleSet → Outcome
@@ -899,14 +896,13 @@ module _ (g : Graph) (s : NestState) where
   conclude-with outcome entry unclaimed =
       let x = look-up-piece entry in
       let xs = look-up-each look-up-piece unclaimed in
-      let nodes = map (λ o. o .node) (s .node-outputs) in
       record {
         outcome = outcome;
         attempts = s .attempts;
         twice = s .twice || (x .twice || xs .twice);
         entry = x .value;
         unclaimed = xs .value;
-        output-nodes = nodes;
+        output-nodes = map (λ o. o .node) (s .node-outputs);
       }
 
   -- A whole form returns the values of its one deferred edge; a leftover also gives the Ready regions that no one claimed.
@@ -916,14 +912,14 @@ module _ (g : Graph) (s : NestState) where
   conclude-by children d closed = conclude-with closed (piece g (g .entry) children [] []) []
   conclude-by children d leftover = conclude-with leftover (piece g (g .entry) children [] d) (unclaimed-from g 0 (s .region-states))
 
--- The entry is always claimed: its incoming count is 1.
-unfoldable pub conclude : Graph → StepAnswer (Option ClaimedRegion) → Store.Answer Nested
+-- The entry is always claimed, for its incoming count is 1: refusal 0 is never met (`refused-nine`).
+unfoldable pub conclude : Graph → StepAnswer (Option ClaimedRegion) → Answer Nested
 conclude g (turned-away n w) = refused n w
 conclude g (done none s) = refused 0 0
 conclude g (done (some c) s) = accepted (conclude-by g s (c .children) (c .deferred-edges) (outcome-of (c .deferred-edges)))
 
 -- An untouched record has an entry count other than 1: nothing is structurized.
-unfoldable pub structurize-func-by : Graph → List IncomingEdgeCount → Store.Answer Nested
+unfoldable pub structurize-func-by : Graph → List IncomingEdgeCount → Answer Nested
 structurize-func-by g counts =
     elim (eqb (getD counts (g .entry) 0) 1) [
       | false ↦ accepted (conclude-by g (initial-state g) ⟨⟩ [] untouched)
@@ -931,5 +927,5 @@ structurize-func-by g counts =
     ]
 
 -- The Rust's structurize_func, with the incoming counts of the graph.
-unfoldable pub structurize-func : Graph → Store.Answer Nested
+unfoldable pub structurize-func : Graph → Answer Nested
 structurize-func g = structurize-func-by g (incoming-edge-counts g)

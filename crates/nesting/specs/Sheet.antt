@@ -5,8 +5,8 @@ use mathlib.Core.Bool.{Bool, true, false}
 use lib.ListN.{getD, take, length}
 use lib.Dec.{leb, eqb}
 use Prim.Native.String.{String}
-use Rattle.meaning.specs.Lists.{concat, total, times-in}
-use Rattle.meaning.specs.Graph.{Instr, SelectionKind, Value, const, input, instr, output, bool, undef, held, pick, Graph, bool-cond, number, bit, no-value}
+use Rattle.meaning.specs.Lists.{concat, total, times-in, pick, bit}
+use Rattle.meaning.specs.Graph.{Instr, SelectionKind, Value, const, input, instr, output, bool, undef, held, Graph, bool-cond, number, no-value}
 use Rattle.meaning.specs.Runs.{Node, block, select, loop, exit, Nodes, ⟨⟩, _▸_, Cases, ∅, case}
 use Rattle.meaning.specs.Text.{Text, ascii, decimal, joined, listed}
 use Rattle.format.specs.Store.{Answer, accepted, refused, if-accepted}
@@ -72,7 +72,7 @@ abbrev pub kind : SelectionKind → Field
 kind bool-cond = number-as 0 "bool"
 kind number = number-as 1 "num"
 
--- The target Return prints `return` and is 65,535 as a word. That word prints so in any case; no region has it for a number.
+-- The target Return prints `return` and is 65,535 as a word, which is no number of a region that is accepted (`accept-valid`).
 abbrev pub target : DeferredTarget → Field
 target to-return = number-as 65535 "return"
 target (to-region r) = pick (eqb r 65535) (number-as r "return") (a-number r)
@@ -115,8 +115,8 @@ module _ (nodes : List ℕ) where
   value (bool false) = record { words = 4 ∷ 0 ∷ 0 ∷ []; text = ascii "false" }
   value (bool true) = record { words = 4 ∷ 0 ∷ 1 ∷ []; text = ascii "true" }
   value (undef ty) = undefined ty
-  value no-value = undefined 0  -- on no sheet
-  value (held r k) = undefined 0  -- on no sheet
+  value no-value = undefined 0  -- on no sheet: the references refuse it
+  value (held r k) = undefined 0  -- on no sheet: `no-marks`
 
   abbrev pub values : List Value → Field
   values vs = list (map value vs)

@@ -9,9 +9,8 @@ use lib.ListN.{length, getD, take}
 use lib.Seq.{getD-take}
 use lib.Dec.{eqb, leb}
 use borrow.Author.Tests.{eqb-true, leb-true, leb-false, eq-eqb, ne-eqb}
-use Rattle.meaning.specs.Graph.{pick}
-use Rattle.format.specs.Read.{got, word, many, distinct-from}
-use Rattle.meaning.specs.Lists.{is-in}
+use Rattle.format.specs.Read.{got, word, many}
+use Rattle.meaning.specs.Lists.{is-in, pick, distinct-from}
 use Rattle.format.specs.laws.Readers.{part, got-value}
 use Rattle.reading.specs.Parts.{word-parts}
 

@@ -6,12 +6,13 @@ use Prim.Native.Nat.{ℕ, _+_, _<_}
 use lib.ListN.{length, take}
 use lib.Dec.{eqb}
 use Rattle.meaning.specs.Graph.{Value, ControlInst}
-use Rattle.format.specs.Read.{Read, got, bad, Reader, read-then, word, within, many, counted, read-value, opcode-for, fewest-values, most-values, fewest-targets, most-targets, distinct-from, edges-passed, control-inst, terminator}
+use Rattle.format.specs.Read.{Read, got, bad, Reader, read-then, word, within, many, counted, read-value, opcode-for, fewest-values, most-values, fewest-targets, most-targets, edges-passed, control-inst, terminator}
 use Rattle.format.specs.Places.{forget-value}
 use Rattle.meaning.specs.facts.Tests.{clash}
 use Rattle.format.specs.laws.Readers.{got-place}
 use Rattle.reading.specs.Forgotten.{forget-value-follow, forget-value-given, follow-forget-value, follow-follow, taken-inside}
 use Rattle.reading.specs.Targets.{firsts, firsts-distinct, firsts-taken, many-words, words-inside}
+use Rattle.meaning.specs.Lists.{distinct-from}
 
 -- a reading of which the place is known
 pub record FoundTarget {A : Type 0} (r : Read A) (e : ℕ) : Type 0 where

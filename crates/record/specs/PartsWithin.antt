@@ -6,10 +6,11 @@ use Prim.Native.Nat.{ℕ, _+_, _≤_, _<_}
 use native.Mathlib.Omega.{arith}
 use lib.ListN.{length, getD}
 use Rattle.meaning.specs.Graph.{Value, Instr, ControlInst}
-use Rattle.format.specs.Read.{got, expect, word, within, many, counted, type, is-kind, value-from-words, index-right, read-value, instruction, opcode-for, fewest-values, most-values, fewest-targets, most-targets, distinct-from, edges-passed, control-inst, terminator, Head, head}
+use Rattle.format.specs.Read.{got, expect, word, within, many, counted, type, is-kind, value-from-words, index-right, read-value, instruction, opcode-for, fewest-values, most-values, fewest-targets, most-targets, edges-passed, control-inst, terminator, Head, head}
 use Rattle.meaning.specs.facts.Tests.{clash}
 use Rattle.format.specs.laws.Readers.{part, got-value, got-place}
 use Rattle.record.specs.Parts.{WordParts, word-parts, WithinParts, within-parts}
+use Rattle.meaning.specs.Lists.{distinct-from}
 
 -- a test that was passed
 pub record ExpectPassed (t : Bool) (at e : ℕ) : Type 0 where

@@ -4,9 +4,8 @@ use mathlib.Core.List.{_++_, map}
 use Prim.Native.Nat.{ℕ}
 use Prim.Native.String.{String}
 use lib.ListN.{getD}
-use Rattle.meaning.specs.Graph.{no-value, undef, SelectionKind, bool-cond, number, ControlInst, select-branch, edges-of}
+use Rattle.meaning.specs.Graph.{no-value, undef, SelectionKind, bool-cond, number, ControlInst, select-branch, edges-of, no-edge}
 use Rattle.meaning.specs.Text.{Text, ascii, decimal}
-use Rattle.format.specs.Read.{no-edge}
 use Rattle.format.specs.References.{values-of}
 use Rattle.fields.specs.Shape.{terminator-is}
 use Rattle.fields.specs.declared.shape.Terminator.the-variants.{Unreachable, Return, ExitInvocation, Branch, SelectBool, SelectNumber}

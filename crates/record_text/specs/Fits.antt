@@ -5,7 +5,7 @@ use Prim.Native.Nat.{ℕ, zero, suc, _+_, _≤_, _<_}
 use native.Mathlib.Omega.{arith}
 use lib.ListN.{length, getD, length-append}
 use Rattle.meaning.specs.Graph.{Graph}
-use Rattle.format.specs.Store.{Answer, accepted, refused, tabulate, pair, word-at, store-words}
+use Rattle.format.specs.Store.{Answer, accepted, refused, pair, word-at, store-words}
 use Rattle.format.specs.Read.{read-record}
 use Rattle.format.specs.References.{references}
 use Rattle.format.specs.Accept.{accept}
@@ -17,6 +17,7 @@ use Rattle.record_text.specs.Listing.{listing-of, refusal-text, shown-te
 use Rattle.record_text.specs.ItemBytes.{Small}
 use Rattle.record_text.specs.RegionBytes.{listing-enough}
 use Rattle.format.specs.laws.Refusals.{InRange, refusal-range}
+use Rattle.meaning.specs.Lists.{tabulate}
 
 -- Each is a byte.
 abbrev pub AllBytes : List ℕ → Type 0

@@ -6,8 +6,8 @@ use Prim.Native.Nat.{ℕ, zero, suc, _+_, _*_, _≤_, _<_}
 use native.Mathlib.Omega.{arith}
 use lib.ListN.{length, getD, length-append}
 use lib.Dec.{eqb, leb}
-use Rattle.meaning.specs.Graph.{Value, no-value, bool, pick, Instr}
-use Rattle.meaning.specs.Lists.{total}
+use Rattle.meaning.specs.Graph.{Value, no-value, bool, Instr}
+use Rattle.meaning.specs.Lists.{total, pick}
 use Rattle.meaning.specs.Text.{Text, decimal, listed}
 use Rattle.format.specs.Read.{got, Reader, read-then, word, many, counted, type, value-from-words, read-value, instruction, block}
 use Rattle.format.specs.laws.Readers.{part, got-place}

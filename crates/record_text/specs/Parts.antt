@@ -3,8 +3,7 @@ use mathlib.Core.Path.{_≡_, refl, sym, ap}
 use mathlib.Core.List.{List, [], _∷_, map}
 use Prim.Native.Nat.{ℕ, suc}
 use lib.ListN.{length, getD, List·getD-map}
-use Rattle.meaning.specs.Graph.{Value, Edge, Graph, region, edges-of, targets-of}
-use Rattle.format.specs.Read.{no-edge}
+use Rattle.meaning.specs.Graph.{Value, Edge, Graph, region, edges-of, targets-of, no-edge}
 use Rattle.format.specs.References.{no-instr, values-of}
 use Rattle.record_text.specs.declared.lists.Numbers.{Numbers}
 use Rattle.record_text.specs.declared.lists.Numbers.the-variants.{Constants, Inputs, Targets, Exits}

@@ -8,8 +8,8 @@ use lib.ListN.{length, getD}
 use lib.Dec.{eqb}
 use borrow.Author.Tests.{eq-eqb, ne-eqb, eqb-false}
 use Rattle.meaning.specs.Graph.{Value, Edge}
-use Rattle.meaning.specs.Lists.{total, is-in, Distinct}
-use Rattle.format.specs.Read.{distinct-from, rank, edges-passed}
+use Rattle.meaning.specs.Lists.{total, is-in, Distinct, distinct-from, rank}
+use Rattle.format.specs.Read.{edges-passed}
 use Rattle.format.specs.References.{first-edges}
 use Rattle.meaning.specs.facts.Tests.{clash}
 use Rattle.fields.specs.Targets.{distinct-again, distinct-new, rank-here, rank-next}

@@ -8,10 +8,9 @@ use lib.ListN.{length, getD, drop, drop-of-length-le, List·getD-map}
 use lib.Seq.{drop-cons}
 use lib.Dec.{eqb}
 use borrow.Author.Tests.{eqb-true}
-use Rattle.meaning.specs.Graph.{Edge}
+use Rattle.meaning.specs.Graph.{Edge, no-edge}
 use Rattle.meaning.specs.Text.{Text}
 use Rattle.meaning.specs.Lists.{is-in}
-use Rattle.format.specs.Read.{no-edge}
 use Rattle.format.specs.References.{first-edges}
 use Rattle.fields.specs.Repeats.{before, stands-before}
 use Rattle.text.specs.Text.{text-of-each}

@@ -7,13 +7,12 @@ use native.Mathlib.Omega.{arith}
 use lib.ListN.{length, getD, length-append}
 use lib.Dec.{eqb}
 use Rattle.meaning.specs.Graph.{Value, Edge, edges-of, Region, Graph}
-use Rattle.meaning.specs.Lists.{total, is-in}
+use Rattle.meaning.specs.Lists.{total, is-in, All}
 use Rattle.meaning.specs.Text.{decimal}
 use Rattle.format.specs.Store.{accepted}
 use Rattle.format.specs.Read.{got, word, many, counted, type, read-value, opcode-for, fewest-values, fewest-targets, edges-passed, control-inst, terminator, read-region, regions-from, head, read-record}
 use Rattle.format.specs.References.{first-edges}
 use Rattle.format.specs.laws.Readers.{many-length}
-use Rattle.format.specs.Valid.{All}
 use Rattle.format.specs.laws.WellRead.{counted-all}
 use Rattle.record.specs.Parts.{word-parts, within-parts, counted-parts, region-parts, settled-at, then, accepted-value, regions-many}
 use Rattle.record.specs.PartsWithin.{terminator-parts, head-parts}

@@ -2,9 +2,8 @@
 ghost use mathlib.Core.List.{[], _++_};
 ghost use Prim.Native.Nat.{_+_, _≤_};
 ghost use lib.ListN.{getD};
-ghost use Rattle.meaning.specs.Graph.{Graph, no-value, region, edges-of, targets-of};
+ghost use Rattle.meaning.specs.Graph.{Graph, no-value, region, edges-of, targets-of, no-edge};
 ghost use Rattle.meaning.specs.Text.{ascii, listed};
-ghost use Rattle.format.specs.Read.{no-edge};
 ghost use Rattle.format.specs.References.{no-instr, values-of};
 ghost use Rattle.record.specs.Stands.{Stands};
 ghost use Rattle.fields.specs.Repeats.{stands-before};

@@ -6,10 +6,9 @@ use Prim.Native.Nat.{ℕ, _+_, _<_}
 use native.Mathlib.Numerals.{add-one}
 use lib.ListN.{length, getD, drop, List·getD-map}
 use lib.Dec.{eqb}
-use Rattle.meaning.specs.Graph.{Graph, Edge, pick}
+use Rattle.meaning.specs.Graph.{Graph, Edge, no-edge}
 use Rattle.format.specs.Store.{Answer, accepted, if-accepted}
-use Rattle.meaning.specs.Lists.{is-in}
-use Rattle.format.specs.Read.{no-edge}
+use Rattle.meaning.specs.Lists.{is-in, pick}
 use Rattle.format.specs.References.{first-refusal, edge-right, first-edges}
 use Rattle.fields.specs.Repeats.{before, stands-before}
 use Rattle.fields.specs.Targets.{seen-twice}

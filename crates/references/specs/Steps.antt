@@ -101,10 +101,10 @@ module _ (g : Graph) (r : ℕ) where
 
 -- A target or an exit against the number of regions that the code has.
 module _ (g : Graph) (r : ℕ) {count t : ℕ} (regions : count ≡ length (g .regions)) where
-  no-region : (x : ℕ) → t ≡ x → count ≤ t → is-region g r x ≡ false
+  no-region : (x : ℕ) → t ≡ x → count ≤ t → is-region g x ≡ false
   no-region x is l = le-ltb x (length (g .regions)) (omega arith)
 
-  a-region : (x : ℕ) → t ≡ x → t < count → is-region g r x ≡ true
+  a-region : (x : ℕ) → t ≡ x → t < count → is-region g x ≡ true
   a-region x is l = lt-ltb x (length (g .regions)) (omega arith)
 
   pub bad-target : (e : Edge) → t ≡ e .target → count ≤ t → refused 6 r ≡ target-right g r e

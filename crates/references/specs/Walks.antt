@@ -7,10 +7,9 @@ use native.Mathlib.Omega.{arith}
 use native.Mathlib.Numerals.{add-one}
 use lib.ListN.{length, getD, drop, drop-of-length-le}
 use lib.Seq.{drop-cons}
-use Rattle.meaning.specs.Graph.{Graph, Value, no-value, Instr, Edge, region, nowhere, edges-of}
+use Rattle.meaning.specs.Graph.{Graph, Value, no-value, Instr, Edge, region, nowhere, edges-of, no-edge}
 use Rattle.format.specs.Store.{Answer, if-accepted}
 use Rattle.meaning.specs.Lists.{is-in}
-use Rattle.format.specs.Read.{no-edge}
 use Rattle.format.specs.References.{no-instr, behind-all, refuse-unless, first-refusal, is-region, named-right, of-type, reads-right, types-right, exits-right, region-right, regions-right}
 use Rattle.fields.specs.Repeats.{before, stands-before}
 use Rattle.references.specs.Walk.{Walk, then-then}
@@ -61,7 +60,7 @@ module _ (g : Graph) (r : ℕ) where
 
   -- an exit that is a region, and stands for the first time
   abbrev pub exit-right : List ℕ → ℕ → Answer Unit
-  exit-right xs k = if-accepted (refuse-unless 6 r (is-region g r (getD xs k 0))) λ _. refuse-unless 8 r (not (stands-before xs k))
+  exit-right xs k = if-accepted (refuse-unless 6 r (is-region g (getD xs k 0))) λ _. refuse-unless 8 r (not (stands-before xs k))
 
   pub exits-walk : (xs : List ℕ) {m : ℕ} → m ≡ length xs → Walk (λ k. exits-right g r (before xs k) (drop k xs)) (λ k. exit-right xs k) m
   unfolding exits-right before stands-before
@@ -69,8 +68,8 @@ module _ (g : Graph) (r : ℕ) where
       record {
         more = λ k l.
             ap (exits-right g r (before xs k)) (from xs 0 size k l)
-            ∙ then-then (refuse-unless 6 r (is-region g r (getD xs k 0))) (λ _. refuse-unless 8 r (not (is-in (getD xs k 0) (before xs k)))) (λ _. exits-right g r (getD xs k 0 ∷ before xs k) (drop (k + 1) xs))
-            ∙ ap (λ j. if-accepted (if-accepted (refuse-unless 6 r (is-region g r (getD xs k 0))) λ _. refuse-unless 8 r (not (is-in (getD xs k 0) (before xs k)))) (λ _. exits-right g r (before xs j) (drop (k + 1) xs))) (sym (add-one k));
+            ∙ then-then (refuse-unless 6 r (is-region g (getD xs k 0))) (λ _. refuse-unless 8 r (not (is-in (getD xs k 0) (before xs k)))) (λ _. exits-right g r (getD xs k 0 ∷ before xs k) (drop (k + 1) xs))
+            ∙ ap (λ j. if-accepted (if-accepted (refuse-unless 6 r (is-region g (getD xs k 0))) λ _. refuse-unless 8 r (not (is-in (getD xs k 0) (before xs k)))) (λ _. exits-right g r (before xs j) (drop (k + 1) xs))) (sym (add-one k));
         done = λ k l. ap (exits-right g r (before xs k)) (none-from xs 0 size k l);
       }
 

@@ -5,11 +5,12 @@ use Prim.Native.Nat.{ℕ, zero, suc, _+_, _≤_, _<_}
 use native.Mathlib.Omega.{arith}
 use lib.ListN.{length, getD, take, drop, List·getD-append}
 use lib.Seq.{take-at, drop-at}
-use Rattle.format.specs.Store.{accepted, store-words, tabulate, word-at}
+use Rattle.format.specs.Store.{accepted, store-words, word-at}
 use Rattle.store.specs.Loaded.{words-after, Loads}
 use Rattle.store.specs.declared.Loaded.the-variants.{Words}
 use Rattle.store.proofs.Words.{length-tabulate}
 use Rattle.store.proofs.Store.{holds}
+use Rattle.meaning.specs.Lists.{tabulate}
 
 -- The store's words are the first w, w is among them as word 0, and the others are as lent.
 pub record Front (s before after : List ℕ) (w : ℕ) : Type 0 where

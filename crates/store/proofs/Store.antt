@@ -7,9 +7,10 @@ use native.Mathlib.Omega.{arith}
 use lib.ListN.{length, drop}
 use lib.Dec.{eqb, ltb}
 use borrow.Author.Tests.{lt-ltb, le-leb, lt-leb, eq-eqb, ne-eqb, leb-true, ltb-true, eqb-true}
-use Rattle.format.specs.Store.{Answer, accepted, refused, if-accepted, blocks-checked, word-at, all-zero, length-right, count-right, tabulate, store-words}
+use Rattle.format.specs.Store.{Answer, accepted, refused, if-accepted, blocks-checked, word-at, all-zero, length-right, count-right, store-words}
 use Rattle.store.specs.Loaded.{words-counted, words-after}
 use Rattle.store.proofs.Words.{length-tabulate}
+use Rattle.meaning.specs.Lists.{tabulate}
 
 -- The answer by the length's test, the blocks' verdict and W's test.
 abbrev judged : List ℕ → Bool → Answer Unit → Bool → Answer (List ℕ)

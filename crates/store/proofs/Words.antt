@@ -10,8 +10,9 @@ use native.Mathlib.Nat.{not-suc-le-zero, eq-or-lt-of-le, le-of-suc-le-suc}
 use lib.ListN.{length, length-append, drop, set}
 use lib.Seq.{set-at, drop-cons, append-snoc}
 use borrow.Author.Tests.{eq-eqb, ne-eqb, lt-ltb}
-use Rattle.format.specs.Store.{pair, tabulate, word-at, all-zero, count-right}
+use Rattle.format.specs.Store.{pair, word-at, all-zero, count-right}
 use Rattle.store.specs.Block.{byte-place}
+use Rattle.meaning.specs.Lists.{tabulate}
 
 pub place-next : (j at : ℕ) → at ≡ byte-place j → at % 512 ≡ 506 → at + 8 ≡ byte-place (j + 1)
 place-next j at e h =

@@ -3,9 +3,10 @@ ghost use mathlib.Core.Path.{_≡_};
 ghost use mathlib.Core.List.{_++_};
 ghost use Prim.Native.Nat.{ℕ, _+_, _*_, _/_, _≤_, _<_};
 ghost use lib.ListN.{length, drop};
-ghost use Rattle.format.specs.Store.{pair, weighted, blocks-checked, word-at, all-zero, count-right, tabulate, store-words};
+ghost use Rattle.format.specs.Store.{pair, weighted, blocks-checked, word-at, all-zero, count-right, store-words};
 ghost use Rattle.store.specs.Loaded.{load-answered, blocks-answered, words-counted, Loads};
 ghost use Rattle.store.specs.Block.{first-wrong, block-checked, byte-place};
+ghost use Rattle.meaning.specs.Lists.{tabulate};
 
 // How many words are lent: the record's stand in front.
 pub const WORDS: usize = 32256;

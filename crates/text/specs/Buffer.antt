@@ -7,7 +7,7 @@ use lib.ListN.{length, set}
 use lib.Seq.{set-out}
 use lib.Dec.{leb}
 use borrow.Author.Tests.{le-leb, lt-leb}
-use Rattle.meaning.specs.Graph.{pick}
+use Rattle.meaning.specs.Lists.{pick}
 
 -- The place is at most the length while every byte found room, and one more from the first that found none on.
 pub record Buffer : Type 0 where

@@ -8,10 +8,10 @@ use lib.ListN.{length, take, drop, length-append}
 use lib.Seq.{set-at, set-out, take-nil, append-snoc}
 use lib.Dec.{leb}
 use borrow.Author.Tests.{le-leb, lt-leb, leb-true, leb-false}
-use Rattle.meaning.specs.Graph.{pick}
 use Rattle.text.specs.declared.Written.{Written}
 use Rattle.text.specs.declared.Written.the-variants.{Bytes, Full}
 use Rattle.text.specs.Buffer.{buffer, puts, Wrote}
+use Rattle.meaning.specs.Lists.{pick}
 
 -- A place beyond the buffer's end says that some byte found no room.
 abbrev pub written-to : ℕ → ℕ → Written

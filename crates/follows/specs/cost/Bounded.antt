@@ -32,14 +32,14 @@ record Costs (n : ℕ) (s : RunState) (x : Ran) : Type 0 where
 both : {n m : ℕ} {s t u : RunState} (k : ℕ) → n + m ≤ k → AtMost n s t → AtMost m t u → AtMost k s u
 both k l a b = record { within = λ e. let y = b .within e in let x = a .within (y .0) in (x .0, omega arith) }
 
-after : {n m : ℕ} {s t : RunState} (k : ℕ) → n + m ≤ k → AtMost n s t → (x : Ran) → Costs m t x → Costs k s x
-after k l a (through u) b = record { costs = both k l a (b .costs) }
-after k l a (ended e u) b = record { costs = both k l a (b .costs) }
-after k l a (no-end why) b = record { costs = tt }
+costs-after : {n m : ℕ} {s t : RunState} (k : ℕ) → n + m ≤ k → AtMost n s t → (x : Ran) → Costs m t x → Costs k s x
+costs-after k l a (through u) b = record { costs = both k l a (b .costs) }
+costs-after k l a (ended e u) b = record { costs = both k l a (b .costs) }
+costs-after k l a (no-end why) b = record { costs = tt }
 
 and-then-costs : {n m : ℕ} {s : RunState} (k : ℕ) → n + m ≤ k → (x : Ran) (f : RunState → Ran) → Costs n s x → ((t : RunState) → Costs m t (f t))
     → Costs k s (and-then x f)
-and-then-costs k l (through t) f a b = after k l (a .costs) (f t) (b t)
+and-then-costs k l (through t) f a b = costs-after k l (a .costs) (f t) (b t)
 and-then-costs k l (ended e t) f a b = record { costs = record { within = λ h. let x = a .costs .within h in (x .0, omega arith) } }
 and-then-costs k l (no-end why) f a b = record { costs = tt }
 
@@ -87,7 +87,7 @@ module _ (rule : Rule) (test-cost : ℕ) where
   once-more-costs : (m : ℕ) (f : RunState → Ran) (vs : List Value) → ((t : RunState) → Costs m t (f t)) → (w : ℕ) (s : RunState)
       → Costs (test-cost + m) s (once-more f vs w (pay test-cost s))
   once-more-costs m f vs later zero s = record { costs = both _ (omega arith) (pay-costs test-cost s) (leaving-costs-nothing m vs _) }
-  once-more-costs m f vs later (suc w) s = after _ (omega arith) (pay-costs test-cost s) _ (later _)
+  once-more-costs m f vs later (suc w) s = costs-after _ (omega arith) (pay-costs test-cost s) _ (later _)
 
   module _ (x : LoopNode) (run : RunState → Ran) (n : ℕ) (body-costs : (s : RunState) → Costs n s (run s)) where
     -- what the turns that are left may cost
@@ -103,7 +103,7 @@ module _ (rule : Rule) (test-cost : ℕ) where
     turn-costs made s f later true e =
         over-limit _ s _ (and-then-costs (n + (test-cost + left (suc made))) (omega arith) (run (note-over true s)) f (body-costs _) later)
     turn-costs made s f later false e =
-        after {m = left made} _ (omega arith) (within-limit s) _
+        costs-after {m = left made} _ (omega arith) (within-limit s) _
         (and-then-costs (left made) (one-less made (leb-false (x .limit) made e)) (run (note-over false s)) f (body-costs _) later)
 
     turns-cost : (b made : ℕ) (s : RunState) → Costs (left made) s (turns rule test-cost b made x run s)
@@ -112,7 +112,7 @@ module _ (rule : Rule) (test-cost : ℕ) where
     turns-cost (suc b) made s =
         turn-costs made s _
         (λ t. tested-costs (t .env (x .repeat)) _ λ w. once-more-costs (left (suc made)) _ (x .outputs)
-        (λ u. after {n = 0} _ (omega arith) (inputs-cost-nothing (x .body) (x .outputs) u) _ (turns-cost b (suc made) _)) w t)
+        (λ u. costs-after {n = 0} _ (omega arith) (inputs-cost-nothing (x .body) (x .outputs) u) _ (turns-cost b (suc made) _)) w t)
         (leb (x .limit) made) refl
 
   mutual
@@ -123,10 +123,10 @@ module _ (rule : Rule) (test-cost : ℕ) where
     node-costs (select x cs) b s =
         tested-costs (s .env (x .scrutinee)) _ λ w.
         let j = place-taken (x .kind) w (case-count cs) in
-        after _ (omega (arith, dearest-case test-cost cs j)) (pay-costs test-cost s) _ (case-costs cs b j (x .outputs) (pay test-cost s))
+        costs-after _ (omega (arith, dearest-case test-cost cs j)) (pay-costs test-cost s) _ (case-costs cs b j (x .outputs) (pay test-cost s))
     node-costs (loop x ks) b s =
         let e : x .limit - 0 ≡ x .limit = omega arith in
-        after {n = 0} _ (rw e (omega arith)) (inputs-cost-nothing (x .body) (x .initial-inputs) s) _
+        costs-after {n = 0} _ (rw e (omega arith)) (inputs-cost-nothing (x .body) (x .initial-inputs) s) _
         (turns-cost x (λ t. run-nodes rule test-cost b ks t) (figure test-cost ks) (λ t. nodes-cost ks b t) b 0 _)
     node-costs (exit n op vs) b s = record { costs = stands 0 s }
 

@@ -61,23 +61,23 @@ module _ (g : Graph) where
       once = reachable-once g;
       below = λ r i. reachable-region g (usable-graph g valid) r i;
       closed = target-reachable g;
-      counted = λ r i. incoming-at g r (reachable-region g (usable-graph g valid) r i);
+      counts-right = λ r i. incoming-at g r (reachable-region g (usable-graph g valid) r i);
     }
 
-    abbrev start : List StructurizeRegionState
-    start = replicate (length (g .regions)) not-begun
+    abbrev first-states : List StructurizeRegionState
+    first-states = replicate (length (g .regions)) not-begun
 
-    owed-start : owed counting start ≡ edges-from g (reachable g) + length (reachable g) * (2 * length (reachable g))
+    owed-start : owed counting first-states ≡ edges-from g (reachable g) + length (reachable g) * (2 * length (reachable g))
     unfolding owed
     owed-start =
-        total-same (λ i. owed-by counting i (getD start i not-begun)) (λ i. length (edges-of (region g i .terminator)) + 2 * length (reachable g)) (λ i. ap (owed-by counting i) (all-not-begun (length (g .regions)) i)) (reachable g)
+        total-same (λ i. owed-by counting i (getD first-states i not-begun)) (λ i. length (edges-of (region g i .terminator)) + 2 * length (reachable g)) (λ i. ap (owed-by counting i) (all-not-begun (length (g .regions)) i)) (reachable g)
         ∙ total-add (λ i. length (edges-of (region g i .terminator))) (λ i. 2 * length (reachable g)) (reachable g)
         ∙ (let z = edges-over (reachable g) in let y = total-each (2 * length (reachable g)) (reachable g) in omega arith)
 
-    edges-held-start : (r : ℕ) → edges-held counting r start ≡ incoming-from r (reachable g)
+    edges-held-start : (r : ℕ) → edges-held counting r first-states ≡ incoming-from r (reachable g)
     unfolding edges-held
     edges-held-start r =
-        total-same (λ i. edges-held-by counting r i (getD start i not-begun)) (λ i. times-in r (targets-of g i) + times-in r (exit-targets g i))
+        total-same (λ i. edges-held-by counting r i (getD first-states i not-begun)) (λ i. times-in r (targets-of g i) + times-in r (exit-targets g i))
         (λ i. ap (edges-held-by counting r i) (all-not-begun (length (g .regions)) i)) (reachable g)
         ∙ over-incoming r (reachable g)
 
@@ -97,9 +97,9 @@ module _ (g : Graph) where
     squared (suc n) a e h = let z : 2 * suc n - 1 ≡ 2 * n + 1 = omega arith in rw z (omega arith)
 
     -- what is shown of the answer
-    abbrev Within : Store.Answer Nested → Type 0
-    Within (accepted x) = x .attempts ≤ most-attempts g (reachable g)
-    Within (refused n w) = n ≡ 9
+    abbrev FewOrNine : Store.Answer Nested → Type 0
+    FewOrNine (accepted x) = x .attempts ≤ most-attempts g (reachable g)
+    FewOrNine (refused n w) = Nine n w
 
     of-outcome : (s : NestState) (children : Nodes) (d : DeferredEdgeBundleSet) (o : Outcome) → conclude-by g s children d o .attempts ≡ s .attempts
     of-outcome s children d untouched = refl
@@ -107,7 +107,7 @@ module _ (g : Graph) where
     of-outcome s children d closed = refl
     of-outcome s children d leftover = refl
 
-    concluded : (a : StepAnswer (Option ClaimedRegion)) → getD (incoming-edge-counts g) (g .entry) 0 ≡ 1 → Post Nine (λ o s′. Claims counting 1 (g .entry) 1 (initial-state g) o s′) a → Within (conclude g a)
+    concluded : (a : StepAnswer (Option ClaimedRegion)) → getD (incoming-edge-counts g) (g .entry) 0 ≡ 1 → Post Nine (λ o s′. Claims counting 1 (g .entry) 1 (initial-state g) o s′) a → FewOrNine (conclude g a)
     unfolding conclude
     concluded (turned-away n w) i p = p .post
     concluded (done none s) i p = let z = incoming-at g (g .entry) (valid .entry) in let y = p .post .good in absurd (omega arith)
@@ -117,18 +117,18 @@ module _ (g : Graph) where
         let same = of-outcome s (c .children) (c .deferred-edges) (outcome-of (c .deferred-edges)) in
         rw same (squared (length (reachable g)) (s .attempts) (edges-from g (reachable g)) (omega arith))
 
-    within : Within (structurize-func g)
+    few-or-nine : FewOrNine (structurize-func g)
     unfolding structurize-func structurize-func-by
-    within = go (eqb (getD (incoming-edge-counts g) (g .entry) 0) 1) refl
+    few-or-nine = go (eqb (getD (incoming-edge-counts g) (g .entry) 0) 1) refl
       where
         go : (b : Bool) → eqb (getD (incoming-edge-counts g) (g .entry) 0) 1 ≡ b
-            → Within (elim b [ false ↦ accepted (conclude-by g (initial-state g) ⟨⟩ [] untouched) | true ↦ conclude g (try-claim-edge-bundle g (incoming-edge-counts g) (suc (length (g .regions))) (g .entry) 1 [] (initial-state g)) ])
+            → FewOrNine (elim b [ false ↦ accepted (conclude-by g (initial-state g) ⟨⟩ [] untouched) | true ↦ conclude g (try-claim-edge-bundle g (incoming-edge-counts g) (suc (length (g .regions))) (g .entry) 1 [] (initial-state g)) ])
         go false p = omega arith
         go true p = concluded _ (eqb-true _ 1 p) entry-counted
 
 -- Statement 3.
 pub attempts : Attempts
-attempts g valid n p = record { reached = just-reached g; few = rw p at (within g valid) }
+attempts g valid n p = record { reached = just-reached g; few = rw p at (few-or-nine g valid) }
 
-pub refused-nine : (g : Graph) → Valid g → (n w : ℕ) → structurize-func g ≡ refused n w → n ≡ 9
-refused-nine g valid n w p = rw p at (within g valid)
+pub refused-nine : (g : Graph) → Valid g → (n w : ℕ) → structurize-func g ≡ refused n w → Nine n w
+refused-nine g valid n w p = rw p at (few-or-nine g valid)

@@ -8,9 +8,9 @@ use native.Mathlib.Omega.{arith}
 use lib.ListN.{length, set}
 use lib.Dec.{eqb}
 use borrow.Author.Tests.{eqb-true, eqb-false, eq-eqb}
-use Rattle.meaning.specs.Graph.{Value, Graph, pick}
+use Rattle.meaning.specs.Graph.{Value, Graph}
 use Rattle.meaning.specs.Runs.{Nodes}
-use Rattle.meaning.specs.Lists.{is-in, times-in}
+use Rattle.meaning.specs.Lists.{is-in, times-in, pick}
 use Rattle.meaning.specs.facts.Tests.{clash}
 use Rattle.nesting.specs.Nesting.{exit-targets, LazyCond, to-region, DeferredEdgeBundle, DeferredEdgeBundleSet, StructurizeRegionState, not-begun, in-progress, claimed, ready, renumber-or-replace-with, NestState, Step, give, turn-away, _>>_, set-state, define-region, define-node, rewrite-values, materialize-lazy-cond, condition-in, get-edge-bundle-by-target, split-out-target, ClaimedRegion, no-inputs, take-inputs, add-exit-edge, structurize-loop, backedge-of, claim-body, claim-by-state}
 use Rattle.nesting.specs.steps.Post.{Post, map-post, bind}
@@ -35,12 +35,12 @@ loop-set : (g : Graph) (body : ℕ) (children : Nodes) (backedge : DeferredEdgeB
     (structurize-loop g body children backedge repeat exits inputs s)
 unfolding structurize-loop
 loop-set g body children backedge repeat exits inputs s =
-    bind (define-region s) _ (define-region-keeps still-steady Nine refl s) λ wrapper s₁ q₁.
-    bind (rewrite-values (backedge .target-inputs) s₁) _ (rewrite-values-keeps still-steady Nine refl (backedge .target-inputs) s₁) λ vs s₂ q₂.
+    bind (define-region s) _ (define-region-keeps still-steady Nine (refl, refl) s) λ wrapper s₁ q₁.
+    bind (rewrite-values (backedge .target-inputs) s₁) _ (rewrite-values-keeps still-steady Nine (refl, refl) (backedge .target-inputs) s₁) λ vs s₂ q₂.
     let s₃ = with-entry (record { region = body; rewrites = renumber-or-replace-with (take-inputs g body wrapper 0 vs no-inputs .rewrites) }) s₂ in
     let q₃ : Still s₂ s₃ = record { states = refl; attempts = refl } in
-    bind (materialize-lazy-cond repeat s₃) _ (materialize-keeps still-steady Nine refl repeat s₃) λ v s₄ q₄.
-    bind (define-node s₄) (λ n. give (some (loop-claimed g body children exits inputs wrapper vs v n))) (define-node-keeps still-steady Nine refl s₄) λ n s₅ q₅.
+    bind (materialize-lazy-cond repeat s₃) _ (materialize-keeps still-steady Nine (refl, refl) repeat s₃) λ v s₄ q₄.
+    bind (define-node s₄) (λ n. give (some (loop-claimed g body children exits inputs wrapper vs v n))) (define-node-keeps still-steady Nine (refl, refl) s₄) λ n s₅ q₅.
     record { post = record { still = still-then q₁ (still-then q₂ (still-then q₃ (still-then q₄ q₅))); is = refl } }
 
 module _ (K : Counting) where

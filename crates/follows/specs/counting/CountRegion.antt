@@ -12,10 +12,10 @@ use borrow.Author.Tests.{eqb-true}
 use Rattle.meaning.specs.Graph.{bool-cond, Edge, region, edges-of}
 use Rattle.meaning.specs.Lists.{is-in}
 use Rattle.meaning.specs.facts.Tests.{clash}
-use Rattle.nesting.specs.Nesting.{to-region, StructurizeRegionState, not-begun, in-progress, claimed, ready, NestState, follow, get-state, condition-in, count-to, MaybeClaimedRegion, ok, err, lazy, Body, blocks-of, structurize-select-into, Claim, SplitOut, begin, claim-by-state, by-control-inst, resolve-by, target-regions, split-out-matching, resolve-deferred, structurize-region, try-claim-edge-bundle}
+use Rattle.nesting.specs.Nesting.{to-region, StructurizeRegionState, not-begun, in-progress, claimed, ready, NestState, follow, get-state, condition-in, count-to, MaybeClaimedRegion, ok, err, lazy, Body, blocks-of, structurize-select-into, Claim, SplitOut, begin, claim-by-state, by-control-inst, resolve-by, target-regions, split-out-matching, resolve-deferred, structurize-region, try-claim-edge-bundle, add-attempt}
 use Rattle.nesting.specs.steps.Post.{Post, map-post, bind}
 use Rattle.nesting.specs.steps.StatesKept.{still-refl}
-use Rattle.nesting.specs.steps.RegionsLeft.{count-set, not-begun-one, state-of, with-attempt, with-state}
+use Rattle.nesting.specs.steps.RegionsLeft.{count-set, not-begun-one, state-of, with-state}
 use Rattle.meaning.specs.facts.Members.{in-front, in-rest}
 use Rattle.follows.specs.counting.Totals.{edge-total, totals, edges-to, to-regions}
 use Rattle.follows.specs.counting.SplitTotals.{count-total}
@@ -74,7 +74,7 @@ module _ (K : Counting) where
             let scrutinee = lazy (condition-in (x .deferred-edges) (y .bundle)) in
             let st₁ : Counted K 0 0 f (λ r. totals (edges-to r) (ok (y .claimed-region) ∷ err (y .others) ∷ [])) s s₁ = counted-as K (h .step) 0 0 f (λ r. totals (edges-to r) (ok (y .claimed-region) ∷ err (y .others) ∷ [])) (let z = scan in omega arith) (λ r. omega arith) in
             bind (structurize-select-into (K .g) (x .children) bool-cond scrutinee cs s₁) (λ x′. resolve-deferred (K .g) claim n x′)
-            (map-post _ (select-into-total Nine refl (K .g) (x .children) bool-cond scrutinee cs s₁)
+            (map-post _ (select-into-total Nine (refl, refl) (K .g) (x .children) bool-cond scrutinee cs s₁)
             λ x′ s₂ q. selected-counted K s₁ cs x′ s₂ (h .step .inv) (h .good .0 .fits, (h .good .1 .fits, tt)) (let u = h .good .0 .full in let v = h .good .1 .full in omega arith) q) λ x′ s₂ b.
             let st₂ : Counted K 0 0 f (λ r. edge-total (edges-to r) (x′ .deferred-edges)) s s₂ = counted-then K st₁ (b .step) (omega arith) (λ r. omega arith) in
             map-post _ (ih x′ s₂ (b .good) (pre-after K pre st₂)) λ y′ s₃ c.
@@ -180,7 +180,7 @@ module _ (K : Counting) where
   claim-counted (suc fuel) q n inputs H s in-q pos pre =
       let f : ℕ → ℕ = λ r. edges-to r (to-region q) n in
       let claim : Claim = λ r′ n′ inputs′. try-claim-edge-bundle (K .g) (K .counts) fuel r′ n′ inputs′ in
-      let s₀ = with-attempt s in
+      let s₀ = add-attempt s in
       let st₀ : Counted K 1 0 f f s s₀ = record { inv = pre .inv; paid = omega arith; begun = omega arith; kept = λ r. omega arith; stay = λ r. refl } in
       let pre₀ = pre-after K pre st₀ in
       bind (follow (begin (state-of s q) (structurize-region (K .g) claim q) s₀) (λ u. get-state q)) (claim-by-state (K .g) q n inputs (getD (K .counts) q 0))
@@ -188,5 +188,5 @@ module _ (K : Counting) where
       (begin-counted fuel claim (claim-counted fuel) q n H s₀ in-q pos pre₀ (state-of s q) refl) λ u s₁ b. record { post = record { step = b .step; is = refl; old = b .old } })
       λ x s₁ b.
       let st₁ : Counted K 1 0 f f s s₁ = counted-then K st₀ (b .step) (omega arith) (λ r. omega arith) in
-      rw (K .counted q in-q) (map-post _ (claim-by-state-counted K q n inputs (suc fuel) H s₁ in-q pos (pre-after K pre₀ (b .step)) x (b .is) (b .old)) λ o s′ h.
+      rw (K .counts-right q in-q) (map-post _ (claim-by-state-counted K q n inputs (suc fuel) H s₁ in-q pos (pre-after K pre₀ (b .step)) x (b .is) (b .old)) λ o s′ h.
       record { step = counted-then K st₁ (h .step) (omega arith) (λ r. omega arith); good = h .good })

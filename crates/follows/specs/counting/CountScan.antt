@@ -8,9 +8,9 @@ use native.Mathlib.Omega.{arith}
 use lib.ListN.{length}
 use lib.Dec.{eqb}
 use borrow.Author.Tests.{eqb-true, eq-eqb}
-use Rattle.meaning.specs.Graph.{Value, Edge, ControlInst, unreachable, return, exit-invocation, branch, select-branch, pick}
+use Rattle.meaning.specs.Graph.{Value, Edge, ControlInst, unreachable, return, exit-invocation, branch, select-branch}
 use Rattle.meaning.specs.Runs.{Nodes}
-use Rattle.meaning.specs.Lists.{is-in, empty, times-in, total}
+use Rattle.meaning.specs.Lists.{is-in, empty, times-in, total, pick}
 use Rattle.nesting.specs.Nesting.{DeferredTarget, to-region, to-return, DeferredEdgeBundle, DeferredEdgeBundleSet, StructurizeRegionState, not-begun, in-progress, claimed, ready, NestState, Step, _>>=_, define-node, ClaimedRegion, MaybeClaimedRegion, err, value, Body, deferred-of, has-children, append-maybe-claimed-region, structurize-select-into, Claim, SplitOut, defer-edge, unclaimed-edge, edge-case, split-out-or, by-control-inst, target-regions, split-out-matching}
 use Rattle.nesting.specs.steps.Post.{Post, map-post, bind}
 use Rattle.nesting.specs.steps.Keeps.{define-node-keeps}
@@ -89,13 +89,13 @@ module _ (K : Counting) where
   by-control-inst-counted parent unreachable cs s i fi fu = record { post = record { step = counted-still K (still-refl s) i (λ r. omega arith); good = good-empty } }
   by-control-inst-counted parent (return vs) cs s i fi fu = record { post = record { step = counted-still K (still-refl s) i (λ r. omega arith); good = record { fits = λ r. omega arith; full = refl } } }
   by-control-inst-counted parent (exit-invocation op vs) cs s i fi fu =
-      bind (define-node s) _ (define-node-keeps still-steady Nine refl s) λ n s₁ q. record { post = record { step = counted-still K q i (λ r. omega arith); good = good-empty } }
+      bind (define-node s) _ (define-node-keeps still-steady Nine (refl, refl) s) λ n s₁ q. record { post = record { step = counted-still K q i (λ r. omega arith); good = good-empty } }
   by-control-inst-counted parent (branch e) [] s i fi fu = record { post = record { step = counted-still K (still-refl s) i (λ r. omega arith); good = good-empty } }
   by-control-inst-counted parent (branch e) (c ∷ cs) s i fi fu =
-      map-post (append-maybe-claimed-region parent c s) (append-total Nine refl (K .g) parent c s) λ y s₁ q.
+      map-post (append-maybe-claimed-region parent c s) (append-total Nine (refl, refl) (K .g) parent c s) λ y s₁ q.
       record { step = counted-still K (q .0) i (λ r. let z = ap (edge-total (edges-to r)) (q .1) in omega arith); good = rw (q .1) (record { fits = fi .0; full = omega arith }) }
   by-control-inst-counted parent (select-branch kind v es) cs s i fi fu =
-      map-post (structurize-select-into (K .g) parent kind (value v) cs s) (select-into-total Nine refl (K .g) parent kind (value v) cs s) λ y s₁ q. selected-counted s cs y s₁ i fi fu q
+      map-post (structurize-select-into (K .g) parent kind (value v) cs s) (select-into-total Nine (refl, refl) (K .g) parent kind (value v) cs s) λ y s₁ q. selected-counted s cs y s₁ i fi fu q
 
   -- ---- a scan makes one attempt for each region in the set, and these are no more than the live regions
   live-of : (q : ℕ) → 1 ≤ live-one K q → is-in q (K .live) ≡ true

@@ -8,8 +8,8 @@ use lib.ListN.{length, getD, set, length-set}
 use lib.Seq.{getD-set-same, getD-set-other}
 use lib.Dec.{eqb}
 use borrow.Author.Tests.{eqb-false}
-use Rattle.meaning.specs.Graph.{Graph, region, edges-of, targets-of, pick}
-use Rattle.meaning.specs.Lists.{is-in, Distinct, times-in, total}
+use Rattle.meaning.specs.Graph.{Graph, region, edges-of, targets-of}
+use Rattle.meaning.specs.Lists.{is-in, Distinct, times-in, total, pick}
 use Rattle.nesting.specs.Nesting.{exit-targets, DeferredEdgeBundleSet, StructurizeRegionState, not-begun, in-progress, claimed, ready, NestState}
 use Rattle.nesting.specs.steps.StatesKept.{Still}
 use Rattle.nesting.specs.steps.RegionsLeft.{state-of, not-begun-one, count-states, not-begun-count}
@@ -26,11 +26,11 @@ pub record Counting : Type 0 where
   pub once : Distinct live
   pub below : (r : ℕ) → is-in r live ≡ true → r < length (g .regions)
   pub closed : (r x : ℕ) → is-in r live ≡ true → is-in x (targets-of g r) ≡ true → is-in x live ≡ true
-  pub counted : (r : ℕ) → is-in r live ≡ true → getD counts r 0 ≡ incoming r
+  pub counts-right : (r : ℕ) → is-in r live ≡ true → getD counts r 0 ≡ incoming r
 
--- Only a limit refuses.
-abbrev pub Nine : ℕ → Type 0
-Nine n = n ≡ 9
+-- Only a limit refuses: number 9, word 0.
+abbrev pub Nine : ℕ → ℕ → Type 0
+Nine n w = (n ≡ 9) × (w ≡ 0)
 
 abbrev pub busy : StructurizeRegionState → Bool
 busy not-begun = false

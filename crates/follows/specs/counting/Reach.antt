@@ -8,8 +8,8 @@ use native.Mathlib.Omega.{arith}
 use lib.ListN.{length, getD, length-map, length-append}
 use lib.Dec.{eqb}
 use borrow.Author.Tests.{eq-eqb}
-use Rattle.meaning.specs.Graph.{Region, Graph, region, nowhere, pick, edges-of, targets-of}
-use Rattle.meaning.specs.Lists.{is-in, Distinct, total}
+use Rattle.meaning.specs.Graph.{Region, Graph, region, nowhere, edges-of, targets-of}
+use Rattle.meaning.specs.Lists.{is-in, Distinct, total, pick}
 use Rattle.meaning.specs.facts.Tests.{clash}
 use Rattle.nesting.specs.Nesting.{visit, reachable}
 use Rattle.follows.specs.Reaches.{Reaches, entry, target}

@@ -14,7 +14,7 @@ use Rattle.nesting.specs.steps.Keeps.{define-select-keeps, emit-inputs-keeps, e
 use Rattle.nesting.specs.steps.StatesKept.{Still, still-refl, still-then, still-steady, still-log}
 use Rattle.meaning.specs.facts.Elements.{In, nth-in}
 use Rattle.follows.specs.simulation.ConvergentCase.{converges}
-use Rattle.follows.specs.counting.Totals.{Measure, edge-total, totals, summary-total, planned-total, bundles-to, edges-to, edgeless, SetFits, FitsAll, targets-fit, targets-add, edges-add, edgeless-adds}
+use Rattle.follows.specs.counting.Totals.{Measure, edge-total, totals, summary-total, planned-total, bundles-to, edges-to, edgeless, SetFits, FitsAll, target-totals, targets-add, edges-add, edgeless-adds}
 
 -- ---- look-ups change values alone
 rewritten-total : (ρ : Value → Value) (μ : Measure) (d : DeferredEdgeBundleSet) → edge-total μ (map (rewrite-bundle ρ) d) ≡ edge-total μ d
@@ -62,7 +62,7 @@ pub record SelectedTotals (s : NestState) (cs : List MaybeClaimedRegion) (s′ :
   pub still : Still s s′
   pub chosen : ChosenTotals cs d
 
-module _ (Q : ℕ → Type 0) (q9 : Q 9) where
+module _ (Q : ℕ → ℕ → Type 0) (q9 : Q 9 0) where
   emit-total : (n : DefinedSelect) (ps : List PlannedBundle) (s : NestState) → Post Q (λ d s′. EmittedTotals s ps s′ d) (emit n ps s)
   unfolding emit
   emit-total n [] s = record { post = record { still = still-refl s; same = λ μ. refl } }
@@ -85,7 +85,7 @@ module _ (Q : ℕ → Type 0) (q9 : Q 9) where
     -- of the cases as they were looked up
     planned : (cases : List MaybeClaimedRegion) (ρ : Value → Value) (d : DeferredEdgeBundleSet) → ((μ : Measure) → edge-total μ d ≡ planned-total μ (plan-bundles g (map (rewrite-case ρ) cases))) → ChosenTotals cases d
     planned cases ρ d h = record {
-      fits = λ k f r. let w = targets-fit r k cs [] (omega arith) (rewritten-fits ρ k cases f) in omega (arith, same (bundles-to r));
+      fits = λ k f r. let w = target-totals r k cs [] (omega arith) (rewritten-fits ρ k cases f) in omega (arith, same (bundles-to r));
       edges = λ r. let w = targets-add (edges-to r) (edges-add r) cs [] in omega (arith, same (edges-to r), rewritten-totals ρ (edges-to r) cases);
       edgeless = let w = targets-add edgeless edgeless-adds cs [] in omega (arith, same edgeless, rewritten-totals ρ edgeless cases);
     }

@@ -7,8 +7,8 @@ use Prim.Native.Nat.{ℕ, zero, suc, _+_, _≤_}
 use native.Mathlib.Omega.{arith}
 use lib.Dec.{eqb}
 use borrow.Author.Tests.{eqb-true, eq-eqb}
-use Rattle.meaning.specs.Graph.{Value, pick}
-use Rattle.meaning.specs.Lists.{is-in, times-in}
+use Rattle.meaning.specs.Graph.{Value}
+use Rattle.meaning.specs.Lists.{is-in, times-in, pick}
 use Rattle.meaning.specs.facts.Tests.{clash}
 use Rattle.nesting.specs.Nesting.{LazyCond, DeferredTarget, to-region, to-return, DeferredEdgeBundle, DeferredEdgeBundleSet, same-target, get-edge-bundle-by-target, count-to, fill-gap, split-out-target, add-exit-edge}
 use Rattle.follows.specs.simulation.Bundles.{but-last, found-in, last-or}

@@ -6,8 +6,8 @@ use Prim.Native.Nat.{ℕ, zero, suc, _+_, _≤_}
 use native.Mathlib.Omega.{arith}
 use lib.Dec.{eqb}
 use borrow.Author.Tests.{eqb-true, eqb-false}
-use Rattle.meaning.specs.Graph.{pick}
 use Rattle.nesting.specs.Nesting.{DeferredTarget, to-region, to-return, DeferredEdgeBundle, DeferredEdgeBundleSet, same-target, MaybeClaimedRegion, deferred-of, DeferredTargetSummary, summarize-bundle, summarize-set, deferred-targets, PlannedBundle}
+use Rattle.meaning.specs.Lists.{pick}
 
 abbrev pub Measure : Type 0
 Measure = DeferredTarget → ℕ → ℕ
@@ -82,15 +82,15 @@ apart r to-return (to-region b) p = go (eqb r b)
     go false = omega arith
 apart r to-return to-return p = omega arith
 
-abbrev with-edges : DeferredTargetSummary → ℕ → DeferredTargetSummary
-with-edges w n = record { target = w .target; input-count = w .input-count; total-edge-count = w .total-edge-count + n }
+abbrev with-total : DeferredTargetSummary → ℕ → DeferredTargetSummary
+with-total w n = record { target = w .target; input-count = w .input-count; total-edge-count = w .total-edge-count + n }
 
 bundle-sum : (r : ℕ) (e : DeferredEdgeBundle) (ws : List DeferredTargetSummary) → summary-total (bundles-to r) (summarize-bundle e ws) ≤ summary-total (bundles-to r) ws + at r (e .target)
 bundle-sum r e [] = omega arith
 bundle-sum r e (w ∷ ws) = go (same-target (e .target) (w .target)) (bundle-sum r e ws)
   where
     go : (b : Bool) → summary-total (bundles-to r) (summarize-bundle e ws) ≤ summary-total (bundles-to r) ws + at r (e .target)
-        → summary-total (bundles-to r) (pick b (with-edges w (e .accumulated-count) ∷ ws) (w ∷ summarize-bundle e ws)) ≤ (at r (w .target) + summary-total (bundles-to r) ws) + at r (e .target)
+        → summary-total (bundles-to r) (pick b (with-total w (e .accumulated-count) ∷ ws) (w ∷ summarize-bundle e ws)) ≤ (at r (w .target) + summary-total (bundles-to r) ws) + at r (e .target)
     go true ih = omega arith
     go false ih = omega arith
 
@@ -103,7 +103,7 @@ bundle-fits r k e [] h l = omega arith
 bundle-fits r k e (w ∷ ws) h l = go (same-target (e .target) (w .target)) refl (bundle-fits r k e ws (omega arith) l)
   where
     go : (b : Bool) → same-target (e .target) (w .target) ≡ b → summary-total (bundles-to r) (summarize-bundle e ws) ≤ k
-        → summary-total (bundles-to r) (pick b (with-edges w (e .accumulated-count) ∷ ws) (w ∷ summarize-bundle e ws)) ≤ k
+        → summary-total (bundles-to r) (pick b (with-total w (e .accumulated-count) ∷ ws) (w ∷ summarize-bundle e ws)) ≤ k
     go true p ih = h
     go false p ih =
         let a = apart r (e .target) (w .target) p in
@@ -113,9 +113,9 @@ set-fits : (r k : ℕ) (d : DeferredEdgeBundleSet) (ws : List DeferredTargetSumm
 set-fits r k [] ws h l = h
 set-fits r k (e ∷ es) ws h l = set-fits r k es (summarize-bundle e ws) (bundle-fits r k e ws h (omega arith)) (omega arith)
 
-pub targets-fit : (r : ℕ) (k : ℕ → ℕ) (cs : List MaybeClaimedRegion) (ws : List DeferredTargetSummary) → summary-total (bundles-to r) ws ≤ k r → FitsAll k cs → summary-total (bundles-to r) (deferred-targets cs ws) ≤ k r
-targets-fit r k [] ws h l = h
-targets-fit r k (c ∷ cs) ws h (l, ls) = targets-fit r k cs (summarize-set (deferred-of c) ws) (set-fits r (k r) (deferred-of c) ws h (l r)) ls
+pub target-totals : (r : ℕ) (k : ℕ → ℕ) (cs : List MaybeClaimedRegion) (ws : List DeferredTargetSummary) → summary-total (bundles-to r) ws ≤ k r → FitsAll k cs → summary-total (bundles-to r) (deferred-targets cs ws) ≤ k r
+target-totals r k [] ws h l = h
+target-totals r k (c ∷ cs) ws h (l, ls) = target-totals r k cs (summarize-set (deferred-of c) ws) (set-fits r (k r) (deferred-of c) ws h (l r)) ls
 
 -- A measure that a summary does not raise: where targets are the same, that of the counts' sum is at most the sum.
 abbrev Adds : Measure → Type 0
@@ -127,7 +127,7 @@ module _ (μ : Measure) (adds : Adds μ) where
   bundle-adds e (w ∷ ws) = go (same-target (e .target) (w .target)) refl (bundle-adds e ws)
     where
       go : (b : Bool) → same-target (e .target) (w .target) ≡ b → summary-total μ (summarize-bundle e ws) ≤ summary-total μ ws + μ (e .target) (e .accumulated-count)
-          → summary-total μ (pick b (with-edges w (e .accumulated-count) ∷ ws) (w ∷ summarize-bundle e ws)) ≤ (μ (w .target) (w .total-edge-count) + summary-total μ ws) + μ (e .target) (e .accumulated-count)
+          → summary-total μ (pick b (with-total w (e .accumulated-count) ∷ ws) (w ∷ summarize-bundle e ws)) ≤ (μ (w .target) (w .total-edge-count) + summary-total μ ws) + μ (e .target) (e .accumulated-count)
       go true p ih = let z = adds (e .target) (w .target) (w .total-edge-count) (e .accumulated-count) p in omega arith
       go false p ih = omega arith
 

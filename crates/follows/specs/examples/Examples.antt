@@ -7,9 +7,8 @@ use Prim.Native.Nat.{ℕ, suc, _+_, _≤_}
 use native.Mathlib.Omega.{arith}
 use lib.ListN.{length}
 use lib.Dec.{ltb}
-use Rattle.meaning.specs.Graph.{Value, const, input, instr, output, unreachable, bool, bit, bool-cond, Graph}
+use Rattle.meaning.specs.Graph.{Value, const, input, instr, output, unreachable, bool, bool-cond, Graph}
 use Rattle.meaning.specs.Runs.{Nodes, block, select, loop, ⟨⟩, _▸_, ∅, case, word, Event, returned, Given, put, put-inputs, entry-words, do-instr, do-block, do-blocks, Ended, graph-run, run-from, NestedEnded, NestedRun, ends-as, without-end, put-outputs, turns, run-nodes, nested-run}
-use Rattle.meaning.specs.laws.MoreBudget.{nested-run-stays}
 use Rattle.format.specs.Store.{accepted}
 use Rattle.format.specs.Accept.{accept}
 use Rattle.meaning.specs.facts.Tests.{clash}
@@ -24,6 +23,7 @@ use Rattle.follows.specs.cost.Bounded.{bounded}
 use Rattle.follows.specs.counting.Attempts.{attempts}
 use Rattle.follows.specs.sound.Sound.{sound}
 use Rattle.follows.specs.examples.CaseForms.{A-accepted, A-valid, A-form, A-nested, A-nests, B-accepted, B-valid, B-loop, B-nested, B-nests}
+use Rattle.meaning.specs.Lists.{bit}
 
 abbrev event : ℕ → ℕ → ℕ → Event
 event r k op = record { region = r; index = k; opcode = op; reads = [] }
@@ -49,10 +49,8 @@ record SameRun (w : NestedEnded) (e : Ended) : Type 0 where
 
 same-run : {g : Graph} {x : Given} {ks : Nodes} {outs : Option (List Value)} {e : Ended} (b : ℕ) (w : NestedEnded)
     → nested-run g x ks outs b ≡ ends-as w → Followed g x ks outs e → SameRun w e
-same-run {g} {x} {ks} {outs} {e} b w h f =
-    let more = nested-run-stays g x ks outs b (b + f .budget) (ends-as w) (omega arith) (λ p. clash (cc)) h in
-    let also = nested-run-stays g x ks outs (f .budget) (b + f .budget) (ends-as (f .run)) (omega arith) (λ p. clash (cc)) (f .ends) in
-    let same : w ≡ f .run = cc in
+same-run b w h f =
+    let same : w ≡ f .run = f .only b w h in
     let one = f .end in
     let two = f .events in
     record { end = cc; events = cc }

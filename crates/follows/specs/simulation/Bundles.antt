@@ -9,9 +9,8 @@ use native.Mathlib.Omega.{arith}
 use lib.ListN.{getD, length, take}
 use lib.Dec.{eqb}
 use borrow.Author.Tests.{eqb-true}
-use Rattle.meaning.specs.Graph.{pick}
 use Rattle.meaning.specs.facts.Tests.{clash, eqb-less, eqb-self, eqb-sym}
-use Rattle.meaning.specs.Lists.{empty}
+use Rattle.meaning.specs.Lists.{empty, pick}
 use Rattle.nesting.specs.Nesting.{fill-gap, get-edge-bundle-by-target, same-target, split-out-target, DeferredEdgeBundle, DeferredEdgeBundleSet, DeferredTarget, to-region, to-return}
 use Rattle.meaning.specs.facts.Elements.{In}
 

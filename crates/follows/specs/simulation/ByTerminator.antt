@@ -10,7 +10,7 @@ use lib.Dec.{ltb}
 use lib.ListN.{getD, length}
 use borrow.Author.Tests.{ltb-true}
 use Rattle.meaning.specs.Runs.{Nodes, _▸_, exit, ⟨⟩, Ended, along, edge-taken, run-nodes, End, Event, RunState, Word, exited, mark, place-taken, returned, word}
-use Rattle.meaning.specs.Graph.{ControlInst, Edge, SelectionKind, Value, bool-cond, branch, edges-of, exit-invocation, number, pick, region, return, select-branch, unreachable}
+use Rattle.meaning.specs.Graph.{ControlInst, Edge, SelectionKind, Value, bool-cond, branch, edges-of, exit-invocation, number, region, return, select-branch, unreachable}
 use Rattle.meaning.specs.facts.Tests.{clash, pred-below}
 use Rattle.nesting.specs.Nesting.{blocks-of, MaybeClaimedRegion, append-maybe-claimed-region, err, join, ok, value, define-node, by-control-inst, DeferredEdgeBundle, to-region, to-return, true-cond, structurize-select-into, NestState, NodeOutput, look-up-nodes}
 use Rattle.nesting.specs.lookups.Rewriting.{rewrite-nodes}
@@ -30,6 +30,7 @@ use Rattle.follows.specs.simulation.EnterCase.{Takes, children-in}
 use Rattle.follows.specs.simulation.Append.{TailIs, append-post, append-sim}
 use Rattle.follows.specs.simulation.ConvergentFollows.{structurize-select-into-post}
 use Rattle.follows.specs.simulation.AtTerminator.{EdgeEnters, one-goes, reads-of, usable-all, usable-scoped}
+use Rattle.meaning.specs.Lists.{pick}
 
 place-below : (kind : SelectionKind) (x n : ℕ) → (kind ≡ bool-cond → n ≡ 2) → 1 ≤ n → place-taken kind x n < n
 place-below bool-cond zero n two le = let z = two refl in omega arith

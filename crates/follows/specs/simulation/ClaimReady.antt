@@ -10,18 +10,18 @@ use lib.Dec.{eqb, leb}
 use lib.ListN.{List·getD-eq-default, getD, length, length-map}
 use borrow.Author.Tests.{eqb-false, eqb-true, leb-false, leb-true, ne-eqb}
 use Rattle.meaning.specs.Runs.{LoopNode, Nodes, _▸_, loop, ⟨⟩}
-use Rattle.meaning.specs.Graph.{Value, bool, input, pick, region, undef}
+use Rattle.meaning.specs.Graph.{Value, bool, input, region, undef}
 use Rattle.meaning.specs.facts.Tests.{clash, eqb-self, false-if, or-either}
 use Rattle.nesting.specs.lookups.Contexts.{InContext, context-replaced, entry-at, open-else, own-in}
-use Rattle.meaning.specs.Lists.{any}
+use Rattle.meaning.specs.Lists.{any, pick}
 use Rattle.nesting.specs.Nesting.{loop-node, exit-targets, get-edge-bundle-by-target, same-target, split-out-target, ClaimedRegion, define-node, define-region, set-state, with-twice, backedge-of, claim-body, claim-by-state, materialize-lazy-cond, DeferredEdgeBundle, DeferredEdgeBundleSet, to-region, true-cond, LoopInputs, no-inputs, structurize-loop, take-inputs, rewrite-values, rewrites-of, StepAnswer, InputRewrite, NestState, NodeOutput, Step, _>>_, claimed, give, ready, renumber-or-replace-with, renumber-to, replace-by}
 use Rattle.nesting.specs.lookups.Rewriting.{meets, rewrite}
 use Rattle.nesting.specs.steps.RegionsLeft.{state-of}
 use Rattle.nesting.specs.steps.Post.{bind}
-use Rattle.meaning.specs.facts.Elements.{In}
+use Rattle.meaning.specs.facts.Elements.{In, Extends, extends-then}
 use Rattle.follows.specs.simulation.Key.{Key, input-key, is-input-of, of-input, owns-nodes}
 use Rattle.follows.specs.simulation.World.{Fits, World, ar, size}
-use Rattle.follows.specs.simulation.Tables.{Extends, Resolver, Respects, Tables, entry-law, extends-then, final-input, lookup-keeps, respects-back, tables}
+use Rattle.follows.specs.simulation.Tables.{Resolver, Respects, Tables, entry-law, final-input, lookup-keeps, respects-back, tables}
 use Rattle.follows.specs.simulation.Conditions.{Mat, mat-stays}
 use Rattle.follows.specs.simulation.Leads.{Sim, leads-on}
 use Rattle.follows.specs.simulation.Bundles.{DistinctBundles, find-in, found-in, is-always, same-target-sym, same-target→eq}
@@ -33,7 +33,7 @@ use Rattle.follows.specs.simulation.StateChanges.{changed, inv-busy, lat
 use Rattle.follows.specs.simulation.ClaimedRegions.{Holds, Since}
 use Rattle.follows.specs.simulation.EnterCase.{getD-rewritten}
 use Rattle.follows.specs.simulation.Append.{set-through}
-use Rattle.follows.specs.simulation.LoopParts.{KeptOrLifted, Renumbered, SameBundle, leaving, leaving-distinct, leaving-from, leaving-in, renumbered}
+use Rattle.follows.specs.simulation.LoopParts.{KeptOrLifted, Renumbered, SameBundle, leaving, leaving-distinct, leaving-from, leaving-in, inputs-renumbered}
 
 loop-owns : (x : LoopNode) (ks : Nodes) (κ : Key) → owns-nodes (loop x ks ▸ ⟨⟩) κ ≡ true
     → (κ ≡ of-input (x .body)) ⊎ (owns-nodes ks κ ≡ true)
@@ -107,8 +107,8 @@ module _ (W : World) where
         (still W s r claimed h r-in was refl (x .region) (x .back) (x .children) (x .deferred-edges) (x .is)) is-ready
         (not-r W s r claimed h r-in was refl (x .region) (x .back) (x .children) (x .deferred-edges) (x .is)) κ (x .owns) o
 
-    held₁ : Owned s₁ (of-input r) → ⊥
-    held₁ x = h .fresh (of-input r) (owned-was W s r claimed h r-in was refl (of-input r) x) not-rewritten
+    not-owned₁ : Owned s₁ (of-input r) → ⊥
+    not-owned₁ x = h .fresh (of-input r) (owned-was W s r claimed h r-in was refl (of-input r) x) not-rewritten
 
     inputs-apart : owns-nodes ks (of-input r) ≡ false
     inputs-apart = false-if (owns-nodes ks (of-input r)) (λ p. h .fresh (of-input r) (mine (of-input r) p) not-rewritten)
@@ -199,7 +199,7 @@ module _ (W : World) where
         w-unrewritten₃ = rw (gr₂ .rewrites) (h .unrewritten w w-open)
 
         rn : Renumbered (W .g) r w vs (length vs) x
-        rn = renumbered (W .g) r w vs
+        rn = inputs-renumbered (W .g) r w vs
 
         n-vs : length vs ≡ ar W r
         n-vs = length-map (e .target-inputs) (rewrite (s₂ .region-input-rewrites)) ∙ e-arity
@@ -305,17 +305,17 @@ module _ (W : World) where
               wd₁ : Free s₁ κ
               wd₁ = later-grew W gr₃ .free κ (free⁺ W s₃ r (renumber-or-replace-with (x .rewrites)) κ (later-grew W gr₄₆ .free κ wd))
 
-              held₆ : Free s₆ (of-input r) → ⊥
-              held₆ (old y) =
-                  held₁ (owned-same W gr₃ (of-input r)
+              not-free₆ : Free s₆ (of-input r) → ⊥
+              not-free₆ (old y) =
+                  not-owned₁ (owned-same W gr₃ (of-input r)
                   (owned⁺ W s₃ r (renumber-or-replace-with (x .rewrites)) (of-input r) (owned-same W gr₄₆ (of-input r) y)))
-              held₆ (new m) =
+              not-free₆ (new m) =
                   let z = ap (λ l. rewrites-of l r) (sym (gr₄₆ .rewrites)) ∙ m in
                   let y = entry-at (s₃ .region-input-rewrites) r (renumber-or-replace-with (x .rewrites)) r-unrewritten₃ in
                   clash (cc)
 
               by : (κ ≡ of-input r) ⊎ (owns-nodes ks κ ≡ true) → ⊥
-              by (inl p) = held₆ (subst (λ z. Free s₆ z) p wd)
+              by (inl p) = not-free₆ (subst (λ z. Free s₆ z) p wd)
               by (inr p) = clear₁ κ p wd₁
 
           w-unrewritten₆ : rewrites-of (s₆ .region-input-rewrites) w ≡ none

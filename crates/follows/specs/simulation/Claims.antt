@@ -10,15 +10,14 @@ use lib.ListN.{getD, length, length-replicate}
 use Rattle.meaning.specs.Runs.{Nodes}
 use Rattle.meaning.specs.Graph.{Value, edges-of, region}
 use Rattle.meaning.specs.facts.Tests.{clash}
-use Rattle.nesting.specs.Nesting.{DeferredEdgeBundleSet, initial-state, blocks-of, count-to, ClaimedRegion, get-state, Claim, begin, by-control-inst, claim-by-state, resolve-deferred, structurize-region, target-regions, try-claim-edge-bundle, IncomingEdgeCount, NestState, StructurizeRegionState, claimed, follow, give, in-progress, not-begun, ready, turn-away}
+use Rattle.nesting.specs.Nesting.{DeferredEdgeBundleSet, initial-state, blocks-of, count-to, ClaimedRegion, get-state, Claim, begin, by-control-inst, claim-by-state, resolve-deferred, structurize-region, target-regions, try-claim-edge-bundle, IncomingEdgeCount, NestState, StructurizeRegionState, claimed, follow, give, in-progress, not-begun, ready, turn-away, add-attempt}
 use Rattle.nesting.specs.lookups.Contexts.{itself}
-use Rattle.nesting.specs.steps.RegionsLeft.{all-not-begun, state-of, with-attempt}
+use Rattle.nesting.specs.steps.RegionsLeft.{all-not-begun, state-of}
 use Rattle.nesting.specs.steps.Post.{bind, map-post}
 use Rattle.follows.specs.counting.Reach.{target-reachable}
 use Rattle.follows.specs.simulation.ValidUse.{edges-of-usable}
 use Rattle.follows.specs.simulation.Key.{of-instr}
 use Rattle.follows.specs.simulation.World.{Live, World, size}
-use Rattle.follows.specs.simulation.Tables.{extends-refl}
 use Rattle.follows.specs.simulation.Defined.{Grew, IfDone}
 use Rattle.follows.specs.simulation.Invariant.{Free, Inv, Later, idle, inv-grew, later-grew, later-refl, later-then, new, old, waiting}
 use Rattle.follows.specs.simulation.StateChanges.{blocks-own, changed, inv-busy, later-busy, now, owned-was}
@@ -27,6 +26,7 @@ use Rattle.follows.specs.simulation.ClaimReady.{ClaimDone, at-state, cla
 use Rattle.follows.specs.simulation.TargetRegions.{ClaimOk, cases-back, in-targets, since-back, target-regions-post}
 use Rattle.follows.specs.simulation.ByTerminator.{by-control-inst-post}
 use Rattle.follows.specs.simulation.Scan.{resolve-deferred-post}
+use Rattle.meaning.specs.facts.Elements.{extends-refl}
 
 module _ (W : World) where
   not-free : (r : ℕ) (r-in : r < size W) (s : NestState) (inv : Inv W s) → state-of s r ≡ not-begun → (was : idle (state-of s r) ≡ true)
@@ -95,7 +95,7 @@ module _ (W : World) where
   unfolding try-claim-edge-bundle
   claim-post counts zero r n ins s inv r-in lv = record { post = tt }
   claim-post counts (suc d) r n ins s inv r-in lv =
-      let s₁ : NestState = with-attempt s in
+      let s₁ : NestState = add-attempt s in
       let gr : Grew s s₁ = record { outputs = extends-refl (s .node-outputs); rewrites = refl; region-states = refl; regions = omega arith; node-count = omega arith } in
       let inv₁ = inv-grew W gr inv in
       bind {P = Found₁ s₁} (follow (begin (state-of s r) (structurize-region (W .g) (λ r′ n′ ins′. try-claim-edge-bundle (W .g) counts d r′ n′ ins′) r) s₁) (λ u. get-state r)) _

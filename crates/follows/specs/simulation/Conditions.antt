@@ -11,7 +11,8 @@ use Rattle.meaning.specs.Runs.{Word, word}
 use Rattle.meaning.specs.facts.Tests.{clash}
 use Rattle.nesting.specs.Nesting.{LazyCond, LazyConds, _&_, false-cond, merge, true-cond, undef-cond, no-conds, NodeOutput}
 use Rattle.follows.specs.simulation.Key.{OutputAt}
-use Rattle.follows.specs.simulation.Tables.{Extends, stays}
+use Rattle.follows.specs.simulation.Tables.{stays}
+use Rattle.meaning.specs.facts.Elements.{Extends}
 
 -- v is what materializing a condition gives, as the outputs stand
 unfoldable mutual

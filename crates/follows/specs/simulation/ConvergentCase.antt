@@ -7,9 +7,8 @@ use mathlib.Core.Path.{_∙_, _≡_, ap, refl, subst, sym}
 use Prim.Native.Nat.{suc, zero, ℕ}
 use lib.Dec.{eqb}
 use lib.ListN.{length}
-use Rattle.meaning.specs.Graph.{pick}
 use Rattle.meaning.specs.facts.Tests.{clash, eqb-sym}
-use Rattle.meaning.specs.Lists.{empty}
+use Rattle.meaning.specs.Lists.{empty, pick}
 use Rattle.nesting.specs.Nesting.{ClaimedRegion, MaybeClaimedRegion, convergent-cases, deferred-of, err, ok, without-convergent}
 use Rattle.follows.specs.simulation.Bundles.{is-empty}
 use Rattle.meaning.specs.facts.Elements.{In, nth, nth-in}

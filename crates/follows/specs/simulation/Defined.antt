@@ -8,18 +8,19 @@ use Prim.Native.Nat.{_≤_, suc, ℕ}
 use native.Mathlib.Omega.{arith}
 use lib.Dec.{ltb}
 use lib.ListN.{length}
-use Rattle.meaning.specs.Graph.{SelectionKind, Value, bool, bool-cond, number, output, pick}
+use Rattle.meaning.specs.Graph.{SelectionKind, Value, bool, bool-cond, number, output, same-values}
 use Rattle.nesting.specs.steps.Keeps.{Steady, define-merge-keeps}
 use Rattle.meaning.specs.facts.Tests.{clash}
-use Rattle.nesting.specs.Nesting.{most-nodes, most-outputs, most-regions, define-merge, define-node, define-output, define-region, materialize-lazy-cond, materialize-lazy-conds, same-values, DeferredEdgeBundleSet, LazyCond, LazyConds, _&_, false-cond, merge, true-cond, undef-cond, no-conds, PlannedBundle, PlannedInput, merged, shared, DefinedSelect, emit, emit-condition, emit-inputs, StepAnswer, NestState, NodeOutput, give}
+use Rattle.nesting.specs.Nesting.{most-nodes, most-outputs, most-regions, define-merge, define-node, define-output, define-region, materialize-lazy-cond, materialize-lazy-conds, DeferredEdgeBundleSet, LazyCond, LazyConds, _&_, false-cond, merge, true-cond, undef-cond, no-conds, PlannedBundle, PlannedInput, merged, shared, DefinedSelect, emit, emit-condition, emit-inputs, StepAnswer, NestState, NodeOutput, give}
 use Rattle.nesting.specs.steps.RegionsLeft.{AnyRefusal}
 use Rattle.nesting.specs.steps.Post.{Post, bind, map-post, when-room}
-use Rattle.meaning.specs.facts.Elements.{nth-last}
+use Rattle.meaning.specs.facts.Elements.{nth-last, Extends, extends-refl, extends-then}
 use Rattle.follows.specs.simulation.Key.{OutputAt}
-use Rattle.follows.specs.simulation.Tables.{Extends, extends-refl, extends-then, stays}
+use Rattle.follows.specs.simulation.Tables.{stays}
 use Rattle.follows.specs.simulation.Conditions.{Mat, Mats, mat-stays, mats-stay}
 use Rattle.follows.specs.simulation.Values.{same-values→eq}
 use Rattle.follows.specs.simulation.Planned.{Emits, EmitsAll, condition-from}
+use Rattle.meaning.specs.Lists.{pick}
 
 -- What holds of a step that is done; a refusal holds of anything.
 abbrev pub IfDone : {A : Type 0} → (A → NestState → Type 0) → StepAnswer A → Type 0

@@ -12,10 +12,10 @@ use Rattle.meaning.specs.Graph.{Graph, Value, number, output, undef}
 use Rattle.meaning.specs.facts.Tests.{clash, or-left, or-right}
 use Rattle.meaning.specs.Lists.{is-some, any}
 use Rattle.nesting.specs.Nesting.{get-edge-bundle-by-target, MaybeClaimedRegion, deferred-of, DeferredEdgeBundle, DeferredEdgeBundleSet, DeferredTarget, LazyConds, merge, true-cond, DeferredTargetSummary, PlannedBundle, PlannedInput, any-needs-select, in-parent, merged, per-case-deferred, per-case-of, plan-bundle, plan-input, plan-inputs, shared, target-type, unique-input, value-in-case, DefinedSelect, shared-bundle, NodeOutput}
-use Rattle.meaning.specs.facts.Elements.{In}
+use Rattle.meaning.specs.facts.Elements.{In, Extends}
 use Rattle.follows.specs.simulation.Key.{OutputAt}
 use Rattle.follows.specs.simulation.World.{World, ar}
-use Rattle.follows.specs.simulation.Tables.{Extends, Tables}
+use Rattle.follows.specs.simulation.Tables.{Tables}
 use Rattle.follows.specs.simulation.Bundles.{DistinctBundles, found-in}
 use Rattle.follows.specs.simulation.Planned.{Emits, EmitsAll, EmitsBundle, EmitsOne, condition-from, emits-from, passed, per-cases, unique-from}
 use Rattle.follows.specs.simulation.Defined.{emits-stay}

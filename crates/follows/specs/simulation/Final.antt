@@ -11,7 +11,8 @@ use Rattle.nesting.specs.lookups.ChainSteps.{chain-steps, next-value, stops-rew
 use Rattle.nesting.specs.laws.HeldStays.{rewrite-held}
 use Rattle.nesting.specs.Nesting.{rewrites-of, RewriteEntry, unmarked}
 use Rattle.nesting.specs.lookups.Rewriting.{rewrite-last}
-use Rattle.follows.specs.simulation.Tables.{Respects, Tables, extends-refl}
+use Rattle.follows.specs.simulation.Tables.{Respects, Tables}
+use Rattle.meaning.specs.facts.Elements.{extends-refl}
 
 -- what has no rewrites stays as it is
 pub unrewritten-stays : (es : List RewriteEntry) (r k : ℕ) → rewrites-of es r ≡ none → rewrite-last es (input r k) ≡ input r k

@@ -9,18 +9,19 @@ use native.Mathlib.Omega.{arith}
 use lib.ListN.{length, getD}
 use lib.Dec.{eqb}
 use borrow.Author.Tests.{eqb-true}
-use Rattle.meaning.specs.Graph.{Value, input, Graph, region, pick}
-use Rattle.meaning.specs.Lists.{numbers-from, empty}
-use Rattle.meaning.specs.Runs.{Word, word32, End, returned, Given, RunState, base-env, entry-words, Nodes, ⟨⟩, Ended, run-from, graph-run, Ran, through, ended, no-end, run-nodes, ended-at, after-last, start, nested-run}
+use Rattle.meaning.specs.Graph.{Value, input, Graph, region}
+use Rattle.meaning.specs.Lists.{numbers-from, empty, pick}
+use Rattle.meaning.specs.Runs.{Word, word32, End, returned, Given, RunState, base-env, entry-words, Nodes, ⟨⟩, Ended, run-from, graph-run, Ran, through, ended, no-end, run-nodes, NestedEnded, ends-as, ended-at, after-last, start, nested-run}
+use Rattle.meaning.specs.laws.MoreBudget.{nested-run-one}
 use Rattle.meaning.specs.facts.Tests.{clash, false-if}
 use Rattle.format.specs.Valid.{Valid}
 use Rattle.format.specs.Store
 use Rattle.format.specs.Store.{accepted}
 use Rattle.nesting.specs.lookups.Contexts.{rooted-ends}
-use Rattle.nesting.specs.Nesting.{DeferredTarget, to-region, to-return, DeferredEdgeBundle, DeferredEdgeBundleSet, Outcome, untouched, whole, closed, leftover, Nested, IncomingEdgeCount, StructurizeRegionState, not-begun, in-progress, claimed, ready, NestState, StepAnswer, done, turned-away, give, follow, _>>_, turn-away, set-state, get-state, rewrites-of, ClaimedRegion, try-claim-edge-bundle, claim-by-state, claim-body, backedge-of, begin, structurize-region, incoming-edge-counts, initial-state, outcome-of, conclude-by, conclude, structurize-func-by, structurize-func, look-up-piece, look-up-nodes, look-up-last}
+use Rattle.nesting.specs.Nesting.{DeferredTarget, to-region, to-return, DeferredEdgeBundle, DeferredEdgeBundleSet, Outcome, untouched, whole, closed, leftover, Nested, IncomingEdgeCount, StructurizeRegionState, not-begun, in-progress, claimed, ready, NestState, StepAnswer, done, turned-away, give, follow, _>>_, turn-away, set-state, get-state, rewrites-of, ClaimedRegion, try-claim-edge-bundle, claim-by-state, claim-body, backedge-of, begin, structurize-region, incoming-edge-counts, initial-state, outcome-of, conclude-by, conclude, structurize-func-by, structurize-func, look-up-piece, look-up-nodes, look-up-last, add-attempt}
 use Rattle.nesting.specs.lookups.Rewriting.{nodes-value, rewrite-last, rewrite-nodes}
 use Rattle.nesting.specs.steps.Post.{bind, map-post}
-use Rattle.nesting.specs.steps.RegionsLeft.{state-of, with-attempt}
+use Rattle.nesting.specs.steps.RegionsLeft.{state-of}
 use Rattle.follows.specs.simulation.Usable.{arity}
 use Rattle.follows.specs.counting.Reach.{entry-reachable}
 use Rattle.follows.specs.simulation.ValidUse.{usable-graph}
@@ -77,7 +78,7 @@ module _ (g : Graph) (counts : List IncomingEdgeCount) where
   unfolding try-claim-edge-bundle
   claim-itself zero r n ins s = record { post = tt }
   claim-itself (suc fuel) r n ins s =
-      bind (follow (begin (state-of s r) (structurize-region g (λ r′ n′ ins′. try-claim-edge-bundle g counts fuel r′ n′ ins′) r) (with-attempt s)) (λ u. get-state r)) _
+      bind (follow (begin (state-of s r) (structurize-region g (λ r′ n′ ins′. try-claim-edge-bundle g counts fuel r′ n′ ins′) r) (add-attempt s)) (λ u. get-state r)) _
       (anything _) λ x s₂ u. as-itself r n ins x s₂
 
 -- ---- the run from the entry
@@ -119,12 +120,23 @@ module _ (g : Graph) (valid : Valid g) (x : Given) (c : ClaimedRegion) (s : Nest
       })
       (e .end) (e .events) (subst (λ q. run-from (x .rule) g (base-env x) b q (entry-words g x) [] ≡ some e) (sym origin) gr)
 
+  followed : {outs : Option (List Value)} {e : Ended} (b : ℕ) (r : NestedEnded) → nested-run g x form outs b ≡ ends-as r
+      → r .end ≡ e .end → r .events ≡ e .events → Followed g x form outs e
+  followed {outs} b r h p q = record {
+    budget = b;
+    run = r;
+    ends = h;
+    only = λ b′ r′ h′. nested-run-one g x form outs b′ b r′ r h′ h;
+    end = p;
+    events = q;
+  }
+
   abbrev Comes : Option (List Value) → ℕ → Ended → Ran → Type 0
   Comes outs b e R = (run-nodes (x .rule) (g .test-cost) b form (start g x) ≡ R) → Followed g x form outs e
 
   at-end : (outs : Option (List Value)) (b : ℕ) (e : Ended) (e′ : End) (st : RunState) → e′ ≡ e .end → st .events ≡ e .events → Comes outs b e (ended e′ st)
   unfolding nested-run
-  at-end outs b e e′ st p q came = record { budget = b; run = ended-at e′ st; ends = ap (after-last outs) came; end = p; events = q }
+  at-end outs b e e′ st p q came = followed b (ended-at e′ st) (ap (after-last outs) came) p q
 
   closed-follows : c .deferred-edges ≡ [] → (b : ℕ) (e : Ended) → graph-run g x b ≡ some e → Followed g x form none e
   closed-follows is-empty b e gr = go _ (entry-follows b e gr) refl
@@ -151,13 +163,8 @@ module _ (g : Graph) (valid : Valid g) (x : Given) (c : ClaimedRegion) (s : Nest
           let onw : OnwardTo (world g valid x) ρ st b (e .end) (e .events) to-return (y .target-inputs) =
           subst (λ z. OnwardTo (world g valid x) ρ st b (e .end) (e .events) z (y .target-inputs)) returns
           (subst (λ z. OnwardTo (world g valid x) ρ st b (e .end) (e .events) (z .target) (z .target-inputs)) here (fl .leads-to .onward)) in
-          λ came. record {
-            budget = b;
-            run = ended-at (returned (map (st .env) (map ρ (y .target-inputs)))) st;
-            ends = ap (after-last (some (map ρ (y .target-inputs)))) came;
-            end = ap returned (map-map (st .env) ρ (y .target-inputs)) ∙ sym (onw .0);
-            events = sym (onw .1);
-          }
+          λ came. followed b (ended-at (returned (map (st .env) (map ρ (y .target-inputs)))) st)
+          (ap (after-last (some (map ρ (y .target-inputs)))) came) (ap returned (map-map (st .env) ρ (y .target-inputs)) ∙ sym (onw .0)) (sym (onw .1))
 
 -- ---- what the answer shows of the claimed entry
 module _ (g : Graph) (valid : Valid g) (c : ClaimedRegion) (s : NestState)
@@ -172,10 +179,10 @@ module _ (g : Graph) (valid : Valid g) (c : ClaimedRegion) (s : NestState)
   no-form n p outs (is-whole q) x b e gr = absurd (let z : leftover ≡ whole = sym p ∙ q in clash (cc))
 
   module _ (y : DeferredEdgeBundle) (ys : DeferredEdgeBundleSet) where
-    abbrev Shows : Outcome → Type 0
-    Shows o = FollowsRun g (conclude-by g s (c .children) (y ∷ ys) o)
+    abbrev FollowsAs : Outcome → Type 0
+    FollowsAs o = FollowsRun g (conclude-by g s (c .children) (y ∷ ys) o)
 
-    one : y .target ≡ to-return → c .deferred-edges ≡ y ∷ [] → Shows whole
+    one : y .target ≡ to-return → c .deferred-edges ≡ y ∷ [] → FollowsAs whole
     unfolding look-up-piece
     one t q outs (is-closed r) x b e gr = absurd (clash (cc))
     one t q outs (is-whole r) x b e gr =
@@ -185,11 +192,11 @@ module _ (g : Graph) (valid : Valid g) (c : ClaimedRegion) (s : NestState)
     abbrev outcome-by : DeferredTarget → DeferredEdgeBundleSet → Outcome
     outcome-by t zs = elim t [ to-region r ↦ leftover | to-return ↦ pick (empty zs) whole leftover ]
 
-    by-others : c .deferred-edges ≡ y ∷ ys → y .target ≡ to-return → (zs : DeferredEdgeBundleSet) → ys ≡ zs → Shows (outcome-by to-return zs)
+    by-others : c .deferred-edges ≡ y ∷ ys → y .target ≡ to-return → (zs : DeferredEdgeBundleSet) → ys ≡ zs → FollowsAs (outcome-by to-return zs)
     by-others p t [] q = one t (p ∙ ap (λ l. y ∷ l) q)
     by-others p t (z ∷ zs) q = no-form _ refl
 
-    by-target : c .deferred-edges ≡ y ∷ ys → (t : DeferredTarget) → y .target ≡ t → Shows (outcome-by t ys)
+    by-target : c .deferred-edges ≡ y ∷ ys → (t : DeferredTarget) → y .target ≡ t → FollowsAs (outcome-by t ys)
     by-target p (to-region r) t = no-form _ refl
     by-target p to-return t = by-others p t ys refl
 

@@ -8,8 +8,8 @@ use lib.Dec.{eqb, leb}
 use lib.ListN.{getD}
 use borrow.Author.Tests.{eqb-true}
 use Rattle.meaning.specs.Runs.{LoopNode, Cases, Node, Nodes, _▸_, block, case, exit, loop, select, ∅, ⟨⟩, Ran, and-then, assign-inputs, assign-outputs, case-count, ended, no-end, note-over, once-more, pay, put-outputs, run-case, run-node, run-nodes, tested, through, turns, Env, Rule, RunState, Word, do-block, do-instr, mark, place-taken, put, put-inputs, word}
-use Rattle.meaning.specs.Graph.{Instr, Value, input, instr, output, pick, same-value, undef}
-use Rattle.meaning.specs.Lists.{filter}
+use Rattle.meaning.specs.Graph.{Instr, Value, input, instr, output, same-value, undef}
+use Rattle.meaning.specs.Lists.{filter, pick}
 use Rattle.meaning.specs.facts.Tests.{clash, eqb-less, eqb-self, false-if, or-left, or-right}
 use Rattle.nesting.specs.Nesting.{case-outputs, output-decls, NodeOutput, look-up-node}
 use Rattle.nesting.specs.lookups.Rewriting.{rewrite-loop, rewrite-cases-of, rewrite-node, rewrite-nodes, rewrite-reads}

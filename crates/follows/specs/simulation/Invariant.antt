@@ -21,10 +21,11 @@ use Rattle.nesting.specs.steps.RegionsLeft.{state-of}
 use Rattle.nesting.specs.steps.Keeps.{with-entry}
 use Rattle.follows.specs.simulation.Key.{Key, of-input, of-instr, of-node, of-none, owns-nodes}
 use Rattle.follows.specs.simulation.World.{World, ar, size}
-use Rattle.follows.specs.simulation.Tables.{Gains, extends-refl, extends-same, gains-refl, gains-then, tables}
+use Rattle.follows.specs.simulation.Tables.{Gains, gains-refl, gains-then, tables}
 use Rattle.follows.specs.simulation.Leads.{Sim, leads-on}
 use Rattle.follows.specs.simulation.Defined.{Grew}
 use Rattle.follows.specs.simulation.Scope.{SetOk, set-later, within-refl}
+use Rattle.meaning.specs.facts.Elements.{extends-same, extends-refl}
 
 abbrev pub idle : StructurizeRegionState → Bool
 idle not-begun = true

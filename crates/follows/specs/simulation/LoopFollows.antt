@@ -14,11 +14,11 @@ use Rattle.meaning.specs.laws.LoopTurns.{inputs-at-once, last-turn, next-turn}
 use Rattle.nesting.specs.lookups.Contexts.{entry-at}
 use Rattle.nesting.specs.Nesting.{same-target, DeferredEdgeBundle, DeferredEdgeBundleSet, to-region, rewrites-of, InputRewrite, NodeOutput, renumber-or-replace-with, renumber-to, replace-by, look-up-nodes}
 use Rattle.nesting.specs.lookups.Rewriting.{rewrite-loop, rewrite-nodes}
-use Rattle.meaning.specs.facts.Elements.{In, getD-map-in}
+use Rattle.meaning.specs.facts.Elements.{In, getD-map-in, Extends, extends-refl}
 use Rattle.meaning.specs.facts.Tests.{eqb-self, or-left, or-right}
 use Rattle.follows.specs.simulation.Key.{is-input-of, key, key-constant, of-input, owns-nodes}
 use Rattle.follows.specs.simulation.World.{World, ar, from-region, runs}
-use Rattle.follows.specs.simulation.Tables.{Extends, Gains, Resolver, Respects, Tables, entry-law, extends-refl, final-input, respects-back}
+use Rattle.follows.specs.simulation.Tables.{Gains, Resolver, Respects, Tables, entry-law, final-input, respects-back}
 use Rattle.follows.specs.simulation.Frame.{inputs-kept}
 use Rattle.follows.specs.simulation.Conditions.{Mat, Truthy}
 use Rattle.follows.specs.simulation.Leads.{Based, Chosen, Goes, OnwardTo, Sim, Tracks, based-after, ends-with, none-run, onward-reads, read, then-on, tracks-less}

@@ -8,8 +8,8 @@ use native.Mathlib.Omega.{arith}
 use lib.Dec.{eqb}
 use lib.ListN.{List·getD-append, getD, length, length-append}
 use borrow.Author.Tests.{eqb-false, eqb-true}
-use Rattle.meaning.specs.Graph.{Graph, Value, input, pick, region, same-value, undef}
-use Rattle.meaning.specs.Lists.{is-in}
+use Rattle.meaning.specs.Graph.{Graph, Value, input, region, same-value, undef}
+use Rattle.meaning.specs.Lists.{is-in, pick}
 use Rattle.nesting.specs.Nesting.{same-target, split-out-target, DeferredEdgeBundle, DeferredEdgeBundleSet, DeferredTarget, to-region, to-return, LoopInputs, add-exit-edge, keep-input, lift-input, no-inputs, take-input, take-inputs, InputRewrite, renumber-to, replace-by}
 use Rattle.meaning.specs.facts.Elements.{In, from-map, in-map}
 use Rattle.follows.specs.simulation.Bundles.{DistinctBundles, distinct-split-out, from-split-out, in-split-out}
@@ -119,16 +119,16 @@ module _ (g : Graph) where
       nil : (l : List Value) → l ≡ l ++ []
       nil l = sym (append-nil l)
 
-      go : (b : Bool) → same-value v (input r k) ≡ b → Renumbered r w all (suc k) (pick b (lift-input w k x) (keep-input w k ty v x))
+      go : (b : Bool) → same-value v (input r k) ≡ b → Renumbered r w all (suc k) (pick b (lift-input (input w k) x) (keep-input (input w k) ty v x))
       go true e = record {
         many = len (replace-by (input w k));
         even = h .even;
-        good = rewrite-at (replace-by (input w k)) (lift-input w k x) [] [] refl (nil (x .initial-inputs)) (nil (x .outputs)) (refl, at ∙ same-value→eq v (input r k) e);
+        good = rewrite-at (replace-by (input w k)) (lift-input (input w k) x) [] [] refl (nil (x .initial-inputs)) (nil (x .outputs)) (refl, at ∙ same-value→eq v (input r k) e);
       }
       go false e = record {
         many = len (renumber-to (length (x .initial-inputs)));
         even = length-append (x .initial-inputs) _ ∙ ap (λ n. n + 1) (h .even) ∙ sym (length-append (x .outputs) _);
-        good = rewrite-at (renumber-to (length (x .initial-inputs))) (keep-input w k ty v x) (input w k ∷ []) (v ∷ []) refl refl refl (
+        good = rewrite-at (renumber-to (length (x .initial-inputs))) (keep-input (input w k) ty v x) (input w k ∷ []) (v ∷ []) refl refl refl (
           (let z : length (x .initial-inputs ++ (input w k ∷ [])) ≡ length (x .initial-inputs) + 1 = length-append (x .initial-inputs) (input w k ∷ []) in omega (arith, z)),
           getD-last (x .initial-inputs) (input w k) (undef 0),
           (let z : length (x .outputs ++ (v ∷ [])) ≡ length (x .outputs) + 1 = length-append (x .outputs) (v ∷ []) in omega (arith, z, h .even)),
@@ -145,7 +145,7 @@ module _ (g : Graph) where
       let here : getD all k (undef 0) ≡ v = ap (λ n. getD all n (undef 0)) (sym z₀) ∙ at 0 in
       rw z (all-renumbered r w all (suc k) vs (take-input g r w k v x) (λ j. let y : suc k + j ≡ k + suc j = omega arith in rw y (at (suc j))) (one-more-input r w all k v x here h))
 
-  pub renumbered : (r w : ℕ) (vs : List Value) → Renumbered r w vs (length vs) (take-inputs g r w 0 vs no-inputs)
-  renumbered r w vs =
+  pub inputs-renumbered : (r w : ℕ) (vs : List Value) → Renumbered r w vs (length vs) (take-inputs g r w 0 vs no-inputs)
+  inputs-renumbered r w vs =
       let z : 0 + length vs ≡ length vs = omega arith in
       rw z at (all-renumbered r w vs 0 vs no-inputs (λ j. let y : 0 + j ≡ j = omega arith in rw y) (record { many = refl; even = refl; good = λ k lt. absurd (omega arith) }))

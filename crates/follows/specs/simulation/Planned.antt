@@ -6,8 +6,8 @@ use mathlib.Core.Option.{Option, none, some}
 use mathlib.Core.Path.{_∙_, _≡_, ap, refl, sym}
 use Prim.Native.Nat.{suc, zero, ℕ}
 use lib.ListN.{getD}
-use Rattle.meaning.specs.Graph.{Graph, Value, output, pick, same-value, undef}
-use Rattle.meaning.specs.Lists.{all}
+use Rattle.meaning.specs.Graph.{Graph, Value, output, same-value, undef}
+use Rattle.meaning.specs.Lists.{all, pick}
 use Rattle.meaning.specs.facts.Tests.{clash, and-both}
 use Rattle.nesting.specs.Nesting.{MaybeClaimedRegion, deferred-of, DeferredEdgeBundle, DeferredEdgeBundleSet, DeferredTarget, LazyCond, LazyConds, false-cond, merge, true-cond, undef-cond, DeferredTargetSummary, PerCaseDeferred, PlannedBundle, PlannedInput, all-true, conditions-of, in-parent, merged, per-case-deferred, plan-bundle, shared, passed-inputs, unique-input, value-in-case, DefinedSelect, NodeOutput}
 use Rattle.meaning.specs.facts.Elements.{In, nth}

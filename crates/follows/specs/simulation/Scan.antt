@@ -8,7 +8,7 @@ use Prim.Native.Nat.{suc, zero, ℕ}
 use lib.Dec.{eqb}
 use lib.ListN.{length}
 use borrow.Author.Tests.{eqb-true}
-use Rattle.meaning.specs.Graph.{Value, bool, bool-cond, pick, region}
+use Rattle.meaning.specs.Graph.{Value, bool, bool-cond, region}
 use Rattle.meaning.specs.Runs.{End, Event, RunState, place-taken, word}
 use Rattle.nesting.specs.Nesting.{same-target, Body, ClaimedRegion, MaybeClaimedRegion, err, lazy, ok, Claim, SplitOut, resolve-by, resolve-deferred, split-out-matching, DeferredEdgeBundle, DeferredEdgeBundleSet, DeferredTarget, LazyCond, to-region, to-return, true-cond, structurize-select-into, StepAnswer, NestState, NodeOutput, done, turned-away}
 use Rattle.nesting.specs.laws.FirstClaim.{bundle-to, first-claim}
@@ -27,6 +27,7 @@ use Rattle.follows.specs.simulation.EnterCase.{Takes}
 use Rattle.follows.specs.simulation.ConvergentFollows.{structurize-select-into-post}
 use Rattle.follows.specs.simulation.ClaimReady.{ClaimDone}
 use Rattle.follows.specs.simulation.TargetRegions.{ClaimOk, claimed-back, claimed-ok, since-back}
+use Rattle.meaning.specs.Lists.{pick}
 
 module _ (W : World) (cl : Claim) (cl-ok : ClaimOk W cl) where
   -- ---- the first entry that can be claimed

@@ -12,10 +12,10 @@ use Rattle.nesting.specs.lookups.ChainEnds.{names}
 use Rattle.nesting.specs.lookups.Contexts.{InContext, context-more, context-rewritten, no-input}
 use Rattle.nesting.specs.Nesting.{join, DeferredEdgeBundle, DeferredEdgeBundleSet, DeferredTarget, LazyCond, false-cond, merge, true-cond, undef-cond, rewrites-of, NodeOutput, RewriteEntry}
 use Rattle.nesting.specs.lookups.Rewriting.{rewrite}
-use Rattle.meaning.specs.facts.Elements.{In}
+use Rattle.meaning.specs.facts.Elements.{In, Extends}
 use Rattle.follows.specs.simulation.Key.{Key, OutputAt, constant-by, is-constant, key, key-constant, key-output, of-node, of-none, owns-join, owns-nodes}
 use Rattle.follows.specs.simulation.World.{Fits, World}
-use Rattle.follows.specs.simulation.Tables.{Extends, Gains, Resolver, Respects, Tables, lookup-keeps, respects-back, stays}
+use Rattle.follows.specs.simulation.Tables.{Gains, Resolver, Respects, Tables, lookup-keeps, respects-back, stays}
 use Rattle.follows.specs.simulation.Conditions.{Mat, mat-stays}
 use Rattle.follows.specs.simulation.Leads.{Goes, OnwardTo, onward-reads}
 use Rattle.follows.specs.simulation.Bundles.{DistinctBundles}

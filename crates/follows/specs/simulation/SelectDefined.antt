@@ -12,9 +12,8 @@ use Rattle.meaning.specs.Graph.{SelectionKind, Value}
 use Rattle.meaning.specs.facts.Tests.{clash, or-either, or-left, or-right}
 use Rattle.nesting.specs.Nesting.{new-case, new-select, MaybeClaimedRegion, Scrutinee, err, lazy, ok, value, define-node, define-region, materialize-lazy-cond, DefinedSelect, case-regions, define-select, scrutinee-value, NestState, NodeOutput}
 use Rattle.nesting.specs.steps.Post.{bind, map-post}
-use Rattle.meaning.specs.facts.Elements.{In, nth}
+use Rattle.meaning.specs.facts.Elements.{In, nth, Extends}
 use Rattle.follows.specs.simulation.Key.{Key, owns-cases, owns-nodes}
-use Rattle.follows.specs.simulation.Tables.{Extends}
 use Rattle.follows.specs.simulation.Conditions.{mat-stays}
 use Rattle.follows.specs.simulation.SelectRuns.{children-at}
 use Rattle.follows.specs.simulation.Defined.{Grew, IfDone, define-node-post, define-region-post, grew-refl, grew-then, materialize-post}

@@ -9,7 +9,7 @@ use lib.Dec.{eqb}
 use lib.ListN.{getD, length}
 use borrow.Author.Tests.{eqb-true}
 use Rattle.meaning.specs.Runs.{Cases, Nodes, _▸_, ⟨⟩, pay, run-nodes, through, End, Event, RunState, mark, word}
-use Rattle.meaning.specs.Graph.{SelectionKind, Value, bool, bool-cond, const, held, input, instr, number, output, pick, undef, no-value}
+use Rattle.meaning.specs.Graph.{SelectionKind, Value, bool, bool-cond, const, held, input, instr, number, output, undef, no-value}
 use Rattle.meaning.specs.facts.Tests.{clash, eqb-self, false-if, or-left, or-right}
 use Rattle.nesting.specs.Nesting.{new-select, Body, ClaimedRegion, MaybeClaimedRegion, Scrutinee, deferred-of, err, has-children, join, ok, DeferredEdgeBundle, to-region, DeferredTargetSummary, any-needs-select, any-non-empty-case, deferred-targets, in-parent, plan-bundles, DefinedSelect, shared-bundle, NestState, NodeOutput, look-up-nodes}
 use Rattle.nesting.specs.lookups.Rewriting.{rewrite-claimed, rewrite-nodes, rewrite, rewrite-case}
@@ -30,6 +30,7 @@ use Rattle.follows.specs.simulation.Targets.{FitAll, targets-distinct, t
 use Rattle.follows.specs.simulation.SelectDefined.{CasesFrom, cases-apart, cases-children, cases-count, scrutinee-stays}
 use Rattle.follows.specs.simulation.EmittedSet.{emits-all-stay, no-select, no-select-number, no-select-outputs, set-emitted, shared-all, shared-no-condition}
 use Rattle.follows.specs.simulation.SelectSteps.{SelectDone, Shape, made, unmade}
+use Rattle.meaning.specs.Lists.{pick}
 
 -- A case's value u is v outside of it: the same constant, or what stands for an input of its own.
 abbrev SeenOutside : ClaimedRegion → Value → Value → Type 0

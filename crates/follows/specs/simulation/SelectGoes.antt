@@ -8,7 +8,7 @@ use Prim.Native.Nat.{_+_, suc, zero, ℕ}
 use native.Mathlib.Omega.{arith}
 use lib.ListN.{drop, drop-of-length-le, getD, length}
 use lib.Seq.{drop-cons}
-use Rattle.meaning.specs.Graph.{SelectionKind, Value, bool, bool-cond, output, pick, undef}
+use Rattle.meaning.specs.Graph.{SelectionKind, Value, bool, bool-cond, output, undef}
 use Rattle.meaning.specs.Runs.{assign-outputs, End, Event, RunState, Word, mark, word}
 use Rattle.meaning.specs.facts.Tests.{clash}
 use Rattle.nesting.specs.Nesting.{get-edge-bundle-by-target, same-target, MaybeClaimedRegion, deferred-of, DeferredEdgeBundle, DeferredEdgeBundleSet, DeferredTarget, LazyCond, LazyConds, false-cond, merge, true-cond, undef-cond, case-outputs, output-decls, DeferredTargetSummary, all-true, conditions-of, in-parent, merged, per-case-deferred, per-case-of, plan-bundle, plan-input, plan-inputs, target-type, unique-input, value-in-case, DefinedSelect, NodeOutput}
@@ -21,6 +21,7 @@ use Rattle.follows.specs.simulation.Conditions.{Mat, Truthy, condition-a
 use Rattle.follows.specs.simulation.Leads.{Chosen, Goes, OnwardTo, onward-reads, read}
 use Rattle.follows.specs.simulation.Bundles.{DistinctBundles, find-in, found-in, is-always, two-apart}
 use Rattle.follows.specs.simulation.Planned.{Emits, EmitsAll, EmitsBundle, EmitsOne, condition-from, emits-from, emits-in, is-true-or-undef, passed, per-cases, per-cases-at, per-cases-condition, per-cases-true, unique-at}
+use Rattle.meaning.specs.Lists.{pick}
 
 -- the state after the outputs of node n became those of case j
 module _ (ρ : Resolver) (os : List NodeOutput) (n j : ℕ) (s : RunState) where

@@ -8,7 +8,7 @@ use Prim.Native.Nat.{_+_, suc, zero, ℕ}
 use native.Mathlib.Omega.{arith}
 use lib.ListN.{getD, length}
 use Rattle.meaning.specs.Runs.{Cases, Nodes, _▸_, case, ∅, ⟨⟩, Ran, and-then, case-count, ended, no-end, pay, run-case, run-nodes, through, End, Event, Rule, RunState, place-taken, word}
-use Rattle.meaning.specs.Graph.{SelectionKind, Value, bool, bool-cond, pick, undef}
+use Rattle.meaning.specs.Graph.{SelectionKind, Value, bool, bool-cond, undef}
 use Rattle.nesting.specs.Nesting.{new-select, MaybeClaimedRegion, deferred-of, DeferredEdgeBundle, DeferredEdgeBundleSet, case-outputs, output-decls, DeferredTargetSummary, in-parent, plan-bundle, DefinedSelect, NodeOutput, look-up-nodes, look-up-cases}
 use Rattle.nesting.specs.lookups.Rewriting.{rewrite-cases-of, rewrite-nodes}
 use Rattle.meaning.specs.facts.Elements.{In, nth}
@@ -21,6 +21,7 @@ use Rattle.follows.specs.simulation.Leads.{Based, Goes, Tracks, based-af
 use Rattle.follows.specs.simulation.Bundles.{DistinctBundles}
 use Rattle.follows.specs.simulation.Planned.{EmitsAll}
 use Rattle.follows.specs.simulation.SelectGoes.{Took, output-after, outputs-set, select-goes}
+use Rattle.meaning.specs.Lists.{pick}
 
 abbrev pub children-at : Cases → ℕ → Option Nodes
 children-at ∅ j = none
@@ -72,9 +73,9 @@ module _ (W : World)
   at-bool : (s′ : RunState) → Based W s′ → (x : Bool) → s′ .env (ρ (bool x)) ≡ word (pick x 1 0)
   at-bool s′ bs′ x = ap (s′ .env) (res .on-bool x) ∙ bs′ .based (bool x) refl ∙ W .on-bool x
 
-  after : (s₁ : RunState) → runs W b (rewrite-nodes ρ os ksj) (pay (W .g .test-cost) s) ≡ through s₁ → Goes W ρ os k (deferred-of cj) e h s₁
+  goes-after : (s₁ : RunState) → runs W b (rewrite-nodes ρ os ksj) (pay (W .g .test-cost) s) ≡ through s₁ → Goes W ρ os k (deferred-of cj) e h s₁
       → Goes W ρ os k d e h (outputs-set ρ os (n .node) j s₁)
-  after s₁ p goes =
+  goes-after s₁ p goes =
       let s₂ : RunState = outputs-set ρ os (n .node) j s₁ in
       let vs : List Value = map ρ (case-outputs (n .node) j os) in
       let out-kept : (u : Value) → is-node (n .node) (key os u) ≡ false → s₂ .env u ≡ s₁ .env u = λ u c. outputs-kept (n .node) os u c vs s₁ in
@@ -103,6 +104,6 @@ module _ (W : World)
     where
       go : (R : Ran) → runs W b (rewrite-nodes ρ os ksj) (pay (W .g .test-cost) s) ≡ R → Tracks W ρ os k (deferred-of cj) e h R
           → Tracks W ρ os k d e h (and-then R (λ s′. through (outputs-set ρ os (n .node) j s′)))
-      go (through s₁) p fl = record { leads-to = after s₁ p (fl .leads-to) }
+      go (through s₁) p fl = record { leads-to = goes-after s₁ p (fl .leads-to) }
       go (ended e′ s₁) p fl = record { leads-to = fl .leads-to }
       go (no-end why) p fl = record { leads-to = fl .leads-to }

@@ -1,6 +1,6 @@
 -- The tables of nesting as they stand, and what look-ups and outputs at the end may be.
 use mathlib.Core.Bool.{Bool}
-use mathlib.Core.List.{List, [], _++_, append-assoc, append-nil}
+use mathlib.Core.List.{List, _++_}
 use mathlib.Core.Option.{Option, none, some}
 use mathlib.Core.Path.{_∙_, _≡_, ap, refl, subst, sym}
 use Prim.Native.Nat.{suc, zero, ℕ}
@@ -10,23 +10,10 @@ use Rattle.nesting.specs.Nesting.{chain-fuel, rewrites-of, InputRewrite, NestSt
 use Rattle.nesting.specs.lookups.Rewriting.{rewrite}
 use Rattle.nesting.specs.lookups.ChainSteps.{after-steps, chain-steps, next-value, step-input, step-chain}
 use Rattle.nesting.specs.lookups.ChainEnds.{entry-kept}
-use Rattle.meaning.specs.facts.Elements.{nth, nth-append}
+use Rattle.meaning.specs.facts.Elements.{nth, nth-append, Extends, extends-refl, extends-then}
 use Rattle.follows.specs.simulation.Key.{OutputAt}
 
 -- ---- tables only gain
-pub record Extends {A : Type 0} (a b : List A) : Type 0 where
-  pub more : List A
-  pub whole : b ≡ a ++ more
-
-pub extends-same : {A : Type 0} {a b : List A} → b ≡ a → Extends a b
-extends-same {a} e = record { more = []; whole = e ∙ sym (append-nil a) }
-
-pub extends-refl : {A : Type 0} (a : List A) → Extends a a
-extends-refl a = extends-same refl
-
-pub extends-then : {A : Type 0} {a b c : List A} → Extends a b → Extends b c → Extends a c
-extends-then {a} p q = record { more = p .more ++ q .more; whole = q .whole ∙ ap (λ l. l ++ q .more) (p .whole) ∙ append-assoc a (p .more) (q .more) }
-
 -- an entry stays, and so does an output where it is
 pub entry-stays : {es es′ : List RewriteEntry} (r : ℕ) {x : RegionInputRewrites} → Extends es es′ → rewrites-of es r ≡ some x → rewrites-of es′ r ≡ some x
 entry-stays {es} r {x} p h = ap (λ l. rewrites-of l r) (p .whole) ∙ entry-kept es (p .more) r x h

@@ -8,8 +8,8 @@ use Prim.Native.Nat.{_<_, suc, zero, ℕ}
 use lib.ListN.{getD, length, length-map}
 use borrow.Author.Tests.{ne-eqb}
 use Rattle.meaning.specs.Runs.{Nodes, _▸_, ⟨⟩}
-use Rattle.meaning.specs.Graph.{Edge, Value, pick, undef}
-use Rattle.meaning.specs.Lists.{is-in, empty}
+use Rattle.meaning.specs.Graph.{Edge, Value, undef}
+use Rattle.meaning.specs.Lists.{is-in, empty, pick}
 use Rattle.meaning.specs.facts.Tests.{clash, and-both}
 use Rattle.nesting.specs.Nesting.{blocks-of, ClaimedRegion, MaybeClaimedRegion, deferred-of, err, has-children, ok, Claim, defer-edge, edge-case, target-regions, unclaimed-edge, DeferredEdgeBundle, to-region, true-cond, NestState, StructurizeRegionState, claimed, in-progress, not-begun, ready}
 use Rattle.nesting.specs.steps.RegionsLeft.{state-of}

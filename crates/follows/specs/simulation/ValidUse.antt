@@ -8,10 +8,10 @@ use lib.ListN.{length, getD, length-append}
 use lib.Dec.{eqb, ltb}
 use borrow.Author.Tests.{eqb-true, ltb-true}
 use Rattle.meaning.specs.Graph.{Value, const, input, instr, output, bool, undef, held, Instr, SelectionKind, bool-cond, number, Edge, ControlInst, unreachable, return, exit-invocation, branch, select-branch, Graph, region, edges-of, no-value}
-use Rattle.meaning.specs.Lists.{is-in}
+use Rattle.meaning.specs.Lists.{is-in, All}
 use Rattle.meaning.specs.facts.Tests.{clash, and-both, picked-positive}
 use Rattle.format.specs.References.{type-in, instructions, instr-type, behind-all, return-types}
-use Rattle.format.specs.Valid.{All, Passed, ValidInstrs, ValidEdge, ValidEnd, TestRight, Valid}
+use Rattle.format.specs.Valid.{Passed, ValidInstrs, ValidEdge, ValidEnd, TestRight, Valid}
 use Rattle.format.specs.Valid as valid
 use Rattle.nesting.specs.Nesting.{reachable}
 use Rattle.meaning.specs.facts.Members.{first, rest, first-or-rest}

@@ -5,8 +5,7 @@ use mathlib.Core.Path.{_≡_, refl}
 use Prim.Native.Nat.{suc, zero, ℕ}
 use lib.Dec.{eqb}
 use borrow.Author.Tests.{eqb-true}
-use Rattle.meaning.specs.Graph.{Value, bool, code-of, const, held, input, instr, output, same-value, undef, no-value}
-use Rattle.nesting.specs.Nesting.{same-values}
+use Rattle.meaning.specs.Graph.{Value, bool, code-of, const, held, input, instr, output, same-value, undef, no-value, same-values}
 use Rattle.meaning.specs.facts.Tests.{and-both}
 
 decode : ℕ → ℕ → ℕ → Value

@@ -6,8 +6,8 @@ use mathlib.Core.Path.{_∙_, _≡_, sym}
 use Prim.Native.Nat.{_<_, ℕ}
 use lib.ListN.{length}
 use Rattle.meaning.specs.Runs.{Nodes, Ended, run-from, Ran, run-nodes, Env, Event, Rule, RunState, Word, mark, word}
-use Rattle.meaning.specs.Graph.{Graph, bool, pick, undef}
-use Rattle.meaning.specs.Lists.{is-in}
+use Rattle.meaning.specs.Graph.{Graph, bool, undef}
+use Rattle.meaning.specs.Lists.{is-in, pick}
 use Rattle.format.specs.References.{return-types}
 use Rattle.nesting.specs.Nesting.{reachable, DeferredTarget, to-region, to-return}
 use Rattle.follows.specs.simulation.Usable.{UsableGraph, arity}

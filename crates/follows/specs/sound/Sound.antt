@@ -1,24 +1,28 @@
--- Statement 4 from the other three: whatever the top definition accepts is sound.
+-- Statement 4 from the three before it, and statement 5: whatever the top definition accepts is sound, and what it refuses numbered.
 use mathlib.Core.Path.{_≡_, refl, ap, _∙_}
 use mathlib.Core.Bool.{Bool, true, false}
 use mathlib.Core.List.{List}
 use mathlib.Core.Option.{Option}
-use Prim.Native.Nat.{ℕ}
+use Prim.Native.Nat.{ℕ, _<_}
 use lib.ListN.{length}
 use lib.Dec.{leb}
 use Rattle.meaning.specs.Graph.{Value, Graph}
 use Rattle.format.specs.Store
 use Rattle.format.specs.Store.{Answer, accepted, refused}
 use Rattle.format.specs.Accept.{accept}
+use Rattle.format.specs.Valid.{Valid}
 use Rattle.format.specs.laws.AcceptValid.{accept-valid}
+use Rattle.format.specs.laws.Refusals.{IfRefused, then-refused, refusal-range}
+use Rattle.nesting.specs.laws.NoMarks.{no-marks}
 use Rattle.meaning.specs.facts.Tests.{clash}
 use Rattle.format.specs.laws.WellRead.{step}
 use Rattle.nesting.specs.Nesting.{Outcome, untouched, whole, closed, leftover, Nested, structurize-func}
 use Rattle.nesting.specs.Sheet.{figure, Sheet, sheet-of, sheet-words, sheet-for, words-fit, answer}
-use Rattle.follows.specs.Statements.{HasForm, is-whole, is-closed, SoundSheet, Sound}
+use Rattle.follows.specs.Statements.{HasForm, is-whole, is-closed, SoundSheet, Sound, Refusal, by-store, by-limit, by-lent, by-figure, Refused}
 use Rattle.follows.specs.simulation.Follows.{follows}
 use Rattle.follows.specs.cost.Bounded.{bounded}
-use Rattle.follows.specs.counting.Attempts.{attempts}
+use Rattle.follows.specs.counting.Attempts.{attempts, refused-nine}
+use Rattle.meaning.specs.Lists.{Within}
 
 -- ---- what the sheet shows of a form
 -- a sheet that fits is handed on as it is
@@ -62,9 +66,9 @@ shown-for store s h =
       shows = fitting (leb (sheet-of (a .value) (b .value) .figure) 4294967295) 11 (sheet-of (a .value) (b .value)) s (b .second);
     }
 
-shown : (store : List ℕ) (lent : ℕ) (s : Sheet) → answer store lent ≡ accepted s → ShownSheet store s
+shown-answer : (store : List ℕ) (lent : ℕ) (s : Sheet) → answer store lent ≡ accepted s → ShownSheet store s
 unfolding answer
-shown store lent s h =
+shown-answer store lent s h =
     let a = step (sheet-for store) (words-fit lent) s h in
     let z : s ≡ a .value = fitting (leb (length (sheet-words (a .value))) lent) 10 (a .value) s (a .second) in
     rw z (shown-for store (a .value) (a .first))
@@ -79,6 +83,7 @@ sound-sheet store s y =
       accepts = y .accepts;
       nests = y .nests;
       shows = y .shows;
+      unmarked = no-marks (y .graph) (y .nest) (y .nests);
       follows = follows (y .graph) valid (y .nest) (y .nests);
       bounded = λ outs f x b e p q.
           let same-figure : s .figure ≡ figure (y .graph .test-cost) (y .nest .entry .children) = ap (λ t. t .figure) (y .shows) ∙ figure-shown (y .graph) (y .nest) outs f in
@@ -88,4 +93,39 @@ sound-sheet store s y =
 
 -- Statement 4.
 pub sound : Sound
-sound store lent s h = sound-sheet store s (shown store lent s h)
+sound store lent s h = sound-sheet store s (shown-answer store lent s h)
+
+-- ---- the refusals of each part
+unless : (b : Bool) (k : ℕ) (s : Sheet) → Refusal k 0 → IfRefused {A = Sheet} Refusal (elim b as (λ b. Answer Sheet) [ true ↦ accepted s | false ↦ refused k 0 ])
+unless true k s h = tt
+unless false k s h = h
+
+of-store : (store : List ℕ) → IfRefused Refusal (accept store)
+of-store store = go (accept store) (refusal-range store)
+  where
+    go : (a : Answer Graph) → IfRefused (λ n w. Within 1 8 n × (w < 32)) a → IfRefused Refusal a
+    go (accepted g) h = tt
+    go (refused n w) h = by-store (h .0) (h .1)
+
+of-nesting : (g : Graph) → Valid g → IfRefused Refusal (structurize-func g)
+of-nesting g valid = go (structurize-func g) refl
+  where
+    go : (a : Answer Nested) → structurize-func g ≡ a → IfRefused Refusal a
+    go (accepted x) e = tt
+    go (refused n w) e = let h = refused-nine g valid n w e in rw (h .0, h .1) by-limit
+
+of-sheet : (store : List ℕ) → IfRefused Refusal (sheet-for store)
+unfolding sheet-for
+of-sheet store =
+    then-refused Refusal (accept store) _ (of-store store) λ g e.
+    then-refused Refusal (structurize-func g) _ (of-nesting g (accept-valid store g e)) λ x f.
+    unless (leb (sheet-of g x .figure) 4294967295) 11 (sheet-of g x) by-figure
+
+of-answer : (store : List ℕ) (lent : ℕ) → IfRefused Refusal (answer store lent)
+unfolding answer
+of-answer store lent =
+    then-refused Refusal (sheet-for store) _ (of-sheet store) λ s e. unless (leb (length (sheet-words s)) lent) 10 s by-lent
+
+-- Statement 5.
+pub refusals : Refused
+refusals store lent n w h = rw h at (of-answer store lent)

@@ -1,7 +1,7 @@
 -- What `accept` accepts is Valid.
 use mathlib.Core.Path.{_≡_, refl, sym}
 use mathlib.Core.Bool.{Bool, true, false, _||_, not}
-use mathlib.Core.List.{List, [], _∷_, _++_}
+use mathlib.Core.List.{List, [], _∷_}
 use Prim.Native.Nat.{ℕ, zero, suc, _+_, _≤_, _<_}
 use native.Mathlib.Omega.{arith}
 use lib.ListN.{length, getD}
@@ -10,26 +10,14 @@ use borrow.Author.Tests.{ltb-true, eqb-true, eqb-false, ne-eqb}
 use Rattle.meaning.specs.Graph.{Value, Instr, SelectionKind, bool-cond, number, Edge, ControlInst, unreachable, return, exit-invocation, branch, select-branch, Region, Graph, nowhere, edges-of}
 use Rattle.meaning.specs.Graph as graph
 use Rattle.format.specs.Store.{Answer, accepted, store-words}
-use Rattle.meaning.specs.Lists.{is-in, Distinct}
+use Rattle.meaning.specs.Lists.{is-in, Distinct, All, Within}
 use Rattle.format.specs.Read.{read-record}
 use Rattle.format.specs.References.{instructions, type-in, refuse-unless, first-refusal, named-right, of-type, reads-right, types-right, passed-right, test-right, values-right, target-right, edge-right, first-edges, exits-right, region-right, regions-right, references, behind-all, return-types, is-region}
 use Rattle.format.specs.Accept.{accept}
-use Rattle.format.specs.Valid.{All, Within, Usable, Passed, ValidInstrs, ValidEdge, TestRight, ValidEnd, ValidRegion, Valid}
+use Rattle.format.specs.Valid.{Usable, Passed, ValidInstrs, ValidEdge, TestRight, ValidEnd, ValidRegion, Valid}
 use Rattle.meaning.specs.facts.Tests.{clash, not-true, neither}
 use Rattle.format.specs.laws.WellRead.{SamePasses, InstrRead, BlockRead, EndRead, TargetsRead, RegionRead, RecordRead, record-read, step}
-
-all-map : {A : Type 0} (P Q : A → Type 0) → ((x : A) → P x → Q x) → (xs : List A) → All P xs → All Q xs
-all-map P Q f [] h = tt
-all-map P Q f (x ∷ xs) h = (f x (h .0), all-map P Q f xs (h .1))
-
-all-append : {A : Type 0} (P : A → Type 0) (xs ys : List A) → All P xs → All P ys → All P (xs ++ ys)
-all-append P [] ys h k = k
-all-append P (x ∷ xs) ys h k = (h .0, all-append P xs ys (h .1) k)
-
-all-at : {A : Type 0} (P : A → Type 0) (d : A) (xs : List A) → All P xs → (k : ℕ) → k < length xs → P (getD xs k d)
-all-at P d [] h k l = absurd (omega arith)
-all-at P d (x ∷ xs) h zero l = h .0
-all-at P d (x ∷ xs) h (suc k) l = all-at P d xs (h .1) k (omega arith)
+use Rattle.meaning.specs.facts.Elements.{all-map, all-append}
 
 -- the instructions of blocks that were read
 instructions-read : (bs : List (List Instr)) → All BlockRead bs → All InstrRead (instructions bs)
@@ -117,7 +105,7 @@ module _ (g : Graph) (r : ℕ) where
   unfolding target-right
   targets-right es h =
       all-map (λ (e : Edge). target-right g r e ≡ accepted tt) (λ (e : Edge). e .target < length (g .regions))
-      (λ e q. ltb-true (e .target) (length (g .regions)) (expected 6 r (is-region g r (e .target)) q)) es (each-all (target-right g r) es h)
+      (λ e q. ltb-true (e .target) (length (g .regions)) (expected 6 r (is-region g (e .target)) q)) es (each-all (target-right g r) es h)
 
   edges-valid : (es : List Edge) → SamePasses es → first-refusal (target-right g r) es ≡ accepted tt → first-refusal (edge-right g r) (first-edges [] es) ≡ accepted tt → All (ValidEdge g r) es
   edges-valid es same h k =
@@ -163,12 +151,12 @@ module _ (g : Graph) (r : ℕ) where
   unfolding exits-right
   exits-valid seen [] h = record { regions = tt; new = tt; distinct = tt }
   exits-valid seen (x ∷ xs) h =
-      let a = step (refuse-unless 6 r (is-region g r x)) _ tt h in
+      let a = step (refuse-unless 6 r (is-region g x)) _ tt h in
       let b = step (refuse-unless 8 r (not (is-in x seen))) _ tt (a .second) in
       let rest = exits-valid (x ∷ seen) xs (b .second) in
       let apart = not-in x seen xs (rest .new) in
       record {
-        regions = (ltb-true x (length (g .regions)) (expected 6 r (is-region g r x) (a .first)), rest .regions);
+        regions = (ltb-true x (length (g .regions)) (expected 6 r (is-region g x) (a .first)), rest .regions);
         new = (not-true (is-in x seen) (expected 8 r (not (is-in x seen)) (b .first)), apart .1);
         distinct = (apart .0, rest .distinct);
       }
@@ -209,10 +197,10 @@ regions-valid g r (x ∷ xs) w h (suc k) l =
 graph-valid : (g : Graph) → RecordRead g → references g ≡ accepted tt → Valid g
 unfolding references
 graph-valid g w h =
-    let a = step (refuse-unless 6 0 (is-region g 0 (g .entry))) _ tt h in
+    let a = step (refuse-unless 6 0 (is-region g (g .entry))) _ tt h in
     record {
       count = w .count;
-      entry = ltb-true (g .entry) (length (g .regions)) (expected 6 0 (is-region g 0 (g .entry)) (a .first));
+      entry = ltb-true (g .entry) (length (g .regions)) (expected 6 0 (is-region g (g .entry)) (a .first));
       constants-few = w .constants .count .1;
       constants = w .constants .all;
       regions = λ r l. let same : 0 + r ≡ r = omega arith in rw same at (regions-valid g 0 (g .regions) (w .regions) (a .second) r l);

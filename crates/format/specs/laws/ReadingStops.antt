@@ -5,7 +5,8 @@ use Prim.Native.Nat.{ℕ, zero, suc, _+_, _≤_}
 use native.Mathlib.Omega.{arith}
 use lib.ListN.{length, getD}
 use lib.Dec.{eqb, leb, ltb}
-use Rattle.format.specs.Read.{Read, got, bad, Reader, read-then, expect, word, within, many, counted, type, is-kind, index-right, read-value, instruction, block, opcode-for, fewest-values, most-values, fewest-targets, most-targets, distinct-from, terminator, read-region, head}
+use Rattle.format.specs.Read.{Read, got, bad, Reader, read-then, expect, word, within, many, counted, type, is-kind, index-right, read-value, instruction, block, opcode-for, fewest-values, most-values, fewest-targets, most-targets, terminator, read-region, head}
+use Rattle.meaning.specs.Lists.{distinct-from}
 
 abbrev pub StopsReading : {A : Type 0} → Read A → Type 0
 StopsReading (got a at) = Unit

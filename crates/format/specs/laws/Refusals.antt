@@ -9,30 +9,39 @@ use lib.Dec.{eqb, leb, ltb}
 use borrow.Author.Tests.{leb-true}
 use Rattle.meaning.specs.Graph.{Value, Instr, SelectionKind, bool-cond, number, Edge, ControlInst, unreachable, return, exit-invocation, branch, select-branch, edges-of, Region, Graph}
 use Rattle.meaning.specs.Graph as graph
-use Rattle.format.specs.Store.{Answer, accepted, refused, if-accepted, blocks-checked, number-right, check-right, length-right, count-right, word-at, tabulate, store-words}
+use Rattle.format.specs.Store.{Answer, accepted, refused, if-accepted, blocks-checked, number-right, check-right, length-right, count-right, word-at, store-words}
 use Rattle.format.specs.Read.{Read, got, bad, read-region, settle, regions-from, head, read-record}
-use Rattle.meaning.specs.Lists.{is-in}
+use Rattle.meaning.specs.Lists.{pick, is-in, tabulate, Within}
 use Rattle.format.specs.References.{refuse-unless, first-refusal, type-in, instructions, behind-all, return-types, is-region, named-right, of-type, reads-right, types-right, passed-right, test-right, values-right, target-right, edge-right, first-edges, exits-right, region-right, regions-right, references}
 use Rattle.format.specs.Accept.{accept}
-use Rattle.format.specs.Valid.{Within}
 use Rattle.format.specs.laws.WellRead.{head-read, record-read}
 use Rattle.format.specs.laws.ReadingStops.{StopsReading, region-stops, head-stops}
 use Rattle.meaning.specs.facts.Tests.{and-both}
 
--- Nothing is said of what is accepted.
+-- P of a refusal's number and word. Nothing is said of what is accepted.
+abbrev pub IfRefused : {A : Type 0} → (ℕ → ℕ → Type 0) → Answer A → Type 0
+IfRefused P (accepted a) = Unit
+IfRefused P (refused n w) = P n w
+
+pub then-refused : {A B : Type 0} (P : ℕ → ℕ → Type 0) (r : Answer A) (k : A → Answer B)
+    → IfRefused P r → ((a : A) → r ≡ accepted a → IfRefused P (k a)) → IfRefused P (if-accepted r k)
+then-refused P (accepted a) k h more = more a refl
+then-refused P (refused n w) k h more = h
+
+abbrev Ranges : ℕ → ℕ → Type 0
+Ranges n w = Within 1 8 n × (w < 32)
+
 abbrev pub InRange : {A : Type 0} → Answer A → Type 0
-InRange (accepted a) = Unit
-InRange (refused n w) = Within 1 8 n × (w < 32)
+InRange r = IfRefused Ranges r
 
 then-range : {A B : Type 0} (r : Answer A) (k : A → Answer B) → InRange r → ((a : A) → r ≡ accepted a → InRange (k a)) → InRange (if-accepted r k)
-then-range (accepted a) k h more = more a refl
-then-range (refused n w) k h more = h
+then-range r k h more = then-refused Ranges r k h more
 
 settle-range : {A B : Type 0} (r : ℕ) (x : Read A) (k : A → ℕ → Answer B) → r < 32 → StopsReading x → ((a : A) (at : ℕ) → x ≡ got a at → InRange (k a at)) → InRange (settle r x k)
 settle-range r (got a at) k l h more = more a at refl
 settle-range r (bad n) k l h more = ((omega arith, omega arith), by-test (eqb n 5))
   where
-    by-test : (b : Bool) → graph.pick b r 0 < 32
+    by-test : (b : Bool) → pick b r 0 < 32
     by-test true = l
     by-test false = omega arith
 
@@ -130,7 +139,7 @@ module _ (g : Graph) (r : ℕ) (l : r < 32) where
 
   target-range : (e : Edge) → InRange (target-right g r e)
   unfolding target-right
-  target-range e = expect-range 6 r (is-region g r (e .target)) (omega arith, omega arith) l
+  target-range e = expect-range 6 r (is-region g (e .target)) (omega arith, omega arith) l
 
   edge-range : (e : Edge) → InRange (edge-right g r e)
   unfolding edge-right
@@ -140,7 +149,7 @@ module _ (g : Graph) (r : ℕ) (l : r < 32) where
   unfolding exits-right
   exits-range seen [] = tt
   exits-range seen (x ∷ xs) =
-      then-range (refuse-unless 6 r (is-region g r x)) _ (expect-range 6 r (is-region g r x) (omega arith, omega arith) l) λ u e.
+      then-range (refuse-unless 6 r (is-region g x)) _ (expect-range 6 r (is-region g x) (omega arith, omega arith) l) λ u e.
       then-range (refuse-unless 8 r (not (is-in x seen))) _ (expect-range 8 r (not (is-in x seen)) (omega arith, omega arith) l) λ w f.
       exits-range (x ∷ seen) xs
 
@@ -162,7 +171,7 @@ each-region-range g r (x ∷ xs) l =
 references-range : (g : Graph) → length (g .regions) ≤ 32 → InRange (references g)
 unfolding references
 references-range g l =
-    then-range (refuse-unless 6 0 (is-region g 0 (g .entry))) _ (expect-range 6 0 (is-region g 0 (g .entry)) (omega arith, omega arith) (omega arith)) λ u e.
+    then-range (refuse-unless 6 0 (is-region g (g .entry))) _ (expect-range 6 0 (is-region g (g .entry)) (omega arith, omega arith) (omega arith)) λ u e.
     each-region-range g 0 (g .regions) (omega arith)
 
 pub refusal-range : (s : List ℕ) → InRange (accept s)

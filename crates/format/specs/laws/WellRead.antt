@@ -9,10 +9,10 @@ use lib.Dec.{eqb, leb}
 use borrow.Author.Tests.{leb-true}
 use Rattle.meaning.specs.Graph.{Value, Instr, SelectionKind, bool-cond, number, Edge, ControlInst, unreachable, return, exit-invocation, branch, select-branch, Region, Graph}
 use Rattle.format.specs.Store.{Answer, accepted, refused, if-accepted}
-use Rattle.format.specs.Read.{Read, got, bad, Reader, read-then, expect, many, counted, within, word, type, read-value, instruction, block, terminator, read-region, opcode-for, fewest-values, most-values, fewest-targets, most-targets, distinct-from, edges-passed, rank, control-inst, settle, regions-from, head, Head, read-record}
+use Rattle.format.specs.Read.{Read, got, bad, Reader, read-then, expect, many, counted, within, word, type, read-value, instruction, block, terminator, read-region, opcode-for, fewest-values, most-values, fewest-targets, most-targets, edges-passed, control-inst, settle, regions-from, head, Head, read-record}
 use Rattle.meaning.specs.facts.Tests.{clash, and-both}
 use Rattle.format.specs.laws.Readers.{part, got-value, many-length}
-use Rattle.format.specs.Valid.{All, Within}
+use Rattle.meaning.specs.Lists.{All, Within, distinct-from, rank}
 
 -- The bounds of what `within` gives.
 pub within-bounds : (low high : ℕ) (ws : List ℕ) (at : ℕ) {n e : ℕ} → within low high ws at ≡ got n e → Within low high n

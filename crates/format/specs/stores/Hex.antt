@@ -4,7 +4,7 @@ use Prim.Native.Nat.{ℕ, _+_, _*_, _-_}
 use Prim.Native.Char.{code}
 use Prim.Native.String.{String}
 use lib.Dec.{ltb}
-use Rattle.meaning.specs.Graph.{pick}
+use Rattle.meaning.specs.Lists.{pick}
 
 abbrev digit : ℕ → ℕ
 digit c = pick (ltb c 58) (c - 48) (c - 87)

@@ -7,11 +7,17 @@ use native.Mathlib.Omega.{arith}
 use native.Mathlib.Nat.{add-assoc, not-suc-le-zero}
 use native.Mathlib.Decide.{decLe, decLt}
 use lib.ListN.{drop-of-length-le, length, getD, take, drop, length-append, length-drop, List·getD-append}
-use lib.Seq.{getD-drop, getD-take, getD-append-add, getD-append-seam, take-all, take-suc, ext-getD, length-take-le}
+use lib.Seq.{getD-drop, getD-take, getD-append-add, take-all, take-suc, ext-getD, length-take-le}
 use lib.Dec.{eqb, ltb}
 use borrow.Author.Tests.{eqb-true}
-use Rattle.format.specs.Store.{Answer, accepted, refused, if-accepted, tabulate, pair, weighted, number-right, blocks-checked, word-at, all-zero, length-right, count-right, store-words}
+use Rattle.format.specs.Store.{Answer, accepted, refused, if-accepted, pair, weighted, number-right, blocks-checked, word-at, all-zero, length-right, count-right, store-words}
+use Rattle.format.specs.Read.{read-record}
+use Rattle.format.specs.References.{references}
+use Rattle.format.specs.Accept.{accept}
+use Rattle.meaning.specs.Graph.{Graph}
 use Rattle.format.specs.stores.Pack.{check-from}
+use Rattle.meaning.specs.Lists.{tabulate}
+use Rattle.meaning.specs.facts.Elements.{length-tabulate, tabulate-at}
 
 -- ---- the check of a block
 check-snoc : (k : ℕ) (xs : List ℕ) (y : ℕ) → check-from k (xs ++ (y ∷ [])) ≡ check-from k xs + y * suc (k + length xs)
@@ -92,23 +98,6 @@ all-word (suc n) s j h = at (all-word n (drop 512 s) (j - 253)) (decLt j 253)
         ∙ word-drop s (j - 253)
         ∙ ap (word-at s) (omega arith)
 
-length-tabulate : (n : ℕ) (f : ℕ → ℕ) → length (tabulate n f) ≡ n
-unfolding tabulate
-length-tabulate zero f = refl
-length-tabulate (suc n) f = rw (length-append (tabulate n f) (f n ∷ []), length-tabulate n f) (omega arith)
-
-tabulate-at : (n : ℕ) (f : ℕ → ℕ) (j : ℕ) → j < n → getD (tabulate n f) j 0 ≡ f j
-unfolding tabulate
-tabulate-at zero f j h = absurd (not-suc-le-zero h)
-tabulate-at (suc n) f j h = at (tabulate-at n f j) (decLt j n)
-  where
-    at : (j < n → getD (tabulate n f) j 0 ≡ f j) → Dec (j < n) → getD (tabulate n f ++ (f n ∷ [])) j 0 ≡ f j
-    at i (yes l) = List·getD-append (tabulate n f) (f n ∷ []) 0 j (omega (arith, length-tabulate n f)) ∙ i l
-    at i (no g) =
-        ap (λ k. getD (tabulate n f ++ (f n ∷ [])) k 0) (omega (arith, length-tabulate n f))
-        ∙ getD-append-seam (tabulate n f) (f n) [] 0
-        ∙ ap f (omega arith)
-
 words-tabulated : (n w : ℕ) (s : List ℕ) → w ≤ 253 * n → tabulate w (word-at s) ≡ take w (all-words n s)
 words-tabulated n w s h =
     let l : length (take w (all-words n s)) ≡ w = length-take-le w (all-words n s) (omega (arith, length-all-words n s)) in
@@ -137,32 +126,32 @@ same-blocks s (suc n) h =
     ap (λ a. if-accepted a λ _. quick-block-checked s n (weighted s (512 * n) 508)) (same-blocks s n (omega arith))
     ∙ ap (λ c. if-accepted (quick-blocks s n) λ _. quick-block-checked s n c) (weighted-walk s (512 * n) 508 (omega arith))
 
-unfoldable pub zeros : List ℕ → Bool
-zeros [] = true
-zeros (w ∷ ws) = eqb w 0 && zeros ws
+unfoldable pub only-zeros : List ℕ → Bool
+only-zeros [] = true
+only-zeros (w ∷ ws) = eqb w 0 && only-zeros ws
 
-zeros-snoc : (ws : List ℕ) (y : ℕ) → zeros (ws ++ (y ∷ [])) ≡ (zeros ws && eqb y 0)
-unfolding zeros
-zeros-snoc [] y = and-true (eqb y 0)
-zeros-snoc (w ∷ ws) y = ap (λ b. eqb w 0 && b) (zeros-snoc ws y) ∙ sym (and-assoc (eqb w 0) (zeros ws) (eqb y 0))
+only-zeros-snoc : (ws : List ℕ) (y : ℕ) → only-zeros (ws ++ (y ∷ [])) ≡ (only-zeros ws && eqb y 0)
+unfolding only-zeros
+only-zeros-snoc [] y = and-true (eqb y 0)
+only-zeros-snoc (w ∷ ws) y = ap (λ b. eqb w 0 && b) (only-zeros-snoc ws y) ∙ sym (and-assoc (eqb w 0) (only-zeros ws) (eqb y 0))
 
-all-zero-walk : (s : List ℕ) (n w k : ℕ) → w + k ≤ 253 * n → all-zero s w k ≡ zeros (take k (drop w (all-words n s)))
-unfolding all-zero zeros
+all-zero-walk : (s : List ℕ) (n w k : ℕ) → w + k ≤ 253 * n → all-zero s w k ≡ only-zeros (take k (drop w (all-words n s)))
+unfolding all-zero only-zeros
 all-zero-walk s n w zero h = refl
 all-zero-walk s n w (suc k) h =
     let l : k < length (drop w (all-words n s)) = simp length-drop (omega (arith, length-all-words n s)) in
     let e : getD (drop w (all-words n s)) k 0 ≡ word-at s (w + k) = getD-drop w (all-words n s) k 0 ∙ all-word n s (w + k) (omega arith) in
-    rw (take-suc (drop w (all-words n s)) k 0 l, zeros-snoc (take k (drop w (all-words n s))) (getD (drop w (all-words n s)) k 0), e, all-zero-walk s n w k (omega arith))
+    rw (take-suc (drop w (all-words n s)) k 0 l, only-zeros-snoc (take k (drop w (all-words n s))) (getD (drop w (all-words n s)) k 0), e, all-zero-walk s n w k (omega arith))
 
-rest-zero : (s : List ℕ) (n w : ℕ) → all-zero s w (253 * n - w) ≡ zeros (drop w (all-words n s))
-unfolding all-zero zeros
+rest-zero : (s : List ℕ) (n w : ℕ) → all-zero s w (253 * n - w) ≡ only-zeros (drop w (all-words n s))
+unfolding all-zero only-zeros
 rest-zero s n w = go (decLe w (253 * n))
   where
     all : take (253 * n - w) (drop w (all-words n s)) ≡ drop w (all-words n s)
     all = take-all (253 * n - w) (drop w (all-words n s)) (simp length-drop (omega (arith, length-all-words n s)))
 
-    go : Dec (w ≤ 253 * n) → all-zero s w (253 * n - w) ≡ zeros (drop w (all-words n s))
-    go (yes l) = all-zero-walk s n w (253 * n - w) (omega arith) ∙ ap zeros all
+    go : Dec (w ≤ 253 * n) → all-zero s w (253 * n - w) ≡ only-zeros (drop w (all-words n s))
+    go (yes l) = all-zero-walk s n w (253 * n - w) (omega arith) ∙ ap only-zeros all
     go (no g) =
         let e : 253 * n - w ≡ 0 = omega arith in
         rw (e, drop-of-length-le (all-words n s) {i = w} (omega (arith, length-all-words n s)))
@@ -173,10 +162,10 @@ words-if right ws = elim right [ false ↦ refused 4 0 | true ↦ accepted ws ]
 
 -- with n blocks, all their words, and W
 abbrev pub quick-count : ℕ → List ℕ → ℕ → Answer (List ℕ)
-quick-count n ws w = words-if (ltb 0 w && (eqb n ((w + 252) / 253) && zeros (drop w ws))) (take w ws)
+quick-count n ws w = words-if (ltb 0 w && (eqb n ((w + 252) / 253) && only-zeros (drop w ws))) (take w ws)
 
 unfoldable pub quick-store-words : List ℕ → Answer (List ℕ)
-unfolding quick-blocks check-from all-words front-words zeros
+unfolding quick-blocks check-from all-words front-words only-zeros
 quick-store-words s =
     elim (length-right (length s)) [
       | false ↦ refused 1 0
@@ -192,7 +181,7 @@ same-if true true true xs ys f = ap accepted (f refl)
 same-count : (s : List ℕ) (n w : ℕ) → words-if (count-right s n w) (tabulate w (word-at s)) ≡ quick-count n (all-words n s) w
 same-count s n w =
     ap (λ z. words-if (ltb 0 w && (eqb n ((w + 252) / 253) && z)) (tabulate w (word-at s))) (rest-zero s n w)
-    ∙ same-if (ltb 0 w) (eqb n ((w + 252) / 253)) (zeros (drop w (all-words n s))) (tabulate w (word-at s)) (take w (all-words n s))
+    ∙ same-if (ltb 0 w) (eqb n ((w + 252) / 253)) (only-zeros (drop w (all-words n s))) (tabulate w (word-at s)) (take w (all-words n s))
     λ e. words-tabulated n w s (omega (arith, eqb-true n ((w + 252) / 253) e))
 
 abbrev definition : List ℕ → Bool → Answer (List ℕ)
@@ -218,3 +207,15 @@ same-answer s true =
 pub same-store-words : (s : List ℕ) → store-words s ≡ quick-store-words s
 unfolding store-words quick-store-words
 same-store-words s = same-answer s (length-right (length s))
+
+-- ---- what is accepted, once the words of the store are read, or the store is refused
+abbrev pub accept-words : Answer (List ℕ) → Answer Graph
+accept-words x =
+    if-accepted x λ ws.
+    if-accepted (read-record ws) λ g.
+    if-accepted (references g) λ _.
+    accepted g
+
+pub same-accept : (s : List ℕ) → accept s ≡ accept-words (quick-store-words s)
+unfolding accept
+same-accept s = ap accept-words (same-store-words s)

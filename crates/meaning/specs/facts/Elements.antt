@@ -1,13 +1,19 @@
--- Elements of a list: by place, by membership, under a map.
-use mathlib.Core.List.{List, [], _++_, _∷_, map}
+-- Elements of a list: by place, by membership, under a map; what each has; a table of a function; lists that gain; equal lists.
+use mathlib.Core.Bool.{Bool, true, false, _&&_}
+use mathlib.Core.List.{List, [], _++_, _∷_, map, append-assoc, append-nil}
 use mathlib.Core.Logic.{_⊎_, inl, inr}
 use mathlib.Core.Option.{Option, none, some}
-use mathlib.Core.Path.{_≡_, ap, refl, _∙_}
+use mathlib.Core.Path.{_≡_, ap, refl, sym, _∙_}
 use Prim.Native.Nat.{_<_, suc, zero, ℕ, _≤_, _+_}
 use native.Mathlib.Omega.{arith}
-use lib.ListN.{getD, length}
-use Rattle.meaning.specs.Lists.{numbers-from}
-use Rattle.meaning.specs.facts.Tests.{clash}
+use native.Mathlib.Nat.{not-suc-le-zero}
+use native.Mathlib.Decide.{decLt}
+use lib.ListN.{getD, length, length-append, List·getD-append}
+use lib.Seq.{getD-append-seam}
+use lib.Dec.{eqb}
+use borrow.Author.Tests.{eqb-true}
+use Rattle.meaning.specs.Lists.{numbers-from, All, tabulate}
+use Rattle.meaning.specs.facts.Tests.{clash, and-both}
 
 abbrev pub nth : {A : Type 0} → List A → ℕ → Option A
 nth [] k = none
@@ -62,8 +68,69 @@ getD-within [] k h = absurd (omega arith)
 getD-within (x ∷ xs) zero h = omega arith
 getD-within (x ∷ xs) (suc k) h = omega (arith, getD-within xs k h)
 
--- ---- the list of incoming counts
+-- ---- a number for each place
 pub numbered-map : {A : Type 0} (f : ℕ → ℕ) (k : ℕ) (l : List A) (r : ℕ) → r < length l → getD (map f (numbers-from k l)) r 0 ≡ f (k + r)
 numbered-map f k [] r h = absurd (omega arith)
 numbered-map f k (x ∷ l) zero h = let z : k ≡ k + 0 = omega arith in ap f z
 numbered-map f k (x ∷ l) (suc r) h = let z : suc k + r ≡ k + suc r = omega arith in numbered-map f (suc k) l r (omega arith) ∙ ap f z
+
+-- ---- what each has
+pub all-map : {A : Type 0} (P Q : A → Type 0) → ((x : A) → P x → Q x) → (xs : List A) → All P xs → All Q xs
+all-map P Q f [] h = tt
+all-map P Q f (x ∷ xs) h = (f x (h .0), all-map P Q f xs (h .1))
+
+pub all-append : {A : Type 0} (P : A → Type 0) (xs ys : List A) → All P xs → All P ys → All P (xs ++ ys)
+all-append P [] ys h k = k
+all-append P (x ∷ xs) ys h k = (h .0, all-append P xs ys (h .1) k)
+
+pub all-at : {A : Type 0} (P : A → Type 0) (d : A) (xs : List A) → All P xs → (k : ℕ) → k < length xs → P (getD xs k d)
+all-at P d [] h k l = absurd (omega arith)
+all-at P d (x ∷ xs) h zero l = h .0
+all-at P d (x ∷ xs) h (suc k) l = all-at P d xs (h .1) k (omega arith)
+
+-- ---- a table of a function
+pub length-tabulate : (n : ℕ) (f : ℕ → ℕ) → length (tabulate n f) ≡ n
+unfolding tabulate
+length-tabulate zero f = refl
+length-tabulate (suc n) f = rw (length-append (tabulate n f) (f n ∷ []), length-tabulate n f) (omega arith)
+
+pub tabulate-at : (n : ℕ) (f : ℕ → ℕ) (j : ℕ) → j < n → getD (tabulate n f) j 0 ≡ f j
+unfolding tabulate
+tabulate-at zero f j h = absurd (not-suc-le-zero h)
+tabulate-at (suc n) f j h = at (tabulate-at n f j) (decLt j n)
+  where
+    at : (j < n → getD (tabulate n f) j 0 ≡ f j) → Dec (j < n) → getD (tabulate n f ++ (f n ∷ [])) j 0 ≡ f j
+    at i (yes l) = List·getD-append (tabulate n f) (f n ∷ []) 0 j (omega (arith, length-tabulate n f)) ∙ i l
+    at i (no g) =
+        ap (λ k. getD (tabulate n f ++ (f n ∷ [])) k 0) (omega (arith, length-tabulate n f))
+        ∙ getD-append-seam (tabulate n f) (f n) [] 0
+        ∙ ap f (omega arith)
+
+-- ---- a list and what it gains at its end
+pub record Extends {A : Type 0} (a b : List A) : Type 0 where
+  pub more : List A
+  pub whole : b ≡ a ++ more
+
+pub extends-same : {A : Type 0} {a b : List A} → b ≡ a → Extends a b
+extends-same {a} e = record { more = []; whole = e ∙ sym (append-nil a) }
+
+pub extends-refl : {A : Type 0} (a : List A) → Extends a a
+extends-refl a = extends-same refl
+
+pub extends-then : {A : Type 0} {a b c : List A} → Extends a b → Extends b c → Extends a c
+extends-then {a} p q = record { more = p .more ++ q .more; whole = q .whole ∙ ap (λ l. l ++ q .more) (p .whole) ∙ append-assoc a (p .more) (q .more) }
+
+-- ---- equal lists of numbers, by a test that computes to one bit
+abbrev pub same-numbers : List ℕ → List ℕ → Bool
+same-numbers [] [] = true
+same-numbers [] (y ∷ ys) = false
+same-numbers (x ∷ xs) [] = false
+same-numbers (x ∷ xs) (y ∷ ys) = eqb x y && same-numbers xs ys
+
+pub numbers-same : (xs ys : List ℕ) → same-numbers xs ys ≡ true → xs ≡ ys
+numbers-same [] [] e = refl
+numbers-same [] (y ∷ ys) e = cc
+numbers-same (x ∷ xs) [] e = cc
+numbers-same (x ∷ xs) (y ∷ ys) e =
+    let h = and-both (eqb x y) (same-numbers xs ys) e in
+    rw (eqb-true x y (h .0), numbers-same xs ys (h .1))

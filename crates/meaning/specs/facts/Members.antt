@@ -7,8 +7,7 @@ use Prim.Native.Nat.{ℕ, _≤_, _+_}
 use lib.Dec.{eqb}
 use borrow.Author.Tests.{eqb-true, eq-eqb}
 use native.Mathlib.Omega.{arith}
-use Rattle.meaning.specs.Lists.{is-in, times-in}
-use Rattle.meaning.specs.Graph.{pick}
+use Rattle.meaning.specs.Lists.{is-in, times-in, pick}
 use Rattle.meaning.specs.facts.Tests.{clash}
 
 pub in-front : (x : ℕ) (xs : List ℕ) → is-in x (x ∷ xs) ≡ true

@@ -4,9 +4,9 @@ use mathlib.Core.Logic.{_⊎_, inl, inr}
 use mathlib.Core.Path.{_≡_, refl, sym}
 use Prim.Native.Nat.{_<_, suc, zero, ℕ, _≤_, pred}
 use native.Mathlib.Omega.{arith}
-use Rattle.meaning.specs.Graph.{pick}
 use lib.Dec.{eqb, ltb, ltb→lt, nltb→le}
 use borrow.Author.Tests.{eq-eqb, eqb-false, eqb-true, ne-eqb}
+use Rattle.meaning.specs.Lists.{pick}
 
 -- Two different constructors are never equal: `clash (cc)`.
 pub clash : _≡_ {A = ℕ} 0 1 → ⊥

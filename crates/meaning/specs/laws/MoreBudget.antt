@@ -2,10 +2,12 @@
 use mathlib.Core.Path.{_≡_, sym}
 use mathlib.Core.List.{List, []}
 use mathlib.Core.Option.{Option, none, some}
-use Prim.Native.Nat.{ℕ, zero, suc, _≤_}
+use Prim.Native.Nat.{ℕ, zero, suc, _+_, _≤_}
+use native.Mathlib.Omega.{arith}
 use native.Mathlib.Nat.{le-of-suc-le-suc, not-suc-le-zero}
 use Rattle.meaning.specs.Graph.{Value, Edge, ControlInst, unreachable, return, exit-invocation, branch, select-branch, Graph, region}
-use Rattle.meaning.specs.Runs.{OutputDecl, LoopNode, Node, block, select, loop, exit, Nodes, ⟨⟩, _▸_, Cases, ∅, case, Word, word, mark, Env, Event, Rule, Given, RunState, base-env, entry-words, place-taken, Ended, GoesOn, edge-taken, along, by-terminator, run-from, graph-run, Ran, through, ended, no-end, turns-used-up, NestedRun, without-end, and-then, tested, once-more, pay, case-count, turns, run-node, run-nodes, run-case, after-last, start, nested-run}
+use Rattle.meaning.specs.Runs.{OutputDecl, LoopNode, Node, block, select, loop, exit, Nodes, ⟨⟩, _▸_, Cases, ∅, case, Word, word, mark, Env, Event, Rule, Given, RunState, base-env, entry-words, place-taken, Ended, GoesOn, edge-taken, along, by-terminator, run-from, graph-run, Ran, through, ended, no-end, turns-used-up, NestedEnded, NestedRun, ends-as, without-end, and-then, tested, once-more, pay, case-count, turns, run-node, run-nodes, run-case, after-last, start, nested-run}
+use Rattle.meaning.specs.facts.Tests.{clash}
 
 -- The first came to nothing (to `gone`), or the second is the same.
 data Stays {A : Type 0} (gone : A) : A → A → Type 0 where
@@ -111,3 +113,11 @@ pub nested-run-stays : (g : Graph) (x : Given) (ks : Nodes) (outs : Option (List
     → (r ≡ without-end turns-used-up → ⊥) → nested-run g x ks outs m ≡ r → nested-run g x ks outs n ≡ r
 unfolding nested-run
 nested-run-stays g x ks outs m n r l = came-to (after-last-stays outs (nodes-stay (x .rule) (g .test-cost) m n l ks (start g x)))
+
+-- Two budgets with which a nested run ends: it ends the same.
+pub nested-run-one : (g : Graph) (x : Given) (ks : Nodes) (outs : Option (List Value)) (m n : ℕ) (r u : NestedEnded)
+    → nested-run g x ks outs m ≡ ends-as r → nested-run g x ks outs n ≡ ends-as u → r ≡ u
+nested-run-one g x ks outs m n r u p q =
+    let one = nested-run-stays g x ks outs m (m + n) (ends-as r) (omega arith) (λ c. clash (cc)) p in
+    let two = nested-run-stays g x ks outs n (m + n) (ends-as u) (omega arith) (λ c. clash (cc)) q in
+    cc

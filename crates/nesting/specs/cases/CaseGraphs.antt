@@ -60,13 +60,13 @@ abbrev pub returns : ℕ → List Region
 returns zero = []
 returns (suc n) = plain-region [] (return []) ∷ returns n
 
-abbrev pub edges-to : ℕ → ℕ → List Edge
-edges-to k zero = []
-edges-to k (suc n) = to k [] ∷ edges-to (suc k) n
+abbrev pub edges-in-turn : ℕ → ℕ → List Edge
+edges-in-turn k zero = []
+edges-in-turn k (suc n) = to k [] ∷ edges-in-turn (suc k) n
 
 -- A number test with n targets.
 abbrev pub many-targets : ℕ → Graph
-many-targets n = graph 0 (2 ∷ []) (plain-region [] (select-branch number (const 0) (edges-to 1 n)) ∷ returns n)
+many-targets n = graph 0 (2 ∷ []) (plain-region [] (select-branch number (const 0) (edges-in-turn 1 n)) ∷ returns n)
 
 -- n regions that branch from one to the next, the last numbered k, and a Return region
 abbrev pub chain : ℕ → ℕ → List Region

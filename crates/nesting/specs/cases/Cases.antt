@@ -1,5 +1,5 @@
 -- The proved cases of document 01, from the bytes of a store to the printed answer, in one list; the last ones are ours.
-use mathlib.Core.Path.{_≡_, refl, ap, _∙_}
+use mathlib.Core.Path.{_≡_, refl, _∙_}
 use mathlib.Core.Bool.{Bool, true, false, _&&_}
 use mathlib.Core.List.{List, [], _∷_, _++_, map}
 use mathlib.Core.Option.{Option}
@@ -7,7 +7,7 @@ use Prim.Native.Nat.{ℕ, suc}
 use Prim.Native.String.{String}
 use lib.ListN.{length, getD}
 use lib.Dec.{eqb, leb}
-use Rattle.meaning.specs.Graph.{Graph, pick, return, unreachable, branch}
+use Rattle.meaning.specs.Graph.{Graph, return, unreachable, branch}
 use Rattle.format.specs.Store.{Answer, accepted, refused}
 use Rattle.format.specs.Read.{read-record}
 use Rattle.format.specs.References.{references}
@@ -18,10 +18,12 @@ use Rattle.meaning.specs.Text.{Text, ascii}
 use Rattle.nesting.specs.cases.Computes.{nesting-computes}
 use Rattle.format.specs.stores.Pack.{store-of-graph}
 use Rattle.nesting.specs.Sheet.{printed}
-use Rattle.format.specs.stores.Quick.{quick-store-words, same-store-words}
-use Rattle.nesting.specs.cases.QuickPrint.{same-numbers, numbers-same, accept-words, quick-printed, prints}
+use Rattle.format.specs.stores.Quick.{quick-store-words, accept-words, same-accept}
+use Rattle.nesting.specs.cases.QuickPrint.{quick-printed, prints}
 use Rattle.nesting.specs.cases.CaseGraphs.{A, B, one-region, to, both-the-same, many-targets, regions, no-loop, one-goes-on, loop-in-loop, two-exits, renumbered, crossing, dear}
 use Rattle.meaning.specs.facts.Tests.{and-both}
+use Rattle.meaning.specs.Lists.{pick}
+use Rattle.meaning.specs.facts.Elements.{same-numbers, numbers-same}
 
 -- What a case shows: the printed answer, and the wrapper regions of its loops, which the sheet does not name.
 pub record CaseShown : Type 0 where
@@ -224,10 +226,6 @@ cases =
 -- ---- computed, by the quick walk along each store
 unfoldable pub quick-shown : List ℕ → CaseShown
 quick-shown s = record { prints = quick-printed s; wrappers = wrappers-of (accept-words (quick-store-words s)) }
-
-same-accept : (s : List ℕ) → accept s ≡ accept-words (quick-store-words s)
-unfolding accept
-same-accept s = ap accept-words (same-store-words s)
 
 same-shown : (s : List ℕ) → shown s ≡ quick-shown s
 unfolding shown quick-shown

@@ -1,12 +1,9 @@
 -- What the program prints, by way of the quick walk along the store.
 use mathlib.Core.Path.{_≡_, refl, ap, _∙_}
-use mathlib.Core.Bool.{Bool, true, false, _&&_}
-use mathlib.Core.List.{List, [], _∷_}
+use mathlib.Core.Bool.{true}
+use mathlib.Core.List.{List}
 use Prim.Native.Nat.{ℕ}
-use lib.Dec.{eqb}
-use borrow.Author.Tests.{eqb-true}
-use Rattle.meaning.specs.Graph.{Graph}
-use Rattle.format.specs.Store.{Answer, accepted, if-accepted, store-words}
+use Rattle.format.specs.Store.{Answer, if-accepted, store-words}
 use Rattle.format.specs.Read.{read-record}
 use Rattle.format.specs.References.{references}
 use Rattle.format.specs.Accept.{accept}
@@ -14,15 +11,8 @@ use Rattle.nesting.specs.Nesting.{structurize-func}
 use Rattle.nesting.specs.cases.Computes.{nesting-computes}
 use Rattle.nesting.specs.Sheet.{sheet-of, sheet-words, figure-fits, words-fit, answer-text, sheet-for, answer, printed}
 use Rattle.meaning.specs.Text.{Text}
-use Rattle.format.specs.stores.Quick.{quick-store-words, same-store-words}
-use Rattle.meaning.specs.facts.Tests.{and-both}
-
-abbrev pub accept-words : Answer (List ℕ) → Answer Graph
-accept-words x =
-    if-accepted x λ ws.
-    if-accepted (read-record ws) λ g.
-    if-accepted (references g) λ _.
-    accepted g
+use Rattle.format.specs.stores.Quick.{quick-store-words, same-store-words, accept-words}
+use Rattle.meaning.specs.facts.Elements.{same-numbers, numbers-same}
 
 -- what is printed once the words of the store are read, or the store is refused
 unfoldable pub printed-after : Answer (List ℕ) → Text
@@ -44,20 +34,6 @@ pub prints : (s : List ℕ) (t : Text) → quick-printed s ≡ t → printed s �
 unfolding quick-printed
 prints s t e = printed-by-words s ∙ ap printed-after (same-store-words s) ∙ e
 
--- ---- by a test that computes to one bit
-abbrev pub same-numbers : List ℕ → List ℕ → Bool
-same-numbers [] [] = true
-same-numbers [] (y ∷ ys) = false
-same-numbers (x ∷ xs) [] = false
-same-numbers (x ∷ xs) (y ∷ ys) = eqb x y && same-numbers xs ys
-
-pub numbers-same : (xs ys : List ℕ) → same-numbers xs ys ≡ true → xs ≡ ys
-numbers-same [] [] e = refl
-numbers-same [] (y ∷ ys) e = cc
-numbers-same (x ∷ xs) [] e = cc
-numbers-same (x ∷ xs) (y ∷ ys) e =
-    let h = and-both (eqb x y) (same-numbers xs ys) e in
-    rw (eqb-true x y (h .0), numbers-same xs ys (h .1))
-
+-- by a test that computes to one bit
 pub prints-by-test : (s : List ℕ) (t : Text) → same-numbers (quick-printed s) t ≡ true → printed s ≡ t
 prints-by-test s t e = prints s t (numbers-same (quick-printed s) t e)

@@ -14,8 +14,8 @@ use Rattle.format.specs.References.{references}
 use Rattle.format.specs.Accept.{accept}
 use Rattle.nesting.specs.Nesting.{Outcome, untouched, whole, closed, leftover, Nested, structurize-func}
 use Rattle.nesting.specs.cases.Computes.{nesting-computes}
-use Rattle.format.specs.stores.Quick.{quick-store-words, same-store-words}
-use Rattle.nesting.specs.cases.QuickPrint.{accept-words, same-numbers, numbers-same}
+use Rattle.format.specs.stores.Quick.{quick-store-words, same-store-words, accept-words}
+use Rattle.meaning.specs.facts.Elements.{same-numbers, numbers-same}
 
 -- A whole form is run with the entry's outputs, a closed one without; the others have no run.
 abbrev pub outcome-says : ℕ → Graph → Given → Nested → Outcome → Text

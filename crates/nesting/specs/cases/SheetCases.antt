@@ -11,7 +11,8 @@ use Rattle.meaning.specs.Lists.{concat}
 use Rattle.meaning.specs.Text.{Text}
 use Rattle.meaning.specs.facts.Tests.{and-both}
 use Rattle.nesting.specs.Sheet.{printed}
-use Rattle.nesting.specs.cases.QuickPrint.{same-numbers, quick-printed, prints-by-test}
+use Rattle.meaning.specs.facts.Elements.{same-numbers}
+use Rattle.nesting.specs.cases.QuickPrint.{quick-printed, prints-by-test}
 use Rattle.format.specs.stores.Hex.{hex}
 use Rattle.format.specs.stores.Pack.{store-of-graph}
 use Rattle.nesting.specs.cases.CaseGraphs.{op, to, plain-region, header, graph}

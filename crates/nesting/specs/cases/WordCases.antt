@@ -9,11 +9,10 @@ use Rattle.format.specs.Store.{accepted, refused}
 use Rattle.nesting.specs.cases.Computes.{nesting-computes}
 use Rattle.format.specs.stores.Pack.{store-of-graph}
 use Rattle.nesting.specs.Sheet.{answer-words}
-use Rattle.nesting.specs.decoding.Lines.{Item}
 use Rattle.nesting.specs.cases.CaseGraphs.{A, no-loop}
 use Rattle.nesting.specs.Nesting.{whole}
-use Rattle.nesting.specs.ShownForm.{ShownRegion, block-shown, select-shown, no-node, _▹_, region-shown, no-region, _▹▹_}
-use Rattle.nesting.specs.decoding.DecodeForm.{read-form}
+use Rattle.nesting.specs.ShownForm.{ShownRegion, block-shown, select-shown, no-node, _▹_, region-shown, no-region, _▹▹_, Item}
+use Rattle.nesting.specs.decoding.DecodeForm.{decode-form}
 
 -- whole figure 11 attempts 8 twice 0, then seven lines
 abbrev A-sheet : List ℕ
@@ -63,13 +62,13 @@ A-piece =
     ) (code 3 3 0 ∷ [])
 
 pub A-form
-    : read-form A-sheet ≡ some (record { outcome = whole; figure = 11; attempts = 8; twice = false; pieces = A-piece ▹▹ no-region; deferred = [] })
-unfolding read-form
+    : decode-form A-sheet ≡ some (record { outcome = whole; figure = 11; attempts = 8; twice = false; pieces = A-piece ▹▹ no-region; deferred = [] })
+unfolding decode-form
 A-form = refl
 
 -- region 0 in - kids 3 out -; but block 4 follows
-pub other-child : read-form (1 ∷ 0 ∷ 1 ∷ 0 ∷ 0 ∷ 0 ∷ 0 ∷ 1 ∷ 3 ∷ 0 ∷ 1 ∷ 4 ∷ 0 ∷ []) ≡ none
-unfolding read-form
+pub other-child : decode-form (1 ∷ 0 ∷ 1 ∷ 0 ∷ 0 ∷ 0 ∷ 0 ∷ 1 ∷ 3 ∷ 0 ∷ 1 ∷ 4 ∷ 0 ∷ []) ≡ none
+unfolding decode-form
 other-child = refl
 
 -- leftover figure - attempts 3 twice 0; two regions without children; two defer lines, the second to return

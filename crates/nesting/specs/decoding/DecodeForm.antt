@@ -3,10 +3,10 @@ use mathlib.Core.List.{List, [], _∷_}
 use mathlib.Core.Option.{Option, none, some, bind}
 use Prim.Native.Nat.{ℕ}
 use lib.Dec.{eqb}
-use Rattle.meaning.specs.Graph.{pick}
-use Rattle.nesting.specs.decoding.Lines.{ShownEdge, Line, region-line, block-line, select-line, loop-line, exit-line, defer-line, TypedSheet}
-use Rattle.nesting.specs.decoding.Decode.{Got, got, nothing, next-word, read-times, read-lines, read-sheet}
-use Rattle.nesting.specs.ShownForm.{ShownNode, block-shown, select-shown, loop-shown, exit-shown, ShownNodes, no-node, _▹_, ShownRegion, region-shown, ShownRegions, no-region, _▹▹_, ShownForm}
+use Rattle.nesting.specs.decoding.Lines.{Line, region-line, block-line, select-line, loop-line, exit-line, defer-line, TypedSheet}
+use Rattle.nesting.specs.decoding.Decode.{Decoded, decoded, nothing, next-word, decode-times, decode-lines, decode-sheet}
+use Rattle.nesting.specs.ShownForm.{ShownNode, block-shown, select-shown, loop-shown, exit-shown, ShownNodes, no-node, _▹_, ShownRegion, region-shown, ShownRegions, no-region, _▹▹_, ShownForm, ShownEdge}
+use Rattle.meaning.specs.Lists.{pick}
 
 abbrev pub shown-number : ShownNode → ℕ
 shown-number (block-shown n is) = n
@@ -57,10 +57,10 @@ add-line (loop-line n vs r v) ps = with-region r ps λ b rest. some (a-node (loo
 add-line (exit-line n op vs) ps = some (a-node (exit-shown n op vs) ∷ ps)
 add-line (defer-line e) ps = some (an-edge e ∷ ps)
 
-unfoldable pub read-parts : List Line → Option Parts
+unfoldable pub decode-parts : List Line → Option Parts
 unfolding add-line bind
-read-parts [] = some []
-read-parts (l ∷ ls) = bind (read-parts ls) (add-line l)
+decode-parts [] = some []
+decode-parts (l ∷ ls) = bind (decode-parts ls) (add-line l)
 
 -- ---- the whole sheet: pieces, and deferred edges after them
 unfoldable pub with-edges : Parts → (List ShownEdge → Option ShownForm) → Option ShownForm
@@ -77,16 +77,16 @@ with-pieces (a-region b ∷ ps) f = with-pieces ps λ bs. f (b ▹▹ bs)
 with-pieces (an-edge e ∷ ps) f = with-edges ps λ es. f no-region (e ∷ es)
 
 unfoldable pub form-of : TypedSheet → Option ShownForm
-unfolding read-parts with-pieces bind
+unfolding decode-parts with-pieces bind
 form-of s =
-    bind (read-parts (s .lines)) λ ps.
+    bind (decode-parts (s .lines)) λ ps.
     with-pieces ps λ bs es.
     some (record { outcome = s .outcome; figure = s .figure; attempts = s .attempts; twice = s .twice; pieces = bs; deferred = es })
 
-abbrev pub form-of-got : Got TypedSheet → Option ShownForm
-form-of-got (got s ws) = form-of s
-form-of-got nothing = none
+abbrev pub form-of-decoded : Decoded TypedSheet → Option ShownForm
+form-of-decoded (decoded s ws) = form-of s
+form-of-decoded nothing = none
 
-unfoldable pub read-form : List ℕ → Option ShownForm
-unfolding read-sheet read-lines read-times next-word form-of
-read-form ws = form-of-got (read-sheet ws)
+unfoldable pub decode-form : List ℕ → Option ShownForm
+unfolding decode-sheet decode-lines decode-times next-word form-of
+decode-form ws = form-of-decoded (decode-sheet ws)

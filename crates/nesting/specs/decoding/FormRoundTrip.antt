@@ -8,11 +8,11 @@ use Rattle.meaning.specs.Graph.{Graph}
 use Rattle.meaning.specs.Runs.{Node, block, select, loop, exit, Nodes, ⟨⟩, _▸_, Cases, ∅, case}
 use Rattle.nesting.specs.Nesting.{DeferredEdgeBundle, Outcome, untouched, whole, closed, leftover, Piece, Nested}
 use Rattle.nesting.specs.Sheet.{kids, case-numbers, ascending, sheet-of, sheet-words}
-use Rattle.nesting.specs.decoding.Lines.{ShownEdge, Line, shown-edge, typed-node, typed-nodes, typed-cases, typed-pieces, typed-edge, typed-deferred, typed-lines, typed-sheet}
+use Rattle.nesting.specs.decoding.Lines.{Line, typed-node, typed-nodes, typed-cases, typed-pieces, typed-edge, typed-deferred, typed-lines, typed-sheet}
 use Rattle.nesting.specs.decoding.LinesWritten.{sheet-written}
 use Rattle.nesting.specs.decoding.RoundTrip.{round-trip}
-use Rattle.nesting.specs.ShownForm.{ShownNodes, no-node, _▹_, ShownRegions, no-region, _▹▹_, ShownForm, shown-node, shown-nodes, shown-cases, shown-pieces, shown-deferred, shown-form}
-use Rattle.nesting.specs.decoding.DecodeForm.{shown-number, Parts, a-node, a-region, an-edge, with-nodes, with-regions, add-line, read-parts, with-edges, with-pieces, form-of, form-of-got, read-form}
+use Rattle.nesting.specs.ShownForm.{ShownNodes, no-node, _▹_, ShownRegions, no-region, _▹▹_, ShownForm, shown-node, shown-nodes, shown-cases, shown-pieces, shown-deferred, shown-form, ShownEdge, shown-edge}
+use Rattle.nesting.specs.decoding.DecodeForm.{shown-number, Parts, a-node, a-region, an-edge, with-nodes, with-regions, add-line, decode-parts, with-edges, with-pieces, form-of, form-of-decoded, decode-form}
 
 -- ---- parts with others in front
 abbrev nodes-on : ShownNodes → Parts → Parts
@@ -47,42 +47,42 @@ module _ (nodes : List ℕ) where
 
   -- ---- lines, whatever follows them
   mutual
-    unfolding typed-node shown-node read-parts add-line bind
+    unfolding typed-node shown-node decode-parts add-line bind
 
-    node-read : (k : Node) (ls : List Line) (ps : Parts) → read-parts ls ≡ some ps
-        → read-parts (typed-node nodes k ++ ls) ≡ some (a-node (shown-node nodes k) ∷ ps)
+    node-read : (k : Node) (ls : List Line) (ps : Parts) → decode-parts ls ≡ some ps
+        → decode-parts (typed-node nodes k ++ ls) ≡ some (a-node (shown-node nodes k) ∷ ps)
     node-read (block n r k is) ls ps e = rw e
     node-read (select x cs) ls ps e = rw (cases-read cs ls ps e) (cases-taken cs ps _)
     node-read (loop x ks) ls ps e = rw (nodes-read ks ls ps e, nodes-taken ks ps, eq-eqb (x .body) (x .body) refl)
     node-read (exit n op vs) ls ps e = rw e
 
-    nodes-read : (ks : Nodes) (ls : List Line) (ps : Parts) → read-parts ls ≡ some ps
-        → read-parts (typed-nodes nodes ks ++ ls) ≡ some (nodes-on (shown-nodes nodes ks) ps)
+    nodes-read : (ks : Nodes) (ls : List Line) (ps : Parts) → decode-parts ls ≡ some ps
+        → decode-parts (typed-nodes nodes ks ++ ls) ≡ some (nodes-on (shown-nodes nodes ks) ps)
     nodes-read ⟨⟩ ls ps e = e
     nodes-read (k ▸ ks) ls ps e =
         rw (append-assoc (typed-node nodes k) (typed-nodes nodes ks) ls) (node-read k _ _ (nodes-read ks ls ps e))
 
-    cases-read : (cs : Cases) (ls : List Line) (ps : Parts) → read-parts ls ≡ some ps
-        → read-parts (typed-cases nodes cs ++ ls) ≡ some (regions-on (shown-cases nodes cs) ps)
+    cases-read : (cs : Cases) (ls : List Line) (ps : Parts) → decode-parts ls ≡ some ps
+        → decode-parts (typed-cases nodes cs ++ ls) ≡ some (regions-on (shown-cases nodes cs) ps)
     cases-read ∅ ls ps e = e
     cases-read (case c ks cs) ls ps e =
         rw (append-assoc (typed-nodes nodes ks) (typed-cases nodes cs) ls, nodes-read ks _ _ (cases-read cs ls ps e)) (nodes-taken ks _ _)
 
-  pieces-read : (qs : List Piece) (ls : List Line) (ps : Parts) → read-parts ls ≡ some ps
-      → read-parts (typed-pieces nodes qs ++ ls) ≡ some (regions-on (shown-pieces nodes qs) ps)
-  unfolding shown-pieces read-parts add-line bind
+  pieces-read : (qs : List Piece) (ls : List Line) (ps : Parts) → decode-parts ls ≡ some ps
+      → decode-parts (typed-pieces nodes qs ++ ls) ≡ some (regions-on (shown-pieces nodes qs) ps)
+  unfolding shown-pieces decode-parts add-line bind
   pieces-read [] ls ps e = e
   pieces-read (q ∷ qs) ls ps e =
       rw (append-assoc (typed-nodes nodes (q .children)) (typed-pieces nodes qs) ls, nodes-read (q .children) _ _ (pieces-read qs ls ps e)) (nodes-taken (q .children) _ _)
 
-  edges-read : (r : ℕ) (es : List DeferredEdgeBundle) (ls : List Line) (xs : List ShownEdge) → read-parts ls ≡ some (map an-edge xs)
-      → read-parts (map (typed-edge nodes r) es ++ ls) ≡ some (map an-edge (map (shown-edge nodes r) es ++ xs))
-  unfolding read-parts add-line bind
+  edges-read : (r : ℕ) (es : List DeferredEdgeBundle) (ls : List Line) (xs : List ShownEdge) → decode-parts ls ≡ some (map an-edge xs)
+      → decode-parts (map (typed-edge nodes r) es ++ ls) ≡ some (map an-edge (map (shown-edge nodes r) es ++ xs))
+  unfolding decode-parts add-line bind
   edges-read r [] ls xs e = e
   edges-read r (x ∷ es) ls xs e = rw (edges-read r es ls xs e)
 
-  deferred-read : (qs : List Piece) → read-parts (typed-deferred nodes qs) ≡ some (map an-edge (shown-deferred nodes qs))
-  unfolding read-parts
+  deferred-read : (qs : List Piece) → decode-parts (typed-deferred nodes qs) ≡ some (map an-edge (shown-deferred nodes qs))
+  unfolding decode-parts
   deferred-read [] = refl
   deferred-read (q ∷ qs) = edges-read (q .region) (q .deferred) _ _ (deferred-read qs)
 
@@ -100,7 +100,7 @@ pieces-taken no-region (e ∷ es) f = edges-taken es (λ x. f no-region (e ∷ x
 pieces-taken (b ▹▹ bs) es f = pieces-taken bs es (λ x. f (b ▹▹ x))
 
 lines-read : (x : Nested)
-    → read-parts (typed-lines x)
+    → decode-parts (typed-lines x)
     ≡ some (
     regions-on (shown-pieces (x .output-nodes) (x .entry ∷ x .unclaimed)) (map an-edge (shown-deferred (x .output-nodes) (ascending (x .entry) (x .unclaimed))))
     )
@@ -116,12 +116,12 @@ sheet-read g x = at (x .outcome) refl
     at closed e = rw (e, lines-read x, pieces-taken)
     at leftover e = rw (e, lines-read x, pieces-taken)
 
-pub form-round-trip : (g : Graph) (x : Nested) → read-form (sheet-words (sheet-of g x)) ≡ some (shown-form g x)
-unfolding read-form
-form-round-trip g x = rw (← sheet-written g x) (ap form-of-got (round-trip (typed-sheet g x)) ∙ sheet-read g x)
+pub form-round-trip : (g : Graph) (x : Nested) → decode-form (sheet-words (sheet-of g x)) ≡ some (shown-form g x)
+unfolding decode-form
+form-round-trip g x = rw (← sheet-written g x) (ap form-of-decoded (round-trip (typed-sheet g x)) ∙ sheet-read g x)
 
 -- So two nested results whose sheets have the same words show the same form.
 pub same-form : (g h : Graph) (x y : Nested) → sheet-words (sheet-of g x) ≡ sheet-words (sheet-of h y) → shown-form g x ≡ shown-form h y
 same-form g h x y e =
-    let p : some (shown-form g x) ≡ some (shown-form h y) = sym (form-round-trip g x) ∙ ap read-form e ∙ form-round-trip h y in
+    let p : some (shown-form g x) ≡ some (shown-form h y) = sym (form-round-trip g x) ∙ ap decode-form e ∙ form-round-trip h y in
     cc

@@ -1,46 +1,17 @@
--- The lines of a sheet by what they hold, for reading them back: LinesWritten shows that a sheet's lines are these, written.
+-- The lines of a sheet by what they hold, for reading them back. So the layout stands twice: Sheet's is the one to believe, made from a
+-- nested form; this one is made from what a reader of words can give back. LinesWritten shows that they agree.
 use mathlib.Core.List.{List, [], _∷_, _++_, map}
 use mathlib.Core.Bool.{Bool}
-use Prim.Native.Nat.{ℕ, suc}
-use lib.ListN.{getD, take}
+use Prim.Native.Nat.{ℕ}
+use lib.ListN.{getD}
 use lib.Dec.{eqb}
-use Rattle.meaning.specs.Lists.{concat, times-in}
-use Rattle.meaning.specs.Graph.{Instr, Code, SelectionKind, Value, const, input, instr, output, bool, undef, held, code-of, pick, Graph, no-value}
-use Rattle.meaning.specs.Runs.{SelectNode, Node, block, select, loop, exit, Nodes, ⟨⟩, _▸_, Cases, ∅, case}
+use Rattle.meaning.specs.Lists.{concat, pick}
+use Rattle.meaning.specs.Graph.{Code, output, undef, Graph}
+use Rattle.meaning.specs.Runs.{Node, block, select, loop, exit, Nodes, ⟨⟩, _▸_, Cases, ∅, case}
 use Rattle.meaning.specs.Text.{Text, ascii, decimal}
-use Rattle.nesting.specs.Nesting.{Outcome, LazyCond, undef-cond, false-cond, true-cond, merge, LazyConds, _&_, DeferredTarget, to-region, to-return, DeferredEdgeBundle, untouched, whole, closed, leftover, Piece, Nested}
+use Rattle.nesting.specs.Nesting.{Outcome, DeferredEdgeBundle, untouched, whole, closed, leftover, Piece, Nested}
 use Rattle.nesting.specs.Sheet.{figure, Field, label, number-as, a-number, joint, list, numbers, dotted, kind, kids, case-numbers, ascending, Sheet}
-
--- An instruction of a block line. A value is its three words.
-pub record Item : Type 0 where
-  pub region : ℕ
-  pub index : ℕ
-  pub opcode : ℕ
-  pub type : ℕ
-  pub reads : List Code
-
-mutual
-  pub data Condition : Type 0 where
-    t-cond f-cond u-cond : Condition
-    m-cond : ℕ → Conditions → Condition
-
-  pub data Conditions : Type 0 where
-    no-part : Conditions
-    part : Condition → Conditions → Conditions
-
--- A select, but for its cases; a deferred edge, whose target is 65,535 for Return.
-pub record ShownSelect : Type 0 where
-  pub number : ℕ
-  pub kind : SelectionKind
-  pub scrutinee : Code
-  pub output-types : List ℕ
-
-pub record ShownEdge : Type 0 where
-  pub region : ℕ
-  pub target : ℕ
-  pub count : ℕ
-  pub inputs : List Code
-  pub condition : Condition
+use Rattle.nesting.specs.ShownForm.{Item, Condition, t-cond, f-cond, u-cond, m-cond, Conditions, no-part, part, ShownSelect, ShownEdge, shown-value, block-items, shown-select, shown-edge}
 
 pub data Line : Type 0 where
   region-line : ℕ → List ℕ → List ℕ → List Code → Line  -- region, inputs' types, child nodes, output values
@@ -119,61 +90,17 @@ abbrev pub written : TypedSheet → Sheet
 written s = record { outcome = s .outcome; figure = s .figure; attempts = s .attempts; twice = s .twice; lines = map fields (s .lines) }
 
 -- ---- the lines of a nested form
-abbrev pub target-word : DeferredTarget → ℕ
-target-word (to-region r) = r
-target-word to-return = 65535
-
-unfoldable mutual
-  pub shown-cond : LazyCond → Condition
-  shown-cond undef-cond = u-cond
-  shown-cond false-cond = f-cond
-  shown-cond true-cond = t-cond
-  shown-cond (merge n kind v cs) = m-cond n (shown-conds cs)
-
-  pub shown-conds : LazyConds → Conditions
-  shown-conds LazyConds.no-conds = no-part
-  shown-conds (c & cs) = part (shown-cond c) (shown-conds cs)
-
 -- `nodes` has the node of each output ever defined, in order.
 module _ (nodes : List ℕ) where
-  abbrev pub shown : Value → Code
-  shown (const i) = code-of (const i)
-  shown (input r k) = code-of (input r k)
-  shown (instr r k) = code-of (instr r k)
-  shown (output o) = record { kind = 3; region = getD nodes o 0; index = times-in (getD nodes o 0) (take o nodes) }
-  shown (bool b) = code-of (bool b)
-  shown (undef ty) = code-of (undef ty)
-  shown no-value = code-of (undef 0)
-  shown (held r k) = code-of (undef 0)
-
-  abbrev pub block-items : ℕ → ℕ → List Instr → List Item
-  block-items r k [] = []
-  block-items r k (i ∷ is) =
-      record { region = r; index = k; opcode = i .opcode; type = i .type; reads = map shown (i .reads) } ∷ block-items r (suc k) is
-
-  abbrev pub shown-select : SelectNode → ShownSelect
-  shown-select x =
-      record { number = x .number; kind = x .kind; scrutinee = shown (x .scrutinee); output-types = map (λ o. o .type) (x .outputs) }
-
-  abbrev pub shown-edge : ℕ → DeferredEdgeBundle → ShownEdge
-  shown-edge r e =
-      record {
-        region = r;
-        target = target-word (e .target);
-        count = e .accumulated-count;
-        inputs = map shown (e .target-inputs);
-        condition = shown-cond (e .condition);
-      }
-
   unfoldable mutual
     pub typed-node : Node → List Line
-    typed-node (block n r k is) = block-line n (block-items r k is) ∷ []
-    typed-node (select x cs) = select-line (shown-select x) (case-numbers cs) ∷ typed-cases cs
+    typed-node (block n r k is) = block-line n (block-items nodes r k is) ∷ []
+    typed-node (select x cs) = select-line (shown-select nodes x) (case-numbers cs) ∷ typed-cases cs
     typed-node (loop x ks) =
-        loop-line (x .number) (map shown (x .initial-inputs)) (x .body) (shown (x .repeat))
-        ∷ region-line (x .body) (x .types) (kids ks) (map shown (x .outputs))
+        loop-line (x .number) (map (shown-value nodes) (x .initial-inputs)) (x .body) (shown-value nodes (x .repeat))
+        ∷ region-line (x .body) (x .types) (kids ks) (map (shown-value nodes) (x .outputs))
         ∷ typed-nodes ks
-    typed-node (exit n op vs) = exit-line n op (map shown vs) ∷ []
+    typed-node (exit n op vs) = exit-line n op (map (shown-value nodes) vs) ∷ []
 
     pub typed-nodes : Nodes → List Line
     typed-nodes ⟨⟩ = []
@@ -181,16 +108,16 @@ module _ (nodes : List ℕ) where
 
     pub typed-cases : Cases → List Line
     typed-cases ∅ = []
-    typed-cases (case c ks cs) = region-line (c .region) [] (kids ks) (map shown (c .outputs)) ∷ (typed-nodes ks ++ typed-cases cs)
+    typed-cases (case c ks cs) = region-line (c .region) [] (kids ks) (map (shown-value nodes) (c .outputs)) ∷ (typed-nodes ks ++ typed-cases cs)
 
   abbrev pub typed-pieces : List Piece → List Line
   typed-pieces [] = []
   typed-pieces (p ∷ ps) =
-      region-line (p .region) (p .inputs) (kids (p .children)) (map shown (p .outputs))
+      region-line (p .region) (p .inputs) (kids (p .children)) (map (shown-value nodes) (p .outputs))
       ∷ (typed-nodes (p .children) ++ typed-pieces ps)
 
   abbrev pub typed-edge : ℕ → DeferredEdgeBundle → Line
-  typed-edge r e = defer-line (shown-edge r e)
+  typed-edge r e = defer-line (shown-edge nodes r e)
 
   abbrev pub typed-deferred : List Piece → List Line
   typed-deferred [] = []

@@ -9,7 +9,8 @@ use Rattle.meaning.specs.Runs.{Node, block, select, loop, exit, Nodes, ⟨⟩, 
 use Rattle.meaning.specs.Text.{joined}
 use Rattle.nesting.specs.Nesting.{Outcome, LazyCond, undef-cond, false-cond, true-cond, merge, LazyConds, _&_, DeferredTarget, to-region, to-return, DeferredEdgeBundle, untouched, whole, closed, leftover, Piece, Nested}
 use Rattle.nesting.specs.Sheet.{condition, conditions, target, value, items, node-lines, nodes-lines, case-lines, piece-lines, defer-fields, defer-lines, ascending, lines-of, sheet-of}
-use Rattle.nesting.specs.decoding.Lines.{value-field, item-field, target-field, condition-field, condition-fields, fields, written, target-word, shown-cond, shown-conds, shown, block-items, typed-node, typed-nodes, typed-cases, typed-pieces, typed-edge, typed-deferred, typed-lines, typed-sheet}
+use Rattle.nesting.specs.decoding.Lines.{value-field, item-field, target-field, condition-field, condition-fields, fields, written, typed-node, typed-nodes, typed-cases, typed-pieces, typed-edge, typed-deferred, typed-lines, typed-sheet}
+use Rattle.nesting.specs.ShownForm.{target-word, shown-cond, shown-conds, block-items, shown-value}
 
 target-written : (t : DeferredTarget) → target-field (target-word t) ≡ target t
 target-written (to-region r) = refl
@@ -29,7 +30,7 @@ mutual
   conditions-written (c & cs) = rw (condition-written c, conditions-written cs)
 
 module _ (nodes : List ℕ) where
-  value-written : (v : Value) → value-field (shown nodes v) ≡ value nodes v
+  value-written : (v : Value) → value-field (shown-value nodes v) ≡ value nodes v
   unfolding joined
   value-written (const i) = refl
   value-written (input r k) = refl
@@ -41,7 +42,7 @@ module _ (nodes : List ℕ) where
   value-written no-value = refl
   value-written (held r k) = refl
 
-  values-written : (vs : List Value) → map value-field (map (shown nodes) vs) ≡ map (value nodes) vs
+  values-written : (vs : List Value) → map value-field (map (shown-value nodes) vs) ≡ map (value nodes) vs
   values-written [] = refl
   values-written (v ∷ vs) = rw (value-written v, values-written vs)
 

@@ -7,50 +7,52 @@ use native.Mathlib.Omega.{arith}
 use native.Mathlib.Nat.{le-of-suc-le-suc, not-suc-le-zero}
 use lib.ListN.{length, length-append}
 use lib.Dec.{eqb}
-use Rattle.meaning.specs.Graph.{Graph, Code, SelectionKind, bool-cond, number, pick, bit}
+use Rattle.meaning.specs.Graph.{Graph, Code, SelectionKind, bool-cond, number}
 use Rattle.nesting.specs.Nesting.{Outcome, untouched, whole, closed, leftover, Nested}
 use Rattle.nesting.specs.Sheet.{Field, sheet-of, sheet-words, sheet-text, outcome, figure-field, a-number, number-as}
-use Rattle.nesting.specs.decoding.Lines.{ShownSelect, Item, Condition, t-cond, f-cond, u-cond, m-cond, Conditions, no-part, part, Line, region-line, block-line, select-line, loop-line, exit-line, defer-line, TypedSheet, value-field, values-field, item-field, target-field, condition-field, condition-fields, fields, words-of, lines-words, written, typed-sheet}
+use Rattle.nesting.specs.decoding.Lines.{Line, region-line, block-line, select-line, loop-line, exit-line, defer-line, TypedSheet, value-field, values-field, item-field, target-field, condition-field, condition-fields, fields, words-of, lines-words, written, typed-sheet}
 use Rattle.nesting.specs.decoding.LinesWritten.{sheet-written}
-use Rattle.nesting.specs.decoding.Decode.{Got, got, WordReader, next-word, _>>=_, decode-as, read-number, read-times, read-value, read-item, parts, read-condition, read-any-condition, read-line, read-lines, outcome-of-word, flag-of, read-sheet, text-of-got, words-text}
+use Rattle.nesting.specs.decoding.Decode.{Decoded, decoded, WordReader, next-word, _>>=_, decode-as, decode-number, decode-times, decode-value, decode-item, parts, decode-condition, decode-any-condition, decode-line, decode-lines, outcome-of-word, flag-of, decode-sheet, text-of-got, words-text}
+use Rattle.meaning.specs.Lists.{pick, bit}
+use Rattle.nesting.specs.ShownForm.{Item, Condition, t-cond, f-cond, u-cond, m-cond, Conditions, no-part, part, ShownSelect}
 
 -- ---- one thing after another
-step : {A B : Type 0} (x : Got A) (f : A → WordReader B) (a : A) (rest : List ℕ) → x ≡ got a rest → next-word x f ≡ f a rest
+then-decoded : {A B : Type 0} (x : Decoded A) (f : A → WordReader B) (a : A) (rest : List ℕ) → x ≡ decoded a rest → next-word x f ≡ f a rest
 unfolding next-word
-step x f a rest e = rw e
+then-decoded x f a rest e = rw e
 
 -- ---- lists
-module _ {A : Type 0} (r : WordReader A) (w : A → Field) (h : (x : A) (rest : List ℕ) → r (w x .words ++ rest) ≡ got x rest) where
-  many : (xs : List A) (rest : List ℕ) → read-times r (length (map w xs)) (words-of (map w xs) ++ rest) ≡ got xs rest
-  unfolding read-times next-word
+module _ {A : Type 0} (r : WordReader A) (w : A → Field) (h : (x : A) (rest : List ℕ) → r (w x .words ++ rest) ≡ decoded x rest) where
+  many : (xs : List A) (rest : List ℕ) → decode-times r (length (map w xs)) (words-of (map w xs) ++ rest) ≡ decoded xs rest
+  unfolding decode-times next-word
   many [] rest = refl
   many (x ∷ xs) rest =
       rw (append-assoc (w x .words) (words-of (map w xs)) rest, h x (words-of (map w xs) ++ rest), many xs rest)
 
   -- with words between it and the rest
   many-then : (xs : List A) (ys rest : List ℕ)
-      → read-times r (length (map w xs)) (words-of (map w xs) ++ ys ++ rest) ≡ got xs (ys ++ rest)
+      → decode-times r (length (map w xs)) (words-of (map w xs) ++ ys ++ rest) ≡ decoded xs (ys ++ rest)
   many-then xs ys rest = rw (append-assoc (words-of (map w xs)) ys rest) (many xs (ys ++ rest))
 
 numbers-read : (ns ys rest : List ℕ)
-    → read-times read-number (length (map a-number ns)) (words-of (map a-number ns) ++ ys ++ rest) ≡ got ns (ys ++ rest)
-numbers-read = many-then read-number a-number (λ n rest. refl)
+    → decode-times decode-number (length (map a-number ns)) (words-of (map a-number ns) ++ ys ++ rest) ≡ decoded ns (ys ++ rest)
+numbers-read = many-then decode-number a-number (λ n rest. refl)
 
-value-read : (v : Code) (rest : List ℕ) → read-value (value-field v .words ++ rest) ≡ got v rest
+value-read : (v : Code) (rest : List ℕ) → decode-value (value-field v .words ++ rest) ≡ decoded v rest
 unfolding next-word
 value-read v rest = refl
 
 values-read : (vs : List Code) (ys rest : List ℕ)
-    → read-times read-value (length (map value-field vs)) (words-of (map value-field vs) ++ ys ++ rest) ≡ got vs (ys ++ rest)
-values-read = many-then read-value value-field value-read
+    → decode-times decode-value (length (map value-field vs)) (words-of (map value-field vs) ++ ys ++ rest) ≡ decoded vs (ys ++ rest)
+values-read = many-then decode-value value-field value-read
 
-item-read : (i : Item) (rest : List ℕ) → read-item (item-field i .words ++ rest) ≡ got i rest
+item-read : (i : Item) (rest : List ℕ) → decode-item (item-field i .words ++ rest) ≡ decoded i rest
 unfolding next-word
-item-read i rest = step _ _ _ _ (values-read (i .reads) [] rest)
+item-read i rest = then-decoded _ _ _ _ (values-read (i .reads) [] rest)
 
 items-read : (is : List Item) (ys rest : List ℕ)
-    → read-times read-item (length (map item-field is)) (words-of (map item-field is) ++ ys ++ rest) ≡ got is (ys ++ rest)
-items-read = many-then read-item item-field item-read
+    → decode-times decode-item (length (map item-field is)) (words-of (map item-field is) ++ ys ++ rest) ≡ decoded is (ys ++ rest)
+items-read = many-then decode-item item-field item-read
 
 -- ---- conditions
 mutual
@@ -79,18 +81,18 @@ mutual
       omega (arith, depth-words c, depths-words cs, length-append (condition-field c .words) (words-of (condition-fields cs)))
 
 -- the parts, as they are read
-abbrev listed : Conditions → List Condition
-listed no-part = []
-listed (part c cs) = c ∷ listed cs
+abbrev parts-of : Conditions → List Condition
+parts-of no-part = []
+parts-of (part c cs) = c ∷ parts-of cs
 
-parts-listed : (cs : Conditions) → parts (listed cs) ≡ cs
-parts-listed no-part = refl
-parts-listed (part c cs) = ap (part c) (parts-listed cs)
+parts-again : (cs : Conditions) → parts (parts-of cs) ≡ cs
+parts-again no-part = refl
+parts-again (part c cs) = ap (part c) (parts-again cs)
 
 mutual
-  unfolding depth condition-field read-condition read-times next-word
+  unfolding depth condition-field decode-condition decode-times next-word
 
-  condition-read : (c : Condition) (d : ℕ) → depth c ≤ d → (rest : List ℕ) → read-condition d (condition-field c .words ++ rest) ≡ got c rest
+  condition-read : (c : Condition) (d : ℕ) → depth c ≤ d → (rest : List ℕ) → decode-condition d (condition-field c .words ++ rest) ≡ decoded c rest
   condition-read t-cond zero h rest = absurd (not-suc-le-zero h)
   condition-read t-cond (suc d) h rest = refl
   condition-read f-cond zero h rest = absurd (not-suc-le-zero h)
@@ -99,17 +101,17 @@ mutual
   condition-read u-cond (suc d) h rest = refl
   condition-read (m-cond n cs) zero h rest = absurd (not-suc-le-zero h)
   condition-read (m-cond n cs) (suc d) h rest =
-      step _ _ _ _ (parts-read cs d (le-of-suc-le-suc h) rest) ∙ ap (λ x. got (m-cond n x) rest) (parts-listed cs)
+      then-decoded _ _ _ _ (parts-read cs d (le-of-suc-le-suc h) rest) ∙ ap (λ x. decoded (m-cond n x) rest) (parts-again cs)
 
   parts-read : (cs : Conditions) (d : ℕ) → depths cs ≤ d → (rest : List ℕ)
-      → read-times (read-condition d) (length (condition-fields cs)) (words-of (condition-fields cs) ++ rest) ≡ got (listed cs) rest
+      → decode-times (decode-condition d) (length (condition-fields cs)) (words-of (condition-fields cs) ++ rest) ≡ decoded (parts-of cs) rest
   parts-read no-part d h rest = refl
   parts-read (part c cs) d h rest =
-      ap (read-times (read-condition d) (suc (length (condition-fields cs)))) (append-assoc (condition-field c .words) (words-of (condition-fields cs)) rest)
-      ∙ step _ _ _ _ (condition-read c d (omega arith) (words-of (condition-fields cs) ++ rest))
-      ∙ step _ _ _ _ (parts-read cs d (omega arith) rest)
+      ap (decode-times (decode-condition d) (suc (length (condition-fields cs)))) (append-assoc (condition-field c .words) (words-of (condition-fields cs)) rest)
+      ∙ then-decoded _ _ _ _ (condition-read c d (omega arith) (words-of (condition-fields cs) ++ rest))
+      ∙ then-decoded _ _ _ _ (parts-read cs d (omega arith) rest)
 
-any-condition-read : (c : Condition) (rest : List ℕ) → read-any-condition (condition-field c .words ++ rest) ≡ got c rest
+any-condition-read : (c : Condition) (rest : List ℕ) → decode-any-condition (condition-field c .words ++ rest) ≡ decoded c rest
 any-condition-read c rest =
     let ws = condition-field c .words in
     condition-read c (length (ws ++ rest)) (omega (arith, depth-words c, length-append ws rest)) rest
@@ -125,31 +127,31 @@ target-words r = at (eqb r 65535)
 -- by the kind, since its word is one of two
 select-read : (n : ℕ) (k : SelectionKind) (v : Code) (rs ts rest : List ℕ)
     → let x : ShownSelect = record { number = n; kind = k; scrutinee = v; output-types = ts } in
-    read-line (words-of (fields (select-line x rs)) ++ rest) ≡ got (select-line x rs) rest
+    decode-line (words-of (fields (select-line x rs)) ++ rest) ≡ decoded (select-line x rs) rest
 unfolding next-word
-select-read n bool-cond v rs ts rest = step _ _ _ _ (numbers-read rs _ rest) ∙ step _ _ _ _ (numbers-read ts [] rest)
-select-read n number v rs ts rest = step _ _ _ _ (numbers-read rs _ rest) ∙ step _ _ _ _ (numbers-read ts [] rest)
+select-read n bool-cond v rs ts rest = then-decoded _ _ _ _ (numbers-read rs _ rest) ∙ then-decoded _ _ _ _ (numbers-read ts [] rest)
+select-read n number v rs ts rest = then-decoded _ _ _ _ (numbers-read rs _ rest) ∙ then-decoded _ _ _ _ (numbers-read ts [] rest)
 
-line-read : (l : Line) (rest : List ℕ) → read-line (words-of (fields l) ++ rest) ≡ got l rest
+line-read : (l : Line) (rest : List ℕ) → decode-line (words-of (fields l) ++ rest) ≡ decoded l rest
 unfolding next-word
 line-read (region-line r ts ks vs) rest =
-    step _ _ _ _ (numbers-read ts _ rest) ∙ step _ _ _ _ (numbers-read ks _ rest) ∙ step _ _ _ _ (values-read vs [] rest)
-line-read (block-line n is) rest = step _ _ _ _ (items-read is [] rest)
+    then-decoded _ _ _ _ (numbers-read ts _ rest) ∙ then-decoded _ _ _ _ (numbers-read ks _ rest) ∙ then-decoded _ _ _ _ (values-read vs [] rest)
+line-read (block-line n is) rest = then-decoded _ _ _ _ (items-read is [] rest)
 line-read (select-line x rs) rest = select-read (x .number) (x .kind) (x .scrutinee) rs (x .output-types) rest
-line-read (loop-line n vs r v) rest = step _ _ _ _ (values-read vs _ rest)
-line-read (exit-line n op vs) rest = step _ _ _ _ (values-read vs [] rest)
+line-read (loop-line n vs r v) rest = then-decoded _ _ _ _ (values-read vs _ rest)
+line-read (exit-line n op vs) rest = then-decoded _ _ _ _ (values-read vs [] rest)
 line-read (defer-line e) rest =
     let vs = e .inputs in
     let c = e .condition in
-    ap (λ ws. read-line (5 ∷ e .region ∷ (ws ++ (e .count ∷ (values-field vs .words ++ (condition-field c .words ++ []))) ++ rest)))
+    ap (λ ws. decode-line (5 ∷ e .region ∷ (ws ++ (e .count ∷ (values-field vs .words ++ (condition-field c .words ++ []))) ++ rest)))
     (target-words (e .target))
-    ∙ step _ _ _ _ (values-read vs _ rest)
-    ∙ step _ _ _ _ (ap read-any-condition (append-assoc (condition-field c .words) [] rest) ∙ any-condition-read c rest)
+    ∙ then-decoded _ _ _ _ (values-read vs _ rest)
+    ∙ then-decoded _ _ _ _ (ap decode-any-condition (append-assoc (condition-field c .words) [] rest) ∙ any-condition-read c rest)
 
 -- a line has a first word, so the reader of lines takes it
 takes-line : (l : Line) (n : ℕ) (rest : List ℕ)
-    → read-lines (suc n) (words-of (fields l) ++ rest) ≡ next-word (read-line (words-of (fields l) ++ rest)) λ x ws. next-word (read-lines n ws) λ xs. decode-as (x ∷ xs)
-unfolding read-lines
+    → decode-lines (suc n) (words-of (fields l) ++ rest) ≡ next-word (decode-line (words-of (fields l) ++ rest)) λ x ws. next-word (decode-lines n ws) λ xs. decode-as (x ∷ xs)
+unfolding decode-lines
 takes-line (region-line r ts ks vs) n rest = refl
 takes-line (block-line b is) n rest = refl
 takes-line (select-line x rs) n rest = refl
@@ -169,18 +171,18 @@ fewer-lines : (ls : List Line) → length ls ≤ length (lines-words ls)
 fewer-lines [] = omega arith
 fewer-lines (l ∷ ls) = omega (arith, some-words l, fewer-lines ls, length-append (words-of (fields l)) (lines-words ls))
 
-lines-read : (ls : List Line) (n : ℕ) → length ls ≤ n → read-lines n (lines-words ls) ≡ got ls []
-unfolding read-lines
+lines-read : (ls : List Line) (n : ℕ) → length ls ≤ n → decode-lines n (lines-words ls) ≡ decoded ls []
+unfolding decode-lines
 lines-read [] zero h = refl
 lines-read [] (suc n) h = refl
 lines-read (l ∷ ls) zero h = absurd (not-suc-le-zero h)
 lines-read (l ∷ ls) (suc n) h =
     takes-line l n (lines-words ls)
-    ∙ step _ _ _ _ (line-read l (lines-words ls))
-    ∙ step _ _ _ _ (lines-read ls n (le-of-suc-le-suc h))
+    ∙ then-decoded _ _ _ _ (line-read l (lines-words ls))
+    ∙ then-decoded _ _ _ _ (lines-read ls n (le-of-suc-le-suc h))
 
 -- ---- the sheet
-outcome-read : (o : Outcome) (rest : List ℕ) → (read-number >>= outcome-of-word) (outcome o .words ++ rest) ≡ got o rest
+outcome-read : (o : Outcome) (rest : List ℕ) → (decode-number >>= outcome-of-word) (outcome o .words ++ rest) ≡ decoded o rest
 unfolding next-word
 outcome-read untouched rest = refl
 outcome-read whole rest = refl
@@ -194,22 +196,22 @@ split-words whole f n t rest = refl
 split-words closed f n t rest = refl
 split-words leftover f n t rest = refl
 
-flag-read : (b : Bool) (rest : List ℕ) → (read-number >>= flag-of) (bit b ∷ rest) ≡ got b rest
+flag-read : (b : Bool) (rest : List ℕ) → (decode-number >>= flag-of) (bit b ∷ rest) ≡ decoded b rest
 unfolding next-word
 flag-read true rest = refl
 flag-read false rest = refl
 
-pub round-trip : (s : TypedSheet) → read-sheet (sheet-words (written s)) ≡ got s []
-unfolding read-sheet sheet-words next-word
+pub round-trip : (s : TypedSheet) → decode-sheet (sheet-words (written s)) ≡ decoded s []
+unfolding decode-sheet sheet-words next-word
 round-trip s =
-    ap read-sheet (split-words (s .outcome) (s .figure) (s .attempts) (bit (s .twice)) (lines-words (s .lines)))
-    ∙ step _ _ _ _ (outcome-read (s .outcome) _)
-    ∙ step _ _ _ _ (flag-read (s .twice) _)
-    ∙ step _ _ _ _ (lines-read (s .lines) _ (fewer-lines (s .lines)))
+    ap decode-sheet (split-words (s .outcome) (s .figure) (s .attempts) (bit (s .twice)) (lines-words (s .lines)))
+    ∙ then-decoded _ _ _ _ (outcome-read (s .outcome) _)
+    ∙ then-decoded _ _ _ _ (flag-read (s .twice) _)
+    ∙ then-decoded _ _ _ _ (lines-read (s .lines) _ (fewer-lines (s .lines)))
 
 pub unambiguous : (s t : TypedSheet) → sheet-words (written s) ≡ sheet-words (written t) → s ≡ t
 unambiguous s t e =
-    let p : got s [] ≡ got t [] = sym (round-trip s) ∙ ap read-sheet e ∙ round-trip t in
+    let p : decoded s [] ≡ decoded t [] = sym (round-trip s) ∙ ap decode-sheet e ∙ round-trip t in
     cc
 
 -- So the text can be had from the words alone.

@@ -7,9 +7,10 @@ use lib.ListN.{length, length-append}
 use Rattle.meaning.specs.Graph.{Graph, Code, SelectionKind, bool-cond, number}
 use Rattle.nesting.specs.Nesting.{Outcome, untouched, whole, closed, leftover, Nested}
 use Rattle.nesting.specs.Sheet.{a-number, kind, outcome, figure-field, sheet-of, sheet-words}
-use Rattle.nesting.specs.decoding.Lines.{Item, Condition, t-cond, f-cond, u-cond, m-cond, Conditions, no-part, part, Line, region-line, block-line, select-line, loop-line, exit-line, defer-line, TypedSheet, value-field, item-field, condition-field, condition-fields, fields, words-of, lines-words, written, typed-sheet}
+use Rattle.nesting.specs.decoding.Lines.{Line, region-line, block-line, select-line, loop-line, exit-line, defer-line, TypedSheet, value-field, item-field, condition-field, condition-fields, fields, words-of, lines-words, written, typed-sheet}
 use Rattle.nesting.specs.decoding.LinesWritten.{sheet-written}
 use Rattle.nesting.specs.decoding.RoundTrip.{target-words}
+use Rattle.nesting.specs.ShownForm.{Item, Condition, t-cond, f-cond, u-cond, m-cond, Conditions, no-part, part}
 
 abbrev pub items-length : List Item → ℕ
 items-length [] = 0

@@ -11,11 +11,12 @@ use native.Mathlib.Nat.{pow-suc}
 use lib.ListN.{length, getD, length-map}
 use lib.Dec.{eqb}
 use borrow.Author.Tests.{eqb-true}
-use Rattle.meaning.specs.Graph.{Value, const, input, instr, output, bool, undef, held, pick, no-value}
+use Rattle.meaning.specs.Graph.{Value, const, input, instr, output, bool, undef, held, no-value}
 use Rattle.meaning.specs.facts.Tests.{clash}
 use Rattle.nesting.specs.Nesting.{InputRewrite, renumber-to, replace-by, RegionInputRewrites, replace-with, renumber-or-replace-with, RewriteEntry, rewrites-of, chain-fuel, look-up-chain, look-up}
 use Rattle.nesting.specs.lookups.Rewriting.{rewrite, meets}
 use Rattle.nesting.specs.lookups.ChainSteps.{next-value, Stops, EndsIn, ends-later, chain-same, meets-same}
+use Rattle.meaning.specs.Lists.{pick}
 
 -- the region whose input a value is, marked or not
 abbrev pub names : Value → Option ℕ

@@ -7,12 +7,13 @@ use Prim.Native.Nat.{ℕ, zero, suc}
 use lib.ListN.{getD}
 use lib.Dec.{eqb}
 use borrow.Author.Tests.{eqb-true, eqb-false, eq-eqb, ne-eqb}
-use Rattle.meaning.specs.Graph.{Value, const, input, instr, output, bool, undef, held, pick, no-value}
+use Rattle.meaning.specs.Graph.{Value, const, input, instr, output, bool, undef, held, no-value}
 use Rattle.meaning.specs.facts.Tests.{clash}
 use Rattle.nesting.specs.Nesting.{InputRewrite, renumber-to, replace-by, RegionInputRewrites, replace-with, renumber-or-replace-with, RewriteEntry, rewrites-of, chain-fuel, look-up}
 use Rattle.nesting.specs.lookups.Rewriting.{rewrite}
 use Rattle.nesting.specs.lookups.ChainSteps.{next-value, after-steps, chain-steps, step-input, step-chain}
 use Rattle.nesting.specs.lookups.ChainEnds.{names, RewritesTo, Open, entry-kept, ChainsEnd, no-more, goes-on}
+use Rattle.meaning.specs.Lists.{pick}
 
 pub data WithinContext (es : List RewriteEntry) (p : ℕ) : ℕ → Type 0 where
   itself : WithinContext es p p

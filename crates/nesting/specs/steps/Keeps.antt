@@ -2,13 +2,13 @@
 use mathlib.Core.Bool.{Bool, true, false, _||_}
 use mathlib.Core.List.{List, [], _∷_, _++_, map}
 use mathlib.Core.Option.{Option, none, some}
-use Prim.Native.Nat.{ℕ, suc}
+use Prim.Native.Nat.{ℕ}
 use lib.ListN.{length}
 use lib.Dec.{ltb}
-use Rattle.meaning.specs.Graph.{Value, bool, undef, SelectionKind, bool-cond, number, ControlInst, unreachable, return, exit-invocation, branch, select-branch, Graph, region, pick}
+use Rattle.meaning.specs.Graph.{Value, bool, undef, SelectionKind, bool-cond, number, ControlInst, unreachable, return, exit-invocation, branch, select-branch, Graph, region, same-values}
 use Rattle.meaning.specs.Runs.{loop, Nodes, ⟨⟩, _▸_, Cases}
-use Rattle.meaning.specs.Lists.{any}
-use Rattle.nesting.specs.Nesting.{exit-targets, most-merges, most-nodes, most-outputs, most-regions, LazyCond, undef-cond, false-cond, true-cond, merge, LazyConds, no-conds, _&_, DeferredEdgeBundle, DeferredEdgeBundleSet, RegionInputRewrites, replace-with, renumber-or-replace-with, RewriteEntry, NodeOutput, NestState, Step, give, _>>=_, _>>_, with-tables, with-counts, with-twice, define-region, define-node, define-merge, define-output, insert-rewrites, look-up, look-up-case, look-up-each, rewrite-values, same-values, materialize-lazy-cond, materialize-lazy-conds, ClaimedRegion, MaybeClaimedRegion, ok, err, Scrutinee, value, lazy, join, append-maybe-claimed-region, convergent-cases, without-convergent, PlannedInput, shared, merged, PlannedBundle, plan-bundles, any-needs-select, any-non-empty-case, rewrite-cases, case-regions, scrutinee-value, DefinedSelect, define-select, emit-inputs, emit-condition, emit, select-if, replace-inputs, structurize-select, structurize-select-by, take-inputs, no-inputs, loop-node, add-exit-edge, structurize-loop, claim-body, by-control-inst}
+use Rattle.meaning.specs.Lists.{any, pick}
+use Rattle.nesting.specs.Nesting.{exit-targets, most-merges, most-nodes, most-outputs, most-regions, LazyCond, undef-cond, false-cond, true-cond, merge, LazyConds, no-conds, _&_, DeferredEdgeBundle, DeferredEdgeBundleSet, RegionInputRewrites, replace-with, renumber-or-replace-with, RewriteEntry, NodeOutput, NestState, Step, give, _>>=_, _>>_, with-tables, add-region, add-node, add-merge, with-twice, define-region, define-node, define-merge, define-output, insert-rewrites, look-up, look-up-case, look-up-each, rewrite-values, materialize-lazy-cond, materialize-lazy-conds, ClaimedRegion, MaybeClaimedRegion, ok, err, Scrutinee, value, lazy, join, append-maybe-claimed-region, convergent-cases, without-convergent, PlannedInput, shared, merged, PlannedBundle, plan-bundles, any-needs-select, any-non-empty-case, rewrite-cases, case-regions, scrutinee-value, DefinedSelect, define-select, emit-inputs, emit-condition, emit, select-if, replace-inputs, structurize-select, structurize-select-by, take-inputs, no-inputs, loop-node, add-exit-edge, structurize-loop, claim-body, by-control-inst}
 use Rattle.nesting.specs.lookups.Rewriting.{meets}
 use Rattle.nesting.specs.steps.Post.{Post, bind, map-post, when-room}
 
@@ -27,9 +27,9 @@ loop-claimed g body children exits inputs wrapper vs v n =
 pub record Steady (L : NestState → NestState → Type 0) : Type 0 where
   pub same : (s : NestState) → L s s
   pub follows : {s s′ s″ : NestState} → L s s′ → L s′ s″ → L s s″
-  pub region : (s : NestState) → L s (with-counts (suc (s .region-count)) (s .node-count) (s .merge-count) (s .attempts) s)
-  pub node : (s : NestState) → L s (with-counts (s .region-count) (suc (s .node-count)) (s .merge-count) (s .attempts) s)
-  pub merge : (s : NestState) → L s (with-counts (s .region-count) (s .node-count) (suc (s .merge-count)) (s .attempts) s)
+  pub region : (s : NestState) → L s (add-region s)
+  pub node : (s : NestState) → L s (add-node s)
+  pub merge : (s : NestState) → L s (add-merge s)
   pub output : (x : NodeOutput) (s : NestState) → L s (with-tables (s .region-states) (s .region-input-rewrites) (s .node-outputs ++ (x ∷ [])) s)
   pub twice : (b : Bool) (s : NestState) → L s (with-twice b s)
 
@@ -40,7 +40,7 @@ with-entry x s = with-tables (s .region-states) (s .region-input-rewrites ++ (x 
 abbrev pub KeepsLog : (NestState → NestState → Type 0) → Type 0
 KeepsLog L = (x : RewriteEntry) (s : NestState) → L s (with-entry x s)
 
-module _ {L : NestState → NestState → Type 0} (S : Steady L) (Q : ℕ → Type 0) (q9 : Q 9) where
+module _ {L : NestState → NestState → Type 0} (S : Steady L) (Q : ℕ → ℕ → Type 0) (q9 : Q 9 0) where
   abbrev pub Keeps : {A : Type 0} → Step A → Type 0
   Keeps x = (s : NestState) → Post Q (λ a s′. L s s′) (x s)
 

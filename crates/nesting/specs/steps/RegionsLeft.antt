@@ -6,7 +6,7 @@ use Prim.Native.Nat.{ℕ, zero, suc, _+_, _≤_, _<_}
 use native.Mathlib.Omega.{arith}
 use lib.ListN.{length, getD, set, replicate}
 use Rattle.meaning.specs.Graph.{Value}
-use Rattle.nesting.specs.Nesting.{StructurizeRegionState, not-begun, in-progress, claimed, ready, NestState, with-tables, with-counts, Claim}
+use Rattle.nesting.specs.Nesting.{StructurizeRegionState, not-begun, in-progress, claimed, ready, NestState, with-tables, Claim}
 use Rattle.nesting.specs.steps.Post.{Post}
 use Rattle.nesting.specs.steps.StatesKept.{Still}
 
@@ -15,9 +15,6 @@ state-of s r = getD (s .region-states) r not-begun
 
 abbrev pub with-state : NestState → ℕ → StructurizeRegionState → NestState
 with-state s r x = with-tables (set (s .region-states) r x) (s .region-input-rewrites) (s .node-outputs) s
-
-abbrev pub with-attempt : NestState → NestState
-with-attempt s = with-counts (s .region-count) (s .node-count) (s .merge-count) (suc (s .attempts)) s
 
 abbrev pub not-begun-one : StructurizeRegionState → ℕ
 not-begun-one not-begun = 1
@@ -89,8 +86,8 @@ fewer-still q = record {
   unclaimed = let z = ap (count-states unclaimed-one) (q .states) in omega arith;
 }
 
-abbrev pub AnyRefusal : ℕ → Type 0
-AnyRefusal n = Unit
+abbrev pub AnyRefusal : ℕ → ℕ → Type 0
+AnyRefusal n w = Unit
 
 -- Claims: one fewer unclaimed if it succeeds.
 abbrev pub claimed-count : {A : Type 0} → Option A → ℕ

@@ -15,7 +15,7 @@ use Rattle.nesting.specs.steps.RegionsLeft.{state-of, with-state, unclai
 use Rattle.nesting.specs.steps.UnclaimedFalls.{target-regions-fewer, split-out-fewer}
 
 -- Two ways to go on that agree on what the step gives.
-pub follow-same : {A B : Type 0} {Q : ℕ → Type 0} {P : A → NestState → Type 0} (x : StepAnswer A) (k k′ : A → Step B) → Post Q P x → ((a : A) (s : NestState) → P a s → k a s ≡ k′ a s)
+pub follow-same : {A B : Type 0} {Q : ℕ → ℕ → Type 0} {P : A → NestState → Type 0} (x : StepAnswer A) (k k′ : A → Step B) → Post Q P x → ((a : A) (s : NestState) → P a s → k a s ≡ k′ a s)
     → follow x k ≡ follow x k′
 follow-same (done a s) k k′ p h = h a s (p .post)
 follow-same (turned-away refusal word) k k′ p h = refl

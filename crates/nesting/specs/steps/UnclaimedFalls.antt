@@ -10,11 +10,11 @@ use lib.ListN.{length, getD, length-set, List·getD-eq-default}
 use lib.Seq.{set-out}
 use lib.Dec.{eqb}
 use Rattle.meaning.specs.Graph.{Value, bool-cond, Edge, Graph, region, edges-of}
-use Rattle.nesting.specs.Nesting.{DeferredTarget, to-region, to-return, DeferredEdgeBundleSet, IncomingEdgeCount, StructurizeRegionState, not-begun, in-progress, claimed, ready, NestState, Step, give, turn-away, follow, _>>=_, _>>_, get-state, set-state, condition-in, count-to, ClaimedRegion, ok, err, lazy, Body, convergent-cases, blocks-of, Claim, SplitOut, backedge-of, edge-case, split-out-or, begin, claim-body, claim-by-state, by-control-inst, resolve-by, target-regions, split-out-matching, resolve-deferred, structurize-region, try-claim-edge-bundle}
+use Rattle.nesting.specs.Nesting.{DeferredTarget, to-region, to-return, DeferredEdgeBundleSet, IncomingEdgeCount, StructurizeRegionState, not-begun, in-progress, claimed, ready, NestState, Step, give, turn-away, follow, _>>=_, _>>_, get-state, set-state, condition-in, count-to, ClaimedRegion, ok, err, lazy, Body, convergent-cases, blocks-of, Claim, SplitOut, backedge-of, edge-case, split-out-or, begin, claim-body, claim-by-state, by-control-inst, resolve-by, target-regions, split-out-matching, resolve-deferred, structurize-region, try-claim-edge-bundle, add-attempt}
 use Rattle.nesting.specs.steps.Post.{Post, map-post, bind}
 use Rattle.nesting.specs.steps.Keeps.{structurize-select-by-keeps, claim-body-keeps, by-control-inst-keeps}
 use Rattle.nesting.specs.steps.StatesKept.{Still, still-steady, still-log}
-use Rattle.nesting.specs.steps.RegionsLeft.{state-of, with-state, with-attempt, not-begun-one, unclaimed-one, count-states, count-set, Fewer, fewer-refl, fewer-then, fewer-less, fewer-still, AnyRefusal, claimed-count, ClaimFewer}
+use Rattle.nesting.specs.steps.RegionsLeft.{state-of, with-state, not-begun-one, unclaimed-one, count-states, count-set, Fewer, fewer-refl, fewer-then, fewer-less, fewer-still, AnyRefusal, claimed-count, ClaimFewer}
 use Rattle.meaning.specs.facts.Tests.{in-or-out}
 
 module _ (g : Graph) (claim : Claim) (claim-fewer : ClaimFewer claim) where
@@ -150,8 +150,8 @@ module _ (g : Graph) (counts : List IncomingEdgeCount) where
   claim-fewer zero r n inputs s = record { post = tt }
   claim-fewer (suc fuel) r n inputs s =
       let claim : Claim = λ r′ n′ inputs′. try-claim-edge-bundle g counts fuel r′ n′ inputs′ in
-      let tried : Fewer 0 s (with-attempt s) = record { length = refl; not-begun = omega arith; unclaimed = omega arith } in
-      bind (follow (begin (state-of s r) (structurize-region g claim r) (with-attempt s)) (λ u. get-state r)) (claim-by-state g r n inputs (getD counts r 0))
-      (bind {P′ = λ x s₁. Fewer 0 s s₁ × (state-of s₁ r ≡ x)} (begin (state-of s r) (structurize-region g claim r) (with-attempt s)) (λ u. get-state r)
-      (begin-fewer g claim (claim-fewer fuel) r (with-attempt s) (state-of s r) refl) λ u s₁ a. record { post = (fewer-then tried a, refl) })
+      let tried : Fewer 0 s (add-attempt s) = record { length = refl; not-begun = omega arith; unclaimed = omega arith } in
+      bind (follow (begin (state-of s r) (structurize-region g claim r) (add-attempt s)) (λ u. get-state r)) (claim-by-state g r n inputs (getD counts r 0))
+      (bind {P′ = λ x s₁. Fewer 0 s s₁ × (state-of s₁ r ≡ x)} (begin (state-of s r) (structurize-region g claim r) (add-attempt s)) (λ u. get-state r)
+      (begin-fewer g claim (claim-fewer fuel) r (add-attempt s) (state-of s r) refl) λ u s₁ a. record { post = (fewer-then tried a, refl) })
       λ x s₁ a. map-post _ (claim-by-state-fewer r n inputs (getD counts r 0) s₁ x (a .1)) λ o s₂ b. fewer-then (a .0) b

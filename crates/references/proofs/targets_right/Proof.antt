@@ -5,13 +5,12 @@ use mathlib.Core.Path.{_≡_, refl}
 use Prim.Native.Nat.{_≤_, _-_}
 use native.Mathlib.Omega.{arith}
 use lib.ListN.{drop}
-use Rattle.meaning.specs.Graph.{Graph, region, edges-of}
+use Rattle.meaning.specs.Graph.{Graph, region, edges-of, no-edge}
 use Rattle.format.specs.References as format
 use Rattle.record.specs.Stands.{Stands}
 use Rattle.references.specs.Walk.{passes, stops, ends}
 use Rattle.references.specs.Walks.{nth-edge, each-walk}
 use Rattle.references.specs.Steps.{bad-target, good-target}
-use Rattle.format.specs.Read.{no-edge}
 
 abbrev Inv-loop : tie.InvT-loop
 Inv-loop w r count n j₀ j = (j ≤ n) × ((g : Graph) → Stands w g → format.first-refusal (format.target-right g r) (drop j (edges-of (region g r .terminator))) ≡ format.first-refusal (format.target-right g r) (edges-of (region g r .terminator)))

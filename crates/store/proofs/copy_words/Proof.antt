@@ -4,11 +4,12 @@ use Prim.Native.Nat.{_+_, _-_, _≤_}
 use native.Mathlib.Omega.{arith}
 use lib.ListN.{drop}
 use borrow.Author.Needs.{needs}
-use Rattle.format.specs.Store.{tabulate, word-at}
+use Rattle.format.specs.Store.{word-at}
 use Rattle.store.specs.Block.{byte-place}
 use Rattle.store.proofs.Words.{place-within, word-read, copied-more}
 use Rattle.store.proofs.copy_words.Statement.{statement}
 use Rattle.store.proofs.copy_words.Tie as tie
+use Rattle.meaning.specs.Lists.{tabulate}
 
 abbrev Inv-loop : tie.InvT-loop
 Inv-loop bytes words₀ w at₀ j₀ words at j = (j ≤ w) × ((at ≡ byte-place j) × (words ≡ tabulate j (word-at bytes) ++ drop j words₀))
