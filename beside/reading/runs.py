@@ -74,11 +74,14 @@ class Ended(Exception):
 
 
 class NestedRun:
-    """A run of a whole or closed form; `late` tells that a loop passed its turn limit."""
+    """A run of a whole or closed form, within `budget` turns each time a loop is entered.
+
+    `late` tells that a loop began more turns than its turn limit.
+    """
 
     def __init__(self, result, constants, inputs, answer, budget):
         self.result, self.constants, self.answer = result, constants, answer
-        self.events, self.cost, self.late, self.turns, self.budget = [], 0, False, 0, budget
+        self.events, self.cost, self.late, self.budget = [], 0, False, budget
         self.words = {(INPUT, result.record.entry, k): word for k, word in enumerate(inputs)}
         try:
             self.region(result.record.entry)
@@ -90,7 +93,7 @@ class NestedRun:
     def word(self, value):
         """A value's word; reading what was never made is an error of the form (KeyError)."""
         kind, region, index = value
-        if kind in (INPUT, HELD):
+        if kind in (INPUT, HELD):       # one and the same in the form that is printed
             return self.words[INPUT, region, index]
         if kind in (INSTR, OUTPUT):
             return self.words[value]
@@ -112,10 +115,7 @@ class NestedRun:
             if isinstance(node, Block):
                 self.block(node)
             elif isinstance(node, Select):
-                case = node.cases[self.test(node.kind, node.value, len(node.cases))]
-                self.region(case)
-                for place, word in enumerate(self.all(self.result.regions[case].outs)):
-                    self.words[OUTPUT, kid, place] = word
+                self.select(kid, node)
             elif isinstance(node, Loop):
                 self.loop(node)
             else:
@@ -131,17 +131,22 @@ class NestedRun:
             self.cost += inst.cost
             place += 1
 
+    def select(self, number, node):
+        case = node.cases[self.test(node.kind, node.value, len(node.cases))]
+        self.region(case)
+        for place, word in enumerate(self.all(self.result.regions[case].outs)):
+            self.words[OUTPUT, number, place] = word
+
     def loop(self, loop):
         words, turns = self.all(loop.first), 0
         while True:
             for place, word in enumerate(words):
                 self.words[INPUT, loop.body, place] = word
+            if turns == self.budget:
+                raise Ended("budget")
             turns += 1
-            self.turns += 1
             if turns > self.result.record.regions[loop.body].limit:
                 self.late = True
-            if self.turns > self.budget:
-                raise Ended("budget")
             self.region(loop.body)
             if self.test(IF, loop.repeat, 2) == 1:
                 return

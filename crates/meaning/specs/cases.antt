@@ -1,1 +1,4 @@
 pub mod NoEnds
+pub mod RunText
+pub mod RunForms
+pub mod RunCases

@@ -4,3 +4,5 @@ pub mod Computes
 pub mod QuickPrint
 pub mod RunCases
 pub mod WordCases
+pub mod RunLines
+pub mod SheetCases

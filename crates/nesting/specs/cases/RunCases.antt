@@ -1,50 +1,48 @@
--- Case A run, at both places of its test: events, end and cost, of the graph and of its nested form.
+-- The runs of the crate meaning once more, now of the forms that nesting gives; and those of A and B.
 use mathlib.Core.Path.{_≡_, refl}
-use mathlib.Core.Bool.{false}
-use mathlib.Core.List.{[], _∷_}
-use mathlib.Core.Option.{Option, none, some}
-use Prim.Native.Nat.{ℕ, _+_}
+use mathlib.Core.List.{List, [], _∷_, _++_, map}
+use Prim.Native.Nat.{ℕ}
+use Prim.Native.String.{String}
 use Rattle.meaning.specs.Graph.{Graph}
-use Rattle.meaning.specs.Runs.{word, Event, returned, Given, put, put-inputs, entry-words, do-instr, do-block, do-blocks, run-from, graph-run, NestedRun, ends-as, put-outputs, turns, run-nodes, nested-run}
-use Rattle.format.specs.Store
-use Rattle.format.specs.Store.{accepted, refused}
-use Rattle.nesting.specs.Nesting.{Outcome, untouched, whole, closed, leftover, Nested, structurize-func}
-use Rattle.nesting.specs.cases.Computes.{nesting-computes}
-use Rattle.nesting.specs.cases.CaseGraphs.{A}
+use Rattle.meaning.specs.Runs.{Given}
+use Rattle.meaning.specs.Text.{Text, ascii}
+use Rattle.meaning.specs.cases.RunText.{given}
+use Rattle.meaning.specs.cases.RunCases.{RunCase, run-cases}
+use Rattle.nesting.specs.cases.RunLines.{graph-lines}
+use Rattle.nesting.specs.cases.CaseGraphs.{A, B}
 
--- A whole form is run with the entry's outputs, a closed one without; the others have no run.
-abbrev pub run-nested : Graph → Given → ℕ → Nested → Outcome → Option NestedRun
-run-nested g x n y untouched = none
-run-nested g x n y whole = some (nested-run g x (y .entry .children) (some (y .entry .outputs)) n)
-run-nested g x n y closed = some (nested-run g x (y .entry .children) none n)
-run-nested g x n y leftover = none
+pub record NestedRunCase : Type 0 where
+  pub graph : Graph
+  pub given : Given
+  pub regions : ℕ
+  pub turns : ℕ
+  pub lines : Text
 
-abbrev pub run-answer : Graph → Given → ℕ → Store.Answer Nested → Option NestedRun
-run-answer g x n (accepted y) = run-nested g x n y (y .outcome)
-run-answer g x n (refused n′ w) = none
+abbrev of-run-case : RunCase → NestedRunCase
+of-run-case c = record { graph = c .of .graph; given = c .given; regions = c .regions; turns = c .turns; lines = c .lines }
 
--- Constant i is 100 + i, and every instruction answers w.
-abbrev answering : ℕ → Given
-answering w = record { constants = λ i. 100 + i; entry-inputs = λ k. 0; rule = λ op reads before. w }
+-- graph, given, regions, turns, the two lines
+abbrev runs : Graph → Given → ℕ → ℕ → String → String → NestedRunCase
+runs g x n m a b = record { graph = g; given = x; regions = n; turns = m; lines = ascii a ++ ascii "\n" ++ ascii b ++ ascii "\n" }
 
-abbrev first-event : ℕ → ℕ → Event
-first-event r op = record { region = r; index = 0; opcode = op; reads = [] }
+-- A at both places of its test, B for five turns.
+abbrev pub nested-run-cases : List NestedRunCase
+nested-run-cases =
+    runs A (given (100 ∷ 101 ∷ []) [] 0 0 0 5) 3 0
+    "graph returned 100 0.0/7/-;1.0/8/-"
+    "nested returned 100 0.0/7/-;1.0/8/- cost 10 over 0"
+    ∷ runs A (given (100 ∷ 101 ∷ []) [] 0 0 0 0) 3 0
+    "graph returned 101 0.0/7/-;2.0/9/-"
+    "nested returned 101 0.0/7/-;2.0/9/- cost 11 over 0"
+    ∷ runs B (given (7 ∷ []) [] 0 0 4294967295 4) 7 5
+    "graph returned - 1.0/5/-;1.0/5/-;1.0/5/-;1.0/5/-;1.0/5/-"
+    "nested returned - 1.0/5/-;1.0/5/-;1.0/5/-;1.0/5/-;1.0/5/- cost 50 over 0"
+    ∷ map of-run-case run-cases
 
-pub A-true : graph-run A (answering 5) 3 ≡ some (record { end = returned (word 100 ∷ []); events = first-event 1 8 ∷ first-event 0 7 ∷ [] })
-unfolding graph-run run-from entry-words put-inputs put do-blocks do-block do-instr
-A-true = refl
+abbrev pub nested-case-says : NestedRunCase → Text
+nested-case-says c = graph-lines (c .regions) (c .turns) (c .graph) (c .given)
 
-pub A-false : graph-run A (answering 0) 3 ≡ some (record { end = returned (word 101 ∷ []); events = first-event 2 9 ∷ first-event 0 7 ∷ [] })
-unfolding graph-run run-from entry-words put-inputs put do-blocks do-block do-instr
-A-false = refl
-
--- An instruction of 5, a test of 2, an instruction of 3.
-pub A-true-nested : run-answer A (answering 5) 0 (structurize-func A)
-    ≡ some (ends-as (record { end = returned (word 100 ∷ []); events = first-event 1 8 ∷ first-event 0 7 ∷ []; cost = 10; over-limit = false }))
-unfolding nesting-computes nested-run run-nodes turns entry-words put-inputs put-outputs put do-block do-instr
-A-true-nested = refl
-
-pub A-false-nested : run-answer A (answering 0) 0 (structurize-func A)
-    ≡ some (ends-as (record { end = returned (word 101 ∷ []); events = first-event 2 9 ∷ first-event 0 7 ∷ []; cost = 11; over-limit = false }))
-unfolding nesting-computes nested-run run-nodes turns entry-words put-inputs put-outputs put do-block do-instr
-A-false-nested = refl
+-- For each case both runs are what it states.
+pub nested-runs-computed : map nested-case-says nested-run-cases ≡ map (λ c. c .lines) nested-run-cases
+unfolding graph-lines
+nested-runs-computed = refl

@@ -1,0 +1,60 @@
+// A nested form while it is drawn: its values' names, its regions' names, and boxes that know their line and their share.
+
+function formOf(record, sheet, names, path) {
+  const form = { record, sheet, names, path, kept: new Map(), selects: new Map() };
+  sheet.lines.forEach(line => {
+    if (line.word === "region") form.kept.set(line.id, line.inputs.length);
+    if (line.word === "select") form.selects.set(line.id, line);
+  });
+  return form;
+}
+
+// An input of a loop's body keeps its name only where none was left out: else the sheet's numbers are not the source's.
+function valueIn(form, text) {
+  const input = /^i(\d+)\./.exec(text);
+  if (input) {
+    const region = form.record.regions[input[1]];
+    return region && form.kept.get(region.number) === region.inputs.length ? form.names.value(text) : text;
+  }
+  return text.startsWith("undef") ? "undef" : form.names.value(text);
+}
+
+const valuesIn = (form, texts) => texts.map(text => valueIn(form, text));
+
+// Regions that nesting added have no name.
+const regionName = (form, number) => number < form.record.regions.length ? form.names.region(number) : "";
+
+const caseName = (select, k) => select.kind === "bool" ? (k ? "false" : "true") : k === select.cases.length - 1 ? "else" : String(k);
+
+const isDear = (form, part) => form.path.right && part.times !== undefined;
+
+// The share of the figure that a part takes with all that is in it.
+const portion = (form, part) => isDear(form, part) ? percent(part.times * part.cost, form.sheet.figure) : "";
+
+// A box with an id, a link to its line, the colour of a region and, on the dearest path, a stripe.
+function boxed(form, line, id, owner, [x, y, w, h], ...content) {
+  const group = element("a", { id, href: "#line-" + line.number, ...coloured(owner, form.record) });
+  group.classList.add("box");
+  group.append(tooltip(line.text), box(x, y, w, h));
+  if (isDear(form, line)) {
+    group.classList.add("dear");
+    group.append(box(x, y, 5, h, { class: "stripe" }));
+  }
+  group.append(...content.flat().filter(Boolean));
+  return group;
+}
+
+// Exits are defined in the order in which the walk from the entry leaves the regions that exit.
+function exitOwner(form, node) {
+  const { record, sheet } = form, order = [], seen = new Set();
+  const walk = number => {
+    if (seen.has(number)) return;
+    seen.add(number);
+    record.regions[number].targets.forEach(walk);
+    if (record.regions[number].kind === "exit") order.push(number);
+  };
+  walk(record.entry);
+  const exits = sheet.lines.filter(line => line.word === "exit").map(line => line.id).sort((a, b) => a - b);
+  const owner = order[exits.indexOf(node.id)];
+  return owner !== undefined && record.regions[owner].opcode === node.opcode ? owner : undefined;
+}

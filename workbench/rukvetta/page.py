@@ -1,0 +1,62 @@
+"""Self-contained pages: the texts that the programs print, and one script that draws them."""
+
+import functools
+import html
+import json
+import os
+from urllib.parse import quote
+
+from .needs import need_dagre
+
+FOLDER = os.path.normpath(os.path.join(os.path.dirname(os.path.abspath(__file__)), "..", "page"))
+PARTS = "texts.js", "costs.js", "svg.js", "graph.js", "form.js", "nest.js", "leftover.js", "page.js"
+LAYOUT_NOTICE = "dagre, Copyright 2012-2014 Chris Pettitt, under the Expat licence, which the page repeats at its end."
+
+
+def text_of(name):
+    with open(os.path.join(FOLDER, name), encoding="utf-8") as file:
+        return file.read()
+
+
+@functools.cache
+def script():
+    """The one script of a page: the layout library, then ours."""
+    ours = "\n".join(text_of(part) for part in PARTS)
+    return f"/* {LAYOUT_NOTICE} */\n{need_dagre()}\n(function () {{\n\"use strict\";\n{ours}}})();\n"
+
+
+def filled(title, body, scripts=""):
+    page = text_of("page.html")
+    for mark, text in ("@TITLE@", html.escape(title)), ("@STYLE@", text_of("style.css")), ("@BODY@", body), ("@SCRIPTS@", scripts):
+        page = page.replace(mark, text, 1)
+    return page
+
+
+def kept(name, text):
+    """A text that the page keeps for the script."""
+    return f'<pre hidden id="text-{name}">\n{html.escape(text, quote=False)}</pre>\n'
+
+
+def routine_page(title, texts, options):
+    """The page of a routine. `texts` has record, sheet, names and explained, each a text or empty."""
+    options = json.dumps({"title": title, **options}).replace("<", "\\u003c")
+    wanted = json.dumps(sorted(texts))
+    start = (f"const texts = {{}};\nfor (const name of {wanted}) "
+             "texts[name] = document.getElementById('text-' + name).textContent.trim();\n"
+             f"drawRoutine(document.querySelector('main'), texts, {options});\n")
+    scripts = "".join(kept(name, text) for name, text in texts.items())
+    scripts += f"<script>\n{script()}{start}</script>\n<!--\n{text_of('dagre-licence.txt')}-->\n"
+    return filled(title, "", scripts)
+
+
+def index_page(title, rows):
+    """A table of routines; a row is a link and the cells of the catalogue's table."""
+    heads = "".join(f'<th class="{"number" if k > 1 else ""}">{head}</th>' for k, head in enumerate(rows[0]))
+    lines = []
+    for (name, link), outcome, *cells in rows[1:]:
+        first = f'<td><a href="{html.escape(quote(link))}">{html.escape(name)}</a></td>'
+        second = f'<td><span class="badge {html.escape(outcome.split()[0])}">{html.escape(outcome)}</span></td>'
+        lines.append("<tr>" + first + second + "".join(f'<td class="number">{html.escape(cell)}</td>' for cell in cells) + "</tr>")
+    body = f"<header><h1>{html.escape(title)}</h1><p>{len(rows) - 1} routines</p></header>" \
+           f"<table><thead><tr>{heads}</tr></thead><tbody>\n" + "\n".join(lines) + "\n</tbody></table>"
+    return filled(title, body)

@@ -1,0 +1,88 @@
+"""Parses a source by form.lark; what does not parse becomes a Fault that says what was expected."""
+
+import functools
+import os
+import re
+
+from .faults import Fault, either, near
+from .needs import need
+
+# How the grammar's terminals are called in a message; others are words of the form and stand for themselves.
+CALLED = {
+    "WORD": "a name", "NUMBER": "a number", "EMPTY": "`-`", "_NL": "the end of the line", "_COMMA": "`,`",
+    "ITEM": "an item as 0.0/7/1/5/-", "NEXT_ITEM": "another item", "LPAR": "`(`", "RPAR": "`)`", "EQUAL": "`=`",
+    "COLON": "`:`", "$END": "the end of the source",
+}
+TERMINATORS = "branch", "exit", "return", "select", "unreachable"
+
+
+@functools.cache
+def parser():
+    lark = need("lark")
+    with open(os.path.join(os.path.dirname(__file__), "form.lark"), encoding="ascii") as grammar:
+        return lark.Lark(grammar.read(), parser="lalr", lexer="basic", maybe_placeholders=True, propagate_positions=True)
+
+
+def called(terminals):
+    return either(sorted({CALLED.get(t, f"`{t.lower()}`") for t in terminals},
+                         key=lambda word: (word.startswith("`"), word)))
+
+
+def decoded(data):
+    """The source's text; a byte that is not UTF-8 is a fault."""
+    try:
+        return data.decode("utf-8")
+    except UnicodeDecodeError as error:
+        before = data[:error.start]
+        column = len(before[before.rfind(b"\n") + 1:].decode("utf-8")) + 1
+        raise Fault(before.count(b"\n") + 1, column,
+                    f"found the byte {data[error.start]}, expected text in UTF-8") from None
+
+
+def parse(source):
+    """The syntax tree of a source."""
+    exceptions = need("lark.exceptions")
+    try:
+        return parser().parse(source if source.endswith("\n") else source + "\n")
+    except exceptions.UnexpectedToken as error:
+        found = "the end of the source" if error.token.type == "$END" else \
+            "the end of the line" if error.token.type == "_NL" else f"`{error.token.strip()}`"
+        line, column = place(error, source)
+        misspelt_terminator(source, line + (error.token.type == "$END"), error.token)
+        raise Fault(line, column, f"found {found}, expected {called(error.accepts or error.expected)}") from None
+    except exceptions.UnexpectedCharacters as error:
+        raise Fault(error.line, error.column, f"found `{visible(source, error.pos_in_stream)}`, "
+                    f"expected {called(error.allowed)}") from None
+
+
+def place(error, source):
+    """Line and column; those of the source's end are its last line's."""
+    if error.token.type != "$END":
+        return error.line, error.column
+    lines = source.rstrip("\n").split("\n")
+    return len(lines), len(lines[-1]) + 1
+
+
+def trees(tree, data=None):
+    """A tree's parts that are trees, or those of one kind. What a source leaves out is None, and `-` is a token."""
+    parts = tree.children if tree is not None else ()
+    return [part for part in parts if hasattr(part, "data") and data in (None, part.data)]
+
+
+def misspelt_terminator(source, line, token):
+    """Where a region ends without a terminator, its last line may be one misspelt, which reads as an instruction."""
+    if token.type not in ("$END", "REGION"):
+        return
+    before = source.split("\n")[:line - 1]
+    while before and not before[-1].split("#")[0].strip():
+        before.pop()
+    word = re.match(r"[ \t]*([A-Za-z_][\w.-]*)(?![ \t]*=)", before[-1] if before else "")
+    if word and near(word[1], TERMINATORS) and not re.search(rf"^[ \t]*opcode[ \t]+{re.escape(word[1])}\b", source, re.M):
+        raise Fault(len(before), word.start(1) + 1, f"found `{word[1]}`, expected an opcode or a terminator{near(word[1], TERMINATORS)}")
+
+
+def visible(source, at):
+    """What stands at a place, up to the next blank."""
+    rest = source[at:at + 30].split()
+    word = rest[0] if rest and not source[at].isspace() else source[at:at + 1]
+    return word if word.isprintable() else f"\\u{ord(word[0]):04x}"

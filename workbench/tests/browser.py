@@ -1,0 +1,62 @@
+"""A real browser without a window: opens pages, looks at them, prints them."""
+
+import base64
+import os
+import re
+
+CHROMIUM, DRIVER = "/usr/bin/chromium", "/usr/bin/chromedriver"
+
+
+def missing():
+    """What a browser test lacks, or None."""
+    if not (os.path.exists(CHROMIUM) and os.path.exists(DRIVER)):
+        return "there is no Chromium here; rukvetta/needs.py names the packages"
+    try:
+        import selenium     # noqa: F401 (only asked for)
+    except ImportError:
+        return "there is no selenium here; rukvetta/needs.py names the packages"
+    return None
+
+
+class Browser:
+    def __init__(self, width=1500, height=1000):
+        from selenium import webdriver
+        from selenium.webdriver.chrome.service import Service
+        options = webdriver.ChromeOptions()
+        options.binary_location = CHROMIUM
+        for argument in "--headless=new", "--no-sandbox", "--disable-gpu", "--hide-scrollbars", f"--window-size={width},{height}":
+            options.add_argument(argument)
+        options.set_capability("goog:loggingPrefs", {"browser": "ALL"})
+        self.driver = webdriver.Chrome(service=Service(DRIVER), options=options)
+
+    def open(self, path, dark=False):
+        """Open a page; answer what the browser complained of."""
+        scheme = [{"name": "prefers-color-scheme", "value": "dark" if dark else "light"}]
+        self.driver.execute_cdp_cmd("Emulation.setEmulatedMedia", {"features": scheme})
+        self.driver.get("file://" + os.path.abspath(path))
+        return [entry["message"] for entry in self.driver.get_log("browser") if entry["level"] == "SEVERE"]
+
+    def run(self, script, *arguments):
+        return self.driver.execute_script(script, *arguments)
+
+    def texts(self, selector):
+        """The text of each element, a line for each text element of a picture."""
+        return self.run("return [...document.querySelectorAll(arguments[0])].map(e => e.textContent)", selector)
+
+    def count(self, selector):
+        return self.run("return document.querySelectorAll(arguments[0]).length", selector)
+
+    def screenshot(self, path, whole=True):
+        if whole:
+            size = self.run("return [document.documentElement.scrollWidth, document.documentElement.scrollHeight]")
+            self.driver.set_window_size(size[0], size[1] + 90)
+        self.driver.save_screenshot(path)
+
+    def printed(self):
+        """The page as a PDF on A4, and how many sheets of paper it takes."""
+        answer = self.driver.execute_cdp_cmd("Page.printToPDF", {"preferCSSPageSize": True, "printBackground": True})
+        pdf = base64.b64decode(answer["data"])
+        return pdf, len(re.findall(rb"/Type\s*/Page\b", pdf))
+
+    def close(self):
+        self.driver.quit()

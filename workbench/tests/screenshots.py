@@ -1,0 +1,32 @@
+"""Makes the pictures of the docs: python3 -m tests.screenshots, in the folder of the workbench."""
+
+import os
+import tempfile
+
+from .browser import Browser
+from .support import WORKBENCH
+from .test_report import catalogue_texts
+
+from rukvetta.page import routine_page
+from rukvetta.record import record_words
+from rukvetta.routine import load
+
+PICTURES = ("sweep-markers", False), ("ramp-nested", True), ("trigger-chase", False)
+
+
+def main():
+    look = Browser(1400, 900)
+    with tempfile.TemporaryDirectory() as folder:
+        for name, dark in PICTURES:
+            path = os.path.join(folder, name + ".html")
+            words = record_words(load(os.path.join(WORKBENCH, "catalogue", name + ".routine")).record)[0]
+            with open(path, "w", encoding="utf-8") as file:
+                file.write(routine_page(name, catalogue_texts(name), {"clock": 1e6, "words": words}))
+            look.open(path, dark)
+            look.driver.set_window_size(1400, look.run("return document.querySelector('.listings').getBoundingClientRect().top") + 140)
+            look.screenshot(os.path.join(WORKBENCH, "docs", f"{name}-{'dark' if dark else 'light'}.png"), whole=False)
+    look.close()
+
+
+if __name__ == "__main__":
+    main()

@@ -1,0 +1,34 @@
+"""What the tests share: the programs, the fixed lists, the commands."""
+
+import os
+import subprocess
+import sys
+import unittest
+
+ROOT = os.path.dirname(os.path.dirname(os.path.dirname(os.path.abspath(__file__))))
+WORKBENCH = os.path.join(ROOT, "workbench")
+CATALOGUE = os.path.join(WORKBENCH, "catalogue")
+sys.path.insert(0, WORKBENCH)
+
+from rukvetta.programs import Programs     # noqa: E402 (the path comes first)
+
+programs = Programs()
+needs_show = unittest.skipUnless(programs.has("show"), f"there is no show in {programs.folder}; `rt check show` builds it")
+needs_nest = unittest.skipUnless(programs.has("nest"), f"there is no nest in {programs.folder}; it comes with release 1.0")
+
+
+def vectors(name):
+    """The stores of a fixed list, with their answers."""
+    with open(os.path.join(ROOT, "beside", "lists", name), encoding="ascii") as lines:
+        for line in lines:
+            store, answer = bytes.fromhex(line.removeprefix("store").strip()), []
+            for line in iter(lines.readline, ".\n"):
+                answer.append(line)
+            yield store, "".join(answer)
+
+
+def command(name, *arguments, data=b"", folder=None):
+    """Run a command of the workbench: its status, output and messages."""
+    done = subprocess.run([os.path.join(WORKBENCH, name), *arguments], input=data, capture_output=True, check=False,
+                          env={**os.environ, "RUKVETTA_PROGRAMS": folder or programs.folder, "COLUMNS": "160"})
+    return done.returncode, done.stdout, done.stderr.decode()

@@ -1,0 +1,93 @@
+"""The docs say what the commands do: the sources, faults, explanations and sheets in docs/TEN-MINUTES.md are held against them."""
+
+import os
+import re
+import unittest
+
+from .support import CATALOGUE, WORKBENCH, command, needs_nest, needs_show, programs
+
+from rukvetta.assemble import assemble
+from rukvetta.needs import COMMAND
+
+
+def page(name):
+    with open(os.path.join(WORKBENCH, name), encoding="utf-8") as file:
+        return file.read()
+
+
+def blocks(kind):
+    return re.findall(rf"```{kind}\n(.*?)```", page("docs/TEN-MINUTES.md"), re.S)
+
+
+class TenMinutes(unittest.TestCase):
+    def test_the_sources_assemble(self):
+        self.assertEqual(len(blocks("routine")), 3)
+        for source in blocks("routine"):
+            assemble(source.encode())
+
+    def test_the_fault(self):
+        status, _, said = command("assemble", data=blocks("routine")[-1].replace("frequency(f)", "frequncy(f)").encode())
+        self.assertEqual((status, said), (1, blocks("fault")[0]))
+
+    @needs_show
+    def test_the_explanation(self):
+        status, text, _ = command("explain", "-", data=blocks("routine")[-1].replace("tone(next)", "tone(next, low)").encode())
+        self.assertEqual((status, text.decode()), (1, blocks("explained")[0]))
+
+    @needs_nest
+    def test_the_sheet(self):
+        self.assertEqual(programs.nest(assemble(blocks("routine")[-1].encode())[0]), blocks("sheet")[0])
+
+
+class Readme(unittest.TestCase):
+    def test_what_it_names(self):
+        text = page("README.md")
+        self.assertIn(COMMAND, re.sub(r"\s+", " ", text.replace("\\\n", " ")))
+        self.assertIn(f"{len(os.listdir(CATALOGUE)) // 2} routines", text)
+
+    def test_links_lead_somewhere(self):
+        for name in "README.md", "docs/TEN-MINUTES.md", "docs/SOURCE-FORM.md":
+            for target in re.findall(r"\]\(([^)#]+)\)", page(name)):
+                self.assertTrue(os.path.exists(os.path.join(WORKBENCH, os.path.dirname(name), target)), target)
+
+
+class SourceForm(unittest.TestCase):
+    """One source with every construct of docs/SOURCE-FORM.md."""
+
+    def test_every_construct(self):
+        source = b"""# a comment
+type hertz 2
+opcode set 0x10 : hertz cost 3
+record regions 8 entry first test 1 constants 3, base : hertz exits auto
+constant more : bool
+region first in -
+    x = set(base, more) : hertz cost 9
+    set
+    block
+        set(x,
+            undef : hertz, true)
+    branch to second(x)
+region second in f : hertz limit 4
+    block 1.0/7/1/5/-,1.1/8/0/3/d1.0,i1.0
+    select bool d1.0 to second(f), third
+    exits third
+region third
+    select num c0 to fourth, 4, fifth, fifth
+    pass fifth in -
+    exits -
+region fourth
+    unreachable
+region 4
+    branch to sixth
+    exits auto
+region fifth
+    exit set true, undef2
+region sixth
+    return c1
+region seventh
+    return base
+    exits 6
+"""
+        record = assemble(source)[1]
+        self.assertEqual([region.kind for region in record.regions], [3, 4, 5, 0, 3, 2, 1, 1])
+        self.assertEqual(record.constants, [3, 2, 1])
