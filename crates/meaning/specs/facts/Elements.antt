@@ -97,7 +97,8 @@ all-getD P d z [] h k = z
 all-getD P d z (x ∷ xs) h zero = h .0
 all-getD P d z (x ∷ xs) h (suc k) = all-getD P d z xs (h .1) k
 
-pub all-mapped : {A B : Type 0} (f : A → B) (P : A → Type 0) (Q : B → Type 0) → ((x : A) → P x → Q (f x)) → (xs : List A) → All P xs → All Q (map f xs)
+pub all-mapped : {A B : Type 0} (f : A → B) (P : A → Type 0) (Q : B → Type 0) → ((x : A) → P x → Q (f x)) → (xs : List A) → All P xs
+    → All Q (map f xs)
 all-mapped f P Q q [] h = tt
 all-mapped f P Q q (x ∷ xs) h = (q x (h .0), all-mapped f P Q q xs (h .1))
 
@@ -153,7 +154,8 @@ pub extends-refl : {A : Type 0} (a : List A) → Extends a a
 extends-refl a = extends-same refl
 
 pub extends-then : {A : Type 0} {a b c : List A} → Extends a b → Extends b c → Extends a c
-extends-then {a} p q = record { more = p .more ++ q .more; whole = q .whole ∙ ap (λ l. l ++ q .more) (p .whole) ∙ append-assoc a (p .more) (q .more) }
+extends-then {a} p q =
+    record { more = p .more ++ q .more; whole = q .whole ∙ ap (λ l. l ++ q .more) (p .whole) ∙ append-assoc a (p .more) (q .more) }
 
 -- ---- equal lists of numbers, by a test that computes to one bit
 abbrev pub same-numbers : List ℕ → List ℕ → Bool

@@ -9,7 +9,11 @@ use Rattle.meaning.specs.Lists.{pick, All}
 use Rattle.meaning.specs.facts.Elements.{all-getD, all-mapped}
 use Rattle.meaning.specs.Graph.{Value, const, input, instr, output, bool, undef, held, no-value, Instr}
 use Rattle.meaning.specs.Runs.{Node, Nodes, ⟨⟩, _▸_, block, select, loop, exit, Cases, ∅, case}
-use Rattle.nesting.specs.Nesting.{LazyCond, undef-cond, false-cond, true-cond, merge, LazyConds, no-conds, _&_, DeferredEdgeBundle, DeferredEdgeBundleSet, StructurizeRegionState, not-begun, in-progress, claimed, ready, InputRewrite, renumber-to, replace-by, RegionInputRewrites, replace-with, renumber-or-replace-with, RewriteEntry, NodeOutput, NestState, rewrites-of, LookUp, plain, look-up-input, look-up-chain, look-up, unmarked, look-up-last, ClaimedRegion, MaybeClaimedRegion, ok, err, join}
+use Rattle.nesting.specs.Nesting.{LazyCond, undef-cond, false-cond, true-cond, merge, LazyConds, no-conds, _&_, DeferredEdgeBundle}
+use Rattle.nesting.specs.Nesting.{DeferredEdgeBundleSet, StructurizeRegionState, not-begun, in-progress, claimed, ready, InputRewrite}
+use Rattle.nesting.specs.Nesting.{renumber-to, replace-by, RegionInputRewrites, replace-with, renumber-or-replace-with, RewriteEntry}
+use Rattle.nesting.specs.Nesting.{NodeOutput, NestState, rewrites-of, LookUp, plain, look-up-input, look-up-chain, look-up, unmarked}
+use Rattle.nesting.specs.Nesting.{look-up-last, ClaimedRegion, MaybeClaimedRegion, ok, err, join}
 
 module _ (M : ℕ) where
   abbrev pub Named : Value → Type 0
@@ -118,9 +122,11 @@ module _ (M : ℕ) where
       → FoundNamed o → Named (look-up-input go r k o .value)
   input-named go g r k none f = tt
   input-named go g r k (some (replace-with vs)) f = g (getD vs k (undef 0)) (at-place vs f k)
-  input-named go g r k (some (renumber-or-replace-with xs)) f = by (getD xs k (renumber-to k)) (all-getD RewriteNamed (renumber-to k) tt xs f k)
+  input-named go g r k (some (renumber-or-replace-with xs)) f =
+      by (getD xs k (renumber-to k)) (all-getD RewriteNamed (renumber-to k) tt xs f k)
     where
-      by : (x : InputRewrite) → RewriteNamed x → Named (elim x as (λ x. LookUp Value) [ replace-by v ↦ go v | renumber-to i ↦ plain (held r i) ] .value)
+      by : (x : InputRewrite) → RewriteNamed x → Named
+          (elim x as (λ x. LookUp Value) [ replace-by v ↦ go v | renumber-to i ↦ plain (held r i) ] .value)
       by (renumber-to i) h = tt
       by (replace-by v) h = g v h
 
@@ -153,5 +159,6 @@ module _ (M : ℕ) where
   pub look-up-last-named : (es : List RewriteEntry) → LogNamed es → (v : Value) → Named v → Named (look-up-last es v .value)
   look-up-last-named es l v h = unmarked-named (look-up es v .value) (look-up-named es l v h)
 
-  pub look-ups-named : (ρ : Value → LookUp Value) → ((v : Value) → Named v → Named (ρ v .value)) → (vs : List Value) → AllNamed vs → AllNamed (map (λ v. ρ v .value) vs)
+  pub look-ups-named : (ρ : Value → LookUp Value) → ((v : Value) → Named v → Named (ρ v .value)) → (vs : List Value) → AllNamed vs
+      → AllNamed (map (λ v. ρ v .value) vs)
   look-ups-named ρ f vs h = all-mapped (λ v. ρ v .value) Named Named f vs h

@@ -12,10 +12,16 @@ use Rattle.meaning.specs.facts.Elements.{all-mapped, all-filter, all-replicate}
 use Rattle.meaning.specs.Graph.{Value, undef, Instr, Graph, region}
 use Rattle.meaning.specs.Runs.{Node, Nodes, ⟨⟩, _▸_, block, select, loop, exit, Cases, ∅, case}
 use Rattle.format.specs.Store.{Answer, accepted, refused}
-use Rattle.nesting.specs.Nesting.{LookUp, DeferredEdgeBundleSet, IncomingEdgeCount, StructurizeRegionState, not-begun, in-progress, claimed, ready, NodeOutput, NestState, StepAnswer, done, turned-away, condition-in, ClaimedRegion, case-outputs, look-up-last, look-up-bundle, look-up-reads, look-up-node, look-up-nodes, look-up-cases, Outcome, untouched, whole, closed, leftover, Piece, Nested, initial-state, outcome-of, unclaimed-from, look-up-piece, conclude-with, conclude-by, conclude, incoming-edge-counts, try-claim-edge-bundle, structurize-func-by, structurize-func}
+use Rattle.nesting.specs.Nesting.{LookUp, DeferredEdgeBundleSet, IncomingEdgeCount, StructurizeRegionState, not-begun, in-progress}
+use Rattle.nesting.specs.Nesting.{claimed, ready, NodeOutput, NestState, StepAnswer, done, turned-away, condition-in, ClaimedRegion}
+use Rattle.nesting.specs.Nesting.{case-outputs, look-up-last, look-up-bundle, look-up-reads, look-up-node, look-up-nodes}
+use Rattle.nesting.specs.Nesting.{look-up-cases, Outcome, untouched, whole, closed, leftover, Piece, Nested, initial-state}
+use Rattle.nesting.specs.Nesting.{outcome-of, unclaimed-from, look-up-piece, conclude-with, conclude-by, conclude}
+use Rattle.nesting.specs.Nesting.{incoming-edge-counts, try-claim-edge-bundle, structurize-func-by, structurize-func}
 use Rattle.nesting.specs.steps.Post.{Post}
 use Rattle.nesting.specs.steps.RegionsLeft.{AnyRefusal}
-use Rattle.nesting.specs.named.Named.{Named, AllNamed, InstrsNamed, NodeNamed, NodesNamed, CasesNamed, BundleNamed, SetNamed, StateNamed, OutputsNamed, Good, at-place, look-up-last-named, look-ups-named}
+use Rattle.nesting.specs.named.Named.{Named, AllNamed, InstrsNamed, NodeNamed, NodesNamed, CasesNamed, BundleNamed, SetNamed}
+use Rattle.nesting.specs.named.Named.{StateNamed, OutputsNamed, Good, at-place, look-up-last-named, look-ups-named}
 use Rattle.nesting.specs.named.NamedSteps.{Kept}
 use Rattle.nesting.specs.named.NamedSelects.{condition-named}
 use Rattle.nesting.specs.named.NamedClaims.{ClaimMaybe, RegionNamed, try-claim-named}
@@ -27,12 +33,14 @@ module _ (M : ℕ) where
   -- ---- the last rewriting
   module _ (ρ : Value → LookUp Value) (f : (v : Value) → Named M v → Named M (ρ v .value)) where
     instrs-last : (is : List Instr) → InstrsNamed M is → InstrsNamed M (map (λ i. look-up-reads ρ i .value) is)
-    instrs-last is h = all-mapped (λ i. look-up-reads ρ i .value) (λ i. AllNamed M (i .reads)) (λ i. AllNamed M (i .reads)) (λ i k. look-ups-named M ρ f (i .reads) k) is h
+    instrs-last is h = all-mapped (λ i. look-up-reads ρ i .value) (λ i. AllNamed M (i .reads)) (λ i. AllNamed M (i .reads))
+        (λ i k. look-ups-named M ρ f (i .reads) k) is h
 
     module _ (os : List NodeOutput) (outs : OutputsNamed M os) where
       case-outputs-named : (n j : ℕ) → AllNamed M (case-outputs n j os)
       case-outputs-named n j =
-          all-mapped (λ o. getD (o .values) j (undef 0)) (λ o. AllNamed M (o .values)) (Named M) (λ o h. at-place M (o .values) h j) (filter (λ o. eqb n (o .node)) os)
+          all-mapped (λ o. getD (o .values) j (undef 0)) (λ o. AllNamed M (o .values)) (Named M) (λ o h. at-place M (o .values) h j)
+          (filter (λ o. eqb n (o .node)) os)
           (all-filter (λ o. AllNamed M (o .values)) (λ o. eqb n (o .node)) os outs)
 
       mutual
@@ -41,7 +49,12 @@ module _ (M : ℕ) where
         node-last : (x : Node) → NodeNamed M x → NodeNamed M (look-up-node ρ os x .value)
         node-last (block n r k is) h = instrs-last is h
         node-last (select x cs) h = (f (x .scrutinee) (h .0), cases-last cs (h .1) (x .number) 0)
-        node-last (loop x ks) h = (look-ups-named M ρ f (x .initial-inputs) (h .0), look-ups-named M ρ f (x .outputs) (h .1), f (x .repeat) (h .2), nodes-last ks (h .3))
+        node-last (loop x ks) h = (
+          look-ups-named M ρ f (x .initial-inputs) (h .0),
+          look-ups-named M ρ f (x .outputs) (h .1),
+          f (x .repeat) (h .2),
+          nodes-last ks (h .3),
+        )
         node-last (exit n op vs) h = look-ups-named M ρ f vs h
 
         pub nodes-last : (ks : Nodes) → NodesNamed M ks → NodesNamed M (look-up-nodes ρ os ks .value)
@@ -50,7 +63,8 @@ module _ (M : ℕ) where
 
         cases-last : (cs : Cases) → CasesNamed M cs → (n j : ℕ) → CasesNamed M (look-up-cases ρ os cs n j .value)
         cases-last ∅ h n j = tt
-        cases-last (case c ks cs) h n j = (look-ups-named M ρ f (case-outputs n j os) (case-outputs-named n j), nodes-last ks (h .1), cases-last cs (h .2) n (suc j))
+        cases-last (case c ks cs) h n j =
+            (look-ups-named M ρ f (case-outputs n j os) (case-outputs-named n j), nodes-last ks (h .1), cases-last cs (h .2) n (suc j))
 
   module _ (g : Graph) (s : NestState) (good : Good M s) where
     piece-last : (p : Piece) → PieceNamed p → PieceNamed (look-up-piece g s p .value)
@@ -61,7 +75,8 @@ module _ (M : ℕ) where
           nodes-last (look-up-last es) f (s .node-outputs) (good .outputs) (p .children) (h .0),
           look-ups-named M (look-up-last es) f (p .outputs) (h .1),
           all-mapped (λ e. look-up-bundle (look-up-last es) (condition-in (p .deferred)) e .value) (BundleNamed M) (BundleNamed M)
-              (λ e k. (look-ups-named M (look-up-last es) f (e .target-inputs) (k .0), condition-named M (p .deferred) e k)) (p .deferred) (h .2),
+              (λ e k. (look-ups-named M (look-up-last es) f (e .target-inputs) (k .0), condition-named M (p .deferred) e k)) (p .deferred)
+              (h .2),
         )
 
     unclaimed-named : (r : ℕ) (xs : List StructurizeRegionState) → All (StateNamed M) xs → All PieceNamed (unclaimed-from g r xs)
@@ -77,7 +92,8 @@ pub record NestedNamed (n : Nested) : Type 0 where
   pub unclaimed : All (PieceNamed (length (n .output-nodes))) (n .unclaimed)
 
 module _ (g : Graph) (s : NestState) (good : Good (length (s .node-outputs)) s) where
-  concluded-named : (o : Outcome) (p : Piece) (ps : List Piece) → PieceNamed (length (s .node-outputs)) p → All (PieceNamed (length (s .node-outputs))) ps
+  concluded-named : (o : Outcome) (p : Piece) (ps : List Piece) → PieceNamed (length (s .node-outputs)) p
+      → All (PieceNamed (length (s .node-outputs))) ps
       → NestedNamed (conclude-with g s o p ps)
   concluded-named o p ps h hs =
       let M = length (s .node-outputs) in
@@ -88,17 +104,21 @@ module _ (g : Graph) (s : NestState) (good : Good (length (s .node-outputs)) s) 
             (all-mapped (λ p. look-up-piece g s p .value) (PieceNamed M) (PieceNamed M) (piece-last M g s good) ps hs);
       }
 
-  first-inputs : (d : DeferredEdgeBundleSet) → SetNamed (length (s .node-outputs)) d → AllNamed (length (s .node-outputs)) (getD (map (λ e. e .target-inputs) d) 0 [])
+  first-inputs : (d : DeferredEdgeBundleSet) → SetNamed (length (s .node-outputs)) d
+      → AllNamed (length (s .node-outputs)) (getD (map (λ e. e .target-inputs) d) 0 [])
   first-inputs [] h = tt
   first-inputs (e ∷ d) h = h .0 .0
 
-  by-outcome : (ks : Nodes) (d : DeferredEdgeBundleSet) → NodesNamed (length (s .node-outputs)) ks → SetNamed (length (s .node-outputs)) d → (o : Outcome)
+  by-outcome : (ks : Nodes) (d : DeferredEdgeBundleSet) → NodesNamed (length (s .node-outputs)) ks → SetNamed (length (s .node-outputs)) d
+      → (o : Outcome)
       → NestedNamed (conclude-by g s ks d o)
   unfolding NodesNamed
   by-outcome ks d hk hd untouched = concluded-named untouched _ [] (tt, tt, tt) tt
   by-outcome ks d hk hd whole = concluded-named whole _ [] (hk, first-inputs d hd, tt) tt
   by-outcome ks d hk hd closed = concluded-named closed _ [] (hk, tt, tt) tt
-  by-outcome ks d hk hd leftover = concluded-named leftover _ (unclaimed-from g 0 (s .region-states)) (hk, tt, hd) (unclaimed-named (length (s .node-outputs)) g s good 0 (s .region-states) (good .states))
+  by-outcome ks d hk hd leftover =
+      concluded-named leftover _ (unclaimed-from g 0 (s .region-states)) (hk, tt, hd)
+      (unclaimed-named (length (s .node-outputs)) g s good 0 (s .region-states) (good .states))
 
 first-good : (M : ℕ) (g : Graph) → Good M (initial-state g)
 first-good M g = record { states = all-replicate (StateNamed M) not-begun tt (length (g .regions)); log = tt; outputs = tt }
@@ -109,7 +129,8 @@ IfNamed (accepted n) = NestedNamed n
 IfNamed (refused k w) = Unit
 
 module _ (g : Graph) (each : (M r : ℕ) → RegionNamed M (region g r)) where
-  conclude-named : (a : StepAnswer (Option ClaimedRegion)) → ((M : ℕ) → Post AnyRefusal (λ o s. Kept M (AllNamed M []) (ClaimMaybe M) (initial-state g) o s) a) → IfNamed (conclude g a)
+  conclude-named : (a : StepAnswer (Option ClaimedRegion))
+      → ((M : ℕ) → Post AnyRefusal (λ o s. Kept M (AllNamed M []) (ClaimMaybe M) (initial-state g) o s) a) → IfNamed (conclude g a)
   unfolding conclude
   conclude-named (turned-away k w) p = tt
   conclude-named (done none s) p = tt

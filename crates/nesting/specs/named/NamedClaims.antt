@@ -8,12 +8,24 @@ use lib.Dec.{eqb}
 use lib.ListN.{getD, length, take}
 use Rattle.meaning.specs.Lists.{pick, All, empty, is-in}
 use Rattle.meaning.specs.facts.Elements.{all-append, all-mapped, all-getD, all-take, all-set}
-use Rattle.meaning.specs.Graph.{Value, input, same-value, Instr, bool-cond, Edge, ControlInst, unreachable, return, exit-invocation, branch, select-branch, edges-of, Region, Graph, region}
+use Rattle.meaning.specs.Graph.{Value, input, same-value, Instr, bool-cond, Edge, ControlInst, unreachable, return, exit-invocation, branch}
+use Rattle.meaning.specs.Graph.{select-branch, edges-of, Region, Graph, region}
 use Rattle.meaning.specs.Runs.{Nodes, ⟨⟩, _▸_, exit}
-use Rattle.nesting.specs.Nesting.{IncomingEdgeCount, LazyCond, DeferredTarget, to-region, to-return, DeferredEdgeBundle, DeferredEdgeBundleSet, edge-bundle, StructurizeRegionState, not-begun, in-progress, claimed, ready, renumber-or-replace-with, Step, give, turn-away, _>>=_, _>>_, define-region, define-node, get-state, set-state, count-attempt, insert-rewrites, look-up, rewrite-values, materialize-lazy-cond, same-target, condition-in, fill-gap, split-out-target, ClaimedRegion, MaybeClaimedRegion, ok, err, value, lazy, Body, has-children, blocks-from, blocks-of, block-count, exit-targets, LoopInputs, no-inputs, keep-input, lift-input, add-exit-edge, take-input, take-inputs, structurize-loop, Claim, SplitOut, backedge-of, defer-edge, unclaimed-edge, edge-case, split-out-or, begin, claim-body, claim-by-state, by-control-inst, resolve-by, target-regions, split-out-matching, resolve-deferred, structurize-region, try-claim-edge-bundle, count-to, structurize-select-into}
+use Rattle.nesting.specs.Nesting.{IncomingEdgeCount, LazyCond, DeferredTarget, to-region, to-return, DeferredEdgeBundle}
+use Rattle.nesting.specs.Nesting.{DeferredEdgeBundleSet, edge-bundle, StructurizeRegionState, not-begun, in-progress, claimed, ready}
+use Rattle.nesting.specs.Nesting.{renumber-or-replace-with, Step, give, turn-away, _>>=_, _>>_, define-region, define-node, get-state}
+use Rattle.nesting.specs.Nesting.{set-state, count-attempt, insert-rewrites, look-up, rewrite-values, materialize-lazy-cond}
+use Rattle.nesting.specs.Nesting.{same-target, condition-in, fill-gap, split-out-target, ClaimedRegion, MaybeClaimedRegion, ok, err}
+use Rattle.nesting.specs.Nesting.{value, lazy, Body, has-children, blocks-from, blocks-of, block-count, exit-targets, LoopInputs}
+use Rattle.nesting.specs.Nesting.{no-inputs, keep-input, lift-input, add-exit-edge, take-input, take-inputs, structurize-loop, Claim}
+use Rattle.nesting.specs.Nesting.{SplitOut, backedge-of, defer-edge, unclaimed-edge, edge-case, split-out-or, begin, claim-body}
+use Rattle.nesting.specs.Nesting.{claim-by-state, by-control-inst, resolve-by, target-regions, split-out-matching, resolve-deferred}
+use Rattle.nesting.specs.Nesting.{structurize-region, try-claim-edge-bundle, count-to, structurize-select-into}
 use Rattle.nesting.specs.steps.Keeps.{loop-claimed}
-use Rattle.nesting.specs.named.Named.{Named, AllNamed, InstrsNamed, NodesNamed, CondNamed, BundleNamed, SetNamed, ClaimedNamed, CaseNamed, StateNamed, RewriteNamed, join-named, look-up-named, look-ups-named}
-use Rattle.nesting.specs.named.NamedSteps.{Keeps, then-keeps, next-keeps, from, give-keeps, define-region-named, define-node-named, insert-rewrites-named, materialize-named}
+use Rattle.nesting.specs.named.Named.{Named, AllNamed, InstrsNamed, NodesNamed, CondNamed, BundleNamed, SetNamed, ClaimedNamed}
+use Rattle.nesting.specs.named.Named.{CaseNamed, StateNamed, RewriteNamed, join-named, look-up-named, look-ups-named}
+use Rattle.nesting.specs.named.NamedSteps.{Keeps, then-keeps, next-keeps, from, give-keeps, define-region-named, define-node-named}
+use Rattle.nesting.specs.named.NamedSteps.{insert-rewrites-named, materialize-named}
 use Rattle.nesting.specs.named.NamedSelects.{BundleMaybe, bundle-named, condition-named, BodyNamed, append-named, select-into-named}
 
 module _ (M : ℕ) where
@@ -57,7 +69,15 @@ module _ (M : ℕ) where
   set-state-named r x s = record {
     post = record {
       more = omega arith;
-      good = λ room pre h. (record { states = all-set (StateNamed M) (s .region-states) (h .states) r x pre; log = h .log; outputs = h .outputs }, tt);
+      good = λ room pre h. (
+        record {
+          states = all-set (StateNamed M) (s .region-states) (h .states) r x pre;
+          log = h .log;
+          outputs =
+              h .outputs;
+        },
+        tt,
+      );
     };
   }
 
@@ -79,8 +99,11 @@ module _ (M : ℕ) where
       where
         go : (b : Bool) → InputsNamed (pick b (lift-input (input w k) x) (keep-input (input w k) (getD (region g r .inputs) k 0) v x))
         go true = (all-append (RewriteNamed M) (x .rewrites) _ (h .0) (tt, tt), h .1, h .2)
-        go false =
-            (all-append (RewriteNamed M) (x .rewrites) _ (h .0) (tt, tt), all-append (Named M) (x .initial-inputs) _ (h .1) (tt, tt), all-append (Named M) (x .outputs) _ (h .2) (n, tt))
+        go false = (
+          all-append (RewriteNamed M) (x .rewrites) _ (h .0) (tt, tt),
+          all-append (Named M) (x .initial-inputs) _ (h .1) (tt, tt),
+          all-append (Named M) (x .outputs) _ (h .2) (n, tt),
+        )
 
     take-inputs-named : (k : ℕ) (vs : List Value) (x : LoopInputs) → AllNamed M vs → InputsNamed x → InputsNamed (take-inputs g r w k vs x)
     take-inputs-named k [] x n h = h
@@ -90,7 +113,12 @@ module _ (M : ℕ) where
   add-exit-named xs e h = go (λ r. pick (is-in r xs) (suc (e .accumulated-count)) (e .accumulated-count)) (e .target)
     where
       go : (more : ℕ → IncomingEdgeCount) (t : DeferredTarget)
-          → BundleNamed M (elim t as (λ t. DeferredEdgeBundle) [ to-region r ↦ edge-bundle (to-region r) (more r) (e .target-inputs) (e .condition) | to-return ↦ e ])
+          → BundleNamed M (elim t as
+          (λ t. DeferredEdgeBundle) [
+            | to-region r ↦ edge-bundle (to-region r) (more r) (e .target-inputs)
+                (e .condition)
+            | to-return ↦ e
+          ])
       go more (to-region r) = h
       go more to-return = h
 
@@ -108,7 +136,8 @@ module _ (M : ℕ) where
 
   module _ (g : Graph) where
     loop-named : (body : ℕ) (ks : Nodes) (e : DeferredEdgeBundle) (c : LazyCond) (exits : DeferredEdgeBundleSet) (ins : List Value)
-        → Keeps M (NodesNamed M ks × BundleNamed M e × CondNamed M c × SetNamed M exits × AllNamed M ins) ClaimMaybe (structurize-loop g body ks e c exits ins)
+        → Keeps M (NodesNamed M ks × BundleNamed M e × CondNamed M c × SetNamed M exits × AllNamed M ins) ClaimMaybe
+        (structurize-loop g body ks e c exits ins)
     unfolding structurize-loop NodesNamed
     loop-named body ks e c exits ins =
         then-keeps M define-region _ (define-region-named M) λ w.
@@ -119,14 +148,19 @@ module _ (M : ℕ) where
         then-keeps M define-node _ (define-node-named M) λ n.
         give-keeps M (some (loop-claimed g body ks exits ins w vs v n)) λ h.
         let pre = h .0 .0 .0 .0 in
-        let x = take-inputs-named g body w 0 vs no-inputs (h .0 .0 .1) (tt, tt, tt) in
-        (pre .4, ((x .1, x .2, h .0 .1, pre .0), tt), all-mapped (add-exit-edge (exit-targets g body)) (BundleNamed M) (BundleNamed M) (add-exit-named (exit-targets g body)) exits (pre .3)))
+        let x = take-inputs-named g body w 0 vs no-inputs (h .0 .0 .1) (tt, tt, tt) in (
+          pre .4,
+          ((x .1, x .2, h .0 .1, pre .0), tt),
+          all-mapped (add-exit-edge (exit-targets g body)) (BundleNamed M) (BundleNamed M)
+              (add-exit-named (exit-targets g body)) exits (pre .3),
+        ))
 
     claim-body-named : (r : ℕ) (ins : List Value) (ks : Nodes) (d : DeferredEdgeBundleSet) (o : Option DeferredEdgeBundle)
         → Keeps M (AllNamed M ins × NodesNamed M ks × SetNamed M d × BundleMaybe M o) ClaimMaybe (claim-body g r ins ks d o)
     claim-body-named r ins ks d none = give-keeps M _ (λ h. (h .0, h .1, h .2))
     claim-body-named r ins ks d (some e) =
-        from M _ (λ h. (h .1, h .3, condition-named M d e (h .3), split-out-named (to-region r) d (h .2), h .0)) (loop-named r ks e (condition-in d e) (split-out-target (to-region r) d) ins)
+        from M _ (λ h. (h .1, h .3, condition-named M d e (h .3), split-out-named (to-region r) d (h .2), h .0))
+        (loop-named r ks e (condition-in d e) (split-out-target (to-region r) d) ins)
 
     backedge-named : (r b : ℕ) (d : DeferredEdgeBundleSet) → SetNamed M d → BundleMaybe M (backedge-of r b d)
     backedge-named r zero d h = tt
@@ -138,13 +172,18 @@ module _ (M : ℕ) where
     claim-by-state-named r n ins inc claimed = refusal-named 12 r
     claim-by-state-named r n ins inc in-progress = go (eqb inc n)
       where
-        go : (b : Bool) → Keeps M (AllNamed M ins × Unit) ClaimMaybe (elim b as (λ b. Step (Option ClaimedRegion)) [ false ↦ give none | true ↦ turn-away 12 r ])
+        go : (b : Bool) → Keeps M (AllNamed M ins × Unit) ClaimMaybe
+            (elim b as (λ b. Step (Option ClaimedRegion)) [ false ↦ give none | true ↦ turn-away 12 r ])
         go false = give-keeps M none (λ h. tt)
         go true = refusal-named 12 r
     claim-by-state-named r n ins inc (ready b ks d) = go (eqb inc (n + b))
       where
         go : (c : Bool) → Keeps M (AllNamed M ins × (NodesNamed M ks × SetNamed M d)) ClaimMaybe
-            (elim c as (λ c. Step (Option ClaimedRegion)) [ false ↦ give none | true ↦ set-state r claimed >> claim-body g r ins ks d (backedge-of r b d) ])
+            (elim c as (λ c. Step (Option ClaimedRegion)) [
+              | false ↦ give none
+              | true ↦ set-state r claimed >> claim-body g r ins ks d
+                  (backedge-of r b d)
+            ])
         go false = give-keeps M none (λ h. tt)
         go true =
             next-keeps M (set-state r claimed) _ (from M _ (λ h. tt) (set-state-named r claimed))
@@ -167,7 +206,9 @@ module _ (M : ℕ) where
 
   edge-case-named : (e : Edge) (o : Option ClaimedRegion) → Keeps M (AllNamed M (e .inputs) × ClaimMaybe o) (CaseNamed M) (edge-case e o)
   edge-case-named e (some c) = give-keeps M (ok c) (λ h. h .1)
-  edge-case-named e none = then-keeps M (get-state (e .target)) _ (get-state-named (e .target)) λ x. give-keeps M (unclaimed-edge e x) (λ h. unclaimed-named e x (h .0 .0))
+  edge-case-named e none =
+      then-keeps M (get-state (e .target)) _ (get-state-named (e .target)) λ x. give-keeps M (unclaimed-edge e x)
+      (λ h. unclaimed-named e x (h .0 .0))
 
   edges-named : (x : ControlInst) → EndNamed x → EdgesNamed (edges-of x)
   edges-named unreachable h = tt
@@ -195,10 +236,12 @@ module _ (M : ℕ) where
     control-named parent unreachable cs = give-keeps M _ (λ h. (h .0, tt))
     control-named parent (return vs) cs = give-keeps M _ (λ h. (h .0, ((h .1, tt), tt)))
     control-named parent (exit-invocation op vs) cs =
-        then-keeps M define-node _ (define-node-named M) λ n. give-keeps M _ (λ h. (join-named M parent (exit n op vs ▸ ⟨⟩) (h .0 .0) (h .0 .1, tt), tt))
+        then-keeps M define-node _ (define-node-named M) λ n. give-keeps M _
+        (λ h. (join-named M parent (exit n op vs ▸ ⟨⟩) (h .0 .0) (h .0 .1, tt), tt))
     control-named parent (branch e) [] = give-keeps M _ (λ h. (h .0, tt))
     control-named parent (branch e) (c ∷ cs) = from M _ (λ h. (h .0, h .2 .0)) (append-named M parent c)
-    control-named parent (select-branch kind v es) cs = from M _ (λ h. (h .0, h .1 .0, h .2)) (select-into-named M g parent kind (value v) cs)
+    control-named parent (select-branch kind v es) cs =
+        from M _ (λ h. (h .0, h .1 .0, h .2)) (select-into-named M g parent kind (value v) cs)
 
     module _ (claim : Claim) (claims : ClaimsNamed claim) where
       targets-named : (es : List Edge) → Keeps M (EdgesNamed es) (λ cs. All (CaseNamed M) cs) (target-regions g claim es)
@@ -207,10 +250,12 @@ module _ (M : ℕ) where
       targets-named (e ∷ es) =
           then-keeps M (claim (e .target) 1 (e .inputs)) _ (from M _ (λ h. h .0) (claims (e .target) 1 (e .inputs))) λ o.
           then-keeps M (edge-case e o) _ (from M _ (λ h. (h .0 .0, h .1)) (edge-case-named e o)) λ c.
-          then-keeps M (target-regions g claim es) _ (from M _ (λ h. h .0 .0 .1) (targets-named es)) λ cs. give-keeps M _ (λ h. (h .0 .1, h .1))
+          then-keeps M (target-regions g claim es) _ (from M _ (λ h. h .0 .0 .1) (targets-named es)) λ cs. give-keeps M _
+          (λ h. (h .0 .1, h .1))
 
       module _ (before : DeferredEdgeBundleSet) (e : DeferredEdgeBundle) (es : DeferredEdgeBundleSet)
-          (later : Keeps M (SetNamed M (before ++ (e ∷ [])) × SetNamed M es) SplitMaybe (split-out-matching g claim (before ++ (e ∷ [])) es)) where
+          (later : Keeps M (SetNamed M (before ++ (e ∷ [])) × SetNamed M es) SplitMaybe
+          (split-out-matching g claim (before ++ (e ∷ [])) es)) where
         abbrev Before : Type 0
         Before = SetNamed M before × SetNamed M (e ∷ es)
 
@@ -225,12 +270,18 @@ module _ (M : ℕ) where
         by-claim (some c) = give-keeps M _ (λ h. (h .0 .1 .0, h .1, all-append (BundleNamed M) before es (h .0 .0) (h .0 .1 .1)))
 
         by-target : (t : DeferredTarget) → Keeps M Before SplitMaybe
-            (elim t as (λ t. Step (Option SplitOut)) [ to-return ↦ more | to-region r ↦ claim r (e .accumulated-count) (e .target-inputs) >>= split-out-or e (before ++ es) more ])
+            (elim t as (λ t. Step (Option SplitOut)) [
+              | to-return ↦ more
+              | to-region r ↦ claim r (e .accumulated-count) (e .target-inputs)
+                  >>= split-out-or e (before ++ es) more
+            ])
         by-target to-return = rest
         by-target (to-region r) =
-            then-keeps M (claim r (e .accumulated-count) (e .target-inputs)) _ (from M _ (λ h. h .1 .0 .0) (claims r (e .accumulated-count) (e .target-inputs))) by-claim
+            then-keeps M (claim r (e .accumulated-count) (e .target-inputs)) _
+            (from M _ (λ h. h .1 .0 .0) (claims r (e .accumulated-count) (e .target-inputs))) by-claim
 
-      scan-named : (before d : DeferredEdgeBundleSet) → Keeps M (SetNamed M before × SetNamed M d) SplitMaybe (split-out-matching g claim before d)
+      scan-named : (before d : DeferredEdgeBundleSet) → Keeps M (SetNamed M before × SetNamed M d) SplitMaybe
+          (split-out-matching g claim before d)
       unfolding split-out-matching
       scan-named before [] = give-keeps M none (λ h. tt)
       scan-named before (e ∷ es) = by-target before e es (scan-named (before ++ (e ∷ [])) es) (e .target)
@@ -239,25 +290,36 @@ module _ (M : ℕ) where
       unfolding resolve-deferred
       resolve-named zero x = give-keeps M x (λ h. h)
       resolve-named (suc fuel) x =
-          then-keeps M (split-out-matching g claim [] (x .deferred-edges)) _ (from M _ (λ h. (tt, h .1)) (scan-named [] (x .deferred-edges))) (by λ z. resolve-named fuel z)
+          then-keeps M (split-out-matching g claim [] (x .deferred-edges)) _
+          (from M _ (λ h. (tt, h .1)) (scan-named [] (x .deferred-edges))) (by λ z. resolve-named fuel z)
         where
           by : ((z : Body) → Keeps M (BodyNamed M z) (BodyNamed M) (resolve-deferred g claim fuel z))
-              → (o : Option SplitOut) → Keeps M (BodyNamed M x × SplitMaybe o) (BodyNamed M) (resolve-by g (λ y. resolve-deferred g claim fuel y) x o)
+              → (o : Option SplitOut) → Keeps M (BodyNamed M x × SplitMaybe o) (BodyNamed M)
+              (resolve-by g (λ y. resolve-deferred g claim fuel y) x o)
           by later none = give-keeps M x (λ h. h .0)
           by later (some y) =
-              then-keeps M (structurize-select-into g (x .children) bool-cond (lazy (condition-in (x .deferred-edges) (y .bundle))) (ok (y .claimed-region) ∷ err (y .others) ∷ [])) _
+              then-keeps M (structurize-select-into g (x .children) bool-cond (lazy (condition-in (x .deferred-edges) (y .bundle)))
+              (ok (y .claimed-region) ∷ err (y .others) ∷ [])) _
               (from M _ (λ h. (h .0 .0, condition-named M (x .deferred-edges) (y .bundle) (h .1 .0), (h .1 .1, (h .1 .2, tt))))
-              (select-into-named M g (x .children) bool-cond (lazy (condition-in (x .deferred-edges) (y .bundle))) (ok (y .claimed-region) ∷ err (y .others) ∷ []))) λ z.
+              (select-into-named M g (x .children) bool-cond (lazy (condition-in (x .deferred-edges) (y .bundle)))
+              (ok (y .claimed-region) ∷ err (y .others) ∷ []))) λ z.
               from M _ (λ h. h .1) (later z)
 
       region-named : {P : Type 0} (r : ℕ) → Keeps M P (λ u. Unit) (structurize-region g claim r)
       unfolding structurize-region
       region-named r =
           next-keeps M (set-state r in-progress) _ (from M _ (λ h. tt) (set-state-named r in-progress))
-          (then-keeps M (target-regions g claim (edges-of (region g r .terminator))) _ (from M _ (λ h. edges-named (region g r .terminator) (each r .terminator)) (targets-named (edges-of (region g r .terminator)))) λ cs.
+          (then-keeps M (target-regions g claim (edges-of (region g r .terminator))) _
+          (from M _ (λ h. edges-named (region g r .terminator) (each r .terminator))
+          (targets-named (edges-of (region g r .terminator)))) λ cs.
           then-keeps M (by-control-inst g (blocks-of g r) (region g r .terminator) cs) _
-          (from M _ (λ h. (blocks-named (block-count (take r (g .regions))) r 0 (region g r .blocks) (each r .blocks), each r .terminator, h .1)) (control-named (blocks-of g r) (region g r .terminator) cs)) λ x.
-          then-keeps M (resolve-deferred g claim (length (g .regions)) x) _ (from M _ (λ h. h .1) (resolve-named (length (g .regions)) x)) λ y.
+          (from M _ (λ h. (
+            blocks-named (block-count (take r (g .regions))) r 0 (region g r .blocks) (each r .blocks),
+            each r .terminator,
+            h .1,
+          )) (control-named (blocks-of g r) (region g r .terminator) cs)) λ x.
+          then-keeps M (resolve-deferred g claim (length (g .regions)) x) _
+          (from M _ (λ h. h .1) (resolve-named (length (g .regions)) x)) λ y.
           from M _ (λ h. (h .1 .0, h .1 .1)) (set-state-named r (ready (count-to r (y .deferred-edges)) (y .children) (y .deferred-edges))))
 
       begin-named : {P : Type 0} (x : StructurizeRegionState) (r : ℕ) → Keeps M P (λ u. Unit) (begin x (structurize-region g claim r))
@@ -270,7 +332,10 @@ module _ (M : ℕ) where
     unfolding try-claim-edge-bundle
     try-claim-named counts zero r n ins = refusal-named 0 r
     try-claim-named counts (suc fuel) r n ins =
-        then-keeps M (count-attempt >> get-state r >>= λ x. begin x (structurize-region g (λ r′ n′ ins′. try-claim-edge-bundle g counts fuel r′ n′ ins′) r) >> get-state r) _
-        (then-keeps M (count-attempt >> get-state r) _ (next-keeps M count-attempt (get-state r) count-attempt-named (get-state-named r)) λ x.
-        next-keeps M (begin x (structurize-region g (λ r′ n′ ins′. try-claim-edge-bundle g counts fuel r′ n′ ins′) r)) (get-state r) (begin-named _ (try-claim-named counts fuel) x r) (get-state-named r)) λ x.
+        then-keeps M (count-attempt >> get-state r >>= λ x. begin x
+        (structurize-region g (λ r′ n′ ins′. try-claim-edge-bundle g counts fuel r′ n′ ins′) r) >> get-state r) _
+        (then-keeps M (count-attempt >> get-state r) _
+        (next-keeps M count-attempt (get-state r) count-attempt-named (get-state-named r)) λ x.
+        next-keeps M (begin x (structurize-region g (λ r′ n′ ins′. try-claim-edge-bundle g counts fuel r′ n′ ins′) r)) (get-state r)
+        (begin-named _ (try-claim-named counts fuel) x r) (get-state-named r)) λ x.
         from M _ (λ h. (h .0, h .1)) (claim-by-state-named g r n ins (getD counts r 0) x)

@@ -10,9 +10,20 @@ use Rattle.meaning.specs.Lists.{pick, All, all, empty}
 use Rattle.meaning.specs.facts.Elements.{all-mapped, all-filter}
 use Rattle.meaning.specs.Graph.{Value, const, input, instr, output, bool, undef, held, no-value, same-value, SelectionKind, Graph}
 use Rattle.meaning.specs.Runs.{Nodes, ∅}
-use Rattle.nesting.specs.Nesting.{true-cond, LazyConds, DeferredTarget, DeferredEdgeBundle, DeferredEdgeBundleSet, define-region, define-node, define-merge, define-output, insert-rewrites, replace-with, LookUp, look-up, same-target, condition-in, get-edge-bundle-by-target, MaybeClaimedRegion, ok, err, Scrutinee, value, lazy, Body, deferred-of, append-maybe-claimed-region, convergent-cases, without-convergent, DeferredTargetSummary, deferred-targets, PerCaseDeferred, per-case-of, per-case-deferred, in-parent, passed-inputs, unique-input, PlannedInput, shared, merged, PlannedBundle, value-in-case, plan-input, all-true, conditions-of, target-type, plan-inputs, plan-bundle, plan-bundles, any-needs-select, any-non-empty-case, look-up-bundle, look-up-case, rewrite-cases, case-regions, scrutinee-value, DefinedSelect, define-select, emit-inputs, emit-condition, emit, shared-bundle, select-if, replace-inputs, structurize-select, structurize-select-by, structurize-select-into}
-use Rattle.nesting.specs.named.Named.{Named, AllNamed, NodesNamed, CasesNamed, CondNamed, CondsNamed, BundleNamed, SetNamed, CaseNamed, at-place, join-named, look-up-named, look-ups-named}
-use Rattle.nesting.specs.named.NamedSteps.{Keeps, then-keeps, next-keeps, from, give-keeps, define-region-named, define-node-named, define-merge-named, define-output-named, insert-rewrites-named, materialize-named}
+use Rattle.nesting.specs.Nesting.{true-cond, LazyConds, DeferredTarget, DeferredEdgeBundle, DeferredEdgeBundleSet, define-region}
+use Rattle.nesting.specs.Nesting.{define-node, define-merge, define-output, insert-rewrites, replace-with, LookUp, look-up}
+use Rattle.nesting.specs.Nesting.{same-target, condition-in, get-edge-bundle-by-target, MaybeClaimedRegion, ok, err, Scrutinee, value}
+use Rattle.nesting.specs.Nesting.{lazy, Body, deferred-of, append-maybe-claimed-region, convergent-cases, without-convergent}
+use Rattle.nesting.specs.Nesting.{DeferredTargetSummary, deferred-targets, PerCaseDeferred, per-case-of, per-case-deferred, in-parent}
+use Rattle.nesting.specs.Nesting.{passed-inputs, unique-input, PlannedInput, shared, merged, PlannedBundle, value-in-case, plan-input}
+use Rattle.nesting.specs.Nesting.{all-true, conditions-of, target-type, plan-inputs, plan-bundle, plan-bundles, any-needs-select}
+use Rattle.nesting.specs.Nesting.{any-non-empty-case, look-up-bundle, look-up-case, rewrite-cases, case-regions, scrutinee-value}
+use Rattle.nesting.specs.Nesting.{DefinedSelect, define-select, emit-inputs, emit-condition, emit, shared-bundle, select-if}
+use Rattle.nesting.specs.Nesting.{replace-inputs, structurize-select, structurize-select-by, structurize-select-into}
+use Rattle.nesting.specs.named.Named.{Named, AllNamed, NodesNamed, CasesNamed, CondNamed, CondsNamed, BundleNamed, SetNamed}
+use Rattle.nesting.specs.named.Named.{CaseNamed, at-place, join-named, look-up-named, look-ups-named}
+use Rattle.nesting.specs.named.NamedSteps.{Keeps, then-keeps, next-keeps, from, give-keeps, define-region-named, define-node-named}
+use Rattle.nesting.specs.named.NamedSteps.{define-merge-named, define-output-named, insert-rewrites-named, materialize-named}
 
 module _ (M : ℕ) where
   -- ---- what is planned
@@ -87,13 +98,19 @@ module _ (M : ℕ) where
       go true = at-place M (c .structured-body-inputs) (k .0) j
       go false = tt
 
-  passed-named : (k : ℕ) (cs : List MaybeClaimedRegion) (ps : List PerCaseDeferred) → All (CaseNamed M) cs → All PerCaseNamed ps → All ValueMaybe (passed-inputs k cs ps)
+  passed-named : (k : ℕ) (cs : List MaybeClaimedRegion) (ps : List PerCaseDeferred) → All (CaseNamed M) cs → All PerCaseNamed ps
+      → All ValueMaybe (passed-inputs k cs ps)
   passed-named k [] ps h q = tt
   passed-named k (c ∷ cs) [] h q = tt
   passed-named k (c ∷ cs) (p ∷ ps) h q = go (p .inputs) (q .0 .0) (passed-named k cs ps (h .1) (q .1))
     where
       go : (o : Option (List Value)) → InputsMaybe o → All ValueMaybe (passed-inputs k cs ps)
-          → All ValueMaybe (elim o as (λ o. List (Option Value)) [ none ↦ passed-inputs k cs ps | some vs ↦ in-parent c (getD vs k (undef 0)) ∷ passed-inputs k cs ps ])
+          → All ValueMaybe (elim o as
+          (λ o. List (Option Value)) [
+            | none ↦ passed-inputs k cs ps
+            | some vs ↦ in-parent c (getD vs k (undef 0))
+                ∷ passed-inputs k cs ps
+          ])
       go none i rest = rest
       go (some vs) i rest = (in-parent-named c _ (h .0) (at-place M vs i k), rest)
 
@@ -113,7 +130,8 @@ module _ (M : ℕ) where
       go none i = tt
       go (some vs) i = at-place M vs i k
 
-  plan-input-named : (k ty : ℕ) (ps : List PerCaseDeferred) (u : Option Value) → All PerCaseNamed ps → ValueMaybe u → PlannedInputNamed (plan-input k ty ps u)
+  plan-input-named : (k ty : ℕ) (ps : List PerCaseDeferred) (u : Option Value) → All PerCaseNamed ps → ValueMaybe u
+      → PlannedInputNamed (plan-input k ty ps u)
   plan-input-named k ty ps (some v) q h = h
   plan-input-named k ty ps none q h = all-mapped (value-in-case k ty) PerCaseNamed (Named M) (case-value-named k ty) ps q
 
@@ -123,23 +141,32 @@ module _ (M : ℕ) where
   conditions-named (p ∷ ps) q = (q .0 .1, conditions-named ps (q .1))
 
   module _ (g : Graph) where
-    plan-inputs-named : (n k : ℕ) (x : DeferredTarget) (cs : List MaybeClaimedRegion) (ps : List PerCaseDeferred) → All (CaseNamed M) cs → All PerCaseNamed ps
+    plan-inputs-named : (n k : ℕ) (x : DeferredTarget) (cs : List MaybeClaimedRegion) (ps : List PerCaseDeferred) → All (CaseNamed M) cs
+        → All PerCaseNamed ps
         → All PlannedInputNamed (plan-inputs g n k x cs ps)
     plan-inputs-named zero k x cs ps h q = tt
-    plan-inputs-named (suc n) k x cs ps h q =
-        (plan-input-named k (target-type g x k) ps (unique-input (passed-inputs k cs ps)) q (unique-named (passed-inputs k cs ps) (passed-named k cs ps h q)), plan-inputs-named n (suc k) x cs ps h q)
+    plan-inputs-named (suc n) k x cs ps h q = (
+      plan-input-named k (target-type g x k) ps (unique-input (passed-inputs k cs ps)) q
+          (unique-named (passed-inputs k cs ps) (passed-named k cs ps h q)),
+      plan-inputs-named n (suc k) x cs ps h q,
+    )
 
-    plan-condition-named : (ps : List PerCaseDeferred) → All PerCaseNamed ps → (b : Bool) → CondsMaybe (pick b none (some (conditions-of ps)))
+    plan-condition-named : (ps : List PerCaseDeferred) → All PerCaseNamed ps → (b : Bool)
+        → CondsMaybe (pick b none (some (conditions-of ps)))
     plan-condition-named ps q true = tt
     plan-condition-named ps q false = conditions-named ps q
 
-    plan-bundle-named : (cs : List MaybeClaimedRegion) → All (CaseNamed M) cs → (w : DeferredTargetSummary) → PlannedNamed (plan-bundle g cs w)
+    plan-bundle-named : (cs : List MaybeClaimedRegion) → All (CaseNamed M) cs → (w : DeferredTargetSummary)
+        → PlannedNamed (plan-bundle g cs w)
     plan-bundle-named cs h w =
         let ps = map (λ c. per-case-deferred (w .target) (deferred-of c)) cs in
-        let q : All PerCaseNamed ps = all-mapped (λ c. per-case-deferred (w .target) (deferred-of c)) (CaseNamed M) PerCaseNamed (λ c k. per-case-named (w .target) (deferred-of c) (deferred-named c k)) cs h in
+        let q : All PerCaseNamed ps =
+        all-mapped (λ c. per-case-deferred (w .target) (deferred-of c)) (CaseNamed M) PerCaseNamed
+        (λ c k. per-case-named (w .target) (deferred-of c) (deferred-named c k)) cs h in
         (plan-inputs-named (w .input-count) 0 (w .target) cs ps h q, plan-condition-named ps q (all-true ps))
 
-    plan-each-named : (cs : List MaybeClaimedRegion) → All (CaseNamed M) cs → (ws : List DeferredTargetSummary) → All PlannedNamed (map (plan-bundle g cs) ws)
+    plan-each-named : (cs : List MaybeClaimedRegion) → All (CaseNamed M) cs → (ws : List DeferredTargetSummary)
+        → All PlannedNamed (map (plan-bundle g cs) ws)
     plan-each-named cs h [] = tt
     plan-each-named cs h (w ∷ ws) = (plan-bundle-named cs h w, plan-each-named cs h ws)
 
@@ -149,7 +176,8 @@ module _ (M : ℕ) where
   -- ---- the cases, looked up
   module _ (ρ : Value → LookUp Value) (f : (v : Value) → Named M v → Named M (ρ v .value)) where
     set-looked-up : (d : DeferredEdgeBundleSet) → SetNamed M d → SetNamed M (map (λ e. look-up-bundle ρ (λ e. e .condition) e .value) d)
-    set-looked-up d h = all-mapped (λ e. look-up-bundle ρ (λ e. e .condition) e .value) (BundleNamed M) (BundleNamed M) (λ e k. (look-ups-named M ρ f (e .target-inputs) (k .0), k .1)) d h
+    set-looked-up d h = all-mapped (λ e. look-up-bundle ρ (λ e. e .condition) e .value) (BundleNamed M) (BundleNamed M)
+        (λ e k. (look-ups-named M ρ f (e .target-inputs) (k .0), k .1)) d h
 
     case-looked-up : (c : MaybeClaimedRegion) → CaseNamed M c → CaseNamed M (look-up-case ρ c .value)
     case-looked-up (err d) h = set-looked-up d h
@@ -162,7 +190,8 @@ module _ (M : ℕ) where
       more = omega arith;
       good = λ room pre h. (
         record { states = h .states; log = h .log; outputs = h .outputs },
-        all-mapped (λ c. look-up-case (look-up (s .region-input-rewrites)) c .value) (CaseNamed M) (CaseNamed M) (case-looked-up (look-up (s .region-input-rewrites)) (look-up-named M (s .region-input-rewrites) (h .log))) cs pre,
+        all-mapped (λ c. look-up-case (look-up (s .region-input-rewrites)) c .value) (CaseNamed M) (CaseNamed M)
+            (case-looked-up (look-up (s .region-input-rewrites)) (look-up-named M (s .region-input-rewrites) (h .log))) cs pre,
       );
     };
   }
@@ -181,7 +210,8 @@ module _ (M : ℕ) where
   case-regions-named (err d ∷ cs) =
       then-keeps M define-region _ (define-region-named M) λ r.
       then-keeps M (case-regions cs) _ (from M _ (λ h. h .0 .1) (case-regions-named cs)) λ rest. give-keeps M _ (λ h. (tt, tt, h .1))
-  case-regions-named (ok c ∷ cs) = then-keeps M (case-regions cs) _ (from M _ (λ h. h .1) (case-regions-named cs)) λ rest. give-keeps M _ (λ h. (tt, h .0 .0 .1, h .1))
+  case-regions-named (ok c ∷ cs) =
+      then-keeps M (case-regions cs) _ (from M _ (λ h. h .1) (case-regions-named cs)) λ rest. give-keeps M _ (λ h. (tt, h .0 .0 .1, h .1))
 
   scrutinee-named : (x : Scrutinee) → Keeps M (ScrutineeNamed x) (Named M) (scrutinee-value x)
   scrutinee-named (value v) = give-keeps M v (λ h. h)
@@ -190,7 +220,8 @@ module _ (M : ℕ) where
   abbrev SelectNamed : DefinedSelect → Type 0
   SelectNamed n = Named M (n .scrutinee) × NodesNamed M (n .children)
 
-  define-select-named : (kind : SelectionKind) (x : Scrutinee) (cs : List MaybeClaimedRegion) → Keeps M (ScrutineeNamed x × All (CaseNamed M) cs) SelectNamed (define-select kind x cs)
+  define-select-named : (kind : SelectionKind) (x : Scrutinee) (cs : List MaybeClaimedRegion)
+      → Keeps M (ScrutineeNamed x × All (CaseNamed M) cs) SelectNamed (define-select kind x cs)
   unfolding define-select NodesNamed
   define-select-named kind x cs =
       then-keeps M (case-regions cs) _ (from M _ (λ h. h .1) (case-regions-named cs)) λ rest.
@@ -200,22 +231,26 @@ module _ (M : ℕ) where
   emit-inputs-named : (n : DefinedSelect) (is : List PlannedInput) → Keeps M (All PlannedInputNamed is) (AllNamed M) (emit-inputs n is)
   unfolding emit-inputs
   emit-inputs-named n [] = give-keeps M [] (λ h. tt)
-  emit-inputs-named n (shared v ∷ is) = then-keeps M (emit-inputs n is) _ (from M _ (λ h. h .1) (emit-inputs-named n is)) λ vs. give-keeps M _ (λ h. (h .0 .0, h .1))
+  emit-inputs-named n (shared v ∷ is) =
+      then-keeps M (emit-inputs n is) _ (from M _ (λ h. h .1) (emit-inputs-named n is)) λ vs. give-keeps M _ (λ h. (h .0 .0, h .1))
   emit-inputs-named n (merged ty vs ∷ is) =
       then-keeps M (define-output (n .node) ty vs) _ (from M _ (λ h. h .0) (define-output-named M (n .node) ty vs)) λ w.
       then-keeps M (emit-inputs n is) _ (from M _ (λ h. h .0 .1) (emit-inputs-named n is)) λ ws. give-keeps M _ (λ h. (h .0 .1, h .1))
 
-  emit-condition-named : (n : DefinedSelect) (o : Option LazyConds) → Keeps M (Named M (n .scrutinee) × CondsMaybe o) (CondNamed M) (emit-condition n o)
+  emit-condition-named : (n : DefinedSelect) (o : Option LazyConds)
+      → Keeps M (Named M (n .scrutinee) × CondsMaybe o) (CondNamed M) (emit-condition n o)
   unfolding CondNamed
   emit-condition-named n none = give-keeps M true-cond (λ h. tt)
   emit-condition-named n (some cs) = next-keeps M define-merge _ (define-merge-named M) (give-keeps M _ (λ h. (h .0, h .1)))
 
-  emit-named : (n : DefinedSelect) (ps : List PlannedBundle) → Keeps M (Named M (n .scrutinee) × All PlannedNamed ps) (SetNamed M) (emit n ps)
+  emit-named : (n : DefinedSelect) (ps : List PlannedBundle)
+      → Keeps M (Named M (n .scrutinee) × All PlannedNamed ps) (SetNamed M) (emit n ps)
   unfolding emit
   emit-named n [] = give-keeps M [] (λ h. tt)
   emit-named n (p ∷ ps) =
       then-keeps M (emit-inputs n (p .inputs)) _ (from M _ (λ h. h .1 .0 .0) (emit-inputs-named n (p .inputs))) λ ins.
-      then-keeps M (emit-condition n (p .condition)) _ (from M _ (λ h. (h .0 .0, h .0 .1 .0 .1)) (emit-condition-named n (p .condition))) λ c.
+      then-keeps M (emit-condition n (p .condition)) _
+      (from M _ (λ h. (h .0 .0, h .0 .1 .0 .1)) (emit-condition-named n (p .condition))) λ c.
       then-keeps M (emit n ps) _ (from M _ (λ h. (h .0 .0 .0, h .0 .0 .1 .1)) (emit-named n ps)) λ rest.
       give-keeps M _ (λ h. ((h .0 .0 .1, h .0 .1), h .1))
 
@@ -225,12 +260,17 @@ module _ (M : ℕ) where
 
   shared-named : (p : PlannedBundle) → PlannedNamed p → BundleNamed M (shared-bundle p)
   unfolding CondNamed
-  shared-named p h = (all-mapped (λ i. elim i [ shared v ↦ v | merged ty vs ↦ undef 0 ]) PlannedInputNamed (Named M) shared-input-named (p .inputs) (h .0), tt)
+  shared-named p h = (
+    all-mapped (λ i. elim i [ shared v ↦ v | merged ty vs ↦ undef 0 ]) PlannedInputNamed (Named M) shared-input-named
+        (p .inputs) (h .0),
+    tt,
+  )
 
   select-if-named : (b : Bool) (kind : SelectionKind) (x : Scrutinee) (cs : List MaybeClaimedRegion) (ps : List PlannedBundle)
       → Keeps M (ScrutineeNamed x × All (CaseNamed M) cs × All PlannedNamed ps) BodyNamed (select-if b kind x cs ps)
   unfolding select-if NodesNamed
-  select-if-named false kind x cs ps = give-keeps M _ (λ h. (tt, all-mapped shared-bundle PlannedNamed (BundleNamed M) shared-named ps (h .2)))
+  select-if-named false kind x cs ps =
+      give-keeps M _ (λ h. (tt, all-mapped shared-bundle PlannedNamed (BundleNamed M) shared-named ps (h .2)))
   select-if-named true kind x cs ps =
       then-keeps M (define-select kind x cs) _ (from M _ (λ h. (h .0, h .1)) (define-select-named kind x cs)) λ n.
       then-keeps M (emit n ps) _ (from M _ (λ h. (h .1 .0, h .0 .2)) (emit-named n ps)) λ d. give-keeps M _ (λ h. (h .0 .1 .1, h .1))
@@ -241,9 +281,11 @@ module _ (M : ℕ) where
   replace-inputs-named (err d ∷ cs) = from M (replace-inputs cs) (λ h. h .1) (replace-inputs-named cs)
   replace-inputs-named (ok c ∷ cs) =
       next-keeps M (insert-rewrites (c .structured-body) (replace-with (c .structured-body-inputs))) (replace-inputs cs)
-      (from M _ (λ h. h .0 .0) (insert-rewrites-named M (c .structured-body) (replace-with (c .structured-body-inputs)))) (from M (replace-inputs cs) (λ h. h .1) (replace-inputs-named cs))
+      (from M _ (λ h. h .0 .0) (insert-rewrites-named M (c .structured-body) (replace-with (c .structured-body-inputs))))
+      (from M (replace-inputs cs) (λ h. h .1) (replace-inputs-named cs))
 
-  pub append-named : (parent : Nodes) (c : MaybeClaimedRegion) → Keeps M (NodesNamed M parent × CaseNamed M c) BodyNamed (append-maybe-claimed-region parent c)
+  pub append-named : (parent : Nodes) (c : MaybeClaimedRegion)
+      → Keeps M (NodesNamed M parent × CaseNamed M c) BodyNamed (append-maybe-claimed-region parent c)
   unfolding append-maybe-claimed-region
   append-named parent (err d) = give-keeps M _ (λ h. (h .0, h .1))
   append-named parent (ok c) =
@@ -259,7 +301,8 @@ module _ (M : ℕ) where
       go false = tt
 
   module _ (g : Graph) (parent : Nodes) (kind : SelectionKind) (x : Scrutinee) where
-    select-named : (cases : List MaybeClaimedRegion) → Keeps M (NodesNamed M parent × ScrutineeNamed x × All (CaseNamed M) cases) BodyNamed (structurize-select g parent kind x cases)
+    select-named : (cases : List MaybeClaimedRegion) → Keeps M (NodesNamed M parent × ScrutineeNamed x × All (CaseNamed M) cases) BodyNamed
+        (structurize-select g parent kind x cases)
     unfolding structurize-select
     select-named cases =
         then-keeps M (rewrite-cases cases) _ (from M _ (λ h. h .2) (rewrite-cases-named cases)) λ cs.
@@ -268,13 +311,24 @@ module _ (M : ℕ) where
         next-keeps M (replace-inputs cs) _ (from M _ (λ h. h .0 .1) (replace-inputs-named cs))
         (give-keeps M _ (λ h. (join-named M parent (y .children) (h .0 .0 .0) (h .1 .0), h .1 .1)))
 
-    by-convergent : (cases cs : List MaybeClaimedRegion) → Keeps M (NodesNamed M parent × ScrutineeNamed x × All (CaseNamed M) cases × All (CaseNamed M) cs) BodyNamed (structurize-select-by g parent kind x cases cs)
+    by-convergent : (cases cs : List MaybeClaimedRegion) → Keeps M
+        (NodesNamed M parent × ScrutineeNamed x × All (CaseNamed M) cases × All (CaseNamed M) cs) BodyNamed
+        (structurize-select-by g parent kind x cases cs)
     by-convergent cases [] = from M _ (λ h. (h .0, h .1, h .2)) (select-named cases)
     by-convergent cases (c ∷ d ∷ ds) = from M _ (λ h. (h .0, h .1, h .2)) (select-named cases)
     by-convergent cases (c ∷ []) =
         then-keeps M (structurize-select g parent kind x (without-convergent cases)) _
-        (from M _ (λ h. (h .0, h .1, all-mapped (λ c. pick (empty (deferred-of c)) c (err [])) (CaseNamed M) (CaseNamed M) emptied-named cases (h .2))) (select-named (without-convergent cases))) λ y.
+        (from M _ (λ h. (
+          h .0,
+          h .1,
+          all-mapped (λ c. pick (empty (deferred-of c)) c (err [])) (CaseNamed M)
+              (CaseNamed M) emptied-named cases (h .2),
+        )) (select-named (without-convergent cases))) λ y.
         from M _ (λ h. (h .1 .0, h .0 .3 .0)) (append-named (y .children) c)
 
-    pub select-into-named : (cases : List MaybeClaimedRegion) → Keeps M (NodesNamed M parent × ScrutineeNamed x × All (CaseNamed M) cases) BodyNamed (structurize-select-into g parent kind x cases)
-    select-into-named cases = from M _ (λ h. (h .0, h .1, h .2, all-filter (CaseNamed M) (λ c. not (empty (deferred-of c))) cases (h .2))) (by-convergent cases (convergent-cases cases))
+    pub select-into-named : (cases : List MaybeClaimedRegion)
+        → Keeps M (NodesNamed M parent × ScrutineeNamed x × All (CaseNamed M) cases) BodyNamed
+        (structurize-select-into g parent kind x cases)
+    select-into-named cases =
+        from M _ (λ h. (h .0, h .1, h .2, all-filter (CaseNamed M) (λ c. not (empty (deferred-of c))) cases (h .2)))
+        (by-convergent cases (convergent-cases cases))

@@ -8,7 +8,10 @@ use lib.ListN.{length, length-append}
 use Rattle.meaning.specs.Lists.{pick}
 use Rattle.meaning.specs.facts.Elements.{all-append}
 use Rattle.meaning.specs.Graph.{Value, bool, undef, same-values, bool-cond, number}
-use Rattle.nesting.specs.Nesting.{most-merges, most-nodes, most-outputs, most-regions, LazyCond, undef-cond, false-cond, true-cond, merge, LazyConds, no-conds, _&_, NodeOutput, NestState, Step, give, _>>=_, _>>_, define-region, define-node, define-merge, define-output, insert-rewrites, RegionInputRewrites, materialize-lazy-cond, materialize-lazy-conds, value}
+use Rattle.nesting.specs.Nesting.{most-merges, most-nodes, most-outputs, most-regions, LazyCond, undef-cond, false-cond, true-cond}
+use Rattle.nesting.specs.Nesting.{merge, LazyConds, no-conds, _&_, NodeOutput, NestState, Step, give, _>>=_, _>>_, define-region}
+use Rattle.nesting.specs.Nesting.{define-node, define-merge, define-output, insert-rewrites, RegionInputRewrites}
+use Rattle.nesting.specs.Nesting.{materialize-lazy-cond, materialize-lazy-conds, value}
 use Rattle.nesting.specs.steps.Post.{Post, bind, map-post, when-room}
 use Rattle.nesting.specs.steps.RegionsLeft.{AnyRefusal}
 use Rattle.nesting.specs.named.Named.{Named, AllNamed, CondNamed, CondsNamed, RewritesNamed, Good}
@@ -46,7 +49,8 @@ module _ (M : ℕ) where
       }
 
   -- Less may be needed, and more is known.
-  pub needs : {A : Type 0} {P P′ : Type 0} {G G′ : A → Type 0} (x : Step A) → (P → P′) → (P → (a : A) → G′ a → G a) → Keeps P′ G′ x → Keeps P G x
+  pub needs : {A : Type 0} {P P′ : Type 0} {G G′ : A → Type 0} (x : Step A) → (P → P′) → (P → (a : A) → G′ a → G a) → Keeps P′ G′ x
+      → Keeps P G x
   needs x f into p s = map-post (x s) (p s) λ a s₁ l. record {
     more = l .more;
     good = λ room pre h. let z = l .good room (f pre) h in (z .0, into pre a (z .1));
@@ -66,17 +70,20 @@ module _ (M : ℕ) where
   pub define-region-named : {P : Type 0} → Keeps P (λ r. Unit) define-region
   unfolding define-region
   define-region-named s =
-      when-room tt (ltb (s .region-count) most-regions) _ _ (record { more = omega arith; good = λ room pre h. (record { states = h .states; log = h .log; outputs = h .outputs }, tt) })
+      when-room tt (ltb (s .region-count) most-regions) _ _
+      (record { more = omega arith; good = λ room pre h. (record { states = h .states; log = h .log; outputs = h .outputs }, tt) })
 
   pub define-node-named : {P : Type 0} → Keeps P (λ n. Unit) define-node
   unfolding define-node
   define-node-named s =
-      when-room tt (ltb (s .node-count) most-nodes) _ _ (record { more = omega arith; good = λ room pre h. (record { states = h .states; log = h .log; outputs = h .outputs }, tt) })
+      when-room tt (ltb (s .node-count) most-nodes) _ _
+      (record { more = omega arith; good = λ room pre h. (record { states = h .states; log = h .log; outputs = h .outputs }, tt) })
 
   pub define-merge-named : {P : Type 0} → Keeps P (λ n. Unit) define-merge
   unfolding define-merge
   define-merge-named s =
-      when-room tt (ltb (s .merge-count) most-merges) _ _ (record { more = omega arith; good = λ room pre h. (record { states = h .states; log = h .log; outputs = h .outputs }, tt) })
+      when-room tt (ltb (s .merge-count) most-merges) _ _
+      (record { more = omega arith; good = λ room pre h. (record { states = h .states; log = h .log; outputs = h .outputs }, tt) })
 
   pub define-output-named : (n ty : ℕ) (vs : List Value) → Keeps (AllNamed M vs) (Named M) (define-output n ty vs)
   unfolding define-output
@@ -85,14 +92,30 @@ module _ (M : ℕ) where
       let long = length-append (s .node-outputs) (x ∷ []) in
       when-room tt (ltb (length (s .node-outputs)) most-outputs) _ _ (record {
         more = omega arith;
-        good = λ room pre h. (record { states = h .states; log = h .log; outputs = all-append _ (s .node-outputs) (x ∷ []) (h .outputs) (pre, tt) }, omega arith);
+        good = λ room pre h. (
+          record {
+            states = h .states;
+            log = h .log;
+            outputs =
+                all-append _ (s .node-outputs) (x ∷ []) (h .outputs) (pre, tt);
+          },
+          omega arith,
+        );
       })
 
   pub insert-rewrites-named : (r : ℕ) (x : RegionInputRewrites) → Keeps (RewritesNamed M x) (λ u. Unit) (insert-rewrites r x)
   insert-rewrites-named r x s = record {
     post = record {
       more = omega arith;
-      good = λ room pre h. (record { states = h .states; log = all-append _ (s .region-input-rewrites) _ (h .log) (pre, tt); outputs = h .outputs }, tt);
+      good = λ room pre h. (
+        record {
+          states = h .states;
+          log = all-append _ (s .region-input-rewrites) _ (h .log) (pre, tt);
+          outputs =
+              h .outputs;
+        },
+        tt,
+      );
     };
   }
 
@@ -112,4 +135,5 @@ module _ (M : ℕ) where
     materializes-named no-conds = give-keeps [] (λ h. tt)
     materializes-named (c & cs) =
         then-keeps (materialize-lazy-cond c) _ (from _ (λ h. h .0) (materialize-named c)) λ v.
-        then-keeps (materialize-lazy-conds cs) _ (from _ (λ h. h .0 .1) (materializes-named cs)) λ vs. give-keeps (v ∷ vs) (λ h. (h .0 .1, h .1))
+        then-keeps (materialize-lazy-conds cs) _ (from _ (λ h. h .0 .1) (materializes-named cs)) λ vs. give-keeps (v ∷ vs)
+        (λ h. (h .0 .1, h .1))

@@ -16,7 +16,8 @@ use Rattle.nesting.specs.named.Named.{Named}
 -- The place, counted from `at`, of n where it stands with k before it.
 abbrev place-of : ℕ → ℕ → List ℕ → ℕ → ℕ
 place-of n k [] at = at
-place-of n k (x ∷ xs) at = elim (eqb n x) [ false ↦ place-of n k xs (suc at) | true ↦ elim k [ zero ↦ at | suc j ↦ place-of n j xs (suc at) ] ]
+place-of n k (x ∷ xs) at =
+    elim (eqb n x) [ false ↦ place-of n k xs (suc at) | true ↦ elim k [ zero ↦ at | suc j ↦ place-of n j xs (suc at) ] ]
 
 place-found : (xs : List ℕ) (o at : ℕ) → o < length xs → place-of (getD xs o 0) (times-in (getD xs o 0) (take o xs)) xs at ≡ at + o
 place-found [] o at l = absurd (omega arith)

@@ -8,7 +8,8 @@ use lib.ListN.{length, List·getD-eq-default}
 use Rattle.meaning.specs.Lists.{All, concat}
 use Rattle.meaning.specs.facts.Elements.{all-map, all-parts}
 use Rattle.meaning.specs.facts.Tests.{in-or-out}
-use Rattle.meaning.specs.Graph.{Value, const, input, instr, output, bool, undef, held, no-value, Instr, Edge, ControlInst, unreachable, return, exit-invocation, branch, select-branch, Region, Graph, region, nowhere}
+use Rattle.meaning.specs.Graph.{Value, const, input, instr, output, bool, undef, held, no-value, Instr, Edge, ControlInst, unreachable}
+use Rattle.meaning.specs.Graph.{return, exit-invocation, branch, select-branch, Region, Graph, region, nowhere}
 use Rattle.format.specs.Store.{accepted}
 use Rattle.format.specs.References.{instructions, return-types, behind-all}
 use Rattle.format.specs.Valid.{Usable, Passed, ValidInstrs, ValidEdge, ValidEnd, ValidRegion, Valid}
@@ -50,11 +51,17 @@ module _ (M : ℕ) (g : Graph) (r : ℕ) where
   end-named (return vs) h = passed-named (return-types g) vs (h .1)
   end-named (exit-invocation op vs) h = all-map (Usable g r (behind-all g r)) (Named M) (usable-named (behind-all g r)) vs (h .1)
   end-named (branch e) h = edge-named e h
-  end-named (select-branch k v es) h = (usable-named (behind-all g r) v (h .0), all-map (ValidEdge g r) (λ e. AllNamed M (e .inputs)) edge-named es (h .2))
+  end-named (select-branch k v es) h =
+      (usable-named (behind-all g r) v (h .0), all-map (ValidEdge g r) (λ e. AllNamed M (e .inputs)) edge-named es (h .2))
 
   valid-region-named : (x : Region) → ValidRegion g r x → RegionNamed M x
   unfolding instructions
-  valid-region-named x h = record { blocks = blocks-apart (x .blocks) (instrs-named 0 (concat (x .blocks)) (h .instructions)); terminator = end-named (x .terminator) (h .terminator) }
+  valid-region-named x h =
+      record {
+        blocks = blocks-apart (x .blocks) (instrs-named 0 (concat (x .blocks)) (h .instructions));
+        terminator =
+            end-named (x .terminator) (h .terminator);
+      }
 
 pub graph-named : (g : Graph) → Valid g → (M r : ℕ) → RegionNamed M (region g r)
 graph-named g valid M r = go (in-or-out r (length (g .regions)))
