@@ -15,6 +15,7 @@ use Rattle.format.specs.Valid.{Valid}
 use Rattle.nesting.specs.Nesting.{whole, closed, Nested, reachable, structurize-func}
 use Rattle.nesting.specs.Sheet.{figure, Sheet, sheet-of, answer}
 use Rattle.nesting.specs.laws.NoMarks.{NoMarks}
+use Rattle.nesting.specs.named.NamedAnswer.{NestedNamed}
 use Rattle.follows.specs.Reaches.{Reaches}
 
 -- Two outcomes give a form to run: whole, which returns the entry's outputs after its last child, and closed, which has none.
@@ -71,7 +72,8 @@ abbrev pub Attempts : Type 0
 Attempts = (g : Graph) → Valid g → (n : Nested) → structurize-func g ≡ accepted n → FewAttempts g (n .attempts)
 
 -- 4. SOUND. All three of the sheet that the top definition gives for a store, whatever it accepts. No value of what is nested is
--- marked, so the form that runs here is the form that the sheet prints.
+-- marked, so the form that runs here is the form that the sheet prints; and each names something, so that different values print
+-- differently (`shown-apart`).
 pub record SoundSheet (store : List ℕ) (s : Sheet) : Type 0 where
   pub graph : Graph
   pub nest : Nested
@@ -79,6 +81,7 @@ pub record SoundSheet (store : List ℕ) (s : Sheet) : Type 0 where
   pub nests : structurize-func graph ≡ accepted nest
   pub shows : s ≡ sheet-of graph nest
   pub unmarked : NoMarks nest
+  pub named : NestedNamed nest
   pub follows : FollowsRun graph nest
   pub bounded : (outs : Option (List Value)) → HasForm nest outs → (x : Given) (b : ℕ) (e : NestedEnded)
       → nested-run graph x (nest .entry .children) outs b ≡ ends-as e → e .over-limit ≡ false → e .cost ≤ s .figure

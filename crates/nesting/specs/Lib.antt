@@ -3,6 +3,7 @@ pub mod Sheet
 pub mod ShownForm
 pub mod lookups
 pub mod steps
+pub mod named
 pub mod laws
 pub mod decoding
 pub mod cases

@@ -115,7 +115,7 @@ module _ (nodes : List ℕ) where
   value (bool false) = record { words = 4 ∷ 0 ∷ 0 ∷ []; text = ascii "false" }
   value (bool true) = record { words = 4 ∷ 0 ∷ 1 ∷ []; text = ascii "true" }
   value (undef ty) = undefined ty
-  value no-value = undefined 0  -- on no sheet: the references refuse it
+  value no-value = undefined 0  -- on no sheet: `nested-named`
   value (held r k) = undefined 0  -- on no sheet: `no-marks`
 
   abbrev pub values : List Value → Field

@@ -14,6 +14,7 @@ use Rattle.format.specs.Valid.{Valid}
 use Rattle.format.specs.laws.AcceptValid.{accept-valid}
 use Rattle.format.specs.laws.Refusals.{IfRefused, then-refused, refusal-range}
 use Rattle.nesting.specs.laws.NoMarks.{no-marks}
+use Rattle.nesting.specs.named.ValidNamed.{nested-named}
 use Rattle.meaning.specs.facts.Tests.{clash}
 use Rattle.format.specs.laws.WellRead.{step}
 use Rattle.nesting.specs.Nesting.{Outcome, untouched, whole, closed, leftover, Nested, structurize-func}
@@ -84,6 +85,7 @@ sound-sheet store s y =
       nests = y .nests;
       shows = y .shows;
       unmarked = no-marks (y .graph) (y .nest) (y .nests);
+      named = nested-named (y .graph) valid (y .nest) (y .nests);
       follows = follows (y .graph) valid (y .nest) (y .nests);
       bounded = λ outs f x b e p q.
           let same-figure : s .figure ≡ figure (y .graph .test-cost) (y .nest .entry .children) = ap (λ t. t .figure) (y .shows) ∙ figure-shown (y .graph) (y .nest) outs f in

@@ -8,11 +8,11 @@ use Prim.Native.Nat.{_<_, suc, zero, ℕ, _≤_, _+_}
 use native.Mathlib.Omega.{arith}
 use native.Mathlib.Nat.{not-suc-le-zero}
 use native.Mathlib.Decide.{decLt}
-use lib.ListN.{getD, length, length-append, List·getD-append}
+use lib.ListN.{getD, length, take, set, replicate, length-append, List·getD-append}
 use lib.Seq.{getD-append-seam}
 use lib.Dec.{eqb}
 use borrow.Author.Tests.{eqb-true}
-use Rattle.meaning.specs.Lists.{numbers-from, All, tabulate}
+use Rattle.meaning.specs.Lists.{pick, filter, numbers-from, All, tabulate}
 use Rattle.meaning.specs.facts.Tests.{clash, and-both}
 
 abbrev pub nth : {A : Type 0} → List A → ℕ → Option A
@@ -83,10 +83,46 @@ pub all-append : {A : Type 0} (P : A → Type 0) (xs ys : List A) → All P xs �
 all-append P [] ys h k = k
 all-append P (x ∷ xs) ys h k = (h .0, all-append P xs ys (h .1) k)
 
+pub all-parts : {A : Type 0} (P : A → Type 0) (xs ys : List A) → All P (xs ++ ys) → All P xs × All P ys
+all-parts P [] ys h = (tt, h)
+all-parts P (x ∷ xs) ys h = let z = all-parts P xs ys (h .1) in ((h .0, z .0), z .1)
+
 pub all-at : {A : Type 0} (P : A → Type 0) (d : A) (xs : List A) → All P xs → (k : ℕ) → k < length xs → P (getD xs k d)
 all-at P d [] h k l = absurd (omega arith)
 all-at P d (x ∷ xs) h zero l = h .0
 all-at P d (x ∷ xs) h (suc k) l = all-at P d xs (h .1) k (omega arith)
+
+pub all-getD : {A : Type 0} (P : A → Type 0) (d : A) → P d → (xs : List A) → All P xs → (k : ℕ) → P (getD xs k d)
+all-getD P d z [] h k = z
+all-getD P d z (x ∷ xs) h zero = h .0
+all-getD P d z (x ∷ xs) h (suc k) = all-getD P d z xs (h .1) k
+
+pub all-mapped : {A B : Type 0} (f : A → B) (P : A → Type 0) (Q : B → Type 0) → ((x : A) → P x → Q (f x)) → (xs : List A) → All P xs
+    → All Q (map f xs)
+all-mapped f P Q q [] h = tt
+all-mapped f P Q q (x ∷ xs) h = (q x (h .0), all-mapped f P Q q xs (h .1))
+
+pub all-filter : {A : Type 0} (P : A → Type 0) (p : A → Bool) (xs : List A) → All P xs → All P (filter p xs)
+all-filter P p [] h = tt
+all-filter P p (x ∷ xs) h = go (p x) (all-filter P p xs (h .1))
+  where
+    go : (b : Bool) → All P (filter p xs) → All P (pick b (x ∷ filter p xs) (filter p xs))
+    go true k = (h .0, k)
+    go false k = k
+
+pub all-take : {A : Type 0} (P : A → Type 0) (n : ℕ) (xs : List A) → All P xs → All P (take n xs)
+all-take P zero xs h = tt
+all-take P (suc n) [] h = tt
+all-take P (suc n) (x ∷ xs) h = (h .0, all-take P n xs (h .1))
+
+pub all-set : {A : Type 0} (P : A → Type 0) (xs : List A) → All P xs → (k : ℕ) (x : A) → P x → All P (set xs k x)
+all-set P [] h k x p = tt
+all-set P (y ∷ xs) h zero x p = (p, h .1)
+all-set P (y ∷ xs) h (suc k) x p = (h .0, all-set P xs (h .1) k x p)
+
+pub all-replicate : {A : Type 0} (P : A → Type 0) (x : A) → P x → (n : ℕ) → All P (replicate n x)
+all-replicate P x p zero = tt
+all-replicate P x p (suc n) = (p, all-replicate P x p n)
 
 -- ---- a table of a function
 pub length-tabulate : (n : ℕ) (f : ℕ → ℕ) → length (tabulate n f) ≡ n
@@ -118,7 +154,8 @@ pub extends-refl : {A : Type 0} (a : List A) → Extends a a
 extends-refl a = extends-same refl
 
 pub extends-then : {A : Type 0} {a b c : List A} → Extends a b → Extends b c → Extends a c
-extends-then {a} p q = record { more = p .more ++ q .more; whole = q .whole ∙ ap (λ l. l ++ q .more) (p .whole) ∙ append-assoc a (p .more) (q .more) }
+extends-then {a} p q =
+    record { more = p .more ++ q .more; whole = q .whole ∙ ap (λ l. l ++ q .more) (p .whole) ∙ append-assoc a (p .more) (q .more) }
 
 -- ---- equal lists of numbers, by a test that computes to one bit
 abbrev pub same-numbers : List ℕ → List ℕ → Bool

@@ -1,0 +1,7 @@
+pub mod Named
+pub mod NamedSteps
+pub mod NamedSelects
+pub mod NamedClaims
+pub mod NamedAnswer
+pub mod ValidNamed
+pub mod ShownApart
