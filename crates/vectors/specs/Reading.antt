@@ -55,6 +55,11 @@ reading-of r text = record { text = take (r .size) text; fresh = r .fresh; tally
 abbrev pub at-start : Reader
 at-start = record { size = 0; fresh = false; tally = record { agree = 0; differ = 0 } }
 
+-- More bytes of a list, from `before` to `after`.
+pub record Reads (agrees : List ℕ → Bool) (r : Reader) (bs before after : List ℕ) (next : Reader) : Type 0 where
+  pub reads : reading-of next after ≡ read-bytes agrees (reading-of r before) bs
+  pub within : next .size ≤ 65536
+
 pub record Keeps (r : Reader) (b : ℕ) (before after : List ℕ) (next : Reader) : Type 0 where
   pub reads : reading-of next after ≡ keep-byte (reading-of r before) b
   pub within : r .size ≤ 65536 → next .size ≤ 65536
