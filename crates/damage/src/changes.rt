@@ -74,7 +74,12 @@ pub fn bits(
 }
 
 // Each length up to the whole.
-pub fn lengths(bytes: &[u8], answers: &[u8], words: &mut [u16; WORDS], out: &mut [u8; TEXT]) -> Tally
+pub fn lengths(
+    bytes: &[u8],
+    answers: &[u8],
+    words: &mut [u16; WORDS],
+    out: &mut [u8; TEXT],
+) -> Tally
     ensures { λ t. ⌜ t ≡ tally-of (length-right (now (bytes .entry)) (now (answers .entry))) (length (now (bytes .entry)) + 1) ⌝ }
 {
     let mut t = Tally {

@@ -15,7 +15,13 @@ use vectors::TEXT;
 use vectors::Tally;
 
 // Whether what is shown of a store, the first bytes of an array, is the listed text.
-fn is_shown(bytes: &[u8], size: usize, listed: &[u8], words: &mut [u16; WORDS], out: &mut [u8]) -> bool
+fn is_shown(
+    bytes: &[u8],
+    size: usize,
+    listed: &[u8],
+    words: &mut [u16; WORDS],
+    out: &mut [u8],
+) -> bool
     requires { ⌜ (size ≤ length (now bytes)) × (length (now out) ≡ 65536) ⌝ }
     ensures { λ r. ⌜ r ≡ is-shown (take size (now (bytes .entry))) (now (listed .entry)) ⌝ }
 {

@@ -97,10 +97,10 @@ module _ (digits bytes : List ℕ) (n : ℕ) (sofar : take n bytes ++ hex-bytes 
       let two : suc (2 * n + 1) ≡ 2 * (n + 1) = omega arith in
       let one : suc (2 * n) ≡ 2 * n + 1 = omega arith in
       let pair : drop (2 * n) digits ≡ a ∷ b ∷ drop (2 * (n + 1)) digits =
-          drop-cons digits (2 * n) 0 (omega arith)
-          ∙ ap (λ j. a ∷ drop j digits) one
-          ∙ ap (λ l. a ∷ l) (drop-cons digits (2 * n + 1) 0 h)
-          ∙ ap (λ j. a ∷ b ∷ drop j digits) two in
+      drop-cons digits (2 * n) 0 (omega arith)
+      ∙ ap (λ j. a ∷ drop j digits) one
+      ∙ ap (λ l. a ∷ l) (drop-cons digits (2 * n + 1) 0 h)
+      ∙ ap (λ j. a ∷ b ∷ drop j digits) two in
       let now : take (n + 1) (set bytes n x) ≡ take n bytes ++ (x ∷ []) = ap (λ j. take j (set bytes n x)) (add-one n) ∙ take-suc-set bytes n x k in
       ap (λ l. l ++ hex-bytes (drop (2 * (n + 1)) digits)) now
       ∙ append-snoc (take n bytes) x _
