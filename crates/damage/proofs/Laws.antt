@@ -32,7 +32,8 @@ module _ (text : List ℕ) (sum i : ℕ) (sofar : sum-from sum (drop i text) ≡
       ∙ ap (sum-from sum) (sym (drop-cons text i 0 h))
       ∙ sofar
 
-pub summed-shown : {text after : List ℕ} {n r : ℕ} → InFront text after n → r ≡ sum-from 0 (take (n - 0) (drop 0 after)) → r ≡ sum-from 0 text
+pub summed-shown : {text after : List ℕ} {n r : ℕ} → InFront text after n → r ≡ sum-from 0 (take (n - 0) (drop 0 after))
+    → r ≡ sum-from 0 text
 summed-shown {after = after} {n} front is = is ∙ ap (sum-from 0) (from-start n after ∙ front .is)
 
 module _ (s old new : List ℕ) where
@@ -56,7 +57,8 @@ module _ (s old new : List ℕ) where
       rw (taken .is) (cc)
 
 -- One question's answer, compared.
-pub listed-right : (s answers : List ℕ) (k : ℕ) {t : List ℕ} {a : Answer} {r : Bool} → a ≡ brief (accept t) → t ≡ s → r ≡ is-listed a answers k
+pub listed-right : (s answers : List ℕ) (k : ℕ) {t : List ℕ} {a : Answer} {r : Bool} → a ≡ brief (accept t) → t ≡ s
+    → r ≡ is-listed a answers k
     → r ≡ right s answers k
 listed-right s answers k is same told = told ∙ ap (λ x. is-listed x answers k) (is ∙ ap (λ x. brief (accept x)) same)
 

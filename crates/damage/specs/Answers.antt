@@ -21,7 +21,8 @@ brief (accepted g) = record { number = 0; word = sum-from 0 (listing-of g) }
 
 -- The two bytes at place k of the list.
 abbrev pub is-listed : Answer → List ℕ → ℕ → Bool
-is-listed a answers k = ltb k (length answers / 2) && (eqb (getD answers (2 * k) 0) (a .number) && eqb (getD answers (2 * k + 1) 0) (a .word))
+is-listed a answers k =
+    ltb k (length answers / 2) && (eqb (getD answers (2 * k) 0) (a .number) && eqb (getD answers (2 * k + 1) 0) (a .word))
 
 -- Whether the answer to a store is the one at place k.
 abbrev pub right : List ℕ → List ℕ → ℕ → Bool

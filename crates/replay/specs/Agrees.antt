@@ -23,7 +23,8 @@ agrees v = ltb (length v) 65536 && is-shown (store-of v) (answer-of v)
 pub too-long : (v : List ℕ) → 65536 ≤ length v → false ≡ agrees v
 too-long v h = rw (agrees, le-ltb (length v) 65536 h)
 
-pub kept-whole : (v : List ℕ) → length v < 65536 → {s l : List ℕ} → s ≡ store-of v → l ≡ answer-of v → {r : Bool} → r ≡ is-shown s l → r ≡ agrees v
+pub kept-whole : (v : List ℕ) → length v < 65536 → {s l : List ℕ} → s ≡ store-of v → l ≡ answer-of v
+    → {r : Bool} → r ≡ is-shown s l → r ≡ agrees v
 kept-whole v h {s} {l} p q is =
     is ∙ ap (λ x. is-shown x l) p ∙ ap (is-shown (store-of v)) q ∙ rw (agrees, lt-ltb (length v) 65536 h)
 

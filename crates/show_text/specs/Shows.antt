@@ -62,14 +62,15 @@ pub record InFront (text after : List ℕ) (n : ℕ) : Type 0 where
   pub within : n ≤ length after
   pub is : take n after ≡ text
 
-pub shown-front : {s old new before after : List ℕ} {r : Written} {n : ℕ} → Shows s old new before after r → 65536 ≤ length before → r ≡ Bytes n
-    → InFront (shown-text (accept s)) after n
+pub shown-front : {s old new before after : List ℕ} {r : Written} {n : ℕ} → Shows s old new before after r
+    → 65536 ≤ length before → r ≡ Bytes n → InFront (shown-text (accept s)) after n
 shown-front {s} {before = before} {after} {r} {n} x l is =
     let text = shown-text (accept s) in
     let whole = x .fits l in
     let size : n ≡ length text = cc in
     let fits : length text ≤ length before = by-answer (leb (length text) (length before)) refl in
-    let parts : after ≡ text ++ drop (length text) before = x .text .bytes ∙ ap (λ t. t ++ drop (length text) before) (take-all (length before) text fits) in
+    let parts : after ≡ text ++ drop (length text) before =
+    x .text .bytes ∙ ap (λ t. t ++ drop (length text) before) (take-all (length before) text fits) in
     record {
       within = rw (size, parts) (simp length-append (omega arith));
       is = ap (λ a. take n a) parts ∙ take-at text _ n (sym size);

@@ -62,7 +62,8 @@ pub record Parted (v rest : List ℕ) (end : ℕ) : Type 0 where
   pub store : hex-bytes (take end rest) ≡ store-of v
   pub answer : take (length rest - end) (drop end rest) ≡ answer-of v
 
-pub parted : (v : List ℕ) {at end : ℕ} → at ≡ behind 32 v → end ≡ behind 10 (take (length v - at) (drop at v)) → Parted v (take (length v - at) (drop at v)) end
+pub parted : (v : List ℕ) {at end : ℕ} → at ≡ behind 32 v → end ≡ behind 10 (take (length v - at) (drop at v))
+    → Parted v (take (length v - at) (drop at v)) end
 unfolding line-and-answer store-of answer-of
 parted v {at} {end} p q =
     let is : take (length v - at) (drop at v) ≡ line-and-answer v = to-end at v ∙ ap (λ k. drop k v) p in
@@ -88,7 +89,8 @@ module _ (digits bytes : List ℕ) (n : ℕ) (sofar : take n bytes ++ hex-bytes 
       let none = hex-none (drop (2 * n) digits) (omega (arith, length-drop (2 * n) digits)) in
       sym (append-nil (take n bytes)) ∙ ap (λ l. take n bytes ++ l) (sym none) ∙ sofar
 
-  pub decoded-more : 2 * n + 1 < length digits → n < length bytes → (x : ℕ) → x ≡ hex-byte (getD digits (2 * n) 0) (getD digits (2 * n + 1) 0)
+  pub decoded-more : 2 * n + 1 < length digits → n < length bytes → (x : ℕ)
+      → x ≡ hex-byte (getD digits (2 * n) 0) (getD digits (2 * n + 1) 0)
       → take (n + 1) (set bytes n x) ++ hex-bytes (drop (2 * (n + 1)) digits) ≡ hex-bytes digits
   unfolding hex-bytes
   decoded-more h k x is =
@@ -101,7 +103,8 @@ module _ (digits bytes : List ℕ) (n : ℕ) (sofar : take n bytes ++ hex-bytes 
       ∙ ap (λ j. a ∷ drop j digits) one
       ∙ ap (λ l. a ∷ l) (drop-cons digits (2 * n + 1) 0 h)
       ∙ ap (λ j. a ∷ b ∷ drop j digits) two in
-      let now : take (n + 1) (set bytes n x) ≡ take n bytes ++ (x ∷ []) = ap (λ j. take j (set bytes n x)) (add-one n) ∙ take-suc-set bytes n x k in
+      let now : take (n + 1) (set bytes n x) ≡ take n bytes ++ (x ∷ []) =
+      ap (λ j. take j (set bytes n x)) (add-one n) ∙ take-suc-set bytes n x k in
       ap (λ l. l ++ hex-bytes (drop (2 * (n + 1)) digits)) now
       ∙ append-snoc (take n bytes) x _
       ∙ ap (λ y. take n bytes ++ (y ∷ hex-bytes (drop (2 * (n + 1)) digits))) is
@@ -120,7 +123,8 @@ module _ (text : List ℕ) (size b : ℕ) (l : length text ≡ 65536) where
 
 -- ---- one more byte of a list
 module _ (agrees : List ℕ → Bool) {r : Reader} {before : List ℕ} where
-  pub ended : {b : ℕ} → ends-at (r .fresh) b ≡ true → {a : Bool} → a ≡ agrees (take (r .size) before) → {next : Reader} → next ≡ counted-of r a
+  pub ended : {b : ℕ} → ends-at (r .fresh) b ≡ true → {a : Bool} → a ≡ agrees (take (r .size) before)
+      → {next : Reader} → next ≡ counted-of r a
       → (after : List ℕ) → Reads agrees r (b ∷ []) before after next
   unfolding read-byte read-bytes
   ended e is same after =
@@ -132,8 +136,10 @@ module _ (agrees : List ℕ → Bool) {r : Reader} {before : List ℕ} where
   kept e small k = record { reads = k .reads ∙ rw (read-byte, e); within = k .within small }
 
   -- the byte at place i, of a list that is read from there on
-  pub read-next : (bs : List ℕ) (i : ℕ) → i < length bs → {after : List ℕ} {next : Reader} → Reads agrees r (getD bs i 0 ∷ []) before after next
-      → {all : Reading} → read-bytes agrees (reading-of r before) (drop i bs) ≡ all → read-bytes agrees (reading-of next after) (drop (i + 1) bs) ≡ all
+  pub read-next : (bs : List ℕ) (i : ℕ) → i < length bs → {after : List ℕ} {next : Reader}
+      → Reads agrees r (getD bs i 0 ∷ []) before after next
+      → {all : Reading} → read-bytes agrees (reading-of r before) (drop i bs) ≡ all
+      → read-bytes agrees (reading-of next after) (drop (i + 1) bs) ≡ all
   unfolding read-bytes
   read-next bs i h {after} {next} k is =
       ap (λ x. read-bytes agrees x (drop (i + 1) bs)) (k .reads)

@@ -42,7 +42,8 @@ read-bytes agrees r [] = r
 read-bytes agrees r (b ∷ bs) = read-bytes agrees (read-byte agrees r b) bs
 
 -- A list that is read in two pieces is read whole.
-pub in-pieces : (agrees : List ℕ → Bool) (r : Reading) (xs ys : List ℕ) → read-bytes agrees r (xs ++ ys) ≡ read-bytes agrees (read-bytes agrees r xs) ys
+pub in-pieces : (agrees : List ℕ → Bool) (r : Reading) (xs ys : List ℕ)
+    → read-bytes agrees r (xs ++ ys) ≡ read-bytes agrees (read-bytes agrees r xs) ys
 unfolding read-bytes
 in-pieces agrees r [] ys = refl
 in-pieces agrees r (x ∷ xs) ys = in-pieces agrees (read-byte agrees r x) xs ys

@@ -23,4 +23,5 @@ tally-of agrees (suc n) = told-of (tally-of agrees n) (agrees n)
 pub tally-next : (agrees : ℕ → Bool) (n : ℕ) → {t next : Tally} → t ≡ tally-of agrees n → {a : Bool} → a ≡ agrees n → next ≡ told-of t a
     → next ≡ tally-of agrees (n + 1)
 unfolding tally-of
-tally-next agrees n {t} before {a} is same = same ∙ ap (λ x. told-of x a) before ∙ ap (told-of (tally-of agrees n)) is ∙ ap (tally-of agrees) (sym (add-one n))
+tally-next agrees n {t} before {a} is same =
+    same ∙ ap (λ x. told-of x a) before ∙ ap (told-of (tally-of agrees n)) is ∙ ap (tally-of agrees) (sym (add-one n))

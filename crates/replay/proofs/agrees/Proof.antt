@@ -24,7 +24,9 @@ sub-rest : tie.Need-sub-rest
 sub-rest c = rw (c .behind .ensures) (behind-within _ _)
 
 part-rest-start : tie.Need-part-rest-start
-part-rest-start c = omega (arith, c .behind .ensures, behind-within 32 (take (c .before .before .before .before .args .size) (c .before .before .before .before .args .text .now)))
+part-rest-start c =
+    let start = c .before .before .before .before in
+    omega (arith, c .behind .ensures, behind-within 32 (take (start .args .size) (start .args .text .now)))
 
 part-rest-end : tie.Need-part-rest-end
 part-rest-end c = search needs
@@ -33,18 +35,29 @@ behind-requires-2 : tie.Need-behind-requires-2
 behind-requires-2 c κs = search needs
 
 slice-aggregate-decode : tie.Need-slice-aggregate-decode
-slice-aggregate-decode c = sym (length-take-le _ _ (parted _ (c .before .before .before .behind .ensures) (c .before .behind2 .ensures) .within))
+slice-aggregate-decode c =
+    let at-behind = c .before .before .before in
+    sym (length-take-le _ _ (parted _ (at-behind .behind .ensures) (c .before .behind2 .ensures) .within))
 
 decode-requires : tie.Need-decode-requires
 decode-requires c κs =
-    let size = length-take-le (c .before .before .before .before .before .before .before .before .args .size) (c .before .before .before .before .before .before .before .before .args .text .now) (c .before .before .before .before .before .before .before .before .pre) in
-    omega (arith, parted _ (c .before .before .before .before .behind .ensures) (c .before .before .behind2 .ensures) .line)
+    let at-behind2 = c .before .before in
+    let at-behind = at-behind2 .before .before in
+    let start = at-behind .before .before .before .before in
+    let size = length-take-le (start .args .size) (start .args .text .now) (start .pre) in
+    omega (arith, parted _ (at-behind .behind .ensures) (at-behind2 .behind2 .ensures) .line)
 
 sub-is-shown : tie.Need-sub-is-shown
-sub-is-shown c = parted _ (c .before .before .before .before .before .before .before .behind .ensures) (c .before .before .before .before .before .behind2 .ensures) .within
+sub-is-shown c =
+    let at-behind2 = c .before .before .before .before .before in
+    let at-behind = at-behind2 .before .before in
+    parted _ (at-behind .behind .ensures) (at-behind2 .behind2 .ensures) .within
 
 part-is-shown-start : tie.Need-part-is-shown-start
-part-is-shown-start c = omega (arith, parted _ (c .before .before .before .before .before .before .before .behind .ensures) (c .before .before .before .before .before .behind2 .ensures) .within)
+part-is-shown-start c =
+    let at-behind2 = c .before .before .before .before .before in
+    let at-behind = at-behind2 .before .before in
+    omega (arith, parted _ (at-behind .behind .ensures) (at-behind2 .behind2 .ensures) .within)
 
 part-is-shown-end : tie.Need-part-is-shown-end
 part-is-shown-end c = search needs
@@ -54,10 +67,14 @@ is-shown-requires c κs = search needs
 
 returns-2 : tie.Need-returns-2
 returns-2 c =
-    let v = take (c .before .before .before .before .before .before .before .before .before .before .before .before .before .before .before .args .size) (c .before .before .before .before .before .before .before .before .before .before .before .before .before .before .before .args .text .now) in
-    let size : length v ≡ c .before .before .before .before .before .before .before .before .before .before .before .before .before .before .before .args .size = length-take-le _ _ (c .before .before .before .before .before .before .before .before .before .before .before .before .before .before .before .pre) in
-    let p = parted v (c .before .before .before .before .before .before .before .before .before .before .before .behind .ensures) (c .before .before .before .before .before .before .before .before .before .behind2 .ensures) in
-    kept-whole v (omega arith) (c .before .before .before .before .before .before .decode .ensures .bytes ∙ p .store) (p .answer) (c .is-shown .ensures)
+    let at-decode = c .before .before .before .before .before .before in
+    let at-behind2 = at-decode .before .before .before in
+    let at-behind = at-behind2 .before .before in
+    let start = at-behind .before .before .before .before in
+    let v = take (start .args .size) (start .args .text .now) in
+    let size : length v ≡ start .args .size = length-take-le _ _ (start .pre) in
+    let p = parted v (at-behind .behind .ensures) (at-behind2 .behind2 .ensures) in
+    kept-whole v (omega arith) (at-decode .decode .ensures .bytes ∙ p .store) (p .answer) (c .is-shown .ensures)
 
 pub agrees-spec : {M : Type 1} → statement M
 agrees-spec =

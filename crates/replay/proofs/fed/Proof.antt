@@ -15,13 +15,20 @@ counted-requires : tie.Need-counted-requires
 counted-requires c κs = search needs
 
 returns : tie.Need-returns
-returns c = ended agrees (sym (c .before .before .before .before .before .before .before .before .ends .ensures) ∙ c .before .before .before .before .before .before .before .if1 .taken) (c .before .agrees .ensures) (c .counted .ensures) _
+returns c =
+    let at-if1 = c .before .before .before .before .before .before .before in
+    let at-ends = at-if1 .before in
+    ended agrees (sym (at-ends .ends .ensures) ∙ at-if1 .if1 .taken) (c .before .agrees .ensures) (c .counted .ensures) _
 
 keep-requires : tie.Need-keep-requires
 keep-requires c κs = search needs
 
 returns-2 : tie.Need-returns-2
-returns-2 c = kept agrees (sym (c .before .before .before .ends .ensures) ∙ c .before .before .if1 .left) (c .before .before .before .before .pre) (c .keep .ensures)
+returns-2 c =
+    let at-if1 = c .before .before in
+    let at-ends = at-if1 .before in
+    let start = at-ends .before in
+    kept agrees (sym (at-ends .ends .ensures) ∙ at-if1 .if1 .left) (start .pre) (c .keep .ensures)
 
 pub fed-spec : {M : Type 1} → statement M
 fed-spec =

@@ -12,7 +12,8 @@ use Rattle.replay.proofs.fed_all.Tie as tie
 abbrev Inv-loop : tie.InvT-loop
 Inv-loop chunk text₀ bytes₀ words₀ out₀ reader₀ i₀ text bytes words out reader i =
     (i ≤ length chunk)
-    × ((reader .size ≤ 65536) × (read-bytes agrees (reading-of reader text) (drop i chunk) ≡ read-bytes agrees (reading-of reader₀ text₀) chunk))
+    × ((reader .size ≤ 65536)
+    × (read-bytes agrees (reading-of reader text) (drop i chunk) ≡ read-bytes agrees (reading-of reader₀ text₀) chunk))
 
 abbrev μ-loop : tie.MeasureT-loop
 μ-loop chunk text₀ bytes₀ words₀ out₀ reader₀ i₀ text bytes words out reader i = length chunk - i
@@ -34,7 +35,10 @@ loop-less c = search needs
 
 loop-again : tie.Need-loop-again Inv-loop μ-loop
 loop-again c =
-    (omega arith, (c .fed .ensures .within, read-next agrees _ _ (c .before .before .before .before .before .before .loop-test .taken) (c .fed .ensures) (c .before .before .before .before .before .before .before .loop .inv .1 .1)))
+    let at-loop-test = c .before .before .before .before .before .before in
+    let at-loop = at-loop-test .before in
+    let rest = read-next agrees _ _ (at-loop-test .loop-test .taken) (c .fed .ensures) (at-loop .loop .inv .1 .1) in
+    (omega arith, (c .fed .ensures .within, rest))
 
 returns : tie.Need-returns Inv-loop μ-loop
 unfolding read-bytes

@@ -23,7 +23,10 @@ same-length : tie.Need-same-length
 same-length c = search needs
 
 returns : tie.Need-returns
-returns c = absurd (never-full (c .before .before .before .before .show .ensures) (let room = c .before .before .before .before .before .before .before .before .before .before .before .pre .1 in omega arith) (c .enum-told .given .1))
+returns c =
+    let at-show = c .before .before .before .before in
+    let start = at-show .before .before .before .before .before .before .before in
+    absurd (never-full (at-show .show .ensures) (let room = start .pre .1 in omega arith) (c .enum-told .given .1))
 
 sub-same : tie.Need-sub-same
 sub-same c = search needs
@@ -32,7 +35,11 @@ part-same-start : tie.Need-part-same-start
 part-same-start c = search needs
 
 part-same-end : tie.Need-part-same-end
-part-same-end c = omega (arith, shown-front (c .before .before .before .before .before .before .show .ensures) (let room = c .before .before .before .before .before .before .before .before .before .before .before .before .before .pre .1 in omega arith) (c .before .before .written .given .1) .within)
+part-same-end c =
+    let at-written = c .before .before in
+    let at-show = at-written .before .before .before .before in
+    let start = at-show .before .before .before .before .before .before .before in
+    omega (arith, shown-front (at-show .show .ensures) (let room = start .pre .1 in omega arith) (at-written .written .given .1) .within)
 
 same-requires : tie.Need-same-requires
 same-requires c κs = search needs
@@ -41,7 +48,12 @@ same-length-2 : tie.Need-same-length-2
 same-length-2 c = search needs
 
 returns-2 : tie.Need-returns-2
-returns-2 c = as-shown (shown-front (c .before .before .before .before .before .before .before .before .show .ensures) (let room = c .before .before .before .before .before .before .before .before .before .before .before .before .before .before .before .pre .1 in omega arith) (c .before .before .before .before .written .given .1)) (c .same .ensures)
+returns-2 c =
+    let at-written = c .before .before .before .before in
+    let at-show = at-written .before .before .before .before in
+    let start = at-show .before .before .before .before .before .before .before in
+    let front = shown-front (at-show .show .ensures) (let room = start .pre .1 in omega arith) (at-written .written .given .1) in
+    as-shown front (c .same .ensures)
 
 pub is-shown-spec : {M : Type 1} → statement M
 is-shown-spec =

@@ -57,11 +57,15 @@ loop-less c = search needs
 
 loop-again : tie.Need-loop-again Inv-loop μ-loop
 loop-again c =
-    let known = c .before .before .before .before .loop .inv in
-    (omega arith, (simp length-set (known .1 .0), decoded-more _ _ _ (known .1 .1) (c .before .before .before .loop-test .taken) (omega arith) _ (c .byte .ensures)))
+    let at-loop-test = c .before .before .before in
+    let at-loop = at-loop-test .before in
+    let known = at-loop .loop .inv in
+    let more = decoded-more _ _ _ (known .1 .1) (at-loop-test .loop-test .taken) (omega arith) _ (c .byte .ensures) in
+    (omega arith, (simp length-set (known .1 .0), more))
 
 returns : tie.Need-returns Inv-loop μ-loop
-returns c = let known = c .before .loop .inv in record { within = omega arith; bytes = decoded-all _ _ _ (known .1 .1) (c .loop-test .left) }
+returns c =
+    let known = c .before .loop .inv in record { within = omega arith; bytes = decoded-all _ _ _ (known .1 .1) (c .loop-test .left) }
 
 pub decode-spec : {M : Type 1} → statement M
 decode-spec =

@@ -14,10 +14,16 @@ add-t13 : tie.Need-add-t13
 add-t13 c = search needs
 
 returns : tie.Need-returns
-returns c = record { reads = rw (kept-more _ _ (c .before .before .before .before .before .args .b) (c .before .before .before .span-arg2 .given .0) (c .if1 .taken)); within = λ h. omega arith }
+returns c =
+    let at-span-arg2 = c .before .before .before in
+    let start = at-span-arg2 .before .before in
+    record { reads = rw (kept-more _ _ (start .args .b) (at-span-arg2 .span-arg2 .given .0) (c .if1 .taken)); within = λ h. omega arith }
 
 returns-2 : tie.Need-returns-2
-returns-2 c = record { reads = rw (kept-full _ _ (c .before .before .before .before .before .args .b) (c .before .before .before .span-arg2 .given .0) (c .if1 .left)); within = λ h. h }
+returns-2 c =
+    let at-span-arg2 = c .before .before .before in
+    let start = at-span-arg2 .before .before in
+    record { reads = rw (kept-full _ _ (start .args .b) (at-span-arg2 .span-arg2 .given .0) (c .if1 .left)); within = λ h. h }
 
 pub keep-spec : {M : Type 1} → statement M
 keep-spec = tie.close (tie.spec span-requires element-write-text add-t13 returns returns-2)

@@ -21,7 +21,10 @@ low-requires-2 : tie.Need-low-requires-2
 low-requires-2 c κs = search needs
 
 returns : tie.Need-returns
-returns c = of-refusal _ _ _ (rw (c .before .before .before .verdict .given .1) at (c .before .before .before .before .before .accept .ensures)) (c .before .low .ensures) (c .low2 .ensures)
+returns c =
+    let at-verdict = c .before .before .before in
+    let at-accept = at-verdict .before .before in
+    of-refusal _ _ _ (rw (at-verdict .verdict .given .1) at (at-accept .accept .ensures)) (c .before .low .ensures) (c .low2 .ensures)
 
 enum-told : tie.Need-enum-told
 enum-told c = search needs
@@ -33,7 +36,11 @@ same-length : tie.Need-same-length
 same-length c = search needs
 
 returns-2 : tie.Need-returns-2
-returns-2 c = of-record _ _ _ (rw (c .before .before .before .before .before .enum-told .given .1) at (c .before .before .before .before .before .before .before .accept .ensures)) (c .before .before .shown-sum .ensures)
+returns-2 c =
+    let at-shown-sum = c .before .before in
+    let at-enum-told = at-shown-sum .before .before .before in
+    let at-accept = at-enum-told .before .before in
+    of-record _ _ _ (rw (at-enum-told .enum-told .given .1) at (at-accept .accept .ensures)) (at-shown-sum .shown-sum .ensures)
 
 pub answer-of-spec : {M : Type 1} → statement M
 answer-of-spec =

@@ -18,7 +18,10 @@ same-length : tie.Need-same-length
 same-length c = search needs
 
 returns : tie.Need-returns
-returns c = absurd (never-full (c .before .before .before .before .show .ensures) (let room = c .before .before .before .before .before .before .before .before .before .pre in omega arith) (c .enum-told .given .1))
+returns c =
+    let at-show = c .before .before .before .before in
+    let start = at-show .before .before .before .before .before in
+    absurd (never-full (at-show .show .ensures) (let room = start .pre in omega arith) (c .enum-told .given .1))
 
 sub-sum-of : tie.Need-sub-sum-of
 sub-sum-of c = search needs
@@ -27,7 +30,11 @@ part-sum-of-start : tie.Need-part-sum-of-start
 part-sum-of-start c = search needs
 
 part-sum-of-end : tie.Need-part-sum-of-end
-part-sum-of-end c = omega (arith, shown-front (c .before .before .before .before .before .before .show .ensures) (let room = c .before .before .before .before .before .before .before .before .before .before .before .pre in omega arith) (c .before .before .written .given .1) .within)
+part-sum-of-end c =
+    let at-written = c .before .before in
+    let at-show = at-written .before .before .before .before in
+    let start = at-show .before .before .before .before .before in
+    omega (arith, shown-front (at-show .show .ensures) (let room = start .pre in omega arith) (at-written .written .given .1) .within)
 
 sum-of-requires : tie.Need-sum-of-requires
 sum-of-requires c κs = search needs
@@ -36,7 +43,12 @@ same-length-2 : tie.Need-same-length-2
 same-length-2 c = search needs
 
 returns-2 : tie.Need-returns-2
-returns-2 c = summed-shown (shown-front (c .before .before .before .before .before .before .before .before .show .ensures) (let room = c .before .before .before .before .before .before .before .before .before .before .before .before .before .pre in omega arith) (c .before .before .before .before .written .given .1)) (c .sum-of .ensures)
+returns-2 c =
+    let at-written = c .before .before .before .before in
+    let at-show = at-written .before .before .before .before in
+    let start = at-show .before .before .before .before .before in
+    let front = shown-front (at-show .show .ensures) (let room = start .pre in omega arith) (at-written .written .given .1) in
+    summed-shown front (c .sum-of .ensures)
 
 pub shown-sum-spec : {M : Type 1} → statement M
 shown-sum-spec =

@@ -48,16 +48,21 @@ loop-less c = search needs
 
 loop-again : tie.Need-loop-again Inv-loop μ-loop
 loop-again c =
-    let a = c .before .before .before .before .before .before .before .before .before .before .args in
-    let bit = c .before .before .before .before .before .before .before .before .loop .bit in
+    let at-answer-of = c .before .before in
+    let at-change = at-answer-of .before .before .before .before in
+    let at-loop = at-change .before .before in
+    let start = at-loop .before .before in
+    let a = start .args in
+    let bit = at-loop .loop .bit in
     let agrees = bit-right (a .right-check) (a .block) (a .answers .now) (a .from) in
     let back : a .from + (bit - a .from) ≡ bit = omega arith in
     let on : bit - a .from + 1 ≡ bit + 1 - a .from = omega arith in
-    let block = c .before .before .before .before .before .before .change .result in
+    let block = at-change .change .result in
     let size : 512 ≡ length block = search needs in
-    let store = take-all 512 block (omega arith) ∙ c .before .before .before .before .before .before .change .ensures ∙ ap (changed (a .right-check) (a .block)) (sym back) in
-    let is = listed-right _ (a .answers .now) (bit - a .from) (c .before .before .answer-of .ensures) store (c .before .is-listed .ensures) in
-    (omega arith, (omega arith, tally-next agrees (bit - a .from) (c .before .before .before .before .before .before .before .before .loop .inv .1 .1) is (c .told .ensures) ∙ ap (tally-of agrees) on))
+    let store = take-all 512 block (omega arith) ∙ at-change .change .ensures ∙ ap (changed (a .right-check) (a .block)) (sym back) in
+    let is = listed-right _ (a .answers .now) (bit - a .from) (at-answer-of .answer-of .ensures) store (c .before .is-listed .ensures) in
+    let next = tally-next agrees (bit - a .from) (at-loop .loop .inv .1 .1) is (c .told .ensures) in
+    (omega arith, (omega arith, next ∙ ap (tally-of agrees) on))
 
 returns : tie.Need-returns Inv-loop μ-loop
 returns c =

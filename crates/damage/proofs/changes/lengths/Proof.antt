@@ -36,9 +36,14 @@ loop-less c = search needs
 
 loop-again : tie.Need-loop-again Inv-loop μ-loop
 loop-again c =
-    let a = c .before .before .before .before .before .before .before .before .before .args in
-    let is = listed-right (take (c .before .before .before .before .before .before .loop .n) (a .bytes .now)) (a .answers .now) (c .before .before .before .before .before .before .loop .n) (c .before .before .answer-of .ensures) refl (c .before .is-listed .ensures) in
-    (omega arith, tally-next (length-right (a .bytes .now) (a .answers .now)) (c .before .before .before .before .before .before .loop .n) (c .before .before .before .before .before .before .loop .inv .1) is (c .told .ensures))
+    let at-answer-of = c .before .before in
+    let at-loop = at-answer-of .before .before .before .before in
+    let start = at-loop .before .before .before in
+    let a = start .args in
+    let n = at-loop .loop .n in
+    let store = take n (a .bytes .now) in
+    let is = listed-right store (a .answers .now) n (at-answer-of .answer-of .ensures) refl (c .before .is-listed .ensures) in
+    (omega arith, tally-next (length-right (a .bytes .now) (a .answers .now)) n (at-loop .loop .inv .1) is (c .told .ensures))
 
 returns : tie.Need-returns Inv-loop μ-loop
 returns c =
