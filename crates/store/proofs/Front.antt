@@ -6,6 +6,7 @@ use native.Mathlib.Omega.{arith}
 use lib.ListN.{length, getD, take, drop, List·getD-append}
 use lib.Seq.{take-at, drop-at}
 use Rattle.format.specs.Store.{accepted, store-words, tabulate, word-at}
+use Rattle.store.specs.Layout.{record-end}
 use Rattle.store.specs.Loaded.{words-after, Loads}
 use Rattle.store.specs.declared.Loaded.the-variants.{Words}
 use Rattle.store.proofs.Words.{length-tabulate}
@@ -14,7 +15,7 @@ use Rattle.store.proofs.Store.{holds}
 -- The store's words are the first w, w is among them as word 0, and the others are as lent.
 pub record Front (s before after : List ℕ) (w : ℕ) : Type 0 where
   pub words : store-words s ≡ accepted (take w after)
-  pub few : w ≤ 4048
+  pub few : w ≤ record-end
   pub first : getD after 0 0 ≡ w
   pub rest : drop w after ≡ drop w before
 

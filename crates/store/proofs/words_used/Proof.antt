@@ -1,7 +1,7 @@
 use mathlib.Core.Path.{sym, ap, _∙_}
 use borrow.Author.Needs.{needs}
 use Rattle.format.specs.Store.{accepted, count-right}
-use Rattle.store.specs.Loaded.{blocks-answered}
+use Rattle.store.specs.Loaded.{answered}
 use Rattle.store.proofs.Store.{length-zero, length-over, length-part, length-right-true, length-wrong, blocks-wrong, count-wrong, words-right}
 use Rattle.store.proofs.words_used.Statement.{statement}
 use Rattle.store.proofs.words_used.Tie as tie
@@ -25,7 +25,7 @@ returns-4 : tie.Need-returns-4
 returns-4 c =
     blocks-wrong (c .before .before .before .before .before .before .before .before .args .bytes .now) _ _
     (length-right-true _ (c .before .before .before .before .before .before .if1 .left) (c .before .before .before .before .before .if2 .left) (c .before .before .before .before .if3 .left))
-    (sym (ap blocks-answered (c .before .c .given .1)) ∙ c .before .before .before .blocks-checked .ensures)
+    (sym (ap answered (c .before .c .given .1)) ∙ c .before .before .before .blocks-checked .ensures)
 
 enum-told : tie.Need-enum-told
 enum-told c = search needs
@@ -40,14 +40,14 @@ returns-5 : tie.Need-returns-5
 returns-5 c =
     ap accepted (c .before .before .pair-at .ensures) ∙ words-right (c .before .before .before .before .before .before .before .before .before .before .args .bytes .now)
     (length-right-true _ (c .before .before .before .before .before .before .before .before .if1 .left) (c .before .before .before .before .before .before .before .if2 .left) (c .before .before .before .before .before .before .if3 .left))
-    (sym (ap blocks-answered (c .before .before .before .enum-told .given .1)) ∙ c .before .before .before .before .before .blocks-checked .ensures)
+    (sym (ap answered (c .before .before .before .enum-told .given .1)) ∙ c .before .before .before .before .before .blocks-checked .ensures)
     (sym (c .if4 .taken) ∙ c .before .count-right .ensures ∙ ap (count-right _ _) (c .before .before .pair-at .ensures))
 
 returns-6 : tie.Need-returns-6
 returns-6 c =
     count-wrong (c .before .before .before .before .before .before .before .before .before .before .args .bytes .now)
     (length-right-true _ (c .before .before .before .before .before .before .before .before .if1 .left) (c .before .before .before .before .before .before .before .if2 .left) (c .before .before .before .before .before .before .if3 .left))
-    (sym (ap blocks-answered (c .before .before .before .enum-told .given .1)) ∙ c .before .before .before .before .before .blocks-checked .ensures)
+    (sym (ap answered (c .before .before .before .enum-told .given .1)) ∙ c .before .before .before .before .before .blocks-checked .ensures)
     (sym (c .if4 .left) ∙ c .before .count-right .ensures ∙ ap (count-right _ _) (c .before .before .pair-at .ensures))
 
 pub words-used-spec : {M : Type 1} → statement M
