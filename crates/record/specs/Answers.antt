@@ -8,7 +8,7 @@ use Rattle.format.specs.Places.{next, after, blocks-of-region, block-of-region,
 use Rattle.reading.specs.Answers.{step-at}
 use Rattle.reading.specs.declared.words.Cursor.{Cursor}
 use Rattle.reading.specs.declared.words.Step.the-variants.{At}
-use Rattle.record.specs.RegionsForgotten.{ending-read}
+use Rattle.record.specs.Readings.{ending-read}
 use Rattle.record.specs.declared.regions.BlockPlaces.{BlockPlaces}
 use Rattle.record.specs.declared.regions.RegionPlaces.{RegionPlaces}
 

@@ -1,6 +1,6 @@
 -- The answer is that of `accept`, as a number.
 use borrow.Author.Needs.{needs}
-use Rattle.c_interface.specs.Exported.{record-exported, refusal-exported}
+use Rattle.c_interface.specs.laws.Exporting.{record-exported, refusal-exported}
 use Rattle.c_interface.proofs.rukvetta_accept.Statement.{statement}
 use Rattle.c_interface.proofs.rukvetta_accept.Tie as tie
 

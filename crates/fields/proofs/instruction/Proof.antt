@@ -1,7 +1,7 @@
 use borrow.Author.Needs.{needs}
 use Rattle.fields.proofs.instruction.Statement.{statement}
 use Rattle.fields.proofs.instruction.Tie as tie
-use Rattle.fields.specs.Instructions.{instruction-by, instruction-at}
+use Rattle.fields.specs.laws.Instructions.{instruction-by, instruction-at}
 
 instruction-place-requires : tie.Need-instruction-place-requires
 instruction-place-requires c κs = search needs

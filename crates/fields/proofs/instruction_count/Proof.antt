@@ -8,7 +8,7 @@ use lib.ListN.{length, drop}
 use Rattle.meaning.specs.Graph.{Graph, region}
 use Rattle.format.specs.References.{instructions}
 use Rattle.record.specs.Stands.{Stands}
-use Rattle.fields.specs.Numbered.{count-more, count-all}
+use Rattle.fields.specs.laws.Numbered.{count-more, count-all}
 
 abbrev Inv-loop : tie.InvT-loop
 Inv-loop w r n sum₀ b₀ sum b = (b ≤ n) × (sum ≤ 65535 * b) × ((g : Graph) → Stands w g → sum + length (instructions (drop b (region g r .blocks))) ≡ length (instructions (region g r .blocks)))

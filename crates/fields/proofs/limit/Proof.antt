@@ -2,8 +2,8 @@ use borrow.Author.Needs.{needs}
 use Rattle.fields.proofs.limit.Statement.{statement}
 use Rattle.fields.proofs.limit.Tie as tie
 use mathlib.Core.Path.{_∙_}
-use Rattle.fields.specs.Regions.{limit-is}
-use Rattle.fields.specs.Picks.{picked, passed-over, is-below, not-below}
+use Rattle.fields.specs.laws.Regions.{limit-is}
+use Rattle.fields.specs.laws.Picks.{picked, passed-over, is-below, not-below}
 
 word-at-requires : tie.Need-word-at-requires
 word-at-requires c κs = search needs

@@ -8,7 +8,7 @@ use lib.ListN.{getD, drop}
 use Rattle.meaning.specs.Graph.{Graph, region}
 use Rattle.format.specs.References.{instructions, no-instr, instr-type}
 use Rattle.record.specs.Stands.{Stands}
-use Rattle.fields.specs.Numbered.{this-block, later-block, no-block}
+use Rattle.fields.specs.laws.Numbered.{this-block, later-block, no-block}
 
 abbrev Inv-loop : tie.InvT-loop
 Inv-loop w r k n left₀ b₀ left b = (b ≤ n) × (left ≤ 65535) × ((g : Graph) → Stands w g → getD (instructions (drop b (region g r .blocks))) left no-instr .type ≡ instr-type (region g r) k)

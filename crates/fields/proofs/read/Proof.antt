@@ -2,8 +2,8 @@ use borrow.Author.Needs.{needs}
 use Rattle.fields.proofs.read.Statement.{statement}
 use Rattle.fields.proofs.read.Tie as tie
 use mathlib.Core.Path.{_∙_}
-use Rattle.fields.specs.Lists.{value-item-is}
-use Rattle.fields.specs.Instructions.{instruction-at}
+use Rattle.fields.specs.laws.Lists.{value-item-is}
+use Rattle.fields.specs.laws.Instructions.{instruction-at}
 
 instruction-place-requires : tie.Need-instruction-place-requires
 instruction-place-requires c κs = search needs

@@ -3,7 +3,7 @@ use Rattle.fields.proofs.terminator.Statement.{statement}
 use Rattle.fields.proofs.terminator.Tie as tie
 use mathlib.Core.Path.{refl, sym}
 use native.Mathlib.Omega.{arith}
-use Rattle.fields.specs.Terminators.{kind-by, terminator-by}
+use Rattle.fields.specs.laws.Terminators.{kind-by, terminator-by}
 use Rattle.fields.specs.declared.shape.Terminator.the-variants.{Unreachable, Return, ExitInvocation, Branch, SelectBool, SelectNumber}
 
 indexed-requires : tie.Need-indexed-requires

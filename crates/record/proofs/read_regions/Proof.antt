@@ -3,11 +3,10 @@ use mathlib.Core.Path.{_≡_, refl, sym, _∙_}
 use Prim.Native.Nat.{_-_}
 use native.Mathlib.Omega.{arith}
 use borrow.Author.Needs.{needs}
-use Rattle.reading.specs.AnswerSteps.{step-read}
-use Rattle.reading.specs.Forgotten.{taken-inside}
-use Rattle.record.specs.RegionsForgotten.{region-inside}
-use Rattle.record.specs.Index.{RegionsGoing}
-use Rattle.record.specs.IndexSteps.{regions-start, regions-next, regions-refused, regions-read, regions-left}
+use Rattle.reading.specs.laws.AnswerSteps.{step-read}
+use Rattle.reading.specs.laws.Forgotten.{taken-inside}
+use Rattle.record.specs.laws.RegionsForgotten.{region-inside}
+use Rattle.record.specs.laws.IndexSteps.{RegionsGoing, regions-start, regions-next, regions-refused, regions-read, regions-left}
 use Rattle.record.proofs.read_regions.Statement.{statement}
 use Rattle.record.proofs.read_regions.Tie as tie
 

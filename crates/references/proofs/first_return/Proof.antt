@@ -8,7 +8,7 @@ use lib.ListN.{drop}
 use Rattle.meaning.specs.Graph.{Graph}
 use Rattle.format.specs.References as format
 use Rattle.record.specs.Stands.{Stands}
-use Rattle.references.specs.Steps.{return-here, return-later, no-return}
+use Rattle.references.specs.laws.Steps.{return-here, return-later, no-return}
 
 abbrev Inv-loop : tie.InvT-loop
 Inv-loop w n q₀ q = (q ≤ n) × (q ≤ 65535) × ((g : Graph) → Stands w g → q + format.first-return (drop q (g .regions)) ≡ format.first-return (g .regions))

@@ -1,7 +1,7 @@
 use borrow.Author.Needs.{needs}
 use Rattle.references.proofs.named_of_type.Statement.{statement}
 use Rattle.references.proofs.named_of_type.Tie as tie
-use Rattle.references.specs.Steps.{not-typed, other-type, right-type}
+use Rattle.references.specs.laws.Steps.{not-typed, other-type, right-type}
 
 instruction-count-requires : tie.Need-instruction-count-requires
 instruction-count-requires c κs = search needs

@@ -8,8 +8,8 @@ use lib.ListN.{drop}
 use Rattle.meaning.specs.Graph.{Graph, region}
 use Rattle.format.specs.References as format
 use Rattle.record.specs.Stands.{Stands}
-use Rattle.references.specs.Answers.{references-answered}
-use Rattle.references.specs.Steps.{block-passes, block-stops, blocks-end}
+use Rattle.store.specs.Loaded.{answered}
+use Rattle.references.specs.laws.Steps.{block-passes, block-stops, blocks-end}
 
 abbrev Inv-loop : tie.InvT-loop
 Inv-loop w r n before₀ b₀ before b = (b ≤ n) × (before ≤ 65535 * b) × ((g : Graph) → Stands w g → format.reads-right g r before (format.instructions (drop b (region g r .blocks))) ≡ format.reads-right g r 0 (format.instructions (region g r .blocks)))
@@ -32,7 +32,7 @@ enum-known-c c = search needs
 returns : tie.Need-returns Inv-loop μ-loop
 returns c g s =
     block-stops g _ (region g (c .before .before .before .before .before .before .before .args .r) .blocks) (c .before .before .before .before .before .before .block-count .ensures g s) _ _ _ (c .before .before .before .before .loop-test .taken) (c .before .before .before .before .before .loop .inv .2 g s)
-    (sym (ap references-answered (c .before .c .given .1)) ∙ c .before .before .before .block-reads-right .ensures g s)
+    (sym (ap answered (c .before .c .given .1)) ∙ c .before .before .before .block-reads-right .ensures g s)
 
 enum-told : tie.Need-enum-told Inv-loop μ-loop
 enum-told c = search needs
@@ -59,7 +59,7 @@ loop-again c = (
   λ g s.
       rw (c .block-length .ensures g s)
       (block-passes g _ (region g (c .before .before .before .before .before .before .before .args .r) .blocks) (c .before .before .before .before .before .before .block-count .ensures g s) _ _ _ (c .before .before .before .before .loop-test .taken) (c .before .before .before .before .before .loop .inv .2 g s)
-      (sym (ap references-answered (c .before .enum-told .given .1)) ∙ c .before .before .before .block-reads-right .ensures g s)),
+      (sym (ap answered (c .before .enum-told .given .1)) ∙ c .before .before .before .block-reads-right .ensures g s)),
 )
 
 returns-2 : tie.Need-returns-2 Inv-loop μ-loop

@@ -4,9 +4,9 @@ use Rattle.references.proofs.region_right.Tie as tie
 use mathlib.Core.Path.{sym, ap, _∙_}
 use Rattle.meaning.specs.Graph.{region}
 use Rattle.format.specs.References as format
-use Rattle.references.specs.Answers.{references-answered}
-use Rattle.references.specs.Walk.{then-refused, then-rest}
-use Rattle.references.specs.Steps.{after-reads, after-values, after-targets, after-edges}
+use Rattle.store.specs.Loaded.{answered}
+use Rattle.references.specs.laws.Walk.{then-refused, then-rest}
+use Rattle.references.specs.laws.Steps.{after-reads, after-values, after-targets, after-edges}
 
 reads-right-requires : tie.Need-reads-right-requires
 reads-right-requires c κs = search needs
@@ -19,7 +19,7 @@ unfolding format.region-right
 returns c g s =
     let r = c .before .before .before .before .args .r in
     let x = region g r in
-    then-refused (after-reads g r x) (sym (ap references-answered (c .before .reads .given .1)) ∙ c .before .before .before .reads-right .ensures g s)
+    then-refused (after-reads g r x) (sym (ap answered (c .before .reads .given .1)) ∙ c .before .before .before .reads-right .ensures g s)
 
 enum-told : tie.Need-enum-told
 enum-told c = search needs
@@ -35,8 +35,8 @@ unfolding format.region-right
 returns-2 c g s =
     let r = c .before .before .before .before .before .before .before .args .r in
     let x = region g r in
-    then-refused (after-values g r x) (sym (ap references-answered (c .before .values .given .1)) ∙ c .before .before .before .values-right .ensures g s)
-    ∙ then-rest (after-reads g r x) (sym (ap references-answered (c .before .before .before .before .enum-told .given .1)) ∙ c .before .before .before .before .before .before .reads-right .ensures g s)
+    then-refused (after-values g r x) (sym (ap answered (c .before .values .given .1)) ∙ c .before .before .before .values-right .ensures g s)
+    ∙ then-rest (after-reads g r x) (sym (ap answered (c .before .before .before .before .enum-told .given .1)) ∙ c .before .before .before .before .before .before .reads-right .ensures g s)
 
 enum-told-2 : tie.Need-enum-told-2
 enum-told-2 c = search needs
@@ -52,9 +52,9 @@ unfolding format.region-right
 returns-3 c g s =
     let r = c .before .before .before .before .before .before .before .before .before .before .args .r in
     let x = region g r in
-    then-refused (after-targets g r x) (sym (ap references-answered (c .before .targets .given .1)) ∙ c .before .before .before .targets-right .ensures g s)
-    ∙ then-rest (after-values g r x) (sym (ap references-answered (c .before .before .before .before .enum-told2 .given .1)) ∙ c .before .before .before .before .before .before .values-right .ensures g s)
-    ∙ then-rest (after-reads g r x) (sym (ap references-answered (c .before .before .before .before .before .before .before .enum-told .given .1)) ∙ c .before .before .before .before .before .before .before .before .before .reads-right .ensures g s)
+    then-refused (after-targets g r x) (sym (ap answered (c .before .targets .given .1)) ∙ c .before .before .before .targets-right .ensures g s)
+    ∙ then-rest (after-values g r x) (sym (ap answered (c .before .before .before .before .enum-told2 .given .1)) ∙ c .before .before .before .before .before .before .values-right .ensures g s)
+    ∙ then-rest (after-reads g r x) (sym (ap answered (c .before .before .before .before .before .before .before .enum-told .given .1)) ∙ c .before .before .before .before .before .before .before .before .before .reads-right .ensures g s)
 
 enum-told-3 : tie.Need-enum-told-3
 enum-told-3 c = search needs
@@ -70,10 +70,10 @@ unfolding format.region-right
 returns-4 c g s =
     let r = c .before .before .before .before .before .before .before .before .before .before .before .before .before .args .r in
     let x = region g r in
-    then-refused (after-edges g r x) (sym (ap references-answered (c .before .edges .given .1)) ∙ c .before .before .before .edges-right .ensures g s)
-    ∙ then-rest (after-targets g r x) (sym (ap references-answered (c .before .before .before .before .enum-told3 .given .1)) ∙ c .before .before .before .before .before .before .targets-right .ensures g s)
-    ∙ then-rest (after-values g r x) (sym (ap references-answered (c .before .before .before .before .before .before .before .enum-told2 .given .1)) ∙ c .before .before .before .before .before .before .before .before .before .values-right .ensures g s)
-    ∙ then-rest (after-reads g r x) (sym (ap references-answered (c .before .before .before .before .before .before .before .before .before .before .enum-told .given .1)) ∙ c .before .before .before .before .before .before .before .before .before .before .before .before .reads-right .ensures g s)
+    then-refused (after-edges g r x) (sym (ap answered (c .before .edges .given .1)) ∙ c .before .before .before .edges-right .ensures g s)
+    ∙ then-rest (after-targets g r x) (sym (ap answered (c .before .before .before .before .enum-told3 .given .1)) ∙ c .before .before .before .before .before .before .targets-right .ensures g s)
+    ∙ then-rest (after-values g r x) (sym (ap answered (c .before .before .before .before .before .before .before .enum-told2 .given .1)) ∙ c .before .before .before .before .before .before .before .before .before .values-right .ensures g s)
+    ∙ then-rest (after-reads g r x) (sym (ap answered (c .before .before .before .before .before .before .before .before .before .before .enum-told .given .1)) ∙ c .before .before .before .before .before .before .before .before .before .before .before .before .reads-right .ensures g s)
 
 enum-told-4 : tie.Need-enum-told-4
 enum-told-4 c = search needs
@@ -87,10 +87,10 @@ returns-5 c g s =
     let r = c .before .before .before .before .before .before .before .before .before .before .before .before .before .args .r in
     let x = region g r in
     c .exits-right .ensures g s
-    ∙ then-rest (after-edges g r x) (sym (ap references-answered (c .before .enum-told4 .given .1)) ∙ c .before .before .before .edges-right .ensures g s)
-    ∙ then-rest (after-targets g r x) (sym (ap references-answered (c .before .before .before .before .enum-told3 .given .1)) ∙ c .before .before .before .before .before .before .targets-right .ensures g s)
-    ∙ then-rest (after-values g r x) (sym (ap references-answered (c .before .before .before .before .before .before .before .enum-told2 .given .1)) ∙ c .before .before .before .before .before .before .before .before .before .values-right .ensures g s)
-    ∙ then-rest (after-reads g r x) (sym (ap references-answered (c .before .before .before .before .before .before .before .before .before .before .enum-told .given .1)) ∙ c .before .before .before .before .before .before .before .before .before .before .before .before .reads-right .ensures g s)
+    ∙ then-rest (after-edges g r x) (sym (ap answered (c .before .enum-told4 .given .1)) ∙ c .before .before .before .edges-right .ensures g s)
+    ∙ then-rest (after-targets g r x) (sym (ap answered (c .before .before .before .before .enum-told3 .given .1)) ∙ c .before .before .before .before .before .before .targets-right .ensures g s)
+    ∙ then-rest (after-values g r x) (sym (ap answered (c .before .before .before .before .before .before .before .enum-told2 .given .1)) ∙ c .before .before .before .before .before .before .before .before .before .values-right .ensures g s)
+    ∙ then-rest (after-reads g r x) (sym (ap answered (c .before .before .before .before .before .before .before .before .before .before .enum-told .given .1)) ∙ c .before .before .before .before .before .before .before .before .before .before .before .before .reads-right .ensures g s)
 
 pub region-right-spec : {M : Type 1} → statement M
 region-right-spec =

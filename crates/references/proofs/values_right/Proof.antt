@@ -3,8 +3,8 @@ use Rattle.references.proofs.values_right.Statement.{statement}
 use Rattle.references.proofs.values_right.Tie as tie
 use mathlib.Core.Path.{ap, _∙_}
 use Rattle.format.specs.References as format
-use Rattle.references.specs.Steps.{test-bool, test-number}
-use Rattle.references.specs.Walks.{typed}
+use Rattle.references.specs.laws.Steps.{test-bool, test-number}
+use Rattle.references.specs.Checks.{typed}
 
 terminator-requires : tie.Need-terminator-requires
 terminator-requires c κs = search needs

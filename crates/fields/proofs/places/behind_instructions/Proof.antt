@@ -5,7 +5,7 @@ use mathlib.Core.Path.{_≡_}
 use Prim.Native.Nat.{_≤_, _-_}
 use native.Mathlib.Omega.{arith}
 use Rattle.fields.specs.Words as words
-use Rattle.fields.specs.Turns.{instr-turn, instr-stop, all-left}
+use Rattle.fields.specs.laws.Turns.{instr-turn, instr-stop, all-left}
 
 abbrev Inv-loop : tie.InvT-loop
 Inv-loop w first i p₀ n₀ p n = (n ≤ i) × (p ≤ 65535) × (words.behind-instructions w (i - n) p ≡ words.behind-instructions w i first)

@@ -5,7 +5,7 @@ use mathlib.Core.Path.{_≡_, sym, _∙_}
 use Prim.Native.Nat.{_≤_, _-_}
 use native.Mathlib.Omega.{arith}
 use Rattle.fields.specs.Words as words
-use Rattle.fields.specs.Turns.{list-found, list-turn, list-stop, all-left}
+use Rattle.fields.specs.laws.Turns.{list-found, list-turn, list-stop, all-left}
 
 abbrev Inv-loop : tie.InvT-loop
 Inv-loop w targets t n p₀ q₀ p q = (q ≤ n) × (words.list-for w targets t (n - q) q p ≡ words.list-for w targets t n 0 p₀)

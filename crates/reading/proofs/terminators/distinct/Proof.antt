@@ -2,7 +2,8 @@
 use native.Mathlib.Omega.{arith}
 use mathlib.Core.Path.{_≡_, refl}
 use Prim.Native.Nat.{_≤_, _-_}
-use Rattle.reading.specs.Targets.{firsts, first-bound, firsts-next, firsts-end}
+use Rattle.reading.specs.Readings.{firsts}
+use Rattle.reading.specs.laws.Targets.{first-bound, firsts-next, firsts-end}
 use Rattle.reading.proofs.terminators.distinct.Statement.{statement}
 use Rattle.reading.proofs.terminators.distinct.Tie as tie
 

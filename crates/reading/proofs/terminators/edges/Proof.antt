@@ -2,8 +2,8 @@
 use mathlib.Core.Path.{refl}
 use native.Mathlib.Omega.{arith}
 use borrow.Author.Needs.{needs}
-use Rattle.reading.specs.TerminatorsForgotten.{edges-stop, edges-rest, targets-inside}
-use Rattle.reading.specs.AnswerSteps.{step-read, step-refused, refuse-step, give-rest}
+use Rattle.reading.specs.laws.TerminatorsForgotten.{edges-stop, edges-rest, targets-inside}
+use Rattle.reading.specs.laws.AnswerSteps.{step-read, step-refused, refuse-step, give-rest}
 use Rattle.reading.proofs.terminators.edges.Statement.{statement}
 use Rattle.reading.proofs.terminators.edges.Tie as tie
 

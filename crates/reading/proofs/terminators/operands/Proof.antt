@@ -1,8 +1,8 @@
 -- Each answer is a path through `operands-read`, at the bounds of the kind.
 use mathlib.Core.Path.{refl}
 use borrow.Author.Needs.{needs}
-use Rattle.reading.specs.TerminatorsForgotten.{operands-stop, operands-count, operands-rest}
-use Rattle.reading.specs.AnswerSteps.{word-read, word-refused, step-read, step-refused, refuse-step, give-rest}
+use Rattle.reading.specs.laws.TerminatorsForgotten.{operands-stop, operands-count, operands-rest}
+use Rattle.reading.specs.laws.AnswerSteps.{word-read, word-refused, step-read, step-refused, refuse-step, give-rest}
 use Rattle.reading.proofs.terminators.operands.Statement.{statement}
 use Rattle.reading.proofs.terminators.operands.Tie as tie
 

@@ -1,8 +1,8 @@
 -- Each answer is a path through the reader `terminator`.
 use mathlib.Core.Path.{refl}
 use borrow.Author.Needs.{needs}
-use Rattle.reading.specs.TerminatorsForgotten.{terminator-stop, terminator-opcode, terminator-rest}
-use Rattle.reading.specs.AnswerSteps.{word-read, word-refused, step-read, step-refused, refuse-step, give-rest}
+use Rattle.reading.specs.laws.TerminatorsForgotten.{terminator-stop, terminator-opcode, terminator-rest}
+use Rattle.reading.specs.laws.AnswerSteps.{word-read, word-refused, step-read, step-refused, refuse-step, give-rest}
 use Rattle.reading.proofs.terminators.terminator.Statement.{statement}
 use Rattle.reading.proofs.terminators.terminator.Tie as tie
 

@@ -2,8 +2,8 @@
 use mathlib.Core.Path.{refl}
 use borrow.Author.Needs.{needs}
 use Rattle.format.specs.Read.{word}
-use Rattle.reading.specs.ValuesForgotten.{instruction-stop, instruction-type, instruction-cost, instruction-rest}
-use Rattle.reading.specs.AnswerSteps.{word-read, word-refused, refuse-step, give-rest}
+use Rattle.reading.specs.laws.ValuesForgotten.{instruction-stop, instruction-type, instruction-cost, instruction-rest}
+use Rattle.reading.specs.laws.AnswerSteps.{word-read, word-refused, refuse-step, give-rest}
 use Rattle.reading.proofs.values.instruction.Statement.{statement}
 use Rattle.reading.proofs.values.instruction.Tie as tie
 

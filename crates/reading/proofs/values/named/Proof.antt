@@ -2,8 +2,8 @@
 use mathlib.Core.Path.{refl, sym, _∙_}
 use borrow.Author.Needs.{needs}
 use Rattle.format.specs.Read.{word}
-use Rattle.reading.specs.ValuesForgotten.{named-stop, named-short, named-bad, named-in}
-use Rattle.reading.specs.AnswerSteps.{word-read, word-refused, refuse-step, give-step}
+use Rattle.reading.specs.laws.ValuesForgotten.{named-stop, named-short, named-bad, named-in}
+use Rattle.reading.specs.laws.AnswerSteps.{word-read, word-refused, refuse-step, give-step}
 use Rattle.reading.proofs.values.named.Statement.{statement}
 use Rattle.reading.proofs.values.named.Tie as tie
 

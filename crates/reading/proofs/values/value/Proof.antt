@@ -2,8 +2,8 @@
 use mathlib.Core.Path.{refl, sym, _∙_}
 use borrow.Author.Needs.{needs}
 use Rattle.format.specs.Read.{word}
-use Rattle.reading.specs.ValuesForgotten.{value-stop, value-kind, value-rest}
-use Rattle.reading.specs.AnswerSteps.{word-read, word-refused, refuse-step, give-rest}
+use Rattle.reading.specs.laws.ValuesForgotten.{value-stop, value-kind, value-rest}
+use Rattle.reading.specs.laws.AnswerSteps.{word-read, word-refused, refuse-step, give-rest}
 use Rattle.reading.proofs.values.value.Statement.{statement}
 use Rattle.reading.proofs.values.value.Tie as tie
 

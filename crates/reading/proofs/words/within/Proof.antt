@@ -2,8 +2,8 @@
 use mathlib.Core.Path.{refl}
 use borrow.Author.Needs.{needs}
 use Rattle.format.specs.Read.{word}
-use Rattle.reading.specs.Forgotten.{within-stop, within-low, within-high, within-in}
-use Rattle.reading.specs.AnswerSteps.{word-read, word-refused, refuse-word, give-word}
+use Rattle.reading.specs.laws.Forgotten.{within-stop, within-low, within-high, within-in}
+use Rattle.reading.specs.laws.AnswerSteps.{word-read, word-refused, refuse-word, give-word}
 use Rattle.reading.proofs.words.within.Statement.{statement}
 use Rattle.reading.proofs.words.within.Tie as tie
 

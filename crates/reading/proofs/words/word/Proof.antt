@@ -2,8 +2,8 @@
 use mathlib.Core.Path.{refl}
 use native.Mathlib.Omega.{arith}
 use borrow.Author.Needs.{needs}
-use Rattle.reading.specs.Forgotten.{word-in, word-out, word-past}
-use Rattle.reading.specs.AnswerSteps.{refuse-word, give-word}
+use Rattle.reading.specs.laws.Forgotten.{word-in, word-out, word-past}
+use Rattle.reading.specs.laws.AnswerSteps.{refuse-word, give-word}
 use Rattle.reading.proofs.words.word.Statement.{statement}
 use Rattle.reading.proofs.words.word.Tie as tie
 

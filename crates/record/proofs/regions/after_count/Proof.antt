@@ -2,8 +2,8 @@
 use mathlib.Core.Path.{refl}
 use borrow.Author.Needs.{needs}
 use Rattle.format.specs.Read.{word}
-use Rattle.reading.specs.AnswerSteps.{word-read, word-refused, refuse-step, give-rest}
-use Rattle.record.specs.RegionsForgotten.{after-count-entry, after-count-test, after-count-rest}
+use Rattle.reading.specs.laws.AnswerSteps.{word-read, word-refused, refuse-step, give-rest}
+use Rattle.record.specs.laws.RegionsForgotten.{after-count-entry, after-count-test, after-count-rest}
 use Rattle.record.proofs.regions.after_count.Statement.{statement}
 use Rattle.record.proofs.regions.after_count.Tie as tie
 

@@ -1,9 +1,9 @@
 -- The count is refused, or so many are read.
 use mathlib.Core.Path.{refl}
 use borrow.Author.Needs.{needs}
-use Rattle.reading.specs.AnswerSteps.{word-read, word-refused}
-use Rattle.record.specs.Parts.{within-parts}
-use Rattle.record.specs.RegionSteps.{counted-blocks-stop, counted-blocks-rest}
+use Rattle.reading.specs.laws.AnswerSteps.{word-read, word-refused}
+use Rattle.record.specs.laws.Parts.{within-parts}
+use Rattle.record.specs.laws.RegionSteps.{counted-blocks-stop, counted-blocks-rest}
 use Rattle.record.proofs.regions.counted_blocks.Statement.{statement}
 use Rattle.record.proofs.regions.counted_blocks.Tie as tie
 

@@ -3,11 +3,11 @@ use mathlib.Core.Path.{refl}
 use native.Mathlib.Omega.{arith}
 use borrow.Author.Needs.{needs}
 use Rattle.format.specs.Read.{word}
-use Rattle.reading.specs.AnswerSteps.{word-read, word-refused, step-read, step-refused}
-use Rattle.reading.specs.Forgotten.{taken-inside}
-use Rattle.record.specs.Parts.{within-parts}
-use Rattle.record.specs.RegionsForgotten.{ending-limit, ending-terminator, ending-exits, counted-inside}
-use Rattle.record.specs.RegionSteps.{ending-stop, ending-whole}
+use Rattle.reading.specs.laws.AnswerSteps.{word-read, word-refused, step-read, step-refused}
+use Rattle.reading.specs.laws.Forgotten.{taken-inside}
+use Rattle.record.specs.laws.Parts.{within-parts}
+use Rattle.record.specs.laws.RegionsForgotten.{ending-limit, ending-terminator, ending-exits, counted-inside}
+use Rattle.record.specs.laws.RegionSteps.{ending-stop, ending-whole}
 use Rattle.record.proofs.regions.ending.Statement.{statement}
 use Rattle.record.proofs.regions.ending.Tie as tie
 

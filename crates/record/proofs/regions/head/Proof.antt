@@ -1,8 +1,8 @@
 -- Each answer is a path through the reader `head`.
 use mathlib.Core.Path.{refl}
 use borrow.Author.Needs.{needs}
-use Rattle.reading.specs.AnswerSteps.{word-read, word-refused, step-read, step-refused, refuse-word, give-word}
-use Rattle.record.specs.RegionsForgotten.{head-count-is, head-stop, head-rest}
+use Rattle.reading.specs.laws.AnswerSteps.{word-read, word-refused, step-read, step-refused, refuse-word, give-word}
+use Rattle.record.specs.laws.RegionsForgotten.{head-count-is, head-stop, head-rest}
 use Rattle.record.proofs.regions.head.Statement.{statement}
 use Rattle.record.proofs.regions.head.Tie as tie
 

@@ -1,9 +1,9 @@
 -- Each answer is a path through the reader `region`.
 use mathlib.Core.Path.{refl}
 use borrow.Author.Needs.{needs}
-use Rattle.reading.specs.AnswerSteps.{step-read, step-refused}
-use Rattle.record.specs.RegionsForgotten.{region-inputs, region-blocks}
-use Rattle.record.specs.RegionSteps.{region-stop, region-whole}
+use Rattle.reading.specs.laws.AnswerSteps.{step-read, step-refused}
+use Rattle.record.specs.laws.RegionsForgotten.{region-inputs, region-blocks}
+use Rattle.record.specs.laws.RegionSteps.{region-stop, region-whole}
 use Rattle.record.proofs.regions.region.Statement.{statement}
 use Rattle.record.proofs.regions.region.Tie as tie
 

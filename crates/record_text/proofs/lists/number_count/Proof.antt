@@ -1,7 +1,8 @@
 use mathlib.Core.Path.{sym, ap, _∙_}
 use lib.ListN.{length}
 use borrow.Author.Needs.{needs}
-use Rattle.record_text.specs.Parts.{numbers-of, target-count}
+use Rattle.record_text.specs.Parts.{numbers-of}
+use Rattle.record_text.specs.laws.Lists.{target-count}
 use Rattle.record_text.proofs.lists.number_count.Statement.{statement}
 use Rattle.record_text.proofs.lists.number_count.Tie as tie
 

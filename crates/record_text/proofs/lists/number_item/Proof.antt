@@ -1,7 +1,8 @@
 use mathlib.Core.Path.{sym, ap, _∙_}
 use lib.ListN.{getD}
 use borrow.Author.Needs.{needs}
-use Rattle.record_text.specs.Parts.{numbers-of, target-item}
+use Rattle.record_text.specs.Parts.{numbers-of}
+use Rattle.record_text.specs.laws.Lists.{target-item}
 use Rattle.record_text.proofs.lists.number_item.Statement.{statement}
 use Rattle.record_text.proofs.lists.number_item.Tie as tie
 

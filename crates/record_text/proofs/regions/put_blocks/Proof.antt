@@ -6,7 +6,7 @@ use borrow.Author.Needs.{needs}
 use Rattle.meaning.specs.Graph.{Graph, region}
 use Rattle.record.specs.Stands.{Stands}
 use Rattle.text.specs.Buffer.{Buffer, buffer, Wrote, of-text}
-use Rattle.record_text.specs.Steps.{wrote-block, wrote-blocks}
+use Rattle.record_text.specs.laws.Steps.{wrote-block, wrote-blocks}
 use Rattle.record_text.specs.Listing.{blocks-text}
 use Rattle.record_text.proofs.regions.put_blocks.Statement.{statement}
 use Rattle.record_text.proofs.regions.put_blocks.Tie as tie

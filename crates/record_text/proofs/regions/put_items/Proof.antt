@@ -12,7 +12,7 @@ use Rattle.record.specs.Stands.{Stands}
 use Rattle.text.specs.Lists.{other, wrote-empty, wrote-listed, wrote-next, wrote-all}
 use Rattle.text.specs.Buffer.{Buffer, buffer, Wrote, _▸_, of-text}
 use Rattle.text.specs.Text.{text-of-each}
-use Rattle.record_text.specs.Steps.{items-text-length, items-at}
+use Rattle.record_text.specs.laws.Steps.{items-text-length, items-at}
 use Rattle.record_text.specs.Listing.{item-text, items-text}
 use Rattle.record_text.proofs.regions.put_items.Statement.{statement}
 use Rattle.record_text.proofs.regions.put_items.Tie as tie

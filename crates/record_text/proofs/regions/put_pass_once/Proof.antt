@@ -4,7 +4,7 @@ use borrow.Author.Needs.{needs}
 use Rattle.meaning.specs.Graph.{region, edges-of}
 use Rattle.format.specs.Read.{no-edge}
 use Rattle.text.specs.Buffer.{of-text, wrote-none}
-use Rattle.record_text.specs.Passes.{pass-once}
+use Rattle.record_text.specs.Parts.{pass-once}
 use Rattle.record_text.proofs.regions.put_pass_once.Statement.{statement}
 use Rattle.record_text.proofs.regions.put_pass_once.Tie as tie
 

@@ -6,7 +6,7 @@ use borrow.Author.Needs.{needs}
 use Rattle.meaning.specs.Graph.{Graph, region, edges-of}
 use Rattle.record.specs.Stands.{Stands}
 use Rattle.text.specs.Buffer.{Buffer, buffer, Wrote, of-text}
-use Rattle.record_text.specs.Passes.{passes-from, passes-all, wrote-pass, wrote-passes}
+use Rattle.record_text.specs.laws.Passes.{passes-from, passes-all, wrote-pass, wrote-passes}
 use Rattle.record_text.proofs.regions.put_passes.Statement.{statement}
 use Rattle.record_text.proofs.regions.put_passes.Tie as tie
 

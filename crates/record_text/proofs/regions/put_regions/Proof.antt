@@ -6,7 +6,7 @@ use borrow.Author.Needs.{needs}
 use Rattle.meaning.specs.Graph.{Graph}
 use Rattle.record.specs.Stands.{Stands}
 use Rattle.text.specs.Buffer.{Buffer, buffer, Wrote}
-use Rattle.record_text.specs.Steps.{wrote-region, wrote-regions}
+use Rattle.record_text.specs.laws.Steps.{wrote-region, wrote-regions}
 use Rattle.record_text.specs.Listing.{regions-text}
 use Rattle.record_text.proofs.regions.put_regions.Statement.{statement}
 use Rattle.record_text.proofs.regions.put_regions.Tie as tie
