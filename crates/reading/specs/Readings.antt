@@ -1,11 +1,13 @@
--- The parts of a reading that the code has functions for: the last words of a value, targets and what is passed to them, and words that stand for the first time.
+-- The parts of a reading that the code has functions for: the last words of a value, targets and what is passed to them, and
+-- words that stand for the first time.
 use mathlib.Core.Bool.{Bool, false, _||_}
 use mathlib.Core.List.{List, []}
 use Prim.Native.Nat.{ℕ, zero, suc, _+_}
 use lib.ListN.{length, getD}
 use lib.Dec.{eqb}
 use Rattle.meaning.specs.Graph.{Value, pick}
-use Rattle.format.specs.Read.{Reader, read-then, expect, word, within, many, counted, index-right, read-value, fewest-values, most-values, fewest-targets, most-targets, distinct-from}
+use Rattle.format.specs.Read.{Reader, read-then, expect, word, within, many, counted, index-right, read-value, fewest-values, most-values}
+use Rattle.format.specs.Read.{fewest-targets, most-targets, distinct-from}
 use Rattle.format.specs.Places.{forget-value}
 
 -- Whether t is among the n words from a place on.

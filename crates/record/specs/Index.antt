@@ -32,10 +32,12 @@ pub record IndexedFrom (ws : List ℕ) (from : ℕ) (w : List ℕ) (r : ℕ) : T
   pub start : getD w (index-at r + start-word) 0 ≡ after r read-region ws from
   pub limit : getD w (index-at r + limit-word) 0 ≡ limit-of-region ws (after r read-region ws from)
   pub exits : getD w (index-at r + exits-word) 0 ≡ exits-of-region ws (after r read-region ws from)
-  pub block : (b : ℕ) → b < 8 → b < getD ws (blocks-of-region ws (after r read-region ws from)) 0 → getD w (index-at r + blocks-word + b) 0 ≡ block-of-region ws (after r read-region ws from) b
+  pub block : (b : ℕ) → b < 8 → b < getD ws (blocks-of-region ws (after r read-region ws from)) 0
+      → getD w (index-at r + blocks-word + b) 0 ≡ block-of-region ws (after r read-region ws from) b
 
 -- n regions from a place on.
 pub record RegionsOutcome (n count from : ℕ) (old new : List ℕ) (a : Checked) : Type 0 where
   pub answer : answered a ≡ forget (regions-from n 0 (take count old) from)
-  pub index : (rs : List Region) → regions-from n 0 (take count old) from ≡ accepted rs → (r : ℕ) → r < n → IndexedFrom (take count old) from new r
+  pub index : (rs : List Region) → regions-from n 0 (take count old) from ≡ accepted rs → (r : ℕ) → r < n
+      → IndexedFrom (take count old) from new r
   pub kept : RestKept old new

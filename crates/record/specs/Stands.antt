@@ -18,7 +18,8 @@ pub record Indexed (w : List ℕ) (g : Graph) (r : ℕ) : Type 0 where
   pub start : getD w (index-at r + start-word) 0 ≡ start-of-region (words-of-record w) r
   pub limit : getD w (index-at r + limit-word) 0 ≡ limit-of-region (words-of-record w) (start-of-region (words-of-record w) r)
   pub exits : getD w (index-at r + exits-word) 0 ≡ exits-of-region (words-of-record w) (start-of-region (words-of-record w) r)
-  pub block : (b : ℕ) → b < length (region g r .blocks) → getD w (index-at r + blocks-word + b) 0 ≡ block-of-region (words-of-record w) (start-of-region (words-of-record w) r) b
+  pub block : (b : ℕ) → b < length (region g r .blocks)
+      → getD w (index-at r + blocks-word + b) 0 ≡ block-of-region (words-of-record w) (start-of-region (words-of-record w) r) b
 
 pub record Stands (w : List ℕ) (g : Graph) : Type 0 where
   pub lent : Lent w

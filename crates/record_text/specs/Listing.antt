@@ -4,7 +4,8 @@ use mathlib.Core.List.{List, [], _∷_, _++_, map}
 use Prim.Native.Nat.{ℕ, suc, _+_}
 use Prim.Native.String.{String}
 use lib.ListN.{length}
-use Rattle.meaning.specs.Graph.{Value, const, input, instr, output, bool, undef, held, Instr, bool-cond, number, Edge, ControlInst, unreachable, return, exit-invocation, branch, select-branch, Region, Graph, edges-of, no-value}
+use Rattle.meaning.specs.Graph.{Value, const, input, instr, output, bool, undef, held, Instr, bool-cond, number, Edge, ControlInst}
+use Rattle.meaning.specs.Graph.{unreachable, return, exit-invocation, branch, select-branch, Region, Graph, edges-of, no-value}
 use Rattle.meaning.specs.Text.{Text, ascii, decimal, listed}
 use Rattle.format.specs.References.{first-edges}
 use Rattle.format.specs.Store.{Answer, accepted, refused}

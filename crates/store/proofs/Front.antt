@@ -23,7 +23,9 @@ first-word : (n : ℕ) (f : ℕ → ℕ) → 0 < n → getD (tabulate n f) 0 0 �
 unfolding tabulate
 first-word zero f h = absurd (omega arith)
 first-word (suc zero) f h = refl
-first-word (suc (suc n)) f h = List·getD-append (tabulate (suc n) f) (f (suc n) ∷ []) 0 0 (omega (arith, length-tabulate (suc n) f)) ∙ first-word (suc n) f (omega arith)
+first-word (suc (suc n)) f h =
+    List·getD-append (tabulate (suc n) f) (f (suc n) ∷ []) 0 0 (omega (arith, length-tabulate (suc n) f))
+    ∙ first-word (suc n) f (omega arith)
 
 pub front : (s before after : List ℕ) (w : ℕ) → Loads s before after (Words w) → Front s before after w
 front s before after w l =
@@ -34,6 +36,8 @@ front s before after w l =
     record {
       words = h .words ∙ ap accepted (sym (ap (take w) held ∙ take-at ws (drop w before) w size));
       few = omega (arith, h .within, h .short);
-      first = ap (λ x. getD x 0 0) held ∙ List·getD-append ws (drop w before) 0 0 (omega (arith, h .some)) ∙ first-word w (word-at s) (h .some) ∙ h .first;
+      first =
+          ap (λ x. getD x 0 0) held ∙ List·getD-append ws (drop w before) 0 0 (omega (arith, h .some)) ∙ first-word w (word-at s) (h .some)
+          ∙ h .first;
       rest = ap (drop w) held ∙ drop-at ws (drop w before) w size;
     }

@@ -14,6 +14,9 @@ pub const RECORD_END: usize = 4048;
 // The words of the index for one region: where the region begins, where its turn limit and its exits stand, and each of its blocks.
 pub const ROW: usize = 11;
 
+// Behind the rows of 32 regions.
+pub const INDEX_END: usize = RECORD_END + 32 * ROW;
+
 pub const START: usize = 0;
 
 pub const LIMIT: usize = 1;

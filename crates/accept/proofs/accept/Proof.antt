@@ -1,5 +1,5 @@
 -- The store is refused, or the verdict on its record is the answer.
-use mathlib.Core.Path.{refl, sym, ap}
+use mathlib.Core.Path.{sym, ap}
 use native.Mathlib.Omega.{arith}
 use Rattle.store.specs.Loaded.{answered}
 use Rattle.accept.specs.laws.AcceptSteps.{store-refused, record-judged}

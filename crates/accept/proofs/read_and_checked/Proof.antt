@@ -20,7 +20,9 @@ references-requires : tie.Need-references-requires
 references-requires c κs = search needs
 
 returns-2 : tie.Need-returns-2
-returns-2 c = by-references (c .before .before .before .before .read-record .ensures) (c .before .before .enum-told .given .1) (c .references .ensures)
+returns-2 c =
+    let at-read-record = c .before .before .before .before in
+    by-references (at-read-record .read-record .ensures) (c .before .before .enum-told .given .1) (c .references .ensures)
 
 pub read-and-checked-spec : {M : Type 1} → statement M
 read-and-checked-spec =

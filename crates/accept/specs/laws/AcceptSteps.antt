@@ -35,7 +35,8 @@ accept-is s h = ap (λ x. if-accepted x (λ ws. with-references (read-record ws)
 pub store-refused : (s old mid : List ℕ) {n w : ℕ} → Loads s old mid (loaded.Refused n w) → Accepts s old mid (Refused n w)
 store-refused s old mid {n} {w} l = by-answer (store-words s) refl (l .answer) (l .words)
   where
-    by-answer : (a : Answer (List ℕ)) → store-words s ≡ a → refused n w ≡ words-counted a → mid ≡ words-after old a → Accepts s old mid (Refused n w)
+    by-answer : (a : Answer (List ℕ)) → store-words s ≡ a → refused n w ≡ words-counted a → mid ≡ words-after old a
+        → Accepts s old mid (Refused n w)
     by-answer (accepted ws) q e k = absurd (clash (cc))
     by-answer (refused m v) q e k =
         let whole = accept-is s q in
@@ -63,7 +64,12 @@ module _ (s old mid : List ℕ) {count : ℕ} (room : index-end ≤ length old) 
       let few = held .few in
       let all = count-is in
       let parts : mid ≡ take count mid ++ drop (length (take count mid)) old = l .words ∙ ap (words-after old) (held .words) in
-      omega (arith, ap length parts, length-append (take count mid) (drop (length (take count mid)) old), length-drop (length (take count mid)) old)
+      omega (
+        arith,
+        ap length parts,
+        length-append (take count mid) (drop (length (take count mid)) old),
+        length-drop (length (take count mid)) old,
+      )
 
   mid-beyond : drop index-end mid ≡ drop index-end old
   mid-beyond =
@@ -82,20 +88,24 @@ module _ (s old mid : List ℕ) {count : ℕ} (room : index-end ≤ length old) 
       rw split at (part-as-lent count (record-end - count) mid old (omega (arith, mid-size)) (omega arith) (held .rest))
 
   front-words : (new : List ℕ) {y : Checked} → ReadChecked mid new y → take count new ≡ take count mid
-  front-words new r = sym (take-take count record-end new (held .few)) ∙ ap (take count) (r .kept .front) ∙ take-take count record-end mid (held .few)
+  front-words new r =
+      sym (take-take count record-end new (held .few)) ∙ ap (take count) (r .kept .front) ∙ take-take count record-end mid (held .few)
 
   -- its record is the one in front of them
   record-is : record-in mid ≡ read-record (take count mid)
   record-is = rw (held .first, le-leb count record-end (held .few))
 
-  pub record-judged : (new : List ℕ) {x : Accepted} {y : Checked} → accept-answered x ≡ answered y → ReadChecked mid new y → Accepts s old new x
+  pub record-judged : (new : List ℕ) {x : Accepted} {y : Checked} → accept-answered x ≡ answered y → ReadChecked mid new y
+      → Accepts s old new x
   record-judged new {x} told r =
       let same : with-references (record-in mid) ≡ accept s = ap with-references record-is ∙ sym (accept-is s (held .words)) in
       let known = held .words in
       record {
         answer = told ∙ r .judged .answer ∙ ap forget same;
         stands = λ g f. r .judged .stands g (same ∙ f);
-        in-front = λ ws f. let words : take count mid ≡ ws = cc in ap (λ n. take n new) (sym (count-is ∙ ap length words)) ∙ front-words new r ∙ words;
+        in-front =
+            λ ws f. let words : take count mid ≡ ws = cc in ap (λ n. take n new) (sym (count-is ∙ ap length words)) ∙ front-words new r
+            ∙ words;
         between = λ ws f.
             let words : take count mid ≡ ws = cc in
             let same : length ws ≡ count = sym (count-is ∙ ap length words) in

@@ -12,7 +12,7 @@ use Rattle.store.specs.declared.Checked.the-variants.{Right, Refused}
 use Rattle.record.specs.Outcome.{forget, record-in, ReadOutcome}
 use Rattle.record.specs.laws.Parts.{then, accepted-value}
 use Rattle.record.specs.Stands.{OfRecord}
-use Rattle.accept.specs.Judged.{with-references, Judged, given, not-given}
+use Rattle.accept.specs.Judged.{with-references, given, not-given}
 use Rattle.accept.specs.Accepts.{ReadChecked}
 
 forget-then : (a : Answer Unit) (g : Graph) → forget (if-accepted a λ _. accepted g) ≡ a

@@ -24,7 +24,8 @@ module _ (s old new : List ℕ) where
         if-refused = λ n w h. let is = taken .is in absurd (clash (cc));
       }
 
-  pub refusal-exported : {n w a b : ℕ} → a ≡ n → b ≡ w → b < 65536 → Accepts s old new (Refused n w) → AcceptExported s old new (a * 65536 + b)
+  pub refusal-exported : {n w a b : ℕ} → a ≡ n → b ≡ w → b < 65536 → Accepts s old new (Refused n w)
+      → AcceptExported s old new (a * 65536 + b)
   refusal-exported {n} {w} {a} {b} p q small h =
       let bad = not-given (accept s) (h .answer) in
       let number = refusal-number s bad in

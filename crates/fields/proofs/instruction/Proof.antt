@@ -32,8 +32,12 @@ word-at-requires-4 c κs = search needs
 
 returns : tie.Need-returns
 returns c g s =
-    let a = c .before .before .before .before .before .args in
-    instruction-by _ _ (rw (← c .before .before .before .before .instruction-place .ensures) at (instruction-at s (a .r) (a .b) (a .i))) (c .before .before .before .word-at .ensures) (c .before .before .word-at2 .ensures) (c .before .word-at3 .ensures) (c .word-at4 .ensures)
+    let at-instruction-place = c .before .before .before .before in
+    let start = at-instruction-place .before in
+    let a = start .args in
+    instruction-by _ _ (rw (← at-instruction-place .instruction-place .ensures) at (instruction-at s (a .r) (a .b) (a .i)))
+    (c .before .before .before .word-at .ensures) (c .before .before .word-at2 .ensures) (c .before .word-at3 .ensures)
+    (c .word-at4 .ensures)
 
 pub instruction-spec : {M : Type 1} → statement M
 instruction-spec =

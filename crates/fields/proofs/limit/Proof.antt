@@ -18,7 +18,9 @@ word-at-requires-2 : tie.Need-word-at-requires-2
 word-at-requires-2 c κs = search needs
 
 returns : tie.Need-returns
-returns c g s = c .word-at2 .ensures ∙ rw (c .before .indexed .ensures) (picked _ _ (is-below (c .before .before .if1 .taken) (c .before .before .before .word-at .ensures)) ∙ limit-is s _)
+returns c g s =
+    c .word-at2 .ensures ∙ rw (c .before .indexed .ensures)
+    (picked _ _ (is-below (c .before .before .if1 .taken) (c .before .before .before .word-at .ensures)) ∙ limit-is s _)
 
 returns-2 : tie.Need-returns-2
 returns-2 c g s = passed-over _ _ (not-below (c .if1 .left) (c .before .word-at .ensures)) ∙ limit-is s _

@@ -21,7 +21,9 @@ value-item-requires : tie.Need-value-item-requires
 value-item-requires c κs = search needs
 
 returns : tie.Need-returns
-returns c g s = c .value-item .ensures ∙ rw (c .before .place .ensures, c .before .before .instruction-place .ensures) (value-item-is _ (instruction-at s _ _ _ .reads) _)
+returns c g s =
+    c .value-item .ensures ∙ rw (c .before .place .ensures, c .before .before .instruction-place .ensures)
+    (value-item-is _ (instruction-at s _ _ _ .reads) _)
 
 pub read-spec : {M : Type 1} → statement M
 read-spec =

@@ -32,7 +32,9 @@ pub record InstrAt (w : List ℕ) (p : ℕ) (x : Instr) : Type 0 where
   pub reads : ListAt w 3 (value-at w) (placed (p + 3)) (x .reads)
 
 -- The struct of an instruction's words.
-pub instruction-by : (w : List ℕ) (p : ℕ) {x : Instr} {o t k n : ℕ} → InstrAt w p x → o ≡ getD w p 0 → t ≡ getD w (p + 1) 0 → k ≡ getD w (p + 2) 0 → n ≡ getD w (p + 3) 0 → _≡_ {A = Instruction} (record { opcode = o; ty = t; cost = k; reads = n }) (instruction-is x)
+pub instruction-by : (w : List ℕ) (p : ℕ) {x : Instr} {o t k n : ℕ} → InstrAt w p x → o ≡ getD w p 0 → t ≡ getD w (p + 1) 0
+    → k ≡ getD w (p + 2) 0 → n ≡ getD w (p + 3) 0 → _≡_ {A = Instruction} (record { opcode = o; ty = t; cost = k; reads = n })
+    (instruction-is x)
 instruction-by w p a ho ht hk hn = rw (ho ∙ a .opcode, ht ∙ a .type, hk ∙ a .cost, hn ∙ a .count)
 
 -- A block of the record, and a number that names none.
@@ -68,33 +70,45 @@ module _ {w : List ℕ} {g : Graph} (s : Stands w g) where
       let l = small s (b .inside) in
       ap (behind-values w) (placed-small (p + 3) (omega arith)) ∙ behind-values-is b (omega (arith, b .end))
 
-  pub instrs-behind : (k n p : ℕ) {xs : List Instr} {e : ℕ} → k ≤ n → many n instruction (words-of-record w) p ≡ got xs e → behind-instructions w k p ≡ after k instruction (words-of-record w) p
+  pub instrs-behind : (k n p : ℕ) {xs : List Instr} {e : ℕ} → k ≤ n → many n instruction (words-of-record w) p ≡ got xs e
+      → behind-instructions w k p ≡ after k instruction (words-of-record w) p
   unfolding behind-instructions after many
   instrs-behind zero n p l h = refl
   instrs-behind (suc k) zero p l h = absurd (omega arith)
   instrs-behind (suc k) (suc n) p {xs} {e} l h =
-      let a = part (instruction (words-of-record w) p) (λ x i. read-then (many n instruction (words-of-record w) i) λ ys j. got (x ∷ ys) j) xs e h in
+      let a = part (instruction (words-of-record w) p) (λ x i. read-then (many n instruction (words-of-record w) i) λ ys j. got
+      (x ∷ ys) j) xs e h in
       let b = part (many n instruction (words-of-record w) (a .place)) (λ ys j. got (a .value ∷ ys) j) xs e (a .second) in
       ap (behind-instructions w k) (instr-behind p (a .first))
       ∙ instrs-behind k n (a .place) (omega arith) (b .first)
       ∙ sym (after-front instruction (words-of-record w) k p ∙ ap (λ i. after k instruction (words-of-record w) (next i)) (a .first))
 
   module _ (r b : ℕ) where
-    known-block : Known w g r → b < length (region g r .blocks) → KnownBlock w (indexed w r (blocks-word + b)) (getD (region g r .blocks) b [])
+    known-block : Known w g r → b < length (region g r .blocks)
+        → KnownBlock w (indexed w r (blocks-word + b)) (getD (region g r .blocks) b [])
     unfolding block-of-region block
     known-block k l =
         let a = counted-parts 0 8 block (words-of-record w) _ (k .parts .blocks) in
         rw (k .block b l)
-        (record { end = _; items = many-at block (words-of-record w) (length (region g r .blocks)) (blocks-of-region (words-of-record w) (start-of-region (words-of-record w) r) + 1) [] (a .items) b l })
+        (record {
+          end = _;
+          items = many-at block (words-of-record w) (length (region g r .blocks))
+              (blocks-of-region (words-of-record w) (start-of-region (words-of-record w) r) + 1) [] (a .items) b l;
+        })
 
-    pub block-case : KnownBlock w (block-place w r b) (getD (region g r .blocks) b []) ⊎ NoBlock (block-place w r b) (getD (region g r .blocks) b [])
+    pub block-case : KnownBlock w (block-place w r b) (getD (region g r .blocks) b []) ⊎ NoBlock (block-place w r b)
+        (getD (region g r .blocks) b [])
     unfolding block-place
     block-case = by-test (ltb b (length (region g r .blocks))) refl
       where
         place : (t : Bool) → ltb b (length (region g r .blocks)) ≡ t → block-place w r b ≡ pick t (indexed w r (blocks-word + b)) beyond
-        place t q = ap (λ n. pick (ltb b n) (indexed w r (blocks-word + b)) beyond) (block-count-is s r) ∙ ap (λ x. pick x (indexed w r (blocks-word + b)) beyond) q
+        place t q =
+            ap (λ n. pick (ltb b n) (indexed w r (blocks-word + b)) beyond) (block-count-is s r)
+            ∙ ap (λ x. pick x (indexed w r (blocks-word + b)) beyond) q
 
-        by-test : (t : Bool) → ltb b (length (region g r .blocks)) ≡ t → KnownBlock w (block-place w r b) (getD (region g r .blocks) b []) ⊎ NoBlock (block-place w r b) (getD (region g r .blocks) b [])
+        by-test : (t : Bool) → ltb b (length (region g r .blocks)) ≡ t
+            → KnownBlock w (block-place w r b) (getD (region g r .blocks) b []) ⊎ NoBlock (block-place w r b)
+            (getD (region g r .blocks) b [])
         by-test true q =
             let l = ltb-true b _ q in
             inl (⊎-elim
@@ -125,17 +139,22 @@ module _ {w : List ℕ} {g : Graph} (s : Stands w g) where
     unfolding instruction-place
     instruction-at i = by-test (ltb i (length (getD (region g r .blocks) b []))) refl
       where
-        place : (t : Bool) → ltb i (length (getD (region g r .blocks) b [])) ≡ t → instruction-place w r b i ≡ pick t (behind-instructions w i (placed (block-place w r b + 1))) beyond
-        place t q = ap (λ n. pick (ltb i n) (behind-instructions w i (placed (block-place w r b + 1))) beyond) block-length ∙ ap (λ x. pick x (behind-instructions w i (placed (block-place w r b + 1))) beyond) q
+        place : (t : Bool) → ltb i (length (getD (region g r .blocks) b [])) ≡ t
+            → instruction-place w r b i ≡ pick t (behind-instructions w i (placed (block-place w r b + 1))) beyond
+        place t q =
+            ap (λ n. pick (ltb i n) (behind-instructions w i (placed (block-place w r b + 1))) beyond) block-length
+            ∙ ap (λ x. pick x (behind-instructions w i (placed (block-place w r b + 1))) beyond) q
 
-        here : i < length (getD (region g r .blocks) b []) → KnownBlock w (block-place w r b) (getD (region g r .blocks) b []) → InstrAt w (behind-instructions w i (placed (block-place w r b + 1))) (getD (getD (region g r .blocks) b []) i no-instr)
+        here : i < length (getD (region g r .blocks) b []) → KnownBlock w (block-place w r b) (getD (region g r .blocks) b [])
+            → InstrAt w (behind-instructions w i (placed (block-place w r b + 1))) (getD (getD (region g r .blocks) b []) i no-instr)
         here l k =
             let a = counted-parts 1 8 instruction (words-of-record w) _ (k .items) in
             let first : placed (block-place w r b + 1) ≡ block-place w r b + 1 = placed-small _ (omega (arith, small s (a .inside))) in
             rw (first, instrs-behind i _ (block-place w r b + 1) (omega arith) (a .items))
             (instr-at _ (many-at instruction (words-of-record w) _ (block-place w r b + 1) no-instr (a .items) i l))
 
-        by-test : (t : Bool) → ltb i (length (getD (region g r .blocks) b [])) ≡ t → InstrAt w (instruction-place w r b i) (getD (getD (region g r .blocks) b []) i no-instr)
+        by-test : (t : Bool) → ltb i (length (getD (region g r .blocks) b [])) ≡ t
+            → InstrAt w (instruction-place w r b i) (getD (getD (region g r .blocks) b []) i no-instr)
         by-test true q =
             let l = ltb-true i _ q in
             rw (place true q)

@@ -29,7 +29,8 @@ pub record ListAt {A : Type 0} (w : List ℕ) (width : ℕ) (item : ℕ → A) (
   pub items : (d : A) (k : ℕ) → k < length xs → getD xs k d ≡ item (p + 1 + width * k)
 
 module _ {A : Type 0} (read : Reader A) (ws : List ℕ) (width : ℕ) (item : ℕ → A) (f : Fixed read ws width item) where
-  pub many-items : (n at : ℕ) {xs : List A} {e : ℕ} → many n read ws at ≡ got xs e → (d : A) (k : ℕ) → k < n → getD xs k d ≡ item (at + width * k)
+  pub many-items : (n at : ℕ) {xs : List A} {e : ℕ} → many n read ws at ≡ got xs e → (d : A) (k : ℕ) → k < n
+      → getD xs k d ≡ item (at + width * k)
   unfolding many
   many-items zero at h d k l = absurd (omega arith)
   many-items (suc n) at {xs} {e} h d zero l =
@@ -82,7 +83,8 @@ module _ (w : List ℕ) where
 
   pub value-fixed : Fixed read-value (words-of-record w) 3 (value-at w)
   unfolding value-at
-  value-fixed = record { is = λ at h. is at (value-parts (words-of-record w) at h); end = λ at h. value-parts (words-of-record w) at h .end }
+  value-fixed =
+      record { is = λ at h. is at (value-parts (words-of-record w) at h); end = λ at h. value-parts (words-of-record w) at h .end }
     where
       is : (at : ℕ) {v : Value} {e : ℕ} → ValueParts (words-of-record w) at v e → v ≡ value-at w at
       is at a =
@@ -92,17 +94,25 @@ module _ (w : List ℕ) where
           let third = front (at + 2) (omega arith) in
           a .is ∙ rw (first, second, third)
 
-  pub counted-at : {A : Type 0} (read : Reader A) (width : ℕ) (item : ℕ → A) → Fixed read (words-of-record w) width item → (low high p : ℕ) {xs : List A} {e : ℕ} → counted low high read (words-of-record w) p ≡ got xs e → ReadAt w (words-of-record w) width item p xs e
+  pub counted-at : {A : Type 0} (read : Reader A) (width : ℕ) (item : ℕ → A) → Fixed read (words-of-record w) width item
+      → (low high p : ℕ) {xs : List A} {e : ℕ} → counted low high read (words-of-record w) p ≡ got xs e
+      → ReadAt w (words-of-record w) width item p xs e
   counted-at read width item f low high p {xs} h =
       let a = counted-parts low high read (words-of-record w) p h in
       record {
-        list = record { count = sym (front p (a .inside)) ∙ a .count; items = many-items read (words-of-record w) width item f (length xs) (p + 1) (a .items) };
+        list =
+            record {
+              count = sym (front p (a .inside)) ∙ a .count;
+              items =
+                  many-items read (words-of-record w) width item f (length xs) (p + 1) (a .items);
+            };
         end = many-width read (words-of-record w) width item f (length xs) (p + 1) (a .items);
         inside = a .inside;
       }
 
 -- Item k of a list, also where it has none.
-pub item-of : {A : Type 0} (w : List ℕ) (width : ℕ) (item : ℕ → A) {p : ℕ} {xs : List A} → ListAt w width item p xs → (d : A) (k : ℕ) → pick (ltb k (getD w p 0)) (item (p + 1 + width * k)) d ≡ getD xs k d
+pub item-of : {A : Type 0} (w : List ℕ) (width : ℕ) (item : ℕ → A) {p : ℕ} {xs : List A} → ListAt w width item p xs → (d : A) (k : ℕ)
+    → pick (ltb k (getD w p 0)) (item (p + 1 + width * k)) d ≡ getD xs k d
 item-of w width item {p} {xs} l d k = by-test (ltb k (length xs)) refl
   where
     by-test : (t : Bool) → ltb k (length xs) ≡ t → pick (ltb k (getD w p 0)) (item (p + 1 + width * k)) d ≡ getD xs k d
@@ -134,4 +144,5 @@ module _ {A : Type 0} {w ws : List ℕ} {item : ℕ → A} {p : ℕ} {xs : List 
 
   pub behind-values-is : ReadAt w ws 3 item p xs e → e < beyond → behind-values w p ≡ e
   unfolding behind-values
-  behind-values-is a l = let there : p + 1 + 3 * getD w p 0 ≡ e = omega (arith, a .end, a .list .count) in ap placed there ∙ placed-small e l
+  behind-values-is a l =
+      let there : p + 1 + 3 * getD w p 0 ≡ e = omega (arith, a .end, a .list .count) in ap placed there ∙ placed-small e l

@@ -16,9 +16,11 @@ module _ (bs : List (List Instr)) where
 
   -- By the number n of blocks that the code has: one block more is counted.
   module _ {n : ℕ} (size : n ≡ length bs) where
-    pub count-more : (b sum all : ℕ) → b < n → sum + length (instructions (drop b bs)) ≡ all → sum + length (getD bs b []) + length (instructions (drop (b + 1) bs)) ≡ all
+    pub count-more : (b sum all : ℕ) → b < n → sum + length (instructions (drop b bs)) ≡ all
+        → sum + length (getD bs b []) + length (instructions (drop (b + 1) bs)) ≡ all
     count-more b sum all l h =
-        let step : length (instructions (drop b bs)) ≡ length (getD bs b []) + length (instructions (drop (suc b) bs)) = ap length (instructions-cons b (omega arith)) ∙ length-append (getD bs b []) _ in
+        let step : length (instructions (drop b bs)) ≡ length (getD bs b []) + length (instructions (drop (suc b) bs)) =
+        ap length (instructions-cons b (omega arith)) ∙ length-append (getD bs b []) _ in
         let next = ap (λ n. length (instructions (drop n bs))) (add-one b) in
         omega arith
 
@@ -27,10 +29,12 @@ module _ (bs : List (List Instr)) where
     count-all b sum all l h = let none = ap (λ x. length (instructions x)) (drop-of-length-le bs {i = b} (omega arith)) in omega arith
 
     -- Instruction k from block b on: of this block, of a later one, of none.
-    pub this-block : (b k : ℕ) → b < n → k < length (getD bs b []) → getD (instructions (drop b bs)) k no-instr ≡ getD (getD bs b []) k no-instr
+    pub this-block : (b k : ℕ) → b < n → k < length (getD bs b [])
+        → getD (instructions (drop b bs)) k no-instr ≡ getD (getD bs b []) k no-instr
     this-block b k l h = ap (λ xs. getD xs k no-instr) (instructions-cons b (omega arith)) ∙ List·getD-append (getD bs b []) _ no-instr k h
 
-    pub later-block : (b k : ℕ) → b < n → length (getD bs b []) ≤ k → getD (instructions (drop b bs)) k no-instr ≡ getD (instructions (drop (b + 1) bs)) (k - length (getD bs b [])) no-instr
+    pub later-block : (b k : ℕ) → b < n → length (getD bs b []) ≤ k
+        → getD (instructions (drop b bs)) k no-instr ≡ getD (instructions (drop (b + 1) bs)) (k - length (getD bs b [])) no-instr
     later-block b k l h =
         let here = length (getD bs b []) in
         let rest = instructions (drop (suc b) bs) in

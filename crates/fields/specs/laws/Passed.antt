@@ -35,7 +35,8 @@ map-at f [] d e k l = absurd (omega arith)
 map-at f (x ∷ xs) d e zero l = refl
 map-at f (x ∷ xs) d e (suc k) l = map-at f xs d e k (omega arith)
 
-pub edge-inputs : (ts : List ℕ) (passes : List (List Value)) (j : ℕ) → j < length ts → getD (edges-passed ts passes) j no-edge .inputs ≡ getD passes (rank (getD ts j 0) (distinct-from [] ts)) []
+pub edge-inputs : (ts : List ℕ) (passes : List (List Value)) (j : ℕ) → j < length ts
+    → getD (edges-passed ts passes) j no-edge .inputs ≡ getD passes (rank (getD ts j 0) (distinct-from [] ts)) []
 unfolding edges-passed
 edge-inputs ts passes j l = ap (λ e. e .inputs) (map-at _ ts 0 no-edge j l)
 
@@ -59,7 +60,8 @@ module _ {w : List ℕ} {g : Graph} (s : Stands w g) (r : ℕ) {x : ControlInst}
       let few = counted-parts _ _ word (words-of-record w) (t .parts .targets-at) (t .parts .targets) .high-bound in
       behind-words-is a (omega (arith, a .end, small s (a .inside), few, most-targets-eight (t .parts .k)))
 
-  known-found : (j : ℕ) → j < length (t .parts .ts) → Found w (t .parts .targets-at) (getD (t .parts .ts) j 0) (t .parts .ts) [] 0 (t .parts .passes-at)
+  known-found : (j : ℕ) → j < length (t .parts .ts) → Found w (t .parts .targets-at) (getD (t .parts .ts) j 0) (t .parts .ts) [] 0
+      (t .parts .passes-at)
   unfolding earlier
   known-found j l =
       found s (t .parts .targets-at) (getD (t .parts .ts) j 0) (t .parts .ts) [] 0 (t .parts .passes-at)
@@ -67,12 +69,23 @@ module _ {w : List ℕ} {g : Graph} (s : Stands w g) (r : ℕ) {x : ControlInst}
       (λ k m. word-item-is w (known-targets .list) (0 + k) ∙ ap (λ i. getD (t .parts .ts) i 0) (zero-add k))
       (λ y. refl) refl (is-in-at (t .parts .ts) j l) (t .parts .passed-on)
 
-  known-passed : (j : ℕ) → j < length (edges-of x) → ListAt w 3 (value-at w) (list-for w (targets-place w r) (word-item w (targets-place w r) j) (getD w (targets-place w r) 0) 0 (behind-words w (targets-place w r))) (getD (edges-of x) j no-edge .inputs)
+  known-passed : (j : ℕ) → j < length (edges-of x) → ListAt w 3 (value-at w)
+      (list-for w (targets-place w r) (word-item w (targets-place w r) j) (getD w (targets-place w r) 0) 0
+      (behind-words w (targets-place w r))) (getD (edges-of x) j no-edge .inputs)
   known-passed j l =
       let below : j < length (t .parts .ts) = omega (arith, l, ap length (t .edges-is), edges-length (t .parts .ts) (t .parts .passes)) in
       let f = known-found j below in
-      rw (t .targets-place-is, word-item-is w (known-targets .list) j, known-targets .list .count, known-passes, f .place, t .edges-is, edge-inputs (t .parts .ts) (t .parts .passes) j below)
-      (counted-at w read-value 3 _ (value-fixed w) 0 4 _ (many-at (counted 0 4 read-value) (words-of-record w) _ (t .parts .passes-at) [] (t .parts .passed-on) _ (f .below)) .list)
+      rw (
+        t .targets-place-is,
+        word-item-is w (known-targets .list) j,
+        known-targets .list .count,
+        known-passes,
+        f .place,
+        t .edges-is,
+        edge-inputs (t .parts .ts) (t .parts .passes) j below,
+      )
+      (counted-at w read-value 3 _ (value-fixed w) 0 4 _
+      (many-at (counted 0 4 read-value) (words-of-record w) _ (t .parts .passes-at) [] (t .parts .passed-on) _ (f .below)) .list)
 
 module _ {w : List ℕ} {g : Graph} (s : Stands w g) (r : ℕ) where
   pub targets-at : ListAt w 1 (λ at. getD w at 0) (targets-place w r) (targets-of g r)
@@ -97,14 +110,21 @@ module _ {w : List ℕ} {g : Graph} (s : Stands w g) (r : ℕ) where
   unfolding passed-place
   passed-at j = by-test (ltb j (length (edges-of (region g r .terminator)))) refl
     where
-      place : (b : Bool) → ltb j (length (edges-of (region g r .terminator))) ≡ b → passed-place w r j ≡ pick b (list-for w (targets-place w r) (word-item w (targets-place w r) j) (getD w (targets-place w r) 0) 0 (behind-words w (targets-place w r))) beyond
-      place b q = ap (λ c. pick c (list-for w (targets-place w r) (word-item w (targets-place w r) j) (getD w (targets-place w r) 0) 0 (behind-words w (targets-place w r))) beyond) (ap (ltb j) target-count ∙ q)
+      place : (b : Bool) → ltb j (length (edges-of (region g r .terminator))) ≡ b
+          → passed-place w r j ≡ pick b (list-for w (targets-place w r) (word-item w (targets-place w r) j) (getD w (targets-place w r) 0) 0
+          (behind-words w (targets-place w r))) beyond
+      place b q =
+          ap (λ c. pick c (list-for w (targets-place w r) (word-item w (targets-place w r) j) (getD w (targets-place w r) 0) 0
+          (behind-words w (targets-place w r))) beyond) (ap (ltb j) target-count ∙ q)
 
-      by-test : (b : Bool) → ltb j (length (edges-of (region g r .terminator))) ≡ b → ListAt w 3 (value-at w) (passed-place w r j) (getD (edges-of (region g r .terminator)) j no-edge .inputs)
+      by-test : (b : Bool) → ltb j (length (edges-of (region g r .terminator))) ≡ b
+          → ListAt w 3 (value-at w) (passed-place w r j) (getD (edges-of (region g r .terminator)) j no-edge .inputs)
       by-test true q =
           let l = ltb-true j _ q in
           rw (place true q)
-          (⊎-elim (λ k. known-passed s r (known-end s r k) j l) (λ k. absurd (omega (arith, l, ap (λ x. length (edges-of (x .terminator))) (k .none)))) (region-case s r))
+          (⊎-elim (λ k. known-passed s r (known-end s r k) j l)
+          (λ k. absurd (omega (arith, l, ap (λ x. length (edges-of (x .terminator))) (k .none)))) (region-case s r))
       by-test false q =
-          let none : getD (edges-of (region g r .terminator)) j no-edge .inputs ≡ [] = ap (λ e. e .inputs) (List·getD-eq-default (edges-of (region g r .terminator)) no-edge (ltb-false j _ q)) in
+          let none : getD (edges-of (region g r .terminator)) j no-edge .inputs ≡ [] =
+          ap (λ e. e .inputs) (List·getD-eq-default (edges-of (region g r .terminator)) no-edge (ltb-false j _ q)) in
           rw (place false q, none) (no-list w 3 _ beyond (beyond-words s (omega arith)))

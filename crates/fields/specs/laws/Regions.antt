@@ -24,8 +24,10 @@ pub record Known (w : List ℕ) (g : Graph) (r : ℕ) : Type 0 where
   pub start : indexed w r start-word ≡ start-of-region (words-of-record w) r
   pub limit : indexed w r limit-word ≡ limit-of-region (words-of-record w) (start-of-region (words-of-record w) r)
   pub exits : indexed w r exits-word ≡ exits-of-region (words-of-record w) (start-of-region (words-of-record w) r)
-  pub block : (b : ℕ) → b < length (region g r .blocks) → indexed w r (blocks-word + b) ≡ block-of-region (words-of-record w) (start-of-region (words-of-record w) r) b
-  pub parts : RegionParts (words-of-record w) (start-of-region (words-of-record w) r) (region g r) (start-of-region (words-of-record w) (suc r))
+  pub block : (b : ℕ) → b < length (region g r .blocks)
+      → indexed w r (blocks-word + b) ≡ block-of-region (words-of-record w) (start-of-region (words-of-record w) r) b
+  pub parts : RegionParts (words-of-record w) (start-of-region (words-of-record w) r) (region g r)
+      (start-of-region (words-of-record w) (suc r))
 
 -- A number that names no region.
 pub record Beyond (w : List ℕ) (g : Graph) (r : ℕ) : Type 0 where
@@ -53,7 +55,13 @@ module _ {w : List ℕ} {g : Graph} (s : Stands w g) where
   unfolding behind-words behind-values placed
   beyond-values = rw (no-word {p = beyond} (omega arith))
 
-  pub head-at : HeadParts (words-of-record w) (record { count = length (g .regions); entry = g .entry; test-cost = g .test-cost; constants = g .constants }) (start-of-region (words-of-record w) 0)
+  pub head-at : HeadParts (words-of-record w) (record {
+    count = length (g .regions);
+    entry = g .entry;
+    test-cost = g .test-cost;
+    constants =
+        g .constants;
+  }) (start-of-region (words-of-record w) 0)
   head-at = head-parts (words-of-record w) (record-parts (words-of-record w) (s .reads) .head)
 
   pub region-count : getD w 1 0 ≡ length (g .regions)
@@ -79,7 +87,9 @@ module _ {w : List ℕ} {g : Graph} (s : Stands w g) where
           limit = at limit-word _ _ refl (i .limit);
           exits = at exits-word _ _ refl (i .exits);
           block = λ b below. at (blocks-word + b) _ _ (omega arith) (i .block b below);
-          parts = region-parts (words-of-record w) (start-of-region (words-of-record w) r) (record-parts (words-of-record w) (s .reads) .region r l);
+          parts =
+              region-parts (words-of-record w) (start-of-region (words-of-record w) r)
+              (record-parts (words-of-record w) (s .reads) .region r l);
         }
       where
         at : (i j p : ℕ) → index-at r + i ≡ j → getD w j 0 ≡ p → indexed w r i ≡ p
@@ -102,17 +112,21 @@ module _ {w : List ℕ} {g : Graph} (s : Stands w g) where
         by-test false q = inr (no-region (ltb-false r (length (g .regions)) q))
 
     -- a list that the index leads to
-    listed : (i : ℕ) (f : Region → List ℕ) → f nowhere ≡ [] → (Known w g r → ListAt w 1 (λ at. getD w at 0) (indexed w r i) (f (region g r))) → ListAt w 1 (λ at. getD w at 0) (indexed w r i) (f (region g r))
+    listed : (i : ℕ) (f : Region → List ℕ) → f nowhere ≡ []
+        → (Known w g r → ListAt w 1 (λ at. getD w at 0) (indexed w r i) (f (region g r)))
+        → ListAt w 1 (λ at. getD w at 0) (indexed w r i) (f (region g r))
     listed i f none here = ⊎-elim here there region-case
       where
         there : Beyond w g r → ListAt w 1 (λ at. getD w at 0) (indexed w r i) (f (region g r))
         there k = rw (k .index i, k .none, none) (no-list w 1 _ beyond (beyond-words (omega arith)))
 
     pub inputs-at : ListAt w 1 (λ at. getD w at 0) (indexed w r start-word) (region g r .inputs)
-    inputs-at = listed start-word (λ x. x .inputs) refl λ k. rw (k .start) (counted-at w type 1 _ (type-fixed w) 0 4 _ (k .parts .inputs) .list)
+    inputs-at =
+        listed start-word (λ x. x .inputs) refl λ k. rw (k .start) (counted-at w type 1 _ (type-fixed w) 0 4 _ (k .parts .inputs) .list)
 
     pub exits-at : ListAt w 1 (λ at. getD w at 0) (indexed w r exits-word) (region g r .exits)
-    exits-at = listed exits-word (λ x. x .exits) refl λ k. rw (k .exits) (counted-at w word 1 _ (word-fixed w) 0 32 _ (k .parts .exits) .list)
+    exits-at =
+        listed exits-word (λ x. x .exits) refl λ k. rw (k .exits) (counted-at w word 1 _ (word-fixed w) 0 32 _ (k .parts .exits) .list)
 
     pub limit-is : pick (ltb r (getD w 1 0)) (getD w (indexed w r limit-word) 0) 1 ≡ region g r .limit
     limit-is = ⊎-elim here there region-case
@@ -148,4 +162,5 @@ module _ {w : List ℕ} {g : Graph} (s : Stands w g) where
 
         there : Beyond w g r → getD w (blocks-place w r) 0 ≡ length (region g r .blocks)
         there k =
-            ap (λ p. getD w (behind-words w p) 0) (k .index start-word) ∙ ap (λ p. getD w p 0) beyond-behind ∙ no-word (omega arith) ∙ ap (λ x. length (x .blocks)) (sym (k .none))
+            ap (λ p. getD w (behind-words w p) 0) (k .index start-word) ∙ ap (λ p. getD w p 0) beyond-behind ∙ no-word (omega arith)
+            ∙ ap (λ x. length (x .blocks)) (sym (k .none))

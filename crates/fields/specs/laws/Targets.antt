@@ -39,7 +39,8 @@ pub distinct-again : (seen : List ℕ) (x : ℕ) (xs : List ℕ) → is-in x see
 unfolding distinct-from
 distinct-again seen x xs h = rw (h, distinct-from)
 
-pub distinct-new : (seen : List ℕ) (x : ℕ) (xs : List ℕ) → is-in x seen ≡ false → distinct-from seen (x ∷ xs) ≡ x ∷ distinct-from (x ∷ seen) xs
+pub distinct-new : (seen : List ℕ) (x : ℕ) (xs : List ℕ) → is-in x seen ≡ false
+    → distinct-from seen (x ∷ xs) ≡ x ∷ distinct-from (x ∷ seen) xs
 unfolding distinct-from
 distinct-new seen x xs h = rw (h, distinct-from)
 
@@ -57,15 +58,18 @@ module _ (w : List ℕ) (ts t : ℕ) where
   unfolding list-for
   list-here n q p h = rw (h, list-for)
 
-  pub list-next : (n q p : ℕ) → eqb t (word-item w ts q) ≡ false → list-for w ts t (suc n) q p ≡ list-for w ts t n (suc q) (behind-list w ts q p)
+  pub list-next : (n q p : ℕ) → eqb t (word-item w ts q) ≡ false
+      → list-for w ts t (suc n) q p ≡ list-for w ts t n (suc q) (behind-list w ts q p)
   unfolding list-for
   list-next n q p h = rw (h, list-for)
 
-  list-again : (n q p : ℕ) → eqb t (word-item w ts q) ≡ false → again w ts q ≡ true → list-for w ts t (suc n) q p ≡ list-for w ts t n (suc q) p
+  list-again : (n q p : ℕ) → eqb t (word-item w ts q) ≡ false → again w ts q ≡ true
+      → list-for w ts t (suc n) q p ≡ list-for w ts t n (suc q) p
   unfolding behind-list
   list-again n q p h a = list-next n q p h ∙ ap (λ b. list-for w ts t n (suc q) (pick b p (behind-values w p))) a
 
-  list-new : (n q p : ℕ) → eqb t (word-item w ts q) ≡ false → again w ts q ≡ false → list-for w ts t (suc n) q p ≡ list-for w ts t n (suc q) (behind-values w p)
+  list-new : (n q p : ℕ) → eqb t (word-item w ts q) ≡ false → again w ts q ≡ false
+      → list-for w ts t (suc n) q p ≡ list-for w ts t n (suc q) (behind-values w p)
   unfolding behind-list
   list-new n q p h a = list-next n q p h ∙ ap (λ b. list-for w ts t n (suc q) (pick b p (behind-values w p))) a
 
@@ -75,7 +79,8 @@ module _ (w : List ℕ) (ts t : ℕ) where
     pub below : rank t (distinct-from seen xs) < length (distinct-from seen xs)
 
 -- Whether a target stood before, by the words and by the list.
-seen-more : (w : List ℕ) (ts q x : ℕ) (seen : List ℕ) → word-item w ts q ≡ x → ((y : ℕ) → is-in y seen ≡ is-in y (earlier w ts q)) → (y : ℕ) → is-in y (x ∷ seen) ≡ is-in y (earlier w ts (suc q))
+seen-more : (w : List ℕ) (ts q x : ℕ) (seen : List ℕ) → word-item w ts q ≡ x → ((y : ℕ) → is-in y seen ≡ is-in y (earlier w ts q)) → (y : ℕ)
+    → is-in y (x ∷ seen) ≡ is-in y (earlier w ts (suc q))
 unfolding earlier
 seen-more w ts q x seen here same y = ap (λ z. eqb y z || is-in y seen) (sym here) ∙ ap (λ b. eqb y (word-item w ts q) || b) (same y)
 
@@ -102,25 +107,32 @@ module _ {w : List ℕ} {g : Graph} (s : Stands w g) (ts t : ℕ) where
         let list = distinct-new seen x xs new in
         let first : rank t (distinct-from seen (x ∷ xs)) ≡ 0 = ap (rank t) list ∙ rank-here t x _ n in
         record {
-          place = list-here w ts t (length xs) q p (ap (eqb t) here ∙ n) ∙ ap (λ k. after k (counted 0 4 read-value) (words-of-record w) p) (sym first);
+          place =
+              list-here w ts t (length xs) q p (ap (eqb t) here ∙ n)
+              ∙ ap (λ k. after k (counted 0 4 read-value) (words-of-record w) p) (sym first);
           below = rw (first, list) (omega arith);
         }
 
-    found-again : is-in x seen ≡ true → eqb t x ≡ false → again w ts q ≡ true → Found w ts t xs seen (suc q) p → Found w ts t (x ∷ xs) seen q p
+    found-again : is-in x seen ≡ true → eqb t x ≡ false → again w ts q ≡ true → Found w ts t xs seen (suc q) p
+        → Found w ts t (x ∷ xs) seen q p
     found-again m n stood rest =
         let list = distinct-again seen x xs m in
         record {
-          place = list-again w ts t (length xs) q p (ap (eqb t) here ∙ n) stood ∙ rest .place ∙ ap (λ l. after (rank t l) (counted 0 4 read-value) (words-of-record w) p) (sym list);
+          place =
+              list-again w ts t (length xs) q p (ap (eqb t) here ∙ n) stood ∙ rest .place
+              ∙ ap (λ l. after (rank t l) (counted 0 4 read-value) (words-of-record w) p) (sym list);
           below = rw list (rest .below);
         }
 
-    found-new : is-in x seen ≡ false → eqb t x ≡ false → again w ts q ≡ false → {v : List Value} {e : ℕ} → counted 0 4 read-value (words-of-record w) p ≡ got v e → Found w ts t xs (x ∷ seen) (suc q) e → Found w ts t (x ∷ xs) seen q p
+    found-new : is-in x seen ≡ false → eqb t x ≡ false → again w ts q ≡ false → {v : List Value} {e : ℕ}
+        → counted 0 4 read-value (words-of-record w) p ≡ got v e → Found w ts t xs (x ∷ seen) (suc q) e → Found w ts t (x ∷ xs) seen q p
     found-new m n stood {v} {e} h rest =
         let list = distinct-new seen x xs m in
         let k = rank t (distinct-from (x ∷ seen) xs) in
         let later : rank t (distinct-from seen (x ∷ xs)) ≡ suc k = ap (rank t) list ∙ rank-next t x _ n in
         let front : after (suc k) (counted 0 4 read-value) (words-of-record w) p ≡ after k (counted 0 4 read-value) (words-of-record w) e =
-        after-front (counted 0 4 read-value) (words-of-record w) k p ∙ ap (λ i. after k (counted 0 4 read-value) (words-of-record w) (next i)) h in
+        after-front (counted 0 4 read-value) (words-of-record w) k p
+        ∙ ap (λ i. after k (counted 0 4 read-value) (words-of-record w) (next i)) h in
         record {
           place =
               list-new w ts t (length xs) q p (ap (eqb t) here ∙ n) stood
@@ -133,11 +145,15 @@ module _ {w : List ℕ} {g : Graph} (s : Stands w g) (ts t : ℕ) where
     stood : q < getD w ts 0 → ((y : ℕ) → is-in y seen ≡ is-in y (earlier w ts q)) → again w ts q ≡ is-in x seen
     stood l same = again-here w ts q l ∙ ap (λ y. is-in y (earlier w ts q)) here ∙ sym (same x)
 
-  pub found : (xs seen : List ℕ) (q p : ℕ) {ys : List (List Value)} {e : ℕ} → q + length xs ≤ getD w ts 0 → ((k : ℕ) → k < length xs → word-item w ts (q + k) ≡ getD xs k 0) → ((y : ℕ) → is-in y seen ≡ is-in y (earlier w ts q)) → is-in t seen ≡ false → is-in t xs ≡ true → many (length (distinct-from seen xs)) (counted 0 4 read-value) (words-of-record w) p ≡ got ys e → Found w ts t xs seen q p
+  pub found : (xs seen : List ℕ) (q p : ℕ) {ys : List (List Value)} {e : ℕ} → q + length xs ≤ getD w ts 0
+      → ((k : ℕ) → k < length xs → word-item w ts (q + k) ≡ getD xs k 0) → ((y : ℕ) → is-in y seen ≡ is-in y (earlier w ts q))
+      → is-in t seen ≡ false → is-in t xs ≡ true → many (length (distinct-from seen xs)) (counted 0 4 read-value) (words-of-record w) p
+      ≡ got ys e → Found w ts t xs seen q p
   unfolding many
   found [] seen q p few items same out in′ h = absurd (clash (cc))
   found (x ∷ xs) seen q p {ys} {e} few items same out in′ h =
-      by-test (is-in x seen) refl (eqb t x) refl (λ seen′ p′ zs e′ same′ out′ in″ h′. found xs seen′ (suc q) p′ (omega arith) rest same′ out′ in″ h′)
+      by-test (is-in x seen) refl (eqb t x) refl (λ seen′ p′ zs e′ same′ out′ in″ h′. found xs seen′ (suc q) p′
+      (omega arith) rest same′ out′ in″ h′)
     where
       here : word-item w ts q ≡ x
       here = let at : q ≡ q + 0 = omega arith in ap (word-item w ts) at ∙ items 0 (omega arith)
@@ -146,7 +162,10 @@ module _ {w : List ℕ} {g : Graph} (s : Stands w g) (ts t : ℕ) where
       rest k l = let at : suc q + k ≡ q + suc k = omega arith in ap (word-item w ts) at ∙ items (suc k) (omega arith)
 
       Rest : Type 0
-      Rest = (seen′ : List ℕ) (p′ : ℕ) (zs : List (List Value)) (e′ : ℕ) → ((y : ℕ) → is-in y seen′ ≡ is-in y (earlier w ts (suc q))) → is-in t seen′ ≡ false → is-in t xs ≡ true → many (length (distinct-from seen′ xs)) (counted 0 4 read-value) (words-of-record w) p′ ≡ got zs e′ → Found w ts t xs seen′ (suc q) p′
+      Rest =
+          (seen′ : List ℕ) (p′ : ℕ) (zs : List (List Value)) (e′ : ℕ) → ((y : ℕ) → is-in y seen′ ≡ is-in y (earlier w ts (suc q)))
+          → is-in t seen′ ≡ false → is-in t xs ≡ true → many (length (distinct-from seen′ xs)) (counted 0 4 read-value)
+          (words-of-record w) p′ ≡ got zs e′ → Found w ts t xs seen′ (suc q) p′
 
       more : (y : ℕ) → is-in y (x ∷ seen) ≡ is-in y (earlier w ts (suc q))
       more = seen-more w ts q x seen here same
@@ -161,6 +180,7 @@ module _ {w : List ℕ} {g : Graph} (s : Stands w g) (ts t : ℕ) where
           (ih seen p ys e (λ y. sym (seen-twice y x seen m) ∙ more y) out (in-rest n) (rw (distinct-again seen x xs m) at h))
       by-test false m false n ih =
           let a = part (counted 0 4 read-value (words-of-record w) p) _ ys e (rw (distinct-new seen x xs m) at h) in
-          let b = part (many (length (distinct-from (x ∷ seen) xs)) (counted 0 4 read-value) (words-of-record w) (a .place)) _ ys e (a .second) in
+          let b = part (many (length (distinct-from (x ∷ seen) xs)) (counted 0 4 read-value) (words-of-record w) (a .place)) _ ys e
+          (a .second) in
           found-new x xs seen q p here m n (stood x xs seen q p here (omega arith) same ∙ m) (a .first)
           (ih (x ∷ seen) (a .place) (b .value) (b .place) more (or-rest (eqb t x) (is-in t seen) n ∙ out) (in-rest n) (b .first))

@@ -8,7 +8,8 @@ use native.Mathlib.Omega.{arith}
 use lib.ListN.{length, getD, length-map}
 use lib.Dec.{eqb}
 use Rattle.meaning.specs.Graph.{Graph, Value, Edge, ControlInst, region, edges-of, pick}
-use Rattle.format.specs.Read.{got, word, read-value, fewest-values, most-values, fewest-targets, most-targets, opcode-for, edges-passed, no-edge, control-inst}
+use Rattle.format.specs.Read.{got, word, read-value, fewest-values, most-values, fewest-targets, most-targets, opcode-for, edges-passed}
+use Rattle.format.specs.Read.{no-edge, control-inst}
 use Rattle.format.specs.References.{values-of}
 use Rattle.format.specs.Places.{start-of-region, limit-of-region, exits-of-region}
 use Rattle.format.specs.laws.Readers.{got-value, got-place}
@@ -19,7 +20,8 @@ use Rattle.record.specs.Stands.{words-of-record, Stands}
 use Rattle.fields.specs.declared.shape.Terminator.{Terminator}
 use Rattle.fields.specs.Shape.{kind-is, opcode-is, terminator-is}
 use Rattle.fields.specs.Words.{placed, value-at, behind-values, indexed, values-place, targets-place}
-use Rattle.fields.specs.laws.Lists.{ListAt, ReadAt, front, word-fixed, value-fixed, counted-at, no-list, placed-small, behind-values-is}
+use Rattle.fields.specs.laws.Lists.{ListAt, ReadAt, front, word-fixed, value-fixed, counted-at, no-list, placed-small}
+use Rattle.fields.specs.laws.Lists.{behind-values-is}
 use Rattle.fields.specs.laws.Regions.{Known, Beyond, small, beyond-words, no-word, beyond-values, region-case}
 
 -- A list by its bounds.
@@ -33,7 +35,8 @@ single d (x ∷ []) l h = refl
 single d (x ∷ y ∷ xs) l h = absurd (omega arith)
 
 -- A terminator has the values and the edges that it was made from, in the numbers that its kind allows.
-pub control-values : (k op : ℕ) (vs : List Value) (es : List Edge) → k ≤ 5 → fewest-values k ≤ length vs → length vs ≤ most-values k → values-of (control-inst k op vs es) ≡ vs
+pub control-values : (k op : ℕ) (vs : List Value) (es : List Edge) → k ≤ 5 → fewest-values k ≤ length vs → length vs ≤ most-values k
+    → values-of (control-inst k op vs es) ≡ vs
 control-values zero op vs es b l h = empty vs h
 control-values (suc zero) op vs es b l h = refl
 control-values (suc (suc zero)) op vs es b l h = refl
@@ -42,7 +45,8 @@ control-values (suc (suc (suc (suc zero)))) op vs es b l h = single _ vs l h
 control-values (suc (suc (suc (suc (suc zero))))) op vs es b l h = single _ vs l h
 control-values (suc (suc (suc (suc (suc (suc k)))))) op vs es b l h = absurd (omega arith)
 
-pub control-edges : (k op : ℕ) (vs : List Value) (es : List Edge) → k ≤ 5 → fewest-targets k ≤ length es → length es ≤ most-targets k → edges-of (control-inst k op vs es) ≡ es
+pub control-edges : (k op : ℕ) (vs : List Value) (es : List Edge) → k ≤ 5 → fewest-targets k ≤ length es → length es ≤ most-targets k
+    → edges-of (control-inst k op vs es) ≡ es
 control-edges zero op vs es b l h = empty es h
 control-edges (suc zero) op vs es b l h = empty es h
 control-edges (suc (suc zero)) op vs es b l h = empty es h
@@ -60,8 +64,10 @@ pub opcode-parts : (w : List ℕ) (k at : ℕ) {op e : ℕ} → opcode-for k (wo
 unfolding opcode-for
 opcode-parts w k at {op} {e} h = by-test (eqb k 2) refl h
   where
-    by-test : (t : Bool) → eqb k 2 ≡ t → elim t [ true ↦ word (words-of-record w) at | false ↦ got 0 at ] ≡ got op e → OpcodeParts w k at op e
-    by-test true q p = let a = word-parts (words-of-record w) at p in record { is = rw q (a .is ∙ front w at (a .inside)); end = rw q (a .end) }
+    by-test : (t : Bool) → eqb k 2 ≡ t → elim t [ true ↦ word (words-of-record w) at | false ↦ got 0 at ] ≡ got op e
+        → OpcodeParts w k at op e
+    by-test true q p =
+        let a = word-parts (words-of-record w) at p in record { is = rw q (a .is ∙ front w at (a .inside)); end = rw q (a .end) }
     by-test false q p = record { is = rw q (sym (got-value p)); end = rw q (sym (got-place p)) }
 
 -- A terminator's parts, and where the words lead to them.
@@ -80,7 +86,8 @@ edges-length ts passes = length-map ts _
 
 module _ {w : List ℕ} {g : Graph} (s : Stands w g) where
   -- the list at a place that the words lead to
-  pub known-terminator : (r at e : ℕ) {x : ControlInst} → indexed w r limit-word + 1 ≡ at → TerminatorParts (words-of-record w) at x e → KnownTerminator w r x at e
+  pub known-terminator : (r at e : ℕ) {x : ControlInst} → indexed w r limit-word + 1 ≡ at → TerminatorParts (words-of-record w) at x e
+      → KnownTerminator w r x at e
   unfolding values-place targets-place
   known-terminator r at e {x} here t =
       record {
@@ -89,8 +96,12 @@ module _ {w : List ℕ} {g : Graph} (s : Stands w g) where
         opcode-word = ap (λ p. pick (eqb (t .k) 2) (getD w p 0) 0) opcode-at ∙ sym (o .is);
         values-place-is = values-at;
         targets-place-is = ap (behind-values w) values-at ∙ behind-values-is va (omega (arith, small s (ta .inside)));
-        values-is = ap values-of (t .is) ∙ control-values (t .k) (t .op) (t .vs) (edges-passed (t .ts) (t .passes)) (t .kind .high-bound) (vp .low-bound) (vp .high-bound);
-        edges-is = ap edges-of (t .is) ∙ control-edges (t .k) (t .op) (t .vs) (edges-passed (t .ts) (t .passes)) (t .kind .high-bound) (omega (arith, tp .low-bound, size)) (omega (arith, tp .high-bound, size));
+        values-is =
+            ap values-of (t .is) ∙ control-values (t .k) (t .op) (t .vs) (edges-passed (t .ts) (t .passes)) (t .kind .high-bound)
+            (vp .low-bound) (vp .high-bound);
+        edges-is =
+            ap edges-of (t .is) ∙ control-edges (t .k) (t .op) (t .vs) (edges-passed (t .ts) (t .passes)) (t .kind .high-bound)
+            (omega (arith, tp .low-bound, size)) (omega (arith, tp .high-bound, size));
       }
     where
       va : ReadAt w (words-of-record w) 3 (value-at w) (t .values-at) (t .vs) (t .targets-at)
@@ -117,15 +128,20 @@ module _ {w : List ℕ} {g : Graph} (s : Stands w g) where
       kind : getD w (indexed w r limit-word + 1) 0 ≡ t .k
       kind = ap (λ p. getD w p 0) here ∙ sym (front w at (t .kind .inside)) ∙ sym (t .kind .is)
 
-      by-kind : (b : Bool) (e : ℕ) → e ≡ pick b (at + 1 + 1) (at + 1) → e < record-end → pick b (placed (indexed w r limit-word + 3)) (placed (indexed w r limit-word + 2)) ≡ e
+      by-kind : (b : Bool) (e : ℕ) → e ≡ pick b (at + 1 + 1) (at + 1) → e < record-end
+          → pick b (placed (indexed w r limit-word + 3)) (placed (indexed w r limit-word + 2)) ≡ e
       by-kind true e q l = let same : indexed w r limit-word + 3 ≡ e = omega arith in ap placed same ∙ placed-small e (omega arith)
       by-kind false e q l = let same : indexed w r limit-word + 2 ≡ e = omega arith in ap placed same ∙ placed-small e (omega arith)
 
       values-at : values-place w r ≡ t .values-at
-      values-at = ap (λ k. pick (eqb k 2) (placed (indexed w r limit-word + 3)) (placed (indexed w r limit-word + 2))) kind ∙ by-kind (eqb (t .k) 2) (t .values-at) (o .end) (small s (va .inside))
+      values-at =
+          ap (λ k. pick (eqb k 2) (placed (indexed w r limit-word + 3)) (placed (indexed w r limit-word + 2))) kind
+          ∙ by-kind (eqb (t .k) 2) (t .values-at) (o .end) (small s (va .inside))
 
   module _ (r : ℕ) where
-    pub known-end : Known w g r → KnownTerminator w r (region g r .terminator) (limit-of-region (words-of-record w) (start-of-region (words-of-record w) r) + 1) (exits-of-region (words-of-record w) (start-of-region (words-of-record w) r))
+    pub known-end : Known w g r → KnownTerminator w r (region g r .terminator)
+        (limit-of-region (words-of-record w) (start-of-region (words-of-record w) r) + 1)
+        (exits-of-region (words-of-record w) (start-of-region (words-of-record w) r))
     known-end k = known-terminator r _ _ (ap (λ p. p + 1) (k .limit)) (terminator-parts (words-of-record w) _ (k .parts .terminator))
 
     -- The places of a region that is not there.
@@ -141,7 +157,8 @@ module _ {w : List ℕ} {g : Graph} (s : Stands w g) where
     kind-bound =
         ⊎-elim
         (λ k. let t = known-end k in omega (arith, t .kind-word, t .parts .kind .high-bound))
-        (λ k. let none : getD w (indexed w r limit-word + 1) 0 ≡ 0 = ap (λ p. getD w (p + 1) 0) (k .index limit-word) ∙ no-word s (omega arith) in omega arith)
+        (λ k. let none : getD w (indexed w r limit-word + 1) 0 ≡ 0 = ap (λ p. getD w (p + 1) 0) (k .index limit-word)
+        ∙ no-word s (omega arith) in omega arith)
         (region-case s r)
 
     pub values-at : ListAt w 3 (value-at w) (values-place w r) (values-of (region g r .terminator))
@@ -150,20 +167,24 @@ module _ {w : List ℕ} {g : Graph} (s : Stands w g) where
         here : Known w g r → ListAt w 3 (value-at w) (values-place w r) (values-of (region g r .terminator))
         here k =
             let t = known-end k in
-            rw (t .values-place-is, t .values-is) (counted-at w read-value 3 _ (value-fixed w) _ _ (t .parts .values-at) (t .parts .values) .list)
+            rw (t .values-place-is, t .values-is) (counted-at w read-value 3 _ (value-fixed w) _ _ (t .parts .values-at)
+            (t .parts .values) .list)
 
         there : Beyond w g r → ListAt w 3 (value-at w) (values-place w r) (values-of (region g r .terminator))
         there k = rw (no-values k, k .none) (no-list w 3 _ beyond (beyond-words s (omega arith)))
 
     -- The answer for a kind and an opcode word gives the terminator again.
-    pub terminator-from-words : (t : Terminator) → getD w (indexed w r limit-word + 1) 0 ≡ kind-is t → pick (eqb (kind-is t) 2) (getD w (indexed w r limit-word + 2) 0) 0 ≡ opcode-is t → terminator-is t (region g r .terminator) ≡ region g r .terminator
+    pub terminator-from-words : (t : Terminator) → getD w (indexed w r limit-word + 1) 0 ≡ kind-is t
+        → pick (eqb (kind-is t) 2) (getD w (indexed w r limit-word + 2) 0) 0 ≡ opcode-is t
+        → terminator-is t (region g r .terminator) ≡ region g r .terminator
     terminator-from-words t kind op = ⊎-elim here there (region-case s r)
       where
         here : Known w g r → terminator-is t (region g r .terminator) ≡ region g r .terminator
         here k =
             let e = known-end k in
             let same : kind-is t ≡ e .parts .k = sym kind ∙ e .kind-word in
-            let code : opcode-is t ≡ e .parts .op = sym op ∙ ap (λ n. pick (eqb n 2) (getD w (indexed w r limit-word + 2) 0) 0) same ∙ e .opcode-word in
+            let code : opcode-is t ≡ e .parts .op = sym op ∙ ap (λ n. pick (eqb n 2) (getD w (indexed w r limit-word + 2) 0) 0) same
+            ∙ e .opcode-word in
             ap (λ n. control-inst n (opcode-is t) (values-of (region g r .terminator)) (edges-of (region g r .terminator))) same
             ∙ ap (λ n. control-inst (e .parts .k) n (values-of (region g r .terminator)) (edges-of (region g r .terminator))) code
             ∙ ap (λ vs. control-inst (e .parts .k) (e .parts .op) vs (edges-of (region g r .terminator))) (e .values-is)
@@ -180,5 +201,8 @@ module _ {w : List ℕ} {g : Graph} (s : Stands w g) where
     pub kind-by : {p kind : ℕ} → p ≡ indexed w r limit-word → kind ≡ getD w (p + 1) 0 → kind ≤ 5
     kind-by here is = rw (is, here) kind-bound
 
-    pub terminator-by : {p kind : ℕ} → p ≡ indexed w r limit-word → kind ≡ getD w (p + 1) 0 → (t : Terminator) → kind ≡ kind-is t → pick (eqb (kind-is t) 2) (getD w (p + 2) 0) 0 ≡ opcode-is t → terminator-is t (region g r .terminator) ≡ region g r .terminator
-    terminator-by here is t kind op = terminator-from-words t (ap (λ p. getD w (p + 1) 0) (sym here) ∙ sym is ∙ kind) (ap (λ p. pick (eqb (kind-is t) 2) (getD w (p + 2) 0) 0) (sym here) ∙ op)
+    pub terminator-by : {p kind : ℕ} → p ≡ indexed w r limit-word → kind ≡ getD w (p + 1) 0 → (t : Terminator) → kind ≡ kind-is t
+        → pick (eqb (kind-is t) 2) (getD w (p + 2) 0) 0 ≡ opcode-is t → terminator-is t (region g r .terminator) ≡ region g r .terminator
+    terminator-by here is t kind op =
+        terminator-from-words t (ap (λ p. getD w (p + 1) 0) (sym here) ∙ sym is ∙ kind)
+        (ap (λ p. pick (eqb (kind-is t) 2) (getD w (p + 2) 0) 0) (sym here) ∙ op)

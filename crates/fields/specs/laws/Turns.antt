@@ -19,7 +19,8 @@ pub all-left : (i : ℕ) → i - 0 ≡ i
 all-left i = omega arith
 
 module _ (w : List ℕ) (all i : ℕ) where
-  pub instr-turn : (n p : ℕ) → n < i → behind-instructions w (i - n) p ≡ all → behind-instructions w (i - (n + 1)) (behind-values w (placed (p + 3))) ≡ all
+  pub instr-turn : (n p : ℕ) → n < i → behind-instructions w (i - n) p ≡ all
+      → behind-instructions w (i - (n + 1)) (behind-values w (placed (p + 3))) ≡ all
   unfolding behind-instructions
   instr-turn n p l h = sym (ap (λ k. behind-instructions w k p) (one-less i n l)) ∙ h
 
@@ -31,7 +32,8 @@ module _ (w : List ℕ) (ts t all i : ℕ) where
   pub list-found : (n p : ℕ) → n < i → word-item w ts n ≡ t → list-for w ts t (i - n) n p ≡ all → p ≡ all
   list-found n p l e h = sym (ap (λ k. list-for w ts t k n p) (one-less i n l) ∙ list-here w ts t _ n p (eq-eqb t _ (sym e))) ∙ h
 
-  pub list-turn : (n p : ℕ) → n < i → (word-item w ts n ≡ t → ⊥) → list-for w ts t (i - n) n p ≡ all → list-for w ts t (i - (n + 1)) (n + 1) (behind-list w ts n p) ≡ all
+  pub list-turn : (n p : ℕ) → n < i → (word-item w ts n ≡ t → ⊥) → list-for w ts t (i - n) n p ≡ all
+      → list-for w ts t (i - (n + 1)) (n + 1) (behind-list w ts n p) ≡ all
   list-turn n p l e h =
       ap (λ q. list-for w ts t (i - (n + 1)) q (behind-list w ts n p)) (add-one n)
       ∙ sym (ap (λ k. list-for w ts t k n p) (one-less i n l) ∙ list-next w ts t _ n p (ne-eqb t _ (λ q. e (sym q))))

@@ -13,7 +13,8 @@ use Rattle.record.specs.laws.Parts.{counted-parts, region-parts, record-parts}
 use Rattle.record.specs.Stands.{words-of-record, Indexed, Stands}
 use Rattle.fields.specs.laws.Regions.{head-at}
 
-module _ {w : List ℕ} {g : Graph} (s : Stands w g) (w′ : List ℕ) (size : length w′ ≡ length w) (same : take index-end w′ ≡ take index-end w) where
+module _ {w : List ℕ} {g : Graph} (s : Stands w g) (w′ : List ℕ) (size : length w′ ≡ length w)
+    (same : take index-end w′ ≡ take index-end w) where
   word-same : (i : ℕ) → i < index-end → getD w′ i 0 ≡ getD w i 0
   word-same i l = sym (getD-take index-end w′ i 0 l) ∙ ap (λ x. getD x i 0) same ∙ getD-take index-end w i 0 l
 
@@ -24,7 +25,9 @@ module _ {w : List ℕ} {g : Graph} (s : Stands w g) (w′ : List ℕ) (size : l
       ap (λ k. take k w′) (word-same 0 (omega arith)) ∙ sym (take-take n index-end w′ few) ∙ ap (take n) same ∙ take-take n index-end w few
 
   few-blocks : (r : ℕ) → r < length (g .regions) → length (region g r .blocks) ≤ 8
-  few-blocks r l = counted-parts 0 8 _ (words-of-record w) _ (region-parts (words-of-record w) (start-of-region (words-of-record w) r) (record-parts (words-of-record w) (s .reads) .region r l) .blocks) .high-bound
+  few-blocks r l =
+      counted-parts 0 8 _ (words-of-record w) _ (region-parts (words-of-record w) (start-of-region (words-of-record w) r)
+      (record-parts (words-of-record w) (s .reads) .region r l) .blocks) .high-bound
 
   index-same : (r : ℕ) → r < length (g .regions) → Indexed w′ g r
   index-same r l =
@@ -34,7 +37,9 @@ module _ {w : List ℕ} {g : Graph} (s : Stands w g) (w′ : List ℕ) (size : l
         start = word-same _ (omega arith) ∙ i .start ∙ ap (λ ws. start-of-region ws r) (sym record-same);
         limit = word-same _ (omega arith) ∙ i .limit ∙ ap (λ ws. limit-of-region ws (start-of-region ws r)) (sym record-same);
         exits = word-same _ (omega arith) ∙ i .exits ∙ ap (λ ws. exits-of-region ws (start-of-region ws r)) (sym record-same);
-        block = λ b below. let n = few-blocks r l in word-same _ (omega arith) ∙ i .block b below ∙ ap (λ ws. block-of-region ws (start-of-region ws r) b) (sym record-same);
+        block =
+            λ b below. let n = few-blocks r l in word-same _ (omega arith) ∙ i .block b below
+            ∙ ap (λ ws. block-of-region ws (start-of-region ws r) b) (sym record-same);
       }
 
   pub still-stands : Stands w′ g

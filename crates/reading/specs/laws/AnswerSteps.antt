@@ -51,7 +51,8 @@ module _ {A : Type 0} (p : Reader A) (w : List ℕ) (c : Cursor) {end : ℕ} {x 
   pub step-read : {e : Cursor} → x ≡ step.At e → StepRead p (take end w) (c .at) end e
   step-read {e} q = by-case (forget-value (p (take end w) (c .at))) refl (step-is q)
     where
-      by-case : (r : Read Unit) → forget-value (p (take end w) (c .at)) ≡ r → step-from end r ≡ step.At e → StepRead p (take end w) (c .at) end e
+      by-case : (r : Read Unit) → forget-value (p (take end w) (c .at)) ≡ r → step-from end r ≡ step.At e
+          → StepRead p (take end w) (c .at) end e
       by-case (got tt i) is h =
           let behind : record { at = i; end = end } ≡ e = cc in
           record { is = is ∙ ap (λ (d : Cursor). got tt (d .at)) behind; same = sym (ap (λ (d : Cursor). d .end) behind) }
@@ -83,6 +84,7 @@ module _ {A : Type 0} (p : Reader A) (w : List ℕ) (c : Cursor) where
   unfolding step-at
   give-step {e} s h = rw (← s) (ap (step-from (e .end)) (rw (← s) at h))
 
-  pub give-rest : {B : Type 0} (q : Reader B) (e : Cursor) {y : Step} → e .end ≡ c .end → y ≡ step-at q w e → forget-value (q (take (c .end) w) (e .at)) ≡ forget-value (p (take (c .end) w) (c .at)) → y ≡ step-at p w c
+  pub give-rest : {B : Type 0} (q : Reader B) (e : Cursor) {y : Step} → e .end ≡ c .end → y ≡ step-at q w e
+      → forget-value (q (take (c .end) w) (e .at)) ≡ forget-value (p (take (c .end) w) (c .at)) → y ≡ step-at p w c
   unfolding step-at
   give-rest q e s answer h = rw s at answer ∙ ap (step-from (c .end)) h

@@ -12,8 +12,10 @@ use Rattle.format.specs.Places.{next, forget-value, after}
 use Rattle.meaning.specs.facts.Tests.{clash}
 use Rattle.format.specs.laws.Readers.{many-step, many-stop}
 
--- The value is forgotten at the end of a sequence; what is only given there is forgotten, and what does not look at a value may have it forgotten.
-pub forget-value-follow : {A B : Type 0} (r : Read A) (k : A → ℕ → Read B) → forget-value (read-then r k) ≡ read-then r (λ a i. forget-value (k a i))
+-- The value is forgotten at the end of a sequence; what is only given there is forgotten, and what does not look at a value may
+-- have it forgotten.
+pub forget-value-follow : {A B : Type 0} (r : Read A) (k : A → ℕ → Read B)
+    → forget-value (read-then r k) ≡ read-then r (λ a i. forget-value (k a i))
 forget-value-follow (got a i) k = refl
 forget-value-follow (bad n) k = refl
 
@@ -25,7 +27,8 @@ pub follow-forget-value : {A B : Type 0} (r : Read A) (k : ℕ → Read B) → r
 follow-forget-value (got a i) k = refl
 follow-forget-value (bad n) k = refl
 
-pub follow-follow : {A B C : Type 0} (r : Read A) (j : A → ℕ → Read B) (k : B → ℕ → Read C) → read-then (read-then r j) k ≡ read-then r (λ a i. read-then (j a i) k)
+pub follow-follow : {A B C : Type 0} (r : Read A) (j : A → ℕ → Read B) (k : B → ℕ → Read C)
+    → read-then (read-then r j) k ≡ read-then r (λ a i. read-then (j a i) k)
 follow-follow (got a i) j k = refl
 follow-follow (bad n) j k = refl
 

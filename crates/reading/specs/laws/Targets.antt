@@ -53,7 +53,8 @@ is-in-snoc t u [] = or-false (eqb t u)
 is-in-snoc t u (x ∷ ts) = ap (λ b. eqb t x || b) (is-in-snoc t u ts) ∙ sym (or-assoc (eqb t x) (is-in t ts) (eqb t u))
 
 -- one target more
-distinct-snoc : (seen ts : List ℕ) (t : ℕ) → length (distinct-from seen (ts ++ (t ∷ []))) ≡ length (distinct-from seen ts) + pick (is-in t seen || is-in t ts) 0 1
+distinct-snoc : (seen ts : List ℕ) (t : ℕ) → length (distinct-from seen (ts ++ (t ∷ []))) ≡ length (distinct-from seen ts) + pick
+    (is-in t seen || is-in t ts) 0 1
 unfolding distinct-from
 distinct-snoc seen [] t = by-test (is-in t seen)
   where
@@ -73,17 +74,23 @@ distinct-snoc seen (x ∷ ts) t = by-test (is-in x seen) refl (λ more. distinct
     shuffle false true d = refl
     shuffle false false d = refl
 
-    by-test : (b : Bool) → is-in x seen ≡ b → ((more : List ℕ) → length (distinct-from more (ts ++ (t ∷ []))) ≡ length (distinct-from more ts) + pick (is-in t more || is-in t ts) 0 1) → length {A = ℕ} (elim b [ true ↦ distinct-from seen (ts ++ (t ∷ [])) | false ↦ x ∷ distinct-from (x ∷ seen) (ts ++ (t ∷ [])) ]) ≡ length {A = ℕ} (elim b [ true ↦ distinct-from seen ts | false ↦ x ∷ distinct-from (x ∷ seen) ts ]) + pick (is-in t seen || (eqb t x || is-in t ts)) 0 1
+    by-test : (b : Bool) → is-in x seen ≡ b → ((more : List ℕ)
+        → length (distinct-from more (ts ++ (t ∷ []))) ≡ length (distinct-from more ts) + pick (is-in t more || is-in t ts) 0 1)
+        → length {A = ℕ} (elim b [ true ↦ distinct-from seen (ts ++ (t ∷ [])) | false ↦ x ∷ distinct-from (x ∷ seen) (ts ++ (t ∷ [])) ])
+        ≡ length {A = ℕ} (elim b [ true ↦ distinct-from seen ts | false ↦ x ∷ distinct-from (x ∷ seen) ts ]) + pick
+        (is-in t seen || (eqb t x || is-in t ts)) 0 1
     by-test true h rest = rest seen ∙ ap (λ b. length (distinct-from seen ts) + pick b 0 1) (covered h (eqb t x) refl)
     by-test false h rest =
         let deeper = ap suc (rest (x ∷ seen)) in
-        let sorted : pick {A = ℕ} ((eqb t x || is-in t seen) || is-in t ts) 0 1 ≡ pick (is-in t seen || (eqb t x || is-in t ts)) 0 1 = ap (λ b. pick b 0 1) (shuffle (eqb t x) (is-in t seen) (is-in t ts)) in
+        let sorted : pick {A = ℕ} ((eqb t x || is-in t seen) || is-in t ts) 0 1 ≡ pick (is-in t seen || (eqb t x || is-in t ts)) 0 1 =
+        ap (λ b. pick b 0 1) (shuffle (eqb t x) (is-in t seen) (is-in t ts)) in
         deeper ∙ omega (arith, sorted)
 
 stands-in : (w : List ℕ) (from t n : ℕ) → stands w from t n ≡ is-in t (words-from w from n)
 unfolding stands words-from
 stands-in w from t zero = refl
-stands-in w from t (suc n) = ap (λ b. b || eqb t (getD w (from + n) 0)) (stands-in w from t n) ∙ sym (is-in-snoc t (getD w (from + n) 0) (words-from w from n))
+stands-in w from t (suc n) =
+    ap (λ b. b || eqb t (getD w (from + n) 0)) (stands-in w from t n) ∙ sym (is-in-snoc t (getD w (from + n) 0) (words-from w from n))
 
 pub firsts-distinct : (w : List ℕ) (from n : ℕ) → firsts w from n ≡ length (distinct-from [] (words-from w from n))
 unfolding firsts first words-from distinct-from
@@ -107,7 +114,9 @@ stands-more w from t n (suc k) l h = by-order (leb n k) refl (λ m. stands-more 
 -- the turns of the scan: t stands at place n, or at none so far
 pub stands-here : (w : List ℕ) (from t n k : ℕ) → n < k → t ≡ getD w (from + n) 0 → true ≡ stands w from t k
 unfolding stands
-stands-here w from t n k l h = sym (stands-more w from t (suc n) k l (ap (λ b. stands w from t n || b) (eq-eqb t (getD w (from + n) 0) h) ∙ or-true (stands w from t n)))
+stands-here w from t n k l h =
+    sym (stands-more w from t (suc n) k l (ap (λ b. stands w from t n || b) (eq-eqb t (getD w (from + n) 0) h)
+    ∙ or-true (stands w from t n)))
 
 pub stands-not : (w : List ℕ) (from t n : ℕ) → false ≡ stands w from t n → (t ≡ getD w (from + n) 0 → ⊥) → false ≡ stands w from t (n + 1)
 unfolding stands
@@ -138,13 +147,17 @@ many-words zero ws at h = sym (got-value h)
 many-words (suc n) ws at {ts} {e} h =
     let a = part (word ws at) _ ts e h in
     let b = part (many n word ws (a .place)) _ ts e (a .second) in
-    joined (a .value) (a .place) (b .value) (word-parts ws at (a .first) .is) (word-parts ws at (a .first) .end) (many-words n ws (a .place) (b .first)) (got-value (b .second))
+    joined (a .value) (a .place) (b .value) (word-parts ws at (a .first) .is) (word-parts ws at (a .first) .end)
+    (many-words n ws (a .place) (b .first)) (got-value (b .second))
   where
     joined : (x p : ℕ) (xs : List ℕ) → x ≡ getD ws at 0 → p ≡ at + 1 → xs ≡ words-from ws p n → x ∷ xs ≡ ts → ts ≡ words-from ws at (suc n)
-    joined x p xs is end rest whole = sym whole ∙ ap (λ z. z ∷ xs) is ∙ ap (λ l. getD ws at 0 ∷ l) (rest ∙ ap (λ i. words-from ws i n) end) ∙ sym (words-from-front ws at n)
+    joined x p xs is end rest whole =
+        sym whole ∙ ap (λ z. z ∷ xs) is ∙ ap (λ l. getD ws at 0 ∷ l) (rest ∙ ap (λ i. words-from ws i n) end)
+        ∙ sym (words-from-front ws at n)
 
 -- each of them stands below W
-pub words-inside : (n : ℕ) (ws : List ℕ) (at : ℕ) {ts : List ℕ} {e : ℕ} → many n word ws at ≡ got ts e → (j : ℕ) → j < n → at + j < length ws
+pub words-inside : (n : ℕ) (ws : List ℕ) (at : ℕ) {ts : List ℕ} {e : ℕ} → many n word ws at ≡ got ts e → (j : ℕ) → j < n
+    → at + j < length ws
 unfolding many
 words-inside zero ws at h j l = absurd (omega arith)
 words-inside (suc n) ws at {ts} {e} h j l =
@@ -161,11 +174,16 @@ words-inside (suc n) ws at {ts} {e} h j l =
 stands-taken : (w : List ℕ) (count from t n : ℕ) → ((j : ℕ) → j < n → from + j < count) → stands (take count w) from t n ≡ stands w from t n
 unfolding stands
 stands-taken w count from t zero h = refl
-stands-taken w count from t (suc n) h = rw (getD-take count w (from + n) 0 (h n (omega arith)), stands-taken w count from t n (λ j l. h j (omega arith)))
+stands-taken w count from t (suc n) h =
+    rw (getD-take count w (from + n) 0 (h n (omega arith)), stands-taken w count from t n (λ j l. h j (omega arith)))
 
 pub firsts-taken : (w : List ℕ) (count from n : ℕ) → ((j : ℕ) → j < n → from + j < count) → firsts (take count w) from n ≡ firsts w from n
 unfolding firsts first
 firsts-taken w count from zero h = refl
 firsts-taken w count from (suc n) h =
     let below : (j : ℕ) → j < n → from + j < count = λ j l. h j (omega arith) in
-    rw (getD-take count w (from + n) 0 (h n (omega arith)), firsts-taken w count from n below, stands-taken w count from (getD w (from + n) 0) n below)
+    rw (
+      getD-take count w (from + n) 0 (h n (omega arith)),
+      firsts-taken w count from n below,
+      stands-taken w count from (getD w (from + n) 0) n below,
+    )

@@ -6,7 +6,8 @@ use Prim.Native.Nat.{ℕ, _+_, _<_}
 use lib.ListN.{length, take}
 use lib.Dec.{eqb}
 use Rattle.meaning.specs.Graph.{ControlInst}
-use Rattle.format.specs.Read.{Read, got, bad, read-then, word, within, many, counted, read-value, opcode-for, fewest-values, most-values, fewest-targets, most-targets, distinct-from, edges-passed, control-inst, terminator}
+use Rattle.format.specs.Read.{Read, got, bad, read-then, word, within, many, counted, read-value, opcode-for, fewest-values, most-values}
+use Rattle.format.specs.Read.{fewest-targets, most-targets, distinct-from, edges-passed, control-inst, terminator}
 use Rattle.format.specs.Places.{forget-value}
 use Rattle.meaning.specs.facts.Tests.{clash}
 use Rattle.format.specs.laws.Readers.{got-place}
@@ -42,20 +43,24 @@ module _ (n : ℕ) (w : List ℕ) (end at : ℕ) where
   unfolding edges-lists
   edges-stop {m} h = by-first (many n word (take end w) at) h
     where
-      by-first : (r : Read (List ℕ)) → forget-value r ≡ bad m → bad m ≡ forget-value (read-then r λ ts e. many (length (distinct-from [] ts)) (counted 0 4 read-value) (take end w) e)
+      by-first : (r : Read (List ℕ)) → forget-value r ≡ bad m
+          → bad m ≡ forget-value (read-then r λ ts e. many (length (distinct-from [] ts)) (counted 0 4 read-value) (take end w) e)
       by-first (got ts i) q = absurd (clash (cc))
       by-first (bad j) q = sym q
 
-  pub targets-inside : {e : ℕ} → forget-value (many n word (take end w) at) ≡ got tt e → (j : ℕ) → j < n → (at + j < end) × (at + j < length w)
+  pub targets-inside : {e : ℕ} → forget-value (many n word (take end w) at) ≡ got tt e → (j : ℕ) → j < n
+      → (at + j < end) × (at + j < length w)
   targets-inside h j l =
       let f = found (many n word (take end w) at) h in
       taken-inside w end (words-inside n (take end w) at (f .is) j l)
 
-  pub edges-rest : {k e : ℕ} → k ≡ firsts w at n → forget-value (many n word (take end w) at) ≡ got tt e → forget-value (many k (counted 0 4 read-value) (take end w) e) ≡ forget-value (edges-lists n (take end w) at)
+  pub edges-rest : {k e : ℕ} → k ≡ firsts w at n → forget-value (many n word (take end w) at) ≡ got tt e
+      → forget-value (many k (counted 0 4 read-value) (take end w) e) ≡ forget-value (edges-lists n (take end w) at)
   unfolding edges-lists
   edges-rest {k} {e} q h =
       let f = found (many n word (take end w) at) h in
-      let same : k ≡ length (distinct-from [] (f .value)) = q ∙ sym (firsts-taken w end at n (λ j l. targets-inside h j l .0)) ∙ firsts-distinct (take end w) at n ∙ ap (λ ts. length (distinct-from [] ts)) (sym (many-words n (take end w) at (f .is))) in
+      let same : k ≡ length (distinct-from [] (f .value)) = q ∙ sym (firsts-taken w end at n (λ j l. targets-inside h j l .0))
+      ∙ firsts-distinct (take end w) at n ∙ ap (λ ts. length (distinct-from [] ts)) (sym (many-words n (take end w) at (f .is))) in
       rw (f .is, same)
 
 -- low and high bound the values, fewest and most the targets
@@ -67,7 +72,8 @@ module _ (k : ℕ) (ws : List ℕ) (at : ℕ) {low high : ℕ} (is-low : low ≡
   unfolding operands-read
   operands-stop h = rw (bounds ∙ h)
 
-  module _ {p : ℕ} (values : forget-value (counted low high read-value ws at) ≡ got tt p) {fewest most : ℕ} (is-fewest : fewest ≡ fewest-targets k) (is-most : most ≡ most-targets k) where
+  module _ {p : ℕ} (values : forget-value (counted low high read-value ws at) ≡ got tt p) {fewest most : ℕ}
+      (is-fewest : fewest ≡ fewest-targets k) (is-most : most ≡ most-targets k) where
     places : within (fewest-targets k) (most-targets k) ws p ≡ within fewest most ws p
     places = rw (is-fewest, is-most)
 
@@ -75,12 +81,16 @@ module _ (k : ℕ) (ws : List ℕ) (at : ℕ) {low high : ℕ} (is-low : low ≡
     unfolding operands-read
     operands-count h = rw (bounds ∙ values, places ∙ h)
 
-    pub operands-rest : {n e : ℕ} → within fewest most ws p ≡ got n e → forget-value (edges-lists n ws e) ≡ forget-value (operands-read k ws at)
+    pub operands-rest : {n e : ℕ} → within fewest most ws p ≡ got n e
+        → forget-value (edges-lists n ws e) ≡ forget-value (operands-read k ws at)
     unfolding operands-read
     operands-rest h = rw (bounds ∙ values, places ∙ h)
 
 -- what stands after the opcode, with the terminator made of it
-operands-made : (k op : ℕ) (ws : List ℕ) (at : ℕ) → forget-value (operands-read k ws at) ≡ forget-value (read-then (counted (fewest-values k) (most-values k) read-value ws at) λ vs p. read-then (counted (fewest-targets k) (most-targets k) word ws p) λ ts e. read-then (many (length (distinct-from [] ts)) (counted 0 4 read-value) ws e) λ passes j. got (control-inst k op vs (edges-passed ts passes)) j)
+operands-made : (k op : ℕ) (ws : List ℕ) (at : ℕ) → forget-value (operands-read k ws at) ≡ forget-value
+    (read-then (counted (fewest-values k) (most-values k) read-value ws at) λ vs p. read-then
+    (counted (fewest-targets k) (most-targets k) word ws p) λ ts e. read-then
+    (many (length (distinct-from [] ts)) (counted 0 4 read-value) ws e) λ passes j. got (control-inst k op vs (edges-passed ts passes)) j)
 unfolding operands-read edges-lists counted
 operands-made k op ws at = simp (forget-value-follow, follow-forget-value, follow-follow, forget-value-given)
 
@@ -89,7 +99,8 @@ module _ (ws : List ℕ) (at : ℕ) where
   unfolding terminator
   terminator-stop h = rw h
 
-  pub terminator-opcode : {k p m : ℕ} → within 0 5 ws at ≡ got k p → forget-value (opcode-for k ws p) ≡ bad m → bad m ≡ forget-value (terminator ws at)
+  pub terminator-opcode : {k p m : ℕ} → within 0 5 ws at ≡ got k p → forget-value (opcode-for k ws p) ≡ bad m
+      → bad m ≡ forget-value (terminator ws at)
   unfolding terminator
   terminator-opcode {k} {p} {m} h j = rw h (by-opcode (opcode-for k ws p) j _)
     where
@@ -97,7 +108,8 @@ module _ (ws : List ℕ) (at : ℕ) where
       by-opcode (got a i) q f = absurd (clash (cc))
       by-opcode (bad n) q f = sym q
 
-  pub terminator-rest : {k p e : ℕ} → within 0 5 ws at ≡ got k p → forget-value (opcode-for k ws p) ≡ got tt e → forget-value (operands-read k ws e) ≡ forget-value (terminator ws at)
+  pub terminator-rest : {k p e : ℕ} → within 0 5 ws at ≡ got k p → forget-value (opcode-for k ws p) ≡ got tt e
+      → forget-value (operands-read k ws e) ≡ forget-value (terminator ws at)
   unfolding terminator
   terminator-rest {k} {p} {e} h j =
       let f = found (opcode-for k ws p) j in

@@ -36,7 +36,8 @@ module _ {A : Type 0} {p : Reader A} {w : List ℕ} {from : Cursor} {n : ℕ} wh
     turn-stop q = refuse-step _ _ _ (going-stop (t .going) l (step-refused p w c (t .same) answer q))
 
 -- The same for a loop that reads words.
-module _ {p : Reader ℕ} {w : List ℕ} {from : Cursor} {n k : ℕ} {c : Cursor} {x : Item} (t : Turn p w from n k c) (l : k < n) (answer : x ≡ item-at p w c) where
+module _ {p : Reader ℕ} {w : List ℕ} {from : Cursor} {n k : ℕ} {c : Cursor} {x : Item} (t : Turn p w from n k c) (l : k < n)
+    (answer : x ≡ item-at p w c) where
   pub word-next : {v : ℕ} {e : Cursor} → x ≡ item.Word v e → Turn p w from n (k + 1) e
   word-next q =
       let a = word-read p w c (t .same) answer q in

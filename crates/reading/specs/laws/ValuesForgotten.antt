@@ -5,7 +5,8 @@ use mathlib.Core.List.{List}
 use Prim.Native.Nat.{ℕ, _≤_, _<_}
 use lib.Dec.{eqb}
 use borrow.Author.Tests.{le-leb, lt-leb, eq-eqb, ne-eqb}
-use Rattle.format.specs.Read.{Read, got, bad, read-then, expect, word, within, counted, is-kind, index-right, value-from-words, read-value, instruction}
+use Rattle.format.specs.Read.{Read, got, bad, read-then, expect, word, within, counted, is-kind, index-right, value-from-words, read-value}
+use Rattle.format.specs.Read.{instruction}
 use Rattle.format.specs.Places.{forget-value}
 use Rattle.reading.specs.Readings.{named-by}
 use Rattle.reading.specs.laws.Forgotten.{forget-value-follow, forget-value-given}
@@ -29,11 +30,13 @@ module _ (k : ℕ) (ws : List ℕ) (at : ℕ) where
   unfolding named-by
   named-short h j = rw (h, j)
 
-  pub named-bad : {r p i e : ℕ} → word ws at ≡ got r p → word ws p ≡ got i e → index-right k i ≡ false → bad 5 ≡ forget-value (named-by k ws at)
+  pub named-bad : {r p i e : ℕ} → word ws at ≡ got r p → word ws p ≡ got i e → index-right k i ≡ false
+      → bad 5 ≡ forget-value (named-by k ws at)
   unfolding named-by
   named-bad h j t = rw (h, j, t)
 
-  pub named-in : {r p i e : ℕ} → word ws at ≡ got r p → word ws p ≡ got i e → index-right k i ≡ true → got tt e ≡ forget-value (named-by k ws at)
+  pub named-in : {r p i e : ℕ} → word ws at ≡ got r p → word ws p ≡ got i e → index-right k i ≡ true
+      → got tt e ≡ forget-value (named-by k ws at)
   unfolding named-by
   named-in h j t = rw (h, j, t)
 
@@ -43,7 +46,9 @@ forget-value-unit (got tt i) = refl
 forget-value-unit (bad n) = refl
 
 -- what stands after the kind, with the read-value made of it
-named-made : {B : Type 0} (k : ℕ) (f : ℕ → ℕ → B) (ws : List ℕ) (at : ℕ) → forget-value (named-by k ws at) ≡ forget-value (read-then (word ws at) λ r p. read-then (word ws p) λ i e. read-then (expect (index-right k i) ws e) λ u j. got (f r i) j)
+named-made : {B : Type 0} (k : ℕ) (f : ℕ → ℕ → B) (ws : List ℕ) (at : ℕ)
+    → forget-value (named-by k ws at) ≡ forget-value (read-then (word ws at) λ r p. read-then (word ws p) λ i e. read-then
+    (expect (index-right k i) ws e) λ u j. got (f r i) j)
 unfolding named-by
 named-made k f ws at = simp (forget-value-follow, forget-value-given, forget-value-unit)
 
@@ -68,10 +73,12 @@ module _ (ws : List ℕ) (at : ℕ) where
   unfolding instruction
   instruction-type h j = rw (h, j)
 
-  pub instruction-cost : {a p b q m : ℕ} → word ws at ≡ got a p → within 0 255 ws p ≡ got b q → word ws q ≡ bad m → bad m ≡ forget-value (instruction ws at)
+  pub instruction-cost : {a p b q m : ℕ} → word ws at ≡ got a p → within 0 255 ws p ≡ got b q → word ws q ≡ bad m
+      → bad m ≡ forget-value (instruction ws at)
   unfolding instruction
   instruction-cost h j i = rw (h, j, i)
 
-  pub instruction-rest : {a p b q d e : ℕ} → word ws at ≡ got a p → within 0 255 ws p ≡ got b q → word ws q ≡ got d e → forget-value (counted 0 3 read-value ws e) ≡ forget-value (instruction ws at)
+  pub instruction-rest : {a p b q d e : ℕ} → word ws at ≡ got a p → within 0 255 ws p ≡ got b q → word ws q ≡ got d e
+      → forget-value (counted 0 3 read-value ws e) ≡ forget-value (instruction ws at)
   unfolding instruction
   instruction-rest {e = e} h j i = rw (h, j, i) (simp (forget-value-follow, forget-value-given))

@@ -39,8 +39,10 @@ read-regions-requires c κs =
 
 returns-2 : tie.Need-returns-2
 returns-2 c =
-    let read = c .before .before .before .before .head in
-    let test = c .before .before .before .before .before .before in
+    let at-head = c .before .before .before .before in
+    let at-before = at-head .before in
+    let read = at-head .head in
+    let test = at-before .before in
     let head = word-refused _ _ _ refl (read .ensures) (c .before .before .m .given .1) in
     in-words _ _ _ _ (test .before .word-at .ensures) (test .if1 .left) (record-stop _ _ _ head (c .refusal .ensures))
 
@@ -52,7 +54,8 @@ returns-3 c =
     let size = test .before .before .before .before .span-arg2 .given in
     let head = word-read _ _ _ refl (read .ensures) (c .before .before .before .n .given .1) in
     in-words _ _ _ _ first (test .if1 .left)
-    (record-whole _ _ _ _ _ _ (test .if1 .left) (sym first) (record { room = omega arith; few = omega arith }) (head .is) (rw (head .same) at (c .read-regions .ensures)))
+    (record-whole _ _ _ _ _ _ (test .if1 .left) (sym first) (record { room = omega arith; few = omega arith }) (head .is)
+    (rw (head .same) at (c .read-regions .ensures)))
 
 pub read-record-spec : {M : Type 1} → statement M
 read-record-spec =

@@ -1,5 +1,5 @@
 -- The paths through the code that reads the regions and makes the index.
-use mathlib.Core.Path.{_≡_, refl, sym, ap, subst, _∙_}
+use mathlib.Core.Path.{_≡_, refl, sym, ap, _∙_}
 use mathlib.Core.Bool.{Bool, true, false}
 use mathlib.Core.List.{List, _∷_}
 use Prim.Native.Nat.{ℕ, suc, _+_, _-_, _≤_, _<_}
@@ -34,11 +34,14 @@ forget-then (accepted a) f = refl
 forget-then (refused n w) f = refl
 
 module _ (n r : ℕ) (ws : List ℕ) (at : ℕ) where
-  regions-step : {e : ℕ} → forget-value (read-region ws at) ≡ got tt e → forget (regions-from (suc n) r ws at) ≡ forget (regions-from n (suc r) ws e)
+  regions-step : {e : ℕ} → forget-value (read-region ws at) ≡ got tt e
+      → forget (regions-from (suc n) r ws at) ≡ forget (regions-from n (suc r) ws e)
   unfolding regions-from
   regions-step {e} h = by-first (read-region ws at) h
     where
-      by-first : (x : Read Region) → forget-value x ≡ got tt e → forget (settle r x λ y i. if-accepted (regions-from n (suc r) ws i) λ ys. accepted (y ∷ ys)) ≡ forget (regions-from n (suc r) ws e)
+      by-first : (x : Read Region) → forget-value x ≡ got tt e
+          → forget (settle r x λ y i. if-accepted (regions-from n (suc r) ws i) λ ys. accepted (y ∷ ys)) ≡ forget
+          (regions-from n (suc r) ws e)
       by-first (got y i) q = let same : e ≡ i = next-of (got y i) q in rw same (forget-then (regions-from n (suc r) ws i) (λ ys. y ∷ ys))
       by-first (bad m) q = absurd (clash (cc))
 
@@ -46,7 +49,8 @@ module _ (n r : ℕ) (ws : List ℕ) (at : ℕ) where
   unfolding regions-from
   regions-stop {m} h = by-first (read-region ws at) h
     where
-      by-first : (x : Read Region) → forget-value x ≡ bad m → forget (settle r x λ y i. if-accepted (regions-from n (suc r) ws i) λ ys. accepted (y ∷ ys)) ≡ refused m (word-for m r)
+      by-first : (x : Read Region) → forget-value x ≡ bad m
+          → forget (settle r x λ y i. if-accepted (regions-from n (suc r) ws i) λ ys. accepted (y ∷ ys)) ≡ refused m (word-for m r)
       by-first (got y i) q = absurd (clash (cc))
       by-first (bad k) q = let same : k ≡ m = cc in ap (λ j. refused j (word-for j r)) same
 
@@ -70,7 +74,9 @@ abbrev pub stored-words : List ℕ → ℕ → ℕ → RegionPlaces → List ℕ
 stored-words old at start x = set (set (set old (at + start-word) start) (at + limit-word) (x .limit)) (at + exits-word) (x .exits)
 
 -- and its blocks
-pub store-row : (old new : List ℕ) (r start : ℕ) (x : RegionPlaces) → r < 32 → index-end ≤ length old → Row (stored-words old (index-at r) start x) new (index-at r + blocks-word) 8 (λ b. getD (x .blocks) b 0) → Row old new (index-at r) row-words (row-of start x)
+pub store-row : (old new : List ℕ) (r start : ℕ) (x : RegionPlaces) → r < 32 → index-end ≤ length old
+    → Row (stored-words old (index-at r) start x) new (index-at r + blocks-word) 8 (λ b. getD (x .blocks) b 0)
+    → Row old new (index-at r) row-words (row-of start x)
 unfolding row-of
 store-row old new r start x l long blocks =
     let at = index-at r in
@@ -85,20 +91,24 @@ store-row old new r start x l long blocks =
 
 -- the index of the read-region just read, and of those before
 module _ (ws : List ℕ) (from : ℕ) where
-  indexed-here : (r at : ℕ) (x : RegionPlaces) (old new : List ℕ) → at ≡ after r read-region ws from → Placed ws at x → Row old new (index-at r) row-words (row-of at x) → IndexedFrom ws from new r
+  indexed-here : (r at : ℕ) (x : RegionPlaces) (old new : List ℕ) → at ≡ after r read-region ws from → Placed ws at x
+      → Row old new (index-at r) row-words (row-of at x) → IndexedFrom ws from new r
   unfolding row-of
   indexed-here r at x old new place placed row =
       record {
         start = row .row start-word (omega arith) ∙ place;
         limit = row .row limit-word (omega arith) ∙ placed .limit ∙ ap (limit-of-region ws) place;
         exits = row .row exits-word (omega arith) ∙ placed .exits ∙ ap (exits-of-region ws) place;
-        block = λ b small below. ap (λ i. getD new i 0) (at-block b) ∙ row .row (suc (suc (suc b))) (omega arith) ∙ placed .blocks b (rw place below) ∙ ap (λ i. block-of-region ws i b) place;
+        block =
+            λ b small below. ap (λ i. getD new i 0) (at-block b) ∙ row .row (suc (suc (suc b))) (omega arith)
+            ∙ placed .blocks b (rw place below) ∙ ap (λ i. block-of-region ws i b) place;
       }
     where
       at-block : (b : ℕ) → index-at r + blocks-word + b ≡ index-at r + suc (suc (suc b))
       at-block b = omega arith
 
-  indexed-kept : (k r : ℕ) (old new : List ℕ) (f : ℕ → ℕ) → k < r → Row old new (index-at r) row-words f → IndexedFrom ws from old k → IndexedFrom ws from new k
+  indexed-kept : (k r : ℕ) (old new : List ℕ) (f : ℕ → ℕ) → k < r → Row old new (index-at r) row-words f → IndexedFrom ws from old k
+      → IndexedFrom ws from new k
   indexed-kept k r old new f l row x =
       record {
         start = row .below (index-at k + start-word) (omega arith) ∙ x .start;
@@ -133,41 +143,60 @@ kept-words old new count l k = sym (take-take count record-end new l) ∙ ap (ta
 module _ (n count from : ℕ) (old : List ℕ) where
   pub regions-start : RegionsGoing n count from old 0 from old
   unfolding after
-  regions-start = record { bound = omega arith; rest = ap (λ k. forget (regions-from k 0 (take count old) from)) (omega arith); place = refl; index = λ k l. absurd (omega arith); kept = kept-none old }
+  regions-start =
+      record {
+        bound = omega arith;
+        rest = ap (λ k. forget (regions-from k 0 (take count old) from)) (omega arith);
+        place = refl;
+        index =
+            λ k l. absurd (omega arith);
+        kept = kept-none old;
+      }
 
-  module _ {r : ℕ} {mid : List ℕ} (c : Cursor) (x : RegionPlaces) (g : RegionsGoing n count from old r (c .at) mid) (ends : c .end ≡ count) (turn : r < n) (small : count ≤ record-end) (read : RegionPlacesRead mid c x) where
+  module _ {r : ℕ} {mid : List ℕ} (c : Cursor) (x : RegionPlaces) (g : RegionsGoing n count from old r (c .at) mid) (ends : c .end ≡ count)
+      (turn : r < n) (small : count ≤ record-end) (read : RegionPlacesRead mid c x) where
     same-words : take count mid ≡ take count old
     same-words = kept-words old mid count small (g .kept)
 
     one-more : n - r ≡ suc (n - (r + 1))
     one-more = omega arith
 
-    pub regions-next : {e : Cursor} (new : List ℕ) → n ≤ 32 → x .step ≡ At e → Row mid new (index-at r) row-words (row-of (c .at) x) → RegionsGoing n count from old (r + 1) (e .at) new
+    pub regions-next : {e : Cursor} (new : List ℕ) → n ≤ 32 → x .step ≡ At e → Row mid new (index-at r) row-words (row-of (c .at) x)
+        → RegionsGoing n count from old (r + 1) (e .at) new
     unfolding after
     regions-next {e} new few step row =
         let ws = take count old in
         let at = c .at in
-        let whole : forget-value (read-region ws at) ≡ got tt (e .at) = rw same-words at (step-read read-region mid c ends (read .step) step .is) in
+        let whole : forget-value (read-region ws at) ≡ got tt (e .at) =
+        rw same-words at (step-read read-region mid c ends (read .step) step .is) in
         record {
           bound = omega arith;
-          rest = g .rest ∙ ap (λ k. forget (regions-from k r ws at)) one-more ∙ regions-step (n - (r + 1)) r ws at whole ∙ ap (λ k. forget (regions-from (n - (r + 1)) k ws (e .at))) (sym (add-one r));
-          place = next-of (read-region ws at) whole ∙ ap (λ i. next (read-region ws i)) (g .place) ∙ ap (λ k. after k read-region ws from) (sym (add-one r));
+          rest =
+              g .rest ∙ ap (λ k. forget (regions-from k r ws at)) one-more ∙ regions-step (n - (r + 1)) r ws at whole
+              ∙ ap (λ k. forget (regions-from (n - (r + 1)) k ws (e .at))) (sym (add-one r));
+          place =
+              next-of (read-region ws at) whole ∙ ap (λ i. next (read-region ws i)) (g .place)
+              ∙ ap (λ k. after k read-region ws from) (sym (add-one r));
           index = λ k below. by-region k below (ltb k r) refl row (rw (ends, same-words) at (read .placed e step));
           kept = kept-row old mid new r (row-of at x) (omega arith) (g .kept) row;
         }
       where
-        by-region : (k : ℕ) → k < r + 1 → (t : Bool) → ltb k r ≡ t → Row mid new (index-at r) row-words (row-of (c .at) x) → Placed (take count old) (c .at) x → IndexedFrom (take count old) from new k
-        by-region k below true q row placed = indexed-kept (take count old) from k r mid new (row-of (c .at) x) (ltb-true k r q) row (g .index k (ltb-true k r q))
+        by-region : (k : ℕ) → k < r + 1 → (t : Bool) → ltb k r ≡ t → Row mid new (index-at r) row-words (row-of (c .at) x)
+            → Placed (take count old) (c .at) x → IndexedFrom (take count old) from new k
+        by-region k below true q row placed =
+            indexed-kept (take count old) from k r mid new (row-of (c .at) x) (ltb-true k r q) row (g .index k (ltb-true k r q))
         by-region k below false q row placed =
             let same : k ≡ r = omega (arith, ltb-false k r q) in
             rw same (indexed-here (take count old) from r (c .at) x mid new (g .place) placed row)
 
-    pub regions-refused : {m : ℕ} (a : Checked) → x .step ≡ Bad m → answered a ≡ refused m (word-for m r) → RegionsOutcome n count from old mid a
+    pub regions-refused : {m : ℕ} (a : Checked) → x .step ≡ Bad m → answered a ≡ refused m (word-for m r)
+        → RegionsOutcome n count from old mid a
     regions-refused {m} a step told =
         let ws = take count old in
         let at = c .at in
         let stop : forget-value (read-region ws at) ≡ bad m = rw same-words at (step-refused read-region mid c ends (read .step) step) in
-        let answer : forget (regions-from n 0 ws from) ≡ refused m (word-for m r) = g .rest ∙ ap (λ k. forget (regions-from k r ws at)) one-more ∙ regions-stop (n - (r + 1)) r ws at stop in
+        let answer : forget (regions-from n 0 ws from) ≡ refused m (word-for m r) = g .rest
+        ∙ ap (λ k. forget (regions-from k r ws at)) one-more ∙ regions-stop (n - (r + 1)) r ws at stop in
         record { answer = told ∙ sym answer; index = λ rs q. never (regions-from n 0 ws from) answer q; kept = g .kept }
 
   module _ {r at : ℕ} {mid : List ℕ} (g : RegionsGoing n count from old r at mid) (over : n ≤ r) (fits : count ≤ length old) where
@@ -180,7 +209,9 @@ module _ (n count from : ℕ) (old : List ℕ) where
     pub regions-read : at ≡ count → RegionsOutcome n count from old mid checked.Right
     regions-read h =
         record {
-          answer = regions-end r (take count old) at (h ∙ sym long) ∙ sym (g .rest ∙ ap (λ k. forget (regions-from k r (take count old) at)) none-left);
+          answer =
+              regions-end r (take count old) at (h ∙ sym long) ∙ sym
+              (g .rest ∙ ap (λ k. forget (regions-from k r (take count old) at)) none-left);
           index = λ rs q k below. g .index k (omega arith);
           kept = g .kept;
         }
@@ -188,5 +219,6 @@ module _ (n count from : ℕ) (old : List ℕ) where
     pub regions-left : (at ≡ count → ⊥) → RegionsOutcome n count from old mid (checked.Refused 4 0)
     regions-left h =
         let ws = take count old in
-        let answer : refused 4 0 ≡ forget (regions-from n 0 ws from) = regions-over r ws at (λ q. h (q ∙ long)) ∙ sym (g .rest ∙ ap (λ k. forget (regions-from k r ws at)) none-left) in
+        let answer : refused 4 0 ≡ forget (regions-from n 0 ws from) = regions-over r ws at (λ q. h (q ∙ long))
+        ∙ sym (g .rest ∙ ap (λ k. forget (regions-from k r ws at)) none-left) in
         record { answer = answer; index = λ rs q. never (regions-from n 0 ws from) (sym answer) q; kept = g .kept }

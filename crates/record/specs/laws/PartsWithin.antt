@@ -6,7 +6,9 @@ use Prim.Native.Nat.{ℕ, _+_, _≤_, _<_}
 use native.Mathlib.Omega.{arith}
 use lib.ListN.{length, getD}
 use Rattle.meaning.specs.Graph.{Value, Instr, ControlInst}
-use Rattle.format.specs.Read.{got, expect, word, within, many, counted, type, is-kind, value-from-words, index-right, read-value, instruction, opcode-for, fewest-values, most-values, fewest-targets, most-targets, distinct-from, edges-passed, control-inst, terminator, Head, head}
+use Rattle.format.specs.Read.{got, expect, word, within, many, counted, type, is-kind, value-from-words, index-right, read-value}
+use Rattle.format.specs.Read.{instruction, opcode-for, fewest-values, most-values, fewest-targets, most-targets, distinct-from}
+use Rattle.format.specs.Read.{edges-passed, control-inst, terminator, Head, head}
 use Rattle.meaning.specs.facts.Tests.{clash}
 use Rattle.format.specs.laws.Readers.{part, got-value, got-place}
 use Rattle.record.specs.laws.Parts.{WordParts, word-parts, WithinParts, within-parts}
@@ -28,7 +30,8 @@ pub record ValueParts (ws : List ℕ) (at : ℕ) (v : Value) (e : ℕ) : Type 0 
   pub kind : is-kind (getD ws at 0) ≡ true
   pub index : index-right (getD ws at 0) (getD ws (at + 2) 0) ≡ true
 
-pub value-join : (ws : List ℕ) (at k i m r j n l : ℕ) → WordParts ws at k i → ExpectPassed (is-kind k) i m → WordParts ws m r j → WordParts ws j n l → {e : ℕ} → ExpectPassed (index-right k n) l e → ValueParts ws at (value-from-words k r n) e
+pub value-join : (ws : List ℕ) (at k i m r j n l : ℕ) → WordParts ws at k i → ExpectPassed (is-kind k) i m → WordParts ws m r j
+    → WordParts ws j n l → {e : ℕ} → ExpectPassed (index-right k n) l e → ValueParts ws at (value-from-words k r n) e
 value-join ws at k i m r j n l a p b c {e} q =
     let m-is : m ≡ at + 1 = omega (arith, a .end, p .end) in
     let j-is : j ≡ at + 2 = omega (arith, b .end) in
@@ -38,7 +41,9 @@ value-join ws at k i m r j n l a p b c {e} q =
     let n-is : n ≡ getD ws (at + 2) 0 = c .is ∙ ap (λ x. getD ws x 0) j-is in
     record {
       inside = omega (arith, c .inside);
-      is = ap (λ x. value-from-words x r n) k-is ∙ ap (λ x. value-from-words (getD ws at 0) x n) r-is ∙ ap (value-from-words (getD ws at 0) (getD ws (at + 1) 0)) n-is;
+      is =
+          ap (λ x. value-from-words x r n) k-is ∙ ap (λ x. value-from-words (getD ws at 0) x n) r-is
+          ∙ ap (value-from-words (getD ws at 0) (getD ws (at + 1) 0)) n-is;
       end = e-is;
       kind = ap is-kind (sym k-is) ∙ p .holds;
       index = ap (λ x. index-right x (getD ws (at + 2) 0)) (sym k-is) ∙ ap (index-right k) (sym n-is) ∙ q .holds;
@@ -54,7 +59,8 @@ value-parts ws at {v} {e} h =
     let q = part (expect (index-right (a .value) (c .value)) ws (c .place)) _ v e (c .second) in
     subst (λ x. ValueParts ws at x e) (got-value (q .second))
     (value-join ws at (a .value) (a .place) (p .place) (b .value) (b .place) (c .value) (c .place)
-    (word-parts ws at (a .first)) (expect-passed _ ws (a .place) (p .first)) (word-parts ws (p .place) (b .first)) (word-parts ws (b .place) (c .first))
+    (word-parts ws at (a .first)) (expect-passed _ ws (a .place) (p .first)) (word-parts ws (p .place) (b .first))
+    (word-parts ws (b .place) (c .first))
     (expect-passed _ ws (c .place) (q .first ∙ ap (got (q .value)) (got-place (q .second)))))
 
 -- Opcode, type, cost, then the reads.
@@ -66,7 +72,8 @@ pub record InstrParts (ws : List ℕ) (at : ℕ) (x : Instr) (e : ℕ) : Type 0 
   pub cost : x .cost ≡ getD ws (at + 2) 0
   pub reads : counted 0 3 read-value ws (at + 3) ≡ got (x .reads) e
 
-pub instr-join : (ws : List ℕ) (at i j k : ℕ) (x : Instr) {e : ℕ} → WordParts ws at (x .opcode) i → WithinParts 0 255 ws i (x .type) j → WordParts ws j (x .cost) k → counted 0 3 read-value ws k ≡ got (x .reads) e → InstrParts ws at x e
+pub instr-join : (ws : List ℕ) (at i j k : ℕ) (x : Instr) {e : ℕ} → WordParts ws at (x .opcode) i → WithinParts 0 255 ws i (x .type) j
+    → WordParts ws j (x .cost) k → counted 0 3 read-value ws k ≡ got (x .reads) e → InstrParts ws at x e
 instr-join ws at i j k x {e} a b c d =
     let i-is : i ≡ at + 1 = a .end in
     let j-is : j ≡ at + 2 = omega (arith, b .end) in
@@ -92,7 +99,8 @@ instr-parts ws at {x} {e} h =
     (instr-join ws at (a .place) (b .place) (c .place) y (word-parts ws at (a .first)) (within-parts 0 255 ws (a .place) (b .first))
     (word-parts ws (b .place) (c .first)) (d .first ∙ ap (got (d .value)) (got-place (d .second))))
 
--- Kind k, the opcode op of kind 2, values, targets, and the values expect-passed to each distinct target; each begins where the one before ends.
+-- Kind k, the opcode op of kind 2, values, targets, and the values expect-passed to each distinct target; each begins where the
+-- one before ends.
 pub record TerminatorParts (ws : List ℕ) (at : ℕ) (x : ControlInst) (e : ℕ) : Type 0 where
   pub k : ℕ
   pub op : ℕ
@@ -145,7 +153,8 @@ pub record HeadParts (ws : List ℕ) (h : Head) (e : ℕ) : Type 0 where
   pub test-cost : h .test-cost ≡ getD ws 3 0
   pub constants : counted 0 64 type ws 4 ≡ got (h .constants) e
 
-pub head-join : (ws : List ℕ) (i j k : ℕ) (x : Head) {e : ℕ} → WithinParts 1 32 ws 1 (x .count) i → WordParts ws i (x .entry) j → WordParts ws j (x .test-cost) k → counted 0 64 type ws k ≡ got (x .constants) e → HeadParts ws x e
+pub head-join : (ws : List ℕ) (i j k : ℕ) (x : Head) {e : ℕ} → WithinParts 1 32 ws 1 (x .count) i → WordParts ws i (x .entry) j
+    → WordParts ws j (x .test-cost) k → counted 0 64 type ws k ≡ got (x .constants) e → HeadParts ws x e
 head-join ws i j k x {e} a b c d =
     let i-is : i ≡ 2 = a .end in
     let j-is : j ≡ 3 = omega (arith, b .end) in

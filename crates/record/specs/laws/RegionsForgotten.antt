@@ -4,7 +4,8 @@ use mathlib.Core.List.{List}
 use Prim.Native.Nat.{ℕ, _<_}
 use lib.ListN.{length}
 use Rattle.meaning.specs.Graph.{Instr, Region}
-use Rattle.format.specs.Read.{Read, got, bad, Reader, read-then, word, within, counted, type, instruction, block, terminator, read-region, Head, head}
+use Rattle.format.specs.Read.{Read, got, bad, Reader, read-then, word, within, counted, type, instruction, block, terminator, read-region}
+use Rattle.format.specs.Read.{Head, head}
 use Rattle.format.specs.Places.{forget-value}
 use Rattle.meaning.specs.facts.Tests.{clash}
 use Rattle.record.specs.Readings.{ending-read, count-of, head-count, after-count}
@@ -22,16 +23,21 @@ module _ (ws : List ℕ) (at : ℕ) where
   unfolding ending-read
   ending-limit h = rw h
 
-  pub ending-terminator : {l p m : ℕ} → within 1 65535 ws at ≡ got l p → forget-value (terminator ws p) ≡ bad m → bad m ≡ forget-value (ending-read ws at)
+  pub ending-terminator : {l p m : ℕ} → within 1 65535 ws at ≡ got l p → forget-value (terminator ws p) ≡ bad m
+      → bad m ≡ forget-value (ending-read ws at)
   unfolding ending-read
   ending-terminator h j = rw (h, j)
 
-  pub ending-exits : {l p q : ℕ} {r : Read Unit} → within 1 65535 ws at ≡ got l p → forget-value (terminator ws p) ≡ got tt q → forget-value (counted 0 32 word ws q) ≡ r → r ≡ forget-value (ending-read ws at)
+  pub ending-exits : {l p q : ℕ} {r : Read Unit} → within 1 65535 ws at ≡ got l p → forget-value (terminator ws p) ≡ got tt q
+      → forget-value (counted 0 32 word ws q) ≡ r → r ≡ forget-value (ending-read ws at)
   unfolding ending-read
   ending-exits h j k = rw (h, j, k)
 
 -- what stands after the blocks, with the read-region made of it
-ending-made : (inputs : List ℕ) (blocks : List (List Instr)) (ws : List ℕ) (at : ℕ) → forget-value (ending-read ws at) ≡ forget-value {A = Region} (read-then (within 1 65535 ws at) λ limit p. read-then (terminator ws p) λ end q. read-then (counted 0 32 word ws q) λ exits e. got (record { inputs = inputs; blocks = blocks; limit = limit; terminator = end; exits = exits }) e)
+ending-made : (inputs : List ℕ) (blocks : List (List Instr)) (ws : List ℕ) (at : ℕ)
+    → forget-value (ending-read ws at) ≡ forget-value {A = Region}
+    (read-then (within 1 65535 ws at) λ limit p. read-then (terminator ws p) λ end q. read-then (counted 0 32 word ws q) λ exits e. got
+    (record { inputs = inputs; blocks = blocks; limit = limit; terminator = end; exits = exits }) e)
 unfolding ending-read
 ending-made inputs blocks ws at = simp (forget-value-follow, follow-forget-value, forget-value-given)
 
@@ -40,11 +46,13 @@ module _ (ws : List ℕ) (at : ℕ) where
   unfolding read-region
   region-inputs h = stopped (counted 0 4 type ws at) _ h
 
-  pub region-blocks : {p m : ℕ} → forget-value (counted 0 4 type ws at) ≡ got tt p → forget-value (counted 0 8 block ws p) ≡ bad m → bad m ≡ forget-value (read-region ws at)
+  pub region-blocks : {p m : ℕ} → forget-value (counted 0 4 type ws at) ≡ got tt p → forget-value (counted 0 8 block ws p) ≡ bad m
+      → bad m ≡ forget-value (read-region ws at)
   unfolding read-region
   region-blocks {p} h j = let f = found (counted 0 4 type ws at) h in rw (f .is) (stopped (counted 0 8 block ws p) _ j)
 
-  pub region-rest : {p q : ℕ} → forget-value (counted 0 4 type ws at) ≡ got tt p → forget-value (counted 0 8 block ws p) ≡ got tt q → forget-value (ending-read ws q) ≡ forget-value (read-region ws at)
+  pub region-rest : {p q : ℕ} → forget-value (counted 0 4 type ws at) ≡ got tt p → forget-value (counted 0 8 block ws p) ≡ got tt q
+      → forget-value (ending-read ws q) ≡ forget-value (read-region ws at)
   unfolding read-region
   region-rest {p} {q} h j =
       let f = found (counted 0 4 type ws at) h in
@@ -60,7 +68,8 @@ module _ (ws : List ℕ) (at : ℕ) where
   unfolding after-count
   after-count-test h j = rw (h, j)
 
-  pub after-count-rest : {a p b e : ℕ} → word ws at ≡ got a p → word ws p ≡ got b e → forget-value (counted 0 64 type ws e) ≡ forget-value (after-count ws at)
+  pub after-count-rest : {a p b e : ℕ} → word ws at ≡ got a p → word ws p ≡ got b e
+      → forget-value (counted 0 64 type ws e) ≡ forget-value (after-count ws at)
   unfolding after-count
   after-count-rest h j = rw (h, j)
 
@@ -69,7 +78,8 @@ count-follow (got a i) k = refl
 count-follow (bad n) k = refl
 
 -- the read-region count is kept once the rest is read
-head-counted : (ws : List ℕ) (at : ℕ) → head-count ws at ≡ read-then (within 1 32 ws at) λ n p. read-then (forget-value (after-count ws p)) λ u e. got n e
+head-counted : (ws : List ℕ) (at : ℕ) → head-count ws at ≡ read-then (within 1 32 ws at) λ n p. read-then
+    (forget-value (after-count ws p)) λ u e. got n e
 unfolding head head-count after-count
 head-counted ws at = simp (count-follow, follow-follow, follow-forget-value)
 
@@ -85,7 +95,8 @@ module _ (ws : List ℕ) (at : ℕ) where
 
 -- what is read begins in front of the end
 module _ (ws : List ℕ) (at : ℕ) where
-  pub counted-inside : {A : Type 0} (low high : ℕ) (p : Reader A) {e : ℕ} → forget-value (counted low high p ws at) ≡ got tt e → at < length ws
+  pub counted-inside : {A : Type 0} (low high : ℕ) (p : Reader A) {e : ℕ} → forget-value (counted low high p ws at) ≡ got tt e
+      → at < length ws
   counted-inside low high p h = let f = found (counted low high p ws at) h in counted-parts low high p ws at (f .is) .inside
 
   pub block-inside : {e : ℕ} → forget-value (block ws at) ≡ got tt e → at < length ws

@@ -14,7 +14,8 @@ pub row-none : (old : List ℕ) (at : ℕ) (f : ℕ → ℕ) → Row old old at 
 row-none old at f = record { size = refl; below = λ k l. refl; above = λ k l. refl; row = λ k l. absurd (omega arith) }
 
 -- one word more
-pub row-next : (old new : List ℕ) (at n : ℕ) (f : ℕ → ℕ) {v : ℕ} → Row old new at n f → at + n < length old → v ≡ f n → Row old (set new (at + n) v) at (n + 1) f
+pub row-next : (old new : List ℕ) (at n : ℕ) (f : ℕ → ℕ) {v : ℕ} → Row old new at n f → at + n < length old → v ≡ f n
+    → Row old (set new (at + n) v) at (n + 1) f
 row-next old new at n f {v} r l h =
     record {
       size = length-set new (at + n) v ∙ r .size;
@@ -33,7 +34,8 @@ pub row-end : (old new : List ℕ) (at n m : ℕ) (f : ℕ → ℕ) → n ≤ m 
 row-end old new at n m f p q r = let same : n ≡ m = omega arith in subst (λ k. Row old new at k f) same r
 
 -- two rows, one after the other
-pub row-join : (old mid new : List ℕ) (at n m : ℕ) (f g : ℕ → ℕ) → Row old mid at n f → Row mid new (at + n) m g → ((k : ℕ) → g k ≡ f (n + k)) → Row old new at (n + m) f
+pub row-join : (old mid new : List ℕ) (at n m : ℕ) (f g : ℕ → ℕ) → Row old mid at n f → Row mid new (at + n) m g
+    → ((k : ℕ) → g k ≡ f (n + k)) → Row old new at (n + m) f
 row-join old mid new at n m f g a b same =
     record {
       size = b .size ∙ a .size;
@@ -54,7 +56,8 @@ row-join old mid new at n m f g a b same =
 pub row-front : {old new : List ℕ} {at n : ℕ} {f : ℕ → ℕ} → Row old new at n f → (k : ℕ) → k ≤ at → take k new ≡ take k old
 row-front {old} {new} r k l =
     ext-getD 0 (take k new) (take k old) (length-take k new ∙ ap (min k) (r .size) ∙ sym (length-take k old))
-    (λ i below. let less : i < k = omega (arith, length-take k new) in getD-take k new i 0 less ∙ r .below i (omega arith) ∙ sym (getD-take k old i 0 less))
+    (λ i below. let less : i < k = omega (arith, length-take k new) in getD-take k new i 0 less ∙ r .below i (omega arith)
+    ∙ sym (getD-take k old i 0 less))
 
 pub row-back : {old new : List ℕ} {at n : ℕ} {f : ℕ → ℕ} → Row old new at n f → (k : ℕ) → at + n ≤ k → drop k new ≡ drop k old
 row-back {old} {new} r k l =

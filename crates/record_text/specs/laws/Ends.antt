@@ -22,23 +22,28 @@ module _ (x : ControlInst) where
   unfolding terminator-text
   return-text e = ap terminator-text e
 
-  pub exit-text : (op : ℕ) → terminator-is (ExitInvocation op) x ≡ x → ascii "exit " ++ decimal op ++ (ascii " " ++ values-text (values-of x) ++ ascii "\n") ≡ terminator-text x
+  pub exit-text : (op : ℕ) → terminator-is (ExitInvocation op) x ≡ x
+      → ascii "exit " ++ decimal op ++ (ascii " " ++ values-text (values-of x) ++ ascii "\n") ≡ terminator-text x
   unfolding terminator-text labeled
   exit-text op e = ap terminator-text e
 
-  pub branch-text : terminator-is Branch x ≡ x → labeled "branch to " (getD (edges-of x) 0 no-edge .target) ++ ascii "\n" ≡ terminator-text x
+  pub branch-text : terminator-is Branch x ≡ x → labeled "branch to " (getD (edges-of x) 0 no-edge .target) ++ ascii "\n"
+      ≡ terminator-text x
   unfolding terminator-text
   branch-text e = ap terminator-text e
 
   -- The value that is tested, also by the accessor's default.
-  tested : (k : SelectionKind) → select-branch k (getD (values-of x) 0 (undef 0)) (edges-of x) ≡ x → getD (values-of x) 0 no-value ≡ getD (values-of x) 0 (undef 0)
+  tested : (k : SelectionKind) → select-branch k (getD (values-of x) 0 (undef 0)) (edges-of x) ≡ x
+      → getD (values-of x) 0 no-value ≡ getD (values-of x) 0 (undef 0)
   tested k e = ap (λ y. getD (values-of y) 0 no-value) (sym e)
 
   abbrev select-text : String → Text
   select-text label =
-      ascii label ++ value-text (getD (values-of x) 0 no-value) ++ ascii " to " ++ numbers-text (map (λ e. e .target) (edges-of x)) ++ ascii "\n"
+      ascii label ++ value-text (getD (values-of x) 0 no-value) ++ ascii " to " ++ numbers-text
+      (map (λ e. e .target) (edges-of x)) ++ ascii "\n"
 
-  select-same : (k : SelectionKind) (label : String) → select-branch k (getD (values-of x) 0 (undef 0)) (edges-of x) ≡ x → select-text label ≡ select-line-text label (getD (values-of x) 0 (undef 0)) (edges-of x)
+  select-same : (k : SelectionKind) (label : String) → select-branch k (getD (values-of x) 0 (undef 0)) (edges-of x) ≡ x
+      → select-text label ≡ select-line-text label (getD (values-of x) 0 (undef 0)) (edges-of x)
   unfolding select-line-text
   select-same k label e =
       ap (λ v. ascii label ++ value-text v ++ ascii " to " ++ numbers-text (map (λ e. e .target) (edges-of x)) ++ ascii "\n") (tested k e)

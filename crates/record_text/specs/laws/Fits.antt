@@ -13,7 +13,7 @@ use Rattle.store.specs.Layout.{record-end}
 use Rattle.store.specs.Loaded.{words-counted}
 use Rattle.store.proofs.Store.{holds}
 use Rattle.record.specs.laws.Parts.{then, accepted-value}
-use Rattle.text.specs.Lengths.{five-digits}
+use Rattle.text.specs.laws.Lengths.{five-digits}
 use Rattle.record_text.specs.Listing.{listing-of, refusal-text, shown-text}
 use Rattle.record_text.specs.laws.ItemBytes.{Small}
 use Rattle.record_text.specs.laws.RegionBytes.{listing-enough}

@@ -13,8 +13,9 @@ use Rattle.format.specs.Read.{got, Reader, read-then, word, many, counted, type
 use Rattle.format.specs.laws.Readers.{part, got-place}
 use Rattle.record.specs.laws.Parts.{word-parts, within-parts, counted-parts}
 use Rattle.record.specs.laws.PartsWithin.{value-parts, instr-parts}
-use Rattle.text.specs.Lengths.{five-digits, labeled-length, item-length, listed-length}
-use Rattle.record_text.specs.Listing.{dotted-text, value-text, numbers-text, values-text, item-text, items-text, block-text, blocks-text}
+use Rattle.text.specs.laws.Lengths.{five-digits, labeled-length, item-length, listed-length}
+use Rattle.record_text.specs.Listing.{dotted-text, value-text, numbers-text, values-text, item-text, items-text, block-text}
+use Rattle.record_text.specs.Listing.{blocks-text}
 
 -- A word is a number of two bytes.
 abbrev pub Small : ℕ → Type 0
@@ -67,15 +68,25 @@ pub record ManyParts {A : Type 0} (p : Reader A) (ws : List ℕ) (n at : ℕ) (x
   pub first : p ws at ≡ got value place
   pub rest : many n p ws place ≡ got others e
 
-pub many-parts : {A : Type 0} (p : Reader A) (ws : List ℕ) (n at : ℕ) {xs : List A} {e : ℕ} → many (suc n) p ws at ≡ got xs e → ManyParts p ws n at xs e
+pub many-parts : {A : Type 0} (p : Reader A) (ws : List ℕ) (n at : ℕ) {xs : List A} {e : ℕ} → many (suc n) p ws at ≡ got xs e
+    → ManyParts p ws n at xs e
 unfolding many
 many-parts p ws n at {xs} {e} h =
     let a = part (p ws at) (λ x i. read-then (many n p ws i) λ ys j. got (x ∷ ys) j) xs e h in
     let b = part (many n p ws (a .place)) (λ ys j. got (a .value ∷ ys) j) xs e (a .second) in
-    record { value = a .value; others = b .value; place = a .place; is = cc; first = a .first; rest = b .first ∙ ap (got (b .value)) (got-place (b .second)) }
+    record {
+      value = a .value;
+      others = b .value;
+      place = a .place;
+      is = cc;
+      first = a .first;
+      rest = b .first
+          ∙ ap (got (b .value)) (got-place (b .second));
+    }
 
 module _ (ws : List ℕ) where
-  pub many-enough : {A : Type 0} (p : Reader A) (bytes : A → ℕ) → Enough ws p bytes → (n at : ℕ) {xs : List A} {e : ℕ} → many n p ws at ≡ got xs e → total bytes xs + 16 * at ≤ 16 * e
+  pub many-enough : {A : Type 0} (p : Reader A) (bytes : A → ℕ) → Enough ws p bytes → (n at : ℕ) {xs : List A} {e : ℕ}
+      → many n p ws at ≡ got xs e → total bytes xs + 16 * at ≤ 16 * e
   unfolding many
   many-enough p bytes h zero at {xs} {e} q =
       let none : xs ≡ [] = cc in
@@ -85,12 +96,20 @@ module _ (ws : List ℕ) where
       let a = many-parts p ws n at q in
       rw (a .is) (omega (arith, h .enough at (a .first), many-enough p bytes h n (a .place) (a .rest)))
 
-  counted-enough : {A : Type 0} (p : Reader A) (bytes : A → ℕ) → Enough ws p bytes → (low high : ℕ) → Enough ws (counted low high p) (λ xs. 16 + total bytes xs)
+  counted-enough : {A : Type 0} (p : Reader A) (bytes : A → ℕ) → Enough ws p bytes → (low high : ℕ)
+      → Enough ws (counted low high p) (λ xs. 16 + total bytes xs)
   counted-enough p bytes h low high =
-      record { enough = λ at {x = xs} q. omega (arith, many-enough p bytes h (length xs) (at + 1) (counted-parts low high p ws at q .items)) }
+      record {
+        enough = λ at {x = xs} q. omega (
+          arith,
+          many-enough p bytes h (length xs) (at + 1)
+              (counted-parts low high p ws at q .items),
+        );
+      }
 
   -- A list joined by commas, or `-`.
-  listed-enough : {A : Type 0} (p : Reader A) (show : A → Text) → Enough ws p (item-length show) → (low high : ℕ) → Enough ws (counted low high p) (λ xs. 15 + length (listed show xs))
+  listed-enough : {A : Type 0} (p : Reader A) (show : A → Text) → Enough ws p (item-length show) → (low high : ℕ)
+      → Enough ws (counted low high p) (λ xs. 15 + length (listed show xs))
   listed-enough p show h low high =
       record { enough = λ at {x = xs} q. omega (arith, counted-enough p (item-length show) h low high .enough at q, listed-length show xs) }
 
@@ -105,7 +124,10 @@ module _ (ws : List ℕ) (small : (k : ℕ) → Small (getD ws k 0)) where
   type-enough : Enough ws type (item-length decimal)
   unfolding type
   type-enough =
-      record { enough = λ at {x = n} q. let a = within-parts 1 255 ws at q in omega (arith, a .end, five-digits n (omega (arith, a .high-bound))) }
+      record {
+        enough = λ at {x = n} q. let a = within-parts 1 255 ws at q in
+            omega (arith, a .end, five-digits n (omega (arith, a .high-bound)));
+      }
 
   pub words-enough : (low high : ℕ) → Enough ws (counted low high word) (λ xs. 15 + length (numbers-text xs))
   unfolding numbers-text
@@ -137,12 +159,21 @@ module _ (ws : List ℕ) (small : (k : ℕ) → Small (getD ws k 0)) where
         let type : Small (i .type) = omega (arith, a .type-bound) in
         let cost : Small (i .cost) = rw (a .cost) (small (at + 2)) in
         simp length-append
-        (omega (arith, five-digits r p, five-digits k q, five-digits (i .opcode) opcode, five-digits (i .type) type, five-digits (i .cost) cost, values-enough 0 3 .enough (at + 3) (a .reads)));
+        (omega (
+          arith,
+          five-digits r p,
+          five-digits k q,
+          five-digits (i .opcode) opcode,
+          five-digits (i .type) type,
+          five-digits (i .cost) cost,
+          values-enough 0 3 .enough (at + 3) (a .reads),
+        ));
   }
 
   -- The instructions of region r.
   module _ (few : length ws ≤ 65536) (r : ℕ) (known : Small r) where
-    items-enough : (n k at : ℕ) {b : List Instr} {e : ℕ} → k ≤ at → many n instruction ws at ≡ got b e → NumberedEnough (total (item-length (λ t. t)) (items-text r k b)) at (k + length b) e
+    items-enough : (n k at : ℕ) {b : List Instr} {e : ℕ} → k ≤ at → many n instruction ws at ≡ got b e
+        → NumberedEnough (total (item-length (λ t. t)) (items-text r k b)) at (k + length b) e
     unfolding many items-text
     items-enough zero k at {b} {e} l q =
         let none : b ≡ [] = cc in
@@ -154,13 +185,15 @@ module _ (ws : List ℕ) (small : (k : ℕ) → Small (getD ws k 0)) where
         let rest = items-enough n (suc k) (a .place) (omega arith) (a .rest) in
         rw (a .is) (record { enough = omega (arith, rest .enough); number = omega (arith, rest .number) })
 
-    block-enough : (k at : ℕ) {b : List Instr} {e : ℕ} → k ≤ at → block ws at ≡ got b e → NumberedEnough (length (block-text r k b)) at (k + length b) e
+    block-enough : (k at : ℕ) {b : List Instr} {e : ℕ} → k ≤ at → block ws at ≡ got b e
+        → NumberedEnough (length (block-text r k b)) at (k + length b) e
     unfolding block block-text
     block-enough k at {b} l q =
         let a = items-enough (length b) k (at + 1) (omega arith) (counted-parts 1 8 instruction ws at q .items) in
         record { enough = simp length-append (omega (arith, a .enough, listed-length (λ t. t) (items-text r k b))); number = a .number }
 
-    blocks-many : (n k at : ℕ) {bs : List (List Instr)} {e : ℕ} → k ≤ at → many n block ws at ≡ got bs e → length (blocks-text r k bs) + 16 * at ≤ 16 * e
+    blocks-many : (n k at : ℕ) {bs : List (List Instr)} {e : ℕ} → k ≤ at → many n block ws at ≡ got bs e
+        → length (blocks-text r k bs) + 16 * at ≤ 16 * e
     unfolding many blocks-text
     blocks-many zero k at {bs} {e} l q =
         let none : bs ≡ [] = cc in
@@ -174,4 +207,10 @@ module _ (ws : List ℕ) (small : (k : ℕ) → Small (getD ws k 0)) where
 
     pub blocks-enough : Enough ws (counted 0 8 block) (λ bs. 16 + length (blocks-text r 0 bs))
     blocks-enough =
-        record { enough = λ at {x = bs} q. omega (arith, blocks-many (length bs) 0 (at + 1) (omega arith) (counted-parts 0 8 block ws at q .items)) }
+        record {
+          enough = λ at {x = bs} q. omega (
+            arith,
+            blocks-many (length bs) 0 (at + 1) (omega arith)
+                (counted-parts 0 8 block ws at q .items),
+          );
+        }

@@ -24,7 +24,8 @@ unfolding distinct-from
 not-again [] seen x h = refl
 not-again (t ∷ ts) seen x h = by-test (is-in t seen) refl (not-again ts seen x h) (not-again ts (t ∷ seen) x)
   where
-    by-test : (b : Bool) → is-in t seen ≡ b → is-in x (distinct-from seen ts) ≡ false → (is-in x (t ∷ seen) ≡ true → is-in x (distinct-from (t ∷ seen) ts) ≡ false) → is-in x (distinct-from seen (t ∷ ts)) ≡ false
+    by-test : (b : Bool) → is-in t seen ≡ b → is-in x (distinct-from seen ts) ≡ false
+        → (is-in x (t ∷ seen) ≡ true → is-in x (distinct-from (t ∷ seen) ts) ≡ false) → is-in x (distinct-from seen (t ∷ ts)) ≡ false
     by-test true q again new = ap (is-in x) (distinct-again seen t ts q) ∙ again
     by-test false q again new =
         let apart : eqb x t ≡ false = ne-eqb x t (λ e. let z = ap (λ y. is-in y seen) e in clash (cc)) in
@@ -35,7 +36,8 @@ unfolding distinct-from
 distinct [] seen = tt
 distinct (t ∷ ts) seen = by-test (is-in t seen) refl (distinct ts seen) (distinct ts (t ∷ seen))
   where
-    by-test : (b : Bool) → is-in t seen ≡ b → Distinct (distinct-from seen ts) → Distinct (distinct-from (t ∷ seen) ts) → Distinct (distinct-from seen (t ∷ ts))
+    by-test : (b : Bool) → is-in t seen ≡ b → Distinct (distinct-from seen ts) → Distinct (distinct-from (t ∷ seen) ts)
+        → Distinct (distinct-from seen (t ∷ ts))
     by-test true q again new = rw (distinct-again seen t ts q) again
     by-test false q again new =
         rw (distinct-new seen t ts q) (not-again ts (t ∷ seen) t (ap (λ b. b || is-in t seen) (eq-eqb t t refl)), new)
@@ -50,7 +52,10 @@ module _ (passed : ℕ → List Value) where
   first-edges-are [] seen = refl
   first-edges-are (t ∷ ts) seen = by-test (is-in t seen) (first-edges-are ts seen) (first-edges-are ts (t ∷ seen))
     where
-      by-test : (b : Bool) → first-edges seen (map edge-to ts) ≡ map edge-to (distinct-from seen ts) → first-edges (t ∷ seen) (map edge-to ts) ≡ map edge-to (distinct-from (t ∷ seen) ts) → elim b [ true ↦ first-edges seen (map edge-to ts) | false ↦ edge-to t ∷ first-edges (t ∷ seen) (map edge-to ts) ] ≡ map edge-to (elim b [ true ↦ distinct-from seen ts | false ↦ t ∷ distinct-from (t ∷ seen) ts ])
+      by-test : (b : Bool) → first-edges seen (map edge-to ts) ≡ map edge-to (distinct-from seen ts)
+          → first-edges (t ∷ seen) (map edge-to ts) ≡ map edge-to (distinct-from (t ∷ seen) ts)
+          → elim b [ true ↦ first-edges seen (map edge-to ts) | false ↦ edge-to t ∷ first-edges (t ∷ seen) (map edge-to ts) ] ≡ map edge-to
+          (elim b [ true ↦ distinct-from seen ts | false ↦ t ∷ distinct-from (t ∷ seen) ts ])
       by-test true again new = again
       by-test false again new = ap (λ es. edge-to t ∷ es) new
 
@@ -59,7 +64,8 @@ module _ (f : List Value → ℕ) where
   abbrev ranked : List (List Value) → List ℕ → ℕ → ℕ
   ranked passes ts t = f (getD passes (rank t ts) [])
 
-  behind : (d : ℕ) (p : List Value) (ps : List (List Value)) (ds us : List ℕ) → is-in d us ≡ false → total (ranked (p ∷ ps) (d ∷ ds)) us ≡ total (ranked ps ds) us
+  behind : (d : ℕ) (p : List Value) (ps : List (List Value)) (ds us : List ℕ) → is-in d us ≡ false
+      → total (ranked (p ∷ ps) (d ∷ ds)) us ≡ total (ranked ps ds) us
   behind d p ps ds [] h = refl
   behind d p ps ds (u ∷ us) h =
       let apart = or-split (eqb d u) (is-in d us) h in
@@ -67,18 +73,21 @@ module _ (f : List Value → ℕ) where
       ap (λ n. f (getD (p ∷ ps) n []) + total (ranked (p ∷ ps) (d ∷ ds)) us) (rank-next u d ds other)
       ∙ ap (λ n. ranked ps ds u + n) (behind d p ps ds us (apart .1))
 
-  ranked-total : (ds : List ℕ) → Distinct ds → (passes : List (List Value)) → length passes ≡ length ds → total (ranked passes ds) ds ≤ total f passes
+  ranked-total : (ds : List ℕ) → Distinct ds → (passes : List (List Value)) → length passes ≡ length ds
+      → total (ranked passes ds) ds ≤ total f passes
   ranked-total [] w passes h = omega arith
   ranked-total (d ∷ ds) w [] h = absurd (omega arith)
   ranked-total (d ∷ ds) w (p ∷ ps) h =
       let here : ranked (p ∷ ps) (d ∷ ds) d ≡ f p = ap (λ n. f (getD (p ∷ ps) n [])) (rank-here d d ds (eq-eqb d d refl)) in
       omega (arith, behind d p ps ds ds (w .0), ranked-total ds (w .1) ps (omega arith))
 
-  over-edges : (passed : ℕ → List Value) (ts : List ℕ) → total (λ (e : Edge). f (e .inputs)) (map (edge-to passed) ts) ≡ total (λ t. f (passed t)) ts
+  over-edges : (passed : ℕ → List Value) (ts : List ℕ)
+      → total (λ (e : Edge). f (e .inputs)) (map (edge-to passed) ts) ≡ total (λ t. f (passed t)) ts
   over-edges passed [] = refl
   over-edges passed (t ∷ ts) = ap (λ n. f (passed t) + n) (over-edges passed ts)
 
-  pub pass-lists : (ts : List ℕ) (passes : List (List Value)) → length passes ≡ length (distinct-from [] ts) → total (λ (e : Edge). f (e .inputs)) (first-edges [] (edges-passed ts passes)) ≤ total f passes
+  pub pass-lists : (ts : List ℕ) (passes : List (List Value)) → length passes ≡ length (distinct-from [] ts)
+      → total (λ (e : Edge). f (e .inputs)) (first-edges [] (edges-passed ts passes)) ≤ total f passes
   unfolding edges-passed
   pass-lists ts passes h =
       let passed : ℕ → List Value = λ t. getD passes (rank t (distinct-from [] ts)) [] in

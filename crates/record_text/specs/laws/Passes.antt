@@ -33,7 +33,8 @@ passes-from es j = text-of-each pass-text (first-edges (before (pass-targets es)
 abbrev step : Bool → Edge → List Edge → List Edge → List Edge
 step again e skipped rest = elim again [ true ↦ skipped | false ↦ e ∷ rest ]
 
-first-step : (seen : List ℕ) (e : Edge) (es : List Edge) → first-edges seen (e ∷ es) ≡ step (is-in (e .target) seen) e (first-edges seen es) (first-edges (e .target ∷ seen) es)
+first-step : (seen : List ℕ) (e : Edge) (es : List Edge)
+    → first-edges seen (e ∷ es) ≡ step (is-in (e .target) seen) e (first-edges seen es) (first-edges (e .target ∷ seen) es)
 unfolding first-edges
 first-step seen e es = refl
 
@@ -59,17 +60,20 @@ named-again t seen h x = by-test (eqb x t) refl
     by-test true e = ap (λ y. is-in y seen) (eqb-true x t e) ∙ h ∙ sym (ap (λ y. y || is-in x seen) e)
     by-test false e = sym (ap (λ y. y || is-in x seen) e)
 
-first-by : (again : Bool) (seen : List ℕ) (e : Edge) (es : List Edge) → is-in (e .target) seen ≡ again → text-of-each pass-text (first-edges seen (e ∷ es)) ≡ pass-once again e ++ text-of-each pass-text (first-edges (e .target ∷ seen) es)
+first-by : (again : Bool) (seen : List ℕ) (e : Edge) (es : List Edge) → is-in (e .target) seen ≡ again
+    → text-of-each pass-text (first-edges seen (e ∷ es)) ≡ pass-once again e ++ text-of-each pass-text (first-edges (e .target ∷ seen) es)
 unfolding text-of-each pass-once
 first-by true seen e es h =
-    ap (text-of-each pass-text) (first-step seen e es ∙ ap (λ x. step x e (first-edges seen es) (first-edges (e .target ∷ seen) es)) h ∙ same-edges es seen (e .target ∷ seen) (named-again (e .target) seen h))
+    ap (text-of-each pass-text) (first-step seen e es ∙ ap (λ x. step x e (first-edges seen es) (first-edges (e .target ∷ seen) es)) h
+    ∙ same-edges es seen (e .target ∷ seen) (named-again (e .target) seen h))
 first-by false seen e es h =
     ap (text-of-each pass-text) (first-step seen e es ∙ ap (λ x. step x e (first-edges seen es) (first-edges (e .target ∷ seen) es)) h)
 
 target-at : (es : List Edge) (j : ℕ) → getD (pass-targets es) j 0 ≡ getD es j no-edge .target
 target-at es j = List·getD-map (λ e. e .target) es j no-edge
 
-passes-next : (es : List Edge) (j : ℕ) → j < length es → passes-from es j ≡ pass-once (stands-before (pass-targets es) j) (getD es j no-edge) ++ passes-from es (j + 1)
+passes-next : (es : List Edge) (j : ℕ) → j < length es
+    → passes-from es j ≡ pass-once (stands-before (pass-targets es) j) (getD es j no-edge) ++ passes-from es (j + 1)
 unfolding passes-from before
 passes-next es j h =
     let e = getD es j no-edge in
@@ -77,18 +81,24 @@ passes-next es j h =
     let stood : is-in (e .target) seen ≡ is-in (getD (pass-targets es) j 0) seen = ap (λ x. is-in x seen) (sym (target-at es j)) in
     ap (λ l. text-of-each pass-text (first-edges seen l)) (drop-cons es j no-edge h)
     ∙ first-by (is-in (getD (pass-targets es) j 0) seen) seen e (drop (suc j) es) stood
-    ∙ ap (λ x. pass-once (is-in (getD (pass-targets es) j 0) seen) e ++ text-of-each pass-text (first-edges (x ∷ seen) (drop (suc j) es))) (sym (target-at es j))
-    ∙ ap (λ n. pass-once (is-in (getD (pass-targets es) j 0) seen) e ++ text-of-each pass-text (first-edges (before (pass-targets es) n) (drop n es))) (sym (add-one j))
-    ∙ ap (λ b. pass-once b e ++ passes-from es (j + 1)) (sym (stands-within (pass-targets es) j (omega (arith, length-map es (λ e. e .target)))))
+    ∙ ap (λ x. pass-once (is-in (getD (pass-targets es) j 0) seen) e ++ text-of-each pass-text (first-edges (x ∷ seen) (drop (suc j) es)))
+    (sym (target-at es j))
+    ∙ ap (λ n. pass-once (is-in (getD (pass-targets es) j 0) seen) e ++ text-of-each pass-text
+    (first-edges (before (pass-targets es) n) (drop n es))) (sym (add-one j))
+    ∙ ap (λ b. pass-once b e ++ passes-from es (j + 1))
+    (sym (stands-within (pass-targets es) j (omega (arith, length-map es (λ e. e .target)))))
 
 pub passes-all : (es : List Edge) → passes-from es 0 ≡ passes-text es
 unfolding passes-from passes-text before
 passes-all es = refl
 
-pub wrote-pass : {o p q : Buffer} (es : List Edge) (j : ℕ) → j < length es → Wrote o (pass-once (stands-before (pass-targets es) j) (getD es j no-edge)) p → Wrote p (passes-from es (j + 1)) q → Wrote o (passes-from es j) q
+pub wrote-pass : {o p q : Buffer} (es : List Edge) (j : ℕ) → j < length es
+    → Wrote o (pass-once (stands-before (pass-targets es) j) (getD es j no-edge)) p → Wrote p (passes-from es (j + 1)) q
+    → Wrote o (passes-from es j) q
 wrote-pass es j h x y = of-text (sym (passes-next es j h)) (x ▸ y)
 
 pub wrote-passes : {o : Buffer} (es : List Edge) (j : ℕ) → length es ≤ j → Wrote o (passes-from es j) o
 unfolding passes-from first-edges text-of-each
 wrote-passes es j h =
-    of-text (sym (ap (λ l. text-of-each pass-text (first-edges (before (pass-targets es) j) l)) (drop-of-length-le es {i = j} h))) wrote-none
+    of-text (sym (ap (λ l. text-of-each pass-text (first-edges (before (pass-targets es) j) l))
+    (drop-of-length-le es {i = j} h))) wrote-none

@@ -24,20 +24,24 @@ items-at r k (i ∷ b) zero h = ap (λ n. item-text r n i) (add-zero k)
 items-at r k (i ∷ b) (suc j) h =
     ap (λ n. item-text r n (getD b j no-instr)) (add-suc k j ∙ sym (suc-add k j)) ∙ items-at r (suc k) b j (le-of-suc-le-suc h)
 
-pub wrote-block : {o p q : Buffer} (r k : ℕ) (bs : List (List Instr)) (b : ℕ) → b < length bs → Wrote o (block-text r k (getD bs b [])) p → Wrote p (blocks-text r (k + length (getD bs b [])) (drop (b + 1) bs)) q → Wrote o (blocks-text r k (drop b bs)) q
+pub wrote-block : {o p q : Buffer} (r k : ℕ) (bs : List (List Instr)) (b : ℕ) → b < length bs → Wrote o (block-text r k (getD bs b [])) p
+    → Wrote p (blocks-text r (k + length (getD bs b [])) (drop (b + 1) bs)) q → Wrote o (blocks-text r k (drop b bs)) q
 unfolding blocks-text
 wrote-block r k bs b h x y =
-    let next : blocks-text r k (drop b bs) ≡ block-text r k (getD bs b []) ++ blocks-text r (k + length (getD bs b [])) (drop (b + 1) bs) = rw add-one (ap (blocks-text r k) (drop-cons bs b [] h)) in
+    let next : blocks-text r k (drop b bs) ≡ block-text r k (getD bs b []) ++ blocks-text r (k + length (getD bs b [])) (drop (b + 1) bs) =
+    rw add-one (ap (blocks-text r k) (drop-cons bs b [] h)) in
     of-text (sym next) (x ▸ y)
 
 pub wrote-blocks : {o : Buffer} (r k : ℕ) (bs : List (List Instr)) (b : ℕ) → length bs ≤ b → Wrote o (blocks-text r k (drop b bs)) o
 unfolding blocks-text
 wrote-blocks r k bs b h = of-text (sym (ap (blocks-text r k) (drop-of-length-le bs {i = b} h))) wrote-none
 
-pub wrote-region : {o p q : Buffer} (xs : List Region) (r : ℕ) → r < length xs → Wrote o (region-text r (getD xs r nowhere)) p → Wrote p (regions-text (r + 1) (drop (r + 1) xs)) q → Wrote o (regions-text r (drop r xs)) q
+pub wrote-region : {o p q : Buffer} (xs : List Region) (r : ℕ) → r < length xs → Wrote o (region-text r (getD xs r nowhere)) p
+    → Wrote p (regions-text (r + 1) (drop (r + 1) xs)) q → Wrote o (regions-text r (drop r xs)) q
 unfolding regions-text
 wrote-region xs r h x y =
-    let next : regions-text r (drop r xs) ≡ region-text r (getD xs r nowhere) ++ regions-text (r + 1) (drop (r + 1) xs) = rw add-one (ap (regions-text r) (drop-cons xs r nowhere h)) in
+    let next : regions-text r (drop r xs) ≡ region-text r (getD xs r nowhere) ++ regions-text (r + 1) (drop (r + 1) xs) =
+    rw add-one (ap (regions-text r) (drop-cons xs r nowhere h)) in
     of-text (sym next) (x ▸ y)
 
 pub wrote-regions : {o : Buffer} (xs : List Region) (r : ℕ) → length xs ≤ r → Wrote o (regions-text r (drop r xs)) o

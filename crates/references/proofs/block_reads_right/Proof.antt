@@ -47,7 +47,8 @@ enum-known-c c = search needs
 returns : tie.Need-returns Inv-loop μ-loop
 returns c =
     let turn = c .before .before .before .before in
-    call-refused (turn .before .loop .inv) (turn .loop-test .taken) (c .before .before .before .instruction-reads-right .ensures) (c .before .c .given .1)
+    call-refused (turn .before .loop .inv) (turn .loop-test .taken) (c .before .before .before .instruction-reads-right .ensures)
+    (c .before .c .given .1)
 
 enum-told : tie.Need-enum-told Inv-loop μ-loop
 enum-told c = search needs
@@ -61,7 +62,8 @@ loop-less c = search needs
 loop-again : tie.Need-loop-again Inv-loop μ-loop
 loop-again c =
     let turn = c .before .before .before in
-    call-passed (turn .before .loop .inv) (turn .loop-test .taken) (c .before .before .instruction-reads-right .ensures) (c .enum-told .given .1)
+    call-passed (turn .before .loop .inv) (turn .loop-test .taken) (c .before .before .instruction-reads-right .ensures)
+    (c .enum-told .given .1)
 
 returns-2 : tie.Need-returns-2 Inv-loop μ-loop
 returns-2 c = round-end (c .before .loop .inv) (c .loop-test .left)

@@ -47,7 +47,8 @@ enum-known-c c = search needs
 returns : tie.Need-returns Inv-loop μ-loop
 returns c =
     let turn = c .before .before .before .before in
-    call-refused (turn .before .loop .inv) (turn .loop-test .taken) (c .before .before .before .edge-right .ensures) (c .before .c .given .1)
+    call-refused (turn .before .loop .inv) (turn .loop-test .taken) (c .before .before .before .edge-right .ensures)
+    (c .before .c .given .1)
 
 enum-told : tie.Need-enum-told Inv-loop μ-loop
 enum-told c = search needs

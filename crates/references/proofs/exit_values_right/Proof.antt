@@ -2,7 +2,7 @@
 use borrow.Author.Needs.{needs}
 use Prim.Native.Nat.{_-_}
 use native.Mathlib.Omega.{arith}
-use mathlib.Core.Path.{_≡_, refl, ap, _∙_}
+use mathlib.Core.Path.{refl, _∙_}
 use lib.ListN.{getD, drop}
 use Rattle.meaning.specs.Graph.{no-value}
 use Rattle.format.specs.References as format
@@ -47,10 +47,12 @@ enum-known-c c = search needs
 
 returns : tie.Need-returns Inv-loop μ-loop
 returns c =
-    let turn = c .before .before .before .before .before in
+    let at-before = c .before .before .before .before in
+    let turn = at-before .before in
     let start = turn .before .before in
     call-refused (turn .before .loop .inv) (turn .loop-test .taken)
-    (λ g s. c .before .before .before .named .ensures g s ∙ rw (start .before .instruction-count .ensures g s, c .before .before .before .before .value .ensures g s))
+    (λ g s. c .before .before .before .named .ensures g s
+    ∙ rw (start .before .instruction-count .ensures g s, at-before .value .ensures g s))
     (c .before .c .given .1)
 
 enum-told : tie.Need-enum-told Inv-loop μ-loop
@@ -67,7 +69,8 @@ loop-again c =
     let turn = c .before .before .before .before in
     let start = turn .before .before in
     call-passed (turn .before .loop .inv) (turn .loop-test .taken)
-    (λ g s. c .before .before .named .ensures g s ∙ rw (start .before .instruction-count .ensures g s, c .before .before .before .value .ensures g s))
+    (λ g s. c .before .before .named .ensures g s ∙ rw
+    (start .before .instruction-count .ensures g s, c .before .before .before .value .ensures g s))
     (c .enum-told .given .1)
 
 returns-2 : tie.Need-returns-2 Inv-loop μ-loop

@@ -46,16 +46,20 @@ returns c =
     let start = c .before .before .before .before in
     round-refused (c .before .before .before .loop .inv) (c .before .before .loop-test .taken) λ g s.
     let exits = region g (start .before .before .args .r) .exits in
-    bad-exit g _ (start .before .region-count .ensures g s) exits (c .before .before .before .loop .k) (c .before .exit-target .ensures g s) (c .if1 .taken)
+    bad-exit g _ (start .before .region-count .ensures g s) exits (c .before .before .before .loop .k) (c .before .exit-target .ensures g s)
+    (c .if1 .taken)
 
 exit-again-requires : tie.Need-exit-again-requires Inv-loop μ-loop
 exit-again-requires c κs = search needs
 
 returns-2 : tie.Need-returns-2 Inv-loop μ-loop
 returns-2 c =
-    let start = c .before .before .before .before .before .before in
-    round-refused (c .before .before .before .before .before .loop .inv) (c .before .before .before .before .loop-test .taken) λ g s.
-    exit-twice g _ (start .before .region-count .ensures g s) _ _ (c .before .before .before .exit-target .ensures g s) (c .before .before .if1 .left)
+    let turn = c .before .before .before .before in
+    let at-loop = turn .before in
+    let start = at-loop .before in
+    round-refused (at-loop .loop .inv) (turn .loop-test .taken) λ g s.
+    exit-twice g _ (start .before .region-count .ensures g s) _ _ (c .before .before .before .exit-target .ensures g s)
+    (c .before .before .if1 .left)
     (sym (c .before .exit-again .ensures g s) ∙ c .if2 .taken)
 
 add-k : tie.Need-add-k Inv-loop μ-loop
@@ -66,9 +70,12 @@ loop-less c = search needs
 
 loop-again : tie.Need-loop-again Inv-loop μ-loop
 loop-again c =
-    let start = c .before .before .before .before .before .before in
-    round-passed (c .before .before .before .before .before .loop .inv) (c .before .before .before .before .loop-test .taken) λ g s.
-    good-exit g _ (start .before .region-count .ensures g s) _ _ (c .before .before .before .exit-target .ensures g s) (c .before .before .if1 .left)
+    let turn = c .before .before .before .before in
+    let at-loop = turn .before in
+    let start = at-loop .before in
+    round-passed (at-loop .loop .inv) (turn .loop-test .taken) λ g s.
+    good-exit g _ (start .before .region-count .ensures g s) _ _ (c .before .before .before .exit-target .ensures g s)
+    (c .before .before .if1 .left)
     (sym (c .before .exit-again .ensures g s) ∙ c .if2 .left)
 
 returns-3 : tie.Need-returns-3 Inv-loop μ-loop

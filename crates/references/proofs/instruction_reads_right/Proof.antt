@@ -2,7 +2,7 @@
 use borrow.Author.Needs.{needs}
 use Prim.Native.Nat.{_-_}
 use native.Mathlib.Omega.{arith}
-use mathlib.Core.Path.{_≡_, refl, ap, _∙_}
+use mathlib.Core.Path.{refl, ap, _∙_}
 use lib.ListN.{getD, drop}
 use Rattle.meaning.specs.Graph.{no-value}
 use Rattle.format.specs.References as format
@@ -46,9 +46,10 @@ enum-known-c c = search needs
 
 returns : tie.Need-returns Inv-loop μ-loop
 returns c =
-    let turn = c .before .before .before .before .before in
+    let at-before = c .before .before .before .before in
+    let turn = at-before .before in
     call-refused (turn .before .loop .inv) (turn .loop-test .taken)
-    (λ g s. c .before .before .before .named .ensures g s ∙ rw (c .before .before .before .before .read .ensures g s))
+    (λ g s. c .before .before .before .named .ensures g s ∙ rw (at-before .read .ensures g s))
     (c .before .c .given .1)
 
 enum-told : tie.Need-enum-told Inv-loop μ-loop

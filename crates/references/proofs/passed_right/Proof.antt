@@ -2,7 +2,7 @@
 use borrow.Author.Needs.{needs}
 use Prim.Native.Nat.{_-_}
 use native.Mathlib.Omega.{arith}
-use mathlib.Core.Path.{_≡_, _∙_}
+use mathlib.Core.Path.{_∙_}
 use lib.ListN.{getD, drop}
 use Rattle.meaning.specs.Graph.{no-value, region}
 use Rattle.format.specs.References as format
@@ -16,7 +16,8 @@ use Rattle.references.proofs.passed_right.Tie as tie
 
 abbrev Inv-loop : tie.InvT-loop
 Inv-loop w r j t n k₀ k =
-    Round w (λ g k. typed g r (getD (region g t .inputs) k 0) (getD (edge-of g r j .inputs) k no-value)) (λ g. format.edge-right g r (edge-of g r j)) n k
+    Round w (λ g k. typed g r (getD (region g t .inputs) k 0) (getD (edge-of g r j .inputs) k no-value))
+    (λ g. format.edge-right g r (edge-of g r j)) n k
 
 abbrev μ-loop : tie.MeasureT-loop
 μ-loop w r j t n k₀ k = n - k
@@ -32,7 +33,8 @@ input-count-requires c κs = search needs
 
 returns : tie.Need-returns Inv-loop μ-loop
 returns c g s =
-    let a = c .before .before .before .before .args in
+    let start = c .before .before .before .before in
+    let a = start .args in
     let counts = c .before .before in
     edge-differs g (a .r) (edge-of g (a .r) (a .j)) (counts .before .target .ensures g s) (counts .passed-count .ensures g s)
     (c .before .input-count .ensures g s) (c .if1 .taken)
@@ -47,7 +49,8 @@ loop-holds c =
       left = λ g k. format.types-right g (a .r) (drop k (region g (target .result) .inputs)) (drop k (edge-of g (a .r) (a .j) .inputs));
       walk = λ g s.
           let types = c .if1 .left ∙ c .before .input-count .ensures g s in
-          types-walk g (a .r) (region g (target .result) .inputs) (edge-of g (a .r) (a .j) .inputs) types (counts .passed-count .ensures g s);
+          types-walk g (a .r) (region g (target .result) .inputs) (edge-of g (a .r) (a .j) .inputs) types
+          (counts .passed-count .ensures g s);
       rest = λ g s.
           edge-agrees g (a .r) (edge-of g (a .r) (a .j)) (target .ensures g s) (counts .passed-count .ensures g s)
           (c .before .input-count .ensures g s) (c .if1 .left);
@@ -67,9 +70,11 @@ enum-known-c c = search needs
 
 returns-2 : tie.Need-returns-2 Inv-loop μ-loop
 returns-2 c =
-    let turn = c .before .before .before .before .before .before in
+    let at-passed = c .before .before .before .before in
+    let at-before = at-passed .before in
+    let turn = at-before .before in
     call-refused (turn .before .loop .inv) (turn .loop-test .taken)
-    (λ g s. c .before .before .before .named-of-type .ensures g s ∙ rw (c .before .before .before .before .before .input-type .ensures g s, c .before .before .before .before .passed .ensures g s))
+    (λ g s. c .before .before .before .named-of-type .ensures g s ∙ rw (at-before .input-type .ensures g s, at-passed .passed .ensures g s))
     (c .before .c .given .1)
 
 enum-told : tie.Need-enum-told Inv-loop μ-loop
@@ -83,9 +88,11 @@ loop-less c = search needs
 
 loop-again : tie.Need-loop-again Inv-loop μ-loop
 loop-again c =
-    let turn = c .before .before .before .before .before in
+    let at-before = c .before .before .before .before in
+    let turn = at-before .before in
     call-passed (turn .before .loop .inv) (turn .loop-test .taken)
-    (λ g s. c .before .before .named-of-type .ensures g s ∙ rw (c .before .before .before .before .input-type .ensures g s, c .before .before .before .passed .ensures g s))
+    (λ g s. c .before .before .named-of-type .ensures g s
+    ∙ rw (at-before .input-type .ensures g s, c .before .before .before .passed .ensures g s))
     (c .enum-told .given .1)
 
 returns-3 : tie.Need-returns-3 Inv-loop μ-loop

@@ -45,7 +45,8 @@ enum-known-c c = search needs
 returns-2 : tie.Need-returns-2 Inv-loop μ-loop
 returns-2 c =
     let turn = c .before .before .before .before in
-    call-refused (turn .before .loop .inv) (turn .loop-test .taken) (c .before .before .before .region-right .ensures) (c .before .c .given .1)
+    call-refused (turn .before .loop .inv) (turn .loop-test .taken) (c .before .before .before .region-right .ensures)
+    (c .before .c .given .1)
 
 enum-told : tie.Need-enum-told Inv-loop μ-loop
 enum-told c = search needs

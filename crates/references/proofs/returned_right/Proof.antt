@@ -2,7 +2,7 @@
 use borrow.Author.Needs.{needs}
 use Prim.Native.Nat.{_-_}
 use native.Mathlib.Omega.{arith}
-use mathlib.Core.Path.{_≡_, _∙_}
+use mathlib.Core.Path.{_∙_}
 use lib.ListN.{getD, drop}
 use Rattle.meaning.specs.Graph.{no-value}
 use Rattle.format.specs.References as format
@@ -67,10 +67,13 @@ enum-known-c c = search needs
 
 returns-2 : tie.Need-returns-2 Inv-loop μ-loop
 returns-2 c =
-    let turn = c .before .before .before .before .before .before in
+    let at-value = c .before .before .before .before in
+    let at-before = at-value .before in
+    let turn = at-before .before in
     let first = turn .before .before .before .before .before .first-return in
     call-refused (turn .before .loop .inv) (turn .loop-test .taken)
-    (λ g s. c .before .before .before .named-of-type .ensures g s ∙ rw (c .before .before .before .before .before .return-type .ensures g s ∙ return-type g _ (first .ensures g s), c .before .before .before .before .value .ensures g s))
+    (λ g s. c .before .before .before .named-of-type .ensures g s
+    ∙ rw (at-before .return-type .ensures g s ∙ return-type g _ (first .ensures g s), at-value .value .ensures g s))
     (c .before .c .given .1)
 
 enum-told : tie.Need-enum-told Inv-loop μ-loop
@@ -84,10 +87,12 @@ loop-less c = search needs
 
 loop-again : tie.Need-loop-again Inv-loop μ-loop
 loop-again c =
-    let turn = c .before .before .before .before .before in
+    let at-before = c .before .before .before .before in
+    let turn = at-before .before in
     let first = turn .before .before .before .before .before .first-return in
     call-passed (turn .before .loop .inv) (turn .loop-test .taken)
-    (λ g s. c .before .before .named-of-type .ensures g s ∙ rw (c .before .before .before .before .return-type .ensures g s ∙ return-type g _ (first .ensures g s), c .before .before .before .value .ensures g s))
+    (λ g s. c .before .before .named-of-type .ensures g s
+    ∙ rw (at-before .return-type .ensures g s ∙ return-type g _ (first .ensures g s), c .before .before .before .value .ensures g s))
     (c .enum-told .given .1)
 
 returns-3 : tie.Need-returns-3 Inv-loop μ-loop

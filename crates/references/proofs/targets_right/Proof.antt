@@ -16,7 +16,8 @@ use Rattle.references.proofs.targets_right.Tie as tie
 
 abbrev Inv-loop : tie.InvT-loop
 Inv-loop w r count n j₀ j =
-    Round w (λ g k. format.target-right g r (edge-of g r k)) (λ g. format.first-refusal (format.target-right g r) (edges-of (region g r .terminator))) n j
+    Round w (λ g k. format.target-right g r (edge-of g r k))
+    (λ g. format.first-refusal (format.target-right g r) (edges-of (region g r .terminator))) n j
 
 abbrev μ-loop : tie.MeasureT-loop
 μ-loop w r count n j₀ j = n - j

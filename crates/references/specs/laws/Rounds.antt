@@ -4,12 +4,12 @@ use mathlib.Core.List.{List}
 use Prim.Native.Nat.{ℕ, _+_, _≤_, _<_}
 use native.Mathlib.Omega.{arith}
 use Rattle.meaning.specs.Graph.{Graph}
-use Rattle.format.specs.Store.{Answer, accepted, refused}
+use Rattle.format.specs.Store.{Answer, accepted, refused, if-accepted}
 use Rattle.store.specs.Loaded.{answered}
 use Rattle.store.specs.declared.Checked.{Checked}
 use Rattle.store.specs.declared.Checked.the-variants.{Right, Refused}
 use Rattle.record.specs.Stands.{OfRecord}
-use Rattle.references.specs.laws.Walk.{Walk, passes, stops, ends}
+use Rattle.references.specs.laws.Walk.{Walk, passes, stops, ends, then-refused, then-rest}
 
 -- The k-th of n rounds: what is left, after the checks before it, is the whole answer.
 pub record Round (w : List ℕ) (step : Graph → ℕ → Answer Unit) (whole : Graph → Answer Unit) (n k : ℕ) : Type 0 where
@@ -42,3 +42,11 @@ module _ {w : List ℕ} {step : Graph → ℕ → Answer Unit} {whole : Graph �
 
       pub call-refused : {a b : ℕ} → y ≡ Refused a b → OfRecord w (λ g. refused a b ≡ whole g)
       call-refused q = round-refused λ g s. sym (ap answered q) ∙ call g s
+
+-- A check before the rest, by the answer of a call: the rest decides, or the check refuses.
+module _ {y : Checked} {a : Answer Unit} (rest : Answer Unit) (call : answered y ≡ a) where
+  pub passed-on : y ≡ Right → rest ≡ if-accepted a (λ _. rest)
+  passed-on q = then-rest rest (sym (ap answered q) ∙ call)
+
+  pub stopped : {i j : ℕ} → y ≡ Refused i j → refused i j ≡ if-accepted a (λ _. rest)
+  stopped q = then-refused rest (sym (ap answered q) ∙ call)

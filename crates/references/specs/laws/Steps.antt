@@ -8,9 +8,12 @@ use native.Mathlib.Nat.{add-zero}
 use lib.ListN.{length, getD, drop, length-map, List·getD-map}
 use lib.Dec.{eqb}
 use borrow.Author.Tests.{lt-ltb, le-ltb, eq-eqb, ne-eqb}
-use Rattle.meaning.specs.Graph.{Graph, Value, no-value, undef, Instr, Edge, SelectionKind, bool-cond, number, ControlInst, select-branch, Region, region, nowhere, edges-of}
+use Rattle.meaning.specs.Graph.{Graph, Value, no-value, undef, Instr, Edge, SelectionKind, bool-cond, number, ControlInst, select-branch}
+use Rattle.meaning.specs.Graph.{Region, region, nowhere, edges-of}
 use Rattle.format.specs.Store.{Answer, accepted, refused, if-accepted}
-use Rattle.format.specs.References.{instructions, type-in, behind-all, refuse-unless, first-refusal, is-return, first-return, return-types, values-of, is-region, named-right, of-type, reads-right, types-right, passed-right, test-right, values-right, target-right, edge-right, first-edges, exits-right, regions-right, references}
+use Rattle.format.specs.References.{instructions, type-in, behind-all, refuse-unless, first-refusal, is-return, first-return, return-types}
+use Rattle.format.specs.References.{values-of, is-region, named-right, of-type, reads-right, types-right, passed-right, test-right}
+use Rattle.format.specs.References.{values-right, target-right, edge-right, first-edges, exits-right, regions-right, references}
 use Rattle.fields.specs.ByNumber.{stands-before}
 use Rattle.references.specs.laws.Walk.{then-then, then-accepted, then-refused, then-rest}
 use Rattle.references.specs.Checks.{typed}
@@ -66,25 +69,35 @@ module _ (g : Graph) (r t : ℕ) (v : Value) {x : ℕ} (is : x ≡ type-in g r (
 
 module _ (g : Graph) (r : ℕ) where
   -- Reads of one list of instructions and then of another.
-  pub reads-append : (k : ℕ) (xs ys : List Instr) → reads-right g r k (xs ++ ys) ≡ if-accepted (reads-right g r k xs) (λ _. reads-right g r (k + length xs) ys)
+  pub reads-append : (k : ℕ) (xs ys : List Instr) → reads-right g r k (xs ++ ys) ≡ if-accepted (reads-right g r k xs)
+      (λ _. reads-right g r (k + length xs) ys)
   unfolding reads-right
   reads-append k [] ys = ap (λ j. reads-right g r j ys) (sym (add-zero k))
   reads-append k (x ∷ xs) ys =
       let next : suc k + length xs ≡ k + suc (length xs) = omega arith in
-      ap (λ rest. if-accepted (first-refusal (named-right g r k) (x .reads)) (λ _. rest)) (reads-append (suc k) xs ys ∙ ap (λ j. if-accepted (reads-right g r (suc k) xs) (λ _. reads-right g r j ys)) next)
-      ∙ then-then (first-refusal (named-right g r k) (x .reads)) (λ _. reads-right g r (suc k) xs) (λ _. reads-right g r (k + suc (length xs)) ys)
+      ap (λ rest. if-accepted (first-refusal (named-right g r k) (x .reads)) (λ _. rest))
+      (reads-append (suc k) xs ys ∙ ap (λ j. if-accepted (reads-right g r (suc k) xs) (λ _. reads-right g r j ys)) next)
+      ∙ then-then (first-refusal (named-right g r k) (x .reads)) (λ _. reads-right g r (suc k) xs)
+      (λ _. reads-right g r (k + suc (length xs)) ys)
 
   -- By blocks, of which the code has n.
   module _ (bs : List (List Instr)) {n : ℕ} (size : n ≡ length bs) (whole : Answer Unit) (b first : ℕ) where
-    reads-from : b < n → reads-right g r first (instructions (drop b bs)) ≡ if-accepted (reads-right g r first (getD bs b [])) (λ _. reads-right g r (first + length (getD bs b [])) (instructions (drop (b + 1) bs)))
+    reads-from : b < n → reads-right g r first (instructions (drop b bs)) ≡ if-accepted (reads-right g r first (getD bs b []))
+        (λ _. reads-right g r (first + length (getD bs b [])) (instructions (drop (b + 1) bs)))
     unfolding instructions
-    reads-from l = ap (λ xs. reads-right g r first (instructions xs)) (from bs [] size b l) ∙ reads-append first (getD bs b []) (instructions (drop (b + 1) bs))
+    reads-from l =
+        ap (λ xs. reads-right g r first (instructions xs)) (from bs [] size b l)
+        ∙ reads-append first (getD bs b []) (instructions (drop (b + 1) bs))
 
-    pub block-passes : b < n → reads-right g r first (instructions (drop b bs)) ≡ whole → accepted tt ≡ reads-right g r first (getD bs b []) → reads-right g r (first + length (getD bs b [])) (instructions (drop (b + 1) bs)) ≡ whole
-    block-passes l h a = then-rest (reads-right g r (first + length (getD bs b [])) (instructions (drop (b + 1) bs))) a ∙ sym (reads-from l) ∙ h
+    pub block-passes : b < n → reads-right g r first (instructions (drop b bs)) ≡ whole → accepted tt ≡ reads-right g r first (getD bs b [])
+        → reads-right g r (first + length (getD bs b [])) (instructions (drop (b + 1) bs)) ≡ whole
+    block-passes l h a =
+        then-rest (reads-right g r (first + length (getD bs b [])) (instructions (drop (b + 1) bs))) a ∙ sym (reads-from l) ∙ h
 
-    pub block-stops : b < n → reads-right g r first (instructions (drop b bs)) ≡ whole → {i j : ℕ} → refused i j ≡ reads-right g r first (getD bs b []) → refused i j ≡ whole
-    block-stops l h a = then-refused (reads-right g r (first + length (getD bs b [])) (instructions (drop (b + 1) bs))) a ∙ sym (reads-from l) ∙ h
+    pub block-stops : b < n → reads-right g r first (instructions (drop b bs)) ≡ whole → {i j : ℕ}
+        → refused i j ≡ reads-right g r first (getD bs b []) → refused i j ≡ whole
+    block-stops l h a =
+        then-refused (reads-right g r (first + length (getD bs b [])) (instructions (drop (b + 1) bs))) a ∙ sym (reads-from l) ∙ h
 
     pub blocks-end : n ≤ b → reads-right g r first (instructions (drop b bs)) ≡ whole → accepted tt ≡ whole
     unfolding instructions reads-right
@@ -94,11 +107,14 @@ module _ (g : Graph) (r : ℕ) where
   module _ (types : List ℕ) (vs : List Value) {n m : ℕ} (values-are : n ≡ length vs) (types-are : m ≡ length types) where
     pub sizes-differ : (n ≡ m → ⊥) → refused 7 r ≡ passed-right g r types vs
     unfolding passed-right
-    sizes-differ ne = then-refused (types-right g r types vs) (refused-unless 7 r (ne-eqb (length vs) (length types) (λ e. ne (values-are ∙ e ∙ sym types-are))))
+    sizes-differ ne =
+        then-refused (types-right g r types vs) (refused-unless 7 r
+        (ne-eqb (length vs) (length types) (λ e. ne (values-are ∙ e ∙ sym types-are))))
 
     pub sizes-agree : n ≡ m → types-right g r types vs ≡ passed-right g r types vs
     unfolding passed-right
-    sizes-agree e = then-rest (types-right g r types vs) (accepted-if 7 r (eq-eqb (length vs) (length types) (sym values-are ∙ e ∙ types-are)))
+    sizes-agree e =
+        then-rest (types-right g r types vs) (accepted-if 7 r (eq-eqb (length vs) (length types) (sym values-are ∙ e ∙ types-are)))
 
 -- A target or an exit against the number of regions that the code has.
 module _ (g : Graph) (r : ℕ) {count t : ℕ} (regions : count ≡ length (g .regions)) where
@@ -130,14 +146,19 @@ module _ (g : Graph) (r : ℕ) {count t : ℕ} (regions : count ≡ length (g .r
     good-exit l h = accepted-if 8 r (ap not h) ∙ then-first l
 
 -- An edge's values against the inputs of its target t.
-module _ (g : Graph) (r : ℕ) (e : Edge) {t n m : ℕ} (target : t ≡ e .target) (values-are : n ≡ length (e .inputs)) (types-are : m ≡ length (region g t .inputs)) where
+module _ (g : Graph) (r : ℕ) (e : Edge) {t n m : ℕ} (target : t ≡ e .target) (values-are : n ≡ length (e .inputs))
+    (types-are : m ≡ length (region g t .inputs)) where
   pub edge-differs : (n ≡ m → ⊥) → refused 7 r ≡ edge-right g r e
   unfolding edge-right
-  edge-differs ne = sizes-differ g r (region g (e .target) .inputs) (e .inputs) values-are (types-are ∙ ap (λ q. length (region g q .inputs)) target) ne
+  edge-differs ne =
+      sizes-differ g r (region g (e .target) .inputs) (e .inputs) values-are (types-are ∙ ap (λ q. length (region g q .inputs)) target) ne
 
   pub edge-agrees : n ≡ m → types-right g r (region g t .inputs) (e .inputs) ≡ edge-right g r e
   unfolding edge-right
-  edge-agrees same = ap (λ q. types-right g r (region g q .inputs) (e .inputs)) target ∙ sizes-agree g r (region g (e .target) .inputs) (e .inputs) values-are (types-are ∙ ap (λ q. length (region g q .inputs)) target) same
+  edge-agrees same =
+      ap (λ q. types-right g r (region g q .inputs) (e .inputs)) target
+      ∙ sizes-agree g r (region g (e .target) .inputs) (e .inputs) values-are
+      (types-are ∙ ap (λ q. length (region g q .inputs)) target) same
 
 -- The first Return region, from region q on.
 first-here : (x : Region) (xs : List Region) → is-return (x .terminator) ≡ true → first-return (x ∷ xs) ≡ 0
@@ -149,22 +170,30 @@ unfolding first-return
 first-later x xs h = rw (h, first-return)
 
 module _ (rs : List Region) {n : ℕ} (size : n ≡ length rs) (q : ℕ) where
-  pub return-here : q < n → is-return (getD rs q nowhere .terminator) ≡ true → q + first-return (drop q rs) ≡ first-return rs → q ≡ first-return rs
+  pub return-here : q < n → is-return (getD rs q nowhere .terminator) ≡ true → q + first-return (drop q rs) ≡ first-return rs
+      → q ≡ first-return rs
   return-here l h e = let here : first-return (drop q rs) ≡ 0 = ap first-return (from rs nowhere size q l) ∙ first-here _ _ h in omega arith
 
-  pub return-later : q < n → is-return (getD rs q nowhere .terminator) ≡ false → q + first-return (drop q rs) ≡ first-return rs → q + 1 + first-return (drop (q + 1) rs) ≡ first-return rs
-  return-later l h e = let later : first-return (drop q rs) ≡ suc (first-return (drop (q + 1) rs)) = ap first-return (from rs nowhere size q l) ∙ first-later _ _ h in omega arith
+  pub return-later : q < n → is-return (getD rs q nowhere .terminator) ≡ false → q + first-return (drop q rs) ≡ first-return rs
+      → q + 1 + first-return (drop (q + 1) rs) ≡ first-return rs
+  return-later l h e =
+      let later : first-return (drop q rs) ≡ suc (first-return (drop (q + 1) rs)) = ap first-return (from rs nowhere size q l)
+      ∙ first-later _ _ h in omega arith
 
   pub no-return : n ≤ q → q + first-return (drop q rs) ≡ first-return rs → q ≡ first-return rs
   unfolding first-return
   no-return l e = let none : first-return (drop q rs) ≡ 0 = ap first-return (none-from rs nowhere size q l) in omega arith
 
 -- The types that the first Return region returns.
-pub return-count : (g : Graph) {q n : ℕ} → q ≡ first-return (g .regions) → n ≡ length (values-of (region g q .terminator)) → n ≡ length (return-types g)
+pub return-count : (g : Graph) {q n : ℕ} → q ≡ first-return (g .regions) → n ≡ length (values-of (region g q .terminator))
+    → n ≡ length (return-types g)
 unfolding return-types
-return-count g h size = size ∙ ap (λ q. length (values-of (region g q .terminator))) h ∙ sym (length-map (values-of (region g (first-return (g .regions)) .terminator)) _)
+return-count g h size =
+    size ∙ ap (λ q. length (values-of (region g q .terminator))) h
+    ∙ sym (length-map (values-of (region g (first-return (g .regions)) .terminator)) _)
 
-pub return-type : (g : Graph) {q : ℕ} (k : ℕ) → q ≡ first-return (g .regions) → type-in g q (behind-all g q) (getD (values-of (region g q .terminator)) k no-value) ≡ getD (return-types g) k 0
+pub return-type : (g : Graph) {q : ℕ} (k : ℕ) → q ≡ first-return (g .regions)
+    → type-in g q (behind-all g q) (getD (values-of (region g q .terminator)) k no-value) ≡ getD (return-types g) k 0
 unfolding return-types
 return-type g k h =
     let q = first-return (g .regions) in
@@ -173,16 +202,21 @@ return-type g k h =
 
 -- A test's value, of which the terminator has one.
 module _ (g : Graph) (r : ℕ) (x : ControlInst) where
-  tested : {k : SelectionKind} → select-branch k (getD (values-of x) 0 (undef 0)) (edges-of x) ≡ x → getD (values-of x) 0 no-value ≡ getD (values-of x) 0 (undef 0)
+  tested : {k : SelectionKind} → select-branch k (getD (values-of x) 0 (undef 0)) (edges-of x) ≡ x
+      → getD (values-of x) 0 no-value ≡ getD (values-of x) 0 (undef 0)
   tested h = ap (λ y. getD (values-of y) 0 no-value) (sym h)
 
-  pub test-bool : select-branch bool-cond (getD (values-of x) 0 (undef 0)) (edges-of x) ≡ x → typed g r 1 (getD (values-of x) 0 no-value) ≡ values-right g r x
+  pub test-bool : select-branch bool-cond (getD (values-of x) 0 (undef 0)) (edges-of x) ≡ x
+      → typed g r 1 (getD (values-of x) 0 no-value) ≡ values-right g r x
   unfolding values-right test-right
   test-bool h = ap (typed g r 1) (tested h) ∙ ap (values-right g r) h
 
-  pub test-number : select-branch number (getD (values-of x) 0 (undef 0)) (edges-of x) ≡ x → named-right g r (behind-all g r) (getD (values-of x) 0 no-value) ≡ values-right g r x
+  pub test-number : select-branch number (getD (values-of x) 0 (undef 0)) (edges-of x) ≡ x
+      → named-right g r (behind-all g r) (getD (values-of x) 0 no-value) ≡ values-right g r x
   unfolding values-right test-right
-  test-number h = ap (named-right g r (behind-all g r)) (tested h) ∙ sym (then-accepted (named-right g r (behind-all g r) (getD (values-of x) 0 (undef 0)))) ∙ ap (values-right g r) h
+  test-number h =
+      ap (named-right g r (behind-all g r)) (tested h) ∙ sym
+      (then-accepted (named-right g r (behind-all g r) (getD (values-of x) 0 (undef 0)))) ∙ ap (values-right g r) h
 
 -- What is left of a region's checks behind its reads, its values, its targets, its edges.
 module _ (g : Graph) (r : ℕ) (x : Region) where

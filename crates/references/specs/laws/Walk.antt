@@ -19,7 +19,8 @@ module _ {left step : ℕ → Answer Unit} {n : ℕ} (walk : Walk left step n) (
   ends l h = sym (walk .done k l) ∙ h
 
 -- One check after another.
-pub then-then : (a : Answer Unit) (b c : Unit {0} → Answer Unit) → if-accepted a (λ u. if-accepted (b u) c) ≡ if-accepted (if-accepted a b) c
+pub then-then : (a : Answer Unit) (b c : Unit {0} → Answer Unit)
+    → if-accepted a (λ u. if-accepted (b u) c) ≡ if-accepted (if-accepted a b) c
 then-then (accepted u) b c = refl
 then-then (refused n w) b c = refl
 

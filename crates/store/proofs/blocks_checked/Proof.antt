@@ -39,8 +39,11 @@ loop-less : tie.Need-loop-less Inv-loop μ-loop
 loop-less c = omega arith
 
 loop-again : tie.Need-loop-again Inv-loop μ-loop
-loop-again c =
-    (omega arith, blocks-more _ _ (c .before .before .before .before .loop .inv .1) ∙ sym (sym (ap answered (c .enum-told .given .1)) ∙ c .before .before .block-checked .ensures))
+loop-again c = (
+  omega arith,
+  blocks-more _ _ (c .before .before .before .before .loop .inv .1)
+      ∙ sym (sym (ap answered (c .enum-told .given .1)) ∙ c .before .before .block-checked .ensures),
+)
 
 returns-2 : tie.Need-returns-2 Inv-loop μ-loop
 returns-2 c = sym (c .before .loop .inv .1) ∙ ap (blocks-checked _) (omega arith)

@@ -35,7 +35,12 @@ loop-less : tie.Need-loop-less Inv-loop μ-loop
 loop-less c = search needs
 
 loop-again : tie.Need-loop-again Inv-loop μ-loop
-loop-again c = (omega arith, search needs, rw (c .behind-values .ensures, c .before .place .ensures) (instr-turn _ _ _ _ _ (c .before .before .loop-test .taken) (c .before .before .before .loop .inv .2)))
+loop-again c = (
+  omega arith,
+  search needs,
+  rw (c .behind-values .ensures, c .before .place .ensures)
+      (instr-turn _ _ _ _ _ (c .before .before .loop-test .taken) (c .before .before .before .loop .inv .2)),
+)
 
 returns : tie.Need-returns Inv-loop μ-loop
 returns c = instr-stop _ _ _ _ _ (c .loop-test .left) (c .before .loop .inv .2)

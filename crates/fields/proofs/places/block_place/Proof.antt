@@ -22,7 +22,9 @@ indexed-requires c κs = search needs
 
 returns : tie.Need-returns
 unfolding words.block-place
-returns c = rw (← c .before .before .before .blocks-place .ensures) (c .indexed .ensures ∙ picked _ _ (is-below (c .before .if1 .taken) (c .before .before .word-at .ensures)))
+returns c =
+    rw (← c .before .before .before .blocks-place .ensures)
+    (c .indexed .ensures ∙ picked _ _ (is-below (c .before .if1 .taken) (c .before .before .word-at .ensures)))
 
 returns-2 : tie.Need-returns-2
 unfolding words.block-place

@@ -26,7 +26,12 @@ word-item-requires : tie.Need-word-item-requires Inv-loop μ-loop
 word-item-requires c κs = search needs
 
 returns : tie.Need-returns Inv-loop μ-loop
-returns c = rw (← c .before .before .before .before .before .word-at .ensures, ← c .before .before .before .before .behind-words .ensures) (list-found _ _ _ _ _ _ _ (c .before .before .loop-test .taken) (sym (c .before .word-item .ensures) ∙ c .if1 .taken) (c .before .before .before .loop .inv .1))
+returns c =
+    let at-behind-words = c .before .before .before .before in
+    let at-word-at = at-behind-words .before in
+    rw (← at-word-at .word-at .ensures, ← at-behind-words .behind-words .ensures)
+    (list-found _ _ _ _ _ _ _ (c .before .before .loop-test .taken) (sym (c .before .word-item .ensures) ∙ c .if1 .taken)
+    (c .before .before .before .loop .inv .1))
 
 behind-list-requires : tie.Need-behind-list-requires Inv-loop μ-loop
 behind-list-requires c κs = search needs
@@ -38,10 +43,16 @@ loop-less : tie.Need-loop-less Inv-loop μ-loop
 loop-less c = search needs
 
 loop-again : tie.Need-loop-again Inv-loop μ-loop
-loop-again c = (omega arith, rw (c .behind-list .ensures) (list-turn _ _ _ _ _ _ _ (c .before .before .before .loop-test .taken) (λ e. c .before .if1 .left (c .before .before .word-item .ensures ∙ e)) (c .before .before .before .before .loop .inv .1)))
+loop-again c = (
+  omega arith,
+  rw (c .behind-list .ensures) (list-turn _ _ _ _ _ _ _ (c .before .before .before .loop-test .taken)
+      (λ e. c .before .if1 .left (c .before .before .word-item .ensures ∙ e)) (c .before .before .before .before .loop .inv .1)),
+)
 
 returns-2 : tie.Need-returns-2 Inv-loop μ-loop
-returns-2 c = rw (← c .before .before .before .word-at .ensures, ← c .before .before .behind-words .ensures) (list-stop _ _ _ _ _ _ _ (c .loop-test .left) (c .before .loop .inv .1))
+returns-2 c =
+    rw (← c .before .before .before .word-at .ensures, ← c .before .before .behind-words .ensures)
+    (list-stop _ _ _ _ _ _ _ (c .loop-test .left) (c .before .loop .inv .1))
 
 pub list-for-spec : {M : Type 1} → statement M
 list-for-spec =

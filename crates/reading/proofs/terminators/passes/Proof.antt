@@ -25,7 +25,8 @@ enum-known-m c = search needs
 returns : tie.Need-returns Inv-loop μ-loop
 returns c =
     let turn = c .before .before .before .before in
-    turn-stop (turn .before .loop .inv) (turn .loop-test .taken) (c .before .before .before .counted-values .ensures) (c .before .m .given .1)
+    turn-stop (turn .before .loop .inv) (turn .loop-test .taken) (c .before .before .before .counted-values .ensures)
+    (c .before .m .given .1)
 
 enum-known-e : tie.Need-enum-known-e Inv-loop μ-loop
 enum-known-e c = search needs
@@ -39,7 +40,8 @@ loop-less c = omega arith
 loop-again : tie.Need-loop-again Inv-loop μ-loop
 loop-again c =
     let turn = c .before .before .before .before in
-    turn-next (turn .before .loop .inv) (turn .loop-test .taken) (c .before .before .before .counted-values .ensures) (c .before .e .given .1)
+    turn-next (turn .before .loop .inv) (turn .loop-test .taken) (c .before .before .before .counted-values .ensures)
+    (c .before .e .given .1)
 
 returns-2 : tie.Need-returns-2 Inv-loop μ-loop
 returns-2 c = turn-end (c .before .loop .inv) (c .loop-test .left)

@@ -23,7 +23,9 @@ returns c = count-refused _ _ instruction _ _ (c .before .before .before .within
 
 returns-2 : tie.Need-returns-2
 unfolding block
-returns-2 c = count-read _ _ instruction _ _ (c .before .before .before .before .within .ensures) (c .before .before .n .given .1) (c .instructions .ensures)
+returns-2 c =
+    let at-within = c .before .before .before .before in
+    count-read _ _ instruction _ _ (at-within .within .ensures) (c .before .before .n .given .1) (c .instructions .ensures)
 
 pub block-spec : {M : Type 1} → statement M
 block-spec =

@@ -21,7 +21,9 @@ returns : tie.Need-returns
 returns c = count-refused _ _ read-value _ _ (c .before .before .before .within .ensures) (c .before .m .given .1)
 
 returns-2 : tie.Need-returns-2
-returns-2 c = count-read _ _ read-value _ _ (c .before .before .before .before .within .ensures) (c .before .before .n .given .1) (c .values .ensures)
+returns-2 c =
+    let at-within = c .before .before .before .before in
+    count-read _ _ read-value _ _ (at-within .within .ensures) (c .before .before .n .given .1) (c .values .ensures)
 
 pub counted-values-spec : {M : Type 1} → statement M
 counted-values-spec =

@@ -21,7 +21,9 @@ returns : tie.Need-returns
 returns c = count-refused _ _ word _ _ (c .before .before .before .within .ensures) (c .before .m .given .1)
 
 returns-2 : tie.Need-returns-2
-returns-2 c = count-read _ _ word _ _ (c .before .before .before .before .within .ensures) (c .before .before .n .given .1) (c .words .ensures)
+returns-2 c =
+    let at-within = c .before .before .before .before in
+    count-read _ _ word _ _ (at-within .within .ensures) (c .before .before .n .given .1) (c .words .ensures)
 
 pub counted-words-spec : {M : Type 1} → statement M
 counted-words-spec =

@@ -38,7 +38,8 @@ loop-less : tie.Need-loop-less Inv-loop μ-loop
 loop-less c = omega arith
 
 loop-again : tie.Need-loop-again Inv-loop μ-loop
-loop-again c = (omega arith, stands-not _ _ _ _ (c .before .before .before .loop .inv .1) (λ e. c .if1 .left (e ∙ sym (c .before .word-at .ensures))))
+loop-again c =
+    (omega arith, stands-not _ _ _ _ (c .before .before .before .loop .inv .1) (λ e. c .if1 .left (e ∙ sym (c .before .word-at .ensures))))
 
 returns-2 : tie.Need-returns-2 Inv-loop μ-loop
 returns-2 c = stands-end _ _ _ _ _ (c .before .loop .inv .0) (c .loop-test .left) (c .before .loop .inv .1)

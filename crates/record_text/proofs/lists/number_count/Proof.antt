@@ -37,7 +37,8 @@ returns-2 : tie.Need-returns-2
 returns-2 c = λ g s. c .input-count .ensures g s ∙ ap (λ l. length (numbers-of g l)) (sym (c .before .before .l .given .1))
 
 returns-3 : tie.Need-returns-3
-returns-3 c = λ g s. c .target-count .ensures g s ∙ target-count g _ ∙ ap (λ l. length (numbers-of g l)) (sym (c .before .before .l2 .given .1))
+returns-3 c =
+    λ g s. c .target-count .ensures g s ∙ target-count g _ ∙ ap (λ l. length (numbers-of g l)) (sym (c .before .before .l2 .given .1))
 
 returns-4 : tie.Need-returns-4
 returns-4 c = λ g s. c .exit-count .ensures g s ∙ ap (λ l. length (numbers-of g l)) (sym (c .before .before .l3 .given .1))

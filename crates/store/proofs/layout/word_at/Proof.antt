@@ -18,7 +18,9 @@ returns : tie.Need-returns
 returns c = search needs
 
 returns-2 : tie.Need-returns-2
-returns-2 c = sym (List·getD-eq-default (c .before .before .before .args .w .now) 0 {n = c .before .before .before .args .p} (omega (arith, c .before .before .span-arg .given .0)))
+returns-2 c =
+    sym (List·getD-eq-default (c .before .before .before .args .w .now) 0 {n = c .before .before .before .args .p}
+    (omega (arith, c .before .before .span-arg .given .0)))
 
 pub word-at-spec : {M : Type 1} → statement M
 word-at-spec =

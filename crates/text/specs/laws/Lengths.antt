@@ -11,7 +11,7 @@ use borrow.Author.Tests.{ltb-true, ltb-false}
 use Rattle.meaning.specs.Lists.{total}
 use Rattle.meaning.specs.Text.{Text, ascii, decimal, joined, listed}
 use Rattle.text.specs.Text.{labeled}
-use Rattle.text.specs.Digits.{decimal-small, decimal-more}
+use Rattle.text.specs.laws.Digits.{decimal-small, decimal-more}
 
 -- One digit more for ten times the bound.
 digit-more : (k b : ℕ) → ((m : ℕ) → m < b → length (decimal m) ≤ k) → (n : ℕ) → n < 10 * b → length (decimal n) ≤ suc k

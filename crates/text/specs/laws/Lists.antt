@@ -36,14 +36,17 @@ module _ {A : Type 0} (show : A → Text) where
   wrote-empty xs h a = of-text (listed-none xs h) a
 
   -- The first item, then the others.
-  pub wrote-listed : {o p q : Buffer} (d : A) (xs : List A) → 0 < length xs → Wrote o (show (getD xs 0 d)) p → Wrote p (text-of-each other (drop 1 xs)) q → Wrote o (listed show xs) q
+  pub wrote-listed : {o p q : Buffer} (d : A) (xs : List A) → 0 < length xs → Wrote o (show (getD xs 0 d)) p
+      → Wrote p (text-of-each other (drop 1 xs)) q → Wrote o (listed show xs) q
   wrote-listed d xs h a b = of-text (listed-some d xs h) (a ▸ b)
 
   -- Item k, then those behind it.
-  pub wrote-next : {o p q : Buffer} (d : A) (xs : List A) (k : ℕ) → k < length xs → Wrote o (show (getD xs k d)) p → Wrote p (text-of-each show (drop (k + 1) xs)) q → Wrote o (text-of-each show (drop k xs)) q
+  pub wrote-next : {o p q : Buffer} (d : A) (xs : List A) (k : ℕ) → k < length xs → Wrote o (show (getD xs k d)) p
+      → Wrote p (text-of-each show (drop (k + 1) xs)) q → Wrote o (text-of-each show (drop k xs)) q
   unfolding text-of-each
   wrote-next d xs k h a b =
-      let next : text-of-each show (drop k xs) ≡ show (getD xs k d) ++ text-of-each show (drop (k + 1) xs) = rw add-one (ap (text-of-each show) (drop-cons xs k d h)) in
+      let next : text-of-each show (drop k xs) ≡ show (getD xs k d) ++ text-of-each show (drop (k + 1) xs) =
+      rw add-one (ap (text-of-each show) (drop-cons xs k d h)) in
       of-text (sym next) (a ▸ b)
 
   -- No item is left.

@@ -35,4 +35,5 @@ decimal-small n h = digits-small n n h
 
 pub decimal-more : (n : ℕ) → 10 ≤ n → decimal n ≡ decimal (n / 10) ++ ((48 + n % 10) ∷ [])
 unfolding decimal
-decimal-more n h = digits-more n n h ∙ ap (λ l. l ++ ((48 + n % 10) ∷ [])) (digits-enough n (suc (n / 10)) (n / 10) (omega arith) (omega arith))
+decimal-more n h =
+    digits-more n n h ∙ ap (λ l. l ++ ((48 + n % 10) ∷ [])) (digits-enough n (suc (n / 10)) (n / 10) (omega arith) (omega arith))
