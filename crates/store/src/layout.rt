@@ -3,7 +3,7 @@ ghost use mathlib.Core.Path.{_≡_};
 ghost use lib.ListN.{getD};
 
 // How many words are lent. This number stands in this line alone.
-pub const WORDS: usize = 32256;
+pub const WORDS: usize = 28672;
 
 // A place that is none of theirs.
 pub const BEYOND: u16 = 65535;
