@@ -7,7 +7,18 @@ extern "C" {
     fn rukvetta_accept(bytes: *const u8, length: usize, words: *mut u16) -> u32;
 }
 
-const WORDS: usize = 32_256;
+// As many words as the routine is lent: bench/run takes the number from the crate.
+const WORDS: usize = number(env!("WORDS").as_bytes());
+
+const fn number(digits: &[u8]) -> usize {
+    let mut n = 0;
+    let mut i = 0;
+    while i < digits.len() {
+        n = 10 * n + (digits[i] - b'0') as usize;
+        i += 1;
+    }
+    n
+}
 
 // The longest store of a vector file whose answer is no refusal.
 fn full_store(vectors: &str) -> Vec<u8> {

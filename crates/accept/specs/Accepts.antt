@@ -6,11 +6,12 @@ use lib.ListN.{length, take, drop}
 use lib.Seq.{slice}
 use Rattle.meaning.specs.Graph.{Graph}
 use Rattle.format.specs.Store.{Answer, accepted, refused, store-words}
-use Rattle.format.specs.References.{references}
 use Rattle.format.specs.Accept.{accept}
+use Rattle.store.specs.Layout.{record-end, index-end}
+use Rattle.store.specs.Loaded.{answered}
+use Rattle.store.specs.declared.Checked.{Checked}
 use Rattle.record.specs.Stands.{Stands}
-use Rattle.record.specs.declared.ReadAnswer.{ReadAnswer}
-use Rattle.record.specs.Outcome.{forget, RestKept, read-answered}
+use Rattle.record.specs.Outcome.{forget, RestKept, record-in}
 use Rattle.accept.specs.declared.Accepted.{Accepted}
 use Rattle.accept.specs.declared.Accepted.the-variants.{Record, Refused}
 use Rattle.accept.specs.Judged.{Judged}
@@ -21,22 +22,17 @@ accept-answered Record = accepted tt
 accept-answered (Refused n w) = refused n w
 
 -- `old` are the words as lent, `new` as they are handed back. A store that is refused leaves them as lent. Otherwise its words
--- stand in front, also where its record is refused, and only the index, words 4,048 to 4,400, may have changed besides.
+-- stand in front, also where its record is refused, and only the index, words 4,048 to 4,399, may have changed besides.
 pub record Accepts (s old new : List ℕ) (a : Accepted) : Type 0 where
   pub answer : accept-answered a ≡ forget (accept s)
   pub stands : (g : Graph) → accept s ≡ accepted g → Stands new g
   pub in-front : (ws : List ℕ) → store-words s ≡ accepted ws → take (length ws) new ≡ ws
-  pub between : (ws : List ℕ) → store-words s ≡ accepted ws → slice (length ws) 4048 new ≡ slice (length ws) 4048 old
+  pub between : (ws : List ℕ) → store-words s ≡ accepted ws → slice (length ws) record-end new ≡ slice (length ws) record-end old
   pub size : length new ≡ length old
-  pub beyond : drop 4400 new ≡ drop 4400 old
+  pub beyond : drop index-end new ≡ drop index-end old
   pub as-lent : (n w : ℕ) → store-words s ≡ refused n w → new ≡ old
 
--- Of words that were read: a refusal of reading is handed on; where reading is whole the answer is that of the references.
-pub record AfterReading (read : ReadAnswer) (ws : List ℕ) (a : Accepted) : Type 0 where
-  pub unread : (n w : ℕ) → read-answered read ≡ refused n w → accept-answered a ≡ refused n w
-  pub whole : read-answered read ≡ accepted tt → (g : Graph) → Stands ws g → accept-answered a ≡ references g
-
--- Of words with a record's in front, W of them.
-pub record ReadChecked (count : ℕ) (old new : List ℕ) (a : Accepted) : Type 0 where
-  pub judged : Judged (take count old) new (accept-answered a)
+-- Of the record in front of the words: what reading and references answer, and that only the index may have changed.
+pub record ReadChecked (old new : List ℕ) (a : Checked) : Type 0 where
+  pub judged : Judged (record-in old) new (answered a)
   pub kept : RestKept old new

@@ -1,3 +1,3 @@
 pub mod Judged
 pub mod Accepts
-pub mod AcceptSteps
+pub mod laws

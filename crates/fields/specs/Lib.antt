@@ -1,13 +1,4 @@
 pub mod Shape
+pub mod ByNumber
 pub mod Words
-pub mod Lists
-pub mod Regions
-pub mod Instructions
-pub mod Terminators
-pub mod Targets
-pub mod Passed
-pub mod Repeats
-pub mod Numbered
-pub mod Picks
-pub mod Turns
-pub mod Unchanged
+pub mod laws

@@ -1,17 +1,18 @@
 -- What the leaf functions answer, for any words: items of lists, and the places behind lists.
-use mathlib.Core.Bool.{Bool, true, false}
-use mathlib.Core.List.{List, [], _∷_}
+use mathlib.Core.Bool.{Bool, true, false, _&&_}
+use mathlib.Core.List.{List}
 use Prim.Native.Nat.{ℕ, zero, suc, _+_, _*_}
 use lib.ListN.{getD}
 use lib.Dec.{eqb, ltb}
 use Rattle.meaning.specs.Graph.{Value, no-value}
 use Rattle.format.specs.Read.{value-from-words}
-use Rattle.meaning.specs.Lists.{is-in, pick}
-use Rattle.record.specs.Stands.{index-at}
+use Rattle.store.specs.Layout.{beyond, start-word, limit-word, blocks-word, index-at}
+use Rattle.reading.specs.Readings.{stands}
+use Rattle.meaning.specs.Lists.{pick}
 
 -- A place among the words; every other is the place that answers for a list that is not there.
 unfoldable pub placed : ℕ → ℕ
-placed p = pick (ltb p 32256) p 65535
+placed p = pick (ltb p beyond) p beyond
 
 module _ (w : List ℕ) where
   -- The value of three words.
@@ -31,23 +32,20 @@ module _ (w : List ℕ) where
   unfoldable pub behind-values : ℕ → ℕ
   behind-values p = placed (p + 1 + 3 * getD w p 0)
 
-  -- The first q items of a list of words, the last first.
-  unfoldable pub earlier : ℕ → ℕ → List ℕ
-  earlier p zero = []
-  earlier p (suc q) = word-item p q ∷ earlier p q
-
+  -- Whether item q of the list at p stands earlier too; what is beyond the list does not.
   unfoldable pub again : ℕ → ℕ → Bool
-  again p q = is-in (word-item p q) (earlier p q)
+  unfolding stands
+  again p q = ltb q (getD w p 0) && stands w (p + 1) (getD w (p + 1 + q) 0) q
 
-  -- Word i of region r's eleven in the index.
+  -- Word i of region r's row in the index.
   unfoldable pub indexed : ℕ → ℕ → ℕ
-  indexed r i = pick (ltb r (getD w 1 0)) (getD w (index-at r + i) 0) 65535
+  indexed r i = pick (ltb r (getD w 1 0)) (getD w (index-at r + i) 0) beyond
 
   unfoldable pub blocks-place : ℕ → ℕ
-  blocks-place r = behind-words (indexed r 0)
+  blocks-place r = behind-words (indexed r start-word)
 
   unfoldable pub block-place : ℕ → ℕ → ℕ
-  block-place r b = pick (ltb b (getD w (blocks-place r) 0)) (indexed r (3 + b)) 65535
+  block-place r b = pick (ltb b (getD w (blocks-place r) 0)) (indexed r (blocks-word + b)) beyond
 
   -- Behind n instructions.
   unfoldable pub behind-instructions : ℕ → ℕ → ℕ
@@ -56,11 +54,11 @@ module _ (w : List ℕ) where
 
   unfoldable pub instruction-place : ℕ → ℕ → ℕ → ℕ
   instruction-place r b i =
-      pick (ltb i (getD w (block-place r b) 0)) (behind-instructions i (placed (block-place r b + 1))) 65535
+      pick (ltb i (getD w (block-place r b) 0)) (behind-instructions i (placed (block-place r b + 1))) beyond
 
   unfoldable pub values-place : ℕ → ℕ
   values-place r =
-      pick (eqb (getD w (indexed r 1 + 1) 0) 2) (placed (indexed r 1 + 3)) (placed (indexed r 1 + 2))
+      pick (eqb (getD w (indexed r limit-word + 1) 0) 2) (placed (indexed r limit-word + 3)) (placed (indexed r limit-word + 2))
 
   unfoldable pub targets-place : ℕ → ℕ
   targets-place r = behind-values (values-place r)
@@ -81,4 +79,4 @@ module _ (w : List ℕ) where
   unfoldable pub passed-place : ℕ → ℕ → ℕ
   passed-place r j =
       let ts = targets-place r in
-      pick (ltb j (getD w ts 0)) (list-for ts (word-item ts j) (getD w ts 0) 0 (behind-words ts)) 65535
+      pick (ltb j (getD w ts 0)) (list-for ts (word-item ts j) (getD w ts 0) 0 (behind-words ts)) beyond

@@ -1,21 +1,17 @@
 // An accepted record's fields, by the words that it stands in and the index behind them. Each accessor takes any words and any
 // numbers; a number that names nothing gets the definition's answer for it: 0, an empty list, Nothing, an unreachable region.
 ghost use mathlib.Core.Path.{_≡_};
-ghost use mathlib.Core.List.{[]};
 ghost use lib.ListN.{length, getD};
-ghost use Rattle.meaning.specs.Graph.{Graph, no-value, region, edges-of, targets-of, no-edge};
-ghost use Rattle.format.specs.References.{instructions, no-instr, instr-type, values-of};
-ghost use Rattle.record.specs.Stands.{Stands};
+ghost use Rattle.meaning.specs.Graph.{no-value, region, edges-of, targets-of};
+ghost use Rattle.format.specs.References.{instructions, instr-type};
+ghost use Rattle.record.specs.Stands.{OfRecord};
 ghost use Rattle.fields.specs.Shape.{value-is, instruction-is, terminator-is};
-ghost use Rattle.fields.specs.Repeats.{stands-before};
+ghost use Rattle.fields.specs.ByNumber.{block-of, instr-of, end-values, edge-of, stands-before};
 
 mod places;
 pub mod shape;
 mod words;
 
-use places::EXITS;
-use places::LIMIT;
-use places::START;
 use places::block_place;
 use places::blocks_place;
 use places::indexed;
@@ -26,68 +22,72 @@ use places::values_place;
 pub use shape::Instruction;
 pub use shape::Terminator;
 pub use shape::Value;
+use store::WORDS;
+use store::layout::EXITS;
+use store::layout::LIMIT;
+use store::layout::START;
+use store::layout::word_at;
 use words::place;
 use words::stood_before;
 use words::value_item;
-use words::word_at;
 use words::word_item;
 
-pub fn region_count(w: &[u16; 32256]) -> u16
-    ensures { λ a. ⌜ ((g : Graph) → Stands (now (w .entry)) g → a ≡ length (g .regions)) ⌝ }
+pub fn region_count(w: &[u16; WORDS]) -> u16
+    ensures { λ a. ⌜ OfRecord (now (w .entry)) (λ g. a ≡ length (g .regions)) ⌝ }
 {
     word_at(w, 1)
 }
 
-pub fn entry(w: &[u16; 32256]) -> u16
-    ensures { λ a. ⌜ ((g : Graph) → Stands (now (w .entry)) g → a ≡ g .entry) ⌝ }
+pub fn entry(w: &[u16; WORDS]) -> u16
+    ensures { λ a. ⌜ OfRecord (now (w .entry)) (λ g. a ≡ g .entry) ⌝ }
 {
     word_at(w, 2)
 }
 
-pub fn test_cost(w: &[u16; 32256]) -> u16
-    ensures { λ a. ⌜ ((g : Graph) → Stands (now (w .entry)) g → a ≡ g .test-cost) ⌝ }
+pub fn test_cost(w: &[u16; WORDS]) -> u16
+    ensures { λ a. ⌜ OfRecord (now (w .entry)) (λ g. a ≡ g .test-cost) ⌝ }
 {
     word_at(w, 3)
 }
 
-pub fn constant_count(w: &[u16; 32256]) -> u16
-    ensures { λ a. ⌜ ((g : Graph) → Stands (now (w .entry)) g → a ≡ length (g .constants)) ⌝ }
+pub fn constant_count(w: &[u16; WORDS]) -> u16
+    ensures { λ a. ⌜ OfRecord (now (w .entry)) (λ g. a ≡ length (g .constants)) ⌝ }
 {
     word_at(w, 4)
 }
 
-pub fn constant_type(w: &[u16; 32256], i: u16) -> u16
-    ensures { λ a. ⌜ ((g : Graph) → Stands (now (w .entry)) g → a ≡ getD (g .constants) i 0) ⌝ }
+pub fn constant_type(w: &[u16; WORDS], i: u16) -> u16
+    ensures { λ a. ⌜ OfRecord (now (w .entry)) (λ g. a ≡ getD (g .constants) i 0) ⌝ }
 {
     word_item(w, 4, i)
 }
 
-pub fn input_count(w: &[u16; 32256], r: u16) -> u16
-    ensures { λ a. ⌜ ((g : Graph) → Stands (now (w .entry)) g → a ≡ length (region g r .inputs)) ⌝ }
+pub fn input_count(w: &[u16; WORDS], r: u16) -> u16
+    ensures { λ a. ⌜ OfRecord (now (w .entry)) (λ g. a ≡ length (region g r .inputs)) ⌝ }
 {
     word_at(w, indexed(w, r, START) as usize)
 }
 
-pub fn input_type(w: &[u16; 32256], r: u16, k: u16) -> u16
-    ensures { λ a. ⌜ ((g : Graph) → Stands (now (w .entry)) g → a ≡ getD (region g r .inputs) k 0) ⌝ }
+pub fn input_type(w: &[u16; WORDS], r: u16, k: u16) -> u16
+    ensures { λ a. ⌜ OfRecord (now (w .entry)) (λ g. a ≡ getD (region g r .inputs) k 0) ⌝ }
 {
     word_item(w, indexed(w, r, START), k)
 }
 
-pub fn block_count(w: &[u16; 32256], r: u16) -> u16
-    ensures { λ a. ⌜ ((g : Graph) → Stands (now (w .entry)) g → a ≡ length (region g r .blocks)) ⌝ }
+pub fn block_count(w: &[u16; WORDS], r: u16) -> u16
+    ensures { λ a. ⌜ OfRecord (now (w .entry)) (λ g. a ≡ length (region g r .blocks)) ⌝ }
 {
     word_at(w, blocks_place(w, r) as usize)
 }
 
-pub fn block_length(w: &[u16; 32256], r: u16, b: u16) -> u16
-    ensures { λ a. ⌜ ((g : Graph) → Stands (now (w .entry)) g → a ≡ length (getD (region g r .blocks) b [])) ⌝ }
+pub fn block_length(w: &[u16; WORDS], r: u16, b: u16) -> u16
+    ensures { λ a. ⌜ OfRecord (now (w .entry)) (λ g. a ≡ length (block-of g r b)) ⌝ }
 {
     word_at(w, block_place(w, r, b) as usize)
 }
 
-pub fn instruction(w: &[u16; 32256], r: u16, b: u16, i: u16) -> Instruction
-    ensures { λ a. ⌜ ((g : Graph) → Stands (now (w .entry)) g → a ≡ instruction-is (getD (getD (region g r .blocks) b []) i no-instr)) ⌝ }
+pub fn instruction(w: &[u16; WORDS], r: u16, b: u16, i: u16) -> Instruction
+    ensures { λ a. ⌜ OfRecord (now (w .entry)) (λ g. a ≡ instruction-is (instr-of g r b i)) ⌝ }
 {
     let p = instruction_place(w, r, b, i) as usize;
     Instruction {
@@ -98,15 +98,15 @@ pub fn instruction(w: &[u16; 32256], r: u16, b: u16, i: u16) -> Instruction
     }
 }
 
-pub fn read(w: &[u16; 32256], r: u16, b: u16, i: u16, k: u16) -> Value
-    ensures { λ a. ⌜ ((g : Graph) → Stands (now (w .entry)) g → value-is a ≡ getD (getD (getD (region g r .blocks) b []) i no-instr .reads) k no-value) ⌝ }
+pub fn read(w: &[u16; WORDS], r: u16, b: u16, i: u16, k: u16) -> Value
+    ensures { λ a. ⌜ OfRecord (now (w .entry)) (λ g. value-is a ≡ getD (instr-of g r b i .reads) k no-value) ⌝ }
 {
     value_item(w, place((instruction_place(w, r, b, i) as usize) + 3), k)
 }
 
 // How many instructions region r has in its blocks.
-pub fn instruction_count(w: &[u16; 32256], r: u16) -> usize
-    ensures { λ a. ⌜ ((g : Graph) → Stands (now (w .entry)) g → a ≡ length (instructions (region g r .blocks))) ⌝ }
+pub fn instruction_count(w: &[u16; WORDS], r: u16) -> usize
+    ensures { λ a. ⌜ OfRecord (now (w .entry)) (λ g. a ≡ length (instructions (region g r .blocks))) ⌝ }
 {
     let n = block_count(w, r);
     let mut sum: usize = 0;
@@ -119,8 +119,8 @@ pub fn instruction_count(w: &[u16; 32256], r: u16) -> usize
 }
 
 // The type of the output of instruction k, counted through the blocks of region r.
-pub fn output_type(w: &[u16; 32256], r: u16, k: u16) -> u16
-    ensures { λ a. ⌜ ((g : Graph) → Stands (now (w .entry)) g → a ≡ instr-type (region g r) k) ⌝ }
+pub fn output_type(w: &[u16; WORDS], r: u16, k: u16) -> u16
+    ensures { λ a. ⌜ OfRecord (now (w .entry)) (λ g. a ≡ instr-type (region g r) k) ⌝ }
 {
     let n = block_count(w, r);
     let mut left = k;
@@ -137,8 +137,8 @@ pub fn output_type(w: &[u16; 32256], r: u16, k: u16) -> u16
     0
 }
 
-pub fn limit(w: &[u16; 32256], r: u16) -> u16
-    ensures { λ a. ⌜ ((g : Graph) → Stands (now (w .entry)) g → a ≡ region g r .limit) ⌝ }
+pub fn limit(w: &[u16; WORDS], r: u16) -> u16
+    ensures { λ a. ⌜ OfRecord (now (w .entry)) (λ g. a ≡ region g r .limit) ⌝ }
 {
     if r < word_at(w, 1) {
         return word_at(w, indexed(w, r, LIMIT) as usize);
@@ -146,8 +146,8 @@ pub fn limit(w: &[u16; 32256], r: u16) -> u16
     1
 }
 
-pub fn terminator(w: &[u16; 32256], r: u16) -> Terminator
-    ensures { λ a. ⌜ ((g : Graph) → Stands (now (w .entry)) g → terminator-is a (region g r .terminator) ≡ region g r .terminator) ⌝ }
+pub fn terminator(w: &[u16; WORDS], r: u16) -> Terminator
+    ensures { λ a. ⌜ OfRecord (now (w .entry)) (λ g. terminator-is a (region g r .terminator) ≡ region g r .terminator) ⌝ }
 {
     let p = indexed(w, r, LIMIT) as usize;
     let kind = word_at(w, p + 1);
@@ -169,64 +169,64 @@ pub fn terminator(w: &[u16; 32256], r: u16) -> Terminator
     Terminator::SelectNumber
 }
 
-pub fn value_count(w: &[u16; 32256], r: u16) -> u16
-    ensures { λ a. ⌜ ((g : Graph) → Stands (now (w .entry)) g → a ≡ length (values-of (region g r .terminator))) ⌝ }
+pub fn value_count(w: &[u16; WORDS], r: u16) -> u16
+    ensures { λ a. ⌜ OfRecord (now (w .entry)) (λ g. a ≡ length (end-values g r)) ⌝ }
 {
     word_at(w, values_place(w, r) as usize)
 }
 
-pub fn value(w: &[u16; 32256], r: u16, k: u16) -> Value
-    ensures { λ a. ⌜ ((g : Graph) → Stands (now (w .entry)) g → value-is a ≡ getD (values-of (region g r .terminator)) k no-value) ⌝ }
+pub fn value(w: &[u16; WORDS], r: u16, k: u16) -> Value
+    ensures { λ a. ⌜ OfRecord (now (w .entry)) (λ g. value-is a ≡ getD (end-values g r) k no-value) ⌝ }
 {
     value_item(w, values_place(w, r), k)
 }
 
-pub fn target_count(w: &[u16; 32256], r: u16) -> u16
-    ensures { λ a. ⌜ ((g : Graph) → Stands (now (w .entry)) g → a ≡ length (edges-of (region g r .terminator))) ⌝ }
+pub fn target_count(w: &[u16; WORDS], r: u16) -> u16
+    ensures { λ a. ⌜ OfRecord (now (w .entry)) (λ g. a ≡ length (edges-of (region g r .terminator))) ⌝ }
 {
     word_at(w, targets_place(w, r) as usize)
 }
 
-pub fn target(w: &[u16; 32256], r: u16, j: u16) -> u16
-    ensures { λ a. ⌜ ((g : Graph) → Stands (now (w .entry)) g → a ≡ getD (edges-of (region g r .terminator)) j no-edge .target) ⌝ }
+pub fn target(w: &[u16; WORDS], r: u16, j: u16) -> u16
+    ensures { λ a. ⌜ OfRecord (now (w .entry)) (λ g. a ≡ edge-of g r j .target) ⌝ }
 {
     word_item(w, targets_place(w, r), j)
 }
 
-pub fn passed_count(w: &[u16; 32256], r: u16, j: u16) -> u16
-    ensures { λ a. ⌜ ((g : Graph) → Stands (now (w .entry)) g → a ≡ length (getD (edges-of (region g r .terminator)) j no-edge .inputs)) ⌝ }
+pub fn passed_count(w: &[u16; WORDS], r: u16, j: u16) -> u16
+    ensures { λ a. ⌜ OfRecord (now (w .entry)) (λ g. a ≡ length (edge-of g r j .inputs)) ⌝ }
 {
     word_at(w, passed_place(w, r, j) as usize)
 }
 
-pub fn passed(w: &[u16; 32256], r: u16, j: u16, k: u16) -> Value
-    ensures { λ a. ⌜ ((g : Graph) → Stands (now (w .entry)) g → value-is a ≡ getD (getD (edges-of (region g r .terminator)) j no-edge .inputs) k no-value) ⌝ }
+pub fn passed(w: &[u16; WORDS], r: u16, j: u16, k: u16) -> Value
+    ensures { λ a. ⌜ OfRecord (now (w .entry)) (λ g. value-is a ≡ getD (edge-of g r j .inputs) k no-value) ⌝ }
 {
     value_item(w, passed_place(w, r, j), k)
 }
 
-pub fn exit_count(w: &[u16; 32256], r: u16) -> u16
-    ensures { λ a. ⌜ ((g : Graph) → Stands (now (w .entry)) g → a ≡ length (region g r .exits)) ⌝ }
+pub fn exit_count(w: &[u16; WORDS], r: u16) -> u16
+    ensures { λ a. ⌜ OfRecord (now (w .entry)) (λ g. a ≡ length (region g r .exits)) ⌝ }
 {
     word_at(w, indexed(w, r, EXITS) as usize)
 }
 
-pub fn exit_target(w: &[u16; 32256], r: u16, k: u16) -> u16
-    ensures { λ a. ⌜ ((g : Graph) → Stands (now (w .entry)) g → a ≡ getD (region g r .exits) k 0) ⌝ }
+pub fn exit_target(w: &[u16; WORDS], r: u16, k: u16) -> u16
+    ensures { λ a. ⌜ OfRecord (now (w .entry)) (λ g. a ≡ getD (region g r .exits) k 0) ⌝ }
 {
     word_item(w, indexed(w, r, EXITS), k)
 }
 
 // Whether the target at place j stands at an earlier place too.
-pub fn target_again(w: &[u16; 32256], r: u16, j: u16) -> bool
-    ensures { λ a. ⌜ ((g : Graph) → Stands (now (w .entry)) g → a ≡ stands-before (targets-of g r) j) ⌝ }
+pub fn target_again(w: &[u16; WORDS], r: u16, j: u16) -> bool
+    ensures { λ a. ⌜ OfRecord (now (w .entry)) (λ g. a ≡ stands-before (targets-of g r) j) ⌝ }
 {
     stood_before(w, targets_place(w, r), j)
 }
 
 // Whether exit k stands earlier in its list too.
-pub fn exit_again(w: &[u16; 32256], r: u16, k: u16) -> bool
-    ensures { λ a. ⌜ ((g : Graph) → Stands (now (w .entry)) g → a ≡ stands-before (region g r .exits) k) ⌝ }
+pub fn exit_again(w: &[u16; WORDS], r: u16, k: u16) -> bool
+    ensures { λ a. ⌜ OfRecord (now (w .entry)) (λ g. a ≡ stands-before (region g r .exits) k) ⌝ }
 {
     stood_before(w, indexed(w, r, EXITS), k)
 }

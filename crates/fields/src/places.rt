@@ -3,42 +3,39 @@ ghost use mathlib.Core.Path.{_≡_};
 ghost use Prim.Native.Nat.{_≤_};
 ghost use lib.ListN.{getD};
 ghost use Rattle.fields.specs.Words as words;
-use super::words::BEYOND;
 use super::words::behind_values;
 use super::words::behind_words;
 use super::words::place;
 use super::words::stood_before;
-use super::words::word_at;
 use super::words::word_item;
+use store::WORDS;
+use store::layout::BEYOND;
+use store::layout::BLOCKS;
+use store::layout::LIMIT;
+use store::layout::RECORD_END;
+use store::layout::ROW;
+use store::layout::START;
+use store::layout::word_at;
 
-// Where the words of a region stand among its eleven in the index.
-pub const START: usize = 0;
-
-pub const LIMIT: usize = 1;
-
-pub const EXITS: usize = 2;
-
-pub const BLOCKS: usize = 3;
-
-// Word i of region r's eleven in the index.
-pub fn indexed(w: &[u16; 32256], r: u16, i: usize) -> u16
+// Word i of region r's row in the index.
+pub fn indexed(w: &[u16; WORDS], r: u16, i: usize) -> u16
     requires { ⌜ i ≤ 65538 ⌝ }
     ensures { λ a. ⌜ a ≡ words.indexed (now (w .entry)) r i ⌝ }
 {
     if r < word_at(w, 1) {
-        return word_at(w, 4048 + 11 * (r as usize) + i);
+        return word_at(w, RECORD_END + ROW * (r as usize) + i);
     }
     BEYOND
 }
 
 // The block count stands behind the inputs.
-pub fn blocks_place(w: &[u16; 32256], r: u16) -> u16
+pub fn blocks_place(w: &[u16; WORDS], r: u16) -> u16
     ensures { λ a. ⌜ a ≡ words.blocks-place (now (w .entry)) r ⌝ }
 {
     behind_words(w, indexed(w, r, START))
 }
 
-pub fn block_place(w: &[u16; 32256], r: u16, b: u16) -> u16
+pub fn block_place(w: &[u16; WORDS], r: u16, b: u16) -> u16
     ensures { λ a. ⌜ a ≡ words.block-place (now (w .entry)) r b ⌝ }
 {
     if b < word_at(w, blocks_place(w, r) as usize) {
@@ -48,7 +45,7 @@ pub fn block_place(w: &[u16; 32256], r: u16, b: u16) -> u16
 }
 
 // The place behind i instructions: each has four words, the last of them the count of its reads.
-fn behind_instructions(w: &[u16; 32256], first: u16, i: u16) -> u16
+fn behind_instructions(w: &[u16; WORDS], first: u16, i: u16) -> u16
     ensures { λ a. ⌜ a ≡ words.behind-instructions (now (w .entry)) i first ⌝ }
 {
     let mut p = first;
@@ -60,7 +57,7 @@ fn behind_instructions(w: &[u16; 32256], first: u16, i: u16) -> u16
     p
 }
 
-pub fn instruction_place(w: &[u16; 32256], r: u16, b: u16, i: u16) -> u16
+pub fn instruction_place(w: &[u16; WORDS], r: u16, b: u16, i: u16) -> u16
     ensures { λ a. ⌜ a ≡ words.instruction-place (now (w .entry)) r b i ⌝ }
 {
     let p = block_place(w, r, b);
@@ -71,7 +68,7 @@ pub fn instruction_place(w: &[u16; 32256], r: u16, b: u16, i: u16) -> u16
 }
 
 // The kind stands behind the turn limit; an opcode word stands for kind 2 only.
-pub fn values_place(w: &[u16; 32256], r: u16) -> u16
+pub fn values_place(w: &[u16; WORDS], r: u16) -> u16
     ensures { λ a. ⌜ a ≡ words.values-place (now (w .entry)) r ⌝ }
 {
     let p = indexed(w, r, LIMIT) as usize;
@@ -81,14 +78,14 @@ pub fn values_place(w: &[u16; 32256], r: u16) -> u16
     place(p + 2)
 }
 
-pub fn targets_place(w: &[u16; 32256], r: u16) -> u16
+pub fn targets_place(w: &[u16; WORDS], r: u16) -> u16
     ensures { λ a. ⌜ a ≡ words.targets-place (now (w .entry)) r ⌝ }
 {
     behind_values(w, values_place(w, r))
 }
 
 // The place behind the list of the target at place q, which has one where it stands for the first time.
-fn behind_list(w: &[u16; 32256], targets: u16, q: u16, p: u16) -> u16
+fn behind_list(w: &[u16; WORDS], targets: u16, q: u16, p: u16) -> u16
     ensures { λ a. ⌜ a ≡ words.behind-list (now (w .entry)) targets q p ⌝ }
 {
     if stood_before(w, targets, q) {
@@ -98,7 +95,7 @@ fn behind_list(w: &[u16; 32256], targets: u16, q: u16, p: u16) -> u16
 }
 
 // The values passed to target t, of those that stand at `targets`: each distinct target has a list.
-fn list_for(w: &[u16; 32256], targets: u16, t: u16) -> u16
+fn list_for(w: &[u16; WORDS], targets: u16, t: u16) -> u16
     ensures { λ a. ⌜ a ≡ words.list-for (now (w .entry)) targets t (getD (now (w .entry)) targets 0) 0 (words.behind-words (now (w .entry)) targets) ⌝ }
 {
     let n = word_at(w, targets as usize);
@@ -114,7 +111,7 @@ fn list_for(w: &[u16; 32256], targets: u16, t: u16) -> u16
     p
 }
 
-pub fn passed_place(w: &[u16; 32256], r: u16, j: u16) -> u16
+pub fn passed_place(w: &[u16; WORDS], r: u16, j: u16) -> u16
     ensures { λ a. ⌜ a ≡ words.passed-place (now (w .entry)) r j ⌝ }
 {
     let targets = targets_place(w, r);

@@ -1,39 +1,26 @@
 // Words of the lent array by place; a place beyond it holds 0, and a list there is empty.
 ghost use mathlib.Core.Path.{_≡_};
-ghost use lib.ListN.{getD};
 ghost use Rattle.format.specs.Read.{value-from-words};
 ghost use Rattle.fields.specs.Shape.{value-is};
 ghost use Rattle.fields.specs.Words.{placed, word-item, value-item, behind-words, behind-values, again};
 use super::shape::Value;
+use reading::words::stands_before;
+use store::WORDS;
+use store::layout::BEYOND;
+use store::layout::word_at;
 
-// The place that answers for a list that is not there.
-pub const BEYOND: u16 = 65535;
-
-// Tells its caller how long the array is.
-fn span(w: &[u16]) {}
-
-pub fn word_at(w: &[u16; 32256], p: usize) -> u16
-    ensures { λ a. ⌜ a ≡ getD (now (w .entry)) p 0 ⌝ }
-{
-    span(w);
-    if p < 32256 {
-        return w[p];
-    }
-    0
-}
-
-// A place among the words.
+// A place that 16 bits can name; every other is the place of a list that is not there.
 pub fn place(p: usize) -> u16
     ensures { λ a. ⌜ a ≡ placed p ⌝ }
 {
-    if p < 32256 {
+    if p < BEYOND as usize {
         return p as u16;
     }
     BEYOND
 }
 
 // Item k of a list of words: its count stands at p, its items behind it.
-pub fn word_item(w: &[u16; 32256], p: u16, k: u16) -> u16
+pub fn word_item(w: &[u16; WORDS], p: u16, k: u16) -> u16
     ensures { λ a. ⌜ a ≡ word-item (now (w .entry)) p k ⌝ }
 {
     if k < word_at(w, p as usize) {
@@ -68,7 +55,7 @@ fn value_of(kind: u16, region: u16, index: u16) -> Value
 }
 
 // Item k of a list of values.
-pub fn value_item(w: &[u16; 32256], p: u16, k: u16) -> Value
+pub fn value_item(w: &[u16; WORDS], p: u16, k: u16) -> Value
     ensures { λ a. ⌜ value-is a ≡ value-item (now (w .entry)) p k ⌝ }
 {
     if k < word_at(w, p as usize) {
@@ -79,30 +66,27 @@ pub fn value_item(w: &[u16; 32256], p: u16, k: u16) -> Value
 }
 
 // The place behind a list of words.
-pub fn behind_words(w: &[u16; 32256], p: u16) -> u16
+pub fn behind_words(w: &[u16; WORDS], p: u16) -> u16
     ensures { λ a. ⌜ a ≡ behind-words (now (w .entry)) p ⌝ }
 {
     place((p as usize) + 1 + (word_at(w, p as usize) as usize))
 }
 
 // The place behind a list of values.
-pub fn behind_values(w: &[u16; 32256], p: u16) -> u16
+pub fn behind_values(w: &[u16; WORDS], p: u16) -> u16
     ensures { λ a. ⌜ a ≡ behind-values (now (w .entry)) p ⌝ }
 {
     place((p as usize) + 1 + 3 * (word_at(w, p as usize) as usize))
 }
 
-// Whether item q of a list of words stands among the items before it.
-pub fn stood_before(w: &[u16; 32256], p: u16, q: u16) -> bool
+// Whether item q of a list of words stands among the items before it; what is beyond the list does not.
+pub fn stood_before(w: &[u16; WORDS], p: u16, q: u16) -> bool
     ensures { λ a. ⌜ a ≡ again (now (w .entry)) p q ⌝ }
 {
-    let x = word_item(w, p, q);
-    let mut k: u16 = 0;
-    while k < q {
-        if word_item(w, p, k) == x {
-            return true;
-        }
-        k += 1;
+    if q < word_at(w, p as usize) {
+        let from = (p as usize) + 1;
+        let x = word_at(w, from + (q as usize));
+        return stands_before(w, from, x, q);
     }
     false
 }

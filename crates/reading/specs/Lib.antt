@@ -1,7 +1,3 @@
-pub mod Parts
-pub mod Forgotten
-pub mod ValuesForgotten
-pub mod Targets
-pub mod TerminatorsForgotten
 pub mod Answers
-pub mod AnswerSteps
+pub mod Readings
+pub mod laws

@@ -3,15 +3,17 @@ use crate::values::counted_values;
 use crate::words::Cursor;
 use crate::words::Item;
 use crate::words::Step;
-use crate::words::span;
+use crate::words::stands_before;
 use crate::words::within;
 use crate::words::words;
+use store::WORDS;
+use store::layout::word_at;
+use store::span;
 ghost use mathlib.Core.Path.{_≡_};
 ghost use Prim.Native.Nat.{ℕ, _+_, _<_};
 ghost use Rattle.format.specs.Read as read;
 ghost use Rattle.reading.specs.Answers.{step-at};
-ghost use Rattle.reading.specs.Targets.{stands, first, firsts};
-ghost use Rattle.reading.specs.TerminatorsForgotten.{edges-lists, operands-read};
+ghost use Rattle.reading.specs.Readings.{first, firsts, edges-lists, operands-read};
 
 // How many values and targets a terminator of kind k has, at least and at most.
 fn fewest_values(k: u16) -> u16
@@ -66,7 +68,7 @@ fn most_targets(k: u16) -> u16
 }
 
 // The opcode word stands for ExitInvocation, kind 2, only.
-fn opcode_for(w: &[u16; 32256], c: Cursor, k: u16) -> Step
+fn opcode_for(w: &[u16; WORDS], c: Cursor, k: u16) -> Step
     ensures { λ r. ⌜ r ≡ step-at (read.opcode-for k) (now (w .entry)) c ⌝ }
 {
     if k == 2 {
@@ -75,27 +77,12 @@ fn opcode_for(w: &[u16; 32256], c: Cursor, k: u16) -> Step
     Step::At(c)
 }
 
-// Whether t is among n words.
-fn stands_before(w: &[u16; 32256], from: usize, t: u16, n: u16) -> bool
-    requires { ⌜ ((j : ℕ) → j < n → from + j < 32256) ⌝ }
-    ensures { λ r. ⌜ r ≡ stands (now (w .entry)) from t n ⌝ }
-{
-    let mut i: u16 = 0;
-    while i < n {
-        if t == w[from + i as usize] {
-            return true;
-        }
-        i += 1;
-    }
-    false
-}
-
 // 1 if word n of them stands for the first time, else 0.
-fn first_standing(w: &[u16; 32256], from: usize, n: u16) -> u16
-    requires { ⌜ ((j : ℕ) → j < n + 1 → from + j < 32256) ⌝ }
+fn first_standing(w: &[u16; WORDS], from: usize, n: u16) -> u16
+    requires { ⌜ ((j : ℕ) → j < n + 1 → from + j < 131072) ⌝ }
     ensures { λ r. ⌜ r ≡ first (now (w .entry)) from n ⌝ }
 {
-    let t = w[from + n as usize];
+    let t = word_at(w, from + n as usize);
     if stands_before(w, from, t, n) {
         return 0;
     }
@@ -103,8 +90,8 @@ fn first_standing(w: &[u16; 32256], from: usize, n: u16) -> u16
 }
 
 // How many of n words stand for the first time.
-fn distinct(w: &[u16; 32256], from: usize, n: u16) -> u16
-    requires { ⌜ ((j : ℕ) → j < n → from + j < 32256) ⌝ }
+fn distinct(w: &[u16; WORDS], from: usize, n: u16) -> u16
+    requires { ⌜ ((j : ℕ) → j < n → from + j < 131072) ⌝ }
     ensures { λ r. ⌜ r ≡ firsts (now (w .entry)) from n ⌝ }
 {
     let mut k: u16 = 0;
@@ -117,7 +104,7 @@ fn distinct(w: &[u16; 32256], from: usize, n: u16) -> u16
 }
 
 // n lists of passed values
-fn passes(w: &[u16; 32256], from: Cursor, n: u16) -> Step
+fn passes(w: &[u16; WORDS], from: Cursor, n: u16) -> Step
     ensures { λ r. ⌜ r ≡ step-at (read.many n (read.counted 0 4 read.read-value)) (now (w .entry)) from ⌝ }
 {
     let mut i: u16 = 0;
@@ -135,7 +122,7 @@ fn passes(w: &[u16; 32256], from: Cursor, n: u16) -> Step
 }
 
 // n targets and what is passed to them
-fn edges(w: &[u16; 32256], c: Cursor, n: u16) -> Step
+fn edges(w: &[u16; WORDS], c: Cursor, n: u16) -> Step
     ensures { λ r. ⌜ r ≡ step-at (edges-lists n) (now (w .entry)) c ⌝ }
 {
     span(w);
@@ -150,7 +137,7 @@ fn edges(w: &[u16; 32256], c: Cursor, n: u16) -> Step
 }
 
 // What stands after the opcode of a terminator of kind k.
-fn operands(w: &[u16; 32256], c: Cursor, k: u16) -> Step
+fn operands(w: &[u16; WORDS], c: Cursor, k: u16) -> Step
     ensures { λ r. ⌜ r ≡ step-at (operands-read k) (now (w .entry)) c ⌝ }
 {
     let low = fewest_values(k);
@@ -168,7 +155,7 @@ fn operands(w: &[u16; 32256], c: Cursor, k: u16) -> Step
     }
 }
 
-pub fn terminator(w: &[u16; 32256], c: Cursor) -> Step
+pub fn terminator(w: &[u16; WORDS], c: Cursor) -> Step
     ensures { λ r. ⌜ r ≡ step-at read.terminator (now (w .entry)) c ⌝ }
 {
     match within(w, c, 0, 5) {

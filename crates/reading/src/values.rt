@@ -4,10 +4,11 @@ use crate::words::Item;
 use crate::words::Step;
 use crate::words::within;
 use crate::words::word;
+use store::WORDS;
 ghost use mathlib.Core.Path.{_≡_};
 ghost use Rattle.format.specs.Read as read;
 ghost use Rattle.reading.specs.Answers.{step-at};
-ghost use Rattle.reading.specs.ValuesForgotten.{named-by};
+ghost use Rattle.reading.specs.Readings.{named-by};
 
 // Whether a record may have kind k: 3 arises only in nesting.
 fn is_kind(k: u16) -> bool
@@ -36,7 +37,7 @@ fn index_right(k: u16, i: u16) -> bool
 }
 
 // The region and the index of a value of kind k.
-fn named(w: &[u16; 32256], c: Cursor, k: u16) -> Step
+fn named(w: &[u16; WORDS], c: Cursor, k: u16) -> Step
     ensures { λ r. ⌜ r ≡ step-at (named-by k) (now (w .entry)) c ⌝ }
 {
     match word(w, c) {
@@ -53,7 +54,7 @@ fn named(w: &[u16; 32256], c: Cursor, k: u16) -> Step
     }
 }
 
-pub fn value(w: &[u16; 32256], c: Cursor) -> Step
+pub fn value(w: &[u16; WORDS], c: Cursor) -> Step
     ensures { λ r. ⌜ r ≡ step-at read.read-value (now (w .entry)) c ⌝ }
 {
     match word(w, c) {
@@ -68,7 +69,7 @@ pub fn value(w: &[u16; 32256], c: Cursor) -> Step
 }
 
 // n values
-pub fn values(w: &[u16; 32256], from: Cursor, n: u16) -> Step
+pub fn values(w: &[u16; WORDS], from: Cursor, n: u16) -> Step
     ensures { λ r. ⌜ r ≡ step-at (read.many n read.read-value) (now (w .entry)) from ⌝ }
 {
     let mut i: u16 = 0;
@@ -85,7 +86,7 @@ pub fn values(w: &[u16; 32256], from: Cursor, n: u16) -> Step
     Step::At(c)
 }
 
-pub fn counted_values(w: &[u16; 32256], c: Cursor, low: u16, high: u16) -> Step
+pub fn counted_values(w: &[u16; WORDS], c: Cursor, low: u16, high: u16) -> Step
     ensures { λ r. ⌜ r ≡ step-at (read.counted low high read.read-value) (now (w .entry)) c ⌝ }
 {
     match within(w, c, low, high) {
@@ -94,7 +95,7 @@ pub fn counted_values(w: &[u16; 32256], c: Cursor, low: u16, high: u16) -> Step
     }
 }
 
-pub fn instruction(w: &[u16; 32256], c: Cursor) -> Step
+pub fn instruction(w: &[u16; WORDS], c: Cursor) -> Step
     ensures { λ r. ⌜ r ≡ step-at read.instruction (now (w .entry)) c ⌝ }
 {
     match word(w, c) {
@@ -110,7 +111,7 @@ pub fn instruction(w: &[u16; 32256], c: Cursor) -> Step
 }
 
 // n instructions
-fn instructions(w: &[u16; 32256], from: Cursor, n: u16) -> Step
+fn instructions(w: &[u16; WORDS], from: Cursor, n: u16) -> Step
     ensures { λ r. ⌜ r ≡ step-at (read.many n read.instruction) (now (w .entry)) from ⌝ }
 {
     let mut i: u16 = 0;
@@ -127,7 +128,7 @@ fn instructions(w: &[u16; 32256], from: Cursor, n: u16) -> Step
     Step::At(c)
 }
 
-pub fn block(w: &[u16; 32256], c: Cursor) -> Step
+pub fn block(w: &[u16; WORDS], c: Cursor) -> Step
     ensures { λ r. ⌜ r ≡ step-at read.block (now (w .entry)) c ⌝ }
 {
     match within(w, c, 1, 8) {

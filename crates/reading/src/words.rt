@@ -1,7 +1,12 @@
 // Words, words within bounds, and lists of them.
 ghost use mathlib.Core.Path.{_≡_};
+ghost use Prim.Native.Nat.{ℕ, _+_, _<_};
 ghost use Rattle.format.specs.Read as read;
 ghost use Rattle.reading.specs.Answers.{item-at, step-at};
+ghost use Rattle.reading.specs.Readings.{stands};
+use store::WORDS;
+use store::layout::word_at;
+use store::span;
 
 // Where reading stands: the next word to read, and the end of the record's words.
 pub struct Cursor {
@@ -21,11 +26,8 @@ pub enum Step {
     Bad(u16),
 }
 
-// Tells its caller how long the array is: it lends the array as a slice, and compiles to nothing.
-pub fn span(s: &[u16]) {}
-
 // No word stands past the end, nor past the array.
-pub fn word(w: &[u16; 32256], c: Cursor) -> Item
+pub fn word(w: &[u16; WORDS], c: Cursor) -> Item
     ensures { λ r. ⌜ r ≡ item-at read.word (now (w .entry)) c ⌝ }
 {
     span(w);
@@ -34,13 +36,13 @@ pub fn word(w: &[u16; 32256], c: Cursor) -> Item
     if end <= at {
         return Item::Bad(4);
     }
-    if 32256 <= at {
+    if WORDS <= at {
         return Item::Bad(4);
     }
     Item::Word(w[at], Cursor { at: at + 1, end })
 }
 
-pub fn within(w: &[u16; 32256], c: Cursor, low: u16, high: u16) -> Item
+pub fn within(w: &[u16; WORDS], c: Cursor, low: u16, high: u16) -> Item
     ensures { λ r. ⌜ r ≡ item-at (read.within low high) (now (w .entry)) c ⌝ }
 {
     match word(w, c) {
@@ -58,7 +60,7 @@ pub fn within(w: &[u16; 32256], c: Cursor, low: u16, high: u16) -> Item
 }
 
 // n words
-pub fn words(w: &[u16; 32256], from: Cursor, n: u16) -> Step
+pub fn words(w: &[u16; WORDS], from: Cursor, n: u16) -> Step
     ensures { λ r. ⌜ r ≡ step-at (read.many n read.word) (now (w .entry)) from ⌝ }
 {
     let mut i: u16 = 0;
@@ -76,7 +78,7 @@ pub fn words(w: &[u16; 32256], from: Cursor, n: u16) -> Step
 }
 
 // n types
-pub fn types(w: &[u16; 32256], from: Cursor, n: u16) -> Step
+pub fn types(w: &[u16; WORDS], from: Cursor, n: u16) -> Step
     ensures { λ r. ⌜ r ≡ step-at (read.many n read.type) (now (w .entry)) from ⌝ }
 {
     let mut i: u16 = 0;
@@ -93,7 +95,7 @@ pub fn types(w: &[u16; 32256], from: Cursor, n: u16) -> Step
     Step::At(c)
 }
 
-pub fn counted_words(w: &[u16; 32256], c: Cursor, low: u16, high: u16) -> Step
+pub fn counted_words(w: &[u16; WORDS], c: Cursor, low: u16, high: u16) -> Step
     ensures { λ r. ⌜ r ≡ step-at (read.counted low high read.word) (now (w .entry)) c ⌝ }
 {
     match within(w, c, low, high) {
@@ -102,11 +104,26 @@ pub fn counted_words(w: &[u16; 32256], c: Cursor, low: u16, high: u16) -> Step
     }
 }
 
-pub fn counted_types(w: &[u16; 32256], c: Cursor, high: u16) -> Step
+pub fn counted_types(w: &[u16; WORDS], c: Cursor, high: u16) -> Step
     ensures { λ r. ⌜ r ≡ step-at (read.counted 0 high read.type) (now (w .entry)) c ⌝ }
 {
     match within(w, c, 0, high) {
         Item::Bad(m) => Step::Bad(m),
         Item::Word(n, e) => types(w, e, n),
     }
+}
+
+// Whether t is among the n words from a place on; the bound keeps each place a usize.
+pub fn stands_before(w: &[u16; WORDS], from: usize, t: u16, n: u16) -> bool
+    requires { ⌜ ((j : ℕ) → j < n → from + j < 131072) ⌝ }
+    ensures { λ r. ⌜ r ≡ stands (now (w .entry)) from t n ⌝ }
+{
+    let mut i: u16 = 0;
+    while i < n {
+        if t == word_at(w, from + i as usize) {
+            return true;
+        }
+        i += 1;
+    }
+    false
 }

@@ -8,7 +8,7 @@ use Rattle.format.specs.Places.{next, after, blocks-of-region, block-of-region,
 use Rattle.reading.specs.Answers.{step-at}
 use Rattle.reading.specs.declared.words.Cursor.{Cursor}
 use Rattle.reading.specs.declared.words.Step.the-variants.{At}
-use Rattle.record.specs.RegionsForgotten.{ending-read}
+use Rattle.record.specs.Readings.{ending-read}
 use Rattle.record.specs.declared.regions.BlockPlaces.{BlockPlaces}
 use Rattle.record.specs.declared.regions.RegionPlaces.{RegionPlaces}
 
@@ -20,7 +20,8 @@ pub record BlocksRead (n : ℕ) (w : List ℕ) (c : Cursor) (x : BlockPlaces) : 
 -- a block count and so many blocks
 pub record CountedBlocks (w : List ℕ) (c : Cursor) (x : BlockPlaces) : Type 0 where
   pub step : x .step ≡ step-at (counted 0 8 block) w c
-  pub places : (e : Cursor) → x .step ≡ At e → (b : ℕ) → b < getD (take (c .end) w) (c .at) 0 → getD (x .places) b 0 ≡ after b block (take (c .end) w) (c .at + 1)
+  pub places : (e : Cursor) → x .step ≡ At e → (b : ℕ) → b < getD (take (c .end) w) (c .at) 0
+      → getD (x .places) b 0 ≡ after b block (take (c .end) w) (c .at + 1)
 
 -- a region from its turn limit on
 pub record EndingRead (w : List ℕ) (c : Cursor) (places : List ℕ) (x : RegionPlaces) : Type 0 where

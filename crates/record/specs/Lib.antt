@@ -1,11 +1,6 @@
 pub mod Stands
-pub mod Parts
-pub mod PartsWithin
-pub mod RegionsForgotten
+pub mod Readings
 pub mod Answers
-pub mod RegionSteps
-pub mod Row
 pub mod Outcome
 pub mod Index
-pub mod IndexSteps
-pub mod RecordSteps
+pub mod laws

@@ -2,32 +2,34 @@
 use mathlib.Core.Path.{_≡_}
 use mathlib.Core.List.{List}
 use Prim.Native.Nat.{ℕ}
-use lib.ListN.{length, take, drop}
+use lib.ListN.{length, getD, take, drop}
+use lib.Dec.{leb}
 use Rattle.meaning.specs.Graph.{Graph}
 use Rattle.format.specs.Store.{Answer, accepted, refused}
 use Rattle.format.specs.Read.{read-record}
-use Rattle.record.specs.Stands.{Stands}
-use Rattle.record.specs.declared.ReadAnswer.{ReadAnswer}
-use Rattle.record.specs.declared.ReadAnswer.the-variants as read
+use Rattle.store.specs.Layout.{record-end, index-end}
+use Rattle.store.specs.Loaded.{answered}
+use Rattle.store.specs.declared.Checked.{Checked}
+use Rattle.record.specs.Stands.{words-of-record, Stands}
+use Rattle.meaning.specs.Lists.{pick}
 
 -- An answer with what was taken forgotten.
 abbrev pub forget : {A : Type 0} → Answer A → Answer Unit
 forget (accepted a) = accepted tt
 forget (refused n w) = refused n w
 
--- Document 01's number and word of each answer.
-abbrev pub read-answered : ReadAnswer → Answer Unit
-read-answered read.Read = accepted tt
-read-answered (read.Refused n w) = refused n w
-
 -- Only the index may have changed.
 pub record RestKept (old new : List ℕ) : Type 0 where
   pub size : length new ≡ length old
-  pub front : take 4048 new ≡ take 4048 old
-  pub back : drop 4400 new ≡ drop 4400 old
+  pub front : take record-end new ≡ take record-end old
+  pub back : drop index-end new ≡ drop index-end old
 
--- The words of `old` are read, W of them; `new` are the lent words at the end.
-pub record ReadOutcome (count : ℕ) (old new : List ℕ) (a : ReadAnswer) : Type 0 where
-  pub answer : read-answered a ≡ forget (read-record (take count old))
-  pub stands : (g : Graph) → read-record (take count old) ≡ accepted g → Stands new g
+-- The record in front of the words: word 0 says how many words it has, and no record has more than the longest.
+abbrev pub record-in : List ℕ → Answer Graph
+record-in w = pick (leb (getD w 0 0) record-end) (read-record (words-of-record w)) (refused 4 0)
+
+-- `old` are the lent words as they are read, `new` as they are handed back.
+pub record ReadOutcome (old new : List ℕ) (a : Checked) : Type 0 where
+  pub answer : answered a ≡ forget (record-in old)
+  pub stands : (g : Graph) → record-in old ≡ accepted g → Stands new g
   pub kept : RestKept old new

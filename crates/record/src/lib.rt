@@ -8,34 +8,33 @@ use crate::regions::region;
 use reading::words::Cursor;
 use reading::words::Item;
 use reading::words::Step;
-use reading::words::span;
+use store::Checked;
+use store::WORDS;
+use store::layout::RECORD_END;
+use store::layout::word_at;
+use store::span;
 ghost use mathlib.Core.Path.{_≡_};
 ghost use Prim.Native.Nat.{_≤_};
-ghost use lib.ListN.{getD};
 ghost use Rattle.format.specs.Store.{refused};
 ghost use Rattle.format.specs.Read.{word-for};
-ghost use Rattle.record.specs.Outcome.{read-answered, ReadOutcome};
+ghost use Rattle.store.specs.Layout.{record-end};
+ghost use Rattle.store.specs.Loaded.{answered};
+ghost use Rattle.record.specs.Outcome.{ReadOutcome};
 ghost use Rattle.record.specs.Index.{RegionsOutcome};
 
-// What reading answers: a refusal has document 01's number and its word.
-pub enum ReadAnswer {
-    Read,
-    Refused(u16, u16),
-}
-
 // 5 has the region being read for its word, 4 has 0.
-fn refusal(n: u16, r: u16) -> ReadAnswer
-    ensures { λ a. ⌜ read-answered a ≡ refused n (word-for n r) ⌝ }
+fn refusal(n: u16, r: u16) -> Checked
+    ensures { λ a. ⌜ answered a ≡ refused n (word-for n r) ⌝ }
 {
     if n == 5 {
-        return ReadAnswer::Refused(n, r);
+        return Checked::Refused(n, r);
     }
-    ReadAnswer::Refused(n, 0)
+    Checked::Refused(n, 0)
 }
 
 // n regions from a cursor on; words that stay over are 4.
-fn read_regions(w: &mut [u16; 32256], from: Cursor, n: u16) -> ReadAnswer
-    requires { ⌜ (from .end ≤ 4048) × (n ≤ 32) ⌝ }
+fn read_regions(w: &mut [u16; WORDS], from: Cursor, n: u16) -> Checked
+    requires { ⌜ (from .end ≤ record-end) × (n ≤ 32) ⌝ }
     ensures { λ a. ⌜ RegionsOutcome n (from .end) (from .at) (now (w .entry)) (now (w .exit)) a ⌝ }
 {
     span(w);
@@ -54,17 +53,20 @@ fn read_regions(w: &mut [u16; 32256], from: Cursor, n: u16) -> ReadAnswer
         }
     }
     if c.at == c.end {
-        return ReadAnswer::Read;
+        return Checked::Right;
     }
-    ReadAnswer::Refused(4, 0)
+    Checked::Refused(4, 0)
 }
 
-// The record in the first words, W of them, which word 0 says; the index is made on the way.
-pub fn read_record(w: &mut [u16; 32256], count: usize) -> ReadAnswer
-    requires { ⌜ (count ≤ 4048) × (getD (now w) 0 0 ≡ count) ⌝ }
-    ensures { λ a. ⌜ ReadOutcome count (now (w .entry)) (now (w .exit)) a ⌝ }
+// The record in front of the words, W of them, which word 0 says; the index is made on the way.
+pub fn read_record(w: &mut [u16; WORDS]) -> Checked
+    ensures { λ a. ⌜ ReadOutcome (now (w .entry)) (now (w .exit)) a ⌝ }
 {
     span(w);
+    let count = word_at(w, 0) as usize;
+    if RECORD_END < count {
+        return Checked::Refused(4, 0);
+    }
     let first = Cursor { at: 1, end: count };
     match head(w, first) {
         Item::Bad(m) => refusal(m, 0),

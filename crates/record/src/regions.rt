@@ -6,14 +6,15 @@ use reading::words::Item;
 use reading::words::Step;
 use reading::words::counted_types;
 use reading::words::counted_words;
-use reading::words::span;
 use reading::words::within;
 use reading::words::word;
+use store::WORDS;
+use store::span;
 ghost use mathlib.Core.Path.{_≡_};
 ghost use Prim.Native.Nat.{_≤_};
 ghost use Rattle.reading.specs.Answers.{item-at, step-at};
 ghost use Rattle.record.specs.Answers.{BlocksRead, CountedBlocks, EndingRead, RegionPlacesRead};
-ghost use Rattle.record.specs.RegionsForgotten.{after-count, head-count};
+ghost use Rattle.record.specs.Readings.{after-count, head-count};
 
 // The cursor behind some blocks, and the place of each.
 pub struct BlockPlaces {
@@ -30,7 +31,7 @@ pub struct RegionPlaces {
 }
 
 // n blocks
-fn blocks(w: &[u16; 32256], from: Cursor, n: u16) -> BlockPlaces
+fn blocks(w: &[u16; WORDS], from: Cursor, n: u16) -> BlockPlaces
     requires { ⌜ n ≤ 8 ⌝ }
     ensures { λ r. ⌜ BlocksRead n (now (w .entry)) from r ⌝ }
 {
@@ -59,7 +60,7 @@ fn blocks(w: &[u16; 32256], from: Cursor, n: u16) -> BlockPlaces
     }
 }
 
-fn counted_blocks(w: &[u16; 32256], c: Cursor) -> BlockPlaces
+fn counted_blocks(w: &[u16; WORDS], c: Cursor) -> BlockPlaces
     ensures { λ r. ⌜ CountedBlocks (now (w .entry)) c r ⌝ }
 {
     match within(w, c, 0, 8) {
@@ -87,7 +88,7 @@ fn no_region(m: u16) -> RegionPlaces
 }
 
 // From the turn limit of a region on; its blocks stand at the places.
-fn ending(w: &[u16; 32256], c: Cursor, places: [u16; 8]) -> RegionPlaces
+fn ending(w: &[u16; WORDS], c: Cursor, places: [u16; 8]) -> RegionPlaces
     ensures { λ r. ⌜ EndingRead (now (w .entry)) c places r ⌝ }
 {
     span(w);
@@ -108,7 +109,7 @@ fn ending(w: &[u16; 32256], c: Cursor, places: [u16; 8]) -> RegionPlaces
     }
 }
 
-pub fn region(w: &[u16; 32256], c: Cursor) -> RegionPlaces
+pub fn region(w: &[u16; WORDS], c: Cursor) -> RegionPlaces
     ensures { λ r. ⌜ RegionPlacesRead (now (w .entry)) c r ⌝ }
 {
     match counted_types(w, c, 4) {
@@ -126,7 +127,7 @@ pub fn region(w: &[u16; 32256], c: Cursor) -> RegionPlaces
 }
 
 // Entry, test cost, and the types of the constants.
-fn after_count(w: &[u16; 32256], c: Cursor) -> Step
+fn after_count(w: &[u16; WORDS], c: Cursor) -> Step
     ensures { λ r. ⌜ r ≡ step-at after-count (now (w .entry)) c ⌝ }
 {
     match word(w, c) {
@@ -139,7 +140,7 @@ fn after_count(w: &[u16; 32256], c: Cursor) -> Step
 }
 
 // The region count and the cursor at the first region.
-pub fn head(w: &[u16; 32256], c: Cursor) -> Item
+pub fn head(w: &[u16; WORDS], c: Cursor) -> Item
     ensures { λ r. ⌜ r ≡ item-at head-count (now (w .entry)) c ⌝ }
 {
     match within(w, c, 1, 32) {

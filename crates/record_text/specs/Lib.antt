@@ -1,10 +1,3 @@
 pub mod Listing
 pub mod Parts
-pub mod Steps
-pub mod Passes
-pub mod Ends
-pub mod PassLines
-pub mod ItemBytes
-pub mod RegionBytes
-pub mod Fits
-pub mod CaseA
+pub mod laws

@@ -4,7 +4,8 @@ use mathlib.Core.List.{List, [], _∷_, _++_, map}
 use Prim.Native.Nat.{ℕ, suc, _+_}
 use Prim.Native.String.{String}
 use lib.ListN.{length}
-use Rattle.meaning.specs.Graph.{Value, const, input, instr, output, bool, undef, held, Instr, bool-cond, number, Edge, ControlInst, unreachable, return, exit-invocation, branch, select-branch, Region, Graph, edges-of, no-value}
+use Rattle.meaning.specs.Graph.{Value, const, input, instr, output, bool, undef, held, Instr, bool-cond, number, Edge, ControlInst}
+use Rattle.meaning.specs.Graph.{unreachable, return, exit-invocation, branch, select-branch, Region, Graph, edges-of, no-value}
 use Rattle.meaning.specs.Text.{Text, ascii, decimal, listed}
 use Rattle.format.specs.References.{first-edges}
 use Rattle.format.specs.Store.{Answer, accepted, refused}
@@ -25,7 +26,7 @@ value-text (output o) = labeled "n" o
 value-text (bool true) = ascii "true"
 value-text (bool false) = ascii "false"
 value-text (undef t) = labeled "undef" t
-value-text no-value = ascii "-"
+value-text no-value = labeled "n" 0  -- in no accepted record
 value-text (held r k) = ascii "i" ++ dotted-text r k
 
 unfoldable pub numbers-text : List ℕ → Text

@@ -1,6 +1,5 @@
 // An accepted record as text, in a lent buffer.
-ghost use Rattle.meaning.specs.Graph.{Graph};
-ghost use Rattle.record.specs.Stands.{Stands};
+ghost use Rattle.record.specs.Stands.{OfRecord};
 ghost use Rattle.text.specs.Buffer.{buffer, Wrote};
 ghost use Rattle.text.specs.Whole.{Whole};
 ghost use Rattle.record_text.specs.Listing.{head-text, listing-of, refusal-text};
@@ -18,7 +17,7 @@ use text::put_labeled;
 use text::put_text;
 
 fn put_head(w: &[u16; WORDS], out: &mut [u8], at: usize) -> usize
-    ensures { λ p. ⌜ ((g : Graph) → Stands (now (w .entry)) g → Wrote (buffer (now (out .entry)) at) (head-text g) (buffer (now (out .exit)) p)) ⌝ }
+    ensures { λ p. ⌜ OfRecord (now (w .entry)) (λ g. Wrote (buffer (now (out .entry)) at) (head-text g) (buffer (now (out .exit)) p)) ⌝ }
 {
     let mut place = put_labeled(out, at, b"record regions ", fields::region_count(w) as u32);
     place = put_labeled(out, place, b" entry ", fields::entry(w) as u32);
@@ -30,7 +29,7 @@ fn put_head(w: &[u16; WORDS], out: &mut [u8], at: usize) -> usize
 
 // The record that stands in the words, from the buffer's beginning on.
 pub fn list(w: &[u16; WORDS], out: &mut [u8]) -> Written
-    ensures { λ r. ⌜ ((g : Graph) → Stands (now (w .entry)) g → Whole (listing-of g) (now (out .entry)) (now (out .exit)) r) ⌝ }
+    ensures { λ r. ⌜ OfRecord (now (w .entry)) (λ g. Whole (listing-of g) (now (out .entry)) (now (out .exit)) r) ⌝ }
 {
     let mut place = put_head(w, out, 0);
     place = put_regions(w, out, place);

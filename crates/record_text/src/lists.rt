@@ -2,8 +2,8 @@
 ghost use mathlib.Core.Path.{_≡_};
 ghost use mathlib.Core.List.{_∷_};
 ghost use lib.ListN.{length, getD};
-ghost use Rattle.meaning.specs.Graph.{Graph, no-value};
-ghost use Rattle.record.specs.Stands.{Stands};
+ghost use Rattle.meaning.specs.Graph.{no-value};
+ghost use Rattle.record.specs.Stands.{OfRecord};
 ghost use Rattle.fields.specs.Shape.{value-is};
 ghost use Rattle.text.specs.Buffer.{buffer, Wrote};
 ghost use Rattle.record_text.specs.Listing.{dotted-text, value-text, numbers-text, values-text};
@@ -24,7 +24,7 @@ pub enum Numbers {
 }
 
 fn number_count(w: &[u16; WORDS], l: Numbers) -> u16
-    ensures { λ n. ⌜ ((g : Graph) → Stands (now (w .entry)) g → n ≡ length (numbers-of g l)) ⌝ }
+    ensures { λ n. ⌜ OfRecord (now (w .entry)) (λ g. n ≡ length (numbers-of g l)) ⌝ }
 {
     match l {
         Numbers::Constants => fields::constant_count(w),
@@ -35,7 +35,7 @@ fn number_count(w: &[u16; WORDS], l: Numbers) -> u16
 }
 
 fn number_item(w: &[u16; WORDS], l: Numbers, k: u16) -> u16
-    ensures { λ n. ⌜ ((g : Graph) → Stands (now (w .entry)) g → n ≡ getD (numbers-of g l) k 0) ⌝ }
+    ensures { λ n. ⌜ OfRecord (now (w .entry)) (λ g. n ≡ getD (numbers-of g l) k 0) ⌝ }
 {
     match l {
         Numbers::Constants => fields::constant_type(w, k),
@@ -46,7 +46,8 @@ fn number_item(w: &[u16; WORDS], l: Numbers, k: u16) -> u16
 }
 
 pub fn put_numbers(w: &[u16; WORDS], out: &mut [u8], at: usize, l: Numbers) -> usize
-    ensures { λ p. ⌜ ((g : Graph) → Stands (now (w .entry)) g → Wrote (buffer (now (out .entry)) at) (numbers-text (numbers-of g l)) (buffer (now (out .exit)) p)) ⌝ }
+    ensures { λ p. ⌜ OfRecord (now (w .entry)) (λ g.
+        Wrote (buffer (now (out .entry)) at) (numbers-text (numbers-of g l)) (buffer (now (out .exit)) p)) ⌝ }
 {
     let n = number_count(w, l);
     if n == 0 {
@@ -102,7 +103,7 @@ pub enum Values {
 }
 
 fn value_count(w: &[u16; WORDS], l: Values) -> u16
-    ensures { λ n. ⌜ ((g : Graph) → Stands (now (w .entry)) g → n ≡ length (list-of g l)) ⌝ }
+    ensures { λ n. ⌜ OfRecord (now (w .entry)) (λ g. n ≡ length (list-of g l)) ⌝ }
 {
     match l {
         Values::Terminator(r) => fields::value_count(w, r),
@@ -115,7 +116,7 @@ fn value_count(w: &[u16; WORDS], l: Values) -> u16
 }
 
 fn value_item(w: &[u16; WORDS], l: Values, k: u16) -> Value
-    ensures { λ v. ⌜ ((g : Graph) → Stands (now (w .entry)) g → value-is v ≡ getD (list-of g l) k no-value) ⌝ }
+    ensures { λ v. ⌜ OfRecord (now (w .entry)) (λ g. value-is v ≡ getD (list-of g l) k no-value) ⌝ }
 {
     match l {
         Values::Terminator(r) => fields::value(w, r, k),
@@ -125,7 +126,8 @@ fn value_item(w: &[u16; WORDS], l: Values, k: u16) -> Value
 }
 
 pub fn put_values(w: &[u16; WORDS], out: &mut [u8], at: usize, l: Values) -> usize
-    ensures { λ p. ⌜ ((g : Graph) → Stands (now (w .entry)) g → Wrote (buffer (now (out .entry)) at) (values-text (list-of g l)) (buffer (now (out .exit)) p)) ⌝ }
+    ensures { λ p. ⌜ OfRecord (now (w .entry)) (λ g.
+        Wrote (buffer (now (out .entry)) at) (values-text (list-of g l)) (buffer (now (out .exit)) p)) ⌝ }
 {
     let n = value_count(w, l);
     if n == 0 {

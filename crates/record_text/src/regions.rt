@@ -1,15 +1,15 @@
 // The lines of the regions.
-ghost use mathlib.Core.List.{[], _++_};
+ghost use mathlib.Core.List.{_++_};
 ghost use Prim.Native.Nat.{_+_, _≤_};
 ghost use lib.ListN.{getD};
-ghost use Rattle.meaning.specs.Graph.{Graph, no-value, region, edges-of, targets-of, no-edge};
+ghost use Rattle.meaning.specs.Graph.{no-value, region, edges-of, targets-of};
 ghost use Rattle.meaning.specs.Text.{ascii, listed};
-ghost use Rattle.format.specs.References.{no-instr, values-of};
-ghost use Rattle.record.specs.Stands.{Stands};
-ghost use Rattle.fields.specs.Repeats.{stands-before};
+ghost use Rattle.record.specs.Stands.{OfRecord};
+ghost use Rattle.fields.specs.ByNumber.{block-of, instr-of, end-values, edge-of, stands-before};
 ghost use Rattle.text.specs.Buffer.{buffer, Wrote};
-ghost use Rattle.record_text.specs.Passes.{pass-once};
-ghost use Rattle.record_text.specs.Listing.{value-text, numbers-text, values-text, item-text, items-text, block-text, blocks-text, terminator-text, pass-text, passes-text, region-line-text, exits-line, region-text, regions-text};
+ghost use Rattle.record_text.specs.Parts.{pass-once};
+ghost use Rattle.record_text.specs.Listing.{value-text, numbers-text, values-text, item-text, items-text, block-text, blocks-text};
+ghost use Rattle.record_text.specs.Listing.{terminator-text, pass-text, passes-text, region-line-text, exits-line, region-text, regions-text};
 use super::lists::Numbers;
 use super::lists::Values;
 use super::lists::put_dotted;
@@ -24,7 +24,8 @@ use text::put_text;
 
 // Instruction i of block b, which has number k in its region.
 fn put_item(w: &[u16; WORDS], out: &mut [u8], at: usize, r: u16, b: u16, i: u16, k: u32) -> usize
-    ensures { λ p. ⌜ ((g : Graph) → Stands (now (w .entry)) g → Wrote (buffer (now (out .entry)) at) (item-text r k (getD (getD (region g r .blocks) b []) i no-instr)) (buffer (now (out .exit)) p)) ⌝ }
+    ensures { λ p. ⌜ OfRecord (now (w .entry)) (λ g.
+        Wrote (buffer (now (out .entry)) at) (item-text r k (instr-of g r b i)) (buffer (now (out .exit)) p)) ⌝ }
 {
     let x = fields::instruction(w, r, b, i);
     let mut place = put_dotted(out, at, r, k);
@@ -38,7 +39,8 @@ fn put_item(w: &[u16; WORDS], out: &mut [u8], at: usize, r: u16, b: u16, i: u16,
 // The instructions of block b, the first of which has number k; the bound leaves room to count 65,535 more.
 fn put_items(w: &[u16; WORDS], out: &mut [u8], at: usize, r: u16, b: u16, k: u32) -> usize
     requires { ⌜ k ≤ 4294901760 ⌝ }
-    ensures { λ p. ⌜ ((g : Graph) → Stands (now (w .entry)) g → Wrote (buffer (now (out .entry)) at) (listed (λ t. t) (items-text r k (getD (region g r .blocks) b []))) (buffer (now (out .exit)) p)) ⌝ }
+    ensures { λ p. ⌜ OfRecord (now (w .entry)) (λ g.
+        Wrote (buffer (now (out .entry)) at) (listed (λ t. t) (items-text r k (block-of g r b))) (buffer (now (out .exit)) p)) ⌝ }
 {
     let n = fields::block_length(w, r, b);
     if n == 0 {
@@ -56,7 +58,8 @@ fn put_items(w: &[u16; WORDS], out: &mut [u8], at: usize, r: u16, b: u16, k: u32
 
 fn put_block(w: &[u16; WORDS], out: &mut [u8], at: usize, r: u16, b: u16, k: u32) -> usize
     requires { ⌜ k ≤ 4294901760 ⌝ }
-    ensures { λ p. ⌜ ((g : Graph) → Stands (now (w .entry)) g → Wrote (buffer (now (out .entry)) at) (block-text r k (getD (region g r .blocks) b [])) (buffer (now (out .exit)) p)) ⌝ }
+    ensures { λ p. ⌜ OfRecord (now (w .entry)) (λ g.
+        Wrote (buffer (now (out .entry)) at) (block-text r k (block-of g r b)) (buffer (now (out .exit)) p)) ⌝ }
 {
     let mut place = put_text(out, at, b"block ");
     place = put_items(w, out, place, r, b, k);
@@ -64,7 +67,8 @@ fn put_block(w: &[u16; WORDS], out: &mut [u8], at: usize, r: u16, b: u16, k: u32
 }
 
 fn put_blocks(w: &[u16; WORDS], out: &mut [u8], at: usize, r: u16) -> usize
-    ensures { λ p. ⌜ ((g : Graph) → Stands (now (w .entry)) g → Wrote (buffer (now (out .entry)) at) (blocks-text r 0 (region g r .blocks)) (buffer (now (out .exit)) p)) ⌝ }
+    ensures { λ p. ⌜ OfRecord (now (w .entry)) (λ g.
+        Wrote (buffer (now (out .entry)) at) (blocks-text r 0 (region g r .blocks)) (buffer (now (out .exit)) p)) ⌝ }
 {
     let n = fields::block_count(w, r);
     let mut place = at;
@@ -80,7 +84,9 @@ fn put_blocks(w: &[u16; WORDS], out: &mut [u8], at: usize, r: u16) -> usize
 
 // A label and the terminator's values, to the line's end.
 fn put_end_values(w: &[u16; WORDS], out: &mut [u8], at: usize, label: &[u8], r: u16) -> usize
-    ensures { λ p. ⌜ ((g : Graph) → Stands (now (w .entry)) g → Wrote (buffer (now (out .entry)) at) (now (label .entry) ++ values-text (values-of (region g r .terminator)) ++ ascii "\n") (buffer (now (out .exit)) p)) ⌝ }
+    ensures { λ p. ⌜ OfRecord (now (w .entry)) (λ g.
+        Wrote (buffer (now (out .entry)) at) (now (label .entry) ++ values-text (end-values g r) ++ ascii "\n")
+        (buffer (now (out .exit)) p)) ⌝ }
 {
     let mut place = put_text(out, at, label);
     place = put_values(w, out, place, Values::Terminator(r));
@@ -88,7 +94,10 @@ fn put_end_values(w: &[u16; WORDS], out: &mut [u8], at: usize, label: &[u8], r: 
 }
 
 fn put_select(w: &[u16; WORDS], out: &mut [u8], at: usize, label: &[u8], r: u16) -> usize
-    ensures { λ p. ⌜ ((g : Graph) → Stands (now (w .entry)) g → Wrote (buffer (now (out .entry)) at) (now (label .entry) ++ value-text (getD (values-of (region g r .terminator)) 0 no-value) ++ ascii " to " ++ numbers-text (targets-of g r) ++ ascii "\n") (buffer (now (out .exit)) p)) ⌝ }
+    ensures { λ p. ⌜ OfRecord (now (w .entry)) (λ g.
+        Wrote (buffer (now (out .entry)) at)
+        (now (label .entry) ++ value-text (getD (end-values g r) 0 no-value) ++ ascii " to " ++ numbers-text (targets-of g r) ++ ascii "\n")
+        (buffer (now (out .exit)) p)) ⌝ }
 {
     let mut place = put_text(out, at, label);
     place = put_value(out, place, fields::value(w, r, 0));
@@ -98,7 +107,8 @@ fn put_select(w: &[u16; WORDS], out: &mut [u8], at: usize, label: &[u8], r: u16)
 }
 
 fn put_terminator(w: &[u16; WORDS], out: &mut [u8], at: usize, r: u16) -> usize
-    ensures { λ p. ⌜ ((g : Graph) → Stands (now (w .entry)) g → Wrote (buffer (now (out .entry)) at) (terminator-text (region g r .terminator)) (buffer (now (out .exit)) p)) ⌝ }
+    ensures { λ p. ⌜ OfRecord (now (w .entry)) (λ g.
+        Wrote (buffer (now (out .entry)) at) (terminator-text (region g r .terminator)) (buffer (now (out .exit)) p)) ⌝ }
 {
     match fields::terminator(w, r) {
         Terminator::Unreachable => put_text(out, at, b"unreachable\n"),
@@ -118,7 +128,8 @@ fn put_terminator(w: &[u16; WORDS], out: &mut [u8], at: usize, r: u16) -> usize
 
 // The values passed to the target at place j.
 fn put_pass(w: &[u16; WORDS], out: &mut [u8], at: usize, r: u16, j: u16) -> usize
-    ensures { λ p. ⌜ ((g : Graph) → Stands (now (w .entry)) g → Wrote (buffer (now (out .entry)) at) (pass-text (getD (edges-of (region g r .terminator)) j no-edge)) (buffer (now (out .exit)) p)) ⌝ }
+    ensures { λ p. ⌜ OfRecord (now (w .entry)) (λ g.
+        Wrote (buffer (now (out .entry)) at) (pass-text (edge-of g r j)) (buffer (now (out .exit)) p)) ⌝ }
 {
     let mut place = put_labeled(out, at, b"pass ", fields::target(w, r, j) as u32);
     place = put_text(out, place, b" in ");
@@ -128,7 +139,9 @@ fn put_pass(w: &[u16; WORDS], out: &mut [u8], at: usize, r: u16, j: u16) -> usiz
 
 // The same, unless that target stood before.
 fn put_pass_once(w: &[u16; WORDS], out: &mut [u8], at: usize, r: u16, j: u16) -> usize
-    ensures { λ p. ⌜ ((g : Graph) → Stands (now (w .entry)) g → Wrote (buffer (now (out .entry)) at) (pass-once (stands-before (targets-of g r) j) (getD (edges-of (region g r .terminator)) j no-edge)) (buffer (now (out .exit)) p)) ⌝ }
+    ensures { λ p. ⌜ OfRecord (now (w .entry)) (λ g.
+        Wrote (buffer (now (out .entry)) at) (pass-once (stands-before (targets-of g r) j) (edge-of g r j))
+        (buffer (now (out .exit)) p)) ⌝ }
 {
     if fields::target_again(w, r, j) {
         return at;
@@ -138,7 +151,8 @@ fn put_pass_once(w: &[u16; WORDS], out: &mut [u8], at: usize, r: u16, j: u16) ->
 
 // Each distinct target, by first standing.
 fn put_passes(w: &[u16; WORDS], out: &mut [u8], at: usize, r: u16) -> usize
-    ensures { λ p. ⌜ ((g : Graph) → Stands (now (w .entry)) g → Wrote (buffer (now (out .entry)) at) (passes-text (edges-of (region g r .terminator))) (buffer (now (out .exit)) p)) ⌝ }
+    ensures { λ p. ⌜ OfRecord (now (w .entry)) (λ g.
+        Wrote (buffer (now (out .entry)) at) (passes-text (edges-of (region g r .terminator))) (buffer (now (out .exit)) p)) ⌝ }
 {
     let n = fields::target_count(w, r);
     let mut place = at;
@@ -152,7 +166,8 @@ fn put_passes(w: &[u16; WORDS], out: &mut [u8], at: usize, r: u16) -> usize
 
 // A region's first line: its inputs' types and its turn limit.
 fn put_region_head(w: &[u16; WORDS], out: &mut [u8], at: usize, r: u16) -> usize
-    ensures { λ p. ⌜ ((g : Graph) → Stands (now (w .entry)) g → Wrote (buffer (now (out .entry)) at) (region-line-text r (region g r)) (buffer (now (out .exit)) p)) ⌝ }
+    ensures { λ p. ⌜ OfRecord (now (w .entry)) (λ g.
+        Wrote (buffer (now (out .entry)) at) (region-line-text r (region g r)) (buffer (now (out .exit)) p)) ⌝ }
 {
     let mut place = put_labeled(out, at, b"region ", r as u32);
     place = put_text(out, place, b" in ");
@@ -162,7 +177,8 @@ fn put_region_head(w: &[u16; WORDS], out: &mut [u8], at: usize, r: u16) -> usize
 }
 
 fn put_exits(w: &[u16; WORDS], out: &mut [u8], at: usize, r: u16) -> usize
-    ensures { λ p. ⌜ ((g : Graph) → Stands (now (w .entry)) g → Wrote (buffer (now (out .entry)) at) (exits-line (region g r .exits)) (buffer (now (out .exit)) p)) ⌝ }
+    ensures { λ p. ⌜ OfRecord (now (w .entry)) (λ g.
+        Wrote (buffer (now (out .entry)) at) (exits-line (region g r .exits)) (buffer (now (out .exit)) p)) ⌝ }
 {
     let mut place = put_text(out, at, b"exits ");
     place = put_numbers(w, out, place, Numbers::Exits(r));
@@ -170,7 +186,8 @@ fn put_exits(w: &[u16; WORDS], out: &mut [u8], at: usize, r: u16) -> usize
 }
 
 fn put_region(w: &[u16; WORDS], out: &mut [u8], at: usize, r: u16) -> usize
-    ensures { λ p. ⌜ ((g : Graph) → Stands (now (w .entry)) g → Wrote (buffer (now (out .entry)) at) (region-text r (region g r)) (buffer (now (out .exit)) p)) ⌝ }
+    ensures { λ p. ⌜ OfRecord (now (w .entry)) (λ g.
+        Wrote (buffer (now (out .entry)) at) (region-text r (region g r)) (buffer (now (out .exit)) p)) ⌝ }
 {
     let mut place = put_region_head(w, out, at, r);
     place = put_blocks(w, out, place, r);
@@ -180,7 +197,8 @@ fn put_region(w: &[u16; WORDS], out: &mut [u8], at: usize, r: u16) -> usize
 }
 
 pub fn put_regions(w: &[u16; WORDS], out: &mut [u8], at: usize) -> usize
-    ensures { λ p. ⌜ ((g : Graph) → Stands (now (w .entry)) g → Wrote (buffer (now (out .entry)) at) (regions-text 0 (g .regions)) (buffer (now (out .exit)) p)) ⌝ }
+    ensures { λ p. ⌜ OfRecord (now (w .entry)) (λ g.
+        Wrote (buffer (now (out .entry)) at) (regions-text 0 (g .regions)) (buffer (now (out .exit)) p)) ⌝ }
 {
     let n = fields::region_count(w);
     let mut place = at;

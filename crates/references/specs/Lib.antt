@@ -1,5 +1,2 @@
-pub mod Answers
-pub mod Walk
-pub mod Walks
-pub mod EdgesWalk
-pub mod Steps
+pub mod Checks
+pub mod laws

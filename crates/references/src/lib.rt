@@ -3,25 +3,21 @@ ghost use mathlib.Core.Path.{_≡_};
 ghost use mathlib.Core.List.{[]};
 ghost use Prim.Native.Nat.{_≤_};
 ghost use lib.ListN.{getD};
-ghost use Rattle.meaning.specs.Graph.{Graph, no-value, region, edges-of, no-edge};
+ghost use Rattle.meaning.specs.Graph.{no-value, region, edges-of};
 ghost use Rattle.format.specs.References as format;
-ghost use Rattle.record.specs.Stands.{Stands};
+ghost use Rattle.store.specs.Loaded.{answered};
+ghost use Rattle.record.specs.Stands.{OfRecord};
+ghost use Rattle.fields.specs.ByNumber.{block-of, instr-of, end-values, edge-of};
 ghost use Rattle.fields.specs.Shape.{value-is};
-ghost use Rattle.references.specs.Answers.{references-answered};
-ghost use Rattle.references.specs.Walks.{typed};
-ghost use Rattle.references.specs.EdgesWalk.{first-right};
+ghost use Rattle.references.specs.Checks.{typed, first-right};
 use fields::Terminator;
 use fields::Value;
-
-// Nothing to refuse so far, or a refusal's number and its word.
-pub enum Checked {
-    Right,
-    Refused(u16, u16),
-}
+use store::Checked;
+use store::WORDS;
 
 // The type of a value used in region r behind its first `before` instructions; 0 where it names nothing allowed there.
-fn type_in(w: &[u16; 32256], r: u16, before: usize, v: Value) -> u16
-    ensures { λ a. ⌜ ((g : Graph) → Stands (now (w .entry)) g → a ≡ format.type-in g r before (value-is v)) ⌝ }
+fn type_in(w: &[u16; WORDS], r: u16, before: usize, v: Value) -> u16
+    ensures { λ a. ⌜ OfRecord (now (w .entry)) (λ g. a ≡ format.type-in g r before (value-is v)) ⌝ }
 {
     match v {
         Value::Const(i) => fields::constant_type(w, i),
@@ -45,8 +41,8 @@ fn type_in(w: &[u16; 32256], r: u16, before: usize, v: Value) -> u16
     }
 }
 
-fn named(w: &[u16; 32256], r: u16, before: usize, v: Value) -> Checked
-    ensures { λ a. ⌜ ((g : Graph) → Stands (now (w .entry)) g → references-answered a ≡ format.named-right g r before (value-is v)) ⌝ }
+fn named(w: &[u16; WORDS], r: u16, before: usize, v: Value) -> Checked
+    ensures { λ a. ⌜ OfRecord (now (w .entry)) (λ g. answered a ≡ format.named-right g r before (value-is v)) ⌝ }
 {
     if type_in(w, r, before, v) == 0 {
         return Checked::Refused(6, r);
@@ -55,8 +51,8 @@ fn named(w: &[u16; 32256], r: u16, before: usize, v: Value) -> Checked
 }
 
 // A value behind all instructions of region r: named, and of type t.
-fn named_of_type(w: &[u16; 32256], r: u16, t: u16, v: Value) -> Checked
-    ensures { λ a. ⌜ ((g : Graph) → Stands (now (w .entry)) g → references-answered a ≡ typed g r t (value-is v)) ⌝ }
+fn named_of_type(w: &[u16; WORDS], r: u16, t: u16, v: Value) -> Checked
+    ensures { λ a. ⌜ OfRecord (now (w .entry)) (λ g. answered a ≡ typed g r t (value-is v)) ⌝ }
 {
     let found = type_in(w, r, fields::instruction_count(w, r), v);
     if found == 0 {
@@ -69,8 +65,9 @@ fn named_of_type(w: &[u16; 32256], r: u16, t: u16, v: Value) -> Checked
 }
 
 // Each read of instruction i of block b, which stands behind `before` instructions of the region.
-fn instruction_reads_right(w: &[u16; 32256], r: u16, b: u16, i: u16, before: usize) -> Checked
-    ensures { λ a. ⌜ ((g : Graph) → Stands (now (w .entry)) g → references-answered a ≡ format.first-refusal (format.named-right g r before) (getD (getD (region g r .blocks) b []) i format.no-instr .reads)) ⌝ }
+fn instruction_reads_right(w: &[u16; WORDS], r: u16, b: u16, i: u16, before: usize) -> Checked
+    ensures { λ a. ⌜ OfRecord (now (w .entry)) (λ g.
+        answered a ≡ format.first-refusal (format.named-right g r before) (instr-of g r b i .reads)) ⌝ }
 {
     let x = fields::instruction(w, r, b, i);
     let n = x.reads;
@@ -85,9 +82,9 @@ fn instruction_reads_right(w: &[u16; 32256], r: u16, b: u16, i: u16, before: usi
     Checked::Right
 }
 
-fn block_reads_right(w: &[u16; 32256], r: u16, b: u16, before: usize) -> Checked
+fn block_reads_right(w: &[u16; WORDS], r: u16, b: u16, before: usize) -> Checked
     requires { ⌜ before ≤ 4294836225 ⌝ }
-    ensures { λ a. ⌜ ((g : Graph) → Stands (now (w .entry)) g → references-answered a ≡ format.reads-right g r before (getD (region g r .blocks) b [])) ⌝ }
+    ensures { λ a. ⌜ OfRecord (now (w .entry)) (λ g. answered a ≡ format.reads-right g r before (block-of g r b)) ⌝ }
 {
     let n = fields::block_length(w, r, b);
     let mut i: u16 = 0;
@@ -101,8 +98,8 @@ fn block_reads_right(w: &[u16; 32256], r: u16, b: u16, before: usize) -> Checked
     Checked::Right
 }
 
-fn reads_right(w: &[u16; 32256], r: u16) -> Checked
-    ensures { λ a. ⌜ ((g : Graph) → Stands (now (w .entry)) g → references-answered a ≡ format.reads-right g r 0 (format.instructions (region g r .blocks))) ⌝ }
+fn reads_right(w: &[u16; WORDS], r: u16) -> Checked
+    ensures { λ a. ⌜ OfRecord (now (w .entry)) (λ g. answered a ≡ format.reads-right g r 0 (format.instructions (region g r .blocks))) ⌝ }
 {
     let n = fields::block_count(w, r);
     let mut before: usize = 0;
@@ -118,8 +115,8 @@ fn reads_right(w: &[u16; 32256], r: u16) -> Checked
     Checked::Right
 }
 
-fn is_return(w: &[u16; 32256], r: u16) -> bool
-    ensures { λ a. ⌜ ((g : Graph) → Stands (now (w .entry)) g → a ≡ format.is-return (region g r .terminator)) ⌝ }
+fn is_return(w: &[u16; WORDS], r: u16) -> bool
+    ensures { λ a. ⌜ OfRecord (now (w .entry)) (λ g. a ≡ format.is-return (region g r .terminator)) ⌝ }
 {
     let t = fields::terminator(w, r);
     match t {
@@ -133,8 +130,8 @@ fn is_return(w: &[u16; 32256], r: u16) -> bool
 }
 
 // How many regions stand before the first Return region.
-fn first_return(w: &[u16; 32256]) -> u16
-    ensures { λ a. ⌜ ((g : Graph) → Stands (now (w .entry)) g → a ≡ format.first-return (g .regions)) ⌝ }
+fn first_return(w: &[u16; WORDS]) -> u16
+    ensures { λ a. ⌜ OfRecord (now (w .entry)) (λ g. a ≡ format.first-return (g .regions)) ⌝ }
 {
     let n = fields::region_count(w);
     let mut q: u16 = 0;
@@ -148,8 +145,8 @@ fn first_return(w: &[u16; 32256]) -> u16
 }
 
 // The type of value k that region q returns.
-fn return_type(w: &[u16; 32256], q: u16, k: u16) -> u16
-    ensures { λ a. ⌜ ((g : Graph) → Stands (now (w .entry)) g → a ≡ format.type-in g q (format.behind-all g q) (getD (format.values-of (region g q .terminator)) k no-value)) ⌝ }
+fn return_type(w: &[u16; WORDS], q: u16, k: u16) -> u16
+    ensures { λ a. ⌜ OfRecord (now (w .entry)) (λ g. a ≡ format.type-in g q (format.behind-all g q) (getD (end-values g q) k no-value)) ⌝ }
 {
     type_in(
         w,
@@ -160,8 +157,8 @@ fn return_type(w: &[u16; 32256], q: u16, k: u16) -> u16
 }
 
 // What region r returns has the types of what the first Return region returns.
-fn returned_right(w: &[u16; 32256], r: u16) -> Checked
-    ensures { λ a. ⌜ ((g : Graph) → Stands (now (w .entry)) g → references-answered a ≡ format.passed-right g r (format.return-types g) (format.values-of (region g r .terminator))) ⌝ }
+fn returned_right(w: &[u16; WORDS], r: u16) -> Checked
+    ensures { λ a. ⌜ OfRecord (now (w .entry)) (λ g. answered a ≡ format.passed-right g r (format.return-types g) (end-values g r)) ⌝ }
 {
     let q = first_return(w);
     let n = fields::value_count(w, r);
@@ -180,8 +177,9 @@ fn returned_right(w: &[u16; 32256], r: u16) -> Checked
 }
 
 // Each value that ExitInvocation names.
-fn exit_values_right(w: &[u16; 32256], r: u16) -> Checked
-    ensures { λ a. ⌜ ((g : Graph) → Stands (now (w .entry)) g → references-answered a ≡ format.first-refusal (format.named-right g r (format.behind-all g r)) (format.values-of (region g r .terminator))) ⌝ }
+fn exit_values_right(w: &[u16; WORDS], r: u16) -> Checked
+    ensures { λ a. ⌜ OfRecord (now (w .entry)) (λ g.
+        answered a ≡ format.first-refusal (format.named-right g r (format.behind-all g r)) (end-values g r)) ⌝ }
 {
     let before = fields::instruction_count(w, r);
     let n = fields::value_count(w, r);
@@ -196,8 +194,8 @@ fn exit_values_right(w: &[u16; 32256], r: u16) -> Checked
     Checked::Right
 }
 
-fn values_right(w: &[u16; 32256], r: u16) -> Checked
-    ensures { λ a. ⌜ ((g : Graph) → Stands (now (w .entry)) g → references-answered a ≡ format.values-right g r (region g r .terminator)) ⌝ }
+fn values_right(w: &[u16; WORDS], r: u16) -> Checked
+    ensures { λ a. ⌜ OfRecord (now (w .entry)) (λ g. answered a ≡ format.values-right g r (region g r .terminator)) ⌝ }
 {
     let t = fields::terminator(w, r);
     match t {
@@ -215,8 +213,9 @@ fn values_right(w: &[u16; 32256], r: u16) -> Checked
     }
 }
 
-fn targets_right(w: &[u16; 32256], r: u16) -> Checked
-    ensures { λ a. ⌜ ((g : Graph) → Stands (now (w .entry)) g → references-answered a ≡ format.first-refusal (format.target-right g r) (edges-of (region g r .terminator))) ⌝ }
+fn targets_right(w: &[u16; WORDS], r: u16) -> Checked
+    ensures { λ a. ⌜ OfRecord (now (w .entry)) (λ g.
+        answered a ≡ format.first-refusal (format.target-right g r) (edges-of (region g r .terminator))) ⌝ }
 {
     let count = fields::region_count(w);
     let n = fields::target_count(w, r);
@@ -231,8 +230,8 @@ fn targets_right(w: &[u16; 32256], r: u16) -> Checked
 }
 
 // Values for the inputs of the target at place j: as many, then each named, and of its type.
-fn passed_right(w: &[u16; 32256], r: u16, j: u16) -> Checked
-    ensures { λ a. ⌜ ((g : Graph) → Stands (now (w .entry)) g → references-answered a ≡ format.edge-right g r (getD (edges-of (region g r .terminator)) j no-edge)) ⌝ }
+fn passed_right(w: &[u16; WORDS], r: u16, j: u16) -> Checked
+    ensures { λ a. ⌜ OfRecord (now (w .entry)) (λ g. answered a ≡ format.edge-right g r (edge-of g r j)) ⌝ }
 {
     let t = fields::target(w, r, j);
     let n = fields::passed_count(w, r, j);
@@ -256,8 +255,8 @@ fn passed_right(w: &[u16; 32256], r: u16, j: u16) -> Checked
 }
 
 // The values for the target at place j, where it stands for the first time.
-fn edge_right(w: &[u16; 32256], r: u16, j: u16) -> Checked
-    ensures { λ a. ⌜ ((g : Graph) → Stands (now (w .entry)) g → references-answered a ≡ first-right g r (edges-of (region g r .terminator)) j) ⌝ }
+fn edge_right(w: &[u16; WORDS], r: u16, j: u16) -> Checked
+    ensures { λ a. ⌜ OfRecord (now (w .entry)) (λ g. answered a ≡ first-right g r (edges-of (region g r .terminator)) j) ⌝ }
 {
     if fields::target_again(w, r, j) {
         return Checked::Right;
@@ -266,8 +265,9 @@ fn edge_right(w: &[u16; 32256], r: u16, j: u16) -> Checked
 }
 
 // The values passed to each distinct target.
-fn edges_right(w: &[u16; 32256], r: u16) -> Checked
-    ensures { λ a. ⌜ ((g : Graph) → Stands (now (w .entry)) g → references-answered a ≡ format.first-refusal (format.edge-right g r) (format.first-edges [] (edges-of (region g r .terminator)))) ⌝ }
+fn edges_right(w: &[u16; WORDS], r: u16) -> Checked
+    ensures { λ a. ⌜ OfRecord (now (w .entry)) (λ g.
+        answered a ≡ format.first-refusal (format.edge-right g r) (format.first-edges [] (edges-of (region g r .terminator)))) ⌝ }
 {
     let n = fields::target_count(w, r);
     let mut j: u16 = 0;
@@ -282,8 +282,8 @@ fn edges_right(w: &[u16; 32256], r: u16) -> Checked
 }
 
 // Each exit is a region (6), and none stands twice (8).
-fn exits_right(w: &[u16; 32256], r: u16) -> Checked
-    ensures { λ a. ⌜ ((g : Graph) → Stands (now (w .entry)) g → references-answered a ≡ format.exits-right g r [] (region g r .exits)) ⌝ }
+fn exits_right(w: &[u16; WORDS], r: u16) -> Checked
+    ensures { λ a. ⌜ OfRecord (now (w .entry)) (λ g. answered a ≡ format.exits-right g r [] (region g r .exits)) ⌝ }
 {
     let count = fields::region_count(w);
     let n = fields::exit_count(w, r);
@@ -300,8 +300,8 @@ fn exits_right(w: &[u16; 32256], r: u16) -> Checked
     Checked::Right
 }
 
-fn region_right(w: &[u16; 32256], r: u16) -> Checked
-    ensures { λ a. ⌜ ((g : Graph) → Stands (now (w .entry)) g → references-answered a ≡ format.region-right g r (region g r)) ⌝ }
+fn region_right(w: &[u16; WORDS], r: u16) -> Checked
+    ensures { λ a. ⌜ OfRecord (now (w .entry)) (λ g. answered a ≡ format.region-right g r (region g r)) ⌝ }
 {
     let reads = reads_right(w, r);
     if let Checked::Refused(number, word) = reads {
@@ -323,8 +323,8 @@ fn region_right(w: &[u16; 32256], r: u16) -> Checked
 }
 
 // The entry, then each region, also where it is out of reach.
-pub fn references(w: &[u16; 32256]) -> Checked
-    ensures { λ a. ⌜ ((g : Graph) → Stands (now (w .entry)) g → references-answered a ≡ format.references g) ⌝ }
+pub fn references(w: &[u16; WORDS]) -> Checked
+    ensures { λ a. ⌜ OfRecord (now (w .entry)) (λ g. answered a ≡ format.references g) ⌝ }
 {
     let n = fields::region_count(w);
     if n <= fields::entry(w) {

@@ -13,7 +13,7 @@ use Rattle.format.specs.Store.{Answer, accepted, refused}
 use Rattle.format.specs.Accept.{accept}
 use Rattle.meaning.specs.facts.Tests.{clash}
 use Rattle.record.specs.Outcome.{forget}
-use Rattle.record.specs.Stands.{Stands}
+use Rattle.record.specs.Stands.{OfRecord}
 use Rattle.text.specs.declared.Written.{Written}
 use Rattle.text.specs.declared.Written.the-variants.{Bytes, Full}
 use Rattle.text.specs.Whole.{Whole}
@@ -21,7 +21,7 @@ use Rattle.accept.specs.declared.Accepted.{Accepted}
 use Rattle.accept.specs.declared.Accepted.the-variants.{Record, Refused}
 use Rattle.accept.specs.Accepts.{Accepts}
 use Rattle.record_text.specs.Listing.{listing-of, refusal-text, shown-text}
-use Rattle.record_text.specs.Fits.{AllBytes, shown-fits}
+use Rattle.record_text.specs.laws.Fits.{AllBytes, shown-fits}
 
 -- The text is that of the definition's answer; the lent words are as accepting the store leaves them. 65,536 bytes are always room enough.
 pub record Shows (s old new before after : List ℕ) (r : Written) : Type 0 where
@@ -34,7 +34,7 @@ module _ (s old new before after : List ℕ) (r : Written) (bytes : AllBytes s) 
   room-enough : Whole (shown-text (accept s)) before after r → 65536 ≤ length before → r ≡ Bytes (length (shown-text (accept s)))
   room-enough w l = w .answer ∙ rw (le-leb (length (shown-text (accept s))) (length before) (omega (arith, shown-fits s bytes)))
 
-  pub record-shown : Accepts s old new Record → ((g : Graph) → Stands new g → Whole (listing-of g) before after r) → Shows s old new before after r
+  pub record-shown : Accepts s old new Record → OfRecord new (λ g. Whole (listing-of g) before after r) → Shows s old new before after r
   record-shown a h =
       let text = by-answer (accept s) refl (a .answer) in
       record { text = text; fits = room-enough text; verdict = Record; words = a }

@@ -32,9 +32,12 @@ blocks-stay s m (suc n) a b l e =
     ⊎-elim (λ q. ap (blocks-checked s) (sym q) ∙ e) (λ q. rw (blocks-stay s m n a b (le-of-suc-le-suc q) e) refl) (eq-or-lt-of-le l)
 
 -- The loop over the blocks stops at the first refusal.
-pub blocks-stop : (s : List ℕ) (m n a b : ℕ) → blocks-checked s m ≡ accepted tt → m < n → refused a b ≡ block-checked s m → refused a b ≡ blocks-checked s n
+pub blocks-stop : (s : List ℕ) (m n a b : ℕ) → blocks-checked s m ≡ accepted tt → m < n → refused a b ≡ block-checked s m
+    → refused a b ≡ blocks-checked s n
 blocks-stop s m n a b e l h = sym (blocks-stay s (m + 1) n a b (omega arith) (blocks-more s m e ∙ sym h))
 
 -- The verdict by the numbers that were read.
-pub block-by : (s : List ℕ) (b number low high sum : ℕ) → number ≡ pair s (512 * b) → low ≡ pair s (512 * b + 508) → high ≡ pair s (512 * b + 510) → sum ≡ weighted s (512 * b) 508 → first-wrong b (eqb number b) 2 (eqb (low + 65536 * high) sum) 3 ≡ block-checked s b
+pub block-by : (s : List ℕ) (b number low high sum : ℕ) → number ≡ pair s (512 * b) → low ≡ pair s (512 * b + 508)
+    → high ≡ pair s (512 * b + 510) → sum ≡ weighted s (512 * b) 508
+    → first-wrong b (eqb number b) 2 (eqb (low + 65536 * high) sum) 3 ≡ block-checked s b
 block-by s b number low high sum p q r t = rw (p, q, r, t) refl

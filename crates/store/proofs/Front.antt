@@ -6,6 +6,7 @@ use native.Mathlib.Omega.{arith}
 use lib.ListN.{length, getD, take, drop, List·getD-append}
 use lib.Seq.{take-at, drop-at}
 use Rattle.format.specs.Store.{accepted, store-words, word-at}
+use Rattle.store.specs.Layout.{record-end}
 use Rattle.store.specs.Loaded.{words-after, Loads}
 use Rattle.store.specs.declared.Loaded.the-variants.{Words}
 use Rattle.store.proofs.Words.{length-tabulate}
@@ -15,7 +16,7 @@ use Rattle.meaning.specs.Lists.{tabulate}
 -- The store's words are the first w, w is among them as word 0, and the others are as lent.
 pub record Front (s before after : List ℕ) (w : ℕ) : Type 0 where
   pub words : store-words s ≡ accepted (take w after)
-  pub few : w ≤ 4048
+  pub few : w ≤ record-end
   pub first : getD after 0 0 ≡ w
   pub rest : drop w after ≡ drop w before
 
@@ -23,7 +24,9 @@ first-word : (n : ℕ) (f : ℕ → ℕ) → 0 < n → getD (tabulate n f) 0 0 �
 unfolding tabulate
 first-word zero f h = absurd (omega arith)
 first-word (suc zero) f h = refl
-first-word (suc (suc n)) f h = List·getD-append (tabulate (suc n) f) (f (suc n) ∷ []) 0 0 (omega (arith, length-tabulate (suc n) f)) ∙ first-word (suc n) f (omega arith)
+first-word (suc (suc n)) f h =
+    List·getD-append (tabulate (suc n) f) (f (suc n) ∷ []) 0 0 (omega (arith, length-tabulate (suc n) f))
+    ∙ first-word (suc n) f (omega arith)
 
 pub front : (s before after : List ℕ) (w : ℕ) → Loads s before after (Words w) → Front s before after w
 front s before after w l =
@@ -34,6 +37,8 @@ front s before after w l =
     record {
       words = h .words ∙ ap accepted (sym (ap (take w) held ∙ take-at ws (drop w before) w size));
       few = omega (arith, h .within, h .short);
-      first = ap (λ x. getD x 0 0) held ∙ List·getD-append ws (drop w before) 0 0 (omega (arith, h .some)) ∙ first-word w (word-at s) (h .some) ∙ h .first;
+      first =
+          ap (λ x. getD x 0 0) held ∙ List·getD-append ws (drop w before) 0 0 (omega (arith, h .some)) ∙ first-word w (word-at s) (h .some)
+          ∙ h .first;
       rest = ap (drop w) held ∙ drop-at ws (drop w before) w size;
     }

@@ -7,7 +7,8 @@ use native.Mathlib.Omega.{arith}
 use lib.ListN.{length, drop}
 use lib.Dec.{eqb, ltb}
 use borrow.Author.Tests.{lt-ltb, le-leb, lt-leb, eq-eqb, ne-eqb, leb-true, ltb-true, eqb-true}
-use Rattle.format.specs.Store.{Answer, accepted, refused, if-accepted, blocks-checked, word-at, all-zero, length-right, count-right, store-words}
+use Rattle.format.specs.Store.{Answer, accepted, refused, if-accepted, blocks-checked, word-at, all-zero, length-right, count-right}
+use Rattle.format.specs.Store.{store-words}
 use Rattle.store.specs.Loaded.{words-counted, words-after}
 use Rattle.store.proofs.Words.{length-tabulate}
 use Rattle.meaning.specs.Lists.{tabulate}
@@ -36,7 +37,8 @@ pub length-right-true : (n : ℕ) → (n ≡ 0 → ⊥) → n ≤ 8192 → n % 5
 length-right-true n z l h = rw (lt-ltb 0 n (omega arith), le-leb n 8192 l, eq-eqb (n % 512) 0 h) refl
 
 module _ (s : List ℕ) where
-  stored : (l w : Bool) (b : Answer Unit) → length-right (length s) ≡ l → blocks-checked s (blocks-in s) ≡ b → count-right s (blocks-in s) (word-at s 0) ≡ w → store-words s ≡ judged s l b w
+  stored : (l w : Bool) (b : Answer Unit) → length-right (length s) ≡ l → blocks-checked s (blocks-in s) ≡ b
+      → count-right s (blocks-in s) (word-at s 0) ≡ w → store-words s ≡ judged s l b w
   unfolding store-words
   stored l w b p q r =
       ap (λ x. judged s x (blocks-checked s (blocks-in s)) (count-right s (blocks-in s) (word-at s 0))) p
@@ -46,14 +48,18 @@ module _ (s : List ℕ) where
   pub length-wrong : length-right (length s) ≡ false → refused 1 0 ≡ words-counted (store-words s)
   length-wrong p = ap words-counted (sym (stored _ _ _ p refl refl))
 
-  pub blocks-wrong : (a b : ℕ) → length-right (length s) ≡ true → refused a b ≡ blocks-checked s (blocks-in s) → refused a b ≡ words-counted (store-words s)
+  pub blocks-wrong : (a b : ℕ) → length-right (length s) ≡ true → refused a b ≡ blocks-checked s (blocks-in s)
+      → refused a b ≡ words-counted (store-words s)
   blocks-wrong a b p q = ap words-counted (sym (stored _ _ _ p (sym q) refl))
 
-  pub count-wrong : length-right (length s) ≡ true → accepted tt ≡ blocks-checked s (blocks-in s) → false ≡ count-right s (blocks-in s) (word-at s 0) → refused 4 0 ≡ words-counted (store-words s)
+  pub count-wrong : length-right (length s) ≡ true → accepted tt ≡ blocks-checked s (blocks-in s)
+      → false ≡ count-right s (blocks-in s) (word-at s 0) → refused 4 0 ≡ words-counted (store-words s)
   count-wrong p q r = ap words-counted (sym (stored _ _ _ p (sym q) (sym r)))
 
-  pub words-right : length-right (length s) ≡ true → accepted tt ≡ blocks-checked s (blocks-in s) → true ≡ count-right s (blocks-in s) (word-at s 0) → accepted (word-at s 0) ≡ words-counted (store-words s)
-  words-right p q r = ap accepted (sym (length-tabulate (word-at s 0) (word-at s))) ∙ ap words-counted (sym (stored _ _ _ p (sym q) (sym r)))
+  pub words-right : length-right (length s) ≡ true → accepted tt ≡ blocks-checked s (blocks-in s)
+      → true ≡ count-right s (blocks-in s) (word-at s 0) → accepted (word-at s 0) ≡ words-counted (store-words s)
+  words-right p q r =
+      ap accepted (sym (length-tabulate (word-at s 0) (word-at s))) ∙ ap words-counted (sym (stored _ _ _ p (sym q) (sym r)))
 
 -- What an accepted store is: its words are the first w, and they lie within its blocks.
 pub record Holds (s : List ℕ) (w : ℕ) : Type 0 where
@@ -83,7 +89,8 @@ some-words : (s : List ℕ) (n w : ℕ) → count-right s n w ≡ true → 0 < w
 some-words s n w e = ltb-true 0 w (and-left _ _ e)
 
 module _ (s : List ℕ) (w : ℕ) where
-  holds-by : (l t : Bool) (b : Answer Unit) → length-right (length s) ≡ l → count-right s (blocks-in s) (word-at s 0) ≡ t → store-words s ≡ judged s l b t → accepted w ≡ words-counted (judged s l b t) → Holds s w
+  holds-by : (l t : Bool) (b : Answer Unit) → length-right (length s) ≡ l → count-right s (blocks-in s) (word-at s 0) ≡ t
+      → store-words s ≡ judged s l b t → accepted w ≡ words-counted (judged s l b t) → Holds s w
   holds-by false t b p q r e = let z : _≡_ {A = ℕ} 0 1 = cc in absurd (omega arith)
   holds-by true t (refused m n) p q r e = let z : _≡_ {A = ℕ} 0 1 = cc in absurd (omega arith)
   holds-by true false (accepted u) p q r e = let z : _≡_ {A = ℕ} 0 1 = cc in absurd (omega arith)

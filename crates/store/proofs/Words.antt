@@ -67,7 +67,8 @@ length-tabulate zero f = refl
 length-tabulate (suc n) f = length-append (tabulate n f) (f n ∷ []) ∙ rw (length-tabulate n f) (add-one n)
 
 -- One more word in front of the lent words.
-pub copied-more : (n : ℕ) (f : ℕ → ℕ) (l : List ℕ) → n < length l → set (tabulate n f ++ drop n l) n (f n) ≡ tabulate (n + 1) f ++ drop (n + 1) l
+pub copied-more : (n : ℕ) (f : ℕ → ℕ) (l : List ℕ) → n < length l
+    → set (tabulate n f ++ drop n l) n (f n) ≡ tabulate (n + 1) f ++ drop (n + 1) l
 unfolding tabulate
 copied-more n f l h =
     rw (add-one, drop-cons l n 0 h, append-snoc) (set-at (tabulate n f) _ _ (f n) n (length-tabulate n f))

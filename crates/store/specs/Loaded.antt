@@ -14,9 +14,9 @@ abbrev pub load-answered : Loaded → Answer ℕ
 load-answered (Words n) = accepted n
 load-answered (Refused n w) = refused n w
 
-abbrev pub blocks-answered : Checked → Answer Unit
-blocks-answered checked.Right = accepted tt
-blocks-answered (checked.Wrong n w) = refused n w
+abbrev pub answered : Checked → Answer Unit
+answered checked.Right = accepted tt
+answered (checked.Refused n w) = refused n w
 
 -- The words of a store, counted: W.
 abbrev pub words-counted : Answer (List ℕ) → Answer ℕ

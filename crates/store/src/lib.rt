@@ -4,12 +4,14 @@ ghost use mathlib.Core.List.{_++_};
 ghost use Prim.Native.Nat.{ℕ, _+_, _*_, _/_, _≤_, _<_};
 ghost use lib.ListN.{length, drop};
 ghost use Rattle.format.specs.Store.{pair, weighted, blocks-checked, word-at, all-zero, count-right, store-words};
-ghost use Rattle.store.specs.Loaded.{load-answered, blocks-answered, words-counted, Loads};
+ghost use Rattle.store.specs.Loaded.{load-answered, answered, words-counted, Loads};
 ghost use Rattle.store.specs.Block.{first-wrong, block-checked, byte-place};
 ghost use Rattle.meaning.specs.Lists.{tabulate};
 
-// How many words are lent: the record's stand in front.
-pub const WORDS: usize = 32256;
+pub mod layout;
+
+pub use layout::WORDS;
+pub use layout::span;
 
 // W, the words that a store holds, or a refusal's number and its word.
 pub enum Loaded {
@@ -17,14 +19,11 @@ pub enum Loaded {
     Refused(u16, u16),
 }
 
-// What stands at the blocks: the first wrong one's refusal.
-enum Checked {
+// Nothing to refuse so far, or a refusal's number and its word.
+pub enum Checked {
     Right,
-    Wrong(u16, u16),
+    Refused(u16, u16),
 }
-
-// Tells its caller how long the array is.
-pub fn span(words: &[u16]) {}
 
 fn wide(byte: u8) -> u16
     ensures { λ r. ⌜ r ≡ byte ⌝ }
@@ -56,13 +55,13 @@ pub fn check_of(bytes: &[u8], at: usize) -> u32
 
 // The refusal of the first test that failed, each with its number, for a block.
 fn first_wrong(b: u16, first: bool, m: u16, second: bool, n: u16) -> Checked
-    ensures { λ r. ⌜ blocks-answered r ≡ first-wrong b first m second n ⌝ }
+    ensures { λ r. ⌜ answered r ≡ first-wrong b first m second n ⌝ }
 {
     if !first {
-        return Checked::Wrong(m, b);
+        return Checked::Refused(m, b);
     }
     if !second {
-        return Checked::Wrong(n, b);
+        return Checked::Refused(n, b);
     }
     Checked::Right
 }
@@ -70,7 +69,7 @@ fn first_wrong(b: u16, first: bool, m: u16, second: bool, n: u16) -> Checked
 // One block: its number, then its check.
 fn block_checked(bytes: &[u8], b: usize) -> Checked
     requires { ⌜ (b < 16) × (512 * b + 512 ≤ length (now bytes)) ⌝ }
-    ensures { λ r. ⌜ blocks-answered r ≡ block-checked (now (bytes .entry)) b ⌝ }
+    ensures { λ r. ⌜ answered r ≡ block-checked (now (bytes .entry)) b ⌝ }
 {
     let at = 512 * b;
     let number = pair_at(bytes, at) as usize;
@@ -84,13 +83,13 @@ fn block_checked(bytes: &[u8], b: usize) -> Checked
 // The blocks in turn, up to the first that is wrong.
 fn blocks_checked(bytes: &[u8], n: usize) -> Checked
     requires { ⌜ (n ≤ 16) × (512 * n ≤ length (now bytes)) ⌝ }
-    ensures { λ r. ⌜ blocks-answered r ≡ blocks-checked (now (bytes .entry)) n ⌝ }
+    ensures { λ r. ⌜ answered r ≡ blocks-checked (now (bytes .entry)) n ⌝ }
 {
     let mut b: usize = 0;
     while b < n {
         let c = block_checked(bytes, b);
-        if let Checked::Wrong(number, word) = c {
-            return Checked::Wrong(number, word);
+        if let Checked::Refused(number, word) = c {
+            return Checked::Refused(number, word);
         }
         b += 1;
     }
@@ -156,7 +155,7 @@ fn words_used(bytes: &[u8]) -> Loaded
     }
     let n = length / 512;
     let c = blocks_checked(bytes, n);
-    if let Checked::Wrong(number, word) = c {
+    if let Checked::Refused(number, word) = c {
         return Loaded::Refused(number, word);
     }
     let w = pair_at(bytes, 2);

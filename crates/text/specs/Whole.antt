@@ -31,7 +31,9 @@ same : {b c : List ℕ} {p q : ℕ} → b ≡ c → p ≡ q → buffer b p ≡ b
 same {b} {q = q} e f = ap (buffer b) f ∙ ap (λ x. buffer x q) e
 
 -- A text behind what stands already.
-behind : (t rest front : List ℕ) (at : ℕ) → length front ≡ at → puts (buffer (front ++ rest) at) t ≡ buffer (front ++ (take (length rest) t ++ drop (length t) rest)) (at + min (length t) (length rest + 1))
+behind : (t rest front : List ℕ) (at : ℕ) → length front ≡ at
+    → puts (buffer (front ++ rest) at) t ≡ buffer (front ++ (take (length rest) t ++ drop (length t) rest))
+    (at + min (length t) (length rest + 1))
 unfolding puts
 behind [] rest front at h = same (ap (λ l. front ++ (l ++ rest)) (sym (take-nil (length rest)))) (omega arith)
 behind (x ∷ t) [] front at h =
@@ -41,9 +43,11 @@ behind (x ∷ t) [] front at h =
 behind (x ∷ t) (y ∷ rest) front at h =
     let size : length (front ++ (y ∷ rest)) ≡ at + suc (length rest) = length-append front (y ∷ rest) ∙ ap (λ n. n + suc (length rest)) h in
     rw (le-leb at (length (front ++ (y ∷ rest))) (omega arith), set-at front y rest x at h, ← append-snoc front x rest)
-    (behind t rest (front ++ (x ∷ [])) (at + 1) (length-append front (x ∷ []) ∙ ap (λ n. n + 1) h) ∙ same (append-snoc front x _) (omega arith))
+    (behind t rest (front ++ (x ∷ [])) (at + 1) (length-append front (x ∷ []) ∙ ap (λ n. n + 1) h)
+    ∙ same (append-snoc front x _) (omega arith))
 
-answer-by : (t : Bool) (size room place : ℕ) → leb size room ≡ t → place ≡ min size (room + 1) → written-to room place ≡ pick t (Bytes size) Full
+answer-by : (t : Bool) (size room place : ℕ) → leb size room ≡ t → place ≡ min size (room + 1)
+    → written-to room place ≡ pick t (Bytes size) Full
 answer-by true size room place e h =
     let fits : size ≤ room = leb-true size room e in
     let q : place ≡ size = omega arith in
@@ -52,7 +56,13 @@ answer-by false size room place e h =
     let over : room < size = leb-false size room e in
     rw (lt-leb place room (omega arith))
 
-pub whole : (text before after : List ℕ) (place : ℕ) → Wrote (buffer before 0) text (buffer after place) → Whole text before after (written-to (length before) place)
+pub whole : (text before after : List ℕ) (place : ℕ) → Wrote (buffer before 0) text (buffer after place)
+    → Whole text before after (written-to (length before) place)
 whole text before after place w =
-    let e : buffer after place ≡ buffer (take (length before) text ++ drop (length text) before) (0 + min (length text) (length before + 1)) = w .is ∙ behind text before [] 0 refl in
-    record { answer = answer-by _ (length text) (length before) place refl (ap (λ o. o .place) e ∙ omega arith); bytes = ap (λ o. o .bytes) e }
+    let e : buffer after place ≡ buffer (take (length before) text ++ drop (length text) before)
+    (0 + min (length text) (length before + 1)) = w .is ∙ behind text before [] 0 refl in
+    record {
+      answer = answer-by _ (length text) (length before) place refl (ap (λ o. o .place) e ∙ omega arith);
+      bytes =
+          ap (λ o. o .bytes) e;
+    }

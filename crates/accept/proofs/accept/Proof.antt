@@ -1,8 +1,11 @@
+-- The store is refused, or the verdict on its record is the answer.
+use mathlib.Core.Path.{sym, ap}
+use native.Mathlib.Omega.{arith}
+use Rattle.store.specs.Loaded.{answered}
+use Rattle.accept.specs.laws.AcceptSteps.{store-refused, record-judged}
 use borrow.Author.Needs.{needs}
 use Rattle.accept.proofs.accept.Statement.{statement}
 use Rattle.accept.proofs.accept.Tie as tie
-use Rattle.store.proofs.Front.{front}
-use Rattle.accept.specs.AcceptSteps.{store-refused, record-judged}
 
 span-requires : tie.Need-span-requires
 span-requires c κs = search needs
@@ -13,20 +16,36 @@ load-requires c κs = search needs
 enum-known-loaded : tie.Need-enum-known-loaded
 enum-known-loaded c = search needs
 
-enum-known-loaded-2 : tie.Need-enum-known-loaded-2
-enum-known-loaded-2 c = search needs
-
-cast-read-and-checked : tie.Need-cast-read-and-checked
-cast-read-and-checked c = search needs
-
-read-and-checked-requires : tie.Need-read-and-checked-requires
-read-and-checked-requires c κs = let f = front _ _ _ _ (rw (c .before .before .loaded2 .given .1) at (c .before .before .before .before .load .ensures)) in (f .few, f .first)
-
 returns : tie.Need-returns
 returns c = store-refused _ _ _ (rw (c .before .loaded .given .1) at (c .before .before .before .load .ensures))
 
+enum-told : tie.Need-enum-told
+enum-told c = search needs
+
+read-and-checked-requires : tie.Need-read-and-checked-requires
+read-and-checked-requires c κs = search needs
+
+enum-told-2 : tie.Need-enum-told-2
+enum-told-2 c = search needs
+
+enum-known-number : tie.Need-enum-known-number
+enum-known-number c = search needs
+
 returns-2 : tie.Need-returns-2
-returns-2 c = record-judged _ _ _ (c .before .before .before .before .before .before .before .before .span-arg2 .given .0) (rw (c .before .before .before .loaded2 .given .1) at (c .before .before .before .before .before .load .ensures)) _ (c .read-and-checked .ensures)
+returns-2 c =
+    let told = c .before .before .before .before in
+    let size = told .before .before .before .before .before .span-arg2 .given in
+    let words = rw (told .enum-told .given .1) at (told .before .before .load .ensures) in
+    let checked = c .before .before .read-and-checked .ensures in
+    record-judged _ _ _ (omega arith) words _ (sym (ap answered (c .enum-told2 .given .1))) checked
+
+returns-3 : tie.Need-returns-3
+returns-3 c =
+    let told = c .before .before .before .before .before in
+    let size = told .before .before .before .before .before .span-arg2 .given in
+    let words = rw (told .enum-told .given .1) at (told .before .before .load .ensures) in
+    let checked = c .before .before .before .read-and-checked .ensures in
+    record-judged _ _ _ (omega arith) words _ (sym (ap answered (c .before .number .given .1))) checked
 
 pub accept-spec : {M : Type 1} → statement M
 accept-spec =
@@ -35,8 +54,10 @@ accept-spec =
     span-requires
     load-requires
     enum-known-loaded
-    enum-known-loaded-2
-    cast-read-and-checked
-    read-and-checked-requires
     returns
-    returns-2)
+    enum-told
+    read-and-checked-requires
+    enum-told-2
+    enum-known-number
+    returns-2
+    returns-3)

@@ -1,6 +1,6 @@
 -- The answer is that of `accept`, as a number.
 use borrow.Author.Needs.{needs}
-use Rattle.c_interface.specs.Exported.{record-exported, refusal-exported}
+use Rattle.c_interface.specs.laws.Exporting.{record-exported, refusal-exported}
 use Rattle.c_interface.proofs.rukvetta_accept.Statement.{statement}
 use Rattle.c_interface.proofs.rukvetta_accept.Tie as tie
 
@@ -30,8 +30,9 @@ returns c = record-exported _ _ _ (rw (c .enum-told .given .1) at (c .before .be
 
 returns-2 : tie.Need-returns-2
 returns-2 c =
+    let at-accept = c .before .before .before .before .before in
     refusal-exported _ _ _ (c .before .wide .ensures .0) (c .wide2 .ensures .0) (c .wide2 .ensures .1)
-    (rw (c .before .before .before .answer .given .1) at (c .before .before .before .before .before .accept .ensures))
+    (rw (c .before .before .before .answer .given .1) at (at-accept .accept .ensures))
 
 pub rukvetta-accept-spec : {M : Type 1} → statement M
 rukvetta-accept-spec =

@@ -2,7 +2,7 @@ use borrow.Author.Needs.{needs}
 use Rattle.fields.proofs.block_count.Statement.{statement}
 use Rattle.fields.proofs.block_count.Tie as tie
 use mathlib.Core.Path.{_∙_}
-use Rattle.fields.specs.Regions.{block-count-is}
+use Rattle.fields.specs.laws.Regions.{block-count-is}
 
 blocks-place-requires : tie.Need-blocks-place-requires
 blocks-place-requires c κs = search needs

@@ -2,7 +2,7 @@ use borrow.Author.Needs.{needs}
 use Rattle.fields.proofs.block_length.Statement.{statement}
 use Rattle.fields.proofs.block_length.Tie as tie
 use mathlib.Core.Path.{_∙_}
-use Rattle.fields.specs.Instructions.{block-length}
+use Rattle.fields.specs.laws.Instructions.{block-length}
 
 block-place-requires : tie.Need-block-place-requires
 block-place-requires c κs = search needs

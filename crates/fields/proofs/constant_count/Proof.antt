@@ -2,7 +2,7 @@ use borrow.Author.Needs.{needs}
 use Rattle.fields.proofs.constant_count.Statement.{statement}
 use Rattle.fields.proofs.constant_count.Tie as tie
 use mathlib.Core.Path.{_∙_}
-use Rattle.fields.specs.Regions.{constants-at}
+use Rattle.fields.specs.laws.Regions.{constants-at}
 
 word-at-requires : tie.Need-word-at-requires
 word-at-requires c κs = search needs

@@ -2,8 +2,8 @@ use borrow.Author.Needs.{needs}
 use Rattle.fields.proofs.constant_type.Statement.{statement}
 use Rattle.fields.proofs.constant_type.Tie as tie
 use mathlib.Core.Path.{_∙_}
-use Rattle.fields.specs.Regions.{constants-at}
-use Rattle.fields.specs.Lists.{word-item-is}
+use Rattle.fields.specs.laws.Regions.{constants-at}
+use Rattle.fields.specs.laws.Lists.{word-item-is}
 
 word-item-requires : tie.Need-word-item-requires
 word-item-requires c κs = search needs

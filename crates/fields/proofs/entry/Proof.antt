@@ -2,7 +2,7 @@ use borrow.Author.Needs.{needs}
 use Rattle.fields.proofs.entry.Statement.{statement}
 use Rattle.fields.proofs.entry.Tie as tie
 use mathlib.Core.Path.{_∙_}
-use Rattle.fields.specs.Regions.{entry-is}
+use Rattle.fields.specs.laws.Regions.{entry-is}
 
 word-at-requires : tie.Need-word-at-requires
 word-at-requires c κs = search needs

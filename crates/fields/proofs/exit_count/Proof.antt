@@ -2,7 +2,7 @@ use borrow.Author.Needs.{needs}
 use Rattle.fields.proofs.exit_count.Statement.{statement}
 use Rattle.fields.proofs.exit_count.Tie as tie
 use mathlib.Core.Path.{_∙_}
-use Rattle.fields.specs.Regions.{exits-at}
+use Rattle.fields.specs.laws.Regions.{exits-at}
 
 indexed-requires : tie.Need-indexed-requires
 indexed-requires c κs = search needs

@@ -2,8 +2,8 @@ use borrow.Author.Needs.{needs}
 use Rattle.fields.proofs.exit_target.Statement.{statement}
 use Rattle.fields.proofs.exit_target.Tie as tie
 use mathlib.Core.Path.{_∙_}
-use Rattle.fields.specs.Regions.{exits-at}
-use Rattle.fields.specs.Lists.{word-item-is}
+use Rattle.fields.specs.laws.Regions.{exits-at}
+use Rattle.fields.specs.laws.Lists.{word-item-is}
 
 indexed-requires : tie.Need-indexed-requires
 indexed-requires c κs = search needs

@@ -2,7 +2,7 @@ use borrow.Author.Needs.{needs}
 use Rattle.fields.proofs.input_count.Statement.{statement}
 use Rattle.fields.proofs.input_count.Tie as tie
 use mathlib.Core.Path.{_∙_}
-use Rattle.fields.specs.Regions.{inputs-at}
+use Rattle.fields.specs.laws.Regions.{inputs-at}
 
 indexed-requires : tie.Need-indexed-requires
 indexed-requires c κs = search needs

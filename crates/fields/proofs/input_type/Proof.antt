@@ -2,8 +2,8 @@ use borrow.Author.Needs.{needs}
 use Rattle.fields.proofs.input_type.Statement.{statement}
 use Rattle.fields.proofs.input_type.Tie as tie
 use mathlib.Core.Path.{_∙_}
-use Rattle.fields.specs.Regions.{inputs-at}
-use Rattle.fields.specs.Lists.{word-item-is}
+use Rattle.fields.specs.laws.Regions.{inputs-at}
+use Rattle.fields.specs.laws.Lists.{word-item-is}
 
 indexed-requires : tie.Need-indexed-requires
 indexed-requires c κs = search needs

@@ -1,7 +1,7 @@
 use borrow.Author.Needs.{needs}
 use Rattle.fields.proofs.instruction.Statement.{statement}
 use Rattle.fields.proofs.instruction.Tie as tie
-use Rattle.fields.specs.Instructions.{instruction-by, instruction-at}
+use Rattle.fields.specs.laws.Instructions.{instruction-by, instruction-at}
 
 instruction-place-requires : tie.Need-instruction-place-requires
 instruction-place-requires c κs = search needs
@@ -32,8 +32,12 @@ word-at-requires-4 c κs = search needs
 
 returns : tie.Need-returns
 returns c g s =
-    let a = c .before .before .before .before .before .args in
-    instruction-by _ _ (rw (← c .before .before .before .before .instruction-place .ensures) at (instruction-at s (a .r) (a .b) (a .i))) (c .before .before .before .word-at .ensures) (c .before .before .word-at2 .ensures) (c .before .word-at3 .ensures) (c .word-at4 .ensures)
+    let at-instruction-place = c .before .before .before .before in
+    let start = at-instruction-place .before in
+    let a = start .args in
+    instruction-by _ _ (rw (← at-instruction-place .instruction-place .ensures) at (instruction-at s (a .r) (a .b) (a .i)))
+    (c .before .before .before .word-at .ensures) (c .before .before .word-at2 .ensures) (c .before .word-at3 .ensures)
+    (c .word-at4 .ensures)
 
 pub instruction-spec : {M : Type 1} → statement M
 instruction-spec =

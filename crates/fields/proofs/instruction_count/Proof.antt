@@ -5,13 +5,15 @@ use mathlib.Core.Path.{_≡_}
 use Prim.Native.Nat.{_≤_, _-_, _+_, _*_}
 use native.Mathlib.Omega.{arith}
 use lib.ListN.{length, drop}
-use Rattle.meaning.specs.Graph.{Graph, region}
+use Rattle.meaning.specs.Graph.{region}
 use Rattle.format.specs.References.{instructions}
-use Rattle.record.specs.Stands.{Stands}
-use Rattle.fields.specs.Numbered.{count-more, count-all}
+use Rattle.record.specs.Stands.{OfRecord}
+use Rattle.fields.specs.laws.Numbered.{count-more, count-all}
 
 abbrev Inv-loop : tie.InvT-loop
-Inv-loop w r n sum₀ b₀ sum b = (b ≤ n) × (sum ≤ 65535 * b) × ((g : Graph) → Stands w g → sum + length (instructions (drop b (region g r .blocks))) ≡ length (instructions (region g r .blocks)))
+Inv-loop w r n sum₀ b₀ sum b =
+    (b ≤ n) × (sum ≤ 65535 * b) × OfRecord w (λ g. sum + length (instructions (drop b (region g r .blocks))) ≡ length
+    (instructions (region g r .blocks)))
 
 abbrev μ-loop : tie.MeasureT-loop
 μ-loop w r n sum₀ b₀ sum b = n - b
@@ -38,7 +40,13 @@ loop-less : tie.Need-loop-less Inv-loop μ-loop
 loop-less c = search needs
 
 loop-again : tie.Need-loop-again Inv-loop μ-loop
-loop-again c = (omega arith, omega (arith, c .block-length .ok), λ g s. rw (c .block-length .ensures g s) (count-more _ (c .before .before .before .block-count .ensures g s) _ _ _ (c .before .loop-test .taken) (c .before .before .loop .inv .2 g s)))
+loop-again c = (
+  omega arith,
+  omega (arith, c .block-length .ok),
+  λ g s. rw (c .block-length .ensures g s)
+      (count-more _ (c .before .before .before .block-count .ensures g s) _ _ _ (c .before .loop-test .taken)
+      (c .before .before .loop .inv .2 g s)),
+)
 
 returns : tie.Need-returns Inv-loop μ-loop
 returns c g s = count-all _ (c .before .before .block-count .ensures g s) _ _ _ (c .loop-test .left) (c .before .loop .inv .2 g s)

@@ -2,8 +2,8 @@ use borrow.Author.Needs.{needs}
 use Rattle.fields.proofs.passed.Statement.{statement}
 use Rattle.fields.proofs.passed.Tie as tie
 use mathlib.Core.Path.{_∙_}
-use Rattle.fields.specs.Lists.{value-item-is}
-use Rattle.fields.specs.Passed.{passed-at}
+use Rattle.fields.specs.laws.Lists.{value-item-is}
+use Rattle.fields.specs.laws.Passed.{passed-at}
 
 passed-place-requires : tie.Need-passed-place-requires
 passed-place-requires c κs = search needs

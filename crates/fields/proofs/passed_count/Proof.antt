@@ -2,7 +2,7 @@ use borrow.Author.Needs.{needs}
 use Rattle.fields.proofs.passed_count.Statement.{statement}
 use Rattle.fields.proofs.passed_count.Tie as tie
 use mathlib.Core.Path.{_∙_}
-use Rattle.fields.specs.Passed.{passed-at}
+use Rattle.fields.specs.laws.Passed.{passed-at}
 
 passed-place-requires : tie.Need-passed-place-requires
 passed-place-requires c κs = search needs

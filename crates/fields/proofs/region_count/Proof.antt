@@ -2,7 +2,7 @@ use borrow.Author.Needs.{needs}
 use Rattle.fields.proofs.region_count.Statement.{statement}
 use Rattle.fields.proofs.region_count.Tie as tie
 use mathlib.Core.Path.{_∙_}
-use Rattle.fields.specs.Regions.{region-count}
+use Rattle.fields.specs.laws.Regions.{region-count}
 
 word-at-requires : tie.Need-word-at-requires
 word-at-requires c κs = search needs

@@ -2,8 +2,8 @@ use borrow.Author.Needs.{needs}
 use Rattle.fields.proofs.target.Statement.{statement}
 use Rattle.fields.proofs.target.Tie as tie
 use mathlib.Core.Path.{_∙_}
-use Rattle.fields.specs.Passed.{targets-at, target-is}
-use Rattle.fields.specs.Lists.{word-item-is}
+use Rattle.fields.specs.laws.Passed.{targets-at, target-is}
+use Rattle.fields.specs.laws.Lists.{word-item-is}
 
 targets-place-requires : tie.Need-targets-place-requires
 targets-place-requires c κs = search needs

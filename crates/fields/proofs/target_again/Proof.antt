@@ -2,8 +2,8 @@ use borrow.Author.Needs.{needs}
 use Rattle.fields.proofs.target_again.Statement.{statement}
 use Rattle.fields.proofs.target_again.Tie as tie
 use mathlib.Core.Path.{_∙_}
-use Rattle.fields.specs.Passed.{targets-at}
-use Rattle.fields.specs.Repeats.{again-is}
+use Rattle.fields.specs.laws.Passed.{targets-at}
+use Rattle.fields.specs.laws.Repeats.{again-is}
 
 targets-place-requires : tie.Need-targets-place-requires
 targets-place-requires c κs = search needs

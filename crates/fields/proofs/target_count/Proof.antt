@@ -2,7 +2,7 @@ use borrow.Author.Needs.{needs}
 use Rattle.fields.proofs.target_count.Statement.{statement}
 use Rattle.fields.proofs.target_count.Tie as tie
 use mathlib.Core.Path.{_∙_}
-use Rattle.fields.specs.Passed.{target-count}
+use Rattle.fields.specs.laws.Passed.{target-count}
 
 targets-place-requires : tie.Need-targets-place-requires
 targets-place-requires c κs = search needs

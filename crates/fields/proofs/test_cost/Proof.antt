@@ -2,7 +2,7 @@ use borrow.Author.Needs.{needs}
 use Rattle.fields.proofs.test_cost.Statement.{statement}
 use Rattle.fields.proofs.test_cost.Tie as tie
 use mathlib.Core.Path.{_∙_}
-use Rattle.fields.specs.Regions.{test-cost-is}
+use Rattle.fields.specs.laws.Regions.{test-cost-is}
 
 word-at-requires : tie.Need-word-at-requires
 word-at-requires c κs = search needs

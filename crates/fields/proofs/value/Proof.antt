@@ -2,8 +2,8 @@ use borrow.Author.Needs.{needs}
 use Rattle.fields.proofs.value.Statement.{statement}
 use Rattle.fields.proofs.value.Tie as tie
 use mathlib.Core.Path.{_∙_}
-use Rattle.fields.specs.Terminators.{values-at}
-use Rattle.fields.specs.Lists.{value-item-is}
+use Rattle.fields.specs.laws.Terminators.{values-at}
+use Rattle.fields.specs.laws.Lists.{value-item-is}
 
 values-place-requires : tie.Need-values-place-requires
 values-place-requires c κs = search needs

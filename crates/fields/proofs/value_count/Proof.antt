@@ -2,7 +2,7 @@ use borrow.Author.Needs.{needs}
 use Rattle.fields.proofs.value_count.Statement.{statement}
 use Rattle.fields.proofs.value_count.Tie as tie
 use mathlib.Core.Path.{_∙_}
-use Rattle.fields.specs.Terminators.{values-at}
+use Rattle.fields.specs.laws.Terminators.{values-at}
 
 values-place-requires : tie.Need-values-place-requires
 values-place-requires c κs = search needs

@@ -1,14 +1,23 @@
--- The head is refused, or the regions decide.
-use mathlib.Core.Path.{refl}
+-- The record is too long, its head is refused, or the regions decide.
+use mathlib.Core.Path.{refl, sym}
 use native.Mathlib.Omega.{arith}
+use Rattle.reading.specs.laws.AnswerSteps.{word-read, word-refused}
+use Rattle.record.specs.laws.RecordSteps.{in-words, too-long, record-stop, record-whole, head-few}
 use borrow.Author.Needs.{needs}
-use Rattle.reading.specs.AnswerSteps.{word-read, word-refused}
-use Rattle.record.specs.RecordSteps.{record-stop, record-whole, head-few}
 use Rattle.record.proofs.read_record.Statement.{statement}
 use Rattle.record.proofs.read_record.Tie as tie
 
 span-requires : tie.Need-span-requires
 span-requires c κs = search needs
+
+word-at-requires : tie.Need-word-at-requires
+word-at-requires c κs = search needs
+
+cast-count : tie.Need-cast-count
+cast-count c = search needs
+
+returns : tie.Need-returns
+returns c = too-long _ _ (c .before .word-at .ensures) (c .if1 .taken)
 
 head-requires : tie.Need-head-requires
 head-requires c κs = search needs
@@ -24,26 +33,42 @@ enum-known-n c = search needs
 
 read-regions-requires : tie.Need-read-regions-requires
 read-regions-requires c κs =
-    let a = word-read _ _ _ refl (c .before .before .before .before .head .ensures) (c .before .before .n .given .1) in
-    (omega (arith, a .same, c .before .before .before .before .before .before .before .before .before .pre .0), head-few _ (a .is))
-
-returns : tie.Need-returns
-returns c = record-stop _ _ _ (word-refused _ _ _ refl (c .before .before .before .before .head .ensures) (c .before .before .m .given .1)) (c .refusal .ensures)
+    let read = c .before .before .before .before .head in
+    let a = word-read _ _ _ refl (read .ensures) (c .before .before .n .given .1) in
+    (omega (arith, a .same, c .before .before .before .before .before .before .if1 .left), head-few _ (a .is))
 
 returns-2 : tie.Need-returns-2
 returns-2 c =
-    let a = word-read _ _ _ refl (c .before .before .before .before .before .head .ensures) (c .before .before .before .n .given .1) in
-    record-whole _ _ _ _ _ _ (c .before .before .before .before .before .before .before .before .before .before .pre .0) (c .before .before .before .before .before .before .before .before .before .before .pre .1) (c .before .before .before .before .before .before .before .before .span-arg2 .given .0) (a .is) (rw (a .same) at (c .read-regions .ensures))
+    let at-head = c .before .before .before .before in
+    let at-before = at-head .before in
+    let read = at-head .head in
+    let test = at-before .before in
+    let head = word-refused _ _ _ refl (read .ensures) (c .before .before .m .given .1) in
+    in-words _ _ _ _ (test .before .word-at .ensures) (test .if1 .left) (record-stop _ _ _ head (c .refusal .ensures))
+
+returns-3 : tie.Need-returns-3
+returns-3 c =
+    let read = c .before .before .before .before .before .head in
+    let test = c .before .before .before .before .before .before .before in
+    let first = test .before .word-at .ensures in
+    let size = test .before .before .before .before .span-arg2 .given in
+    let head = word-read _ _ _ refl (read .ensures) (c .before .before .before .n .given .1) in
+    in-words _ _ _ _ first (test .if1 .left)
+    (record-whole _ _ _ _ _ _ (test .if1 .left) (sym first) (record { room = omega arith; few = omega arith }) (head .is)
+    (rw (head .same) at (c .read-regions .ensures)))
 
 pub read-record-spec : {M : Type 1} → statement M
 read-record-spec =
     tie.close
     (tie.spec
     span-requires
+    word-at-requires
+    cast-count
+    returns
     head-requires
     enum-known-m
     refusal-requires
     enum-known-n
     read-regions-requires
-    returns
-    returns-2)
+    returns-2
+    returns-3)

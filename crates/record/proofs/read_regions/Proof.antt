@@ -3,11 +3,10 @@ use mathlib.Core.Path.{_≡_, refl, sym, _∙_}
 use Prim.Native.Nat.{_-_}
 use native.Mathlib.Omega.{arith}
 use borrow.Author.Needs.{needs}
-use Rattle.reading.specs.AnswerSteps.{step-read}
-use Rattle.reading.specs.Forgotten.{taken-inside}
-use Rattle.record.specs.RegionsForgotten.{region-inside}
-use Rattle.record.specs.Index.{RegionsGoing}
-use Rattle.record.specs.IndexSteps.{regions-start, regions-next, regions-refused, regions-read, regions-left}
+use Rattle.reading.specs.laws.AnswerSteps.{step-read}
+use Rattle.reading.specs.laws.Forgotten.{taken-inside}
+use Rattle.record.specs.laws.RegionsForgotten.{region-inside}
+use Rattle.record.specs.laws.IndexSteps.{RegionsGoing, regions-start, regions-next, regions-refused, regions-read, regions-left}
 use Rattle.record.proofs.read_regions.Statement.{statement}
 use Rattle.record.proofs.read_regions.Tie as tie
 
@@ -33,15 +32,27 @@ refusal-requires : tie.Need-refusal-requires Inv-loop μ-loop
 refusal-requires c κs = search needs
 
 returns : tie.Need-returns Inv-loop μ-loop
-returns c = regions-refused _ _ _ _ _ (c .before .before .before .before .region .result) (c .before .before .before .before .before .before .before .loop .inv .0) (c .before .before .before .before .before .before .before .loop .inv .1) (c .before .before .before .before .before .before .loop-test .taken) (c .before .before .before .before .before .before .before .before .before .before .before .pre .0) (c .before .before .before .before .region .ensures) _ (c .before .before .step .given .1) (c .refusal .ensures)
+returns c =
+    let at-region = c .before .before .before .before in
+    let turn = at-region .before .before in
+    let at-loop = turn .before in
+    let start = at-loop .before .before .before .before in
+    regions-refused _ _ _ _ _ (at-region .region .result) (at-loop .loop .inv .0) (at-loop .loop .inv .1) (turn .loop-test .taken)
+    (start .pre .0) (at-region .region .ensures) _ (c .before .before .step .given .1) (c .refusal .ensures)
 
 enum-known-step-2 : tie.Need-enum-known-step-2 Inv-loop μ-loop
 enum-known-step-2 c = search needs
 
 cast-store : tie.Need-cast-store Inv-loop μ-loop
 cast-store c =
-    let a = step-read _ _ _ (c .before .before .before .before .before .before .before .before .loop .inv .1) (c .before .before .before .before .before .region .ensures .step) (c .before .before .before .step2 .given .1) in
-    omega (arith, taken-inside (c .before .before .before .before .before .before .before .before .loop .w) (c .before .before .before .before .before .before .before .before .before .before .before .before .args .from .end) (region-inside _ _ (a .is)) .0)
+    let a = step-read _ _ _ (c .before .before .before .before .before .before .before .before .loop .inv .1)
+    (c .before .before .before .before .before .region .ensures .step) (c .before .before .before .step2 .given .1) in
+    omega (
+      arith,
+      taken-inside (c .before .before .before .before .before .before .before .before .loop .w)
+          (c .before .before .before .before .before .before .before .before .before .before .before .before .args .from .end)
+          (region-inside _ _ (a .is)) .0,
+    )
 
 store-requires : tie.Need-store-requires Inv-loop μ-loop
 store-requires c κs = omega arith
@@ -54,14 +65,27 @@ loop-less c = omega arith
 
 loop-again : tie.Need-loop-again Inv-loop μ-loop
 loop-again c =
-    let a = step-read _ _ _ (c .before .before .before .before .before .before .before .before .before .loop .inv .1) (c .before .before .before .before .before .before .region .ensures .step) (c .before .before .before .before .step2 .given .1) in
-    (regions-next _ _ _ _ _ (c .before .before .before .before .before .before .region .result) (c .before .before .before .before .before .before .before .before .before .loop .inv .0) (c .before .before .before .before .before .before .before .before .before .loop .inv .1) (c .before .before .before .before .before .before .before .before .loop-test .taken) (c .before .before .before .before .before .before .before .before .before .before .before .before .before .pre .0) (c .before .before .before .before .before .before .region .ensures) _ (c .before .before .before .before .before .before .before .before .before .before .before .before .before .pre .1) (c .before .before .before .before .step2 .given .1) (c .store .ensures), a .same)
+    let at-step2 = c .before .before .before .before in
+    let at-region = at-step2 .before .before in
+    let turn = at-region .before .before in
+    let at-loop = turn .before in
+    let start = at-loop .before .before .before .before in
+    let a = step-read _ _ _ (at-loop .loop .inv .1) (at-region .region .ensures .step) (at-step2 .step2 .given .1) in (
+      regions-next _ _ _ _ _ (at-region .region .result) (at-loop .loop .inv .0) (at-loop .loop .inv .1) (turn .loop-test .taken)
+          (start .pre .0) (at-region .region .ensures) _ (start .pre .1) (at-step2 .step2 .given .1) (c .store .ensures),
+      a .same,
+    )
 
 returns-2 : tie.Need-returns-2 Inv-loop μ-loop
-returns-2 c = regions-read _ _ _ _ (c .before .before .before .loop .inv .0) (c .before .before .loop-test .left) (omega (arith, c .before .before .before .before .before .span-arg2 .given)) (c .if1 .taken ∙ c .before .before .before .loop .inv .1)
+returns-2 c =
+    regions-read _ _ _ _ (c .before .before .before .loop .inv .0) (c .before .before .loop-test .left)
+    (omega (arith, c .before .before .before .before .before .span-arg2 .given)) (c .if1 .taken ∙ c .before .before .before .loop .inv .1)
 
 returns-3 : tie.Need-returns-3 Inv-loop μ-loop
-returns-3 c = regions-left _ _ _ _ (c .before .before .before .loop .inv .0) (c .before .before .loop-test .left) (omega (arith, c .before .before .before .before .before .span-arg2 .given)) (λ q. c .if1 .left (q ∙ sym (c .before .before .before .loop .inv .1)))
+returns-3 c =
+    regions-left _ _ _ _ (c .before .before .before .loop .inv .0) (c .before .before .loop-test .left)
+    (omega (arith, c .before .before .before .before .before .span-arg2 .given))
+    (λ q. c .if1 .left (q ∙ sym (c .before .before .before .loop .inv .1)))
 
 pub read-regions-spec : {M : Type 1} → statement M
 read-regions-spec =

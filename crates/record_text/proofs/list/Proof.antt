@@ -20,10 +20,15 @@ same-length c = search needs
 
 returns : tie.Need-returns
 unfolding listing-of
-returns c = λ g s.
-    let answer = c .finish .ensures ∙ ap (λ n. written-to n (c .before .before .before .put-regions .result)) (c .before .before .before .put-regions .kept .1 .0 ∙ c .before .before .before .before .before .before .before .put-head .kept .1 .0) in
-    subst (Whole (listing-of g) (c .before .before .before .before .before .before .before .before .before .before .args .out .now) (c .before .before .before .put-regions .last .1 .0)) (sym answer)
-    (whole (listing-of g) _ _ (c .before .before .before .put-regions .result) (c .before .before .before .before .before .before .before .put-head .ensures g s ▸ c .before .before .before .put-regions .ensures g s))
+returns c =
+    let at-put-head = c .before .before .before .before .before .before .before in
+    let start = at-put-head .before .before .before in
+    λ g s.
+    let answer = c .finish .ensures ∙ ap (λ n. written-to n (c .before .before .before .put-regions .result))
+    (c .before .before .before .put-regions .kept .1 .0 ∙ at-put-head .put-head .kept .1 .0) in
+    subst (Whole (listing-of g) (start .args .out .now) (c .before .before .before .put-regions .last .1 .0)) (sym answer)
+    (whole (listing-of g) _ _ (c .before .before .before .put-regions .result)
+    (at-put-head .put-head .ensures g s ▸ c .before .before .before .put-regions .ensures g s))
 
 pub list-spec : {M : Type 1} → statement M
 list-spec =

@@ -59,12 +59,21 @@ same-length c = search needs
 
 returns : tie.Need-returns
 unfolding head-text labeled
-returns c = λ g s.
-    of-text (ap (labeled "record regions ") (c .before .before .before .before .before .before .before .before .before .before .before .before .before .before .before .before .before .before .before .before .before .before .before .before .before .before .before .before .region-count .ensures g s)) (c .before .before .before .before .before .before .before .before .before .before .before .before .before .before .before .before .before .before .before .before .before .before .before .before .before .before .before .put-labeled .ensures)
-    ▸ of-text (ap (labeled " entry ") (c .before .before .before .before .before .before .before .before .before .before .before .before .before .before .before .before .before .before .before .before .before .before .entry .ensures g s)) (c .before .before .before .before .before .before .before .before .before .before .before .before .before .before .before .before .before .before .before .before .before .put-labeled2 .ensures)
-    ▸ of-text (ap (labeled " test ") (c .before .before .before .before .before .before .before .before .before .before .before .before .before .before .before .before .test-cost .ensures g s)) (c .before .before .before .before .before .before .before .before .before .before .before .before .before .before .before .put-labeled3 .ensures)
-    ▸ c .before .before .before .before .before .before .before .before .before .before .put-text .ensures
-    ▸ c .before .before .before .before .before .before .put-numbers .ensures g s
+returns c =
+    let at-put-numbers = c .before .before .before .before .before .before in
+    let at-put-text = at-put-numbers .before .before .before .before in
+    let at-put-labeled3 = at-put-text .before .before .before .before .before in
+    let at-test-cost = at-put-labeled3 .before in
+    let at-put-labeled2 = at-test-cost .before .before .before .before .before in
+    let at-entry = at-put-labeled2 .before in
+    let at-put-labeled = at-entry .before .before .before .before .before in
+    let at-region-count = at-put-labeled .before in
+    λ g s.
+    of-text (ap (labeled "record regions ") (at-region-count .region-count .ensures g s)) (at-put-labeled .put-labeled .ensures)
+    ▸ of-text (ap (labeled " entry ") (at-entry .entry .ensures g s)) (at-put-labeled2 .put-labeled2 .ensures)
+    ▸ of-text (ap (labeled " test ") (at-test-cost .test-cost .ensures g s)) (at-put-labeled3 .put-labeled3 .ensures)
+    ▸ at-put-text .put-text .ensures
+    ▸ at-put-numbers .put-numbers .ensures g s
     ▸ c .before .before .put-byte .ensures
 
 pub put-head-spec : {M : Type 1} → statement M

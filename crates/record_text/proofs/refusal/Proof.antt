@@ -31,11 +31,16 @@ same-length c = search needs
 returns : tie.Need-returns
 unfolding refusal-text labeled
 returns c =
-    let a = c .before .before .before .before .before .before .before .before .before .before .before .before .before .before .before .before .args in
+    let at-put-labeled2 = c .before .before .before .before .before .before .before in
+    let at-put-labeled = at-put-labeled2 .before .before .before .before .before in
+    let start = at-put-labeled .before .before .before .before in
+    let a = start .args in
     let text = refusal-text (a .number) (a .word) in
-    let answer = c .finish .ensures ∙ ap (λ n. written-to n (c .before .before .before .put-byte .result)) (c .before .before .before .put-byte .kept .0 ∙ c .before .before .before .before .before .before .before .put-labeled2 .kept .0 ∙ c .before .before .before .before .before .before .before .before .before .before .before .before .put-labeled .kept .0) in
+    let answer = c .finish .ensures ∙ ap (λ n. written-to n (c .before .before .before .put-byte .result))
+    (c .before .before .before .put-byte .kept .0 ∙ at-put-labeled2 .put-labeled2 .kept .0 ∙ at-put-labeled .put-labeled .kept .0) in
     subst (Whole text (a .out .now) (c .before .before .before .put-byte .last .0)) (sym answer)
-    (whole text _ _ (c .before .before .before .put-byte .result) (c .before .before .before .before .before .before .before .before .before .before .before .before .put-labeled .ensures ▸ c .before .before .before .before .before .before .before .put-labeled2 .ensures ▸ c .before .before .before .put-byte .ensures))
+    (whole text _ _ (c .before .before .before .put-byte .result)
+    (at-put-labeled .put-labeled .ensures ▸ at-put-labeled2 .put-labeled2 .ensures ▸ c .before .before .before .put-byte .ensures))
 
 pub refusal-spec : {M : Type 1} → statement M
 refusal-spec =

@@ -1,21 +1,23 @@
+-- Each round has one target, with its values where it stands for the first time.
 use borrow.Author.Needs.{needs}
+use Prim.Native.Nat.{_-_}
+use native.Mathlib.Omega.{arith}
+use mathlib.Core.Path.{refl}
+use mathlib.Core.List.{[]}
+use lib.ListN.{drop}
+use Rattle.meaning.specs.Graph.{region, edges-of, targets-of}
+use Rattle.format.specs.References as format
+use Rattle.fields.specs.ByNumber.{before}
+use Rattle.references.specs.Checks.{first-right}
+use Rattle.references.specs.laws.EdgesWalk.{edges-walk}
+use Rattle.references.specs.laws.Rounds.{Round, round-end, call-passed, call-refused}
 use Rattle.references.proofs.edges_right.Statement.{statement}
 use Rattle.references.proofs.edges_right.Tie as tie
-use mathlib.Core.Path.{_≡_, refl, sym, ap, _∙_}
-use Prim.Native.Nat.{_≤_, _-_}
-use native.Mathlib.Omega.{arith}
-use lib.ListN.{drop}
-use Rattle.meaning.specs.Graph.{Graph, region, edges-of, targets-of}
-use Rattle.format.specs.References as format
-use Rattle.record.specs.Stands.{Stands}
-use Rattle.references.specs.Answers.{references-answered}
-use Rattle.references.specs.Walk.{passes, stops, ends}
-use Rattle.references.specs.EdgesWalk.{edges-walk}
-use Rattle.fields.specs.Repeats.{before}
-use mathlib.Core.List.{[]}
 
 abbrev Inv-loop : tie.InvT-loop
-Inv-loop w r n j₀ j = (j ≤ n) × ((g : Graph) → Stands w g → format.first-refusal (format.edge-right g r) (format.first-edges (before (targets-of g r) j) (drop j (edges-of (region g r .terminator)))) ≡ format.first-refusal (format.edge-right g r) (format.first-edges [] (edges-of (region g r .terminator))))
+Inv-loop w r n j₀ j =
+    Round w (λ g. first-right g r (edges-of (region g r .terminator)))
+    (λ g. format.first-refusal (format.edge-right g r) (format.first-edges [] (edges-of (region g r .terminator)))) n j
 
 abbrev μ-loop : tie.MeasureT-loop
 μ-loop w r n j₀ j = n - j
@@ -25,7 +27,16 @@ target-count-requires c κs = search needs
 
 loop-holds : tie.Need-loop-holds Inv-loop μ-loop
 unfolding before
-loop-holds c = (omega arith, λ g s. refl)
+loop-holds c =
+    let r = c .before .args .r in
+    record {
+      bound = omega arith;
+      left = λ g k.
+          let seen = before (targets-of g r) k in
+          format.first-refusal (format.edge-right g r) (format.first-edges seen (drop k (edges-of (region g r .terminator))));
+      walk = λ g s. edges-walk (format.edge-right g r) (edges-of (region g r .terminator)) (c .target-count .ensures g s);
+      rest = λ g s. refl;
+    }
 
 edge-right-requires : tie.Need-edge-right-requires Inv-loop μ-loop
 edge-right-requires c κs = search needs
@@ -34,10 +45,10 @@ enum-known-c : tie.Need-enum-known-c Inv-loop μ-loop
 enum-known-c c = search needs
 
 returns : tie.Need-returns Inv-loop μ-loop
-returns c g s =
-    let r = c .before .before .before .before .before .before .before .args .r in
-    stops (edges-walk (format.edge-right g r) (edges-of (region g r .terminator)) (c .before .before .before .before .before .before .target-count .ensures g s)) _ _ (c .before .before .before .before .loop-test .taken) (c .before .before .before .before .before .loop .inv .1 g s)
-    (sym (ap references-answered (c .before .c .given .1)) ∙ c .before .before .before .edge-right .ensures g s)
+returns c =
+    let turn = c .before .before .before .before in
+    call-refused (turn .before .loop .inv) (turn .loop-test .taken) (c .before .before .before .edge-right .ensures)
+    (c .before .c .given .1)
 
 enum-told : tie.Need-enum-told Inv-loop μ-loop
 enum-told c = search needs
@@ -49,18 +60,12 @@ loop-less : tie.Need-loop-less Inv-loop μ-loop
 loop-less c = search needs
 
 loop-again : tie.Need-loop-again Inv-loop μ-loop
-loop-again c = (
-  omega arith,
-  λ g s.
-      let r = c .before .before .before .before .before .before .args .r in
-      passes (edges-walk (format.edge-right g r) (edges-of (region g r .terminator)) (c .before .before .before .before .before .target-count .ensures g s)) _ _ (c .before .before .before .loop-test .taken) (c .before .before .before .before .loop .inv .1 g s)
-      (sym (ap references-answered (c .enum-told .given .1)) ∙ c .before .before .edge-right .ensures g s),
-)
+loop-again c =
+    let turn = c .before .before .before in
+    call-passed (turn .before .loop .inv) (turn .loop-test .taken) (c .before .before .edge-right .ensures) (c .enum-told .given .1)
 
 returns-2 : tie.Need-returns-2 Inv-loop μ-loop
-returns-2 c g s =
-    let r = c .before .before .before .args .r in
-    ends (edges-walk (format.edge-right g r) (edges-of (region g r .terminator)) (c .before .before .target-count .ensures g s)) _ _ (c .loop-test .left) (c .before .loop .inv .1 g s)
+returns-2 c = round-end (c .before .loop .inv) (c .loop-test .left)
 
 pub edges-right-spec : {M : Type 1} → statement M
 edges-right-spec =

@@ -1,19 +1,21 @@
+-- Each round has one value.
 use borrow.Author.Needs.{needs}
+use Prim.Native.Nat.{_-_}
+use native.Mathlib.Omega.{arith}
+use mathlib.Core.Path.{refl, _∙_}
+use lib.ListN.{getD, drop}
+use Rattle.meaning.specs.Graph.{no-value}
+use Rattle.format.specs.References as format
+use Rattle.fields.specs.ByNumber.{end-values}
+use Rattle.references.specs.laws.Walks.{each-walk}
+use Rattle.references.specs.laws.Rounds.{Round, round-end, call-passed, call-refused}
 use Rattle.references.proofs.exit_values_right.Statement.{statement}
 use Rattle.references.proofs.exit_values_right.Tie as tie
-use mathlib.Core.Path.{_≡_, refl, sym, ap, _∙_}
-use Prim.Native.Nat.{_≤_, _-_}
-use native.Mathlib.Omega.{arith}
-use lib.ListN.{drop}
-use Rattle.meaning.specs.Graph.{Graph, no-value, region}
-use Rattle.format.specs.References as format
-use Rattle.record.specs.Stands.{Stands}
-use Rattle.references.specs.Answers.{references-answered}
-use Rattle.references.specs.Walk.{passes, stops, ends}
-use Rattle.references.specs.Walks.{each-walk}
 
 abbrev Inv-loop : tie.InvT-loop
-Inv-loop w r before n k₀ k = (k ≤ n) × ((g : Graph) → Stands w g → format.first-refusal (format.named-right g r (format.behind-all g r)) (drop k (format.values-of (region g r .terminator))) ≡ format.first-refusal (format.named-right g r (format.behind-all g r)) (format.values-of (region g r .terminator)))
+Inv-loop w r before n k₀ k =
+    Round w (λ g k. format.named-right g r (format.behind-all g r) (getD (end-values g r) k no-value))
+    (λ g. format.first-refusal (format.named-right g r (format.behind-all g r)) (end-values g r)) n k
 
 abbrev μ-loop : tie.MeasureT-loop
 μ-loop w r before n k₀ k = n - k
@@ -25,7 +27,14 @@ value-count-requires : tie.Need-value-count-requires Inv-loop μ-loop
 value-count-requires c κs = search needs
 
 loop-holds : tie.Need-loop-holds Inv-loop μ-loop
-loop-holds c = (omega arith, λ g s. refl)
+loop-holds c =
+    let r = c .before .before .args .r in
+    record {
+      bound = omega arith;
+      left = λ g k. format.first-refusal (format.named-right g r (format.behind-all g r)) (drop k (end-values g r));
+      walk = λ g s. each-walk (end-values g r) no-value (c .value-count .ensures g s) (format.named-right g r (format.behind-all g r));
+      rest = λ g s. refl;
+    }
 
 value-requires : tie.Need-value-requires Inv-loop μ-loop
 value-requires c κs = search needs
@@ -37,10 +46,14 @@ enum-known-c : tie.Need-enum-known-c Inv-loop μ-loop
 enum-known-c c = search needs
 
 returns : tie.Need-returns Inv-loop μ-loop
-returns c g s =
-    let r = c .before .before .before .before .before .before .before .before .before .args .r in
-    stops (each-walk (format.values-of (region g r .terminator)) no-value (c .before .before .before .before .before .before .before .value-count .ensures g s) (format.named-right g r (format.behind-all g r))) _ _ (c .before .before .before .before .before .loop-test .taken) (c .before .before .before .before .before .before .loop .inv .1 g s)
-    (sym (ap references-answered (c .before .c .given .1)) ∙ c .before .before .before .named .ensures g s ∙ rw (c .before .before .before .before .before .before .before .before .instruction-count .ensures g s) (ap (format.named-right g r (format.behind-all g r)) (c .before .before .before .before .value .ensures g s)))
+returns c =
+    let at-before = c .before .before .before .before in
+    let turn = at-before .before in
+    let start = turn .before .before in
+    call-refused (turn .before .loop .inv) (turn .loop-test .taken)
+    (λ g s. c .before .before .before .named .ensures g s
+    ∙ rw (start .before .instruction-count .ensures g s, at-before .value .ensures g s))
+    (c .before .c .given .1)
 
 enum-told : tie.Need-enum-told Inv-loop μ-loop
 enum-told c = search needs
@@ -52,18 +65,16 @@ loop-less : tie.Need-loop-less Inv-loop μ-loop
 loop-less c = search needs
 
 loop-again : tie.Need-loop-again Inv-loop μ-loop
-loop-again c = (
-  omega arith,
-  λ g s.
-      let r = c .before .before .before .before .before .before .before .before .args .r in
-      passes (each-walk (format.values-of (region g r .terminator)) no-value (c .before .before .before .before .before .before .value-count .ensures g s) (format.named-right g r (format.behind-all g r))) _ _ (c .before .before .before .before .loop-test .taken) (c .before .before .before .before .before .loop .inv .1 g s)
-      (sym (ap references-answered (c .enum-told .given .1)) ∙ c .before .before .named .ensures g s ∙ rw (c .before .before .before .before .before .before .before .instruction-count .ensures g s) (ap (format.named-right g r (format.behind-all g r)) (c .before .before .before .value .ensures g s))),
-)
+loop-again c =
+    let turn = c .before .before .before .before in
+    let start = turn .before .before in
+    call-passed (turn .before .loop .inv) (turn .loop-test .taken)
+    (λ g s. c .before .before .named .ensures g s ∙ rw
+    (start .before .instruction-count .ensures g s, c .before .before .before .value .ensures g s))
+    (c .enum-told .given .1)
 
 returns-2 : tie.Need-returns-2 Inv-loop μ-loop
-returns-2 c g s =
-    let r = c .before .before .before .before .args .r in
-    ends (each-walk (format.values-of (region g r .terminator)) no-value (c .before .before .value-count .ensures g s) (format.named-right g r (format.behind-all g r))) _ _ (c .loop-test .left) (c .before .loop .inv .1 g s)
+returns-2 c = round-end (c .before .loop .inv) (c .loop-test .left)
 
 pub exit-values-right-spec : {M : Type 1} → statement M
 exit-values-right-spec =

@@ -1,19 +1,21 @@
+-- Each round has one read.
 use borrow.Author.Needs.{needs}
+use Prim.Native.Nat.{_-_}
+use native.Mathlib.Omega.{arith}
+use mathlib.Core.Path.{refl, ap, _∙_}
+use lib.ListN.{getD, drop}
+use Rattle.meaning.specs.Graph.{no-value}
+use Rattle.format.specs.References as format
+use Rattle.fields.specs.ByNumber.{instr-of}
+use Rattle.references.specs.laws.Walks.{each-walk}
+use Rattle.references.specs.laws.Rounds.{Round, round-end, call-passed, call-refused}
 use Rattle.references.proofs.instruction_reads_right.Statement.{statement}
 use Rattle.references.proofs.instruction_reads_right.Tie as tie
-use mathlib.Core.Path.{_≡_, refl, sym, ap, _∙_}
-use Prim.Native.Nat.{_≤_, _-_}
-use native.Mathlib.Omega.{arith}
-use lib.ListN.{drop}
-use Rattle.meaning.specs.Graph.{Graph, no-value}
-use Rattle.format.specs.References as format
-use Rattle.record.specs.Stands.{Stands}
-use Rattle.references.specs.Answers.{references-answered}
-use Rattle.references.specs.Walk.{passes, stops, ends}
-use Rattle.references.specs.Walks.{reads-at, each-walk}
 
 abbrev Inv-loop : tie.InvT-loop
-Inv-loop w r b i before n k₀ k = (k ≤ n) × ((g : Graph) → Stands w g → format.first-refusal (format.named-right g r before) (drop k (reads-at g r b i)) ≡ format.first-refusal (format.named-right g r before) (reads-at g r b i))
+Inv-loop w r b i before n k₀ k =
+    Round w (λ g k. format.named-right g r before (getD (instr-of g r b i .reads) k no-value))
+    (λ g. format.first-refusal (format.named-right g r before) (instr-of g r b i .reads)) n k
 
 abbrev μ-loop : tie.MeasureT-loop
 μ-loop w r b i before n k₀ k = n - k
@@ -22,7 +24,16 @@ instruction-requires : tie.Need-instruction-requires Inv-loop μ-loop
 instruction-requires c κs = search needs
 
 loop-holds : tie.Need-loop-holds Inv-loop μ-loop
-loop-holds c = (omega arith, λ g s. refl)
+loop-holds c =
+    let a = c .before .args in
+    record {
+      bound = omega arith;
+      left = λ g k. format.first-refusal (format.named-right g (a .r) (a .before)) (drop k (instr-of g (a .r) (a .b) (a .i) .reads));
+      walk = λ g s.
+          let size = ap (λ x. x .reads) (c .instruction .ensures g s) in
+          each-walk (instr-of g (a .r) (a .b) (a .i) .reads) no-value size (format.named-right g (a .r) (a .before));
+      rest = λ g s. refl;
+    }
 
 read-requires : tie.Need-read-requires Inv-loop μ-loop
 read-requires c κs = search needs
@@ -34,10 +45,12 @@ enum-known-c : tie.Need-enum-known-c Inv-loop μ-loop
 enum-known-c c = search needs
 
 returns : tie.Need-returns Inv-loop μ-loop
-returns c g s =
-    let a = c .before .before .before .before .before .before .before .before .args in
-    stops (each-walk (reads-at g (a .r) (a .b) (a .i)) no-value (ap (λ x. x .reads) (c .before .before .before .before .before .before .before .instruction .ensures g s)) (format.named-right g (a .r) (a .before))) _ _ (c .before .before .before .before .before .loop-test .taken) (c .before .before .before .before .before .before .loop .inv .1 g s)
-    (sym (ap references-answered (c .before .c .given .1)) ∙ c .before .before .before .named .ensures g s ∙ ap (format.named-right g (a .r) (a .before)) (c .before .before .before .before .read .ensures g s))
+returns c =
+    let at-before = c .before .before .before .before in
+    let turn = at-before .before in
+    call-refused (turn .before .loop .inv) (turn .loop-test .taken)
+    (λ g s. c .before .before .before .named .ensures g s ∙ rw (at-before .read .ensures g s))
+    (c .before .c .given .1)
 
 enum-told : tie.Need-enum-told Inv-loop μ-loop
 enum-told c = search needs
@@ -49,18 +62,14 @@ loop-less : tie.Need-loop-less Inv-loop μ-loop
 loop-less c = search needs
 
 loop-again : tie.Need-loop-again Inv-loop μ-loop
-loop-again c = (
-  omega arith,
-  λ g s.
-      let a = c .before .before .before .before .before .before .before .args in
-      passes (each-walk (reads-at g (a .r) (a .b) (a .i)) no-value (ap (λ x. x .reads) (c .before .before .before .before .before .before .instruction .ensures g s)) (format.named-right g (a .r) (a .before))) _ _ (c .before .before .before .before .loop-test .taken) (c .before .before .before .before .before .loop .inv .1 g s)
-      (sym (ap references-answered (c .enum-told .given .1)) ∙ c .before .before .named .ensures g s ∙ ap (format.named-right g (a .r) (a .before)) (c .before .before .before .read .ensures g s)),
-)
+loop-again c =
+    let turn = c .before .before .before .before in
+    call-passed (turn .before .loop .inv) (turn .loop-test .taken)
+    (λ g s. c .before .before .named .ensures g s ∙ rw (c .before .before .before .read .ensures g s))
+    (c .enum-told .given .1)
 
 returns-2 : tie.Need-returns-2 Inv-loop μ-loop
-returns-2 c g s =
-    let a = c .before .before .before .args in
-    ends (each-walk (reads-at g (a .r) (a .b) (a .i)) no-value (ap (λ x. x .reads) (c .before .before .instruction .ensures g s)) (format.named-right g (a .r) (a .before))) _ _ (c .loop-test .left) (c .before .loop .inv .1 g s)
+returns-2 c = round-end (c .before .loop .inv) (c .loop-test .left)
 
 pub instruction-reads-right-spec : {M : Type 1} → statement M
 instruction-reads-right-spec =

@@ -1,7 +1,7 @@
 use borrow.Author.Needs.{needs}
 use Rattle.references.proofs.named.Statement.{statement}
 use Rattle.references.proofs.named.Tie as tie
-use Rattle.references.specs.Steps.{not-named, is-named}
+use Rattle.references.specs.laws.Steps.{not-named, is-named}
 
 type-in-requires : tie.Need-type-in-requires
 type-in-requires c κs = search needs

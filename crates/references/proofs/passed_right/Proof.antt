@@ -1,20 +1,23 @@
+-- As many values as inputs, and then each round has one of both.
 use borrow.Author.Needs.{needs}
+use Prim.Native.Nat.{_-_}
+use native.Mathlib.Omega.{arith}
+use mathlib.Core.Path.{_∙_}
+use lib.ListN.{getD, drop}
+use Rattle.meaning.specs.Graph.{no-value, region}
+use Rattle.format.specs.References as format
+use Rattle.fields.specs.ByNumber.{edge-of}
+use Rattle.references.specs.Checks.{typed}
+use Rattle.references.specs.laws.Walks.{types-walk}
+use Rattle.references.specs.laws.Steps.{edge-differs, edge-agrees}
+use Rattle.references.specs.laws.Rounds.{Round, round-end, call-passed, call-refused}
 use Rattle.references.proofs.passed_right.Statement.{statement}
 use Rattle.references.proofs.passed_right.Tie as tie
-use mathlib.Core.Path.{_≡_, sym, ap, _∙_}
-use Prim.Native.Nat.{_≤_, _-_}
-use native.Mathlib.Omega.{arith}
-use lib.ListN.{drop}
-use Rattle.meaning.specs.Graph.{Graph, region}
-use Rattle.format.specs.References as format
-use Rattle.record.specs.Stands.{Stands}
-use Rattle.references.specs.Answers.{references-answered}
-use Rattle.references.specs.Walk.{passes, stops, ends}
-use Rattle.references.specs.Walks.{nth-edge, types-walk}
-use Rattle.references.specs.Steps.{edge-differs, edge-agrees}
 
 abbrev Inv-loop : tie.InvT-loop
-Inv-loop w r j t n k₀ k = (k ≤ n) × ((g : Graph) → Stands w g → format.types-right g r (drop k (region g t .inputs)) (drop k (nth-edge g r j .inputs)) ≡ format.edge-right g r (nth-edge g r j))
+Inv-loop w r j t n k₀ k =
+    Round w (λ g k. typed g r (getD (region g t .inputs) k 0) (getD (edge-of g r j .inputs) k no-value))
+    (λ g. format.edge-right g r (edge-of g r j)) n k
 
 abbrev μ-loop : tie.MeasureT-loop
 μ-loop w r j t n k₀ k = n - k
@@ -30,16 +33,28 @@ input-count-requires c κs = search needs
 
 returns : tie.Need-returns Inv-loop μ-loop
 returns c g s =
-    let a = c .before .before .before .before .args in
-    edge-differs g (a .r) (nth-edge g (a .r) (a .j)) (c .before .before .before .target .ensures g s) (c .before .before .passed-count .ensures g s) (c .before .input-count .ensures g s) (c .if1 .taken)
+    let start = c .before .before .before .before in
+    let a = start .args in
+    let counts = c .before .before in
+    edge-differs g (a .r) (edge-of g (a .r) (a .j)) (counts .before .target .ensures g s) (counts .passed-count .ensures g s)
+    (c .before .input-count .ensures g s) (c .if1 .taken)
 
 loop-holds : tie.Need-loop-holds Inv-loop μ-loop
-loop-holds c = (
-  omega arith,
-  λ g s.
-      let a = c .before .before .before .before .args in
-      edge-agrees g (a .r) (nth-edge g (a .r) (a .j)) (c .before .before .before .target .ensures g s) (c .before .before .passed-count .ensures g s) (c .before .input-count .ensures g s) (c .if1 .left),
-)
+loop-holds c =
+    let a = c .before .before .before .before .args in
+    let counts = c .before .before in
+    let target = counts .before .target in
+    record {
+      bound = omega arith;
+      left = λ g k. format.types-right g (a .r) (drop k (region g (target .result) .inputs)) (drop k (edge-of g (a .r) (a .j) .inputs));
+      walk = λ g s.
+          let types = c .if1 .left ∙ c .before .input-count .ensures g s in
+          types-walk g (a .r) (region g (target .result) .inputs) (edge-of g (a .r) (a .j) .inputs) types
+          (counts .passed-count .ensures g s);
+      rest = λ g s.
+          edge-agrees g (a .r) (edge-of g (a .r) (a .j)) (target .ensures g s) (counts .passed-count .ensures g s)
+          (c .before .input-count .ensures g s) (c .if1 .left);
+    }
 
 input-type-requires : tie.Need-input-type-requires Inv-loop μ-loop
 input-type-requires c κs = search needs
@@ -54,10 +69,13 @@ enum-known-c : tie.Need-enum-known-c Inv-loop μ-loop
 enum-known-c c = search needs
 
 returns-2 : tie.Need-returns-2 Inv-loop μ-loop
-returns-2 c g s =
-    let a = c .before .before .before .before .before .before .before .before .before .before .before .before .args in
-    stops (types-walk g (a .r) (region g (c .before .before .before .before .before .before .before .before .before .before .before .target .result) .inputs) (nth-edge g (a .r) (a .j) .inputs) (c .before .before .before .before .before .before .before .before .if1 .left ∙ c .before .before .before .before .before .before .before .before .before .input-count .ensures g s) (c .before .before .before .before .before .before .before .before .before .before .passed-count .ensures g s)) _ _ (c .before .before .before .before .before .before .loop-test .taken) (c .before .before .before .before .before .before .before .loop .inv .1 g s)
-    (sym (ap references-answered (c .before .c .given .1)) ∙ c .before .before .before .named-of-type .ensures g s ∙ rw (c .before .before .before .before .before .input-type .ensures g s, c .before .before .before .before .passed .ensures g s))
+returns-2 c =
+    let at-passed = c .before .before .before .before in
+    let at-before = at-passed .before in
+    let turn = at-before .before in
+    call-refused (turn .before .loop .inv) (turn .loop-test .taken)
+    (λ g s. c .before .before .before .named-of-type .ensures g s ∙ rw (at-before .input-type .ensures g s, at-passed .passed .ensures g s))
+    (c .before .c .given .1)
 
 enum-told : tie.Need-enum-told Inv-loop μ-loop
 enum-told c = search needs
@@ -69,18 +87,16 @@ loop-less : tie.Need-loop-less Inv-loop μ-loop
 loop-less c = search needs
 
 loop-again : tie.Need-loop-again Inv-loop μ-loop
-loop-again c = (
-  omega arith,
-  λ g s.
-      let a = c .before .before .before .before .before .before .before .before .before .before .before .args in
-      passes (types-walk g (a .r) (region g (c .before .before .before .before .before .before .before .before .before .before .target .result) .inputs) (nth-edge g (a .r) (a .j) .inputs) (c .before .before .before .before .before .before .before .if1 .left ∙ c .before .before .before .before .before .before .before .before .input-count .ensures g s) (c .before .before .before .before .before .before .before .before .before .passed-count .ensures g s)) _ _ (c .before .before .before .before .before .loop-test .taken) (c .before .before .before .before .before .before .loop .inv .1 g s)
-      (sym (ap references-answered (c .enum-told .given .1)) ∙ c .before .before .named-of-type .ensures g s ∙ rw (c .before .before .before .before .input-type .ensures g s, c .before .before .before .passed .ensures g s)),
-)
+loop-again c =
+    let at-before = c .before .before .before .before in
+    let turn = at-before .before in
+    call-passed (turn .before .loop .inv) (turn .loop-test .taken)
+    (λ g s. c .before .before .named-of-type .ensures g s
+    ∙ rw (at-before .input-type .ensures g s, c .before .before .before .passed .ensures g s))
+    (c .enum-told .given .1)
 
 returns-3 : tie.Need-returns-3 Inv-loop μ-loop
-returns-3 c g s =
-    let a = c .before .before .before .before .before .before .args in
-    ends (types-walk g (a .r) (region g (c .before .before .before .before .before .target .result) .inputs) (nth-edge g (a .r) (a .j) .inputs) (c .before .before .if1 .left ∙ c .before .before .before .input-count .ensures g s) (c .before .before .before .before .passed-count .ensures g s)) _ _ (c .loop-test .left) (c .before .loop .inv .1 g s)
+returns-3 c = round-end (c .before .loop .inv) (c .loop-test .left)
 
 pub passed-right-spec : {M : Type 1} → statement M
 passed-right-spec =

@@ -5,14 +5,17 @@ use mathlib.Core.Path.{_≡_, refl, sym, ap, _∙_}
 use Prim.Native.Nat.{_≤_, _-_, _*_}
 use native.Mathlib.Omega.{arith}
 use lib.ListN.{drop}
-use Rattle.meaning.specs.Graph.{Graph, region}
+use Rattle.meaning.specs.Graph.{region}
 use Rattle.format.specs.References as format
-use Rattle.record.specs.Stands.{Stands}
-use Rattle.references.specs.Answers.{references-answered}
-use Rattle.references.specs.Steps.{block-passes, block-stops, blocks-end}
+use Rattle.record.specs.Stands.{OfRecord}
+use Rattle.store.specs.Loaded.{answered}
+use Rattle.references.specs.laws.Steps.{block-passes, block-stops, blocks-end}
 
 abbrev Inv-loop : tie.InvT-loop
-Inv-loop w r n before₀ b₀ before b = (b ≤ n) × (before ≤ 65535 * b) × ((g : Graph) → Stands w g → format.reads-right g r before (format.instructions (drop b (region g r .blocks))) ≡ format.reads-right g r 0 (format.instructions (region g r .blocks)))
+Inv-loop w r n before₀ b₀ before b =
+    (b ≤ n) × (before ≤ 65535 * b) × OfRecord w (λ g. format.reads-right g r before (format.instructions (drop b (region g r .blocks)))
+    ≡ format.reads-right g r 0
+    (format.instructions (region g r .blocks)))
 
 abbrev μ-loop : tie.MeasureT-loop
 μ-loop w r n before₀ b₀ before b = n - b
@@ -31,8 +34,13 @@ enum-known-c c = search needs
 
 returns : tie.Need-returns Inv-loop μ-loop
 returns c g s =
-    block-stops g _ (region g (c .before .before .before .before .before .before .before .args .r) .blocks) (c .before .before .before .before .before .before .block-count .ensures g s) _ _ _ (c .before .before .before .before .loop-test .taken) (c .before .before .before .before .before .loop .inv .2 g s)
-    (sym (ap references-answered (c .before .c .given .1)) ∙ c .before .before .before .block-reads-right .ensures g s)
+    let turn = c .before .before .before .before in
+    let at-loop = turn .before in
+    let at-block-count = at-loop .before in
+    let start = at-block-count .before in
+    block-stops g _ (region g (start .args .r) .blocks) (at-block-count .block-count .ensures g s) _ _ _ (turn .loop-test .taken)
+    (at-loop .loop .inv .2 g s)
+    (sym (ap answered (c .before .c .given .1)) ∙ c .before .before .before .block-reads-right .ensures g s)
 
 enum-told : tie.Need-enum-told Inv-loop μ-loop
 enum-told c = search needs
@@ -58,12 +66,16 @@ loop-again c = (
   omega (arith, c .block-length .ok),
   λ g s.
       rw (c .block-length .ensures g s)
-      (block-passes g _ (region g (c .before .before .before .before .before .before .before .args .r) .blocks) (c .before .before .before .before .before .before .block-count .ensures g s) _ _ _ (c .before .before .before .before .loop-test .taken) (c .before .before .before .before .before .loop .inv .2 g s)
-      (sym (ap references-answered (c .before .enum-told .given .1)) ∙ c .before .before .before .block-reads-right .ensures g s)),
+      (block-passes g _ (region g (c .before .before .before .before .before .before .before .args .r) .blocks)
+      (c .before .before .before .before .before .before .block-count .ensures g s) _ _ _
+      (c .before .before .before .before .loop-test .taken) (c .before .before .before .before .before .loop .inv .2 g s)
+      (sym (ap answered (c .before .enum-told .given .1)) ∙ c .before .before .before .block-reads-right .ensures g s)),
 )
 
 returns-2 : tie.Need-returns-2 Inv-loop μ-loop
-returns-2 c g s = blocks-end g _ (region g (c .before .before .before .args .r) .blocks) (c .before .before .block-count .ensures g s) _ _ _ (c .loop-test .left) (c .before .loop .inv .2 g s)
+returns-2 c g s =
+    blocks-end g _ (region g (c .before .before .before .args .r) .blocks) (c .before .before .block-count .ensures g s) _ _ _
+    (c .loop-test .left) (c .before .loop .inv .2 g s)
 
 pub reads-right-spec : {M : Type 1} → statement M
 reads-right-spec =

@@ -1,12 +1,11 @@
 use borrow.Author.Needs.{needs}
 use Rattle.references.proofs.region_right.Statement.{statement}
 use Rattle.references.proofs.region_right.Tie as tie
-use mathlib.Core.Path.{sym, ap, _∙_}
+use mathlib.Core.Path.{_∙_}
 use Rattle.meaning.specs.Graph.{region}
 use Rattle.format.specs.References as format
-use Rattle.references.specs.Answers.{references-answered}
-use Rattle.references.specs.Walk.{then-refused, then-rest}
-use Rattle.references.specs.Steps.{after-reads, after-values, after-targets, after-edges}
+use Rattle.references.specs.laws.Rounds.{passed-on, stopped}
+use Rattle.references.specs.laws.Steps.{after-reads, after-values, after-targets, after-edges}
 
 reads-right-requires : tie.Need-reads-right-requires
 reads-right-requires c κs = search needs
@@ -17,9 +16,10 @@ enum-known-reads c = search needs
 returns : tie.Need-returns
 unfolding format.region-right
 returns c g s =
-    let r = c .before .before .before .before .args .r in
+    let start = c .before .before .before .before in
+    let r = start .args .r in
     let x = region g r in
-    then-refused (after-reads g r x) (sym (ap references-answered (c .before .reads .given .1)) ∙ c .before .before .before .reads-right .ensures g s)
+    stopped (after-reads g r x) (c .before .before .before .reads-right .ensures g s) (c .before .reads .given .1)
 
 enum-told : tie.Need-enum-told
 enum-told c = search needs
@@ -33,10 +33,13 @@ enum-known-values c = search needs
 returns-2 : tie.Need-returns-2
 unfolding format.region-right
 returns-2 c g s =
-    let r = c .before .before .before .before .before .before .before .args .r in
+    let at-enum-told = c .before .before .before .before in
+    let at-reads-right = at-enum-told .before .before in
+    let start = at-reads-right .before in
+    let r = start .args .r in
     let x = region g r in
-    then-refused (after-values g r x) (sym (ap references-answered (c .before .values .given .1)) ∙ c .before .before .before .values-right .ensures g s)
-    ∙ then-rest (after-reads g r x) (sym (ap references-answered (c .before .before .before .before .enum-told .given .1)) ∙ c .before .before .before .before .before .before .reads-right .ensures g s)
+    stopped (after-values g r x) (c .before .before .before .values-right .ensures g s) (c .before .values .given .1)
+    ∙ passed-on (after-reads g r x) (at-reads-right .reads-right .ensures g s) (at-enum-told .enum-told .given .1)
 
 enum-told-2 : tie.Need-enum-told-2
 enum-told-2 c = search needs
@@ -50,11 +53,16 @@ enum-known-targets c = search needs
 returns-3 : tie.Need-returns-3
 unfolding format.region-right
 returns-3 c g s =
-    let r = c .before .before .before .before .before .before .before .before .before .before .args .r in
+    let at-enum-told2 = c .before .before .before .before in
+    let at-values-right = at-enum-told2 .before .before in
+    let at-enum-told = at-values-right .before in
+    let at-reads-right = at-enum-told .before .before in
+    let start = at-reads-right .before in
+    let r = start .args .r in
     let x = region g r in
-    then-refused (after-targets g r x) (sym (ap references-answered (c .before .targets .given .1)) ∙ c .before .before .before .targets-right .ensures g s)
-    ∙ then-rest (after-values g r x) (sym (ap references-answered (c .before .before .before .before .enum-told2 .given .1)) ∙ c .before .before .before .before .before .before .values-right .ensures g s)
-    ∙ then-rest (after-reads g r x) (sym (ap references-answered (c .before .before .before .before .before .before .before .enum-told .given .1)) ∙ c .before .before .before .before .before .before .before .before .before .reads-right .ensures g s)
+    stopped (after-targets g r x) (c .before .before .before .targets-right .ensures g s) (c .before .targets .given .1)
+    ∙ passed-on (after-values g r x) (at-values-right .values-right .ensures g s) (at-enum-told2 .enum-told2 .given .1)
+    ∙ passed-on (after-reads g r x) (at-reads-right .reads-right .ensures g s) (at-enum-told .enum-told .given .1)
 
 enum-told-3 : tie.Need-enum-told-3
 enum-told-3 c = search needs
@@ -68,12 +76,19 @@ enum-known-edges c = search needs
 returns-4 : tie.Need-returns-4
 unfolding format.region-right
 returns-4 c g s =
-    let r = c .before .before .before .before .before .before .before .before .before .before .before .before .before .args .r in
+    let at-enum-told3 = c .before .before .before .before in
+    let at-targets-right = at-enum-told3 .before .before in
+    let at-enum-told2 = at-targets-right .before in
+    let at-values-right = at-enum-told2 .before .before in
+    let at-enum-told = at-values-right .before in
+    let at-reads-right = at-enum-told .before .before in
+    let start = at-reads-right .before in
+    let r = start .args .r in
     let x = region g r in
-    then-refused (after-edges g r x) (sym (ap references-answered (c .before .edges .given .1)) ∙ c .before .before .before .edges-right .ensures g s)
-    ∙ then-rest (after-targets g r x) (sym (ap references-answered (c .before .before .before .before .enum-told3 .given .1)) ∙ c .before .before .before .before .before .before .targets-right .ensures g s)
-    ∙ then-rest (after-values g r x) (sym (ap references-answered (c .before .before .before .before .before .before .before .enum-told2 .given .1)) ∙ c .before .before .before .before .before .before .before .before .before .values-right .ensures g s)
-    ∙ then-rest (after-reads g r x) (sym (ap references-answered (c .before .before .before .before .before .before .before .before .before .before .enum-told .given .1)) ∙ c .before .before .before .before .before .before .before .before .before .before .before .before .reads-right .ensures g s)
+    stopped (after-edges g r x) (c .before .before .before .edges-right .ensures g s) (c .before .edges .given .1)
+    ∙ passed-on (after-targets g r x) (at-targets-right .targets-right .ensures g s) (at-enum-told3 .enum-told3 .given .1)
+    ∙ passed-on (after-values g r x) (at-values-right .values-right .ensures g s) (at-enum-told2 .enum-told2 .given .1)
+    ∙ passed-on (after-reads g r x) (at-reads-right .reads-right .ensures g s) (at-enum-told .enum-told .given .1)
 
 enum-told-4 : tie.Need-enum-told-4
 enum-told-4 c = search needs
@@ -84,13 +99,20 @@ exits-right-requires c κs = search needs
 returns-5 : tie.Need-returns-5
 unfolding format.region-right
 returns-5 c g s =
-    let r = c .before .before .before .before .before .before .before .before .before .before .before .before .before .args .r in
+    let at-enum-told3 = c .before .before .before .before in
+    let at-targets-right = at-enum-told3 .before .before in
+    let at-enum-told2 = at-targets-right .before in
+    let at-values-right = at-enum-told2 .before .before in
+    let at-enum-told = at-values-right .before in
+    let at-reads-right = at-enum-told .before .before in
+    let start = at-reads-right .before in
+    let r = start .args .r in
     let x = region g r in
     c .exits-right .ensures g s
-    ∙ then-rest (after-edges g r x) (sym (ap references-answered (c .before .enum-told4 .given .1)) ∙ c .before .before .before .edges-right .ensures g s)
-    ∙ then-rest (after-targets g r x) (sym (ap references-answered (c .before .before .before .before .enum-told3 .given .1)) ∙ c .before .before .before .before .before .before .targets-right .ensures g s)
-    ∙ then-rest (after-values g r x) (sym (ap references-answered (c .before .before .before .before .before .before .before .enum-told2 .given .1)) ∙ c .before .before .before .before .before .before .before .before .before .values-right .ensures g s)
-    ∙ then-rest (after-reads g r x) (sym (ap references-answered (c .before .before .before .before .before .before .before .before .before .before .enum-told .given .1)) ∙ c .before .before .before .before .before .before .before .before .before .before .before .before .reads-right .ensures g s)
+    ∙ passed-on (after-edges g r x) (c .before .before .before .edges-right .ensures g s) (c .before .enum-told4 .given .1)
+    ∙ passed-on (after-targets g r x) (at-targets-right .targets-right .ensures g s) (at-enum-told3 .enum-told3 .given .1)
+    ∙ passed-on (after-values g r x) (at-values-right .values-right .ensures g s) (at-enum-told2 .enum-told2 .given .1)
+    ∙ passed-on (after-reads g r x) (at-reads-right .reads-right .ensures g s) (at-enum-told .enum-told .given .1)
 
 pub region-right-spec : {M : Type 1} → statement M
 region-right-spec =

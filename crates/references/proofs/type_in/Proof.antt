@@ -2,9 +2,9 @@ use borrow.Author.Needs.{needs}
 use Rattle.references.proofs.type_in.Statement.{statement}
 use Rattle.references.proofs.type_in.Tie as tie
 use mathlib.Core.Path.{_∙_}
-use Rattle.fields.specs.Picks.{picked, passed-over}
+use Rattle.fields.specs.laws.Picks.{picked, passed-over}
 use borrow.Author.Tests.{eq-eqb, ne-eqb, lt-ltb, le-ltb}
-use Rattle.references.specs.Steps.{both-true, first-false, second-false}
+use Rattle.references.specs.laws.Steps.{both-true, first-false, second-false}
 
 enum-known-v : tie.Need-enum-known-v
 enum-known-v c = search needs
@@ -31,7 +31,10 @@ output-type-requires : tie.Need-output-type-requires
 output-type-requires c κs = search needs
 
 returns-2 : tie.Need-returns-2
-returns-2 c g s = rw (c .before .before .before .before .v3 .given .1) (c .output-type .ensures g s ∙ picked _ _ (both-true (eq-eqb _ _ (c .before .before .if2 .taken)) (lt-ltb _ _ (c .before .if3 .taken))))
+returns-2 c g s =
+    let at-v3 = c .before .before .before .before in
+    rw (at-v3 .v3 .given .1) (c .output-type .ensures g s
+    ∙ picked _ _ (both-true (eq-eqb _ _ (c .before .before .if2 .taken)) (lt-ltb _ _ (c .before .if3 .taken))))
 
 enum-told : tie.Need-enum-told
 enum-told c = search needs
@@ -49,7 +52,9 @@ returns-4 : tie.Need-returns-4
 returns-4 c g s = rw (c .before .before .v2 .given .1) (passed-over _ _ (ne-eqb _ _ (c .if1 .left)))
 
 returns-5 : tie.Need-returns-5
-returns-5 c g s = rw (c .before .before .before .v3 .given .1) (passed-over _ _ (second-false (eq-eqb _ _ (c .before .if2 .taken)) (le-ltb _ _ (c .if3 .left))))
+returns-5 c g s =
+    rw (c .before .before .before .v3 .given .1) (passed-over _ _
+    (second-false (eq-eqb _ _ (c .before .if2 .taken)) (le-ltb _ _ (c .if3 .left))))
 
 returns-6 : tie.Need-returns-6
 returns-6 c g s = rw (c .before .before .v3 .given .1) (passed-over _ _ (first-false _ (ne-eqb _ _ (c .if2 .left))))

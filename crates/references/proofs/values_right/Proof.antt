@@ -3,8 +3,8 @@ use Rattle.references.proofs.values_right.Statement.{statement}
 use Rattle.references.proofs.values_right.Tie as tie
 use mathlib.Core.Path.{ap, _∙_}
 use Rattle.format.specs.References as format
-use Rattle.references.specs.Steps.{test-bool, test-number}
-use Rattle.references.specs.Walks.{typed}
+use Rattle.references.specs.laws.Steps.{test-bool, test-number}
+use Rattle.references.specs.Checks.{typed}
 
 terminator-requires : tie.Need-terminator-requires
 terminator-requires c κs = search needs
@@ -54,11 +54,15 @@ returns c g s = ap (format.values-right g _) (rw (c .enum-told .given .1) at (c 
 
 returns-2 : tie.Need-returns-2
 unfolding format.values-right
-returns-2 c g s = c .returned-right .ensures g s ∙ ap (format.values-right g _) (rw (c .before .enum-told2 .given .1) at (c .before .before .before .terminator .ensures g s))
+returns-2 c g s =
+    c .returned-right .ensures g s ∙ ap (format.values-right g _)
+    (rw (c .before .enum-told2 .given .1) at (c .before .before .before .terminator .ensures g s))
 
 returns-3 : tie.Need-returns-3
 unfolding format.values-right
-returns-3 c g s = c .exit-values-right .ensures g s ∙ ap (format.values-right g _) (rw (c .before .enum-told3 .given .1) at (c .before .before .before .terminator .ensures g s))
+returns-3 c g s =
+    c .exit-values-right .ensures g s ∙ ap (format.values-right g _)
+    (rw (c .before .enum-told3 .given .1) at (c .before .before .before .terminator .ensures g s))
 
 returns-4 : tie.Need-returns-4
 unfolding format.values-right
@@ -66,13 +70,16 @@ returns-4 c g s = ap (format.values-right g _) (rw (c .enum-told4 .given .1) at 
 
 returns-5 : tie.Need-returns-5
 returns-5 c g s =
+    let at-terminator = c .before .before .before .before in
     c .named-of-type .ensures g s ∙ ap (typed g _ 1) (c .before .value .ensures g s)
-    ∙ test-bool g _ _ (rw (c .before .before .enum-told5 .given .1) at (c .before .before .before .before .terminator .ensures g s))
+    ∙ test-bool g _ _ (rw (c .before .before .enum-told5 .given .1) at (at-terminator .terminator .ensures g s))
 
 returns-6 : tie.Need-returns-6
 returns-6 c g s =
-    c .named .ensures g s ∙ rw (c .before .before .instruction-count .ensures g s) (ap (format.named-right g _ _) (c .before .value2 .ensures g s)
-    ∙ test-number g _ _ (rw (c .before .before .before .enum-told6 .given .1) at (c .before .before .before .before .before .terminator .ensures g s)))
+    let at-terminator = c .before .before .before .before .before in
+    c .named .ensures g s ∙ rw (c .before .before .instruction-count .ensures g s)
+    (ap (format.named-right g _ _) (c .before .value2 .ensures g s)
+    ∙ test-number g _ _ (rw (c .before .before .before .enum-told6 .given .1) at (at-terminator .terminator .ensures g s)))
 
 pub values-right-spec : {M : Type 1} → statement M
 values-right-spec =

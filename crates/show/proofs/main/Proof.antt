@@ -30,7 +30,8 @@ slice-aggregate-print c = search needs
 
 print-requires : tie.Need-print-requires
 print-requires c κs =
-    never-full (c .before .before .show .ensures) (omega (arith, c .before .before .before .before .before .before .before .before .before .large-buffer .ensures))
+    never-full (c .before .before .show .ensures) (omega
+    (arith, c .before .before .before .before .before .before .before .before .before .large-buffer .ensures))
 
 returns : tie.Need-returns
 returns c = search needs

@@ -27,9 +27,12 @@ same-length c = search needs
 returns : tie.Need-returns
 returns c =
     let a = c .before .before .before .before .before .before .before .before .before .before .before .args in
-    record-shown (a .bytes .now) (a .words .now) (c .before .before .before .before .before .before .before .accept .last .1 .0) (a .out .now) _ _
+    record-shown (a .bytes .now) (a .words .now) (c .before .before .before .before .before .before .before .accept .last .1 .0)
+    (a .out .now) _ _
     (λ k. omega (arith, c .before .before .before .before .before .before .before .before .before .before .shared-slice-known .given k))
-    (subst (Accepts (a .bytes .now) (a .words .now) (c .before .before .before .before .before .before .before .accept .last .1 .0)) (c .before .before .before .before .before .enum-told .given .1) (c .before .before .before .before .before .before .before .accept .ensures))
+    (subst (Accepts (a .bytes .now) (a .words .now) (c .before .before .before .before .before .before .before .accept .last .1 .0))
+    (c .before .before .before .before .before .enum-told .given .1)
+    (c .before .before .before .before .before .before .before .accept .ensures))
     (c .before .before .list .ensures)
 
 same-length-2 : tie.Need-same-length-2
@@ -38,9 +41,12 @@ same-length-2 c = search needs
 returns-2 : tie.Need-returns-2
 returns-2 c =
     let a = c .before .before .before .before .before .before .before .before .before .before .before .args in
-    refusal-shown (a .bytes .now) (a .words .now) (c .before .before .before .before .before .before .before .accept .last .1 .0) (a .out .now) _ _
+    refusal-shown (a .bytes .now) (a .words .now) (c .before .before .before .before .before .before .before .accept .last .1 .0)
+    (a .out .now) _ _
     (λ k. omega (arith, c .before .before .before .before .before .before .before .before .before .before .shared-slice-known .given k)) _ _
-    (subst (Accepts (a .bytes .now) (a .words .now) (c .before .before .before .before .before .before .before .accept .last .1 .0)) (c .before .before .before .before .before .verdict .given .1) (c .before .before .before .before .before .before .before .accept .ensures))
+    (subst (Accepts (a .bytes .now) (a .words .now) (c .before .before .before .before .before .before .before .accept .last .1 .0))
+    (c .before .before .before .before .before .verdict .given .1)
+    (c .before .before .before .before .before .before .before .accept .ensures))
     (c .before .before .refusal .ensures)
 
 pub show-spec : {M : Type 1} → statement M

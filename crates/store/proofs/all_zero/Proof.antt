@@ -32,17 +32,25 @@ unfolding all-zero
 loop-holds c = (omega arith, (omega arith, refl))
 
 pair-at-requires : tie.Need-pair-at-requires Inv-loop μ-loop
-pair-at-requires c κs = place-within (c .before .before .before .args .from + c .before .loop .n) _ _ (c .before .loop .inv .1 .0) (c .before .before .before .pre .0) (omega arith)
+pair-at-requires c κs =
+    place-within (c .before .before .before .args .from + c .before .loop .n) _ _ (c .before .loop .inv .1 .0)
+    (c .before .before .before .pre .0) (omega arith)
 
 returns : tie.Need-returns Inv-loop μ-loop
 returns c =
     sym
     (zero-stays _ _ _ _ (c .before .before .before .loop .inv .1 .1)
-    (λ z. c .if1 .taken (word-read (c .before .before .before .before .before .args .bytes .now) _ _ _ (c .before .pair-at .ensures) (c .before .before .before .loop .inv .1 .0) ∙ z))
+    (λ z. c .if1 .taken (word-read (c .before .before .before .before .before .args .bytes .now) _ _ _ (c .before .pair-at .ensures)
+    (c .before .before .before .loop .inv .1 .0) ∙ z))
     (omega arith))
 
 next-place-requires : tie.Need-next-place-requires Inv-loop μ-loop
-next-place-requires c κs = omega (arith, place-within (c .before .before .before .before .before .args .from + c .before .before .before .loop .n) _ _ (c .before .before .before .loop .inv .1 .0) (c .before .before .before .before .before .pre .0) (omega arith))
+next-place-requires c κs =
+    omega (
+      arith,
+      place-within (c .before .before .before .before .before .args .from + c .before .before .before .loop .n) _ _
+          (c .before .before .before .loop .inv .1 .0) (c .before .before .before .before .before .pre .0) (omega arith),
+    )
 
 add-n : tie.Need-add-n Inv-loop μ-loop
 add-n c = omega arith
@@ -51,8 +59,16 @@ loop-less : tie.Need-loop-less Inv-loop μ-loop
 loop-less c = omega arith
 
 loop-again : tie.Need-loop-again Inv-loop μ-loop
-loop-again c =
-    (omega arith, (c .next-place .ensures _ (c .before .before .before .before .loop .inv .1 .0) ∙ ap byte-place (add-assoc _ _ 1), zero-more _ _ _ (c .before .before .before .before .loop .inv .1 .1) (sym (word-read (c .before .before .before .before .before .before .args .bytes .now) _ _ _ (c .before .before .pair-at .ensures) (c .before .before .before .before .loop .inv .1 .0)) ∙ c .before .if1 .left)))
+loop-again c = (
+  omega arith,
+  (
+    c .next-place .ensures _ (c .before .before .before .before .loop .inv .1 .0)
+        ∙ ap byte-place (add-assoc _ _ 1),
+    zero-more _ _ _ (c .before .before .before .before .loop .inv .1 .1)
+        (sym (word-read (c .before .before .before .before .before .before .args .bytes .now) _ _ _ (c .before .before .pair-at .ensures)
+        (c .before .before .before .before .loop .inv .1 .0)) ∙ c .before .if1 .left),
+  ),
+)
 
 returns-2 : tie.Need-returns-2 Inv-loop μ-loop
 returns-2 c = sym (c .before .loop .inv .1 .1) ∙ ap (all-zero _ _) (omega arith)

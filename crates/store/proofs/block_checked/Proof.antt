@@ -47,7 +47,11 @@ first-wrong-requires : tie.Need-first-wrong-requires
 first-wrong-requires c κs = search needs
 
 returns : tie.Need-returns
-returns c = c .first-wrong .ensures ∙ block-by (c .before .before .before .before .before .before .args .bytes .now) _ _ _ _ _ (c .before .before .before .before .pair-at .ensures) (c .before .before .before .pair-at2 .ensures) (c .before .before .pair-at3 .ensures) (c .before .check-of .ensures)
+returns c =
+    let at-pair-at = c .before .before .before .before in
+    let start = at-pair-at .before .before in
+    c .first-wrong .ensures ∙ block-by (start .args .bytes .now) _ _ _ _ _ (at-pair-at .pair-at .ensures)
+    (c .before .before .before .pair-at2 .ensures) (c .before .before .pair-at3 .ensures) (c .before .check-of .ensures)
 
 pub block-checked-spec : {M : Type 1} → statement M
 block-checked-spec =

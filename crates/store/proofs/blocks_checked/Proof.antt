@@ -3,7 +3,7 @@ use Prim.Native.Nat.{_-_, _≤_}
 use native.Mathlib.Omega.{arith}
 use borrow.Author.Needs.{needs}
 use Rattle.format.specs.Store.{accepted, blocks-checked}
-use Rattle.store.specs.Loaded.{blocks-answered}
+use Rattle.store.specs.Loaded.{answered}
 use Rattle.store.proofs.Blocks.{blocks-more, blocks-stop}
 use Rattle.store.proofs.blocks_checked.Statement.{statement}
 use Rattle.store.proofs.blocks_checked.Tie as tie
@@ -27,7 +27,7 @@ enum-known-c c = search needs
 returns : tie.Need-returns Inv-loop μ-loop
 returns c =
     blocks-stop _ _ _ _ _ (c .before .before .before .before .before .loop .inv .1) (omega arith)
-    (sym (ap blocks-answered (c .before .c .given .1)) ∙ c .before .before .before .block-checked .ensures)
+    (sym (ap answered (c .before .c .given .1)) ∙ c .before .before .before .block-checked .ensures)
 
 enum-told : tie.Need-enum-told Inv-loop μ-loop
 enum-told c = search needs
@@ -39,8 +39,11 @@ loop-less : tie.Need-loop-less Inv-loop μ-loop
 loop-less c = omega arith
 
 loop-again : tie.Need-loop-again Inv-loop μ-loop
-loop-again c =
-    (omega arith, blocks-more _ _ (c .before .before .before .before .loop .inv .1) ∙ sym (sym (ap blocks-answered (c .enum-told .given .1)) ∙ c .before .before .block-checked .ensures))
+loop-again c = (
+  omega arith,
+  blocks-more _ _ (c .before .before .before .before .loop .inv .1)
+      ∙ sym (sym (ap answered (c .enum-told .given .1)) ∙ c .before .before .block-checked .ensures),
+)
 
 returns-2 : tie.Need-returns-2 Inv-loop μ-loop
 returns-2 c = sym (c .before .loop .inv .1) ∙ ap (blocks-checked _) (omega arith)

@@ -14,7 +14,9 @@ abbrev μ-loop : tie.MeasureT-loop
 μ-loop bytes at sum₀ place₀ sum place = 508 - place
 
 -- The byte of a turn times its weight.
-product : (c : tie.After-shared-slice-known Inv-loop μ-loop) → getD (c .before .before .before .args .bytes .now) (c .before .before .before .args .at + c .before .before .loop .place) 0 * (c .before .before .loop .place + 1) ≤ 129540
+product : (c : tie.After-shared-slice-known Inv-loop μ-loop)
+    → getD (c .before .before .before .args .bytes .now) (c .before .before .before .args .at + c .before .before .loop .place) 0 *
+    (c .before .before .loop .place + 1) ≤ 129540
 product c =
     weight-bound _ _
     (omega (arith, c .shared-slice-known .given (c .before .before .before .args .at + c .before .before .loop .place)))
@@ -52,7 +54,16 @@ loop-less : tie.Need-loop-less Inv-loop μ-loop
 loop-less c = omega arith
 
 loop-again : tie.Need-loop-again Inv-loop μ-loop
-loop-again c = (omega arith, (omega (arith, product c), omega (arith, weighted-more (c .before .before .before .args .bytes .now) (c .before .before .before .args .at) (c .before .before .loop .place))))
+loop-again c = (
+  omega arith,
+  (
+    omega (arith, product c),
+    omega (
+      arith,
+      weighted-more (c .before .before .before .args .bytes .now) (c .before .before .before .args .at) (c .before .before .loop .place),
+    ),
+  ),
+)
 
 returns : tie.Need-returns Inv-loop μ-loop
 returns c = c .before .loop .inv .1 .1 ∙ ap (weighted _ _) (omega arith)

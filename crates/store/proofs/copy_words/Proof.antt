@@ -25,7 +25,9 @@ unfolding tabulate
 loop-holds c = (omega arith, (refl, refl))
 
 pair-at-requires : tie.Need-pair-at-requires Inv-loop μ-loop
-pair-at-requires c κs = place-within (c .before .loop .j) _ _ (c .before .loop .inv .1 .0) (c .before .before .before .before .before .before .pre .0) (omega arith)
+pair-at-requires c κs =
+    place-within (c .before .loop .j) _ _ (c .before .loop .inv .1 .0) (c .before .before .before .before .before .before .pre .0)
+    (omega arith)
 
 mul-words : tie.Need-mul-words Inv-loop μ-loop
 mul-words c = omega arith
@@ -34,7 +36,12 @@ element-write-words : tie.Need-element-write-words Inv-loop μ-loop
 element-write-words c = omega arith
 
 next-place-requires : tie.Need-next-place-requires Inv-loop μ-loop
-next-place-requires c κs = omega (arith, place-within (c .before .before .loop .j) _ _ (c .before .before .loop .inv .1 .0) (c .before .before .before .before .before .before .before .pre .0) (omega arith))
+next-place-requires c κs =
+    omega (
+      arith,
+      place-within (c .before .before .loop .j) _ _ (c .before .before .loop .inv .1 .0)
+          (c .before .before .before .before .before .before .before .pre .0) (omega arith),
+    )
 
 add-j : tie.Need-add-j Inv-loop μ-loop
 add-j c = omega arith
@@ -43,11 +50,24 @@ loop-less : tie.Need-loop-less Inv-loop μ-loop
 loop-less c = omega arith
 
 loop-again : tie.Need-loop-again Inv-loop μ-loop
-loop-again c =
-    (omega arith, (c .next-place .ensures _ (c .before .before .before .loop .inv .1 .0), rw (c .before .before .before .loop .inv .1 .1, word-read (c .before .before .before .before .before .before .before .before .args .bytes .now) _ _ _ (c .before .pair-at .ensures) (c .before .before .before .loop .inv .1 .0)) (copied-more _ _ _ (omega arith))))
+loop-again c = (
+  omega arith,
+  (
+    c .next-place .ensures _ (c .before .before .before .loop .inv .1 .0),
+    rw (
+      c .before .before .before .loop .inv .1 .1,
+      word-read
+          (c .before .before .before .before .before .before .before .before .args .bytes .now) _ _ _ (c .before .pair-at .ensures)
+          (c .before .before .before .loop .inv .1 .0),
+    ) (copied-more _ _ _ (omega arith)),
+  ),
+)
 
 returns : tie.Need-returns Inv-loop μ-loop
-returns c = c .before .loop .inv .1 .1 ∙ ap (λ n. tabulate n (word-at (c .before .before .before .before .before .before .args .bytes .now)) ++ drop n (c .before .before .before .before .before .before .args .words .now)) (omega arith)
+returns c =
+    c .before .loop .inv .1 .1 ∙ ap (λ n. tabulate n (word-at
+    (c .before .before .before .before .before .before .args .bytes .now)) ++ drop n
+    (c .before .before .before .before .before .before .args .words .now)) (omega arith)
 
 pub copy-words-spec : {M : Type 1} → statement M
 copy-words-spec =

@@ -23,7 +23,9 @@ all-zero-requires : tie.Need-all-zero-requires
 all-zero-requires c κs = search needs
 
 returns-3 : tie.Need-returns-3
-returns-3 c = c .all-zero .ensures ∙ count-rest (c .before .before .before .before .args .bytes .now) _ _ (c .before .before .if1 .left) (c .before .if2 .left)
+returns-3 c =
+    let start = c .before .before .before .before in
+    c .all-zero .ensures ∙ count-rest (start .args .bytes .now) _ _ (c .before .before .if1 .left) (c .before .if2 .left)
 
 pub count-right-spec : {M : Type 1} → statement M
 count-right-spec =

@@ -17,22 +17,30 @@ enum-told c = search needs
 
 returns : tie.Need-returns
 returns c =
+    let start = c .before .before .before .before in
     record {
       answer = c .before .before .words-used .ensures;
-      words = kept _ (store-words (c .before .before .before .before .args .bytes .now)) _ _ (sym (ap load-answered (c .enum-told .given .1)) ∙ c .before .before .words-used .ensures);
+      words =
+          kept _ (store-words (start .args .bytes .now)) _ _
+          (sym (ap load-answered (c .enum-told .given .1)) ∙ c .before .before .words-used .ensures);
     }
 
 copy-words-requires : tie.Need-copy-words-requires
 copy-words-requires c κs =
-    let h = holds (c .before .before .before .before .before .before .args .bytes .now) _ (sym (ap load-answered (c .before .before .answer .given .1)) ∙ c .before .before .before .before .words-used .ensures) in
+    let at-words-used = c .before .before .before .before in
+    let start = at-words-used .before .before in
+    let h = holds (start .args .bytes .now) _ (sym (ap load-answered (c .before .before .answer .given .1))
+    ∙ at-words-used .words-used .ensures) in
     (h .short, h .within)
 
 returns-2 : tie.Need-returns-2
 returns-2 c =
-    let e = sym (ap load-answered (c .before .before .before .answer .given .1)) ∙ c .before .before .before .before .before .words-used .ensures in
+    let at-words-used = c .before .before .before .before .before in
+    let start = at-words-used .before .before in
+    let e = sym (ap load-answered (c .before .before .before .answer .given .1)) ∙ at-words-used .words-used .ensures in
     record {
       answer = e;
-      words = c .copy-words .ensures ∙ filled _ _ _ (holds (c .before .before .before .before .before .before .before .args .bytes .now) _ e);
+      words = c .copy-words .ensures ∙ filled _ _ _ (holds (start .args .bytes .now) _ e);
     }
 
 pub load-spec : {M : Type 1} → statement M

@@ -23,7 +23,12 @@ mul-result : tie.Need-mul-result
 mul-result c = omega (arith, c .before .shared-slice-known3 .given (c .before .before .before .before .before .args .at + 1))
 
 add-result : tie.Need-add-result
-add-result c = omega (arith, c .before .shared-slice-known3 .given (c .before .before .before .before .before .args .at + 1), c .before .shared-slice-known3 .given (c .before .before .before .before .before .args .at))
+add-result c =
+    omega (
+      arith,
+      c .before .shared-slice-known3 .given (c .before .before .before .before .before .args .at + 1),
+      c .before .shared-slice-known3 .given (c .before .before .before .before .before .args .at),
+    )
 
 returns : tie.Need-returns
 returns c = search needs

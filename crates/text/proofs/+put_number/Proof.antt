@@ -4,7 +4,7 @@ use native.Mathlib.Omega.{arith}
 use borrow.Author.Needs.{needs}
 use borrow.Fn.Kinds.{In}
 use borrow.Fn.PlainCycle.{Measures, is, falls, and}
-use Rattle.text.specs.Digits.{decimal-small, decimal-more}
+use Rattle.text.specs.laws.Digits.{decimal-small, decimal-more}
 use Rattle.text.specs.Buffer.{_▸_, of-text}
 use Rattle.text.proofs.put_number.Reads as put-number
 use Rattle.text.proofs.put_number.Kinds as put-number-kinds
@@ -62,7 +62,8 @@ put-number-returns : (t : ℕ) → put-number-lts.Need-returns (
   put-number-below t,
   put-number.Post,
 ) (put-number-at t) put-number.Post
-put-number-returns t c = of-text (sym (decimal-small _ (c .before .before .before .before .if1 .taken))) (c .before .before .put-byte .ensures)
+put-number-returns t c =
+    of-text (sym (decimal-small _ (c .before .before .before .before .if1 .taken))) (c .before .before .put-byte .ensures)
 
 put-number-put-number-requires : (t : ℕ) → put-number-lts.Need-put-number-requires (
   put-byte-reads.Asked,
@@ -102,7 +103,8 @@ put-number-same-length-2 : (t : ℕ) → put-number-lts.Need-same-length-2 (
   put-number-below t,
   put-number.Post,
 ) (put-number-at t) put-number.Post
-put-number-same-length-2 t c = c .before .before .put-byte2 .kept .0 ∙ c .before .before .before .before .before .before .put-number .kept .0
+put-number-same-length-2 t c =
+    c .before .before .put-byte2 .kept .0 ∙ c .before .before .before .before .before .before .put-number .kept .0
 
 put-number-returns-2 : (t : ℕ) → put-number-lts.Need-returns-2 (
   put-byte-reads.Asked,
@@ -111,7 +113,8 @@ put-number-returns-2 : (t : ℕ) → put-number-lts.Need-returns-2 (
   put-number.Post,
 ) (put-number-at t) put-number.Post
 put-number-returns-2 t c =
-    of-text (sym (decimal-more _ (c .before .before .before .before .before .before .before .before .if1 .left))) (c .before .before .before .before .before .before .put-number .ensures ▸ c .before .before .put-byte2 .ensures)
+    of-text (sym (decimal-more _ (c .before .before .before .before .before .before .before .before .if1 .left)))
+    (c .before .before .before .before .before .before .put-number .ensures ▸ c .before .before .put-byte2 .ensures)
 
 pub +put-number-spec : {M : Type 1} → statement M
 +put-number-spec = close μ-put-number λ t. put-number-lts.spec (

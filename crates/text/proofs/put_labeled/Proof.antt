@@ -13,7 +13,9 @@ same-length : tie.Need-same-length
 same-length c = search needs
 
 returns : tie.Need-returns
-returns c = c .before .before .before .before .before .before .put-text .ensures ▸ c .before .before .put-number .ensures
+returns c =
+    let at-put-text = c .before .before .before .before .before .before in
+    at-put-text .put-text .ensures ▸ c .before .before .put-number .ensures
 
 pub put-labeled-spec : {M : Type 1} → statement M
 put-labeled-spec = tie.close (tie.spec put-text-requires put-number-requires same-length returns)

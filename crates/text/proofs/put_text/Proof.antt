@@ -12,7 +12,8 @@ use Rattle.text.proofs.put_text.Tie as tie
 
 abbrev Inv-loop : tie.InvT-loop
 Inv-loop out₀ at text place₀ k₀ out place k =
-    (k ≤ length text) × ((length out ≡ length out₀) × ((q : Buffer) → Wrote (buffer out place) (drop k text) q → Wrote (buffer out₀ at) text q))
+    (k ≤ length text) × ((length out ≡ length out₀) × ((q : Buffer) → Wrote (buffer out place) (drop k text) q
+    → Wrote (buffer out₀ at) text q))
 
 abbrev μ-loop : tie.MeasureT-loop
 μ-loop out₀ at text place₀ k₀ out place k = length text - k
@@ -36,8 +37,14 @@ loop-again : tie.Need-loop-again Inv-loop μ-loop
 loop-again c =
     let l = c .before .before .before .before .before .before .loop in
     let text = c .before .before .before .before .before .before .before .before .before .args .text .now in
-    let next : drop (l .k) text ≡ getD text (l .k) 0 ∷ drop (l .k + 1) text = rw add-one (drop-cons text (l .k) 0 (omega arith)) in
-    (omega arith, (c .before .before .put-byte .kept .0 ∙ l .inv .1 .0, λ q w. l .inv .1 .1 q (of-text (sym next) (c .before .before .put-byte .ensures ▸ w))))
+    let next : drop (l .k) text ≡ getD text (l .k) 0 ∷ drop (l .k + 1) text = rw add-one (drop-cons text (l .k) 0 (omega arith)) in (
+      omega arith,
+      (
+        c .before .before .put-byte .kept .0
+            ∙ l .inv .1 .0,
+        λ q w. l .inv .1 .1 q (of-text (sym next) (c .before .before .put-byte .ensures ▸ w)),
+      ),
+    )
 
 same-length : tie.Need-same-length Inv-loop μ-loop
 same-length c = c .before .loop .inv .1 .0
@@ -45,7 +52,8 @@ same-length c = c .before .loop .inv .1 .0
 returns : tie.Need-returns Inv-loop μ-loop
 returns c =
     let l = c .before .loop in
-    l .inv .1 .1 _ (of-text (sym (drop-of-length-le (c .before .before .before .before .args .text .now) {i = l .k} (omega arith))) wrote-none)
+    l .inv .1 .1 _ (of-text (sym (drop-of-length-le (c .before .before .before .before .args .text .now) {i = l .k}
+    (omega arith))) wrote-none)
 
 pub put-text-spec : {M : Type 1} → statement M
 put-text-spec =

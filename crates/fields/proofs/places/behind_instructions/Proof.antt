@@ -5,7 +5,7 @@ use mathlib.Core.Path.{_≡_}
 use Prim.Native.Nat.{_≤_, _-_}
 use native.Mathlib.Omega.{arith}
 use Rattle.fields.specs.Words as words
-use Rattle.fields.specs.Turns.{instr-turn, instr-stop, all-left}
+use Rattle.fields.specs.laws.Turns.{instr-turn, instr-stop, all-left}
 
 abbrev Inv-loop : tie.InvT-loop
 Inv-loop w first i p₀ n₀ p n = (n ≤ i) × (p ≤ 65535) × (words.behind-instructions w (i - n) p ≡ words.behind-instructions w i first)
@@ -35,7 +35,12 @@ loop-less : tie.Need-loop-less Inv-loop μ-loop
 loop-less c = search needs
 
 loop-again : tie.Need-loop-again Inv-loop μ-loop
-loop-again c = (omega arith, search needs, rw (c .behind-values .ensures, c .before .place .ensures) (instr-turn _ _ _ _ _ (c .before .before .loop-test .taken) (c .before .before .before .loop .inv .2)))
+loop-again c = (
+  omega arith,
+  search needs,
+  rw (c .behind-values .ensures, c .before .place .ensures)
+      (instr-turn _ _ _ _ _ (c .before .before .loop-test .taken) (c .before .before .before .loop .inv .2)),
+)
 
 returns : tie.Need-returns Inv-loop μ-loop
 returns c = instr-stop _ _ _ _ _ (c .loop-test .left) (c .before .loop .inv .2)

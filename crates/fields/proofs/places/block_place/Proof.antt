@@ -3,7 +3,7 @@ use Rattle.fields.proofs.places.block_place.Statement.{statement}
 use Rattle.fields.proofs.places.block_place.Tie as tie
 use Rattle.fields.specs.Words as words
 use mathlib.Core.Path.{_∙_}
-use Rattle.fields.specs.Picks.{picked, passed-over, is-below, not-below}
+use Rattle.fields.specs.laws.Picks.{picked, passed-over, is-below, not-below}
 
 blocks-place-requires : tie.Need-blocks-place-requires
 blocks-place-requires c κs = search needs
@@ -22,7 +22,9 @@ indexed-requires c κs = search needs
 
 returns : tie.Need-returns
 unfolding words.block-place
-returns c = rw (← c .before .before .before .blocks-place .ensures) (c .indexed .ensures ∙ picked _ _ (is-below (c .before .if1 .taken) (c .before .before .word-at .ensures)))
+returns c =
+    rw (← c .before .before .before .blocks-place .ensures)
+    (c .indexed .ensures ∙ picked _ _ (is-below (c .before .if1 .taken) (c .before .before .word-at .ensures)))
 
 returns-2 : tie.Need-returns-2
 unfolding words.block-place

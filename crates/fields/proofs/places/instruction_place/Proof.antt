@@ -3,7 +3,7 @@ use Rattle.fields.proofs.places.instruction_place.Statement.{statement}
 use Rattle.fields.proofs.places.instruction_place.Tie as tie
 use mathlib.Core.Path.{_∙_, ap}
 use Rattle.fields.specs.Words as words
-use Rattle.fields.specs.Picks.{picked, passed-over, is-below, not-below}
+use Rattle.fields.specs.laws.Picks.{picked, passed-over, is-below, not-below}
 
 block-place-requires : tie.Need-block-place-requires
 block-place-requires c κs = search needs
@@ -28,7 +28,11 @@ behind-instructions-requires c κs = search needs
 
 returns : tie.Need-returns
 unfolding words.instruction-place
-returns c = rw (← c .before .before .before .before .block-place .ensures) (c .behind-instructions .ensures ∙ ap (words.behind-instructions _ _) (c .before .place .ensures) ∙ picked _ _ (is-below (c .before .before .if1 .taken) (c .before .before .before .word-at .ensures)))
+returns c =
+    let at-block-place = c .before .before .before .before in
+    rw (← at-block-place .block-place .ensures) (c .behind-instructions .ensures
+    ∙ ap (words.behind-instructions _ _) (c .before .place .ensures)
+    ∙ picked _ _ (is-below (c .before .before .if1 .taken) (c .before .before .before .word-at .ensures)))
 
 returns-2 : tie.Need-returns-2
 unfolding words.instruction-place

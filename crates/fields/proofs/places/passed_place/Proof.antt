@@ -3,7 +3,7 @@ use Rattle.fields.proofs.places.passed_place.Statement.{statement}
 use Rattle.fields.proofs.places.passed_place.Tie as tie
 use mathlib.Core.Path.{_∙_}
 use Rattle.fields.specs.Words as words
-use Rattle.fields.specs.Picks.{picked, passed-over, is-below, not-below}
+use Rattle.fields.specs.laws.Picks.{picked, passed-over, is-below, not-below}
 
 targets-place-requires : tie.Need-targets-place-requires
 targets-place-requires c κs = search needs
@@ -22,7 +22,11 @@ list-for-requires c κs = search needs
 
 returns : tie.Need-returns
 unfolding words.passed-place
-returns c = rw (← c .before .before .before .before .targets-place .ensures) (c .list-for .ensures ∙ rw (c .before .word-item .ensures) (picked _ _ (is-below (c .before .before .if1 .taken) (c .before .before .before .word-at .ensures))))
+returns c =
+    let at-targets-place = c .before .before .before .before in
+    rw (← at-targets-place .targets-place .ensures) (c .list-for .ensures
+    ∙ rw (c .before .word-item .ensures) (picked _ _ (is-below (c .before .before .if1 .taken)
+    (c .before .before .before .word-at .ensures))))
 
 returns-2 : tie.Need-returns-2
 unfolding words.passed-place

@@ -3,7 +3,7 @@ use Rattle.fields.proofs.places.values_place.Statement.{statement}
 use Rattle.fields.proofs.places.values_place.Tie as tie
 use mathlib.Core.Path.{_∙_}
 use Rattle.fields.specs.Words as words
-use Rattle.fields.specs.Picks.{picked, passed-over, is-equal, not-equal}
+use Rattle.fields.specs.laws.Picks.{picked, passed-over, is-equal, not-equal}
 
 indexed-requires : tie.Need-indexed-requires
 indexed-requires c κs = search needs
@@ -25,7 +25,9 @@ place-requires c κs = search needs
 
 returns : tie.Need-returns
 unfolding words.values-place
-returns c = rw (← c .before .before .before .indexed .ensures) (c .place .ensures ∙ picked _ _ (is-equal (c .before .if1 .taken) (c .before .before .word-at .ensures)))
+returns c =
+    rw (← c .before .before .before .indexed .ensures)
+    (c .place .ensures ∙ picked _ _ (is-equal (c .before .if1 .taken) (c .before .before .word-at .ensures)))
 
 add-place-2 : tie.Need-add-place-2
 add-place-2 c = search needs
@@ -35,7 +37,9 @@ place-requires-2 c κs = search needs
 
 returns-2 : tie.Need-returns-2
 unfolding words.values-place
-returns-2 c = rw (← c .before .before .before .indexed .ensures) (c .place2 .ensures ∙ passed-over _ _ (not-equal (c .before .if1 .left) (c .before .before .word-at .ensures)))
+returns-2 c =
+    rw (← c .before .before .before .indexed .ensures)
+    (c .place2 .ensures ∙ passed-over _ _ (not-equal (c .before .if1 .left) (c .before .before .word-at .ensures)))
 
 pub values-place-spec : {M : Type 1} → statement M
 values-place-spec =

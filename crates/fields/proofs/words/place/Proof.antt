@@ -3,7 +3,10 @@ use Rattle.fields.proofs.words.place.Statement.{statement}
 use Rattle.fields.proofs.words.place.Tie as tie
 use borrow.Author.Tests.{lt-ltb, le-ltb}
 use Rattle.fields.specs.Words.{placed}
-use Rattle.fields.specs.Picks.{picked, passed-over}
+use Rattle.fields.specs.laws.Picks.{picked, passed-over}
+
+cast-if1 : tie.Need-cast-if1
+cast-if1 c = search needs
 
 cast-result : tie.Need-cast-result
 cast-result c = search needs
@@ -17,4 +20,4 @@ unfolding placed
 returns-2 c = passed-over _ _ (le-ltb _ _ (c .if1 .left))
 
 pub place-spec : {M : Type 1} → statement M
-place-spec = tie.close (tie.spec cast-result returns returns-2)
+place-spec = tie.close (tie.spec cast-if1 cast-result returns returns-2)

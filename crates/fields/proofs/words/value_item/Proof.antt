@@ -3,7 +3,7 @@ use Rattle.fields.proofs.words.value_item.Statement.{statement}
 use Rattle.fields.proofs.words.value_item.Tie as tie
 use mathlib.Core.Path.{_∙_}
 use Rattle.fields.specs.Words.{value-item, value-at}
-use Rattle.fields.specs.Picks.{picked, passed-over, is-below, not-below}
+use Rattle.fields.specs.laws.Picks.{picked, passed-over, is-below, not-below}
 
 word-at-requires : tie.Need-word-at-requires
 word-at-requires c κs = search needs
@@ -37,7 +37,14 @@ value-of-requires c κs = search needs
 
 returns : tie.Need-returns
 unfolding value-item value-at
-returns c = c .value-of .ensures ∙ rw (c .before .word-at4 .ensures, c .before .before .word-at3 .ensures, c .before .before .before .word-at2 .ensures) (picked _ _ (is-below (c .before .before .before .before .if1 .taken) (c .before .before .before .before .before .word-at .ensures)))
+returns c =
+    let at-if1 = c .before .before .before .before in
+    let at-word-at = at-if1 .before in
+    c .value-of .ensures ∙ rw (
+      c .before .word-at4 .ensures,
+      c .before .before .word-at3 .ensures,
+      c .before .before .before .word-at2 .ensures,
+    ) (picked _ _ (is-below (at-if1 .if1 .taken) (at-word-at .word-at .ensures)))
 
 returns-2 : tie.Need-returns-2
 unfolding value-item

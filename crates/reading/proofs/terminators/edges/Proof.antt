@@ -2,8 +2,8 @@
 use mathlib.Core.Path.{refl}
 use native.Mathlib.Omega.{arith}
 use borrow.Author.Needs.{needs}
-use Rattle.reading.specs.TerminatorsForgotten.{edges-stop, edges-rest, targets-inside}
-use Rattle.reading.specs.AnswerSteps.{step-read, step-refused, refuse-step, give-rest}
+use Rattle.reading.specs.laws.TerminatorsForgotten.{edges-stop, edges-rest, targets-inside}
+use Rattle.reading.specs.laws.AnswerSteps.{step-read, step-refused, refuse-step, give-rest}
 use Rattle.reading.proofs.terminators.edges.Statement.{statement}
 use Rattle.reading.proofs.terminators.edges.Tie as tie
 
@@ -22,18 +22,31 @@ enum-known-e c = search needs
 distinct-requires : tie.Need-distinct-requires
 distinct-requires c κs = λ j l.
     let a = step-read _ _ _ refl (c .before .before .before .words .ensures) (c .before .e .given .1) in
-    omega (arith, targets-inside (c .before .before .before .before .before .before .args .n) (c .before .before .before .before .before .before .args .w .now) (c .before .before .before .before .before .before .args .c .end) (c .before .before .before .before .before .before .args .c .at) (a .is) j l .1, c .before .before .before .before .before .span-arg .given)
+    omega (
+      arith,
+      targets-inside (c .before .before .before .before .before .before .args .n)
+          (c .before .before .before .before .before .before .args .w .now)
+          (c .before .before .before .before .before .before .args .c .end)
+          (c .before .before .before .before .before .before .args .c .at) (a .is) j l .1,
+      c .before .before .before .before .before .span-arg .given,
+    )
 
 passes-requires : tie.Need-passes-requires
 passes-requires c κs = search needs
 
 returns : tie.Need-returns
-returns c = refuse-step _ _ _ (edges-stop _ (c .before .before .before .before .before .before .args .w .now) (c .before .before .before .before .before .before .args .c .end) _ (step-refused _ _ _ refl (c .before .before .before .words .ensures) (c .before .m .given .1)))
+returns c =
+    let start = c .before .before .before .before .before .before in
+    refuse-step _ _ _ (edges-stop _ (start .args .w .now) (start .args .c .end) _
+    (step-refused _ _ _ refl (c .before .before .before .words .ensures) (c .before .m .given .1)))
 
 returns-2 : tie.Need-returns-2
 returns-2 c =
-    let a = step-read _ _ _ refl (c .before .before .before .before .before .words .ensures) (c .before .before .before .e .given .1) in
-    give-rest _ _ _ _ _ (a .same) (c .passes .ensures) (edges-rest _ (c .before .before .before .before .before .before .before .before .args .w .now) (c .before .before .before .before .before .before .before .before .args .c .end) _ (c .before .distinct .ensures) (a .is))
+    let at-words = c .before .before .before .before .before in
+    let start = at-words .before .before .before in
+    let a = step-read _ _ _ refl (at-words .words .ensures) (c .before .before .before .e .given .1) in
+    give-rest _ _ _ _ _ (a .same) (c .passes .ensures)
+    (edges-rest _ (start .args .w .now) (start .args .c .end) _ (c .before .distinct .ensures) (a .is))
 
 pub edges-spec : {M : Type 1} → statement M
 edges-spec =

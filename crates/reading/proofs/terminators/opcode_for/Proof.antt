@@ -2,8 +2,8 @@
 use borrow.Author.Tests.{eq-eqb, ne-eqb}
 use mathlib.Core.Path.{refl}
 use borrow.Author.Needs.{needs}
-use Rattle.reading.specs.TerminatorsForgotten.{opcode-none, opcode-word}
-use Rattle.reading.specs.AnswerSteps.{give-step, give-rest}
+use Rattle.reading.specs.laws.TerminatorsForgotten.{opcode-none, opcode-word}
+use Rattle.reading.specs.laws.AnswerSteps.{give-step, give-rest}
 use Rattle.reading.proofs.terminators.opcode_for.Statement.{statement}
 use Rattle.reading.proofs.terminators.opcode_for.Tie as tie
 

@@ -1,8 +1,7 @@
 -- The count is refused, or so many are read.
-use mathlib.Core.Path.{refl}
 use borrow.Author.Needs.{needs}
-use Rattle.reading.specs.ValuesForgotten.{block-stop, block-rest}
-use Rattle.reading.specs.AnswerSteps.{word-read, word-refused, refuse-step, give-rest}
+use Rattle.format.specs.Read.{instruction, block}
+use Rattle.reading.specs.laws.Turns.{count-refused, count-read}
 use Rattle.reading.proofs.values.block.Statement.{statement}
 use Rattle.reading.proofs.values.block.Tie as tie
 
@@ -19,12 +18,14 @@ instructions-requires : tie.Need-instructions-requires
 instructions-requires c κs = search needs
 
 returns : tie.Need-returns
-returns c = refuse-step _ _ _ (block-stop _ _ (word-refused _ _ _ refl (c .before .before .before .within .ensures) (c .before .m .given .1)))
+unfolding block
+returns c = count-refused _ _ instruction _ _ (c .before .before .before .within .ensures) (c .before .m .given .1)
 
 returns-2 : tie.Need-returns-2
+unfolding block
 returns-2 c =
-    let a = word-read _ _ _ refl (c .before .before .before .before .within .ensures) (c .before .before .n .given .1) in
-    give-rest _ _ _ _ _ (a .same) (c .instructions .ensures) (block-rest _ _ (a .is))
+    let at-within = c .before .before .before .before in
+    count-read _ _ instruction _ _ (at-within .within .ensures) (c .before .before .n .given .1) (c .instructions .ensures)
 
 pub block-spec : {M : Type 1} → statement M
 block-spec =

@@ -1,8 +1,7 @@
 -- The count is refused, or so many are read.
-use mathlib.Core.Path.{refl}
 use borrow.Author.Needs.{needs}
-use Rattle.reading.specs.Forgotten.{counted-stop, counted-rest}
-use Rattle.reading.specs.AnswerSteps.{word-read, word-refused, refuse-step, give-rest}
+use Rattle.format.specs.Read.{read-value}
+use Rattle.reading.specs.laws.Turns.{count-refused, count-read}
 use Rattle.reading.proofs.values.counted_values.Statement.{statement}
 use Rattle.reading.proofs.values.counted_values.Tie as tie
 
@@ -19,12 +18,12 @@ values-requires : tie.Need-values-requires
 values-requires c κs = search needs
 
 returns : tie.Need-returns
-returns c = refuse-step _ _ _ (counted-stop _ _ _ _ _ (word-refused _ _ _ refl (c .before .before .before .within .ensures) (c .before .m .given .1)))
+returns c = count-refused _ _ read-value _ _ (c .before .before .before .within .ensures) (c .before .m .given .1)
 
 returns-2 : tie.Need-returns-2
 returns-2 c =
-    let a = word-read _ _ _ refl (c .before .before .before .before .within .ensures) (c .before .before .n .given .1) in
-    give-rest _ _ _ _ _ (a .same) (c .values .ensures) (counted-rest _ _ _ _ _ (a .is))
+    let at-within = c .before .before .before .before in
+    count-read _ _ read-value _ _ (at-within .within .ensures) (c .before .before .n .given .1) (c .values .ensures)
 
 pub counted-values-spec : {M : Type 1} → statement M
 counted-values-spec =

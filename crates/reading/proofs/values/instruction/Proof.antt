@@ -2,8 +2,8 @@
 use mathlib.Core.Path.{refl}
 use borrow.Author.Needs.{needs}
 use Rattle.format.specs.Read.{word}
-use Rattle.reading.specs.ValuesForgotten.{instruction-stop, instruction-type, instruction-cost, instruction-rest}
-use Rattle.reading.specs.AnswerSteps.{word-read, word-refused, refuse-step, give-rest}
+use Rattle.reading.specs.laws.ValuesForgotten.{instruction-stop, instruction-type, instruction-cost, instruction-rest}
+use Rattle.reading.specs.laws.AnswerSteps.{word-read, word-refused, refuse-step, give-rest}
 use Rattle.reading.proofs.values.instruction.Statement.{statement}
 use Rattle.reading.proofs.values.instruction.Tie as tie
 
@@ -38,24 +38,38 @@ counted-values-requires : tie.Need-counted-values-requires
 counted-values-requires c κs = search needs
 
 returns : tie.Need-returns
-returns c = refuse-step _ _ _ (instruction-stop _ _ (word-refused _ _ _ refl (c .before .before .before .word .ensures) (c .before .m .given .1)))
+returns c =
+    refuse-step _ _ _ (instruction-stop _ _ (word-refused _ _ _ refl (c .before .before .before .word .ensures) (c .before .m .given .1)))
 
 returns-2 : tie.Need-returns-2
 returns-2 c =
-    let a = word-read _ _ _ refl (c .before .before .before .before .before .before .before .word .ensures) (c .before .before .before .before .before .p .given .1) in
-    refuse-step _ _ _ (instruction-type _ _ (a .is) (word-refused _ _ _ (a .same) (c .before .before .before .within .ensures) (c .before .m2 .given .1)))
+    let at-p = c .before .before .before .before .before in
+    let at-word = at-p .before .before in
+    let a = word-read _ _ _ refl (at-word .word .ensures) (at-p .p .given .1) in
+    refuse-step _ _ _ (instruction-type _ _ (a .is) (word-refused _ _ _ (a .same) (c .before .before .before .within .ensures)
+    (c .before .m2 .given .1)))
 
 returns-3 : tie.Need-returns-3
 returns-3 c =
-    let a = word-read _ _ _ refl (c .before .before .before .before .before .before .before .before .before .before .before .word .ensures) (c .before .before .before .before .before .before .before .before .before .p .given .1) in
-    let b = word-read _ _ _ (a .same) (c .before .before .before .before .before .before .before .within .ensures) (c .before .before .before .before .before .q .given .1) in
-    refuse-step _ _ _ (instruction-cost _ _ (a .is) (b .is) (word-refused _ _ _ (b .same) (c .before .before .before .word2 .ensures) (c .before .m3 .given .1)))
+    let at-q = c .before .before .before .before .before in
+    let at-within = at-q .before .before in
+    let at-p = at-within .before .before in
+    let at-word = at-p .before .before in
+    let a = word-read _ _ _ refl (at-word .word .ensures) (at-p .p .given .1) in
+    let b = word-read _ _ _ (a .same) (at-within .within .ensures) (at-q .q .given .1) in
+    refuse-step _ _ _ (instruction-cost _ _ (a .is) (b .is)
+    (word-refused _ _ _ (b .same) (c .before .before .before .word2 .ensures) (c .before .m3 .given .1)))
 
 returns-4 : tie.Need-returns-4
 returns-4 c =
-    let a = word-read _ _ _ refl (c .before .before .before .before .before .before .before .before .before .before .before .before .word .ensures) (c .before .before .before .before .before .before .before .before .before .before .p .given .1) in
-    let b = word-read _ _ _ (a .same) (c .before .before .before .before .before .before .before .before .within .ensures) (c .before .before .before .before .before .before .q .given .1) in
-    let d = word-read _ _ _ (b .same) (c .before .before .before .before .word2 .ensures) (c .before .before .e .given .1) in
+    let at-word2 = c .before .before .before .before in
+    let at-q = at-word2 .before .before in
+    let at-within = at-q .before .before in
+    let at-p = at-within .before .before in
+    let at-word = at-p .before .before in
+    let a = word-read _ _ _ refl (at-word .word .ensures) (at-p .p .given .1) in
+    let b = word-read _ _ _ (a .same) (at-within .within .ensures) (at-q .q .given .1) in
+    let d = word-read _ _ _ (b .same) (at-word2 .word2 .ensures) (c .before .before .e .given .1) in
     give-rest _ _ _ _ _ (d .same) (c .counted-values .ensures) (instruction-rest _ _ (a .is) (b .is) (d .is))
 
 pub instruction-spec : {M : Type 1} → statement M

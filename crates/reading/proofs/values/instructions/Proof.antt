@@ -1,23 +1,20 @@
--- The loop follows `many`: `Going` says what is left to read, and from where.
-use mathlib.Core.Path.{_≡_, refl}
+-- The loop follows `many`: `Turn` says what is left to read, and from where.
 use Prim.Native.Nat.{_-_}
 use native.Mathlib.Omega.{arith}
-use lib.ListN.{take}
 use borrow.Author.Needs.{needs}
 use Rattle.format.specs.Read.{instruction}
-use Rattle.reading.specs.Forgotten.{Going, going-start, going-next, going-stop, going-end}
-use Rattle.reading.specs.AnswerSteps.{step-read, step-refused, refuse-step, give-step}
+use Rattle.reading.specs.laws.Turns.{Turn, turn-start, turn-end, turn-next, turn-stop}
 use Rattle.reading.proofs.values.instructions.Statement.{statement}
 use Rattle.reading.proofs.values.instructions.Tie as tie
 
 abbrev Inv-loop : tie.InvT-loop
-Inv-loop w n i₀ c₀ i c = Going instruction (take (c₀ .end) w) n (c₀ .at) i (c .at) × (c .end ≡ c₀ .end)
+Inv-loop w n i₀ c₀ i c = Turn instruction w c₀ n i c
 
 abbrev μ-loop : tie.MeasureT-loop
 μ-loop w n i₀ c₀ i c = n - i
 
 loop-holds : tie.Need-loop-holds Inv-loop μ-loop
-loop-holds c = (going-start, refl)
+loop-holds c = turn-start
 
 instruction-requires : tie.Need-instruction-requires Inv-loop μ-loop
 instruction-requires c κs = search needs
@@ -26,7 +23,9 @@ enum-known-m : tie.Need-enum-known-m Inv-loop μ-loop
 enum-known-m c = search needs
 
 returns : tie.Need-returns Inv-loop μ-loop
-returns c = refuse-step _ _ _ (going-stop (c .before .before .before .before .before .loop .inv .0) (c .before .before .before .before .loop-test .taken) (step-refused _ _ _ (c .before .before .before .before .before .loop .inv .1) (c .before .before .before .instruction .ensures) (c .before .m .given .1)))
+returns c =
+    let turn = c .before .before .before .before in
+    turn-stop (turn .before .loop .inv) (turn .loop-test .taken) (c .before .before .before .instruction .ensures) (c .before .m .given .1)
 
 enum-known-e : tie.Need-enum-known-e Inv-loop μ-loop
 enum-known-e c = search needs
@@ -39,11 +38,11 @@ loop-less c = omega arith
 
 loop-again : tie.Need-loop-again Inv-loop μ-loop
 loop-again c =
-    let a = step-read _ _ _ (c .before .before .before .before .before .loop .inv .1) (c .before .before .before .instruction .ensures) (c .before .e .given .1) in
-    (going-next (c .before .before .before .before .before .loop .inv .0) (c .before .before .before .before .loop-test .taken) (a .is), a .same)
+    let turn = c .before .before .before .before in
+    turn-next (turn .before .loop .inv) (turn .loop-test .taken) (c .before .before .before .instruction .ensures) (c .before .e .given .1)
 
 returns-2 : tie.Need-returns-2 Inv-loop μ-loop
-returns-2 c = give-step _ _ _ (c .before .loop .inv .1) (going-end (c .before .loop .inv .0) (c .loop-test .left))
+returns-2 c = turn-end (c .before .loop .inv) (c .loop-test .left)
 
 pub instructions-spec : {M : Type 1} → statement M
 instructions-spec =

@@ -1,6 +1,6 @@
 -- Kinds 0 to 2, 4 and 5.
 use native.Mathlib.Omega.{arith}
-use Rattle.reading.specs.ValuesForgotten.{kind-low, kind-four, kind-five}
+use Rattle.reading.specs.laws.ValuesForgotten.{kind-low, kind-four, kind-five}
 use Rattle.reading.proofs.values.is_kind.Statement.{statement}
 use Rattle.reading.proofs.values.is_kind.Tie as tie
 

@@ -1,24 +1,20 @@
--- The loop follows `many`: `Going` says what is left to read, and from where.
-use mathlib.Core.Path.{_≡_, refl, ap}
+-- The loop follows `many`: `Turn` says what is left to read, and from where.
 use Prim.Native.Nat.{_-_}
 use native.Mathlib.Omega.{arith}
-use lib.ListN.{take}
 use borrow.Author.Needs.{needs}
 use Rattle.format.specs.Read.{type}
-use Rattle.format.specs.Places.{forget-value}
-use Rattle.reading.specs.Forgotten.{Going, going-start, going-next, going-stop, going-end}
-use Rattle.reading.specs.AnswerSteps.{word-read, word-refused, refuse-step, give-step}
+use Rattle.reading.specs.laws.Turns.{Turn, turn-start, turn-end, word-next, word-stop}
 use Rattle.reading.proofs.words.types.Statement.{statement}
 use Rattle.reading.proofs.words.types.Tie as tie
 
 abbrev Inv-loop : tie.InvT-loop
-Inv-loop w n i₀ c₀ i c = Going type (take (c₀ .end) w) n (c₀ .at) i (c .at) × (c .end ≡ c₀ .end)
+Inv-loop w n i₀ c₀ i c = Turn type w c₀ n i c
 
 abbrev μ-loop : tie.MeasureT-loop
 μ-loop w n i₀ c₀ i c = n - i
 
 loop-holds : tie.Need-loop-holds Inv-loop μ-loop
-loop-holds c = (going-start, refl)
+loop-holds c = turn-start
 
 within-requires : tie.Need-within-requires Inv-loop μ-loop
 within-requires c κs = search needs
@@ -28,7 +24,9 @@ enum-known-m c = search needs
 
 returns : tie.Need-returns Inv-loop μ-loop
 unfolding type
-returns c = refuse-step _ _ _ (going-stop (c .before .before .before .before .before .loop .inv .0) (c .before .before .before .before .loop-test .taken) (ap forget-value (word-refused _ _ _ (c .before .before .before .before .before .loop .inv .1) (c .before .before .before .within .ensures) (c .before .m .given .1))))
+returns c =
+    let turn = c .before .before .before .before in
+    word-stop (turn .before .loop .inv) (turn .loop-test .taken) (c .before .before .before .within .ensures) (c .before .m .given .1)
 
 enum-known-e : tie.Need-enum-known-e Inv-loop μ-loop
 enum-known-e c = search needs
@@ -42,11 +40,11 @@ loop-less c = omega arith
 loop-again : tie.Need-loop-again Inv-loop μ-loop
 unfolding type
 loop-again c =
-    let a = word-read _ _ _ (c .before .before .before .before .before .loop .inv .1) (c .before .before .before .within .ensures) (c .before .e .given .1) in
-    (going-next (c .before .before .before .before .before .loop .inv .0) (c .before .before .before .before .loop-test .taken) (ap forget-value (a .is)), a .same)
+    let turn = c .before .before .before .before in
+    word-next (turn .before .loop .inv) (turn .loop-test .taken) (c .before .before .before .within .ensures) (c .before .e .given .1)
 
 returns-2 : tie.Need-returns-2 Inv-loop μ-loop
-returns-2 c = give-step _ _ _ (c .before .loop .inv .1) (going-end (c .before .loop .inv .0) (c .loop-test .left))
+returns-2 c = turn-end (c .before .loop .inv) (c .loop-test .left)
 
 pub types-spec : {M : Type 1} → statement M
 types-spec =

@@ -1,5 +1,6 @@
--- Three stores and the blocks are a row of 11 words.
-use Rattle.record.specs.IndexSteps.{store-row}
+-- Three stores and the blocks are a row of the index.
+use native.Mathlib.Omega.{arith}
+use Rattle.record.specs.laws.IndexSteps.{store-row}
 use borrow.Author.Needs.{needs}
 use Rattle.record.proofs.index.store.Statement.{statement}
 use Rattle.record.proofs.index.store.Tie as tie
@@ -13,14 +14,17 @@ mul-at c = search needs
 add-at : tie.Need-add-at
 add-at c = search needs
 
+add-w : tie.Need-add-w
+add-w c = search needs
+
 mul-w : tie.Need-mul-w
 mul-w c = search needs
 
 element-write-w : tie.Need-element-write-w
 element-write-w c = search needs
 
-add-w : tie.Need-add-w
-add-w c = search needs
+add-w-2 : tie.Need-add-w-2
+add-w-2 c = search needs
 
 mul-w-2 : tie.Need-mul-w-2
 mul-w-2 c = search needs
@@ -28,8 +32,8 @@ mul-w-2 c = search needs
 element-write-w-2 : tie.Need-element-write-w-2
 element-write-w-2 c = search needs
 
-add-w-2 : tie.Need-add-w-2
-add-w-2 c = search needs
+add-w-3 : tie.Need-add-w-3
+add-w-3 c = search needs
 
 mul-w-3 : tie.Need-mul-w-3
 mul-w-3 c = search needs
@@ -44,7 +48,9 @@ store-blocks-requires : tie.Need-store-blocks-requires
 store-blocks-requires c κs = search needs
 
 returns : tie.Need-returns
-returns c = store-row _ _ _ _ _ (c .before .before .before .before .before .before .pre) (c .before .before .before .before .span-arg2 .given .0) (c .store-blocks .ensures)
+returns c =
+    let start = c .before .before .before .before .before .before in
+    store-row _ _ _ _ _ (start .pre) (omega (arith, c .before .before .before .before .span-arg2 .given)) (c .store-blocks .ensures)
 
 pub store-spec : {M : Type 1} → statement M
 store-spec =
@@ -53,12 +59,13 @@ store-spec =
     span-requires
     mul-at
     add-at
+    add-w
     mul-w
     element-write-w
-    add-w
+    add-w-2
     mul-w-2
     element-write-w-2
-    add-w-2
+    add-w-3
     mul-w-3
     element-write-w-3
     add-store-blocks

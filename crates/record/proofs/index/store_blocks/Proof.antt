@@ -4,7 +4,8 @@ use native.Mathlib.Omega.{arith}
 use mathlib.Core.Path.{refl}
 use Prim.Native.Nat.{_≤_, _-_}
 use lib.ListN.{getD}
-use Rattle.record.specs.Row.{Row, row-none, row-next, row-end}
+use Rattle.record.specs.Index.{Row}
+use Rattle.record.specs.laws.Row.{row-none, row-next, row-end}
 use Rattle.record.proofs.index.store_blocks.Statement.{statement}
 use Rattle.record.proofs.index.store_blocks.Tie as tie
 

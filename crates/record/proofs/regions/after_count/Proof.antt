@@ -2,8 +2,8 @@
 use mathlib.Core.Path.{refl}
 use borrow.Author.Needs.{needs}
 use Rattle.format.specs.Read.{word}
-use Rattle.reading.specs.AnswerSteps.{word-read, word-refused, refuse-step, give-rest}
-use Rattle.record.specs.RegionsForgotten.{after-count-entry, after-count-test, after-count-rest}
+use Rattle.reading.specs.laws.AnswerSteps.{word-read, word-refused, refuse-step, give-rest}
+use Rattle.record.specs.laws.RegionsForgotten.{after-count-entry, after-count-test, after-count-rest}
 use Rattle.record.proofs.regions.after_count.Statement.{statement}
 use Rattle.record.proofs.regions.after_count.Tie as tie
 
@@ -29,17 +29,24 @@ counted-types-requires : tie.Need-counted-types-requires
 counted-types-requires c κs = search needs
 
 returns : tie.Need-returns
-returns c = refuse-step _ _ _ (after-count-entry _ _ (word-refused _ _ _ refl (c .before .before .before .word .ensures) (c .before .m .given .1)))
+returns c =
+    refuse-step _ _ _ (after-count-entry _ _ (word-refused _ _ _ refl (c .before .before .before .word .ensures) (c .before .m .given .1)))
 
 returns-2 : tie.Need-returns-2
 returns-2 c =
-    let a = word-read _ _ _ refl (c .before .before .before .before .before .before .before .word .ensures) (c .before .before .before .before .before .p .given .1) in
-    refuse-step _ _ _ (after-count-test _ _ (a .is) (word-refused _ _ _ (a .same) (c .before .before .before .word2 .ensures) (c .before .m2 .given .1)))
+    let at-p = c .before .before .before .before .before in
+    let at-word = at-p .before .before in
+    let a = word-read _ _ _ refl (at-word .word .ensures) (at-p .p .given .1) in
+    refuse-step _ _ _ (after-count-test _ _ (a .is) (word-refused _ _ _ (a .same) (c .before .before .before .word2 .ensures)
+    (c .before .m2 .given .1)))
 
 returns-3 : tie.Need-returns-3
 returns-3 c =
-    let a = word-read _ _ _ refl (c .before .before .before .before .before .before .before .before .word .ensures) (c .before .before .before .before .before .before .p .given .1) in
-    let b = word-read _ _ _ (a .same) (c .before .before .before .before .word2 .ensures) (c .before .before .e .given .1) in
+    let at-word2 = c .before .before .before .before in
+    let at-p = at-word2 .before .before in
+    let at-word = at-p .before .before in
+    let a = word-read _ _ _ refl (at-word .word .ensures) (at-p .p .given .1) in
+    let b = word-read _ _ _ (a .same) (at-word2 .word2 .ensures) (c .before .before .e .given .1) in
     give-rest _ _ _ _ _ (b .same) (c .counted-types .ensures) (after-count-rest _ _ (a .is) (b .is))
 
 pub after-count-spec : {M : Type 1} → statement M

@@ -4,10 +4,10 @@ use Prim.Native.Nat.{_-_}
 use native.Mathlib.Omega.{arith}
 use lib.ListN.{take}
 use borrow.Author.Needs.{needs}
-use Rattle.reading.specs.AnswerSteps.{step-read, step-refused}
-use Rattle.reading.specs.Forgotten.{taken-inside}
-use Rattle.record.specs.RegionsForgotten.{block-inside}
-use Rattle.record.specs.RegionSteps.{BlocksGoing, blocks-start, blocks-next, blocks-stop, blocks-end}
+use Rattle.reading.specs.laws.AnswerSteps.{step-read, step-refused}
+use Rattle.reading.specs.laws.Forgotten.{taken-inside}
+use Rattle.record.specs.laws.RegionsForgotten.{block-inside}
+use Rattle.record.specs.laws.RegionSteps.{BlocksGoing, blocks-start, blocks-next, blocks-stop, blocks-end}
 use Rattle.record.proofs.regions.blocks.Statement.{statement}
 use Rattle.record.proofs.regions.blocks.Tie as tie
 
@@ -30,15 +30,25 @@ enum-known-m : tie.Need-enum-known-m Inv-loop μ-loop
 enum-known-m c = search needs
 
 returns : tie.Need-returns Inv-loop μ-loop
-returns c = blocks-stop _ _ _ (c .before .before .before .before .before .loop .inv .0) (c .before .before .before .before .loop-test .taken) (step-refused _ _ _ (c .before .before .before .before .before .loop .inv .1) (c .before .before .before .block .ensures) (c .before .m .given .1))
+returns c =
+    let turn = c .before .before .before .before in
+    let at-loop = turn .before in
+    blocks-stop _ _ _ (at-loop .loop .inv .0) (turn .loop-test .taken)
+    (step-refused _ _ _ (at-loop .loop .inv .1) (c .before .before .before .block .ensures) (c .before .m .given .1))
 
 enum-known-e : tie.Need-enum-known-e Inv-loop μ-loop
 enum-known-e c = search needs
 
 cast-places : tie.Need-cast-places Inv-loop μ-loop
 cast-places c =
-    let a = step-read _ _ _ (c .before .before .before .before .before .before .loop .inv .1) (c .before .before .before .before .block .ensures) (c .before .before .e .given .1) in
-    omega (arith, taken-inside (c .before .before .before .before .before .before .before .before .before .args .w .now) (c .before .before .before .before .before .before .before .before .before .args .from .end) (block-inside _ _ (a .is)) .1, c .before .before .before .before .before .before .before .before .span-arg .given)
+    let a = step-read _ _ _ (c .before .before .before .before .before .before .loop .inv .1)
+    (c .before .before .before .before .block .ensures) (c .before .before .e .given .1) in
+    omega (
+      arith,
+      taken-inside (c .before .before .before .before .before .before .before .before .before .args .w .now)
+          (c .before .before .before .before .before .before .before .before .before .args .from .end) (block-inside _ _ (a .is)) .1,
+      c .before .before .before .before .before .before .before .before .span-arg .given,
+    )
 
 cast-places-2 : tie.Need-cast-places-2 Inv-loop μ-loop
 cast-places-2 c = search needs
@@ -57,8 +67,12 @@ loop-less c = omega arith
 
 loop-again : tie.Need-loop-again Inv-loop μ-loop
 loop-again c =
-    let a = step-read _ _ _ (c .before .before .before .before .before .before .loop .inv .1) (c .before .before .before .before .block .ensures) (c .before .before .e .given .1) in
-    (blocks-next _ _ _ (c .before .before .before .before .before .before .loop .inv .0) (c .before .before .before .before .before .loop-test .taken) (c .before .before .before .before .before .before .before .before .before .pre) (a .is), a .same)
+    let at-block = c .before .before .before .before in
+    let turn = at-block .before in
+    let at-loop = turn .before in
+    let start = at-loop .before .before .before in
+    let a = step-read _ _ _ (at-loop .loop .inv .1) (at-block .block .ensures) (c .before .before .e .given .1) in
+    (blocks-next _ _ _ (at-loop .loop .inv .0) (turn .loop-test .taken) (start .pre) (a .is), a .same)
 
 returns-2 : tie.Need-returns-2 Inv-loop μ-loop
 returns-2 c = blocks-end _ _ _ (c .before .loop .inv .0) (c .before .loop .inv .1) (c .loop-test .left)

@@ -1,9 +1,9 @@
 -- The count is refused, or so many are read.
 use mathlib.Core.Path.{refl}
 use borrow.Author.Needs.{needs}
-use Rattle.reading.specs.AnswerSteps.{word-read, word-refused}
-use Rattle.record.specs.Parts.{within-parts}
-use Rattle.record.specs.RegionSteps.{counted-blocks-stop, counted-blocks-rest}
+use Rattle.reading.specs.laws.AnswerSteps.{word-read, word-refused}
+use Rattle.record.specs.laws.Parts.{within-parts}
+use Rattle.record.specs.laws.RegionSteps.{counted-blocks-stop, counted-blocks-rest}
 use Rattle.record.proofs.regions.counted_blocks.Statement.{statement}
 use Rattle.record.proofs.regions.counted_blocks.Tie as tie
 
@@ -25,7 +25,9 @@ returns : tie.Need-returns
 returns c = counted-blocks-stop _ _ _ (word-refused _ _ _ refl (c .before .before .before .within .ensures) (c .before .m .given .1))
 
 returns-2 : tie.Need-returns-2
-returns-2 c = counted-blocks-rest _ _ _ (word-read _ _ _ refl (c .before .before .before .before .within .ensures) (c .before .before .n .given .1)) (c .blocks2 .ensures)
+returns-2 c =
+    let at-within = c .before .before .before .before in
+    counted-blocks-rest _ _ _ (word-read _ _ _ refl (at-within .within .ensures) (c .before .before .n .given .1)) (c .blocks2 .ensures)
 
 pub counted-blocks-spec : {M : Type 1} → statement M
 counted-blocks-spec =

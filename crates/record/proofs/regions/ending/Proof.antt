@@ -3,11 +3,11 @@ use mathlib.Core.Path.{refl}
 use native.Mathlib.Omega.{arith}
 use borrow.Author.Needs.{needs}
 use Rattle.format.specs.Read.{word}
-use Rattle.reading.specs.AnswerSteps.{word-read, word-refused, step-read, step-refused}
-use Rattle.reading.specs.Forgotten.{taken-inside}
-use Rattle.record.specs.Parts.{within-parts}
-use Rattle.record.specs.RegionsForgotten.{ending-limit, ending-terminator, ending-exits, counted-inside}
-use Rattle.record.specs.RegionSteps.{ending-stop, ending-whole}
+use Rattle.reading.specs.laws.AnswerSteps.{word-read, word-refused, step-read, step-refused}
+use Rattle.reading.specs.laws.Forgotten.{taken-inside}
+use Rattle.record.specs.laws.Parts.{within-parts}
+use Rattle.record.specs.laws.RegionsForgotten.{ending-limit, ending-terminator, ending-exits, counted-inside}
+use Rattle.record.specs.laws.RegionSteps.{ending-stop, ending-whole}
 use Rattle.record.proofs.regions.ending.Statement.{statement}
 use Rattle.record.proofs.regions.ending.Tie as tie
 
@@ -52,35 +52,75 @@ enum-known-e c = search needs
 
 cast-t20 : tie.Need-cast-t20
 cast-t20 c =
-    let a = word-read _ _ _ refl (c .before .before .before .before .before .before .before .before .before .before .before .before .within .ensures) (c .before .before .before .before .before .before .before .before .before .before .p .given .1) in
-    omega (arith, taken-inside (c .before .before .before .before .before .before .before .before .before .before .before .before .before .before .before .args .w .now) (c .before .before .before .before .before .before .before .before .before .before .before .before .before .before .before .args .c .end) (within-parts 1 65535 _ _ (a .is) .inside) .1, c .before .before .before .before .before .before .before .before .before .before .before .before .before .before .span-arg .given)
+    let at-p = c .before .before .before .before .before .before .before .before .before .before in
+    let at-within = at-p .before .before in
+    let at-span-arg = at-within .before .before in
+    let start = at-span-arg .before in
+    let a = word-read _ _ _ refl (at-within .within .ensures) (at-p .p .given .1) in
+    omega (
+      arith,
+      taken-inside
+          (start .args .w .now) (start .args .c .end) (within-parts 1 65535 _ _ (a .is) .inside) .1,
+      at-span-arg .span-arg .given,
+    )
 
 cast-t21 : tie.Need-cast-t21
 cast-t21 c =
-    let a = word-read _ _ _ refl (c .before .before .before .before .before .before .before .before .before .before .before .before .before .within .ensures) (c .before .before .before .before .before .before .before .before .before .before .before .p .given .1) in
-    let b = step-read _ _ _ (a .same) (c .before .before .before .before .before .before .before .before .before .terminator .ensures) (c .before .before .before .before .before .before .before .q .given .1) in
-    let d = step-read _ _ _ (b .same) (c .before .before .before .before .before .counted-words .ensures) (c .before .before .before .e .given .1) in
-    omega (arith, taken-inside (c .before .before .before .before .before .before .before .before .before .before .before .before .before .before .before .before .args .w .now) (c .before .before .before .before .before .before .before .before .before .before .before .before .before .before .before .before .args .c .end) (counted-inside _ _ 0 32 word (d .is)) .1, c .before .before .before .before .before .before .before .before .before .before .before .before .before .before .before .span-arg .given)
+    let at-counted-words = c .before .before .before .before .before in
+    let at-q = at-counted-words .before .before in
+    let at-terminator = at-q .before .before in
+    let at-p = at-terminator .before .before in
+    let at-within = at-p .before .before in
+    let at-span-arg = at-within .before .before in
+    let start = at-span-arg .before in
+    let a = word-read _ _ _ refl (at-within .within .ensures) (at-p .p .given .1) in
+    let b = step-read _ _ _ (a .same) (at-terminator .terminator .ensures) (at-q .q .given .1) in
+    let d = step-read _ _ _ (b .same) (at-counted-words .counted-words .ensures) (c .before .before .before .e .given .1) in
+    omega (
+      arith,
+      taken-inside
+          (start .args .w .now) (start .args .c .end) (counted-inside _ _ 0 32 word (d .is)) .1,
+      at-span-arg .span-arg .given,
+    )
 
 returns : tie.Need-returns
-returns c = ending-stop _ _ _ _ (c .no-region .ensures) (ending-limit _ _ (word-refused _ _ _ refl (c .before .before .before .before .within .ensures) (c .before .before .m .given .1)))
+returns c =
+    let at-within = c .before .before .before .before in
+    ending-stop _ _ _ _ (c .no-region .ensures) (ending-limit _ _
+    (word-refused _ _ _ refl (at-within .within .ensures) (c .before .before .m .given .1)))
 
 returns-2 : tie.Need-returns-2
 returns-2 c =
-    let a = word-read _ _ _ refl (c .before .before .before .before .before .before .before .before .within .ensures) (c .before .before .before .before .before .before .p .given .1) in
-    ending-stop _ _ _ _ (c .no-region2 .ensures) (ending-terminator _ _ (a .is) (step-refused _ _ _ (a .same) (c .before .before .before .before .terminator .ensures) (c .before .before .m2 .given .1)))
+    let at-terminator = c .before .before .before .before in
+    let at-p = at-terminator .before .before in
+    let at-within = at-p .before .before in
+    let a = word-read _ _ _ refl (at-within .within .ensures) (at-p .p .given .1) in
+    ending-stop _ _ _ _ (c .no-region2 .ensures) (ending-terminator _ _ (a .is)
+    (step-refused _ _ _ (a .same) (at-terminator .terminator .ensures) (c .before .before .m2 .given .1)))
 
 returns-3 : tie.Need-returns-3
 returns-3 c =
-    let a = word-read _ _ _ refl (c .before .before .before .before .before .before .before .before .before .before .before .before .within .ensures) (c .before .before .before .before .before .before .before .before .before .before .p .given .1) in
-    let b = step-read _ _ _ (a .same) (c .before .before .before .before .before .before .before .before .terminator .ensures) (c .before .before .before .before .before .before .q .given .1) in
-    ending-stop _ _ _ _ (c .no-region3 .ensures) (ending-exits _ _ (a .is) (b .is) (step-refused _ _ _ (b .same) (c .before .before .before .before .counted-words .ensures) (c .before .before .m3 .given .1)))
+    let at-counted-words = c .before .before .before .before in
+    let at-q = at-counted-words .before .before in
+    let at-terminator = at-q .before .before in
+    let at-p = at-terminator .before .before in
+    let at-within = at-p .before .before in
+    let a = word-read _ _ _ refl (at-within .within .ensures) (at-p .p .given .1) in
+    let b = step-read _ _ _ (a .same) (at-terminator .terminator .ensures) (at-q .q .given .1) in
+    ending-stop _ _ _ _ (c .no-region3 .ensures) (ending-exits _ _ (a .is) (b .is)
+    (step-refused _ _ _ (b .same) (at-counted-words .counted-words .ensures) (c .before .before .m3 .given .1)))
 
 returns-4 : tie.Need-returns-4
 returns-4 c =
-    let a = word-read _ _ _ refl (c .before .before .before .before .before .before .before .before .before .before .before .before .before .within .ensures) (c .before .before .before .before .before .before .before .before .before .before .before .p .given .1) in
-    let b = step-read _ _ _ (a .same) (c .before .before .before .before .before .before .before .before .before .terminator .ensures) (c .before .before .before .before .before .before .before .q .given .1) in
-    ending-whole _ _ _ a b (step-read _ _ _ (b .same) (c .before .before .before .before .before .counted-words .ensures) (c .before .before .before .e .given .1))
+    let at-before = c .before .before .before .before in
+    let at-counted-words = at-before .before in
+    let at-q = at-counted-words .before .before in
+    let at-terminator = at-q .before .before in
+    let at-p = at-terminator .before .before in
+    let at-within = at-p .before .before in
+    let a = word-read _ _ _ refl (at-within .within .ensures) (at-p .p .given .1) in
+    let b = step-read _ _ _ (a .same) (at-terminator .terminator .ensures) (at-q .q .given .1) in
+    ending-whole _ _ _ a b (step-read _ _ _ (b .same) (at-counted-words .counted-words .ensures) (c .before .before .before .e .given .1))
 
 pub ending-spec : {M : Type 1} → statement M
 ending-spec =

@@ -1,9 +1,9 @@
 -- Each answer is a path through the reader `region`.
 use mathlib.Core.Path.{refl}
 use borrow.Author.Needs.{needs}
-use Rattle.reading.specs.AnswerSteps.{step-read, step-refused}
-use Rattle.record.specs.RegionsForgotten.{region-inputs, region-blocks}
-use Rattle.record.specs.RegionSteps.{region-stop, region-whole}
+use Rattle.reading.specs.laws.AnswerSteps.{step-read, step-refused}
+use Rattle.record.specs.laws.RegionsForgotten.{region-inputs, region-blocks}
+use Rattle.record.specs.laws.RegionSteps.{region-stop, region-whole}
 use Rattle.record.proofs.regions.region.Statement.{statement}
 use Rattle.record.proofs.regions.region.Tie as tie
 
@@ -35,17 +35,28 @@ ending-requires : tie.Need-ending-requires
 ending-requires c κs = search needs
 
 returns : tie.Need-returns
-returns c = region-stop _ _ _ (c .no-region .ensures) (region-inputs _ _ (step-refused _ _ _ refl (c .before .before .before .before .counted-types .ensures) (c .before .before .m .given .1)))
+returns c =
+    let at-counted-types = c .before .before .before .before in
+    region-stop _ _ _ (c .no-region .ensures) (region-inputs _ _
+    (step-refused _ _ _ refl (at-counted-types .counted-types .ensures) (c .before .before .m .given .1)))
 
 returns-2 : tie.Need-returns-2
 returns-2 c =
-    let a = step-read _ _ _ refl (c .before .before .before .before .before .before .before .before .before .counted-types .ensures) (c .before .before .before .before .before .before .before .p .given .1) in
-    region-stop _ _ _ (c .no-region2 .ensures) (region-blocks _ _ (a .is) (step-refused _ _ _ (a .same) (c .before .before .before .before .before .counted-blocks .ensures .step) (c .before .before .step .given .1)))
+    let at-counted-blocks = c .before .before .before .before .before in
+    let at-p = at-counted-blocks .before .before in
+    let at-counted-types = at-p .before .before in
+    let a = step-read _ _ _ refl (at-counted-types .counted-types .ensures) (at-p .p .given .1) in
+    region-stop _ _ _ (c .no-region2 .ensures) (region-blocks _ _ (a .is)
+    (step-refused _ _ _ (a .same) (at-counted-blocks .counted-blocks .ensures .step) (c .before .before .step .given .1)))
 
 returns-3 : tie.Need-returns-3
 returns-3 c =
-    let a = step-read _ _ _ refl (c .before .before .before .before .before .before .before .before .before .counted-types .ensures) (c .before .before .before .before .before .before .before .p .given .1) in
-    region-whole _ _ (c .before .before .before .before .before .counted-blocks .result) _ a (c .before .before .before .before .before .counted-blocks .ensures) (c .before .before .step2 .given .1) (c .ending .ensures)
+    let at-counted-blocks = c .before .before .before .before .before in
+    let at-p = at-counted-blocks .before .before in
+    let at-counted-types = at-p .before .before in
+    let a = step-read _ _ _ refl (at-counted-types .counted-types .ensures) (at-p .p .given .1) in
+    region-whole _ _ (at-counted-blocks .counted-blocks .result) _ a (at-counted-blocks .counted-blocks .ensures)
+    (c .before .before .step2 .given .1) (c .ending .ensures)
 
 pub region-spec : {M : Type 1} → statement M
 region-spec =

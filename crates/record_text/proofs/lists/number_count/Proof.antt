@@ -1,7 +1,8 @@
 use mathlib.Core.Path.{sym, ap, _∙_}
 use lib.ListN.{length}
 use borrow.Author.Needs.{needs}
-use Rattle.record_text.specs.Parts.{numbers-of, target-count}
+use Rattle.record_text.specs.Parts.{numbers-of}
+use Rattle.record_text.specs.laws.Lists.{target-count}
 use Rattle.record_text.proofs.lists.number_count.Statement.{statement}
 use Rattle.record_text.proofs.lists.number_count.Tie as tie
 
@@ -36,7 +37,8 @@ returns-2 : tie.Need-returns-2
 returns-2 c = λ g s. c .input-count .ensures g s ∙ ap (λ l. length (numbers-of g l)) (sym (c .before .before .l .given .1))
 
 returns-3 : tie.Need-returns-3
-returns-3 c = λ g s. c .target-count .ensures g s ∙ target-count g _ ∙ ap (λ l. length (numbers-of g l)) (sym (c .before .before .l2 .given .1))
+returns-3 c =
+    λ g s. c .target-count .ensures g s ∙ target-count g _ ∙ ap (λ l. length (numbers-of g l)) (sym (c .before .before .l2 .given .1))
 
 returns-4 : tie.Need-returns-4
 returns-4 c = λ g s. c .exit-count .ensures g s ∙ ap (λ l. length (numbers-of g l)) (sym (c .before .before .l3 .given .1))

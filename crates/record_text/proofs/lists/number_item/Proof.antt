@@ -1,7 +1,8 @@
 use mathlib.Core.Path.{sym, ap, _∙_}
 use lib.ListN.{getD}
 use borrow.Author.Needs.{needs}
-use Rattle.record_text.specs.Parts.{numbers-of, target-item}
+use Rattle.record_text.specs.Parts.{numbers-of}
+use Rattle.record_text.specs.laws.Lists.{target-item}
 use Rattle.record_text.proofs.lists.number_item.Statement.{statement}
 use Rattle.record_text.proofs.lists.number_item.Tie as tie
 
@@ -30,16 +31,25 @@ exit-target-requires : tie.Need-exit-target-requires
 exit-target-requires c κs = search needs
 
 returns : tie.Need-returns
-returns c = λ g s. c .constant-type .ensures g s ∙ ap (λ l. getD (numbers-of g l) (c .before .before .before .args .k) 0) (sym (c .before .enum-told .given .1))
+returns c =
+    λ g s. c .constant-type .ensures g s ∙ ap (λ l. getD (numbers-of g l) (c .before .before .before .args .k) 0)
+    (sym (c .before .enum-told .given .1))
 
 returns-2 : tie.Need-returns-2
-returns-2 c = λ g s. c .input-type .ensures g s ∙ ap (λ l. getD (numbers-of g l) (c .before .before .before .before .args .k) 0) (sym (c .before .before .l .given .1))
+returns-2 c =
+    let start = c .before .before .before .before in
+    λ g s. c .input-type .ensures g s ∙ ap (λ l. getD (numbers-of g l) (start .args .k) 0) (sym (c .before .before .l .given .1))
 
 returns-3 : tie.Need-returns-3
-returns-3 c = λ g s. c .target .ensures g s ∙ target-item g _ _ ∙ ap (λ l. getD (numbers-of g l) (c .before .before .before .before .args .k) 0) (sym (c .before .before .l2 .given .1))
+returns-3 c =
+    let start = c .before .before .before .before in
+    λ g s. c .target .ensures g s ∙ target-item g _ _ ∙ ap (λ l. getD (numbers-of g l) (start .args .k) 0)
+    (sym (c .before .before .l2 .given .1))
 
 returns-4 : tie.Need-returns-4
-returns-4 c = λ g s. c .exit-target .ensures g s ∙ ap (λ l. getD (numbers-of g l) (c .before .before .before .before .args .k) 0) (sym (c .before .before .l3 .given .1))
+returns-4 c =
+    let start = c .before .before .before .before in
+    λ g s. c .exit-target .ensures g s ∙ ap (λ l. getD (numbers-of g l) (start .args .k) 0) (sym (c .before .before .l3 .given .1))
 
 pub number-item-spec : {M : Type 1} → statement M
 number-item-spec =

@@ -18,7 +18,9 @@ same-length c = search needs
 
 returns : tie.Need-returns
 unfolding dotted-text
-returns c = c .before .before .before .before .before .before .before .put-number .ensures ▸ c .before .before .put-labeled .ensures
+returns c =
+    let at-put-number = c .before .before .before .before .before .before .before in
+    at-put-number .put-number .ensures ▸ c .before .before .put-labeled .ensures
 
 pub put-dotted-spec : {M : Type 1} → statement M
 put-dotted-spec =

@@ -13,7 +13,9 @@ same-length : tie.Need-same-length
 same-length c = search needs
 
 returns : tie.Need-returns
-returns c = c .before .before .before .before .before .before .put-byte .ensures ▸ c .before .before .put-dotted .ensures
+returns c =
+    let at-put-byte = c .before .before .before .before .before .before in
+    at-put-byte .put-byte .ensures ▸ c .before .before .put-dotted .ensures
 
 pub put-held-spec : {M : Type 1} → statement M
 put-held-spec = tie.close (tie.spec put-byte-requires put-dotted-requires same-length returns)

@@ -45,7 +45,11 @@ same-length c = search needs
 
 returns : tie.Need-returns
 unfolding value-text labeled
-returns c = of-text (sym (ap (λ v. value-text (value-is v)) (c .before .before .before .before .before .before .before .v4 .given .1) ∙ rw (c .before .before .before .before .before .if1 .taken) refl)) (c .before .before .put-text .ensures)
+returns c =
+    let at-if1 = c .before .before .before .before .before in
+    let at-v4 = at-if1 .before .before in
+    of-text (sym (ap (λ v. value-text (value-is v)) (at-v4 .v4 .given .1) ∙ rw (at-if1 .if1 .taken) refl))
+    (c .before .before .put-text .ensures)
 
 slice-aggregate-put-text-2 : tie.Need-slice-aggregate-put-text-2
 slice-aggregate-put-text-2 c = search needs
@@ -79,42 +83,56 @@ same-length-2 c = search needs
 
 returns-2 : tie.Need-returns-2
 unfolding value-text labeled
-returns-2 c = of-text (sym (ap (λ v. value-text (value-is v)) (c .before .before .before .before .before .before .v .given .1))) (c .before .before .put-labeled .ensures)
+returns-2 c =
+    let at-v = c .before .before .before .before .before .before in
+    of-text (sym (ap (λ v. value-text (value-is v)) (at-v .v .given .1))) (c .before .before .put-labeled .ensures)
 
 same-length-3 : tie.Need-same-length-3
 same-length-3 c = search needs
 
 returns-3 : tie.Need-returns-3
 unfolding value-text
-returns-3 c = of-text (sym (ap (λ v. value-text (value-is v)) (c .before .before .before .before .before .v2 .given .1))) (c .before .before .put-held .ensures)
+returns-3 c =
+    let at-v2 = c .before .before .before .before .before in
+    of-text (sym (ap (λ v. value-text (value-is v)) (at-v2 .v2 .given .1))) (c .before .before .put-held .ensures)
 
 same-length-4 : tie.Need-same-length-4
 same-length-4 c = search needs
 
 returns-4 : tie.Need-returns-4
 unfolding value-text
-returns-4 c = of-text (sym (ap (λ v. value-text (value-is v)) (c .before .before .before .before .before .v3 .given .1))) (c .before .before .put-held2 .ensures)
+returns-4 c =
+    let at-v3 = c .before .before .before .before .before in
+    of-text (sym (ap (λ v. value-text (value-is v)) (at-v3 .v3 .given .1))) (c .before .before .put-held2 .ensures)
 
 same-length-5 : tie.Need-same-length-5
 same-length-5 c = search needs
 
 returns-5 : tie.Need-returns-5
 unfolding value-text
-returns-5 c = of-text (sym (ap (λ v. value-text (value-is v)) (c .before .before .before .before .before .before .before .v4 .given .1) ∙ rw (c .before .before .before .before .before .if1 .left) refl)) (c .before .before .put-text2 .ensures)
+returns-5 c =
+    let at-if1 = c .before .before .before .before .before in
+    let at-v4 = at-if1 .before .before in
+    of-text (sym (ap (λ v. value-text (value-is v)) (at-v4 .v4 .given .1) ∙ rw (at-if1 .if1 .left) refl))
+    (c .before .before .put-text2 .ensures)
 
 same-length-6 : tie.Need-same-length-6
 same-length-6 c = search needs
 
 returns-6 : tie.Need-returns-6
 unfolding value-text labeled
-returns-6 c = of-text (sym (ap (λ v. value-text (value-is v)) (c .before .before .before .before .before .before .v5 .given .1))) (c .before .before .put-labeled2 .ensures)
+returns-6 c =
+    let at-v5 = c .before .before .before .before .before .before in
+    of-text (sym (ap (λ v. value-text (value-is v)) (at-v5 .v5 .given .1))) (c .before .before .put-labeled2 .ensures)
 
 same-length-7 : tie.Need-same-length-7
 same-length-7 c = search needs
 
 returns-7 : tie.Need-returns-7
 unfolding value-text labeled
-returns-7 c = of-text (sym (ap (λ v. value-text (value-is v)) (c .before .before .before .before .before .enum-told .given .1))) (c .before .before .put-labeled3 .ensures)
+returns-7 c =
+    let at-enum-told = c .before .before .before .before .before in
+    of-text (sym (ap (λ v. value-text (value-is v)) (at-enum-told .enum-told .given .1))) (c .before .before .put-labeled3 .ensures)
 
 pub put-value-spec : {M : Type 1} → statement M
 put-value-spec =

@@ -3,9 +3,9 @@ use Prim.Native.Nat.{_≤_, _-_}
 use native.Mathlib.Omega.{arith}
 use lib.ListN.{length, drop}
 use borrow.Author.Needs.{needs}
-use Rattle.meaning.specs.Graph.{Graph, no-value}
-use Rattle.record.specs.Stands.{Stands}
-use Rattle.text.specs.Lists.{other, wrote-empty, wrote-listed, wrote-next, wrote-all}
+use Rattle.meaning.specs.Graph.{no-value}
+use Rattle.record.specs.Stands.{OfRecord}
+use Rattle.text.specs.laws.Lists.{other, wrote-empty, wrote-listed, wrote-next, wrote-all}
 use Rattle.text.specs.Buffer.{Buffer, buffer, Wrote, _▸_, of-text}
 use Rattle.text.specs.Text.{text-of-each}
 use Rattle.record_text.specs.Parts.{list-of}
@@ -15,7 +15,9 @@ use Rattle.record_text.proofs.lists.put_values.Tie as tie
 
 abbrev Inv-loop : tie.InvT-loop
 Inv-loop w out₀ at l n place₀ k₀ out place k =
-    (k ≤ n) × ((length out ≡ length out₀) × ((g : Graph) → Stands w g → (q : Buffer) → Wrote (buffer out place) (text-of-each (other value-text) (drop k (list-of g l))) q → Wrote (buffer out₀ place₀) (text-of-each (other value-text) (drop 1 (list-of g l))) q))
+    (k ≤ n) × ((length out ≡ length out₀) × OfRecord w (λ g. (q : Buffer)
+    → Wrote (buffer out place) (text-of-each (other value-text) (drop k (list-of g l))) q
+    → Wrote (buffer out₀ place₀) (text-of-each (other value-text) (drop 1 (list-of g l))) q))
 
 abbrev μ-loop : tie.MeasureT-loop
 μ-loop w out₀ at l n place₀ k₀ out place k = n - k
@@ -31,7 +33,12 @@ same-length c = c .before .before .put-byte .kept .0
 
 returns : tie.Need-returns Inv-loop μ-loop
 unfolding values-text
-returns c = λ g s. wrote-empty value-text (list-of g (c .before .before .before .before .before .before .before .args .l)) (sym (c .before .before .before .before .before .value-count .ensures g s) ∙ c .before .before .before .before .if1 .taken) (c .before .before .put-byte .ensures)
+returns c =
+    let at-if1 = c .before .before .before .before in
+    let at-value-count = at-if1 .before in
+    let start = at-value-count .before .before in
+    λ g s. wrote-empty value-text (list-of g (start .args .l)) (sym (at-value-count .value-count .ensures g s) ∙ at-if1 .if1 .taken)
+    (c .before .before .put-byte .ensures)
 
 value-item-requires : tie.Need-value-item-requires Inv-loop μ-loop
 value-item-requires c κs = search needs
@@ -58,29 +65,45 @@ loop-less : tie.Need-loop-less Inv-loop μ-loop
 loop-less c = omega arith
 
 loop-again : tie.Need-loop-again Inv-loop μ-loop
-loop-again c = (
-  omega arith,
-  (
-    c .before .before .put-value2 .kept .0 ∙ c .before .before .before .before .before .before .before .put-byte2 .kept .0 ∙ c .before .before .before .before .before .before .before .before .before .before .loop .inv .1 .0,
-    λ g s q w.
-        let xs = list-of g (c .before .before .before .before .before .before .before .before .before .before .before .before .before .before .before .before .before .before .before .args .l) in
-        c .before .before .before .before .before .before .before .before .before .before .loop .inv .1 .1 g s q
-        (wrote-next (other value-text) no-value xs (c .before .before .before .before .before .before .before .before .before .before .loop .k) (omega (arith, c .before .before .before .before .before .before .before .before .before .before .before .before .before .before .before .before .before .value-count .ensures g s))
-        (c .before .before .before .before .before .before .before .put-byte2 .ensures ▸ of-text (ap value-text (c .before .before .before .value-item2 .ensures g s)) (c .before .before .put-value2 .ensures))
-        w),
-  ),
-)
+loop-again c =
+    let at-put-byte2 = c .before .before .before .before .before .before .before in
+    let at-loop = at-put-byte2 .before .before .before in
+    let at-value-count = at-loop .before .before .before .before .before .before .before in
+    let start = at-value-count .before .before in (
+      omega arith,
+      (
+        c .before .before .put-value2 .kept .0 ∙ at-put-byte2 .put-byte2 .kept .0
+            ∙ at-loop .loop .inv .1 .0,
+        λ g s q w.
+            let xs = list-of g (start .args .l) in
+            at-loop .loop .inv .1 .1 g s q
+            (wrote-next (other value-text) no-value xs
+            (at-loop .loop .k)
+            (omega (arith, at-value-count .value-count .ensures g s))
+            (at-put-byte2 .put-byte2 .ensures ▸ of-text
+            (ap value-text (c .before .before .before .value-item2 .ensures g s)) (c .before .before .put-value2 .ensures))
+            w),
+      ),
+    )
 
 same-length-2 : tie.Need-same-length-2 Inv-loop μ-loop
-same-length-2 c = c .before .loop .inv .1 .0 ∙ c .before .before .before .before .put-value .kept .0
+same-length-2 c =
+    let at-put-value = c .before .before .before .before in
+    c .before .loop .inv .1 .0 ∙ at-put-value .put-value .kept .0
 
 returns-2 : tie.Need-returns-2 Inv-loop μ-loop
 unfolding values-text
-returns-2 c = λ g s.
-    let xs = list-of g (c .before .before .before .before .before .before .before .before .before .before .args .l) in
-    let size = c .before .before .before .before .before .before .before .before .value-count .ensures g s in
+returns-2 c =
+    let at-put-value = c .before .before .before .before in
+    let at-value-item = at-put-value .before in
+    let at-value-count = at-value-item .before .before .before in
+    let start = at-value-count .before .before in
+    λ g s.
+    let xs = list-of g (start .args .l) in
+    let size = at-value-count .value-count .ensures g s in
     wrote-listed value-text no-value xs (omega arith)
-    (of-text (ap value-text (c .before .before .before .before .before .value-item .ensures g s)) (c .before .before .before .before .put-value .ensures))
+    (of-text (ap value-text (at-value-item .value-item .ensures g s))
+    (at-put-value .put-value .ensures))
     (c .before .loop .inv .1 .1 g s _ (wrote-all (other value-text) xs (c .before .loop .k) (omega arith)))
 
 pub put-values-spec : {M : Type 1} → statement M

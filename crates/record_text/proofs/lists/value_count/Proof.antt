@@ -27,7 +27,8 @@ returns : tie.Need-returns
 returns c = λ g s. c .value-count .ensures g s ∙ ap (λ l. length (list-of g l)) (sym (c .before .before .l .given .1))
 
 returns-2 : tie.Need-returns-2
-returns-2 c = λ g s. ap (λ x. x .reads) (c .instruction .ensures g s) ∙ ap (λ l. length (list-of g l)) (sym (c .before .before .l2 .given .1))
+returns-2 c =
+    λ g s. ap (λ x. x .reads) (c .instruction .ensures g s) ∙ ap (λ l. length (list-of g l)) (sym (c .before .before .l2 .given .1))
 
 returns-3 : tie.Need-returns-3
 returns-3 c = λ g s. c .passed-count .ensures g s ∙ ap (λ l. length (list-of g l)) (sym (c .before .before .l3 .given .1))

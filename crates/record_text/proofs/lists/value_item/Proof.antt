@@ -25,13 +25,19 @@ passed-requires : tie.Need-passed-requires
 passed-requires c κs = search needs
 
 returns : tie.Need-returns
-returns c = λ g s. c .value .ensures g s ∙ ap (λ l. getD (list-of g l) (c .before .before .before .before .args .k) no-value) (sym (c .before .before .l .given .1))
+returns c =
+    let start = c .before .before .before .before in
+    λ g s. c .value .ensures g s ∙ ap (λ l. getD (list-of g l) (start .args .k) no-value) (sym (c .before .before .l .given .1))
 
 returns-2 : tie.Need-returns-2
-returns-2 c = λ g s. c .read .ensures g s ∙ ap (λ l. getD (list-of g l) (c .before .before .before .before .args .k) no-value) (sym (c .before .before .l2 .given .1))
+returns-2 c =
+    let start = c .before .before .before .before in
+    λ g s. c .read .ensures g s ∙ ap (λ l. getD (list-of g l) (start .args .k) no-value) (sym (c .before .before .l2 .given .1))
 
 returns-3 : tie.Need-returns-3
-returns-3 c = λ g s. c .passed .ensures g s ∙ ap (λ l. getD (list-of g l) (c .before .before .before .before .args .k) no-value) (sym (c .before .before .l3 .given .1))
+returns-3 c =
+    let start = c .before .before .before .before in
+    λ g s. c .passed .ensures g s ∙ ap (λ l. getD (list-of g l) (start .args .k) no-value) (sym (c .before .before .l3 .given .1))
 
 pub value-item-spec : {M : Type 1} → statement M
 value-item-spec =

@@ -21,7 +21,10 @@ same-length c = search needs
 
 returns : tie.Need-returns
 unfolding block-text
-returns c = λ g s. c .before .before .before .before .before .before .before .before .before .before .put-text .ensures ▸ c .before .before .before .before .before .before .put-items .ensures g s ▸ c .before .before .put-byte .ensures
+returns c =
+    let at-put-items = c .before .before .before .before .before .before in
+    let at-put-text = at-put-items .before .before .before .before in
+    λ g s. at-put-text .put-text .ensures ▸ at-put-items .put-items .ensures g s ▸ c .before .before .put-byte .ensures
 
 pub put-block-spec : {M : Type 1} → statement M
 put-block-spec =

@@ -3,17 +3,19 @@ use Prim.Native.Nat.{_≤_, _-_, _+_, _*_}
 use native.Mathlib.Omega.{arith}
 use lib.ListN.{length, drop}
 use borrow.Author.Needs.{needs}
-use Rattle.meaning.specs.Graph.{Graph, region}
-use Rattle.record.specs.Stands.{Stands}
+use Rattle.meaning.specs.Graph.{region}
+use Rattle.record.specs.Stands.{OfRecord}
 use Rattle.text.specs.Buffer.{Buffer, buffer, Wrote, of-text}
-use Rattle.record_text.specs.Steps.{wrote-block, wrote-blocks}
+use Rattle.record_text.specs.laws.Steps.{wrote-block, wrote-blocks}
 use Rattle.record_text.specs.Listing.{blocks-text}
 use Rattle.record_text.proofs.regions.put_blocks.Statement.{statement}
 use Rattle.record_text.proofs.regions.put_blocks.Tie as tie
 
 abbrev Inv-loop : tie.InvT-loop
 Inv-loop w out₀ at r n place₀ k₀ b₀ out place k b =
-    (b ≤ n) × ((k ≤ b * 65535) × ((length out ≡ length out₀) × ((g : Graph) → Stands w g → (q : Buffer) → Wrote (buffer out place) (blocks-text r k (drop b (region g r .blocks))) q → Wrote (buffer out₀ place₀) (blocks-text r 0 (region g r .blocks)) q)))
+    (b ≤ n) × ((k ≤ b * 65535) × ((length out ≡ length out₀) ×
+    OfRecord w (λ g. (q : Buffer) → Wrote (buffer out place) (blocks-text r k (drop b (region g r .blocks))) q
+    → Wrote (buffer out₀ place₀) (blocks-text r 0 (region g r .blocks)) q)))
 
 abbrev μ-loop : tie.MeasureT-loop
 μ-loop w out₀ at r n place₀ k₀ b₀ out place k b = n - b

@@ -16,7 +16,10 @@ same-length : tie.Need-same-length
 same-length c = search needs
 
 returns : tie.Need-returns
-returns c = λ g s. c .before .before .before .before .before .before .before .before .before .before .put-text .ensures ▸ c .before .before .before .before .before .before .put-values .ensures g s ▸ c .before .before .put-byte .ensures
+returns c =
+    let at-put-values = c .before .before .before .before .before .before in
+    let at-put-text = at-put-values .before .before .before .before in
+    λ g s. at-put-text .put-text .ensures ▸ at-put-values .put-values .ensures g s ▸ c .before .before .put-byte .ensures
 
 pub put-end-values-spec : {M : Type 1} → statement M
 put-end-values-spec =

@@ -21,7 +21,10 @@ same-length c = search needs
 
 returns : tie.Need-returns
 unfolding exits-line
-returns c = λ g s. c .before .before .before .before .before .before .before .before .before .before .put-text .ensures ▸ c .before .before .before .before .before .before .put-numbers .ensures g s ▸ c .before .before .put-byte .ensures
+returns c =
+    let at-put-numbers = c .before .before .before .before .before .before in
+    let at-put-text = at-put-numbers .before .before .before .before in
+    λ g s. at-put-text .put-text .ensures ▸ at-put-numbers .put-numbers .ensures g s ▸ c .before .before .put-byte .ensures
 
 pub put-exits-spec : {M : Type 1} → statement M
 put-exits-spec =

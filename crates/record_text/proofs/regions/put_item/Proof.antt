@@ -46,17 +46,31 @@ put-values-requires : tie.Need-put-values-requires
 put-values-requires c κs = search needs
 
 same-length : tie.Need-same-length
-same-length c = c .before .before .put-values .kept .1 .0 ∙ c .before .before .before .before .before .before .put-byte .kept .0 ∙ c .before .before .before .before .before .before .before .before .before .before .put-labeled3 .kept .0 ∙ c .before .before .before .before .before .before .before .before .before .before .before .before .before .before .before .before .put-labeled2 .kept .0 ∙ c .before .before .before .before .before .before .before .before .before .before .before .before .before .before .before .before .before .before .before .before .before .before .put-labeled .kept .0 ∙ c .before .before .before .before .before .before .before .before .before .before .before .before .before .before .before .before .before .before .before .before .before .before .before .before .before .before .before .before .put-dotted .kept .0
+same-length c =
+    let at-put-byte = c .before .before .before .before .before .before in
+    let at-put-labeled3 = at-put-byte .before .before .before .before in
+    let at-put-labeled2 = at-put-labeled3 .before .before .before .before .before .before in
+    let at-put-labeled = at-put-labeled2 .before .before .before .before .before .before in
+    let at-put-dotted = at-put-labeled .before .before .before .before .before .before in
+    c .before .before .put-values .kept .1 .0 ∙ at-put-byte .put-byte .kept .0 ∙ at-put-labeled3 .put-labeled3 .kept .0
+    ∙ at-put-labeled2 .put-labeled2 .kept .0 ∙ at-put-labeled .put-labeled .kept .0 ∙ at-put-dotted .put-dotted .kept .0
 
 returns : tie.Need-returns
 unfolding item-text labeled
-returns c = λ g s.
-    let x = c .before .before .before .before .before .before .before .before .before .before .before .before .before .before .before .before .before .before .before .before .before .before .before .before .before .before .before .before .before .before .instruction .ensures g s in
-    c .before .before .before .before .before .before .before .before .before .before .before .before .before .before .before .before .before .before .before .before .before .before .before .before .before .before .before .before .put-dotted .ensures
-    ▸ of-text (ap (λ i. labeled "/" (i .opcode)) x) (c .before .before .before .before .before .before .before .before .before .before .before .before .before .before .before .before .before .before .before .before .before .before .put-labeled .ensures)
-    ▸ of-text (ap (λ i. labeled "/" (i .ty)) x) (c .before .before .before .before .before .before .before .before .before .before .before .before .before .before .before .before .put-labeled2 .ensures)
-    ▸ of-text (ap (λ i. labeled "/" (i .cost)) x) (c .before .before .before .before .before .before .before .before .before .before .put-labeled3 .ensures)
-    ▸ c .before .before .before .before .before .before .put-byte .ensures
+returns c =
+    let at-put-byte = c .before .before .before .before .before .before in
+    let at-put-labeled3 = at-put-byte .before .before .before .before in
+    let at-put-labeled2 = at-put-labeled3 .before .before .before .before .before .before in
+    let at-put-labeled = at-put-labeled2 .before .before .before .before .before .before in
+    let at-put-dotted = at-put-labeled .before .before .before .before .before .before in
+    let at-instruction = at-put-dotted .before .before in
+    λ g s.
+    let x = at-instruction .instruction .ensures g s in
+    at-put-dotted .put-dotted .ensures
+    ▸ of-text (ap (λ i. labeled "/" (i .opcode)) x) (at-put-labeled .put-labeled .ensures)
+    ▸ of-text (ap (λ i. labeled "/" (i .ty)) x) (at-put-labeled2 .put-labeled2 .ensures)
+    ▸ of-text (ap (λ i. labeled "/" (i .cost)) x) (at-put-labeled3 .put-labeled3 .ensures)
+    ▸ at-put-byte .put-byte .ensures
     ▸ c .before .before .put-values .ensures g s
 
 pub put-item-spec : {M : Type 1} → statement M

@@ -35,10 +35,15 @@ same-length c = search needs
 
 returns : tie.Need-returns
 unfolding pass-text labeled
-returns c = λ g s.
-    of-text (ap (labeled "pass ") (c .before .before .before .before .before .before .before .before .before .before .before .before .before .before .before .before .target .ensures g s)) (c .before .before .before .before .before .before .before .before .before .before .before .before .before .before .before .put-labeled .ensures)
-    ▸ c .before .before .before .before .before .before .before .before .before .before .put-text .ensures
-    ▸ c .before .before .before .before .before .before .put-values .ensures g s
+returns c =
+    let at-put-values = c .before .before .before .before .before .before in
+    let at-put-text = at-put-values .before .before .before .before in
+    let at-put-labeled = at-put-text .before .before .before .before .before in
+    let at-target = at-put-labeled .before in
+    λ g s.
+    of-text (ap (labeled "pass ") (at-target .target .ensures g s)) (at-put-labeled .put-labeled .ensures)
+    ▸ at-put-text .put-text .ensures
+    ▸ at-put-values .put-values .ensures g s
     ▸ c .before .before .put-byte .ensures
 
 pub put-pass-spec : {M : Type 1} → statement M

@@ -3,7 +3,7 @@ use lib.ListN.{getD}
 use borrow.Author.Needs.{needs}
 use Rattle.meaning.specs.Graph.{region, edges-of, no-edge}
 use Rattle.text.specs.Buffer.{of-text, wrote-none}
-use Rattle.record_text.specs.Passes.{pass-once}
+use Rattle.record_text.specs.Parts.{pass-once}
 use Rattle.record_text.proofs.regions.put_pass_once.Statement.{statement}
 use Rattle.record_text.proofs.regions.put_pass_once.Tie as tie
 
@@ -14,7 +14,8 @@ returns : tie.Need-returns
 unfolding pass-once
 returns c = λ g s.
     let a = c .before .before .before .args in
-    of-text (ap (λ b. pass-once b (getD (edges-of (region g (a .r) .terminator)) (a .j) no-edge)) (sym (c .if1 .taken) ∙ c .before .target-again .ensures g s)) wrote-none
+    of-text (ap (λ b. pass-once b (getD (edges-of (region g (a .r) .terminator)) (a .j) no-edge))
+    (sym (c .if1 .taken) ∙ c .before .target-again .ensures g s)) wrote-none
 
 put-pass-requires : tie.Need-put-pass-requires
 put-pass-requires c κs = search needs
@@ -24,9 +25,14 @@ same-length c = search needs
 
 returns-2 : tie.Need-returns-2
 unfolding pass-once
-returns-2 c = λ g s.
-    let a = c .before .before .before .before .before .before .before .args in
-    of-text (ap (λ b. pass-once b (getD (edges-of (region g (a .r) .terminator)) (a .j) no-edge)) (sym (c .before .before .before .before .if1 .left) ∙ c .before .before .before .before .before .target-again .ensures g s)) (c .before .before .put-pass .ensures g s)
+returns-2 c =
+    let at-if1 = c .before .before .before .before in
+    let at-target-again = at-if1 .before in
+    let start = at-target-again .before .before in
+    λ g s.
+    let a = start .args in
+    of-text (ap (λ b. pass-once b (getD (edges-of (region g (a .r) .terminator)) (a .j) no-edge))
+    (sym (at-if1 .if1 .left) ∙ at-target-again .target-again .ensures g s)) (c .before .before .put-pass .ensures g s)
 
 pub put-pass-once-spec : {M : Type 1} → statement M
 put-pass-once-spec =

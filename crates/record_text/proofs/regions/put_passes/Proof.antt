@@ -3,16 +3,18 @@ use Prim.Native.Nat.{_≤_, _-_}
 use native.Mathlib.Omega.{arith}
 use lib.ListN.{length}
 use borrow.Author.Needs.{needs}
-use Rattle.meaning.specs.Graph.{Graph, region, edges-of}
-use Rattle.record.specs.Stands.{Stands}
+use Rattle.meaning.specs.Graph.{region, edges-of}
+use Rattle.record.specs.Stands.{OfRecord}
 use Rattle.text.specs.Buffer.{Buffer, buffer, Wrote, of-text}
-use Rattle.record_text.specs.Passes.{passes-from, passes-all, wrote-pass, wrote-passes}
+use Rattle.record_text.specs.laws.Passes.{passes-from, passes-all, wrote-pass, wrote-passes}
 use Rattle.record_text.proofs.regions.put_passes.Statement.{statement}
 use Rattle.record_text.proofs.regions.put_passes.Tie as tie
 
 abbrev Inv-loop : tie.InvT-loop
 Inv-loop w out₀ at r n place₀ j₀ out place j =
-    (j ≤ n) × ((length out ≡ length out₀) × ((g : Graph) → Stands w g → (q : Buffer) → Wrote (buffer out place) (passes-from (edges-of (region g r .terminator)) j) q → Wrote (buffer out₀ place₀) (passes-from (edges-of (region g r .terminator)) 0) q))
+    (j ≤ n) × ((length out ≡ length out₀) × OfRecord w (λ g. (q : Buffer)
+    → Wrote (buffer out place) (passes-from (edges-of (region g r .terminator)) j) q
+    → Wrote (buffer out₀ place₀) (passes-from (edges-of (region g r .terminator)) 0) q))
 
 abbrev μ-loop : tie.MeasureT-loop
 μ-loop w out₀ at r n place₀ j₀ out place j = n - j
@@ -41,7 +43,8 @@ loop-again c =
         λ g s q w.
             let size = c .before .before .before .before .before .before .target-count .ensures g s in
             l .inv .1 .1 g s q
-            (wrote-pass (edges-of (region g (c .before .before .before .before .before .before .before .before .args .r) .terminator)) (l .j) (omega arith) (c .before .before .put-pass-once .ensures g s) w),
+            (wrote-pass (edges-of (region g (c .before .before .before .before .before .before .before .before .args .r) .terminator))
+            (l .j) (omega arith) (c .before .before .put-pass-once .ensures g s) w),
       ),
     )
 

@@ -24,11 +24,16 @@ same-length c = search needs
 
 returns : tie.Need-returns
 unfolding region-text
-returns c = λ g s.
-    c .before .before .before .before .before .before .before .before .before .before .before .before .before .before .before .before .before .before .put-region-head .ensures g s
-    ▸ c .before .before .before .before .before .before .before .before .before .before .before .before .before .before .put-blocks .ensures g s
-    ▸ c .before .before .before .before .before .before .before .before .before .before .put-terminator .ensures g s
-    ▸ c .before .before .before .before .before .before .put-passes .ensures g s
+returns c =
+    let at-put-passes = c .before .before .before .before .before .before in
+    let at-put-terminator = at-put-passes .before .before .before .before in
+    let at-put-blocks = at-put-terminator .before .before .before .before in
+    let at-put-region-head = at-put-blocks .before .before .before .before in
+    λ g s.
+    at-put-region-head .put-region-head .ensures g s
+    ▸ at-put-blocks .put-blocks .ensures g s
+    ▸ at-put-terminator .put-terminator .ensures g s
+    ▸ at-put-passes .put-passes .ensures g s
     ▸ c .before .before .put-exits .ensures g s
 
 pub put-region-spec : {M : Type 1} → statement M

@@ -41,11 +41,17 @@ same-length c = search needs
 
 returns : tie.Need-returns
 unfolding region-line-text labeled
-returns c = λ g s.
-    c .before .before .before .before .before .before .before .before .before .before .before .before .before .before .before .before .before .before .before .before .before .put-labeled .ensures
-    ▸ c .before .before .before .before .before .before .before .before .before .before .before .before .before .before .before .before .put-text .ensures
-    ▸ c .before .before .before .before .before .before .before .before .before .before .before .before .put-numbers .ensures g s
-    ▸ of-text (ap (labeled " limit ") (c .before .before .before .before .before .before .before .limit .ensures g s)) (c .before .before .before .before .before .before .put-labeled2 .ensures)
+returns c =
+    let at-put-labeled2 = c .before .before .before .before .before .before in
+    let at-limit = at-put-labeled2 .before in
+    let at-put-numbers = at-limit .before .before .before .before .before in
+    let at-put-text = at-put-numbers .before .before .before .before in
+    let at-put-labeled = at-put-text .before .before .before .before .before in
+    λ g s.
+    at-put-labeled .put-labeled .ensures
+    ▸ at-put-text .put-text .ensures
+    ▸ at-put-numbers .put-numbers .ensures g s
+    ▸ of-text (ap (labeled " limit ") (at-limit .limit .ensures g s)) (at-put-labeled2 .put-labeled2 .ensures)
     ▸ c .before .before .put-byte .ensures
 
 pub put-region-head-spec : {M : Type 1} → statement M

@@ -3,17 +3,17 @@ use Prim.Native.Nat.{_≤_, _-_}
 use native.Mathlib.Omega.{arith}
 use lib.ListN.{length, drop}
 use borrow.Author.Needs.{needs}
-use Rattle.meaning.specs.Graph.{Graph}
-use Rattle.record.specs.Stands.{Stands}
+use Rattle.record.specs.Stands.{OfRecord}
 use Rattle.text.specs.Buffer.{Buffer, buffer, Wrote}
-use Rattle.record_text.specs.Steps.{wrote-region, wrote-regions}
+use Rattle.record_text.specs.laws.Steps.{wrote-region, wrote-regions}
 use Rattle.record_text.specs.Listing.{regions-text}
 use Rattle.record_text.proofs.regions.put_regions.Statement.{statement}
 use Rattle.record_text.proofs.regions.put_regions.Tie as tie
 
 abbrev Inv-loop : tie.InvT-loop
 Inv-loop w out₀ at n place₀ r₀ out place r =
-    (r ≤ n) × ((length out ≡ length out₀) × ((g : Graph) → Stands w g → (q : Buffer) → Wrote (buffer out place) (regions-text r (drop r (g .regions))) q → Wrote (buffer out₀ place₀) (regions-text 0 (g .regions)) q))
+    (r ≤ n) × ((length out ≡ length out₀) × OfRecord w (λ g. (q : Buffer)
+    → Wrote (buffer out place) (regions-text r (drop r (g .regions))) q → Wrote (buffer out₀ place₀) (regions-text 0 (g .regions)) q))
 
 abbrev μ-loop : tie.MeasureT-loop
 μ-loop w out₀ at n place₀ r₀ out place r = n - r

@@ -30,11 +30,17 @@ same-length : tie.Need-same-length
 same-length c = search needs
 
 returns : tie.Need-returns
-returns c = λ g s.
-    c .before .before .before .before .before .before .before .before .before .before .before .before .before .before .before .before .before .before .before .before .put-text .ensures
-    ▸ of-text (ap value-text (c .before .before .before .before .before .before .before .before .before .before .before .before .before .before .before .before .value .ensures g s)) (c .before .before .before .before .before .before .before .before .before .before .before .before .before .before .before .put-value .ensures)
-    ▸ c .before .before .before .before .before .before .before .before .before .before .put-text2 .ensures
-    ▸ c .before .before .before .before .before .before .put-numbers .ensures g s
+returns c =
+    let at-put-numbers = c .before .before .before .before .before .before in
+    let at-put-text2 = at-put-numbers .before .before .before .before in
+    let at-put-value = at-put-text2 .before .before .before .before .before in
+    let at-value = at-put-value .before in
+    let at-put-text = at-value .before .before .before .before in
+    λ g s.
+    at-put-text .put-text .ensures
+    ▸ of-text (ap value-text (at-value .value .ensures g s)) (at-put-value .put-value .ensures)
+    ▸ at-put-text2 .put-text2 .ensures
+    ▸ at-put-numbers .put-numbers .ensures g s
     ▸ c .before .before .put-byte .ensures
 
 pub put-select-spec : {M : Type 1} → statement M

@@ -4,7 +4,7 @@ use Rattle.meaning.specs.Graph.{region}
 use Rattle.fields.specs.Shape.{terminator-is}
 use Rattle.text.specs.Buffer.{_▸_, of-text}
 use Rattle.text.specs.Text.{labeled}
-use Rattle.record_text.specs.Ends.{unreachable-text, return-text, exit-text, branch-text, bool-text, number-text}
+use Rattle.record_text.specs.laws.Ends.{unreachable-text, return-text, exit-text, branch-text, bool-text, number-text}
 use Rattle.record_text.proofs.regions.put_terminator.Statement.{statement}
 use Rattle.record_text.proofs.regions.put_terminator.Tie as tie
 
@@ -87,51 +87,85 @@ same-length : tie.Need-same-length
 same-length c = search needs
 
 returns : tie.Need-returns
-returns c = λ g s.
-    let x = region g (c .before .before .before .before .before .before .before .before .before .args .r) .terminator in
-    of-text (unreachable-text x (ap (λ t. terminator-is t x) (sym (c .before .before .before .before .before .enum-told .given .1)) ∙ c .before .before .before .before .before .before .before .terminator .ensures g s)) (c .before .before .put-text .ensures)
+returns c =
+    let at-enum-told = c .before .before .before .before .before in
+    let at-terminator = at-enum-told .before .before in
+    let start = at-terminator .before .before in
+    λ g s.
+    let x = region g (start .args .r) .terminator in
+    of-text (unreachable-text x (ap (λ t. terminator-is t x) (sym (at-enum-told .enum-told .given .1))
+    ∙ at-terminator .terminator .ensures g s)) (c .before .before .put-text .ensures)
 
 same-length-2 : tie.Need-same-length-2
 same-length-2 c = search needs
 
 returns-2 : tie.Need-returns-2
-returns-2 c = λ g s.
-    let x = region g (c .before .before .before .before .before .before .before .before .before .args .r) .terminator in
-    of-text (return-text x (ap (λ t. terminator-is t x) (sym (c .before .before .before .before .before .enum-told2 .given .1)) ∙ c .before .before .before .before .before .before .before .terminator .ensures g s)) (c .before .before .put-end-values .ensures g s)
+returns-2 c =
+    let at-enum-told2 = c .before .before .before .before .before in
+    let at-terminator = at-enum-told2 .before .before in
+    let start = at-terminator .before .before in
+    λ g s.
+    let x = region g (start .args .r) .terminator in
+    of-text (return-text x (ap (λ t. terminator-is t x) (sym (at-enum-told2 .enum-told2 .given .1))
+    ∙ at-terminator .terminator .ensures g s)) (c .before .before .put-end-values .ensures g s)
 
 same-length-3 : tie.Need-same-length-3
 same-length-3 c = search needs
 
 returns-3 : tie.Need-returns-3
-returns-3 c = λ g s.
-    let x = region g (c .before .before .before .before .before .before .before .before .before .before .before .before .before .before .before .args .r) .terminator in
-    of-text (exit-text x _ (ap (λ t. terminator-is t x) (sym (c .before .before .before .before .before .before .before .before .before .before .before .op .given .1)) ∙ c .before .before .before .before .before .before .before .before .before .before .before .before .before .terminator .ensures g s)) (c .before .before .before .before .before .before .before .put-labeled .ensures ▸ c .before .before .put-end-values2 .ensures g s)
+returns-3 c =
+    let at-put-labeled = c .before .before .before .before .before .before .before in
+    let at-op = at-put-labeled .before .before .before .before in
+    let at-terminator = at-op .before .before in
+    let start = at-terminator .before .before in
+    λ g s.
+    let x = region g (start .args .r) .terminator in
+    of-text (exit-text x _ (ap (λ t. terminator-is t x) (sym (at-op .op .given .1)) ∙ at-terminator .terminator .ensures g s))
+    (at-put-labeled .put-labeled .ensures ▸ c .before .before .put-end-values2 .ensures g s)
 
 same-length-4 : tie.Need-same-length-4
 same-length-4 c = search needs
 
 returns-4 : tie.Need-returns-4
 unfolding labeled
-returns-4 c = λ g s.
-    let x = region g (c .before .before .before .before .before .before .before .before .before .before .before .before .before .before .args .r) .terminator in
-    of-text (branch-text x (ap (λ t. terminator-is t x) (sym (c .before .before .before .before .before .before .before .before .before .before .enum-told3 .given .1)) ∙ c .before .before .before .before .before .before .before .before .before .before .before .before .terminator .ensures g s))
-    (of-text (ap (labeled "branch to ") (c .before .before .before .before .before .before .before .target .ensures g s)) (c .before .before .before .before .before .before .put-labeled2 .ensures) ▸ c .before .before .put-byte .ensures)
+returns-4 c =
+    let at-put-labeled2 = c .before .before .before .before .before .before in
+    let at-target = at-put-labeled2 .before in
+    let at-enum-told3 = at-target .before .before .before in
+    let at-terminator = at-enum-told3 .before .before in
+    let start = at-terminator .before .before in
+    λ g s.
+    let x = region g (start .args .r) .terminator in
+    of-text (branch-text x (ap (λ t. terminator-is t x) (sym (at-enum-told3 .enum-told3 .given .1))
+    ∙ at-terminator .terminator .ensures g s))
+    (of-text (ap (labeled "branch to ") (at-target .target .ensures g s))
+    (at-put-labeled2 .put-labeled2 .ensures) ▸ c .before .before .put-byte .ensures)
 
 same-length-5 : tie.Need-same-length-5
 same-length-5 c = search needs
 
 returns-5 : tie.Need-returns-5
-returns-5 c = λ g s.
-    let x = region g (c .before .before .before .before .before .before .before .before .before .args .r) .terminator in
-    of-text (bool-text x (ap (λ t. terminator-is t x) (sym (c .before .before .before .before .before .enum-told4 .given .1)) ∙ c .before .before .before .before .before .before .before .terminator .ensures g s)) (c .before .before .put-select .ensures g s)
+returns-5 c =
+    let at-enum-told4 = c .before .before .before .before .before in
+    let at-terminator = at-enum-told4 .before .before in
+    let start = at-terminator .before .before in
+    λ g s.
+    let x = region g (start .args .r) .terminator in
+    of-text (bool-text x (ap (λ t. terminator-is t x) (sym (at-enum-told4 .enum-told4 .given .1)) ∙ at-terminator .terminator .ensures g s))
+    (c .before .before .put-select .ensures g s)
 
 same-length-6 : tie.Need-same-length-6
 same-length-6 c = search needs
 
 returns-6 : tie.Need-returns-6
-returns-6 c = λ g s.
-    let x = region g (c .before .before .before .before .before .before .before .before .before .args .r) .terminator in
-    of-text (number-text x (ap (λ t. terminator-is t x) (sym (c .before .before .before .before .before .enum-told5 .given .1)) ∙ c .before .before .before .before .before .before .before .terminator .ensures g s)) (c .before .before .put-select2 .ensures g s)
+returns-6 c =
+    let at-enum-told5 = c .before .before .before .before .before in
+    let at-terminator = at-enum-told5 .before .before in
+    let start = at-terminator .before .before in
+    λ g s.
+    let x = region g (start .args .r) .terminator in
+    of-text (number-text x (ap (λ t. terminator-is t x) (sym (at-enum-told5 .enum-told5 .given .1))
+    ∙ at-terminator .terminator .ensures g s)) (c .before .before .put-select2 .ensures g s)
 
 pub put-terminator-spec : {M : Type 1} → statement M
 put-terminator-spec =

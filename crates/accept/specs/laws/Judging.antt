@@ -1,0 +1,48 @@
+-- The verdict of reading and references, by the answers that the code has.
+use mathlib.Core.Path.{_≡_, refl, sym, ap, _∙_}
+use mathlib.Core.List.{List}
+use Prim.Native.Nat.{ℕ}
+use Rattle.meaning.specs.Graph.{Graph}
+use Rattle.format.specs.Store.{Answer, accepted, refused, if-accepted}
+use Rattle.format.specs.References.{references}
+use Rattle.meaning.specs.facts.Tests.{clash}
+use Rattle.store.specs.Loaded.{answered}
+use Rattle.store.specs.declared.Checked.{Checked}
+use Rattle.store.specs.declared.Checked.the-variants.{Right, Refused}
+use Rattle.record.specs.Outcome.{forget, record-in, ReadOutcome}
+use Rattle.record.specs.laws.Parts.{then, accepted-value}
+use Rattle.record.specs.Stands.{OfRecord}
+use Rattle.accept.specs.Judged.{with-references, given, not-given}
+use Rattle.accept.specs.Accepts.{ReadChecked}
+
+forget-then : (a : Answer Unit) (g : Graph) → forget (if-accepted a λ _. accepted g) ≡ a
+forget-then (accepted u) g = refl
+forget-then (refused n w) g = refl
+
+-- the record that was read is the graph
+same-graph : {g : Graph} (a : Answer Unit) (x : Graph) → if-accepted a (λ _. accepted x) ≡ accepted g → x ≡ g
+same-graph a x h = accepted-value (then a (λ _. accepted x) _ h .second)
+
+module _ {old new : List ℕ} {read : Checked} (r : ReadOutcome old new read) where
+  pub unread : {n w : ℕ} → read ≡ Refused n w → ReadChecked old new (Refused n w)
+  unread {n} {w} e =
+      let bad : record-in old ≡ refused n w = not-given (record-in old) (sym (ap answered e) ∙ r .answer) in
+      let none = ap with-references bad in
+      record {
+        judged = record { answer = sym (ap forget none); stands = λ g f. absurd (clash (cc)) };
+        kept = r .kept;
+      }
+
+  pub by-references : {a : Checked} → read ≡ Right → OfRecord new (λ g. answered a ≡ references g) → ReadChecked old new a
+  by-references {a} e refs =
+      let x = given (record-in old) (sym (ap answered e) ∙ r .answer) in
+      let g = x .value in
+      let s = r .stands g (x .is) in
+      let whole : with-references (record-in old) ≡ if-accepted (references g) (λ _. accepted g) = ap with-references (x .is) in
+      record {
+        judged = record {
+          answer = refs g s ∙ sym (ap forget whole ∙ forget-then (references g) g);
+          stands = λ g′ f. rw (same-graph (references g) g (sym whole ∙ f)) at s;
+        };
+        kept = r .kept;
+      }

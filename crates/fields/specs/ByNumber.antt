@@ -1,0 +1,32 @@
+-- What numbers name in a graph: a block, an instruction, an edge; and whether an item of a list stands earlier in it too.
+use mathlib.Core.Bool.{Bool, _&&_}
+use mathlib.Core.List.{List, [], _∷_}
+use Prim.Native.Nat.{ℕ, zero, suc}
+use lib.ListN.{length, getD}
+use lib.Dec.{ltb}
+use Rattle.meaning.specs.Graph.{Graph, Value, Instr, Edge, region, edges-of, no-edge}
+use Rattle.meaning.specs.Lists.{is-in}
+use Rattle.format.specs.References.{no-instr, values-of}
+
+abbrev pub block-of : Graph → ℕ → ℕ → List Instr
+block-of g r b = getD (region g r .blocks) b []
+
+abbrev pub instr-of : Graph → ℕ → ℕ → ℕ → Instr
+instr-of g r b i = getD (block-of g r b) i no-instr
+
+-- The values that the terminator of region r has.
+abbrev pub end-values : Graph → ℕ → List Value
+end-values g r = values-of (region g r .terminator)
+
+abbrev pub edge-of : Graph → ℕ → ℕ → Edge
+edge-of g r j = getD (edges-of (region g r .terminator)) j no-edge
+
+-- The first k items, the last first.
+unfoldable pub before : List ℕ → ℕ → List ℕ
+before xs zero = []
+before xs (suc k) = getD xs k 0 ∷ before xs k
+
+-- Whether item k stands earlier too; what is beyond the list does not.
+unfoldable pub stands-before : List ℕ → ℕ → Bool
+unfolding before
+stands-before xs k = ltb k (length xs) && is-in (getD xs k 0) (before xs k)

@@ -1,0 +1,11 @@
+pub mod Picks
+pub mod Numbered
+pub mod Lists
+pub mod Regions
+pub mod Instructions
+pub mod Terminators
+pub mod Repeats
+pub mod Targets
+pub mod Passed
+pub mod Turns
+pub mod Unchanged

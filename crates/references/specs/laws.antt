@@ -1,0 +1,5 @@
+pub mod Walk
+pub mod Walks
+pub mod EdgesWalk
+pub mod Steps
+pub mod Rounds
