@@ -1,4 +1,5 @@
-"""Makes lists/stores.vectors: stores, more than half of them damaged, with `show` or refusal.
+"""Makes lists/stores.vectors: stores, more than half of them damaged, with `show` or refusal, and behind them a few with
+answers that are wrong on purpose (`WRONG`).
 
     python3 -m generate.stores > lists/stores.vectors
 """
@@ -194,6 +195,42 @@ def stores():
             yield store
 
 
+def refusal(number, word):
+    """The number and the word of a refusal, each so much higher."""
+    def changed(text):
+        refused, n, w = text.split()
+        return f"{refused} {int(n) + number} {int(w) + word}\n"
+    return changed
+
+
+def next_digit(text):
+    """The last digit of a record's text one higher, 0 after 9."""
+    at = max(i for i, c in enumerate(text) if c.isdigit())
+    return text[:at] + str((int(text[at]) + 1) % 10) + text[at + 1:]
+
+
+def without_last_line(text):
+    return text[:text.rindex("\n", 0, -1) + 1]
+
+
+# Answers that are wrong on purpose: of a refused store or of a record, and what is done to the text.
+WRONG = ((True, refusal(1, 0)), (True, refusal(0, 1)), (True, lambda text: ""),
+         (False, next_digit), (False, without_last_line), (False, lambda text: text + "exits -\n"),
+         (False, lambda text: "refused 8 0\n"))
+
+
+def wrong(good):
+    """A few of the stores once more, each with a wrong answer."""
+    rng = random.Random(SEED)
+    for is_refused, change in WRONG:
+        fitting = [store for store in good if answer(store).startswith("refused") == is_refused and len(store) == 512]
+        store = rng.choice(fitting)
+        yield store, change(answer(store))
+
+
 if __name__ == "__main__":
-    for store in dict.fromkeys(stores()):   # each store once
+    good = list(dict.fromkeys(stores()))    # each store once
+    for store in good:
         sys.stdout.write(vector(store, answer(store)))
+    for store, text in wrong(good):
+        sys.stdout.write(vector(store, text, "wrong"))

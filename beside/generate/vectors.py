@@ -1,18 +1,20 @@
-"""Vector files: a line `store` and its bytes, the lines of its answer, a line with a dot."""
+"""Vector files: a line `store` and its bytes, the lines of its answer, a line with a dot. With `wrong` for `store` the
+answer is wrong on purpose: a test has to find that it differs."""
 
 
-def vector(store, answer):
-    return f"store {store.hex()}\n{answer}.\n"
+def vector(store, answer, word="store"):
+    return f"{word} {store.hex()}\n{answer}.\n"
 
 
 def read_vectors(path):
-    """The stores of a vector file with their answers."""
+    """The stores of a vector file with their answers, but for those that are wrong on purpose."""
     with open(path) as lines:
         for line in lines:
-            store = bytes.fromhex(line.removeprefix("store").strip())
+            word, _, digits = line.rstrip("\n").partition(" ")
             answer = ""
             for line in lines:
                 if line == ".\n":
                     break
                 answer += line
-            yield store, answer
+            if word != "wrong":
+                yield bytes.fromhex(digits), answer

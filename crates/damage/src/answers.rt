@@ -1,6 +1,10 @@
 // Answers in two bytes each: a refusal's number and its word; 0 and the sum of its text's bytes, by 256, for a record.
 ghost use mathlib.Core.Path.{_≡_};
-ghost use Rattle.damage.specs.Answers.{OfRecord, AnswerOf, is-listed};
+ghost use Prim.Native.Nat.{_+_, _%_, _≤_};
+ghost use lib.ListN.{length, take};
+ghost use Rattle.format.specs.Accept.{accept};
+ghost use Rattle.record_text.specs.Listing.{shown-text};
+ghost use Rattle.damage.specs.Answers.{sum-from, brief, is-listed};
 use accept::Accepted;
 use store::WORDS;
 use text::Written;
@@ -10,11 +14,21 @@ pub struct Answer {
     pub word: u8,
 }
 
-fn plus(sum: u8, b: u8) -> u8 {
+fn low(n: u16) -> u8
+    ensures { λ r. ⌜ r ≡ n % 256 ⌝ }
+{
+    (n % 256) as u8
+}
+
+fn plus(sum: u8, b: u8) -> u8
+    ensures { λ r. ⌜ r ≡ (sum + b) % 256 ⌝ }
+{
     (((sum as u16) + (b as u16)) % 256) as u8
 }
 
-fn sum_of(text: &[u8]) -> u8 {
+fn sum_of(text: &[u8]) -> u8
+    ensures { λ r. ⌜ r ≡ sum-from 0 (now (text .entry)) ⌝ }
+{
     let mut sum: u8 = 0;
     let mut i: usize = 0;
     while i < text.len() {
@@ -24,41 +38,34 @@ fn sum_of(text: &[u8]) -> u8 {
     sum
 }
 
-fn listed(written: Written, out: &[u8]) -> Answer
-    ensures { λ a. ⌜ OfRecord a ⌝ }
+// The sum of the text that is shown of a store.
+fn shown_sum(bytes: &[u8], words: &mut [u16; WORDS], out: &mut [u8]) -> u8
+    requires { ⌜ length (now out) ≡ 65536 ⌝ }
+    ensures { λ r. ⌜ r ≡ sum-from 0 (shown-text (accept (now (bytes .entry)))) ⌝ }
 {
-    match written {
-        Written::Bytes(n) => {
-            if n <= out.len() {
-                return Answer {
-                    number: 0,
-                    word: sum_of(&out[0..n]),
-                };
-            }
-            Answer {
-                number: 255,
-                word: 0,
-            }
-        }
-        Written::Full => Answer {
-            number: 255,
-            word: 0,
-        },
-    }
+    let written = show_text::show(bytes, words, out);
+    let Written::Bytes(n) = written else {
+        return 0;
+    };
+    sum_of(&out[0..n])
 }
 
-pub fn answer_of(bytes: &[u8], words: &mut [u16; WORDS], out: &mut [u8]) -> Answer
-    ensures { λ a. ⌜ AnswerOf (now (bytes .entry)) a ⌝ }
+// The first bytes of an array, as a store.
+pub fn answer_of(bytes: &[u8], size: usize, words: &mut [u16; WORDS], out: &mut [u8]) -> Answer
+    requires { ⌜ (size ≤ length (now bytes)) × (length (now out) ≡ 65536) ⌝ }
+    ensures { λ a. ⌜ a ≡ brief (accept (take size (now (bytes .entry)))) ⌝ }
 {
-    match accept::accept(bytes, words) {
-        Accepted::Refused(number, word) => Answer {
-            number: (number % 256) as u8,
-            word: (word % 256) as u8,
-        },
-        Accepted::Record => {
-            let written = record_text::list(words, out);
-            listed(written, out)
-        }
+    let store = &bytes[..size];
+    let verdict = accept::accept(store, words);
+    if let Accepted::Refused(number, word) = verdict {
+        return Answer {
+            number: low(number),
+            word: low(word),
+        };
+    }
+    Answer {
+        number: 0,
+        word: shown_sum(store, words, out),
     }
 }
 

@@ -1,75 +1,63 @@
-// Changed stores and their answers.
+// Changed stores, and how many of their answers are the listed ones.
 ghost use mathlib.Core.Path.{_≡_};
-ghost use Prim.Native.Nat.{_+_, _-_, _≤_};
-use super::answers::Answer;
+ghost use Prim.Native.Nat.{_+_, _-_, _≤_, _<_};
+ghost use lib.ListN.{length};
+ghost use Rattle.vectors.specs.Tally.{tally-of};
+ghost use Rattle.damage.specs.Answers.{bit-right, length-right};
+ghost use Rattle.damage.specs.Changes.{flipped, mended, changed};
 use super::answers::answer_of;
 use super::answers::is_listed;
 use store::WORDS;
-use vectors::ANSWER;
-use vectors::STORE;
+use vectors::TEXT;
 use vectors::Tally;
 use vectors::told;
 
-fn flip(bytes: &mut [u8; STORE], bit: usize) {
+fn flip(block: [u8; 512], bit: usize) -> [u8; 512]
+    requires { ⌜ bit < 4096 ⌝ }
+    ensures { λ r. ⌜ r ≡ flipped block bit ⌝ }
+{
+    let mut b = block;
     let k = bit / 8;
-    if k < STORE {
-        bytes[k] = bytes[k] ^ (1u8 << ((bit % 8) as u8));
+    b[k] = b[k] ^ (1u8 << ((bit % 8) as u8));
+    b
+}
+
+// Makes the check right again.
+fn mend(block: [u8; 512]) -> [u8; 512]
+    ensures { λ r. ⌜ r ≡ mended block ⌝ }
+{
+    let mut b = block;
+    let sum = store::check_of(&b, 0);
+    b[508] = (sum % 256) as u8;
+    b[509] = (sum / 256 % 256) as u8;
+    b[510] = (sum / 65536 % 256) as u8;
+    b[511] = (sum / 16777216) as u8;
+    b
+}
+
+fn change(block: [u8; 512], bit: usize, right_check: bool) -> [u8; 512]
+    requires { ⌜ bit < 4096 ⌝ }
+    ensures { λ r. ⌜ r ≡ changed «right_check» block bit ⌝ }
+{
+    let b = flip(block, bit);
+    if right_check {
+        return mend(b);
     }
+    b
 }
 
-// Makes the check of the first block right again.
-fn mend(bytes: &mut [u8; STORE]) {
-    let sum = store::check_of(bytes, 0);
-    bytes[508] = (sum % 256) as u8;
-    bytes[509] = (sum / 256 % 256) as u8;
-    bytes[510] = (sum / 65536 % 256) as u8;
-    bytes[511] = (sum / 16777216) as u8;
-}
-
-fn change(bytes: &mut [u8; STORE], bit: usize, mended: bool) {
-    flip(bytes, bit);
-    if mended {
-        mend(bytes);
-    }
-}
-
-// The first n bytes.
-fn answer_at(bytes: &[u8], n: usize, words: &mut [u16; WORDS], out: &mut [u8]) -> Answer {
-    if n > bytes.len() {
-        return Answer {
-            number: 255,
-            word: 0,
-        };
-    }
-    answer_of(&bytes[0..n], words, out)
-}
-
-// The answer to one block with one bit changed; the block is as it was afterwards.
-fn changed(
-    bit: usize,
-    mended: bool,
-    bytes: &mut [u8; STORE],
-    words: &mut [u16; WORDS],
-    out: &mut [u8; ANSWER],
-) -> Answer {
-    change(bytes, bit, mended);
-    let a = answer_at(bytes, 512, words, out);
-    change(bytes, bit, mended);
-    a
-}
-
-// Each bit of the first block in a range, counted once.
+// Each bit of a block in a range.
 pub fn bits(
     from: usize,
     to: usize,
-    mended: bool,
-    bytes: &mut [u8; STORE],
-    answers: &[u8; STORE],
+    right_check: bool,
+    block: [u8; 512],
+    answers: &[u8],
     words: &mut [u16; WORDS],
-    out: &mut [u8; ANSWER],
+    out: &mut [u8; TEXT],
 ) -> Tally
-    requires { ⌜ to ≤ 4294967295 ⌝ }
-    ensures { λ t. ⌜ t .agree + t .differ ≡ to - from ⌝ }
+    requires { ⌜ (from ≤ to) × (to ≤ 4096) ⌝ }
+    ensures { λ t. ⌜ t ≡ tally-of (bit-right «right_check» block (now (answers .entry)) from) (to - from) ⌝ }
 {
     let mut t = Tally {
         agree: 0,
@@ -77,41 +65,31 @@ pub fn bits(
     };
     let mut bit = from;
     while bit < to {
-        let a = changed(bit, mended, bytes, words, out);
+        let b = change(block, bit, right_check);
+        let a = answer_of(&b, 512, words, out);
         t = told(t, is_listed(a, answers, bit - from));
         bit += 1;
     }
     t
 }
 
-// A length that is no multiple of 512 is refused with 1; the others are listed.
-fn is_right(a: Answer, answers: &[u8], n: usize) -> bool {
-    if n % 512 == 0 {
-        return is_listed(a, answers, n / 512);
-    }
-    if a.number != 1 {
-        return false;
-    }
-    a.word == 0
-}
-
-// Each length up to the whole, counted once.
+// Each length up to the whole.
 pub fn lengths(
-    bytes: &[u8; STORE],
-    answers: &[u8; STORE],
+    bytes: &[u8],
+    answers: &[u8],
     words: &mut [u16; WORDS],
-    out: &mut [u8; ANSWER],
+    out: &mut [u8; TEXT],
 ) -> Tally
-    ensures { λ t. ⌜ t .agree + t .differ ≡ 8705 ⌝ }
+    ensures { λ t. ⌜ t ≡ tally-of (length-right (now (bytes .entry)) (now (answers .entry))) (length (now (bytes .entry)) + 1) ⌝ }
 {
     let mut t = Tally {
         agree: 0,
         differ: 0,
     };
     let mut n: usize = 0;
-    while n <= STORE {
-        let a = answer_at(bytes, n, words, out);
-        t = told(t, is_right(a, answers, n));
+    while n <= bytes.len() {
+        let a = answer_of(bytes, n, words, out);
+        t = told(t, is_listed(a, answers, n));
         n += 1;
     }
     t

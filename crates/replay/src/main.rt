@@ -1,131 +1,124 @@
 // Replays a list of stores with their answers, read from standard input, and prints how many agree.
-ghost use Rattle.vectors.specs.Within.{Within};
+ghost use mathlib.Core.Path.{_≡_};
+ghost use Prim.Native.Nat.{_≤_};
+ghost use mathlib.Core.List.{[], _∷_};
+ghost use lib.ListN.{length, take};
+ghost use Rattle.vectors.specs.Reading.{Reads};
+ghost use Rattle.replay.specs.Agrees.{is-shown, agrees};
 use libc::STDIN_FILENO;
 use libc::STDOUT_FILENO;
 use store::WORDS;
 use text::Written;
-use vectors::ANSWER;
+use vectors::Reader;
 use vectors::STORE;
-use vectors::Scan;
+use vectors::TEXT;
 use vectors::Tally;
 
-// Whether what is shown of a store is the expected text.
-fn agrees(bytes: &[u8], expected: &[u8], words: &mut [u16; WORDS], out: &mut [u8]) -> bool {
-    match show_text::show(bytes, words, out) {
-        Written::Bytes(n) => {
-            if n <= out.len() {
-                return check::same(&out[0..n], expected);
-            }
-            false
-        }
-        Written::Full => false,
-    }
-}
-
-// The same of the first bytes of two arrays.
-fn agrees_at(
+// Whether what is shown of a store, the first bytes of an array, is the listed text.
+fn is_shown(
     bytes: &[u8],
     size: usize,
-    expected: &[u8],
-    length: usize,
+    listed: &[u8],
     words: &mut [u16; WORDS],
     out: &mut [u8],
-) -> bool {
-    if size > bytes.len() {
-        return false;
-    }
-    if length > expected.len() {
-        return false;
-    }
-    agrees(&bytes[0..size], &expected[0..length], words, out)
-}
-
-// The scan of the vectors, and how many answers agreed and differed so far.
-struct Replay {
-    scan: Scan,
-    tally: Tally,
-}
-
-// One byte of the list; the last of a vector has its store shown and compared.
-fn fed(
-    t: Replay,
-    b: u8,
-    bytes: &mut [u8; STORE],
-    expected: &mut [u8; ANSWER],
-    words: &mut [u16; WORDS],
-    out: &mut [u8; ANSWER],
-) -> Replay
-    requires { ⌜ Within (t .scan) ⌝ }
-    ensures { λ r. ⌜ Within (r .scan) ⌝ }
+) -> bool
+    requires { ⌜ (size ≤ length (now bytes)) × (length (now out) ≡ 65536) ⌝ }
+    ensures { λ r. ⌜ r ≡ is-shown (take size (now (bytes .entry))) (now (listed .entry)) ⌝ }
 {
-    let s = t.scan;
-    let tally = t.tally;
-    let scan = vectors::step(s, b, bytes, expected);
-    if scan.whole {
-        let size = scan.size;
-        let length = scan.length;
-        let agreed = agrees_at(bytes, size, expected, length, words, out);
-        return Replay {
-            scan: vectors::start(),
-            tally: vectors::told(tally, agreed),
-        };
+    let written = show_text::show(&bytes[..size], words, out);
+    let Written::Bytes(n) = written else {
+        return false;
+    };
+    check::same(&out[0..n], listed)
+}
+
+// The same of a vector's text.
+fn agrees(
+    text: &[u8],
+    size: usize,
+    bytes: &mut [u8; STORE],
+    words: &mut [u16; WORDS],
+    out: &mut [u8; TEXT],
+) -> bool
+    requires { ⌜ size ≤ length (now text) ⌝ }
+    ensures { λ r. ⌜ r ≡ agrees (take size (now (text .entry))) ⌝ }
+{
+    if size >= TEXT {
+        return false;
     }
-    Replay { scan, tally }
+    let vector = &text[..size];
+    let at = vectors::behind(vector, b' ');
+    let rest = &vector[at..];
+    let end = vectors::behind(rest, b'\n');
+    let n = vectors::decode(&rest[..end], bytes);
+    is_shown(bytes, n, &rest[end..], words, out)
+}
+
+// One byte of the list; the dot behind a vector has its store shown and compared.
+fn fed(
+    r: Reader,
+    b: u8,
+    text: &mut [u8; TEXT],
+    bytes: &mut [u8; STORE],
+    words: &mut [u16; WORDS],
+    out: &mut [u8; TEXT],
+) -> Reader
+    requires { ⌜ r .size ≤ 65536 ⌝ }
+    ensures { λ n. ⌜ Reads agrees r (b ∷ []) (now (text .entry)) (now (text .exit)) n ⌝ }
+{
+    if vectors::ends(r, b) {
+        let size = r.size;
+        return vectors::counted(r, agrees(text, size, bytes, words, out));
+    }
+    vectors::keep(r, b, text)
 }
 
 fn fed_all(
-    t: Replay,
+    r: Reader,
     chunk: &[u8],
+    text: &mut [u8; TEXT],
     bytes: &mut [u8; STORE],
-    expected: &mut [u8; ANSWER],
     words: &mut [u16; WORDS],
-    out: &mut [u8; ANSWER],
-) -> Replay
-    requires { ⌜ Within (t .scan) ⌝ }
-    ensures { λ r. ⌜ Within (r .scan) ⌝ }
+    out: &mut [u8; TEXT],
+) -> Reader
+    requires { ⌜ r .size ≤ 65536 ⌝ }
+    ensures { λ n. ⌜ Reads agrees r (now (chunk .entry)) (now (text .entry)) (now (text .exit)) n ⌝ }
 {
-    let mut replay = t;
+    let mut reader = r;
     let mut i: usize = 0;
     while i < chunk.len() {
-        replay = fed(replay, chunk[i], bytes, expected, words, out);
+        reader = fed(reader, chunk[i], text, bytes, words, out);
         i += 1;
     }
-    replay
+    reader
 }
 
 // The whole list, in at most so many chunks.
 fn replayed(turns: u32) -> Tally {
     let mut chunk = io::large_buffer();
+    let mut text = [0u8; TEXT];
     let mut bytes = [0u8; STORE];
-    let mut expected = [0u8; ANSWER];
     let mut words = [0u16; WORDS];
-    let mut out = [0u8; ANSWER];
-    let none = Tally {
-        agree: 0,
-        differ: 0,
-    };
-    let mut replay = Replay {
-        scan: vectors::start(),
-        tally: none,
-    };
+    let mut out = [0u8; TEXT];
+    let mut reader = vectors::start();
     let mut left = turns;
     while left > 0 {
         let n = io::read_full(STDIN_FILENO, &mut chunk);
         if n == 0 {
-            let tally = replay.tally;
+            let tally = reader.tally;
             return tally;
         }
-        replay = fed_all(
-            replay,
+        reader = fed_all(
+            reader,
             &chunk[..n],
+            &mut text,
             &mut bytes,
-            &mut expected,
             &mut words,
             &mut out,
         );
         left -= 1;
     }
-    let tally = replay.tally;
+    let tally = reader.tally;
     tally
 }
 

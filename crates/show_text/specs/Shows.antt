@@ -1,10 +1,13 @@
 -- What is shown of a store: its refusal's line, or its record as text.
-use mathlib.Core.Path.{_≡_, refl, subst, _∙_}
-use mathlib.Core.List.{List}
+use mathlib.Core.Path.{_≡_, refl, sym, ap, subst, _∙_}
+use mathlib.Core.Bool.{Bool, true, false}
+use mathlib.Core.List.{List, _++_}
 use Prim.Native.Nat.{ℕ, _≤_}
 use native.Mathlib.Omega.{arith}
-use lib.ListN.{length}
-use borrow.Author.Tests.{le-leb}
+use lib.ListN.{length, take, drop, length-append}
+use lib.Seq.{take-all, take-at}
+use lib.Dec.{leb}
+use borrow.Author.Tests.{le-leb, leb-true}
 use Rattle.meaning.specs.Graph.{Graph}
 use Rattle.format.specs.Store.{Answer, accepted, refused}
 use Rattle.format.specs.Accept.{accept}
@@ -53,3 +56,28 @@ module _ (s old new before after : List ℕ) (r : Written) (bytes : AllBytes s) 
 
 pub never-full : {s old new before after : List ℕ} {r : Written} → Shows s old new before after r → 65536 ≤ length before → r ≡ Full → ⊥
 never-full x l full = let whole = x .fits l in clash (cc)
+
+-- What is shown stands in front of a buffer of 65,536 bytes or more.
+pub record InFront (text after : List ℕ) (n : ℕ) : Type 0 where
+  pub within : n ≤ length after
+  pub is : take n after ≡ text
+
+pub shown-front : {s old new before after : List ℕ} {r : Written} {n : ℕ} → Shows s old new before after r
+    → 65536 ≤ length before → r ≡ Bytes n → InFront (shown-text (accept s)) after n
+shown-front {s} {before = before} {after} {r} {n} x l is =
+    let text = shown-text (accept s) in
+    let whole = x .fits l in
+    let size : n ≡ length text = cc in
+    let fits : length text ≤ length before = by-answer (leb (length text) (length before)) refl in
+    let parts : after ≡ text ++ drop (length text) before =
+    x .text .bytes ∙ ap (λ t. t ++ drop (length text) before) (take-all (length before) text fits) in
+    record {
+      within = rw (size, parts) (simp length-append (omega arith));
+      is = ap (λ a. take n a) parts ∙ take-at text _ n (sym size);
+    }
+  where
+    by-answer : (t : Bool) → leb (length (shown-text (accept s))) (length before) ≡ t → length (shown-text (accept s)) ≤ length before
+    by-answer true e = leb-true _ _ e
+    by-answer false e =
+        let full : r ≡ Full = x .text .answer ∙ rw e in
+        absurd (never-full x l full)

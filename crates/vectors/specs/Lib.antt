@@ -1,2 +1,4 @@
-pub mod Within
 pub mod Tally
+pub mod Same
+pub mod Parts
+pub mod Reading

@@ -1,10 +1,9 @@
 -- How a tally counts.
-use mathlib.Core.Path.{_≡_, ap, _∙_}
+use mathlib.Core.Path.{_≡_, sym, ap, _∙_}
 use mathlib.Core.Bool.{Bool, true, false}
-use Prim.Native.Nat.{ℕ, _+_, _<_}
-use native.Mathlib.Omega.{arith}
+use Prim.Native.Nat.{ℕ, zero, suc, _+_}
+use native.Mathlib.Numerals.{add-one}
 use lib.Dec.{ltb}
-use borrow.Author.Tests.{lt-ltb}
 use Rattle.vectors.specs.declared.Tally.{Tally}
 
 -- The next number, as long as it fits 32 bits.
@@ -16,10 +15,13 @@ abbrev pub told-of : Tally → Bool → Tally
 told-of t true = record { agree = one-more-told (t .agree); differ = t .differ }
 told-of t false = record { agree = t .agree; differ = one-more-told (t .differ) }
 
--- Each answer is counted once, as long as the count fits.
-pub told-next : (t next : Tally) (n : ℕ) (b : Bool) → next ≡ told-of t b → t .agree + t .differ ≡ n → n < 4294967295 → next .agree + next .differ ≡ n + 1
-told-next t next n b is before h = ap (λ x. x .agree + x .differ) is ∙ by-answer b
-  where
-    by-answer : (b : Bool) → told-of t b .agree + told-of t b .differ ≡ n + 1
-    by-answer true = rw (one-more-told, lt-ltb (t .agree) 4294967295 (omega arith)) (omega arith)
-    by-answer false = rw (one-more-told, lt-ltb (t .differ) 4294967295 (omega arith)) (omega arith)
+-- The answers to questions 0 to n - 1.
+unfoldable pub tally-of : (ℕ → Bool) → ℕ → Tally
+tally-of agrees zero = record { agree = 0; differ = 0 }
+tally-of agrees (suc n) = told-of (tally-of agrees n) (agrees n)
+
+pub tally-next : (agrees : ℕ → Bool) (n : ℕ) → {t next : Tally} → t ≡ tally-of agrees n → {a : Bool} → a ≡ agrees n → next ≡ told-of t a
+    → next ≡ tally-of agrees (n + 1)
+unfolding tally-of
+tally-next agrees n {t} before {a} is same =
+    same ∙ ap (λ x. told-of x a) before ∙ ap (told-of (tally-of agrees n)) is ∙ ap (tally-of agrees) (sym (add-one n))

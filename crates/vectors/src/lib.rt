@@ -1,59 +1,50 @@
-// A list of vectors, byte by byte: a line `store` with the bytes in hex, the lines of its answer, a line with a dot.
+// A list of vectors, read byte by byte. A vector is a line with a word and a store's bytes in hex, the lines of its answer,
+// and a line with a dot.
 ghost use mathlib.Core.Path.{_≡_};
-ghost use Prim.Native.Nat.{_<_};
+ghost use Prim.Native.Nat.{_≤_, _<_};
+ghost use lib.ListN.{length};
+ghost use Rattle.vectors.specs.Parts.{behind, hex-digit, hex-byte};
+ghost use Rattle.vectors.specs.Reading.{Decodes, at-start, ends-at, Keeps, counted-of};
 ghost use Rattle.vectors.specs.Tally.{one-more-told, told-of};
-ghost use Rattle.vectors.specs.Within.{Within};
 
-// The longest store and the longest answer that are kept whole.
-pub const STORE: usize = 8704;
+// The bytes of a vector that are kept; a longer one never agrees. So many digits give half as many bytes.
+pub const TEXT: usize = 65536;
 
-pub const ANSWER: usize = 16384;
+pub const STORE: usize = 32768;
 
-// What the next byte belongs to.
-pub enum Part {
-    Word,
-    Hex,
-    Line,
-    Text,
+// How many answers agreed with a list, and how many differed.
+pub struct Tally {
+    pub agree: u32,
+    pub differ: u32,
 }
 
-// How many digits and bytes the store has so far, how many bytes its answer, and whether the vector is whole.
-pub struct Scan {
-    pub part: Part,
-    pub digits: usize,
+// How many bytes of a vector are kept so far, whether the next byte begins a line, and the tally of the vectors before.
+pub struct Reader {
     pub size: usize,
-    pub length: usize,
-    pub whole: bool,
+    pub fresh: bool,
+    pub tally: Tally,
 }
 
-pub fn start() -> Scan
-    ensures { λ s. ⌜ Within s ⌝ }
-{
-    Scan {
-        part: Part::Word,
-        digits: 0,
-        size: 0,
-        length: 0,
-        whole: false,
-    }
-}
+// Tells its caller how long the array is.
+fn span(bytes: &[u8]) {}
 
-fn with_part(s: Scan, part: Part, whole: bool) -> Scan
-    requires { ⌜ Within s ⌝ }
-    ensures { λ r. ⌜ Within r ⌝ }
+// How many bytes there are up to the first of this value, and with it.
+pub fn behind(text: &[u8], b: u8) -> usize
+    ensures { λ r. ⌜ r ≡ behind b (now (text .entry)) ⌝ }
 {
-    Scan {
-        part: part,
-        digits: s.digits,
-        size: s.size,
-        length: s.length,
-        whole: whole,
+    let mut i: usize = 0;
+    while i < text.len() {
+        if text[i] == b {
+            return i + 1;
+        }
+        i += 1;
     }
+    i
 }
 
 // A hex digit, with small letters.
 fn digit(b: u8) -> u8
-    ensures { λ d. ⌜ d < 16 ⌝ }
+    ensures { λ d. ⌜ (d ≡ hex-digit b) × (d < 16) ⌝ }
 {
     if b < 58 {
         return b % 16;
@@ -61,97 +52,68 @@ fn digit(b: u8) -> u8
     (b - 39) % 16
 }
 
-// A byte with its low half anew.
-fn with_low(byte: u8, d: u8) -> u8
-    requires { ⌜ d < 16 ⌝ }
+// The byte of two digits.
+fn byte(high: u8, low: u8) -> u8
+    ensures { λ r. ⌜ r ≡ hex-byte high low ⌝ }
 {
-    byte / 16 * 16 + d
+    16 * digit(high) + digit(low)
 }
 
-fn with_digit(s: Scan, d: u8, bytes: &mut [u8; STORE]) -> Scan
-    requires { ⌜ Within s × (d < 16) ⌝ }
-    ensures { λ r. ⌜ Within r ⌝ }
+// The bytes of a line of digits, and how many they are.
+pub fn decode(digits: &[u8], bytes: &mut [u8; STORE]) -> usize
+    requires { ⌜ length (now digits) ≤ 65536 ⌝ }
+    ensures { λ n. ⌜ Decodes (now (digits .entry)) (now (bytes .exit)) n ⌝ }
 {
-    let digits = s.digits;
-    let at = digits / 2;
-    if at >= STORE {
-        return s;
+    span(bytes);
+    let mut n: usize = 0;
+    while 2 * n + 1 < digits.len() {
+        bytes[n] = byte(digits[2 * n], digits[2 * n + 1]);
+        n += 1;
     }
-    if digits % 2 == 0 {
-        bytes[at] = 16 * d;
-    } else {
-        bytes[at] = with_low(bytes[at], d);
-    }
-    Scan {
-        part: Part::Hex,
-        digits: digits + 1,
-        size: (digits + 1) / 2,
-        length: s.length,
-        whole: false,
-    }
+    n
 }
 
-fn with_byte(s: Scan, part: Part, b: u8, expected: &mut [u8; ANSWER]) -> Scan
-    requires { ⌜ Within s ⌝ }
-    ensures { λ r. ⌜ Within r ⌝ }
+pub fn start() -> Reader
+    ensures { λ r. ⌜ r ≡ at-start ⌝ }
 {
-    let at = s.length;
-    if at >= ANSWER {
-        return s;
-    }
-    expected[at] = b;
-    Scan {
-        part: part,
-        digits: s.digits,
-        size: s.size,
-        length: at + 1,
-        whole: false,
+    let none = Tally {
+        agree: 0,
+        differ: 0,
+    };
+    Reader {
+        size: 0,
+        fresh: false,
+        tally: none,
     }
 }
 
-fn in_answer(s: Scan, b: u8, expected: &mut [u8; ANSWER]) -> Scan
-    requires { ⌜ Within s ⌝ }
-    ensures { λ r. ⌜ Within r ⌝ }
+// Whether a byte is the dot behind a vector.
+pub fn ends(r: Reader, b: u8) -> bool
+    ensures { λ e. ⌜ e ≡ ends-at (r .fresh) b ⌝ }
 {
-    if b == b'\n' {
-        return with_byte(s, Part::Line, b, expected);
+    if r.fresh {
+        return b == b'.';
     }
-    with_byte(s, Part::Text, b, expected)
+    false
 }
 
-// The scan behind one more byte.
-pub fn step(s: Scan, b: u8, bytes: &mut [u8; STORE], expected: &mut [u8; ANSWER]) -> Scan
-    requires { ⌜ Within s ⌝ }
-    ensures { λ r. ⌜ Within r ⌝ }
+// One more byte of a vector.
+pub fn keep(r: Reader, b: u8, text: &mut [u8; TEXT]) -> Reader
+    ensures { λ n. ⌜ Keeps r b (now (text .entry)) (now (text .exit)) n ⌝ }
 {
-    let part = s.part;
-    match part {
-        Part::Word => {
-            if b == b' ' {
-                return with_part(s, Part::Hex, false);
-            }
-            s
-        }
-        Part::Hex => {
-            if b == b'\n' {
-                return with_part(s, Part::Line, false);
-            }
-            with_digit(s, digit(b), bytes)
-        }
-        Part::Line => {
-            if b == b'.' {
-                return with_part(s, Part::Word, true);
-            }
-            in_answer(s, b, expected)
-        }
-        Part::Text => in_answer(s, b, expected),
+    span(text);
+    let tally = r.tally;
+    let size = r.size;
+    let fresh = b == b'\n';
+    if size < TEXT {
+        text[size] = b;
+        return Reader {
+            size: size + 1,
+            fresh,
+            tally,
+        };
     }
-}
-
-// How many answers agreed with a list, and how many differed.
-pub struct Tally {
-    pub agree: u32,
-    pub differ: u32,
+    Reader { size, fresh, tally }
 }
 
 fn more(n: u32) -> u32
@@ -176,5 +138,17 @@ pub fn told(t: Tally, agreed: bool) -> Tally
     Tally {
         agree: t.agree,
         differ: more(t.differ),
+    }
+}
+
+// Behind a vector that agreed or differed.
+pub fn counted(r: Reader, agreed: bool) -> Reader
+    ensures { λ n. ⌜ n ≡ counted-of r agreed ⌝ }
+{
+    let before = r.tally;
+    Reader {
+        size: 0,
+        fresh: false,
+        tally: told(before, agreed),
     }
 }

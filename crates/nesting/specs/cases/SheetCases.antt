@@ -998,6 +998,57 @@ sheet-cases =
     ∷ "defer 2 to return count 0 in - if t"
     ∷ []
     )
+    -- twice from what is met while nesting and nowhere else
+    ∷ prints (
+    block (
+    "000057000400000001000000000000000100030000000100010002000400000001000400000000000000020001000100010001000500010002000100"
+    ∷ "010001000100030005000100020001000000030001000200030002000100010000000400000001000100010001000100010001000100010002000200"
+    ∷ "03000100010001000100060000000300000001000300000001000300010001000200000000000100010000000100020009"
+    ∷ []
+    ) "5d2d0000"
+    ∷ []
+    ) (
+    "closed figure 17 attempts 13 twice 1"
+    ∷ "region 0 in - kids 4,5,6 out -"
+    ∷ "loop 4 in false body 1 repeat n3.0"
+    ∷ "region 1 in 1 kids 0,3 out true"
+    ∷ "block 0 1.0/5/1/i1.0"
+    ∷ "select 3 num d1.0 cases 4,5,6 out 1,1"
+    ∷ "region 4 in - kids - out true,false"
+    ∷ "region 5 in - kids - out false,true"
+    ∷ "region 6 in - kids - out false,false"
+    ∷ "select 5 bool n3.1 cases 2,8 out -"
+    ∷ "region 2 in - kids 1 out -"
+    ∷ "block 1 2.0/6/0/-"
+    ∷ "region 8 in - kids - out -"
+    ∷ "select 6 bool true cases 3,9 out -"
+    ∷ "region 3 in - kids 2 out -"
+    ∷ "exit 2 9 in -"
+    ∷ "region 9 in - kids - out -"
+    ∷ []
+    )
+    -- leftover: a loop that would cost more than the bound, but there is no figure
+    ∷ prints (
+    block (
+    "00002a0003000000ffff0000000000000100030000000100010000000100020000000100010007000100ffff0000ffff040001000200010000000200"
+    ∷ "01000200000000000100020000000000010001"
+    ∷ []
+    ) "53cf0000"
+    ∷ []
+    ) (
+    "leftover figure - attempts 7 twice 0"
+    ∷ "region 0 in - kids 2 out -"
+    ∷ "loop 2 in - body 1 repeat d1.0"
+    ∷ "region 1 in - kids 0,1 out -"
+    ∷ "block 0 1.0/7/1/-"
+    ∷ "select 1 bool d1.0 cases 3,4 out -"
+    ∷ "region 3 in - kids - out -"
+    ∷ "region 4 in - kids - out -"
+    ∷ "region 2 in - kids - out -"
+    ∷ "defer 0 to 2 count 2 in - if t"
+    ∷ "defer 2 to return count 0 in - if t"
+    ∷ []
+    )
     -- 128 regions, and a figure above the bound: not refused by 9
     ∷ prints (
     block (

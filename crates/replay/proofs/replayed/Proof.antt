@@ -1,17 +1,17 @@
+use native.Mathlib.Omega.{arith}
 use mathlib.Core.Path.{_≡_}
+use Prim.Native.Nat.{_≤_}
 use lib.ListN.{length}
 use borrow.Author.Needs.{needs}
-use Rattle.vectors.specs.Within.{Within}
 use Rattle.replay.proofs.replayed.Statement.{statement}
 use Rattle.replay.proofs.replayed.Tie as tie
 
 abbrev Inv-loop : tie.InvT-loop
-Inv-loop turns chunk₀ bytes₀ expected₀ words₀ out₀ replay₀ left₀ chunk bytes expected words out replay left =
-    (65536 ≡ length chunk) × Within (replay .scan)
+Inv-loop turns chunk₀ text₀ bytes₀ words₀ out₀ reader₀ left₀ chunk text bytes words out reader left =
+    (65536 ≡ length chunk) × (reader .size ≤ 65536)
 
 abbrev μ-loop : tie.MeasureT-loop
-μ-loop turns chunk₀ bytes₀ expected₀ words₀ out₀ replay₀ left₀ chunk bytes expected words out replay left =
-    left
+μ-loop turns chunk₀ text₀ bytes₀ words₀ out₀ reader₀ left₀ chunk text bytes words out reader left = left
 
 large-buffer-requires : tie.Need-large-buffer-requires Inv-loop μ-loop
 large-buffer-requires c κs = search needs
@@ -20,7 +20,7 @@ start-requires : tie.Need-start-requires Inv-loop μ-loop
 start-requires c κs = search needs
 
 loop-holds : tie.Need-loop-holds Inv-loop μ-loop
-loop-holds c = search needs
+loop-holds c = (search needs, rw (c .start .ensures) (omega arith))
 
 slice-aggregate-read-full : tie.Need-slice-aggregate-read-full Inv-loop μ-loop
 slice-aggregate-read-full c = search needs

@@ -1,17 +1,20 @@
+use mathlib.Core.Path.{_≡_, refl}
 use Prim.Native.Nat.{_-_}
-use lib.ListN.{length}
+use lib.ListN.{length, drop}
+use Rattle.damage.specs.Answers.{sum-from}
+use Rattle.damage.proofs.Laws.{summed-all, summed-more}
 use borrow.Author.Needs.{needs}
 use Rattle.damage.proofs.answers.sum_of.Statement.{statement}
 use Rattle.damage.proofs.answers.sum_of.Tie as tie
 
 abbrev Inv-loop : tie.InvT-loop
-Inv-loop text sum₀ i₀ sum i = Unit
+Inv-loop text sum₀ i₀ sum i = sum-from sum (drop i text) ≡ sum-from 0 text
 
 abbrev μ-loop : tie.MeasureT-loop
 μ-loop text sum₀ i₀ sum i = length text - i
 
 loop-holds : tie.Need-loop-holds Inv-loop μ-loop
-loop-holds c = search needs
+loop-holds c = refl
 
 shared-slice-read-plus : tie.Need-shared-slice-read-plus Inv-loop μ-loop
 shared-slice-read-plus c = search needs
@@ -26,10 +29,10 @@ loop-less : tie.Need-loop-less Inv-loop μ-loop
 loop-less c = search needs
 
 loop-again : tie.Need-loop-again Inv-loop μ-loop
-loop-again c = search needs
+loop-again c = summed-more _ _ _ (c .before .before .before .loop .inv) (c .before .before .loop-test .taken) (c .plus .ensures)
 
 returns : tie.Need-returns Inv-loop μ-loop
-returns c = search needs
+returns c = summed-all _ _ _ (c .before .loop .inv) (c .loop-test .left)
 
 pub sum-of-spec : {M : Type 1} → statement M
 sum-of-spec =
