@@ -17,13 +17,13 @@ use Rattle.nesting.specs.Nesting.{Nested, structurize-func, visit, reachable}
 use Rattle.nesting.specs.Sheet.{figure, Sheet, sheet-of, answer}
 use Rattle.format.specs.stores.Pack.{store-of-graph}
 use Rattle.nesting.specs.cases.CaseGraphs.{op, A, B}
-use Rattle.follows.specs.Statements.{is-whole, Followed, most-attempts, FewAttempts, SoundSheet}
+use Rattle.follows.specs.Statements.{is-whole, Followed, most-attempts, FewAttempts, SoundSheet, Refusal, by-store, by-limit, by-lent, by-figure}
 use Rattle.follows.specs.simulation.Follows.{follows}
 use Rattle.follows.specs.cost.Bounded.{bounded}
 use Rattle.follows.specs.counting.Attempts.{attempts}
 use Rattle.follows.specs.sound.Sound.{sound}
 use Rattle.follows.specs.examples.CaseForms.{A-accepted, A-valid, A-form, A-nested, A-nests, B-accepted, B-valid, B-loop, B-nested, B-nests}
-use Rattle.meaning.specs.Lists.{bit}
+use Rattle.meaning.specs.Lists.{Within, bit}
 
 abbrev event : ℕ → ℕ → ℕ → Event
 event r k op = record { region = r; index = k; opcode = op; reads = [] }
@@ -204,3 +204,17 @@ A-for-B-wrong h = let z : _≡_ {A = ℕ} 8 7 = ap (λ s. s .attempts) (one-shee
 A-invented-wrong : (s : Sheet) → s .figure ≡ 10 → SoundSheet (store-of-graph A) s → ⊥
 unfolding sheet-of figure
 A-invented-wrong s e h = let z : s .figure ≡ 11 = ap (λ s. s .figure) (one-sheet A-accepted A-nests h) in omega arith
+
+-- ---- 5: a refusal is numbered 1 to 11, so neither 0 nor 12.
+numbered : {n w : ℕ} → Refusal n w → Within 1 11 n
+numbered (by-store h l) = (h .0, omega (arith, h .1))
+numbered by-limit = (omega arith, omega arith)
+numbered by-lent = (omega arith, omega arith)
+numbered by-figure = (omega arith, omega arith)
+
+-- A nester that stops where the Rust does, and one whose fuel runs out.
+twelve-wrong : (w : ℕ) → Refusal 12 w → ⊥
+twelve-wrong w h = omega (arith, numbered h .1)
+
+nought-wrong : (w : ℕ) → Refusal 0 w → ⊥
+nought-wrong w h = omega (arith, numbered h .0)
