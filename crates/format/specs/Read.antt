@@ -5,7 +5,8 @@ use Prim.Native.Nat.{ℕ, zero, suc, _+_}
 use lib.ListN.{length, getD}
 use lib.Dec.{eqb, leb, ltb}
 use Rattle.format.specs.Store.{Answer, accepted, refused, if-accepted}
-use Rattle.meaning.specs.Graph.{Value, const, input, instr, bool, undef, no-value, Instr, bool-cond, number, Edge, ControlInst, unreachable, return, exit-invocation, branch, select-branch, Region, Graph, no-edge}
+use Rattle.meaning.specs.Graph.{Value, const, input, instr, bool, undef, no-value, Instr, bool-cond, number, Edge, ControlInst, unreachable}
+use Rattle.meaning.specs.Graph.{return, exit-invocation, branch, select-branch, Region, Graph, no-edge}
 use Rattle.meaning.specs.Lists.{pick, distinct-from, rank}
 
 -- What was read and the place after it, or the refusal's number.

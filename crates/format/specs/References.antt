@@ -4,7 +4,9 @@ use mathlib.Core.List.{List, [], _∷_, map}
 use Prim.Native.Nat.{ℕ, suc}
 use lib.ListN.{length, getD}
 use lib.Dec.{eqb, ltb}
-use Rattle.meaning.specs.Graph.{Value, const, input, instr, output, bool, undef, held, Instr, SelectionKind, bool-cond, number, Edge, ControlInst, unreachable, return, exit-invocation, branch, select-branch, Region, Graph, region, edges-of, no-value}
+use Rattle.meaning.specs.Graph.{Value, const, input, instr, output, bool, undef, held, Instr, SelectionKind, bool-cond, number, Edge}
+use Rattle.meaning.specs.Graph.{ControlInst, unreachable, return, exit-invocation, branch, select-branch, Region, Graph, region, edges-of}
+use Rattle.meaning.specs.Graph.{no-value}
 use Rattle.meaning.specs.Lists.{concat, is-in, pick}
 use Rattle.format.specs.Store.{Answer, accepted, refused, if-accepted}
 

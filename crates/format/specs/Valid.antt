@@ -3,7 +3,8 @@ use mathlib.Core.Path.{_≡_}
 use mathlib.Core.List.{List, [], _∷_}
 use Prim.Native.Nat.{ℕ, suc, _≤_, _<_}
 use lib.ListN.{length}
-use Rattle.meaning.specs.Graph.{Value, Instr, SelectionKind, bool-cond, number, Edge, ControlInst, unreachable, return, exit-invocation, branch, select-branch, Region, Graph, region}
+use Rattle.meaning.specs.Graph.{Value, Instr, SelectionKind, bool-cond, number, Edge, ControlInst, unreachable, return, exit-invocation}
+use Rattle.meaning.specs.Graph.{branch, select-branch, Region, Graph, region}
 use Rattle.meaning.specs.Lists.{Distinct, All, Within}
 use Rattle.format.specs.References.{type-in, instructions, behind-all, return-types}
 

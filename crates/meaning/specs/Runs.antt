@@ -6,7 +6,9 @@ use lib.ListN.{length, getD}
 use lib.Dec.{ltb, leb}
 use mathlib.Core.Option.{Option, none, some}
 use Rattle.meaning.specs.Lists.{numbers-from, pick, bit}
-use Rattle.meaning.specs.Graph.{Value, Instr, SelectionKind, const, input, instr, output, bool, undef, held, same-value, bool-cond, number, Graph, region, Edge, no-edge, ControlInst, unreachable, return, exit-invocation, branch, select-branch, no-value}
+use Rattle.meaning.specs.Graph.{Value, Instr, SelectionKind, const, input, instr, output, bool, undef, held, same-value, bool-cond}
+use Rattle.meaning.specs.Graph.{number, Graph, region, Edge, no-edge, ControlInst, unreachable, return, exit-invocation, branch}
+use Rattle.meaning.specs.Graph.{select-branch, no-value}
 
 -- ---- the nested form: sequences, selects and loops
 -- An output of a select: its number in order of definition, and its type.

@@ -6,8 +6,11 @@ use lib.ListN.{length, getD, set, take, replicate}
 use lib.Dec.{ltb, eqb}
 use mathlib.Core.Option.{Option, none, some}
 use Rattle.meaning.specs.Lists.{any, all, filter, empty, is-some, total, times-in, numbers-from, is-in, pick}
-use Rattle.meaning.specs.Graph.{Value, SelectionKind, output, const, input, instr, bool, undef, held, same-value, bool-cond, number, Instr, Region, Graph, region, edges-of, targets-of, Edge, ControlInst, unreachable, return, exit-invocation, branch, select-branch, no-value, same-values}
-use Rattle.meaning.specs.Runs.{Nodes, ⟨⟩, _▸_, block, select, Cases, ∅, case, loop, exit, OutputDecl, SelectNode, CaseRegion, LoopNode, Node}
+use Rattle.meaning.specs.Graph.{Value, SelectionKind, output, const, input, instr, bool, undef, held, same-value, bool-cond, number, Instr}
+use Rattle.meaning.specs.Graph.{Region, Graph, region, edges-of, targets-of, Edge, ControlInst, unreachable, return, exit-invocation}
+use Rattle.meaning.specs.Graph.{branch, select-branch, no-value, same-values}
+use Rattle.meaning.specs.Runs.{Nodes, ⟨⟩, _▸_, block, select, Cases, ∅, case, loop, exit, OutputDecl, SelectNode, CaseRegion, LoopNode}
+use Rattle.meaning.specs.Runs.{Node}
 use Rattle.format.specs.References.{return-types}
 use Rattle.format.specs.Store.{Answer, accepted, refused}
 

@@ -6,12 +6,15 @@ use lib.ListN.{getD, take, length}
 use lib.Dec.{leb, eqb}
 use Prim.Native.String.{String}
 use Rattle.meaning.specs.Lists.{concat, total, times-in, pick, bit}
-use Rattle.meaning.specs.Graph.{Instr, SelectionKind, Value, const, input, instr, output, bool, undef, held, Graph, bool-cond, number, no-value}
+use Rattle.meaning.specs.Graph.{Instr, SelectionKind, Value, const, input, instr, output, bool, undef, held, Graph, bool-cond, number}
+use Rattle.meaning.specs.Graph.{no-value}
 use Rattle.meaning.specs.Runs.{Node, block, select, loop, exit, Nodes, ⟨⟩, _▸_, Cases, ∅, case}
 use Rattle.meaning.specs.Text.{Text, ascii, decimal, joined, listed}
 use Rattle.format.specs.Store.{Answer, accepted, refused, if-accepted}
 use Rattle.format.specs.Accept.{accept}
-use Rattle.nesting.specs.Nesting.{Outcome, LazyCond, undef-cond, false-cond, true-cond, merge, LazyConds, _&_, DeferredTarget, to-region, to-return, DeferredEdgeBundle, untouched, whole, closed, leftover, Piece, Nested, structurize-func}
+use Rattle.nesting.specs.Nesting.{Outcome, LazyCond, undef-cond, false-cond, true-cond, merge, LazyConds, _&_, DeferredTarget}
+use Rattle.nesting.specs.Nesting.{to-region, to-return, DeferredEdgeBundle, untouched, whole, closed, leftover, Piece, Nested}
+use Rattle.nesting.specs.Nesting.{structurize-func}
 
 -- ---- The figure of a nested form: what a run can cost at most (document 01, "What comes out").
 module _ (test-cost : ℕ) where

@@ -6,7 +6,8 @@ use lib.ListN.{getD, take}
 use Rattle.meaning.specs.Lists.{times-in}
 use Rattle.meaning.specs.Graph.{Instr, Code, SelectionKind, Value, const, input, instr, output, bool, undef, held, no-value, code-of, Graph}
 use Rattle.meaning.specs.Runs.{SelectNode, Node, block, select, loop, exit, Nodes, ⟨⟩, _▸_, Cases, ∅, case}
-use Rattle.nesting.specs.Nesting.{Outcome, untouched, whole, closed, leftover, LazyCond, undef-cond, false-cond, true-cond, merge, LazyConds, _&_, DeferredTarget, to-region, to-return, DeferredEdgeBundle, Piece, Nested}
+use Rattle.nesting.specs.Nesting.{Outcome, untouched, whole, closed, leftover, LazyCond, undef-cond, false-cond, true-cond, merge}
+use Rattle.nesting.specs.Nesting.{LazyConds, _&_, DeferredTarget, to-region, to-return, DeferredEdgeBundle, Piece, Nested}
 use Rattle.nesting.specs.Sheet.{figure, ascending}
 
 -- An instruction of a block. A value is its three words.

@@ -9,7 +9,8 @@ ghost use Rattle.fields.specs.ByNumber.{block-of, instr-of, end-values, edge-of
 ghost use Rattle.text.specs.Buffer.{buffer, Wrote};
 ghost use Rattle.record_text.specs.Parts.{pass-once};
 ghost use Rattle.record_text.specs.Listing.{value-text, numbers-text, values-text, item-text, items-text, block-text, blocks-text};
-ghost use Rattle.record_text.specs.Listing.{terminator-text, pass-text, passes-text, region-line-text, exits-line, region-text, regions-text};
+ghost use Rattle.record_text.specs.Listing.{terminator-text, pass-text, passes-text, region-line-text, exits-line, region-text};
+ghost use Rattle.record_text.specs.Listing.{regions-text};
 use super::lists::Numbers;
 use super::lists::Values;
 use super::lists::put_dotted;

@@ -17,11 +17,21 @@ use Rattle.follows.specs.simulation.Defined.{IfDone}
 use Rattle.follows.specs.simulation.ClaimReady.{ClaimDone}
 use Rattle.follows.specs.simulation.Claims.{at-first, claim-post}
 
-pub chains-end : (g : Graph) → Valid g → (counts : List IncomingEdgeCount) (fuel n : ℕ) (inputs : List Value) (o : Option ClaimedRegion) (s : NestState)
-    → try-claim-edge-bundle g counts fuel (g .entry) n inputs (initial-state g) ≡ done o s → (es t : List RewriteEntry) → s .region-input-rewrites ≡ es ++ t → (r : ℕ) → ChainsEnd es r
+pub chains-end : (g : Graph) → Valid g → (counts : List IncomingEdgeCount) (fuel n : ℕ) (inputs : List Value) (o : Option ClaimedRegion)
+    (s : NestState)
+    → try-claim-edge-bundle g counts fuel (g .entry) n inputs (initial-state g) ≡ done o s → (es t : List RewriteEntry)
+    → s .region-input-rewrites ≡ es ++ t → (r : ℕ) → ChainsEnd es r
 chains-end g valid counts fuel n inputs o s e es t l r =
     let x : Given = record { constants = λ i. 0; entry-inputs = λ i. 0; rule = λ op reads past. 0 } in
-    let W : World = record { g = g; valid = usable-graph g valid; rule = x .rule; base = base-env x; on-bool = λ b. refl; on-undef = λ ty. refl } in
+    let W : World = record {
+      g = g;
+      valid = usable-graph g valid;
+      rule = x .rule;
+      base = base-env x;
+      on-bool = λ b. refl;
+      on-undef =
+          λ ty. refl;
+    } in
     let h : ClaimDone W (g .entry) inputs (initial-state g) o s = subst (λ a. IfDone (ClaimDone W (g .entry) inputs (initial-state g)) a) e
     (claim-post W counts fuel (g .entry) n inputs (initial-state g) (at-first W) (valid .entry) (entry-reachable g)) .post in
     end-before t (subst (λ z. ChainsEnd z r) l (rooted-ends (h .inv .rooted r)))

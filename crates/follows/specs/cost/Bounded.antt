@@ -8,7 +8,10 @@ use native.Mathlib.Omega.{arith}
 use lib.Dec.{leb}
 use borrow.Author.Tests.{leb-false}
 use Rattle.meaning.specs.Graph.{Value, Instr}
-use Rattle.meaning.specs.Runs.{LoopNode, OutputDecl, Node, block, select, loop, exit, Nodes, ⟨⟩, _▸_, Cases, ∅, case, Word, word, mark, Rule, RunState, place-taken, do-instr, do-block, Ran, through, ended, no-end, and-then, tested, once-more, pay, note-over, assign-inputs, leave-loop, assign-outputs, case-count, turns, run-node, run-nodes, run-case, ends-as, after-last, start, nested-run}
+use Rattle.meaning.specs.Runs.{LoopNode, OutputDecl, Node, block, select, loop, exit, Nodes, ⟨⟩, _▸_, Cases, ∅, case, Word, word, mark}
+use Rattle.meaning.specs.Runs.{Rule, RunState, place-taken, do-instr, do-block, Ran, through, ended, no-end, and-then, tested, once-more}
+use Rattle.meaning.specs.Runs.{pay, note-over, assign-inputs, leave-loop, assign-outputs, case-count, turns, run-node, run-nodes, run-case}
+use Rattle.meaning.specs.Runs.{ends-as, after-last, start, nested-run}
 use Rattle.meaning.specs.facts.Tests.{clash}
 use Rattle.meaning.specs.Lists.{total}
 use Rattle.nesting.specs.Sheet.{node-figure, figure}
@@ -37,7 +40,8 @@ costs-after k l a (through u) b = record { costs = both k l a (b .costs) }
 costs-after k l a (ended e u) b = record { costs = both k l a (b .costs) }
 costs-after k l a (no-end why) b = record { costs = tt }
 
-and-then-costs : {n m : ℕ} {s : RunState} (k : ℕ) → n + m ≤ k → (x : Ran) (f : RunState → Ran) → Costs n s x → ((t : RunState) → Costs m t (f t))
+and-then-costs : {n m : ℕ} {s : RunState} (k : ℕ) → n + m ≤ k → (x : Ran) (f : RunState → Ran) → Costs n s x
+    → ((t : RunState) → Costs m t (f t))
     → Costs k s (and-then x f)
 and-then-costs k l (through t) f a b = costs-after k l (a .costs) (f t) (b t)
 and-then-costs k l (ended e t) f a b = record { costs = record { within = λ h. let x = a .costs .within h in (x .0, omega arith) } }
@@ -123,7 +127,8 @@ module _ (rule : Rule) (test-cost : ℕ) where
     node-costs (select x cs) b s =
         tested-costs (s .env (x .scrutinee)) _ λ w.
         let j = place-taken (x .kind) w (case-count cs) in
-        costs-after _ (omega (arith, dearest-case test-cost cs j)) (pay-costs test-cost s) _ (case-costs cs b j (x .outputs) (pay test-cost s))
+        costs-after _ (omega (arith, dearest-case test-cost cs j)) (pay-costs test-cost s) _
+        (case-costs cs b j (x .outputs) (pay test-cost s))
     node-costs (loop x ks) b s =
         let e : x .limit - 0 ≡ x .limit = omega arith in
         costs-after {n = 0} _ (rw e (omega arith)) (inputs-cost-nothing (x .body) (x .initial-inputs) s) _
@@ -135,7 +140,8 @@ module _ (rule : Rule) (test-cost : ℕ) where
     nodes-cost (k ▸ ks) b s = and-then-costs _ (omega arith) (run-node rule test-cost b k s) _ (node-costs k b s) (λ t. nodes-cost ks b t)
 
     -- the case at place j costs at most its own figure
-    case-costs : (cs : Cases) (b j : ℕ) (os : List OutputDecl) (s : RunState) → Costs (figure test-cost (case-at cs j)) s (run-case rule test-cost b cs j os s)
+    case-costs : (cs : Cases) (b j : ℕ) (os : List OutputDecl) (s : RunState)
+        → Costs (figure test-cost (case-at cs j)) s (run-case rule test-cost b cs j os s)
     case-costs ∅ b j os s = record { costs = tt }
     case-costs (case c ks cs) b zero os s =
         and-then-costs {m = 0} _ (omega arith) (run-nodes rule test-cost b ks s) _ (nodes-cost ks b s)
@@ -145,7 +151,8 @@ module _ (rule : Rule) (test-cost : ℕ) where
 -- Statement 2.
 pub bounded : Bounded
 unfolding nested-run
-bounded g x ks outs b e = go outs (run-nodes (x .rule) (g .test-cost) b ks (start g x)) (nodes-cost (x .rule) (g .test-cost) ks b (start g x))
+bounded g x ks outs b e =
+    go outs (run-nodes (x .rule) (g .test-cost) b ks (start g x)) (nodes-cost (x .rule) (g .test-cost) ks b (start g x))
   where
     most : ℕ
     most = figure (g .test-cost) ks
@@ -155,4 +162,5 @@ bounded g x ks outs b e = go outs (run-nodes (x .rule) (g .test-cost) b ks (star
     go outs (no-end why) c p h = absurd (clash (cc))
     go outs (ended z t) c p h = let o : t .over-limit ≡ false = cc in let q : t .cost ≡ e .cost = cc in omega (arith, c .costs .within o .1)
     go none (through t) c p h = absurd (clash (cc))
-    go (some vs) (through t) c p h = let o : t .over-limit ≡ false = cc in let q : t .cost ≡ e .cost = cc in omega (arith, c .costs .within o .1)
+    go (some vs) (through t) c p h = let o : t .over-limit ≡ false = cc in let q : t .cost ≡ e .cost = cc in
+        omega (arith, c .costs .within o .1)

@@ -16,7 +16,10 @@ use Rattle.format.specs.Valid.{Valid}
 use Rattle.meaning.specs.Lists.{times-in, total}
 use Rattle.format.specs.Store
 use Rattle.format.specs.Store.{accepted, refused}
-use Rattle.nesting.specs.Nesting.{exit-targets, Nested, to-region, DeferredEdgeBundleSet, Outcome, untouched, whole, closed, leftover, StructurizeRegionState, not-begun, NestState, StepAnswer, done, turned-away, ClaimedRegion, reachable, incoming-edge-count, incoming-edge-counts, try-claim-edge-bundle, initial-state, outcome-of, conclude-by, conclude, structurize-func-by, structurize-func}
+use Rattle.nesting.specs.Nesting.{exit-targets, Nested, to-region, DeferredEdgeBundleSet, Outcome, untouched, whole, closed, leftover}
+use Rattle.nesting.specs.Nesting.{StructurizeRegionState, not-begun, NestState, StepAnswer, done, turned-away, ClaimedRegion, reachable}
+use Rattle.nesting.specs.Nesting.{incoming-edge-count, incoming-edge-counts, try-claim-edge-bundle, initial-state, outcome-of, conclude-by}
+use Rattle.nesting.specs.Nesting.{conclude, structurize-func-by, structurize-func}
 use Rattle.nesting.specs.steps.Post.{Post}
 use Rattle.nesting.specs.steps.RegionsLeft.{all-not-begun, not-begun-one, count-states}
 use Rattle.follows.specs.counting.Reach.{entry-reachable, target-reachable, reachable-once}
@@ -32,7 +35,8 @@ use Rattle.meaning.specs.facts.Elements.{numbered-map}
 
 pub incoming-at : (g : Graph) (r : ℕ) → r < length (g .regions) → getD (incoming-edge-counts g) r 0 ≡ incoming-edge-count g (reachable g) r
 unfolding incoming-edge-counts
-incoming-at g r h = let z : 0 + r ≡ r = omega arith in numbered-map (incoming-edge-count g (reachable g)) 0 (g .regions) r h ∙ ap (incoming-edge-count g (reachable g)) z
+incoming-at g r h = let z : 0 + r ≡ r = omega arith in
+    numbered-map (incoming-edge-count g (reachable g)) 0 (g .regions) r h ∙ ap (incoming-edge-count g (reachable g)) z
 
 -- ---- before anything is begun
 count-new : (n : ℕ) → count-states not-begun-one (replicate n not-begun) ≡ n
@@ -70,27 +74,36 @@ module _ (g : Graph) where
     owed-start : owed counting first-states ≡ edges-from g (reachable g) + length (reachable g) * (2 * length (reachable g))
     unfolding owed
     owed-start =
-        total-same (λ i. owed-by counting i (getD first-states i not-begun)) (λ i. length (edges-of (region g i .terminator)) + 2 * length (reachable g)) (λ i. ap (owed-by counting i) (all-not-begun (length (g .regions)) i)) (reachable g)
+        total-same (λ i. owed-by counting i (getD first-states i not-begun))
+        (λ i. length (edges-of (region g i .terminator)) + 2 * length (reachable g))
+        (λ i. ap (owed-by counting i) (all-not-begun (length (g .regions)) i)) (reachable g)
         ∙ total-add (λ i. length (edges-of (region g i .terminator))) (λ i. 2 * length (reachable g)) (reachable g)
         ∙ (let z = edges-over (reachable g) in let y = total-each (2 * length (reachable g)) (reachable g) in omega arith)
 
     edges-held-start : (r : ℕ) → edges-held counting r first-states ≡ incoming-from r (reachable g)
     unfolding edges-held
     edges-held-start r =
-        total-same (λ i. edges-held-by counting r i (getD first-states i not-begun)) (λ i. times-in r (targets-of g i) + times-in r (exit-targets g i))
+        total-same (λ i. edges-held-by counting r i (getD first-states i not-begun))
+        (λ i. times-in r (targets-of g i) + times-in r (exit-targets g i))
         (λ i. ap (edges-held-by counting r i) (all-not-begun (length (g .regions)) i)) (reachable g)
         ∙ over-incoming r (reachable g)
 
     start-pre : Pre counting (suc (length (g .regions))) (λ r. 0) (λ r. edges-to r (to-region (g .entry)) 1) (initial-state g)
     start-pre = record {
-      inv = record { length = length-replicate (length (g .regions)) not-begun; fine = λ i. let z = all-not-begun (length (g .regions)) i in rw z tt };
+      inv = record {
+        length = length-replicate (length (g .regions)) not-begun;
+        fine = λ i. let z = all-not-begun (length (g .regions)) i in
+            rw z tt;
+      };
       enough = let z = count-new (length (g .regions)) in omega arith;
       room = λ r. let z = edges-held-start r in omega arith;
       waits = λ r b. absurd (let z : false ≡ true = sym (ap busy (all-not-begun (length (g .regions)) r)) ∙ b in clash (cc));
     }
 
-    pub entry-counted : Post Nine (λ o s′. Claims counting 1 (g .entry) 1 (initial-state g) o s′) (try-claim-edge-bundle g (incoming-edge-counts g) (suc (length (g .regions))) (g .entry) 1 [] (initial-state g))
-    entry-counted = claim-counted counting (suc (length (g .regions))) (g .entry) 1 [] (λ r. 0) (initial-state g) (entry-reachable g) (omega arith) start-pre
+    pub entry-counted : Post Nine (λ o s′. Claims counting 1 (g .entry) 1 (initial-state g) o s′)
+        (try-claim-edge-bundle g (incoming-edge-counts g) (suc (length (g .regions))) (g .entry) 1 [] (initial-state g))
+    entry-counted = claim-counted counting (suc (length (g .regions))) (g .entry) 1 [] (λ r. 0) (initial-state g) (entry-reachable g)
+        (omega arith) start-pre
 
     squared : (n a e : ℕ) → a + n ≤ 1 + (e + n * (2 * n)) → a ≤ 1 + e + n * (2 * n - 1)
     squared zero a e h = omega arith
@@ -101,13 +114,15 @@ module _ (g : Graph) where
     FewOrNine (accepted x) = x .attempts ≤ most-attempts g (reachable g)
     FewOrNine (refused n w) = Nine n w
 
-    of-outcome : (s : NestState) (children : Nodes) (d : DeferredEdgeBundleSet) (o : Outcome) → conclude-by g s children d o .attempts ≡ s .attempts
+    of-outcome : (s : NestState) (children : Nodes) (d : DeferredEdgeBundleSet) (o : Outcome)
+        → conclude-by g s children d o .attempts ≡ s .attempts
     of-outcome s children d untouched = refl
     of-outcome s children d whole = refl
     of-outcome s children d closed = refl
     of-outcome s children d leftover = refl
 
-    concluded : (a : StepAnswer (Option ClaimedRegion)) → getD (incoming-edge-counts g) (g .entry) 0 ≡ 1 → Post Nine (λ o s′. Claims counting 1 (g .entry) 1 (initial-state g) o s′) a → FewOrNine (conclude g a)
+    concluded : (a : StepAnswer (Option ClaimedRegion)) → getD (incoming-edge-counts g) (g .entry) 0 ≡ 1
+        → Post Nine (λ o s′. Claims counting 1 (g .entry) 1 (initial-state g) o s′) a → FewOrNine (conclude g a)
     unfolding conclude
     concluded (turned-away n w) i p = p .post
     concluded (done none s) i p = let z = incoming-at g (g .entry) (valid .entry) in let y = p .post .good in absurd (omega arith)
@@ -122,7 +137,11 @@ module _ (g : Graph) where
     few-or-nine = go (eqb (getD (incoming-edge-counts g) (g .entry) 0) 1) refl
       where
         go : (b : Bool) → eqb (getD (incoming-edge-counts g) (g .entry) 0) 1 ≡ b
-            → FewOrNine (elim b [ false ↦ accepted (conclude-by g (initial-state g) ⟨⟩ [] untouched) | true ↦ conclude g (try-claim-edge-bundle g (incoming-edge-counts g) (suc (length (g .regions))) (g .entry) 1 [] (initial-state g)) ])
+            → FewOrNine (elim b [
+              | false ↦ accepted (conclude-by g (initial-state g) ⟨⟩ [] untouched)
+              | true ↦ conclude g
+                  (try-claim-edge-bundle g (incoming-edge-counts g) (suc (length (g .regions))) (g .entry) 1 [] (initial-state g))
+            ])
         go false p = omega arith
         go true p = concluded _ (eqb-true _ 1 p) entry-counted
 

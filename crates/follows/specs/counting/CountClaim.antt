@@ -12,15 +12,22 @@ use Rattle.meaning.specs.Graph.{Value, Graph}
 use Rattle.meaning.specs.Runs.{Nodes}
 use Rattle.meaning.specs.Lists.{is-in, times-in, pick}
 use Rattle.meaning.specs.facts.Tests.{clash}
-use Rattle.nesting.specs.Nesting.{exit-targets, LazyCond, to-region, DeferredEdgeBundle, DeferredEdgeBundleSet, StructurizeRegionState, not-begun, in-progress, claimed, ready, renumber-or-replace-with, NestState, Step, give, turn-away, _>>_, set-state, define-region, define-node, rewrite-values, materialize-lazy-cond, condition-in, get-edge-bundle-by-target, split-out-target, ClaimedRegion, no-inputs, take-inputs, add-exit-edge, structurize-loop, backedge-of, claim-body, claim-by-state}
+use Rattle.nesting.specs.Nesting.{exit-targets, LazyCond, to-region, DeferredEdgeBundle, DeferredEdgeBundleSet, StructurizeRegionState}
+use Rattle.nesting.specs.Nesting.{not-begun, in-progress, claimed, ready, renumber-or-replace-with, NestState, Step, give, turn-away, _>>_}
+use Rattle.nesting.specs.Nesting.{set-state, define-region, define-node, rewrite-values, materialize-lazy-cond, condition-in}
+use Rattle.nesting.specs.Nesting.{get-edge-bundle-by-target, split-out-target, ClaimedRegion, no-inputs, take-inputs, add-exit-edge}
+use Rattle.nesting.specs.Nesting.{structurize-loop, backedge-of, claim-body, claim-by-state}
 use Rattle.nesting.specs.steps.Post.{Post, map-post, bind}
-use Rattle.nesting.specs.steps.Keeps.{loop-claimed, with-entry, define-region-keeps, define-node-keeps, rewrite-values-keeps, materialize-keeps}
+use Rattle.nesting.specs.steps.Keeps.{loop-claimed, with-entry, define-region-keeps, define-node-keeps, rewrite-values-keeps}
+use Rattle.nesting.specs.steps.Keeps.{materialize-keeps}
 use Rattle.nesting.specs.steps.StatesKept.{Still, still-refl, still-then, still-steady}
 use Rattle.nesting.specs.steps.RegionsLeft.{state-of, with-state, not-begun-one, count-set}
 use Rattle.follows.specs.simulation.Bundles.{found-in}
 use Rattle.follows.specs.counting.Totals.{edge-total, at, bundles-to, edges-to, edgeless}
 use Rattle.follows.specs.counting.SplitTotals.{split-total, not-found, no-bundles, exits-bundles, exits-edges, exits-edgeless}
-use Rattle.follows.specs.counting.Counting.{Counting, Nine, busy, live-count, live-one, owed-by, edges-held-by, edges-held, owed-set, edges-held-set, edges-held-at, Good, Fine, CountInv, Pre, Counted, counted-then, counted-still, inv-set, busy-else, busy-here}
+use Rattle.follows.specs.counting.Counting.{Counting, Nine, busy, live-count, live-one, owed-by, edges-held-by, edges-held, owed-set}
+use Rattle.follows.specs.counting.Counting.{edges-held-set, edges-held-at, Good, Fine, CountInv, Pre, Counted, counted-then}
+use Rattle.follows.specs.counting.Counting.{counted-still, inv-set, busy-else, busy-here}
 
 abbrev SetIs : DeferredEdgeBundleSet → Option ClaimedRegion → Type 0
 SetIs d none = ⊥
@@ -30,17 +37,24 @@ record Looped (d : DeferredEdgeBundleSet) (s : NestState) (o : Option ClaimedReg
   still : Still s s′
   is : SetIs d o
 
-loop-set : (g : Graph) (body : ℕ) (children : Nodes) (backedge : DeferredEdgeBundle) (repeat : LazyCond) (exits : DeferredEdgeBundleSet) (inputs : List Value) (s : NestState)
+loop-set : (g : Graph) (body : ℕ) (children : Nodes) (backedge : DeferredEdgeBundle) (repeat : LazyCond) (exits : DeferredEdgeBundleSet)
+    (inputs : List Value) (s : NestState)
     → Post Nine (λ o s′. Looped (map (add-exit-edge (exit-targets g body)) exits) s o s′)
     (structurize-loop g body children backedge repeat exits inputs s)
 unfolding structurize-loop
 loop-set g body children backedge repeat exits inputs s =
     bind (define-region s) _ (define-region-keeps still-steady Nine (refl, refl) s) λ wrapper s₁ q₁.
-    bind (rewrite-values (backedge .target-inputs) s₁) _ (rewrite-values-keeps still-steady Nine (refl, refl) (backedge .target-inputs) s₁) λ vs s₂ q₂.
-    let s₃ = with-entry (record { region = body; rewrites = renumber-or-replace-with (take-inputs g body wrapper 0 vs no-inputs .rewrites) }) s₂ in
+    bind (rewrite-values (backedge .target-inputs) s₁) _
+    (rewrite-values-keeps still-steady Nine (refl, refl) (backedge .target-inputs) s₁) λ vs s₂ q₂.
+    let s₃ = with-entry (record {
+      region = body;
+      rewrites =
+          renumber-or-replace-with (take-inputs g body wrapper 0 vs no-inputs .rewrites);
+    }) s₂ in
     let q₃ : Still s₂ s₃ = record { states = refl; attempts = refl } in
     bind (materialize-lazy-cond repeat s₃) _ (materialize-keeps still-steady Nine (refl, refl) repeat s₃) λ v s₄ q₄.
-    bind (define-node s₄) (λ n. give (some (loop-claimed g body children exits inputs wrapper vs v n))) (define-node-keeps still-steady Nine (refl, refl) s₄) λ n s₅ q₅.
+    bind (define-node s₄) (λ n. give (some (loop-claimed g body children exits inputs wrapper vs v n)))
+    (define-node-keeps still-steady Nine (refl, refl) s₄) λ n s₅ q₅.
     record { post = record { still = still-then q₁ (still-then q₂ (still-then q₃ (still-then q₄ q₅))); is = refl } }
 
 module _ (K : Counting) where
@@ -73,7 +87,8 @@ module _ (K : Counting) where
       here false = omega arith
 
   -- ---- a ready region is claimed
-  module _ (q n b : ℕ) (children : Nodes) (d : DeferredEdgeBundleSet) (s : NestState) (inv : CountInv K (s .region-states)) (in-q : is-in q (K .live) ≡ true) (is : state-of s q ≡ ready b children d)
+  module _ (q n b : ℕ) (children : Nodes) (d : DeferredEdgeBundleSet) (s : NestState) (inv : CountInv K (s .region-states))
+      (in-q : is-in q (K .live) ≡ true) (is : state-of s q ≡ ready b children d)
       (whole : K .incoming q ≡ n + b) (good : Good K d) (back : b ≡ edge-total (edges-to q) d) where
     abbrev after : NestState
     after = with-state s q claimed
@@ -94,9 +109,11 @@ module _ (K : Counting) where
       where
         go : (r : ℕ) (x : Bool) → eqb r q ≡ x
             → edge-total (edges-to r) d′ + pick x b 0 ≤ edge-total (edges-to r) d + times-in r (exit-targets (K .g) q)
-            → edges-held K r (set (s .region-states) q claimed) + edges-held-by K r q (state-of s q) ≡ edges-held K r (s .region-states) + pick x (K .incoming r) 0
+            → edges-held K r (set (s .region-states) q claimed) + edges-held-by K r q (state-of s q)
+            ≡ edges-held K r (s .region-states) + pick x (K .incoming r) 0
             → edges-held-by K r q (state-of s q) ≡ times-in r (exit-targets (K .g) q) + edge-total (edges-to r) d
-            → edges-held K r (set (s .region-states) q claimed) + edge-total (edges-to r) d′ ≤ edges-held K r (s .region-states) + pick x n 0
+            → edges-held K r (set (s .region-states) q claimed) + edge-total (edges-to r) d′ ≤ edges-held K r
+            (s .region-states) + pick x n 0
         go r true p a u v = let z = ap (K .incoming) (eqb-true r q p) in omega arith
         go r false p a u v = omega arith
 
@@ -104,7 +121,8 @@ module _ (K : Counting) where
         still-busy r true p = let e = eqb-true r q p in rw e (busy-here (s .region-states) q claimed lt-q ∙ sym (ap busy is))
         still-busy r false p = busy-else (s .region-states) q claimed r p
 
-    without-back : (inputs : List Value) → b ≡ 0 → Claims 0 q n s (some (record { origin = q; structured-body = q; structured-body-inputs = inputs; children = children; deferred-edges = d })) after
+    without-back : (inputs : List Value) → b ≡ 0 → Claims 0 q n s
+        (some (record { origin = q; structured-body = q; structured-body-inputs = inputs; children = children; deferred-edges = d })) after
     without-back inputs z = record { step = claimed-step d (λ r. go r (eqb r q)); good = good }
       where
         go : (r : ℕ) (x : Bool) → edge-total (edges-to r) d + pick x b 0 ≤ edge-total (edges-to r) d + times-in r (exit-targets (K .g) q)
@@ -151,36 +169,49 @@ module _ (K : Counting) where
       as-loop (some c) s′ h =
           let step = claimed-step (c .deferred-edges) (λ r. rw (h .is) (exits-counted r (eqb r q) refl)) in
           record {
-            step = counted-then K step (counted-still K {f = λ r. edge-total (edges-to r) (c .deferred-edges)} {f′ = λ r. edge-total (edges-to r) (c .deferred-edges)} (h .still) (step .inv) (λ r. omega arith)) (omega arith) (λ r. omega arith);
+            step = counted-then K step
+                (counted-still K {f = λ r. edge-total (edges-to r) (c .deferred-edges)} {f′ =
+                λ r. edge-total (edges-to r) (c .deferred-edges)} (h .still) (step .inv) (λ r. omega arith)) (omega arith)
+                (λ r. omega arith);
             good = rw (h .is) exits-good;
           }
 
-    claim-body-counted : (inputs : List Value) → Post Nine (λ o s′. Claims 0 q n s o s′) (claim-body (K .g) q inputs children d (backedge-of q b d) after)
+    claim-body-counted : (inputs : List Value) → Post Nine (λ o s′. Claims 0 q n s o s′)
+        (claim-body (K .g) q inputs children d (backedge-of q b d) after)
     claim-body-counted inputs = by-count b refl
       where
-        by-found : (o : Option DeferredEdgeBundle) → get-edge-bundle-by-target (to-region q) d ≡ o → Post Nine (λ o s′. Claims 0 q n s o s′) (claim-body (K .g) q inputs children d o after)
+        by-found : (o : Option DeferredEdgeBundle) → get-edge-bundle-by-target (to-region q) d ≡ o
+            → Post Nine (λ o s′. Claims 0 q n s o s′) (claim-body (K .g) q inputs children d o after)
         by-found none p = record { post = without-back inputs (back ∙ not-found q d p) }
-        by-found (some e) p = map-post _ (loop-set (K .g) q children e (condition-in d e) (split-out-target (to-region q) d) inputs after) λ o s′ x. as-loop e p o s′ x
+        by-found (some e) p =
+            map-post _ (loop-set (K .g) q children e (condition-in d e)
+            (split-out-target (to-region q) d) inputs after) λ o s′ x. as-loop e p o s′ x
 
-        by-count : (c : ℕ) → b ≡ c → Post Nine (λ o s′. Claims 0 q n s o s′) (claim-body (K .g) q inputs children d (backedge-of q c d) after)
+        by-count : (c : ℕ) → b ≡ c → Post Nine (λ o s′. Claims 0 q n s o s′)
+            (claim-body (K .g) q inputs children d (backedge-of q c d) after)
         by-count zero p = record { post = without-back inputs p }
         by-count (suc c) p = by-found (get-edge-bundle-by-target (to-region q) d) refl
 
   not-claimed : (q n : ℕ) (s : NestState) → n < K .incoming q → CountInv K (s .region-states) → Claims 0 q n s none s
   not-claimed q n s l i = record { step = counted-still K (still-refl s) i (λ r. omega arith); good = l }
 
-  module _ (q n : ℕ) (inputs : List Value) (fuel : ℕ) (H : ℕ → ℕ) (s : NestState) (in-q : is-in q (K .live) ≡ true) (pos : 1 ≤ n) (pre : Pre K fuel H (λ r. edges-to r (to-region q) n) s) where
+  module _ (q n : ℕ) (inputs : List Value) (fuel : ℕ) (H : ℕ → ℕ) (s : NestState) (in-q : is-in q (K .live) ≡ true) (pos : 1 ≤ n)
+      (pre : Pre K fuel H (λ r. edges-to r (to-region q) n) s) where
     q-room : edges-held K q (s .region-states) + (n + H q) ≤ K .incoming q
     q-room = let x = pre .room q in let y = edges-self q n in omega arith
 
-    ready-counted : (b : ℕ) (children : Nodes) (d : DeferredEdgeBundleSet) → state-of s q ≡ ready b children d → Post Nine (λ o s′. Claims 0 q n s o s′) (claim-by-state (K .g) q n inputs (K .incoming q) (ready b children d) s)
+    ready-counted : (b : ℕ) (children : Nodes) (d : DeferredEdgeBundleSet) → state-of s q ≡ ready b children d
+        → Post Nine (λ o s′. Claims 0 q n s o s′) (claim-by-state (K .g) q n inputs (K .incoming q) (ready b children d) s)
     ready-counted b children d p = go (eqb (K .incoming q) (n + b)) refl
       where
         fine : Fine K q (ready b children d)
         fine = rw p at (pre .inv .fine q)
 
         go : (x : Bool) → eqb (K .incoming q) (n + b) ≡ x
-            → Post {A = Option ClaimedRegion} Nine (λ o s′. Claims 0 q n s o s′) (let y : Step (Option ClaimedRegion) = elim x [ false ↦ give none | true ↦ set-state q claimed >> claim-body (K .g) q inputs children d (backedge-of q b d) ] in y s)
+            → Post {A = Option ClaimedRegion} Nine (λ o s′. Claims 0 q n s o s′)
+            (let y : Step (Option ClaimedRegion) =
+            elim x [ false ↦ give none | true ↦ set-state q claimed >> claim-body (K .g) q inputs children d (backedge-of q b d) ] in
+            y s)
         go false e =
             let a = edges-held-at K q q (s .region-states) in-q in
             let c = ap (edges-held-by K q q) p in
@@ -190,7 +221,8 @@ module _ (K : Counting) where
             record { post = not-claimed q n s (omega arith) (pre .inv) }
         go true e = claim-body-counted q n b children d s (pre .inv) in-q p (eqb-true _ _ e) (fine .0) (fine .1) inputs
 
-    pub claim-by-state-counted : (x : StructurizeRegionState) → state-of s q ≡ x → not-begun-one x ≡ 0 → Post Nine (λ o s′. Claims 0 q n s o s′) (claim-by-state (K .g) q n inputs (K .incoming q) x s)
+    pub claim-by-state-counted : (x : StructurizeRegionState) → state-of s q ≡ x → not-begun-one x ≡ 0
+        → Post Nine (λ o s′. Claims 0 q n s o s′) (claim-by-state (K .g) q n inputs (K .incoming q) x s)
     claim-by-state-counted not-begun p e = absurd (clash (cc))
     claim-by-state-counted claimed p e =
         let a = edges-held-at K q q (s .region-states) in-q in
@@ -200,7 +232,8 @@ module _ (K : Counting) where
         absurd (omega arith)
     claim-by-state-counted in-progress p e = go (eqb (K .incoming q) n) refl
       where
-        go : (x : Bool) → eqb (K .incoming q) n ≡ x → Post {A = Option ClaimedRegion} Nine (λ o s′. Claims 0 q n s o s′) (let y : Step (Option ClaimedRegion) = elim x [ false ↦ give none | true ↦ turn-away 12 q ] in y s)
+        go : (x : Bool) → eqb (K .incoming q) n ≡ x → Post {A = Option ClaimedRegion} Nine (λ o s′. Claims 0 q n s o s′)
+            (let y : Step (Option ClaimedRegion) = elim x [ false ↦ give none | true ↦ turn-away 12 q ] in y s)
         go false e = let y = q-room in let z = eqb-false (K .incoming q) n e in record { post = not-claimed q n s (omega arith) (pre .inv) }
         go true e = let y = q-room in let z = pre .waits q (ap busy p) in let w = eqb-true (K .incoming q) n e in absurd (omega arith)
     claim-by-state-counted (ready b children d) p e = ready-counted b children d p

@@ -11,20 +11,28 @@ use borrow.Author.Tests.{eqb-true, eq-eqb}
 use Rattle.meaning.specs.Graph.{Value, Edge, ControlInst, unreachable, return, exit-invocation, branch, select-branch}
 use Rattle.meaning.specs.Runs.{Nodes}
 use Rattle.meaning.specs.Lists.{is-in, empty, times-in, total, pick}
-use Rattle.nesting.specs.Nesting.{DeferredTarget, to-region, to-return, DeferredEdgeBundle, DeferredEdgeBundleSet, StructurizeRegionState, not-begun, in-progress, claimed, ready, NestState, Step, _>>=_, define-node, ClaimedRegion, MaybeClaimedRegion, err, value, Body, deferred-of, has-children, append-maybe-claimed-region, structurize-select-into, Claim, SplitOut, defer-edge, unclaimed-edge, edge-case, split-out-or, by-control-inst, target-regions, split-out-matching}
+use Rattle.nesting.specs.Nesting.{DeferredTarget, to-region, to-return, DeferredEdgeBundle, DeferredEdgeBundleSet, StructurizeRegionState}
+use Rattle.nesting.specs.Nesting.{not-begun, in-progress, claimed, ready, NestState, Step, _>>=_, define-node, ClaimedRegion}
+use Rattle.nesting.specs.Nesting.{MaybeClaimedRegion, err, value, Body, deferred-of, has-children, append-maybe-claimed-region}
+use Rattle.nesting.specs.Nesting.{structurize-select-into, Claim, SplitOut, defer-edge, unclaimed-edge, edge-case, split-out-or}
+use Rattle.nesting.specs.Nesting.{by-control-inst, target-regions, split-out-matching}
 use Rattle.nesting.specs.steps.Post.{Post, map-post, bind}
 use Rattle.nesting.specs.steps.Keeps.{define-node-keeps}
 use Rattle.nesting.specs.steps.StatesKept.{Still, still-refl, still-steady}
 use Rattle.nesting.specs.steps.RegionsLeft.{state-of}
 use Rattle.meaning.specs.facts.Sums.{total-one, total-add, total-less, total-each}
-use Rattle.follows.specs.counting.Totals.{Measure, edge-total, totals, at, bundles-to, edges-to, to-regions, edgeless, SetFits, FitsAll, total-append}
+use Rattle.follows.specs.counting.Totals.{Measure, edge-total, totals, at, bundles-to, edges-to, to-regions, edgeless, SetFits}
+use Rattle.follows.specs.counting.Totals.{FitsAll, total-append}
 use Rattle.follows.specs.counting.SelectTotals.{SelectedTotals, append-total, select-into-total}
-use Rattle.follows.specs.counting.Counting.{Counting, Nine, live-count, live-one, Good, CountInv, Pre, Counted, counted-then, counted-as, counted-still, pre-after, pre-as}
+use Rattle.follows.specs.counting.Counting.{Counting, Nine, live-count, live-one, Good, CountInv, Pre, Counted, counted-then}
+use Rattle.follows.specs.counting.Counting.{counted-as, counted-still, pre-after, pre-as}
 use Rattle.follows.specs.counting.CountClaim.{Claims, GoodClaim, in-hand, one-less}
 
 module _ (K : Counting) where
   abbrev pub ClaimCounted : ℕ → Claim → Type 0
-  ClaimCounted fuel claim = (q n : ℕ) (inputs : List Value) (H : ℕ → ℕ) (s : NestState) → is-in q (K .live) ≡ true → 1 ≤ n → Pre K fuel H (λ r. edges-to r (to-region q) n) s
+  ClaimCounted fuel claim =
+      (q n : ℕ) (inputs : List Value) (H : ℕ → ℕ) (s : NestState) → is-in q (K .live) ≡ true → 1 ≤ n
+      → Pre K fuel H (λ r. edges-to r (to-region q) n) s
       → Post Nine (λ o s′. Claims K 1 q n s o s′) (claim q n inputs s)
 
   -- the edges to r among a region's own
@@ -63,7 +71,8 @@ module _ (K : Counting) where
   deferred-good : (e : Edge) → is-in (e .target) (K .live) ≡ true → Good K (deferred-of (defer-edge e))
   deferred-good e h = record { fits = λ r. let z = fits-one (e .target) h r in omega arith; full = refl }
 
-  unclaimed-counted : (e : Edge) (x : StructurizeRegionState) (s : NestState) → is-in (e .target) (K .live) ≡ true → CaseCounted (e .target) none s (unclaimed-edge e x) s
+  unclaimed-counted : (e : Edge) (x : StructurizeRegionState) (s : NestState) → is-in (e .target) (K .live) ≡ true
+      → CaseCounted (e .target) none s (unclaimed-edge e x) s
   unclaimed-counted e not-begun s h = record { still = still-refl s; kept = λ r. omega arith; good = deferred-good e h }
   unclaimed-counted e in-progress s h = record { still = still-refl s; kept = λ r. omega arith; good = deferred-good e h }
   unclaimed-counted e claimed s h = record { still = still-refl s; kept = λ r. omega arith; good = deferred-good e h }
@@ -73,29 +82,50 @@ module _ (K : Counting) where
       go true = record { still = still-refl s; kept = λ r. omega arith; good = good-empty }
       go false = record { still = still-refl s; kept = λ r. omega arith; good = deferred-good e h }
 
-  edge-case-counted : (e : Edge) (o : Option ClaimedRegion) (s : NestState) → is-in (e .target) (K .live) ≡ true → GoodClaim K (e .target) 1 o → Post Nine (λ c s′. CaseCounted (e .target) o s c s′) (edge-case e o s)
+  edge-case-counted : (e : Edge) (o : Option ClaimedRegion) (s : NestState) → is-in (e .target) (K .live) ≡ true
+      → GoodClaim K (e .target) 1 o → Post Nine (λ c s′. CaseCounted (e .target) o s c s′) (edge-case e o s)
   edge-case-counted e none s h g = record { post = unclaimed-counted e (state-of s (e .target)) s h }
   edge-case-counted e (some c) s h g = record { post = record { still = still-refl s; kept = λ r. omega arith; good = g } }
 
-  pub selected-counted : (s : NestState) (cs : List MaybeClaimedRegion) (x : Body) (s′ : NestState) → CountInv K (s .region-states) → FitsAll (live-one K) cs → totals edgeless cs ≡ 0
+  pub selected-counted : (s : NestState) (cs : List MaybeClaimedRegion) (x : Body) (s′ : NestState) → CountInv K (s .region-states)
+      → FitsAll (live-one K) cs → totals edgeless cs ≡ 0
       → SelectedTotals s cs s′ (x .deferred-edges) → BodyCounted 0 (λ r. totals (edges-to r) cs) s x s′
   selected-counted s cs x s′ i fi fu y = record {
     step = counted-still K (y .still) i (y .chosen .edges);
     good = record { fits = y .chosen .fits (live-one K) fi; full = let z = y .chosen .edgeless in omega arith };
   }
 
-  pub by-control-inst-counted : (parent : Nodes) (x : ControlInst) (cs : List MaybeClaimedRegion) (s : NestState) → CountInv K (s .region-states) → FitsAll (live-one K) cs → totals edgeless cs ≡ 0
+  pub by-control-inst-counted : (parent : Nodes) (x : ControlInst) (cs : List MaybeClaimedRegion) (s : NestState)
+      → CountInv K (s .region-states) → FitsAll (live-one K) cs → totals edgeless cs ≡ 0
       → Post Nine (λ y s′. BodyCounted 0 (λ r. totals (edges-to r) cs) s y s′) (by-control-inst (K .g) parent x cs s)
-  by-control-inst-counted parent unreachable cs s i fi fu = record { post = record { step = counted-still K (still-refl s) i (λ r. omega arith); good = good-empty } }
-  by-control-inst-counted parent (return vs) cs s i fi fu = record { post = record { step = counted-still K (still-refl s) i (λ r. omega arith); good = record { fits = λ r. omega arith; full = refl } } }
+  by-control-inst-counted parent unreachable cs s i fi fu =
+      record { post = record { step = counted-still K (still-refl s) i (λ r. omega arith); good = good-empty } }
+  by-control-inst-counted parent (return vs) cs s i fi fu =
+      record {
+        post = record {
+          step = counted-still K (still-refl s) i (λ r. omega arith);
+          good =
+              record { fits = λ r. omega arith; full = refl };
+        };
+      }
   by-control-inst-counted parent (exit-invocation op vs) cs s i fi fu =
-      bind (define-node s) _ (define-node-keeps still-steady Nine (refl, refl) s) λ n s₁ q. record { post = record { step = counted-still K q i (λ r. omega arith); good = good-empty } }
-  by-control-inst-counted parent (branch e) [] s i fi fu = record { post = record { step = counted-still K (still-refl s) i (λ r. omega arith); good = good-empty } }
+      bind (define-node s) _
+      (define-node-keeps still-steady Nine (refl, refl) s) λ n s₁ q. record {
+        post =
+            record { step = counted-still K q i (λ r. omega arith); good = good-empty };
+      }
+  by-control-inst-counted parent (branch e) [] s i fi fu =
+      record { post = record { step = counted-still K (still-refl s) i (λ r. omega arith); good = good-empty } }
   by-control-inst-counted parent (branch e) (c ∷ cs) s i fi fu =
       map-post (append-maybe-claimed-region parent c s) (append-total Nine (refl, refl) (K .g) parent c s) λ y s₁ q.
-      record { step = counted-still K (q .0) i (λ r. let z = ap (edge-total (edges-to r)) (q .1) in omega arith); good = rw (q .1) (record { fits = fi .0; full = omega arith }) }
+      record {
+        step = counted-still K (q .0) i (λ r. let z = ap (edge-total (edges-to r)) (q .1) in omega arith);
+        good =
+            rw (q .1) (record { fits = fi .0; full = omega arith });
+      }
   by-control-inst-counted parent (select-branch kind v es) cs s i fi fu =
-      map-post (structurize-select-into (K .g) parent kind (value v) cs s) (select-into-total Nine (refl, refl) (K .g) parent kind (value v) cs s) λ y s₁ q. selected-counted s cs y s₁ i fi fu q
+      map-post (structurize-select-into (K .g) parent kind (value v) cs s)
+      (select-into-total Nine (refl, refl) (K .g) parent kind (value v) cs s) λ y s₁ q. selected-counted s cs y s₁ i fi fu q
 
   -- ---- a scan makes one attempt for each region in the set, and these are no more than the live regions
   live-of : (q : ℕ) → 1 ≤ live-one K q → is-in q (K .live) ≡ true
@@ -105,7 +135,8 @@ module _ (K : Counting) where
       go true x = refl
       go false x = absurd (omega arith)
 
-  regions-sum : (d : DeferredEdgeBundleSet) → SetFits (live-one K) d → edge-total to-regions d ≤ total (λ i. edge-total (bundles-to i) d) (K .live)
+  regions-sum : (d : DeferredEdgeBundleSet) → SetFits (live-one K) d
+      → edge-total to-regions d ≤ total (λ i. edge-total (bundles-to i) d) (K .live)
   regions-sum [] h = omega arith
   regions-sum (e ∷ es) h =
       let z = regions-sum es (λ r. let y = h r in omega arith) in
@@ -141,21 +172,31 @@ module _ (K : Counting) where
   GoodSplit (some y) = Good K (y .claimed-region .deferred-edges) × Good K (y .others)
 
   pub record ScanCounted (before d : DeferredEdgeBundleSet) (s : NestState) (o : Option SplitOut) (s′ : NestState) : Type 0 where
-    pub step : Counted K (edge-total to-regions d) (scan-gain o) (λ r. edge-total (edges-to r) before + edge-total (edges-to r) d) (λ r. in-hand-scan before d o r) s s′
+    pub step : Counted K (edge-total to-regions d) (scan-gain o) (λ r. edge-total (edges-to r) before + edge-total (edges-to r) d)
+        (λ r. in-hand-scan before d o r) s s′
     pub good : GoodSplit o
 
-  last-one : (μ : Measure) (before : DeferredEdgeBundleSet) (e : DeferredEdgeBundle) → edge-total μ (before ++ (e ∷ [])) ≡ edge-total μ before + μ (e .target) (e .accumulated-count)
+  last-one : (μ : Measure) (before : DeferredEdgeBundleSet) (e : DeferredEdgeBundle)
+      → edge-total μ (before ++ (e ∷ [])) ≡ edge-total μ before + μ (e .target) (e .accumulated-count)
   last-one μ before e = let z = total-append μ before (e ∷ []) in omega arith
 
   passed : (before es : DeferredEdgeBundleSet) (e : DeferredEdgeBundle) (s s₁ : NestState) (o : Option SplitOut) (s′ : NestState) (c : ℕ)
-      → Counted K c 0 (λ r. edge-total (edges-to r) before + edge-total (edges-to r) (e ∷ es)) (λ r. edge-total (edges-to r) before + edge-total (edges-to r) (e ∷ es)) s s₁ → c ≤ to-regions (e .target) (e .accumulated-count)
+      → Counted K c 0 (λ r. edge-total (edges-to r) before + edge-total (edges-to r) (e ∷ es))
+      (λ r. edge-total (edges-to r) before + edge-total (edges-to r) (e ∷ es)) s s₁ → c ≤ to-regions (e .target) (e .accumulated-count)
       → ScanCounted (before ++ (e ∷ [])) es s₁ o s′ → ScanCounted before (e ∷ es) s o s′
   passed before es e s s₁ none s′ c st l h = record {
-    step = counted-then K st (counted-as K (h .step) (edge-total to-regions es) 0 (λ r. edge-total (edges-to r) before + edge-total (edges-to r) (e ∷ es)) (λ r. edge-total (edges-to r) before + edge-total (edges-to r) (e ∷ es)) (omega arith) (λ r. omega arith)) (omega arith) (λ r. omega arith);
+    step = counted-then K st
+        (counted-as K (h .step) (edge-total to-regions es) 0 (λ r. edge-total (edges-to r) before + edge-total (edges-to r) (e ∷ es))
+        (λ r. edge-total (edges-to r) before + edge-total (edges-to r) (e ∷ es)) (omega arith) (λ r. omega arith)) (omega arith)
+        (λ r. omega arith);
     good = tt;
   }
   passed before es e s s₁ (some y) s′ c st l h = record {
-    step = counted-then K st (counted-as K (h .step) (edge-total to-regions es) (live-count K) (λ r. edge-total (edges-to r) before + edge-total (edges-to r) (e ∷ es)) (λ r. edge-total (edges-to r) (y .claimed-region .deferred-edges) + edge-total (edges-to r) (y .others)) (omega arith) (λ r. let z = last-one (edges-to r) before e in omega arith)) (omega arith) (λ r. omega arith);
+    step = counted-then K st
+        (counted-as K (h .step) (edge-total to-regions es) (live-count K)
+        (λ r. edge-total (edges-to r) before + edge-total (edges-to r) (e ∷ es))
+        (λ r. edge-total (edges-to r) (y .claimed-region .deferred-edges) + edge-total (edges-to r) (y .others)) (omega arith)
+        (λ r. let z = last-one (edges-to r) before e in omega arith)) (omega arith) (λ r. omega arith);
     good = h .good;
   }
 
@@ -164,32 +205,47 @@ module _ (K : Counting) where
   count-pos q (suc n) p = omega arith
 
   module _ (fuel : ℕ) (claim : Claim) (claim-counted : ClaimCounted fuel claim) where
-    pub target-regions-counted : (es : List Edge) (H : ℕ → ℕ) (s : NestState) → AllLive es → Pre K fuel H (aims es) s → Post Nine (λ cs s′. CasesCounted es s cs s′) (target-regions (K .g) claim es s)
+    pub target-regions-counted : (es : List Edge) (H : ℕ → ℕ) (s : NestState) → AllLive es → Pre K fuel H (aims es) s
+        → Post Nine (λ cs s′. CasesCounted es s cs s′) (target-regions (K .g) claim es s)
     unfolding target-regions
-    target-regions-counted [] H s a pre = record { post = record { step = counted-still K (still-refl s) (pre .inv) (λ r. omega arith); fits = tt; full = refl } }
+    target-regions-counted [] H s a pre =
+        record { post = record { step = counted-still K (still-refl s) (pre .inv) (λ r. omega arith); fits = tt; full = refl } }
     target-regions-counted (e ∷ es) H s (a, al) pre =
         let pre₀ = pre-as K pre (λ r. aims es r + H r) (λ r. edges-to r (to-region (e .target)) 1) (λ r. omega arith) (λ r. omega arith) in
-        bind (claim (e .target) 1 (e .inputs) s) _ (claim-counted (e .target) 1 (e .inputs) (λ r. aims es r + H r) s a (omega arith) pre₀) λ o s₁ x.
+        bind (claim (e .target) 1 (e .inputs) s) _
+        (claim-counted (e .target) 1 (e .inputs) (λ r. aims es r + H r) s a (omega arith) pre₀) λ o s₁ x.
         bind (edge-case e o s₁) _ (edge-case-counted e o s₁ a (x .good)) λ c s₂ y.
-        let this : Counted K 1 0 (λ r. edges-to r (to-region (e .target)) 1) (λ r. edge-total (edges-to r) (deferred-of c)) s s₂ = counted-then K (x .step) (counted-still K (y .still) (x .step .inv) (y .kept)) (omega arith) (λ r. omega arith) in
-        let beside = counted-as K this 1 0 (aims (e ∷ es)) (λ r. edge-total (edges-to r) (deferred-of c) + aims es r) (omega arith) (λ r. omega arith) in
-        let pre₁ = pre-as K (pre-after K pre beside) (λ r. edge-total (edges-to r) (deferred-of c) + H r) (aims es) (λ r. omega arith) (λ r. omega arith) in
-        bind (target-regions (K .g) claim es s₂) _ (target-regions-counted es (λ r. edge-total (edges-to r) (deferred-of c) + H r) s₂ al pre₁) λ cs s₃ z.
+        let this : Counted K 1 0 (λ r. edges-to r (to-region (e .target)) 1) (λ r. edge-total (edges-to r) (deferred-of c)) s s₂ =
+        counted-then K (x .step) (counted-still K (y .still) (x .step .inv) (y .kept)) (omega arith) (λ r. omega arith) in
+        let beside = counted-as K this 1 0 (aims (e ∷ es)) (λ r. edge-total (edges-to r) (deferred-of c) + aims es r) (omega arith)
+        (λ r. omega arith) in
+        let pre₁ = pre-as K (pre-after K pre beside) (λ r. edge-total (edges-to r) (deferred-of c) + H r) (aims es) (λ r. omega arith)
+        (λ r. omega arith) in
+        bind (target-regions (K .g) claim es s₂) _
+        (target-regions-counted es (λ r. edge-total (edges-to r) (deferred-of c) + H r) s₂ al pre₁) λ cs s₃ z.
         record {
           post = record {
-            step = counted-then K beside (counted-as K (z .step) (length es) 0 (λ r. edge-total (edges-to r) (deferred-of c) + aims es r) (λ r. totals (edges-to r) (c ∷ cs)) (omega arith) (λ r. omega arith)) (omega arith) (λ r. omega arith);
+            step = counted-then K beside
+                (counted-as K (z .step) (length es) 0 (λ r. edge-total (edges-to r) (deferred-of c) + aims es r)
+                (λ r. totals (edges-to r) (c ∷ cs)) (omega arith) (λ r. omega arith)) (omega arith) (λ r. omega arith);
             fits = (y .good .fits, z .fits);
             full = let u = y .good .full in let v = z .full in omega arith;
           };
         }
 
-    pub split-out-counted : (before d : DeferredEdgeBundleSet) (H : ℕ → ℕ) (s : NestState) → ((r : ℕ) → edge-total (bundles-to r) before + edge-total (bundles-to r) d ≤ live-one K r) → edge-total edgeless before + edge-total edgeless d ≡ 0
-        → Pre K fuel H (λ r. edge-total (edges-to r) before + edge-total (edges-to r) d) s → Post Nine (λ o s′. ScanCounted before d s o s′) (split-out-matching (K .g) claim before d s)
+    pub split-out-counted : (before d : DeferredEdgeBundleSet) (H : ℕ → ℕ) (s : NestState)
+        → ((r : ℕ) → edge-total (bundles-to r) before + edge-total (bundles-to r) d ≤ live-one K r)
+        → edge-total edgeless before + edge-total edgeless d ≡ 0
+        → Pre K fuel H (λ r. edge-total (edges-to r) before + edge-total (edges-to r) d) s
+        → Post Nine (λ o s′. ScanCounted before d s o s′) (split-out-matching (K .g) claim before d s)
     unfolding split-out-matching
-    split-out-counted before [] H s hs vo pre = record { post = record { step = counted-still K (still-refl s) (pre .inv) (λ r. omega arith); good = tt } }
+    split-out-counted before [] H s hs vo pre =
+        record { post = record { step = counted-still K (still-refl s) (pre .inv) (λ r. omega arith); good = tt } }
     split-out-counted before (e ∷ es) H s hs vo pre = go (e .target) refl λ s₁ p.
-        split-out-counted (before ++ (e ∷ [])) es H s₁ (λ r. let z = last-one (bundles-to r) before e in let y = hs r in omega arith) (let z = last-one edgeless before e in omega arith)
-        (pre-as K p H (λ r. edge-total (edges-to r) (before ++ (e ∷ [])) + edge-total (edges-to r) es) (λ r. let z = last-one (edges-to r) before e in omega arith) (λ r. omega arith))
+        split-out-counted (before ++ (e ∷ [])) es H s₁ (λ r. let z = last-one (bundles-to r) before e in let y = hs r in omega arith)
+        (let z = last-one edgeless before e in omega arith)
+        (pre-as K p H (λ r. edge-total (edges-to r) (before ++ (e ∷ [])) + edge-total (edges-to r) es)
+        (λ r. let z = last-one (edges-to r) before e in omega arith) (λ r. omega arith))
       where
         f : ℕ → ℕ
         f r = edge-total (edges-to r) before + edge-total (edges-to r) (e ∷ es)
@@ -201,26 +257,50 @@ module _ (K : Counting) where
         More = (s₁ : NestState) → Pre K fuel H f s₁ → Post Nine (λ o s′. ScanCounted (before ++ (e ∷ [])) es s₁ o s′) (more s₁)
 
         go : (x : DeferredTarget) → e .target ≡ x → More
-            → Post Nine (λ o s′. ScanCounted before (e ∷ es) s o s′) (let y : Step (Option SplitOut) = elim x [ to-return ↦ more | to-region r ↦ claim r (e .accumulated-count) (e .target-inputs) >>= split-out-or e (before ++ es) more ] in y s)
-        go to-return p ih = map-post _ (ih s pre) λ o s′ h. passed before es e s s o s′ 0 (counted-still K (still-refl s) (pre .inv) (λ r. omega arith)) (omega arith) h
+            → Post Nine (λ o s′. ScanCounted before (e ∷ es) s o s′)
+            (let y : Step (Option SplitOut) =
+            elim x [
+              | to-return ↦ more
+              | to-region r ↦ claim r (e .accumulated-count) (e .target-inputs)
+                  >>= split-out-or e (before ++ es) more
+            ] in y s)
+        go to-return p ih = map-post _ (ih s pre) λ o s′ h. passed before es e s s o s′ 0
+            (counted-still K (still-refl s) (pre .inv) (λ r. omega arith)) (omega arith) h
         go (to-region q) p ih =
-            let same : (r : ℕ) → edges-to r (e .target) (e .accumulated-count) ≡ edges-to r (to-region q) (e .accumulated-count) = λ r. ap (λ y. edges-to r y (e .accumulated-count)) p in
+            let same : (r : ℕ) → edges-to r (e .target) (e .accumulated-count) ≡ edges-to r (to-region q) (e .accumulated-count) =
+            λ r. ap (λ y. edges-to r y (e .accumulated-count)) p in
             let here : at q (e .target) ≡ 1 = ap (at q) p ∙ rw (eq-eqb q q refl) in
-            let full : edgeless (to-region q) (e .accumulated-count) ≡ edgeless (e .target) (e .accumulated-count) = ap (λ y. edgeless y (e .accumulated-count)) (sym p) in
+            let full : edgeless (to-region q) (e .accumulated-count) ≡ edgeless (e .target) (e .accumulated-count) =
+            ap (λ y. edgeless y (e .accumulated-count)) (sym p) in
             let cost : to-regions (e .target) (e .accumulated-count) ≡ 1 = ap (λ y. to-regions y (e .accumulated-count)) p in
             let fit = hs q in
-            let pre₀ = pre-as K pre (λ r. (edge-total (edges-to r) before + edge-total (edges-to r) es) + H r) (λ r. edges-to r (to-region q) (e .accumulated-count)) (λ r. let z = same r in omega arith) (λ r. omega arith) in
-            bind (claim q (e .accumulated-count) (e .target-inputs) s) _ (claim-counted q (e .accumulated-count) (e .target-inputs) (λ r. (edge-total (edges-to r) before + edge-total (edges-to r) es) + H r) s (live-of q (omega arith)) (count-pos q (e .accumulated-count) (omega arith)) pre₀) λ o s₁ x.
+            let pre₀ = pre-as K pre (λ r. (edge-total (edges-to r) before + edge-total (edges-to r) es) + H r)
+            (λ r. edges-to r (to-region q) (e .accumulated-count)) (λ r. let z = same r in omega arith) (λ r. omega arith) in
+            bind (claim q (e .accumulated-count) (e .target-inputs) s) _
+            (claim-counted q (e .accumulated-count) (e .target-inputs)
+            (λ r. (edge-total (edges-to r) before + edge-total (edges-to r) es) + H r) s (live-of q (omega arith))
+            (count-pos q (e .accumulated-count) (omega arith)) pre₀) λ o s₁ x.
             by o s₁ x same cost ih
           where
-            by : (o : Option ClaimedRegion) (s₁ : NestState) → Claims K 1 q (e .accumulated-count) s o s₁ → ((r : ℕ) → edges-to r (e .target) (e .accumulated-count) ≡ edges-to r (to-region q) (e .accumulated-count))
-                → to-regions (e .target) (e .accumulated-count) ≡ 1 → More → Post Nine (λ o s′. ScanCounted before (e ∷ es) s o s′) (split-out-or e (before ++ es) more o s₁)
+            by : (o : Option ClaimedRegion) (s₁ : NestState) → Claims K 1 q (e .accumulated-count) s o s₁
+                → ((r : ℕ) → edges-to r (e .target) (e .accumulated-count) ≡ edges-to r (to-region q) (e .accumulated-count))
+                → to-regions (e .target) (e .accumulated-count) ≡ 1 → More
+                → Post Nine (λ o s′. ScanCounted before (e ∷ es) s o s′) (split-out-or e (before ++ es) more o s₁)
             by none s₁ x same cost ih =
                 let st = counted-as K (x .step) 1 0 f f (omega arith) (λ r. omega arith) in
                 map-post _ (ih s₁ (pre-after K pre st)) λ o s′ h. passed before es e s s₁ o s′ 1 st (omega arith) h
             by (some c) s₁ x same cost ih = record {
               post = record {
-                step = counted-as K (x .step) (edge-total to-regions (e ∷ es)) (live-count K) f (λ r. edge-total (edges-to r) (c .deferred-edges) + edge-total (edges-to r) (before ++ es)) (omega arith) (λ r. let z = same r in let y = total-append (edges-to r) before es in omega arith);
-                good = (x .good, record { fits = λ r. let z = hs r in let y = total-append (bundles-to r) before es in omega arith; full = let y = total-append edgeless before es in omega arith });
+                step = counted-as K (x .step) (edge-total to-regions (e ∷ es)) (live-count K) f
+                    (λ r. edge-total (edges-to r) (c .deferred-edges) + edge-total (edges-to r) (before ++ es)) (omega arith)
+                    (λ r. let z = same r in let y = total-append (edges-to r) before es in omega arith);
+                good = (
+                  x .good,
+                  record {
+                    fits = λ r. let z = hs r in let y = total-append (bundles-to r) before es in omega arith;
+                    full =
+                        let y = total-append edgeless before es in omega arith;
+                  },
+                );
               };
             }

@@ -10,7 +10,8 @@ use lib.Dec.{eqb}
 use borrow.Author.Tests.{eqb-false}
 use Rattle.meaning.specs.Graph.{Graph, region, edges-of, targets-of}
 use Rattle.meaning.specs.Lists.{is-in, Distinct, times-in, total, pick}
-use Rattle.nesting.specs.Nesting.{exit-targets, DeferredEdgeBundleSet, StructurizeRegionState, not-begun, in-progress, claimed, ready, NestState}
+use Rattle.nesting.specs.Nesting.{exit-targets, DeferredEdgeBundleSet, StructurizeRegionState, not-begun, in-progress, claimed, ready}
+use Rattle.nesting.specs.Nesting.{NestState}
 use Rattle.nesting.specs.steps.StatesKept.{Still}
 use Rattle.nesting.specs.steps.RegionsLeft.{state-of, not-begun-one, count-states, not-begun-count}
 use Rattle.meaning.specs.facts.Tests.{at-or-else}
@@ -73,22 +74,27 @@ module _ (K : Counting) where
   unfolding weigh
   edges-held r l = weigh (edges-held-by r) l
 
-  weigh-set : (W : ℕ → StructurizeRegionState → ℕ) (r : ℕ) (l : List StructurizeRegionState) (x : StructurizeRegionState) → is-in r (K .live) ≡ true → r < length l
+  weigh-set : (W : ℕ → StructurizeRegionState → ℕ) (r : ℕ) (l : List StructurizeRegionState) (x : StructurizeRegionState)
+      → is-in r (K .live) ≡ true → r < length l
       → weigh W (set l r x) + W r (getD l r not-begun) ≡ weigh W l + W r x
   unfolding weigh
   weigh-set W r l x i h =
-      let z = total-change (λ j. W j (getD l j not-begun)) (λ j. W j (getD (set l r x) j not-begun)) r (λ j ne. ap (W j) (getD-set-other l r j x not-begun ne)) (K .live) (K .once) i in
+      let z = total-change (λ j. W j (getD l j not-begun)) (λ j. W j (getD (set l r x) j not-begun)) r
+      (λ j ne. ap (W j) (getD-set-other l r j x not-begun ne)) (K .live) (K .once) i in
       rw (getD-set-same l r x not-begun h) at z
 
-  pub owed-set : (r : ℕ) (l : List StructurizeRegionState) (x : StructurizeRegionState) → is-in r (K .live) ≡ true → r < length l → owed (set l r x) + owed-by r (getD l r not-begun) ≡ owed l + owed-by r x
+  pub owed-set : (r : ℕ) (l : List StructurizeRegionState) (x : StructurizeRegionState) → is-in r (K .live) ≡ true → r < length l
+      → owed (set l r x) + owed-by r (getD l r not-begun) ≡ owed l + owed-by r x
   unfolding owed
   owed-set r l x i h = weigh-set owed-by r l x i h
 
-  pub edges-held-set : (q r : ℕ) (l : List StructurizeRegionState) (x : StructurizeRegionState) → is-in r (K .live) ≡ true → r < length l → edges-held q (set l r x) + edges-held-by q r (getD l r not-begun) ≡ edges-held q l + edges-held-by q r x
+  pub edges-held-set : (q r : ℕ) (l : List StructurizeRegionState) (x : StructurizeRegionState) → is-in r (K .live) ≡ true → r < length l
+      → edges-held q (set l r x) + edges-held-by q r (getD l r not-begun) ≡ edges-held q l + edges-held-by q r x
   unfolding edges-held
   edges-held-set q r l x i h = weigh-set (edges-held-by q) r l x i h
 
-  pub edges-held-at : (q r : ℕ) (l : List StructurizeRegionState) → is-in r (K .live) ≡ true → edges-held-by q r (getD l r not-begun) ≤ edges-held q l
+  pub edges-held-at : (q r : ℕ) (l : List StructurizeRegionState) → is-in r (K .live) ≡ true
+      → edges-held-by q r (getD l r not-begun) ≤ edges-held q l
   unfolding edges-held weigh
   edges-held-at q r l i = total-one (λ j. edges-held-by q j (getD l j not-begun)) r (K .live) i
 
@@ -122,7 +128,8 @@ module _ (K : Counting) where
     pub kept : (r : ℕ) → edges-held r (s′ .region-states) + f′ r ≤ edges-held r (s .region-states) + f r
     pub stay : (r : ℕ) → busy (state-of s′ r) ≡ busy (state-of s r)
 
-  pub counted-then : {c c₁ c₂ gain gain₁ gain₂ : ℕ} {f f₁ f₁′ f₂ : ℕ → ℕ} {s s₁ s₂ : NestState} → Counted c₁ gain₁ f f₁ s s₁ → Counted c₂ gain₂ f₁′ f₂ s₁ s₂
+  pub counted-then : {c c₁ c₂ gain gain₁ gain₂ : ℕ} {f f₁ f₁′ f₂ : ℕ → ℕ} {s s₁ s₂ : NestState} → Counted c₁ gain₁ f f₁ s s₁
+      → Counted c₂ gain₂ f₁′ f₂ s₁ s₂
       → c₁ + c₂ + gain ≤ c + gain₁ + gain₂ → ((r : ℕ) → f₁′ r ≤ f₁ r) → Counted c gain f f₂ s s₂
   counted-then a b p l = record {
     inv = b .inv;
@@ -133,10 +140,20 @@ module _ (K : Counting) where
   }
 
   -- at a higher cost, with less gain, or with something else in hand beside
-  pub counted-as : {c gain : ℕ} {f f′ : ℕ → ℕ} {s s′ : NestState} → Counted c gain f f′ s s′ → (c′ gain′ : ℕ) (h h′ : ℕ → ℕ) → c + gain′ ≤ c′ + gain → ((r : ℕ) → h′ r + f r ≤ h r + f′ r) → Counted c′ gain′ h h′ s s′
-  counted-as a c′ gain′ h h′ q p = record { inv = a .inv; paid = let x = a .paid in omega arith; begun = a .begun; kept = λ r. let x = a .kept r in let y = p r in omega arith; stay = a .stay }
+  pub counted-as : {c gain : ℕ} {f f′ : ℕ → ℕ} {s s′ : NestState} → Counted c gain f f′ s s′ → (c′ gain′ : ℕ) (h h′ : ℕ → ℕ)
+      → c + gain′ ≤ c′ + gain → ((r : ℕ) → h′ r + f r ≤ h r + f′ r) → Counted c′ gain′ h h′ s s′
+  counted-as a c′ gain′ h h′ q p =
+      record {
+        inv = a .inv;
+        paid = let x = a .paid in omega arith;
+        begun = a .begun;
+        kept = λ r. let x = a .kept r in let y = p r in
+            omega arith;
+        stay = a .stay;
+      }
 
-  pub counted-still : {f f′ : ℕ → ℕ} {s s′ : NestState} → Still s s′ → CountInv (s .region-states) → ((r : ℕ) → f′ r ≤ f r) → Counted 0 0 f f′ s s′
+  pub counted-still : {f f′ : ℕ → ℕ} {s s′ : NestState} → Still s s′ → CountInv (s .region-states) → ((r : ℕ) → f′ r ≤ f r)
+      → Counted 0 0 f f′ s s′
   counted-still q i l = record {
     inv = rw (q .states) i;
     paid = let x = ap owed (q .states) in let y = q .attempts in omega arith;
@@ -153,7 +170,8 @@ module _ (K : Counting) where
     waits = λ r b. p .waits r (sym (a .stay r) ∙ b);
   }
 
-  pub pre-as : {fuel : ℕ} {H f : ℕ → ℕ} {s : NestState} → Pre fuel H f s → (H′ f′ : ℕ → ℕ) → ((r : ℕ) → f′ r + H′ r ≤ f r + H r) → ((r : ℕ) → H r ≤ H′ r) → Pre fuel H′ f′ s
+  pub pre-as : {fuel : ℕ} {H f : ℕ → ℕ} {s : NestState} → Pre fuel H f s → (H′ f′ : ℕ → ℕ) → ((r : ℕ) → f′ r + H′ r ≤ f r + H r)
+      → ((r : ℕ) → H r ≤ H′ r) → Pre fuel H′ f′ s
   pre-as p H′ f′ l m = record {
     inv = p .inv;
     enough = p .enough;
@@ -162,16 +180,20 @@ module _ (K : Counting) where
   }
 
   -- ---- a state is set
-  pub inv-set : (l : List StructurizeRegionState) (r : ℕ) (x : StructurizeRegionState) → CountInv l → r < length l → Fine r x → CountInv (set l r x)
+  pub inv-set : (l : List StructurizeRegionState) (r : ℕ) (x : StructurizeRegionState) → CountInv l → r < length l → Fine r x
+      → CountInv (set l r x)
   inv-set l r x i h f = record {
     length = length-set l r x ∙ i .length;
     fine = λ j. at-or-else (Fine j (getD (set l r x) j not-begun)) j r
         (λ e. let z : getD (set l r x) r not-begun ≡ x = getD-set-same l r x not-begun h in rw (e, z) f)
-        (λ ne. let z : getD (set l r x) j not-begun ≡ getD l j not-begun = getD-set-other l r j x not-begun (eqb-false j r ne) in rw z (i .fine j));
+        (λ ne. let z : getD (set l r x) j not-begun ≡ getD l j not-begun = getD-set-other l r j x not-begun (eqb-false j r ne) in
+        rw z (i .fine j));
   }
 
-pub busy-else : (l : List StructurizeRegionState) (r : ℕ) (x : StructurizeRegionState) (p : ℕ) → eqb p r ≡ false → busy (getD (set l r x) p not-begun) ≡ busy (getD l p not-begun)
+pub busy-else : (l : List StructurizeRegionState) (r : ℕ) (x : StructurizeRegionState) (p : ℕ) → eqb p r ≡ false
+    → busy (getD (set l r x) p not-begun) ≡ busy (getD l p not-begun)
 busy-else l r x p h = ap busy (getD-set-other l r p x not-begun (eqb-false p r h))
 
-pub busy-here : (l : List StructurizeRegionState) (r : ℕ) (x : StructurizeRegionState) → r < length l → busy (getD (set l r x) r not-begun) ≡ busy x
+pub busy-here : (l : List StructurizeRegionState) (r : ℕ) (x : StructurizeRegionState) → r < length l
+    → busy (getD (set l r x) r not-begun) ≡ busy x
 busy-here l r x h = ap busy (getD-set-same l r x not-begun h)

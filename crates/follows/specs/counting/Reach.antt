@@ -106,7 +106,8 @@ module _ (g : Graph) where
   abbrev enough : ℕ → List ℕ → List ℕ → Type 0
   enough fuel todo seen = length todo + unseen 0 (g .regions) seen ≤ fuel
 
-  enough-with : (fuel r : ℕ) (todo seen : List ℕ) → is-in r seen ≡ false → enough (suc fuel) (r ∷ todo) seen → enough fuel (targets-of g r ++ todo) (r ∷ seen)
+  enough-with : (fuel r : ℕ) (todo seen : List ℕ) → is-in r seen ≡ false → enough (suc fuel) (r ∷ todo) seen
+      → enough fuel (targets-of g r ++ todo) (r ∷ seen)
   enough-with fuel r todo seen h l =
       let many : length (targets-of g r ++ todo) ≡ outs (region g r) + length todo = simp (length-append, length-map) in
       omega (arith, unseen-takes 0 (g .regions) r r seen (omega arith) h)
@@ -120,7 +121,8 @@ module _ (g : Graph) where
       go : (b : Bool) → is-in r seen ≡ b → ((t s : List ℕ) → enough fuel t s → Closed s t → Visited t s (visit g fuel t s))
           → Visited (r ∷ todo) seen (elim b [ true ↦ visit g fuel todo seen | false ↦ visit g fuel (targets-of g r ++ todo) (r ∷ seen) ])
       go true h ih = visited-without r seen todo _ h (ih todo seen (omega arith) (closed-without r seen todo h c))
-      go false h ih = visited-with r seen todo _ (ih (targets-of g r ++ todo) (r ∷ seen) (enough-with fuel r todo seen h l) (closed-with r seen todo c))
+      go false h ih = visited-with r seen todo _
+          (ih (targets-of g r ++ todo) (r ∷ seen) (enough-with fuel r todo seen h l) (closed-with r seen todo c))
 
   all-visited : Visited (g .entry ∷ []) [] (reachable g)
   unfolding Closed
@@ -142,7 +144,8 @@ module _ (g : Graph) where
   AllReached xs = (x : ℕ) → is-in x xs ≡ true → Reaches g x
 
   reached-now : (r : ℕ) (todo : List ℕ) → AllReached (r ∷ todo) → AllReached (targets-of g r ++ todo)
-  reached-now r todo h x i = elim (left-or-right x (targets-of g r) todo i) [ inl k ↦ target x (h r (in-front r todo)) k | inr k ↦ h x (in-rest x r todo k) ]
+  reached-now r todo h x i =
+      elim (left-or-right x (targets-of g r) todo i) [ inl k ↦ target x (h r (in-front r todo)) k | inr k ↦ h x (in-rest x r todo k) ]
 
   reached-with : (r : ℕ) (seen todo : List ℕ) → AllReached (r ∷ todo) → AllReached seen → AllReached (r ∷ seen)
   reached-with r seen todo t s x i = elim (first-or-rest x r seen i) [ first e ↦ rw e (t r (in-front r todo)) | rest k ↦ s x k ]
@@ -159,7 +162,8 @@ module _ (g : Graph) where
       go false ih = ih (targets-of g r ++ todo) (r ∷ seen) (reached-now r todo t) (reached-with r seen todo t s)
 
   pub reachable-sound : (x : ℕ) → is-in x (reachable g) ≡ true → Reaches g x
-  reachable-sound = visit-reached _ (g .entry ∷ []) [] (λ x i. elim (first-or-rest x (g .entry) [] i) [ first e ↦ rw e entry | rest k ↦ absurd (clash (cc)) ]) (λ x i. absurd (clash (cc)))
+  reachable-sound = visit-reached _ (g .entry ∷ []) []
+      (λ x i. elim (first-or-rest x (g .entry) [] i) [ first e ↦ rw e entry | rest k ↦ absurd (clash (cc)) ]) (λ x i. absurd (clash (cc)))
 
   -- ---- each once
   visit-once : (fuel : ℕ) (todo seen : List ℕ) → Distinct seen → Distinct (visit g fuel todo seen)

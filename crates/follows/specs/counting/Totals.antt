@@ -6,7 +6,9 @@ use Prim.Native.Nat.{ℕ, zero, suc, _+_, _≤_}
 use native.Mathlib.Omega.{arith}
 use lib.Dec.{eqb}
 use borrow.Author.Tests.{eqb-true, eqb-false}
-use Rattle.nesting.specs.Nesting.{DeferredTarget, to-region, to-return, DeferredEdgeBundle, DeferredEdgeBundleSet, same-target, MaybeClaimedRegion, deferred-of, DeferredTargetSummary, summarize-bundle, summarize-set, deferred-targets, PlannedBundle}
+use Rattle.nesting.specs.Nesting.{DeferredTarget, to-region, to-return, DeferredEdgeBundle, DeferredEdgeBundleSet, same-target}
+use Rattle.nesting.specs.Nesting.{MaybeClaimedRegion, deferred-of, DeferredTargetSummary, summarize-bundle, summarize-set, deferred-targets}
+use Rattle.nesting.specs.Nesting.{PlannedBundle}
 use Rattle.meaning.specs.Lists.{pick}
 
 abbrev pub Measure : Type 0
@@ -85,12 +87,14 @@ apart r to-return to-return p = omega arith
 abbrev with-total : DeferredTargetSummary → ℕ → DeferredTargetSummary
 with-total w n = record { target = w .target; input-count = w .input-count; total-edge-count = w .total-edge-count + n }
 
-bundle-sum : (r : ℕ) (e : DeferredEdgeBundle) (ws : List DeferredTargetSummary) → summary-total (bundles-to r) (summarize-bundle e ws) ≤ summary-total (bundles-to r) ws + at r (e .target)
+bundle-sum : (r : ℕ) (e : DeferredEdgeBundle) (ws : List DeferredTargetSummary)
+    → summary-total (bundles-to r) (summarize-bundle e ws) ≤ summary-total (bundles-to r) ws + at r (e .target)
 bundle-sum r e [] = omega arith
 bundle-sum r e (w ∷ ws) = go (same-target (e .target) (w .target)) (bundle-sum r e ws)
   where
     go : (b : Bool) → summary-total (bundles-to r) (summarize-bundle e ws) ≤ summary-total (bundles-to r) ws + at r (e .target)
-        → summary-total (bundles-to r) (pick b (with-total w (e .accumulated-count) ∷ ws) (w ∷ summarize-bundle e ws)) ≤ (at r (w .target) + summary-total (bundles-to r) ws) + at r (e .target)
+        → summary-total (bundles-to r) (pick b (with-total w (e .accumulated-count) ∷ ws) (w ∷ summarize-bundle e ws)) ≤
+        (at r (w .target) + summary-total (bundles-to r) ws) + at r (e .target)
     go true ih = omega arith
     go false ih = omega arith
 
@@ -98,7 +102,8 @@ once : (a b t u k : ℕ) → a + b ≤ 1 → t ≤ u + b → a + u ≤ k → t �
 once zero b t u k p q x y = omega arith
 once (suc a) b t u k p q x y = omega arith
 
-bundle-fits : (r k : ℕ) (e : DeferredEdgeBundle) (ws : List DeferredTargetSummary) → summary-total (bundles-to r) ws ≤ k → at r (e .target) ≤ k → summary-total (bundles-to r) (summarize-bundle e ws) ≤ k
+bundle-fits : (r k : ℕ) (e : DeferredEdgeBundle) (ws : List DeferredTargetSummary) → summary-total (bundles-to r) ws ≤ k
+    → at r (e .target) ≤ k → summary-total (bundles-to r) (summarize-bundle e ws) ≤ k
 bundle-fits r k e [] h l = omega arith
 bundle-fits r k e (w ∷ ws) h l = go (same-target (e .target) (w .target)) refl (bundle-fits r k e ws (omega arith) l)
   where
@@ -107,35 +112,44 @@ bundle-fits r k e (w ∷ ws) h l = go (same-target (e .target) (w .target)) refl
     go true p ih = h
     go false p ih =
         let a = apart r (e .target) (w .target) p in
-        once (at r (w .target)) (at r (e .target)) (summary-total (bundles-to r) (summarize-bundle e ws)) (summary-total (bundles-to r) ws) k (omega arith) (bundle-sum r e ws) h ih
+        once (at r (w .target)) (at r (e .target)) (summary-total (bundles-to r) (summarize-bundle e ws))
+        (summary-total (bundles-to r) ws) k (omega arith) (bundle-sum r e ws) h ih
 
-set-fits : (r k : ℕ) (d : DeferredEdgeBundleSet) (ws : List DeferredTargetSummary) → summary-total (bundles-to r) ws ≤ k → edge-total (bundles-to r) d ≤ k → summary-total (bundles-to r) (summarize-set d ws) ≤ k
+set-fits : (r k : ℕ) (d : DeferredEdgeBundleSet) (ws : List DeferredTargetSummary) → summary-total (bundles-to r) ws ≤ k
+    → edge-total (bundles-to r) d ≤ k → summary-total (bundles-to r) (summarize-set d ws) ≤ k
 set-fits r k [] ws h l = h
 set-fits r k (e ∷ es) ws h l = set-fits r k es (summarize-bundle e ws) (bundle-fits r k e ws h (omega arith)) (omega arith)
 
-pub target-totals : (r : ℕ) (k : ℕ → ℕ) (cs : List MaybeClaimedRegion) (ws : List DeferredTargetSummary) → summary-total (bundles-to r) ws ≤ k r → FitsAll k cs → summary-total (bundles-to r) (deferred-targets cs ws) ≤ k r
+pub target-totals : (r : ℕ) (k : ℕ → ℕ) (cs : List MaybeClaimedRegion) (ws : List DeferredTargetSummary)
+    → summary-total (bundles-to r) ws ≤ k r → FitsAll k cs → summary-total (bundles-to r) (deferred-targets cs ws) ≤ k r
 target-totals r k [] ws h l = h
-target-totals r k (c ∷ cs) ws h (l, ls) = target-totals r k cs (summarize-set (deferred-of c) ws) (set-fits r (k r) (deferred-of c) ws h (l r)) ls
+target-totals r k (c ∷ cs) ws h (l, ls) =
+    target-totals r k cs (summarize-set (deferred-of c) ws) (set-fits r (k r) (deferred-of c) ws h (l r)) ls
 
 -- A measure that a summary does not raise: where targets are the same, that of the counts' sum is at most the sum.
 abbrev Adds : Measure → Type 0
 Adds μ = (x y : DeferredTarget) (n m : ℕ) → same-target x y ≡ true → μ y (n + m) ≤ μ y n + μ x m
 
 module _ (μ : Measure) (adds : Adds μ) where
-  bundle-adds : (e : DeferredEdgeBundle) (ws : List DeferredTargetSummary) → summary-total μ (summarize-bundle e ws) ≤ summary-total μ ws + μ (e .target) (e .accumulated-count)
+  bundle-adds : (e : DeferredEdgeBundle) (ws : List DeferredTargetSummary)
+      → summary-total μ (summarize-bundle e ws) ≤ summary-total μ ws + μ (e .target) (e .accumulated-count)
   bundle-adds e [] = omega arith
   bundle-adds e (w ∷ ws) = go (same-target (e .target) (w .target)) refl (bundle-adds e ws)
     where
-      go : (b : Bool) → same-target (e .target) (w .target) ≡ b → summary-total μ (summarize-bundle e ws) ≤ summary-total μ ws + μ (e .target) (e .accumulated-count)
-          → summary-total μ (pick b (with-total w (e .accumulated-count) ∷ ws) (w ∷ summarize-bundle e ws)) ≤ (μ (w .target) (w .total-edge-count) + summary-total μ ws) + μ (e .target) (e .accumulated-count)
+      go : (b : Bool) → same-target (e .target) (w .target) ≡ b
+          → summary-total μ (summarize-bundle e ws) ≤ summary-total μ ws + μ (e .target) (e .accumulated-count)
+          → summary-total μ (pick b (with-total w (e .accumulated-count) ∷ ws) (w ∷ summarize-bundle e ws)) ≤
+          (μ (w .target) (w .total-edge-count) + summary-total μ ws) + μ (e .target) (e .accumulated-count)
       go true p ih = let z = adds (e .target) (w .target) (w .total-edge-count) (e .accumulated-count) p in omega arith
       go false p ih = omega arith
 
-  set-adds : (d : DeferredEdgeBundleSet) (ws : List DeferredTargetSummary) → summary-total μ (summarize-set d ws) ≤ summary-total μ ws + edge-total μ d
+  set-adds : (d : DeferredEdgeBundleSet) (ws : List DeferredTargetSummary)
+      → summary-total μ (summarize-set d ws) ≤ summary-total μ ws + edge-total μ d
   set-adds [] ws = omega arith
   set-adds (e ∷ es) ws = let z = bundle-adds e ws in let y = set-adds es (summarize-bundle e ws) in omega arith
 
-  pub targets-add : (cs : List MaybeClaimedRegion) (ws : List DeferredTargetSummary) → summary-total μ (deferred-targets cs ws) ≤ summary-total μ ws + totals μ cs
+  pub targets-add : (cs : List MaybeClaimedRegion) (ws : List DeferredTargetSummary)
+      → summary-total μ (deferred-targets cs ws) ≤ summary-total μ ws + totals μ cs
   targets-add [] ws = omega arith
   targets-add (c ∷ cs) ws = let z = set-adds (deferred-of c) ws in let y = targets-add cs (summarize-set (deferred-of c) ws) in omega arith
 

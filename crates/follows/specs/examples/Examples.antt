@@ -8,7 +8,9 @@ use native.Mathlib.Omega.{arith}
 use lib.ListN.{length}
 use lib.Dec.{ltb}
 use Rattle.meaning.specs.Graph.{Value, const, input, instr, output, unreachable, bool, bool-cond, Graph}
-use Rattle.meaning.specs.Runs.{Nodes, block, select, loop, ⟨⟩, _▸_, ∅, case, word, Event, returned, Given, put, put-inputs, entry-words, do-instr, do-block, do-blocks, Ended, graph-run, run-from, NestedEnded, NestedRun, ends-as, without-end, put-outputs, turns, run-nodes, nested-run}
+use Rattle.meaning.specs.Runs.{Nodes, block, select, loop, ⟨⟩, _▸_, ∅, case, word, Event, returned, Given, put, put-inputs, entry-words}
+use Rattle.meaning.specs.Runs.{do-instr, do-block, do-blocks, Ended, graph-run, run-from, NestedEnded, NestedRun, ends-as, without-end}
+use Rattle.meaning.specs.Runs.{put-outputs, turns, run-nodes, nested-run}
 use Rattle.format.specs.Store.{accepted}
 use Rattle.format.specs.Accept.{accept}
 use Rattle.meaning.specs.facts.Tests.{clash}
@@ -17,12 +19,14 @@ use Rattle.nesting.specs.Nesting.{Nested, structurize-func, visit, reachable}
 use Rattle.nesting.specs.Sheet.{figure, Sheet, sheet-of, answer}
 use Rattle.format.specs.stores.Pack.{store-of-graph}
 use Rattle.nesting.specs.cases.CaseGraphs.{op, A, B}
-use Rattle.follows.specs.Statements.{is-whole, Followed, most-attempts, FewAttempts, SoundSheet, Refusal, by-store, by-limit, by-lent, by-figure}
+use Rattle.follows.specs.Statements.{is-whole, Followed, most-attempts, FewAttempts, SoundSheet, Refusal, by-store, by-limit, by-lent}
+use Rattle.follows.specs.Statements.{by-figure}
 use Rattle.follows.specs.simulation.Follows.{follows}
 use Rattle.follows.specs.cost.Bounded.{bounded}
 use Rattle.follows.specs.counting.Attempts.{attempts}
 use Rattle.follows.specs.sound.Sound.{sound}
-use Rattle.follows.specs.examples.CaseForms.{A-accepted, A-valid, A-form, A-nested, A-nests, B-accepted, B-valid, B-loop, B-nested, B-nests}
+use Rattle.follows.specs.examples.CaseForms.{A-accepted, A-valid, A-form, A-nested, A-nests, B-accepted, B-valid, B-loop, B-nested}
+use Rattle.follows.specs.examples.CaseForms.{B-nests}
 use Rattle.meaning.specs.Lists.{Within, bit}
 
 abbrev event : ℕ → ℕ → ℕ → Event
@@ -189,7 +193,8 @@ A-sound : SoundSheet (store-of-graph A) (sheet-of A A-nested)
 A-sound = sound (store-of-graph A) 16384 (sheet-of A A-nested) A-answer
 
 -- A store has one sound sheet at most.
-one-sheet : {store : List ℕ} {g : Graph} {n : Nested} {s : Sheet} → accept store ≡ accepted g → structurize-func g ≡ accepted n → SoundSheet store s → s ≡ sheet-of g n
+one-sheet : {store : List ℕ} {g : Graph} {n : Nested} {s : Sheet} → accept store ≡ accepted g → structurize-func g ≡ accepted n
+    → SoundSheet store s → s ≡ sheet-of g n
 one-sheet {g = g} {n = n} a b h =
     let same-graph : h .graph ≡ g = let c = h .accepts in cc in
     let same-nest : h .nest ≡ n = let c = h .nests in cc in

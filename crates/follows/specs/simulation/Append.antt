@@ -10,13 +10,16 @@ use Rattle.meaning.specs.Runs.{Nodes}
 use Rattle.meaning.specs.Graph.{Value, input, undef}
 use Rattle.meaning.specs.facts.Tests.{clash, or-either, or-right}
 use Rattle.nesting.specs.lookups.Contexts.{InContext, context-replaced, entry-at}
-use Rattle.nesting.specs.Nesting.{Body, ClaimedRegion, MaybeClaimedRegion, append-maybe-claimed-region, deferred-of, err, join, ok, DeferredEdgeBundle, DeferredEdgeBundleSet, LazyCond, false-cond, merge, true-cond, undef-cond, NestState, NodeOutput}
+use Rattle.nesting.specs.Nesting.{Body, ClaimedRegion, MaybeClaimedRegion, append-maybe-claimed-region, deferred-of, err, join, ok}
+use Rattle.nesting.specs.Nesting.{DeferredEdgeBundle, DeferredEdgeBundleSet, LazyCond, false-cond, merge, true-cond, undef-cond, NestState}
+use Rattle.nesting.specs.Nesting.{NodeOutput}
 use Rattle.follows.specs.simulation.Key.{key, of-node, owns-join, owns-nodes}
 use Rattle.follows.specs.simulation.World.{World, ar}
 use Rattle.follows.specs.simulation.Tables.{Gains, Resolver, Respects, Tables, entry-law, gains-refl, respects-back, tables}
 use Rattle.follows.specs.simulation.Leads.{Leads, Sim, leads-then}
 use Rattle.follows.specs.simulation.Defined.{IfDone}
-use Rattle.follows.specs.simulation.Scope.{AllScoped, CondOk, EntryOk, InScope, Scoped, SetOk, OwnedWithin, constant, own-input, owned, scoped-later, within-left, within-right}
+use Rattle.follows.specs.simulation.Scope.{AllScoped, CondOk, EntryOk, InScope, Scoped, SetOk, OwnedWithin, constant, own-input}
+use Rattle.follows.specs.simulation.Scope.{owned, scoped-later, within-left, within-right}
 use Rattle.follows.specs.simulation.ClaimedRegions.{CaseOk, Doing, Holds, Since, doing-with}
 use Rattle.follows.specs.simulation.EnterCase.{Enters, children-in, enter-follows}
 use Rattle.follows.specs.simulation.SelectSteps.{Moved, ToRewrite, given, join-nil, rewrite-doing, rewrite-moved}
@@ -26,7 +29,11 @@ module _ {T T′ : Tables} {q a r a′ : ℕ} {ks ks′ : Nodes} (gains : Gains 
     (through : (ρ : Resolver) (os : List NodeOutput) → Respects ρ os T′ → (k : ℕ) → k < a → InScope ρ os r a′ ks′ (ρ (input q k)))
     (joins : (v : Value) → InContext (T .rewrites) q v → InContext (T′ .rewrites) r v) where
   pub scoped-through : (v : Value) → Scoped T q a ks v → Scoped T′ r a′ ks′ v
-  scoped-through v h = record { scoped = λ ρ os res. go ρ os res (h .scoped ρ os (respects-back gains res)); context = joins v (h .context) }
+  scoped-through v h = record {
+    scoped = λ ρ os res. go ρ os res (h .scoped ρ os (respects-back gains res));
+    context =
+        joins v (h .context);
+  }
     where
       go : (ρ : Resolver) (os : List NodeOutput) → Respects ρ os T′ → InScope ρ os q a ks (ρ v) → InScope ρ os r a′ ks′ (ρ v)
       go ρ os res (constant c) = constant c
@@ -61,14 +68,16 @@ module _ (W : World) where
   TailIs s₀ r ks s (ok c) = TailOk s₀ r ks s c
   TailIs s₀ r ks s (err d) = SetOk W (tables s) r (ar W r) ks d
 
-  pub with-children : {s₀ s : NestState} {r : ℕ} {ks : Nodes} (c : ClaimedRegion) → Doing W s₀ r ks s → Holds W c s → Since W s₀ c → Doing W s₀ r (join ks (c .children)) s
+  pub with-children : {s₀ s : NestState} {r : ℕ} {ks : Nodes} (c : ClaimedRegion) → Doing W s₀ r ks s → Holds W c s → Since W s₀ c
+      → Doing W s₀ r (join ks (c .children)) s
   with-children {ks} c d h si = doing-with W (join ks (c .children)) d λ κ o.
       elim (or-either (owns-nodes ks κ) (owns-nodes (c .children) κ) (sym (owns-join ks (c .children) κ) ∙ o)) [
         | inl p ↦ (d .since κ p, d .clear κ p)
         | inr p ↦ (si .children κ p, h .clear κ p)
       ]
 
-  pub record Appended (s₀ : NestState) (r : ℕ) (ks : Nodes) (c : MaybeClaimedRegion) (s : NestState) (y : Body) (s′ : NestState) : Type 0 where
+  pub record Appended (s₀ : NestState) (r : ℕ) (ks : Nodes) (c : MaybeClaimedRegion) (s : NestState) (y : Body)
+      (s′ : NestState) : Type 0 where
     pub children-is : y .children ≡ join ks (children-in c)
     pub set-is : y .deferred-edges ≡ deferred-of c
     pub doing : Doing W s₀ r (join ks (children-in c)) s′
@@ -107,17 +116,23 @@ module _ (W : World) where
           doing = rewrite-doing W s₀ s r (join ks (c .children)) c dg₁ tl;
           moves = mv;
           set = set-through (mv .gains) (within-right ks (c .children))
-              (λ ρ os res k lt. rw (entry-law res (c .structured-body) _ (entry-at (s .region-input-rewrites) (c .structured-body) _ (tl .unrewritten)) k) (tl .inputs k .scoped ρ os (respects-back (mv .gains) res)))
-              (λ v y. context-replaced (s .region-input-rewrites) (c .structured-body) r _ (tl .unrewritten) (given W s₀ s r (join ks (c .children)) c dg₁ tl) y) W
+              (λ ρ os res k lt. rw (entry-law res (c .structured-body) _
+              (entry-at (s .region-input-rewrites) (c .structured-body) _ (tl .unrewritten)) k)
+              (tl .inputs k .scoped ρ os (respects-back (mv .gains) res)))
+              (λ v y. context-replaced (s .region-input-rewrites) (c .structured-body) r _ (tl .unrewritten)
+              (given W s₀ s r (join ks (c .children)) c dg₁ tl) y) W
               (c .deferred-edges) (fit .holds .set);
-          law = λ ρ os res x p k. let e : c ≡ x = cc in subst (λ z. ρ (input (z .structured-body) k) ≡ ρ (getD (z .structured-body-inputs) k (undef 0))) e
+          law = λ ρ os res x p k. let e : c ≡ x = cc in
+              subst (λ z. ρ (input (z .structured-body) k) ≡ ρ (getD (z .structured-body-inputs) k (undef 0))) e
               (entry-law res (c .structured-body) _ (entry-at (s .region-input-rewrites) (c .structured-body) _ (tl .unrewritten)) k);
         };
       }
 
   -- the children lead to the case, and then its own follow
-  pub append-sim : (s₀ : NestState) (r : ℕ) (ks : Nodes) (c : MaybeClaimedRegion) (s : NestState) (y : Body) (s′ : NestState) → CaseOk W s₀ r ks s c → Appended s₀ r ks c s y s′
-      → Leads W r r ks (tables s) (λ ρ os n e h st. Enters W ρ os n e h st c) → Sim W r r (join ks (children-in c)) (deferred-of c) (tables s′)
+  pub append-sim : (s₀ : NestState) (r : ℕ) (ks : Nodes) (c : MaybeClaimedRegion) (s : NestState) (y : Body) (s′ : NestState)
+      → CaseOk W s₀ r ks s c → Appended s₀ r ks c s y s′
+      → Leads W r r ks (tables s) (λ ρ os n e h st. Enters W ρ os n e h st c)
+      → Sim W r r (join ks (children-in c)) (deferred-of c) (tables s′)
   append-sim s₀ r ks c s y s′ fit ad ld = leads-then W (children-in c) (deferred-of c) _ ld (ad .moves .gains)
       λ ρ os res b n le st bs apart e h en.
       enter-follows W s₀ r ks s c fit ρ os (respects-back (ad .moves .gains) res) b n le st bs (ad .law ρ os res)

@@ -11,7 +11,8 @@ use lib.Dec.{eqb}
 use borrow.Author.Tests.{eqb-true}
 use Rattle.meaning.specs.facts.Tests.{clash, eqb-less, eqb-self, eqb-sym}
 use Rattle.meaning.specs.Lists.{empty, pick}
-use Rattle.nesting.specs.Nesting.{fill-gap, get-edge-bundle-by-target, same-target, split-out-target, DeferredEdgeBundle, DeferredEdgeBundleSet, DeferredTarget, to-region, to-return}
+use Rattle.nesting.specs.Nesting.{fill-gap, get-edge-bundle-by-target, same-target, split-out-target, DeferredEdgeBundle}
+use Rattle.nesting.specs.Nesting.{DeferredEdgeBundleSet, DeferredTarget, to-region, to-return}
 use Rattle.meaning.specs.facts.Elements.{In}
 
 pub same-target-sym : (a b : DeferredTarget) → same-target a b ≡ same-target b a
@@ -35,17 +36,21 @@ abbrev pub DistinctBundles : DeferredEdgeBundleSet → Type 0
 DistinctBundles [] = Unit
 DistinctBundles (e ∷ es) = ((y : DeferredEdgeBundle) → In y es → same-target (y .target) (e .target) ≡ false) × DistinctBundles es
 
-pub find-in : (d : DeferredEdgeBundleSet) → DistinctBundles d → (y : DeferredEdgeBundle) → In y d → get-edge-bundle-by-target (y .target) d ≡ some y
+pub find-in : (d : DeferredEdgeBundleSet) → DistinctBundles d → (y : DeferredEdgeBundle) → In y d
+    → get-edge-bundle-by-target (y .target) d ≡ some y
 find-in [] h y no-way = absurd no-way
 find-in (e ∷ es) h y (inl p) = rw (p, same-target-self (e .target))
 find-in (e ∷ es) h y (inr i) = rw (h .0 y i) (find-in es (h .1) y i)
 
-pub found-in : (x : DeferredTarget) (d : DeferredEdgeBundleSet) (y : DeferredEdgeBundle) → get-edge-bundle-by-target x d ≡ some y → In y d × (x ≡ y .target)
+pub found-in : (x : DeferredTarget) (d : DeferredEdgeBundleSet) (y : DeferredEdgeBundle) → get-edge-bundle-by-target x d ≡ some y
+    → In y d × (x ≡ y .target)
 found-in x [] y p = absurd (clash (cc))
 found-in x (e ∷ es) y p = go (λ r. found-in x es y r) (same-target x (e .target)) refl
   where
-    go : (get-edge-bundle-by-target x es ≡ some y → In y es × (x ≡ y .target)) → (o : Bool) → same-target x (e .target) ≡ o → In y (e ∷ es) × (x ≡ y .target)
-    go ih true q = let r : some e ≡ some y = rw q at p in let r′ : y ≡ e = cc in (inl r′, same-target→eq x (e .target) q ∙ ap (λ z. z .target) (sym r′))
+    go : (get-edge-bundle-by-target x es ≡ some y → In y es × (x ≡ y .target)) → (o : Bool) → same-target x (e .target) ≡ o
+        → In y (e ∷ es) × (x ≡ y .target)
+    go ih true q = let r : some e ≡ some y = rw q at p in let r′ : y ≡ e = cc in
+        (inl r′, same-target→eq x (e .target) q ∙ ap (λ z. z .target) (sym r′))
     go ih false q = let r : get-edge-bundle-by-target x es ≡ some y = rw q at p in let z = ih r in (inr (z .0), z .1)
 
 pub is-empty : (d : DeferredEdgeBundleSet) → empty d ≡ true → d ≡ []
@@ -56,11 +61,13 @@ abbrev pub is-always : DeferredEdgeBundleSet → Bool
 is-always d = eqb (length d) 1
 
 -- two bundles, so their conditions are kept
-pub two-apart : (d : DeferredEdgeBundleSet) (x y : DeferredEdgeBundle) → In x d → In y d → same-target (x .target) (y .target) ≡ false → is-always d ≡ false
+pub two-apart : (d : DeferredEdgeBundleSet) (x y : DeferredEdgeBundle) → In x d → In y d → same-target (x .target) (y .target) ≡ false
+    → is-always d ≡ false
 two-apart [] x y i k ne = absurd i
 two-apart (e ∷ []) x y (inr no-way) k ne = absurd no-way
 two-apart (e ∷ []) x y (inl p) (inr no-way) ne = absurd no-way
-two-apart (e ∷ []) x y (inl p) (inl q) ne = let z : same-target (x .target) (y .target) ≡ true = rw (p, q) (same-target-self (e .target)) in cc
+two-apart (e ∷ []) x y (inl p) (inl q) ne = let z : same-target (x .target) (y .target) ≡ true = rw (p, q) (same-target-self (e .target)) in
+    cc
 two-apart (e ∷ e′ ∷ es) x y i k ne = eqb-sym (suc (suc (length es))) 1 ∙ eqb-less 1 (suc (suc (length es))) (omega arith)
 
 -- ---- the last bundle takes the gap
@@ -85,7 +92,8 @@ module _ (o : DeferredEdgeBundle) where
   last-in x [] = inl refl
   last-in x (z ∷ zs) = inr (last-in z zs)
 
-  split-last : (x : DeferredEdgeBundle) (d : DeferredEdgeBundleSet) (y : DeferredEdgeBundle) → In y (x ∷ d) → (y ≡ last-or o x d) ⊎ In y (but-last x d)
+  split-last : (x : DeferredEdgeBundle) (d : DeferredEdgeBundleSet) (y : DeferredEdgeBundle) → In y (x ∷ d)
+      → (y ≡ last-or o x d) ⊎ In y (but-last x d)
   split-last x [] y (inl p) = inl p
   split-last x [] y (inr i) = absurd i
   split-last x (z ∷ zs) y (inl p) = inr (inl p)
@@ -95,7 +103,8 @@ module _ (o : DeferredEdgeBundle) where
       go (inl p) = inl p
       go (inr k) = inr (inr k)
 
-  last-apart : (x : DeferredEdgeBundle) (d : DeferredEdgeBundleSet) → DistinctBundles (x ∷ d) → (y : DeferredEdgeBundle) → In y (but-last x d)
+  last-apart : (x : DeferredEdgeBundle) (d : DeferredEdgeBundleSet) → DistinctBundles (x ∷ d) → (y : DeferredEdgeBundle)
+      → In y (but-last x d)
       → same-target (y .target) (last-or o x d .target) ≡ false
   last-apart x [] h y i = absurd i
   last-apart x (z ∷ zs) (h, hs) y (inl p) = rw p (same-target-sym (x .target) (last-or o z zs .target) ∙ h (last-or o z zs) (last-in z zs))
@@ -123,11 +132,13 @@ from-split-out x (e ∷ es) y i = go (λ k. from-split-out x es y k) (same-targe
     go ih false (inl p) = inl p
     go ih false (inr k) = inr (ih k)
 
-pub in-split-out : (x : DeferredTarget) (d : DeferredEdgeBundleSet) (y : DeferredEdgeBundle) → same-target x (y .target) ≡ false → In y d → In y (split-out-target x d)
+pub in-split-out : (x : DeferredTarget) (d : DeferredEdgeBundleSet) (y : DeferredEdgeBundle) → same-target x (y .target) ≡ false → In y d
+    → In y (split-out-target x d)
 in-split-out x [] y ne i = i
 in-split-out x (e ∷ es) y ne i = go (λ k. in-split-out x es y ne k) (same-target x (e .target)) refl i
   where
-    go : (In y es → In y (split-out-target x es)) → (b : Bool) → same-target x (e .target) ≡ b → (y ≡ e) ⊎ In y es → In y (pick b (fill-gap es) (e ∷ split-out-target x es))
+    go : (In y es → In y (split-out-target x es)) → (b : Bool) → same-target x (e .target) ≡ b → (y ≡ e) ⊎ In y es
+        → In y (pick b (fill-gap es) (e ∷ split-out-target x es))
     go ih true p (inl q) = absurd (let z : same-target x (y .target) ≡ true = rw q p in let z′ : true ≡ false = sym z ∙ ne in clash (cc))
     go ih true p (inr k) = in-fill-gap es y k
     go ih false p (inl q) = inl q
@@ -167,7 +178,8 @@ split-distinct (e ∷ a) b x (h, hs) =
     let z = split-distinct a b x hs in
     (((λ y i. h y (split-in a b x y i)), z .0), λ y i. other z y i)
   where
-    other : DistinctBundles (a ++ b) × ((y : DeferredEdgeBundle) → In y (a ++ b) → same-target (x .target) (y .target) ≡ false) → (y : DeferredEdgeBundle)
+    other : DistinctBundles (a ++ b) × ((y : DeferredEdgeBundle) → In y (a ++ b) → same-target (x .target) (y .target) ≡ false)
+        → (y : DeferredEdgeBundle)
         → (y ≡ e) ⊎ In y (a ++ b) → same-target (x .target) (y .target) ≡ false
     other z y (inl p) = rw p (h x (split-at a b x))
     other z y (inr i) = z .1 y i

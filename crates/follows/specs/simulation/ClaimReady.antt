@@ -14,7 +14,12 @@ use Rattle.meaning.specs.Graph.{Value, bool, input, region, undef}
 use Rattle.meaning.specs.facts.Tests.{clash, eqb-self, false-if, or-either}
 use Rattle.nesting.specs.lookups.Contexts.{InContext, context-replaced, entry-at, open-else, own-in}
 use Rattle.meaning.specs.Lists.{any, pick}
-use Rattle.nesting.specs.Nesting.{loop-node, exit-targets, get-edge-bundle-by-target, same-target, split-out-target, ClaimedRegion, define-node, define-region, set-state, with-twice, backedge-of, claim-body, claim-by-state, materialize-lazy-cond, DeferredEdgeBundle, DeferredEdgeBundleSet, to-region, true-cond, LoopInputs, no-inputs, structurize-loop, take-inputs, rewrite-values, rewrites-of, StepAnswer, InputRewrite, NestState, NodeOutput, Step, _>>_, claimed, give, ready, renumber-or-replace-with, renumber-to, replace-by}
+use Rattle.nesting.specs.Nesting.{loop-node, exit-targets, get-edge-bundle-by-target, same-target, split-out-target, ClaimedRegion}
+use Rattle.nesting.specs.Nesting.{define-node, define-region, set-state, with-twice, backedge-of, claim-body, claim-by-state}
+use Rattle.nesting.specs.Nesting.{materialize-lazy-cond, DeferredEdgeBundle, DeferredEdgeBundleSet, to-region, true-cond, LoopInputs}
+use Rattle.nesting.specs.Nesting.{no-inputs, structurize-loop, take-inputs, rewrite-values, rewrites-of, StepAnswer, InputRewrite}
+use Rattle.nesting.specs.Nesting.{NestState, NodeOutput, Step, _>>_, claimed, give, ready, renumber-or-replace-with, renumber-to}
+use Rattle.nesting.specs.Nesting.{replace-by}
 use Rattle.nesting.specs.lookups.Rewriting.{meets, rewrite}
 use Rattle.nesting.specs.steps.RegionsLeft.{state-of}
 use Rattle.nesting.specs.steps.Post.{bind}
@@ -26,19 +31,24 @@ use Rattle.follows.specs.simulation.Conditions.{Mat, mat-stays}
 use Rattle.follows.specs.simulation.Leads.{Sim, leads-on}
 use Rattle.follows.specs.simulation.Bundles.{DistinctBundles, find-in, found-in, is-always, same-target-sym, same-target→eq}
 use Rattle.follows.specs.simulation.LoopFollows.{HeaderInput, loop-sim}
-use Rattle.follows.specs.simulation.Defined.{Grew, IfDone, Materialized, define-node-post, define-region-post, grew-steady, grew-then, materialize-post}
+use Rattle.follows.specs.simulation.Defined.{Grew, IfDone, Materialized, define-node-post, define-region-post, grew-steady, grew-then}
+use Rattle.follows.specs.simulation.Defined.{materialize-post}
 use Rattle.follows.specs.simulation.Scope.{EntryOk, InScope, SetOk, OwnedWithin, context-stays, own-input, owned}
-use Rattle.follows.specs.simulation.Invariant.{Free, Inv, Later, New, Owned, Rewritable, free⁺, idle, inv-grew, inv-rewrite, later-grew, later-refl, later-rewrite, later-then, new, old, owned-same, owned⁺, rewritable⁺, rewriting, unborn, waiting}
+use Rattle.follows.specs.simulation.Invariant.{Free, Inv, Later, New, Owned, Rewritable, free⁺, idle, inv-grew, inv-rewrite}
+use Rattle.follows.specs.simulation.Invariant.{later-grew, later-refl, later-rewrite, later-then, new, old, owned-same, owned⁺}
+use Rattle.follows.specs.simulation.Invariant.{rewritable⁺, rewriting, unborn, waiting}
 use Rattle.follows.specs.simulation.StateChanges.{changed, inv-busy, later-busy, new-was, not-r, not-rewritable, owned-was, still}
 use Rattle.follows.specs.simulation.ClaimedRegions.{Holds, Since}
 use Rattle.follows.specs.simulation.EnterCase.{getD-rewritten}
 use Rattle.follows.specs.simulation.Append.{set-through}
-use Rattle.follows.specs.simulation.LoopParts.{KeptOrLifted, Renumbered, SameBundle, leaving, leaving-distinct, leaving-from, leaving-in, inputs-renumbered}
+use Rattle.follows.specs.simulation.LoopParts.{KeptOrLifted, Renumbered, SameBundle, leaving, leaving-distinct, leaving-from}
+use Rattle.follows.specs.simulation.LoopParts.{leaving-in, inputs-renumbered}
 
 loop-owns : (x : LoopNode) (ks : Nodes) (κ : Key) → owns-nodes (loop x ks ▸ ⟨⟩) κ ≡ true
     → (κ ≡ of-input (x .body)) ⊎ (owns-nodes ks κ ≡ true)
 unfolding owns-nodes
-loop-owns x ks κ o = go (or-either (is-input-of (x .body) κ) (owns-nodes ks κ) (sym (or-false (is-input-of (x .body) κ || owns-nodes ks κ)) ∙ o))
+loop-owns x ks κ o = go
+    (or-either (is-input-of (x .body) κ) (owns-nodes ks κ) (sym (or-false (is-input-of (x .body) κ || owns-nodes ks κ)) ∙ o))
   where
     go : (is-input-of (x .body) κ ≡ true) ⊎ (owns-nodes ks κ ≡ true) → (κ ≡ of-input (x .body)) ⊎ (owns-nodes ks κ ≡ true)
     go (inl p) = inl (input-key (x .body) κ p)
@@ -81,7 +91,8 @@ module _ (W : World) where
     pub step : Later W s s′
     pub got : ClaimGot r ins s s′ o
 
-  module _ (s : NestState) (r b : ℕ) (ks : Nodes) (d : DeferredEdgeBundleSet) (h : Inv W s) (r-in : r < size W) (is-ready : state-of s r ≡ ready b ks d) where
+  module _ (s : NestState) (r b : ℕ) (ks : Nodes) (d : DeferredEdgeBundleSet) (h : Inv W s) (r-in : r < size W)
+      (is-ready : state-of s r ≡ ready b ks d) where
     was : idle (state-of s r) ≡ true
     was = rw is-ready
 
@@ -149,7 +160,8 @@ module _ (W : World) where
       only-back : (y : DeferredEdgeBundle) → In y d → same-target (y .target) (to-region r) ≡ true → y ≡ e
       only-back y i p =
           let q : y .target ≡ to-region r = same-target→eq (y .target) (to-region r) p in
-          let z : get-edge-bundle-by-target (to-region r) d ≡ some y = ap (λ x. get-edge-bundle-by-target x d) (sym q) ∙ find-in d dist y i in cc
+          let z : get-edge-bundle-by-target (to-region r) d ≡ some y =
+          ap (λ x. get-edge-bundle-by-target x d) (sym q) ∙ find-in d dist y i in cc
 
       e-ok : EntryOk W (tables s) r (ar W r) ks e
       e-ok = h .sets r b ks d is-ready .entries e back-in
@@ -212,7 +224,8 @@ module _ (W : World) where
           where
             at : (o : Bool) → leb (suc k) (length vs) ≡ o → InContext (s₃ .region-input-rewrites) w v
             at true q =
-                let g : KeptOrLifted (W .g) r w vs x k (replace-by v) = subst (λ z. KeptOrLifted (W .g) r w vs x k z) p (rn .good k (leb-true (suc k) (length vs) q)) in
+                let g : KeptOrLifted (W .g) r w vs x k (replace-by v) =
+                subst (λ z. KeptOrLifted (W .g) r w vs x k z) p (rn .good k (leb-true (suc k) (length vs) q)) in
                 rw (g .0) (own-in w k)
             at false q =
                 let z : getD (x .rewrites) k (renumber-to k) ≡ renumber-to k =
@@ -220,24 +233,30 @@ module _ (W : World) where
                 absurd (let z′ : renumber-to k ≡ replace-by v = sym z ∙ p in clash (cc))
 
         inv₄ : Inv W s₄
-        inv₄ = inv-rewrite W s₃ r (renumber-or-replace-with (x .rewrites)) inv₃ r-unrewritten₃ r-closed₃ w w-unrewritten₃ (eqb-false w r ne) lifted
+        inv₄ = inv-rewrite W s₃ r (renumber-or-replace-with (x .rewrites)) inv₃ r-unrewritten₃ r-closed₃ w w-unrewritten₃
+            (eqb-false w r ne) lifted
 
         step₄ : Later W s s₄
         step₄ = later-rewrite W s₃ r (renumber-or-replace-with (x .rewrites)) step₃ (waiting r-in was)
 
         -- how a header's input goes on
-        header-input : (os₅ : List NodeOutput) (ρ : Resolver) (os : List NodeOutput) → Respects ρ os (record { rewrites = s₃ .region-input-rewrites; outputs = os₅ })
-            → (k : ℕ) → k < ar W r → HeaderInput W ρ r w (e .target-inputs) (x .initial-inputs) (x .outputs) k (getD (x .rewrites) k (renumber-to k))
+        header-input : (os₅ : List NodeOutput) (ρ : Resolver) (os : List NodeOutput)
+            → Respects ρ os (record { rewrites = s₃ .region-input-rewrites; outputs = os₅ })
+            → (k : ℕ) → k < ar W r → HeaderInput W ρ r w (e .target-inputs) (x .initial-inputs) (x .outputs) k
+            (getD (x .rewrites) k (renumber-to k))
         header-input os₅ ρ os res k lt = by (getD (x .rewrites) k (renumber-to k)) (rn .good k (omega (arith, n-vs)))
           where
             look : ρ (getD vs k (undef 0)) ≡ ρ (getD (e .target-inputs) k (undef 0))
-            look = ap ρ (getD-rewritten W (s₂ .region-input-rewrites) (e .target-inputs) k) ∙ lookup-keeps res (getD (e .target-inputs) k (undef 0))
+            look = ap ρ (getD-rewritten W (s₂ .region-input-rewrites) (e .target-inputs) k)
+                ∙ lookup-keeps res (getD (e .target-inputs) k (undef 0))
 
-            by : (sl : InputRewrite) → KeptOrLifted (W .g) r w vs x k sl → HeaderInput W ρ r w (e .target-inputs) (x .initial-inputs) (x .outputs) k sl
+            by : (sl : InputRewrite) → KeptOrLifted (W .g) r w vs x k sl
+                → HeaderInput W ρ r w (e .target-inputs) (x .initial-inputs) (x .outputs) k sl
             by (replace-by v) (p, q) = (p, sym look ∙ ap ρ q)
             by (renumber-to i) (l, p, l′, q) = (l, p, l′, ap ρ q ∙ look)
 
-        module _ (v : Value) (s₅ : NestState) (hm : Materialized (pick (is-always d) true-cond (e .condition)) s₄ v s₅) (n : ℕ) (s₆ : NestState) (gr₆ : Grew s₅ s₆) where
+        module _ (v : Value) (s₅ : NestState) (hm : Materialized (pick (is-always d) true-cond (e .condition)) s₄ v s₅) (n : ℕ)
+            (s₆ : NestState) (gr₆ : Grew s₅ s₆) where
           abbrev exits : List ℕ
           exits = exit-targets (W .g) r
 
@@ -253,7 +272,8 @@ module _ (W : World) where
           step₆ : Later W s s₆
           step₆ = later-then W step₄ (later-grew W gr₄₆)
 
-          repeats : (os : List NodeOutput) → Extends (s₅ .node-outputs) os → Mat (e .condition) os v ⊎ ((v ≡ bool true) × ((y : DeferredEdgeBundle) → In y d → y ≡ e))
+          repeats : (os : List NodeOutput) → Extends (s₅ .node-outputs) os
+              → Mat (e .condition) os v ⊎ ((v ≡ bool true) × ((y : DeferredEdgeBundle) → In y d → y ≡ e))
           unfolding Mat
           repeats os pre = by (is-always d) refl (hm .mat)
             where
@@ -267,13 +287,16 @@ module _ (W : World) where
 
           looped-sim : Sim W r w looped (leaving r exits d) (record { rewrites = s₄ .region-input-rewrites; outputs = s₅ .node-outputs })
           looped-sim = loop-sim W node w ks d T₅ e (x .rewrites) (leaving r exits d) r-unrewritten₃
-              (leads-on W (record { rewrites = step₃ .gains .rewrites; outputs = extends-then (step₄ .gains .outputs) (hm .grew .outputs) }) (h .sims r b ks d is-ready))
+              (leads-on W (record { rewrites = step₃ .gains .rewrites; outputs = extends-then (step₄ .gains .outputs) (hm .grew .outputs) })
+              (h .sims r b ks d is-ready))
               back-target only-back back-in e-arity (header-input (s₅ .node-outputs)) repeats
-              (λ y i ne′. let z = leaving-in r exits d y i (same-target-sym (to-region r) (y .target) ∙ ne′) in (z .0, z .1, z .2 .target, z .2 .inputs, z .2 .condition))
+              (λ y i ne′. let z = leaving-in r exits d y i (same-target-sym (to-region r) (y .target) ∙ ne′) in
+              (z .0, z .1, z .2 .target, z .2 .inputs, z .2 .condition))
               (λ z i. let y = leaving-from r exits d z i in (y .0, y .1, y .2 .target, y .2 .condition))
               inputs-apart
 
-          through : (ρ : Resolver) (os : List NodeOutput) → Respects ρ os (tables s₆) → (k : ℕ) → k < ar W r → InScope ρ os w (ar W r) looped (ρ (input r k))
+          through : (ρ : Resolver) (os : List NodeOutput) → Respects ρ os (tables s₆) → (k : ℕ) → k < ar W r
+              → InScope ρ os w (ar W r) looped (ρ (input r k))
           through ρ os res k lt =
               let law : ρ (input r k) ≡ final-input ρ r (getD (x .rewrites) k (renumber-to k)) = entry-law
               (respects-back (later-grew W gr₄₆ .gains) res) r _ (entry-at (s₃ .region-input-rewrites) r _ r-unrewritten₃) k in
@@ -286,18 +309,25 @@ module _ (W : World) where
           looped-set : SetOk W (tables s₆) w (ar W r) looped (leaving r exits d)
           looped-set =
               let all = set-through (step₆ .gains) (loop-within node ks) through
-              (λ u y. context-stays (later-grew W gr₄₆ .gains .rewrites) (context-replaced (s₃ .region-input-rewrites) r w _ r-unrewritten₃ lifted (context-stays (step₃ .gains .rewrites) y))) W d
+              (λ u y. context-stays (later-grew W gr₄₆ .gains .rewrites)
+              (context-replaced (s₃ .region-input-rewrites) r w _ r-unrewritten₃ lifted (context-stays (step₃ .gains .rewrites) y))) W d
               (h .sets r b ks d is-ready) in
               record {
                 distinct = leaving-distinct r exits d dist;
                 entries = λ z i. entry z (leaving-from r exits d z i) all;
               }
             where
-              entry : (z : DeferredEdgeBundle) → (y : DeferredEdgeBundle) × In y d × SameBundle y z → SetOk W (tables s₆) w (ar W r) looped d
+              entry : (z : DeferredEdgeBundle) → (y : DeferredEdgeBundle) × In y d × SameBundle y z
+                  → SetOk W (tables s₆) w (ar W r) looped d
                   → EntryOk W (tables s₆) w (ar W r) looped z
               entry z (y, i, bm) all =
                   let y-ok = all .entries y i in
-                  record { fits = rw (bm .target, bm .inputs) (y-ok .fits); inputs = λ k. rw (bm .inputs) (y-ok .inputs k); condition = rw (bm .condition) (y-ok .condition) }
+                  record {
+                    fits = rw (bm .target, bm .inputs) (y-ok .fits);
+                    inputs = λ k. rw (bm .inputs) (y-ok .inputs k);
+                    condition =
+                        rw (bm .condition) (y-ok .condition);
+                  }
 
           looped-clear : (κ : Key) → owns-nodes looped κ ≡ true → Free s₆ κ → ⊥
           looped-clear κ o wd = by (loop-owns node ks κ o)
@@ -322,7 +352,14 @@ module _ (W : World) where
           w-unrewritten₆ = rw (gr₄₆ .rewrites) (open-else (s₃ .region-input-rewrites) _ _ w w-unrewritten₃ (eqb-false _ _ ne))
 
           pub loop-done : ClaimDone r ins s
-              (some (record { origin = r; structured-body = w; structured-body-inputs = ins; children = looped; deferred-edges = leaving r exits d })) s₆
+              (some (record {
+                origin = r;
+                structured-body = w;
+                structured-body-inputs = ins;
+                children = looped;
+                deferred-edges =
+                    leaving r exits d;
+              })) s₆
           loop-done = record {
             inv = inv-grew W gr₄₆ inv₄;
             step = step₆;
@@ -344,7 +381,8 @@ module _ (W : World) where
               since κ (inl p) = rw p (new not-rewritten)
               since κ (inr p) = old (mine κ p)
 
-      pub structurize-loop-post : IfDone (ClaimDone r ins s) (structurize-loop (W .g) r ks e (pick (is-always d) true-cond (e .condition)) (split-out-target (to-region r) d) ins s₁)
+      pub structurize-loop-post : IfDone (ClaimDone r ins s)
+          (structurize-loop (W .g) r ks e (pick (is-always d) true-cond (e .condition)) (split-out-target (to-region r) d) ins s₁)
       unfolding structurize-loop rewrite-values
       structurize-loop-post =
           bind (define-region s₁) _ (define-region-post s₁) λ w s₂ hw.
@@ -353,7 +391,8 @@ module _ (W : World) where
           bind (define-node s₅) _ (define-node-post s₅) λ n s₆ hn.
           record { post = loop-done w s₂ (hw .0) (hw .1) (hw .2) v s₅ hm n s₆ (hn .2) }
 
-    claim-body-post : (ins : List Value) (o : Option DeferredEdgeBundle) → ((e : DeferredEdgeBundle) → o ≡ some e → get-edge-bundle-by-target (to-region r) d ≡ some e)
+    claim-body-post : (ins : List Value) (o : Option DeferredEdgeBundle)
+        → ((e : DeferredEdgeBundle) → o ≡ some e → get-edge-bundle-by-target (to-region r) d ≡ some e)
         → IfDone (ClaimDone r ins s) (claim-body (W .g) r ins ks d o s₁)
     claim-body-post ins none f = record { post = plain-done ins }
     claim-body-post ins (some e) f = structurize-loop-post ins e (f e refl)
@@ -366,6 +405,7 @@ module _ (W : World) where
         found (suc i) e p = p
 
         go : (o : Bool) → IfDone (ClaimDone r ins s)
-            (at-state {A = Option ClaimedRegion} (elim o [ false ↦ give none | true ↦ set-state r claimed >> claim-body (W .g) r ins ks d (backedge-of r b d) ]) s)
+            (at-state {A = Option ClaimedRegion}
+            (elim o [ false ↦ give none | true ↦ set-state r claimed >> claim-body (W .g) r ins ks d (backedge-of r b d) ]) s)
         go false = record { post = record { inv = h; step = later-refl W s; got = tt } }
         go true = claim-body-post ins (backedge-of r b d) (found b)

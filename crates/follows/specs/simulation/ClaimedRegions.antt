@@ -12,7 +12,8 @@ use lib.Dec.{eqb}
 use lib.ListN.{length-set}
 use Rattle.meaning.specs.Runs.{Nodes}
 use Rattle.meaning.specs.facts.Tests.{clash, at-or-else, eqb-self}
-use Rattle.nesting.specs.Nesting.{ClaimedRegion, MaybeClaimedRegion, err, ok, DeferredEdgeBundleSet, rewrites-of, NestState, in-progress, not-begun, ready}
+use Rattle.nesting.specs.Nesting.{ClaimedRegion, MaybeClaimedRegion, err, ok, DeferredEdgeBundleSet, rewrites-of, NestState, in-progress}
+use Rattle.nesting.specs.Nesting.{not-begun, ready}
 use Rattle.nesting.specs.steps.RegionsLeft.{state-of}
 use Rattle.follows.specs.simulation.ConvergentCase.{Apart}
 use Rattle.meaning.specs.facts.Elements.{In}
@@ -21,7 +22,8 @@ use Rattle.follows.specs.simulation.World.{World, ar, size}
 use Rattle.follows.specs.simulation.Tables.{tables}
 use Rattle.follows.specs.simulation.Leads.{Sim, leads-on}
 use Rattle.follows.specs.simulation.Scope.{AllScoped, SetOk, scoped-later, set-later, within-refl}
-use Rattle.follows.specs.simulation.Invariant.{Free, Inv, Later, New, Owned, Rewritable, idle, later-then, new, old, owned-by, unborn, waiting}
+use Rattle.follows.specs.simulation.Invariant.{Free, Inv, Later, New, Owned, Rewritable, idle, later-then, new, old, owned-by, unborn}
+use Rattle.follows.specs.simulation.Invariant.{waiting}
 use Rattle.follows.specs.simulation.StateChanges.{changed, else, now}
 
 module _ (W : World) where
@@ -71,7 +73,8 @@ module _ (W : World) where
   }
 
   -- with other children, which own nothing Free either
-  pub doing-with : {s₀ s : NestState} {r : ℕ} {ks : Nodes} (ks′ : Nodes) → Doing s₀ r ks s → ((κ : Key) → owns-nodes ks′ κ ≡ true → Free s₀ κ × (Free s κ → ⊥)) → Doing s₀ r ks′ s
+  pub doing-with : {s₀ s : NestState} {r : ℕ} {ks : Nodes} (ks′ : Nodes) → Doing s₀ r ks s
+      → ((κ : Key) → owns-nodes ks′ κ ≡ true → Free s₀ κ × (Free s κ → ⊥)) → Doing s₀ r ks′ s
   doing-with ks′ d f = record {
     in-range = d .in-range;
     inv = d .inv;
@@ -92,8 +95,15 @@ module _ (W : World) where
     unrewritten = st .kept (c .structured-body) (h .closed) (h .unrewritten);
   }
 
-  pub came-on : {s₀ s s′ : NestState} {r : ℕ} {ks : Nodes} {d : DeferredEdgeBundleSet} → Came s₀ r ks d s → Inv W s′ → Later W s s′ → Came s₀ r ks d s′
-  came-on {ks} c h st = record { doing = doing-on (c .doing) h st; sim = leads-on W (st .gains) (c .sim); set = set-later W (st .gains) (within-refl ks) (c .set) }
+  pub came-on : {s₀ s s′ : NestState} {r : ℕ} {ks : Nodes} {d : DeferredEdgeBundleSet} → Came s₀ r ks d s → Inv W s′ → Later W s s′
+      → Came s₀ r ks d s′
+  came-on {ks} c h st =
+      record {
+        doing = doing-on (c .doing) h st;
+        sim = leads-on W (st .gains) (c .sim);
+        set =
+            set-later W (st .gains) (within-refl ks) (c .set);
+      }
 
   -- ---- the cases of a select in region r after its children ks
   pub record ClaimedOk (s₀ : NestState) (r : ℕ) (ks : Nodes) (s : NestState) (c : ClaimedRegion) : Type 0 where
@@ -114,7 +124,8 @@ module _ (W : World) where
     pub each : (c : MaybeClaimedRegion) → In c cs → CaseOk s₀ r ks s c
     pub apart : Apart cs
 
-  pub claimed-on : {s₀ s s′ : NestState} {r : ℕ} {ks : Nodes} {c : ClaimedRegion} → ClaimedOk s₀ r ks s c → Later W s s′ → ClaimedOk s₀ r ks s′ c
+  pub claimed-on : {s₀ s s′ : NestState} {r : ℕ} {ks : Nodes} {c : ClaimedRegion} → ClaimedOk s₀ r ks s c → Later W s s′
+      → ClaimedOk s₀ r ks s′ c
   claimed-on {ks} h st = record {
     holds = holds-on (h .holds) st;
     since = h .since;
@@ -123,7 +134,8 @@ module _ (W : World) where
     apart = h .apart;
   }
 
-  pub case-on : {s₀ s s′ : NestState} {r : ℕ} {ks : Nodes} (c : MaybeClaimedRegion) → CaseOk s₀ r ks s c → Later W s s′ → CaseOk s₀ r ks s′ c
+  pub case-on : {s₀ s s′ : NestState} {r : ℕ} {ks : Nodes} (c : MaybeClaimedRegion) → CaseOk s₀ r ks s c → Later W s s′
+      → CaseOk s₀ r ks s′ c
   case-on (ok c) h st = record { is = claimed-on (h .is) st }
   case-on {ks} (err d) h st = record { is = set-later W (st .gains) (within-refl ks) (h .is) }
 
@@ -141,7 +153,8 @@ module _ (W : World) where
     else⁺ : (q : ℕ) → eqb q r ≡ false → state-of s⁺ q ≡ state-of s q
     else⁺ = else W s r (ready b ks d) h (cm .doing .in-range)
 
-    ready-was : (q b′ : ℕ) (ks′ : Nodes) (d′ : DeferredEdgeBundleSet) → state-of s⁺ q ≡ ready b′ ks′ d′ → eqb q r ≡ false → state-of s q ≡ ready b′ ks′ d′
+    ready-was : (q b′ : ℕ) (ks′ : Nodes) (d′ : DeferredEdgeBundleSet) → state-of s⁺ q ≡ ready b′ ks′ d′ → eqb q r ≡ false
+        → state-of s q ≡ ready b′ ks′ d′
     ready-was q b′ ks′ d′ p ne = sym (else⁺ q ne) ∙ p
 
     its-children : (q b′ : ℕ) (ks′ : Nodes) (d′ : DeferredEdgeBundleSet) → state-of s⁺ q ≡ ready b′ ks′ d′ → q ≡ r → ks′ ≡ ks
@@ -173,23 +186,30 @@ module _ (W : World) where
       sized = length-set (s .region-states) r (ready b ks d) ∙ h .sized;
       room = h .room;
       sims = λ q b′ ks′ d′ p. at-or-else (Sim W q q ks′ d′ (tables s)) q r
-          (λ e. rw (e, its-children q b′ ks′ d′ p e, its-set q b′ ks′ d′ p e) (cm .sim)) (λ ne. h .sims q b′ ks′ d′ (ready-was q b′ ks′ d′ p ne));
+          (λ e. rw (e, its-children q b′ ks′ d′ p e, its-set q b′ ks′ d′ p e) (cm .sim))
+          (λ ne. h .sims q b′ ks′ d′ (ready-was q b′ ks′ d′ p ne));
       sets = λ q b′ ks′ d′ p. at-or-else (SetOk W (tables s) q (ar W q) ks′ d′) q r
-          (λ e. rw (e, its-children q b′ ks′ d′ p e, its-set q b′ ks′ d′ p e) (cm .set)) (λ ne. h .sets q b′ ks′ d′ (ready-was q b′ ks′ d′ p ne));
+          (λ e. rw (e, its-children q b′ ks′ d′ p e, its-set q b′ ks′ d′ p e) (cm .set))
+          (λ ne. h .sets q b′ ks′ d′ (ready-was q b′ ks′ d′ p ne));
       disjoint = λ q q′ b₁ b₂ k₁ k₂ d₁ d₂ p p′ ne κ o o′. apart q q′ b₁ b₂ k₁ k₂ d₁ d₂ p p′ ne κ o o′;
       fresh = λ κ o n. fresh κ (owned-was κ o) n;
-      unrewritten = λ q l. at-or-else (rewrites-of (s .region-input-rewrites) q ≡ none) q r (λ e. rw e (cm .doing .unrewritten)) (λ ne. h .unrewritten q (rewritable-was q ne l));
+      unrewritten = λ q l. at-or-else (rewrites-of (s .region-input-rewrites) q ≡ none) q r (λ e. rw e (cm .doing .unrewritten))
+          (λ ne. h .unrewritten q (rewritable-was q ne l));
     }
       where
         fresh : (κ : Key) → (owns-nodes ks κ ≡ true) ⊎ Owned s κ → New s⁺ κ → ⊥
         fresh κ (inl o) n = cm .doing .clear κ o (new (new-was κ n))
         fresh κ (inr o) n = h .fresh κ o (new-was κ n)
 
-        mine : (q b′ : ℕ) (ks′ : Nodes) (d′ : DeferredEdgeBundleSet) → state-of s⁺ q ≡ ready b′ ks′ d′ → eqb q r ≡ false → (κ : Key) → owns-nodes ks′ κ ≡ true
+        mine : (q b′ : ℕ) (ks′ : Nodes) (d′ : DeferredEdgeBundleSet) → state-of s⁺ q ≡ ready b′ ks′ d′ → eqb q r ≡ false → (κ : Key)
+            → owns-nodes ks′ κ ≡ true
             → owns-nodes ks κ ≡ true → ⊥
-        mine q b′ ks′ d′ p ne κ o o′ = cm .doing .clear κ o′ (old (record { region = q; back = b′; children = ks′; deferred-edges = d′; is = ready-was q b′ ks′ d′ p ne; owns = o }))
+        mine q b′ ks′ d′ p ne κ o o′ =
+            cm .doing .clear κ o′
+            (old (record { region = q; back = b′; children = ks′; deferred-edges = d′; is = ready-was q b′ ks′ d′ p ne; owns = o }))
 
-        apart : (q q′ b₁ b₂ : ℕ) (k₁ k₂ : Nodes) (d₁ d₂ : DeferredEdgeBundleSet) → state-of s⁺ q ≡ ready b₁ k₁ d₁ → state-of s⁺ q′ ≡ ready b₂ k₂ d₂ → eqb q q′ ≡ false
+        apart : (q q′ b₁ b₂ : ℕ) (k₁ k₂ : Nodes) (d₁ d₂ : DeferredEdgeBundleSet) → state-of s⁺ q ≡ ready b₁ k₁ d₁
+            → state-of s⁺ q′ ≡ ready b₂ k₂ d₂ → eqb q q′ ≡ false
             → (κ : Key) → owns-nodes k₁ κ ≡ true → owns-nodes k₂ κ ≡ true → ⊥
         apart q q′ b₁ b₂ k₁ k₂ d₁ d₂ p p′ ne κ o o′ = at-or-else ⊥ q r
             (λ e. at-or-else ⊥ q′ r
@@ -204,7 +224,8 @@ module _ (W : World) where
       gains = cm .doing .step .gains;
       free = free;
       rewritable = λ q l. at-or-else (Rewritable W s₀ q) q r
-          (λ e. waiting (rw e (cm .doing .in-range)) (rw (e, cm .doing .began))) (λ ne. cm .doing .step .rewritable q (rewritable-was q ne l));
+          (λ e. waiting (rw e (cm .doing .in-range)) (rw (e, cm .doing .began)))
+          (λ ne. cm .doing .step .rewritable q (rewritable-was q ne l));
       kept = cm .doing .step .kept;
       busy = λ q p. at-or-else (state-of s⁺ q ≡ in-progress) q r
           (λ e. absurd (let z : in-progress ≡ not-begun = sym p ∙ ap (λ x. state-of s₀ x) e ∙ cm .doing .began in clash (cc)))

@@ -38,7 +38,8 @@ condition-at no-conds j = none
 condition-at (c & cs) zero = some c
 condition-at (c & cs) (suc j) = condition-at cs j
 
-pub mats-at : (cs : LazyConds) (os : List NodeOutput) (vs : List Value) (j : ℕ) (c : LazyCond) → Mats cs os vs → condition-at cs j ≡ some c → Mat c os (getD vs j (undef 0))
+pub mats-at : (cs : LazyConds) (os : List NodeOutput) (vs : List Value) (j : ℕ) (c : LazyCond) → Mats cs os vs → condition-at cs j ≡ some c
+    → Mat c os (getD vs j (undef 0))
 unfolding Mats
 mats-at no-conds os vs j c ms p = absurd (clash (cc))
 mats-at (c′ & cs) os vs zero c ms p = let e : c′ ≡ c = cc in rw (ms .2, ← e) (ms .3)

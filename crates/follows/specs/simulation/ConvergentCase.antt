@@ -20,14 +20,16 @@ Apart (err d ∷ cs) = Apart cs
 Apart (ok c ∷ cs) = ((c′ : ClaimedRegion) → In (ok c′) cs → eqb (c′ .structured-body) (c .structured-body) ≡ false) × Apart cs
 
 -- where none converges, taking them out changes nothing
-none-out : (cs : List MaybeClaimedRegion) → convergent-cases cs ≡ [] → (without-convergent cs ≡ cs) × ((j : ℕ) (x : MaybeClaimedRegion) → nth cs j ≡ some x → deferred-of x ≡ [])
+none-out : (cs : List MaybeClaimedRegion) → convergent-cases cs ≡ []
+    → (without-convergent cs ≡ cs) × ((j : ℕ) (x : MaybeClaimedRegion) → nth cs j ≡ some x → deferred-of x ≡ [])
 none-out [] h = (refl, λ j x p. cc)
 none-out (c ∷ cs) h = go (λ q. none-out cs q) (empty (deferred-of c)) refl h
   where
     Out : List MaybeClaimedRegion → List MaybeClaimedRegion → Type 0
     Out rest l = (rest ≡ l) × ((j : ℕ) (x : MaybeClaimedRegion) → nth l j ≡ some x → deferred-of x ≡ [])
 
-    each : deferred-of c ≡ [] → ((j : ℕ) (x : MaybeClaimedRegion) → nth cs j ≡ some x → deferred-of x ≡ []) → (j : ℕ) (x : MaybeClaimedRegion) → nth (c ∷ cs) j ≡ some x → deferred-of x ≡ []
+    each : deferred-of c ≡ [] → ((j : ℕ) (x : MaybeClaimedRegion) → nth cs j ≡ some x → deferred-of x ≡ [])
+        → (j : ℕ) (x : MaybeClaimedRegion) → nth (c ∷ cs) j ≡ some x → deferred-of x ≡ []
     each e on zero x p = let z : c ≡ x = cc in rw (← z) e
     each e on (suc j) x p = on j x p
 
@@ -40,19 +42,32 @@ pub record Converges (cases : List MaybeClaimedRegion) (c : MaybeClaimedRegion) 
   pub at : ℕ
   pub is : nth cases at ≡ some c
   pub len : length rest ≡ length cases
-  pub each : (j : ℕ) (x : MaybeClaimedRegion) → nth cases j ≡ some x → ((x ≡ c) × (nth rest j ≡ some (err []))) ⊎ ((nth rest j ≡ some x) × (deferred-of x ≡ []))
+  pub each : (j : ℕ) (x : MaybeClaimedRegion) → nth cases j ≡ some x
+      → ((x ≡ c) × (nth rest j ≡ some (err []))) ⊎ ((nth rest j ≡ some x) × (deferred-of x ≡ []))
   pub from : (x : MaybeClaimedRegion) → In x rest → (x ≡ err []) ⊎ In x cases
   pub apart : Apart cases → Apart rest
-  pub others : Apart cases → (y : ClaimedRegion) → c ≡ ok y → (z : ClaimedRegion) → In (ok z) rest → eqb (y .structured-body) (z .structured-body) ≡ false
+  pub others : Apart cases → (y : ClaimedRegion) → c ≡ ok y → (z : ClaimedRegion) → In (ok z) rest
+      → eqb (y .structured-body) (z .structured-body) ≡ false
 
-pub converges : (cases : List MaybeClaimedRegion) (c : MaybeClaimedRegion) → convergent-cases cases ≡ c ∷ [] → Converges cases c (without-convergent cases)
+pub converges : (cases : List MaybeClaimedRegion) (c : MaybeClaimedRegion) → convergent-cases cases ≡ c ∷ []
+    → Converges cases c (without-convergent cases)
 converges [] c p = absurd (clash (cc))
 converges (x ∷ cs) c p = go (λ q. converges cs c q) (empty (deferred-of x)) refl p
   where
     skip : (r : List MaybeClaimedRegion) → deferred-of x ≡ [] → Converges cs c r → Converges (x ∷ cs) c (x ∷ r)
-    skip r e cv = record { at = suc (cv .at); is = cv .is; len = ap suc (cv .len); each = each; from = from; apart = apart x; others = others x }
+    skip r e cv = record {
+      at = suc (cv .at);
+      is = cv .is;
+      len = ap suc (cv .len);
+      each = each;
+      from = from;
+      apart = apart x;
+      others =
+          others x;
+    }
       where
-        each : (j : ℕ) (y : MaybeClaimedRegion) → nth (x ∷ cs) j ≡ some y → ((y ≡ c) × (nth (x ∷ r) j ≡ some (err []))) ⊎ ((nth (x ∷ r) j ≡ some y) × (deferred-of y ≡ []))
+        each : (j : ℕ) (y : MaybeClaimedRegion) → nth (x ∷ cs) j ≡ some y
+            → ((y ≡ c) × (nth (x ∷ r) j ≡ some (err []))) ⊎ ((nth (x ∷ r) j ≡ some y) × (deferred-of y ≡ []))
         each zero y q = let z : x ≡ y = cc in inr (q, rw (← z) e)
         each (suc j) y q = cv .each j y q
 
@@ -80,11 +95,21 @@ converges (x ∷ cs) c p = go (λ q. converges cs c q) (empty (deferred-of x)) r
             let e : z ≡ x′ = cc in rw e (ne y (subst (λ v. In v cs) q (nth-in cs (cv .at) c (cv .is))))
         others (ok x′) (ne, h) y q z (inr i) = cv .others h y q z i
 
-    here : ((j : ℕ) (y : MaybeClaimedRegion) → nth cs j ≡ some y → deferred-of y ≡ []) → c ≡ x → (rest : List MaybeClaimedRegion) → rest ≡ err [] ∷ cs → Converges (x ∷ cs) c rest
-    here none-on e rest re = record
-        { at = 0; is = rw e; len = rw re; each = each; from = λ y i. from y (rw re at i); apart = λ h. rw re (apart x h); others = λ h y q z i. others x e h y q z (rw re at i) }
+    here : ((j : ℕ) (y : MaybeClaimedRegion) → nth cs j ≡ some y → deferred-of y ≡ []) → c ≡ x → (rest : List MaybeClaimedRegion)
+        → rest ≡ err [] ∷ cs → Converges (x ∷ cs) c rest
+    here none-on e rest re = record {
+      at = 0;
+      is = rw e;
+      len = rw re;
+      each = each;
+      from = λ y i. from y (rw re at i);
+      apart = λ h. rw re (apart x h);
+      others =
+          λ h y q z i. others x e h y q z (rw re at i);
+    }
       where
-        each : (j : ℕ) (y : MaybeClaimedRegion) → nth (x ∷ cs) j ≡ some y → ((y ≡ c) × (nth rest j ≡ some (err []))) ⊎ ((nth rest j ≡ some y) × (deferred-of y ≡ []))
+        each : (j : ℕ) (y : MaybeClaimedRegion) → nth (x ∷ cs) j ≡ some y
+            → ((y ≡ c) × (nth rest j ≡ some (err []))) ⊎ ((nth rest j ≡ some y) × (deferred-of y ≡ []))
         each zero y q = let z : x ≡ y = cc in inl (sym z ∙ sym e, rw re)
         each (suc j) y q = inr (rw re q, none-on j y q)
 
@@ -96,13 +121,15 @@ converges (x ∷ cs) c p = go (λ q. converges cs c q) (empty (deferred-of x)) r
         apart (err d) h = h
         apart (ok z) h = h .1
 
-        others : (x : MaybeClaimedRegion) → c ≡ x → Apart (x ∷ cs) → (y : ClaimedRegion) → c ≡ ok y → (z : ClaimedRegion) → In (ok z) (err [] ∷ cs)
+        others : (x : MaybeClaimedRegion) → c ≡ x → Apart (x ∷ cs) → (y : ClaimedRegion) → c ≡ ok y → (z : ClaimedRegion)
+            → In (ok z) (err [] ∷ cs)
             → eqb (y .structured-body) (z .structured-body) ≡ false
         others (err d) e′ h y q z i = cc
         others (ok x′) e′ h y q z (inl k) = cc
         others (ok x′) e′ (ne, h) y q z (inr i) = let w : y ≡ x′ = cc in rw w (eqb-sym (x′ .structured-body) (z .structured-body) ∙ ne z i)
 
     go : (convergent-cases cs ≡ c ∷ [] → Converges cs c (without-convergent cs)) → (b : Bool) → empty (deferred-of x) ≡ b
-        → pick (not b) (x ∷ convergent-cases cs) (convergent-cases cs) ≡ c ∷ [] → Converges (x ∷ cs) c (pick b x (err []) ∷ without-convergent cs)
+        → pick (not b) (x ∷ convergent-cases cs) (convergent-cases cs) ≡ c ∷ []
+        → Converges (x ∷ cs) c (pick b x (err []) ∷ without-convergent cs)
     go ih true e q = skip (without-convergent cs) (is-empty (deferred-of x) e) (ih q)
     go ih false e q = let y = none-out cs (cc) in here (y .1) (cc) (err [] ∷ without-convergent cs) (ap (λ l. err [] ∷ l) (y .0))

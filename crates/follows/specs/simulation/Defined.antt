@@ -11,7 +11,10 @@ use lib.ListN.{length}
 use Rattle.meaning.specs.Graph.{SelectionKind, Value, bool, bool-cond, number, output, same-values}
 use Rattle.nesting.specs.steps.Keeps.{Steady, define-merge-keeps}
 use Rattle.meaning.specs.facts.Tests.{clash}
-use Rattle.nesting.specs.Nesting.{most-nodes, most-outputs, most-regions, define-merge, define-node, define-output, define-region, materialize-lazy-cond, materialize-lazy-conds, DeferredEdgeBundleSet, LazyCond, LazyConds, _&_, false-cond, merge, true-cond, undef-cond, no-conds, PlannedBundle, PlannedInput, merged, shared, DefinedSelect, emit, emit-condition, emit-inputs, StepAnswer, NestState, NodeOutput, give}
+use Rattle.nesting.specs.Nesting.{most-nodes, most-outputs, most-regions, define-merge, define-node, define-output, define-region}
+use Rattle.nesting.specs.Nesting.{materialize-lazy-cond, materialize-lazy-conds, DeferredEdgeBundleSet, LazyCond, LazyConds, _&_}
+use Rattle.nesting.specs.Nesting.{false-cond, merge, true-cond, undef-cond, no-conds, PlannedBundle, PlannedInput, merged, shared}
+use Rattle.nesting.specs.Nesting.{DefinedSelect, emit, emit-condition, emit-inputs, StepAnswer, NestState, NodeOutput, give}
 use Rattle.nesting.specs.steps.RegionsLeft.{AnyRefusal}
 use Rattle.nesting.specs.steps.Post.{Post, bind, map-post, when-room}
 use Rattle.meaning.specs.facts.Elements.{nth-last, Extends, extends-refl, extends-then}
@@ -35,7 +38,14 @@ pub record Grew (s s′ : NestState) : Type 0 where
   pub node-count : s .node-count ≤ s′ .node-count
 
 pub grew-refl : (s : NestState) → Grew s s
-grew-refl s = record { outputs = extends-refl (s .node-outputs); rewrites = refl; region-states = refl; regions = omega arith; node-count = omega arith }
+grew-refl s = record {
+  outputs = extends-refl (s .node-outputs);
+  rewrites = refl;
+  region-states = refl;
+  regions = omega arith;
+  node-count =
+      omega arith;
+}
 
 pub grew-then : {s s′ s″ : NestState} → Grew s s′ → Grew s′ s″ → Grew s s″
 grew-then p q = record {
@@ -50,11 +60,46 @@ pub grew-steady : Steady Grew
 grew-steady = record {
   same = grew-refl;
   follows = grew-then;
-  region = λ s. record { outputs = extends-refl (s .node-outputs); rewrites = refl; region-states = refl; regions = omega arith; node-count = omega arith };
-  node = λ s. record { outputs = extends-refl (s .node-outputs); rewrites = refl; region-states = refl; regions = omega arith; node-count = omega arith };
-  merge = λ s. record { outputs = extends-refl (s .node-outputs); rewrites = refl; region-states = refl; regions = omega arith; node-count = omega arith };
-  output = λ x s. record { outputs = record { more = x ∷ []; whole = refl }; rewrites = refl; region-states = refl; regions = omega arith; node-count = omega arith };
-  twice = λ b s. record { outputs = extends-refl (s .node-outputs); rewrites = refl; region-states = refl; regions = omega arith; node-count = omega arith };
+  region = λ s. record {
+    outputs = extends-refl (s .node-outputs);
+    rewrites = refl;
+    region-states = refl;
+    regions =
+        omega arith;
+    node-count = omega arith;
+  };
+  node = λ s. record {
+    outputs = extends-refl (s .node-outputs);
+    rewrites = refl;
+    region-states = refl;
+    regions = omega arith;
+    node-count =
+        omega arith;
+  };
+  merge = λ s. record {
+    outputs = extends-refl (s .node-outputs);
+    rewrites = refl;
+    region-states = refl;
+    regions = omega arith;
+    node-count =
+        omega arith;
+  };
+  output = λ x s. record {
+    outputs = record { more = x ∷ []; whole = refl };
+    rewrites = refl;
+    region-states = refl;
+    regions =
+        omega arith;
+    node-count = omega arith;
+  };
+  twice = λ b s. record {
+    outputs = extends-refl (s .node-outputs);
+    rewrites = refl;
+    region-states = refl;
+    regions =
+        omega arith;
+    node-count = omega arith;
+  };
 }
 
 -- ---- a new output
@@ -92,7 +137,8 @@ scrutinee-is : (k : SelectionKind) (vs : List Value) → is-scrutinee k vs ≡ t
 scrutinee-is bool-cond vs h = (refl, same-values→eq vs (bool true ∷ bool false ∷ []) h)
 scrutinee-is number vs h = absurd (clash (cc))
 
-merge-post : (n : ℕ) (kind : SelectionKind) (sc : Value) (cs : LazyConds) (s : NestState) (vs : List Value) (s₁ : NestState) → Materializeds cs s vs s₁
+merge-post : (n : ℕ) (kind : SelectionKind) (sc : Value) (cs : LazyConds) (s : NestState) (vs : List Value) (s₁ : NestState)
+    → Materializeds cs s vs s₁
     → IfDone (Materialized (merge n kind sc cs) s) (pick (is-scrutinee kind vs) (give sc) (define-output n 1 vs) s₁)
 unfolding Mat
 merge-post n kind sc cs s vs s₁ ms = go (is-scrutinee kind vs) refl
@@ -103,7 +149,13 @@ merge-post n kind sc cs s vs s₁ ms = go (is-scrutinee kind vs) refl
         let x = scrutinee-is kind vs q in
         record { post = record { mat = inl (x .0, refl, rw (x .1) at (ms .mats)); grew = ms .grew } }
     go false q = map-post (define-output n 1 vs s₁) (define-output-post n 1 vs s₁) λ v s′ o. record {
-      mat = inr (o .place, record { node = n; type = 1; values = vs }, o .is, o .at-place, mats-stay cs (s₁ .node-outputs) (s′ .node-outputs) (o .grew .outputs) vs (ms .mats));
+      mat = inr (
+        o .place,
+        record { node = n; type = 1; values = vs },
+        o .is,
+        o .at-place,
+        mats-stay cs (s₁ .node-outputs) (s′ .node-outputs) (o .grew .outputs) vs (ms .mats),
+      );
       grew = grew-then (ms .grew) (o .grew);
     }
 
@@ -114,7 +166,8 @@ mutual
   materialize-post true-cond s = record { post = record { mat = refl; grew = grew-refl s } }
   materialize-post false-cond s = record { post = record { mat = refl; grew = grew-refl s } }
   materialize-post undef-cond s = record { post = record { mat = refl; grew = grew-refl s } }
-  materialize-post (merge n kind sc cs) s = bind (materialize-lazy-conds cs s) _ (materializes-post cs s) λ vs s₁ ms. merge-post n kind sc cs s vs s₁ ms
+  materialize-post (merge n kind sc cs) s =
+      bind (materialize-lazy-conds cs s) _ (materializes-post cs s) λ vs s₁ ms. merge-post n kind sc cs s vs s₁ ms
 
   pub materializes-post : (cs : LazyConds) (s : NestState) → IfDone (Materializeds cs s) (materialize-lazy-conds cs s)
   materializes-post no-conds s = record { post = record { mats = refl; grew = grew-refl s } }
@@ -133,10 +186,12 @@ pub record Emitted (n : DefinedSelect) (is : List PlannedInput) (s : NestState) 
   pub emits : Emits (s′ .node-outputs) n is vs
   pub grew : Grew s s′
 
-pub emits-stay : (n : DefinedSelect) (is : List PlannedInput) (a b : List NodeOutput) → Extends a b → (vs : List Value) → Emits a n is vs → Emits b n is vs
+pub emits-stay : (n : DefinedSelect) (is : List PlannedInput) (a b : List NodeOutput) → Extends a b → (vs : List Value) → Emits a n is vs
+    → Emits b n is vs
 emits-stay n [] a b p vs h = h
 emits-stay n (shared v ∷ is) a b p vs (w, ws, e, one, rest) = (w, ws, e, one, emits-stay n is a b p ws rest)
-emits-stay n (merged ty us ∷ is) a b p vs (w, ws, e, (k, o, x, at-k, y), rest) = (w, ws, e, (k, o, x, stays p at-k, y), emits-stay n is a b p ws rest)
+emits-stay n (merged ty us ∷ is) a b p vs (w, ws, e, (k, o, x, at-k, y), rest) =
+    (w, ws, e, (k, o, x, stays p at-k, y), emits-stay n is a b p ws rest)
 
 pub emit-inputs-post : (n : DefinedSelect) (is : List PlannedInput) (s : NestState) → IfDone (Emitted n is s) (emit-inputs n is s)
 unfolding emit-inputs
@@ -149,19 +204,28 @@ emit-inputs-post n (merged ty us ∷ is) s =
     bind (emit-inputs n is s₁) _ (emit-inputs-post n is s₁) λ vs s₂ h.
     record {
       post = record {
-        emits = (v, vs, refl, (o .place, record { node = n .node; type = ty; values = us }, o .is, stays (h .grew .outputs) (o .at-place), refl), h .emits);
+        emits = (
+          v,
+          vs,
+          refl,
+          (o .place, record { node = n .node; type = ty; values = us }, o .is, stays (h .grew .outputs) (o .at-place), refl),
+          h .emits,
+        );
         grew = grew-then (o .grew) (h .grew);
       };
     }
 
 -- ---- emitting the plans
-pub record EmittedAll (n : DefinedSelect) (ps : List PlannedBundle) (s : NestState) (d : DeferredEdgeBundleSet) (s′ : NestState) : Type 0 where
+pub record EmittedAll (n : DefinedSelect) (ps : List PlannedBundle) (s : NestState) (d : DeferredEdgeBundleSet)
+    (s′ : NestState) : Type 0 where
   pub emits : EmitsAll (s′ .node-outputs) n ps d
   pub grew : Grew s s′
 
-emit-condition-post : (n : DefinedSelect) (o : Option LazyConds) (s : NestState) → IfDone (λ c s′. (c ≡ condition-from n o) × Grew s s′) (emit-condition n o s)
+emit-condition-post : (n : DefinedSelect) (o : Option LazyConds) (s : NestState)
+    → IfDone (λ c s′. (c ≡ condition-from n o) × Grew s s′) (emit-condition n o s)
 emit-condition-post n none s = record { post = (refl, grew-refl s) }
-emit-condition-post n (some cs) s = bind (define-merge s) _ (define-merge-keeps grew-steady AnyRefusal tt s) λ x s₁ h. record { post = (refl, h) }
+emit-condition-post n (some cs) s =
+    bind (define-merge s) _ (define-merge-keeps grew-steady AnyRefusal tt s) λ x s₁ h. record { post = (refl, h) }
 
 pub emit-post : (n : DefinedSelect) (ps : List PlannedBundle) (s : NestState) → IfDone (EmittedAll n ps s) (emit n ps s)
 unfolding emit
@@ -176,7 +240,12 @@ emit-post n (p ∷ ps) s =
           record { target = p .target; accumulated-count = p .total-edge-count; target-inputs = vs; condition = c },
           d,
           refl,
-          record { target = refl; inputs = emits-stay n (p .inputs) _ _ (extends-then (hc .1 .outputs) (hd .grew .outputs)) vs (h .emits); condition = hc .0 },
+          record {
+            target = refl;
+            inputs =
+                emits-stay n (p .inputs) _ _ (extends-then (hc .1 .outputs) (hd .grew .outputs)) vs (h .emits);
+            condition = hc .0;
+          },
           hd .emits,
         );
         grew = grew-then (h .grew) (grew-then (hc .1) (hd .grew));

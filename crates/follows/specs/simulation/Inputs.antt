@@ -17,9 +17,11 @@ Numbered v = (a b : ℕ) → same-value (v a) (v b) ≡ eqb a b
 puts-below : (v : ℕ → Value) → Numbered v → (j k : ℕ) → j < k → (ws : List Word) (σ : Env) → put-inputs v k ws σ (v j) ≡ σ (v j)
 unfolding put-inputs
 puts-below v nv j k lt [] σ = refl
-puts-below v nv j k lt (w ∷ ws) σ = puts-below v nv j (suc k) (omega arith) ws (put (v k) w σ) ∙ put-other (v k) (v j) w σ (nv j k ∙ eqb-less j k lt)
+puts-below v nv j k lt (w ∷ ws) σ =
+    puts-below v nv j (suc k) (omega arith) ws (put (v k) w σ) ∙ put-other (v k) (v j) w σ (nv j k ∙ eqb-less j k lt)
 
-pub puts-at : (v : ℕ → Value) → Numbered v → (ws : List Word) (i j k : ℕ) → j ≡ k + i → i < length ws → (σ : Env) → put-inputs v k ws σ (v j) ≡ getD ws i mark
+pub puts-at : (v : ℕ → Value) → Numbered v → (ws : List Word) (i j k : ℕ) → j ≡ k + i → i < length ws → (σ : Env)
+    → put-inputs v k ws σ (v j) ≡ getD ws i mark
 unfolding put-inputs
 puts-at v nv [] i j k e lt σ = absurd (omega arith)
 puts-at v nv (w ∷ ws) zero j k e lt σ =

@@ -16,7 +16,8 @@ use Rattle.meaning.specs.Graph.{Value, region}
 use Rattle.nesting.specs.lookups.ChainEnds.{RewritesTo, entry-kept}
 use Rattle.meaning.specs.facts.Tests.{clash}
 use Rattle.nesting.specs.lookups.Contexts.{InContext, Rooted, open-else, rooted-add}
-use Rattle.nesting.specs.Nesting.{DeferredEdgeBundleSet, rewrites-of, NestState, RegionInputRewrites, RewriteEntry, StructurizeRegionState, claimed, in-progress, not-begun, ready}
+use Rattle.nesting.specs.Nesting.{DeferredEdgeBundleSet, rewrites-of, NestState, RegionInputRewrites, RewriteEntry, StructurizeRegionState}
+use Rattle.nesting.specs.Nesting.{claimed, in-progress, not-begun, ready}
 use Rattle.nesting.specs.steps.RegionsLeft.{state-of}
 use Rattle.nesting.specs.steps.Keeps.{with-entry}
 use Rattle.follows.specs.simulation.Key.{Key, of-input, of-instr, of-node, of-none, owns-nodes}
@@ -56,8 +57,17 @@ New s (of-input q) = rewrites-of (s .region-input-rewrites) q ≡ none
 New s (of-node n) = s .node-count ≤ n
 New s of-none = ⊥
 
-pub owned-by : {s s′ : NestState} {κ : Key} (o : Owned s′ κ) → state-of s (o .region) ≡ ready (o .back) (o .children) (o .deferred-edges) → Owned s κ
-owned-by o p = record { region = o .region; back = o .back; children = o .children; deferred-edges = o .deferred-edges; is = p; owns = o .owns }
+pub owned-by : {s s′ : NestState} {κ : Key} (o : Owned s′ κ) → state-of s (o .region) ≡ ready (o .back) (o .children) (o .deferred-edges)
+    → Owned s κ
+owned-by o p = record {
+  region = o .region;
+  back = o .back;
+  children = o .children;
+  deferred-edges = o .deferred-edges;
+  is = p;
+  owns =
+      o .owns;
+}
 
 pub data Free (s : NestState) (κ : Key) : Type 0 where
   old : Owned s κ → Free s κ
@@ -78,7 +88,8 @@ module _ (W : World) where
     pub room : size W ≤ s .region-count
     pub sims : (r b : ℕ) (ks : Nodes) (d : DeferredEdgeBundleSet) → state-of s r ≡ ready b ks d → Sim W r r ks d (tables s)
     pub sets : (r b : ℕ) (ks : Nodes) (d : DeferredEdgeBundleSet) → state-of s r ≡ ready b ks d → SetOk W (tables s) r (ar W r) ks d
-    pub disjoint : (r r′ b b′ : ℕ) (ks ks′ : Nodes) (d d′ : DeferredEdgeBundleSet) → state-of s r ≡ ready b ks d → state-of s r′ ≡ ready b′ ks′ d′ → eqb r r′ ≡ false
+    pub disjoint : (r r′ b b′ : ℕ) (ks ks′ : Nodes) (d d′ : DeferredEdgeBundleSet) → state-of s r ≡ ready b ks d
+        → state-of s r′ ≡ ready b′ ks′ d′ → eqb r r′ ≡ false
         → (κ : Key) → owns-nodes ks κ ≡ true → owns-nodes ks′ κ ≡ true → ⊥
     pub fresh : (κ : Key) → Owned s κ → New s κ → ⊥
     pub unrewritten : (q : ℕ) → Rewritable s q → rewrites-of (s .region-input-rewrites) q ≡ none
@@ -88,7 +99,8 @@ module _ (W : World) where
     pub gains : Gains (tables s) (tables s′)
     pub free : (κ : Key) → Free s′ κ → Free s κ
     pub rewritable : (q : ℕ) → Rewritable s′ q → Rewritable s q
-    pub kept : (q : ℕ) → (Rewritable s q → ⊥) → rewrites-of (s .region-input-rewrites) q ≡ none → rewrites-of (s′ .region-input-rewrites) q ≡ none
+    pub kept : (q : ℕ) → (Rewritable s q → ⊥) → rewrites-of (s .region-input-rewrites) q ≡ none
+        → rewrites-of (s′ .region-input-rewrites) q ≡ none
     pub busy : (q : ℕ) → state-of s q ≡ in-progress → state-of s′ q ≡ in-progress
 
   pub later-refl : (s : NestState) → Later s s
@@ -144,7 +156,8 @@ module _ (W : World) where
       room = omega (arith, h .room, gr .regions);
       sims = λ r b ks d p. leads-on W grew-gains (h .sims r b ks d (sym (status-same r) ∙ p));
       sets = λ r b ks d p. set-later W grew-gains (within-refl ks) (h .sets r b ks d (sym (status-same r) ∙ p));
-      disjoint = λ r r′ b b′ ks ks′ d d′ p p′ ne. h .disjoint r r′ b b′ ks ks′ d d′ (sym (status-same r) ∙ p) (sym (status-same r′) ∙ p′) ne;
+      disjoint = λ r r′ b b′ ks ks′ d d′ p p′ ne. h .disjoint r r′ b b′ ks ks′ d d′ (sym (status-same r) ∙ p)
+          (sym (status-same r′) ∙ p′) ne;
       fresh = λ v o n. h .fresh v (owned-same v o) (new-same v n);
       unrewritten = λ q l. rw (gr .rewrites) (h .unrewritten q (rewritable-same q l));
     }
@@ -158,7 +171,11 @@ module _ (W : World) where
     s⁺ = rewriting q e s
 
     pub rewrite-gains : Gains (tables s) (tables s⁺)
-    rewrite-gains = record { rewrites = record { more = record { region = q; rewrites = e } ∷ []; whole = refl }; outputs = extends-refl (s .node-outputs) }
+    rewrite-gains = record {
+      rewrites = record { more = record { region = q; rewrites = e } ∷ []; whole = refl };
+      outputs =
+          extends-refl (s .node-outputs);
+    }
 
     pub rewritable⁺ : (r : ℕ) → Rewritable s⁺ r → Rewritable s r
     rewritable⁺ r (unborn h) = unborn h
@@ -177,7 +194,8 @@ module _ (W : World) where
     free⁺ κ (old o) = old (owned⁺ κ o)
     free⁺ κ (new n) = new (new⁺ κ n)
 
-    pub inv-rewrite : (h : Inv s) → rewrites-of (s .region-input-rewrites) q ≡ none → (Rewritable s q → ⊥) → (p : ℕ) → rewrites-of (s .region-input-rewrites) p ≡ none → (p ≡ q → ⊥)
+    pub inv-rewrite : (h : Inv s) → rewrites-of (s .region-input-rewrites) q ≡ none → (Rewritable s q → ⊥) → (p : ℕ)
+        → rewrites-of (s .region-input-rewrites) p ≡ none → (p ≡ q → ⊥)
         → ((k : ℕ) (v : Value) → RewritesTo e k v → InContext (s .region-input-rewrites) p v) → Inv s⁺
     inv-rewrite h no-q closed p no-p ne given = record {
       rooted = rooted-add (s .region-input-rewrites) q p e no-q no-p ne given (h .rooted);
@@ -187,7 +205,8 @@ module _ (W : World) where
       sets = λ r b ks d p. set-later W rewrite-gains (within-refl ks) (h .sets r b ks d p);
       disjoint = λ r r′ b b′ ks ks′ d d′ p p′ ne. h .disjoint r r′ b b′ ks ks′ d d′ p p′ ne;
       fresh = λ v o n. h .fresh v (owned⁺ v o) (new⁺ v n);
-      unrewritten = λ r l. open-else (s .region-input-rewrites) q e r (h .unrewritten r (rewritable⁺ r l)) (λ p. closed (subst (λ x. Rewritable s x) p (rewritable⁺ r l)));
+      unrewritten = λ r l. open-else (s .region-input-rewrites) q e r (h .unrewritten r (rewritable⁺ r l))
+          (λ p. closed (subst (λ x. Rewritable s x) p (rewritable⁺ r l)));
     }
 
     -- since s₀, when the region could still get rewrites

@@ -50,7 +50,8 @@ is-constant (held r k) = false
 is-constant (instr r k) = false
 is-constant (output o) = false
 
-pub constant-by : (P : Value → Type 0) → ((i : ℕ) → P (const i)) → ((b : Bool) → P (bool b)) → ((ty : ℕ) → P (undef ty)) → (v : Value) → is-constant v ≡ true → P v
+pub constant-by : (P : Value → Type 0) → ((i : ℕ) → P (const i)) → ((b : Bool) → P (bool b)) → ((ty : ℕ) → P (undef ty)) → (v : Value)
+    → is-constant v ≡ true → P v
 constant-by P c b u (const i) h = c i
 constant-by P c b u (bool x) h = b x
 constant-by P c b u (undef ty) h = u ty

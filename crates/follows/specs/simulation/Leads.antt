@@ -6,10 +6,12 @@ use mathlib.Core.Path.{_∙_, _≡_, ap, refl, sym}
 use Prim.Native.Nat.{_<_, _≤_, ℕ}
 use native.Mathlib.Omega.{arith}
 use lib.ListN.{getD, length, length-map}
-use Rattle.meaning.specs.Runs.{Nodes, _▸_, ⟨⟩, Ended, run-from, Ran, and-then, ended, no-end, run-node, run-nodes, through, End, Event, RunState, Word, mark, returned, word}
+use Rattle.meaning.specs.Runs.{Nodes, _▸_, ⟨⟩, Ended, run-from, Ran, and-then, ended, no-end, run-node, run-nodes, through, End, Event}
+use Rattle.meaning.specs.Runs.{RunState, Word, mark, returned, word}
 use Rattle.meaning.specs.Graph.{Value, input}
 use Rattle.meaning.specs.facts.Tests.{clash, or-left}
-use Rattle.nesting.specs.Nesting.{same-target, join, DeferredEdgeBundle, DeferredEdgeBundleSet, DeferredTarget, to-region, to-return, NodeOutput, look-up-nodes}
+use Rattle.nesting.specs.Nesting.{same-target, join, DeferredEdgeBundle, DeferredEdgeBundleSet, DeferredTarget, to-region, to-return}
+use Rattle.nesting.specs.Nesting.{NodeOutput, look-up-nodes}
 use Rattle.nesting.specs.lookups.Rewriting.{rewrite-node, rewrite-nodes}
 use Rattle.meaning.specs.facts.Elements.{In}
 use Rattle.follows.specs.simulation.Key.{Key, is-constant, key, key-constant, nodes-none, owns-join, owns-nodes}
@@ -37,7 +39,8 @@ pub record InputsAre (ρ : Resolver) (os : List NodeOutput) (q : ℕ) (ks : Node
   pub apart : (k : ℕ) → k < length w → owns-nodes ks (key os (ρ (input q k))) ≡ false
 
 -- ---- joining
-pub rewrite-join : (ρ : Resolver) (os : List NodeOutput) (a b : Nodes) → rewrite-nodes ρ os (join a b) ≡ join (rewrite-nodes ρ os a) (rewrite-nodes ρ os b)
+pub rewrite-join : (ρ : Resolver) (os : List NodeOutput) (a b : Nodes)
+    → rewrite-nodes ρ os (join a b) ≡ join (rewrite-nodes ρ os a) (rewrite-nodes ρ os b)
 unfolding look-up-nodes
 rewrite-join ρ os ⟨⟩ b = refl
 rewrite-join ρ os (x ▸ a) b = ap (λ ks. rewrite-node ρ os x ▸ ks) (rewrite-join ρ os a b)
@@ -62,10 +65,12 @@ module _ (W : World) where
   -- ---- where a run leads
   -- The graph's run goes on to the target with these inputs, in fewer than n regions, to this end.
   abbrev pub OnwardTo : Resolver → RunState → ℕ → End → List Event → DeferredTarget → List Value → Type 0
-  OnwardTo ρ s n e h (to-region r) vs = (k : ℕ) × (k < n) × (length vs ≡ ar W r) × (from-region W k r (read ρ s vs) (s .events) ≡ ends-with e h)
+  OnwardTo ρ s n e h (to-region r) vs =
+      (k : ℕ) × (k < n) × (length vs ≡ ar W r) × (from-region W k r (read ρ s vs) (s .events) ≡ ends-with e h)
   OnwardTo ρ s n e h to-return vs = (e ≡ returned (read ρ s vs)) × (h ≡ s .events)
 
-  pub record Goes (ρ : Resolver) (os : List NodeOutput) (n : ℕ) (d : DeferredEdgeBundleSet) (e : End) (h : List Event) (s : RunState) : Type 0 where
+  pub record Goes (ρ : Resolver) (os : List NodeOutput) (n : ℕ) (d : DeferredEdgeBundleSet) (e : End) (h : List Event)
+      (s : RunState) : Type 0 where
     pub entry : DeferredEdgeBundle
     pub chosen : Chosen ρ os s d entry
     pub onward : OnwardTo ρ s n e h (entry .target) (entry .target-inputs)
@@ -107,13 +112,18 @@ module _ (W : World) where
   pub leads-on : {r q : ℕ} {ks : Nodes} {T T′ : Tables} {Q : Reached} → Gains T T′ → Leads r q ks T Q → Leads r q ks T′ Q
   leads-on p h = record { leads = λ ρ os res. h .leads ρ os (respects-back p res) }
 
-  pub based-after : (ρ : Resolver) (os : List NodeOutput) (ks : Nodes) (b : ℕ) (s s′ : RunState) → runs W b (rewrite-nodes ρ os ks) s ≡ through s′ → Based s → Based s′
+  pub based-after : (ρ : Resolver) (os : List NodeOutput) (ks : Nodes) (b : ℕ) (s s′ : RunState)
+      → runs W b (rewrite-nodes ρ os ks) s ≡ through s′ → Based s → Based s′
   based-after ρ os ks b s s′ p q =
-      record { based = λ v c. frame (W .rule) (W .g .test-cost) ρ os v ks b s s′ p (rw (key-constant os v c) (nodes-none ks)) ∙ q .based v c }
+      record {
+        based = λ v c. frame (W .rule) (W .g .test-cost) ρ os v ks b s s′ p (rw (key-constant os v c) (nodes-none ks))
+            ∙ q .based v c;
+      }
 
   -- ---- Q weakened
   pub leads-map : {r q : ℕ} {ks : Nodes} {T : Tables} (Q Q′ : Reached) → Leads r q ks T Q
-      → ((ρ : Resolver) (os : List NodeOutput) → Respects ρ os T → (n : ℕ) (e : End) (h : List Event) (s : RunState) → Based s → Q ρ os n e h s → Q′ ρ os n e h s)
+      → ((ρ : Resolver) (os : List NodeOutput) → Respects ρ os T → (n : ℕ) (e : End) (h : List Event) (s : RunState) → Based s
+      → Q ρ os n e h s → Q′ ρ os n e h s)
       → Leads r q ks T Q′
   leads-map {ks} {T} Q Q′ ld f = record {
     leads = λ ρ os res b n le s w bs lw gv e h gr. go ρ os res b n s bs e h _ refl (ld .leads ρ os res b n le s w bs lw gv e h gr);
@@ -126,27 +136,38 @@ module _ (W : World) where
       go ρ os res b n s bs e h (no-end why) p q = record { leads-to = q .leads-to }
 
   -- what the inputs read as, and the events, alone decide
-  pub onward-reads : (ρ : Resolver) (s s′ : RunState) → s′ .events ≡ s .events → (n : ℕ) (e : End) (h : List Event) (x : DeferredTarget) (us vs : List Value)
+  pub onward-reads : (ρ : Resolver) (s s′ : RunState) → s′ .events ≡ s .events
+      → (n : ℕ) (e : End) (h : List Event) (x : DeferredTarget) (us vs : List Value)
       → read ρ s′ vs ≡ read ρ s us → OnwardTo ρ s n e h x us → OnwardTo ρ s′ n e h x vs
   onward-reads ρ s s′ past n e h (to-region r) us vs p (k, lt, len, gr) =
       (k, lt, sym (length-map vs (λ v. s′ .env (ρ v))) ∙ ap length p ∙ length-map us (λ v. s .env (ρ v)) ∙ len, rw (p, past) gr)
   onward-reads ρ s s′ past n e h to-return us vs p (q, r) = (rw p q, rw past r)
 
-  onward-less : (ρ : Resolver) (s : RunState) (n n′ : ℕ) → n ≤ n′ → (e : End) (h : List Event) (x : DeferredTarget) (vs : List Value) → OnwardTo ρ s n e h x vs
+  onward-less : (ρ : Resolver) (s : RunState) (n n′ : ℕ) → n ≤ n′ → (e : End) (h : List Event) (x : DeferredTarget) (vs : List Value)
+      → OnwardTo ρ s n e h x vs
       → OnwardTo ρ s n′ e h x vs
   onward-less ρ s n n′ le e h (to-region r) vs p = (p .0, omega arith, p .2, p .3)
   onward-less ρ s n n′ le e h to-return vs p = p
 
-  pub tracks-less : (ρ : Resolver) (os : List NodeOutput) (n n′ : ℕ) → n ≤ n′ → (d : DeferredEdgeBundleSet) (e : End) (h : List Event) (r : Ran) → Tracks ρ os n d e h r
+  pub tracks-less : (ρ : Resolver) (os : List NodeOutput) (n n′ : ℕ) → n ≤ n′
+      → (d : DeferredEdgeBundleSet) (e : End) (h : List Event) (r : Ran) → Tracks ρ os n d e h r
       → Tracks ρ os n′ d e h r
   tracks-less ρ os n n′ le d e h (through s) p =
       let y = p .leads-to in
-      record { leads-to = record { entry = y .entry; chosen = y .chosen; onward = onward-less ρ s n n′ le e h (y .entry .target) (y .entry .target-inputs) (y .onward) } }
+      record {
+        leads-to = record {
+          entry = y .entry;
+          chosen = y .chosen;
+          onward =
+              onward-less ρ s n n′ le e h (y .entry .target) (y .entry .target-inputs) (y .onward);
+        };
+      }
   tracks-less ρ os n n′ le d e h (ended e′ s) p = record { leads-to = p .leads-to }
   tracks-less ρ os n n′ le d e h (no-end why) p = record { leads-to = p .leads-to }
 
   -- ---- more children follow
-  pub leads-then : {r : ℕ} {ks : Nodes} {T T′ : Tables} (more : Nodes) (d : DeferredEdgeBundleSet) (Q : Reached) → Leads r r ks T Q → Gains T T′
+  pub leads-then : {r : ℕ} {ks : Nodes} {T T′ : Tables} (more : Nodes) (d : DeferredEdgeBundleSet) (Q : Reached) → Leads r r ks T Q
+      → Gains T T′
       → ((ρ : Resolver) (os : List NodeOutput) → Respects ρ os T′ → (b n : ℕ) → n ≤ b → (s : RunState) → Based s
       → ((k : ℕ) → k < ar W r → owns-nodes (join ks more) (key os (ρ (input r k))) ≡ false)
       → (e : End) (h : List Event) → Q ρ os n e h s → Tracks ρ os n d e h (runs W b (rewrite-nodes ρ os more) s))
@@ -162,9 +183,11 @@ module _ (W : World) where
       both : (κ : Key) → owns-nodes (join ks more) κ ≡ false → (owns-nodes ks κ || owns-nodes more κ) ≡ false
       both κ p = sym (owns-join ks more κ) ∙ p
 
-      go : (ρ : Resolver) (os : List NodeOutput) → Respects ρ os T′ → (b n : ℕ) → n ≤ b → (s : RunState) (w : List Word) → Based s → length w ≡ ar W r
+      go : (ρ : Resolver) (os : List NodeOutput) → Respects ρ os T′ → (b n : ℕ) → n ≤ b → (s : RunState) (w : List Word) → Based s
+          → length w ≡ ar W r
           → ((k : ℕ) → k < length w → owns-nodes (join ks more) (key os (ρ (input r k))) ≡ false) → (e : End) (h : List Event)
-          → (R : Ran) → runs W b (rewrite-nodes ρ os ks) s ≡ R → LeadsTo (Q ρ os n e h) e h R → Tracks ρ os n d e h (and-then R (λ s′. runs W b (rewrite-nodes ρ os more) s′))
+          → (R : Ran) → runs W b (rewrite-nodes ρ os ks) s ≡ R → LeadsTo (Q ρ os n e h) e h R
+          → Tracks ρ os n d e h (and-then R (λ s′. runs W b (rewrite-nodes ρ os more) s′))
       go ρ os res b n le s w bs lw apart e h (through s′) p q =
           next ρ os res b n le s′ (based-after ρ os ks b s s′ p bs) (λ k lt. apart k (omega (arith, lw))) e h (q .leads-to)
       go ρ os res b n le s w bs lw apart e h (ended e′ s′) p q = record { leads-to = q .leads-to }

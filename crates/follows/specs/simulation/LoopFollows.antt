@@ -8,11 +8,13 @@ use Prim.Native.Nat.{_<_, _≤_, suc, zero, ℕ}
 use native.Mathlib.Omega.{arith}
 use lib.Dec.{leb}
 use lib.ListN.{getD, length, length-map}
-use Rattle.meaning.specs.Runs.{LoopNode, Nodes, _▸_, loop, ⟨⟩, Ran, assign-inputs, leave-loop, ended, no-end, note-over, pay, run-nodes, through, turns, End, Event, RunState, Word, mark, word}
+use Rattle.meaning.specs.Runs.{LoopNode, Nodes, _▸_, loop, ⟨⟩, Ran, assign-inputs, leave-loop, ended, no-end, note-over, pay, run-nodes}
+use Rattle.meaning.specs.Runs.{through, turns, End, Event, RunState, Word, mark, word}
 use Rattle.meaning.specs.Graph.{Value, bool, input, undef}
 use Rattle.meaning.specs.laws.LoopTurns.{inputs-at-once, last-turn, next-turn}
 use Rattle.nesting.specs.lookups.Contexts.{entry-at}
-use Rattle.nesting.specs.Nesting.{same-target, DeferredEdgeBundle, DeferredEdgeBundleSet, to-region, rewrites-of, InputRewrite, NodeOutput, renumber-or-replace-with, renumber-to, replace-by, look-up-nodes}
+use Rattle.nesting.specs.Nesting.{same-target, DeferredEdgeBundle, DeferredEdgeBundleSet, to-region, rewrites-of, InputRewrite, NodeOutput}
+use Rattle.nesting.specs.Nesting.{renumber-or-replace-with, renumber-to, replace-by, look-up-nodes}
 use Rattle.nesting.specs.lookups.Rewriting.{rewrite-loop, rewrite-nodes}
 use Rattle.meaning.specs.facts.Elements.{In, getD-map-in, Extends, extends-refl}
 use Rattle.meaning.specs.facts.Tests.{eqb-self, or-left, or-right}
@@ -21,7 +23,8 @@ use Rattle.follows.specs.simulation.World.{World, ar, from-region, runs}
 use Rattle.follows.specs.simulation.Tables.{Gains, Resolver, Respects, Tables, entry-law, final-input, respects-back}
 use Rattle.follows.specs.simulation.Frame.{inputs-kept}
 use Rattle.follows.specs.simulation.Conditions.{Mat, Truthy}
-use Rattle.follows.specs.simulation.Leads.{Based, Chosen, Goes, OnwardTo, Sim, Tracks, based-after, ends-with, none-run, onward-reads, read, then-on, tracks-less}
+use Rattle.follows.specs.simulation.Leads.{Based, Chosen, Goes, OnwardTo, Sim, Tracks, based-after, ends-with, none-run, onward-reads}
+use Rattle.follows.specs.simulation.Leads.{read, then-on, tracks-less}
 use Rattle.follows.specs.simulation.Bundles.{same-target-sym}
 
 module _ (W : World) where

@@ -9,7 +9,10 @@ use lib.ListN.{getD}
 use Rattle.meaning.specs.Graph.{Graph, Value, output, same-value, undef}
 use Rattle.meaning.specs.Lists.{all, pick}
 use Rattle.meaning.specs.facts.Tests.{clash, and-both}
-use Rattle.nesting.specs.Nesting.{MaybeClaimedRegion, deferred-of, DeferredEdgeBundle, DeferredEdgeBundleSet, DeferredTarget, LazyCond, LazyConds, false-cond, merge, true-cond, undef-cond, DeferredTargetSummary, PerCaseDeferred, PlannedBundle, PlannedInput, all-true, conditions-of, in-parent, merged, per-case-deferred, plan-bundle, shared, passed-inputs, unique-input, value-in-case, DefinedSelect, NodeOutput}
+use Rattle.nesting.specs.Nesting.{MaybeClaimedRegion, deferred-of, DeferredEdgeBundle, DeferredEdgeBundleSet, DeferredTarget, LazyCond}
+use Rattle.nesting.specs.Nesting.{LazyConds, false-cond, merge, true-cond, undef-cond, DeferredTargetSummary, PerCaseDeferred}
+use Rattle.nesting.specs.Nesting.{PlannedBundle, PlannedInput, all-true, conditions-of, in-parent, merged, per-case-deferred, plan-bundle}
+use Rattle.nesting.specs.Nesting.{shared, passed-inputs, unique-input, value-in-case, DefinedSelect, NodeOutput}
 use Rattle.meaning.specs.facts.Elements.{In, nth}
 use Rattle.follows.specs.simulation.Key.{OutputAt}
 use Rattle.follows.specs.simulation.Conditions.{condition-at}
@@ -29,11 +32,14 @@ per-cases-condition x (c ∷ cs) (suc j) cj p = per-cases-condition x cs j cj p
 abbrev pub is-true-or-undef : LazyCond → Bool
 is-true-or-undef c = elim c [ true-cond ↦ true | undef-cond ↦ true | false-cond ↦ false | merge n k v cs ↦ false ]
 
-pub per-cases-true : (x : DeferredTarget) (cs : List MaybeClaimedRegion) (j : ℕ) (cj : MaybeClaimedRegion) → nth cs j ≡ some cj → all-true (per-cases x cs) ≡ true
+pub per-cases-true : (x : DeferredTarget) (cs : List MaybeClaimedRegion) (j : ℕ) (cj : MaybeClaimedRegion) → nth cs j ≡ some cj
+    → all-true (per-cases x cs) ≡ true
     → is-true-or-undef (per-case-deferred x (deferred-of cj) .condition) ≡ true
 per-cases-true x [] j cj p h = cc
-per-cases-true x (c ∷ cs) zero cj p h = let e : c ≡ cj = cc in rw (← e) (and-both (is-true-or-undef (per-case-deferred x (deferred-of c) .condition)) _ h .0)
-per-cases-true x (c ∷ cs) (suc j) cj p h = per-cases-true x cs j cj p (and-both (is-true-or-undef (per-case-deferred x (deferred-of c) .condition)) _ h .1)
+per-cases-true x (c ∷ cs) zero cj p h = let e : c ≡ cj = cc in
+    rw (← e) (and-both (is-true-or-undef (per-case-deferred x (deferred-of c) .condition)) _ h .0)
+per-cases-true x (c ∷ cs) (suc j) cj p h =
+    per-cases-true x cs j cj p (and-both (is-true-or-undef (per-case-deferred x (deferred-of c) .condition)) _ h .1)
 
 pub per-cases-at : (k ty : ℕ) (x : DeferredTarget) (cs : List MaybeClaimedRegion) (j : ℕ) (cj : MaybeClaimedRegion) → nth cs j ≡ some cj
     → getD (map (value-in-case k ty) (per-cases x cs)) j (undef 0) ≡ value-in-case k ty (per-case-deferred x (deferred-of cj))
@@ -52,12 +58,14 @@ all-value v (some w ∷ os) h o (inl p) = let e = same-value→eq w v (and-both 
 all-value v (some w ∷ os) h o (inr i) = all-value v os (and-both (same-value w v) _ h .1) o i
 
 -- what is the same in all cases is so in each, and is in one
-pub unique-is : (os : List (Option Value)) (v : Value) → unique-input os ≡ some v → ((o : Option Value) → In o os → o ≡ some v) × In (some v) os
+pub unique-is : (os : List (Option Value)) (v : Value) → unique-input os ≡ some v
+    → ((o : Option Value) → In o os → o ≡ some v) × In (some v) os
 unique-is [] v h = absurd (clash (cc))
 unique-is (none ∷ os) v h = absurd (clash (cc))
 unique-is (some w ∷ os) v h = go (all (is-value w) os) refl h
   where
-    go : (b : Bool) → all (is-value w) os ≡ b → pick b (some w) none ≡ some v → ((o : Option Value) → (o ≡ some w) ⊎ In o os → o ≡ some v) × ((some v ≡ some w) ⊎ In (some v) os)
+    go : (b : Bool) → all (is-value w) os ≡ b → pick b (some w) none ≡ some v
+        → ((o : Option Value) → (o ≡ some w) ⊎ In o os → o ≡ some v) × ((some v ≡ some w) ⊎ In (some v) os)
     go false q p = absurd (clash (cc))
     go true q p = (each, inl (sym p))
       where
@@ -81,16 +89,19 @@ module _ (k : ℕ) (x : DeferredTarget) where
       rw (e, passed-inputs, q′) (inl refl)
   passed-in cj vs q (c ∷ cs) (suc j) p = go (per-case-deferred x (deferred-of c) .inputs) (passed-in cj vs q cs j p)
     where
-      go : (i : Option (List Value)) → In (in-parent cj (getD vs k (undef 0))) (passed cs) → In (in-parent cj (getD vs k (undef 0))) (also c i (passed cs))
+      go : (i : Option (List Value)) → In (in-parent cj (getD vs k (undef 0))) (passed cs)
+          → In (in-parent cj (getD vs k (undef 0))) (also c i (passed cs))
       go none ih = ih
       go (some ws) ih = inr ih
 
   pub unique-at : (cj : MaybeClaimedRegion) (vs : List Value) → per-case-deferred x (deferred-of cj) .inputs ≡ some vs
-      → (cs : List MaybeClaimedRegion) (j : ℕ) (v : Value) → nth cs j ≡ some cj → unique-input (passed cs) ≡ some v → in-parent cj (getD vs k (undef 0)) ≡ some v
+      → (cs : List MaybeClaimedRegion) (j : ℕ) (v : Value) → nth cs j ≡ some cj → unique-input (passed cs) ≡ some v
+      → in-parent cj (getD vs k (undef 0)) ≡ some v
   unique-at cj vs q cs j v p h = unique-is (passed cs) v h .0 _ (passed-in cj vs q cs j p)
 
   abbrev Passes : List MaybeClaimedRegion → Option Value → Type 0
-  Passes cs o = (c : MaybeClaimedRegion) × In c cs × ((vs : List Value) × (per-case-deferred x (deferred-of c) .inputs ≡ some vs) × (in-parent c (getD vs k (undef 0)) ≡ o))
+  Passes cs o = (c : MaybeClaimedRegion) × In c cs
+      × ((vs : List Value) × (per-case-deferred x (deferred-of c) .inputs ≡ some vs) × (in-parent c (getD vs k (undef 0)) ≡ o))
 
   passed-from : (cs : List MaybeClaimedRegion) (o : Option Value) → In o (passed cs) → Passes cs o
   passed-from [] o i = absurd i
@@ -99,7 +110,8 @@ module _ (k : ℕ) (x : DeferredTarget) where
       further : Passes cs o → Passes (c ∷ cs) o
       further y = (y .0, inr (y .1), y .2)
 
-      go : (l : Option (List Value)) → per-case-deferred x (deferred-of c) .inputs ≡ l → (In o (passed cs) → Passes cs o) → In o (also c l (passed cs)) → Passes (c ∷ cs) o
+      go : (l : Option (List Value)) → per-case-deferred x (deferred-of c) .inputs ≡ l → (In o (passed cs) → Passes cs o)
+          → In o (also c l (passed cs)) → Passes (c ∷ cs) o
       go none p ih h = further (ih h)
       go (some vs) p ih (inl q) = (c, inl refl, (vs, p, sym q))
       go (some vs) p ih (inr h) = further (ih h)
@@ -127,16 +139,19 @@ pub record EmitsBundle (os : List NodeOutput) (n : DefinedSelect) (p : PlannedBu
 
 abbrev pub EmitsAll : List NodeOutput → DefinedSelect → List PlannedBundle → DeferredEdgeBundleSet → Type 0
 EmitsAll os n [] d = d ≡ []
-EmitsAll os n (p ∷ ps) d = (z : DeferredEdgeBundle) × (d′ : DeferredEdgeBundleSet) × (d ≡ z ∷ d′) × EmitsBundle os n p z × EmitsAll os n ps d′
+EmitsAll os n (p ∷ ps) d =
+    (z : DeferredEdgeBundle) × (d′ : DeferredEdgeBundleSet) × (d ≡ z ∷ d′) × EmitsBundle os n p z × EmitsAll os n ps d′
 
 module _ (g : Graph) (os : List NodeOutput) (n : DefinedSelect) (cs : List MaybeClaimedRegion) where
-  pub emits-in : (ws : List DeferredTargetSummary) (d : DeferredEdgeBundleSet) → EmitsAll os n (map (plan-bundle g cs) ws) d → (w : DeferredTargetSummary) → In w ws
+  pub emits-in : (ws : List DeferredTargetSummary) (d : DeferredEdgeBundleSet) → EmitsAll os n (map (plan-bundle g cs) ws) d
+      → (w : DeferredTargetSummary) → In w ws
       → (z : DeferredEdgeBundle) × In z d × EmitsBundle os n (plan-bundle g cs w) z
   emits-in [] d h w i = absurd i
   emits-in (x ∷ ws) d h w (inl p) = (h .0, rw (h .2) (inl refl), rw p (h .3))
   emits-in (x ∷ ws) d h w (inr i) = let r = emits-in ws (h .1) (h .4) w i in (r .0, rw (h .2) (inr (r .1)), r .2)
 
-  pub emits-from : (ws : List DeferredTargetSummary) (d : DeferredEdgeBundleSet) → EmitsAll os n (map (plan-bundle g cs) ws) d → (z : DeferredEdgeBundle) → In z d
+  pub emits-from : (ws : List DeferredTargetSummary) (d : DeferredEdgeBundleSet) → EmitsAll os n (map (plan-bundle g cs) ws) d
+      → (z : DeferredEdgeBundle) → In z d
       → (w : DeferredTargetSummary) × In w ws × EmitsBundle os n (plan-bundle g cs w) z
   emits-from [] d h z i = absurd (rw h at i)
   emits-from (x ∷ ws) d h z i = go (λ k. emits-from ws (h .1) (h .4) z k) (rw (h .2) at i)

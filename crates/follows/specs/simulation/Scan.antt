@@ -10,7 +10,10 @@ use lib.ListN.{length}
 use borrow.Author.Tests.{eqb-true}
 use Rattle.meaning.specs.Graph.{Value, bool, bool-cond, region}
 use Rattle.meaning.specs.Runs.{End, Event, RunState, place-taken, word}
-use Rattle.nesting.specs.Nesting.{same-target, Body, ClaimedRegion, MaybeClaimedRegion, err, lazy, ok, Claim, SplitOut, resolve-by, resolve-deferred, split-out-matching, DeferredEdgeBundle, DeferredEdgeBundleSet, DeferredTarget, LazyCond, to-region, to-return, true-cond, structurize-select-into, StepAnswer, NestState, NodeOutput, done, turned-away}
+use Rattle.nesting.specs.Nesting.{same-target, Body, ClaimedRegion, MaybeClaimedRegion, err, lazy, ok, Claim, SplitOut, resolve-by}
+use Rattle.nesting.specs.Nesting.{resolve-deferred, split-out-matching, DeferredEdgeBundle, DeferredEdgeBundleSet, DeferredTarget, LazyCond}
+use Rattle.nesting.specs.Nesting.{to-region, to-return, true-cond, structurize-select-into, StepAnswer, NestState, NodeOutput, done}
+use Rattle.nesting.specs.Nesting.{turned-away}
 use Rattle.nesting.specs.laws.FirstClaim.{bundle-to, first-claim}
 use Rattle.nesting.specs.steps.Post.{bind, map-post}
 use Rattle.meaning.specs.facts.Elements.{In}
@@ -66,7 +69,13 @@ module _ (W : World) (cl : Claim) (cl-ok : ClaimOk W cl) where
           inv = f .done .inv;
           step = later-then W st (f .done .step);
           got =
-              record { holds = f .done .got .holds; since = since-back W st (f .done .got .since); origin = f .done .got .origin; inputs = f .done .got .inputs };
+              record {
+                holds = f .done .got .holds;
+                since = since-back W st (f .done .got .since);
+                origin = f .done .got .origin;
+                inputs =
+                    f .done .got .inputs;
+              };
         };
       }
 
@@ -76,14 +85,22 @@ module _ (W : World) (cl : Claim) (cl-ok : ClaimOk W cl) where
   -- a bundle to a region: claimed, the scan stops there; else it goes on
   module _ (before es : DeferredEdgeBundleSet) (q n : ℕ) (inputs : List Value) (c : LazyCond) (s : NestState)
       (later : (s₁ : NestState) → Inv W s₁ → Scans (before ++ (bundle-to q n inputs c ∷ [])) es s₁) where
-    by-answer : (a : StepAnswer (Option ClaimedRegion)) → cl q n inputs s ≡ a → IfDone (ClaimDone W q inputs s) a → Scans before (bundle-to q n inputs c ∷ es) s
+    by-answer : (a : StepAnswer (Option ClaimedRegion)) → cl q n inputs s ≡ a → IfDone (ClaimDone W q inputs s) a
+        → Scans before (bundle-to q n inputs c ∷ es) s
     unfolding split-out-matching
     by-answer (done (some x) t) comes h =
-        subst (λ a. IfDone (FirstDone before (bundle-to q n inputs c ∷ es) s) a) (sym (first-claim (W .g) cl before es q n inputs c s t x comes)) (record {
+        subst (λ a. IfDone (FirstDone before (bundle-to q n inputs c ∷ es) s) a)
+        (sym (first-claim (W .g) cl before es q n inputs c s t x comes)) (record {
           post =
-              record { inv = h .post .inv; step = h .post .step; found = record { front = []; behind = es; split = refl; left = refl; region = q; target = refl; done = h .post } };
+              record {
+                inv = h .post .inv;
+                step = h .post .step;
+                found =
+                    record { front = []; behind = es; split = refl; left = refl; region = q; target = refl; done = h .post };
+              };
         })
-    by-answer (done none t) comes h = rw comes (map-post (split-out-matching (W .g) cl (before ++ (bundle-to q n inputs c ∷ [])) es t) (later t (h .post .inv)) λ o s′ fd.
+    by-answer (done none t) comes h =
+        rw comes (map-post (split-out-matching (W .g) cl (before ++ (bundle-to q n inputs c ∷ [])) es t) (later t (h .post .inv)) λ o s′ fd.
         further before (bundle-to q n inputs c) es s t (h .post .step) o s′ fd)
     by-answer (turned-away refusal at-word) comes h = rw comes (record { post = tt })
 
@@ -98,7 +115,13 @@ module _ (W : World) (cl : Claim) (cl-ok : ClaimOk W cl) where
       Rest z = (s₁ : NestState) → Inv W s₁ → Scans (before ++ (z ∷ [])) es s₁
 
       with-target : DeferredTarget → DeferredEdgeBundle
-      with-target x = record { target = x; accumulated-count = e .accumulated-count; target-inputs = e .target-inputs; condition = e .condition }
+      with-target x = record {
+        target = x;
+        accumulated-count = e .accumulated-count;
+        target-inputs = e .target-inputs;
+        condition =
+            e .condition;
+      }
 
       at : (x : DeferredTarget) → Rest (with-target x) → Fits W x (length (e .target-inputs)) → Scans before (with-target x ∷ es) s
       at to-return rest f = map-post (split-out-matching (W .g) cl (before ++ (with-target to-return ∷ [])) es s) (rest s inv) λ o s′ fd.
@@ -110,7 +133,8 @@ module _ (W : World) (cl : Claim) (cl-ok : ClaimOk W cl) where
       go x p rest f = subst (λ y. Rest (with-target y) → Scans before (with-target y ∷ es) s) (sym p) (λ rest′. at x rest′ f) rest
 
   -- ---- and its select
-  module _ (s₀ : NestState) (r : ℕ) (x : Body) (s s₁ : NestState) (cm : Came W s₀ r (x .children) (x .deferred-edges) s) (y : SplitOut) (inv₁ : Inv W s₁)
+  module _ (s₀ : NestState) (r : ℕ) (x : Body) (s s₁ : NestState) (cm : Came W s₀ r (x .children) (x .deferred-edges) s) (y : SplitOut)
+      (inv₁ : Inv W s₁)
       (st₁ : Later W s s₁) (fo : FoundOk [] (x .deferred-edges) s y s₁) where
     cm₁ : Came W s₀ r (x .children) (x .deferred-edges) s₁
     cm₁ = came-on W cm inv₁ st₁
@@ -127,16 +151,22 @@ module _ (W : World) (cl : Claim) (cl-ok : ClaimOk W cl) where
     rest-in : (z : DeferredEdgeBundle) → In z (y .others) → In z (x .deferred-edges)
     rest-in z i = subst (λ l. In z l) (sym d-is) (split-in (fo .front) (fo .behind) (y .bundle) z (subst (λ l. In z l) (fo .left) i))
 
-    parted : DistinctBundles (fo .front ++ fo .behind) × ((z : DeferredEdgeBundle) → In z (fo .front ++ fo .behind) → same-target (y .bundle .target) (z .target) ≡ false)
+    parted : DistinctBundles (fo .front ++ fo .behind)
+        × ((z : DeferredEdgeBundle) → In z (fo .front ++ fo .behind) → same-target (y .bundle .target) (z .target) ≡ false)
     parted = split-distinct (fo .front) (fo .behind) (y .bundle) (subst (λ l. DistinctBundles l) d-is (cm₁ .set .distinct))
 
     rest-ok : SetOk W (tables s₁) r (ar W r) (x .children) (y .others)
-    rest-ok = record { distinct = subst (λ l. DistinctBundles l) (sym (fo .left)) (parted .0); entries = λ z i. cm₁ .set .entries z (rest-in z i) }
+    rest-ok = record {
+      distinct = subst (λ l. DistinctBundles l) (sym (fo .left)) (parted .0);
+      entries =
+          λ z i. cm₁ .set .entries z (rest-in z i);
+    }
 
     cases-ok : CasesOk W s₀ r (x .children) s₁ (ok (y .claimed-region) ∷ err (y .others) ∷ [])
     cases-ok = record { each = each; apart = ((λ c′ i. no-other c′ i), tt) }
       where
-        no-other : (c′ : ClaimedRegion) → (ok c′ ≡ err (y .others)) ⊎ ⊥ → eqb (c′ .structured-body) (y .claimed-region .structured-body) ≡ false
+        no-other : (c′ : ClaimedRegion) → (ok c′ ≡ err (y .others)) ⊎ ⊥
+            → eqb (c′ .structured-body) (y .claimed-region .structured-body) ≡ false
         no-other c′ (inl p) = cc
         no-other c′ (inr i) = absurd i
 
@@ -155,23 +185,29 @@ module _ (W : World) (cl : Claim) (cl-ok : ClaimOk W cl) where
         go true = record { is = tt }
         go false = cm₁ .set .entries (y .bundle) entry-in .condition
 
-    takes : (ρ : Resolver) (os : List NodeOutput) → Respects ρ os (tables s₁) → (n : ℕ) (e : End) (h : List Event) (st : RunState) → Based W st
+    takes : (ρ : Resolver) (os : List NodeOutput) → Respects ρ os (tables s₁) → (n : ℕ) (e : End) (h : List Event) (st : RunState)
+        → Based W st
         → Goes W ρ os n (x .deferred-edges) e h st
         → Takes W bool-cond (lazy sc) (ok (y .claimed-region) ∷ err (y .others) ∷ []) ρ os n e h st
     unfolding Mat
-    takes ρ os res n e h st bs go = by (in-split (fo .front) (fo .behind) (y .bundle) (go .entry) (subst (λ l. In (go .entry) l) d-is (go .chosen .member)))
+    takes ρ os res n e h st bs go =
+        by (in-split (fo .front) (fo .behind) (y .bundle) (go .entry) (subst (λ l. In (go .entry) l) d-is (go .chosen .member)))
       where
         Two : Type 0
         Two = Takes W bool-cond (lazy sc) (ok (y .claimed-region) ∷ err (y .others) ∷ []) ρ os n e h st
 
         yes-test : go .entry ≡ y .bundle → (b : Bool) (v : Value) → Mat (pick b true-cond (y .bundle .condition)) os v
             → (w : ℕ) × (st .env (ρ v) ≡ word w) × (place-taken bool-cond w 2 ≡ 0)
-        yes-test p true v mt = (1, ap (λ z. st .env (ρ z)) mt ∙ ap (st .env) (res .on-bool true) ∙ bs .based (bool true) refl ∙ W .on-bool true, refl)
-        yes-test p false v mt = let tr = go .chosen .holds v (subst (λ z. Mat (z .condition) os v) (sym p) mt) in (suc (tr .less), tr .is, refl)
+        yes-test p true v mt =
+            (1, ap (λ z. st .env (ρ z)) mt ∙ ap (st .env) (res .on-bool true) ∙ bs .based (bool true) refl ∙ W .on-bool true, refl)
+        yes-test p false v mt = let tr = go .chosen .holds v (subst (λ z. Mat (z .condition) os v) (sym p) mt) in
+            (suc (tr .less), tr .is, refl)
 
         no-test : In (go .entry) (fo .front ++ fo .behind) → (b : Bool) → is-always (x .deferred-edges) ≡ b → (v : Value)
             → Mat (pick b true-cond (y .bundle .condition)) os v → (w : ℕ) × (st .env (ρ v) ≡ word w) × (place-taken bool-cond w 2 ≡ 1)
-        no-test i true p v mt = absurd (one-only (fo .front) (fo .behind) (y .bundle) (go .entry) (subst (λ l. length l ≡ 1) d-is (eqb-true (length (x .deferred-edges)) 1 p)) i)
+        no-test i true p v mt =
+            absurd (one-only (fo .front) (fo .behind) (y .bundle) (go .entry)
+            (subst (λ l. length l ≡ 1) d-is (eqb-true (length (x .deferred-edges)) 1 p)) i)
         no-test i false p v mt = (0, go .chosen .others (y .bundle) entry-in (parted .1 (go .entry) i) v mt, refl)
 
         by : (go .entry ≡ y .bundle) ⊎ In (go .entry) (fo .front ++ fo .behind) → Two
@@ -180,7 +216,8 @@ module _ (W : World) (cl : Claim) (cl-ok : ClaimOk W cl) where
           case-of = ok (y .claimed-region);
           at-place = refl;
           enters =
-              let onw : OnwardTo W ρ st n e h (to-region (fo .region)) (y .bundle .target-inputs) = subst (λ z. OnwardTo W ρ st n e h z (y .bundle .target-inputs))
+              let onw : OnwardTo W ρ st n e h (to-region (fo .region)) (y .bundle .target-inputs) =
+              subst (λ z. OnwardTo W ρ st n e h z (y .bundle .target-inputs))
               (fo .target) (subst (λ z. OnwardTo W ρ st n e h (z .target) (z .target-inputs)) p (go .onward)) in
               subst (λ z. OnwardTo W ρ st n e h (to-region z) (y .claimed-region .structured-body-inputs)) (sym (fo .done .got .origin))
               (subst (λ l. OnwardTo W ρ st n e h (to-region (fo .region)) l) (sym (fo .done .got .inputs)) onw);
@@ -204,7 +241,8 @@ module _ (W : World) (cl : Claim) (cl-ok : ClaimOk W cl) where
 
     pub found-post : IfDone (λ z s′. Came W s₀ r (z .children) (z .deferred-edges) s′)
         (structurize-select-into (W .g) (x .children) bool-cond (lazy sc) (ok (y .claimed-region) ∷ err (y .others) ∷ []) s₁)
-    found-post = structurize-select-into-post W s₀ r (x .children) bool-cond (lazy sc) (ok (y .claimed-region) ∷ err (y .others) ∷ []) s₁ (cm₁ .doing) cases-ok
+    found-post = structurize-select-into-post W s₀ r (x .children) bool-cond (lazy sc) (ok (y .claimed-region) ∷ err (y .others) ∷ []) s₁
+        (cm₁ .doing) cases-ok
         (λ T p v mt. mat-scoped sc v p sc-ok mt)
         (leads-map W _ _ (cm₁ .sim) takes)
 
@@ -220,9 +258,11 @@ module _ (W : World) (cl : Claim) (cl-ok : ClaimOk W cl) where
       by : ((x′ : Body) (s₂ : NestState) → Came W s₀ r (x′ .children) (x′ .deferred-edges) s₂
           → IfDone (λ z s′. Came W s₀ r (z .children) (z .deferred-edges) s′) (resolve-deferred (W .g) cl n x′ s₂))
           → (o : Option SplitOut) (s₁ : NestState) → FirstDone [] (x .deferred-edges) s o s₁
-          → IfDone (λ z s′. Came W s₀ r (z .children) (z .deferred-edges) s′) (resolve-by (W .g) (λ x′. resolve-deferred (W .g) cl n x′) x o s₁)
+          → IfDone (λ z s′. Came W s₀ r (z .children) (z .deferred-edges) s′)
+          (resolve-by (W .g) (λ x′. resolve-deferred (W .g) cl n x′) x o s₁)
       by ih none s₁ fd = record { post = came-on W cm (fd .inv) (fd .step) }
       by ih (some y) s₁ fd =
-          bind (structurize-select-into (W .g) (x .children) bool-cond (lazy (pick (is-always (x .deferred-edges)) true-cond (y .bundle .condition)))
+          bind (structurize-select-into (W .g) (x .children) bool-cond
+          (lazy (pick (is-always (x .deferred-edges)) true-cond (y .bundle .condition)))
           (ok (y .claimed-region) ∷ err (y .others) ∷ []) s₁) _
           (found-post s₀ r x s s₁ cm y (fd .inv) (fd .step) (fd .found)) ih

@@ -11,7 +11,11 @@ use lib.Seq.{drop-cons}
 use Rattle.meaning.specs.Graph.{SelectionKind, Value, bool, bool-cond, output, undef}
 use Rattle.meaning.specs.Runs.{assign-outputs, End, Event, RunState, Word, mark, word}
 use Rattle.meaning.specs.facts.Tests.{clash}
-use Rattle.nesting.specs.Nesting.{get-edge-bundle-by-target, same-target, MaybeClaimedRegion, deferred-of, DeferredEdgeBundle, DeferredEdgeBundleSet, DeferredTarget, LazyCond, LazyConds, false-cond, merge, true-cond, undef-cond, case-outputs, output-decls, DeferredTargetSummary, all-true, conditions-of, in-parent, merged, per-case-deferred, per-case-of, plan-bundle, plan-input, plan-inputs, target-type, unique-input, value-in-case, DefinedSelect, NodeOutput}
+use Rattle.nesting.specs.Nesting.{get-edge-bundle-by-target, same-target, MaybeClaimedRegion, deferred-of, DeferredEdgeBundle}
+use Rattle.nesting.specs.Nesting.{DeferredEdgeBundleSet, DeferredTarget, LazyCond, LazyConds, false-cond, merge, true-cond, undef-cond}
+use Rattle.nesting.specs.Nesting.{case-outputs, output-decls, DeferredTargetSummary, all-true, conditions-of, in-parent, merged}
+use Rattle.nesting.specs.Nesting.{per-case-deferred, per-case-of, plan-bundle, plan-input, plan-inputs, target-type, unique-input}
+use Rattle.nesting.specs.Nesting.{value-in-case, DefinedSelect, NodeOutput}
 use Rattle.meaning.specs.facts.Elements.{In, nth}
 use Rattle.follows.specs.simulation.Key.{OutputAt}
 use Rattle.follows.specs.simulation.World.{World}
@@ -20,7 +24,9 @@ use Rattle.follows.specs.simulation.Frame.{output-read}
 use Rattle.follows.specs.simulation.Conditions.{Mat, Truthy, condition-at, mats-at}
 use Rattle.follows.specs.simulation.Leads.{Chosen, Goes, OnwardTo, onward-reads, read}
 use Rattle.follows.specs.simulation.Bundles.{DistinctBundles, find-in, found-in, is-always, two-apart}
-use Rattle.follows.specs.simulation.Planned.{Emits, EmitsAll, EmitsBundle, EmitsOne, condition-from, emits-from, emits-in, is-true-or-undef, passed, per-cases, per-cases-at, per-cases-condition, per-cases-true, unique-at}
+use Rattle.follows.specs.simulation.Planned.{Emits, EmitsAll, EmitsBundle, EmitsOne, condition-from, emits-from, emits-in}
+use Rattle.follows.specs.simulation.Planned.{is-true-or-undef, passed, per-cases, per-cases-at, per-cases-condition, per-cases-true}
+use Rattle.follows.specs.simulation.Planned.{unique-at}
 use Rattle.meaning.specs.Lists.{pick}
 
 -- the state after the outputs of node n became those of case j
@@ -43,7 +49,8 @@ module _ (ρ : Resolver) (os : List NodeOutput) (n j : ℕ) (kind : SelectionKin
     (reads : (k : ℕ) (o : NodeOutput) → OutputAt n os k o → s′ .env (output k) ≡ s .env (ρ (getD (o .values) j (undef 0))))
     (taken : Took kind j (s′ .env (ρ sc)))
     (cs : LazyConds) (c : LazyCond) (here : condition-at cs j ≡ some c) where
-  pub merged-true : ((v : Value) → Mat c os v → Truthy (s .env (ρ v))) → (v : Value) → Mat (merge n kind sc cs) os v → Truthy (s′ .env (ρ v))
+  pub merged-true : ((v : Value) → Mat c os v → Truthy (s .env (ρ v))) → (v : Value) → Mat (merge n kind sc cs) os v
+      → Truthy (s′ .env (ρ v))
   unfolding Mat
   merged-true holds v (inl (b, e, ms)) = go (taken b)
     where
@@ -57,7 +64,8 @@ module _ (ρ : Resolver) (os : List NodeOutput) (n j : ℕ) (kind : SelectionKin
       let tr = holds (getD (o .values) j (undef 0)) (mats-at cs os (o .values) j c ms here) in
       record { less = tr .less; is = ap (λ x. s′ .env (ρ x)) e ∙ ap (s′ .env) (on-output k) ∙ reads k o at-k ∙ tr .is }
 
-  pub merged-false : ((v : Value) → Mat c os v → s .env (ρ v) ≡ word 0) → (v : Value) → Mat (merge n kind sc cs) os v → s′ .env (ρ v) ≡ word 0
+  pub merged-false : ((v : Value) → Mat c os v → s .env (ρ v) ≡ word 0) → (v : Value) → Mat (merge n kind sc cs) os v
+      → s′ .env (ρ v) ≡ word 0
   unfolding Mat
   merged-false fails v (inl (b, e, ms)) = go (taken b)
     where
@@ -67,10 +75,12 @@ module _ (ρ : Resolver) (os : List NodeOutput) (n j : ℕ) (kind : SelectionKin
           let mt : Mat c os (bool true) = rw z at (mats-at cs os (bool true ∷ bool false ∷ []) j c ms here) in
           let z : word 1 ≡ word 0 = sym (on-bool true) ∙ fails (bool true) mt in cc
   merged-false fails v (inr (k, o, e, at-k, ms)) =
-      ap (λ x. s′ .env (ρ x)) e ∙ ap (s′ .env) (on-output k) ∙ reads k o at-k ∙ fails (getD (o .values) j (undef 0)) (mats-at cs os (o .values) j c ms here)
+      ap (λ x. s′ .env (ρ x)) e ∙ ap (s′ .env) (on-output k) ∙ reads k o at-k
+      ∙ fails (getD (o .values) j (undef 0)) (mats-at cs os (o .values) j c ms here)
 
 -- ---- the chosen case's part
-pub per-case-is : (x : DeferredTarget) (d : DeferredEdgeBundleSet) (y : DeferredEdgeBundle) → In y d → per-case-deferred x d ≡ per-case-of d (get-edge-bundle-by-target x d)
+pub per-case-is : (x : DeferredTarget) (d : DeferredEdgeBundleSet) (y : DeferredEdgeBundle) → In y d
+    → per-case-deferred x d ≡ per-case-of d (get-edge-bundle-by-target x d)
 per-case-is x [] y i = absurd i
 per-case-is x (e ∷ es) y i = refl
 
@@ -88,11 +98,13 @@ module _ (ρ : Resolver) (os : List NodeOutput) (s : RunState)
       go false mt = c .holds v mt
       go true mt = record { less = 0; is = ap (λ z. s .env (ρ z)) mt ∙ on-bool true }
 
-  per-case-false : (x : DeferredTarget) → same-target x (y .target) ≡ false → (v : Value) → Mat (per-case-deferred x d .condition) os v → s .env (ρ v) ≡ word 0
+  per-case-false : (x : DeferredTarget) → same-target x (y .target) ≡ false → (v : Value) → Mat (per-case-deferred x d .condition) os v
+      → s .env (ρ v) ≡ word 0
   unfolding Mat
   per-case-false x ne v mat = go (get-edge-bundle-by-target x d) refl (rw (per-case-is x d y (c .member)) at mat)
     where
-      go : (o : Option DeferredEdgeBundle) → get-edge-bundle-by-target x d ≡ o → Mat (per-case-of d o .condition) os v → s .env (ρ v) ≡ word 0
+      go : (o : Option DeferredEdgeBundle) → get-edge-bundle-by-target x d ≡ o → Mat (per-case-of d o .condition) os v
+          → s .env (ρ v) ≡ word 0
       go none p mt = ap (λ z. s .env (ρ z)) mt ∙ on-bool false
       go (some z) p mt =
           let in-d = found-in x d z p in
@@ -100,7 +112,8 @@ module _ (ρ : Resolver) (os : List NodeOutput) (s : RunState)
           c .others z (in-d .0) ne′ v (rw (two-apart d z y (in-d .0) (c .member) ne′) at mt)
 
 -- ---- after case j
-module _ (W : World) (ρ : Resolver) (os : List NodeOutput) (n : DefinedSelect) (cs : List MaybeClaimedRegion) (j : ℕ) (cj : MaybeClaimedRegion) (at-j : nth cs j ≡ some cj)
+module _ (W : World) (ρ : Resolver) (os : List NodeOutput) (n : DefinedSelect) (cs : List MaybeClaimedRegion) (j : ℕ)
+    (cj : MaybeClaimedRegion) (at-j : nth cs j ≡ some cj)
     (s s′ : RunState) (past : s′ .events ≡ s .events)
     (on-output : (k : ℕ) → ρ (output k) ≡ output k)
     (on-bool : (b : Bool) → s .env (ρ (bool b)) ≡ word (pick b 1 0)) (on-bool′ : (b : Bool) → s′ .env (ρ (bool b)) ≡ word (pick b 1 0))
@@ -123,17 +136,20 @@ module _ (W : World) (ρ : Resolver) (os : List NodeOutput) (n : DefinedSelect) 
       → s′ .env (ρ v) ≡ s .env (ρ (getD ys k (undef 0)))
   one-input k ty v em = go (unique-input (passed k (y .target) cs)) refl em
     where
-      out-of : EmitsOne os n (merged ty (map (value-in-case k ty) (per-cases (y .target) cs))) v → s′ .env (ρ v) ≡ s .env (ρ (getD ys k (undef 0)))
+      out-of : EmitsOne os n (merged ty (map (value-in-case k ty) (per-cases (y .target) cs))) v
+          → s′ .env (ρ v) ≡ s .env (ρ (getD ys k (undef 0)))
       out-of (i, o, is-out, at-i, vals) =
           ap (λ z. s′ .env (ρ z)) is-out ∙ ap (s′ .env) (on-output i) ∙ reads i o at-i
-          ∙ ap (λ z. s .env (ρ z)) (ap (λ l. getD l j (undef 0)) vals ∙ per-cases-at k ty (y .target) cs j cj at-j ∙ rw (mine, value-in-case))
+          ∙ ap (λ z. s .env (ρ z))
+          (ap (λ l. getD l j (undef 0)) vals ∙ per-cases-at k ty (y .target) cs j cj at-j ∙ rw (mine, value-in-case))
 
       go : (a : Option Value) → unique-input (passed k (y .target) cs) ≡ a → EmitsOne os n (plan-input k ty (per-cases (y .target) cs) a) v
           → s′ .env (ρ v) ≡ s .env (ρ (getD ys k (undef 0)))
       go none p x = out-of x
       go (some w) p x = rw x (shares k w (unique-at k (y .target) cj ys mine cs j w at-j p))
 
-  all-inputs : (a k : ℕ) (vs : List Value) → k + a ≡ length ys → Emits os n (plan-inputs (W .g) a k (y .target) cs (per-cases (y .target) cs)) vs
+  all-inputs : (a k : ℕ) (vs : List Value) → k + a ≡ length ys
+      → Emits os n (plan-inputs (W .g) a k (y .target) cs (per-cases (y .target) cs)) vs
       → read ρ s′ vs ≡ read ρ s (drop k ys)
   all-inputs zero k vs len em = rw (em, drop-of-length-le ys {i = k} (omega arith))
   all-inputs (suc a) k vs len em =
@@ -141,7 +157,8 @@ module _ (W : World) (ρ : Resolver) (os : List NodeOutput) (n : DefinedSelect) 
       let rest = all-inputs a (suc k) (em .1) (omega arith) (em .4) in
       rw (em .2, drop-cons ys k (undef 0) (omega arith)) (cc)
 
-  module _ (ws : List DeferredTargetSummary) (w : DeferredTargetSummary) (w-in : In w ws) (w-target : w .target ≡ y .target) (w-arity : w .input-count ≡ length ys)
+  module _ (ws : List DeferredTargetSummary) (w : DeferredTargetSummary) (w-in : In w ws) (w-target : w .target ≡ y .target)
+      (w-arity : w .input-count ≡ length ys)
       (d : DeferredEdgeBundleSet) (emits : EmitsAll os n (map (plan-bundle (W .g) cs) ws) d) where
     abbrev conds : DeferredTarget → LazyConds
     conds x = conditions-of (per-cases x cs)
@@ -171,12 +188,14 @@ module _ (W : World) (ρ : Resolver) (os : List NodeOutput) (n : DefinedSelect) 
           onward = goes-on z em;
         }
       where
-        goes-on : (z : DeferredEdgeBundle) → EmitsBundle os n (plan-bundle (W .g) cs w) z → OnwardTo W ρ s′ b e h (z .target) (z .target-inputs)
+        goes-on : (z : DeferredEdgeBundle) → EmitsBundle os n (plan-bundle (W .g) cs w) z
+            → OnwardTo W ρ s′ b e h (z .target) (z .target-inputs)
         goes-on z em =
             rw (em .target, w-target) (onward-reads W ρ s s′ past b e h (y .target) ys (z .target-inputs)
             (all-inputs (w .input-count) 0 (z .target-inputs) (omega arith) (rw w-target at (em .inputs))) (goes .onward))
 
-        holds : (z : DeferredEdgeBundle) → EmitsBundle os n (plan-bundle (W .g) cs w) z → (v : Value) → Mat (z .condition) os v → Truthy (s′ .env (ρ v))
+        holds : (z : DeferredEdgeBundle) → EmitsBundle os n (plan-bundle (W .g) cs w) z → (v : Value) → Mat (z .condition) os v
+            → Truthy (s′ .env (ρ v))
         holds z em v mat = go (all-true (per-cases (w .target) cs)) (rw (em .condition) at mat)
           where
             go : (o : Bool) → Mat (condition-from n (pick o none (some (conds (w .target))))) os v → Truthy (s′ .env (ρ v))
@@ -197,6 +216,7 @@ module _ (W : World) (ρ : Resolver) (os : List NodeOutput) (n : DefinedSelect) 
                 → Mat (condition-from n (pick o none (some (conds x)))) os v → s′ .env (ρ v) ≡ word 0
             go x ne″ true p mt = absurd (all-false x ne″ p)
             go x ne″ false p mt =
-                merged-false ρ os (n .node) j (n .kind) (n .scrutinee) s s′ on-output on-bool reads taken (conds x) (per-case-deferred x (deferred-of cj) .condition)
+                merged-false ρ os (n .node) j (n .kind) (n .scrutinee) s s′ on-output on-bool reads taken (conds x)
+                (per-case-deferred x (deferred-of cj) .condition)
                 (per-cases-condition x cs j cj at-j)
                 (per-case-false ρ os s on-bool on-undef (deferred-of cj) dist y (goes .chosen) x ne″) v mt

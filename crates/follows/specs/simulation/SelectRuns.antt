@@ -7,9 +7,12 @@ use mathlib.Core.Path.{_∙_, _≡_, ap, refl, subst, sym}
 use Prim.Native.Nat.{_+_, suc, zero, ℕ}
 use native.Mathlib.Omega.{arith}
 use lib.ListN.{getD, length}
-use Rattle.meaning.specs.Runs.{Cases, Nodes, _▸_, case, ∅, ⟨⟩, Ran, and-then, case-count, ended, no-end, pay, run-case, run-nodes, through, End, Event, Rule, RunState, place-taken, word}
+use Rattle.meaning.specs.Runs.{Cases, Nodes, _▸_, case, ∅, ⟨⟩, Ran, and-then, case-count, ended, no-end, pay, run-case, run-nodes, through}
+use Rattle.meaning.specs.Runs.{End, Event, Rule, RunState, place-taken, word}
 use Rattle.meaning.specs.Graph.{SelectionKind, Value, bool, bool-cond, undef}
-use Rattle.nesting.specs.Nesting.{new-select, MaybeClaimedRegion, deferred-of, DeferredEdgeBundle, DeferredEdgeBundleSet, case-outputs, output-decls, DeferredTargetSummary, in-parent, plan-bundle, DefinedSelect, NodeOutput, look-up-nodes, look-up-cases}
+use Rattle.nesting.specs.Nesting.{new-select, MaybeClaimedRegion, deferred-of, DeferredEdgeBundle, DeferredEdgeBundleSet, case-outputs}
+use Rattle.nesting.specs.Nesting.{output-decls, DeferredTargetSummary, in-parent, plan-bundle, DefinedSelect, NodeOutput, look-up-nodes}
+use Rattle.nesting.specs.Nesting.{look-up-cases}
 use Rattle.nesting.specs.lookups.Rewriting.{rewrite-cases-of, rewrite-nodes}
 use Rattle.meaning.specs.facts.Elements.{In, nth}
 use Rattle.follows.specs.simulation.Key.{is-node, key, key-constant, owns-nodes}
@@ -35,7 +38,8 @@ module _ (ρ : Resolver) (os : List NodeOutput) where
   count-form (case c ks cs) n j = ap suc (count-form cs n (suc j))
 
   pub case-run : (rule : Rule) (test b : ℕ) (cs : Cases) (n i j : ℕ) (ks : Nodes) (s : RunState) → children-at cs j ≡ some ks
-      → run-case rule test b (rewrite-cases-of ρ os cs n i) j (output-decls n 0 os) s ≡ and-then (run-nodes rule test b (rewrite-nodes ρ os ks) s)
+      → run-case rule test b (rewrite-cases-of ρ os cs n i) j (output-decls n 0 os) s
+      ≡ and-then (run-nodes rule test b (rewrite-nodes ρ os ks) s)
       (λ s′. through (outputs-set ρ os n (i + j) s′))
   unfolding look-up-cases run-case
   case-run rule test b ∅ n i j ks s p = cc
@@ -45,7 +49,8 @@ module _ (ρ : Resolver) (os : List NodeOutput) where
 
 -- The run of a select is its test and the case taken, whose outputs become the select's.
 module _ (W : World) where
-  pub select-runs : (ρ : Resolver) (os : List NodeOutput) (b n : ℕ) (kind : SelectionKind) (sc : Value) (ccs : Cases) (j w : ℕ) (ksj : Nodes) (st : RunState)
+  pub select-runs : (ρ : Resolver) (os : List NodeOutput) (b n : ℕ) (kind : SelectionKind) (sc : Value) (ccs : Cases) (j w : ℕ)
+      (ksj : Nodes) (st : RunState)
       → children-at ccs j ≡ some ksj → st .env (ρ sc) ≡ word w → place-taken kind w (case-count ccs) ≡ j
       → runs W b (rewrite-nodes ρ os (new-select n kind sc ccs ▸ ⟨⟩)) st
       ≡ and-then (runs W b (rewrite-nodes ρ os ksj) (pay (W .g .test-cost) st))
@@ -53,18 +58,29 @@ module _ (W : World) where
   unfolding run-nodes look-up-nodes
   select-runs ρ os b n kind sc ccs j w ksj st kj tests takes =
       let z : 0 + j ≡ j = omega arith in
-      rw (then-on _, tests, count-form ρ os ccs n 0, takes, case-run ρ os (W .rule) (W .g .test-cost) b ccs n 0 j ksj (pay (W .g .test-cost) st) kj, z)
+      rw (
+        then-on _,
+        tests,
+        count-form ρ os ccs n 0,
+        takes,
+        case-run ρ os (W .rule) (W .g .test-cost) b ccs n 0 j ksj
+            (pay (W .g .test-cost) st) kj,
+        z,
+      )
 
 module _ (W : World)
-    (ρ : Resolver) (os : List NodeOutput) (T : Tables) (res : Respects ρ os T) (n : DefinedSelect) (ccs : Cases) (cs : List MaybeClaimedRegion) (j : ℕ)
+    (ρ : Resolver) (os : List NodeOutput) (T : Tables) (res : Respects ρ os T) (n : DefinedSelect) (ccs : Cases)
+    (cs : List MaybeClaimedRegion) (j : ℕ)
     (cj : MaybeClaimedRegion) (ksj : Nodes)
     (at-j : nth cs j ≡ some cj) (children-j : children-at ccs j ≡ some ksj) (dist : DistinctBundles (deferred-of cj))
-    (b k : ℕ) (s : RunState) (bs : Based W s) (w : ℕ) (tests : s .env (ρ (n .scrutinee)) ≡ word w) (takes : place-taken (n .kind) w (case-count ccs) ≡ j)
+    (b k : ℕ) (s : RunState) (bs : Based W s) (w : ℕ) (tests : s .env (ρ (n .scrutinee)) ≡ word w)
+    (takes : place-taken (n .kind) w (case-count ccs) ≡ j)
     (e : End) (h : List Event) (inside : Tracks W ρ os k (deferred-of cj) e h (runs W b (rewrite-nodes ρ os ksj) (pay (W .g .test-cost) s)))
     -- the scrutinee is none of the select's own, nor of the case's
     (scrut-apart : owns-nodes ksj (key os (ρ (n .scrutinee))) ≡ false) (scrut-out : is-node (n .node) (key os (ρ (n .scrutinee))) ≡ false)
     -- what is shared means the same outside of the case, and is none of the select's own
-    (shares : (y : DeferredEdgeBundle) → In y (deferred-of cj) → (i : ℕ) (v : Value) → in-parent cj (getD (y .target-inputs) i (undef 0)) ≡ some v
+    (shares : (y : DeferredEdgeBundle) → In y (deferred-of cj) → (i : ℕ) (v : Value)
+    → in-parent cj (getD (y .target-inputs) i (undef 0)) ≡ some v
     → (ρ v ≡ ρ (getD (y .target-inputs) i (undef 0))) × (is-node (n .node) (key os (ρ v)) ≡ false))
     (ws : List DeferredTargetSummary)
     (wants : (y : DeferredEdgeBundle) → In y (deferred-of cj) → (x : DeferredTargetSummary) × In x ws × (x .target ≡ y .target)
@@ -73,16 +89,19 @@ module _ (W : World)
   at-bool : (s′ : RunState) → Based W s′ → (x : Bool) → s′ .env (ρ (bool x)) ≡ word (pick x 1 0)
   at-bool s′ bs′ x = ap (s′ .env) (res .on-bool x) ∙ bs′ .based (bool x) refl ∙ W .on-bool x
 
-  goes-after : (s₁ : RunState) → runs W b (rewrite-nodes ρ os ksj) (pay (W .g .test-cost) s) ≡ through s₁ → Goes W ρ os k (deferred-of cj) e h s₁
+  goes-after : (s₁ : RunState) → runs W b (rewrite-nodes ρ os ksj) (pay (W .g .test-cost) s) ≡ through s₁
+      → Goes W ρ os k (deferred-of cj) e h s₁
       → Goes W ρ os k d e h (outputs-set ρ os (n .node) j s₁)
   goes-after s₁ p goes =
       let s₂ : RunState = outputs-set ρ os (n .node) j s₁ in
       let vs : List Value = map ρ (case-outputs (n .node) j os) in
-      let out-kept : (u : Value) → is-node (n .node) (key os u) ≡ false → s₂ .env u ≡ s₁ .env u = λ u c. outputs-kept (n .node) os u c vs s₁ in
+      let out-kept : (u : Value) → is-node (n .node) (key os u) ≡ false → s₂ .env u ≡ s₁ .env u =
+      λ u c. outputs-kept (n .node) os u c vs s₁ in
       let bs₁ : Based W s₁ = based-after W ρ os ksj b (pay (W .g .test-cost) s) s₁ p (record { based = bs .based }) in
       let bs₂ : Based W s₂ = record { based = λ v c. out-kept v (rw (key-constant os v c)) ∙ bs₁ .based v c } in
       let scrutinee-kept : s₂ .env (ρ (n .scrutinee)) ≡ word w =
-      out-kept (ρ (n .scrutinee)) scrut-out ∙ frame (W .rule) (W .g .test-cost) ρ os (ρ (n .scrutinee)) ksj b (pay (W .g .test-cost) s) s₁ p scrut-apart ∙ tests in
+      out-kept (ρ (n .scrutinee)) scrut-out ∙ frame (W .rule) (W .g .test-cost) ρ os (ρ (n .scrutinee)) ksj b
+      (pay (W .g .test-cost) s) s₁ p scrut-apart ∙ tests in
       let x = wants (goes .entry) (goes .chosen .member) in
       select-goes W ρ os n cs j cj at-j s₁ s₂ refl (res .on-output) (at-bool s₁ bs₁) (at-bool s₂ bs₂)
       (λ ty. ap (s₁ .env) (res .on-undef ty) ∙ bs₁ .based (undef ty) refl ∙ W .on-undef ty)
@@ -99,7 +118,8 @@ module _ (W : World)
           go (suc x) r l = inl (sym l, record { less = x; is = r })
 
   pub select-follows : Tracks W ρ os k d e h (runs W b (rewrite-nodes ρ os (new-select (n .node) (n .kind) (n .scrutinee) ccs ▸ ⟨⟩)) s)
-  select-follows = subst (λ R. Tracks W ρ os k d e h R) (sym (select-runs W ρ os b (n .node) (n .kind) (n .scrutinee) ccs j w ksj s children-j tests takes))
+  select-follows = subst (λ R. Tracks W ρ os k d e h R)
+      (sym (select-runs W ρ os b (n .node) (n .kind) (n .scrutinee) ccs j w ksj s children-j tests takes))
       (go (runs W b (rewrite-nodes ρ os ksj) (pay (W .g .test-cost) s)) refl inside)
     where
       go : (R : Ran) → runs W b (rewrite-nodes ρ os ksj) (pay (W .g .test-cost) s) ≡ R → Tracks W ρ os k (deferred-of cj) e h R

@@ -14,19 +14,25 @@ use Rattle.meaning.specs.Graph.{SelectionKind, Value, input, undef}
 use Rattle.meaning.specs.facts.Tests.{clash, or-either, or-left, or-right}
 use Rattle.nesting.specs.lookups.ChainEnds.{RewritesTo}
 use Rattle.nesting.specs.lookups.Contexts.{InContext, entry-at, open-else}
-use Rattle.nesting.specs.Nesting.{new-select, look-up-each, look-up, look-up-case, Body, ClaimedRegion, MaybeClaimedRegion, Scrutinee, err, join, ok, with-twice, DeferredEdgeBundleSet, any-needs-select, any-non-empty-case, plan-bundles, rewrites-of, DefinedSelect, define-select, emit, replace-inputs, select-if, shared-bundle, structurize-select, NestState, NodeOutput, replace-with}
+use Rattle.nesting.specs.Nesting.{new-select, look-up-each, look-up, look-up-case, Body, ClaimedRegion, MaybeClaimedRegion, Scrutinee, err}
+use Rattle.nesting.specs.Nesting.{join, ok, with-twice, DeferredEdgeBundleSet, any-needs-select, any-non-empty-case, plan-bundles}
+use Rattle.nesting.specs.Nesting.{rewrites-of, DefinedSelect, define-select, emit, replace-inputs, select-if, shared-bundle}
+use Rattle.nesting.specs.Nesting.{structurize-select, NestState, NodeOutput, replace-with}
 use Rattle.nesting.specs.lookups.Rewriting.{rewrite-claimed, rewrite-cases-is, rewrite, rewrite-case}
 use Rattle.nesting.specs.steps.Post.{bind, map-post}
 use Rattle.follows.specs.simulation.ConvergentCase.{Apart}
 use Rattle.meaning.specs.facts.Elements.{In, from-map, in-map}
 use Rattle.follows.specs.simulation.Key.{Key, is-node, node-key, of-node, owns-cases, owns-join, owns-nodes}
 use Rattle.follows.specs.simulation.World.{World, ar}
-use Rattle.follows.specs.simulation.Tables.{Gains, Resolver, Respects, entry-law, entry-stays, gains-refl, gains-then, lookup-keeps, respects-back, tables}
+use Rattle.follows.specs.simulation.Tables.{Gains, Resolver, Respects, entry-law, entry-stays, gains-refl, gains-then, lookup-keeps}
+use Rattle.follows.specs.simulation.Tables.{respects-back, tables}
 use Rattle.follows.specs.simulation.Leads.{leads-on}
 use Rattle.follows.specs.simulation.Planned.{EmitsAll}
 use Rattle.follows.specs.simulation.Defined.{Grew, IfDone, emit-post, grew-steady, grew-then}
-use Rattle.follows.specs.simulation.Scope.{AllScoped, OwnedWithin, scoped-later, scoped-rewritten, set-later, within-left, within-refl}
-use Rattle.follows.specs.simulation.Invariant.{Free, Later, Rewritable, free⁺, inv-grew, inv-rewrite, later-grew, later-rewrite, new, old, owned-same, rewritable⁺, rewrite-gains, rewriting}
+use Rattle.follows.specs.simulation.Scope.{AllScoped, OwnedWithin, scoped-later, scoped-rewritten, set-later, within-left}
+use Rattle.follows.specs.simulation.Scope.{within-refl}
+use Rattle.follows.specs.simulation.Invariant.{Free, Later, Rewritable, free⁺, inv-grew, inv-rewrite, later-grew, later-rewrite, new}
+use Rattle.follows.specs.simulation.Invariant.{old, owned-same, rewritable⁺, rewrite-gains, rewriting}
 use Rattle.follows.specs.simulation.ClaimedRegions.{CasesOk, ClaimedOk, Doing, Holds, doing-on, doing-with}
 use Rattle.follows.specs.simulation.EnterCase.{ScrutineeIs, children-in, getD-rewritten}
 use Rattle.follows.specs.simulation.SelectDefined.{CasesFrom, DefinesSelect, cases-own, define-select-post, scrutinee-stays}
@@ -55,9 +61,15 @@ module _ (W : World) where
   later-moves p = record { gains = p .gains; free = p .free; rewritable = p .rewritable }
 
   pub moved-then : {s s′ s″ : NestState} → Moved s s′ → Moved s′ s″ → Moved s s″
-  moved-then p q = record { gains = gains-then (p .gains) (q .gains); free = λ κ h. p .free κ (q .free κ h); rewritable = λ r h. p .rewritable r (q .rewritable r h) }
+  moved-then p q = record {
+    gains = gains-then (p .gains) (q .gains);
+    free = λ κ h. p .free κ (q .free κ h);
+    rewritable =
+        λ r h. p .rewritable r (q .rewritable r h);
+  }
 
-  pub holds-moved : {c : ClaimedRegion} {s s′ : NestState} → Holds W c s → Moved s s′ → rewrites-of (s′ .region-input-rewrites) (c .structured-body) ≡ none → Holds W c s′
+  pub holds-moved : {c : ClaimedRegion} {s s′ : NestState} → Holds W c s → Moved s s′
+      → rewrites-of (s′ .region-input-rewrites) (c .structured-body) ≡ none → Holds W c s′
   holds-moved {c} h st un = record {
     sim = leads-on W (st .gains) (h .sim);
     set = set-later W (st .gains) (within-refl (c .children)) (h .set);
@@ -91,7 +103,8 @@ module _ (W : World) where
     pub rewrite-doing : Doing W s₀ r ks s⁺
     rewrite-doing = record {
       in-range = dg .in-range;
-      inv = inv-rewrite W s (c .structured-body) (replace-with (c .structured-body-inputs)) (dg .inv) (tl .unrewritten) (tl .closed) r (dg .unrewritten)
+      inv = inv-rewrite W s (c .structured-body) (replace-with (c .structured-body-inputs)) (dg .inv) (tl .unrewritten) (tl .closed) r
+          (dg .unrewritten)
           (eqb-false _ _ (tl .other)) given;
       step = later-rewrite W s (c .structured-body) (replace-with (c .structured-body-inputs)) (dg .step) (tl .since);
       began = dg .began;
@@ -101,10 +114,12 @@ module _ (W : World) where
       clear = λ κ o w. dg .clear κ o (rewrite-moved .free κ w);
     }
 
-    pub rewrite-keeps : (q : ℕ) → eqb q (c .structured-body) ≡ false → rewrites-of (s .region-input-rewrites) q ≡ none → rewrites-of (s⁺ .region-input-rewrites) q ≡ none
+    pub rewrite-keeps : (q : ℕ) → eqb q (c .structured-body) ≡ false → rewrites-of (s .region-input-rewrites) q ≡ none
+        → rewrites-of (s⁺ .region-input-rewrites) q ≡ none
     rewrite-keeps q ne h = open-else (s .region-input-rewrites) _ _ q h (eqb-false _ _ ne)
 
-    pub rewrite-on : (c′ : ClaimedRegion) → eqb (c′ .structured-body) (c .structured-body) ≡ false → ToRewrite s₀ r ks s c′ → ToRewrite s₀ r ks s⁺ c′
+    pub rewrite-on : (c′ : ClaimedRegion) → eqb (c′ .structured-body) (c .structured-body) ≡ false → ToRewrite s₀ r ks s c′
+        → ToRewrite s₀ r ks s⁺ c′
     rewrite-on c′ ne t = record {
       closed = λ l. t .closed (rewrite-moved .rewritable (c′ .structured-body) l);
       unrewritten = rewrite-keeps (c′ .structured-body) ne (t .unrewritten);
@@ -115,10 +130,12 @@ module _ (W : World) where
 
   pub record Replaced (s₀ : NestState) (r : ℕ) (ks : Nodes) (cs : List MaybeClaimedRegion) (s s′ : NestState) : Type 0 where
     pub doing : Doing W s₀ r ks s′
-    pub given : (c : ClaimedRegion) → In (ok c) cs → rewrites-of (s′ .region-input-rewrites) (c .structured-body) ≡ some (replace-with (c .structured-body-inputs))
+    pub given : (c : ClaimedRegion) → In (ok c) cs → rewrites-of (s′ .region-input-rewrites) (c .structured-body) ≡ some
+        (replace-with (c .structured-body-inputs))
     pub outputs : s′ .node-outputs ≡ s .node-outputs
     pub moves : Moved s s′
-    pub keeps : (q : ℕ) → ((c : ClaimedRegion) → In (ok c) cs → eqb q (c .structured-body) ≡ false) → rewrites-of (s .region-input-rewrites) q ≡ none
+    pub keeps : (q : ℕ) → ((c : ClaimedRegion) → In (ok c) cs → eqb q (c .structured-body) ≡ false)
+        → rewrites-of (s .region-input-rewrites) q ≡ none
         → rewrites-of (s′ .region-input-rewrites) q ≡ none
 
   pub replace-inputs-post : (s₀ : NestState) (r : ℕ) (ks : Nodes) (cs : List MaybeClaimedRegion) (s : NestState) → Doing W s₀ r ks s
@@ -137,16 +154,26 @@ module _ (W : World) where
       }
   replace-inputs-post s₀ r ks (err d ∷ cs) s dg tl ap =
       map-post (replace-inputs cs s) (replace-inputs-post s₀ r ks cs s dg (λ c i. tl c (inr i)) ap) λ u s′ h.
-      record { doing = h .doing; given = λ c i. elim i [ inl p ↦ absurd (clash (cc)) | inr j ↦ h .given c j ]; outputs = h .outputs; moves = h .moves; keeps = λ q n. h .keeps q (λ c i. n c (inr i)) }
+      record {
+        doing = h .doing;
+        given = λ c i. elim i [ inl p ↦ absurd (clash (cc)) | inr j ↦ h .given c j ];
+        outputs = h .outputs;
+        moves =
+            h .moves;
+        keeps = λ q n. h .keeps q (λ c i. n c (inr i));
+      }
   replace-inputs-post s₀ r ks (ok c ∷ cs) s dg tl (ne, ap) =
       let mine = tl c (inl refl) in
       let s₁ : NestState = rewriting W (c .structured-body) (replace-with (c .structured-body-inputs)) s in
       map-post (replace-inputs cs s₁)
-      (replace-inputs-post s₀ r ks cs s₁ (rewrite-doing s₀ s r ks c dg mine) (λ c′ i. rewrite-on s₀ s r ks c dg mine c′ (ne c′ i) (tl c′ (inr i))) ap) λ u s′ h.
+      (replace-inputs-post s₀ r ks cs s₁ (rewrite-doing s₀ s r ks c dg mine)
+      (λ c′ i. rewrite-on s₀ s r ks c dg mine c′ (ne c′ i) (tl c′ (inr i))) ap) λ u s′ h.
       record {
         doing = h .doing;
         given = λ x i. elim i [
-          | inl p ↦ let e : x ≡ c = cc in rw e (entry-stays (c .structured-body) (h .moves .gains .rewrites) (entry-at (s .region-input-rewrites) (c .structured-body) _ (mine .unrewritten)))
+          | inl p ↦ let e : x ≡ c = cc in
+              rw e (entry-stays (c .structured-body) (h .moves .gains .rewrites)
+              (entry-at (s .region-input-rewrites) (c .structured-body) _ (mine .unrewritten)))
           | inr j ↦ h .given x j
         ];
         outputs = h .outputs;
@@ -156,7 +183,8 @@ module _ (W : World) where
 
   -- ---- the cases with their values looked up
   rewritten-claimed : (σ : Resolver) (x : MaybeClaimedRegion) (c : ClaimedRegion) → ok c ≡ rewrite-case σ x
-      → (y : ClaimedRegion) × (x ≡ ok y) × (c .structured-body ≡ y .structured-body) × (c .structured-body-inputs ≡ map σ (y .structured-body-inputs))
+      → (y : ClaimedRegion) × (x ≡ ok y) × (c .structured-body ≡ y .structured-body)
+      × (c .structured-body-inputs ≡ map σ (y .structured-body-inputs))
   rewritten-claimed σ (err d) c p = absurd (clash (cc))
   rewritten-claimed σ (ok y) c p =
       let e : c ≡ rewrite-claimed σ y = cc in
@@ -192,7 +220,8 @@ module _ (W : World) where
 
     pub data Shape (more : Nodes) (d : DeferredEdgeBundleSet) (os : List NodeOutput) : Type 0 where
       made : Made more d os → Shape more d os
-      unmade : more ≡ ⟨⟩ → any-non-empty-case cases ≡ false → any-needs-select (plan-bundles (W .g) cs) ≡ false → d ≡ map shared-bundle (plan-bundles (W .g) cs) → Shape more d os
+      unmade : more ≡ ⟨⟩ → any-non-empty-case cases ≡ false → any-needs-select (plan-bundles (W .g) cs) ≡ false
+          → d ≡ map shared-bundle (plan-bundles (W .g) cs) → Shape more d os
 
     pub record Selected (x : Body) (s′ : NestState) : Type 0 where
       pub shape : Shape (x .children) (x .deferred-edges) (s′ .node-outputs)
@@ -200,16 +229,19 @@ module _ (W : World) where
       pub doing : Doing W s₀ r (join ks (x .children)) s′
 
     -- the children with the select's
-    with-select : (n : DefinedSelect) (s₁ s₂ : NestState) → (mk : DefinesSelect kind sc cases s n s₁) → Grew s₁ s₂ → Doing W s₀ r (join ks (n .children)) s₂
+    with-select : (n : DefinedSelect) (s₁ s₂ : NestState) → (mk : DefinesSelect kind sc cases s n s₁) → Grew s₁ s₂
+        → Doing W s₀ r (join ks (n .children)) s₂
     with-select n s₁ s₂ mk gr₂ =
         let gr = grew-then (mk .grew) gr₂ in
         let d₂ = doing-on W dg (inv-grew W gr (dg .inv)) (later-grew W gr) in
         doing-with W (join ks (n .children)) d₂ (λ κ o. (since κ (whose κ o), clear gr d₂ κ (whose κ o)))
       where
         Who : Key → Type 0
-        Who v = (owns-nodes ks v ≡ true) ⊎ ((v ≡ of-node (n .node)) ⊎ ((c : ClaimedRegion) × In (ok c) cases × (owns-nodes (c .children) v ≡ true)))
+        Who v = (owns-nodes ks v ≡ true) ⊎
+            ((v ≡ of-node (n .node)) ⊎ ((c : ClaimedRegion) × In (ok c) cases × (owns-nodes (c .children) v ≡ true)))
 
-        in-case : (κ : Key) (c : MaybeClaimedRegion) → In c cases → owns-nodes (children-in c) κ ≡ true → (x : ClaimedRegion) × In (ok x) cases × (owns-nodes (x .children) κ ≡ true)
+        in-case : (κ : Key) (c : MaybeClaimedRegion) → In c cases → owns-nodes (children-in c) κ ≡ true
+            → (x : ClaimedRegion) × In (ok x) cases × (owns-nodes (x .children) κ ≡ true)
         in-case κ (ok x) i o = (x, i, o)
         in-case κ (err d) i o = absurd (none-owned κ o)
 
@@ -247,7 +279,8 @@ module _ (W : World) where
             not-new (new h) = omega (arith, h, mk .below, gr₂ .node-count)
         clear gr d₂ κ (inr (inr (c, i, o))) w = tk c i .holds .clear κ o (later-grew W gr .free κ w)
 
-    makes-from : (n : DefinedSelect) (s₁ s₂ : NestState) → Grew s s₁ → DefinesSelect kind sc cases s₁ n s₂ → DefinesSelect kind sc cases s n s₂
+    makes-from : (n : DefinedSelect) (s₁ s₂ : NestState) → Grew s s₁ → DefinesSelect kind sc cases s₁ n s₂
+        → DefinesSelect kind sc cases s n s₂
     makes-from n s₁ s₂ gr mk = record {
       cases-of = mk .cases-of;
       children-is = mk .children-is;
@@ -298,12 +331,14 @@ module _ (W : World) where
       pub shape : Shape more (y .deferred-edges) (s′ .node-outputs)
       pub doing : Doing W s₀ r (join ks more) s′
       pub moves : Moved s s′
-      pub keeps : (q : ℕ) → ((c : ClaimedRegion) → In (ok c) cases → eqb q (c .structured-body) ≡ false) → rewrites-of (s .region-input-rewrites) q ≡ none
+      pub keeps : (q : ℕ) → ((c : ClaimedRegion) → In (ok c) cases → eqb q (c .structured-body) ≡ false)
+          → rewrites-of (s .region-input-rewrites) q ≡ none
           → rewrites-of (s′ .region-input-rewrites) q ≡ none
       pub law : (ρ : Resolver) (os : List NodeOutput) → Respects ρ os (tables s′) → (c : ClaimedRegion) → In (ok c) cases → (k : ℕ)
           → ρ (input (c .structured-body) k) ≡ ρ (getD (c .structured-body-inputs) k (undef 0))
 
-    to-rewrite : (ks′ : Nodes) → OwnedWithin ks ks′ → (s₂ : NestState) → Grew s s₂ → (c : ClaimedRegion) → In (ok c) cs → ToRewrite s₀ r ks′ s₂ c
+    to-rewrite : (ks′ : Nodes) → OwnedWithin ks ks′ → (s₂ : NestState) → Grew s s₂ → (c : ClaimedRegion) → In (ok c) cs
+        → ToRewrite s₀ r ks′ s₂ c
     to-rewrite ks′ wi s₂ gr c i =
         let x = from-map (rewrite-case σ) cases (ok c) i in
         let y = rewritten-claimed σ (x .0) c (x .2) in
@@ -313,7 +348,8 @@ module _ (W : World) where
           closed = λ l. tk .holds .closed (st .rewritable (y .0 .structured-body) (subst (λ z. Rewritable W s₂ z) (y .2) l));
           unrewritten = rw (y .2, gr .rewrites) (tk .holds .unrewritten);
           inputs = λ k. rw (y .3, getD-rewritten W (s .region-input-rewrites) (y .0 .structured-body-inputs) k)
-              (scoped-later (st .gains) wi (scoped-rewritten (dg .unrewritten) (getD (y .0 .structured-body-inputs) k (undef 0)) (tk .inputs k)));
+              (scoped-later (st .gains) wi
+              (scoped-rewritten (dg .unrewritten) (getD (y .0 .structured-body-inputs) k (undef 0)) (tk .inputs k)));
           other = rw (y .2) (tk .other);
           since = rw (y .2) (tk .since .region);
         }
@@ -327,7 +363,8 @@ module _ (W : World) where
         bind (select-if (any-non-empty-case cases || any-needs-select (plan-bundles (W .g) cs)) kind sc cases (plan-bundles (W .g) cs) s₁) _
         (select-if-post _ refl s₁ gr₁) λ x s₂ sel.
         bind (replace-inputs cs s₂) _ (replace-inputs-post s₀ r (join ks (x .children)) cs s₂ (sel .doing)
-        (to-rewrite (join ks (x .children)) (within-left ks (x .children)) s₂ (sel .grew)) (apart-rewritten σ cases (fit .apart))) λ u s₃ rp.
+        (to-rewrite (join ks (x .children)) (within-left ks (x .children)) s₂ (sel .grew))
+        (apart-rewritten σ cases (fit .apart))) λ u s₃ rp.
         record {
           post = record {
             more = x .children;
@@ -339,11 +376,13 @@ module _ (W : World) where
             law = λ ρ os res c i k.
                 entry-law res (c .structured-body) _ (rp .given (rewrite-claimed σ c) (in-map (rewrite-case σ) cases (ok c) i)) k
                 ∙ ap ρ (getD-rewritten W (s .region-input-rewrites) (c .structured-body-inputs) k)
-                ∙ lookup-keeps (respects-back (moved-then (later-moves (later-grew W (sel .grew))) (rp .moves) .gains) res) (getD (c .structured-body-inputs) k (undef 0));
+                ∙ lookup-keeps (respects-back (moved-then (later-moves (later-grew W (sel .grew))) (rp .moves) .gains) res)
+                (getD (c .structured-body-inputs) k (undef 0));
           };
         }
       where
-        keep : (q : ℕ) → ((c : ClaimedRegion) → In (ok c) cases → eqb q (c .structured-body) ≡ false) → (c : ClaimedRegion) → In (ok c) cs → eqb q (c .structured-body) ≡ false
+        keep : (q : ℕ) → ((c : ClaimedRegion) → In (ok c) cases → eqb q (c .structured-body) ≡ false) → (c : ClaimedRegion) → In (ok c) cs
+            → eqb q (c .structured-body) ≡ false
         keep q n c i =
             let x = from-map (rewrite-case σ) cases (ok c) i in
             let y = rewritten-claimed σ (x .0) c (x .2) in

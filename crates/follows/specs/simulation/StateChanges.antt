@@ -90,7 +90,8 @@ module _ (W : World) (s : NestState) (r : ℕ) (x : StructurizeRegionState) (h :
     }
       where
         not-busy : (q : ℕ) → state-of s q ≡ in-progress → eqb q r ≡ false
-        not-busy q p = ne-eqb q r λ e. let p′ : state-of s r ≡ in-progress = rw e at p in let z : idle in-progress ≡ true = rw p′ at was in clash (cc)
+        not-busy q p = ne-eqb q r λ e. let p′ : state-of s r ≡ in-progress = rw e at p in let z : idle in-progress ≡ true = rw p′ at was in
+            clash (cc)
 
 -- ---- who owns a region's blocks
 pub blocks-own : (n r k : ℕ) (bs : List (List Instr)) (κ : Key) → owns-nodes (blocks-from n r k bs) κ ≡ true → κ ≡ of-instr r

@@ -6,7 +6,8 @@ use mathlib.Core.Path.{_∙_, _≡_, ap, refl, subst, sym}
 use Prim.Native.Nat.{suc, zero, ℕ}
 use lib.ListN.{getD}
 use Rattle.meaning.specs.Graph.{Value, bool, const, held, input, instr, output, undef, no-value}
-use Rattle.nesting.specs.Nesting.{chain-fuel, rewrites-of, InputRewrite, NestState, NodeOutput, RegionInputRewrites, RewriteEntry, renumber-or-replace-with, renumber-to, replace-by, replace-with, look-up}
+use Rattle.nesting.specs.Nesting.{chain-fuel, rewrites-of, InputRewrite, NestState, NodeOutput, RegionInputRewrites, RewriteEntry}
+use Rattle.nesting.specs.Nesting.{renumber-or-replace-with, renumber-to, replace-by, replace-with, look-up}
 use Rattle.nesting.specs.lookups.Rewriting.{rewrite}
 use Rattle.nesting.specs.lookups.ChainSteps.{after-steps, chain-steps, next-value, step-input, step-chain}
 use Rattle.nesting.specs.lookups.ChainEnds.{entry-kept}
@@ -15,7 +16,8 @@ use Rattle.follows.specs.simulation.Key.{OutputAt}
 
 -- ---- tables only gain
 -- an entry stays, and so does an output where it is
-pub entry-stays : {es es′ : List RewriteEntry} (r : ℕ) {x : RegionInputRewrites} → Extends es es′ → rewrites-of es r ≡ some x → rewrites-of es′ r ≡ some x
+pub entry-stays : {es es′ : List RewriteEntry} (r : ℕ) {x : RegionInputRewrites} → Extends es es′ → rewrites-of es r ≡ some x
+    → rewrites-of es′ r ≡ some x
 entry-stays {es} r {x} p h = ap (λ l. rewrites-of l r) (p .whole) ∙ entry-kept es (p .more) r x h
 
 pub stays : {a b : List NodeOutput} {n k : ℕ} {o : NodeOutput} → Extends a b → OutputAt n a k o → OutputAt n b k o
@@ -63,7 +65,8 @@ pub record Respects (ρ : Resolver) (os : List NodeOutput) (T : Tables) : Type 0
   pub steps : (v : Value) → ρ (next-value (T .rewrites) v) ≡ ρ v
   pub outputs : Extends (T .outputs) os
 
-steps-before : (ρ : Resolver) (es t : List RewriteEntry) → ((v : Value) → ρ (next-value (es ++ t) v) ≡ ρ v) → (v : Value) → ρ (next-value es v) ≡ ρ v
+steps-before : (ρ : Resolver) (es t : List RewriteEntry) → ((v : Value) → ρ (next-value (es ++ t) v) ≡ ρ v) → (v : Value)
+    → ρ (next-value es v) ≡ ρ v
 steps-before ρ es t h (const i) = refl
 steps-before ρ es t h (held r k) = refl
 steps-before ρ es t h (instr r k) = refl
@@ -85,12 +88,14 @@ respects-back {T} {ρ} p h = record {
   on-output = h .on-output;
   on-bool = h .on-bool;
   on-undef = h .on-undef;
-  steps = steps-before ρ (T .rewrites) (p .rewrites .more) (subst (λ l. (v : Value) → ρ (next-value l v) ≡ ρ v) (p .rewrites .whole) (h .steps));
+  steps = steps-before ρ (T .rewrites) (p .rewrites .more)
+      (subst (λ l. (v : Value) → ρ (next-value l v) ≡ ρ v) (p .rewrites .whole) (h .steps));
   outputs = extends-then (p .outputs) (h .outputs);
 }
 
 -- what an entry says of the look-ups
-pub entry-law : {ρ : Resolver} {os : List NodeOutput} {T : Tables} → Respects ρ os T → (r : ℕ) (e : RegionInputRewrites) → rewrites-of (T .rewrites) r ≡ some e → EntryLaw ρ r e
+pub entry-law : {ρ : Resolver} {os : List NodeOutput} {T : Tables} → Respects ρ os T → (r : ℕ) (e : RegionInputRewrites)
+    → rewrites-of (T .rewrites) r ≡ some e → EntryLaw ρ r e
 entry-law h r (replace-with vs) p = λ k. sym (rw p at (h .steps (input r k)))
 entry-law {ρ} h r (renumber-or-replace-with ss) p = λ k. sym (rw p at (h .steps (input r k))) ∙ go (getD ss k (renumber-to k))
   where

@@ -11,7 +11,9 @@ use Rattle.meaning.specs.Runs.{Nodes, _▸_, ⟨⟩}
 use Rattle.meaning.specs.Graph.{Edge, Value, undef}
 use Rattle.meaning.specs.Lists.{is-in, empty, pick}
 use Rattle.meaning.specs.facts.Tests.{clash, and-both}
-use Rattle.nesting.specs.Nesting.{blocks-of, ClaimedRegion, MaybeClaimedRegion, deferred-of, err, has-children, ok, Claim, defer-edge, edge-case, target-regions, unclaimed-edge, DeferredEdgeBundle, to-region, true-cond, NestState, StructurizeRegionState, claimed, in-progress, not-begun, ready}
+use Rattle.nesting.specs.Nesting.{blocks-of, ClaimedRegion, MaybeClaimedRegion, deferred-of, err, has-children, ok, Claim, defer-edge}
+use Rattle.nesting.specs.Nesting.{edge-case, target-regions, unclaimed-edge, DeferredEdgeBundle, to-region, true-cond, NestState}
+use Rattle.nesting.specs.Nesting.{StructurizeRegionState, claimed, in-progress, not-begun, ready}
 use Rattle.nesting.specs.steps.RegionsLeft.{state-of}
 use Rattle.nesting.specs.steps.Post.{bind}
 use Rattle.follows.specs.simulation.ConvergentCase.{Apart}
@@ -39,18 +41,22 @@ module _ (W : World) where
   pub since-back : {s₀ s : NestState} {c : ClaimedRegion} → Later W s₀ s → Since W s c → Since W s₀ c
   since-back {c} st h = record { children = λ v o. st .free v (h .children v o); region = st .rewritable (c .structured-body) (h .region) }
 
-  pub claimed-back : {s₀ s s′ : NestState} {r : ℕ} {ks : Nodes} {c : ClaimedRegion} → Later W s₀ s → ClaimedOk W s r ks s′ c → ClaimedOk W s₀ r ks s′ c
+  pub claimed-back : {s₀ s s′ : NestState} {r : ℕ} {ks : Nodes} {c : ClaimedRegion} → Later W s₀ s → ClaimedOk W s r ks s′ c
+      → ClaimedOk W s₀ r ks s′ c
   claimed-back st h = record { holds = h .holds; since = since-back st (h .since); inputs = h .inputs; other = h .other; apart = h .apart }
 
-  case-back : {s₀ s s′ : NestState} {r : ℕ} {ks : Nodes} (c : MaybeClaimedRegion) → Later W s₀ s → CaseOk W s r ks s′ c → CaseOk W s₀ r ks s′ c
+  case-back : {s₀ s s′ : NestState} {r : ℕ} {ks : Nodes} (c : MaybeClaimedRegion) → Later W s₀ s → CaseOk W s r ks s′ c
+      → CaseOk W s₀ r ks s′ c
   case-back (ok c) st h = record { is = claimed-back st (h .is) }
   case-back (err d) st h = record { is = h .is }
 
-  pub cases-back : {s₀ s s′ : NestState} {r : ℕ} {ks : Nodes} {cs : List MaybeClaimedRegion} → Later W s₀ s → CasesOk W s r ks s′ cs → CasesOk W s₀ r ks s′ cs
+  pub cases-back : {s₀ s s′ : NestState} {r : ℕ} {ks : Nodes} {cs : List MaybeClaimedRegion} → Later W s₀ s → CasesOk W s r ks s′ cs
+      → CasesOk W s₀ r ks s′ cs
   cases-back st h = record { each = λ c i. case-back c st (h .each c i); apart = h .apart }
 
   -- what a claim gives, to a region in progress
-  pub claimed-ok : {s₀ s s₁ : NestState} {r x : ℕ} {ks : Nodes} {vs : List Value} (c : ClaimedRegion) → Doing W s₀ r ks s → ClaimDone W x vs s (some c) s₁
+  pub claimed-ok : {s₀ s s₁ : NestState} {r x : ℕ} {ks : Nodes} {vs : List Value} (c : ClaimedRegion) → Doing W s₀ r ks s
+      → ClaimDone W x vs s (some c) s₁
       → AllScoped (tables s₁) r (ar W r) ks vs → ClaimedOk W s r ks s₁ c
   claimed-ok {s} {s₁} {r} {ks} c dg cd sc = record {
     holds = cd .got .holds;
@@ -75,15 +81,23 @@ module _ (W : World) where
         pub is : CaseOk W s r ks s₁ c
         pub enters : EdgeEnters W (tables s₁) (ed .target) (ed .inputs) c
 
-      deferred-ok : (ed : Edge) → EdgeUsable (W .g) r ed → Live W (ed .target) → (T : Tables) → SetOk W T r (ar W r) ks (deferred-of (defer-edge ed))
+      deferred-ok : (ed : Edge) → EdgeUsable (W .g) r ed → Live W (ed .target) → (T : Tables)
+          → SetOk W T r (ar W r) ks (deferred-of (defer-edge ed))
       deferred-ok ed eo lv T = record {
         distinct = ((λ y i. absurd i), tt);
         entries = λ e i. one e i;
       }
         where
-          one : (e : DeferredEdgeBundle) → (e ≡ record { target = to-region (ed .target); accumulated-count = 1; target-inputs = ed .inputs; condition = true-cond }) ⊎ ⊥
+          one : (e : DeferredEdgeBundle)
+              → (e ≡ record { target = to-region (ed .target); accumulated-count = 1; target-inputs = ed .inputs; condition = true-cond })
+              ⊎ ⊥
               → EntryOk W T r (ar W r) ks e
-          one e (inl p) = rw p (record { fits = (eo .target, eo .many, lv); inputs = usable-all W r T (ed .inputs) (eo .inputs); condition = record { is = tt } })
+          one e (inl p) = rw p (record {
+            fits = (eo .target, eo .many, lv);
+            inputs = usable-all W r T (ed .inputs) (eo .inputs);
+            condition =
+                record { is = tt };
+          })
           one e (inr no-way) = absurd no-way
 
       deferred-done : (ed : Edge) → EdgeUsable (W .g) r ed → Live W (ed .target) → (s s₁ : NestState) → CaseDone s s₁ ed (defer-edge ed) s₁
@@ -92,11 +106,18 @@ module _ (W : World) where
         is = record { is = deferred-ok ed eo lv (tables s₁) };
         enters = record {
           enters = λ ρ os res n e h st bs onw. one-goes W ρ os (tables s₁) res n e h st bs
-              (record { target = to-region (ed .target); accumulated-count = 1; target-inputs = ed .inputs; condition = true-cond }) refl onw;
+              (record {
+                target = to-region (ed .target);
+                accumulated-count = 1;
+                target-inputs = ed .inputs;
+                condition =
+                    true-cond;
+              }) refl onw;
         };
       }
 
-      unclaimed-done : (ed : Edge) → EdgeUsable (W .g) r ed → Live W (ed .target) → (s s₁ : NestState) → Inv W s₁ → (x : StructurizeRegionState)
+      unclaimed-done : (ed : Edge) → EdgeUsable (W .g) r ed → Live W (ed .target) → (s s₁ : NestState) → Inv W s₁
+          → (x : StructurizeRegionState)
           → state-of s₁ (ed .target) ≡ x → CaseDone s s₁ ed (unclaimed-edge ed x) s₁
       unclaimed-done ed eo lv s s₁ inv not-begun p = deferred-done ed eo lv s s₁
       unclaimed-done ed eo lv s s₁ inv in-progress p = deferred-done ed eo lv s s₁
@@ -107,17 +128,20 @@ module _ (W : World) where
           go false q = deferred-done ed eo lv s s₁
           go true q =
               let z = and-both (empty d) (not (has-children ks′)) q in
-              let is : state-of s₁ (ed .target) ≡ ready b ⟨⟩ [] = p ∙ ap (λ k. ready b k d) (children-none ks′ (z .1)) ∙ ap (λ l. ready b ⟨⟩ l) (is-empty d (z .0)) in
+              let is : state-of s₁ (ed .target) ≡ ready b ⟨⟩ [] =
+              p ∙ ap (λ k. ready b k d) (children-none ks′ (z .1)) ∙ ap (λ l. ready b ⟨⟩ l) (is-empty d (z .0)) in
               record {
                 same = refl;
                 is = record { is = record { distinct = tt; entries = λ e i. absurd i } };
                 enters = record {
-                  enters = λ ρ os res n e h st bs onw. absurd (never-ends W s₁ inv (ed .target) b (eo .target) is (onw .0) _ (st .events) e h
+                  enters = λ ρ os res n e h st bs onw. absurd
+                      (never-ends W s₁ inv (ed .target) b (eo .target) is (onw .0) _ (st .events) e h
                       (length-map (ed .inputs) (λ v. st .env (ρ v)) ∙ onw .2) (onw .3));
                 };
               }
 
-      edge-case-post : (ed : Edge) → EdgeUsable (W .g) r ed → Live W (ed .target) → (s s₁ : NestState) → Doing W s₀ r ks s → (o : Option ClaimedRegion)
+      edge-case-post : (ed : Edge) → EdgeUsable (W .g) r ed → Live W (ed .target) → (s s₁ : NestState) → Doing W s₀ r ks s
+          → (o : Option ClaimedRegion)
           → ClaimDone W (ed .target) (ed .inputs) s o s₁ → IfDone (CaseDone s s₁ ed) (edge-case ed o s₁)
       edge-case-post ed eo lv s s₁ dg none cd = record { post = unclaimed-done ed eo lv s s₁ (cd .inv) (state-of s₁ (ed .target)) refl }
       edge-case-post ed eo lv s s₁ dg (some c) cd = record {
@@ -133,9 +157,11 @@ module _ (W : World) where
         pub step : Later W s s′
         pub is : CasesOk W s r ks s′ cs
         pub len : length cs ≡ length es
-        pub enters : (j : ℕ) (ed : Edge) → nth es j ≡ some ed → (c : MaybeClaimedRegion) × (nth cs j ≡ some c) × EdgeEnters W (tables s′) (ed .target) (ed .inputs) c
+        pub enters : (j : ℕ) (ed : Edge) → nth es j ≡ some ed
+            → (c : MaybeClaimedRegion) × (nth cs j ≡ some c) × EdgeEnters W (tables s′) (ed .target) (ed .inputs) c
 
-      pub target-regions-post : (es : List Edge) → EdgesUsable (W .g) r es → ((ed : Edge) → In ed es → Live W (ed .target)) → (s : NestState) → Doing W s₀ r ks s
+      pub target-regions-post : (es : List Edge) → EdgesUsable (W .g) r es → ((ed : Edge) → In ed es → Live W (ed .target))
+          → (s : NestState) → Doing W s₀ r ks s
           → IfDone (CasesDone s es) (target-regions (W .g) cl es s)
       unfolding target-regions
       target-regions-post [] eo lv s dg =
@@ -149,7 +175,8 @@ module _ (W : World) where
             };
           }
       target-regions-post (ed ∷ es) (eo, eos) lv s dg =
-          bind (cl (ed .target) 1 (ed .inputs) s) _ (cl-ok (ed .target) 1 (ed .inputs) s (dg .inv) (eo .target) (lv ed (inl refl))) λ o s₁ cd.
+          bind (cl (ed .target) 1 (ed .inputs) s) _
+          (cl-ok (ed .target) 1 (ed .inputs) s (dg .inv) (eo .target) (lv ed (inl refl))) λ o s₁ cd.
           bind (edge-case ed o s₁) _ (edge-case-post ed eo (lv ed (inl refl)) s s₁ dg o cd) λ c s₁′ ca.
           bind (target-regions (W .g) cl es s₁′) _
           (subst (λ z. IfDone (CasesDone s₁ es) (target-regions (W .g) cl es z)) (sym (ca .same))
@@ -167,12 +194,14 @@ module _ (W : World) where
             };
           }
         where
-          each : (c : MaybeClaimedRegion) (cs : List MaybeClaimedRegion) (s₁ s₂ : NestState) → CaseOk W s r ks s₂ c → CasesOk W s r ks s₂ cs → (x : MaybeClaimedRegion)
+          each : (c : MaybeClaimedRegion) (cs : List MaybeClaimedRegion) (s₁ s₂ : NestState) → CaseOk W s r ks s₂ c → CasesOk W s r ks s₂ cs
+              → (x : MaybeClaimedRegion)
               → (x ≡ c) ⊎ In x cs → CaseOk W s r ks s₂ x
           each c cs s₁ s₂ h hs x (inl p) = rw p h
           each c cs s₁ s₂ h hs x (inr i) = hs .each x i
 
-          apart : (c : MaybeClaimedRegion) (cs : List MaybeClaimedRegion) (s₁ s₂ : NestState) → CaseOk W s r ks s₁ c → CasesOk W s₁ r ks s₂ cs → Apart (c ∷ cs)
+          apart : (c : MaybeClaimedRegion) (cs : List MaybeClaimedRegion) (s₁ s₂ : NestState) → CaseOk W s r ks s₁ c
+              → CasesOk W s₁ r ks s₂ cs → Apart (c ∷ cs)
           apart (err d) cs s₁ s₂ h hs = hs .apart
           apart (ok c) cs s₁ s₂ h hs = (
             (λ c′ i. ne-eqb (c′ .structured-body) (c .structured-body)
@@ -180,8 +209,12 @@ module _ (W : World) where
             hs .apart,
           )
 
-          steers : (c : MaybeClaimedRegion) (cs : List MaybeClaimedRegion) (s₁ s₂ : NestState) → EdgeEnters W (tables s₂) (ed .target) (ed .inputs) c
-              → ((j : ℕ) (x : Edge) → nth es j ≡ some x → (c : MaybeClaimedRegion) × (nth cs j ≡ some c) × EdgeEnters W (tables s₂) (x .target) (x .inputs) c)
-              → (j : ℕ) (x : Edge) → nth (ed ∷ es) j ≡ some x → (z : MaybeClaimedRegion) × (nth (c ∷ cs) j ≡ some z) × EdgeEnters W (tables s₂) (x .target) (x .inputs) z
-          steers c cs s₁ s₂ h hs zero x p = let e : ed ≡ x = cc in (c, refl, subst (λ z. EdgeEnters W (tables s₂) (z .target) (z .inputs) c) e h)
+          steers : (c : MaybeClaimedRegion) (cs : List MaybeClaimedRegion) (s₁ s₂ : NestState)
+              → EdgeEnters W (tables s₂) (ed .target) (ed .inputs) c
+              → ((j : ℕ) (x : Edge) → nth es j ≡ some x → (c : MaybeClaimedRegion) × (nth cs j ≡ some c) × EdgeEnters W (tables s₂)
+              (x .target) (x .inputs) c)
+              → (j : ℕ) (x : Edge) → nth (ed ∷ es) j ≡ some x
+              → (z : MaybeClaimedRegion) × (nth (c ∷ cs) j ≡ some z) × EdgeEnters W (tables s₂) (x .target) (x .inputs) z
+          steers c cs s₁ s₂ h hs zero x p = let e : ed ≡ x = cc in
+              (c, refl, subst (λ z. EdgeEnters W (tables s₂) (z .target) (z .inputs) c) e h)
           steers c cs s₁ s₂ h hs (suc j) x p = hs j x p

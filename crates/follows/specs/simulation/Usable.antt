@@ -3,7 +3,8 @@ use mathlib.Core.Path.{_≡_}
 use mathlib.Core.List.{List, [], _∷_}
 use Prim.Native.Nat.{ℕ, suc, _+_, _≤_, _<_}
 use lib.ListN.{length}
-use Rattle.meaning.specs.Graph.{Value, const, input, instr, output, bool, undef, held, Instr, SelectionKind, bool-cond, Edge, ControlInst, unreachable, return, exit-invocation, branch, select-branch, Graph, region, no-value}
+use Rattle.meaning.specs.Graph.{Value, const, input, instr, output, bool, undef, held, Instr, SelectionKind, bool-cond, Edge, ControlInst}
+use Rattle.meaning.specs.Graph.{unreachable, return, exit-invocation, branch, select-branch, Graph, region, no-value}
 use Rattle.format.specs.References.{return-types}
 
 -- The values that region r may use once k of its instructions are done.

@@ -7,7 +7,8 @@ use native.Mathlib.Omega.{arith}
 use lib.ListN.{length, getD, length-append}
 use lib.Dec.{eqb, ltb}
 use borrow.Author.Tests.{eqb-true, ltb-true}
-use Rattle.meaning.specs.Graph.{Value, const, input, instr, output, bool, undef, held, Instr, SelectionKind, bool-cond, number, Edge, ControlInst, unreachable, return, exit-invocation, branch, select-branch, Graph, region, edges-of, no-value}
+use Rattle.meaning.specs.Graph.{Value, const, input, instr, output, bool, undef, held, Instr, SelectionKind, bool-cond, number, Edge}
+use Rattle.meaning.specs.Graph.{ControlInst, unreachable, return, exit-invocation, branch, select-branch, Graph, region, edges-of, no-value}
 use Rattle.meaning.specs.Lists.{is-in, All}
 use Rattle.meaning.specs.facts.Tests.{clash, and-both, picked-positive}
 use Rattle.format.specs.References.{type-in, instructions, instr-type, behind-all, return-types}
@@ -17,7 +18,8 @@ use Rattle.nesting.specs.Nesting.{reachable}
 use Rattle.meaning.specs.facts.Members.{first, rest, first-or-rest}
 use Rattle.follows.specs.Reaches.{Reaches, entry, target}
 use Rattle.follows.specs.counting.Reach.{reachable-sound}
-use Rattle.follows.specs.simulation.Usable.{UsableIn, AllUsable, BlockUsable, BlocksUsable, after-blocks, arity, EndUsable, EndsUsable, EdgeUsable, EdgesUsable, TerminatorUsable, UsableGraph}
+use Rattle.follows.specs.simulation.Usable.{UsableIn, AllUsable, BlockUsable, BlocksUsable, after-blocks, arity, EndUsable}
+use Rattle.follows.specs.simulation.Usable.{EndsUsable, EdgeUsable, EdgesUsable, TerminatorUsable, UsableGraph}
 use Rattle.meaning.specs.facts.Elements.{getD-within}
 
 total-counts : (k : ℕ) (bs : List (List Instr)) → after-blocks k bs ≡ k + length (instructions bs)
@@ -32,7 +34,8 @@ module _ (g : Graph) (r : ℕ) where
   named k (undef t) h = tt
   named k no-value h = absurd (omega arith)
   named k (input q i) h =
-      let p = picked-positive (eqb q r) (getD (region g r .inputs) i 0) h in (eqb-true q r (p .0), getD-within (region g r .inputs) i (p .1))
+      let p = picked-positive (eqb q r) (getD (region g r .inputs) i 0) h in
+      (eqb-true q r (p .0), getD-within (region g r .inputs) i (p .1))
   named k (instr q i) h =
       let p = and-both (eqb q r) (ltb i k) (picked-positive (eqb q r && ltb i k) (instr-type (region g r) i) h .0) in
       (eqb-true q r (p .0), ltb-true i k (p .1))
@@ -74,7 +77,8 @@ module _ (g : Graph) (r : ℕ) where
   passed (t ∷ ts) (v ∷ vs) (h, _, hs) = let p = passed ts vs hs in ((end-usable v h, p .0), ap suc (p .1))
 
   edge-usable : (e : Edge) → ValidEdge g r e → EdgeUsable g r e
-  edge-usable e h = let p = passed (region g (e .target) .inputs) (e .inputs) (h .inputs) in record { inputs = p .0; target = h .target; many = p .1 }
+  edge-usable e h = let p = passed (region g (e .target) .inputs) (e .inputs) (h .inputs) in
+      record { inputs = p .0; target = h .target; many = p .1 }
 
   edges-usable : (es : List Edge) → All (ValidEdge g r) es → EdgesUsable g r es
   edges-usable [] h = tt
@@ -111,7 +115,8 @@ edges-of-usable g r (exit-invocation op vs) h = tt
 edges-of-usable g r (branch e) h = (h, tt)
 edges-of-usable g r (select-branch kind v es) h = h .edges
 
-target-region : (g : Graph) (r x : ℕ) (es : List Edge) → EdgesUsable g r es → is-in x (map (λ e. e .target) es) ≡ true → x < length (g .regions)
+target-region : (g : Graph) (r x : ℕ) (es : List Edge) → EdgesUsable g r es → is-in x (map (λ e. e .target) es) ≡ true
+    → x < length (g .regions)
 target-region g r x [] h i = absurd (clash (cc))
 target-region g r x (e ∷ es) (h, hs) i =
     elim (first-or-rest x (e .target) (map (λ e. e .target) es) i) [ first q ↦ rw q (h .target) | rest k ↦ target-region g r x es hs k ]
@@ -119,7 +124,8 @@ target-region g r x (e ∷ es) (h, hs) i =
 reaches-region : (g : Graph) → UsableGraph g → (x : ℕ) → Reaches g x → x < length (g .regions)
 reaches-region g u x entry = u .entry
 reaches-region g u x (target {r = r} y h i) =
-    target-region g r y (edges-of (region g r .terminator)) (edges-of-usable g r (region g r .terminator) (u .terminator r (reaches-region g u r h))) i
+    target-region g r y (edges-of (region g r .terminator))
+    (edges-of-usable g r (region g r .terminator) (u .terminator r (reaches-region g u r h))) i
 
 pub reachable-region : (g : Graph) → UsableGraph g → (x : ℕ) → is-in x (reachable g) ≡ true → x < length (g .regions)
 reachable-region g u x i = reaches-region g u x (reachable-sound g x i)

@@ -33,7 +33,8 @@ decode-code no-value = refl
 
 pub same-value→eq : (v w : Value) → same-value v w ≡ true → v ≡ w
 same-value→eq v w h =
-    let x = and-both (eqb (code-of v .kind) (code-of w .kind)) (eqb (code-of v .region) (code-of w .region) && eqb (code-of v .index) (code-of w .index)) h in
+    let x = and-both (eqb (code-of v .kind) (code-of w .kind))
+    (eqb (code-of v .region) (code-of w .region) && eqb (code-of v .index) (code-of w .index)) h in
     let y = and-both (eqb (code-of v .region) (code-of w .region)) (eqb (code-of v .index) (code-of w .index)) (x .1) in
     let a : code-of v .kind ≡ code-of w .kind = eqb-true (code-of v .kind) (code-of w .kind) (x .0) in
     let b : code-of v .region ≡ code-of w .region = eqb-true (code-of v .region) (code-of w .region) (y .0) in

@@ -19,7 +19,8 @@ use Rattle.meaning.specs.facts.Tests.{clash}
 use Rattle.format.specs.laws.WellRead.{step}
 use Rattle.nesting.specs.Nesting.{Outcome, untouched, whole, closed, leftover, Nested, structurize-func}
 use Rattle.nesting.specs.Sheet.{figure, Sheet, sheet-of, sheet-words, sheet-for, words-fit, answer}
-use Rattle.follows.specs.Statements.{HasForm, is-whole, is-closed, SoundSheet, Sound, Refusal, by-store, by-limit, by-lent, by-figure, Refused}
+use Rattle.follows.specs.Statements.{HasForm, is-whole, is-closed, SoundSheet, Sound, Refusal, by-store, by-limit, by-lent, by-figure}
+use Rattle.follows.specs.Statements.{Refused}
 use Rattle.follows.specs.simulation.Follows.{follows}
 use Rattle.follows.specs.cost.Bounded.{bounded}
 use Rattle.follows.specs.counting.Attempts.{attempts, refused-nine}
@@ -41,7 +42,8 @@ attempts-shown g n = go (n .outcome) refl
     go closed e = rw e
     go leftover e = rw e
 
-figure-shown : (g : Graph) (n : Nested) (outs : Option (List Value)) → HasForm n outs → sheet-of g n .figure ≡ figure (g .test-cost) (n .entry .children)
+figure-shown : (g : Graph) (n : Nested) (outs : Option (List Value)) → HasForm n outs
+    → sheet-of g n .figure ≡ figure (g .test-cost) (n .entry .children)
 unfolding sheet-of
 figure-shown g n outs (is-whole e) = rw e
 figure-shown g n outs (is-closed e) = rw e
@@ -88,7 +90,8 @@ sound-sheet store s y =
       named = nested-named (y .graph) valid (y .nest) (y .nests);
       follows = follows (y .graph) valid (y .nest) (y .nests);
       bounded = λ outs f x b e p q.
-          let same-figure : s .figure ≡ figure (y .graph .test-cost) (y .nest .entry .children) = ap (λ t. t .figure) (y .shows) ∙ figure-shown (y .graph) (y .nest) outs f in
+          let same-figure : s .figure ≡ figure (y .graph .test-cost) (y .nest .entry .children) =
+          ap (λ t. t .figure) (y .shows) ∙ figure-shown (y .graph) (y .nest) outs f in
           rw same-figure (bounded (y .graph) x (y .nest .entry .children) outs b e p q);
       attempts = rw same-attempts (attempts (y .graph) valid (y .nest) (y .nests));
     }
@@ -98,7 +101,8 @@ pub sound : Sound
 sound store lent s h = sound-sheet store s (shown-answer store lent s h)
 
 -- ---- the refusals of each part
-unless : (b : Bool) (k : ℕ) (s : Sheet) → Refusal k 0 → IfRefused {A = Sheet} Refusal (elim b as (λ b. Answer Sheet) [ true ↦ accepted s | false ↦ refused k 0 ])
+unless : (b : Bool) (k : ℕ) (s : Sheet) → Refusal k 0 → IfRefused {A = Sheet} Refusal
+    (elim b as (λ b. Answer Sheet) [ true ↦ accepted s | false ↦ refused k 0 ])
 unless true k s h = tt
 unless false k s h = h
 

@@ -7,16 +7,20 @@ use native.Mathlib.Omega.{arith}
 use lib.ListN.{length, getD}
 use lib.Dec.{eqb}
 use borrow.Author.Tests.{ltb-true, eqb-true, eqb-false, ne-eqb}
-use Rattle.meaning.specs.Graph.{Value, Instr, SelectionKind, bool-cond, number, Edge, ControlInst, unreachable, return, exit-invocation, branch, select-branch, Region, Graph, nowhere, edges-of}
+use Rattle.meaning.specs.Graph.{Value, Instr, SelectionKind, bool-cond, number, Edge, ControlInst, unreachable, return, exit-invocation}
+use Rattle.meaning.specs.Graph.{branch, select-branch, Region, Graph, nowhere, edges-of}
 use Rattle.meaning.specs.Graph as graph
 use Rattle.format.specs.Store.{Answer, accepted, store-words}
 use Rattle.meaning.specs.Lists.{is-in, Distinct, All, Within}
 use Rattle.format.specs.Read.{read-record}
-use Rattle.format.specs.References.{instructions, type-in, refuse-unless, first-refusal, named-right, of-type, reads-right, types-right, passed-right, test-right, values-right, target-right, edge-right, first-edges, exits-right, region-right, regions-right, references, behind-all, return-types, is-region}
+use Rattle.format.specs.References.{instructions, type-in, refuse-unless, first-refusal, named-right, of-type, reads-right}
+use Rattle.format.specs.References.{types-right, passed-right, test-right, values-right, target-right, edge-right, first-edges}
+use Rattle.format.specs.References.{exits-right, region-right, regions-right, references, behind-all, return-types, is-region}
 use Rattle.format.specs.Accept.{accept}
 use Rattle.format.specs.Valid.{Usable, Passed, ValidInstrs, ValidEdge, TestRight, ValidEnd, ValidRegion, Valid}
 use Rattle.meaning.specs.facts.Tests.{clash, not-true, neither}
-use Rattle.format.specs.laws.WellRead.{SamePasses, InstrRead, BlockRead, EndRead, TargetsRead, RegionRead, RecordRead, record-read, step}
+use Rattle.format.specs.laws.WellRead.{SamePasses, InstrRead, BlockRead, EndRead, TargetsRead, RegionRead, RecordRead, record-read}
+use Rattle.format.specs.laws.WellRead.{step}
 use Rattle.meaning.specs.facts.Elements.{all-map, all-append}
 
 -- the instructions of blocks that were read
@@ -69,7 +73,8 @@ module _ (g : Graph) (r : ℕ) where
   instrs-valid k [] w h = tt
   instrs-valid k (i ∷ is) w h =
       let a = step (first-refusal (named-right g r k) (i .reads)) _ tt h in
-      let reads = all-map (λ v. named-right g r k v ≡ accepted tt) (Usable g r k) (named-usable k) (i .reads) (each-all (named-right g r k) (i .reads) (a .first)) in
+      let reads = all-map (λ v. named-right g r k v ≡ accepted tt) (Usable g r k) (named-usable k) (i .reads)
+      (each-all (named-right g r k) (i .reads) (a .first)) in
       (record { type = w .0 .type; few = w .0 .few; reads = reads }, instrs-valid (suc k) is (w .1) (a .second))
 
   -- What holds of the first edge to each target holds of every edge, where all edges to a target pass the same.
@@ -80,38 +85,49 @@ module _ (g : Graph) (r : ℕ) where
     abbrev Edges : List Edge → Type 0
     Edges es = All (λ (e : Edge). e .inputs ≡ passed (e .target)) es
 
-    seen-then : (seen : List ℕ) → ((t : ℕ) → is-in t seen ≡ true → Right t) → (u : ℕ) → Right u → (t : ℕ) → is-in t (u ∷ seen) ≡ true → Right t
+    seen-then : (seen : List ℕ) → ((t : ℕ) → is-in t seen ≡ true → Right t) → (u : ℕ) → Right u → (t : ℕ) → is-in t (u ∷ seen) ≡ true
+        → Right t
     seen-then seen old u new t q = over (eqb t u) refl q
       where
         over : (b : Bool) → eqb t u ≡ b → (b || is-in t seen) ≡ true → Right t
         over true e q = rw (eqb-true t u e) new
         over false e q = old t q
 
-    edges-right : (seen : List ℕ) (es : List Edge) → ((t : ℕ) → is-in t seen ≡ true → Right t) → Edges es → first-refusal (edge-right g r) (first-edges seen es) ≡ accepted tt → All (λ (e : Edge). Right (e .target)) es
+    edges-right : (seen : List ℕ) (es : List Edge) → ((t : ℕ) → is-in t seen ≡ true → Right t) → Edges es
+        → first-refusal (edge-right g r) (first-edges seen es) ≡ accepted tt → All (λ (e : Edge). Right (e .target)) es
     unfolding first-edges first-refusal edge-right
     edges-right seen [] old same h = tt
     edges-right seen (e ∷ es) old same h =
         over (is-in (e .target) seen) refl (λ q. edges-right seen es old (same .1) q)
         (λ new q. edges-right (e .target ∷ seen) es (seen-then seen old (e .target) new) (same .1) q) h
       where
-        over : (b : Bool) → is-in (e .target) seen ≡ b → (first-refusal (edge-right g r) (first-edges seen es) ≡ accepted tt → All (λ (d : Edge). Right (d .target)) es) → (Right (e .target) → first-refusal (edge-right g r) (first-edges (e .target ∷ seen) es) ≡ accepted tt → All (λ (d : Edge). Right (d .target)) es) → first-refusal (edge-right g r) (elim b [ true ↦ first-edges seen es | false ↦ e ∷ first-edges (e .target ∷ seen) es ]) ≡ accepted tt → Right (e .target) × All (λ (d : Edge). Right (d .target)) es
+        over : (b : Bool) → is-in (e .target) seen ≡ b
+            → (first-refusal (edge-right g r) (first-edges seen es) ≡ accepted tt → All (λ (d : Edge). Right (d .target)) es)
+            → (Right (e .target) → first-refusal (edge-right g r) (first-edges (e .target ∷ seen) es) ≡ accepted tt
+            → All (λ (d : Edge). Right (d .target)) es) → first-refusal (edge-right g r)
+            (elim b [ true ↦ first-edges seen es | false ↦ e ∷ first-edges (e .target ∷ seen) es ]) ≡ accepted tt
+            → Right (e .target) × All (λ (d : Edge). Right (d .target)) es
         over true q rest rest-new h = (old (e .target) q, rest h)
         over false q rest rest-new h =
             let a = step (edge-right g r e) _ tt h in
             let new : Right (e .target) = rw (sym (same .0)) (passed-valid (graph.region g (e .target) .inputs) (e .inputs) (a .first)) in
             (new, rest-new new (a .second))
 
-  targets-right : (es : List Edge) → first-refusal (target-right g r) es ≡ accepted tt → All (λ (e : Edge). e .target < length (g .regions)) es
+  targets-right : (es : List Edge) → first-refusal (target-right g r) es ≡ accepted tt
+      → All (λ (e : Edge). e .target < length (g .regions)) es
   unfolding target-right
   targets-right es h =
       all-map (λ (e : Edge). target-right g r e ≡ accepted tt) (λ (e : Edge). e .target < length (g .regions))
       (λ e q. ltb-true (e .target) (length (g .regions)) (expected 6 r (is-region g (e .target)) q)) es (each-all (target-right g r) es h)
 
-  edges-valid : (es : List Edge) → SamePasses es → first-refusal (target-right g r) es ≡ accepted tt → first-refusal (edge-right g r) (first-edges [] es) ≡ accepted tt → All (ValidEdge g r) es
+  edges-valid : (es : List Edge) → SamePasses es → first-refusal (target-right g r) es ≡ accepted tt
+      → first-refusal (edge-right g r) (first-edges [] es) ≡ accepted tt → All (ValidEdge g r) es
   edges-valid es same h k =
       both es (same .all) (targets-right es h) (edges-right (same .passed) [] es (λ t q. absurd (clash (cc))) (same .all) k)
     where
-      both : (ds : List Edge) → All (λ (e : Edge). e .inputs ≡ same .passed (e .target)) ds → All (λ (e : Edge). e .target < length (g .regions)) ds → All (λ (e : Edge). Passed g r (graph.region g (e .target) .inputs) (same .passed (e .target))) ds → All (ValidEdge g r) ds
+      both : (ds : List Edge) → All (λ (e : Edge). e .inputs ≡ same .passed (e .target)) ds
+          → All (λ (e : Edge). e .target < length (g .regions)) ds
+          → All (λ (e : Edge). Passed g r (graph.region g (e .target) .inputs) (same .passed (e .target))) ds → All (ValidEdge g r) ds
       both [] s t p = tt
       both (d ∷ ds) s t p = (record { target = t .0; inputs = rw (s .0) (p .0) }, both ds (s .1) (t .1) (p .1))
 
@@ -123,12 +139,16 @@ module _ (g : Graph) (r : ℕ) where
   single : (e : Edge) → SamePasses (e ∷ [])
   single e = record { passed = λ t. e .inputs; all = (refl, tt) }
 
-  end-valid : (x : ControlInst) → EndRead x → values-right g r x ≡ accepted tt → first-refusal (target-right g r) (edges-of x) ≡ accepted tt → first-refusal (edge-right g r) (first-edges [] (edges-of x)) ≡ accepted tt → ValidEnd g r x
+  end-valid : (x : ControlInst) → EndRead x → values-right g r x ≡ accepted tt → first-refusal (target-right g r) (edges-of x) ≡ accepted tt
+      → first-refusal (edge-right g r) (first-edges [] (edges-of x)) ≡ accepted tt → ValidEnd g r x
   unfolding values-right
   end-valid unreachable w v t p = tt
   end-valid (return vs) w v t p = (w, passed-valid (return-types g) vs v)
-  end-valid (exit-invocation op vs) w v t p =
-      (w, all-map (λ x. named-right g r (behind-all g r) x ≡ accepted tt) (Usable g r (behind-all g r)) (named-usable (behind-all g r)) vs (each-all (named-right g r (behind-all g r)) vs v))
+  end-valid (exit-invocation op vs) w v t p = (
+    w,
+    all-map (λ x. named-right g r (behind-all g r) x ≡ accepted tt) (Usable g r (behind-all g r)) (named-usable (behind-all g r)) vs
+        (each-all (named-right g r (behind-all g r)) vs v),
+  )
   end-valid (branch e) w v t p = edges-valid (e ∷ []) (single e) t p .0
   end-valid (select-branch k x es) w v t p =
       let a = step (named-right g r (behind-all g r) x) _ tt v in
@@ -182,7 +202,8 @@ module _ (g : Graph) (r : ℕ) where
         exits-distinct = exits .distinct;
       }
 
-regions-valid : (g : Graph) (r : ℕ) (xs : List Region) → All RegionRead xs → regions-right g r xs ≡ accepted tt → (k : ℕ) → k < length xs → ValidRegion g (r + k) (getD xs k nowhere)
+regions-valid : (g : Graph) (r : ℕ) (xs : List Region) → All RegionRead xs → regions-right g r xs ≡ accepted tt → (k : ℕ) → k < length xs
+    → ValidRegion g (r + k) (getD xs k nowhere)
 unfolding regions-right
 regions-valid g r [] w h k l = absurd (omega arith)
 regions-valid g r (x ∷ xs) w h zero l =

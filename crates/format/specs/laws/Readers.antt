@@ -28,7 +28,8 @@ got-place h = cc
 
 module _ {A : Type 0} (p : Reader A) (ws : List ℕ) where
   -- One step of a loop: the rest is read from the next place.
-  pub many-step : (n at : ℕ) {e : ℕ} → forget-value (p ws at) ≡ got tt e → forget-value (many (suc n) p ws at) ≡ forget-value (many n p ws e)
+  pub many-step : (n at : ℕ) {e : ℕ} → forget-value (p ws at) ≡ got tt e
+      → forget-value (many (suc n) p ws at) ≡ forget-value (many n p ws e)
   unfolding many
   many-step n at {e} h = by-first (p ws at) h
     where
@@ -36,7 +37,8 @@ module _ {A : Type 0} (p : Reader A) (ws : List ℕ) where
       by-rest x (got xs i) = refl
       by-rest x (bad k) = refl
 
-      by-first : (r : Read A) → forget-value r ≡ got tt e → forget-value (read-then r λ x i. read-then (many n p ws i) λ xs j. got (x ∷ xs) j) ≡ forget-value (many n p ws e)
+      by-first : (r : Read A) → forget-value r ≡ got tt e → forget-value
+          (read-then r λ x i. read-then (many n p ws i) λ xs j. got (x ∷ xs) j) ≡ forget-value (many n p ws e)
       by-first (got x i) q = let same : i ≡ e = cc in rw same (by-rest x (many n p ws e))
       by-first (bad k) q = cc
 
@@ -44,7 +46,8 @@ module _ {A : Type 0} (p : Reader A) (ws : List ℕ) where
   unfolding many
   many-stop n at {k} h = by-first (p ws at) h
     where
-      by-first : (r : Read A) → forget-value r ≡ bad k → forget-value (read-then r λ x i. read-then (many n p ws i) λ xs j. got (x ∷ xs) j) ≡ bad k
+      by-first : (r : Read A) → forget-value r ≡ bad k → forget-value (read-then r λ x i. read-then (many n p ws i) λ xs j. got (x ∷ xs) j)
+          ≡ bad k
       by-first (got x i) q = cc
       by-first (bad m) q = cc
 
@@ -74,7 +77,8 @@ module _ {A : Type 0} (p : Reader A) (ws : List ℕ) where
       sym ends ∙ many-end n (a .place) (b .first) ∙ ap (λ i. after n p ws i) (sym there) ∙ sym (after-front n at)
 
   -- Item k is read where the k before it end.
-  pub many-at : (n at : ℕ) {e : ℕ} {xs : List A} (d : A) → many n p ws at ≡ got xs e → (k : ℕ) → k < n → p ws (after k p ws at) ≡ got (getD xs k d) (after (suc k) p ws at)
+  pub many-at : (n at : ℕ) {e : ℕ} {xs : List A} (d : A) → many n p ws at ≡ got xs e → (k : ℕ) → k < n
+      → p ws (after k p ws at) ≡ got (getD xs k d) (after (suc k) p ws at)
   unfolding many after getD
   many-at zero at d h k l = absurd (omega arith)
   many-at (suc n) at {e} {xs} d h zero l =
@@ -89,7 +93,8 @@ module _ {A : Type 0} (p : Reader A) (ws : List ℕ) where
       let same : xs ≡ a .value ∷ b .value = cc in
       let there : next (p ws at) ≡ a .place = ap next (a .first) in
       let here : after (suc k) p ws at ≡ after k p ws (a .place) = after-front k at ∙ ap (λ i. after k p ws i) there in
-      let then : after (suc (suc k)) p ws at ≡ after (suc k) p ws (a .place) = after-front (suc k) at ∙ ap (λ i. after (suc k) p ws i) there in
+      let then : after (suc (suc k)) p ws at ≡ after (suc k) p ws (a .place) =
+      after-front (suc k) at ∙ ap (λ i. after (suc k) p ws i) there in
       let item : getD xs (suc k) d ≡ getD (b .value) k d = ap (λ l. getD l (suc k) d) same in
       let rest = many-at n (a .place) d (b .first) k (omega arith) in
       ap (λ i. p ws i) here ∙ rest ∙ ap (λ x. got x (after (suc k) p ws (a .place))) (sym item) ∙ ap (got (getD xs (suc k) d)) (sym then)

@@ -5,14 +5,17 @@ use Prim.Native.Nat.{ℕ, zero, suc, _+_, _≤_}
 use native.Mathlib.Omega.{arith}
 use lib.ListN.{length, getD}
 use lib.Dec.{eqb, leb, ltb}
-use Rattle.format.specs.Read.{Read, got, bad, Reader, read-then, expect, word, within, many, counted, type, is-kind, index-right, read-value, instruction, block, opcode-for, fewest-values, most-values, fewest-targets, most-targets, terminator, read-region, head}
+use Rattle.format.specs.Read.{Read, got, bad, Reader, read-then, expect, word, within, many, counted, type, is-kind, index-right}
+use Rattle.format.specs.Read.{read-value, instruction, block, opcode-for, fewest-values, most-values, fewest-targets, most-targets}
+use Rattle.format.specs.Read.{terminator, read-region, head}
 use Rattle.meaning.specs.Lists.{distinct-from}
 
 abbrev pub StopsReading : {A : Type 0} → Read A → Type 0
 StopsReading (got a at) = Unit
 StopsReading (bad n) = (4 ≤ n) × (n ≤ 5)
 
-follow-stops : {A B : Type 0} (r : Read A) (k : A → ℕ → Read B) → StopsReading r → ((a : A) (at : ℕ) → StopsReading (k a at)) → StopsReading (read-then r k)
+follow-stops : {A B : Type 0} (r : Read A) (k : A → ℕ → Read B) → StopsReading r → ((a : A) (at : ℕ) → StopsReading (k a at))
+    → StopsReading (read-then r k)
 follow-stops (got a at) k h more = more a at
 follow-stops (bad n) k h more = h
 
@@ -31,14 +34,17 @@ module _ (ws : List ℕ) where
 
   within-stops : (low high at : ℕ) → StopsReading (within low high ws at)
   unfolding within
-  within-stops low high at = follow-stops (word ws at) _ (word-stops at) λ n i. follow-stops (expect (leb low n && leb n high) ws i) _ (expect-stops (leb low n && leb n high) i) λ u j. tt
+  within-stops low high at =
+      follow-stops (word ws at) _ (word-stops at) λ n i. follow-stops (expect (leb low n && leb n high) ws i) _
+      (expect-stops (leb low n && leb n high) i) λ u j. tt
 
   many-stops : {A : Type 0} (p : Reader A) → ((at : ℕ) → StopsReading (p ws at)) → (n at : ℕ) → StopsReading (many n p ws at)
   unfolding many
   many-stops p h zero at = tt
   many-stops p h (suc n) at = follow-stops (p ws at) _ (h at) λ x i. follow-stops (many n p ws i) _ (many-stops p h n i) λ xs j. tt
 
-  counted-stops : {A : Type 0} (low high : ℕ) (p : Reader A) → ((at : ℕ) → StopsReading (p ws at)) → (at : ℕ) → StopsReading (counted low high p ws at)
+  counted-stops : {A : Type 0} (low high : ℕ) (p : Reader A) → ((at : ℕ) → StopsReading (p ws at)) → (at : ℕ)
+      → StopsReading (counted low high p ws at)
   unfolding counted
   counted-stops low high p h at = follow-stops (within low high ws at) _ (within-stops low high at) λ n i. many-stops p h n i
 
@@ -78,7 +84,8 @@ module _ (ws : List ℕ) where
       follow-stops (opcode-for k ws i) _ (opcode-stops k i) λ op j.
       follow-stops (counted (fewest-values k) (most-values k) read-value ws j) _ (counted-stops _ _ read-value value-stops j) λ vs l.
       follow-stops (counted (fewest-targets k) (most-targets k) word ws l) _ (counted-stops _ _ word word-stops l) λ ts m.
-      follow-stops (many (length (distinct-from [] ts)) (counted 0 4 read-value) ws m) _ (many-stops (counted 0 4 read-value) (counted-stops 0 4 read-value value-stops) (length (distinct-from [] ts)) m) λ passes o. tt
+      follow-stops (many (length (distinct-from [] ts)) (counted 0 4 read-value) ws m) _
+      (many-stops (counted 0 4 read-value) (counted-stops 0 4 read-value value-stops) (length (distinct-from [] ts)) m) λ passes o. tt
 
   type-stops : (at : ℕ) → StopsReading (type ws at)
   unfolding type

@@ -7,12 +7,16 @@ use native.Mathlib.Omega.{arith}
 use lib.ListN.{length}
 use lib.Dec.{eqb, leb, ltb}
 use borrow.Author.Tests.{leb-true}
-use Rattle.meaning.specs.Graph.{Value, Instr, SelectionKind, bool-cond, number, Edge, ControlInst, unreachable, return, exit-invocation, branch, select-branch, edges-of, Region, Graph}
+use Rattle.meaning.specs.Graph.{Value, Instr, SelectionKind, bool-cond, number, Edge, ControlInst, unreachable, return, exit-invocation}
+use Rattle.meaning.specs.Graph.{branch, select-branch, edges-of, Region, Graph}
 use Rattle.meaning.specs.Graph as graph
-use Rattle.format.specs.Store.{Answer, accepted, refused, if-accepted, blocks-checked, number-right, check-right, length-right, count-right, word-at, store-words}
+use Rattle.format.specs.Store.{Answer, accepted, refused, if-accepted, blocks-checked, number-right, check-right, length-right}
+use Rattle.format.specs.Store.{count-right, word-at, store-words}
 use Rattle.format.specs.Read.{Read, got, bad, read-region, settle, regions-from, head, read-record}
 use Rattle.meaning.specs.Lists.{pick, is-in, tabulate, Within}
-use Rattle.format.specs.References.{refuse-unless, first-refusal, type-in, instructions, behind-all, return-types, is-region, named-right, of-type, reads-right, types-right, passed-right, test-right, values-right, target-right, edge-right, first-edges, exits-right, region-right, regions-right, references}
+use Rattle.format.specs.References.{refuse-unless, first-refusal, type-in, instructions, behind-all, return-types, is-region}
+use Rattle.format.specs.References.{named-right, of-type, reads-right, types-right, passed-right, test-right, values-right}
+use Rattle.format.specs.References.{target-right, edge-right, first-edges, exits-right, region-right, regions-right, references}
 use Rattle.format.specs.Accept.{accept}
 use Rattle.format.specs.laws.WellRead.{head-read, record-read}
 use Rattle.format.specs.laws.ReadingStops.{StopsReading, region-stops, head-stops}
@@ -34,10 +38,12 @@ Ranges n w = Within 1 8 n × (w < 32)
 abbrev pub InRange : {A : Type 0} → Answer A → Type 0
 InRange r = IfRefused Ranges r
 
-then-range : {A B : Type 0} (r : Answer A) (k : A → Answer B) → InRange r → ((a : A) → r ≡ accepted a → InRange (k a)) → InRange (if-accepted r k)
+then-range : {A B : Type 0} (r : Answer A) (k : A → Answer B) → InRange r → ((a : A) → r ≡ accepted a → InRange (k a))
+    → InRange (if-accepted r k)
 then-range r k h more = then-refused Ranges r k h more
 
-settle-range : {A B : Type 0} (r : ℕ) (x : Read A) (k : A → ℕ → Answer B) → r < 32 → StopsReading x → ((a : A) (at : ℕ) → x ≡ got a at → InRange (k a at)) → InRange (settle r x k)
+settle-range : {A B : Type 0} (r : ℕ) (x : Read A) (k : A → ℕ → Answer B) → r < 32 → StopsReading x
+    → ((a : A) (at : ℕ) → x ≡ got a at → InRange (k a at)) → InRange (settle r x k)
 settle-range r (got a at) k l h more = more a at refl
 settle-range r (bad n) k l h more = ((omega arith, omega arith), by-test (eqb n 5))
   where
@@ -49,9 +55,11 @@ settle-range r (bad n) k l h more = ((omega arith, omega arith), by-test (eqb n 
 blocks-range : (s : List ℕ) (n : ℕ) → n ≤ 32 → InRange (blocks-checked s n)
 unfolding blocks-checked
 blocks-range s zero l = tt
-blocks-range s (suc n) l = then-range (blocks-checked s n) _ (blocks-range s n (omega arith)) λ u e. by-tests (number-right s n) (check-right s n)
+blocks-range s (suc n) l =
+    then-range (blocks-checked s n) _ (blocks-range s n (omega arith)) λ u e. by-tests (number-right s n) (check-right s n)
   where
-    by-tests : (a b : Bool) → InRange {A = Unit} (elim a [ false ↦ refused 2 n | true ↦ elim b [ false ↦ refused 3 n | true ↦ accepted tt ] ])
+    by-tests : (a b : Bool) → InRange {A = Unit}
+        (elim a [ false ↦ refused 2 n | true ↦ elim b [ false ↦ refused 3 n | true ↦ accepted tt ] ])
     by-tests true true = tt
     by-tests true false = ((omega arith, omega arith), omega arith)
     by-tests false b = ((omega arith, omega arith), omega arith)
@@ -64,10 +72,19 @@ store-range s = by-length (length-right (length s)) refl
     by-count true = tt
     by-count false = ((omega arith, omega arith), omega arith)
 
-    by-length : (b : Bool) → length-right (length s) ≡ b → InRange {A = List ℕ} (elim b [ false ↦ refused 1 0 | true ↦ if-accepted (blocks-checked s (length s / 512)) λ _. elim (count-right s (length s / 512) (word-at s 0)) [ false ↦ refused 4 0 | true ↦ accepted (tabulate (word-at s 0) (word-at s)) ] ])
+    by-length : (b : Bool) → length-right (length s) ≡ b → InRange {A = List ℕ}
+        (elim b [
+          | false ↦ refused 1 0
+          | true ↦ if-accepted (blocks-checked s (length s / 512)) λ _. elim
+              (count-right s (length s / 512) (word-at s 0)) [ false ↦ refused 4 0 | true ↦ accepted (tabulate (word-at s 0) (word-at s)) ]
+        ])
     by-length true q =
-        let few : length s ≤ 8192 = leb-true (length s) 8192 (and-both (leb (length s) 8192) (eqb (length s % 512) 0) (and-both (ltb 0 (length s)) (leb (length s) 8192 && eqb (length s % 512) 0) q .1) .0) in
-        then-range (blocks-checked s (length s / 512)) _ (blocks-range s (length s / 512) (omega arith)) λ u e. by-count (count-right s (length s / 512) (word-at s 0))
+        let few : length s ≤ 8192 =
+        leb-true (length s) 8192
+        (and-both (leb (length s) 8192) (eqb (length s % 512) 0)
+        (and-both (ltb 0 (length s)) (leb (length s) 8192 && eqb (length s % 512) 0) q .1) .0) in
+        then-range (blocks-checked s (length s / 512)) _ (blocks-range s (length s / 512) (omega arith)) λ u e. by-count
+        (count-right s (length s / 512) (word-at s 0))
     by-length false q = ((omega arith, omega arith), omega arith)
 
 -- Reading.
@@ -86,7 +103,8 @@ record-range : (ws : List ℕ) → InRange (read-record ws)
 unfolding read-record
 record-range ws =
     settle-range 0 (head ws 1) _ (omega arith) (head-stops ws 1) λ h at e.
-    then-range (regions-from (h .count) 0 ws at) _ (regions-range (h .count) 0 ws at (omega (arith, head-read ws 1 h at e .0 .1))) λ rs e. tt
+    then-range (regions-from (h .count) 0 ws at) _
+    (regions-range (h .count) 0 ws at (omega (arith, head-read ws 1 h at e .0 .1))) λ rs e. tt
 
 -- The references.
 expect-range : (n r : ℕ) (b : Bool) → Within 1 8 n → r < 32 → InRange (refuse-unless n r b)
@@ -110,19 +128,23 @@ module _ (g : Graph) (r : ℕ) (l : r < 32) where
   reads-range : (k : ℕ) (is : List Instr) → InRange (reads-right g r k is)
   unfolding reads-right
   reads-range k [] = tt
-  reads-range k (i ∷ is) = then-range (first-refusal (named-right g r k) (i .reads)) _ (each-range (named-right g r k) (named-range k) (i .reads)) λ u e. reads-range (suc k) is
+  reads-range k (i ∷ is) =
+      then-range (first-refusal (named-right g r k) (i .reads)) _
+      (each-range (named-right g r k) (named-range k) (i .reads)) λ u e. reads-range (suc k) is
 
   types-range : (ts : List ℕ) (vs : List Value) → InRange (types-right g r ts vs)
   unfolding types-right
   types-range [] vs = tt
   types-range (t ∷ ts) [] = tt
   types-range (t ∷ ts) (v ∷ vs) =
-      then-range (named-right g r (behind-all g r) v) _ (named-range (behind-all g r) v) λ u e. then-range (of-type g r t v) _ (type-range t v) λ w f. types-range ts vs
+      then-range (named-right g r (behind-all g r) v) _ (named-range (behind-all g r) v) λ u e. then-range (of-type g r t v) _
+      (type-range t v) λ w f. types-range ts vs
 
   passed-range : (ts : List ℕ) (vs : List Value) → InRange (passed-right g r ts vs)
   unfolding passed-right
   passed-range ts vs =
-      then-range (refuse-unless 7 r (eqb (length vs) (length ts))) _ (expect-range 7 r (eqb (length vs) (length ts)) (omega arith, omega arith) l) λ u e. types-range ts vs
+      then-range (refuse-unless 7 r (eqb (length vs) (length ts))) _
+      (expect-range 7 r (eqb (length vs) (length ts)) (omega arith, omega arith) l) λ u e. types-range ts vs
 
   test-range : (k : SelectionKind) (v : Value) → InRange (test-right g r k v)
   unfolding test-right
@@ -135,7 +157,8 @@ module _ (g : Graph) (r : ℕ) (l : r < 32) where
   values-range (return vs) = passed-range (return-types g) vs
   values-range (exit-invocation op vs) = each-range (named-right g r (behind-all g r)) (named-range (behind-all g r)) vs
   values-range (branch e) = tt
-  values-range (select-branch k v es) = then-range (named-right g r (behind-all g r) v) _ (named-range (behind-all g r) v) λ u e. test-range k v
+  values-range (select-branch k v es) =
+      then-range (named-right g r (behind-all g r) v) _ (named-range (behind-all g r) v) λ u e. test-range k v
 
   target-range : (e : Edge) → InRange (target-right g r e)
   unfolding target-right
@@ -158,8 +181,10 @@ module _ (g : Graph) (r : ℕ) (l : r < 32) where
   region-range x =
       then-range (reads-right g r 0 (instructions (x .blocks))) _ (reads-range 0 (instructions (x .blocks))) λ a e.
       then-range (values-right g r (x .terminator)) _ (values-range (x .terminator)) λ b f.
-      then-range (first-refusal (target-right g r) (edges-of (x .terminator))) _ (each-range (target-right g r) target-range (edges-of (x .terminator))) λ c h.
-      then-range (first-refusal (edge-right g r) (first-edges [] (edges-of (x .terminator)))) _ (each-range (edge-right g r) edge-range (first-edges [] (edges-of (x .terminator)))) λ d i.
+      then-range (first-refusal (target-right g r) (edges-of (x .terminator))) _
+      (each-range (target-right g r) target-range (edges-of (x .terminator))) λ c h.
+      then-range (first-refusal (edge-right g r) (first-edges [] (edges-of (x .terminator)))) _
+      (each-range (edge-right g r) edge-range (first-edges [] (edges-of (x .terminator)))) λ d i.
       exits-range [] (x .exits)
 
 each-region-range : (g : Graph) (r : ℕ) (xs : List Region) → r + length xs ≤ 32 → InRange (regions-right g r xs)
@@ -171,7 +196,8 @@ each-region-range g r (x ∷ xs) l =
 references-range : (g : Graph) → length (g .regions) ≤ 32 → InRange (references g)
 unfolding references
 references-range g l =
-    then-range (refuse-unless 6 0 (is-region g (g .entry))) _ (expect-range 6 0 (is-region g (g .entry)) (omega arith, omega arith) (omega arith)) λ u e.
+    then-range (refuse-unless 6 0 (is-region g (g .entry))) _
+    (expect-range 6 0 (is-region g (g .entry)) (omega arith, omega arith) (omega arith)) λ u e.
     each-region-range g 0 (g .regions) (omega arith)
 
 pub refusal-range : (s : List ℕ) → InRange (accept s)

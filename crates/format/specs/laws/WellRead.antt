@@ -7,9 +7,12 @@ use native.Mathlib.Omega.{arith}
 use lib.ListN.{length, getD}
 use lib.Dec.{eqb, leb}
 use borrow.Author.Tests.{leb-true}
-use Rattle.meaning.specs.Graph.{Value, Instr, SelectionKind, bool-cond, number, Edge, ControlInst, unreachable, return, exit-invocation, branch, select-branch, Region, Graph}
+use Rattle.meaning.specs.Graph.{Value, Instr, SelectionKind, bool-cond, number, Edge, ControlInst, unreachable, return, exit-invocation}
+use Rattle.meaning.specs.Graph.{branch, select-branch, Region, Graph}
 use Rattle.format.specs.Store.{Answer, accepted, refused, if-accepted}
-use Rattle.format.specs.Read.{Read, got, bad, Reader, read-then, expect, many, counted, within, word, type, read-value, instruction, block, terminator, read-region, opcode-for, fewest-values, most-values, fewest-targets, most-targets, edges-passed, control-inst, settle, regions-from, head, Head, read-record}
+use Rattle.format.specs.Read.{Read, got, bad, Reader, read-then, expect, many, counted, within, word, type, read-value, instruction}
+use Rattle.format.specs.Read.{block, terminator, read-region, opcode-for, fewest-values, most-values, fewest-targets, most-targets}
+use Rattle.format.specs.Read.{edges-passed, control-inst, settle, regions-from, head, Head, read-record}
 use Rattle.meaning.specs.facts.Tests.{clash, and-both}
 use Rattle.format.specs.laws.Readers.{part, got-value, many-length}
 use Rattle.meaning.specs.Lists.{All, Within, distinct-from, rank}
@@ -34,7 +37,8 @@ within-bounds low high ws at {n} {e} h =
         (leb-true low m (both .0), leb-true m high (both .1))
 
 -- What each item has, all have.
-pub many-all : {A : Type 0} (p : Reader A) (P : A → Type 0) (ws : List ℕ) → ((at : ℕ) (x : A) (e : ℕ) → p ws at ≡ got x e → P x) → (n at : ℕ) {e : ℕ} {xs : List A} → many n p ws at ≡ got xs e → All P xs
+pub many-all : {A : Type 0} (p : Reader A) (P : A → Type 0) (ws : List ℕ) → ((at : ℕ) (x : A) (e : ℕ) → p ws at ≡ got x e → P x)
+    → (n at : ℕ) {e : ℕ} {xs : List A} → many n p ws at ≡ got xs e → All P xs
 unfolding many
 many-all p P ws each zero at {xs = xs} h = let same : xs ≡ [] = cc in rw same tt
 many-all p P ws each (suc n) at {e} {xs} h =
@@ -47,7 +51,8 @@ pub record CountWithin {A : Type 0} (low high : ℕ) (P : A → Type 0) (xs : Li
   pub count : Within low high (length xs)
   pub all : All P xs
 
-pub counted-all : {A : Type 0} (p : Reader A) (P : A → Type 0) (ws : List ℕ) → ((at : ℕ) (x : A) (e : ℕ) → p ws at ≡ got x e → P x) → (low high at : ℕ) {e : ℕ} {xs : List A} → counted low high p ws at ≡ got xs e → CountWithin low high P xs
+pub counted-all : {A : Type 0} (p : Reader A) (P : A → Type 0) (ws : List ℕ) → ((at : ℕ) (x : A) (e : ℕ) → p ws at ≡ got x e → P x)
+    → (low high at : ℕ) {e : ℕ} {xs : List A} → counted low high p ws at ≡ got xs e → CountWithin low high P xs
 unfolding counted
 counted-all p P ws each low high at {e} {xs} h =
     let a = part (within low high ws at) (λ n i. many n p ws i) xs e h in
@@ -125,7 +130,8 @@ EndRead (branch e) = Unit
 EndRead (select-branch k v es) = TargetsRead k es × SamePasses es
 
 -- The counts of values and targets that go with a kind bound those of its terminator.
-end-read : (k op : ℕ) (vs : List Value) (es : List Edge) → k ≤ 5 → length vs ≤ most-values k → Within (fewest-targets k) (most-targets k) (length es) → SamePasses es → EndRead (control-inst k op vs es)
+end-read : (k op : ℕ) (vs : List Value) (es : List Edge) → k ≤ 5 → length vs ≤ most-values k
+    → Within (fewest-targets k) (most-targets k) (length es) → SamePasses es → EndRead (control-inst k op vs es)
 end-read zero op vs es h v t s = tt
 end-read (suc zero) op vs es h v t s = v
 end-read (suc (suc zero)) op vs es h v t s = v
@@ -147,7 +153,8 @@ terminator-read ws at x e h =
     let targets = counted-all word Any ws (λ j y k q. tt) (fewest-targets (a .value)) (most-targets (a .value)) (c .place) (d .first) in
     let long : length (edges-passed (d .value) (f .value)) ≡ length (d .value) = edges-length (d .value) (f .value) in
     rw is
-    (end-read (a .value) (b .value) (c .value) (edges-passed (d .value) (f .value)) (within-bounds 0 5 ws at (a .first) .1) (values .count .1) (rw long (targets .count))
+    (end-read (a .value) (b .value) (c .value) (edges-passed (d .value) (f .value)) (within-bounds 0 5 ws at (a .first) .1)
+    (values .count .1) (rw long (targets .count))
     (same-passes (d .value) (f .value)))
 
 pub record RegionRead (x : Region) : Type 0 where
@@ -222,7 +229,8 @@ pub record RecordRead (g : Graph) : Type 0 where
   pub constants : CountWithin 0 64 (Within 1 255) (g .constants)
   pub regions : All RegionRead (g .regions)
 
-pub head-read : (ws : List ℕ) (at : ℕ) (h : Head) (e : ℕ) → head ws at ≡ got h e → Within 1 32 (h .count) × CountWithin 0 64 (Within 1 255) (h .constants)
+pub head-read : (ws : List ℕ) (at : ℕ) (h : Head) (e : ℕ) → head ws at ≡ got h e
+    → Within 1 32 (h .count) × CountWithin 0 64 (Within 1 255) (h .constants)
 unfolding head
 head-read ws at x e h =
     let a = part (within 1 32 ws at) _ x e h in
@@ -239,5 +247,6 @@ record-read ws g h =
     let b = step (regions-from (a .value .count) 0 ws (a .place)) _ g (a .second) in
     let top = head-read ws 1 (a .value) (a .place) (a .first) in
     let rest = regions-read (a .value .count) 0 ws (a .place) (b .value) (b .first) in
-    let is : g ≡ record { entry = a .value .entry; test-cost = a .value .test-cost; constants = a .value .constants; regions = b .value } = cc in
+    let is : g ≡ record { entry = a .value .entry; test-cost = a .value .test-cost; constants = a .value .constants; regions = b .value } =
+    cc in
     rw is (record { count = rw (rest .count) (top .0); constants = top .1; regions = rest .all })

@@ -3,7 +3,8 @@ use mathlib.Core.Bool.{true, false}
 use mathlib.Core.List.{List, [], _∷_, _++_, map}
 use Prim.Native.Nat.{ℕ, zero, suc, _+_, _*_, _/_, _%_}
 use lib.ListN.{length, drop}
-use Rattle.meaning.specs.Graph.{Value, Code, code-of, Instr, bool-cond, number, Edge, ControlInst, unreachable, return, exit-invocation, branch, select-branch, Region, Graph, edges-of}
+use Rattle.meaning.specs.Graph.{Value, Code, code-of, Instr, bool-cond, number, Edge, ControlInst, unreachable, return, exit-invocation}
+use Rattle.meaning.specs.Graph.{branch, select-branch, Region, Graph, edges-of}
 use Rattle.meaning.specs.Lists.{is-in, concat}
 
 -- ---- the record's words

@@ -10,7 +10,8 @@ use lib.ListN.{drop-of-length-le, length, getD, take, drop, length-append, lengt
 use lib.Seq.{getD-drop, getD-take, getD-append-add, take-all, take-suc, ext-getD, length-take-le}
 use lib.Dec.{eqb, ltb}
 use borrow.Author.Tests.{eqb-true}
-use Rattle.format.specs.Store.{Answer, accepted, refused, if-accepted, pair, weighted, number-right, blocks-checked, word-at, all-zero, length-right, count-right, store-words}
+use Rattle.format.specs.Store.{Answer, accepted, refused, if-accepted, pair, weighted, number-right, blocks-checked, word-at}
+use Rattle.format.specs.Store.{all-zero, length-right, count-right, store-words}
 use Rattle.format.specs.Read.{read-record}
 use Rattle.format.specs.References.{references}
 use Rattle.format.specs.Accept.{accept}
@@ -54,7 +55,11 @@ length-all-words : (n : ℕ) (s : List ℕ) → length (all-words n s) ≡ 253 *
 unfolding all-words
 length-all-words zero s = refl
 length-all-words (suc n) s =
-    rw (length-append (front-words 253 (drop 2 s)) (all-words n (drop 512 s)), length-front-words 253 (drop 2 s), length-all-words n (drop 512 s)) (omega arith)
+    rw (
+      length-append (front-words 253 (drop 2 s)) (all-words n (drop 512 s)),
+      length-front-words 253 (drop 2 s),
+      length-all-words n (drop 512 s),
+    ) (omega arith)
 
 pair-drop : (n : ℕ) (s : List ℕ) (at : ℕ) → pair (drop n s) at ≡ pair s (n + at)
 pair-drop n s at = rw (getD-drop n s at 0, getD-drop n s (at + 1) 0, ← add-assoc n at 1)
@@ -141,7 +146,12 @@ all-zero-walk s n w zero h = refl
 all-zero-walk s n w (suc k) h =
     let l : k < length (drop w (all-words n s)) = simp length-drop (omega (arith, length-all-words n s)) in
     let e : getD (drop w (all-words n s)) k 0 ≡ word-at s (w + k) = getD-drop w (all-words n s) k 0 ∙ all-word n s (w + k) (omega arith) in
-    rw (take-suc (drop w (all-words n s)) k 0 l, only-zeros-snoc (take k (drop w (all-words n s))) (getD (drop w (all-words n s)) k 0), e, all-zero-walk s n w k (omega arith))
+    rw (
+      take-suc (drop w (all-words n s)) k 0 l,
+      only-zeros-snoc (take k (drop w (all-words n s))) (getD (drop w (all-words n s)) k 0),
+      e,
+      all-zero-walk s n w k (omega arith),
+    )
 
 rest-zero : (s : List ℕ) (n w : ℕ) → all-zero s w (253 * n - w) ≡ only-zeros (drop w (all-words n s))
 unfolding all-zero only-zeros
@@ -188,7 +198,8 @@ abbrev definition : List ℕ → Bool → Answer (List ℕ)
 definition s right =
     elim right [
       | false ↦ refused 1 0
-      | true ↦ if-accepted (blocks-checked s (length s / 512)) λ _. words-if (count-right s (length s / 512) (word-at s 0)) (tabulate (word-at s 0) (word-at s))
+      | true ↦ if-accepted (blocks-checked s (length s / 512)) λ _. words-if (count-right s (length s / 512) (word-at s 0))
+          (tabulate (word-at s 0) (word-at s))
     ]
 
 abbrev walk : List ℕ → Bool → Answer (List ℕ)
@@ -201,7 +212,8 @@ walk s right =
 same-answer : (s : List ℕ) (b : Bool) → definition s b ≡ walk s b
 same-answer s false = refl
 same-answer s true =
-    ap (λ a. if-accepted a λ _. words-if (count-right s (length s / 512) (word-at s 0)) (tabulate (word-at s 0) (word-at s))) (same-blocks s (length s / 512) (omega arith))
+    ap (λ a. if-accepted a λ _. words-if (count-right s (length s / 512) (word-at s 0)) (tabulate (word-at s 0) (word-at s)))
+    (same-blocks s (length s / 512) (omega arith))
     ∙ ap (λ a. if-accepted (quick-blocks s (length s / 512)) λ _. a) (same-count s (length s / 512) (word-at s 0))
 
 pub same-store-words : (s : List ℕ) → store-words s ≡ quick-store-words s

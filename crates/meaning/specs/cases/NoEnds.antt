@@ -4,7 +4,8 @@ use mathlib.Core.Bool.{true, false}
 use mathlib.Core.List.{[], _∷_}
 use mathlib.Core.Option.{none, some}
 use Rattle.meaning.specs.Graph.{Value, bool, undef, bool-cond, unreachable, Graph}
-use Rattle.meaning.specs.Runs.{Nodes, ⟨⟩, _▸_, loop, select, ∅, Given, returned, entry-words, put-inputs, turns-used-up, tested-mark, ran-off, no-case, turns, run-nodes, ends-as, without-end, nested-run}
+use Rattle.meaning.specs.Runs.{Nodes, ⟨⟩, _▸_, loop, select, ∅, Given, returned, entry-words, put-inputs, turns-used-up, tested-mark}
+use Rattle.meaning.specs.Runs.{ran-off, no-case, turns, run-nodes, ends-as, without-end, nested-run}
 
 abbrev g : Graph
 g = record {

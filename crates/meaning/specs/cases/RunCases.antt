@@ -6,7 +6,8 @@ use Prim.Native.String.{String}
 use Rattle.meaning.specs.Runs.{Given}
 use Rattle.meaning.specs.Text.{Text, ascii}
 use Rattle.meaning.specs.cases.RunText.{given, graph-says, form-says}
-use Rattle.meaning.specs.cases.RunForms.{Formed, reads-all, by-number, by-word, leaves, swaps, ends-by-exit, until-exit, goes-on, mark-tested, mark-tested-closed, mark-repeated, merges, two-loops, counts, entered-twice}
+use Rattle.meaning.specs.cases.RunForms.{Formed, reads-all, by-number, by-word, leaves, swaps, ends-by-exit, until-exit, goes-on}
+use Rattle.meaning.specs.cases.RunForms.{mark-tested, mark-tested-closed, mark-repeated, merges, two-loops, counts, entered-twice}
 
 -- Within so many regions and turns.
 pub record RunCase : Type 0 where

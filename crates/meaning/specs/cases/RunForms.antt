@@ -3,7 +3,8 @@ use mathlib.Core.Bool.{true, false}
 use mathlib.Core.List.{List, [], _∷_}
 use mathlib.Core.Option.{Option, none, some}
 use Prim.Native.Nat.{ℕ}
-use Rattle.meaning.specs.Graph.{Value, const, input, instr, output, bool, undef, Instr, SelectionKind, bool-cond, number, Graph, Region, Edge, ControlInst, unreachable, return, exit-invocation, branch, select-branch}
+use Rattle.meaning.specs.Graph.{Value, const, input, instr, output, bool, undef, Instr, SelectionKind, bool-cond, number, Graph}
+use Rattle.meaning.specs.Graph.{Region, Edge, ControlInst, unreachable, return, exit-invocation, branch, select-branch}
 use Rattle.meaning.specs.Runs.{OutputDecl, Node, block, select, loop, exit, Nodes, ⟨⟩, _▸_, Cases, ∅, case}
 
 -- ---- in few words

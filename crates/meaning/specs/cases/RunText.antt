@@ -7,7 +7,9 @@ use Prim.Native.Nat.{ℕ, suc, _+_, _*_}
 use lib.ListN.{length, getD}
 use Rattle.meaning.specs.Graph.{Value, Graph}
 use Rattle.meaning.specs.Lists.{bit}
-use Rattle.meaning.specs.Runs.{Word, word, mark, Event, End, returned, exited, Rule, Given, Nodes, Ended, graph-run, run-from, entry-words, put-inputs, put, do-blocks, do-block, do-instr, NestedRun, ends-as, without-end, nested-run, run-nodes, turns, put-outputs}
+use Rattle.meaning.specs.Runs.{Word, word, mark, Event, End, returned, exited, Rule, Given, Nodes, Ended, graph-run, run-from}
+use Rattle.meaning.specs.Runs.{entry-words, put-inputs, put, do-blocks, do-block, do-instr, NestedRun, ends-as, without-end}
+use Rattle.meaning.specs.Runs.{nested-run, run-nodes, turns, put-outputs}
 use Rattle.meaning.specs.Text.{Text, ascii, decimal, joined, listed}
 
 -- ---- the rule

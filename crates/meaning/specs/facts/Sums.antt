@@ -40,7 +40,8 @@ module _ (f h : ℕ → ℕ) (r : ℕ) (else : (i : ℕ) → (i ≡ r → ⊥) �
   unchanged [] i = refl
   unchanged (x ∷ l) i = go (eqb r x) refl i (λ j. unchanged l j)
     where
-      go : (b : Bool) → eqb r x ≡ b → (b || is-in r l) ≡ false → (is-in r l ≡ false → total h l ≡ total f l) → h x + total h l ≡ f x + total f l
+      go : (b : Bool) → eqb r x ≡ b → (b || is-in r l) ≡ false → (is-in r l ≡ false → total h l ≡ total f l)
+          → h x + total h l ≡ f x + total f l
       go true e j ih = absurd (clash (cc))
       go false e j ih = let a = else x (λ p. eqb-false r x e (omega arith)) in let b = ih j in omega arith
 
@@ -48,6 +49,7 @@ module _ (f h : ℕ → ℕ) (r : ℕ) (else : (i : ℕ) → (i ≡ r → ⊥) �
   total-change [] u i = absurd (clash (cc))
   total-change (x ∷ l) (n, u) i = go (eqb r x) refl i (λ j. total-change l u j)
     where
-      go : (b : Bool) → eqb r x ≡ b → (b || is-in r l) ≡ true → (is-in r l ≡ true → total h l + f r ≡ total f l + h r) → (h x + total h l) + f r ≡ (f x + total f l) + h r
+      go : (b : Bool) → eqb r x ≡ b → (b || is-in r l) ≡ true → (is-in r l ≡ true → total h l + f r ≡ total f l + h r)
+          → (h x + total h l) + f r ≡ (f x + total f l) + h r
       go true e j ih = let p = eqb-true r x e in let z = unchanged l (rw p n) in rw p (omega arith)
       go false e j ih = let a = else x (λ p. eqb-false r x e (omega arith)) in let b = ih j in omega arith

@@ -8,7 +8,8 @@ use lib.ListN.{length, getD, length-map, List·getD-map}
 use lib.Dec.{eqb, leb}
 use borrow.Author.Tests.{eq-eqb, ne-eqb}
 use Rattle.meaning.specs.Graph.{Value, input, undef}
-use Rattle.meaning.specs.Runs.{LoopNode, Word, word, Env, Rule, RunState, put, put-inputs, Ran, through, note-over, pay, assign-inputs, leave-loop, turns}
+use Rattle.meaning.specs.Runs.{LoopNode, Word, word, Env, Rule, RunState, put, put-inputs, Ran, through, note-over, pay}
+use Rattle.meaning.specs.Runs.{assign-inputs, leave-loop, turns}
 
 put-earlier : (r k i : ℕ) (ws : List Word) (σ : Env) → k < i → put-inputs (λ k. input r k) i ws σ (input r k) ≡ σ (input r k)
 unfolding put-inputs put

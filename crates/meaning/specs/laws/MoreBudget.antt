@@ -6,7 +6,11 @@ use Prim.Native.Nat.{ℕ, zero, suc, _+_, _≤_}
 use native.Mathlib.Omega.{arith}
 use native.Mathlib.Nat.{le-of-suc-le-suc, not-suc-le-zero}
 use Rattle.meaning.specs.Graph.{Value, Edge, ControlInst, unreachable, return, exit-invocation, branch, select-branch, Graph, region}
-use Rattle.meaning.specs.Runs.{OutputDecl, LoopNode, Node, block, select, loop, exit, Nodes, ⟨⟩, _▸_, Cases, ∅, case, Word, word, mark, Env, Event, Rule, Given, RunState, base-env, entry-words, place-taken, Ended, GoesOn, edge-taken, along, by-terminator, run-from, graph-run, Ran, through, ended, no-end, turns-used-up, NestedEnded, NestedRun, ends-as, without-end, and-then, tested, once-more, pay, case-count, turns, run-node, run-nodes, run-case, after-last, start, nested-run}
+use Rattle.meaning.specs.Runs.{OutputDecl, LoopNode, Node, block, select, loop, exit, Nodes, ⟨⟩, _▸_, Cases, ∅, case, Word, word}
+use Rattle.meaning.specs.Runs.{mark, Env, Event, Rule, Given, RunState, base-env, entry-words, place-taken, Ended, GoesOn, edge-taken}
+use Rattle.meaning.specs.Runs.{along, by-terminator, run-from, graph-run, Ran, through, ended, no-end, turns-used-up, NestedEnded}
+use Rattle.meaning.specs.Runs.{NestedRun, ends-as, without-end, and-then, tested, once-more, pay, case-count, turns, run-node}
+use Rattle.meaning.specs.Runs.{run-nodes, run-case, after-last, start, nested-run}
 use Rattle.meaning.specs.facts.Tests.{clash}
 
 -- The first came to nothing (to `gone`), or the second is the same.

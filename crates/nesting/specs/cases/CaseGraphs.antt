@@ -2,7 +2,8 @@
 use mathlib.Core.Bool.{true}
 use mathlib.Core.List.{List, [], _∷_}
 use Prim.Native.Nat.{ℕ, zero, suc}
-use Rattle.meaning.specs.Graph.{Value, const, input, instr, bool, Instr, bool-cond, number, Edge, ControlInst, return, exit-invocation, branch, select-branch, Region, Graph}
+use Rattle.meaning.specs.Graph.{Value, const, input, instr, bool, Instr, bool-cond, number, Edge, ControlInst, return, exit-invocation}
+use Rattle.meaning.specs.Graph.{branch, select-branch, Region, Graph}
 
 -- opcode, type, cost; no reads
 abbrev pub op : ℕ → ℕ → ℕ → Instr

@@ -12,7 +12,8 @@ use Rattle.format.specs.Store.{Answer, accepted, refused}
 use Rattle.format.specs.Read.{read-record}
 use Rattle.format.specs.References.{references}
 use Rattle.format.specs.Accept.{accept}
-use Rattle.nesting.specs.Nesting.{RewriteEntry, done, turned-away, ClaimedRegion, incoming-edge-counts, try-claim-edge-bundle, initial-state}
+use Rattle.nesting.specs.Nesting.{RewriteEntry, done, turned-away, ClaimedRegion, incoming-edge-counts, try-claim-edge-bundle}
+use Rattle.nesting.specs.Nesting.{initial-state}
 use Rattle.nesting.specs.Nesting
 use Rattle.meaning.specs.Text.{Text, ascii}
 use Rattle.nesting.specs.cases.Computes.{nesting-computes}
@@ -20,7 +21,8 @@ use Rattle.format.specs.stores.Pack.{store-of-graph}
 use Rattle.nesting.specs.Sheet.{printed}
 use Rattle.format.specs.stores.Quick.{quick-store-words, accept-words, same-accept}
 use Rattle.nesting.specs.cases.QuickPrint.{quick-printed, prints}
-use Rattle.nesting.specs.cases.CaseGraphs.{A, B, one-region, to, both-the-same, many-targets, regions, no-loop, one-goes-on, loop-in-loop, two-exits, renumbered, crossing, dear}
+use Rattle.nesting.specs.cases.CaseGraphs.{A, B, one-region, to, both-the-same, many-targets, regions, no-loop, one-goes-on}
+use Rattle.nesting.specs.cases.CaseGraphs.{loop-in-loop, two-exits, renumbered, crossing, dear}
 use Rattle.meaning.specs.facts.Tests.{and-both}
 use Rattle.meaning.specs.Lists.{pick}
 use Rattle.meaning.specs.facts.Elements.{same-numbers, numbers-same}
@@ -233,7 +235,8 @@ same-shown s = rw (prints s (quick-printed s) refl, same-accept s)
 
 -- ---- the test that is computed: one bit
 abbrev pub right : Case → Bool
-right c = same-numbers (quick-shown (c .store) .prints) (c .shows .prints) && same-numbers (quick-shown (c .store) .wrappers) (c .shows .wrappers)
+right c = same-numbers (quick-shown (c .store) .prints) (c .shows .prints)
+    && same-numbers (quick-shown (c .store) .wrappers) (c .shows .wrappers)
 
 unfoldable pub all-right : List Case → Bool
 all-right [] = true

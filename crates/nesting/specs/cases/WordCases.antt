@@ -62,7 +62,8 @@ A-piece =
     ) (code 3 3 0 ∷ [])
 
 pub A-form
-    : decode-form A-sheet ≡ some (record { outcome = whole; figure = 11; attempts = 8; twice = false; pieces = A-piece ▹▹ no-region; deferred = [] })
+    : decode-form A-sheet ≡ some
+    (record { outcome = whole; figure = 11; attempts = 8; twice = false; pieces = A-piece ▹▹ no-region; deferred = [] })
 unfolding decode-form
 A-form = refl
 

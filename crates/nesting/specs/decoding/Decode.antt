@@ -6,7 +6,8 @@ use lib.ListN.{length}
 use Rattle.meaning.specs.Graph.{Code, SelectionKind, bool-cond, number}
 use Rattle.nesting.specs.Nesting.{Outcome, untouched, whole, closed, leftover}
 use Rattle.nesting.specs.Sheet.{sheet-text}
-use Rattle.nesting.specs.decoding.Lines.{Line, region-line, block-line, select-line, loop-line, exit-line, defer-line, TypedSheet, written}
+use Rattle.nesting.specs.decoding.Lines.{Line, region-line, block-line, select-line, loop-line, exit-line, defer-line, TypedSheet}
+use Rattle.nesting.specs.decoding.Lines.{written}
 use Rattle.meaning.specs.Text.{Text}
 use Rattle.nesting.specs.ShownForm.{Item, Condition, t-cond, f-cond, u-cond, m-cond, Conditions, no-part, part}
 

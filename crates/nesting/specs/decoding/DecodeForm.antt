@@ -5,7 +5,8 @@ use Prim.Native.Nat.{ℕ}
 use lib.Dec.{eqb}
 use Rattle.nesting.specs.decoding.Lines.{Line, region-line, block-line, select-line, loop-line, exit-line, defer-line, TypedSheet}
 use Rattle.nesting.specs.decoding.Decode.{Decoded, decoded, nothing, next-word, decode-times, decode-lines, decode-sheet}
-use Rattle.nesting.specs.ShownForm.{ShownNode, block-shown, select-shown, loop-shown, exit-shown, ShownNodes, no-node, _▹_, ShownRegion, region-shown, ShownRegions, no-region, _▹▹_, ShownForm, ShownEdge}
+use Rattle.nesting.specs.ShownForm.{ShownNode, block-shown, select-shown, loop-shown, exit-shown, ShownNodes, no-node, _▹_}
+use Rattle.nesting.specs.ShownForm.{ShownRegion, region-shown, ShownRegions, no-region, _▹▹_, ShownForm, ShownEdge}
 use Rattle.meaning.specs.Lists.{pick}
 
 abbrev pub shown-number : ShownNode → ℕ

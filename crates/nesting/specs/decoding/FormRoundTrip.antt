@@ -8,11 +8,14 @@ use Rattle.meaning.specs.Graph.{Graph}
 use Rattle.meaning.specs.Runs.{Node, block, select, loop, exit, Nodes, ⟨⟩, _▸_, Cases, ∅, case}
 use Rattle.nesting.specs.Nesting.{DeferredEdgeBundle, Outcome, untouched, whole, closed, leftover, Piece, Nested}
 use Rattle.nesting.specs.Sheet.{kids, case-numbers, ascending, sheet-of, sheet-words}
-use Rattle.nesting.specs.decoding.Lines.{Line, typed-node, typed-nodes, typed-cases, typed-pieces, typed-edge, typed-deferred, typed-lines, typed-sheet}
+use Rattle.nesting.specs.decoding.Lines.{Line, typed-node, typed-nodes, typed-cases, typed-pieces, typed-edge, typed-deferred}
+use Rattle.nesting.specs.decoding.Lines.{typed-lines, typed-sheet}
 use Rattle.nesting.specs.decoding.LinesWritten.{sheet-written}
 use Rattle.nesting.specs.decoding.RoundTrip.{round-trip}
-use Rattle.nesting.specs.ShownForm.{ShownNodes, no-node, _▹_, ShownRegions, no-region, _▹▹_, ShownForm, shown-node, shown-nodes, shown-cases, shown-pieces, shown-deferred, shown-form, ShownEdge, shown-edge}
-use Rattle.nesting.specs.decoding.DecodeForm.{shown-number, Parts, a-node, a-region, an-edge, with-nodes, with-regions, add-line, decode-parts, with-edges, with-pieces, form-of, form-of-decoded, decode-form}
+use Rattle.nesting.specs.ShownForm.{ShownNodes, no-node, _▹_, ShownRegions, no-region, _▹▹_, ShownForm, shown-node, shown-nodes}
+use Rattle.nesting.specs.ShownForm.{shown-cases, shown-pieces, shown-deferred, shown-form, ShownEdge, shown-edge}
+use Rattle.nesting.specs.decoding.DecodeForm.{shown-number, Parts, a-node, a-region, an-edge, with-nodes, with-regions, add-line}
+use Rattle.nesting.specs.decoding.DecodeForm.{decode-parts, with-edges, with-pieces, form-of, form-of-decoded, decode-form}
 
 -- ---- parts with others in front
 abbrev nodes-on : ShownNodes → Parts → Parts
@@ -73,7 +76,8 @@ module _ (nodes : List ℕ) where
   unfolding shown-pieces decode-parts add-line bind
   pieces-read [] ls ps e = e
   pieces-read (q ∷ qs) ls ps e =
-      rw (append-assoc (typed-nodes nodes (q .children)) (typed-pieces nodes qs) ls, nodes-read (q .children) _ _ (pieces-read qs ls ps e)) (nodes-taken (q .children) _ _)
+      rw (append-assoc (typed-nodes nodes (q .children)) (typed-pieces nodes qs) ls, nodes-read (q .children) _ _ (pieces-read qs ls ps e))
+      (nodes-taken (q .children) _ _)
 
   edges-read : (r : ℕ) (es : List DeferredEdgeBundle) (ls : List Line) (xs : List ShownEdge) → decode-parts ls ≡ some (map an-edge xs)
       → decode-parts (map (typed-edge nodes r) es ++ ls) ≡ some (map an-edge (map (shown-edge nodes r) es ++ xs))
@@ -102,9 +106,11 @@ pieces-taken (b ▹▹ bs) es f = pieces-taken bs es (λ x. f (b ▹▹ x))
 lines-read : (x : Nested)
     → decode-parts (typed-lines x)
     ≡ some (
-    regions-on (shown-pieces (x .output-nodes) (x .entry ∷ x .unclaimed)) (map an-edge (shown-deferred (x .output-nodes) (ascending (x .entry) (x .unclaimed))))
+    regions-on (shown-pieces (x .output-nodes) (x .entry ∷ x .unclaimed))
+    (map an-edge (shown-deferred (x .output-nodes) (ascending (x .entry) (x .unclaimed))))
     )
-lines-read x = pieces-read (x .output-nodes) (x .entry ∷ x .unclaimed) _ _ (deferred-read (x .output-nodes) (ascending (x .entry) (x .unclaimed)))
+lines-read x = pieces-read (x .output-nodes) (x .entry ∷ x .unclaimed) _ _
+    (deferred-read (x .output-nodes) (ascending (x .entry) (x .unclaimed)))
 
 sheet-read : (g : Graph) (x : Nested) → form-of (typed-sheet g x) ≡ some (shown-form g x)
 unfolding shown-form form-of

@@ -10,8 +10,10 @@ use Rattle.meaning.specs.Graph.{Code, output, undef, Graph}
 use Rattle.meaning.specs.Runs.{Node, block, select, loop, exit, Nodes, ⟨⟩, _▸_, Cases, ∅, case}
 use Rattle.meaning.specs.Text.{Text, ascii, decimal}
 use Rattle.nesting.specs.Nesting.{Outcome, DeferredEdgeBundle, untouched, whole, closed, leftover, Piece, Nested}
-use Rattle.nesting.specs.Sheet.{figure, Field, label, number-as, a-number, joint, list, numbers, dotted, kind, kids, case-numbers, ascending, Sheet}
-use Rattle.nesting.specs.ShownForm.{Item, Condition, t-cond, f-cond, u-cond, m-cond, Conditions, no-part, part, ShownSelect, ShownEdge, shown-value, block-items, shown-select, shown-edge}
+use Rattle.nesting.specs.Sheet.{figure, Field, label, number-as, a-number, joint, list, numbers, dotted, kind, kids, case-numbers}
+use Rattle.nesting.specs.Sheet.{ascending, Sheet}
+use Rattle.nesting.specs.ShownForm.{Item, Condition, t-cond, f-cond, u-cond, m-cond, Conditions, no-part, part, ShownSelect}
+use Rattle.nesting.specs.ShownForm.{ShownEdge, shown-value, block-items, shown-select, shown-edge}
 
 pub data Line : Type 0 where
   region-line : ℕ → List ℕ → List ℕ → List Code → Line  -- region, inputs' types, child nodes, output values
@@ -108,7 +110,8 @@ module _ (nodes : List ℕ) where
 
     pub typed-cases : Cases → List Line
     typed-cases ∅ = []
-    typed-cases (case c ks cs) = region-line (c .region) [] (kids ks) (map (shown-value nodes) (c .outputs)) ∷ (typed-nodes ks ++ typed-cases cs)
+    typed-cases (case c ks cs) =
+        region-line (c .region) [] (kids ks) (map (shown-value nodes) (c .outputs)) ∷ (typed-nodes ks ++ typed-cases cs)
 
   abbrev pub typed-pieces : List Piece → List Line
   typed-pieces [] = []

@@ -7,9 +7,13 @@ use Rattle.meaning.specs.Lists.{concat}
 use Rattle.meaning.specs.Graph.{Instr, Value, const, input, instr, output, bool, undef, held, Graph, no-value}
 use Rattle.meaning.specs.Runs.{Node, block, select, loop, exit, Nodes, ⟨⟩, _▸_, Cases, ∅, case}
 use Rattle.meaning.specs.Text.{joined}
-use Rattle.nesting.specs.Nesting.{Outcome, LazyCond, undef-cond, false-cond, true-cond, merge, LazyConds, _&_, DeferredTarget, to-region, to-return, DeferredEdgeBundle, untouched, whole, closed, leftover, Piece, Nested}
-use Rattle.nesting.specs.Sheet.{condition, conditions, target, value, items, node-lines, nodes-lines, case-lines, piece-lines, defer-fields, defer-lines, ascending, lines-of, sheet-of}
-use Rattle.nesting.specs.decoding.Lines.{value-field, item-field, target-field, condition-field, condition-fields, fields, written, typed-node, typed-nodes, typed-cases, typed-pieces, typed-edge, typed-deferred, typed-lines, typed-sheet}
+use Rattle.nesting.specs.Nesting.{Outcome, LazyCond, undef-cond, false-cond, true-cond, merge, LazyConds, _&_, DeferredTarget}
+use Rattle.nesting.specs.Nesting.{to-region, to-return, DeferredEdgeBundle, untouched, whole, closed, leftover, Piece, Nested}
+use Rattle.nesting.specs.Sheet.{condition, conditions, target, value, items, node-lines, nodes-lines, case-lines, piece-lines}
+use Rattle.nesting.specs.Sheet.{defer-fields, defer-lines, ascending, lines-of, sheet-of}
+use Rattle.nesting.specs.decoding.Lines.{value-field, item-field, target-field, condition-field, condition-fields, fields, written}
+use Rattle.nesting.specs.decoding.Lines.{typed-node, typed-nodes, typed-cases, typed-pieces, typed-edge, typed-deferred, typed-lines}
+use Rattle.nesting.specs.decoding.Lines.{typed-sheet}
 use Rattle.nesting.specs.ShownForm.{target-word, shown-cond, shown-conds, block-items, shown-value}
 
 target-written : (t : DeferredTarget) → target-field (target-word t) ≡ target t
@@ -79,7 +83,12 @@ module _ (nodes : List ℕ) where
   pieces-written [] = refl
   pieces-written (p ∷ ps) =
       let ks = p .children in
-      rw (values-written (p .outputs), map-append fields (typed-nodes nodes ks) (typed-pieces nodes ps), nodes-written ks, pieces-written ps)
+      rw (
+        values-written (p .outputs),
+        map-append fields (typed-nodes nodes ks) (typed-pieces nodes ps),
+        nodes-written ks,
+        pieces-written ps,
+      )
 
   edges-written : (r : ℕ) (es : List DeferredEdgeBundle) → map fields (map (typed-edge nodes r) es) ≡ map (defer-fields nodes r) es
   edges-written r [] = refl

@@ -10,9 +10,13 @@ use lib.Dec.{eqb}
 use Rattle.meaning.specs.Graph.{Graph, Code, SelectionKind, bool-cond, number}
 use Rattle.nesting.specs.Nesting.{Outcome, untouched, whole, closed, leftover, Nested}
 use Rattle.nesting.specs.Sheet.{Field, sheet-of, sheet-words, sheet-text, outcome, figure-field, a-number, number-as}
-use Rattle.nesting.specs.decoding.Lines.{Line, region-line, block-line, select-line, loop-line, exit-line, defer-line, TypedSheet, value-field, values-field, item-field, target-field, condition-field, condition-fields, fields, words-of, lines-words, written, typed-sheet}
+use Rattle.nesting.specs.decoding.Lines.{Line, region-line, block-line, select-line, loop-line, exit-line, defer-line, TypedSheet}
+use Rattle.nesting.specs.decoding.Lines.{value-field, values-field, item-field, target-field, condition-field, condition-fields}
+use Rattle.nesting.specs.decoding.Lines.{fields, words-of, lines-words, written, typed-sheet}
 use Rattle.nesting.specs.decoding.LinesWritten.{sheet-written}
-use Rattle.nesting.specs.decoding.Decode.{Decoded, decoded, WordReader, next-word, _>>=_, decode-as, decode-number, decode-times, decode-value, decode-item, parts, decode-condition, decode-any-condition, decode-line, decode-lines, outcome-of-word, flag-of, decode-sheet, text-of-got, words-text}
+use Rattle.nesting.specs.decoding.Decode.{Decoded, decoded, WordReader, next-word, _>>=_, decode-as, decode-number, decode-times}
+use Rattle.nesting.specs.decoding.Decode.{decode-value, decode-item, parts, decode-condition, decode-any-condition, decode-line}
+use Rattle.nesting.specs.decoding.Decode.{decode-lines, outcome-of-word, flag-of, decode-sheet, text-of-got, words-text}
 use Rattle.meaning.specs.Lists.{pick, bit}
 use Rattle.nesting.specs.ShownForm.{Item, Condition, t-cond, f-cond, u-cond, m-cond, Conditions, no-part, part, ShownSelect}
 
@@ -92,7 +96,8 @@ parts-again (part c cs) = ap (part c) (parts-again cs)
 mutual
   unfolding depth condition-field decode-condition decode-times next-word
 
-  condition-read : (c : Condition) (d : ℕ) → depth c ≤ d → (rest : List ℕ) → decode-condition d (condition-field c .words ++ rest) ≡ decoded c rest
+  condition-read : (c : Condition) (d : ℕ) → depth c ≤ d → (rest : List ℕ)
+      → decode-condition d (condition-field c .words ++ rest) ≡ decoded c rest
   condition-read t-cond zero h rest = absurd (not-suc-le-zero h)
   condition-read t-cond (suc d) h rest = refl
   condition-read f-cond zero h rest = absurd (not-suc-le-zero h)
@@ -104,10 +109,12 @@ mutual
       then-decoded _ _ _ _ (parts-read cs d (le-of-suc-le-suc h) rest) ∙ ap (λ x. decoded (m-cond n x) rest) (parts-again cs)
 
   parts-read : (cs : Conditions) (d : ℕ) → depths cs ≤ d → (rest : List ℕ)
-      → decode-times (decode-condition d) (length (condition-fields cs)) (words-of (condition-fields cs) ++ rest) ≡ decoded (parts-of cs) rest
+      → decode-times (decode-condition d) (length (condition-fields cs)) (words-of (condition-fields cs) ++ rest)
+      ≡ decoded (parts-of cs) rest
   parts-read no-part d h rest = refl
   parts-read (part c cs) d h rest =
-      ap (decode-times (decode-condition d) (suc (length (condition-fields cs)))) (append-assoc (condition-field c .words) (words-of (condition-fields cs)) rest)
+      ap (decode-times (decode-condition d) (suc (length (condition-fields cs))))
+      (append-assoc (condition-field c .words) (words-of (condition-fields cs)) rest)
       ∙ then-decoded _ _ _ _ (condition-read c d (omega arith) (words-of (condition-fields cs) ++ rest))
       ∙ then-decoded _ _ _ _ (parts-read cs d (omega arith) rest)
 
@@ -135,7 +142,8 @@ select-read n number v rs ts rest = then-decoded _ _ _ _ (numbers-read rs _ rest
 line-read : (l : Line) (rest : List ℕ) → decode-line (words-of (fields l) ++ rest) ≡ decoded l rest
 unfolding next-word
 line-read (region-line r ts ks vs) rest =
-    then-decoded _ _ _ _ (numbers-read ts _ rest) ∙ then-decoded _ _ _ _ (numbers-read ks _ rest) ∙ then-decoded _ _ _ _ (values-read vs [] rest)
+    then-decoded _ _ _ _ (numbers-read ts _ rest) ∙ then-decoded _ _ _ _ (numbers-read ks _ rest)
+    ∙ then-decoded _ _ _ _ (values-read vs [] rest)
 line-read (block-line n is) rest = then-decoded _ _ _ _ (items-read is [] rest)
 line-read (select-line x rs) rest = select-read (x .number) (x .kind) (x .scrutinee) rs (x .output-types) rest
 line-read (loop-line n vs r v) rest = then-decoded _ _ _ _ (values-read vs _ rest)
@@ -150,7 +158,8 @@ line-read (defer-line e) rest =
 
 -- a line has a first word, so the reader of lines takes it
 takes-line : (l : Line) (n : ℕ) (rest : List ℕ)
-    → decode-lines (suc n) (words-of (fields l) ++ rest) ≡ next-word (decode-line (words-of (fields l) ++ rest)) λ x ws. next-word (decode-lines n ws) λ xs. decode-as (x ∷ xs)
+    → decode-lines (suc n) (words-of (fields l) ++ rest) ≡ next-word (decode-line (words-of (fields l) ++ rest)) λ x ws. next-word
+    (decode-lines n ws) λ xs. decode-as (x ∷ xs)
 unfolding decode-lines
 takes-line (region-line r ts ks vs) n rest = refl
 takes-line (block-line b is) n rest = refl

@@ -7,7 +7,9 @@ use lib.ListN.{length, length-append}
 use Rattle.meaning.specs.Graph.{Graph, Code, SelectionKind, bool-cond, number}
 use Rattle.nesting.specs.Nesting.{Outcome, untouched, whole, closed, leftover, Nested}
 use Rattle.nesting.specs.Sheet.{a-number, kind, outcome, figure-field, sheet-of, sheet-words}
-use Rattle.nesting.specs.decoding.Lines.{Line, region-line, block-line, select-line, loop-line, exit-line, defer-line, TypedSheet, value-field, item-field, condition-field, condition-fields, fields, words-of, lines-words, written, typed-sheet}
+use Rattle.nesting.specs.decoding.Lines.{Line, region-line, block-line, select-line, loop-line, exit-line, defer-line, TypedSheet}
+use Rattle.nesting.specs.decoding.Lines.{value-field, item-field, condition-field, condition-fields, fields, words-of, lines-words}
+use Rattle.nesting.specs.decoding.Lines.{written, typed-sheet}
 use Rattle.nesting.specs.decoding.LinesWritten.{sheet-written}
 use Rattle.nesting.specs.decoding.RoundTrip.{target-words}
 use Rattle.nesting.specs.ShownForm.{Item, Condition, t-cond, f-cond, u-cond, m-cond, Conditions, no-part, part}
@@ -88,7 +90,8 @@ lines-long : (ls : List Line) → length (lines-words ls) ≡ lines-length ls
 lines-long [] = refl
 lines-long (l ∷ ls) = omega (arith, line-long l, lines-long ls, length-append (words-of (fields l)) (lines-words ls))
 
-line-1-long : (o : Outcome) (f n t : ℕ) (rest : List ℕ) → length (outcome o .words ++ (figure-field o f .words ++ (n ∷ t ∷ [])) ++ rest) ≡ 4 + length rest
+line-1-long : (o : Outcome) (f n t : ℕ) (rest : List ℕ) → length (outcome o .words ++ (figure-field o f .words ++ (n ∷ t ∷ [])) ++ rest)
+    ≡ 4 + length rest
 line-1-long untouched f n t rest = omega arith
 line-1-long whole f n t rest = omega arith
 line-1-long closed f n t rest = omega arith

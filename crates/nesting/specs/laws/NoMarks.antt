@@ -11,7 +11,12 @@ use Rattle.meaning.specs.Lists.{any}
 use Rattle.meaning.specs.Runs.{Node, Nodes, ⟨⟩, _▸_, block, select, loop, exit, Cases, ∅, case}
 use Rattle.format.specs.Store
 use Rattle.format.specs.Store.{accepted, refused}
-use Rattle.nesting.specs.Nesting.{LazyCond, condition-in, look-up-bundle, outcome-of, incoming-edge-counts, DeferredEdgeBundle, DeferredEdgeBundleSet, Outcome, untouched, whole, closed, leftover, Piece, Nested, NestState, StepAnswer, done, turned-away, NodeOutput, RewriteEntry, unmarked, look-up-last, ClaimedRegion, IncomingEdgeCount, case-outputs, look-up-reads, look-up-node, look-up-nodes, look-up-cases, look-up-piece, unclaimed-from, conclude-with, conclude-by, conclude, initial-state, try-claim-edge-bundle, structurize-func-by, structurize-func}
+use Rattle.nesting.specs.Nesting.{LazyCond, condition-in, look-up-bundle, outcome-of, incoming-edge-counts, DeferredEdgeBundle}
+use Rattle.nesting.specs.Nesting.{DeferredEdgeBundleSet, Outcome, untouched, whole, closed, leftover, Piece, Nested, NestState}
+use Rattle.nesting.specs.Nesting.{StepAnswer, done, turned-away, NodeOutput, RewriteEntry, unmarked, look-up-last, ClaimedRegion}
+use Rattle.nesting.specs.Nesting.{IncomingEdgeCount, case-outputs, look-up-reads, look-up-node, look-up-nodes, look-up-cases}
+use Rattle.nesting.specs.Nesting.{look-up-piece, unclaimed-from, conclude-with, conclude-by, conclude, initial-state}
+use Rattle.nesting.specs.Nesting.{try-claim-edge-bundle, structurize-func-by, structurize-func}
 
 abbrev pub marked : Value → Bool
 marked (held r k) = true

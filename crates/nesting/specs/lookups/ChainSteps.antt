@@ -7,7 +7,8 @@ use Prim.Native.Nat.{ℕ, zero, suc, _+_, _-_, _≤_, _<_}
 use native.Mathlib.Omega.{arith}
 use lib.ListN.{getD}
 use Rattle.meaning.specs.Graph.{Value, const, input, instr, output, bool, undef, held, no-value}
-use Rattle.nesting.specs.Nesting.{InputRewrite, renumber-to, replace-by, RegionInputRewrites, replace-with, renumber-or-replace-with, RewriteEntry, rewrites-of, look-up-input, chain-fuel, look-up-chain, changes-again, look-up}
+use Rattle.nesting.specs.Nesting.{InputRewrite, renumber-to, replace-by, RegionInputRewrites, replace-with, renumber-or-replace-with}
+use Rattle.nesting.specs.Nesting.{RewriteEntry, rewrites-of, look-up-input, chain-fuel, look-up-chain, changes-again, look-up}
 use Rattle.nesting.specs.lookups.Rewriting.{rewrite}
 
 -- ---- a chain step by step
@@ -73,11 +74,13 @@ module _ (es : List RewriteEntry) where
       Before : Type 0
       Before = (v : Value) → look-up-chain fuel es v .value ≡ after-steps fuel es v
 
-      slot : (x : InputRewrite) → Before → look-up-input (λ v. look-up-chain fuel es v) r 0 (some (renumber-or-replace-with (x ∷ []))) .value ≡ after-steps fuel es (step-input (λ v. v) r x)
+      slot : (x : InputRewrite) → Before → look-up-input (λ v. look-up-chain fuel es v) r 0
+          (some (renumber-or-replace-with (x ∷ []))) .value ≡ after-steps fuel es (step-input (λ v. v) r x)
       slot (replace-by v) ih = ih v
       slot (renumber-to i) ih = sym (stops-after fuel (held r i) refl)
 
-      go : (o : Option RegionInputRewrites) → rewrites-of es r ≡ o → Before → look-up-input (λ v. look-up-chain fuel es v) r k o .value ≡ after-steps fuel es (step-chain (λ v. v) r k o)
+      go : (o : Option RegionInputRewrites) → rewrites-of es r ≡ o → Before
+          → look-up-input (λ v. look-up-chain fuel es v) r k o .value ≡ after-steps fuel es (step-chain (λ v. v) r k o)
       go none p ih = sym (stops-after fuel (input r k) (rw p))
       go (some (replace-with vs)) p ih = ih (getD vs k (undef 0))
       go (some (renumber-or-replace-with xs)) p ih = slot (getD xs k (renumber-to k)) ih
@@ -113,7 +116,8 @@ module _ (es : List RewriteEntry) where
   meets-step no-value = known false (λ fuel. refl)
   meets-step (input r k) = go (rewrites-of es r) refl
     where
-      slot : (xs : List InputRewrite) → rewrites-of es r ≡ some (renumber-or-replace-with xs) → (x : InputRewrite) → getD xs k (renumber-to k) ≡ x → MeetsStep (input r k)
+      slot : (xs : List InputRewrite) → rewrites-of es r ≡ some (renumber-or-replace-with xs) → (x : InputRewrite)
+          → getD xs k (renumber-to k) ≡ x → MeetsStep (input r k)
       slot xs p (replace-by v) q = goes-on (λ fuel. rw (p, look-up-input, q))
       slot xs p (renumber-to i) q = known false (λ fuel. rw (p, look-up-input, q))
 
@@ -122,7 +126,9 @@ module _ (es : List RewriteEntry) where
       go (some (replace-with vs)) p = goes-on (λ fuel. rw p)
       go (some (renumber-or-replace-with xs)) p = slot xs p (getD xs k (renumber-to k)) refl
 
-  stopped-meets : (v : Value) → Stops v → ((fuel : ℕ) → look-up-chain (suc fuel) es v .twice ≡ look-up-chain fuel es (next-value es v) .twice) → (fuel : ℕ) → look-up-chain fuel es v .twice ≡ false
+  stopped-meets : (v : Value) → Stops v
+      → ((fuel : ℕ) → look-up-chain (suc fuel) es v .twice ≡ look-up-chain fuel es (next-value es v) .twice) → (fuel : ℕ)
+      → look-up-chain fuel es v .twice ≡ false
   unfolding look-up-chain
   stopped-meets v h go zero = refl
   stopped-meets v h go (suc fuel) = go fuel ∙ rw h (stopped-meets v h go fuel)

@@ -9,7 +9,8 @@ use lib.Dec.{eqb}
 use borrow.Author.Tests.{eqb-true, eqb-false, eq-eqb, ne-eqb}
 use Rattle.meaning.specs.Graph.{Value, const, input, instr, output, bool, undef, held, no-value}
 use Rattle.meaning.specs.facts.Tests.{clash}
-use Rattle.nesting.specs.Nesting.{InputRewrite, renumber-to, replace-by, RegionInputRewrites, replace-with, renumber-or-replace-with, RewriteEntry, rewrites-of, chain-fuel, look-up}
+use Rattle.nesting.specs.Nesting.{InputRewrite, renumber-to, replace-by, RegionInputRewrites, replace-with, renumber-or-replace-with}
+use Rattle.nesting.specs.Nesting.{RewriteEntry, rewrites-of, chain-fuel, look-up}
 use Rattle.nesting.specs.lookups.Rewriting.{rewrite}
 use Rattle.nesting.specs.lookups.ChainSteps.{next-value, after-steps, chain-steps, step-input, step-chain}
 use Rattle.nesting.specs.lookups.ChainEnds.{names, RewritesTo, Open, entry-kept, ChainsEnd, no-more, goes-on}
@@ -17,7 +18,8 @@ use Rattle.meaning.specs.Lists.{pick}
 
 pub data WithinContext (es : List RewriteEntry) (p : ℕ) : ℕ → Type 0 where
   itself : WithinContext es p p
-  inner : {r : ℕ} (x : RegionInputRewrites) → rewrites-of es r ≡ some x → ((k : ℕ) (v : Value) (q : ℕ) → RewritesTo x k v → names v ≡ some q → WithinContext es p q) → WithinContext es p r
+  inner : {r : ℕ} (x : RegionInputRewrites) → rewrites-of es r ≡ some x
+      → ((k : ℕ) (v : Value) (q : ℕ) → RewritesTo x k v → names v ≡ some q → WithinContext es p q) → WithinContext es p r
 
 -- A value of p's context.
 pub record InContext (es : List RewriteEntry) (p : ℕ) (v : Value) : Type 0 where
@@ -41,11 +43,13 @@ context-more t h = record { within = λ q n. within-more t (h .within q n) }
 abbrev pub entry : ℕ → RegionInputRewrites → RewriteEntry
 entry q x = record { region = q; rewrites = x }
 
-pub entry-new : (es : List RewriteEntry) (q : ℕ) (x : RegionInputRewrites) (r : ℕ) → Open es r → rewrites-of (es ++ (entry q x ∷ [])) r ≡ pick (eqb r q) (some x) none
+pub entry-new : (es : List RewriteEntry) (q : ℕ) (x : RegionInputRewrites) (r : ℕ) → Open es r
+    → rewrites-of (es ++ (entry q x ∷ [])) r ≡ pick (eqb r q) (some x) none
 entry-new [] q x r p = refl
 entry-new (y ∷ es) q x r p = go (eqb r (y .region)) p (λ h. entry-new es q x r h)
   where
-    go : (b : Bool) → pick b (some (y .rewrites)) (rewrites-of es r) ≡ none → (rewrites-of es r ≡ none → rewrites-of (es ++ (entry q x ∷ [])) r ≡ pick (eqb r q) (some x) none)
+    go : (b : Bool) → pick b (some (y .rewrites)) (rewrites-of es r) ≡ none
+        → (rewrites-of es r ≡ none → rewrites-of (es ++ (entry q x ∷ [])) r ≡ pick (eqb r q) (some x) none)
         → pick b (some (y .rewrites)) (rewrites-of (es ++ (entry q x ∷ [])) r) ≡ pick (eqb r q) (some x) none
     go true h ih = absurd (clash (cc))
     go false h ih = ih h
@@ -53,11 +57,13 @@ entry-new (y ∷ es) q x r p = go (eqb r (y .region)) p (λ h. entry-new es q x 
 pub entry-at : (es : List RewriteEntry) (q : ℕ) (x : RegionInputRewrites) → Open es q → rewrites-of (es ++ (entry q x ∷ [])) q ≡ some x
 entry-at es q x p = let z = eq-eqb q q refl in entry-new es q x q p ∙ rw z
 
-pub open-else : (es : List RewriteEntry) (q : ℕ) (x : RegionInputRewrites) (r : ℕ) → Open es r → (r ≡ q → ⊥) → Open (es ++ (entry q x ∷ [])) r
+pub open-else : (es : List RewriteEntry) (q : ℕ) (x : RegionInputRewrites) (r : ℕ) → Open es r → (r ≡ q → ⊥)
+    → Open (es ++ (entry q x ∷ [])) r
 open-else es q x r p ne = let z = ne-eqb r q ne in entry-new es q x r p ∙ rw z
 
 -- ---- region q is placed in p's context: its own context becomes p's
-module _ (es : List RewriteEntry) (q p : ℕ) (x : RegionInputRewrites) (no-entry : Open es q) (given : (k : ℕ) (v : Value) → RewritesTo x k v → InContext es p v) where
+module _ (es : List RewriteEntry) (q p : ℕ) (x : RegionInputRewrites) (no-entry : Open es q)
+    (given : (k : ℕ) (v : Value) → RewritesTo x k v → InContext es p v) where
   abbrev es⁺ : List RewriteEntry
   es⁺ = es ++ (entry q x ∷ [])
 
@@ -81,7 +87,8 @@ rooted-end o (inner x e h) = goes-on x e (λ k v q g n. rooted-end o (h k v q g 
 pub rooted-ends : {es : List RewriteEntry} {r : ℕ} → Rooted es r → ChainsEnd es r
 rooted-ends h = rooted-end (h .no-entry) (h .within)
 
-pub rooted-add : (es : List RewriteEntry) (q p : ℕ) (x : RegionInputRewrites) → Open es q → Open es p → (p ≡ q → ⊥) → ((k : ℕ) (v : Value) → RewritesTo x k v → InContext es p v)
+pub rooted-add : (es : List RewriteEntry) (q p : ℕ) (x : RegionInputRewrites) → Open es q → Open es p → (p ≡ q → ⊥)
+    → ((k : ℕ) (v : Value) → RewritesTo x k v → InContext es p v)
     → ((r : ℕ) → Rooted es r) → (r : ℕ) → Rooted (es ++ (entry q x ∷ [])) r
 rooted-add es q p x open-q open-p ne given all r = go (all r) (eqb (all r .root) q) refl
   where
@@ -90,7 +97,12 @@ rooted-add es q p x open-q open-p ne given all r = go (all r) (eqb (all r .root)
         let same = eqb-true (h .root) q e in
         let w : WithinContext es q r = rw same at (h .within) in
         record { root = p; no-entry = open-else es q x p open-p ne; within = replaced es q p x open-q given w }
-    go h false e = record { root = h .root; no-entry = open-else es q x (h .root) (h .no-entry) (eqb-false (h .root) q e); within = within-more (entry q x ∷ []) (h .within) }
+    go h false e = record {
+      root = h .root;
+      no-entry = open-else es q x (h .root) (h .no-entry) (eqb-false (h .root) q e);
+      within =
+          within-more (entry q x ∷ []) (h .within);
+    }
 
 -- ---- a look-up stays in its context
 module _ (es : List RewriteEntry) (p : ℕ) (no-entry : Open es p) where
@@ -98,12 +110,15 @@ module _ (es : List RewriteEntry) (p : ℕ) (no-entry : Open es p) where
   next-within r k itself = rw no-entry (record { within = λ q n. let z : p ≡ q = cc in rw (← z) itself })
   next-within r k (inner x e h) = rw e (go x e h)
     where
-      slot : (xs : List InputRewrite) → rewrites-of es r ≡ some (renumber-or-replace-with xs) → ((k : ℕ) (v : Value) (q : ℕ) → RewritesTo (renumber-or-replace-with xs) k v → names v ≡ some q → WithinContext es p q)
+      slot : (xs : List InputRewrite) → rewrites-of es r ≡ some (renumber-or-replace-with xs)
+          → ((k : ℕ) (v : Value) (q : ℕ) → RewritesTo (renumber-or-replace-with xs) k v → names v ≡ some q → WithinContext es p q)
           → (y : InputRewrite) → getD xs k (renumber-to k) ≡ y → InContext es p (step-input (λ v. v) r y)
       slot xs e h (replace-by v) g = record { within = λ q n. h k v q g n }
       slot xs e h (renumber-to i) g = record { within = λ q n. let z : r ≡ q = cc in rw (← z) (inner (renumber-or-replace-with xs) e h) }
 
-      go : (x : RegionInputRewrites) → rewrites-of es r ≡ some x → ((k : ℕ) (v : Value) (q : ℕ) → RewritesTo x k v → names v ≡ some q → WithinContext es p q) → InContext es p (step-chain (λ v. v) r k (some x))
+      go : (x : RegionInputRewrites) → rewrites-of es r ≡ some x
+          → ((k : ℕ) (v : Value) (q : ℕ) → RewritesTo x k v → names v ≡ some q → WithinContext es p q)
+          → InContext es p (step-chain (λ v. v) r k (some x))
       go (replace-with vs) e h = record { within = λ q n. h k (getD vs k (undef 0)) q refl n }
       go (renumber-or-replace-with xs) e h = slot xs e h (getD xs k (renumber-to k)) refl
 

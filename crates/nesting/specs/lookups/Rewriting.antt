@@ -5,7 +5,10 @@ use mathlib.Core.List.{List, [], _∷_, map}
 use Prim.Native.Nat.{ℕ, suc}
 use Rattle.meaning.specs.Graph.{Value, Instr}
 use Rattle.meaning.specs.Runs.{SelectNode, LoopNode, Node, Nodes, ⟨⟩, _▸_, block, select, loop, exit, Cases, ∅, case}
-use Rattle.nesting.specs.Nesting.{DeferredEdgeBundle, RewriteEntry, NodeOutput, LookUp, plain, look-up, look-up-last, edge-bundle, ClaimedRegion, claimed-as, NestState, done, with-twice, look-up-each, rewrite-cases, MaybeClaimedRegion, ok, err, look-up-case, look-up-select, look-up-case-region, look-up-loop, look-up-node, look-up-nodes, look-up-cases}
+use Rattle.nesting.specs.Nesting.{DeferredEdgeBundle, RewriteEntry, NodeOutput, LookUp, plain, look-up, look-up-last, edge-bundle}
+use Rattle.nesting.specs.Nesting.{ClaimedRegion, claimed-as, NestState, done, with-twice, look-up-each, rewrite-cases}
+use Rattle.nesting.specs.Nesting.{MaybeClaimedRegion, ok, err, look-up-case, look-up-select, look-up-case-region, look-up-loop}
+use Rattle.nesting.specs.Nesting.{look-up-node, look-up-nodes, look-up-cases}
 
 abbrev pub rewrite : List RewriteEntry → Value → Value
 rewrite es v = look-up es v .value
@@ -59,7 +62,8 @@ module _ (look : Value → LookUp Value) where
 
   cases-value : (cs : List MaybeClaimedRegion) → map (λ c. look-up-case look c .value) cs ≡ map (rewrite-case value-of) cs
   cases-value [] = refl
-  cases-value (c ∷ cs) = ap (λ x. x ∷ map (λ c. look-up-case look c .value) cs) (case-value c) ∙ ap (λ l. rewrite-case value-of c ∷ l) (cases-value cs)
+  cases-value (c ∷ cs) =
+      ap (λ x. x ∷ map (λ c. look-up-case look c .value) cs) (case-value c) ∙ ap (λ l. rewrite-case value-of c ∷ l) (cases-value cs)
 
   module _ (os : List NodeOutput) where
     mutual
@@ -73,7 +77,8 @@ module _ (look : Value → LookUp Value) where
 
       pub nodes-value : (ks : Nodes) → look-up-nodes look os ks .value ≡ rewrite-nodes value-of os ks
       nodes-value ⟨⟩ = refl
-      nodes-value (x ▸ ks) = ap (λ y. y ▸ look-up-nodes look os ks .value) (node-value x) ∙ ap (λ l. rewrite-node value-of os x ▸ l) (nodes-value ks)
+      nodes-value (x ▸ ks) =
+          ap (λ y. y ▸ look-up-nodes look os ks .value) (node-value x) ∙ ap (λ l. rewrite-node value-of os x ▸ l) (nodes-value ks)
 
       of-cases : (cs : Cases) (n j : ℕ) → look-up-cases look os cs n j .value ≡ rewrite-cases-of value-of os cs n j
       of-cases ∅ n j = refl
@@ -84,7 +89,9 @@ module _ (look : Value → LookUp Value) where
 
 -- the cases of a select, looked up
 pub rewrite-cases-is : (cs : List MaybeClaimedRegion) (s : NestState)
-    → rewrite-cases cs s ≡ done (map (rewrite-case (rewrite (s .region-input-rewrites))) cs) (with-twice (look-up-each (look-up-case (look-up (s .region-input-rewrites))) cs .twice) s)
+    → rewrite-cases cs s ≡ done (map (rewrite-case (rewrite (s .region-input-rewrites))) cs)
+    (with-twice (look-up-each (look-up-case (look-up (s .region-input-rewrites))) cs .twice) s)
 unfolding rewrite-cases
 rewrite-cases-is cs s =
-    ap (λ l. done l (with-twice (look-up-each (look-up-case (look-up (s .region-input-rewrites))) cs .twice) s)) (cases-value (look-up (s .region-input-rewrites)) cs)
+    ap (λ l. done l (with-twice (look-up-each (look-up-case (look-up (s .region-input-rewrites))) cs .twice) s))
+    (cases-value (look-up (s .region-input-rewrites)) cs)

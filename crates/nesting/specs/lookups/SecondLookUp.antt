@@ -10,10 +10,12 @@ use lib.ListN.{length, getD}
 use lib.Dec.{eqb}
 use borrow.Author.Tests.{eqb-true, eq-eqb}
 use Rattle.meaning.specs.Graph.{Value, const, input, instr, output, bool, undef, held, same-value, no-value}
-use Rattle.nesting.specs.Nesting.{InputRewrite, renumber-to, replace-by, RegionInputRewrites, replace-with, renumber-or-replace-with, RewriteEntry, rewrites-of, changes-again}
+use Rattle.nesting.specs.Nesting.{InputRewrite, renumber-to, replace-by, RegionInputRewrites, replace-with, renumber-or-replace-with}
+use Rattle.nesting.specs.Nesting.{RewriteEntry, rewrites-of, changes-again}
 use Rattle.nesting.specs.lookups.Rewriting.{rewrite}
 use Rattle.nesting.specs.lookups.ChainSteps.{next-value, after-steps, stops-after, chain-steps}
-use Rattle.nesting.specs.lookups.ChainEnds.{names, RewritesTo, ChainsEnd, NamesInput, RewritePath, one, path-then, acyclic, rewrite-enough}
+use Rattle.nesting.specs.lookups.ChainEnds.{names, RewritesTo, ChainsEnd, NamesInput, RewritePath, one, path-then, acyclic}
+use Rattle.nesting.specs.lookups.ChainEnds.{rewrite-enough}
 
 -- A value that names no input of r is not a marked one of r.
 not-held : (u : Value) (r k : ℕ) → (names u ≡ some r → ⊥) → same-value u (held r k) ≡ false
@@ -35,7 +37,8 @@ module _ (es : List RewriteEntry) where
   abbrev LogReaches : ℕ → Value → Type 0
   LogReaches r v = (q : ℕ) → names v ≡ some q → RewritePath es r q
 
-  leads : (r k : ℕ) (x : RegionInputRewrites) (v : Value) → rewrites-of es r ≡ some x → RewritesTo x k v → (q : ℕ) → names v ≡ some q → NamesInput es r q
+  leads : (r k : ℕ) (x : RegionInputRewrites) (v : Value) → rewrites-of es r ≡ some x → RewritesTo x k v → (q : ℕ) → names v ≡ some q
+      → NamesInput es r q
   leads r k x v e g q n = record { by = x; is = e; at = k; value = v; gives = g; named = n }
 
   reaches-next : (r : ℕ) (v : Value) → LogReaches r v → LogReaches r (next-value es v)
@@ -51,7 +54,8 @@ module _ (es : List RewriteEntry) where
       to : (x : RegionInputRewrites) (v : Value) → rewrites-of es z ≡ some x → RewritesTo x k v → LogReaches r v
       to x v e g q n = path-then (h z refl) (leads z k x v e g q n)
 
-      slot : (xs : List InputRewrite) → rewrites-of es z ≡ some (renumber-or-replace-with xs) → (y : InputRewrite) → getD xs k (renumber-to k) ≡ y → LogReaches r (next-value es (input z k))
+      slot : (xs : List InputRewrite) → rewrites-of es z ≡ some (renumber-or-replace-with xs) → (y : InputRewrite)
+          → getD xs k (renumber-to k) ≡ y → LogReaches r (next-value es (input z k))
       slot xs e (replace-by v) g = rw (e, g) (to (renumber-or-replace-with xs) v e g)
       slot xs e (renumber-to i) g = rw (e, g) h
 
@@ -74,9 +78,11 @@ module _ (es : List RewriteEntry) (all : (r : ℕ) → ChainsEnd es r) where
       → changes-again k (rewrites-of es r) ≡ not (same-value (rewrite es (input r k)) (held r k))
   second-look-up r k xs e = go (getD xs k (renumber-to k)) refl
     where
-      go : (y : InputRewrite) → getD xs k (renumber-to k) ≡ y → changes-again k (rewrites-of es r) ≡ not (same-value (rewrite es (input r k)) (held r k))
+      go : (y : InputRewrite) → getD xs k (renumber-to k) ≡ y
+          → changes-again k (rewrites-of es r) ≡ not (same-value (rewrite es (input r k)) (held r k))
       go (renumber-to i) g =
-          let same : rewrite es (input r k) ≡ held r i = rewrite-next (input r k) ∙ rw (e, g) (stops-after es (length es) (held r i) refl) in
+          let same : rewrite es (input r k) ≡ held r i =
+          rewrite-next (input r k) ∙ rw (e, g) (stops-after es (length es) (held r i) refl) in
           let self : eqb r r ≡ true = eq-eqb r r refl in
           rw (same, e, changes-again, g, self)
       go (replace-by v) g =

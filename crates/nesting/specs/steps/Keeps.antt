@@ -5,10 +5,22 @@ use mathlib.Core.Option.{Option, none, some}
 use Prim.Native.Nat.{ℕ}
 use lib.ListN.{length}
 use lib.Dec.{ltb}
-use Rattle.meaning.specs.Graph.{Value, bool, undef, SelectionKind, bool-cond, number, ControlInst, unreachable, return, exit-invocation, branch, select-branch, Graph, region, same-values}
+use Rattle.meaning.specs.Graph.{Value, bool, undef, SelectionKind, bool-cond, number, ControlInst, unreachable, return, exit-invocation}
+use Rattle.meaning.specs.Graph.{branch, select-branch, Graph, region, same-values}
 use Rattle.meaning.specs.Runs.{loop, Nodes, ⟨⟩, _▸_, Cases}
 use Rattle.meaning.specs.Lists.{any, pick}
-use Rattle.nesting.specs.Nesting.{exit-targets, most-merges, most-nodes, most-outputs, most-regions, LazyCond, undef-cond, false-cond, true-cond, merge, LazyConds, no-conds, _&_, DeferredEdgeBundle, DeferredEdgeBundleSet, RegionInputRewrites, replace-with, renumber-or-replace-with, RewriteEntry, NodeOutput, NestState, Step, give, _>>=_, _>>_, with-tables, add-region, add-node, add-merge, with-twice, define-region, define-node, define-merge, define-output, insert-rewrites, look-up, look-up-case, look-up-each, rewrite-values, materialize-lazy-cond, materialize-lazy-conds, ClaimedRegion, MaybeClaimedRegion, ok, err, Scrutinee, value, lazy, join, append-maybe-claimed-region, convergent-cases, without-convergent, PlannedInput, shared, merged, PlannedBundle, plan-bundles, any-needs-select, any-non-empty-case, rewrite-cases, case-regions, scrutinee-value, DefinedSelect, define-select, emit-inputs, emit-condition, emit, select-if, replace-inputs, structurize-select, structurize-select-by, take-inputs, no-inputs, loop-node, add-exit-edge, structurize-loop, claim-body, by-control-inst}
+use Rattle.nesting.specs.Nesting.{exit-targets, most-merges, most-nodes, most-outputs, most-regions, LazyCond, undef-cond, false-cond}
+use Rattle.nesting.specs.Nesting.{true-cond, merge, LazyConds, no-conds, _&_, DeferredEdgeBundle, DeferredEdgeBundleSet}
+use Rattle.nesting.specs.Nesting.{RegionInputRewrites, replace-with, renumber-or-replace-with, RewriteEntry, NodeOutput, NestState}
+use Rattle.nesting.specs.Nesting.{Step, give, _>>=_, _>>_, with-tables, add-region, add-node, add-merge, with-twice, define-region}
+use Rattle.nesting.specs.Nesting.{define-node, define-merge, define-output, insert-rewrites, look-up, look-up-case, look-up-each}
+use Rattle.nesting.specs.Nesting.{rewrite-values, materialize-lazy-cond, materialize-lazy-conds, ClaimedRegion, MaybeClaimedRegion}
+use Rattle.nesting.specs.Nesting.{ok, err, Scrutinee, value, lazy, join, append-maybe-claimed-region, convergent-cases}
+use Rattle.nesting.specs.Nesting.{without-convergent, PlannedInput, shared, merged, PlannedBundle, plan-bundles, any-needs-select}
+use Rattle.nesting.specs.Nesting.{any-non-empty-case, rewrite-cases, case-regions, scrutinee-value, DefinedSelect, define-select}
+use Rattle.nesting.specs.Nesting.{emit-inputs, emit-condition, emit, select-if, replace-inputs, structurize-select}
+use Rattle.nesting.specs.Nesting.{structurize-select-by, take-inputs, no-inputs, loop-node, add-exit-edge, structurize-loop}
+use Rattle.nesting.specs.Nesting.{claim-body, by-control-inst}
 use Rattle.nesting.specs.lookups.Rewriting.{meets}
 use Rattle.nesting.specs.steps.Post.{Post, bind, map-post, when-room}
 
@@ -30,7 +42,8 @@ pub record Steady (L : NestState → NestState → Type 0) : Type 0 where
   pub region : (s : NestState) → L s (add-region s)
   pub node : (s : NestState) → L s (add-node s)
   pub merge : (s : NestState) → L s (add-merge s)
-  pub output : (x : NodeOutput) (s : NestState) → L s (with-tables (s .region-states) (s .region-input-rewrites) (s .node-outputs ++ (x ∷ [])) s)
+  pub output : (x : NodeOutput) (s : NestState) → L s
+      (with-tables (s .region-states) (s .region-input-rewrites) (s .node-outputs ++ (x ∷ [])) s)
   pub twice : (b : Bool) (s : NestState) → L s (with-twice b s)
 
 abbrev pub with-entry : RewriteEntry → NestState → NestState
@@ -87,7 +100,8 @@ module _ {L : NestState → NestState → Type 0} (S : Steady L) (Q : ℕ → �
     materialize-keeps undef-cond = give-keeps (undef 1)
     materialize-keeps (merge n kind v cs) =
         then-keeps (materialize-lazy-conds cs) _ (materializes-keep cs) λ vs.
-        pick-keeps (elim kind [ bool-cond ↦ same-values vs (bool true ∷ bool false ∷ []) | number ↦ false ]) (give v) (define-output n 1 vs) (give-keeps v) (define-output-keeps n 1 vs)
+        pick-keeps (elim kind [ bool-cond ↦ same-values vs (bool true ∷ bool false ∷ []) | number ↦ false ]) (give v) (define-output n 1 vs)
+        (give-keeps v) (define-output-keeps n 1 vs)
 
     materializes-keep : (cs : LazyConds) → Keeps (materialize-lazy-conds cs)
     materializes-keep no-conds = give-keeps []
@@ -102,7 +116,8 @@ module _ {L : NestState → NestState → Type 0} (S : Steady L) (Q : ℕ → �
   case-regions-keeps : (cs : List MaybeClaimedRegion) → Keeps (case-regions cs)
   unfolding case-regions
   case-regions-keeps [] = give-keeps Cases.∅
-  case-regions-keeps (err d ∷ cs) = then-keeps define-region _ define-region-keeps λ r. then-keeps (case-regions cs) _ (case-regions-keeps cs) λ rest. give-keeps _
+  case-regions-keeps (err d ∷ cs) =
+      then-keeps define-region _ define-region-keeps λ r. then-keeps (case-regions cs) _ (case-regions-keeps cs) λ rest. give-keeps _
   case-regions-keeps (ok c ∷ cs) = then-keeps (case-regions cs) _ (case-regions-keeps cs) λ rest. give-keeps _
 
   scrutinee-keeps : (x : Scrutinee) → Keeps (scrutinee-value x)
@@ -136,10 +151,13 @@ module _ {L : NestState → NestState → Type 0} (S : Steady L) (Q : ℕ → �
       then-keeps (emit-condition n (p .condition)) _ (emit-condition-keeps n (p .condition)) λ c.
       then-keeps (emit n ps) _ (emit-keeps n ps) λ rest. give-keeps _
 
-  pub select-if-keeps : (b : Bool) (kind : SelectionKind) (x : Scrutinee) (cs : List MaybeClaimedRegion) (ps : List PlannedBundle) → Keeps (select-if b kind x cs ps)
+  pub select-if-keeps : (b : Bool) (kind : SelectionKind) (x : Scrutinee) (cs : List MaybeClaimedRegion) (ps : List PlannedBundle)
+      → Keeps (select-if b kind x cs ps)
   unfolding select-if
   select-if-keeps false kind x cs ps = give-keeps _
-  select-if-keeps true kind x cs ps = then-keeps (define-select kind x cs) _ (define-select-keeps kind x cs) λ n. then-keeps (emit n ps) _ (emit-keeps n ps) λ d. give-keeps _
+  select-if-keeps true kind x cs ps =
+      then-keeps (define-select kind x cs) _ (define-select-keeps kind x cs) λ n. then-keeps (emit n ps) _
+      (emit-keeps n ps) λ d. give-keeps _
 
   -- ---- the steps that insert rewrites
   module _ (log : KeepsLog L) where
@@ -149,40 +167,53 @@ module _ {L : NestState → NestState → Type 0} (S : Steady L) (Q : ℕ → �
     pub append-keeps : (parent : Nodes) (c : MaybeClaimedRegion) → Keeps (append-maybe-claimed-region parent c)
     unfolding append-maybe-claimed-region
     append-keeps parent (err d) = give-keeps _
-    append-keeps parent (ok c) = next-keeps (insert-rewrites (c .structured-body) (replace-with (c .structured-body-inputs))) _ (insert-rewrites-keeps _ _) (give-keeps _)
+    append-keeps parent (ok c) =
+        next-keeps (insert-rewrites (c .structured-body) (replace-with (c .structured-body-inputs))) _ (insert-rewrites-keeps _ _)
+        (give-keeps _)
 
     pub replace-inputs-keeps : (cs : List MaybeClaimedRegion) → Keeps (replace-inputs cs)
     unfolding replace-inputs
     replace-inputs-keeps [] = give-keeps tt
     replace-inputs-keeps (err d ∷ cs) = replace-inputs-keeps cs
-    replace-inputs-keeps (ok c ∷ cs) = next-keeps (insert-rewrites (c .structured-body) (replace-with (c .structured-body-inputs))) (replace-inputs cs) (insert-rewrites-keeps _ _) (replace-inputs-keeps cs)
+    replace-inputs-keeps (ok c ∷ cs) =
+        next-keeps (insert-rewrites (c .structured-body) (replace-with (c .structured-body-inputs))) (replace-inputs cs)
+        (insert-rewrites-keeps _ _) (replace-inputs-keeps cs)
 
     module _ (g : Graph) where
-      structurize-select-keeps : (parent : Nodes) (kind : SelectionKind) (x : Scrutinee) (cases : List MaybeClaimedRegion) → Keeps (structurize-select g parent kind x cases)
+      structurize-select-keeps : (parent : Nodes) (kind : SelectionKind) (x : Scrutinee) (cases : List MaybeClaimedRegion)
+          → Keeps (structurize-select g parent kind x cases)
       unfolding structurize-select
       structurize-select-keeps parent kind x cases =
           then-keeps (rewrite-cases cases) _ (rewrite-cases-keeps cases) λ cs.
           then-keeps (select-if (any-non-empty-case cases || any-needs-select (plan-bundles g cs)) kind x cases (plan-bundles g cs)) _
           (select-if-keeps (any-non-empty-case cases || any-needs-select (plan-bundles g cs)) kind x cases (plan-bundles g cs)) λ y.
-          next-keeps (replace-inputs cs) _ (replace-inputs-keeps cs) (give-keeps (record { children = join parent (y .children); deferred-edges = y .deferred-edges }))
+          next-keeps (replace-inputs cs) _ (replace-inputs-keeps cs)
+          (give-keeps (record { children = join parent (y .children); deferred-edges = y .deferred-edges }))
 
-      pub structurize-select-by-keeps : (parent : Nodes) (kind : SelectionKind) (x : Scrutinee) (cases cs : List MaybeClaimedRegion) → Keeps (structurize-select-by g parent kind x cases cs)
+      pub structurize-select-by-keeps : (parent : Nodes) (kind : SelectionKind) (x : Scrutinee) (cases cs : List MaybeClaimedRegion)
+          → Keeps (structurize-select-by g parent kind x cases cs)
       structurize-select-by-keeps parent kind x cases [] = structurize-select-keeps parent kind x cases
       structurize-select-by-keeps parent kind x cases (c ∷ d ∷ ds) = structurize-select-keeps parent kind x cases
       structurize-select-by-keeps parent kind x cases (c ∷ []) =
-          then-keeps (structurize-select g parent kind x (without-convergent cases)) _ (structurize-select-keeps parent kind x (without-convergent cases)) λ y.
+          then-keeps (structurize-select g parent kind x (without-convergent cases)) _
+          (structurize-select-keeps parent kind x (without-convergent cases)) λ y.
           append-keeps (y .children) c
 
-      structurize-loop-keeps : (body : ℕ) (children : Nodes) (backedge : DeferredEdgeBundle) (repeat : LazyCond) (exits : DeferredEdgeBundleSet) (inputs : List Value)
+      structurize-loop-keeps : (body : ℕ) (children : Nodes) (backedge : DeferredEdgeBundle) (repeat : LazyCond)
+          (exits : DeferredEdgeBundleSet) (inputs : List Value)
           → Keeps (structurize-loop g body children backedge repeat exits inputs)
       unfolding structurize-loop
       structurize-loop-keeps body children backedge repeat exits inputs =
           then-keeps define-region _ define-region-keeps λ wrapper.
           then-keeps (rewrite-values (backedge .target-inputs)) _ (rewrite-values-keeps (backedge .target-inputs)) λ vs.
-          next-keeps (insert-rewrites body (renumber-or-replace-with (take-inputs g body wrapper 0 vs no-inputs .rewrites))) _ (insert-rewrites-keeps _ _)
-          (then-keeps (materialize-lazy-cond repeat) _ (materialize-keeps repeat) λ v. then-keeps define-node _ define-node-keeps λ n. give-keeps (some (loop-claimed g body children exits inputs wrapper vs v n)))
+          next-keeps (insert-rewrites body (renumber-or-replace-with (take-inputs g body wrapper 0 vs no-inputs .rewrites))) _
+          (insert-rewrites-keeps _ _)
+          (then-keeps (materialize-lazy-cond repeat) _
+          (materialize-keeps repeat) λ v. then-keeps define-node _ define-node-keeps λ n. give-keeps
+          (some (loop-claimed g body children exits inputs wrapper vs v n)))
 
-      pub claim-body-keeps : (r : ℕ) (inputs : List Value) (children : Nodes) (d : DeferredEdgeBundleSet) (o : Option DeferredEdgeBundle) → Keeps (claim-body g r inputs children d o)
+      pub claim-body-keeps : (r : ℕ) (inputs : List Value) (children : Nodes) (d : DeferredEdgeBundleSet) (o : Option DeferredEdgeBundle)
+          → Keeps (claim-body g r inputs children d o)
       claim-body-keeps r inputs children d none = give-keeps _
       claim-body-keeps r inputs children d (some e) = structurize-loop-keeps r children e _ _ inputs
 

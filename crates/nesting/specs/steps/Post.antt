@@ -10,11 +10,13 @@ OfAnswer Q P (turned-away refusal word) = Q refusal word
 pub record Post {A : Type 0} (Q : ℕ → ℕ → Type 0) (P : A → NestState → Type 0) (x : StepAnswer A) : Type 0 where
   pub post : OfAnswer Q P x
 
-pub map-post : {A : Type 0} {Q : ℕ → ℕ → Type 0} {P P′ : A → NestState → Type 0} (x : StepAnswer A) → Post Q P x → ((a : A) (s : NestState) → P a s → P′ a s) → Post Q P′ x
+pub map-post : {A : Type 0} {Q : ℕ → ℕ → Type 0} {P P′ : A → NestState → Type 0} (x : StepAnswer A) → Post Q P x
+    → ((a : A) (s : NestState) → P a s → P′ a s) → Post Q P′ x
 map-post (done a s) p q = record { post = q a s (p .post) }
 map-post (turned-away refusal word) p q = record { post = p .post }
 
-pub bind : {A B : Type 0} {Q : ℕ → ℕ → Type 0} {P : A → NestState → Type 0} {P′ : B → NestState → Type 0} (x : StepAnswer A) (k : A → Step B)
+pub bind : {A B : Type 0} {Q : ℕ → ℕ → Type 0} {P : A → NestState → Type 0} {P′ : B → NestState → Type 0} (x : StepAnswer A)
+    (k : A → Step B)
     → Post Q P x → ((a : A) (s : NestState) → P a s → Post Q P′ (k a s)) → Post Q P′ (follow x k)
 bind (done a s) k p q = q a s (p .post)
 bind (turned-away refusal word) k p q = record { post = p .post }

@@ -95,4 +95,5 @@ claimed-count none = 0
 claimed-count (some a) = 1
 
 abbrev pub ClaimFewer : Claim → Type 0
-ClaimFewer claim = (r n : ℕ) (inputs : List Value) (s : NestState) → Post AnyRefusal (λ o s′. Fewer (claimed-count o) s s′) (claim r n inputs s)
+ClaimFewer claim = (r n : ℕ) (inputs : List Value) (s : NestState)
+    → Post AnyRefusal (λ o s′. Fewer (claimed-count o) s s′) (claim r n inputs s)
