@@ -18,13 +18,14 @@ needs_nest = unittest.skipUnless(programs.has("nest"), f"there is no nest in {pr
 
 
 def vectors(name):
-    """The stores of a fixed list, with their answers."""
+    """The stores of a fixed list, with their answers; one with `wrong` for `store` has a wrong answer on purpose and is passed over."""
     with open(os.path.join(ROOT, "beside", "lists", name), encoding="ascii") as lines:
         for line in lines:
-            store, answer = bytes.fromhex(line.removeprefix("store").strip()), []
+            first, answer = line, []
             for line in iter(lines.readline, ".\n"):
                 answer.append(line)
-            yield store, "".join(answer)
+            if first.startswith("store"):
+                yield bytes.fromhex(first.removeprefix("store").strip()), "".join(answer)
 
 
 def command(name, *arguments, data=b"", folder=None):
