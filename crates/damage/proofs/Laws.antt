@@ -17,7 +17,7 @@ use Rattle.accept.specs.Accepts.{Accepts}
 use Rattle.show_text.specs.Shows.{InFront}
 use Rattle.vectors.proofs.Laws.{from-start}
 use Rattle.damage.specs.declared.answers.Answer.{Answer}
-use Rattle.damage.specs.Answers.{sum-from, brief, is-listed, right}
+use Rattle.damage.specs.Answers.{sum-from, brief, is-listed, as-listed}
 
 module _ (text : List ℕ) (sum i : ℕ) (sofar : sum-from sum (drop i text) ≡ sum-from 0 text) where
   pub summed-all : length text ≤ i → sum ≡ sum-from 0 text
@@ -59,7 +59,7 @@ module _ (s old new : List ℕ) where
 -- One question's answer, compared.
 pub listed-right : (s answers : List ℕ) (k : ℕ) {t : List ℕ} {a : Answer} {r : Bool} → a ≡ brief (accept t) → t ≡ s
     → r ≡ is-listed a answers k
-    → r ≡ right s answers k
+    → r ≡ as-listed s answers k
 listed-right s answers k is same told = told ∙ ap (λ x. is-listed x answers k) (is ∙ ap (λ x. brief (accept x)) same)
 
 pub one-bit : (bit : ℕ) → 1 * 2 ^ (bit % 8) % 256 ≡ 2 ^ (bit % 8)

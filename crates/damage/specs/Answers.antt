@@ -8,7 +8,7 @@ use Rattle.meaning.specs.Graph.{Graph}
 use Rattle.format.specs.Store.{Answer as Verdict, accepted, refused}
 use Rattle.format.specs.Accept.{accept}
 use Rattle.record_text.specs.Listing.{listing-of}
-use Rattle.damage.specs.Changes.{changed}
+use Rattle.damage.specs.Changes.{bit-changed}
 use Rattle.damage.specs.declared.answers.Answer.{Answer}
 
 unfoldable pub sum-from : ℕ → List ℕ → ℕ
@@ -25,13 +25,13 @@ is-listed a answers k =
     ltb k (length answers / 2) && (eqb (getD answers (2 * k) 0) (a .number) && eqb (getD answers (2 * k + 1) 0) (a .word))
 
 -- Whether the answer to a store is the one at place k.
-abbrev pub right : List ℕ → List ℕ → ℕ → Bool
-right s answers k = is-listed (brief (accept s)) answers k
+abbrev pub as-listed : List ℕ → List ℕ → ℕ → Bool
+as-listed s answers k = is-listed (brief (accept s)) answers k
 
 -- Bit k of those from `from` on changed, of a block.
 abbrev pub bit-right : Bool → List ℕ → List ℕ → ℕ → ℕ → Bool
-bit-right right-check block answers from k = right (changed right-check block (from + k)) answers k
+bit-right right-check block answers from k = as-listed (bit-changed right-check block (from + k)) answers k
 
 -- The first n bytes.
-abbrev pub length-right : List ℕ → List ℕ → ℕ → Bool
-length-right bytes answers n = right (take n bytes) answers n
+abbrev pub length-as-listed : List ℕ → List ℕ → ℕ → Bool
+length-as-listed bytes answers n = as-listed (take n bytes) answers n

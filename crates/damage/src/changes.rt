@@ -3,8 +3,8 @@ ghost use mathlib.Core.Path.{_≡_};
 ghost use Prim.Native.Nat.{_+_, _-_, _≤_, _<_};
 ghost use lib.ListN.{length};
 ghost use Rattle.vectors.specs.Tally.{tally-of};
-ghost use Rattle.damage.specs.Answers.{bit-right, length-right};
-ghost use Rattle.damage.specs.Changes.{flipped, mended, changed};
+ghost use Rattle.damage.specs.Answers.{bit-right, length-as-listed};
+ghost use Rattle.damage.specs.Changes.{flipped, mended, bit-changed};
 use super::answers::answer_of;
 use super::answers::is_listed;
 use store::WORDS;
@@ -37,7 +37,7 @@ fn mend(block: [u8; 512]) -> [u8; 512]
 
 fn change(block: [u8; 512], bit: usize, right_check: bool) -> [u8; 512]
     requires { ⌜ bit < 4096 ⌝ }
-    ensures { λ r. ⌜ r ≡ changed «right_check» block bit ⌝ }
+    ensures { λ r. ⌜ r ≡ bit-changed «right_check» block bit ⌝ }
 {
     let b = flip(block, bit);
     if right_check {
@@ -80,7 +80,7 @@ pub fn lengths(
     words: &mut [u16; WORDS],
     out: &mut [u8; TEXT],
 ) -> Tally
-    ensures { λ t. ⌜ t ≡ tally-of (length-right (now (bytes .entry)) (now (answers .entry))) (length (now (bytes .entry)) + 1) ⌝ }
+    ensures { λ t. ⌜ t ≡ tally-of (length-as-listed (now (bytes .entry)) (now (answers .entry))) (length (now (bytes .entry)) + 1) ⌝ }
 {
     let mut t = Tally {
         agree: 0,

@@ -70,7 +70,7 @@ pub fn put_dotted(out: &mut [u8], at: usize, r: u16, k: u32) -> usize
     put_labeled(out, place, b".", k)
 }
 
-fn put_held(out: &mut [u8], at: usize, letter: u8, r: u16, k: u16) -> usize
+fn put_of_region(out: &mut [u8], at: usize, letter: u8, r: u16, k: u16) -> usize
     ensures { λ p. ⌜ Wrote (buffer (now (out .entry)) at) (letter ∷ dotted-text r k) (buffer (now (out .exit)) p) ⌝ }
 {
     let place = put_byte(out, at, letter);
@@ -82,8 +82,8 @@ pub fn put_value(out: &mut [u8], at: usize, v: Value) -> usize
 {
     match v {
         Value::Const(i) => put_labeled(out, at, b"c", i as u32),
-        Value::Input(r, k) => put_held(out, at, b'i', r, k),
-        Value::Instr(r, k) => put_held(out, at, b'd', r, k),
+        Value::Input(r, k) => put_of_region(out, at, b'i', r, k),
+        Value::Instr(r, k) => put_of_region(out, at, b'd', r, k),
         Value::Bool(b) => {
             if b {
                 return put_text(out, at, b"true");

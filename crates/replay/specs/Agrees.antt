@@ -11,22 +11,22 @@ use Rattle.record_text.specs.Listing.{shown-text}
 use Rattle.vectors.specs.Same.{same-bytes, as-same}
 use Rattle.vectors.proofs.Laws.{from-start}
 use Rattle.show_text.specs.Shows.{InFront}
-use Rattle.vectors.specs.Parts.{store-of, answer-of}
+use Rattle.vectors.specs.Parts.{listed-store, answer-of}
 
 abbrev pub is-shown : List ℕ → List ℕ → Bool
 is-shown store listed = same-bytes (shown-text (accept store)) listed
 
 -- A longer vector is not kept whole.
 abbrev pub agrees : List ℕ → Bool
-agrees v = ltb (length v) 65536 && is-shown (store-of v) (answer-of v)
+agrees v = ltb (length v) 65536 && is-shown (listed-store v) (answer-of v)
 
-pub too-long : (v : List ℕ) → 65536 ≤ length v → false ≡ agrees v
-too-long v h = rw (agrees, le-ltb (length v) 65536 h)
+pub answer-too-long : (v : List ℕ) → 65536 ≤ length v → false ≡ agrees v
+answer-too-long v h = rw (agrees, le-ltb (length v) 65536 h)
 
-pub kept-whole : (v : List ℕ) → length v < 65536 → {s l : List ℕ} → s ≡ store-of v → l ≡ answer-of v
+pub kept-whole : (v : List ℕ) → length v < 65536 → {s l : List ℕ} → s ≡ listed-store v → l ≡ answer-of v
     → {r : Bool} → r ≡ is-shown s l → r ≡ agrees v
 kept-whole v h {s} {l} p q is =
-    is ∙ ap (λ x. is-shown x l) p ∙ ap (is-shown (store-of v)) q ∙ rw (agrees, lt-ltb (length v) 65536 h)
+    is ∙ ap (λ x. is-shown x l) p ∙ ap (is-shown (listed-store v)) q ∙ rw (agrees, lt-ltb (length v) 65536 h)
 
 -- A comparison of the listed text with &after[0..n], where what is shown stands.
 pub as-shown : {text after listed : List ℕ} {n : ℕ} {r : Bool} → InFront text after n

@@ -33,12 +33,13 @@ front s before after w l =
     let h = holds s w (l .answer) in
     let ws = tabulate w (word-at s) in
     let size : length ws ≡ w = length-tabulate w (word-at s) in
-    let held : after ≡ ws ++ drop w before = l .words ∙ ap (words-after before) (h .words) ∙ ap (λ n. ws ++ drop n before) size in
+    let loaded-is : after ≡ ws ++ drop w before = l .words ∙ ap (words-after before) (h .words) ∙ ap (λ n. ws ++ drop n before) size in
     record {
-      words = h .words ∙ ap accepted (sym (ap (take w) held ∙ take-at ws (drop w before) w size));
+      words = h .words ∙ ap accepted (sym (ap (take w) loaded-is ∙ take-at ws (drop w before) w size));
       few = omega (arith, h .within, h .short);
       first =
-          ap (λ x. getD x 0 0) held ∙ List·getD-append ws (drop w before) 0 0 (omega (arith, h .some)) ∙ first-word w (word-at s) (h .some)
+          ap (λ x. getD x 0 0) loaded-is ∙ List·getD-append ws (drop w before) 0 0 (omega (arith, h .some))
+          ∙ first-word w (word-at s) (h .some)
           ∙ h .first;
-      rest = ap (drop w) held ∙ drop-at ws (drop w before) w size;
+      rest = ap (drop w) loaded-is ∙ drop-at ws (drop w before) w size;
     }

@@ -12,6 +12,7 @@ use Rattle.format.specs.Store.{store-words}
 use Rattle.store.specs.Loaded.{words-counted, words-after}
 use Rattle.store.proofs.Words.{length-tabulate}
 use Rattle.meaning.specs.Lists.{tabulate}
+use Rattle.meaning.specs.facts.Tests.{and-both}
 
 -- The answer by the length's test, the blocks' verdict and W's test.
 abbrev judged : List ℕ → Bool → Answer Unit → Bool → Answer (List ℕ)
@@ -69,24 +70,16 @@ pub record Holds (s : List ℕ) (w : ℕ) : Type 0 where
   pub first : word-at s 0 ≡ w
   pub some : 0 < w
 
-and-left : (a b : Bool) → (a && b) ≡ true → a ≡ true
-and-left true b e = refl
-and-left false b e = e
-
-and-right : (a b : Bool) → (a && b) ≡ true → b ≡ true
-and-right true b e = e
-and-right false b e = let z : false ≡ true = e in cc
-
 short-enough : (n : ℕ) → length-right n ≡ true → n ≤ 8192
-short-enough n e = leb-true n 8192 (and-left _ _ (and-right (ltb 0 n) _ e))
+short-enough n e = leb-true n 8192 (and-both _ _ (and-both (ltb 0 n) _ e .1) .0)
 
 few-enough : (s : List ℕ) (n w : ℕ) → count-right s n w ≡ true → w ≤ 253 * n
 few-enough s n w e =
-    let q : n ≡ (w + 252) / 253 = eqb-true n ((w + 252) / 253) (and-left _ (all-zero s w (253 * n - w)) (and-right (ltb 0 w) _ e)) in
+    let q : n ≡ (w + 252) / 253 = eqb-true n ((w + 252) / 253) (and-both _ (all-zero s w (253 * n - w)) (and-both (ltb 0 w) _ e .1) .0) in
     omega arith
 
 some-words : (s : List ℕ) (n w : ℕ) → count-right s n w ≡ true → 0 < w
-some-words s n w e = ltb-true 0 w (and-left _ _ e)
+some-words s n w e = ltb-true 0 w (and-both _ _ e .0)
 
 module _ (s : List ℕ) (w : ℕ) where
   holds-by : (l t : Bool) (b : Answer Unit) → length-right (length s) ≡ l → count-right s (blocks-in s) (word-at s 0) ≡ t

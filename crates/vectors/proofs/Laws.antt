@@ -9,9 +9,9 @@ use lib.ListN.{length, getD, take, drop, set, length-take, length-drop, drop-of-
 use lib.Seq.{drop-cons, take-all, take-suc-set, append-snoc}
 use lib.Dec.{eqb}
 use borrow.Author.Tests.{eq-eqb, ne-eqb, lt-ltb, le-ltb}
-use Rattle.vectors.specs.Parts.{behind, hex-byte, hex-bytes, line-and-answer, store-of, answer-of}
+use Rattle.vectors.specs.Parts.{behind, hex-byte, hex-bytes, line-and-answer, listed-store, answer-of}
 use Rattle.vectors.specs.declared.Reader.{Reader}
-use Rattle.vectors.specs.Reading.{Reading, kept-text, ends-at, read-byte, read-bytes, reading-of, counted-of, Keeps, Reads}
+use Rattle.vectors.specs.Reading.{Reading, kept-text, ends-at, read-byte, read-bytes, reading-of, counted-of, KeptSoFar, Reads}
 
 -- ---- behind the first b
 pub behind-within : (b : ℕ) (l : List ℕ) → behind b l ≤ length l
@@ -59,12 +59,12 @@ to-end n l = take-all (length l - n) (drop n l) (omega (arith, length-drop n l))
 pub record Parted (v rest : List ℕ) (end : ℕ) : Type 0 where
   pub within : end ≤ length rest
   pub line : length (take end rest) ≤ length v
-  pub store : hex-bytes (take end rest) ≡ store-of v
+  pub store : hex-bytes (take end rest) ≡ listed-store v
   pub answer : take (length rest - end) (drop end rest) ≡ answer-of v
 
 pub parted : (v : List ℕ) {at end : ℕ} → at ≡ behind 32 v → end ≡ behind 10 (take (length v - at) (drop at v))
     → Parted v (take (length v - at) (drop at v)) end
-unfolding line-and-answer store-of answer-of
+unfolding line-and-answer listed-store answer-of
 parted v {at} {end} p q =
     let is : take (length v - at) (drop at v) ≡ line-and-answer v = to-end at v ∙ ap (λ k. drop k v) p in
     let line : end ≡ behind 10 (line-and-answer v) = q ∙ ap (behind 10) is in
@@ -130,7 +130,7 @@ module _ (agrees : List ℕ → Bool) {r : Reader} {before : List ℕ} where
   ended e is same after =
       record { reads = ap (λ n. reading-of n after) same ∙ rw (read-byte, e, ← is); within = rw same (omega arith) }
 
-  pub kept : {b : ℕ} → ends-at (r .fresh) b ≡ false → r .size ≤ 65536 → {after : List ℕ} {next : Reader} → Keeps r b before after next
+  pub kept : {b : ℕ} → ends-at (r .fresh) b ≡ false → r .size ≤ 65536 → {after : List ℕ} {next : Reader} → KeptSoFar r b before after next
       → Reads agrees r (b ∷ []) before after next
   unfolding read-byte read-bytes
   kept e small k = record { reads = k .reads ∙ rw (read-byte, e); within = k .within small }

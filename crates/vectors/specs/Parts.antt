@@ -27,9 +27,9 @@ unfoldable pub line-and-answer : List ℕ → List ℕ
 unfolding behind
 line-and-answer v = drop (behind 32 v) v
 
-unfoldable pub store-of : List ℕ → List ℕ
+unfoldable pub listed-store : List ℕ → List ℕ
 unfolding behind hex-bytes line-and-answer
-store-of v = let l = line-and-answer v in hex-bytes (take (behind 10 l) l)
+listed-store v = let l = line-and-answer v in hex-bytes (take (behind 10 l) l)
 
 unfoldable pub answer-of : List ℕ → List ℕ
 unfolding behind line-and-answer

@@ -61,7 +61,7 @@ pub record Reads (agrees : List ℕ → Bool) (r : Reader) (bs before after : Li
   pub reads : reading-of next after ≡ read-bytes agrees (reading-of r before) bs
   pub within : next .size ≤ 65536
 
-pub record Keeps (r : Reader) (b : ℕ) (before after : List ℕ) (next : Reader) : Type 0 where
+pub record KeptSoFar (r : Reader) (b : ℕ) (before after : List ℕ) (next : Reader) : Type 0 where
   pub reads : reading-of next after ≡ keep-byte (reading-of r before) b
   pub within : r .size ≤ 65536 → next .size ≤ 65536
 

@@ -4,7 +4,7 @@ ghost use mathlib.Core.Path.{_≡_};
 ghost use Prim.Native.Nat.{_≤_, _<_};
 ghost use lib.ListN.{length};
 ghost use Rattle.vectors.specs.Parts.{behind, hex-digit, hex-byte};
-ghost use Rattle.vectors.specs.Reading.{Decodes, at-start, ends-at, Keeps, counted-of};
+ghost use Rattle.vectors.specs.Reading.{Decodes, at-start, ends-at, KeptSoFar, counted-of};
 ghost use Rattle.vectors.specs.Tally.{one-more-told, told-of};
 
 // The bytes of a vector that are kept; a longer one never agrees. So many digits give half as many bytes.
@@ -99,7 +99,7 @@ pub fn ends(r: Reader, b: u8) -> bool
 
 // One more byte of a vector.
 pub fn keep(r: Reader, b: u8, text: &mut [u8; TEXT]) -> Reader
-    ensures { λ n. ⌜ Keeps r b (now (text .entry)) (now (text .exit)) n ⌝ }
+    ensures { λ n. ⌜ KeptSoFar r b (now (text .entry)) (now (text .exit)) n ⌝ }
 {
     span(text);
     let tally = r.tally;

@@ -53,17 +53,17 @@ store-refused s old mid {n} {w} l = by-answer (store-words s) refl (l .answer) (
 
 -- The store's words in front of the lent words, W of them.
 module _ (s old mid : List ℕ) {count : ℕ} (room : index-end ≤ length old) (l : Loads s old mid (loaded.Words count)) where
-  held : Front s old mid count
-  held = front s old mid count l
+  in-front : Front s old mid count
+  in-front = front s old mid count l
 
   count-is : count ≡ length (take count mid)
-  count-is = let known = l .answer ∙ ap words-counted (held .words) in cc
+  count-is = let known = l .answer ∙ ap words-counted (in-front .words) in cc
 
   mid-size : length mid ≡ length old
   mid-size =
-      let few = held .few in
+      let few = in-front .few in
       let all = count-is in
-      let parts : mid ≡ take count mid ++ drop (length (take count mid)) old = l .words ∙ ap (words-after old) (held .words) in
+      let parts : mid ≡ take count mid ++ drop (length (take count mid)) old = l .words ∙ ap (words-after old) (in-front .words) in
       omega (
         arith,
         ap length parts,
@@ -73,33 +73,34 @@ module _ (s old mid : List ℕ) {count : ℕ} (room : index-end ≤ length old) 
 
   mid-beyond : drop index-end mid ≡ drop index-end old
   mid-beyond =
-      let few = held .few in
+      let few = in-front .few in
       let split : count + (index-end - count) ≡ index-end = omega arith in
       ap (λ k. drop k mid) (sym split)
       ∙ sym (drop-drop (index-end - count) count mid)
-      ∙ ap (drop (index-end - count)) (held .rest)
+      ∙ ap (drop (index-end - count)) (in-front .rest)
       ∙ drop-drop (index-end - count) count old
       ∙ ap (λ k. drop k old) split
 
   mid-between : slice count record-end mid ≡ slice count record-end old
   mid-between =
-      let few = held .few in
+      let few = in-front .few in
       let split : count + (record-end - count) ≡ record-end = omega arith in
-      rw split at (part-as-lent count (record-end - count) mid old (omega (arith, mid-size)) (omega arith) (held .rest))
+      rw split at (part-as-lent count (record-end - count) mid old (omega (arith, mid-size)) (omega arith) (in-front .rest))
 
   front-words : (new : List ℕ) {y : Checked} → ReadChecked mid new y → take count new ≡ take count mid
   front-words new r =
-      sym (take-take count record-end new (held .few)) ∙ ap (take count) (r .kept .front) ∙ take-take count record-end mid (held .few)
+      sym (take-take count record-end new (in-front .few)) ∙ ap (take count) (r .kept .front)
+      ∙ take-take count record-end mid (in-front .few)
 
   -- its record is the one in front of them
   record-is : record-in mid ≡ read-record (take count mid)
-  record-is = rw (held .first, le-leb count record-end (held .few))
+  record-is = rw (in-front .first, le-leb count record-end (in-front .few))
 
   pub record-judged : (new : List ℕ) {x : Accepted} {y : Checked} → accept-answered x ≡ answered y → ReadChecked mid new y
       → Accepts s old new x
   record-judged new {x} told r =
-      let same : with-references (record-in mid) ≡ accept s = ap with-references record-is ∙ sym (accept-is s (held .words)) in
-      let known = held .words in
+      let same : with-references (record-in mid) ≡ accept s = ap with-references record-is ∙ sym (accept-is s (in-front .words)) in
+      let known = in-front .words in
       record {
         answer = told ∙ r .judged .answer ∙ ap forget same;
         stands = λ g f. r .judged .stands g (same ∙ f);

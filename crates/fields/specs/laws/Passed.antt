@@ -3,7 +3,7 @@ use mathlib.Core.Path.{_≡_, refl, ap, _∙_}
 use mathlib.Core.Bool.{Bool, true, false}
 use mathlib.Core.List.{List, [], _∷_, map}
 use mathlib.Core.Logic.{⊎-elim}
-use Prim.Native.Nat.{ℕ, zero, suc, _+_, _≤_, _<_}
+use Prim.Native.Nat.{ℕ, _+_, _≤_, _<_}
 use native.Mathlib.Omega.{arith}
 use Rattle.meaning.specs.Lists.{pick, rank, distinct-from}
 use native.Mathlib.Nat.{zero-add}
@@ -22,6 +22,7 @@ use Rattle.fields.specs.laws.Lists.{ListAt, ReadAt, word-fixed, value-fi
 use Rattle.fields.specs.laws.Regions.{Known, Beyond, small, beyond-words, region-case}
 use Rattle.fields.specs.laws.Terminators.{KnownTerminator, edges-length, known-end, no-targets}
 use Rattle.fields.specs.laws.Targets.{is-in-at, Found, found}
+use Rattle.meaning.specs.facts.Elements.{getD-map-in}
 
 targets-of-map : (h : ℕ → List Value) (ts : List ℕ) → map (λ (e : Edge). e .target) (map (λ t. record { target = t; inputs = h t }) ts) ≡ ts
 targets-of-map h [] = refl
@@ -31,15 +32,10 @@ pub edges-targets : (ts : List ℕ) (passes : List (List Value)) → map (λ e. 
 unfolding edges-passed
 edges-targets ts passes = targets-of-map _ ts
 
-map-at : {A B : Type 0} (f : A → B) (xs : List A) (d : A) (e : B) (k : ℕ) → k < length xs → getD (map f xs) k e ≡ f (getD xs k d)
-map-at f [] d e k l = absurd (omega arith)
-map-at f (x ∷ xs) d e zero l = refl
-map-at f (x ∷ xs) d e (suc k) l = map-at f xs d e k (omega arith)
-
 pub edge-inputs : (ts : List ℕ) (passes : List (List Value)) (j : ℕ) → j < length ts
     → getD (edges-passed ts passes) j no-edge .inputs ≡ getD passes (rank (getD ts j 0) (distinct-from [] ts)) []
 unfolding edges-passed
-edge-inputs ts passes j l = ap (λ e. e .inputs) (map-at _ ts 0 no-edge j l)
+edge-inputs ts passes j l = ap (λ e. e .inputs) (getD-map-in _ ts j 0 no-edge l)
 
 most-targets-eight : (k : ℕ) → most-targets k ≤ 8
 most-targets-eight k = by-tests (eqb k 5) (eqb k 4) (eqb k 3)

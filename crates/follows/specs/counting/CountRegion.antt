@@ -202,7 +202,8 @@ module _ (K : Counting) where
         (pre-as K pre (λ r. edges-to r (to-region q) n + H r) (λ r. 0) (λ r. omega arith) (λ r. omega arith)))
         λ u s′ h. record {
           step =
-              counted-as K (h .step) 0 0 (λ r. edges-to r (to-region q) n) (λ r. edges-to r (to-region q) n) (omega arith) (λ r. omega arith);
+              counted-as K (h .step) 0 0 (λ r. edges-to r (to-region q) n) (λ r. edges-to r (to-region q) n) (omega arith)
+              (λ r. omega arith);
           old = h .old;
         }
     begin-counted q n H s in-q pos pre in-progress p =

@@ -22,9 +22,9 @@ x = record { constants = λ i. 0; entry-inputs = λ k. 0; rule = λ op reads bef
 abbrev looping : Value → Nodes
 looping v = loop (record { number = 0; initial-inputs = []; body = 1; types = []; limit = 1; outputs = []; repeat = v }) ⟨⟩ ▸ ⟨⟩
 
-pub goes-on : nested-run g x (looping (bool true)) (some []) 3 ≡ without-end turns-used-up
+pub loop-goes-on : nested-run g x (looping (bool true)) (some []) 3 ≡ without-end turns-used-up
 unfolding nested-run entry-words put-inputs run-nodes turns
-goes-on = refl
+loop-goes-on = refl
 
 pub once : nested-run g x (looping (bool false)) (some []) 3
     ≡ ends-as (record { end = returned []; events = []; cost = 2; over-limit = false })

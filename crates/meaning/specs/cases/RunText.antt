@@ -1,7 +1,6 @@
 -- Runs as text, a line for the graph's and a line for the nested one, and a rule that four numbers make.
 -- END is `returned WORDS` or `exited OPCODE WORDS`; an event is region.index/opcode/reads, the earliest first.
-use mathlib.Core.Bool.{Bool, true, false}
-use mathlib.Core.List.{List, [], _∷_, _++_, map}
+use mathlib.Core.List.{List, [], _∷_, _++_}
 use mathlib.Core.Option.{Option, none, some}
 use Prim.Native.Nat.{ℕ, suc, _+_, _*_}
 use lib.ListN.{length, getD}
@@ -24,8 +23,8 @@ abbrev pub linear : ℕ → ℕ → ℕ → ℕ → Rule
 linear a b c d opcode reads before = a * opcode + b * weighted-reads 1 reads + c * length before + d
 
 -- constants, entry inputs, the four numbers of the rule
-abbrev pub given : List ℕ → List ℕ → ℕ → ℕ → ℕ → ℕ → Given
-given cs is a b c d = record { constants = λ i. getD cs i 0; entry-inputs = λ k. getD is k 0; rule = linear a b c d }
+abbrev pub given-words : List ℕ → List ℕ → ℕ → ℕ → ℕ → ℕ → Given
+given-words cs is a b c d = record { constants = λ i. getD cs i 0; entry-inputs = λ k. getD is k 0; rule = linear a b c d }
 
 -- ---- the text
 abbrev pub spaced : List Text → Text
@@ -36,14 +35,14 @@ unfolding decimal
 word-text (word w) = decimal w
 word-text mark = ascii "u"
 
-unfoldable pub words-text : List Word → Text
+unfoldable pub run-words-text : List Word → Text
 unfolding word-text listed
-words-text ws = listed word-text ws
+run-words-text ws = listed word-text ws
 
 unfoldable pub event-text : Event → Text
-unfolding words-text
+unfolding run-words-text
 event-text e =
-    decimal (e .region) ++ ascii "." ++ decimal (e .index) ++ ascii "/" ++ decimal (e .opcode) ++ ascii "/" ++ words-text (e .reads)
+    decimal (e .region) ++ ascii "." ++ decimal (e .index) ++ ascii "/" ++ decimal (e .opcode) ++ ascii "/" ++ run-words-text (e .reads)
 
 -- The events are the latest first.
 abbrev pub earliest-first : List Event → List Text → List Text
@@ -56,9 +55,9 @@ events-text [] = ascii "-"
 events-text (e ∷ es) = joined (ascii ";") (earliest-first (e ∷ es) [])
 
 unfoldable pub end-text : End → Text
-unfolding words-text joined
-end-text (returned ws) = joined (ascii " ") (ascii "returned" ∷ words-text ws ∷ [])
-end-text (exited op ws) = joined (ascii " ") (ascii "exited" ∷ decimal op ∷ words-text ws ∷ [])
+unfolding run-words-text joined
+end-text (returned ws) = joined (ascii " ") (ascii "returned" ∷ run-words-text ws ∷ [])
+end-text (exited op ws) = joined (ascii " ") (ascii "exited" ∷ decimal op ∷ run-words-text ws ∷ [])
 
 unfoldable pub graph-line : Option Ended → Text
 unfolding end-text events-text

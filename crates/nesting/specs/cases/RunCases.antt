@@ -6,7 +6,7 @@ use Prim.Native.String.{String}
 use Rattle.meaning.specs.Graph.{Graph}
 use Rattle.meaning.specs.Runs.{Given}
 use Rattle.meaning.specs.Text.{Text, ascii}
-use Rattle.meaning.specs.cases.RunText.{given}
+use Rattle.meaning.specs.cases.RunText.{given-words}
 use Rattle.meaning.specs.cases.RunCases.{RunCase, run-cases}
 use Rattle.nesting.specs.cases.RunLines.{graph-lines}
 use Rattle.nesting.specs.cases.CaseGraphs.{A, B}
@@ -28,13 +28,13 @@ runs g x n m a b = record { graph = g; given = x; regions = n; turns = m; lines 
 -- A at both places of its test, B for five turns.
 abbrev pub nested-run-cases : List NestedRunCase
 nested-run-cases =
-    runs A (given (100 ∷ 101 ∷ []) [] 0 0 0 5) 3 0
+    runs A (given-words (100 ∷ 101 ∷ []) [] 0 0 0 5) 3 0
     "graph returned 100 0.0/7/-;1.0/8/-"
     "nested returned 100 0.0/7/-;1.0/8/- cost 10 over 0"
-    ∷ runs A (given (100 ∷ 101 ∷ []) [] 0 0 0 0) 3 0
+    ∷ runs A (given-words (100 ∷ 101 ∷ []) [] 0 0 0 0) 3 0
     "graph returned 101 0.0/7/-;2.0/9/-"
     "nested returned 101 0.0/7/-;2.0/9/- cost 11 over 0"
-    ∷ runs B (given (7 ∷ []) [] 0 0 4294967295 4) 7 5
+    ∷ runs B (given-words (7 ∷ []) [] 0 0 4294967295 4) 7 5
     "graph returned - 1.0/5/-;1.0/5/-;1.0/5/-;1.0/5/-;1.0/5/-"
     "nested returned - 1.0/5/-;1.0/5/-;1.0/5/-;1.0/5/-;1.0/5/- cost 50 over 0"
     ∷ map of-run-case run-cases

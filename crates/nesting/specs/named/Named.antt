@@ -92,7 +92,7 @@ module _ (M : ℕ) where
   OutputsNamed os = All (λ o. AllNamed (o .values)) os
 
   -- All that the tables of a state hold.
-  pub record Good (s : NestState) : Type 0 where
+  pub record GoodLookUp (s : NestState) : Type 0 where
     pub states : All StateNamed (s .region-states)
     pub log : LogNamed (s .region-input-rewrites)
     pub outputs : OutputsNamed (s .node-outputs)

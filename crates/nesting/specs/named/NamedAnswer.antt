@@ -21,8 +21,8 @@ use Rattle.nesting.specs.Nesting.{incoming-edge-counts, try-claim-edge-b
 use Rattle.nesting.specs.steps.Post.{Post}
 use Rattle.nesting.specs.steps.RegionsLeft.{AnyRefusal}
 use Rattle.nesting.specs.named.Named.{Named, AllNamed, InstrsNamed, NodeNamed, NodesNamed, CasesNamed, BundleNamed, SetNamed}
-use Rattle.nesting.specs.named.Named.{StateNamed, OutputsNamed, Good, at-place, look-up-last-named, look-ups-named}
-use Rattle.nesting.specs.named.NamedSteps.{Kept}
+use Rattle.nesting.specs.named.Named.{StateNamed, OutputsNamed, GoodLookUp, at-place, look-up-last-named, look-ups-named}
+use Rattle.nesting.specs.named.NamedSteps.{NamedKept}
 use Rattle.nesting.specs.named.NamedSelects.{condition-named}
 use Rattle.nesting.specs.named.NamedClaims.{ClaimMaybe, RegionNamed, try-claim-named}
 
@@ -66,7 +66,7 @@ module _ (M : ℕ) where
         cases-last (case c ks cs) h n j =
             (look-ups-named M ρ f (case-outputs n j os) (case-outputs-named n j), nodes-last ks (h .1), cases-last cs (h .2) n (suc j))
 
-  module _ (g : Graph) (s : NestState) (good : Good M s) where
+  module _ (g : Graph) (s : NestState) (good : GoodLookUp M s) where
     piece-last : (p : Piece) → PieceNamed p → PieceNamed (look-up-piece g s p .value)
     unfolding look-up-piece
     piece-last p h =
@@ -91,7 +91,7 @@ pub record NestedNamed (n : Nested) : Type 0 where
   pub entry : PieceNamed (length (n .output-nodes)) (n .entry)
   pub unclaimed : All (PieceNamed (length (n .output-nodes))) (n .unclaimed)
 
-module _ (g : Graph) (s : NestState) (good : Good (length (s .node-outputs)) s) where
+module _ (g : Graph) (s : NestState) (good : GoodLookUp (length (s .node-outputs)) s) where
   concluded-named : (o : Outcome) (p : Piece) (ps : List Piece) → PieceNamed (length (s .node-outputs)) p
       → All (PieceNamed (length (s .node-outputs))) ps
       → NestedNamed (conclude-with g s o p ps)
@@ -120,7 +120,7 @@ module _ (g : Graph) (s : NestState) (good : Good (length (s .node-outputs)) s) 
       concluded-named leftover _ (unclaimed-from g 0 (s .region-states)) (hk, tt, hd)
       (unclaimed-named (length (s .node-outputs)) g s good 0 (s .region-states) (good .states))
 
-first-good : (M : ℕ) (g : Graph) → Good M (initial-state g)
+first-good : (M : ℕ) (g : Graph) → GoodLookUp M (initial-state g)
 first-good M g = record { states = all-replicate (StateNamed M) not-begun tt (length (g .regions)); log = tt; outputs = tt }
 
 -- The same of an answer, if it is one.
@@ -130,7 +130,7 @@ IfNamed (refused k w) = Unit
 
 module _ (g : Graph) (each : (M r : ℕ) → RegionNamed M (region g r)) where
   conclude-named : (a : StepAnswer (Option ClaimedRegion))
-      → ((M : ℕ) → Post AnyRefusal (λ o s. Kept M (AllNamed M []) (ClaimMaybe M) (initial-state g) o s) a) → IfNamed (conclude g a)
+      → ((M : ℕ) → Post AnyRefusal (λ o s. NamedKept M (AllNamed M []) (ClaimMaybe M) (initial-state g) o s) a) → IfNamed (conclude g a)
   unfolding conclude
   conclude-named (turned-away k w) p = tt
   conclude-named (done none s) p = tt

@@ -24,7 +24,8 @@ use Rattle.nesting.specs.Nesting.{structurize-region, try-claim-edge-bun
 use Rattle.nesting.specs.steps.Keeps.{loop-claimed}
 use Rattle.nesting.specs.named.Named.{Named, AllNamed, InstrsNamed, NodesNamed, CondNamed, BundleNamed, SetNamed, ClaimedNamed}
 use Rattle.nesting.specs.named.Named.{CaseNamed, StateNamed, RewriteNamed, join-named, look-up-named, look-ups-named}
-use Rattle.nesting.specs.named.NamedSteps.{Keeps, then-keeps, next-keeps, from, give-keeps, define-region-named, define-node-named}
+use Rattle.nesting.specs.named.NamedSteps.{KeepsNamed, then-keeps, next-keeps, from, give-keeps, define-region-named}
+use Rattle.nesting.specs.named.NamedSteps.{define-node-named}
 use Rattle.nesting.specs.named.NamedSteps.{insert-rewrites-named, materialize-named}
 use Rattle.nesting.specs.named.NamedSelects.{BundleMaybe, bundle-named, condition-named, BodyNamed, append-named, select-into-named}
 
@@ -48,7 +49,7 @@ module _ (M : ℕ) where
     pub terminator : EndNamed (x .terminator)
 
   -- ---- steps on the state
-  rewrite-values-named : (vs : List Value) → Keeps M (AllNamed M vs) (AllNamed M) (rewrite-values vs)
+  rewrite-values-named : (vs : List Value) → KeepsNamed M (AllNamed M vs) (AllNamed M) (rewrite-values vs)
   unfolding rewrite-values
   rewrite-values-named vs s = record {
     post = record {
@@ -60,12 +61,12 @@ module _ (M : ℕ) where
     };
   }
 
-  get-state-named : {P : Type 0} (r : ℕ) → Keeps M P (StateNamed M) (get-state r)
+  get-state-named : {P : Type 0} (r : ℕ) → KeepsNamed M P (StateNamed M) (get-state r)
   get-state-named r s = record {
     post = record { more = omega arith; good = λ room pre h. (h, all-getD (StateNamed M) not-begun tt (s .region-states) (h .states) r) };
   }
 
-  set-state-named : (r : ℕ) (x : StructurizeRegionState) → Keeps M (StateNamed M x) (λ u. Unit) (set-state r x)
+  set-state-named : (r : ℕ) (x : StructurizeRegionState) → KeepsNamed M (StateNamed M x) (λ u. Unit) (set-state r x)
   set-state-named r x s = record {
     post = record {
       more = omega arith;
@@ -81,12 +82,12 @@ module _ (M : ℕ) where
     };
   }
 
-  count-attempt-named : {P : Type 0} → Keeps M P (λ u. Unit) count-attempt
+  count-attempt-named : {P : Type 0} → KeepsNamed M P (λ u. Unit) count-attempt
   count-attempt-named s = record {
     post = record { more = omega arith; good = λ room pre h. (record { states = h .states; log = h .log; outputs = h .outputs }, tt) };
   }
 
-  refusal-named : {A P : Type 0} {G : A → Type 0} (n w : ℕ) → Keeps M P G (turn-away n w)
+  refusal-named : {A P : Type 0} {G : A → Type 0} (n w : ℕ) → KeepsNamed M P G (turn-away n w)
   refusal-named n w s = record { post = tt }
 
   -- ---- loops
@@ -136,7 +137,7 @@ module _ (M : ℕ) where
 
   module _ (g : Graph) where
     loop-named : (body : ℕ) (ks : Nodes) (e : DeferredEdgeBundle) (c : LazyCond) (exits : DeferredEdgeBundleSet) (ins : List Value)
-        → Keeps M (NodesNamed M ks × BundleNamed M e × CondNamed M c × SetNamed M exits × AllNamed M ins) ClaimMaybe
+        → KeepsNamed M (NodesNamed M ks × BundleNamed M e × CondNamed M c × SetNamed M exits × AllNamed M ins) ClaimMaybe
         (structurize-loop g body ks e c exits ins)
     unfolding structurize-loop NodesNamed
     loop-named body ks e c exits ins =
@@ -156,7 +157,7 @@ module _ (M : ℕ) where
         ))
 
     claim-body-named : (r : ℕ) (ins : List Value) (ks : Nodes) (d : DeferredEdgeBundleSet) (o : Option DeferredEdgeBundle)
-        → Keeps M (AllNamed M ins × NodesNamed M ks × SetNamed M d × BundleMaybe M o) ClaimMaybe (claim-body g r ins ks d o)
+        → KeepsNamed M (AllNamed M ins × NodesNamed M ks × SetNamed M d × BundleMaybe M o) ClaimMaybe (claim-body g r ins ks d o)
     claim-body-named r ins ks d none = give-keeps M _ (λ h. (h .0, h .1, h .2))
     claim-body-named r ins ks d (some e) =
         from M _ (λ h. (h .1, h .3, condition-named M d e (h .3), split-out-named (to-region r) d (h .2), h .0))
@@ -167,18 +168,18 @@ module _ (M : ℕ) where
     backedge-named r (suc b) d h = bundle-named M (to-region r) d h
 
     claim-by-state-named : (r n : ℕ) (ins : List Value) (inc : ℕ) (x : StructurizeRegionState)
-        → Keeps M (AllNamed M ins × StateNamed M x) ClaimMaybe (claim-by-state g r n ins inc x)
+        → KeepsNamed M (AllNamed M ins × StateNamed M x) ClaimMaybe (claim-by-state g r n ins inc x)
     claim-by-state-named r n ins inc not-begun = refusal-named 0 r
     claim-by-state-named r n ins inc claimed = refusal-named 12 r
     claim-by-state-named r n ins inc in-progress = go (eqb inc n)
       where
-        go : (b : Bool) → Keeps M (AllNamed M ins × Unit) ClaimMaybe
+        go : (b : Bool) → KeepsNamed M (AllNamed M ins × Unit) ClaimMaybe
             (elim b as (λ b. Step (Option ClaimedRegion)) [ false ↦ give none | true ↦ turn-away 12 r ])
         go false = give-keeps M none (λ h. tt)
         go true = refusal-named 12 r
     claim-by-state-named r n ins inc (ready b ks d) = go (eqb inc (n + b))
       where
-        go : (c : Bool) → Keeps M (AllNamed M ins × (NodesNamed M ks × SetNamed M d)) ClaimMaybe
+        go : (c : Bool) → KeepsNamed M (AllNamed M ins × (NodesNamed M ks × SetNamed M d)) ClaimMaybe
             (elim c as (λ c. Step (Option ClaimedRegion)) [
               | false ↦ give none
               | true ↦ set-state r claimed >> claim-body g r ins ks d
@@ -204,7 +205,8 @@ module _ (M : ℕ) where
       go true = tt
       go false = defer-named e h
 
-  edge-case-named : (e : Edge) (o : Option ClaimedRegion) → Keeps M (AllNamed M (e .inputs) × ClaimMaybe o) (CaseNamed M) (edge-case e o)
+  edge-case-named : (e : Edge) (o : Option ClaimedRegion) → KeepsNamed M (AllNamed M (e .inputs) × ClaimMaybe o) (CaseNamed M)
+      (edge-case e o)
   edge-case-named e (some c) = give-keeps M (ok c) (λ h. h .1)
   edge-case-named e none =
       then-keeps M (get-state (e .target)) _ (get-state-named (e .target)) λ x. give-keeps M (unclaimed-edge e x)
@@ -223,7 +225,7 @@ module _ (M : ℕ) where
   blocks-named n r k (b ∷ bs) h = (h .0, blocks-named (suc n) r (k + length b) bs (h .1))
 
   abbrev pub ClaimsNamed : Claim → Type 0
-  ClaimsNamed claim = (r n : ℕ) (ins : List Value) → Keeps M (AllNamed M ins) ClaimMaybe (claim r n ins)
+  ClaimsNamed claim = (r n : ℕ) (ins : List Value) → KeepsNamed M (AllNamed M ins) ClaimMaybe (claim r n ins)
 
   abbrev SplitMaybe : Option SplitOut → Type 0
   SplitMaybe none = Unit
@@ -231,7 +233,7 @@ module _ (M : ℕ) where
 
   module _ (g : Graph) (each : (r : ℕ) → RegionNamed (region g r)) where
     control-named : (parent : Nodes) (x : ControlInst) (cs : List MaybeClaimedRegion)
-        → Keeps M (NodesNamed M parent × EndNamed x × All (CaseNamed M) cs) (BodyNamed M) (by-control-inst g parent x cs)
+        → KeepsNamed M (NodesNamed M parent × EndNamed x × All (CaseNamed M) cs) (BodyNamed M) (by-control-inst g parent x cs)
     unfolding NodesNamed CondNamed
     control-named parent unreachable cs = give-keeps M _ (λ h. (h .0, tt))
     control-named parent (return vs) cs = give-keeps M _ (λ h. (h .0, ((h .1, tt), tt)))
@@ -244,7 +246,7 @@ module _ (M : ℕ) where
         from M _ (λ h. (h .0, h .1 .0, h .2)) (select-into-named M g parent kind (value v) cs)
 
     module _ (claim : Claim) (claims : ClaimsNamed claim) where
-      targets-named : (es : List Edge) → Keeps M (EdgesNamed es) (λ cs. All (CaseNamed M) cs) (target-regions g claim es)
+      targets-named : (es : List Edge) → KeepsNamed M (EdgesNamed es) (λ cs. All (CaseNamed M) cs) (target-regions g claim es)
       unfolding target-regions
       targets-named [] = give-keeps M [] (λ h. tt)
       targets-named (e ∷ es) =
@@ -254,7 +256,7 @@ module _ (M : ℕ) where
           (λ h. (h .0 .1, h .1))
 
       module _ (before : DeferredEdgeBundleSet) (e : DeferredEdgeBundle) (es : DeferredEdgeBundleSet)
-          (later : Keeps M (SetNamed M (before ++ (e ∷ [])) × SetNamed M es) SplitMaybe
+          (later : KeepsNamed M (SetNamed M (before ++ (e ∷ [])) × SetNamed M es) SplitMaybe
           (split-out-matching g claim (before ++ (e ∷ [])) es)) where
         abbrev Before : Type 0
         Before = SetNamed M before × SetNamed M (e ∷ es)
@@ -262,14 +264,14 @@ module _ (M : ℕ) where
         abbrev more : Step (Option SplitOut)
         more = split-out-matching g claim (before ++ (e ∷ [])) es
 
-        rest : Keeps M Before SplitMaybe more
+        rest : KeepsNamed M Before SplitMaybe more
         rest = from M more (λ h. (all-append (BundleNamed M) before (e ∷ []) (h .0) (h .1 .0, tt), h .1 .1)) later
 
-        by-claim : (o : Option ClaimedRegion) → Keeps M (Before × ClaimMaybe o) SplitMaybe (split-out-or e (before ++ es) more o)
+        by-claim : (o : Option ClaimedRegion) → KeepsNamed M (Before × ClaimMaybe o) SplitMaybe (split-out-or e (before ++ es) more o)
         by-claim none = from M more (λ h. h .0) rest
         by-claim (some c) = give-keeps M _ (λ h. (h .0 .1 .0, h .1, all-append (BundleNamed M) before es (h .0 .0) (h .0 .1 .1)))
 
-        by-target : (t : DeferredTarget) → Keeps M Before SplitMaybe
+        by-target : (t : DeferredTarget) → KeepsNamed M Before SplitMaybe
             (elim t as (λ t. Step (Option SplitOut)) [
               | to-return ↦ more
               | to-region r ↦ claim r (e .accumulated-count) (e .target-inputs)
@@ -280,21 +282,21 @@ module _ (M : ℕ) where
             then-keeps M (claim r (e .accumulated-count) (e .target-inputs)) _
             (from M _ (λ h. h .1 .0 .0) (claims r (e .accumulated-count) (e .target-inputs))) by-claim
 
-      scan-named : (before d : DeferredEdgeBundleSet) → Keeps M (SetNamed M before × SetNamed M d) SplitMaybe
+      scan-named : (before d : DeferredEdgeBundleSet) → KeepsNamed M (SetNamed M before × SetNamed M d) SplitMaybe
           (split-out-matching g claim before d)
       unfolding split-out-matching
       scan-named before [] = give-keeps M none (λ h. tt)
       scan-named before (e ∷ es) = by-target before e es (scan-named (before ++ (e ∷ [])) es) (e .target)
 
-      resolve-named : (fuel : ℕ) (x : Body) → Keeps M (BodyNamed M x) (BodyNamed M) (resolve-deferred g claim fuel x)
+      resolve-named : (fuel : ℕ) (x : Body) → KeepsNamed M (BodyNamed M x) (BodyNamed M) (resolve-deferred g claim fuel x)
       unfolding resolve-deferred
       resolve-named zero x = give-keeps M x (λ h. h)
       resolve-named (suc fuel) x =
           then-keeps M (split-out-matching g claim [] (x .deferred-edges)) _
           (from M _ (λ h. (tt, h .1)) (scan-named [] (x .deferred-edges))) (by λ z. resolve-named fuel z)
         where
-          by : ((z : Body) → Keeps M (BodyNamed M z) (BodyNamed M) (resolve-deferred g claim fuel z))
-              → (o : Option SplitOut) → Keeps M (BodyNamed M x × SplitMaybe o) (BodyNamed M)
+          by : ((z : Body) → KeepsNamed M (BodyNamed M z) (BodyNamed M) (resolve-deferred g claim fuel z))
+              → (o : Option SplitOut) → KeepsNamed M (BodyNamed M x × SplitMaybe o) (BodyNamed M)
               (resolve-by g (λ y. resolve-deferred g claim fuel y) x o)
           by later none = give-keeps M x (λ h. h .0)
           by later (some y) =
@@ -305,7 +307,7 @@ module _ (M : ℕ) where
               (ok (y .claimed-region) ∷ err (y .others) ∷ []))) λ z.
               from M _ (λ h. h .1) (later z)
 
-      region-named : {P : Type 0} (r : ℕ) → Keeps M P (λ u. Unit) (structurize-region g claim r)
+      region-named : {P : Type 0} (r : ℕ) → KeepsNamed M P (λ u. Unit) (structurize-region g claim r)
       unfolding structurize-region
       region-named r =
           next-keeps M (set-state r in-progress) _ (from M _ (λ h. tt) (set-state-named r in-progress))
@@ -322,7 +324,7 @@ module _ (M : ℕ) where
           (from M _ (λ h. h .1) (resolve-named (length (g .regions)) x)) λ y.
           from M _ (λ h. (h .1 .0, h .1 .1)) (set-state-named r (ready (count-to r (y .deferred-edges)) (y .children) (y .deferred-edges))))
 
-      begin-named : {P : Type 0} (x : StructurizeRegionState) (r : ℕ) → Keeps M P (λ u. Unit) (begin x (structurize-region g claim r))
+      begin-named : {P : Type 0} (x : StructurizeRegionState) (r : ℕ) → KeepsNamed M P (λ u. Unit) (begin x (structurize-region g claim r))
       begin-named not-begun r = region-named r
       begin-named in-progress r = give-keeps M tt (λ h. tt)
       begin-named claimed r = give-keeps M tt (λ h. tt)

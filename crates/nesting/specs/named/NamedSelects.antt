@@ -22,7 +22,8 @@ use Rattle.nesting.specs.Nesting.{DefinedSelect, define-select, emit-inp
 use Rattle.nesting.specs.Nesting.{replace-inputs, structurize-select, structurize-select-by, structurize-select-into}
 use Rattle.nesting.specs.named.Named.{Named, AllNamed, NodesNamed, CasesNamed, CondNamed, CondsNamed, BundleNamed, SetNamed}
 use Rattle.nesting.specs.named.Named.{CaseNamed, at-place, join-named, look-up-named, look-ups-named}
-use Rattle.nesting.specs.named.NamedSteps.{Keeps, then-keeps, next-keeps, from, give-keeps, define-region-named, define-node-named}
+use Rattle.nesting.specs.named.NamedSteps.{KeepsNamed, then-keeps, next-keeps, from, give-keeps, define-region-named}
+use Rattle.nesting.specs.named.NamedSteps.{define-node-named}
 use Rattle.nesting.specs.named.NamedSteps.{define-merge-named, define-output-named, insert-rewrites-named, materialize-named}
 
 module _ (M : ℕ) where
@@ -183,7 +184,7 @@ module _ (M : ℕ) where
     case-looked-up (err d) h = set-looked-up d h
     case-looked-up (ok c) h = (look-ups-named M ρ f (c .structured-body-inputs) (h .0), h .1, set-looked-up (c .deferred-edges) (h .2))
 
-  rewrite-cases-named : (cs : List MaybeClaimedRegion) → Keeps M (All (CaseNamed M) cs) (λ ds. All (CaseNamed M) ds) (rewrite-cases cs)
+  rewrite-cases-named : (cs : List MaybeClaimedRegion) → KeepsNamed M (All (CaseNamed M) cs) (λ ds. All (CaseNamed M) ds) (rewrite-cases cs)
   unfolding rewrite-cases
   rewrite-cases-named cs s = record {
     post = record {
@@ -204,7 +205,7 @@ module _ (M : ℕ) where
   abbrev pub BodyNamed : Body → Type 0
   BodyNamed x = NodesNamed M (x .children) × SetNamed M (x .deferred-edges)
 
-  case-regions-named : (cs : List MaybeClaimedRegion) → Keeps M (All (CaseNamed M) cs) (CasesNamed M) (case-regions cs)
+  case-regions-named : (cs : List MaybeClaimedRegion) → KeepsNamed M (All (CaseNamed M) cs) (CasesNamed M) (case-regions cs)
   unfolding case-regions CasesNamed
   case-regions-named [] = give-keeps M ∅ (λ h. tt)
   case-regions-named (err d ∷ cs) =
@@ -213,7 +214,7 @@ module _ (M : ℕ) where
   case-regions-named (ok c ∷ cs) =
       then-keeps M (case-regions cs) _ (from M _ (λ h. h .1) (case-regions-named cs)) λ rest. give-keeps M _ (λ h. (tt, h .0 .0 .1, h .1))
 
-  scrutinee-named : (x : Scrutinee) → Keeps M (ScrutineeNamed x) (Named M) (scrutinee-value x)
+  scrutinee-named : (x : Scrutinee) → KeepsNamed M (ScrutineeNamed x) (Named M) (scrutinee-value x)
   scrutinee-named (value v) = give-keeps M v (λ h. h)
   scrutinee-named (lazy c) = materialize-named M c
 
@@ -221,14 +222,14 @@ module _ (M : ℕ) where
   SelectNamed n = Named M (n .scrutinee) × NodesNamed M (n .children)
 
   define-select-named : (kind : SelectionKind) (x : Scrutinee) (cs : List MaybeClaimedRegion)
-      → Keeps M (ScrutineeNamed x × All (CaseNamed M) cs) SelectNamed (define-select kind x cs)
+      → KeepsNamed M (ScrutineeNamed x × All (CaseNamed M) cs) SelectNamed (define-select kind x cs)
   unfolding define-select NodesNamed
   define-select-named kind x cs =
       then-keeps M (case-regions cs) _ (from M _ (λ h. h .1) (case-regions-named cs)) λ rest.
       then-keeps M (scrutinee-value x) _ (from M _ (λ h. h .0 .0) (scrutinee-named x)) λ v.
       then-keeps M define-node _ (define-node-named M) λ n. give-keeps M _ (λ h. (h .0 .1, ((h .0 .1, h .0 .0 .1), tt)))
 
-  emit-inputs-named : (n : DefinedSelect) (is : List PlannedInput) → Keeps M (All PlannedInputNamed is) (AllNamed M) (emit-inputs n is)
+  emit-inputs-named : (n : DefinedSelect) (is : List PlannedInput) → KeepsNamed M (All PlannedInputNamed is) (AllNamed M) (emit-inputs n is)
   unfolding emit-inputs
   emit-inputs-named n [] = give-keeps M [] (λ h. tt)
   emit-inputs-named n (shared v ∷ is) =
@@ -238,13 +239,13 @@ module _ (M : ℕ) where
       then-keeps M (emit-inputs n is) _ (from M _ (λ h. h .0 .1) (emit-inputs-named n is)) λ ws. give-keeps M _ (λ h. (h .0 .1, h .1))
 
   emit-condition-named : (n : DefinedSelect) (o : Option LazyConds)
-      → Keeps M (Named M (n .scrutinee) × CondsMaybe o) (CondNamed M) (emit-condition n o)
+      → KeepsNamed M (Named M (n .scrutinee) × CondsMaybe o) (CondNamed M) (emit-condition n o)
   unfolding CondNamed
   emit-condition-named n none = give-keeps M true-cond (λ h. tt)
   emit-condition-named n (some cs) = next-keeps M define-merge _ (define-merge-named M) (give-keeps M _ (λ h. (h .0, h .1)))
 
   emit-named : (n : DefinedSelect) (ps : List PlannedBundle)
-      → Keeps M (Named M (n .scrutinee) × All PlannedNamed ps) (SetNamed M) (emit n ps)
+      → KeepsNamed M (Named M (n .scrutinee) × All PlannedNamed ps) (SetNamed M) (emit n ps)
   unfolding emit
   emit-named n [] = give-keeps M [] (λ h. tt)
   emit-named n (p ∷ ps) =
@@ -267,7 +268,7 @@ module _ (M : ℕ) where
   )
 
   select-if-named : (b : Bool) (kind : SelectionKind) (x : Scrutinee) (cs : List MaybeClaimedRegion) (ps : List PlannedBundle)
-      → Keeps M (ScrutineeNamed x × All (CaseNamed M) cs × All PlannedNamed ps) BodyNamed (select-if b kind x cs ps)
+      → KeepsNamed M (ScrutineeNamed x × All (CaseNamed M) cs × All PlannedNamed ps) BodyNamed (select-if b kind x cs ps)
   unfolding select-if NodesNamed
   select-if-named false kind x cs ps =
       give-keeps M _ (λ h. (tt, all-mapped shared-bundle PlannedNamed (BundleNamed M) shared-named ps (h .2)))
@@ -275,7 +276,7 @@ module _ (M : ℕ) where
       then-keeps M (define-select kind x cs) _ (from M _ (λ h. (h .0, h .1)) (define-select-named kind x cs)) λ n.
       then-keeps M (emit n ps) _ (from M _ (λ h. (h .1 .0, h .0 .2)) (emit-named n ps)) λ d. give-keeps M _ (λ h. (h .0 .1 .1, h .1))
 
-  replace-inputs-named : (cs : List MaybeClaimedRegion) → Keeps M (All (CaseNamed M) cs) (λ u. Unit) (replace-inputs cs)
+  replace-inputs-named : (cs : List MaybeClaimedRegion) → KeepsNamed M (All (CaseNamed M) cs) (λ u. Unit) (replace-inputs cs)
   unfolding replace-inputs
   replace-inputs-named [] = give-keeps M tt (λ h. tt)
   replace-inputs-named (err d ∷ cs) = from M (replace-inputs cs) (λ h. h .1) (replace-inputs-named cs)
@@ -285,7 +286,7 @@ module _ (M : ℕ) where
       (from M (replace-inputs cs) (λ h. h .1) (replace-inputs-named cs))
 
   pub append-named : (parent : Nodes) (c : MaybeClaimedRegion)
-      → Keeps M (NodesNamed M parent × CaseNamed M c) BodyNamed (append-maybe-claimed-region parent c)
+      → KeepsNamed M (NodesNamed M parent × CaseNamed M c) BodyNamed (append-maybe-claimed-region parent c)
   unfolding append-maybe-claimed-region
   append-named parent (err d) = give-keeps M _ (λ h. (h .0, h .1))
   append-named parent (ok c) =
@@ -301,7 +302,8 @@ module _ (M : ℕ) where
       go false = tt
 
   module _ (g : Graph) (parent : Nodes) (kind : SelectionKind) (x : Scrutinee) where
-    select-named : (cases : List MaybeClaimedRegion) → Keeps M (NodesNamed M parent × ScrutineeNamed x × All (CaseNamed M) cases) BodyNamed
+    select-named : (cases : List MaybeClaimedRegion) → KeepsNamed M
+        (NodesNamed M parent × ScrutineeNamed x × All (CaseNamed M) cases) BodyNamed
         (structurize-select g parent kind x cases)
     unfolding structurize-select
     select-named cases =
@@ -311,7 +313,7 @@ module _ (M : ℕ) where
         next-keeps M (replace-inputs cs) _ (from M _ (λ h. h .0 .1) (replace-inputs-named cs))
         (give-keeps M _ (λ h. (join-named M parent (y .children) (h .0 .0 .0) (h .1 .0), h .1 .1)))
 
-    by-convergent : (cases cs : List MaybeClaimedRegion) → Keeps M
+    by-convergent : (cases cs : List MaybeClaimedRegion) → KeepsNamed M
         (NodesNamed M parent × ScrutineeNamed x × All (CaseNamed M) cases × All (CaseNamed M) cs) BodyNamed
         (structurize-select-by g parent kind x cases cs)
     by-convergent cases [] = from M _ (λ h. (h .0, h .1, h .2)) (select-named cases)
@@ -327,7 +329,7 @@ module _ (M : ℕ) where
         from M _ (λ h. (h .1 .0, h .0 .3 .0)) (append-named (y .children) c)
 
     pub select-into-named : (cases : List MaybeClaimedRegion)
-        → Keeps M (NodesNamed M parent × ScrutineeNamed x × All (CaseNamed M) cases) BodyNamed
+        → KeepsNamed M (NodesNamed M parent × ScrutineeNamed x × All (CaseNamed M) cases) BodyNamed
         (structurize-select-into g parent kind x cases)
     select-into-named cases =
         from M _ (λ h. (h .0, h .1, h .2, all-filter (CaseNamed M) (λ c. not (empty (deferred-of c))) cases (h .2)))

@@ -14,22 +14,22 @@ use Rattle.nesting.specs.Nesting.{define-node, define-merge, define-outp
 use Rattle.nesting.specs.Nesting.{materialize-lazy-cond, materialize-lazy-conds, value}
 use Rattle.nesting.specs.steps.Post.{Post, bind, map-post, when-room}
 use Rattle.nesting.specs.steps.RegionsLeft.{AnyRefusal}
-use Rattle.nesting.specs.named.Named.{Named, AllNamed, CondNamed, CondsNamed, RewritesNamed, Good}
+use Rattle.nesting.specs.named.Named.{Named, AllNamed, CondNamed, CondsNamed, RewritesNamed, GoodLookUp}
 
 abbrev pub outputs-made : NestState → ℕ
 outputs-made s = length (s .node-outputs)
 
 module _ (M : ℕ) where
   -- From what P says, G of the answer.
-  pub record Kept {A : Type 0} (P : Type 0) (G : A → Type 0) (s : NestState) (a : A) (s′ : NestState) : Type 0 where
+  pub record NamedKept {A : Type 0} (P : Type 0) (G : A → Type 0) (s : NestState) (a : A) (s′ : NestState) : Type 0 where
     pub more : outputs-made s ≤ outputs-made s′
-    pub good : outputs-made s′ ≤ M → P → Good M s → Good M s′ × G a
+    pub good : outputs-made s′ ≤ M → P → GoodLookUp M s → GoodLookUp M s′ × G a
 
-  abbrev pub Keeps : {A : Type 0} → Type 0 → (A → Type 0) → Step A → Type 0
-  Keeps P G x = (s : NestState) → Post AnyRefusal (λ a s′. Kept P G s a s′) (x s)
+  abbrev pub KeepsNamed : {A : Type 0} → Type 0 → (A → Type 0) → Step A → Type 0
+  KeepsNamed P G x = (s : NestState) → Post AnyRefusal (λ a s′. NamedKept P G s a s′) (x s)
 
   pub then-keeps : {A B : Type 0} {P : Type 0} {G : A → Type 0} {H : B → Type 0} (x : Step A) (k : A → Step B)
-      → Keeps P G x → ((a : A) → Keeps (P × G a) H (k a)) → Keeps P H (x >>= k)
+      → KeepsNamed P G x → ((a : A) → KeepsNamed (P × G a) H (k a)) → KeepsNamed P H (x >>= k)
   then-keeps {P = P} {G = G} {H = H} x k p q s =
       bind (x s) k (p s) λ a s₁ l. map-post (k a s₁) (q a s₁) λ b s₂ m. record {
         more = let l₁ = l .more in let m₁ = m .more in omega arith;
@@ -39,7 +39,7 @@ module _ (M : ℕ) where
       }
 
   pub next-keeps : {A B : Type 0} {P : Type 0} {G : A → Type 0} {H : B → Type 0} (x : Step A) (y : Step B)
-      → Keeps P G x → Keeps P H y → Keeps P H (x >> y)
+      → KeepsNamed P G x → KeepsNamed P H y → KeepsNamed P H (x >> y)
   next-keeps x y p q s =
       bind (x s) (λ a. y) (p s) λ a s₁ l. map-post (y s₁) (q s₁) λ b s₂ m. record {
         more = let l₁ = l .more in let m₁ = m .more in omega arith;
@@ -49,43 +49,44 @@ module _ (M : ℕ) where
       }
 
   -- Less may be needed, and more is known.
-  pub needs : {A : Type 0} {P P′ : Type 0} {G G′ : A → Type 0} (x : Step A) → (P → P′) → (P → (a : A) → G′ a → G a) → Keeps P′ G′ x
-      → Keeps P G x
+  pub needs : {A : Type 0} {P P′ : Type 0} {G G′ : A → Type 0} (x : Step A) → (P → P′) → (P → (a : A) → G′ a → G a) → KeepsNamed P′ G′ x
+      → KeepsNamed P G x
   needs x f into p s = map-post (x s) (p s) λ a s₁ l. record {
     more = l .more;
     good = λ room pre h. let z = l .good room (f pre) h in (z .0, into pre a (z .1));
   }
 
-  pub from : {A : Type 0} {P P′ : Type 0} {G : A → Type 0} (x : Step A) → (P → P′) → Keeps P′ G x → Keeps P G x
+  pub from : {A : Type 0} {P P′ : Type 0} {G : A → Type 0} (x : Step A) → (P → P′) → KeepsNamed P′ G x → KeepsNamed P G x
   from x f p = needs x f (λ pre a h. h) p
 
-  pub give-keeps : {A : Type 0} {P : Type 0} {G : A → Type 0} (a : A) → (P → G a) → Keeps P G (give a)
+  pub give-keeps : {A : Type 0} {P : Type 0} {G : A → Type 0} (a : A) → (P → G a) → KeepsNamed P G (give a)
   give-keeps a f s = record { post = record { more = omega arith; good = λ room pre h. (h, f pre) } }
 
-  pub pick-keeps : {A : Type 0} {P : Type 0} {G : A → Type 0} (b : Bool) (x y : Step A) → Keeps P G x → Keeps P G y → Keeps P G (pick b x y)
+  pub pick-keeps : {A : Type 0} {P : Type 0} {G : A → Type 0} (b : Bool) (x y : Step A) → KeepsNamed P G x → KeepsNamed P G y
+      → KeepsNamed P G (pick b x y)
   pick-keeps true x y p q = p
   pick-keeps false x y p q = q
 
   -- ---- definitions
-  pub define-region-named : {P : Type 0} → Keeps P (λ r. Unit) define-region
+  pub define-region-named : {P : Type 0} → KeepsNamed P (λ r. Unit) define-region
   unfolding define-region
   define-region-named s =
       when-room tt (ltb (s .region-count) most-regions) _ _
       (record { more = omega arith; good = λ room pre h. (record { states = h .states; log = h .log; outputs = h .outputs }, tt) })
 
-  pub define-node-named : {P : Type 0} → Keeps P (λ n. Unit) define-node
+  pub define-node-named : {P : Type 0} → KeepsNamed P (λ n. Unit) define-node
   unfolding define-node
   define-node-named s =
       when-room tt (ltb (s .node-count) most-nodes) _ _
       (record { more = omega arith; good = λ room pre h. (record { states = h .states; log = h .log; outputs = h .outputs }, tt) })
 
-  pub define-merge-named : {P : Type 0} → Keeps P (λ n. Unit) define-merge
+  pub define-merge-named : {P : Type 0} → KeepsNamed P (λ n. Unit) define-merge
   unfolding define-merge
   define-merge-named s =
       when-room tt (ltb (s .merge-count) most-merges) _ _
       (record { more = omega arith; good = λ room pre h. (record { states = h .states; log = h .log; outputs = h .outputs }, tt) })
 
-  pub define-output-named : (n ty : ℕ) (vs : List Value) → Keeps (AllNamed M vs) (Named M) (define-output n ty vs)
+  pub define-output-named : (n ty : ℕ) (vs : List Value) → KeepsNamed (AllNamed M vs) (Named M) (define-output n ty vs)
   unfolding define-output
   define-output-named n ty vs s =
       let x : NodeOutput = record { node = n; type = ty; values = vs } in
@@ -103,7 +104,7 @@ module _ (M : ℕ) where
         );
       })
 
-  pub insert-rewrites-named : (r : ℕ) (x : RegionInputRewrites) → Keeps (RewritesNamed M x) (λ u. Unit) (insert-rewrites r x)
+  pub insert-rewrites-named : (r : ℕ) (x : RegionInputRewrites) → KeepsNamed (RewritesNamed M x) (λ u. Unit) (insert-rewrites r x)
   insert-rewrites-named r x s = record {
     post = record {
       more = omega arith;
@@ -122,7 +123,7 @@ module _ (M : ℕ) where
   mutual
     unfolding materialize-lazy-cond CondNamed
 
-    pub materialize-named : (c : LazyCond) → Keeps (CondNamed M c) (Named M) (materialize-lazy-cond c)
+    pub materialize-named : (c : LazyCond) → KeepsNamed (CondNamed M c) (Named M) (materialize-lazy-cond c)
     materialize-named true-cond = give-keeps (bool true) (λ h. tt)
     materialize-named false-cond = give-keeps (bool false) (λ h. tt)
     materialize-named undef-cond = give-keeps (undef 1) (λ h. tt)
@@ -131,7 +132,7 @@ module _ (M : ℕ) where
         pick-keeps (elim kind [ bool-cond ↦ same-values vs (bool true ∷ bool false ∷ []) | number ↦ false ]) (give v) (define-output n 1 vs)
         (give-keeps v (λ h. h .0 .0)) (from _ (λ h. h .1) (define-output-named n 1 vs))
 
-    materializes-named : (cs : LazyConds) → Keeps (CondsNamed M cs) (AllNamed M) (materialize-lazy-conds cs)
+    materializes-named : (cs : LazyConds) → KeepsNamed (CondsNamed M cs) (AllNamed M) (materialize-lazy-conds cs)
     materializes-named no-conds = give-keeps [] (λ h. tt)
     materializes-named (c & cs) =
         then-keeps (materialize-lazy-cond c) _ (from _ (λ h. h .0) (materialize-named c)) λ v.

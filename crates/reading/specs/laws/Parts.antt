@@ -8,13 +8,8 @@ use lib.ListN.{length, getD}
 use lib.Dec.{leb, ltb}
 use borrow.Author.Tests.{ltb-true, leb-true}
 use Rattle.format.specs.Read.{got, bad, Reader, read-then, expect, word, within, many, counted}
-use Rattle.meaning.specs.facts.Tests.{clash}
+use Rattle.meaning.specs.facts.Tests.{clash, and-both}
 use Rattle.format.specs.laws.Readers.{part, many-length}
-
--- two tests at once
-pub both : (a b : Bool) → (a && b) ≡ true → (a ≡ true) × (b ≡ true)
-both true b h = (refl, h)
-both false b h = absurd (clash (cc))
 
 -- a word stands below W
 pub record WordParts (ws : List ℕ) (at n e : ℕ) : Type 0 where
@@ -49,7 +44,7 @@ within-parts low high ws at {n} {e} h =
     by-test k i true q w r =
         let same : k ≡ n = cc in
         let there : i ≡ e = cc in
-        let bounds = both (leb low k) (leb k high) q in
+        let bounds = and-both (leb low k) (leb k high) q in
         record {
           inside = w .inside;
           is = sym same ∙ w .is;

@@ -15,7 +15,7 @@ use Rattle.format.specs.Read.{regions-from, Head, head, read-record}
 use Rattle.format.specs.Places.{next, after, start-of-region, blocks-of-region, limit-of-region, exits-of-region}
 use Rattle.meaning.specs.facts.Tests.{clash}
 use Rattle.format.specs.laws.Readers.{part, got-value, got-place, many-length, many-end, many-at}
-pub use Rattle.reading.specs.laws.Parts.{both, WordParts, word-parts, WithinParts, within-parts, CountedParts, counted-parts}
+pub use Rattle.reading.specs.laws.Parts.{WordParts, word-parts, WithinParts, within-parts, CountedParts, counted-parts}
 
 -- Each part of a region at its place; the region ends at e.
 pub record RegionParts (ws : List ℕ) (at : ℕ) (x : Region) (e : ℕ) : Type 0 where

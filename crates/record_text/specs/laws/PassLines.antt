@@ -11,12 +11,8 @@ use Rattle.meaning.specs.Graph.{Value, Edge}
 use Rattle.meaning.specs.Lists.{total, is-in, Distinct, distinct-from, rank}
 use Rattle.format.specs.Read.{edges-passed}
 use Rattle.format.specs.References.{first-edges}
-use Rattle.meaning.specs.facts.Tests.{clash}
+use Rattle.meaning.specs.facts.Tests.{clash, neither}
 use Rattle.fields.specs.laws.Targets.{distinct-again, distinct-new, rank-here, rank-next}
-
-or-split : (a b : Bool) → (a || b) ≡ false → (a ≡ false) × (b ≡ false)
-or-split true b h = absurd (clash (cc))
-or-split false b h = (refl, h)
 
 -- What stood before does not come again.
 not-again : (ts seen : List ℕ) (x : ℕ) → is-in x seen ≡ true → is-in x (distinct-from seen ts) ≡ false
@@ -68,7 +64,7 @@ module _ (f : List Value → ℕ) where
       → total (ranked (p ∷ ps) (d ∷ ds)) us ≡ total (ranked ps ds) us
   behind d p ps ds [] h = refl
   behind d p ps ds (u ∷ us) h =
-      let apart = or-split (eqb d u) (is-in d us) h in
+      let apart = neither (eqb d u) (is-in d us) h in
       let other : eqb u d ≡ false = ne-eqb u d (λ e. eqb-false d u (apart .0) (sym e)) in
       ap (λ n. f (getD (p ∷ ps) n []) + total (ranked (p ∷ ps) (d ∷ ds)) us) (rank-next u d ds other)
       ∙ ap (λ n. ranked ps ds u + n) (behind d p ps ds us (apart .1))

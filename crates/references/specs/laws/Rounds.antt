@@ -9,7 +9,7 @@ use Rattle.store.specs.Loaded.{answered}
 use Rattle.store.specs.declared.Checked.{Checked}
 use Rattle.store.specs.declared.Checked.the-variants.{Right, Refused}
 use Rattle.record.specs.Stands.{OfRecord}
-use Rattle.references.specs.laws.Walk.{Walk, passes, stops, ends, then-refused, then-rest}
+use Rattle.references.specs.laws.Walk.{Walk, passes, stops, ends, walk-refused, then-rest}
 
 -- The k-th of n rounds: what is left, after the checks before it, is the whole answer.
 pub record Round (w : List ℕ) (step : Graph → ℕ → Answer Unit) (whole : Graph → Answer Unit) (n k : ℕ) : Type 0 where
@@ -49,4 +49,4 @@ module _ {y : Checked} {a : Answer Unit} (rest : Answer Unit) (call : answered y
   passed-on q = then-rest rest (sym (ap answered q) ∙ call)
 
   pub stopped : {i j : ℕ} → y ≡ Refused i j → refused i j ≡ if-accepted a (λ _. rest)
-  stopped q = then-refused rest (sym (ap answered q) ∙ call)
+  stopped q = walk-refused rest (sym (ap answered q) ∙ call)

@@ -15,7 +15,7 @@ use Rattle.format.specs.References.{instructions, type-in, behind-all, refuse-u
 use Rattle.format.specs.References.{values-of, is-region, named-right, of-type, reads-right, types-right, passed-right, test-right}
 use Rattle.format.specs.References.{values-right, target-right, edge-right, first-edges, exits-right, regions-right, references}
 use Rattle.fields.specs.ByNumber.{stands-before}
-use Rattle.references.specs.laws.Walk.{then-then, then-accepted, then-refused, then-rest}
+use Rattle.references.specs.laws.Walk.{then-then, then-accepted, walk-refused, then-rest}
 use Rattle.references.specs.Checks.{typed}
 use Rattle.references.specs.laws.Walks.{from, none-from, exit-right}
 
@@ -54,7 +54,7 @@ module _ (g : Graph) (r before : ℕ) (v : Value) {x : ℕ} (is : x ≡ type-in 
 
 module _ (g : Graph) (r t : ℕ) (v : Value) {x : ℕ} (is : x ≡ type-in g r (behind-all g r) v) where
   pub not-typed : x ≡ 0 → refused 6 r ≡ typed g r t v
-  not-typed h = then-refused (of-type g r t v) (not-named g r (behind-all g r) v is h)
+  not-typed h = walk-refused (of-type g r t v) (not-named g r (behind-all g r) v is h)
 
   then-type : (x ≡ 0 → ⊥) → of-type g r t v ≡ typed g r t v
   then-type ne = then-rest (of-type g r t v) (is-named g r (behind-all g r) v is ne)
@@ -97,7 +97,7 @@ module _ (g : Graph) (r : ℕ) where
     pub block-stops : b < n → reads-right g r first (instructions (drop b bs)) ≡ whole → {i j : ℕ}
         → refused i j ≡ reads-right g r first (getD bs b []) → refused i j ≡ whole
     block-stops l h a =
-        then-refused (reads-right g r (first + length (getD bs b [])) (instructions (drop (b + 1) bs))) a ∙ sym (reads-from l) ∙ h
+        walk-refused (reads-right g r (first + length (getD bs b [])) (instructions (drop (b + 1) bs))) a ∙ sym (reads-from l) ∙ h
 
     pub blocks-end : n ≤ b → reads-right g r first (instructions (drop b bs)) ≡ whole → accepted tt ≡ whole
     unfolding instructions reads-right
@@ -108,7 +108,7 @@ module _ (g : Graph) (r : ℕ) where
     pub sizes-differ : (n ≡ m → ⊥) → refused 7 r ≡ passed-right g r types vs
     unfolding passed-right
     sizes-differ ne =
-        then-refused (types-right g r types vs) (refused-unless 7 r
+        walk-refused (types-right g r types vs) (refused-unless 7 r
         (ne-eqb (length vs) (length types) (λ e. ne (values-are ∙ e ∙ sym types-are))))
 
     pub sizes-agree : n ≡ m → types-right g r types vs ≡ passed-right g r types vs
@@ -134,7 +134,7 @@ module _ (g : Graph) (r : ℕ) {count t : ℕ} (regions : count ≡ length (g .r
 
   module _ (xs : List ℕ) (k : ℕ) (is : t ≡ getD xs k 0) where
     pub bad-exit : count ≤ t → refused 6 r ≡ exit-right g r xs k
-    bad-exit l = then-refused (refuse-unless 8 r (not (stands-before xs k))) (refused-unless 6 r (no-region (getD xs k 0) is l))
+    bad-exit l = walk-refused (refuse-unless 8 r (not (stands-before xs k))) (refused-unless 6 r (no-region (getD xs k 0) is l))
 
     then-first : t < count → refuse-unless 8 r (not (stands-before xs k)) ≡ exit-right g r xs k
     then-first l = then-rest (refuse-unless 8 r (not (stands-before xs k))) (accepted-if 6 r (a-region (getD xs k 0) is l))
@@ -236,7 +236,7 @@ module _ (g : Graph) (r : ℕ) (x : Region) where
 module _ (g : Graph) {count t : ℕ} (regions : count ≡ length (g .regions)) (is : t ≡ g .entry) where
   pub bad-entry : count ≤ t → refused 6 0 ≡ references g
   unfolding references
-  bad-entry l = then-refused (regions-right g 0 (g .regions)) (refused-unless 6 0 (no-region g 0 regions (g .entry) is l))
+  bad-entry l = walk-refused (regions-right g 0 (g .regions)) (refused-unless 6 0 (no-region g 0 regions (g .entry) is l))
 
   pub good-entry : t < count → regions-right g 0 (g .regions) ≡ references g
   unfolding references

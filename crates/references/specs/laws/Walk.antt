@@ -29,8 +29,8 @@ then-accepted (accepted u) = refl
 then-accepted (refused n w) = refl
 
 -- The first check refuses, or the rest decides.
-pub then-refused : {a : Answer Unit} (rest : Answer Unit) {i j : ℕ} → refused i j ≡ a → refused i j ≡ if-accepted a (λ _. rest)
-then-refused rest h = ap (λ x. if-accepted x (λ _. rest)) h
+pub walk-refused : {a : Answer Unit} (rest : Answer Unit) {i j : ℕ} → refused i j ≡ a → refused i j ≡ if-accepted a (λ _. rest)
+walk-refused rest h = ap (λ x. if-accepted x (λ _. rest)) h
 
 pub then-rest : {a : Answer Unit} (rest : Answer Unit) → accepted tt ≡ a → rest ≡ if-accepted a (λ _. rest)
 then-rest rest h = ap (λ x. if-accepted x (λ _. rest)) h

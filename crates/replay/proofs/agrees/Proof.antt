@@ -3,7 +3,7 @@ use native.Mathlib.Omega.{arith}
 use lib.ListN.{length, take}
 use lib.Seq.{length-take-le}
 use Rattle.vectors.proofs.Laws.{behind-within, parted}
-use Rattle.replay.specs.Agrees.{too-long, kept-whole}
+use Rattle.replay.specs.Agrees.{answer-too-long, kept-whole}
 use borrow.Author.Needs.{needs}
 use Rattle.replay.proofs.agrees.Statement.{statement}
 use Rattle.replay.proofs.agrees.Tie as tie
@@ -12,7 +12,7 @@ returns : tie.Need-returns
 returns c =
     let v = take (c .before .before .args .size) (c .before .before .args .text .now) in
     let size : length v ≡ c .before .before .args .size = length-take-le _ _ (c .before .before .pre) in
-    too-long v (omega arith)
+    answer-too-long v (omega arith)
 
 slice-aggregate-vector : tie.Need-slice-aggregate-vector
 slice-aggregate-vector c = sym (length-take-le _ _ (c .before .before .before .pre))

@@ -5,7 +5,7 @@ use Prim.Native.Nat.{_+_, _-_, _≤_}
 use native.Mathlib.Omega.{arith}
 use Rattle.vectors.specs.Tally.{tally-of, tally-next}
 use Rattle.damage.specs.Answers.{bit-right}
-use Rattle.damage.specs.Changes.{changed}
+use Rattle.damage.specs.Changes.{bit-changed}
 use Rattle.damage.proofs.Laws.{listed-right}
 use borrow.Author.Needs.{needs}
 use Rattle.damage.proofs.changes.bits.Statement.{statement}
@@ -59,7 +59,7 @@ loop-again c =
     let on : bit - a .from + 1 ≡ bit + 1 - a .from = omega arith in
     let block = at-change .change .result in
     let size : 512 ≡ length block = search needs in
-    let store = take-all 512 block (omega arith) ∙ at-change .change .ensures ∙ ap (changed (a .right-check) (a .block)) (sym back) in
+    let store = take-all 512 block (omega arith) ∙ at-change .change .ensures ∙ ap (bit-changed (a .right-check) (a .block)) (sym back) in
     let is = listed-right _ (a .answers .now) (bit - a .from) (at-answer-of .answer-of .ensures) store (c .before .is-listed .ensures) in
     let next = tally-next agrees (bit - a .from) (at-loop .loop .inv .1 .1) is (c .told .ensures) in
     (omega arith, (omega arith, next ∙ ap (tally-of agrees) on))

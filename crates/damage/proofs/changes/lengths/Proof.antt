@@ -3,14 +3,14 @@ use Prim.Native.Nat.{_+_, _-_, _≤_}
 use native.Mathlib.Omega.{arith}
 use lib.ListN.{length, take}
 use Rattle.vectors.specs.Tally.{tally-of, tally-next}
-use Rattle.damage.specs.Answers.{length-right}
+use Rattle.damage.specs.Answers.{length-as-listed}
 use Rattle.damage.proofs.Laws.{listed-right}
 use borrow.Author.Needs.{needs}
 use Rattle.damage.proofs.changes.lengths.Statement.{statement}
 use Rattle.damage.proofs.changes.lengths.Tie as tie
 
 abbrev Inv-loop : tie.InvT-loop
-Inv-loop bytes answers words₀ out₀ t₀ n₀ words out t n = (n ≤ length bytes + 1) × (t ≡ tally-of (length-right bytes answers) n)
+Inv-loop bytes answers words₀ out₀ t₀ n₀ words out t n = (n ≤ length bytes + 1) × (t ≡ tally-of (length-as-listed bytes answers) n)
 
 abbrev μ-loop : tie.MeasureT-loop
 μ-loop bytes answers words₀ out₀ t₀ n₀ words out t n = length bytes + 1 - n
@@ -43,13 +43,13 @@ loop-again c =
     let n = at-loop .loop .n in
     let store = take n (a .bytes .now) in
     let is = listed-right store (a .answers .now) n (at-answer-of .answer-of .ensures) refl (c .before .is-listed .ensures) in
-    (omega arith, tally-next (length-right (a .bytes .now) (a .answers .now)) n (at-loop .loop .inv .1) is (c .told .ensures))
+    (omega arith, tally-next (length-as-listed (a .bytes .now) (a .answers .now)) n (at-loop .loop .inv .1) is (c .told .ensures))
 
 returns : tie.Need-returns Inv-loop μ-loop
 returns c =
     let a = c .before .before .before .before .args in
     let end : c .before .loop .n ≡ length (a .bytes .now) + 1 = omega arith in
-    c .before .loop .inv .1 ∙ ap (tally-of (length-right (a .bytes .now) (a .answers .now))) end
+    c .before .loop .inv .1 ∙ ap (tally-of (length-as-listed (a .bytes .now) (a .answers .now))) end
 
 pub lengths-spec : {M : Type 1} → statement M
 lengths-spec =

@@ -22,14 +22,14 @@ put-labeled-requires c κs = search needs
 enum-known-v-2 : tie.Need-enum-known-v-2
 enum-known-v-2 c = search needs
 
-put-held-requires : tie.Need-put-held-requires
-put-held-requires c κs = search needs
+put-of-region-requires : tie.Need-put-of-region-requires
+put-of-region-requires c κs = search needs
 
 enum-known-v-3 : tie.Need-enum-known-v-3
 enum-known-v-3 c = search needs
 
-put-held-requires-2 : tie.Need-put-held-requires-2
-put-held-requires-2 c κs = search needs
+put-of-region-requires-2 : tie.Need-put-of-region-requires-2
+put-of-region-requires-2 c κs = search needs
 
 enum-known-v-4 : tie.Need-enum-known-v-4
 enum-known-v-4 c = search needs
@@ -94,7 +94,7 @@ returns-3 : tie.Need-returns-3
 unfolding value-text
 returns-3 c =
     let at-v2 = c .before .before .before .before .before in
-    of-text (sym (ap (λ v. value-text (value-is v)) (at-v2 .v2 .given .1))) (c .before .before .put-held .ensures)
+    of-text (sym (ap (λ v. value-text (value-is v)) (at-v2 .v2 .given .1))) (c .before .before .put-of-region .ensures)
 
 same-length-4 : tie.Need-same-length-4
 same-length-4 c = search needs
@@ -103,7 +103,7 @@ returns-4 : tie.Need-returns-4
 unfolding value-text
 returns-4 c =
     let at-v3 = c .before .before .before .before .before in
-    of-text (sym (ap (λ v. value-text (value-is v)) (at-v3 .v3 .given .1))) (c .before .before .put-held2 .ensures)
+    of-text (sym (ap (λ v. value-text (value-is v)) (at-v3 .v3 .given .1))) (c .before .before .put-of-region2 .ensures)
 
 same-length-5 : tie.Need-same-length-5
 same-length-5 c = search needs
@@ -143,9 +143,9 @@ put-value-spec =
     cast-put-labeled
     put-labeled-requires
     enum-known-v-2
-    put-held-requires
+    put-of-region-requires
     enum-known-v-3
-    put-held-requires-2
+    put-of-region-requires-2
     enum-known-v-4
     slice-aggregate-put-text
     put-text-requires

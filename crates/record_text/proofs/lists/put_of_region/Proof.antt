@@ -1,7 +1,7 @@
 use borrow.Author.Needs.{needs}
 use Rattle.text.specs.Buffer.{_▸_}
-use Rattle.record_text.proofs.lists.put_held.Statement.{statement}
-use Rattle.record_text.proofs.lists.put_held.Tie as tie
+use Rattle.record_text.proofs.lists.put_of_region.Statement.{statement}
+use Rattle.record_text.proofs.lists.put_of_region.Tie as tie
 
 put-byte-requires : tie.Need-put-byte-requires
 put-byte-requires c κs = search needs
@@ -17,5 +17,5 @@ returns c =
     let at-put-byte = c .before .before .before .before .before .before in
     at-put-byte .put-byte .ensures ▸ c .before .before .put-dotted .ensures
 
-pub put-held-spec : {M : Type 1} → statement M
-put-held-spec = tie.close (tie.spec put-byte-requires put-dotted-requires same-length returns)
+pub put-of-region-spec : {M : Type 1} → statement M
+put-of-region-spec = tie.close (tie.spec put-byte-requires put-dotted-requires same-length returns)
