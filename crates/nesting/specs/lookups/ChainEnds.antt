@@ -187,7 +187,7 @@ module _ (es : List RewriteEntry) where
         | inr f ↦ absurd (acyclic (h r refl) (f r refl))
       ]
 
-  ends-within : (n : ℕ) (left : List ℕ) → length left ≡ n → (v : Value) → ValueEnds v → Covers left v → EndsIn es n v
+  pub ends-within : (n : ℕ) (left : List ℕ) → length left ≡ n → (v : Value) → ValueEnds v → Covers left v → EndsIn es n v
   ends-within zero left len v h c = ends-by 0 left len v h c (λ m l. absurd (omega arith))
   ends-within (suc n) left len v h c = ends-by (suc n) left len v h c (λ m l t q h′ c′. let same : m ≡ n = omega arith in rw same (ends-within n t (rw same at q) (next-value es v) h′ c′))
 
