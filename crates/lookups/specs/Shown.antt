@@ -21,7 +21,8 @@ use Rattle.nesting.specs.lookups.ChainSteps.{EndsIn, ends-later, chain-same, me
 use Rattle.nesting.specs.lookups.ChainEnds.{ChainsEnd, ends-within, rewrite-enough, meets-enough}
 use Rattle.state.specs.Sections.{section, word, stored, head, rewrites}
 use Rattle.state.specs.Values.{is-input, is-held, input-region, input-index}
-use Rattle.shown.specs.Values.{value, Ranged, in-const, in-false, in-true, in-undef, in-output, in-input, in-held, in-instr, in-none, ranged}
+use Rattle.shown.specs.Values.{value, Ranged, in-const, in-false, in-true, in-undef, in-output, in-input, in-held, in-instr, in-none}
+use Rattle.shown.specs.Values.{ranged}
 use Rattle.shown.specs.Values.{same-word}
 use Rattle.shown.specs.Tables.{ShowsInput, renumbered, replaced, ShowsEntry, no-entry, replaces, renumbers, ShowsRewrites, ShowsTables}
 use Rattle.shown.specs.Stores.{ChangesOnly, head-changes, nothing-changes}

@@ -15,7 +15,8 @@ use borrow.Author.Tests.{lt-ltb, le-ltb, eq-eqb, ne-eqb}
 use Rattle.meaning.specs.Graph.{Value, SelectionKind, undef, output}
 use Rattle.nesting.specs.Nesting.{LazyCond, LazyConds, no-conds, _&_, merge, InputRewrite, RegionInputRewrites, RewriteEntry, NodeOutput}
 use Rattle.nesting.specs.Nesting.{NestState, done, turned-away, rewrites-of, renumber-to, replace-with, renumber-or-replace-with, define}
-use Rattle.nesting.specs.Nesting.{define-region, define-node, define-merge, define-output, insert-rewrites, count-attempt, add-region, add-node, add-attempt}
+use Rattle.nesting.specs.Nesting.{define-region, define-node, define-merge, define-output, insert-rewrites, count-attempt, add-region}
+use Rattle.nesting.specs.Nesting.{add-node, add-attempt}
 use Rattle.nesting.specs.Nesting.{with-tables, with-twice}
 use Rattle.nesting.specs.lookups.ChainEnds.{entry-kept}
 use Rattle.state.specs.declared.defined.Defined.{Defined}

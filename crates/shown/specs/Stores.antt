@@ -5,7 +5,8 @@ use Prim.Native.Nat.{ℕ, zero, suc, _+_, _-_, _≤_, _<_}
 use native.Mathlib.Omega.{arith}
 use lib.ListN.{length, getD, set, take, drop, length-take, length-drop, length-set}
 use lib.Seq.{sets, length-sets, getD-set-same, getD-set-other}
-use Rattle.state.specs.Sections.{Section, head, number, start, size, used, part, section, word, stored, stored-at, stored-all, stored-all-at}
+use Rattle.state.specs.Sections.{Section, head, number, start, size, used, part, section, word, stored, stored-at, stored-all}
+use Rattle.state.specs.Sections.{stored-all-at}
 use Rattle.state.specs.Apart.{stored-length, part-stored, section-stored, section-other}
 
 -- ---- A run of words in a list.

@@ -126,7 +126,8 @@ pub record Done {A : Type 0} (R : ℕ → A → Type 0) (w : List ℕ) (x : ℕ)
   pub shows : R x value
   pub tables : ShowsTables w state
 
-pub done-of : {A : Type 0} {R : ℕ → A → Type 0} {w : List ℕ} {a : Defined} {b : StepAnswer A} → ShowsDefined R w a b → {x : ℕ} → a ≡ Number x
+pub done-of : {A : Type 0} {R : ℕ → A → Type 0} {w : List ℕ} {a : Defined} {b : StepAnswer A} → ShowsDefined R w a b → {x : ℕ}
+    → a ≡ Number x
     → Done R w x b
 done-of {R} (shows-done {x} {a} {s} r t) {x = y} e =
     let same : x ≡ y = cc in record { value = a; state = s; is = refl; shows = subst (λ z. R z a) same r; tables = t }

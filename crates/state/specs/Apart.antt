@@ -7,13 +7,15 @@ use native.Mathlib.Decide.{decLt}
 use lib.ListN.{length, getD, set, take, drop, length-set, length-take, length-drop}
 use lib.Seq.{take-set-le, take-set-lt, drop-set-lt, drop-set-add, getD-set-same, getD-set-other, set-out}
 use Rattle.meaning.specs.Lists.{total}
-use Rattle.state.specs.Sections.{Section, number, sizes, start, size, part, read-at, stored-at, section, word, stored, stored-all-at, stored-all}
+use Rattle.state.specs.Sections.{Section, number, sizes, start, size, part, read-at, stored-at, section, word, stored, stored-all-at}
+use Rattle.state.specs.Sections.{stored-all}
 use Rattle.state.specs.Stored.{stored-in, stored-beyond}
 
 -- ---- Any two parts of a list that do not meet.
 module _ (o n : ℕ) (l : List ℕ) (i x : ℕ) where
   by-index : (P : List ℕ → Type 0) → (i < n → P (set l (o + i) x)) → (n ≤ i → P l) → P (stored-at o n l i x)
-  by-index P f g = elim (decLt i n) [ yes h ↦ rw (stored-in o n l i x h) (f h) | no h ↦ rw (stored-beyond o n l i x (omega arith)) (g (omega arith)) ]
+  by-index P f g = elim
+      (decLt i n) [ yes h ↦ rw (stored-in o n l i x h) (f h) | no h ↦ rw (stored-beyond o n l i x (omega arith)) (g (omega arith)) ]
 
   pub stored-length : length (stored-at o n l i x) ≡ length l
   stored-length = by-index (λ m. length m ≡ length l) (λ h. length-set l (o + i) x) (λ h. refl)
@@ -51,7 +53,8 @@ starts-follow xs a zero h = absurd (omega arith)
 pub section-stored : (l : List ℕ) (k : Section) (i x : ℕ) → section (stored l k i x) k ≡ set (section l k) i x
 section-stored l k i x = part-stored (start k) (size k) l i x
 
-pub section-other : (l : List ℕ) (k : Section) (i x : ℕ) (j : Section) → (number j ≡ number k → ⊥) → section (stored l k i x) j ≡ section l j
+pub section-other : (l : List ℕ) (k : Section) (i x : ℕ) (j : Section) → (number j ≡ number k → ⊥)
+    → section (stored l k i x) j ≡ section l j
 section-other l k i x j d =
     elim (decLt (number j) (number k)) [
       | yes h ↦ part-before (start k) (size k) l i x (start j) (size j) (starts-follow sizes (number j) (number k) h)

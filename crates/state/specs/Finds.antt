@@ -16,7 +16,8 @@ module _ (l : List ℕ) (start t n i : ℕ) {whole : ℕ} where
   unfolding find-by
   find-found h e q = let s : n - i ≡ suc (n - (i + 1)) = omega arith in rw (eq-eqb _ _ e) at (rw s at q)
 
-  pub find-turn : i < n → (word l bundles (7 * bundle-at start i + 0) ≡ t → ⊥) → find-by l start t (n - i) i ≡ whole → find-by l start t (n - (i + 1)) (i + 1) ≡ whole
+  pub find-turn : i < n → (word l bundles (7 * bundle-at start i + 0) ≡ t → ⊥) → find-by l start t (n - i) i ≡ whole
+      → find-by l start t (n - (i + 1)) (i + 1) ≡ whole
   unfolding find-by
   find-turn h e q =
       let s : n - i ≡ suc (n - (i + 1)) = omega arith in

@@ -11,7 +11,8 @@ abbrev pub sizes : List ℕ
 sizes = index-end ∷ 16 ∷ 32 ∷ 32 ∷ 33 ∷ 33 ∷ 32 ∷ 32 ∷ 32 ∷ 320 ∷ 80 ∷ 640 ∷ 5120 ∷ 5676 ∷ 4224 ∷ 7679 ∷ []
 
 pub data Section : Type 0 where
-  front head kinds backedges set-starts set-lengths children bodies first-nodes levels cases rewrites outputs conditions cells bundles : Section
+  front head kinds backedges set-starts set-lengths children bodies first-nodes : Section
+  levels cases rewrites outputs conditions cells bundles : Section
 
 abbrev pub number : Section → ℕ
 number front = 0

@@ -10,7 +10,8 @@ use lib.Seq.{getD-take, getD-drop, drop-cons}
 use native.Mathlib.Numerals.{add-one, add-two, add-three}
 use lib.Dec.{ltb}
 use borrow.Author.Tests.{lt-ltb, le-ltb}
-use Rattle.state.specs.Sections.{Section, number, sizes, start, size, part, read-at, stored-at, section, word, stored, stored-all-at, stored-all}
+use Rattle.state.specs.Sections.{Section, number, sizes, start, size, part, read-at, stored-at, section, word, stored, stored-all-at}
+use Rattle.state.specs.Sections.{stored-all}
 use Rattle.meaning.specs.Lists.{pick}
 
 pub read-in : (o n : ℕ) (l : List ℕ) (i : ℕ) → i < n → read-at o n l i ≡ getD l (o + i) 0
@@ -47,7 +48,8 @@ module _ (o n : ℕ) (xs : List ℕ) (i : ℕ) where
 
 -- Two or three words, and a run behind them.
 module _ (o n : ℕ) (l : List ℕ) (i a b : ℕ) where
-  pub two-and-run : (xs : List ℕ) {l₁ l₂ l₃ : List ℕ} → l₁ ≡ stored-at o n l i a → l₂ ≡ stored-at o n l₁ (i + 1) b → l₃ ≡ stored-all-at o n l₂ (i + 2) xs
+  pub two-and-run : (xs : List ℕ) {l₁ l₂ l₃ : List ℕ} → l₁ ≡ stored-at o n l i a → l₂ ≡ stored-at o n l₁ (i + 1) b
+      → l₃ ≡ stored-all-at o n l₂ (i + 2) xs
       → l₃ ≡ stored-all-at o n l i (a ∷ b ∷ xs)
   unfolding stored-all-at
   two-and-run xs p q r = r ∙ rw (q, p, add-one i, add-two i)

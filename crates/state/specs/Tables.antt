@@ -7,7 +7,8 @@ use Rattle.state.specs.declared.defined.Defined.{Defined}
 use Rattle.state.specs.declared.defined.Defined.the-variants.{Number, Full}
 use Rattle.state.specs.declared.cells.Cell.{Cell}
 use Rattle.state.specs.declared.cases.Case.{Case}
-use Rattle.state.specs.Sections.{word, stored, stored-all, head, cells, rewrites, bundles, set-starts, set-lengths, cases, levels, outputs, conditions}
+use Rattle.state.specs.Sections.{word, stored, stored-all, head, cells, rewrites, bundles, set-starts, set-lengths, cases, levels}
+use Rattle.state.specs.Sections.{outputs, conditions}
 use Rattle.meaning.specs.Lists.{pick}
 
 -- A handle, or 0 where it names no earlier cell; a condition, or true where it names no earlier one.
@@ -100,7 +101,8 @@ pub data OutputDefined (node ty : ℕ) (vs l l′ : List ℕ) : Defined → Type
 
 pub data MergeDefined (node shape scrutinee : ℕ) (parts l l′ : List ℕ) : Defined → Type 0 where
   merge-defined : {m c : ℕ} → m ≡ word l head 2 → m < 512 → c ≡ 4 + m
-      → l′ ≡ stored (stored-all l conditions (11 * c) (node ∷ shape ∷ scrutinee ∷ parts)) head 2 (m + 1) → MergeDefined node shape scrutinee parts l l′ (Number c)
+      → l′ ≡ stored (stored-all l conditions (11 * c) (node ∷ shape ∷ scrutinee ∷ parts)) head 2 (m + 1)
+      → MergeDefined node shape scrutinee parts l l′ (Number c)
   merges-full : 512 ≤ word l head 2 → l′ ≡ l → MergeDefined node shape scrutinee parts l l′ Full
 
 abbrev pub join-cell : ℕ → ℕ → Cell

@@ -163,7 +163,8 @@ pub fn set_bundle(w: &mut [u16; WORDS], b: u16, t: u16, n: u16, c: u16)
 }
 
 pub fn copy_bundle(w: &mut [u16; WORDS], to: u16, from: u16)
-    ensures { λ _. ⌜ now (w .exit) ≡ sections.«stored-all» (now (w .entry)) sections.bundles (7 * to) (tables.«bundle-words» (now (w .entry)) from) ⌝ }
+    ensures { λ _. ⌜ now (w .exit) ≡ sections.«stored-all» (now (w .entry)) sections.bundles (7 * to)
+        (tables.«bundle-words» (now (w .entry)) from) ⌝ }
 {
     let xs = [
         word(w, from, 0),

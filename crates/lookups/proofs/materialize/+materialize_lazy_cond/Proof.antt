@@ -80,7 +80,20 @@ module _ (t : ℕ) where
   cond-part-requires c κs = search needs
 
   materialize-lazy-cond-requires : lts.Need-materialize-lazy-cond-requires (called t) (at t) reads.Post Inv-loop μ-loop
-  materialize-lazy-cond-requires c κs = (omega (arith, c .before .before .before .before .before .before .before .before .before .before .before .pre .0, c .before .cond-part .ensures, part-below (word (c .before .before .before .before .loop .w) conditions (11 * c .before .before .before .before .before .before .before .before .before .before .before .args .c + (3 + c .before .before .before .before .loop .j))) (c .before .before .before .before .before .before .before .before .before .before .before .args .c) (c .before .before .before .before .before .before .before .before .if3 .left)), tt)
+  materialize-lazy-cond-requires c κs = (
+    omega (
+      arith,
+      c .before .before .before .before .before .before .before .before .before .before .before .pre .0,
+      c .before .cond-part .ensures,
+      part-below
+          (word (c .before .before .before .before .loop .w) conditions
+          (11 * c .before .before .before .before .before .before .before .before .before .before .before .args .c +
+          (3 + c .before .before .before .before .loop .j)))
+          (c .before .before .before .before .before .before .before .before .before .before .before .args .c)
+          (c .before .before .before .before .before .before .before .before .if3 .left),
+    ),
+    tt,
+  )
 
   enum-told : lts.Need-enum-told (called t) (at t) reads.Post Inv-loop μ-loop
   enum-told c = search needs
@@ -90,7 +103,8 @@ module _ (t : ℕ) where
       (c .before .before .before .before .before .before .before .before .shape-size .ensures)
       (c .before .before .before .before .before .before .before .before .before .cond-shape .ensures)
       (c .before .before .before .before .before .before .loop-test .taken) (c .before .before .before .before .cond-part .ensures)
-      (c .before .before .materialize-lazy-cond .ensures) (c .before .before .before .before .before .before .before .before .before .before .before .if3 .left) (c .enum-told .given .1)
+      (c .before .before .materialize-lazy-cond .ensures)
+      (c .before .before .before .before .before .before .before .before .before .before .before .if3 .left) (c .enum-told .given .1)
 
   enum-known-v : lts.Need-enum-known-v (called t) (at t) reads.Post Inv-loop μ-loop
   enum-known-v c = search needs

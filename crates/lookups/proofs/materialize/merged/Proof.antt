@@ -38,7 +38,12 @@ returns-2 c = merged-full _ _ _ _ _ (c .before .before .before .before .before .
     (c .before .before .define-output .ensures) (c .enum-told .given .1)
 
 returns-3 : tie.Need-returns-3
-returns-3 c = merged-output _ _ _ _ _ (c .before .before .before .before .before .before .before .before .before .before .cond-shape .ensures) (c .before .before .before .before .before .before .before .before .before .is-scrutinee .ensures) (c .before .before .before .before .before .before .before .before .if1 .left) (c .before .before .before .before .before .before .cond-node .ensures) (c .before .before .before .before .define-output .ensures) (c .before .before .o .given .1) (c .output .ensures)
+returns-3 c = merged-output _ _ _ _ _
+    (c .before .before .before .before .before .before .before .before .before .before .cond-shape .ensures)
+    (c .before .before .before .before .before .before .before .before .before .is-scrutinee .ensures)
+    (c .before .before .before .before .before .before .before .before .if1 .left)
+    (c .before .before .before .before .before .before .cond-node .ensures) (c .before .before .before .before .define-output .ensures)
+    (c .before .before .o .given .1) (c .output .ensures)
 
 pub merged-spec : {M : Type 1} → statement M
 merged-spec =

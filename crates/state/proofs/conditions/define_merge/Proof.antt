@@ -52,7 +52,11 @@ add-t10 : tie.Need-add-t10
 add-t10 c = search needs
 
 returns : tie.Need-returns
-returns c = merge-defined (c .before .before .before .before .before .before .before .before .before .before .before .before .head .ensures) (c .before .before .before .before .before .before .before .before .before .before .before .if1 .taken) refl (rw (three-and-run _ _ _ _ _ _ _ _ (c .before .before .before .before .before .before .before .before .before .put .ensures) (c .before .before .before .before .before .before .before .put2 .ensures) (c .before .before .before .before .before .put3 .ensures) (c .before .before .put-all .ensures)) at (c .set-head .ensures))
+returns c = merge-defined (c .before .before .before .before .before .before .before .before .before .before .before .before .head .ensures)
+    (c .before .before .before .before .before .before .before .before .before .before .before .if1 .taken) refl
+    (rw (three-and-run _ _ _ _ _ _ _ _ (c .before .before .before .before .before .before .before .before .before .put .ensures)
+    (c .before .before .before .before .before .before .before .put2 .ensures) (c .before .before .before .before .before .put3 .ensures)
+    (c .before .before .put-all .ensures)) at (c .set-head .ensures))
 
 returns-2 : tie.Need-returns-2
 unfolding stored-all-at

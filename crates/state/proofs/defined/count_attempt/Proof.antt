@@ -18,7 +18,8 @@ set-head-requires c κs = search needs
 
 returns : tie.Need-returns
 unfolding attempted
-returns c = (rw (c .before .before .before .head .ensures) at (c .set-head .ensures)) ∙ picked _ _ (rw (c .before .before .before .head .ensures) at (lt-ltb _ _ (c .before .before .if1 .taken)))
+returns c = (rw (c .before .before .before .head .ensures) at (c .set-head .ensures))
+    ∙ picked _ _ (rw (c .before .before .before .head .ensures) at (lt-ltb _ _ (c .before .before .if1 .taken)))
 
 returns-2 : tie.Need-returns-2
 unfolding attempted

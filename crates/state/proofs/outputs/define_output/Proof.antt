@@ -40,7 +40,10 @@ set-head-requires : tie.Need-set-head-requires
 set-head-requires c κs = search needs
 
 returns : tie.Need-returns
-returns c = output-defined (c .before .before .before .before .before .before .before .before .before .before .output-count .ensures) (c .before .before .before .before .before .before .before .before .before .if1 .taken) (rw (two-and-run _ _ _ _ _ _ _ (c .before .before .before .before .before .before .before .put .ensures) (c .before .before .before .before .before .put2 .ensures) (c .before .before .put-all .ensures)) at (c .set-head .ensures))
+returns c = output-defined (c .before .before .before .before .before .before .before .before .before .before .output-count .ensures)
+    (c .before .before .before .before .before .before .before .before .before .if1 .taken)
+    (rw (two-and-run _ _ _ _ _ _ _ (c .before .before .before .before .before .before .before .put .ensures)
+    (c .before .before .before .before .before .put2 .ensures) (c .before .before .put-all .ensures)) at (c .set-head .ensures))
 
 returns-2 : tie.Need-returns-2
 unfolding stored-all-at

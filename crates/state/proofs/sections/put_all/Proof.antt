@@ -9,7 +9,8 @@ use Rattle.state.proofs.sections.put_all.Statement.{statement}
 use Rattle.state.proofs.sections.put_all.Tie as tie
 
 abbrev Inv-loop : tie.InvT-loop
-Inv-loop w₀ section size i xs j₀ w j = (j ≤ length xs) × (stored-all-at section size w (i + j) (drop j xs) ≡ stored-all-at section size w₀ i xs)
+Inv-loop w₀ section size i xs j₀ w j =
+    (j ≤ length xs) × (stored-all-at section size w (i + j) (drop j xs) ≡ stored-all-at section size w₀ i xs)
 
 abbrev μ-loop : tie.MeasureT-loop
 μ-loop w₀ section size i xs j₀ w j = length xs - j
@@ -36,7 +37,11 @@ loop-less : tie.Need-loop-less Inv-loop μ-loop
 loop-less c = search needs
 
 loop-again : tie.Need-loop-again Inv-loop μ-loop
-loop-again c = (omega arith, rw (c .put .ensures) (sym (run-turn _ _ _ _ _ _ (c .before .before .before .loop-test .taken)) ∙ c .before .before .before .before .loop .inv .1))
+loop-again c = (
+  omega arith,
+  rw (c .put .ensures)
+      (sym (run-turn _ _ _ _ _ _ (c .before .before .before .loop-test .taken)) ∙ c .before .before .before .before .loop .inv .1),
+)
 
 returns : tie.Need-returns Inv-loop μ-loop
 returns c = sym (run-stop _ _ _ _ _ _ (c .loop-test .left)) ∙ c .before .loop .inv .1

@@ -37,7 +37,17 @@ put-all-requires : tie.Need-put-all-requires
 put-all-requires c κs = search needs
 
 returns : tie.Need-returns
-returns c = rw (← c .before .before .before .before .before .before .before .before .before .before .before .before .before .before .before .word .ensures, ← c .before .before .before .before .before .before .before .before .before .before .before .before .before .word2 .ensures, ← c .before .before .before .before .before .before .before .before .before .before .before .word3 .ensures, ← c .before .before .before .before .before .before .before .before .before .word4 .ensures, ← c .before .before .before .before .before .before .before .word5 .ensures, ← c .before .before .before .before .before .word6 .ensures, ← c .before .before .before .word7 .ensures) (c .put-all .ensures)
+returns c =
+    let b = c .before .before .before .before .before .before .before in
+    rw (
+      ← b .before .before .before .before .before .before .before .before .word .ensures,
+      ← b .before .before .before .before .before .before .word2 .ensures,
+      ← b .before .before .before .before .word3 .ensures,
+      ← b .before .before .word4 .ensures,
+      ← c .before .before .before .before .before .before .before .word5 .ensures,
+      ← c .before .before .before .before .before .word6 .ensures,
+      ← c .before .before .before .word7 .ensures,
+    ) (c .put-all .ensures)
 
 pub copy-bundle-spec : {M : Type 1} → statement M
 copy-bundle-spec =

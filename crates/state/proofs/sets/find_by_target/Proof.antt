@@ -25,7 +25,9 @@ target-requires : tie.Need-target-requires Inv-loop μ-loop
 target-requires c κs = search needs
 
 returns : tie.Need-returns Inv-loop μ-loop
-returns c = c .before .before .bundle-at .ensures ∙ find-found _ _ _ _ _ (c .before .before .before .loop-test .taken) (rw (c .before .before .bundle-at .ensures) at (sym (c .before .target .ensures) ∙ c .if1 .taken)) (c .before .before .before .before .loop .inv .1)
+returns c = c .before .before .bundle-at .ensures ∙ find-found _ _ _ _ _ (c .before .before .before .loop-test .taken)
+    (rw (c .before .before .bundle-at .ensures) at (sym (c .before .target .ensures) ∙ c .if1 .taken))
+    (c .before .before .before .before .loop .inv .1)
 
 add-i : tie.Need-add-i Inv-loop μ-loop
 add-i c = search needs
@@ -34,7 +36,12 @@ loop-less : tie.Need-loop-less Inv-loop μ-loop
 loop-less c = search needs
 
 loop-again : tie.Need-loop-again Inv-loop μ-loop
-loop-again c = (omega arith, find-turn _ _ _ _ _ (c .before .before .before .loop-test .taken) (λ e. c .if1 .left (c .before .target .ensures ∙ rw (c .before .before .bundle-at .ensures) e)) (c .before .before .before .before .loop .inv .1))
+loop-again c = (
+  omega arith,
+  find-turn _ _ _ _ _ (c .before .before .before .loop-test .taken)
+      (λ e. c .if1 .left (c .before .target .ensures ∙ rw (c .before .before .bundle-at .ensures) e))
+      (c .before .before .before .before .loop .inv .1),
+)
 
 returns-2 : tie.Need-returns-2 Inv-loop μ-loop
 returns-2 c = find-stop _ _ _ _ _ (c .loop-test .left) (c .before .loop .inv .1)

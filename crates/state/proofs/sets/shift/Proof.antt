@@ -37,7 +37,8 @@ loop-less : tie.Need-loop-less Inv-loop μ-loop
 loop-less c = search needs
 
 loop-again : tie.Need-loop-again Inv-loop μ-loop
-loop-again c = rw (c .copy-bundle .ensures, c .before .before .before .bundle-at .ensures, c .before .bundle-at2 .ensures) (shift-turn _ _ _ _ (c .before .before .before .before .loop-test .taken) (c .before .before .before .before .before .loop .inv))
+loop-again c = rw (c .copy-bundle .ensures, c .before .before .before .bundle-at .ensures, c .before .bundle-at2 .ensures)
+    (shift-turn _ _ _ _ (c .before .before .before .before .loop-test .taken) (c .before .before .before .before .before .loop .inv))
 
 returns : tie.Need-returns Inv-loop μ-loop
 returns c = shift-stop _ _ _ _ (c .loop-test .left) (c .before .loop .inv)

@@ -34,7 +34,14 @@ put-set-length-requires c κs = search needs
 
 returns-2 : tie.Need-returns-2
 unfolding swap-removed
-returns-2 c = (rw (c .before .before .copy-bundle .ensures, c .before .before .before .before .bundle-at .ensures, c .before .before .before .before .before .set-start .ensures, c .before .before .before .before .before .before .before .before .set-length .ensures) at (c .put-set-length .ensures)) ∙ passed-over _ _ (not-equal (c .before .before .before .before .before .before .before .if1 .left) (c .before .before .before .before .before .before .before .before .set-length .ensures))
+returns-2 c = (rw (
+  c .before .before .copy-bundle .ensures,
+  c .before .before .before .before .bundle-at .ensures,
+  c .before .before .before .before .before .set-start .ensures,
+  c .before .before .before .before .before .before .before .before .set-length .ensures,
+) at (c .put-set-length .ensures))
+    ∙ passed-over _ _ (not-equal (c .before .before .before .before .before .before .before .if1 .left)
+    (c .before .before .before .before .before .before .before .before .set-length .ensures))
 
 pub swap-remove-spec : {M : Type 1} → statement M
 swap-remove-spec =
