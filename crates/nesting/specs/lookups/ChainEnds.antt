@@ -206,7 +206,7 @@ module _ (es : List RewriteEntry) where
         | inr f ↦ absurd (acyclic (h r refl) (f r refl))
       ]
 
-  ends-within : (n : ℕ) (left : List ℕ) → length left ≡ n → (v : Value) → ValueEnds v → Covers left v → EndsIn es n v
+  pub ends-within : (n : ℕ) (left : List ℕ) → length left ≡ n → (v : Value) → ValueEnds v → Covers left v → EndsIn es n v
   ends-within zero left len v h c = ends-by 0 left len v h c (λ m l. absurd (omega arith))
   ends-within (suc n) left len v h c =
       ends-by (suc n) left len v h c

@@ -1,0 +1,4 @@
+pub mod LookUps
+pub mod Materialized
+pub mod Shown
+pub mod ConditionsShown

@@ -1,0 +1,3 @@
+// Look-ups, and lazy conditions made real.
+pub mod look_up;
+pub mod materialize;

@@ -1,0 +1,139 @@
+-- What the words show of a state of nesting: its rewrites, outputs, conditions and totals. Each part speaks of one section's words, or of
+-- one word of the head, so a store elsewhere leaves it as it is.
+use mathlib.Core.Path.{_≡_, refl, subst}
+use mathlib.Core.Bool.{Bool, true, false}
+use mathlib.Core.List.{List, [], _∷_, map, List·Memᴰ}
+use mathlib.Core.Option.{Option, none, some}
+use Prim.Native.Nat.{ℕ, zero, suc, _+_, _*_, _≤_, _<_}
+use lib.ListN.{length, getD}
+use Rattle.meaning.specs.Graph.{Value, SelectionKind, bool-cond, number, undef, held}
+use Rattle.meaning.specs.facts.Tests.{clash}
+use Rattle.nesting.specs.Nesting.{LazyCond, undef-cond, false-cond, true-cond, merge, LazyConds, no-conds, _&_, InputRewrite, renumber-to}
+use Rattle.nesting.specs.Nesting.{replace-by, RegionInputRewrites, replace-with, renumber-or-replace-with, RewriteEntry, NodeOutput}
+use Rattle.nesting.specs.Nesting.{NestState, StepAnswer, done, turned-away, rewrites-of}
+use Rattle.state.specs.declared.defined.Defined.{Defined}
+use Rattle.state.specs.declared.defined.Defined.the-variants.{Number, Full}
+use Rattle.state.specs.Sections.{section, word, head, rewrites, outputs, conditions, used}
+use Rattle.state.specs.Values.{is-held}
+use Rattle.shown.specs.Values.{value}
+use Rattle.meaning.specs.Lists.{bit}
+
+-- ---- Rewrites: five words for a region.
+-- The word at a loop header's input: a marked one is the new number of an input that stays.
+pub data ShowsInput (r x : ℕ) : InputRewrite → Type 0 where
+  renumbered : {i : ℕ} → value x ≡ held r i → ShowsInput r x (renumber-to i)
+  replaced : {v : Value} → value x ≡ v → is-held x ≡ false → ShowsInput r x (replace-by v)
+
+-- Beyond a list's end the words have what the definition takes there.
+pub data ShowsEntry (l : List ℕ) (r : ℕ) : Option RegionInputRewrites → Type 0 where
+  no-entry : getD l (5 * r) 0 ≡ 0 → ShowsEntry l r none
+  replaces : {vs : List Value} → getD l (5 * r) 0 ≡ 1 → ((k : ℕ) → k < 4 → value (getD l (5 * r + 1 + k) 0) ≡ getD vs k (undef 0))
+      → ShowsEntry l r (some (replace-with vs))
+  renumbers : {xs : List InputRewrite} → getD l (5 * r) 0 ≡ 2
+      → ((k : ℕ) → k < 4 → ShowsInput r (getD l (5 * r + 1 + k) 0) (getD xs k (renumber-to k)))
+      → ShowsEntry l r (some (renumber-or-replace-with xs))
+
+-- The kind and the four words of an entry to be.
+pub data EntryWords (r kind : ℕ) (ws : List ℕ) : RegionInputRewrites → Type 0 where
+  replace-words : {vs : List Value} → kind ≡ 1 → ((k : ℕ) → k < 4 → value (getD ws k 0) ≡ getD vs k (undef 0))
+      → EntryWords r kind ws (replace-with vs)
+  renumber-words : {xs : List InputRewrite} → kind ≡ 2 → ((k : ℕ) → k < 4 → ShowsInput r (getD ws k 0) (getD xs k (renumber-to k)))
+      → EntryWords r kind ws (renumber-or-replace-with xs)
+
+pub record ShowsRewrites (l : List ℕ) (es : List RewriteEntry) : Type 0 where
+  pub entry : (r : ℕ) → r < 128 → ShowsEntry l r (rewrites-of es r)
+  pub logged : (r : ℕ) → List·Memᴰ r (map (λ e. e .region) es) → r < 128
+
+-- ---- Outputs: ten words each.
+-- Of words in a row, the first stand for these values.
+pub record ShowsValues (ws : List ℕ) (i : ℕ) (vs : List Value) : Type 0 where
+  pub few : length vs ≤ 8
+  pub each : (j : ℕ) → j < length vs → value (getD ws (i + j) 0) ≡ getD vs j (undef 0)
+
+pub record ShowsOutput (l : List ℕ) (o : ℕ) (x : NodeOutput) : Type 0 where
+  pub node : getD l (10 * o) 0 ≡ x .node
+  pub type : getD l (10 * o + 1) 0 ≡ x .type
+  pub values : ShowsValues l (10 * o + 2) (x .values)
+
+abbrev pub no-output : NodeOutput
+no-output = record { node = 0; type = 0; values = [] }
+
+abbrev pub ShowsOutputs : List ℕ → List NodeOutput → Type 0
+ShowsOutputs l os = (o : ℕ) → o < length os → ShowsOutput l o (getD os o no-output)
+
+-- ---- Conditions: eleven words for a record, whose parts are earlier ones.
+pub data ShowsShape (shape n : ℕ) : SelectionKind → Type 0 where
+  shape-bool : shape ≡ 0 → n ≡ 2 → ShowsShape shape n bool-cond
+  shape-number : 1 ≤ shape → shape ≤ 8 → n ≡ shape → ShowsShape shape n number
+
+abbrev pub cond-count : LazyConds → ℕ
+cond-count no-conds = 0
+cond-count (t & ts) = suc (cond-count ts)
+
+mutual
+  pub data ShowsCond (l : List ℕ) : ℕ → LazyCond → Type 0 where
+    shows-true : {c : ℕ} → c ≡ 1 → ShowsCond l c true-cond
+    shows-false : {c : ℕ} → c ≡ 2 → ShowsCond l c false-cond
+    shows-undef : {c : ℕ} → c ≡ 3 → ShowsCond l c undef-cond
+    shows-merge : {c n : ℕ} {kind : SelectionKind} {v : Value} {ts : LazyConds} → 4 ≤ c → getD l (11 * c + 0) 0 ≡ n
+        → ShowsShape (getD l (11 * c + 1) 0) (cond-count ts) kind → value (getD l (11 * c + 2) 0) ≡ v → ShowsConds l c 0 ts
+        → ShowsCond l c (merge n kind v ts)
+
+  -- The parts of record c from place j on.
+  pub data ShowsConds (l : List ℕ) : ℕ → ℕ → LazyConds → Type 0 where
+    no-parts : {c j : ℕ} → ShowsConds l c j no-conds
+    part-and : {c j p : ℕ} {t : LazyCond} {ts : LazyConds} → getD l (11 * c + (3 + j)) 0 ≡ p → p < c → ShowsCond l p t
+        → ShowsConds l c (suc j) ts
+        → ShowsConds l c j (t & ts)
+
+-- A condition that was made, by its number.
+pub record ShowsCondition (w : List ℕ) (c : ℕ) (t : LazyCond) : Type 0 where
+  pub tree : ShowsCond (section w conditions) c t
+  pub made : c < 4 + word w head 2
+
+-- Words in a row, from place j on, are conditions that were made.
+pub data ShowsParts (w ps : List ℕ) : ℕ → LazyConds → Type 0 where
+  none-left : {j : ℕ} → ShowsParts w ps j no-conds
+  one-and : {j : ℕ} {t : LazyCond} {ts : LazyConds} → ShowsCondition w (getD ps j 0) t → ShowsParts w ps (suc j) ts
+      → ShowsParts w ps j (t & ts)
+
+-- ---- All tables, and the totals of the head, each within its limit.
+pub record ShowsTables (w : List ℕ) (s : NestState) : Type 0 where
+  pub size : used ≤ length w
+  pub region-total : word w head 0 ≡ s .region-count
+  pub node-total : word w head 1 ≡ s .node-count
+  pub merge-total : word w head 2 ≡ s .merge-count
+  pub output-total : word w head 3 ≡ length (s .node-outputs)
+  pub attempts : word w head 5 ≡ s .attempts
+  pub twice : word w head 6 ≡ bit (s .twice)
+  pub few-regions : s .region-count ≤ 128
+  pub few-nodes : s .node-count ≤ 512
+  pub few-merges : s .merge-count ≤ 512
+  pub few-outputs : length (s .node-outputs) ≤ 512
+  pub rewritten : ShowsRewrites (section w rewrites) (s .region-input-rewrites)
+  pub outputs-shown : ShowsOutputs (section w outputs) (s .node-outputs)
+
+-- What a step of the code answers, and its words, show what the definition's step gives: a number that shows its value, or refusal 9.
+pub data ShowsDefined {A : Type 0} (R : ℕ → A → Type 0) (w : List ℕ) : Defined → StepAnswer A → Type 0 where
+  shows-done : {x : ℕ} {a : A} {s : NestState} → R x a → ShowsTables w s → ShowsDefined R w (Number x) (done a s)
+  shows-full : ShowsDefined R w Full (turned-away 9 0)
+
+-- Taken apart by what the code answered.
+pub record Done {A : Type 0} (R : ℕ → A → Type 0) (w : List ℕ) (x : ℕ) (b : StepAnswer A) : Type 0 where
+  pub value : A
+  pub state : NestState
+  pub is : b ≡ done value state
+  pub shows : R x value
+  pub tables : ShowsTables w state
+
+pub done-of : {A : Type 0} {R : ℕ → A → Type 0} {w : List ℕ} {a : Defined} {b : StepAnswer A} → ShowsDefined R w a b → {x : ℕ}
+    → a ≡ Number x
+    → Done R w x b
+done-of {R} (shows-done {x} {a} {s} r t) {x = y} e =
+    let same : x ≡ y = cc in record { value = a; state = s; is = refl; shows = subst (λ z. R z a) same r; tables = t }
+done-of shows-full e = absurd (clash (cc))
+
+pub full-of : {A : Type 0} {R : ℕ → A → Type 0} {w : List ℕ} {a : Defined} {b : StepAnswer A} → ShowsDefined R w a b → a ≡ Full
+    → b ≡ turned-away 9 0
+full-of (shows-done r t) e = absurd (clash (cc))
+full-of shows-full e = refl

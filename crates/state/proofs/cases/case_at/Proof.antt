@@ -1,0 +1,40 @@
+use mathlib.Core.Path.{_≡_, refl, sym, ap, _∙_}
+use Rattle.fields.specs.laws.Picks.{picked, passed-over, is-below, not-below, is-equal, not-equal}
+use borrow.Author.Tests.{lt-ltb, le-ltb, eq-eqb, ne-eqb}
+use native.Mathlib.Omega.{arith}
+use borrow.Author.Needs.{needs}
+use Rattle.state.proofs.cases.case_at.Statement.{statement}
+use Rattle.state.proofs.cases.case_at.Tie as tie
+
+case-kind-requires : tie.Need-case-kind-requires
+case-kind-requires c κs = search needs
+
+case-origin-requires : tie.Need-case-origin-requires
+case-origin-requires c κs = search needs
+
+case-body-requires : tie.Need-case-body-requires
+case-body-requires c κs = search needs
+
+case-children-requires : tie.Need-case-children-requires
+case-children-requires c κs = search needs
+
+case-start-requires : tie.Need-case-start-requires
+case-start-requires c κs = search needs
+
+case-length-requires : tie.Need-case-length-requires
+case-length-requires c κs = search needs
+
+returns : tie.Need-returns
+returns c = cc
+
+pub case-at-spec : {M : Type 1} → statement M
+case-at-spec =
+    tie.close
+    (tie.spec
+    case-kind-requires
+    case-origin-requires
+    case-body-requires
+    case-children-requires
+    case-start-requires
+    case-length-requires
+    returns)

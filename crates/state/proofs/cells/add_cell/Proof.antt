@@ -1,0 +1,50 @@
+use Rattle.state.specs.Tables.{Adds, added, no-room}
+use mathlib.Core.Path.{_≡_, refl, sym, ap, _∙_}
+use Rattle.fields.specs.laws.Picks.{picked, passed-over, is-below, not-below, is-equal, not-equal}
+use borrow.Author.Tests.{lt-ltb, le-ltb, eq-eqb, ne-eqb}
+use native.Mathlib.Omega.{arith}
+use borrow.Author.Needs.{needs}
+use Rattle.state.proofs.cells.add_cell.Statement.{statement}
+use Rattle.state.proofs.cells.add_cell.Tie as tie
+
+head-requires : tie.Need-head-requires
+head-requires c κs = search needs
+
+cast-at : tie.Need-cast-at
+cast-at c = search needs
+
+mul-at : tie.Need-mul-at
+mul-at c = search needs
+
+slice-aggregate-put-all : tie.Need-slice-aggregate-put-all
+slice-aggregate-put-all c = search needs
+
+put-all-requires : tie.Need-put-all-requires
+put-all-requires c κs = search needs
+
+add-set-head : tie.Need-add-set-head
+add-set-head c = search needs
+
+set-head-requires : tie.Need-set-head-requires
+set-head-requires c κs = search needs
+
+returns : tie.Need-returns
+returns c = added (c .before .before .before .before .before .before .head .ensures) (c .before .before .before .before .before .if1 .taken)
+    (rw (c .before .before .put-all .ensures) at (c .set-head .ensures))
+
+returns-2 : tie.Need-returns-2
+returns-2 c = no-room (omega (arith, c .before .head .ensures)) refl refl
+
+pub add-cell-spec : {M : Type 1} → statement M
+add-cell-spec =
+    tie.close
+    (tie.spec
+    head-requires
+    cast-at
+    mul-at
+    slice-aggregate-put-all
+    put-all-requires
+    add-set-head
+    set-head-requires
+    returns
+    returns-2)

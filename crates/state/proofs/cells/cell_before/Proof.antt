@@ -1,0 +1,21 @@
+use Prim.Native.Nat.{ℕ}
+use Rattle.state.specs.Tables.{earlier}
+use mathlib.Core.Path.{_≡_, refl, sym, ap, _∙_}
+use Rattle.fields.specs.laws.Picks.{picked, passed-over, is-below, not-below}
+use borrow.Author.Tests.{lt-ltb, le-ltb, eq-eqb, ne-eqb}
+use native.Mathlib.Omega.{arith}
+use borrow.Author.Needs.{needs}
+use Rattle.state.proofs.cells.cell_before.Statement.{statement}
+use Rattle.state.proofs.cells.cell_before.Tie as tie
+
+cell-word-requires : tie.Need-cell-word-requires
+cell-word-requires c κs = search needs
+
+earlier-requires : tie.Need-earlier-requires
+earlier-requires c κs = search needs
+
+returns : tie.Need-returns
+returns c = c .earlier .ensures ∙ ap (λ (p : ℕ). earlier p (c .before .before .args .h)) (c .before .cell-word .ensures)
+
+pub cell-before-spec : {M : Type 1} → statement M
+cell-before-spec = tie.close (tie.spec cell-word-requires earlier-requires returns)

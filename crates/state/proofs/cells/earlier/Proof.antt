@@ -1,0 +1,17 @@
+use Rattle.state.specs.Tables.{earlier}
+use mathlib.Core.Path.{_≡_, refl, sym, ap, _∙_}
+use Rattle.fields.specs.laws.Picks.{picked, passed-over}
+use borrow.Author.Tests.{lt-ltb, le-ltb, eq-eqb, ne-eqb}
+use Rattle.state.proofs.cells.earlier.Statement.{statement}
+use Rattle.state.proofs.cells.earlier.Tie as tie
+
+returns : tie.Need-returns
+unfolding earlier
+returns c = picked _ _ (lt-ltb _ _ (c .if1 .taken))
+
+returns-2 : tie.Need-returns-2
+unfolding earlier
+returns-2 c = passed-over _ _ (le-ltb _ _ (c .if1 .left))
+
+pub earlier-spec : {M : Type 1} → statement M
+earlier-spec = tie.close (tie.spec returns returns-2)

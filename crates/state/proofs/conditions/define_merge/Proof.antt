@@ -1,0 +1,84 @@
+use Rattle.state.specs.Stored.{three-and-run}
+use Rattle.state.specs.Tables.{merge-defined, merges-full}
+use Rattle.state.specs.Sections.{stored-all-at}
+use mathlib.Core.Path.{_≡_, refl, sym, ap, _∙_}
+use Rattle.fields.specs.laws.Picks.{picked, passed-over, is-below, not-below, is-equal, not-equal}
+use borrow.Author.Tests.{lt-ltb, le-ltb, eq-eqb, ne-eqb}
+use native.Mathlib.Omega.{arith}
+use borrow.Author.Needs.{needs}
+use Rattle.state.proofs.conditions.define_merge.Statement.{statement}
+use Rattle.state.proofs.conditions.define_merge.Tie as tie
+
+head-requires : tie.Need-head-requires
+head-requires c κs = search needs
+
+add-at : tie.Need-add-at
+add-at c = search needs
+
+cast-at : tie.Need-cast-at
+cast-at c = search needs
+
+mul-at : tie.Need-mul-at
+mul-at c = search needs
+
+put-requires : tie.Need-put-requires
+put-requires c κs = search needs
+
+add-put : tie.Need-add-put
+add-put c = search needs
+
+put-requires-2 : tie.Need-put-requires-2
+put-requires-2 c κs = search needs
+
+add-put-2 : tie.Need-add-put-2
+add-put-2 c = search needs
+
+put-requires-3 : tie.Need-put-requires-3
+put-requires-3 c κs = search needs
+
+add-put-all : tie.Need-add-put-all
+add-put-all c = search needs
+
+put-all-requires : tie.Need-put-all-requires
+put-all-requires c κs = search needs
+
+add-set-head : tie.Need-add-set-head
+add-set-head c = search needs
+
+set-head-requires : tie.Need-set-head-requires
+set-head-requires c κs = search needs
+
+add-t10 : tie.Need-add-t10
+add-t10 c = search needs
+
+returns : tie.Need-returns
+returns c = merge-defined (c .before .before .before .before .before .before .before .before .before .before .before .before .head .ensures)
+    (c .before .before .before .before .before .before .before .before .before .before .before .if1 .taken) refl
+    (rw (three-and-run _ _ _ _ _ _ _ _ (c .before .before .before .before .before .before .before .before .before .put .ensures)
+    (c .before .before .before .before .before .before .before .put2 .ensures) (c .before .before .before .before .before .put3 .ensures)
+    (c .before .before .put-all .ensures)) at (c .set-head .ensures))
+
+returns-2 : tie.Need-returns-2
+unfolding stored-all-at
+returns-2 c = merges-full (omega (arith, c .before .head .ensures)) refl
+
+pub define-merge-spec : {M : Type 1} → statement M
+define-merge-spec =
+    tie.close
+    (tie.spec
+    head-requires
+    add-at
+    cast-at
+    mul-at
+    put-requires
+    add-put
+    put-requires-2
+    add-put-2
+    put-requires-3
+    add-put-all
+    put-all-requires
+    add-set-head
+    set-head-requires
+    add-t10
+    returns
+    returns-2)

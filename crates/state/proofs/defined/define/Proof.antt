@@ -1,0 +1,26 @@
+use Rattle.state.specs.Tables.{Defines, defined, full}
+use mathlib.Core.Path.{_≡_, refl, sym, ap, _∙_}
+use Rattle.fields.specs.laws.Picks.{picked, passed-over, is-below, not-below}
+use borrow.Author.Tests.{lt-ltb, le-ltb, eq-eqb, ne-eqb}
+use native.Mathlib.Omega.{arith}
+use borrow.Author.Needs.{needs}
+use Rattle.state.proofs.defined.define.Statement.{statement}
+use Rattle.state.proofs.defined.define.Tie as tie
+
+head-requires : tie.Need-head-requires
+head-requires c κs = search needs
+
+add-set-head : tie.Need-add-set-head
+add-set-head c = search needs
+
+set-head-requires : tie.Need-set-head-requires
+set-head-requires c κs = search needs
+
+returns : tie.Need-returns
+returns c = defined (c .before .before .before .head .ensures) (c .before .before .if1 .taken) (c .set-head .ensures)
+
+returns-2 : tie.Need-returns-2
+returns-2 c = full (omega (arith, c .before .head .ensures)) refl
+
+pub define-spec : {M : Type 1} → statement M
+define-spec = tie.close (tie.spec head-requires add-set-head set-head-requires returns returns-2)

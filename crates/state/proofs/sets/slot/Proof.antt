@@ -1,0 +1,22 @@
+use Rattle.state.specs.Tables.{slot}
+use mathlib.Core.Path.{_≡_, refl, sym, ap, _∙_}
+use Rattle.fields.specs.laws.Picks.{picked, passed-over, is-below, not-below}
+use borrow.Author.Tests.{lt-ltb, le-ltb, eq-eqb, ne-eqb}
+use native.Mathlib.Omega.{arith}
+use borrow.Author.Needs.{needs}
+use Rattle.state.proofs.sets.slot.Statement.{statement}
+use Rattle.state.proofs.sets.slot.Tie as tie
+
+mul-result : tie.Need-mul-result
+mul-result c = search needs
+
+returns : tie.Need-returns
+unfolding slot
+returns c = picked _ _ (lt-ltb _ _ (c .if1 .taken))
+
+returns-2 : tie.Need-returns-2
+unfolding slot
+returns-2 c = passed-over _ _ (le-ltb _ _ (c .if1 .left))
+
+pub slot-spec : {M : Type 1} → statement M
+slot-spec = tie.close (tie.spec mul-result returns returns-2)

@@ -1,0 +1,32 @@
+use mathlib.Core.Path.{_≡_, refl, sym, ap, _∙_}
+use Rattle.fields.specs.laws.Picks.{picked, passed-over, is-below, not-below}
+use borrow.Author.Tests.{lt-ltb, le-ltb, eq-eqb, ne-eqb}
+use native.Mathlib.Omega.{arith}
+use borrow.Author.Needs.{needs}
+use Rattle.state.proofs.sets.swap_sets.Statement.{statement}
+use Rattle.state.proofs.sets.swap_sets.Tie as tie
+
+set-start-requires : tie.Need-set-start-requires
+set-start-requires c κs = search needs
+
+set-start-requires-2 : tie.Need-set-start-requires-2
+set-start-requires-2 c κs = search needs
+
+put-set-start-requires : tie.Need-put-set-start-requires
+put-set-start-requires c κs = search needs
+
+put-set-start-requires-2 : tie.Need-put-set-start-requires-2
+put-set-start-requires-2 c κs = search needs
+
+returns : tie.Need-returns
+returns c = cc
+
+pub swap-sets-spec : {M : Type 1} → statement M
+swap-sets-spec =
+    tie.close
+    (tie.spec
+    set-start-requires
+    set-start-requires-2
+    put-set-start-requires
+    put-set-start-requires-2
+    returns)

@@ -1,0 +1,133 @@
+-- What a step does to a table of the state: a definition within its limit, a cell more.
+use mathlib.Core.Path.{_≡_}
+use mathlib.Core.List.{List, [], _∷_}
+use Prim.Native.Nat.{ℕ, zero, suc, _+_, _*_, _-_, _≤_, _<_}
+use lib.Dec.{ltb, eqb}
+use Rattle.state.specs.declared.defined.Defined.{Defined}
+use Rattle.state.specs.declared.defined.Defined.the-variants.{Number, Full}
+use Rattle.state.specs.declared.cells.Cell.{Cell}
+use Rattle.state.specs.declared.cases.Case.{Case}
+use Rattle.state.specs.Sections.{word, stored, stored-all, head, cells, rewrites, bundles, set-starts, set-lengths, cases, levels}
+use Rattle.state.specs.Sections.{outputs, conditions}
+use Rattle.meaning.specs.Lists.{pick}
+
+-- A handle, or 0 where it names no earlier cell; a condition, or true where it names no earlier one.
+unfoldable pub earlier : ℕ → ℕ → ℕ
+earlier p h = pick (ltb p h) p 0
+
+unfoldable pub earlier-part : ℕ → ℕ → ℕ
+earlier-part p c = pick (ltb p c) p 1
+
+-- How many cases a select of this shape has.
+unfoldable pub shape-size : ℕ → ℕ
+shape-size shape = pick (eqb shape 0) 2 (pick (ltb shape 8) shape 8)
+
+-- One more of what the head counts at i, from l to l′; refusal 9 where there are as many as the limit.
+pub data Defines (i limit : ℕ) (l l′ : List ℕ) : Defined → Type 0 where
+  defined : {n : ℕ} → n ≡ word l head i → n < limit → l′ ≡ stored l head i (n + 1) → Defines i limit l l′ (Number n)
+  full : limit ≤ word l head i → l′ ≡ l → Defines i limit l l′ Full
+
+-- The six words of a cell.
+abbrev pub cell-words : Cell → List ℕ
+cell-words x = x .tag ∷ x .before ∷ x .a ∷ x .b ∷ x .c ∷ x .d ∷ []
+
+-- A cell more, at the handle that the head counts.
+pub data Adds (l l′ : List ℕ) (x : Cell) (h : ℕ) : Type 0 where
+  added : h ≡ word l head 4 → h < 704 → l′ ≡ stored (stored-all l cells (6 * h) (cell-words x)) head 4 (h + 1) → Adds l l′ x h
+  no-room : 704 ≤ word l head 4 → l′ ≡ l → h ≡ 0 → Adds l l′ x h
+
+-- ---- Cases, rewrites.
+abbrev pub case-words : Case → List ℕ
+case-words x = x .kind ∷ x .origin ∷ x .body ∷ x .children ∷ x .start ∷ x .length ∷ []
+
+-- The first entry of a region wins.
+unfoldable pub inserted : List ℕ → ℕ → ℕ → List ℕ → List ℕ
+inserted l r kind vs = pick (eqb (word l rewrites (5 * r)) 0) (stored-all (stored l rewrites (5 * r) kind) rewrites (5 * r + 1) vs) l
+
+-- ---- Bundles.
+unfoldable pub slot : ℕ → ℕ
+slot r = pick (ltb r 33) (33 * r) 65535
+
+unfoldable pub own-edge : ℕ → ℕ
+own-edge j = pick (ltb j 8) (1089 + j) 65535
+
+unfoldable pub bundle-at : ℕ → ℕ → ℕ
+bundle-at start i = pick (ltb start 1097) (pick (ltb i 33) (start + i) 65535) 65535
+
+abbrev pub bundle-words : List ℕ → ℕ → List ℕ
+bundle-words l b =
+    let field : ℕ → ℕ = λ i. word l bundles (7 * b + i) in
+    field 0 ∷ field 1 ∷ field 2 ∷ field 3 ∷ field 4 ∷ field 5 ∷ field 6 ∷ []
+
+-- Input k of a bundle; there are four at most.
+unfoldable pub input-word : List ℕ → ℕ → ℕ → ℕ
+input-word l b k = pick (ltb k 4) (word l bundles (7 * b + (3 + k))) 0
+
+unfoldable pub input-stored : List ℕ → ℕ → ℕ → ℕ → List ℕ
+input-stored l b k v = pick (ltb k 4) (stored l bundles (7 * b + (3 + k)) v) l
+
+-- Two slots change hands.
+abbrev pub swapped : List ℕ → ℕ → ℕ → List ℕ
+swapped l a b = stored (stored l set-starts a (word l set-starts b)) set-starts b (word l set-starts a)
+
+-- The first bundle to a target among n from `start` on, of which i were passed.
+unfoldable pub find-by : List ℕ → ℕ → ℕ → ℕ → ℕ → ℕ
+find-by l start t zero i = 65535
+find-by l start t (suc n) i = pick (eqb (word l bundles (7 * bundle-at start i + 0)) t) (bundle-at start i) (find-by l start t n (suc i))
+
+-- ---- Steps of the head, of levels and of cases.
+unfoldable pub attempted : List ℕ → List ℕ
+attempted l = pick (ltb (word l head 5) 65535) (stored l head 5 (word l head 5 + 1)) l
+
+unfoldable pub case-total : List ℕ → ℕ
+case-total l = pick (ltb (word l head 7) 8) (word l head 7) 8
+
+abbrev pub case-row : List ℕ → ℕ → Case
+case-row l j =
+    let field : ℕ → ℕ = λ i. word l cases (10 * j + i) in
+    record { kind = field 0; origin = field 1; body = field 2; children = field 3; start = field 4; length = field 5 }
+
+unfoldable pub taken-word : List ℕ → ℕ → ℕ → ℕ
+taken-word l r j = pick (ltb j 8) (word l levels (10 * r + j)) 0
+
+unfoldable pub taken-stored : List ℕ → ℕ → ℕ → ℕ → List ℕ
+taken-stored l r j x = pick (ltb j 8) (stored l levels (10 * r + j) x) l
+
+-- ---- Definitions of the other tables, each within its limit.
+pub data OutputDefined (node ty : ℕ) (vs l l′ : List ℕ) : Defined → Type 0 where
+  output-defined : {o : ℕ} → o ≡ word l head 3 → o < 512 → l′ ≡ stored (stored-all l outputs (10 * o) (node ∷ ty ∷ vs)) head 3 (o + 1)
+      → OutputDefined node ty vs l l′ (Number o)
+  outputs-full : 512 ≤ word l head 3 → l′ ≡ l → OutputDefined node ty vs l l′ Full
+
+pub data MergeDefined (node shape scrutinee : ℕ) (parts l l′ : List ℕ) : Defined → Type 0 where
+  merge-defined : {m c : ℕ} → m ≡ word l head 2 → m < 512 → c ≡ 4 + m
+      → l′ ≡ stored (stored-all l conditions (11 * c) (node ∷ shape ∷ scrutinee ∷ parts)) head 2 (m + 1)
+      → MergeDefined node shape scrutinee parts l l′ (Number c)
+  merges-full : 512 ≤ word l head 2 → l′ ≡ l → MergeDefined node shape scrutinee parts l l′ Full
+
+abbrev pub join-cell : ℕ → ℕ → Cell
+join-cell a b = record { tag = 2; before = a; a = b; b = 0; c = 0; d = 0 }
+
+pub data Joins (l l′ : List ℕ) (a b h : ℕ) : Type 0 where
+  first-empty : a ≡ 0 → l′ ≡ l → h ≡ b → Joins l l′ a b h
+  second-empty : (a ≡ 0 → ⊥) → b ≡ 0 → l′ ≡ l → h ≡ a → Joins l l′ a b h
+  joined : (a ≡ 0 → ⊥) → (b ≡ 0 → ⊥) → Adds l l′ (join-cell a b) h → Joins l l′ a b h
+
+-- ---- A bundle leaves its set: the last takes its place, or those behind it move up.
+abbrev pub copied : List ℕ → ℕ → ℕ → List ℕ
+copied l to from = stored-all l bundles (7 * to) (bundle-words l from)
+
+unfoldable pub swap-removed : List ℕ → ℕ → ℕ → List ℕ
+swap-removed l r b =
+    let n = word l set-lengths r in
+    pick (eqb n 0) l (stored (copied l b (bundle-at (word l set-starts r) (n - 1))) set-lengths r (n - 1))
+
+-- k bundles behind bundle i.
+unfoldable pub shifted : List ℕ → ℕ → ℕ → ℕ → List ℕ
+shifted l start i zero = l
+shifted l start i (suc k) = shifted (copied l (bundle-at start i) (bundle-at start (suc i))) start (suc i) k
+
+unfoldable pub shift-removed : List ℕ → ℕ → ℕ → List ℕ
+shift-removed l r i =
+    let n = word l set-lengths r in
+    pick (eqb n 0) l (stored (shifted l (word l set-starts r) i (n - 1 - i)) set-lengths r (n - 1))

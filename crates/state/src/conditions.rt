@@ -1,0 +1,98 @@
+// Lazy conditions: true, false, undefined, or a record with a part for each case of a select. A record names only earlier ones.
+ghost use mathlib.Core.Path.{_≡_};
+ghost use Prim.Native.Nat.{_+_, _*_, _≤_};
+ghost use Rattle.state.specs.Sections as sections;
+ghost use Rattle.state.specs.Tables as tables;
+use crate::defined::Defined;
+use crate::defined::MERGES;
+use crate::defined::head;
+use crate::defined::set_head;
+use crate::sections::CONDITIONS;
+use crate::sections::CONDITIONS_WORDS;
+use crate::sections::get;
+use crate::sections::put;
+use crate::sections::put_all;
+use store::WORDS;
+
+// As the sheet has them; the record of number m is MERGE + m.
+pub const TRUE_COND: u16 = 1;
+
+pub const FALSE_COND: u16 = 2;
+
+pub const UNDEF_COND: u16 = 3;
+
+pub const MERGE: u16 = 4;
+
+// A select's shape: 0 for a boolean test, which has two cases, else the number of cases of a test on a number.
+pub const BOOL_COND: u16 = 0;
+
+fn cond_word(w: &[u16; WORDS], c: u16, i: usize) -> u16
+    requires { ⌜ i ≤ 65600 ⌝ }
+    ensures { λ a. ⌜ a ≡ sections.word (now (w .entry)) sections.conditions (11 * c + i) ⌝ }
+{
+    get(w, CONDITIONS, CONDITIONS_WORDS, 11 * (c as usize) + i)
+}
+
+pub fn cond_node(w: &[u16; WORDS], c: u16) -> u16
+    ensures { λ a. ⌜ a ≡ sections.word (now (w .entry)) sections.conditions (11 * c + 0) ⌝ }
+{
+    cond_word(w, c, 0)
+}
+
+pub fn cond_shape(w: &[u16; WORDS], c: u16) -> u16
+    ensures { λ a. ⌜ a ≡ sections.word (now (w .entry)) sections.conditions (11 * c + 1) ⌝ }
+{
+    cond_word(w, c, 1)
+}
+
+pub fn cond_scrutinee(w: &[u16; WORDS], c: u16) -> u16
+    ensures { λ a. ⌜ a ≡ sections.word (now (w .entry)) sections.conditions (11 * c + 2) ⌝ }
+{
+    cond_word(w, c, 2)
+}
+
+// An earlier condition.
+pub fn cond_part(w: &[u16; WORDS], c: u16, j: u16) -> u16
+    ensures { λ a. ⌜ a ≡ tables.«earlier-part» (sections.word (now (w .entry)) sections.conditions (11 * c + (3 + j))) c ⌝ }
+{
+    let p = cond_word(w, c, 3 + (j as usize));
+    if p < c {
+        return p;
+    }
+    TRUE_COND
+}
+
+// How many cases a select of this shape has.
+pub fn shape_size(shape: u16) -> u16
+    ensures { λ a. ⌜ a ≡ tables.«shape-size» shape ⌝ }
+{
+    if shape == BOOL_COND {
+        return 2;
+    }
+    if shape < 8 {
+        return shape;
+    }
+    8
+}
+
+pub fn define_merge(
+    w: &mut [u16; WORDS],
+    node: u16,
+    shape: u16,
+    scrutinee: u16,
+    parts: &[u16; 8],
+) -> Defined
+    ensures { λ a. ⌜ tables.MergeDefined node shape scrutinee (now (parts .entry)) (now (w .entry)) (now (w .exit)) a ⌝ }
+{
+    let m = head(w, MERGES);
+    if m < 512 {
+        let at = 11 * ((MERGE + m) as usize);
+        put(w, CONDITIONS, CONDITIONS_WORDS, at, node);
+        put(w, CONDITIONS, CONDITIONS_WORDS, at + 1, shape);
+        put(w, CONDITIONS, CONDITIONS_WORDS, at + 2, scrutinee);
+        put_all(w, CONDITIONS, CONDITIONS_WORDS, at + 3, parts);
+        set_head(w, MERGES, m + 1);
+        return Defined::Number(MERGE + m);
+    }
+    Defined::Full
+}

@@ -1,0 +1,92 @@
+// Totals of all that was ever defined, each with document 01's limit: the first beyond is refused with 9. Attempts and twice.
+ghost use mathlib.Core.Path.{_≡_};
+ghost use Prim.Native.Nat.{_+_, _*_, _≤_};
+ghost use Rattle.state.specs.Sections as sections;
+ghost use Rattle.state.specs.Tables as tables;
+use crate::sections::HEAD;
+use crate::sections::HEAD_WORDS;
+use crate::sections::get;
+use crate::sections::put;
+use store::WORDS;
+
+pub const REGIONS: usize = 0;
+
+pub const NODES: usize = 1;
+
+pub const MERGES: usize = 2;
+
+pub const OUTPUT_TOTAL: usize = 3;
+
+pub const CELL_TOTAL: usize = 4;
+
+pub const ATTEMPTS: usize = 5;
+
+pub const TWICE: usize = 6;
+
+// How many cases the select under way has.
+pub const CASE_TOTAL: usize = 7;
+
+// How many values a Return has, and their four types.
+pub const RETURNED: usize = 8;
+
+// What a definition answers: its number, or refusal 9.
+pub enum Defined {
+    Number(u16),
+    Full,
+}
+
+pub fn head(w: &[u16; WORDS], i: usize) -> u16
+    requires { ⌜ i ≤ 65535 ⌝ }
+    ensures { λ a. ⌜ a ≡ sections.word (now (w .entry)) sections.head i ⌝ }
+{
+    get(w, HEAD, HEAD_WORDS, i)
+}
+
+pub fn set_head(w: &mut [u16; WORDS], i: usize, x: u16)
+    requires { ⌜ i ≤ 65535 ⌝ }
+    ensures { λ _. ⌜ now (w .exit) ≡ sections.stored (now (w .entry)) sections.head i x ⌝ }
+{
+    put(w, HEAD, HEAD_WORDS, i, x);
+}
+
+// One more of what the head counts at i, within its limit.
+fn define(w: &mut [u16; WORDS], i: usize, limit: u16) -> Defined
+    requires { ⌜ i ≤ 65535 ⌝ }
+    ensures { λ a. ⌜ tables.Defines i limit (now (w .entry)) (now (w .exit)) a ⌝ }
+{
+    let n = head(w, i);
+    if n < limit {
+        set_head(w, i, n + 1);
+        return Defined::Number(n);
+    }
+    Defined::Full
+}
+
+pub fn define_node(w: &mut [u16; WORDS]) -> Defined
+    ensures { λ a. ⌜ tables.Defines 1 512 (now (w .entry)) (now (w .exit)) a ⌝ }
+{
+    define(w, NODES, 512)
+}
+
+pub fn define_region(w: &mut [u16; WORDS]) -> Defined
+    ensures { λ a. ⌜ tables.Defines 0 128 (now (w .entry)) (now (w .exit)) a ⌝ }
+{
+    define(w, REGIONS, 128)
+}
+
+pub fn count_attempt(w: &mut [u16; WORDS])
+    ensures { λ _. ⌜ now (w .exit) ≡ tables.attempted (now (w .entry)) ⌝ }
+{
+    let n = head(w, ATTEMPTS);
+    if n < 65535 {
+        set_head(w, ATTEMPTS, n + 1);
+        return;
+    }
+}
+
+// The note that a marked value was met whose second look-up would change it.
+pub fn note_twice(w: &mut [u16; WORDS])
+    ensures { λ _. ⌜ now (w .exit) ≡ sections.stored (now (w .entry)) sections.head 6 1 ⌝ }
+{
+    set_head(w, TWICE, 1);
+}

@@ -1,0 +1,112 @@
+// The states of the record's regions, in fixed lists: kinds, back edge counts, where the deferred sets start and how many bundles they
+// have, children, structured bodies. And what a level of the cycle holds across a claim: how each target was taken so far.
+ghost use mathlib.Core.Path.{_≡_};
+ghost use Prim.Native.Nat.{_+_, _*_, _≤_};
+ghost use Rattle.state.specs.Sections as sections;
+ghost use Rattle.state.specs.Tables as tables;
+use crate::sections::BACKEDGES;
+use crate::sections::BODIES;
+use crate::sections::BY_REGION;
+use crate::sections::CHILDREN;
+use crate::sections::FIRST_NODES;
+use crate::sections::KINDS;
+use crate::sections::LEVELS;
+use crate::sections::LEVELS_WORDS;
+use crate::sections::get;
+use crate::sections::put;
+use store::WORDS;
+
+pub const NOT_BEGUN: u16 = 0;
+
+pub const IN_PROGRESS: u16 = 1;
+
+pub const READY: u16 = 2;
+
+pub const CLAIMED: u16 = 3;
+
+pub fn region_state(w: &[u16; WORDS], r: u16) -> u16
+    ensures { λ a. ⌜ a ≡ sections.word (now (w .entry)) sections.kinds r ⌝ }
+{
+    get(w, KINDS, BY_REGION, r as usize)
+}
+
+pub fn set_region_state(w: &mut [u16; WORDS], r: u16, kind: u16)
+    ensures { λ _. ⌜ now (w .exit) ≡ sections.stored (now (w .entry)) sections.kinds r kind ⌝ }
+{
+    put(w, KINDS, BY_REGION, r as usize, kind);
+}
+
+pub fn backedge_count(w: &[u16; WORDS], r: u16) -> u16
+    ensures { λ a. ⌜ a ≡ sections.word (now (w .entry)) sections.backedges r ⌝ }
+{
+    get(w, BACKEDGES, BY_REGION, r as usize)
+}
+
+pub fn set_backedge_count(w: &mut [u16; WORDS], r: u16, n: u16)
+    ensures { λ _. ⌜ now (w .exit) ≡ sections.stored (now (w .entry)) sections.backedges r n ⌝ }
+{
+    put(w, BACKEDGES, BY_REGION, r as usize, n);
+}
+
+pub fn children(w: &[u16; WORDS], r: u16) -> u16
+    ensures { λ a. ⌜ a ≡ sections.word (now (w .entry)) sections.children r ⌝ }
+{
+    get(w, CHILDREN, BY_REGION, r as usize)
+}
+
+pub fn set_children(w: &mut [u16; WORDS], r: u16, h: u16)
+    ensures { λ _. ⌜ now (w .exit) ≡ sections.stored (now (w .entry)) sections.children r h ⌝ }
+{
+    put(w, CHILDREN, BY_REGION, r as usize, h);
+}
+
+// Of a claimed region: itself, or the wrapper of its loop.
+pub fn structured_body(w: &[u16; WORDS], r: u16) -> u16
+    ensures { λ a. ⌜ a ≡ sections.word (now (w .entry)) sections.bodies r ⌝ }
+{
+    get(w, BODIES, BY_REGION, r as usize)
+}
+
+pub fn set_structured_body(w: &mut [u16; WORDS], r: u16, body: u16)
+    ensures { λ _. ⌜ now (w .exit) ≡ sections.stored (now (w .entry)) sections.bodies r body ⌝ }
+{
+    put(w, BODIES, BY_REGION, r as usize, body);
+}
+
+// The node of a region's first block: nodes are numbered blocks first, in region order.
+pub fn first_node(w: &[u16; WORDS], r: u16) -> u16
+    ensures { λ a. ⌜ a ≡ sections.word (now (w .entry)) sections.«first-nodes» r ⌝ }
+{
+    get(w, FIRST_NODES, BY_REGION, r as usize)
+}
+
+pub fn set_first_node(w: &mut [u16; WORDS], r: u16, n: u16)
+    ensures { λ _. ⌜ now (w .exit) ≡ sections.stored (now (w .entry)) sections.«first-nodes» r n ⌝ }
+{
+    put(w, FIRST_NODES, BY_REGION, r as usize, n);
+}
+
+// How region r's target at place j was taken: nothing is deferred, its edge is, or it is claimed.
+pub const UNREACHABLE: u16 = 0;
+
+pub const DEFERRED: u16 = 1;
+
+pub const TAKEN: u16 = 2;
+
+pub fn target_taken(w: &[u16; WORDS], r: u16, j: u16) -> u16
+    ensures { λ a. ⌜ a ≡ tables.«taken-word» (now (w .entry)) r j ⌝ }
+{
+    if j < 8 {
+        return get(w, LEVELS, LEVELS_WORDS, 10 * (r as usize) + (j as usize));
+    }
+    0
+}
+
+pub fn set_target_taken(w: &mut [u16; WORDS], r: u16, j: u16, x: u16)
+    ensures { λ _. ⌜ now (w .exit) ≡ tables.«taken-stored» (now (w .entry)) r j x ⌝ }
+{
+    if j < 8 {
+        put(w, LEVELS, LEVELS_WORDS, 10 * (r as usize) + (j as usize), x);
+        return;
+    }
+}

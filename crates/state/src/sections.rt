@@ -1,0 +1,101 @@
+// The sections of the lent words: where each begins and how many words it has. An index beyond a section reads 0 and writes nothing.
+ghost use mathlib.Core.Path.{_≡_};
+ghost use Prim.Native.Nat.{_+_, _≤_};
+ghost use lib.ListN.{length};
+ghost use Rattle.state.specs.Sections as sections;
+use store::WORDS;
+use store::layout::INDEX_END;
+use store::span;
+
+pub const HEAD: usize = INDEX_END;
+
+pub const HEAD_WORDS: usize = 16;
+
+// A word for each region of the record.
+pub const BY_REGION: usize = 32;
+
+pub const KINDS: usize = 4416;
+
+pub const BACKEDGES: usize = 4448;
+
+// Where the sets of the regions start, and behind them the spare one's, as of a region 32.
+pub const SET_STARTS: usize = 4480;
+
+pub const SET_LENGTHS: usize = 4513;
+
+pub const BY_SLOT: usize = 33;
+
+pub const CHILDREN: usize = 4546;
+
+pub const BODIES: usize = 4578;
+
+pub const FIRST_NODES: usize = 4610;
+
+// What a level of the cycle holds across a claim: ten words for each region.
+pub const LEVELS: usize = 4642;
+
+pub const LEVELS_WORDS: usize = 320;
+
+// The cases of the select under way, ten words each.
+pub const CASES: usize = 4962;
+
+pub const CASES_WORDS: usize = 80;
+
+// A kind and four values for each region.
+pub const REWRITES: usize = 5042;
+
+pub const REWRITES_WORDS: usize = 640;
+
+// Node, type and eight values for each output.
+pub const OUTPUTS: usize = 5682;
+
+pub const OUTPUTS_WORDS: usize = 5120;
+
+// Node, shape, scrutinee and eight parts for each lazy condition record, behind the three that are no records.
+pub const CONDITIONS: usize = 10802;
+
+pub const CONDITIONS_WORDS: usize = 5676;
+
+// Six words for each cell; cell 0 is none.
+pub const CELLS: usize = 16478;
+
+pub const CELLS_WORDS: usize = 4224;
+
+// Bundles of seven words: 33 slots of 33, and one for each case's own edge.
+pub const BUNDLES: usize = 20702;
+
+pub const BUNDLES_WORDS: usize = 7679;
+
+pub fn get(w: &[u16; WORDS], section: usize, size: usize, i: usize) -> u16
+    requires { ⌜ section + size ≤ sections.used ⌝ }
+    ensures { λ a. ⌜ a ≡ sections.«read-at» section size (now (w .entry)) i ⌝ }
+{
+    span(w);
+    if i < size {
+        return w[section + i];
+    }
+    0
+}
+
+pub fn put(w: &mut [u16; WORDS], section: usize, size: usize, i: usize, x: u16)
+    requires { ⌜ section + size ≤ sections.used ⌝ }
+    ensures { λ _. ⌜ now (w .exit) ≡ sections.«stored-at» section size (now (w .entry)) i x ⌝ }
+{
+    span(w);
+    if i < size {
+        w[section + i] = x;
+        return;
+    }
+}
+
+// Words from i on.
+pub fn put_all(w: &mut [u16; WORDS], section: usize, size: usize, i: usize, xs: &[u16])
+    requires { ⌜ (section + size ≤ sections.used) × (i ≤ 1000000) × (length (now xs) ≤ 8) ⌝ }
+    ensures { λ _. ⌜ now (w .exit) ≡ sections.«stored-all-at» section size (now (w .entry)) i (now (xs .entry)) ⌝ }
+{
+    let mut j: usize = 0;
+    while j < xs.len() {
+        put(w, section, size, i + j, xs[j]);
+        j += 1;
+    }
+}

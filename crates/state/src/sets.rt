@@ -1,0 +1,233 @@
+// Deferred edge bundles by number, and their sets. A bundle has a target, an accumulated count, a condition, and as many inputs as the
+// target has. A region's set is the first bundles of its slot; slot 32 is the spare, in which a select's set is made.
+ghost use mathlib.Core.Path.{_≡_};
+ghost use mathlib.Core.List.{[], _∷_};
+ghost use Prim.Native.Nat.{_+_, _*_, _-_, _≤_, _<_};
+ghost use Rattle.state.specs.Sections as sections;
+ghost use Rattle.state.specs.Tables as tables;
+use crate::sections::BUNDLES;
+use crate::sections::BUNDLES_WORDS;
+use crate::sections::BY_SLOT;
+use crate::sections::SET_LENGTHS;
+use crate::sections::SET_STARTS;
+use crate::sections::get;
+use crate::sections::put;
+use crate::sections::put_all;
+use store::WORDS;
+
+// The target of a Return.
+pub const RETURN: u16 = 65535;
+
+pub const SPARE: u16 = 32;
+
+// The number of no bundle.
+pub const NO_BUNDLE: u16 = 65535;
+
+// The bundle of the first case's own edge.
+const OWN_EDGES: u16 = 1089;
+
+pub fn set_start(w: &[u16; WORDS], r: u16) -> u16
+    ensures { λ a. ⌜ a ≡ sections.word (now (w .entry)) sections.«set-starts» r ⌝ }
+{
+    get(w, SET_STARTS, BY_SLOT, r as usize)
+}
+
+pub fn put_set_start(w: &mut [u16; WORDS], r: u16, start: u16)
+    ensures { λ _. ⌜ now (w .exit) ≡ sections.stored (now (w .entry)) sections.«set-starts» r start ⌝ }
+{
+    put(w, SET_STARTS, BY_SLOT, r as usize, start);
+}
+
+pub fn set_length(w: &[u16; WORDS], r: u16) -> u16
+    ensures { λ a. ⌜ a ≡ sections.word (now (w .entry)) sections.«set-lengths» r ⌝ }
+{
+    get(w, SET_LENGTHS, BY_SLOT, r as usize)
+}
+
+pub fn put_set_length(w: &mut [u16; WORDS], r: u16, n: u16)
+    ensures { λ _. ⌜ now (w .exit) ≡ sections.stored (now (w .entry)) sections.«set-lengths» r n ⌝ }
+{
+    put(w, SET_LENGTHS, BY_SLOT, r as usize, n);
+}
+
+// The first bundle of slot r.
+pub fn slot(r: u16) -> u16
+    ensures { λ a. ⌜ a ≡ tables.slot r ⌝ }
+{
+    if r < 33 {
+        return 33 * r;
+    }
+    NO_BUNDLE
+}
+
+// The bundle of case j's own edge.
+pub fn own_edge(j: u16) -> u16
+    ensures { λ a. ⌜ a ≡ tables.«own-edge» j ⌝ }
+{
+    if j < 8 {
+        return OWN_EDGES + j;
+    }
+    NO_BUNDLE
+}
+
+// Bundle i of those from `start` on.
+pub fn bundle_at(start: u16, i: u16) -> u16
+    ensures { λ a. ⌜ a ≡ tables.«bundle-at» start i ⌝ }
+{
+    if start < 1097 {
+        if i < 33 {
+            return start + i;
+        }
+    }
+    NO_BUNDLE
+}
+
+// Two slots change hands.
+pub fn swap_sets(w: &mut [u16; WORDS], a: u16, b: u16)
+    ensures { λ _. ⌜ now (w .exit) ≡ tables.swapped (now (w .entry)) a b ⌝ }
+{
+    let p = set_start(w, a);
+    let q = set_start(w, b);
+    put_set_start(w, a, q);
+    put_set_start(w, b, p);
+}
+
+fn word(w: &[u16; WORDS], b: u16, i: usize) -> u16
+    requires { ⌜ i ≤ 65600 ⌝ }
+    ensures { λ a. ⌜ a ≡ sections.word (now (w .entry)) sections.bundles (7 * b + i) ⌝ }
+{
+    get(w, BUNDLES, BUNDLES_WORDS, 7 * (b as usize) + i)
+}
+
+fn set_word(w: &mut [u16; WORDS], b: u16, i: usize, x: u16)
+    requires { ⌜ i ≤ 65600 ⌝ }
+    ensures { λ _. ⌜ now (w .exit) ≡ sections.stored (now (w .entry)) sections.bundles (7 * b + i) x ⌝ }
+{
+    put(w, BUNDLES, BUNDLES_WORDS, 7 * (b as usize) + i, x);
+}
+
+pub fn target(w: &[u16; WORDS], b: u16) -> u16
+    ensures { λ a. ⌜ a ≡ sections.word (now (w .entry)) sections.bundles (7 * b + 0) ⌝ }
+{
+    word(w, b, 0)
+}
+
+pub fn accumulated_count(w: &[u16; WORDS], b: u16) -> u16
+    ensures { λ a. ⌜ a ≡ sections.word (now (w .entry)) sections.bundles (7 * b + 1) ⌝ }
+{
+    word(w, b, 1)
+}
+
+pub fn set_accumulated_count(w: &mut [u16; WORDS], b: u16, n: u16)
+    ensures { λ _. ⌜ now (w .exit) ≡ sections.stored (now (w .entry)) sections.bundles (7 * b + 1) n ⌝ }
+{
+    set_word(w, b, 1, n);
+}
+
+pub fn condition(w: &[u16; WORDS], b: u16) -> u16
+    ensures { λ a. ⌜ a ≡ sections.word (now (w .entry)) sections.bundles (7 * b + 2) ⌝ }
+{
+    word(w, b, 2)
+}
+
+pub fn set_condition(w: &mut [u16; WORDS], b: u16, c: u16)
+    ensures { λ _. ⌜ now (w .exit) ≡ sections.stored (now (w .entry)) sections.bundles (7 * b + 2) c ⌝ }
+{
+    set_word(w, b, 2, c);
+}
+
+pub fn target_input(w: &[u16; WORDS], b: u16, k: u16) -> u16
+    ensures { λ a. ⌜ a ≡ tables.«input-word» (now (w .entry)) b k ⌝ }
+{
+    if k < 4 {
+        return word(w, b, 3 + (k as usize));
+    }
+    0
+}
+
+pub fn set_target_input(w: &mut [u16; WORDS], b: u16, k: u16, v: u16)
+    ensures { λ _. ⌜ now (w .exit) ≡ tables.«input-stored» (now (w .entry)) b k v ⌝ }
+{
+    if k < 4 {
+        set_word(w, b, 3 + (k as usize), v);
+        return;
+    }
+}
+
+// Target, count and condition; the inputs are set one by one.
+pub fn set_bundle(w: &mut [u16; WORDS], b: u16, t: u16, n: u16, c: u16)
+    ensures { λ _. ⌜ now (w .exit) ≡ sections.«stored-all» (now (w .entry)) sections.bundles (7 * b) (t ∷ n ∷ c ∷ []) ⌝ }
+{
+    let xs = [t, n, c];
+    put_all(w, BUNDLES, BUNDLES_WORDS, 7 * (b as usize), &xs);
+}
+
+pub fn copy_bundle(w: &mut [u16; WORDS], to: u16, from: u16)
+    ensures { λ _. ⌜ now (w .exit) ≡ sections.«stored-all» (now (w .entry)) sections.bundles (7 * to)
+        (tables.«bundle-words» (now (w .entry)) from) ⌝ }
+{
+    let xs = [
+        word(w, from, 0),
+        word(w, from, 1),
+        word(w, from, 2),
+        word(w, from, 3),
+        word(w, from, 4),
+        word(w, from, 5),
+        word(w, from, 6),
+    ];
+    put_all(w, BUNDLES, BUNDLES_WORDS, 7 * (to as usize), &xs);
+}
+
+// The bundle to a target among n from `start` on.
+pub fn find_by_target(w: &[u16; WORDS], start: u16, n: u16, t: u16) -> u16
+    ensures { λ a. ⌜ a ≡ tables.«find-by» (now (w .entry)) start t n 0 ⌝ }
+{
+    let mut i: u16 = 0;
+    while i < n {
+        let b = bundle_at(start, i);
+        if target(w, b) == t {
+            return b;
+        }
+        i += 1;
+    }
+    NO_BUNDLE
+}
+
+// Bundle b leaves its set by swap: the last takes its place.
+pub fn swap_remove(w: &mut [u16; WORDS], r: u16, b: u16)
+    ensures { λ _. ⌜ now (w .exit) ≡ tables.«swap-removed» (now (w .entry)) r b ⌝ }
+{
+    let n = set_length(w, r);
+    if n == 0 {
+        return;
+    }
+    let last = bundle_at(set_start(w, r), n - 1);
+    copy_bundle(w, b, last);
+    put_set_length(w, r, n - 1);
+}
+
+// The bundles behind bundle i of n each move one up.
+fn shift(w: &mut [u16; WORDS], start: u16, i: u16, n: u16)
+    requires { ⌜ 0 < n ⌝ }
+    ensures { λ _. ⌜ now (w .exit) ≡ tables.shifted (now (w .entry)) start i (n - 1 - i) ⌝ }
+{
+    let mut j = i;
+    while j < n - 1 {
+        let to = bundle_at(start, j);
+        j += 1;
+        copy_bundle(w, to, bundle_at(start, j));
+    }
+}
+
+// Bundle i leaves its set, the others keep their order.
+pub fn shift_remove(w: &mut [u16; WORDS], r: u16, i: u16)
+    ensures { λ _. ⌜ now (w .exit) ≡ tables.«shift-removed» (now (w .entry)) r i ⌝ }
+{
+    let n = set_length(w, r);
+    if n == 0 {
+        return;
+    }
+    let start = set_start(w, r);
+    shift(w, start, i, n);
+    put_set_length(w, r, n - 1);
+}
