@@ -96,7 +96,8 @@ fn behind_list(w: &[u16; WORDS], targets: u16, q: u16, p: u16) -> u16
 
 // The values passed to target t, of those that stand at `targets`: each distinct target has a list.
 fn list_for(w: &[u16; WORDS], targets: u16, t: u16) -> u16
-    ensures { λ a. ⌜ a ≡ words.list-for (now (w .entry)) targets t (getD (now (w .entry)) targets 0) 0 (words.behind-words (now (w .entry)) targets) ⌝ }
+    ensures { λ a. ⌜ a ≡ words.list-for (now (w .entry)) targets t (getD (now (w .entry)) targets 0) 0
+        (words.behind-words (now (w .entry)) targets) ⌝ }
 {
     let n = word_at(w, targets as usize);
     let mut p = behind_words(w, targets);

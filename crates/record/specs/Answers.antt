@@ -23,14 +23,14 @@ pub record CountedBlocks (w : List ℕ) (c : Cursor) (x : BlockPlaces) : Type 0 
   pub places : (e : Cursor) → x .step ≡ At e → (b : ℕ) → b < getD (take (c .end) w) (c .at) 0
       → getD (x .places) b 0 ≡ after b block (take (c .end) w) (c .at + 1)
 
--- a read-region from its turn limit on
+-- a region from its turn limit on
 pub record EndingRead (w : List ℕ) (c : Cursor) (places : List ℕ) (x : RegionPlaces) : Type 0 where
   pub step : x .step ≡ step-at ending-read w c
   pub limit : (e : Cursor) → x .step ≡ At e → x .limit ≡ c .at
   pub exits : (e : Cursor) → x .step ≡ At e → x .exits ≡ next (terminator (take (c .end) w) (c .at + 1))
   pub blocks : (e : Cursor) → x .step ≡ At e → x .blocks ≡ places
 
--- The places within a read-region that the index keeps.
+-- The places within a region that the index keeps.
 pub record Placed (ws : List ℕ) (at : ℕ) (x : RegionPlaces) : Type 0 where
   pub limit : x .limit ≡ limit-of-region ws at
   pub exits : x .exits ≡ exits-of-region ws at

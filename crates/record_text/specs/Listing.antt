@@ -87,7 +87,7 @@ terminator-text (branch e) = labeled "branch to " (e .target) ++ ascii "\n"
 terminator-text (select-branch bool-cond v es) = select-line-text "select bool " v es
 terminator-text (select-branch number v es) = select-line-text "select num " v es
 
--- The values-text passed to a target.
+-- The values passed to a target.
 unfoldable pub pass-text : Edge → Text
 unfolding labeled values-text
 pass-text e = labeled "pass " (e .target) ++ ascii " in " ++ values-text (e .inputs) ++ ascii "\n"

@@ -15,7 +15,7 @@ use text::put_labeled;
 use text::put_number;
 use text::put_text;
 
-// A list of numbers-text that a record has; all but the constants' types belong to a region.
+// A list of numbers that a record has; all but the constants' types belong to a region.
 pub enum Numbers {
     Constants,
     Inputs(u16),
@@ -95,7 +95,7 @@ pub fn put_value(out: &mut [u8], at: usize, v: Value) -> usize
     }
 }
 
-// A list of values-text of a region: what its terminator has, what an instruction reads, what a target is passed.
+// A list of values of a region: what its terminator has, what an instruction reads, what a target is passed.
 pub enum Values {
     Terminator(u16),
     Reads(u16, u16, u16),

@@ -9,7 +9,8 @@ ghost use Rattle.fields.specs.ByNumber.{block-of, instr-of, end-values, edge-of
 ghost use Rattle.text.specs.Buffer.{buffer, Wrote};
 ghost use Rattle.record_text.specs.Parts.{pass-once};
 ghost use Rattle.record_text.specs.Listing.{value-text, numbers-text, values-text, item-text, items-text, block-text, blocks-text};
-ghost use Rattle.record_text.specs.Listing.{terminator-text, pass-text, passes-text, region-line-text, exits-line, region-text, regions-text};
+ghost use Rattle.record_text.specs.Listing.{terminator-text, pass-text, passes-text, region-line-text, exits-line};
+ghost use Rattle.record_text.specs.Listing.{region-text, regions-text};
 use super::lists::Numbers;
 use super::lists::Values;
 use super::lists::put_dotted;
@@ -82,7 +83,7 @@ fn put_blocks(w: &[u16; WORDS], out: &mut [u8], at: usize, r: u16) -> usize
     place
 }
 
-// A label and the terminator's values-text, to the line's end.
+// A label and the terminator's values, to the line's end.
 fn put_end_values(w: &[u16; WORDS], out: &mut [u8], at: usize, label: &[u8], r: u16) -> usize
     ensures { λ p. ⌜ OfRecord (now (w .entry)) (λ g.
         Wrote (buffer (now (out .entry)) at) (now (label .entry) ++ values-text (end-values g r) ++ ascii "\n")
@@ -126,7 +127,7 @@ fn put_terminator(w: &[u16; WORDS], out: &mut [u8], at: usize, r: u16) -> usize
     }
 }
 
-// The values-text passed to the target at place j.
+// The values passed to the target at place j.
 fn put_pass(w: &[u16; WORDS], out: &mut [u8], at: usize, r: u16, j: u16) -> usize
     ensures { λ p. ⌜ OfRecord (now (w .entry)) (λ g.
         Wrote (buffer (now (out .entry)) at) (pass-text (edge-of g r j)) (buffer (now (out .exit)) p)) ⌝ }

@@ -18,7 +18,7 @@ abbrev pub answered : Checked → Answer Unit
 answered checked.Right = accepted tt
 answered (checked.Refused n w) = refused n w
 
--- The words of a store, words-counted: W.
+-- The words of a store, counted: W.
 abbrev pub words-counted : Answer (List ℕ) → Answer ℕ
 words-counted (accepted ws) = accepted (length ws)
 words-counted (refused n w) = refused n w

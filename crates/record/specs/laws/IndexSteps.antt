@@ -28,7 +28,7 @@ use Rattle.record.specs.Outcome.{forget, RestKept}
 use Rattle.record.specs.Index.{Row, row-of, IndexedFrom, RegionsOutcome}
 use Rattle.record.specs.declared.regions.RegionPlaces.{RegionPlaces}
 
--- one read-region more, refused, and the end
+-- one region more, refused, and the end
 pub forget-then : {A B : Type 0} (r : Answer A) (f : A → B) → forget (if-accepted r λ a. accepted (f a)) ≡ forget r
 forget-then (accepted a) f = refl
 forget-then (refused n w) f = refl
@@ -89,7 +89,7 @@ store-row old new r start x l long blocks =
     block-row : (b : ℕ) → getD (x .blocks) b 0 ≡ row-of start x (3 + b)
     block-row b = let same : 3 + b ≡ suc (suc (suc b)) = omega arith in rw same
 
--- the index of the read-region just read, and of those before
+-- the index of the region just read, and of those before
 module _ (ws : List ℕ) (from : ℕ) where
   indexed-here : (r at : ℕ) (x : RegionPlaces) (old new : List ℕ) → at ≡ after r read-region ws from → Placed ws at x
       → Row old new (index-at r) row-words (row-of at x) → IndexedFrom ws from new r

@@ -17,7 +17,7 @@ use Rattle.meaning.specs.facts.Tests.{clash}
 use Rattle.format.specs.laws.Readers.{part, got-value, got-place, many-length, many-end, many-at}
 pub use Rattle.reading.specs.laws.Parts.{both, WordParts, word-parts, WithinParts, within-parts, CountedParts, counted-parts}
 
--- Each part of a read-region at its place; the read-region ends at e.
+-- Each part of a region at its place; the region ends at e.
 pub record RegionParts (ws : List ℕ) (at : ℕ) (x : Region) (e : ℕ) : Type 0 where
   pub inputs : counted 0 4 type ws at ≡ got (x .inputs) (blocks-of-region ws at)
   pub blocks : counted 0 8 block ws (blocks-of-region ws at) ≡ got (x .blocks) (limit-of-region ws at)

@@ -45,7 +45,7 @@ terminator-length (suc (suc (suc (suc (suc zero))))) op (x ∷ vs) es l s v t =
     simp length-append (omega (arith, first-length value-text x vs))
 terminator-length (suc (suc (suc (suc (suc (suc k)))))) op vs es l s v t = absurd (omega arith)
 
--- The bytes of a pass line, by its values-text.
+-- The bytes of a pass line, by its values.
 abbrev pass-bytes : List Value → ℕ
 pass-bytes vs = 15 + length (values-text vs)
 
@@ -116,7 +116,7 @@ module _ (ws : List ℕ) (small : (k : ℕ) → Small (getD ws k 0)) where
         rw (t .is, edges) (omega (arith, o .end));
   }
 
-  -- The number of a read-region is at most the place where it was read.
+  -- The number of a region is at most the place where it was read.
   module _ (few : length ws ≤ 65536) where
     region-enough : (r : ℕ) → Small r → Enough ws read-region (λ x. suc (length (region-text r x)))
     unfolding region-text
