@@ -45,7 +45,7 @@ forget-value-unit : (r : Read Unit) → forget-value r ≡ r
 forget-value-unit (got tt i) = refl
 forget-value-unit (bad n) = refl
 
--- what stands after the kind, with the read-value made of it
+-- what stands after the kind, with the value made of it
 named-made : {B : Type 0} (k : ℕ) (f : ℕ → ℕ → B) (ws : List ℕ) (at : ℕ)
     → forget-value (named-by k ws at) ≡ forget-value (read-then (word ws at) λ r p. read-then (word ws p) λ i e. read-then
     (expect (index-right k i) ws e) λ u j. got (f r i) j)

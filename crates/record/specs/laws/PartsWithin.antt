@@ -100,7 +100,7 @@ instr-parts ws at {x} {e} h =
     (instr-join ws at (a .place) (b .place) (c .place) y (word-parts ws at (a .first)) (within-parts 0 255 ws (a .place) (b .first))
     (word-parts ws (b .place) (c .first)) (d .first ∙ ap (got (d .value)) (got-place (d .second))))
 
--- Kind k, the opcode op of kind 2, values, targets, and the values expect-passed to each distinct target; each begins where the
+-- Kind k, the opcode op of kind 2, values, targets, and the values passed to each distinct target; each begins where the
 -- one before ends.
 pub record TerminatorParts (ws : List ℕ) (at : ℕ) (x : ControlInst) (e : ℕ) : Type 0 where
   pub k : ℕ

@@ -33,7 +33,7 @@ module _ (ws : List ℕ) (at : ℕ) where
   unfolding ending-read
   ending-exits h j k = rw (h, j, k)
 
--- what stands after the blocks, with the read-region made of it
+-- what stands after the blocks, with the region made of it
 ending-made : (inputs : List ℕ) (blocks : List (List Instr)) (ws : List ℕ) (at : ℕ)
     → forget-value (ending-read ws at) ≡ forget-value {A = Region}
     (read-then (within 1 65535 ws at) λ limit p. read-then (terminator ws p) λ end q. read-then (counted 0 32 word ws q) λ exits e. got
@@ -77,7 +77,7 @@ count-follow : {A : Type 0} (r : Read A) (k : A → ℕ → Read Head) → count
 count-follow (got a i) k = refl
 count-follow (bad n) k = refl
 
--- the read-region count is kept once the rest is read
+-- the region count is kept once the rest is read
 head-counted : (ws : List ℕ) (at : ℕ) → head-count ws at ≡ read-then (within 1 32 ws at) λ n p. read-then
     (forget-value (after-count ws p)) λ u e. got n e
 unfolding head head-count after-count
