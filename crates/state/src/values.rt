@@ -1,6 +1,7 @@
 // A value as one word, by ranges: constants, booleans, undefined, outputs, inputs, marked inputs, instructions.
 ghost use mathlib.Core.Path.{_≡_};
 ghost use Prim.Native.Nat.{_≤_};
+ghost use lib.Dec.{ltb};
 ghost use Rattle.state.specs.Values as words;
 use fields::Value;
 
@@ -21,14 +22,18 @@ pub const INSTR: u16 = 2048;
 // What names nothing.
 pub const NOTHING: u16 = 4096;
 
-pub fn constant(i: u16) -> u16 {
+pub fn constant(i: u16) -> u16
+    ensures { λ a. ⌜ a ≡ words.«const-word» i ⌝ }
+{
     if i < 64 {
         return i;
     }
     NOTHING
 }
 
-pub fn boolean(b: bool) -> u16 {
+pub fn boolean(b: bool) -> u16
+    ensures { λ a. ⌜ a ≡ words.«bool-word» b ⌝ }
+{
     if b {
         return TRUE;
     }
@@ -79,7 +84,9 @@ pub fn held(r: u16, k: u16) -> u16
     of_region(HELD, r, k)
 }
 
-pub fn instr(r: u16, k: u16) -> u16 {
+pub fn instr(r: u16, k: u16) -> u16
+    ensures { λ a. ⌜ a ≡ words.«instr-word» r k ⌝ }
+{
     if r < 32 {
         if k < 64 {
             return INSTR + 64 * r + k;
@@ -89,7 +96,9 @@ pub fn instr(r: u16, k: u16) -> u16 {
 }
 
 // The word of a record's value.
-pub fn value_word(v: Value) -> u16 {
+pub fn value_word(v: Value) -> u16
+    ensures { λ a. ⌜ a ≡ words.«value-word» v ⌝ }
+{
     match v {
         Value::Const(i) => constant(i),
         Value::Input(r, k) => input(r, k),
@@ -107,11 +116,15 @@ pub struct Parts {
     pub index: u16,
 }
 
-fn shown(kind: u16, of: u16, index: u16) -> Parts {
+fn shown(kind: u16, of: u16, index: u16) -> Parts
+    ensures { λ a. ⌜ a ≡ words.parts kind of index ⌝ }
+{
     Parts { kind, of, index }
 }
 
-pub fn is_const(v: u16) -> bool {
+pub fn is_const(v: u16) -> bool
+    ensures { λ a. ⌜ a ≡ ltb v 322 ⌝ }
+{
     v < OUTPUT
 }
 
@@ -146,7 +159,9 @@ pub fn input_index(v: u16) -> u16
     v % 4
 }
 
-pub fn parts_of(v: u16) -> Parts {
+pub fn parts_of(v: u16) -> Parts
+    ensures { λ a. ⌜ a ≡ words.«parts-of» v ⌝ }
+{
     if v < FALSE {
         return shown(0, 0, v);
     }

@@ -1,0 +1,16 @@
+use Rattle.state.specs.Values.{const-word}
+use mathlib.Core.Path.{_≡_, refl}
+use borrow.Author.Tests.{lt-ltb, le-ltb}
+use Rattle.state.proofs.values.constant.Statement.{statement}
+use Rattle.state.proofs.values.constant.Tie as tie
+
+returns : tie.Need-returns
+unfolding const-word
+returns c = simp (lt-ltb _ _ (c .if1 .taken))
+
+returns-2 : tie.Need-returns-2
+unfolding const-word
+returns-2 c = simp (le-ltb _ _ (c .if1 .left))
+
+pub constant-spec : {M : Type 1} → statement M
+constant-spec = tie.close (tie.spec returns returns-2)
