@@ -11,7 +11,7 @@ use Rattle.fields.specs.declared.shape.Instruction.{Instruction}
 use Rattle.fields.specs.declared.shape.Terminator.{Terminator}
 use Rattle.fields.specs.declared.shape.Terminator.the-variants.{Unreachable, Return, ExitInvocation, Branch, SelectBool, SelectNumber}
 
--- Kinds 0, 1, 2, 4 and 5. `Nothing` is what names nothing, which the graph has as the output of a node.
+-- Kinds 0, 1, 2, 4 and 5. `Nothing` is what names nothing.
 abbrev pub value-is : Value → graph.Value
 value-is (Const i) = graph.Value.const i
 value-is (Input r k) = graph.Value.input r k
