@@ -43,7 +43,7 @@ mutual
     then-select : {h p n shape x q : ℕ} {kind : SelectionKind} {v : Value} {cs : Cases} {ns ks : Nodes} → CellIs l h 4 p n shape x q
         → p < h → q < h → ShowsNodes g l p ns → ShowsShape shape (case-count cs) kind → Names x v → ShowsCaseCells g l q cs
         → ks ≡ join ns (new-select n kind v cs ▸ ⟨⟩) → ShowsNodes g l h ks
-    the-loop : {h p n r x q : ℕ} {v : Value} {y : LoopInputs} {ns ks : Nodes} → CellIs l h 5 p n r x q → p < h → q < h
+    the-loop : {h p n r x q : ℕ} {v : Value} {ns ks : Nodes} (y : LoopInputs) → CellIs l h 5 p n r x q → p < h → q < h
         → ShowsNodes g l p ns → Names x v → ShowsKept g l r q (y .initial-inputs) (y .types) (y .outputs)
         → ks ≡ loop (loop-node g n r y v) ns ▸ ⟨⟩ → ShowsNodes g l h ks
 
