@@ -7,7 +7,7 @@ use Rattle.meaning.specs.Graph.{Value, SelectionKind, Graph, region, input, Con
 use Rattle.meaning.specs.Runs.{Nodes, ⟨⟩, _▸_, Cases, ∅, case, loop, exit}
 use Rattle.nesting.specs.Nesting.{join, blocks-of, new-case, new-select, LoopInputs, loop-node}
 use Rattle.state.specs.Sections.{section, word, head, cells}
-use Rattle.shown.specs.Sets.{Names}
+use Rattle.shown.specs.Values.{value}
 use Rattle.shown.specs.Tables.{ShowsShape}
 
 abbrev pub case-count : Cases → ℕ
@@ -27,7 +27,7 @@ pub record CellIs (l : List ℕ) (h tag before a b c d : ℕ) : Type 0 where
 pub data ShowsKept (g : Graph) (l : List ℕ) (r : ℕ) : ℕ → List Value → List ℕ → List Value → Type 0 where
   none-kept : {h : ℕ} → h ≡ 0 → ShowsKept g l r h [] [] []
   one-kept : {h p k wrapper x : ℕ} {v : Value} {is is′ : List Value} {ts ts′ : List ℕ} {os os′ : List Value} → CellIs l h 7 p k wrapper x 0
-      → p < h → ShowsKept g l r p is ts os → Names x v
+      → p < h → ShowsKept g l r p is ts os → value x ≡ v
       → is′ ≡ is ++ (input wrapper k ∷ []) → ts′ ≡ ts ++ (getD (region g r .inputs) k 0 ∷ []) → os′ ≡ os ++ (v ∷ [])
       → ShowsKept g l r h is′ ts′ os′
 
@@ -41,14 +41,14 @@ mutual
     then-exit : {h p n r op : ℕ} {vs : List Value} {ns ks : Nodes} → CellIs l h 3 p n r 0 0 → p < h → ShowsNodes g l p ns
         → region g r .terminator ≡ exit-invocation op vs → ks ≡ join ns (exit n op vs ▸ ⟨⟩) → ShowsNodes g l h ks
     then-select : {h p n shape x q : ℕ} {kind : SelectionKind} {v : Value} {cs : Cases} {ns ks : Nodes} → CellIs l h 4 p n shape x q
-        → p < h → q < h → ShowsNodes g l p ns → ShowsShape shape (case-count cs) kind → Names x v → ShowsCaseCells g l q cs
+        → p < h → q < h → ShowsNodes g l p ns → ShowsShape shape (case-count cs) kind → value x ≡ v → ShowsCaseCells g l q cs
         → ks ≡ join ns (new-select n kind v cs ▸ ⟨⟩) → ShowsNodes g l h ks
     the-loop : {h p n r x q : ℕ} {v : Value} {ns ks : Nodes} (y : LoopInputs) → CellIs l h 5 p n r x q → p < h → q < h
-        → ShowsNodes g l p ns → Names x v → ShowsKept g l r q (y .initial-inputs) (y .types) (y .outputs)
+        → ShowsNodes g l p ns → value x ≡ v → ShowsKept g l r q (y .initial-inputs) (y .types) (y .outputs)
         → ks ≡ loop (loop-node g n r y v) ns ▸ ⟨⟩ → ShowsNodes g l h ks
 
   pub data ShowsCaseCells (g : Graph) (l : List ℕ) : ℕ → Cases → Type 0 where
-    no-case : {h : ℕ} → h ≡ 0 → ShowsCaseCells g l h ∅
+    no-cases : {h : ℕ} → h ≡ 0 → ShowsCaseCells g l h ∅
     case-and : {h p r q : ℕ} {ns : Nodes} {cs : Cases} → CellIs l h 6 p r q 0 0 → p < h → q < h → ShowsNodes g l q ns
         → ShowsCaseCells g l p cs → ShowsCaseCells g l h (new-case r ns cs)
 

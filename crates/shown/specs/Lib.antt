@@ -9,3 +9,4 @@ pub mod Front
 pub mod Sets
 pub mod Cells
 pub mod States
+pub mod Kept

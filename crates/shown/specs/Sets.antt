@@ -30,6 +30,7 @@ pub record ShowsBundle (g : Graph) (w : List ℕ) (p : ℕ) (e : DeferredEdgeBun
   pub count : word w bundles (7 * p + 1) ≡ e .accumulated-count
   pub condition : ShowsCondition w (word w bundles (7 * p + 2)) (e .condition)
   pub size : length (e .target-inputs) ≡ target-size g (e .target)
+  pub few : length (e .target-inputs) ≤ 4
   pub inputs : (k : ℕ) → k < length (e .target-inputs) → Names (word w bundles (7 * p + (3 + k))) (getD (e .target-inputs) k (undef 0))
 
 abbrev pub no-bundle : DeferredEdgeBundle

@@ -9,7 +9,7 @@ use Rattle.format.specs.References.{return-types}
 use Rattle.record.specs.Stands.{Stands}
 use Rattle.nesting.specs.Nesting.{DeferredEdgeBundleSet, StructurizeRegionState, not-begun, in-progress, claimed, ready, NestState, Body}
 use Rattle.nesting.specs.Nesting.{ClaimedRegion, MaybeClaimedRegion, ok, err, deferred-of}
-use Rattle.state.specs.Sections.{word, head, kinds, backedges, set-starts, set-lengths, children, bodies, cases}
+use Rattle.state.specs.Sections.{word, head, kinds, backedges, set-starts, set-lengths, children, bodies, cases, rewrites}
 use Rattle.state.specs.Tables.{case-total}
 use Rattle.shown.specs.Tables.{ShowsTables}
 use Rattle.shown.specs.Sets.{Names, ShowsSet}
@@ -38,9 +38,14 @@ pub record ShowsReturned (g : Graph) (w : List ℕ) : Type 0 where
   pub size : word w head 8 ≡ length (return-types g)
   pub types : (k : ℕ) → k < length (return-types g) → word w head (9 + k) ≡ getD (return-types g) k 0
 
+-- The words of the rewrites' entries name values.
+pub record NamedRewrites (w : List ℕ) : Type 0 where
+  pub below : (r k : ℕ) → r < 128 → k < 4 → (word w rewrites (5 * r) ≡ 0 → ⊥) → word w rewrites (5 * r + 1 + k) < 4096
+
 pub record ShowsState (g : Graph) (w : List ℕ) (s : NestState) : Type 0 where
   pub stands : Stands w g
   pub tables : ShowsTables w s
+  pub named : NamedRewrites w
   pub size : length (s .region-states) ≡ length (g .regions)
   pub regions : (r : ℕ) → r < length (g .regions) → ShowsRegion g w r (getD (s .region-states) r not-begun)
   pub slots : Slots w
@@ -61,24 +66,30 @@ pub record ShowsClaimed (g : Graph) (w : List ℕ) (c : ClaimedRegion) : Type 0 
   pub set : ShowsOwnSet g w (c .origin) (c .deferred-edges)
   pub size : length (c .structured-body-inputs) ≡ length (region g (c .origin) .inputs)
 
--- ---- The cases of the select under way. Beyond a claimed region's inputs the words have what the definition takes there.
-pub data ShowsCase (g : Graph) (w : List ℕ) (j : ℕ) : MaybeClaimedRegion → Type 0 where
+-- ---- The cases of the select under way in region r: a claimed region; nothing; the edge of its own; what is left of region r's set.
+-- Beyond a claimed region's inputs the words have what the definition takes there.
+pub data ShowsCase (g : Graph) (w : List ℕ) (r j : ℕ) : MaybeClaimedRegion → Type 0 where
   shows-ok : {c : ClaimedRegion} → word w cases (10 * j + 0) ≡ 2 → word w cases (10 * j + 1) ≡ c .origin → c .origin < length (g .regions)
       → word w cases (10 * j + 2) ≡ c .structured-body → c .structured-body < 128
       → ShowsChildren g w (word w cases (10 * j + 3)) (c .children)
+      → word w cases (10 * j + 4) ≡ word w set-starts (c .origin)
       → length (c .structured-body-inputs) ≡ length (region g (c .origin) .inputs)
       → ((k : ℕ) → k < 4 → Names (word w cases (10 * j + (6 + k))) (getD (c .structured-body-inputs) k (undef 0)))
-      → ShowsCase g w j (ok c)
-  shows-err : {d : DeferredEdgeBundleSet} → (word w cases (10 * j + 0) ≡ 2 → ⊥) → ShowsCase g w j (err d)
+      → ShowsCase g w r j (ok c)
+  shows-nothing : word w cases (10 * j + 0) ≡ 0 → word w cases (10 * j + 5) ≡ 0 → ShowsCase g w r j (err [])
+  shows-edge : {d : DeferredEdgeBundleSet} → word w cases (10 * j + 0) ≡ 1 → word w cases (10 * j + 4) ≡ 1089 + j
+      → word w cases (10 * j + 5) ≡ 1 → ShowsCase g w r j (err d)
+  shows-others : {d : DeferredEdgeBundleSet} → word w cases (10 * j + 0) ≡ 3 → word w cases (10 * j + 4) ≡ word w set-starts r
+      → ShowsCase g w r j (err d)
 
 abbrev pub no-case : MaybeClaimedRegion
 no-case = err []
 
 -- Their sets lie apart, and apart from the spare slot.
-pub record ShowsCases (g : Graph) (w : List ℕ) (cs : List MaybeClaimedRegion) : Type 0 where
+pub record ShowsCases (g : Graph) (w : List ℕ) (r : ℕ) (cs : List MaybeClaimedRegion) : Type 0 where
   pub size : case-total w ≡ length cs
   pub few : length cs ≤ 8
-  pub each : (j : ℕ) → j < length cs → ShowsCase g w j (getD cs j no-case)
+  pub each : (j : ℕ) → j < length cs → ShowsCase g w r j (getD cs j no-case)
   pub sets : (j : ℕ) → j < length cs
       → ShowsSet g w (word w cases (10 * j + 4)) (word w cases (10 * j + 5)) (deferred-of (getD cs j no-case))
   pub apart : (i j p q : ℕ) → i < j → j < length cs → p < word w cases (10 * i + 5) → q < word w cases (10 * j + 5)
