@@ -1,13 +1,16 @@
 -- The record and its index stand in front of every section: what is stored behind them leaves the record that stands.
 use mathlib.Core.Path.{_≡_, refl, sym, _∙_}
 use mathlib.Core.List.{List}
-use Prim.Native.Nat.{ℕ}
+use Prim.Native.Nat.{ℕ, _+_, _*_}
 use native.Mathlib.Omega.{arith}
 use lib.ListN.{length, take}
 use Rattle.meaning.specs.Graph.{Graph}
 use Rattle.record.specs.Stands.{Stands}
 use Rattle.fields.specs.laws.Unchanged.{still-stands}
-use Rattle.state.specs.Sections.{Section, number, start, size, part, section, stored, stored-all, front}
+use Rattle.state.specs.declared.cells.Cell.{Cell}
+use Rattle.state.specs.declared.defined.Defined.{Defined}
+use Rattle.state.specs.Sections.{Section, number, start, size, part, section, stored, stored-all, front, head, cells}
+use Rattle.state.specs.Tables.{Adds, added, no-room, cell-words, Defines, defined, full}
 use Rattle.state.specs.Apart.{stored-length, section-other}
 use Rattle.shown.specs.Stores.{run-length, run-other}
 
@@ -30,3 +33,15 @@ front-run w k d i xs = record { words = run-length (start k) (size k) w i xs; fr
 
 pub front-then : {w w₁ w₂ : List ℕ} → SameFront w w₁ → SameFront w₁ w₂ → SameFront w w₂
 front-then a b = record { words = b .words ∙ a .words; front-words = b .front-words ∙ a .front-words }
+
+-- ---- A cell more, a definition more.
+pub adds-front : {w w′ : List ℕ} {x : Cell} {h : ℕ} → Adds w w′ x h → SameFront w w′
+adds-front {w} {x} {h} (added e l s) =
+    rw s
+    (front-then (front-run w cells (omega arith) (6 * h) (cell-words x))
+    (front-stored (stored-all w cells (6 * h) (cell-words x)) head (omega arith) 4 (h + 1)))
+adds-front {w} (no-room l s e) = rw s (front-same w)
+
+pub defines-front : {i limit : ℕ} {w w′ : List ℕ} {a : Defined} → Defines i limit w w′ a → SameFront w w′
+defines-front {i} {w} (defined {n} e l s) = rw s (front-stored w head (omega arith) i (n + 1))
+defines-front {w} (full l s) = rw s (front-same w)

@@ -1,0 +1,62 @@
+use borrow.Author.Needs.{needs}
+use Rattle.cfg.proofs.claim.claim_body.Statement.{statement}
+use Rattle.cfg.proofs.claim.claim_body.Tie as tie
+use Rattle.cfg.proofs.claim.claim_body.Reads as reads
+use Rattle.cfg.proofs.claim.claim_body.Lts as lts
+use Rattle.cfg.proofs.claim.claim_of.Reads as claim-of-reads
+use Rattle.cfg.proofs.claim.find_backedge.Reads as find-backedge-reads
+use Rattle.loops.proofs.structurize_loop.Reads as structurize-loop-reads
+use Rattle.state.proofs.regions.backedge_count.Reads as backedge-count-reads
+use Rattle.state.proofs.regions.set_region_state.Reads as set-region-state-reads
+use Rattle.state.proofs.regions.set_structured_body.Reads as set-structured-body-reads
+use Rattle.cfg.specs.ByState.{body-plain, body-without, body-loop}
+
+-- src/claim.rt:58:5
+set-region-state-requires : tie.Need-set-region-state-requires
+set-region-state-requires c κs = search needs
+
+-- src/claim.rt:59:5
+set-structured-body-requires : tie.Need-set-structured-body-requires
+set-structured-body-requires c κs = search needs
+
+-- src/claim.rt:60:8
+backedge-count-requires : tie.Need-backedge-count-requires
+backedge-count-requires c κs = search needs
+
+-- src/claim.rt:61:9
+returns : tie.Need-returns
+returns c = λ g st. body-plain g _ _ (c .before .before .before .before .before .set-region-state .ensures) (c .before .before .before .set-structured-body .ensures) (c .before .backedge-count .ensures) (c .if1 .taken)
+
+-- src/claim.rt:63:9
+find-backedge-requires : tie.Need-find-backedge-requires
+find-backedge-requires c κs = search needs
+
+-- src/claim.rt:65:9
+returns-2 : tie.Need-returns-2
+returns-2 c = λ g st. body-without g _ _ (c .before .before .before .before .before .before .before .before .set-region-state .ensures) (c .before .before .before .before .before .before .set-structured-body .ensures) (c .before .before .before .before .backedge-count .ensures) (c .before .before .before .if1 .left) (c .before .find-backedge .ensures) (c .if2 .taken)
+
+-- src/claim.rt:67:14
+structurize-loop-requires : tie.Need-structurize-loop-requires
+structurize-loop-requires c κs = search needs
+
+-- src/claim.rt:67:5
+claim-of-requires : tie.Need-claim-of-requires
+claim-of-requires c κs = search needs
+
+-- src/claim.rt:55:1
+returns-3 : tie.Need-returns-3
+returns-3 c = λ g st. body-loop g _ _ (c .before .before .before .before .before .before .before .before .before .before .before .set-region-state .ensures) (c .before .before .before .before .before .before .before .before .before .set-structured-body .ensures) (c .before .before .before .before .before .before .before .backedge-count .ensures) (c .before .before .before .before .before .before .if1 .left) (c .before .before .before .before .find-backedge .ensures) (c .before .before .before .if2 .left) st (c .before .structurize-loop .ensures g) (c .claim-of .ensures)
+
+pub claim-body-spec : {M : Type 1} → statement M
+claim-body-spec =
+    tie.close
+    (tie.spec
+    set-region-state-requires
+    set-structured-body-requires
+    backedge-count-requires
+    returns
+    find-backedge-requires
+    returns-2
+    structurize-loop-requires
+    claim-of-requires
+    returns-3)

@@ -1,0 +1,29 @@
+use borrow.Author.Needs.{needs}
+use Rattle.cfg.proofs.claim.find_backedge.Statement.{statement}
+use Rattle.cfg.proofs.claim.find_backedge.Tie as tie
+use Rattle.cfg.proofs.claim.find_backedge.Reads as reads
+use Rattle.cfg.proofs.claim.find_backedge.Lts as lts
+use Rattle.state.proofs.sets.find_by_target.Reads as find-by-target-reads
+use Rattle.state.proofs.sets.set_length.Reads as set-length-reads
+use Rattle.state.proofs.sets.set_start.Reads as set-start-reads
+use mathlib.Core.Path.{_∙_}
+
+-- src/claim.rt:51:23
+set-start-requires : tie.Need-set-start-requires
+set-start-requires c κs = search needs
+
+-- src/claim.rt:51:40
+set-length-requires : tie.Need-set-length-requires
+set-length-requires c κs = search needs
+
+-- src/claim.rt:51:5
+find-by-target-requires : tie.Need-find-by-target-requires
+find-by-target-requires c κs = search needs
+
+-- src/claim.rt:48:1
+returns : tie.Need-returns
+returns c = c .find-by-target .ensures ∙ rw (c .before .set-length .ensures, c .before .before .set-start .ensures)
+
+pub find-backedge-spec : {M : Type 1} → statement M
+find-backedge-spec =
+    tie.close (tie.spec set-start-requires set-length-requires find-by-target-requires returns)

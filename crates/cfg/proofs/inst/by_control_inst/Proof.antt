@@ -1,0 +1,29 @@
+use borrow.Author.Needs.{needs}
+use Rattle.cfg.proofs.inst.by_control_inst.Statement.{statement}
+use Rattle.cfg.proofs.inst.by_control_inst.Tie as tie
+use Rattle.cfg.proofs.inst.by_control_inst.Reads as reads
+use Rattle.cfg.proofs.inst.by_control_inst.Lts as lts
+use Rattle.cfg.proofs.inst.add_blocks.Reads as add-blocks-reads
+use Rattle.cfg.proofs.inst.by_terminator.Reads as by-terminator-reads
+use Rattle.state.proofs.sets.put_set_length.Reads as put-set-length-reads
+use Rattle.cfg.specs.ByInst.{inst-taken}
+
+-- src/inst.rt:128:5
+add-blocks-requires : tie.Need-add-blocks-requires
+add-blocks-requires c κs = search needs
+
+-- src/inst.rt:129:5
+put-set-length-requires : tie.Need-put-set-length-requires
+put-set-length-requires c κs = search needs
+
+-- src/inst.rt:130:5
+by-terminator-requires : tie.Need-by-terminator-requires
+by-terminator-requires c κs = search needs
+
+-- src/inst.rt:125:1
+returns : tie.Need-returns
+returns c = λ g st. inst-taken st (c .before .before .before .before .add-blocks .ensures g) (c .before .before .put-set-length .ensures) (c .by-terminator .ensures g)
+
+pub by-control-inst-spec : {M : Type 1} → statement M
+by-control-inst-spec =
+    tie.close (tie.spec add-blocks-requires put-set-length-requires by-terminator-requires returns)

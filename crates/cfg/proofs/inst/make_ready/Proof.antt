@@ -1,0 +1,34 @@
+use borrow.Author.Needs.{needs}
+use Rattle.cfg.proofs.inst.make_ready.Statement.{statement}
+use Rattle.cfg.proofs.inst.make_ready.Tie as tie
+use Rattle.cfg.proofs.inst.make_ready.Reads as reads
+use Rattle.cfg.proofs.inst.make_ready.Lts as lts
+use Rattle.cfg.proofs.inst.backedges_deferred.Reads as backedges-deferred-reads
+use Rattle.state.proofs.regions.set_backedge_count.Reads as set-backedge-count-reads
+use Rattle.state.proofs.regions.set_region_state.Reads as set-region-state-reads
+use mathlib.Core.Path.{_∙_}
+
+-- src/inst.rt:159:9
+backedges-deferred-requires : tie.Need-backedges-deferred-requires
+backedges-deferred-requires c κs = search needs
+
+-- src/inst.rt:160:5
+set-backedge-count-requires : tie.Need-set-backedge-count-requires
+set-backedge-count-requires c κs = search needs
+
+-- src/inst.rt:161:5
+set-region-state-requires : tie.Need-set-region-state-requires
+set-region-state-requires c κs = search needs
+
+-- src/inst.rt:156:1
+returns : tie.Need-returns
+returns c = c .set-region-state .ensures ∙ rw (c .before .before .set-backedge-count .ensures, c .before .before .before .before .backedges-deferred .ensures)
+
+pub make-ready-spec : {M : Type 1} → statement M
+make-ready-spec =
+    tie.close
+    (tie.spec
+    backedges-deferred-requires
+    set-backedge-count-requires
+    set-region-state-requires
+    returns)

@@ -1,0 +1,40 @@
+use borrow.Author.Needs.{needs}
+use Rattle.cfg.proofs.inst.select.Statement.{statement}
+use Rattle.cfg.proofs.inst.select.Tie as tie
+use Rattle.cfg.proofs.inst.select.Reads as reads
+use Rattle.cfg.proofs.inst.select.Lts as lts
+use Rattle.bundles.proofs.fill_cases.Reads as fill-cases-reads
+use Rattle.fields.proofs.value.Reads as value-reads
+use Rattle.selects.proofs.structurize_select_into.Reads as structurize-select-into-reads
+use Rattle.state.proofs.values.value_word.Reads as value-word-reads
+use Rattle.cfg.specs.ByInst.{select-taken}
+
+-- src/inst.rt:94:5
+fill-cases-requires : tie.Need-fill-cases-requires
+fill-cases-requires c κs = search needs
+
+-- src/inst.rt:95:9
+value-requires : tie.Need-value-requires
+value-requires c κs = search needs
+
+-- src/inst.rt:96:59
+value-word-requires : tie.Need-value-word-requires
+value-word-requires c κs = search needs
+
+-- src/inst.rt:96:5
+structurize-select-into-requires : tie.Need-structurize-select-into-requires
+structurize-select-into-requires c κs = search needs
+
+-- src/inst.rt:91:1
+returns : tie.Need-returns
+returns c = λ g st. select-taken g _ _ st (c .before .before .before .before .before .fill-cases .ensures g st) _ (c .before .before .before .value .result) (c .before .before .before .value .ensures g) (c .before .value-word .ensures) (c .structurize-select-into .ensures g)
+
+pub select-spec : {M : Type 1} → statement M
+select-spec =
+    tie.close
+    (tie.spec
+    fill-cases-requires
+    value-requires
+    value-word-requires
+    structurize-select-into-requires
+    returns)

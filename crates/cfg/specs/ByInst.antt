@@ -1,0 +1,140 @@
+-- What a terminator makes of its targets, as the words alone have it.
+use mathlib.Core.Path.{_≡_, refl, sym, subst, _∙_}
+use mathlib.Core.List.{List}
+use Prim.Native.Nat.{ℕ, _+_, _*_}
+use native.Mathlib.Omega.{arith}
+use lib.Dec.{eqb}
+use lib.ListN.{length, getD}
+use borrow.Author.Tests.{eq-eqb, ne-eqb}
+use Rattle.meaning.specs.Graph.{Graph, region, edges-of, no-value, ControlInst}
+use Rattle.meaning.specs.Lists.{pick}
+use Rattle.record.specs.Stands.{Stands}
+use Rattle.fields.specs.ByNumber.{end-values}
+use Rattle.fields.specs.Shape.{value-is, terminator-is}
+use Rattle.fields.specs.declared.shape.Value.{Value}
+use Rattle.fields.specs.declared.shape.Terminator.{Terminator}
+use Rattle.fields.specs.declared.shape.Terminator.the-variants.{Unreachable, Return, ExitInvocation, Branch, SelectBool, SelectNumber}
+use Rattle.state.specs.declared.cells.Cell.{Cell}
+use Rattle.state.specs.declared.cases.Case.{Case}
+use Rattle.state.specs.declared.defined.Defined.{Defined}
+use Rattle.state.specs.declared.defined.Defined.the-variants.{Number}
+use Rattle.state.specs.declared.defined.Defined.the-variants as defined
+use Rattle.state.specs.Sections.{word, stored, kinds, backedges, children, bundles, set-starts, set-lengths}
+use Rattle.state.specs.Tables.{Adds, Defines, bundle-at, case-row}
+use Rattle.state.specs.Values.{value-word}
+use Rattle.bundles.specs.Words.{condition-in, return-deferred, cases-filled, split-filled, Appends, filled-front, split-front}
+use Rattle.shown.specs.Front.{SameFront, stands-on, front-stored, front-then, adds-front}
+use Rattle.selects.specs.declared.Made.{Made}
+use Rattle.selects.specs.declared.Made.the-variants.{Done, Full}
+use Rattle.selects.specs.declared.Scrutinee.the-variants as scrutinee
+use Rattle.selects.specs.Words.{SelectsInto}
+use Rattle.cfg.specs.ByState.{backedge-at}
+
+abbrev pub blocks-cell : ℕ → Cell
+blocks-cell r = record { tag = 1; before = 0; a = r; b = 0; c = 0; d = 0 }
+
+abbrev pub exit-cell : ℕ → ℕ → ℕ → Cell
+exit-cell before node r = record { tag = 3; before = before; a = node; b = r; c = 0; d = 0 }
+
+pub data AddsBlocks (g : Graph) (w : List ℕ) (r : ℕ) (w′ : List ℕ) : Type 0 where
+  no-blocks : length (region g r .blocks) ≡ 0 → w′ ≡ stored w children r 0 → AddsBlocks g w r w′
+  some-blocks : {w₁ : List ℕ} {h : ℕ} → (length (region g r .blocks) ≡ 0 → ⊥) → Adds w w₁ (blocks-cell r) h → w′ ≡ stored w₁ children r h
+      → AddsBlocks g w r w′
+
+pub data AddsExit (w : List ℕ) (r : ℕ) (w′ : List ℕ) : Made → Type 0 where
+  exit-full : Defines 1 512 w w′ defined.Full → AddsExit w r w′ Full
+  exit-added : {w₁ w₂ : List ℕ} {node h : ℕ} → Defines 1 512 w w₁ (Number node) → Adds w₁ w₂ (exit-cell (word w₁ children r) node r) h
+      → w′ ≡ stored w₂ children r h → AddsExit w r w′ Done
+
+pub data Branches (g : Graph) (w : List ℕ) (r : ℕ) (w′ : List ℕ) : Made → Type 0 where
+  branches : Appends (cases-filled g w r) r (case-row (cases-filled g w r) 0) 0 w′ → Branches g w r w′ Done
+
+pub data Selects (g : Graph) (w : List ℕ) (r shape : ℕ) (w′ : List ℕ) (a : Made) : Type 0 where
+  selects : (v : Value) → value-is v ≡ getD (end-values g r) 0 no-value
+      → SelectsInto g (cases-filled g w r) r shape (scrutinee.Value (value-word v)) w′ a → Selects g w r shape w′ a
+
+abbrev pub SelectsNumber : Graph → List ℕ → ℕ → List ℕ → Made → Type 0
+SelectsNumber g w r w′ a = Selects g w r (length (edges-of (region g r .terminator))) w′ a
+
+pub data ByTerminator (g : Graph) (w : List ℕ) (r : ℕ) (w′ : List ℕ) : Made → Type 0 where
+  at-unreachable : terminator-is Unreachable (region g r .terminator) ≡ region g r .terminator → w′ ≡ w → ByTerminator g w r w′ Done
+  at-return : terminator-is Return (region g r .terminator) ≡ region g r .terminator → w′ ≡ return-deferred g w r
+      → ByTerminator g w r w′ Done
+  at-exit : {op : ℕ} {a : Made} → terminator-is (ExitInvocation op) (region g r .terminator) ≡ region g r .terminator → AddsExit w r w′ a
+      → ByTerminator g w r w′ a
+  at-branch : {a : Made} → terminator-is Branch (region g r .terminator) ≡ region g r .terminator → Branches g w r w′ a
+      → ByTerminator g w r w′ a
+  at-bool : {a : Made} → terminator-is SelectBool (region g r .terminator) ≡ region g r .terminator → Selects g w r 0 w′ a
+      → ByTerminator g w r w′ a
+  at-number : {a : Made} → terminator-is SelectNumber (region g r .terminator) ≡ region g r .terminator → SelectsNumber g w r w′ a
+      → ByTerminator g w r w′ a
+
+pub data ByControlInst (g : Graph) (w : List ℕ) (r : ℕ) (w′ : List ℕ) (a : Made) : Type 0 where
+  by-inst : {w₁ w₂ : List ℕ} → AddsBlocks g w r w₁ → w₂ ≡ stored w₁ set-lengths r 0 → ByTerminator g w₂ r w′ a → ByControlInst g w r w′ a
+
+-- Bundle i of region r's own set, and the condition under which it is taken.
+abbrev pub own-bundle : List ℕ → ℕ → ℕ → ℕ
+own-bundle w r i = bundle-at (word w set-starts r) i
+
+abbrev pub own-condition : List ℕ → ℕ → ℕ → ℕ
+own-condition w r i = condition-in w (own-bundle w r i) (word w set-lengths r)
+
+pub data ResolvesBy (g : Graph) (w : List ℕ) (r i : ℕ) (w′ : List ℕ) (a : Made) : Type 0 where
+  resolves : SelectsInto g (split-filled g w r i) r 0 (scrutinee.Lazy (own-condition w r i)) w′ a → ResolvesBy g w r i w′ a
+
+unfoldable pub backedges-deferred : List ℕ → ℕ → ℕ
+backedges-deferred w r = pick (eqb (backedge-at w r) 65535) 0 (word w bundles (7 * backedge-at w r + 1))
+
+abbrev pub made-ready : List ℕ → ℕ → List ℕ
+made-ready w r = stored (stored w backedges r (backedges-deferred w r)) kinds r 2
+
+-- ---- The functions, path by path.
+pub blocks-front : {g : Graph} {w w′ : List ℕ} {r : ℕ} → AddsBlocks g w r w′ → SameFront w w′
+blocks-front {w} {r} (no-blocks z e) = rw e (front-stored w children (omega arith) r 0)
+blocks-front {r} (some-blocks {w₁} {h} d x e) = rw e (front-then (adds-front x) (front-stored w₁ children (omega arith) r h))
+
+pub exit-none : {w w′ : List ℕ} {r : ℕ} {a : Defined} → Defines 1 512 w w′ a → a ≡ defined.Full → AddsExit w r w′ Full
+exit-none d e = exit-full (rw e at d)
+
+pub exit-some : {w w₁ w₂ w′ : List ℕ} {r node h before : ℕ} {a : Defined} → Defines 1 512 w w₁ a → a ≡ Number node
+    → before ≡ word w₁ children r → Adds w₁ w₂ (exit-cell before node r) h → w′ ≡ stored w₂ children r h → AddsExit w r w′ Done
+exit-some d e b x s = exit-added (rw e at d) (rw b at x) s
+
+module _ (g : Graph) (w : List ℕ) (r : ℕ) {w₁ : List ℕ} (st : Stands w g) (filled : w₁ ≡ cases-filled g w r) where
+  stands-filled : Stands w₁ g
+  stands-filled = rw filled (stands-on (filled-front g w r) st)
+
+  pub branch-taken : {x : Case} → x ≡ case-row w₁ 0 → {w₂ : List ℕ} → Appends w₁ r x 0 w₂ → Branches g w r w₂ Done
+  branch-taken e y = branches (rw (e, filled) at y)
+
+  pub select-taken : (shape : ℕ) (v : Value) → (Stands w₁ g → value-is v ≡ getD (end-values g r) 0 no-value) → {x : ℕ} → x ≡ value-word v
+      → {w₂ : List ℕ} {a : Made} → (Stands w₁ g → SelectsInto g w₁ r shape (scrutinee.Value x) w₂ a) → Selects g w r shape w₂ a
+  select-taken shape v p e y = selects v (p stands-filled) (rw (e, filled) at (y stands-filled))
+
+module _ {g : Graph} {w w₁ w₂ : List ℕ} {r : ℕ} (st : Stands w g) (blocks : Stands w g → AddsBlocks g w r w₁)
+    (emptied : w₂ ≡ stored w₁ set-lengths r 0) where
+  pub inst-taken : {w₃ : List ℕ} {a : Made} → (Stands w₂ g → ByTerminator g w₂ r w₃ a) → ByControlInst g w r w₃ a
+  inst-taken y =
+      let on : Stands w₂ g = rw emptied (stands-on (front-then (blocks-front (blocks st)) (front-stored w₁ set-lengths (omega arith) r 0)) st) in
+      by-inst (blocks st) emptied (y on)
+
+module _ (g : Graph) (w : List ℕ) (r i : ℕ) {n start p c : ℕ} {w₁ : List ℕ} (st : Stands w g) (of-length : n ≡ word w set-lengths r)
+    (of-start : start ≡ word w set-starts r) (at : p ≡ bundle-at start i) (under : c ≡ condition-in w p n)
+    (filled : Stands w g → w₁ ≡ split-filled g w r i) where
+  pub resolve-taken : {w₂ : List ℕ} {a : Made} → (Stands w₁ g → SelectsInto g w₁ r 0 (scrutinee.Lazy c) w₂ a) → ResolvesBy g w r i w₂ a
+  resolve-taken y =
+      let on : Stands w₁ g = rw (filled st) (stands-on (split-front g w r i) st) in
+      resolves (rw (under, at, of-length, of-start, filled st) at (y on))
+
+module _ (w : List ℕ) (r p : ℕ) (found : p ≡ backedge-at w r) where
+  pub deferred-none : p ≡ 65535 → 0 ≡ backedges-deferred w r
+  unfolding backedges-deferred
+  deferred-none e = rw (eq-eqb (backedge-at w r) 65535 (sym found ∙ e))
+
+  pub deferred-some : (p ≡ 65535 → ⊥) → (n : ℕ) → n ≡ word w bundles (7 * p + 1) → n ≡ backedges-deferred w r
+  unfolding backedges-deferred
+  deferred-some d n e = e ∙ rw (ne-eqb (backedge-at w r) 65535 (λ z. d (found ∙ z)), found)
+
+-- The terminator's kind, as it was told.
+pub told-kind : {x : ControlInst} (k : Terminator) → terminator-is k x ≡ x → {k′ : Terminator} → k ≡ k′ → terminator-is k′ x ≡ x
+told-kind {x} k h e = subst (λ z. terminator-is z x ≡ x) e h

@@ -1,0 +1,123 @@
+-- A claim of a region that was structurized, as the words alone have it.
+use mathlib.Core.Path.{_≡_, refl, sym, ap, _∙_}
+use mathlib.Core.Bool.{Bool, true, false}
+use mathlib.Core.List.{List}
+use Prim.Native.Nat.{ℕ, _+_, _*_}
+use native.Mathlib.Omega.{arith}
+use lib.Dec.{eqb}
+use borrow.Author.Tests.{eq-eqb, ne-eqb, eqb-true, eqb-false}
+use Rattle.meaning.specs.Graph.{Graph}
+use Rattle.meaning.specs.Lists.{pick}
+use Rattle.record.specs.Stands.{Stands}
+use Rattle.state.specs.Sections.{word, stored, kinds, backedges, bodies, children, set-starts, set-lengths}
+use Rattle.state.specs.Tables.{find-by}
+use Rattle.shown.specs.Front.{stands-on, front-stored, front-then}
+use Rattle.selects.specs.declared.Made.{Made}
+use Rattle.selects.specs.declared.Made.the-variants.{Done, Full}
+use Rattle.loops.specs.Words.{Loops}
+use Rattle.cfg.specs.declared.claim.Claim.{Claim}
+use Rattle.cfg.specs.declared.claim.Claim.the-variants.{Claimed, Unclaimed, Refused}
+
+abbrev pub claim-of : Made → Claim
+claim-of Done = Claimed
+claim-of Full = Refused 9 0
+
+abbrev pub backedge-at : List ℕ → ℕ → ℕ
+backedge-at w r = find-by w (word w set-starts r) r (word w set-lengths r) 0
+
+-- Region r's state is claimed, and it is its own structured body.
+abbrev pub as-claimed : List ℕ → ℕ → List ℕ
+as-claimed w r = stored (stored w kinds r 3) bodies r r
+
+pub data ClaimsBody (g : Graph) (w : List ℕ) (r : ℕ) (w′ : List ℕ) : Claim → Type 0 where
+  no-backedges : word (as-claimed w r) backedges r ≡ 0 → w′ ≡ as-claimed w r → ClaimsBody g w r w′ Claimed
+  none-found : (word (as-claimed w r) backedges r ≡ 0 → ⊥) → backedge-at (as-claimed w r) r ≡ 65535 → w′ ≡ as-claimed w r
+      → ClaimsBody g w r w′ Claimed
+  by-loop : {made : Made} {a : Claim} → (word (as-claimed w r) backedges r ≡ 0 → ⊥) → (backedge-at (as-claimed w r) r ≡ 65535 → ⊥)
+      → Loops g (as-claimed w r) r (backedge-at (as-claimed w r) r) w′ made → a ≡ claim-of made → ClaimsBody g w r w′ a
+
+pub data ClaimsByState (g : Graph) (w : List ℕ) (r n incoming : ℕ) (w′ : List ℕ) : Claim → Type 0 where
+  ready-claimed : {a : Claim} → word w kinds r ≡ 2 → incoming ≡ n + word w backedges r → ClaimsBody g w r w′ a
+      → ClaimsByState g w r n incoming w′ a
+  ready-waits : word w kinds r ≡ 2 → (incoming ≡ n + word w backedges r → ⊥) → w′ ≡ w → ClaimsByState g w r n incoming w′ Unclaimed
+  busy-claimed : word w kinds r ≡ 1 → incoming ≡ n → w′ ≡ w → ClaimsByState g w r n incoming w′ (Refused 12 r)
+  busy-waits : word w kinds r ≡ 1 → (incoming ≡ n → ⊥) → w′ ≡ w → ClaimsByState g w r n incoming w′ Unclaimed
+  other-state : (word w kinds r ≡ 2 → ⊥) → (word w kinds r ≡ 1 → ⊥) → w′ ≡ w → ClaimsByState g w r n incoming w′ (Refused 12 r)
+
+unfoldable pub is-trivial : List ℕ → ℕ → Bool
+is-trivial w t = pick (eqb (word w kinds t) 2) (pick (eqb (word w set-lengths t) 0) (eqb (word w children t) 0) false) false
+
+-- How the edge to a region that was not claimed is taken.
+abbrev pub unclaimed-word : List ℕ → ℕ → ℕ
+unclaimed-word w t = pick (is-trivial w t) 0 1
+
+-- ---- The functions, path by path.
+module _ (w : List ℕ) (t state : ℕ) (of-state : state ≡ word w kinds t) where
+  pub trivial-state : (state ≡ 2 → ⊥) → false ≡ is-trivial w t
+  unfolding is-trivial
+  trivial-state d = rw (ne-eqb (word w kinds t) 2 (λ e. d (of-state ∙ e)))
+
+  module _ (ready : state ≡ 2) (n : ℕ) (of-length : n ≡ word w set-lengths t) where
+    pub trivial-set : (n ≡ 0 → ⊥) → false ≡ is-trivial w t
+    unfolding is-trivial
+    trivial-set d = rw (eq-eqb (word w kinds t) 2 (sym of-state ∙ ready), ne-eqb (word w set-lengths t) 0 (λ e. d (of-length ∙ e)))
+
+    pub trivial-children : n ≡ 0 → (h : ℕ) → h ≡ word w children t → eqb h 0 ≡ is-trivial w t
+    unfolding is-trivial
+    trivial-children z h e =
+        rw (eq-eqb (word w kinds t) 2 (sym of-state ∙ ready), eq-eqb (word w set-lengths t) 0 (sym of-length ∙ z), e)
+
+module _ (w : List ℕ) (t : ℕ) (b : Bool) (test : b ≡ is-trivial w t) where
+  pub edge-nothing : b ≡ true → 0 ≡ unclaimed-word w t
+  edge-nothing e = rw (← test, e)
+
+  pub edge-deferred : b ≡ false → 1 ≡ unclaimed-word w t
+  edge-deferred e = rw (← test, e)
+
+module _ (g : Graph) (w : List ℕ) {w₁ w₂ : List ℕ} (r : ℕ) (claims : w₁ ≡ stored w kinds r 3) (itself : w₂ ≡ stored w₁ bodies r r) {b : ℕ}
+    (read : b ≡ word w₂ backedges r) where
+  now-claimed : w₂ ≡ as-claimed w r
+  now-claimed = itself ∙ ap (λ l. stored l bodies r r) claims
+
+  backedges-read : b ≡ word (as-claimed w r) backedges r
+  backedges-read = read ∙ ap (λ l. word l backedges r) now-claimed
+
+  pub body-plain : b ≡ 0 → ClaimsBody g w r w₂ Claimed
+  body-plain e = no-backedges (sym backedges-read ∙ e) now-claimed
+
+  module _ (some : b ≡ 0 → ⊥) {p : ℕ} (found : p ≡ backedge-at w₂ r) where
+    found-at : p ≡ backedge-at (as-claimed w r) r
+    found-at = found ∙ ap (λ l. backedge-at l r) now-claimed
+
+    pub body-without : p ≡ 65535 → ClaimsBody g w r w₂ Claimed
+    body-without e = none-found (λ z. some (backedges-read ∙ z)) (sym found-at ∙ e) now-claimed
+
+    pub body-loop : (p ≡ 65535 → ⊥) → {w₃ : List ℕ} {made : Made} → Stands w g → (Stands w₂ g → Loops g w₂ r p w₃ made) → {a : Claim}
+        → a ≡ claim-of made → ClaimsBody g w r w₃ a
+    body-loop d {w₃} {made} st f e =
+        let on : Stands (as-claimed w r) g =
+        stands-on (front-then (front-stored w kinds (omega arith) r 3) (front-stored (stored w kinds r 3) bodies (omega arith) r r)) st in
+        by-loop (λ z. some (backedges-read ∙ z)) (λ z. d (found-at ∙ z))
+        (rw (now-claimed, found-at) at (f (rw now-claimed on))) e
+
+module _ (g : Graph) (w : List ℕ) (r n incoming : ℕ) {state : ℕ} (of-state : state ≡ word w kinds r) where
+  module _ (ready : state ≡ 2) {b : ℕ} (read : b ≡ word w backedges r) {x m : ℕ} (counted : x ≡ b) (sum : m ≡ n + x) {same : Bool}
+      (test : same ≡ eqb incoming m) where
+    all-edges : m ≡ n + word w backedges r
+    all-edges = sum ∙ ap (λ z. n + z) (counted ∙ read)
+
+    pub state-claimed : same ≡ true → {w′ : List ℕ} {a : Claim} → ClaimsBody g w r w′ a → ClaimsByState g w r n incoming w′ a
+    state-claimed e y = ready-claimed (sym of-state ∙ ready) (eqb-true incoming m (sym test ∙ e) ∙ all-edges) y
+
+    pub state-waits : same ≡ false → ClaimsByState g w r n incoming w Unclaimed
+    state-waits e = ready-waits (sym of-state ∙ ready) (λ z. eqb-false incoming m (sym test ∙ e) (z ∙ sym all-edges)) refl
+
+  module _ (busy : state ≡ 1) {same : Bool} (test : same ≡ eqb incoming n) where
+    pub busy-refuses : same ≡ true → ClaimsByState g w r n incoming w (Refused 12 r)
+    busy-refuses e = busy-claimed (sym of-state ∙ busy) (eqb-true incoming n (sym test ∙ e)) refl
+
+    pub busy-stays : same ≡ false → ClaimsByState g w r n incoming w Unclaimed
+    busy-stays e = busy-waits (sym of-state ∙ busy) (eqb-false incoming n (sym test ∙ e)) refl
+
+  pub other-refuses : (state ≡ 2 → ⊥) → (state ≡ 1 → ⊥) → ClaimsByState g w r n incoming w (Refused 12 r)
+  other-refuses d e = other-state (λ z. d (of-state ∙ z)) (λ z. e (of-state ∙ z)) refl

@@ -1,0 +1,117 @@
+// A region that was structurized, claimed or not, by its state.
+ghost use mathlib.Core.Path.{_≡_};
+ghost use Prim.Native.Nat.{_≤_};
+ghost use Rattle.record.specs.Stands.{OfRecord};
+ghost use Rattle.cfg.specs.ByState as words;
+use incoming::IncomingEdgeCount;
+use loops::structurize_loop;
+use selects::Made;
+use state::regions::CLAIMED;
+use state::regions::DEFERRED;
+use state::regions::IN_PROGRESS;
+use state::regions::READY;
+use state::regions::UNREACHABLE;
+use state::regions::backedge_count;
+use state::regions::children;
+use state::regions::region_state;
+use state::regions::set_region_state;
+use state::regions::set_structured_body;
+use state::sets::NO_BUNDLE;
+use state::sets::find_by_target;
+use state::sets::set_length;
+use state::sets::set_start;
+use store::WORDS;
+
+// What a claim answers: the region is claimed, or the bundle is handed back as it was, or a refusal's number and its word.
+pub enum Claim {
+    Claimed,
+    Unclaimed,
+    Refused(u16, u16),
+}
+
+fn claim_of(made: Made) -> Claim
+    ensures { λ a. ⌜ a ≡ words.«claim-of» made ⌝ }
+{
+    match made {
+        Made::Done => Claim::Claimed,
+        Made::Full => Claim::Refused(9, 0),
+    }
+}
+
+pub fn count(n: u16) -> IncomingEdgeCount
+    ensures { λ a. ⌜ (a .0 ≡ n) × (a .0 ≤ 65535) ⌝ }
+{
+    IncomingEdgeCount(n as u32)
+}
+
+// The bundle of region r's set that leads back to it.
+pub fn find_backedge(w: &[u16; WORDS], r: u16) -> u16
+    ensures { λ a. ⌜ a ≡ words.«backedge-at» (now (w .entry)) r ⌝ }
+{
+    find_by_target(w, set_start(w, r), set_length(w, r), r)
+}
+
+// A claimed region is itself, or, with a back edge, the wrapper of its loop. The back edge is looked for only where there are any.
+fn claim_body(w: &mut [u16; WORDS], r: u16) -> Claim
+    ensures { λ a. ⌜ OfRecord (now (w .entry)) (λ g. words.ClaimsBody g (now (w .entry)) r (now (w .exit)) a) ⌝ }
+{
+    set_region_state(w, r, CLAIMED);
+    set_structured_body(w, r, r);
+    if backedge_count(w, r) == 0 {
+        return Claim::Claimed;
+    }
+    let p = find_backedge(w, r);
+    if p == NO_BUNDLE {
+        return Claim::Claimed;
+    }
+    claim_of(structurize_loop(w, r, p))
+}
+
+// Target, accumulated count, its incoming count: refusal 12 where the Rust stops.
+pub fn claim_by_state(
+    w: &mut [u16; WORDS],
+    r: u16,
+    n: IncomingEdgeCount,
+    incoming: IncomingEdgeCount,
+) -> Claim
+    requires { ⌜ n .0 ≤ 65535 ⌝ }
+    ensures { λ a. ⌜ OfRecord (now (w .entry)) (λ g. words.ClaimsByState g (now (w .entry)) r (n .0) (incoming .0) (now (w .exit)) a) ⌝ }
+{
+    let state = region_state(w, r);
+    if state == READY {
+        if incoming.same(n.plus(count(backedge_count(w, r)))) {
+            return claim_body(w, r);
+        }
+        return Claim::Unclaimed;
+    }
+    if state == IN_PROGRESS {
+        if incoming.same(n) {
+            return Claim::Refused(12, r);
+        }
+        return Claim::Unclaimed;
+    }
+    Claim::Refused(12, r)
+}
+
+// Whether a region is Ready, Unreachable and childless: a failed claim of it defers nothing.
+fn is_trivial(w: &[u16; WORDS], t: u16) -> bool
+    ensures { λ a. ⌜ a ≡ words.«is-trivial» (now (w .entry)) t ⌝ }
+{
+    if region_state(w, t) != READY {
+        return false;
+    }
+    if set_length(w, t) != 0 {
+        return false;
+    }
+    children(w, t) == 0
+}
+
+// How the edge to a region that was not claimed is taken.
+pub fn unclaimed_edge(w: &[u16; WORDS], t: u16) -> u16
+    ensures { λ a. ⌜ a ≡ words.«unclaimed-word» (now (w .entry)) t ⌝ }
+{
+    if is_trivial(w, t) {
+        return UNREACHABLE;
+    }
+    DEFERRED
+}
