@@ -3,3 +3,9 @@ pub mod ByInst
 pub mod Claims
 pub mod Left
 pub mod Turns
+pub mod Shows
+pub mod TargetsShown
+pub mod ScansShown
+pub mod TurnsShown
+pub mod RegionsShown
+pub mod ClaimsShown

@@ -31,7 +31,7 @@ use Rattle.follows.specs.counting.CountScan.{ClaimCounted, aims, AllLive
 use Rattle.follows.specs.counting.CountScan.{by-control-inst-counted, scan-few, target-regions-counted, split-out-counted}
 
 module _ (K : Counting) where
-  targets-live : (q : ℕ) → is-in q (K .live) ≡ true → AllLive K (edges-of (region (K .g) q .terminator))
+  pub targets-live : (q : ℕ) → is-in q (K .live) ≡ true → AllLive K (edges-of (region (K .g) q .terminator))
   targets-live q i = go (edges-of (region (K .g) q .terminator)) (λ x j. K .closed q x i j)
     where
       go : (es : List Edge) → ((x : ℕ) → is-in x (map (λ e. e .target) es) ≡ true → is-in x (K .live) ≡ true) → AllLive K es
@@ -50,6 +50,24 @@ module _ (K : Counting) where
   pub record Begun (q : ℕ) (f : ℕ → ℕ) (s s′ : NestState) : Type 0 where
     pub step : Counted K 0 0 f f s s′
     pub old : not-begun-one (state-of s′ q) ≡ 0
+
+  -- A turn over the deferred edges that claims a region.
+  pub turn-counted : (x : Body) (s s₁ : NestState) (y : SplitOut) → Good K (x .deferred-edges)
+      → ScanCounted K [] (x .deferred-edges) s (some y) s₁
+      → Post Nine (λ x′ s₂. BodyCounted K 0 (λ r. edge-total (edges-to r) (x .deferred-edges)) s x′ s₂)
+      (structurize-select-into (K .g) (x .children) bool-cond (lazy (condition-in (x .deferred-edges) (y .bundle)))
+      (ok (y .claimed-region) ∷ err (y .others) ∷ []) s₁)
+  turn-counted x s s₁ y good h =
+      let f : ℕ → ℕ = λ r. edge-total (edges-to r) (x .deferred-edges) in
+      let scan = scan-few K (x .deferred-edges) (good .fits) in
+      let cs : List MaybeClaimedRegion = ok (y .claimed-region) ∷ err (y .others) ∷ [] in
+      let scrutinee = lazy (condition-in (x .deferred-edges) (y .bundle)) in
+      let st₁ : Counted K 0 0 f (λ r. totals (edges-to r) (ok (y .claimed-region) ∷ err (y .others) ∷ [])) s s₁ =
+      counted-as K (h .step) 0 0 f (λ r. totals (edges-to r) (ok (y .claimed-region) ∷ err (y .others) ∷ [])) (omega arith) (λ r. omega arith) in
+      map-post _ (select-into-total Nine (refl, refl) (K .g) (x .children) bool-cond scrutinee cs s₁) λ x′ s₂ q.
+      let b = selected-counted K s₁ cs x′ s₂ (h .step .inv) (h .good .0 .fits, (h .good .1 .fits, tt))
+      (let u = h .good .0 .full in let v = h .good .1 .full in omega arith) q in
+      record { step = counted-then K st₁ (b .step) (omega arith) (λ r. omega arith); good = b .good }
 
   module _ (fuel : ℕ) (claim : Claim) (claim-counted : ClaimCounted K fuel claim) where
     pub resolve-counted : (n : ℕ) (x : Body) (H : ℕ → ℕ) (s : NestState) → Good K (x .deferred-edges)
@@ -92,19 +110,11 @@ module _ (K : Counting) where
               record { step = counted-as K (h .step) (live-count K) 0 f f (let z = scan in omega arith) (λ r. omega arith); good = good };
         }
         by (some y) s₁ h ih =
-            let cs : List MaybeClaimedRegion = ok (y .claimed-region) ∷ err (y .others) ∷ [] in
-            let scrutinee = lazy (condition-in (x .deferred-edges) (y .bundle)) in
-            let st₁ : Counted K 0 0 f (λ r. totals (edges-to r) (ok (y .claimed-region) ∷ err (y .others) ∷ [])) s s₁ =
-            counted-as K (h .step) 0 0 f (λ r. totals (edges-to r) (ok (y .claimed-region) ∷ err (y .others) ∷ []))
-            (let z = scan in omega arith) (λ r. omega arith) in
-            bind (structurize-select-into (K .g) (x .children) bool-cond scrutinee cs s₁) (λ x′. resolve-deferred (K .g) claim n x′)
-            (map-post _ (select-into-total Nine (refl, refl) (K .g) (x .children) bool-cond scrutinee cs s₁)
-            λ x′ s₂ q. selected-counted K s₁ cs x′ s₂ (h .step .inv) (h .good .0 .fits, (h .good .1 .fits, tt))
-            (let u = h .good .0 .full in let v = h .good .1 .full in omega arith) q) λ x′ s₂ b.
-            let st₂ : Counted K 0 0 f (λ r. edge-total (edges-to r) (x′ .deferred-edges)) s s₂ =
-            counted-then K st₁ (b .step) (omega arith) (λ r. omega arith) in
-            map-post _ (ih x′ s₂ (b .good) (pre-after K pre st₂)) λ y′ s₃ c.
-            record { step = counted-then K st₂ (c .step) (omega arith) (λ r. omega arith); good = c .good }
+            bind (structurize-select-into (K .g) (x .children) bool-cond (lazy (condition-in (x .deferred-edges) (y .bundle)))
+            (ok (y .claimed-region) ∷ err (y .others) ∷ []) s₁) (λ x′. resolve-deferred (K .g) claim n x′)
+            (turn-counted x s s₁ y good h) λ x′ s₂ b.
+            map-post _ (ih x′ s₂ (b .good) (pre-after K pre (b .step))) λ y′ s₃ c.
+            record { step = counted-then K (b .step) (c .step) (omega arith) (λ r. omega arith); good = c .good }
 
     -- ---- a region not begun
     module _ (q : ℕ) (H : ℕ → ℕ) (s : NestState) (in-q : is-in q (K .live) ≡ true) (new : state-of s q ≡ not-begun) (waiting : 1 ≤ H q)
@@ -123,7 +133,7 @@ module _ (K : Counting) where
       edges-held-under-way r = let z = edges-held-set K r q (s .region-states) in-progress in-q lt-q in let y =
           ap (edges-held-by K r q) new in omega arith
 
-      pre-under-way : Pre K fuel H (aims K es) under-way
+      pub pre-under-way : Pre K fuel H (aims K es) under-way
       pre-under-way = record {
         inv = inv-set K (s .region-states) q in-progress (pre .inv) lt-q tt;
         enough = let z = count-set not-begun-one (s .region-states) q in-progress lt-q in let y = ap not-begun-one new in let w =

@@ -82,7 +82,7 @@ module _ (K : Counting) where
       go true = record { still = still-refl s; kept = λ r. omega arith; good = good-empty }
       go false = record { still = still-refl s; kept = λ r. omega arith; good = deferred-good e h }
 
-  edge-case-counted : (e : Edge) (o : Option ClaimedRegion) (s : NestState) → is-in (e .target) (K .live) ≡ true
+  pub edge-case-counted : (e : Edge) (o : Option ClaimedRegion) (s : NestState) → is-in (e .target) (K .live) ≡ true
       → GoodClaim K (e .target) 1 o → Post Nine (λ c s′. CaseCounted (e .target) o s c s′) (edge-case e o s)
   edge-case-counted e none s h g = record { post = unclaimed-counted e (state-of s (e .target)) s h }
   edge-case-counted e (some c) s h g = record { post = record { still = still-refl s; kept = λ r. omega arith; good = g } }
@@ -128,7 +128,7 @@ module _ (K : Counting) where
       (select-into-total Nine (refl, refl) (K .g) parent kind (value v) cs s) λ y s₁ q. selected-counted s cs y s₁ i fi fu q
 
   -- ---- a scan makes one attempt for each region in the set, and these are no more than the live regions
-  live-of : (q : ℕ) → 1 ≤ live-one K q → is-in q (K .live) ≡ true
+  pub live-of : (q : ℕ) → 1 ≤ live-one K q → is-in q (K .live) ≡ true
   live-of q h = go (is-in q (K .live)) h
     where
       go : (b : Bool) → 1 ≤ pick b 1 0 → b ≡ true
@@ -200,9 +200,34 @@ module _ (K : Counting) where
     good = h .good;
   }
 
-  count-pos : (q n : ℕ) → edgeless (to-region q) n ≡ 0 → 1 ≤ n
+  pub count-pos : (q n : ℕ) → edgeless (to-region q) n ≡ 0 → 1 ≤ n
   count-pos q zero p = absurd (omega arith)
   count-pos q (suc n) p = omega arith
+
+  -- What is left for the other targets once the first was claimed, or its edge deferred.
+  pub record NextTarget (fuel : ℕ) (e : Edge) (es : List Edge) (H : ℕ → ℕ) (s : NestState) (c : MaybeClaimedRegion) (s₂ : NestState)
+      : Type 0 where
+    pub beside : Counted K 1 0 (aims (e ∷ es)) (λ r. edge-total (edges-to r) (deferred-of c) + aims es r) s s₂
+    pub pre : Pre K fuel (λ r. edge-total (edges-to r) (deferred-of c) + H r) (aims es) s₂
+
+  pub first-target : {fuel : ℕ} (e : Edge) (es : List Edge) (H : ℕ → ℕ) {s : NestState} → Pre K fuel H (aims (e ∷ es)) s
+      → Pre K fuel (λ r. aims es r + H r) (λ r. edges-to r (to-region (e .target)) 1) s
+  first-target e es H pre =
+      pre-as K pre (λ r. aims es r + H r) (λ r. edges-to r (to-region (e .target)) 1) (λ r. omega arith) (λ r. omega arith)
+
+  pub next-target : {fuel : ℕ} (e : Edge) (es : List Edge) (H : ℕ → ℕ) {s s₁ s₂ : NestState} {o : Option ClaimedRegion}
+      {c : MaybeClaimedRegion} → Pre K fuel H (aims (e ∷ es)) s → Claims K 1 (e .target) 1 s o s₁ → CaseCounted (e .target) o s₁ c s₂
+      → NextTarget fuel e es H s c s₂
+  next-target e es H {s} {s₂} {c} pre x y =
+      let this : Counted K 1 0 (λ r. edges-to r (to-region (e .target)) 1) (λ r. edge-total (edges-to r) (deferred-of c)) s s₂ =
+      counted-then K (x .step) (counted-still K (y .still) (x .step .inv) (y .kept)) (omega arith) (λ r. omega arith) in
+      let both = counted-as K this 1 0 (aims (e ∷ es)) (λ r. edge-total (edges-to r) (deferred-of c) + aims es r) (omega arith)
+      (λ r. omega arith) in
+      record {
+        beside = both;
+        pre = pre-as K (pre-after K pre both) (λ r. edge-total (edges-to r) (deferred-of c) + H r) (aims es) (λ r. omega arith)
+            (λ r. omega arith);
+      }
 
   module _ (fuel : ℕ) (claim : Claim) (claim-counted : ClaimCounted fuel claim) where
     pub target-regions-counted : (es : List Edge) (H : ℕ → ℕ) (s : NestState) → AllLive es → Pre K fuel H (aims es) s
@@ -211,16 +236,12 @@ module _ (K : Counting) where
     target-regions-counted [] H s a pre =
         record { post = record { step = counted-still K (still-refl s) (pre .inv) (λ r. omega arith); fits = tt; full = refl } }
     target-regions-counted (e ∷ es) H s (a, al) pre =
-        let pre₀ = pre-as K pre (λ r. aims es r + H r) (λ r. edges-to r (to-region (e .target)) 1) (λ r. omega arith) (λ r. omega arith) in
         bind (claim (e .target) 1 (e .inputs) s) _
-        (claim-counted (e .target) 1 (e .inputs) (λ r. aims es r + H r) s a (omega arith) pre₀) λ o s₁ x.
+        (claim-counted (e .target) 1 (e .inputs) (λ r. aims es r + H r) s a (omega arith) (first-target e es H pre)) λ o s₁ x.
         bind (edge-case e o s₁) _ (edge-case-counted e o s₁ a (x .good)) λ c s₂ y.
-        let this : Counted K 1 0 (λ r. edges-to r (to-region (e .target)) 1) (λ r. edge-total (edges-to r) (deferred-of c)) s s₂ =
-        counted-then K (x .step) (counted-still K (y .still) (x .step .inv) (y .kept)) (omega arith) (λ r. omega arith) in
-        let beside = counted-as K this 1 0 (aims (e ∷ es)) (λ r. edge-total (edges-to r) (deferred-of c) + aims es r) (omega arith)
-        (λ r. omega arith) in
-        let pre₁ = pre-as K (pre-after K pre beside) (λ r. edge-total (edges-to r) (deferred-of c) + H r) (aims es) (λ r. omega arith)
-        (λ r. omega arith) in
+        let next = next-target e es H pre x y in
+        let beside = next .beside in
+        let pre₁ = next .pre in
         bind (target-regions (K .g) claim es s₂) _
         (target-regions-counted es (λ r. edge-total (edges-to r) (deferred-of c) + H r) s₂ al pre₁) λ cs s₃ z.
         record {
