@@ -1,0 +1,4 @@
+// Selects, the Rust's structurize_select_into.
+pub mod cases;
+pub mod define;
+pub mod made;
