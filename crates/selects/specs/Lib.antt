@@ -1,3 +1,5 @@
 pub mod Turns
 pub mod Cases
 pub mod Selects
+pub mod Places
+pub mod CasesShown

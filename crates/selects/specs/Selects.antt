@@ -5,10 +5,10 @@ use Prim.Native.Nat.{ℕ, suc, _+_, _*_, _-_, _≤_, _<_}
 use native.Mathlib.Omega.{arith}
 use Rattle.state.specs.declared.defined.Defined.{Defined}
 use Rattle.state.specs.declared.defined.Defined.the-variants.{Number, Full}
-use Rattle.state.specs.declared.cells.Cell.{Cell}
 use Rattle.state.specs.Sections.{word, stored, cases, children}
 use Rattle.state.specs.Tables as tables
 use Rattle.state.specs.Tables.{Adds, Defines}
+use Rattle.shown.specs.CellSteps.{case-cell, select-cell}
 use Rattle.lookups.specs.Materialized.{Materializes}
 use Rattle.selects.specs.declared.made.Made.the-variants.{Done as MadeDone, Full as MadeFull}
 use Rattle.selects.specs.declared.define.Scrutinee.{Scrutinee}
@@ -22,13 +22,6 @@ case-total l = tables.case-total l
 pub data ScrutineeMade (l : List ℕ) : Scrutinee → List ℕ → Defined → Type 0 where
   given-value : {v : ℕ} {l′ : List ℕ} → l′ ≡ l → ScrutineeMade l (Value v) l′ (Number v)
   made-value : {c : ℕ} {l′ : List ℕ} {a : Defined} → Materializes l c l′ a → ScrutineeMade l (Lazy c) l′ a
-
--- The cell of a case: the cases after it, its region, its children.
-abbrev pub case-cell : ℕ → ℕ → ℕ → Cell
-case-cell after r ks = record { tag = 6; before = after; a = r; b = ks; c = 0; d = 0 }
-
-abbrev pub select-cell : ℕ → ℕ → ℕ → ℕ → ℕ → Cell
-select-cell before node shape v cs = record { tag = 4; before = before; a = node; b = shape; c = v; d = cs }
 
 -- The cells of the first n cases are added, the last first, to those at h.
 pub data CaseCells : ℕ → ℕ → List ℕ → List ℕ → ℕ → Type 0 where
