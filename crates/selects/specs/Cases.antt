@@ -10,6 +10,7 @@ use borrow.Author.Tests.{eq-eqb, ne-eqb}
 use Rattle.state.specs.declared.defined.Defined.the-variants.{Number, Full as Refused}
 use Rattle.state.specs.Sections.{word, stored, cases}
 use Rattle.state.specs.Tables.{case-total, Defines, inserted}
+use Rattle.bundles.specs.Words.{case-inputs}
 use Rattle.selects.specs.declared.made.Made.{Made}
 use Rattle.selects.specs.declared.made.Made.the-variants.{Done, Full}
 use Rattle.meaning.specs.Lists.{pick}
@@ -39,11 +40,6 @@ pub data CaseRegion (j : ℕ) (l l′ : List ℕ) : Made → Type 0 where
   new-region : {r : ℕ} {l₁ : List ℕ} → (word l cases (10 * j + 0) ≡ 2 → ⊥) → Defines 0 128 l l₁ (Number r)
       → l′ ≡ stored l₁ cases (10 * j + 2) r → CaseRegion j l l′ Done
   no-region : (word l cases (10 * j + 0) ≡ 2 → ⊥) → Defines 0 128 l l′ Refused → CaseRegion j l l′ Full
-
-abbrev pub case-inputs : List ℕ → ℕ → List ℕ
-case-inputs l j =
-    let field : ℕ → ℕ = λ k. word l cases (10 * j + (6 + k)) in
-    field 0 ∷ field 1 ∷ field 2 ∷ field 3 ∷ []
 
 unfoldable pub inputs-replaced : List ℕ → ℕ → List ℕ
 inputs-replaced l j = pick (eqb (word l cases (10 * j + 0)) 2) (inserted l (word l cases (10 * j + 2)) 1 (case-inputs l j)) l

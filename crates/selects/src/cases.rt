@@ -4,12 +4,12 @@ ghost use mathlib.Core.Path.{_≡_};
 ghost use Rattle.selects.specs.Cases as words;
 ghost use Rattle.selects.specs.Turns as turns;
 ghost use Rattle.state.specs.Tables as tables;
+use bundles::taken::case_inputs;
 use crate::made::Made;
 use state::cases::CLAIMED_REGION;
 use state::cases::case_body;
 use state::cases::case_children;
 use state::cases::case_count;
-use state::cases::case_input;
 use state::cases::case_kind;
 use state::cases::case_length;
 use state::cases::set_case_body;
@@ -90,17 +90,6 @@ pub fn case_regions(w: &mut [u16; WORDS]) -> Made
         j += 1;
     }
     Made::Done
-}
-
-fn case_inputs(w: &[u16; WORDS], j: u16) -> [u16; 4]
-    ensures { λ a. ⌜ a ≡ words.«case-inputs» (now (w .entry)) j ⌝ }
-{
-    [
-        case_input(w, j, 0),
-        case_input(w, j, 1),
-        case_input(w, j, 2),
-        case_input(w, j, 3),
-    ]
 }
 
 fn replace_input(w: &mut [u16; WORDS], j: u16)
