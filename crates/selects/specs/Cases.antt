@@ -1,6 +1,6 @@
 -- The cases of a select, as the words alone have them.
 use mathlib.Core.Path.{_≡_, refl, sym, ap, _∙_}
-use mathlib.Core.Bool.{Bool, true, false, not}
+use mathlib.Core.Bool.{Bool, true, false}
 use mathlib.Core.List.{List, [], _∷_}
 use Prim.Native.Nat.{ℕ, zero, suc, _+_, _*_, _-_, _≤_, _<_}
 use native.Mathlib.Omega.{arith}
@@ -24,12 +24,13 @@ convergent-from l (suc n) j found =
 abbrev pub convergent-case : List ℕ → ℕ
 convergent-case l = convergent-from l (case-total l) 0 8
 
-unfoldable pub is-non-empty : List ℕ → ℕ → Bool
-is-non-empty l j = pick (eqb (word l cases (10 * j + 0)) 2) (not (eqb (word l cases (10 * j + 3)) 0)) false
+-- Only a claimed region has children.
+unfoldable pub children-of : List ℕ → ℕ → ℕ
+children-of l j = pick (eqb (word l cases (10 * j + 0)) 2) (word l cases (10 * j + 3)) 0
 
 unfoldable pub any-from : List ℕ → ℕ → ℕ → Bool
 any-from l zero j = false
-any-from l (suc n) j = pick (is-non-empty l j) true (any-from l n (suc j))
+any-from l (suc n) j = pick (eqb (children-of l j) 0) (any-from l n (suc j)) true
 
 abbrev pub any-non-empty-case : List ℕ → Bool
 any-non-empty-case l = any-from l (case-total l) 0
@@ -84,13 +85,13 @@ module _ (l : List ℕ) (n j : ℕ) where
     convergent-over h = let s : n - j ≡ 0 = omega arith in rw s at left
 
   module _ {whole : Bool} (left : any-from l (n - j) j ≡ whole) where
-    pub any-found : j < n → is-non-empty l j ≡ true → true ≡ whole
+    pub any-found : j < n → (children-of l j ≡ 0 → ⊥) → true ≡ whole
     unfolding any-from
-    any-found h e = rw e at (rw (next h) at left)
+    any-found h d = rw (ne-eqb _ _ d) at (rw (next h) at left)
 
-    pub any-on : j < n → is-non-empty l j ≡ false → any-from l (n - (j + 1)) (j + 1) ≡ whole
+    pub any-on : j < n → children-of l j ≡ 0 → any-from l (n - (j + 1)) (j + 1) ≡ whole
     unfolding any-from
-    any-on h e = rw (add-one j) (rw (add-one j) at (rw e at (rw (next h) at left)))
+    any-on h e = rw (add-one j) (rw (add-one j) at (rw (eq-eqb _ _ e) at (rw (next h) at left)))
 
     pub any-over : n ≤ j → false ≡ whole
     unfolding any-from
@@ -107,13 +108,13 @@ module _ (l : List ℕ) (n j : ℕ) where
 
 -- ---- The functions, path by path.
 module _ (l : List ℕ) (j : ℕ) where
-  pub empty-kind : (word l cases (10 * j + 0) ≡ 2 → ⊥) → false ≡ is-non-empty l j
-  unfolding is-non-empty
-  empty-kind d = rw (ne-eqb _ _ d)
+  pub children-none : (word l cases (10 * j + 0) ≡ 2 → ⊥) → 0 ≡ children-of l j
+  unfolding children-of
+  children-none d = rw (ne-eqb _ _ d)
 
-  pub empty-if : word l cases (10 * j + 0) ≡ 2 → {h : ℕ} → h ≡ word l cases (10 * j + 3) → not (eqb h 0) ≡ is-non-empty l j
-  unfolding is-non-empty
-  empty-if e p = rw (eq-eqb _ _ e, p)
+  pub children-some : word l cases (10 * j + 0) ≡ 2 → word l cases (10 * j + 3) ≡ children-of l j
+  unfolding children-of
+  children-some e = rw (eq-eqb _ _ e)
 
   pub replaced-claimed : word l cases (10 * j + 0) ≡ 2 → {body : ℕ} {vs l′ : List ℕ} → body ≡ word l cases (10 * j + 2)
       → vs ≡ case-inputs l j → l′ ≡ inserted l body 1 vs → l′ ≡ inputs-replaced l j

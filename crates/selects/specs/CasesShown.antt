@@ -1,6 +1,6 @@
 -- For every state that the words show: which case converges, and whether one has children, as the definition has it.
 use mathlib.Core.Path.{_≡_, refl, sym, ap, _∙_}
-use mathlib.Core.Bool.{Bool, true, false, _||_}
+use mathlib.Core.Bool.{Bool, true, false, not, _||_}
 use mathlib.Core.List.{List, [], _∷_}
 use Prim.Native.Nat.{ℕ, zero, suc, _+_, _*_, _≤_, _<_}
 use native.Mathlib.Omega.{arith}
@@ -9,13 +9,16 @@ use lib.Dec.{eqb}
 use borrow.Author.Tests.{eq-eqb, ne-eqb}
 use Rattle.meaning.specs.Lists.{pick, empty}
 use Rattle.meaning.specs.Graph.{Graph}
+use Rattle.meaning.specs.Runs.{Nodes, ⟨⟩}
 use Rattle.nesting.specs.Nesting as nesting
 use Rattle.nesting.specs.Nesting.{MaybeClaimedRegion, ok, err, deferred-of, DeferredEdgeBundleSet, convergent-cases, without-convergent}
 use Rattle.nesting.specs.Nesting.{has-children}
-use Rattle.state.specs.Sections.{word, cases}
+use Rattle.state.specs.Sections.{word, head, cases}
 use Rattle.shown.specs.States.{ShowsCase, shows-ok, shows-nothing, shows-edge, shows-others, ShowsCases, no-case}
+use Rattle.shown.specs.Cells.{ShowsChildren, no-nodes}
 use Rattle.shown.specs.CellSteps.{has-list}
-use Rattle.selects.specs.Cases.{convergent-from, convergent-case, is-non-empty, any-from, any-non-empty-case}
+use Rattle.selects.specs.Cases.{convergent-from, convergent-case, children-of, children-none, children-some, any-from}
+use Rattle.selects.specs.Cases.{any-non-empty-case}
 use Rattle.selects.specs.Places.{From, first-of, rest-of, from-start}
 
 -- ---- The convergent case.
@@ -87,29 +90,41 @@ module _ (l : List ℕ) where
       go sized rest (is-empty e z) = rw (eq-eqb _ _ z) (on e rest)
       go sized rest (is-not e z) = rw (ne-eqb _ _ z) (found e (followed cs (suc j) j sized (omega arith)))
 
--- ---- A case with children.
-abbrev non-empty : MaybeClaimedRegion → Bool
-non-empty c = elim c [ err d ↦ false | ok x ↦ has-children (x .children) ]
+-- ---- Children of the cases.
+abbrev pub children-in : MaybeClaimedRegion → Nodes
+children-in (ok c) = c .children
+children-in (err d) = ⟨⟩
+
+no-children : {g : Graph} {w : List ℕ} (j : ℕ) → 1 ≤ word w head 4 → (word w cases (10 * j + 0) ≡ 2 → ⊥)
+    → ShowsChildren g w (children-of w j) ⟨⟩
+no-children {w} j one d = rw (← children-none w j d) (record { nodes = no-nodes refl; made = one })
 
 module _ {g : Graph} {w : List ℕ} {r : ℕ} where
-  non-empty-shown : (j : ℕ) (c : MaybeClaimedRegion) → ShowsCase g w r j c → is-non-empty w j ≡ non-empty c
-  unfolding is-non-empty
-  non-empty-shown j (ok c) (shows-ok k o b s t n a z i) = rw (eq-eqb _ _ k) (sym (has-list n))
-  non-empty-shown j (err d) (shows-nothing k z) = rw (ne-eqb (word w cases (10 * j + 0)) 2 (omega arith))
-  non-empty-shown j (err d) (shows-edge k a z) = rw (ne-eqb (word w cases (10 * j + 0)) 2 (omega arith))
-  non-empty-shown j (err d) (shows-others k a) = rw (ne-eqb (word w cases (10 * j + 0)) 2 (omega arith))
+  -- Where there is a cell: cell 0 is none.
+  pub children-shown : 1 ≤ word w head 4 → (j : ℕ) (c : MaybeClaimedRegion) → ShowsCase g w r j c
+      → ShowsChildren g w (children-of w j) (children-in c)
+  children-shown one j (ok c) (shows-ok k o b s t n a z i) = rw (← children-some w j k) n
+  children-shown one j (err d) (shows-nothing k z) = no-children j one (λ e. omega arith)
+  children-shown one j (err d) (shows-edge k a z) = no-children j one (λ e. omega arith)
+  children-shown one j (err d) (shows-others k a) = no-children j one (λ e. omega arith)
 
-  any-shown : (cs : List MaybeClaimedRegion) (j : ℕ) → From no-case (ShowsCase g w r) j cs
+  any-shown : 1 ≤ word w head 4 → (cs : List MaybeClaimedRegion) (j : ℕ) → From no-case (ShowsCase g w r) j cs
       → any-from w (length cs) j ≡ nesting.any-non-empty-case cs
   unfolding any-from
-  any-shown [] j f = refl
-  any-shown (c ∷ cs) j f =
-      rw (non-empty-shown j c (first-of no-case (ShowsCase g w r) j c cs f))
-      (go (non-empty c) (any-shown cs (suc j) (rest-of no-case (ShowsCase g w r) j c cs f)))
+  any-shown one [] j f = refl
+  any-shown one (c ∷ cs) j f =
+      let n = children-shown one j c (first-of no-case (ShowsCase g w r) j c cs f) in
+      go c (has-list n) (any-shown one cs (suc j) (rest-of no-case (ShowsCase g w r) j c cs f))
     where
-      go : (b : Bool) {x y : Bool} → x ≡ y → pick b true x ≡ (b || y)
-      go true e = refl
-      go false e = e
+      by : (b : Bool) {x y : Bool} → x ≡ y → pick b x true ≡ (not b || y)
+      by true e = e
+      by false e = refl
+
+      go : (c : MaybeClaimedRegion) → has-children (children-in c) ≡ not (eqb (children-of w j) 0)
+          → {x : Bool} → x ≡ nesting.any-non-empty-case cs
+          → pick (eqb (children-of w j) 0) x true ≡ nesting.any-non-empty-case (c ∷ cs)
+      go (ok c) e q = rw e (by (eqb (children-of w j) 0) q)
+      go (err d) e q = by (eqb (children-of w j) 0) q ∙ rw (← e)
 
   module _ {cs : List MaybeClaimedRegion} (shown : ShowsCases g w r cs) where
     pub convergent-shown : Converges 0 cs (convergent-case w)
@@ -117,5 +132,5 @@ module _ {g : Graph} {w : List ℕ} {r : ℕ} where
         let few = shown .few in
         rw (shown .size) (converges w cs 0 (from-start no-case (Sized w) cs (λ j h. shown .sets j h .size)) (omega arith))
 
-    pub any-non-empty-shown : any-non-empty-case w ≡ nesting.any-non-empty-case cs
-    any-non-empty-shown = rw (shown .size) (any-shown cs 0 (from-start no-case (ShowsCase g w r) cs (shown .each)))
+    pub any-non-empty-shown : 1 ≤ word w head 4 → any-non-empty-case w ≡ nesting.any-non-empty-case cs
+    any-non-empty-shown one = rw (shown .size) (any-shown one cs 0 (from-start no-case (ShowsCase g w r) cs (shown .each)))

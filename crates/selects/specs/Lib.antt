@@ -3,3 +3,4 @@ pub mod Cases
 pub mod Selects
 pub mod Places
 pub mod CasesShown
+pub mod RegionsShown

@@ -14,7 +14,7 @@ use Rattle.selects.specs.declared.made.Made.the-variants.{Done as MadeDo
 use Rattle.selects.specs.declared.define.Scrutinee.{Scrutinee}
 use Rattle.selects.specs.declared.define.Scrutinee.the-variants.{Value, Lazy}
 use Rattle.selects.specs.Turns.{Turns}
-use Rattle.selects.specs.Cases.{CaseRegion}
+use Rattle.selects.specs.Cases.{CaseRegion, children-of}
 
 abbrev pub case-total : List ℕ → ℕ
 case-total l = tables.case-total l
@@ -27,7 +27,7 @@ pub data ScrutineeMade (l : List ℕ) : Scrutinee → List ℕ → Defined → T
 pub data CaseCells : ℕ → ℕ → List ℕ → List ℕ → ℕ → Type 0 where
   cells-over : {n h h′ : ℕ} {l l′ : List ℕ} → n ≡ 0 → l′ ≡ l → h′ ≡ h → CaseCells n h l l′ h′
   cell-more : {n m h h₁ h′ : ℕ} {l l₁ l′ : List ℕ} → n ≡ suc m
-      → Adds l l₁ (case-cell h (word l cases (10 * m + 2)) (word l cases (10 * m + 3))) h₁ → CaseCells m h₁ l₁ l′ h′
+      → Adds l l₁ (case-cell h (word l cases (10 * m + 2)) (children-of l m)) h₁ → CaseCells m h₁ l₁ l′ h′
       → CaseCells n h l l′ h′
 
 pub data SelectAdded (r node shape v : ℕ) (l l′ : List ℕ) (h : ℕ) : Type 0 where
@@ -54,7 +54,7 @@ cells-begin l₀ n e l′ h′ x = rw e at x
 
 module _ (l₀ l : List ℕ) (n h : ℕ) (goes-on : CellsOn l₀ n h l) where
   pub cells-turn : 0 < n → {body kids h₁ : ℕ} {l₁ : List ℕ} → body ≡ word l cases (10 * (n - 1) + 2)
-      → kids ≡ word l cases (10 * (n - 1) + 3) → Adds l l₁ (case-cell h body kids) h₁ → CellsOn l₀ (n - 1) h₁ l₁
+      → kids ≡ children-of l (n - 1) → Adds l l₁ (case-cell h body kids) h₁ → CellsOn l₀ (n - 1) h₁ l₁
   cells-turn more b k x l′ h′ y = let s : n ≡ suc (n - 1) = omega arith in goes-on l′ h′ (cell-more s (rw (b, k) at x) y)
 
   pub cells-end : n ≤ 0 → CaseCells (case-total l₀) 0 l₀ l h

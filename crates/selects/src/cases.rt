@@ -38,14 +38,14 @@ pub fn convergent_case(w: &[u16; WORDS]) -> u16
     found
 }
 
-// Whether case j is a claimed region with children.
-fn is_non_empty(w: &[u16; WORDS], j: u16) -> bool
-    ensures { λ a. ⌜ a ≡ words.«is-non-empty» (now (w .entry)) j ⌝ }
+// The children of case j; only a claimed region has some.
+pub fn children_of(w: &[u16; WORDS], j: u16) -> u16
+    ensures { λ a. ⌜ a ≡ words.«children-of» (now (w .entry)) j ⌝ }
 {
-    if case_kind(w, j) != CLAIMED_REGION {
-        return false;
+    if case_kind(w, j) == CLAIMED_REGION {
+        return case_children(w, j);
     }
-    case_children(w, j) != 0
+    0
 }
 
 pub fn any_non_empty_case(w: &[u16; WORDS]) -> bool
@@ -54,7 +54,7 @@ pub fn any_non_empty_case(w: &[u16; WORDS]) -> bool
     let n = case_count(w);
     let mut j: u16 = 0;
     while j < n {
-        if is_non_empty(w, j) {
+        if children_of(w, j) != 0 {
             return true;
         }
         j += 1;

@@ -2,10 +2,10 @@
 ghost use mathlib.Core.Path.{_≡_};
 ghost use Rattle.selects.specs.Selects as words;
 use crate::cases::case_regions;
+use crate::cases::children_of;
 use crate::made::Made;
 use lookups::materialize::materialize_lazy_cond;
 use state::cases::case_body;
-use state::cases::case_children;
 use state::cases::case_count;
 use state::cells::CASE;
 use state::cells::Cell;
@@ -41,7 +41,7 @@ fn case_cells(w: &mut [u16; WORDS]) -> u16
     while 0 < j {
         j -= 1;
         let body = case_body(w, j);
-        let kids = case_children(w, j);
+        let kids = children_of(w, j);
         h = add_cell(
             w,
             Cell {

@@ -1,8 +1,8 @@
 use mathlib.Core.Path.{_≡_, sym, _∙_}
 use Prim.Native.Nat.{_-_, _≤_}
 use native.Mathlib.Omega.{arith}
-use Rattle.selects.specs.Cases.{any-from, any-non-empty-case, any-start, any-found, any-on, any-over}
 use borrow.Author.Needs.{needs}
+use Rattle.selects.specs.Cases.{any-from, any-non-empty-case, any-start, any-found, any-on, any-over}
 use Rattle.selects.proofs.cases.any_non_empty_case.Statement.{statement}
 use Rattle.selects.proofs.cases.any_non_empty_case.Tie as tie
 
@@ -18,11 +18,12 @@ case-count-requires c κs = search needs
 loop-holds : tie.Need-loop-holds Inv-loop μ-loop
 loop-holds c = (omega arith, any-start _ _ (c .case-count .ensures))
 
-is-non-empty-requires : tie.Need-is-non-empty-requires Inv-loop μ-loop
-is-non-empty-requires c κs = search needs
+children-of-requires : tie.Need-children-of-requires Inv-loop μ-loop
+children-of-requires c κs = search needs
 
 returns : tie.Need-returns Inv-loop μ-loop
-returns c = any-found _ _ _ (c .before .before .before .loop .inv .1) (c .before .before .loop-test .taken) (sym (c .before .is-non-empty .ensures) ∙ c .if1 .taken)
+returns c = any-found _ _ _ (c .before .before .before .loop .inv .1) (c .before .before .loop-test .taken)
+    (λ e. c .if1 .taken (c .before .children-of .ensures ∙ e))
 
 add-j : tie.Need-add-j Inv-loop μ-loop
 add-j c = search needs
@@ -31,7 +32,11 @@ loop-less : tie.Need-loop-less Inv-loop μ-loop
 loop-less c = search needs
 
 loop-again : tie.Need-loop-again Inv-loop μ-loop
-loop-again c = (omega arith, any-on _ _ _ (c .before .before .before .loop .inv .1) (c .before .before .loop-test .taken) (sym (c .before .is-non-empty .ensures) ∙ c .if1 .left))
+loop-again c = (
+  omega arith,
+  any-on _ _ _ (c .before .before .before .loop .inv .1) (c .before .before .loop-test .taken)
+      (sym (c .before .children-of .ensures) ∙ c .if1 .left),
+)
 
 returns-2 : tie.Need-returns-2 Inv-loop μ-loop
 returns-2 c = any-over _ _ _ (c .before .loop .inv .1) (c .loop-test .left)
@@ -44,7 +49,7 @@ any-non-empty-case-spec =
     μ-loop
     case-count-requires
     loop-holds
-    is-non-empty-requires
+    children-of-requires
     returns
     add-j
     loop-less

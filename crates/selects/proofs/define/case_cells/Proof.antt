@@ -21,8 +21,8 @@ sub-j c = search needs
 case-body-requires : tie.Need-case-body-requires Inv-loop μ-loop
 case-body-requires c κs = search needs
 
-case-children-requires : tie.Need-case-children-requires Inv-loop μ-loop
-case-children-requires c κs = search needs
+children-of-requires : tie.Need-children-of-requires Inv-loop μ-loop
+children-of-requires c κs = search needs
 
 add-cell-requires : tie.Need-add-cell-requires Inv-loop μ-loop
 add-cell-requires c κs = search needs
@@ -31,7 +31,7 @@ loop-less : tie.Need-loop-less Inv-loop μ-loop
 loop-less c = search needs
 
 loop-again : tie.Need-loop-again Inv-loop μ-loop
-loop-again c = cells-turn _ _ _ _ (c .before .before .before .before .before .before .before .loop .inv) (c .before .before .before .before .before .before .loop-test .taken) (c .before .before .before .before .case-body .ensures) (c .before .before .case-children .ensures)
+loop-again c = cells-turn _ _ _ _ (c .before .before .before .before .before .before .before .loop .inv) (c .before .before .before .before .before .before .loop-test .taken) (c .before .before .before .before .case-body .ensures) (c .before .before .children-of .ensures)
     (c .add-cell .ensures)
 
 returns : tie.Need-returns Inv-loop μ-loop
@@ -47,7 +47,7 @@ case-cells-spec =
     loop-holds
     sub-j
     case-body-requires
-    case-children-requires
+    children-of-requires
     add-cell-requires
     loop-less
     loop-again
