@@ -4,3 +4,5 @@ pub mod Selects
 pub mod Places
 pub mod CasesShown
 pub mod RegionsShown
+pub mod StepsShown
+pub mod SelectsShown
