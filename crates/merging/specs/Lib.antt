@@ -1,0 +1,5 @@
+pub mod Turns
+pub mod Bundles
+pub mod Rewriting
+pub mod Targets
+pub mod Planning
