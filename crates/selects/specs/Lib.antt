@@ -1,6 +1,7 @@
 pub mod Turns
 pub mod Cases
 pub mod Selects
+pub mod Emits
 pub mod Places
 pub mod CasesShown
 pub mod RegionsShown

@@ -1,4 +1,5 @@
 // Selects, the Rust's structurize_select_into.
 pub mod cases;
 pub mod define;
+pub mod emit;
 pub mod made;
