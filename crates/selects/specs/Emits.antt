@@ -170,3 +170,19 @@ module _ (g : Graph) where
 
   pub bundles-leave : (h start : ℕ) → LeavesRecord (EmitAt g h start)
   bundles-leave h start i l l′ a x = front-bundle x
+
+module _ (h q : ℕ) (l : List ℕ) {t node : ℕ} {places : List ℕ} (of-target : t ≡ target-at l q) (found : places ≡ per-case-deferred l t)
+    (of-node : node ≡ word l cells (6 * h + 2)) {l₁ : List ℕ} {a : Made} (made : OfRecord l (λ g. EmitInputs g node q places l l₁ a)) where
+  places-are : places ≡ places-of l q
+  places-are = found ∙ rw of-target
+
+  pub bundle-refused : a ≡ Full → OfRecord l (λ g. EmitBundle g h q l l₁ Full)
+  bundle-refused e g s = inputs-refused (rw (e, of-node, places-are) at (made g s))
+
+  pub bundle-made : a ≡ Done → {l′ : List ℕ} {b : Made} → EmitCondition h q places l₁ l′ b → OfRecord l (λ g. EmitBundle g h q l l′ b)
+  bundle-made e c g s = bundle-emitted (rw (e, of-node, places-are) at (made g s)) (rw places-are at c)
+
+-- All bundles of the spare slot.
+pub emits-by : (h : ℕ) (l : List ℕ) {start n : ℕ} {l′ : List ℕ} {a : Made} → start ≡ word l set-starts 32 → n ≡ word l set-lengths 32
+    → OfRecord l (λ g. Turns (EmitAt g h start) n 0 l l′ a) → OfRecord l (λ g. Emits g h l l′ a)
+emits-by h l e size x g s = rw (size, e) at (x g s)
