@@ -117,7 +117,7 @@ front-bundle g l q = go (all-true (x .words) ps)
     go true = front-inputs g l q ps
     go false = front-then (front-inputs g l q ps) (front-stored (x .words) bundles (omega arith) (7 * q + 2) 0)
 
-front-plan : (start : ℕ) (g : Graph) (x : Planned) (i : ℕ) → SameFront (x .words) (plan-at start g x i .words)
+pub front-plan : (start : ℕ) (g : Graph) (x : Planned) (i : ℕ) → SameFront (x .words) (plan-at start g x i .words)
 front-plan start g x i = front-bundle g (x .words) (bundle-at start i)
 
 -- ---- The functions, path by path.

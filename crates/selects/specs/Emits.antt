@@ -105,7 +105,7 @@ abbrev pub Emits : Graph → ℕ → List ℕ → List ℕ → Made → Type 0
 Emits g h l l′ a = Turns (EmitAt g h (word l set-starts 32)) (word l set-lengths 32) 0 l l′ a
 
 -- ---- The record stands in front of all that is stored.
-front-output : {n ty : ℕ} {vs l l′ : List ℕ} {a : Defined} → OutputDefined n ty vs l l′ a → SameFront l l′
+pub front-output : {n ty : ℕ} {vs l l′ : List ℕ} {a : Defined} → OutputDefined n ty vs l l′ a → SameFront l l′
 front-output {n} {ty} {vs} {l} (output-defined {o} p h e) =
     rw e (front-then (front-run l outputs (omega arith) (10 * o) (n ∷ ty ∷ vs))
     (front-stored (stored-all l outputs (10 * o) (n ∷ ty ∷ vs)) head (omega arith) 3 (o + 1)))

@@ -2,6 +2,8 @@ pub mod Turns
 pub mod Cases
 pub mod Selects
 pub mod Emits
+pub mod Fronts
+pub mod Into
 pub mod Places
 pub mod CasesShown
 pub mod RegionsShown

@@ -34,7 +34,6 @@ pub data SelectAdded (r node shape v : ℕ) (l l′ : List ℕ) (h : ℕ) : Type
   select-added : {l₁ l₂ : List ℕ} {cs before : ℕ} → CaseCells (case-total l) 0 l l₁ cs → before ≡ word l₁ children r
       → Adds l₁ l₂ (select-cell before node shape v cs) h → l′ ≡ stored l₂ children r h → SelectAdded r node shape v l l′ h
 
-
 pub data SelectDefined (r shape : ℕ) (x : Scrutinee) (l l′ : List ℕ) : Defined → Type 0 where
   regions-full : Turns CaseRegion (case-total l) 0 l l′ MadeFull → SelectDefined r shape x l l′ Full
   scrutinee-full : {l₁ : List ℕ} → Turns CaseRegion (case-total l) 0 l l₁ MadeDone → ScrutineeMade l₁ x l′ Full

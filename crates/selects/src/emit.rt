@@ -2,9 +2,9 @@
 ghost use mathlib.Core.Path.{_≡_};
 ghost use Rattle.record.specs.Stands.{OfRecord};
 ghost use Rattle.selects.specs.Emits as words;
+use crate::made::Made;
 use bundles::bundles::input_count;
 use bundles::bundles::target_type;
-use crate::made::Made;
 use merging::planning::TO_DEFINE;
 use merging::planning::TO_MERGE;
 use merging::planning::per_case_condition;

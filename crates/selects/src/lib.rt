@@ -2,4 +2,5 @@
 pub mod cases;
 pub mod define;
 pub mod emit;
+pub mod into;
 pub mod made;

@@ -38,8 +38,11 @@ loop-less : tie.Need-loop-less Inv-loop μ-loop
 loop-less c = search needs
 
 loop-again : tie.Need-loop-again Inv-loop μ-loop
-loop-again c = (omega arith, turned _ _ _ _ _ (c .before .before .before .before .before .loop .inv .1) (c .before .before .before .before .loop-test .taken)
-    (rw (c .enum-told2 .given .1) at (c .before .before .case-region .ensures)))
+loop-again c = (
+  omega arith,
+  turned _ _ _ _ _ (c .before .before .before .before .before .loop .inv .1) (c .before .before .before .before .loop-test .taken)
+      (rw (c .enum-told2 .given .1) at (c .before .before .case-region .ensures)),
+)
 
 returns-2 : tie.Need-returns-2 Inv-loop μ-loop
 returns-2 c = rw (← c .before .before .case-count .ensures) (over _ _ _ _ _ (c .before .loop .inv .1) (c .loop-test .left))
