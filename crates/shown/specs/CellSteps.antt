@@ -14,7 +14,8 @@ use Rattle.meaning.specs.Runs.{Nodes, ⟨⟩, _▸_, Cases, ∅, loop, exit}
 use Rattle.meaning.specs.facts.Tests.{clash}
 use Rattle.nesting.specs.Nesting.{join, has-children, blocks-of, blocks-from, new-case, new-select, LoopInputs, loop-node}
 use Rattle.state.specs.declared.cells.Cell.{Cell}
-use Rattle.state.specs.Sections.{Section, number, start, size, used, section, word, stored, stored-all, head, conditions, cells, bundles, front}
+use Rattle.state.specs.Sections.{Section, number, start, size, used, section, word, stored, stored-all, head, conditions, cells}
+use Rattle.state.specs.Sections.{bundles, front}
 use Rattle.state.specs.Apart.{section-other}
 use Rattle.state.specs.Tables.{Adds, added, no-room, cell-words, Joins, first-empty, second-empty, joined}
 use Rattle.shown.specs.Values.{value}

@@ -12,15 +12,15 @@ use Rattle.nesting.specs.Nesting.{DeferredEdgeBundleSet, StructurizeRegionState
 use Rattle.state.specs.Sections.{Section, number, start, size, used, section, word, stored, stored-all, head, kinds, backedges, set-starts}
 use Rattle.state.specs.Sections.{set-lengths, children, bodies, levels, rewrites, conditions, cells, outputs, bundles, front}
 use Rattle.state.specs.Apart.{section-stored, section-other, part-stored}
-use Rattle.shown.specs.Stores.{ChangesOnly, word-changes, run-changes, changes-then, nothing-changes, section-run, run-before, run-behind}
-use Rattle.shown.specs.Stores.{part-length, run-other}
+use Rattle.shown.specs.Stores.{ChangesOnly, word-changes, run-changes, changes-then, nothing-changes, section-run, run-before}
+use Rattle.shown.specs.Stores.{run-behind, part-length, run-other}
 use Rattle.shown.specs.Tables.{ShowsTables}
 use Rattle.shown.specs.Elsewhere.{SameTables, tables-stay, Elsewhere, same-then}
 use Rattle.shown.specs.Front.{stands-on}
 use Rattle.shown.specs.Sets.{ShowsSet, SameBundle}
 use Rattle.shown.specs.Cells.{ShowsChildren}
-use Rattle.shown.specs.States.{ShowsOwnSet, ShowsRegion, is-not-begun, is-in-progress, is-ready, is-claimed, ShowsState, NamedRewrites}
-use Rattle.shown.specs.States.{Slots}
+use Rattle.shown.specs.States.{ShowsOwnSet, ShowsRegion, is-not-begun, is-in-progress, is-ready, is-claimed, ShowsState}
+use Rattle.shown.specs.States.{NamedRewrites, Slots}
 use Rattle.shown.specs.Kept.{Later, later-then, KeptRegion, kept-then, region-stays, set-stays, same-bundle}
 use Rattle.shown.specs.Kept.{same-bundle-then}
 

@@ -1,0 +1,4 @@
+pub mod Conditions
+pub mod Inputs
+pub mod Exits
+pub mod Loops
