@@ -2,3 +2,5 @@ pub mod Conditions
 pub mod Inputs
 pub mod Exits
 pub mod Loops
+pub mod RewritesShown
+pub mod InputsShown

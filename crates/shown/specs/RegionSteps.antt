@@ -21,7 +21,7 @@ use Rattle.shown.specs.Sets.{ShowsSet, SameBundle}
 use Rattle.shown.specs.Cells.{ShowsChildren}
 use Rattle.shown.specs.States.{ShowsOwnSet, ShowsRegion, is-not-begun, is-in-progress, is-ready, is-claimed, ShowsState}
 use Rattle.shown.specs.States.{NamedRewrites, Slots}
-use Rattle.shown.specs.Kept.{Later, later-then, KeptRegion, kept-then, region-stays, set-stays, same-bundle}
+use Rattle.shown.specs.Kept.{Later, later-same, later-then, KeptRegion, kept-same, kept-then, region-stays, set-stays, same-bundle}
 use Rattle.shown.specs.Kept.{same-bundle-then}
 
 -- ---- A word stored in a section, and any other word of any section.
@@ -121,6 +121,10 @@ states-by changes d e h g =
       ready-kept = λ q a b. kept-by changes d q;
     }
 
+pub slots-stay : {w w′ : List ℕ} → ((a : ℕ) → a < 33 → word w′ set-starts a ≡ word w set-starts a) → Slots w → Slots w′
+slots-stay e y =
+    record { slot-number = y .slot-number; starts = λ a h. e a h ∙ y .starts a h; below = y .below; own = y .own }
+
 pub named-stay : {w w′ : List ℕ} → SameTables w w′ → NamedRewrites w → NamedRewrites w′
 named-stay t n =
     let e = t .same-rewrites in
@@ -143,12 +147,7 @@ module _ {g : Graph} {w w′ : List ℕ} (later : Later g w w′) (stay : States
         named = n;
         size = rw e (x .size);
         regions = λ q h. subst (λ z. ShowsRegion g w′ q (getD z q not-begun)) (sym e) (region-next q h (x .regions q h));
-        slots = (let y = x .slots in record {
-          slot-number = y .slot-number;
-          starts = λ a h. stay .same-starts a h ∙ y .starts a h;
-          below = y .below;
-          own = y .own;
-        });
+        slots = slots-stay (λ a h. stay .same-starts a h) (x .slots);
         returned = (let y = x .returned in record {
           size = stay .same-returned 8 (omega arith) ∙ y .size;
           types = λ k h. stay .same-returned (9 + k) (omega arith) ∙ y .types k h;
@@ -157,6 +156,33 @@ module _ {g : Graph} {w w′ : List ℕ} (later : Later g w w′) (stay : States
 
   pub state-stays : {s : NestState} → SameTables w w′ → ShowsState g w s → ShowsState g w′ s
   state-stays t x = state-next (tables-stay t (x .tables)) (named-stay t (x .named)) refl x
+
+-- A step that stores nothing of any region's own.
+pub record Aside (g : Graph) (w w′ : List ℕ) : Type 0 where
+  pub later : Later g w w′
+  pub states : StatesStay g w w′
+  pub regions : (q : ℕ) → KeptRegion w w′ q
+
+pub aside-same : (g : Graph) (w : List ℕ) → Aside g w w
+aside-same g w =
+    record {
+      later = later-same g w;
+      states = states-by (nothing-changes head 0 w) (omega arith) (omega arith) (omega arith) g;
+      regions = kept-same w;
+    }
+
+pub aside-then : {g : Graph} {w w₁ w₂ : List ℕ} → Aside g w w₁ → Aside g w₁ w₂ → Aside g w w₂
+aside-then a b =
+    record {
+      later = later-then (a .later) (b .later);
+      states = states-then (a .states) (b .states);
+      regions = λ q. kept-then (a .regions q) (b .regions q);
+    }
+
+pub aside-by : {k : Section} {i : ℕ} {w w′ : List ℕ} → ChangesOnly k i w w′ → MakesNothing k i → OfNoRegion k → (2 ≡ number k → ⊥) → i < 8
+    → (g : Graph) → Aside g w w′
+aside-by changes m d e h g =
+    record { later = later-by changes m g; states = states-by changes d e h g; regions = kept-by changes d }
 
 -- The tables have nothing of the regions' states.
 pub tables-of-states : {w : List ℕ} {s : NestState} (xs : List StructurizeRegionState) → ShowsTables w s
@@ -281,12 +307,7 @@ module _ (g : Graph) (w : List ℕ) where
             | no d ↦ rw (getD-set-other (s .region-states) r q y not-begun d)
                 (region-stays later (kept-by changes (omega arith) q) (word-apart w kinds r x kinds q d) (shown .regions q h))
           ];
-          slots = (let z = shown .slots in record {
-            slot-number = z .slot-number;
-            starts = λ a h. ap (λ l. getD l a 0) (changes .others set-starts (omega arith) (omega arith)) ∙ z .starts a h;
-            below = z .below;
-            own = z .own;
-          });
+          slots = slots-stay (λ a h. ap (λ l. getD l a 0) (changes .others set-starts (omega arith) (omega arith))) (shown .slots);
           returned = (let z = shown .returned in record {
             size = changes .totals 8 (omega arith) ∙ z .size;
             types = λ k h. ap (λ l. getD l (9 + k) 0) (section-other w kinds r x head (omega arith)) ∙ z .types k h;
