@@ -1,23 +1,27 @@
 -- The inputs of a loop's header, taken one by one: for every state that the words show, as the definition takes them.
 use mathlib.Core.Path.{_≡_, refl, sym, ap, _∙_, subst}
-use mathlib.Core.Bool.{Bool, true, false}
+use mathlib.Core.Bool.{true, false}
 use mathlib.Core.List.{List, [], _∷_, _++_}
 use Prim.Native.Nat.{ℕ, suc, _+_, _*_, _≤_, _<_}
 use native.Mathlib.Omega.{arith}
 use native.Mathlib.Numerals.{add-one}
-use native.Mathlib.Decide.{decLt}
+use native.Mathlib.Decide.{decLt, ℕ-discrete}
 use lib.ListN.{length, getD, set, take, length-set, length-append, List·getD-append, List·getD-eq-default}
-use lib.Seq.{take-all, take-suc, length-take-le, getD-set-same, getD-set-other, getD-append-seam}
+use lib.Seq.{take-all, take-suc, length-take-le, getD-set-same, getD-set-other, getD-append-seam, sets}
 use lib.Dec.{eqb}
 use borrow.Author.Tests.{lt-ltb, eq-eqb, ne-eqb}
 use Rattle.meaning.specs.Graph.{Value, Graph, region, undef, input, same-value}
 use Rattle.nesting.specs.Nesting.{InputRewrite, renumber-to, replace-by, LoopInputs, no-inputs, keep-input, lift-input, take-input, take-inputs}
-use Rattle.state.specs.Sections.{used, word, head}
-use Rattle.state.specs.Values.{region-word, is-held}
+use Rattle.state.specs.Sections.{used, start, size, section, word, stored, stored-all, head, rewrites}
+use Rattle.state.specs.Apart.{section-stored}
+use Rattle.state.specs.Tables.{inserted}
+use Rattle.state.specs.Values.{region-word}
 use Rattle.shown.specs.Values.{value, equal-values, value-input, value-held}
+use Rattle.shown.specs.Stores.{run-before, run-behind, run-in, section-run, part-length}
 use Rattle.shown.specs.Tables.{ShowsInput, renumbered, replaced}
 use Rattle.shown.specs.Elsewhere.{SameTables, same-words, same-then}
 use Rattle.shown.specs.Cells.{none-kept}
+use Rattle.shown.specs.States.{NamedRewrites}
 use Rattle.shown.specs.RegionSteps.{Aside, aside-same, aside-then}
 use Rattle.shown.specs.CellSteps.{ShowsKeptList, kept-added, cell-aside, cell-tables, cell-total, cell-handle}
 use Rattle.lookups.specs.Shown.{held-below}
@@ -244,3 +248,51 @@ module _ (g : Graph) (r wrapper n : ℕ) (l vs : List ℕ) (vals : List Value) (
           total-from = omega arith;
           total-to = omega arith;
         }
+
+  input-turn : {k i : ℕ} {l₁ ws l′ ws′ : List ℕ} {x y : Taken} → So k l₁ ws x → k < 4 → TakesInput r wrapper n k (getD ws k 0) x l₁ l′ y
+      → i ≡ k + 1 → ws′ ≡ set ws k (y .entry) → So i l′ ws′ y
+  input-turn {k} {i} {l₁} {ws} {l′} {ws′} {x} {y} so h (lifted a b c d e f) at w =
+      subst (λ z. So z l′ ws′ y) (sym at)
+      (subst (λ z. So (k + 1) z ws′ y) (sym c) (lifted-so so h (y .entry) a b d e f w))
+  input-turn {k} {i} {l₁} {ws} {l′} {ws′} {x} {y} so h (kept a b c) at w =
+      subst (λ z. So z l′ ws′ y) (sym at) (kept-so so h (y .entry) a b c refl w)
+  input-turn {k} {i} {l₁} {ws} {l′} {ws′} {x} {y} so h (beyond a b c d e) at w =
+      subst (λ z. So z l′ ws′ y) (sym at)
+      (subst (λ z. So (k + 1) z ws′ y) (sym b) (beyond-so so h (y .entry) a c d e w))
+
+  pub taken-to : {k : ℕ} {l₁ ws : List ℕ} {x : Taken} → k ≤ 4 → TakesFrom r wrapper n k l vs l₁ ws x → So k l₁ ws x
+  taken-to {k} {l₁} {ws} {x} h (none-taken e f w c d) =
+      subst (λ z. So z l₁ ws x) (sym e) (subst (λ z. So 0 z ws x) (sym f) (subst (λ z. So 0 l z x) (sym w) (none-so c d)))
+  taken-to {k} h (one-taken made step at w) =
+      input-turn (taken-to (omega arith) made) (omega arith) step at w
+
+-- ---- The header's entry.
+named-entry : (w : List ℕ) (r : ℕ) (ws : List ℕ) → used ≤ length w → r < 128 → length ws ≡ 4 → ((k : ℕ) → k < 4 → getD ws k 0 < 4096)
+    → NamedRewrites w → NamedRewrites (inserted w r 2 ws)
+unfolding inserted
+named-entry w r ws room h four below n = go (ℕ-discrete (word w rewrites (5 * r)) 0)
+  where
+    go : Dec (word w rewrites (5 * r) ≡ 0) → NamedRewrites (inserted w r 2 ws)
+    go (no taken) = rw (ne-eqb (word w rewrites (5 * r)) 0 taken) n
+    go (yes free) =
+        let first = stored w rewrites (5 * r) 2 in
+        let len = part-length (start rewrites) (size rewrites) w (omega arith) in
+        let sec : section (stored-all first rewrites (5 * r + 1) ws) rewrites ≡ sets (section w rewrites) (5 * r) (2 ∷ ws) =
+        section-run first rewrites (5 * r + 1) ws ∙ rw (section-stored w rewrites (5 * r) 2, add-one (5 * r)) in
+        let l = section w rewrites in
+        let run : List ℕ = 2 ∷ ws in
+        rw (eq-eqb (word w rewrites (5 * r)) 0 free) (record {
+          below = λ q k a b d. elim (ℕ-discrete q r) [
+            | yes e ↦ (
+                let f : 5 * q + 1 + k ≡ 5 * r + suc k = omega arith in
+                rw (sec, f, run-in l (5 * r) run (suc k) (omega arith) (omega arith)) (below k b))
+            | no c ↦ (
+                let same : (i : ℕ) → 5 * q ≤ i → i < 5 * q + 5 → getD (sets l (5 * r) run) i 0 ≡ getD l i 0 = λ i x y.
+                elim (decLt q r) [
+                  | yes lt ↦ run-before l (5 * r) run i (omega arith)
+                  | no ge ↦ run-behind l (5 * r) run i (omega arith)
+                ] in
+                rw (sec, same (5 * q + 1 + k) (omega arith) (omega arith))
+                (n .below q k a b (λ z. d (ap (λ p. getD p (5 * q) 0) sec ∙ same (5 * q) (omega arith) (omega arith) ∙ z))))
+          ];
+        })

@@ -4,3 +4,4 @@ pub mod Exits
 pub mod Loops
 pub mod RewritesShown
 pub mod InputsShown
+pub mod ExitsShown
