@@ -14,6 +14,7 @@ use Rattle.meaning.specs.facts.Elements.{getD-map-in}
 use Rattle.nesting.specs.Nesting.{DeferredTarget, to-region, to-return, DeferredEdgeBundle, DeferredEdgeBundleSet, add-exit-edge, exit-targets}
 use Rattle.state.specs.Sections.{used, start, size, word, stored, bundles, set-starts, set-lengths}
 use Rattle.state.specs.Tables.{bundle-at}
+use Rattle.shown.specs.Stores.{ChangesOnly, nothing-changes, changes-then}
 use Rattle.shown.specs.Sets.{ShowsTarget, shows-region, shows-return, ShowsBundle, ShowsSet, no-bundle}
 use Rattle.shown.specs.States.{Slots, ShowsOwnSet}
 use Rattle.shown.specs.Kept.{bundle-stays}
@@ -125,6 +126,7 @@ module _ (g : Graph) (r : ℕ) (not-return : is-in 65535 (region g r .exits) ≡
     (low : (i : ℕ) → i < n → getD d i no-bundle .accumulated-count < 65535) where
   record CountedTo (i : ℕ) (l : List ℕ) : Type 0 where
     concerns : Concerns g r l₀ l
+    changes : ChangesOnly bundles 7 l₀ l
     passed : (j : ℕ) → j < i → ShowsBundle g l (start + j) (counts-exit g r not-return (getD d j no-bundle))
     left : (j : ℕ) → i ≤ j → j < n → ShowsBundle g l (start + j) (getD d j no-bundle)
     targets : (j : ℕ) → word l bundles (7 * (start + j) + 0) ≡ word l₀ bundles (7 * (start + j) + 0)
@@ -133,6 +135,7 @@ module _ (g : Graph) (r : ℕ) (not-return : is-in 65535 (region g r .exits) ≡
   none-counted =
       record {
         concerns = bundle-concerns (bundle-same l₀ start) g r 0 slots below (omega arith) (own ∙ omega arith);
+        changes = nothing-changes bundles 7 l₀;
         passed = λ j h. absurd (omega arith);
         left = λ j a b. shown .each j b;
         targets = λ j. refl;
@@ -152,6 +155,7 @@ module _ (g : Graph) (r : ℕ) (not-return : is-in 65535 (region g r .exits) ≡
       rw at
       record {
         concerns = concerns-then c step;
+        changes = changes-then (x .changes) (only .changes);
         passed = λ j b. elim (decLt j i) [
           | yes lt ↦ bundle-stays (step .later) (only .others (start + j) (omega arith)) (x .passed j lt)
           | no ge ↦ (let e : j ≡ i = omega arith in
@@ -169,9 +173,6 @@ module _ (g : Graph) (r : ℕ) (not-return : is-in 65535 (region g r .exits) ≡
   all-counted : CountedTo n (exits-from g r start n 0 l₀)
   all-counted = counted-from n 0 l₀ (omega arith) none-counted
 
-  counted-concerns : Concerns g r l₀ (exits-from g r start n 0 l₀)
-  counted-concerns = all-counted .concerns
-
   counted-set : ShowsSet g (exits-from g r start n 0 l₀) start n (map (add-exit-edge (exit-targets g r)) d)
   counted-set =
       let x = all-counted in
@@ -186,15 +187,23 @@ module _ (g : Graph) (r : ℕ) (not-return : is-in 65535 (region g r .exits) ≡
       }
 
 -- Loop r's own set, after the code's last step.
+pub record ExitsCounted (g : Graph) (r : ℕ) (l l′ : List ℕ) (d : DeferredEdgeBundleSet) : Type 0 where
+  pub concerns : Concerns g r l l′
+  pub changes : ChangesOnly bundles 7 l l′
+  pub set : ShowsOwnSet g l′ r (map (add-exit-edge (exit-targets g r)) d)
+
 pub exits-shown : (g : Graph) (r : ℕ) (l : List ℕ) (d : DeferredEdgeBundleSet) → is-in 65535 (region g r .exits) ≡ false → used ≤ length l
     → Slots l → r < 33 → ShowsOwnSet g l r d → ((i : ℕ) → i < length d → getD d i no-bundle .accumulated-count < 65535)
-    → Concerns g r l (exits-added g r l) × ShowsSet g (exits-added g r l) (word l set-starts r) (word l set-lengths r)
-    (map (add-exit-edge (exit-targets g r)) d)
+    → ExitsCounted g r l (exits-added g r l) d
 exits-shown g r l d not-return fits slots below shown low =
     let s = shown .size in
-    (
-      counted-concerns g r not-return l (word l set-starts r) (word l set-lengths r) d fits slots below refl shown
-          (λ i h. low i (omega arith)),
-      counted-set g r not-return l (word l set-starts r) (word l set-lengths r) d fits slots below refl shown
-          (λ i h. low i (omega arith)),
-    )
+    let begin = word l set-starts r in
+    let n = word l set-lengths r in
+    let x = all-counted g r not-return l begin n d fits slots below refl shown (λ i h. low i (omega arith)) in
+    let starts = x .changes .others set-starts (omega arith) (omega arith) in
+    let lengths = x .changes .others set-lengths (omega arith) (omega arith) in
+    record {
+      concerns = x .concerns;
+      changes = x .changes;
+      set = rw (starts, lengths) (counted-set g r not-return l begin n d fits slots below refl shown (λ i h. low i (omega arith)));
+    }

@@ -5,3 +5,4 @@ pub mod Loops
 pub mod RewritesShown
 pub mod InputsShown
 pub mod ExitsShown
+pub mod LoopsShown

@@ -125,10 +125,11 @@ pub slots-stay : {w w′ : List ℕ} → ((a : ℕ) → a < 33 → word w′ set
 slots-stay e y =
     record { slot-number = y .slot-number; starts = λ a h. e a h ∙ y .starts a h; below = y .below; own = y .own }
 
+pub named-by : {w w′ : List ℕ} → section w′ rewrites ≡ section w rewrites → NamedRewrites w → NamedRewrites w′
+named-by e n = record { below = λ r k a b d. rw e (n .below r k a b (λ z. d (ap (λ l. getD l (5 * r) 0) e ∙ z))) }
+
 pub named-stay : {w w′ : List ℕ} → SameTables w w′ → NamedRewrites w → NamedRewrites w′
-named-stay t n =
-    let e = t .same-rewrites in
-    record { below = λ r k a b d. rw e (n .below r k a b (λ z. d (ap (λ l. getD l (5 * r) 0) e ∙ z))) }
+named-stay t n = named-by (t .same-rewrites) n
 
 module _ {g : Graph} {w w′ : List ℕ} (later : Later g w w′) (stay : StatesStay g w w′) where
   region-next : (q : ℕ) → q < length (g .regions) → {x : StructurizeRegionState} → ShowsRegion g w q x → ShowsRegion g w′ q x
@@ -227,17 +228,6 @@ concerns-then a b =
       same-kinds = λ q. b .same-kinds q ∙ a .same-kinds q;
       same-starts = λ q. b .same-starts q ∙ a .same-starts q;
       same-head = λ q. b .same-head q ∙ a .same-head q;
-    }
-
--- A region that is not Ready shows nothing of its own.
-pub concerns-states : {g : Graph} {r : ℕ} {w w′ : List ℕ} → Concerns g r w w′ → length (g .regions) ≤ 32
-    → (word w kinds r ≡ 2 → ⊥) → StatesStay g w w′
-concerns-states {w} c few d =
-    record {
-      same-kinds = λ q h. c .same-kinds q;
-      same-starts = λ a h. c .same-starts a;
-      same-returned = λ k h. c .same-head k;
-      ready-kept = λ q h e. c .others q (omega arith) (λ z. d (ap (λ p. word w kinds p) (sym z) ∙ e));
     }
 
 module _ (g : Graph) (w : List ℕ) where
@@ -406,3 +396,56 @@ module _ {p : ℕ} {w w′ : List ℕ} (only : OnlyBundle p w w′) where
         same-starts = λ q. ap (λ l. getD l q 0) (changes .others set-starts (omega arith) (omega arith));
         same-head = λ q. ap (λ l. getD l q 0) (only .same-head);
       }
+
+-- ---- Steps together, of which region r alone is concerned; the tables may change.
+pub record Within (g : Graph) (r : ℕ) (w w′ : List ℕ) : Type 0 where
+  pub later : Later g w w′
+  pub others : (q : ℕ) → q < 33 → (q ≡ r → ⊥) → KeptRegion w w′ q
+  pub same-kinds : (q : ℕ) → q < length (g .regions) → word w′ kinds q ≡ word w kinds q
+  pub same-starts : (a : ℕ) → a < 33 → word w′ set-starts a ≡ word w set-starts a
+  pub same-returned : (k : ℕ) → 8 ≤ k → word w′ head k ≡ word w head k
+
+pub within-then : {g : Graph} {r : ℕ} {w w₁ w₂ : List ℕ} → Within g r w w₁ → Within g r w₁ w₂ → Within g r w w₂
+within-then a b =
+    record {
+      later = later-then (a .later) (b .later);
+      others = λ q h d. kept-then (a .others q h d) (b .others q h d);
+      same-kinds = λ q h. b .same-kinds q h ∙ a .same-kinds q h;
+      same-starts = λ q h. b .same-starts q h ∙ a .same-starts q h;
+      same-returned = λ k h. b .same-returned k h ∙ a .same-returned k h;
+    }
+
+pub within-aside : {g : Graph} (r : ℕ) {w w′ : List ℕ} → Aside g w w′ → Within g r w w′
+within-aside r a =
+    record {
+      later = a .later;
+      others = λ q h d. a .regions q;
+      same-kinds = a .states .same-kinds;
+      same-starts = a .states .same-starts;
+      same-returned = a .states .same-returned;
+    }
+
+pub within-concerns : {g : Graph} {r : ℕ} {w w′ : List ℕ} → Concerns g r w w′ → Within g r w w′
+within-concerns c =
+    record {
+      later = c .later;
+      others = c .others;
+      same-kinds = λ q h. c .same-kinds q;
+      same-starts = λ q h. c .same-starts q;
+      same-returned = λ k h. c .same-head k;
+    }
+
+-- A region that is not Ready shows nothing of its own.
+pub within-states : {g : Graph} {r : ℕ} {w w′ : List ℕ} → Within g r w w′ → length (g .regions) ≤ 32 → (word w kinds r ≡ 2 → ⊥)
+    → StatesStay g w w′
+within-states {w} c few d =
+    record {
+      same-kinds = c .same-kinds;
+      same-starts = c .same-starts;
+      same-returned = c .same-returned;
+      ready-kept = λ q h e. c .others q (omega arith) (λ z. d (ap (λ p. word w kinds p) (sym z) ∙ e));
+    }
+
+pub concerns-states : {g : Graph} {r : ℕ} {w w′ : List ℕ} → Concerns g r w w′ → length (g .regions) ≤ 32
+    → (word w kinds r ≡ 2 → ⊥) → StatesStay g w w′
+concerns-states c few d = within-states (within-concerns c) few d
