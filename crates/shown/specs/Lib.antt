@@ -10,3 +10,5 @@ pub mod Sets
 pub mod Cells
 pub mod States
 pub mod Kept
+pub mod SetStores
+pub mod SetSteps
