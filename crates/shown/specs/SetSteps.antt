@@ -10,20 +10,20 @@ use lib.ListN.{length, getD, take, drop, length-append, length-drop, List·getD-
 use lib.Seq.{length-take-le, getD-take, getD-drop, getD-append-add}
 use lib.Dec.{eqb, ltb}
 use borrow.Author.Tests.{lt-ltb, le-ltb, eq-eqb, ne-eqb, eqb-true}
-use Rattle.meaning.specs.Graph.{Graph}
+use Rattle.meaning.specs.Graph.{Graph, Value, undef}
 use Rattle.meaning.specs.Lists.{pick}
 use Rattle.meaning.specs.facts.Tests.{clash, eqb-sym}
 use Rattle.nesting.specs.Nesting.{DeferredTarget, to-region, to-return, DeferredEdgeBundle, DeferredEdgeBundleSet, same-target}
-use Rattle.nesting.specs.Nesting.{condition-in, get-edge-bundle-by-target, split-out-target}
-use Rattle.state.specs.Sections.{used, word, stored, set-starts, set-lengths, bundles}
+use Rattle.nesting.specs.Nesting.{LazyCond, edge-bundle, condition-in, get-edge-bundle-by-target, split-out-target}
+use Rattle.state.specs.Sections.{used, word, stored, stored-all, set-starts, set-lengths, bundles}
 use Rattle.state.specs.Tables.{bundle-at, bundle-words, find-by, copied, swap-removed, shifted, shift-removed, swapped}
 use Rattle.shown.specs.Tables.{ShowsCondition, shows-true}
-use Rattle.shown.specs.Sets.{ShowsTarget, shows-region, shows-return, ShowsBundle, ShowsSet, SameBundle, no-bundle}
+use Rattle.shown.specs.Sets.{Names, target-size, ShowsTarget, shows-region, shows-return, ShowsBundle, ShowsSet, SameBundle, no-bundle}
 use Rattle.shown.specs.States.{ShowsOwnSet, Slots}
 use Rattle.shown.specs.Kept.{Later, KeptRegion, same-bundle, same-bundle-then}
 use Rattle.shown.specs.SetStores.{OnlySets, only-same, only-word, only-run, only-then, only-later, only-kept, starts-of-sets}
 use Rattle.shown.specs.SetStores.{lengths-of-sets, bundles-of-sets, word-stored, word-beside, word-other, run-elsewhere-word, Moves}
-use Rattle.shown.specs.SetStores.{moves-then, same-moves, same-elsewhere, copy-moves, copy-beside}
+use Rattle.shown.specs.SetStores.{moves-then, same-moves, same-elsewhere, bundle-stored, copy-moves, copy-beside}
 
 pub bundle-in : (start i : ℕ) → start < 1097 → i < 33 → bundle-at start i ≡ start + i
 unfolding bundle-at
@@ -488,3 +488,23 @@ condition-shown {n} {d} x i h =
       | yes e ↦ rw (eq-eqb n 1 e, eq-eqb (length d) 1 (omega arith)) record { tree = shows-true refl; made = omega arith }
       | no e ↦ rw (ne-eqb n 1 e, ne-eqb (length d) 1 (omega arith)) (x .each i h .condition)
     ]
+
+-- ---- A bundle stored whole: target, count, condition and four words, of which the first are its inputs.
+pub bundle-made : {g : Graph} (w : List ℕ) (p : ℕ) {t n c : ℕ} (ws : List ℕ) {x : DeferredTarget} {vs : List Value} {y : LazyCond}
+    → used ≤ length w → p < 1097 → length ws ≡ 4 → ShowsTarget g t x → ShowsCondition w c y → length vs ≡ target-size g x → length vs ≤ 4
+    → ((k : ℕ) → k < length vs → Names (getD ws k 0) (getD vs k (undef 0)))
+    → ShowsBundle g (stored-all w bundles (7 * p) (t ∷ n ∷ c ∷ ws)) p (edge-bundle x n vs y)
+bundle-made {g} w p {t} {n} {c} ws room h four target condition size few names =
+    let xs = t ∷ n ∷ c ∷ ws in
+    let seven : length xs ≡ 7 = ap (λ m. suc (suc (suc m))) four in
+    let at : (i : ℕ) → i < 7 → word (stored-all w bundles (7 * p) xs) bundles (7 * p + i) ≡ getD xs i 0 =
+        λ i k. bundle-stored w p xs seven room h i k in
+    let later = only-later (only-run w bundles-of-sets (7 * p) xs) g in
+    record {
+      target = rw (at 0 (omega arith)) target;
+      count = at 1 (omega arith);
+      condition = rw (at 2 (omega arith)) (later .conditions-stay condition);
+      size = size;
+      few = few;
+      inputs = λ k j. let e : 3 + k ≡ suc (suc (suc k)) = omega arith in rw (at (3 + k) (omega arith), e) (names k j);
+    }
