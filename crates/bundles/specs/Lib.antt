@@ -1,3 +1,4 @@
 pub mod Words
 pub mod Paths
 pub mod RecordValues
+pub mod Deferred
