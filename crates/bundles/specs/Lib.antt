@@ -2,3 +2,4 @@ pub mod Words
 pub mod Paths
 pub mod RecordValues
 pub mod Deferred
+pub mod CaseSteps
