@@ -126,7 +126,7 @@ pub record CaseShown (g : Graph) (w : List ℕ) (r j : ℕ) (c : MaybeClaimedReg
   pub case : ShowsCase g w r j c
   pub set : ShowsSet g w (word w cases (10 * j + 4)) (word w cases (10 * j + 5)) (deferred-of c)
 
-other-row : {w w′ : List ℕ} {j : ℕ} → OneCase w w′ j → (q : ℕ) → (q ≡ j → ⊥) → (k : ℕ) → k < 10
+pub other-row : {w w′ : List ℕ} {j : ℕ} → OneCase w w′ j → (q : ℕ) → (q ≡ j → ⊥) → (k : ℕ) → k < 10
     → word w′ cases (10 * q + k) ≡ word w cases (10 * q + k)
 other-row {j} one q d k h = one .rows (10 * q + k) (λ a b. let e : q ≡ j = omega arith in d e)
 
@@ -158,7 +158,7 @@ module _ {g : Graph} {w w′ : List ℕ} {j : ℕ} (one : OneCase w w′ j) {r q
       apart (nowhere e) i k z = omega arith
 
 -- ---- Rows by kind.
-row-word : (w : List ℕ) → used ≤ length w → (j : ℕ) → j < 8 → (xs : List ℕ) → length xs ≤ 10 → (k : ℕ) → k < length xs
+pub row-word : (w : List ℕ) → used ≤ length w → (j : ℕ) → j < 8 → (xs : List ℕ) → length xs ≤ 10 → (k : ℕ) → k < length xs
     → word (stored-all w cases (10 * j) xs) cases (10 * j + k) ≡ getD xs k 0
 row-word w room j below xs few k h = run-word w cases (10 * j) xs (omega arith) (omega arith) k h
 

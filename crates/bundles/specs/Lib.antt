@@ -3,3 +3,4 @@ pub mod Paths
 pub mod RecordValues
 pub mod Deferred
 pub mod CaseSteps
+pub mod CasesFilled

@@ -9,7 +9,7 @@ use lib.ListN.{length, getD, length-append, List·getD-eq-default}
 use lib.Dec.{eqb, ltb}
 use borrow.Author.Tests.{lt-ltb, le-ltb, eqb-true, ltb-true}
 use Rattle.meaning.specs.Graph.{Value, const, input, instr, output, bool, undef, held, no-value, Instr, ControlInst, unreachable, return}
-use Rattle.meaning.specs.Graph.{exit-invocation, branch, select-branch, Graph, region, edges-of, no-edge}
+use Rattle.meaning.specs.Graph.{bool-cond, number, exit-invocation, branch, select-branch, Graph, region, edges-of, no-edge}
 use Rattle.meaning.specs.Lists.{All, Within, concat}
 use Rattle.meaning.specs.facts.Elements.{all-at, getD-within, all-map}
 use Rattle.meaning.specs.facts.Tests.{picked-positive, and-both}
@@ -115,6 +115,18 @@ module _ {g : Graph} (valid : Valid g) {r : ℕ} (here : r < length (g .regions)
       go (branch e) y zero h = y
       go (branch e) y (suc j) h = absurd (omega arith)
       go (select-branch k v es) y j h = all-at (ValidEdge g r) no-edge es (y .2) j h
+
+-- A terminator has eight edges at most.
+pub few-edges : {g : Graph} → Valid g → {r : ℕ} → r < length (g .regions) → length (edges-of (region g r .terminator)) ≤ 8
+few-edges {g} valid {r} here = go (region g r .terminator) (valid .regions r here .terminator)
+  where
+    go : (x : ControlInst) → ValidEnd g r x → length (edges-of x) ≤ 8
+    go unreachable y = omega arith
+    go (return vs) y = omega arith
+    go (exit-invocation op vs) y = omega arith
+    go (branch e) y = omega arith
+    go (select-branch bool-cond v es) y = let z = y .1 .1 in omega arith
+    go (select-branch number v es) y = let z = y .1 .1 in omega arith
 
 pub passed-length : (g : Graph) (r : ℕ) (ts : List ℕ) (vs : List Value) → Passed g r ts vs → length vs ≡ length ts
 passed-length g r [] [] p = refl
