@@ -1,2 +1,6 @@
 pub mod Words
 pub mod Paths
+pub mod RecordValues
+pub mod Deferred
+pub mod CaseSteps
+pub mod CasesFilled
