@@ -155,10 +155,12 @@ module _ (g : Graph) (valid : Valid g) where
             few = rw same few;
             inputs = λ k h. let e : 0 + k ≡ k = omega arith in rw e at (row-is .named k (rw same at h));
           };
-          others = λ q d. record { words = λ i h. elim (decLt p q) [
-            | yes b ↦ row-is .behind (7 * q + i) (omega arith)
-            | no b ↦ row-is .before (7 * q + i) (omega arith)
-          ] };
+          others = λ q d. record {
+            words = λ i h. elim (decLt p q) [
+              | yes b ↦ row-is .behind (7 * q + i) (omega arith)
+              | no b ↦ row-is .before (7 * q + i) (omega arith)
+            ];
+          };
           tables = rw (or-false (met-twice s vs)) (row-is .tables);
         })
 
@@ -332,10 +334,10 @@ module _ (g : Graph) (valid : Valid g) where
           elim (decLt k (length us)) [
             | yes d ↦ (let e : 0 + k ≡ k = omega arith in rw e at (given-is .named k d))
             | no d ↦ rw (
-                given-is .behind (10 * j + (6 + k)) (omega arith),
-                List·getD-eq-default (looked-up s us) (undef 0) {n = k} (omega arith),
-                ← List·getD-eq-default us (undef 0) {n = k} (omega arith),
-              ) (inputs k h)
+              given-is .behind (10 * j + (6 + k)) (omega arith),
+              List·getD-eq-default (looked-up s us) (undef 0) {n = k} (omega arith),
+              ← List·getD-eq-default us (undef 0) {n = k} (omega arith),
+            ) (inputs k h)
           ]
 
     given-rewritten : {c : MaybeClaimedRegion} → ShowsCase g l r j c → GivenShown s l (rewrite-given g l j) r j c
@@ -399,8 +401,10 @@ module _ (g : Graph) (valid : Valid g) where
       let n = word m cases (10 * j + 5) in
       let old-set : ShowsSet g m start n (deferred-of c) =
       rw (st .case-fields j 4 (omega arith), st .case-fields j 5 (omega arith))
-      (set-stays (stays-later g st) (λ i h. record { words = λ q b. ap (λ z. getD z (7 * (word l cases (10 * j + 4) + i) + q) 0)
-      (given .same-bundles) }) y) in
+      (set-stays (stays-later g st) (λ i h. record {
+        words = λ q b. ap (λ z. getD z (7 * (word l cases (10 * j + 4) + i) + q) 0)
+            (given .same-bundles);
+      }) y) in
       let set = set-rewritten (with-twice (given-note s c) s) all m (given .tables) (names-stay st names) (returned-stays st back)
       start n old-set in
       let l′ = rewrite-set g m start n in
@@ -485,8 +489,14 @@ module _ (g : Graph) (valid : Valid g) where
       (each (suc k) (omega arith))))
       (λ k h. rw (next k) (moved-set st (j + suc k) (λ i d. one .outside (word l cases (10 * (j + suc k) + 4) + i)
       (λ p x e. first-apart k p i h x d (sym e))) (sets (suc k) (omega arith))))
-      (λ a b p q h d. rw (next a, next b, st .case-fields (j + suc a) 5 (omega arith), st .case-fields (j + suc b) 5 (omega arith),
-      st .case-fields (j + suc a) 4 (omega arith), st .case-fields (j + suc b) 4 (omega arith))
+      (λ a b p q h d. rw (
+        next a,
+        next b,
+        st .case-fields (j + suc a) 5 (omega arith),
+        st .case-fields (j + suc b) 5 (omega arith),
+        st .case-fields (j + suc a) 4 (omega arith),
+        st .case-fields (j + suc b) 4 (omega arith),
+      )
       (apart (suc a) (suc b) p q (omega arith) (omega arith))) in
       let l′ = turned case-step l₁ (length cs) (suc j) in
       let length-of : (k : ℕ) → word l₁ cases (10 * k + 5) ≡ word l cases (10 * k + 5) = λ k. st .case-fields k 5 (omega arith) in
@@ -551,9 +561,8 @@ module _ (g : Graph) (valid : Valid g) (w : List ℕ) (r : ℕ) (s : NestState) 
   pub case-apart : (q : ℕ) → q < 33 → (r < 33) → (q ≡ r → ⊥) → (j : ℕ) → j < length cs
       → (word w cases (10 * j + 0) ≡ 2 → q ≡ word w cases (10 * j + 1) → ⊥)
       → (i p : ℕ) → i < 33 → p < word w cases (10 * j + 5) → word w set-starts q + i ≡ word w cases (10 * j + 4) + p → ⊥
-  case-apart q a b d j h f i p y z e =
-      let few = x .sets j h .few in
-      go (x .each j h)
+  case-apart q a b d j h f i p y z e = go (x .each j h)
+    where
       go : {c : MaybeClaimedRegion} → ShowsCase g w r j c → ⊥
       go (shows-ok {c} kind origin in-graph body lower nodes start size inputs) =
           let few = x .sets j h .few in
@@ -587,11 +596,14 @@ module _ (g : Graph) (valid : Valid g) (w : List ℕ) (r : ℕ) (s : NestState) 
       where
         later : Later g w (rewrite-cases g w)
         later = stays-later g (whole .stays)
+
         same : (k : Section) → (number k ≡ 10 → ⊥) → (number k ≡ 15 → ⊥) → (number k ≡ 1 → ⊥)
             → word (rewrite-cases g w) k q ≡ word w k q
         same k a b c = ap (λ z. getD z q 0) (whole .stays .others k a b c)
+
         kind : word (rewrite-cases g w) kinds q ≡ word w kinds q
         kind = same kinds (omega arith) (omega arith) (omega arith)
+
         go : {y : StructurizeRegionState} → ShowsRegion g w q y → ShowsRegion g (rewrite-cases g w) q y
         go (is-not-begun a) = is-not-begun (kind ∙ a)
         go (is-in-progress a) = is-in-progress (kind ∙ a)
