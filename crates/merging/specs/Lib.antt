@@ -3,3 +3,5 @@ pub mod Bundles
 pub mod Rewriting
 pub mod Targets
 pub mod Planning
+pub mod Rows
+pub mod RewritingShown
