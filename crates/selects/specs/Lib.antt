@@ -9,3 +9,4 @@ pub mod CasesShown
 pub mod RegionsShown
 pub mod StepsShown
 pub mod SelectsShown
+pub mod Emitting
