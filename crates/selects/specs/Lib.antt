@@ -10,3 +10,5 @@ pub mod RegionsShown
 pub mod StepsShown
 pub mod SelectsShown
 pub mod Emitting
+pub mod PerCase
+pub mod EmitsShown

@@ -33,6 +33,19 @@ pub data ShowsMade {A : Type 0} (R : A → NestState → Type 0) : Made → Step
   shows-made : {a : A} {s : NestState} → R a s → ShowsMade R Done (done a s)
   shows-refused : ShowsMade R Full (turned-away 9 0)
 
+-- Taken apart by what the code answered.
+pub record MadeDone {A : Type 0} (R : A → NestState → Type 0) (b : StepAnswer A) : Type 0 where
+  pub value : A
+  pub state : NestState
+  pub is : b ≡ done value state
+  pub shows : R value state
+
+pub made-of : {A : Type 0} {R : A → NestState → Type 0} {b : StepAnswer A} → ShowsMade R Done b → MadeDone R b
+made-of (shows-made {a} {s} r) = record { value = a; state = s; is = refl; shows = r }
+
+pub refused-of : {A : Type 0} {R : A → NestState → Type 0} {b : StepAnswer A} → ShowsMade R Full b → b ≡ turned-away 9 0
+refused-of shows-refused = refl
+
 -- ---- What stays of the cases: all words but the bodies of those that are not claimed, and those before place j.
 pub record KeepsCases (j : ℕ) (w w′ : List ℕ) : Type 0 where
   pub changes : ChangesOnly cases 0 w w′

@@ -29,7 +29,7 @@ use Rattle.shown.specs.CellSteps.{cell-handle, cell-tables}
 use Rattle.shown.specs.RegionSteps.{later-by, word-concerns, children-set, tables-by}
 use Rattle.lookups.specs.ConditionsShown.{ShowsValue, materialize-shown}
 use Rattle.selects.specs.declared.made.Made.{Made}
-use Rattle.selects.specs.declared.made.Made.the-variants.{Done, Full as MadeFull}
+use Rattle.selects.specs.declared.made.Made.the-variants.{Done}
 use Rattle.selects.specs.declared.define.Scrutinee.{Scrutinee}
 use Rattle.selects.specs.declared.define.Scrutinee.the-variants.{Value, Lazy}
 use Rattle.selects.specs.Turns.{Turns}
@@ -38,7 +38,7 @@ use Rattle.selects.specs.CasesShown.{children-in, children-shown}
 use Rattle.selects.specs.Selects as words
 use Rattle.selects.specs.Selects.{CaseCells, cells-over, cell-more}
 use Rattle.selects.specs.RegionsShown.{cases-from, count-from, body-at, KeepsCases, regions-keep, ShowsKind, kind-shown, RegionsDone}
-use Rattle.selects.specs.RegionsShown.{ShowsMade, shows-made, shows-refused, regions-shown}
+use Rattle.selects.specs.RegionsShown.{ShowsMade, made-of, refused-of, regions-shown}
 use Rattle.selects.specs.Places.{from-start}
 use Rattle.selects.specs.StepsShown.{SelectStep, step-then, step-by, step-regions, step-children, cases-stay}
 
@@ -190,17 +190,16 @@ module _ {g : Graph} {r : ℕ} {cs : List MaybeClaimedRegion} {parent : Nodes} {
       regions-shown cs 0 (shown .size) (from-start no-case (ShowsKind w) cs (λ j h. kind-shown (shown .each j h))) t (omega arith) m
 
   with-regions : {l : List ℕ} → Turns CaseRegion (case-total w) 0 w l Done → WithRegions l
-  with-regions {l} m = go (regions-answer m) refl
-    where
-      go : {b : StepAnswer Cases} → ShowsMade (RegionsDone 0 cs l) Done b → case-regions cs s ≡ b → WithRegions l
-      go (shows-made {a} {s = s₁} p) e =
-          record { made = a; state = s₁; is = e; cases-are = p .0; tables = p .1; keeps = regions-keep m }
-
-  no-regions : {l : List ℕ} → Turns CaseRegion (case-total w) 0 w l MadeFull → case-regions cs s ≡ turned-away 9 0
-  no-regions {l} m = go (regions-answer m)
-    where
-      go : {b : StepAnswer Cases} → ShowsMade (RegionsDone 0 cs l) MadeFull b → b ≡ turned-away 9 0
-      go shows-refused = refl
+  with-regions m =
+      let x = made-of (regions-answer m) in
+      record {
+        made = x .value;
+        state = x .state;
+        is = x .is;
+        cases-are = x .shows .0;
+        tables = x .shows .1;
+        keeps = regions-keep m;
+      }
 
   scrutinee-after : {l l′ : List ℕ} {a : Defined} (z : WithRegions l) → words.ScrutineeMade l x l′ a
       → ShowsValue l l′ a (scrutinee-value y (z .state))
@@ -236,7 +235,7 @@ module _ {g : Graph} {r : ℕ} {cs : List MaybeClaimedRegion} {parent : Nodes} {
   pub select-shown : {w′ : List ℕ} {a : Defined} → words.SelectDefined r shape x w w′ a
       → ShowsSelect g r cs parent w w′ a (define-select kind y cs s)
   unfolding define-select
-  select-shown (words.regions-full m) = rw (no-regions m) shows-no-select
+  select-shown (words.regions-full m) = rw (refused-of (regions-answer m)) shows-no-select
   select-shown (words.scrutinee-full m v) =
       let z = with-regions m in
       let q = scrutinee-after z v in
