@@ -12,3 +12,4 @@ pub mod SelectsShown
 pub mod Emitting
 pub mod PerCase
 pub mod EmitsShown
+pub mod SetsEmitted
