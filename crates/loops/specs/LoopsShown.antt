@@ -96,12 +96,12 @@ inputs-entered g {r} {wrapper} {n} {h} {l} {vs} {l′} {vals} {s} t named all si
     }
 
 -- ---- The repeat value, the node, and the loop's cell in the place of region r's children.
-defines-changes : {i limit : ℕ} {l l′ : List ℕ} {a : Defined} → Defines i limit l l′ a → ChangesOnly head i l l′
+pub defines-changes : {i limit : ℕ} {l l′ : List ℕ} {a : Defined} → Defines i limit l l′ a → ChangesOnly head i l l′
 defines-changes {i} {l} (defined {n} p h e) = rw e (head-changes head i l (n + 1))
 defines-changes {i} {l} (full h e) = rw e (nothing-changes head i l)
 
 -- Region r's own set stays, where another of its words is stored.
-set-beside : (g : Graph) (w : List ℕ) (k : Section) → OfOneRegion k → (5 ≡ number k → ⊥) → (r x : ℕ) {d : DeferredEdgeBundleSet}
+pub set-beside : (g : Graph) (w : List ℕ) (k : Section) → OfOneRegion k → (5 ≡ number k → ⊥) → (r x : ℕ) {d : DeferredEdgeBundleSet}
     → ShowsOwnSet g w r d
     → ShowsOwnSet g (stored w k r x) r d
 set-beside g w k o five r x s =
@@ -116,6 +116,7 @@ pub record LoopWithin (g : Graph) (r : ℕ) (l l′ : List ℕ) : Type 0 where
   pub within : Within g r l l′
   pub own-set : {d : DeferredEdgeBundleSet} → ShowsOwnSet g l r d → ShowsOwnSet g l′ r d
   pub named : NamedRewrites l → NamedRewrites l′
+  pub total-from : word l head 4 ≤ word l′ head 4
   pub total-to : word l′ head 4 ≤ suc (word l head 4)
 
 -- What the code answers, and the definition, for whatever is given with the value and the node.
@@ -135,6 +136,7 @@ aside-within r a e f =
       within = within-aside r a;
       own-set = λ s. own-set-stays (a .later) (a .regions r) s;
       named = λ n. named-by e n;
+      total-from = omega arith;
       total-to = omega arith;
     }
 
@@ -142,10 +144,12 @@ loop-within-then : {g : Graph} {r : ℕ} {l l₁ l₂ : List ℕ} → LoopWithin
     → LoopWithin g r l l₂
 loop-within-then a e b =
     let z = b .total-to in
+    let y = b .total-from in
     record {
       within = within-then (a .within) (b .within);
       own-set = λ s. b .own-set (a .own-set s);
       named = λ n. b .named (a .named n);
+      total-from = omega arith;
       total-to = omega arith;
     }
 
@@ -168,6 +172,7 @@ module _ {g : Graph} {r n x kept : ℕ} {l l′ : List ℕ} {y : LoopInputs} {ks
           within = within-then (within-aside r aside) (within-concerns c);
           own-set = λ s. set-beside g l₁ children (omega arith) (omega arith) r h (own-set-stays (aside .later) (aside .regions r) s);
           named = λ q. named-stay (c .tables) (named-stay tables q);
+          total-from = omega arith;
           total-to = omega arith;
         },
         same-then tables (c .tables),
