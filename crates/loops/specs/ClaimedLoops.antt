@@ -1,37 +1,41 @@
 -- A claimed region with a back edge, made a loop by the code: the answer and the words show what the definition's structurize-loop gives.
 use mathlib.Core.Path.{_≡_, refl, sym, ap, _∙_, subst}
 use mathlib.Core.Bool.{Bool, true, false}
-use mathlib.Core.List.{List, [], _∷_, map}
-use mathlib.Core.Option.{Option, none, some}
+use mathlib.Core.List.{List, [], _∷_}
+use mathlib.Core.Option.{Option, some}
 use Prim.Native.Nat.{ℕ, zero, suc, _+_, _*_, _-_, _≤_, _<_}
 use native.Mathlib.Omega.{arith}
 use native.Mathlib.Decide.{ℕ-discrete}
 use lib.ListN.{length, getD}
-use lib.Dec.{ltb, eqb}
-use borrow.Author.Tests.{lt-ltb, eq-eqb, ne-eqb}
+use lib.Dec.{ltb}
+use borrow.Author.Tests.{eq-eqb, ne-eqb}
 use Rattle.meaning.specs.Graph.{Value, Graph, region, undef}
 use Rattle.meaning.specs.Runs.{Nodes, ⟨⟩, _▸_, loop}
 use Rattle.meaning.specs.Lists.{All, is-in, pick}
 use Rattle.meaning.specs.facts.Elements.{all-at, all-take, all-getD}
 use Rattle.meaning.specs.facts.Tests.{clash}
 use Rattle.nesting.specs.Nesting as nesting
-use Rattle.nesting.specs.Nesting.{DeferredEdgeBundle, DeferredEdgeBundleSet, DeferredTarget, to-region, same-target, fill-gap, split-out-target}
-use Rattle.nesting.specs.Nesting.{LazyCond, true-cond, NestState, StepAnswer, done, turned-away, define-region, rewrite-values}
+use Rattle.nesting.specs.Nesting.{DeferredEdgeBundle, DeferredEdgeBundleSet, DeferredTarget, to-region, same-target, fill-gap}
+use Rattle.nesting.specs.Nesting.{split-out-target, LazyCond, NestState, StepAnswer, done, turned-away, define-region, rewrite-values}
 use Rattle.nesting.specs.Nesting.{ClaimedRegion, LoopInputs, no-inputs, take-inputs, loop-node, structurize-loop, most-regions}
 use Rattle.nesting.specs.steps.Keeps.{loop-claimed, claim-body-keeps}
 use Rattle.nesting.specs.steps.Post.{Post}
 use Rattle.nesting.specs.steps.StatesKept.{Still, still-steady, still-log}
 use Rattle.nesting.specs.lookups.ChainEnds.{ChainsEnd}
+use Rattle.record.specs.Stands.{OfRecord}
 use Rattle.state.specs.declared.defined.Defined.{Defined}
 use Rattle.state.specs.declared.defined.Defined.the-variants.{Number, Full}
-use Rattle.state.specs.Sections.{used, section, word, stored, head, kinds, children, bodies, bundles, rewrites, set-starts, set-lengths}
+use Rattle.state.specs.Sections.{Section, number, used, word, stored, head, kinds, children, bodies, bundles, rewrites, set-starts}
+use Rattle.state.specs.Sections.{set-lengths}
+use Rattle.state.specs.Apart.{section-other}
 use Rattle.state.specs.Tables.{Defines, defined, full, bundle-at, bundle-words, copied, swap-removed, input-word}
 use Rattle.shown.specs.Values.{value}
+use Rattle.shown.specs.Stores.{run-other}
 use Rattle.shown.specs.Tables.{ShowsCondition, shows-true, ShowsTables, Done as Defines-done, done-of, full-of}
 use Rattle.shown.specs.Steps.{region-defined}
 use Rattle.shown.specs.Elsewhere.{tables-stay}
 use Rattle.shown.specs.Front.{stands-on}
-use Rattle.shown.specs.Sets.{ShowsBundle, ShowsSet, no-bundle, target-size}
+use Rattle.shown.specs.Sets.{ShowsBundle, no-bundle, target-size}
 use Rattle.shown.specs.Cells.{ShowsChildren}
 use Rattle.shown.specs.States.{ShowsOwnSet, Slots, NamedRewrites, ShowsState, ShowsClaimed}
 use Rattle.shown.specs.Kept.{own-set-stays, children-stay}
@@ -62,6 +66,17 @@ removed-concerns g w r i p slots a b e =
           (word-concerns g (copied w p last) set-lengths (omega arith) r (n - 1)))
     ]
 
+removed-children : (w : List ℕ) (r p : ℕ) → word (swap-removed w r p) children r ≡ word w children r
+unfolding swap-removed
+removed-children w r p =
+    let n = word w set-lengths r in
+    let last = bundle-at (word w set-starts r) (n - 1) in
+    elim (ℕ-discrete n 0) [
+      | yes f ↦ rw (eq-eqb n 0 f)
+      | no f ↦ rw (ne-eqb n 0 f) (ap (λ l. getD l r 0) (section-other (copied w p last) set-lengths r (n - 1) children (omega arith)
+          ∙ run-other w bundles (7 * p) (bundle-words w last) children (omega arith)))
+    ]
+
 -- ---- What is left of a set has no other bundles.
 module _ (P : DeferredEdgeBundle → Type 0) where
   all-fill : (es : DeferredEdgeBundleSet) → All P es → All P (fill-gap es)
@@ -77,8 +92,8 @@ module _ (P : DeferredEdgeBundle → Type 0) where
       go false rest = (a .0, rest)
 
 -- ---- The condition of the back edge in its set, and the values that it passes.
-condition-shown : {g : Graph} {w : List ℕ} {p n : ℕ} (d : DeferredEdgeBundleSet) {e : DeferredEdgeBundle} → n ≡ length d → ShowsBundle g w p e
-    → ShowsCondition w (condition-in w p n) (nesting.condition-in d e)
+condition-shown : {g : Graph} {w : List ℕ} {p n : ℕ} (d : DeferredEdgeBundleSet) {e : DeferredEdgeBundle} → n ≡ length d
+    → ShowsBundle g w p e → ShowsCondition w (condition-in w p n) (nesting.condition-in d e)
 unfolding condition-in
 condition-shown {w} {p} {n} d {e} size x =
     elim (ℕ-discrete n 1) [
@@ -128,15 +143,16 @@ pub data ShowsLoop (g : Graph) (w : List ℕ) (r : ℕ) (inputs : List Value) (s
       → c .origin ≡ r → c .structured-body-inputs ≡ inputs → ShowsLoop g w r inputs s Done (done (some c) s′)
   loop-refused : ShowsLoop g w r inputs s Refused (turned-away 9 0)
 
-pub record LoopShown (g : Graph) (r : ℕ) (inputs : List Value) (w w′ : List ℕ) (s : NestState) (a : Made) (b : StepAnswer (Option ClaimedRegion))
-    : Type 0 where
+pub record LoopShown (g : Graph) (r : ℕ) (inputs : List Value) (w w′ : List ℕ) (s : NestState) (a : Made)
+    (b : StepAnswer (Option ClaimedRegion)) : Type 0 where
   pub answer : ShowsLoop g w′ r inputs s a b
   pub within : Within g r w w′
   pub total-from : word w head 4 ≤ word w′ head 4
   pub total-to : word w′ head 4 ≤ word w head 4 + 5
 
 -- A made loop taken apart by what the code answered.
-record MadeDone {A : Type 0} (F : Value → ℕ → A) (g : Graph) (r : ℕ) (l : List ℕ) (y : LoopInputs) (ks : Nodes) (b : StepAnswer A) : Type 0 where
+record MadeDone {A : Type 0} (F : Value → ℕ → A) (g : Graph) (r : ℕ) (l : List ℕ) (y : LoopInputs) (ks : Nodes) (b : StepAnswer A)
+    : Type 0 where
   v : Value
   n : ℕ
   state : NestState
@@ -155,8 +171,8 @@ refused-of (made-done t k) e = absurd (clash (cc))
 refused-of made-refused e = refl
 
 -- Region r is claimed, with these children and this set, and its set has the back edge e at place i, bundle p.
-pub record ClaimedLoop (g : Graph) (w : List ℕ) (s : NestState) (r p i : ℕ) (ks : Nodes) (d : DeferredEdgeBundleSet) (e : DeferredEdgeBundle)
-    (inputs : List Value) : Type 0 where
+pub record ClaimedLoop (g : Graph) (w : List ℕ) (s : NestState) (r p i : ℕ) (ks : Nodes) (d : DeferredEdgeBundleSet)
+    (e : DeferredEdgeBundle) (inputs : List Value) : Type 0 where
   pub few : length (g .regions) ≤ 32
   pub shown : ShowsState g w s
   pub in-graph : r < length (g .regions)
@@ -252,7 +268,8 @@ module _ {g : Graph} {w : List ℕ} {s : NestState} {r p i : ℕ} {ks : Nodes} {
     total₁ = defines-changes wraps .totals 4 (omega arith) ∙ concerns₀ .same-head 4
 
     named₁ : NamedRewrites l₁
-    named₁ = named-by (defines-changes wraps .others rewrites (omega arith) (omega arith)) (named-stay (concerns₀ .tables) (x .shown .named))
+    named₁ = named-by (defines-changes wraps .others rewrites (omega arith) (omega arith))
+        (named-stay (concerns₀ .tables) (x .shown .named))
 
     entered : InputsEntered g r wrapper l₁ l₂ h (e .target-inputs) (region₁ .state)
     entered =
@@ -271,3 +288,146 @@ module _ {g : Graph} {w : List ℕ} {s : NestState} {r p i : ℕ} {ks : Nodes} {
 
     abbrev F : Value → ℕ → Option ClaimedRegion
     F v m = some (loop-claimed g r ks exits inputs wrapper (entered .values) v m)
+
+    made : LoopWithin g r l₂ l₃ × ShowsMade F g r l₃ (take-inputs g r wrapper 0 (entered .values) no-inputs) ks a
+        (loop-step repeat F (entered-state g r wrapper (entered .values) (entered .between)))
+    made =
+        let below = x .in-graph in
+        let few = x .few in
+        let free = x .free in
+        let total = total₁ in
+        let to = entered .total-to in
+        loop-made-shown F g (entered .tables) (within₂ .later .conditions-stay (condition-shown d (x .set .size) bundle))
+        nodes₂ (entered .kept) (omega arith) (omega arith) make
+      where
+        nodes₂ : ShowsChildren g l₂ (word l₂ children r) ks
+        nodes₂ =
+            let region-kept = aside-by (defines-changes wraps) (omega arith) (omega arith) (omega arith) (omega arith) g in
+            children-stay (entered .aside .later) (entered .aside .regions r)
+            (children-stay (region-kept .later) (region-kept .regions r) nodes₀)
+          where
+            nodes₀ : ShowsChildren g w₀ (word w₀ children r) ks
+            nodes₀ = rw (removed-children w r p) (concerns₀ .later .nodes-stay (x .nodes))
+
+    gives-so : gives ≡ loop-step repeat F (entered-state g r wrapper (entered .values) (entered .between))
+    gives-so = loop-steps g r ks e repeat exits inputs s is₁ (entered .looked-up)
+
+    within₃ : Within g r w l₃
+    within₃ = within-then within₂ (made .0 .within)
+
+    total-from₃ : word w head 4 ≤ word l₃ head 4
+    total-from₃ = let a = total₁ in let b = entered .total-from in let c = made .0 .total-from in omega arith
+
+    total-to₃ : word l₃ head 4 ≤ word w head 4 + 5
+    total-to₃ = let a = total₁ in let b = entered .total-to in let c = made .0 .total-to in omega arith
+
+    refused-loop : a ≡ Refused → LoopShown g r inputs w l₃ s Refused gives
+    refused-loop refused =
+        record {
+          answer = rw (gives-so, refused-of (made .1) refused) loop-refused;
+          within = within₃;
+          total-from = total-from₃;
+          total-to = total-to₃;
+        }
+
+    -- The wrapper entered as the structured body, and ONE for each exit.
+    module _ (is-done : a ≡ Done) {w′ : List ℕ} (count-exits : OfRecord (stored l₃ bodies r wrapper)
+        (λ z. w′ ≡ exits-added z r (stored l₃ bodies r wrapper))) where
+      abbrev l₄ : List ℕ
+      l₄ = stored l₃ bodies r wrapper
+
+      loop₃ : MadeDone F g r l₃ (take-inputs g r wrapper 0 (entered .values) no-inputs) ks
+          (loop-step repeat F (entered-state g r wrapper (entered .values) (entered .between)))
+      loop₃ = made-of (made .1) is-done
+
+      body₄ : Concerns g r l₃ l₄
+      body₄ = word-concerns g l₃ bodies (omega arith) r wrapper
+
+      within₄ : Within g r w l₄
+      within₄ = within-then within₃ (within-concerns body₄)
+
+      fits₃ : used ≤ length l₃
+      fits₃ = loop₃ .tables .size
+
+      set₂ : ShowsOwnSet g l₂ r exits
+      set₂ =
+          let kept = aside-by (defines-changes wraps) (omega arith) (omega arith) (omega arith) (omega arith) g in
+          own-set-stays (entered .aside .later) (entered .aside .regions r) (own-set-stays (kept .later) (kept .regions r) (x .removed))
+
+      set₄ : ShowsOwnSet g l₄ r exits
+      set₄ = set-beside g l₃ bodies (omega arith) (omega arith) r wrapper (made .0 .own-set set₂)
+
+      exits₄ : ExitsCounted g r l₄ (exits-added g r l₄) exits
+      exits₄ =
+          let below = x .in-graph in
+          let few = x .few in
+          let words = body₄ .later .front .words in
+          let fits = fits₃ in
+          exits-shown g r l₄ exits (x .not-return) (omega arith) (slots-stay (within₄ .same-starts) (x .shown .slots)) (omega arith) set₄
+          low-exits
+
+      counted : w′ ≡ exits-added g r l₄
+      counted = count-exits g (stands-on (within₄ .later .front) (x .shown .stands))
+
+      within₅ : Within g r w (exits-added g r l₄)
+      within₅ = within-then within₄ (within-concerns (exits₄ .concerns))
+
+      abbrev claims : ClaimedRegion
+      claims = loop-claimed g r ks exits inputs wrapper (entered .values) (loop₃ .v) (loop₃ .n)
+
+      gives-done : gives ≡ done (some claims) (loop₃ .state)
+      gives-done = gives-so ∙ loop₃ .is
+
+      same-states : loop₃ .state .region-states ≡ s .region-states
+      same-states =
+          let kept : Post (λ m n. Unit) (λ o t. Still s t) gives =
+          claim-body-keeps still-steady (λ m n. Unit) tt still-log g r inputs ks d (some e) s in
+          (rw gives-done at kept) .post .states
+
+      own-word : (k : Section) → (15 ≡ number k → ⊥) → (1 ≡ number k → ⊥) → word (exits-added g r l₄) k r ≡ word l₄ k r
+      own-word k b h = ap (λ l. getD l r 0) (exits₄ .changes .others k (λ z. b (sym z)) (λ z. h (sym z)))
+
+      state₅ : ShowsState g (exits-added g r l₄) (loop₃ .state)
+      state₅ =
+          let three = x .claimed in
+          state-next (within₅ .later) (within-states within₅ (x .few) (omega arith))
+          (tables-stay (exits₄ .concerns .tables) (tables-stay (body₄ .tables) (loop₃ .tables)))
+          (named-stay (exits₄ .concerns .tables) (named-stay (body₄ .tables) (made .0 .named (entered .named)))) same-states (x .shown)
+
+      claimed₅ : ShowsClaimed g (exits-added g r l₄) claims
+      claimed₅ =
+          let below = x .in-graph in
+          let few = x .few in
+          let beside = ap (λ l. getD l r 0) (section-other l₃ bodies r wrapper children (omega arith)) in
+          record {
+            in-graph = x .in-graph;
+            kind = within₅ .same-kinds r below ∙ x .claimed;
+            body = own-word bodies (omega arith) (omega arith) ∙ body-set g l₃ fits₃ r (omega arith) wrapper;
+            body-below = small;
+            nodes = rw (own-word children (omega arith) (omega arith), beside)
+                (exits₄ .concerns .later .nodes-stay (body₄ .later .nodes-stay (loop₃ .nodes)));
+            set = exits₄ .set;
+            size = x .given;
+          }
+
+      looped-shown : LoopShown g r inputs w w′ s Done gives
+      looped-shown =
+          let same = body₄ .same-head 4 in
+          let same₅ = exits₄ .concerns .same-head 4 in
+          let from = total-from₃ in
+          let to = total-to₃ in
+          rw (counted, gives-done)
+          record {
+            answer = shows-loop state₅ same-states claimed₅ refl refl;
+            within = within₅;
+            total-from = omega arith;
+            total-to = omega arith;
+          }
+
+  -- All paths of the code.
+  pub structurize-loop-shown : {w′ : List ℕ} {a : Made} → Structurizes r p w w′ a
+      → LoopShown g r inputs w w′ s a (structurize-loop g r ks e (nesting.condition-in d e) (split-out-target (to-region r) d) inputs s)
+  structurize-loop-shown (no-wrapper wraps) = refused-wrapper wraps
+  structurize-loop-shown (no-loop count wraps enter make) = refused-loop (count g (x .shown .stands)) wraps enter make refl
+  structurize-loop-shown (looped count wraps enter make exit-edges) =
+      looped-shown (count g (x .shown .stands)) wraps enter make refl exit-edges

@@ -11,14 +11,16 @@ use borrow.Author.Tests.{lt-ltb}
 use Rattle.meaning.specs.Graph.{Graph, region}
 use Rattle.meaning.specs.Lists.{pick, is-in}
 use Rattle.meaning.specs.facts.Elements.{getD-map-in}
-use Rattle.nesting.specs.Nesting.{DeferredTarget, to-region, to-return, DeferredEdgeBundle, DeferredEdgeBundleSet, add-exit-edge, exit-targets}
+use Rattle.nesting.specs.Nesting.{DeferredTarget, to-region, to-return, DeferredEdgeBundle, DeferredEdgeBundleSet, add-exit-edge}
+use Rattle.nesting.specs.Nesting.{exit-targets}
 use Rattle.state.specs.Sections.{used, start, size, word, stored, bundles, set-starts, set-lengths}
 use Rattle.state.specs.Tables.{bundle-at}
 use Rattle.shown.specs.Stores.{ChangesOnly, nothing-changes, changes-then}
 use Rattle.shown.specs.Sets.{ShowsTarget, shows-region, shows-return, ShowsBundle, ShowsSet, no-bundle}
 use Rattle.shown.specs.States.{Slots, ShowsOwnSet}
 use Rattle.shown.specs.Kept.{bundle-stays}
-use Rattle.shown.specs.RegionSteps.{slots-stay, word-there, word-apart, later-by, OnlyBundle, bundle-same, bundle-word, bundle-concerns, Concerns, concerns-then}
+use Rattle.shown.specs.RegionSteps.{slots-stay, word-there, word-apart, later-by, OnlyBundle, bundle-same, bundle-word, bundle-concerns}
+use Rattle.shown.specs.RegionSteps.{Concerns, concerns-then}
 use Rattle.loops.specs.Exits.{one-more, exit-added, exits-from, exits-added}
 
 counted : (n : ℕ) → n < 65535 → one-more n ≡ suc n

@@ -1,13 +1,14 @@
 -- A loop made of a claimed region: for every state that the words show, as the definition makes it.
 use mathlib.Core.Path.{_≡_, refl, sym, ap, _∙_, subst}
 use mathlib.Core.List.{List, [], _∷_, _++_}
-use Prim.Native.Nat.{ℕ, suc, _+_, _*_, _≤_, _<_}
+use Prim.Native.Nat.{ℕ, suc, _+_, _≤_, _<_}
 use native.Mathlib.Omega.{arith}
 use lib.ListN.{length, getD, take}
 use lib.Seq.{take-all}
 use Rattle.meaning.specs.Graph.{Value, Graph, undef}
 use Rattle.meaning.specs.Runs.{Nodes, ⟨⟩, _▸_, loop}
-use Rattle.nesting.specs.Nesting.{NestState, RewriteEntry, done, rewrite-values, renumber-to, renumber-or-replace-with, with-tables, take-inputs, no-inputs}
+use Rattle.nesting.specs.Nesting.{NestState, RewriteEntry, done, rewrite-values, renumber-to, renumber-or-replace-with, with-tables}
+use Rattle.nesting.specs.Nesting.{take-inputs, no-inputs}
 use Rattle.nesting.specs.Nesting.{DeferredEdgeBundleSet, LazyCond, StepAnswer, turned-away, Step, _>>=_, give, materialize-lazy-cond}
 use Rattle.nesting.specs.Nesting.{define-node, LoopInputs, loop-node}
 use Rattle.nesting.specs.lookups.ChainEnds.{ChainsEnd}
@@ -38,7 +39,8 @@ use Rattle.loops.specs.InputsShown.{InputsTaken, taken-to, named-entry}
 -- ---- The header's inputs looked up, taken and entered.
 abbrev pub entered-state : Graph → ℕ → ℕ → List Value → NestState → NestState
 entered-state g r wrapper vs s =
-    let entry : RewriteEntry = record { region = r; rewrites = renumber-or-replace-with (take-inputs g r wrapper 0 vs no-inputs .rewrites) } in
+    let taken = take-inputs g r wrapper 0 vs no-inputs in
+    let entry : RewriteEntry = record { region = r; rewrites = renumber-or-replace-with (taken .rewrites) } in
     with-tables (s .region-states) (s .region-input-rewrites ++ (entry ∷ [])) (s .node-outputs) s
 
 pub record InputsEntered (g : Graph) (r wrapper : ℕ) (l l′ : List ℕ) (h : ℕ) (vals : List Value) (s : NestState) : Type 0 where
@@ -52,8 +54,8 @@ pub record InputsEntered (g : Graph) (r wrapper : ℕ) (l l′ : List ℕ) (h : 
   pub total-from : word l head 4 ≤ word l′ head 4
   pub total-to : word l′ head 4 ≤ word l head 4 + 4
 
-pub inputs-entered : (g : Graph) {r wrapper n h : ℕ} {l vs l′ : List ℕ} {vals : List Value} {s : NestState} → ShowsTables l s → NamedRewrites l
-    → ((q : ℕ) → ChainsEnd (s .region-input-rewrites) q) → n ≡ length vals → n ≤ 4 → length vs ≡ 4
+pub inputs-entered : (g : Graph) {r wrapper n h : ℕ} {l vs l′ : List ℕ} {vals : List Value} {s : NestState} → ShowsTables l s
+    → NamedRewrites l → ((q : ℕ) → ChainsEnd (s .region-input-rewrites) q) → n ≡ length vals → n ≤ 4 → length vs ≡ 4
     → ((j : ℕ) → j < n → value (getD vs j 0) ≡ getD vals j (undef 0)) → r < 128 → wrapper < 128 → word l head 4 + 4 ≤ 704
     → 1 ≤ word l head 4 → EntersInputs r wrapper n l vs l′ h → InputsEntered g r wrapper l l′ h vals s
 inputs-entered g {r} {wrapper} {n} {h} {l} {vs} {l′} {vals} {s} t named all size few four is header wraps free one
@@ -65,7 +67,8 @@ inputs-entered g {r} {wrapper} {n} {h} {l} {vs} {l′} {vals} {s} t named all si
     let words = x .changes .words in
     let len = x .len in
     let total = x .changes .totals 4 (omega arith) in
-    let so : InputsTaken g r wrapper 4 l₁ us l₂ ws (taken .last) (x .values) = taken-to g r wrapper n l₁ us (x .values) (sym count) (omega arith) few (λ j b. x .each j (omega arith)) header wraps
+    let so : InputsTaken g r wrapper 4 l₁ us l₂ ws (taken .last) (x .values) = taken-to g r wrapper n l₁ us (x .values) (sym count)
+    (omega arith) few (λ j b. x .each j (omega arith)) header wraps
     (omega arith) (omega arith) (omega arith) (omega arith) (taken .taken) in
     let are : so .inputs ≡ take-inputs g r wrapper 0 (x .values) no-inputs =
     so .are ∙ ap (λ z. take-inputs g r wrapper 0 z no-inputs) (take-all 4 (x .values) (omega arith)) in
@@ -87,7 +90,8 @@ inputs-entered g {r} {wrapper} {n} {h} {l} {vs} {l′} {vals} {s} t named all si
       kept = subst (λ z. ShowsKeptList g z r h (take-inputs g r wrapper 0 (x .values) no-inputs)) (sym e)
           (subst (λ z. ShowsKeptList g (inserted l₂ r 2 ws) r h z) are kept);
       tables = rewrites-inserted (tables-stay (so .tables) (x .tables)) header (omega arith)
-          (renumber-words refl (λ k b. subst (λ z. ShowsInput r (getD ws k 0) (getD (z .rewrites) k (renumber-to k))) are (so .entries k b))) e;
+          (renumber-words refl
+          (λ k b. subst (λ z. ShowsInput r (getD ws k 0) (getD (z .rewrites) k (renumber-to k))) are (so .entries k b))) e;
       named = subst (λ z. NamedRewrites z) (sym e)
           (named-entry l₂ r ws (omega arith) header (omega arith) (so .named) (named-stay (so .tables) known));
       aside = subst (λ z. Aside g l z) (sym e) aside;
@@ -166,8 +170,8 @@ module _ {g : Graph} {r n x kept : ℕ} {l l′ : List ℕ} {y : LoopInputs} {ks
       let handle = cell-handle cell free room in
       let same = c .same-head 4 in
       let made = loop-added free room y cell nodes is keeps in
-      subst (λ z. LoopWithin g r l z × SameTables l z × ShowsChildren g z (word z children r) (loop (loop-node g n r y v) ks ▸ ⟨⟩)) (sym e)
-      (
+      let looped : Nodes = loop (loop-node g n r y v) ks ▸ ⟨⟩ in
+      subst (λ z. LoopWithin g r l z × SameTables l z × ShowsChildren g z (word z children r) looped) (sym e) (
         record {
           within = within-then (within-aside r aside) (within-concerns c);
           own-set = λ s. set-beside g l₁ children (omega arith) (omega arith) r h (own-set-stays (aside .later) (aside .regions r) s);
@@ -194,13 +198,13 @@ module _ {A : Type 0} (F : Value → ℕ → A) (g : Graph) {r c kept : ℕ} {l 
       aside-within r (aside-by z (omega arith) (omega arith) (omega arith) (omega arith) g) (z .others rewrites (omega arith) (omega arith))
       (z .totals 4 (omega arith))
 
-  pub loop-made-shown : {l′ : List ℕ} {a : Made} → LoopDefined r c kept l l′ a → LoopWithin g r l l′ × ShowsMade F g r l′ y ks a (loop-step t F s)
+  pub loop-made-shown : {l′ : List ℕ} {a : Made} → LoopDefined r c kept l l′ a
+      → LoopWithin g r l l′ × ShowsMade F g r l′ y ks a (loop-step t F s)
   loop-made-shown (no-value m) =
       (value-within m, rw (full-of (materialize-shown m condition tables .answer) refl) made-refused)
   loop-made-shown (no-node m d) =
       let x = done-of (materialize-shown m condition tables .answer) refl in
-      let total = materialize-shown m condition tables .changes .totals 4 (omega arith) in
-      (
+      let total = materialize-shown m condition tables .changes .totals 4 (omega arith) in (
         loop-within-then (value-within m) total (node-within d),
         rw (x .is, full-of (node-defined (x .tables) d) refl) made-refused,
       )
@@ -220,10 +224,9 @@ module _ {A : Type 0} (F : Value → ℕ → A) (g : Graph) {r c kept : ℕ} {l 
       let there : ShowsChildren g l₂ (word l₂ children r) ks = children-stay (aside .later) (aside .regions r) nodes in
       let listed : ShowsKeptList g l₂ r kept y =
       kept-list-by second (omega arith) (omega arith) (kept-list-by first (omega arith) (omega arith) keeps) in
-      let end = loop-cell-added {y = y} {ks = ks} {v = v .value} (omega arith) (omega arith) low added there (v .shows) listed in
-      (
+      let end = loop-cell-added {y = y} {ks = ks} {v = v .value} (omega arith) (omega arith) low added there (v .shows) listed in (
         loop-within-then (value-within m) total (loop-within-then (node-within d) total₂ (end .0)),
         rw (v .is, u .is)
-        (made-done {n = u .value} (tables-stay (end .1) (u .tables))
-        (subst (λ q. ShowsChildren g l′ (word l′ children r) (loop (loop-node g q r y (v .value)) ks ▸ ⟨⟩)) (u .shows) (end .2))),
+            (made-done {n = u .value} (tables-stay (end .1) (u .tables))
+            (subst (λ q. ShowsChildren g l′ (word l′ children r) (loop (loop-node g q r y (v .value)) ks ▸ ⟨⟩)) (u .shows) (end .2))),
       )
