@@ -49,8 +49,8 @@ mutual
 
   pub data ShowsCaseCells (g : Graph) (l : List ℕ) : ℕ → Cases → Type 0 where
     no-cases : {h : ℕ} → h ≡ 0 → ShowsCaseCells g l h ∅
-    case-and : {h p r q : ℕ} {ns : Nodes} {cs : Cases} → CellIs l h 6 p r q 0 0 → p < h → q < h → ShowsNodes g l q ns
-        → ShowsCaseCells g l p cs → ShowsCaseCells g l h (new-case r ns cs)
+    case-and : {h p r q : ℕ} {ns : Nodes} {cs ks : Cases} → CellIs l h 6 p r q 0 0 → p < h → q < h → ShowsNodes g l q ns
+        → ShowsCaseCells g l p cs → ks ≡ new-case r ns cs → ShowsCaseCells g l h ks
 
 -- A list of nodes that was made, by its handle.
 pub record ShowsChildren (g : Graph) (w : List ℕ) (h : ℕ) (ks : Nodes) : Type 0 where

@@ -10,5 +10,7 @@ pub mod Sets
 pub mod Cells
 pub mod States
 pub mod Kept
+pub mod RegionSteps
+pub mod CellSteps
 pub mod SetStores
 pub mod SetSteps
