@@ -30,15 +30,16 @@ use Rattle.state.specs.Sections.{set-lengths}
 use Rattle.state.specs.Apart.{section-other}
 use Rattle.state.specs.Tables.{Defines, defined, full, bundle-at, bundle-words, copied, swap-removed, input-word}
 use Rattle.shown.specs.Values.{value}
-use Rattle.shown.specs.Stores.{run-other}
 use Rattle.shown.specs.Tables.{ShowsCondition, shows-true, ShowsTables, Done as Defines-done, done-of, full-of}
 use Rattle.shown.specs.Steps.{region-defined}
 use Rattle.shown.specs.Elsewhere.{tables-stay}
 use Rattle.shown.specs.Front.{stands-on}
-use Rattle.shown.specs.Sets.{ShowsBundle, no-bundle, target-size}
+use Rattle.shown.specs.Sets.{ShowsBundle, ShowsSet, no-bundle, target-size}
 use Rattle.shown.specs.Cells.{ShowsChildren}
 use Rattle.shown.specs.States.{ShowsOwnSet, Slots, NamedRewrites, ShowsState, ShowsClaimed}
 use Rattle.shown.specs.Kept.{own-set-stays, children-stay}
+use Rattle.shown.specs.SetSteps.{targets-tell, swap-removed-only, swap-removed-set}
+use Rattle.shown.specs.SetStores.{only-word-same}
 use Rattle.shown.specs.RegionSteps.{Concerns, concerns-then, word-concerns, bundle-same, bundle-run, bundle-concerns, aside-by, named-by}
 use Rattle.shown.specs.RegionSteps.{named-stay, slots-stay, Within, within-then, within-aside, within-concerns, within-states, state-next}
 use Rattle.shown.specs.RegionSteps.{body-set}
@@ -66,17 +67,6 @@ removed-concerns g w r i p slots a b e =
           (word-concerns g (copied w p last) set-lengths (omega arith) r (n - 1)))
     ]
 
-removed-children : (w : List ℕ) (r p : ℕ) → word (swap-removed w r p) children r ≡ word w children r
-unfolding swap-removed
-removed-children w r p =
-    let n = word w set-lengths r in
-    let last = bundle-at (word w set-starts r) (n - 1) in
-    elim (ℕ-discrete n 0) [
-      | yes f ↦ rw (eq-eqb n 0 f)
-      | no f ↦ rw (ne-eqb n 0 f) (ap (λ l. getD l r 0) (section-other (copied w p last) set-lengths r (n - 1) children (omega arith)
-          ∙ run-other w bundles (7 * p) (bundle-words w last) children (omega arith)))
-    ]
-
 -- ---- What is left of a set has no other bundles.
 module _ (P : DeferredEdgeBundle → Type 0) where
   all-fill : (es : DeferredEdgeBundleSet) → All P es → All P (fill-gap es)
@@ -90,6 +80,12 @@ module _ (P : DeferredEdgeBundle → Type 0) where
       go : (b : Bool) → All P (split-out-target t es) → All P (pick b (fill-gap es) (e ∷ split-out-target t es))
       go true rest = all-fill es (a .1)
       go false rest = (a .0, rest)
+
+-- No bundle before another goes to its target.
+other-target : {g : Graph} {w : List ℕ} {start n : ℕ} {d : DeferredEdgeBundleSet} {i j : ℕ} → length (g .regions) ≤ 32
+    → ShowsSet g w start n d → i < n → j < i → same-target (getD d i no-bundle .target) (getD d j no-bundle .target) ≡ false
+other-target {i} {j} few x h b =
+    sym (targets-tell few (x .each i h .target) (x .each j (omega arith) .target)) ∙ ne-eqb _ _ (x .apart j i b h)
 
 -- ---- The condition of the back edge in its set, and the values that it passes.
 condition-shown : {g : Graph} {w : List ℕ} {p n : ℕ} (d : DeferredEdgeBundleSet) {e : DeferredEdgeBundle} → n ≡ length d
@@ -183,8 +179,6 @@ pub record ClaimedLoop (g : Graph) (w : List ℕ) (s : NestState) (r p i : ℕ) 
   pub bundle-at-place : p ≡ word w set-starts r + i
   pub backedge : getD d i no-bundle ≡ e
   pub target : e .target ≡ to-region r
-  -- The set without the back edge, as swap_remove leaves it.
-  pub removed : ShowsOwnSet g (swap-removed w r p) r (split-out-target (to-region r) d)
   pub free : word w head 4 + 5 ≤ 704
   pub cell-zero : 1 ≤ word w head 4
   pub chains : (q : ℕ) → ChainsEnd (s .region-input-rewrites) q
@@ -228,6 +222,18 @@ module _ {g : Graph} {w : List ℕ} {s : NestState} {r p i : ℕ} {ks : Nodes} {
 
   passed : (j : ℕ) → j < length (e .target-inputs) → value (getD (backedge-inputs w p) j 0) ≡ getD (e .target-inputs) j (undef 0)
   passed j h = let four = bundle .few in ap value (passed-word w p j (omega arith)) ∙ bundle .inputs j h .is
+
+  -- The set without the back edge.
+  removed : ShowsOwnSet g w₀ r exits
+  removed =
+      let n = x .set .size in
+      let h = x .place in
+      let few = x .few in
+      let below = x .in-graph in
+      let target-is : getD d i no-bundle .target ≡ to-region r = ap (λ y. y .target) (x .backedge) ∙ x .target in
+      subst (λ z. ShowsOwnSet g (swap-removed w r z) r exits) (sym (x .bundle-at-place))
+      (swap-removed-set (x .shown .tables .size) (omega arith) (x .set) (to-region r) i h (rw target-is (eq-eqb r r refl))
+      (λ j b. ap (λ y. same-target y (getD d j no-bundle .target)) (sym target-is) ∙ other-target few (x .set) (omega arith) b))
 
   low-exits : (j : ℕ) → j < length exits → getD exits j no-bundle .accumulated-count < 65535
   low-exits j h =
@@ -307,7 +313,7 @@ module _ {g : Graph} {w : List ℕ} {s : NestState} {r p i : ℕ} {ks : Nodes} {
             (children-stay (region-kept .later) (region-kept .regions r) nodes₀)
           where
             nodes₀ : ShowsChildren g w₀ (word w₀ children r) ks
-            nodes₀ = rw (removed-children w r p) (concerns₀ .later .nodes-stay (x .nodes))
+            nodes₀ = rw (only-word-same (swap-removed-only w r p) children (omega arith) r) (concerns₀ .later .nodes-stay (x .nodes))
 
     gives-so : gives ≡ loop-step repeat F (entered-state g r wrapper (entered .values) (entered .between))
     gives-so = loop-steps g r ks e repeat exits inputs s is₁ (entered .looked-up)
@@ -352,7 +358,7 @@ module _ {g : Graph} {w : List ℕ} {s : NestState} {r p i : ℕ} {ks : Nodes} {
       set₂ : ShowsOwnSet g l₂ r exits
       set₂ =
           let kept = aside-by (defines-changes wraps) (omega arith) (omega arith) (omega arith) (omega arith) g in
-          own-set-stays (entered .aside .later) (entered .aside .regions r) (own-set-stays (kept .later) (kept .regions r) (x .removed))
+          own-set-stays (entered .aside .later) (entered .aside .regions r) (own-set-stays (kept .later) (kept .regions r) removed)
 
       set₄ : ShowsOwnSet g l₄ r exits
       set₄ = set-beside g l₃ bodies (omega arith) (omega arith) r wrapper (made .0 .own-set set₂)

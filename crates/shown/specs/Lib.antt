@@ -12,3 +12,5 @@ pub mod States
 pub mod Kept
 pub mod RegionSteps
 pub mod CellSteps
+pub mod SetStores
+pub mod SetSteps

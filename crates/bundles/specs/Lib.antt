@@ -1,0 +1,7 @@
+pub mod Words
+pub mod Paths
+pub mod RecordValues
+pub mod Deferred
+pub mod CaseSteps
+pub mod CasesFilled
+pub mod SplitFilled
