@@ -163,7 +163,6 @@ pub row-word : (w : List ℕ) → used ≤ length w → (j : ℕ) → j < 8 → 
 row-word w room j below xs few k h = run-word w cases (10 * j) xs (omega arith) (omega arith) k h
 
 module _ {g : Graph} (w : List ℕ) (room : used ≤ length w) {r j : ℕ} (below : j < 8) where
-
   -- A claimed region with its inputs.
   pub claimed-row : {c : ClaimedRegion} (ws : List ℕ) → length ws ≡ 4 → ShowsClaimed g w c
       → ((k : ℕ) → k < 4 → Names (getD ws k 0) (getD (c .structured-body-inputs) k (undef 0)))
@@ -175,7 +174,7 @@ module _ {g : Graph} (w : List ℕ) (room : used ≤ length w) {r j : ℕ} (belo
       let one = one-row w j xs (omega arith) in
       let later = only-later (one .only) g in
       let at : (k : ℕ) → k < 10 → word (stored-all w cases (10 * j) xs) cases (10 * j + k) ≡ getD xs k 0 =
-          λ k h. row-word w room j below xs (omega arith) k (omega arith) in
+      λ k h. row-word w room j below xs (omega arith) k (omega arith) in
       record {
         case = shows-ok {c = c} (at 0 (omega arith)) (at 1 (omega arith)) (x .in-graph) (at 2 (omega arith) ∙ x .body) (x .body-below)
             (rw (at 3 (omega arith)) (later .nodes-stay (x .nodes))) (at 4 (omega arith) ∙ sym (one .starts o)) (x .size)
@@ -189,7 +188,7 @@ module _ {g : Graph} (w : List ℕ) (room : used ≤ length w) {r j : ℕ} (belo
   nothing-row =
       let xs = case-words (unclaimed-case 0 0 0) in
       let at : (k : ℕ) → k < 6 → word (stored-all w cases (10 * j) xs) cases (10 * j + k) ≡ getD xs k 0 =
-          λ k h. row-word w room j below xs (omega arith) k h in
+      λ k h. row-word w room j below xs (omega arith) k h in
       record {
         case = shows-nothing (at 0 (omega arith)) (at 5 (omega arith));
         set = rw (at 4 (omega arith), at 5 (omega arith))
@@ -209,7 +208,7 @@ module _ {g : Graph} (w : List ℕ) (room : used ≤ length w) {r j : ℕ} (belo
       let xs = case-words (unclaimed-case 1 (own-edge j) 1) in
       let own = own-in j below in
       let at : (k : ℕ) → k < 6 → word (stored-all w cases (10 * j) xs) cases (10 * j + k) ≡ getD xs k 0 =
-          λ k h. row-word w room j below xs (omega arith) k h in
+      λ k h. row-word w room j below xs (omega arith) k h in
       record {
         case = shows-edge (at 0 (omega arith)) (at 4 (omega arith) ∙ own) (at 5 (omega arith));
         set = rw (at 4 (omega arith) ∙ own, at 5 (omega arith))
@@ -223,7 +222,7 @@ module _ {g : Graph} (w : List ℕ) (room : used ≤ length w) {r j : ℕ} (belo
   others-row {n} x =
       let xs = case-words (unclaimed-case 3 (word w set-starts r) n) in
       let at : (k : ℕ) → k < 6 → word (stored-all w cases (10 * j) xs) cases (10 * j + k) ≡ getD xs k 0 =
-          λ k h. row-word w room j below xs (omega arith) k h in
+      λ k h. row-word w room j below xs (omega arith) k h in
       record {
         case = shows-others (at 0 (omega arith))
             (at 4 (omega arith) ∙ sym (run-elsewhere-word w cases (10 * j) xs set-starts (omega arith) r));

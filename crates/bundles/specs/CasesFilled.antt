@@ -132,15 +132,15 @@ module _ {g : Graph} (valid : Valid g) {r : ℕ} (here : r < length (g .regions)
       let one = filled-one g w r j (omega arith) in
       let words = one .only .words in
       let rest = fills m (suc j) (omega arith) (case-filled g w r j) (omega arith) (slots-stay (λ a h. one .starts a) slots)
-          (λ q h. taken-stays (one .only) (one-kept one slots) few (taken q h))
-          (λ q h. elim (ℕ-discrete q j) [
-            | yes e ↦ rw e (filled-shows valid here (omega arith) w room (taken j (omega arith)))
-            | no d ↦ shown-stays one d slots few here (shown q (omega arith))
-          ])
-          (λ q h. elim (ℕ-discrete q j) [
-            | yes e ↦ rw e (filled-plain g w r j room (omega arith))
-            | no d ↦ rw (other-row one q d 0 (omega arith)) (plain q (omega arith))
-          ]) in
+      (λ q h. taken-stays (one .only) (one-kept one slots) few (taken q h))
+      (λ q h. elim (ℕ-discrete q j) [
+        | yes e ↦ rw e (filled-shows valid here (omega arith) w room (taken j (omega arith)))
+        | no d ↦ shown-stays one d slots few here (shown q (omega arith))
+      ])
+      (λ q h. elim (ℕ-discrete q j) [
+        | yes e ↦ rw e (filled-plain g w r j room (omega arith))
+        | no d ↦ rw (other-row one q d 0 (omega arith)) (plain q (omega arith))
+      ]) in
       record {
         only = only-then (one .only) (rest .only);
         total = rest .total ∙ one .total;
@@ -189,18 +189,18 @@ cases-filled-shown {g} valid {r} here cs size {w} {s} state taken origins =
     let first = only-total w n in
     let counted = first .words in
     let kept-first : (q : ℕ) → q < 33 → KeptRegion w w₁ q =
-        λ q h. only-kept first q (word-other w head 7 n set-starts (omega arith) q) (word-other w head 7 n set-lengths (omega arith) q)
-        (λ i k. same-elsewhere w head (omega arith) 7 n _) in
+    λ q h. only-kept first q (word-other w head 7 n set-starts (omega arith) q) (word-other w head 7 n set-lengths (omega arith) q)
+    (λ i k. same-elsewhere w head (omega arith) 7 n _) in
     let slots₁ = slots-stay (λ a h. word-other w head 7 n set-starts (omega arith) a) (state .slots) in
     let x = fills valid here cs size n 0 (omega arith) w₁ (omega arith) slots₁ (λ q h. taken-stays first kept-first few (taken q h))
-        (λ q h. absurd (omega arith)) (λ q h. absurd (omega arith)) in
+    (λ q h. absurd (omega arith)) (λ q h. absurd (omega arith)) in
     let only = only-then first (x .only) in
     let starts : (q : ℕ) → word (cases-filled g w r) set-starts q ≡ word w set-starts q =
-        λ q. x .starts q ∙ word-other w head 7 n set-starts (omega arith) q in
+    λ q. x .starts q ∙ word-other w head 7 n set-starts (omega arith) q in
     let slots = slots-stay (λ a h. starts a) (state .slots) in
     let kept : (q : ℕ) → q < 33 → KeptRegion w (cases-filled g w r) q =
-        λ q h. only-kept only q (starts q) (x .lengths q ∙ word-other w head 7 n set-lengths (omega arith) q)
-        (λ i k. same-bundle-then (same-elsewhere w head (omega arith) 7 n _) (x .low _ (in-slots (state .slots) q i h k))) in
+    λ q h. only-kept only q (starts q) (x .lengths q ∙ word-other w head 7 n set-lengths (omega arith) q)
+    (λ i k. same-bundle-then (same-elsewhere w head (omega arith) 7 n _) (x .low _ (in-slots (state .slots) q i h k))) in
     record {
       cases-shown =
           record {

@@ -17,8 +17,9 @@ use Rattle.shown.specs.Tables.{ShowsCondition, shows-true}
 use Rattle.shown.specs.Sets.{Names, shows-region, shows-return, ShowsBundle, SameBundle}
 use Rattle.shown.specs.States.{ShowsOwnSet, Slots, ShowsState}
 use Rattle.shown.specs.Kept.{KeptRegion, bundle-stays, same-bundle-then}
+use Rattle.shown.specs.RegionSteps.{word-there}
 use Rattle.shown.specs.SetStores.{OnlySets, only-run, only-word, only-then, only-later, only-state, slots-stay, bundles-of-sets}
-use Rattle.shown.specs.SetStores.{lengths-of-sets, word-stored, word-beside, word-other, run-elsewhere-word, bundle-beside, same-elsewhere}
+use Rattle.shown.specs.SetStores.{lengths-of-sets, word-beside, word-other, run-elsewhere-word, bundle-beside, same-elsewhere}
 use Rattle.shown.specs.SetSteps.{bundle-in, bundle-made, set-of-one, kept-beside}
 use Rattle.bundles.specs.Words.{padded, edge-deferred, return-deferred}
 use Rattle.bundles.specs.RecordValues.{passed-names, passed-length, padded-names, valid-edge}
@@ -126,10 +127,10 @@ module _ (g : Graph) (w : List ℕ) (r : ℕ) where
         let names = padded-names vs (passed-names valid here (return-types g) vs types (x .1)) in
         let four = x .0 in
         let made : ShowsBundle g return-stored start-of (edge-bundle to-return 0 vs true-cond) =
-            rw (at, values)
-            (bundle-made w start-of (padded vs) room (omega arith) refl (shows-return refl) (true-shown w)
-            (passed-length g r (return-types g) vs (x .1)) (x .0) (λ k b. names k (omega arith))) in
-        rw (return-deferred-starts r, word-stored return-stored set-lengths r 1 (omega arith) below)
+        rw (at, values)
+        (bundle-made w start-of (padded vs) room (omega arith) refl (shows-return refl) (true-shown w)
+        (passed-length g r (return-types g) vs (x .1)) (x .0) (λ k b. names k (omega arith))) in
+        rw (return-deferred-starts r, word-there return-stored set-lengths r 1 (omega arith) below)
         (set-of-one (omega arith)
         (bundle-stays (only-later (only-word return-stored lengths-of-sets r 1) g)
         (same-elsewhere return-stored set-lengths (omega arith) r 1 start-of) made))

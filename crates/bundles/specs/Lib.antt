@@ -4,3 +4,4 @@ pub mod RecordValues
 pub mod Deferred
 pub mod CaseSteps
 pub mod CasesFilled
+pub mod SplitFilled

@@ -139,10 +139,10 @@ pub padded-names : (vs : List Value) → ((k : ℕ) → k < length vs → Names 
     → k < 4 → Names (getD (padded vs) k 0) (getD vs k (undef 0))
 unfolding value padded-by
 padded-names vs names k h = rw (at k h) (elim (decLt k (length vs)) [
-    | yes a ↦ rw (lt-ltb k (length vs) a) (names k a)
-    | no a ↦ rw (le-ltb k (length vs) (omega arith), List·getD-eq-default vs (undef 0) {n = k} (omega arith))
-        record { is = refl; below = omega arith }
-  ])
+  | yes a ↦ rw (lt-ltb k (length vs) a) (names k a)
+  | no a ↦ rw (le-ltb k (length vs) (omega arith), List·getD-eq-default vs (undef 0) {n = k} (omega arith))
+      record { is = refl; below = omega arith }
+])
   where
     at : (k : ℕ) → k < 4 → getD (padded vs) k 0 ≡ padded-by (length vs) vs k
     at zero h = refl

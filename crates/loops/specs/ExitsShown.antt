@@ -11,14 +11,17 @@ use borrow.Author.Tests.{lt-ltb}
 use Rattle.meaning.specs.Graph.{Graph, region}
 use Rattle.meaning.specs.Lists.{pick, is-in}
 use Rattle.meaning.specs.facts.Elements.{getD-map-in}
-use Rattle.nesting.specs.Nesting.{DeferredTarget, to-region, to-return, DeferredEdgeBundle, DeferredEdgeBundleSet, add-exit-edge, exit-targets}
+use Rattle.nesting.specs.Nesting.{DeferredTarget, to-region, to-return, DeferredEdgeBundle, DeferredEdgeBundleSet, add-exit-edge}
+use Rattle.nesting.specs.Nesting.{exit-targets}
 use Rattle.state.specs.Sections.{used, start, size, word, stored, bundles, set-starts, set-lengths}
 use Rattle.state.specs.Tables.{bundle-at}
 use Rattle.shown.specs.Stores.{ChangesOnly, nothing-changes, changes-then}
 use Rattle.shown.specs.Sets.{ShowsTarget, shows-region, shows-return, ShowsBundle, ShowsSet, no-bundle}
 use Rattle.shown.specs.States.{Slots, ShowsOwnSet}
 use Rattle.shown.specs.Kept.{bundle-stays}
-use Rattle.shown.specs.RegionSteps.{slots-stay, word-there, word-apart, later-by, OnlyBundle, bundle-same, bundle-word, bundle-concerns, Concerns, concerns-then}
+use Rattle.shown.specs.SetSteps.{bundle-in}
+use Rattle.shown.specs.RegionSteps.{slots-stay, word-there, word-apart, later-by, OnlyBundle, bundle-same, bundle-word, bundle-concerns}
+use Rattle.shown.specs.RegionSteps.{Concerns, concerns-then}
 use Rattle.loops.specs.Exits.{one-more, exit-added, exits-from, exits-added}
 
 counted : (n : ℕ) → n < 65535 → one-more n ≡ suc n
@@ -117,10 +120,6 @@ module _ (g : Graph) (r : ℕ) (not-return : is-in 65535 (region g r .exits) ≡
           go to-return is = to-return-so is
 
 -- ---- The whole set of loop r, bundle by bundle.
-at-place : (start i : ℕ) → start < 1097 → i < 33 → bundle-at start i ≡ start + i
-unfolding bundle-at
-at-place start i a b = rw (lt-ltb start 1097 a, lt-ltb i 33 b)
-
 module _ (g : Graph) (r : ℕ) (not-return : is-in 65535 (region g r .exits) ≡ false) (l₀ : List ℕ) (start n : ℕ) (d : DeferredEdgeBundleSet)
     (fits : used ≤ length l₀) (slots : Slots l₀) (below : r < 33) (own : start ≡ word l₀ set-starts r) (shown : ShowsSet g l₀ start n d)
     (low : (i : ℕ) → i < n → getD d i no-bundle .accumulated-count < 65535) where
@@ -146,7 +145,7 @@ module _ (g : Graph) (r : ℕ) (not-return : is-in 65535 (region g r .exits) ≡
       let few = shown .few in
       let room = shown .room in
       let p = start + i in
-      let at : bundle-at start i ≡ p = at-place start i (omega arith) (omega arith) in
+      let at : bundle-at start i ≡ p = bundle-in start i (omega arith) (omega arith) in
       let only = only-exit g r p l in
       let c = x .concerns in
       let words = c .later .front .words in

@@ -11,7 +11,8 @@ use lib.Seq.{take-all, take-suc, length-take-le, getD-set-same, getD-set-other, 
 use lib.Dec.{eqb}
 use borrow.Author.Tests.{lt-ltb, eq-eqb, ne-eqb}
 use Rattle.meaning.specs.Graph.{Value, Graph, region, undef, input, same-value}
-use Rattle.nesting.specs.Nesting.{InputRewrite, renumber-to, replace-by, LoopInputs, no-inputs, keep-input, lift-input, take-input, take-inputs}
+use Rattle.nesting.specs.Nesting.{InputRewrite, renumber-to, replace-by, LoopInputs, no-inputs, keep-input, lift-input, take-input}
+use Rattle.nesting.specs.Nesting.{take-inputs}
 use Rattle.state.specs.Sections.{used, start, size, section, word, stored, stored-all, head, rewrites}
 use Rattle.state.specs.Apart.{section-stored}
 use Rattle.state.specs.Tables.{inserted}
@@ -121,7 +122,8 @@ module _ (g : Graph) (r wrapper n : ℕ) (l vs : List ℕ) (vals : List Value) (
     here h = ap value (so .left k (omega arith)) ∙ is k h
 
     -- The definition's fold takes the value at place k.
-    fold-more : k < n → take-inputs g r wrapper 0 (take (k + 1) vals) no-inputs ≡ take-input g r wrapper k (getD vals k (undef 0)) (so .inputs)
+    fold-more : k < n
+        → take-inputs g r wrapper 0 (take (k + 1) vals) no-inputs ≡ take-input g r wrapper k (getD vals k (undef 0)) (so .inputs)
     fold-more h =
         let e : take (k + 1) vals ≡ take k vals ++ (getD vals k (undef 0) ∷ []) =
         ap (λ z. take z vals) (add-one k) ∙ take-suc vals k (undef 0) (omega arith) in

@@ -21,8 +21,9 @@ use Rattle.shown.specs.Tables.{ShowsCondition, shows-true}
 use Rattle.shown.specs.Sets.{Names, target-size, ShowsTarget, shows-region, shows-return, ShowsBundle, ShowsSet, SameBundle, no-bundle}
 use Rattle.shown.specs.States.{ShowsOwnSet, Slots}
 use Rattle.shown.specs.Kept.{Later, KeptRegion, same-bundle, same-bundle-then}
+use Rattle.shown.specs.RegionSteps.{word-there}
 use Rattle.shown.specs.SetStores.{OnlySets, only-same, only-word, only-run, only-then, only-later, only-kept, starts-of-sets}
-use Rattle.shown.specs.SetStores.{lengths-of-sets, bundles-of-sets, word-stored, word-beside, word-other, run-elsewhere-word, Moves}
+use Rattle.shown.specs.SetStores.{lengths-of-sets, bundles-of-sets, word-beside, word-other, run-elsewhere-word, Moves}
 use Rattle.shown.specs.SetStores.{moves-then, same-moves, same-elsewhere, bundle-stored, copy-moves, copy-beside}
 
 pub bundle-in : (start i : ℕ) → start < 1097 → i < 33 → bundle-at start i ≡ start + i
@@ -253,7 +254,7 @@ module _ {g : Graph} {w : List ℕ} (room : used ≤ length w) {r : ℕ} (below 
   own-start = word w set-starts r
 
   length-stored : (l : List ℕ) (x : ℕ) → used ≤ length l → word (stored l set-lengths r x) set-lengths r ≡ x
-  length-stored l x h = word-stored l set-lengths r x (omega arith) below
+  length-stored l x h = word-there l set-lengths r x (omega arith) below
 
   pub swap-removed-set : (x : DeferredTarget) (i : ℕ) → i < length d → same-target x (getD d i no-bundle .target) ≡ true
       → ((j : ℕ) → j < i → same-target x (getD d j no-bundle .target) ≡ false)
@@ -363,7 +364,7 @@ shift-removes {g} {w} room {r} below {d} shown i h =
     let same : (p : ℕ) → SameBundle moved (stored moved set-lengths r (n - 1)) p = λ p. same-elsewhere moved set-lengths (omega arith) r (n - 1) p in
     let starts : (q : ℕ) → word (stored moved set-lengths r (n - 1)) set-starts q ≡ word w set-starts q =
     λ q. word-other moved set-lengths r (n - 1) set-starts (omega arith) q ∙ s .starts q in
-    let new-length = word-stored moved set-lengths r (n - 1) (omega arith) below in
+    let new-length = word-there moved set-lengths r (n - 1) (omega arith) below in
     let new-size = shifted-size d i h in
     rw (ne-eqb n 0 (omega arith))
     record {
@@ -403,14 +404,14 @@ module _ (w : List ℕ) (room : used ≤ length w) (a b : ℕ) (at-a : a < 33) (
   pub swapped-second : word (swapped w a b) set-starts b ≡ word w set-starts a
   swapped-second =
       let counted = only-word w starts-of-sets a (word w set-starts b) .words in
-      word-stored first-stored set-starts b (word w set-starts a) (omega arith) at-b
+      word-there first-stored set-starts b (word w set-starts a) (omega arith) at-b
 
   pub swapped-first : word (swapped w a b) set-starts a ≡ word w set-starts b
   swapped-first =
       elim (ℕ-discrete a b) [
         | yes e ↦ ap (λ q. word (swapped w a b) set-starts q) e ∙ swapped-second ∙ ap (λ q. word w set-starts q) e
         | no d ↦ word-beside first-stored set-starts b (word w set-starts a) a d
-            ∙ word-stored w set-starts a (word w set-starts b) (omega arith) at-a
+            ∙ word-there w set-starts a (word w set-starts b) (omega arith) at-a
       ]
 
   pub swapped-other : (q : ℕ) → (q ≡ a → ⊥) → (q ≡ b → ⊥) → word (swapped w a b) set-starts q ≡ word w set-starts q
@@ -498,7 +499,7 @@ bundle-made {g} w p {t} {n} {c} ws room h four target condition size few names =
     let xs = t ∷ n ∷ c ∷ ws in
     let seven : length xs ≡ 7 = ap (λ m. suc (suc (suc m))) four in
     let at : (i : ℕ) → i < 7 → word (stored-all w bundles (7 * p) xs) bundles (7 * p + i) ≡ getD xs i 0 =
-        λ i k. bundle-stored w p xs seven room h i k in
+    λ i k. bundle-stored w p xs seven room h i k in
     let later = only-later (only-run w bundles-of-sets (7 * p) xs) g in
     record {
       target = rw (at 0 (omega arith)) target;

@@ -22,10 +22,6 @@ use Rattle.shown.specs.Kept.{Later, KeptRegion, region-stays}
 
 -- ---- A word of a section.
 module _ (w : List ℕ) (k : Section) (i x : ℕ) where
-  pub word-stored : start k + size k ≤ length w → i < size k → word (stored w k i x) k i ≡ x
-  word-stored room h =
-      rw (section-stored w k i x) (getD-set-same (section w k) i x 0 (rw (part-length (start k) (size k) w room) h))
-
   pub word-beside : (q : ℕ) → (q ≡ i → ⊥) → word (stored w k i x) k q ≡ word w k q
   word-beside q d = rw (section-stored w k i x) (getD-set-other (section w k) i q x 0 d)
 
