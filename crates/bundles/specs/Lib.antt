@@ -5,3 +5,4 @@ pub mod Deferred
 pub mod CaseSteps
 pub mod CasesFilled
 pub mod SplitFilled
+pub mod Appended
