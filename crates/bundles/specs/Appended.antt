@@ -1,17 +1,16 @@
 -- A case that stands alone is appended to its parent, as the definition has it.
 use mathlib.Core.Path.{_≡_, refl, sym, ap, _∙_}
-use mathlib.Core.List.{List, [], _∷_, _++_}
+use mathlib.Core.List.{List}
 use Prim.Native.Nat.{ℕ, zero, suc, _+_, _*_, _≤_, _<_}
 use native.Mathlib.Omega.{arith}
 use lib.ListN.{length, getD}
 use Rattle.meaning.specs.Graph.{Graph, undef}
 use Rattle.meaning.specs.Runs.{Nodes}
-use Rattle.meaning.specs.facts.Tests.{clash}
-use Rattle.nesting.specs.Nesting.{DeferredEdgeBundleSet, ClaimedRegion, MaybeClaimedRegion, ok, err, deferred-of, NestState, Body, region-body, join, done}
-use Rattle.nesting.specs.Nesting.{replace-with, with-tables, append-maybe-claimed-region}
+use Rattle.nesting.specs.Nesting.{DeferredEdgeBundleSet, ClaimedRegion, MaybeClaimedRegion, ok, err, deferred-of, NestState, Body}
+use Rattle.nesting.specs.Nesting.{region-body, join, done}
+use Rattle.nesting.specs.Nesting.{replace-with, append-maybe-claimed-region}
 use Rattle.state.specs.declared.cases.Case.{Case}
-use Rattle.state.specs.Sections.{used, word, stored, stored-all, head, kinds, set-starts, set-lengths, children, cases, rewrites, bundles}
-use Rattle.state.specs.Apart.{section-other}
+use Rattle.state.specs.Sections.{used, word, stored, head, kinds, set-starts, set-lengths, children, cases, bundles}
 use Rattle.state.specs.Tables.{bundle-at, bundle-words, case-row, copied, swapped, inserted, Joins}
 use Rattle.shown.specs.Tables.{EntryWords, replace-words}
 use Rattle.shown.specs.Values.{value}
@@ -19,11 +18,11 @@ use Rattle.shown.specs.Elsewhere.{same-words}
 use Rattle.shown.specs.Rewrites.{insert-changes, rewrites-inserted}
 use Rattle.shown.specs.Sets.{Names, ShowsSet}
 use Rattle.shown.specs.Cells.{ShowsChildren}
-use Rattle.shown.specs.States.{ShowsOwnSet, Slots, ShowsState, ShowsBody, ShowsCase, shows-ok, shows-nothing, shows-edge, shows-others}
+use Rattle.shown.specs.States.{Slots, ShowsState, ShowsBody, ShowsCase, shows-ok, shows-nothing, shows-edge, shows-others}
 use Rattle.shown.specs.Kept.{Later, later-same, later-then, KeptRegion, kept-same, kept-then, set-stays}
 use Rattle.shown.specs.RegionSteps.{later-by, kept-by, states-by, state-next, state-stays, Concerns, concerns-then, concerns-states}
-use Rattle.shown.specs.RegionSteps.{word-concerns, children-set, length-set-to, bundle-run, bundle-concerns, StatesStay}
-use Rattle.shown.specs.CellSteps.{Joined, list-joined}
+use Rattle.shown.specs.RegionSteps.{word-concerns, children-set, length-set-to, bundle-run, bundle-concerns}
+use Rattle.shown.specs.CellSteps.{list-joined}
 use Rattle.shown.specs.NamedSteps.{named-inserted}
 use Rattle.shown.specs.SetStores.{only-later, only-state, only-word-same, word-other, run-elsewhere-word, same-elsewhere, copy-moves}
 use Rattle.shown.specs.SetSteps.{bundle-in, set-moves, swapped-only, swapped-first, swapped-bundle, swapped-kept, swapped-slots}
@@ -96,7 +95,8 @@ inputs-at w j (suc (suc (suc zero))) h = refl
 inputs-at w j (suc (suc (suc (suc k)))) h = absurd (omega arith)
 
 module _ {g : Graph} (few : length (g .regions) ≤ 32) {r : ℕ} (here : r < length (g .regions)) {w : List ℕ} {s : NestState}
-    (state : ShowsState g w s) (unready : word w kinds r ≡ 2 → ⊥) {parent : Nodes} (nodes : ShowsChildren g w (word w children r) parent) where
+    (state : ShowsState g w s) (unready : word w kinds r ≡ 2 → ⊥) {parent : Nodes}
+    (nodes : ShowsChildren g w (word w children r) parent) where
   -- Only region r's set changes, from w to w₁ within its slot, and then in its length.
   set-appended : {w₁ : List ℕ} {d : DeferredEdgeBundleSet} {n : ℕ} → Concerns g r w w₁ → word w₁ children r ≡ word w children r
       → ShowsSet g w₁ (word w₁ set-starts r) n d
@@ -180,19 +180,19 @@ slot-taken {g} few {r} {o} here there {w} {w₂} {s} {h} {ks} x {n} {d} set =
     let kind-r : word w₃ kinds r ≡ 2 → ⊥ = λ e. x .unready (sym (c₃ .same-kinds r) ∙ e) in
     let kind-o : word w₃ kinds o ≡ 3 = c₃ .same-kinds o ∙ x .origin-claimed in
     let state₄ = only-state only₄ (swapped-slots w₃ room₃ r o r-33 o-33 (state₃ .slots))
-        (λ q k e. swapped-kept w₃ room₃ r o r-33 o-33 q (λ f. kind-r (ap (λ b. word w₃ kinds b) (sym f) ∙ e))
-        (λ f. let z : word w₃ kinds o ≡ 2 = ap (λ b. word w₃ kinds b) (sym f) ∙ e in omega (arith, kind-o, z))) state₃ in
+    (λ q k e. swapped-kept w₃ room₃ r o r-33 o-33 q (λ f. kind-r (ap (λ b. word w₃ kinds b) (sym f) ∙ e))
+    (λ f. let z : word w₃ kinds o ≡ 2 = ap (λ b. word w₃ kinds b) (sym f) ∙ e in omega (arith, kind-o, z))) state₃ in
     let room₄ = state₄ .tables .size in
     let kind₄ : word w₄ kinds r ≡ 2 → ⊥ = λ e. kind-r (sym (only-word-same only₄ kinds (omega arith) r) ∙ e) in
     let start₄ : word w₄ set-starts r ≡ word w set-starts o =
-        swapped-first w₃ room₃ r o r-33 o-33 ∙ c₃ .same-starts o ∙ x .kept o .set-start in
+    swapped-first w₃ room₃ r o r-33 o-33 ∙ c₃ .same-starts o ∙ x .kept o .set-start in
     let set₃ = set-stays (c₃ .later) (λ i k. same-elsewhere w₂ children (omega arith) r h _) set₂ in
     let set₄ : ShowsSet g w₄ (word w₄ set-starts r) n d =
-        rw start₄ (set-stays later₄ (λ i k. swapped-bundle w₃ room₃ r o r-33 o-33 _) set₃) in
+    rw start₄ (set-stays later₄ (λ i k. swapped-bundle w₃ room₃ r o r-33 o-33 _) set₃) in
     let c₅ = word-concerns g w₄ set-lengths (omega arith) r n in
     let handle₄ : word w₄ children r ≡ word w₃ children r = only-word-same only₄ children (omega arith) r in
     let handle₅ : word (stored w₄ set-lengths r n) children r ≡ word w₃ children r =
-        word-other w₄ set-lengths r n children (omega arith) r ∙ handle₄ in
+    word-other w₄ set-lengths r n children (omega arith) r ∙ handle₄ in
     let total₅ = c₅ .same-head 4 ∙ only₄ .totals 4 (omega arith) ∙ c₃ .same-head 4 in
     record {
       state = state-stays (c₅ .later) (concerns-states c₅ few kind₄) (c₅ .tables) state₄;
@@ -209,7 +209,8 @@ slot-taken {g} few {r} {o} here there {w} {w₂} {s} {h} {ks} x {n} {d} set =
     }
 
 module _ {g : Graph} (few : length (g .regions) ≤ 32) {r : ℕ} (here : r < length (g .regions)) {w : List ℕ} {s : NestState}
-    (state : ShowsState g w s) (unready : word w kinds r ≡ 2 → ⊥) {parent : Nodes} (nodes : ShowsChildren g w (word w children r) parent) where
+    (state : ShowsState g w s) (unready : word w kinds r ≡ 2 → ⊥) {parent : Nodes}
+    (nodes : ShowsChildren g w (word w children r) parent) where
   claimed-appended : (x : Case) {j : ℕ} {c : ClaimedRegion} → word w head 4 < 704 → ShowsParts g w r j x (ok c) → {w₂ w′ : List ℕ} {h : ℕ}
       → Joins (inserted w (x .body) 1 (case-inputs w j)) w₂ (word (inserted w (x .body) 1 (case-inputs w j)) children r) (x .children) h
       → w′ ≡ stored (swapped (stored w₂ children r h) r (x .origin)) set-lengths r (x .length)
@@ -228,7 +229,7 @@ module _ {g : Graph} (few : length (g .regions) ≤ 32) {r : ℕ} (here : r < le
       let room₁ : used ≤ length (inserted w (x .body) 1 vs) = rw (changes .words) room in
       let total₁ = changes .totals 4 (omega arith) in
       let entry : EntryWords (x .body) 1 vs (replace-with (c .structured-body-inputs)) =
-          replace-words refl (λ k b. ap value (inputs-at w j k b) ∙ names k b .is) in
+      replace-words refl (λ k b. ap value (inputs-at w j k b) ∙ names k b .is) in
       let tables₁ = rewrites-inserted (state .tables) body-in refl entry refl in
       let named₁ = named-inserted w (x .body) 1 vs room body-in refl (λ k b. rw (inputs-at w j k b) (names k b .below)) (state .named) in
       let state₁ = state-next later₁ states₁ tables₁ named₁ refl state in
@@ -238,15 +239,15 @@ module _ {g : Graph} (few : length (g .regions) ≤ 32) {r : ℕ} (here : r < le
       let y = list-joined free₁ room₁ joins outer (later₁ .nodes-stay inner) in
       let state₂ = state-stays (y .later) (y .states) (y .tables) state₁ in
       let taken = slot-taken few here in-graph
-          record {
-            state = rw is-body at state₂;
-            unready = λ e. unready (sym (states₁ .same-kinds r here) ∙ sym (y .states .same-kinds r here) ∙ e);
-            origin-claimed = y .states .same-kinds o in-graph ∙ states₁ .same-kinds o in-graph ∙ is-claimed;
-            nodes = y .nodes;
-            later = later-then later₁ (y .later);
-            kept = λ q. kept-then (kept₁ q) (y .regions q);
-            cells-to = rw (← total₁) (y .total-to);
-          } set in
+      record {
+        state = rw is-body at state₂;
+        unready = λ e. unready (sym (states₁ .same-kinds r here) ∙ sym (y .states .same-kinds r here) ∙ e);
+        origin-claimed = y .states .same-kinds o in-graph ∙ states₁ .same-kinds o in-graph ∙ is-claimed;
+        nodes = y .nodes;
+        later = later-then later₁ (y .later);
+        kept = λ q. kept-then (kept₁ q) (y .regions q);
+        cells-to = rw (← total₁) (y .total-to);
+      } set in
       rw (stores, is-origin)
       record {
         result = region-body (join parent (c .children)) (c .deferred-edges);

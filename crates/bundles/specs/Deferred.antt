@@ -11,7 +11,7 @@ use Rattle.format.specs.References.{return-types}
 use Rattle.format.specs.Valid.{ValidEnd, Valid}
 use Rattle.fields.specs.ByNumber.{edge-of, end-values}
 use Rattle.nesting.specs.Nesting.{to-region, to-return, edge-bundle, true-cond, NestState}
-use Rattle.state.specs.Sections.{Section, number, used, word, stored, stored-all, kinds, set-starts, set-lengths, bundles}
+use Rattle.state.specs.Sections.{Section, number, used, word, stored-all, kinds, set-starts, set-lengths, bundles}
 use Rattle.state.specs.Tables.{bundle-at}
 use Rattle.shown.specs.Tables.{ShowsCondition, shows-true}
 use Rattle.shown.specs.Sets.{Names, shows-region, shows-return, ShowsBundle, SameBundle}
@@ -127,9 +127,9 @@ module _ (g : Graph) (w : List ℕ) (r : ℕ) where
         let names = padded-names vs (passed-names valid here (return-types g) vs types (x .1)) in
         let four = x .0 in
         let made : ShowsBundle g return-stored start-of (edge-bundle to-return 0 vs true-cond) =
-            rw (at, values)
-            (bundle-made w start-of (padded vs) room (omega arith) refl (shows-return refl) (true-shown w)
-            (passed-length g r (return-types g) vs (x .1)) (x .0) (λ k b. names k (omega arith))) in
+        rw (at, values)
+        (bundle-made w start-of (padded vs) room (omega arith) refl (shows-return refl) (true-shown w)
+        (passed-length g r (return-types g) vs (x .1)) (x .0) (λ k b. names k (omega arith))) in
         rw (return-deferred-starts r, word-there return-stored set-lengths r 1 (omega arith) below)
         (set-of-one (omega arith)
         (bundle-stays (only-later (only-word return-stored lengths-of-sets r 1) g)

@@ -1,5 +1,6 @@
 pub mod Words
 pub mod Paths
+pub mod Targets
 pub mod RecordValues
 pub mod Deferred
 pub mod CaseSteps

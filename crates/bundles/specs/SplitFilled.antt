@@ -8,9 +8,10 @@ use lib.ListN.{length, getD, take, drop, List·getD-eq-default}
 use borrow.Author.Tests.{lt-ltb, le-ltb}
 use Rattle.meaning.specs.Graph.{Graph, region, undef}
 use Rattle.meaning.specs.facts.Tests.{clash}
-use Rattle.nesting.specs.Nesting.{DeferredTarget, to-region, DeferredEdgeBundle, DeferredEdgeBundleSet, ClaimedRegion, MaybeClaimedRegion, ok}
+use Rattle.nesting.specs.Nesting.{DeferredTarget, to-region, DeferredEdgeBundle, DeferredEdgeBundleSet, ClaimedRegion, MaybeClaimedRegion}
+use Rattle.nesting.specs.Nesting.{ok}
 use Rattle.nesting.specs.Nesting.{err, NestState}
-use Rattle.state.specs.Sections.{used, word, stored, stored-all, head, kinds, set-starts, set-lengths, children, bodies, cases, bundles}
+use Rattle.state.specs.Sections.{word, stored, stored-all, head, kinds, set-starts, set-lengths, children, bodies, cases, bundles}
 use Rattle.state.specs.Tables.{bundle-at, input-word, case-words, shift-removed}
 use Rattle.shown.specs.Values.{value}
 use Rattle.shown.specs.Sets.{Names, ShowsTarget, shows-region, shows-return, ShowsBundle, ShowsSet, no-bundle}
@@ -20,9 +21,9 @@ use Rattle.shown.specs.Kept.{Later, KeptRegion, kept-then, set-stays, same-bund
 use Rattle.shown.specs.Stores.{head-same}
 use Rattle.shown.specs.SetStores.{OnlySets, only-then, only-total, only-later, only-state, only-word-same, slots-stay, word-other}
 use Rattle.shown.specs.SetStores.{same-elsewhere, same-elsewhere-run}
-use Rattle.shown.specs.SetSteps.{bundle-in, ShiftRemoved, shift-removes, kept-beside}
+use Rattle.shown.specs.SetSteps.{bundle-in, shift-removes, kept-beside}
 use Rattle.bundles.specs.Words.{claimed-case, unclaimed-case, given-word, given-inputs, split-filled}
-use Rattle.bundles.specs.CaseSteps.{OneCase, one-row, Owner, of-claimed, of-others, placed, placed-apart, placed-not-spare, CaseShown}
+use Rattle.bundles.specs.CaseSteps.{one-row, Owner, of-claimed, of-others, placed, placed-apart, placed-not-spare, CaseShown}
 use Rattle.bundles.specs.CaseSteps.{shown-stays, claimed-row, others-row, one-kept}
 use Rattle.bundles.specs.CasesFilled.{total-of}
 
@@ -34,9 +35,9 @@ module _ {g : Graph} {w : List ℕ} {p : ℕ} {e : DeferredEdgeBundle} (shown : 
       elim (decLt k (length (e .target-inputs))) [
         | yes a ↦ rw (lt-ltb k (length (e .target-inputs)) a, lt-ltb k 4 h) (shown .inputs k a)
         | no a ↦ rw (
-            le-ltb k (length (e .target-inputs)) (omega arith),
-            List·getD-eq-default (e .target-inputs) (undef 0) {n = k} (omega arith),
-          ) record { is = refl; below = omega arith }
+          le-ltb k (length (e .target-inputs)) (omega arith),
+          List·getD-eq-default (e .target-inputs) (undef 0) {n = k} (omega arith),
+        ) record { is = refl; below = omega arith }
       ]
 
   target-word : {o : ℕ} → e .target ≡ to-region o → word w bundles (7 * p + 0) ≡ o
@@ -146,50 +147,51 @@ module _ {g : Graph} (few : length (g .regions) ≤ 32) {r : ℕ} (here : r < le
       let only₂ = only-then (x .only) (only-total rest 2) in
       let room₂ = only₂ .words in
       let starts₂ : (q : ℕ) → word w₂ set-starts q ≡ word w set-starts q =
-          λ q. word-other rest head 7 2 set-starts (omega arith) q ∙ x .starts q in
+      λ q. word-other rest head 7 2 set-starts (omega arith) q ∙ x .starts q in
       let lengths₂ : (q : ℕ) → (q ≡ r → ⊥) → word w₂ set-lengths q ≡ word w set-lengths q =
-          λ q e. word-other rest head 7 2 set-lengths (omega arith) q ∙ x .lengths q e in
+      λ q e. word-other rest head 7 2 set-lengths (omega arith) q ∙ x .lengths q e in
       let kept₂ : (q : ℕ) → q < 33 → (q ≡ r → ⊥) → KeptRegion w w₂ q =
-          λ q h e. kept-beside only₂ slots (omega arith) h e (starts₂ q) (lengths₂ q e)
-          (λ b f. same-bundle-then (x .beside b f) (same-elsewhere rest head (omega arith) 7 2 b)) in
+      λ q h e. kept-beside only₂ slots (omega arith) h e (starts₂ q) (lengths₂ q e)
+      (λ b f. same-bundle-then (x .beside b f) (same-elsewhere rest head (omega arith) 7 2 b)) in
       let slots₂ = slots-stay (λ a h. starts₂ a) slots in
       let n = word rest set-lengths r in
       let left : ShowsSet g w₂ start n (take i d ++ drop (suc i) d) =
-          set-stays (only-later (only-total rest 2) g) (λ k h. same-elsewhere rest head (omega arith) 7 2 _)
-          (rw (x .starts r) at (x .set)) in
-      let claimed₂ = claimed-stays (only-later only₂ g) (kept₂ o (omega arith) other) (only-word-same only₂ kinds (omega arith) o) claimed in
+      set-stays (only-later (only-total rest 2) g) (λ k h. same-elsewhere rest head (omega arith) 7 2 _)
+      (rw (x .starts r) at (x .set)) in
+      let claimed₂ = claimed-stays (only-later only₂ g) (kept₂ o (omega arith) other)
+      (only-word-same only₂ kinds (omega arith) o) claimed in
       let given = given-inputs g w p in
       let same-case : claimed-case w₂ o ≡ claimed-case w (word w bundles (7 * p + 0)) =
-          rw (
-            only-word-same only₂ bodies (omega arith) o,
-            only-word-same only₂ children (omega arith) o,
-            starts₂ o,
-            lengths₂ o other,
-            target,
-          ) in
+      rw (
+        only-word-same only₂ bodies (omega arith) o,
+        only-word-same only₂ children (omega arith) o,
+        starts₂ o,
+        lengths₂ o other,
+        target,
+      ) in
       let row₀ = case-words (claimed-case w (word w bundles (7 * p + 0))) ++ given in
       let w₃ = stored-all w₂ cases (10 * 0) row₀ in
       let one₃ = one-row w₂ 0 row₀ (omega arith) in
       let room₃ = one₃ .only .words in
       let first : CaseShown g w₃ r 0 (ok c) =
-          subst (λ y. CaseShown g (stored-all w₂ cases (10 * 0) (case-words y ++ given)) r 0 (ok c)) same-case
-          (claimed-row w₂ (omega arith) {r = r} {j = 0} (omega arith) given refl claimed₂
-          (λ k h. subst (λ vs. Names (getD given k 0) (getD vs k (undef 0))) (sym inputs) (given-all-name bundle is k h))) in
+      subst (λ y. CaseShown g (stored-all w₂ cases (10 * 0) (case-words y ++ given)) r 0 (ok c)) same-case
+      (claimed-row w₂ (omega arith) {r = r} {j = 0} (omega arith) given refl claimed₂
+      (λ k h. subst (λ vs. Names (getD given k 0) (getD vs k (undef 0))) (sym inputs) (given-all-name bundle is k h))) in
       let slots₃ = slots-stay (λ a h. one₃ .starts a) slots₂ in
       let start₃ : word w₃ set-starts r ≡ start = one₃ .starts r ∙ starts₂ r in
       let left₃ : ShowsSet g w₃ (word w₃ set-starts r) n (take i d ++ drop (suc i) d) =
-          rw start₃ (set-stays (only-later (one₃ .only) g) (λ k h. same-elsewhere-run w₂ cases (omega arith) (10 * 0) row₀ _) left) in
+      rw start₃ (set-stays (only-later (one₃ .only) g) (λ k h. same-elsewhere-run w₂ cases (omega arith) (10 * 0) row₀ _) left) in
       let row₁ = case-words (unclaimed-case 3 start n) in
       let w₄ = stored-all w₃ cases (10 * 1) row₁ in
       let one₄ = one-row w₃ 1 row₁ (omega arith) in
       let second : CaseShown g w₄ r 1 (err (take i d ++ drop (suc i) d)) =
-          subst (λ b. CaseShown g (stored-all w₃ cases (10 * 1) (case-words (unclaimed-case 3 b n))) r 1 (err (take i d ++ drop (suc i) d)))
-          start₃ (others-row w₃ (omega arith) {r = r} {j = 1} (omega arith) left₃) in
+      subst (λ b. CaseShown g (stored-all w₃ cases (10 * 1) (case-words (unclaimed-case 3 b n))) r 1 (err (take i d ++ drop (suc i) d)))
+      start₃ (others-row w₃ (omega arith) {r = r} {j = 1} (omega arith) left₃) in
       let first₄ = shown-stays one₄ clash slots₃ few here first in
       let only = only-then only₂ (only-then (one₃ .only) (one₄ .only)) in
       let slots₄ = slots-stay (λ a h. one₄ .starts a) slots₃ in
       let kept : (q : ℕ) → q < 33 → (q ≡ r → ⊥) → KeptRegion w w₄ q =
-          λ q h e. kept-then (kept₂ q h e) (kept-then (one-kept one₃ slots₂ q h) (one-kept one₄ slots₃ q h)) in
+      λ q h e. kept-then (kept₂ q h e) (kept-then (one-kept one₃ slots₂ q h) (one-kept one₄ slots₃ q h)) in
       let total : word w₄ head 7 ≡ 2 = one₄ .total ∙ one₃ .total ∙ total₂ in
       record {
         cases-shown = two-cases few here slots₄ total other first₄ second;
