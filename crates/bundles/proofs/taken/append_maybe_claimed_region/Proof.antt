@@ -28,8 +28,9 @@ put-set-length-requires c κs = search needs
 returns : tie.Need-returns
 returns c =
     let entered = c .before .before .before .before .before .before .before .before .before .before in
-    append-claimed _ _ _ _ (entered .before .before .before .before .before .if1 .taken) (entered .before .before .before .case-inputs .ensures)
-    (entered .insert-rewrites .ensures) (c .before .before .before .before .before .before .before .before .children .ensures)
+    append-claimed _ _ _ _ (entered .before .before .before .before .before .if1 .taken)
+    (entered .before .before .before .case-inputs .ensures) (entered .insert-rewrites .ensures)
+    (c .before .before .before .before .before .before .before .before .children .ensures)
     (c .before .before .before .before .before .before .join .ensures) (c .before .before .before .before .set-children .ensures)
     (c .before .before .swap-sets .ensures) (c .put-set-length .ensures)
 
