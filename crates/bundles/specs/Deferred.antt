@@ -11,7 +11,7 @@ use Rattle.format.specs.References.{return-types}
 use Rattle.format.specs.Valid.{ValidEnd, Valid}
 use Rattle.fields.specs.ByNumber.{edge-of, end-values}
 use Rattle.nesting.specs.Nesting.{to-region, to-return, edge-bundle, true-cond, NestState}
-use Rattle.state.specs.Sections.{Section, number, used, word, stored, stored-all, kinds, set-starts, set-lengths, bundles}
+use Rattle.state.specs.Sections.{Section, number, used, word, stored-all, kinds, set-starts, set-lengths, bundles}
 use Rattle.state.specs.Tables.{bundle-at}
 use Rattle.shown.specs.Tables.{ShowsCondition, shows-true}
 use Rattle.shown.specs.Sets.{Names, shows-region, shows-return, ShowsBundle, SameBundle}

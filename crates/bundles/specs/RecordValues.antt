@@ -1,5 +1,5 @@
 -- The values of a valid graph, as words that name them.
-use mathlib.Core.Path.{_≡_, refl, sym, ap, _∙_}
+use mathlib.Core.Path.{_≡_, refl, ap, _∙_}
 use mathlib.Core.Bool.{true, false, _&&_}
 use mathlib.Core.List.{List, [], _∷_}
 use Prim.Native.Nat.{ℕ, zero, suc, _+_, _*_, _-_, _/_, _%_, _≤_, _<_}
@@ -11,13 +11,14 @@ use borrow.Author.Tests.{lt-ltb, le-ltb, eqb-true, ltb-true}
 use Rattle.meaning.specs.Graph.{Value, const, input, instr, output, bool, undef, held, no-value, Instr, ControlInst, unreachable, return}
 use Rattle.meaning.specs.Graph.{bool-cond, number, exit-invocation, branch, select-branch, Graph, region, edges-of, no-edge}
 use Rattle.meaning.specs.Lists.{All, Within, concat}
-use Rattle.meaning.specs.facts.Elements.{all-at, getD-within, all-map}
+use Rattle.meaning.specs.facts.Elements.{all-at, getD-within}
 use Rattle.meaning.specs.facts.Tests.{picked-positive, and-both}
-use Rattle.format.specs.References.{type-in, behind-all, instructions, return-types}
+use Rattle.format.specs.References.{type-in, behind-all, instructions}
 use Rattle.format.specs.Valid.{Usable, Passed, ValidEdge, ValidEnd, Valid}
 use Rattle.fields.specs.ByNumber.{edge-of}
 use Rattle.state.specs.Values.{const-word, instr-word, undef-word, region-word}
-use Rattle.shown.specs.Values.{value, Ranged, ranged, in-const, in-false, in-true, in-undef, in-output, in-input, in-held, in-instr, in-none}
+use Rattle.shown.specs.Values.{value, Ranged, ranged, in-const, in-false, in-true, in-undef, in-output, in-input, in-held, in-instr}
+use Rattle.shown.specs.Values.{in-none}
 use Rattle.shown.specs.Values.{value-undef, value-input}
 use Rattle.shown.specs.Sets.{Names}
 use Rattle.bundles.specs.Words.{record-word, padded-by, padded}

@@ -18,7 +18,8 @@ use Rattle.nesting.specs.Nesting.{LazyCond, edge-bundle, condition-in, get-edge
 use Rattle.state.specs.Sections.{used, word, stored, stored-all, set-starts, set-lengths, bundles}
 use Rattle.state.specs.Tables.{bundle-at, bundle-words, find-by, copied, swap-removed, shifted, shift-removed, swapped}
 use Rattle.shown.specs.Tables.{ShowsCondition, shows-true}
-use Rattle.shown.specs.Sets.{Names, target-size, ShowsTarget, shows-region, shows-return, ShowsBundle, ShowsSet, SameBundle, no-bundle}
+use Rattle.shown.specs.Sets.{Names, target-size, ShowsTarget, shows-region, shows-return, ShowsBundle, ShowsSet, SameBundle}
+use Rattle.shown.specs.Sets.{no-bundle}
 use Rattle.shown.specs.States.{ShowsOwnSet, Slots}
 use Rattle.shown.specs.Kept.{Later, KeptRegion, same-bundle, same-bundle-then}
 use Rattle.shown.specs.RegionSteps.{word-there}
@@ -97,7 +98,8 @@ pub data Finds (first : ℕ) (x : DeferredTarget) (d : DeferredEdgeBundleSet) (a
       → Finds first x d a
   none-found : a ≡ 65535 → get-edge-bundle-by-target x d ≡ none → Finds first x d a
 
-module _ {g : Graph} (w : List ℕ) (few : length (g .regions) ≤ 32) (start : ℕ) {t : ℕ} {x : DeferredTarget} (of-target : ShowsTarget g t x) where
+module _ {g : Graph} (w : List ℕ) (few : length (g .regions) ≤ 32) (start : ℕ) {t : ℕ} {x : DeferredTarget}
+    (of-target : ShowsTarget g t x) where
   finds-from : (es : DeferredEdgeBundleSet) (i : ℕ) → i + length es ≤ 33 → start + (i + length es) ≤ 1097
       → ((j : ℕ) → j < length es → ShowsTarget g (word w bundles (7 * (start + (i + j)) + 0)) (getD es j no-bundle .target))
       → Finds (start + i) x es (find-by w start t (length es) i)
@@ -107,7 +109,8 @@ module _ {g : Graph} (w : List ℕ) (few : length (g .regions) ≤ 32) (start : 
       let at : bundle-at start i ≡ start + i = bundle-in start i (omega arith) (omega arith) in
       let z : i + 0 ≡ i = omega arith in
       let first : ShowsTarget g (word w bundles (7 * (start + i) + 0)) (e .target) = rw z at (each 0 (omega arith)) in
-      let tells : eqb (word w bundles (7 * bundle-at start i + 0)) t ≡ same-target x (e .target) = rw at (targets-tell few of-target first) in
+      let tells : eqb (word w bundles (7 * bundle-at start i + 0)) t ≡ same-target x (e .target) = rw at
+      (targets-tell few of-target first) in
       let rest = finds-from es (suc i) (omega arith) (omega arith)
       (λ j h. let y : suc i + j ≡ i + suc j = omega arith in rw y (each (suc j) (omega arith))) in
       rw (tells, at) (go (same-target x (e .target)) refl rest)
@@ -125,7 +128,8 @@ module _ {g : Graph} (w : List ℕ) (few : length (g .regions) ≤ 32) (start : 
       let room = y .room in
       let e = y .size in
       let z : start + 0 ≡ start = omega arith in
-      rw e (rw z at (finds-from d 0 (omega arith) (omega arith) (λ j h. let q : 0 + j ≡ j = omega arith in rw q (y .each j (omega arith) .target))))
+      rw e (rw z at
+      (finds-from d 0 (omega arith) (omega arith) (λ j h. let q : 0 + j ≡ j = omega arith in rw q (y .each j (omega arith) .target))))
 
 -- ---- One bundle out of a list.
 getD-any : {A : Type 0} (l : List A) (k : ℕ) (a b : A) → k < length l → getD l k a ≡ getD l k b
@@ -219,7 +223,8 @@ module _ (w : List ℕ) (r b : ℕ) where
   unfolding swap-removed
   swap-removed-none h = rw (eq-eqb (word w set-lengths r) 0 h)
 
-  by-length : (P : List ℕ → Type 0) → P w → P (stored (copied w b last-of) set-lengths r (word w set-lengths r - 1)) → P (swap-removed w r b)
+  by-length : (P : List ℕ → Type 0) → P w → P (stored (copied w b last-of) set-lengths r (word w set-lengths r - 1)) → P
+      (swap-removed w r b)
   by-length P x y =
       elim (ℕ-discrete (word w set-lengths r) 0) [
         | yes e ↦ rw (swap-removed-none e) x
@@ -246,6 +251,13 @@ module _ (w : List ℕ) (r b : ℕ) where
   swap-removed-beside p d =
       by-length (λ l. SameBundle w l p) (same-bundle w p)
       (same-bundle-then (copy-beside w b last-of p d) (same-elsewhere (copied w b last-of) set-lengths (omega arith) r _ p))
+
+  -- Where b is a bundle of region r's slot.
+  pub swap-removed-kept : Slots w → r < 33 → word w set-starts r ≤ b → b < word w set-starts r + 33 → (q : ℕ) → q < 33 → (q ≡ r → ⊥)
+      → KeptRegion w (swap-removed w r b) q
+  swap-removed-kept slots below from to q h d =
+      kept-beside swap-removed-only slots below h d (swap-removed-starts q) (swap-removed-lengths q d)
+      (λ p e. swap-removed-beside p (λ f. e (omega arith) (omega arith)))
 
 -- The bundle found by its target leaves region r's set: the rest is split-out-target's.
 module _ {g : Graph} {w : List ℕ} (room : used ≤ length w) {r : ℕ} (below : r < 33) {d : DeferredEdgeBundleSet}
@@ -348,7 +360,8 @@ pub record ShiftRemoved (g : Graph) (w w′ : List ℕ) (r i : ℕ) (d : Deferre
   pub beside : (p : ℕ) → (word w set-starts r ≤ p → p < word w set-starts r + 33 → ⊥) → SameBundle w w′ p
   pub set : ShowsOwnSet g w′ r (take i d ++ drop (suc i) d)
 
-pub shift-removes : {g : Graph} {w : List ℕ} → used ≤ length w → {r : ℕ} → r < 33 → {d : DeferredEdgeBundleSet} → ShowsOwnSet g w r d → (i : ℕ)
+pub shift-removes : {g : Graph} {w : List ℕ} → used ≤ length w → {r : ℕ} → r < 33 → {d : DeferredEdgeBundleSet} → ShowsOwnSet g w r d →
+    (i : ℕ)
     → i < length d → ShiftRemoved g w (shift-removed w r i) r i d
 unfolding shift-removed
 shift-removes {g} {w} room {r} below {d} shown i h =
@@ -361,7 +374,8 @@ shift-removes {g} {w} room {r} below {d} shown i h =
     let moved = shifted w start i (n - 1 - i) in
     let counted = s .only .words in
     let only = only-then (s .only) (only-word moved lengths-of-sets r (n - 1)) in
-    let same : (p : ℕ) → SameBundle moved (stored moved set-lengths r (n - 1)) p = λ p. same-elsewhere moved set-lengths (omega arith) r (n - 1) p in
+    let same : (p : ℕ) → SameBundle moved (stored moved set-lengths r (n - 1)) p = λ p. same-elsewhere moved set-lengths (omega arith) r
+    (n - 1) p in
     let starts : (q : ℕ) → word (stored moved set-lengths r (n - 1)) set-starts q ≡ word w set-starts q =
     λ q. word-other moved set-lengths r (n - 1) set-starts (omega arith) q ∙ s .starts q in
     let new-length = word-there moved set-lengths r (n - 1) (omega arith) below in
