@@ -27,6 +27,8 @@ use Rattle.merging.specs.Turns.{turned, turned-same}
 use Rattle.merging.specs.Bundles.{input-count}
 use Rattle.merging.specs.Rewriting.{rewrite-input, rewrite-case-input, rewrite-bundle, rewrite-set, rewrite-inputs, rewrite-given}
 use Rattle.merging.specs.Rewriting.{rewrite-case, rewrite-cases}
+use Rattle.merging.specs.Spare.{case-stays}
+use Rattle.merging.specs.Finds.{bundle-there}
 use Rattle.merging.specs.Rows.{rewrite-word, looked-up, met-twice, at-cons, RowShown, row-shown, named-stay, two-notes, no-note}
 
 -- ---- What rewriting leaves: all but the note, the cases' inputs and the bundles' inputs.
@@ -87,7 +89,7 @@ unfolding rewrite-input input-word input-stored
 input-as-word p m k h = rw (lt-ltb k 4 h)
 
 module _ (g : Graph) (valid : Valid g) where
-  count-by : (l : List ℕ) (t : ℕ) {x : DeferredTarget} → ShowsReturned g l → ShowsTarget g t x → input-count g l t ≡ target-size g x
+  pub count-by : (l : List ℕ) (t : ℕ) {x : DeferredTarget} → ShowsReturned g l → ShowsTarget g t x → input-count g l t ≡ target-size g x
   unfolding input-count
   count-by l t back (shows-region {r} e h) =
       let z = valid .count in
@@ -173,10 +175,6 @@ module _ (g : Graph) (valid : Valid g) where
     pub behind : (q : ℕ) → start + i + length d ≤ q → SameBundle l l′ q
     pub tables : ShowsTables l′ (with-twice (any (λ e. bundle-found s e .twice) d) s)
 
-  bundle-there : (start i : ℕ) → start < 1097 → i < 33 → bundle-at start i ≡ start + i
-  unfolding bundle-at
-  bundle-there start i a b = rw (lt-ltb start 1097 a, lt-ltb i 33 b)
-
   abbrev set-step : ℕ → List ℕ → ℕ → List ℕ
   set-step start m i = rewrite-bundle g m (bundle-at start i)
 
@@ -256,23 +254,13 @@ module _ (g : Graph) (valid : Valid g) where
     pub behind : (x : ℕ) → 10 * j + 10 ≤ x → word l′ cases x ≡ word l cases x
     pub tables : ShowsTables l′ (with-twice (given-note s c) s)
 
-  -- A case whose own words stay.
-  pub case-stays : {l l′ : List ℕ} → Stays l l′ → (r j : ℕ) → ((k : ℕ) → k < 4 → word l′ cases (10 * j + (6 + k)) ≡ word l cases (10 * j + (6 + k)))
+  -- A case whose inputs stay.
+  inputs-stay : {l l′ : List ℕ} → Stays l l′ → (r j : ℕ)
+      → ((k : ℕ) → k < 4 → word l′ cases (10 * j + (6 + k)) ≡ word l cases (10 * j + (6 + k)))
       → {c : MaybeClaimedRegion} → ShowsCase g l r j c → ShowsCase g l′ r j c
-  case-stays {l} {l′} st r j same (shows-ok {c} kind origin in-graph body below nodes start size inputs) =
-      let f = st .case-fields j in
-      let starts : section l′ set-starts ≡ section l set-starts = st .others set-starts (omega arith) (omega arith) (omega arith) in
-      shows-ok {c = c} (f 0 (omega arith) ∙ kind) (f 1 (omega arith) ∙ origin) in-graph (f 2 (omega arith) ∙ body) below
-      (rw (f 3 (omega arith)) (stays-later g st .nodes-stay nodes))
-      (f 4 (omega arith) ∙ start ∙ ap (λ z. getD z (c .origin) 0) (sym starts)) size (λ k h. rw (same k h) (inputs k h))
-  case-stays st r j same (shows-nothing kind none) =
-      let f = st .case-fields j in shows-nothing (f 0 (omega arith) ∙ kind) (f 5 (omega arith) ∙ none)
-  case-stays st r j same (shows-edge {d} kind start one) =
-      let f = st .case-fields j in shows-edge {d = d} (f 0 (omega arith) ∙ kind) (f 4 (omega arith) ∙ start) (f 5 (omega arith) ∙ one)
-  case-stays {l} {l′} st r j same (shows-others {d} kind start) =
-      let f = st .case-fields j in
-      let starts : section l′ set-starts ≡ section l set-starts = st .others set-starts (omega arith) (omega arith) (omega arith) in
-      shows-others {d = d} (f 0 (omega arith) ∙ kind) (f 4 (omega arith) ∙ start ∙ ap (λ z. getD z r 0) (sym starts))
+  inputs-stay st r j same x =
+      case-stays (stays-later g st) r j (λ q. ap (λ z. getD z q 0) (st .others set-starts (omega arith) (omega arith) (omega arith)))
+      (λ i h. st .case-fields j i h) same x
 
   module _ (s : NestState) (all : (r : ℕ) → ChainsEnd (s .region-input-rewrites) r) (l : List ℕ) (t : ShowsTables l s)
       (names : NamedRewrites l) (r j : ℕ) (below : j < 8) where
@@ -410,7 +398,7 @@ module _ (g : Graph) (valid : Valid g) where
       let l′ = rewrite-set g m start n in
       record {
         stays = stays-then st (set .stays);
-        shown = case-stays (set .stays) r j (λ k h. ap (λ z. getD z (10 * j + (6 + k)) 0) (set .same-cases)) (given .shown);
+        shown = inputs-stay (set .stays) r j (λ k h. ap (λ z. getD z (10 * j + (6 + k)) 0) (set .same-cases)) (given .shown);
         set = rw (deferred-found s c, set .stays .case-fields j 4 (omega arith), set .stays .case-fields j 5 (omega arith))
             (set-shown old-set set);
         before = λ q h. ap (λ z. getD z q 0) (set .same-cases) ∙ given .before q h;
@@ -485,7 +473,7 @@ module _ (g : Graph) (valid : Valid g) where
       let m = case-found s c .twice in
       let next : (k : ℕ) → suc j + k ≡ j + suc k = λ k. omega arith in
       let ih = cases-turned r cs (with-twice m s) all l₁ (one .tables) (names-stay st names) (returned-stays st back) (suc j) (omega arith)
-      (λ k h. rw (next k) (case-stays st r (j + suc k) (λ i d. one .behind (10 * (j + suc k) + (6 + i)) (omega arith))
+      (λ k h. rw (next k) (inputs-stay st r (j + suc k) (λ i d. one .behind (10 * (j + suc k) + (6 + i)) (omega arith))
       (each (suc k) (omega arith))))
       (λ k h. rw (next k) (moved-set st (j + suc k) (λ i d. one .outside (word l cases (10 * (j + suc k) + 4) + i)
       (λ p x e. first-apart k p i h x d (sym e))) (sets (suc k) (omega arith))))
@@ -505,7 +493,7 @@ module _ (g : Graph) (valid : Valid g) where
       record {
         stays = stays-then st (ih .stays);
         each = at-cons (λ q x. ShowsCase g l′ r q x) no-case j (length cs) us
-            (case-stays (ih .stays) r j (λ k h. ih .before (10 * j + (6 + k)) (omega arith)) (one .shown)) (ih .each);
+            (inputs-stay (ih .stays) r j (λ k h. ih .before (10 * j + (6 + k)) (omega arith)) (one .shown)) (ih .each);
         sets = at-cons (λ q x. ShowsSet g l′ (word l′ cases (10 * q + 4)) (word l′ cases (10 * q + 5)) (deferred-of x)) no-case j (length cs) us
             (moved-set (ih .stays) j (λ i d. ih .outside (word l₁ cases (10 * j + 4) + i) (λ k p a b e.
             first-apart k i p a (rw (length-of j) at d) (rw (next k, length-of (j + suc k)) at b)
