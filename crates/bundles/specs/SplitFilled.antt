@@ -158,12 +158,8 @@ module _ {g : Graph} (few : length (g .regions) ≤ 32) {r : ℕ} (here : r < le
       let left : ShowsSet g w₂ start n (take i d ++ drop (suc i) d) =
       set-stays (only-later (only-total rest 2) g) (λ k h. same-elsewhere rest head (omega arith) 7 2 _)
       (rw (x .starts r) at (x .set)) in
-<<<<<<< HEAD
-      let claimed₂ = claimed-stays (only-later only₂ g) (kept₂ o (omega arith) other) (only-word-same only₂ kinds (omega arith) o) claimed in
-=======
       let claimed₂ = claimed-stays (only-later only₂ g) (kept₂ o (omega arith) other)
       (only-word-same only₂ kinds (omega arith) o) claimed in
->>>>>>> bundles
       let given = given-inputs g w p in
       let same-case : claimed-case w₂ o ≡ claimed-case w (word w bundles (7 * p + 0)) =
       rw (
