@@ -192,11 +192,11 @@ module _ (l : List ℕ) (es : List RewriteEntry) (shown : ShowsRewrites (section
       }
 
 -- ---- The step that looks up one value: `rewrite-values` of it alone.
-or-false : (b : Bool) → (b || false) ≡ b
+pub or-false : (b : Bool) → (b || false) ≡ b
 or-false true = refl
 or-false false = refl
 
-or-assoc : (a b c : Bool) → ((a || b) || c) ≡ (a || (b || c))
+pub or-assoc : (a b c : Bool) → ((a || b) || c) ≡ (a || (b || c))
 or-assoc true b c = refl
 or-assoc false b c = refl
 

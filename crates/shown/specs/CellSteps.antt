@@ -27,7 +27,7 @@ use Rattle.shown.specs.Sets.{SameBundle}
 use Rattle.shown.specs.Cells.{CellIs, ShowsKept, none-kept, one-kept, ShowsNodes, no-nodes, all-blocks, two-lists, then-exit}
 use Rattle.shown.specs.Cells.{then-select, the-loop, ShowsCaseCells, no-cases, case-and, ShowsChildren, case-count}
 use Rattle.shown.specs.Kept.{Later, later-same, KeptRegion, kept-same}
-use Rattle.shown.specs.RegionSteps.{bundles-same, kept-by, tables-by, states-by, StatesStay}
+use Rattle.shown.specs.RegionSteps.{Aside, bundles-same, kept-by, tables-by, states-by, StatesStay}
 
 -- ---- Lists before a run of words stay.
 module _ (g : Graph) (l : List ℕ) (i : ℕ) (xs : List ℕ) where
@@ -141,6 +141,9 @@ module _ {w w′ : List ℕ} {x : Cell} {h : ℕ} (step : Adds w w′ x h) (free
 
   pub cell-states : (g : Graph) → StatesStay g w w′
   cell-states = states-by cell-changes (omega arith) (omega arith) (omega arith)
+
+  pub cell-aside : (g : Graph) → Aside g w w′
+  cell-aside g = record { later = cell-later g; states = cell-states g; regions = cell-regions }
 
   pub cell-bundles : (p : ℕ) → SameBundle w w′ p
   cell-bundles = bundles-same (cell-changes .others bundles (omega arith) (omega arith))

@@ -21,7 +21,7 @@ use Rattle.shown.specs.Sets.{ShowsSet, SameBundle}
 use Rattle.shown.specs.Cells.{ShowsChildren}
 use Rattle.shown.specs.States.{ShowsOwnSet, ShowsRegion, is-not-begun, is-in-progress, is-ready, is-claimed, ShowsState}
 use Rattle.shown.specs.States.{NamedRewrites, Slots}
-use Rattle.shown.specs.Kept.{Later, later-then, KeptRegion, kept-then, region-stays, set-stays, same-bundle}
+use Rattle.shown.specs.Kept.{Later, later-same, later-then, KeptRegion, kept-same, kept-then, region-stays, set-stays, same-bundle}
 use Rattle.shown.specs.Kept.{same-bundle-then}
 
 -- ---- A word stored in a section, and any other word of any section.
@@ -121,10 +121,15 @@ states-by changes d e h g =
       ready-kept = λ q a b. kept-by changes d q;
     }
 
+pub slots-stay : {w w′ : List ℕ} → ((a : ℕ) → a < 33 → word w′ set-starts a ≡ word w set-starts a) → Slots w → Slots w′
+slots-stay e y =
+    record { slot-number = y .slot-number; starts = λ a h. e a h ∙ y .starts a h; below = y .below; own = y .own }
+
+pub named-by : {w w′ : List ℕ} → section w′ rewrites ≡ section w rewrites → NamedRewrites w → NamedRewrites w′
+named-by e n = record { below = λ r k a b d. rw e (n .below r k a b (λ z. d (ap (λ l. getD l (5 * r) 0) e ∙ z))) }
+
 pub named-stay : {w w′ : List ℕ} → SameTables w w′ → NamedRewrites w → NamedRewrites w′
-named-stay t n =
-    let e = t .same-rewrites in
-    record { below = λ r k a b d. rw e (n .below r k a b (λ z. d (ap (λ l. getD l (5 * r) 0) e ∙ z))) }
+named-stay t n = named-by (t .same-rewrites) n
 
 module _ {g : Graph} {w w′ : List ℕ} (later : Later g w w′) (stay : StatesStay g w w′) where
   region-next : (q : ℕ) → q < length (g .regions) → {x : StructurizeRegionState} → ShowsRegion g w q x → ShowsRegion g w′ q x
@@ -143,12 +148,7 @@ module _ {g : Graph} {w w′ : List ℕ} (later : Later g w w′) (stay : States
         named = n;
         size = rw e (x .size);
         regions = λ q h. subst (λ z. ShowsRegion g w′ q (getD z q not-begun)) (sym e) (region-next q h (x .regions q h));
-        slots = (let y = x .slots in record {
-          slot-number = y .slot-number;
-          starts = λ a h. stay .same-starts a h ∙ y .starts a h;
-          below = y .below;
-          own = y .own;
-        });
+        slots = slots-stay (λ a h. stay .same-starts a h) (x .slots);
         returned = (let y = x .returned in record {
           size = stay .same-returned 8 (omega arith) ∙ y .size;
           types = λ k h. stay .same-returned (9 + k) (omega arith) ∙ y .types k h;
@@ -157,6 +157,33 @@ module _ {g : Graph} {w w′ : List ℕ} (later : Later g w w′) (stay : States
 
   pub state-stays : {s : NestState} → SameTables w w′ → ShowsState g w s → ShowsState g w′ s
   state-stays t x = state-next (tables-stay t (x .tables)) (named-stay t (x .named)) refl x
+
+-- A step that stores nothing of any region's own.
+pub record Aside (g : Graph) (w w′ : List ℕ) : Type 0 where
+  pub later : Later g w w′
+  pub states : StatesStay g w w′
+  pub regions : (q : ℕ) → KeptRegion w w′ q
+
+pub aside-same : (g : Graph) (w : List ℕ) → Aside g w w
+aside-same g w =
+    record {
+      later = later-same g w;
+      states = states-by (nothing-changes head 0 w) (omega arith) (omega arith) (omega arith) g;
+      regions = kept-same w;
+    }
+
+pub aside-then : {g : Graph} {w w₁ w₂ : List ℕ} → Aside g w w₁ → Aside g w₁ w₂ → Aside g w w₂
+aside-then a b =
+    record {
+      later = later-then (a .later) (b .later);
+      states = states-then (a .states) (b .states);
+      regions = λ q. kept-then (a .regions q) (b .regions q);
+    }
+
+pub aside-by : {k : Section} {i : ℕ} {w w′ : List ℕ} → ChangesOnly k i w w′ → MakesNothing k i → OfNoRegion k → (2 ≡ number k → ⊥) → i < 8
+    → (g : Graph) → Aside g w w′
+aside-by changes m d e h g =
+    record { later = later-by changes m g; states = states-by changes d e h g; regions = kept-by changes d }
 
 -- The tables have nothing of the regions' states.
 pub tables-of-states : {w : List ℕ} {s : NestState} (xs : List StructurizeRegionState) → ShowsTables w s
@@ -201,17 +228,6 @@ concerns-then a b =
       same-kinds = λ q. b .same-kinds q ∙ a .same-kinds q;
       same-starts = λ q. b .same-starts q ∙ a .same-starts q;
       same-head = λ q. b .same-head q ∙ a .same-head q;
-    }
-
--- A region that is not Ready shows nothing of its own.
-pub concerns-states : {g : Graph} {r : ℕ} {w w′ : List ℕ} → Concerns g r w w′ → length (g .regions) ≤ 32
-    → (word w kinds r ≡ 2 → ⊥) → StatesStay g w w′
-concerns-states {w} c few d =
-    record {
-      same-kinds = λ q h. c .same-kinds q;
-      same-starts = λ a h. c .same-starts a;
-      same-returned = λ k h. c .same-head k;
-      ready-kept = λ q h e. c .others q (omega arith) (λ z. d (ap (λ p. word w kinds p) (sym z) ∙ e));
     }
 
 module _ (g : Graph) (w : List ℕ) where
@@ -281,12 +297,7 @@ module _ (g : Graph) (w : List ℕ) where
             | no d ↦ rw (getD-set-other (s .region-states) r q y not-begun d)
                 (region-stays later (kept-by changes (omega arith) q) (word-apart w kinds r x kinds q d) (shown .regions q h))
           ];
-          slots = (let z = shown .slots in record {
-            slot-number = z .slot-number;
-            starts = λ a h. ap (λ l. getD l a 0) (changes .others set-starts (omega arith) (omega arith)) ∙ z .starts a h;
-            below = z .below;
-            own = z .own;
-          });
+          slots = slots-stay (λ a h. ap (λ l. getD l a 0) (changes .others set-starts (omega arith) (omega arith))) (shown .slots);
           returned = (let z = shown .returned in record {
             size = changes .totals 8 (omega arith) ∙ z .size;
             types = λ k h. ap (λ l. getD l (9 + k) 0) (section-other w kinds r x head (omega arith)) ∙ z .types k h;
@@ -385,3 +396,56 @@ module _ {p : ℕ} {w w′ : List ℕ} (only : OnlyBundle p w w′) where
         same-starts = λ q. ap (λ l. getD l q 0) (changes .others set-starts (omega arith) (omega arith));
         same-head = λ q. ap (λ l. getD l q 0) (only .same-head);
       }
+
+-- ---- Steps together, of which region r alone is concerned; the tables may change.
+pub record Within (g : Graph) (r : ℕ) (w w′ : List ℕ) : Type 0 where
+  pub later : Later g w w′
+  pub others : (q : ℕ) → q < 33 → (q ≡ r → ⊥) → KeptRegion w w′ q
+  pub same-kinds : (q : ℕ) → q < length (g .regions) → word w′ kinds q ≡ word w kinds q
+  pub same-starts : (a : ℕ) → a < 33 → word w′ set-starts a ≡ word w set-starts a
+  pub same-returned : (k : ℕ) → 8 ≤ k → word w′ head k ≡ word w head k
+
+pub within-then : {g : Graph} {r : ℕ} {w w₁ w₂ : List ℕ} → Within g r w w₁ → Within g r w₁ w₂ → Within g r w w₂
+within-then a b =
+    record {
+      later = later-then (a .later) (b .later);
+      others = λ q h d. kept-then (a .others q h d) (b .others q h d);
+      same-kinds = λ q h. b .same-kinds q h ∙ a .same-kinds q h;
+      same-starts = λ q h. b .same-starts q h ∙ a .same-starts q h;
+      same-returned = λ k h. b .same-returned k h ∙ a .same-returned k h;
+    }
+
+pub within-aside : {g : Graph} (r : ℕ) {w w′ : List ℕ} → Aside g w w′ → Within g r w w′
+within-aside r a =
+    record {
+      later = a .later;
+      others = λ q h d. a .regions q;
+      same-kinds = a .states .same-kinds;
+      same-starts = a .states .same-starts;
+      same-returned = a .states .same-returned;
+    }
+
+pub within-concerns : {g : Graph} {r : ℕ} {w w′ : List ℕ} → Concerns g r w w′ → Within g r w w′
+within-concerns c =
+    record {
+      later = c .later;
+      others = c .others;
+      same-kinds = λ q h. c .same-kinds q;
+      same-starts = λ q h. c .same-starts q;
+      same-returned = λ k h. c .same-head k;
+    }
+
+-- A region that is not Ready shows nothing of its own.
+pub within-states : {g : Graph} {r : ℕ} {w w′ : List ℕ} → Within g r w w′ → length (g .regions) ≤ 32 → (word w kinds r ≡ 2 → ⊥)
+    → StatesStay g w w′
+within-states {w} c few d =
+    record {
+      same-kinds = c .same-kinds;
+      same-starts = c .same-starts;
+      same-returned = c .same-returned;
+      ready-kept = λ q h e. c .others q (omega arith) (λ z. d (ap (λ p. word w kinds p) (sym z) ∙ e));
+    }
+
+pub concerns-states : {g : Graph} {r : ℕ} {w w′ : List ℕ} → Concerns g r w w′ → length (g .regions) ≤ 32
+    → (word w kinds r ≡ 2 → ⊥) → StatesStay g w w′
+concerns-states c few d = within-states (within-concerns c) few d

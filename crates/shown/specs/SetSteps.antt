@@ -10,20 +10,22 @@ use lib.ListN.{length, getD, take, drop, length-append, length-drop, List·getD-
 use lib.Seq.{length-take-le, getD-take, getD-drop, getD-append-add}
 use lib.Dec.{eqb, ltb}
 use borrow.Author.Tests.{lt-ltb, le-ltb, eq-eqb, ne-eqb, eqb-true}
-use Rattle.meaning.specs.Graph.{Graph}
+use Rattle.meaning.specs.Graph.{Graph, Value, undef}
 use Rattle.meaning.specs.Lists.{pick}
 use Rattle.meaning.specs.facts.Tests.{clash, eqb-sym}
 use Rattle.nesting.specs.Nesting.{DeferredTarget, to-region, to-return, DeferredEdgeBundle, DeferredEdgeBundleSet, same-target}
-use Rattle.nesting.specs.Nesting.{condition-in, get-edge-bundle-by-target, split-out-target}
-use Rattle.state.specs.Sections.{used, word, stored, set-starts, set-lengths, bundles}
+use Rattle.nesting.specs.Nesting.{LazyCond, edge-bundle, condition-in, get-edge-bundle-by-target, split-out-target}
+use Rattle.state.specs.Sections.{used, word, stored, stored-all, set-starts, set-lengths, bundles}
 use Rattle.state.specs.Tables.{bundle-at, bundle-words, find-by, copied, swap-removed, shifted, shift-removed, swapped}
 use Rattle.shown.specs.Tables.{ShowsCondition, shows-true}
-use Rattle.shown.specs.Sets.{ShowsTarget, shows-region, shows-return, ShowsBundle, ShowsSet, SameBundle, no-bundle}
+use Rattle.shown.specs.Sets.{Names, target-size, ShowsTarget, shows-region, shows-return, ShowsBundle, ShowsSet, SameBundle}
+use Rattle.shown.specs.Sets.{no-bundle}
 use Rattle.shown.specs.States.{ShowsOwnSet, Slots}
 use Rattle.shown.specs.Kept.{Later, KeptRegion, same-bundle, same-bundle-then}
+use Rattle.shown.specs.RegionSteps.{word-there}
 use Rattle.shown.specs.SetStores.{OnlySets, only-same, only-word, only-run, only-then, only-later, only-kept, starts-of-sets}
-use Rattle.shown.specs.SetStores.{lengths-of-sets, bundles-of-sets, word-stored, word-beside, word-other, run-elsewhere-word, Moves}
-use Rattle.shown.specs.SetStores.{moves-then, same-moves, same-elsewhere, copy-moves, copy-beside}
+use Rattle.shown.specs.SetStores.{lengths-of-sets, bundles-of-sets, word-beside, word-other, run-elsewhere-word, Moves}
+use Rattle.shown.specs.SetStores.{moves-then, same-moves, same-elsewhere, bundle-stored, copy-moves, copy-beside}
 
 pub bundle-in : (start i : ℕ) → start < 1097 → i < 33 → bundle-at start i ≡ start + i
 unfolding bundle-at
@@ -96,7 +98,8 @@ pub data Finds (first : ℕ) (x : DeferredTarget) (d : DeferredEdgeBundleSet) (a
       → Finds first x d a
   none-found : a ≡ 65535 → get-edge-bundle-by-target x d ≡ none → Finds first x d a
 
-module _ {g : Graph} (w : List ℕ) (few : length (g .regions) ≤ 32) (start : ℕ) {t : ℕ} {x : DeferredTarget} (of-target : ShowsTarget g t x) where
+module _ {g : Graph} (w : List ℕ) (few : length (g .regions) ≤ 32) (start : ℕ) {t : ℕ} {x : DeferredTarget}
+    (of-target : ShowsTarget g t x) where
   finds-from : (es : DeferredEdgeBundleSet) (i : ℕ) → i + length es ≤ 33 → start + (i + length es) ≤ 1097
       → ((j : ℕ) → j < length es → ShowsTarget g (word w bundles (7 * (start + (i + j)) + 0)) (getD es j no-bundle .target))
       → Finds (start + i) x es (find-by w start t (length es) i)
@@ -106,7 +109,8 @@ module _ {g : Graph} (w : List ℕ) (few : length (g .regions) ≤ 32) (start : 
       let at : bundle-at start i ≡ start + i = bundle-in start i (omega arith) (omega arith) in
       let z : i + 0 ≡ i = omega arith in
       let first : ShowsTarget g (word w bundles (7 * (start + i) + 0)) (e .target) = rw z at (each 0 (omega arith)) in
-      let tells : eqb (word w bundles (7 * bundle-at start i + 0)) t ≡ same-target x (e .target) = rw at (targets-tell few of-target first) in
+      let tells : eqb (word w bundles (7 * bundle-at start i + 0)) t ≡ same-target x (e .target) = rw at
+      (targets-tell few of-target first) in
       let rest = finds-from es (suc i) (omega arith) (omega arith)
       (λ j h. let y : suc i + j ≡ i + suc j = omega arith in rw y (each (suc j) (omega arith))) in
       rw (tells, at) (go (same-target x (e .target)) refl rest)
@@ -124,7 +128,8 @@ module _ {g : Graph} (w : List ℕ) (few : length (g .regions) ≤ 32) (start : 
       let room = y .room in
       let e = y .size in
       let z : start + 0 ≡ start = omega arith in
-      rw e (rw z at (finds-from d 0 (omega arith) (omega arith) (λ j h. let q : 0 + j ≡ j = omega arith in rw q (y .each j (omega arith) .target))))
+      rw e (rw z at
+      (finds-from d 0 (omega arith) (omega arith) (λ j h. let q : 0 + j ≡ j = omega arith in rw q (y .each j (omega arith) .target))))
 
 -- ---- One bundle out of a list.
 getD-any : {A : Type 0} (l : List A) (k : ℕ) (a b : A) → k < length l → getD l k a ≡ getD l k b
@@ -218,7 +223,8 @@ module _ (w : List ℕ) (r b : ℕ) where
   unfolding swap-removed
   swap-removed-none h = rw (eq-eqb (word w set-lengths r) 0 h)
 
-  by-length : (P : List ℕ → Type 0) → P w → P (stored (copied w b last-of) set-lengths r (word w set-lengths r - 1)) → P (swap-removed w r b)
+  by-length : (P : List ℕ → Type 0) → P w → P (stored (copied w b last-of) set-lengths r (word w set-lengths r - 1)) → P
+      (swap-removed w r b)
   by-length P x y =
       elim (ℕ-discrete (word w set-lengths r) 0) [
         | yes e ↦ rw (swap-removed-none e) x
@@ -246,6 +252,13 @@ module _ (w : List ℕ) (r b : ℕ) where
       by-length (λ l. SameBundle w l p) (same-bundle w p)
       (same-bundle-then (copy-beside w b last-of p d) (same-elsewhere (copied w b last-of) set-lengths (omega arith) r _ p))
 
+  -- Where b is a bundle of region r's slot.
+  pub swap-removed-kept : Slots w → r < 33 → word w set-starts r ≤ b → b < word w set-starts r + 33 → (q : ℕ) → q < 33 → (q ≡ r → ⊥)
+      → KeptRegion w (swap-removed w r b) q
+  swap-removed-kept slots below from to q h d =
+      kept-beside swap-removed-only slots below h d (swap-removed-starts q) (swap-removed-lengths q d)
+      (λ p e. swap-removed-beside p (λ f. e (omega arith) (omega arith)))
+
 -- The bundle found by its target leaves region r's set: the rest is split-out-target's.
 module _ {g : Graph} {w : List ℕ} (room : used ≤ length w) {r : ℕ} (below : r < 33) {d : DeferredEdgeBundleSet}
     (shown : ShowsOwnSet g w r d) where
@@ -253,7 +266,7 @@ module _ {g : Graph} {w : List ℕ} (room : used ≤ length w) {r : ℕ} (below 
   own-start = word w set-starts r
 
   length-stored : (l : List ℕ) (x : ℕ) → used ≤ length l → word (stored l set-lengths r x) set-lengths r ≡ x
-  length-stored l x h = word-stored l set-lengths r x (omega arith) below
+  length-stored l x h = word-there l set-lengths r x (omega arith) below
 
   pub swap-removed-set : (x : DeferredTarget) (i : ℕ) → i < length d → same-target x (getD d i no-bundle .target) ≡ true
       → ((j : ℕ) → j < i → same-target x (getD d j no-bundle .target) ≡ false)
@@ -347,7 +360,8 @@ pub record ShiftRemoved (g : Graph) (w w′ : List ℕ) (r i : ℕ) (d : Deferre
   pub beside : (p : ℕ) → (word w set-starts r ≤ p → p < word w set-starts r + 33 → ⊥) → SameBundle w w′ p
   pub set : ShowsOwnSet g w′ r (take i d ++ drop (suc i) d)
 
-pub shift-removes : {g : Graph} {w : List ℕ} → used ≤ length w → {r : ℕ} → r < 33 → {d : DeferredEdgeBundleSet} → ShowsOwnSet g w r d → (i : ℕ)
+pub shift-removes : {g : Graph} {w : List ℕ} → used ≤ length w → {r : ℕ} → r < 33 → {d : DeferredEdgeBundleSet} → ShowsOwnSet g w r d →
+    (i : ℕ)
     → i < length d → ShiftRemoved g w (shift-removed w r i) r i d
 unfolding shift-removed
 shift-removes {g} {w} room {r} below {d} shown i h =
@@ -360,10 +374,11 @@ shift-removes {g} {w} room {r} below {d} shown i h =
     let moved = shifted w start i (n - 1 - i) in
     let counted = s .only .words in
     let only = only-then (s .only) (only-word moved lengths-of-sets r (n - 1)) in
-    let same : (p : ℕ) → SameBundle moved (stored moved set-lengths r (n - 1)) p = λ p. same-elsewhere moved set-lengths (omega arith) r (n - 1) p in
+    let same : (p : ℕ) → SameBundle moved (stored moved set-lengths r (n - 1)) p = λ p. same-elsewhere moved set-lengths (omega arith) r
+    (n - 1) p in
     let starts : (q : ℕ) → word (stored moved set-lengths r (n - 1)) set-starts q ≡ word w set-starts q =
     λ q. word-other moved set-lengths r (n - 1) set-starts (omega arith) q ∙ s .starts q in
-    let new-length = word-stored moved set-lengths r (n - 1) (omega arith) below in
+    let new-length = word-there moved set-lengths r (n - 1) (omega arith) below in
     let new-size = shifted-size d i h in
     rw (ne-eqb n 0 (omega arith))
     record {
@@ -403,14 +418,14 @@ module _ (w : List ℕ) (room : used ≤ length w) (a b : ℕ) (at-a : a < 33) (
   pub swapped-second : word (swapped w a b) set-starts b ≡ word w set-starts a
   swapped-second =
       let counted = only-word w starts-of-sets a (word w set-starts b) .words in
-      word-stored first-stored set-starts b (word w set-starts a) (omega arith) at-b
+      word-there first-stored set-starts b (word w set-starts a) (omega arith) at-b
 
   pub swapped-first : word (swapped w a b) set-starts a ≡ word w set-starts b
   swapped-first =
       elim (ℕ-discrete a b) [
         | yes e ↦ ap (λ q. word (swapped w a b) set-starts q) e ∙ swapped-second ∙ ap (λ q. word w set-starts q) e
         | no d ↦ word-beside first-stored set-starts b (word w set-starts a) a d
-            ∙ word-stored w set-starts a (word w set-starts b) (omega arith) at-a
+            ∙ word-there w set-starts a (word w set-starts b) (omega arith) at-a
       ]
 
   pub swapped-other : (q : ℕ) → (q ≡ a → ⊥) → (q ≡ b → ⊥) → word (swapped w a b) set-starts q ≡ word w set-starts q
@@ -488,3 +503,23 @@ condition-shown {n} {d} x i h =
       | yes e ↦ rw (eq-eqb n 1 e, eq-eqb (length d) 1 (omega arith)) record { tree = shows-true refl; made = omega arith }
       | no e ↦ rw (ne-eqb n 1 e, ne-eqb (length d) 1 (omega arith)) (x .each i h .condition)
     ]
+
+-- ---- A bundle stored whole: target, count, condition and four words, of which the first are its inputs.
+pub bundle-made : {g : Graph} (w : List ℕ) (p : ℕ) {t n c : ℕ} (ws : List ℕ) {x : DeferredTarget} {vs : List Value} {y : LazyCond}
+    → used ≤ length w → p < 1097 → length ws ≡ 4 → ShowsTarget g t x → ShowsCondition w c y → length vs ≡ target-size g x → length vs ≤ 4
+    → ((k : ℕ) → k < length vs → Names (getD ws k 0) (getD vs k (undef 0)))
+    → ShowsBundle g (stored-all w bundles (7 * p) (t ∷ n ∷ c ∷ ws)) p (edge-bundle x n vs y)
+bundle-made {g} w p {t} {n} {c} ws room h four target condition size few names =
+    let xs = t ∷ n ∷ c ∷ ws in
+    let seven : length xs ≡ 7 = ap (λ m. suc (suc (suc m))) four in
+    let at : (i : ℕ) → i < 7 → word (stored-all w bundles (7 * p) xs) bundles (7 * p + i) ≡ getD xs i 0 =
+    λ i k. bundle-stored w p xs seven room h i k in
+    let later = only-later (only-run w bundles-of-sets (7 * p) xs) g in
+    record {
+      target = rw (at 0 (omega arith)) target;
+      count = at 1 (omega arith);
+      condition = rw (at 2 (omega arith)) (later .conditions-stay condition);
+      size = size;
+      few = few;
+      inputs = λ k j. let e : 3 + k ≡ suc (suc (suc k)) = omega arith in rw (at (3 + k) (omega arith), e) (names k j);
+    }

@@ -5,10 +5,11 @@ use Prim.Native.Nat.{ℕ, zero, suc, _+_, _*_, _≤_, _<_}
 use native.Mathlib.Omega.{arith}
 use native.Mathlib.Decide.{decLt}
 use lib.ListN.{length, getD}
-use lib.Seq.{sets, getD-set-same, getD-set-other}
+use lib.Seq.{getD-set-other}
 use Rattle.meaning.specs.Graph.{Graph}
 use Rattle.nesting.specs.Nesting.{NestState, StructurizeRegionState}
-use Rattle.state.specs.Sections.{Section, number, start, size, used, section, word, stored, stored-all, front, head, kinds, backedges, set-starts}
+use Rattle.state.specs.Sections.{Section, number, start, size, used, section, word, stored, stored-all, front, head, kinds, backedges}
+use Rattle.state.specs.Sections.{set-starts}
 use Rattle.state.specs.Sections.{set-lengths, children, bodies, levels, cases, rewrites, outputs, conditions, cells, bundles}
 use Rattle.state.specs.Apart.{stored-length, section-stored, section-other}
 use Rattle.state.specs.Tables.{bundle-words, copied}
@@ -22,10 +23,6 @@ use Rattle.shown.specs.Kept.{Later, KeptRegion, region-stays}
 
 -- ---- A word of a section.
 module _ (w : List ℕ) (k : Section) (i x : ℕ) where
-  pub word-stored : start k + size k ≤ length w → i < size k → word (stored w k i x) k i ≡ x
-  word-stored room h =
-      rw (section-stored w k i x) (getD-set-same (section w k) i x 0 (rw (part-length (start k) (size k) w room) h))
-
   pub word-beside : (q : ℕ) → (q ≡ i → ⊥) → word (stored w k i x) k q ≡ word w k q
   word-beside q d = rw (section-stored w k i x) (getD-set-other (section w k) i q x 0 d)
 
@@ -215,7 +212,8 @@ same-elsewhere-run w k d i xs p = record { words = λ j h. run-elsewhere-word w 
 
 -- A bundle stored whole, and the others.
 module _ (w : List ℕ) (p : ℕ) (xs : List ℕ) (seven : length xs ≡ 7) where
-  pub bundle-stored : used ≤ length w → p < 1097 → (i : ℕ) → i < 7 → word (stored-all w bundles (7 * p) xs) bundles (7 * p + i) ≡ getD xs i 0
+  pub bundle-stored : used ≤ length w → p < 1097 → (i : ℕ) → i < 7 → word (stored-all w bundles (7 * p) xs) bundles
+      (7 * p + i) ≡ getD xs i 0
   bundle-stored room h i j = run-word w bundles (7 * p) xs (omega arith) (omega arith) i (omega arith)
 
   pub bundle-beside : (q : ℕ) → (q ≡ p → ⊥) → SameBundle w (stored-all w bundles (7 * p) xs) q

@@ -1,0 +1,27 @@
+use Rattle.bundles.specs.Paths.{run-then}
+use mathlib.Core.List.{[], _∷_}
+use Rattle.state.specs.Sections.{bundles}
+use borrow.Author.Needs.{needs}
+use Rattle.bundles.proofs.bundles.put_bundle.Statement.{statement}
+use Rattle.bundles.proofs.bundles.put_bundle.Tie as tie
+
+set-bundle-requires : tie.Need-set-bundle-requires
+set-bundle-requires c κs = search needs
+
+mul-put-all : tie.Need-mul-put-all
+mul-put-all c = search needs
+
+add-put-all : tie.Need-add-put-all
+add-put-all c = search needs
+
+put-all-requires : tie.Need-put-all-requires
+put-all-requires c κs = search needs
+
+returns : tie.Need-returns
+returns c = run-then _ bundles _
+    (c .before .before .before .before .before .args .t ∷ c .before .before .before .before .before .args .n
+    ∷ c .before .before .before .before .before .args .c ∷ []) _ (c .before .before .before .set-bundle .ensures) (c .put-all .ensures)
+
+pub put-bundle-spec : {M : Type 1} → statement M
+put-bundle-spec =
+    tie.close (tie.spec set-bundle-requires mul-put-all add-put-all put-all-requires returns)

@@ -1,0 +1,9 @@
+pub mod Words
+pub mod Paths
+pub mod Targets
+pub mod RecordValues
+pub mod Deferred
+pub mod CaseSteps
+pub mod CasesFilled
+pub mod SplitFilled
+pub mod Appended

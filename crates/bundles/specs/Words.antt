@@ -1,0 +1,115 @@
+-- Bundles made of the record, and the cases of a select, as the words alone have them.
+use mathlib.Core.Path.{_≡_}
+use mathlib.Core.List.{List, [], _∷_, _++_}
+use Prim.Native.Nat.{ℕ, zero, suc, _+_, _*_, _-_}
+use lib.ListN.{length, getD}
+use lib.Dec.{ltb, eqb}
+use Rattle.meaning.specs.Graph.{Graph, Value, const, input, instr, output, bool, undef, held, no-value, region, edges-of}
+use Rattle.meaning.specs.Lists.{pick}
+use Rattle.fields.specs.ByNumber.{end-values, edge-of}
+use Rattle.state.specs.declared.cases.Case.{Case}
+use Rattle.state.specs.Sections.{word, stored, stored-all, head, children, bodies, set-starts, set-lengths, cases, bundles}
+use Rattle.state.specs.Tables.{bundle-at, own-edge, input-word, taken-word, case-words, copied, shift-removed, swapped, inserted, Joins}
+use Rattle.state.specs.Values as state
+
+-- ---- Targets.
+unfoldable pub input-count : Graph → List ℕ → ℕ → ℕ
+input-count g l t = pick (eqb t 65535) (word l head 8) (length (region g t .inputs))
+
+unfoldable pub target-type : Graph → List ℕ → ℕ → ℕ → ℕ
+target-type g l t k = pick (eqb t 65535) (word l head (9 + k)) (getD (region g t .inputs) k 0)
+
+unfoldable pub condition-in : List ℕ → ℕ → ℕ → ℕ
+condition-in l p n = pick (eqb n 1) 1 (word l bundles (7 * p + 2))
+
+-- ---- Values of the record as words; a record has no outputs and no marked inputs.
+abbrev pub record-word : Value → ℕ
+record-word (const i) = state.const-word i
+record-word (input r k) = state.region-word 1024 r k
+record-word (instr r k) = state.instr-word r k
+record-word (output o) = 4096
+record-word (bool b) = state.bool-word b
+record-word (undef ty) = state.undef-word ty
+record-word (held r k) = 4096
+record-word no-value = 4096
+
+-- Value k of n; beyond them undefined, of type 0.
+unfoldable pub padded-by : ℕ → List Value → ℕ → ℕ
+padded-by n vs k = pick (ltb k n) (record-word (getD vs k no-value)) 66
+
+abbrev pub padded : List Value → List ℕ
+padded vs =
+    let word-at : ℕ → ℕ = λ k. padded-by (length vs) vs k in
+    word-at 0 ∷ word-at 1 ∷ word-at 2 ∷ word-at 3 ∷ []
+
+unfoldable pub edge-deferred : Graph → List ℕ → ℕ → ℕ → ℕ → List ℕ
+edge-deferred g l p r j = stored-all l bundles (7 * p) (edge-of g r j .target ∷ 1 ∷ 1 ∷ padded (edge-of g r j .inputs))
+
+unfoldable pub return-deferred : Graph → List ℕ → ℕ → List ℕ
+return-deferred g l r =
+    let p = bundle-at (word l set-starts r) 0 in
+    stored (stored-all l bundles (7 * p) (65535 ∷ 0 ∷ 1 ∷ padded (end-values g r))) set-lengths r 1
+
+-- ---- Cases.
+abbrev pub unclaimed-case : ℕ → ℕ → ℕ → Case
+unclaimed-case kind start length = record { kind = kind; origin = 0; body = 0; children = 0; start = start; length = length }
+
+abbrev pub claimed-case : List ℕ → ℕ → Case
+claimed-case l t =
+    record {
+      kind = 2;
+      origin = t;
+      body = word l bodies t;
+      children = word l children t;
+      start = word l set-starts t;
+      length = word l set-lengths t;
+    }
+
+unfoldable pub case-filled : Graph → List ℕ → ℕ → ℕ → List ℕ
+case-filled g l r j =
+    let e = edge-of g r j in
+    pick (eqb (taken-word l r j) 2) (stored-all l cases (10 * j) (case-words (claimed-case l (e .target)) ++ padded (e .inputs)))
+    (pick (eqb (taken-word l r j) 1)
+    (stored-all (edge-deferred g l (own-edge j) r j) cases (10 * j) (case-words (unclaimed-case 1 (own-edge j) 1)))
+    (stored-all l cases (10 * j) (case-words (unclaimed-case 0 0 0))))
+
+-- n cases from case j on.
+unfoldable pub filled-from : Graph → List ℕ → ℕ → ℕ → ℕ → List ℕ
+filled-from g l r zero j = l
+filled-from g l r (suc n) j = filled-from g (case-filled g l r j) r n (suc j)
+
+abbrev pub cases-filled : Graph → List ℕ → ℕ → List ℕ
+cases-filled g l r =
+    let n = length (edges-of (region g r .terminator)) in
+    filled-from g (stored l head 7 n) r n 0
+
+unfoldable pub given-word : List ℕ → ℕ → ℕ → ℕ → ℕ
+given-word l p n k = pick (ltb k n) (input-word l p k) 66
+
+abbrev pub given-inputs : Graph → List ℕ → ℕ → List ℕ
+given-inputs g l p =
+    let n = length (region g (word l bundles (7 * p + 0)) .inputs) in
+    given-word l p n 0 ∷ given-word l p n 1 ∷ given-word l p n 2 ∷ given-word l p n 3 ∷ []
+
+unfoldable pub split-filled : Graph → List ℕ → ℕ → ℕ → List ℕ
+split-filled g l r i =
+    let start = word l set-starts r in
+    let p = bundle-at start i in
+    let rest = shift-removed l r i in
+    let first = case-words (claimed-case l (word l bundles (7 * p + 0))) ++ given-inputs g l p in
+    stored-all (stored-all (stored rest head 7 2) cases (10 * 0) first) cases (10 * 1)
+    (case-words (unclaimed-case 3 start (word rest set-lengths r)))
+
+abbrev pub case-inputs : List ℕ → ℕ → List ℕ
+case-inputs l j =
+    let input-at : ℕ → ℕ = λ k. word l cases (10 * j + (6 + k)) in
+    input-at 0 ∷ input-at 1 ∷ input-at 2 ∷ input-at 3 ∷ []
+
+-- ---- A case that stands alone.
+pub data Appends (l l′ : List ℕ) (r : ℕ) (x : Case) (j : ℕ) : Type 0 where
+  appended : {l₂ : List ℕ} {h : ℕ} → x .kind ≡ 2
+      → Joins (inserted l (x .body) 1 (case-inputs l j)) l₂ (word (inserted l (x .body) 1 (case-inputs l j)) children r) (x .children) h
+      → l′ ≡ stored (swapped (stored l₂ children r h) r (x .origin)) set-lengths r (x .length) → Appends l l′ r x j
+  its-edge : x .kind ≡ 1 → l′ ≡ stored (copied l (bundle-at (word l set-starts r) 0) (x .start)) set-lengths r (x .length)
+      → Appends l l′ r x j
+  its-rest : (x .kind ≡ 2 → ⊥) → (x .kind ≡ 1 → ⊥) → l′ ≡ stored l set-lengths r (x .length) → Appends l l′ r x j

@@ -1,0 +1,126 @@
+// Deferred edge bundles over the record: how many inputs a target has and their types, and bundles made of its edges and values.
+ghost use mathlib.Core.Path.{_≡_};
+ghost use mathlib.Core.List.{_∷_};
+ghost use Prim.Native.Nat.{_*_};
+ghost use Rattle.record.specs.Stands.{OfRecord};
+ghost use Rattle.fields.specs.ByNumber.{end-values, edge-of};
+ghost use Rattle.state.specs.Sections as sections;
+ghost use Rattle.bundles.specs.Words as words;
+use state::conditions::TRUE_COND;
+use state::defined::RETURNED;
+use state::defined::head;
+use state::sections::BUNDLES;
+use state::sections::BUNDLES_WORDS;
+use state::sections::HEAD;
+use state::sections::HEAD_WORDS;
+use state::sections::get;
+use state::sections::put_all;
+use state::sets::RETURN;
+use state::sets::bundle_at;
+use state::sets::condition;
+use state::sets::put_set_length;
+use state::sets::set_bundle;
+use state::sets::set_start;
+use state::values::UNDEF;
+use state::values::value_word;
+use store::WORDS;
+
+pub fn input_count(w: &[u16; WORDS], t: u16) -> u16
+    ensures { λ a. ⌜ OfRecord (now (w .entry)) (λ g. a ≡ words.«input-count» g (now (w .entry)) t) ⌝ }
+{
+    if t == RETURN {
+        return head(w, RETURNED);
+    }
+    fields::input_count(w, t)
+}
+
+// All Return regions agree in types.
+pub fn target_type(w: &[u16; WORDS], t: u16, k: u16) -> u16
+    ensures { λ a. ⌜ OfRecord (now (w .entry)) (λ g. a ≡ words.«target-type» g (now (w .entry)) t k) ⌝ }
+{
+    if t == RETURN {
+        return get(w, HEAD, HEAD_WORDS, RETURNED + 1 + (k as usize));
+    }
+    fields::input_type(w, t, k)
+}
+
+// The Rust's Always: a set of one, whose condition is dropped.
+pub fn condition_in(w: &[u16; WORDS], p: u16, n: u16) -> u16
+    ensures { λ a. ⌜ a ≡ words.«condition-in» (now (w .entry)) p n ⌝ }
+{
+    if n == 1 {
+        return TRUE_COND;
+    }
+    condition(w, p)
+}
+
+// Of n values that region r passes to its target at place j, value k; beyond them undefined, of type 0.
+fn passed_word(w: &[u16; WORDS], r: u16, j: u16, k: u16, n: u16) -> u16
+    ensures { λ a. ⌜ OfRecord (now (w .entry)) (λ g. a ≡ words.«padded-by» n (edge-of g r j .inputs) k) ⌝ }
+{
+    if k < n {
+        return value_word(fields::passed(w, r, j, k));
+    }
+    UNDEF
+}
+
+// The values that region r passes to its target at place j.
+pub fn passed_inputs(w: &[u16; WORDS], r: u16, j: u16) -> [u16; 4]
+    ensures { λ a. ⌜ OfRecord (now (w .entry)) (λ g. a ≡ words.padded (edge-of g r j .inputs)) ⌝ }
+{
+    let n = fields::passed_count(w, r, j);
+    [
+        passed_word(w, r, j, 0, n),
+        passed_word(w, r, j, 1, n),
+        passed_word(w, r, j, 2, n),
+        passed_word(w, r, j, 3, n),
+    ]
+}
+
+fn returned_word(w: &[u16; WORDS], r: u16, k: u16, n: u16) -> u16
+    ensures { λ a. ⌜ OfRecord (now (w .entry)) (λ g. a ≡ words.«padded-by» n (end-values g r) k) ⌝ }
+{
+    if k < n {
+        return value_word(fields::value(w, r, k));
+    }
+    UNDEF
+}
+
+fn returned_inputs(w: &[u16; WORDS], r: u16) -> [u16; 4]
+    ensures { λ a. ⌜ OfRecord (now (w .entry)) (λ g. a ≡ words.padded (end-values g r)) ⌝ }
+{
+    let n = fields::value_count(w, r);
+    [
+        returned_word(w, r, 0, n),
+        returned_word(w, r, 1, n),
+        returned_word(w, r, 2, n),
+        returned_word(w, r, 3, n),
+    ]
+}
+
+// A bundle with its inputs.
+pub fn put_bundle(w: &mut [u16; WORDS], p: u16, t: u16, n: u16, c: u16, vs: &[u16; 4])
+    ensures { λ _. ⌜ now (w .exit) ≡ sections.«stored-all» (now (w .entry)) sections.bundles (7 * p) (t ∷ n ∷ c ∷ now (vs .entry)) ⌝ }
+{
+    set_bundle(w, p, t, n, c);
+    put_all(w, BUNDLES, BUNDLES_WORDS, 7 * (p as usize) + 3, vs);
+}
+
+// Region r's edge at place j, as a bundle of one.
+pub fn defer_edge(w: &mut [u16; WORDS], p: u16, r: u16, j: u16)
+    ensures { λ _. ⌜ OfRecord (now (w .entry)) (λ g. now (w .exit) ≡ words.«edge-deferred» g (now (w .entry)) p r j) ⌝ }
+{
+    let t = fields::target(w, r, j);
+    let vs = passed_inputs(w, r, j);
+    put_bundle(w, p, t, 1, TRUE_COND, &vs);
+}
+
+// Always Return.
+pub fn defer_return(w: &mut [u16; WORDS], r: u16)
+    ensures { λ _. ⌜ OfRecord (now (w .entry)) (λ g. now (w .exit) ≡ words.«return-deferred» g (now (w .entry)) r) ⌝ }
+{
+    let p = bundle_at(set_start(w, r), 0);
+    let vs = returned_inputs(w, r);
+    put_bundle(w, p, RETURN, 0, TRUE_COND, &vs);
+    put_set_length(w, r, 1);
+}

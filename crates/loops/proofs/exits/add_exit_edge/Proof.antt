@@ -1,0 +1,40 @@
+use Rattle.loops.specs.Exits.{exit-counted, exit-not}
+use borrow.Author.Needs.{needs}
+use Rattle.loops.proofs.exits.add_exit_edge.Statement.{statement}
+use Rattle.loops.proofs.exits.add_exit_edge.Tie as tie
+
+target-requires : tie.Need-target-requires
+target-requires c κs = search needs
+
+is-exit-target-requires : tie.Need-is-exit-target-requires
+is-exit-target-requires c κs = search needs
+
+accumulated-count-requires : tie.Need-accumulated-count-requires
+accumulated-count-requires c κs = search needs
+
+one-more-requires : tie.Need-one-more-requires
+one-more-requires c κs = search needs
+
+set-accumulated-count-requires : tie.Need-set-accumulated-count-requires
+set-accumulated-count-requires c κs = search needs
+
+returns : tie.Need-returns
+returns c = λ g s. exit-counted g _ _ _ (c .before .before .before .before .before .before .before .target .ensures)
+    (c .before .before .before .before .before .before .is-exit-target .ensures g s)
+    (c .before .before .before .before .before .if1 .taken) (c .before .before .before .accumulated-count .ensures)
+    (c .before .one-more .ensures) (c .set-accumulated-count .ensures)
+
+returns-2 : tie.Need-returns-2
+returns-2 c = λ g s. exit-not g _ _ _ (c .before .before .target .ensures) (c .before .is-exit-target .ensures g s) (c .if1 .left)
+
+pub add-exit-edge-spec : {M : Type 1} → statement M
+add-exit-edge-spec =
+    tie.close
+    (tie.spec
+    target-requires
+    is-exit-target-requires
+    accumulated-count-requires
+    one-more-requires
+    set-accumulated-count-requires
+    returns
+    returns-2)

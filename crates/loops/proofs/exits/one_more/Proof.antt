@@ -1,0 +1,16 @@
+use Rattle.loops.specs.Exits.{counted-on, counted-out}
+use borrow.Author.Needs.{needs}
+use Rattle.loops.proofs.exits.one_more.Statement.{statement}
+use Rattle.loops.proofs.exits.one_more.Tie as tie
+
+add-result : tie.Need-add-result
+add-result c = search needs
+
+returns : tie.Need-returns
+returns c = counted-on _ (c .if1 .taken)
+
+returns-2 : tie.Need-returns-2
+returns-2 c = counted-out _ (c .if1 .left)
+
+pub one-more-spec : {M : Type 1} → statement M
+one-more-spec = tie.close (tie.spec add-result returns returns-2)

@@ -1,0 +1,106 @@
+-- ONE for each deferred target of a loop's exit list, as the words and the graph have it.
+use mathlib.Core.Path.{_≡_, sym, _∙_}
+use mathlib.Core.Bool.{Bool, true, false}
+use mathlib.Core.List.{List}
+use Prim.Native.Nat.{ℕ, zero, suc, _+_, _*_, _-_, _≤_, _<_}
+use native.Mathlib.Omega.{arith}
+use native.Mathlib.Numerals.{add-one}
+use lib.ListN.{length, getD, drop, drop-of-length-le}
+use lib.Dec.{ltb}
+use lib.Seq.{drop-cons}
+use borrow.Author.Tests.{lt-ltb, le-ltb, eq-eqb, ne-eqb}
+use Rattle.meaning.specs.Graph.{Graph, region}
+use Rattle.meaning.specs.Lists.{pick, is-in}
+use Rattle.state.specs.Sections.{word, stored, bundles, set-starts, set-lengths}
+use Rattle.record.specs.Stands.{OfRecord}
+use Rattle.state.specs.Tables.{bundle-at}
+use Rattle.shown.specs.Front.{SameFront, stands-on, front-same, front-stored, front-then}
+
+-- A word that counts: at its largest it stays.
+unfoldable pub one-more : ℕ → ℕ
+one-more n = pick (ltb n 65535) (n + 1) n
+
+-- Of loop r, in bundle p.
+unfoldable pub exit-added : Graph → ℕ → ℕ → List ℕ → List ℕ
+exit-added g r p l =
+    pick (is-in (word l bundles (7 * p + 0)) (region g r .exits)) (stored l bundles (7 * p + 1) (one-more (word l bundles (7 * p + 1)))) l
+
+-- In k bundles from place i on.
+unfoldable pub exits-from : Graph → ℕ → ℕ → ℕ → ℕ → List ℕ → List ℕ
+exits-from g r start zero i l = l
+exits-from g r start (suc k) i l = exits-from g r start k (suc i) (exit-added g r (bundle-at start i) l)
+
+abbrev pub exits-added : Graph → ℕ → List ℕ → List ℕ
+exits-added g r l = exits-from g r (word l set-starts r) (word l set-lengths r) 0 l
+
+-- ---- The functions, path by path.
+pub counted-on : (n : ℕ) → n < 65535 → n + 1 ≡ one-more n
+unfolding one-more
+counted-on n h = rw (lt-ltb n 65535 h)
+
+pub counted-out : (n : ℕ) → 65535 ≤ n → n ≡ one-more n
+unfolding one-more
+counted-out n h = rw (le-ltb n 65535 h)
+
+module _ (g : Graph) (r p : ℕ) (l : List ℕ) {t : ℕ} {b : Bool} (of-target : t ≡ word l bundles (7 * p + 0))
+    (told : b ≡ is-in t (region g r .exits)) where
+  tells : is-in (word l bundles (7 * p + 0)) (region g r .exits) ≡ b
+  tells = rw (← of-target) (sym told)
+
+  pub exit-counted : b ≡ true → {n m : ℕ} {l′ : List ℕ} → n ≡ word l bundles (7 * p + 1) → m ≡ one-more n
+      → l′ ≡ stored l bundles (7 * p + 1) m → l′ ≡ exit-added g r p l
+  unfolding exit-added
+  exit-counted e a c q = q ∙ rw (tells, e, c, a)
+
+  pub exit-not : b ≡ false → l ≡ exit-added g r p l
+  unfolding exit-added
+  exit-not e = rw (tells, e)
+
+-- ---- The search in the exit list: those from place k on.
+module _ (t : ℕ) (xs : List ℕ) {n k : ℕ} (count : n ≡ length xs) {whole : Bool} (left : is-in t (drop k xs) ≡ whole) where
+  pub found-nowhere : n ≤ k → false ≡ whole
+  found-nowhere h = rw (drop-of-length-le xs {i = k} (omega arith)) at left
+
+  module _ (more : k < n) {x : ℕ} (here : x ≡ getD xs k 0) where
+    pub found-here : x ≡ t → true ≡ whole
+    found-here f = rw (eq-eqb t (getD xs k 0) (sym f ∙ here)) at (rw (drop-cons xs k 0 (omega arith)) at left)
+
+    pub found-later : (x ≡ t → ⊥) → is-in t (drop (k + 1) xs) ≡ whole
+    found-later d =
+        rw (add-one k) (rw (ne-eqb t (getD xs k 0) (λ z. d (here ∙ sym z))) at (rw (drop-cons xs k 0 (omega arith)) at left))
+
+-- ---- The turns over a set: the record stands on, and what is left makes the whole.
+pub exit-front : (g : Graph) (r p : ℕ) (l : List ℕ) → SameFront l (exit-added g r p l)
+unfolding exit-added
+exit-front g r p l = go (is-in (word l bundles (7 * p + 0)) (region g r .exits))
+  where
+    go : (b : Bool) → SameFront l (pick b (stored l bundles (7 * p + 1) (one-more (word l bundles (7 * p + 1)))) l)
+    go true = front-stored l bundles (omega arith) (7 * p + 1) (one-more (word l bundles (7 * p + 1)))
+    go false = front-same l
+
+pub record ExitsLeft (g : Graph) (r start n i : ℕ) (l₀ l : List ℕ) : Type 0 where
+  pub front : SameFront l₀ l
+  pub left : exits-from g r start (n - i) i l ≡ exits-from g r start n 0 l₀
+
+pub exits-start : (g : Graph) (r start n : ℕ) (l : List ℕ) → ExitsLeft g r start n 0 l l
+exits-start g r start n l = let e : n - 0 ≡ n = omega arith in record { front = front-same l; left = rw e }
+
+module _ {r start n i : ℕ} {l₀ l : List ℕ} (left : OfRecord l₀ (λ g. ExitsLeft g r start n i l₀ l)) where
+  pub exits-turn : i < n → {p : ℕ} {l′ : List ℕ} → p ≡ bundle-at start i → OfRecord l (λ g. l′ ≡ exit-added g r p l)
+      → OfRecord l₀ (λ g. ExitsLeft g r start n (i + 1) l₀ l′)
+  unfolding exits-from
+  exits-turn h {p} {l′} at step g s =
+      let x = left g s in
+      let e : l′ ≡ exit-added g r (bundle-at start i) l = rw (← at) (step g (stands-on (x .front) s)) in
+      let m : n - i ≡ suc (n - (i + 1)) = omega arith in
+      record {
+        front = rw e (front-then (x .front) (exit-front g r (bundle-at start i) l));
+        left = rw (e, add-one i) (rw (add-one i) at (rw m at (x .left)));
+      }
+
+  pub exits-stop : n ≤ i → start ≡ word l₀ set-starts r → n ≡ word l₀ set-lengths r → OfRecord l₀ (λ g. l ≡ exits-added g r l₀)
+  unfolding exits-from
+  exits-stop h a b g s =
+      let m : n - i ≡ 0 = omega arith in
+      let e = rw m at (left g s .left) in
+      e ∙ rw (a, b)

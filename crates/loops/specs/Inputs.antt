@@ -1,0 +1,65 @@
+-- The inputs of a loop's header, as the words alone have them.
+use mathlib.Core.Path.{_≡_}
+use mathlib.Core.List.{List, [], _∷_}
+use Prim.Native.Nat.{ℕ, _+_, _≤_, _<_}
+use native.Mathlib.Omega.{arith}
+use lib.ListN.{getD, set}
+use Rattle.state.specs.Values.{region-word}
+use Rattle.state.specs.Tables.{Adds, input-word}
+use Rattle.shown.specs.CellSteps.{kept-cell}
+use Rattle.lookups.specs.LookUps.{Rewrites}
+use Rattle.loops.specs.declared.inputs.Taken.{Taken}
+
+abbrev pub backedge-inputs : List ℕ → ℕ → List ℕ
+backedge-inputs l p = input-word l p 0 ∷ input-word l p 1 ∷ input-word l p 2 ∷ input-word l p 3 ∷ []
+
+-- Value v at place k is looked up if it is one of n.
+pub data RewritesValue (n k v : ℕ) (l l′ : List ℕ) (a : ℕ) : Type 0 where
+  looked-up : k < n → Rewrites l v l′ a → RewritesValue n k v l l′ a
+  left-as-is : n ≤ k → l′ ≡ l → a ≡ v → RewritesValue n k v l l′ a
+
+-- The first k places, in turn: from words l and values vs to l′ and us.
+pub data RewritesValues (n : ℕ) : ℕ → List ℕ → List ℕ → List ℕ → List ℕ → Type 0 where
+  none-yet : {k : ℕ} {l vs l′ us : List ℕ} → k ≡ 0 → l′ ≡ l → us ≡ vs → RewritesValues n k l vs l′ us
+  one-more : {k i a : ℕ} {l vs l₁ us l′ us′ : List ℕ} → RewritesValues n k l vs l₁ us → RewritesValue n k (getD us k 0) l₁ l′ a
+      → i ≡ k + 1 → us′ ≡ set us k a → RewritesValues n i l vs l′ us′
+
+-- Input k of header r is kept: its cell, and its new number.
+pub record KeepsInput (r wrapper k v : ℕ) (x : Taken) (l l′ : List ℕ) (y : Taken) : Type 0 where
+  pub cell : Adds l l′ (kept-cell (x .cells) k wrapper v) (y .cells)
+  pub count : y .count ≡ x .count + 1
+  pub entry : y .entry ≡ region-word 1536 r (x .count)
+
+-- Input k of n is taken, for which the back edge passes v.
+pub data TakesInput (r wrapper n k v : ℕ) (x : Taken) (l l′ : List ℕ) (y : Taken) : Type 0 where
+  lifted : k < n → v ≡ region-word 1024 r k → l′ ≡ l → y .count ≡ x .count → y .cells ≡ x .cells → y .entry ≡ region-word 1024 wrapper k
+      → TakesInput r wrapper n k v x l l′ y
+  kept : k < n → (v ≡ region-word 1024 r k → ⊥) → KeepsInput r wrapper k v x l l′ y → TakesInput r wrapper n k v x l l′ y
+  beyond : n ≤ k → l′ ≡ l → y .count ≡ x .count → y .cells ≡ x .cells → y .entry ≡ region-word 1536 r k
+      → TakesInput r wrapper n k v x l l′ y
+
+-- The first k are taken: from words l and values vs to l′ and ws, where the first k are their entries.
+pub data TakesFrom (r wrapper n : ℕ) : ℕ → List ℕ → List ℕ → List ℕ → List ℕ → Taken → Type 0 where
+  none-taken : {k : ℕ} {l vs l′ ws : List ℕ} {x : Taken} → k ≡ 0 → l′ ≡ l → ws ≡ vs → x .count ≡ 0 → x .cells ≡ 0
+      → TakesFrom r wrapper n k l vs l′ ws x
+  one-taken : {k i : ℕ} {l vs l₁ ws l′ ws′ : List ℕ} {x y : Taken} → TakesFrom r wrapper n k l vs l₁ ws x
+      → TakesInput r wrapper n k (getD ws k 0) x l₁ l′ y → i ≡ k + 1 → ws′ ≡ set ws k (y .entry) → TakesFrom r wrapper n i l vs l′ ws′ y
+
+-- All four places; h is the list of kept inputs.
+pub record TakesInputs (r wrapper n : ℕ) (l vs l′ ws : List ℕ) (h : ℕ) : Type 0 where
+  pub last : Taken
+  pub taken : TakesFrom r wrapper n 4 l vs l′ ws last
+  pub cells : h ≡ last .cells
+
+-- ---- The bound on the kept inputs.
+pub few-kept : {r wrapper n k v : ℕ} {x y : Taken} {l l′ : List ℕ} → TakesInput r wrapper n k v x l l′ y → x .count ≤ k → y .count ≤ k + 1
+few-kept (lifted a b c d e f) h = omega arith
+few-kept (kept a b c) h = let e = c .count in omega arith
+few-kept (beyond a b c d e) h = omega arith
+
+pub all-taken : {r wrapper n k h : ℕ} {x : Taken} {l vs l′ ws : List ℕ} → TakesFrom r wrapper n k l vs l′ ws x → k ≤ 4 → 4 ≤ k
+    → h ≡ x .cells → TakesInputs r wrapper n l vs l′ ws h
+all-taken {k} {x} taken a b e = let all : k ≡ 4 = omega arith in record { last = x; taken = rw all at taken; cells = e }
+
+pub all-rewritten : {n k : ℕ} {l vs l′ us : List ℕ} → RewritesValues n k l vs l′ us → k ≤ 4 → 4 ≤ k → RewritesValues n 4 l vs l′ us
+all-rewritten {k} made a b = let all : k ≡ 4 = omega arith in rw all at made

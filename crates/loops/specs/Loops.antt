@@ -1,0 +1,81 @@
+-- A loop made of a claimed region, as the words alone have it.
+use mathlib.Core.Path.{_≡_}
+use mathlib.Core.List.{List}
+use Prim.Native.Nat.{ℕ}
+use lib.ListN.{length}
+use Rattle.meaning.specs.Graph.{region}
+use Rattle.record.specs.Stands.{OfRecord}
+use Rattle.state.specs.declared.defined.Defined.{Defined}
+use Rattle.state.specs.declared.defined.Defined.the-variants.{Number, Full}
+use Rattle.state.specs.Sections.{word, stored, set-lengths, children, bodies}
+use Rattle.state.specs.Tables.{Adds, Defines, inserted, swap-removed}
+use Rattle.shown.specs.CellSteps.{loop-cell}
+use Rattle.lookups.specs.Materialized.{Materializes}
+use Rattle.loops.specs.declared.made.Made.{Made}
+use Rattle.loops.specs.declared.made.Made.the-variants.{Done, Full as Refused}
+use Rattle.loops.specs.Conditions.{condition-in}
+use Rattle.loops.specs.Inputs.{RewritesValues, TakesInputs, backedge-inputs}
+use Rattle.loops.specs.Exits.{exits-added}
+
+-- The loop's cell takes the place of region r's children.
+pub data AddsLoop (r node repeat kept : ℕ) (l l′ : List ℕ) : Type 0 where
+  adds-loop : {h : ℕ} {l₁ : List ℕ} → Adds l l₁ (loop-cell (word l children r) node r repeat kept) h → l′ ≡ stored l₁ children r h
+      → AddsLoop r node repeat kept l l′
+
+-- The repeat condition made real, the node defined, the loop added.
+pub data LoopDefined (r c kept : ℕ) (l l′ : List ℕ) : Made → Type 0 where
+  loop-defined : {x n : ℕ} {l₁ l₂ : List ℕ} → Materializes l c l₁ (Number x) → Defines 1 512 l₁ l₂ (Number n) → AddsLoop r n x kept l₂ l′
+      → LoopDefined r c kept l l′ Done
+  no-value : Materializes l c l′ Full → LoopDefined r c kept l l′ Refused
+  no-node : {x : ℕ} {l₁ : List ℕ} → Materializes l c l₁ (Number x) → Defines 1 512 l₁ l′ Full → LoopDefined r c kept l l′ Refused
+
+-- Header r's n inputs looked up, taken and entered; h is the list of kept inputs.
+pub data EntersInputs (r wrapper n : ℕ) (l vs l′ : List ℕ) (h : ℕ) : Type 0 where
+  enters : {l₁ l₂ us ws : List ℕ} → RewritesValues n 4 l vs l₁ us → TakesInputs r wrapper n l₁ us l₂ ws h → l′ ≡ inserted l₂ r 2 ws
+      → EntersInputs r wrapper n l vs l′ h
+
+-- Region r, whose back edge is bundle p, leaves its set, and the wrapper, the inputs and the loop are made in this order.
+pub data Structurizes (r p : ℕ) (l l′ : List ℕ) : Made → Type 0 where
+  looped : {n wrapper h : ℕ} {l₁ l₂ l₃ : List ℕ} → OfRecord l (λ g. n ≡ length (region g r .inputs))
+      → Defines 0 128 (swap-removed l r p) l₁ (Number wrapper) → EntersInputs r wrapper n l₁ (backedge-inputs l p) l₂ h
+      → LoopDefined r (condition-in l p (word l set-lengths r)) h l₂ l₃ Done
+      → OfRecord (stored l₃ bodies r wrapper) (λ g. l′ ≡ exits-added g r (stored l₃ bodies r wrapper))
+      → Structurizes r p l l′ Done
+  no-wrapper : Defines 0 128 (swap-removed l r p) l′ Full → Structurizes r p l l′ Refused
+  no-loop : {n wrapper h : ℕ} {l₁ l₂ : List ℕ} → OfRecord l (λ g. n ≡ length (region g r .inputs))
+      → Defines 0 128 (swap-removed l r p) l₁ (Number wrapper) → EntersInputs r wrapper n l₁ (backedge-inputs l p) l₂ h
+      → LoopDefined r (condition-in l p (word l set-lengths r)) h l₂ l′ Refused
+      → Structurizes r p l l′ Refused
+
+-- ---- The functions, path by path.
+module _ {r : ℕ} {l : List ℕ} where
+  pub loop-put : {node repeat kept body h : ℕ} {l₁ l′ : List ℕ} → body ≡ word l children r
+      → Adds l l₁ (loop-cell body node r repeat kept) h → l′ ≡ stored l₁ children r h → AddsLoop r node repeat kept l l′
+  loop-put e a s = adds-loop (rw e at a) s
+
+  module _ {c kept : ℕ} {l₁ : List ℕ} {a : Defined} (value : Materializes l c l₁ a) where
+    pub value-full : a ≡ Full → LoopDefined r c kept l l₁ Refused
+    value-full e = no-value (rw e at value)
+
+    module _ {x : ℕ} (some : a ≡ Number x) {l₂ : List ℕ} {b : Defined} (node : Defines 1 512 l₁ l₂ b) where
+      pub node-full : b ≡ Full → LoopDefined r c kept l l₂ Refused
+      node-full e = no-node (rw some at value) (rw e at node)
+
+      pub loop-whole : {n : ℕ} → b ≡ Number n → {l′ : List ℕ} → AddsLoop r n x kept l₂ l′ → LoopDefined r c kept l l′ Done
+      loop-whole e m = loop-defined (rw some at value) (rw e at node) m
+
+module _ {r p n c : ℕ} {l vs l₁ : List ℕ} {a : Defined} (count : OfRecord l (λ g. n ≡ length (region g r .inputs)))
+    (values : vs ≡ backedge-inputs l p) {m : ℕ} (many : m ≡ word l set-lengths r) (condition : c ≡ condition-in l p m) {l₀ : List ℕ}
+    (removed : l₀ ≡ swap-removed l r p) (region-more : Defines 0 128 l₀ l₁ a) where
+  pub wrapper-full : a ≡ Full → Structurizes r p l l₁ Refused
+  wrapper-full e = no-wrapper (rw (removed, e) at region-more)
+
+  module _ {wrapper : ℕ} (some : a ≡ Number wrapper) {h : ℕ} {l₂ : List ℕ} (inputs : EntersInputs r wrapper n l₁ vs l₂ h) {l₃ : List ℕ}
+      {b : Made} (made : LoopDefined r c h l₂ l₃ b) where
+    pub loop-full : b ≡ Refused → Structurizes r p l l₃ Refused
+    loop-full e = no-loop count (rw (removed, some) at region-more) (rw values at inputs) (rw (condition, many, e) at made)
+
+    pub loop-made : b ≡ Done → {l₄ l′ : List ℕ} → l₄ ≡ stored l₃ bodies r wrapper → OfRecord l₄ (λ g. l′ ≡ exits-added g r l₄)
+        → Structurizes r p l l′ Done
+    loop-made e s x =
+        looped count (rw (removed, some) at region-more) (rw values at inputs) (rw (condition, many, e) at made) (rw s at x)

@@ -1,0 +1,39 @@
+use Rattle.merging.specs.Planning.{bundle-true, bundle-conditional}
+use borrow.Author.Needs.{needs}
+use Rattle.merging.proofs.planning.plan_bundle.Statement.{statement}
+use Rattle.merging.proofs.planning.plan_bundle.Tie as tie
+
+target-requires : tie.Need-target-requires
+target-requires c κs = search needs
+
+per-case-deferred-requires : tie.Need-per-case-deferred-requires
+per-case-deferred-requires c κs = search needs
+
+plan-inputs-requires : tie.Need-plan-inputs-requires
+plan-inputs-requires c κs = search needs
+
+all-true-requires : tie.Need-all-true-requires
+all-true-requires c κs = search needs
+
+returns : tie.Need-returns
+returns c = bundle-true _ _ _ _ _ _ _ (c .before .before .before .before .before .before .before .before .target .ensures) (c .before .before .before .before .before .before .before .per-case-deferred .ensures) (c .before .before .before .before .plan-inputs .ensures)
+    (c .before .all-true .ensures) (c .if1 .taken)
+
+set-condition-requires : tie.Need-set-condition-requires
+set-condition-requires c κs = search needs
+
+returns-2 : tie.Need-returns-2
+returns-2 c = bundle-conditional _ _ _ _ _ _ _ (c .before .before .before .before .before .before .before .before .before .before .target .ensures) (c .before .before .before .before .before .before .before .before .before .per-case-deferred .ensures) (c .before .before .before .before .before .before .plan-inputs .ensures)
+    (c .before .before .before .all-true .ensures) (c .before .before .if1 .left) (c .set-condition .ensures)
+
+pub plan-bundle-spec : {M : Type 1} → statement M
+plan-bundle-spec =
+    tie.close
+    (tie.spec
+    target-requires
+    per-case-deferred-requires
+    plan-inputs-requires
+    all-true-requires
+    returns
+    set-condition-requires
+    returns-2)

@@ -1,0 +1,29 @@
+use Rattle.merging.specs.Rewriting.{case-path}
+use borrow.Author.Needs.{needs}
+use Rattle.merging.proofs.rewriting.rewrite_case.Statement.{statement}
+use Rattle.merging.proofs.rewriting.rewrite_case.Tie as tie
+
+rewrite-given-requires : tie.Need-rewrite-given-requires
+rewrite-given-requires c κs = search needs
+
+case-start-requires : tie.Need-case-start-requires
+case-start-requires c κs = search needs
+
+case-length-requires : tie.Need-case-length-requires
+case-length-requires c κs = search needs
+
+rewrite-set-requires : tie.Need-rewrite-set-requires
+rewrite-set-requires c κs = search needs
+
+returns : tie.Need-returns
+returns c = case-path _ _ _ _ _ _ (c .before .before .before .before .before .before .rewrite-given .ensures) (c .before .before .before .before .case-start .ensures) (c .before .before .case-length .ensures) (c .rewrite-set .ensures)
+
+pub rewrite-case-spec : {M : Type 1} → statement M
+rewrite-case-spec =
+    tie.close
+    (tie.spec
+    rewrite-given-requires
+    case-start-requires
+    case-length-requires
+    rewrite-set-requires
+    returns)

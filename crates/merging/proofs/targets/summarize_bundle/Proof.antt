@@ -1,0 +1,69 @@
+use Rattle.merging.specs.Targets.{bundle-new, bundle-there}
+use borrow.Author.Needs.{needs}
+use Rattle.merging.proofs.targets.summarize_bundle.Statement.{statement}
+use Rattle.merging.proofs.targets.summarize_bundle.Tie as tie
+
+set-start-requires : tie.Need-set-start-requires
+set-start-requires c κs = search needs
+
+set-length-requires : tie.Need-set-length-requires
+set-length-requires c κs = search needs
+
+target-requires : tie.Need-target-requires
+target-requires c κs = search needs
+
+accumulated-count-requires : tie.Need-accumulated-count-requires
+accumulated-count-requires c κs = search needs
+
+find-by-target-requires : tie.Need-find-by-target-requires
+find-by-target-requires c κs = search needs
+
+bundle-at-requires : tie.Need-bundle-at-requires
+bundle-at-requires c κs = search needs
+
+set-bundle-requires : tie.Need-set-bundle-requires
+set-bundle-requires c κs = search needs
+
+plus-requires : tie.Need-plus-requires
+plus-requires c κs = search needs
+
+put-set-length-requires : tie.Need-put-set-length-requires
+put-set-length-requires c κs = search needs
+
+returns : tie.Need-returns
+returns c = bundle-new _ _ _ _ _ _ _ (c .before .before .before .before .before .before .before .before .before .before .before .before .before .before .before .set-start .ensures) (c .before .before .before .before .before .before .before .before .before .before .before .before .before .set-length .ensures) (c .before .before .before .before .before .before .before .before .before .before .before .target .ensures) (c .before .before .before .before .before .before .before .before .before .accumulated-count .ensures)
+    (c .before .before .before .before .before .before .before .find-by-target .ensures) (c .before .before .before .before .before .before .if1 .taken) (c .before .before .before .before .bundle-at .ensures) (c .before .before .before .set-bundle .ensures) (c .before .plus .ensures)
+    (c .put-set-length .ensures)
+
+accumulated-count-requires-2 : tie.Need-accumulated-count-requires-2
+accumulated-count-requires-2 c κs = search needs
+
+plus-requires-2 : tie.Need-plus-requires-2
+plus-requires-2 c κs = search needs
+
+set-accumulated-count-requires : tie.Need-set-accumulated-count-requires
+set-accumulated-count-requires c κs = search needs
+
+returns-2 : tie.Need-returns-2
+returns-2 c = bundle-there _ _ _ _ _ _ _ (c .before .before .before .before .before .before .before .before .before .before .before .before .before .before .set-start .ensures) (c .before .before .before .before .before .before .before .before .before .before .before .before .set-length .ensures) (c .before .before .before .before .before .before .before .before .before .before .target .ensures) (c .before .before .before .before .before .before .before .before .accumulated-count .ensures)
+    (c .before .before .before .before .before .before .find-by-target .ensures) (c .before .before .before .before .before .if1 .left) (c .before .before .before .accumulated-count2 .ensures) (c .before .plus2 .ensures)
+    (c .set-accumulated-count .ensures)
+
+pub summarize-bundle-spec : {M : Type 1} → statement M
+summarize-bundle-spec =
+    tie.close
+    (tie.spec
+    set-start-requires
+    set-length-requires
+    target-requires
+    accumulated-count-requires
+    find-by-target-requires
+    bundle-at-requires
+    set-bundle-requires
+    plus-requires
+    put-set-length-requires
+    returns
+    accumulated-count-requires-2
+    plus-requires-2
+    set-accumulated-count-requires
+    returns-2)

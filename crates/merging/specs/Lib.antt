@@ -1,0 +1,13 @@
+pub mod Turns
+pub mod Bundles
+pub mod Rewriting
+pub mod Targets
+pub mod Planning
+pub mod Rows
+pub mod Spare
+pub mod Pigeonhole
+pub mod Finds
+pub mod RewritingShown
+pub mod TargetsShown
+pub mod PerCaseShown
+pub mod PlanningShown

@@ -1,0 +1,63 @@
+-- The set of deferred targets in the spare slot, as the words have it.
+use mathlib.Core.Path.{_≡_, _∙_}
+use mathlib.Core.List.{List, [], _∷_}
+use Prim.Native.Nat.{ℕ, _+_, _*_, _-_, _≤_}
+use lib.Dec.{ltb, eqb}
+use borrow.Author.Tests.{eq-eqb, ne-eqb}
+use Rattle.meaning.specs.Lists.{pick}
+use Rattle.state.specs.Sections.{word, stored, stored-all, set-starts, set-lengths, cases, bundles}
+use Rattle.state.specs.Tables.{find-by, bundle-at, case-total}
+use Rattle.merging.specs.Turns.{turned, turn-last}
+
+unfoldable pub plus : ℕ → ℕ → ℕ
+plus a b = pick (ltb a (65535 - b)) (a + b) 65535
+
+-- A target that has no bundle yet gets one; else its edges are counted with the others.
+abbrev pub row-added : List ℕ → ℕ → ℕ → ℕ → List ℕ
+row-added l p start n =
+    let field : ℕ → ℕ = λ i. word l bundles (7 * p + i) in
+    stored (stored-all l bundles (7 * bundle-at start n) (field 0 ∷ field 1 ∷ 1 ∷ [])) set-lengths 32 (plus n 1)
+
+abbrev pub edges-added : List ℕ → ℕ → ℕ → List ℕ
+edges-added l p q = stored l bundles (7 * q + 1) (plus (word l bundles (7 * q + 1)) (word l bundles (7 * p + 1)))
+
+unfoldable pub summarize-bundle : List ℕ → ℕ → List ℕ
+summarize-bundle l p =
+    let start = word l set-starts 32 in
+    let n = word l set-lengths 32 in
+    let q = find-by l start (word l bundles (7 * p + 0)) n 0 in
+    pick (eqb q 65535) (row-added l p start n) (edges-added l p q)
+
+unfoldable pub summarize-set : List ℕ → ℕ → ℕ → List ℕ
+summarize-set l start n = turned (λ m i. summarize-bundle m (bundle-at start i)) l n 0
+
+abbrev pub summarize-case : List ℕ → ℕ → List ℕ
+summarize-case l j = summarize-set l (word l cases (10 * j + 4)) (word l cases (10 * j + 5))
+
+unfoldable pub deferred-targets : List ℕ → List ℕ
+deferred-targets l =
+    let m = stored l set-lengths 32 0 in
+    turned summarize-case m (case-total m) 0
+
+-- ---- The functions, path by path.
+module _ (l : List ℕ) (p start n t count q : ℕ) (of-start : start ≡ word l set-starts 32) (of-length : n ≡ word l set-lengths 32)
+    (of-target : t ≡ word l bundles (7 * p + 0)) (of-count : count ≡ word l bundles (7 * p + 1)) (found : q ≡ find-by l start t n 0) where
+  pub bundle-new : q ≡ 65535 → {b m : ℕ} {l₁ l₂ : List ℕ} → b ≡ bundle-at start n
+      → l₁ ≡ stored-all l bundles (7 * b) (t ∷ count ∷ 1 ∷ []) → m ≡ plus n 1 → l₂ ≡ stored l₁ set-lengths 32 m
+      → l₂ ≡ summarize-bundle l p
+  unfolding summarize-bundle
+  bundle-new e at first more last =
+      last ∙ rw (← of-start, ← of-length, ← of-target, ← found, eq-eqb q 65535 e, ← of-count, first, at, more)
+
+  pub bundle-there : (q ≡ 65535 → ⊥) → {before m : ℕ} {l₁ : List ℕ} → before ≡ word l bundles (7 * q + 1) → m ≡ plus before count
+      → l₁ ≡ stored l bundles (7 * q + 1) m
+      → l₁ ≡ summarize-bundle l p
+  unfolding summarize-bundle
+  bundle-there d of-before more last =
+      last ∙ rw (← of-start, ← of-length, ← of-target, ← found, ne-eqb q 65535 d, ← of-count, ← of-before, more)
+
+pub targets-path : (l l₁ l₂ : List ℕ) (n j : ℕ) → l₁ ≡ stored l set-lengths 32 0 → n ≡ case-total l₁ → n ≤ j
+    → turned summarize-case l₂ (n - j) j ≡ turned summarize-case l₁ n 0
+    → l₂ ≡ deferred-targets l
+unfolding deferred-targets
+targets-path l l₁ l₂ n j first size over left = turn-last summarize-case l₂ n j left over ∙ rw (← first, ← size)

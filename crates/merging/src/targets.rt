@@ -1,0 +1,70 @@
+// The full set of deferred targets, with the edges of all cases: a bundle in the spare slot for each.
+ghost use mathlib.Core.Path.{_≡_};
+ghost use Rattle.merging.specs.Targets as words;
+use state::cases::case_count;
+use state::cases::case_length;
+use state::cases::case_start;
+use state::conditions::TRUE_COND;
+use state::sets::NO_BUNDLE;
+use state::sets::SPARE;
+use state::sets::accumulated_count;
+use state::sets::bundle_at;
+use state::sets::find_by_target;
+use state::sets::put_set_length;
+use state::sets::set_accumulated_count;
+use state::sets::set_bundle;
+use state::sets::set_length;
+use state::sets::set_start;
+use state::sets::target;
+use store::WORDS;
+
+// A sum that stops at the largest word.
+fn plus(a: u16, b: u16) -> u16
+    ensures { λ n. ⌜ n ≡ words.plus a b ⌝ }
+{
+    if a < 65535 - b {
+        return a + b;
+    }
+    65535
+}
+
+fn summarize_bundle(w: &mut [u16; WORDS], p: u16)
+    ensures { λ _. ⌜ now (w .exit) ≡ words.«summarize-bundle» (now (w .entry)) p ⌝ }
+{
+    let start = set_start(w, SPARE);
+    let n = set_length(w, SPARE);
+    let t = target(w, p);
+    let count = accumulated_count(w, p);
+    let q = find_by_target(w, start, n, t);
+    if q == NO_BUNDLE {
+        set_bundle(w, bundle_at(start, n), t, count, TRUE_COND);
+        put_set_length(w, SPARE, plus(n, 1));
+        return;
+    }
+    let before = accumulated_count(w, q);
+    set_accumulated_count(w, q, plus(before, count));
+}
+
+fn summarize_set(w: &mut [u16; WORDS], start: u16, n: u16)
+    ensures { λ _. ⌜ now (w .exit) ≡ words.«summarize-set» (now (w .entry)) start n ⌝ }
+{
+    let mut i: u16 = 0;
+    while i < n {
+        summarize_bundle(w, bundle_at(start, i));
+        i += 1;
+    }
+}
+
+pub fn deferred_targets(w: &mut [u16; WORDS])
+    ensures { λ _. ⌜ now (w .exit) ≡ words.«deferred-targets» (now (w .entry)) ⌝ }
+{
+    put_set_length(w, SPARE, 0);
+    let n = case_count(w);
+    let mut j: u16 = 0;
+    while j < n {
+        let start = case_start(w, j);
+        let length = case_length(w, j);
+        summarize_set(w, start, length);
+        j += 1;
+    }
+}

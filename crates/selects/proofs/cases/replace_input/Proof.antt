@@ -1,0 +1,35 @@
+use mathlib.Core.Path.{sym, _∙_}
+use Rattle.selects.specs.Cases.{replaced-claimed, replaced-not}
+use borrow.Author.Needs.{needs}
+use Rattle.selects.proofs.cases.replace_input.Statement.{statement}
+use Rattle.selects.proofs.cases.replace_input.Tie as tie
+
+case-kind-requires : tie.Need-case-kind-requires
+case-kind-requires c κs = search needs
+
+case-inputs-requires : tie.Need-case-inputs-requires
+case-inputs-requires c κs = search needs
+
+case-body-requires : tie.Need-case-body-requires
+case-body-requires c κs = search needs
+
+insert-rewrites-requires : tie.Need-insert-rewrites-requires
+insert-rewrites-requires c κs = search needs
+
+returns : tie.Need-returns
+returns c = replaced-claimed _ _ (sym (c .before .before .before .before .before .before .before .before .case-kind .ensures) ∙ c .before .before .before .before .before .before .before .if1 .taken) (c .before .before .before .case-body .ensures) (c .before .before .before .before .before .case-inputs .ensures)
+    (c .insert-rewrites .ensures)
+
+returns-2 : tie.Need-returns-2
+returns-2 c = replaced-not _ _ (λ e. c .if1 .left (c .before .case-kind .ensures ∙ e))
+
+pub replace-input-spec : {M : Type 1} → statement M
+replace-input-spec =
+    tie.close
+    (tie.spec
+    case-kind-requires
+    case-inputs-requires
+    case-body-requires
+    insert-rewrites-requires
+    returns
+    returns-2)

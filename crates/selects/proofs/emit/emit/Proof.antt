@@ -1,0 +1,75 @@
+use Prim.Native.Nat.{_-_, _≤_}
+use native.Mathlib.Omega.{arith}
+use Rattle.selects.specs.Turns.{GoesOnBy, begins-by, turned-by, refused-by, over-by}
+use Rattle.selects.specs.Emits.{EmitAt, emits-by, bundles-leave}
+use borrow.Author.Needs.{needs}
+use Rattle.selects.proofs.emit.emit.Statement.{statement}
+use Rattle.selects.proofs.emit.emit.Tie as tie
+
+abbrev Inv-loop : tie.InvT-loop
+Inv-loop w₀ h start n i₀ w i = (i ≤ n) × GoesOnBy (λ g. EmitAt g h start) n i w₀ w
+
+abbrev μ-loop : tie.MeasureT-loop
+μ-loop w₀ h start n i₀ w i = n - i
+
+set-start-requires : tie.Need-set-start-requires Inv-loop μ-loop
+set-start-requires c κs = search needs
+
+set-length-requires : tie.Need-set-length-requires Inv-loop μ-loop
+set-length-requires c κs = search needs
+
+loop-holds : tie.Need-loop-holds Inv-loop μ-loop
+loop-holds c = (omega arith, begins-by _ _ _)
+
+bundle-at-requires : tie.Need-bundle-at-requires Inv-loop μ-loop
+bundle-at-requires c κs = search needs
+
+emit-bundle-requires : tie.Need-emit-bundle-requires Inv-loop μ-loop
+emit-bundle-requires c κs = search needs
+
+enum-told : tie.Need-enum-told Inv-loop μ-loop
+enum-told c = search needs
+
+returns : tie.Need-returns Inv-loop μ-loop
+returns c = emits-by _ _ (c .before .before .before .before .before .before .before .before .before .set-start .ensures) (c .before .before .before .before .before .before .before .set-length .ensures)
+    (refused-by _ _ _ _ _ (c .before .before .before .before .before .before .loop .inv .1) (c .before .before .before .before .before .loop-test .taken)
+    (λ g s. rw (c .enum-told .given .1, c .before .before .before .bundle-at .ensures) at (c .before .before .emit-bundle .ensures g s)))
+
+enum-told-2 : tie.Need-enum-told-2 Inv-loop μ-loop
+enum-told-2 c = search needs
+
+add-i : tie.Need-add-i Inv-loop μ-loop
+add-i c = search needs
+
+loop-less : tie.Need-loop-less Inv-loop μ-loop
+loop-less c = search needs
+
+loop-again : tie.Need-loop-again Inv-loop μ-loop
+loop-again c = (
+  omega arith,
+  turned-by _ _ _ _ _ (c .before .before .before .before .before .before .loop .inv .1) (λ g. bundles-leave g _ _) (c .before .before .before .before .before .loop-test .taken)
+      (λ g s. rw (c .enum-told2 .given .1, c .before .before .before .bundle-at .ensures) at (c .before .before .emit-bundle .ensures g s)),
+)
+
+returns-2 : tie.Need-returns-2 Inv-loop μ-loop
+returns-2 c = emits-by _ _ (c .before .before .before .before .set-start .ensures) (c .before .before .set-length .ensures)
+    (over-by _ _ _ _ _ (c .before .loop .inv .1) (c .loop-test .left))
+
+pub emit-spec : {M : Type 1} → statement M
+emit-spec =
+    tie.close
+    (tie.spec
+    Inv-loop
+    μ-loop
+    set-start-requires
+    set-length-requires
+    loop-holds
+    bundle-at-requires
+    emit-bundle-requires
+    enum-told
+    returns
+    enum-told-2
+    add-i
+    loop-less
+    loop-again
+    returns-2)

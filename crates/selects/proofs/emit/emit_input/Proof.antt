@@ -1,0 +1,56 @@
+use mathlib.Core.Path.{refl, _∙_}
+use Rattle.selects.specs.Emits.{input-there, input-refused, input-set}
+use borrow.Author.Needs.{needs}
+use Rattle.selects.proofs.emit.emit_input.Statement.{statement}
+use Rattle.selects.proofs.emit.emit_input.Tie as tie
+
+target-input-requires : tie.Need-target-input-requires
+target-input-requires c κs = search needs
+
+returns : tie.Need-returns
+returns c = λ g s. input-there (λ e. c .if1 .taken (c .before .target-input .ensures ∙ e)) refl
+
+target-type-requires : tie.Need-target-type-requires
+target-type-requires c κs = search needs
+
+values-in-cases-requires : tie.Need-values-in-cases-requires
+values-in-cases-requires c κs = search needs
+
+define-output-requires : tie.Need-define-output-requires
+define-output-requires c κs = search needs
+
+enum-told : tie.Need-enum-told
+enum-told c = search needs
+
+enum-known-o : tie.Need-enum-known-o
+enum-known-o c = search needs
+
+output-requires : tie.Need-output-requires
+output-requires c κs = search needs
+
+set-target-input-requires : tie.Need-set-target-input-requires
+set-target-input-requires c κs = search needs
+
+returns-2 : tie.Need-returns-2
+returns-2 c = input-refused _ _ _ _ _ _ (c .before .before .before .before .before .before .before .before .before .before .target-input .ensures) (c .before .before .before .before .before .before .before .before .before .if1 .left) (c .before .before .before .before .before .before .before .target-type .ensures)
+    (c .before .before .before .before .before .values-in-cases .ensures) (c .before .before .define-output .ensures) (c .enum-told .given .1)
+
+returns-3 : tie.Need-returns-3
+returns-3 c = input-set _ _ _ _ _ _ (c .before .before .before .before .before .before .before .before .before .before .before .before .before .before .target-input .ensures) (c .before .before .before .before .before .before .before .before .before .before .before .before .before .if1 .left) (c .before .before .before .before .before .before .before .before .before .before .before .target-type .ensures)
+    (c .before .before .before .before .before .before .before .before .before .values-in-cases .ensures) (c .before .before .before .before .before .before .define-output .ensures) (c .before .before .before .before .o .given .1) (c .before .output .ensures) (c .set-target-input .ensures)
+
+pub emit-input-spec : {M : Type 1} → statement M
+emit-input-spec =
+    tie.close
+    (tie.spec
+    target-input-requires
+    returns
+    target-type-requires
+    values-in-cases-requires
+    define-output-requires
+    enum-told
+    enum-known-o
+    output-requires
+    set-target-input-requires
+    returns-2
+    returns-3)

@@ -1,0 +1,38 @@
+use borrow.Author.Tests.{not-true, not-false}
+use Rattle.selects.specs.Into.{if-not, if-full, if-made}
+use borrow.Author.Needs.{needs}
+use Rattle.selects.proofs.into.select_if.Statement.{statement}
+use Rattle.selects.proofs.into.select_if.Tie as tie
+
+returns : tie.Need-returns
+returns c = if-not _ _ _ _ _ (not-true _ (c .if1 .taken))
+
+define-select-requires : tie.Need-define-select-requires
+define-select-requires c κs = search needs
+
+enum-told : tie.Need-enum-told
+enum-told c = search needs
+
+enum-known-h : tie.Need-enum-known-h
+enum-known-h c = search needs
+
+emit-requires : tie.Need-emit-requires
+emit-requires c κs = search needs
+
+returns-2 : tie.Need-returns-2
+returns-2 c = if-full _ _ _ _ _ (not-false _ (c .before .before .before .before .if1 .left)) (c .before .before .define-select .ensures) (c .enum-told .given .1)
+
+returns-3 : tie.Need-returns-3
+returns-3 c = if-made _ _ _ _ _ (not-false _ (c .before .before .before .before .before .before .before .if1 .left)) (c .before .before .before .before .before .define-select .ensures) (c .before .before .before .h .given .1) (c .emit .ensures)
+
+pub select-if-spec : {M : Type 1} → statement M
+select-if-spec =
+    tie.close
+    (tie.spec
+    returns
+    define-select-requires
+    enum-told
+    enum-known-h
+    emit-requires
+    returns-2
+    returns-3)

@@ -1,0 +1,55 @@
+use Rattle.selects.specs.Into.{select-none, select-all}
+use borrow.Author.Needs.{needs}
+use Rattle.selects.proofs.into.structurize_select.Statement.{statement}
+use Rattle.selects.proofs.into.structurize_select.Tie as tie
+
+any-non-empty-case-requires : tie.Need-any-non-empty-case-requires
+any-non-empty-case-requires c κs = search needs
+
+rewrite-cases-requires : tie.Need-rewrite-cases-requires
+rewrite-cases-requires c κs = search needs
+
+deferred-targets-requires : tie.Need-deferred-targets-requires
+deferred-targets-requires c κs = search needs
+
+plan-bundles-requires : tie.Need-plan-bundles-requires
+plan-bundles-requires c κs = search needs
+
+either-requires : tie.Need-either-requires
+either-requires c κs = search needs
+
+select-if-requires : tie.Need-select-if-requires
+select-if-requires c κs = search needs
+
+enum-told : tie.Need-enum-told
+enum-told c = search needs
+
+returns : tie.Need-returns
+returns c = select-none _ _ _ _ (c .before .before .before .before .before .before .before .before .before .before .before .any-non-empty-case .ensures) (c .before .before .before .before .before .before .before .before .before .rewrite-cases .ensures) (c .before .before .before .before .before .before .before .deferred-targets .ensures)
+    (c .before .before .before .before .before .plan-bundles .ensures) (c .before .before .before .before .either .ensures) (c .before .before .select-if .ensures) (c .enum-told .given .1)
+
+enum-told-2 : tie.Need-enum-told-2
+enum-told-2 c = search needs
+
+replace-inputs-requires : tie.Need-replace-inputs-requires
+replace-inputs-requires c κs = search needs
+
+returns-2 : tie.Need-returns-2
+returns-2 c = select-all _ _ _ _ (c .before .before .before .before .before .before .before .before .before .before .before .before .before .any-non-empty-case .ensures) (c .before .before .before .before .before .before .before .before .before .before .before .rewrite-cases .ensures) (c .before .before .before .before .before .before .before .before .before .deferred-targets .ensures)
+    (c .before .before .before .before .before .before .before .plan-bundles .ensures) (c .before .before .before .before .before .before .either .ensures) (c .before .before .before .before .select-if .ensures) (c .before .before .enum-told2 .given .1) (c .replace-inputs .ensures)
+
+pub structurize-select-spec : {M : Type 1} → statement M
+structurize-select-spec =
+    tie.close
+    (tie.spec
+    any-non-empty-case-requires
+    rewrite-cases-requires
+    deferred-targets-requires
+    plan-bundles-requires
+    either-requires
+    select-if-requires
+    enum-told
+    returns
+    enum-told-2
+    replace-inputs-requires
+    returns-2)

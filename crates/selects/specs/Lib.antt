@@ -1,0 +1,15 @@
+pub mod Turns
+pub mod Cases
+pub mod Selects
+pub mod Emits
+pub mod Fronts
+pub mod Into
+pub mod Places
+pub mod CasesShown
+pub mod RegionsShown
+pub mod StepsShown
+pub mod SelectsShown
+pub mod Emitting
+pub mod PerCase
+pub mod EmitsShown
+pub mod SetsEmitted

@@ -1,0 +1,60 @@
+-- A select that is defined, as the words alone have it.
+use mathlib.Core.Path.{_≡_, refl}
+use mathlib.Core.List.{List}
+use Prim.Native.Nat.{ℕ, suc, _+_, _*_, _-_, _≤_, _<_}
+use native.Mathlib.Omega.{arith}
+use Rattle.state.specs.declared.defined.Defined.{Defined}
+use Rattle.state.specs.declared.defined.Defined.the-variants.{Number, Full}
+use Rattle.state.specs.Sections.{word, stored, cases, children}
+use Rattle.state.specs.Tables as tables
+use Rattle.state.specs.Tables.{Adds, Defines}
+use Rattle.shown.specs.CellSteps.{case-cell, select-cell}
+use Rattle.lookups.specs.Materialized.{Materializes}
+use Rattle.selects.specs.declared.made.Made.the-variants.{Done as MadeDone, Full as MadeFull}
+use Rattle.selects.specs.declared.define.Scrutinee.{Scrutinee}
+use Rattle.selects.specs.declared.define.Scrutinee.the-variants.{Value, Lazy}
+use Rattle.selects.specs.Turns.{Turns}
+use Rattle.selects.specs.Cases.{CaseRegion, children-of}
+
+abbrev pub case-total : List ℕ → ℕ
+case-total l = tables.case-total l
+
+pub data ScrutineeMade (l : List ℕ) : Scrutinee → List ℕ → Defined → Type 0 where
+  given-value : {v : ℕ} {l′ : List ℕ} → l′ ≡ l → ScrutineeMade l (Value v) l′ (Number v)
+  made-value : {c : ℕ} {l′ : List ℕ} {a : Defined} → Materializes l c l′ a → ScrutineeMade l (Lazy c) l′ a
+
+-- The cells of the first n cases are added, the last first, to those at h.
+pub data CaseCells : ℕ → ℕ → List ℕ → List ℕ → ℕ → Type 0 where
+  cells-over : {n h h′ : ℕ} {l l′ : List ℕ} → n ≡ 0 → l′ ≡ l → h′ ≡ h → CaseCells n h l l′ h′
+  cell-more : {n m h h₁ h′ : ℕ} {l l₁ l′ : List ℕ} → n ≡ suc m
+      → Adds l l₁ (case-cell h (word l cases (10 * m + 2)) (children-of l m)) h₁ → CaseCells m h₁ l₁ l′ h′
+      → CaseCells n h l l′ h′
+
+pub data SelectAdded (r node shape v : ℕ) (l l′ : List ℕ) (h : ℕ) : Type 0 where
+  select-added : {l₁ l₂ : List ℕ} {cs before : ℕ} → CaseCells (case-total l) 0 l l₁ cs → before ≡ word l₁ children r
+      → Adds l₁ l₂ (select-cell before node shape v cs) h → l′ ≡ stored l₂ children r h → SelectAdded r node shape v l l′ h
+
+pub data SelectDefined (r shape : ℕ) (x : Scrutinee) (l l′ : List ℕ) : Defined → Type 0 where
+  regions-full : Turns CaseRegion (case-total l) 0 l l′ MadeFull → SelectDefined r shape x l l′ Full
+  scrutinee-full : {l₁ : List ℕ} → Turns CaseRegion (case-total l) 0 l l₁ MadeDone → ScrutineeMade l₁ x l′ Full
+      → SelectDefined r shape x l l′ Full
+  node-full : {l₁ l₂ : List ℕ} {v : ℕ} → Turns CaseRegion (case-total l) 0 l l₁ MadeDone → ScrutineeMade l₁ x l₂ (Number v)
+      → Defines 1 512 l₂ l′ Full → SelectDefined r shape x l l′ Full
+  select-defined : {l₁ l₂ l₃ : List ℕ} {v n h : ℕ} → Turns CaseRegion (case-total l) 0 l l₁ MadeDone → ScrutineeMade l₁ x l₂ (Number v)
+      → Defines 1 512 l₂ l₃ (Number n) → SelectAdded r n shape v l₃ l′ h → SelectDefined r shape x l l′ (Number h)
+
+-- ---- Turns of the loop over the cases.
+-- Whatever the cells that are left make is made of all.
+abbrev pub CellsOn : List ℕ → ℕ → ℕ → List ℕ → Type 0
+CellsOn l₀ n h l = (l′ : List ℕ) (h′ : ℕ) → CaseCells n h l l′ h′ → CaseCells (case-total l₀) 0 l₀ l′ h′
+
+pub cells-begin : (l₀ : List ℕ) (n : ℕ) → n ≡ case-total l₀ → CellsOn l₀ n 0 l₀
+cells-begin l₀ n e l′ h′ x = rw e at x
+
+module _ (l₀ l : List ℕ) (n h : ℕ) (goes-on : CellsOn l₀ n h l) where
+  pub cells-turn : 0 < n → {body kids h₁ : ℕ} {l₁ : List ℕ} → body ≡ word l cases (10 * (n - 1) + 2)
+      → kids ≡ children-of l (n - 1) → Adds l l₁ (case-cell h body kids) h₁ → CellsOn l₀ (n - 1) h₁ l₁
+  cells-turn more b k x l′ h′ y = let s : n ≡ suc (n - 1) = omega arith in goes-on l′ h′ (cell-more s (rw (b, k) at x) y)
+
+  pub cells-end : n ≤ 0 → CaseCells (case-total l₀) 0 l₀ l h
+  cells-end none = let s : n ≡ 0 = omega arith in goes-on l h (cells-over s refl refl)
