@@ -2,12 +2,11 @@
 use mathlib.Core.Path.{_≡_, sym, ap, _∙_}
 use mathlib.Core.Bool.{Bool}
 use mathlib.Core.List.{List, _∷_}
-use Prim.Native.Nat.{ℕ, _+_, _-_, _*_, _%_, _^_, _≤_, _<_}
+use Prim.Native.Nat.{ℕ, _+_, _-_, _%_, _≤_, _<_}
 use native.Mathlib.Numerals.{add-one}
 use native.Mathlib.Omega.{arith}
 use lib.ListN.{length, getD, take, drop, drop-of-length-le}
 use lib.Seq.{drop-cons}
-use lib.Pow.{pow-lt}
 use Rattle.format.specs.Accept.{accept}
 use Rattle.format.specs.laws.Refusals.{refusal-range}
 use Rattle.record_text.specs.Listing.{shown-text}
@@ -61,6 +60,3 @@ pub listed-right : (s answers : List ℕ) (k : ℕ) {t : List ℕ} {a : Answer} 
     → r ≡ is-listed a answers k
     → r ≡ as-listed s answers k
 listed-right s answers k is same told = told ∙ ap (λ x. is-listed x answers k) (is ∙ ap (λ x. brief (accept x)) same)
-
-pub one-bit : (bit : ℕ) → 1 * 2 ^ (bit % 8) % 256 ≡ 2 ^ (bit % 8)
-one-bit bit = let small : 2 ^ (bit % 8) < 256 = pow-lt {j = 8} (omega arith) in omega arith
