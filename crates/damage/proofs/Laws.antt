@@ -5,6 +5,7 @@ use mathlib.Core.List.{List, _∷_}
 use Prim.Native.Nat.{ℕ, _+_, _-_, _%_, _≤_, _<_}
 use native.Mathlib.Numerals.{add-one}
 use native.Mathlib.Omega.{arith}
+use native.Mathlib.Nat.{sub-zero}
 use lib.ListN.{length, getD, take, drop, drop-of-length-le}
 use lib.Seq.{drop-cons}
 use Rattle.format.specs.Accept.{accept}
@@ -14,7 +15,6 @@ use Rattle.accept.specs.declared.Accepted.the-variants.{Record, Refused}
 use Rattle.accept.specs.Judged.{given, not-given}
 use Rattle.accept.specs.Accepts.{Accepts}
 use Rattle.show_text.specs.Shows.{InFront}
-use Rattle.vectors.proofs.Laws.{from-start}
 use Rattle.damage.specs.declared.answers.Answer.{Answer}
 use Rattle.damage.specs.Answers.{sum-from, brief, is-listed, as-listed}
 
@@ -33,7 +33,7 @@ module _ (text : List ℕ) (sum i : ℕ) (sofar : sum-from sum (drop i text) ≡
 
 pub summed-shown : {text after : List ℕ} {n r : ℕ} → InFront text after n → r ≡ sum-from 0 (take (n - 0) (drop 0 after))
     → r ≡ sum-from 0 text
-summed-shown {after = after} {n} front is = is ∙ ap (sum-from 0) (from-start n after ∙ front .is)
+summed-shown front is = is ∙ ap (sum-from 0) (rw sub-zero (front .is))
 
 module _ (s old new : List ℕ) where
   -- a refusal's number and word fit a byte

@@ -1,7 +1,7 @@
 -- The loops that read n of a kind one after the other, and a count with so many behind it: one law for each way out.
 use mathlib.Core.Path.{_≡_, refl, ap, _∙_}
 use mathlib.Core.List.{List}
-use Prim.Native.Nat.{ℕ, _+_, _≤_, _<_}
+use Prim.Native.Nat.{ℕ, _+_, _-_, _≤_, _<_}
 use lib.ListN.{take}
 use borrow.Author.Needs.{needs}
 use Rattle.format.specs.Read.{Read, got, bad, Reader, within, many, counted}
@@ -59,7 +59,13 @@ module _ {p : Reader ℕ} {w : List ℕ} {from : Cursor} {n k : ℕ} {c : Cursor
   unfolding step-of
   word-stop q = turn-stop t l (item-step p w c answer) (ap step-of q)
 
--- Such a loop's proof: its invariant is Turn, and `search turns` closes each need, whatever is read.
+-- Such a loop's proof: the invariant, by the loop's variables as the code has them, and its measure; `search turns` closes each need.
+abbrev pub turning : {A : Type 0} → Reader A → List ℕ → ℕ → ℕ → Cursor → ℕ → Cursor → Type 0
+turning p w n i₀ from i c = Turn p w from n i c
+
+abbrev pub turns-left : List ℕ → ℕ → ℕ → Cursor → ℕ → Cursor → ℕ
+turns-left w n i₀ from i c = n - i
+
 pub ruleset turns = (needs, turn-start, turn-end, turn-next, turn-stop, word-next, word-stop)
 
 -- A count within bounds, and so many behind it.

@@ -1,22 +1,15 @@
--- The loop follows `many`: `Turn` says what is left to read, and from where.
-use Prim.Native.Nat.{_-_}
+-- The loop follows `many`: `turning` says what is left to read, and from where.
 use Rattle.format.specs.Read.{read-value}
-use Rattle.reading.specs.laws.Turns.{Turn, turns}
+use Rattle.reading.specs.laws.Turns.{turning, turns-left, turns}
 use Rattle.reading.proofs.values.values.Statement.{statement}
 use Rattle.reading.proofs.values.values.Tie as tie
-
-abbrev Inv-loop : tie.InvT-loop
-Inv-loop w n i₀ c₀ i c = Turn read-value w c₀ n i c
-
-abbrev μ-loop : tie.MeasureT-loop
-μ-loop w n i₀ c₀ i c = n - i
 
 pub values-spec : {M : Type 1} → statement M
 values-spec =
     tie.close
     (tie.spec
-    Inv-loop
-    μ-loop
+    (turning read-value)
+    turns-left
     (λ c. search turns)
     (λ c κs. search turns)
     (λ c. search turns)

@@ -1,23 +1,16 @@
--- The loop follows `many`: `Turn` says what is left to read, and from where.
-use Prim.Native.Nat.{_-_}
+-- The loop follows `many`: `turning` says what is left to read, and from where.
 use Rattle.format.specs.Read.{type}
-use Rattle.reading.specs.laws.Turns.{Turn, turns}
+use Rattle.reading.specs.laws.Turns.{turning, turns-left, turns}
 use Rattle.reading.proofs.words.types.Statement.{statement}
 use Rattle.reading.proofs.words.types.Tie as tie
-
-abbrev Inv-loop : tie.InvT-loop
-Inv-loop w n i₀ c₀ i c = Turn type w c₀ n i c
-
-abbrev μ-loop : tie.MeasureT-loop
-μ-loop w n i₀ c₀ i c = n - i
 
 pub types-spec : {M : Type 1} → statement M
 unfolding type
 types-spec =
     tie.close
     (tie.spec
-    Inv-loop
-    μ-loop
+    (turning type)
+    turns-left
     (λ c. search turns)
     (λ c κs. search turns)
     (λ c. search turns)
