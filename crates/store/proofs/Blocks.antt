@@ -1,18 +1,13 @@
--- Laws of the blocks' verdicts: a check's bound, and that the first refusal among the blocks stands.
+-- Laws of the blocks' verdicts: the first refusal among the blocks stands.
 use mathlib.Core.Path.{_≡_, refl, sym, _∙_}
 use mathlib.Core.List.{List}
-use Prim.Native.Nat.{ℕ, _+_, _*_, _≤_, _<_}
-use native.Mathlib.Nat.{mul-le-mul}
+use Prim.Native.Nat.{ℕ, _+_, _*_, _<_}
 use native.Mathlib.Numerals.{add-one}
 use native.Mathlib.Omega.{arith}
 use lib.Dec.{eqb}
 use Rattle.format.specs.Store.{accepted, refused, pair, weighted, blocks-checked}
 use Rattle.format.specs.laws.Stores.{blocks-stay}
 use Rattle.store.specs.Block.{first-wrong, block-checked}
-
--- A byte times its weight in a block.
-pub weight-bound : (b n : ℕ) → b < 256 → n < 508 → b * (n + 1) ≤ 129540
-weight-bound b n p q = mul-le-mul {n₁ = b} {m₁ = n + 1} {n₂ = 255} {m₂ = 508} (omega arith) (omega arith)
 
 pub blocks-more : (s : List ℕ) (n : ℕ) → blocks-checked s n ≡ accepted tt → blocks-checked s (n + 1) ≡ block-checked s n
 unfolding blocks-checked

@@ -7,7 +7,7 @@ use mathlib.Core.Logic.{⊎-elim}
 use Prim.Native.Nat.{ℕ, zero, suc, _+_, _*_, _/_, _%_, _-_, _≤_, _<_}
 use native.Mathlib.Numerals.{add-one}
 use native.Mathlib.Omega.{arith}
-use native.Mathlib.Nat.{not-suc-le-zero, eq-or-lt-of-le, le-of-suc-le-suc}
+use native.Mathlib.Nat.{mul-le-mul, not-suc-le-zero, eq-or-lt-of-le, le-of-suc-le-suc}
 use lib.ListN.{length, getD}
 use lib.Dec.{eqb, ltb}
 use borrow.Author.Tests.{eq-eqb, ne-eqb, lt-ltb, le-leb, lt-leb, leb-true, ltb-true, eqb-true}
@@ -43,6 +43,10 @@ module _ (s : List ℕ) (n w : ℕ) where
   count-rest e h = rw (lt-ltb 0 w (omega arith), eq-eqb n ((w + 252) / 253) (sym h)) refl
 
 -- ---- the blocks
+-- A byte times its weight in a block.
+pub weight-bound : (b n : ℕ) → b < 256 → n < 508 → b * (n + 1) ≤ 129540
+weight-bound b n p q = mul-le-mul {n₁ = b} {m₁ = n + 1} {n₂ = 255} {m₂ = 508} (omega arith) (omega arith)
+
 pub weighted-more : (s : List ℕ) (at n : ℕ) → weighted s at (n + 1) ≡ weighted s at n + getD s (at + n) 0 * (n + 1)
 unfolding weighted
 weighted-more s at n = ap (weighted s at) (add-one n)
