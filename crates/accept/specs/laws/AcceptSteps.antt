@@ -8,7 +8,7 @@ use borrow.Author.Tests.{le-leb}
 use lib.Seq.{slice, length-take-le, take-take, drop-drop, take-add, drop-at}
 use Rattle.format.specs.Store.{Answer, accepted, refused, if-accepted, store-words}
 use Rattle.format.specs.Read.{read-record}
-use Rattle.format.specs.Accept.{accept}
+use Rattle.format.specs.Accept.{with-references, accept}
 use Rattle.meaning.specs.facts.Tests.{clash}
 use Rattle.store.specs.declared.Loaded.the-variants as loaded
 use Rattle.store.specs.Loaded.{answered, words-counted, words-after, Loads}
@@ -18,7 +18,6 @@ use Rattle.store.specs.declared.Checked.{Checked}
 use Rattle.record.specs.Outcome.{forget, record-in}
 use Rattle.accept.specs.declared.Accepted.{Accepted}
 use Rattle.accept.specs.declared.Accepted.the-variants.{Refused}
-use Rattle.accept.specs.Judged.{with-references}
 use Rattle.accept.specs.Accepts.{accept-answered, Accepts, ReadChecked}
 
 -- where the words behind the first n agree

@@ -15,7 +15,7 @@ use Rattle.format.specs.Store.{Answer, accepted, refused, if-accepted, p
 use Rattle.format.specs.Store.{all-zero, length-right, count-right, store-words}
 use Rattle.format.specs.Read.{read-record}
 use Rattle.format.specs.References.{references}
-use Rattle.format.specs.Accept.{accept}
+use Rattle.format.specs.Accept.{with-references, accept}
 use Rattle.meaning.specs.Graph.{Graph}
 use Rattle.format.specs.stores.Pack.{check-from}
 use Rattle.format.specs.stores.QuickRead.{quick-read-record, same-read-record}
@@ -223,17 +223,15 @@ unfolding store-words quick-store-words
 same-store-words s = same-answer s (length-right (length s))
 
 -- ---- what is accepted
-abbrev checked : Answer Graph → Answer Graph
-checked x = if-accepted x λ g. if-accepted (references g) λ _. accepted g
-
 unfoldable pub quick-accept : List ℕ → Answer Graph
 unfolding quick-store-words quick-read-record references
-quick-accept s = if-accepted (quick-store-words s) λ ws. checked (quick-read-record ws)
+quick-accept s = if-accepted (quick-store-words s) λ ws. with-references (quick-read-record ws)
 
 pub same-accept : (s : List ℕ) → accept s ≡ quick-accept s
 unfolding accept quick-accept
-same-accept s = by-words (store-words s) ∙ ap (λ x. if-accepted x λ ws. checked (quick-read-record ws)) (same-store-words s)
+same-accept s = by-words (store-words s) ∙ ap (λ x. if-accepted x λ ws. with-references (quick-read-record ws)) (same-store-words s)
   where
-    by-words : (x : Answer (List ℕ)) → if-accepted x (λ ws. checked (read-record ws)) ≡ if-accepted x λ ws. checked (quick-read-record ws)
-    by-words (accepted ws) = ap checked (same-read-record ws)
+    by-words : (x : Answer (List ℕ))
+        → if-accepted x (λ ws. with-references (read-record ws)) ≡ if-accepted x λ ws. with-references (quick-read-record ws)
+    by-words (accepted ws) = ap with-references (same-read-record ws)
     by-words (refused n w) = refl

@@ -489,6 +489,44 @@ sheet-cases =
     ∷ "region 5 in - kids - out false"
     ∷ []
     )
+    -- bool tests of an undefined value: neither [true, undef] nor [undef, false] is the test of the select around it
+    ∷ prints (
+    block-bytes (
+    "00007b000900000000000000000001000100070001000000000001000400010002000000000002000100020000000000000000000100010007000100"
+    ∷ "000000000100040001000200010000000200060003000000000000000000010001000700010000000000010004000100020002000000020004000500"
+    ∷ "000000000000000000000100040001000500000001000200060007000000000000000000000001000400010005000000010002000600080000000000"
+    ∷ "000000000000010001000000000000000000010001000900000001000000010001000000000000000000000001000100000000000000000000000100"
+    ∷ "01"
+    ∷ []
+    ) "b34a0000"
+    ∷ []
+    ) (
+    "whole figure 1 attempts 16 twice 0"
+    ∷ "region 0 in - kids 0,8,9 out -"
+    ∷ "block 0 0.0/7/1/-"
+    ∷ "select 8 bool d0.0 cases 1,2 out 1"
+    ∷ "region 1 in - kids 1,5 out n5.0"
+    ∷ "block 1 1.0/7/1/-"
+    ∷ "select 5 bool d1.0 cases 10,3 out 1"
+    ∷ "region 10 in - kids - out true"
+    ∷ "region 3 in - kids 4 out undef1"
+    ∷ "select 4 bool undef1 cases 9,7 out -"
+    ∷ "region 9 in - kids - out -"
+    ∷ "region 7 in - kids - out -"
+    ∷ "region 2 in - kids 2,7 out n7.0"
+    ∷ "block 2 2.0/7/1/-"
+    ∷ "select 7 bool d2.0 cases 4,5 out 1"
+    ∷ "region 4 in - kids 6 out undef1"
+    ∷ "select 6 bool undef1 cases 11,8 out -"
+    ∷ "region 11 in - kids - out -"
+    ∷ "region 8 in - kids - out -"
+    ∷ "region 5 in - kids - out false"
+    ∷ "select 9 bool n8.0 cases 6,12 out -"
+    ∷ "region 6 in - kids 3 out -"
+    ∷ "block 3 6.0/9/0/-"
+    ∷ "region 12 in - kids - out -"
+    ∷ []
+    )
     -- a figure of 4,294,967,295: loops in a loop
     ∷ prints (
     block-bytes (
