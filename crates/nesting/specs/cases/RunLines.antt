@@ -1,5 +1,5 @@
 -- Both runs of a graph, or of a store's record, as text: what a run vector states.
-use mathlib.Core.Path.{_≡_, refl, ap, _∙_}
+use mathlib.Core.Path.{_≡_, ap, _∙_}
 use mathlib.Core.Bool.{true}
 use mathlib.Core.List.{List, [], _++_}
 use mathlib.Core.Option.{none, some}

@@ -6,7 +6,7 @@ use mathlib.Core.List.{List, [], _∷_, _++_, map}
 use Prim.Native.Nat.{ℕ, zero, suc, _-_}
 use Prim.Native.String.{String}
 use lib.ListN.{length, replicate}
-use Rattle.meaning.specs.Graph.{Instr, instr, bool-cond, return, branch, select-branch, Region, Graph}
+use Rattle.meaning.specs.Graph.{Instr, instr, bool-cond, return, branch, select-branch, Region}
 use Rattle.meaning.specs.Lists.{concat}
 use Rattle.meaning.specs.Text.{Text}
 use Rattle.meaning.specs.facts.Tests.{and-both}
