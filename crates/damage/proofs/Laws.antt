@@ -12,7 +12,7 @@ use Rattle.format.specs.Accept.{accept}
 use Rattle.format.specs.laws.Refusals.{refusal-range}
 use Rattle.record_text.specs.Listing.{shown-text}
 use Rattle.accept.specs.declared.Accepted.the-variants.{Record, Refused}
-use Rattle.accept.specs.Judged.{given, not-given}
+use Rattle.accept.specs.Judged.{words-given, not-given}
 use Rattle.accept.specs.Accepts.{Accepts}
 use Rattle.show_text.specs.Shows.{InFront}
 use Rattle.damage.specs.declared.answers.Answer.{Answer}
@@ -51,7 +51,7 @@ module _ (s old new : List ℕ) where
   pub of-record : Accepts s old new Record → {b : ℕ} → b ≡ sum-from 0 (shown-text (accept s))
       → _≡_ {A = Answer} (record { number = 0; word = b }) (brief (accept s))
   of-record x q =
-      let taken = given (accept s) (x .answer) in
+      let taken = words-given (accept s) (x .answer) in
       let sum = rw (taken .is) at q in
       rw (taken .is) (cc)
 
