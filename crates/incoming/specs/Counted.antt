@@ -5,11 +5,10 @@ use Prim.Native.Nat.{ℕ, _+_, _≤_, _<_}
 use native.Mathlib.Numerals.{add-one}
 use native.Mathlib.Omega.{arith}
 use lib.Dec.{eqb}
-use lib.ListN.{length, getD, set, drop, drop-of-length-le, length-map, List·getD-map}
+use lib.ListN.{length, getD, set, drop, drop-of-length-le, length-map}
 use lib.Seq.{drop-cons, getD-set-same, getD-set-other}
 use borrow.Author.Tests.{eqb-false}
-use Rattle.meaning.specs.Graph.{Graph, Region, nowhere, region, edges-of, targets-of, no-edge}
-use Rattle.fields.specs.ByNumber.{edge-of}
+use Rattle.meaning.specs.Graph.{Graph, Region, nowhere, region, edges-of, targets-of}
 use Rattle.meaning.specs.Lists.{pick, times-in, total}
 use Rattle.meaning.specs.facts.Tests.{at-or-else, eqb-less, eqb-self}
 
@@ -35,13 +34,8 @@ one-more-here c r l =
 pub one-more-beyond : (c : List ℕ) (r : ℕ) → 32 ≤ r → OneMore c c r
 one-more-beyond c r l = record { each = λ a h. rw (eqb-less a r (omega arith)) (omega arith) }
 
--- A region's targets, by its edges.
-module _ (g : Graph) (r : ℕ) where
-  pub targets-counted : {n : ℕ} → n ≡ length (edges-of (region g r .terminator)) → n ≡ length (targets-of g r)
-  targets-counted e = e ∙ sym (length-map (edges-of (region g r .terminator)) _)
-
-  pub target-at : (j : ℕ) → edge-of g r j .target ≡ getD (targets-of g r) j 0
-  target-at j = sym (List·getD-map (λ e. e .target) (edges-of (region g r .terminator)) j no-edge)
+pub targets-counted : (g : Graph) (r : ℕ) {n : ℕ} → n ≡ length (edges-of (region g r .terminator)) → n ≡ length (targets-of g r)
+targets-counted g r e = e ∙ sym (length-map (edges-of (region g r .terminator)) _)
 
 -- The counts c became c′ by the first j of a list: each step adds at most one, and what the others add is left.
 pub record Counting (c c′ : List ℕ) (j : ℕ) (ts : List ℕ) : Type 0 where

@@ -15,8 +15,8 @@ use Rattle.meaning.specs.facts.Elements.{all-append, all-map, all-mapped, numbe
 use Rattle.meaning.specs.facts.Tests.{at-or-else, eqb-self}
 use Rattle.format.specs.Valid.{Valid, ValidEdge, ValidEnd}
 use Rattle.nesting.specs.Nesting.{visit, reachable, exit-targets, incoming-edge-count, incoming-edge-counts}
-use Rattle.fields.specs.ByNumber.{before, edge-of}
-use Rattle.incoming.specs.Counted.{AtMost, OneMore, GainsAll, Grows, bit-small, targets-counted, target-at}
+use Rattle.fields.specs.ByNumber.{before}
+use Rattle.incoming.specs.Counted.{AtMost, OneMore, GainsAll, Grows, bit-small, targets-counted}
 
 -- ---- How many of the regions are not marked: it bounds the stack and the counts.
 abbrev pub unseen : List Bool → ℕ
@@ -83,12 +83,12 @@ module _ (g : Graph) (r : ℕ) {n : ℕ} (size : n ≡ min (length (edges-of (re
   pub push-start : (xs : List ℕ) (at : ℕ) → before xs at ≡ drop n (targets-of g r) ++ before xs at
   push-start xs at = rw (drop-of-length-le (targets-of g r) {i = n} (omega (arith, all-targets)))
 
-  pub push-turn : {left at x : ℕ} (xs rest : List ℕ) → at < length xs → 1 ≤ left → left ≤ n → x ≡ edge-of g r (left - 1) .target
+  pub push-turn : {left at x : ℕ} (xs rest : List ℕ) → at < length xs → 1 ≤ left → left ≤ n → x ≡ getD (targets-of g r) (left - 1) 0
       → before xs at ≡ drop left (targets-of g r) ++ rest → before (set xs at x) (at + 1) ≡ drop (left - 1) (targets-of g r) ++ rest
   push-turn {left} {at} {x} xs rest l one most e h =
       let next : suc (left - 1) ≡ left = omega arith in
       let first = drop-cons (targets-of g r) (left - 1) 0 (omega (arith, all-targets)) in
-      pushed xs at x l ∙ rw (h, e ∙ target-at g r (left - 1), first, ← next)
+      pushed xs at x l ∙ rw (h, e, first, ← next)
 
 -- ---- A visit.
 visit-none : (g : Graph) (fuel : ℕ) (live : List ℕ) → visit g fuel [] live ≡ live
@@ -137,8 +137,8 @@ module _ {g : Graph} (v : Valid g) where
           counted = h .counted;
         }
 
-    pub new-visit : {after : List Bool} {d e todo′ : List ℕ} → length seen ≡ 32 → New seen after r → GainsAll c d (targets-of g r) → GainsAll d e (exit-targets g r)
-        → todo′ ≡ targets-of g r ++ todo → Visiting g fuel todo′ after e
+    pub new-visit : {after : List Bool} {d e todo′ : List ℕ} → length seen ≡ 32 → New seen after r → GainsAll c d (targets-of g r)
+        → GainsAll d e (exit-targets g r) → todo′ ≡ targets-of g r ++ todo → Visiting g fuel todo′ after e
     unfolding visit
     new-visit sized m gain more p =
         let i : is-in r (h .live) ≡ false = sym (h .marked r within) ∙ m .fresh in
@@ -192,7 +192,11 @@ visiting-popped {fuel = fuel} xs d h l n =
 -- ---- Room for the next visit.
 pub room-start : {c : List ℕ} {e : ℕ} → OneMore (replicate 32 0) c e → Room (replicate 32 false) c 1
 room-start {e = e} one =
-    record { sized = refl; stack = omega arith; small = record { each = λ a k. omega (arith, one .each a k, bit-small a e, getD-replicate {A = ℕ} 32 a 0 0 k) } }
+    record {
+      sized = refl;
+      stack = omega arith;
+      small = record { each = λ a k. omega (arith, one .each a k, bit-small a e, getD-replicate {A = ℕ} 32 a 0 0 k) };
+    }
 
 pub room-popped : {seen : List Bool} {c : List ℕ} {depth : ℕ} → Room seen c depth → (depth ≡ 0 → ⊥) → Room seen c (suc (depth - 1))
 room-popped {depth = depth} h n = let e : suc (depth - 1) ≡ depth = omega arith in rw e h
@@ -204,8 +208,8 @@ module _ {seen : List Bool} {c : List ℕ} {depth : ℕ} (h : Room seen c (suc d
   pub room-counts : (n : ℕ) → 4194241 ≤ n → AtMost c n
   room-counts n l = record { each = λ a k. omega (arith, h .small .each a k) }
 
-  pub room-new : {after : List Bool} {r : ℕ} {d e : List ℕ} {depth′ : ℕ} → New seen after r → Grows c d 65535 → Grows d e 65535 → depth′ ≤ depth + 8
-      → Room after e depth′
+  pub room-new : {after : List Bool} {r : ℕ} {d e : List ℕ} {depth′ : ℕ} → New seen after r → Grows c d 65535 → Grows d e 65535
+      → depth′ ≤ depth + 8 → Room after e depth′
   room-new {r = r} m gain more l =
       let z = unseen-less seen r (omega (arith, m .within, h .sized)) (m .fresh) in
       rw (m .is)

@@ -2,7 +2,8 @@ use Prim.Native.Nat.{_≤_, _-_}
 use native.Mathlib.Omega.{arith}
 use Rattle.nesting.specs.Nesting.{exit-targets}
 use Rattle.record.specs.Stands.{OfRecord}
-use Rattle.incoming.specs.Counted.{Counting, Grows, counting-start, counting-turn, counting-end, grows-start, grows-turn, grows-most, grown}
+use Rattle.incoming.specs.Counted.{Counting, Grows, counting-start, counting-turn, counting-end}
+use Rattle.incoming.specs.Counted.{grows-start, grows-turn, grows-most, grown}
 use borrow.Author.Needs.{needs}
 use Rattle.incoming.proofs.count_exits.Statement.{statement}
 use Rattle.incoming.proofs.count_exits.Tie as tie
@@ -33,12 +34,14 @@ loop-less c = search needs
 
 loop-again : tie.Need-loop-again Inv-loop μ-loop
 unfolding exit-targets
-loop-again c = (
-  omega arith,
-  grows-turn (c .before .before .before .before .loop .inv .1) (c .add-one .ensures),
-  λ g s. counting-turn _ (c .before .before .before .before .before .exit-count .ensures g s) (c .before .before .before .before .loop .inv .2 g s) (c .before .before .before .loop-test .taken) (c .before .exit-target .ensures g s)
-      (c .add-one .ensures),
-)
+loop-again c =
+    let at-loop = c .before .before .before .before in
+    let in-loop = c .before .before .before in (
+      omega arith,
+      grows-turn (at-loop .loop .inv .1) (c .add-one .ensures),
+      λ g s. counting-turn _ (at-loop .before .exit-count .ensures g s) (at-loop .loop .inv .2 g s) (in-loop .loop-test .taken)
+          (c .before .exit-target .ensures g s) (c .add-one .ensures),
+    )
 
 returns : tie.Need-returns Inv-loop μ-loop
 unfolding exit-targets

@@ -18,7 +18,9 @@ returns : tie.Need-returns
 returns c = search needs
 
 returns-2 : tie.Need-returns-2
-returns-2 c = sym (List·getD-eq-default (c .before .before .before .args .counts .now) 0 {n = c .before .before .before .args .r} (omega arith))
+returns-2 c =
+    let start = c .before .before .before in
+    sym (List·getD-eq-default (start .args .counts .now) 0 {n = start .args .r} (omega arith))
 
 pub count-of-spec : {M : Type 1} → statement M
 count-of-spec = tie.close (tie.spec span-requires mul-t8 element-copy-out-t11 returns returns-2)

@@ -1,9 +1,11 @@
-use mathlib.Core.Path.{_∙_}
+use mathlib.Core.Path.{sym, _∙_}
+use Rattle.fields.specs.laws.Passed.{target-is}
 use Prim.Native.Nat.{_≤_, _-_}
 use native.Mathlib.Omega.{arith}
 use Rattle.meaning.specs.Graph.{targets-of}
 use Rattle.record.specs.Stands.{OfRecord}
-use Rattle.incoming.specs.Counted.{Counting, Grows, counting-start, counting-turn, counting-end, grows-start, grows-turn, grows-most, grown, targets-counted, target-at}
+use Rattle.incoming.specs.Counted.{Counting, Grows, counting-start, counting-turn, counting-end}
+use Rattle.incoming.specs.Counted.{grows-start, grows-turn, grows-most, grown, targets-counted}
 use borrow.Author.Needs.{needs}
 use Rattle.incoming.proofs.count_targets.Statement.{statement}
 use Rattle.incoming.proofs.count_targets.Tie as tie
@@ -33,17 +35,19 @@ loop-less : tie.Need-loop-less Inv-loop μ-loop
 loop-less c = search needs
 
 loop-again : tie.Need-loop-again Inv-loop μ-loop
-loop-again c = (
-  omega arith,
-  grows-turn (c .before .before .before .before .loop .inv .1) (c .add-one .ensures),
-  λ g s. counting-turn _ (targets-counted g _ (c .before .before .before .before .before .target-count .ensures g s)) (c .before .before .before .before .loop .inv .2 g s) (c .before .before .before .loop-test .taken)
-      (c .before .target .ensures g s ∙ target-at g _ _) (c .add-one .ensures),
-)
+loop-again c =
+    let at-loop = c .before .before .before .before in (
+      omega arith,
+      grows-turn (at-loop .loop .inv .1) (c .add-one .ensures),
+      λ g s. counting-turn _ (targets-counted g _ (at-loop .before .target-count .ensures g s)) (at-loop .loop .inv .2 g s)
+          (c .before .before .before .loop-test .taken) (c .before .target .ensures g s ∙ sym (target-is s _ _)) (c .add-one .ensures),
+    )
 
 returns : tie.Need-returns Inv-loop μ-loop
 returns c = (
   grows-most _ (omega arith) (c .before .loop .inv .1),
-  λ g s. counting-end _ (targets-counted g _ (c .before .before .target-count .ensures g s)) (c .before .loop .inv .2 g s) (c .loop-test .left),
+  λ g s. counting-end _ (targets-counted g _ (c .before .before .target-count .ensures g s))
+      (c .before .loop .inv .2 g s) (c .loop-test .left),
 )
 
 pub count-targets-spec : {M : Type 1} → statement M

@@ -4,7 +4,8 @@ use lib.ListN.{getD-replicate}
 use Rattle.format.specs.Valid.{Valid}
 use Rattle.record.specs.Stands.{OfRecord}
 use Rattle.fields.specs.ByNumber.{before}
-use Rattle.incoming.specs.Visits.{Room, Visiting, room-start, room-popped, visiting-start, visiting-popped, empty-stack, none-left, no-fuel}
+use Rattle.incoming.specs.Visits.{Room, Visiting, room-start, room-popped}
+use Rattle.incoming.specs.Visits.{visiting-start, visiting-popped, empty-stack, none-left, no-fuel}
 use borrow.Author.Needs.{needs}
 use Rattle.incoming.proofs.incoming_edge_counts.Statement.{statement}
 use Rattle.incoming.proofs.incoming_edge_counts.Tie as tie
@@ -56,10 +57,13 @@ loop-less : tie.Need-loop-less Inv-loop μ-loop
 loop-less c = search needs
 
 loop-again : tie.Need-loop-again Inv-loop μ-loop
-loop-again c = (
-  c .visit .ensures .0,
-  λ g s v. c .visit .ensures .1 g s v _ (visiting-popped _ _ (c .before .before .before .before .before .before .loop .inv .1 g s v) (c .before .before .before .before .before .loop-test .taken) (c .before .before .before .before .if1 .left)),
-)
+loop-again c =
+    let at-if = c .before .before .before .before in
+    let in-loop = at-if .before in (
+      c .visit .ensures .0,
+      λ g s v. c .visit .ensures .1 g s v _
+          (visiting-popped _ _ (in-loop .before .loop .inv .1 g s v) (in-loop .loop-test .taken) (at-if .if1 .left)),
+    )
 
 returns-2 : tie.Need-returns-2 Inv-loop μ-loop
 returns-2 c g s v r l = no-fuel v (c .before .loop .inv .1 g s v) r l (omega arith)

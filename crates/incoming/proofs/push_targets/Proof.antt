@@ -1,4 +1,5 @@
-use mathlib.Core.Path.{_≡_}
+use mathlib.Core.Path.{_≡_, sym, _∙_}
+use Rattle.fields.specs.laws.Passed.{target-is}
 use mathlib.Core.List.{_++_}
 use Prim.Native.Nat.{_≤_, _+_}
 use native.Mathlib.Omega.{arith}
@@ -47,13 +48,15 @@ loop-less : tie.Need-loop-less Inv-loop μ-loop
 loop-less c = search needs
 
 loop-again : tie.Need-loop-again Inv-loop μ-loop
-loop-again c = (
-  simp length-set (omega arith),
-  omega arith,
-  omega arith,
-  λ g s few. push-turn g _ (c .before .before .before .few-targets .ensures .1 g s) few (c .before .before .loop .todo) _ (omega (arith, c .before .before .before .few-targets .ensures .0)) (omega arith)
-      (omega arith) (c .target .ensures g s) (c .before .before .loop .inv .3 g s few),
-)
+loop-again c =
+    let at-loop = c .before .before in
+    let few-targets = at-loop .before .few-targets in (
+      simp length-set (omega arith),
+      omega arith,
+      omega arith,
+      λ g s few. push-turn g _ (few-targets .ensures .1 g s) few (at-loop .loop .todo) _ (omega (arith, few-targets .ensures .0))
+          (omega arith) (omega arith) (c .target .ensures g s ∙ sym (target-is s _ _)) (at-loop .loop .inv .3 g s few),
+    )
 
 returns : tie.Need-returns Inv-loop μ-loop
 returns c = (

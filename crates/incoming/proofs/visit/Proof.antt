@@ -12,18 +12,25 @@ count-targets-requires : tie.Need-count-targets-requires
 count-targets-requires c κs = room-counts (c .before .before .before .before .pre) _ (omega arith)
 
 count-exits-requires : tie.Need-count-exits-requires
-count-exits-requires c κs = grown _ (c .before .count-targets .ensures .0) (room-counts (c .before .before .before .before .before .before .pre) 4194241 (omega arith)) (omega arith)
+count-exits-requires c κs =
+    grown _ (c .before .count-targets .ensures .0)
+    (room-counts (c .before .before .before .before .before .before .pre) 4194241 (omega arith)) (omega arith)
 
 push-targets-requires : tie.Need-push-targets-requires
 push-targets-requires c κs = search needs
 
 returns : tie.Need-returns
-returns c = (
-  room-new (c .before .before .before .before .before .before .before .before .before .pre) (rw (c .before .before .before .before .before .before .if1 .taken) at (c .before .before .before .before .before .before .before .mark .ensures)) (c .before .before .before .before .count-targets .ensures .0) (c .before .before .count-exits .ensures .0)
-      (c .push-targets .ensures .0),
-  λ g s v fuel h. new-visit v h (c .before .before .before .before .before .before .before .before .before .pre .sized) (rw (c .before .before .before .before .before .before .if1 .taken) at (c .before .before .before .before .before .before .before .mark .ensures)) (c .before .before .before .before .count-targets .ensures .1 g s)
-      (c .before .before .count-exits .ensures .1 g s) (c .push-targets .ensures .1 g s (targets-few v _ (h .inside .0))),
-)
+returns c =
+    let marked = c .before .before .before .before .before .before in
+    let counted = c .before .before .before .before in
+    let exits = c .before .before in
+    let start = c .before .before .before .before .before .before .before .before .before in (
+      room-new (start .pre) (rw (marked .if1 .taken) at (marked .before .mark .ensures)) (counted .count-targets .ensures .0)
+          (exits .count-exits .ensures .0) (c .push-targets .ensures .0),
+      λ g s v fuel h. new-visit v h (start .pre .sized) (rw (marked .if1 .taken) at (marked .before .mark .ensures))
+          (counted .count-targets .ensures .1 g s) (exits .count-exits .ensures .1 g s)
+          (c .push-targets .ensures .1 g s (targets-few v _ (h .inside .0))),
+    )
 
 returns-2 : tie.Need-returns-2
 returns-2 c = (

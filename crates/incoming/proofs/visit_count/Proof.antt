@@ -44,7 +44,8 @@ loop-again c = (
   omega arith,
   omega (arith, c .target-count .ok),
   λ g s. rw (c .target-count .ensures g s)
-      (sum-turn _ _ (c .before .before .before .region-count .ensures g s) _ _ _ (c .before .loop-test .taken) (c .before .before .loop .inv .2 g s)),
+      (sum-turn _ _ (c .before .before .before .region-count .ensures g s) _ _ _
+      (c .before .loop-test .taken) (c .before .before .loop .inv .2 g s)),
 )
 
 returns : tie.Need-returns Inv-loop μ-loop
