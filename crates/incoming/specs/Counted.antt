@@ -37,7 +37,7 @@ one-more-beyond c r l = record { each = λ a h. rw (eqb-less a r (omega arith)) 
 pub targets-counted : (g : Graph) (r : ℕ) {n : ℕ} → n ≡ length (edges-of (region g r .terminator)) → n ≡ length (targets-of g r)
 targets-counted g r e = e ∙ sym (length-map (edges-of (region g r .terminator)) _)
 
--- The counts c became c′ by the first j of a list: each step adds at most one, and what the others add is left.
+-- The counts c became c′ by the first j of a list; what the others add is left.
 pub record Counting (c c′ : List ℕ) (j : ℕ) (ts : List ℕ) : Type 0 where
   pub each : (a : ℕ) → a < 32 → getD c′ a 0 + times-in a (drop j ts) ≡ getD c a 0 + times-in a ts
 
@@ -59,6 +59,7 @@ module _ (ts : List ℕ) {n : ℕ} (size : n ≡ length ts) {c c′ : List ℕ} 
   counting-end l =
       record { each = λ a k. let none = ap (times-in a) (drop-of-length-le ts {i = j} (omega arith)) in omega (arith, h .each a k) }
 
+-- No count gained more than j.
 pub record Grows (c c′ : List ℕ) (j : ℕ) : Type 0 where
   pub most : (n : ℕ) → AtMost c n → AtMost c′ (n + j)
 
