@@ -5,3 +5,8 @@ pub mod Steps
 pub mod Rewrites
 pub mod Conditions
 pub mod Elsewhere
+pub mod Front
+pub mod Sets
+pub mod Cells
+pub mod States
+pub mod Kept

@@ -1,0 +1,92 @@
+-- Counts of the 32 regions: one more for a number, and one for each of a list as often as it stands there.
+use mathlib.Core.Path.{_≡_, sym, ap, _∙_}
+use mathlib.Core.List.{List}
+use Prim.Native.Nat.{ℕ, _+_, _≤_, _<_}
+use native.Mathlib.Numerals.{add-one}
+use native.Mathlib.Omega.{arith}
+use lib.Dec.{eqb}
+use lib.ListN.{length, getD, set, drop, drop-of-length-le, length-map}
+use lib.Seq.{drop-cons, getD-set-same, getD-set-other}
+use borrow.Author.Tests.{eqb-false}
+use Rattle.meaning.specs.Graph.{Graph, Region, nowhere, region, edges-of, targets-of}
+use Rattle.meaning.specs.Lists.{pick, times-in, total}
+use Rattle.meaning.specs.facts.Tests.{at-or-else, eqb-less, eqb-self}
+
+pub record AtMost (c : List ℕ) (n : ℕ) : Type 0 where
+  pub each : (a : ℕ) → a < 32 → getD c a 0 ≤ n
+
+pub record OneMore (c c′ : List ℕ) (r : ℕ) : Type 0 where
+  pub each : (a : ℕ) → a < 32 → getD c′ a 0 ≡ getD c a 0 + pick (eqb a r) 1 0
+
+-- What stands twice counts twice.
+pub record GainsAll (c c′ ts : List ℕ) : Type 0 where
+  pub each : (a : ℕ) → a < 32 → getD c′ a 0 ≡ getD c a 0 + times-in a ts
+
+pub one-more-here : (c : List ℕ) (r : ℕ) → r < length c → OneMore c (set c r (getD c r 0 + 1)) r
+one-more-here c r l =
+    record {
+      each =
+          λ a h. at-or-else _ a r
+          (λ e. rw (e, eqb-self r) (getD-set-same c r (getD c r 0 + 1) 0 l))
+          (λ e. rw (e, getD-set-other c r a (getD c r 0 + 1) 0 (eqb-false a r e)) (omega arith));
+    }
+
+pub one-more-beyond : (c : List ℕ) (r : ℕ) → 32 ≤ r → OneMore c c r
+one-more-beyond c r l = record { each = λ a h. rw (eqb-less a r (omega arith)) (omega arith) }
+
+pub targets-counted : (g : Graph) (r : ℕ) {n : ℕ} → n ≡ length (edges-of (region g r .terminator)) → n ≡ length (targets-of g r)
+targets-counted g r e = e ∙ sym (length-map (edges-of (region g r .terminator)) _)
+
+-- The counts c became c′ by the first j of a list; what the others add is left.
+pub record Counting (c c′ : List ℕ) (j : ℕ) (ts : List ℕ) : Type 0 where
+  pub each : (a : ℕ) → a < 32 → getD c′ a 0 + times-in a (drop j ts) ≡ getD c a 0 + times-in a ts
+
+pub counting-start : (c ts : List ℕ) → Counting c c 0 ts
+counting-start c ts = record { each = λ a k. omega arith }
+
+module _ (ts : List ℕ) {n : ℕ} (size : n ≡ length ts) {c c′ : List ℕ} {j : ℕ} (h : Counting c c′ j ts) where
+  pub counting-turn : {d : List ℕ} {x : ℕ} → j < n → x ≡ getD ts j 0 → OneMore c′ d x → Counting c d (j + 1) ts
+  counting-turn l e o =
+      record {
+        each =
+            λ a k. let step = ap (times-in a) (drop-cons ts j 0 (omega arith)) in
+            let next = ap (λ i. times-in a (drop i ts)) (add-one j) in
+            let more = o .each a k ∙ ap (λ y. getD c′ a 0 + pick (eqb a y) 1 0) e in
+            omega (arith, h .each a k);
+      }
+
+  pub counting-end : n ≤ j → GainsAll c c′ ts
+  counting-end l =
+      record { each = λ a k. let none = ap (times-in a) (drop-of-length-le ts {i = j} (omega arith)) in omega (arith, h .each a k) }
+
+-- No count gained more than j.
+pub record Grows (c c′ : List ℕ) (j : ℕ) : Type 0 where
+  pub most : (n : ℕ) → AtMost c n → AtMost c′ (n + j)
+
+pub grows-start : (c : List ℕ) → Grows c c 0
+grows-start c = record { most = λ n m. record { each = λ a k. omega (arith, m .each a k) } }
+
+pub bit-small : (a x : ℕ) → pick (eqb a x) 1 0 ≤ 1
+bit-small a x = at-or-else _ a x (λ e. rw (e, eqb-self x) (omega arith)) (λ e. rw e (omega arith))
+
+pub grows-turn : {c c′ d : List ℕ} {x j : ℕ} → Grows c c′ j → OneMore c′ d x → Grows c d (j + 1)
+grows-turn {x = x} {j} h o =
+    record { most = λ n m. record { each = λ a k. omega (arith, h .most n m .each a k, o .each a k, bit-small a x) } }
+
+pub grows-most : {c c′ : List ℕ} {j : ℕ} (k : ℕ) → j ≤ k → Grows c c′ j → Grows c c′ k
+grows-most k l h = record { most = λ n m. record { each = λ a i. omega (arith, h .most n m .each a i) } }
+
+pub grown : {c c′ : List ℕ} {j m : ℕ} (k : ℕ) → Grows c c′ j → AtMost c m → m + j ≤ k → AtMost c′ k
+grown k h m l = record { each = λ a i. omega (arith, h .most _ m .each a i) }
+
+-- A sum over the regions, from region r on.
+module _ (f : Region → ℕ) (xs : List Region) {n : ℕ} (size : n ≡ length xs) where
+  pub sum-turn : (r sum whole : ℕ) → r < n → sum + total f (drop r xs) ≡ whole
+      → sum + f (getD xs r nowhere) + total f (drop (r + 1) xs) ≡ whole
+  sum-turn r sum whole l h =
+      let step = ap (total f) (drop-cons xs r nowhere (omega arith)) in
+      let next = ap (λ i. total f (drop i xs)) (add-one r) in
+      omega arith
+
+  pub sum-end : (r sum whole : ℕ) → n ≤ r → sum + total f (drop r xs) ≡ whole → sum ≡ whole
+  sum-end r sum whole l h = let none = ap (total f) (drop-of-length-le xs {i = r} (omega arith)) in omega arith

@@ -1,0 +1,98 @@
+-- What the words show of a state of nesting, whole: the tables, and the states of the graph's regions.
+use mathlib.Core.Path.{_≡_}
+use mathlib.Core.List.{List, []}
+use Prim.Native.Nat.{ℕ, _+_, _*_, _≤_, _<_}
+use lib.ListN.{length, getD}
+use Rattle.meaning.specs.Graph.{Value, Graph, region, undef}
+use Rattle.meaning.specs.Runs.{Nodes}
+use Rattle.format.specs.References.{return-types}
+use Rattle.record.specs.Stands.{Stands}
+use Rattle.nesting.specs.Nesting.{DeferredEdgeBundleSet, StructurizeRegionState, not-begun, in-progress, claimed, ready, NestState, Body}
+use Rattle.nesting.specs.Nesting.{ClaimedRegion, MaybeClaimedRegion, ok, err, deferred-of}
+use Rattle.state.specs.Sections.{word, head, kinds, backedges, set-starts, set-lengths, children, bodies, cases, rewrites}
+use Rattle.state.specs.Tables.{case-total}
+use Rattle.shown.specs.Tables.{ShowsTables}
+use Rattle.shown.specs.Sets.{Names, ShowsSet}
+use Rattle.shown.specs.Cells.{ShowsChildren}
+
+-- The set that region r's slot holds.
+abbrev pub ShowsOwnSet : Graph → List ℕ → ℕ → DeferredEdgeBundleSet → Type 0
+ShowsOwnSet g w r d = ShowsSet g w (word w set-starts r) (word w set-lengths r) d
+
+pub data ShowsRegion (g : Graph) (w : List ℕ) (r : ℕ) : StructurizeRegionState → Type 0 where
+  is-not-begun : word w kinds r ≡ 0 → ShowsRegion g w r not-begun
+  is-in-progress : word w kinds r ≡ 1 → ShowsRegion g w r in-progress
+  is-ready : {b : ℕ} {ks : Nodes} {d : DeferredEdgeBundleSet} → word w kinds r ≡ 2 → word w backedges r ≡ b
+      → ShowsChildren g w (word w children r) ks → ShowsOwnSet g w r d → ShowsRegion g w r (ready b ks d)
+  is-claimed : word w kinds r ≡ 3 → ShowsRegion g w r claimed
+
+-- Each slot is one region's, or the spare one.
+pub record Slots (w : List ℕ) : Type 0 where
+  pub slot-number : ℕ → ℕ
+  pub starts : (a : ℕ) → a < 33 → word w set-starts a ≡ 33 * slot-number a
+  pub below : (a : ℕ) → a < 33 → slot-number a < 33
+  pub own : (a b : ℕ) → a < 33 → b < 33 → slot-number a ≡ slot-number b → a ≡ b
+
+-- How many values a Return has, and their types.
+pub record ShowsReturned (g : Graph) (w : List ℕ) : Type 0 where
+  pub size : word w head 8 ≡ length (return-types g)
+  pub types : (k : ℕ) → k < length (return-types g) → word w head (9 + k) ≡ getD (return-types g) k 0
+
+-- The words of the rewrites' entries name values.
+pub record NamedRewrites (w : List ℕ) : Type 0 where
+  pub below : (r k : ℕ) → r < 128 → k < 4 → (word w rewrites (5 * r) ≡ 0 → ⊥) → word w rewrites (5 * r + 1 + k) < 4096
+
+pub record ShowsState (g : Graph) (w : List ℕ) (s : NestState) : Type 0 where
+  pub stands : Stands w g
+  pub tables : ShowsTables w s
+  pub named : NamedRewrites w
+  pub size : length (s .region-states) ≡ length (g .regions)
+  pub regions : (r : ℕ) → r < length (g .regions) → ShowsRegion g w r (getD (s .region-states) r not-begun)
+  pub slots : Slots w
+  pub returned : ShowsReturned g w
+
+-- A region under way, by its number: its children so far, and its set.
+pub record ShowsBody (g : Graph) (w : List ℕ) (r : ℕ) (x : Body) : Type 0 where
+  pub nodes : ShowsChildren g w (word w children r) (x .children)
+  pub set : ShowsOwnSet g w r (x .deferred-edges)
+
+-- A claimed region, by its number. Its inputs stand elsewhere.
+pub record ShowsClaimed (g : Graph) (w : List ℕ) (c : ClaimedRegion) : Type 0 where
+  pub in-graph : c .origin < length (g .regions)
+  pub kind : word w kinds (c .origin) ≡ 3
+  pub body : word w bodies (c .origin) ≡ c .structured-body
+  pub body-below : c .structured-body < 128
+  pub nodes : ShowsChildren g w (word w children (c .origin)) (c .children)
+  pub set : ShowsOwnSet g w (c .origin) (c .deferred-edges)
+  pub size : length (c .structured-body-inputs) ≡ length (region g (c .origin) .inputs)
+
+-- ---- The cases of the select under way in region r: a claimed region; nothing; the edge of its own; what is left of region r's set.
+-- Beyond a claimed region's inputs the words have what the definition takes there.
+pub data ShowsCase (g : Graph) (w : List ℕ) (r j : ℕ) : MaybeClaimedRegion → Type 0 where
+  shows-ok : {c : ClaimedRegion} → word w cases (10 * j + 0) ≡ 2 → word w cases (10 * j + 1) ≡ c .origin → c .origin < length (g .regions)
+      → word w cases (10 * j + 2) ≡ c .structured-body → c .structured-body < 128
+      → ShowsChildren g w (word w cases (10 * j + 3)) (c .children)
+      → word w cases (10 * j + 4) ≡ word w set-starts (c .origin)
+      → length (c .structured-body-inputs) ≡ length (region g (c .origin) .inputs)
+      → ((k : ℕ) → k < 4 → Names (word w cases (10 * j + (6 + k))) (getD (c .structured-body-inputs) k (undef 0)))
+      → ShowsCase g w r j (ok c)
+  shows-nothing : word w cases (10 * j + 0) ≡ 0 → word w cases (10 * j + 5) ≡ 0 → ShowsCase g w r j (err [])
+  shows-edge : {d : DeferredEdgeBundleSet} → word w cases (10 * j + 0) ≡ 1 → word w cases (10 * j + 4) ≡ 1089 + j
+      → word w cases (10 * j + 5) ≡ 1 → ShowsCase g w r j (err d)
+  shows-others : {d : DeferredEdgeBundleSet} → word w cases (10 * j + 0) ≡ 3 → word w cases (10 * j + 4) ≡ word w set-starts r
+      → ShowsCase g w r j (err d)
+
+abbrev pub no-case : MaybeClaimedRegion
+no-case = err []
+
+-- Their sets lie apart, and apart from the spare slot.
+pub record ShowsCases (g : Graph) (w : List ℕ) (r : ℕ) (cs : List MaybeClaimedRegion) : Type 0 where
+  pub size : case-total w ≡ length cs
+  pub few : length cs ≤ 8
+  pub each : (j : ℕ) → j < length cs → ShowsCase g w r j (getD cs j no-case)
+  pub sets : (j : ℕ) → j < length cs
+      → ShowsSet g w (word w cases (10 * j + 4)) (word w cases (10 * j + 5)) (deferred-of (getD cs j no-case))
+  pub apart : (i j p q : ℕ) → i < j → j < length cs → p < word w cases (10 * i + 5) → q < word w cases (10 * j + 5)
+      → word w cases (10 * i + 4) + p ≡ word w cases (10 * j + 4) + q → ⊥
+  pub not-spare : (j p q : ℕ) → j < length cs → p < word w cases (10 * j + 5) → q < 33
+      → word w cases (10 * j + 4) + p ≡ word w set-starts 32 + q → ⊥
