@@ -3,15 +3,11 @@ use mathlib.Core.Path.{_≡_, refl}
 use mathlib.Core.List.{List}
 use Prim.Native.Nat.{ℕ}
 use Rattle.meaning.specs.Graph.{Graph}
-use Rattle.format.specs.Store.{Answer, accepted, refused, if-accepted}
-use Rattle.format.specs.References.{references}
+use Rattle.format.specs.Store.{Answer, accepted, refused}
+use Rattle.format.specs.Accept.{with-references}
 use Rattle.meaning.specs.facts.Tests.{clash}
 use Rattle.record.specs.Outcome.{forget}
 use Rattle.record.specs.Stands.{Stands}
-
--- Reading is whole before the first reference is looked at.
-abbrev pub with-references : Answer Graph → Answer Graph
-with-references r = if-accepted r λ g. if-accepted (references g) λ _. accepted g
 
 -- The verdict on a record by what reading answers; `new` are the lent words then.
 pub record Judged (r : Answer Graph) (new : List ℕ) (a : Answer Unit) : Type 0 where
@@ -23,9 +19,9 @@ pub record WordsGiven {A : Type 0} (a : Answer A) : Type 0 where
   pub value : A
   pub is : a ≡ accepted value
 
-pub given : {A : Type 0} (a : Answer A) → accepted tt ≡ forget a → WordsGiven a
-given (accepted x) h = record { value = x; is = refl }
-given (refused n w) h = absurd (clash (cc))
+pub words-given : {A : Type 0} (a : Answer A) → accepted tt ≡ forget a → WordsGiven a
+words-given (accepted x) h = record { value = x; is = refl }
+words-given (refused n w) h = absurd (clash (cc))
 
 pub not-given : {A : Type 0} (a : Answer A) {n w : ℕ} → refused n w ≡ forget a → a ≡ refused n w
 not-given (accepted x) h = absurd (clash (cc))

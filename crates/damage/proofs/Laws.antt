@@ -2,20 +2,19 @@
 use mathlib.Core.Path.{_≡_, sym, ap, _∙_}
 use mathlib.Core.Bool.{Bool}
 use mathlib.Core.List.{List, _∷_}
-use Prim.Native.Nat.{ℕ, _+_, _-_, _*_, _%_, _^_, _≤_, _<_}
+use Prim.Native.Nat.{ℕ, _+_, _-_, _%_, _≤_, _<_}
 use native.Mathlib.Numerals.{add-one}
 use native.Mathlib.Omega.{arith}
+use native.Mathlib.Nat.{sub-zero}
 use lib.ListN.{length, getD, take, drop, drop-of-length-le}
 use lib.Seq.{drop-cons}
-use lib.Pow.{pow-lt}
 use Rattle.format.specs.Accept.{accept}
 use Rattle.format.specs.laws.Refusals.{refusal-range}
 use Rattle.record_text.specs.Listing.{shown-text}
 use Rattle.accept.specs.declared.Accepted.the-variants.{Record, Refused}
-use Rattle.accept.specs.Judged.{given, not-given}
+use Rattle.accept.specs.Judged.{words-given, not-given}
 use Rattle.accept.specs.Accepts.{Accepts}
 use Rattle.show_text.specs.Shows.{InFront}
-use Rattle.vectors.proofs.Laws.{from-start}
 use Rattle.damage.specs.declared.answers.Answer.{Answer}
 use Rattle.damage.specs.Answers.{sum-from, brief, is-listed, as-listed}
 
@@ -34,7 +33,7 @@ module _ (text : List ℕ) (sum i : ℕ) (sofar : sum-from sum (drop i text) ≡
 
 pub summed-shown : {text after : List ℕ} {n r : ℕ} → InFront text after n → r ≡ sum-from 0 (take (n - 0) (drop 0 after))
     → r ≡ sum-from 0 text
-summed-shown {after = after} {n} front is = is ∙ ap (sum-from 0) (from-start n after ∙ front .is)
+summed-shown front is = is ∙ ap (sum-from 0) (rw sub-zero (front .is))
 
 module _ (s old new : List ℕ) where
   -- a refusal's number and word fit a byte
@@ -52,7 +51,7 @@ module _ (s old new : List ℕ) where
   pub of-record : Accepts s old new Record → {b : ℕ} → b ≡ sum-from 0 (shown-text (accept s))
       → _≡_ {A = Answer} (record { number = 0; word = b }) (brief (accept s))
   of-record x q =
-      let taken = given (accept s) (x .answer) in
+      let taken = words-given (accept s) (x .answer) in
       let sum = rw (taken .is) at q in
       rw (taken .is) (cc)
 
@@ -61,6 +60,3 @@ pub listed-right : (s answers : List ℕ) (k : ℕ) {t : List ℕ} {a : Answer} 
     → r ≡ is-listed a answers k
     → r ≡ as-listed s answers k
 listed-right s answers k is same told = told ∙ ap (λ x. is-listed x answers k) (is ∙ ap (λ x. brief (accept x)) same)
-
-pub one-bit : (bit : ℕ) → 1 * 2 ^ (bit % 8) % 256 ≡ 2 ^ (bit % 8)
-one-bit bit = let small : 2 ^ (bit % 8) < 256 = pow-lt {j = 8} (omega arith) in omega arith

@@ -1,4 +1,3 @@
-pub mod Picks
 pub mod Numbered
 pub mod Lists
 pub mod Regions

@@ -14,8 +14,7 @@ use Rattle.format.specs.Accept.{accept}
 use Rattle.format.specs.Valid.{Valid}
 use Rattle.nesting.specs.Nesting.{whole, closed, Nested, reachable, structurize-func}
 use Rattle.nesting.specs.Sheet.{figure, Sheet, sheet-of, answer}
-use Rattle.nesting.specs.laws.NoMarks.{NoMarks}
-use Rattle.nesting.specs.named.NamedAnswer.{NestedNamed}
+use Rattle.nesting.specs.AnswerValues.{NoMarks, NestedNamed}
 use Rattle.follows.specs.Reaches.{Reaches}
 
 -- Two outcomes give a form to run: whole, which returns the entry's outputs after its last child, and closed, which has none.

@@ -6,11 +6,11 @@ use Rattle.format.specs.Store.{Answer, accepted, if-accepted, store-word
 use Rattle.format.specs.Read.{read-record}
 use Rattle.format.specs.References.{references}
 
--- Store, reading, references, in this order: reading is whole before the first reference is looked at.
+-- Reading is whole before the first reference is looked at.
+abbrev pub with-references : Answer Graph → Answer Graph
+with-references r = if-accepted r λ g. if-accepted (references g) λ _. accepted g
+
+-- Store, reading, references, in this order.
 unfoldable pub accept : List ℕ → Answer Graph
 unfolding store-words read-record references
-accept s =
-    if-accepted (store-words s) λ ws.
-    if-accepted (read-record ws) λ g.
-    if-accepted (references g) λ _.
-    accepted g
+accept s = if-accepted (store-words s) λ ws. with-references (read-record ws)

@@ -1,3 +1,4 @@
 pub mod Pack
+pub mod QuickRead
 pub mod Quick
 pub mod Hex

@@ -1,9 +1,9 @@
 -- For every state that the words show, a condition is made real as the definition has it: the same value, the same new outputs, the same
 -- refusal.
-use mathlib.Core.Path.{_≡_, refl, sym, ap, _∙_, subst}
-use mathlib.Core.Bool.{Bool, true, false, _&&_}
+use mathlib.Core.Path.{_≡_, refl, sym, ap, _∙_}
+use mathlib.Core.Bool.{Bool, true, false, and-true}
 use mathlib.Core.List.{List, [], _∷_, _++_, append-assoc, append-nil}
-use Prim.Native.Nat.{ℕ, zero, suc, _+_, _*_, _≤_, _<_}
+use Prim.Native.Nat.{ℕ, suc, _+_, _*_, _≤_, _<_}
 use native.Mathlib.Omega.{arith}
 use native.Mathlib.Decide.{decLt}
 use lib.ListN.{length, getD, set, length-set, length-append, List·getD-append}
@@ -11,19 +11,19 @@ use lib.Seq.{getD-set-same, getD-set-other, getD-append-seam}
 use lib.Dec.{eqb}
 use borrow.Author.Tests.{lt-ltb, eq-eqb, ne-eqb}
 use Rattle.meaning.specs.Graph.{Value, SelectionKind, bool-cond, number, bool, undef, output, same-value, same-values}
-use Rattle.meaning.specs.facts.Tests.{clash}
+use Rattle.meaning.specs.facts.Tests.{clash, pick-and}
 use Rattle.nesting.specs.Nesting.{LazyCond, LazyConds, no-conds, _&_, merge, true-cond, false-cond, undef-cond, NestState, StepAnswer, done}
 use Rattle.nesting.specs.Nesting.{turned-away, follow, give, materialize-lazy-cond, materialize-lazy-conds, define-output}
 use Rattle.state.specs.declared.defined.Defined.{Defined}
 use Rattle.state.specs.declared.defined.Defined.the-variants.{Number, Full}
-use Rattle.state.specs.Sections.{section, word, conditions, outputs, head}
+use Rattle.state.specs.Sections.{section, word, conditions, outputs}
 use Rattle.state.specs.Values.{output-word, undef-word}
 use Rattle.state.specs.Tables.{earlier-part, shape-size, OutputDefined, output-defined, outputs-full}
 use Rattle.shown.specs.Values.{value, equal-values, value-output, value-undef}
 use Rattle.shown.specs.Stores.{ChangesOnly, nothing-changes, changes-then}
 use Rattle.shown.specs.Tables.{ShowsValues, ShowsShape, shape-bool, shape-number, cond-count, ShowsCond, shows-true, shows-false}
 use Rattle.shown.specs.Tables.{shows-undef, shows-merge, ShowsConds, no-parts, part-and, ShowsCondition, ShowsTables, ShowsDefined}
-use Rattle.shown.specs.Tables.{shows-done, shows-full, Done, done-of, full-of}
+use Rattle.shown.specs.Tables.{shows-done, shows-full, done-of, full-of}
 use Rattle.shown.specs.Steps.{output-made, output-changes}
 use Rattle.shown.specs.Conditions.{shape-cases, few-cases}
 use Rattle.lookups.specs.Materialized.{is-scrutinee, shape-at, part-at, Merges, the-scrutinee, new-output, no-output, Materializes}
@@ -46,12 +46,6 @@ follow-cons vs v (done us s) = ap (λ l. done l s) (sym (append-assoc vs (v ∷ 
 follow-cons vs v (turned-away n w) = refl
 
 -- ---- [true, false] in words and in values.
-both-bits : (a b : Bool) → pick a b false ≡ (a && (b && true))
-both-bits true true = refl
-both-bits true false = refl
-both-bits false true = refl
-both-bits false false = refl
-
 value-true : value 65 ≡ bool true
 unfolding value
 value-true = refl
@@ -73,7 +67,7 @@ scrutinee-pair ws (u ∷ v ∷ []) n h =
     ∙ ap (λ z. same-value (value (getD ws 0 0)) z) (sym value-true) ∙ equal-values (getD ws 0 0) 65 (omega arith) in
     let b : same-value v (bool false) ≡ eqb (getD ws 1 0) 64 = ap (λ z. same-value z (bool false)) (sym (h 1 (omega arith)))
     ∙ ap (λ z. same-value (value (getD ws 1 0)) z) (sym value-false) ∙ equal-values (getD ws 1 0) 64 (omega arith) in
-    rw (a, b) (both-bits (eqb (getD ws 0 0) 65) (eqb (getD ws 1 0) 64))
+    rw (a, b, and-true) (pick-and (eqb (getD ws 0 0) 65) (eqb (getD ws 1 0) 64))
 
 scrutinee-shown : (shape : ℕ) (ws : List ℕ) (vs : List Value) {kind : SelectionKind} → ShowsShape shape (length vs) kind
     → ((k : ℕ) → k < length vs → value (getD ws k 0) ≡ getD vs k (undef 0)) → is-scrutinee shape ws ≡ is-test kind vs

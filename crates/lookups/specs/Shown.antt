@@ -1,25 +1,26 @@
 -- For every state that the words show, a look-up answers the word of the definition's value, with its note.
 use mathlib.Core.Path.{_≡_, refl, sym, ap, _∙_, subst}
 use mathlib.Core.Logic.{inl}
-use mathlib.Core.Bool.{Bool, true, false, not, _||_}
-use mathlib.Core.List.{List, [], _∷_, _++_, map, map-append, List·Memᴰ, List·Memᴰ·head, List·Memᴰ·tail}
-use mathlib.Core.Option.{Option, none, some}
-use Prim.Native.Nat.{ℕ, zero, suc, _+_, _*_, _≤_, _<_}
+use mathlib.Core.Bool.{Bool, true, false, not, _||_, or-false, or-assoc}
+use mathlib.Core.List.{List, [], _∷_, _++_, map, map-append}
+use mathlib.Core.Option.{Option, some}
+use Prim.Native.Nat.{ℕ, zero, suc, _+_, _≤_, _<_}
 use native.Mathlib.Omega.{arith}
-use native.Mathlib.Decide.{decLt, ℕ-discrete}
+use native.Mathlib.Decide.{ℕ-discrete}
 use lib.ListN.{length, getD}
-use lib.Dec.{ltb, eqb}
+use lib.Dec.{eqb}
 use borrow.Author.Tests.{lt-ltb, le-ltb, eq-eqb, ne-eqb}
-use Rattle.meaning.specs.Lists.{any, pick}
-use Rattle.meaning.specs.Graph.{Value, const, input, instr, output, bool, undef, held}
+use Rattle.meaning.specs.Lists.{any, pick, tabulate}
+use Rattle.meaning.specs.Graph.{Value, input, held}
 use Rattle.meaning.specs.facts.Tests.{clash}
+use Rattle.meaning.specs.facts.Elements.{any-snoc, length-tabulate, in-tabulate}
 use Rattle.nesting.specs.Nesting as nesting
-use Rattle.nesting.specs.Nesting.{InputRewrite, renumber-to, replace-by, RegionInputRewrites, replace-with, renumber-or-replace-with}
-use Rattle.nesting.specs.Nesting.{RewriteEntry, NestState, done, rewrites-of, look-up-chain, look-up-input, rewrite-values, nest-state}
+use Rattle.nesting.specs.Nesting.{InputRewrite, renumber-to, replace-by, RegionInputRewrites, renumber-or-replace-with}
+use Rattle.nesting.specs.Nesting.{RewriteEntry, NestState, done, look-up-chain, look-up-input, rewrite-values, nest-state}
 use Rattle.nesting.specs.Nesting.{counts-of, with-twice}
 use Rattle.nesting.specs.lookups.ChainSteps.{EndsIn, ends-later, chain-same, meets-same}
 use Rattle.nesting.specs.lookups.ChainEnds.{ChainsEnd, ends-within, rewrite-enough, meets-enough}
-use Rattle.state.specs.Sections.{section, word, stored, head, rewrites}
+use Rattle.state.specs.Sections.{section, stored, head, rewrites}
 use Rattle.state.specs.Values.{is-input, is-held, input-region, input-index}
 use Rattle.shown.specs.Values.{value, Ranged, in-const, in-false, in-true, in-undef, in-output, in-input, in-held, in-instr, in-none}
 use Rattle.shown.specs.Values.{ranged}
@@ -161,23 +162,10 @@ module _ (l : List ℕ) (es : List RewriteEntry) (shown : ShowsRewrites (section
   chain-shown (suc n) x = turn-shown n x (λ y. chain-shown n y) (ranged x) refl
 
 -- ---- 129 turns are enough: no chain passes one of the 128 regions twice.
-regions-below : ℕ → List ℕ
-regions-below zero = []
-regions-below (suc n) = n ∷ regions-below n
-
-length-below : (n : ℕ) → length (regions-below n) ≡ n
-unfolding regions-below
-length-below zero = refl
-length-below (suc n) = ap suc (length-below n)
-
-in-below : (z n : ℕ) → z < n → List·Memᴰ z (regions-below n)
-unfolding regions-below
-in-below z zero h = absurd (omega arith)
-in-below z (suc n) h = elim (ℕ-discrete z n) [ yes e ↦ List·Memᴰ·head e | no d ↦ List·Memᴰ·tail (in-below z n (omega arith)) ]
-
 module _ (l : List ℕ) (es : List RewriteEntry) (shown : ShowsRewrites (section l rewrites) es) (all : (r : ℕ) → ChainsEnd es r) where
   ends-soon : (v : Value) → EndsIn es 128 v
-  ends-soon v = ends-within es 128 (regions-below 128) (length-below 128) v (λ q n. all q) (λ z m. inl (in-below z 128 (shown .logged z m)))
+  ends-soon v = ends-within es 128 (tabulate 128 (λ k. k)) (length-tabulate 128 (λ k. k)) v (λ q n. all q)
+      (λ z m. inl (in-tabulate 128 (λ k. k) z (shown .logged z m)))
 
   pub look-up-shown : (x : ℕ) → ShowsFound (look-up l x) (nesting.look-up es (value x))
   look-up-shown x =
@@ -192,14 +180,6 @@ module _ (l : List ℕ) (es : List RewriteEntry) (shown : ShowsRewrites (section
       }
 
 -- ---- The step that looks up one value: `rewrite-values` of it alone.
-pub or-false : (b : Bool) → (b || false) ≡ b
-or-false true = refl
-or-false false = refl
-
-pub or-assoc : (a b c : Bool) → ((a || b) || c) ≡ (a || (b || c))
-or-assoc true b c = refl
-or-assoc false b c = refl
-
 module _ {w w′ : List ℕ} {s : NestState} (t : ShowsTables w s) (all : (r : ℕ) → ChainsEnd (s .region-input-rewrites) r) {x a : ℕ}
     (step : Rewrites w x w′ a) where
   abbrev found : nesting.LookUp Value
@@ -232,10 +212,6 @@ module _ {w w′ : List ℕ} {s : NestState} (t : ShowsTables w s) (all : (r : �
       go false e = let n : w′ ≡ w = step .noted ∙ rw e in rw n (nothing-changes head 6 w)
 
 -- ---- Values looked up in turn, one by one.
-any-more : (p : Value → Bool) (vs : List Value) (v : Value) → any p (vs ++ (v ∷ [])) ≡ (any p vs || (p v || false))
-any-more p [] v = refl
-any-more p (u ∷ vs) v = ap (λ b. p u || b) (any-more p vs v) ∙ sym (or-assoc (p u) (any p vs) (p v || false))
-
 pub rewrite-none : (s : NestState) → rewrite-values [] s ≡ done [] s
 unfolding rewrite-values
 rewrite-none s =
@@ -254,4 +230,4 @@ rewrite-more vs us v u s s₁ s₂ p q =
     let second : done (u ∷ []) s₂ ≡ rewrite-values (v ∷ []) (with-twice (any g vs) s) = sym q ∙ ap (λ z. rewrite-values (v ∷ []) z) first in
     let one : u ≡ f v = cc in
     let last : s₂ ≡ with-twice (g v || false) (with-twice (any g vs) s) = cc in
-    rw (last, met, one, or-assoc (s .twice) (any g vs) (g v || false), ← any-more g vs v, ← map-append f vs (v ∷ []))
+    rw (last, met, one, or-assoc (s .twice) (any g vs) (g v || false), ← any-snoc g vs v, ← map-append f vs (v ∷ []))

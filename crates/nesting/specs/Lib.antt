@@ -1,6 +1,7 @@
 pub mod Nesting
 pub mod Sheet
 pub mod ShownForm
+pub mod AnswerValues
 pub mod lookups
 pub mod steps
 pub mod named

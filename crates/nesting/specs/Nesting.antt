@@ -48,8 +48,7 @@ abbrev pub DeferredEdgeBundleSet : Type 0
 DeferredEdgeBundleSet = List DeferredEdgeBundle
 
 -- ---- The state of nesting, the Rust's Structurizer, and the steps that change it or refuse.
--- Its tables only gain at their end, and the children of a region never change: what was true of them stays true.
--- `not-begun` is the Rust's region that nothing has observed yet.
+-- Its tables only gain at their end, and a region's children never change. `not-begun` is a region that nothing has observed yet.
 pub data StructurizeRegionState : Type 0 where
   not-begun in-progress claimed : StructurizeRegionState
   ready : IncomingEdgeCount → Nodes → DeferredEdgeBundleSet → StructurizeRegionState  -- back edge count, children, deferred edges
@@ -208,8 +207,7 @@ rewrites-of (e ∷ es) r = pick (eqb r (e .region)) (some (e .rewrites)) (rewrit
 abbrev pub chain-fuel : List RewriteEntry → ℕ
 chain-fuel es = 2 ^ length es
 
--- What a look-up answers, of a value or of all values in something; and document 01's "twice", whether a marked value was met whose
--- second look-up would change it. `plain` is what has no such note.
+-- What a look-up answers; and document 01's "twice": a marked value was met whose second look-up would change it. `plain` has no such note.
 pub record LookUp (A : Type 0) : Type 0 where
   pub value : A
   pub twice : Bool
@@ -372,8 +370,7 @@ convergent-cases cs = filter (λ c. not (empty (deferred-of c))) cs
 abbrev pub without-convergent : List MaybeClaimedRegion → List MaybeClaimedRegion
 without-convergent cs = map (λ c. pick (empty (deferred-of c)) c (err [])) cs
 
--- ---- A region's blocks as nodes.
--- Nodes are numbered blocks first, in region order.
+-- ---- A region's blocks as nodes: nodes are numbered blocks first, in region order.
 abbrev pub block-count : List Region → ℕ
 block-count rs = total (λ r. length (r .blocks)) rs
 
@@ -384,8 +381,7 @@ blocks-from n r k (b ∷ bs) = block n r k b ▸ blocks-from (suc n) r (k + leng
 abbrev pub blocks-of : Graph → ℕ → Nodes
 blocks-of g r = blocks-from (block-count (take r (g .regions))) r 0 (region g r .blocks)
 
--- ---- What a select is to hand on, worked out from its cases before anything is defined.
--- Each deferred target's inputs are either one value for all cases, or a new output of the select.
+-- ---- What a select is to hand on, before anything is defined: for each input of a target one value for all cases, or a new output.
 -- The full set of deferred targets, in order of first standing.
 pub record DeferredTargetSummary : Type 0 where
   pub target : DeferredTarget
@@ -729,8 +725,7 @@ module _ (g : Graph) where
   claim-body r inputs children d none = give (some (claimed-as r r inputs children d))
   claim-body r inputs children d (some e) = structurize-loop g r children e (condition-in d e) (split-out-target (to-region r) d) inputs
 
-  -- target, accumulated count, inputs, its incoming count, its state. Refusal 0 where it is not begun, as by then it is, and 12
-  -- where the Rust stops: neither is ever met (`refused-nine`).
+  -- target, accumulated count, inputs, its incoming count, its state. 0, not begun, and 12, the Rust stops, are never met (`refused-nine`).
   abbrev pub claim-by-state : ℕ → IncomingEdgeCount → List Value → IncomingEdgeCount → StructurizeRegionState → Step (Option ClaimedRegion)
   claim-by-state r n inputs incoming not-begun = turn-away 0 r
   claim-by-state r n inputs incoming claimed = turn-away 12 r
@@ -842,8 +837,7 @@ module _ (ρ : Value → LookUp Value) (os : List NodeOutput) where
     look-up-cases ∅ n j = plain ∅
     look-up-cases (case c body cs) n j = plain case ⊛ look-up-case-region c n j ⊛ look-up-nodes body ⊛ look-up-cases cs n (suc j)
 
--- ---- What nesting answers: an outcome with the regions that it gives, or a refusal.
--- Document 01's four outcomes, in its order.
+-- ---- What nesting answers: one of document 01's four outcomes, in its order, with the regions that it gives, or a refusal.
 pub data Outcome : Type 0 where
   untouched whole closed leftover : Outcome
 
@@ -855,15 +849,14 @@ pub record Piece : Type 0 where
   pub outputs : List Value
   pub deferred : DeferredEdgeBundleSet
 
--- `entry` has outputs if whole, deferred edges if leftover, no children if untouched; `unclaimed` are the unclaimed Ready regions of a
--- leftover, ascending; `output-nodes` gives the node of `output o` at place o.
+-- `entry` has outputs if whole, deferred edges if leftover, no children if untouched.
 pub record Nested : Type 0 where
   pub outcome : Outcome
   pub attempts : ℕ
   pub twice : Bool
   pub entry : Piece
-  pub unclaimed : List Piece
-  pub output-nodes : List ℕ
+  pub unclaimed : List Piece  -- the unclaimed Ready regions of a leftover, ascending
+  pub output-nodes : List ℕ  -- the node of `output o` at place o
 
 -- ---- The entry is claimed, and what comes of it is the answer.
 abbrev pub initial-state : Graph → NestState

@@ -94,8 +94,7 @@ unfoldable mutual
   conditions LazyConds.no-conds = []
   conditions (c & cs) = condition c ∷ conditions cs
 
--- ---- The lines of a nested form (document 01, "The printed sheet").
--- The child nodes of a region line.
+-- ---- The lines of a nested form (document 01, "The printed sheet"); first the child nodes of a region line.
 abbrev pub kids : Nodes → List ℕ
 kids ⟨⟩ = []
 kids (block n r k is ▸ ks) = n ∷ kids ks

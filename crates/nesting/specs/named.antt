@@ -1,4 +1,4 @@
-pub mod Named
+pub mod NamedLookUps
 pub mod NamedSteps
 pub mod NamedSelects
 pub mod NamedClaims

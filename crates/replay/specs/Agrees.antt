@@ -3,13 +3,13 @@ use mathlib.Core.Path.{_≡_, ap, _∙_}
 use mathlib.Core.Bool.{Bool, true, false, _&&_}
 use mathlib.Core.List.{List}
 use Prim.Native.Nat.{ℕ, _-_, _≤_, _<_}
+use native.Mathlib.Nat.{sub-zero}
 use lib.ListN.{length, take, drop}
 use lib.Dec.{ltb}
 use borrow.Author.Tests.{lt-ltb, le-ltb}
 use Rattle.format.specs.Accept.{accept}
 use Rattle.record_text.specs.Listing.{shown-text}
 use Rattle.vectors.specs.Same.{same-bytes, as-same}
-use Rattle.vectors.proofs.Laws.{from-start}
 use Rattle.show_text.specs.Shows.{InFront}
 use Rattle.vectors.specs.Parts.{listed-store, answer-of}
 
@@ -32,4 +32,4 @@ kept-whole v h {s} {l} p q is =
 pub as-shown : {text after listed : List ℕ} {n : ℕ} {r : Bool} → InFront text after n
     → (r ≡ true → take (n - 0) (drop 0 after) ≡ listed) × (take (n - 0) (drop 0 after) ≡ listed → r ≡ true)
     → r ≡ same-bytes text listed
-as-shown {after = after} {listed} {n} front h = as-same _ _ _ h ∙ ap (λ l. same-bytes l listed) (from-start n after ∙ front .is)
+as-shown {listed = listed} front h = as-same _ _ _ h ∙ ap (λ l. same-bytes l listed) (rw sub-zero (front .is))

@@ -21,7 +21,8 @@ use Rattle.accept.specs.declared.Accepted.{Accepted}
 use Rattle.accept.specs.declared.Accepted.the-variants.{Record, Refused}
 use Rattle.accept.specs.Accepts.{Accepts}
 use Rattle.record_text.specs.Listing.{listing-of, refusal-text, shown-text}
-use Rattle.record_text.specs.laws.Fits.{AllBytes, shown-fits}
+use Rattle.format.specs.laws.Stores.{AllBytes}
+use Rattle.record_text.specs.laws.Fits.{shown-fits}
 
 -- The text is that of the definition's answer; the lent words are as accepting the store leaves them. 65,536 bytes are always room enough.
 pub record Shows (s old new before after : List ℕ) (r : Written) : Type 0 where

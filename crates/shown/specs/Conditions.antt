@@ -1,24 +1,22 @@
 -- A lazy condition record more; what was made before it stays.
-use mathlib.Core.Path.{_≡_, refl, sym, ap, _∙_}
-use mathlib.Core.List.{List, [], _∷_}
-use Prim.Native.Nat.{ℕ, zero, suc, _+_, _*_, _≤_, _<_}
+use mathlib.Core.Path.{_≡_, sym, ap, _∙_}
+use mathlib.Core.List.{List, _∷_}
+use Prim.Native.Nat.{ℕ, suc, _+_, _*_, _≤_, _<_}
 use native.Mathlib.Omega.{arith}
-use native.Mathlib.Numerals.{add-one}
 use lib.ListN.{length, getD}
 use lib.Seq.{sets}
-use lib.Dec.{ltb, eqb}
-use borrow.Author.Tests.{lt-ltb, le-ltb, eq-eqb, ne-eqb}
+use borrow.Author.Tests.{lt-ltb, le-ltb, ne-eqb}
 use native.Mathlib.Decide.{decLt}
 use Rattle.meaning.specs.Graph.{Value, SelectionKind}
-use Rattle.nesting.specs.Nesting.{LazyCond, LazyConds, no-conds, _&_, merge, NestState, define, define-merge, add-merge}
+use Rattle.nesting.specs.Nesting.{LazyCond, LazyConds, merge, NestState, define, define-merge, add-merge}
 use Rattle.state.specs.declared.defined.Defined.{Defined}
-use Rattle.state.specs.declared.defined.Defined.the-variants.{Number, Full}
 use Rattle.state.specs.Sections.{Section, number, section, word, stored, stored-all, head, rewrites, outputs, conditions, used, start, size}
 use Rattle.state.specs.Apart.{section-other}
 use Rattle.state.specs.Tables.{MergeDefined, merge-defined, merges-full, shape-size}
 use Rattle.shown.specs.Values.{value}
-use Rattle.shown.specs.Stores.{run-before, run-in, section-run, part-length, head-same, ChangesOnly, head-changes, run-changes}
-use Rattle.shown.specs.Stores.{changes-then, nothing-changes}
+use Rattle.shown.specs.Stores.{section-run, part-length, head-same, ChangesOnly, head-changes, run-changes}
+use Rattle.meaning.specs.facts.Parts.{run-before, run-in}
+use Rattle.shown.specs.Stores.{changes-then}
 use Rattle.shown.specs.Tables.{ShowsShape, shape-bool, shape-number, cond-count, ShowsCond, shows-true, shows-false, shows-undef}
 use Rattle.shown.specs.Tables.{shows-merge, ShowsConds, no-parts, part-and, ShowsCondition, ShowsParts, none-left, one-and}
 use Rattle.shown.specs.Tables.{ShowsTables, ShowsDefined, shows-done, shows-full}

@@ -1,10 +1,10 @@
 -- An entry of the rewrites: the first of a region stays, and no other region's changes.
-use mathlib.Core.Path.{_≡_, refl, sym, ap, _∙_, subst}
+use mathlib.Core.Path.{_≡_, refl, ap, _∙_}
 use mathlib.Core.Logic.{_⊎_, inl, inr}
 use mathlib.Core.Bool.{Bool, true, false}
 use mathlib.Core.List.{List, [], _∷_, _++_, map, List·Memᴰ, List·Memᴰ·append-cases, List·Memᴰ·eq-of-singleton, map-append}
 use mathlib.Core.Option.{Option, none, some}
-use Prim.Native.Nat.{ℕ, zero, suc, _+_, _*_, _≤_, _<_}
+use Prim.Native.Nat.{ℕ, suc, _+_, _*_, _≤_, _<_}
 use native.Mathlib.Omega.{arith}
 use native.Mathlib.Decide.{decLt, ℕ-discrete}
 use native.Mathlib.Numerals.{add-one}
@@ -12,18 +12,18 @@ use lib.ListN.{length, getD}
 use lib.Seq.{sets}
 use lib.Dec.{eqb}
 use borrow.Author.Tests.{eq-eqb, ne-eqb}
-use Rattle.meaning.specs.Graph.{Value, undef}
 use Rattle.meaning.specs.facts.Tests.{clash}
-use Rattle.nesting.specs.Nesting.{InputRewrite, renumber-to, RegionInputRewrites, replace-with, renumber-or-replace-with, RewriteEntry}
+use Rattle.nesting.specs.Nesting.{RegionInputRewrites, replace-with, renumber-or-replace-with, RewriteEntry}
 use Rattle.nesting.specs.Nesting.{NestState, rewrites-of, with-tables}
 use Rattle.nesting.specs.lookups.ChainEnds.{entry-kept}
-use Rattle.state.specs.Sections.{section, word, stored, stored-all, head, rewrites, outputs, start, size}
+use Rattle.state.specs.Sections.{section, word, stored, stored-all, rewrites, outputs, start, size}
 use Rattle.state.specs.Apart.{section-stored}
 use Rattle.state.specs.Tables.{inserted}
 use Rattle.shown.specs.Values.{value}
-use Rattle.shown.specs.Stores.{run-before, run-behind, run-in, section-run, part-length, ChangesOnly, run-changes, word-changes}
+use Rattle.shown.specs.Stores.{section-run, part-length, ChangesOnly, run-changes, word-changes}
+use Rattle.meaning.specs.facts.Parts.{run-before, run-behind, run-in}
 use Rattle.shown.specs.Stores.{changes-then, nothing-changes}
-use Rattle.shown.specs.Tables.{ShowsInput, ShowsEntry, no-entry, replaces, renumbers, EntryWords, replace-words, renumber-words}
+use Rattle.shown.specs.Tables.{ShowsEntry, no-entry, replaces, renumbers, EntryWords, replace-words, renumber-words}
 use Rattle.shown.specs.Tables.{ShowsRewrites, ShowsTables}
 use Rattle.meaning.specs.Lists.{pick}
 

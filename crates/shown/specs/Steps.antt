@@ -1,39 +1,33 @@
 -- Each definition of the code shows the definition's own, within its limit or refused with 9; entries of the rewrites; attempts and twice.
-use mathlib.Core.Path.{_≡_, refl, sym, ap, _∙_, subst}
-use mathlib.Core.Logic.{_⊎_, inl, inr}
+use mathlib.Core.Path.{_≡_, refl, sym, ap, _∙_}
 use mathlib.Core.Bool.{Bool, true, false, _||_}
-use mathlib.Core.List.{List, [], _∷_, _++_, map, List·Memᴰ, List·Memᴰ·append-cases, List·Memᴰ·eq-of-singleton, map-append}
-use mathlib.Core.Option.{Option, none, some}
-use Prim.Native.Nat.{ℕ, zero, suc, _+_, _*_, _-_, _≤_, _<_}
+use mathlib.Core.List.{List, [], _∷_, _++_}
+use Prim.Native.Nat.{ℕ, suc, _+_, _*_, _≤_, _<_}
 use native.Mathlib.Omega.{arith}
-use native.Mathlib.Decide.{decLt, ℕ-discrete}
-use native.Mathlib.Numerals.{add-one, add-two, add-three}
-use lib.ListN.{length, getD, set, length-set, length-append, List·getD-append}
-use lib.Seq.{sets, length-sets, getD-set-same, getD-set-other, getD-append-seam}
-use lib.Dec.{ltb, eqb}
-use borrow.Author.Tests.{lt-ltb, le-ltb, eq-eqb, ne-eqb}
-use Rattle.meaning.specs.Graph.{Value, SelectionKind, undef, output}
-use Rattle.nesting.specs.Nesting.{LazyCond, LazyConds, no-conds, _&_, merge, InputRewrite, RegionInputRewrites, RewriteEntry, NodeOutput}
-use Rattle.nesting.specs.Nesting.{NestState, done, turned-away, rewrites-of, renumber-to, replace-with, renumber-or-replace-with, define}
-use Rattle.nesting.specs.Nesting.{define-region, define-node, define-merge, define-output, insert-rewrites, count-attempt, add-region}
+use native.Mathlib.Decide.{decLt}
+use native.Mathlib.Numerals.{add-one}
+use lib.ListN.{length, getD, length-append, List·getD-append}
+use lib.Seq.{sets, getD-append-seam}
+use borrow.Author.Tests.{lt-ltb, le-ltb}
+use Rattle.meaning.specs.Graph.{Value, output}
+use Rattle.nesting.specs.Nesting.{NodeOutput}
+use Rattle.nesting.specs.Nesting.{NestState, define}
+use Rattle.nesting.specs.Nesting.{define-region, define-node, define-output, add-region}
 use Rattle.nesting.specs.Nesting.{add-node, add-attempt}
 use Rattle.nesting.specs.Nesting.{with-tables, with-twice}
-use Rattle.nesting.specs.lookups.ChainEnds.{entry-kept}
 use Rattle.state.specs.declared.defined.Defined.{Defined}
-use Rattle.state.specs.declared.defined.Defined.the-variants.{Number, Full}
-use Rattle.state.specs.Sections.{section, word, stored, stored-all, head, rewrites, outputs, conditions, start, size}
-use Rattle.state.specs.Apart.{section-stored, section-other, stored-length}
-use Rattle.state.specs.Tables.{Defines, defined, full, OutputDefined, output-defined, outputs-full, MergeDefined, merge-defined}
-use Rattle.state.specs.Tables.{merges-full, inserted, attempted}
-use Rattle.shown.specs.Values.{value, value-output}
-use Rattle.shown.specs.Stores.{run-before, run-behind, run-in, section-run, run-other, part-length, head-same, head-other}
-use Rattle.shown.specs.Stores.{ChangesOnly, head-changes, run-changes, word-changes, changes-then, nothing-changes}
-use Rattle.shown.specs.Tables.{ShowsInput, renumbered, replaced, ShowsEntry, no-entry, replaces, renumbers, ShowsRewrites}
-use Rattle.shown.specs.Tables.{ShowsValues, ShowsOutput, ShowsOutputs, no-output, ShowsShape, cond-count, ShowsCond, shows-true}
-use Rattle.shown.specs.Tables.{shows-false, shows-undef, shows-merge, ShowsConds, no-parts, part-and, ShowsParts, none-left}
-use Rattle.shown.specs.Tables.{one-and, ShowsCondition, EntryWords, replace-words, renumber-words, ShowsTables, ShowsDefined}
+use Rattle.state.specs.Sections.{section, word, stored, stored-all, head, rewrites, outputs, start, size}
+use Rattle.state.specs.Apart.{section-other}
+use Rattle.state.specs.Tables.{Defines, defined, full, OutputDefined, output-defined, outputs-full}
+use Rattle.state.specs.Tables.{attempted}
+use Rattle.shown.specs.Values.{value}
+use Rattle.shown.specs.Stores.{section-run, part-length, head-same}
+use Rattle.meaning.specs.facts.Parts.{run-before, run-in}
+use Rattle.shown.specs.Stores.{ChangesOnly, head-changes, run-changes, changes-then, nothing-changes}
+use Rattle.shown.specs.Tables.{ShowsValues, ShowsOutput, ShowsOutputs, no-output}
+use Rattle.shown.specs.Tables.{ShowsTables, ShowsDefined}
 use Rattle.shown.specs.Tables.{shows-done, shows-full}
-use Rattle.meaning.specs.Lists.{pick, bit}
+use Rattle.meaning.specs.Lists.{bit}
 
 -- ---- A word of the head stored: the tables stay, and the totals but one.
 module _ {w w′ : List ℕ} {s : NestState} (t : ShowsTables w s) where

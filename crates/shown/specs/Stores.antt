@@ -1,31 +1,13 @@
 -- Words stored in a run, as its section has them; and what a step leaves: it changes one section and one word of the head.
 use mathlib.Core.Path.{_≡_, refl, sym, ap, _∙_}
 use mathlib.Core.List.{List, [], _∷_}
-use Prim.Native.Nat.{ℕ, zero, suc, _+_, _-_, _≤_, _<_}
+use Prim.Native.Nat.{ℕ, suc, _+_, _≤_, _<_}
 use native.Mathlib.Omega.{arith}
-use lib.ListN.{length, getD, set, take, drop, length-take, length-drop, length-set}
-use lib.Seq.{sets, length-sets, getD-set-same, getD-set-other}
+use lib.ListN.{length, getD, drop, length-take, length-drop}
+use lib.Seq.{sets, getD-set-same, getD-set-other}
 use Rattle.state.specs.Sections.{Section, head, number, start, size, used, part, section, word, stored, stored-at, stored-all}
 use Rattle.state.specs.Sections.{stored-all-at}
 use Rattle.state.specs.Apart.{stored-length, part-stored, section-stored, section-other}
-
--- ---- A run of words in a list.
-pub run-before : (l : List ℕ) (i : ℕ) (xs : List ℕ) (j : ℕ) → j < i → getD (sets l i xs) j 0 ≡ getD l j 0
-run-before l i [] j h = refl
-run-before l i (x ∷ xs) j h = run-before (set l i x) (suc i) xs j (omega arith) ∙ getD-set-other l i j x 0 (omega arith)
-
-pub run-behind : (l : List ℕ) (i : ℕ) (xs : List ℕ) (j : ℕ) → i + length xs ≤ j → getD (sets l i xs) j 0 ≡ getD l j 0
-run-behind l i [] j h = refl
-run-behind l i (x ∷ xs) j h = run-behind (set l i x) (suc i) xs j (omega arith) ∙ getD-set-other l i j x 0 (omega arith)
-
-pub run-in : (l : List ℕ) (i : ℕ) (xs : List ℕ) (k : ℕ) → i + length xs ≤ length l → k < length xs
-    → getD (sets l i xs) (i + k) 0 ≡ getD xs k 0
-run-in l i [] k h j = absurd (omega arith)
-run-in l i (x ∷ xs) zero h j =
-    let e : i + 0 ≡ i = omega arith in rw e (run-before (set l i x) (suc i) xs i (omega arith) ∙ getD-set-same l i x 0 (omega arith))
-run-in l i (x ∷ xs) (suc k) h j =
-    let e : i + suc k ≡ suc i + k = omega arith in
-    rw e (run-in (set l i x) (suc i) xs k (rw (length-set l i x) (omega arith)) (omega arith))
 
 -- ---- A run of words in its section, and in the others.
 module _ (o n : ℕ) where

@@ -1,14 +1,13 @@
 -- Sections do not meet: a word stored in one changes that word of it, no other word of it, and no other section.
 use mathlib.Core.Path.{_≡_, refl, sym, ap, _∙_}
-use mathlib.Core.List.{List, [], _∷_}
-use Prim.Native.Nat.{ℕ, zero, suc, _+_, _-_, _≤_, _<_}
+use mathlib.Core.List.{List}
+use Prim.Native.Nat.{ℕ, _+_, _-_, _≤_, _<_}
 use native.Mathlib.Omega.{arith}
 use native.Mathlib.Decide.{decLt}
-use lib.ListN.{length, getD, set, take, drop, length-set, length-take, length-drop}
-use lib.Seq.{take-set-le, take-set-lt, drop-set-lt, drop-set-add, getD-set-same, getD-set-other, set-out}
-use Rattle.meaning.specs.Lists.{total}
-use Rattle.state.specs.Sections.{Section, number, sizes, start, size, part, read-at, stored-at, section, word, stored, stored-all-at}
-use Rattle.state.specs.Sections.{stored-all}
+use lib.ListN.{length, set, take, drop, length-set, length-take}
+use lib.Seq.{take-set-le, take-set-lt, drop-set-lt, drop-set-add, set-out}
+use Rattle.meaning.specs.facts.Sums.{total-take}
+use Rattle.state.specs.Sections.{Section, number, sizes, start, size, part, stored-at, section, stored}
 use Rattle.state.specs.Stored.{stored-in, stored-beyond}
 
 -- ---- Any two parts of a list that do not meet.
@@ -43,13 +42,6 @@ module _ (o n : ℕ) (l : List ℕ) (i x : ℕ) where
       by-index (λ m. part o′ n′ m ≡ part o′ n′ l) (λ h. ap (take n′) (drop-set-lt o′ l (o + i) x (omega arith))) (λ h. refl)
 
 -- ---- Sections, one behind the other.
-starts-follow : (xs : List ℕ) (a b : ℕ) → a < b → total (λ n. n) (take a xs) + getD xs a 0 ≤ total (λ n. n) (take b xs)
-starts-follow [] zero (suc b) h = omega arith
-starts-follow [] (suc a) (suc b) h = omega arith
-starts-follow (x ∷ xs) zero (suc b) h = omega arith
-starts-follow (x ∷ xs) (suc a) (suc b) h = let z = starts-follow xs a b (omega arith) in omega arith
-starts-follow xs a zero h = absurd (omega arith)
-
 pub section-stored : (l : List ℕ) (k : Section) (i x : ℕ) → section (stored l k i x) k ≡ set (section l k) i x
 section-stored l k i x = part-stored (start k) (size k) l i x
 
@@ -57,6 +49,6 @@ pub section-other : (l : List ℕ) (k : Section) (i x : ℕ) (j : Section) → (
     → section (stored l k i x) j ≡ section l j
 section-other l k i x j d =
     elim (decLt (number j) (number k)) [
-      | yes h ↦ part-before (start k) (size k) l i x (start j) (size j) (starts-follow sizes (number j) (number k) h)
-      | no h ↦ part-behind (start k) (size k) l i x (start j) (size j) (starts-follow sizes (number k) (number j) (omega arith))
+      | yes h ↦ part-before (start k) (size k) l i x (start j) (size j) (total-take sizes (number j) (number k) h)
+      | no h ↦ part-behind (start k) (size k) l i x (start j) (size j) (total-take sizes (number k) (number j) (omega arith))
     ]

@@ -1,35 +1,17 @@
--- Laws of the blocks' verdicts: a check's bound, and that the first refusal among the blocks stands.
-use mathlib.Core.Path.{_≡_, refl, sym, ap, _∙_}
-use mathlib.Core.Logic.{⊎-elim}
+-- Laws of the blocks' verdicts: the first refusal among the blocks stands.
+use mathlib.Core.Path.{_≡_, refl, sym, _∙_}
 use mathlib.Core.List.{List}
-use Prim.Native.Nat.{ℕ, zero, suc, _+_, _*_, _≤_, _<_}
-use native.Mathlib.Nat.{mul-le-mul, eq-or-lt-of-le, le-of-suc-le-suc, not-suc-le-zero}
+use Prim.Native.Nat.{ℕ, _+_, _*_, _<_}
 use native.Mathlib.Numerals.{add-one}
 use native.Mathlib.Omega.{arith}
-use lib.ListN.{getD}
 use lib.Dec.{eqb}
 use Rattle.format.specs.Store.{accepted, refused, pair, weighted, blocks-checked}
+use Rattle.format.specs.laws.Stores.{blocks-stay}
 use Rattle.store.specs.Block.{first-wrong, block-checked}
-
--- A byte times its weight in a block.
-pub weight-bound : (b n : ℕ) → b < 256 → n < 508 → b * (n + 1) ≤ 129540
-weight-bound b n p q = mul-le-mul {n₁ = b} {m₁ = n + 1} {n₂ = 255} {m₂ = 508} (omega arith) (omega arith)
-
-pub weighted-more : (s : List ℕ) (at n : ℕ) → weighted s at (n + 1) ≡ weighted s at n + getD s (at + n) 0 * (n + 1)
-unfolding weighted
-weighted-more s at n = ap (weighted s at) (add-one n)
 
 pub blocks-more : (s : List ℕ) (n : ℕ) → blocks-checked s n ≡ accepted tt → blocks-checked s (n + 1) ≡ block-checked s n
 unfolding blocks-checked
 blocks-more s n e = rw (add-one, e) refl
-
--- A refusal among the first blocks stands, whatever follows.
-pub blocks-stay : (s : List ℕ) (m n a b : ℕ) → m ≤ n → blocks-checked s m ≡ refused a b → blocks-checked s n ≡ refused a b
-unfolding blocks-checked
-blocks-stay s zero zero a b l e = e
-blocks-stay s (suc m) zero a b l e = absurd (not-suc-le-zero l)
-blocks-stay s m (suc n) a b l e =
-    ⊎-elim (λ q. ap (blocks-checked s) (sym q) ∙ e) (λ q. rw (blocks-stay s m n a b (le-of-suc-le-suc q) e) refl) (eq-or-lt-of-le l)
 
 -- The loop over the blocks stops at the first refusal.
 pub blocks-stop : (s : List ℕ) (m n a b : ℕ) → blocks-checked s m ≡ accepted tt → m < n → refused a b ≡ block-checked s m

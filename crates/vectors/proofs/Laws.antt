@@ -46,13 +46,9 @@ module _ (b : ℕ) (l : List ℕ) (i : ℕ) (passed : behind b l ≡ i + behind 
       let none : behind b (drop i l) ≡ 0 = ap (behind b) (drop-of-length-le l h) in
       omega arith
 
--- ---- parts of slices
--- &l[0..n]
-pub from-start : (n : ℕ) (l : List ℕ) → take (n - 0) (drop 0 l) ≡ take n l
-from-start n l = let same : n - 0 ≡ n = omega arith in ap (λ k. take k l) same
-
+-- ---- the line and the answer
 -- &l[n..]
-pub to-end : (n : ℕ) (l : List ℕ) → take (length l - n) (drop n l) ≡ drop n l
+to-end : (n : ℕ) (l : List ℕ) → take (length l - n) (drop n l) ≡ drop n l
 to-end n l = take-all (length l - n) (drop n l) (omega (arith, length-drop n l))
 
 -- The line and the answer of a vector v, as `rest`, and the line's end.

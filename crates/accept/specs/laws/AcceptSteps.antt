@@ -5,11 +5,12 @@ use Prim.Native.Nat.{ℕ, _+_, _-_, _≤_}
 use native.Mathlib.Omega.{arith}
 use lib.ListN.{length, take, drop, length-append, length-drop}
 use borrow.Author.Tests.{le-leb}
-use lib.Seq.{slice, length-take-le, take-take, drop-drop, take-add, drop-at}
+use lib.Seq.{slice, take-take, drop-drop}
 use Rattle.format.specs.Store.{Answer, accepted, refused, if-accepted, store-words}
 use Rattle.format.specs.Read.{read-record}
-use Rattle.format.specs.Accept.{accept}
+use Rattle.format.specs.Accept.{with-references, accept}
 use Rattle.meaning.specs.facts.Tests.{clash}
+use Rattle.meaning.specs.facts.Parts.{same-part}
 use Rattle.store.specs.declared.Loaded.the-variants as loaded
 use Rattle.store.specs.Loaded.{answered, words-counted, words-after, Loads}
 use Rattle.store.proofs.Front.{Front, front}
@@ -18,15 +19,7 @@ use Rattle.store.specs.declared.Checked.{Checked}
 use Rattle.record.specs.Outcome.{forget, record-in}
 use Rattle.accept.specs.declared.Accepted.{Accepted}
 use Rattle.accept.specs.declared.Accepted.the-variants.{Refused}
-use Rattle.accept.specs.Judged.{with-references}
 use Rattle.accept.specs.Accepts.{accept-answered, Accepts, ReadChecked}
-
--- where the words behind the first n agree
-part-as-lent : (n m : ℕ) (xs ys : List ℕ) → n ≤ length xs → n ≤ length ys → drop n xs ≡ drop n ys → slice n (n + m) xs ≡ slice n (n + m) ys
-part-as-lent n m xs ys h k e = part xs h ∙ ap (take m) e ∙ sym (part ys k)
-  where
-    part : (l : List ℕ) → n ≤ length l → slice n (n + m) l ≡ take m (drop n l)
-    part l h = ap (drop n) (take-add n m l) ∙ drop-at (take n l) (take m (drop n l)) n (length-take-le n l h)
 
 accept-is : (s : List ℕ) {r : Answer (List ℕ)} → store-words s ≡ r → accept s ≡ if-accepted r (λ ws. with-references (read-record ws))
 unfolding accept
@@ -85,7 +78,7 @@ module _ (s old mid : List ℕ) {count : ℕ} (room : index-end ≤ length old) 
   mid-between =
       let few = in-front .few in
       let split : count + (record-end - count) ≡ record-end = omega arith in
-      rw split at (part-as-lent count (record-end - count) mid old (omega (arith, mid-size)) (omega arith) (in-front .rest))
+      rw split at (same-part count (record-end - count) mid old (omega (arith, mid-size)) (omega arith) (in-front .rest))
 
   front-words : (new : List ℕ) {y : Checked} → ReadChecked mid new y → take count new ≡ take count mid
   front-words new r =

@@ -5,6 +5,7 @@ use Prim.Native.Nat.{ℕ}
 use Rattle.meaning.specs.Graph.{Graph}
 use Rattle.format.specs.Store.{Answer, accepted, refused, if-accepted}
 use Rattle.format.specs.References.{references}
+use Rattle.format.specs.Accept.{with-references}
 use Rattle.meaning.specs.facts.Tests.{clash}
 use Rattle.store.specs.Loaded.{answered}
 use Rattle.store.specs.declared.Checked.{Checked}
@@ -12,7 +13,7 @@ use Rattle.store.specs.declared.Checked.the-variants.{Right, Refused}
 use Rattle.record.specs.Outcome.{forget, record-in, ReadOutcome}
 use Rattle.record.specs.laws.Parts.{then, accepted-value}
 use Rattle.record.specs.Stands.{OfRecord}
-use Rattle.accept.specs.Judged.{with-references, given, not-given}
+use Rattle.accept.specs.Judged.{words-given, not-given}
 use Rattle.accept.specs.Accepts.{ReadChecked}
 
 forget-then : (a : Answer Unit) (g : Graph) → forget (if-accepted a λ _. accepted g) ≡ a
@@ -35,7 +36,7 @@ module _ {old new : List ℕ} {read : Checked} (r : ReadOutcome old new read) wh
 
   pub by-references : {a : Checked} → read ≡ Right → OfRecord new (λ g. answered a ≡ references g) → ReadChecked old new a
   by-references {a} e refs =
-      let x = given (record-in old) (sym (ap answered e) ∙ r .answer) in
+      let x = words-given (record-in old) (sym (ap answered e) ∙ r .answer) in
       let g = x .value in
       let s = r .stands g (x .is) in
       let whole : with-references (record-in old) ≡ if-accepted (references g) (λ _. accepted g) = ap with-references (x .is) in

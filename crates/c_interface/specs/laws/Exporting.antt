@@ -7,14 +7,14 @@ use Rattle.format.specs.Accept.{accept}
 use Rattle.meaning.specs.facts.Tests.{clash}
 use Rattle.format.specs.laws.Refusals.{refusal-number}
 use Rattle.accept.specs.declared.Accepted.the-variants.{Record, Refused}
-use Rattle.accept.specs.Judged.{given, not-given}
+use Rattle.accept.specs.Judged.{words-given, not-given}
 use Rattle.accept.specs.Accepts.{Accepts}
 use Rattle.c_interface.specs.Exported.{AcceptExported}
 
 module _ (s old new : List ℕ) where
   pub record-exported : Accepts s old new Record → AcceptExported s old new 0
   record-exported a =
-      let taken = given (accept s) (a .answer) in
+      let taken = words-given (accept s) (a .answer) in
       record {
         answer = Record;
         accepts = a;

@@ -21,7 +21,8 @@ use Rattle.fields.specs.laws.Repeats.{earlier}
 use Rattle.fields.specs.laws.Lists.{ListAt, ReadAt, word-fixed, value-fixed, counted-at, no-list, word-item-is, behind-words-is}
 use Rattle.fields.specs.laws.Regions.{Known, Beyond, small, beyond-words, region-case}
 use Rattle.fields.specs.laws.Terminators.{KnownTerminator, edges-length, known-end, no-targets}
-use Rattle.fields.specs.laws.Targets.{is-in-at, Found, found}
+use Rattle.fields.specs.laws.Targets.{Found, found}
+use Rattle.meaning.specs.facts.Members.{is-in-at}
 use Rattle.meaning.specs.facts.Elements.{getD-map-in}
 
 targets-of-map : (h : ℕ → List Value) (ts : List ℕ) → map (λ (e : Edge). e .target) (map (λ t. record { target = t; inputs = h t }) ts) ≡ ts

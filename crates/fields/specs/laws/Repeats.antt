@@ -1,6 +1,6 @@
 -- Whether an item of a list of words stands earlier in the list too: by the words, and by the list.
 use mathlib.Core.Path.{_≡_, refl, sym, ap, _∙_}
-use mathlib.Core.Bool.{Bool, true, false, _||_, _&&_}
+use mathlib.Core.Bool.{Bool, true, false, _||_, _&&_, or-comm}
 use mathlib.Core.List.{List, [], _∷_}
 use Prim.Native.Nat.{ℕ, zero, suc, _+_, _≤_, _<_}
 use native.Mathlib.Omega.{arith}
@@ -18,12 +18,6 @@ pub stands-within : (xs : List ℕ) (k : ℕ) → k < length xs → stands-befor
 unfolding stands-before
 stands-within xs k l = rw (lt-ltb k (length xs) l)
 
-or-swap : (a b : Bool) → (a || b) ≡ (b || a)
-or-swap true true = refl
-or-swap true false = refl
-or-swap false true = refl
-or-swap false false = refl
-
 module _ (w : List ℕ) (p : ℕ) where
   -- The first q items of the list at p, the last first.
   unfoldable pub earlier : ℕ → List ℕ
@@ -38,7 +32,7 @@ module _ (w : List ℕ) (p : ℕ) where
   unfolding stands earlier
   stands-earlier x zero l = refl
   stands-earlier x (suc q) l =
-      or-swap (stands w (p + 1) x q) (eqb x (getD w (p + 1 + q) 0))
+      or-comm (stands w (p + 1) x q) (eqb x (getD w (p + 1 + q) 0))
       ∙ ap (λ y. eqb x y || stands w (p + 1) x q) (sym (item-here q (omega arith)))
       ∙ ap (λ b. eqb x (word-item w p q) || b) (stands-earlier x q (omega arith))
 

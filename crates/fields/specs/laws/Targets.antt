@@ -2,16 +2,18 @@
 use mathlib.Core.Path.{_≡_, refl, sym, ap, _∙_}
 use mathlib.Core.Bool.{Bool, true, false, _||_}
 use mathlib.Core.List.{List, [], _∷_}
-use Prim.Native.Nat.{ℕ, zero, suc, _+_, _≤_, _<_}
+use Prim.Native.Nat.{ℕ, suc, _+_, _≤_, _<_}
 use native.Mathlib.Omega.{arith}
 use lib.ListN.{length, getD}
 use lib.Dec.{eqb}
-use borrow.Author.Tests.{eqb-true, eq-eqb}
+use borrow.Author.Tests.{eqb-true}
 use Rattle.meaning.specs.Graph.{Graph, Value}
 use Rattle.format.specs.Read.{got, many, counted, read-value}
 use Rattle.meaning.specs.Lists.{is-in, pick, distinct-from, rank}
 use Rattle.format.specs.Places.{next, after}
 use Rattle.meaning.specs.facts.Tests.{clash}
+use Rattle.meaning.specs.facts.Members.{seen-twice}
+use Rattle.meaning.specs.facts.Distinct.{distinct-again, distinct-new, rank-here, rank-next}
 use Rattle.format.specs.laws.Readers.{part, after-front}
 use Rattle.record.specs.laws.Parts.{counted-parts}
 use Rattle.record.specs.Stands.{words-of-record, Stands}
@@ -19,38 +21,6 @@ use Rattle.fields.specs.Words.{word-item, behind-values, again, behind-l
 use Rattle.fields.specs.laws.Repeats.{earlier, again-here}
 use Rattle.fields.specs.laws.Lists.{value-fixed, counted-at, behind-values-is}
 use Rattle.fields.specs.laws.Regions.{small}
-
--- Membership.
-or-right : (a b : Bool) → b ≡ true → (a || b) ≡ true
-or-right true b h = refl
-or-right false b h = h
-
-or-rest : (a b : Bool) → a ≡ false → (a || b) ≡ b
-or-rest true b h = absurd (clash (cc))
-or-rest false b h = refl
-
-pub is-in-at : (ts : List ℕ) (j : ℕ) → j < length ts → is-in (getD ts j 0) ts ≡ true
-is-in-at [] j l = absurd (omega arith)
-is-in-at (t ∷ ts) zero l = rw (eq-eqb t t refl)
-is-in-at (t ∷ ts) (suc j) l = or-right (eqb (getD ts j 0) t) (is-in (getD ts j 0) ts) (is-in-at ts j (omega arith))
-
--- One target more.
-pub distinct-again : (seen : List ℕ) (x : ℕ) (xs : List ℕ) → is-in x seen ≡ true → distinct-from seen (x ∷ xs) ≡ distinct-from seen xs
-unfolding distinct-from
-distinct-again seen x xs h = rw (h, distinct-from)
-
-pub distinct-new : (seen : List ℕ) (x : ℕ) (xs : List ℕ) → is-in x seen ≡ false
-    → distinct-from seen (x ∷ xs) ≡ x ∷ distinct-from (x ∷ seen) xs
-unfolding distinct-from
-distinct-new seen x xs h = rw (h, distinct-from)
-
-pub rank-here : (t x : ℕ) (xs : List ℕ) → eqb t x ≡ true → rank t (x ∷ xs) ≡ 0
-unfolding rank
-rank-here t x xs h = rw (h, rank)
-
-pub rank-next : (t x : ℕ) (xs : List ℕ) → eqb t x ≡ false → rank t (x ∷ xs) ≡ suc (rank t xs)
-unfolding rank
-rank-next t x xs h = rw (h, rank)
 
 module _ (w : List ℕ) (ts t : ℕ) where
   -- One turn of the search for the values passed to t.
@@ -83,13 +53,6 @@ seen-more : (w : List ℕ) (ts q x : ℕ) (seen : List ℕ) → word-item w ts q
     → is-in y (x ∷ seen) ≡ is-in y (earlier w ts (suc q))
 unfolding earlier
 seen-more w ts q x seen here same y = ap (λ z. eqb y z || is-in y seen) (sym here) ∙ ap (λ b. eqb y (word-item w ts q) || b) (same y)
-
-pub seen-twice : (y x : ℕ) (seen : List ℕ) → is-in x seen ≡ true → is-in y (x ∷ seen) ≡ is-in y seen
-seen-twice y x seen h = by-test (eqb y x) refl
-  where
-    by-test : (b : Bool) → eqb y x ≡ b → (b || is-in y seen) ≡ is-in y seen
-    by-test true q = sym (ap (λ z. is-in z seen) (eqb-true y x q) ∙ h)
-    by-test false q = refl
 
 module _ {w : List ℕ} {g : Graph} (s : Stands w g) (ts t : ℕ) where
   -- behind one list of passed values
@@ -171,7 +134,7 @@ module _ {w : List ℕ} {g : Graph} (s : Stands w g) (ts t : ℕ) where
       more = seen-more w ts q x seen here same
 
       in-rest : eqb t x ≡ false → is-in t xs ≡ true
-      in-rest n = sym (or-rest (eqb t x) (is-in t xs) n) ∙ in′
+      in-rest n = sym (ap (λ b. b || is-in t xs) n) ∙ in′
 
       by-test : (b : Bool) → is-in x seen ≡ b → (c : Bool) → eqb t x ≡ c → Rest → Found w ts t (x ∷ xs) seen q p
       by-test b m true n ih = found-here x xs seen q p here out n
@@ -183,4 +146,4 @@ module _ {w : List ℕ} {g : Graph} (s : Stands w g) (ts t : ℕ) where
           let b = part (many (length (distinct-from (x ∷ seen) xs)) (counted 0 4 read-value) (words-of-record w) (a .place)) _ ys e
           (a .second) in
           found-new x xs seen q p here m n (stood x xs seen q p here (omega arith) same ∙ m) (a .first)
-          (ih (x ∷ seen) (a .place) (b .value) (b .place) more (or-rest (eqb t x) (is-in t seen) n ∙ out) (in-rest n) (b .first))
+          (ih (x ∷ seen) (a .place) (b .value) (b .place) more (ap (λ b. b || is-in t seen) n ∙ out) (in-rest n) (b .first))

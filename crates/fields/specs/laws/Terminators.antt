@@ -1,7 +1,7 @@
 -- Where a terminator's kind, opcode, values and targets stand.
 use mathlib.Core.Path.{_≡_, refl, sym, ap, _∙_}
 use mathlib.Core.Bool.{Bool, true, false}
-use mathlib.Core.List.{List, [], _∷_}
+use mathlib.Core.List.{List}
 use mathlib.Core.Logic.{⊎-elim}
 use Prim.Native.Nat.{ℕ, zero, suc, _+_, _≤_, _<_}
 use native.Mathlib.Omega.{arith}
@@ -24,34 +24,25 @@ use Rattle.fields.specs.laws.Lists.{ListAt, ReadAt, front, word-fixed, v
 use Rattle.fields.specs.laws.Lists.{behind-values-is}
 use Rattle.fields.specs.laws.Regions.{Known, Beyond, small, beyond-words, no-word, beyond-values, region-case}
 use Rattle.meaning.specs.Lists.{pick}
-
--- A list by its bounds.
-empty : {A : Type 0} (xs : List A) → length xs ≤ 0 → [] ≡ xs
-empty [] l = refl
-empty (x ∷ xs) l = absurd (omega arith)
-
-single : {A : Type 0} (d : A) (xs : List A) → 1 ≤ length xs → length xs ≤ 1 → getD xs 0 d ∷ [] ≡ xs
-single d [] l h = absurd (omega arith)
-single d (x ∷ []) l h = refl
-single d (x ∷ y ∷ xs) l h = absurd (omega arith)
+use Rattle.meaning.specs.facts.Elements.{no-element, one-element}
 
 -- A terminator has the values and the edges that it was made from, in the numbers that its kind allows.
 pub control-values : (k op : ℕ) (vs : List Value) (es : List Edge) → k ≤ 5 → fewest-values k ≤ length vs → length vs ≤ most-values k
     → values-of (control-inst k op vs es) ≡ vs
-control-values zero op vs es b l h = empty vs h
+control-values zero op vs es b l h = no-element vs h
 control-values (suc zero) op vs es b l h = refl
 control-values (suc (suc zero)) op vs es b l h = refl
-control-values (suc (suc (suc zero))) op vs es b l h = empty vs h
-control-values (suc (suc (suc (suc zero)))) op vs es b l h = single _ vs l h
-control-values (suc (suc (suc (suc (suc zero))))) op vs es b l h = single _ vs l h
+control-values (suc (suc (suc zero))) op vs es b l h = no-element vs h
+control-values (suc (suc (suc (suc zero)))) op vs es b l h = one-element _ vs l h
+control-values (suc (suc (suc (suc (suc zero))))) op vs es b l h = one-element _ vs l h
 control-values (suc (suc (suc (suc (suc (suc k)))))) op vs es b l h = absurd (omega arith)
 
 pub control-edges : (k op : ℕ) (vs : List Value) (es : List Edge) → k ≤ 5 → fewest-targets k ≤ length es → length es ≤ most-targets k
     → edges-of (control-inst k op vs es) ≡ es
-control-edges zero op vs es b l h = empty es h
-control-edges (suc zero) op vs es b l h = empty es h
-control-edges (suc (suc zero)) op vs es b l h = empty es h
-control-edges (suc (suc (suc zero))) op vs es b l h = single no-edge es l h
+control-edges zero op vs es b l h = no-element es h
+control-edges (suc zero) op vs es b l h = no-element es h
+control-edges (suc (suc zero)) op vs es b l h = no-element es h
+control-edges (suc (suc (suc zero))) op vs es b l h = one-element no-edge es l h
 control-edges (suc (suc (suc (suc zero)))) op vs es b l h = refl
 control-edges (suc (suc (suc (suc (suc zero))))) op vs es b l h = refl
 control-edges (suc (suc (suc (suc (suc (suc k)))))) op vs es b l h = absurd (omega arith)

@@ -1,22 +1,12 @@
 -- One turn of each loop along the words.
 use mathlib.Core.Path.{_≡_, sym, ap, _∙_}
-use Prim.Native.Nat.{ℕ, suc, _+_, _-_, _≤_, _<_}
+use Prim.Native.Nat.{ℕ, _+_, _-_, _≤_, _<_}
 use mathlib.Core.List.{List}
-use native.Mathlib.Omega.{arith}
 use native.Mathlib.Numerals.{add-one}
 use borrow.Author.Tests.{eq-eqb, ne-eqb}
+use Rattle.meaning.specs.facts.Numbers.{one-less, none-left}
 use Rattle.fields.specs.Words.{placed, word-item, behind-values, behind-instructions, behind-list, list-for}
 use Rattle.fields.specs.laws.Targets.{list-here, list-next}
-
--- what is left before a turn is one more than after it
-pub one-less : (i n : ℕ) → n < i → i - n ≡ suc (i - (n + 1))
-one-less i n l = omega arith
-
-pub none-left : (i n : ℕ) → i ≤ n → i - n ≡ 0
-none-left i n l = omega arith
-
-pub all-left : (i : ℕ) → i - 0 ≡ i
-all-left i = omega arith
 
 module _ (w : List ℕ) (all i : ℕ) where
   pub instr-turn : (n p : ℕ) → n < i → behind-instructions w (i - n) p ≡ all

@@ -13,7 +13,8 @@ use Rattle.meaning.specs.Runs.{Nodes, _▸_, exit, ⟨⟩, Ended, along, edge-t
 use Rattle.meaning.specs.Runs.{place-taken, returned, word}
 use Rattle.meaning.specs.Graph.{ControlInst, Edge, SelectionKind, Value, bool-cond, branch, edges-of, exit-invocation, number, region}
 use Rattle.meaning.specs.Graph.{return, select-branch, unreachable}
-use Rattle.meaning.specs.facts.Tests.{clash, pred-below}
+use Rattle.meaning.specs.facts.Tests.{clash}
+use Rattle.meaning.specs.facts.Numbers.{pred-below}
 use Rattle.nesting.specs.Nesting.{blocks-of, MaybeClaimedRegion, append-maybe-claimed-region, err, join, ok, value, define-node}
 use Rattle.nesting.specs.Nesting.{by-control-inst, DeferredEdgeBundle, to-region, to-return, true-cond, structurize-select-into, NestState}
 use Rattle.nesting.specs.Nesting.{NodeOutput, look-up-nodes}

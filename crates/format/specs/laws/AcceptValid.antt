@@ -6,7 +6,7 @@ use Prim.Native.Nat.{ℕ, zero, suc, _+_, _≤_, _<_}
 use native.Mathlib.Omega.{arith}
 use lib.ListN.{length, getD}
 use lib.Dec.{eqb}
-use borrow.Author.Tests.{ltb-true, eqb-true, eqb-false, ne-eqb}
+use borrow.Author.Tests.{ltb-true, eqb-true, not-true}
 use Rattle.meaning.specs.Graph.{Value, Instr, SelectionKind, bool-cond, number, Edge, ControlInst, unreachable, return, exit-invocation}
 use Rattle.meaning.specs.Graph.{branch, select-branch, Region, Graph, nowhere, edges-of}
 use Rattle.meaning.specs.Graph as graph
@@ -18,7 +18,8 @@ use Rattle.format.specs.References.{types-right, passed-right, test-righ
 use Rattle.format.specs.References.{exits-right, region-right, regions-right, references, behind-all, return-types, is-region}
 use Rattle.format.specs.Accept.{accept}
 use Rattle.format.specs.Valid.{Usable, Passed, ValidInstrs, ValidEdge, TestRight, ValidEnd, ValidRegion, Valid}
-use Rattle.meaning.specs.facts.Tests.{clash, not-true, neither}
+use Rattle.meaning.specs.facts.Tests.{clash}
+use Rattle.meaning.specs.facts.Members.{none-seen}
 use Rattle.format.specs.laws.WellRead.{SamePasses, InstrRead, BlockRead, EndRead, TargetsRead, RegionRead, RecordRead, record-read}
 use Rattle.format.specs.laws.WellRead.{step}
 use Rattle.meaning.specs.facts.Elements.{all-map, all-append}
@@ -160,13 +161,6 @@ module _ (g : Graph) (r : ℕ) where
     pub new : All (λ t. is-in t seen ≡ false) xs
     pub distinct : Distinct xs
 
-  not-in : (u : ℕ) (seen xs : List ℕ) → All (λ t. is-in t (u ∷ seen) ≡ false) xs → (is-in u xs ≡ false) × All (λ t. is-in t seen ≡ false) xs
-  not-in u seen [] h = (refl, tt)
-  not-in u seen (x ∷ xs) h =
-      let a = neither (eqb x u) (is-in x seen) (h .0) in
-      let rest = not-in u seen xs (h .1) in
-      (rw (ne-eqb u x (λ q. eqb-false x u (a .0) (sym q))) (rest .0), (a .1, rest .1))
-
   exits-valid : (seen xs : List ℕ) → exits-right g r seen xs ≡ accepted tt → Exits seen xs
   unfolding exits-right
   exits-valid seen [] h = record { regions = tt; new = tt; distinct = tt }
@@ -174,7 +168,7 @@ module _ (g : Graph) (r : ℕ) where
       let a = step (refuse-unless 6 r (is-region g x)) _ tt h in
       let b = step (refuse-unless 8 r (not (is-in x seen))) _ tt (a .second) in
       let rest = exits-valid (x ∷ seen) xs (b .second) in
-      let apart = not-in x seen xs (rest .new) in
+      let apart = none-seen x seen xs (rest .new) in
       record {
         regions = (ltb-true x (length (g .regions)) (expected 6 r (is-region g x) (a .first)), rest .regions);
         new = (not-true (is-in x seen) (expected 8 r (not (is-in x seen)) (b .first)), apart .1);

@@ -1,4 +1,5 @@
--- The words of a store by one walk along its bytes: the same answer as the definition, which goes by places, but quick to compute.
+-- What is accepted, the words of the store by one walk along its bytes: the same answer as the definition, which goes by places, but
+-- quick to compute.
 use mathlib.Core.Path.{_≡_, refl, sym, ap, _∙_}
 use mathlib.Core.Bool.{Bool, true, false, _&&_, and-true, and-assoc}
 use mathlib.Core.List.{List, [], _∷_, _++_}
@@ -14,9 +15,10 @@ use Rattle.format.specs.Store.{Answer, accepted, refused, if-accepted, p
 use Rattle.format.specs.Store.{all-zero, length-right, count-right, store-words}
 use Rattle.format.specs.Read.{read-record}
 use Rattle.format.specs.References.{references}
-use Rattle.format.specs.Accept.{accept}
+use Rattle.format.specs.Accept.{with-references, accept}
 use Rattle.meaning.specs.Graph.{Graph}
 use Rattle.format.specs.stores.Pack.{check-from}
+use Rattle.format.specs.stores.QuickRead.{quick-read-record, same-read-record}
 use Rattle.meaning.specs.Lists.{tabulate}
 use Rattle.meaning.specs.facts.Elements.{length-tabulate, tabulate-at}
 
@@ -174,7 +176,7 @@ words-if right ws = elim right [ false ↦ refused 4 0 | true ↦ accepted ws ]
 abbrev pub quick-count : ℕ → List ℕ → ℕ → Answer (List ℕ)
 quick-count n ws w = words-if (ltb 0 w && (eqb n ((w + 252) / 253) && only-zeros (drop w ws))) (take w ws)
 
-unfoldable pub quick-store-words : List ℕ → Answer (List ℕ)
+unfoldable quick-store-words : List ℕ → Answer (List ℕ)
 unfolding quick-blocks check-from all-words front-words only-zeros
 quick-store-words s =
     elim (length-right (length s)) [
@@ -216,18 +218,20 @@ same-answer s true =
     (same-blocks s (length s / 512) (omega arith))
     ∙ ap (λ a. if-accepted (quick-blocks s (length s / 512)) λ _. a) (same-count s (length s / 512) (word-at s 0))
 
-pub same-store-words : (s : List ℕ) → store-words s ≡ quick-store-words s
+same-store-words : (s : List ℕ) → store-words s ≡ quick-store-words s
 unfolding store-words quick-store-words
 same-store-words s = same-answer s (length-right (length s))
 
--- ---- what is accepted, once the words of the store are read, or the store is refused
-abbrev pub accept-words : Answer (List ℕ) → Answer Graph
-accept-words x =
-    if-accepted x λ ws.
-    if-accepted (read-record ws) λ g.
-    if-accepted (references g) λ _.
-    accepted g
+-- ---- what is accepted
+unfoldable pub quick-accept : List ℕ → Answer Graph
+unfolding quick-store-words quick-read-record references
+quick-accept s = if-accepted (quick-store-words s) λ ws. with-references (quick-read-record ws)
 
-pub same-accept : (s : List ℕ) → accept s ≡ accept-words (quick-store-words s)
-unfolding accept
-same-accept s = ap accept-words (same-store-words s)
+pub same-accept : (s : List ℕ) → accept s ≡ quick-accept s
+unfolding accept quick-accept
+same-accept s = by-words (store-words s) ∙ ap (λ x. if-accepted x λ ws. with-references (quick-read-record ws)) (same-store-words s)
+  where
+    by-words : (x : Answer (List ℕ))
+        → if-accepted x (λ ws. with-references (read-record ws)) ≡ if-accepted x λ ws. with-references (quick-read-record ws)
+    by-words (accepted ws) = ap with-references (same-read-record ws)
+    by-words (refused n w) = refl

@@ -1,18 +1,21 @@
--- Elements of a list: by place, by membership, under a map; what each has; a table of a function; lists that gain; equal lists.
-use mathlib.Core.Bool.{Bool, true, false, _&&_}
-use mathlib.Core.List.{List, [], _++_, _∷_, map, append-assoc, append-nil}
+-- Elements of a list: by place, by membership, under a map, by their number; what one or each has; a table of a function; lists that
+-- gain; equal lists.
+use mathlib.Core.Bool.{Bool, true, false, _&&_, _||_, or-assoc}
+use mathlib.Core.List.{List, [], _++_, _∷_, map, append-assoc, append-nil, List·Memᴰ, List·Memᴰ·head}
+use mathlib.Core.List.{Memᴰ·append-left, Memᴰ·append-right}
 use mathlib.Core.Logic.{_⊎_, inl, inr}
 use mathlib.Core.Option.{Option, none, some}
 use mathlib.Core.Path.{_≡_, ap, refl, sym, _∙_}
 use Prim.Native.Nat.{_<_, suc, zero, ℕ, _≤_, _+_}
 use native.Mathlib.Omega.{arith}
 use native.Mathlib.Nat.{not-suc-le-zero}
-use native.Mathlib.Decide.{decLt}
-use lib.ListN.{getD, length, take, set, replicate, length-append, List·getD-append}
-use lib.Seq.{getD-append-seam}
+use native.Mathlib.Decide.{decLt, ℕ-discrete}
+use native.Mathlib.Numerals.{add-one}
+use lib.ListN.{getD, length, take, drop, set, replicate, length-append, List·getD-append}
+use lib.Seq.{getD-append-seam, set-at, drop-cons, append-snoc}
 use lib.Dec.{eqb}
 use borrow.Author.Tests.{eqb-true}
-use Rattle.meaning.specs.Lists.{pick, filter, numbers-from, All, tabulate}
+use Rattle.meaning.specs.Lists.{pick, any, filter, numbers-from, All, tabulate}
 use Rattle.meaning.specs.facts.Tests.{clash, and-both}
 
 abbrev pub nth : {A : Type 0} → List A → ℕ → Option A
@@ -68,11 +71,26 @@ getD-within [] k h = absurd (omega arith)
 getD-within (x ∷ xs) zero h = omega arith
 getD-within (x ∷ xs) (suc k) h = omega (arith, getD-within xs k h)
 
+-- ---- a list by its length
+pub no-element : {A : Type 0} (xs : List A) → length xs ≤ 0 → [] ≡ xs
+no-element [] l = refl
+no-element (x ∷ xs) l = absurd (omega arith)
+
+pub one-element : {A : Type 0} (d : A) (xs : List A) → 1 ≤ length xs → length xs ≤ 1 → getD xs 0 d ∷ [] ≡ xs
+one-element d [] l h = absurd (omega arith)
+one-element d (x ∷ []) l h = refl
+one-element d (x ∷ y ∷ xs) l h = absurd (omega arith)
+
 -- ---- a number for each place
 pub numbered-map : {A : Type 0} (f : ℕ → ℕ) (k : ℕ) (l : List A) (r : ℕ) → r < length l → getD (map f (numbers-from k l)) r 0 ≡ f (k + r)
 numbered-map f k [] r h = absurd (omega arith)
 numbered-map f k (x ∷ l) zero h = let z : k ≡ k + 0 = omega arith in ap f z
 numbered-map f k (x ∷ l) (suc r) h = let z : suc k + r ≡ k + suc r = omega arith in numbered-map f (suc k) l r (omega arith) ∙ ap f z
+
+-- ---- what one has
+pub any-snoc : {A : Type 0} (p : A → Bool) (xs : List A) (x : A) → any p (xs ++ (x ∷ [])) ≡ (any p xs || (p x || false))
+any-snoc p [] x = refl
+any-snoc p (y ∷ xs) x = ap (λ b. p y || b) (any-snoc p xs x) ∙ sym (or-assoc (p y) (any p xs) (p x || false))
 
 -- ---- what each has
 pub all-map : {A : Type 0} (P Q : A → Type 0) → ((x : A) → P x → Q x) → (xs : List A) → All P xs → All Q xs
@@ -141,6 +159,27 @@ tabulate-at (suc n) f j h = at (tabulate-at n f j) (decLt j n)
         ap (λ k. getD (tabulate n f ++ (f n ∷ [])) k 0) (omega (arith, length-tabulate n f))
         ∙ getD-append-seam (tabulate n f) (f n) [] 0
         ∙ ap f (omega arith)
+
+pub all-tabulate : (P : ℕ → Type 0) (n : ℕ) (f : ℕ → ℕ) → ((j : ℕ) → P (f j)) → All P (tabulate n f)
+unfolding tabulate
+all-tabulate P zero f h = tt
+all-tabulate P (suc n) f h = all-append P (tabulate n f) (f n ∷ []) (all-tabulate P n f h) (h n, tt)
+
+pub in-tabulate : (n : ℕ) (f : ℕ → ℕ) (j : ℕ) → j < n → List·Memᴰ (f j) (tabulate n f)
+unfolding tabulate
+in-tabulate zero f j h = absurd (not-suc-le-zero h)
+in-tabulate (suc n) f j h =
+    elim (ℕ-discrete j n) [
+      | yes e ↦ Memᴰ·append-right (tabulate n f) (List·Memᴰ·head (ap f e))
+      | no d ↦ Memᴰ·append-left (f n ∷ []) (in-tabulate n f j (omega arith))
+    ]
+
+-- In front of a list: one more of the table is one more that is stored.
+pub tabulate-more : (n : ℕ) (f : ℕ → ℕ) (l : List ℕ) → n < length l
+    → set (tabulate n f ++ drop n l) n (f n) ≡ tabulate (n + 1) f ++ drop (n + 1) l
+unfolding tabulate
+tabulate-more n f l h =
+    rw (add-one, drop-cons l n 0 h, append-snoc) (set-at (tabulate n f) _ _ (f n) n (length-tabulate n f))
 
 -- ---- a list and what it gains at its end
 pub record Extends {A : Type 0} (a b : List A) : Type 0 where

@@ -1,10 +1,10 @@
--- Sums over a list of numbers; where each stands once, what a change at one of them does to the sum.
+-- Sums over a list of numbers, and over its first ones; where each stands once, what a change at one of them does to the sum.
 use mathlib.Core.Path.{_≡_, refl}
 use mathlib.Core.Bool.{Bool, true, false, _||_}
 use mathlib.Core.List.{List, [], _∷_}
-use Prim.Native.Nat.{ℕ, _+_, _*_, _≤_}
+use Prim.Native.Nat.{ℕ, zero, suc, _+_, _*_, _≤_, _<_}
 use native.Mathlib.Omega.{arith}
-use lib.ListN.{length}
+use lib.ListN.{length, getD, take}
 use lib.Dec.{eqb}
 use borrow.Author.Tests.{eqb-true, eqb-false}
 use Rattle.meaning.specs.Lists.{is-in, Distinct, total}
@@ -34,6 +34,13 @@ total-one f r (x ∷ l) i = go (first-or-rest r x l i) (λ j. total-one f r l j)
     go : FirstOrRest r x l → (is-in r l ≡ true → f r ≤ total f l) → f r ≤ f x + total f l
     go (first e) ih = rw e (omega arith)
     go (rest j) ih = let z = ih j in omega arith
+
+pub total-take : (xs : List ℕ) (a b : ℕ) → a < b → total (λ n. n) (take a xs) + getD xs a 0 ≤ total (λ n. n) (take b xs)
+total-take [] zero (suc b) h = omega arith
+total-take [] (suc a) (suc b) h = omega arith
+total-take (x ∷ xs) zero (suc b) h = omega arith
+total-take (x ∷ xs) (suc a) (suc b) h = let z = total-take xs a b (omega arith) in omega arith
+total-take xs a zero h = absurd (omega arith)
 
 module _ (f h : ℕ → ℕ) (r : ℕ) (else : (i : ℕ) → (i ≡ r → ⊥) → h i ≡ f i) where
   unchanged : (l : List ℕ) → is-in r l ≡ false → total h l ≡ total f l

@@ -1,11 +1,11 @@
--- Tests: what a boolean or a comparison of numbers says.
-use mathlib.Core.Bool.{Bool, _||_, false, true, not, _&&_}
+-- Tests: what a boolean or a comparison of numbers says, and what is chosen by one.
+use mathlib.Core.Bool.{Bool, _||_, false, true, _&&_}
 use mathlib.Core.Logic.{_⊎_, inl, inr}
-use mathlib.Core.Path.{_≡_, refl, sym}
-use Prim.Native.Nat.{_<_, suc, zero, ℕ, _≤_, pred}
+use mathlib.Core.Path.{_≡_, refl, sym, ap, _∙_}
+use Prim.Native.Nat.{_<_, ℕ, _≤_}
 use native.Mathlib.Omega.{arith}
 use lib.Dec.{eqb, ltb, ltb→lt, nltb→le}
-use borrow.Author.Tests.{eq-eqb, eqb-false, eqb-true, ne-eqb}
+use borrow.Author.Tests.{eq-eqb, eqb-false, eqb-true, ne-eqb, lt-ltb, le-ltb}
 use Rattle.meaning.specs.Lists.{pick}
 
 -- Two different constructors are never equal: `clash (cc)`.
@@ -54,9 +54,14 @@ pub and-both : (a b : Bool) → (a && b) ≡ true → (a ≡ true) × (b ≡ tru
 and-both true b h = (refl, h)
 and-both false b h = absurd (clash (cc))
 
-pub not-true : (b : Bool) → not b ≡ true → b ≡ false
-not-true true h = absurd (clash (cc))
-not-true false h = refl
+pub both-true : {a b : Bool} → a ≡ true → b ≡ true → (a && b) ≡ true
+both-true {a} {b} p q = ap (λ x. x && b) p ∙ q
+
+pub first-false : {a : Bool} (b : Bool) → a ≡ false → (a && b) ≡ false
+first-false b p = ap (λ x. x && b) p
+
+pub second-false : {a b : Bool} → a ≡ true → b ≡ false → (a && b) ≡ false
+second-false {a} {b} p q = ap (λ x. x && b) p ∙ q
 
 pub neither : (a b : Bool) → (a || b) ≡ false → (a ≡ false) × (b ≡ false)
 neither true b h = absurd (clash (cc))
@@ -73,6 +78,26 @@ in-or-out r n = go (ltb r n) refl
     go true p = inl (ltb→lt r n (rw p tt))
     go false p = inr (nltb→le r n (rw p tt))
 
-pub pred-below : (n : ℕ) → 1 ≤ n → pred n < n
-pred-below zero le = absurd (omega arith)
-pred-below (suc n) le = omega arith
+-- ---- a test on a number that the code has, for the equal number that the definition has
+pub is-below : {k n m : ℕ} → k < n → n ≡ m → ltb k m ≡ true
+is-below {k} {n} {m} l h = lt-ltb k m (omega arith)
+
+pub not-below : {k n m : ℕ} → n ≤ k → n ≡ m → ltb k m ≡ false
+not-below {k} {n} {m} l h = le-ltb k m (omega arith)
+
+pub is-equal : {n m k : ℕ} → n ≡ k → n ≡ m → eqb m k ≡ true
+is-equal {n} {m} {k} l h = eq-eqb m k (omega arith)
+
+pub not-equal : {n m k : ℕ} → (n ≡ k → ⊥) → n ≡ m → eqb m k ≡ false
+not-equal {n} {m} {k} l h = ne-eqb m k (λ e. l (h ∙ e))
+
+-- ---- a choice by a test
+pub picked : {A : Type 0} {t : Bool} (a b : A) → t ≡ true → a ≡ pick t a b
+picked a b h = sym (ap (λ t. pick t a b) h)
+
+pub passed-over : {A : Type 0} {t : Bool} (a b : A) → t ≡ false → b ≡ pick t a b
+passed-over a b h = sym (ap (λ t. pick t a b) h)
+
+pub pick-and : (a b : Bool) → pick a b false ≡ (a && b)
+pick-and true b = refl
+pick-and false b = refl

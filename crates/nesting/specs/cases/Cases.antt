@@ -9,8 +9,6 @@ use lib.ListN.{length, getD}
 use lib.Dec.{eqb, leb}
 use Rattle.meaning.specs.Graph.{Graph, return, unreachable, branch}
 use Rattle.format.specs.Store.{Answer, accepted, refused}
-use Rattle.format.specs.Read.{read-record}
-use Rattle.format.specs.References.{references}
 use Rattle.format.specs.Accept.{accept}
 use Rattle.nesting.specs.Nesting.{RewriteEntry, done, turned-away, ClaimedRegion, incoming-edge-counts, try-claim-edge-bundle}
 use Rattle.nesting.specs.Nesting.{initial-state}
@@ -19,7 +17,7 @@ use Rattle.meaning.specs.Text.{Text, ascii}
 use Rattle.nesting.specs.cases.Computes.{nesting-computes}
 use Rattle.format.specs.stores.Pack.{store-of-graph}
 use Rattle.nesting.specs.Sheet.{printed}
-use Rattle.format.specs.stores.Quick.{quick-store-words, accept-words, same-accept}
+use Rattle.format.specs.stores.Quick.{quick-accept, same-accept}
 use Rattle.nesting.specs.cases.QuickPrint.{quick-printed, prints}
 use Rattle.nesting.specs.cases.CaseGraphs.{A, B, one-region, to, both-the-same, many-targets, regions, no-loop, one-goes-on}
 use Rattle.nesting.specs.cases.CaseGraphs.{loop-in-loop, two-exits, renumbered, crossing, dear}
@@ -227,7 +225,7 @@ cases =
 
 -- ---- computed, by the quick walk along each store
 unfoldable pub quick-shown : List ℕ → CaseShown
-quick-shown s = record { prints = quick-printed s; wrappers = wrappers-of (accept-words (quick-store-words s)) }
+quick-shown s = record { prints = quick-printed s; wrappers = wrappers-of (quick-accept s) }
 
 same-shown : (s : List ℕ) → shown s ≡ quick-shown s
 unfolding shown quick-shown
@@ -261,5 +259,5 @@ all-shown (c ∷ cs) e =
 
 -- For each case of the list the definitions show, from its bytes, what it states.
 pub proved-cases : map (λ c. shown (c .store)) cases ≡ map (λ c. c .shows) cases
-unfolding all-right quick-shown quick-printed quick-store-words nesting-computes wrappers-of read-record references store-of-graph
+unfolding all-right quick-shown quick-printed quick-accept nesting-computes wrappers-of store-of-graph
 proved-cases = all-shown cases refl

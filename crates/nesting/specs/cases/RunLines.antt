@@ -1,5 +1,5 @@
 -- Both runs of a graph, or of a store's record, as text: what a run vector states.
-use mathlib.Core.Path.{_≡_, refl, ap, _∙_}
+use mathlib.Core.Path.{_≡_, ap, _∙_}
 use mathlib.Core.Bool.{true}
 use mathlib.Core.List.{List, [], _++_}
 use mathlib.Core.Option.{none, some}
@@ -8,13 +8,11 @@ use Rattle.meaning.specs.Graph.{Graph}
 use Rattle.meaning.specs.Runs.{Given}
 use Rattle.meaning.specs.Text.{Text, ascii}
 use Rattle.meaning.specs.cases.RunText.{graph-says, form-says}
-use Rattle.format.specs.Store.{Answer, accepted, refused, store-words}
-use Rattle.format.specs.Read.{read-record}
-use Rattle.format.specs.References.{references}
+use Rattle.format.specs.Store.{Answer, accepted, refused}
 use Rattle.format.specs.Accept.{accept}
 use Rattle.nesting.specs.Nesting.{Outcome, untouched, whole, closed, leftover, Nested, structurize-func}
 use Rattle.nesting.specs.cases.Computes.{nesting-computes}
-use Rattle.format.specs.stores.Quick.{quick-store-words, same-store-words, accept-words}
+use Rattle.format.specs.stores.Quick.{quick-accept, same-accept}
 use Rattle.meaning.specs.facts.Elements.{same-numbers, numbers-same}
 
 -- A whole form is run with the entry's outputs, a closed one without; the others have no run.
@@ -44,12 +42,12 @@ run-lines s x = lines-after (accept s) x
 
 -- ---- by the quick walk along the store
 unfoldable pub quick-run-lines : List ℕ → Given → Text
-unfolding quick-store-words read-record references graph-lines
-quick-run-lines s x = lines-after (accept-words (quick-store-words s)) x
+unfolding quick-accept graph-lines
+quick-run-lines s x = lines-after (quick-accept s) x
 
 same-run-lines : (s : List ℕ) (x : Given) → run-lines s x ≡ quick-run-lines s x
-unfolding run-lines quick-run-lines accept
-same-run-lines s x = ap (λ ws. lines-after (accept-words ws) x) (same-store-words s)
+unfolding run-lines quick-run-lines
+same-run-lines s x = ap (λ a. lines-after a x) (same-accept s)
 
 pub runs-by-test : (s : List ℕ) (x : Given) (t : Text) → same-numbers (quick-run-lines s x) t ≡ true → run-lines s x ≡ t
 runs-by-test s x t e = same-run-lines s x ∙ numbers-same (quick-run-lines s x) t e

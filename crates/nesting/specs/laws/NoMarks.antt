@@ -1,6 +1,6 @@
 -- What nesting answers has no marked value: not in the children of a piece, not in its outputs, not in what its deferred edges pass on.
 use mathlib.Core.Path.{_≡_, refl, subst}
-use mathlib.Core.Bool.{Bool, true, false, _||_}
+use mathlib.Core.Bool.{Bool, true, false}
 use mathlib.Core.List.{List, [], _∷_, map}
 use mathlib.Core.Option.{Option, none, some}
 use Prim.Native.Nat.{ℕ, suc}
@@ -17,32 +17,7 @@ use Rattle.nesting.specs.Nesting.{StepAnswer, done, turned-away, NodeOut
 use Rattle.nesting.specs.Nesting.{IncomingEdgeCount, case-outputs, look-up-reads, look-up-node, look-up-nodes, look-up-cases}
 use Rattle.nesting.specs.Nesting.{look-up-piece, unclaimed-from, conclude-with, conclude-by, conclude, initial-state}
 use Rattle.nesting.specs.Nesting.{try-claim-edge-bundle, structurize-func-by, structurize-func}
-
-abbrev pub marked : Value → Bool
-marked (held r k) = true
-marked (const i) = false
-marked (input r k) = false
-marked (instr r k) = false
-marked (output o) = false
-marked (bool b) = false
-marked (undef ty) = false
-marked no-value = false
-
--- Whether a marked value stands in them.
-unfoldable mutual
-  pub node-marked : Node → Bool
-  node-marked (block n r k is) = any (λ i. any marked (i .reads)) is
-  node-marked (select x cs) = marked (x .scrutinee) || cases-marked cs
-  node-marked (loop x ks) = any marked (x .initial-inputs) || (any marked (x .outputs) || (marked (x .repeat) || nodes-marked ks))
-  node-marked (exit n op vs) = any marked vs
-
-  pub nodes-marked : Nodes → Bool
-  nodes-marked ⟨⟩ = false
-  nodes-marked (x ▸ xs) = node-marked x || nodes-marked xs
-
-  pub cases-marked : Cases → Bool
-  cases-marked ∅ = false
-  cases-marked (case c ks cs) = any marked (c .outputs) || (nodes-marked ks || cases-marked cs)
+use Rattle.nesting.specs.AnswerValues.{marked, node-marked, nodes-marked, cases-marked, piece-marked, NoMarks}
 
 unmarked-is : (v : Value) → marked (unmarked v) ≡ false
 unmarked-is (held r k) = refl
@@ -84,9 +59,6 @@ module _ (es : List RewriteEntry) where
       cases-clear ∅ n j = refl
       cases-clear (case c ks cs) n j = rw (values-clear (case-outputs n j os), nodes-clear ks, cases-clear cs n (suc j))
 
-abbrev pub piece-marked : Piece → Bool
-piece-marked p = nodes-marked (p .children) || (any marked (p .outputs) || any (λ e. any marked (e .target-inputs)) (p .deferred))
-
 module _ (g : Graph) (s : NestState) where
   bundles-clear : (c : DeferredEdgeBundle → LazyCond) (d : DeferredEdgeBundleSet)
       → any (λ e. any marked (e .target-inputs)) (map (λ e. look-up-bundle (look-up-last (s .region-input-rewrites)) c e .value) d) ≡ false
@@ -103,11 +75,6 @@ module _ (g : Graph) (s : NestState) where
   pieces-clear : (ps : List Piece) → any piece-marked (map (λ p. look-up-piece g s p .value) ps) ≡ false
   pieces-clear [] = refl
   pieces-clear (p ∷ ps) = rw (piece-clear p, pieces-clear ps)
-
--- No piece of the answer has a mark.
-pub record NoMarks (n : Nested) : Type 0 where
-  pub entry : piece-marked (n .entry) ≡ false
-  pub unclaimed : any piece-marked (n .unclaimed) ≡ false
 
 concluded-clear : (g : Graph) (s : NestState) (o : Outcome) (p : Piece) (ps : List Piece) → NoMarks (conclude-with g s o p ps)
 concluded-clear g s o p ps = record { entry = piece-clear g s p; unclaimed = pieces-clear g s ps }

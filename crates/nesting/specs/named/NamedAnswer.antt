@@ -18,18 +18,16 @@ use Rattle.nesting.specs.Nesting.{case-outputs, look-up-last, look-up-bu
 use Rattle.nesting.specs.Nesting.{look-up-cases, Outcome, untouched, whole, closed, leftover, Piece, Nested, initial-state}
 use Rattle.nesting.specs.Nesting.{outcome-of, unclaimed-from, look-up-piece, conclude-with, conclude-by, conclude}
 use Rattle.nesting.specs.Nesting.{incoming-edge-counts, try-claim-edge-bundle, structurize-func-by, structurize-func}
+use Rattle.nesting.specs.AnswerValues.{Named, AllNamed, InstrsNamed, NodeNamed, NodesNamed, CasesNamed, BundleNamed, SetNamed}
+use Rattle.nesting.specs.AnswerValues.{PieceNamed, NestedNamed}
 use Rattle.nesting.specs.steps.Post.{Post}
 use Rattle.nesting.specs.steps.RegionsLeft.{AnyRefusal}
-use Rattle.nesting.specs.named.Named.{Named, AllNamed, InstrsNamed, NodeNamed, NodesNamed, CasesNamed, BundleNamed, SetNamed}
-use Rattle.nesting.specs.named.Named.{StateNamed, OutputsNamed, GoodLookUp, at-place, look-up-last-named, look-ups-named}
+use Rattle.nesting.specs.named.NamedLookUps.{StateNamed, OutputsNamed, GoodLookUp, at-place, look-up-last-named, look-ups-named}
 use Rattle.nesting.specs.named.NamedSteps.{NamedKept}
 use Rattle.nesting.specs.named.NamedSelects.{condition-named}
 use Rattle.nesting.specs.named.NamedClaims.{ClaimMaybe, RegionNamed, try-claim-named}
 
 module _ (M : ℕ) where
-  abbrev pub PieceNamed : Piece → Type 0
-  PieceNamed p = NodesNamed M (p .children) × AllNamed M (p .outputs) × SetNamed M (p .deferred)
-
   -- ---- the last rewriting
   module _ (ρ : Value → LookUp Value) (f : (v : Value) → Named M v → Named M (ρ v .value)) where
     instrs-last : (is : List Instr) → InstrsNamed M is → InstrsNamed M (map (λ i. look-up-reads ρ i .value) is)
@@ -67,7 +65,7 @@ module _ (M : ℕ) where
             (look-ups-named M ρ f (case-outputs n j os) (case-outputs-named n j), nodes-last ks (h .1), cases-last cs (h .2) n (suc j))
 
   module _ (g : Graph) (s : NestState) (good : GoodLookUp M s) where
-    piece-last : (p : Piece) → PieceNamed p → PieceNamed (look-up-piece g s p .value)
+    piece-last : (p : Piece) → PieceNamed M p → PieceNamed M (look-up-piece g s p .value)
     unfolding look-up-piece
     piece-last p h =
         let es = s .region-input-rewrites in
@@ -79,17 +77,12 @@ module _ (M : ℕ) where
               (h .2),
         )
 
-    unclaimed-named : (r : ℕ) (xs : List StructurizeRegionState) → All (StateNamed M) xs → All PieceNamed (unclaimed-from g r xs)
+    unclaimed-named : (r : ℕ) (xs : List StructurizeRegionState) → All (StateNamed M) xs → All (PieceNamed M) (unclaimed-from g r xs)
     unclaimed-named r [] h = tt
     unclaimed-named r (not-begun ∷ xs) h = unclaimed-named (suc r) xs (h .1)
     unclaimed-named r (in-progress ∷ xs) h = unclaimed-named (suc r) xs (h .1)
     unclaimed-named r (claimed ∷ xs) h = unclaimed-named (suc r) xs (h .1)
     unclaimed-named r (ready b ks d ∷ xs) h = ((h .0 .0, tt, h .0 .1), unclaimed-named (suc r) xs (h .1))
-
--- Every value of what is nested names something.
-pub record NestedNamed (n : Nested) : Type 0 where
-  pub entry : PieceNamed (length (n .output-nodes)) (n .entry)
-  pub unclaimed : All (PieceNamed (length (n .output-nodes))) (n .unclaimed)
 
 module _ (g : Graph) (s : NestState) (good : GoodLookUp (length (s .node-outputs)) s) where
   concluded-named : (o : Outcome) (p : Piece) (ps : List Piece) → PieceNamed (length (s .node-outputs)) p

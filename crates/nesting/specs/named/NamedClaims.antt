@@ -21,9 +21,10 @@ use Rattle.nesting.specs.Nesting.{no-inputs, keep-input, lift-input, add
 use Rattle.nesting.specs.Nesting.{SplitOut, backedge-of, defer-edge, unclaimed-edge, edge-case, split-out-or, begin, claim-body}
 use Rattle.nesting.specs.Nesting.{claim-by-state, by-control-inst, resolve-by, target-regions, split-out-matching, resolve-deferred}
 use Rattle.nesting.specs.Nesting.{structurize-region, try-claim-edge-bundle, count-to, structurize-select-into}
+use Rattle.nesting.specs.AnswerValues.{Named, AllNamed, InstrsNamed, NodesNamed, CondNamed, BundleNamed, SetNamed}
 use Rattle.nesting.specs.steps.Keeps.{loop-claimed}
-use Rattle.nesting.specs.named.Named.{Named, AllNamed, InstrsNamed, NodesNamed, CondNamed, BundleNamed, SetNamed, ClaimedNamed}
-use Rattle.nesting.specs.named.Named.{CaseNamed, StateNamed, RewriteNamed, join-named, look-up-named, look-ups-named}
+use Rattle.nesting.specs.named.NamedLookUps.{ClaimedNamed, CaseNamed, StateNamed, RewriteNamed, join-named, look-up-named}
+use Rattle.nesting.specs.named.NamedLookUps.{look-ups-named}
 use Rattle.nesting.specs.named.NamedSteps.{KeepsNamed, then-keeps, next-keeps, from, give-keeps, define-region-named}
 use Rattle.nesting.specs.named.NamedSteps.{define-node-named}
 use Rattle.nesting.specs.named.NamedSteps.{insert-rewrites-named, materialize-named}

@@ -20,8 +20,8 @@ use Rattle.nesting.specs.Nesting.{all-true, conditions-of, target-type, 
 use Rattle.nesting.specs.Nesting.{any-non-empty-case, look-up-bundle, look-up-case, rewrite-cases, case-regions, scrutinee-value}
 use Rattle.nesting.specs.Nesting.{DefinedSelect, define-select, emit-inputs, emit-condition, emit, shared-bundle, select-if}
 use Rattle.nesting.specs.Nesting.{replace-inputs, structurize-select, structurize-select-by, structurize-select-into}
-use Rattle.nesting.specs.named.Named.{Named, AllNamed, NodesNamed, CasesNamed, CondNamed, CondsNamed, BundleNamed, SetNamed}
-use Rattle.nesting.specs.named.Named.{CaseNamed, at-place, join-named, look-up-named, look-ups-named}
+use Rattle.nesting.specs.AnswerValues.{Named, AllNamed, NodesNamed, CasesNamed, CondNamed, CondsNamed, BundleNamed, SetNamed}
+use Rattle.nesting.specs.named.NamedLookUps.{CaseNamed, at-place, join-named, look-up-named, look-ups-named}
 use Rattle.nesting.specs.named.NamedSteps.{KeepsNamed, then-keeps, next-keeps, from, give-keeps, define-region-named}
 use Rattle.nesting.specs.named.NamedSteps.{define-node-named}
 use Rattle.nesting.specs.named.NamedSteps.{define-merge-named, define-output-named, insert-rewrites-named, materialize-named}

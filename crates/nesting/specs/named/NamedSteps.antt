@@ -11,10 +11,11 @@ use Rattle.meaning.specs.Graph.{Value, bool, undef, same-values, bool-cond, num
 use Rattle.nesting.specs.Nesting.{most-merges, most-nodes, most-outputs, most-regions, LazyCond, undef-cond, false-cond, true-cond}
 use Rattle.nesting.specs.Nesting.{merge, LazyConds, no-conds, _&_, NodeOutput, NestState, Step, give, _>>=_, _>>_, define-region}
 use Rattle.nesting.specs.Nesting.{define-node, define-merge, define-output, insert-rewrites, RegionInputRewrites}
-use Rattle.nesting.specs.Nesting.{materialize-lazy-cond, materialize-lazy-conds, value}
+use Rattle.nesting.specs.Nesting.{materialize-lazy-cond, materialize-lazy-conds}
+use Rattle.nesting.specs.AnswerValues.{Named, AllNamed, CondNamed, CondsNamed}
 use Rattle.nesting.specs.steps.Post.{Post, bind, map-post, when-room}
 use Rattle.nesting.specs.steps.RegionsLeft.{AnyRefusal}
-use Rattle.nesting.specs.named.Named.{Named, AllNamed, CondNamed, CondsNamed, RewritesNamed, GoodLookUp}
+use Rattle.nesting.specs.named.NamedLookUps.{RewritesNamed, GoodLookUp}
 
 abbrev pub outputs-made : NestState → ℕ
 outputs-made s = length (s .node-outputs)

@@ -10,8 +10,7 @@ use Rattle.meaning.specs.Lists.{pick, times-in}
 use Rattle.meaning.specs.facts.Tests.{clash, eqb-self}
 use Rattle.meaning.specs.Graph.{Value, const, input, instr, output, bool, undef, held, no-value, Code}
 use Rattle.nesting.specs.ShownForm.{shown-value}
-use Rattle.nesting.specs.laws.NoMarks.{marked}
-use Rattle.nesting.specs.named.Named.{Named}
+use Rattle.nesting.specs.AnswerValues.{marked, Named}
 
 -- The place, counted from `at`, of n where it stands with k before it.
 abbrev place-of : ℕ → ℕ → List ℕ → ℕ → ℕ

@@ -14,9 +14,9 @@ use Rattle.format.specs.Store.{accepted}
 use Rattle.format.specs.References.{instructions, return-types, behind-all}
 use Rattle.format.specs.Valid.{Usable, Passed, ValidInstrs, ValidEdge, ValidEnd, ValidRegion, Valid}
 use Rattle.nesting.specs.Nesting.{Nested, structurize-func}
-use Rattle.nesting.specs.named.Named.{Named, AllNamed, InstrsNamed}
+use Rattle.nesting.specs.AnswerValues.{Named, AllNamed, InstrsNamed, NestedNamed}
 use Rattle.nesting.specs.named.NamedClaims.{EndNamed, RegionNamed}
-use Rattle.nesting.specs.named.NamedAnswer.{NestedNamed, answer-named}
+use Rattle.nesting.specs.named.NamedAnswer.{answer-named}
 
 module _ (M : ℕ) (g : Graph) (r : ℕ) where
   usable-named : (k : ℕ) (v : Value) → Usable g r k v → Named M v

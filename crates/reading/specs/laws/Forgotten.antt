@@ -1,7 +1,7 @@
 -- Readings with their values forgotten: what is left of each reader, in the order in which the code goes.
 use mathlib.Core.Path.{_≡_, refl, sym, ap, _∙_}
 use mathlib.Core.List.{List}
-use Prim.Native.Nat.{ℕ, suc, _+_, _-_, _≤_, _<_}
+use Prim.Native.Nat.{ℕ, _+_, _-_, _≤_, _<_}
 use native.Mathlib.Omega.{arith}
 use native.Mathlib.Numerals.{add-one}
 use lib.ListN.{length, getD, take, length-take}
@@ -9,6 +9,7 @@ use lib.Seq.{getD-take}
 use borrow.Author.Tests.{lt-ltb, le-ltb, le-leb, lt-leb}
 use Rattle.format.specs.Read.{Read, got, bad, Reader, read-then, word, within, many, counted}
 use Rattle.format.specs.Places.{next, forget-value, after}
+use Rattle.meaning.specs.facts.Numbers.{one-less, none-left}
 use Rattle.meaning.specs.facts.Tests.{clash}
 use Rattle.format.specs.laws.Readers.{many-step, many-stop}
 
@@ -33,9 +34,6 @@ follow-follow (got a i) j k = refl
 follow-follow (bad n) j k = refl
 
 -- A word of the record is one of the lent words, in front of the end.
-pub taken-inside : (w : List ℕ) (end : ℕ) {at : ℕ} → at < length (take end w) → (at < end) × (at < length w)
-taken-inside w end h = (omega (arith, length-take end w), omega (arith, length-take end w))
-
 module _ (w : List ℕ) (end at : ℕ) where
   pub word-in : at < end → at < length w → got (getD w at 0) (at + 1) ≡ word (take end w) at
   unfolding word
@@ -68,9 +66,6 @@ module _ (low high : ℕ) (ws : List ℕ) (at : ℕ) where
   unfolding within
   within-in {n} h l m = rw (h, le-leb low n l, le-leb n high m)
 
-left : (n k : ℕ) → k < n → n - k ≡ suc (n - (k + 1))
-left n k l = omega arith
-
 pub next-of : {A : Type 0} (r : Read A) {e : ℕ} → forget-value r ≡ got tt e → e ≡ next r
 next-of (got a i) h = cc
 next-of (bad m) h = absurd (clash (cc))
@@ -91,19 +86,16 @@ module _ {A : Type 0} {p : Reader A} {ws : List ℕ} {n from : ℕ} where
   going-next {k} {at} {e} g l h =
       record {
         bound = omega arith;
-        rest = g .rest ∙ ap (λ m. forget-value (many m p ws at)) (left n k l) ∙ many-step p ws (n - (k + 1)) at h;
+        rest = g .rest ∙ ap (λ m. forget-value (many m p ws at)) (one-less n k l) ∙ many-step p ws (n - (k + 1)) at h;
         place = next-of (p ws at) h ∙ ap (λ i. next (p ws i)) (g .place) ∙ ap (λ j. after j p ws from) (sym (add-one k));
       }
 
   pub going-stop : {k at m : ℕ} → Going p ws n from k at → k < n → forget-value (p ws at) ≡ bad m → bad m ≡ forget-value (many n p ws from)
-  going-stop {k} {at} {m} g l h = sym (g .rest ∙ ap (λ j. forget-value (many j p ws at)) (left n k l) ∙ many-stop p ws (n - (k + 1)) at h)
+  going-stop {k} {at} {m} g l h = sym (g .rest ∙ ap (λ j. forget-value (many j p ws at)) (one-less n k l) ∙ many-stop p ws (n - (k + 1)) at h)
 
   pub going-end : {k at : ℕ} → Going p ws n from k at → n ≤ k → got tt at ≡ forget-value (many n p ws from)
   unfolding many
-  going-end {k} {at} g l = sym (g .rest ∙ ap (λ j. forget-value (many j p ws at)) none)
-    where
-      none : n - k ≡ 0
-      none = omega arith
+  going-end {k} {at} g l = sym (g .rest ∙ ap (λ j. forget-value (many j p ws at)) (none-left n k l))
 
 module _ {A : Type 0} (low high : ℕ) (p : Reader A) (ws : List ℕ) (at : ℕ) where
   pub counted-stop : {m : ℕ} → within low high ws at ≡ bad m → bad m ≡ forget-value (counted low high p ws at)

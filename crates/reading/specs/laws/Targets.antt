@@ -1,6 +1,6 @@
 -- Distinct targets, counted by one scan over the words: a target counts if it does not stand before.
 use mathlib.Core.Path.{_≡_, refl, sym, ap, _∙_}
-use mathlib.Core.Bool.{Bool, true, false, _||_}
+use mathlib.Core.Bool.{Bool, true, false, _||_, or-true}
 use mathlib.Core.List.{List, [], _∷_, _++_}
 use Prim.Native.Nat.{ℕ, zero, suc, _+_, _≤_, _<_}
 use native.Mathlib.Omega.{arith}
@@ -8,9 +8,11 @@ use native.Mathlib.Numerals.{add-one}
 use lib.ListN.{length, getD, take}
 use lib.Seq.{getD-take}
 use lib.Dec.{eqb, leb}
-use borrow.Author.Tests.{eqb-true, leb-true, leb-false, eq-eqb, ne-eqb}
+use borrow.Author.Tests.{leb-true, leb-false, eq-eqb, ne-eqb}
 use Rattle.format.specs.Read.{got, word, many}
 use Rattle.meaning.specs.Lists.{is-in, pick, distinct-from}
+use Rattle.meaning.specs.facts.Members.{is-in-snoc}
+use Rattle.meaning.specs.facts.Distinct.{distinct-snoc}
 use Rattle.format.specs.laws.Readers.{part, got-value}
 use Rattle.reading.specs.Readings.{stands, first, firsts}
 use Rattle.reading.specs.laws.Parts.{word-parts}
@@ -34,56 +36,6 @@ firsts-end w from n k p q h = let same : k ≡ n = omega arith in rw same h
 unfoldable pub words-from : List ℕ → ℕ → ℕ → List ℕ
 words-from w from zero = []
 words-from w from (suc n) = words-from w from n ++ (getD w (from + n) 0 ∷ [])
-
-or-assoc : (a b c : Bool) → ((a || b) || c) ≡ (a || (b || c))
-or-assoc true b c = refl
-or-assoc false b c = refl
-
-or-true : (b : Bool) → (b || true) ≡ true
-or-true true = refl
-or-true false = refl
-
-or-false : (b : Bool) → (b || false) ≡ b
-or-false true = refl
-or-false false = refl
-
-is-in-snoc : (t u : ℕ) (ts : List ℕ) → is-in t (ts ++ (u ∷ [])) ≡ (is-in t ts || eqb t u)
-is-in-snoc t u [] = or-false (eqb t u)
-is-in-snoc t u (x ∷ ts) = ap (λ b. eqb t x || b) (is-in-snoc t u ts) ∙ sym (or-assoc (eqb t x) (is-in t ts) (eqb t u))
-
--- one target more
-distinct-snoc : (seen ts : List ℕ) (t : ℕ) → length (distinct-from seen (ts ++ (t ∷ []))) ≡ length (distinct-from seen ts) + pick
-    (is-in t seen || is-in t ts) 0 1
-unfolding distinct-from
-distinct-snoc seen [] t = by-test (is-in t seen)
-  where
-    by-test : (b : Bool) → length {A = ℕ} (elim b [ true ↦ [] | false ↦ t ∷ [] ]) ≡ 0 + pick (b || false) 0 1
-    by-test true = refl
-    by-test false = refl
-distinct-snoc seen (x ∷ ts) t = by-test (is-in x seen) refl (λ more. distinct-snoc more ts t)
-  where
-    -- x stood before: t is not in doubt for x alone
-    covered : is-in x seen ≡ true → (b : Bool) → eqb t x ≡ b → (is-in t seen || is-in t ts) ≡ (is-in t seen || (b || is-in t ts))
-    covered h true q = let same : t ≡ x = eqb-true t x q in rw (same, h)
-    covered h false q = refl
-
-    shuffle : (a b d : Bool) → ((a || b) || d) ≡ (b || (a || d))
-    shuffle true true d = refl
-    shuffle true false d = refl
-    shuffle false true d = refl
-    shuffle false false d = refl
-
-    by-test : (b : Bool) → is-in x seen ≡ b → ((more : List ℕ)
-        → length (distinct-from more (ts ++ (t ∷ []))) ≡ length (distinct-from more ts) + pick (is-in t more || is-in t ts) 0 1)
-        → length {A = ℕ} (elim b [ true ↦ distinct-from seen (ts ++ (t ∷ [])) | false ↦ x ∷ distinct-from (x ∷ seen) (ts ++ (t ∷ [])) ])
-        ≡ length {A = ℕ} (elim b [ true ↦ distinct-from seen ts | false ↦ x ∷ distinct-from (x ∷ seen) ts ]) + pick
-        (is-in t seen || (eqb t x || is-in t ts)) 0 1
-    by-test true h rest = rest seen ∙ ap (λ b. length (distinct-from seen ts) + pick b 0 1) (covered h (eqb t x) refl)
-    by-test false h rest =
-        let deeper = ap suc (rest (x ∷ seen)) in
-        let sorted : pick {A = ℕ} ((eqb t x || is-in t seen) || is-in t ts) 0 1 ≡ pick (is-in t seen || (eqb t x || is-in t ts)) 0 1 =
-        ap (λ b. pick b 0 1) (shuffle (eqb t x) (is-in t seen) (is-in t ts)) in
-        deeper ∙ omega (arith, sorted)
 
 stands-in : (w : List ℕ) (from t n : ℕ) → stands w from t n ≡ is-in t (words-from w from n)
 unfolding stands words-from

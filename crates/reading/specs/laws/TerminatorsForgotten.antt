@@ -11,7 +11,8 @@ use Rattle.format.specs.Read.{fewest-targets, most-targets, edges-passed, contr
 use Rattle.format.specs.Places.{forget-value}
 use Rattle.meaning.specs.facts.Tests.{clash}
 use Rattle.format.specs.laws.Readers.{got-place}
-use Rattle.reading.specs.laws.Forgotten.{forget-value-follow, forget-value-given, follow-forget-value, follow-follow, taken-inside}
+use Rattle.reading.specs.laws.Forgotten.{forget-value-follow, forget-value-given, follow-forget-value, follow-follow}
+use Rattle.meaning.specs.facts.Parts.{taken-inside}
 use Rattle.reading.specs.Readings.{firsts, edges-lists, operands-read}
 use Rattle.reading.specs.laws.Targets.{firsts-distinct, firsts-taken, many-words, words-inside}
 use Rattle.meaning.specs.Lists.{distinct-from}

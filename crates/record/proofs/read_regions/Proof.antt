@@ -4,7 +4,7 @@ use Prim.Native.Nat.{_-_}
 use native.Mathlib.Omega.{arith}
 use borrow.Author.Needs.{needs}
 use Rattle.reading.specs.laws.AnswerSteps.{step-read}
-use Rattle.reading.specs.laws.Forgotten.{taken-inside}
+use Rattle.meaning.specs.facts.Parts.{taken-inside}
 use Rattle.record.specs.laws.RegionsForgotten.{region-inside}
 use Rattle.record.specs.laws.IndexSteps.{RegionsGoing, regions-start, regions-next, regions-refused, regions-read, regions-left}
 use Rattle.record.proofs.read_regions.Statement.{statement}

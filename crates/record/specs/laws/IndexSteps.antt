@@ -10,6 +10,7 @@ use lib.Seq.{take-take, length-take-le}
 use lib.Dec.{ltb}
 use borrow.Author.Tests.{eq-eqb, ne-eqb, ltb-true, ltb-false}
 use Rattle.meaning.specs.Graph.{Region}
+use Rattle.meaning.specs.facts.Numbers.{one-less, none-left}
 use Rattle.format.specs.Store.{Answer, accepted, refused, if-accepted}
 use Rattle.format.specs.Read.{Read, got, bad, read-region, block, word-for, settle, regions-from}
 use Rattle.format.specs.Places.{next, forget-value, after, block-of-region, limit-of-region, exits-of-region}
@@ -158,9 +159,6 @@ module _ (n count from : ℕ) (old : List ℕ) where
     same-words : take count mid ≡ take count old
     same-words = kept-words old mid count small (g .kept)
 
-    one-more : n - r ≡ suc (n - (r + 1))
-    one-more = omega arith
-
     pub regions-next : {e : Cursor} (new : List ℕ) → n ≤ 32 → x .step ≡ At e → Row mid new (index-at r) row-words (row-of (c .at) x)
         → RegionsGoing n count from old (r + 1) (e .at) new
     unfolding after
@@ -172,7 +170,7 @@ module _ (n count from : ℕ) (old : List ℕ) where
         record {
           bound = omega arith;
           rest =
-              g .rest ∙ ap (λ k. forget (regions-from k r ws at)) one-more ∙ regions-step (n - (r + 1)) r ws at whole
+              g .rest ∙ ap (λ k. forget (regions-from k r ws at)) (one-less n r turn) ∙ regions-step (n - (r + 1)) r ws at whole
               ∙ ap (λ k. forget (regions-from (n - (r + 1)) k ws (e .at))) (sym (add-one r));
           place =
               next-of (read-region ws at) whole ∙ ap (λ i. next (read-region ws i)) (g .place)
@@ -196,13 +194,10 @@ module _ (n count from : ℕ) (old : List ℕ) where
         let at = c .at in
         let stop : forget-value (read-region ws at) ≡ bad m = rw same-words at (step-refused read-region mid c ends (read .step) step) in
         let answer : forget (regions-from n 0 ws from) ≡ refused m (word-for m r) = g .rest
-        ∙ ap (λ k. forget (regions-from k r ws at)) one-more ∙ regions-stop (n - (r + 1)) r ws at stop in
+        ∙ ap (λ k. forget (regions-from k r ws at)) (one-less n r turn) ∙ regions-stop (n - (r + 1)) r ws at stop in
         record { answer = told ∙ sym answer; index = λ rs q. never (regions-from n 0 ws from) answer q; kept = g .kept }
 
   module _ {r at : ℕ} {mid : List ℕ} (g : RegionsGoing n count from old r at mid) (over : n ≤ r) (fits : count ≤ length old) where
-    none-left : n - r ≡ 0
-    none-left = omega arith
-
     long : length (take count old) ≡ count
     long = length-take-le count old fits
 
@@ -211,7 +206,7 @@ module _ (n count from : ℕ) (old : List ℕ) where
         record {
           answer =
               regions-end r (take count old) at (h ∙ sym long) ∙ sym
-              (g .rest ∙ ap (λ k. forget (regions-from k r (take count old) at)) none-left);
+              (g .rest ∙ ap (λ k. forget (regions-from k r (take count old) at)) (none-left n r over));
           index = λ rs q k below. g .index k (omega arith);
           kept = g .kept;
         }
@@ -220,5 +215,5 @@ module _ (n count from : ℕ) (old : List ℕ) where
     regions-left h =
         let ws = take count old in
         let answer : refused 4 0 ≡ forget (regions-from n 0 ws from) = regions-over r ws at (λ q. h (q ∙ long))
-        ∙ sym (g .rest ∙ ap (λ k. forget (regions-from k r ws at)) none-left) in
+        ∙ sym (g .rest ∙ ap (λ k. forget (regions-from k r ws at)) (none-left n r over)) in
         record { answer = answer; index = λ rs q. never (regions-from n 0 ws from) (sym answer) q; kept = g .kept }

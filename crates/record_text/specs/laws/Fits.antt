@@ -1,17 +1,16 @@
 -- Every accepted record's listing fits into 65,536 bytes: a record has at most 4,048 words, and 16 bytes a word are enough.
-use mathlib.Core.Path.{_≡_, refl, sym, ap, _∙_}
-use mathlib.Core.List.{List, [], _∷_, _++_}
-use Prim.Native.Nat.{ℕ, zero, suc, _+_, _≤_, _<_}
+use mathlib.Core.Path.{_≡_, refl, sym, _∙_}
+use mathlib.Core.List.{List}
+use Prim.Native.Nat.{ℕ, _≤_, _<_}
 use native.Mathlib.Omega.{arith}
 use lib.ListN.{length, getD, length-append}
 use Rattle.meaning.specs.Graph.{Graph}
-use Rattle.format.specs.Store.{Answer, accepted, refused, pair, word-at, store-words}
+use Rattle.format.specs.Store.{Answer, accepted, refused, word-at, store-words}
 use Rattle.format.specs.Read.{read-record}
 use Rattle.format.specs.References.{references}
 use Rattle.format.specs.Accept.{accept}
 use Rattle.store.specs.Layout.{record-end}
-use Rattle.store.specs.Loaded.{words-counted}
-use Rattle.store.proofs.Store.{holds}
+use Rattle.format.specs.laws.Stores.{AllBytes, words-small, holds}
 use Rattle.record.specs.laws.Parts.{then, accepted-value}
 use Rattle.text.specs.laws.Lengths.{five-digits}
 use Rattle.record_text.specs.Listing.{listing-of, refusal-text, shown-text}
@@ -19,30 +18,10 @@ use Rattle.record_text.specs.laws.ItemBytes.{Small}
 use Rattle.record_text.specs.laws.RegionBytes.{listing-enough}
 use Rattle.format.specs.laws.Refusals.{InRange, refusal-range}
 use Rattle.meaning.specs.Lists.{tabulate}
-
--- Each is a byte.
-abbrev pub AllBytes : List ℕ → Type 0
-AllBytes s = (k : ℕ) → getD s k 0 < 256
+use Rattle.meaning.specs.facts.Elements.{all-getD}
 
 abbrev AllSmall : List ℕ → Type 0
 AllSmall ws = (k : ℕ) → Small (getD ws k 0)
-
-append-small : (xs ys : List ℕ) → AllSmall xs → AllSmall ys → AllSmall (xs ++ ys)
-append-small [] ys p q k = q k
-append-small (x ∷ xs) ys p q zero = p zero
-append-small (x ∷ xs) ys p q (suc k) = append-small xs ys (λ j. p (suc j)) q k
-
-tabulate-small : (n : ℕ) (f : ℕ → ℕ) → ((j : ℕ) → Small (f j)) → AllSmall (tabulate n f)
-unfolding tabulate
-tabulate-small zero f h k = omega arith
-tabulate-small (suc n) f h k = append-small (tabulate n f) (f n ∷ []) (tabulate-small n f h) last k
-  where
-    last : AllSmall (f n ∷ [])
-    last zero = h n
-    last (suc k) = omega arith
-
-pair-small : (s : List ℕ) → AllBytes s → (at : ℕ) → Small (pair s at)
-pair-small s bytes at = omega (arith, bytes at, bytes (at + 1))
 
 -- The words of a store of bytes.
 record FewWords (ws : List ℕ) : Type 0 where
@@ -51,11 +30,11 @@ record FewWords (ws : List ℕ) : Type 0 where
 
 few-words : (s ws : List ℕ) → AllBytes s → store-words s ≡ accepted ws → FewWords ws
 few-words s ws bytes h =
-    let a = holds s (length ws) (ap words-counted (sym h)) in
+    let a = holds s ws h in
     let is : ws ≡ tabulate (length ws) (word-at s) = accepted-value (sym h ∙ a .words) in
     record {
       few = omega (arith, a .within, a .short);
-      small = rw is (tabulate-small (length ws) (word-at s) λ j. pair-small s bytes _);
+      small = rw is (all-getD Small 0 (omega arith) (tabulate (length ws) (word-at s)) (words-small s bytes (length ws)));
     }
 
 pub listing-fits : (s : List ℕ) → AllBytes s → (g : Graph) → accept s ≡ accepted g → length (listing-of g) ≤ 65536

@@ -1,6 +1,6 @@
 -- The pass lines of a terminator and the lists of values that it was read with: each list stands in one line.
 use mathlib.Core.Path.{_≡_, refl, sym, ap, _∙_}
-use mathlib.Core.Bool.{Bool, true, false, _||_}
+use mathlib.Core.Bool.{Bool, true, false}
 use mathlib.Core.List.{List, [], _∷_, map}
 use Prim.Native.Nat.{ℕ, _+_, _≤_}
 use native.Mathlib.Omega.{arith}
@@ -11,32 +11,8 @@ use Rattle.meaning.specs.Graph.{Value, Edge}
 use Rattle.meaning.specs.Lists.{total, is-in, Distinct, distinct-from, rank}
 use Rattle.format.specs.Read.{edges-passed}
 use Rattle.format.specs.References.{first-edges}
-use Rattle.meaning.specs.facts.Tests.{clash, neither}
-use Rattle.fields.specs.laws.Targets.{distinct-again, distinct-new, rank-here, rank-next}
-
--- What stood before does not come again.
-not-again : (ts seen : List ℕ) (x : ℕ) → is-in x seen ≡ true → is-in x (distinct-from seen ts) ≡ false
-unfolding distinct-from
-not-again [] seen x h = refl
-not-again (t ∷ ts) seen x h = by-test (is-in t seen) refl (not-again ts seen x h) (not-again ts (t ∷ seen) x)
-  where
-    by-test : (b : Bool) → is-in t seen ≡ b → is-in x (distinct-from seen ts) ≡ false
-        → (is-in x (t ∷ seen) ≡ true → is-in x (distinct-from (t ∷ seen) ts) ≡ false) → is-in x (distinct-from seen (t ∷ ts)) ≡ false
-    by-test true q again new = ap (is-in x) (distinct-again seen t ts q) ∙ again
-    by-test false q again new =
-        let apart : eqb x t ≡ false = ne-eqb x t (λ e. let z = ap (λ y. is-in y seen) e in clash (cc)) in
-        ap (is-in x) (distinct-new seen t ts q) ∙ rw apart (new (rw apart h))
-
-distinct : (ts seen : List ℕ) → Distinct (distinct-from seen ts)
-unfolding distinct-from
-distinct [] seen = tt
-distinct (t ∷ ts) seen = by-test (is-in t seen) refl (distinct ts seen) (distinct ts (t ∷ seen))
-  where
-    by-test : (b : Bool) → is-in t seen ≡ b → Distinct (distinct-from seen ts) → Distinct (distinct-from (t ∷ seen) ts)
-        → Distinct (distinct-from seen (t ∷ ts))
-    by-test true q again new = rw (distinct-again seen t ts q) again
-    by-test false q again new =
-        rw (distinct-new seen t ts q) (not-again ts (t ∷ seen) t (ap (λ b. b || is-in t seen) (eq-eqb t t refl)), new)
+use Rattle.meaning.specs.facts.Tests.{neither}
+use Rattle.meaning.specs.facts.Distinct.{distinct, rank-here, rank-next}
 
 -- The edges to the targets that stand for the first time.
 module _ (passed : ℕ → List Value) where

@@ -1,18 +1,18 @@
 -- The pass lines by the places of the targets: a target that stood before has none.
 use mathlib.Core.Path.{_≡_, refl, sym, ap, _∙_}
-use mathlib.Core.Bool.{Bool, true, false, _||_}
-use mathlib.Core.List.{List, [], _∷_, _++_, map}
+use mathlib.Core.Bool.{Bool, true, false}
+use mathlib.Core.List.{List, _∷_, _++_, map}
 use Prim.Native.Nat.{ℕ, suc, _+_, _≤_, _<_}
 use native.Mathlib.Numerals.{add-one}
 use native.Mathlib.Omega.{arith}
 use lib.ListN.{length, getD, drop, drop-of-length-le, length-map, List·getD-map}
 use lib.Seq.{drop-cons}
-use lib.Dec.{eqb}
-use borrow.Author.Tests.{eqb-true}
 use Rattle.meaning.specs.Graph.{Edge, no-edge}
 use Rattle.meaning.specs.Text.{Text}
 use Rattle.meaning.specs.Lists.{is-in}
+use Rattle.meaning.specs.facts.Members.{seen-twice}
 use Rattle.format.specs.References.{first-edges}
+use Rattle.format.specs.laws.FirstEdges.{edges-again, edges-new, same-members}
 use Rattle.fields.specs.ByNumber.{before, stands-before}
 use Rattle.fields.specs.laws.Repeats.{stands-within}
 use Rattle.text.specs.Text.{text-of-each}
@@ -28,45 +28,14 @@ unfoldable pub passes-from : List Edge → ℕ → Text
 unfolding text-of-each pass-text first-edges before
 passes-from es j = text-of-each pass-text (first-edges (before (pass-targets es) j) (drop j es))
 
--- One step of first-edges, by whether the target stood before.
-abbrev step : Bool → Edge → List Edge → List Edge → List Edge
-step again e skipped rest = elim again [ true ↦ skipped | false ↦ e ∷ rest ]
-
-first-step : (seen : List ℕ) (e : Edge) (es : List Edge)
-    → first-edges seen (e ∷ es) ≡ step (is-in (e .target) seen) e (first-edges seen es) (first-edges (e .target ∷ seen) es)
-unfolding first-edges
-first-step seen e es = refl
-
-abbrev Same : List ℕ → List ℕ → Type 0
-Same a b = (x : ℕ) → is-in x a ≡ is-in x b
-
-same-edges : (es : List Edge) (a b : List ℕ) → Same a b → first-edges a es ≡ first-edges b es
-unfolding first-edges
-same-edges [] a b h = refl
-same-edges (e ∷ es) a b h =
-    let t = e .target in
-    first-step a e es
-    ∙ ap (λ x. step x e (first-edges a es) (first-edges (t ∷ a) es)) (h t)
-    ∙ ap (λ x. step (is-in t b) e x (first-edges (t ∷ a) es)) (same-edges es a b h)
-    ∙ ap (step (is-in t b) e (first-edges b es)) (same-edges es (t ∷ a) (t ∷ b) (λ x. ap (λ y. eqb x t || y) (h x)))
-    ∙ sym (first-step b e es)
-
--- What stood already may be named again.
-named-again : (t : ℕ) (seen : List ℕ) → is-in t seen ≡ true → Same seen (t ∷ seen)
-named-again t seen h x = by-test (eqb x t) refl
-  where
-    by-test : (b : Bool) → eqb x t ≡ b → is-in x seen ≡ (eqb x t || is-in x seen)
-    by-test true e = ap (λ y. is-in y seen) (eqb-true x t e) ∙ h ∙ sym (ap (λ y. y || is-in x seen) e)
-    by-test false e = sym (ap (λ y. y || is-in x seen) e)
-
+-- One edge more: it has a line unless its target stood before.
 first-by : (again : Bool) (seen : List ℕ) (e : Edge) (es : List Edge) → is-in (e .target) seen ≡ again
     → text-of-each pass-text (first-edges seen (e ∷ es)) ≡ pass-once again e ++ text-of-each pass-text (first-edges (e .target ∷ seen) es)
 unfolding text-of-each pass-once
 first-by true seen e es h =
-    ap (text-of-each pass-text) (first-step seen e es ∙ ap (λ x. step x e (first-edges seen es) (first-edges (e .target ∷ seen) es)) h
-    ∙ same-edges es seen (e .target ∷ seen) (named-again (e .target) seen h))
-first-by false seen e es h =
-    ap (text-of-each pass-text) (first-step seen e es ∙ ap (λ x. step x e (first-edges seen es) (first-edges (e .target ∷ seen) es)) h)
+    ap (text-of-each pass-text) (edges-again seen e es h ∙ same-members es seen (e .target ∷ seen)
+    (λ x. sym (seen-twice x (e .target) seen h)))
+first-by false seen e es h = ap (text-of-each pass-text) (edges-new seen e es h)
 
 target-at : (es : List Edge) (j : ℕ) → getD (pass-targets es) j 0 ≡ getD es j no-edge .target
 target-at es j = List·getD-map (λ e. e .target) es j no-edge

@@ -2,7 +2,7 @@ use borrow.Author.Needs.{needs}
 use Rattle.references.proofs.edge_right.Statement.{statement}
 use Rattle.references.proofs.edge_right.Tie as tie
 use mathlib.Core.Path.{sym, _∙_}
-use Rattle.fields.specs.laws.Picks.{picked, passed-over}
+use Rattle.meaning.specs.facts.Tests.{picked, passed-over}
 
 target-again-requires : tie.Need-target-again-requires
 target-again-requires c κs = search needs

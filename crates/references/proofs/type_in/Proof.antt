@@ -2,9 +2,8 @@ use borrow.Author.Needs.{needs}
 use Rattle.references.proofs.type_in.Statement.{statement}
 use Rattle.references.proofs.type_in.Tie as tie
 use mathlib.Core.Path.{_∙_}
-use Rattle.fields.specs.laws.Picks.{picked, passed-over}
+use Rattle.meaning.specs.facts.Tests.{picked, passed-over, both-true, first-false, second-false}
 use borrow.Author.Tests.{eq-eqb, ne-eqb, lt-ltb, le-ltb}
-use Rattle.references.specs.laws.Steps.{both-true, first-false, second-false}
 
 enum-known-v : tie.Need-enum-known-v
 enum-known-v c = search needs

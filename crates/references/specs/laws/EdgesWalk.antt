@@ -1,45 +1,21 @@
 -- The walk over a terminator's edges, each target once, by its first standing.
 use mathlib.Core.Path.{_≡_, refl, sym, ap, _∙_}
-use mathlib.Core.Bool.{Bool, true, false, _||_}
-use mathlib.Core.List.{List, [], _∷_, map}
+use mathlib.Core.Bool.{Bool, true, false}
+use mathlib.Core.List.{List, _∷_, map}
 use Prim.Native.Nat.{ℕ, _+_, _<_}
 use native.Mathlib.Numerals.{add-one}
 use native.Mathlib.Omega.{arith}
 use lib.ListN.{length, getD, drop, length-map, List·getD-map}
-use lib.Dec.{eqb}
 use Rattle.meaning.specs.Graph.{Edge, no-edge}
 use Rattle.format.specs.Store.{Answer, accepted, if-accepted}
 use Rattle.meaning.specs.Lists.{is-in, pick}
 use Rattle.format.specs.References.{first-refusal, first-edges}
+use Rattle.format.specs.laws.FirstEdges.{edges-again, edges-new, same-members}
 use Rattle.fields.specs.ByNumber.{before, stands-before}
 use Rattle.fields.specs.laws.Repeats.{stands-within}
-use Rattle.fields.specs.laws.Targets.{seen-twice}
+use Rattle.meaning.specs.facts.Parts.{from-place, none-from}
+use Rattle.meaning.specs.facts.Members.{seen-twice}
 use Rattle.references.specs.laws.Walk.{Walk}
-use Rattle.references.specs.laws.Walks.{from, none-from}
-
--- One edge more.
-edges-again : (seen : List ℕ) (e : Edge) (es : List Edge) → is-in (e .target) seen ≡ true → first-edges seen (e ∷ es) ≡ first-edges seen es
-unfolding first-edges
-edges-again seen e es h = rw (h, first-edges)
-
-edges-new : (seen : List ℕ) (e : Edge) (es : List Edge) → is-in (e .target) seen ≡ false
-    → first-edges seen (e ∷ es) ≡ e ∷ first-edges (e .target ∷ seen) es
-unfolding first-edges
-edges-new seen e es h = rw (h, first-edges)
-
--- What stood before counts by its members alone.
-same-members : (es : List Edge) (seen other : List ℕ) → ((x : ℕ) → is-in x seen ≡ is-in x other)
-    → first-edges seen es ≡ first-edges other es
-unfolding first-edges
-same-members [] seen other same = refl
-same-members (e ∷ es) seen other same =
-    by-test (is-in (e .target) seen) refl (same-members es seen other same)
-    (same-members es (e .target ∷ seen) (e .target ∷ other) (λ x. ap (λ b. eqb x (e .target) || b) (same x)))
-  where
-    by-test : (b : Bool) → is-in (e .target) seen ≡ b → first-edges seen es ≡ first-edges other es
-        → first-edges (e .target ∷ seen) es ≡ first-edges (e .target ∷ other) es → first-edges seen (e ∷ es) ≡ first-edges other (e ∷ es)
-    by-test true q again new = edges-again seen e es q ∙ again ∙ sym (edges-again other e es (sym (same (e .target)) ∙ q))
-    by-test false q again new = edges-new seen e es q ∙ ap (λ l. e ∷ l) new ∙ sym (edges-new other e es (sym (same (e .target)) ∙ q))
 
 module _ (f : Edge → Answer Unit) (es : List Edge) {m : ℕ} (size : m ≡ length es) where
   pub edges-walk : Walk (λ k. first-refusal f (first-edges (before (map (λ e. e .target) es) k) (drop k es)))
@@ -70,7 +46,7 @@ module _ (f : Edge → Answer Unit) (es : List Edge) {m : ℕ} (size : m ≡ len
           (λ _. first-refusal f (first-edges (before ts (k + 1)) (drop (k + 1) es)))
       by-test k l true q =
           let known : is-in (getD es k no-edge .target) (before ts k) ≡ true = ap (λ t. is-in t (before ts k)) (sym (target k)) ∙ q in
-          ap (λ us. first-refusal f (first-edges (before ts k) us)) (from es no-edge size k l)
+          ap (λ us. first-refusal f (first-edges (before ts k) us)) (from-place es no-edge size k l)
           ∙ ap (first-refusal f) (edges-again (before ts k) (getD es k no-edge) (drop (k + 1) es) known)
           ∙ ap (first-refusal f) (same-members (drop (k + 1) es) (before ts k) (before ts (k + 1))
           (λ x. sym (seen-twice x (getD ts k 0) (before ts k) q) ∙ ap (is-in x) (next k)))
@@ -78,7 +54,7 @@ module _ (f : Edge → Answer Unit) (es : List Edge) {m : ℕ} (size : m ≡ len
           (λ _. first-refusal f (first-edges (before ts (k + 1)) (drop (k + 1) es)))) q)
       by-test k l false q =
           let known : is-in (getD es k no-edge .target) (before ts k) ≡ false = ap (λ t. is-in t (before ts k)) (sym (target k)) ∙ q in
-          ap (λ us. first-refusal f (first-edges (before ts k) us)) (from es no-edge size k l)
+          ap (λ us. first-refusal f (first-edges (before ts k) us)) (from-place es no-edge size k l)
           ∙ ap (first-refusal f) (edges-new (before ts k) (getD es k no-edge) (drop (k + 1) es) known)
           ∙ ap (λ seen. if-accepted (f (getD es k no-edge)) (λ _. first-refusal f (first-edges seen (drop (k + 1) es))))
           (ap (λ t. t ∷ before ts k) (sym (target k)) ∙ next k)

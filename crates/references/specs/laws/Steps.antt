@@ -1,6 +1,6 @@
 -- Steps of the references that the code takes apart: blocks in turn, the first Return, values against types.
 use mathlib.Core.Path.{_≡_, sym, ap, _∙_}
-use mathlib.Core.Bool.{Bool, true, false, _&&_, not}
+use mathlib.Core.Bool.{Bool, true, false, not}
 use mathlib.Core.List.{List, [], _∷_, _++_}
 use Prim.Native.Nat.{ℕ, suc, _+_, _≤_, _<_}
 use native.Mathlib.Omega.{arith}
@@ -17,7 +17,8 @@ use Rattle.format.specs.References.{values-right, target-right, edge-right, fir
 use Rattle.fields.specs.ByNumber.{stands-before}
 use Rattle.references.specs.laws.Walk.{then-then, then-accepted, walk-refused, then-rest}
 use Rattle.references.specs.Checks.{typed}
-use Rattle.references.specs.laws.Walks.{from, none-from, exit-right}
+use Rattle.references.specs.laws.Walks.{exit-right}
+use Rattle.meaning.specs.facts.Parts.{from-place, none-from}
 
 -- A test that fails refuses, one that holds does not.
 pub refused-unless : (n r : ℕ) {t : Bool} → t ≡ false → refused n r ≡ refuse-unless n r t
@@ -25,16 +26,6 @@ refused-unless n r h = sym (ap (refuse-unless n r) h)
 
 pub accepted-if : (n r : ℕ) {t : Bool} → t ≡ true → accepted tt ≡ refuse-unless n r t
 accepted-if n r h = sym (ap (refuse-unless n r) h)
-
--- Two tests at once.
-pub both-true : {a b : Bool} → a ≡ true → b ≡ true → (a && b) ≡ true
-both-true {a} {b} p q = ap (λ x. x && b) p ∙ q
-
-pub first-false : {a : Bool} (b : Bool) → a ≡ false → (a && b) ≡ false
-first-false b p = ap (λ x. x && b) p
-
-pub second-false : {a b : Bool} → a ≡ true → b ≡ false → (a && b) ≡ false
-second-false {a} {b} p q = ap (λ x. x && b) p ∙ q
 
 -- The verdict on a value, by its type x.
 module _ (g : Graph) (r before : ℕ) (v : Value) {x : ℕ} (is : x ≡ type-in g r before v) where
@@ -86,7 +77,7 @@ module _ (g : Graph) (r : ℕ) where
         (λ _. reads-right g r (first + length (getD bs b [])) (instructions (drop (b + 1) bs)))
     unfolding instructions
     reads-from l =
-        ap (λ xs. reads-right g r first (instructions xs)) (from bs [] size b l)
+        ap (λ xs. reads-right g r first (instructions xs)) (from-place bs [] size b l)
         ∙ reads-append first (getD bs b []) (instructions (drop (b + 1) bs))
 
     pub block-passes : b < n → reads-right g r first (instructions (drop b bs)) ≡ whole → accepted tt ≡ reads-right g r first (getD bs b [])
@@ -172,12 +163,12 @@ first-later x xs h = rw (h, first-return)
 module _ (rs : List Region) {n : ℕ} (size : n ≡ length rs) (q : ℕ) where
   pub return-here : q < n → is-return (getD rs q nowhere .terminator) ≡ true → q + first-return (drop q rs) ≡ first-return rs
       → q ≡ first-return rs
-  return-here l h e = let here : first-return (drop q rs) ≡ 0 = ap first-return (from rs nowhere size q l) ∙ first-here _ _ h in omega arith
+  return-here l h e = let here : first-return (drop q rs) ≡ 0 = ap first-return (from-place rs nowhere size q l) ∙ first-here _ _ h in omega arith
 
   pub return-later : q < n → is-return (getD rs q nowhere .terminator) ≡ false → q + first-return (drop q rs) ≡ first-return rs
       → q + 1 + first-return (drop (q + 1) rs) ≡ first-return rs
   return-later l h e =
-      let later : first-return (drop q rs) ≡ suc (first-return (drop (q + 1) rs)) = ap first-return (from rs nowhere size q l)
+      let later : first-return (drop q rs) ≡ suc (first-return (drop (q + 1) rs)) = ap first-return (from-place rs nowhere size q l)
       ∙ first-later _ _ h in omega arith
 
   pub no-return : n ≤ q → q + first-return (drop q rs) ≡ first-return rs → q ≡ first-return rs

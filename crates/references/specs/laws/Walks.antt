@@ -1,15 +1,15 @@
 -- The walks of the references: reads, typed values, targets, edges, exits, regions.
 use mathlib.Core.Path.{_≡_, sym, ap, _∙_}
 use mathlib.Core.Bool.{not}
-use mathlib.Core.List.{List, [], _∷_}
-use Prim.Native.Nat.{ℕ, suc, _+_, _≤_, _<_}
+use mathlib.Core.List.{List, _∷_}
+use Prim.Native.Nat.{ℕ, suc, _+_}
 use native.Mathlib.Omega.{arith}
 use native.Mathlib.Numerals.{add-one}
-use lib.ListN.{length, getD, drop, drop-of-length-le}
-use lib.Seq.{drop-cons}
+use lib.ListN.{length, getD, drop}
 use Rattle.meaning.specs.Graph.{Graph, Value, no-value, Instr, region, nowhere}
 use Rattle.format.specs.Store.{Answer, if-accepted}
 use Rattle.meaning.specs.Lists.{is-in}
+use Rattle.meaning.specs.facts.Parts.{from-place, none-from}
 use Rattle.format.specs.References.{no-instr, behind-all, refuse-unless, first-refusal, is-region, named-right, of-type, reads-right}
 use Rattle.format.specs.References.{types-right, exits-right, region-right, regions-right}
 use Rattle.fields.specs.ByNumber.{before, stands-before}
@@ -19,15 +19,13 @@ use Rattle.references.specs.laws.Walk.{Walk, then-then}
 
 -- The items from place k on.
 module _ {A : Type 0} (xs : List A) (d : A) {m : ℕ} (size : m ≡ length xs) where
-  pub from : (k : ℕ) → k < m → drop k xs ≡ getD xs k d ∷ drop (k + 1) xs
-  from k l = drop-cons xs k d (omega arith) ∙ ap (λ j. getD xs k d ∷ drop j xs) (sym (add-one k))
-
-  pub none-from : (k : ℕ) → m ≤ k → drop k xs ≡ []
-  none-from k l = drop-of-length-le xs {i = k} (omega arith)
-
   pub each-walk : (f : A → Answer Unit) → Walk (λ k. first-refusal f (drop k xs)) (λ k. f (getD xs k d)) m
   unfolding first-refusal
-  each-walk f = record { more = λ k l. ap (first-refusal f) (from k l); done = λ k l. ap (first-refusal f) (none-from k l) }
+  each-walk f =
+      record {
+        more = λ k l. ap (first-refusal f) (from-place xs d size k l);
+        done = λ k l. ap (first-refusal f) (none-from xs d size k l);
+      }
 
 module _ (g : Graph) (r : ℕ) where
   pub reads-walk : (first : ℕ) (xs : List Instr) {m : ℕ} → m ≡ length xs
@@ -36,7 +34,7 @@ module _ (g : Graph) (r : ℕ) where
   reads-walk first xs size =
       record {
         more = λ k l. let next : suc (first + k) ≡ first + (k + 1) = omega arith in
-            ap (reads-right g r (first + k)) (from xs no-instr size k l)
+            ap (reads-right g r (first + k)) (from-place xs no-instr size k l)
             ∙ ap (λ j. if-accepted (first-refusal (named-right g r (first + k)) (getD xs k no-instr .reads))
             (λ _. reads-right g r j (drop (k + 1) xs))) next;
         done = λ k l. ap (reads-right g r (first + k)) (none-from xs no-instr size k l);
@@ -48,8 +46,8 @@ module _ (g : Graph) (r : ℕ) where
   types-walk ts vs sizes size =
       record {
         more = λ k l.
-            ap (λ us. types-right g r us (drop k vs)) (from ts 0 sizes k l)
-            ∙ ap (types-right g r (getD ts k 0 ∷ drop (k + 1) ts)) (from vs no-value size k l)
+            ap (λ us. types-right g r us (drop k vs)) (from-place ts 0 sizes k l)
+            ∙ ap (types-right g r (getD ts k 0 ∷ drop (k + 1) ts)) (from-place vs no-value size k l)
             ∙ then-then (named-right g r (behind-all g r) (getD vs k no-value)) (λ _. of-type g r (getD ts k 0) (getD vs k no-value))
             (λ _. types-right g r (drop (k + 1) ts) (drop (k + 1) vs));
         done = λ k l. ap (λ us. types-right g r us (drop k vs)) (none-from ts 0 sizes k l);
@@ -64,7 +62,7 @@ module _ (g : Graph) (r : ℕ) where
   exits-walk xs size =
       record {
         more = λ k l.
-            ap (exits-right g r (before xs k)) (from xs 0 size k l)
+            ap (exits-right g r (before xs k)) (from-place xs 0 size k l)
             ∙ then-then (refuse-unless 6 r (is-region g (getD xs k 0))) (λ _. refuse-unless 8 r (not (is-in (getD xs k 0) (before xs k))))
             (λ _. exits-right g r (getD xs k 0 ∷ before xs k) (drop (k + 1) xs))
             ∙ ap (λ j. if-accepted (if-accepted (refuse-unless 6 r (is-region g (getD xs k 0))) λ _. refuse-unless 8 r
@@ -80,7 +78,7 @@ unfolding regions-right
 regions-walk g size =
     record {
       more = λ k l.
-          ap (regions-right g k) (from (g .regions) nowhere size k l)
+          ap (regions-right g k) (from-place (g .regions) nowhere size k l)
           ∙ ap (λ j. if-accepted (region-right g k (region g k)) (λ _. regions-right g j (drop (k + 1) (g .regions)))) (sym (add-one k));
       done = λ k l. ap (regions-right g k) (none-from (g .regions) nowhere size k l);
     }

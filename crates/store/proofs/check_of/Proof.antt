@@ -3,7 +3,7 @@ use Prim.Native.Nat.{_+_, _*_, _-_, _≤_}
 use native.Mathlib.Omega.{arith}
 use lib.ListN.{getD}
 use Rattle.format.specs.Store.{weighted}
-use Rattle.store.proofs.Blocks.{weight-bound, weighted-more}
+use Rattle.format.specs.laws.Stores.{weight-bound, weighted-more}
 use Rattle.store.proofs.check_of.Statement.{statement}
 use Rattle.store.proofs.check_of.Tie as tie
 

@@ -1,12 +1,13 @@
 use mathlib.Core.List.{_++_}
 use mathlib.Core.Path.{_≡_, refl, _∙_, ap}
-use Prim.Native.Nat.{_+_, _-_, _≤_}
+use Prim.Native.Nat.{_-_, _≤_}
 use native.Mathlib.Omega.{arith}
 use lib.ListN.{drop}
 use borrow.Author.Needs.{needs}
 use Rattle.format.specs.Store.{word-at}
 use Rattle.store.specs.Block.{byte-place}
-use Rattle.store.proofs.Words.{place-within, word-read, copied-more}
+use Rattle.store.proofs.Words.{place-within, word-read}
+use Rattle.meaning.specs.facts.Elements.{tabulate-more}
 use Rattle.store.proofs.copy_words.Statement.{statement}
 use Rattle.store.proofs.copy_words.Tie as tie
 use Rattle.meaning.specs.Lists.{tabulate}
@@ -59,7 +60,7 @@ loop-again c = (
       word-read
           (c .before .before .before .before .before .before .before .before .args .bytes .now) _ _ _ (c .before .pair-at .ensures)
           (c .before .before .before .loop .inv .1 .0),
-    ) (copied-more _ _ _ (omega arith)),
+    ) (tabulate-more _ _ _ (omega arith)),
   ),
 )
 

@@ -1,6 +1,6 @@
 use mathlib.Core.Path.{_∙_}
 use borrow.Author.Needs.{needs}
-use Rattle.store.proofs.Words.{count-none, count-other, count-rest}
+use Rattle.format.specs.laws.Stores.{count-none, count-other, count-rest}
 use Rattle.store.proofs.count_right.Statement.{statement}
 use Rattle.store.proofs.count_right.Tie as tie
 

@@ -2,7 +2,7 @@ use mathlib.Core.Path.{sym, ap, _∙_}
 use borrow.Author.Needs.{needs}
 use Rattle.format.specs.Store.{store-words}
 use Rattle.store.specs.Loaded.{load-answered}
-use Rattle.store.proofs.Store.{holds, kept, filled}
+use Rattle.store.proofs.Store.{holds-counted, kept, filled}
 use Rattle.store.proofs.load.Statement.{statement}
 use Rattle.store.proofs.load.Tie as tie
 
@@ -29,7 +29,7 @@ copy-words-requires : tie.Need-copy-words-requires
 copy-words-requires c κs =
     let at-words-used = c .before .before .before .before in
     let start = at-words-used .before .before in
-    let h = holds (start .args .bytes .now) _ (sym (ap load-answered (c .before .before .answer .given .1))
+    let h = holds-counted (start .args .bytes .now) _ (sym (ap load-answered (c .before .before .answer .given .1))
     ∙ at-words-used .words-used .ensures) in
     (h .short, h .within)
 
@@ -40,7 +40,7 @@ returns-2 c =
     let e = sym (ap load-answered (c .before .before .before .answer .given .1)) ∙ at-words-used .words-used .ensures in
     record {
       answer = e;
-      words = c .copy-words .ensures ∙ filled _ _ _ (holds (start .args .bytes .now) _ e);
+      words = c .copy-words .ensures ∙ filled _ _ _ (holds-counted (start .args .bytes .now) _ e);
     }
 
 pub load-spec : {M : Type 1} → statement M

@@ -1,4 +1,4 @@
-use Rattle.damage.proofs.Laws.{one-bit}
+use Rattle.meaning.specs.facts.Numbers.{one-bit}
 use borrow.Author.Needs.{needs}
 use Rattle.damage.proofs.changes.flip.Statement.{statement}
 use Rattle.damage.proofs.changes.flip.Tie as tie

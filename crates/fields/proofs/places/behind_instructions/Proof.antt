@@ -4,8 +4,9 @@ use Rattle.fields.proofs.places.behind_instructions.Tie as tie
 use mathlib.Core.Path.{_≡_}
 use Prim.Native.Nat.{_≤_, _-_}
 use native.Mathlib.Omega.{arith}
+use native.Mathlib.Nat.{sub-zero}
 use Rattle.fields.specs.Words as words
-use Rattle.fields.specs.laws.Turns.{instr-turn, instr-stop, all-left}
+use Rattle.fields.specs.laws.Turns.{instr-turn, instr-stop}
 
 abbrev Inv-loop : tie.InvT-loop
 Inv-loop w first i p₀ n₀ p n = (n ≤ i) × (p ≤ 65535) × (words.behind-instructions w (i - n) p ≡ words.behind-instructions w i first)
@@ -14,7 +15,7 @@ abbrev μ-loop : tie.MeasureT-loop
 μ-loop w first i p₀ n₀ p n = i - n
 
 loop-holds : tie.Need-loop-holds Inv-loop μ-loop
-loop-holds c = (omega arith, search needs, rw (all-left (c .args .i)))
+loop-holds c = (omega arith, search needs, rw sub-zero)
 
 cast-place : tie.Need-cast-place Inv-loop μ-loop
 cast-place c = search needs

@@ -3,7 +3,7 @@ use Rattle.fields.proofs.places.block_place.Statement.{statement}
 use Rattle.fields.proofs.places.block_place.Tie as tie
 use Rattle.fields.specs.Words as words
 use mathlib.Core.Path.{_∙_}
-use Rattle.fields.specs.laws.Picks.{picked, passed-over, is-below, not-below}
+use Rattle.meaning.specs.facts.Tests.{picked, passed-over, is-below, not-below}
 
 blocks-place-requires : tie.Need-blocks-place-requires
 blocks-place-requires c κs = search needs

@@ -3,7 +3,7 @@ use Rattle.fields.proofs.places.instruction_place.Statement.{statement}
 use Rattle.fields.proofs.places.instruction_place.Tie as tie
 use mathlib.Core.Path.{_∙_, ap}
 use Rattle.fields.specs.Words as words
-use Rattle.fields.specs.laws.Picks.{picked, passed-over, is-below, not-below}
+use Rattle.meaning.specs.facts.Tests.{picked, passed-over, is-below, not-below}
 
 block-place-requires : tie.Need-block-place-requires
 block-place-requires c κs = search needs

@@ -4,8 +4,9 @@ use Rattle.fields.proofs.places.list_for.Tie as tie
 use mathlib.Core.Path.{_≡_, sym, _∙_}
 use Prim.Native.Nat.{_≤_, _-_}
 use native.Mathlib.Omega.{arith}
+use native.Mathlib.Nat.{sub-zero}
 use Rattle.fields.specs.Words as words
-use Rattle.fields.specs.laws.Turns.{list-found, list-turn, list-stop, all-left}
+use Rattle.fields.specs.laws.Turns.{list-found, list-turn, list-stop}
 
 abbrev Inv-loop : tie.InvT-loop
 Inv-loop w targets t n p₀ q₀ p q = (q ≤ n) × (words.list-for w targets t (n - q) q p ≡ words.list-for w targets t n 0 p₀)
@@ -20,7 +21,7 @@ behind-words-requires : tie.Need-behind-words-requires Inv-loop μ-loop
 behind-words-requires c κs = search needs
 
 loop-holds : tie.Need-loop-holds Inv-loop μ-loop
-loop-holds c = (omega arith, rw (all-left (c .before .word-at .result)))
+loop-holds c = (omega arith, rw sub-zero)
 
 word-item-requires : tie.Need-word-item-requires Inv-loop μ-loop
 word-item-requires c κs = search needs

@@ -3,7 +3,7 @@ use Rattle.fields.proofs.places.values_place.Statement.{statement}
 use Rattle.fields.proofs.places.values_place.Tie as tie
 use mathlib.Core.Path.{_∙_}
 use Rattle.fields.specs.Words as words
-use Rattle.fields.specs.laws.Picks.{picked, passed-over, is-equal, not-equal}
+use Rattle.meaning.specs.facts.Tests.{picked, passed-over, is-equal, not-equal}
 
 indexed-requires : tie.Need-indexed-requires
 indexed-requires c κs = search needs

@@ -3,7 +3,7 @@ use Rattle.fields.proofs.words.place.Statement.{statement}
 use Rattle.fields.proofs.words.place.Tie as tie
 use borrow.Author.Tests.{lt-ltb, le-ltb}
 use Rattle.fields.specs.Words.{placed}
-use Rattle.fields.specs.laws.Picks.{picked, passed-over}
+use Rattle.meaning.specs.facts.Tests.{picked, passed-over}
 
 cast-if1 : tie.Need-cast-if1
 cast-if1 c = search needs

@@ -3,7 +3,7 @@ use Rattle.fields.proofs.words.value_item.Statement.{statement}
 use Rattle.fields.proofs.words.value_item.Tie as tie
 use mathlib.Core.Path.{_∙_}
 use Rattle.fields.specs.Words.{value-item, value-at}
-use Rattle.fields.specs.laws.Picks.{picked, passed-over, is-below, not-below}
+use Rattle.meaning.specs.facts.Tests.{picked, passed-over, is-below, not-below}
 
 word-at-requires : tie.Need-word-at-requires
 word-at-requires c κs = search needs

@@ -5,7 +5,7 @@ use native.Mathlib.Omega.{arith}
 use lib.ListN.{take}
 use borrow.Author.Needs.{needs}
 use Rattle.reading.specs.laws.AnswerSteps.{step-read, step-refused}
-use Rattle.reading.specs.laws.Forgotten.{taken-inside}
+use Rattle.meaning.specs.facts.Parts.{taken-inside}
 use Rattle.record.specs.laws.RegionsForgotten.{block-inside}
 use Rattle.record.specs.laws.RegionSteps.{BlocksGoing, blocks-start, blocks-next, blocks-stop, blocks-end}
 use Rattle.record.proofs.regions.blocks.Statement.{statement}

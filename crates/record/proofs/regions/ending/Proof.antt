@@ -4,7 +4,7 @@ use native.Mathlib.Omega.{arith}
 use borrow.Author.Needs.{needs}
 use Rattle.format.specs.Read.{word}
 use Rattle.reading.specs.laws.AnswerSteps.{word-read, word-refused, step-read, step-refused}
-use Rattle.reading.specs.laws.Forgotten.{taken-inside}
+use Rattle.meaning.specs.facts.Parts.{taken-inside}
 use Rattle.record.specs.laws.Parts.{within-parts}
 use Rattle.record.specs.laws.RegionsForgotten.{ending-limit, ending-terminator, ending-exits, counted-inside}
 use Rattle.record.specs.laws.RegionSteps.{ending-stop, ending-whole}

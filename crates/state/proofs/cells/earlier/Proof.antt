@@ -1,7 +1,6 @@
 use Rattle.state.specs.Tables.{earlier}
-use mathlib.Core.Path.{_≡_, refl, sym, ap, _∙_}
-use Rattle.fields.specs.laws.Picks.{picked, passed-over}
-use borrow.Author.Tests.{lt-ltb, le-ltb, eq-eqb, ne-eqb}
+use Rattle.meaning.specs.facts.Tests.{picked, passed-over}
+use borrow.Author.Tests.{lt-ltb, le-ltb}
 use Rattle.state.proofs.cells.earlier.Statement.{statement}
 use Rattle.state.proofs.cells.earlier.Tie as tie
 

@@ -1,8 +1,5 @@
 use Rattle.state.specs.Tables.{first-empty, second-empty, joined}
-use mathlib.Core.Path.{_≡_, refl, sym, ap, _∙_}
-use Rattle.fields.specs.laws.Picks.{picked, passed-over, is-below, not-below, is-equal, not-equal}
-use borrow.Author.Tests.{lt-ltb, le-ltb, eq-eqb, ne-eqb}
-use native.Mathlib.Omega.{arith}
+use mathlib.Core.Path.{refl}
 use borrow.Author.Needs.{needs}
 use Rattle.state.proofs.cells.join.Statement.{statement}
 use Rattle.state.proofs.cells.join.Tie as tie

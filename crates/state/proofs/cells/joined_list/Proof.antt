@@ -1,9 +1,6 @@
 use Prim.Native.Nat.{ℕ}
 use Rattle.state.specs.Tables.{earlier}
-use mathlib.Core.Path.{_≡_, refl, sym, ap, _∙_}
-use Rattle.fields.specs.laws.Picks.{picked, passed-over, is-below, not-below}
-use borrow.Author.Tests.{lt-ltb, le-ltb, eq-eqb, ne-eqb}
-use native.Mathlib.Omega.{arith}
+use mathlib.Core.Path.{ap, _∙_}
 use borrow.Author.Needs.{needs}
 use Rattle.state.proofs.cells.joined_list.Statement.{statement}
 use Rattle.state.proofs.cells.joined_list.Tie as tie

@@ -1,9 +1,7 @@
 use Rattle.state.specs.Stored.{three-and-run}
 use Rattle.state.specs.Tables.{merge-defined, merges-full}
 use Rattle.state.specs.Sections.{stored-all-at}
-use mathlib.Core.Path.{_≡_, refl, sym, ap, _∙_}
-use Rattle.fields.specs.laws.Picks.{picked, passed-over, is-below, not-below, is-equal, not-equal}
-use borrow.Author.Tests.{lt-ltb, le-ltb, eq-eqb, ne-eqb}
+use mathlib.Core.Path.{refl}
 use native.Mathlib.Omega.{arith}
 use borrow.Author.Needs.{needs}
 use Rattle.state.proofs.conditions.define_merge.Statement.{statement}

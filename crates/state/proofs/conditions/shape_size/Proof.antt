@@ -1,6 +1,4 @@
 use Rattle.state.specs.Tables.{shape-size}
-use mathlib.Core.Path.{_≡_, refl, sym, ap, _∙_}
-use Rattle.fields.specs.laws.Picks.{picked, passed-over}
 use borrow.Author.Tests.{lt-ltb, le-ltb, eq-eqb, ne-eqb}
 use Rattle.state.proofs.conditions.shape_size.Statement.{statement}
 use Rattle.state.proofs.conditions.shape_size.Tie as tie

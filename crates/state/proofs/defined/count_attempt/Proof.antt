@@ -1,8 +1,7 @@
 use Rattle.state.specs.Tables.{attempted}
-use mathlib.Core.Path.{_≡_, refl, sym, ap, _∙_}
-use Rattle.fields.specs.laws.Picks.{picked, passed-over, is-below, not-below, is-equal, not-equal}
-use borrow.Author.Tests.{lt-ltb, le-ltb, eq-eqb, ne-eqb}
-use native.Mathlib.Omega.{arith}
+use mathlib.Core.Path.{_∙_}
+use Rattle.meaning.specs.facts.Tests.{picked, passed-over}
+use borrow.Author.Tests.{lt-ltb, le-ltb}
 use borrow.Author.Needs.{needs}
 use Rattle.state.proofs.defined.count_attempt.Statement.{statement}
 use Rattle.state.proofs.defined.count_attempt.Tie as tie

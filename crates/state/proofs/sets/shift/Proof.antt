@@ -1,11 +1,8 @@
 use Rattle.state.specs.Finds.{shift-turn, shift-stop}
-use Rattle.state.specs.Tables.{shifted, copied}
-use Prim.Native.Nat.{_-_, _≤_}
-use mathlib.Core.Path.{_≡_, refl, sym, ap, _∙_}
-use Rattle.fields.specs.laws.Picks.{picked, passed-over, is-below, not-below, is-equal, not-equal}
-use borrow.Author.Tests.{lt-ltb, le-ltb, eq-eqb, ne-eqb}
+use Rattle.state.specs.Tables.{shifted}
+use Prim.Native.Nat.{_-_}
+use mathlib.Core.Path.{_≡_, refl}
 use borrow.Author.Needs.{needs}
-use native.Mathlib.Omega.{arith}
 use Rattle.state.proofs.sets.shift.Statement.{statement}
 use Rattle.state.proofs.sets.shift.Tie as tie
 

@@ -1,8 +1,6 @@
 use Rattle.state.specs.Tables.{slot}
-use mathlib.Core.Path.{_≡_, refl, sym, ap, _∙_}
-use Rattle.fields.specs.laws.Picks.{picked, passed-over, is-below, not-below}
-use borrow.Author.Tests.{lt-ltb, le-ltb, eq-eqb, ne-eqb}
-use native.Mathlib.Omega.{arith}
+use Rattle.meaning.specs.facts.Tests.{picked, passed-over}
+use borrow.Author.Tests.{lt-ltb, le-ltb}
 use borrow.Author.Needs.{needs}
 use Rattle.state.proofs.sets.slot.Statement.{statement}
 use Rattle.state.proofs.sets.slot.Tie as tie

@@ -1,7 +1,3 @@
-use mathlib.Core.Path.{_≡_, refl, sym, ap, _∙_}
-use Rattle.fields.specs.laws.Picks.{picked, passed-over, is-below, not-below}
-use borrow.Author.Tests.{lt-ltb, le-ltb, eq-eqb, ne-eqb}
-use native.Mathlib.Omega.{arith}
 use borrow.Author.Needs.{needs}
 use Rattle.state.proofs.sets.swap_sets.Statement.{statement}
 use Rattle.state.proofs.sets.swap_sets.Tie as tie
