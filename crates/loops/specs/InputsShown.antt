@@ -18,7 +18,7 @@ use Rattle.state.specs.Apart.{section-stored}
 use Rattle.state.specs.Tables.{inserted}
 use Rattle.state.specs.Values.{region-word}
 use Rattle.shown.specs.Values.{value, equal-values, value-input, value-held}
-use Rattle.shown.specs.Stores.{run-before, run-behind, run-in, section-run, part-length}
+use Rattle.shown.specs.Stores.{section-run, part-length}
 use Rattle.shown.specs.Tables.{ShowsInput, renumbered, replaced}
 use Rattle.shown.specs.Elsewhere.{SameTables, same-words, same-then}
 use Rattle.shown.specs.Cells.{none-kept}
@@ -28,6 +28,7 @@ use Rattle.shown.specs.CellSteps.{ShowsKeptList, kept-added, cell-aside, cell-t
 use Rattle.lookups.specs.Shown.{held-below}
 use Rattle.loops.specs.declared.inputs.Taken.{Taken}
 use Rattle.loops.specs.Inputs.{KeepsInput, TakesInput, lifted, kept, beyond, TakesFrom, none-taken, one-taken}
+use Rattle.meaning.specs.facts.Parts.{run-before, run-behind, run-in}
 
 -- ---- The words of a region's inputs.
 module _ (r k : ℕ) (h : r < 128) (j : k < 4) where

@@ -1,7 +1,7 @@
 -- For every cases and rows that the words show: after `plan_bundles` each row shows the definition's planned bundle at its place, and the
 -- answer is whether the select is needed for them.
 use mathlib.Core.Path.{_≡_, refl, sym, ap, subst, _∙_}
-use mathlib.Core.Bool.{Bool, true, false, _||_}
+use mathlib.Core.Bool.{Bool, true, false, _||_, or-false}
 use mathlib.Core.List.{List, [], _∷_, map}
 use mathlib.Core.Option.{Option, none, some}
 use Prim.Native.Nat.{ℕ, zero, suc, _+_, _*_, _≤_, _<_}
@@ -22,7 +22,6 @@ use Rattle.state.specs.Tables.{bundle-at, input-stored, case-total}
 use Rattle.shown.specs.Sets.{Names, ShowsTarget, target-size, SameBundle}
 use Rattle.shown.specs.States.{ShowsReturned, ShowsState, ShowsCases, no-case}
 use Rattle.shown.specs.Kept.{Later, KeptRegion, same-bundle, same-bundle-then}
-use Rattle.lookups.specs.Shown.{or-false}
 use Rattle.merging.specs.Turns.{turned}
 use Rattle.merging.specs.Bundles.{input-count}
 use Rattle.merging.specs.Planning.{Planned, planned, also, per-case-deferred, unique-input, all-true, plan-input, plan-inputs, plan-bundle}

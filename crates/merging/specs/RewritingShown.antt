@@ -1,6 +1,6 @@
 -- For every state and cases that the words show: after `rewrite_cases` they show the definition's cases and its note.
 use mathlib.Core.Path.{_≡_, refl, sym, ap, subst, _∙_}
-use mathlib.Core.Bool.{Bool, false, _||_}
+use mathlib.Core.Bool.{Bool, false, _||_, or-false}
 use mathlib.Core.List.{List, [], _∷_, map}
 use Prim.Native.Nat.{ℕ, suc, _+_, _*_, _-_, _≤_, _<_}
 use native.Mathlib.Omega.{arith}
@@ -22,7 +22,6 @@ use Rattle.shown.specs.States.{Slots, ShowsReturned, NamedRewrites, ShowsState,
 use Rattle.shown.specs.States.{ShowsRegion, is-not-begun, is-in-progress, is-ready, is-claimed}
 use Rattle.shown.specs.Front.{stands-on}
 use Rattle.shown.specs.Kept.{Later, KeptRegion, bundle-stays, set-stays, same-bundle, same-bundle-then}
-use Rattle.lookups.specs.Shown.{or-false}
 use Rattle.merging.specs.Turns.{turned, turned-same}
 use Rattle.merging.specs.Bundles.{input-count}
 use Rattle.merging.specs.Rewriting.{rewrite-input, rewrite-case-input, rewrite-bundle, rewrite-set, rewrite-inputs, rewrite-given}

@@ -1,6 +1,6 @@
 -- Words in a row, each looked up and stored where it stood: for every state that the words show they name the values looked up.
 use mathlib.Core.Path.{_≡_, refl, sym, ap, subst, _∙_}
-use mathlib.Core.Bool.{Bool, true, false, _||_}
+use mathlib.Core.Bool.{Bool, true, false, _||_, or-false, or-assoc}
 use mathlib.Core.List.{List, [], _∷_, map}
 use Prim.Native.Nat.{ℕ, zero, suc, _+_, _≤_, _<_}
 use native.Mathlib.Omega.{arith}
@@ -24,7 +24,7 @@ use Rattle.shown.specs.Sets.{Names}
 use Rattle.shown.specs.States.{NamedRewrites}
 use Rattle.lookups.specs.declared.look_up.LookUp.{LookUp}
 use Rattle.lookups.specs.LookUps.{plain, kind-at, entry-at, stays, renumbers, turns, look-up, Rewrites}
-use Rattle.lookups.specs.Shown.{rewritten-value, rewritten-tables, rewrite-changes, or-false, or-assoc}
+use Rattle.lookups.specs.Shown.{rewritten-value, rewritten-tables, rewrite-changes}
 use Rattle.merging.specs.Turns.{turned}
 use Rattle.merging.specs.Rewriting.{noted}
 

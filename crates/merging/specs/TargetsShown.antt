@@ -19,7 +19,7 @@ use Rattle.nesting.specs.Nesting.{NestState, DeferredTargetSummary, MaybeClaime
 use Rattle.state.specs.Sections.{start, size, used, section, word, stored, stored-all, set-starts, set-lengths, cases, bundles}
 use Rattle.state.specs.Tables.{find-by, bundle-at, case-total}
 use Rattle.state.specs.Apart.{section-other}
-use Rattle.shown.specs.Stores.{run-before, run-behind, run-in, section-run, run-length, part-length}
+use Rattle.shown.specs.Stores.{section-run, run-length, part-length}
 use Rattle.shown.specs.Sets.{ShowsTarget, shows-region, shows-return, target-size, ShowsBundle, ShowsSet, no-bundle}
 use Rattle.shown.specs.States.{ShowsState, ShowsCases, no-case}
 use Rattle.shown.specs.Kept.{Later, KeptRegion, bundle-stays, set-stays}
@@ -30,6 +30,7 @@ use Rattle.merging.specs.Spare.{SpareOnly, spare-same, spare-word, spare
 use Rattle.merging.specs.Spare.{spare-keeps, spare-state, spare-cases}
 use Rattle.merging.specs.Pigeonhole.{pigeonhole}
 use Rattle.merging.specs.Finds.{bundle-there, FirstTo, first-at, none-to, words-as-targets, finds}
+use Rattle.meaning.specs.facts.Parts.{run-before, run-behind, run-in}
 
 -- ---- The definition's step, by the first row to a bundle's target.
 abbrev pub no-summary : DeferredTargetSummary

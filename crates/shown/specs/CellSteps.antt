@@ -19,7 +19,7 @@ use Rattle.state.specs.Sections.{bundles, front}
 use Rattle.state.specs.Apart.{section-other}
 use Rattle.state.specs.Tables.{Adds, added, no-room, cell-words, Joins, first-empty, second-empty, joined}
 use Rattle.shown.specs.Values.{value}
-use Rattle.shown.specs.Stores.{run-before, run-in, section-run, part-length, head-same, ChangesOnly, head-changes, run-changes}
+use Rattle.shown.specs.Stores.{section-run, part-length, head-same, ChangesOnly, head-changes, run-changes}
 use Rattle.shown.specs.Stores.{changes-then, nothing-changes}
 use Rattle.shown.specs.Tables.{ShowsShape}
 use Rattle.shown.specs.Elsewhere.{SameTables, same-words}
@@ -28,6 +28,7 @@ use Rattle.shown.specs.Cells.{CellIs, ShowsKept, none-kept, one-kept, Sh
 use Rattle.shown.specs.Cells.{then-select, the-loop, ShowsCaseCells, no-cases, case-and, ShowsChildren, case-count}
 use Rattle.shown.specs.Kept.{Later, later-same, KeptRegion, kept-same}
 use Rattle.shown.specs.RegionSteps.{Aside, bundles-same, kept-by, tables-by, states-by, StatesStay}
+use Rattle.meaning.specs.facts.Parts.{run-before, run-in}
 
 -- ---- Lists before a run of words stay.
 module _ (g : Graph) (l : List ℕ) (i : ℕ) (xs : List ℕ) where

@@ -11,8 +11,9 @@ use borrow.Author.Tests.{eq-eqb, ne-eqb}
 use Rattle.state.specs.Sections.{used, section, word, stored, stored-all, rewrites, start, size}
 use Rattle.state.specs.Apart.{section-stored}
 use Rattle.state.specs.Tables.{inserted}
-use Rattle.shown.specs.Stores.{run-before, run-behind, run-in, section-run, part-length}
+use Rattle.shown.specs.Stores.{section-run, part-length}
 use Rattle.shown.specs.States.{NamedRewrites}
+use Rattle.meaning.specs.facts.Parts.{run-before, run-behind, run-in}
 
 pub named-inserted : (w : List ℕ) (r kind : ℕ) (ws : List ℕ) → used ≤ length w → r < 128 → length ws ≡ 4
     → ((k : ℕ) → k < 4 → getD ws k 0 < 4096) → NamedRewrites w → NamedRewrites (inserted w r kind ws)

@@ -12,8 +12,8 @@ use Rattle.nesting.specs.Nesting.{DeferredEdgeBundleSet, StructurizeRegionState
 use Rattle.state.specs.Sections.{Section, number, start, size, used, section, word, stored, stored-all, head, kinds, backedges, set-starts}
 use Rattle.state.specs.Sections.{set-lengths, children, bodies, levels, rewrites, conditions, cells, outputs, bundles, front}
 use Rattle.state.specs.Apart.{section-stored, section-other, part-stored}
-use Rattle.shown.specs.Stores.{ChangesOnly, word-changes, run-changes, changes-then, nothing-changes, section-run, run-before}
-use Rattle.shown.specs.Stores.{run-behind, part-length, run-other}
+use Rattle.shown.specs.Stores.{ChangesOnly, word-changes, run-changes, changes-then, nothing-changes, section-run}
+use Rattle.shown.specs.Stores.{part-length, run-other}
 use Rattle.shown.specs.Tables.{ShowsTables}
 use Rattle.shown.specs.Elsewhere.{SameTables, tables-stay, Elsewhere, same-then}
 use Rattle.shown.specs.Front.{stands-on}
@@ -23,6 +23,7 @@ use Rattle.shown.specs.States.{ShowsOwnSet, ShowsRegion, is-not-begun, i
 use Rattle.shown.specs.States.{NamedRewrites, Slots}
 use Rattle.shown.specs.Kept.{Later, later-same, later-then, KeptRegion, kept-same, kept-then, region-stays, set-stays, same-bundle}
 use Rattle.shown.specs.Kept.{same-bundle-then}
+use Rattle.meaning.specs.facts.Parts.{run-before, run-behind}
 
 -- ---- A word stored in a section, and any other word of any section.
 pub word-there : (l : List ℕ) (k : Section) (i x : ℕ) → start k + size k ≤ length l → i < size k → word (stored l k i x) k i ≡ x

@@ -13,13 +13,14 @@ use Rattle.state.specs.Sections.{set-starts}
 use Rattle.state.specs.Sections.{set-lengths, children, bodies, levels, cases, rewrites, outputs, conditions, cells, bundles}
 use Rattle.state.specs.Apart.{stored-length, section-stored, section-other}
 use Rattle.state.specs.Tables.{bundle-words, copied}
-use Rattle.shown.specs.Stores.{run-before, run-behind, run-in, run-length, run-other, section-run, part-length, head-other}
+use Rattle.shown.specs.Stores.{run-length, run-other, section-run, part-length, head-other}
 use Rattle.shown.specs.Elsewhere.{SameTables, tables-stay, condition-there}
 use Rattle.shown.specs.Front.{SameFront, stands-on}
 use Rattle.shown.specs.Sets.{SameBundle}
 use Rattle.shown.specs.States.{ShowsRegion, is-not-begun, is-in-progress, is-ready, is-claimed, Slots}
 use Rattle.shown.specs.States.{ShowsState}
 use Rattle.shown.specs.Kept.{Later, KeptRegion, region-stays}
+use Rattle.meaning.specs.facts.Parts.{run-before, run-behind, run-in}
 
 -- ---- A word of a section.
 module _ (w : List ℕ) (k : Section) (i x : ℕ) where
