@@ -25,7 +25,7 @@ use Rattle.shown.specs.RegionSteps.{word-concerns, children-set, length-set-to,
 use Rattle.shown.specs.CellSteps.{list-joined}
 use Rattle.shown.specs.NamedSteps.{named-inserted}
 use Rattle.shown.specs.SetStores.{only-later, only-state, only-word-same, word-other, run-elsewhere-word, same-elsewhere, copy-moves}
-use Rattle.shown.specs.SetSteps.{bundle-in, set-moves, swapped-only, swapped-first, swapped-bundle, swapped-kept, swapped-slots}
+use Rattle.shown.specs.SetSteps.{bundle-in, set-moves, swapped-only, swapped-first-set, swapped-kept, swapped-slots}
 use Rattle.bundles.specs.Words.{case-inputs, Appends, appended, its-edge, its-rest}
 use Rattle.bundles.specs.CaseSteps.{CaseShown}
 
@@ -184,11 +184,10 @@ slot-taken {g} few {r} {o} here there {w} {w₂} {s} {h} {ks} x {n} {d} set =
     (λ f. let z : word w₃ kinds o ≡ 2 = ap (λ b. word w₃ kinds b) (sym f) ∙ e in omega (arith, kind-o, z))) state₃ in
     let room₄ = state₄ .tables .size in
     let kind₄ : word w₄ kinds r ≡ 2 → ⊥ = λ e. kind-r (sym (only-word-same only₄ kinds (omega arith) r) ∙ e) in
-    let start₄ : word w₄ set-starts r ≡ word w set-starts o =
-    swapped-first w₃ room₃ r o r-33 o-33 ∙ c₃ .same-starts o ∙ x .kept o .set-start in
-    let set₃ = set-stays (c₃ .later) (λ i k. same-elsewhere w₂ children (omega arith) r h _) set₂ in
-    let set₄ : ShowsSet g w₄ (word w₄ set-starts r) n d =
-    rw start₄ (set-stays later₄ (λ i k. swapped-bundle w₃ room₃ r o r-33 o-33 _) set₃) in
+    let start₃ : word w₃ set-starts o ≡ word w set-starts o = c₃ .same-starts o ∙ x .kept o .set-start in
+    let set₃ : ShowsSet g w₃ (word w₃ set-starts o) n d =
+    rw start₃ (set-stays (c₃ .later) (λ i k. same-elsewhere w₂ children (omega arith) r h _) set₂) in
+    let set₄ = swapped-first-set w₃ room₃ r o r-33 o-33 set₃ in
     let c₅ = word-concerns g w₄ set-lengths (omega arith) r n in
     let handle₄ : word w₄ children r ≡ word w₃ children r = only-word-same only₄ children (omega arith) r in
     let handle₅ : word (stored w₄ set-lengths r n) children r ≡ word w₃ children r =

@@ -5,8 +5,6 @@ use Prim.Native.Nat.{ℕ, _+_, _*_, _≤_, _<_}
 use native.Mathlib.Omega.{arith}
 use lib.ListN.{length, getD}
 use Rattle.meaning.specs.Graph.{Value, Graph, region, edges-of, return, undef}
-use Rattle.meaning.specs.Lists.{All, Within}
-use Rattle.meaning.specs.facts.Elements.{all-map}
 use Rattle.format.specs.References.{return-types}
 use Rattle.format.specs.Valid.{ValidEnd, Valid}
 use Rattle.record.specs.Stands.{Stands}
@@ -18,9 +16,9 @@ use Rattle.shown.specs.Tables.{ShowsCondition, shows-true}
 use Rattle.shown.specs.Sets.{Names, shows-region, shows-return, ShowsBundle, SameBundle}
 use Rattle.shown.specs.States.{ShowsOwnSet, Slots, ShowsState}
 use Rattle.shown.specs.Kept.{KeptRegion, bundle-stays, same-bundle-then}
-use Rattle.shown.specs.RegionSteps.{word-there}
+use Rattle.shown.specs.RegionSteps.{word-there, word-apart}
 use Rattle.shown.specs.SetStores.{OnlySets, only-run, only-word, only-then, only-later, only-state, slots-stay, bundles-of-sets}
-use Rattle.shown.specs.SetStores.{lengths-of-sets, word-beside, word-other, run-elsewhere-word, bundle-beside, same-elsewhere}
+use Rattle.shown.specs.SetStores.{lengths-of-sets, word-other, run-elsewhere-word, bundle-beside, same-elsewhere}
 use Rattle.shown.specs.SetSteps.{bundle-in, bundle-made, set-of-one, kept-beside}
 use Rattle.bundles.specs.Words.{padded, edge-deferred, return-deferred}
 use Rattle.bundles.specs.ReadTypes.{end-types-read}
@@ -43,7 +41,8 @@ module _ {g : Graph} (valid : Valid g) {r : ℕ} (here : r < length (g .regions)
   edge-names =
       let x = valid-edge valid here j place in
       let ts = region g (edge-of g r j .target) .inputs in
-      let types = passed-types valid here ts (edge-of g r j .inputs) (valid .regions (edge-of g r j .target) (x .target) .inputs) (x .inputs) in
+      let types = passed-types valid here ts (edge-of g r j .inputs) (valid .regions (edge-of g r j .target) (x .target) .inputs)
+      (x .inputs) in
       padded-names (edge-of g r j .inputs) (passed-names valid here ts (edge-of g r j .inputs) types (x .inputs))
 
   pub edge-deferred-shown : (w : List ℕ) (p : ℕ) → used ≤ length w → p < 1097
@@ -103,7 +102,7 @@ module _ (g : Graph) (w : List ℕ) (r : ℕ) where
     return-deferred-kept q h d =
         let at = start-in in
         kept-beside return-deferred-only slots below h d (return-deferred-starts q)
-        (word-beside return-stored set-lengths r 1 q d ∙ run-elsewhere-word w bundles _ return-words set-lengths (omega arith) q)
+        (word-apart return-stored set-lengths r 1 set-lengths q d ∙ run-elsewhere-word w bundles _ return-words set-lengths (omega arith) q)
         (λ p e. same-bundle-then (bundle-beside w (bundle-at start-of 0) return-words refl p (λ f. e (omega arith) (omega arith)))
         (same-elsewhere return-stored set-lengths (omega arith) r 1 p))
 

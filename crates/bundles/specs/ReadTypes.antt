@@ -1,12 +1,11 @@
 -- What reading leaves of undefined values: their types are types that a record has. Valid does not say it.
-use mathlib.Core.Path.{_≡_, refl, sym, _∙_}
-use mathlib.Core.Bool.{Bool, true, false, _&&_, _||_}
-use mathlib.Core.Logic.{_⊎_, inl, inr}
+use mathlib.Core.Path.{_≡_, refl, sym}
+use mathlib.Core.Bool.{Bool, true, false, _||_}
+use mathlib.Core.Logic.{inl, inr}
 use mathlib.Core.List.{List, [], _∷_}
 use Prim.Native.Nat.{ℕ, zero, suc, _≤_}
 use native.Mathlib.Omega.{arith}
-use native.Mathlib.Decide.{ℕ-discrete}
-use lib.ListN.{length, getD}
+use lib.ListN.{length}
 use lib.Dec.{eqb, leb}
 use borrow.Author.Tests.{leb-true, eqb-true}
 use Rattle.meaning.specs.Graph.{Value, const, input, instr, output, bool, undef, held, no-value, Edge, ControlInst, Region, Graph, nowhere}
@@ -14,7 +13,8 @@ use Rattle.meaning.specs.Lists.{All, pick, distinct-from}
 use Rattle.meaning.specs.facts.Elements.{all-getD}
 use Rattle.meaning.specs.facts.Tests.{clash, and-both, or-either}
 use Rattle.format.specs.Store.{accepted, refused}
-use Rattle.format.specs.Read.{got, expect, is-kind, value-from-words, index-right, word, type, counted, many, within, read-value, block, terminator}
+use Rattle.format.specs.Read.{got, expect, is-kind, value-from-words, index-right, word, type, counted, many, within, read-value, block}
+use Rattle.format.specs.Read.{terminator}
 use Rattle.format.specs.Read.{opcode-for, fewest-values, most-values, fewest-targets, most-targets, edges-passed, control-inst, read-region}
 use Rattle.format.specs.Read.{regions-from, head, read-record}
 use Rattle.format.specs.References.{values-of}
@@ -95,7 +95,8 @@ terminator-types ws at x e h =
     let d = part (counted (fewest-targets (a .value)) (most-targets (a .value)) word ws (c .place)) _ x e (c .second) in
     let f = part (many (length (distinct-from [] (d .value))) (counted 0 4 read-value) ws (d .place)) _ x e (d .second) in
     let is : x ≡ control-inst (a .value) (b .value) (c .value) (edges-passed (d .value) (f .value)) = sym (got-value (f .second)) in
-    let types = counted-all read-value TypeRead ws (value-read ws) (fewest-values (a .value)) (most-values (a .value)) (b .place) (c .first) in
+    let types = counted-all read-value TypeRead ws (value-read ws) (fewest-values (a .value)) (most-values (a .value)) (b .place)
+    (c .first) in
     rw is
     (end-types (a .value) (b .value) (c .value) (edges-passed (d .value) (f .value)) (within-bounds 0 5 ws at (a .first) .1) (types .all))
 
