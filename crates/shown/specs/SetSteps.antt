@@ -138,13 +138,13 @@ getD-any (x ∷ l) zero a b h = refl
 getD-any (x ∷ l) (suc k) a b h = getD-any l k a b (omega arith)
 
 -- By swap: the last takes the place of the first to x.
-pub record SplitOut (x : DeferredTarget) (d : DeferredEdgeBundleSet) (i : ℕ) : Type 0 where
+pub record SplitLeaves (x : DeferredTarget) (d : DeferredEdgeBundleSet) (i : ℕ) : Type 0 where
   pub size : suc (length (split-out-target x d)) ≡ length d
   pub gap : (m : ℕ) → suc m ≡ length d → i < m → getD (split-out-target x d) i no-bundle ≡ getD d m no-bundle
   pub others : (j : ℕ) → suc j < length d → (j ≡ i → ⊥) → getD (split-out-target x d) j no-bundle ≡ getD d j no-bundle
 
 split-first : (x : DeferredTarget) (e : DeferredEdgeBundle) (es : DeferredEdgeBundleSet) → same-target x (e .target) ≡ true
-    → SplitOut x (e ∷ es) 0
+    → SplitLeaves x (e ∷ es) 0
 split-first x e [] is = record { size = rw is; gap = λ m q h. absurd (omega arith); others = λ j h d. absurd (omega arith) }
 split-first x e (y ∷ ys) is =
     record {
@@ -160,7 +160,7 @@ split-first x e (y ∷ ys) is =
 
 pub split-out-at : (x : DeferredTarget) (d : DeferredEdgeBundleSet) (i : ℕ) → i < length d
     → same-target x (getD d i no-bundle .target) ≡ true → ((j : ℕ) → j < i → same-target x (getD d j no-bundle .target) ≡ false)
-    → SplitOut x d i
+    → SplitLeaves x d i
 split-out-at x [] i h is before = absurd (omega arith)
 split-out-at x (e ∷ es) zero h is before = split-first x e es is
 split-out-at x (e ∷ es) (suc i) h is before =
