@@ -1,17 +1,17 @@
 -- A case stored: what it shows, that the other cases stay, and that sets of different cases lie apart.
 use mathlib.Core.Path.{_≡_, refl, sym, ap, _∙_}
-use mathlib.Core.List.{List, [], _∷_, _++_}
-use Prim.Native.Nat.{ℕ, zero, suc, _+_, _*_, _≤_, _<_}
+use mathlib.Core.List.{List, [], _++_}
+use Prim.Native.Nat.{ℕ, suc, _+_, _*_, _≤_, _<_}
 use native.Mathlib.Omega.{arith}
 use lib.ListN.{length, getD}
 use borrow.Author.Tests.{lt-ltb}
-use Rattle.meaning.specs.Graph.{Graph, Value, undef}
+use Rattle.meaning.specs.Graph.{Graph, undef}
 use Rattle.nesting.specs.Nesting.{DeferredEdgeBundleSet, ClaimedRegion, MaybeClaimedRegion, ok, err, deferred-of}
-use Rattle.state.specs.Sections.{Section, number, used, word, stored-all, head, kinds, set-starts, set-lengths, children, bodies, levels, cases}
+use Rattle.state.specs.Sections.{used, word, stored-all, head, set-starts, set-lengths, levels, cases}
 use Rattle.state.specs.Tables.{own-edge, taken-word, case-words}
 use Rattle.shown.specs.Sets.{Names, ShowsSet, SameBundle}
 use Rattle.shown.specs.States.{Slots, ShowsClaimed, ShowsCase, shows-ok, shows-nothing, shows-edge, shows-others}
-use Rattle.shown.specs.Kept.{Later, KeptRegion, set-stays, same-bundle-then, claimed-stays}
+use Rattle.shown.specs.Kept.{KeptRegion, set-stays, same-bundle-then}
 use Rattle.shown.specs.SetStores.{OnlySets, only-run, only-then, only-later, only-kept, only-word-same, cases-of-sets, run-word, run-beside}
 use Rattle.shown.specs.SetStores.{run-elsewhere-word, same-elsewhere-run}
 use Rattle.bundles.specs.Words.{claimed-case, unclaimed-case, edge-deferred}
@@ -133,12 +133,14 @@ other-row {j} one q d k h = one .rows (10 * q + k) (λ a b. let e : q ≡ j = om
 module _ {g : Graph} {w w′ : List ℕ} {j : ℕ} (one : OneCase w w′ j) {r q : ℕ} (d : q ≡ j → ⊥) where
   pub case-stays : {c : MaybeClaimedRegion} → ShowsCase g w r q c → ShowsCase g w′ r q c
   case-stays (shows-ok {c} a b in-graph e f nodes start size inputs) =
-      shows-ok {c = c} (other-row one q d 0 (omega arith) ∙ a) (other-row one q d 1 (omega arith) ∙ b) in-graph (other-row one q d 2 (omega arith) ∙ e) f
+      shows-ok {c = c} (other-row one q d 0 (omega arith) ∙ a) (other-row one q d 1 (omega arith) ∙ b) in-graph
+      (other-row one q d 2 (omega arith) ∙ e) f
       (rw (other-row one q d 3 (omega arith)) (only-later (one .only) g .nodes-stay nodes))
       (other-row one q d 4 (omega arith) ∙ start ∙ sym (one .starts (c .origin))) size
       (λ k h. rw (other-row one q d (6 + k) (omega arith)) (inputs k h))
   case-stays (shows-nothing a b) = shows-nothing (other-row one q d 0 (omega arith) ∙ a) (other-row one q d 5 (omega arith) ∙ b)
-  case-stays (shows-edge a b e) = shows-edge (other-row one q d 0 (omega arith) ∙ a) (other-row one q d 4 (omega arith) ∙ b) (other-row one q d 5 (omega arith) ∙ e)
+  case-stays (shows-edge a b e) = shows-edge (other-row one q d 0 (omega arith) ∙ a) (other-row one q d 4 (omega arith) ∙ b)
+      (other-row one q d 5 (omega arith) ∙ e)
   case-stays (shows-others a b) =
       shows-others (other-row one q d 0 (omega arith) ∙ a) (other-row one q d 4 (omega arith) ∙ b ∙ sym (one .starts r))
 

@@ -1,5 +1,5 @@
 -- The cases of a region's terminator, filled: they show what the definition's list has, and the state stays shown.
-use mathlib.Core.Path.{_≡_, refl, sym, ap, subst, _∙_}
+use mathlib.Core.Path.{_≡_, refl, sym, subst, _∙_}
 use mathlib.Core.List.{List, [], _++_}
 use Prim.Native.Nat.{ℕ, zero, suc, _+_, _*_, _≤_, _<_}
 use native.Mathlib.Omega.{arith}
@@ -14,7 +14,8 @@ use Rattle.nesting.specs.Nesting.{ClaimedRegion, MaybeClaimedRegion, ok, err, N
 use Rattle.state.specs.Sections.{used, word, stored, stored-all, head, kinds, set-starts, set-lengths, cases}
 use Rattle.state.specs.Tables.{own-edge, taken-word, case-words, case-total}
 use Rattle.shown.specs.Sets.{Names, ShowsBundle, SameBundle}
-use Rattle.shown.specs.States.{Slots, ShowsState, ShowsClaimed, ShowsCase, shows-ok, shows-nothing, shows-edge, shows-others, ShowsCases, no-case}
+use Rattle.shown.specs.States.{Slots, ShowsState, ShowsClaimed, ShowsCase, shows-ok, shows-nothing, shows-edge, shows-others, ShowsCases}
+use Rattle.shown.specs.States.{no-case}
 use Rattle.shown.specs.Kept.{Later, KeptRegion, same-bundle, same-bundle-then, claimed-stays}
 use Rattle.shown.specs.Stores.{head-same}
 use Rattle.shown.specs.SetStores.{OnlySets, only-same, only-then, only-total, only-later, only-kept, only-state, only-word-same, slots-stay}
@@ -71,7 +72,8 @@ filled-plain g w r j room h =
           (row-kind w room j h (claimed-case w (e .target)) (padded (e .inputs)) (omega arith) (omega arith))
       | no d ↦ elim (ℕ-discrete (taken-word w r j) 1) [
         | yes a ↦ rw (ne-eqb (taken-word w r j) 2 d, eq-eqb (taken-word w r j) 1 a)
-            (row-kind (edge-deferred g w (own-edge j) r j) (omega arith) j h (unclaimed-case 1 (own-edge j) 1) [] (omega arith) (omega arith))
+            (row-kind (edge-deferred g w (own-edge j) r j) (omega arith) j h (unclaimed-case 1 (own-edge j) 1) [] (omega arith)
+            (omega arith))
         | no f ↦ rw (ne-eqb (taken-word w r j) 2 d, ne-eqb (taken-word w r j) 1 f)
             (row-kind w room j h (unclaimed-case 0 0 0) [] (omega arith) (omega arith))
       ]
@@ -224,7 +226,8 @@ cases-filled-shown {g} valid {r} here cs size {w} {s} state taken origins =
   where
     go : (w′ : List ℕ) {i j : ℕ} → word w′ cases (10 * i + 0) ≤ 2 → word w′ cases (10 * j + 0) ≤ 2 → {m n : MaybeClaimedRegion}
         → ShowsCase g w′ r i m → ShowsCase g w′ r j n
-        → ((a b : ClaimedRegion) → m ≡ ok a → n ≡ ok b → a .origin ≡ b .origin → ⊥) → {o u : ℕ} → Owner w′ r i o → Owner w′ r j u → o ≡ u → ⊥
+        → ((a b : ClaimedRegion) → m ≡ ok a → n ≡ ok b → a .origin ≡ b .origin → ⊥) → {o u : ℕ} → Owner w′ r i o → Owner w′ r j u → o ≡ u
+        → ⊥
     go w′ p q x y differ (of-claimed a b) (of-claimed c d) e =
         let f = claimed-of x a in
         let h = claimed-of y c in

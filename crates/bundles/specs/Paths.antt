@@ -19,8 +19,10 @@ use Rattle.state.specs.Sections.{Section, word, stored, stored-all, stored-all-
 use Rattle.state.specs.Tables.{bundle-at, own-edge, taken-word, case-words, copied, shift-removed, swapped, inserted, Joins}
 use Rattle.state.specs.Values.{value-word}
 use Rattle.shown.specs.Front.{SameFront, stands-on, front-stored, front-run, front-then}
-use Rattle.bundles.specs.Words.{record-word, padded-by, padded, edge-deferred, return-deferred, unclaimed-case, claimed-case, case-filled}
-use Rattle.bundles.specs.Words.{filled-from, cases-filled, given-word, given-inputs, split-filled, case-inputs, Appends, appended, its-edge}
+use Rattle.bundles.specs.Words.{record-word, padded-by, padded, edge-deferred, return-deferred, unclaimed-case, claimed-case}
+use Rattle.bundles.specs.Words.{case-filled}
+use Rattle.bundles.specs.Words.{filled-from, cases-filled, given-word, given-inputs, split-filled, case-inputs, Appends, appended}
+use Rattle.bundles.specs.Words.{its-edge}
 
 -- ---- A run behind a run.
 run-append : (l : List ℕ) (k : Section) (i : ℕ) (xs ys : List ℕ)
@@ -57,7 +59,8 @@ pub padded-all : (vs : List graph.Value) {n a b c d : ℕ} → n ≡ length vs �
     → (a ∷ b ∷ c ∷ d ∷ []) ≡ padded vs
 padded-all vs size p q r s = rw (p, q, r, s, size)
 
-pub edge-by : (g : Graph) (l : List ℕ) (p r j : ℕ) {t : ℕ} {vs l′ : List ℕ} → t ≡ edge-of g r j .target → vs ≡ padded (edge-of g r j .inputs)
+pub edge-by : (g : Graph) (l : List ℕ) (p r j : ℕ) {t : ℕ} {vs l′ : List ℕ} → t ≡ edge-of g r j .target → vs ≡ padded
+    (edge-of g r j .inputs)
     → l′ ≡ stored-all l bundles (7 * p) (t ∷ 1 ∷ 1 ∷ vs) → l′ ≡ edge-deferred g l p r j
 unfolding edge-deferred
 edge-by g l p r j of-target of-inputs e = e ∙ rw (of-target, of-inputs)
@@ -136,7 +139,8 @@ unfolding split-filled
 split-by g l r i a b c d e f h k m o q = q ∙ rw (o, m, k, h, f, e, d, c, b, a)
 
 -- ---- A case that stands alone.
-pub append-claimed : (l : List ℕ) (r : ℕ) (x : Case) (j : ℕ) {vs l₁ l₂ l₃ l₄ l₅ : List ℕ} {before h : ℕ} → x .kind ≡ 2 → vs ≡ case-inputs l j
+pub append-claimed : (l : List ℕ) (r : ℕ) (x : Case) (j : ℕ) {vs l₁ l₂ l₃ l₄ l₅ : List ℕ} {before h : ℕ} → x .kind ≡ 2
+    → vs ≡ case-inputs l j
     → l₁ ≡ inserted l (x .body) 1 vs → before ≡ word l₁ children r → Joins l₁ l₂ before (x .children) h → l₃ ≡ stored l₂ children r h
     → l₄ ≡ swapped l₃ r (x .origin) → l₅ ≡ stored l₄ set-lengths r (x .length) → Appends l l₅ r x j
 append-claimed l r x j kind a b c d e f k =

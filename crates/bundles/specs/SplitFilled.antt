@@ -8,9 +8,10 @@ use lib.ListN.{length, getD, take, drop, List·getD-eq-default}
 use borrow.Author.Tests.{lt-ltb, le-ltb}
 use Rattle.meaning.specs.Graph.{Graph, region, undef}
 use Rattle.meaning.specs.facts.Tests.{clash}
-use Rattle.nesting.specs.Nesting.{DeferredTarget, to-region, DeferredEdgeBundle, DeferredEdgeBundleSet, ClaimedRegion, MaybeClaimedRegion, ok}
+use Rattle.nesting.specs.Nesting.{DeferredTarget, to-region, DeferredEdgeBundle, DeferredEdgeBundleSet, ClaimedRegion, MaybeClaimedRegion}
+use Rattle.nesting.specs.Nesting.{ok}
 use Rattle.nesting.specs.Nesting.{err, NestState}
-use Rattle.state.specs.Sections.{used, word, stored, stored-all, head, kinds, set-starts, set-lengths, children, bodies, cases, bundles}
+use Rattle.state.specs.Sections.{word, stored, stored-all, head, kinds, set-starts, set-lengths, children, bodies, cases, bundles}
 use Rattle.state.specs.Tables.{bundle-at, input-word, case-words, shift-removed}
 use Rattle.shown.specs.Values.{value}
 use Rattle.shown.specs.Sets.{Names, ShowsTarget, shows-region, shows-return, ShowsBundle, ShowsSet, no-bundle}
@@ -20,9 +21,9 @@ use Rattle.shown.specs.Kept.{Later, KeptRegion, kept-then, set-stays, same-bund
 use Rattle.shown.specs.Stores.{head-same}
 use Rattle.shown.specs.SetStores.{OnlySets, only-then, only-total, only-later, only-state, only-word-same, slots-stay, word-other}
 use Rattle.shown.specs.SetStores.{same-elsewhere, same-elsewhere-run}
-use Rattle.shown.specs.SetSteps.{bundle-in, ShiftRemoved, shift-removes, kept-beside}
+use Rattle.shown.specs.SetSteps.{bundle-in, shift-removes, kept-beside}
 use Rattle.bundles.specs.Words.{claimed-case, unclaimed-case, given-word, given-inputs, split-filled}
-use Rattle.bundles.specs.CaseSteps.{OneCase, one-row, Owner, of-claimed, of-others, placed, placed-apart, placed-not-spare, CaseShown}
+use Rattle.bundles.specs.CaseSteps.{one-row, Owner, of-claimed, of-others, placed, placed-apart, placed-not-spare, CaseShown}
 use Rattle.bundles.specs.CaseSteps.{shown-stays, claimed-row, others-row, one-kept}
 use Rattle.bundles.specs.CasesFilled.{total-of}
 
@@ -157,7 +158,8 @@ module _ {g : Graph} (few : length (g .regions) ≤ 32) {r : ℕ} (here : r < le
       let left : ShowsSet g w₂ start n (take i d ++ drop (suc i) d) =
       set-stays (only-later (only-total rest 2) g) (λ k h. same-elsewhere rest head (omega arith) 7 2 _)
       (rw (x .starts r) at (x .set)) in
-      let claimed₂ = claimed-stays (only-later only₂ g) (kept₂ o (omega arith) other) (only-word-same only₂ kinds (omega arith) o) claimed in
+      let claimed₂ = claimed-stays (only-later only₂ g) (kept₂ o (omega arith) other)
+      (only-word-same only₂ kinds (omega arith) o) claimed in
       let given = given-inputs g w p in
       let same-case : claimed-case w₂ o ≡ claimed-case w (word w bundles (7 * p + 0)) =
       rw (

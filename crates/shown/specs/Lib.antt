@@ -14,3 +14,4 @@ pub mod RegionSteps
 pub mod CellSteps
 pub mod SetStores
 pub mod SetSteps
+pub mod NamedSteps

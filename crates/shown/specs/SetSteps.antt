@@ -18,12 +18,13 @@ use Rattle.nesting.specs.Nesting.{LazyCond, edge-bundle, condition-in, get-edge
 use Rattle.state.specs.Sections.{used, word, stored, stored-all, set-starts, set-lengths, bundles}
 use Rattle.state.specs.Tables.{bundle-at, bundle-words, find-by, copied, swap-removed, shifted, shift-removed, swapped}
 use Rattle.shown.specs.Tables.{ShowsCondition, shows-true}
-use Rattle.shown.specs.Sets.{Names, target-size, ShowsTarget, shows-region, shows-return, ShowsBundle, ShowsSet, SameBundle, no-bundle}
+use Rattle.shown.specs.Sets.{Names, target-size, ShowsTarget, shows-region, shows-return, ShowsBundle, ShowsSet, SameBundle}
+use Rattle.shown.specs.Sets.{no-bundle}
 use Rattle.shown.specs.States.{ShowsOwnSet, Slots}
-use Rattle.shown.specs.Kept.{Later, KeptRegion, same-bundle, same-bundle-then}
-use Rattle.shown.specs.RegionSteps.{word-there}
+use Rattle.shown.specs.Kept.{Later, KeptRegion, set-stays, same-bundle, same-bundle-then}
+use Rattle.shown.specs.RegionSteps.{word-there, word-apart}
 use Rattle.shown.specs.SetStores.{OnlySets, only-same, only-word, only-run, only-then, only-later, only-kept, starts-of-sets}
-use Rattle.shown.specs.SetStores.{lengths-of-sets, bundles-of-sets, word-beside, word-other, run-elsewhere-word, Moves}
+use Rattle.shown.specs.SetStores.{lengths-of-sets, bundles-of-sets, word-other, run-elsewhere-word, Moves}
 use Rattle.shown.specs.SetStores.{moves-then, same-moves, same-elsewhere, bundle-stored, copy-moves, copy-beside}
 
 pub bundle-in : (start i : ℕ) → start < 1097 → i < 33 → bundle-at start i ≡ start + i
@@ -97,7 +98,8 @@ pub data Finds (first : ℕ) (x : DeferredTarget) (d : DeferredEdgeBundleSet) (a
       → Finds first x d a
   none-found : a ≡ 65535 → get-edge-bundle-by-target x d ≡ none → Finds first x d a
 
-module _ {g : Graph} (w : List ℕ) (few : length (g .regions) ≤ 32) (start : ℕ) {t : ℕ} {x : DeferredTarget} (of-target : ShowsTarget g t x) where
+module _ {g : Graph} (w : List ℕ) (few : length (g .regions) ≤ 32) (start : ℕ) {t : ℕ} {x : DeferredTarget}
+    (of-target : ShowsTarget g t x) where
   finds-from : (es : DeferredEdgeBundleSet) (i : ℕ) → i + length es ≤ 33 → start + (i + length es) ≤ 1097
       → ((j : ℕ) → j < length es → ShowsTarget g (word w bundles (7 * (start + (i + j)) + 0)) (getD es j no-bundle .target))
       → Finds (start + i) x es (find-by w start t (length es) i)
@@ -107,7 +109,8 @@ module _ {g : Graph} (w : List ℕ) (few : length (g .regions) ≤ 32) (start : 
       let at : bundle-at start i ≡ start + i = bundle-in start i (omega arith) (omega arith) in
       let z : i + 0 ≡ i = omega arith in
       let first : ShowsTarget g (word w bundles (7 * (start + i) + 0)) (e .target) = rw z at (each 0 (omega arith)) in
-      let tells : eqb (word w bundles (7 * bundle-at start i + 0)) t ≡ same-target x (e .target) = rw at (targets-tell few of-target first) in
+      let tells : eqb (word w bundles (7 * bundle-at start i + 0)) t ≡ same-target x (e .target) = rw at
+      (targets-tell few of-target first) in
       let rest = finds-from es (suc i) (omega arith) (omega arith)
       (λ j h. let y : suc i + j ≡ i + suc j = omega arith in rw y (each (suc j) (omega arith))) in
       rw (tells, at) (go (same-target x (e .target)) refl rest)
@@ -125,7 +128,8 @@ module _ {g : Graph} (w : List ℕ) (few : length (g .regions) ≤ 32) (start : 
       let room = y .room in
       let e = y .size in
       let z : start + 0 ≡ start = omega arith in
-      rw e (rw z at (finds-from d 0 (omega arith) (omega arith) (λ j h. let q : 0 + j ≡ j = omega arith in rw q (y .each j (omega arith) .target))))
+      rw e (rw z at
+      (finds-from d 0 (omega arith) (omega arith) (λ j h. let q : 0 + j ≡ j = omega arith in rw q (y .each j (omega arith) .target))))
 
 -- ---- One bundle out of a list.
 getD-any : {A : Type 0} (l : List A) (k : ℕ) (a b : A) → k < length l → getD l k a ≡ getD l k b
@@ -134,13 +138,13 @@ getD-any (x ∷ l) zero a b h = refl
 getD-any (x ∷ l) (suc k) a b h = getD-any l k a b (omega arith)
 
 -- By swap: the last takes the place of the first to x.
-pub record SplitOut (x : DeferredTarget) (d : DeferredEdgeBundleSet) (i : ℕ) : Type 0 where
+pub record SplitLeaves (x : DeferredTarget) (d : DeferredEdgeBundleSet) (i : ℕ) : Type 0 where
   pub size : suc (length (split-out-target x d)) ≡ length d
   pub gap : (m : ℕ) → suc m ≡ length d → i < m → getD (split-out-target x d) i no-bundle ≡ getD d m no-bundle
   pub others : (j : ℕ) → suc j < length d → (j ≡ i → ⊥) → getD (split-out-target x d) j no-bundle ≡ getD d j no-bundle
 
 split-first : (x : DeferredTarget) (e : DeferredEdgeBundle) (es : DeferredEdgeBundleSet) → same-target x (e .target) ≡ true
-    → SplitOut x (e ∷ es) 0
+    → SplitLeaves x (e ∷ es) 0
 split-first x e [] is = record { size = rw is; gap = λ m q h. absurd (omega arith); others = λ j h d. absurd (omega arith) }
 split-first x e (y ∷ ys) is =
     record {
@@ -156,7 +160,7 @@ split-first x e (y ∷ ys) is =
 
 pub split-out-at : (x : DeferredTarget) (d : DeferredEdgeBundleSet) (i : ℕ) → i < length d
     → same-target x (getD d i no-bundle .target) ≡ true → ((j : ℕ) → j < i → same-target x (getD d j no-bundle .target) ≡ false)
-    → SplitOut x d i
+    → SplitLeaves x d i
 split-out-at x [] i h is before = absurd (omega arith)
 split-out-at x (e ∷ es) zero h is before = split-first x e es is
 split-out-at x (e ∷ es) (suc i) h is before =
@@ -219,7 +223,8 @@ module _ (w : List ℕ) (r b : ℕ) where
   unfolding swap-removed
   swap-removed-none h = rw (eq-eqb (word w set-lengths r) 0 h)
 
-  by-length : (P : List ℕ → Type 0) → P w → P (stored (copied w b last-of) set-lengths r (word w set-lengths r - 1)) → P (swap-removed w r b)
+  by-length : (P : List ℕ → Type 0) → P w → P (stored (copied w b last-of) set-lengths r (word w set-lengths r - 1)) → P
+      (swap-removed w r b)
   by-length P x y =
       elim (ℕ-discrete (word w set-lengths r) 0) [
         | yes e ↦ rw (swap-removed-none e) x
@@ -240,12 +245,19 @@ module _ (w : List ℕ) (r b : ℕ) where
   pub swap-removed-lengths : (q : ℕ) → (q ≡ r → ⊥) → word (swap-removed w r b) set-lengths q ≡ word w set-lengths q
   swap-removed-lengths q d =
       by-length (λ l. word l set-lengths q ≡ word w set-lengths q) refl
-      (word-beside (copied w b last-of) set-lengths r _ q d ∙ run-elsewhere-word w bundles (7 * b) _ set-lengths (omega arith) q)
+      (word-apart (copied w b last-of) set-lengths r _ set-lengths q d ∙ run-elsewhere-word w bundles (7 * b) _ set-lengths (omega arith) q)
 
   pub swap-removed-beside : (p : ℕ) → (p ≡ b → ⊥) → SameBundle w (swap-removed w r b) p
   swap-removed-beside p d =
       by-length (λ l. SameBundle w l p) (same-bundle w p)
       (same-bundle-then (copy-beside w b last-of p d) (same-elsewhere (copied w b last-of) set-lengths (omega arith) r _ p))
+
+  -- Where b is a bundle of region r's slot.
+  pub swap-removed-kept : Slots w → r < 33 → word w set-starts r ≤ b → b < word w set-starts r + 33 → (q : ℕ) → q < 33 → (q ≡ r → ⊥)
+      → KeptRegion w (swap-removed w r b) q
+  swap-removed-kept slots below from to q h d =
+      kept-beside swap-removed-only slots below h d (swap-removed-starts q) (swap-removed-lengths q d)
+      (λ p e. swap-removed-beside p (λ f. e (omega arith) (omega arith)))
 
 -- The bundle found by its target leaves region r's set: the rest is split-out-target's.
 module _ {g : Graph} {w : List ℕ} (room : used ≤ length w) {r : ℕ} (below : r < 33) {d : DeferredEdgeBundleSet}
@@ -348,7 +360,8 @@ pub record ShiftRemoved (g : Graph) (w w′ : List ℕ) (r i : ℕ) (d : Deferre
   pub beside : (p : ℕ) → (word w set-starts r ≤ p → p < word w set-starts r + 33 → ⊥) → SameBundle w w′ p
   pub set : ShowsOwnSet g w′ r (take i d ++ drop (suc i) d)
 
-pub shift-removes : {g : Graph} {w : List ℕ} → used ≤ length w → {r : ℕ} → r < 33 → {d : DeferredEdgeBundleSet} → ShowsOwnSet g w r d → (i : ℕ)
+pub shift-removes : {g : Graph} {w : List ℕ} → used ≤ length w → {r : ℕ} → r < 33 → {d : DeferredEdgeBundleSet} → ShowsOwnSet g w r d →
+    (i : ℕ)
     → i < length d → ShiftRemoved g w (shift-removed w r i) r i d
 unfolding shift-removed
 shift-removes {g} {w} room {r} below {d} shown i h =
@@ -361,7 +374,8 @@ shift-removes {g} {w} room {r} below {d} shown i h =
     let moved = shifted w start i (n - 1 - i) in
     let counted = s .only .words in
     let only = only-then (s .only) (only-word moved lengths-of-sets r (n - 1)) in
-    let same : (p : ℕ) → SameBundle moved (stored moved set-lengths r (n - 1)) p = λ p. same-elsewhere moved set-lengths (omega arith) r (n - 1) p in
+    let same : (p : ℕ) → SameBundle moved (stored moved set-lengths r (n - 1)) p = λ p. same-elsewhere moved set-lengths (omega arith) r
+    (n - 1) p in
     let starts : (q : ℕ) → word (stored moved set-lengths r (n - 1)) set-starts q ≡ word w set-starts q =
     λ q. word-other moved set-lengths r (n - 1) set-starts (omega arith) q ∙ s .starts q in
     let new-length = word-there moved set-lengths r (n - 1) (omega arith) below in
@@ -370,7 +384,7 @@ shift-removes {g} {w} room {r} below {d} shown i h =
     record {
       only = only;
       starts = starts;
-      lengths = λ q e. word-beside moved set-lengths r (n - 1) q e ∙ s .lengths q;
+      lengths = λ q e. word-apart moved set-lengths r (n - 1) set-lengths q e ∙ s .lengths q;
       beside = λ p e. same-bundle-then (s .beside p (λ x y. e (omega arith) (omega arith))) (same p);
       set = rw (starts r, new-length)
           (set-moves (only-later only g) (λ j. pick (ltb j i) j (suc j)) (omega arith) (omega arith) (omega arith)
@@ -410,13 +424,14 @@ module _ (w : List ℕ) (room : used ≤ length w) (a b : ℕ) (at-a : a < 33) (
   swapped-first =
       elim (ℕ-discrete a b) [
         | yes e ↦ ap (λ q. word (swapped w a b) set-starts q) e ∙ swapped-second ∙ ap (λ q. word w set-starts q) e
-        | no d ↦ word-beside first-stored set-starts b (word w set-starts a) a d
+        | no d ↦ word-apart first-stored set-starts b (word w set-starts a) set-starts a d
             ∙ word-there w set-starts a (word w set-starts b) (omega arith) at-a
       ]
 
   pub swapped-other : (q : ℕ) → (q ≡ a → ⊥) → (q ≡ b → ⊥) → word (swapped w a b) set-starts q ≡ word w set-starts q
   swapped-other q d e =
-      word-beside first-stored set-starts b (word w set-starts a) q e ∙ word-beside w set-starts a (word w set-starts b) q d
+      word-apart first-stored set-starts b (word w set-starts a) set-starts q e
+      ∙ word-apart w set-starts a (word w set-starts b) set-starts q d
 
   pub swapped-lengths : (q : ℕ) → word (swapped w a b) set-lengths q ≡ word w set-lengths q
   swapped-lengths q =
@@ -431,6 +446,15 @@ module _ (w : List ℕ) (room : used ≤ length w) (a b : ℕ) (at-a : a < 33) (
   pub swapped-kept : (q : ℕ) → (q ≡ a → ⊥) → (q ≡ b → ⊥) → KeptRegion w (swapped w a b) q
   swapped-kept q d e =
       only-kept swapped-only q (swapped-other q d e) (swapped-lengths q) (λ i h. swapped-bundle (word w set-starts q + i))
+
+  -- A set moves with its slot.
+  pub swapped-first-set : {g : Graph} {n : ℕ} {d : DeferredEdgeBundleSet} → ShowsSet g w (word w set-starts b) n d
+      → ShowsSet g (swapped w a b) (word (swapped w a b) set-starts a) n d
+  swapped-first-set {g} x = rw swapped-first (set-stays (only-later swapped-only g) (λ i h. swapped-bundle (word w set-starts b + i)) x)
+
+  pub swapped-second-set : {g : Graph} {n : ℕ} {d : DeferredEdgeBundleSet} → ShowsSet g w (word w set-starts a) n d
+      → ShowsSet g (swapped w a b) (word (swapped w a b) set-starts b) n d
+  swapped-second-set {g} x = rw swapped-second (set-stays (only-later swapped-only g) (λ i h. swapped-bundle (word w set-starts a + i)) x)
 
   -- Region q's slot is that of region `turned q`.
   abbrev turned : ℕ → ℕ

@@ -13,7 +13,8 @@ put-bundle-requires : tie.Need-put-bundle-requires
 put-bundle-requires c κs = search needs
 
 returns : tie.Need-returns
-returns c g s = edge-by g _ _ _ _ (c .before .before .before .before .before .target .ensures g s) (c .before .before .before .passed-inputs .ensures g s) (c .put-bundle .ensures)
+returns c g s = edge-by g _ _ _ _ (c .before .before .before .before .before .target .ensures g s)
+    (c .before .before .before .passed-inputs .ensures g s) (c .put-bundle .ensures)
 
 pub defer-edge-spec : {M : Type 1} → statement M
 defer-edge-spec =

@@ -19,7 +19,9 @@ put-set-length-requires : tie.Need-put-set-length-requires
 put-set-length-requires c κs = search needs
 
 returns : tie.Need-returns
-returns c g s = return-by g _ _ (c .before .before .before .before .before .before .before .before .set-start .ensures) (c .before .before .before .before .before .before .before .bundle-at .ensures) (c .before .before .before .before .before .returned-inputs .ensures g s)
+returns c g s = return-by g _ _ (c .before .before .before .before .before .before .before .before .set-start .ensures)
+    (c .before .before .before .before .before .before .before .bundle-at .ensures)
+    (c .before .before .before .before .before .returned-inputs .ensures g s)
     (c .before .before .put-bundle .ensures) (c .put-set-length .ensures)
 
 pub defer-return-spec : {M : Type 1} → statement M

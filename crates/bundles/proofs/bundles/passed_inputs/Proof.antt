@@ -19,7 +19,8 @@ passed-word-requires-4 : tie.Need-passed-word-requires-4
 passed-word-requires-4 c κs = search needs
 
 returns : tie.Need-returns
-returns c g s = padded-all _ (c .before .before .before .before .passed-count .ensures g s) (c .before .before .before .passed-word .ensures g s) (c .before .before .passed-word2 .ensures g s)
+returns c g s = padded-all _ (c .before .before .before .before .passed-count .ensures g s)
+    (c .before .before .before .passed-word .ensures g s) (c .before .before .passed-word2 .ensures g s)
     (c .before .passed-word3 .ensures g s) (c .passed-word4 .ensures g s)
 
 pub passed-inputs-spec : {M : Type 1} → statement M

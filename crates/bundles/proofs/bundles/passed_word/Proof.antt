@@ -10,7 +10,8 @@ value-word-requires : tie.Need-value-word-requires
 value-word-requires c κs = search needs
 
 returns : tie.Need-returns
-returns c g s = padded-in _ _ _ (c .before .before .if1 .taken) (c .before .passed .result) (c .value-word .ensures) (c .before .passed .ensures g s)
+returns c g s = padded-in _ _ _ (c .before .before .if1 .taken) (c .before .passed .result) (c .value-word .ensures)
+    (c .before .passed .ensures g s)
 
 returns-2 : tie.Need-returns-2
 returns-2 c g s = padded-beyond _ _ _ (c .if1 .left)

@@ -18,7 +18,9 @@ put-all-requires : tie.Need-put-all-requires
 put-all-requires c κs = search needs
 
 returns : tie.Need-returns
-returns c = run-then _ bundles _ (c .before .before .before .before .before .args .t ∷ c .before .before .before .before .before .args .n ∷ c .before .before .before .before .before .args .c ∷ []) _ (c .before .before .before .set-bundle .ensures) (c .put-all .ensures)
+returns c = run-then _ bundles _
+    (c .before .before .before .before .before .args .t ∷ c .before .before .before .before .before .args .n
+    ∷ c .before .before .before .before .before .args .c ∷ []) _ (c .before .before .before .set-bundle .ensures) (c .put-all .ensures)
 
 pub put-bundle-spec : {M : Type 1} → statement M
 put-bundle-spec =

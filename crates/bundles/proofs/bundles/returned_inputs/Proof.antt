@@ -19,7 +19,8 @@ returned-word-requires-4 : tie.Need-returned-word-requires-4
 returned-word-requires-4 c κs = search needs
 
 returns : tie.Need-returns
-returns c g s = padded-all _ (c .before .before .before .before .value-count .ensures g s) (c .before .before .before .returned-word .ensures g s) (c .before .before .returned-word2 .ensures g s)
+returns c g s = padded-all _ (c .before .before .before .before .value-count .ensures g s)
+    (c .before .before .before .returned-word .ensures g s) (c .before .before .returned-word2 .ensures g s)
     (c .before .returned-word3 .ensures g s) (c .returned-word4 .ensures g s)
 
 pub returned-inputs-spec : {M : Type 1} → statement M

@@ -26,8 +26,13 @@ put-set-length-requires : tie.Need-put-set-length-requires
 put-set-length-requires c κs = search needs
 
 returns : tie.Need-returns
-returns c = append-claimed _ _ _ _ (c .before .before .before .before .before .before .before .before .before .before .before .before .before .before .before .if1 .taken) (c .before .before .before .before .before .before .before .before .before .before .before .before .before .case-inputs .ensures) (c .before .before .before .before .before .before .before .before .before .before .insert-rewrites .ensures) (c .before .before .before .before .before .before .before .before .children .ensures)
-    (c .before .before .before .before .before .before .join .ensures) (c .before .before .before .before .set-children .ensures) (c .before .before .swap-sets .ensures) (c .put-set-length .ensures)
+returns c =
+    let entered = c .before .before .before .before .before .before .before .before .before .before in
+    append-claimed _ _ _ _ (entered .before .before .before .before .before .if1 .taken)
+    (entered .before .before .before .case-inputs .ensures) (entered .insert-rewrites .ensures)
+    (c .before .before .before .before .before .before .before .before .children .ensures)
+    (c .before .before .before .before .before .before .join .ensures) (c .before .before .before .before .set-children .ensures)
+    (c .before .before .swap-sets .ensures) (c .put-set-length .ensures)
 
 set-start-requires : tie.Need-set-start-requires
 set-start-requires c κs = search needs
@@ -42,7 +47,9 @@ put-set-length-requires-2 : tie.Need-put-set-length-requires-2
 put-set-length-requires-2 c κs = search needs
 
 returns-2 : tie.Need-returns-2
-returns-2 c = append-edge _ _ _ _ (c .before .before .before .before .before .before .before .if2 .taken) (c .before .before .before .before .before .set-start .ensures) (c .before .before .before .before .bundle-at .ensures) (c .before .before .copy-bundle .ensures)
+returns-2 c = append-edge _ _ _ _ (c .before .before .before .before .before .before .before .if2 .taken)
+    (c .before .before .before .before .before .set-start .ensures) (c .before .before .before .before .bundle-at .ensures)
+    (c .before .before .copy-bundle .ensures)
     (c .put-set-length2 .ensures)
 
 put-set-length-requires-3 : tie.Need-put-set-length-requires-3

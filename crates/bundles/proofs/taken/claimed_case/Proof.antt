@@ -15,7 +15,13 @@ set-length-requires : tie.Need-set-length-requires
 set-length-requires c κs = search needs
 
 returns : tie.Need-returns
-returns c = rw (c .before .before .before .structured-body .ensures, c .before .before .children .ensures, c .before .set-start .ensures, c .set-length .ensures)
+returns c =
+    rw (
+      c .before .before .before .structured-body .ensures,
+      c .before .before .children .ensures,
+      c .before .set-start .ensures,
+      c .set-length .ensures,
+    )
 
 pub claimed-case-spec : {M : Type 1} → statement M
 claimed-case-spec =

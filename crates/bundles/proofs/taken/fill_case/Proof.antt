@@ -19,7 +19,10 @@ put-case-requires : tie.Need-put-case-requires
 put-case-requires c κs = search needs
 
 returns : tie.Need-returns
-returns c g s = fill-claimed g _ _ _ (c .before .before .before .before .before .before .before .before .before .target-taken .ensures) (c .before .before .before .before .before .before .before .before .if1 .taken) (c .before .before .before .before .before .before .target .ensures g s) (c .before .before .before .before .before .claimed-case .ensures)
+returns c g s = fill-claimed g _ _ _ (c .before .before .before .before .before .before .before .before .before .target-taken .ensures)
+    (c .before .before .before .before .before .before .before .before .if1 .taken)
+    (c .before .before .before .before .before .before .target .ensures g s)
+    (c .before .before .before .before .before .claimed-case .ensures)
     (c .before .before .before .passed-inputs .ensures g s) (c .put-case .ensures)
 
 own-edge-requires : tie.Need-own-edge-requires
@@ -35,7 +38,9 @@ set-case-requires : tie.Need-set-case-requires
 set-case-requires c κs = search needs
 
 returns-2 : tie.Need-returns-2
-returns-2 c g s = fill-edge g _ _ _ (c .before .before .before .before .before .before .before .before .target-taken .ensures) (c .before .before .before .before .before .before .before .if1 .left) (c .before .before .before .before .before .before .if2 .taken) (c .before .before .before .before .before .own-edge .ensures)
+returns-2 c g s = fill-edge g _ _ _ (c .before .before .before .before .before .before .before .before .target-taken .ensures)
+    (c .before .before .before .before .before .before .before .if1 .left)
+    (c .before .before .before .before .before .before .if2 .taken) (c .before .before .before .before .before .own-edge .ensures)
     (c .before .before .before .defer-edge .ensures g s) (c .before .unclaimed-case .ensures) (c .set-case .ensures)
 
 unclaimed-case-requires-2 : tie.Need-unclaimed-case-requires-2
@@ -45,7 +50,8 @@ set-case-requires-2 : tie.Need-set-case-requires-2
 set-case-requires-2 c κs = search needs
 
 returns-3 : tie.Need-returns-3
-returns-3 c g s = fill-nothing g _ _ _ (c .before .before .before .before .before .target-taken .ensures) (c .before .before .before .before .if1 .left) (c .before .before .before .if2 .left) (c .before .unclaimed-case2 .ensures)
+returns-3 c g s = fill-nothing g _ _ _ (c .before .before .before .before .before .target-taken .ensures)
+    (c .before .before .before .before .if1 .left) (c .before .before .before .if2 .left) (c .before .unclaimed-case2 .ensures)
     (c .set-case2 .ensures)
 
 pub fill-case-spec : {M : Type 1} → statement M

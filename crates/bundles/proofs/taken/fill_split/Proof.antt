@@ -37,8 +37,14 @@ set-case-requires : tie.Need-set-case-requires
 set-case-requires c κs = search needs
 
 returns : tie.Need-returns
-returns c g s = split-by g _ _ _ (c .before .before .before .before .before .before .before .before .before .before .before .before .before .before .before .before .before .before .set-start .ensures) (c .before .before .before .before .before .before .before .before .before .before .before .before .before .before .before .before .before .bundle-at .ensures) (c .before .before .before .before .before .before .before .before .before .before .before .before .before .before .before .target .ensures) (c .before .before .before .before .before .before .before .before .before .before .before .before .before .before .claimed-case .ensures)
-    (c .before .before .before .before .before .before .before .before .before .before .before .before .given-inputs .ensures g s) (c .before .before .before .before .before .before .before .before .before .before .shift-remove .ensures) (c .before .before .before .before .before .before .before .before .set-length .ensures) (c .before .before .before .before .before .before .set-case-count .ensures)
+returns c g s =
+    let read = c .before .before .before .before .before .before .before .before .before .before in
+    split-by g _ _ _ (read .before .before .before .before .before .before .before .before .set-start .ensures)
+    (read .before .before .before .before .before .before .before .bundle-at .ensures)
+    (read .before .before .before .before .before .target .ensures) (read .before .before .before .before .claimed-case .ensures)
+    (read .before .before .given-inputs .ensures g s)
+    (read .shift-remove .ensures) (c .before .before .before .before .before .before .before .before .set-length .ensures)
+    (c .before .before .before .before .before .before .set-case-count .ensures)
     (c .before .before .before .put-case .ensures) (c .before .unclaimed-case .ensures) (c .set-case .ensures)
 
 pub fill-split-spec : {M : Type 1} → statement M

@@ -22,7 +22,9 @@ given-word-requires-4 : tie.Need-given-word-requires-4
 given-word-requires-4 c κs = search needs
 
 returns : tie.Need-returns
-returns c g s = given-all g _ _ (c .before .before .before .before .before .target .ensures) (c .before .before .before .before .input-count .ensures g s) (c .before .before .before .given-word .ensures) (c .before .before .given-word2 .ensures)
+returns c g s = given-all g _ _ (c .before .before .before .before .before .target .ensures)
+    (c .before .before .before .before .input-count .ensures g s) (c .before .before .before .given-word .ensures)
+    (c .before .before .given-word2 .ensures)
     (c .before .given-word3 .ensures) (c .given-word4 .ensures)
 
 pub given-inputs-spec : {M : Type 1} → statement M

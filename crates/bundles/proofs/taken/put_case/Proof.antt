@@ -18,7 +18,8 @@ put-all-requires : tie.Need-put-all-requires
 put-all-requires c κs = search needs
 
 returns : tie.Need-returns
-returns c = run-then _ cases _ (case-words (c .before .before .before .before .before .args .x)) _ (c .before .before .before .set-case .ensures) (c .put-all .ensures)
+returns c = run-then _ cases _ (case-words (c .before .before .before .before .before .args .x)) _
+    (c .before .before .before .set-case .ensures) (c .put-all .ensures)
 
 pub put-case-spec : {M : Type 1} → statement M
 put-case-spec =
