@@ -13,3 +13,4 @@ pub mod Emitting
 pub mod PerCase
 pub mod EmitsShown
 pub mod SetsEmitted
+pub mod PlansShown
