@@ -14,3 +14,4 @@ pub mod PerCase
 pub mod EmitsShown
 pub mod SetsEmitted
 pub mod PlansShown
+pub mod Replaced

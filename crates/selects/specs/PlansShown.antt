@@ -93,3 +93,61 @@ plan-shown {g} cs {w} {w′} {base} rows size each =
       rows = λ i h. rw (is-plan i no-plan (omega arith)) (planned-of g cs (getD ts i no-summary) (own i (omega arith)));
       apart = λ i j a b e. rows .apart i j a (omega arith) (sym (target i (omega arith)) ∙ e ∙ target j (omega arith));
     }
+
+-- ---- Where nothing is to be made, the rows are the set.
+none-of : {A : Type 0} (f : A → Bool) (xs : List A) → any f xs ≡ false → (i : ℕ) (d : A) → i < length xs → f (getD xs i d) ≡ false
+none-of f [] e i d h = absurd (omega arith)
+none-of f (x ∷ xs) e zero d h = or-left (f x) (any f xs) e
+none-of f (x ∷ xs) e (suc i) d h = none-of f xs (or-right (f x) (any f xs) e) i d (omega arith)
+
+abbrev to-make : PlannedInput → Bool
+to-make i = elim i [ shared v ↦ false | merged ty vs ↦ true ]
+
+abbrev its-value : PlannedInput → Value
+its-value i = elim i [ shared v ↦ v | merged ty vs ↦ undef 0 ]
+
+value-of : {g : Graph} {cs : List MaybeClaimedRegion} {x : DeferredTarget} {a k : ℕ} {i : PlannedInput} → PlannedInputOf g cs x a k i
+    → to-make i ≡ false → Names a (its-value i)
+value-of (is-shared names) e = names
+value-of (is-merged z u v) e = absurd (clash (cc))
+
+true-of : {cs : List MaybeClaimedRegion} {x : DeferredTarget} {a : ℕ} {o : Option LazyConds} → PlannedConditionOf cs x a o → is-some o ≡ false
+    → a ≡ 1
+true-of (is-true z) e = z
+true-of (is-open z u) e = absurd (clash (cc))
+
+shared-shown : {g : Graph} {cs : List MaybeClaimedRegion} {w : List ℕ} {q : ℕ} {p : PlannedBundle} → PlannedOf g cs w q p
+    → (any to-make (p .inputs) || is-some (p .condition)) ≡ false → ShowsBundle g w q (shared-bundle p)
+shared-shown {p} y e =
+    let same = length-map (p .inputs) its-value in
+    let most = y .few in
+    let long = y .size in
+    record {
+      target = y .target;
+      count = y .count;
+      condition = record {
+        tree = shows-true (true-of (y .condition) (or-right (any to-make (p .inputs)) (is-some (p .condition)) e));
+        made = let z = true-of (y .condition) (or-right (any to-make (p .inputs)) (is-some (p .condition)) e) in omega arith;
+      };
+      size = same ∙ long;
+      few = omega arith;
+      inputs = λ k h.
+          let below : k < length (p .inputs) = omega arith in
+          rw (getD-map-in its-value (p .inputs) k no-planned (undef 0) below)
+          (value-of (y .inputs k below)
+          (none-of to-make (p .inputs) (or-left (any to-make (p .inputs)) (is-some (p .condition)) e) k no-planned below));
+    }
+
+pub shared-set : {g : Graph} {cs : List MaybeClaimedRegion} {w : List ℕ} {base : ℕ} {ps : List PlannedBundle} → base + 33 ≤ 1097
+    → ShowsPlan g cs w base ps → any-needs-select ps ≡ false → ShowsSet g w base (length ps) (map shared-bundle ps)
+shared-set {ps} room plan e =
+    let same = length-map ps shared-bundle in
+    let most = plan .few in
+    record {
+      size = sym same;
+      few = plan .few;
+      room = omega arith;
+      each = λ i h. rw (getD-map-in shared-bundle ps i no-plan no-bundle h)
+          (shared-shown (plan .rows i h) (none-of (λ p. any to-make (p .inputs) || is-some (p .condition)) ps e i no-plan h));
+      apart = λ i j a b z. plan .apart i j a b z;
+    }
