@@ -15,3 +15,4 @@ pub mod EmitsShown
 pub mod SetsEmitted
 pub mod PlansShown
 pub mod Replaced
+pub mod Structurized

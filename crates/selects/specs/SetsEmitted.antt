@@ -216,7 +216,7 @@ emit-more n p ps s = go (emit-inputs n (p .inputs) s)
     go (done ins s₁) = last ins (emit-condition n (p .condition) s₁)
     go (turned-away k u) = refl
 
-planned-stays : {g : Graph} {cs : List MaybeClaimedRegion} {w w′ : List ℕ} {q : ℕ} {p : PlannedBundle} → SameBundle w w′ q
+pub planned-stays : {g : Graph} {cs : List MaybeClaimedRegion} {w w′ : List ℕ} {q : ℕ} {p : PlannedBundle} → SameBundle w w′ q
     → PlannedOf g cs w q p → PlannedOf g cs w′ q p
 planned-stays same x =
     let most = x .few in
