@@ -20,6 +20,7 @@ use Rattle.nesting.specs.steps.StatesKept.{Still, still-steady}
 use Rattle.state.specs.declared.defined.Defined.{Defined}
 use Rattle.state.specs.declared.defined.Defined.the-variants.{Number, Full as Refused}
 use Rattle.state.specs.Sections.{Section, number, section, word, head, kinds, set-starts, set-lengths, children, cases, rewrites, bundles}
+use Rattle.state.specs.Tables.{case-total}
 use Rattle.shown.specs.Tables.{ShowsTables, ShowsShape}
 use Rattle.shown.specs.Sets.{ShowsSet, SameBundle}
 use Rattle.shown.specs.Cells.{ShowsChildren}
@@ -38,6 +39,7 @@ use Rattle.selects.specs.declared.made.Made.the-variants.{Done, Full}
 use Rattle.selects.specs.declared.define.Scrutinee.{Scrutinee}
 use Rattle.selects.specs.Into.{SelectIf, not-needed, select-refused, select-made, with-targets, with-plan, needs-select, Structurizes}
 use Rattle.selects.specs.Into.{not-structurized, structurized}
+use Rattle.selects.specs.Cases.{all-replaced}
 use Rattle.selects.specs.Selects as words
 use Rattle.selects.specs.CasesShown.{any-non-empty-shown}
 use Rattle.selects.specs.RegionsShown.{ShowsMade, shows-made, shows-refused, made-of, refused-of}
@@ -176,3 +178,158 @@ module _ {g : Graph} (few : length (g .regions) ≤ 32) (small : SmallTypes g) {
       }))
   chosen none (select-refused e m) = rw (e, no-select (answer m)) shows-refused
   chosen none (select-made e m emits) = rw e (after-select (answer m) emits)
+
+-- ---- Cases rewritten, their targets deferred, and what is to be done planned.
+pub record Prepared (g : Graph) (r : ℕ) (cs : List MaybeClaimedRegion) (s : NestState) (w w′ : List ℕ) (base : ℕ) (needed : Bool) : Type 0 where
+  pub state : ShowsState g w′ (state-after s cs)
+  pub shown : ShowsCases g w′ r (cases-after s cs)
+  pub plan : ShowsPlan g (cases-after s cs) w′ base (nesting.plan-bundles g (cases-after s cs))
+  pub is-needed : needed ≡ any-needs-select (nesting.plan-bundles g (cases-after s cs))
+  pub later : Later g w w′
+  pub spare-at : word w′ set-starts 32 ≡ base
+  pub same : (k : Section) → (number k ≡ 1 → ⊥) → (number k ≡ 5 → ⊥) → (number k ≡ 10 → ⊥) → (number k ≡ 15 → ⊥) → section w′ k ≡ section w k
+  pub totals : (q : ℕ) → (q ≡ 6 → ⊥) → word w′ head q ≡ word w head q
+  pub kept : (q : ℕ) → q < 32 → (q ≡ r → ⊥)
+      → ((j : ℕ) → j < length cs → word w cases (10 * j + 0) ≡ 2 → q ≡ word w cases (10 * j + 1) → ⊥) → KeptRegion w w′ q
+  pub outside : (p : ℕ) → ((j i : ℕ) → j < length cs → i < word w cases (10 * j + 5) → p ≡ word w cases (10 * j + 4) + i → ⊥)
+      → ((i : ℕ) → i < 33 → p ≡ word w set-starts 32 + i → ⊥) → SameBundle w w′ p
+
+module _ {g : Graph} (valid : Valid g) {r : ℕ} (below : r < length (g .regions)) {w : List ℕ} {s : NestState} (state : ShowsState g w s)
+    {cs : List MaybeClaimedRegion} (shown : ShowsCases g w r cs) (unready : NoneReady w r cs)
+    (chains : (q : ℕ) → ChainsEnd (s .region-input-rewrites) q)
+    (bound : (x : DeferredTarget) → edges-of-cases x (cases-after s cs) ≤ 65535) where
+  pub prepared : Prepared g r cs s w (with-plan g w) (word (with-targets g w) set-starts 32) (plan-bundles g (with-targets g w) .needed)
+  prepared =
+      let many = valid .count in
+      let w₁ = rewrite-cases g w in
+      let a = rewrite-cases-shown g valid w r s cs state shown chains unready in
+      let b = deferred-targets-shown g valid w₁ r (state-after s cs) (cases-after s cs) (a .state) (a .cases-shown) bound in
+      let w₂ = with-targets g w in
+      let first : word w₁ set-starts 32 ≡ word w set-starts 32 =
+      ap (λ l. getD l 32 0) (a .stays .others set-starts (omega arith) (omega arith) (omega arith)) in
+      let second : word w₂ set-starts 32 ≡ word w₁ set-starts 32 = spare-there (b .spare) set-starts (omega arith) (omega arith) 32 in
+      let rows = rw (← second) at (b .rows) in
+      let c = plan-bundles-shown g valid w₂ r (state-after s cs) (cases-after s cs) (b .state) (b .cases-shown) rows in
+      let third = spare-there (c .spare) set-starts (omega arith) (omega arith) 32 in
+      record {
+        state = c .state;
+        shown = c .cases-shown;
+        plan = plan-shown (cases-after s cs) rows (c .size) (c .each);
+        is-needed = c .needed;
+        later = later-then (a .later) (later-then (b .later) (c .later));
+        spare-at = third;
+        same = λ k h i j l. c .spare .others k i l ∙ b .spare .others k i l ∙ a .stays .others k j l h;
+        totals = λ q d. spare-there (c .spare) head (omega arith) (omega arith) q ∙ spare-there (b .spare) head (omega arith) (omega arith) q
+            ∙ a .stays .totals q d;
+        kept = λ q h d f. kept-then (rewrite-keeps g valid w r s cs state shown chains (omega arith) q (omega arith) d f)
+            (kept-then (b .kept q h) (c .kept q h));
+        outside = λ p d e. same-bundle-then (a .outside p d)
+            (same-bundle-then (spare-outside (b .spare) p (λ i h z. e i h (z ∙ ap (λ n. n + i) first)))
+            (spare-outside (c .spare) p (λ i h z. e i h (z ∙ ap (λ n. n + i) (second ∙ first)))));
+      }
+
+-- ---- The step whole.
+pub record Structured (g : Graph) (r : ℕ) (cs : List MaybeClaimedRegion) (w w′ : List ℕ) (x : Body) (s : NestState) : Type 0 where
+  pub state : ShowsState g w′ s
+  pub nodes : ShowsChildren g w′ (word w′ children r) (x .children)
+  -- It stands in the spare slot.
+  pub set : ShowsSet g w′ (word w′ set-starts 32) (word w′ set-lengths 32) (x .deferred-edges)
+  pub later : Later g w w′
+  pub same-kinds : (q : ℕ) → word w′ kinds q ≡ word w kinds q
+  pub same-starts : (q : ℕ) → word w′ set-starts q ≡ word w set-starts q
+  pub kept : (q : ℕ) → q < 32 → (q ≡ r → ⊥)
+      → ((j : ℕ) → j < length cs → word w cases (10 * j + 0) ≡ 2 → q ≡ word w cases (10 * j + 1) → ⊥) → KeptRegion w w′ q
+  pub outside : (p : ℕ) → ((j i : ℕ) → j < length cs → i < word w cases (10 * j + 5) → p ≡ word w cases (10 * j + 4) + i → ⊥)
+      → ((i : ℕ) → i < 33 → p ≡ word w set-starts 32 + i → ⊥) → SameBundle w w′ p
+  pub total : word w′ head 4 ≤ word w head 4 + (length cs + 1)
+
+states-kept : {A : Type 0} {s : NestState} (x : StepAnswer A) → Post (λ n u. n ≡ 9) (λ a s′. Still s s′) x → {a : A} {s′ : NestState}
+    → x ≡ done a s′ → s′ .region-states ≡ s .region-states
+states-kept (done a s₁) p {s′} e = let z : s₁ ≡ s′ = cc in rw (← z) (p .post .states)
+states-kept (turned-away n u) p e = absurd (clash (cc))
+
+module _ {g : Graph} (valid : Valid g) (small : SmallTypes g) {r : ℕ} (below : r < length (g .regions)) {w : List ℕ} {s : NestState}
+    (state : ShowsState g w s) {cs : List MaybeClaimedRegion} (shown : ShowsCases g w r cs) (unready : NoneReady w r cs)
+    (chains : (q : ℕ) → ChainsEnd (s .region-input-rewrites) q)
+    (bound : (x : DeferredTarget) → edges-of-cases x (cases-after s cs) ≤ 65535)
+    {x : Scrutinee} {y : nesting.Scrutinee} (scrutinee : ShowsScrutinee w x y) {shape : ℕ} {kind : SelectionKind}
+    (of-shape : ShowsShape shape (length cs) kind) {parent : Nodes} (own : ShowsChildren g w (word w children r) parent)
+    (free : word w head 4 + (length cs + 1) ≤ 704) where
+  abbrev ps : List PlannedBundle
+  ps = nesting.plan-bundles g (cases-after s cs)
+
+  abbrev base : ℕ
+  base = word (with-targets g w) set-starts 32
+
+  before : Prepared g r cs s w (with-plan g w) base (plan-bundles g (with-targets g w) .needed)
+  before = prepared valid below state shown unready chains bound
+
+  need-is : needs-select g w ≡ (nesting.any-non-empty-case cs || any-needs-select ps)
+  need-is = let one = own .made in rw (any-non-empty-shown shown (omega arith), before .is-needed)
+
+  spared : Spared g r base (cases-after s cs) (with-plan g w)
+  spared =
+      let p = before in
+      record { shown = p .shown; returned = p .state .returned; slots = p .state .slots; spare = p .spare-at }
+
+  made : {w′ : List ℕ} {a : Made} → SelectIf g (needs-select g w) r shape x (with-plan g w) w′ a
+      → ShowsMade (Chosen g r base parent (length cs) (length ps) (with-plan g w) w′) a
+      (select-if (nesting.any-non-empty-case cs || any-needs-select ps) kind y cs ps (state-after s cs))
+  made m =
+      let p = before in
+      let many = valid .count in
+      let own₁ : ShowsChildren g (with-plan g w) (word (with-plan g w) children r) parent =
+      rw (p .same children (omega arith) (omega arith) (omega arith) (omega arith)) (p .later .nodes-stay own) in
+      let counted = p .totals 4 (omega arith) in
+      chosen (omega arith) small (omega arith) (p .state .tables) cs s spared (scrutinee-stays (p .later) scrutinee) of-shape own₁ (omega arith)
+      (p .plan) (λ e. or-right (nesting.any-non-empty-case cs) (any-needs-select ps) e) (rw need-is at m)
+
+  finished : {w₁ : List ℕ} {z : Body} {s₁ : NestState}
+      → select-if (nesting.any-non-empty-case cs || any-needs-select ps) kind y cs ps (state-after s cs) ≡ done z s₁
+      → Chosen g r base parent (length cs) (length ps) (with-plan g w) w₁ z s₁
+      → ShowsMade (Structured g r cs w (all-replaced w₁ (case-total w₁) 0)) Done
+      (follow (nesting.replace-inputs (cases-after s cs) s₁) (λ u. give (region-body (join parent (z .children)) (z .deferred-edges))))
+  finished {w₁} {z} {s₁} e c =
+      let p = before in
+      let many = valid .count in
+      let named₁ : NamedRewrites w₁ = record {
+        below = λ q k a b d. rw (c .same-rewrites) (p .state .named .below q k a b (λ u. d (ap (λ l. getD l (5 * q) 0) (c .same-rewrites) ∙ u)));
+      } in
+      let o = replaced-shown (cases-stay (c .step) (p .shown)) (c .tables) named₁ in
+      let last = step-by (o .changes) (omega arith) (omega arith) (omega arith) (omega arith) g r (later-by (o .changes) (omega arith) g) in
+      let step = step-then (c .step) last in
+      let same-kinds : (q : ℕ) → word (with-plan g w) kinds q ≡ word w kinds q =
+      λ q. ap (λ l. getD l q 0) (p .same kinds (omega arith) (omega arith) (omega arith) (omega arith)) in
+      let same-starts : (q : ℕ) → word (with-plan g w) set-starts q ≡ word w set-starts q =
+      λ q. ap (λ l. getD l q 0) (p .same set-starts (omega arith) (omega arith) (omega arith) (omega arith)) in
+      let still = states-kept _ (select-if-keeps still-steady (λ n u. n ≡ 9) refl (nesting.any-non-empty-case cs || any-needs-select ps) kind y
+      cs ps (state-after s cs)) e in
+      let stays = states-of-step step (omega arith) (λ h. unready .parent (sym (same-kinds r) ∙ h)) in
+      let at : word (all-replaced w₁ (case-total w₁) 0) set-starts 32 ≡ base = step .same-starts 32 ∙ p .spare-at in
+      let rows : word (all-replaced w₁ (case-total w₁) 0) set-lengths 32 ≡ length ps =
+      ap (λ l. getD l 32 0) (o .changes .others set-lengths (omega arith) (omega arith) ∙ c .same-lengths) ∙ p .plan .size in
+      let counted = o .changes .totals 4 (omega arith) in
+      let before-it = p .totals 4 (omega arith) in
+      let more = c .total in
+      rw (o .is)
+      (shows-made {a = region-body (join parent (z .children)) (z .deferred-edges)} (record {
+        state = state-next (step .later) stays (o .tables) (o .named) (o .same-states ∙ still) (p .state);
+        nodes = rw (o .changes .others children (omega arith) (omega arith)) (last .later .nodes-stay (c .nodes));
+        set = rw (at, rows) (set-stays (last .later)
+            (λ i h. bundles-same (o .changes .others bundles (omega arith) (omega arith)) (base + i)) (c .set));
+        later = later-then (p .later) (step .later);
+        same-kinds = λ q. step .same-kinds q ∙ same-kinds q;
+        same-starts = λ q. step .same-starts q ∙ same-starts q;
+        kept = λ q h d f. kept-then (p .kept q h d f) (step .others q h d);
+        outside = λ q d f. same-bundle-then (p .outside q d f)
+            (step .bundles-kept q (λ i h u. f i h (sym u ∙ ap (λ n. n + i) (same-starts 32))));
+        total = omega arith;
+      }))
+
+  pub structurized-shown : {w′ : List ℕ} {a : Made} → Structurizes g r shape x w w′ a
+      → ShowsMade (Structured g r cs w w′) a (structurize-select g parent kind y cs s)
+  unfolding structurize-select
+  structurized-shown (not-structurized m) = rw (rewrite-is cs s, refused-of (made m)) shows-refused
+  structurized-shown (structurized m e) =
+      let c = made-of (made m) in
+      rw (rewrite-is cs s, c .is, e) (finished (c .is) (c .shows))
