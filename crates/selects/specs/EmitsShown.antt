@@ -6,7 +6,7 @@ use Prim.Native.Nat.{ℕ, zero, suc, _+_, _*_, _≤_, _<_}
 use native.Mathlib.Omega.{arith}
 use native.Mathlib.Decide.{decLt}
 use lib.ListN.{length, getD, length-map}
-use borrow.Author.Tests.{lt-ltb, eq-eqb, ne-eqb}
+use borrow.Author.Tests.{lt-ltb}
 use Rattle.meaning.specs.Graph.{Value, Graph, region, undef, output, SelectionKind}
 use Rattle.format.specs.References.{return-types}
 use Rattle.nesting.specs.Nesting as nesting
@@ -25,7 +25,7 @@ use Rattle.shown.specs.Steps.{output-made, output-changes}
 use Rattle.shown.specs.Sets.{Names, ShowsTarget, shows-region, shows-return, target-size, ShowsBundle, ShowsSet, no-bundle}
 use Rattle.shown.specs.States.{ShowsReturned}
 use Rattle.shown.specs.RegionSteps.{word-there, word-apart}
-use Rattle.bundles.specs.Words.{input-count, target-type}
+use Rattle.bundles.specs.Targets.{target-type-shown}
 use Rattle.selects.specs.declared.made.Made.{Made}
 use Rattle.selects.specs.declared.made.Made.the-variants.{Done, Full}
 use Rattle.selects.specs.Turns.{Turns, turns-over, turn-on, turn-refused}
@@ -36,44 +36,31 @@ use Rattle.selects.specs.PerCase.{cases-pass, ShowsPlaces, places-stay, 
 use Rattle.selects.specs.Emitting.{Emitting, emitting-none, emitting-then, emitting-output, emitting-word, emitting-step, Spared}
 use Rattle.selects.specs.Emitting.{spared-stays}
 
--- ---- What is planned, as its row shows it: an input that is to be made is 65535, a condition that is to be made is 0.
-pub data ShowsPlannedInput (g : Graph) (cs : List MaybeClaimedRegion) (x : DeferredTarget) (w : ℕ) (k : ℕ) : PlannedInput → Type 0 where
-  is-shared : {v : Value} → Names w v → ShowsPlannedInput g cs x w k (shared v)
+-- ---- What is planned of these cases, as its row shows it.
+pub data PlannedInputOf (g : Graph) (cs : List MaybeClaimedRegion) (x : DeferredTarget) (w : ℕ) (k : ℕ) : PlannedInput → Type 0 where
+  is-shared : {v : Value} → Names w v → PlannedInputOf g cs x w k (shared v)
   is-merged : {ty : ℕ} {vs : List Value} → w ≡ 65535 → ty ≡ nesting.target-type g x k → vs ≡ map (nesting.value-in-case k ty) (cases-pass x cs)
-      → ShowsPlannedInput g cs x w k (merged ty vs)
+      → PlannedInputOf g cs x w k (merged ty vs)
 
-pub data ShowsPlannedCondition (cs : List MaybeClaimedRegion) (x : DeferredTarget) (w : ℕ) : Option LazyConds → Type 0 where
-  is-true : w ≡ 1 → ShowsPlannedCondition cs x w none
-  is-open : {ts : LazyConds} → w ≡ 0 → ts ≡ conditions-of (cases-pass x cs) → ShowsPlannedCondition cs x w (some ts)
+pub data PlannedConditionOf (cs : List MaybeClaimedRegion) (x : DeferredTarget) (w : ℕ) : Option LazyConds → Type 0 where
+  is-true : w ≡ 1 → PlannedConditionOf cs x w none
+  is-open : {ts : LazyConds} → w ≡ 0 → ts ≡ conditions-of (cases-pass x cs) → PlannedConditionOf cs x w (some ts)
 
 abbrev pub no-planned : PlannedInput
 no-planned = shared (undef 0)
 
-pub record ShowsPlanned (g : Graph) (cs : List MaybeClaimedRegion) (w : List ℕ) (q : ℕ) (p : PlannedBundle) : Type 0 where
+pub record PlannedOf (g : Graph) (cs : List MaybeClaimedRegion) (w : List ℕ) (q : ℕ) (p : PlannedBundle) : Type 0 where
   pub target : ShowsTarget g (word w bundles (7 * q + 0)) (p .target)
   pub count : word w bundles (7 * q + 1) ≡ p .total-edge-count
-  pub condition : ShowsPlannedCondition cs (p .target) (word w bundles (7 * q + 2)) (p .condition)
+  pub condition : PlannedConditionOf cs (p .target) (word w bundles (7 * q + 2)) (p .condition)
   pub size : length (p .inputs) ≡ target-size g (p .target)
   pub few : length (p .inputs) ≤ 4
   pub inputs : (k : ℕ) → k < length (p .inputs)
-      → ShowsPlannedInput g cs (p .target) (word w bundles (7 * q + (3 + k))) k (getD (p .inputs) k no-planned)
+      → PlannedInputOf g cs (p .target) (word w bundles (7 * q + (3 + k))) k (getD (p .inputs) k no-planned)
 
 -- Types are bytes.
 pub record SmallTypes (g : Graph) : Type 0 where
   pub below : (x : DeferredTarget) (k : ℕ) → nesting.target-type g x k < 256
-
--- ---- How many inputs a target has, and their types.
-module _ {g : Graph} {w : List ℕ} (returned : ShowsReturned g w) (few : length (g .regions) ≤ 32) where
-  pub count-shown : {t : ℕ} {x : DeferredTarget} → ShowsTarget g t x → input-count g w t ≡ target-size g x
-  unfolding input-count
-  count-shown {t} (shows-region e h) = rw (ne-eqb t 65535 (omega arith), e)
-  count-shown {t} (shows-return e) = rw (eq-eqb t 65535 e) (returned .size)
-
-  pub type-shown : {t : ℕ} {x : DeferredTarget} → ShowsTarget g t x → (k : ℕ) → k < target-size g x
-      → target-type g w t k ≡ nesting.target-type g x k
-  unfolding target-type
-  type-shown {t} (shows-region e h) k i = rw (ne-eqb t 65535 (omega arith), e)
-  type-shown {t} (shows-return e) k i = rw (eq-eqb t 65535 e) (returned .types k i)
 
 -- ---- The inputs of one bundle.
 -- One input; the definition has the two kinds in its fold.
@@ -96,7 +83,7 @@ pub record InputsDone (g : Graph) (q k : ℕ) (w w′ : List ℕ) (many : ℕ) (
   pub named : (i : ℕ) → i < many → Names (word w′ bundles (7 * q + (3 + (k + i)))) (getD vs i (undef 0))
 
 abbrev pub Planned : Graph → List MaybeClaimedRegion → DeferredTarget → ℕ → List ℕ → ℕ → PlannedInput → Type 0
-Planned g cs x q w k i = ShowsPlannedInput g cs x (word w bundles (7 * q + (3 + k))) k i
+Planned g cs x q w k i = PlannedInputOf g cs x (word w bundles (7 * q + (3 + k))) k i
 
 output-names : (o : ℕ) → o < 512 → Names (output-word o) (output o)
 unfolding output-word
@@ -156,7 +143,7 @@ module _ {g : Graph} {r base : ℕ} {cs : List MaybeClaimedRegion} (few : length
         let b = names .below in
         absurd (omega arith)
     input-shown (is-merged z u v) (input-made {l₁} {o} e vs out p) =
-        let ty = type-shown (here .returned) few target k below in
+        let ty = target-type-shown w few (here .returned) target k below in
         let values = rw ty at vs in
         let made = rw ty at out in
         let y = done-of (output-made tables (values .size) (values-shown (here .shown) at k (nesting.target-type g x k) below
@@ -174,7 +161,7 @@ module _ {g : Graph} {r base : ℕ} {cs : List MaybeClaimedRegion} (few : length
               (output-names o (output-below out));
         }))
     input-shown (is-merged z u v) (no-input e vs out) =
-        let ty = type-shown (here .returned) few target k below in
+        let ty = target-type-shown w few (here .returned) target k below in
         let values = rw ty at vs in
         let made = rw ty at out in
         rw (v, u, full-of (output-made tables (values .size) (values-shown (here .shown) at k (nesting.target-type g x k) below

@@ -13,3 +13,6 @@ pub mod Emitting
 pub mod PerCase
 pub mod EmitsShown
 pub mod SetsEmitted
+pub mod PlansShown
+pub mod Replaced
+pub mod Structurized

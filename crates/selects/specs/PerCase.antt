@@ -22,9 +22,9 @@ use Rattle.shown.specs.Tables.{ShowsCondition, shows-undef, shows-false, ShowsP
 use Rattle.shown.specs.Sets.{ShowsTarget, ShowsSet, target-size, no-bundle}
 use Rattle.shown.specs.SetSteps.{Finds, found, none-found, finds, same-target-is, condition-shown}
 use Rattle.shown.specs.States.{ShowsCases, no-case}
-use Rattle.merging.specs.Turns.{turned}
+use Rattle.merging.specs.PerCaseShown.{place-is}
 use Rattle.merging.specs.Bundles as merging
-use Rattle.merging.specs.Planning.{place-of, per-case-deferred, per-case-condition}
+use Rattle.merging.specs.Planning.{per-case-deferred, per-case-condition}
 use Rattle.selects.specs.Emits.{InCases, value-in-case, value-none, value-some}
 use Rattle.selects.specs.StepsShown.{SelectStep}
 
@@ -33,29 +33,16 @@ abbrev pub cases-pass : DeferredTarget → List MaybeClaimedRegion → List PerC
 cases-pass x cs = map (λ c. nesting.per-case-deferred x (deferred-of c)) cs
 
 -- ---- The cases' bundles to a target.
--- n words from place i on are set, each by its place.
-sets-each : (f : ℕ → ℕ) (n i : ℕ) (ps : List ℕ) → i + n ≤ length ps → (j : ℕ) → j < i + n → (j < i → getD ps j 0 ≡ f j)
-    → getD (turned (λ qs k. set qs k (f k)) ps n i) j 0 ≡ f j
-unfolding turned
-sets-each f zero i ps b j h e = e (omega arith)
-sets-each f (suc n) i ps b j h e =
-    sets-each f n (suc i) (set ps i (f i)) (rw (length-set ps i (f i)) (omega arith)) j (omega arith)
-    (λ k. elim (ℕ-discrete j i) [
-      | yes z ↦ rw z (getD-set-same ps i (f i) 0 (omega arith))
-      | no z ↦ getD-set-other ps i j (f i) 0 z ∙ e (omega arith)
-    ])
-
 pub record ShowsPlaces (w : List ℕ) (x : DeferredTarget) (cs : List MaybeClaimedRegion) (places : List ℕ) : Type 0 where
   pub each : (j : ℕ) → j < length cs → Finds (word w cases (10 * j + 4)) x (deferred-of (getD cs j no-case)) (getD places j 0)
 
 pub places-shown : {g : Graph} {w : List ℕ} {r : ℕ} {cs : List MaybeClaimedRegion} → ShowsCases g w r cs → length (g .regions) ≤ 32
     → {t : ℕ} {x : DeferredTarget} → ShowsTarget g t x → ShowsPlaces w x cs (per-case-deferred w t)
-unfolding per-case-deferred
 places-shown {w} {cs} shown few {t} {x} target =
     let eight = shown .few in
     let size = shown .size in
     record {
-      each = λ j h. rw (sets-each (place-of w t) (case-total w) 0 (replicate 8 0) (omega arith) j (omega arith) (λ z. absurd (omega arith)))
+      each = λ j h. rw (place-is w t j (omega arith) (omega arith))
           (finds w few (word w cases (10 * j + 4)) target (shown .sets j h));
     }
 

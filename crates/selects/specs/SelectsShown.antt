@@ -13,7 +13,7 @@ use Rattle.nesting.specs.Nesting.{MaybeClaimedRegion, LazyCond, NestState, Step
 use Rattle.nesting.specs.Nesting.{define-select, scrutinee-value, case-regions}
 use Rattle.state.specs.declared.defined.Defined.{Defined}
 use Rattle.state.specs.declared.defined.Defined.the-variants.{Number, Full}
-use Rattle.state.specs.Sections.{section, word, used, head, children, cases, rewrites, outputs, cells}
+use Rattle.state.specs.Sections.{Section, number, section, word, used, head, children, cases, outputs, cells}
 use Rattle.state.specs.Apart.{section-other}
 use Rattle.state.specs.Tables.{case-total, Defines, defined}
 use Rattle.shown.specs.Values.{value}
@@ -97,6 +97,7 @@ pub record SelectPlaced (g : Graph) (r : ℕ) (w w′ : List ℕ) (h node shape 
   pub tables : SameTables w w′
   pub step : SelectStep g r w w′
   pub total : word w′ head 4 ≡ word w head 4 + (many + 1)
+  pub same : (k : Section) → (number k ≡ 1 → ⊥) → (number k ≡ 6 → ⊥) → (number k ≡ 14 → ⊥) → section w′ k ≡ section w k
 
 module _ (g : Graph) (cs : List MaybeClaimedRegion) (r : ℕ) (below : r < 32) where
   placed : {node shape x h : ℕ} {w w′ : List ℕ} {parent : Nodes} {kind : SelectionKind} {v : graph.Value}
@@ -134,6 +135,7 @@ module _ (g : Graph) (cs : List MaybeClaimedRegion) (r : ℕ) (below : r < 32) w
             (step-then (step-by (cell-changes y free₂ room₂) (omega arith) (omega arith) (omega arith) (omega arith) g r
             (cell-later y free₂ room₂ g)) (step-children g r l₂ h));
         total = c .same-head 4 ∙ omega arith;
+        same = λ k a b d. section-other l₂ children r h k b ∙ cell-changes y free₂ room₂ .others k d a ∙ m .changes .others k d a;
       }
 
 -- ---- The scrutinee.
@@ -141,7 +143,7 @@ pub data ShowsScrutinee (w : List ℕ) : Scrutinee → nesting.Scrutinee → Typ
   shows-value : {x : ℕ} {v : graph.Value} → value x ≡ v → ShowsScrutinee w (Value x) (nesting.value v)
   shows-lazy : {c : ℕ} {t : LazyCond} → ShowsCondition w c t → ShowsScrutinee w (Lazy c) (nesting.lazy t)
 
-scrutinee-stays : {g : Graph} {w w′ : List ℕ} → Later g w w′ → {x : Scrutinee} {y : nesting.Scrutinee} → ShowsScrutinee w x y
+pub scrutinee-stays : {g : Graph} {w w′ : List ℕ} → Later g w w′ → {x : Scrutinee} {y : nesting.Scrutinee} → ShowsScrutinee w x y
     → ShowsScrutinee w′ x y
 scrutinee-stays later (shows-value e) = shows-value e
 scrutinee-stays later (shows-lazy c) = shows-lazy (later .conditions-stay c)
@@ -161,7 +163,8 @@ pub record SelectDone (g : Graph) (r : ℕ) (cs : List MaybeClaimedRegion) (pare
   pub node : word w′ cells (6 * h + 2) ≡ n .node
   pub shape : ShowsShape (word w′ cells (6 * h + 3)) (length cs) (n .kind)
   pub scrutinee : value (word w′ cells (6 * h + 4)) ≡ n .scrutinee
-  pub same-rewrites : section w′ rewrites ≡ section w rewrites
+  pub same : (k : Section) → (number k ≡ 1 → ⊥) → (number k ≡ 6 → ⊥) → (number k ≡ 10 → ⊥) → (number k ≡ 12 → ⊥) → (number k ≡ 14 → ⊥)
+      → section w′ k ≡ section w k
   pub total : word w′ head 4 ≡ word w head 4 + (length cs + 1)
 
 pub data ShowsSelect (g : Graph) (r : ℕ) (cs : List MaybeClaimedRegion) (parent : Nodes) (w w′ : List ℕ)
@@ -207,13 +210,15 @@ module _ {g : Graph} {r : ℕ} {cs : List MaybeClaimedRegion} {parent : Nodes} {
 
   -- All is defined but the select's cells.
   finished : {l w′ : List ℕ} {h node c : ℕ} {v : graph.Value} {ks : Cases} {s₁ : NestState} → SelectStep g r w l → ShowsTables l s₁
-      → section l children ≡ section w children → section l rewrites ≡ section w rewrites → word l head 4 ≡ word w head 4
+      → ((k : Section) → (number k ≡ 1 → ⊥) → (number k ≡ 10 → ⊥) → (number k ≡ 12 → ⊥) → section l k ≡ section w k)
+      → word l head 4 ≡ word w head 4
       → ks ≡ cases-from (body-at l) 0 cs → value c ≡ v → words.SelectAdded r node shape c l w′ h
       → SelectDone g r cs parent w w′ h
       (record { node = node; kind = kind; scrutinee = v; children = new-select node kind v ks ▸ ⟨⟩ }) s₁
-  finished {l} step t₁ same-children same-rewrites same-total are of-value added =
+  finished {l} step t₁ same same-total are of-value added =
       let shown₁ = cases-stay step shown in
-      let own₁ : ShowsChildren g l (word l children r) parent = rw same-children (step .later .nodes-stay own) in
+      let own₁ : ShowsChildren g l (word l children r) parent =
+      rw (same children (omega arith) (omega arith) (omega arith)) (step .later .nodes-stay own) in
       let one = own₁ .made in
       let p = placed g cs r below added (shown₁ .size) (omega arith) (t₁ .size)
       (λ j h. children-shown (omega arith) j (getD cs j no-case) (shown₁ .each j h)) own₁ of-shape of-value in
@@ -225,7 +230,7 @@ module _ {g : Graph} {r : ℕ} {cs : List MaybeClaimedRegion} {parent : Nodes} {
         node = p .is-node;
         shape = rw (p .is-shape) of-shape;
         scrutinee = ap value (p .is-scrutinee) ∙ of-value;
-        same-rewrites = p .tables .same-rewrites ∙ same-rewrites;
+        same = λ k a b d e f. p .same k a b f ∙ same k a d e;
         total = omega arith;
       }
 
@@ -260,9 +265,6 @@ module _ {g : Graph} {r : ℕ} {cs : List MaybeClaimedRegion} {parent : Nodes} {
       (step-then (step-by b (omega arith) (omega arith) (omega arith) (omega arith) g r (later-by b (omega arith) g))
       (step-by c (omega arith) (omega arith) (omega arith) (omega arith) g r (later-by c (omega arith) g))))
       (d .tables)
-      (c .others children (omega arith) (omega arith) ∙ b .others children (omega arith) (omega arith)
-      ∙ a .others children (omega arith) (omega arith))
-      (c .others rewrites (omega arith) (omega arith) ∙ b .others rewrites (omega arith) (omega arith)
-      ∙ a .others rewrites (omega arith) (omega arith))
+      (λ k d e f. c .others k f d ∙ b .others k f d ∙ a .others k e d)
       (c .totals 4 (omega arith) ∙ b .totals 4 (omega arith) ∙ a .totals 4 (omega arith))
       (z .cases-are ∙ ap (λ l. cases-from (λ j. getD l (10 * j + 2) 0) 0 cs) (sym same-cases)) (q .shows) added))

@@ -30,12 +30,13 @@ use Rattle.selects.specs.Places.{From, first-of, rest-of, from-start}
 use Rattle.selects.specs.Emits.{EmitCondition, condition-there, condition-made, no-condition, EmitBundle, inputs-refused, bundle-emitted}
 use Rattle.selects.specs.Emits.{EmitAt, Emits, EmitInputs, places-of, target-at}
 use Rattle.bundles.specs.Words.{input-count}
+use Rattle.bundles.specs.Targets.{input-count-shown}
 use Rattle.selects.specs.RegionsShown.{ShowsMade, shows-made, shows-refused, made-of, refused-of}
 use Rattle.selects.specs.PerCase.{cases-pass, ShowsPlaces, places-shown, places-stay, parts-shown, count-conditions}
 use Rattle.selects.specs.Emitting.{Emitting, emitting-none, emitting-then, emitting-within, emitting-condition, emitting-word}
 use Rattle.selects.specs.Emitting.{emitting-step, Spared, spared-stays}
-use Rattle.selects.specs.EmitsShown.{ShowsPlanned, ShowsPlannedCondition, is-true, is-open, SmallTypes, no-planned, Planned, InputsDone}
-use Rattle.selects.specs.EmitsShown.{inputs-shown, count-shown}
+use Rattle.selects.specs.EmitsShown.{PlannedOf, PlannedConditionOf, is-true, is-open, SmallTypes, no-planned, Planned, InputsDone}
+use Rattle.selects.specs.EmitsShown.{inputs-shown}
 
 -- The cell of a select with this many cases.
 pub record ShowsSelectCell (h : ℕ) (n : DefinedSelect) (many : ℕ) (w : List ℕ) : Type 0 where
@@ -70,7 +71,7 @@ record ConditionDone (g : Graph) (q : ℕ) (w w′ : List ℕ) (c : LazyCond) (s
 module _ {g : Graph} {r base : ℕ} {cs : List MaybeClaimedRegion} (n : DefinedSelect) (h q : ℕ) (room : q < 1097)
     {x : DeferredTarget} (places : List ℕ) {w : List ℕ} (here : Spared g r base cs w) (at : ShowsPlaces w x cs places) {s : NestState}
     (tables : ShowsTables w s) (cell : ShowsSelectCell h n (length cs) w) where
-  condition-shown : {o : Option LazyConds} {w′ : List ℕ} {a : Made} → ShowsPlannedCondition cs x (word w bundles (7 * q + 2)) o
+  condition-shown : {o : Option LazyConds} {w′ : List ℕ} {a : Made} → PlannedConditionOf cs x (word w bundles (7 * q + 2)) o
       → EmitCondition h q places w w′ a → ShowsMade (ConditionDone g q w w′) a (emit-condition n o s)
   condition-shown (is-true z) (condition-there d e) =
       rw e (shows-made {a = true-cond} {s = s} (record {
@@ -129,7 +130,7 @@ pub record BundleDone (g : Graph) (q : ℕ) (w w′ : List ℕ) (e : DeferredEdg
 module _ {g : Graph} {r base : ℕ} {cs : List MaybeClaimedRegion} (few : length (g .regions) ≤ 32) (small : SmallTypes g)
     (n : DefinedSelect) (h q : ℕ) (from : base ≤ q) (to : q < base + 33) (room : q < 1097)
     {w : List ℕ} (here : Spared g r base cs w) {s : NestState} (tables : ShowsTables w s) (cell : ShowsSelectCell h n (length cs) w)
-    {p : PlannedBundle} (planned : ShowsPlanned g cs w q p) where
+    {p : PlannedBundle} (planned : PlannedOf g cs w q p) where
   abbrev its-places : List ℕ
   its-places = places-of w q
 
@@ -141,7 +142,7 @@ module _ {g : Graph} {r base : ℕ} {cs : List MaybeClaimedRegion} (few : length
   inputs-answer t =
       let size = planned .size in
       let most = planned .few in
-      let many : input-count g w (target-at w q) ≡ length (p .inputs) = count-shown (here .returned) few (planned .target) ∙ sym size in
+      let many : input-count g w (target-at w q) ≡ length (p .inputs) = input-count-shown w few (here .returned) (planned .target) ∙ sym size in
       inputs-shown few small n q from to room (planned .target) (omega arith) its-places (p .inputs) 0 many (omega arith) here places-here tables
       (from-start no-planned (Planned g cs (p .target) q w) (p .inputs) (planned .inputs)) (rw (cell .node) at t)
 
@@ -215,8 +216,8 @@ emit-more n p ps s = go (emit-inputs n (p .inputs) s)
     go (done ins s₁) = last ins (emit-condition n (p .condition) s₁)
     go (turned-away k u) = refl
 
-planned-stays : {g : Graph} {cs : List MaybeClaimedRegion} {w w′ : List ℕ} {q : ℕ} {p : PlannedBundle} → SameBundle w w′ q
-    → ShowsPlanned g cs w q p → ShowsPlanned g cs w′ q p
+pub planned-stays : {g : Graph} {cs : List MaybeClaimedRegion} {w w′ : List ℕ} {q : ℕ} {p : PlannedBundle} → SameBundle w w′ q
+    → PlannedOf g cs w q p → PlannedOf g cs w′ q p
 planned-stays same x =
     let most = x .few in
     record {
@@ -265,7 +266,7 @@ module _ {g : Graph} {r base : ℕ} {cs : List MaybeClaimedRegion} (few : length
     (n : DefinedSelect) (h : ℕ) (room : base + 33 ≤ 1097) where
   rows-shown : (ps : List PlannedBundle) (i : ℕ) {w w′ : List ℕ} {s : NestState} {a : Made} {m : ℕ} → m ≡ length ps
       → i + length ps ≤ 33 → Spared g r base cs w → ShowsTables w s → ShowsSelectCell h n (length cs) w
-      → From no-plan (λ j p. ShowsPlanned g cs w (base + j) p) i ps → Turns (EmitAt g h base) m i w w′ a
+      → From no-plan (λ j p. PlannedOf g cs w (base + j) p) i ps → Turns (EmitAt g h base) m i w w′ a
       → ShowsMade (RowsDone g base i w w′ (length ps)) a (emit n ps s)
   unfolding emit
   rows-shown [] i {w} {s} e b here tables cell f (turns-over z p) =
@@ -281,8 +282,8 @@ module _ {g : Graph} {r base : ℕ} {cs : List MaybeClaimedRegion} (few : length
   rows-shown (p ∷ ps) i e b here tables cell f (turns-over z q) = absurd (omega arith)
   rows-shown (p ∷ ps) i {w} {s} e b here tables cell f (turn-on z y more) =
       let at : bundle-at base i ≡ base + i = bundle-in base i (omega arith) (omega arith) in
-      let own = first-of no-plan (λ j p. ShowsPlanned g cs w (base + j) p) i p ps f in
-      let rest = rest-of no-plan (λ j p. ShowsPlanned g cs w (base + j) p) i p ps f in
+      let own = first-of no-plan (λ j p. PlannedOf g cs w (base + j) p) i p ps f in
+      let rest = rest-of no-plan (λ j p. PlannedOf g cs w (base + j) p) i p ps f in
       let first = made-of (bundle-shown few small n h (base + i) (omega arith) (omega arith) (omega arith) here tables cell own (rw at at y)) in
       let done₁ = first .shows in
       let x = done₁ .emitting in
@@ -291,7 +292,7 @@ module _ {g : Graph} {r base : ℕ} {cs : List MaybeClaimedRegion} (few : length
       (cell-stays x cell) (λ j k. planned-stays (x .beside (base + (suc i + j)) (λ a c. omega arith)) (rest j k)) more))
   rows-shown (p ∷ ps) i {w} {s} e b here tables cell f (turn-refused z y) =
       let at : bundle-at base i ≡ base + i = bundle-in base i (omega arith) (omega arith) in
-      let own = first-of no-plan (λ j p. ShowsPlanned g cs w (base + j) p) i p ps f in
+      let own = first-of no-plan (λ j p. PlannedOf g cs w (base + j) p) i p ps f in
       rw (emit-more n p ps s, refused-of (bundle-shown few small n h (base + i) (omega arith) (omega arith) (omega arith) here tables cell own
       (rw at at y)))
       shows-refused
@@ -301,7 +302,7 @@ module _ {g : Graph} {r base : ℕ} {cs : List MaybeClaimedRegion} (few : length
 pub record ShowsPlan (g : Graph) (cs : List MaybeClaimedRegion) (w : List ℕ) (base : ℕ) (ps : List PlannedBundle) : Type 0 where
   pub size : word w set-lengths 32 ≡ length ps
   pub few : length ps ≤ 33
-  pub rows : (i : ℕ) → i < length ps → ShowsPlanned g cs w (base + i) (getD ps i no-plan)
+  pub rows : (i : ℕ) → i < length ps → PlannedOf g cs w (base + i) (getD ps i no-plan)
   pub apart : (i j : ℕ) → i < j → j < length ps → word w bundles (7 * (base + i) + 0) ≡ word w bundles (7 * (base + j) + 0) → ⊥
 
 pub record SetDone (g : Graph) (base : ℕ) (w w′ : List ℕ) (many : ℕ) (d : DeferredEdgeBundleSet) (s : NestState) : Type 0 where
@@ -343,4 +344,4 @@ module _ {g : Graph} {r : ℕ} {cs : List MaybeClaimedRegion} (few : length (g .
   emit-shown t =
       let most = plan .few in
       as-set (rows-shown few small n h room ps 0 (plan .size) (omega arith) here tables cell
-      (from-start no-plan (λ j p. ShowsPlanned g cs w (base + j) p) ps (plan .rows)) (rw (here .spare) at t))
+      (from-start no-plan (λ j p. PlannedOf g cs w (base + j) p) ps (plan .rows)) (rw (here .spare) at t))
