@@ -19,7 +19,7 @@ use Rattle.nesting.specs.Nesting.{NestState, DeferredTargetSummary, MaybeClaime
 use Rattle.state.specs.Sections.{start, size, used, section, word, stored, stored-all, set-starts, set-lengths, cases, bundles}
 use Rattle.state.specs.Tables.{find-by, bundle-at}
 use Rattle.state.specs.Apart.{section-other}
-use Rattle.shown.specs.Stores.{run-before, run-in, section-run, run-length, part-length}
+use Rattle.shown.specs.Stores.{section-run, run-length, part-length}
 use Rattle.shown.specs.Sets.{ShowsTarget, shows-region, shows-return, target-size, ShowsBundle, ShowsSet, no-bundle}
 use Rattle.shown.specs.States.{ShowsState, ShowsCases, no-case}
 use Rattle.shown.specs.Kept.{Later, KeptRegion, bundle-stays, set-stays}

@@ -1,10 +1,10 @@
 use Rattle.merging.specs.Bundles.{condition-in}
-use Rattle.fields.specs.laws.Picks.{picked, passed-over}
 use mathlib.Core.Path.{_∙_}
 use borrow.Author.Tests.{eq-eqb, ne-eqb}
 use borrow.Author.Needs.{needs}
 use Rattle.merging.proofs.bundles.condition_in.Statement.{statement}
 use Rattle.merging.proofs.bundles.condition_in.Tie as tie
+use Rattle.meaning.specs.facts.Tests.{picked, passed-over}
 
 returns : tie.Need-returns
 unfolding condition-in

@@ -1,10 +1,10 @@
 use Rattle.merging.specs.Bundles.{input-count}
-use Rattle.fields.specs.laws.Picks.{picked, passed-over}
 use mathlib.Core.Path.{_∙_}
 use borrow.Author.Tests.{eq-eqb, ne-eqb}
 use borrow.Author.Needs.{needs}
 use Rattle.merging.proofs.bundles.input_count.Statement.{statement}
 use Rattle.merging.proofs.bundles.input_count.Tie as tie
+use Rattle.meaning.specs.facts.Tests.{picked, passed-over}
 
 head-requires : tie.Need-head-requires
 head-requires c κs = search needs

@@ -1,5 +1,4 @@
 use Rattle.merging.specs.Bundles.{target-type}
-use Rattle.fields.specs.laws.Picks.{picked, passed-over}
 use mathlib.Core.Path.{sym, _∙_}
 use borrow.Author.Tests.{eq-eqb, ne-eqb}
 use native.Mathlib.Omega.{arith}
@@ -7,6 +6,7 @@ use Rattle.state.specs.Stored.{read-beyond}
 use borrow.Author.Needs.{needs}
 use Rattle.merging.proofs.bundles.target_type.Statement.{statement}
 use Rattle.merging.proofs.bundles.target_type.Tie as tie
+use Rattle.meaning.specs.facts.Tests.{picked, passed-over}
 
 add-head : tie.Need-add-head
 add-head c = search needs

@@ -1,8 +1,8 @@
 use Rattle.merging.specs.Planning.{is-true}
-use Rattle.fields.specs.laws.Picks.{picked, passed-over}
 use borrow.Author.Tests.{eq-eqb, ne-eqb}
 use Rattle.merging.proofs.planning.is_true.Statement.{statement}
 use Rattle.merging.proofs.planning.is_true.Tie as tie
+use Rattle.meaning.specs.facts.Tests.{picked, passed-over}
 
 returns : tie.Need-returns
 unfolding is-true

@@ -1,9 +1,9 @@
 use Rattle.merging.specs.Planning.{with-passed}
-use Rattle.fields.specs.laws.Picks.{picked, passed-over}
 use mathlib.Core.Path.{_∙_}
 use borrow.Author.Tests.{eq-eqb, ne-eqb}
 use Rattle.merging.proofs.planning.with_passed.Statement.{statement}
 use Rattle.merging.proofs.planning.with_passed.Tie as tie
+use Rattle.meaning.specs.facts.Tests.{picked, passed-over}
 
 returns : tie.Need-returns
 unfolding with-passed

@@ -1,9 +1,9 @@
 use Rattle.merging.specs.Targets.{plus}
-use Rattle.fields.specs.laws.Picks.{picked, passed-over}
 use borrow.Author.Tests.{lt-ltb, le-ltb}
 use borrow.Author.Needs.{needs}
 use Rattle.merging.proofs.targets.plus.Statement.{statement}
 use Rattle.merging.proofs.targets.plus.Tie as tie
+use Rattle.meaning.specs.facts.Tests.{picked, passed-over}
 
 sub-if1 : tie.Need-sub-if1
 sub-if1 c = search needs
