@@ -18,7 +18,7 @@ use Rattle.state.specs.declared.cases.Case.{Case}
 use Rattle.state.specs.Sections.{Section, word, stored, stored-all, stored-all-at, head, children, set-starts, set-lengths, cases, bundles}
 use Rattle.state.specs.Tables.{bundle-at, own-edge, taken-word, case-words, copied, shift-removed, swapped, inserted, Joins}
 use Rattle.state.specs.Values.{value-word}
-use Rattle.shown.specs.Front.{SameFront, stands-on, front-stored, front-run, front-then}
+use Rattle.shown.specs.Front.{SameKinds, stands-kept, kinds-stored, kinds-run, kinds-then}
 use Rattle.bundles.specs.Words.{record-word, padded-by, padded, edge-deferred, return-deferred, unclaimed-case, claimed-case}
 use Rattle.bundles.specs.Words.{case-filled}
 use Rattle.bundles.specs.Words.{filled-from, cases-filled, given-word, given-inputs, split-filled, case-inputs, Appends, appended}
@@ -91,15 +91,15 @@ module _ (g : Graph) (l : List ℕ) (r j : ℕ) {taken : ℕ} (read : taken ≡ 
       e ∙ rw (a, ne-eqb (taken-word l r j) 2 (λ h. unlike (read ∙ h)), ne-eqb (taken-word l r j) 1 (λ h. nor (read ∙ h)))
 
 -- What a case leaves: the record stands.
-pub front-filled : (g : Graph) (l : List ℕ) (r j : ℕ) → SameFront l (case-filled g l r j)
+pub front-filled : (g : Graph) (l : List ℕ) (r j : ℕ) → SameKinds l (case-filled g l r j)
 unfolding case-filled edge-deferred
 front-filled g l r j =
     elim (ℕ-discrete (taken-word l r j) 2) [
-      | yes e ↦ rw (eq-eqb (taken-word l r j) 2 e) (front-run l cases (omega arith) (10 * j) _)
+      | yes e ↦ rw (eq-eqb (taken-word l r j) 2 e) (kinds-run l cases (omega arith) (10 * j) _)
       | no d ↦ elim (ℕ-discrete (taken-word l r j) 1) [
         | yes e ↦ rw (ne-eqb (taken-word l r j) 2 d, eq-eqb (taken-word l r j) 1 e)
-            (front-then (front-run l bundles (omega arith) (7 * own-edge j) _) (front-run _ cases (omega arith) (10 * j) _))
-        | no f ↦ rw (ne-eqb (taken-word l r j) 2 d, ne-eqb (taken-word l r j) 1 f) (front-run l cases (omega arith) (10 * j) _)
+            (kinds-then (kinds-run l bundles (omega arith) (7 * own-edge j) _) (kinds-run _ cases (omega arith) (10 * j) _))
+        | no f ↦ rw (ne-eqb (taken-word l r j) 2 d, ne-eqb (taken-word l r j) 1 f) (kinds-run l cases (omega arith) (10 * j) _)
       ]
     ]
 
@@ -108,7 +108,7 @@ fill-start g l r n = let e : n - 0 ≡ n = omega arith in rw e
 
 -- The case total is stored first.
 pub stands-counted : {g : Graph} {w w′ : List ℕ} (n : ℕ) → Stands w g → w′ ≡ stored w head 7 n → Stands w′ g
-stands-counted {w} n s e = rw e (stands-on (front-stored w head (omega arith) 7 n) s)
+stands-counted {w} n s e = rw e (stands-kept (kinds-stored w head (omega arith) 7 n) s)
 
 pub fill-end : (g : Graph) (l : List ℕ) (r : ℕ) {n : ℕ} {l₁ l′ : List ℕ} → n ≡ length (edges-of (region g r .terminator))
     → l₁ ≡ stored l head 7 n → l′ ≡ filled-from g l₁ r n 0 → l′ ≡ cases-filled g l r
@@ -120,7 +120,7 @@ module _ (g : Graph) (r n j : ℕ) {w whole : List ℕ} where
   unfolding filled-from
   fill-turn h s e =
       let z : n - j ≡ suc (n - (j + 1)) = omega arith in
-      (rw e (stands-on (front-filled g w r j) (s .0)), rw (e, add-one j) (rw (add-one j) at (rw z at (s .1))))
+      (rw e (stands-kept (front-filled g w r j) (s .0)), rw (e, add-one j) (rw (add-one j) at (rw z at (s .1))))
 
   pub fill-stop : n ≤ j → filled-from g w r (n - j) j ≡ whole → w ≡ whole
   unfolding filled-from

@@ -14,7 +14,7 @@ use Rattle.meaning.specs.Lists.{pick, is-in}
 use Rattle.state.specs.Sections.{word, stored, bundles, set-starts, set-lengths}
 use Rattle.record.specs.Stands.{OfRecord}
 use Rattle.state.specs.Tables.{bundle-at}
-use Rattle.shown.specs.Front.{SameFront, stands-on, front-same, front-stored, front-then}
+use Rattle.shown.specs.Front.{SameKinds, stands-kept, kinds-same, kinds-stored, kinds-then}
 
 -- A word that counts: at its largest it stays.
 unfoldable pub one-more : ℕ → ℕ
@@ -70,20 +70,20 @@ module _ (t : ℕ) (xs : List ℕ) {n k : ℕ} (count : n ≡ length xs) {whole 
         rw (add-one k) (rw (ne-eqb t (getD xs k 0) (λ z. d (here ∙ sym z))) at (rw (drop-cons xs k 0 (omega arith)) at left))
 
 -- ---- The turns over a set: the record stands on, and what is left makes the whole.
-pub exit-front : (g : Graph) (r p : ℕ) (l : List ℕ) → SameFront l (exit-added g r p l)
+pub exit-front : (g : Graph) (r p : ℕ) (l : List ℕ) → SameKinds l (exit-added g r p l)
 unfolding exit-added
 exit-front g r p l = go (is-in (word l bundles (7 * p + 0)) (region g r .exits))
   where
-    go : (b : Bool) → SameFront l (pick b (stored l bundles (7 * p + 1) (one-more (word l bundles (7 * p + 1)))) l)
-    go true = front-stored l bundles (omega arith) (7 * p + 1) (one-more (word l bundles (7 * p + 1)))
-    go false = front-same l
+    go : (b : Bool) → SameKinds l (pick b (stored l bundles (7 * p + 1) (one-more (word l bundles (7 * p + 1)))) l)
+    go true = kinds-stored l bundles (omega arith) (7 * p + 1) (one-more (word l bundles (7 * p + 1)))
+    go false = kinds-same l
 
 pub record ExitsLeft (g : Graph) (r start n i : ℕ) (l₀ l : List ℕ) : Type 0 where
-  pub front : SameFront l₀ l
+  pub front : SameKinds l₀ l
   pub left : exits-from g r start (n - i) i l ≡ exits-from g r start n 0 l₀
 
 pub exits-start : (g : Graph) (r start n : ℕ) (l : List ℕ) → ExitsLeft g r start n 0 l l
-exits-start g r start n l = let e : n - 0 ≡ n = omega arith in record { front = front-same l; left = rw e }
+exits-start g r start n l = let e : n - 0 ≡ n = omega arith in record { front = kinds-same l; left = rw e }
 
 module _ {r start n i : ℕ} {l₀ l : List ℕ} (left : OfRecord l₀ (λ g. ExitsLeft g r start n i l₀ l)) where
   pub exits-turn : i < n → {p : ℕ} {l′ : List ℕ} → p ≡ bundle-at start i → OfRecord l (λ g. l′ ≡ exit-added g r p l)
@@ -91,10 +91,10 @@ module _ {r start n i : ℕ} {l₀ l : List ℕ} (left : OfRecord l₀ (λ g. Ex
   unfolding exits-from
   exits-turn h {p} {l′} at step g s =
       let x = left g s in
-      let e : l′ ≡ exit-added g r (bundle-at start i) l = rw (← at) (step g (stands-on (x .front) s)) in
+      let e : l′ ≡ exit-added g r (bundle-at start i) l = rw (← at) (step g (stands-kept (x .front) s)) in
       let m : n - i ≡ suc (n - (i + 1)) = omega arith in
       record {
-        front = rw e (front-then (x .front) (exit-front g r (bundle-at start i) l));
+        front = rw e (kinds-then (x .front) (exit-front g r (bundle-at start i) l));
         left = rw (e, add-one i) (rw (add-one i) at (rw m at (x .left)));
       }
 

@@ -9,7 +9,7 @@ use Rattle.meaning.specs.Lists.{pick}
 use Rattle.meaning.specs.Graph.{Graph, region}
 use Rattle.state.specs.Sections.{word, stored, head, bundles}
 use Rattle.state.specs.Tables.{input-stored}
-use Rattle.shown.specs.Front.{SameFront, front-same, front-stored}
+use Rattle.shown.specs.Front.{SameKinds, kinds-same, kinds-stored}
 
 unfoldable pub input-count : Graph → List ℕ → ℕ → ℕ
 input-count g l t = pick (eqb t 65535) (word l head 8) (length (region g t .inputs))
@@ -20,10 +20,10 @@ target-type g l t k = pick (eqb t 65535) (word l head (9 + k)) (getD (region g t
 unfoldable pub condition-in : List ℕ → ℕ → ℕ → ℕ
 condition-in l p n = pick (eqb n 1) 1 (word l bundles (7 * p + 2))
 
-pub front-input-stored : (l : List ℕ) (p k x : ℕ) → SameFront l (input-stored l p k x)
+pub front-input-stored : (l : List ℕ) (p k x : ℕ) → SameKinds l (input-stored l p k x)
 unfolding input-stored
 front-input-stored l p k x = go (ltb k 4)
   where
-    go : (b : Bool) → SameFront l (pick b (stored l bundles (7 * p + (3 + k)) x) l)
-    go true = front-stored l bundles (omega arith) (7 * p + (3 + k)) x
-    go false = front-same l
+    go : (b : Bool) → SameKinds l (pick b (stored l bundles (7 * p + (3 + k)) x) l)
+    go true = kinds-stored l bundles (omega arith) (7 * p + (3 + k)) x
+    go false = kinds-same l

@@ -15,7 +15,7 @@ use Rattle.record.specs.Stands.{OfRecord}
 use Rattle.state.specs.Sections.{word, stored, head, set-starts, set-lengths, cases, bundles}
 use Rattle.state.specs.Values.{is-input, input-region, input-index}
 use Rattle.state.specs.Tables.{input-word, input-stored, find-by, bundle-at, case-total}
-use Rattle.shown.specs.Front.{SameFront, front-stored, front-then}
+use Rattle.shown.specs.Front.{SameKinds, kinds-stored, kinds-then}
 use Rattle.merging.specs.Turns.{turned, turn-next, turn-last, front-turned, Left, left-next, left-last}
 use Rattle.merging.specs.Bundles.{input-count, condition-in, front-input-stored}
 
@@ -97,14 +97,14 @@ unfoldable pub plan-bundles : Graph → List ℕ → Planned
 plan-bundles g l = turned (plan-at (word l set-starts 32) g) (planned l false) (word l set-lengths 32) 0
 
 -- ---- The record stands in front of all that is stored.
-front-inputs : (g : Graph) (l : List ℕ) (q : ℕ) (ps : List ℕ) → SameFront l (plan-inputs g l q ps .words)
+front-inputs : (g : Graph) (l : List ℕ) (q : ℕ) (ps : List ℕ) → SameKinds l (plan-inputs g l q ps .words)
 unfolding plan-inputs plan-input
 front-inputs g l q ps =
     front-turned (λ x. x .words) (also (λ m k. plan-input m q ps k))
     (λ x k. front-input-stored (x .words) q k (unique-input (x .words) ps k)) (input-count g l (word l bundles (7 * q + 0)))
     (planned l false) 0
 
-front-bundle : (g : Graph) (l : List ℕ) (q : ℕ) → SameFront l (plan-bundle g l q .words)
+front-bundle : (g : Graph) (l : List ℕ) (q : ℕ) → SameKinds l (plan-bundle g l q .words)
 unfolding plan-bundle
 front-bundle g l q = go (all-true (x .words) ps)
   where
@@ -114,11 +114,11 @@ front-bundle g l q = go (all-true (x .words) ps)
     x : Planned
     x = plan-inputs g l q ps
 
-    go : (b : Bool) → SameFront l (pick b x (planned (stored (x .words) bundles (7 * q + 2) 0) true) .words)
+    go : (b : Bool) → SameKinds l (pick b x (planned (stored (x .words) bundles (7 * q + 2) 0) true) .words)
     go true = front-inputs g l q ps
-    go false = front-then (front-inputs g l q ps) (front-stored (x .words) bundles (omega arith) (7 * q + 2) 0)
+    go false = kinds-then (front-inputs g l q ps) (kinds-stored (x .words) bundles (omega arith) (7 * q + 2) 0)
 
-pub front-plan : (start : ℕ) (g : Graph) (x : Planned) (i : ℕ) → SameFront (x .words) (plan-at start g x i .words)
+pub front-plan : (start : ℕ) (g : Graph) (x : Planned) (i : ℕ) → SameKinds (x .words) (plan-at start g x i .words)
 front-plan start g x i = front-bundle g (x .words) (bundle-at start i)
 
 -- ---- The functions, path by path.

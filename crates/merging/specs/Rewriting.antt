@@ -13,7 +13,7 @@ use Rattle.record.specs.Stands.{OfRecord}
 use Rattle.state.specs.Sections.{word, stored, head, cases, bundles}
 use Rattle.state.specs.Tables.{input-word, input-stored, bundle-at, case-total}
 use Rattle.lookups.specs.LookUps.{look-up, Rewrites}
-use Rattle.shown.specs.Front.{SameFront, front-same, front-stored, front-then, stands-on}
+use Rattle.shown.specs.Front.{SameKinds, kinds-same, kinds-stored, kinds-then, stands-kept}
 use Rattle.merging.specs.Turns.{turned, turn-last, front-turned}
 use Rattle.merging.specs.Bundles.{input-count, front-input-stored}
 
@@ -50,44 +50,44 @@ unfoldable pub rewrite-cases : Graph → List ℕ → List ℕ
 rewrite-cases g l = turned (λ m j. rewrite-case g m j) l (case-total l) 0
 
 -- ---- The record stands in front of all that is stored.
-front-noted : (l : List ℕ) (v : ℕ) → SameFront l (noted l v)
+front-noted : (l : List ℕ) (v : ℕ) → SameKinds l (noted l v)
 unfolding noted
 front-noted l v = go (look-up l v .twice)
   where
-    go : (b : Bool) → SameFront l (pick b (stored l head 6 1) l)
-    go true = front-stored l head (omega arith) 6 1
-    go false = front-same l
+    go : (b : Bool) → SameKinds l (pick b (stored l head 6 1) l)
+    go true = kinds-stored l head (omega arith) 6 1
+    go false = kinds-same l
 
-pub front-bundle : (g : Graph) (l : List ℕ) (p : ℕ) → SameFront l (rewrite-bundle g l p)
+pub front-bundle : (g : Graph) (l : List ℕ) (p : ℕ) → SameKinds l (rewrite-bundle g l p)
 unfolding rewrite-bundle rewrite-input
 front-bundle g l p = front-turned (λ l. l) (λ m k. rewrite-input m p k)
-    (λ m k. front-then (front-noted m (input-word m p k)) (front-input-stored (noted m (input-word m p k)) p k
+    (λ m k. kinds-then (front-noted m (input-word m p k)) (front-input-stored (noted m (input-word m p k)) p k
     (look-up m (input-word m p k) .value))) (input-count g l (word l bundles (7 * p + 0))) l 0
 
-front-set : (g : Graph) (l : List ℕ) (start n : ℕ) → SameFront l (rewrite-set g l start n)
+front-set : (g : Graph) (l : List ℕ) (start n : ℕ) → SameKinds l (rewrite-set g l start n)
 unfolding rewrite-set
 front-set g l start n = front-turned (λ l. l) (λ m i. rewrite-bundle g m (bundle-at start i))
     (λ m i. front-bundle g m (bundle-at start i)) n l 0
 
-front-inputs : (g : Graph) (l : List ℕ) (j : ℕ) → SameFront l (rewrite-inputs g l j)
+front-inputs : (g : Graph) (l : List ℕ) (j : ℕ) → SameKinds l (rewrite-inputs g l j)
 unfolding rewrite-inputs rewrite-case-input
 front-inputs g l j = front-turned (λ l. l) (λ m k. rewrite-case-input m j k)
     (λ m k. let v = word m cases (10 * j + (6 + k)) in
-    front-then (front-noted m v) (front-stored (noted m v) cases (omega arith) (10 * j + (6 + k)) (look-up m v .value)))
+    kinds-then (front-noted m v) (kinds-stored (noted m v) cases (omega arith) (10 * j + (6 + k)) (look-up m v .value)))
     (length (region g (word l cases (10 * j + 1)) .inputs)) l 0
 
-pub front-given : (g : Graph) (l : List ℕ) (j : ℕ) → SameFront l (rewrite-given g l j)
+pub front-given : (g : Graph) (l : List ℕ) (j : ℕ) → SameKinds l (rewrite-given g l j)
 unfolding rewrite-given
 front-given g l j = go (eqb (word l cases (10 * j + 0)) 2)
   where
-    go : (b : Bool) → SameFront l (pick b (rewrite-inputs g l j) l)
+    go : (b : Bool) → SameKinds l (pick b (rewrite-inputs g l j) l)
     go true = front-inputs g l j
-    go false = front-same l
+    go false = kinds-same l
 
-pub front-case : (g : Graph) (l : List ℕ) (j : ℕ) → SameFront l (rewrite-case g l j)
+pub front-case : (g : Graph) (l : List ℕ) (j : ℕ) → SameKinds l (rewrite-case g l j)
 unfolding rewrite-case
 front-case g l j = let m = rewrite-given g l j in
-    front-then (front-given g l j) (front-set g m (word m cases (10 * j + 4)) (word m cases (10 * j + 5)))
+    kinds-then (front-given g l j) (front-set g m (word m cases (10 * j + 4)) (word m cases (10 * j + 5)))
 
 -- ---- The functions, path by path.
 module _ (l l₁ l₂ : List ℕ) (p k v x : ℕ) where
@@ -129,5 +129,5 @@ pub case-path : (l l₁ l₂ : List ℕ) (j start n : ℕ) → OfRecord l (λ g.
 unfolding rewrite-case
 case-path l l₁ l₂ j start n given of-start of-length last g st =
     let e = given g st in
-    let same : SameFront l l₁ = rw e (front-given g l j) in
-    last g (stands-on same st) ∙ rw (of-start, of-length, e)
+    let same : SameKinds l l₁ = rw e (front-given g l j) in
+    last g (stands-kept same st) ∙ rw (of-start, of-length, e)

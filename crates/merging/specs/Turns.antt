@@ -6,7 +6,7 @@ use native.Mathlib.Omega.{arith}
 use native.Mathlib.Numerals.{add-one}
 use Rattle.meaning.specs.Graph.{Graph}
 use Rattle.record.specs.Stands.{OfRecord}
-use Rattle.shown.specs.Front.{SameFront, front-same, front-then, stands-on}
+use Rattle.shown.specs.Front.{SameKinds, kinds-same, kinds-then, stands-kept}
 
 -- n turns from turn i on.
 unfoldable pub turned : {A : Type 0} → (A → ℕ → A) → A → ℕ → ℕ → A
@@ -36,27 +36,27 @@ turned-same f f′ most same (suc n) a i h =
 
 -- ---- A loop whose turns read the record: it stands as long as nothing is stored in front.
 module _ {A : Type 0} (words : A → List ℕ) where
-  pub front-turned : (f : A → ℕ → A) → ((a : A) (i : ℕ) → SameFront (words a) (words (f a i))) → (n : ℕ) (a : A) (i : ℕ)
-      → SameFront (words a) (words (turned f a n i))
+  pub front-turned : (f : A → ℕ → A) → ((a : A) (i : ℕ) → SameKinds (words a) (words (f a i))) → (n : ℕ) (a : A) (i : ℕ)
+      → SameKinds (words a) (words (turned f a n i))
   unfolding turned
-  front-turned f same zero a i = front-same (words a)
-  front-turned f same (suc n) a i = front-then (same a i) (front-turned f same n (f a i) (suc i))
+  front-turned f same zero a i = kinds-same (words a)
+  front-turned f same (suc n) a i = kinds-then (same a i) (front-turned f same n (f a i) (suc i))
 
   pub record Left (f : Graph → A → ℕ → A) (a : A) (n : ℕ) (b : A) (i : ℕ) (g : Graph) : Type 0 where
-    pub front : SameFront (words a) (words b)
+    pub front : SameKinds (words a) (words b)
     pub rest : turned (f g) b (n - i) i ≡ turned (f g) a n 0
 
   module _ (f : Graph → A → ℕ → A) where
     pub left-first : (a : A) (n : ℕ) → OfRecord (words a) (Left f a n a 0)
-    left-first a n g st = record { front = front-same (words a); rest = turn-first (f g) a n }
+    left-first a n g st = record { front = kinds-same (words a); rest = turn-first (f g) a n }
 
     module _ (a : A) (n : ℕ) (b : A) (i : ℕ) (left : OfRecord (words a) (Left f a n b i)) where
-      pub left-next : ((g : Graph) (a : A) (i : ℕ) → SameFront (words a) (words (f g a i))) → i < n → (c : A)
+      pub left-next : ((g : Graph) (a : A) (i : ℕ) → SameKinds (words a) (words (f g a i))) → i < n → (c : A)
           → OfRecord (words b) (λ g. c ≡ f g b i) → OfRecord (words a) (Left f a n c (i + 1))
       left-next same h c step g st =
           let x = left g st in
-          let e = step g (stands-on (x .front) st) in
-          rw e (record { front = front-then (x .front) (same g b i); rest = turn-next (f g) b n i (x .rest) h })
+          let e = step g (stands-kept (x .front) st) in
+          rw e (record { front = kinds-then (x .front) (same g b i); rest = turn-next (f g) b n i (x .rest) h })
 
       pub left-last : n ≤ i → OfRecord (words a) (λ g. b ≡ turned (f g) a n 0)
       left-last h g st = turn-last (f g) b n i (left g st .rest) h

@@ -17,7 +17,7 @@ use Rattle.state.specs.Sections.{word, stored, stored-all, head, set-starts, se
 use Rattle.state.specs.Tables.{case-total, input-word, input-stored, bundle-at, OutputDefined, output-defined, outputs-full, MergeDefined}
 use Rattle.state.specs.Tables.{merge-defined, merges-full}
 use Rattle.state.specs.Values.{undef-word, output-word}
-use Rattle.shown.specs.Front.{SameFront, stands-on, front-same, front-stored, front-run, front-then}
+use Rattle.shown.specs.Front.{SameKinds, stands-kept, kinds-same, kinds-stored, kinds-run, kinds-then}
 use Rattle.bundles.specs.Words.{input-count, target-type}
 use Rattle.merging.specs.Bundles.{front-input-stored}
 use Rattle.merging.specs.Planning.{per-case-deferred, per-case-condition}
@@ -105,34 +105,34 @@ abbrev pub Emits : Graph → ℕ → List ℕ → List ℕ → Made → Type 0
 Emits g h l l′ a = Turns (EmitAt g h (word l set-starts 32)) (word l set-lengths 32) 0 l l′ a
 
 -- ---- The record stands in front of all that is stored.
-pub front-output : {n ty : ℕ} {vs l l′ : List ℕ} {a : Defined} → OutputDefined n ty vs l l′ a → SameFront l l′
+pub front-output : {n ty : ℕ} {vs l l′ : List ℕ} {a : Defined} → OutputDefined n ty vs l l′ a → SameKinds l l′
 front-output {n} {ty} {vs} {l} (output-defined {o} p h e) =
-    rw e (front-then (front-run l outputs (omega arith) (10 * o) (n ∷ ty ∷ vs))
-    (front-stored (stored-all l outputs (10 * o) (n ∷ ty ∷ vs)) head (omega arith) 3 (o + 1)))
-front-output {l} (outputs-full h e) = rw e (front-same l)
+    rw e (kinds-then (kinds-run l outputs (omega arith) (10 * o) (n ∷ ty ∷ vs))
+    (kinds-stored (stored-all l outputs (10 * o) (n ∷ ty ∷ vs)) head (omega arith) 3 (o + 1)))
+front-output {l} (outputs-full h e) = rw e (kinds-same l)
 
-front-merge : {n shape x : ℕ} {ps l l′ : List ℕ} {a : Defined} → MergeDefined n shape x ps l l′ a → SameFront l l′
+front-merge : {n shape x : ℕ} {ps l l′ : List ℕ} {a : Defined} → MergeDefined n shape x ps l l′ a → SameKinds l l′
 front-merge {n} {shape} {x} {ps} {l} (merge-defined {m} {c} p h q e) =
-    rw e (front-then (front-run l conditions (omega arith) (11 * c) (n ∷ shape ∷ x ∷ ps))
-    (front-stored (stored-all l conditions (11 * c) (n ∷ shape ∷ x ∷ ps)) head (omega arith) 2 (m + 1)))
-front-merge {l} (merges-full h e) = rw e (front-same l)
+    rw e (kinds-then (kinds-run l conditions (omega arith) (11 * c) (n ∷ shape ∷ x ∷ ps))
+    (kinds-stored (stored-all l conditions (11 * c) (n ∷ shape ∷ x ∷ ps)) head (omega arith) 2 (m + 1)))
+front-merge {l} (merges-full h e) = rw e (kinds-same l)
 
-front-input : {g : Graph} {node q t k : ℕ} {places l l′ : List ℕ} {a : Made} → EmitInput g node q t places k l l′ a → SameFront l l′
-front-input {l} (input-there d e) = rw e (front-same l)
-front-input {q} {k} (input-made {l₁} {o} e vs x p) = rw p (front-then (front-output x) (front-input-stored l₁ q k (output-word o)))
+front-input : {g : Graph} {node q t k : ℕ} {places l l′ : List ℕ} {a : Made} → EmitInput g node q t places k l l′ a → SameKinds l l′
+front-input {l} (input-there d e) = rw e (kinds-same l)
+front-input {q} {k} (input-made {l₁} {o} e vs x p) = rw p (kinds-then (front-output x) (front-input-stored l₁ q k (output-word o)))
 front-input (no-input e vs x) = front-output x
 
-front-inputs : {g : Graph} {node q : ℕ} {places l l′ : List ℕ} {a : Made} → EmitInputs g node q places l l′ a → SameFront l l′
+front-inputs : {g : Graph} {node q : ℕ} {places l l′ : List ℕ} {a : Made} → EmitInputs g node q places l l′ a → SameKinds l l′
 front-inputs {g} {node} {q} {places} {l} t = front-turns (EmitInput g node q (target-at l q) places) (λ k m m′ b x. front-input x) t
 
-front-condition : {h q : ℕ} {places l l′ : List ℕ} {a : Made} → EmitCondition h q places l l′ a → SameFront l l′
-front-condition {l} (condition-there d e) = rw e (front-same l)
-front-condition {q} (condition-made {l₁} {c} e ps x p) = rw p (front-then (front-merge x) (front-stored l₁ bundles (omega arith) (7 * q + 2) c))
+front-condition : {h q : ℕ} {places l l′ : List ℕ} {a : Made} → EmitCondition h q places l l′ a → SameKinds l l′
+front-condition {l} (condition-there d e) = rw e (kinds-same l)
+front-condition {q} (condition-made {l₁} {c} e ps x p) = rw p (kinds-then (front-merge x) (kinds-stored l₁ bundles (omega arith) (7 * q + 2) c))
 front-condition (no-condition e ps x) = front-merge x
 
-front-bundle : {g : Graph} {h q : ℕ} {l l′ : List ℕ} {a : Made} → EmitBundle g h q l l′ a → SameFront l l′
+front-bundle : {g : Graph} {h q : ℕ} {l l′ : List ℕ} {a : Made} → EmitBundle g h q l l′ a → SameKinds l l′
 front-bundle (inputs-refused t) = front-inputs t
-front-bundle (bundle-emitted t c) = front-then (front-inputs t) (front-condition c)
+front-bundle (bundle-emitted t c) = kinds-then (front-inputs t) (front-condition c)
 
 -- ---- The functions, path by path.
 module _ (h q : ℕ) (places l : List ℕ) {x node shape scrutinee : ℕ} {parts l₁ : List ℕ} {a : Defined} (read : x ≡ word l bundles (7 * q + 2))

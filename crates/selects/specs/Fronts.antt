@@ -11,7 +11,7 @@ use Rattle.state.specs.declared.defined.Defined.{Defined}
 use Rattle.state.specs.declared.cells.Cell.{Cell}
 use Rattle.state.specs.Sections.{word, stored, stored-all, head, children, set-starts, set-lengths, cases, cells, bundles}
 use Rattle.state.specs.Tables.{case-total, bundle-at, find-by, Defines, defined, full, Adds, added, no-room, cell-words}
-use Rattle.shown.specs.Front.{SameFront, front-same, front-stored, front-run, front-then}
+use Rattle.shown.specs.Front.{SameKinds, kinds-same, kinds-stored, kinds-run, kinds-then}
 use Rattle.lookups.specs.Materialized.{Merges, the-scrutinee, new-output, no-output, Materializes, made-true, made-false, made-undef}
 use Rattle.lookups.specs.Materialized.{made-merge, full-part, PartsMade, no-part, part-more}
 use Rattle.merging.specs.Turns.{front-turned}
@@ -27,11 +27,11 @@ use Rattle.selects.specs.Selects.{SelectDefined, regions-full, scrutinee
 use Rattle.selects.specs.Emits.{front-output}
 
 -- ---- Cases rewritten, their targets, and what is planned for them.
-pub front-cases : (g : Graph) (l : List ℕ) → SameFront l (rewrite-cases g l)
+pub front-cases : (g : Graph) (l : List ℕ) → SameKinds l (rewrite-cases g l)
 unfolding rewrite-cases
 front-cases g l = front-turned (λ m. m) (λ m j. rewrite-case g m j) (λ m j. front-case g m j) (case-total l) l 0
 
-front-summary : (l : List ℕ) (p : ℕ) → SameFront l (summarize-bundle l p)
+front-summary : (l : List ℕ) (p : ℕ) → SameKinds l (summarize-bundle l p)
 unfolding summarize-bundle
 front-summary l p = go (eqb q 65535)
   where
@@ -41,81 +41,81 @@ front-summary l p = go (eqb q 65535)
     q : ℕ
     q = find-by l (word l set-starts 32) (word l bundles (7 * p + 0)) n 0
 
-    go : (b : Bool) → SameFront l (pick b (row-added l p (word l set-starts 32) n) (edges-added l p q))
+    go : (b : Bool) → SameKinds l (pick b (row-added l p (word l set-starts 32) n) (edges-added l p q))
     go true =
         let xs = word l bundles (7 * p + 0) ∷ word l bundles (7 * p + 1) ∷ 1 ∷ [] in
         let at = 7 * bundle-at (word l set-starts 32) n in
-        front-then (front-run l bundles (omega arith) at xs) (front-stored (stored-all l bundles at xs) set-lengths (omega arith) 32 (plus n 1))
-    go false = front-stored l bundles (omega arith) (7 * q + 1) (plus (word l bundles (7 * q + 1)) (word l bundles (7 * p + 1)))
+        kinds-then (kinds-run l bundles (omega arith) at xs) (kinds-stored (stored-all l bundles at xs) set-lengths (omega arith) 32 (plus n 1))
+    go false = kinds-stored l bundles (omega arith) (7 * q + 1) (plus (word l bundles (7 * q + 1)) (word l bundles (7 * p + 1)))
 
-front-summaries : (l : List ℕ) (j : ℕ) → SameFront l (summarize-case l j)
+front-summaries : (l : List ℕ) (j : ℕ) → SameKinds l (summarize-case l j)
 unfolding summarize-set
 front-summaries l j =
     front-turned (λ m. m) (λ m i. summarize-bundle m (bundle-at (word l cases (10 * j + 4)) i))
     (λ m i. front-summary m (bundle-at (word l cases (10 * j + 4)) i)) (word l cases (10 * j + 5)) l 0
 
-pub front-targets : (l : List ℕ) → SameFront l (deferred-targets l)
+pub front-targets : (l : List ℕ) → SameKinds l (deferred-targets l)
 unfolding deferred-targets
 front-targets l =
     let m = stored l set-lengths 32 0 in
-    front-then (front-stored l set-lengths (omega arith) 32 0) (front-turned (λ m. m) summarize-case front-summaries (case-total m) m 0)
+    kinds-then (kinds-stored l set-lengths (omega arith) 32 0) (front-turned (λ m. m) summarize-case front-summaries (case-total m) m 0)
 
-pub front-plans : (g : Graph) (l : List ℕ) → SameFront l (plan-bundles g l .words)
+pub front-plans : (g : Graph) (l : List ℕ) → SameKinds l (plan-bundles g l .words)
 unfolding plan-bundles
 front-plans g l =
     let start = word l set-starts 32 in
     front-turned (λ x. x .words) (plan-at start g) (front-plan start g) (word l set-lengths 32) (planned l false) 0
 
 -- ---- The select.
-front-define : {i limit : ℕ} {l l′ : List ℕ} {a : Defined} → Defines i limit l l′ a → SameFront l l′
-front-define {i} {l} (defined {n} p h e) = rw e (front-stored l head (omega arith) i (n + 1))
-front-define {l} (full h e) = rw e (front-same l)
+front-define : {i limit : ℕ} {l l′ : List ℕ} {a : Defined} → Defines i limit l l′ a → SameKinds l l′
+front-define {i} {l} (defined {n} p h e) = rw e (kinds-stored l head (omega arith) i (n + 1))
+front-define {l} (full h e) = rw e (kinds-same l)
 
-front-region : {j : ℕ} {l l′ : List ℕ} {a : Made} → CaseRegion j l l′ a → SameFront l l′
-front-region {l} (has-region k e) = rw e (front-same l)
-front-region {j} (new-region {r} {l₁} d x e) = rw e (front-then (front-define x) (front-stored l₁ cases (omega arith) (10 * j + 2) r))
+front-region : {j : ℕ} {l l′ : List ℕ} {a : Made} → CaseRegion j l l′ a → SameKinds l l′
+front-region {l} (has-region k e) = rw e (kinds-same l)
+front-region {j} (new-region {r} {l₁} d x e) = rw e (kinds-then (front-define x) (kinds-stored l₁ cases (omega arith) (10 * j + 2) r))
 front-region (no-region d x) = front-define x
 
-front-merges : {l l′ vs : List ℕ} {c : ℕ} {a : Defined} → Merges l c vs l′ a → SameFront l l′
-front-merges {l} (the-scrutinee e p q) = rw q (front-same l)
+front-merges : {l l′ vs : List ℕ} {c : ℕ} {a : Defined} → Merges l c vs l′ a → SameKinds l l′
+front-merges {l} (the-scrutinee e p q) = rw q (kinds-same l)
 front-merges (new-output e x p) = front-output x
 front-merges (no-output e x) = front-output x
 
 mutual
-  front-made : {l l′ : List ℕ} {c : ℕ} {a : Defined} → Materializes l c l′ a → SameFront l l′
-  front-made (made-true {l} e p) = rw p (front-same l)
-  front-made (made-false {l} e p) = rw p (front-same l)
-  front-made (made-undef {l} d f h x p) = rw p (front-same l)
-  front-made (made-merge h ps m) = front-then (front-parts ps) (front-merges m)
-  front-made (full-part h i ps e m) = front-then (front-parts ps) (front-made m)
+  front-made : {l l′ : List ℕ} {c : ℕ} {a : Defined} → Materializes l c l′ a → SameKinds l l′
+  front-made (made-true {l} e p) = rw p (kinds-same l)
+  front-made (made-false {l} e p) = rw p (kinds-same l)
+  front-made (made-undef {l} d f h x p) = rw p (kinds-same l)
+  front-made (made-merge h ps m) = kinds-then (front-parts ps) (front-merges m)
+  front-made (full-part h i ps e m) = kinds-then (front-parts ps) (front-made m)
 
-  front-parts : {l l′ vs : List ℕ} {c j : ℕ} → PartsMade l c j l′ vs → SameFront l l′
-  front-parts (no-part {l} e p q) = rw p (front-same l)
-  front-parts (part-more ps h e m i q) = front-then (front-parts ps) (front-made m)
+  front-parts : {l l′ vs : List ℕ} {c j : ℕ} → PartsMade l c j l′ vs → SameKinds l l′
+  front-parts (no-part {l} e p q) = rw p (kinds-same l)
+  front-parts (part-more ps h e m i q) = kinds-then (front-parts ps) (front-made m)
 
-front-scrutinee : {l l′ : List ℕ} {x : Scrutinee} {a : Defined} → ScrutineeMade l x l′ a → SameFront l l′
-front-scrutinee {l} (given-value e) = rw e (front-same l)
+front-scrutinee : {l l′ : List ℕ} {x : Scrutinee} {a : Defined} → ScrutineeMade l x l′ a → SameKinds l l′
+front-scrutinee {l} (given-value e) = rw e (kinds-same l)
 front-scrutinee (made-value m) = front-made m
 
-front-cell : {l l′ : List ℕ} {x : Cell} {h : ℕ} → Adds l l′ x h → SameFront l l′
+front-cell : {l l′ : List ℕ} {x : Cell} {h : ℕ} → Adds l l′ x h → SameKinds l l′
 front-cell {l} {x} {h} (added p b e) =
-    rw e (front-then (front-run l cells (omega arith) (6 * h) (cell-words x))
-    (front-stored (stored-all l cells (6 * h) (cell-words x)) head (omega arith) 4 (h + 1)))
-front-cell {l} (no-room p e q) = rw e (front-same l)
+    rw e (kinds-then (kinds-run l cells (omega arith) (6 * h) (cell-words x))
+    (kinds-stored (stored-all l cells (6 * h) (cell-words x)) head (omega arith) 4 (h + 1)))
+front-cell {l} (no-room p e q) = rw e (kinds-same l)
 
-front-cells : {n h h′ : ℕ} {l l′ : List ℕ} → CaseCells n h l l′ h′ → SameFront l l′
-front-cells {l} (cells-over n e p) = rw e (front-same l)
-front-cells (cell-more n x y) = front-then (front-cell x) (front-cells y)
+front-cells : {n h h′ : ℕ} {l l′ : List ℕ} → CaseCells n h l l′ h′ → SameKinds l l′
+front-cells {l} (cells-over n e p) = rw e (kinds-same l)
+front-cells (cell-more n x y) = kinds-then (front-cell x) (front-cells y)
 
-front-added : {r node shape v h : ℕ} {l l′ : List ℕ} → SelectAdded r node shape v l l′ h → SameFront l l′
+front-added : {r node shape v h : ℕ} {l l′ : List ℕ} → SelectAdded r node shape v l l′ h → SameKinds l l′
 front-added {r} {h} (select-added {l₂} x b y e) =
-    rw e (front-then (front-cells x) (front-then (front-cell y) (front-stored l₂ children (omega arith) r h)))
+    rw e (kinds-then (front-cells x) (kinds-then (front-cell y) (kinds-stored l₂ children (omega arith) r h)))
 
-pub front-select : {r shape : ℕ} {x : Scrutinee} {l l′ : List ℕ} {a : Defined} → SelectDefined r shape x l l′ a → SameFront l l′
+pub front-select : {r shape : ℕ} {x : Scrutinee} {l l′ : List ℕ} {a : Defined} → SelectDefined r shape x l l′ a → SameKinds l l′
 front-select (regions-full t) = front-turns CaseRegion (λ j m m′ b y. front-region y) t
-front-select (scrutinee-full t v) = front-then (front-turns CaseRegion (λ j m m′ b y. front-region y) t) (front-scrutinee v)
+front-select (scrutinee-full t v) = kinds-then (front-turns CaseRegion (λ j m m′ b y. front-region y) t) (front-scrutinee v)
 front-select (node-full t v n) =
-    front-then (front-turns CaseRegion (λ j m m′ b y. front-region y) t) (front-then (front-scrutinee v) (front-define n))
+    kinds-then (front-turns CaseRegion (λ j m m′ b y. front-region y) t) (kinds-then (front-scrutinee v) (front-define n))
 front-select (select-defined t v n s) =
-    front-then (front-turns CaseRegion (λ j m m′ b y. front-region y) t)
-    (front-then (front-scrutinee v) (front-then (front-define n) (front-added s)))
+    kinds-then (front-turns CaseRegion (λ j m m′ b y. front-region y) t)
+    (kinds-then (front-scrutinee v) (kinds-then (front-define n) (front-added s)))

@@ -11,7 +11,7 @@ use Rattle.state.specs.declared.defined.Defined.the-variants.{Number, Full as R
 use Rattle.state.specs.declared.cases.Case.{Case}
 use Rattle.state.specs.Sections.{word, stored, stored-all, set-lengths, cases}
 use Rattle.state.specs.Tables.{case-total, swapped, case-row, case-words}
-use Rattle.shown.specs.Front.{stands-on, front-run, front-then}
+use Rattle.shown.specs.Front.{stands-kept, kinds-run, kinds-then}
 use Rattle.bundles.specs.Words.{unclaimed-case, Appends}
 use Rattle.merging.specs.Rewriting.{rewrite-cases}
 use Rattle.merging.specs.Targets.{deferred-targets}
@@ -75,7 +75,7 @@ module _ (needed : Bool) (r shape : ℕ) (x : Scrutinee) (l : List ℕ) where
 
     pub if-made : {h : ℕ} → a ≡ Number h → {l′ : List ℕ} {b : Made} → OfRecord l₁ (λ g. Emits g h l₁ l′ b)
         → OfRecord l (λ g. SelectIf g needed r shape x l l′ b)
-    if-made e y g s = select-made is (rw e at made) (y g (stands-on (front-select made) s))
+    if-made e y g s = select-made is (rw e at made) (y g (stands-kept (front-select made) s))
 
 module _ (r shape : ℕ) (x : Scrutinee) (l : List ℕ) {some merged needed : Bool} {l₁ l₂ l₃ l₄ : List ℕ} {a : Made}
     (of-cases : some ≡ any-non-empty-case l) (rewritten : OfRecord l (λ g. l₁ ≡ rewrite-cases g l)) (targets : l₂ ≡ deferred-targets l₁)
@@ -84,11 +84,11 @@ module _ (r shape : ℕ) (x : Scrutinee) (l : List ℕ) {some merged needed : Bo
   step-by-step : OfRecord l (λ g. SelectIf g (needs-select g l) r shape x (with-plan g l) l₄ a)
   step-by-step g s =
       let first = rewritten g s in
-      let s₁ = stands-on (front-cases g l) s in
-      let s₂ = stands-on (front-targets (rewrite-cases g l)) s₁ in
+      let s₁ = stands-kept (front-cases g l) s in
+      let s₂ = stands-kept (front-targets (rewrite-cases g l)) s₁ in
       let second : l₂ ≡ with-targets g l = targets ∙ rw first in
       let p : planned l₃ merged ≡ plan-bundles g (with-targets g l) = rw second at (plan g (rw second s₂)) in
-      let s₃ = stands-on (front-plans g (with-targets g l)) s₂ in
+      let s₃ = stands-kept (front-plans g (with-targets g l)) s₂ in
       let third : l₃ ≡ with-plan g l = ap (λ y. y .words) p in
       let fourth : merged ≡ plan-bundles g (with-targets g l) .needed = ap (λ y. y .needed) p in
       let need : needed ≡ needs-select g l = both ∙ rw (of-cases, fourth) in
@@ -113,7 +113,7 @@ module _ (r shape : ℕ) (x : Scrutinee) (l : List ℕ) {j : ℕ} (found : j ≡
     alone : OfRecord l (λ g. Structurizes g r shape x (set-aside l (convergent-case l)) l₂ a)
     alone g s =
         let e : l₁ ≡ set-aside l (convergent-case l) = aside ∙ rw (none, found) in
-        rw e at (made g (rw e (stands-on (front-run l cases (omega arith) (10 * convergent-case l) (case-words (unclaimed-case 0 0 0))) s)))
+        rw e at (made g (rw e (stands-kept (kinds-run l cases (omega arith) (10 * convergent-case l) (case-words (unclaimed-case 0 0 0))) s)))
 
     pub into-refused : a ≡ Full → OfRecord l (λ g. StructurizesInto g r shape x l l₂ Full)
     into-refused e g s = one-refused below (rw e at (alone g s))

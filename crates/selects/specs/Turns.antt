@@ -6,7 +6,7 @@ use native.Mathlib.Omega.{arith}
 use native.Mathlib.Numerals.{add-one}
 use Rattle.meaning.specs.Graph.{Graph}
 use Rattle.record.specs.Stands.{Stands, OfRecord}
-use Rattle.shown.specs.Front.{SameFront, stands-on, front-same, front-then}
+use Rattle.shown.specs.Front.{SameKinds, stands-kept, kinds-same, kinds-then}
 use Rattle.selects.specs.declared.made.Made.{Made}
 use Rattle.selects.specs.declared.made.Made.the-variants.{Done, Full}
 
@@ -41,11 +41,11 @@ module _ (Step : Steps) (n : ℕ) (l₀ : List ℕ) where
 
 -- ---- Steps that leave the record leave it in all turns.
 abbrev pub LeavesRecord : Steps → Type 0
-LeavesRecord Step = (j : ℕ) (l l′ : List ℕ) (a : Made) → Step j l l′ a → SameFront l l′
+LeavesRecord Step = (j : ℕ) (l l′ : List ℕ) (a : Made) → Step j l l′ a → SameKinds l l′
 
-pub front-turns : (Step : Steps) → LeavesRecord Step → {n j : ℕ} {l l′ : List ℕ} {a : Made} → Turns Step n j l l′ a → SameFront l l′
-front-turns Step f {l} (turns-over n e) = rw e (front-same l)
-front-turns Step f (turn-on n x t) = front-then (f _ _ _ _ x) (front-turns Step f t)
+pub front-turns : (Step : Steps) → LeavesRecord Step → {n j : ℕ} {l l′ : List ℕ} {a : Made} → Turns Step n j l l′ a → SameKinds l l′
+front-turns Step f {l} (turns-over n e) = rw e (kinds-same l)
+front-turns Step f (turn-on n x t) = kinds-then (f _ _ _ _ x) (front-turns Step f t)
 front-turns Step f (turn-refused n x) = f _ _ _ _ x
 
 -- ---- Where the steps are by the record that stands.
@@ -60,7 +60,7 @@ module _ (Step : Graph → Steps) (n : ℕ) (l₀ : List ℕ) (j : ℕ) (l : Lis
       → GoesOnBy Step n (j + 1) l₀ l₁
   turned-by f h x g s =
       let y = goes-on g s in
-      (stands-on (f g _ _ _ _ (x g (y .0))) (y .0), turned (Step g) n l₀ j l (y .1) h (x g (y .0)))
+      (stands-kept (f g _ _ _ _ (x g (y .0))) (y .0), turned (Step g) n l₀ j l (y .1) h (x g (y .0)))
 
   pub refused-by : j < n → {l′ : List ℕ} → OfRecord l (λ g. Step g j l l′ Full) → OfRecord l₀ (λ g. Turns (Step g) n 0 l₀ l′ Full)
   refused-by h x g s = let y = goes-on g s in refused (Step g) n l₀ j l (y .1) h (x g (y .0))
