@@ -22,12 +22,13 @@ use Rattle.state.specs.declared.defined.Defined.the-variants as defined
 use Rattle.state.specs.Sections.{word, stored, kinds, backedges, children, bundles, set-starts, set-lengths}
 use Rattle.state.specs.Tables.{Adds, Defines, bundle-at, case-row}
 use Rattle.state.specs.Values.{value-word}
-use Rattle.bundles.specs.Words.{condition-in, return-deferred, cases-filled, split-filled, Appends, filled-front, split-front}
-use Rattle.shown.specs.Front.{SameFront, stands-on, front-stored, front-then, adds-front}
-use Rattle.selects.specs.declared.Made.{Made}
-use Rattle.selects.specs.declared.Made.the-variants.{Done, Full}
-use Rattle.selects.specs.declared.Scrutinee.the-variants as scrutinee
-use Rattle.selects.specs.Words.{SelectsInto}
+use Rattle.bundles.specs.Words.{condition-in, return-deferred, cases-filled, split-filled, Appends}
+use Rattle.shown.specs.Front.{SameKinds, stands-kept, kinds-stored, kinds-then, adds-kinds}
+use Rattle.cfg.specs.Leaves.{cases-kinds, split-kinds}
+use Rattle.state.specs.declared.defined.Made.{Made}
+use Rattle.state.specs.declared.defined.Made.the-variants.{Done, Full}
+use Rattle.selects.specs.declared.define.Scrutinee.the-variants as scrutinee
+use Rattle.selects.specs.Into.{StructurizesInto}
 use Rattle.cfg.specs.ByState.{backedge-at}
 
 abbrev pub blocks-cell : ℕ → Cell
@@ -47,11 +48,11 @@ pub data AddsExit (w : List ℕ) (r : ℕ) (w′ : List ℕ) : Made → Type 0 w
       → w′ ≡ stored w₂ children r h → AddsExit w r w′ Done
 
 pub data Branches (g : Graph) (w : List ℕ) (r : ℕ) (w′ : List ℕ) : Made → Type 0 where
-  branches : Appends (cases-filled g w r) r (case-row (cases-filled g w r) 0) 0 w′ → Branches g w r w′ Done
+  branches : Appends (cases-filled g w r) w′ r (case-row (cases-filled g w r) 0) 0 → Branches g w r w′ Done
 
 pub data Selects (g : Graph) (w : List ℕ) (r shape : ℕ) (w′ : List ℕ) (a : Made) : Type 0 where
   selects : (v : Value) → value-is v ≡ getD (end-values g r) 0 no-value
-      → SelectsInto g (cases-filled g w r) r shape (scrutinee.Value (value-word v)) w′ a → Selects g w r shape w′ a
+      → StructurizesInto g r shape (scrutinee.Value (value-word v)) (cases-filled g w r) w′ a → Selects g w r shape w′ a
 
 abbrev pub SelectsNumber : Graph → List ℕ → ℕ → List ℕ → Made → Type 0
 SelectsNumber g w r w′ a = Selects g w r (length (edges-of (region g r .terminator))) w′ a
@@ -80,7 +81,7 @@ abbrev pub own-condition : List ℕ → ℕ → ℕ → ℕ
 own-condition w r i = condition-in w (own-bundle w r i) (word w set-lengths r)
 
 pub data ResolvesBy (g : Graph) (w : List ℕ) (r i : ℕ) (w′ : List ℕ) (a : Made) : Type 0 where
-  resolves : SelectsInto g (split-filled g w r i) r 0 (scrutinee.Lazy (own-condition w r i)) w′ a → ResolvesBy g w r i w′ a
+  resolves : StructurizesInto g r 0 (scrutinee.Lazy (own-condition w r i)) (split-filled g w r i) w′ a → ResolvesBy g w r i w′ a
 
 unfoldable pub backedges-deferred : List ℕ → ℕ → ℕ
 backedges-deferred w r = pick (eqb (backedge-at w r) 65535) 0 (word w bundles (7 * backedge-at w r + 1))
@@ -89,9 +90,9 @@ abbrev pub made-ready : List ℕ → ℕ → List ℕ
 made-ready w r = stored (stored w backedges r (backedges-deferred w r)) kinds r 2
 
 -- ---- The functions, path by path.
-pub blocks-front : {g : Graph} {w w′ : List ℕ} {r : ℕ} → AddsBlocks g w r w′ → SameFront w w′
-blocks-front {w} {r} (no-blocks z e) = rw e (front-stored w children (omega arith) r 0)
-blocks-front {r} (some-blocks {w₁} {h} d x e) = rw e (front-then (adds-front x) (front-stored w₁ children (omega arith) r h))
+pub blocks-kinds : {g : Graph} {w w′ : List ℕ} {r : ℕ} → AddsBlocks g w r w′ → SameKinds w w′
+blocks-kinds {w} {r} (no-blocks z e) = rw e (kinds-stored w children (omega arith) r 0)
+blocks-kinds {r} (some-blocks {w₁} {h} d x e) = rw e (kinds-then (adds-kinds x) (kinds-stored w₁ children (omega arith) r h))
 
 pub exit-none : {w w′ : List ℕ} {r : ℕ} {a : Defined} → Defines 1 512 w w′ a → a ≡ defined.Full → AddsExit w r w′ Full
 exit-none d e = exit-full (rw e at d)
@@ -102,28 +103,28 @@ exit-some d e b x s = exit-added (rw e at d) (rw b at x) s
 
 module _ (g : Graph) (w : List ℕ) (r : ℕ) {w₁ : List ℕ} (st : Stands w g) (filled : w₁ ≡ cases-filled g w r) where
   stands-filled : Stands w₁ g
-  stands-filled = rw filled (stands-on (filled-front g w r) st)
+  stands-filled = rw filled (stands-kept (cases-kinds g w r) st)
 
-  pub branch-taken : {x : Case} → x ≡ case-row w₁ 0 → {w₂ : List ℕ} → Appends w₁ r x 0 w₂ → Branches g w r w₂ Done
+  pub branch-taken : {x : Case} → x ≡ case-row w₁ 0 → {w₂ : List ℕ} → Appends w₁ w₂ r x 0 → Branches g w r w₂ Done
   branch-taken e y = branches (rw (e, filled) at y)
 
   pub select-taken : (shape : ℕ) (v : Value) → (Stands w₁ g → value-is v ≡ getD (end-values g r) 0 no-value) → {x : ℕ} → x ≡ value-word v
-      → {w₂ : List ℕ} {a : Made} → (Stands w₁ g → SelectsInto g w₁ r shape (scrutinee.Value x) w₂ a) → Selects g w r shape w₂ a
+      → {w₂ : List ℕ} {a : Made} → (Stands w₁ g → StructurizesInto g r shape (scrutinee.Value x) w₁ w₂ a) → Selects g w r shape w₂ a
   select-taken shape v p e y = selects v (p stands-filled) (rw (e, filled) at (y stands-filled))
 
 module _ {g : Graph} {w w₁ w₂ : List ℕ} {r : ℕ} (st : Stands w g) (blocks : Stands w g → AddsBlocks g w r w₁)
     (emptied : w₂ ≡ stored w₁ set-lengths r 0) where
   pub inst-taken : {w₃ : List ℕ} {a : Made} → (Stands w₂ g → ByTerminator g w₂ r w₃ a) → ByControlInst g w r w₃ a
   inst-taken y =
-      let on : Stands w₂ g = rw emptied (stands-on (front-then (blocks-front (blocks st)) (front-stored w₁ set-lengths (omega arith) r 0)) st) in
+      let on : Stands w₂ g = rw emptied (stands-kept (kinds-then (blocks-kinds (blocks st)) (kinds-stored w₁ set-lengths (omega arith) r 0)) st) in
       by-inst (blocks st) emptied (y on)
 
 module _ (g : Graph) (w : List ℕ) (r i : ℕ) {n start p c : ℕ} {w₁ : List ℕ} (st : Stands w g) (of-length : n ≡ word w set-lengths r)
     (of-start : start ≡ word w set-starts r) (at : p ≡ bundle-at start i) (under : c ≡ condition-in w p n)
     (filled : Stands w g → w₁ ≡ split-filled g w r i) where
-  pub resolve-taken : {w₂ : List ℕ} {a : Made} → (Stands w₁ g → SelectsInto g w₁ r 0 (scrutinee.Lazy c) w₂ a) → ResolvesBy g w r i w₂ a
+  pub resolve-taken : {w₂ : List ℕ} {a : Made} → (Stands w₁ g → StructurizesInto g r 0 (scrutinee.Lazy c) w₁ w₂ a) → ResolvesBy g w r i w₂ a
   resolve-taken y =
-      let on : Stands w₁ g = rw (filled st) (stands-on (split-front g w r i) st) in
+      let on : Stands w₁ g = rw (filled st) (stands-kept (split-kinds g w r i) st) in
       resolves (rw (under, at, of-length, of-start, filled st) at (y on))
 
 module _ (w : List ℕ) (r p : ℕ) (found : p ≡ backedge-at w r) where

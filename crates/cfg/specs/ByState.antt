@@ -2,19 +2,17 @@
 use mathlib.Core.Path.{_≡_, refl, sym, ap, _∙_}
 use mathlib.Core.Bool.{Bool, true, false}
 use mathlib.Core.List.{List}
-use Prim.Native.Nat.{ℕ, _+_, _*_}
+use Prim.Native.Nat.{ℕ, _+_, _≤_, min}
 use native.Mathlib.Omega.{arith}
 use lib.Dec.{eqb}
 use borrow.Author.Tests.{eq-eqb, ne-eqb, eqb-true, eqb-false}
 use Rattle.meaning.specs.Graph.{Graph}
 use Rattle.meaning.specs.Lists.{pick}
-use Rattle.record.specs.Stands.{Stands}
 use Rattle.state.specs.Sections.{word, stored, kinds, backedges, bodies, children, set-starts, set-lengths}
 use Rattle.state.specs.Tables.{find-by}
-use Rattle.shown.specs.Front.{stands-on, front-stored, front-then}
-use Rattle.selects.specs.declared.Made.{Made}
-use Rattle.selects.specs.declared.Made.the-variants.{Done, Full}
-use Rattle.loops.specs.Words.{Loops}
+use Rattle.state.specs.declared.defined.Made.{Made}
+use Rattle.state.specs.declared.defined.Made.the-variants.{Done, Full}
+use Rattle.loops.specs.Loops.{Structurizes}
 use Rattle.cfg.specs.declared.claim.Claim.{Claim}
 use Rattle.cfg.specs.declared.claim.Claim.the-variants.{Claimed, Unclaimed, Refused}
 
@@ -34,7 +32,7 @@ pub data ClaimsBody (g : Graph) (w : List ℕ) (r : ℕ) (w′ : List ℕ) : Cla
   none-found : (word (as-claimed w r) backedges r ≡ 0 → ⊥) → backedge-at (as-claimed w r) r ≡ 65535 → w′ ≡ as-claimed w r
       → ClaimsBody g w r w′ Claimed
   by-loop : {made : Made} {a : Claim} → (word (as-claimed w r) backedges r ≡ 0 → ⊥) → (backedge-at (as-claimed w r) r ≡ 65535 → ⊥)
-      → Loops g (as-claimed w r) r (backedge-at (as-claimed w r) r) w′ made → a ≡ claim-of made → ClaimsBody g w r w′ a
+      → Structurizes r (backedge-at (as-claimed w r) r) (as-claimed w r) w′ made → a ≡ claim-of made → ClaimsBody g w r w′ a
 
 pub data ClaimsByState (g : Graph) (w : List ℕ) (r n incoming : ℕ) (w′ : List ℕ) : Claim → Type 0 where
   ready-claimed : {a : Claim} → word w kinds r ≡ 2 → incoming ≡ n + word w backedges r → ClaimsBody g w r w′ a
@@ -92,19 +90,15 @@ module _ (g : Graph) (w : List ℕ) {w₁ w₂ : List ℕ} (r : ℕ) (claims : w
     pub body-without : p ≡ 65535 → ClaimsBody g w r w₂ Claimed
     body-without e = none-found (λ z. some (backedges-read ∙ z)) (sym found-at ∙ e) now-claimed
 
-    pub body-loop : (p ≡ 65535 → ⊥) → {w₃ : List ℕ} {made : Made} → Stands w g → (Stands w₂ g → Loops g w₂ r p w₃ made) → {a : Claim}
+    pub body-loop : (p ≡ 65535 → ⊥) → {w₃ : List ℕ} {made : Made} → Structurizes r p w₂ w₃ made → {a : Claim}
         → a ≡ claim-of made → ClaimsBody g w r w₃ a
-    body-loop d {w₃} {made} st f e =
-        let on : Stands (as-claimed w r) g =
-        stands-on (front-then (front-stored w kinds (omega arith) r 3) (front-stored (stored w kinds r 3) bodies (omega arith) r r)) st in
-        by-loop (λ z. some (backedges-read ∙ z)) (λ z. d (found-at ∙ z))
-        (rw (now-claimed, found-at) at (f (rw now-claimed on))) e
+    body-loop d f e = by-loop (λ z. some (backedges-read ∙ z)) (λ z. d (found-at ∙ z)) (rw (now-claimed, found-at) at f) e
 
 module _ (g : Graph) (w : List ℕ) (r n incoming : ℕ) {state : ℕ} (of-state : state ≡ word w kinds r) where
-  module _ (ready : state ≡ 2) {b : ℕ} (read : b ≡ word w backedges r) {x m : ℕ} (counted : x ≡ b) (sum : m ≡ n + x) {same : Bool}
+  module _ (ready : state ≡ 2) {b : ℕ} (read : b ≡ word w backedges r) {x m : ℕ} (counted : x ≡ b) (small : x ≤ 65535) (few : n ≤ 65535) (sum : m ≡ min (n + x) 4294967295) {same : Bool}
       (test : same ≡ eqb incoming m) where
     all-edges : m ≡ n + word w backedges r
-    all-edges = sum ∙ ap (λ z. n + z) (counted ∙ read)
+    all-edges = (let z = counted in let y = read in omega arith)
 
     pub state-claimed : same ≡ true → {w′ : List ℕ} {a : Claim} → ClaimsBody g w r w′ a → ClaimsByState g w r n incoming w′ a
     state-claimed e y = ready-claimed (sym of-state ∙ ready) (eqb-true incoming m (sym test ∙ e) ∙ all-edges) y

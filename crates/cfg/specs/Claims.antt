@@ -10,7 +10,7 @@ use Rattle.record.specs.Stands.{Stands}
 use Rattle.fields.specs.ByNumber.{edge-of}
 use Rattle.state.specs.Sections.{word, stored, kinds, bundles, set-lengths, used}
 use Rattle.state.specs.Tables.{attempted, taken-stored, bundle-at}
-use Rattle.selects.specs.declared.Made.the-variants as made
+use Rattle.state.specs.declared.defined.Made.the-variants as made
 use Rattle.cfg.specs.declared.claim.Claim.{Claim}
 use Rattle.cfg.specs.declared.claim.Claim.the-variants.{Claimed, Unclaimed, Refused}
 use Rattle.cfg.specs.declared.claims.Step.{Step}

@@ -45,8 +45,8 @@ use Rattle.shown.specs.Sets.{ShowsTarget, shows-region, shows-return, no-bundle
 use Rattle.shown.specs.States.{ShowsState, ShowsBody, ShowsRegion, is-not-begun, is-in-progress, is-ready, is-claimed, ShowsClaimed, ShowsOwnSet, no-case}
 use Rattle.shown.specs.Kept.{body-stays, claimed-stays, own-set-stays}
 use Rattle.shown.specs.RegionSteps.{state-stays, concerns-states, state-next, states-by, later-by, kept-by, word-there}
-use Rattle.selects.specs.declared.Made.{Made}
-use Rattle.selects.specs.declared.Made.the-variants as made
+use Rattle.state.specs.declared.defined.Made.{Made}
+use Rattle.state.specs.declared.defined.Made.the-variants as made
 use Rattle.cfg.specs.declared.claim.Claim as code
 use Rattle.cfg.specs.declared.claim.Claim.the-variants.{Claimed, Unclaimed, Refused}
 use Rattle.cfg.specs.declared.claims.Step.{Step}

@@ -18,13 +18,12 @@ use Rattle.state.specs.Sections.{Section, section, word, stored, kinds, bodies,
 use Rattle.state.specs.Sections.{stored-all, cells}
 use Rattle.state.specs.Apart.{section-stored, section-other}
 use Rattle.state.specs.Tables.{attempted, taken-stored, Adds, added, no-room, cell-words, Defines, defined, full}
-use Rattle.shown.specs.Front.{SameFront, front-same, front-then, front-stored, stands-on, adds-front, defines-front}
+use Rattle.shown.specs.Front.{SameFront, front-same, front-then, front-stored, stands-on, SameKinds, kinds-same, kinds-stored, kinds-then}
+use Rattle.shown.specs.Front.{adds-kinds, defines-kinds}
 use Rattle.shown.specs.Stores.{run-other}
-use Rattle.loops.specs.Words.{Loops, loops-front, loops-kinds}
-use Rattle.selects.specs.Words.{SelectsInto, selects-front, selects-kinds}
-use Rattle.bundles.specs.Words.{cases-filled, split-filled, return-deferred, filled-front, filled-kinds, split-front, split-kinds}
-use Rattle.bundles.specs.Words.{deferred-front, deferred-kinds, appends-front, appends-kinds}
-use Rattle.selects.specs.declared.Made.{Made}
+use Rattle.bundles.specs.Words.{cases-filled}
+use Rattle.cfg.specs.Leaves.{cases-kinds, split-kinds, return-kinds, appends-kinds, into-kinds, loops-kinds}
+use Rattle.state.specs.declared.defined.Made.{Made}
 use Rattle.cfg.specs.declared.claim.Claim.{Claim}
 use Rattle.cfg.specs.declared.claims.Step.{Step}
 use Rattle.cfg.specs.declared.claims.SplitOut.{SplitOut}
@@ -32,7 +31,7 @@ use Rattle.cfg.specs.ByState.{ClaimsBody, no-backedges, none-found, by-l
 use Rattle.cfg.specs.ByState.{busy-waits, other-state, as-claimed, unclaimed-word}
 use Rattle.cfg.specs.ByInst.{AddsBlocks, no-blocks, some-blocks, AddsExit, exit-full, exit-added, Branches, branches, Selects, selects}
 use Rattle.cfg.specs.ByInst.{ByTerminator, at-unreachable, at-return, at-exit, at-branch, at-bool, at-number, ByControlInst, by-inst}
-use Rattle.cfg.specs.ByInst.{ResolvesBy, resolves, made-ready, backedges-deferred, blocks-front}
+use Rattle.cfg.specs.ByInst.{ResolvesBy, resolves, made-ready, backedges-deferred, blocks-kinds}
 use Rattle.cfg.specs.Claims.{NotBegun, TriesClaim, no-region, refused-inside, first-claim, later-claim, Structurizes}
 use Rattle.cfg.specs.Claims.{refused-at-targets, refused-at-inst, refused-at-edges, structurized, TargetRegions, no-target}
 use Rattle.cfg.specs.Claims.{target-refused, target-claimed, target-waits, Scans, no-bundle-left, passes-return, passes-waiting}
@@ -87,12 +86,9 @@ steady-same w = record { front = front-same w; fewer = omega arith }
 pub steady-then : {w w₁ w₂ : List ℕ} → Steady w w₁ → Steady w₁ w₂ → Steady w w₂
 steady-then a b = let x = a .fewer in let y = b .fewer in record { front = front-then (a .front) (b .front); fewer = omega arith }
 
-pub same-kinds : {w w′ : List ℕ} → SameFront w w′ → section w′ kinds ≡ section w kinds → Steady w w′
+pub steady-of : {w w′ : List ℕ} → SameKinds w w′ → Steady w w′
 unfolding left
-same-kinds f e = record { front = f; fewer = rw e (omega arith) }
-
-pub steady-stored : (w : List ℕ) (k : Section) → (number k ≡ 0 → ⊥) → (number k ≡ 2 → ⊥) → (i x : ℕ) → Steady w (stored w k i x)
-steady-stored w k d e i x = same-kinds (front-stored w k d i x) (section-other w k i x kinds (λ z. e (sym z)))
+steady-of s = record { front = s .front; fewer = rw (s .kinds-words) (omega arith) }
 
 pub steady-kind : (w : List ℕ) (r x : ℕ) → (x ≡ 0 → ⊥) → Steady w (stored w kinds r x)
 unfolding left
@@ -111,126 +107,116 @@ begins-less w r n b =
 pub steady-attempted : (w : List ℕ) → Steady w (attempted w)
 unfolding attempted
 steady-attempted w = elim (decLt (word w head 5) 65535) [
-  | yes h ↦ rw (lt-ltb (word w head 5) 65535 h) (steady-stored w head (omega arith) (omega arith) 5 (word w head 5 + 1))
+  | yes h ↦ rw (lt-ltb (word w head 5) 65535 h) (steady-of (kinds-stored w head (omega arith) 5 (word w head 5 + 1)))
   | no h ↦ rw (le-ltb (word w head 5) 65535 (omega arith)) (steady-same w)
 ]
 
 pub steady-taken : (w : List ℕ) (r j x : ℕ) → Steady w (taken-stored w r j x)
 unfolding taken-stored
 steady-taken w r j x = elim (decLt j 8) [
-  | yes h ↦ rw (lt-ltb j 8 h) (steady-stored w levels (omega arith) (omega arith) (10 * r + j) x)
+  | yes h ↦ rw (lt-ltb j 8 h) (steady-of (kinds-stored w levels (omega arith) (10 * r + j) x))
   | no h ↦ rw (le-ltb j 8 (omega arith)) (steady-same w)
 ]
-
-steady-adds : {w w′ : List ℕ} {x : Cell} {h : ℕ} → Adds w w′ x h → Steady w w′
-steady-adds {w} {x} {h} (added e l s) =
-    same-kinds (adds-front (added e l s))
-    (rw s (section-other (stored-all w cells (6 * h) (cell-words x)) head 4 (h + 1) kinds (omega arith)
-    ∙ run-other w cells (6 * h) (cell-words x) kinds (omega arith)))
-steady-adds {w} (no-room l s e) = rw s (steady-same w)
-
-steady-defines : {i limit : ℕ} {w w′ : List ℕ} {a : Defined} → Defines i limit w w′ a → Steady w w′
-steady-defines {i} {w} (defined {n} e l s) = rw s (steady-stored w head (omega arith) (omega arith) i (n + 1))
-steady-defines {w} (full l s) = rw s (steady-same w)
 
 -- ---- The steps.
 steady-claimed : (w : List ℕ) (r : ℕ) → Steady w (as-claimed w r)
 steady-claimed w r = steady-then (steady-kind w r 3 (λ e. absurd (omega arith)))
-    (steady-stored (stored w kinds r 3) bodies (omega arith) (omega arith) r r)
+    (steady-of (kinds-stored (stored w kinds r 3) bodies (omega arith) r r))
 
-steady-body : {g : Graph} {w w′ : List ℕ} {r : ℕ} {a : Claim} → ClaimsBody g w r w′ a → Steady w w′
-steady-body {w} {r} (no-backedges z e) = rw e (steady-claimed w r)
-steady-body {w} {r} (none-found z y e) = rw e (steady-claimed w r)
-steady-body {w} {r} (by-loop z y x e) = steady-then (steady-claimed w r) (same-kinds (loops-front x) (loops-kinds x))
+steady-body : {g : Graph} {w w′ : List ℕ} {r : ℕ} {a : Claim} → Stands w g → ClaimsBody g w r w′ a → Steady w w′
+steady-body {w} {r} st (no-backedges z e) = rw e (steady-claimed w r)
+steady-body {w} {r} st (none-found z y e) = rw e (steady-claimed w r)
+steady-body {w} {r} st (by-loop z y x e) =
+    steady-then (steady-claimed w r) (steady-of (loops-kinds (stands-on (steady-claimed w r .front) st) x))
 
-steady-state : {g : Graph} {w w′ : List ℕ} {r n m : ℕ} {a : Claim} → ClaimsByState g w r n m w′ a → Steady w w′
-steady-state (ready-claimed e s b) = steady-body b
-steady-state {w} (ready-waits e d s) = rw s (steady-same w)
-steady-state {w} (busy-claimed e d s) = rw s (steady-same w)
-steady-state {w} (busy-waits e d s) = rw s (steady-same w)
-steady-state {w} (other-state e d s) = rw s (steady-same w)
+steady-state : {g : Graph} {w w′ : List ℕ} {r n m : ℕ} {a : Claim} → Stands w g → ClaimsByState g w r n m w′ a → Steady w w′
+steady-state st (ready-claimed e s b) = steady-body st b
+steady-state {w} st (ready-waits e d s) = rw s (steady-same w)
+steady-state {w} st (busy-claimed e d s) = rw s (steady-same w)
+steady-state {w} st (busy-waits e d s) = rw s (steady-same w)
+steady-state {w} st (other-state e d s) = rw s (steady-same w)
 
-steady-blocks : {g : Graph} {w w′ : List ℕ} {r : ℕ} → AddsBlocks g w r w′ → Steady w w′
-steady-blocks {w} {r} (no-blocks z e) = rw e (steady-stored w children (omega arith) (omega arith) r 0)
-steady-blocks {r} (some-blocks {w₁} {h} d x e) =
-    rw e (steady-then (steady-adds x) (steady-stored w₁ children (omega arith) (omega arith) r h))
+exit-kinds : {w w′ : List ℕ} {r : ℕ} {a : Made} → AddsExit w r w′ a → SameKinds w w′
+exit-kinds (exit-full d) = defines-kinds d
+exit-kinds {r} (exit-added {w₂} {h} d x e) =
+    rw e (kinds-then (defines-kinds d) (kinds-then (adds-kinds x) (kinds-stored w₂ children (omega arith) r h)))
 
-steady-exit : {w w′ : List ℕ} {r : ℕ} {a : Made} → AddsExit w r w′ a → Steady w w′
-steady-exit (exit-full d) = steady-defines d
-steady-exit {r} (exit-added {w₂} {h} d x e) =
-    rw e (steady-then (steady-defines d) (steady-then (steady-adds x) (steady-stored w₂ children (omega arith) (omega arith) r h)))
+selects-kinds : {g : Graph} {w w′ : List ℕ} {r shape : ℕ} {a : Made} → Selects g w r shape w′ a → SameKinds w w′
+selects-kinds {g} {w} {r} (selects v e s) = kinds-then (cases-kinds g w r) (into-kinds s)
 
-steady-filled : (g : Graph) (w : List ℕ) (r : ℕ) → Steady w (cases-filled g w r)
-steady-filled g w r = same-kinds (filled-front g w r) (filled-kinds g w r)
+terminator-kinds : {g : Graph} {w w′ : List ℕ} {r : ℕ} {a : Made} → ByTerminator g w r w′ a → SameKinds w w′
+terminator-kinds {w} (at-unreachable e s) = rw s (kinds-same w)
+terminator-kinds {g} {w} {r} (at-return e s) = rw s (return-kinds g w r)
+terminator-kinds (at-exit e x) = exit-kinds x
+terminator-kinds {g} {w} {r} (at-branch e (branches x)) = kinds-then (cases-kinds g w r) (appends-kinds x)
+terminator-kinds (at-bool e x) = selects-kinds x
+terminator-kinds (at-number e x) = selects-kinds x
 
-steady-selects : {g : Graph} {w w′ : List ℕ} {r shape : ℕ} {a : Made} → Selects g w r shape w′ a → Steady w w′
-steady-selects {g} {w} {r} (selects v e s) = steady-then (steady-filled g w r) (same-kinds (selects-front s) (selects-kinds s))
+pub inst-kinds : {g : Graph} {w w′ : List ℕ} {r : ℕ} {a : Made} → ByControlInst g w r w′ a → SameKinds w w′
+inst-kinds {r} (by-inst {w₁} b e t) =
+    kinds-then (blocks-kinds b) (kinds-then (rw e (kinds-stored w₁ set-lengths (omega arith) r 0)) (terminator-kinds t))
 
-steady-terminator : {g : Graph} {w w′ : List ℕ} {r : ℕ} {a : Made} → ByTerminator g w r w′ a → Steady w w′
-steady-terminator {w} (at-unreachable e s) = rw s (steady-same w)
-steady-terminator {g} {w} {r} (at-return e s) = rw s (same-kinds (deferred-front g w r) (deferred-kinds g w r))
-steady-terminator (at-exit e x) = steady-exit x
-steady-terminator {g} {w} {r} (at-branch e (branches x)) = steady-then (steady-filled g w r) (same-kinds (appends-front x) (appends-kinds x))
-steady-terminator (at-bool e x) = steady-selects x
-steady-terminator (at-number e x) = steady-selects x
-
-pub steady-inst : {g : Graph} {w w′ : List ℕ} {r : ℕ} {a : Made} → ByControlInst g w r w′ a → Steady w w′
-steady-inst {r} (by-inst {w₁} b e t) =
-    steady-then (steady-blocks b)
-    (steady-then (rw e (steady-stored w₁ set-lengths (omega arith) (omega arith) r 0)) (steady-terminator t))
-
-pub steady-resolve : {g : Graph} {w w′ : List ℕ} {r i : ℕ} {a : Made} → ResolvesBy g w r i w′ a → Steady w w′
-steady-resolve {g} {w} {r} {i} (resolves s) =
-    steady-then (same-kinds (split-front g w r i) (split-kinds g w r i)) (same-kinds (selects-front s) (selects-kinds s))
+pub resolve-kinds : {g : Graph} {w w′ : List ℕ} {r i : ℕ} {a : Made} → ResolvesBy g w r i w′ a → SameKinds w w′
+resolve-kinds {g} {w} {r} {i} (resolves s) = kinds-then (split-kinds g w r i) (into-kinds s)
 
 pub steady-ready : (w : List ℕ) (r : ℕ) → Steady w (made-ready w r)
 steady-ready w r =
     let n = backedges-deferred w r in
-    steady-then (steady-stored w backedges (omega arith) (omega arith) r n)
+    steady-then (steady-of (kinds-stored w backedges (omega arith) r n))
     (steady-kind (stored w backedges r n) r 2 (λ e. absurd (omega arith)))
 
 -- ---- The cycle.
 module _ {g : Graph} {counts : List ℕ} where
   mutual
-    pub steady-claim : {w w′ : List ℕ} {r n : ℕ} {a : Claim} → TriesClaim g counts w r n w′ a → Steady w w′
-    steady-claim {w} (no-region h e) = rw e (steady-attempted w)
-    steady-claim {w} (refused-inside b s) = steady-then (steady-attempted w) (steady-structurized s)
-    steady-claim {w} (first-claim b s c) = steady-then (steady-attempted w) (steady-then (steady-structurized s) (steady-state c))
-    steady-claim {w} (later-claim h d c) = steady-then (steady-attempted w) (steady-state c)
+    pub steady-claim : {w w′ : List ℕ} {r n : ℕ} {a : Claim} → TriesClaim g counts w r n w′ a → Stands w g → Steady w w′
+    steady-claim {w} (no-region h e) st = rw e (steady-attempted w)
+    steady-claim {w} (refused-inside b s) st =
+        steady-then (steady-attempted w) (steady-structurized s (stands-on (steady-attempted w .front) st))
+    steady-claim {w} (first-claim b s c) st =
+        let x = steady-then (steady-attempted w) (steady-structurized s (stands-on (steady-attempted w .front) st)) in
+        steady-then x (steady-state (stands-on (x .front) st) c)
+    steady-claim {w} (later-claim h d c) st = steady-then (steady-attempted w) (steady-state (stands-on (steady-attempted w .front) st) c)
 
-    pub steady-structurized : {w w′ : List ℕ} {r : ℕ} {a : Step} → Structurizes g counts w r w′ a → Steady w w′
-    steady-structurized {w} {r} (refused-at-targets t) = steady-then (steady-kind w r 1 (λ e. absurd (omega arith))) (steady-targets t)
-    steady-structurized {w} {r} (refused-at-inst t i) =
-        steady-then (steady-kind w r 1 (λ e. absurd (omega arith))) (steady-then (steady-targets t) (steady-inst i))
-    steady-structurized {w} {r} (refused-at-edges t i d) =
-        steady-then (steady-kind w r 1 (λ e. absurd (omega arith)))
-        (steady-then (steady-targets t) (steady-then (steady-inst i) (steady-all d)))
-    steady-structurized {w} {r} (structurized {w₃} t i d e) =
-        steady-then (steady-kind w r 1 (λ e. absurd (omega arith)))
-        (steady-then (steady-targets t) (steady-then (steady-inst i) (steady-then (steady-all d) (rw e (steady-ready w₃ r)))))
+    pub steady-structurized : {w w′ : List ℕ} {r : ℕ} {a : Step} → Structurizes g counts w r w′ a → Stands w g → Steady w w′
+    steady-structurized {w} {r} (refused-at-targets t) st =
+        let x = steady-kind w r 1 (λ e. absurd (omega arith)) in steady-then x (steady-targets t (stands-on (x .front) st))
+    steady-structurized {w} {r} (refused-at-inst t i) st =
+        let x = steady-kind w r 1 (λ e. absurd (omega arith)) in
+        steady-then x (steady-then (steady-targets t (stands-on (x .front) st)) (steady-of (inst-kinds i)))
+    steady-structurized {w} {r} (refused-at-edges t i d) st =
+        let x = steady-kind w r 1 (λ e. absurd (omega arith)) in
+        let y = steady-then x (steady-then (steady-targets t (stands-on (x .front) st)) (steady-of (inst-kinds i))) in
+        steady-then y (steady-all d (stands-on (y .front) st))
+    steady-structurized {w} {r} (structurized {w₃} t i d e) st =
+        let x = steady-kind w r 1 (λ e. absurd (omega arith)) in
+        let y = steady-then x (steady-then (steady-targets t (stands-on (x .front) st)) (steady-of (inst-kinds i))) in
+        steady-then (steady-then y (steady-all d (stands-on (y .front) st))) (rw e (steady-ready w₃ r))
 
-    pub steady-targets : {w w′ : List ℕ} {r j : ℕ} {a : Step} → TargetRegions g counts w r j w′ a → Steady w w′
-    steady-targets {w} (no-target h e) = rw e (steady-same w)
-    steady-targets (target-refused h c) = steady-claim c
-    steady-targets {r} {j} (target-claimed {w₁} h c t) = steady-then (steady-claim c) (steady-then (steady-taken w₁ r j 2) (steady-targets t))
-    steady-targets {r} {j} (target-waits {w₁} h c t) = steady-then (steady-claim c) (steady-then (steady-taken w₁ r j _) (steady-targets t))
+    pub steady-targets : {w w′ : List ℕ} {r j : ℕ} {a : Step} → TargetRegions g counts w r j w′ a → Stands w g → Steady w w′
+    steady-targets {w} (no-target h e) st = rw e (steady-same w)
+    steady-targets (target-refused h c) st = steady-claim c st
+    steady-targets {r} {j} (target-claimed {w₁} h c t) st =
+        let x = steady-then (steady-claim c st) (steady-taken w₁ r j 2) in steady-then x (steady-targets t (stands-on (x .front) st))
+    steady-targets {r} {j} (target-waits {w₁} h c t) st =
+        let x = steady-then (steady-claim c st) (steady-taken w₁ r j _) in steady-then x (steady-targets t (stands-on (x .front) st))
 
-    pub steady-scan : {w w′ : List ℕ} {r n i : ℕ} {a : SplitOut} → Scans g counts w r n i w′ a → Steady w w′
-    steady-scan {w} (no-bundle-left h e) = rw e (steady-same w)
-    steady-scan (passes-return h e s) = steady-scan s
-    steady-scan (passes-waiting h d c s) = steady-then (steady-claim c) (steady-scan s)
-    steady-scan (claims-bundle h d c) = steady-claim c
-    steady-scan (scan-refused h d c) = steady-claim c
+    pub steady-scan : {w w′ : List ℕ} {r n i : ℕ} {a : SplitOut} → Scans g counts w r n i w′ a → Stands w g → Steady w w′
+    steady-scan {w} (no-bundle-left h e) st = rw e (steady-same w)
+    steady-scan (passes-return h e s) st = steady-scan s st
+    steady-scan (passes-waiting h d c s) st = let x = steady-claim c st in steady-then x (steady-scan s (stands-on (x .front) st))
+    steady-scan (claims-bundle h d c) st = steady-claim c st
+    steady-scan (scan-refused h d c) st = steady-claim c st
 
-    pub steady-split : {w w′ : List ℕ} {r : ℕ} {a : SplitOut} → SplitsOut g counts w r w′ a → Steady w w′
-    steady-split (splits-out s) = steady-scan s
+    pub steady-split : {w w′ : List ℕ} {r : ℕ} {a : SplitOut} → SplitsOut g counts w r w′ a → Stands w g → Steady w w′
+    steady-split (splits-out s) st = steady-scan s st
 
-    pub steady-resolves : {w w′ : List ℕ} {r n : ℕ} {a : Step} → Resolves g counts w r n w′ a → Steady w w′
-    steady-resolves {w} (no-turn e) = rw e (steady-same w)
-    steady-resolves (nothing-claimed s) = steady-split s
-    steady-resolves (claim-refused s) = steady-split s
-    steady-resolves (select-refused s b) = steady-then (steady-split s) (steady-resolve b)
-    steady-resolves (claims-and s b t) = steady-then (steady-split s) (steady-then (steady-resolve b) (steady-resolves t))
+    pub steady-resolves : {w w′ : List ℕ} {r n : ℕ} {a : Step} → Resolves g counts w r n w′ a → Stands w g → Steady w w′
+    steady-resolves {w} (no-turn e) st = rw e (steady-same w)
+    steady-resolves (nothing-claimed s) st = steady-split s st
+    steady-resolves (claim-refused s) st = steady-split s st
+    steady-resolves (select-refused s b) st = steady-then (steady-split s st) (steady-of (resolve-kinds b))
+    steady-resolves (claims-and s b t) st =
+        let x = steady-then (steady-split s st) (steady-of (resolve-kinds b)) in steady-then x (steady-resolves t (stands-on (x .front) st))
 
-    pub steady-all : {w w′ : List ℕ} {r : ℕ} {a : Step} → ResolvesAll g counts w r w′ a → Steady w w′
-    steady-all (resolves-all t) = steady-resolves t
+    pub steady-all : {w w′ : List ℕ} {r : ℕ} {a : Step} → ResolvesAll g counts w r w′ a → Stands w g → Steady w w′
+    steady-all (resolves-all t) st = steady-resolves t st

@@ -1,3 +1,4 @@
+pub mod Leaves
 pub mod ByState
 pub mod ByInst
 pub mod Claims

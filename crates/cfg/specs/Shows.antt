@@ -29,8 +29,8 @@ use Rattle.shown.specs.Stores.{part-length}
 use Rattle.state.specs.Tables.{taken-word}
 use Rattle.shown.specs.Sets.{no-bundle}
 use Rattle.shown.specs.States.{ShowsState, ShowsBody, ShowsClaimed, no-case}
-use Rattle.selects.specs.declared.Made.{Made}
-use Rattle.selects.specs.declared.Made.the-variants as made
+use Rattle.state.specs.declared.defined.Made.{Made}
+use Rattle.state.specs.declared.defined.Made.the-variants as made
 use Rattle.cfg.specs.declared.claims.Step.{Step}
 use Rattle.cfg.specs.declared.claims.Step.the-variants as step
 use Rattle.cfg.specs.declared.claims.SplitOut as split

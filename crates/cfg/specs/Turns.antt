@@ -13,8 +13,8 @@ use Rattle.state.specs.Tables.{attempted, taken-stored, bundle-at}
 use Rattle.store.specs.Layout.{Lent}
 use Rattle.shown.specs.Front.{stands-on}
 use Rattle.shown.specs.Stores.{part-length}
-use Rattle.selects.specs.declared.Made.{Made}
-use Rattle.selects.specs.declared.Made.the-variants as made
+use Rattle.state.specs.declared.defined.Made.{Made}
+use Rattle.state.specs.declared.defined.Made.the-variants as made
 use Rattle.cfg.specs.declared.claim.Claim.{Claim}
 use Rattle.cfg.specs.declared.claim.Claim.the-variants.{Claimed, Unclaimed, Refused}
 use Rattle.cfg.specs.declared.claims.Step.{Step}
@@ -28,8 +28,8 @@ use Rattle.cfg.specs.Claims.{later-claim, Structurizes, refused-at-targe
 use Rattle.cfg.specs.Claims.{TargetRegions, no-target, target-refused, target-claimed, target-waits, Scans, no-bundle-left}
 use Rattle.cfg.specs.Claims.{passes-return, passes-waiting, claims-bundle, scan-refused, SplitsOut, splits-out, Resolves, no-turn}
 use Rattle.cfg.specs.Claims.{nothing-claimed, claim-refused, select-refused, claims-and, ResolvesAll, resolves-all}
-use Rattle.cfg.specs.Left.{left, Steady, steady-same, steady-then, steady-taken, steady-claim, steady-split, steady-resolve}
-use Rattle.cfg.specs.Left.{begins-less, steady-attempted, steady-targets, steady-inst, steady-kind, steady-structurized}
+use Rattle.cfg.specs.Left.{left, Steady, steady-same, steady-then, steady-taken, steady-claim, steady-split, steady-of}
+use Rattle.cfg.specs.Left.{begins-less, steady-attempted, steady-targets, inst-kinds, resolve-kinds, steady-kind, steady-structurized}
 
 -- What stood stands on.
 pub stood-on : {w w′ : List ℕ} → Steady w w′ → Stood w → Stood w′
@@ -64,7 +64,7 @@ module _ {counts w₀ : List ℕ} {r : ℕ} {w : List ℕ} {j n : ℕ} (passed :
       passed-on : (y : ℕ) → w₂ ≡ taken-stored w₁ r j y → Steady w₀ w₂
       passed-on y e =
           steady-then (passed .steady)
-          (steady-then (steady-claim (claim (stood .graph) (on (stood .stands)))) (rw e (steady-taken w₁ r j y)))
+          (steady-then (steady-claim (claim (stood .graph) (on (stood .stands))) (on (stood .stands))) (rw e (steady-taken w₁ r j y)))
 
       pub targets-claimed : a ≡ Claimed → w₂ ≡ taken-stored w₁ r j 2 → TargetsPassed counts w₀ r w₂ (j + 1)
       targets-claimed e s =
@@ -133,7 +133,7 @@ module _ {counts w₀ : List ℕ} {r n : ℕ} {w : List ℕ} {i : ℕ} {found : 
       pub scan-waiting : Stood w₀ → a ≡ Unclaimed → ScanPassed counts w₀ r n w₁ (i + 1) found
       scan-waiting stood e =
           record {
-            steady = steady-then (passed .steady) (steady-claim (claim (stood .graph) (split-on (stood .stands))));
+            steady = steady-then (passed .steady) (steady-claim (claim (stood .graph) (split-on (stood .stands))) (split-on (stood .stands)));
             more = λ g st x. passed .more g st (passes-waiting more elsewhere (rw e at (bundle-claim g st)) (rw (add-one i) at x));
             nothing = passed .nothing;
           }
@@ -170,7 +170,7 @@ module _ {counts w₀ : List ℕ} {r : ℕ} {w : List ℕ} {turns : ℕ} (passed
 
     module _ {i : ℕ} (at : a ≡ split.At i) {w₂ : List ℕ} {b : Made} (select : (g : Graph) → Stands w₁ g → ResolvesBy g w₁ r i w₂ b) where
       then-on : {g : Graph} → Stands w₀ g → Stands w₁ g
-      then-on {g} st = stands-on (steady-split (scan g (turn-on st)) .front) (turn-on st)
+      then-on {g} st = stands-on (steady-split (scan g (turn-on st)) (turn-on st) .front) (turn-on st)
 
       pub turn-full : b ≡ made.Full → (g : Graph) → Stands w₀ g → ResolvesAll g counts w₀ r w₂ (step.Refused 9 0)
       turn-full e g st = turned g st (select-refused (rw at at (scan g (turn-on st))) (rw e at (select g (then-on st))))
@@ -179,8 +179,8 @@ module _ {counts w₀ : List ℕ} {r : ℕ} {w : List ℕ} {turns : ℕ} (passed
       turn-again e stood =
           let g = stood .graph in
           record {
-            steady = steady-then (passed .steady) (steady-then (steady-split (scan g (turn-on (stood .stands))))
-                (steady-resolve (select g (then-on (stood .stands)))));
+            steady = steady-then (passed .steady) (steady-then (steady-split (scan g (turn-on (stood .stands))) (turn-on (stood .stands)))
+                (steady-of (resolve-kinds (select g (then-on (stood .stands))))));
             more = λ g st x. turned g st (claims-and (rw at at (scan g (turn-on st))) (rw e at (select g (then-on st))) x);
           }
 
@@ -204,18 +204,19 @@ module _ {counts w w₁ : List ℕ} {r : ℕ} (begun : w₁ ≡ stored w kinds r
 
   module _ (taken : a ≡ step.Done) {w₃ : List ℕ} {b : Made} (inst : (g : Graph) → Stands w₂ g → ByControlInst g w₂ r w₃ b) where
     second-on : {g : Graph} → Stands w g → Stands w₂ g
-    second-on {g} st = stands-on (steady-targets (targets g (first-on st)) .front) (first-on st)
+    second-on {g} st = stands-on (steady-targets (targets g (first-on st)) (first-on st) .front) (first-on st)
 
     pub region-full : b ≡ made.Full → (g : Graph) → Stands w g → Structurizes g counts w r w₃ (step.Refused 9 0)
     region-full e g st = refused-at-inst (rw taken at (its-targets st)) (rw e at (inst g (second-on st)))
 
     pub after-inst : Stood w → Steady w₁ w₃
     after-inst s =
-        steady-then (steady-targets (targets (s .graph) (first-on (s .stands)))) (steady-inst (inst (s .graph) (second-on (s .stands))))
+        steady-then (steady-targets (targets (s .graph) (first-on (s .stands))) (first-on (s .stands)))
+        (steady-of (inst-kinds (inst (s .graph) (second-on (s .stands)))))
 
     module _ (made-so : b ≡ made.Done) {w₄ : List ℕ} {d : Step} (rest : (g : Graph) → Stands w₃ g → ResolvesAll g counts w₃ r w₄ d) where
       third-on : {g : Graph} → Stands w g → Stands w₃ g
-      third-on {g} st = stands-on (steady-inst (inst g (second-on st)) .front) (second-on st)
+      third-on {g} st = stands-on (inst-kinds (inst g (second-on st)) .front) (second-on st)
 
       pub region-refused-late : {m x : ℕ} → d ≡ step.Refused m x → (g : Graph) → Stands w g
           → Structurizes g counts w r w₄ (step.Refused m x)
@@ -255,4 +256,4 @@ module _ {counts w w₁ : List ℕ} {r : ℕ} (n : ℕ) (counted : w₁ ≡ atte
         claim-first e i same c g st =
             let s = inside g (stands-on (attempted-on counted .front) st) in
             first-claim (rw counted at (not-begun-yet below of-state new)) (rw (e, counted) at s)
-            (rw (i, same) at (c g (rw same (stands-on (steady-structurized s .front) (stands-on (attempted-on counted .front) st)))))
+            (rw (i, same) at (c g (rw same (stands-on (steady-structurized s (stands-on (attempted-on counted .front) st) .front) (stands-on (attempted-on counted .front) st)))))

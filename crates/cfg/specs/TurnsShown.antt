@@ -22,7 +22,7 @@ use Rattle.follows.specs.counting.CountRegion.{claim-counted, turn-counted}
 use Rattle.state.specs.Sections.{word, kinds}
 use Rattle.shown.specs.Kept.{body-stays}
 use Rattle.shown.specs.States.{ShowsState, ShowsBody}
-use Rattle.selects.specs.declared.Made.the-variants as made
+use Rattle.state.specs.declared.defined.Made.the-variants as made
 use Rattle.cfg.specs.declared.claims.Step.{Step}
 use Rattle.cfg.specs.declared.claims.Step.the-variants as step
 use Rattle.cfg.specs.declared.claims.SplitOut.the-variants as split-variants

@@ -13,7 +13,7 @@ use crate::inst::resolve_by;
 use incoming::IncomingEdgeCount;
 use incoming::ONE;
 use incoming::count_of;
-use selects::Made;
+use state::defined::Made;
 use state::defined::count_attempt;
 use state::regions::IN_PROGRESS;
 use state::regions::NOT_BEGUN;

@@ -43,9 +43,9 @@ use Rattle.shown.specs.SetStores.{only-word-same}
 use Rattle.shown.specs.RegionSteps.{Concerns, concerns-then, word-concerns, bundle-same, bundle-run, bundle-concerns, aside-by, named-by}
 use Rattle.shown.specs.RegionSteps.{named-stay, slots-stay, Within, within-then, within-aside, within-concerns, within-states, state-next}
 use Rattle.shown.specs.RegionSteps.{body-set}
-use Rattle.loops.specs.declared.made.Made.{Made}
-use Rattle.loops.specs.declared.made.Made.the-variants.{Done, Full as Refused}
-use Rattle.loops.specs.Conditions.{condition-in}
+use Rattle.state.specs.declared.defined.Made.{Made}
+use Rattle.state.specs.declared.defined.Made.the-variants.{Done, Full as Refused}
+use Rattle.bundles.specs.Words.{condition-in}
 use Rattle.loops.specs.Inputs.{backedge-inputs}
 use Rattle.loops.specs.Exits.{exits-added}
 use Rattle.loops.specs.Loops.{EntersInputs, LoopDefined, Structurizes, looped, no-wrapper, no-loop}

@@ -1,4 +1,3 @@
-pub mod Conditions
 pub mod Inputs
 pub mod Exits
 pub mod Loops

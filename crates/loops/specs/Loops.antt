@@ -11,9 +11,9 @@ use Rattle.state.specs.Sections.{word, stored, set-lengths, children, bodies}
 use Rattle.state.specs.Tables.{Adds, Defines, inserted, swap-removed}
 use Rattle.shown.specs.CellSteps.{loop-cell}
 use Rattle.lookups.specs.Materialized.{Materializes}
-use Rattle.loops.specs.declared.made.Made.{Made}
-use Rattle.loops.specs.declared.made.Made.the-variants.{Done, Full as Refused}
-use Rattle.loops.specs.Conditions.{condition-in}
+use Rattle.state.specs.declared.defined.Made.{Made}
+use Rattle.state.specs.declared.defined.Made.the-variants.{Done, Full as Refused}
+use Rattle.bundles.specs.Words.{condition-in}
 use Rattle.loops.specs.Inputs.{RewritesValues, TakesInputs, backedge-inputs}
 use Rattle.loops.specs.Exits.{exits-added}
 

@@ -30,8 +30,8 @@ use Rattle.shown.specs.RegionSteps.{Within, within-then, within-aside, within-c
 use Rattle.shown.specs.CellSteps.{ShowsKeptList, kept-list-by, cell-aside, cell-tables, cell-total, cell-handle, loop-added}
 use Rattle.lookups.specs.Materialized.{Materializes}
 use Rattle.lookups.specs.ConditionsShown.{materialize-shown}
-use Rattle.loops.specs.declared.made.Made.{Made}
-use Rattle.loops.specs.declared.made.Made.the-variants.{Done, Full as Refused}
+use Rattle.state.specs.declared.defined.Made.{Made}
+use Rattle.state.specs.declared.defined.Made.the-variants.{Done, Full as Refused}
 use Rattle.loops.specs.Loops.{AddsLoop, adds-loop, LoopDefined, loop-defined, no-value, no-node, EntersInputs, enters}
 use Rattle.loops.specs.RewritesShown.{Rewritten, rewritten-to}
 use Rattle.loops.specs.InputsShown.{InputsTaken, taken-to, named-entry}

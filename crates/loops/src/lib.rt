@@ -2,4 +2,3 @@
 pub mod exits;
 pub mod inputs;
 pub mod loops;
-pub mod made;

@@ -29,7 +29,7 @@ use Rattle.shown.specs.Kept.{bundle-stays}
 use Rattle.shown.specs.States.{ShowsCase, shows-ok, shows-nothing, shows-edge, shows-others, ShowsCases, no-case}
 use Rattle.lookups.specs.Shown.{input-in, input-below, input-above}
 use Rattle.merging.specs.Turns.{turned}
-use Rattle.merging.specs.Bundles.{condition-in}
+use Rattle.bundles.specs.Words.{condition-in}
 use Rattle.merging.specs.Planning.{place-of, per-case-deferred, per-case-condition, in-parent, passed-by, with-passed, unique-from}
 use Rattle.merging.specs.Planning.{unique-input, is-true, all-from, all-true}
 use Rattle.merging.specs.Spare.{SpareOnly, spare-there, spare-later, spare-outside, case-stays}

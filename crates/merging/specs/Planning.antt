@@ -17,7 +17,8 @@ use Rattle.state.specs.Values.{is-input, input-region, input-index}
 use Rattle.state.specs.Tables.{input-word, input-stored, find-by, bundle-at, case-total}
 use Rattle.shown.specs.Front.{SameKinds, kinds-stored, kinds-then}
 use Rattle.merging.specs.Turns.{turned, turn-next, turn-last, front-turned, Left, left-next, left-last}
-use Rattle.merging.specs.Bundles.{input-count, condition-in, front-input-stored}
+use Rattle.bundles.specs.Words.{input-count, condition-in}
+use Rattle.merging.specs.Bundles.{front-input-stored}
 
 -- The bundle of case j to target t.
 abbrev pub place-of : List ℕ → ℕ → ℕ → ℕ

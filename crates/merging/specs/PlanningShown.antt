@@ -23,7 +23,7 @@ use Rattle.shown.specs.Sets.{Names, ShowsTarget, target-size, SameBundle}
 use Rattle.shown.specs.States.{ShowsReturned, ShowsState, ShowsCases, no-case}
 use Rattle.shown.specs.Kept.{Later, KeptRegion, same-bundle, same-bundle-then}
 use Rattle.merging.specs.Turns.{turned}
-use Rattle.merging.specs.Bundles.{input-count}
+use Rattle.bundles.specs.Words.{input-count}
 use Rattle.merging.specs.Planning.{Planned, planned, also, per-case-deferred, unique-input, all-true, plan-input, plan-inputs}
 use Rattle.merging.specs.Planning.{plan-bundle}
 use Rattle.merging.specs.Planning.{plan-at, plan-bundles}

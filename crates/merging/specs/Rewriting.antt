@@ -15,7 +15,8 @@ use Rattle.state.specs.Tables.{input-word, input-stored, bundle-at, case-total}
 use Rattle.lookups.specs.LookUps.{look-up, Rewrites}
 use Rattle.shown.specs.Front.{SameKinds, kinds-same, kinds-stored, kinds-then, stands-kept}
 use Rattle.merging.specs.Turns.{turned, turn-last, front-turned}
-use Rattle.merging.specs.Bundles.{input-count, front-input-stored}
+use Rattle.bundles.specs.Words.{input-count}
+use Rattle.merging.specs.Bundles.{front-input-stored}
 
 -- The words with the note of a look-up taken.
 unfoldable pub noted : List ℕ → ℕ → List ℕ

@@ -26,7 +26,7 @@ use Rattle.shown.specs.States.{ShowsRegion, is-not-begun, is-in-progress, is-re
 use Rattle.shown.specs.Front.{stands-on}
 use Rattle.shown.specs.Kept.{Later, KeptRegion, bundle-stays, set-stays, same-bundle, same-bundle-then}
 use Rattle.merging.specs.Turns.{turned, turned-same}
-use Rattle.merging.specs.Bundles.{input-count}
+use Rattle.bundles.specs.Words.{input-count}
 use Rattle.merging.specs.Rewriting.{rewrite-input, rewrite-case-input, rewrite-bundle, rewrite-set, rewrite-inputs, rewrite-given}
 use Rattle.merging.specs.Rewriting.{rewrite-case, rewrite-cases}
 use Rattle.merging.specs.Spare.{case-stays}

@@ -2,8 +2,8 @@
 ghost use mathlib.Core.Path.{_≡_};
 ghost use Rattle.record.specs.Stands.{OfRecord};
 ghost use Rattle.merging.specs.Planning as words;
-use crate::bundles::condition_in;
-use crate::bundles::input_count;
+use bundles::bundles::condition_in;
+use bundles::bundles::input_count;
 use state::cases::CLAIMED_REGION;
 use state::cases::case_body;
 use state::cases::case_count;

@@ -4,7 +4,7 @@ ghost use lib.ListN.{length};
 ghost use Rattle.meaning.specs.Graph.{region};
 ghost use Rattle.record.specs.Stands.{OfRecord};
 ghost use Rattle.merging.specs.Rewriting as words;
-use crate::bundles::input_count;
+use bundles::bundles::input_count;
 use lookups::look_up::rewrite;
 use state::cases::CLAIMED_REGION;
 use state::cases::case_count;

@@ -11,8 +11,8 @@ use Rattle.state.specs.declared.defined.Defined.the-variants.{Number, Full as R
 use Rattle.state.specs.Sections.{word, stored, cases}
 use Rattle.state.specs.Tables.{case-total, Defines, inserted}
 use Rattle.bundles.specs.Words.{case-inputs}
-use Rattle.selects.specs.declared.made.Made.{Made}
-use Rattle.selects.specs.declared.made.Made.the-variants.{Done, Full}
+use Rattle.state.specs.declared.defined.Made.{Made}
+use Rattle.state.specs.declared.defined.Made.the-variants.{Done, Full}
 use Rattle.meaning.specs.Lists.{pick}
 
 -- n cases from place j on, with what was found before them.

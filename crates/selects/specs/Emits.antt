@@ -21,8 +21,8 @@ use Rattle.shown.specs.Front.{SameKinds, stands-kept, kinds-same, kinds-stored,
 use Rattle.bundles.specs.Words.{input-count, target-type}
 use Rattle.merging.specs.Bundles.{front-input-stored}
 use Rattle.merging.specs.Planning.{per-case-deferred, per-case-condition}
-use Rattle.selects.specs.declared.made.Made.{Made}
-use Rattle.selects.specs.declared.made.Made.the-variants.{Done, Full}
+use Rattle.state.specs.declared.defined.Made.{Made}
+use Rattle.state.specs.declared.defined.Made.the-variants.{Done, Full}
 use Rattle.selects.specs.Turns.{Steps, Turns, LeavesRecord, front-turns}
 
 -- ---- Eight words, of which the first have what each case has.
@@ -130,7 +130,7 @@ front-condition {l} (condition-there d e) = rw e (kinds-same l)
 front-condition {q} (condition-made {l₁} {c} e ps x p) = rw p (kinds-then (front-merge x) (kinds-stored l₁ bundles (omega arith) (7 * q + 2) c))
 front-condition (no-condition e ps x) = front-merge x
 
-front-bundle : {g : Graph} {h q : ℕ} {l l′ : List ℕ} {a : Made} → EmitBundle g h q l l′ a → SameKinds l l′
+pub front-bundle : {g : Graph} {h q : ℕ} {l l′ : List ℕ} {a : Made} → EmitBundle g h q l l′ a → SameKinds l l′
 front-bundle (inputs-refused t) = front-inputs t
 front-bundle (bundle-emitted t c) = kinds-then (front-inputs t) (front-condition c)
 

@@ -26,8 +26,8 @@ use Rattle.shown.specs.Sets.{Names, ShowsTarget, shows-region, shows-return, ta
 use Rattle.shown.specs.States.{ShowsReturned}
 use Rattle.shown.specs.RegionSteps.{word-there, word-apart}
 use Rattle.bundles.specs.Targets.{target-type-shown}
-use Rattle.selects.specs.declared.made.Made.{Made}
-use Rattle.selects.specs.declared.made.Made.the-variants.{Done, Full}
+use Rattle.state.specs.declared.defined.Made.{Made}
+use Rattle.state.specs.declared.defined.Made.the-variants.{Done, Full}
 use Rattle.selects.specs.Turns.{Turns, turns-over, turn-on, turn-refused}
 use Rattle.selects.specs.Places.{From, first-of, rest-of}
 use Rattle.selects.specs.Emits.{EmitInput, input-there, input-made, no-input}
@@ -164,8 +164,12 @@ module _ {g : Graph} {r base : ℕ} {cs : List MaybeClaimedRegion} (few : length
         let ty = target-type-shown w few (here .returned) target k below in
         let values = rw ty at vs in
         let made = rw ty at out in
-        rw (v, u, full-of (output-made tables (values .size) (values-shown (here .shown) at k (nesting.target-type g x k) below
-        (small .below x k) values) made) refl) shows-refused
+        rw (
+          v,
+          u,
+          full-of (output-made tables (values .size) (values-shown (here .shown) at k (nesting.target-type g x k) below
+              (small .below x k) values) made) refl,
+        ) shows-refused
 
   pub inputs-shown : (is : List PlannedInput) (k : ℕ) {w w′ : List ℕ} {s : NestState} {a : Made} {m : ℕ} → m ≡ length is
       → k + length is ≡ target-size g x → Spared g r base cs w → ShowsPlaces w x cs places → ShowsTables w s
@@ -193,5 +197,8 @@ module _ {g : Graph} {r base : ℕ} {cs : List MaybeClaimedRegion} (few : length
       (spared-stays here (done₁ .emitting) from (omega arith)) (places-stay step at) (done₁ .tables)
       (λ j h. rw (done₁ .others (3 + (suc k + j)) (omega arith) (omega arith)) (rest j h)) more))
   inputs-shown (i ∷ is) k {w} {s} e b here at tables f (turn-refused z y) =
-      rw (emit-more n i is s, refused-of (input-shown here at tables k (omega arith)
-      (first-of no-planned (Planned g cs x q w) k i is f) y)) shows-refused
+      rw (
+        emit-more n i is s,
+        refused-of (input-shown here at tables k (omega arith)
+            (first-of no-planned (Planned g cs x q w) k i is f) y),
+      ) shows-refused

@@ -18,7 +18,7 @@ use Rattle.merging.specs.Turns.{front-turned}
 use Rattle.merging.specs.Rewriting.{rewrite-case, rewrite-cases, front-case}
 use Rattle.merging.specs.Targets.{plus, row-added, edges-added, summarize-bundle, summarize-set, summarize-case, deferred-targets}
 use Rattle.merging.specs.Planning.{planned, plan-at, plan-bundles, front-plan}
-use Rattle.selects.specs.declared.made.Made.{Made}
+use Rattle.state.specs.declared.defined.Made.{Made}
 use Rattle.selects.specs.declared.define.Scrutinee.{Scrutinee}
 use Rattle.selects.specs.Turns.{front-turns}
 use Rattle.selects.specs.Cases.{CaseRegion, has-region, new-region, no-region}
@@ -67,7 +67,7 @@ front-plans g l =
     front-turned (λ x. x .words) (plan-at start g) (front-plan start g) (word l set-lengths 32) (planned l false) 0
 
 -- ---- The select.
-front-define : {i limit : ℕ} {l l′ : List ℕ} {a : Defined} → Defines i limit l l′ a → SameKinds l l′
+pub front-define : {i limit : ℕ} {l l′ : List ℕ} {a : Defined} → Defines i limit l l′ a → SameKinds l l′
 front-define {i} {l} (defined {n} p h e) = rw e (kinds-stored l head (omega arith) i (n + 1))
 front-define {l} (full h e) = rw e (kinds-same l)
 
@@ -82,7 +82,7 @@ front-merges (new-output e x p) = front-output x
 front-merges (no-output e x) = front-output x
 
 mutual
-  front-made : {l l′ : List ℕ} {c : ℕ} {a : Defined} → Materializes l c l′ a → SameKinds l l′
+  pub front-made : {l l′ : List ℕ} {c : ℕ} {a : Defined} → Materializes l c l′ a → SameKinds l l′
   front-made (made-true {l} e p) = rw p (kinds-same l)
   front-made (made-false {l} e p) = rw p (kinds-same l)
   front-made (made-undef {l} d f h x p) = rw p (kinds-same l)
@@ -97,7 +97,7 @@ front-scrutinee : {l l′ : List ℕ} {x : Scrutinee} {a : Defined} → Scrutine
 front-scrutinee {l} (given-value e) = rw e (kinds-same l)
 front-scrutinee (made-value m) = front-made m
 
-front-cell : {l l′ : List ℕ} {x : Cell} {h : ℕ} → Adds l l′ x h → SameKinds l l′
+pub front-cell : {l l′ : List ℕ} {x : Cell} {h : ℕ} → Adds l l′ x h → SameKinds l l′
 front-cell {l} {x} {h} (added p b e) =
     rw e (kinds-then (kinds-run l cells (omega arith) (6 * h) (cell-words x))
     (kinds-stored (stored-all l cells (6 * h) (cell-words x)) head (omega arith) 4 (h + 1)))

@@ -16,8 +16,8 @@ use Rattle.bundles.specs.Words.{unclaimed-case, Appends}
 use Rattle.merging.specs.Rewriting.{rewrite-cases}
 use Rattle.merging.specs.Targets.{deferred-targets}
 use Rattle.merging.specs.Planning.{planned, plan-bundles}
-use Rattle.selects.specs.declared.made.Made.{Made}
-use Rattle.selects.specs.declared.made.Made.the-variants.{Done, Full}
+use Rattle.state.specs.declared.defined.Made.{Made}
+use Rattle.state.specs.declared.defined.Made.the-variants.{Done, Full}
 use Rattle.selects.specs.declared.define.Scrutinee.{Scrutinee}
 use Rattle.selects.specs.Cases.{convergent-case, any-non-empty-case, all-replaced}
 use Rattle.selects.specs.Selects.{SelectDefined}

@@ -22,8 +22,8 @@ use Rattle.shown.specs.Tables.{ShowsCondition, shows-undef, shows-false, ShowsP
 use Rattle.shown.specs.Sets.{ShowsTarget, ShowsSet, target-size, no-bundle}
 use Rattle.shown.specs.SetSteps.{Finds, found, none-found, finds, same-target-is, condition-shown}
 use Rattle.shown.specs.States.{ShowsCases, no-case}
+use Rattle.bundles.specs.Words as words
 use Rattle.merging.specs.PerCaseShown.{place-is}
-use Rattle.merging.specs.Bundles as merging
 use Rattle.merging.specs.Planning.{per-case-deferred, per-case-condition}
 use Rattle.selects.specs.Emits.{InCases, value-in-case, value-none, value-some}
 use Rattle.selects.specs.StepsShown.{SelectStep}
@@ -80,7 +80,7 @@ module _ {g : Graph} {w : List ℕ} {start n : ℕ} {d : DeferredEdgeBundleSet} 
 
   condition-of-case : (j : ℕ) → word w cases (10 * j + 5) ≡ n → Finds start x d p
       → ShowsCondition w (per-case-condition w j p) (nesting.per-case-deferred x d .condition)
-  unfolding per-case-condition merging.condition-in
+  unfolding per-case-condition words.condition-in
   condition-of-case j e (none-found q gets) = go d (set .size) gets
     where
       go : (d : DeferredEdgeBundleSet) → n ≡ length d → get-edge-bundle-by-target x d ≡ none

@@ -21,8 +21,8 @@ use Rattle.shown.specs.Cells.{case-count}
 use Rattle.shown.specs.States.{ShowsCase, shows-ok, shows-nothing, shows-edge, shows-others, no-case}
 use Rattle.shown.specs.Steps.{region-defined}
 use Rattle.shown.specs.RegionSteps.{word-there, word-apart}
-use Rattle.selects.specs.declared.made.Made.{Made}
-use Rattle.selects.specs.declared.made.Made.the-variants.{Done, Full}
+use Rattle.state.specs.declared.defined.Made.{Made}
+use Rattle.state.specs.declared.defined.Made.the-variants.{Done, Full}
 use Rattle.selects.specs.Turns.{Turns, turns-over, turn-on, turn-refused}
 use Rattle.selects.specs.Cases.{CaseRegion, has-region, new-region, no-region}
 use Rattle.selects.specs.CasesShown.{children-in}

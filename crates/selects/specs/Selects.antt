@@ -10,7 +10,7 @@ use Rattle.state.specs.Tables as tables
 use Rattle.state.specs.Tables.{Adds, Defines}
 use Rattle.shown.specs.CellSteps.{case-cell, select-cell}
 use Rattle.lookups.specs.Materialized.{Materializes}
-use Rattle.selects.specs.declared.made.Made.the-variants.{Done as MadeDone, Full as MadeFull}
+use Rattle.state.specs.declared.defined.Made.the-variants.{Done as MadeDone, Full as MadeFull}
 use Rattle.selects.specs.declared.define.Scrutinee.{Scrutinee}
 use Rattle.selects.specs.declared.define.Scrutinee.the-variants.{Value, Lazy}
 use Rattle.selects.specs.Turns.{Turns}

@@ -28,8 +28,8 @@ use Rattle.shown.specs.CellSteps.{ShowsCaseList, no-case-list, case-added, sele
 use Rattle.shown.specs.CellSteps.{cell-handle, cell-tables}
 use Rattle.shown.specs.RegionSteps.{later-by, word-concerns, children-set, tables-by}
 use Rattle.lookups.specs.ConditionsShown.{ShowsValue, materialize-shown}
-use Rattle.selects.specs.declared.made.Made.{Made}
-use Rattle.selects.specs.declared.made.Made.the-variants.{Done}
+use Rattle.state.specs.declared.defined.Made.{Made}
+use Rattle.state.specs.declared.defined.Made.the-variants.{Done}
 use Rattle.selects.specs.declared.define.Scrutinee.{Scrutinee}
 use Rattle.selects.specs.declared.define.Scrutinee.the-variants.{Value, Lazy}
 use Rattle.selects.specs.Turns.{Turns}

@@ -23,8 +23,8 @@ use Rattle.shown.specs.Sets.{ShowsBundle, ShowsSet, SameBundle, no-bundle}
 use Rattle.shown.specs.Kept.{Later, bundle-stays}
 use Rattle.shown.specs.SetSteps.{bundle-in}
 use Rattle.shown.specs.RegionSteps.{word-there, word-apart}
-use Rattle.selects.specs.declared.made.Made.{Made}
-use Rattle.selects.specs.declared.made.Made.the-variants.{Done, Full}
+use Rattle.state.specs.declared.defined.Made.{Made}
+use Rattle.state.specs.declared.defined.Made.the-variants.{Done, Full}
 use Rattle.selects.specs.Turns.{Turns, turns-over, turn-on, turn-refused}
 use Rattle.selects.specs.Places.{From, first-of, rest-of, from-start}
 use Rattle.selects.specs.Emits.{EmitCondition, condition-there, condition-made, no-condition, EmitBundle, inputs-refused, bundle-emitted}
@@ -293,8 +293,11 @@ module _ {g : Graph} {r base : ℕ} {cs : List MaybeClaimedRegion} (few : length
   rows-shown (p ∷ ps) i {w} {s} e b here tables cell f (turn-refused z y) =
       let at : bundle-at base i ≡ base + i = bundle-in base i (omega arith) (omega arith) in
       let own = first-of no-plan (λ j p. PlannedOf g cs w (base + j) p) i p ps f in
-      rw (emit-more n p ps s, refused-of (bundle-shown few small n h (base + i) (omega arith) (omega arith) (omega arith) here tables cell own
-      (rw at at y)))
+      rw (
+        emit-more n p ps s,
+        refused-of (bundle-shown few small n h (base + i) (omega arith) (omega arith) (omega arith) here tables cell own
+            (rw at at y)),
+      )
       shows-refused
 
 -- ---- The set of the spare slot.

@@ -34,8 +34,8 @@ use Rattle.merging.specs.RewritingShown.{NoneReady, cases-after, state-after, r
 use Rattle.merging.specs.Spare.{spare-there, spare-outside}
 use Rattle.merging.specs.TargetsShown.{edges-of-cases, deferred-targets-shown}
 use Rattle.merging.specs.PlanningShown.{plan-bundles-shown}
-use Rattle.selects.specs.declared.made.Made.{Made}
-use Rattle.selects.specs.declared.made.Made.the-variants.{Done, Full}
+use Rattle.state.specs.declared.defined.Made.{Made}
+use Rattle.state.specs.declared.defined.Made.the-variants.{Done, Full}
 use Rattle.selects.specs.declared.define.Scrutinee.{Scrutinee}
 use Rattle.selects.specs.Into.{SelectIf, not-needed, select-refused, select-made, with-targets, with-plan, needs-select, Structurizes}
 use Rattle.selects.specs.Into.{not-structurized, structurized}

@@ -7,8 +7,8 @@ use native.Mathlib.Numerals.{add-one}
 use Rattle.meaning.specs.Graph.{Graph}
 use Rattle.record.specs.Stands.{Stands, OfRecord}
 use Rattle.shown.specs.Front.{SameKinds, stands-kept, kinds-same, kinds-then}
-use Rattle.selects.specs.declared.made.Made.{Made}
-use Rattle.selects.specs.declared.made.Made.the-variants.{Done, Full}
+use Rattle.state.specs.declared.defined.Made.{Made}
+use Rattle.state.specs.declared.defined.Made.the-variants.{Done, Full}
 
 -- What the step at a place makes of the words.
 abbrev pub Steps : Type 1

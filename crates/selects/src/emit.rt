@@ -2,7 +2,6 @@
 ghost use mathlib.Core.Path.{_≡_};
 ghost use Rattle.record.specs.Stands.{OfRecord};
 ghost use Rattle.selects.specs.Emits as words;
-use crate::made::Made;
 use bundles::bundles::input_count;
 use bundles::bundles::target_type;
 use merging::planning::TO_DEFINE;
@@ -15,6 +14,7 @@ use state::cells::cell_b;
 use state::cells::cell_c;
 use state::conditions::define_merge;
 use state::defined::Defined;
+use state::defined::Made;
 use state::outputs::define_output;
 use state::sets::NO_BUNDLE;
 use state::sets::SPARE;

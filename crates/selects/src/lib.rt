@@ -3,4 +3,3 @@ pub mod cases;
 pub mod define;
 pub mod emit;
 pub mod into;
-pub mod made;

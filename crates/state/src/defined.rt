@@ -35,6 +35,12 @@ pub enum Defined {
     Full,
 }
 
+// What a step answers that makes no number: done, or refusal 9.
+pub enum Made {
+    Done,
+    Full,
+}
+
 pub fn head(w: &[u16; WORDS], i: usize) -> u16
     requires { ⌜ i ≤ 65535 ⌝ }
     ensures { λ a. ⌜ a ≡ sections.word (now (w .entry)) sections.head i ⌝ }

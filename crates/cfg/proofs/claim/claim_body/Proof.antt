@@ -5,7 +5,7 @@ use Rattle.cfg.proofs.claim.claim_body.Reads as reads
 use Rattle.cfg.proofs.claim.claim_body.Lts as lts
 use Rattle.cfg.proofs.claim.claim_of.Reads as claim-of-reads
 use Rattle.cfg.proofs.claim.find_backedge.Reads as find-backedge-reads
-use Rattle.loops.proofs.structurize_loop.Reads as structurize-loop-reads
+use Rattle.loops.proofs.loops.structurize_loop.Reads as structurize-loop-reads
 use Rattle.state.proofs.regions.backedge_count.Reads as backedge-count-reads
 use Rattle.state.proofs.regions.set_region_state.Reads as set-region-state-reads
 use Rattle.state.proofs.regions.set_structured_body.Reads as set-structured-body-reads
@@ -45,7 +45,7 @@ claim-of-requires c κs = search needs
 
 -- src/claim.rt:55:1
 returns-3 : tie.Need-returns-3
-returns-3 c = λ g st. body-loop g _ _ (c .before .before .before .before .before .before .before .before .before .before .before .set-region-state .ensures) (c .before .before .before .before .before .before .before .before .before .set-structured-body .ensures) (c .before .before .before .before .before .before .before .backedge-count .ensures) (c .before .before .before .before .before .before .if1 .left) (c .before .before .before .before .find-backedge .ensures) (c .before .before .before .if2 .left) st (c .before .structurize-loop .ensures g) (c .claim-of .ensures)
+returns-3 c = λ g st. body-loop g _ _ (c .before .before .before .before .before .before .before .before .before .before .before .set-region-state .ensures) (c .before .before .before .before .before .before .before .before .before .set-structured-body .ensures) (c .before .before .before .before .before .before .before .backedge-count .ensures) (c .before .before .before .before .before .before .if1 .left) (c .before .before .before .before .find-backedge .ensures) (c .before .before .before .if2 .left) (c .before .structurize-loop .ensures) (c .claim-of .ensures)
 
 pub claim-body-spec : {M : Type 1} → statement M
 claim-body-spec =

@@ -3,7 +3,7 @@ use Rattle.cfg.proofs.inst.by_terminator.Statement.{statement}
 use Rattle.cfg.proofs.inst.by_terminator.Tie as tie
 use Rattle.cfg.proofs.inst.by_terminator.Reads as reads
 use Rattle.cfg.proofs.inst.by_terminator.Lts as lts
-use Rattle.bundles.proofs.defer_return.Reads as defer-return-reads
+use Rattle.bundles.proofs.bundles.defer_return.Reads as defer-return-reads
 use Rattle.cfg.proofs.inst.add_exit.Reads as add-exit-reads
 use Rattle.cfg.proofs.inst.branch.Reads as branch-reads
 use Rattle.cfg.proofs.inst.select.Reads as select-reads
