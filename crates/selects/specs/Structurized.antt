@@ -51,6 +51,7 @@ use Rattle.selects.specs.EmitsShown.{SmallTypes}
 use Rattle.selects.specs.SetsEmitted.{ShowsSelectCell, planned-stays, ShowsPlan, SetDone, emit-shown}
 use Rattle.selects.specs.PlansShown.{plan-shown, shared-set}
 use Rattle.selects.specs.Replaced.{replaced-shown}
+use Rattle.selects.specs.RowsKept.{row-kept}
 
 join-none : (ns : Nodes) → join ns ⟨⟩ ≡ ns
 join-none ⟨⟩ = refl
@@ -193,6 +194,9 @@ pub record Prepared (g : Graph) (r : ℕ) (cs : List MaybeClaimedRegion) (s : Ne
       → ((j : ℕ) → j < length cs → word w cases (10 * j + 0) ≡ 2 → q ≡ word w cases (10 * j + 1) → ⊥) → KeptRegion w w′ q
   pub outside : (p : ℕ) → ((j i : ℕ) → j < length cs → i < word w cases (10 * j + 5) → p ≡ word w cases (10 * j + 4) + i → ⊥)
       → ((i : ℕ) → i < 33 → p ≡ word w set-starts 32 + i → ⊥) → SameBundle w w′ p
+  -- The row of a case that is not claimed and defers nothing.
+  pub rows : (j : ℕ) → (word w cases (10 * j + 0) ≡ 2 → ⊥) → word w cases (10 * j + 5) ≡ 0 → (q : ℕ) → q < 10
+      → word w′ cases (10 * j + q) ≡ word w cases (10 * j + q)
 
 module _ {g : Graph} (valid : Valid g) {r : ℕ} (below : r < length (g .regions)) {w : List ℕ} {s : NestState} (state : ShowsState g w s)
     {cs : List MaybeClaimedRegion} (shown : ShowsCases g w r cs) (unready : NoneReady w r cs)
@@ -226,6 +230,8 @@ module _ {g : Graph} (valid : Valid g) {r : ℕ} (below : r < length (g .regions
         outside = λ p d e. same-bundle-then (a .outside p d)
             (same-bundle-then (spare-outside (b .spare) p (λ i h z. e i h (z ∙ ap (λ n. n + i) first)))
             (spare-outside (c .spare) p (λ i h z. e i h (z ∙ ap (λ n. n + i) (second ∙ first)))));
+        rows = λ j d e q h. spare-there (c .spare) cases (omega arith) (omega arith) (10 * j + q)
+            ∙ spare-there (b .spare) cases (omega arith) (omega arith) (10 * j + q) ∙ row-kept valid w j d e q h;
       }
 
 -- ---- The step whole.
@@ -241,6 +247,9 @@ pub record Structured (g : Graph) (r : ℕ) (cs : List MaybeClaimedRegion) (w w�
       → ((j : ℕ) → j < length cs → word w cases (10 * j + 0) ≡ 2 → q ≡ word w cases (10 * j + 1) → ⊥) → KeptRegion w w′ q
   pub outside : (p : ℕ) → ((j i : ℕ) → j < length cs → i < word w cases (10 * j + 5) → p ≡ word w cases (10 * j + 4) + i → ⊥)
       → ((i : ℕ) → i < 33 → p ≡ word w set-starts 32 + i → ⊥) → SameBundle w w′ p
+  -- The row of a case that is not claimed and defers nothing, but for its region.
+  pub rows : (j : ℕ) → (word w cases (10 * j + 0) ≡ 2 → ⊥) → word w cases (10 * j + 5) ≡ 0 → (q : ℕ) → q < 10 → (q ≡ 2 → ⊥)
+      → word w′ cases (10 * j + q) ≡ word w cases (10 * j + q)
   pub total : word w′ head 4 ≤ word w head 4 + (length cs + 1)
 
 states-kept : {A : Type 0} {s : NestState} (x : StepAnswer A) → Post (λ n u. n ≡ 9) (λ a s′. Still s s′) x → {a : A} {s′ : NestState}
@@ -323,6 +332,7 @@ module _ {g : Graph} (valid : Valid g) (small : SmallTypes g) {r : ℕ} (below :
         kept = λ q h d f. kept-then (p .kept q h d f) (step .others q h d);
         outside = λ q d f. same-bundle-then (p .outside q d f)
             (step .bundles-kept q (λ i h u. f i h (sym u ∙ ap (λ n. n + i) (same-starts 32))));
+        rows = λ j d f q h i. step .case-words j q h i ∙ p .rows j d f q h;
         total = omega arith;
       }))
 
