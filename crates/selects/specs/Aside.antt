@@ -12,9 +12,9 @@ use Rattle.meaning.specs.Graph.{Graph}
 use Rattle.nesting.specs.Nesting.{MaybeClaimedRegion, ok, err, ClaimedRegion, DeferredTarget, DeferredEdgeBundleSet, NestState, deferred-of}
 use Rattle.nesting.specs.Nesting.{without-convergent}
 use Rattle.state.specs.Sections.{word, used, kinds, set-starts, cases}
-use Rattle.state.specs.Tables.{case-total, case-words}
+use Rattle.state.specs.Tables.{case-total, case-words, case-row}
 use Rattle.shown.specs.Sets.{ShowsSet, SameBundle}
-use Rattle.shown.specs.States.{Slots, ShowsCase, ShowsCases, no-case}
+use Rattle.shown.specs.States.{Slots, ShowsCase, shows-ok, shows-nothing, shows-edge, shows-others, ShowsCases, no-case}
 use Rattle.shown.specs.Kept.{Later, set-stays}
 use Rattle.bundles.specs.Words.{unclaimed-case}
 use Rattle.bundles.specs.CaseSteps.{CaseShown, OneCase, one-row, other-row, shown-stays, row-word, nothing-row}
@@ -32,7 +32,7 @@ module _ {g : Graph} (few : length (g .regions) ≤ 32) {r : ℕ} (here : r < le
   one : OneCase w (set-aside w j) j
   one = one-row w j (case-words (unclaimed-case 0 0 0)) (omega arith)
 
-  none-left : word (set-aside w j) cases (10 * j + 5) ≡ 0
+  pub none-left : word (set-aside w j) cases (10 * j + 5) ≡ 0
   none-left = row-word w room j at-most (case-words (unclaimed-case 0 0 0)) (omega arith) 5 (omega arith)
 
   case-aside : (k : ℕ) → k < length cs → CaseShown g (set-aside w j) r k (getD (set cs j no-case) k no-case)
@@ -44,11 +44,11 @@ module _ {g : Graph} (few : length (g .regions) ≤ 32) {r : ℕ} (here : r < le
       ]
 
   -- A case with bundles is another one.
-  other-case : (k p : ℕ) → p < word (set-aside w j) cases (10 * k + 5) → k ≡ j → ⊥
+  pub other-case : (k p : ℕ) → p < word (set-aside w j) cases (10 * k + 5) → k ≡ j → ⊥
   other-case k p h e =
       let z : word (set-aside w j) cases (10 * k + 5) ≡ 0 = ap (λ i. word (set-aside w j) cases (10 * i + 5)) e ∙ none-left in omega arith
 
-  field : (k i : ℕ) → (k ≡ j → ⊥) → i < 10 → word (set-aside w j) cases (10 * k + i) ≡ word w cases (10 * k + i)
+  pub field : (k i : ℕ) → (k ≡ j → ⊥) → i < 10 → word (set-aside w j) cases (10 * k + i) ≡ word w cases (10 * k + i)
   field k i d h = other-row one k d i h
 
   pub aside-shown : ShowsCases g (set-aside w j) r (set cs j no-case)
@@ -90,3 +90,30 @@ pub record PartsStay (g : Graph) (w w′ : List ℕ) (j : ℕ) : Type 0 where
   pub same-starts : (q : ℕ) → word w′ set-starts q ≡ word w set-starts q
   pub inputs : (k : ℕ) → k < 4 → word w′ cases (10 * j + (6 + k)) ≡ word w cases (10 * j + (6 + k))
   pub bundles : (p : ℕ) → p < word w cases (10 * j + 5) → SameBundle w w′ (word w cases (10 * j + 4) + p)
+
+pub parts-then : {g : Graph} {w w′ : List ℕ} {r j : ℕ} {m : MaybeClaimedRegion} → Slots w → r < 33 → PartsStay g w w′ j → CaseShown g w r j m
+    → ((c : ClaimedRegion) → m ≡ ok c → (word w kinds (c .origin) ≡ 3) × (c .origin ≡ r → ⊥)) → appended.ShowsParts g w′ r j (case-row w j) m
+parts-then {g} {w} {w′} {r} {j} slots below stay x claimed = go (x .case) (set-stays (stay .later) (stay .bundles) (x .set)) claimed
+  where
+    go : {m : MaybeClaimedRegion} → ShowsCase g w r j m
+        → ShowsSet g w′ (word w cases (10 * j + 4)) (word w cases (10 * j + 5)) (deferred-of m)
+        → ((c : ClaimedRegion) → m ≡ ok c → (word w kinds (c .origin) ≡ 3) × (c .origin ≡ r → ⊥))
+        → appended.ShowsParts g w′ r j (case-row w j) m
+    go (shows-ok {c} a b in-graph d e f start size names) s claimed =
+        let y = claimed c refl in
+        claimed-parts {c = c} a b in-graph (y .1) (stay .same-kinds (c .origin) ∙ y .0) d e (stay .later .nodes-stay f)
+        (rw (start ∙ sym (stay .same-starts (c .origin))) at s) (λ k h. rw (stay .inputs k h) (names k h))
+    go (shows-nothing a b) s claimed =
+        let at = slots .starts r below in
+        let in-slot = slots .below r below in
+        let same = stay .same-starts r in
+        rest-parts (omega arith) (omega arith)
+        record {
+          size = b;
+          few = omega arith;
+          room = omega arith;
+          each = λ i h. absurd (omega arith);
+          apart = λ i k p q. absurd (omega arith);
+        }
+    go (shows-edge a b d) s claimed = edge-parts a d (rw d at s)
+    go (shows-others a b) s claimed = rest-parts (omega arith) (omega arith) (rw (b ∙ sym (stay .same-starts r)) at s)

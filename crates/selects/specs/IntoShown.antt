@@ -4,36 +4,45 @@ use mathlib.Core.Bool.{Bool, true, false}
 use mathlib.Core.List.{List, [], _∷_}
 use Prim.Native.Nat.{ℕ, suc, _+_, _*_, _≤_, _<_}
 use native.Mathlib.Omega.{arith}
-use native.Mathlib.Decide.{ℕ-discrete}
-use lib.ListN.{length, getD}
+use native.Mathlib.Decide.{ℕ-discrete, decLt}
+use lib.ListN.{length, getD, set, length-set}
+use lib.Seq.{getD-set-same, getD-set-other}
 use Rattle.meaning.specs.Graph.{Graph, SelectionKind}
 use Rattle.meaning.specs.Runs.{Nodes}
+use Rattle.meaning.specs.facts.Tests.{clash}
 use Rattle.format.specs.Valid.{Valid}
 use Rattle.nesting.specs.Nesting as nesting
 use Rattle.nesting.specs.Nesting.{MaybeClaimedRegion, ok, err, ClaimedRegion, DeferredTarget, NestState, StepAnswer, done, turned-away, Body}
-use Rattle.nesting.specs.Nesting.{structurize-select-into, structurize-select-by, structurize-select, convergent-cases}
+use Rattle.nesting.specs.Nesting.{structurize-select-into, structurize-select-by, structurize-select, convergent-cases, without-convergent}
 use Rattle.nesting.specs.lookups.ChainEnds.{ChainsEnd}
 use Rattle.state.specs.Sections.{Section, number, section, word, stored, used, head, kinds, set-starts, set-lengths, children, cases}
-use Rattle.state.specs.Tables.{swapped}
+use Rattle.state.specs.Sections.{bundles}
+use Rattle.state.specs.Tables.{swapped, case-words, case-row}
+use Rattle.shown.specs.Stores.{ChangesOnly, run-changes}
 use Rattle.shown.specs.Tables.{ShowsShape}
 use Rattle.shown.specs.Sets.{ShowsSet}
 use Rattle.shown.specs.Cells.{ShowsChildren}
 use Rattle.shown.specs.States.{ShowsState, ShowsBody, ShowsCases, ShowsCase, shows-ok, shows-nothing, shows-edge, shows-others, no-case}
-use Rattle.shown.specs.Kept.{Later, later-then, KeptRegion, kept-then, set-stays}
-use Rattle.shown.specs.RegionSteps.{word-concerns, concerns-states, state-stays, length-set-to}
-use Rattle.shown.specs.SetStores.{only-later, only-state, only-word-same, word-other}
+use Rattle.shown.specs.Kept.{Later, later-then, KeptRegion, kept-then, set-stays, same-bundle-then}
+use Rattle.shown.specs.RegionSteps.{word-concerns, concerns-states, state-stays, length-set-to, later-by, kept-by, states-by, tables-by}
+use Rattle.shown.specs.RegionSteps.{bundles-same}
+use Rattle.shown.specs.SetStores.{only-later, only-state, only-word-same, word-other, run-beside}
 use Rattle.shown.specs.SetSteps.{swapped-only, swapped-first, swapped-lengths, swapped-bundle, swapped-kept, swapped-slots}
+use Rattle.bundles.specs.Words.{unclaimed-case, Appends}
+use Rattle.bundles.specs.CaseSteps.{row-word}
+use Rattle.bundles.specs.Appended.{append-shown}
 use Rattle.merging.specs.RewritingShown.{NoneReady, cases-after}
 use Rattle.merging.specs.TargetsShown.{edges-of-cases}
 use Rattle.selects.specs.declared.made.Made.{Made}
 use Rattle.selects.specs.declared.made.Made.the-variants.{Done, Full}
 use Rattle.selects.specs.declared.define.Scrutinee.{Scrutinee}
 use Rattle.selects.specs.Cases.{convergent-case}
-use Rattle.selects.specs.Into.{spare-taken, StructurizesInto, one-follows, one-refused, all-together, all-refused, Structurizes}
+use Rattle.selects.specs.Into.{set-aside, spare-taken, StructurizesInto, one-follows, one-refused, all-together, all-refused, Structurizes}
 use Rattle.selects.specs.CasesShown.{Converges, none-converges, one-converges, more-converge, convergent-shown}
 use Rattle.selects.specs.RegionsShown.{ShowsMade, shows-made, shows-refused, made-of, refused-of}
-use Rattle.selects.specs.SelectsShown.{ShowsScrutinee}
+use Rattle.selects.specs.SelectsShown.{ShowsScrutinee, scrutinee-stays}
 use Rattle.selects.specs.EmitsShown.{SmallTypes}
+use Rattle.selects.specs.Aside.{aside-shown, none-left, other-case, field, none-deferred, PartsStay, parts-then}
 use Rattle.selects.specs.Structurized.{Structured, structurized-shown}
 
 -- ---- The spare slot's set becomes region r's.
@@ -145,3 +154,158 @@ module _ {g : Graph} (valid : Valid g) (small : SmallTypes g) {r : ℕ} (below :
         kept = λ q h d f. kept-then (c .kept q h d (not-origin shown f)) (t .kept q h d);
         total = omega arith;
       })
+
+  -- Case j, the sole convergent one, is set aside and follows.
+  module _ (j : ℕ) (inside : j < length cs) (alone : convergent-cases cs ≡ getD cs j no-case ∷ [])
+      (without : without-convergent cs ≡ set cs j no-case) where
+    abbrev aside : List ℕ
+    aside = set-aside w j
+
+    abbrev rest : List MaybeClaimedRegion
+    rest = set cs j no-case
+
+    few : length (g .regions) ≤ 32
+    few = let many = valid .count in omega arith
+
+    room : used ≤ length w
+    room = state .tables .size
+
+    same-size : length rest ≡ length cs
+    same-size = length-set cs j no-case
+
+    changes : ChangesOnly cases 7 w aside
+    changes = run-changes cases 7 w (omega arith) (10 * j) (case-words (unclaimed-case 0 0 0))
+
+    later₀ : Later g w aside
+    later₀ = later-by changes (omega arith) g
+
+    state₀ : ShowsState g aside s
+    state₀ = state-stays later₀ (states-by changes (omega arith) (omega arith) (omega arith) g)
+        (tables-by changes (omega arith) (λ q a b e. omega arith)) state
+
+    shown₀ : ShowsCases g aside r rest
+    shown₀ = aside-shown few below room (state .slots) shown j inside
+
+    same-kinds₀ : (q : ℕ) → word aside kinds q ≡ word w kinds q
+    same-kinds₀ q = ap (λ l. getD l q 0) (changes .others kinds (omega arith) (omega arith))
+
+    -- A claimed case that is left was one before.
+    was-claimed : (k : ℕ) (c : ClaimedRegion) → getD rest k no-case ≡ ok c → (k ≡ j → ⊥) × (getD cs k no-case ≡ ok c)
+    was-claimed k c e =
+        elim (ℕ-discrete k j) [
+          | yes z ↦ absurd (clash (let at : getD rest k no-case ≡ no-case =
+              ap (λ i. getD rest i no-case) z ∙ getD-set-same cs j no-case no-case inside in cc))
+          | no z ↦ (z, sym (getD-set-other cs j k no-case no-case z) ∙ e)
+        ]
+
+    claimed₀ : ClaimedCases aside r rest
+    claimed₀ =
+        record {
+          parent = λ e. claimed .parent (sym (same-kinds₀ r) ∙ e);
+          claimed = λ k h c e.
+              let x = claimed .claimed k (rw same-size at h) c (was-claimed k c e .1) in
+              (same-kinds₀ (c .origin) ∙ x .0, x .1);
+        }
+
+    bound₀ : (x : DeferredTarget) → edges-of-cases x (cases-after s rest) ≤ 65535
+    bound₀ x = rw (← without) (let z = none-deferred s x cs in omega arith)
+
+    own₀ : ShowsChildren g aside (word aside children r) parent
+    own₀ = rw (changes .others children (omega arith) (omega arith)) (later₀ .nodes-stay own)
+
+    total₀ : word aside head 4 ≡ word w head 4
+    total₀ = changes .totals 4 (omega arith)
+
+    answer : {w₁ : List ℕ} {a : Made} → Structurizes g r shape x aside w₁ a
+        → ShowsMade (Structured g r rest aside w₁) a (structurize-select g parent kind y rest s)
+    answer m =
+        let many = few in
+        let size = same-size in
+        let same = total₀ in
+        structurized-shown valid small below state₀ shown₀ (none-ready (omega arith) shown₀ claimed₀) chains bound₀
+        (scrutinee-stays later₀ scrutinee) (rw (← same-size) at of-shape) own₀ (omega arith) m
+
+    -- What the select leaves of the case that follows.
+    parts-stay : {w₁ : List ℕ} {z : Body} {s₁ : NestState} → Structured g r rest aside w₁ z s₁ → PartsStay g w w₁ j
+    parts-stay c =
+        let xs = case-words (unclaimed-case 0 0 0) in
+        let kind : word aside cases (10 * j + 0) ≡ 0 = row-word w room j (let most = shown .few in omega arith) xs (omega arith) 0 (omega arith) in
+        let same-starts : (q : ℕ) → word aside set-starts q ≡ word w set-starts q =
+        λ q. ap (λ l. getD l q 0) (changes .others set-starts (omega arith) (omega arith)) in
+        record {
+          later = later-then later₀ (c .later);
+          same-kinds = λ q. c .same-kinds q ∙ same-kinds₀ q;
+          same-starts = λ q. c .same-starts q ∙ same-starts q;
+          inputs = λ k h. c .rows j (omega arith) (none-left few below room (state .slots) shown j inside) (6 + k) (omega arith) (omega arith)
+              ∙ run-beside w cases (10 * j) xs (10 * j + (6 + k)) (λ a b. omega arith);
+          bundles = λ p h. same-bundle-then (bundles-same (changes .others bundles (omega arith) (omega arith)) (word w cases (10 * j + 4) + p))
+              (c .outside (word w cases (10 * j + 4) + p)
+              (λ k i a b e.
+              let d = other-case few below room (state .slots) shown j inside k i b in
+              let start = field few below room (state .slots) shown j inside k 4 d (omega arith) in
+              let many = field few below room (state .slots) shown j inside k 5 d (omega arith) in
+              let in-list : k < length cs = rw same-size at a in
+              elim (decLt k j) [
+                | yes f ↦ shown .apart k j i p f inside (omega arith) h (omega arith)
+                | no f ↦ shown .apart j k p i (omega arith) in-list h (omega arith) (omega arith)
+              ])
+              (λ i a e. let at = same-starts 32 in shown .not-spare j p i inside h a (omega arith)));
+        }
+
+    followed : {w₁ w′ : List ℕ} {z : Body} {s₁ : NestState} → Structured g r rest aside w₁ z s₁
+        → Appends w₁ w′ r (case-row w j) j → ShowsMade (IntoDone g r cs w w′) Done
+        (nesting.append-maybe-claimed-region (z .children) (getD cs j no-case) s₁)
+    followed {w₁} c appends =
+        let more = c .total in
+        let same = total₀ in
+        let size = same-size in
+        let parts = parts-then (state .slots) (let many = few in omega arith) (parts-stay c)
+        (record { case = shown .each j inside; set = shown .sets j inside }) (λ x e. claimed .claimed j inside x e) in
+        let o = append-shown few below (c .state) (λ e. claimed .parent (sym (same-kinds₀ r) ∙ sym (c .same-kinds r) ∙ e)) (c .nodes)
+        (omega arith) parts appends in
+        let last = o .cells-to in
+        rw (o .is)
+        (shows-made {a = o .result} (record {
+          state = o .state;
+          body = o .body;
+          later = later-then later₀ (later-then (c .later) (o .later));
+          kept = λ q h d f. kept-then (kept-by changes (omega arith) q)
+              (kept-then (c .kept q h d (not-origin shown₀ (λ k x b e. f k x (rw same-size at b) (was-claimed k x e .1))))
+              (o .kept q (omega arith) d (λ x e. f j x inside e)));
+          total = omega arith;
+        }))
+
+  -- Where none converges, or more than one, no case is set aside.
+  all-at-once : 8 ≤ convergent-case w → structurize-select-into g parent kind y cs s ≡ structurize-select g parent kind y cs s
+  all-at-once h = by (convergent-shown shown)
+    where
+      by : Converges 0 cs (convergent-case w) → structurize-select-into g parent kind y cs s ≡ structurize-select g parent kind y cs s
+      by (none-converges e q) = rw q refl
+      by (one-converges e k q p) = let most = shown .few in absurd (omega arith)
+      by (more-converge e q) = rw q refl
+
+  record Sole (j : ℕ) : Type 0 where
+    inside : j < length cs
+    alone : convergent-cases cs ≡ getD cs j no-case ∷ []
+    without : without-convergent cs ≡ set cs j no-case
+
+  sole : convergent-case w < 8 → Sole (convergent-case w)
+  sole h = by (convergent-shown shown)
+    where
+      by : Converges 0 cs (convergent-case w) → Sole (convergent-case w)
+      by (none-converges e q) = absurd (omega arith)
+      by (one-converges {i} e k q p) =
+          let z : convergent-case w ≡ i = omega arith in rw z (record { inside = k; alone = q; without = p })
+      by (more-converge e q) = absurd (omega arith)
+
+  pub into-shown : {w′ : List ℕ} {a : Made} → StructurizesInto g r shape x w w′ a
+      → ShowsMade (IntoDone g r cs w w′) a (structurize-select-into g parent kind y cs s)
+  into-shown (all-together h m e) = rw (e, all-at-once h) (with-spare (together m))
+  into-shown (all-refused h m) = rw (all-at-once h, refused-of (together m)) shows-refused
+  into-shown (one-follows h m a) =
+      let o = sole h in
+      let c = made-of (answer (convergent-case w) (o .inside) (o .alone) (o .without) m) in
+      rw (o .alone, o .without, c .is) (followed (convergent-case w) (o .inside) (o .alone) (o .without) (c .shows) a)
+  into-shown (one-refused h m) =
+      let o = sole h in
+      rw (o .alone, o .without, refused-of (answer (convergent-case w) (o .inside) (o .alone) (o .without) m)) shows-refused
