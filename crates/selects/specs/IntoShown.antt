@@ -1,8 +1,7 @@
 -- A select and what follows it, for every state that the words show: the definition's structurize-select-into, or its refusal.
-use mathlib.Core.Path.{_≡_, refl, sym, ap, subst, _∙_}
-use mathlib.Core.Bool.{Bool, true, false}
+use mathlib.Core.Path.{_≡_, refl, sym, ap, _∙_}
 use mathlib.Core.List.{List, [], _∷_}
-use Prim.Native.Nat.{ℕ, suc, _+_, _*_, _≤_, _<_}
+use Prim.Native.Nat.{ℕ, _+_, _*_, _≤_, _<_}
 use native.Mathlib.Omega.{arith}
 use native.Mathlib.Decide.{ℕ-discrete, decLt}
 use lib.ListN.{length, getD, set, length-set}
@@ -12,10 +11,10 @@ use Rattle.meaning.specs.Runs.{Nodes}
 use Rattle.meaning.specs.facts.Tests.{clash}
 use Rattle.format.specs.Valid.{Valid}
 use Rattle.nesting.specs.Nesting as nesting
-use Rattle.nesting.specs.Nesting.{MaybeClaimedRegion, ok, err, ClaimedRegion, DeferredTarget, NestState, StepAnswer, done, turned-away, Body}
-use Rattle.nesting.specs.Nesting.{structurize-select-into, structurize-select-by, structurize-select, convergent-cases, without-convergent}
+use Rattle.nesting.specs.Nesting.{MaybeClaimedRegion, ok, ClaimedRegion, DeferredTarget, NestState, StepAnswer, Body}
+use Rattle.nesting.specs.Nesting.{structurize-select-into, structurize-select, convergent-cases, without-convergent}
 use Rattle.nesting.specs.lookups.ChainEnds.{ChainsEnd}
-use Rattle.state.specs.Sections.{Section, number, section, word, stored, used, head, kinds, set-starts, set-lengths, children, cases}
+use Rattle.state.specs.Sections.{word, stored, used, head, kinds, set-starts, set-lengths, children, cases}
 use Rattle.state.specs.Sections.{bundles}
 use Rattle.state.specs.Tables.{swapped, case-words, case-row}
 use Rattle.shown.specs.Stores.{ChangesOnly, run-changes}
@@ -27,14 +26,14 @@ use Rattle.shown.specs.Kept.{Later, later-then, KeptRegion, kept-then, set-stay
 use Rattle.shown.specs.RegionSteps.{word-concerns, concerns-states, state-stays, length-set-to, later-by, kept-by, states-by, tables-by}
 use Rattle.shown.specs.RegionSteps.{bundles-same}
 use Rattle.shown.specs.SetStores.{only-later, only-state, only-word-same, word-other, run-beside}
-use Rattle.shown.specs.SetSteps.{swapped-only, swapped-first, swapped-lengths, swapped-bundle, swapped-kept, swapped-slots}
+use Rattle.shown.specs.SetSteps.{swapped-only, swapped-first, swapped-bundle, swapped-kept, swapped-slots}
 use Rattle.bundles.specs.Words.{unclaimed-case, Appends}
 use Rattle.bundles.specs.CaseSteps.{row-word}
 use Rattle.bundles.specs.Appended.{append-shown}
 use Rattle.merging.specs.RewritingShown.{NoneReady, cases-after}
 use Rattle.merging.specs.TargetsShown.{edges-of-cases}
 use Rattle.selects.specs.declared.made.Made.{Made}
-use Rattle.selects.specs.declared.made.Made.the-variants.{Done, Full}
+use Rattle.selects.specs.declared.made.Made.the-variants.{Done}
 use Rattle.selects.specs.declared.define.Scrutinee.{Scrutinee}
 use Rattle.selects.specs.Cases.{convergent-case}
 use Rattle.selects.specs.Into.{set-aside, spare-taken, StructurizesInto, one-follows, one-refused, all-together, all-refused, Structurizes}

@@ -1,12 +1,12 @@
 -- A select with no convergent case set aside, for every state that the words show: the definition's children, set and state, or its refusal.
-use mathlib.Core.Path.{_≡_, refl, sym, ap, subst, _∙_}
-use mathlib.Core.Bool.{Bool, true, false, _||_}
+use mathlib.Core.Path.{_≡_, refl, sym, ap, _∙_}
+use mathlib.Core.Bool.{Bool, false, _||_}
 use mathlib.Core.List.{List, [], _∷_, map}
-use Prim.Native.Nat.{ℕ, suc, _+_, _*_, _≤_, _<_}
+use Prim.Native.Nat.{ℕ, _+_, _*_, _≤_, _<_}
 use native.Mathlib.Omega.{arith}
 use lib.ListN.{length, getD, length-map}
 use Rattle.meaning.specs.Graph.{Graph, SelectionKind}
-use Rattle.meaning.specs.Runs.{Nodes, ⟨⟩, _▸_}
+use Rattle.meaning.specs.Runs.{Nodes, ⟨⟩}
 use Rattle.meaning.specs.facts.Tests.{clash, or-right}
 use Rattle.format.specs.Valid.{Valid}
 use Rattle.nesting.specs.Nesting as nesting
@@ -24,8 +24,9 @@ use Rattle.state.specs.Tables.{case-total}
 use Rattle.shown.specs.Tables.{ShowsTables, ShowsShape}
 use Rattle.shown.specs.Sets.{ShowsSet, SameBundle}
 use Rattle.shown.specs.Cells.{ShowsChildren}
-use Rattle.shown.specs.States.{ShowsState, ShowsCases, NamedRewrites, no-case}
+use Rattle.shown.specs.States.{ShowsState, ShowsCases, NamedRewrites}
 use Rattle.shown.specs.Kept.{Later, later-then, KeptRegion, kept-then, same-bundle-then, set-stays}
+use Rattle.shown.specs.CellSteps.{join-none}
 use Rattle.shown.specs.SetStores.{slots-stay}
 use Rattle.shown.specs.RegionSteps.{bundles-same, later-by, state-next}
 use Rattle.merging.specs.Planning.{plan-bundles}
@@ -35,7 +36,7 @@ use Rattle.merging.specs.Spare.{spare-there, spare-outside}
 use Rattle.merging.specs.TargetsShown.{edges-of-cases, deferred-targets-shown}
 use Rattle.merging.specs.PlanningShown.{plan-bundles-shown}
 use Rattle.selects.specs.declared.made.Made.{Made}
-use Rattle.selects.specs.declared.made.Made.the-variants.{Done, Full}
+use Rattle.selects.specs.declared.made.Made.the-variants.{Done}
 use Rattle.selects.specs.declared.define.Scrutinee.{Scrutinee}
 use Rattle.selects.specs.Into.{SelectIf, not-needed, select-refused, select-made, with-targets, with-plan, needs-select, Structurizes}
 use Rattle.selects.specs.Into.{not-structurized, structurized}
@@ -52,10 +53,6 @@ use Rattle.selects.specs.SetsEmitted.{ShowsSelectCell, planned-stays, Sh
 use Rattle.selects.specs.PlansShown.{plan-shown, shared-set}
 use Rattle.selects.specs.Replaced.{replaced-shown}
 use Rattle.selects.specs.RowsKept.{row-kept}
-
-join-none : (ns : Nodes) → join ns ⟨⟩ ≡ ns
-join-none ⟨⟩ = refl
-join-none (n ▸ ns) = ap (λ m. n ▸ m) (join-none ns)
 
 -- ---- A look-up of the cases leaves what the select's own cases have of them.
 same-regions : (s₀ : NestState) (cs : List MaybeClaimedRegion) (s : NestState) → case-regions (cases-after s₀ cs) s ≡ case-regions cs s
