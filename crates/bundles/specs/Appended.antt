@@ -25,30 +25,30 @@ use Rattle.shown.specs.RegionSteps.{word-concerns, children-set, length-set-to,
 use Rattle.shown.specs.CellSteps.{list-joined}
 use Rattle.shown.specs.NamedSteps.{named-inserted}
 use Rattle.shown.specs.SetStores.{only-later, only-state, only-word-same, word-other, run-elsewhere-word, same-elsewhere, copy-moves}
-use Rattle.shown.specs.SetSteps.{bundle-in, set-moves, swapped-only, swapped-first, swapped-bundle, swapped-kept, swapped-slots}
+use Rattle.shown.specs.SetSteps.{bundle-in, set-moves, swapped-only, swapped-first-set, swapped-kept, swapped-slots}
 use Rattle.bundles.specs.Words.{case-inputs, Appends, appended, its-edge, its-rest}
 use Rattle.bundles.specs.CaseSteps.{CaseShown}
 
--- ---- The parts of a case that is to stand alone; the inputs stand in row j.
-pub data ShowsParts (g : Graph) (w : List ℕ) (r j : ℕ) (x : Case) : MaybeClaimedRegion → Type 0 where
+-- ---- A case that is to stand alone, by its parts; its inputs stand in row j.
+pub data ShowsAlone (g : Graph) (w : List ℕ) (r j : ℕ) (x : Case) : MaybeClaimedRegion → Type 0 where
   claimed-parts : {c : ClaimedRegion} → x .kind ≡ 2 → x .origin ≡ c .origin → c .origin < length (g .regions) → (c .origin ≡ r → ⊥)
       → word w kinds (c .origin) ≡ 3 → x .body ≡ c .structured-body → c .structured-body < 128
       → ShowsChildren g w (x .children) (c .children) → ShowsSet g w (word w set-starts (c .origin)) (x .length) (c .deferred-edges)
       → ((k : ℕ) → k < 4 → Names (word w cases (10 * j + (6 + k))) (getD (c .structured-body-inputs) k (undef 0)))
-      → ShowsParts g w r j x (ok c)
-  edge-parts : {d : DeferredEdgeBundleSet} → x .kind ≡ 1 → x .length ≡ 1 → ShowsSet g w (x .start) 1 d → ShowsParts g w r j x (err d)
+      → ShowsAlone g w r j x (ok c)
+  edge-parts : {d : DeferredEdgeBundleSet} → x .kind ≡ 1 → x .length ≡ 1 → ShowsSet g w (x .start) 1 d → ShowsAlone g w r j x (err d)
   -- Nothing, or what is left of region r's own set.
   rest-parts : {d : DeferredEdgeBundleSet} → (x .kind ≡ 2 → ⊥) → (x .kind ≡ 1 → ⊥) → ShowsSet g w (word w set-starts r) (x .length) d
-      → ShowsParts g w r j x (err d)
+      → ShowsAlone g w r j x (err d)
 
 -- Of a case that is shown, the parts are its row.
-pub row-parts : {g : Graph} {w : List ℕ} {r j : ℕ} {m : MaybeClaimedRegion} → Slots w → r < 33 → CaseShown g w r j m
-    → ((c : ClaimedRegion) → m ≡ ok c → (word w kinds (c .origin) ≡ 3) × (c .origin ≡ r → ⊥)) → ShowsParts g w r j (case-row w j) m
-row-parts {g} {w} {r} {j} slots below x claimed = go (x .case) (x .set) claimed
+pub row-alone : {g : Graph} {w : List ℕ} {r j : ℕ} {m : MaybeClaimedRegion} → Slots w → r < 33 → CaseShown g w r j m
+    → ((c : ClaimedRegion) → m ≡ ok c → (word w kinds (c .origin) ≡ 3) × (c .origin ≡ r → ⊥)) → ShowsAlone g w r j (case-row w j) m
+row-alone {g} {w} {r} {j} slots below x claimed = go (x .case) (x .set) claimed
   where
     go : {m : MaybeClaimedRegion} → ShowsCase g w r j m
         → ShowsSet g w (word w cases (10 * j + 4)) (word w cases (10 * j + 5)) (deferred-of m)
-        → ((c : ClaimedRegion) → m ≡ ok c → (word w kinds (c .origin) ≡ 3) × (c .origin ≡ r → ⊥)) → ShowsParts g w r j (case-row w j) m
+        → ((c : ClaimedRegion) → m ≡ ok c → (word w kinds (c .origin) ≡ 3) × (c .origin ≡ r → ⊥)) → ShowsAlone g w r j (case-row w j) m
     go (shows-ok {c} a b in-graph d e f start size names) s claimed =
         let y = claimed c refl in claimed-parts {c = c} a b in-graph (y .1) (y .0) d e f (rw start at s) names
     go (shows-nothing a b) s claimed =
@@ -184,11 +184,10 @@ slot-taken {g} few {r} {o} here there {w} {w₂} {s} {h} {ks} x {n} {d} set =
     (λ f. let z : word w₃ kinds o ≡ 2 = ap (λ b. word w₃ kinds b) (sym f) ∙ e in omega (arith, kind-o, z))) state₃ in
     let room₄ = state₄ .tables .size in
     let kind₄ : word w₄ kinds r ≡ 2 → ⊥ = λ e. kind-r (sym (only-word-same only₄ kinds (omega arith) r) ∙ e) in
-    let start₄ : word w₄ set-starts r ≡ word w set-starts o =
-    swapped-first w₃ room₃ r o r-33 o-33 ∙ c₃ .same-starts o ∙ x .kept o .set-start in
-    let set₃ = set-stays (c₃ .later) (λ i k. same-elsewhere w₂ children (omega arith) r h _) set₂ in
-    let set₄ : ShowsSet g w₄ (word w₄ set-starts r) n d =
-    rw start₄ (set-stays later₄ (λ i k. swapped-bundle w₃ room₃ r o r-33 o-33 _) set₃) in
+    let start₃ : word w₃ set-starts o ≡ word w set-starts o = c₃ .same-starts o ∙ x .kept o .set-start in
+    let set₃ : ShowsSet g w₃ (word w₃ set-starts o) n d =
+    rw start₃ (set-stays (c₃ .later) (λ i k. same-elsewhere w₂ children (omega arith) r h _) set₂) in
+    let set₄ = swapped-first-set w₃ room₃ r o r-33 o-33 set₃ in
     let c₅ = word-concerns g w₄ set-lengths (omega arith) r n in
     let handle₄ : word w₄ children r ≡ word w₃ children r = only-word-same only₄ children (omega arith) r in
     let handle₅ : word (stored w₄ set-lengths r n) children r ≡ word w₃ children r =
@@ -211,7 +210,7 @@ slot-taken {g} few {r} {o} here there {w} {w₂} {s} {h} {ks} x {n} {d} set =
 module _ {g : Graph} (few : length (g .regions) ≤ 32) {r : ℕ} (here : r < length (g .regions)) {w : List ℕ} {s : NestState}
     (state : ShowsState g w s) (unready : word w kinds r ≡ 2 → ⊥) {parent : Nodes}
     (nodes : ShowsChildren g w (word w children r) parent) where
-  claimed-appended : (x : Case) {j : ℕ} {c : ClaimedRegion} → word w head 4 < 704 → ShowsParts g w r j x (ok c) → {w₂ w′ : List ℕ} {h : ℕ}
+  claimed-appended : (x : Case) {j : ℕ} {c : ClaimedRegion} → word w head 4 < 704 → ShowsAlone g w r j x (ok c) → {w₂ w′ : List ℕ} {h : ℕ}
       → Joins (inserted w (x .body) 1 (case-inputs w j)) w₂ (word (inserted w (x .body) 1 (case-inputs w j)) children r) (x .children) h
       → w′ ≡ stored (swapped (stored w₂ children r h) r (x .origin)) set-lengths r (x .length)
       → AppendShown g w w′ s parent (ok c) r
@@ -261,7 +260,7 @@ module _ {g : Graph} (few : length (g .regions) ≤ 32) {r : ℕ} (here : r < le
       }
 
   -- Code and definition append the same.
-  pub append-shown : {x : Case} {j : ℕ} {m : MaybeClaimedRegion} {w′ : List ℕ} → word w head 4 < 704 → ShowsParts g w r j x m
+  pub append-shown : {x : Case} {j : ℕ} {m : MaybeClaimedRegion} {w′ : List ℕ} → word w head 4 < 704 → ShowsAlone g w r j x m
       → Appends w w′ r x j → AppendShown g w w′ s parent m r
   append-shown {x} free (claimed-parts a b c d e f h k l n) (appended p joins stores) =
       claimed-appended x free (claimed-parts a b c d e f h k l n) joins stores

@@ -5,10 +5,9 @@ use Prim.Native.Nat.{ℕ, _+_, _*_, _≤_, _<_}
 use native.Mathlib.Omega.{arith}
 use lib.ListN.{length, getD}
 use Rattle.meaning.specs.Graph.{Value, Graph, region, edges-of, return, undef}
-use Rattle.meaning.specs.Lists.{All, Within}
-use Rattle.meaning.specs.facts.Elements.{all-map}
 use Rattle.format.specs.References.{return-types}
 use Rattle.format.specs.Valid.{ValidEnd, Valid}
+use Rattle.record.specs.Stands.{Stands}
 use Rattle.fields.specs.ByNumber.{edge-of, end-values}
 use Rattle.nesting.specs.Nesting.{to-region, to-return, edge-bundle, true-cond, NestState}
 use Rattle.state.specs.Sections.{Section, number, used, word, stored-all, kinds, set-starts, set-lengths, bundles}
@@ -17,12 +16,13 @@ use Rattle.shown.specs.Tables.{ShowsCondition, shows-true}
 use Rattle.shown.specs.Sets.{Names, shows-region, shows-return, ShowsBundle, SameBundle}
 use Rattle.shown.specs.States.{ShowsOwnSet, Slots, ShowsState}
 use Rattle.shown.specs.Kept.{KeptRegion, bundle-stays, same-bundle-then}
-use Rattle.shown.specs.RegionSteps.{word-there}
+use Rattle.shown.specs.RegionSteps.{word-there, word-apart}
 use Rattle.shown.specs.SetStores.{OnlySets, only-run, only-word, only-then, only-later, only-state, slots-stay, bundles-of-sets}
-use Rattle.shown.specs.SetStores.{lengths-of-sets, word-beside, word-other, run-elsewhere-word, bundle-beside, same-elsewhere}
+use Rattle.shown.specs.SetStores.{lengths-of-sets, word-other, run-elsewhere-word, bundle-beside, same-elsewhere}
 use Rattle.shown.specs.SetSteps.{bundle-in, bundle-made, set-of-one, kept-beside}
 use Rattle.bundles.specs.Words.{padded, edge-deferred, return-deferred}
-use Rattle.bundles.specs.RecordValues.{passed-names, passed-length, padded-names, valid-edge}
+use Rattle.bundles.specs.ReadTypes.{end-types-read}
+use Rattle.bundles.specs.RecordValues.{passed-names, passed-types, passed-length, padded-names, valid-edge}
 
 pub true-shown : (w : List ℕ) → ShowsCondition w 1 true-cond
 true-shown w = record { tree = shows-true refl; made = omega arith }
@@ -40,10 +40,10 @@ module _ {g : Graph} (valid : Valid g) {r : ℕ} (here : r < length (g .regions)
   pub edge-names : (k : ℕ) → k < 4 → Names (getD (padded (edge-of g r j .inputs)) k 0) (getD (edge-of g r j .inputs) k (undef 0))
   edge-names =
       let x = valid-edge valid here j place in
-      let types = valid .regions (edge-of g r j .target) (x .target) .inputs in
-      let within = all-map (Within 1 255) (λ t. t ≤ 255) (λ t h. h .1) (region g (edge-of g r j .target) .inputs) types in
-      padded-names (edge-of g r j .inputs)
-      (passed-names valid here (region g (edge-of g r j .target) .inputs) (edge-of g r j .inputs) within (x .inputs))
+      let ts = region g (edge-of g r j .target) .inputs in
+      let types = passed-types valid here ts (edge-of g r j .inputs) (valid .regions (edge-of g r j .target) (x .target) .inputs)
+      (x .inputs) in
+      padded-names (edge-of g r j .inputs) (passed-names valid here ts (edge-of g r j .inputs) types (x .inputs))
 
   pub edge-deferred-shown : (w : List ℕ) (p : ℕ) → used ≤ length w → p < 1097
       → ShowsBundle g (edge-deferred g w p r j) p (edge-bundle (to-region (edge-of g r j .target)) 1 (edge-of g r j .inputs) true-cond)
@@ -102,7 +102,7 @@ module _ (g : Graph) (w : List ℕ) (r : ℕ) where
     return-deferred-kept q h d =
         let at = start-in in
         kept-beside return-deferred-only slots below h d (return-deferred-starts q)
-        (word-beside return-stored set-lengths r 1 q d ∙ run-elsewhere-word w bundles _ return-words set-lengths (omega arith) q)
+        (word-apart return-stored set-lengths r 1 set-lengths q d ∙ run-elsewhere-word w bundles _ return-words set-lengths (omega arith) q)
         (λ p e. same-bundle-then (bundle-beside w (bundle-at start-of 0) return-words refl p (λ f. e (omega arith) (omega arith)))
         (same-elsewhere return-stored set-lengths (omega arith) r 1 p))
 
@@ -113,18 +113,17 @@ module _ (g : Graph) (w : List ℕ) (r : ℕ) where
         only-state return-deferred-only (slots-stay (λ a h. return-deferred-starts a) slots)
         (λ q h e. return-deferred-kept q (omega arith) (λ f. unready (ap (λ p. word w kinds p) (sym f) ∙ e))) x
 
-    pub return-deferred-shown : Valid g → r < length (g .regions) → {vs : List Value} → region g r .terminator ≡ return vs
-        → All (λ t. t ≤ 255) (return-types g)
+    pub return-deferred-shown : Valid g → Stands w g → r < length (g .regions) → {vs : List Value} → region g r .terminator ≡ return vs
         → ShowsOwnSet g (return-deferred g w r) r (edge-bundle to-return 0 vs true-cond ∷ [])
     unfolding return-deferred
-    return-deferred-shown valid here {vs} is types =
+    return-deferred-shown valid stands here {vs} is =
         let x : ValidEnd g r (return vs) = rw is at (valid .regions r here .terminator) in
         let values : end-values g r ≡ vs = rw is in
         let at = start-in in
         let in-slots = slots .below r below in
         let at-slot = slots .starts r below in
         let counted = only-run w bundles-of-sets (7 * bundle-at start-of 0) return-words .words in
-        let names = padded-names vs (passed-names valid here (return-types g) vs types (x .1)) in
+        let names = padded-names vs (passed-names valid here (return-types g) vs (rw values at (end-types-read stands r)) (x .1)) in
         let four = x .0 in
         let made : ShowsBundle g return-stored start-of (edge-bundle to-return 0 vs true-cond) =
         rw (at, values)

@@ -1,6 +1,7 @@
 pub mod Words
 pub mod Paths
 pub mod Targets
+pub mod ReadTypes
 pub mod RecordValues
 pub mod Deferred
 pub mod CaseSteps

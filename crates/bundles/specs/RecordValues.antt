@@ -21,6 +21,7 @@ use Rattle.shown.specs.Values.{value, Ranged, ranged, in-const, in-false, in-tr
 use Rattle.shown.specs.Values.{in-none}
 use Rattle.shown.specs.Values.{value-undef, value-input}
 use Rattle.shown.specs.Sets.{Names}
+use Rattle.bundles.specs.ReadTypes.{TypeRead}
 use Rattle.bundles.specs.Words.{record-word, padded-by, padded}
 
 -- ---- Words by kind.
@@ -58,7 +59,7 @@ names-instr r k h j =
         e ∙ rw (y, z)
     go (in-none a e) = absurd (omega arith)
 
--- ---- A value that a terminator may use, of a type that a record has.
+-- ---- A value that a terminator may use; undefined, it is of a type that a record has.
 few-in-blocks : (bs : List (List Instr)) → All (λ b. Within 1 8 (length b)) bs → length (concat bs) ≤ 8 * length bs
 few-in-blocks [] h = omega arith
 few-in-blocks (b ∷ bs) h = let z = few-in-blocks bs (h .1) in let y = h .0 .1 in rw (length-append b (concat bs)) (omega arith)
@@ -72,7 +73,7 @@ module _ {g : Graph} (valid : Valid g) {r : ℕ} (here : r < length (g .regions)
       let z = few-in-blocks (region g r .blocks) (x .blocks) in
       omega arith
 
-  pub usable-names : (v : Value) → Usable g r (behind-all g r) v → type-in g r (behind-all g r) v ≤ 255 → Names (record-word v) v
+  pub usable-names : (v : Value) → Usable g r (behind-all g r) v → TypeRead v → Names (record-word v) v
   unfolding value
   usable-names (const i) u t =
       let few = valid .constants-few in let z = getD-within (g .constants) i (u .typed) in names-const i (omega arith)
@@ -98,13 +99,30 @@ module _ {g : Graph} (valid : Valid g) {r : ℕ} (here : r < length (g .regions)
   usable-names (held q k) u t = let z = u .typed in absurd (omega arith)
   usable-names no-value u t = let z = u .typed in absurd (omega arith)
 
-  pub passed-names : (ts : List ℕ) (vs : List Value) → All (λ t. t ≤ 255) ts → Passed g r ts vs → (k : ℕ) → k < length vs
+  pub passed-names : (ts : List ℕ) (vs : List Value) → All TypeRead vs → Passed g r ts vs → (k : ℕ) → k < length vs
       → Names (record-word (getD vs k no-value)) (getD vs k (undef 0))
   passed-names [] [] a p k h = absurd (omega arith)
   passed-names [] (v ∷ vs) a p k h = absurd p
   passed-names (t ∷ ts) [] a p k h = absurd p
-  passed-names (t ∷ ts) (v ∷ vs) a p zero h = let e = p .1 in let z = a .0 in usable-names v (p .0) (omega arith)
+  passed-names (t ∷ ts) (v ∷ vs) a p zero h = usable-names v (p .0) (a .0)
   passed-names (t ∷ ts) (v ∷ vs) a p (suc k) h = passed-names ts vs (a .1) (p .2) k (omega arith)
+
+  -- Values passed for inputs have the inputs' types.
+  pub passed-types : (ts : List ℕ) (vs : List Value) → All (Within 1 255) ts → Passed g r ts vs → All TypeRead vs
+  passed-types [] [] a p = tt
+  passed-types [] (v ∷ vs) a p = absurd p
+  passed-types (t ∷ ts) [] a p = absurd p
+  passed-types (t ∷ ts) (v ∷ vs) a p = (go v (p .1), passed-types ts vs (a .1) (p .2))
+    where
+      go : (v : Value) → type-in g r (behind-all g r) v ≡ t → TypeRead v
+      go (const i) e = tt
+      go (input q k) e = tt
+      go (instr q k) e = tt
+      go (output o) e = tt
+      go (bool b) e = tt
+      go (undef ty) e = let z = a .0 .1 in omega arith
+      go (held q k) e = tt
+      go no-value e = tt
 
   pub valid-edge : (j : ℕ) → j < length (edges-of (region g r .terminator)) → ValidEdge g r (edge-of g r j)
   valid-edge j h = go (region g r .terminator) (valid .regions r here .terminator) j h

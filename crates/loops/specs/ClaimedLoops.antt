@@ -87,6 +87,11 @@ other-target : {g : Graph} {w : List ℕ} {start n : ℕ} {d : DeferredEdgeBundl
 other-target {i} {j} few x h b =
     sym (targets-tell few (x .each i h .target) (x .each j (omega arith) .target)) ∙ ne-eqb _ _ (x .apart j i b h)
 
+-- A word of Return is in no exit list.
+no-return-exit : (n : ℕ) (xs : List ℕ) → n ≤ 32 → All (λ t. t < n) xs → is-in 65535 xs ≡ false
+no-return-exit n [] h a = refl
+no-return-exit n (t ∷ xs) h a = let b = a .0 in rw (ne-eqb 65535 t (omega arith)) (no-return-exit n xs h (a .1))
+
 -- ---- The condition of the back edge in its set, and the values that it passes.
 condition-shown : {g : Graph} {w : List ℕ} {p n : ℕ} (d : DeferredEdgeBundleSet) {e : DeferredEdgeBundle} → n ≡ length d
     → ShowsBundle g w p e → ShowsCondition w (condition-in w p n) (nesting.condition-in d e)
@@ -183,7 +188,7 @@ pub record ClaimedLoop (g : Graph) (w : List ℕ) (s : NestState) (r p i : ℕ) 
   pub cell-zero : 1 ≤ word w head 4
   pub chains : (q : ℕ) → ChainsEnd (s .region-input-rewrites) q
   pub counts : All (λ y. y .accumulated-count < 65535) d
-  pub not-return : is-in 65535 (region g r .exits) ≡ false
+  pub exits-below : All (λ t. t < length (g .regions)) (region g r .exits)
   pub given : length inputs ≡ length (region g r .inputs)
 
 module _ {g : Graph} {w : List ℕ} {s : NestState} {r p i : ℕ} {ks : Nodes} {d : DeferredEdgeBundleSet} {e : DeferredEdgeBundle}
@@ -369,8 +374,8 @@ module _ {g : Graph} {w : List ℕ} {s : NestState} {r p i : ℕ} {ks : Nodes} {
           let few = x .few in
           let words = body₄ .later .front .words in
           let fits = fits₃ in
-          exits-shown g r l₄ exits (x .not-return) (omega arith) (slots-stay (within₄ .same-starts) (x .shown .slots)) (omega arith) set₄
-          low-exits
+          let never = no-return-exit (length (g .regions)) (region g r .exits) few (x .exits-below) in
+          exits-shown g r l₄ exits never (omega arith) (slots-stay (within₄ .same-starts) (x .shown .slots)) (omega arith) set₄ low-exits
 
       counted : w′ ≡ exits-added g r l₄
       counted = count-exits g (stands-on (within₄ .later .front) (x .shown .stands))

@@ -21,10 +21,10 @@ use Rattle.shown.specs.Tables.{ShowsCondition, shows-true}
 use Rattle.shown.specs.Sets.{Names, target-size, ShowsTarget, shows-region, shows-return, ShowsBundle, ShowsSet, SameBundle}
 use Rattle.shown.specs.Sets.{no-bundle}
 use Rattle.shown.specs.States.{ShowsOwnSet, Slots}
-use Rattle.shown.specs.Kept.{Later, KeptRegion, same-bundle, same-bundle-then}
-use Rattle.shown.specs.RegionSteps.{word-there}
+use Rattle.shown.specs.Kept.{Later, KeptRegion, set-stays, same-bundle, same-bundle-then}
+use Rattle.shown.specs.RegionSteps.{word-there, word-apart}
 use Rattle.shown.specs.SetStores.{OnlySets, only-same, only-word, only-run, only-then, only-later, only-kept, starts-of-sets}
-use Rattle.shown.specs.SetStores.{lengths-of-sets, bundles-of-sets, word-beside, word-other, run-elsewhere-word, Moves}
+use Rattle.shown.specs.SetStores.{lengths-of-sets, bundles-of-sets, word-other, run-elsewhere-word, Moves}
 use Rattle.shown.specs.SetStores.{moves-then, same-moves, same-elsewhere, bundle-stored, copy-moves, copy-beside}
 
 pub bundle-in : (start i : ℕ) → start < 1097 → i < 33 → bundle-at start i ≡ start + i
@@ -138,13 +138,13 @@ getD-any (x ∷ l) zero a b h = refl
 getD-any (x ∷ l) (suc k) a b h = getD-any l k a b (omega arith)
 
 -- By swap: the last takes the place of the first to x.
-pub record SplitOut (x : DeferredTarget) (d : DeferredEdgeBundleSet) (i : ℕ) : Type 0 where
+pub record SplitLeaves (x : DeferredTarget) (d : DeferredEdgeBundleSet) (i : ℕ) : Type 0 where
   pub size : suc (length (split-out-target x d)) ≡ length d
   pub gap : (m : ℕ) → suc m ≡ length d → i < m → getD (split-out-target x d) i no-bundle ≡ getD d m no-bundle
   pub others : (j : ℕ) → suc j < length d → (j ≡ i → ⊥) → getD (split-out-target x d) j no-bundle ≡ getD d j no-bundle
 
 split-first : (x : DeferredTarget) (e : DeferredEdgeBundle) (es : DeferredEdgeBundleSet) → same-target x (e .target) ≡ true
-    → SplitOut x (e ∷ es) 0
+    → SplitLeaves x (e ∷ es) 0
 split-first x e [] is = record { size = rw is; gap = λ m q h. absurd (omega arith); others = λ j h d. absurd (omega arith) }
 split-first x e (y ∷ ys) is =
     record {
@@ -160,7 +160,7 @@ split-first x e (y ∷ ys) is =
 
 pub split-out-at : (x : DeferredTarget) (d : DeferredEdgeBundleSet) (i : ℕ) → i < length d
     → same-target x (getD d i no-bundle .target) ≡ true → ((j : ℕ) → j < i → same-target x (getD d j no-bundle .target) ≡ false)
-    → SplitOut x d i
+    → SplitLeaves x d i
 split-out-at x [] i h is before = absurd (omega arith)
 split-out-at x (e ∷ es) zero h is before = split-first x e es is
 split-out-at x (e ∷ es) (suc i) h is before =
@@ -245,7 +245,7 @@ module _ (w : List ℕ) (r b : ℕ) where
   pub swap-removed-lengths : (q : ℕ) → (q ≡ r → ⊥) → word (swap-removed w r b) set-lengths q ≡ word w set-lengths q
   swap-removed-lengths q d =
       by-length (λ l. word l set-lengths q ≡ word w set-lengths q) refl
-      (word-beside (copied w b last-of) set-lengths r _ q d ∙ run-elsewhere-word w bundles (7 * b) _ set-lengths (omega arith) q)
+      (word-apart (copied w b last-of) set-lengths r _ set-lengths q d ∙ run-elsewhere-word w bundles (7 * b) _ set-lengths (omega arith) q)
 
   pub swap-removed-beside : (p : ℕ) → (p ≡ b → ⊥) → SameBundle w (swap-removed w r b) p
   swap-removed-beside p d =
@@ -384,7 +384,7 @@ shift-removes {g} {w} room {r} below {d} shown i h =
     record {
       only = only;
       starts = starts;
-      lengths = λ q e. word-beside moved set-lengths r (n - 1) q e ∙ s .lengths q;
+      lengths = λ q e. word-apart moved set-lengths r (n - 1) set-lengths q e ∙ s .lengths q;
       beside = λ p e. same-bundle-then (s .beside p (λ x y. e (omega arith) (omega arith))) (same p);
       set = rw (starts r, new-length)
           (set-moves (only-later only g) (λ j. pick (ltb j i) j (suc j)) (omega arith) (omega arith) (omega arith)
@@ -424,13 +424,14 @@ module _ (w : List ℕ) (room : used ≤ length w) (a b : ℕ) (at-a : a < 33) (
   swapped-first =
       elim (ℕ-discrete a b) [
         | yes e ↦ ap (λ q. word (swapped w a b) set-starts q) e ∙ swapped-second ∙ ap (λ q. word w set-starts q) e
-        | no d ↦ word-beside first-stored set-starts b (word w set-starts a) a d
+        | no d ↦ word-apart first-stored set-starts b (word w set-starts a) set-starts a d
             ∙ word-there w set-starts a (word w set-starts b) (omega arith) at-a
       ]
 
   pub swapped-other : (q : ℕ) → (q ≡ a → ⊥) → (q ≡ b → ⊥) → word (swapped w a b) set-starts q ≡ word w set-starts q
   swapped-other q d e =
-      word-beside first-stored set-starts b (word w set-starts a) q e ∙ word-beside w set-starts a (word w set-starts b) q d
+      word-apart first-stored set-starts b (word w set-starts a) set-starts q e
+      ∙ word-apart w set-starts a (word w set-starts b) set-starts q d
 
   pub swapped-lengths : (q : ℕ) → word (swapped w a b) set-lengths q ≡ word w set-lengths q
   swapped-lengths q =
@@ -445,6 +446,15 @@ module _ (w : List ℕ) (room : used ≤ length w) (a b : ℕ) (at-a : a < 33) (
   pub swapped-kept : (q : ℕ) → (q ≡ a → ⊥) → (q ≡ b → ⊥) → KeptRegion w (swapped w a b) q
   swapped-kept q d e =
       only-kept swapped-only q (swapped-other q d e) (swapped-lengths q) (λ i h. swapped-bundle (word w set-starts q + i))
+
+  -- A set moves with its slot.
+  pub swapped-first-set : {g : Graph} {n : ℕ} {d : DeferredEdgeBundleSet} → ShowsSet g w (word w set-starts b) n d
+      → ShowsSet g (swapped w a b) (word (swapped w a b) set-starts a) n d
+  swapped-first-set {g} x = rw swapped-first (set-stays (only-later swapped-only g) (λ i h. swapped-bundle (word w set-starts b + i)) x)
+
+  pub swapped-second-set : {g : Graph} {n : ℕ} {d : DeferredEdgeBundleSet} → ShowsSet g w (word w set-starts a) n d
+      → ShowsSet g (swapped w a b) (word (swapped w a b) set-starts b) n d
+  swapped-second-set {g} x = rw swapped-second (set-stays (only-later swapped-only g) (λ i h. swapped-bundle (word w set-starts a + i)) x)
 
   -- Region q's slot is that of region `turned q`.
   abbrev turned : ℕ → ℕ

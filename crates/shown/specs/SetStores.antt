@@ -5,13 +5,12 @@ use Prim.Native.Nat.{ℕ, zero, suc, _+_, _*_, _≤_, _<_}
 use native.Mathlib.Omega.{arith}
 use native.Mathlib.Decide.{decLt}
 use lib.ListN.{length, getD}
-use lib.Seq.{getD-set-other}
 use Rattle.meaning.specs.Graph.{Graph}
 use Rattle.nesting.specs.Nesting.{NestState, StructurizeRegionState}
 use Rattle.state.specs.Sections.{Section, number, start, size, used, section, word, stored, stored-all, front, head, kinds, backedges}
 use Rattle.state.specs.Sections.{set-starts}
 use Rattle.state.specs.Sections.{set-lengths, children, bodies, levels, cases, rewrites, outputs, conditions, cells, bundles}
-use Rattle.state.specs.Apart.{stored-length, section-stored, section-other}
+use Rattle.state.specs.Apart.{stored-length, section-other}
 use Rattle.state.specs.Tables.{bundle-words, copied}
 use Rattle.shown.specs.Stores.{run-before, run-behind, run-in, run-length, run-other, section-run, part-length, head-other}
 use Rattle.shown.specs.Elsewhere.{SameTables, tables-stay, condition-there}
@@ -20,12 +19,10 @@ use Rattle.shown.specs.Sets.{SameBundle}
 use Rattle.shown.specs.States.{ShowsRegion, is-not-begun, is-in-progress, is-ready, is-claimed, Slots}
 use Rattle.shown.specs.States.{ShowsState}
 use Rattle.shown.specs.Kept.{Later, KeptRegion, region-stays}
+use Rattle.shown.specs.RegionSteps.{bundle-run}
 
 -- ---- A word of a section.
 module _ (w : List ℕ) (k : Section) (i x : ℕ) where
-  pub word-beside : (q : ℕ) → (q ≡ i → ⊥) → word (stored w k i x) k q ≡ word w k q
-  word-beside q d = rw (section-stored w k i x) (getD-set-other (section w k) i q x 0 d)
-
   pub word-other : (j : Section) → (number j ≡ number k → ⊥) → (q : ℕ) → word (stored w k i x) j q ≡ word w j q
   word-other j d q = ap (λ l. getD l q 0) (section-other w k i x j d)
 
@@ -217,10 +214,7 @@ module _ (w : List ℕ) (p : ℕ) (xs : List ℕ) (seven : length xs ≡ 7) wher
   bundle-stored room h i j = run-word w bundles (7 * p) xs (omega arith) (omega arith) i (omega arith)
 
   pub bundle-beside : (q : ℕ) → (q ≡ p → ⊥) → SameBundle w (stored-all w bundles (7 * p) xs) q
-  bundle-beside q d =
-      record {
-        words = λ i h. run-beside w bundles (7 * p) xs (7 * q + i) (λ a b. let e : q ≡ p = omega arith in d e);
-      }
+  bundle-beside q d = bundle-run w p xs (omega arith) .others q d
 
 bundle-words-at : (w : List ℕ) (p i : ℕ) → i < 7 → getD (bundle-words w p) i 0 ≡ word w bundles (7 * p + i)
 bundle-words-at w p zero h = refl
