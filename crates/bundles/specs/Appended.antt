@@ -87,7 +87,7 @@ pub record AppendShown (g : Graph) (w w′ : List ℕ) (s : NestState) (parent :
   pub kept : (q : ℕ) → q < 33 → (q ≡ r → ⊥) → ((c : ClaimedRegion) → m ≡ ok c → q ≡ c .origin → ⊥) → KeptRegion w w′ q
   pub cells-to : word w′ head 4 ≤ suc (word w head 4)
 
-inputs-at : (w : List ℕ) (j k : ℕ) → k < 4 → getD (case-inputs w j) k 0 ≡ word w cases (10 * j + (6 + k))
+pub inputs-at : (w : List ℕ) (j k : ℕ) → k < 4 → getD (case-inputs w j) k 0 ≡ word w cases (10 * j + (6 + k))
 inputs-at w j zero h = refl
 inputs-at w j (suc zero) h = refl
 inputs-at w j (suc (suc zero)) h = refl

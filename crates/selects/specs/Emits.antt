@@ -1,23 +1,23 @@
 -- Outputs and conditions of a select, as the words and the graph have them.
-use mathlib.Core.Path.{_≡_, refl, sym, ap, _∙_}
+use mathlib.Core.Path.{_≡_, sym, _∙_}
 use mathlib.Core.List.{List, _∷_}
-use Prim.Native.Nat.{ℕ, _+_, _*_, _-_, _≤_, _<_}
+use Prim.Native.Nat.{ℕ, _+_, _*_, _≤_, _<_}
 use native.Mathlib.Omega.{arith}
-use native.Mathlib.Decide.{ℕ-discrete, decLt}
+use native.Mathlib.Decide.{decLt}
 use lib.ListN.{length, getD, set, length-set}
 use lib.Seq.{getD-set-same, getD-set-other}
-use lib.Dec.{eqb, ltb}
-use borrow.Author.Tests.{eq-eqb, ne-eqb, lt-ltb, le-ltb}
+use lib.Dec.{eqb}
+use borrow.Author.Tests.{eq-eqb, ne-eqb}
 use Rattle.meaning.specs.Lists.{pick}
 use Rattle.meaning.specs.Graph.{Graph}
-use Rattle.record.specs.Stands.{Stands, OfRecord}
+use Rattle.record.specs.Stands.{OfRecord}
 use Rattle.state.specs.declared.defined.Defined.{Defined}
 use Rattle.state.specs.declared.defined.Defined.the-variants.{Number, Full as Refused}
 use Rattle.state.specs.Sections.{word, stored, stored-all, head, set-starts, set-lengths, outputs, conditions, cells, bundles}
 use Rattle.state.specs.Tables.{case-total, input-word, input-stored, bundle-at, OutputDefined, output-defined, outputs-full, MergeDefined}
 use Rattle.state.specs.Tables.{merge-defined, merges-full}
 use Rattle.state.specs.Values.{undef-word, output-word}
-use Rattle.shown.specs.Front.{SameKinds, stands-kept, kinds-same, kinds-stored, kinds-run, kinds-then}
+use Rattle.shown.specs.Front.{SameKinds, kinds-same, kinds-stored, kinds-run, kinds-then}
 use Rattle.bundles.specs.Words.{input-count, target-type}
 use Rattle.merging.specs.Bundles.{front-input-stored}
 use Rattle.merging.specs.Planning.{per-case-deferred, per-case-condition}

@@ -1,33 +1,33 @@
 -- What a select makes of what was planned, for every state that the words show: the same outputs, conditions and set, or the same refusal.
-use mathlib.Core.Path.{_≡_, refl, sym, ap, subst, _∙_}
+use mathlib.Core.Path.{_≡_, refl, sym, ap, _∙_}
 use mathlib.Core.List.{List, [], _∷_, map}
 use mathlib.Core.Option.{Option, none, some}
 use Prim.Native.Nat.{ℕ, zero, suc, _+_, _*_, _≤_, _<_}
 use native.Mathlib.Omega.{arith}
 use native.Mathlib.Decide.{decLt}
-use lib.ListN.{length, getD, length-map}
+use lib.ListN.{length, getD, List·getD-eq-default}
 use borrow.Author.Tests.{lt-ltb}
-use Rattle.meaning.specs.Graph.{Value, Graph, region, undef, output, SelectionKind}
+use Rattle.meaning.specs.Lists.{All, Within}
+use Rattle.meaning.specs.Graph.{Value, Graph, region, nowhere, undef, output}
+use Rattle.meaning.specs.facts.Elements.{all-getD, all-map}
+use Rattle.format.specs.Valid.{Valid}
 use Rattle.format.specs.References.{return-types}
 use Rattle.nesting.specs.Nesting as nesting
-use Rattle.nesting.specs.Nesting.{DeferredTarget, to-region, to-return, DeferredEdgeBundle, DeferredEdgeBundleSet, edge-bundle, LazyCond}
-use Rattle.nesting.specs.Nesting.{LazyConds, true-cond, merge, MaybeClaimedRegion, PlannedInput, shared, merged, PlannedBundle, DefinedSelect}
-use Rattle.nesting.specs.Nesting.{conditions-of, NestState, StepAnswer, done, turned-away, follow, give, emit-inputs, define-output}
-use Rattle.state.specs.declared.defined.Defined.{Defined}
+use Rattle.nesting.specs.Nesting.{DeferredTarget, to-region, to-return}
+use Rattle.nesting.specs.Nesting.{LazyConds, MaybeClaimedRegion, PlannedInput, shared, merged, PlannedBundle, DefinedSelect}
+use Rattle.nesting.specs.Nesting.{conditions-of, NestState, StepAnswer, follow, give, emit-inputs, define-output}
 use Rattle.state.specs.declared.defined.Defined.the-variants.{Number}
-use Rattle.state.specs.Sections.{word, stored, used, head, bundles}
-use Rattle.state.specs.Tables.{case-total, input-word, input-stored, OutputDefined, output-defined}
+use Rattle.state.specs.Sections.{word, stored, bundles}
+use Rattle.state.specs.Tables.{input-word, input-stored, OutputDefined, output-defined}
 use Rattle.state.specs.Values.{output-word}
 use Rattle.shown.specs.Values.{value, value-output}
-use Rattle.shown.specs.Tables.{ShowsTables, ShowsShape, ShowsCondition, done-of, full-of}
+use Rattle.shown.specs.Tables.{ShowsTables, done-of, full-of}
 use Rattle.shown.specs.Elsewhere.{tables-stay, word-elsewhere}
 use Rattle.shown.specs.Steps.{output-made, output-changes}
-use Rattle.shown.specs.Sets.{Names, ShowsTarget, shows-region, shows-return, target-size, ShowsBundle, ShowsSet, no-bundle}
-use Rattle.shown.specs.States.{ShowsReturned}
+use Rattle.shown.specs.Sets.{Names, ShowsTarget, target-size}
 use Rattle.shown.specs.RegionSteps.{word-there, word-apart}
 use Rattle.bundles.specs.Targets.{target-type-shown}
 use Rattle.state.specs.declared.defined.Made.{Made}
-use Rattle.state.specs.declared.defined.Made.the-variants.{Done, Full}
 use Rattle.selects.specs.Turns.{Turns, turns-over, turn-on, turn-refused}
 use Rattle.selects.specs.Places.{From, first-of, rest-of}
 use Rattle.selects.specs.Emits.{EmitInput, input-there, input-made, no-input}
@@ -61,6 +61,20 @@ pub record PlannedOf (g : Graph) (cs : List MaybeClaimedRegion) (w : List ℕ) (
 -- Types are bytes.
 pub record SmallTypes (g : Graph) : Type 0 where
   pub below : (x : DeferredTarget) (k : ℕ) → nesting.target-type g x k < 256
+
+-- Those of regions' inputs are, as the graph is valid.
+pub small-types : {g : Graph} → Valid g → All (λ t. t ≤ 255) (return-types g) → SmallTypes g
+small-types {g} valid returned =
+    record {
+      below = λ x k. elim x [
+        | to-region r ↦ elim (decLt r (length (g .regions))) [
+          | yes h ↦ (let z = all-getD (λ t. t ≤ 255) 0 (omega arith) (region g r .inputs)
+              (all-map (Within 1 255) (λ t. t ≤ 255) (λ t y. y .1) (region g r .inputs) (valid .regions r h .inputs)) k in omega arith)
+          | no h ↦ rw (List·getD-eq-default (g .regions) nowhere {n = r} (omega arith)) (omega arith)
+        ]
+        | to-return ↦ (let z = all-getD (λ t. t ≤ 255) 0 (omega arith) (return-types g) returned k in omega arith)
+      ];
+    }
 
 -- ---- The inputs of one bundle.
 -- One input; the definition has the two kinds in its fold.

@@ -1,17 +1,17 @@
 -- A select and what follows it, as the words and the graph have them.
-use mathlib.Core.Path.{_≡_, refl, sym, ap, _∙_}
+use mathlib.Core.Path.{_≡_, refl, ap, _∙_}
 use mathlib.Core.Bool.{Bool, true, false, _||_}
-use mathlib.Core.List.{List, _∷_}
-use Prim.Native.Nat.{ℕ, _+_, _*_, _≤_, _<_}
+use mathlib.Core.List.{List}
+use Prim.Native.Nat.{ℕ, _*_, _≤_, _<_}
 use native.Mathlib.Omega.{arith}
 use Rattle.meaning.specs.Graph.{Graph}
-use Rattle.record.specs.Stands.{Stands, OfRecord}
+use Rattle.record.specs.Stands.{OfRecord}
 use Rattle.state.specs.declared.defined.Defined.{Defined}
 use Rattle.state.specs.declared.defined.Defined.the-variants.{Number, Full as Refused}
 use Rattle.state.specs.declared.cases.Case.{Case}
 use Rattle.state.specs.Sections.{word, stored, stored-all, set-lengths, cases}
 use Rattle.state.specs.Tables.{case-total, swapped, case-row, case-words}
-use Rattle.shown.specs.Front.{stands-kept, kinds-run, kinds-then}
+use Rattle.shown.specs.Front.{stands-kept, kinds-run}
 use Rattle.bundles.specs.Words.{unclaimed-case, Appends}
 use Rattle.merging.specs.Rewriting.{rewrite-cases}
 use Rattle.merging.specs.Targets.{deferred-targets}

@@ -15,4 +15,7 @@ pub mod EmitsShown
 pub mod SetsEmitted
 pub mod PlansShown
 pub mod Replaced
+pub mod RowsKept
+pub mod Aside
 pub mod Structurized
+pub mod IntoShown

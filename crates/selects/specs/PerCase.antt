@@ -1,22 +1,19 @@
 -- What each case passes to a target, and under which condition, for every cases that the words show.
 use mathlib.Core.Path.{_≡_, refl, sym, ap, _∙_}
 use mathlib.Core.List.{List, [], _∷_, map}
-use mathlib.Core.Option.{Option, none, some}
-use Prim.Native.Nat.{ℕ, zero, suc, _+_, _*_, _≤_, _<_}
+use mathlib.Core.Option.{none, some}
+use Prim.Native.Nat.{ℕ, suc, _+_, _*_, _≤_, _<_}
 use native.Mathlib.Omega.{arith}
-use native.Mathlib.Decide.{decLt, ℕ-discrete}
-use lib.ListN.{length, getD, set, replicate, length-set, length-map}
-use lib.Seq.{getD-set-same, getD-set-other}
+use lib.ListN.{length, getD, set, length-map}
 use borrow.Author.Tests.{lt-ltb, eq-eqb, ne-eqb}
-use Rattle.meaning.specs.Graph.{Value, Graph, undef}
+use Rattle.meaning.specs.Graph.{Graph, undef}
 use Rattle.meaning.specs.facts.Tests.{clash}
 use Rattle.meaning.specs.facts.Elements.{getD-map-in}
 use Rattle.nesting.specs.Nesting as nesting
-use Rattle.nesting.specs.Nesting.{DeferredTarget, DeferredEdgeBundle, DeferredEdgeBundleSet, MaybeClaimedRegion, deferred-of, LazyConds}
-use Rattle.nesting.specs.Nesting.{PerCaseDeferred, per-case-of, get-edge-bundle-by-target, condition-in, conditions-of, same-target, undef-cond}
-use Rattle.nesting.specs.Nesting.{no-conds}
-use Rattle.state.specs.Sections.{word, cases, bundles, head}
-use Rattle.state.specs.Tables.{input-word, case-total, find-by}
+use Rattle.nesting.specs.Nesting.{DeferredTarget, DeferredEdgeBundle, DeferredEdgeBundleSet, MaybeClaimedRegion, deferred-of}
+use Rattle.nesting.specs.Nesting.{PerCaseDeferred, per-case-of, get-edge-bundle-by-target, condition-in, conditions-of, undef-cond}
+use Rattle.state.specs.Sections.{word, cases, bundles}
+use Rattle.state.specs.Tables.{input-word, case-total}
 use Rattle.shown.specs.Values.{value, value-undef}
 use Rattle.shown.specs.Tables.{ShowsCondition, shows-undef, shows-false, ShowsParts, none-left, one-and, cond-count, ShowsValues}
 use Rattle.shown.specs.Sets.{ShowsTarget, ShowsSet, target-size, no-bundle}

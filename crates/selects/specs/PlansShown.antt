@@ -1,5 +1,5 @@
 -- What is planned of a select's cases, and the set that it is where nothing is to be made.
-use mathlib.Core.Path.{_≡_, refl, sym, ap, subst, _∙_}
+use mathlib.Core.Path.{_≡_, refl, sym, subst, _∙_}
 use mathlib.Core.Bool.{Bool, true, false, _||_}
 use mathlib.Core.List.{List, [], _∷_, map}
 use mathlib.Core.Option.{Option, none, some}
@@ -12,7 +12,7 @@ use Rattle.meaning.specs.facts.Tests.{clash, or-left, or-right}
 use Rattle.meaning.specs.facts.Elements.{getD-map-in}
 use Rattle.nesting.specs.Nesting as nesting
 use Rattle.nesting.specs.Nesting.{DeferredTarget, MaybeClaimedRegion, LazyConds, PlannedInput, shared, merged, PlannedBundle}
-use Rattle.nesting.specs.Nesting.{DeferredTargetSummary, PerCaseDeferred, plan-input, plan-inputs, plan-bundle, all-true, conditions-of, true-cond}
+use Rattle.nesting.specs.Nesting.{DeferredTargetSummary, plan-input, plan-inputs, plan-bundle, all-true, conditions-of}
 use Rattle.nesting.specs.Nesting.{shared-bundle, any-needs-select, unique-input, passed-inputs}
 use Rattle.state.specs.Sections.{word, set-lengths, bundles}
 use Rattle.shown.specs.Tables.{shows-true}

@@ -3,14 +3,12 @@ use mathlib.Core.Path.{_≡_, refl, sym, ap, _∙_}
 use mathlib.Core.List.{List, [], _∷_}
 use Prim.Native.Nat.{ℕ, suc, _+_, _*_, _≤_, _<_}
 use native.Mathlib.Omega.{arith}
-use native.Mathlib.Decide.{ℕ-discrete}
 use lib.ListN.{length, getD}
 use Rattle.meaning.specs.Graph.{Graph}
 use Rattle.meaning.specs.Runs.{Cases, ∅}
 use Rattle.nesting.specs.Nesting.{MaybeClaimedRegion, ok, err, NestState, StepAnswer, done, turned-away, follow, give, new-case}
-use Rattle.nesting.specs.Nesting.{case-regions, define-region, ClaimedRegion, DeferredEdgeBundleSet}
+use Rattle.nesting.specs.Nesting.{case-regions, ClaimedRegion, DeferredEdgeBundleSet}
 use Rattle.state.specs.declared.defined.Defined.{Defined}
-use Rattle.state.specs.declared.defined.Defined.the-variants.{Number}
 use Rattle.state.specs.Sections.{word, stored, head, cases}
 use Rattle.state.specs.Apart.{section-other}
 use Rattle.state.specs.Tables.{Defines, defined, full}

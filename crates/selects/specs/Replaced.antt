@@ -1,14 +1,13 @@
 -- The claimed cases' inputs replaced, for every state that the words show.
 use mathlib.Core.Path.{_≡_, refl, sym, ap, subst, _∙_}
 use mathlib.Core.List.{List, [], _∷_, _++_}
-use Prim.Native.Nat.{ℕ, zero, suc, _+_, _*_, _≤_, _<_}
+use Prim.Native.Nat.{ℕ, suc, _+_, _*_, _<_}
 use native.Mathlib.Omega.{arith}
 use lib.ListN.{length, getD}
-use borrow.Author.Tests.{eq-eqb, ne-eqb}
 use Rattle.meaning.specs.Graph.{Graph, undef}
 use Rattle.nesting.specs.Nesting.{ClaimedRegion, DeferredEdgeBundleSet, MaybeClaimedRegion, ok, err, NestState, done, replace-inputs}
 use Rattle.nesting.specs.Nesting.{replace-with, with-tables}
-use Rattle.state.specs.Sections.{word, section, used, cases, rewrites}
+use Rattle.state.specs.Sections.{word, section, cases, rewrites}
 use Rattle.state.specs.Tables.{inserted, case-total}
 use Rattle.shown.specs.Values.{value}
 use Rattle.shown.specs.Stores.{ChangesOnly, nothing-changes, changes-then}
@@ -18,15 +17,9 @@ use Rattle.shown.specs.NamedSteps.{named-inserted}
 use Rattle.shown.specs.Sets.{Names}
 use Rattle.shown.specs.States.{NamedRewrites, ShowsCases, ShowsCase, shows-ok, shows-nothing, shows-edge, shows-others, no-case}
 use Rattle.bundles.specs.Words.{case-inputs}
+use Rattle.bundles.specs.Appended.{inputs-at}
 use Rattle.selects.specs.Cases.{inputs-replaced, all-replaced, replaced-claimed, replaced-not}
 use Rattle.selects.specs.Places.{From, first-of, rest-of, from-start}
-
-inputs-at : (w : List ℕ) (j k : ℕ) → k < 4 → getD (case-inputs w j) k 0 ≡ word w cases (10 * j + (6 + k))
-inputs-at w j zero h = refl
-inputs-at w j (suc zero) h = refl
-inputs-at w j (suc (suc zero)) h = refl
-inputs-at w j (suc (suc (suc zero))) h = refl
-inputs-at w j (suc (suc (suc (suc k)))) h = absurd (omega arith)
 
 -- What the words of case j say of what is to be replaced.
 pub data ShowsGiven (w : List ℕ) (j : ℕ) : MaybeClaimedRegion → Type 0 where

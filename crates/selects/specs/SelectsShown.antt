@@ -1,7 +1,7 @@
 -- A select that is defined, for every state that the words show: the same regions, value, node and cell, or the same refusal.
-use mathlib.Core.Path.{_≡_, refl, sym, ap, subst, _∙_}
+use mathlib.Core.Path.{_≡_, refl, sym, ap, _∙_}
 use mathlib.Core.List.{List, []}
-use Prim.Native.Nat.{ℕ, suc, _+_, _*_, _≤_, _<_}
+use Prim.Native.Nat.{ℕ, _+_, _*_, _≤_, _<_}
 use native.Mathlib.Omega.{arith}
 use lib.ListN.{length, getD, drop, drop-of-length-le}
 use lib.Seq.{drop-cons}
@@ -18,10 +18,10 @@ use Rattle.state.specs.Apart.{section-other}
 use Rattle.state.specs.Tables.{case-total, Defines, defined}
 use Rattle.shown.specs.Values.{value}
 use Rattle.shown.specs.Stores.{ChangesOnly, nothing-changes, head-changes, changes-then}
-use Rattle.shown.specs.Tables.{ShowsTables, ShowsShape, ShowsCondition, ShowsDefined, shows-done, shows-full, done-of, full-of}
+use Rattle.shown.specs.Tables.{ShowsTables, ShowsShape, ShowsCondition, shows-done, done-of, full-of}
 use Rattle.shown.specs.Elsewhere.{SameTables, tables-stay, same-then}
 use Rattle.shown.specs.Steps.{node-defined}
-use Rattle.shown.specs.Cells.{CellIs, ShowsChildren, case-count}
+use Rattle.shown.specs.Cells.{ShowsChildren, case-count}
 use Rattle.shown.specs.States.{ShowsCases, no-case}
 use Rattle.shown.specs.Kept.{Later, later-same, later-then}
 use Rattle.shown.specs.CellSteps.{ShowsCaseList, no-case-list, case-added, select-added, cell-changes, cell-later, cell-total, cell-there}

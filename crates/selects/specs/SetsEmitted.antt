@@ -1,18 +1,17 @@
 -- The set that a select defers, made of what was planned, for every state that the words show.
-use mathlib.Core.Path.{_≡_, refl, sym, ap, subst, _∙_}
+use mathlib.Core.Path.{_≡_, refl, sym, ap, _∙_}
 use mathlib.Core.List.{List, [], _∷_}
-use mathlib.Core.Option.{Option, none, some}
+use mathlib.Core.Option.{Option, none}
 use Prim.Native.Nat.{ℕ, zero, suc, _+_, _*_, _≤_, _<_}
 use native.Mathlib.Omega.{arith}
 use lib.ListN.{length, getD, length-map}
-use Rattle.meaning.specs.Graph.{Graph, Value, undef}
+use Rattle.meaning.specs.Graph.{Graph, Value}
 use Rattle.nesting.specs.Nesting as nesting
 use Rattle.nesting.specs.Nesting.{DeferredTarget, to-return, DeferredEdgeBundle, DeferredEdgeBundleSet, edge-bundle, LazyCond, LazyConds}
 use Rattle.nesting.specs.Nesting.{true-cond, merge, MaybeClaimedRegion, PlannedBundle, DefinedSelect, NestState, StepAnswer, done, turned-away}
-use Rattle.nesting.specs.Nesting.{conditions-of, deferred-of, follow, give, emit-inputs, emit-condition, emit, define-merge}
+use Rattle.nesting.specs.Nesting.{conditions-of, deferred-of, follow, give, emit-inputs, emit-condition, emit}
 use Rattle.state.specs.declared.defined.Defined.{Defined}
-use Rattle.state.specs.declared.defined.Defined.the-variants.{Number}
-use Rattle.state.specs.Sections.{Section, section, word, stored, stored-all, front, head, set-lengths, conditions, cells, bundles}
+use Rattle.state.specs.Sections.{word, stored-all, front, set-lengths, conditions, cells, bundles}
 use Rattle.state.specs.Tables.{bundle-at, MergeDefined, merge-defined, merges-full}
 use Rattle.shown.specs.Values.{value}
 use Rattle.shown.specs.Stores.{ChangesOnly, run-changes, head-changes, changes-then, nothing-changes}
@@ -24,7 +23,6 @@ use Rattle.shown.specs.Kept.{Later, bundle-stays}
 use Rattle.shown.specs.SetSteps.{bundle-in}
 use Rattle.shown.specs.RegionSteps.{word-there, word-apart}
 use Rattle.state.specs.declared.defined.Made.{Made}
-use Rattle.state.specs.declared.defined.Made.the-variants.{Done, Full}
 use Rattle.selects.specs.Turns.{Turns, turns-over, turn-on, turn-refused}
 use Rattle.selects.specs.Places.{From, first-of, rest-of, from-start}
 use Rattle.selects.specs.Emits.{EmitCondition, condition-there, condition-made, no-condition, EmitBundle, inputs-refused, bundle-emitted}

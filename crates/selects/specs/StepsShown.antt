@@ -1,18 +1,18 @@
 -- What a select's steps leave: all but region r's own, the spare slot, and the regions of the cases that are not claimed.
-use mathlib.Core.Path.{_≡_, refl, sym, ap, subst, _∙_}
+use mathlib.Core.Path.{_≡_, refl, sym, ap, _∙_}
 use mathlib.Core.List.{List}
 use Prim.Native.Nat.{ℕ, _+_, _*_, _≤_, _<_}
 use native.Mathlib.Omega.{arith}
 use lib.ListN.{length, getD}
 use Rattle.meaning.specs.Graph.{Graph}
-use Rattle.nesting.specs.Nesting.{MaybeClaimedRegion, ok, err, deferred-of}
+use Rattle.nesting.specs.Nesting.{MaybeClaimedRegion}
 use Rattle.state.specs.Sections.{Section, number, section, word, stored, head, kinds, set-starts, children, cases}
 use Rattle.state.specs.Sections.{bundles}
 use Rattle.state.specs.Apart.{section-other}
 use Rattle.state.specs.Tables.{case-total}
 use Rattle.shown.specs.Stores.{ChangesOnly}
-use Rattle.shown.specs.Sets.{SameBundle, ShowsSet}
-use Rattle.shown.specs.States.{ShowsCase, shows-ok, shows-nothing, shows-edge, shows-others, ShowsCases, no-case}
+use Rattle.shown.specs.Sets.{SameBundle}
+use Rattle.shown.specs.States.{ShowsCase, shows-ok, shows-nothing, shows-edge, shows-others, ShowsCases}
 use Rattle.shown.specs.Kept.{Later, later-same, later-then, KeptRegion, kept-same, kept-then, same-bundle, same-bundle-then, set-stays}
 use Rattle.shown.specs.RegionSteps.{OfNoRegion, kept-by, bundles-same, StatesStay, word-concerns, later-by}
 use Rattle.selects.specs.RegionsShown.{KeepsCases}

@@ -1,12 +1,12 @@
 -- A select with no convergent case set aside, for every state that the words show: the definition's children, set and state, or its refusal.
-use mathlib.Core.Path.{_≡_, refl, sym, ap, subst, _∙_}
-use mathlib.Core.Bool.{Bool, true, false, _||_}
+use mathlib.Core.Path.{_≡_, refl, sym, ap, _∙_}
+use mathlib.Core.Bool.{Bool, false, _||_}
 use mathlib.Core.List.{List, [], _∷_, map}
-use Prim.Native.Nat.{ℕ, suc, _+_, _*_, _≤_, _<_}
+use Prim.Native.Nat.{ℕ, _+_, _*_, _≤_, _<_}
 use native.Mathlib.Omega.{arith}
 use lib.ListN.{length, getD, length-map}
 use Rattle.meaning.specs.Graph.{Graph, SelectionKind}
-use Rattle.meaning.specs.Runs.{Nodes, ⟨⟩, _▸_}
+use Rattle.meaning.specs.Runs.{Nodes, ⟨⟩}
 use Rattle.meaning.specs.facts.Tests.{clash, or-right}
 use Rattle.format.specs.Valid.{Valid}
 use Rattle.nesting.specs.Nesting as nesting
@@ -24,8 +24,9 @@ use Rattle.state.specs.Tables.{case-total}
 use Rattle.shown.specs.Tables.{ShowsTables, ShowsShape}
 use Rattle.shown.specs.Sets.{ShowsSet, SameBundle}
 use Rattle.shown.specs.Cells.{ShowsChildren}
-use Rattle.shown.specs.States.{ShowsState, ShowsCases, NamedRewrites, no-case}
+use Rattle.shown.specs.States.{ShowsState, ShowsCases, NamedRewrites}
 use Rattle.shown.specs.Kept.{Later, later-then, KeptRegion, kept-then, same-bundle-then, set-stays}
+use Rattle.shown.specs.CellSteps.{join-none}
 use Rattle.shown.specs.SetStores.{slots-stay}
 use Rattle.shown.specs.RegionSteps.{bundles-same, later-by, state-next}
 use Rattle.merging.specs.Planning.{plan-bundles}
@@ -35,7 +36,7 @@ use Rattle.merging.specs.Spare.{spare-there, spare-outside}
 use Rattle.merging.specs.TargetsShown.{edges-of-cases, deferred-targets-shown}
 use Rattle.merging.specs.PlanningShown.{plan-bundles-shown}
 use Rattle.state.specs.declared.defined.Made.{Made}
-use Rattle.state.specs.declared.defined.Made.the-variants.{Done, Full}
+use Rattle.state.specs.declared.defined.Made.the-variants.{Done}
 use Rattle.selects.specs.declared.define.Scrutinee.{Scrutinee}
 use Rattle.selects.specs.Into.{SelectIf, not-needed, select-refused, select-made, with-targets, with-plan, needs-select, Structurizes}
 use Rattle.selects.specs.Into.{not-structurized, structurized}
@@ -51,10 +52,7 @@ use Rattle.selects.specs.EmitsShown.{SmallTypes}
 use Rattle.selects.specs.SetsEmitted.{ShowsSelectCell, planned-stays, ShowsPlan, SetDone, emit-shown}
 use Rattle.selects.specs.PlansShown.{plan-shown, shared-set}
 use Rattle.selects.specs.Replaced.{replaced-shown}
-
-join-none : (ns : Nodes) → join ns ⟨⟩ ≡ ns
-join-none ⟨⟩ = refl
-join-none (n ▸ ns) = ap (λ m. n ▸ m) (join-none ns)
+use Rattle.selects.specs.RowsKept.{row-kept}
 
 -- ---- A look-up of the cases leaves what the select's own cases have of them.
 same-regions : (s₀ : NestState) (cs : List MaybeClaimedRegion) (s : NestState) → case-regions (cases-after s₀ cs) s ≡ case-regions cs s
@@ -193,6 +191,9 @@ pub record Prepared (g : Graph) (r : ℕ) (cs : List MaybeClaimedRegion) (s : Ne
       → ((j : ℕ) → j < length cs → word w cases (10 * j + 0) ≡ 2 → q ≡ word w cases (10 * j + 1) → ⊥) → KeptRegion w w′ q
   pub outside : (p : ℕ) → ((j i : ℕ) → j < length cs → i < word w cases (10 * j + 5) → p ≡ word w cases (10 * j + 4) + i → ⊥)
       → ((i : ℕ) → i < 33 → p ≡ word w set-starts 32 + i → ⊥) → SameBundle w w′ p
+  -- The row of a case that is not claimed and defers nothing.
+  pub rows : (j : ℕ) → (word w cases (10 * j + 0) ≡ 2 → ⊥) → word w cases (10 * j + 5) ≡ 0 → (q : ℕ) → q < 10
+      → word w′ cases (10 * j + q) ≡ word w cases (10 * j + q)
 
 module _ {g : Graph} (valid : Valid g) {r : ℕ} (below : r < length (g .regions)) {w : List ℕ} {s : NestState} (state : ShowsState g w s)
     {cs : List MaybeClaimedRegion} (shown : ShowsCases g w r cs) (unready : NoneReady w r cs)
@@ -226,6 +227,8 @@ module _ {g : Graph} (valid : Valid g) {r : ℕ} (below : r < length (g .regions
         outside = λ p d e. same-bundle-then (a .outside p d)
             (same-bundle-then (spare-outside (b .spare) p (λ i h z. e i h (z ∙ ap (λ n. n + i) first)))
             (spare-outside (c .spare) p (λ i h z. e i h (z ∙ ap (λ n. n + i) (second ∙ first)))));
+        rows = λ j d e q h. spare-there (c .spare) cases (omega arith) (omega arith) (10 * j + q)
+            ∙ spare-there (b .spare) cases (omega arith) (omega arith) (10 * j + q) ∙ row-kept valid w j d e q h;
       }
 
 -- ---- The step whole.
@@ -241,6 +244,9 @@ pub record Structured (g : Graph) (r : ℕ) (cs : List MaybeClaimedRegion) (w w�
       → ((j : ℕ) → j < length cs → word w cases (10 * j + 0) ≡ 2 → q ≡ word w cases (10 * j + 1) → ⊥) → KeptRegion w w′ q
   pub outside : (p : ℕ) → ((j i : ℕ) → j < length cs → i < word w cases (10 * j + 5) → p ≡ word w cases (10 * j + 4) + i → ⊥)
       → ((i : ℕ) → i < 33 → p ≡ word w set-starts 32 + i → ⊥) → SameBundle w w′ p
+  -- The row of a case that is not claimed and defers nothing, but for its region.
+  pub rows : (j : ℕ) → (word w cases (10 * j + 0) ≡ 2 → ⊥) → word w cases (10 * j + 5) ≡ 0 → (q : ℕ) → q < 10 → (q ≡ 2 → ⊥)
+      → word w′ cases (10 * j + q) ≡ word w cases (10 * j + q)
   pub total : word w′ head 4 ≤ word w head 4 + (length cs + 1)
 
 states-kept : {A : Type 0} {s : NestState} (x : StepAnswer A) → Post (λ n u. n ≡ 9) (λ a s′. Still s s′) x → {a : A} {s′ : NestState}
@@ -323,6 +329,7 @@ module _ {g : Graph} (valid : Valid g) (small : SmallTypes g) {r : ℕ} (below :
         kept = λ q h d f. kept-then (p .kept q h d f) (step .others q h d);
         outside = λ q d f. same-bundle-then (p .outside q d f)
             (step .bundles-kept q (λ i h u. f i h (sym u ∙ ap (λ n. n + i) (same-starts 32))));
+        rows = λ j d f q h i. step .case-words j q h i ∙ p .rows j d f q h;
         total = omega arith;
       }))
 

@@ -1,5 +1,4 @@
 // The select is defined: regions of its cases, its scrutinee's value, its node, and the cell behind the region's children.
-ghost use mathlib.Core.Path.{_≡_};
 ghost use Rattle.selects.specs.Selects as words;
 use crate::cases::case_regions;
 use crate::cases::children_of;

@@ -319,7 +319,7 @@ module _ {g : Graph} {w : List ℕ} {h : ℕ} {ks : Nodes} (n : ShowsChildren g 
       ]
 
 -- ---- A list behind another.
-join-none : (ns : Nodes) → join ns ⟨⟩ ≡ ns
+pub join-none : (ns : Nodes) → join ns ⟨⟩ ≡ ns
 join-none ⟨⟩ = refl
 join-none (n ▸ ns) = ap (λ m. n ▸ m) (join-none ns)
 

@@ -1,4 +1,4 @@
-use mathlib.Core.Path.{_≡_, refl, sym, _∙_}
+use mathlib.Core.Path.{refl, sym, _∙_}
 use Rattle.selects.specs.Cases.{has-region, new-region, no-region}
 use borrow.Author.Needs.{needs}
 use Rattle.selects.proofs.cases.case_region.Statement.{statement}
