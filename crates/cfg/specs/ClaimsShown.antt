@@ -30,7 +30,7 @@ use Rattle.follows.specs.simulation.Invariant.{Inv, Later, inv-grew}
 use Rattle.follows.specs.simulation.Claims.{claim-post, structurize-region-post}
 use Rattle.follows.specs.simulation.Usable.{EdgesUsable}
 use Rattle.follows.specs.simulation.ValidUse.{edges-of-usable}
-use Rattle.follows.specs.counting.Totals.{edge-total, edges-to, totals}
+use Rattle.follows.specs.counting.Totals.{edge-total, edges-to, totals, edgeless}
 use Rattle.follows.specs.counting.Counting.{Nine, Counted, owed, counted-as, pre-after, pre-as}
 use Rattle.follows.specs.counting.CountClaim.{edges-self}
 use Rattle.follows.specs.counting.CountScan.{aims, AllLive}
@@ -70,8 +70,8 @@ use Rattle.cfg.specs.Shows.{if-turns-refused, if-ready}
 use Rattle.cfg.specs.TargetsShown.{Noted, notes, noted-cells, held-other, FirstNew, can-first, can-next, targets-more}
 use Rattle.cfg.specs.ScansShown.{own-bundle-is, own-bundle-shown, CanScan, bundle-live, bundle-counts, can-claim-bundle, scan-on}
 use Rattle.cfg.specs.ScansShown.{scan-past-return, passed-return, passed-waiting, scan-claims, scan-refusal}
-use Rattle.cfg.specs.TurnsShown.{CanTurn, can-scan, few-in-cases, turn-on, first-done, turns-nothing, turns-refuse, turns-full, turns-again}
-use Rattle.cfg.specs.RegionsShown.{CanBegin, can-targets, inv-targets, few-in-targets, can-turn, begun-shown, begun-cells, beside-kind}
+use Rattle.cfg.specs.TurnsShown.{CanTurn, can-scan, few-in-cases, right-in-cases, turn-on, first-done, turns-nothing, turns-refuse, turns-full, turns-again}
+use Rattle.cfg.specs.RegionsShown.{CanBegin, can-targets, inv-targets, few-in-targets, right-in-targets, can-turn, begun-shown, begun-cells, beside-kind}
 use Rattle.cfg.specs.RegionsShown.{region-unharmed, ready-shown, ready-beside, ready-cells}
 
 -- What is held is a region of the record.
@@ -86,7 +86,7 @@ held-below w q h = elim (decLt q 32) [ yes l ↦ l | no l ↦ (let z = read-beyo
 pub record Parts (g : Graph) (valid : Valid g) : Type 0 where
   pub few : length (g .regions) ≤ 32
   pub few-targets : (r : ℕ) → length (edges-of (region g r .terminator)) ≤ 8
-  pub few-incoming : (q : ℕ) → K g valid .incoming q ≤ 65535
+  pub few-incoming : (q : ℕ) → K g valid .incoming q ≤ 65534
   pub by-state : {w w′ : List ℕ} {r n : ℕ} {a : code.Claim} → ClaimsByState g w r n (getD (incoming-edge-counts g) r 0) w′ a
       → (fuel : ℕ) (H : ℕ → ℕ) (s : NestState) (inputs : List Value) → ShowsState g w s → cells-in-all w ≤ 641
       → is-in r (K g valid .live) ≡ true → length inputs ≡ length (region g r .inputs) → (word w kinds r ≡ 0 → ⊥)
@@ -98,7 +98,7 @@ pub record Parts (g : Graph) (valid : Valid g) : Type 0 where
       → ((k : ℕ) → k < length (edges-of (region g r .terminator)) → TakenAs g w r k (edge-of g r k) (getD cs k no-case))
       → ((k : ℕ) (c : ClaimedRegion) → getD cs k no-case ≡ ok c → c .origin ≡ r → ⊥)
       → ((i j : ℕ) (c d : ClaimedRegion) → i < j → getD cs i no-case ≡ ok c → getD cs j no-case ≡ ok d → c .origin ≡ d .origin → ⊥)
-      → Inv (world g valid) s → ((q : ℕ) → totals (edges-to q) cs ≤ 65535)
+      → Inv (world g valid) s → ((q : ℕ) → totals (edges-to q) cs ≤ 65535) → totals edgeless cs ≡ 0
       → BodyShows g w w′ r 11 (by-control-inst g (blocks-of g r) (region g r .terminator) cs s) a
   pub by-resolve : {w w′ : List ℕ} {r i : ℕ} {a : Made} → ResolvesBy g w r i w′ a → (s : NestState) (x : Body) (y : SplitOut) (t : ℕ)
       → ShowsState g w s → cells-in-all w ≤ 641 → r < length (g .regions) → word w kinds r ≡ 1 → ShowsBody g w r x
@@ -107,6 +107,7 @@ pub record Parts (g : Graph) (valid : Valid g) : Type 0 where
       → ShowsClaimed g w (y .claimed-region) → y .claimed-region .origin ≡ t
       → y .claimed-region .structured-body-inputs ≡ y .bundle .target-inputs → Inv (world g valid) s
       → ((q : ℕ) → totals (edges-to q) (ok (y .claimed-region) ∷ err (y .others) ∷ []) ≤ 65535)
+      → totals edgeless (ok (y .claimed-region) ∷ err (y .others) ∷ []) ≡ 0
       → BodyShows g w w′ r 4 (structurize-select-into g (x .children) bool-cond (lazy (condition-in (x .deferred-edges) (y .bundle)))
       (ok (y .claimed-region) ∷ err (y .others) ∷ []) s) a
 
@@ -440,6 +441,7 @@ module _ (g : Graph) (valid : Valid g) (parts : Parts g valid) (counts : List �
       (λ j y e o. newly .free j y e (inl (subst (λ q. word (stored w kinds r 1) kinds q ≡ 1) (sym o) busy))) (newly .apart)
       (inv-targets g valid fuel H r s can cs s₁ p)
       (λ q. let z = few-in-targets g valid fuel H r s can cs s₁ p q in let y = parts .few-incoming q in omega arith)
+      (right-in-targets g valid fuel H r s can cs s₁ p)
 
   select-from : {w w₁ w₂ : List ℕ} {r i : ℕ} {a : Made} → ResolvesBy g w₁ r i w₂ a → (fuel : ℕ) (s₀ : NestState) (H : ℕ → ℕ) (x : Body)
       (s : NestState) → ShowsBody g w r x → word w kinds r ≡ 1 → r < length (g .regions) → (can : CanTurn g valid fuel s₀ r H x s)
@@ -456,6 +458,7 @@ module _ (g : Graph) (valid : Valid g) (parts : Parts g valid) (counts : List �
       (body-stays (u .later) (u .regions-stay r below (inl busy)) body) l z o to
       (λ e. free (inl (subst (λ q. word w kinds q ≡ 1) (sym e) busy))) cl origin many (first-done g valid fuel s₀ r H x s can (some y) s₁ p .inv)
       (λ q. let v = few-in-cases g valid fuel s₀ r H x s can y s₁ p q in let c = parts .few-incoming q in omega arith)
+      (right-in-cases g valid fuel s₀ r H x s can y s₁ p)
 
   -- What is shown of a claim, and of targets from place j on, whatever state the words show.
   abbrev ClaimFor : List ℕ → List ℕ → ℕ → ℕ → code.Claim → Type 0

@@ -26,7 +26,7 @@ use Rattle.follows.specs.simulation.ClaimedRegions.{Came, Doing, doing-on}
 use Rattle.follows.specs.simulation.TargetRegions.{CasesDone, cases-back, in-targets, target-regions-post}
 use Rattle.follows.specs.simulation.ByTerminator.{by-control-inst-post}
 use Rattle.follows.specs.simulation.Claims.{claim-post, first-doing}
-use Rattle.follows.specs.counting.Totals.{edge-total, edges-to, totals}
+use Rattle.follows.specs.counting.Totals.{edge-total, edges-to, totals, edgeless}
 use Rattle.follows.specs.counting.Counting.{Nine, Pre, Counted, owed, owed-by, owed-set, edges-leaving, live-count, counted-then, pre-after}
 use Rattle.follows.specs.counting.CountScan.{aims, CasesCounted, BodyCounted, target-regions-counted, by-control-inst-counted}
 use Rattle.follows.specs.counting.CountRegion.{claim-counted, targets-live, pre-under-way}
@@ -108,6 +108,9 @@ module _ (g : Graph) (valid : Valid g) (fuel : ℕ) where
 
       pub few-in-targets : (q : ℕ) → totals (edges-to q) cs ≤ K g valid .incoming q
       few-in-targets q = let z = counted .step .kept q in let y = begins .room q in omega arith
+
+      pub right-in-targets : totals edgeless cs ≡ 0
+      right-in-targets = counted .full
 
       pub can-turn : (x : Body) (s₂ : NestState) → by-control-inst g (blocks-of g r) (region g r .terminator) cs s₁ ≡ done x s₂
           → CanTurn g valid fuel s r H x s₂

@@ -15,7 +15,7 @@ use Rattle.follows.specs.simulation.Defined.{IfDone}
 use Rattle.follows.specs.simulation.ClaimedRegions.{Came}
 use Rattle.follows.specs.simulation.Claims.{claim-post}
 use Rattle.follows.specs.simulation.Scan.{FirstDone, split-out-matching-post, found-post}
-use Rattle.follows.specs.counting.Totals.{edge-total, edges-to, to-regions, totals}
+use Rattle.follows.specs.counting.Totals.{edge-total, edges-to, to-regions, totals, edgeless}
 use Rattle.follows.specs.counting.Counting.{Nine, Pre, Good, owed, live-count, pre-after, pre-as}
 use Rattle.follows.specs.counting.CountScan.{ScanCounted, BodyCounted, scan-few, split-out-counted}
 use Rattle.follows.specs.counting.CountRegion.{claim-counted, turn-counted}
@@ -73,6 +73,9 @@ module _ (g : Graph) (valid : Valid g) (fuel : ℕ) where
       -- The edges of both cases, to each region.
       pub few-in-cases : (q : ℕ) → totals (edges-to q) (ok (y .claimed-region) ∷ err (y .others) ∷ []) ≤ K g valid .incoming q
       few-in-cases q = let z = scanned (some y) s₁ p .step .kept q in let u = can .pre .room q in omega arith
+
+      pub right-in-cases : totals edgeless (ok (y .claimed-region) ∷ err (y .others) ∷ []) ≡ 0
+      right-in-cases = let z = scanned (some y) s₁ p .good in let a = z .0 .full in let b = z .1 .full in omega arith
 
       pub turn-on : (x′ : Body) (s₂ : NestState)
           → structurize-select-into g (x .children) bool-cond (lazy (condition-in d (y .bundle)))

@@ -10,6 +10,7 @@ use Rattle.nesting.specs.Nesting.{DeferredTarget, to-region, to-return, Deferre
 use Rattle.nesting.specs.Nesting.{MaybeClaimedRegion, deferred-of, DeferredTargetSummary, summarize-bundle, summarize-set, deferred-targets}
 use Rattle.nesting.specs.Nesting.{PlannedBundle}
 use Rattle.meaning.specs.Lists.{pick}
+use Rattle.meaning.specs.facts.Tests.{clash}
 
 abbrev pub Measure : Type 0
 Measure = DeferredTarget → ℕ → ℕ
@@ -30,7 +31,7 @@ abbrev pub planned-total : Measure → List PlannedBundle → ℕ
 planned-total μ [] = 0
 planned-total μ (p ∷ ps) = μ (p .target) (p .total-edge-count) + planned-total μ ps
 
--- Measures: whether a target is region r, the edges to r, the regions, and the regions with a count of 0.
+-- Measures: whether a target is region r, the edges to r, the regions, and what has a wrong count: a region 0, a Return another.
 abbrev pub at : ℕ → DeferredTarget → ℕ
 at r (to-region q) = pick (eqb r q) 1 0
 at r to-return = 0
@@ -49,7 +50,8 @@ to-regions to-return n = 0
 abbrev pub edgeless : Measure
 edgeless (to-region q) zero = 1
 edgeless (to-region q) (suc n) = 0
-edgeless to-return n = 0
+edgeless to-return zero = 0
+edgeless to-return (suc n) = 1
 
 -- at most as many bundles to each region as k says
 abbrev pub SetFits : (ℕ → ℕ) → DeferredEdgeBundleSet → Type 0
@@ -170,4 +172,10 @@ edgeless-adds x (to-region q) zero m p = go (0 + m)
     go zero = omega arith
     go (suc j) = omega arith
 edgeless-adds x (to-region q) (suc n) m p = let z : suc n + m ≡ suc (n + m) = omega arith in rw z (omega arith)
-edgeless-adds x to-return n m p = omega arith
+edgeless-adds (to-region q) to-return n m p = absurd (clash (cc))
+edgeless-adds to-return to-return zero m p = let z : 0 + m ≡ m = omega arith in rw z (omega arith)
+edgeless-adds to-return to-return (suc n) m p = go (suc n + m)
+  where
+    go : (j : ℕ) → edgeless to-return j ≤ 1 + edgeless to-return m
+    go zero = omega arith
+    go (suc j) = omega arith
