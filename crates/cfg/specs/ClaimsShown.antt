@@ -60,7 +60,7 @@ use Rattle.cfg.specs.Claims.{later-claim, Structurizes, refused-at-targe
 use Rattle.cfg.specs.Claims.{TargetRegions, no-target, target-refused, target-claimed, target-waits, Scans, no-bundle-left}
 use Rattle.cfg.specs.Claims.{passes-return, passes-waiting, claims-bundle, scan-refused, SplitsOut, splits-out, Resolves, no-turn}
 use Rattle.cfg.specs.Claims.{nothing-claimed, claim-refused, select-refused, claims-and, ResolvesAll, resolves-all}
-use Rattle.cfg.specs.Shows.{Held, still-held, Unharmed, unharmed-same, unharmed-then, unharmed-around, Around, around-same, around-then}
+use Rattle.cfg.specs.Shows.{Held, still-held, Unharmed, unharmed-same, unharmed-then, unharmed-around, Around, around-same, around-then, around-but}
 use Rattle.cfg.specs.Shows.{concerns-around, cells-owed, cells-in-all, owed-stays, world, K, CanClaim, chains-of, ClaimShows}
 use Rattle.cfg.specs.Shows.{shows-claimed, shows-unclaimed, shows-refused, TakenAs, was-claimed, was-deferred, was-nothing, TargetsShow}
 use Rattle.cfg.specs.Shows.{shows-targets, refuses-targets, NewlyClaimed, BodyShows, shows-body, refuses-body, ScanShows, shows-nothing}
@@ -99,7 +99,7 @@ pub record Parts (g : Graph) (valid : Valid g) : Type 0 where
       → ((k : ℕ) (c : ClaimedRegion) → getD cs k no-case ≡ ok c → c .origin ≡ r → ⊥)
       → ((i j : ℕ) (c d : ClaimedRegion) → i < j → getD cs i no-case ≡ ok c → getD cs j no-case ≡ ok d → c .origin ≡ d .origin → ⊥)
       → Inv (world g valid) s → ((q : ℕ) → totals (edges-to q) cs ≤ 65535) → totals edgeless cs ≡ 0
-      → BodyShows g w w′ r 11 (by-control-inst g (blocks-of g r) (region g r .terminator) cs s) a
+      → BodyShows g w w′ r cs 11 (by-control-inst g (blocks-of g r) (region g r .terminator) cs s) a
   pub by-resolve : {w w′ : List ℕ} {r i : ℕ} {a : Made} → ResolvesBy g w r i w′ a → (s : NestState) (x : Body) (y : SplitOut) (t : ℕ)
       → ShowsState g w s → cells-in-all w ≤ 641 → r < length (g .regions) → word w kinds r ≡ 1 → ShowsBody g w r x
       → i < length (x .deferred-edges) → y .bundle ≡ getD (x .deferred-edges) i no-bundle
@@ -108,7 +108,7 @@ pub record Parts (g : Graph) (valid : Valid g) : Type 0 where
       → y .claimed-region .structured-body-inputs ≡ y .bundle .target-inputs → Inv (world g valid) s
       → ((q : ℕ) → totals (edges-to q) (ok (y .claimed-region) ∷ err (y .others) ∷ []) ≤ 65535)
       → totals edgeless (ok (y .claimed-region) ∷ err (y .others) ∷ []) ≡ 0
-      → BodyShows g w w′ r 4 (structurize-select-into g (x .children) bool-cond (lazy (condition-in (x .deferred-edges) (y .bundle)))
+      → BodyShows g w w′ r (ok (y .claimed-region) ∷ err (y .others) ∷ []) 4 (structurize-select-into g (x .children) bool-cond (lazy (condition-in (x .deferred-edges) (y .bundle)))
       (ok (y .claimed-region) ∷ err (y .others) ∷ []) s) a
 
 -- ---- A region's kind says its state.
@@ -341,6 +341,13 @@ unclaimed-same n t = rw (n .concerns .same-kinds t, n .lengths t, n .handles t)
 busy-there : {g : Graph} {w : List ℕ} {s : NestState} → ShowsState g w s → (r : ℕ) → NotBegun w r → word (stored w kinds r 1) kinds r ≡ 1
 busy-there {w} shown r new = let room = shown .tables .size in word-there w kinds r 1 (omega arith) (new .below)
 
+-- The region that a scan claimed was not held before.
+taken-new : (w : List ℕ) (y : SplitOut) (t : ℕ) → y .claimed-region .origin ≡ t → (Held w t → ⊥) → (j : ℕ) (c : ClaimedRegion)
+    → getD (ok (y .claimed-region) ∷ err (y .others) ∷ []) j no-case ≡ ok c → Held w (c .origin) → ⊥
+taken-new w y t o free zero c e h = free (subst (λ q. Held w q) (ap origin-of (sym e) ∙ o) h)
+taken-new w y t o free (suc zero) c e h = clash (cc)
+taken-new w y t o free (suc (suc j)) c e h = clash (cc)
+
 -- ---- What a step of the targets leaves for the next.
 record NextStep (g : Graph) (w w₁ w₂ : List ℕ) (r j how : ℕ) (m : MaybeClaimedRegion) (s₁ : NestState) : Type 0 where
   below : r < 32
@@ -432,7 +439,7 @@ module _ (g : Graph) (valid : Valid g) (parts : Parts g valid) (counts : List �
       → length cs ≡ length (its-edges r)
       → ((k : ℕ) → k < length (its-edges r) → TakenAs g w₁ r (0 + k) (getD (its-edges r) k no-edge) (getD cs k no-case))
       → NewlyClaimed (stored w kinds r 1) cs → Around g r (stored w kinds r 1) w₁ → cells-in-all w₁ ≤ cells-in-all (stored w kinds r 1)
-      → BodyShows g w₁ w₂ r 11 (by-control-inst g (blocks-of g r) (region g r .terminator) cs s₁) a
+      → BodyShows g w₁ w₂ r cs 11 (by-control-inst g (blocks-of g r) (region g r .terminator) cs s₁) a
   inst-from {w} {w₁} {r} i fuel H s shown room new can cs s₁ p st len each newly ar k =
       let c = begun-cells shown (parts .few) r (can .in-graph) (new .kind) in
       let busy = busy-there shown r new in
@@ -450,7 +457,7 @@ module _ (g : Graph) (valid : Valid g) (parts : Parts g valid) (counts : List �
       → y .others ≡ take i (x .deferred-edges) ++ drop (suc i) (x .deferred-edges) → y .bundle .target ≡ to-region t
       → ShowsClaimed g w₁ (y .claimed-region) → y .claimed-region .origin ≡ t
       → y .claimed-region .structured-body-inputs ≡ y .bundle .target-inputs → (Held w t → ⊥) → Unharmed g w w₁ → cells-in-all w₁ ≤ 641
-      → BodyShows g w₁ w₂ r 4 (structurize-select-into g (x .children) bool-cond (lazy (condition-in (x .deferred-edges) (y .bundle)))
+      → BodyShows g w₁ w₂ r (ok (y .claimed-region) ∷ err (y .others) ∷ []) 4 (structurize-select-into g (x .children) bool-cond (lazy (condition-in (x .deferred-edges) (y .bundle)))
       (ok (y .claimed-region) ∷ err (y .others) ∷ []) s₁) a
   select-from {w} {r} b fuel s₀ H x s body busy in-graph can y s₁ t p st l z o to cl origin many free u room =
       let below : r < 32 = (let z = parts .few in omega arith) in
@@ -566,13 +573,14 @@ module _ (g : Graph) (valid : Valid g) (parts : Parts g valid) (counts : List �
     region-shown (refused-at-edges {number} {x} t i d) fuel H s shown room new can =
         if-targets (first-targets (λ f h z a b i d l u c. targets-shown t f h z a b i d l u c) fuel H s shown room new can) λ cs s₁ p st len each newly ar k.
         if-body (inst-from i fuel H s shown room new can cs s₁ p st len each newly ar k) λ y s₂ q st₂ body ar₂ k₂.
-        if-turns-refused (turns-from d fuel H s shown room new can cs s₁ p ar y s₂ q st₂ body ar₂ (omega arith)) λ f.
+        if-turns-refused (turns-from d fuel H s shown room new can cs s₁ p (around-but ar ar₂ (newly .free)) y s₂ q st₂ body (omega arith)) λ f.
         refuses-region {m = number} {x = x} (rw (p, q, f))
     region-shown {w} {w′} {r} (structurized {w₃} t i d e) fuel H s shown room new can =
         if-targets (first-targets (λ f h z a b i d l u c. targets-shown t f h z a b i d l u c) fuel H s shown room new can) λ cs s₁ p st len each newly ar k.
         if-body (inst-from i fuel H s shown room new can cs s₁ p st len each newly ar k) λ y s₂ q st₂ body ar₂ k₂.
-        if-turns (turns-from d fuel H s shown room new can cs s₁ p ar y s₂ q st₂ body ar₂ (omega arith)) λ z s₃ f st₃ body₃ ar₃ k₃.
-        let all = around-then ar (around-then ar₂ ar₃) in
+        if-turns (turns-from d fuel H s shown room new can cs s₁ p (around-but ar ar₂ (newly .free)) y s₂ q st₂ body (omega arith))
+        λ z s₃ f st₃ body₃ ar₃ k₃.
+        let all = around-then (around-but ar ar₂ (newly .free)) ar₃ in
         let busy : word w₃ kinds r ≡ 1 = all .kinds-stay r (new .below) (inl (busy-there shown r new)) ∙ busy-there shown r new in
         let last = ready-shown st₃ (parts .few) r (can .in-graph) busy z body₃ in
         let unharmed = region-unharmed (not-held w r (new .kind)) (beside-kind g w r 1) all
@@ -581,17 +589,16 @@ module _ (g : Graph) (valid : Valid g) (parts : Parts g valid) (counts : List �
         let c₁ = ready-cells st₃ (parts .few) r (can .in-graph) busy z body₃ in
         rw e (shows-ready {s′ = with-state s₃ r (ready (count-to r (z .deferred-edges)) (z .children) (z .deferred-edges))} (rw (p, q, f)) last unharmed (omega arith))
 
-    turns-from : {w w₁ w₂ w₃ : List ℕ} {r : ℕ} {a : Step} → ResolvesAll g counts w₂ r w₃ a → (fuel : ℕ) (H : ℕ → ℕ) (s : NestState)
+    turns-from : {w w₂ w₃ : List ℕ} {r : ℕ} {a : Step} → ResolvesAll g counts w₂ r w₃ a → (fuel : ℕ) (H : ℕ → ℕ) (s : NestState)
         → ShowsState g w s → cells-in-all w ≤ 641 → NotBegun w r → (can : CanBegin g valid fuel H r s) → (cs : List MaybeClaimedRegion)
         (s₁ : NestState) → target-regions g (defined fuel) (its-edges r) (with-state s r in-progress) ≡ done cs s₁
-        → Around g r (stored w kinds r 1) w₁ → (y : Body) (s₂ : NestState)
+        → Around g r (stored w kinds r 1) w₂ → (y : Body) (s₂ : NestState)
         → by-control-inst g (blocks-of g r) (region g r .terminator) cs s₁ ≡ done y s₂ → ShowsState g w₂ s₂ → ShowsBody g w₂ r y
-        → Around g r w₁ w₂ → cells-in-all w₂ ≤ cells-in-all (stored w kinds r 1) + 11
+        → cells-in-all w₂ ≤ cells-in-all (stored w kinds r 1) + 11
         → TurnsShow g w₂ w₃ r (resolve-deferred g (defined fuel) (length (g .regions)) y s₂) a
-    turns-from {r} (resolves-all t) fuel H s shown room new can cs s₁ p ar y s₂ q st body ar₂ k =
+    turns-from {r} (resolves-all t) fuel H s shown room new can cs s₁ p both y s₂ q st body k =
         let c = begun-cells shown (parts .few) r (can .in-graph) (new .kind) in
         let busy = busy-there shown r new in
-        let both = around-then ar ar₂ in
         turns-shown t fuel s H y s₂ st (omega arith) (can .in-graph) (both .kinds-stay r (new .below) (inl busy) ∙ busy) body
         (can-turn g valid fuel H r s can cs s₁ p y s₂ q)
 
@@ -685,8 +692,8 @@ module _ (g : Graph) (valid : Valid g) (parts : Parts g valid) (counts : List �
         if-body (select-from b fuel s₀ H x s body busy in-graph can y s₁ q p st l z o to cl origin many free u (omega arith))
         λ x₂ s₂ f st₂ body₂ ar k₂.
         let below : r < 32 = (let z = parts .few in omega arith) in
-        let both = around-then (unharmed-around r u) ar in
-        turns-again g valid fuel r left x s busy below y s₁ p u k x₂ s₂ f ar k₂
+        let both = around-but (unharmed-around r u) ar (taken-new w y q origin free) in
+        turns-again g valid fuel r left x s busy below y s₁ p u k x₂ s₂ f both k₂
         (turns-shown rest fuel s₀ H x₂ s₂ st₂ (omega arith) in-graph (both .kinds-stay r below (inl busy) ∙ busy) body₂
         (turn-on g valid fuel s₀ r H x s can y s₁ p x₂ s₂ f))
 

@@ -1,5 +1,5 @@
 -- What is shown after a claim, a region, its targets, a scan: the definition's answer, and all that the callers hold as it was.
-use mathlib.Core.Path.{_≡_, refl, sym, ap, _∙_}
+use mathlib.Core.Path.{_≡_, refl, sym, ap, subst, _∙_}
 use mathlib.Core.Bool.{Bool, true, false}
 use mathlib.Core.List.{List, [], _++_}
 use mathlib.Core.Logic.{_⊎_, inl, inr}
@@ -191,10 +191,28 @@ pub data TargetsShow (g : Graph) (w w′ : List ℕ) (r j : ℕ) (es : List Edge
       → TargetsShow g w w′ r j es b step.Done
   refuses-targets : {m x : ℕ} → b ≡ turned-away m x → TargetsShow g w w′ r j es b (step.Refused m x)
 
-pub data BodyShows (g : Graph) (w w′ : List ℕ) (r : ℕ) (more : ℕ) (b : StepAnswer Body) : Made → Type 0 where
-  shows-body : {x : Body} {s′ : NestState} → b ≡ done x s′ → ShowsState g w′ s′ → ShowsBody g w′ r x → Around g r w w′
-      → cells-in-all w′ ≤ cells-in-all w + more → BodyShows g w w′ r more b made.Done
-  refuses-body : b ≡ turned-away 9 0 → BodyShows g w w′ r more b made.Full
+-- A step of region r's own that takes the claimed regions of these cases: what other regions have stays.
+pub record AroundBut (g : Graph) (r : ℕ) (cs : List MaybeClaimedRegion) (w w′ : List ℕ) : Type 0 where
+  pub later : Later g w w′
+  pub kinds-stay : (q : ℕ) → q < 32 → Held w q → word w′ kinds q ≡ word w kinds q
+  pub regions-stay : (q : ℕ) → q < 32 → (q ≡ r → ⊥)
+      → ((j : ℕ) (c : ClaimedRegion) → j < length cs → getD cs j no-case ≡ ok c → q ≡ c .origin → ⊥) → Held w q → KeptRegion w w′ q
+
+-- The regions that it takes were not held before.
+pub around-but : {g : Graph} {r : ℕ} {cs : List MaybeClaimedRegion} {w w₁ w₂ : List ℕ} → Around g r w w₁ → AroundBut g r cs w₁ w₂
+    → ((j : ℕ) (c : ClaimedRegion) → getD cs j no-case ≡ ok c → Held w (c .origin) → ⊥) → Around g r w w₂
+around-but {w} a b free =
+    record {
+      later = later-then (a .later) (b .later);
+      kinds-stay = λ q l h. b .kinds-stay q l (held-around a q l h) ∙ a .kinds-stay q l h;
+      regions-stay = λ q l d h. kept-then (a .regions-stay q l d h)
+          (b .regions-stay q l d (λ j c i p o. free j c p (subst (λ z. Held w z) o h)) (held-around a q l h));
+    }
+
+pub data BodyShows (g : Graph) (w w′ : List ℕ) (r : ℕ) (cs : List MaybeClaimedRegion) (more : ℕ) (b : StepAnswer Body) : Made → Type 0 where
+  shows-body : {x : Body} {s′ : NestState} → b ≡ done x s′ → ShowsState g w′ s′ → ShowsBody g w′ r x → AroundBut g r cs w w′
+      → cells-in-all w′ ≤ cells-in-all w + more → BodyShows g w w′ r cs more b made.Done
+  refuses-body : b ≡ turned-away 9 0 → BodyShows g w w′ r cs more b made.Full
 
 -- A scan of the set d.
 pub data ScanShows (g : Graph) (w w′ : List ℕ) (d : DeferredEdgeBundleSet) (b : StepAnswer (Option SplitOut)) : split.SplitOut → Type 0 where
@@ -243,12 +261,13 @@ module _ {g : Graph} {w w′ : List ℕ} {R : Type 0} where
       → TargetsShow g w w′ r j es b (step.Refused m x) → (b ≡ turned-away m x → R) → R
   if-targets-refused (refuses-targets p) go = go p
 
-  pub if-body : {r more : ℕ} {b : StepAnswer Body} → BodyShows g w w′ r more b made.Done
-      → ((x : Body) (s′ : NestState) → b ≡ done x s′ → ShowsState g w′ s′ → ShowsBody g w′ r x → Around g r w w′
+  pub if-body : {r : ℕ} {cs : List MaybeClaimedRegion} {more : ℕ} {b : StepAnswer Body} → BodyShows g w w′ r cs more b made.Done
+      → ((x : Body) (s′ : NestState) → b ≡ done x s′ → ShowsState g w′ s′ → ShowsBody g w′ r x → AroundBut g r cs w w′
       → cells-in-all w′ ≤ cells-in-all w + more → R) → R
   if-body (shows-body {x} {s′} p st b ar k) go = go x s′ p st b ar k
 
-  pub if-full : {r more : ℕ} {b : StepAnswer Body} → BodyShows g w w′ r more b made.Full → (b ≡ turned-away 9 0 → R) → R
+  pub if-full : {r : ℕ} {cs : List MaybeClaimedRegion} {more : ℕ} {b : StepAnswer Body} → BodyShows g w w′ r cs more b made.Full
+      → (b ≡ turned-away 9 0 → R) → R
   if-full (refuses-body p) go = go p
 
   pub if-split : {i : ℕ} {d : DeferredEdgeBundleSet} {b : StepAnswer (Option SplitOut)} → ScanShows g w w′ d b (split-variants.At i)

@@ -119,15 +119,15 @@ module _ (g : Graph) (valid : Valid g) (fuel : ℕ) where
       selected = structurize-select-into g (x .children) bool-cond (lazy (condition-in (x .deferred-edges) (y .bundle)))
           (ok (y .claimed-region) ∷ err (y .others) ∷ []) s₁
 
-      pub turns-full : {w₂ : List ℕ} → BodyShows g w₁ w₂ r 4 selected made.Full
+      pub turns-full : {w₂ : List ℕ} → BodyShows g w₁ w₂ r (ok (y .claimed-region) ∷ err (y .others) ∷ []) 4 selected made.Full
           → TurnsShow g w w₂ r (turns (suc n) x s) (step.Refused 9 0)
       unfolding resolve-deferred
       turns-full (refuses-body q) = refuses-turns {m = 9} {x = 0} (rw (p, q))
 
-      pub turns-again : {w₂ w′ : List ℕ} (x′ : Body) (s₂ : NestState) → selected ≡ done x′ s₂ → Around g r w₁ w₂
+      pub turns-again : {w₂ w′ : List ℕ} (x′ : Body) (s₂ : NestState) → selected ≡ done x′ s₂ → Around g r w w₂
           → cells-in-all w₂ ≤ cells-in-all w₁ + 4 → {a : Step} → TurnsShow g w₂ w′ r (turns n x′ s₂) a
           → TurnsShow g w w′ r (turns (suc n) x s) a
       unfolding resolve-deferred
       turns-again x′ s₂ q ar k (shows-turns {x = z} {s′} f st b ar₂ k₂) =
-          shows-turns {x = z} {s′ = s′} (rw (p, q, f)) st b (around-then (unharmed-around r u) (around-then ar ar₂)) (omega arith)
+          shows-turns {x = z} {s′ = s′} (rw (p, q, f)) st b (around-then ar ar₂) (omega arith)
       turns-again x′ s₂ q ar k (refuses-turns {m} {x = j} f) = refuses-turns {m = m} {x = j} (rw (p, q, f))
