@@ -167,7 +167,8 @@ started-by l {l₃} {l₄} {l₅} a b c numbers totals types g s =
     let e : l₃ ≡ emptied l = rw (c, b, a) in
     let s₃ = stands-on {w′ = l₃} (rw e (emptied-front l)) s in
     let x = numbers g s₃ in
-    let s₄ = stands-on {w′ = l₄} (rw (x .words) (filled-front first-nodes (λ r. r) (nodes-before g) (omega arith) (length (g .regions)) 0 l₃)) s₃ in
+    let numbers-front = filled-front first-nodes (λ r. r) (nodes-before g) (omega arith) (length (g .regions)) 0 l₃ in
+    let s₄ = stands-on {w′ = l₄} (rw (x .words) numbers-front) s₃ in
     let y = totals g s₄ in
     let s₅ = stands-on {w′ = l₅} (rw y (front-run l₄ head (omega arith) 0 _)) s₄ in
     types g s₅ ∙ rw (y, x .words, x .total, e)

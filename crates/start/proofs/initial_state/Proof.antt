@@ -22,7 +22,10 @@ start-returned-requires : tie.Need-start-returned-requires
 start-returned-requires c κs = search needs
 
 returns : tie.Need-returns
-returns c = started-by _ (c .before .before .before .before .before .before .before .before .before .before .start-rewrites .ensures) (c .before .before .before .before .before .before .before .before .start-kinds .ensures) (c .before .before .before .before .before .before .start-slots .ensures) (c .before .before .before .before .start-nodes .ensures) (c .before .before .start-totals .ensures) (c .start-returned .ensures)
+returns c = started-by _ (c .before .before .before .before .before .before .before .before .before .before .start-rewrites .ensures)
+    (c .before .before .before .before .before .before .before .before .start-kinds .ensures)
+    (c .before .before .before .before .before .before .start-slots .ensures) (c .before .before .before .before .start-nodes .ensures)
+    (c .before .before .start-totals .ensures) (c .start-returned .ensures)
 
 pub initial-state-spec : {M : Type 1} → statement M
 initial-state-spec =

@@ -25,7 +25,8 @@ loop-less : tie.Need-loop-less Inv-loop μ-loop
 loop-less c = search needs
 
 loop-again : tie.Need-loop-again Inv-loop μ-loop
-loop-again c = rw (c .set-region-state .ensures) (fill-turn kinds (λ r. r) (λ r. 0) 32 _ _ (c .before .before .loop-test .taken) (c .before .before .before .loop .inv))
+loop-again c = rw (c .set-region-state .ensures) (fill-turn kinds (λ r. r) (λ r. 0) 32 _ _ (c .before .before .loop-test .taken)
+    (c .before .before .before .loop .inv))
 
 returns : tie.Need-returns Inv-loop μ-loop
 returns c = fill-stop kinds (λ r. r) (λ r. 0) 32 _ _ (c .loop-test .left) (c .before .loop .inv)

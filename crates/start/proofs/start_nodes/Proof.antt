@@ -34,7 +34,12 @@ loop-less : tie.Need-loop-less Inv-loop μ-loop
 loop-less c = search needs
 
 loop-again : tie.Need-loop-again Inv-loop μ-loop
-loop-again c = (nodes-turn (c .before .before .before .before .before .before .loop .inv .0) (c .before .before .before .before .before .loop-test .taken) (c .before .before .before .set-first-node .ensures) (c .before .block-count .ensures) (c .sum .ensures), omega arith)
+loop-again c = (
+  nodes-turn (c .before .before .before .before .before .before .loop .inv .0)
+      (c .before .before .before .before .before .loop-test .taken) (c .before .before .before .set-first-node .ensures)
+      (c .before .block-count .ensures) (c .sum .ensures),
+  omega arith,
+)
 
 returns : tie.Need-returns Inv-loop μ-loop
 returns c = nodes-stop (c .before .loop .inv .0) (c .loop-test .left) (c .before .loop .inv .1) (c .before .before .region-count .ensures)

@@ -42,13 +42,17 @@ loop-less : tie.Need-loop-less Inv-loop μ-loop
 loop-less c = search needs
 
 loop-again : tie.Need-loop-again Inv-loop μ-loop
-loop-again c = returned-turn (c .before .before .before .before .before .before .before .before .first-return .ensures) (c .before .before .before .before .before .loop .inv) (c .before .before .before .before .loop-test .taken) (c .before .before .return-type .ensures) (c .set-head .ensures)
+loop-again c = returned-turn (c .before .before .before .before .before .before .before .before .first-return .ensures)
+    (c .before .before .before .before .before .loop .inv) (c .before .before .before .before .loop-test .taken)
+    (c .before .before .return-type .ensures) (c .set-head .ensures)
 
 set-head-requires-2 : tie.Need-set-head-requires-2 Inv-loop μ-loop
 set-head-requires-2 c κs = search needs
 
 returns : tie.Need-returns Inv-loop μ-loop
-returns c = returned-stop (c .before .before .before .before .before .before .first-return .ensures) (c .before .before .before .loop .inv) (c .before .before .loop-test .left) (c .before .before .before .before .value-count .ensures) (c .set-head2 .ensures)
+returns c = returned-stop (c .before .before .before .before .before .before .first-return .ensures)
+    (c .before .before .before .loop .inv) (c .before .before .loop-test .left)
+    (c .before .before .before .before .value-count .ensures) (c .set-head2 .ensures)
 
 pub start-returned-spec : {M : Type 1} → statement M
 start-returned-spec =

@@ -29,7 +29,9 @@ loop-less : tie.Need-loop-less Inv-loop μ-loop
 loop-less c = search needs
 
 loop-again : tie.Need-loop-again Inv-loop μ-loop
-loop-again c = rw (c .put-set-start .ensures, c .before .slot .ensures) (fill-turn set-starts (λ a. a) slot 33 _ _ (c .before .before .before .loop-test .taken) (c .before .before .before .before .loop .inv))
+loop-again c = rw (c .put-set-start .ensures, c .before .slot .ensures)
+    (fill-turn set-starts (λ a. a) slot 33 _ _ (c .before .before .before .loop-test .taken)
+    (c .before .before .before .before .loop .inv))
 
 returns : tie.Need-returns Inv-loop μ-loop
 returns c = fill-stop set-starts (λ a. a) slot 33 _ _ (c .loop-test .left) (c .before .loop .inv)
