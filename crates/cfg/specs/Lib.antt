@@ -10,3 +10,4 @@ pub mod ScansShown
 pub mod TurnsShown
 pub mod RegionsShown
 pub mod ClaimsShown
+pub mod StateShown

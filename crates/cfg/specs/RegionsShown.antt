@@ -150,13 +150,13 @@ module _ {g : Graph} {w : List ℕ} {s : NestState} (shown : ShowsState g w s) (
       let y = rw e at z in omega arith
 
 -- A list that a region under way does not have of its own.
-record OfBody (k : Section) : Type 0 where
-  nothing : MakesNothing k 16
-  not-head : number k ≡ 1 → ⊥
-  not-starts : 4 ≡ number k → ⊥
-  not-lengths : 5 ≡ number k → ⊥
-  not-children : 6 ≡ number k → ⊥
-  not-bundles : 15 ≡ number k → ⊥
+pub record OfBody (k : Section) : Type 0 where
+  pub nothing : MakesNothing k 16
+  pub not-head : number k ≡ 1 → ⊥
+  pub not-starts : 4 ≡ number k → ⊥
+  pub not-lengths : 5 ≡ number k → ⊥
+  pub not-children : 6 ≡ number k → ⊥
+  pub not-bundles : 15 ≡ number k → ⊥
 
 -- Only region r's state changes.
 pub record Beside (g : Graph) (r : ℕ) (w w′ : List ℕ) : Type 0 where
@@ -191,6 +191,21 @@ region-unharmed {r} {w} {w₁} {w₃} free a b c =
     first q (inl e) = inl (a .kinds-stay q (other q (inl e)) ∙ e)
     first q (inr e) = inr (a .kinds-stay q (other q (inr e)) ∙ e)
 
+pub body-with : {g : Graph} (r : ℕ) (x : Body) (k : Section) (w : List ℕ) (y : ℕ) → OfBody k → ShowsBody g w r x
+    → ShowsBody g (stored w k r y) r x
+body-with {g} r x k w y o b =
+    let changes = word-changes k 16 w (o .not-head) r y in
+    let later = later-by changes (o .nothing) g in
+    let starts : word (stored w k r y) set-starts r ≡ word w set-starts r = ap (λ l. getD l r 0) (changes .others set-starts (o .not-starts) (omega arith)) in
+    let lengths : word (stored w k r y) set-lengths r ≡ word w set-lengths r =
+    ap (λ l. getD l r 0) (changes .others set-lengths (o .not-lengths) (omega arith)) in
+    let handle : word (stored w k r y) children r ≡ word w children r = ap (λ l. getD l r 0) (changes .others children (o .not-children) (omega arith)) in
+    record {
+      nodes = rw handle (later .nodes-stay (b .nodes));
+      set = rw (starts, lengths)
+          (set-stays later (λ i h. bundles-same (changes .others bundles (o .not-bundles) (omega arith)) (word w set-starts r + i)) (b .set));
+    }
+
 module _ {g : Graph} {w : List ℕ} {s : NestState} (shown : ShowsState g w s) (few : length (g .regions) ≤ 32) (r : ℕ)
     (in-graph : r < length (g .regions)) (busy : word w kinds r ≡ 1) (x : Body) (body : ShowsBody g w r x) where
   abbrev d : DeferredEdgeBundleSet
@@ -221,26 +236,12 @@ module _ {g : Graph} {w : List ℕ} {s : NestState} (shown : ShowsState g w s) (
   abbrev first : Concerns g r w w₁
   first = word-concerns g w backedges (omega arith) r n
 
-  body-with : (k : Section) (w : List ℕ) (y : ℕ) → OfBody k → ShowsBody g w r x → ShowsBody g (stored w k r y) r x
-  body-with k w y o b =
-      let changes = word-changes k 16 w (o .not-head) r y in
-      let later = later-by changes (o .nothing) g in
-      let starts : word (stored w k r y) set-starts r ≡ word w set-starts r = ap (λ l. getD l r 0) (changes .others set-starts (o .not-starts) (omega arith)) in
-      let lengths : word (stored w k r y) set-lengths r ≡ word w set-lengths r =
-      ap (λ l. getD l r 0) (changes .others set-lengths (o .not-lengths) (omega arith)) in
-      let handle : word (stored w k r y) children r ≡ word w children r = ap (λ l. getD l r 0) (changes .others children (o .not-children) (omega arith)) in
-      record {
-        nodes = rw handle (later .nodes-stay (b .nodes));
-        set = rw (starts, lengths)
-            (set-stays later (λ i h. bundles-same (changes .others bundles (o .not-bundles) (omega arith)) (word w set-starts r + i)) (b .set));
-      }
-
   pub ready-shown : ShowsState g (made-ready w r) (with-state s r (ready (count-to r d) (x .children) d))
   ready-shown =
       let room = shown .tables .size in
       let st : ShowsState g w₁ s = state-stays (first .later) (concerns-states first few (λ e. absurd (omega arith))) (first .tables) shown in
-      let b₁ = body-with backedges w n (omega arith) body in
-      let b₂ = body-with kinds w₁ 2 (omega arith) b₁ in
+      let b₁ = body-with r x backedges w n (omega arith) body in
+      let b₂ = body-with r x kinds w₁ 2 (omega arith) b₁ in
       let room₁ = st .tables .size in
       let counted : word (made-ready w r) backedges r ≡ count-to r d =
       ap (λ l. getD l r 0) (section-other w₁ kinds r 2 backedges (omega arith)) ∙ word-there w backedges r n (omega arith) there ∙ backedges-are in
