@@ -11,3 +11,4 @@ pub mod TurnsShown
 pub mod RegionsShown
 pub mod ClaimsShown
 pub mod StateShown
+pub mod Func

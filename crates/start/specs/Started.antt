@@ -131,7 +131,7 @@ module _ (g : Graph) (w : List ℕ) (room : used ≤ length w) where
   started-length : length (started g w) ≡ length w
   started-length = stored-length (start head) (size head) l₆ 8 returned-count ∙ length₆
 
-  started-front : SameFront w (started g w)
+  pub started-front : SameFront w (started g w)
   started-front =
       front-then (emptied-front w)
       (front-then (filled-front first-nodes (λ r. r) (nodes-before g) (omega arith) (length (g .regions)) 0 l₃)
