@@ -12,3 +12,4 @@ pub mod RegionsShown
 pub mod ClaimsShown
 pub mod StateShown
 pub mod Func
+pub mod WholeShown
