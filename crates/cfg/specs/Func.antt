@@ -1,8 +1,8 @@
 -- The whole of nesting, as the words alone have it.
-use mathlib.Core.Path.{_≡_, refl, sym, ap, _∙_}
+use mathlib.Core.Path.{_≡_, refl, sym, _∙_}
 use mathlib.Core.Bool.{Bool, true, false}
 use mathlib.Core.List.{List}
-use Prim.Native.Nat.{ℕ, _+_, _*_, _≤_, _<_}
+use Prim.Native.Nat.{ℕ, _+_, _*_, _<_}
 use lib.ListN.{length, getD}
 use lib.Dec.{eqb}
 use borrow.Author.Tests.{eqb-true, eqb-false}
@@ -19,7 +19,6 @@ use Rattle.cfg.specs.declared.claim.Claim as code
 use Rattle.cfg.specs.declared.claim.Claim.the-variants as claim
 use Rattle.cfg.specs.declared.func.Nested.{Nested}
 use Rattle.cfg.specs.declared.func.Nested.the-variants.{Untouched, Whole, Closed, Leftover, Refused}
-use Rattle.cfg.specs.ByInst.{own-bundle}
 use Rattle.cfg.specs.Claims.{own-target, TriesClaim, Stood}
 
 -- By the entry's set: none, Return alone, or another.

@@ -1,10 +1,9 @@
 -- A region, from its first step to its last: how nesting stands at each, and what the words then show.
-use mathlib.Core.Path.{_≡_, refl, sym, ap, subst, _∙_}
-use mathlib.Core.Bool.{true, false}
-use mathlib.Core.List.{List, [], _∷_}
-use mathlib.Core.Logic.{_⊎_, inl, inr}
-use mathlib.Core.Option.{Option, none, some}
-use Prim.Native.Nat.{ℕ, zero, suc, _+_, _*_, _≤_, _<_}
+use mathlib.Core.Path.{_≡_, refl, ap, subst, _∙_}
+use mathlib.Core.Bool.{true}
+use mathlib.Core.List.{List}
+use mathlib.Core.Logic.{inl, inr}
+use Prim.Native.Nat.{ℕ, suc, _+_, _*_, _≤_, _<_}
 use native.Mathlib.Omega.{arith}
 use lib.ListN.{length, getD}
 use lib.Dec.{eqb}
@@ -12,9 +11,9 @@ use borrow.Author.Tests.{eq-eqb, ne-eqb}
 use Rattle.meaning.specs.Graph.{Graph, Edge, region, edges-of}
 use Rattle.meaning.specs.Lists.{is-in, pick}
 use Rattle.format.specs.Valid.{Valid}
-use Rattle.nesting.specs.Nesting.{NestState, StepAnswer, done, turned-away, incoming-edge-counts, try-claim-edge-bundle, target-regions}
-use Rattle.nesting.specs.Nesting.{by-control-inst, resolve-deferred, structurize-region, blocks-of, count-to, MaybeClaimedRegion, Body, Claim}
-use Rattle.nesting.specs.Nesting.{DeferredEdgeBundleSet, to-region, not-begun, in-progress, ready, get-edge-bundle-by-target}
+use Rattle.nesting.specs.Nesting.{NestState, done, incoming-edge-counts, try-claim-edge-bundle, target-regions}
+use Rattle.nesting.specs.Nesting.{by-control-inst, blocks-of, count-to, MaybeClaimedRegion, Body, Claim}
+use Rattle.nesting.specs.Nesting.{DeferredEdgeBundleSet, to-region, not-begun, in-progress, ready}
 use Rattle.nesting.specs.steps.Post.{Post}
 use Rattle.nesting.specs.steps.RegionsLeft.{state-of, with-state}
 use Rattle.follows.specs.counting.Reach.{target-reachable}
@@ -27,21 +26,21 @@ use Rattle.follows.specs.simulation.TargetRegions.{CasesDone, cases-back, in-ta
 use Rattle.follows.specs.simulation.ByTerminator.{by-control-inst-post}
 use Rattle.follows.specs.simulation.Claims.{claim-post, first-doing}
 use Rattle.follows.specs.counting.Totals.{edge-total, edges-to, totals, edgeless}
-use Rattle.follows.specs.counting.Counting.{Nine, Pre, Counted, owed, owed-by, owed-set, edges-leaving, live-count, counted-then, pre-after}
+use Rattle.follows.specs.counting.Counting.{Nine, Pre, Counted, owed, owed-by, owed-set, live-count, counted-then, pre-after}
 use Rattle.follows.specs.counting.CountScan.{aims, CasesCounted, BodyCounted, target-regions-counted, by-control-inst-counted}
 use Rattle.follows.specs.counting.CountRegion.{claim-counted, targets-live, pre-under-way}
-use Rattle.state.specs.Sections.{Section, number, section, word, stored, kinds, backedges, children, bundles, set-starts, set-lengths, head, used}
+use Rattle.state.specs.Sections.{Section, number, word, stored, kinds, backedges, children, bundles, set-starts, set-lengths, head, used}
 use Rattle.state.specs.Apart.{section-other, stored-length}
 use Rattle.shown.specs.Stores.{word-changes}
 use Rattle.shown.specs.Sets.{shows-region}
 use Rattle.shown.specs.SetSteps.{Finds, found, none-found, finds}
-use Rattle.shown.specs.States.{ShowsState, ShowsBody, ShowsOwnSet, is-in-progress, is-ready}
+use Rattle.shown.specs.States.{ShowsState, ShowsBody, is-in-progress, is-ready}
 use Rattle.shown.specs.Kept.{Later, later-then, set-stays, KeptRegion, kept-then}
 use Rattle.shown.specs.RegionSteps.{later-by, kept-by, bundles-same, word-there, word-apart, word-concerns, concerns-states, state-stays}
 use Rattle.shown.specs.RegionSteps.{kind-set, Concerns, MakesNothing}
 use Rattle.cfg.specs.ByState.{backedge-at}
 use Rattle.cfg.specs.ByInst.{backedges-deferred, made-ready}
-use Rattle.cfg.specs.Shows.{Held, Unharmed, Around, around-then, concerns-around, cells-owed, cells-in-all, owed-stays, owed-kind}
+use Rattle.cfg.specs.Shows.{Held, Unharmed, Around, cells-in-all, owed-stays, owed-kind}
 use Rattle.cfg.specs.Shows.{world, K, CanClaim}
 use Rattle.cfg.specs.TurnsShown.{CanTurn}
 

@@ -1,46 +1,40 @@
 -- A claim of a region that was structurized, for every state that the words show.
 use mathlib.Core.Path.{_≡_, refl, sym, ap, subst, _∙_}
-use mathlib.Core.Bool.{Bool, true, false}
+use mathlib.Core.Bool.{true}
 use mathlib.Core.List.{List, [], _∷_}
-use mathlib.Core.Logic.{_⊎_, inl, inr}
+use mathlib.Core.Logic.{inl, inr}
 use mathlib.Core.Option.{Option, none, some}
-use Prim.Native.Nat.{ℕ, zero, suc, _+_, _*_, _≤_, _<_}
+use Prim.Native.Nat.{ℕ, zero, suc, _+_, _≤_, _<_}
 use native.Mathlib.Omega.{arith}
 use lib.ListN.{length, getD}
-use lib.Dec.{eqb}
 use borrow.Author.Tests.{eq-eqb, ne-eqb}
 use Rattle.meaning.specs.Graph.{Graph, Value, region}
 use Rattle.meaning.specs.Runs.{Nodes}
-use Rattle.meaning.specs.Lists.{is-in, All, pick}
+use Rattle.meaning.specs.Lists.{is-in, All}
 use Rattle.format.specs.Valid.{Valid}
-use Rattle.nesting.specs.Nesting.{NestState, StepAnswer, done, turned-away, DeferredEdgeBundle, DeferredEdgeBundleSet, DeferredTarget, to-region}
+use Rattle.nesting.specs.Nesting.{NestState, StepAnswer, done, DeferredEdgeBundleSet, DeferredTarget, to-region}
 use Rattle.nesting.specs.Nesting.{to-return, ClaimedRegion, claim-by-state, claim-body, claimed-as, backedge-of, get-edge-bundle-by-target}
-use Rattle.nesting.specs.Nesting.{StructurizeRegionState, not-begun, in-progress, claimed, ready, incoming-edge-counts, condition-in}
-use Rattle.nesting.specs.Nesting.{structurize-loop, split-out-target, same-target}
+use Rattle.nesting.specs.Nesting.{StructurizeRegionState, not-begun, in-progress, claimed, ready, incoming-edge-counts}
 use Rattle.nesting.specs.steps.RegionsLeft.{state-of, with-state}
-use Rattle.follows.specs.simulation.Invariant.{Inv}
 use Rattle.follows.specs.counting.Totals.{edge-total, edges-to, edgeless}
-use Rattle.follows.specs.counting.Counting.{Good, Fine, edges-held, edges-held-by, edges-held-at}
+use Rattle.follows.specs.counting.Counting.{Fine, edges-held-by, edges-held-at}
 use Rattle.state.specs.declared.defined.Made.{Made}
-use Rattle.state.specs.declared.defined.Made.the-variants.{Done, Full}
-use Rattle.state.specs.Sections.{section, word, stored, kinds, bodies, backedges, children, set-starts, set-lengths, bundles, head, used}
+use Rattle.state.specs.Sections.{word, stored, kinds, bodies, backedges, children, set-starts, head, used}
 use Rattle.state.specs.Apart.{section-other, stored-length}
-use Rattle.shown.specs.Front.{SameKinds}
-use Rattle.shown.specs.Stores.{word-changes}
 use Rattle.shown.specs.Sets.{shows-region, no-bundle}
 use Rattle.shown.specs.SetSteps.{Finds, found, none-found, finds, same-target-is}
 use Rattle.shown.specs.States.{ShowsState, ShowsOwnSet, ShowsRegion, is-not-begun, is-in-progress, is-ready, is-claimed, ShowsClaimed, ShowsBody}
 use Rattle.shown.specs.Cells.{ShowsChildren}
 use Rattle.shown.specs.Kept.{Later, later-then, KeptRegion, kept-then}
-use Rattle.shown.specs.RegionSteps.{word-there, word-apart, word-concerns, Concerns, concerns-states, state-stays, kind-set, Within}
-use Rattle.loops.specs.ClaimedLoops.{ClaimedLoop, LoopShown, ShowsLoop, shows-loop, loop-refused, structurize-loop-shown}
+use Rattle.shown.specs.RegionSteps.{word-there, word-concerns, Concerns, concerns-states, state-stays, kind-set}
+use Rattle.loops.specs.ClaimedLoops.{ClaimedLoop, ShowsLoop, shows-loop, loop-refused, structurize-loop-shown}
 use Rattle.loops.specs.Loops.{Structurizes}
 use Rattle.cfg.specs.declared.claim.Claim as code
-use Rattle.cfg.specs.declared.claim.Claim.the-variants.{Claimed, Unclaimed, Refused}
+use Rattle.cfg.specs.declared.claim.Claim.the-variants.{Claimed}
 use Rattle.cfg.specs.Leaves.{loops-kinds}
 use Rattle.cfg.specs.ByState.{ClaimsBody, no-backedges, none-found as none-leads-back, by-loop, ClaimsByState, ready-claimed, ready-waits}
 use Rattle.cfg.specs.ByState.{busy-claimed, busy-waits, other-state, as-claimed, backedge-at, claim-of}
-use Rattle.cfg.specs.Shows.{Held, Unharmed, unharmed-same, cells-owed, cells-in-all, owed-stays, owed-kind, world, K, CanClaim, chains-of}
+use Rattle.cfg.specs.Shows.{Held, Unharmed, unharmed-same, cells-in-all, owed-stays, owed-kind, K, CanClaim, chains-of}
 use Rattle.cfg.specs.Shows.{ClaimShows, shows-claimed, shows-unclaimed, shows-refused}
 use Rattle.cfg.specs.RegionsShown.{Beside, beside-kind, body-with}
 

@@ -1,24 +1,19 @@
 -- The whole of nesting: from an accepted record that stands in the words, what structurize-func answers, and the state that they then show.
-use mathlib.Core.Path.{_≡_, refl, sym, ap, subst, _∙_}
+use mathlib.Core.Path.{_≡_, refl, ap, _∙_}
 use mathlib.Core.Bool.{Bool, true, false, _||_}
 use mathlib.Core.List.{List, [], _∷_}
 use mathlib.Core.Logic.{_⊎_, inl, inr}
-use mathlib.Core.Option.{Option, none, some}
 use Prim.Native.Nat.{ℕ, zero, suc, _+_, _*_, _≤_, _<_}
 use native.Mathlib.Omega.{arith}
 use lib.ListN.{length, getD, List·getD-eq-default, length-map}
 use lib.Dec.{eqb}
-use borrow.Author.Tests.{eq-eqb, ne-eqb}
-use Rattle.meaning.specs.Graph.{Graph, Value, region, edges-of, targets-of, nowhere}
+use borrow.Author.Tests.{eq-eqb}
+use Rattle.meaning.specs.Graph.{Graph, region, edges-of, targets-of, nowhere}
 use Rattle.meaning.specs.Lists.{is-in, pick, times-in, total, Distinct}
 use Rattle.meaning.specs.facts.Tests.{clash, in-or-out}
 use Rattle.meaning.specs.facts.Members.{is-in-at}
-use Rattle.meaning.specs.facts.Sums.{total-each}
 use Rattle.format.specs.Valid.{Valid}
-use Rattle.nesting.specs.Nesting.{reachable, exit-targets, incoming-edge-count}
-use Rattle.follows.specs.counting.Counting.{owed}
-use Rattle.follows.specs.counting.Attempts.{counting, owed-start}
-use Rattle.follows.specs.Statements.{edges-from}
+use Rattle.nesting.specs.Nesting.{reachable, exit-targets}
 use Rattle.bundles.specs.RecordValues.{few-edges}
 use Rattle.merging.specs.Pigeonhole.{pigeonhole}
 use Rattle.cfg.specs.Shows.{K}
