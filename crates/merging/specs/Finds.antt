@@ -1,17 +1,16 @@
 -- A search for a target among bundles that show their targets: the first of that target, or none.
-use mathlib.Core.Path.{_≡_, refl, sym, ap, _∙_}
+use mathlib.Core.Path.{_≡_, refl, sym, _∙_}
 use mathlib.Core.Bool.{Bool, true, false}
 use mathlib.Core.List.{List}
 use Prim.Native.Nat.{ℕ, zero, suc, _+_, _*_, _≤_, _<_}
 use native.Mathlib.Omega.{arith}
 use native.Mathlib.Decide.{ℕ-discrete}
-use lib.ListN.{length}
 use lib.Dec.{eqb}
 use borrow.Author.Tests.{lt-ltb, eq-eqb, ne-eqb}
 use Rattle.meaning.specs.Lists.{pick}
 use Rattle.meaning.specs.Graph.{Graph}
 use Rattle.format.specs.Valid.{Valid}
-use Rattle.nesting.specs.Nesting.{DeferredTarget, to-region, to-return, same-target}
+use Rattle.nesting.specs.Nesting.{DeferredTarget, same-target}
 use Rattle.state.specs.Sections.{word, bundles}
 use Rattle.state.specs.Tables.{bundle-at, find-by}
 use Rattle.shown.specs.Sets.{ShowsTarget, shows-region, shows-return}

@@ -1,26 +1,26 @@
 -- What each case passes to a target, and under which condition: the words show what the definition has for every cases that they show.
-use mathlib.Core.Path.{_≡_, refl, sym, ap, subst, _∙_}
-use mathlib.Core.Bool.{Bool, true, false, _||_, _&&_}
+use mathlib.Core.Path.{_≡_, refl, sym, ap, _∙_}
+use mathlib.Core.Bool.{Bool, true, false, _&&_}
 use mathlib.Core.List.{List, [], _∷_, map}
 use mathlib.Core.Option.{Option, none, some}
 use Prim.Native.Nat.{ℕ, zero, suc, _+_, _*_, _≤_, _<_}
 use native.Mathlib.Omega.{arith}
-use native.Mathlib.Decide.{decLt, ℕ-discrete}
+use native.Mathlib.Decide.{ℕ-discrete}
 use lib.ListN.{length, getD, set, replicate, length-set, length-replicate}
 use lib.Seq.{getD-set-same, getD-set-other}
-use lib.Dec.{ltb, eqb}
+use lib.Dec.{eqb}
 use borrow.Author.Tests.{lt-ltb, le-ltb, eq-eqb, ne-eqb}
 use Rattle.meaning.specs.Lists.{pick, all}
 use Rattle.meaning.specs.facts.Tests.{clash, eqb-sym}
-use Rattle.meaning.specs.Graph.{Value, Graph, region, const, input, instr, output, bool, undef, held, no-value, same-value}
+use Rattle.meaning.specs.Graph.{Value, Graph, undef, same-value}
 use Rattle.format.specs.Valid.{Valid}
 use Rattle.nesting.specs.Nesting as nesting
 use Rattle.nesting.specs.Nesting.{LazyCond, undef-cond, false-cond, true-cond, merge, DeferredTarget, DeferredEdgeBundle}
-use Rattle.nesting.specs.Nesting.{DeferredEdgeBundleSet, get-edge-bundle-by-target, same-target, MaybeClaimedRegion, ok, err, deferred-of}
+use Rattle.nesting.specs.Nesting.{DeferredEdgeBundleSet, get-edge-bundle-by-target, same-target, MaybeClaimedRegion, ok, deferred-of}
 use Rattle.nesting.specs.Nesting.{PerCaseDeferred, passed-inputs}
 use Rattle.state.specs.Sections.{section, word, set-starts, cases, conditions, bundles}
 use Rattle.state.specs.Values.{is-input, input-region, input-index}
-use Rattle.state.specs.Tables.{input-word, find-by, case-total}
+use Rattle.state.specs.Tables.{input-word, case-total}
 use Rattle.shown.specs.Values.{value, Ranged, in-const, in-false, in-true, in-undef, in-output, in-input, in-held, in-instr, in-none}
 use Rattle.shown.specs.Values.{ranged, equal-values}
 use Rattle.shown.specs.Tables.{ShowsCond, shows-true, shows-false, shows-undef, shows-merge, ShowsCondition}
@@ -63,7 +63,8 @@ module _ (g : Graph) (l : List ℕ) (r j : ℕ) where
     unfolding in-parent
     passes-input a b =
         let h : 322 ≤ x = omega arith in
-        rw (eq-eqb (word l cases (10 * j + 0)) 2 kind, le-ltb x 322 h, input-in x a b, body) (go (eqb (input-region x) (c .structured-body)))
+        rw (eq-eqb (word l cases (10 * j + 0)) 2 kind, le-ltb x 322 h, input-in x a b, body)
+        (go (eqb (input-region x) (c .structured-body)))
       where
         go : (b : Bool) → ShowsPassed (pick b (word l cases (10 * j + (6 + input-index x))) 65535)
             (pick b (some (getD (c .structured-body-inputs) (input-index x) (undef 0))) none)
@@ -120,7 +121,8 @@ module _ (g : Graph) (valid : Valid g) (o : ℕ) (l : List ℕ) (t : ℕ) {x : D
       → ((i q : ℕ) → i < word l cases (10 * j + 5) → q < 33 → word l cases (10 * j + 4) + i ≡ o + q → ⊥)
       → ShowsPlace g o l (place-of l t j) x d
   place-shown j {d} y apart =
-      go (finds g valid l (word l cases (10 * j + 4)) t (word l cases (10 * j + 5)) x (λ k. getD d k no-bundle .target) shown (y .room) (y .few)
+      go (finds g valid l (word l cases (10 * j + 4)) t (word l cases (10 * j + 5)) x (λ k. getD d k no-bundle .target) shown (y .room)
+      (y .few)
       (λ k h. y .each k h .target))
     where
       go : FirstTo x (λ k. getD d k no-bundle .target) (word l cases (10 * j + 5)) (word l cases (10 * j + 4)) (place-of l t j)
@@ -128,7 +130,8 @@ module _ (g : Graph) (valid : Valid g) (o : ℕ) (l : List ℕ) (t : ℕ) {x : D
       go (first-at i h is before e) =
           let size = y .size in
           let room = y .room in
-          stands-at {e = getD d i no-bundle} (omega arith) (λ q b. rw e (apart i q h b)) (rw e (y .each i h)) (sym (same-target-is x (getD d i no-bundle .target) is))
+          stands-at {e = getD d i no-bundle} (omega arith) (λ q b. rw e (apart i q h b)) (rw e (y .each i h))
+          (sym (same-target-is x (getD d i no-bundle .target) is))
           (get-there x d i (omega arith) is before)
       go (none-to new e) = let size = y .size in stands-nowhere e (get-none x d (λ k h. new k (omega arith)))
 
@@ -140,7 +143,8 @@ unfolding per-case-condition condition-in
 condition-shown g o l j p [] size y =
     rw (eq-eqb (word l cases (10 * j + 5)) 0 size) (record { tree = shows-undef refl; made = omega arith })
 condition-shown g o l j p (e ∷ d) size (stands-nowhere gone get) =
-    rw (ne-eqb (word l cases (10 * j + 5)) 0 (omega arith), eq-eqb p 65535 gone, get) (record { tree = shows-false refl; made = omega arith })
+    rw (ne-eqb (word l cases (10 * j + 5)) 0 (omega arith), eq-eqb p 65535 gone, get)
+    (record { tree = shows-false refl; made = omega arith })
 condition-shown g o l j p (e ∷ d) size (stands-at {e = f} there apart shown is get) =
     rw (ne-eqb (word l cases (10 * j + 5)) 0 (omega arith), ne-eqb p 65535 there, get, size) (go (eqb (length (e ∷ d)) 1))
   where
@@ -149,12 +153,12 @@ condition-shown g o l j p (e ∷ d) size (stands-at {e = f} there apart shown is
     go false = shown .condition
 
 -- What the case passes, where it goes there.
-inputs-there : (x : DeferredTarget) (d : DeferredEdgeBundleSet) {e : DeferredEdgeBundle} → get-edge-bundle-by-target x d ≡ some e
+pub inputs-there : (x : DeferredTarget) (d : DeferredEdgeBundleSet) {e : DeferredEdgeBundle} → get-edge-bundle-by-target x d ≡ some e
     → nesting.per-case-deferred x d .inputs ≡ some (e .target-inputs)
 inputs-there x [] get = absurd (clash (cc))
 inputs-there x (f ∷ d) get = rw get
 
-inputs-nowhere : (x : DeferredTarget) (d : DeferredEdgeBundleSet) → get-edge-bundle-by-target x d ≡ none
+pub inputs-nowhere : (x : DeferredTarget) (d : DeferredEdgeBundleSet) → get-edge-bundle-by-target x d ≡ none
     → nesting.per-case-deferred x d .inputs ≡ none
 inputs-nowhere x [] get = refl
 inputs-nowhere x (f ∷ d) get = rw get
@@ -275,7 +279,8 @@ module _ (g : Graph) (o : ℕ) (l : List ℕ) (r : ℕ) (x : DeferredTarget) (ps
             let b = same-as v (nesting.in-parent c (getD (e .target-inputs) k (undef 0))) in
             rw (passed-there c cs get, step-there c cs j f there (pick b f 65535) (m .0)) (by b)
           where
-            by : (b : Bool) → ShowsPassed (pick (eqb (pick b f 65535) 65535) 65535 (unique-from l ps k (length cs) (suc j) (pick b f 65535)))
+            by : (b : Bool) → ShowsPassed (pick (eqb (pick b f 65535) 65535) 65535
+                (unique-from l ps k (length cs) (suc j) (pick b f 65535)))
                 (pick (b && all (same-as v) (passed cs)) (some v) none)
             by true = let h = n .below in rw (ne-eqb f 65535 (omega arith)) rest
             by false = passes-none refl
@@ -298,7 +303,11 @@ module _ (g : Graph) (o : ℕ) (l : List ℕ) (r : ℕ) (x : DeferredTarget) (ps
             → ShowsPassed (unique-from l ps k (length (c ∷ cs)) j 65535) (nesting.unique-input (passed (c ∷ cs)))
         go at (stands-nowhere gone get) rest more = rw (passed-nowhere c cs get, step-nowhere c cs j 65535 gone) rest
         go at (stands-at {e} there apart y is get) rest more =
-            rw (passed-there c cs get, step-there c cs j 65535 there (passed-by l k (getD ps j 0) j) (first-passed (passed-by l k (getD ps j 0) j))) (by (passed-shown j c at y is))
+            rw (
+              passed-there c cs get,
+              step-there c cs j 65535 there (passed-by l k (getD ps j 0) j)
+                  (first-passed (passed-by l k (getD ps j 0) j)),
+            ) (by (passed-shown j c at y is))
           where
             by : {o : Option Value} → ShowsPassed (passed-by l k (getD ps j 0) j) o
                 → ShowsPassed (pick (eqb (passed-by l k (getD ps j 0) j) 65535) 65535
@@ -308,7 +317,8 @@ module _ (g : Graph) (o : ℕ) (l : List ℕ) (r : ℕ) (x : DeferredTarget) (ps
                 let h = m .below in
                 rw (ne-eqb (passed-by l k (getD ps j 0) j) 65535 (omega arith)) (more (passed-by l k (getD ps j 0) j) v m)
 
-pub case-at-stays : {g : Graph} {o : ℕ} {l l′ : List ℕ} → SpareOnly o l l′ → {r : ℕ} {x : DeferredTarget} {ps : List ℕ} {j : ℕ} {c : MaybeClaimedRegion}
+pub case-at-stays : {g : Graph} {o : ℕ} {l l′ : List ℕ} → SpareOnly o l l′ → {r : ℕ} {x : DeferredTarget} {ps : List ℕ} {j : ℕ}
+    {c : MaybeClaimedRegion}
     → CaseAt g o l r x ps j c → CaseAt g o l′ r x ps j c
 case-at-stays {g} sp {r} {j} y =
     let same = spare-there sp cases (omega arith) (omega arith) in
@@ -330,7 +340,8 @@ module _ (l : List ℕ) (t : ℕ) where
   places-before (suc n) i ps j h =
       places-before n (suc i) (put-place ps i) j (omega arith) ∙ getD-set-other ps i j (place-of l t i) 0 (omega arith)
 
-  places-at : (n i : ℕ) (ps : List ℕ) → i + n ≤ length ps → (j : ℕ) → i ≤ j → j < i + n → getD (turned put-place ps n i) j 0 ≡ place-of l t j
+  places-at : (n i : ℕ) (ps : List ℕ) → i + n ≤ length ps → (j : ℕ) → i ≤ j → j < i + n
+      → getD (turned put-place ps n i) j 0 ≡ place-of l t j
   unfolding turned
   places-at zero i ps room j a b = absurd (omega arith)
   places-at (suc n) i ps room j a b =
@@ -346,7 +357,8 @@ module _ (l : List ℕ) (t : ℕ) where
       let size = length-replicate {A = ℕ} 8 0 in
       places-at (case-total l) 0 (replicate 8 0) (omega arith) j (omega arith) (omega arith)
 
-pub cases-at : (g : Graph) → Valid g → (l : List ℕ) (r : ℕ) {cs : List MaybeClaimedRegion} → ShowsCases g l r cs → (t : ℕ) {x : DeferredTarget}
+pub cases-at : (g : Graph) → Valid g → (l : List ℕ) (r : ℕ) {cs : List MaybeClaimedRegion} → ShowsCases g l r cs → (t : ℕ)
+    {x : DeferredTarget}
     → ShowsTarget g t x → (j : ℕ) → j < length cs
     → CaseAt g (word l set-starts 32) l r x (per-case-deferred l t) j (getD cs j no-case)
 cases-at g valid l r y t shown j h =

@@ -1,12 +1,11 @@
 -- Numbers below a bound, no two the same, are at most as many as the bound.
-use mathlib.Core.Path.{_≡_, refl, sym, _∙_}
+use mathlib.Core.Path.{_≡_, sym, _∙_}
 use mathlib.Core.Logic.{_⊎_, inl, inr}
-use mathlib.Core.Bool.{Bool, true, false}
-use Prim.Native.Nat.{ℕ, zero, suc, _+_, _-_, _≤_, _<_}
+use Prim.Native.Nat.{ℕ, zero, suc, _-_, _≤_, _<_}
 use native.Mathlib.Omega.{arith}
 use native.Mathlib.Decide.{decLt, ℕ-discrete}
 use lib.Dec.{eqb}
-use borrow.Author.Tests.{eq-eqb, ne-eqb, eqb-true, eqb-false}
+use borrow.Author.Tests.{eq-eqb, ne-eqb}
 use Rattle.meaning.specs.Lists.{pick}
 
 pub record FoundAt (f : ℕ → ℕ) (n v : ℕ) : Type 0 where
@@ -48,6 +47,7 @@ pigeonhole (suc bound) n f below apart = go (look-for f n bound)
     -- No two of the first n are the same, whichever comes first.
     differ : (i j : ℕ) → (i ≡ j → ⊥) → i < n → j < n → f i ≡ f j → ⊥
     differ i j d a b e = elim (decLt i j) [ yes h ↦ apart i j h b e | no h ↦ apart j i (omega arith) a (sym e) ]
+
     go : FoundAt f n bound ⊎ ((i : ℕ) → i < n → f i ≡ bound → ⊥) → (((i : ℕ) → i < n → f i ≡ bound → ⊥) → n ≤ bound)
         → ((x : FoundAt f n bound) → ((i : ℕ) → i < n - 1 → moved f (x .place) (n - 1) i < bound)
         → ((i j : ℕ) → i < j → j < n - 1 → moved f (x .place) (n - 1) i ≡ moved f (x .place) (n - 1) j → ⊥) → n - 1 ≤ bound)

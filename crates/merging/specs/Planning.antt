@@ -101,7 +101,8 @@ front-inputs : (g : Graph) (l : List ℕ) (q : ℕ) (ps : List ℕ) → SameFron
 unfolding plan-inputs plan-input
 front-inputs g l q ps =
     front-turned (λ x. x .words) (also (λ m k. plan-input m q ps k))
-    (λ x k. front-input-stored (x .words) q k (unique-input (x .words) ps k)) (input-count g l (word l bundles (7 * q + 0))) (planned l false) 0
+    (λ x k. front-input-stored (x .words) q k (unique-input (x .words) ps k)) (input-count g l (word l bundles (7 * q + 0)))
+    (planned l false) 0
 
 front-bundle : (g : Graph) (l : List ℕ) (q : ℕ) → SameFront l (plan-bundle g l q .words)
 unfolding plan-bundle
@@ -271,7 +272,8 @@ unfolding plan-inputs
 inputs-planned l l′ q ps b n t k over of-target count left g st =
     turn-last (also (λ m i. plan-input m q ps i)) (planned l′ b) n k left over ∙ rw (← of-target, ← count g st)
 
-module _ (l l₁ ps : List ℕ) (q t : ℕ) (merged b : Bool) (of-target : t ≡ word l bundles (7 * q + 0)) (of-places : ps ≡ per-case-deferred l t)
+module _ (l l₁ ps : List ℕ) (q t : ℕ) (merged b : Bool) (of-target : t ≡ word l bundles (7 * q + 0))
+    (of-places : ps ≡ per-case-deferred l t)
     (inputs : OfRecord l (λ g. planned l₁ merged ≡ plan-inputs g l q ps)) (test : b ≡ all-true l₁ ps) where
   pub bundle-true : b ≡ true → OfRecord l (λ g. planned l₁ merged ≡ plan-bundle g l q)
   unfolding plan-bundle

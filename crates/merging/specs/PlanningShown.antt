@@ -11,21 +11,22 @@ use lib.ListN.{length, getD, length-map}
 use lib.Dec.{eqb}
 use borrow.Author.Tests.{lt-ltb, eq-eqb, ne-eqb}
 use Rattle.meaning.specs.Lists.{pick, any, is-some}
-use Rattle.meaning.specs.Graph.{Value, Graph, undef}
+use Rattle.meaning.specs.Graph.{Value, Graph}
 use Rattle.format.specs.Valid.{Valid}
 use Rattle.nesting.specs.Nesting as nesting
 use Rattle.nesting.specs.Nesting.{LazyConds, DeferredTarget, to-return, NestState, MaybeClaimedRegion, DeferredTargetSummary, PlannedInput}
 use Rattle.nesting.specs.Nesting.{shared, merged, PlannedBundle, passed-inputs, target-type}
 use Rattle.state.specs.Sections.{used, section, word, stored, set-starts, set-lengths, bundles}
 use Rattle.state.specs.Apart.{section-other}
-use Rattle.state.specs.Tables.{bundle-at, input-stored, case-total}
+use Rattle.state.specs.Tables.{input-stored, case-total}
 use Rattle.shown.specs.Sets.{Names, ShowsTarget, target-size, SameBundle}
 use Rattle.shown.specs.States.{ShowsReturned, ShowsState, ShowsCases, no-case}
 use Rattle.shown.specs.Kept.{Later, KeptRegion, same-bundle, same-bundle-then}
 use Rattle.lookups.specs.Shown.{or-false}
 use Rattle.merging.specs.Turns.{turned}
 use Rattle.merging.specs.Bundles.{input-count}
-use Rattle.merging.specs.Planning.{Planned, planned, also, per-case-deferred, unique-input, all-true, plan-input, plan-inputs, plan-bundle}
+use Rattle.merging.specs.Planning.{Planned, planned, also, per-case-deferred, unique-input, all-true, plan-input, plan-inputs}
+use Rattle.merging.specs.Planning.{plan-bundle}
 use Rattle.merging.specs.Planning.{plan-at, plan-bundles}
 use Rattle.merging.specs.Rows.{word-same, word-other, at-cons}
 use Rattle.merging.specs.Spare.{SpareOnly, spare-same, spare-word, spare-then, spare-there, spare-total, spare-later, spare-keeps}
@@ -33,7 +34,8 @@ use Rattle.merging.specs.Spare.{spare-state, spare-cases}
 use Rattle.merging.specs.Finds.{bundle-there}
 use Rattle.merging.specs.RewritingShown.{count-by}
 use Rattle.merging.specs.TargetsShown.{no-summary, ShowsRow, ShowsRows}
-use Rattle.merging.specs.PerCaseShown.{ShowsPassed, passes, passes-none, per-case, CaseAt, all-shown, unique-from-shown, case-at-stays, cases-at}
+use Rattle.merging.specs.PerCaseShown.{ShowsPassed, passes, passes-none, per-case, CaseAt, all-shown, unique-from-shown}
+use Rattle.merging.specs.PerCaseShown.{case-at-stays, cases-at}
 
 -- ---- A planned bundle in a row: an input that is to be merged is 65535, a condition that is to be made 0.
 pub data ShowsPlannedInput (a : ℕ) : PlannedInput → Type 0 where
@@ -132,7 +134,8 @@ module _ (g : Graph) (o : ℕ) (r : ℕ) (x : DeferredTarget) (cs : List MaybeCl
         before = λ z h. ih .before z (omega arith) ∙ other z (omega arith);
         behind = λ z h. ih .behind z (omega arith) ∙ other z (omega arith);
         each = at-cons (λ z i. ShowsPlannedInput (word (turned input-step (planned l₁ b₁) n (suc k) .words) bundles (7 * q + (3 + z))) i)
-            no-input k (length (nesting.plan-inputs g n (suc k) x cs (per-case x cs))) (nesting.plan-inputs g n (suc k) x cs (per-case x cs))
+            no-input k (length (nesting.plan-inputs g n (suc k) x cs (per-case x cs)))
+            (nesting.plan-inputs g n (suc k) x cs (per-case x cs))
             (rw (ih .before (7 * q + (3 + k)) (omega arith), word-same l bundles (7 * q + (3 + k)) v (omega arith) full (omega arith))
             (planned-shown k (target-type g x k) (per-case x cs) shown)) (ih .each);
         needed = ih .needed
@@ -153,7 +156,30 @@ or-true : (b : Bool) → true ≡ (b || true)
 or-true true = refl
 or-true false = refl
 
--- ---- A row.
+-- ---- A row, before and after; where its bundle stays, it does.
+row-stays : {g : Graph} {l l′ : List ℕ} {p : ℕ} {t : DeferredTargetSummary} → SameBundle l l′ p → ShowsRow g l p t → ShowsRow g l′ p t
+row-stays same row =
+    record {
+      target = rw (same .words 0 (omega arith)) (row .target);
+      count = same .words 1 (omega arith) ∙ row .count;
+      condition = same .words 2 (omega arith) ∙ row .condition;
+      size = row .size;
+      few = row .few;
+    }
+
+pub planned-stays : {g : Graph} {l l′ : List ℕ} {p : ℕ} {b : PlannedBundle} → SameBundle l l′ p → ShowsPlanned g l p b
+    → ShowsPlanned g l′ p b
+planned-stays same x =
+    let few = x .few in
+    record {
+      target = rw (same .words 0 (omega arith)) (x .target);
+      count = same .words 1 (omega arith) ∙ x .count;
+      condition = rw (same .words 2 (omega arith)) (x .condition);
+      size = x .size;
+      few = x .few;
+      inputs = λ k h. rw (same .words (3 + k) (omega arith)) (x .inputs k h);
+    }
+
 module _ (g : Graph) (valid : Valid g) (o : ℕ) (below : o + 33 ≤ 1089) (r : ℕ) (cs : List MaybeClaimedRegion) where
   record BundlePlanned (l : List ℕ) (y : Planned) (q : ℕ) (b : PlannedBundle) : Type 0 where
     pub spare : SpareOnly o l (y .words)
@@ -174,7 +200,8 @@ module _ (g : Graph) (valid : Valid g) (o : ℕ) (below : o + 33 ≤ 1089) (r : 
     is = nesting.plan-inputs g (t .input-count) 0 x cs (per-case x cs)
 
     cases-here : (j : ℕ) → j < length cs → CaseAt g o l r x places j (getD cs j no-case)
-    cases-here j h = subst (λ z. CaseAt g z l r x places j (getD cs j no-case)) at (cases-at g valid l r y (word l bundles (7 * q + 0)) (row .target) j h)
+    cases-here j h = subst (λ z. CaseAt g z l r x places j (getD cs j no-case)) at
+        (cases-at g valid l r y (word l bundles (7 * q + 0)) (row .target) j h)
 
     abbrev inputs : Planned
     inputs = turned (input-step g o r x cs places q from to below) (planned l false) (t .input-count) 0
@@ -223,10 +250,12 @@ module _ (g : Graph) (valid : Valid g) (o : ℕ) (below : o + 33 ≤ 1089) (r : 
             few = omega arith;
             inputs = λ k h. let e : 0 + k ≡ k = omega arith in rw e at (p .each k h);
           };
-          others = λ z d. record { words = λ i h. elim (decLt z q) [
-            | yes a ↦ p .before (7 * z + i) (omega arith)
-            | no a ↦ p .behind (7 * z + i) (omega arith)
-          ] };
+          others = λ z d. record {
+            words = λ i h. elim (decLt z q) [
+              | yes a ↦ p .before (7 * z + i) (omega arith)
+              | no a ↦ p .behind (7 * z + i) (omega arith)
+            ];
+          };
           needed = p .needed ∙ none-before (any needs-output is) ∙ sym (or-false (any needs-output is));
         }
     planned-by false =
@@ -240,15 +269,18 @@ module _ (g : Graph) (valid : Valid g) (o : ℕ) (below : o + 33 ≤ 1089) (r : 
           shown = record {
             target = rw (other (7 * q + 0) (omega arith), p .before (7 * q + 0) (omega arith)) (row .target);
             count = other (7 * q + 1) (omega arith) ∙ p .before (7 * q + 1) (omega arith) ∙ row .count;
-            condition = to-be-made (word-same (inputs .words) bundles (7 * q + 2) 0 (omega arith) (rw (p .spare .words) full) (omega arith));
+            condition = to-be-made (word-same (inputs .words) bundles (7 * q + 2) 0 (omega arith) (rw (p .spare .words) full)
+                (omega arith));
             size = size ∙ row .size;
             few = omega arith;
             inputs = λ k h. let e : 0 + k ≡ k = omega arith in rw (other (7 * q + (3 + k)) (omega arith)) (rw e at (p .each k h));
           };
-          others = λ z d. record { words = λ i h. other (7 * z + i) (omega arith) ∙ elim (decLt z q) [
-            | yes a ↦ p .before (7 * z + i) (omega arith)
-            | no a ↦ p .behind (7 * z + i) (omega arith)
-          ] };
+          others = λ z d. record {
+            words = λ i h. other (7 * z + i) (omega arith) ∙ elim (decLt z q) [
+              | yes a ↦ p .before (7 * z + i) (omega arith)
+              | no a ↦ p .behind (7 * z + i) (omega arith)
+            ];
+          };
           needed = or-true (any needs-output is);
         }
 
@@ -257,28 +289,6 @@ module _ (g : Graph) (valid : Valid g) (o : ℕ) (below : o + 33 ≤ 1089) (r : 
     bundle-planned = rw (as-inputs, all-are) (planned-by (nesting.all-true (per-case x cs)))
 
   -- ---- All rows, from row i on.
-  row-stays : {l l′ : List ℕ} {p : ℕ} {t : DeferredTargetSummary} → SameBundle l l′ p → ShowsRow g l p t → ShowsRow g l′ p t
-  row-stays same row =
-      record {
-        target = rw (same .words 0 (omega arith)) (row .target);
-        count = same .words 1 (omega arith) ∙ row .count;
-        condition = same .words 2 (omega arith) ∙ row .condition;
-        size = row .size;
-        few = row .few;
-      }
-
-  planned-stays : {l l′ : List ℕ} {p : ℕ} {b : PlannedBundle} → SameBundle l l′ p → ShowsPlanned g l p b → ShowsPlanned g l′ p b
-  planned-stays same x =
-      let few = x .few in
-      record {
-        target = rw (same .words 0 (omega arith)) (x .target);
-        count = same .words 1 (omega arith) ∙ x .count;
-        condition = rw (same .words 2 (omega arith)) (x .condition);
-        size = x .size;
-        few = x .few;
-        inputs = λ k h. rw (same .words (3 + k) (omega arith)) (x .inputs k h);
-      }
-
   record RowsPlanned (l : List ℕ) (b : Bool) (y : Planned) (i : ℕ) (bs : List PlannedBundle) : Type 0 where
     pub spare : SpareOnly o l (y .words)
     pub same-lengths : section (y .words) set-lengths ≡ section l set-lengths
@@ -312,7 +322,8 @@ module _ (g : Graph) (valid : Valid g) (o : ℕ) (below : o + 33 ≤ 1089) (r : 
       (λ k h. let e : suc i + k ≡ i + suc k = omega arith in
       rw e (row-stays (one .others (o + (i + suc k)) (omega arith)) (rows (suc k) (omega arith)))) b₁ in
       let y′ = turned (plan-at o g) (planned l₁ b₁) (length ts) (suc i) in
-      subst (λ p. RowsPlanned l b (turned (plan-at o g) (planned (plan-bundle g l p .words) (pick (plan-bundle g l p .needed) true b)) (length ts)
+      subst (λ p. RowsPlanned l b (turned (plan-at o g) (planned (plan-bundle g l p .words) (pick (plan-bundle g l p .needed) true b))
+      (length ts)
       (suc i)) i (nesting.plan-bundle g cs t ∷ bs)) (sym (bundle-there o i (omega arith) (omega arith)))
       (record {
         spare = spare-then sp (ih .spare);

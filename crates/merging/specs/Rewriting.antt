@@ -66,7 +66,8 @@ front-bundle g l p = front-turned (λ l. l) (λ m k. rewrite-input m p k)
 
 front-set : (g : Graph) (l : List ℕ) (start n : ℕ) → SameFront l (rewrite-set g l start n)
 unfolding rewrite-set
-front-set g l start n = front-turned (λ l. l) (λ m i. rewrite-bundle g m (bundle-at start i)) (λ m i. front-bundle g m (bundle-at start i)) n l 0
+front-set g l start n = front-turned (λ l. l) (λ m i. rewrite-bundle g m (bundle-at start i))
+    (λ m i. front-bundle g m (bundle-at start i)) n l 0
 
 front-inputs : (g : Graph) (l : List ℕ) (j : ℕ) → SameFront l (rewrite-inputs g l j)
 unfolding rewrite-inputs rewrite-case-input

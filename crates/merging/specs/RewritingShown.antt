@@ -11,14 +11,17 @@ use Rattle.meaning.specs.Lists.{any}
 use Rattle.meaning.specs.Graph.{Value, Graph, region, undef}
 use Rattle.format.specs.Valid.{Valid}
 use Rattle.nesting.specs.Nesting as nesting
-use Rattle.nesting.specs.Nesting.{NestState, StructurizeRegionState, done, with-twice, DeferredTarget, DeferredEdgeBundle, DeferredEdgeBundleSet, LookUp}
+use Rattle.nesting.specs.Nesting.{NestState, StructurizeRegionState, done, with-twice, DeferredTarget, DeferredEdgeBundle}
+use Rattle.nesting.specs.Nesting.{DeferredEdgeBundleSet, LookUp}
 use Rattle.nesting.specs.Nesting.{ClaimedRegion, claimed-as, MaybeClaimedRegion, ok, err, deferred-of, look-up-bundle, look-up-case}
 use Rattle.nesting.specs.lookups.ChainEnds.{ChainsEnd}
-use Rattle.state.specs.Sections.{Section, number, front, section, word, head, kinds, backedges, set-starts, set-lengths, children, bodies, levels, cases, rewrites, conditions, cells, bundles}
+use Rattle.state.specs.Sections.{Section, number, front, section, word, head, kinds, backedges, set-starts, set-lengths, children, bodies}
+use Rattle.state.specs.Sections.{levels, cases, rewrites, conditions, cells, bundles}
 use Rattle.state.specs.Tables.{input-word, input-stored, bundle-at, case-total}
 use Rattle.shown.specs.Tables.{ShowsTables}
 use Rattle.shown.specs.Sets.{Names, ShowsTarget, shows-region, shows-return, target-size, ShowsBundle, ShowsSet, SameBundle, no-bundle}
-use Rattle.shown.specs.States.{Slots, ShowsReturned, NamedRewrites, ShowsState, ShowsCases, ShowsCase, shows-ok, shows-nothing, shows-edge, shows-others, no-case}
+use Rattle.shown.specs.States.{Slots, ShowsReturned, NamedRewrites, ShowsState, ShowsCases, ShowsCase, shows-ok, shows-nothing, shows-edge}
+use Rattle.shown.specs.States.{shows-others, no-case}
 use Rattle.shown.specs.States.{ShowsRegion, is-not-begun, is-in-progress, is-ready, is-claimed}
 use Rattle.shown.specs.Front.{stands-on}
 use Rattle.shown.specs.Kept.{Later, KeptRegion, bundle-stays, set-stays, same-bundle, same-bundle-then}
@@ -117,7 +120,8 @@ module _ (g : Graph) (valid : Valid g) where
     as-row =
         let few = x .few in
         rw (count-by l (word l bundles (7 * p + 0)) back (x .target), ← x .size)
-        (turned-same (λ m k. rewrite-input m p k) (λ m k. rewrite-word bundles m (7 * p + (3 + k))) 4 (input-as-word p) (length vs) l 0 (omega arith))
+        (turned-same (λ m k. rewrite-input m p k) (λ m k. rewrite-word bundles m (7 * p + (3 + k))) 4 (input-as-word p) (length vs) l 0
+        (omega arith))
 
     row-is : RowShown bundles (7 * p) 3 s l row 0 vs
     row-is =
@@ -436,7 +440,8 @@ module _ (g : Graph) (valid : Valid g) where
   case-step m i = rewrite-case g m i
 
   -- A set stays where its case's fields and its bundles do.
-  moved-set : {l l′ : List ℕ} → Stays l l′ → (j : ℕ) → ((i : ℕ) → i < word l cases (10 * j + 5) → SameBundle l l′ (word l cases (10 * j + 4) + i))
+  moved-set : {l l′ : List ℕ} → Stays l l′ → (j : ℕ) →
+      ((i : ℕ) → i < word l cases (10 * j + 5) → SameBundle l l′ (word l cases (10 * j + 4) + i))
       → {d : DeferredEdgeBundleSet} → ShowsSet g l (word l cases (10 * j + 4)) (word l cases (10 * j + 5)) d
       → ShowsSet g l′ (word l′ cases (10 * j + 4)) (word l′ cases (10 * j + 5)) d
   moved-set st j same x =
@@ -463,7 +468,8 @@ module _ (g : Graph) (valid : Valid g) where
   cases-turned r (c ∷ cs) s all l t names back j few each sets apart =
       let here : j + 0 ≡ j = omega arith in
       let first : ShowsCase g l r j c = rw here at (each 0 (omega arith)) in
-      let first-set : ShowsSet g l (word l cases (10 * j + 4)) (word l cases (10 * j + 5)) (deferred-of c) = rw here at (sets 0 (omega arith)) in
+      let first-set : ShowsSet g l (word l cases (10 * j + 4)) (word l cases (10 * j + 5)) (deferred-of c) = rw here at
+      (sets 0 (omega arith)) in
       let first-apart : (b p q : ℕ) → b < length cs → p < word l cases (10 * j + 5) → q < word l cases (10 * (j + suc b) + 5)
       → word l cases (10 * j + 4) + p ≡ word l cases (10 * (j + suc b) + 4) + q → ⊥ =
       λ b p q h x y e. apart 0 (suc b) p q (omega arith) (omega arith) (rw here x) y (rw here e) in
@@ -494,7 +500,8 @@ module _ (g : Graph) (valid : Valid g) where
         stays = stays-then st (ih .stays);
         each = at-cons (λ q x. ShowsCase g l′ r q x) no-case j (length cs) us
             (inputs-stay (ih .stays) r j (λ k h. ih .before (10 * j + (6 + k)) (omega arith)) (one .shown)) (ih .each);
-        sets = at-cons (λ q x. ShowsSet g l′ (word l′ cases (10 * q + 4)) (word l′ cases (10 * q + 5)) (deferred-of x)) no-case j (length cs) us
+        sets = at-cons (λ q x. ShowsSet g l′ (word l′ cases (10 * q + 4)) (word l′ cases (10 * q + 5)) (deferred-of x)) no-case j
+            (length cs) us
             (moved-set (ih .stays) j (λ i d. ih .outside (word l₁ cases (10 * j + 4) + i) (λ k p a b e.
             first-apart k i p a (rw (length-of j) at d) (rw (next k, length-of (j + suc k)) at b)
             (rw (next k, start-of j, start-of (j + suc k)) at e))) (one .set))

@@ -77,7 +77,8 @@ pub no-note : (s : NestState) → with-twice false s ≡ s
 no-note s = ap (λ b. nest-state (s .region-states) (s .region-input-rewrites) (s .node-outputs) (counts-of s) b) (or-false (s .twice))
 
 pub two-notes : (a b : Bool) (s : NestState) → with-twice b (with-twice a s) ≡ with-twice (a || b) s
-two-notes a b s = ap (λ x. nest-state (s .region-states) (s .region-input-rewrites) (s .node-outputs) (counts-of s) x) (or-assoc (s .twice) a b)
+two-notes a b s = ap (λ x. nest-state (s .region-states) (s .region-input-rewrites) (s .node-outputs) (counts-of s) x)
+    (or-assoc (s .twice) a b)
 
 -- ---- The words of section k from b + c on.
 abbrev pub rewrite-word : Section → List ℕ → ℕ → List ℕ
@@ -177,6 +178,7 @@ module _ (k : Section) (away : Elsewhere k) (room : start k + size k ≤ used) (
         before = λ x h. ih .before x (omega arith) ∙ other x (omega arith);
         behind = λ x h. ih .behind x (omega arith) ∙ other x (omega arith);
         tables = subst (λ z. ShowsTables (turned row-step l₁ (length vs) (suc i)) z) (two-notes b (met-twice s vs) s) (ih .tables);
-        named = at-cons (λ q u. Names (word (turned row-step l₁ (length vs) (suc i)) k (o + (c + q))) u) (undef 0) i (length vs) (looked-up s vs)
+        named = at-cons (λ q u. Names (word (turned row-step l₁ (length vs) (suc i)) k (o + (c + q))) u) (undef 0) i (length vs)
+            (looked-up s vs)
             (rw (ih .before (o + (c + i)) (omega arith)) (step-named s all l t names i at v first)) (ih .named);
       }

@@ -3,18 +3,19 @@ use mathlib.Core.Path.{_≡_, refl, sym, ap, _∙_}
 use mathlib.Core.List.{List, [], _∷_}
 use Prim.Native.Nat.{ℕ, suc, _+_, _*_, _-_, _≤_, _<_}
 use native.Mathlib.Omega.{arith}
-use native.Mathlib.Decide.{decLt, ℕ-discrete}
+use native.Mathlib.Decide.{decLt}
 use lib.ListN.{length, getD}
 use Rattle.meaning.specs.Graph.{Graph}
 use Rattle.format.specs.Valid.{Valid}
-use Rattle.nesting.specs.Nesting.{NestState, MaybeClaimedRegion, ClaimedRegion, DeferredEdgeBundleSet}
-use Rattle.state.specs.Sections.{Section, number, start, size, front, section, word, stored, stored-all, stored-all-at, head, kinds, backedges, set-starts}
+use Rattle.nesting.specs.Nesting.{NestState, MaybeClaimedRegion}
+use Rattle.state.specs.Sections.{Section, number, start, size, front, section, word, stored, stored-all, stored-all-at, head, kinds}
+use Rattle.state.specs.Sections.{backedges, set-starts}
 use Rattle.state.specs.Sections.{set-lengths, children, bodies, levels, cases, rewrites, outputs, conditions, cells, bundles}
 use Rattle.state.specs.Tables.{case-total}
 use Rattle.state.specs.Apart.{stored-length, section-other}
 use Rattle.shown.specs.Elsewhere.{SameTables, tables-stay, condition-there}
 use Rattle.shown.specs.Front.{stands-on}
-use Rattle.shown.specs.Sets.{SameBundle, ShowsSet}
+use Rattle.shown.specs.Sets.{SameBundle}
 use Rattle.shown.specs.States.{Slots, ShowsState, ShowsCases, ShowsCase, shows-ok, shows-nothing, shows-edge, shows-others}
 use Rattle.shown.specs.Kept.{Later, KeptRegion, set-stays, region-stays}
 use Rattle.merging.specs.Rows.{word-other, named-stay}
@@ -130,7 +131,8 @@ module _ {o : ℕ} {w w′ : List ℕ} (y : SpareOnly o w w′) where
     spare-keeps q h =
         let a = slots .starts q (omega arith) in
         let b = slots .starts 32 (omega arith) in
-        let apart : slots .slot-number q ≡ slots .slot-number 32 → ⊥ = λ e. (let f = slots .own q 32 (omega arith) (omega arith) e in omega arith) in
+        let apart : slots .slot-number q ≡ slots .slot-number 32 → ⊥ =
+        λ e. (let f = slots .own q 32 (omega arith) (omega arith) e in omega arith) in
         record {
           set-start = spare-there set-starts (omega arith) (omega arith) q;
           set-length = y .lengths q (omega arith);
@@ -171,7 +173,8 @@ module _ {o : ℕ} {w w′ : List ℕ} (y : SpareOnly o w w′) where
           each = λ j h. case-stays (spare-later g) r j (spare-there set-starts (omega arith) (omega arith)) (λ i b. f (10 * j + i))
               (λ k b. f (10 * j + (6 + k))) (x .each j h);
           sets = λ j h. rw (f (10 * j + 4), f (10 * j + 5)) (set-stays (spare-later g) (λ i b.
-              spare-outside (word w cases (10 * j + 4) + i) (λ k c e. x .not-spare j i k h b c (e ∙ ap (λ z. z + k) (sym spare)))) (x .sets j h));
+              spare-outside (word w cases (10 * j + 4) + i) (λ k c e. x .not-spare j i k h b c (e ∙ ap (λ z. z + k) (sym spare))))
+              (x .sets j h));
           apart = λ i j p q a b. rw (f (10 * i + 5), f (10 * j + 5), f (10 * i + 4), f (10 * j + 4)) (x .apart i j p q a b);
           not-spare = λ j p q a. rw (f (10 * j + 5), f (10 * j + 4), spare-there set-starts (omega arith) (omega arith) 32)
               (x .not-spare j p q a);

@@ -17,16 +17,17 @@ use Rattle.nesting.specs.Nesting as nesting
 use Rattle.nesting.specs.Nesting.{DeferredTarget, to-region, to-return, DeferredEdgeBundle, DeferredEdgeBundleSet, same-target}
 use Rattle.nesting.specs.Nesting.{NestState, DeferredTargetSummary, MaybeClaimedRegion, deferred-of}
 use Rattle.state.specs.Sections.{start, size, used, section, word, stored, stored-all, set-starts, set-lengths, cases, bundles}
-use Rattle.state.specs.Tables.{find-by, bundle-at, case-total}
+use Rattle.state.specs.Tables.{find-by, bundle-at}
 use Rattle.state.specs.Apart.{section-other}
-use Rattle.shown.specs.Stores.{run-before, run-behind, run-in, section-run, run-length, part-length}
+use Rattle.shown.specs.Stores.{run-before, run-in, section-run, run-length, part-length}
 use Rattle.shown.specs.Sets.{ShowsTarget, shows-region, shows-return, target-size, ShowsBundle, ShowsSet, no-bundle}
 use Rattle.shown.specs.States.{ShowsState, ShowsCases, no-case}
 use Rattle.shown.specs.Kept.{Later, KeptRegion, bundle-stays, set-stays}
 use Rattle.merging.specs.Turns.{turned}
-use Rattle.merging.specs.Targets.{plus, row-added, edges-added, summarize-bundle, summarize-set, summarize-case, deferred-targets}
+use Rattle.merging.specs.Targets.{plus, summarize-bundle, summarize-set, summarize-case, deferred-targets}
 use Rattle.merging.specs.Rows.{word-same, word-other}
-use Rattle.merging.specs.Spare.{SpareOnly, spare-same, spare-word, spare-length, spare-three, spare-then, spare-there, spare-later, spare-outside}
+use Rattle.merging.specs.Spare.{SpareOnly, spare-same, spare-word, spare-length, spare-three, spare-then, spare-there, spare-later}
+use Rattle.merging.specs.Spare.{spare-outside}
 use Rattle.merging.specs.Spare.{spare-keeps, spare-state, spare-cases}
 use Rattle.merging.specs.Pigeonhole.{pigeonhole}
 use Rattle.merging.specs.Finds.{bundle-there, FirstTo, first-at, none-to, words-as-targets, finds}
@@ -155,15 +156,19 @@ module _ (g : Graph) (valid : Valid g) where
     where
       number : ℕ → ℕ
       number k = pick (ltb k (length ts)) (target-number (word l bundles (7 * (o + k) + 0))) (target-number t)
+
       old : (k : ℕ) → k < length ts → number k ≡ target-number (word l bundles (7 * (o + k) + 0))
       old k h = rw (lt-ltb k (length ts) h)
+
       last : (k : ℕ) → length ts ≤ k → number k ≡ target-number t
       last k h = rw (le-ltb k (length ts) h)
+
       below : (k : ℕ) → k < suc (length ts) → number k < 33
       below k h = elim (decLt k (length ts)) [
         | yes c ↦ rw (old k c) (number-below (rows .each k c .target))
         | no c ↦ rw (last k (omega arith)) (number-below shown)
       ]
+
       apart : (i j : ℕ) → i < j → j < suc (length ts) → number i ≡ number j → ⊥
       apart i j h k e = elim (decLt j (length ts)) [
         | yes c ↦ rows .apart i j h c (number-own (rows .each i (omega arith) .target) (rows .each j c .target)
@@ -195,27 +200,28 @@ module _ (g : Graph) (valid : Valid g) where
       as-counted b f =
           rw (at, rows .size, f, ne-eqb (o + i) 65535 (omega arith), rows .each i h .count, x .count, no-clip _ _ b)
 
-      row-counted : (k : ℕ) → k < length ts → ShowsRow g counted (o + k) (getD (set ts i (with-edges e (getD ts i no-summary))) k no-summary)
+      row-counted : (k : ℕ) → k < length ts → ShowsRow g counted (o + k)
+          (getD (set ts i (with-edges e (getD ts i no-summary))) k no-summary)
       row-counted k b =
           let few = rows .few in
           let row = rows .each k b in
           let other = word-other l bundles (7 * (o + i) + 1) (getD ts i no-summary .total-edge-count + e .accumulated-count) in
           elim (ℕ-discrete k i) [
             | yes z ↦ rw (z, getD-set-same ts i (with-edges e (getD ts i no-summary)) no-summary h) (record {
-                target = rw (other (7 * (o + i) + 0) (omega arith)) (rows .each i h .target);
-                count = word-same l bundles (7 * (o + i) + 1) (getD ts i no-summary .total-edge-count + e .accumulated-count)
-                    (omega arith) full (omega arith);
-                condition = other (7 * (o + i) + 2) (omega arith) ∙ rows .each i h .condition;
-                size = rows .each i h .size;
-                few = rows .each i h .few;
-              })
+              target = rw (other (7 * (o + i) + 0) (omega arith)) (rows .each i h .target);
+              count = word-same l bundles (7 * (o + i) + 1) (getD ts i no-summary .total-edge-count + e .accumulated-count)
+                  (omega arith) full (omega arith);
+              condition = other (7 * (o + i) + 2) (omega arith) ∙ rows .each i h .condition;
+              size = rows .each i h .size;
+              few = rows .each i h .few;
+            })
             | no z ↦ rw (getD-set-other ts i k (with-edges e (getD ts i no-summary)) no-summary z) (record {
-                target = rw (other (7 * (o + k) + 0) (omega arith)) (row .target);
-                count = other (7 * (o + k) + 1) (omega arith) ∙ row .count;
-                condition = other (7 * (o + k) + 2) (omega arith) ∙ row .condition;
-                size = row .size;
-                few = row .few;
-              })
+              target = rw (other (7 * (o + k) + 0) (omega arith)) (row .target);
+              count = other (7 * (o + k) + 1) (omega arith) ∙ row .count;
+              condition = other (7 * (o + k) + 2) (omega arith) ∙ row .condition;
+              size = row .size;
+              few = row .few;
+            })
           ]
 
       rows-counted : RowsAfter o l counted (set ts i (with-edges e (getD ts i no-summary)))
@@ -227,7 +233,8 @@ module _ (g : Graph) (valid : Valid g) where
           record {
             spare = spare-word o l (7 * (o + i) + 1) sum (omega arith) (omega arith);
             rows = record {
-              size = ap (λ z. getD z 32 0) (section-other l bundles (7 * (o + i) + 1) sum set-lengths (omega arith)) ∙ rows .size ∙ sym same;
+              size = ap (λ z. getD z 32 0) (section-other l bundles (7 * (o + i) + 1) sum set-lengths (omega arith))
+                  ∙ rows .size ∙ sym same;
               few = rw same few;
               each = λ k b. row-counted k (rw same at b);
               apart = λ a b c d. rw (other (7 * (o + a) + 0) (omega arith), other (7 * (o + b) + 0) (omega arith))
@@ -241,7 +248,8 @@ module _ (g : Graph) (valid : Valid g) where
       n = length ts
 
       new-word : (k : ℕ) → k < n → word l bundles (7 * (o + k) + 0) ≡ t → ⊥
-      new-word k h = eqb-false (word l bundles (7 * (o + k) + 0)) t (words-as-targets g valid (x .target) (rows .each k h .target) ∙ new k h)
+      new-word k h = eqb-false (word l bundles (7 * (o + k) + 0)) t
+          (words-as-targets g valid (x .target) (rows .each k h .target) ∙ new k h)
 
       there-was-room : n < 33
       there-was-room = rows-few l o t (x .target) rows new-word
@@ -307,7 +315,8 @@ module _ (g : Graph) (valid : Valid g) where
               few = omega arith;
               each = λ k b. row-added-at k (omega arith);
               apart = λ i j a b f. elim (decLt j n) [
-                | yes c ↦ rows .apart i j a c (sym (old-word (7 * (o + i) + 0) (omega arith)) ∙ f ∙ old-word (7 * (o + j) + 0) (omega arith))
+                | yes c ↦ rows .apart i j a c (sym (old-word (7 * (o + i) + 0) (omega arith)) ∙ f ∙ old-word (7 * (o + j) + 0)
+                    (omega arith))
                 | no c ↦ (
                     let z : j ≡ n = omega arith in
                     new-word i (omega arith) (sym (old-word (7 * (o + i) + 0) (omega arith)) ∙ (rw z at f) ∙ shown))

@@ -34,7 +34,9 @@ is-true-requires : tie.Need-is-true-requires Inv-loop μ-loop
 is-true-requires c κs = search needs
 
 returns : tie.Need-returns Inv-loop μ-loop
-returns c = all-fails _ _ _ _ (c .before .before .before .before .before .loop .inv .1) (c .before .before .before .before .loop-test .taken) refl (c .before .before .per-case-condition .ensures) (c .before .is-true .ensures)
+returns c = all-fails _ _ _ _ (c .before .before .before .before .before .loop .inv .1)
+    (c .before .before .before .before .loop-test .taken) refl (c .before .before .per-case-condition .ensures)
+    (c .before .is-true .ensures)
     (not-true _ (c .if1 .taken))
 
 add-j : tie.Need-add-j Inv-loop μ-loop
@@ -46,7 +48,8 @@ loop-less c = search needs
 loop-again : tie.Need-loop-again Inv-loop μ-loop
 loop-again c = (
   c .before .before .before .before .before .loop .inv .0,
-  all-next _ _ _ _ (c .before .before .before .before .before .loop .inv .1) (c .before .before .before .before .loop-test .taken) refl (c .before .before .per-case-condition .ensures) (c .before .is-true .ensures)
+  all-next _ _ _ _ (c .before .before .before .before .before .loop .inv .1) (c .before .before .before .before .loop-test .taken) refl
+      (c .before .before .per-case-condition .ensures) (c .before .is-true .ensures)
       (not-false _ (c .if1 .left)),
 )
 

@@ -13,7 +13,8 @@ is-const-requires : tie.Need-is-const-requires
 is-const-requires c κs = search needs
 
 returns-2 : tie.Need-returns-2
-returns-2 c = parent-const _ _ _ _ (c .before .before .before .case-kind .ensures) (c .before .before .if1 .left) (c .before .is-const .ensures) (c .if2 .taken)
+returns-2 c = parent-const _ _ _ _ (c .before .before .before .case-kind .ensures) (c .before .before .if1 .left)
+    (c .before .is-const .ensures) (c .if2 .taken)
 
 is-input-requires : tie.Need-is-input-requires
 is-input-requires c κs = search needs
@@ -31,16 +32,25 @@ case-input-requires : tie.Need-case-input-requires
 case-input-requires c κs = search needs
 
 returns-3 : tie.Need-returns-3
-returns-3 c = parent-given _ _ _ _ (c .before .before .before .before .before .before .before .before .before .before .case-kind .ensures) (c .before .before .before .before .before .before .before .before .before .if1 .left) (c .before .before .before .before .before .before .before .before .is-const .ensures) (c .before .before .before .before .before .before .before .if2 .left)
-    (c .before .before .before .before .before .before .is-input .ensures) (c .before .before .before .before .before .if3 .taken) (c .before .before .before .before .input-region .ensures) (c .before .before .before .case-body .ensures) (c .before .before .if4 .taken)
+returns-3 c = parent-given _ _ _ _ (c .before .before .before .before .before .before .before .before .before .before .case-kind .ensures)
+    (c .before .before .before .before .before .before .before .before .before .if1 .left)
+    (c .before .before .before .before .before .before .before .before .is-const .ensures)
+    (c .before .before .before .before .before .before .before .if2 .left)
+    (c .before .before .before .before .before .before .is-input .ensures) (c .before .before .before .before .before .if3 .taken)
+    (c .before .before .before .before .input-region .ensures) (c .before .before .before .case-body .ensures)
+    (c .before .before .if4 .taken)
     (c .before .input-index .ensures) (c .case-input .ensures)
 
 returns-4 : tie.Need-returns-4
-returns-4 c = parent-elsewhere _ _ _ _ (c .before .before .before .before .before .before .before .before .case-kind .ensures) (c .before .before .before .before .before .before .before .if1 .left) (c .before .before .before .before .before .before .is-const .ensures) (c .before .before .before .before .before .if2 .left)
-    (c .before .before .before .before .is-input .ensures) (c .before .before .before .if3 .taken) (c .before .before .input-region .ensures) (c .before .case-body .ensures) (c .if4 .left)
+returns-4 c = parent-elsewhere _ _ _ _ (c .before .before .before .before .before .before .before .before .case-kind .ensures)
+    (c .before .before .before .before .before .before .before .if1 .left)
+    (c .before .before .before .before .before .before .is-const .ensures) (c .before .before .before .before .before .if2 .left)
+    (c .before .before .before .before .is-input .ensures) (c .before .before .before .if3 .taken)
+    (c .before .before .input-region .ensures) (c .before .case-body .ensures) (c .if4 .left)
 
 returns-5 : tie.Need-returns-5
-returns-5 c = parent-none _ _ _ _ (c .before .before .before .before .before .case-kind .ensures) (c .before .before .before .before .if1 .left) (c .before .before .before .is-const .ensures) (c .before .before .if2 .left)
+returns-5 c = parent-none _ _ _ _ (c .before .before .before .before .before .case-kind .ensures)
+    (c .before .before .before .before .if1 .left) (c .before .before .before .is-const .ensures) (c .before .before .if2 .left)
     (c .before .is-input .ensures) (c .if3 .left)
 
 pub in-parent-spec : {M : Type 1} → statement M

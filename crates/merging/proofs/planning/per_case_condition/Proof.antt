@@ -16,7 +16,8 @@ condition-in-requires : tie.Need-condition-in-requires
 condition-in-requires c κs = search needs
 
 returns-3 : tie.Need-returns-3
-returns-3 c = condition-there _ _ _ _ (c .before .before .before .case-length .ensures) (c .before .before .if1 .left) (c .before .if2 .left) (c .condition-in .ensures)
+returns-3 c = condition-there _ _ _ _ (c .before .before .before .case-length .ensures) (c .before .before .if1 .left)
+    (c .before .if2 .left) (c .condition-in .ensures)
 
 pub per-case-condition-spec : {M : Type 1} → statement M
 per-case-condition-spec =

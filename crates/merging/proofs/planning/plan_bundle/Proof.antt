@@ -16,14 +16,19 @@ all-true-requires : tie.Need-all-true-requires
 all-true-requires c κs = search needs
 
 returns : tie.Need-returns
-returns c = bundle-true _ _ _ _ _ _ _ (c .before .before .before .before .before .before .before .before .target .ensures) (c .before .before .before .before .before .before .before .per-case-deferred .ensures) (c .before .before .before .before .plan-inputs .ensures)
+returns c = bundle-true _ _ _ _ _ _ _ (c .before .before .before .before .before .before .before .before .target .ensures)
+    (c .before .before .before .before .before .before .before .per-case-deferred .ensures)
+    (c .before .before .before .before .plan-inputs .ensures)
     (c .before .all-true .ensures) (c .if1 .taken)
 
 set-condition-requires : tie.Need-set-condition-requires
 set-condition-requires c κs = search needs
 
 returns-2 : tie.Need-returns-2
-returns-2 c = bundle-conditional _ _ _ _ _ _ _ (c .before .before .before .before .before .before .before .before .before .before .target .ensures) (c .before .before .before .before .before .before .before .before .before .per-case-deferred .ensures) (c .before .before .before .before .before .before .plan-inputs .ensures)
+returns-2 c = bundle-conditional _ _ _ _ _ _ _
+    (c .before .before .before .before .before .before .before .before .before .before .target .ensures)
+    (c .before .before .before .before .before .before .before .before .before .per-case-deferred .ensures)
+    (c .before .before .before .before .before .before .plan-inputs .ensures)
     (c .before .before .before .all-true .ensures) (c .before .before .if1 .left) (c .set-condition .ensures)
 
 pub plan-bundle-spec : {M : Type 1} → statement M

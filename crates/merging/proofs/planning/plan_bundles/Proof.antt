@@ -36,11 +36,13 @@ loop-less : tie.Need-loop-less Inv-loop μ-loop
 loop-less c = search needs
 
 loop-again : tie.Need-loop-again Inv-loop μ-loop
-loop-again c = bundles-next _ _ _ _ _ _ _ _ _ _ (c .before .before .before .before .before .loop .inv) (c .before .before .before .before .loop-test .taken) (c .before .before .bundle-at .ensures) (c .before .plan-bundle .ensures)
+loop-again c = bundles-next _ _ _ _ _ _ _ _ _ _ (c .before .before .before .before .before .loop .inv)
+    (c .before .before .before .before .loop-test .taken) (c .before .before .bundle-at .ensures) (c .before .plan-bundle .ensures)
     (⊎-elim (λ x. need-more _ (x .0 .taken) (x .1)) (λ x. need-same (x .0 .left) (x .1)) (c .if1 .came))
 
 returns : tie.Need-returns Inv-loop μ-loop
-returns c = bundles-planned _ _ _ _ _ _ (c .before .before .before .before .set-start .ensures) (c .before .before .set-length .ensures) (c .loop-test .left) (c .before .loop .inv)
+returns c = bundles-planned _ _ _ _ _ _ (c .before .before .before .before .set-start .ensures) (c .before .before .set-length .ensures)
+    (c .loop-test .left) (c .before .loop .inv)
 
 pub plan-bundles-spec : {M : Type 1} → statement M
 plan-bundles-spec =

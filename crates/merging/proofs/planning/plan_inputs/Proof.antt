@@ -34,11 +34,13 @@ loop-less : tie.Need-loop-less Inv-loop μ-loop
 loop-less c = search needs
 
 loop-again : tie.Need-loop-again Inv-loop μ-loop
-loop-again c = inputs-next _ _ _ _ _ _ _ _ _ (c .before .before .before .before .loop .inv) (c .before .before .before .loop-test .taken) (c .before .plan-input .ensures)
+loop-again c = inputs-next _ _ _ _ _ _ _ _ _ (c .before .before .before .before .loop .inv) (c .before .before .before .loop-test .taken)
+    (c .before .plan-input .ensures)
     (⊎-elim (λ x. need-more _ (x .0 .taken) (x .1)) (λ x. need-same (x .0 .left) (x .1)) (c .if1 .came))
 
 returns : tie.Need-returns Inv-loop μ-loop
-returns c = inputs-planned _ _ _ _ _ _ _ _ (c .loop-test .left) (c .before .before .before .target .ensures) (c .before .before .input-count .ensures) (c .before .loop .inv)
+returns c = inputs-planned _ _ _ _ _ _ _ _ (c .loop-test .left) (c .before .before .before .target .ensures)
+    (c .before .before .input-count .ensures) (c .before .loop .inv)
 
 pub plan-inputs-spec : {M : Type 1} → statement M
 plan-inputs-spec =

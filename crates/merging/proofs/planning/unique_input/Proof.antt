@@ -1,4 +1,5 @@
-use Rattle.merging.specs.Planning.{unique-from, unique-input, few-total, unique-first, unique-last, unique-past, unique-differs, unique-next}
+use Rattle.merging.specs.Planning.{unique-from, unique-input, few-total, unique-first, unique-last, unique-past, unique-differs}
+use Rattle.merging.specs.Planning.{unique-next}
 use mathlib.Core.Path.{_≡_, refl}
 use mathlib.Core.Logic.{⊎-elim}
 use Prim.Native.Nat.{_-_, _≤_}
@@ -37,7 +38,9 @@ with-passed-requires : tie.Need-with-passed-requires Inv-loop μ-loop
 with-passed-requires c κs = search needs
 
 returns : tie.Need-returns Inv-loop μ-loop
-returns c = unique-differs _ _ _ _ _ _ (c .before .before .before .before .before .before .before .loop .inv .1) (c .before .before .before .before .before .before .loop-test .taken) _ refl (c .before .before .before .before .if1 .taken) (c .before .before .before .target-input .ensures)
+returns c = unique-differs _ _ _ _ _ _ (c .before .before .before .before .before .before .before .loop .inv .1)
+    (c .before .before .before .before .before .before .loop-test .taken) _ refl (c .before .before .before .before .if1 .taken)
+    (c .before .before .before .target-input .ensures)
     (c .before .before .in-parent .ensures) (c .before .with-passed .ensures) (c .if2 .taken)
 
 add-j : tie.Need-add-j Inv-loop μ-loop
@@ -51,9 +54,11 @@ loop-again c = (
   c .before .before .before .loop .inv .0,
   ⊎-elim
       (λ x. rw (x .5)
-      (unique-next _ _ _ _ _ _ (c .before .before .before .loop .inv .1) (c .before .before .loop-test .taken) _ refl (x .0 .taken) (x .1 .ensures) (x .2 .ensures)
+      (unique-next _ _ _ _ _ _ (c .before .before .before .loop .inv .1) (c .before .before .loop-test .taken) _ refl (x .0 .taken)
+      (x .1 .ensures) (x .2 .ensures)
       (x .3 .ensures) (x .4 .left)))
-      (λ x. rw (x .1) (unique-past _ _ _ _ _ _ (c .before .before .before .loop .inv .1) (c .before .before .loop-test .taken) _ refl (x .0 .left)))
+      (λ x. rw (x .1) (unique-past _ _ _ _ _ _ (c .before .before .before .loop .inv .1) (c .before .before .loop-test .taken) _ refl
+      (x .0 .left)))
       (c .if1 .came),
 )
 

@@ -16,7 +16,8 @@ rewrite-set-requires : tie.Need-rewrite-set-requires
 rewrite-set-requires c κs = search needs
 
 returns : tie.Need-returns
-returns c = case-path _ _ _ _ _ _ (c .before .before .before .before .before .before .rewrite-given .ensures) (c .before .before .before .before .case-start .ensures) (c .before .before .case-length .ensures) (c .rewrite-set .ensures)
+returns c = case-path _ _ _ _ _ _ (c .before .before .before .before .before .before .rewrite-given .ensures)
+    (c .before .before .before .before .case-start .ensures) (c .before .before .case-length .ensures) (c .rewrite-set .ensures)
 
 pub rewrite-case-spec : {M : Type 1} → statement M
 rewrite-case-spec =

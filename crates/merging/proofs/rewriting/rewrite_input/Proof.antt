@@ -13,7 +13,8 @@ set-target-input-requires : tie.Need-set-target-input-requires
 set-target-input-requires c κs = search needs
 
 returns : tie.Need-returns
-returns c = input-path _ _ _ _ _ _ _ (c .before .before .before .before .target-input .ensures) (c .before .before .rewrite .ensures) (c .set-target-input .ensures)
+returns c = input-path _ _ _ _ _ _ _ (c .before .before .before .before .target-input .ensures) (c .before .before .rewrite .ensures)
+    (c .set-target-input .ensures)
 
 pub rewrite-input-spec : {M : Type 1} → statement M
 rewrite-input-spec =

@@ -31,10 +31,12 @@ loop-less : tie.Need-loop-less Inv-loop μ-loop
 loop-less c = search needs
 
 loop-again : tie.Need-loop-again Inv-loop μ-loop
-loop-again c = rw (c .rewrite-case-input .ensures) (turn-next _ _ _ _ (c .before .before .before .loop .inv) (c .before .before .loop-test .taken))
+loop-again c = rw (c .rewrite-case-input .ensures)
+    (turn-next _ _ _ _ (c .before .before .before .loop .inv) (c .before .before .loop-test .taken))
 
 returns : tie.Need-returns Inv-loop μ-loop
-returns c = inputs-path _ _ _ _ _ _ (c .loop-test .left) (c .before .before .before .case-origin .ensures) (c .before .before .input-count .ensures) (c .before .loop .inv)
+returns c = inputs-path _ _ _ _ _ _ (c .loop-test .left) (c .before .before .before .case-origin .ensures)
+    (c .before .before .input-count .ensures) (c .before .loop .inv)
 
 pub rewrite-inputs-spec : {M : Type 1} → statement M
 rewrite-inputs-spec =

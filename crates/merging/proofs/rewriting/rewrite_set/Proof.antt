@@ -29,7 +29,8 @@ loop-less : tie.Need-loop-less Inv-loop μ-loop
 loop-less c = search needs
 
 loop-again : tie.Need-loop-again Inv-loop μ-loop
-loop-again c = left-next _ _ _ _ _ _ (c .before .before .before .before .loop .inv) (λ g m k. front-bundle g m (bundle-at _ k)) (c .before .before .before .loop-test .taken) _
+loop-again c = left-next _ _ _ _ _ _ (c .before .before .before .before .loop .inv) (λ g m k. front-bundle g m (bundle-at _ k))
+    (c .before .before .before .loop-test .taken) _
     (rw (c .before .bundle-at .ensures) at (c .rewrite-bundle .ensures))
 
 returns : tie.Need-returns Inv-loop μ-loop

@@ -37,11 +37,17 @@ loop-less : tie.Need-loop-less Inv-loop μ-loop
 loop-less c = search needs
 
 loop-again : tie.Need-loop-again Inv-loop μ-loop
-loop-again c = rw (c .summarize-set .ensures, c .before .before .case-length .ensures, c .before .before .before .before .case-start .ensures)
-    (turn-next _ _ _ _ (c .before .before .before .before .before .before .before .loop .inv) (c .before .before .before .before .before .before .loop-test .taken))
+loop-again c = rw (
+  c .summarize-set .ensures,
+  c .before .before .case-length .ensures,
+  c .before .before .before .before .case-start .ensures,
+)
+    (turn-next _ _ _ _ (c .before .before .before .before .before .before .before .loop .inv)
+    (c .before .before .before .before .before .before .loop-test .taken))
 
 returns : tie.Need-returns Inv-loop μ-loop
-returns c = targets-path _ _ _ _ _ (c .before .before .before .before .put-set-length .ensures) (c .before .before .case-count .ensures) (c .loop-test .left) (c .before .loop .inv)
+returns c = targets-path _ _ _ _ _ (c .before .before .before .before .put-set-length .ensures) (c .before .before .case-count .ensures)
+    (c .loop-test .left) (c .before .loop .inv)
 
 pub deferred-targets-spec : {M : Type 1} → statement M
 deferred-targets-spec =

@@ -31,9 +31,15 @@ put-set-length-requires : tie.Need-put-set-length-requires
 put-set-length-requires c κs = search needs
 
 returns : tie.Need-returns
-returns c = bundle-new _ _ _ _ _ _ _ (c .before .before .before .before .before .before .before .before .before .before .before .before .before .before .before .set-start .ensures) (c .before .before .before .before .before .before .before .before .before .before .before .before .before .set-length .ensures) (c .before .before .before .before .before .before .before .before .before .before .before .target .ensures) (c .before .before .before .before .before .before .before .before .before .accumulated-count .ensures)
-    (c .before .before .before .before .before .before .before .find-by-target .ensures) (c .before .before .before .before .before .before .if1 .taken) (c .before .before .before .before .bundle-at .ensures) (c .before .before .before .set-bundle .ensures) (c .before .plus .ensures)
-    (c .put-set-length .ensures)
+returns c =
+    let d = c .before .before .before .before .before .before .before .before in
+    bundle-new _ _ _ _ _ _ _ (d .before .before .before .before .before .before .before .set-start .ensures)
+    (d .before .before .before .before .before .set-length .ensures)
+    (d .before .before .before .target .ensures) (d .before .accumulated-count .ensures)
+    (c .before .before .before .before .before .before .before .find-by-target .ensures)
+    (c .before .before .before .before .before .before .if1 .taken) (c .before .before .before .before .bundle-at .ensures)
+    (c .before .before .before .set-bundle .ensures)
+    (c .before .plus .ensures) (c .put-set-length .ensures)
 
 accumulated-count-requires-2 : tie.Need-accumulated-count-requires-2
 accumulated-count-requires-2 c κs = search needs
@@ -45,8 +51,14 @@ set-accumulated-count-requires : tie.Need-set-accumulated-count-requires
 set-accumulated-count-requires c κs = search needs
 
 returns-2 : tie.Need-returns-2
-returns-2 c = bundle-there _ _ _ _ _ _ _ (c .before .before .before .before .before .before .before .before .before .before .before .before .before .before .set-start .ensures) (c .before .before .before .before .before .before .before .before .before .before .before .before .set-length .ensures) (c .before .before .before .before .before .before .before .before .before .before .target .ensures) (c .before .before .before .before .before .before .before .before .accumulated-count .ensures)
-    (c .before .before .before .before .before .before .find-by-target .ensures) (c .before .before .before .before .before .if1 .left) (c .before .before .before .accumulated-count2 .ensures) (c .before .plus2 .ensures)
+returns-2 c =
+    let d = c .before .before .before .before .before .before .before in
+    bundle-there _ _ _ _ _ _ _ (d .before .before .before .before .before .before .before .set-start .ensures)
+    (d .before .before .before .before .before .set-length .ensures)
+    (d .before .before .before .target .ensures) (d .before .accumulated-count .ensures)
+    (c .before .before .before .before .before .before .find-by-target .ensures)
+    (c .before .before .before .before .before .if1 .left) (c .before .before .before .accumulated-count2 .ensures)
+    (c .before .plus2 .ensures)
     (c .set-accumulated-count .ensures)
 
 pub summarize-bundle-spec : {M : Type 1} → statement M

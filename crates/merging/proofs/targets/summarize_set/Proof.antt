@@ -8,7 +8,8 @@ use Rattle.merging.proofs.targets.summarize_set.Statement.{statement}
 use Rattle.merging.proofs.targets.summarize_set.Tie as tie
 
 abbrev Inv-loop : tie.InvT-loop
-Inv-loop w₀ start n i₀ w i = turned (λ m k. summarize-bundle m (bundle-at start k)) w (n - i) i ≡ turned (λ m k. summarize-bundle m (bundle-at start k)) w₀ n 0
+Inv-loop w₀ start n i₀ w i = turned (λ m k. summarize-bundle m (bundle-at start k)) w (n - i) i ≡ turned
+    (λ m k. summarize-bundle m (bundle-at start k)) w₀ n 0
 
 abbrev μ-loop : tie.MeasureT-loop
 μ-loop w₀ start n i₀ w i = n - i
@@ -29,7 +30,8 @@ loop-less : tie.Need-loop-less Inv-loop μ-loop
 loop-less c = search needs
 
 loop-again : tie.Need-loop-again Inv-loop μ-loop
-loop-again c = rw (c .summarize-bundle .ensures, c .before .bundle-at .ensures) (turn-next _ _ _ _ (c .before .before .before .before .loop .inv) (c .before .before .before .loop-test .taken))
+loop-again c = rw (c .summarize-bundle .ensures, c .before .bundle-at .ensures)
+    (turn-next _ _ _ _ (c .before .before .before .before .loop .inv) (c .before .before .before .loop-test .taken))
 
 returns : tie.Need-returns Inv-loop μ-loop
 unfolding summarize-set
