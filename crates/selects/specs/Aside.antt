@@ -89,7 +89,8 @@ pub record PartsStay (g : Graph) (w w′ : List ℕ) (j : ℕ) : Type 0 where
   pub inputs : (k : ℕ) → k < 4 → word w′ cases (10 * j + (6 + k)) ≡ word w cases (10 * j + (6 + k))
   pub bundles : (p : ℕ) → p < word w cases (10 * j + 5) → SameBundle w w′ (word w cases (10 * j + 4) + p)
 
-pub parts-then : {g : Graph} {w w′ : List ℕ} {r j : ℕ} {m : MaybeClaimedRegion} → Slots w → r < 33 → PartsStay g w w′ j → CaseShown g w r j m
+pub parts-then : {g : Graph} {w w′ : List ℕ} {r j : ℕ} {m : MaybeClaimedRegion} → Slots w → r < 33 → PartsStay g w w′ j
+    → CaseShown g w r j m
     → ((c : ClaimedRegion) → m ≡ ok c → (word w kinds (c .origin) ≡ 3) × (c .origin ≡ r → ⊥)) → ShowsAlone g w′ r j (case-row w j) m
 parts-then {g} {w} {w′} {r} {j} slots below stay x claimed = go (x .case) (set-stays (stay .later) (stay .bundles) (x .set)) claimed
   where
