@@ -4,16 +4,11 @@ use mathlib.Core.List.{List, [], _∷_, map}
 use mathlib.Core.Option.{Option, none, some}
 use Prim.Native.Nat.{ℕ, zero, suc, _+_, _*_, _≤_, _<_}
 use native.Mathlib.Omega.{arith}
-use native.Mathlib.Decide.{decLt}
-use lib.ListN.{length, getD, List·getD-eq-default}
+use lib.ListN.{length, getD}
 use borrow.Author.Tests.{lt-ltb}
-use Rattle.meaning.specs.Lists.{All, Within}
-use Rattle.meaning.specs.Graph.{Value, Graph, region, nowhere, undef, output}
-use Rattle.meaning.specs.facts.Elements.{all-getD, all-map}
-use Rattle.format.specs.Valid.{Valid}
-use Rattle.format.specs.References.{return-types}
+use Rattle.meaning.specs.Graph.{Value, Graph, undef, output}
 use Rattle.nesting.specs.Nesting as nesting
-use Rattle.nesting.specs.Nesting.{DeferredTarget, to-region, to-return}
+use Rattle.nesting.specs.Nesting.{DeferredTarget}
 use Rattle.nesting.specs.Nesting.{LazyConds, MaybeClaimedRegion, PlannedInput, shared, merged, PlannedBundle, DefinedSelect}
 use Rattle.nesting.specs.Nesting.{conditions-of, NestState, StepAnswer, follow, give, emit-inputs, define-output}
 use Rattle.state.specs.declared.defined.Defined.the-variants.{Number}

@@ -1,5 +1,4 @@
 -- Types are bytes: those of regions' inputs as the graph is valid, those of what a Return has as the record was read.
-use mathlib.Core.Path.{_≡_, sym}
 use mathlib.Core.Bool.{Bool, true, false, _&&_}
 use mathlib.Core.List.{List, [], _∷_}
 use Prim.Native.Nat.{ℕ, zero, suc, _≤_, _<_}
@@ -7,7 +6,7 @@ use native.Mathlib.Omega.{arith}
 use native.Mathlib.Decide.{decLt}
 use lib.ListN.{length, getD, List·getD-eq-default}
 use lib.Dec.{eqb, ltb}
-use Rattle.meaning.specs.Lists.{All, Within, pick}
+use Rattle.meaning.specs.Lists.{Within, pick}
 use Rattle.meaning.specs.Graph.{Value, const, input, instr, output, bool, undef, held, no-value, Instr, Graph, region, nowhere}
 use Rattle.meaning.specs.facts.Elements.{all-getD, all-map, all-mapped}
 use Rattle.format.specs.Valid.{Valid, ValidInstrs, ValidRegion}
