@@ -10,3 +10,5 @@ pub mod ScansShown
 pub mod TurnsShown
 pub mod RegionsShown
 pub mod ClaimsShown
+pub mod SelectBodies
+pub mod ResolveShown
