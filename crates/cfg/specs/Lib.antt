@@ -12,3 +12,4 @@ pub mod RegionsShown
 pub mod ClaimsShown
 pub mod SelectBodies
 pub mod ResolveShown
+pub mod InstShown
