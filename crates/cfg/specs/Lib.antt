@@ -13,3 +13,6 @@ pub mod ClaimsShown
 pub mod StateShown
 pub mod Func
 pub mod WholeShown
+pub mod SelectBodies
+pub mod ResolveShown
+pub mod InstShown
