@@ -47,7 +47,7 @@ use Rattle.bundles.specs.CasesFilled as filling
 use Rattle.bundles.specs.CasesFilled.{Taken, filled-one, CasesShown, cases-filled-shown}
 use Rattle.bundles.specs.Appended.{row-alone, append-shown}
 use Rattle.selects.specs.SelectsShown.{shows-value}
-use Rattle.selects.specs.EmitsShown.{SmallTypes}
+use Rattle.selects.specs.SmallTypes.{SmallTypes}
 use Rattle.selects.specs.IntoShown.{into-shown}
 use Rattle.cfg.specs.ByInst as by-inst
 use Rattle.cfg.specs.ByInst.{AddsBlocks, no-blocks, some-blocks, AddsExit, exit-full, Branches, branches, Selects, selects}

@@ -23,7 +23,7 @@ use Rattle.bundles.specs.Words.{split-filled}
 use Rattle.bundles.specs.Targets.{condition-in-shown}
 use Rattle.bundles.specs.SplitFilled.{SplitShown, split-filled-shown}
 use Rattle.selects.specs.SelectsShown.{shows-lazy}
-use Rattle.selects.specs.EmitsShown.{SmallTypes}
+use Rattle.selects.specs.SmallTypes.{SmallTypes}
 use Rattle.selects.specs.IntoShown.{into-shown}
 use Rattle.cfg.specs.ByInst.{ResolvesBy, resolves, own-condition}
 use Rattle.cfg.specs.Left.{resolve-kinds}

@@ -16,6 +16,7 @@ set-length-requires c κs = search needs
 -- src/func.rt:37:9
 returns : tie.Need-returns
 returns c = no-edges _ _ (c .before .set-length .ensures) (c .if1 .taken)
+
 -- src/func.rt:40:32
 set-start-requires : tie.Need-set-start-requires
 set-start-requires c κs = search needs
@@ -31,12 +32,15 @@ target-requires c κs = search needs
 -- src/func.rt:41:13
 returns-2 : tie.Need-returns-2
 returns-2 c = return-edge _ _ (c .before .before .before .before .before .before .set-length .ensures) (c .before .before .before .before .if2 .taken) (c .before .before .before .set-start .ensures) (c .before .before .bundle-at .ensures) (c .before .target .ensures) (c .if3 .taken)
+
 -- src/func.rt:32:1
 returns-3 : tie.Need-returns-3
 returns-3 c = other-edge _ _ (c .before .before .before .before .before .before .set-length .ensures) (c .before .before .before .before .if2 .taken) (c .before .before .before .set-start .ensures) (c .before .before .bundle-at .ensures) (c .before .target .ensures) (c .if3 .left)
+
 -- src/func.rt:32:1
 returns-4 : tie.Need-returns-4
 returns-4 c = many-edges _ _ (c .before .before .set-length .ensures) (c .before .if1 .left) (c .if2 .left)
+
 pub outcome-of-spec : {M : Type 1} → statement M
 outcome-of-spec =
     tie.close

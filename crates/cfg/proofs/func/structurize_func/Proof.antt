@@ -19,9 +19,11 @@ initial-state-requires c κs = search needs
 -- src/func.rt:69:5
 structurize-func-by-requires : tie.Need-structurize-func-by-requires
 structurize-func-by-requires c κs = stood-started (c .before .initial-state .ensures) (c .before .before .before .before .before .pre)
+
 -- src/func.rt:63:1
 returns : tie.Need-returns
 returns c = λ g st valid. func-is (c .before .before .initial-state .ensures) (c .before .before .before .before .before .before .pre) g st valid (c .before .before .before .before .incoming-edge-counts .ensures g st valid) (c .structurize-func-by .ensures)
+
 pub structurize-func-spec : {M : Type 1} → statement M
 structurize-func-spec =
     tie.close
