@@ -116,7 +116,8 @@ module _ {g : Graph} {w w₁ w₂ : List ℕ} {r : ℕ} (st : Stands w g) (block
     (emptied : w₂ ≡ stored w₁ set-lengths r 0) where
   pub inst-taken : {w₃ : List ℕ} {a : Made} → (Stands w₂ g → ByTerminator g w₂ r w₃ a) → ByControlInst g w r w₃ a
   inst-taken y =
-      let on : Stands w₂ g = rw emptied (stands-kept (kinds-then (blocks-kinds (blocks st)) (kinds-stored w₁ set-lengths (omega arith) r 0)) st) in
+      let on : Stands w₂ g = rw emptied (stands-kept (kinds-then (blocks-kinds (blocks st))
+      (kinds-stored w₁ set-lengths (omega arith) r 0)) st) in
       by-inst (blocks st) emptied (y on)
 
 module _ (g : Graph) (w : List ℕ) (r i : ℕ) {n start p c : ℕ} {w₁ : List ℕ} (st : Stands w g) (of-length : n ≡ word w set-lengths r)

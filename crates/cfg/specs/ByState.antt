@@ -95,7 +95,8 @@ module _ (g : Graph) (w : List ℕ) {w₁ w₂ : List ℕ} (r : ℕ) (claims : w
     body-loop d f e = by-loop (λ z. some (backedges-read ∙ z)) (λ z. d (found-at ∙ z)) (rw (now-claimed, found-at) at f) e
 
 module _ (g : Graph) (w : List ℕ) (r n incoming : ℕ) {state : ℕ} (of-state : state ≡ word w kinds r) where
-  module _ (ready : state ≡ 2) {b : ℕ} (read : b ≡ word w backedges r) {x m : ℕ} (counted : x ≡ b) (small : x ≤ 65535) (few : n ≤ 65535) (sum : m ≡ min (n + x) 4294967295) {same : Bool}
+  module _ (ready : state ≡ 2) {b : ℕ} (read : b ≡ word w backedges r) {x m : ℕ} (counted : x ≡ b) (small : x ≤ 65535) (few : n ≤ 65535)
+      (sum : m ≡ min (n + x) 4294967295) {same : Bool}
       (test : same ≡ eqb incoming m) where
     all-edges : m ≡ n + word w backedges r
     all-edges = (let z = counted in let y = read in omega arith)

@@ -16,8 +16,10 @@ use Rattle.meaning.specs.Lists.{is-in, pick, empty}
 use Rattle.format.specs.Valid.{Valid}
 use Rattle.fields.specs.ByNumber.{edge-of}
 use Rattle.nesting.specs.Nesting.{NestState, StepAnswer, done, turned-away, incoming-edge-counts, try-claim-edge-bundle, target-regions}
-use Rattle.nesting.specs.Nesting.{by-control-inst, resolve-deferred, structurize-region, blocks-of, MaybeClaimedRegion, ok, err, Body, claim-by-state}
-use Rattle.nesting.specs.Nesting.{DeferredEdgeBundleSet, SplitOut, to-region, to-return, structurize-select-into, condition-in, lazy, add-attempt}
+use Rattle.nesting.specs.Nesting.{by-control-inst, resolve-deferred, structurize-region, blocks-of, MaybeClaimedRegion, ok, err, Body}
+use Rattle.nesting.specs.Nesting.{claim-by-state}
+use Rattle.nesting.specs.Nesting.{DeferredEdgeBundleSet, SplitOut, to-region, to-return, structurize-select-into, condition-in, lazy}
+use Rattle.nesting.specs.Nesting.{add-attempt}
 use Rattle.nesting.specs.Nesting.{split-out-matching, StructurizeRegionState, not-begun, in-progress, claimed, ready, defer-edge}
 use Rattle.nesting.specs.Nesting.{unclaimed-edge, begin, Claim, follow, get-state, ClaimedRegion, DeferredTarget}
 use Rattle.nesting.specs.Nesting.{has-children, count-to}
@@ -42,7 +44,8 @@ use Rattle.state.specs.Stored.{read-beyond}
 use Rattle.shown.specs.Steps.{attempt-counted}
 use Rattle.shown.specs.Stores.{ChangesOnly, head-changes}
 use Rattle.shown.specs.Sets.{ShowsTarget, shows-region, shows-return, no-bundle, target-size}
-use Rattle.shown.specs.States.{ShowsState, ShowsBody, ShowsRegion, is-not-begun, is-in-progress, is-ready, is-claimed, ShowsClaimed, ShowsOwnSet, no-case}
+use Rattle.shown.specs.States.{ShowsState, ShowsBody, ShowsRegion, is-not-begun, is-in-progress, is-ready, is-claimed, ShowsClaimed}
+use Rattle.shown.specs.States.{ShowsOwnSet, no-case}
 use Rattle.shown.specs.Kept.{body-stays, claimed-stays, own-set-stays}
 use Rattle.shown.specs.RegionSteps.{state-stays, concerns-states, state-next, states-by, later-by, kept-by, word-there}
 use Rattle.state.specs.declared.defined.Made.{Made}
@@ -59,23 +62,32 @@ use Rattle.cfg.specs.Claims.{later-claim, Structurizes, refused-at-targe
 use Rattle.cfg.specs.Claims.{TargetRegions, no-target, target-refused, target-claimed, target-waits, Scans, no-bundle-left}
 use Rattle.cfg.specs.Claims.{passes-return, passes-waiting, claims-bundle, scan-refused, SplitsOut, splits-out, Resolves, no-turn}
 use Rattle.cfg.specs.Claims.{nothing-claimed, claim-refused, select-refused, claims-and, ResolvesAll, resolves-all}
-use Rattle.cfg.specs.Shows.{Held, still-held, Unharmed, unharmed-same, unharmed-then, unharmed-around, Around, around-same, around-then, around-but}
+use Rattle.cfg.specs.Shows.{Held, still-held, Unharmed, unharmed-same, unharmed-then, unharmed-around, Around, around-same}
+use Rattle.cfg.specs.Shows.{around-then, around-but}
 use Rattle.cfg.specs.Shows.{cells-in-all, owed-stays, world, K, CanClaim, ClaimShows}
-use Rattle.cfg.specs.Shows.{shows-claimed, shows-unclaimed, shows-refused, TakenAs, was-claimed, was-deferred, was-nothing, TargetsShow}
+use Rattle.cfg.specs.Shows.{shows-claimed, shows-unclaimed, shows-refused, TakenAs, was-claimed, was-deferred, was-nothing}
+use Rattle.cfg.specs.Shows.{TargetsShow}
 use Rattle.cfg.specs.Shows.{shows-targets, refuses-targets, NewlyClaimed, BodyShows, ScanShows, shows-nothing}
 use Rattle.cfg.specs.Shows.{TurnsShow, shows-turns, RegionShows, shows-ready, refuses-region}
-use Rattle.cfg.specs.Shows.{if-claimed, if-unclaimed, if-refused, if-targets, if-targets-refused, if-body, if-full, if-split, if-turns}
+use Rattle.cfg.specs.Shows.{if-claimed, if-unclaimed, if-refused, if-targets, if-targets-refused, if-body, if-full, if-split}
+use Rattle.cfg.specs.Shows.{if-turns}
 use Rattle.cfg.specs.Shows.{if-turns-refused, if-ready}
 use Rattle.cfg.specs.TargetsShown.{Noted, notes, noted-cells, held-other, FirstNew, can-first, can-next, targets-more}
 use Rattle.cfg.specs.ScansShown.{own-bundle-shown, CanScan, bundle-live, bundle-counts, can-claim-bundle, scan-on}
 use Rattle.cfg.specs.ScansShown.{scan-past-return, passed-return, passed-waiting, scan-claims, scan-refusal}
-use Rattle.cfg.specs.TurnsShown.{CanTurn, can-scan, few-in-cases, right-in-cases, turn-on, first-done, turns-nothing, turns-refuse, turns-full, turns-again}
-use Rattle.cfg.specs.RegionsShown.{CanBegin, can-targets, inv-targets, few-in-targets, right-in-targets, can-turn, begun-shown, begun-cells, beside-kind}
+use Rattle.cfg.specs.TurnsShown.{CanTurn, can-scan, few-in-cases, right-in-cases, turn-on, first-done, turns-nothing, turns-refuse}
+use Rattle.cfg.specs.TurnsShown.{turns-full, turns-again}
+use Rattle.cfg.specs.RegionsShown.{CanBegin, can-targets, inv-targets, few-in-targets, right-in-targets, can-turn, begun-shown}
+use Rattle.cfg.specs.RegionsShown.{begun-cells, beside-kind}
 use Rattle.cfg.specs.RegionsShown.{region-unharmed, ready-shown, ready-beside, ready-cells}
 
 -- What is held is a region of the record.
 pub held-below : (w : List ℕ) (q : ℕ) → Held w q → q < 32
-held-below w q h = elim (decLt q 32) [ yes l ↦ l | no l ↦ (let z = read-beyond (start kinds) (size kinds) w q (omega arith) in absurd (go h z)) ]
+held-below w q h = elim (decLt q 32) [
+  | yes l ↦ l
+  | no l ↦ (let z = read-beyond (start kinds) (size kinds) w q (omega arith) in absurd
+      (go h z))
+]
   where
     go : Held w q → word w kinds q ≡ 0 → ⊥
     go (inl e) z = absurd (omega arith)
@@ -107,7 +119,8 @@ pub record Parts (g : Graph) (valid : Valid g) : Type 0 where
       → y .claimed-region .structured-body-inputs ≡ y .bundle .target-inputs → Inv (world g valid) s
       → ((q : ℕ) → totals (edges-to q) (ok (y .claimed-region) ∷ err (y .others) ∷ []) ≤ 65535)
       → totals edgeless (ok (y .claimed-region) ∷ err (y .others) ∷ []) ≡ 0
-      → BodyShows g w w′ r (ok (y .claimed-region) ∷ err (y .others) ∷ []) 4 (structurize-select-into g (x .children) bool-cond (lazy (condition-in (x .deferred-edges) (y .bundle)))
+      → BodyShows g w w′ r (ok (y .claimed-region) ∷ err (y .others) ∷ []) 4
+      (structurize-select-into g (x .children) bool-cond (lazy (condition-in (x .deferred-edges) (y .bundle)))
       (ok (y .claimed-region) ∷ err (y .others) ∷ []) s) a
 
 -- ---- A region's kind says its state.
@@ -117,13 +130,15 @@ kind-none (is-in-progress a) e = absurd (omega arith)
 kind-none (is-ready a b c d) e = absurd (omega arith)
 kind-none (is-claimed a) e = absurd (omega arith)
 
-kind-some : {g : Graph} {w : List ℕ} (r : ℕ) {x : StructurizeRegionState} → ShowsRegion g w r x → not-begun-one x ≡ 0 → word w kinds r ≡ 0 → ⊥
+kind-some : {g : Graph} {w : List ℕ} (r : ℕ) {x : StructurizeRegionState} → ShowsRegion g w r x → not-begun-one x ≡ 0 → word w kinds r ≡
+    0 → ⊥
 kind-some r (is-not-begun a) e z = absurd (omega arith)
 kind-some r (is-in-progress a) e z = absurd (omega arith)
 kind-some r (is-ready a b c d) e z = absurd (omega arith)
 kind-some r (is-claimed a) e z = absurd (omega arith)
 
-some-kind : {g : Graph} {w : List ℕ} {r : ℕ} {x : StructurizeRegionState} → ShowsRegion g w r x → (word w kinds r ≡ 0 → ⊥) → not-begun-one x ≡ 0
+some-kind : {g : Graph} {w : List ℕ} {r : ℕ} {x : StructurizeRegionState} → ShowsRegion g w r x → (word w kinds r ≡ 0 → ⊥) →
+    not-begun-one x ≡ 0
 some-kind (is-not-begun a) d = absurd (d a)
 some-kind (is-in-progress a) d = refl
 some-kind (is-ready a b c e) d = refl
@@ -141,7 +156,8 @@ module _ {g : Graph} {w : List ℕ} (r j : ℕ) (e : Edge) (noted : taken-word w
   unclaimed-taken (is-in-progress a) = was-deferred refl (noted ∙ rw (ne-eqb (word w kinds (e .target)) 2 (omega arith)))
   unclaimed-taken (is-claimed a) = was-deferred refl (noted ∙ rw (ne-eqb (word w kinds (e .target)) 2 (omega arith)))
   unclaimed-taken (is-ready {b} {ks} {d} a c n s) =
-      let childless : eqb (word w children (e .target)) 0 ≡ not (has-children ks) = go₁ (eqb (word w children (e .target)) 0) (has-list n) in
+      let childless : eqb (word w children (e .target)) 0 ≡ not (has-children ks) = go₁ (eqb (word w children (e .target)) 0)
+      (has-list n) in
       let none : eqb (word w set-lengths (e .target)) 0 ≡ empty d = ap (λ k. eqb k 0) (s .size) ∙ go₂ d in
       let all : is-trivial w (e .target) ≡ (empty d && not (has-children ks)) =
       rw (eq-eqb (word w kinds (e .target)) 2 a, none, childless) (go₃ (empty d) (not (has-children ks))) in
@@ -232,11 +248,13 @@ module _ (g : Graph) (fuel r n : ℕ) (inputs : List Value) (s : NestState) wher
   begun-before claimed e h = ap begin-by e
   begun-before (ready b ks d) e h = ap begin-by e
 
-  begun-now : state-of s r ≡ not-begun → {s₁ : NestState} → structurize-region g inner r (add-attempt s) ≡ done tt s₁ → outer ≡ by-its-state s₁
+  begun-now : state-of s r ≡ not-begun → {s₁ : NestState} → structurize-region g inner r (add-attempt s) ≡ done tt s₁ → outer ≡
+      by-its-state s₁
   unfolding try-claim-edge-bundle begin-by after-begin
   begun-now e p = ap begin-by e ∙ ap after-begin p
 
-  begun-not : state-of s r ≡ not-begun → {m x : ℕ} → structurize-region g inner r (add-attempt s) ≡ turned-away m x → outer ≡ turned-away m x
+  begun-not : state-of s r ≡ not-begun → {m x : ℕ} → structurize-region g inner r (add-attempt s) ≡ turned-away m x → outer ≡
+      turned-away m x
   unfolding try-claim-edge-bundle begin-by after-begin
   begun-not e p = ap begin-by e ∙ ap after-begin p
 
@@ -374,7 +392,8 @@ module _ {g : Graph} {w w₁ : List ℕ} {r j : ℕ} {s₁ : NestState} (few : l
         place = place;
         noted = noted;
         levels-same = λ k b. u .regions-stay r below (inl busy) .taken k b;
-        state = state-stays (noted .concerns .later) (concerns-states (noted .concerns) few (λ z. absurd (omega arith))) (noted .concerns .tables) st;
+        state = state-stays (noted .concerns .later) (concerns-states (noted .concerns) few (λ z. absurd (omega arith)))
+            (noted .concerns .tables) st;
         busy = noted .concerns .same-kinds r ∙ busy₁;
         taken = was-claimed refl (noted .here)
             (claimed-stays (noted .concerns .later)
@@ -396,7 +415,8 @@ module _ {g : Graph} {w w₁ : List ℕ} {r j : ℕ} {s₁ : NestState} (few : l
       let e = edge-of g r j in
       let noted = notes g w₁ r j (unclaimed-word w₁ (e .target)) (st .tables .size) below place in
       let busy₁ : word w₁ kinds r ≡ 1 = u .kinds-stay r below (inl busy) ∙ busy in
-      let st₂ = state-stays (noted .concerns .later) (concerns-states (noted .concerns) few (λ z. absurd (omega arith))) (noted .concerns .tables) st in
+      let st₂ = state-stays (noted .concerns .later) (concerns-states (noted .concerns) few (λ z. absurd (omega arith)))
+      (noted .concerns .tables) st in
       record {
         below = below;
         place = place;
@@ -418,7 +438,8 @@ targets-over : (g : Graph) (valid : Valid g) (fuel r j : ℕ) (s : NestState) {w
 unfolding target-regions
 targets-over g valid fuel r j s {w} shown =
     shows-targets refl shown refl (λ k b. absurd (omega arith))
-    (record { free = λ k c p. absurd (clash (cc)); apart = λ i k c d l p. absurd (clash (cc)) }) (around-same g r w) (λ k b. refl) (omega arith)
+    (record { free = λ k c p. absurd (clash (cc)); apart = λ i k c d l p. absurd (clash (cc)) }) (around-same g r w) (λ k b. refl)
+    (omega arith)
 
 -- ---- The cycle.
 module _ (g : Graph) (valid : Valid g) (parts : Parts g valid) (counts : List ℕ)
@@ -456,13 +477,15 @@ module _ (g : Graph) (valid : Valid g) (parts : Parts g valid) (counts : List �
       → y .others ≡ take i (x .deferred-edges) ++ drop (suc i) (x .deferred-edges) → y .bundle .target ≡ to-region t
       → ShowsClaimed g w₁ (y .claimed-region) → y .claimed-region .origin ≡ t
       → y .claimed-region .structured-body-inputs ≡ y .bundle .target-inputs → (Held w t → ⊥) → Unharmed g w w₁ → cells-in-all w₁ ≤ 641
-      → BodyShows g w₁ w₂ r (ok (y .claimed-region) ∷ err (y .others) ∷ []) 4 (structurize-select-into g (x .children) bool-cond (lazy (condition-in (x .deferred-edges) (y .bundle)))
+      → BodyShows g w₁ w₂ r (ok (y .claimed-region) ∷ err (y .others) ∷ []) 4
+      (structurize-select-into g (x .children) bool-cond (lazy (condition-in (x .deferred-edges) (y .bundle)))
       (ok (y .claimed-region) ∷ err (y .others) ∷ []) s₁) a
   select-from {w} {r} b fuel s₀ H x s body busy in-graph can y s₁ t p st l z o to cl origin many free u room =
       let below : r < 32 = (let z = parts .few in omega arith) in
       parts .by-resolve b s₁ x y t st room in-graph (u .kinds-stay r below (inl busy) ∙ busy)
       (body-stays (u .later) (u .regions-stay r below (inl busy)) body) l z o to
-      (λ e. free (inl (subst (λ q. word w kinds q ≡ 1) (sym e) busy))) cl origin many (first-done g valid fuel s₀ r H x s can (some y) s₁ p .inv)
+      (λ e. free (inl (subst (λ q. word w kinds q ≡ 1) (sym e) busy))) cl origin many
+      (first-done g valid fuel s₀ r H x s can (some y) s₁ p .inv)
       (λ q. let v = few-in-cases g valid fuel s₀ r H x s can y s₁ p q in let c = parts .few-incoming q in omega arith)
       (right-in-cases g valid fuel s₀ r H x s can y s₁ p)
 
@@ -482,12 +505,14 @@ module _ (g : Graph) (valid : Valid g) (parts : Parts g valid) (counts : List �
 
   first-targets : {w w₁ : List ℕ} {r : ℕ} {a : Step} → TargetsFor (stored w kinds r 1) w₁ r 0 a → (fuel : ℕ) (H : ℕ → ℕ)
       (s : NestState) → ShowsState g w s → cells-in-all w ≤ 641 → NotBegun w r → CanBegin g valid fuel H r s
-      → TargetsShow g (stored w kinds r 1) w₁ r 0 (its-edges r) (target-regions g (defined fuel) (its-edges r) (with-state s r in-progress)) a
+      → TargetsShow g (stored w kinds r 1) w₁ r 0 (its-edges r)
+      (target-regions g (defined fuel) (its-edges r) (with-state s r in-progress)) a
   first-targets {r} t fuel H s shown room new can =
       let c = begun-cells shown (parts .few) r (can .in-graph) (new .kind) in
       t fuel H (with-state s r in-progress) (begun-shown shown (parts .few) r (can .in-graph)) (omega arith) (can .in-graph)
       (busy-there shown r new) (targets-live (K g valid) r (can .live))
-      (edges-of-usable g r (region g r .terminator) (world g valid .valid .terminator r (can .in-graph))) (can-targets g valid fuel H r s can)
+      (edges-of-usable g r (region g r .terminator) (world g valid .valid .terminator r (can .in-graph)))
+      (can-targets g valid fuel H r s can)
 
   -- The claim of the first of a region's targets.
   first-claim-shown : {w w₁ : List ℕ} (r j : ℕ) {a : code.Claim} → ClaimFor w w₁ (edge-of g r j .target) 1 a → (fuel : ℕ)
@@ -533,7 +558,8 @@ module _ (g : Graph) (valid : Valid g) (parts : Parts g valid) (counts : List �
         let few : s .attempts < 65535 = (let z = can .few in omega arith) in
         let at = attempt-shown shown few in
         let old : not-begun-one (state-of s r) ≡ 0 = some-kind (at .regions r in-graph) d in
-        let result = parts .by-state (subst (λ m. ClaimsByState g (attempted w) r n m w′ a) (right r in-graph) c) (suc fuel) H (add-attempt s)
+        let result = parts .by-state (subst (λ m. ClaimsByState g (attempted w) r n m w′ a) (right r in-graph) c) (suc fuel) H
+        (add-attempt s)
         inputs at (let z = attempt-cells shown few in omega arith) live many d (can-later g valid fuel H r n s in-graph live pos can) in
         claim-before (attempt-unharmed shown few) (λ x. still-held (attempt-unharmed shown few) r h x)
         (let z = attempt-cells shown few in omega arith) (begun-before g fuel r n inputs s (state-of s r) refl old) result
@@ -557,7 +583,8 @@ module _ (g : Graph) (valid : Valid g) (parts : Parts g valid) (counts : List �
         let v = unharmed-then (attempt-unharmed shown few) u in
         let cells = attempt-cells shown few in
         let z : word w kinds r ≡ 0 = sym (attempt-kinds shown few r) ∙ b .kind in
-        let result = parts .by-state (subst (λ m. ClaimsByState g w₁ r n m w′ a) (right r in-graph) c) (suc fuel) H s₁ inputs st (omega arith)
+        let result = parts .by-state (subst (λ m. ClaimsByState g w₁ r n m w′ a) (right r in-graph) c) (suc fuel) H s₁ inputs st
+        (omega arith)
         live many (kind-some r (st .regions r in-graph) old) after in
         claim-before v (λ x. absurd (not-held w r z x)) (omega arith) (begun-now g fuel r n inputs s fresh p) result
 
@@ -565,17 +592,22 @@ module _ (g : Graph) (valid : Valid g) (parts : Parts g valid) (counts : List �
         → ShowsState g w s → cells-in-all w ≤ 641 → NotBegun w r → CanBegin g valid fuel H r s
         → RegionShows g w w′ (structurize-region g (defined fuel) r s) a
     region-shown (refused-at-targets {number} {x} t) fuel H s shown room new can =
-        if-targets-refused (first-targets (λ f h z a b i d l u c. targets-shown t f h z a b i d l u c) fuel H s shown room new can) λ p. refuses-region {m = number} {x = x} (rw p)
+        if-targets-refused (first-targets (λ f h z a b i d l u c. targets-shown t f h z a b i d l u c) fuel H s shown room new can) λ p.
+        refuses-region {m = number} {x = x} (rw p)
     region-shown (refused-at-inst t i) fuel H s shown room new can =
-        if-targets (first-targets (λ f h z a b i d l u c. targets-shown t f h z a b i d l u c) fuel H s shown room new can) λ cs s₁ p st len each newly ar k.
+        if-targets (first-targets (λ f h z a b i d l u c. targets-shown t f h z a b i d l u c) fuel H s shown room new can) λ cs s₁ p st
+        len each newly ar k.
         if-full (inst-from i fuel H s shown room new can cs s₁ p st len each newly ar k) λ q. refuses-region {m = 9} {x = 0} (rw (p, q))
     region-shown (refused-at-edges {number} {x} t i d) fuel H s shown room new can =
-        if-targets (first-targets (λ f h z a b i d l u c. targets-shown t f h z a b i d l u c) fuel H s shown room new can) λ cs s₁ p st len each newly ar k.
+        if-targets (first-targets (λ f h z a b i d l u c. targets-shown t f h z a b i d l u c) fuel H s shown room new can) λ cs s₁ p st
+        len each newly ar k.
         if-body (inst-from i fuel H s shown room new can cs s₁ p st len each newly ar k) λ y s₂ q st₂ body ar₂ k₂.
-        if-turns-refused (turns-from d fuel H s shown room new can cs s₁ p (around-but ar ar₂ (newly .free)) y s₂ q st₂ body (omega arith)) λ f.
+        if-turns-refused (turns-from d fuel H s shown room new can cs s₁ p (around-but ar ar₂ (newly .free)) y s₂ q st₂ body
+        (omega arith)) λ f.
         refuses-region {m = number} {x = x} (rw (p, q, f))
     region-shown {w} {w′} {r} (structurized {w₃} t i d e) fuel H s shown room new can =
-        if-targets (first-targets (λ f h z a b i d l u c. targets-shown t f h z a b i d l u c) fuel H s shown room new can) λ cs s₁ p st len each newly ar k.
+        if-targets (first-targets (λ f h z a b i d l u c. targets-shown t f h z a b i d l u c) fuel H s shown room new can) λ cs s₁ p st
+        len each newly ar k.
         if-body (inst-from i fuel H s shown room new can cs s₁ p st len each newly ar k) λ y s₂ q st₂ body ar₂ k₂.
         if-turns (turns-from d fuel H s shown room new can cs s₁ p (around-but ar ar₂ (newly .free)) y s₂ q st₂ body (omega arith))
         λ z s₃ f st₃ body₃ ar₃ k₃.
@@ -586,7 +618,8 @@ module _ (g : Graph) (valid : Valid g) (parts : Parts g valid) (counts : List �
         (ready-beside st₃ (parts .few) r (can .in-graph) busy z body₃) in
         let c₀ = begun-cells shown (parts .few) r (can .in-graph) (new .kind) in
         let c₁ = ready-cells st₃ (parts .few) r (can .in-graph) busy z body₃ in
-        rw e (shows-ready {s′ = with-state s₃ r (ready (count-to r (z .deferred-edges)) (z .children) (z .deferred-edges))} (rw (p, q, f)) last unharmed (omega arith))
+        rw e (shows-ready {s′ = with-state s₃ r (ready (count-to r (z .deferred-edges)) (z .children) (z .deferred-edges))}
+        (rw (p, q, f)) last unharmed (omega arith))
 
     turns-from : {w w₂ w₃ : List ℕ} {r : ℕ} {a : Step} → ResolvesAll g counts w₂ r w₃ a → (fuel : ℕ) (H : ℕ → ℕ) (s : NestState)
         → ShowsState g w s → cells-in-all w ≤ 641 → NotBegun w r → (can : CanBegin g valid fuel H r s) → (cs : List MaybeClaimedRegion)
@@ -603,7 +636,8 @@ module _ (g : Graph) (valid : Valid g) (parts : Parts g valid) (counts : List �
 
     pub targets-shown : {w w′ : List ℕ} {r j : ℕ} {a : Step} → TargetRegions g counts w r j w′ a → TargetsFor w w′ r j a
     targets-shown {w} {w′} {r} {j} (no-target h e) fuel H s shown room in-graph busy live fit can =
-        subst (λ l. TargetsShow g w w′ r j l (target-regions g (defined fuel) l s) step.Done) (sym (drop-of-length-le (its-edges r) {i = j} h))
+        subst (λ l. TargetsShow g w w′ r j l (target-regions g (defined fuel) l s) step.Done)
+        (sym (drop-of-length-le (its-edges r) {i = j} h))
         (rw e (targets-over g valid fuel r j s shown))
     targets-shown {w} {w′} {r} {j} {a} (target-refused {number} {x} h c) fuel H s shown room in-graph busy live fit can =
         let split = drop-cons (its-edges r) j no-edge h in
@@ -611,26 +645,30 @@ module _ (g : Graph) (valid : Valid g) (parts : Parts g valid) (counts : List �
         let fit′ = subst (λ l. EdgesUsable g r l) split fit in
         let can′ = subst (λ l. CanClaim g valid fuel H (aims (K g valid) l) (length l) s) split can in
         subst (λ l. TargetsShow g w w′ r j l (target-regions g (defined fuel) l s) a) (sym split)
-        (if-refused (first-claim-shown r j (λ f h z v a b l n m x. claim-shown c f h z v a b l n m x) fuel H s shown room live′ fit′ can′) λ p. refuses-targets {m = number} {x = x} (rw p))
+        (if-refused (first-claim-shown r j (λ f h z v a b l n m x. claim-shown c f h z v a b l n m x) fuel H s shown room live′ fit′
+        can′) λ p. refuses-targets {m = number} {x = x} (rw p))
     targets-shown {w} {w′} {r} {j} {a} (target-claimed h c t) fuel H s shown room in-graph busy live fit can =
         let split = drop-cons (its-edges r) j no-edge h in
         let live′ = subst (λ l. AllLive (K g valid) l) split live in
         let fit′ = subst (λ l. EdgesUsable g r l) split fit in
         let can′ = subst (λ l. CanClaim g valid fuel H (aims (K g valid) l) (length l) s) split can in
         subst (λ l. TargetsShow g w w′ r j l (target-regions g (defined fuel) l s) a) (sym split)
-        (if-claimed (first-claim-shown r j (λ f h z v a b l n m x. claim-shown c f h z v a b l n m x) fuel H s shown room live′ fit′ can′) λ y s₁ p st cl o i free u k.
+        (if-claimed (first-claim-shown r j (λ f h z v a b l n m x. claim-shown c f h z v a b l n m x) fuel H s shown room live′ fit′
+        can′) λ y s₁ p st cl o i free u k.
         let next = claimed-next (parts .few) (parts .few-targets r) in-graph busy h st cl o i free u in
         targets-more g valid fuel w (parts .few) busy (next .below) (next .noted) (unharmed-around r u) (next .levels-same)
         (edge-of g r j) (drop (suc j) (its-edges r)) s s₁ (next .place) (some y) (ok y) p refl (next .taken) (next .first) (omega arith)
         (targets-shown t fuel _ s₁ (next .state) (let z = noted-cells (next .noted .concerns) in omega arith) in-graph (next .busy)
-        (live′ .1) (fit′ .1) (can-next g valid fuel r (edge-of g r j) (drop (suc j) (its-edges r)) H (ok y) (fit′ .0) (live′ .0) can′ p refl)))
+        (live′ .1) (fit′ .1) (can-next g valid fuel r (edge-of g r j) (drop (suc j) (its-edges r)) H (ok y) (fit′ .0) (live′ .0) can′ p
+        refl)))
     targets-shown {w} {w′} {r} {j} {a} (target-waits h c t) fuel H s shown room in-graph busy live fit can =
         let split = drop-cons (its-edges r) j no-edge h in
         let live′ = subst (λ l. AllLive (K g valid) l) split live in
         let fit′ = subst (λ l. EdgesUsable g r l) split fit in
         let can′ = subst (λ l. CanClaim g valid fuel H (aims (K g valid) l) (length l) s) split can in
         subst (λ l. TargetsShow g w w′ r j l (target-regions g (defined fuel) l s) a) (sym split)
-        (if-unclaimed (first-claim-shown r j (λ f h z v a b l n m x. claim-shown c f h z v a b l n m x) fuel H s shown room live′ fit′ can′) λ s₁ p st u k.
+        (if-unclaimed (first-claim-shown r j (λ f h z v a b l n m x. claim-shown c f h z v a b l n m x) fuel H s shown room live′ fit′
+        can′) λ s₁ p st u k.
         let e = edge-of g r j in
         let m = unclaimed-edge e (state-of s₁ (e .target)) in
         let next = unclaimed-next (parts .few) (parts .few-targets r) in-graph busy h (fit′ .0 .target) st u in
@@ -655,7 +693,8 @@ module _ (g : Graph) (valid : Valid g) (parts : Parts g valid) (counts : List �
         let l : i < length d = omega arith in
         let there = goes-there (own-bundle-shown r own i l .target) e in
         let p = there .is in
-        if-unclaimed (bundle-claim r i (λ f h z v a b l n m x. claim-shown c f h z v a b l n m x) fuel H s d shown room own l can there) λ s₁ f st u k.
+        if-unclaimed (bundle-claim r i (λ f h z v a b l n m x. claim-shown c f h z v a b l n m x) fuel H s d shown room own l can there)
+        λ s₁ f st u k.
         let below : r < 32 = (let z = parts .few in omega arith) in
         passed-waiting g valid fuel d i l s p f (λ z hd. still-held u z (held-below w z hd) hd) u (omega arith)
         (scan-shown t fuel H s₁ d st (omega arith) in-graph (u .kinds-stay r below (inl busy) ∙ busy)
@@ -664,14 +703,17 @@ module _ (g : Graph) (valid : Valid g) (parts : Parts g valid) (counts : List �
     scan-shown {w} {r} {i} (claims-bundle h e c) fuel H s d shown room in-graph busy own size can =
         let l : i < length d = omega arith in
         let there = goes-there (own-bundle-shown r own i l .target) e in
-        if-claimed (bundle-claim r i (λ f h z v a b l n m x. claim-shown c f h z v a b l n m x) fuel H s d shown room own l can there) λ y s₁ f st cl o m free u k.
+        if-claimed (bundle-claim r i (λ f h z v a b l n m x. claim-shown c f h z v a b l n m x) fuel H s d shown room own l can there) λ
+        y s₁ f st cl o m free u k.
         scan-claims g valid fuel d i l s (there .is) f st cl o m free u k
     scan-shown {w} {r} {i} (scan-refused h e c) fuel H s d shown room in-graph busy own size can =
         let l : i < length d = omega arith in
         let there = goes-there (own-bundle-shown r own i l .target) e in
-        if-refused (bundle-claim r i (λ f h z v a b l n m x. claim-shown c f h z v a b l n m x) fuel H s d shown room own l can there) λ f. scan-refusal g valid fuel d i l s (there .is) f
+        if-refused (bundle-claim r i (λ f h z v a b l n m x. claim-shown c f h z v a b l n m x) fuel H s d shown room own l can there) λ
+        f. scan-refusal g valid fuel d i l s (there .is) f
 
-    pub turns-shown : {w w′ : List ℕ} {r n : ℕ} {a : Step} → Resolves g counts w r n w′ a → (fuel : ℕ) (s₀ : NestState) (H : ℕ → ℕ) (x : Body)
+    pub turns-shown : {w w′ : List ℕ} {r n : ℕ} {a : Step} → Resolves g counts w r n w′ a → (fuel : ℕ) (s₀ : NestState) (H : ℕ → ℕ)
+        (x : Body)
         (s : NestState) → ShowsState g w s → cells-in-all w ≤ 641 → r < length (g .regions) → word w kinds r ≡ 1 → ShowsBody g w r x
         → CanTurn g valid fuel s₀ r H x s → TurnsShow g w w′ r (resolve-deferred g (defined fuel) n x s) a
     turns-shown {w} {r} (no-turn e) fuel s₀ H x s shown room in-graph busy body can =
@@ -696,9 +738,11 @@ module _ (g : Graph) (valid : Valid g) (parts : Parts g valid) (counts : List �
         (turns-shown rest fuel s₀ H x₂ s₂ st₂ (omega arith) in-graph (both .kinds-stay r below (inl busy) ∙ busy) body₂
         (turn-on g valid fuel s₀ r H x s can y s₁ p x₂ s₂ f))
 
-    split-shown : {w w′ : List ℕ} {r : ℕ} {a : split.SplitOut} → SplitsOut g counts w r w′ a → (fuel : ℕ) (s₀ : NestState) (H : ℕ → ℕ) (x : Body)
+    split-shown : {w w′ : List ℕ} {r : ℕ} {a : split.SplitOut} → SplitsOut g counts w r w′ a → (fuel : ℕ) (s₀ : NestState) (H : ℕ → ℕ)
+        (x : Body)
         (s : NestState) → ShowsState g w s → cells-in-all w ≤ 641 → r < length (g .regions) → word w kinds r ≡ 1 → ShowsBody g w r x
         → CanTurn g valid fuel s₀ r H x s
         → ScanShows g w w′ (x .deferred-edges) (split-out-matching g (defined fuel) [] (x .deferred-edges) s) a
     split-shown {r} (splits-out t) fuel s₀ H x s shown room in-graph busy body can =
-        scan-shown t fuel H s (x .deferred-edges) shown room in-graph busy (body .set) (body .set .size) (can-scan g valid fuel s₀ r H x s can)
+        scan-shown t fuel H s (x .deferred-edges) shown room in-graph busy (body .set) (body .set .size)
+        (can-scan g valid fuel s₀ r H x s can)

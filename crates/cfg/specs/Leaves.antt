@@ -15,7 +15,8 @@ use Rattle.state.specs.Tables.{inserted, swapped, copied, bundle-at, bundle-wor
 use Rattle.state.specs.Tables.{second-empty, joined, case-total}
 use Rattle.lookups.specs.LookUps.{Rewrites, look-up}
 use Rattle.shown.specs.Front.{SameKinds, stands-kept, kinds-same, kinds-stored, kinds-run, kinds-then, adds-kinds, defines-kinds}
-use Rattle.bundles.specs.Words.{Appends, appended, its-edge, its-rest, cases-filled, filled-from, split-filled, return-deferred, case-inputs}
+use Rattle.bundles.specs.Words.{Appends, appended, its-edge, its-rest, cases-filled, filled-from, split-filled, return-deferred}
+use Rattle.bundles.specs.Words.{case-inputs}
 use Rattle.bundles.specs.Paths.{front-filled}
 use Rattle.selects.specs.declared.define.Scrutinee.{Scrutinee}
 use Rattle.selects.specs.Cases.{all-replaced, inputs-replaced}

@@ -96,7 +96,8 @@ steady-kind w r x d =
 pub begins-less : (w : List ℕ) (r : ℕ) → length (section w kinds) ≡ 32 → NotBegun w r → suc (left (stored w kinds r 1)) ≤ left w
 unfolding left
 begins-less w r n b =
-    rw (section-stored w kinds r 1) (set-less (section w kinds) r 1 (λ e. absurd (omega arith)) (let z = b .below in omega arith) (b .kind) 32 (b .below))
+    rw (section-stored w kinds r 1) (set-less (section w kinds) r 1 (λ e. absurd (omega arith)) (let z = b .below in omega arith)
+    (b .kind) 32 (b .below))
 
 pub steady-attempted : (w : List ℕ) → Steady w (attempted w)
 unfolding attempted

@@ -92,12 +92,14 @@ module _ (g : Graph) (valid : Valid g) (fuel : ℕ) where
       counted : CasesCounted (K g valid) es under-way cs s₁
       counted =
           subst (λ a. Post Nine (λ cs s′. CasesCounted (K g valid) es under-way cs s′) a) p
-          (target-regions-counted (K g valid) fuel claim (claim-counted (K g valid) fuel) es H under-way (targets-live (K g valid) r (can .live))
+          (target-regions-counted (K g valid) fuel claim (claim-counted (K g valid) fuel) es H under-way
+          (targets-live (K g valid) r (can .live))
           begins) .post
 
       cases-done : CasesDone (world g valid) claim (claim-post (world g valid) (incoming-edge-counts g) fuel) s r under-way es cs s₁
       cases-done =
-          subst (λ a. IfDone (CasesDone (world g valid) claim (claim-post (world g valid) (incoming-edge-counts g) fuel) s r under-way es) a) p
+          subst (λ a. IfDone (CasesDone (world g valid) claim (claim-post (world g valid) (incoming-edge-counts g) fuel) s r under-way
+          es) a) p
           (target-regions-post (world g valid) claim (claim-post (world g valid) (incoming-edge-counts g) fuel) s r es
           (edges-of-usable g r (region g r .terminator) (world g valid .valid .terminator r (can .in-graph)))
           (λ ed i. target-reachable g r (ed .target) (can .live) (in-targets (world g valid) es ed i)) under-way doing) .post
@@ -195,14 +197,17 @@ pub body-with : {g : Graph} (r : ℕ) (x : Body) (k : Section) (w : List ℕ) (y
 body-with {g} r x k w y o b =
     let changes = word-changes k 16 w (o .not-head) r y in
     let later = later-by changes (o .nothing) g in
-    let starts : word (stored w k r y) set-starts r ≡ word w set-starts r = ap (λ l. getD l r 0) (changes .others set-starts (o .not-starts) (omega arith)) in
+    let starts : word (stored w k r y) set-starts r ≡ word w set-starts r = ap (λ l. getD l r 0)
+    (changes .others set-starts (o .not-starts) (omega arith)) in
     let lengths : word (stored w k r y) set-lengths r ≡ word w set-lengths r =
     ap (λ l. getD l r 0) (changes .others set-lengths (o .not-lengths) (omega arith)) in
-    let handle : word (stored w k r y) children r ≡ word w children r = ap (λ l. getD l r 0) (changes .others children (o .not-children) (omega arith)) in
+    let handle : word (stored w k r y) children r ≡ word w children r = ap (λ l. getD l r 0)
+    (changes .others children (o .not-children) (omega arith)) in
     record {
       nodes = rw handle (later .nodes-stay (b .nodes));
       set = rw (starts, lengths)
-          (set-stays later (λ i h. bundles-same (changes .others bundles (o .not-bundles) (omega arith)) (word w set-starts r + i)) (b .set));
+          (set-stays later (λ i h. bundles-same (changes .others bundles (o .not-bundles) (omega arith)) (word w set-starts r + i))
+          (b .set));
     }
 
 module _ {g : Graph} {w : List ℕ} {s : NestState} (shown : ShowsState g w s) (few : length (g .regions) ≤ 32) (r : ℕ)
@@ -238,12 +243,14 @@ module _ {g : Graph} {w : List ℕ} {s : NestState} (shown : ShowsState g w s) (
   pub ready-shown : ShowsState g (made-ready w r) (with-state s r (ready (count-to r d) (x .children) d))
   ready-shown =
       let room = shown .tables .size in
-      let st : ShowsState g w₁ s = state-stays (first .later) (concerns-states first few (λ e. absurd (omega arith))) (first .tables) shown in
+      let st : ShowsState g w₁ s = state-stays (first .later) (concerns-states first few (λ e. absurd (omega arith))) (first .tables)
+      shown in
       let b₁ = body-with r x backedges w n (omega arith) body in
       let b₂ = body-with r x kinds w₁ 2 (omega arith) b₁ in
       let room₁ = st .tables .size in
       let counted : word (made-ready w r) backedges r ≡ count-to r d =
-      ap (λ l. getD l r 0) (section-other w₁ kinds r 2 backedges (omega arith)) ∙ word-there w backedges r n (omega arith) there ∙ backedges-are in
+      ap (λ l. getD l r 0) (section-other w₁ kinds r 2 backedges (omega arith)) ∙ word-there w backedges r n (omega arith) there ∙
+      backedges-are in
       kind-set g w₁ room₁ r there 2 st in-graph
       (is-ready (word-there w₁ kinds r 2 (omega arith) there) counted (b₂ .nodes) (b₂ .set))
 
@@ -263,5 +270,6 @@ module _ {g : Graph} {w : List ℕ} {s : NestState} (shown : ShowsState g w s) (
       let z = owed-kind w₁ r 2 room₁ there in
       let k : word w₁ kinds r ≡ 1 = first .same-kinds r ∙ busy in
       let y = rw k at z in
-      let h : word (made-ready w r) head 4 ≡ word w head 4 = ap (λ l. getD l 4 0) (section-other w₁ kinds r 2 head (omega arith)) ∙ first .same-head 4 in
+      let h : word (made-ready w r) head 4 ≡ word w head 4 = ap (λ l. getD l 4 0) (section-other w₁ kinds r 2 head (omega arith)) ∙
+      first .same-head 4 in
       omega arith

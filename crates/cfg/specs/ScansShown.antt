@@ -31,7 +31,8 @@ use Rattle.shown.specs.States.{ShowsState, ShowsOwnSet, ShowsClaimed}
 use Rattle.cfg.specs.declared.claims.SplitOut as split
 use Rattle.cfg.specs.declared.claims.SplitOut.the-variants as split-variants
 use Rattle.cfg.specs.ByInst.{own-bundle}
-use Rattle.cfg.specs.Shows.{Held, Unharmed, unharmed-then, cells-in-all, world, K, CanClaim, ScanShows, shows-nothing, shows-split, refuses-scan}
+use Rattle.cfg.specs.Shows.{Held, Unharmed, unharmed-then, cells-in-all, world, K, CanClaim, ScanShows, shows-nothing, shows-split}
+use Rattle.cfg.specs.Shows.{refuses-scan}
 
 -- ---- Bundle i of region r's set, in words.
 pub own-bundle-is : {g : Graph} {w : List ℕ} (r : ℕ) {d : DeferredEdgeBundleSet} → ShowsOwnSet g w r d → (i : ℕ) → i < length d
@@ -93,7 +94,8 @@ module _ (g : Graph) (valid : Valid g) (fuel : ℕ) where
           (λ q. edges-to q (to-region t) (e .accumulated-count)) 1 s
       can-claim-bundle =
           record {
-            pre = pre-as (K g valid) (can .pre) (λ q. edge-total (edges-to q) others + H q) (λ q. edges-to q (to-region t) (e .accumulated-count))
+            pre = pre-as (K g valid) (can .pre) (λ q. edge-total (edges-to q) others + H q)
+                (λ q. edges-to q (to-region t) (e .accumulated-count))
                 (λ q. let z = all-but (edges-to q) d i h in let y = with-target (edges-to q) in omega arith) (λ q. omega arith);
             inv = can .inv;
             few = let z = drop-total to-regions d i h in let y = with-target to-regions in let f = can .few in omega arith;
@@ -103,7 +105,8 @@ module _ (g : Graph) (valid : Valid g) (fuel : ℕ) where
           → Claims (K g valid) 1 t (e .accumulated-count) s o s₁
       claims-counted p =
           subst (λ a. Post Nine (λ o s′. Claims (K g valid) 1 t (e .accumulated-count) s o s′) a) p
-          (claim-counted (K g valid) fuel t (e .accumulated-count) (e .target-inputs) (λ q. edge-total (edges-to q) others + H q) s bundle-live
+          (claim-counted (K g valid) fuel t (e .accumulated-count) (e .target-inputs) (λ q. edge-total (edges-to q) others + H q) s
+          bundle-live
           bundle-counts (can-claim-bundle .pre)) .post
 
       pub inv-after : t < length (g .regions) → {o : Option ClaimedRegion} {s₁ : NestState}
@@ -111,7 +114,8 @@ module _ (g : Graph) (valid : Valid g) (fuel : ℕ) where
       inv-after b {o} {s₁} p =
           let x : ClaimDone (world g valid) t (e .target-inputs) s o s₁ =
           subst (λ a. IfDone (ClaimDone (world g valid) t (e .target-inputs) s) a) p
-          (claim-post (world g valid) (incoming-edge-counts g) fuel t (e .accumulated-count) (e .target-inputs) s (can .inv) b bundle-live) .post in
+          (claim-post (world g valid) (incoming-edge-counts g) fuel t (e .accumulated-count) (e .target-inputs) s (can .inv) b
+          bundle-live) .post in
           x .inv
 
       pub scan-on : t < length (g .regions) → {s₁ : NestState} → claim t (e .accumulated-count) (e .target-inputs) s ≡ done none s₁
@@ -186,7 +190,8 @@ module _ (g : Graph) (valid : Valid g) (fuel : ℕ) where
 
     pub scan-claims : {w w′ : List ℕ} {t : ℕ} → this .target ≡ to-region t → {c : ClaimedRegion} {s′ : NestState}
         → claim t (this .accumulated-count) (this .target-inputs) s ≡ done (some c) s′ → ShowsState g w′ s′ → ShowsClaimed g w′ c
-        → c .origin ≡ t → c .structured-body-inputs ≡ this .target-inputs → (Held w t → ⊥) → Unharmed g w w′ → cells-in-all w′ + 4 ≤ cells-in-all w
+        → c .origin ≡ t → c .structured-body-inputs ≡ this .target-inputs → (Held w t → ⊥) → Unharmed g w w′ → cells-in-all w′ + 4 ≤
+        cells-in-all w
         → ScanShows g w w′ d (scan-from i s) (split-variants.At i)
     unfolding step-of
     scan-claims {t} e {c} {s′} p st cl o n f u k =

@@ -214,15 +214,17 @@ pub data BodyShows (g : Graph) (w w′ : List ℕ) (r : ℕ) (cs : List MaybeCla
   refuses-body : b ≡ turned-away 9 0 → BodyShows g w w′ r cs more b made.Full
 
 -- A scan of the set d.
-pub data ScanShows (g : Graph) (w w′ : List ℕ) (d : DeferredEdgeBundleSet) (b : StepAnswer (Option SplitOut)) : split.SplitOut → Type 0 where
-  shows-nothing : {s′ : NestState} → b ≡ done none s′ → ShowsState g w′ s′ → Unharmed g w w′ → cells-in-all w′ ≤ cells-in-all w
-      → ScanShows g w w′ d b split-variants.Nothing
-  shows-split : {i t : ℕ} {y : SplitOut} {s′ : NestState} → b ≡ done (some y) s′ → ShowsState g w′ s′ → i < length d
-      → y .bundle ≡ getD d i no-bundle → y .others ≡ take i d ++ drop (suc i) d → y .bundle .target ≡ to-region t
-      → ShowsClaimed g w′ (y .claimed-region) → y .claimed-region .origin ≡ t
-      → y .claimed-region .structured-body-inputs ≡ y .bundle .target-inputs → (Held w t → ⊥) → Unharmed g w w′ → cells-in-all w′ + 4 ≤ cells-in-all w
-      → ScanShows g w w′ d b (split-variants.At i)
-  refuses-scan : {m x : ℕ} → b ≡ turned-away m x → ScanShows g w w′ d b (split-variants.Refused m x)
+pub data ScanShows (g : Graph) (w w′ : List ℕ) (d : DeferredEdgeBundleSet) (b : StepAnswer (Option SplitOut)) : split.SplitOut → Type 0
+  where
+    shows-nothing : {s′ : NestState} → b ≡ done none s′ → ShowsState g w′ s′ → Unharmed g w w′ → cells-in-all w′ ≤ cells-in-all w
+        → ScanShows g w w′ d b split-variants.Nothing
+    shows-split : {i t : ℕ} {y : SplitOut} {s′ : NestState} → b ≡ done (some y) s′ → ShowsState g w′ s′ → i < length d
+        → y .bundle ≡ getD d i no-bundle → y .others ≡ take i d ++ drop (suc i) d → y .bundle .target ≡ to-region t
+        → ShowsClaimed g w′ (y .claimed-region) → y .claimed-region .origin ≡ t
+        → y .claimed-region .structured-body-inputs ≡ y .bundle .target-inputs → (Held w t → ⊥) → Unharmed g w w′ → cells-in-all w′ + 4 ≤
+        cells-in-all w
+        → ScanShows g w w′ d b (split-variants.At i)
+    refuses-scan : {m x : ℕ} → b ≡ turned-away m x → ScanShows g w w′ d b (split-variants.Refused m x)
 
 -- Turns over region r's set; and the region as a whole.
 pub data TurnsShow (g : Graph) (w w′ : List ℕ) (r : ℕ) (b : StepAnswer Body) : Step → Type 0 where

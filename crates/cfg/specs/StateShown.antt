@@ -23,7 +23,8 @@ use Rattle.state.specs.Sections.{word, stored, kinds, bodies, backedges, childr
 use Rattle.state.specs.Apart.{section-other, stored-length}
 use Rattle.shown.specs.Sets.{shows-region, no-bundle}
 use Rattle.shown.specs.SetSteps.{Finds, found, none-found, finds, same-target-is}
-use Rattle.shown.specs.States.{ShowsState, ShowsOwnSet, ShowsRegion, is-not-begun, is-in-progress, is-ready, is-claimed, ShowsClaimed, ShowsBody}
+use Rattle.shown.specs.States.{ShowsState, ShowsOwnSet, ShowsRegion, is-not-begun, is-in-progress, is-ready, is-claimed, ShowsClaimed}
+use Rattle.shown.specs.States.{ShowsBody}
 use Rattle.shown.specs.Cells.{ShowsChildren}
 use Rattle.shown.specs.Kept.{Later, later-then, KeptRegion, kept-then}
 use Rattle.shown.specs.RegionSteps.{word-there, word-concerns, Concerns, concerns-states, state-stays, kind-set}
@@ -32,7 +33,8 @@ use Rattle.loops.specs.Loops.{Structurizes}
 use Rattle.cfg.specs.declared.claim.Claim as code
 use Rattle.cfg.specs.declared.claim.Claim.the-variants.{Claimed}
 use Rattle.cfg.specs.Leaves.{loops-kinds}
-use Rattle.cfg.specs.ByState.{ClaimsBody, no-backedges, none-found as none-leads-back, by-loop, ClaimsByState, ready-claimed, ready-waits}
+use Rattle.cfg.specs.ByState.{ClaimsBody, no-backedges, none-found as none-leads-back, by-loop, ClaimsByState, ready-claimed}
+use Rattle.cfg.specs.ByState.{ready-waits}
 use Rattle.cfg.specs.ByState.{busy-claimed, busy-waits, other-state, as-claimed, backedge-at, claim-of}
 use Rattle.cfg.specs.Shows.{Held, Unharmed, unharmed-same, cells-in-all, owed-stays, owed-kind, K, CanClaim, chains-of}
 use Rattle.cfg.specs.Shows.{ClaimShows, shows-claimed, shows-unclaimed, shows-refused}
@@ -169,7 +171,8 @@ module _ (g : Graph) (valid : Valid g) (few : length (g .regions) ≤ 32) (bound
       as-region =
           let c = claimed-cells shown few r in-graph is nodes set in
           let b = claimed-beside shown few r in-graph is nodes set in
-          shows-claimed refl (claimed-state shown few r in-graph is nodes set) (as-itself shown few r in-graph is nodes set inputs many) refl refl
+          shows-claimed refl (claimed-state shown few r in-graph is nodes set) (as-itself shown few r in-graph is nodes set inputs many)
+          refl refl
           (free-before shown few r in-graph is nodes set)
           (record {
             later = b .later;

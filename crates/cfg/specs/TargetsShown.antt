@@ -76,7 +76,8 @@ taken-on {w} {w′} few busy a same (was-claimed {c} p t s o i) =
     let q = c .origin in
     let below : q < 32 = (let z = s .in-graph in omega arith) in
     was-claimed p (same ∙ t)
-    (claimed-stays (a .later) (a .regions-stay q below (held-other w busy (s .kind)) (inr (s .kind))) (a .kinds-stay q below (inr (s .kind))) s)
+    (claimed-stays (a .later) (a .regions-stay q below (held-other w busy (s .kind)) (inr (s .kind)))
+    (a .kinds-stay q below (inr (s .kind))) s)
     o i
 taken-on few busy a same (was-deferred p t) = was-deferred p (same ∙ t)
 taken-on few busy a same (was-nothing p t) = was-nothing p (same ∙ t)
@@ -86,7 +87,8 @@ module _ (g : Graph) (valid : Valid g) (fuel : ℕ) where
   claim = try-claim-edge-bundle g (incoming-edge-counts g) fuel
 
   -- The claim of the first of some targets, and of the others after it.
-  pub can-first : (e : Edge) (es : List Edge) (H : ℕ → ℕ) {s : NestState} → CanClaim g valid fuel H (aims (K g valid) (e ∷ es)) (length (e ∷ es)) s
+  pub can-first : (e : Edge) (es : List Edge) (H : ℕ → ℕ) {s : NestState} → CanClaim g valid fuel H (aims (K g valid) (e ∷ es))
+      (length (e ∷ es)) s
       → CanClaim g valid fuel (λ q. aims (K g valid) es q + H q) (λ q. edges-to q (to-region (e .target)) 1) 1 s
   can-first e es H c = record { pre = first-target (K g valid) e es H (c .pre); inv = c .inv; few = let z = c .few in omega arith }
 
@@ -135,7 +137,8 @@ module _ (g : Graph) (valid : Valid g) (fuel : ℕ) where
     unfolding target-regions
     targets-more {w′} e es s s₁ b o c p q t first cells (shows-targets {cs} {s′} f st n each new ar same few-cells) =
         let whole : Around g r w w′ = around-then around (around-then (concerns-around (noted .concerns)) ar) in
-        shows-targets {cs = c ∷ cs} {s′ = s′} (rw (p, q, f)) st (ap suc n) taken newly whole (λ k h. same k (omega arith) ∙ kept-before k h b)
+        shows-targets {cs = c ∷ cs} {s′ = s′} (rw (p, q, f)) st (ap suc n) taken newly whole
+        (λ k h. same k (omega arith) ∙ kept-before k h b)
         (let z = noted-cells (noted .concerns) in omega arith)
       where
         taken : (k : ℕ) → k < suc (length es) → TakenAs g w′ r (j + k) (getD (e ∷ es) k no-edge) (getD (c ∷ cs) k no-case)

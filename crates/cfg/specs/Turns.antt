@@ -69,7 +69,8 @@ module _ {counts w₀ : List ℕ} {r : ℕ} {w : List ℕ} {j n : ℕ} (passed :
       targets-claimed e s =
           record {
             steady = passed-on 2 s;
-            more = λ g st t. passed .more g st (target-claimed (rw (size g st) at more) (rw e at (its-claim g st)) (rw (s, add-one j) at t));
+            more = λ g st t. passed .more g st (target-claimed (rw (size g st) at more) (rw e at (its-claim g st))
+                (rw (s, add-one j) at t));
           }
 
       pub targets-waiting : a ≡ Unclaimed → {y : ℕ} → y ≡ unclaimed-word w₁ t → w₂ ≡ taken-stored w₁ r j y
@@ -132,7 +133,8 @@ module _ {counts w₀ : List ℕ} {r n : ℕ} {w : List ℕ} {i : ℕ} {found : 
       pub scan-waiting : Stood w₀ → a ≡ Unclaimed → ScanPassed counts w₀ r n w₁ (i + 1) found
       scan-waiting stood e =
           record {
-            steady = steady-then (passed .steady) (steady-claim (claim (stood .graph) (split-on (stood .stands))) (split-on (stood .stands)));
+            steady = steady-then (passed .steady) (steady-claim (claim (stood .graph) (split-on (stood .stands)))
+                (split-on (stood .stands)));
             more = λ g st x. passed .more g st (passes-waiting more elsewhere (rw e at (bundle-claim g st)) (rw (add-one i) at x));
             nothing = passed .nothing;
           }
@@ -222,7 +224,8 @@ module _ {counts w w₁ : List ℕ} {r : ℕ} (begun : w₁ ≡ stored w kinds r
       region-refused-late e g st =
           refused-at-edges (rw taken at (its-targets st)) (rw made-so at (inst g (second-on st))) (rw e at (rest g (third-on st)))
 
-      pub region-done : d ≡ step.Done → {w₅ : List ℕ} → w₅ ≡ made-ready w₄ r → (g : Graph) → Stands w g → Structurizes g counts w r w₅ step.Done
+      pub region-done : d ≡ step.Done → {w₅ : List ℕ} → w₅ ≡ made-ready w₄ r → (g : Graph) → Stands w g → Structurizes g counts w r w₅
+          step.Done
       region-done e s g st =
           structurized (rw taken at (its-targets st)) (rw made-so at (inst g (second-on st))) (rw e at (rest g (third-on st))) s
 
@@ -248,11 +251,13 @@ module _ {counts w w₁ : List ℕ} {r : ℕ} (n : ℕ) (counted : w₁ ≡ atte
     module _ (new : state ≡ 0) where
       module _ {w₂ : List ℕ} {a : Step} (inside : (g : Graph) → Stands w₁ g → Structurizes g counts w₁ r w₂ a) where
         pub claim-inside : {m x : ℕ} → a ≡ step.Refused m x → (g : Graph) → Stands w g → TriesClaim g counts w r n w₂ (Refused m x)
-        claim-inside e g st = refused-inside (rw counted at (not-begun-yet below of-state new)) (rw (e, counted) at (inside g (stands-on (attempted-on counted .front) st)))
+        claim-inside e g st = refused-inside (rw counted at (not-begun-yet below of-state new))
+            (rw (e, counted) at (inside g (stands-on (attempted-on counted .front) st)))
 
         pub claim-first : a ≡ step.Done → {m : ℕ} → m ≡ getD counts r 0 → {w₃ : List ℕ} → w₃ ≡ w₂ → {w₄ : List ℕ} {b : Claim}
             → ((g : Graph) → Stands w₃ g → ClaimsByState g w₃ r n m w₄ b) → (g : Graph) → Stands w g → TriesClaim g counts w r n w₄ b
         claim-first e i same c g st =
             let s = inside g (stands-on (attempted-on counted .front) st) in
             first-claim (rw counted at (not-begun-yet below of-state new)) (rw (e, counted) at s)
-            (rw (i, same) at (c g (rw same (stands-on (steady-structurized s (stands-on (attempted-on counted .front) st) .front) (stands-on (attempted-on counted .front) st)))))
+            (rw (i, same) at (c g (rw same (stands-on (steady-structurized s (stands-on (attempted-on counted .front) st) .front)
+            (stands-on (attempted-on counted .front) st)))))

@@ -8,7 +8,8 @@ use native.Mathlib.Omega.{arith}
 use Rattle.meaning.specs.Graph.{Graph, bool-cond}
 use Rattle.format.specs.Valid.{Valid}
 use Rattle.nesting.specs.Nesting.{NestState, StepAnswer, done, DeferredEdgeBundleSet, incoming-edge-counts, try-claim-edge-bundle}
-use Rattle.nesting.specs.Nesting.{split-out-matching, SplitOut, resolve-deferred, structurize-select-into, condition-in, lazy, ok, err, Body, Claim}
+use Rattle.nesting.specs.Nesting.{split-out-matching, SplitOut, resolve-deferred, structurize-select-into, condition-in, lazy, ok, err}
+use Rattle.nesting.specs.Nesting.{Body, Claim}
 use Rattle.nesting.specs.steps.Post.{Post}
 use Rattle.follows.specs.simulation.Defined.{IfDone}
 use Rattle.follows.specs.simulation.ClaimedRegions.{Came}
@@ -57,7 +58,8 @@ module _ (g : Graph) (valid : Valid g) (fuel : ℕ) where
       scanned : ScanCounted (K g valid) [] d s o s₁
       scanned =
           subst (λ a. Post Nine (λ o s′. ScanCounted (K g valid) [] d s o s′) a) p
-          (split-out-counted (K g valid) fuel claim (claim-counted (K g valid) fuel) [] d H s (λ q. let z = can .good .fits q in omega arith)
+          (split-out-counted (K g valid) fuel claim (claim-counted (K g valid) fuel) [] d H s
+          (λ q. let z = can .good .fits q in omega arith)
           (let z = can .good .full in omega arith)
           (pre-as (K g valid) (can .pre) H (λ q. edge-total (edges-to q) [] + edge-total (edges-to q) d) (λ q. omega arith)
           (λ q. omega arith))) .post

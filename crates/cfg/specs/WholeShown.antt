@@ -77,7 +77,8 @@ module _ (g : Graph) (valid : Valid g) where
       let e = length-map (edges-of (region g r .terminator)) (λ e. e .target) in omega arith) in
       first (eqb q (g .entry)) sum live
     where
-      first : (b : Bool) → total (λ r. times-in q (targets-of g r) + times-in q (exit-targets g r)) (reachable g) ≤ length (reachable g) * 40
+      first : (b : Bool) → total (λ r. times-in q (targets-of g r) + times-in q (exit-targets g r)) (reachable g) ≤ length (reachable g)
+          * 40
           → length (reachable g) ≤ 32
           → pick b 1 0 + total (λ r. times-in q (targets-of g r) + times-in q (exit-targets g r)) (reachable g) ≤ 65534
       first true s l = omega arith

@@ -113,7 +113,8 @@ module _ (r shape : ℕ) (x : Scrutinee) (l : List ℕ) {j : ℕ} (found : j ≡
     alone : OfRecord l (λ g. Structurizes g r shape x (set-aside l (convergent-case l)) l₂ a)
     alone g s =
         let e : l₁ ≡ set-aside l (convergent-case l) = aside ∙ rw (none, found) in
-        rw e at (made g (rw e (stands-kept (kinds-run l cases (omega arith) (10 * convergent-case l) (case-words (unclaimed-case 0 0 0))) s)))
+        rw e at (made g (rw e (stands-kept (kinds-run l cases (omega arith) (10 * convergent-case l)
+        (case-words (unclaimed-case 0 0 0))) s)))
 
     pub into-refused : a ≡ Full → OfRecord l (λ g. StructurizesInto g r shape x l l₂ Full)
     into-refused e g s = one-refused below (rw e at (alone g s))

@@ -26,7 +26,11 @@ pub front-same : (w : List ℕ) → SameFront w w
 front-same w = record { words = refl; front-words = refl }
 
 pub front-stored : (w : List ℕ) (k : Section) → (number k ≡ 0 → ⊥) → (i x : ℕ) → SameFront w (stored w k i x)
-front-stored w k d i x = record { words = stored-length (start k) (size k) w i x; front-words = section-other w k i x front (λ e. d (sym e)) }
+front-stored w k d i x = record {
+  words = stored-length (start k) (size k) w i x;
+  front-words = section-other w k i x front
+      (λ e. d (sym e));
+}
 
 pub front-run : (w : List ℕ) (k : Section) → (number k ≡ 0 → ⊥) → (i : ℕ) (xs : List ℕ) → SameFront w (stored-all w k i xs)
 front-run w k d i xs = record { words = run-length (start k) (size k) w i xs; front-words = run-other w k i xs front (λ e. d (sym e)) }

@@ -63,7 +63,8 @@ module _ (K : Counting) where
       let cs : List MaybeClaimedRegion = ok (y .claimed-region) ∷ err (y .others) ∷ [] in
       let scrutinee = lazy (condition-in (x .deferred-edges) (y .bundle)) in
       let st₁ : Counted K 0 0 f (λ r. totals (edges-to r) (ok (y .claimed-region) ∷ err (y .others) ∷ [])) s s₁ =
-      counted-as K (h .step) 0 0 f (λ r. totals (edges-to r) (ok (y .claimed-region) ∷ err (y .others) ∷ [])) (omega arith) (λ r. omega arith) in
+      counted-as K (h .step) 0 0 f (λ r. totals (edges-to r) (ok (y .claimed-region) ∷ err (y .others) ∷ [])) (omega arith)
+      (λ r. omega arith) in
       map-post _ (select-into-total Nine (refl, refl) (K .g) (x .children) bool-cond scrutinee cs s₁) λ x′ s₂ q.
       let b = selected-counted K s₁ cs x′ s₂ (h .step .inv) (h .good .0 .fits, (h .good .1 .fits, tt))
       (let u = h .good .0 .full in let v = h .good .1 .full in omega arith) q in

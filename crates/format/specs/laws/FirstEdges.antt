@@ -9,7 +9,8 @@ use Rattle.meaning.specs.Lists.{is-in}
 use Rattle.format.specs.References.{first-edges}
 
 -- One edge more.
-pub edges-again : (seen : List ℕ) (e : Edge) (es : List Edge) → is-in (e .target) seen ≡ true → first-edges seen (e ∷ es) ≡ first-edges seen es
+pub edges-again : (seen : List ℕ) (e : Edge) (es : List Edge) → is-in (e .target) seen ≡ true → first-edges seen (e ∷ es) ≡ first-edges
+    seen es
 unfolding first-edges
 edges-again seen e es h = rw (h, first-edges)
 

@@ -91,7 +91,8 @@ module _ {A : Type 0} {p : Reader A} {ws : List ℕ} {n from : ℕ} where
       }
 
   pub going-stop : {k at m : ℕ} → Going p ws n from k at → k < n → forget-value (p ws at) ≡ bad m → bad m ≡ forget-value (many n p ws from)
-  going-stop {k} {at} {m} g l h = sym (g .rest ∙ ap (λ j. forget-value (many j p ws at)) (one-less n k l) ∙ many-stop p ws (n - (k + 1)) at h)
+  going-stop {k} {at} {m} g l h = sym (g .rest ∙ ap (λ j. forget-value (many j p ws at)) (one-less n k l) ∙ many-stop p ws (n - (k + 1))
+      at h)
 
   pub going-end : {k at : ℕ} → Going p ws n from k at → n ≤ k → got tt at ≡ forget-value (many n p ws from)
   unfolding many

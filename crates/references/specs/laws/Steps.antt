@@ -163,7 +163,8 @@ first-later x xs h = rw (h, first-return)
 module _ (rs : List Region) {n : ℕ} (size : n ≡ length rs) (q : ℕ) where
   pub return-here : q < n → is-return (getD rs q nowhere .terminator) ≡ true → q + first-return (drop q rs) ≡ first-return rs
       → q ≡ first-return rs
-  return-here l h e = let here : first-return (drop q rs) ≡ 0 = ap first-return (from-place rs nowhere size q l) ∙ first-here _ _ h in omega arith
+  return-here l h e = let here : first-return (drop q rs) ≡ 0 = ap first-return (from-place rs nowhere size q l) ∙ first-here _ _ h in
+      omega arith
 
   pub return-later : q < n → is-return (getD rs q nowhere .terminator) ≡ false → q + first-return (drop q rs) ≡ first-return rs
       → q + 1 + first-return (drop (q + 1) rs) ≡ first-return rs

@@ -37,11 +37,21 @@ claim-body-requires c κs = search needs
 
 -- src/claim.rt:83:13
 returns : tie.Need-returns
-returns c = λ g st. state-claimed g _ _ _ _ (c .before .before .before .before .before .before .before .before .before .region-state .ensures) (c .before .before .before .before .before .before .before .before .if1 .taken) (c .before .before .before .before .before .before .backedge-count .ensures) (c .before .before .before .before .before .count .ensures .0) (c .before .before .before .before .before .count .ensures .1) (c .before .before .before .before .before .before .before .before .before .before .before .pre) (c .before .before .before .before .plus .ensures) (c .before .before .before .same .ensures) (c .before .before .if2 .taken) (c .claim-body .ensures g st)
+returns c = λ g st. state-claimed g _ _ _ _ (c .before .before .before .before .before .before .before .before .before .region-state
+    .ensures) (c .before .before .before .before .before .before .before .before .if1 .taken)
+    (c .before .before .before .before .before .before .backedge-count .ensures)
+    (c .before .before .before .before .before .count .ensures .0) (c .before .before .before .before .before .count .ensures .1)
+    (c .before .before .before .before .before .before .before .before .before .before .before .pre)
+    (c .before .before .before .before .plus .ensures) (c .before .before .before .same .ensures) (c .before .before .if2 .taken)
+    (c .claim-body .ensures g st)
 
 -- src/claim.rt:85:9
 returns-2 : tie.Need-returns-2
-returns-2 c = λ g st. state-waits g _ _ _ _ (c .before .before .before .before .before .before .before .region-state .ensures) (c .before .before .before .before .before .before .if1 .taken) (c .before .before .before .before .backedge-count .ensures) (c .before .before .before .count .ensures .0) (c .before .before .before .count .ensures .1) (c .before .before .before .before .before .before .before .before .before .pre) (c .before .before .plus .ensures) (c .before .same .ensures) (c .if2 .left)
+returns-2 c = λ g st. state-waits g _ _ _ _ (c .before .before .before .before .before .before .before .region-state .ensures)
+    (c .before .before .before .before .before .before .if1 .taken) (c .before .before .before .before .backedge-count .ensures)
+    (c .before .before .before .count .ensures .0) (c .before .before .before .count .ensures .1)
+    (c .before .before .before .before .before .before .before .before .before .pre) (c .before .before .plus .ensures)
+    (c .before .same .ensures) (c .if2 .left)
 
 -- src/claim.rt:88:12
 same-requires-2 : tie.Need-same-requires-2
@@ -49,11 +59,13 @@ same-requires-2 c κs = search needs
 
 -- src/claim.rt:89:13
 returns-3 : tie.Need-returns-3
-returns-3 c = λ g st. busy-refuses g _ _ _ _ (c .before .before .before .before .region-state .ensures) (c .before .before .if3 .taken) (c .before .same2 .ensures) (c .if4 .taken)
+returns-3 c = λ g st. busy-refuses g _ _ _ _ (c .before .before .before .before .region-state .ensures) (c .before .before .if3 .taken)
+    (c .before .same2 .ensures) (c .if4 .taken)
 
 -- src/claim.rt:91:9
 returns-4 : tie.Need-returns-4
-returns-4 c = λ g st. busy-stays g _ _ _ _ (c .before .before .before .before .region-state .ensures) (c .before .before .if3 .taken) (c .before .same2 .ensures) (c .if4 .left)
+returns-4 c = λ g st. busy-stays g _ _ _ _ (c .before .before .before .before .region-state .ensures) (c .before .before .if3 .taken)
+    (c .before .same2 .ensures) (c .if4 .left)
 
 -- src/claim.rt:71:1
 returns-5 : tie.Need-returns-5

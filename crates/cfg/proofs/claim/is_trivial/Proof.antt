@@ -22,7 +22,8 @@ set-length-requires c κs = search needs
 
 -- src/claim.rt:104:9
 returns-2 : tie.Need-returns-2
-returns-2 c = trivial-set _ _ _ (c .before .before .before .region-state .ensures) (c .before .before .if1 .left) _ (c .before .set-length .ensures) (c .if2 .taken)
+returns-2 c = trivial-set _ _ _ (c .before .before .before .region-state .ensures) (c .before .before .if1 .left) _
+    (c .before .set-length .ensures) (c .if2 .taken)
 
 -- src/claim.rt:106:5
 children-requires : tie.Need-children-requires
@@ -30,7 +31,8 @@ children-requires c κs = search needs
 
 -- src/claim.rt:97:1
 returns-3 : tie.Need-returns-3
-returns-3 c = trivial-children _ _ _ (c .before .before .before .before .region-state .ensures) (c .before .before .before .if1 .left) _ (c .before .before .set-length .ensures) (c .before .if2 .left) _ (c .children .ensures)
+returns-3 c = trivial-children _ _ _ (c .before .before .before .before .region-state .ensures) (c .before .before .before .if1 .left) _
+    (c .before .before .set-length .ensures) (c .before .if2 .left) _ (c .children .ensures)
 
 pub is-trivial-spec : {M : Type 1} → statement M
 is-trivial-spec =

@@ -31,11 +31,15 @@ target-requires c κs = search needs
 
 -- src/func.rt:41:13
 returns-2 : tie.Need-returns-2
-returns-2 c = return-edge _ _ (c .before .before .before .before .before .before .set-length .ensures) (c .before .before .before .before .if2 .taken) (c .before .before .before .set-start .ensures) (c .before .before .bundle-at .ensures) (c .before .target .ensures) (c .if3 .taken)
+returns-2 c = return-edge _ _ (c .before .before .before .before .before .before .set-length .ensures)
+    (c .before .before .before .before .if2 .taken) (c .before .before .before .set-start .ensures)
+    (c .before .before .bundle-at .ensures) (c .before .target .ensures) (c .if3 .taken)
 
 -- src/func.rt:32:1
 returns-3 : tie.Need-returns-3
-returns-3 c = other-edge _ _ (c .before .before .before .before .before .before .set-length .ensures) (c .before .before .before .before .if2 .taken) (c .before .before .before .set-start .ensures) (c .before .before .bundle-at .ensures) (c .before .target .ensures) (c .if3 .left)
+returns-3 c = other-edge _ _ (c .before .before .before .before .before .before .set-length .ensures)
+    (c .before .before .before .before .if2 .taken) (c .before .before .before .set-start .ensures)
+    (c .before .before .bundle-at .ensures) (c .before .target .ensures) (c .if3 .left)
 
 -- src/func.rt:32:1
 returns-4 : tie.Need-returns-4

@@ -22,7 +22,8 @@ structurize-func-by-requires c κs = stood-started (c .before .initial-state .en
 
 -- src/func.rt:63:1
 returns : tie.Need-returns
-returns c = λ g st valid. func-is (c .before .before .initial-state .ensures) (c .before .before .before .before .before .before .pre) g st valid (c .before .before .before .before .incoming-edge-counts .ensures g st valid) (c .structurize-func-by .ensures)
+returns c = λ g st valid. func-is (c .before .before .initial-state .ensures) (c .before .before .before .before .before .before .pre) g
+    st valid (c .before .before .before .before .incoming-edge-counts .ensures g st valid) (c .structurize-func-by .ensures)
 
 pub structurize-func-spec : {M : Type 1} → statement M
 structurize-func-spec =

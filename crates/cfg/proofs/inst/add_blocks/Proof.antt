@@ -19,7 +19,8 @@ set-children-requires c κs = search needs
 
 -- src/inst.rt:44:9
 returns : tie.Need-returns
-returns c = λ g st. no-blocks (sym (c .before .before .before .block-count .ensures g st) ∙ c .before .before .if1 .taken) (c .set-children .ensures)
+returns c = λ g st. no-blocks (sym (c .before .before .before .block-count .ensures g st) ∙ c .before .before .if1 .taken)
+    (c .set-children .ensures)
 
 -- src/inst.rt:46:9
 add-cell-requires : tie.Need-add-cell-requires
@@ -31,7 +32,9 @@ set-children-requires-2 c κs = search needs
 
 -- src/inst.rt:39:1
 returns-2 : tie.Need-returns-2
-returns-2 c = λ g st. some-blocks (λ e. c .before .before .before .before .if1 .left (c .before .before .before .before .before .block-count .ensures g st ∙ e)) (c .before .before .add-cell .ensures) (c .set-children2 .ensures)
+returns-2 c = λ g st. some-blocks (λ e. c .before .before .before .before .if1 .left
+    (c .before .before .before .before .before .block-count .ensures g st ∙ e)) (c .before .before .add-cell .ensures)
+    (c .set-children2 .ensures)
 
 pub add-blocks-spec : {M : Type 1} → statement M
 add-blocks-spec =

@@ -39,7 +39,9 @@ set-children-requires c κs = search needs
 
 -- src/inst.rt:60:1
 returns-2 : tie.Need-returns-2
-returns-2 c = exit-some (c .before .before .before .before .before .before .before .before .before .define-node .ensures) (c .before .before .before .before .before .before .before .node .given .1) (c .before .before .before .before .children .ensures) (c .before .before .add-cell .ensures) (c .set-children .ensures)
+returns-2 c = exit-some (c .before .before .before .before .before .before .before .before .before .define-node .ensures)
+    (c .before .before .before .before .before .before .before .node .given .1) (c .before .before .before .before .children .ensures)
+    (c .before .before .add-cell .ensures) (c .set-children .ensures)
 
 pub add-exit-spec : {M : Type 1} → statement M
 add-exit-spec =

@@ -22,7 +22,8 @@ append-maybe-claimed-region-requires c κs = search needs
 
 -- src/inst.rt:82:1
 returns : tie.Need-returns
-returns c = λ g st. branch-taken g _ _ st (c .before .before .before .before .fill-cases .ensures g st) (c .before .before .case-at .ensures) (c .append-maybe-claimed-region .ensures)
+returns c = λ g st. branch-taken g _ _ st (c .before .before .before .before .fill-cases .ensures g st)
+    (c .before .before .case-at .ensures) (c .append-maybe-claimed-region .ensures)
 
 pub branch-spec : {M : Type 1} → statement M
 branch-spec =

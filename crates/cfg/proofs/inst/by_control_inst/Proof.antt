@@ -22,7 +22,8 @@ by-terminator-requires c κs = search needs
 
 -- src/inst.rt:125:1
 returns : tie.Need-returns
-returns c = λ g st. inst-taken st (c .before .before .before .before .add-blocks .ensures g) (c .before .before .put-set-length .ensures) (c .by-terminator .ensures g)
+returns c = λ g st. inst-taken st (c .before .before .before .before .add-blocks .ensures g)
+    (c .before .before .put-set-length .ensures) (c .by-terminator .ensures g)
 
 pub by-control-inst-spec : {M : Type 1} → statement M
 by-control-inst-spec =

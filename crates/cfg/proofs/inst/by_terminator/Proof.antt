@@ -66,23 +66,28 @@ returns c = λ g st. at-unreachable (told-kind _ (c .before .before .terminator 
 
 -- src/inst.rt:107:1
 returns-2 : tie.Need-returns-2
-returns-2 c = λ g st. at-return (told-kind _ (c .before .before .before .before .terminator .ensures g st) (c .before .before .enum-told2 .given .1)) (c .defer-return .ensures g st)
+returns-2 c = λ g st. at-return (told-kind _ (c .before .before .before .before .terminator .ensures g st)
+    (c .before .before .enum-told2 .given .1)) (c .defer-return .ensures g st)
 
 -- src/inst.rt:107:1
 returns-3 : tie.Need-returns-3
-returns-3 c = λ g st. at-exit (told-kind _ (c .before .before .before .before .terminator .ensures g st) (c .before .before .enum-told3 .given .1)) (c .add-exit .ensures)
+returns-3 c = λ g st. at-exit (told-kind _ (c .before .before .before .before .terminator .ensures g st)
+    (c .before .before .enum-told3 .given .1)) (c .add-exit .ensures)
 
 -- src/inst.rt:107:1
 returns-4 : tie.Need-returns-4
-returns-4 c = λ g st. at-branch (told-kind _ (c .before .before .before .before .terminator .ensures g st) (c .before .before .enum-told4 .given .1)) (c .branch .ensures g st)
+returns-4 c = λ g st. at-branch (told-kind _ (c .before .before .before .before .terminator .ensures g st)
+    (c .before .before .enum-told4 .given .1)) (c .branch .ensures g st)
 
 -- src/inst.rt:107:1
 returns-5 : tie.Need-returns-5
-returns-5 c = λ g st. at-bool (told-kind _ (c .before .before .before .before .terminator .ensures g st) (c .before .before .enum-told5 .given .1)) (c .select .ensures g st)
+returns-5 c = λ g st. at-bool (told-kind _ (c .before .before .before .before .terminator .ensures g st)
+    (c .before .before .enum-told5 .given .1)) (c .select .ensures g st)
 
 -- src/inst.rt:107:1
 returns-6 : tie.Need-returns-6
-returns-6 c = λ g st. at-number (told-kind _ (c .before .before .before .before .terminator .ensures g st) (c .before .before .enum-told6 .given .1)) (c .select-number .ensures g st)
+returns-6 c = λ g st. at-number (told-kind _ (c .before .before .before .before .terminator .ensures g st)
+    (c .before .before .enum-told6 .given .1)) (c .select-number .ensures g st)
 
 pub by-terminator-spec : {M : Type 1} → statement M
 by-terminator-spec =

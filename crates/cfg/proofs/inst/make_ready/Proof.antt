@@ -22,7 +22,11 @@ set-region-state-requires c κs = search needs
 
 -- src/inst.rt:156:1
 returns : tie.Need-returns
-returns c = c .set-region-state .ensures ∙ rw (c .before .before .set-backedge-count .ensures, c .before .before .before .before .backedges-deferred .ensures)
+returns c = c .set-region-state .ensures ∙ rw (
+  c .before .before .set-backedge-count .ensures,
+  c .before .before .before .before
+      .backedges-deferred .ensures,
+)
 
 pub make-ready-spec : {M : Type 1} → statement M
 make-ready-spec =

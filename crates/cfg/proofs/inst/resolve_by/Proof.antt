@@ -37,7 +37,10 @@ structurize-select-into-requires c κs = search needs
 
 -- src/inst.rt:134:1
 returns : tie.Need-returns
-returns c = λ g st. resolve-taken g _ _ _ st (c .before .before .before .before .before .before .before .before .before .set-length .ensures) (c .before .before .before .before .before .before .before .set-start .ensures) (c .before .before .before .before .before .before .bundle-at .ensures) (c .before .before .before .before .condition-in .ensures) (c .before .before .fill-split .ensures g) (c .structurize-select-into .ensures g)
+returns c = λ g st. resolve-taken g _ _ _ st (c .before .before .before .before .before .before .before .before .before .set-length
+    .ensures) (c .before .before .before .before .before .before .before .set-start .ensures)
+    (c .before .before .before .before .before .before .bundle-at .ensures) (c .before .before .before .before .condition-in .ensures)
+    (c .before .before .fill-split .ensures g) (c .structurize-select-into .ensures g)
 
 pub resolve-by-spec : {M : Type 1} → statement M
 resolve-by-spec =

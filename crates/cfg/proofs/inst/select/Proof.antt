@@ -27,7 +27,9 @@ structurize-select-into-requires c κs = search needs
 
 -- src/inst.rt:91:1
 returns : tie.Need-returns
-returns c = λ g st. select-taken g _ _ st (c .before .before .before .before .before .fill-cases .ensures g st) _ (c .before .before .before .value .result) (c .before .before .before .value .ensures g) (c .before .value-word .ensures) (c .structurize-select-into .ensures g)
+returns c = λ g st. select-taken g _ _ st (c .before .before .before .before .before .fill-cases .ensures g st) _
+    (c .before .before .before .value .result) (c .before .before .before .value .ensures g) (c .before .value-word .ensures)
+    (c .structurize-select-into .ensures g)
 
 pub select-spec : {M : Type 1} → statement M
 select-spec =
