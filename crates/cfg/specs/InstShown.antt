@@ -16,8 +16,8 @@ use Rattle.fields.specs.ByNumber.{edge-of, end-values}
 use Rattle.fields.specs.Shape.{value-is}
 use Rattle.fields.specs.declared.shape.Value as shape
 use Rattle.nesting.specs.Nesting.{NestState, Body, region-body, ClaimedRegion, MaybeClaimedRegion, ok, StepAnswer, done, turned-away}
-use Rattle.nesting.specs.Nesting.{by-control-inst, blocks-of, blocks-from, append-maybe-claimed-region, define-node, add-node, most-nodes, join}
-use Rattle.nesting.specs.Nesting.{value, edge-bundle, to-return, true-cond}
+use Rattle.nesting.specs.Nesting.{by-control-inst, blocks-of, blocks-from, append-maybe-claimed-region, define-node, add-node, most-nodes}
+use Rattle.nesting.specs.Nesting.{join, edge-bundle, to-return, true-cond}
 use Rattle.follows.specs.simulation.Invariant.{Inv}
 use Rattle.follows.specs.counting.Totals.{edges-to, totals, edgeless}
 use Rattle.state.specs.Sections.{word, stored, used, head, kinds, children, set-starts, set-lengths, bundles, levels, rewrites}
@@ -35,7 +35,8 @@ use Rattle.shown.specs.Tables.{ShowsShape, shape-bool, shape-number, done-of, f
 use Rattle.shown.specs.Cells.{ShowsNodes, no-nodes, ShowsChildren}
 use Rattle.shown.specs.States.{ShowsState, ShowsBody, no-case}
 use Rattle.shown.specs.Kept.{Later, later-same, later-then, KeptRegion, kept-same, kept-then, claimed-stays, body-stays, set-stays}
-use Rattle.shown.specs.RegionSteps.{word-concerns, concerns-then, concerns-states, state-stays, state-next, children-set, length-set-to, aside-by, bundles-same}
+use Rattle.shown.specs.RegionSteps.{word-concerns, concerns-then, concerns-states, state-stays, state-next, children-set, length-set-to}
+use Rattle.shown.specs.RegionSteps.{aside-by, bundles-same}
 use Rattle.shown.specs.CellSteps.{blocks-added, exit-added, cell-aside, cell-tables, cell-handle, cell-total, cell-changes}
 use Rattle.shown.specs.SetStores.{OnlySets, only-same, only-then, only-total, only-later, only-word-same, word-other}
 use Rattle.bundles.specs.Words.{cases-filled, filled-from, case-filled, padded-by, record-word, return-deferred}
@@ -77,7 +78,8 @@ node-changes {w} (defined {n} p h e) = rw e (head-changes head 1 w (n + 1))
 filled-only : (g : Graph) (r m j : ℕ) → j + m ≤ 8 → (w : List ℕ) → OnlySets w (filled-from g w r m j)
 unfolding filled-from
 filled-only g r zero j h w = only-same w
-filled-only g r (suc m) j h w = only-then (filled-one g w r j (omega arith) .only) (filled-only g r m (suc j) (omega arith) (case-filled g w r j))
+filled-only g r (suc m) j h w =
+    only-then (filled-one g w r j (omega arith) .only) (filled-only g r m (suc j) (omega arith) (case-filled g w r j))
 
 cases-only : {g : Graph} → Valid g → {r : ℕ} → r < length (g .regions) → (w : List ℕ) → OnlySets w (cases-filled g w r)
 cases-only {g} valid {r} here w =
@@ -127,7 +129,8 @@ module _ {g : Graph} (few : length (g .regions) ≤ 32) {r : ℕ} (here : r < le
       record {
         state = state-stays (c .later) (concerns-states c few unready) (c .tables) state;
         body = record {
-          nodes = rw (word-other w₁ set-lengths r 0 children (omega arith) r) (b .later .nodes-stay (children-set g w room r (omega arith) list));
+          nodes = rw (word-other w₁ set-lengths r 0 children (omega arith) r)
+              (b .later .nodes-stay (children-set g w room r (omega arith) list));
           set = length-set-to g w₁ (omega arith) r (omega arith)
               record {
                 size = refl;
@@ -227,7 +230,8 @@ module _ {g : Graph} (few : length (g .regions) ≤ 32) {r : ℕ} (here : r < le
         (only-later only g) (λ q l d f. return-deferred-kept g w₂ r room (omega arith) slots q (omega arith) d) same (omega arith)
 
     exit-of : (op : ℕ) (vs : List Value) (cs : List MaybeClaimedRegion) {n : ℕ} {s₁ : NestState} → define-node s ≡ done n s₁
-        → by-control-inst g (blocks-of g r) (exit-invocation op vs) cs s ≡ done (region-body (join (blocks-of g r) (exit n op vs ▸ ⟨⟩)) []) s₁
+        → by-control-inst g (blocks-of g r) (exit-invocation op vs) cs s ≡
+        done (region-body (join (blocks-of g r) (exit n op vs ▸ ⟨⟩)) []) s₁
     exit-of op vs cs e = rw e
 
     exit-refused : (op : ℕ) (vs : List Value) (cs : List MaybeClaimedRegion) → define-node s ≡ turned-away 9 0
@@ -238,7 +242,8 @@ module _ {g : Graph} (few : length (g .regions) ≤ 32) {r : ℕ} (here : r < le
         → region g r .terminator ≡ exit-invocation op vs → AddsExit w₂ r w′ a → SameKinds w w′
         → BodyShows g w w′ r cs 11 (by-control-inst g (blocks-of g r) (region g r .terminator) cs s) a
     at-exit-shown {cs} {op} {vs} e (exit-full d) same =
-        refuses-body (ap (λ t. by-control-inst g (blocks-of g r) t cs s) e ∙ exit-refused op vs cs (full-of (node-defined (p .state .tables) d) refl))
+        refuses-body (ap (λ t. by-control-inst g (blocks-of g r) t cs s) e
+        ∙ exit-refused op vs cs (full-of (node-defined (p .state .tables) d) refl))
     at-exit-shown {cs} {op} {vs} e (by-inst.exit-added {w₁} {w₂ = w₄} {node} {h} d x f) same =
         let u = done-of (node-defined (p .state .tables) d) refl in
         let changes = node-changes d in
@@ -261,7 +266,8 @@ module _ {g : Graph} (few : length (g .regions) ≤ 32) {r : ℕ} (here : r < le
         let cells₄ = cell-total x free₃ room₃ in
         let c₅ = word-concerns g w₄ children (omega arith) r h in
         let cells₅ = c₅ .same-head 4 in
-        let unready₄ : word w₄ kinds r ≡ 2 → ⊥ = λ z. unready (sym (c₃ .states .same-kinds r here) ∙ sym (c₄ .states .same-kinds r here) ∙ z) in
+        let unready₄ : word w₄ kinds r ≡ 2 → ⊥ =
+        λ z. unready (sym (c₃ .states .same-kinds r here) ∙ sym (c₄ .states .same-kinds r here) ∙ z) in
         let node-is : node ≡ u .value = u .shows in
         rw f
         (done-body {x = region-body (join (blocks-of g r) (exit (u .value) op vs ▸ ⟨⟩)) []} p
@@ -321,7 +327,8 @@ module _ {g : Graph} (few : length (g .regions) ≤ 32) {r : ℕ} (here : r < le
             (row-alone (filled .state .slots) (omega arith) (record { case = shown .each 0 in-list; set = shown .sets 0 in-list })
             (λ c f. claimed₃ 0 in-list c f)) x in
             let last = o .cells-to in
-            done-body {x = o .result} p (ap (λ t. by-control-inst g (blocks-of g r) t cs s) is ∙ first-case e cs one ∙ o .is) (o .state) (o .body)
+            done-body {x = o .result} p (ap (λ t. by-control-inst g (blocks-of g r) t cs s) is ∙ first-case e cs one ∙ o .is) (o .state)
+            (o .body)
             (later-then (filled .later) (o .later))
             (λ q l d f. kept-then (filled .kept q (omega arith)) (o .kept q (omega arith) d (λ c h. f 0 c in-list h))) same (omega arith)
 
@@ -343,7 +350,8 @@ module _ {g : Graph} (few : length (g .regions) ≤ 32) {r : ℕ} (here : r < le
               let same-cells = cells₃ in
               let more = p .total in
               subst (λ t. BodyShows g w w′ r cs 11 (by-control-inst g (blocks-of g r) t cs s) a) (sym is)
-              (into-body (later-then (p .later) (filled .later)) (λ q l d. kept-then (p .kept q (omega arith) d) (filled .kept q (omega arith))) same
+              (into-body (later-then (p .later) (filled .later))
+              (λ q l d. kept-then (p .kept q (omega arith) d) (filled .kept q (omega arith))) same
               (omega arith)
               (into-shown valid small here (filled .state) (filled .cases-shown) (record { parent = unready₃; claimed = claimed₃ })
               (chains-of g valid inv) (edges-bound s cs bound none) (shows-value (value-shown x e)) shape nodes₃ (omega arith) m))
