@@ -358,15 +358,15 @@ module _ {g : Graph} (few : length (g .regions) ≤ 32) {r : ℕ} (here : r < le
 
 module _ (g : Graph) (valid : Valid g) (few : length (g .regions) ≤ 32) (small : SmallTypes g) where
   pub inst-shown : {w w′ : List ℕ} {r : ℕ} {a : Made} → ByControlInst g w r w′ a → (s : NestState) (cs : List MaybeClaimedRegion)
-      → ShowsState g w s → cells-in-all w ≤ 641 → 1 ≤ word w head 4 → r < length (g .regions) → word w kinds r ≡ 1
+      → ShowsState g w s → cells-in-all w ≤ 641 → r < length (g .regions) → word w kinds r ≡ 1
       → length cs ≡ length (edges-of (region g r .terminator))
       → ((k : ℕ) → k < length (edges-of (region g r .terminator)) → TakenAs g w r k (edge-of g r k) (getD cs k no-case))
       → ((k : ℕ) (c : ClaimedRegion) → getD cs k no-case ≡ ok c → c .origin ≡ r → ⊥)
       → ((i j : ℕ) (c d : ClaimedRegion) → i < j → getD cs i no-case ≡ ok c → getD cs j no-case ≡ ok d → c .origin ≡ d .origin → ⊥)
       → Inv (world g valid) s → ((q : ℕ) → totals (edges-to q) cs ≤ 65535) → totals edgeless cs ≡ 0
       → BodyShows g w w′ r cs 11 (by-control-inst g (blocks-of g r) (region g r .terminator) cs s) a
-  inst-shown {w} {w′} {r} (by-inst.by-inst {w₂} blocks empty end) s cs state room one here busy size each other apart inv bound none =
-      let p = prepared few here blocks empty state (omega arith) one (omega arith) in
+  inst-shown {w} {w′} {r} (by-inst.by-inst {w₂} blocks empty end) s cs state room here busy size each other apart inv bound none =
+      let p = prepared few here blocks empty state (omega arith) (omega arith) (omega arith) in
       by p end (inst-kinds (by-inst.by-inst blocks empty end))
     where
       by : {a : Made} → Prepared g r w w₂ s → ByTerminator g w₂ r w′ a → SameKinds w w′
