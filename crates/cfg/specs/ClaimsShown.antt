@@ -2,7 +2,7 @@
 use mathlib.Core.Path.{_≡_, refl, sym, ap, subst, _∙_}
 use mathlib.Core.Bool.{Bool, true, false, _&&_, not}
 use mathlib.Core.List.{List, [], _∷_, _++_}
-use mathlib.Core.Logic.{_⊎_, inl, inr}
+use mathlib.Core.Logic.{inl, inr}
 use mathlib.Core.Option.{Option, none, some}
 use Prim.Native.Nat.{ℕ, zero, suc, _+_, _*_, _≤_, _<_}
 use native.Mathlib.Omega.{arith}
@@ -18,7 +18,7 @@ use Rattle.fields.specs.ByNumber.{edge-of}
 use Rattle.nesting.specs.Nesting.{NestState, StepAnswer, done, turned-away, incoming-edge-counts, try-claim-edge-bundle, target-regions}
 use Rattle.nesting.specs.Nesting.{by-control-inst, resolve-deferred, structurize-region, blocks-of, MaybeClaimedRegion, ok, err, Body, claim-by-state}
 use Rattle.nesting.specs.Nesting.{DeferredEdgeBundleSet, SplitOut, to-region, to-return, structurize-select-into, condition-in, lazy, add-attempt}
-use Rattle.nesting.specs.Nesting.{split-out-matching, StructurizeRegionState, not-begun, in-progress, claimed, ready, edge-case, defer-edge}
+use Rattle.nesting.specs.Nesting.{split-out-matching, StructurizeRegionState, not-begun, in-progress, claimed, ready, defer-edge}
 use Rattle.nesting.specs.Nesting.{unclaimed-edge, begin, Claim, follow, get-state, ClaimedRegion, DeferredTarget}
 use Rattle.nesting.specs.Nesting.{has-children, count-to}
 use Rattle.nesting.specs.steps.RegionsLeft.{state-of, with-state, not-begun-one}
@@ -31,11 +31,11 @@ use Rattle.follows.specs.simulation.Claims.{claim-post, structurize-region-post
 use Rattle.follows.specs.simulation.Usable.{EdgesUsable}
 use Rattle.follows.specs.simulation.ValidUse.{edges-of-usable}
 use Rattle.follows.specs.counting.Totals.{edge-total, edges-to, totals, edgeless}
-use Rattle.follows.specs.counting.Counting.{Nine, Counted, owed, counted-as, pre-after, pre-as}
+use Rattle.follows.specs.counting.Counting.{Nine, Counted, counted-as, pre-after, pre-as}
 use Rattle.follows.specs.counting.CountClaim.{edges-self}
 use Rattle.follows.specs.counting.CountScan.{aims, AllLive}
 use Rattle.follows.specs.counting.CountRegion.{Begun, targets-live, claim-counted, structurize-counted}
-use Rattle.state.specs.Sections.{word, stored, kinds, levels, children, set-lengths, head, rewrites, used, start, size}
+use Rattle.state.specs.Sections.{word, stored, kinds, levels, children, set-lengths, head, rewrites, start, size}
 use Rattle.state.specs.Tables.{attempted, taken-word, taken-stored}
 use Rattle.shown.specs.CellSteps.{has-list}
 use Rattle.state.specs.Stored.{read-beyond}
@@ -46,29 +46,28 @@ use Rattle.shown.specs.States.{ShowsState, ShowsBody, ShowsRegion, is-not-begun
 use Rattle.shown.specs.Kept.{body-stays, claimed-stays, own-set-stays}
 use Rattle.shown.specs.RegionSteps.{state-stays, concerns-states, state-next, states-by, later-by, kept-by, word-there}
 use Rattle.state.specs.declared.defined.Made.{Made}
-use Rattle.state.specs.declared.defined.Made.the-variants as made
 use Rattle.cfg.specs.declared.claim.Claim as code
-use Rattle.cfg.specs.declared.claim.Claim.the-variants.{Claimed, Unclaimed, Refused}
+use Rattle.cfg.specs.declared.claim.Claim.the-variants.{Refused}
 use Rattle.cfg.specs.declared.claims.Step.{Step}
 use Rattle.cfg.specs.declared.claims.Step.the-variants as step
 use Rattle.cfg.specs.declared.claims.SplitOut as split
 use Rattle.cfg.specs.declared.claims.SplitOut.the-variants as split-variants
 use Rattle.cfg.specs.ByState.{ClaimsByState, unclaimed-word, is-trivial}
-use Rattle.cfg.specs.ByInst.{ByControlInst, ResolvesBy, own-bundle, made-ready}
-use Rattle.cfg.specs.Claims.{NotBegun, own-target, own-count, target-count, TriesClaim, no-region, refused-inside, first-claim}
+use Rattle.cfg.specs.ByInst.{ByControlInst, ResolvesBy}
+use Rattle.cfg.specs.Claims.{NotBegun, own-target, own-count, TriesClaim, no-region, refused-inside, first-claim}
 use Rattle.cfg.specs.Claims.{later-claim, Structurizes, refused-at-targets, refused-at-inst, refused-at-edges, structurized}
 use Rattle.cfg.specs.Claims.{TargetRegions, no-target, target-refused, target-claimed, target-waits, Scans, no-bundle-left}
 use Rattle.cfg.specs.Claims.{passes-return, passes-waiting, claims-bundle, scan-refused, SplitsOut, splits-out, Resolves, no-turn}
 use Rattle.cfg.specs.Claims.{nothing-claimed, claim-refused, select-refused, claims-and, ResolvesAll, resolves-all}
 use Rattle.cfg.specs.Shows.{Held, still-held, Unharmed, unharmed-same, unharmed-then, unharmed-around, Around, around-same, around-then, around-but}
-use Rattle.cfg.specs.Shows.{concerns-around, cells-owed, cells-in-all, owed-stays, world, K, CanClaim, chains-of, ClaimShows}
+use Rattle.cfg.specs.Shows.{cells-in-all, owed-stays, world, K, CanClaim, ClaimShows}
 use Rattle.cfg.specs.Shows.{shows-claimed, shows-unclaimed, shows-refused, TakenAs, was-claimed, was-deferred, was-nothing, TargetsShow}
-use Rattle.cfg.specs.Shows.{shows-targets, refuses-targets, NewlyClaimed, BodyShows, shows-body, refuses-body, ScanShows, shows-nothing}
-use Rattle.cfg.specs.Shows.{shows-split, refuses-scan, TurnsShow, shows-turns, refuses-turns, RegionShows, shows-ready, refuses-region}
+use Rattle.cfg.specs.Shows.{shows-targets, refuses-targets, NewlyClaimed, BodyShows, ScanShows, shows-nothing}
+use Rattle.cfg.specs.Shows.{TurnsShow, shows-turns, RegionShows, shows-ready, refuses-region}
 use Rattle.cfg.specs.Shows.{if-claimed, if-unclaimed, if-refused, if-targets, if-targets-refused, if-body, if-full, if-split, if-turns}
 use Rattle.cfg.specs.Shows.{if-turns-refused, if-ready}
 use Rattle.cfg.specs.TargetsShown.{Noted, notes, noted-cells, held-other, FirstNew, can-first, can-next, targets-more}
-use Rattle.cfg.specs.ScansShown.{own-bundle-is, own-bundle-shown, CanScan, bundle-live, bundle-counts, can-claim-bundle, scan-on}
+use Rattle.cfg.specs.ScansShown.{own-bundle-shown, CanScan, bundle-live, bundle-counts, can-claim-bundle, scan-on}
 use Rattle.cfg.specs.ScansShown.{scan-past-return, passed-return, passed-waiting, scan-claims, scan-refusal}
 use Rattle.cfg.specs.TurnsShown.{CanTurn, can-scan, few-in-cases, right-in-cases, turn-on, first-done, turns-nothing, turns-refuse, turns-full, turns-again}
 use Rattle.cfg.specs.RegionsShown.{CanBegin, can-targets, inv-targets, few-in-targets, right-in-targets, can-turn, begun-shown, begun-cells, beside-kind}

@@ -48,7 +48,6 @@ use Rattle.bundles.specs.CasesFilled as filling
 use Rattle.bundles.specs.CasesFilled.{Taken, filled-one, CasesShown, cases-filled-shown}
 use Rattle.bundles.specs.Appended.{row-alone, append-shown}
 use Rattle.selects.specs.SelectsShown.{shows-value}
-use Rattle.selects.specs.EmitsShown.{SmallTypes}
 use Rattle.selects.specs.IntoShown.{into-shown}
 use Rattle.cfg.specs.ByInst as by-inst
 use Rattle.cfg.specs.ByInst.{AddsBlocks, no-blocks, some-blocks, AddsExit, exit-full, Branches, branches, Selects, selects}
@@ -332,7 +331,7 @@ module _ {g : Graph} (few : length (g .regions) ≤ 32) {r : ℕ} (here : r < le
             (later-then (filled .later) (o .later))
             (λ q l d f. kept-then (filled .kept q (omega arith)) (o .kept q (omega arith) d (λ c h. f 0 c in-list h))) same (omega arith)
 
-        module _ (small : SmallTypes g) (inv : Inv (world g valid) s) (bound : (q : ℕ) → totals (edges-to q) cs ≤ 65535)
+        module _ (inv : Inv (world g valid) s) (bound : (q : ℕ) → totals (edges-to q) cs ≤ 65535)
             (none : totals edgeless cs ≡ 0) {kind : SelectionKind} {v : Value} {es : List Edge}
             (is : region g r .terminator ≡ select-branch kind v es) where
           value-shown : (x : shape.Value) → value-is x ≡ getD (end-values g r) 0 no-value → shown-values.value (value-word x) ≡ v
@@ -353,10 +352,10 @@ module _ {g : Graph} (few : length (g .regions) ≤ 32) {r : ℕ} (here : r < le
               (into-body (later-then (p .later) (filled .later))
               (λ q l d. kept-then (p .kept q (omega arith) d) (filled .kept q (omega arith))) same
               (omega arith)
-              (into-shown valid small here (filled .state) (filled .cases-shown) (record { parent = unready₃; claimed = claimed₃ })
+              (into-shown valid here (filled .state) (filled .cases-shown) (record { parent = unready₃; claimed = claimed₃ })
               (chains-of g valid inv) (edges-bound s cs bound none) (shows-value (value-shown x e)) shape nodes₃ (omega arith) m))
 
-module _ (g : Graph) (valid : Valid g) (few : length (g .regions) ≤ 32) (small : SmallTypes g) where
+module _ (g : Graph) (valid : Valid g) (few : length (g .regions) ≤ 32) where
   pub inst-shown : {w w′ : List ℕ} {r : ℕ} {a : Made} → ByControlInst g w r w′ a → (s : NestState) (cs : List MaybeClaimedRegion)
       → ShowsState g w s → cells-in-all w ≤ 641 → r < length (g .regions) → word w kinds r ≡ 1
       → length cs ≡ length (edges-of (region g r .terminator))
@@ -380,8 +379,8 @@ module _ (g : Graph) (valid : Valid g) (few : length (g .regions) ≤ 32) (small
       by p (at-exit e x) same = at-exit-shown few here p busy (omega arith) (sym e) x same
       by p (at-branch e x) same = at-branch-shown few here p busy (omega arith) valid cs size each other apart (sym e) x same
       by p (at-bool e x) same =
-          at-select-shown few here p busy (omega arith) valid cs size each other apart small inv bound none (sym e)
+          at-select-shown few here p busy (omega arith) valid cs size each other apart inv bound none (sym e)
           (shape-bool refl (size ∙ bool-edges valid here (sym e))) x same
       by p (at-number e x) same =
-          at-select-shown few here p busy (omega arith) valid cs size each other apart small inv bound none (sym e)
+          at-select-shown few here p busy (omega arith) valid cs size each other apart inv bound none (sym e)
           (shape-number (number-edges valid here (sym e)) (few-edges valid here) size) x same

@@ -1,5 +1,4 @@
 -- What the parts leave, by the words alone: the record, and the kinds of the regions.
-use mathlib.Core.Path.{_≡_}
 use mathlib.Core.Bool.{Bool, true, false}
 use mathlib.Core.List.{List}
 use Prim.Native.Nat.{ℕ, zero, suc, _+_, _*_, _-_}
@@ -24,14 +23,14 @@ use Rattle.selects.specs.Turns.{front-turns}
 use Rattle.selects.specs.Emits.{Emits, EmitAt, front-bundle}
 use Rattle.selects.specs.Fronts.{front-cases, front-targets, front-plans, front-select, front-made}
 use Rattle.selects.specs.Into.{SelectIf, not-needed, select-refused, select-made, Structurizes, not-structurized, structurized}
-use Rattle.selects.specs.Into.{StructurizesInto, one-follows, one-refused, all-together, all-refused, spare-taken, set-aside, with-targets}
+use Rattle.selects.specs.Into.{StructurizesInto, one-follows, one-refused, all-together, all-refused, with-targets}
 use Rattle.selects.specs.Into.{with-plan}
 use Rattle.loops.specs.Inputs.{RewritesValue, looked-up, left-as-is, RewritesValues, none-yet, one-more, TakesInput, lifted, kept, beyond}
 use Rattle.loops.specs.Inputs.{TakesFrom, none-taken, one-taken}
 use Rattle.loops.specs.declared.inputs.Taken.{Taken}
 use Rattle.loops.specs.Exits.{exit-front, exits-from}
 use Rattle.loops.specs.Loops as loops
-use Rattle.loops.specs.Loops.{AddsLoop, adds-loop, LoopDefined, loop-defined, no-value, no-node, EntersInputs, enters}
+use Rattle.loops.specs.Loops.{adds-loop, LoopDefined, loop-defined, no-value, no-node, EntersInputs, enters}
 
 -- ---- Words of the state.
 inserted-kinds : (w : List ℕ) (r kind : ℕ) (vs : List ℕ) → SameKinds w (inserted w r kind vs)

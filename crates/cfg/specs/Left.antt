@@ -1,35 +1,29 @@
 -- The number of regions not begun falls with each region that is structurized, and never grows; and the record goes on standing.
-use mathlib.Core.Path.{_≡_, refl, sym, ap, _∙_}
-use mathlib.Core.Bool.{Bool, true, false}
-use mathlib.Core.List.{List, [], _∷_}
+use mathlib.Core.Path.{_≡_, refl, ap, _∙_}
+use mathlib.Core.List.{List}
 use Prim.Native.Nat.{ℕ, zero, suc, _+_, _*_, _≤_, _<_}
 use native.Mathlib.Omega.{arith}
 use native.Mathlib.Decide.{ℕ-discrete, decLt}
-use lib.ListN.{length, getD, set, length-set}
+use lib.ListN.{length, getD, set}
 use lib.Seq.{getD-set-same, getD-set-other, set-out}
 use lib.Dec.{eqb}
 use borrow.Author.Tests.{lt-ltb, le-ltb, ne-eqb}
-use Rattle.state.specs.declared.cells.Cell.{Cell}
-use Rattle.state.specs.declared.defined.Defined.{Defined}
 use Rattle.meaning.specs.Graph.{Graph}
 use Rattle.meaning.specs.Lists.{pick}
 use Rattle.record.specs.Stands.{Stands}
-use Rattle.state.specs.Sections.{Section, section, word, stored, kinds, bodies, backedges, children, set-lengths, levels, head, number}
-use Rattle.state.specs.Sections.{stored-all, cells}
-use Rattle.state.specs.Apart.{section-stored, section-other}
-use Rattle.state.specs.Tables.{attempted, taken-stored, Adds, added, no-room, cell-words, Defines, defined, full}
+use Rattle.state.specs.Sections.{section, word, stored, kinds, bodies, backedges, children, set-lengths, levels, head}
+use Rattle.state.specs.Apart.{section-stored}
+use Rattle.state.specs.Tables.{attempted, taken-stored}
 use Rattle.shown.specs.Front.{SameFront, front-same, front-then, front-stored, stands-on, SameKinds, kinds-same, kinds-stored, kinds-then}
 use Rattle.shown.specs.Front.{adds-kinds, defines-kinds}
-use Rattle.shown.specs.Stores.{run-other}
-use Rattle.bundles.specs.Words.{cases-filled}
 use Rattle.cfg.specs.Leaves.{cases-kinds, split-kinds, return-kinds, appends-kinds, into-kinds, loops-kinds}
 use Rattle.state.specs.declared.defined.Made.{Made}
 use Rattle.cfg.specs.declared.claim.Claim.{Claim}
 use Rattle.cfg.specs.declared.claims.Step.{Step}
 use Rattle.cfg.specs.declared.claims.SplitOut.{SplitOut}
 use Rattle.cfg.specs.ByState.{ClaimsBody, no-backedges, none-found, by-loop, ClaimsByState, ready-claimed, ready-waits, busy-claimed}
-use Rattle.cfg.specs.ByState.{busy-waits, other-state, as-claimed, unclaimed-word}
-use Rattle.cfg.specs.ByInst.{AddsBlocks, no-blocks, some-blocks, AddsExit, exit-full, exit-added, Branches, branches, Selects, selects}
+use Rattle.cfg.specs.ByState.{busy-waits, other-state, as-claimed}
+use Rattle.cfg.specs.ByInst.{AddsExit, exit-full, exit-added, branches, Selects, selects}
 use Rattle.cfg.specs.ByInst.{ByTerminator, at-unreachable, at-return, at-exit, at-branch, at-bool, at-number, ByControlInst, by-inst}
 use Rattle.cfg.specs.ByInst.{ResolvesBy, resolves, made-ready, backedges-deferred, blocks-kinds}
 use Rattle.cfg.specs.Claims.{NotBegun, TriesClaim, no-region, refused-inside, first-claim, later-claim, Structurizes}

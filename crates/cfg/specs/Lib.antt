@@ -10,6 +10,9 @@ pub mod ScansShown
 pub mod TurnsShown
 pub mod RegionsShown
 pub mod ClaimsShown
+pub mod StateShown
+pub mod Func
+pub mod WholeShown
 pub mod SelectBodies
 pub mod ResolveShown
 pub mod InstShown

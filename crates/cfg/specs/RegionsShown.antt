@@ -1,10 +1,9 @@
 -- A region, from its first step to its last: how nesting stands at each, and what the words then show.
-use mathlib.Core.Path.{_≡_, refl, sym, ap, subst, _∙_}
-use mathlib.Core.Bool.{true, false}
-use mathlib.Core.List.{List, [], _∷_}
-use mathlib.Core.Logic.{_⊎_, inl, inr}
-use mathlib.Core.Option.{Option, none, some}
-use Prim.Native.Nat.{ℕ, zero, suc, _+_, _*_, _≤_, _<_}
+use mathlib.Core.Path.{_≡_, refl, ap, subst, _∙_}
+use mathlib.Core.Bool.{true}
+use mathlib.Core.List.{List}
+use mathlib.Core.Logic.{inl, inr}
+use Prim.Native.Nat.{ℕ, suc, _+_, _*_, _≤_, _<_}
 use native.Mathlib.Omega.{arith}
 use lib.ListN.{length, getD}
 use lib.Dec.{eqb}
@@ -12,9 +11,9 @@ use borrow.Author.Tests.{eq-eqb, ne-eqb}
 use Rattle.meaning.specs.Graph.{Graph, Edge, region, edges-of}
 use Rattle.meaning.specs.Lists.{is-in, pick}
 use Rattle.format.specs.Valid.{Valid}
-use Rattle.nesting.specs.Nesting.{NestState, StepAnswer, done, turned-away, incoming-edge-counts, try-claim-edge-bundle, target-regions}
-use Rattle.nesting.specs.Nesting.{by-control-inst, resolve-deferred, structurize-region, blocks-of, count-to, MaybeClaimedRegion, Body, Claim}
-use Rattle.nesting.specs.Nesting.{DeferredEdgeBundleSet, to-region, not-begun, in-progress, ready, get-edge-bundle-by-target}
+use Rattle.nesting.specs.Nesting.{NestState, done, incoming-edge-counts, try-claim-edge-bundle, target-regions}
+use Rattle.nesting.specs.Nesting.{by-control-inst, blocks-of, count-to, MaybeClaimedRegion, Body, Claim}
+use Rattle.nesting.specs.Nesting.{DeferredEdgeBundleSet, to-region, not-begun, in-progress, ready}
 use Rattle.nesting.specs.steps.Post.{Post}
 use Rattle.nesting.specs.steps.RegionsLeft.{state-of, with-state}
 use Rattle.follows.specs.counting.Reach.{target-reachable}
@@ -27,21 +26,21 @@ use Rattle.follows.specs.simulation.TargetRegions.{CasesDone, cases-back, in-ta
 use Rattle.follows.specs.simulation.ByTerminator.{by-control-inst-post}
 use Rattle.follows.specs.simulation.Claims.{claim-post, first-doing}
 use Rattle.follows.specs.counting.Totals.{edge-total, edges-to, totals, edgeless}
-use Rattle.follows.specs.counting.Counting.{Nine, Pre, Counted, owed, owed-by, owed-set, edges-leaving, live-count, counted-then, pre-after}
+use Rattle.follows.specs.counting.Counting.{Nine, Pre, Counted, owed, owed-by, owed-set, live-count, counted-then, pre-after}
 use Rattle.follows.specs.counting.CountScan.{aims, CasesCounted, BodyCounted, target-regions-counted, by-control-inst-counted}
 use Rattle.follows.specs.counting.CountRegion.{claim-counted, targets-live, pre-under-way}
-use Rattle.state.specs.Sections.{Section, number, section, word, stored, kinds, backedges, children, bundles, set-starts, set-lengths, head, used}
+use Rattle.state.specs.Sections.{Section, number, word, stored, kinds, backedges, children, bundles, set-starts, set-lengths, head, used}
 use Rattle.state.specs.Apart.{section-other, stored-length}
 use Rattle.shown.specs.Stores.{word-changes}
 use Rattle.shown.specs.Sets.{shows-region}
 use Rattle.shown.specs.SetSteps.{Finds, found, none-found, finds}
-use Rattle.shown.specs.States.{ShowsState, ShowsBody, ShowsOwnSet, is-in-progress, is-ready}
+use Rattle.shown.specs.States.{ShowsState, ShowsBody, is-in-progress, is-ready}
 use Rattle.shown.specs.Kept.{Later, later-then, set-stays, KeptRegion, kept-then}
 use Rattle.shown.specs.RegionSteps.{later-by, kept-by, bundles-same, word-there, word-apart, word-concerns, concerns-states, state-stays}
 use Rattle.shown.specs.RegionSteps.{kind-set, Concerns, MakesNothing}
 use Rattle.cfg.specs.ByState.{backedge-at}
 use Rattle.cfg.specs.ByInst.{backedges-deferred, made-ready}
-use Rattle.cfg.specs.Shows.{Held, Unharmed, Around, around-then, concerns-around, cells-owed, cells-in-all, owed-stays, owed-kind}
+use Rattle.cfg.specs.Shows.{Held, Unharmed, Around, cells-in-all, owed-stays, owed-kind}
 use Rattle.cfg.specs.Shows.{world, K, CanClaim}
 use Rattle.cfg.specs.TurnsShown.{CanTurn}
 
@@ -150,13 +149,13 @@ module _ {g : Graph} {w : List ℕ} {s : NestState} (shown : ShowsState g w s) (
       let y = rw e at z in omega arith
 
 -- A list that a region under way does not have of its own.
-record OfBody (k : Section) : Type 0 where
-  nothing : MakesNothing k 16
-  not-head : number k ≡ 1 → ⊥
-  not-starts : 4 ≡ number k → ⊥
-  not-lengths : 5 ≡ number k → ⊥
-  not-children : 6 ≡ number k → ⊥
-  not-bundles : 15 ≡ number k → ⊥
+pub record OfBody (k : Section) : Type 0 where
+  pub nothing : MakesNothing k 16
+  pub not-head : number k ≡ 1 → ⊥
+  pub not-starts : 4 ≡ number k → ⊥
+  pub not-lengths : 5 ≡ number k → ⊥
+  pub not-children : 6 ≡ number k → ⊥
+  pub not-bundles : 15 ≡ number k → ⊥
 
 -- Only region r's state changes.
 pub record Beside (g : Graph) (r : ℕ) (w w′ : List ℕ) : Type 0 where
@@ -191,6 +190,21 @@ region-unharmed {r} {w} {w₁} {w₃} free a b c =
     first q (inl e) = inl (a .kinds-stay q (other q (inl e)) ∙ e)
     first q (inr e) = inr (a .kinds-stay q (other q (inr e)) ∙ e)
 
+pub body-with : {g : Graph} (r : ℕ) (x : Body) (k : Section) (w : List ℕ) (y : ℕ) → OfBody k → ShowsBody g w r x
+    → ShowsBody g (stored w k r y) r x
+body-with {g} r x k w y o b =
+    let changes = word-changes k 16 w (o .not-head) r y in
+    let later = later-by changes (o .nothing) g in
+    let starts : word (stored w k r y) set-starts r ≡ word w set-starts r = ap (λ l. getD l r 0) (changes .others set-starts (o .not-starts) (omega arith)) in
+    let lengths : word (stored w k r y) set-lengths r ≡ word w set-lengths r =
+    ap (λ l. getD l r 0) (changes .others set-lengths (o .not-lengths) (omega arith)) in
+    let handle : word (stored w k r y) children r ≡ word w children r = ap (λ l. getD l r 0) (changes .others children (o .not-children) (omega arith)) in
+    record {
+      nodes = rw handle (later .nodes-stay (b .nodes));
+      set = rw (starts, lengths)
+          (set-stays later (λ i h. bundles-same (changes .others bundles (o .not-bundles) (omega arith)) (word w set-starts r + i)) (b .set));
+    }
+
 module _ {g : Graph} {w : List ℕ} {s : NestState} (shown : ShowsState g w s) (few : length (g .regions) ≤ 32) (r : ℕ)
     (in-graph : r < length (g .regions)) (busy : word w kinds r ≡ 1) (x : Body) (body : ShowsBody g w r x) where
   abbrev d : DeferredEdgeBundleSet
@@ -221,26 +235,12 @@ module _ {g : Graph} {w : List ℕ} {s : NestState} (shown : ShowsState g w s) (
   abbrev first : Concerns g r w w₁
   first = word-concerns g w backedges (omega arith) r n
 
-  body-with : (k : Section) (w : List ℕ) (y : ℕ) → OfBody k → ShowsBody g w r x → ShowsBody g (stored w k r y) r x
-  body-with k w y o b =
-      let changes = word-changes k 16 w (o .not-head) r y in
-      let later = later-by changes (o .nothing) g in
-      let starts : word (stored w k r y) set-starts r ≡ word w set-starts r = ap (λ l. getD l r 0) (changes .others set-starts (o .not-starts) (omega arith)) in
-      let lengths : word (stored w k r y) set-lengths r ≡ word w set-lengths r =
-      ap (λ l. getD l r 0) (changes .others set-lengths (o .not-lengths) (omega arith)) in
-      let handle : word (stored w k r y) children r ≡ word w children r = ap (λ l. getD l r 0) (changes .others children (o .not-children) (omega arith)) in
-      record {
-        nodes = rw handle (later .nodes-stay (b .nodes));
-        set = rw (starts, lengths)
-            (set-stays later (λ i h. bundles-same (changes .others bundles (o .not-bundles) (omega arith)) (word w set-starts r + i)) (b .set));
-      }
-
   pub ready-shown : ShowsState g (made-ready w r) (with-state s r (ready (count-to r d) (x .children) d))
   ready-shown =
       let room = shown .tables .size in
       let st : ShowsState g w₁ s = state-stays (first .later) (concerns-states first few (λ e. absurd (omega arith))) (first .tables) shown in
-      let b₁ = body-with backedges w n (omega arith) body in
-      let b₂ = body-with kinds w₁ 2 (omega arith) b₁ in
+      let b₁ = body-with r x backedges w n (omega arith) body in
+      let b₂ = body-with r x kinds w₁ 2 (omega arith) b₁ in
       let room₁ = st .tables .size in
       let counted : word (made-ready w r) backedges r ≡ count-to r d =
       ap (λ l. getD l r 0) (section-other w₁ kinds r 2 backedges (omega arith)) ∙ word-there w backedges r n (omega arith) there ∙ backedges-are in

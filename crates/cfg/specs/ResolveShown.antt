@@ -23,14 +23,13 @@ use Rattle.bundles.specs.Words.{split-filled}
 use Rattle.bundles.specs.Targets.{condition-in-shown}
 use Rattle.bundles.specs.SplitFilled.{SplitShown, split-filled-shown}
 use Rattle.selects.specs.SelectsShown.{shows-lazy}
-use Rattle.selects.specs.EmitsShown.{SmallTypes}
 use Rattle.selects.specs.IntoShown.{into-shown}
 use Rattle.cfg.specs.ByInst.{ResolvesBy, resolves, own-condition}
 use Rattle.cfg.specs.Left.{resolve-kinds}
 use Rattle.cfg.specs.Shows.{cells-in-all, world, chains-of, BodyShows}
 use Rattle.cfg.specs.SelectBodies.{edges-bound, into-body}
 
-module _ (g : Graph) (valid : Valid g) (few : length (g .regions) ≤ 32) (small : SmallTypes g) where
+module _ (g : Graph) (valid : Valid g) (few : length (g .regions) ≤ 32) where
   pub resolve-shown : {w w′ : List ℕ} {r i : ℕ} {a : Made} → ResolvesBy g w r i w′ a → (s : NestState) (x : Body) (y : SplitOut) (t : ℕ)
       → ShowsState g w s → cells-in-all w ≤ 641 → r < length (g .regions) → word w kinds r ≡ 1 → ShowsBody g w r x
       → i < length (x .deferred-edges) → y .bundle ≡ getD (x .deferred-edges) i no-bundle
@@ -65,7 +64,7 @@ module _ (g : Graph) (valid : Valid g) (few : length (g .regions) ≤ 32) (small
       let own : ShowsChildren g w₁ (word w₁ children r) (x .children) =
       rw (only-word-same (filled .only) children (omega arith) r) (filled .later .nodes-stay (body .nodes)) in
       into-body (filled .later) (λ q l e. filled .kept q (omega arith) e) (resolve-kinds (resolves m)) (omega arith)
-      (into-shown valid small here (filled .state) (filled .cases-shown)
+      (into-shown valid here (filled .state) (filled .cases-shown)
       (record {
         parent = λ e. unready (sym (same-kinds r) ∙ e);
         claimed = λ j h z e.

@@ -1,19 +1,19 @@
 -- The scan of a region's set: each step, from what its claim shows.
 use mathlib.Core.Path.{_≡_, refl, sym, ap, subst, _∙_}
-use mathlib.Core.Bool.{true, false}
+use mathlib.Core.Bool.{true}
 use mathlib.Core.List.{List, [], _∷_, _++_}
 use mathlib.Core.Option.{Option, none, some}
-use Prim.Native.Nat.{ℕ, zero, suc, _+_, _*_, _≤_, _<_}
+use Prim.Native.Nat.{ℕ, zero, suc, _+_, _≤_, _<_}
 use native.Mathlib.Omega.{arith}
 use lib.ListN.{length, getD, take, drop}
 use lib.Seq.{take-suc, drop-cons}
 use borrow.Author.Tests.{eq-eqb}
-use Rattle.meaning.specs.Graph.{Graph, region}
+use Rattle.meaning.specs.Graph.{Graph}
 use Rattle.meaning.specs.Lists.{is-in}
 use Rattle.format.specs.Valid.{Valid}
 use Rattle.nesting.specs.Nesting.{NestState, StepAnswer, done, turned-away, ClaimedRegion, DeferredEdgeBundle, DeferredEdgeBundleSet}
 use Rattle.nesting.specs.Nesting.{DeferredTarget, to-region, to-return, incoming-edge-counts, try-claim-edge-bundle, split-out-matching}
-use Rattle.nesting.specs.Nesting.{SplitOut, split-out-or, follow, Claim, Step, _>>=_}
+use Rattle.nesting.specs.Nesting.{SplitOut, split-out-or, Claim, Step, _>>=_}
 use Rattle.nesting.specs.steps.Post.{Post}
 use Rattle.follows.specs.simulation.Defined.{IfDone}
 use Rattle.follows.specs.simulation.Invariant.{Inv}
@@ -24,14 +24,13 @@ use Rattle.follows.specs.counting.Counting.{Nine, Pre, Counted, Good, owed, cou
 use Rattle.follows.specs.counting.CountClaim.{Claims}
 use Rattle.follows.specs.counting.CountScan.{live-of, count-pos}
 use Rattle.follows.specs.counting.CountRegion.{claim-counted}
-use Rattle.state.specs.Sections.{word, bundles, set-starts, set-lengths}
-use Rattle.shown.specs.Sets.{ShowsBundle, ShowsSet, ShowsTarget, shows-region, shows-return, no-bundle}
+use Rattle.state.specs.Sections.{word, set-starts}
+use Rattle.shown.specs.Sets.{ShowsBundle, no-bundle}
 use Rattle.shown.specs.SetSteps.{bundle-in}
 use Rattle.shown.specs.States.{ShowsState, ShowsOwnSet, ShowsClaimed}
 use Rattle.cfg.specs.declared.claims.SplitOut as split
 use Rattle.cfg.specs.declared.claims.SplitOut.the-variants as split-variants
 use Rattle.cfg.specs.ByInst.{own-bundle}
-use Rattle.cfg.specs.Claims.{own-target, own-count}
 use Rattle.cfg.specs.Shows.{Held, Unharmed, unharmed-then, cells-in-all, world, K, CanClaim, ScanShows, shows-nothing, shows-split, refuses-scan}
 
 -- ---- Bundle i of region r's set, in words.

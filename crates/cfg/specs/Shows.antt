@@ -1,6 +1,5 @@
 -- What is shown after a claim, a region, its targets, a scan: the definition's answer, and all that the callers hold as it was.
-use mathlib.Core.Path.{_≡_, refl, sym, ap, subst, _∙_}
-use mathlib.Core.Bool.{Bool, true, false}
+use mathlib.Core.Path.{_≡_, refl, ap, subst, _∙_}
 use mathlib.Core.List.{List, [], _++_}
 use mathlib.Core.Logic.{_⊎_, inl, inr}
 use mathlib.Core.Option.{Option, none, some}
@@ -21,10 +20,10 @@ use Rattle.nesting.specs.lookups.Contexts.{rooted-ends}
 use Rattle.follows.specs.simulation.ValidUse.{usable-graph}
 use Rattle.follows.specs.simulation.World.{World}
 use Rattle.follows.specs.simulation.Invariant.{Inv}
-use Rattle.follows.specs.counting.Counting.{Counting, Pre, Counted, owed, pre-after, pre-as}
+use Rattle.follows.specs.counting.Counting.{Counting, Pre, owed}
 use Rattle.follows.specs.counting.Attempts.{counting}
-use Rattle.state.specs.Sections.{Section, section, word, stored, kinds, head, start, size, used}
-use Rattle.state.specs.Apart.{section-stored, section-other}
+use Rattle.state.specs.Sections.{section, word, stored, kinds, head, start, size, used}
+use Rattle.state.specs.Apart.{section-stored}
 use Rattle.shown.specs.Stores.{part-length}
 use Rattle.state.specs.Tables.{taken-word}
 use Rattle.shown.specs.Sets.{no-bundle}

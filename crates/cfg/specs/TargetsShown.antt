@@ -1,43 +1,38 @@
 -- The targets of a region: each step, from what its claim shows.
-use mathlib.Core.Path.{_≡_, refl, sym, ap, subst, _∙_}
-use mathlib.Core.Bool.{true, false}
-use mathlib.Core.List.{List, [], _∷_}
-use mathlib.Core.Logic.{_⊎_, inl, inr}
-use mathlib.Core.Option.{Option, none, some}
+use mathlib.Core.Path.{_≡_, ap, subst, _∙_}
+use mathlib.Core.Bool.{true}
+use mathlib.Core.List.{List, _∷_}
+use mathlib.Core.Logic.{inl, inr}
+use mathlib.Core.Option.{Option}
 use Prim.Native.Nat.{ℕ, zero, suc, _+_, _*_, _≤_, _<_}
 use native.Mathlib.Omega.{arith}
-use native.Mathlib.Decide.{decLt}
 use lib.ListN.{length, getD}
-use borrow.Author.Tests.{lt-ltb, eq-eqb, ne-eqb}
-use Rattle.meaning.specs.Graph.{Graph, Value, Edge, no-edge, region}
-use Rattle.meaning.specs.Lists.{is-in, pick}
+use borrow.Author.Tests.{lt-ltb}
+use Rattle.meaning.specs.Graph.{Graph, Edge, no-edge}
+use Rattle.meaning.specs.Lists.{is-in}
 use Rattle.format.specs.Valid.{Valid}
-use Rattle.nesting.specs.Nesting.{NestState, StepAnswer, done, turned-away, ClaimedRegion, MaybeClaimedRegion, ok, err, deferred-of, defer-edge}
-use Rattle.nesting.specs.Nesting.{to-region, incoming-edge-counts, try-claim-edge-bundle, target-regions, edge-case, unclaimed-edge}
-use Rattle.nesting.specs.Nesting.{StructurizeRegionState, not-begun, in-progress, claimed, ready, follow, give, Claim}
+use Rattle.nesting.specs.Nesting.{NestState, done, ClaimedRegion, MaybeClaimedRegion, ok, deferred-of}
+use Rattle.nesting.specs.Nesting.{to-region, incoming-edge-counts, try-claim-edge-bundle, target-regions, edge-case}
+use Rattle.nesting.specs.Nesting.{Claim}
 use Rattle.nesting.specs.steps.Post.{Post}
-use Rattle.nesting.specs.steps.RegionsLeft.{state-of}
 use Rattle.follows.specs.simulation.Defined.{IfDone}
-use Rattle.follows.specs.simulation.Invariant.{Inv}
 use Rattle.follows.specs.simulation.ClaimReady.{ClaimDone}
 use Rattle.follows.specs.simulation.Claims.{claim-post}
 use Rattle.follows.specs.simulation.Usable.{EdgeUsable}
 use Rattle.follows.specs.counting.Totals.{edge-total, edges-to}
-use Rattle.follows.specs.counting.Counting.{Nine, Counted}
+use Rattle.follows.specs.counting.Counting.{Nine}
 use Rattle.follows.specs.counting.CountClaim.{Claims}
-use Rattle.follows.specs.counting.CountScan.{aims, CaseCounted, edge-case-counted, first-target, next-target, NextTarget}
+use Rattle.follows.specs.counting.CountScan.{aims, CaseCounted, edge-case-counted, first-target, next-target}
 use Rattle.follows.specs.counting.CountRegion.{claim-counted}
-use Rattle.state.specs.Sections.{word, stored, kinds, levels, children, set-lengths, head, used}
+use Rattle.state.specs.Sections.{word, kinds, levels, children, set-lengths, used}
 use Rattle.state.specs.Apart.{section-other}
 use Rattle.state.specs.Tables.{taken-stored, taken-word}
-use Rattle.shown.specs.States.{ShowsState, ShowsClaimed, no-case}
-use Rattle.shown.specs.Kept.{KeptRegion, claimed-stays}
-use Rattle.shown.specs.RegionSteps.{Concerns, taken-concerns, concerns-states, state-stays, word-there, word-apart}
-use Rattle.cfg.specs.declared.claim.Claim.the-variants.{Claimed, Unclaimed, Refused}
+use Rattle.shown.specs.States.{no-case}
+use Rattle.shown.specs.Kept.{claimed-stays}
+use Rattle.shown.specs.RegionSteps.{Concerns, taken-concerns, word-there, word-apart}
 use Rattle.cfg.specs.declared.claims.Step.{Step}
-use Rattle.cfg.specs.declared.claims.Step.the-variants as step
-use Rattle.cfg.specs.Shows.{Held, NewlyClaimed, Around, around-then, unharmed-around, concerns-around, Unharmed, cells-owed, cells-in-all, owed-stays}
-use Rattle.cfg.specs.Shows.{world, K, CanClaim, ClaimShows, shows-claimed, shows-unclaimed, shows-refused, TakenAs, was-claimed}
+use Rattle.cfg.specs.Shows.{Held, NewlyClaimed, Around, around-then, concerns-around, cells-in-all, owed-stays}
+use Rattle.cfg.specs.Shows.{world, K, CanClaim, TakenAs, was-claimed}
 use Rattle.cfg.specs.Shows.{was-deferred, was-nothing, TargetsShow, shows-targets, refuses-targets}
 
 -- ---- How a target was taken is noted in region r's own words.

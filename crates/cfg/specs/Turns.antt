@@ -1,16 +1,15 @@
 -- The functions of the cycle, path by path: what each turn of their loops leaves to be done.
-use mathlib.Core.Path.{_≡_, refl, sym, ap, _∙_}
+use mathlib.Core.Path.{_≡_, refl, sym, _∙_}
 use mathlib.Core.List.{List}
 use Prim.Native.Nat.{ℕ, suc, _+_, _*_, _-_, _≤_, _<_}
 use native.Mathlib.Omega.{arith}
 use native.Mathlib.Numerals.{add-one}
 use lib.ListN.{length, getD}
-use Rattle.meaning.specs.Graph.{Graph, region}
+use Rattle.meaning.specs.Graph.{Graph}
 use Rattle.record.specs.Stands.{Stands}
 use Rattle.fields.specs.ByNumber.{edge-of}
-use Rattle.state.specs.Sections.{section, word, stored, kinds, bundles, set-starts, set-lengths, start, size, used}
+use Rattle.state.specs.Sections.{word, stored, kinds, bundles, set-starts, set-lengths, start, size, used}
 use Rattle.state.specs.Tables.{attempted, taken-stored, bundle-at}
-use Rattle.store.specs.Layout.{Lent}
 use Rattle.shown.specs.Front.{stands-on}
 use Rattle.shown.specs.Stores.{part-length}
 use Rattle.state.specs.declared.defined.Made.{Made}

@@ -1,33 +1,32 @@
 -- Turns over the deferred edges of a region, from what the scan and the select of each show.
-use mathlib.Core.Path.{_≡_, refl, sym, ap, subst, _∙_}
+use mathlib.Core.Path.{_≡_, subst}
 use mathlib.Core.List.{List, [], _∷_}
 use mathlib.Core.Logic.{inl}
-use mathlib.Core.Option.{Option, none, some}
+use mathlib.Core.Option.{Option, some}
 use Prim.Native.Nat.{ℕ, suc, _+_, _≤_, _<_}
 use native.Mathlib.Omega.{arith}
-use lib.ListN.{length}
 use Rattle.meaning.specs.Graph.{Graph, bool-cond}
 use Rattle.format.specs.Valid.{Valid}
-use Rattle.nesting.specs.Nesting.{NestState, StepAnswer, done, turned-away, DeferredEdgeBundleSet, incoming-edge-counts, try-claim-edge-bundle}
+use Rattle.nesting.specs.Nesting.{NestState, StepAnswer, done, DeferredEdgeBundleSet, incoming-edge-counts, try-claim-edge-bundle}
 use Rattle.nesting.specs.Nesting.{split-out-matching, SplitOut, resolve-deferred, structurize-select-into, condition-in, lazy, ok, err, Body, Claim}
 use Rattle.nesting.specs.steps.Post.{Post}
 use Rattle.follows.specs.simulation.Defined.{IfDone}
 use Rattle.follows.specs.simulation.ClaimedRegions.{Came}
 use Rattle.follows.specs.simulation.Claims.{claim-post}
 use Rattle.follows.specs.simulation.Scan.{FirstDone, split-out-matching-post, found-post}
-use Rattle.follows.specs.counting.Totals.{edge-total, edges-to, to-regions, totals, edgeless}
+use Rattle.follows.specs.counting.Totals.{edge-total, edges-to, totals, edgeless}
 use Rattle.follows.specs.counting.Counting.{Nine, Pre, Good, owed, live-count, pre-after, pre-as}
 use Rattle.follows.specs.counting.CountScan.{ScanCounted, BodyCounted, scan-few, split-out-counted}
 use Rattle.follows.specs.counting.CountRegion.{claim-counted, turn-counted}
 use Rattle.state.specs.Sections.{word, kinds}
 use Rattle.shown.specs.Kept.{body-stays}
-use Rattle.shown.specs.States.{ShowsState, ShowsBody}
+use Rattle.shown.specs.States.{ShowsBody}
 use Rattle.state.specs.declared.defined.Made.the-variants as made
 use Rattle.cfg.specs.declared.claims.Step.{Step}
 use Rattle.cfg.specs.declared.claims.Step.the-variants as step
 use Rattle.cfg.specs.declared.claims.SplitOut.the-variants as split-variants
-use Rattle.cfg.specs.Shows.{Unharmed, Around, around-then, unharmed-around, cells-in-all, world, K, BodyShows, shows-body, refuses-body}
-use Rattle.cfg.specs.Shows.{ScanShows, shows-nothing, shows-split, refuses-scan, TurnsShow, shows-turns, refuses-turns}
+use Rattle.cfg.specs.Shows.{Unharmed, Around, around-then, unharmed-around, cells-in-all, world, K, BodyShows, refuses-body}
+use Rattle.cfg.specs.Shows.{ScanShows, shows-nothing, refuses-scan, TurnsShow, shows-turns, refuses-turns}
 use Rattle.cfg.specs.ScansShown.{CanScan}
 
 module _ (g : Graph) (valid : Valid g) (fuel : ℕ) where

@@ -153,12 +153,12 @@ condition-shown g o l j p (e ∷ d) size (stands-at {e = f} there apart shown is
     go false = shown .condition
 
 -- What the case passes, where it goes there.
-inputs-there : (x : DeferredTarget) (d : DeferredEdgeBundleSet) {e : DeferredEdgeBundle} → get-edge-bundle-by-target x d ≡ some e
+pub inputs-there : (x : DeferredTarget) (d : DeferredEdgeBundleSet) {e : DeferredEdgeBundle} → get-edge-bundle-by-target x d ≡ some e
     → nesting.per-case-deferred x d .inputs ≡ some (e .target-inputs)
 inputs-there x [] get = absurd (clash (cc))
 inputs-there x (f ∷ d) get = rw get
 
-inputs-nowhere : (x : DeferredTarget) (d : DeferredEdgeBundleSet) → get-edge-bundle-by-target x d ≡ none
+pub inputs-nowhere : (x : DeferredTarget) (d : DeferredEdgeBundleSet) → get-edge-bundle-by-target x d ≡ none
     → nesting.per-case-deferred x d .inputs ≡ none
 inputs-nowhere x [] get = refl
 inputs-nowhere x (f ∷ d) get = rw get
@@ -340,8 +340,8 @@ module _ (l : List ℕ) (t : ℕ) where
   places-before (suc n) i ps j h =
       places-before n (suc i) (put-place ps i) j (omega arith) ∙ getD-set-other ps i j (place-of l t i) 0 (omega arith)
 
-  places-at : (n i : ℕ) (ps : List ℕ) → i + n ≤ length ps → (j : ℕ) → i ≤ j → j < i + n → getD (turned put-place ps n i) j 0 ≡ place-of l
-      t j
+  places-at : (n i : ℕ) (ps : List ℕ) → i + n ≤ length ps → (j : ℕ) → i ≤ j → j < i + n
+      → getD (turned put-place ps n i) j 0 ≡ place-of l t j
   unfolding turned
   places-at zero i ps room j a b = absurd (omega arith)
   places-at (suc n) i ps room j a b =

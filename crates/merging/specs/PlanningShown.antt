@@ -155,7 +155,30 @@ or-true : (b : Bool) → true ≡ (b || true)
 or-true true = refl
 or-true false = refl
 
--- ---- A row.
+-- ---- A row, before and after; where its bundle stays, it does.
+row-stays : {g : Graph} {l l′ : List ℕ} {p : ℕ} {t : DeferredTargetSummary} → SameBundle l l′ p → ShowsRow g l p t → ShowsRow g l′ p t
+row-stays same row =
+    record {
+      target = rw (same .words 0 (omega arith)) (row .target);
+      count = same .words 1 (omega arith) ∙ row .count;
+      condition = same .words 2 (omega arith) ∙ row .condition;
+      size = row .size;
+      few = row .few;
+    }
+
+pub planned-stays : {g : Graph} {l l′ : List ℕ} {p : ℕ} {b : PlannedBundle} → SameBundle l l′ p → ShowsPlanned g l p b
+    → ShowsPlanned g l′ p b
+planned-stays same x =
+    let few = x .few in
+    record {
+      target = rw (same .words 0 (omega arith)) (x .target);
+      count = same .words 1 (omega arith) ∙ x .count;
+      condition = rw (same .words 2 (omega arith)) (x .condition);
+      size = x .size;
+      few = x .few;
+      inputs = λ k h. rw (same .words (3 + k) (omega arith)) (x .inputs k h);
+    }
+
 module _ (g : Graph) (valid : Valid g) (o : ℕ) (below : o + 33 ≤ 1089) (r : ℕ) (cs : List MaybeClaimedRegion) where
   record BundlePlanned (l : List ℕ) (y : Planned) (q : ℕ) (b : PlannedBundle) : Type 0 where
     pub spare : SpareOnly o l (y .words)
@@ -265,28 +288,6 @@ module _ (g : Graph) (valid : Valid g) (o : ℕ) (below : o + 33 ≤ 1089) (r : 
     bundle-planned = rw (as-inputs, all-are) (planned-by (nesting.all-true (per-case x cs)))
 
   -- ---- All rows, from row i on.
-  row-stays : {l l′ : List ℕ} {p : ℕ} {t : DeferredTargetSummary} → SameBundle l l′ p → ShowsRow g l p t → ShowsRow g l′ p t
-  row-stays same row =
-      record {
-        target = rw (same .words 0 (omega arith)) (row .target);
-        count = same .words 1 (omega arith) ∙ row .count;
-        condition = same .words 2 (omega arith) ∙ row .condition;
-        size = row .size;
-        few = row .few;
-      }
-
-  planned-stays : {l l′ : List ℕ} {p : ℕ} {b : PlannedBundle} → SameBundle l l′ p → ShowsPlanned g l p b → ShowsPlanned g l′ p b
-  planned-stays same x =
-      let few = x .few in
-      record {
-        target = rw (same .words 0 (omega arith)) (x .target);
-        count = same .words 1 (omega arith) ∙ x .count;
-        condition = rw (same .words 2 (omega arith)) (x .condition);
-        size = x .size;
-        few = x .few;
-        inputs = λ k h. rw (same .words (3 + k) (omega arith)) (x .inputs k h);
-      }
-
   record RowsPlanned (l : List ℕ) (b : Bool) (y : Planned) (i : ℕ) (bs : List PlannedBundle) : Type 0 where
     pub spare : SpareOnly o l (y .words)
     pub same-lengths : section (y .words) set-lengths ≡ section l set-lengths

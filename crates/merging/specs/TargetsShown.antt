@@ -234,8 +234,8 @@ module _ (g : Graph) (valid : Valid g) where
           record {
             spare = spare-word o l (7 * (o + i) + 1) sum (omega arith) (omega arith);
             rows = record {
-              size = ap (λ z. getD z 32 0) (section-other l bundles (7 * (o + i) + 1) sum set-lengths (omega arith)) ∙ rows .size ∙ sym
-                  same;
+              size = ap (λ z. getD z 32 0) (section-other l bundles (7 * (o + i) + 1) sum set-lengths (omega arith))
+                  ∙ rows .size ∙ sym same;
               few = rw same few;
               each = λ k b. row-counted k (rw same at b);
               apart = λ a b c d. rw (other (7 * (o + a) + 0) (omega arith), other (7 * (o + b) + 0) (omega arith))

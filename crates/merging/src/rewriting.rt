@@ -1,7 +1,5 @@
 // The values of the cases, each looked up.
 ghost use mathlib.Core.Path.{_≡_};
-ghost use lib.ListN.{length};
-ghost use Rattle.meaning.specs.Graph.{region};
 ghost use Rattle.record.specs.Stands.{OfRecord};
 ghost use Rattle.merging.specs.Rewriting as words;
 use bundles::bundles::input_count;

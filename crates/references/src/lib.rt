@@ -130,7 +130,7 @@ fn is_return(w: &[u16; WORDS], r: u16) -> bool
 }
 
 // How many regions stand before the first Return region.
-fn first_return(w: &[u16; WORDS]) -> u16
+pub fn first_return(w: &[u16; WORDS]) -> u16
     ensures { λ a. ⌜ OfRecord (now (w .entry)) (λ g. a ≡ format.first-return (g .regions)) ⌝ }
 {
     let n = fields::region_count(w);
@@ -145,7 +145,7 @@ fn first_return(w: &[u16; WORDS]) -> u16
 }
 
 // The type of value k that region q returns.
-fn return_type(w: &[u16; WORDS], q: u16, k: u16) -> u16
+pub fn return_type(w: &[u16; WORDS], q: u16, k: u16) -> u16
     ensures { λ a. ⌜ OfRecord (now (w .entry)) (λ g. a ≡ format.type-in g q (format.behind-all g q) (getD (end-values g q) k no-value)) ⌝ }
 {
     type_in(

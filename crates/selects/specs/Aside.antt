@@ -17,8 +17,7 @@ use Rattle.shown.specs.States.{Slots, ShowsCase, shows-ok, shows-nothing, shows
 use Rattle.shown.specs.Kept.{Later, set-stays}
 use Rattle.bundles.specs.Words.{unclaimed-case}
 use Rattle.bundles.specs.CaseSteps.{CaseShown, OneCase, one-row, other-row, shown-stays, row-word, nothing-row}
-use Rattle.bundles.specs.Appended as appended
-use Rattle.bundles.specs.Appended.{claimed-parts, edge-parts, rest-parts}
+use Rattle.bundles.specs.Appended.{ShowsAlone, claimed-parts, edge-parts, rest-parts}
 use Rattle.merging.specs.RewritingShown.{cases-after, case-found}
 use Rattle.merging.specs.TargetsShown.{edges-of-cases, edges-of-set}
 use Rattle.selects.specs.Into.{set-aside}
@@ -90,14 +89,15 @@ pub record PartsStay (g : Graph) (w w′ : List ℕ) (j : ℕ) : Type 0 where
   pub inputs : (k : ℕ) → k < 4 → word w′ cases (10 * j + (6 + k)) ≡ word w cases (10 * j + (6 + k))
   pub bundles : (p : ℕ) → p < word w cases (10 * j + 5) → SameBundle w w′ (word w cases (10 * j + 4) + p)
 
-pub parts-then : {g : Graph} {w w′ : List ℕ} {r j : ℕ} {m : MaybeClaimedRegion} → Slots w → r < 33 → PartsStay g w w′ j → CaseShown g w r j m
-    → ((c : ClaimedRegion) → m ≡ ok c → (word w kinds (c .origin) ≡ 3) × (c .origin ≡ r → ⊥)) → appended.ShowsAlone g w′ r j (case-row w j) m
+pub parts-then : {g : Graph} {w w′ : List ℕ} {r j : ℕ} {m : MaybeClaimedRegion} → Slots w → r < 33 → PartsStay g w w′ j
+    → CaseShown g w r j m
+    → ((c : ClaimedRegion) → m ≡ ok c → (word w kinds (c .origin) ≡ 3) × (c .origin ≡ r → ⊥)) → ShowsAlone g w′ r j (case-row w j) m
 parts-then {g} {w} {w′} {r} {j} slots below stay x claimed = go (x .case) (set-stays (stay .later) (stay .bundles) (x .set)) claimed
   where
     go : {m : MaybeClaimedRegion} → ShowsCase g w r j m
         → ShowsSet g w′ (word w cases (10 * j + 4)) (word w cases (10 * j + 5)) (deferred-of m)
         → ((c : ClaimedRegion) → m ≡ ok c → (word w kinds (c .origin) ≡ 3) × (c .origin ≡ r → ⊥))
-        → appended.ShowsAlone g w′ r j (case-row w j) m
+        → ShowsAlone g w′ r j (case-row w j) m
     go (shows-ok {c} a b in-graph d e f start size names) s claimed =
         let y = claimed c refl in
         claimed-parts {c = c} a b in-graph (y .1) (stay .same-kinds (c .origin) ∙ y .0) d e (stay .later .nodes-stay f)

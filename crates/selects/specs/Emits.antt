@@ -127,7 +127,8 @@ front-inputs {g} {node} {q} {places} {l} t = front-turns (EmitInput g node q (ta
 
 front-condition : {h q : ℕ} {places l l′ : List ℕ} {a : Made} → EmitCondition h q places l l′ a → SameKinds l l′
 front-condition {l} (condition-there d e) = rw e (kinds-same l)
-front-condition {q} (condition-made {l₁} {c} e ps x p) = rw p (kinds-then (front-merge x) (kinds-stored l₁ bundles (omega arith) (7 * q + 2) c))
+front-condition {q} (condition-made {l₁} {c} e ps x p) = rw p (kinds-then (front-merge x)
+    (kinds-stored l₁ bundles (omega arith) (7 * q + 2) c))
 front-condition (no-condition e ps x) = front-merge x
 
 pub front-bundle : {g : Graph} {h q : ℕ} {l l′ : List ℕ} {a : Made} → EmitBundle g h q l l′ a → SameKinds l l′
@@ -135,7 +136,8 @@ front-bundle (inputs-refused t) = front-inputs t
 front-bundle (bundle-emitted t c) = kinds-then (front-inputs t) (front-condition c)
 
 -- ---- The functions, path by path.
-module _ (h q : ℕ) (places l : List ℕ) {x node shape scrutinee : ℕ} {parts l₁ : List ℕ} {a : Defined} (read : x ≡ word l bundles (7 * q + 2))
+module _ (h q : ℕ) (places l : List ℕ) {x node shape scrutinee : ℕ} {parts l₁ : List ℕ} {a : Defined}
+    (read : x ≡ word l bundles (7 * q + 2))
     (open-yet : x ≡ 0) (in-cases : ConditionsIn l places parts) (of-node : node ≡ word l cells (6 * h + 2))
     (of-shape : shape ≡ word l cells (6 * h + 3)) (of-scrutinee : scrutinee ≡ word l cells (6 * h + 4))
     (made : MergeDefined node shape scrutinee parts l l₁ a) where

@@ -4,16 +4,11 @@ use mathlib.Core.List.{List, [], _∷_, map}
 use mathlib.Core.Option.{Option, none, some}
 use Prim.Native.Nat.{ℕ, zero, suc, _+_, _*_, _≤_, _<_}
 use native.Mathlib.Omega.{arith}
-use native.Mathlib.Decide.{decLt}
-use lib.ListN.{length, getD, List·getD-eq-default}
+use lib.ListN.{length, getD}
 use borrow.Author.Tests.{lt-ltb}
-use Rattle.meaning.specs.Lists.{All, Within}
-use Rattle.meaning.specs.Graph.{Value, Graph, region, nowhere, undef, output}
-use Rattle.meaning.specs.facts.Elements.{all-getD, all-map}
-use Rattle.format.specs.Valid.{Valid}
-use Rattle.format.specs.References.{return-types}
+use Rattle.meaning.specs.Graph.{Value, Graph, undef, output}
 use Rattle.nesting.specs.Nesting as nesting
-use Rattle.nesting.specs.Nesting.{DeferredTarget, to-region, to-return}
+use Rattle.nesting.specs.Nesting.{DeferredTarget}
 use Rattle.nesting.specs.Nesting.{LazyConds, MaybeClaimedRegion, PlannedInput, shared, merged, PlannedBundle, DefinedSelect}
 use Rattle.nesting.specs.Nesting.{conditions-of, NestState, StepAnswer, follow, give, emit-inputs, define-output}
 use Rattle.state.specs.declared.defined.Defined.the-variants.{Number}
@@ -32,6 +27,7 @@ use Rattle.selects.specs.Turns.{Turns, turns-over, turn-on, turn-refused
 use Rattle.selects.specs.Places.{From, first-of, rest-of}
 use Rattle.selects.specs.Emits.{EmitInput, input-there, input-made, no-input}
 use Rattle.selects.specs.RegionsShown.{ShowsMade, shows-made, shows-refused, made-of, refused-of}
+use Rattle.selects.specs.SmallTypes.{SmallTypes}
 use Rattle.selects.specs.PerCase.{cases-pass, ShowsPlaces, places-stay, values-shown}
 use Rattle.selects.specs.Emitting.{Emitting, emitting-none, emitting-then, emitting-output, emitting-word, emitting-step, Spared}
 use Rattle.selects.specs.Emitting.{spared-stays}
@@ -39,7 +35,8 @@ use Rattle.selects.specs.Emitting.{spared-stays}
 -- ---- What is planned of these cases, as its row shows it.
 pub data PlannedInputOf (g : Graph) (cs : List MaybeClaimedRegion) (x : DeferredTarget) (w : ℕ) (k : ℕ) : PlannedInput → Type 0 where
   is-shared : {v : Value} → Names w v → PlannedInputOf g cs x w k (shared v)
-  is-merged : {ty : ℕ} {vs : List Value} → w ≡ 65535 → ty ≡ nesting.target-type g x k → vs ≡ map (nesting.value-in-case k ty) (cases-pass x cs)
+  is-merged : {ty : ℕ} {vs : List Value} → w ≡ 65535 → ty ≡ nesting.target-type g x k
+      → vs ≡ map (nesting.value-in-case k ty) (cases-pass x cs)
       → PlannedInputOf g cs x w k (merged ty vs)
 
 pub data PlannedConditionOf (cs : List MaybeClaimedRegion) (x : DeferredTarget) (w : ℕ) : Option LazyConds → Type 0 where
@@ -57,24 +54,6 @@ pub record PlannedOf (g : Graph) (cs : List MaybeClaimedRegion) (w : List ℕ) (
   pub few : length (p .inputs) ≤ 4
   pub inputs : (k : ℕ) → k < length (p .inputs)
       → PlannedInputOf g cs (p .target) (word w bundles (7 * q + (3 + k))) k (getD (p .inputs) k no-planned)
-
--- Types are bytes.
-pub record SmallTypes (g : Graph) : Type 0 where
-  pub below : (x : DeferredTarget) (k : ℕ) → nesting.target-type g x k < 256
-
--- Those of regions' inputs are, as the graph is valid.
-pub small-types : {g : Graph} → Valid g → All (λ t. t ≤ 255) (return-types g) → SmallTypes g
-small-types {g} valid returned =
-    record {
-      below = λ x k. elim x [
-        | to-region r ↦ elim (decLt r (length (g .regions))) [
-          | yes h ↦ (let z = all-getD (λ t. t ≤ 255) 0 (omega arith) (region g r .inputs)
-              (all-map (Within 1 255) (λ t. t ≤ 255) (λ t y. y .1) (region g r .inputs) (valid .regions r h .inputs)) k in omega arith)
-          | no h ↦ rw (List·getD-eq-default (g .regions) nowhere {n = r} (omega arith)) (omega arith)
-        ]
-        | to-return ↦ (let z = all-getD (λ t. t ≤ 255) 0 (omega arith) (return-types g) returned k in omega arith)
-      ];
-    }
 
 -- ---- The inputs of one bundle.
 -- One input; the definition has the two kinds in its fold.

@@ -6,7 +6,8 @@ use native.Mathlib.Omega.{arith}
 use lib.ListN.{length, getD}
 use Rattle.meaning.specs.Graph.{Graph}
 use Rattle.nesting.specs.Nesting.{MaybeClaimedRegion}
-use Rattle.state.specs.Sections.{Section, number, section, word, stored, head, kinds, backedges, set-starts, set-lengths, children, bodies, levels}
+use Rattle.state.specs.Sections.{Section, number, section, word, stored, head, kinds, backedges, set-starts, set-lengths, children, bodies}
+use Rattle.state.specs.Sections.{levels}
 use Rattle.state.specs.Sections.{cases, conditions, outputs, bundles}
 use Rattle.state.specs.Apart.{section-other}
 use Rattle.shown.specs.Stores.{ChangesOnly, word-changes}

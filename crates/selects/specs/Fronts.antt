@@ -44,7 +44,8 @@ front-summary l p = go (eqb q 65535)
     go true =
         let xs = word l bundles (7 * p + 0) ∷ word l bundles (7 * p + 1) ∷ 1 ∷ [] in
         let at = 7 * bundle-at (word l set-starts 32) n in
-        kinds-then (kinds-run l bundles (omega arith) at xs) (kinds-stored (stored-all l bundles at xs) set-lengths (omega arith) 32 (plus n 1))
+        kinds-then (kinds-run l bundles (omega arith) at xs) (kinds-stored (stored-all l bundles at xs) set-lengths (omega arith) 32
+        (plus n 1))
     go false = kinds-stored l bundles (omega arith) (7 * q + 1) (plus (word l bundles (7 * q + 1)) (word l bundles (7 * p + 1)))
 
 front-summaries : (l : List ℕ) (j : ℕ) → SameKinds l (summarize-case l j)

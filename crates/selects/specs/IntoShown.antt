@@ -36,11 +36,11 @@ use Rattle.state.specs.declared.defined.Made.{Made}
 use Rattle.state.specs.declared.defined.Made.the-variants.{Done}
 use Rattle.selects.specs.declared.define.Scrutinee.{Scrutinee}
 use Rattle.selects.specs.Cases.{convergent-case}
-use Rattle.selects.specs.Into.{set-aside, spare-taken, StructurizesInto, one-follows, one-refused, all-together, all-refused, Structurizes}
+use Rattle.selects.specs.Into.{set-aside, spare-taken, StructurizesInto, one-follows, one-refused, all-together, all-refused}
+use Rattle.selects.specs.Into.{Structurizes}
 use Rattle.selects.specs.CasesShown.{Converges, none-converges, one-converges, more-converge, convergent-shown}
 use Rattle.selects.specs.RegionsShown.{ShowsMade, shows-made, shows-refused, made-of, refused-of}
 use Rattle.selects.specs.SelectsShown.{ShowsScrutinee, scrutinee-stays}
-use Rattle.selects.specs.EmitsShown.{SmallTypes}
 use Rattle.selects.specs.Aside.{aside-shown, none-left, other-case, field, none-deferred, PartsStay, parts-then}
 use Rattle.selects.specs.Structurized.{Structured, structurized-shown}
 
@@ -85,9 +85,11 @@ spare-shown {g} few {r} here {w} state unready {x} nodes set =
 -- ---- What is asked of the cases: a claimed region is claimed, and none is region r.
 pub record ClaimedCases (w : List ℕ) (r : ℕ) (cs : List MaybeClaimedRegion) : Type 0 where
   pub parent : word w kinds r ≡ 2 → ⊥
-  pub claimed : (j : ℕ) → j < length cs → (c : ClaimedRegion) → getD cs j no-case ≡ ok c → (word w kinds (c .origin) ≡ 3) × (c .origin ≡ r → ⊥)
+  pub claimed : (j : ℕ) → j < length cs → (c : ClaimedRegion) → getD cs j no-case ≡ ok c
+      → (word w kinds (c .origin) ≡ 3) × (c .origin ≡ r → ⊥)
 
-none-ready : {g : Graph} {w : List ℕ} {r : ℕ} {cs : List MaybeClaimedRegion} → r < 33 → ShowsCases g w r cs → ClaimedCases w r cs → NoneReady w r cs
+none-ready : {g : Graph} {w : List ℕ} {r : ℕ} {cs : List MaybeClaimedRegion} → r < 33 → ShowsCases g w r cs → ClaimedCases w r cs
+    → NoneReady w r cs
 none-ready {g} {w} {r} {cs} below shown claimed =
     record {
       parent-below = below;
@@ -127,7 +129,7 @@ not-origin {g} {w} {r} shown {q} f j h k e = go (shown .each j h) (λ c. f j c h
     go (shows-edge a u z) d = omega arith
     go (shows-others a u) d = omega arith
 
-module _ {g : Graph} (valid : Valid g) (small : SmallTypes g) {r : ℕ} (below : r < length (g .regions)) {w : List ℕ} {s : NestState}
+module _ {g : Graph} (valid : Valid g) {r : ℕ} (below : r < length (g .regions)) {w : List ℕ} {s : NestState}
     (state : ShowsState g w s) {cs : List MaybeClaimedRegion} (shown : ShowsCases g w r cs) (claimed : ClaimedCases w r cs)
     (chains : (q : ℕ) → ChainsEnd (s .region-input-rewrites) q)
     (bound : (x : DeferredTarget) → edges-of-cases x (cases-after s cs) ≤ 65535)
@@ -135,12 +137,15 @@ module _ {g : Graph} (valid : Valid g) (small : SmallTypes g) {r : ℕ} (below :
     (of-shape : ShowsShape shape (length cs) kind) {parent : Nodes} (own : ShowsChildren g w (word w children r) parent)
     (free : word w head 4 + (length cs + 2) ≤ 704) where
   -- All cases together.
-  together : {w₁ : List ℕ} {a : Made} → Structurizes g r shape x w w₁ a → ShowsMade (Structured g r cs w w₁) a (structurize-select g parent kind y cs s)
+  together : {w₁ : List ℕ} {a : Made} → Structurizes g r shape x w w₁ a
+      → ShowsMade (Structured g r cs w w₁) a (structurize-select g parent kind y cs s)
   together m =
       let many = valid .count in
-      structurized-shown valid small below state shown (none-ready (omega arith) shown claimed) chains bound scrutinee of-shape own (omega arith) m
+      structurized-shown valid below state shown (none-ready (omega arith) shown claimed) chains bound scrutinee of-shape own (omega arith)
+      m
 
-  with-spare : {w₁ : List ℕ} {b : StepAnswer Body} → ShowsMade (Structured g r cs w w₁) Done b → ShowsMade (IntoDone g r cs w (spare-taken w₁ r)) Done b
+  with-spare : {w₁ : List ℕ} {b : StepAnswer Body} → ShowsMade (Structured g r cs w w₁) Done b
+      → ShowsMade (IntoDone g r cs w (spare-taken w₁ r)) Done b
   with-spare (shows-made {a = z} c) =
       let many = valid .count in
       let t = spare-shown (omega arith) below (c .state) (λ e. claimed .parent (sym (c .same-kinds r) ∙ e)) {x = z} (c .nodes) (c .set) in
@@ -221,23 +226,26 @@ module _ {g : Graph} (valid : Valid g) (small : SmallTypes g) {r : ℕ} (below :
         let many = few in
         let size = same-size in
         let same = total₀ in
-        structurized-shown valid small below state₀ shown₀ (none-ready (omega arith) shown₀ claimed₀) chains bound₀
+        structurized-shown valid below state₀ shown₀ (none-ready (omega arith) shown₀ claimed₀) chains bound₀
         (scrutinee-stays later₀ scrutinee) (rw (← same-size) at of-shape) own₀ (omega arith) m
 
     -- What the select leaves of the case that follows.
     parts-stay : {w₁ : List ℕ} {z : Body} {s₁ : NestState} → Structured g r rest aside w₁ z s₁ → PartsStay g w w₁ j
     parts-stay c =
         let xs = case-words (unclaimed-case 0 0 0) in
-        let kind : word aside cases (10 * j + 0) ≡ 0 = row-word w room j (let most = shown .few in omega arith) xs (omega arith) 0 (omega arith) in
+        let kind : word aside cases (10 * j + 0) ≡ 0 = row-word w room j (let most = shown .few in omega arith) xs (omega arith) 0
+        (omega arith) in
         let same-starts : (q : ℕ) → word aside set-starts q ≡ word w set-starts q =
         λ q. ap (λ l. getD l q 0) (changes .others set-starts (omega arith) (omega arith)) in
         record {
           later = later-then later₀ (c .later);
           same-kinds = λ q. c .same-kinds q ∙ same-kinds₀ q;
           same-starts = λ q. c .same-starts q ∙ same-starts q;
-          inputs = λ k h. c .rows j (omega arith) (none-left few below room (state .slots) shown j inside) (6 + k) (omega arith) (omega arith)
+          inputs = λ k h. c .rows j (omega arith) (none-left few below room (state .slots) shown j inside) (6 + k) (omega arith)
+              (omega arith)
               ∙ run-beside w cases (10 * j) xs (10 * j + (6 + k)) (λ a b. omega arith);
-          bundles = λ p h. same-bundle-then (bundles-same (changes .others bundles (omega arith) (omega arith)) (word w cases (10 * j + 4) + p))
+          bundles = λ p h. same-bundle-then (bundles-same (changes .others bundles (omega arith) (omega arith))
+              (word w cases (10 * j + 4) + p))
               (c .outside (word w cases (10 * j + 4) + p)
               (λ k i a b e.
               let d = other-case few below room (state .slots) shown j inside k i b in

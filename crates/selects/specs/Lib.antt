@@ -10,6 +10,7 @@ pub mod RegionsShown
 pub mod StepsShown
 pub mod SelectsShown
 pub mod Emitting
+pub mod SmallTypes
 pub mod PerCase
 pub mod EmitsShown
 pub mod SetsEmitted

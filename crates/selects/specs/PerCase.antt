@@ -58,43 +58,45 @@ per-case-some : (x : DeferredTarget) (d : DeferredEdgeBundleSet) (e : DeferredEd
 per-case-some x [] e h = absurd (clash (cc))
 per-case-some x (y ∷ ys) e h = ap (per-case-of (y ∷ ys)) h
 
-module _ {g : Graph} {w : List ℕ} {start n : ℕ} {d : DeferredEdgeBundleSet} (set : ShowsSet g w start n d) {x : DeferredTarget} {p : ℕ} where
-  value-shown : Finds start x d p → (k ty : ℕ) → k < target-size g x → ty < 256
-      → value (value-in-case w p k ty) ≡ nesting.value-in-case k ty (nesting.per-case-deferred x d)
-  unfolding input-word
-  value-shown (none-found e gets) k ty h b =
-      ap value (sym (value-none w p k ty e)) ∙ value-undef ty b ∙ rw (per-case-none x d gets, nesting.value-in-case)
-  value-shown (found i at below gets same before) k ty h b =
-      let size = set .size in
-      let room = set .room in
-      let it = getD d i no-bundle in
-      let bundle = set .each i (omega arith) in
-      let few = bundle .few in
-      let goes : it .target ≡ x = same-target-is x (it .target) same in
-      let many : length (it .target-inputs) ≡ target-size g x = rw goes at (bundle .size) in
-      let named = bundle .inputs k (omega arith) in
-      rw (per-case-some x d it gets, ← value-some w p k ty (omega arith), at, lt-ltb k 4 (omega arith)) (named .is)
+module _ {g : Graph} {w : List ℕ} {start n : ℕ} {d : DeferredEdgeBundleSet} (set : ShowsSet g w start n d) {x : DeferredTarget} {p : ℕ}
+  where
+    value-shown : Finds start x d p → (k ty : ℕ) → k < target-size g x → ty < 256
+        → value (value-in-case w p k ty) ≡ nesting.value-in-case k ty (nesting.per-case-deferred x d)
+    unfolding input-word
+    value-shown (none-found e gets) k ty h b =
+        ap value (sym (value-none w p k ty e)) ∙ value-undef ty b ∙ rw (per-case-none x d gets, nesting.value-in-case)
+    value-shown (found i at below gets same before) k ty h b =
+        let size = set .size in
+        let room = set .room in
+        let it = getD d i no-bundle in
+        let bundle = set .each i (omega arith) in
+        let few = bundle .few in
+        let goes : it .target ≡ x = same-target-is x (it .target) same in
+        let many : length (it .target-inputs) ≡ target-size g x = rw goes at (bundle .size) in
+        let named = bundle .inputs k (omega arith) in
+        rw (per-case-some x d it gets, ← value-some w p k ty (omega arith), at, lt-ltb k 4 (omega arith)) (named .is)
 
-  condition-of-case : (j : ℕ) → word w cases (10 * j + 5) ≡ n → Finds start x d p
-      → ShowsCondition w (per-case-condition w j p) (nesting.per-case-deferred x d .condition)
-  unfolding per-case-condition words.condition-in
-  condition-of-case j e (none-found q gets) = go d (set .size) gets
-    where
-      go : (d : DeferredEdgeBundleSet) → n ≡ length d → get-edge-bundle-by-target x d ≡ none
-          → ShowsCondition w (per-case-condition w j p) (nesting.per-case-deferred x d .condition)
-      go [] z h = rw (eq-eqb (word w cases (10 * j + 5)) 0 (omega arith)) record { tree = shows-undef refl; made = omega arith }
-      go (y ∷ ys) z h =
-          rw (ne-eqb (word w cases (10 * j + 5)) 0 (omega arith), eq-eqb p 65535 q, h) record { tree = shows-false refl; made = omega arith }
-  condition-of-case j e (found i at below gets same before) =
-      let size = set .size in
-      let room = set .room in
-      rw (
-        per-case-some x d (getD d i no-bundle) gets,
-        ne-eqb (word w cases (10 * j + 5)) 0 (omega arith),
-        ne-eqb p 65535 (omega arith),
-        at,
-        e,
-      ) (condition-shown set i (omega arith))
+    condition-of-case : (j : ℕ) → word w cases (10 * j + 5) ≡ n → Finds start x d p
+        → ShowsCondition w (per-case-condition w j p) (nesting.per-case-deferred x d .condition)
+    unfolding per-case-condition words.condition-in
+    condition-of-case j e (none-found q gets) = go d (set .size) gets
+      where
+        go : (d : DeferredEdgeBundleSet) → n ≡ length d → get-edge-bundle-by-target x d ≡ none
+            → ShowsCondition w (per-case-condition w j p) (nesting.per-case-deferred x d .condition)
+        go [] z h = rw (eq-eqb (word w cases (10 * j + 5)) 0 (omega arith)) record { tree = shows-undef refl; made = omega arith }
+        go (y ∷ ys) z h =
+            rw (ne-eqb (word w cases (10 * j + 5)) 0 (omega arith), eq-eqb p 65535 q, h) record
+            { tree = shows-false refl; made = omega arith }
+    condition-of-case j e (found i at below gets same before) =
+        let size = set .size in
+        let room = set .room in
+        rw (
+          per-case-some x d (getD d i no-bundle) gets,
+          ne-eqb (word w cases (10 * j + 5)) 0 (omega arith),
+          ne-eqb p 65535 (omega arith),
+          at,
+          e,
+        ) (condition-shown set i (omega arith))
 
 -- ---- In all cases.
 no-case-passed : PerCaseDeferred
@@ -113,7 +115,8 @@ pub count-conditions : (ps : List PerCaseDeferred) → cond-count (conditions-of
 count-conditions [] = refl
 count-conditions (p ∷ ps) = ap suc (count-conditions ps)
 
-module _ {g : Graph} {w : List ℕ} {r : ℕ} {cs : List MaybeClaimedRegion} (shown : ShowsCases g w r cs) {x : DeferredTarget} {places : List ℕ}
+module _ {g : Graph} {w : List ℕ} {r : ℕ} {cs : List MaybeClaimedRegion} (shown : ShowsCases g w r cs) {x : DeferredTarget}
+    {places : List ℕ}
     (at : ShowsPlaces w x cs places) where
   pub values-shown : (k ty : ℕ) → k < target-size g x → ty < 256 → {vs : List ℕ}
       → InCases (case-total w) (λ j. value-in-case w (getD places j 0) k ty) vs
@@ -129,7 +132,8 @@ module _ {g : Graph} {w : List ℕ} {r : ℕ} {cs : List MaybeClaimedRegion} (sh
             let below : j < length cs = omega arith in
             let z : 0 + j ≡ j = omega arith in
             rw z (ap value (y .each j (omega arith)) ∙ value-shown (shown .sets j below) (at .each j below) k ty h b
-            ∙ sym (getD-map-in (nesting.value-in-case k ty) (cases-pass x cs) j (nesting.per-case-deferred x (deferred-of no-case)) (undef 0)
+            ∙ sym (getD-map-in (nesting.value-in-case k ty) (cases-pass x cs) j (nesting.per-case-deferred x (deferred-of no-case))
+            (undef 0)
             (rw (length-map cs (λ c. nesting.per-case-deferred x (deferred-of c))) below)
             ∙ ap (nesting.value-in-case k ty) (getD-map-in (λ c. nesting.per-case-deferred x (deferred-of c)) cs j no-case _ below)));
       }

@@ -21,7 +21,8 @@ use Rattle.merging.specs.PlanningShown as planned
 use Rattle.merging.specs.PlanningShown.{ShowsPlanned, shows-shared, shows-merged, always, to-be-made}
 use Rattle.merging.specs.TargetsShown.{no-summary, ShowsRows}
 use Rattle.selects.specs.PerCase.{cases-pass}
-use Rattle.selects.specs.EmitsShown.{PlannedInputOf, is-shared, is-merged, PlannedConditionOf, is-true, is-open, PlannedOf, no-planned}
+use Rattle.selects.specs.EmitsShown.{PlannedInputOf, is-shared, is-merged, PlannedConditionOf, is-true, is-open, PlannedOf}
+use Rattle.selects.specs.EmitsShown.{no-planned}
 use Rattle.selects.specs.SetsEmitted.{no-plan, ShowsPlan}
 
 -- ---- A planned bundle of these cases.
@@ -46,7 +47,8 @@ module _ (g : Graph) (cs : List MaybeClaimedRegion) where
       let z : k + suc i ≡ suc k + i = omega arith in
       rw z (inputs-of x f m (suc k) i (omega arith) (rw z at y))
 
-  condition-of : (x : DeferredTarget) {a : ℕ} (b : Bool) → planned.ShowsPlannedCondition a (pick b none (some (conditions-of (cases-pass x cs))))
+  condition-of : (x : DeferredTarget) {a : ℕ} (b : Bool) → planned.ShowsPlannedCondition a
+      (pick b none (some (conditions-of (cases-pass x cs))))
       → PlannedConditionOf cs x a (pick b none (some (conditions-of (cases-pass x cs))))
   condition-of x true (always e) = is-true e
   condition-of x false (to-be-made e) = is-open e refl
@@ -75,13 +77,15 @@ target-word (shows-return e) (shows-return f) = e ∙ sym f
 -- ---- All of them, from the rows of the deferred targets.
 pub plan-shown : {g : Graph} (cs : List MaybeClaimedRegion) {w w′ : List ℕ} {base : ℕ} → ShowsRows g w base (nesting.deferred-targets cs [])
     → word w′ set-lengths 32 ≡ length (nesting.plan-bundles g cs)
-    → ((i : ℕ) → i < length (nesting.plan-bundles g cs) → ShowsPlanned g w′ (base + i) (getD (nesting.plan-bundles g cs) i planned.no-planned))
+    → ((i : ℕ) → i < length (nesting.plan-bundles g cs) → ShowsPlanned g w′ (base + i)
+    (getD (nesting.plan-bundles g cs) i planned.no-planned))
     → ShowsPlan g cs w′ base (nesting.plan-bundles g cs)
 plan-shown {g} cs {w} {w′} {base} rows size each =
     let ts = nesting.deferred-targets cs [] in
     let same = length-map ts (plan-bundle g cs) in
     let most = rows .few in
-    let is-plan : (i : ℕ) (d : PlannedBundle) → i < length ts → getD (map (plan-bundle g cs) ts) i d ≡ plan-bundle g cs (getD ts i no-summary) =
+    let is-plan : (i : ℕ) (d : PlannedBundle) → i < length ts
+    → getD (map (plan-bundle g cs) ts) i d ≡ plan-bundle g cs (getD ts i no-summary) =
     λ i d h. getD-map-in (plan-bundle g cs) ts i no-summary d h in
     let own : (i : ℕ) → i < length ts → ShowsPlanned g w′ (base + i) (plan-bundle g cs (getD ts i no-summary)) =
     λ i h. rw (is-plan i planned.no-planned h) at (each i (omega arith)) in
@@ -111,7 +115,8 @@ value-of : {g : Graph} {cs : List MaybeClaimedRegion} {x : DeferredTarget} {a k 
 value-of (is-shared names) e = names
 value-of (is-merged z u v) e = absurd (clash (cc))
 
-true-of : {cs : List MaybeClaimedRegion} {x : DeferredTarget} {a : ℕ} {o : Option LazyConds} → PlannedConditionOf cs x a o → is-some o ≡ false
+true-of : {cs : List MaybeClaimedRegion} {x : DeferredTarget} {a : ℕ} {o : Option LazyConds} → PlannedConditionOf cs x a o
+    → is-some o ≡ false
     → a ≡ 1
 true-of (is-true z) e = z
 true-of (is-open z u) e = absurd (clash (cc))

@@ -177,7 +177,8 @@ regions-shown (c ∷ cs) j {w} {w′} {s} {a} e f t b (turn-on {l₁} n x y) =
         let t₁ = tables-stay (word-elsewhere l cases (omega arith) (10 * j + 2) number) (x₁ .tables) in
         let room = x₁ .tables .size in
         rw (x₁ .is)
-        (with-first (err d) cs j w′ (x₁ .value) (later ∙ ap (λ l. body-at l j) q ∙ word-there l cases (10 * j + 2) number (omega arith) (omega arith) ∙ x₁ .shows)
+        (with-first (err d) cs j w′ (x₁ .value) (later ∙ ap (λ l. body-at l j) q ∙ word-there l cases (10 * j + 2) number (omega arith)
+        (omega arith) ∙ x₁ .shows)
         (go (x₁ .state) (rw q t₁)))
 regions-shown (c ∷ cs) j {w} {s} e f t b (turn-refused n x) =
     rw (region-refused c cs t (first-of no-case (ShowsKind w) j c cs f) x) shows-refused

@@ -23,7 +23,8 @@ use Rattle.selects.specs.Places.{From, first-of, rest-of, from-start}
 
 -- What the words of case j say of what is to be replaced.
 pub data ShowsGiven (w : List ℕ) (j : ℕ) : MaybeClaimedRegion → Type 0 where
-  given-inputs : {c : ClaimedRegion} → word w cases (10 * j + 0) ≡ 2 → word w cases (10 * j + 2) ≡ c .structured-body → c .structured-body < 128
+  given-inputs : {c : ClaimedRegion} → word w cases (10 * j + 0) ≡ 2 → word w cases (10 * j + 2) ≡ c .structured-body
+      → c .structured-body < 128
       → ((k : ℕ) → k < 4 → Names (word w cases (10 * j + (6 + k))) (getD (c .structured-body-inputs) k (undef 0)))
       → ShowsGiven w j (ok c)
   given-nothing : {d : DeferredEdgeBundleSet} → (word w cases (10 * j + 0) ≡ 2 → ⊥) → ShowsGiven w j (err d)
@@ -54,7 +55,8 @@ unfolding all-replaced replace-inputs
 replaced-from [] j {w} {s} f t n =
     record { next = s; is = refl; tables = t; named = n; changes = nothing-changes rewrites 0 w; same-states = refl }
 replaced-from (c ∷ cs) j {w} {s} f t n =
-    step c (first-of no-case (ShowsGiven w) j c cs f) (rest-of no-case (ShowsGiven w) j c cs f) (λ w₁ s₁ f₁ t₁ n₁. replaced-from cs (suc j) f₁ t₁ n₁)
+    step c (first-of no-case (ShowsGiven w) j c cs f) (rest-of no-case (ShowsGiven w) j c cs f)
+    (λ w₁ s₁ f₁ t₁ n₁. replaced-from cs (suc j) f₁ t₁ n₁)
   where
     step : (c : MaybeClaimedRegion) → ShowsGiven w j c → From no-case (ShowsGiven w) (suc j) cs
         → ((w₁ : List ℕ) (s₁ : NestState) → From no-case (ShowsGiven w₁) (suc j) cs → ShowsTables w₁ s₁ → NamedRewrites w₁
@@ -80,7 +82,8 @@ replaced-from (c ∷ cs) j {w} {s} f t n =
         let entry : EntryWords body 1 vs (replace-with (c .structured-body-inputs)) =
         replace-words refl (λ m z. ap value (inputs-at w j m z) ∙ i m z .is) in
         let with-entry : ℕ → NestState = λ q. with-tables (s .region-states)
-        (s .region-input-rewrites ++ (record { region = q; rewrites = replace-with (c .structured-body-inputs) } ∷ [])) (s .node-outputs) s in
+        (s .region-input-rewrites ++ (record { region = q; rewrites = replace-with (c .structured-body-inputs) } ∷ [])) (s .node-outputs) s
+        in
         let y = go w₁ (with-entry (c .structured-body)) (λ m z. given-stays (changes .others cases (omega arith) (omega arith)) (rest m z))
         (subst (λ q. ShowsTables w₁ (with-entry q)) b (rewrites-inserted t in-table refl entry refl))
         (named-inserted w body 1 vs (t .size) in-table refl (λ m z. rw (inputs-at w j m z) (i m z .below)) n) in

@@ -8,7 +8,8 @@ use lib.ListN.{length, getD, length-map}
 use Rattle.meaning.specs.Graph.{Graph, Value}
 use Rattle.nesting.specs.Nesting as nesting
 use Rattle.nesting.specs.Nesting.{DeferredTarget, to-return, DeferredEdgeBundle, DeferredEdgeBundleSet, edge-bundle, LazyCond, LazyConds}
-use Rattle.nesting.specs.Nesting.{true-cond, merge, MaybeClaimedRegion, PlannedBundle, DefinedSelect, NestState, StepAnswer, done, turned-away}
+use Rattle.nesting.specs.Nesting.{true-cond, merge, MaybeClaimedRegion, PlannedBundle, DefinedSelect, NestState, StepAnswer, done}
+use Rattle.nesting.specs.Nesting.{turned-away}
 use Rattle.nesting.specs.Nesting.{conditions-of, deferred-of, follow, give, emit-inputs, emit-condition, emit}
 use Rattle.state.specs.declared.defined.Defined.{Defined}
 use Rattle.state.specs.Sections.{word, stored-all, front, set-lengths, conditions, cells, bundles}
@@ -22,10 +23,12 @@ use Rattle.shown.specs.Sets.{ShowsBundle, ShowsSet, SameBundle, no-bundle}
 use Rattle.shown.specs.Kept.{Later, bundle-stays}
 use Rattle.shown.specs.SetSteps.{bundle-in}
 use Rattle.shown.specs.RegionSteps.{word-there, word-apart}
+use Rattle.selects.specs.SmallTypes.{SmallTypes}
 use Rattle.state.specs.declared.defined.Made.{Made}
 use Rattle.selects.specs.Turns.{Turns, turns-over, turn-on, turn-refused}
 use Rattle.selects.specs.Places.{From, first-of, rest-of, from-start}
-use Rattle.selects.specs.Emits.{EmitCondition, condition-there, condition-made, no-condition, EmitBundle, inputs-refused, bundle-emitted}
+use Rattle.selects.specs.Emits.{EmitCondition, condition-there, condition-made, no-condition, EmitBundle, inputs-refused}
+use Rattle.selects.specs.Emits.{bundle-emitted}
 use Rattle.selects.specs.Emits.{EmitAt, Emits, EmitInputs, places-of, target-at}
 use Rattle.bundles.specs.Words.{input-count}
 use Rattle.bundles.specs.Targets.{input-count-shown}
@@ -33,7 +36,7 @@ use Rattle.selects.specs.RegionsShown.{ShowsMade, shows-made, shows-refu
 use Rattle.selects.specs.PerCase.{cases-pass, ShowsPlaces, places-shown, places-stay, parts-shown, count-conditions}
 use Rattle.selects.specs.Emitting.{Emitting, emitting-none, emitting-then, emitting-within, emitting-condition, emitting-word}
 use Rattle.selects.specs.Emitting.{emitting-step, Spared, spared-stays}
-use Rattle.selects.specs.EmitsShown.{PlannedOf, PlannedConditionOf, is-true, is-open, SmallTypes, no-planned, Planned, InputsDone}
+use Rattle.selects.specs.EmitsShown.{PlannedOf, PlannedConditionOf, is-true, is-open, no-planned, Planned, InputsDone}
 use Rattle.selects.specs.EmitsShown.{inputs-shown}
 
 -- The cell of a select with this many cases.
@@ -85,7 +88,8 @@ module _ {g : Graph} {r base : ℕ} {cs : List MaybeClaimedRegion} (n : DefinedS
       let made = rw (cell .node) at m in
       let many : length cs ≡ cond-count (conditions-of (cases-pass x cs)) =
       sym (count-conditions (cases-pass x cs) ∙ length-map cs (λ c. nesting.per-case-deferred x (deferred-of c))) in
-      let y = done-of (merge-made tables (ps .size) (rw many at (cell .shape)) (cell .scrutinee) (parts-shown (here .shown) at ps) made) refl in
+      let y = done-of (merge-made tables (ps .size) (rw many at (cell .shape)) (cell .scrutinee) (parts-shown (here .shown) at ps) made)
+      refl in
       let changes = merge-changes made in
       let later : Later g w l₁ = record {
         front = record { words = changes .words; front-words = changes .others front (omega arith) (omega arith) };
@@ -110,7 +114,11 @@ module _ {g : Graph} {r base : ℕ} {cs : List MaybeClaimedRegion} (n : DefinedS
       let made = rw (cell .node) at m in
       let many : length cs ≡ cond-count (conditions-of (cases-pass x cs)) =
       sym (count-conditions (cases-pass x cs) ∙ length-map cs (λ c. nesting.per-case-deferred x (deferred-of c))) in
-      rw (u, full-of (merge-made tables (ps .size) (rw many at (cell .shape)) (cell .scrutinee) (parts-shown (here .shown) at ps) made) refl)
+      rw (
+        u,
+        full-of (merge-made tables (ps .size) (rw many at (cell .shape)) (cell .scrutinee) (parts-shown (here .shown) at ps) made)
+            refl,
+      )
       shows-refused
 
 -- ---- A bundle.
@@ -140,8 +148,10 @@ module _ {g : Graph} {r base : ℕ} {cs : List MaybeClaimedRegion} (few : length
   inputs-answer t =
       let size = planned .size in
       let most = planned .few in
-      let many : input-count g w (target-at w q) ≡ length (p .inputs) = input-count-shown w few (here .returned) (planned .target) ∙ sym size in
-      inputs-shown few small n q from to room (planned .target) (omega arith) its-places (p .inputs) 0 many (omega arith) here places-here tables
+      let many : input-count g w (target-at w q) ≡ length (p .inputs) = input-count-shown w few (here .returned) (planned .target) ∙ sym
+      size in
+      inputs-shown few small n q from to room (planned .target) (omega arith) its-places (p .inputs) 0 many (omega arith) here places-here
+      tables
       (from-start no-planned (Planned g cs (p .target) q w) (p .inputs) (planned .inputs)) (rw (cell .node) at t)
 
   finished : {w₁ w′ : List ℕ} {vs : List Value} {c : LazyCond} {s₁ s₂ : NestState} → InputsDone g q 0 w w₁ (length (p .inputs)) vs s₁
@@ -282,11 +292,13 @@ module _ {g : Graph} {r base : ℕ} {cs : List MaybeClaimedRegion} (few : length
       let at : bundle-at base i ≡ base + i = bundle-in base i (omega arith) (omega arith) in
       let own = first-of no-plan (λ j p. PlannedOf g cs w (base + j) p) i p ps f in
       let rest = rest-of no-plan (λ j p. PlannedOf g cs w (base + j) p) i p ps f in
-      let first = made-of (bundle-shown few small n h (base + i) (omega arith) (omega arith) (omega arith) here tables cell own (rw at at y)) in
+      let first = made-of (bundle-shown few small n h (base + i) (omega arith) (omega arith) (omega arith) here tables cell own
+      (rw at at y)) in
       let done₁ = first .shows in
       let x = done₁ .emitting in
       rw (emit-more n p ps s, first .is)
-      (with-bundle done₁ (rows-shown ps (suc i) (omega arith) (omega arith) (spared-stays here x (omega arith) (omega arith)) (done₁ .tables)
+      (with-bundle done₁ (rows-shown ps (suc i) (omega arith) (omega arith) (spared-stays here x (omega arith) (omega arith))
+      (done₁ .tables)
       (cell-stays x cell) (λ j k. planned-stays (x .beside (base + (suc i + j)) (λ a c. omega arith)) (rest j k)) more))
   rows-shown (p ∷ ps) i {w} {s} e b here tables cell f (turn-refused z y) =
       let at : bundle-at base i ≡ base + i = bundle-in base i (omega arith) (omega arith) in

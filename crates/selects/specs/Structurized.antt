@@ -1,4 +1,5 @@
--- A select with no convergent case set aside, for every state that the words show: the definition's children, set and state, or its refusal.
+-- A select with no convergent case set aside, for every state that the words show: the definition's children, set and state, or its
+-- refusal.
 use mathlib.Core.Path.{_≡_, refl, sym, ap, _∙_}
 use mathlib.Core.Bool.{Bool, false, _||_}
 use mathlib.Core.List.{List, [], _∷_, map}
@@ -11,7 +12,8 @@ use Rattle.meaning.specs.facts.Tests.{clash, or-right}
 use Rattle.format.specs.Valid.{Valid}
 use Rattle.nesting.specs.Nesting as nesting
 use Rattle.nesting.specs.Nesting.{MaybeClaimedRegion, ok, err, DeferredTarget, NestState, StepAnswer, done, turned-away, follow, give, Body}
-use Rattle.nesting.specs.Nesting.{region-body, join, DefinedSelect, DeferredEdgeBundleSet, PlannedBundle, case-regions, define-select, select-if}
+use Rattle.nesting.specs.Nesting.{region-body, join, DefinedSelect, DeferredEdgeBundleSet, PlannedBundle, case-regions, define-select}
+use Rattle.nesting.specs.Nesting.{select-if}
 use Rattle.nesting.specs.Nesting.{emit, shared-bundle, any-needs-select, structurize-select}
 use Rattle.nesting.specs.lookups.ChainEnds.{ChainsEnd}
 use Rattle.nesting.specs.steps.Post.{Post}
@@ -35,6 +37,7 @@ use Rattle.merging.specs.RewritingShown.{NoneReady, cases-after, state-after, r
 use Rattle.merging.specs.Spare.{spare-there, spare-outside}
 use Rattle.merging.specs.TargetsShown.{edges-of-cases, deferred-targets-shown}
 use Rattle.merging.specs.PlanningShown.{plan-bundles-shown}
+use Rattle.selects.specs.SmallTypes.{SmallTypes, small-types}
 use Rattle.state.specs.declared.defined.Made.{Made}
 use Rattle.state.specs.declared.defined.Made.the-variants.{Done}
 use Rattle.selects.specs.declared.define.Scrutinee.{Scrutinee}
@@ -45,10 +48,10 @@ use Rattle.selects.specs.Selects as words
 use Rattle.selects.specs.CasesShown.{any-non-empty-shown}
 use Rattle.selects.specs.RegionsShown.{ShowsMade, shows-made, shows-refused, made-of, refused-of}
 use Rattle.selects.specs.StepsShown.{SelectStep, step-same, step-then, step-by, states-of-step, cases-stay}
-use Rattle.selects.specs.SelectsShown.{ShowsScrutinee, scrutinee-stays, SelectDone, ShowsSelect, shows-select, shows-no-select, select-shown}
+use Rattle.selects.specs.SelectsShown.{ShowsScrutinee, scrutinee-stays, SelectDone, ShowsSelect, shows-select, shows-no-select}
+use Rattle.selects.specs.SelectsShown.{select-shown}
 use Rattle.selects.specs.Emits.{Emits}
 use Rattle.selects.specs.Emitting.{Spared, emitting-step}
-use Rattle.selects.specs.EmitsShown.{SmallTypes}
 use Rattle.selects.specs.SetsEmitted.{ShowsSelectCell, planned-stays, ShowsPlan, SetDone, emit-shown}
 use Rattle.selects.specs.PlansShown.{plan-shown, shared-set}
 use Rattle.selects.specs.Replaced.{replaced-shown}
@@ -178,22 +181,24 @@ module _ {g : Graph} (few : length (g .regions) ≤ 32) (small : SmallTypes g) {
   chosen none (select-made e m emits) = rw e (after-select (answer m) emits)
 
 -- ---- Cases rewritten, their targets deferred, and what is to be done planned.
-pub record Prepared (g : Graph) (r : ℕ) (cs : List MaybeClaimedRegion) (s : NestState) (w w′ : List ℕ) (base : ℕ) (needed : Bool) : Type 0 where
-  pub state : ShowsState g w′ (state-after s cs)
-  pub shown : ShowsCases g w′ r (cases-after s cs)
-  pub plan : ShowsPlan g (cases-after s cs) w′ base (nesting.plan-bundles g (cases-after s cs))
-  pub is-needed : needed ≡ any-needs-select (nesting.plan-bundles g (cases-after s cs))
-  pub later : Later g w w′
-  pub spare-at : word w′ set-starts 32 ≡ base
-  pub same : (k : Section) → (number k ≡ 1 → ⊥) → (number k ≡ 5 → ⊥) → (number k ≡ 10 → ⊥) → (number k ≡ 15 → ⊥) → section w′ k ≡ section w k
-  pub totals : (q : ℕ) → (q ≡ 6 → ⊥) → word w′ head q ≡ word w head q
-  pub kept : (q : ℕ) → q < 32 → (q ≡ r → ⊥)
-      → ((j : ℕ) → j < length cs → word w cases (10 * j + 0) ≡ 2 → q ≡ word w cases (10 * j + 1) → ⊥) → KeptRegion w w′ q
-  pub outside : (p : ℕ) → ((j i : ℕ) → j < length cs → i < word w cases (10 * j + 5) → p ≡ word w cases (10 * j + 4) + i → ⊥)
-      → ((i : ℕ) → i < 33 → p ≡ word w set-starts 32 + i → ⊥) → SameBundle w w′ p
-  -- The row of a case that is not claimed and defers nothing.
-  pub rows : (j : ℕ) → (word w cases (10 * j + 0) ≡ 2 → ⊥) → word w cases (10 * j + 5) ≡ 0 → (q : ℕ) → q < 10
-      → word w′ cases (10 * j + q) ≡ word w cases (10 * j + q)
+pub record Prepared (g : Graph) (r : ℕ) (cs : List MaybeClaimedRegion) (s : NestState) (w w′ : List ℕ) (base : ℕ) (needed : Bool) : Type 0
+  where
+    pub state : ShowsState g w′ (state-after s cs)
+    pub shown : ShowsCases g w′ r (cases-after s cs)
+    pub plan : ShowsPlan g (cases-after s cs) w′ base (nesting.plan-bundles g (cases-after s cs))
+    pub is-needed : needed ≡ any-needs-select (nesting.plan-bundles g (cases-after s cs))
+    pub later : Later g w w′
+    pub spare-at : word w′ set-starts 32 ≡ base
+    pub same : (k : Section) → (number k ≡ 1 → ⊥) → (number k ≡ 5 → ⊥) → (number k ≡ 10 → ⊥) → (number k ≡ 15 → ⊥)
+        → section w′ k ≡ section w k
+    pub totals : (q : ℕ) → (q ≡ 6 → ⊥) → word w′ head q ≡ word w head q
+    pub kept : (q : ℕ) → q < 32 → (q ≡ r → ⊥)
+        → ((j : ℕ) → j < length cs → word w cases (10 * j + 0) ≡ 2 → q ≡ word w cases (10 * j + 1) → ⊥) → KeptRegion w w′ q
+    pub outside : (p : ℕ) → ((j i : ℕ) → j < length cs → i < word w cases (10 * j + 5) → p ≡ word w cases (10 * j + 4) + i → ⊥)
+        → ((i : ℕ) → i < 33 → p ≡ word w set-starts 32 + i → ⊥) → SameBundle w w′ p
+    -- The row of a case that is not claimed and defers nothing.
+    pub rows : (j : ℕ) → (word w cases (10 * j + 0) ≡ 2 → ⊥) → word w cases (10 * j + 5) ≡ 0 → (q : ℕ) → q < 10
+        → word w′ cases (10 * j + q) ≡ word w cases (10 * j + q)
 
 module _ {g : Graph} (valid : Valid g) {r : ℕ} (below : r < length (g .regions)) {w : List ℕ} {s : NestState} (state : ShowsState g w s)
     {cs : List MaybeClaimedRegion} (shown : ShowsCases g w r cs) (unready : NoneReady w r cs)
@@ -220,7 +225,8 @@ module _ {g : Graph} (valid : Valid g) {r : ℕ} (below : r < length (g .regions
         later = later-then (a .later) (later-then (b .later) (c .later));
         spare-at = third;
         same = λ k h i j l. c .spare .others k i l ∙ b .spare .others k i l ∙ a .stays .others k j l h;
-        totals = λ q d. spare-there (c .spare) head (omega arith) (omega arith) q ∙ spare-there (b .spare) head (omega arith) (omega arith) q
+        totals = λ q d. spare-there (c .spare) head (omega arith) (omega arith) q ∙ spare-there (b .spare) head (omega arith) (omega arith)
+            q
             ∙ a .stays .totals q d;
         kept = λ q h d f. kept-then (rewrite-keeps g valid w r s cs state shown chains (omega arith) q (omega arith) d f)
             (kept-then (b .kept q h) (c .kept q h));
@@ -254,7 +260,7 @@ states-kept : {A : Type 0} {s : NestState} (x : StepAnswer A) → Post (λ n u. 
 states-kept (done a s₁) p {s′} e = let z : s₁ ≡ s′ = cc in rw (← z) (p .post .states)
 states-kept (turned-away n u) p e = absurd (clash (cc))
 
-module _ {g : Graph} (valid : Valid g) (small : SmallTypes g) {r : ℕ} (below : r < length (g .regions)) {w : List ℕ} {s : NestState}
+module _ {g : Graph} (valid : Valid g) {r : ℕ} (below : r < length (g .regions)) {w : List ℕ} {s : NestState}
     (state : ShowsState g w s) {cs : List MaybeClaimedRegion} (shown : ShowsCases g w r cs) (unready : NoneReady w r cs)
     (chains : (q : ℕ) → ChainsEnd (s .region-input-rewrites) q)
     (bound : (x : DeferredTarget) → edges-of-cases x (cases-after s cs) ≤ 65535)
@@ -287,7 +293,8 @@ module _ {g : Graph} (valid : Valid g) (small : SmallTypes g) {r : ℕ} (below :
       let own₁ : ShowsChildren g (with-plan g w) (word (with-plan g w) children r) parent =
       rw (p .same children (omega arith) (omega arith) (omega arith) (omega arith)) (p .later .nodes-stay own) in
       let counted = p .totals 4 (omega arith) in
-      chosen (omega arith) small (omega arith) (p .state .tables) cs s spared (scrutinee-stays (p .later) scrutinee) of-shape own₁ (omega arith)
+      chosen (omega arith) (small-types valid (state .stands)) (omega arith) (p .state .tables) cs s spared
+      (scrutinee-stays (p .later) scrutinee) of-shape own₁ (omega arith)
       (p .plan) (λ e. or-right (nesting.any-non-empty-case cs) (any-needs-select ps) e) (rw need-is at m)
 
   finished : {w₁ : List ℕ} {z : Body} {s₁ : NestState}
@@ -299,7 +306,8 @@ module _ {g : Graph} (valid : Valid g) (small : SmallTypes g) {r : ℕ} (below :
       let p = before in
       let many = valid .count in
       let named₁ : NamedRewrites w₁ = record {
-        below = λ q k a b d. rw (c .same-rewrites) (p .state .named .below q k a b (λ u. d (ap (λ l. getD l (5 * q) 0) (c .same-rewrites) ∙ u)));
+        below = λ q k a b d. rw (c .same-rewrites) (p .state .named .below q k a b
+            (λ u. d (ap (λ l. getD l (5 * q) 0) (c .same-rewrites) ∙ u)));
       } in
       let o = replaced-shown (cases-stay (c .step) (p .shown)) (c .tables) named₁ in
       let last = step-by (o .changes) (omega arith) (omega arith) (omega arith) (omega arith) g r (later-by (o .changes) (omega arith) g) in
@@ -308,7 +316,8 @@ module _ {g : Graph} (valid : Valid g) (small : SmallTypes g) {r : ℕ} (below :
       λ q. ap (λ l. getD l q 0) (p .same kinds (omega arith) (omega arith) (omega arith) (omega arith)) in
       let same-starts : (q : ℕ) → word (with-plan g w) set-starts q ≡ word w set-starts q =
       λ q. ap (λ l. getD l q 0) (p .same set-starts (omega arith) (omega arith) (omega arith) (omega arith)) in
-      let still = states-kept _ (select-if-keeps still-steady (λ n u. n ≡ 9) refl (nesting.any-non-empty-case cs || any-needs-select ps) kind y
+      let still = states-kept _ (select-if-keeps still-steady (λ n u. n ≡ 9) refl (nesting.any-non-empty-case cs || any-needs-select ps)
+      kind y
       cs ps (state-after s cs)) e in
       let stays = states-of-step step (omega arith) (λ h. unready .parent (sym (same-kinds r) ∙ h)) in
       let at : word (all-replaced w₁ (case-total w₁) 0) set-starts 32 ≡ base = step .same-starts 32 ∙ p .spare-at in

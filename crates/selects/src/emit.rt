@@ -56,7 +56,8 @@ fn values_in_cases(w: &[u16; WORDS], places: &[u16; 8], k: u16, ty: u16) -> [u16
 
 // Input k of the bundle at q to target t, where it is to be made: an output of the select.
 fn emit_input(w: &mut [u16; WORDS], node: u16, q: u16, t: u16, places: &[u16; 8], k: u16) -> Made
-    ensures { λ a. ⌜ OfRecord (now (w .entry)) (λ g. words.EmitInput g node q t (now (places .entry)) k (now (w .entry)) (now (w .exit)) a) ⌝ }
+    ensures { λ a. ⌜ OfRecord (now (w .entry)) (λ g.
+        words.EmitInput g node q t (now (places .entry)) k (now (w .entry)) (now (w .exit)) a) ⌝ }
 {
     if target_input(w, q, k) != TO_MERGE {
         return Made::Done;

@@ -71,7 +71,7 @@ module _ (g : Graph) where
     abbrev first-states : List StructurizeRegionState
     first-states = replicate (length (g .regions)) not-begun
 
-    owed-start : owed counting first-states ≡ edges-from g (reachable g) + length (reachable g) * (2 * length (reachable g))
+    pub owed-start : owed counting first-states ≡ edges-from g (reachable g) + length (reachable g) * (2 * length (reachable g))
     unfolding owed
     owed-start =
         total-same (λ i. owed-by counting i (getD first-states i not-begun))
@@ -88,7 +88,7 @@ module _ (g : Graph) where
         (λ i. ap (edges-held-by counting r i) (all-not-begun (length (g .regions)) i)) (reachable g)
         ∙ over-incoming r (reachable g)
 
-    start-pre : Pre counting (suc (length (g .regions))) (λ r. 0) (λ r. edges-to r (to-region (g .entry)) 1) (initial-state g)
+    pub start-pre : Pre counting (suc (length (g .regions))) (λ r. 0) (λ r. edges-to r (to-region (g .entry)) 1) (initial-state g)
     start-pre = record {
       inv = record {
         length = length-replicate (length (g .regions)) not-begun;

@@ -23,10 +23,14 @@ set-case-body-requires : tie.Need-set-case-body-requires
 set-case-body-requires c κs = search needs
 
 returns-2 : tie.Need-returns-2
-returns-2 c = no-region (λ e. c .before .before .before .before .if1 .left (c .before .before .before .before .before .case-kind .ensures ∙ e)) (rw (c .enum-told .given .1) at (c .before .before .define-region .ensures))
+returns-2 c = no-region (λ e. c .before .before .before .before .if1 .left
+    (c .before .before .before .before .before .case-kind .ensures ∙ e))
+    (rw (c .enum-told .given .1) at (c .before .before .define-region .ensures))
 
 returns-3 : tie.Need-returns-3
-returns-3 c = new-region (λ e. c .before .before .before .before .before .before .before .if1 .left (c .before .before .before .before .before .before .before .before .case-kind .ensures ∙ e)) (rw (c .before .before .before .r .given .1) at (c .before .before .before .before .before .define-region .ensures))
+returns-3 c = new-region (λ e. c .before .before .before .before .before .before .before .if1 .left
+    (c .before .before .before .before .before .before .before .before .case-kind .ensures ∙ e))
+    (rw (c .before .before .before .r .given .1) at (c .before .before .before .before .before .define-region .ensures))
     (c .set-case-body .ensures)
 
 pub case-region-spec : {M : Type 1} → statement M

@@ -25,7 +25,8 @@ enum-told : tie.Need-enum-told Inv-loop μ-loop
 enum-told c = search needs
 
 returns : tie.Need-returns Inv-loop μ-loop
-returns c = rw (← c .before .before .before .before .before .before .case-count .ensures) (refused _ _ _ _ _ (c .before .before .before .before .before .loop .inv .1) (c .before .before .before .before .loop-test .taken)
+returns c = rw (← c .before .before .before .before .before .before .case-count .ensures)
+    (refused _ _ _ _ _ (c .before .before .before .before .before .loop .inv .1) (c .before .before .before .before .loop-test .taken)
     (rw (c .enum-told .given .1) at (c .before .before .case-region .ensures)))
 
 enum-told-2 : tie.Need-enum-told-2 Inv-loop μ-loop

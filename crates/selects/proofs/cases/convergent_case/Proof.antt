@@ -2,7 +2,8 @@ use mathlib.Core.Path.{_≡_, sym, _∙_}
 use mathlib.Core.Logic.{⊎-elim}
 use Prim.Native.Nat.{_-_, _≤_}
 use native.Mathlib.Omega.{arith}
-use Rattle.selects.specs.Cases.{convergent-from, convergent-case, convergent-start, convergent-skip, convergent-second, convergent-first, convergent-over}
+use Rattle.selects.specs.Cases.{convergent-from, convergent-case, convergent-start, convergent-skip, convergent-second}
+use Rattle.selects.specs.Cases.{convergent-first, convergent-over}
 use borrow.Author.Needs.{needs}
 use Rattle.selects.proofs.cases.convergent_case.Statement.{statement}
 use Rattle.selects.proofs.cases.convergent_case.Tie as tie
@@ -23,7 +24,8 @@ case-length-requires : tie.Need-case-length-requires Inv-loop μ-loop
 case-length-requires c κs = search needs
 
 returns : tie.Need-returns Inv-loop μ-loop
-returns c = convergent-second _ _ _ _ (c .before .before .before .before .loop .inv .1) (c .before .before .before .loop-test .taken) (λ e. c .before .if1 .taken (c .before .before .case-length .ensures ∙ e)) (c .if2 .taken)
+returns c = convergent-second _ _ _ _ (c .before .before .before .before .loop .inv .1) (c .before .before .before .loop-test .taken)
+    (λ e. c .before .if1 .taken (c .before .before .case-length .ensures ∙ e)) (c .if2 .taken)
 
 add-j : tie.Need-add-j Inv-loop μ-loop
 add-j c = search needs
@@ -37,7 +39,8 @@ loop-again c = (
   ⊎-elim
       (λ t. rw (t .2) (convergent-first _ _ _ _ (c .before .before .before .loop .inv .1) (c .before .before .loop-test .taken)
       (λ e. t .0 .taken (c .before .case-length .ensures ∙ e)) (t .1 .left)))
-      (λ t. rw (t .1) (convergent-skip _ _ _ _ (c .before .before .before .loop .inv .1) (c .before .before .loop-test .taken) (sym (c .before .case-length .ensures) ∙ t .0 .left)))
+      (λ t. rw (t .1) (convergent-skip _ _ _ _ (c .before .before .before .loop .inv .1) (c .before .before .loop-test .taken)
+      (sym (c .before .case-length .ensures) ∙ t .0 .left)))
       (c .if1 .came),
 )
 

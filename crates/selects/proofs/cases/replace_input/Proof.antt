@@ -17,7 +17,9 @@ insert-rewrites-requires : tie.Need-insert-rewrites-requires
 insert-rewrites-requires c κs = search needs
 
 returns : tie.Need-returns
-returns c = replaced-claimed _ _ (sym (c .before .before .before .before .before .before .before .before .case-kind .ensures) ∙ c .before .before .before .before .before .before .before .if1 .taken) (c .before .before .before .case-body .ensures) (c .before .before .before .before .before .case-inputs .ensures)
+returns c = replaced-claimed _ _ (sym (c .before .before .before .before .before .before .before .before .case-kind .ensures) ∙ c .before
+    .before .before .before .before .before .before .if1 .taken) (c .before .before .before .case-body .ensures)
+    (c .before .before .before .before .before .case-inputs .ensures)
     (c .insert-rewrites .ensures)
 
 returns-2 : tie.Need-returns-2

@@ -29,7 +29,11 @@ loop-less : tie.Need-loop-less Inv-loop μ-loop
 loop-less c = search needs
 
 loop-again : tie.Need-loop-again Inv-loop μ-loop
-loop-again c = (omega arith, rw (c .replace-input .ensures) (replace-on _ _ _ (c .before .before .before .loop .inv .1) (c .before .before .loop-test .taken)))
+loop-again c = (
+  omega arith,
+  rw (c .replace-input .ensures) (replace-on _ _ _ (c .before .before .before .loop .inv .1)
+      (c .before .before .loop-test .taken)),
+)
 
 returns : tie.Need-returns Inv-loop μ-loop
 returns c = replace-over _ _ _ (c .before .loop .inv .1) (c .loop-test .left)

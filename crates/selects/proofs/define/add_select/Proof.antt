@@ -16,7 +16,8 @@ set-children-requires : tie.Need-set-children-requires
 set-children-requires c κs = search needs
 
 returns : tie.Need-returns
-returns c = select-added (c .before .before .before .before .before .before .case-cells .ensures) (c .before .before .before .before .children .ensures) (c .before .before .add-cell .ensures) (c .set-children .ensures)
+returns c = select-added (c .before .before .before .before .before .before .case-cells .ensures)
+    (c .before .before .before .before .children .ensures) (c .before .before .add-cell .ensures) (c .set-children .ensures)
 
 pub add-select-spec : {M : Type 1} → statement M
 add-select-spec =

@@ -31,7 +31,9 @@ loop-less : tie.Need-loop-less Inv-loop μ-loop
 loop-less c = search needs
 
 loop-again : tie.Need-loop-again Inv-loop μ-loop
-loop-again c = cells-turn _ _ _ _ (c .before .before .before .before .before .before .before .loop .inv) (c .before .before .before .before .before .before .loop-test .taken) (c .before .before .before .before .case-body .ensures) (c .before .before .children-of .ensures)
+loop-again c = cells-turn _ _ _ _ (c .before .before .before .before .before .before .before .loop .inv)
+    (c .before .before .before .before .before .before .loop-test .taken) (c .before .before .before .before .case-body .ensures)
+    (c .before .before .children-of .ensures)
     (c .add-cell .ensures)
 
 returns : tie.Need-returns Inv-loop μ-loop

@@ -25,7 +25,8 @@ enum-told-3 : tie.Need-enum-told-3
 enum-told-3 c = search needs
 
 returns-2 : tie.Need-returns-2
-returns-2 c = scrutinee-full (rw (c .before .before .before .before .enum-told2 .given .1) at (c .before .before .before .before .before .before .case-regions .ensures))
+returns-2 c = scrutinee-full (rw (c .before .before .before .before .enum-told2 .given .1) at
+    (c .before .before .before .before .before .before .case-regions .ensures))
     (rw (c .enum-told3 .given .1) at (c .before .before .scrutinee-value .ensures))
 
 define-node-requires : tie.Need-define-node-requires
@@ -38,15 +39,21 @@ enum-told-4 : tie.Need-enum-told-4
 enum-told-4 c = search needs
 
 returns-3 : tie.Need-returns-3
-returns-3 c = node-full (rw (c .before .before .before .before .before .before .before .before .before .enum-told2 .given .1) at (c .before .before .before .before .before .before .before .before .before .before .before .case-regions .ensures))
-    (rw (c .before .before .before .before .before .v .given .1) at (c .before .before .before .before .before .before .before .scrutinee-value .ensures)) (rw (c .enum-told4 .given .1) at (c .before .before .define-node .ensures))
+returns-3 c = node-full (rw (c .before .before .before .before .before .before .before .before .before .enum-told2 .given .1) at
+    (c .before .before .before .before .before .before .before .before .before .before .before .case-regions .ensures))
+    (rw (c .before .before .before .before .before .v .given .1) at (c .before .before .before .before .before .before .before
+    .scrutinee-value .ensures)) (rw (c .enum-told4 .given .1) at (c .before .before .define-node .ensures))
 
 add-select-requires : tie.Need-add-select-requires
 add-select-requires c κs = search needs
 
 returns-4 : tie.Need-returns-4
-returns-4 c = select-defined (rw (c .before .before .before .before .before .before .before .before .before .before .before .before .enum-told2 .given .1) at (c .before .before .before .before .before .before .before .before .before .before .before .before .before .before .case-regions .ensures))
-    (rw (c .before .before .before .before .before .before .before .before .v .given .1) at (c .before .before .before .before .before .before .before .before .before .before .scrutinee-value .ensures)) (rw (c .before .before .before .node .given .1) at (c .before .before .before .before .before .define-node .ensures))
+returns-4 c = select-defined (rw (c .before .before .before .before .before .before .before .before .before .before .before .before
+    .enum-told2 .given .1) at (c .before .before .before .before .before .before .before .before .before .before .before .before .before
+    .before .case-regions .ensures))
+    (rw (c .before .before .before .before .before .before .before .before .v .given .1) at
+    (c .before .before .before .before .before .before .before .before .before .before .scrutinee-value .ensures))
+    (rw (c .before .before .before .node .given .1) at (c .before .before .before .before .before .define-node .ensures))
     (c .add-select .ensures)
 
 pub define-select-spec : {M : Type 1} → statement M

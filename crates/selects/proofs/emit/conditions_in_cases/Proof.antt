@@ -10,7 +10,8 @@ use Rattle.selects.proofs.emit.conditions_in_cases.Statement.{statement
 use Rattle.selects.proofs.emit.conditions_in_cases.Tie as tie
 
 abbrev Inv-loop : tie.InvT-loop
-Inv-loop w places n parts₀ j₀ parts j = (n ≡ case-total w) × (n ≤ 8) × (j ≤ n) × InCases j (λ i. per-case-condition w i (getD places i 0)) parts
+Inv-loop w places n parts₀ j₀ parts j = (n ≡ case-total w) × (n ≤ 8) × (j ≤ n) × InCases j (λ i. per-case-condition w i (getD places i 0))
+    parts
 
 abbrev μ-loop : tie.MeasureT-loop
 μ-loop w places n parts₀ j₀ parts j = n - j

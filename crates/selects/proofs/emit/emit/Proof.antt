@@ -31,8 +31,10 @@ enum-told : tie.Need-enum-told Inv-loop μ-loop
 enum-told c = search needs
 
 returns : tie.Need-returns Inv-loop μ-loop
-returns c = emits-by _ _ (c .before .before .before .before .before .before .before .before .before .set-start .ensures) (c .before .before .before .before .before .before .before .set-length .ensures)
-    (refused-by _ _ _ _ _ (c .before .before .before .before .before .before .loop .inv .1) (c .before .before .before .before .before .loop-test .taken)
+returns c = emits-by _ _ (c .before .before .before .before .before .before .before .before .before .set-start .ensures)
+    (c .before .before .before .before .before .before .before .set-length .ensures)
+    (refused-by _ _ _ _ _ (c .before .before .before .before .before .before .loop .inv .1)
+    (c .before .before .before .before .before .loop-test .taken)
     (λ g s. rw (c .enum-told .given .1, c .before .before .before .bundle-at .ensures) at (c .before .before .emit-bundle .ensures g s)))
 
 enum-told-2 : tie.Need-enum-told-2 Inv-loop μ-loop
@@ -47,7 +49,8 @@ loop-less c = search needs
 loop-again : tie.Need-loop-again Inv-loop μ-loop
 loop-again c = (
   omega arith,
-  turned-by _ _ _ _ _ (c .before .before .before .before .before .before .loop .inv .1) (λ g. bundles-leave g _ _) (c .before .before .before .before .before .loop-test .taken)
+  turned-by _ _ _ _ _ (c .before .before .before .before .before .before .loop .inv .1) (λ g. bundles-leave g _ _)
+      (c .before .before .before .before .before .loop-test .taken)
       (λ g s. rw (c .enum-told2 .given .1, c .before .before .before .bundle-at .ensures) at (c .before .before .emit-bundle .ensures g s)),
 )
 

@@ -19,7 +19,9 @@ enum-told : tie.Need-enum-told
 enum-told c = search needs
 
 returns : tie.Need-returns
-returns c = bundle-refused _ _ _ (c .before .before .before .before .before .before .before .before .target .ensures) (c .before .before .before .before .before .before .before .per-case-deferred .ensures) (c .before .before .before .before .before .cell-a .ensures)
+returns c = bundle-refused _ _ _ (c .before .before .before .before .before .before .before .before .target .ensures)
+    (c .before .before .before .before .before .before .before .per-case-deferred .ensures)
+    (c .before .before .before .before .before .cell-a .ensures)
     (c .before .before .emit-inputs .ensures) (c .enum-told .given .1)
 
 enum-told-2 : tie.Need-enum-told-2
@@ -29,8 +31,11 @@ emit-condition-requires : tie.Need-emit-condition-requires
 emit-condition-requires c κs = search needs
 
 returns-2 : tie.Need-returns-2
-returns-2 c = bundle-made _ _ _ (c .before .before .before .before .before .before .before .before .before .before .before .target .ensures) (c .before .before .before .before .before .before .before .before .before .before .per-case-deferred .ensures) (c .before .before .before .before .before .before .before .before .cell-a .ensures)
-    (c .before .before .before .before .before .emit-inputs .ensures) (c .before .before .before .enum-told2 .given .1) (c .emit-condition .ensures)
+returns-2 c = bundle-made _ _ _ (c .before .before .before .before .before .before .before .before .before .before .before .target .ensures)
+    (c .before .before .before .before .before .before .before .before .before .before .per-case-deferred .ensures)
+    (c .before .before .before .before .before .before .before .before .cell-a .ensures)
+    (c .before .before .before .before .before .emit-inputs .ensures) (c .before .before .before .enum-told2 .given .1)
+    (c .emit-condition .ensures)
 
 pub emit-bundle-spec : {M : Type 1} → statement M
 emit-bundle-spec =

@@ -35,12 +35,24 @@ set-condition-requires : tie.Need-set-condition-requires
 set-condition-requires c κs = search needs
 
 returns-2 : tie.Need-returns-2
-returns-2 c = condition-refused _ _ _ _ (c .before .before .before .before .before .before .before .before .before .before .before .before .before .before .condition .ensures) (c .before .before .before .before .before .before .before .before .before .before .before .before .before .if1 .left) (c .before .before .before .before .before .before .before .before .before .before .before .conditions-in-cases .ensures)
-    (c .before .before .before .before .before .before .before .before .before .cell-a .ensures) (c .before .before .before .before .before .before .before .cell-b .ensures) (c .before .before .before .before .before .cell-c .ensures) (c .before .before .define-merge .ensures) (c .enum-told .given .1)
+returns-2 c = condition-refused _ _ _ _ (c .before .before .before .before .before .before .before .before .before .before .before .before
+    .before .before .condition .ensures) (c .before .before .before .before .before .before .before .before .before .before .before .before
+    .before .if1 .left) (c .before .before .before .before .before .before .before .before .before .before .before .conditions-in-cases
+    .ensures)
+    (c .before .before .before .before .before .before .before .before .before .cell-a .ensures)
+    (c .before .before .before .before .before .before .before .cell-b .ensures)
+    (c .before .before .before .before .before .cell-c .ensures) (c .before .before .define-merge .ensures) (c .enum-told .given .1)
 
 returns-3 : tie.Need-returns-3
-returns-3 c = condition-set _ _ _ _ (c .before .before .before .before .before .before .before .before .before .before .before .before .before .before .before .before .before .condition .ensures) (c .before .before .before .before .before .before .before .before .before .before .before .before .before .before .before .before .if1 .left) (c .before .before .before .before .before .before .before .before .before .before .before .before .before .before .conditions-in-cases .ensures)
-    (c .before .before .before .before .before .before .before .before .before .before .before .before .cell-a .ensures) (c .before .before .before .before .before .before .before .before .before .before .cell-b .ensures) (c .before .before .before .before .before .before .before .before .cell-c .ensures) (c .before .before .before .before .before .define-merge .ensures) (c .before .before .before .c .given .1)
+returns-3 c = condition-set _ _ _ _ (c .before .before .before .before .before .before .before .before .before .before .before .before
+    .before .before .before .before .before .condition .ensures) (c .before .before .before .before .before .before .before .before .before
+    .before .before .before .before .before .before .before .if1 .left)
+    (c .before .before .before .before .before .before .before .before .before .before .before .before .before .before
+    .conditions-in-cases .ensures)
+    (c .before .before .before .before .before .before .before .before .before .before .before .before .cell-a .ensures)
+    (c .before .before .before .before .before .before .before .before .before .before .cell-b .ensures)
+    (c .before .before .before .before .before .before .before .before .cell-c .ensures)
+    (c .before .before .before .before .before .define-merge .ensures) (c .before .before .before .c .given .1)
     (c .set-condition .ensures)
 
 pub emit-condition-spec : {M : Type 1} → statement M

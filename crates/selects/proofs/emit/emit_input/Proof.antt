@@ -32,12 +32,20 @@ set-target-input-requires : tie.Need-set-target-input-requires
 set-target-input-requires c κs = search needs
 
 returns-2 : tie.Need-returns-2
-returns-2 c = input-refused _ _ _ _ _ _ (c .before .before .before .before .before .before .before .before .before .before .target-input .ensures) (c .before .before .before .before .before .before .before .before .before .if1 .left) (c .before .before .before .before .before .before .before .target-type .ensures)
-    (c .before .before .before .before .before .values-in-cases .ensures) (c .before .before .define-output .ensures) (c .enum-told .given .1)
+returns-2 c = input-refused _ _ _ _ _ _ (c .before .before .before .before .before .before .before .before .before .before .target-input
+    .ensures) (c .before .before .before .before .before .before .before .before .before .if1 .left)
+    (c .before .before .before .before .before .before .before .target-type .ensures)
+    (c .before .before .before .before .before .values-in-cases .ensures) (c .before .before .define-output .ensures)
+    (c .enum-told .given .1)
 
 returns-3 : tie.Need-returns-3
-returns-3 c = input-set _ _ _ _ _ _ (c .before .before .before .before .before .before .before .before .before .before .before .before .before .before .target-input .ensures) (c .before .before .before .before .before .before .before .before .before .before .before .before .before .if1 .left) (c .before .before .before .before .before .before .before .before .before .before .before .target-type .ensures)
-    (c .before .before .before .before .before .before .before .before .before .values-in-cases .ensures) (c .before .before .before .before .before .before .define-output .ensures) (c .before .before .before .before .o .given .1) (c .before .output .ensures) (c .set-target-input .ensures)
+returns-3 c = input-set _ _ _ _ _ _ (c .before .before .before .before .before .before .before .before .before .before .before .before
+    .before .before .target-input .ensures) (c .before .before .before .before .before .before .before .before .before .before .before
+    .before .before .if1 .left) (c .before .before .before .before .before .before .before .before .before .before .before .target-type
+    .ensures)
+    (c .before .before .before .before .before .before .before .before .before .values-in-cases .ensures)
+    (c .before .before .before .before .before .before .define-output .ensures) (c .before .before .before .before .o .given .1)
+    (c .before .output .ensures) (c .set-target-input .ensures)
 
 pub emit-input-spec : {M : Type 1} → statement M
 emit-input-spec =

@@ -28,8 +28,10 @@ enum-told : tie.Need-enum-told Inv-loop μ-loop
 enum-told c = search needs
 
 returns : tie.Need-returns Inv-loop μ-loop
-returns c = inputs-by _ _ _ _ (c .before .before .before .before .before .before .before .before .target .ensures) (c .before .before .before .before .before .before .input-count .ensures)
-    (refused-by _ _ _ _ _ (c .before .before .before .before .before .loop .inv .1) (c .before .before .before .before .loop-test .taken) (λ g s. rw (c .enum-told .given .1) at (c .before .before .emit-input .ensures g s)))
+returns c = inputs-by _ _ _ _ (c .before .before .before .before .before .before .before .before .target .ensures)
+    (c .before .before .before .before .before .before .input-count .ensures)
+    (refused-by _ _ _ _ _ (c .before .before .before .before .before .loop .inv .1) (c .before .before .before .before .loop-test .taken)
+    (λ g s. rw (c .enum-told .given .1) at (c .before .before .emit-input .ensures g s)))
 
 enum-told-2 : tie.Need-enum-told-2 Inv-loop μ-loop
 enum-told-2 c = search needs
@@ -43,7 +45,8 @@ loop-less c = search needs
 loop-again : tie.Need-loop-again Inv-loop μ-loop
 loop-again c = (
   omega arith,
-  turned-by _ _ _ _ _ (c .before .before .before .before .before .loop .inv .1) (λ g. inputs-leave g _ _ _ _) (c .before .before .before .before .loop-test .taken)
+  turned-by _ _ _ _ _ (c .before .before .before .before .before .loop .inv .1) (λ g. inputs-leave g _ _ _ _)
+      (c .before .before .before .before .loop-test .taken)
       (λ g s. rw (c .enum-told2 .given .1) at (c .before .before .emit-input .ensures g s)),
 )
 

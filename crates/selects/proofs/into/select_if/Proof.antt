@@ -20,10 +20,12 @@ emit-requires : tie.Need-emit-requires
 emit-requires c κs = search needs
 
 returns-2 : tie.Need-returns-2
-returns-2 c = if-full _ _ _ _ _ (not-false _ (c .before .before .before .before .if1 .left)) (c .before .before .define-select .ensures) (c .enum-told .given .1)
+returns-2 c = if-full _ _ _ _ _ (not-false _ (c .before .before .before .before .if1 .left)) (c .before .before .define-select .ensures)
+    (c .enum-told .given .1)
 
 returns-3 : tie.Need-returns-3
-returns-3 c = if-made _ _ _ _ _ (not-false _ (c .before .before .before .before .before .before .before .if1 .left)) (c .before .before .before .before .before .define-select .ensures) (c .before .before .before .h .given .1) (c .emit .ensures)
+returns-3 c = if-made _ _ _ _ _ (not-false _ (c .before .before .before .before .before .before .before .if1 .left))
+    (c .before .before .before .before .before .define-select .ensures) (c .before .before .before .h .given .1) (c .emit .ensures)
 
 pub select-if-spec : {M : Type 1} → statement M
 select-if-spec =

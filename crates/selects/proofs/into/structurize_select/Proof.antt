@@ -25,8 +25,11 @@ enum-told : tie.Need-enum-told
 enum-told c = search needs
 
 returns : tie.Need-returns
-returns c = select-none _ _ _ _ (c .before .before .before .before .before .before .before .before .before .before .before .any-non-empty-case .ensures) (c .before .before .before .before .before .before .before .before .before .rewrite-cases .ensures) (c .before .before .before .before .before .before .before .deferred-targets .ensures)
-    (c .before .before .before .before .before .plan-bundles .ensures) (c .before .before .before .before .either .ensures) (c .before .before .select-if .ensures) (c .enum-told .given .1)
+returns c = select-none _ _ _ _ (c .before .before .before .before .before .before .before .before .before .before .before
+    .any-non-empty-case .ensures) (c .before .before .before .before .before .before .before .before .before .rewrite-cases .ensures)
+    (c .before .before .before .before .before .before .before .deferred-targets .ensures)
+    (c .before .before .before .before .before .plan-bundles .ensures) (c .before .before .before .before .either .ensures)
+    (c .before .before .select-if .ensures) (c .enum-told .given .1)
 
 enum-told-2 : tie.Need-enum-told-2
 enum-told-2 c = search needs
@@ -35,8 +38,12 @@ replace-inputs-requires : tie.Need-replace-inputs-requires
 replace-inputs-requires c κs = search needs
 
 returns-2 : tie.Need-returns-2
-returns-2 c = select-all _ _ _ _ (c .before .before .before .before .before .before .before .before .before .before .before .before .before .any-non-empty-case .ensures) (c .before .before .before .before .before .before .before .before .before .before .before .rewrite-cases .ensures) (c .before .before .before .before .before .before .before .before .before .deferred-targets .ensures)
-    (c .before .before .before .before .before .before .before .plan-bundles .ensures) (c .before .before .before .before .before .before .either .ensures) (c .before .before .before .before .select-if .ensures) (c .before .before .enum-told2 .given .1) (c .replace-inputs .ensures)
+returns-2 c = select-all _ _ _ _ (c .before .before .before .before .before .before .before .before .before .before .before .before .before
+    .any-non-empty-case .ensures) (c .before .before .before .before .before .before .before .before .before .before .before .rewrite-cases
+    .ensures) (c .before .before .before .before .before .before .before .before .before .deferred-targets .ensures)
+    (c .before .before .before .before .before .before .before .plan-bundles .ensures)
+    (c .before .before .before .before .before .before .either .ensures) (c .before .before .before .before .select-if .ensures)
+    (c .before .before .enum-told2 .given .1) (c .replace-inputs .ensures)
 
 pub structurize-select-spec : {M : Type 1} → statement M
 structurize-select-spec =

@@ -22,7 +22,10 @@ enum-told : tie.Need-enum-told
 enum-told c = search needs
 
 returns : tie.Need-returns
-returns c = into-refused _ _ _ _ (c .before .before .before .before .before .before .before .before .before .before .convergent-case .ensures) (c .before .before .before .before .before .before .before .before .before .if1 .taken) (c .before .before .before .before .before .before .before .case-at .ensures) (c .before .before .before .before .before .unclaimed-case .ensures)
+returns c = into-refused _ _ _ _ (c .before .before .before .before .before .before .before .before .before .before .convergent-case
+    .ensures) (c .before .before .before .before .before .before .before .before .before .if1 .taken)
+    (c .before .before .before .before .before .before .before .case-at .ensures)
+    (c .before .before .before .before .before .unclaimed-case .ensures)
     (c .before .before .before .before .set-case .ensures) (c .before .before .structurize-select .ensures) (c .enum-told .given .1)
 
 enum-told-2 : tie.Need-enum-told-2
@@ -32,8 +35,12 @@ append-maybe-claimed-region-requires : tie.Need-append-maybe-claimed-region-requ
 append-maybe-claimed-region-requires c κs = search needs
 
 returns-2 : tie.Need-returns-2
-returns-2 c = into-one _ _ _ _ (c .before .before .before .before .before .before .before .before .before .before .before .before .convergent-case .ensures) (c .before .before .before .before .before .before .before .before .before .before .before .if1 .taken) (c .before .before .before .before .before .before .before .before .before .case-at .ensures) (c .before .before .before .before .before .before .before .unclaimed-case .ensures)
-    (c .before .before .before .before .before .before .set-case .ensures) (c .before .before .before .before .structurize-select .ensures) (c .before .before .enum-told2 .given .1) (c .append-maybe-claimed-region .ensures)
+returns-2 c = into-one _ _ _ _ (c .before .before .before .before .before .before .before .before .before .before .before .before
+    .convergent-case .ensures) (c .before .before .before .before .before .before .before .before .before .before .before .if1 .taken)
+    (c .before .before .before .before .before .before .before .before .before .case-at .ensures)
+    (c .before .before .before .before .before .before .before .unclaimed-case .ensures)
+    (c .before .before .before .before .before .before .set-case .ensures) (c .before .before .before .before .structurize-select .ensures)
+    (c .before .before .enum-told2 .given .1) (c .append-maybe-claimed-region .ensures)
 
 structurize-select-requires-2 : tie.Need-structurize-select-requires-2
 structurize-select-requires-2 c κs = search needs
@@ -42,7 +49,8 @@ enum-told-3 : tie.Need-enum-told-3
 enum-told-3 c = search needs
 
 returns-3 : tie.Need-returns-3
-returns-3 c = into-none _ _ _ _ (c .before .before .before .before .before .convergent-case .ensures) (c .before .before .before .before .if1 .left) (c .before .before .structurize-select2 .ensures)
+returns-3 c = into-none _ _ _ _ (c .before .before .before .before .before .convergent-case .ensures)
+    (c .before .before .before .before .if1 .left) (c .before .before .structurize-select2 .ensures)
     (c .enum-told3 .given .1)
 
 enum-told-4 : tie.Need-enum-told-4
@@ -52,7 +60,8 @@ take-spare-requires : tie.Need-take-spare-requires
 take-spare-requires c κs = search needs
 
 returns-4 : tie.Need-returns-4
-returns-4 c = into-all _ _ _ _ (c .before .before .before .before .before .before .before .convergent-case .ensures) (c .before .before .before .before .before .before .if1 .left) (c .before .before .before .before .structurize-select2 .ensures)
+returns-4 c = into-all _ _ _ _ (c .before .before .before .before .before .before .before .convergent-case .ensures)
+    (c .before .before .before .before .before .before .if1 .left) (c .before .before .before .before .structurize-select2 .ensures)
     (c .before .before .enum-told4 .given .1) (c .take-spare .ensures)
 
 pub structurize-select-into-spec : {M : Type 1} → statement M

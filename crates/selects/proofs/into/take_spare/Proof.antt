@@ -13,7 +13,8 @@ put-set-length-requires : tie.Need-put-set-length-requires
 put-set-length-requires c κs = search needs
 
 returns : tie.Need-returns
-returns c = spare-by _ _ (c .before .before .before .before .set-length .ensures) (c .before .before .swap-sets .ensures) (c .put-set-length .ensures)
+returns c = spare-by _ _ (c .before .before .before .before .set-length .ensures) (c .before .before .swap-sets .ensures)
+    (c .put-set-length .ensures)
 
 pub take-spare-spec : {M : Type 1} → statement M
 take-spare-spec =

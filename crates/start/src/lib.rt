@@ -1,0 +1,107 @@
+// The nesting state before the first claim: nothing begun, nothing rewritten, blocks numbered.
+ghost use mathlib.Core.Path.{_≡_};
+ghost use Rattle.record.specs.Stands.{OfRecord};
+ghost use Rattle.start.specs.Words as words;
+use state::defined::RETURNED;
+use state::defined::set_head;
+use state::regions::NOT_BEGUN;
+use state::regions::set_first_node;
+use state::regions::set_region_state;
+use state::rewrites::clear_rewrites;
+use state::sections::HEAD;
+use state::sections::HEAD_WORDS;
+use state::sections::put_all;
+use state::sets::put_set_start;
+use state::sets::slot;
+use store::WORDS;
+
+// No region has an entry, defined already or not.
+fn start_rewrites(w: &mut [u16; WORDS])
+    ensures { λ _. ⌜ now (w .exit) ≡ words.«nothing-rewritten» (now (w .entry)) ⌝ }
+{
+    let mut r: u16 = 0;
+    while r < 128 {
+        clear_rewrites(w, r);
+        r += 1;
+    }
+}
+
+fn start_kinds(w: &mut [u16; WORDS])
+    ensures { λ _. ⌜ now (w .exit) ≡ words.«nothing-begun» (now (w .entry)) ⌝ }
+{
+    let mut r: u16 = 0;
+    while r < 32 {
+        set_region_state(w, r, NOT_BEGUN);
+        r += 1;
+    }
+}
+
+// Of the regions, and the spare one.
+fn start_slots(w: &mut [u16; WORDS])
+    ensures { λ _. ⌜ now (w .exit) ≡ words.«slots-placed» (now (w .entry)) ⌝ }
+{
+    let mut a: u16 = 0;
+    while a < 33 {
+        put_set_start(w, a, slot(a));
+        a += 1;
+    }
+}
+
+// The blocks of a record are never as many as a word can be.
+fn sum(a: u16, b: u16) -> u16
+    ensures { λ c. ⌜ c ≡ words.sum a b ⌝ }
+{
+    if 65535 - a < b {
+        return 65535;
+    }
+    a + b
+}
+
+// Nodes are numbered blocks first, in region order. The answer is how many blocks there are.
+fn start_nodes(w: &mut [u16; WORDS]) -> u16
+    ensures { λ a. ⌜ OfRecord (now (w .entry)) (λ g. words.Numbers g (now (w .entry)) (now (w .exit)) a) ⌝ }
+{
+    let n = fields::region_count(w);
+    let mut node: u16 = 0;
+    let mut r: u16 = 0;
+    while r < n {
+        set_first_node(w, r, node);
+        node = sum(node, fields::block_count(w, r));
+        r += 1;
+    }
+    node
+}
+
+// Regions, nodes, conditions, outputs, cells, of which cell 0 is none, attempts, and twice.
+fn start_totals(w: &mut [u16; WORDS], nodes: u16)
+    ensures { λ _. ⌜ OfRecord (now (w .entry)) (λ g. now (w .exit) ≡ words.counted g nodes (now (w .entry))) ⌝ }
+{
+    let xs = [fields::region_count(w), nodes, 0, 0, 1, 0, 0];
+    put_all(w, HEAD, HEAD_WORDS, 0, &xs);
+}
+
+// How many values a Return has, and their types, 0 where there is none.
+fn start_returned(w: &mut [u16; WORDS])
+    ensures { λ _. ⌜ OfRecord (now (w .entry)) (λ g. now (w .exit) ≡ words.returned g (now (w .entry))) ⌝ }
+{
+    let q = references::first_return(w);
+    let n = fields::value_count(w, q);
+    let mut k: u16 = 0;
+    while k < 4 {
+        let ty = references::return_type(w, q, k);
+        set_head(w, RETURNED + 1 + (k as usize), ty);
+        k += 1;
+    }
+    set_head(w, RETURNED, n);
+}
+
+pub fn initial_state(w: &mut [u16; WORDS])
+    ensures { λ _. ⌜ OfRecord (now (w .entry)) (λ g. now (w .exit) ≡ words.started g (now (w .entry))) ⌝ }
+{
+    start_rewrites(w);
+    start_kinds(w);
+    start_slots(w);
+    let nodes = start_nodes(w);
+    start_totals(w, nodes);
+    start_returned(w);
+}
