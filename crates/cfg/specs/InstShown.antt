@@ -17,8 +17,7 @@ use Rattle.fields.specs.Shape.{value-is}
 use Rattle.fields.specs.declared.shape.Value as shape
 use Rattle.nesting.specs.Nesting.{NestState, Body, region-body, ClaimedRegion, MaybeClaimedRegion, ok, StepAnswer, done, turned-away}
 use Rattle.nesting.specs.Nesting.{by-control-inst, blocks-of, blocks-from, append-maybe-claimed-region, define-node, add-node, most-nodes}
-use Rattle.nesting.specs.Nesting.{join}
-use Rattle.nesting.specs.Nesting.{value, edge-bundle, to-return, true-cond}
+use Rattle.nesting.specs.Nesting.{join, edge-bundle, to-return, true-cond}
 use Rattle.follows.specs.simulation.Invariant.{Inv}
 use Rattle.follows.specs.counting.Totals.{edges-to, totals, edgeless}
 use Rattle.state.specs.Sections.{word, stored, used, head, kinds, children, set-starts, set-lengths, bundles, levels, rewrites}
@@ -78,8 +77,8 @@ node-changes {w} (defined {n} p h e) = rw e (head-changes head 1 w (n + 1))
 filled-only : (g : Graph) (r m j : ℕ) → j + m ≤ 8 → (w : List ℕ) → OnlySets w (filled-from g w r m j)
 unfolding filled-from
 filled-only g r zero j h w = only-same w
-filled-only g r (suc m) j h w = only-then (filled-one g w r j (omega arith) .only)
-    (filled-only g r m (suc j) (omega arith) (case-filled g w r j))
+filled-only g r (suc m) j h w =
+    only-then (filled-one g w r j (omega arith) .only) (filled-only g r m (suc j) (omega arith) (case-filled g w r j))
 
 cases-only : {g : Graph} → Valid g → {r : ℕ} → r < length (g .regions) → (w : List ℕ) → OnlySets w (cases-filled g w r)
 cases-only {g} valid {r} here w =
@@ -230,8 +229,8 @@ module _ {g : Graph} (few : length (g .regions) ≤ 32) {r : ℕ} (here : r < le
         (only-later only g) (λ q l d f. return-deferred-kept g w₂ r room (omega arith) slots q (omega arith) d) same (omega arith)
 
     exit-of : (op : ℕ) (vs : List Value) (cs : List MaybeClaimedRegion) {n : ℕ} {s₁ : NestState} → define-node s ≡ done n s₁
-        → by-control-inst g (blocks-of g r) (exit-invocation op vs) cs s ≡ done
-        (region-body (join (blocks-of g r) (exit n op vs ▸ ⟨⟩)) []) s₁
+        → by-control-inst g (blocks-of g r) (exit-invocation op vs) cs s ≡
+        done (region-body (join (blocks-of g r) (exit n op vs ▸ ⟨⟩)) []) s₁
     exit-of op vs cs e = rw e
 
     exit-refused : (op : ℕ) (vs : List Value) (cs : List MaybeClaimedRegion) → define-node s ≡ turned-away 9 0
@@ -242,8 +241,8 @@ module _ {g : Graph} (few : length (g .regions) ≤ 32) {r : ℕ} (here : r < le
         → region g r .terminator ≡ exit-invocation op vs → AddsExit w₂ r w′ a → SameKinds w w′
         → BodyShows g w w′ r cs 11 (by-control-inst g (blocks-of g r) (region g r .terminator) cs s) a
     at-exit-shown {cs} {op} {vs} e (exit-full d) same =
-        refuses-body (ap (λ t. by-control-inst g (blocks-of g r) t cs s) e ∙ exit-refused op vs cs
-        (full-of (node-defined (p .state .tables) d) refl))
+        refuses-body (ap (λ t. by-control-inst g (blocks-of g r) t cs s) e
+        ∙ exit-refused op vs cs (full-of (node-defined (p .state .tables) d) refl))
     at-exit-shown {cs} {op} {vs} e (by-inst.exit-added {w₁} {w₂ = w₄} {node} {h} d x f) same =
         let u = done-of (node-defined (p .state .tables) d) refl in
         let changes = node-changes d in
@@ -266,8 +265,8 @@ module _ {g : Graph} (few : length (g .regions) ≤ 32) {r : ℕ} (here : r < le
         let cells₄ = cell-total x free₃ room₃ in
         let c₅ = word-concerns g w₄ children (omega arith) r h in
         let cells₅ = c₅ .same-head 4 in
-        let unready₄ : word w₄ kinds r ≡ 2 → ⊥ = λ z. unready
-        (sym (c₃ .states .same-kinds r here) ∙ sym (c₄ .states .same-kinds r here) ∙ z) in
+        let unready₄ : word w₄ kinds r ≡ 2 → ⊥ =
+        λ z. unready (sym (c₃ .states .same-kinds r here) ∙ sym (c₄ .states .same-kinds r here) ∙ z) in
         let node-is : node ≡ u .value = u .shows in
         rw f
         (done-body {x = region-body (join (blocks-of g r) (exit (u .value) op vs ▸ ⟨⟩)) []} p
@@ -358,15 +357,15 @@ module _ {g : Graph} (few : length (g .regions) ≤ 32) {r : ℕ} (here : r < le
 
 module _ (g : Graph) (valid : Valid g) (few : length (g .regions) ≤ 32) where
   pub inst-shown : {w w′ : List ℕ} {r : ℕ} {a : Made} → ByControlInst g w r w′ a → (s : NestState) (cs : List MaybeClaimedRegion)
-      → ShowsState g w s → cells-in-all w ≤ 641 → 1 ≤ word w head 4 → r < length (g .regions) → word w kinds r ≡ 1
+      → ShowsState g w s → cells-in-all w ≤ 641 → r < length (g .regions) → word w kinds r ≡ 1
       → length cs ≡ length (edges-of (region g r .terminator))
       → ((k : ℕ) → k < length (edges-of (region g r .terminator)) → TakenAs g w r k (edge-of g r k) (getD cs k no-case))
       → ((k : ℕ) (c : ClaimedRegion) → getD cs k no-case ≡ ok c → c .origin ≡ r → ⊥)
       → ((i j : ℕ) (c d : ClaimedRegion) → i < j → getD cs i no-case ≡ ok c → getD cs j no-case ≡ ok d → c .origin ≡ d .origin → ⊥)
       → Inv (world g valid) s → ((q : ℕ) → totals (edges-to q) cs ≤ 65535) → totals edgeless cs ≡ 0
       → BodyShows g w w′ r cs 11 (by-control-inst g (blocks-of g r) (region g r .terminator) cs s) a
-  inst-shown {w} {w′} {r} (by-inst.by-inst {w₂} blocks empty end) s cs state room one here busy size each other apart inv bound none =
-      let p = prepared few here blocks empty state (omega arith) one (omega arith) in
+  inst-shown {w} {w′} {r} (by-inst.by-inst {w₂} blocks empty end) s cs state room here busy size each other apart inv bound none =
+      let p = prepared few here blocks empty state (omega arith) (omega arith) (omega arith) in
       by p end (inst-kinds (by-inst.by-inst blocks empty end))
     where
       by : {a : Made} → Prepared g r w w₂ s → ByTerminator g w₂ r w′ a → SameKinds w w′

@@ -67,11 +67,8 @@ module _ (g : Graph) (valid : Valid g) (few : length (g .regions) ≤ 32) where
       (into-shown valid here (filled .state) (filled .cases-shown)
       (record {
         parent = λ e. unready (sym (same-kinds r) ∙ e);
-        claimed = λ j h z e. (
-          same-kinds (z .origin) ∙ in-cases c (y .others) (claimed .kind) j z e,
-          not-in-cases c (y .others) not-own
-              j z e,
-        );
+        claimed = λ j h z e.
+            (same-kinds (z .origin) ∙ in-cases c (y .others) (claimed .kind) j z e, not-in-cases c (y .others) not-own j z e);
       })
       (chains-of g valid inv) (edges-bound s cases most none) (shows-lazy (filled .later .conditions-stay under))
       (shape-bool refl refl) own (omega arith) m)

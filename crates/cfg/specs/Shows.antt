@@ -3,7 +3,7 @@ use mathlib.Core.Path.{_≡_, refl, ap, subst, _∙_}
 use mathlib.Core.List.{List, [], _++_}
 use mathlib.Core.Logic.{_⊎_, inl, inr}
 use mathlib.Core.Option.{Option, none, some}
-use Prim.Native.Nat.{ℕ, zero, suc, _+_, _≤_, _<_}
+use Prim.Native.Nat.{ℕ, zero, suc, _+_, _*_, _-_, _≤_, _<_}
 use native.Mathlib.Omega.{arith}
 use native.Mathlib.Decide.{ℕ-discrete}
 use lib.ListN.{length, getD, set, take, drop}
@@ -102,8 +102,9 @@ owed-below (suc n) l = owe (getD l n 0) + owed-below n l
 unfoldable pub cells-owed : List ℕ → ℕ
 cells-owed w = owed-below 32 (section w kinds)
 
+-- Before the empty list is made, the total counts as too many: so a bound on it says that a list is made.
 abbrev pub cells-in-all : List ℕ → ℕ
-cells-in-all w = word w head 4 + cells-owed w
+cells-in-all w = word w head 4 + cells-owed w + 1000 * (1 - word w head 4)
 
 owed-same : (l l′ : List ℕ) (n : ℕ) → ((q : ℕ) → q < n → getD l′ q 0 ≡ getD l q 0) → owed-below n l′ ≡ owed-below n l
 owed-same l l′ zero h = refl
