@@ -17,6 +17,10 @@ use Rattle.nesting.specs.Nesting.{reachable, exit-targets}
 use Rattle.bundles.specs.RecordValues.{few-edges}
 use Rattle.merging.specs.Pigeonhole.{pigeonhole}
 use Rattle.cfg.specs.Shows.{K}
+use Rattle.cfg.specs.ClaimsShown.{Parts}
+use Rattle.cfg.specs.StateShown.{state-shown}
+use Rattle.cfg.specs.InstShown.{inst-shown}
+use Rattle.cfg.specs.ResolveShown.{resolve-shown}
 
 -- ---- At most 32 regions are reachable, each with at most 8 edges and 32 exits: the counts are small.
 getD-in : (x : ℕ) (xs : List ℕ) → is-in x xs ≡ false → (i : ℕ) → i < length xs → x ≡ getD xs i 0 → ⊥
@@ -83,3 +87,17 @@ module _ (g : Graph) (valid : Valid g) where
           → pick b 1 0 + total (λ r. times-in q (targets-of g r) + times-in q (exit-targets g r)) (reachable g) ≤ 65534
       first true s l = omega arith
       first false s l = omega arith
+
+  -- What claims and regions are shown from.
+  pub parts : Parts g valid
+  parts =
+      let few = valid .count .1 in
+      record {
+        few = omega arith;
+        few-targets = few-targets;
+        few-incoming = few-incoming;
+        by-state = λ {w} {w′} {r} {n} {a} step fuel H s inputs shown cells live many begun can.
+        state-shown g valid (omega arith) few-incoming w r n fuel H s inputs shown cells live many can step begun;
+        by-inst = λ x. inst-shown g valid (omega arith) x;
+        by-resolve = λ x. resolve-shown g valid (omega arith) x;
+      }
