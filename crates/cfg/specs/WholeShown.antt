@@ -97,7 +97,7 @@ module _ (g : Graph) (valid : Valid g) where
         few-targets = few-targets;
         few-incoming = few-incoming;
         by-state = λ {w} {w′} {r} {n} {a} step fuel H s inputs shown cells live many begun can.
-        state-shown g valid (omega arith) few-incoming w r n fuel H s inputs shown cells live many can step begun;
+            state-shown g valid (omega arith) few-incoming w r n fuel H s inputs shown cells live many can step begun;
         by-inst = λ x. inst-shown g valid (omega arith) x;
         by-resolve = λ x. resolve-shown g valid (omega arith) x;
       }

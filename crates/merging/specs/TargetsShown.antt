@@ -31,7 +31,7 @@ use Rattle.merging.specs.Spare.{spare-outside}
 use Rattle.merging.specs.Spare.{spare-keeps, spare-state, spare-cases}
 use Rattle.merging.specs.Pigeonhole.{pigeonhole}
 use Rattle.merging.specs.Finds.{bundle-there, FirstTo, first-at, none-to, words-as-targets, finds}
-use Rattle.meaning.specs.facts.Parts.{run-before, run-behind, run-in}
+use Rattle.meaning.specs.facts.Parts.{run-before, run-in}
 
 -- ---- The definition's step, by the first row to a bundle's target.
 abbrev pub no-summary : DeferredTargetSummary

@@ -12,7 +12,7 @@ use Rattle.meaning.specs.facts.Elements.{getD-map-in}
 use Rattle.nesting.specs.Nesting as nesting
 use Rattle.nesting.specs.Nesting.{DeferredTarget, DeferredEdgeBundle, DeferredEdgeBundleSet, MaybeClaimedRegion, deferred-of}
 use Rattle.nesting.specs.Nesting.{PerCaseDeferred, per-case-of, get-edge-bundle-by-target, condition-in, conditions-of, undef-cond}
-use Rattle.state.specs.Sections.{word, cases, bundles}
+use Rattle.state.specs.Sections.{word, cases}
 use Rattle.state.specs.Tables.{input-word, case-total}
 use Rattle.shown.specs.Values.{value, value-undef}
 use Rattle.shown.specs.Tables.{ShowsCondition, shows-undef, shows-false, ShowsParts, none-left, one-and, cond-count, ShowsValues}

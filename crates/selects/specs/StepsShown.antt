@@ -6,7 +6,7 @@ use native.Mathlib.Omega.{arith}
 use lib.ListN.{length, getD}
 use Rattle.meaning.specs.Graph.{Graph}
 use Rattle.nesting.specs.Nesting.{MaybeClaimedRegion}
-use Rattle.state.specs.Sections.{Section, number, section, word, stored, head, kinds, set-starts, children, cases}
+use Rattle.state.specs.Sections.{Section, number, word, stored, head, kinds, set-starts, children, cases}
 use Rattle.state.specs.Sections.{bundles}
 use Rattle.state.specs.Apart.{section-other}
 use Rattle.state.specs.Tables.{case-total}

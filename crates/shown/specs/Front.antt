@@ -3,7 +3,7 @@ use mathlib.Core.Path.{_≡_, refl, sym, _∙_}
 use mathlib.Core.List.{List}
 use Prim.Native.Nat.{ℕ, _+_, _*_}
 use native.Mathlib.Omega.{arith}
-use lib.ListN.{length, take}
+use lib.ListN.{length}
 use Rattle.meaning.specs.Graph.{Graph}
 use Rattle.record.specs.Stands.{Stands}
 use Rattle.fields.specs.laws.Unchanged.{still-stands}

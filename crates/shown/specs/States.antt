@@ -3,7 +3,7 @@ use mathlib.Core.Path.{_≡_}
 use mathlib.Core.List.{List, []}
 use Prim.Native.Nat.{ℕ, _+_, _*_, _≤_, _<_}
 use lib.ListN.{length, getD}
-use Rattle.meaning.specs.Graph.{Value, Graph, region, undef}
+use Rattle.meaning.specs.Graph.{Graph, region, undef}
 use Rattle.meaning.specs.Runs.{Nodes}
 use Rattle.format.specs.References.{return-types}
 use Rattle.record.specs.Stands.{Stands}

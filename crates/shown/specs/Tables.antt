@@ -1,10 +1,10 @@
 -- What the words show of a state of nesting: its rewrites, outputs, conditions and totals. Each part speaks of one section's words, or of
 -- one word of the head, so a store elsewhere leaves it as it is.
 use mathlib.Core.Path.{_≡_, refl, subst}
-use mathlib.Core.Bool.{Bool, true, false}
-use mathlib.Core.List.{List, [], _∷_, map, List·Memᴰ}
+use mathlib.Core.Bool.{false}
+use mathlib.Core.List.{List, [], map, List·Memᴰ}
 use mathlib.Core.Option.{Option, none, some}
-use Prim.Native.Nat.{ℕ, zero, suc, _+_, _*_, _≤_, _<_}
+use Prim.Native.Nat.{ℕ, suc, _+_, _*_, _≤_, _<_}
 use lib.ListN.{length, getD}
 use Rattle.meaning.specs.Graph.{Value, SelectionKind, bool-cond, number, undef, held}
 use Rattle.meaning.specs.facts.Tests.{clash}

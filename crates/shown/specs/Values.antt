@@ -9,7 +9,7 @@ use borrow.Author.Tests.{lt-ltb, le-ltb, eq-eqb, ne-eqb, eqb-true}
 use Rattle.meaning.specs.Graph.{Value, const, input, instr, output, bool, undef, held, no-value, code-of, same-value}
 use Rattle.meaning.specs.facts.Tests.{clash}
 use Rattle.meaning.specs.facts.Tests.{and-both}
-use Rattle.state.specs.Values.{is-input, is-held, input-region, input-index, output-word, undef-word, region-word}
+use Rattle.state.specs.Values.{input-region, input-index, output-word, undef-word, region-word}
 use Rattle.meaning.specs.Lists.{pick}
 
 unfoldable pub value : ℕ → Value

@@ -25,7 +25,7 @@ use Rattle.shown.specs.Front.{SameFront, stands-on, front-stored, front-run, fr
 use Rattle.shown.specs.SetStores.{run-word}
 use Rattle.shown.specs.Tables.{no-entry}
 use Rattle.shown.specs.States.{ShowsState, is-not-begun}
-use Rattle.start.specs.Words.{nothing-rewritten, nothing-begun, emptied, sum, sum-whole, nodes-before, returned-type, numbered}
+use Rattle.start.specs.Words.{nothing-rewritten, nothing-begun, emptied, sum-whole, nodes-before, returned-type, numbered}
 use Rattle.start.specs.Words.{counted, started, filled, filled-front, emptied-front}
 use Rattle.start.specs.Fills.{fill-length, fill-other, fill-beside, fill-there}
 

@@ -1,14 +1,6 @@
 use borrow.Author.Needs.{needs}
 use Rattle.cfg.proofs.claim.claim_body.Statement.{statement}
 use Rattle.cfg.proofs.claim.claim_body.Tie as tie
-use Rattle.cfg.proofs.claim.claim_body.Reads as reads
-use Rattle.cfg.proofs.claim.claim_body.Lts as lts
-use Rattle.cfg.proofs.claim.claim_of.Reads as claim-of-reads
-use Rattle.cfg.proofs.claim.find_backedge.Reads as find-backedge-reads
-use Rattle.loops.proofs.loops.structurize_loop.Reads as structurize-loop-reads
-use Rattle.state.proofs.regions.backedge_count.Reads as backedge-count-reads
-use Rattle.state.proofs.regions.set_region_state.Reads as set-region-state-reads
-use Rattle.state.proofs.regions.set_structured_body.Reads as set-structured-body-reads
 use Rattle.cfg.specs.ByState.{body-plain, body-without, body-loop}
 
 -- src/claim.rt:58:5

@@ -1,14 +1,6 @@
 use borrow.Author.Needs.{needs}
 use Rattle.cfg.proofs.claim.claim_by_state.Statement.{statement}
 use Rattle.cfg.proofs.claim.claim_by_state.Tie as tie
-use Rattle.cfg.proofs.claim.claim_by_state.Reads as reads
-use Rattle.cfg.proofs.claim.claim_by_state.Lts as lts
-use Rattle.cfg.proofs.claim.claim_body.Reads as claim-body-reads
-use Rattle.cfg.proofs.claim.count.Reads as count-reads
-use Rattle.incoming.proofs.IncomingEdgeCount.plus.Reads as plus-reads
-use Rattle.incoming.proofs.IncomingEdgeCount.same.Reads as same-reads
-use Rattle.state.proofs.regions.backedge_count.Reads as backedge-count-reads
-use Rattle.state.proofs.regions.region_state.Reads as region-state-reads
 use Rattle.cfg.specs.ByState.{state-claimed, state-waits, busy-refuses, busy-stays, other-refuses}
 
 -- src/claim.rt:80:9

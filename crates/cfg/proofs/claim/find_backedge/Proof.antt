@@ -1,11 +1,6 @@
 use borrow.Author.Needs.{needs}
 use Rattle.cfg.proofs.claim.find_backedge.Statement.{statement}
 use Rattle.cfg.proofs.claim.find_backedge.Tie as tie
-use Rattle.cfg.proofs.claim.find_backedge.Reads as reads
-use Rattle.cfg.proofs.claim.find_backedge.Lts as lts
-use Rattle.state.proofs.sets.find_by_target.Reads as find-by-target-reads
-use Rattle.state.proofs.sets.set_length.Reads as set-length-reads
-use Rattle.state.proofs.sets.set_start.Reads as set-start-reads
 use mathlib.Core.Path.{_∙_}
 
 -- src/claim.rt:51:23

@@ -1,11 +1,6 @@
 use borrow.Author.Needs.{needs}
 use Rattle.cfg.proofs.claim.is_trivial.Statement.{statement}
 use Rattle.cfg.proofs.claim.is_trivial.Tie as tie
-use Rattle.cfg.proofs.claim.is_trivial.Reads as reads
-use Rattle.cfg.proofs.claim.is_trivial.Lts as lts
-use Rattle.state.proofs.regions.children.Reads as children-reads
-use Rattle.state.proofs.regions.region_state.Reads as region-state-reads
-use Rattle.state.proofs.sets.set_length.Reads as set-length-reads
 use Rattle.cfg.specs.ByState.{trivial-state, trivial-set, trivial-children}
 
 -- src/claim.rt:100:8

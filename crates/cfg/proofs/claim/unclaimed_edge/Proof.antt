@@ -1,9 +1,6 @@
 use borrow.Author.Needs.{needs}
 use Rattle.cfg.proofs.claim.unclaimed_edge.Statement.{statement}
 use Rattle.cfg.proofs.claim.unclaimed_edge.Tie as tie
-use Rattle.cfg.proofs.claim.unclaimed_edge.Reads as reads
-use Rattle.cfg.proofs.claim.unclaimed_edge.Lts as lts
-use Rattle.cfg.proofs.claim.is_trivial.Reads as is-trivial-reads
 use Rattle.cfg.specs.ByState.{edge-nothing, edge-deferred}
 
 -- src/claim.rt:113:8

@@ -1,12 +1,6 @@
 use borrow.Author.Needs.{needs}
 use Rattle.cfg.proofs.func.outcome_of.Statement.{statement}
 use Rattle.cfg.proofs.func.outcome_of.Tie as tie
-use Rattle.cfg.proofs.func.outcome_of.Reads as reads
-use Rattle.cfg.proofs.func.outcome_of.Lts as lts
-use Rattle.state.proofs.sets.bundle_at.Reads as bundle-at-reads
-use Rattle.state.proofs.sets.set_length.Reads as set-length-reads
-use Rattle.state.proofs.sets.set_start.Reads as set-start-reads
-use Rattle.state.proofs.sets.target.Reads as target-reads
 use Rattle.cfg.specs.Func.{no-edges, many-edges, return-edge, other-edge}
 
 -- src/func.rt:35:9

@@ -1,11 +1,6 @@
 use borrow.Author.Needs.{needs}
 use Rattle.cfg.proofs.func.structurize_func.Statement.{statement}
 use Rattle.cfg.proofs.func.structurize_func.Tie as tie
-use Rattle.cfg.proofs.func.structurize_func.Reads as reads
-use Rattle.cfg.proofs.func.structurize_func.Lts as lts
-use Rattle.cfg.proofs.func.structurize_func_by.Reads as structurize-func-by-reads
-use Rattle.incoming.proofs.incoming_edge_counts.Reads as incoming-edge-counts-reads
-use Rattle.start.proofs.initial_state.Reads as initial-state-reads
 use Rattle.cfg.specs.Func.{stood-started, func-is}
 
 -- src/func.rt:67:9

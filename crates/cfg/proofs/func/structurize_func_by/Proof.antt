@@ -2,13 +2,6 @@ use borrow.Author.Needs.{needs}
 use borrow.Author.Tests.{not-true, not-false}
 use Rattle.cfg.proofs.func.structurize_func_by.Statement.{statement}
 use Rattle.cfg.proofs.func.structurize_func_by.Tie as tie
-use Rattle.cfg.proofs.func.structurize_func_by.Reads as reads
-use Rattle.cfg.proofs.func.structurize_func_by.Lts as lts
-use Rattle.cfg.proofs.claims.try_claim_edge_bundle.Reads as try-claim-edge-bundle-reads
-use Rattle.cfg.proofs.func.outcome_of.Reads as outcome-of-reads
-use Rattle.fields.proofs.entry.Reads as entry-reads
-use Rattle.incoming.proofs.IncomingEdgeCount.same.Reads as same-reads
-use Rattle.incoming.proofs.count_of.Reads as count-of-reads
 use Rattle.cfg.specs.Func.{func-untouched, func-claimed, func-unclaimed, func-refused}
 
 -- src/func.rt:51:9

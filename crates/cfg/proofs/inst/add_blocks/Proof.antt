@@ -1,11 +1,6 @@
 use borrow.Author.Needs.{needs}
 use Rattle.cfg.proofs.inst.add_blocks.Statement.{statement}
 use Rattle.cfg.proofs.inst.add_blocks.Tie as tie
-use Rattle.cfg.proofs.inst.add_blocks.Reads as reads
-use Rattle.cfg.proofs.inst.add_blocks.Lts as lts
-use Rattle.fields.proofs.block_count.Reads as block-count-reads
-use Rattle.state.proofs.cells.add_cell.Reads as add-cell-reads
-use Rattle.state.proofs.regions.set_children.Reads as set-children-reads
 use Rattle.cfg.specs.ByInst.{no-blocks, some-blocks}
 use mathlib.Core.Path.{sym, _∙_}
 

@@ -1,12 +1,6 @@
 use borrow.Author.Needs.{needs}
 use Rattle.cfg.proofs.inst.add_exit.Statement.{statement}
 use Rattle.cfg.proofs.inst.add_exit.Tie as tie
-use Rattle.cfg.proofs.inst.add_exit.Reads as reads
-use Rattle.cfg.proofs.inst.add_exit.Lts as lts
-use Rattle.state.proofs.cells.add_cell.Reads as add-cell-reads
-use Rattle.state.proofs.defined.define_node.Reads as define-node-reads
-use Rattle.state.proofs.regions.children.Reads as children-reads
-use Rattle.state.proofs.regions.set_children.Reads as set-children-reads
 use Rattle.cfg.specs.ByInst.{exit-none, exit-some}
 
 -- src/inst.rt:63:33

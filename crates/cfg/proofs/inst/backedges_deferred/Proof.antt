@@ -1,10 +1,6 @@
 use borrow.Author.Needs.{needs}
 use Rattle.cfg.proofs.inst.backedges_deferred.Statement.{statement}
 use Rattle.cfg.proofs.inst.backedges_deferred.Tie as tie
-use Rattle.cfg.proofs.inst.backedges_deferred.Reads as reads
-use Rattle.cfg.proofs.inst.backedges_deferred.Lts as lts
-use Rattle.cfg.proofs.claim.find_backedge.Reads as find-backedge-reads
-use Rattle.state.proofs.sets.accumulated_count.Reads as accumulated-count-reads
 use Rattle.cfg.specs.ByInst.{deferred-none, deferred-some}
 
 -- src/inst.rt:148:9

@@ -1,11 +1,6 @@
 use borrow.Author.Needs.{needs}
 use Rattle.cfg.proofs.inst.branch.Statement.{statement}
 use Rattle.cfg.proofs.inst.branch.Tie as tie
-use Rattle.cfg.proofs.inst.branch.Reads as reads
-use Rattle.cfg.proofs.inst.branch.Lts as lts
-use Rattle.bundles.proofs.taken.append_maybe_claimed_region.Reads as append-maybe-claimed-region-reads
-use Rattle.bundles.proofs.taken.fill_cases.Reads as fill-cases-reads
-use Rattle.state.proofs.cases.case_at.Reads as case-at-reads
 use Rattle.cfg.specs.ByInst.{branch-taken}
 
 -- src/inst.rt:85:5

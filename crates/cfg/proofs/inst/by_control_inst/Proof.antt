@@ -1,11 +1,6 @@
 use borrow.Author.Needs.{needs}
 use Rattle.cfg.proofs.inst.by_control_inst.Statement.{statement}
 use Rattle.cfg.proofs.inst.by_control_inst.Tie as tie
-use Rattle.cfg.proofs.inst.by_control_inst.Reads as reads
-use Rattle.cfg.proofs.inst.by_control_inst.Lts as lts
-use Rattle.cfg.proofs.inst.add_blocks.Reads as add-blocks-reads
-use Rattle.cfg.proofs.inst.by_terminator.Reads as by-terminator-reads
-use Rattle.state.proofs.sets.put_set_length.Reads as put-set-length-reads
 use Rattle.cfg.specs.ByInst.{inst-taken}
 
 -- src/inst.rt:128:5

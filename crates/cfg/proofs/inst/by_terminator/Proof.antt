@@ -1,14 +1,6 @@
 use borrow.Author.Needs.{needs}
 use Rattle.cfg.proofs.inst.by_terminator.Statement.{statement}
 use Rattle.cfg.proofs.inst.by_terminator.Tie as tie
-use Rattle.cfg.proofs.inst.by_terminator.Reads as reads
-use Rattle.cfg.proofs.inst.by_terminator.Lts as lts
-use Rattle.bundles.proofs.bundles.defer_return.Reads as defer-return-reads
-use Rattle.cfg.proofs.inst.add_exit.Reads as add-exit-reads
-use Rattle.cfg.proofs.inst.branch.Reads as branch-reads
-use Rattle.cfg.proofs.inst.select.Reads as select-reads
-use Rattle.cfg.proofs.inst.select_number.Reads as select-number-reads
-use Rattle.fields.proofs.terminator.Reads as terminator-reads
 use Rattle.cfg.specs.ByInst.{told-kind, at-unreachable, at-return, at-exit, at-branch, at-bool, at-number}
 use mathlib.Core.Path.{refl}
 

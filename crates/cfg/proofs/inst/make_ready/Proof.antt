@@ -1,11 +1,6 @@
 use borrow.Author.Needs.{needs}
 use Rattle.cfg.proofs.inst.make_ready.Statement.{statement}
 use Rattle.cfg.proofs.inst.make_ready.Tie as tie
-use Rattle.cfg.proofs.inst.make_ready.Reads as reads
-use Rattle.cfg.proofs.inst.make_ready.Lts as lts
-use Rattle.cfg.proofs.inst.backedges_deferred.Reads as backedges-deferred-reads
-use Rattle.state.proofs.regions.set_backedge_count.Reads as set-backedge-count-reads
-use Rattle.state.proofs.regions.set_region_state.Reads as set-region-state-reads
 use mathlib.Core.Path.{_∙_}
 
 -- src/inst.rt:159:9

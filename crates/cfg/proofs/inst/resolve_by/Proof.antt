@@ -1,14 +1,6 @@
 use borrow.Author.Needs.{needs}
 use Rattle.cfg.proofs.inst.resolve_by.Statement.{statement}
 use Rattle.cfg.proofs.inst.resolve_by.Tie as tie
-use Rattle.cfg.proofs.inst.resolve_by.Reads as reads
-use Rattle.cfg.proofs.inst.resolve_by.Lts as lts
-use Rattle.bundles.proofs.bundles.condition_in.Reads as condition-in-reads
-use Rattle.bundles.proofs.taken.fill_split.Reads as fill-split-reads
-use Rattle.selects.proofs.into.structurize_select_into.Reads as structurize-select-into-reads
-use Rattle.state.proofs.sets.bundle_at.Reads as bundle-at-reads
-use Rattle.state.proofs.sets.set_length.Reads as set-length-reads
-use Rattle.state.proofs.sets.set_start.Reads as set-start-reads
 use Rattle.cfg.specs.ByInst.{resolve-taken}
 
 -- src/inst.rt:137:9

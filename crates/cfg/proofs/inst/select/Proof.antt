@@ -1,12 +1,6 @@
 use borrow.Author.Needs.{needs}
 use Rattle.cfg.proofs.inst.select.Statement.{statement}
 use Rattle.cfg.proofs.inst.select.Tie as tie
-use Rattle.cfg.proofs.inst.select.Reads as reads
-use Rattle.cfg.proofs.inst.select.Lts as lts
-use Rattle.bundles.proofs.taken.fill_cases.Reads as fill-cases-reads
-use Rattle.fields.proofs.value.Reads as value-reads
-use Rattle.selects.proofs.into.structurize_select_into.Reads as structurize-select-into-reads
-use Rattle.state.proofs.values.value_word.Reads as value-word-reads
 use Rattle.cfg.specs.ByInst.{select-taken}
 
 -- src/inst.rt:94:5

@@ -1,10 +1,6 @@
 use borrow.Author.Needs.{needs}
 use Rattle.cfg.proofs.inst.select_number.Statement.{statement}
 use Rattle.cfg.proofs.inst.select_number.Tie as tie
-use Rattle.cfg.proofs.inst.select_number.Reads as reads
-use Rattle.cfg.proofs.inst.select_number.Lts as lts
-use Rattle.cfg.proofs.inst.select.Reads as select-reads
-use Rattle.fields.proofs.target_count.Reads as target-count-reads
 
 -- src/inst.rt:102:9
 target-count-requires : tie.Need-target-count-requires

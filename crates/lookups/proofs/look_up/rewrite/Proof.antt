@@ -1,4 +1,4 @@
-use mathlib.Core.Path.{_≡_, refl}
+use mathlib.Core.Path.{refl}
 use borrow.Author.Needs.{needs}
 use Rattle.lookups.specs.LookUps.{rewrite-notes, rewrite-plain}
 use Rattle.lookups.proofs.look_up.rewrite.Statement.{statement}
