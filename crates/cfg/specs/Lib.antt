@@ -16,3 +16,4 @@ pub mod WholeShown
 pub mod SelectBodies
 pub mod ResolveShown
 pub mod InstShown
+pub mod FuncShown

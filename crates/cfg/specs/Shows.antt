@@ -128,6 +128,14 @@ pub owed-stays : (w w′ : List ℕ) → ((q : ℕ) → q < 32 → word w′ kin
 unfolding cells-owed
 owed-stays w w′ h = owed-same (section w kinds) (section w′ kinds) 32 h
 
+owed-none-begun : (l : List ℕ) (n : ℕ) → ((q : ℕ) → q < n → getD l q 0 ≡ 0) → owed-below n l ≡ 20 * n
+owed-none-begun l zero h = refl
+owed-none-begun l (suc n) h = let z = owed-none-begun l n (λ q b. h q (omega arith)) in rw (h n (omega arith)) (omega arith)
+
+pub owed-at-start : (w : List ℕ) → ((q : ℕ) → q < 32 → word w kinds q ≡ 0) → cells-owed w ≡ 640
+unfolding cells-owed
+owed-at-start w h = owed-none-begun (section w kinds) 32 h
+
 pub owed-kind : (w : List ℕ) (r x : ℕ) → used ≤ length w → r < 32
     → cells-owed (stored w kinds r x) + owe (word w kinds r) ≡ cells-owed w + owe x
 unfolding cells-owed

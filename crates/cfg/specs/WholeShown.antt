@@ -1,4 +1,4 @@
--- The whole of nesting: from an accepted record that stands in the words, what structurize-func answers, and the state that they then show.
+-- Counts of an accepted record are small; and so claims and regions are shown for every one.
 use mathlib.Core.Path.{_≡_, refl, ap, _∙_}
 use mathlib.Core.Bool.{Bool, true, false, _||_}
 use mathlib.Core.List.{List, [], _∷_}
@@ -43,7 +43,7 @@ times-few r (x ∷ xs) = let z = times-few r xs in go (eqb r x) z
     go false z = omega arith
 
 -- A sum over members of a list.
-total-within : (f : ℕ → ℕ) (most : ℕ) (l : List ℕ) → ((i : ℕ) → is-in i l ≡ true → f i ≤ most) → total f l ≤ length l * most
+pub total-within : (f : ℕ → ℕ) (most : ℕ) (l : List ℕ) → ((i : ℕ) → is-in i l ≡ true → f i ≤ most) → total f l ≤ length l * most
 total-within f most [] h = omega arith
 total-within f most (x ∷ l) h =
     let a = h x (rw (eq-eqb x x refl)) in
@@ -54,7 +54,7 @@ total-within f most (x ∷ l) h =
     go i false m = m
 
 module _ (g : Graph) (valid : Valid g) where
-  few-live : length (reachable g) ≤ 32
+  pub few-live : length (reachable g) ≤ 32
   few-live =
       let n = valid .count .1 in
       let z = pigeonhole (length (g .regions)) (length (reachable g)) (λ i. getD (reachable g) i 0)
