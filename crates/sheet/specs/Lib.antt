@@ -1,3 +1,4 @@
 pub mod Whole
 pub mod SheetLines
 pub mod Counts
+pub mod Pieces
