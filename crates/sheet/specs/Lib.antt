@@ -2,3 +2,4 @@ pub mod Whole
 pub mod SheetLines
 pub mod Counts
 pub mod Pieces
+pub mod Leftovers
