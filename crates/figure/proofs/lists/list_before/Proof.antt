@@ -1,0 +1,24 @@
+-- `list_before` meets its contract.
+use borrow.Author.Needs.{needs}
+use Rattle.meaning.specs.facts.Tests.{picked, passed-over, is-equal, not-equal}
+use mathlib.Core.Path.{_∙_}
+use Rattle.figure.specs.Lists.{list-before}
+use Rattle.figure.proofs.lists.list_before.Statement.{statement}
+use Rattle.figure.proofs.lists.list_before.Tie as tie
+
+cell-tag-requires : tie.Need-cell-tag-requires
+cell-tag-requires c κs = search needs
+
+returns : tie.Need-returns
+unfolding list-before
+returns c = picked _ _ (is-equal (c .if1 .taken) (c .before .cell-tag .ensures))
+
+cell-before-requires : tie.Need-cell-before-requires
+cell-before-requires c κs = search needs
+
+returns-2 : tie.Need-returns-2
+unfolding list-before
+returns-2 c = c .cell-before .ensures ∙ passed-over _ _ (not-equal (c .before .if1 .left) (c .before .before .cell-tag .ensures))
+
+pub list-before-spec : {M : Type 1} → statement M
+list-before-spec = tie.close (tie.spec cell-tag-requires returns cell-before-requires returns-2)

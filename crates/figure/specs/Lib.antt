@@ -1,0 +1,4 @@
+pub mod Nodes
+pub mod Lists
+pub mod Figured
+pub mod Steps
