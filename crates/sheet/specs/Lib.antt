@@ -1,0 +1,5 @@
+pub mod Whole
+pub mod SheetLines
+pub mod Counts
+pub mod Pieces
+pub mod Leftovers
