@@ -11,8 +11,8 @@ use Rattle.record.specs.Stands.{OfRecord}
 use Rattle.fields.specs.ByNumber.{block-of}
 use Rattle.state.specs.Sections.{section, cells}
 use Rattle.shown.specs.Cells.{ShowsNodes, ShowsCaseCells}
+use Rattle.children.specs.CellByCell.{Added, cell-word}
 use Rattle.figure.specs.Nodes.{block-cost}
-use Rattle.figure.specs.Lists.{Added, cell-word}
 
 abbrev pub capped : ℕ → ℕ
 capped n = min n 4294967296

@@ -13,10 +13,12 @@ use Rattle.meaning.specs.Graph.{Graph, region}
 use Rattle.meaning.specs.Runs.{Nodes, Cases}
 use Rattle.nesting.specs.Sheet.{figure, dearest}
 use Rattle.record.specs.Stands.{Stands, OfRecord}
+use Rattle.state.specs.Sections.{section, cells}
+use Rattle.shown.specs.Cells.{ShowsCaseCells, no-cases, case-and}
+use Rattle.shown.specs.CellSteps.{no-list}
+use Rattle.children.specs.CellByCell.{cell-word, list-at, list-before, before-below, Added, added-blocks, added-list, added-exit}
+use Rattle.children.specs.CellByCell.{added-select, added-loop, Appended, appends, appended, FirstCase, case-first, first-case}
 use Rattle.figure.specs.Nodes.{figure-join, figure-blocks}
-use Rattle.figure.specs.Lists.{cell-word, list-at, list-before, before-below, Added, added-blocks, added-list, added-exit}
-use Rattle.figure.specs.Lists.{added-select, added-loop, ByCell, no-cell, last-cell, by-cell, CasesByCell, no-case, first-case}
-use Rattle.figure.specs.Lists.{cases-by-cell}
 use Rattle.figure.specs.Figured.{capped, Figured, CellFigured, DearestFigured, BlocksFigured, ToCome, Passed}
 
 -- ---- A sum over a list, from place k on, by the length n that the code has.
@@ -48,21 +50,20 @@ turns-fit {limit} {n} {test} a b c = mul-le-mul {n₂ = 65535} {m₂ = 429503283
 module _ {w : List ℕ} {h : ℕ} where
   pub dearest-none : h ≡ 0 → DearestFigured w h 0
   unfolding figure
-  dearest-none e = record { small = omega arith; shown = λ g s cs x. none g (cases-by-cell w x) }
+  dearest-none e = record { small = omega arith; shown = λ g s cs x. none g x }
     where
-      none : (g : Graph) {cs : Cases} → CasesByCell g w h cs → 0 ≡ capped (dearest (g .test-cost) cs)
-      none g (no-case z q) = rw q
-      none g (first-case b ns cs q) = absurd (omega arith)
+      none : (g : Graph) {cs : Cases} → ShowsCaseCells g (section w cells) h cs → 0 ≡ capped (dearest (g .test-cost) cs)
+      none g (no-cases z) = refl
+      none g (case-and x p q ns cs z) = absurd (omega arith)
 
   pub dearest-of : {p q x y a : ℕ} → p ≡ list-at w h 3 → Figured w p x → q ≡ list-at w h 1 → DearestFigured w q y → 1 ≤ h → a ≡ max x y
       → DearestFigured w h a
   unfolding figure
   dearest-of {x = x} {y} {a} of-first f of-others d above is =
-      record { small = omega (arith, f .small, d .small); shown = λ g s cs z. both g s (cases-by-cell w z) }
+      record { small = omega (arith, f .small, d .small); shown = λ g s cs z. both g s (first-case w z above) }
     where
-      both : (g : Graph) → Stands w g → {cs : Cases} → CasesByCell g w h cs → a ≡ capped (dearest (g .test-cost) cs)
-      both g s (no-case z q) = absurd (omega arith)
-      both g s (first-case b ns cs q) =
+      both : (g : Graph) → Stands w g → {cs : Cases} → FirstCase g w h cs → a ≡ capped (dearest (g .test-cost) cs)
+      both g s (case-first ns cs q) =
           let first = (rw of-first at f) .shown g s _ ns in
           let others = (rw of-others at d) .shown g s _ cs in
           rw q (omega arith)
@@ -73,7 +74,7 @@ module _ {w : List ℕ} {h tag : ℕ} (of-tag : tag ≡ cell-word w h 0) where
   cell-blocks {r} {n} {a} e of-region f is = record { small = omega arith; shown = λ g s ks x. go g s (rw (sym of-tag ∙ e) at x) }
     where
       go : (g : Graph) → Stands w g → {ks : Nodes} → Added g w h ks 1 → a ≡ capped (figure (g .test-cost) ks)
-      go g s (added-blocks q) =
+      go g s (added-blocks some q) =
           let all = ap (figure (g .test-cost)) q ∙ figure-blocks (g .test-cost) g (cell-word w h 2) in
           is ∙ ap capped ((rw of-region at f) .shown g s ∙ sym all)
 
@@ -112,7 +113,7 @@ module _ {w : List ℕ} {h tag : ℕ} (of-tag : tag ≡ cell-word w h 0) where
   cell-other a b c d = record { small = omega arith; shown = λ g s ks x. go g (rw (sym of-tag) at x) refl }
     where
       go : (g : Graph) {ks : Nodes} {t : ℕ} → Added g w h ks t → tag ≡ t → 0 ≡ capped (figure (g .test-cost) ks)
-      go g (added-blocks q) e = absurd (a e)
+      go g (added-blocks some q) e = absurd (a e)
       go g (added-list x) e = absurd (b e)
       go g (added-exit t q) e = rw q
       go g (added-select s v cs q) e = absurd (c e)
@@ -131,25 +132,23 @@ module _ {w : List ℕ} {list : ℕ} where
       let l = before-below w of-list above in
       record { small = omega arith; below = omega arith; shown = λ g s ks y. go g s (x .shown g s ks y) }
     where
-      by : (g : Graph) → Stands w g → {ks : Nodes} {whole : ℕ} → ByCell g w h ks → capped (figure (g .test-cost) ks + n) ≡ capped whole
+      by : (g : Graph) → Stands w g → {ks : Nodes} {whole : ℕ} → Appended g w h ks → capped (figure (g .test-cost) ks + n) ≡ capped whole
           → ToCome g w p sum whole
-      by g s (no-cell z q) e = absurd (omega arith)
-      by g s (last-cell {ns} {ms} b before y q) e =
+      by g s (appends {ns} {ms} before y q) e =
           let parts = ap (figure (g .test-cost)) q ∙ figure-join (g .test-cost) ns ms in
           let a-is = f .shown g s ms y in
           record { nodes = ns; shown = rw of-list before; sums = omega arith }
 
       go : (g : Graph) → Stands w g → {whole : ℕ} → ToCome g w h n whole → ToCome g w p sum whole
-      go g s y = by g s (by-cell w (y .shown)) (y .sums)
+      go g s y = by g s (appended w (y .shown) above) (y .sums)
 
   pub passed-all : {h sum : ℕ} → Passed w list h sum → h ≤ 0 → Figured w list sum
   unfolding figure
   passed-all {h} {sum} x none = record { small = x .small; shown = λ g s ks y. go g (x .shown g s ks y) }
     where
-      by : (g : Graph) (whole : ℕ) {ks : Nodes} → ByCell g w h ks → capped (figure (g .test-cost) ks + sum) ≡ capped whole
-          → sum ≡ capped whole
-      by g whole (no-cell z q) e = let small = x .small in let f = ap (figure (g .test-cost)) q in omega arith
-      by g whole (last-cell b before y q) e = absurd (omega arith)
-
       go : (g : Graph) {whole : ℕ} → ToCome g w h sum whole → sum ≡ capped whole
-      go g {whole} y = by g whole (by-cell w (y .shown)) (y .sums)
+      go g y =
+          let empty = ap (figure (g .test-cost)) (no-list (y .shown) (omega arith)) in
+          let small = x .small in
+          let e = y .sums in
+          omega arith

@@ -2,10 +2,7 @@
 ghost use mathlib.Core.Path.{_≡_};
 ghost use Prim.Native.Nat.{_≤_};
 ghost use Rattle.figure.specs.Figured as figured;
-
-pub mod lists;
-
-use lists::list_before;
+use children::list_before;
 use state::cells::BLOCKS;
 use state::cells::JOIN;
 use state::cells::LOOP;

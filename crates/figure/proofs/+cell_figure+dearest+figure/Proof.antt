@@ -5,7 +5,7 @@ use native.Mathlib.Omega.{arith}
 use borrow.Author.Needs.{needs}
 use borrow.Fn.Kinds.{In}
 use borrow.Fn.PlainCycle.{Measures, is, falls, and}
-use Rattle.figure.specs.Lists.{named-below, before-below}
+use Rattle.children.specs.CellByCell.{named-below, before-below}
 use Rattle.figure.specs.Figured.{Passed}
 use Rattle.figure.specs.Steps.{dearest-none, dearest-of, cell-blocks, cell-joined, cell-select, cell-loop, cell-other}
 use Rattle.figure.specs.Steps.{turns-fit, passed-none, passed-turn, passed-all}
@@ -18,11 +18,11 @@ use Rattle.figure.proofs.+cell_figure+dearest+figure.Lts-dearest as dea
 use Rattle.figure.proofs.figure.Reads as figure
 use Rattle.figure.proofs.figure.Kinds as figure-kinds
 use Rattle.figure.proofs.+cell_figure+dearest+figure.Lts-figure as figure-lts
+use Rattle.children.proofs.list_before.Reads as list-before-reads
 use Rattle.fields.proofs.limit.Reads as limit-reads
 use Rattle.fields.proofs.test_cost.Reads as test-cost-reads
 use Rattle.figure.proofs.at_most.Reads as at-most-reads
 use Rattle.figure.proofs.blocks_figure.Reads as blocks-figure-reads
-use Rattle.figure.proofs.lists.list_before.Reads as list-before-reads
 use Rattle.state.proofs.cells.case_children.Reads as case-children-reads
 use Rattle.state.proofs.cells.cell_a.Reads as cell-a-reads
 use Rattle.state.proofs.cells.cell_b.Reads as cell-b-reads
