@@ -4,7 +4,7 @@ use mathlib.Core.Bool.{Bool, true, false, _||_, or-true, or-false}
 use mathlib.Core.List.{List, [], _∷_, _++_, map, append-assoc, append-nil}
 use Prim.Native.Nat.{ℕ, zero, suc, _+_, _-_, _≤_, _<_}
 use native.Mathlib.Omega.{arith}
-use lib.ListN.{length, getD, set, take, drop, length-append, length-take}
+use lib.ListN.{length, getD, set, take, drop, length-append, length-take, take-append-drop}
 use lib.Seq.{take-suc, set-at, take-nil}
 use lib.Dec.{ltb}
 use native.Mathlib.Decide.{decLt}
@@ -13,7 +13,7 @@ use Rattle.meaning.specs.Lists.{pick, bit}
 use Rattle.meaning.specs.Graph.{Graph}
 use Rattle.meaning.specs.Runs.{Nodes, ⟨⟩}
 use Rattle.nesting.specs.Nesting.{NestState, Nested, Outcome, untouched, whole, closed, leftover, piece, conclude-with, unclaimed-from, plain}
-use Rattle.nesting.specs.Nesting.{DeferredEdgeBundle, DeferredEdgeBundleSet, region-body, region-states}
+use Rattle.nesting.specs.Nesting.{DeferredEdgeBundle, DeferredEdgeBundleSet, region-body}
 use Rattle.nesting.specs.Sheet as sheet
 use Rattle.state.specs.Sections.{word, head, kinds}
 use Rattle.shown.specs.States.{ShowsBody}
@@ -98,7 +98,7 @@ WritesSheet w outcome figure out out′ a =
 pub written-within : (out : List ℕ) (end : ℕ) (ws : List ℕ) → length ws ≤ end → end ≤ length out
     → written out end ws ≡ take (end - length ws) out ++ (ws ++ drop end out)
 unfolding written
-written-within out end [] a b = sym (take-append-drop end out)
+written-within out end [] a b = let e : end - 0 ≡ end = omega arith in rw e (sym (take-append-drop end out))
 written-within out end (x ∷ ws) a b =
     let i = end - suc (length ws) in
     let more : end - length ws ≡ suc i = omega arith in
@@ -152,7 +152,8 @@ module _ (w : List ℕ) (outcome figure : ℕ) {out out₁ out₂ : List ℕ} {e
       rw (← y .number, e, t .attempts, note, ← y .attempts)
       (sym (head-is (x .outcome) (sheet.sheet-of g x .figure) (x .attempts) (x .twice) (sheet.sheet-of g x .lines))) in
       let p = puts-then (l .puts) first in
-      let whole-words : (outcome ∷ figure ∷ word w head 5 ∷ twice-word w at₁ ∷ []) ++ behind-head x ≡ nested-words most g x = rw words in
+      let whole-words : (outcome ∷ figure ∷ word w head 5 ∷ twice-word w at₁ ∷ []) ++ behind-head x ≡ nested-words most g x =
+      ap (λ z. z ++ behind-head x) words in
       record {
         begins = p .end ∙ ap (λ z. end - length z) whole-words;
         words = p .words ∙ ap (written out end) whole-words;
