@@ -1,1 +1,2 @@
 // The sheet.
+pub mod whole;
