@@ -27,7 +27,7 @@ use Rattle.follows.specs.counting.Reach.{entry-reachable}
 use Rattle.follows.specs.counting.Attempts.{start-pre}
 use Rattle.follows.specs.chains.Chains.{chains-end}
 use Rattle.state.specs.Sections.{used, word, kinds}
-use Rattle.shown.specs.Front.{SameFront, front-then}
+use Rattle.shown.specs.Front.{SameFront, front-then, stands-on}
 use Rattle.shown.specs.Sets.{ShowsTarget, shows-region, shows-return}
 use Rattle.shown.specs.States.{ShowsState, ShowsBody, ShowsOwnSet}
 use Rattle.start.specs.Words.{started}
@@ -38,6 +38,7 @@ use Rattle.cfg.specs.declared.func.Nested.the-variants.{Untouched, Whole
 use Rattle.cfg.specs.Claims.{TriesClaim}
 use Rattle.cfg.specs.Func.{Outcomes, FuncBy, Func}
 use Rattle.cfg.specs.Func as func
+use Rattle.cfg.specs.Left.{steady-claim}
 use Rattle.cfg.specs.Shows.{K, world, CanClaim, ClaimShows, owed-at-start, if-claimed, if-unclaimed, if-refused}
 use Rattle.cfg.specs.ScansShown.{own-bundle-shown}
 use Rattle.cfg.specs.ClaimsShown.{claim-shown}
@@ -49,16 +50,16 @@ outcome-code whole = Whole
 outcome-code closed = Closed
 outcome-code leftover = Leftover
 
--- What the words w show of the definition's answer b: its state, by which every look-up ends, and the entry, claimed, with its children and set. The
--- record and its index stand as they stood in the words before.
+-- What the words w show of the definition's answer b: its state, by which every look-up ends, and the entry, claimed, with its children and
+-- set; or its refusal. Whatever it is, the record and its index stand as they stood in the words before.
 pub data ShowsNested (g : Graph) (before w : List ℕ) (b : Answer Nested) : code.Nested → Type 0 where
   shows-untouched : SameFront before w → ShowsState g w (initial-state g) → b ≡ accepted (conclude-by g (initial-state g) ⟨⟩ [] untouched)
       → ShowsNested g before w b Untouched
-  shows-nested : {s : NestState} {x : Body} {a : code.Nested} → SameFront before w → ShowsState g w s → ((r : ℕ) → ChainsEnd (s .region-input-rewrites) r)
-      → word w kinds (g .entry) ≡ 3 → ShowsBody g w (g .entry) x
+  shows-nested : {s : NestState} {x : Body} {a : code.Nested} → SameFront before w → ShowsState g w s
+      → ((r : ℕ) → ChainsEnd (s .region-input-rewrites) r) → word w kinds (g .entry) ≡ 3 → ShowsBody g w (g .entry) x
       → b ≡ accepted (conclude-by g s (x .children) (x .deferred-edges) (outcome-of (x .deferred-edges)))
       → a ≡ outcome-code (outcome-of (x .deferred-edges)) → ShowsNested g before w b a
-  shows-refused : {number x : ℕ} → b ≡ refused number x → ShowsNested g before w b (Refused number x)
+  shows-refused : {number x : ℕ} → SameFront before w → b ≡ refused number x → ShowsNested g before w b (Refused number x)
 
 -- ---- The entry is claimed with no inputs, whatever its region has; it is no loop, so what is concluded is the same with any.
 module _ (g : Graph) (r n : ℕ) (a b : List Value) where
@@ -170,6 +171,9 @@ module _ (g : Graph) (valid : Valid g) where
         claim-shown g valid (parts g valid) counts right t (suc (length (g .regions))) (λ q. 0) (initial-state g) stand-ins (first .state)
         (omega arith) (entry-reachable g) (omega arith) (length-map (region g (g .entry) .inputs) (λ t. undef 0)) can-start
 
+    kept : {r n : ℕ} {a : claim.Claim} → TriesClaim g counts (started g w) r n w′ a → SameFront w w′
+    kept t = let f = started-front g w room in front-then f (steady-claim t (stands-on f stands) .front)
+
     by : {a : code.Nested} → FuncBy g counts (started g w) w′ a → ShowsNested g w w′ (structurize-func g) a
     unfolding conclude
     by (func.untouched n e) =
@@ -182,13 +186,13 @@ module _ (g : Graph) (valid : Valid g) where
         (record { nodes = cl .nodes; set = cl .set }) in
         let ends : (r : ℕ) → ChainsEnd (s .region-input-rewrites) r = chains-end g valid (incoming-edge-counts g)
         (suc (length (g .regions))) 1 stand-ins (some c) s p (s .region-input-rewrites) [] (sym (append-nil (s .region-input-rewrites))) in
-        shows-nested (front-then (started-front g w room) (u .later .front)) st ends
+        shows-nested (kept t) st ends
         (subst (λ r. word w′ kinds r ≡ 3) origin (cl .kind)) x (concludes (sym (right (g .entry) (valid .entry)) ∙ one) p)
         (outcome-shown (valid .count .1) (c .deferred-edges) (x .set) o)
     by (func.unclaimed one t) = if-unclaimed (claims t) λ s p st u k.
-        shows-refused (concludes (sym (right (g .entry) (valid .entry)) ∙ one) p)
+        shows-refused (kept t) (concludes (sym (right (g .entry) (valid .entry)) ∙ one) p)
     by (func.refused one t) = if-refused (claims t) λ p.
-        shows-refused (concludes (sym (right (g .entry) (valid .entry)) ∙ one) p)
+        shows-refused (kept t) (concludes (sym (right (g .entry) (valid .entry)) ∙ one) p)
 
   pub structurize-func-shown : {w w′ : List ℕ} {a : code.Nested} → Stands w g → used ≤ length w → Func g w w′ a
       → ShowsNested g w w′ (structurize-func g) a
