@@ -1,0 +1,1 @@
+// The lines of a sheet that come from the record alone: blocks and exits; and the types of a region's inputs.
