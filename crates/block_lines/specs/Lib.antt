@@ -1,1 +1,4 @@
 pub mod PartLaws
+pub mod Sums
+pub mod BlockParts
+pub mod RecordNames

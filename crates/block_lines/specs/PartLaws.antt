@@ -2,7 +2,9 @@
 use mathlib.Core.Path.{_≡_, refl, sym, _∙_}
 use mathlib.Core.Bool.{or-assoc, or-false}
 use mathlib.Core.List.{List, [], _∷_, _++_, map, append-assoc, append-nil}
-use Prim.Native.Nat.{ℕ, _-_, _≤_}
+use Prim.Native.Nat.{ℕ, suc, _+_, _-_, _≤_, _<_}
+use native.Mathlib.Omega.{arith}
+use native.Mathlib.Nat.{zero-add}
 use lib.ListN.{length, getD, length-map}
 use Rattle.meaning.specs.Lists.{any, concat}
 use Rattle.meaning.specs.Graph.{Value}
@@ -65,3 +67,29 @@ module _ {A : Type 0} (f : A → Part) (d : A) (xs : List A) where
       → Puts out at (run (λ j. f (getD xs j d)) k (n - k)) out₁ at₁ → Puts out₁ at₁ (plain (n ∷ [])) out₂ at₂
       → Puts out at (plain (length xs ∷ []) ⊕ each f xs) out₂ at₂
   puts-listed size none p q = puts-then (puts-each size none p) (rw size at q)
+
+-- ---- A list whose items have numbers, from k on.
+unfoldable pub each-from : {A : Type 0} → (ℕ → A → Part) → ℕ → List A → Part
+each-from f k [] = plain []
+each-from f k (x ∷ xs) = f k x ⊕ each-from f (suc k) xs
+
+module _ {A : Type 0} (f : ℕ → A → Part) (d : A) where
+  run-from : (h : ℕ → Part) (m k : ℕ) (xs : List A) → ((j : ℕ) → j < length xs → h (m + j) ≡ f (k + j) (getD xs j d))
+      → run h m (length xs) ≡ each-from f k xs
+  unfolding run each-from
+  run-from h m k [] e = refl
+  run-from h m k (x ∷ xs) e =
+      let first : h m ≡ f k x = rw (add-zero m, add-zero k) at (e 0 (omega arith)) in
+      let rest = run-from h (suc m) (suc k) xs (λ j l. rw (add-suc m j, add-suc k j) at (e (suc j) (omega arith))) in
+      rw (first, rest)
+    where
+      add-zero : (n : ℕ) → n + 0 ≡ n
+      add-zero n = omega arith
+
+      add-suc : (n m : ℕ) → n + suc m ≡ suc n + m
+      add-suc n m = omega arith
+
+  pub puts-from : (k₀ : ℕ) (xs : List A) {n k : ℕ} {out out₁ : List ℕ} {at at₁ : Place} → n ≡ length xs → k ≤ 0
+      → Puts out at (run (λ j. f (k₀ + j) (getD xs j d)) k (n - k)) out₁ at₁ → Puts out at (each-from f k₀ xs) out₁ at₁
+  puts-from k₀ xs {n} {k} size none p =
+      puts-as (run-all _ n k none p) (rw size (run-from (λ j. f (k₀ + j) (getD xs j d)) 0 k₀ xs (λ j l. rw (zero-add j))))
