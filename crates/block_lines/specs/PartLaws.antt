@@ -1,5 +1,5 @@
 -- The parts of a sheet, taken apart: a list by its count and its items, nodes one after another.
-use mathlib.Core.Path.{_≡_, refl, sym, _∙_}
+use mathlib.Core.Path.{_≡_, refl, sym, ap, _∙_}
 use mathlib.Core.Bool.{or-assoc, or-false}
 use mathlib.Core.List.{List, [], _∷_, _++_, map, append-assoc, append-nil}
 use Prim.Native.Nat.{ℕ, suc, _+_, _-_, _≤_, _<_}
@@ -21,6 +21,14 @@ parts-regroup a b c = rw (append-assoc (a .value) (b .value) (c .value), or-asso
 
 pub part-alone : (a : Part) → a ⊕ plain [] ≡ a
 part-alone a = rw (append-nil (a .value), or-false (a .twice))
+
+-- ---- A list of numbers, with its count in front.
+words-alone : (ns : List ℕ) → each (λ n. plain (n ∷ [])) ns ≡ plain ns
+words-alone [] = refl
+words-alone (n ∷ ns) = let e = words-alone ns in rw (ap (λ p. p .value) e, ap (λ p. p .twice) e)
+
+pub numbers-listed : (ns : List ℕ) → plain (length ns ∷ []) ⊕ each (λ n. plain (n ∷ [])) ns ≡ plain (length ns ∷ ns)
+numbers-listed ns = ap (λ p. plain (length ns ∷ []) ⊕ p) (words-alone ns)
 
 -- ---- A list of values.
 module _ (s : NestState) where

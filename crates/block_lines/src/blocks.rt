@@ -1,0 +1,1 @@
+// Blocks: lead, node, items.

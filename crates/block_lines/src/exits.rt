@@ -1,0 +1,1 @@
+// Exits: lead, node, opcode, values.
