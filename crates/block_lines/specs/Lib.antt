@@ -2,3 +2,4 @@ pub mod PartLaws
 pub mod Sums
 pub mod BlockParts
 pub mod RecordNames
+pub mod Exits
