@@ -1,14 +1,13 @@
 -- The lines of blocks and exits, taken apart.
-use mathlib.Core.Path.{_≡_, refl, sym, ap, _∙_}
-use mathlib.Core.Bool.{_||_}
-use mathlib.Core.List.{List, [], _∷_, _++_, map, append-nil, append-assoc}
+use mathlib.Core.Path.{_≡_, refl, sym, ap}
+use mathlib.Core.List.{List, [], _∷_, map, append-nil}
 use Prim.Native.Nat.{ℕ, suc, _+_, _-_, _≤_, _<_}
 use native.Mathlib.Omega.{arith}
 use native.Mathlib.Nat.{zero-add}
 use lib.ListN.{length, getD}
 use Rattle.meaning.specs.Lists.{any, concat}
 use Rattle.meaning.specs.Graph.{Value, Instr}
-use Rattle.meaning.specs.Runs.{Node, block, exit}
+use Rattle.meaning.specs.Runs.{block, exit}
 use Rattle.nesting.specs.Nesting.{NestState, plain, look-up-node, look-up-reads, blocks-from}
 use Rattle.nesting.specs.Sheet as sheet
 use Rattle.writing.specs.declared.place.Place.{Place}

@@ -1,19 +1,19 @@
 -- The values of a record, as state words that name them.
-use mathlib.Core.Path.{_≡_, sym, ap, _∙_}
-use mathlib.Core.Bool.{Bool, true, false, _&&_}
-use mathlib.Core.List.{List, [], _∷_, _++_}
+use mathlib.Core.Path.{_≡_}
+use mathlib.Core.Bool.{_&&_}
+use mathlib.Core.List.{List, [], _∷_}
 use Prim.Native.Nat.{ℕ, suc, _+_, _≤_, _<_}
 use native.Mathlib.Omega.{arith}
 use native.Mathlib.Decide.{decLt}
-use lib.ListN.{length, getD, length-append, List·getD-eq-default}
+use lib.ListN.{length, getD, List·getD-eq-default}
 use lib.Dec.{eqb, ltb}
 use borrow.Author.Tests.{lt-ltb, ltb-true}
-use Rattle.meaning.specs.Lists.{All, concat, pick}
+use Rattle.meaning.specs.Lists.{All, concat}
 use Rattle.meaning.specs.Graph.{Graph, Value, const, input, instr, output, bool, undef, held, no-value, Instr, region, nowhere}
 use Rattle.meaning.specs.Graph.{ControlInst, unreachable, return, exit-invocation, branch, select-branch}
 use Rattle.meaning.specs.facts.Elements.{all-at, all-getD, all-map, all-parts}
 use Rattle.meaning.specs.facts.Tests.{picked-positive, and-both}
-use Rattle.format.specs.References.{type-in, behind-all, instructions, no-instr, instr-type, return-types, values-of}
+use Rattle.format.specs.References.{behind-all, instructions, no-instr, instr-type, return-types, values-of}
 use Rattle.format.specs.Valid.{Usable, Passed, ValidInstrs, ValidEnd, Valid}
 use Rattle.record.specs.Stands.{Stands}
 use Rattle.fields.specs.ByNumber.{block-of, instr-of, end-values}

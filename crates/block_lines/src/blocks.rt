@@ -24,13 +24,13 @@ pub fn blocks_before(w: &[u16; WORDS], r: u16) -> u32
     ensures { λ a. ⌜ OfRecord (now (w .entry)) (λ g. a ≡ block-count (take r (g .regions))) ⌝ }
     ensures { λ a. ⌜ a ≤ 65535 * r ⌝ }
 {
-    let mut sum: u32 = 0;
+    let mut blocks: u32 = 0;
     let mut q: u16 = 0;
     while q < r {
-        sum += fields::block_count(w, q) as u32;
+        blocks += fields::block_count(w, q) as u32;
         q += 1;
     }
-    sum
+    blocks
 }
 
 // How many instructions region r has before block b: the index of its first.
@@ -38,13 +38,13 @@ fn instructions_before(w: &[u16; WORDS], r: u16, b: u16) -> u32
     ensures { λ a. ⌜ OfRecord (now (w .entry)) (λ g. a ≡ sums.«instructions-before» (region g r .blocks) b) ⌝ }
     ensures { λ a. ⌜ a ≤ 65535 * b ⌝ }
 {
-    let mut sum: u32 = 0;
+    let mut instructions: u32 = 0;
     let mut q: u16 = 0;
     while q < b {
-        sum += fields::block_length(w, r, q) as u32;
+        instructions += fields::block_length(w, r, q) as u32;
         q += 1;
     }
-    sum
+    instructions
 }
 
 fn put_read(w: &[u16; WORDS], out: &mut [u32], at: Place, r: u16, b: u16, i: u16, k: u16) -> Place
@@ -70,7 +70,15 @@ fn put_reads(w: &[u16; WORDS], out: &mut [u32], at: Place, r: u16, b: u16, i: u1
 }
 
 // Region, index, opcode, type, reads.
-fn put_item(w: &[u16; WORDS], out: &mut [u32], at: Place, r: u16, b: u16, i: u16, index: u32) -> Place
+fn put_item(
+    w: &[u16; WORDS],
+    out: &mut [u32],
+    at: Place,
+    r: u16,
+    b: u16,
+    i: u16,
+    index: u32,
+) -> Place
     ensures { λ a. ⌜ OfState (now (w .entry)) (λ g s. Puts (now (out .entry)) at (item-part s r index (instr-of g r b i))
         (now (out .exit)) a) ⌝ }
 {

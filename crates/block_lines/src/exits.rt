@@ -44,7 +44,8 @@ pub fn put_end_values(w: &[u16; WORDS], out: &mut [u32], at: Place, r: u16) -> P
 
 // Of an exit; 0 where the terminator is another.
 fn opcode(w: &[u16; WORDS], r: u16) -> u16
-    ensures { λ a. ⌜ OfRecord (now (w .entry)) (λ g. (op : ℕ) (vs : List graph.Value) → region g r .terminator ≡ exit-invocation op vs → a ≡ op) ⌝ }
+    ensures { λ a. ⌜ OfRecord (now (w .entry)) (λ g. (op : ℕ) (vs : List graph.Value) → region g r .terminator ≡ exit-invocation op vs
+        → a ≡ op) ⌝ }
 {
     let x = fields::terminator(w, r);
     if let Terminator::ExitInvocation(op) = x {

@@ -22,11 +22,11 @@ loop-holds c = (omega arith, omega arith, λ g s. refl)
 block-count-requires : tie.Need-block-count-requires Inv-loop μ-loop
 block-count-requires c κs = search needs
 
-cast-sum : tie.Need-cast-sum Inv-loop μ-loop
-cast-sum c = search needs
+cast-blocks : tie.Need-cast-blocks Inv-loop μ-loop
+cast-blocks c = search needs
 
-add-sum : tie.Need-add-sum Inv-loop μ-loop
-add-sum c = search needs
+add-blocks : tie.Need-add-blocks Inv-loop μ-loop
+add-blocks c = search needs
 
 add-q : tie.Need-add-q Inv-loop μ-loop
 add-q c = search needs
@@ -55,8 +55,8 @@ blocks-before-spec =
     μ-loop
     loop-holds
     block-count-requires
-    cast-sum
-    add-sum
+    cast-blocks
+    add-blocks
     add-q
     loop-less
     loop-again

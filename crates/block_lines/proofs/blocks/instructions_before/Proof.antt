@@ -21,11 +21,11 @@ loop-holds c = (omega arith, omega arith, λ g s. refl)
 block-length-requires : tie.Need-block-length-requires Inv-loop μ-loop
 block-length-requires c κs = search needs
 
-cast-sum : tie.Need-cast-sum Inv-loop μ-loop
-cast-sum c = search needs
+cast-instructions : tie.Need-cast-instructions Inv-loop μ-loop
+cast-instructions c = search needs
 
-add-sum : tie.Need-add-sum Inv-loop μ-loop
-add-sum c = search needs
+add-instructions : tie.Need-add-instructions Inv-loop μ-loop
+add-instructions c = search needs
 
 add-q : tie.Need-add-q Inv-loop μ-loop
 add-q c = search needs
@@ -54,8 +54,8 @@ instructions-before-spec =
     μ-loop
     loop-holds
     block-length-requires
-    cast-sum
-    add-sum
+    cast-instructions
+    add-instructions
     add-q
     loop-less
     loop-again

@@ -46,15 +46,18 @@ loop-less : tie.Need-loop-less Inv-loop μ-loop
 loop-less c = search needs
 
 loop-again : tie.Need-loop-again Inv-loop μ-loop
-loop-again c = (
-  omega arith,
-  search needs,
-  λ g s x.
-      let r = c .before .before .before .before .before .before .before .before .before .args .r in
-      let first = c .before .before .before .before .before .before .instructions-before .result in
-      run-turn (λ j. item-part s r (first + j) (getD (block-of g r (c .before .before .before .before .before .before .before .before .before .args .b)) j no-instr)) _ _ (c .before .before .before .before .loop-test .taken)
-      (c .before .before .before .before .before .loop .inv .0) (c .before .before .before .before .before .loop .inv .2 g s x) (c .before .before .put-item .ensures g s x),
-)
+loop-again c =
+    let at-put = c .before .before in
+    let at-loop = at-put .before .before .before in
+    let start = at-loop .before .before .before .before in (
+      omega arith,
+      search needs,
+      λ g s x.
+          let is = block-of g (start .args .r) (start .args .b) in
+          let first = at-loop .before .instructions-before .result in
+          run-turn (λ j. item-part s (start .args .r) (first + j) (getD is j no-instr)) _ _ (at-put .before .before .loop-test .taken)
+          (at-loop .loop .inv .0) (at-loop .loop .inv .2 g s x) (at-put .put-item .ensures g s x),
+    )
 
 put-word-requires : tie.Need-put-word-requires Inv-loop μ-loop
 put-word-requires c κs = search needs
@@ -70,14 +73,20 @@ same-length c = search needs
 
 returns : tie.Need-returns Inv-loop μ-loop
 returns c = λ g s x.
-    let r = c .before .before .before .before .before .before .before .before .before .before .before .before .before .before .before .before .before .args .r in
-    let is = block-of g r (c .before .before .before .before .before .before .before .before .before .before .before .before .before .before .before .before .before .args .b) in
-    let size = c .before .before .before .before .before .before .before .before .before .before .before .before .before .before .before .block-length .ensures g (x .state .stands) in
-    let items = puts-from (item-part s r) no-instr (c .before .before .before .before .before .before .before .before .before .before .before .before .before .before .instructions-before .result) is size (c .before .before .before .before .before .before .before .before .before .before .before .before .loop-test .left)
-    (c .before .before .before .before .before .before .before .before .before .before .before .before .before .loop .inv .2 g s x) in
+    let at-node = c .before .before .before .before .before .before in
+    let at-count = at-node .before .before .before .before in
+    let at-loop = at-count .before .before .before in
+    let at-first = at-loop .before in
+    let start = at-first .before .before .before in
+    let stands = x .state .stands in
+    let is = block-of g (start .args .r) (start .args .b) in
+    let size = at-first .before .block-length .ensures g stands in
+    let items = puts-from (item-part s (start .args .r)) no-instr (at-first .instructions-before .result) is size
+    (at-count .before .before .loop-test .left) (at-loop .loop .inv .2 g s x) in
     puts-as
-    (puts-then (puts-then (puts-then items (rw size at (c .before .before .before .before .before .before .before .before .before .before .put-word .ensures))) (c .before .before .before .before .before .before .put .ensures)) (c .before .before .put2 .ensures))
-    (rw (c .before .before .before .before .before .before .before .before .before .before .before .before .before .before .instructions-before .ensures .0 g (x .state .stands)) (sym (block-listed s r (c .before .before .before .before .before .before .before .before .before .before .before .before .before .before .before .before .before .args .node) _ is)))
+    (puts-then (puts-then (puts-then items (rw size at (at-count .put-word .ensures))) (at-node .put .ensures))
+    (c .before .before .put2 .ensures))
+    (rw (at-first .instructions-before .ensures .0 g stands) (sym (block-listed s (start .args .r) (start .args .node) _ is)))
 
 pub put-block-spec : {M : Type 1} → statement M
 put-block-spec =

@@ -28,13 +28,17 @@ same-length c = search needs
 
 returns : tie.Need-returns
 returns c = λ g s x.
-    let is = c .before .before .before .before .before .before .before .before .before .before .before .before .before .before .before .before .before .before .before .before .instruction .ensures g (x .state .stands) in
+    let at-index = c .before .before .before .before .before .before in
+    let at-opcode = at-index .before .before .before .before in
+    let at-type = at-opcode .before .before .before .before in
+    let at-reads = at-type .before .before .before .before in
+    let is = at-reads .before .before .instruction .ensures g (x .state .stands) in
     let ty = ap (λ (z : Instruction). z .ty) is in
     let opcode = ap (λ (z : Instruction). z .opcode) is in
-    let reads = c .before .before .before .before .before .before .before .before .before .before .before .before .before .before .before .before .before .before .put-reads .ensures g s x (ap (λ (z : Instruction). z .reads) is) in
+    let reads = at-reads .put-reads .ensures g s x (ap (λ (z : Instruction). z .reads) is) in
     puts-then
-    (puts-then (puts-then (puts-then reads (rw ty at (c .before .before .before .before .before .before .before .before .before .before .before .before .before .before .put-word .ensures))) (rw opcode at (c .before .before .before .before .before .before .before .before .before .before .put-word2 .ensures)))
-    (c .before .before .before .before .before .before .put .ensures))
+    (puts-then (puts-then (puts-then reads (rw ty at (at-type .put-word .ensures))) (rw opcode at (at-opcode .put-word2 .ensures)))
+    (at-index .put .ensures))
     (c .before .before .put-word3 .ensures)
 
 pub put-item-spec : {M : Type 1} → statement M

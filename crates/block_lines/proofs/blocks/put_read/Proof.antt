@@ -18,9 +18,13 @@ same-length c = search needs
 
 returns : tie.Need-returns
 returns c = λ g s x h.
-    let reads = instr-of g (c .before .before .before .before .before .before .before .args .r) (c .before .before .before .before .before .before .before .args .b) (c .before .before .before .before .before .before .before .args .i) .reads in
-    let named = instr-named (x .valid) (x .state .stands) (c .before .before .before .before .before .before .before .args .r) (c .before .before .before .before .before .before .before .args .b) (c .before .before .before .before .before .before .before .args .i) in
-    rw (named-at reads named (c .before .before .before .before .before .before .before .args .k) h (c .before .before .before .before .before .read .result) (c .before .before .before .value-word .ensures) (c .before .before .before .before .before .read .ensures g (x .state .stands)))
+    let at-word = c .before .before .before in
+    let at-read = at-word .before .before in
+    let start = at-read .before .before in
+    let stands = x .state .stands in
+    let reads = instr-of g (start .args .r) (start .args .b) (start .args .i) .reads in
+    let named = instr-named (x .valid) stands (start .args .r) (start .args .b) (start .args .i) in
+    rw (named-at reads named (start .args .k) h (at-read .read .result) (at-word .value-word .ensures) (at-read .read .ensures g stands))
     at (c .before .before .put-value .ensures g s x)
 
 pub put-read-spec : {M : Type 1} → statement M

@@ -34,14 +34,17 @@ loop-less : tie.Need-loop-less Inv-loop μ-loop
 loop-less c = search needs
 
 loop-again : tie.Need-loop-again Inv-loop μ-loop
-loop-again c = (
-  omega arith,
-  search needs,
-  λ g s x size.
-      let reads = instr-of g (c .before .before .before .before .before .before .before .args .r) (c .before .before .before .before .before .before .before .args .b) (c .before .before .before .before .before .before .before .args .i) .reads in
-      run-turn (λ j. value-part s (getD reads j no-value)) _ _ (c .before .before .before .before .loop-test .taken) (c .before .before .before .before .before .loop .inv .0)
-      (c .before .before .before .before .before .loop .inv .2 g s x size) (c .before .before .put-read .ensures g s x (omega arith)),
-)
+loop-again c =
+    let at-put = c .before .before in
+    let at-loop = at-put .before .before .before in
+    let start = at-loop .before .before in (
+      omega arith,
+      search needs,
+      λ g s x size.
+          let reads = instr-of g (start .args .r) (start .args .b) (start .args .i) .reads in
+          run-turn (λ j. value-part s (getD reads j no-value)) _ _ (at-put .before .before .loop-test .taken)
+          (at-loop .loop .inv .0) (at-loop .loop .inv .2 g s x size) (at-put .put-read .ensures g s x (omega arith)),
+    )
 
 put-word-requires : tie.Need-put-word-requires Inv-loop μ-loop
 put-word-requires c κs = search needs
@@ -51,9 +54,13 @@ same-length c = search needs
 
 returns : tie.Need-returns Inv-loop μ-loop
 returns c = λ g s x size.
-    let reads = instr-of g (c .before .before .before .before .before .before .before .args .r) (c .before .before .before .before .before .before .before .args .b) (c .before .before .before .before .before .before .before .args .i) .reads in
+    let at-put = c .before .before in
+    let at-loop = at-put .before .before .before in
+    let start = at-loop .before .before in
+    let reads = instr-of g (start .args .r) (start .args .b) (start .args .i) .reads in
     puts-as
-    (puts-listed (value-part s) no-value reads size (c .before .before .before .before .loop-test .left) (c .before .before .before .before .before .loop .inv .2 g s x size) (c .before .before .put-word .ensures))
+    (puts-listed (value-part s) no-value reads size (at-put .before .before .loop-test .left) (at-loop .loop .inv .2 g s x size)
+    (at-put .put-word .ensures))
     (sym (values-listed s reads))
 
 pub put-reads-spec : {M : Type 1} → statement M

@@ -18,8 +18,13 @@ same-length c = search needs
 
 returns : tie.Need-returns
 returns c = λ g s x h.
-    rw (named-at (end-values g (c .before .before .before .before .before .before .before .args .r)) (end-named (x .valid) (x .state .stands) (c .before .before .before .before .before .before .before .args .r)) (c .before .before .before .before .before .before .before .args .k) h
-    (c .before .before .before .before .before .value .result) (c .before .before .before .value-word .ensures) (c .before .before .before .before .before .value .ensures g (x .state .stands)))
+    let at-word = c .before .before .before in
+    let at-value = at-word .before .before in
+    let start = at-value .before .before in
+    let stands = x .state .stands in
+    let named = end-named (x .valid) stands (start .args .r) in
+    rw (named-at (end-values g (start .args .r)) named (start .args .k) h (at-value .value .result) (at-word .value-word .ensures)
+    (at-value .value .ensures g stands))
     at (c .before .before .put-value .ensures g s x)
 
 pub put-end-value-spec : {M : Type 1} → statement M

@@ -36,14 +36,17 @@ loop-less : tie.Need-loop-less Inv-loop μ-loop
 loop-less c = search needs
 
 loop-again : tie.Need-loop-again Inv-loop μ-loop
-loop-again c = (
-  omega arith,
-  search needs,
-  λ g s x.
-      let size = c .before .before .before .before .before .before .value-count .ensures g (x .state .stands) in
-      run-turn (λ j. value-part s (getD (end-values g (c .before .before .before .before .before .before .before .before .args .r)) j no-value)) _ _ (c .before .before .before .before .loop-test .taken) (c .before .before .before .before .before .loop .inv .0)
-      (c .before .before .before .before .before .loop .inv .2 g s x) (c .before .before .put-end-value .ensures g s x (omega arith)),
-)
+loop-again c =
+    let at-put = c .before .before in
+    let at-loop = at-put .before .before .before in (
+      omega arith,
+      search needs,
+      λ g s x.
+          let size = at-loop .before .value-count .ensures g (x .state .stands) in
+          let values = end-values g (at-loop .before .before .before .args .r) in
+          run-turn (λ j. value-part s (getD values j no-value)) _ _ (at-put .before .before .loop-test .taken) (at-loop .loop .inv .0)
+          (at-loop .loop .inv .2 g s x) (at-put .put-end-value .ensures g s x (omega arith)),
+    )
 
 put-word-requires : tie.Need-put-word-requires Inv-loop μ-loop
 put-word-requires c κs = search needs
@@ -53,10 +56,13 @@ same-length c = search needs
 
 returns : tie.Need-returns Inv-loop μ-loop
 returns c = λ g s x.
+    let at-put = c .before .before in
+    let at-loop = at-put .before .before .before in
+    let values = end-values g (at-loop .before .before .before .args .r) in
     puts-as
-    (puts-listed (value-part s) no-value (end-values g (c .before .before .before .before .before .before .before .before .args .r)) (c .before .before .before .before .before .before .value-count .ensures g (x .state .stands))
-    (c .before .before .before .before .loop-test .left) (c .before .before .before .before .before .loop .inv .2 g s x) (c .before .before .put-word .ensures))
-    (sym (values-listed s (end-values g (c .before .before .before .before .before .before .before .before .args .r))))
+    (puts-listed (value-part s) no-value values (at-loop .before .value-count .ensures g (x .state .stands))
+    (at-put .before .before .loop-test .left) (at-loop .loop .inv .2 g s x) (at-put .put-word .ensures))
+    (sym (values-listed s values))
 
 pub put-end-values-spec : {M : Type 1} → statement M
 put-end-values-spec =

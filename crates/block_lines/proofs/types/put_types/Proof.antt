@@ -40,12 +40,17 @@ loop-less : tie.Need-loop-less Inv-loop μ-loop
 loop-less c = search needs
 
 loop-again : tie.Need-loop-again Inv-loop μ-loop
-loop-again c = (
-  omega arith,
-  search needs,
-  λ g s. run-turn (λ j. plain (getD (region g (c .before .before .before .before .before .before .before .before .before .args .r) .inputs) j 0 ∷ [])) _ _ (c .before .before .before .before .before .loop-test .taken) (c .before .before .before .before .before .before .loop .inv .0)
-      (c .before .before .before .before .before .before .loop .inv .2 g s) (rw (c .before .before .before .input-type .ensures g s) at (c .before .before .put-word .ensures)),
-)
+loop-again c =
+    let at-put = c .before .before in
+    let at-loop = at-put .before .before .before .before in
+    let start = at-loop .before .before .before in (
+      omega arith,
+      search needs,
+      λ g s.
+          let x = at-put .before .input-type .ensures g s in
+          run-turn (λ j. plain (getD (region g (start .args .r) .inputs) j 0 ∷ [])) _ _ (at-put .before .before .before .loop-test .taken)
+          (at-loop .loop .inv .0) (at-loop .loop .inv .2 g s) (rw x at (at-put .put-word .ensures)),
+    )
 
 put-word-requires-2 : tie.Need-put-word-requires-2 Inv-loop μ-loop
 put-word-requires-2 c κs = search needs
@@ -55,10 +60,13 @@ same-length c = search needs
 
 returns : tie.Need-returns Inv-loop μ-loop
 returns c = λ g s.
+    let at-put = c .before .before in
+    let at-loop = at-put .before .before .before in
+    let types = region g (at-loop .before .before .before .args .r) .inputs in
     puts-as
-    (puts-listed (λ t. plain (t ∷ [])) 0 (region g (c .before .before .before .before .before .before .before .before .args .r) .inputs) (c .before .before .before .before .before .before .input-count .ensures g s) (c .before .before .before .before .loop-test .left)
-    (c .before .before .before .before .before .loop .inv .2 g s) (c .before .before .put-word2 .ensures))
-    (numbers-listed (region g (c .before .before .before .before .before .before .before .before .args .r) .inputs))
+    (puts-listed (λ t. plain (t ∷ [])) 0 types (at-loop .before .input-count .ensures g s) (at-put .before .before .loop-test .left)
+    (at-loop .loop .inv .2 g s) (at-put .put-word2 .ensures))
+    (numbers-listed types)
 
 pub put-types-spec : {M : Type 1} → statement M
 put-types-spec =
