@@ -16,3 +16,6 @@ exit-read (ExitInvocation o) p op vs e = let same : o ≡ op = cc in ap ExitInvo
 exit-read Branch p op vs e = absurd (let z : _≡_ {A = ℕ} 0 1 = cc in omega arith)
 exit-read SelectBool p op vs e = absurd (let z : _≡_ {A = ℕ} 0 1 = cc in omega arith)
 exit-read SelectNumber p op vs e = absurd (let z : _≡_ {A = ℕ} 0 1 = cc in omega arith)
+
+pub same-opcode : {t : Terminator} {a b : ℕ} → t ≡ ExitInvocation a → t ≡ ExitInvocation b → a ≡ b
+same-opcode p q = cc

@@ -1,6 +1,6 @@
 use mathlib.Core.List.{[], _∷_}
 use types.Run.{miss}
-use Rattle.block_lines.specs.Exits.{exit-read}
+use Rattle.block_lines.specs.Exits.{exit-read, same-opcode}
 use borrow.Author.Needs.{needs}
 use Rattle.block_lines.proofs.exits.opcode.Statement.{statement}
 use Rattle.block_lines.proofs.exits.opcode.Tie as tie
@@ -13,9 +13,8 @@ enum-known-x c = search needs
 
 returns : tie.Need-returns
 returns c = λ g s op vs e.
-    let is = exit-read (c .before .before .before .terminator .result) (c .before .before .before .terminator .ensures g s) op vs e in
-    let told = c .before .x .given .1 in
-    cc
+    let at-read = c .before .before .before in
+    same-opcode (c .before .x .given .1) (exit-read (at-read .terminator .result) (at-read .terminator .ensures g s) op vs e)
 
 returns-2 : tie.Need-returns-2
 returns-2 c = λ g s op vs e.
