@@ -3,7 +3,7 @@ use mathlib.Core.Path.{_≡_, refl, sym, ap}
 use mathlib.Core.List.{List, [], _∷_, map, append-nil}
 use Prim.Native.Nat.{ℕ, suc, _+_, _-_, _≤_, _<_}
 use native.Mathlib.Omega.{arith}
-use native.Mathlib.Nat.{zero-add}
+use native.Mathlib.Nat.{add-zero, zero-add, add-assoc}
 use lib.ListN.{length, getD}
 use Rattle.meaning.specs.Lists.{any, concat}
 use Rattle.meaning.specs.Graph.{Value, Instr}
@@ -14,7 +14,7 @@ use Rattle.writing.specs.declared.place.Place.{Place}
 use Rattle.writing.specs.Puts.{Part, _⊕_, Puts, puts-as}
 use Rattle.writing.specs.Rows.{run, run-all}
 use Rattle.writing.specs.Parts.{output-nodes, look-up-at-end, values-part, node-part, nodes-part, node-words}
-use Rattle.block_lines.specs.PartLaws.{no-nodes, first-node, each-from}
+use Rattle.block_lines.specs.PartLaws.{no-nodes, first-node, one-across, each-from}
 use Rattle.block_lines.specs.Sums.{instructions-before}
 
 module _ (s : NestState) where
@@ -67,17 +67,8 @@ module _ (s : NestState) where
     run-blocks h m n k (b ∷ bs) e =
         let first : h m ≡ node-part s (block n r k b) = rw (add-zero m, add-zero n, add-zero k) at (e 0 (omega arith)) in
         let rest = run-blocks h (suc m) (suc n) (k + length b) bs
-        (λ j l. rw (add-suc m j, add-suc n j, add-more k (length b) (instructions-before bs j)) at (e (suc j) (omega arith))) in
+        (λ j l. rw (one-across m j, one-across n j, ← add-assoc k (length b) (instructions-before bs j)) at (e (suc j) (omega arith))) in
         rw (first, rest) (sym (first-node s (block n r k b) (blocks-from (suc n) r (k + length b) bs)))
-      where
-        add-zero : (n : ℕ) → n + 0 ≡ n
-        add-zero n = omega arith
-
-        add-suc : (n m : ℕ) → n + suc m ≡ suc n + m
-        add-suc n m = omega arith
-
-        add-more : (a b c : ℕ) → a + (b + c) ≡ a + b + c
-        add-more a b c = omega arith
 
     pub puts-blocks : (bs : List (List Instr)) {m b : ℕ} {out out₁ : List ℕ} {at at₁ : Place} → m ≡ length bs → b ≤ 0
         → Puts out at (run (block-part bs) b (m - b)) out₁ at₁ → Puts out at (nodes-part s (blocks-from n r 0 bs)) out₁ at₁

@@ -4,7 +4,7 @@ use mathlib.Core.Bool.{or-assoc, or-false}
 use mathlib.Core.List.{List, [], _∷_, map, append-assoc, append-nil}
 use Prim.Native.Nat.{ℕ, suc, _+_, _-_, _≤_, _<_}
 use native.Mathlib.Omega.{arith}
-use native.Mathlib.Nat.{zero-add}
+use native.Mathlib.Nat.{add-zero, zero-add}
 use lib.ListN.{length, getD, length-map}
 use Rattle.meaning.specs.Lists.{any, concat}
 use Rattle.meaning.specs.Graph.{Value}
@@ -76,6 +76,9 @@ module _ {A : Type 0} (f : A → Part) (d : A) (xs : List A) where
       → Puts out at (plain (length xs ∷ []) ⊕ each f xs) out₂ at₂
   puts-listed size none p q = puts-then (puts-each size none p) (rw size at q)
 
+pub one-across : (n m : ℕ) → n + suc m ≡ suc n + m
+one-across n m = omega arith
+
 -- ---- A list whose items have numbers, from k on.
 unfoldable pub each-from : {A : Type 0} → (ℕ → A → Part) → ℕ → List A → Part
 each-from f k [] = plain []
@@ -88,14 +91,8 @@ module _ {A : Type 0} (f : ℕ → A → Part) (d : A) where
   run-from h m k [] e = refl
   run-from h m k (x ∷ xs) e =
       let first : h m ≡ f k x = rw (add-zero m, add-zero k) at (e 0 (omega arith)) in
-      let rest = run-from h (suc m) (suc k) xs (λ j l. rw (add-suc m j, add-suc k j) at (e (suc j) (omega arith))) in
+      let rest = run-from h (suc m) (suc k) xs (λ j l. rw (one-across m j, one-across k j) at (e (suc j) (omega arith))) in
       rw (first, rest)
-    where
-      add-zero : (n : ℕ) → n + 0 ≡ n
-      add-zero n = omega arith
-
-      add-suc : (n m : ℕ) → n + suc m ≡ suc n + m
-      add-suc n m = omega arith
 
   pub puts-from : (k₀ : ℕ) (xs : List A) {n k : ℕ} {out out₁ : List ℕ} {at at₁ : Place} → n ≡ length xs → k ≤ 0
       → Puts out at (run (λ j. f (k₀ + j) (getD xs j d)) k (n - k)) out₁ at₁ → Puts out at (each-from f k₀ xs) out₁ at₁
