@@ -77,7 +77,8 @@ module _ (w : List ℕ) (r first : ℕ) {n : ℕ} (size : OfRecord w (λ g. n �
 
 -- ---- What a cell adds.
 module _ (w : List ℕ) (h : ℕ) {out out′ : List ℕ} {x x′ : Counted} where
-  pub cell-blocks : {t r : ℕ} → t ≡ cell-word w h 0 → t ≡ 1 → r ≡ cell-word w h 2 → PutsBlocks w r out x out′ x′ → PutsCell w h out x out′ x′
+  pub cell-blocks : {t r : ℕ} → t ≡ cell-word w h 0 → t ≡ 1 → r ≡ cell-word w h 2 → PutsBlocks w r out x out′ x′
+      → PutsCell w h out x out′ x′
   cell-blocks is tag of p g s ks added other = go added (omega arith)
     where
       go : {m : ℕ} → Added g w h ks m → m ≡ 1 → PutsNumbers out x (kids ks) out′ x′
@@ -99,7 +100,8 @@ module _ (w : List ℕ) (h : ℕ) {out out′ : List ℕ} {x x′ : Counted} whe
       go (added-loop _ _ _ _ e) _ = rw e (rw of at p)
 
 -- ---- A list, from its last cell on. Before a turn the numbers behind list h are put.
-pub record BehindPut (g : Graph) (w : List ℕ) (h : ℕ) (ks : Nodes) (out₀ : List ℕ) (x₀ : Counted) (out : List ℕ) (x : Counted) : Type 0 where
+pub record BehindPut (g : Graph) (w : List ℕ) (h : ℕ) (ks : Nodes) (out₀ : List ℕ) (x₀ : Counted) (out : List ℕ) (x : Counted)
+    : Type 0 where
   pub left : Nodes
   pub behind : List ℕ
   pub shown : ShowsNodes g (section w cells) h left

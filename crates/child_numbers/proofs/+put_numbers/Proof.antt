@@ -60,7 +60,15 @@ module _ (t : ℕ) where
   joined-list-requires c κs = search needs
 
   put-numbers-requires : lts.Need-put-numbers-requires (called t) (at t) reads.Post Inv-loop μ-loop
-  put-numbers-requires c κs = (omega (arith, c .before .before .before .before .before .before .before .pre .0, inner-below _ (c .before .before .before .before .loop-test .taken) (c .joined-list .ensures)), tt)
+  put-numbers-requires c κs = (
+    omega (
+      arith,
+      c .before .before .before .before .before .before .before .pre .0,
+      inner-below _
+          (c .before .before .before .before .loop-test .taken) (c .joined-list .ensures),
+    ),
+    tt,
+  )
 
   put-cell-numbers-requires : lts.Need-put-cell-numbers-requires (called t) (at t) reads.Post Inv-loop μ-loop
   put-cell-numbers-requires c κs = search needs
@@ -74,9 +82,11 @@ module _ (t : ℕ) where
   loop-again : lts.Need-loop-again (called t) (at t) reads.Post Inv-loop μ-loop
   loop-again c = (
     ⊎-elim
-        (λ y. list-as (list-inner _ _ _ (c .before .before .before .before .loop .inv .0) (c .before .before .before .loop-test .taken) (c .before .before .cell-tag .ensures) (y .0 .taken) (y .2 .ensures)
+        (λ y. list-as (list-inner _ _ _ (c .before .before .before .before .loop .inv .0) (c .before .before .before .loop-test .taken)
+        (c .before .before .cell-tag .ensures) (y .0 .taken) (y .2 .ensures)
         (y .3 .ensures)) (c .list-before .ensures) (y .6) (y .7))
-        (λ y. list-as (list-cell _ _ _ (c .before .before .before .before .loop .inv .0) (c .before .before .before .loop-test .taken) (c .before .before .cell-tag .ensures) (y .0 .left) (y .2 .ensures))
+        (λ y. list-as (list-cell _ _ _ (c .before .before .before .before .loop .inv .0) (c .before .before .before .loop-test .taken)
+        (c .before .before .cell-tag .ensures) (y .0 .left) (y .2 .ensures))
         (c .list-before .ensures) (y .5) (y .6))
         (c .before .if1 .came),
     omega (arith, before-below _ (c .before .before .before .loop-test .taken) (c .list-before .ensures)),

@@ -20,7 +20,13 @@ block-count-requires : tie.Need-block-count-requires Inv-loop μ-loop
 block-count-requires c κs = search needs
 
 loop-holds : tie.Need-loop-holds Inv-loop μ-loop
-loop-holds c = (blocks-start (c .before .before .before .args .w .now) (c .before .before .before .args .r) (c .before .blocks-before .result) (c .block-count .ensures) (c .before .before .before .args .out .now) (c .before .before .before .args .x) (omega arith), omega arith, refl)
+loop-holds c = (
+  blocks-start (c .before .before .before .args .w .now) (c .before .before .before .args .r)
+      (c .before .blocks-before .result) (c .block-count .ensures) (c .before .before .before .args .out .now)
+      (c .before .before .before .args .x) (omega arith),
+  omega arith,
+  refl,
+)
 
 sub-b : tie.Need-sub-b Inv-loop μ-loop
 sub-b c = search needs
@@ -38,13 +44,20 @@ loop-less : tie.Need-loop-less Inv-loop μ-loop
 loop-less c = search needs
 
 loop-again : tie.Need-loop-again Inv-loop μ-loop
-loop-again c = (blocks-turn _ _ _ (c .before .before .before .before .before .before .block-count .ensures) _ (c .before .before .before .before .before .loop .inv .0) (c .before .before .before .before .loop-test .taken) (c .before .before .before .before .before .loop .inv .1) (c .before .before .put-number .ensures), omega arith, search needs)
+loop-again c = (
+  blocks-turn _ _ _ (c .before .before .before .before .before .before .block-count .ensures) _
+      (c .before .before .before .before .before .loop .inv .0) (c .before .before .before .before .loop-test .taken)
+      (c .before .before .before .before .before .loop .inv .1) (c .before .before .put-number .ensures),
+  omega arith,
+  search needs,
+)
 
 same-length : tie.Need-same-length Inv-loop μ-loop
 same-length c = search needs
 
 returns : tie.Need-returns Inv-loop μ-loop
-returns c = blocks-all _ _ _ (c .before .before .block-count .ensures) _ (c .before .loop .inv .0) (c .loop-test .left) (c .before .before .before .blocks-before .ensures)
+returns c = blocks-all _ _ _ (c .before .before .block-count .ensures) _ (c .before .loop .inv .0) (c .loop-test .left)
+    (c .before .before .before .blocks-before .ensures)
 
 pub put-block-numbers-spec : {M : Type 1} → statement M
 put-block-numbers-spec =
