@@ -25,9 +25,10 @@ use Rattle.shown.specs.RegionSteps.{word-concerns, children-set, length-set-to,
 use Rattle.shown.specs.CellSteps.{list-joined}
 use Rattle.shown.specs.NamedSteps.{named-inserted}
 use Rattle.shown.specs.SetStores.{only-later, only-state, only-word-same, word-other, run-elsewhere-word, same-elsewhere, copy-moves}
-use Rattle.shown.specs.SetSteps.{bundle-in, set-moves, swapped-only, swapped-first-set, swapped-kept, swapped-slots}
+use Rattle.shown.specs.SetSteps.{set-moves, swapped-only, swapped-first-set, swapped-kept, swapped-slots}
+use Rattle.shown.specs.Finds.{bundle-in}
 use Rattle.bundles.specs.Words.{case-inputs, Appends, appended, its-edge, its-rest}
-use Rattle.bundles.specs.CaseSteps.{CaseShown}
+use Rattle.bundles.specs.CaseSteps.{CaseAndSet}
 
 -- ---- A case that is to stand alone, by its parts; its inputs stand in row j.
 pub data ShowsAlone (g : Graph) (w : List ℕ) (r j : ℕ) (x : Case) : MaybeClaimedRegion → Type 0 where
@@ -42,7 +43,7 @@ pub data ShowsAlone (g : Graph) (w : List ℕ) (r j : ℕ) (x : Case) : MaybeCla
       → ShowsAlone g w r j x (err d)
 
 -- Of a case that is shown, the parts are its row.
-pub row-alone : {g : Graph} {w : List ℕ} {r j : ℕ} {m : MaybeClaimedRegion} → Slots w → r < 33 → CaseShown g w r j m
+pub row-alone : {g : Graph} {w : List ℕ} {r j : ℕ} {m : MaybeClaimedRegion} → Slots w → r < 33 → CaseAndSet g w r j m
     → ((c : ClaimedRegion) → m ≡ ok c → (word w kinds (c .origin) ≡ 3) × (c .origin ≡ r → ⊥)) → ShowsAlone g w r j (case-row w j) m
 row-alone {g} {w} {r} {j} slots below x claimed = go (x .case) (x .set) claimed
   where

@@ -81,20 +81,20 @@ pub data Owner (w : List ℕ) (r j a : ℕ) : Type 0 where
   of-claimed : word w cases (10 * j + 0) ≡ 2 → word w cases (10 * j + 1) ≡ a → Owner w r j a
   of-others : word w cases (10 * j + 0) ≡ 3 → r ≡ a → Owner w r j a
 
-pub data Placed (w : List ℕ) (r j : ℕ) : Type 0 where
-  in-slot : (o : ℕ) → o < 32 → Owner w r j o → word w cases (10 * j + 4) ≡ word w set-starts o → Placed w r j
-  in-own : word w cases (10 * j + 4) ≡ 1089 + j → word w cases (10 * j + 5) ≡ 1 → Placed w r j
-  nowhere : word w cases (10 * j + 5) ≡ 0 → Placed w r j
+pub data CasePlaced (w : List ℕ) (r j : ℕ) : Type 0 where
+  in-slot : (o : ℕ) → o < 32 → Owner w r j o → word w cases (10 * j + 4) ≡ word w set-starts o → CasePlaced w r j
+  in-own : word w cases (10 * j + 4) ≡ 1089 + j → word w cases (10 * j + 5) ≡ 1 → CasePlaced w r j
+  nowhere : word w cases (10 * j + 5) ≡ 0 → CasePlaced w r j
 
-pub placed : {g : Graph} {w : List ℕ} {r j : ℕ} {c : MaybeClaimedRegion} → length (g .regions) ≤ 32 → r < length (g .regions)
-    → ShowsCase g w r j c → Placed w r j
-placed few here (shows-ok {c} a b in-graph d e f h k l) = in-slot (c .origin) (omega arith) (of-claimed a b) h
-placed few here (shows-nothing a b) = nowhere b
-placed few here (shows-edge a b d) = in-own b d
-placed {r} few here (shows-others a b) = in-slot r (omega arith) (of-others a refl) b
+pub case-placed : {g : Graph} {w : List ℕ} {r j : ℕ} {c : MaybeClaimedRegion} → length (g .regions) ≤ 32 → r < length (g .regions)
+    → ShowsCase g w r j c → CasePlaced w r j
+case-placed few here (shows-ok {c} a b in-graph d e f h k l) = in-slot (c .origin) (omega arith) (of-claimed a b) h
+case-placed few here (shows-nothing a b) = nowhere b
+case-placed few here (shows-edge a b d) = in-own b d
+case-placed {r} few here (shows-others a b) = in-slot r (omega arith) (of-others a refl) b
 
 pub placed-apart : {w : List ℕ} → Slots w → {r i j : ℕ} → i < 8 → j < 8 → (i ≡ j → ⊥)
-    → ((a b : ℕ) → Owner w r i a → Owner w r j b → a ≡ b → ⊥) → Placed w r i → Placed w r j
+    → ((a b : ℕ) → Owner w r i a → Owner w r j b → a ≡ b → ⊥) → CasePlaced w r i → CasePlaced w r j
     → word w cases (10 * i + 5) ≤ 33 → word w cases (10 * j + 5) ≤ 33 → (p q : ℕ) → p < word w cases (10 * i + 5)
     → q < word w cases (10 * j + 5) → word w cases (10 * i + 4) + p ≡ word w cases (10 * j + 4) + q → ⊥
 placed-apart slots i8 j8 d owners (in-slot a h o e) (in-slot b k u f) m n p q x y z =
@@ -111,7 +111,7 @@ placed-apart slots i8 j8 d owners (in-own e h) (in-own f k) m n p q x y z = d (o
 placed-apart slots i8 j8 d owners (in-own e h) (nowhere f) m n p q x y z = omega arith
 placed-apart slots i8 j8 d owners (nowhere e) y m n p q x u z = omega arith
 
-pub placed-not-spare : {w : List ℕ} → Slots w → {r j : ℕ} → Placed w r j → word w cases (10 * j + 5) ≤ 33 → (p q : ℕ)
+pub placed-not-spare : {w : List ℕ} → Slots w → {r j : ℕ} → CasePlaced w r j → word w cases (10 * j + 5) ≤ 33 → (p q : ℕ)
     → p < word w cases (10 * j + 5) → q < 33 → word w cases (10 * j + 4) + p ≡ word w set-starts 32 + q → ⊥
 placed-not-spare slots (in-slot a h o e) n p q x y z =
     let s = slots .starts a (omega arith) in
@@ -122,7 +122,7 @@ placed-not-spare slots (in-own e h) n p q x y z = let s = in-slots slots 32 q (o
 placed-not-spare slots (nowhere e) n p q x y z = omega arith
 
 -- ---- A case with its set.
-pub record CaseShown (g : Graph) (w : List ℕ) (r j : ℕ) (c : MaybeClaimedRegion) : Type 0 where
+pub record CaseAndSet (g : Graph) (w : List ℕ) (r j : ℕ) (c : MaybeClaimedRegion) : Type 0 where
   pub case : ShowsCase g w r j c
   pub set : ShowsSet g w (word w cases (10 * j + 4)) (word w cases (10 * j + 5)) (deferred-of c)
 
@@ -144,16 +144,16 @@ module _ {g : Graph} {w w′ : List ℕ} {j : ℕ} (one : OneCase w w′ j) {r q
   case-stays (shows-others a b) =
       shows-others (other-row one q d 0 (omega arith) ∙ a) (other-row one q d 4 (omega arith) ∙ b ∙ sym (one .starts r))
 
-  pub shown-stays : Slots w → length (g .regions) ≤ 32 → r < length (g .regions) → {c : MaybeClaimedRegion} → CaseShown g w r q c
-      → CaseShown g w′ r q c
+  pub shown-stays : Slots w → length (g .regions) ≤ 32 → r < length (g .regions) → {c : MaybeClaimedRegion} → CaseAndSet g w r q c
+      → CaseAndSet g w′ r q c
   shown-stays slots few here {c} x =
       record {
         case = case-stays (x .case);
         set = rw (other-row one q d 4 (omega arith), other-row one q d 5 (omega arith))
-            (set-stays (only-later (one .only) g) (λ i h. one .beside _ (apart (placed few here (x .case)) i h)) (x .set));
+            (set-stays (only-later (one .only) g) (λ i h. one .beside _ (apart (case-placed few here (x .case)) i h)) (x .set));
       }
     where
-      apart : Placed w r q → (i : ℕ) → i < word w cases (10 * q + 5) → word w cases (10 * q + 4) + i ≡ 1089 + j → ⊥
+      apart : CasePlaced w r q → (i : ℕ) → i < word w cases (10 * q + 5) → word w cases (10 * q + 4) + i ≡ 1089 + j → ⊥
       apart (in-slot a h o e) i k z =
           let few-bundles = x .set .few in let s = in-slots slots a i (omega arith) (omega arith) in omega arith
       apart (in-own e f) i k z = let y : q ≡ j = omega arith in d y
@@ -168,7 +168,7 @@ module _ {g : Graph} (w : List ℕ) (room : used ≤ length w) {r j : ℕ} (belo
   -- A claimed region with its inputs.
   pub claimed-row : {c : ClaimedRegion} (ws : List ℕ) → length ws ≡ 4 → ShowsClaimed g w c
       → ((k : ℕ) → k < 4 → Names (getD ws k 0) (getD (c .structured-body-inputs) k (undef 0)))
-      → CaseShown g (stored-all w cases (10 * j) (case-words (claimed-case w (c .origin)) ++ ws)) r j (ok c)
+      → CaseAndSet g (stored-all w cases (10 * j) (case-words (claimed-case w (c .origin)) ++ ws)) r j (ok c)
   claimed-row {c} ws four x names =
       let o = c .origin in
       let xs = case-words (claimed-case w o) ++ ws in
@@ -186,7 +186,7 @@ module _ {g : Graph} (w : List ℕ) (room : used ≤ length w) {r j : ℕ} (belo
       }
 
   -- Nothing is deferred.
-  pub nothing-row : CaseShown g (stored-all w cases (10 * j) (case-words (unclaimed-case 0 0 0))) r j (err [])
+  pub nothing-row : CaseAndSet g (stored-all w cases (10 * j) (case-words (unclaimed-case 0 0 0))) r j (err [])
   nothing-row =
       let xs = case-words (unclaimed-case 0 0 0) in
       let at : (k : ℕ) → k < 6 → word (stored-all w cases (10 * j) xs) cases (10 * j + k) ≡ getD xs k 0 =
@@ -205,7 +205,7 @@ module _ {g : Graph} (w : List ℕ) (room : used ≤ length w) {r j : ℕ} (belo
 
   -- The edge of its own.
   pub edge-row : {d : DeferredEdgeBundleSet} → ShowsSet g w (1089 + j) 1 d
-      → CaseShown g (stored-all w cases (10 * j) (case-words (unclaimed-case 1 (own-edge j) 1))) r j (err d)
+      → CaseAndSet g (stored-all w cases (10 * j) (case-words (unclaimed-case 1 (own-edge j) 1))) r j (err d)
   edge-row x =
       let xs = case-words (unclaimed-case 1 (own-edge j) 1) in
       let own = own-in j below in
@@ -220,7 +220,7 @@ module _ {g : Graph} (w : List ℕ) (room : used ≤ length w) {r j : ℕ} (belo
 
   -- What is left of region r's set.
   pub others-row : {d : DeferredEdgeBundleSet} {n : ℕ} → ShowsSet g w (word w set-starts r) n d
-      → CaseShown g (stored-all w cases (10 * j) (case-words (unclaimed-case 3 (word w set-starts r) n))) r j (err d)
+      → CaseAndSet g (stored-all w cases (10 * j) (case-words (unclaimed-case 3 (word w set-starts r) n))) r j (err d)
   others-row {n} x =
       let xs = case-words (unclaimed-case 3 (word w set-starts r) n) in
       let at : (k : ℕ) → k < 6 → word (stored-all w cases (10 * j) xs) cases (10 * j + k) ≡ getD xs k 0 =

@@ -18,14 +18,16 @@ use Rattle.shown.specs.States.{Slots, ShowsState, ShowsClaimed, ShowsCase, show
 use Rattle.shown.specs.States.{no-case}
 use Rattle.shown.specs.Kept.{Later, KeptRegion, same-bundle, same-bundle-then, claimed-stays}
 use Rattle.shown.specs.Stores.{head-same}
-use Rattle.shown.specs.SetStores.{OnlySets, only-same, only-then, only-total, only-later, only-kept, only-state, only-word-same, slots-stay}
+use Rattle.shown.specs.SetStores.{OnlySets, only-same, only-then, only-total, only-later, only-kept, only-state, only-word-same}
+use Rattle.shown.specs.RegionSteps.{slots-stay}
 use Rattle.shown.specs.SetStores.{word-other, same-elsewhere}
 use Rattle.shown.specs.SetSteps.{set-of-one}
 use Rattle.bundles.specs.Words.{padded, claimed-case, unclaimed-case, edge-deferred, case-filled, filled-from, cases-filled}
 use Rattle.bundles.specs.RecordValues.{few-edges}
 use Rattle.bundles.specs.Deferred.{edge-names, edge-deferred-shown}
 use Rattle.bundles.specs.CaseSteps.{OneCase, one-then, one-row, one-edge, own-in, in-slots, one-kept, taken-same, Owner, of-claimed}
-use Rattle.bundles.specs.CaseSteps.{of-others, placed, placed-apart, placed-not-spare, CaseShown, other-row, shown-stays, row-word}
+use Rattle.bundles.specs.CaseSteps.{of-others, case-placed, placed-apart, placed-not-spare, CaseAndSet, other-row, shown-stays}
+use Rattle.bundles.specs.CaseSteps.{row-word}
 use Rattle.bundles.specs.CaseSteps.{claimed-row, nothing-row, edge-row}
 
 -- ---- How the target at place j was taken, with the definition's case.
@@ -81,7 +83,7 @@ filled-plain g w r j room h =
 
 module _ {g : Graph} (valid : Valid g) {r : ℕ} (here : r < length (g .regions)) where
   pub filled-shows : {j : ℕ} → j < length (edges-of (region g r .terminator)) → (w : List ℕ) → used ≤ length w → {m : MaybeClaimedRegion}
-      → Taken g w r j m → CaseShown g (case-filled g w r j) r j m
+      → Taken g w r j m → CaseAndSet g (case-filled g w r j) r j m
   unfolding case-filled
   filled-shows {j} place w room (was-claimed {c} a b origin inputs) =
       let few = few-edges valid here in
@@ -109,13 +111,13 @@ pub record Filled (g : Graph) (w w′ : List ℕ) (r : ℕ) (cs : List MaybeClai
   pub starts : (q : ℕ) → word w′ set-starts q ≡ word w set-starts q
   pub lengths : (q : ℕ) → word w′ set-lengths q ≡ word w set-lengths q
   pub low : (p : ℕ) → p < 1089 → SameBundle w w′ p
-  pub shown : (q : ℕ) → q < length cs → CaseShown g w′ r q (getD cs q no-case)
+  pub shown : (q : ℕ) → q < length cs → CaseAndSet g w′ r q (getD cs q no-case)
   pub plain : (q : ℕ) → q < length cs → word w′ cases (10 * q + 0) ≤ 2
 
 module _ {g : Graph} (valid : Valid g) {r : ℕ} (here : r < length (g .regions)) (cs : List MaybeClaimedRegion)
     (size : length cs ≡ length (edges-of (region g r .terminator))) where
   fills : (m j : ℕ) → j + m ≡ length cs → (w : List ℕ) → used ≤ length w → Slots w
-      → ((q : ℕ) → q < length cs → Taken g w r q (getD cs q no-case)) → ((q : ℕ) → q < j → CaseShown g w r q (getD cs q no-case))
+      → ((q : ℕ) → q < length cs → Taken g w r q (getD cs q no-case)) → ((q : ℕ) → q < j → CaseAndSet g w r q (getD cs q no-case))
       → ((q : ℕ) → q < j → word w cases (10 * q + 0) ≤ 2) → Filled g w (filled-from g w r m j) r cs
   unfolding filled-from
   fills zero j sum w room slots taken shown plain =
@@ -170,7 +172,7 @@ total-of w n e h =
     ]
 
 -- What the words show then; nothing of a region changes.
-pub record CasesShown (g : Graph) (w w′ : List ℕ) (s : NestState) (r : ℕ) (cs : List MaybeClaimedRegion) : Type 0 where
+pub record FilledCases (g : Graph) (w w′ : List ℕ) (s : NestState) (r : ℕ) (cs : List MaybeClaimedRegion) : Type 0 where
   pub cases-shown : ShowsCases g w′ r cs
   pub state : ShowsState g w′ s
   pub later : Later g w w′
@@ -181,7 +183,7 @@ pub cases-filled-shown : {g : Graph} → Valid g → {r : ℕ} → r < length (g
     → ((q : ℕ) → q < length cs → Taken g w r q (getD cs q no-case))
     → ((i j : ℕ) → i < j → j < length cs → (a b : ClaimedRegion) → getD cs i no-case ≡ ok a → getD cs j no-case ≡ ok b
     → a .origin ≡ b .origin → ⊥)
-    → CasesShown g w (cases-filled g w r) s r cs
+    → FilledCases g w (cases-filled g w r) s r cs
 cases-filled-shown {g} valid {r} here cs size {w} {s} state taken origins =
     let n = length (edges-of (region g r .terminator)) in
     let room = state .tables .size in
@@ -214,10 +216,10 @@ cases-filled-shown {g} valid {r} here cs size {w} {s} state taken origins =
                 placed-apart slots (omega arith) (omega arith) (omega arith)
                 (λ o u y z e. go (cases-filled g w r) (x .plain i (omega arith)) (x .plain j b) (x .shown i (omega arith) .case)
                 (x .shown j b .case) (origins i j a b) y z e)
-                (placed few here (x .shown i (omega arith) .case)) (placed few here (x .shown j b .case))
+                (case-placed few here (x .shown i (omega arith) .case)) (case-placed few here (x .shown j b .case))
                 (x .shown i (omega arith) .set .few) (x .shown j b .set .few) p q c d;
             not-spare = λ j p q b c d.
-                placed-not-spare slots (placed few here (x .shown j b .case)) (x .shown j b .set .few) p q c d;
+                placed-not-spare slots (case-placed few here (x .shown j b .case)) (x .shown j b .set .few) p q c d;
           };
       state = only-state only slots (λ q h e. kept q (omega arith)) state;
       later = only-later only g;

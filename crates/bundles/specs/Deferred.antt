@@ -17,9 +17,11 @@ use Rattle.shown.specs.Sets.{Names, shows-region, shows-return, ShowsBundle, Sa
 use Rattle.shown.specs.States.{ShowsOwnSet, Slots, ShowsState}
 use Rattle.shown.specs.Kept.{KeptRegion, bundle-stays, same-bundle-then}
 use Rattle.shown.specs.RegionSteps.{word-there, word-apart}
-use Rattle.shown.specs.SetStores.{OnlySets, only-run, only-word, only-then, only-later, only-state, slots-stay, bundles-of-sets}
+use Rattle.shown.specs.SetStores.{OnlySets, only-run, only-word, only-then, only-later, only-state, bundles-of-sets}
+use Rattle.shown.specs.RegionSteps.{slots-stay}
 use Rattle.shown.specs.SetStores.{lengths-of-sets, word-other, run-elsewhere-word, bundle-beside, same-elsewhere}
-use Rattle.shown.specs.SetSteps.{bundle-in, bundle-made, set-of-one, kept-beside}
+use Rattle.shown.specs.SetSteps.{bundle-made, set-of-one, kept-beside}
+use Rattle.shown.specs.Finds.{bundle-in}
 use Rattle.bundles.specs.Words.{padded, edge-deferred, return-deferred}
 use Rattle.bundles.specs.ReadTypes.{end-types-read}
 use Rattle.bundles.specs.RecordValues.{passed-names, passed-types, passed-length, padded-names, valid-edge}

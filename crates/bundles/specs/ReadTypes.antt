@@ -1,5 +1,5 @@
 -- What reading leaves of undefined values: their types are types that a record has. Valid does not say it.
-use mathlib.Core.Path.{_≡_, refl, sym}
+use mathlib.Core.Path.{_≡_, sym}
 use mathlib.Core.Bool.{Bool, true, false, _||_}
 use mathlib.Core.Logic.{inl, inr}
 use mathlib.Core.List.{List, [], _∷_}
@@ -19,7 +19,7 @@ use Rattle.format.specs.Read.{instruction, terminator}
 use Rattle.format.specs.Read.{opcode-for, fewest-values, most-values, fewest-targets, most-targets, edges-passed, control-inst, read-region}
 use Rattle.format.specs.Read.{regions-from, head, read-record}
 use Rattle.format.specs.References.{values-of, no-instr}
-use Rattle.format.specs.laws.Readers.{part, got-value}
+use Rattle.format.specs.laws.Readers.{part, expected, got-value}
 use Rattle.format.specs.laws.WellRead.{counted-all, within-bounds, step, settled}
 use Rattle.record.specs.Stands.{Stands, words-of-record}
 use Rattle.fields.specs.ByNumber.{block-of, instr-of, end-values}
@@ -38,10 +38,6 @@ TypeRead no-value = Unit
 either : (b : Bool) (x y : Value) → TypeRead x → TypeRead y → TypeRead (pick b x y)
 either true x y p q = p
 either false x y p q = q
-
-holds : (t : Bool) (ws : List ℕ) (i : ℕ) {u : Unit} {j : ℕ} → expect t ws i ≡ got u j → t ≡ true
-holds true ws i q = refl
-holds false ws i q = absurd (clash (cc))
 
 kind-few : (k : ℕ) → is-kind k ≡ true → k ≤ 5
 kind-few k h =
@@ -74,8 +70,8 @@ value-read ws at v e h =
     let f = part (expect (index-right (a .value) (d .value)) ws (d .place)) _ v e (d .second) in
     let is : v ≡ value-from-words (a .value) (c .value) (d .value) = sym (got-value (f .second)) in
     rw is
-    (from-words (a .value) (c .value) (d .value) (holds (is-kind (a .value)) ws (a .place) (b .first))
-    (holds (index-right (a .value) (d .value)) ws (d .place) (f .first)))
+    (from-words (a .value) (c .value) (d .value) (expected (is-kind (a .value)) ws (a .place) (b .first))
+    (expected (index-right (a .value) (d .value)) ws (d .place) (f .first)))
 
 -- ---- The values of a terminator, of an instruction, of a region, of all.
 end-types : (k op : ℕ) (vs : List Value) (es : List Edge) → k ≤ 5 → All TypeRead vs → All TypeRead (values-of (control-inst k op vs es))

@@ -19,11 +19,13 @@ use Rattle.shown.specs.States.{ShowsOwnSet, Slots, ShowsState, ShowsClaimed, Sh
 use Rattle.shown.specs.States.{ShowsCases, no-case}
 use Rattle.shown.specs.Kept.{Later, KeptRegion, kept-then, set-stays, same-bundle-then, claimed-stays}
 use Rattle.shown.specs.Stores.{head-same}
-use Rattle.shown.specs.SetStores.{OnlySets, only-then, only-total, only-later, only-state, only-word-same, slots-stay, word-other}
+use Rattle.shown.specs.SetStores.{OnlySets, only-then, only-total, only-later, only-state, only-word-same, word-other}
+use Rattle.shown.specs.RegionSteps.{slots-stay}
 use Rattle.shown.specs.SetStores.{same-elsewhere, same-elsewhere-run}
-use Rattle.shown.specs.SetSteps.{bundle-in, shift-removes, kept-beside}
+use Rattle.shown.specs.SetSteps.{shift-removes, kept-beside}
+use Rattle.shown.specs.Finds.{bundle-in}
 use Rattle.bundles.specs.Words.{claimed-case, unclaimed-case, given-word, given-inputs, split-filled}
-use Rattle.bundles.specs.CaseSteps.{one-row, Owner, of-claimed, of-others, placed, placed-apart, placed-not-spare, CaseShown}
+use Rattle.bundles.specs.CaseSteps.{one-row, Owner, of-claimed, of-others, case-placed, placed-apart, placed-not-spare, CaseAndSet}
 use Rattle.bundles.specs.CaseSteps.{shown-stays, claimed-row, others-row, one-kept}
 use Rattle.bundles.specs.CasesFilled.{total-of}
 
@@ -81,7 +83,7 @@ owner-err (shows-others a b) (of-claimed x y) = absurd (omega arith)
 owner-err (shows-others a b) (of-others x y) = sym y
 
 two-cases : {g : Graph} → length (g .regions) ≤ 32 → {r : ℕ} → r < length (g .regions) → {w : List ℕ} → Slots w → word w head 7 ≡ 2
-    → {c : ClaimedRegion} {d : DeferredEdgeBundleSet} → (c .origin ≡ r → ⊥) → CaseShown g w r 0 (ok c) → CaseShown g w r 1 (err d)
+    → {c : ClaimedRegion} {d : DeferredEdgeBundleSet} → (c .origin ≡ r → ⊥) → CaseAndSet g w r 0 (ok c) → CaseAndSet g w r 1 (err d)
     → ShowsCases g w r (ok c ∷ err d ∷ [])
 two-cases {g} few {r} here {w} slots total {c} {d} other x y =
     record {
@@ -93,10 +95,10 @@ two-cases {g} few {r} here {w} slots total {c} {d} other x y =
           let e : i ≡ 0 = omega arith in
           let f : j ≡ 1 = omega arith in
           apart i j e f p q m n;
-      not-spare = λ j p q h m n. placed-not-spare slots (placed few here (at j h .case)) (at j h .set .few) p q m n;
+      not-spare = λ j p q h m n. placed-not-spare slots (case-placed few here (at j h .case)) (at j h .set .few) p q m n;
     }
   where
-    at : (j : ℕ) → j < 2 → CaseShown g w r j (getD (ok c ∷ err d ∷ []) j no-case)
+    at : (j : ℕ) → j < 2 → CaseAndSet g w r j (getD (ok c ∷ err d ∷ []) j no-case)
     at zero h = x
     at (suc zero) h = y
     at (suc (suc j)) h = absurd (omega arith)
@@ -106,8 +108,8 @@ two-cases {g} few {r} here {w} slots total {c} {d} other x y =
     apart i j e f =
         rw (e, f)
         (placed-apart slots (omega arith) (omega arith) (omega arith)
-        (λ a b u v z. other (sym (owner-ok (x .case) u) ∙ z ∙ owner-err (y .case) v)) (placed few here (x .case))
-        (placed few here (y .case)) (x .set .few) (y .set .few))
+        (λ a b u v z. other (sym (owner-ok (x .case) u) ∙ z ∙ owner-err (y .case) v)) (case-placed few here (x .case))
+        (case-placed few here (y .case)) (x .set .few) (y .set .few))
 
 -- What the words show then; of the regions only r changes.
 pub record SplitShown (g : Graph) (w w′ : List ℕ) (s : NestState) (r : ℕ) (cs : List MaybeClaimedRegion) : Type 0 where
@@ -173,8 +175,8 @@ module _ {g : Graph} (few : length (g .regions) ≤ 32) {r : ℕ} (here : r < le
       let w₃ = stored-all w₂ cases (10 * 0) row₀ in
       let one₃ = one-row w₂ 0 row₀ (omega arith) in
       let room₃ = one₃ .only .words in
-      let first : CaseShown g w₃ r 0 (ok c) =
-      subst (λ y. CaseShown g (stored-all w₂ cases (10 * 0) (case-words y ++ given)) r 0 (ok c)) same-case
+      let first : CaseAndSet g w₃ r 0 (ok c) =
+      subst (λ y. CaseAndSet g (stored-all w₂ cases (10 * 0) (case-words y ++ given)) r 0 (ok c)) same-case
       (claimed-row w₂ (omega arith) {r = r} {j = 0} (omega arith) given refl claimed₂
       (λ k h. subst (λ vs. Names (getD given k 0) (getD vs k (undef 0))) (sym inputs) (given-all-name bundle is k h))) in
       let slots₃ = slots-stay (λ a h. one₃ .starts a) slots₂ in
@@ -184,8 +186,8 @@ module _ {g : Graph} (few : length (g .regions) ≤ 32) {r : ℕ} (here : r < le
       let row₁ = case-words (unclaimed-case 3 start n) in
       let w₄ = stored-all w₃ cases (10 * 1) row₁ in
       let one₄ = one-row w₃ 1 row₁ (omega arith) in
-      let second : CaseShown g w₄ r 1 (err (take i d ++ drop (suc i) d)) =
-      subst (λ b. CaseShown g (stored-all w₃ cases (10 * 1) (case-words (unclaimed-case 3 b n))) r 1 (err (take i d ++ drop (suc i) d)))
+      let second : CaseAndSet g w₄ r 1 (err (take i d ++ drop (suc i) d)) =
+      subst (λ b. CaseAndSet g (stored-all w₃ cases (10 * 1) (case-words (unclaimed-case 3 b n))) r 1 (err (take i d ++ drop (suc i) d)))
       start₃ (others-row w₃ (omega arith) {r = r} {j = 1} (omega arith) left₃) in
       let first₄ = shown-stays one₄ clash slots₃ few here first in
       let only = only-then only₂ (only-then (one₃ .only) (one₄ .only)) in

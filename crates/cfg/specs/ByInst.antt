@@ -14,7 +14,6 @@ use Rattle.fields.specs.Shape.{value-is, terminator-is}
 use Rattle.fields.specs.declared.shape.Value.{Value}
 use Rattle.fields.specs.declared.shape.Terminator.{Terminator}
 use Rattle.fields.specs.declared.shape.Terminator.the-variants.{Unreachable, Return, ExitInvocation, Branch, SelectBool, SelectNumber}
-use Rattle.state.specs.declared.cells.Cell.{Cell}
 use Rattle.state.specs.declared.cases.Case.{Case}
 use Rattle.state.specs.declared.defined.Defined.{Defined}
 use Rattle.state.specs.declared.defined.Defined.the-variants.{Number}
@@ -30,12 +29,7 @@ use Rattle.state.specs.declared.defined.Made.the-variants.{Done, Full}
 use Rattle.selects.specs.declared.define.Scrutinee.the-variants as scrutinee
 use Rattle.selects.specs.Into.{StructurizesInto}
 use Rattle.cfg.specs.ByState.{backedge-at}
-
-abbrev pub blocks-cell : ℕ → Cell
-blocks-cell r = record { tag = 1; before = 0; a = r; b = 0; c = 0; d = 0 }
-
-abbrev pub exit-cell : ℕ → ℕ → ℕ → Cell
-exit-cell before node r = record { tag = 3; before = before; a = node; b = r; c = 0; d = 0 }
+use Rattle.shown.specs.CellSteps.{blocks-cell, exit-cell}
 
 pub data AddsBlocks (g : Graph) (w : List ℕ) (r : ℕ) (w′ : List ℕ) : Type 0 where
   no-blocks : length (region g r .blocks) ≡ 0 → w′ ≡ stored w children r 0 → AddsBlocks g w r w′

@@ -12,7 +12,7 @@ use Rattle.state.specs.Sections.{word, stored, kinds, backedges, bodies, childr
 use Rattle.state.specs.Tables.{find-by}
 use Rattle.state.specs.declared.defined.Made.{Made}
 use Rattle.state.specs.declared.defined.Made.the-variants.{Done, Full}
-use Rattle.loops.specs.Loops.{Structurizes}
+use Rattle.loops.specs.Loops.{StructurizesLoop}
 use Rattle.cfg.specs.declared.claim.Claim.{Claim}
 use Rattle.cfg.specs.declared.claim.Claim.the-variants.{Claimed, Unclaimed, Refused}
 
@@ -32,7 +32,7 @@ pub data ClaimsBody (g : Graph) (w : List ℕ) (r : ℕ) (w′ : List ℕ) : Cla
   none-found : (word (as-claimed w r) backedges r ≡ 0 → ⊥) → backedge-at (as-claimed w r) r ≡ 65535 → w′ ≡ as-claimed w r
       → ClaimsBody g w r w′ Claimed
   by-loop : {made : Made} {a : Claim} → (word (as-claimed w r) backedges r ≡ 0 → ⊥) → (backedge-at (as-claimed w r) r ≡ 65535 → ⊥)
-      → Structurizes r (backedge-at (as-claimed w r) r) (as-claimed w r) w′ made → a ≡ claim-of made → ClaimsBody g w r w′ a
+      → StructurizesLoop r (backedge-at (as-claimed w r) r) (as-claimed w r) w′ made → a ≡ claim-of made → ClaimsBody g w r w′ a
 
 pub data ClaimsByState (g : Graph) (w : List ℕ) (r n incoming : ℕ) (w′ : List ℕ) : Claim → Type 0 where
   ready-claimed : {a : Claim} → word w kinds r ≡ 2 → incoming ≡ n + word w backedges r → ClaimsBody g w r w′ a
@@ -90,7 +90,7 @@ module _ (g : Graph) (w : List ℕ) {w₁ w₂ : List ℕ} (r : ℕ) (claims : w
     pub body-without : p ≡ 65535 → ClaimsBody g w r w₂ Claimed
     body-without e = none-found (λ z. some (backedges-read ∙ z)) (sym found-at ∙ e) now-claimed
 
-    pub body-loop : (p ≡ 65535 → ⊥) → {w₃ : List ℕ} {made : Made} → Structurizes r p w₂ w₃ made → {a : Claim}
+    pub body-loop : (p ≡ 65535 → ⊥) → {w₃ : List ℕ} {made : Made} → StructurizesLoop r p w₂ w₃ made → {a : Claim}
         → a ≡ claim-of made → ClaimsBody g w r w₃ a
     body-loop d f e = by-loop (λ z. some (backedges-read ∙ z)) (λ z. d (found-at ∙ z)) (rw (now-claimed, found-at) at f) e
 

@@ -43,23 +43,24 @@ mutual
   pub data TriesClaim (g : Graph) (counts : List ℕ) : List ℕ → ℕ → ℕ → List ℕ → Claim → Type 0 where
     no-region : {w w′ : List ℕ} {r n : ℕ} → 32 ≤ r → w′ ≡ attempted w → TriesClaim g counts w r n w′ (Refused 0 r)
     refused-inside : {w w′ : List ℕ} {r n number x : ℕ} → NotBegun (attempted w) r
-        → Structurizes g counts (attempted w) r w′ (step.Refused number x) → TriesClaim g counts w r n w′ (Refused number x)
-    first-claim : {w w₁ w′ : List ℕ} {r n : ℕ} {a : Claim} → NotBegun (attempted w) r → Structurizes g counts (attempted w) r w₁ step.Done
+        → StructurizesRegion g counts (attempted w) r w′ (step.Refused number x) → TriesClaim g counts w r n w′ (Refused number x)
+    first-claim : {w w₁ w′ : List ℕ} {r n : ℕ} {a : Claim} → NotBegun (attempted w) r
+        → StructurizesRegion g counts (attempted w) r w₁ step.Done
         → ClaimsByState g w₁ r n (getD counts r 0) w′ a → TriesClaim g counts w r n w′ a
     later-claim : {w w′ : List ℕ} {r n : ℕ} {a : Claim} → r < 32 → (word (attempted w) kinds r ≡ 0 → ⊥)
         → ClaimsByState g (attempted w) r n (getD counts r 0) w′ a → TriesClaim g counts w r n w′ a
 
-  pub data Structurizes (g : Graph) (counts : List ℕ) : List ℕ → ℕ → List ℕ → Step → Type 0 where
+  pub data StructurizesRegion (g : Graph) (counts : List ℕ) : List ℕ → ℕ → List ℕ → Step → Type 0 where
     refused-at-targets : {w w′ : List ℕ} {r number x : ℕ} → TargetRegions g counts (stored w kinds r 1) r 0 w′ (step.Refused number x)
-        → Structurizes g counts w r w′ (step.Refused number x)
+        → StructurizesRegion g counts w r w′ (step.Refused number x)
     refused-at-inst : {w w₁ w′ : List ℕ} {r : ℕ} → TargetRegions g counts (stored w kinds r 1) r 0 w₁ step.Done
-        → ByControlInst g w₁ r w′ made.Full → Structurizes g counts w r w′ (step.Refused 9 0)
+        → ByControlInst g w₁ r w′ made.Full → StructurizesRegion g counts w r w′ (step.Refused 9 0)
     refused-at-edges : {w w₁ w₂ w′ : List ℕ} {r number x : ℕ} → TargetRegions g counts (stored w kinds r 1) r 0 w₁ step.Done
         → ByControlInst g w₁ r w₂ made.Done → ResolvesAll g counts w₂ r w′ (step.Refused number x)
-        → Structurizes g counts w r w′ (step.Refused number x)
+        → StructurizesRegion g counts w r w′ (step.Refused number x)
     structurized : {w w₁ w₂ w₃ w′ : List ℕ} {r : ℕ} → TargetRegions g counts (stored w kinds r 1) r 0 w₁ step.Done
         → ByControlInst g w₁ r w₂ made.Done → ResolvesAll g counts w₂ r w₃ step.Done → w′ ≡ made-ready w₃ r
-        → Structurizes g counts w r w′ step.Done
+        → StructurizesRegion g counts w r w′ step.Done
 
   -- Region r's targets from place j on.
   pub data TargetRegions (g : Graph) (counts : List ℕ) : List ℕ → ℕ → ℕ → List ℕ → Step → Type 0 where

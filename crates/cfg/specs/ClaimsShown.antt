@@ -26,9 +26,9 @@ use Rattle.nesting.specs.Nesting.{has-children, count-to}
 use Rattle.nesting.specs.steps.RegionsLeft.{state-of, with-state, not-begun-one}
 use Rattle.nesting.specs.steps.Post.{Post}
 use Rattle.meaning.specs.facts.Elements.{extends-refl}
-use Rattle.meaning.specs.facts.Tests.{clash}
+use Rattle.meaning.specs.facts.Tests.{clash, pick-and}
 use Rattle.follows.specs.simulation.Defined.{Grew, IfDone}
-use Rattle.follows.specs.simulation.Invariant.{Inv, Later, inv-grew}
+use Rattle.follows.specs.simulation.Invariant.{Inv, LaterState, inv-grew}
 use Rattle.follows.specs.simulation.Claims.{claim-post, structurize-region-post}
 use Rattle.follows.specs.simulation.Usable.{EdgesUsable}
 use Rattle.follows.specs.simulation.ValidUse.{edges-of-usable}
@@ -58,11 +58,11 @@ use Rattle.cfg.specs.declared.claims.SplitOut.the-variants as split-vari
 use Rattle.cfg.specs.ByState.{ClaimsByState, unclaimed-word, is-trivial}
 use Rattle.cfg.specs.ByInst.{ByControlInst, ResolvesBy}
 use Rattle.cfg.specs.Claims.{NotBegun, own-target, own-count, TriesClaim, no-region, refused-inside, first-claim}
-use Rattle.cfg.specs.Claims.{later-claim, Structurizes, refused-at-targets, refused-at-inst, refused-at-edges, structurized}
+use Rattle.cfg.specs.Claims.{later-claim, StructurizesRegion, refused-at-targets, refused-at-inst, refused-at-edges, structurized}
 use Rattle.cfg.specs.Claims.{TargetRegions, no-target, target-refused, target-claimed, target-waits, Scans, no-bundle-left}
 use Rattle.cfg.specs.Claims.{passes-return, passes-waiting, claims-bundle, scan-refused, SplitsOut, splits-out, Resolves, no-turn}
 use Rattle.cfg.specs.Claims.{nothing-claimed, claim-refused, select-refused, claims-and, ResolvesAll, resolves-all}
-use Rattle.cfg.specs.Shows.{Held, still-held, Unharmed, unharmed-same, unharmed-then, unharmed-around, Around, around-same}
+use Rattle.cfg.specs.Shows.{Occupied, still-occupied, Unharmed, unharmed-same, unharmed-then, unharmed-around, Around, around-same}
 use Rattle.cfg.specs.Shows.{around-then, around-but}
 use Rattle.cfg.specs.Shows.{cells-in-all, owed-stays, world, K, CanClaim, ClaimShows}
 use Rattle.cfg.specs.Shows.{shows-claimed, shows-unclaimed, shows-refused, TakenAs, was-claimed, was-deferred, was-nothing}
@@ -72,7 +72,7 @@ use Rattle.cfg.specs.Shows.{TurnsShow, shows-turns, RegionShows, shows-r
 use Rattle.cfg.specs.Shows.{if-claimed, if-unclaimed, if-refused, if-targets, if-targets-refused, if-body, if-full, if-split}
 use Rattle.cfg.specs.Shows.{if-turns}
 use Rattle.cfg.specs.Shows.{if-turns-refused, if-ready}
-use Rattle.cfg.specs.TargetsShown.{Noted, notes, noted-cells, held-other, FirstNew, can-first, can-next, targets-more}
+use Rattle.cfg.specs.TargetsShown.{Noted, notes, noted-cells, claimed-other, FirstNew, can-first, can-next, targets-more}
 use Rattle.cfg.specs.ScansShown.{own-bundle-shown, CanScan, bundle-live, bundle-counts, can-claim-bundle, scan-on}
 use Rattle.cfg.specs.ScansShown.{scan-past-return, passed-return, passed-waiting, scan-claims, scan-refusal}
 use Rattle.cfg.specs.TurnsShown.{CanTurn, can-scan, few-in-cases, right-in-cases, turn-on, first-done, turns-nothing, turns-refuse}
@@ -81,20 +81,20 @@ use Rattle.cfg.specs.RegionsShown.{CanBegin, can-targets, inv-targets, f
 use Rattle.cfg.specs.RegionsShown.{begun-cells, beside-kind}
 use Rattle.cfg.specs.RegionsShown.{region-unharmed, ready-shown, ready-beside, ready-cells}
 
--- What is held is a region of the record.
-pub held-below : (w : List ℕ) (q : ℕ) → Held w q → q < 32
-held-below w q h = elim (decLt q 32) [
+-- What is occupied is a region of the record.
+pub occupied-below : (w : List ℕ) (q : ℕ) → Occupied w q → q < 32
+occupied-below w q h = elim (decLt q 32) [
   | yes l ↦ l
   | no l ↦ (let z = read-beyond (start kinds) (size kinds) w q (omega arith) in absurd
       (go h z))
 ]
   where
-    go : Held w q → word w kinds q ≡ 0 → ⊥
+    go : Occupied w q → word w kinds q ≡ 0 → ⊥
     go (inl e) z = absurd (omega arith)
     go (inr e) z = absurd (omega arith)
 
 -- ---- What the other files show, of a graph and of the counts that the code was given.
-pub record Parts (g : Graph) (valid : Valid g) : Type 0 where
+pub record ShownParts (g : Graph) (valid : Valid g) : Type 0 where
   pub few : length (g .regions) ≤ 32
   pub few-targets : (r : ℕ) → length (edges-of (region g r .terminator)) ≤ 8
   pub few-incoming : (q : ℕ) → K g valid .incoming q ≤ 65534
@@ -144,9 +144,9 @@ some-kind (is-in-progress a) d = refl
 some-kind (is-ready a b c e) d = refl
 some-kind (is-claimed a) d = refl
 
-not-held : (w : List ℕ) (r : ℕ) → word w kinds r ≡ 0 → Held w r → ⊥
-not-held w r e (inl p) = absurd (omega arith)
-not-held w r e (inr p) = absurd (omega arith)
+not-occupied : (w : List ℕ) (r : ℕ) → word w kinds r ≡ 0 → Occupied w r → ⊥
+not-occupied w r e (inl p) = absurd (omega arith)
+not-occupied w r e (inr p) = absurd (omega arith)
 
 -- ---- An edge that was not claimed: nothing, or its own.
 module _ {g : Graph} {w : List ℕ} (r j : ℕ) (e : Edge) (noted : taken-word w r j ≡ unclaimed-word w (e .target)) where
@@ -160,7 +160,7 @@ module _ {g : Graph} {w : List ℕ} (r j : ℕ) (e : Edge) (noted : taken-word w
       (has-list n) in
       let none : eqb (word w set-lengths (e .target)) 0 ≡ empty d = ap (λ k. eqb k 0) (s .size) ∙ go₂ d in
       let all : is-trivial w (e .target) ≡ (empty d && not (has-children ks)) =
-      rw (eq-eqb (word w kinds (e .target)) 2 a, none, childless) (go₃ (empty d) (not (has-children ks))) in
+      rw (eq-eqb (word w kinds (e .target)) 2 a, none, childless) (pick-and (empty d) (not (has-children ks))) in
       go (empty d && not (has-children ks)) (noted ∙ ap (λ t. pick t 0 1) all)
     where
       go₁ : (t : Bool) → has-children ks ≡ not t → t ≡ not (has-children ks)
@@ -170,10 +170,6 @@ module _ {g : Graph} {w : List ℕ} (r j : ℕ) (e : Edge) (noted : taken-word w
       go₂ : (l : DeferredEdgeBundleSet) → eqb (length l) 0 ≡ empty l
       go₂ [] = refl
       go₂ (x ∷ l) = ne-eqb (suc (length l)) 0 (omega arith)
-
-      go₃ : (p q : Bool) → pick p q false ≡ (p && q)
-      go₃ true q = refl
-      go₃ false q = refl
 
       go : (t : Bool) → taken-word w r j ≡ pick t 0 1 → TakenAs g w r j e (pick t (err []) (defer-edge e))
       go true p = was-nothing refl p
@@ -211,7 +207,7 @@ module _ {g : Graph} {w : List ℕ} {s : NestState} (shown : ShowsState g w s) (
 
 -- What is shown from later words on, from earlier ones on.
 claim-before : {g : Graph} {w w₁ w′ : List ℕ} {r : ℕ} {inputs : List Value} {b b′ : StepAnswer (Option ClaimedRegion)} {a : code.Claim}
-    → Unharmed g w w₁ → (Held w r → Held w₁ r) → cells-in-all w₁ ≤ cells-in-all w → b ≡ b′ → ClaimShows g w₁ w′ r inputs b′ a
+    → Unharmed g w w₁ → (Occupied w r → Occupied w₁ r) → cells-in-all w₁ ≤ cells-in-all w → b ≡ b′ → ClaimShows g w₁ w′ r inputs b′ a
     → ClaimShows g w w′ r inputs b a
 claim-before u on c e (shows-claimed {c = y} {s′} p st cl o i f v k) =
     shows-claimed {c = y} {s′ = s′} (e ∙ p) st cl o i (λ h. f (on h)) (unharmed-then u v) (omega arith)
@@ -306,8 +302,8 @@ module _ (g : Graph) (valid : Valid g) (fuel : ℕ) (H : ℕ → ℕ) (r n : ℕ
     can-after : CanClaim g valid (suc fuel) H edges 0 s₁
     can-after =
         let st = counted-as (K g valid) (begun-counted .step) 0 0 edges edges (omega arith) (λ q. omega arith) in
-        let i : Inv (world g valid) s₁ × Later (world g valid) (add-attempt s) s₁ =
-        subst (λ a. IfDone (λ u s′. Inv (world g valid) s′ × Later (world g valid) (add-attempt s) s′) a) p
+        let i : Inv (world g valid) s₁ × LaterState (world g valid) (add-attempt s) s₁ =
+        subst (λ a. IfDone (λ u s′. Inv (world g valid) s′ × LaterState (world g valid) (add-attempt s) s′) a) p
         (structurize-region-post (world g valid) (try-claim-edge-bundle g (incoming-edge-counts g) fuel)
         (claim-post (world g valid) (incoming-edge-counts g) fuel) r in-graph live (add-attempt s) inv-first fresh) .post in
         record {
@@ -317,13 +313,13 @@ module _ (g : Graph) (valid : Valid g) (fuel : ℕ) (H : ℕ → ℕ) (r n : ℕ
         }
 
 -- ---- Which target a word stands for.
-record Goes (g : Graph) (x : ℕ) (y : DeferredTarget) : Type 0 where
+record GoesTo (g : Graph) (x : ℕ) (y : DeferredTarget) : Type 0 where
   region : ℕ
   is : y ≡ to-region region
   word : x ≡ region
   in-graph : region < length (g .regions)
 
-goes-there : {g : Graph} {x : ℕ} {y : DeferredTarget} → ShowsTarget g x y → (x ≡ 65535 → ⊥) → Goes g x y
+goes-there : {g : Graph} {x : ℕ} {y : DeferredTarget} → ShowsTarget g x y → (x ≡ 65535 → ⊥) → GoesTo g x y
 goes-there (shows-region {r} e l) d = record { region = r; is = refl; word = e; in-graph = l }
 goes-there (shows-return e) d = absurd (d e)
 
@@ -346,9 +342,9 @@ abbrev origin-of : MaybeClaimedRegion → ℕ
 origin-of (ok c) = c .origin
 origin-of (err d) = 0
 
-held-noted : {g : Graph} {w w′ : List ℕ} {r j y : ℕ} → Noted g w w′ r j y → (q : ℕ) → Held w q → Held w′ q
-held-noted n q (inl e) = inl (n .concerns .same-kinds q ∙ e)
-held-noted n q (inr e) = inr (n .concerns .same-kinds q ∙ e)
+occupied-noted : {g : Graph} {w w′ : List ℕ} {r j y : ℕ} → Noted g w w′ r j y → (q : ℕ) → Occupied w q → Occupied w′ q
+occupied-noted n q (inl e) = inl (n .concerns .same-kinds q ∙ e)
+occupied-noted n q (inr e) = inr (n .concerns .same-kinds q ∙ e)
 
 -- What is noted of region r is not what tells of an edge's target.
 unclaimed-same : {g : Graph} {w w′ : List ℕ} {r j y : ℕ} → Noted g w w′ r j y → (t : ℕ) → unclaimed-word w′ t ≡ unclaimed-word w t
@@ -358,10 +354,10 @@ unclaimed-same n t = rw (n .concerns .same-kinds t, n .lengths t, n .handles t)
 busy-there : {g : Graph} {w : List ℕ} {s : NestState} → ShowsState g w s → (r : ℕ) → NotBegun w r → word (stored w kinds r 1) kinds r ≡ 1
 busy-there {w} shown r new = let room = shown .tables .size in word-there w kinds r 1 (omega arith) (new .below)
 
--- The region that a scan claimed was not held before.
-taken-new : (w : List ℕ) (y : SplitOut) (t : ℕ) → y .claimed-region .origin ≡ t → (Held w t → ⊥) → (j : ℕ) (c : ClaimedRegion)
-    → getD (ok (y .claimed-region) ∷ err (y .others) ∷ []) j no-case ≡ ok c → Held w (c .origin) → ⊥
-taken-new w y t o free zero c e h = free (subst (λ q. Held w q) (ap origin-of (sym e) ∙ o) h)
+-- The region that a scan claimed was not occupied before.
+taken-new : (w : List ℕ) (y : SplitOut) (t : ℕ) → y .claimed-region .origin ≡ t → (Occupied w t → ⊥) → (j : ℕ) (c : ClaimedRegion)
+    → getD (ok (y .claimed-region) ∷ err (y .others) ∷ []) j no-case ≡ ok c → Occupied w (c .origin) → ⊥
+taken-new w y t o free zero c e h = free (subst (λ q. Occupied w q) (ap origin-of (sym e) ∙ o) h)
 taken-new w y t o free (suc zero) c e h = clash (cc)
 taken-new w y t o free (suc (suc j)) c e h = clash (cc)
 
@@ -380,7 +376,7 @@ module _ {g : Graph} {w w₁ : List ℕ} {r j : ℕ} {s₁ : NestState} (few : l
     (few-targets : length (edges-of (region g r .terminator)) ≤ 8) (in-graph : r < length (g .regions)) (busy : word w kinds r ≡ 1)
     (h : j < length (edges-of (region g r .terminator))) where
   claimed-next : {y : ClaimedRegion} → ShowsState g w₁ s₁ → ShowsClaimed g w₁ y → y .origin ≡ edge-of g r j .target
-      → y .structured-body-inputs ≡ edge-of g r j .inputs → (Held w (edge-of g r j .target) → ⊥) → Unharmed g w w₁
+      → y .structured-body-inputs ≡ edge-of g r j .inputs → (Occupied w (edge-of g r j .target) → ⊥) → Unharmed g w w₁
       → NextStep g w w₁ (taken-stored w₁ r j 2) r j 2 (ok y) s₁
   claimed-next {y} st cl o i free u =
       let below : r < 32 = omega arith in
@@ -397,12 +393,12 @@ module _ {g : Graph} {w w₁ : List ℕ} {r j : ℕ} {s₁ : NestState} (few : l
         busy = noted .concerns .same-kinds r ∙ busy₁;
         taken = was-claimed refl (noted .here)
             (claimed-stays (noted .concerns .later)
-            (noted .concerns .others (y .origin) (let z = cl .in-graph in omega arith) (held-other w₁ busy₁ (cl .kind)))
+            (noted .concerns .others (y .origin) (let z = cl .in-graph in omega arith) (claimed-other w₁ busy₁ (cl .kind)))
             (noted .concerns .same-kinds (y .origin)) cl) o i;
         first = record {
-          free = λ z e hd. free (subst (λ q. Held w q) (ap origin-of (sym e) ∙ o) hd);
-          held = λ z e. held-noted noted (z .origin) (inr (subst (λ q. word w₁ kinds q ≡ 3) (ap origin-of e) (cl .kind)));
-          on = λ q hd. held-noted noted q (still-held u q (held-below w q hd) hd);
+          free = λ z e hd. free (subst (λ q. Occupied w q) (ap origin-of (sym e) ∙ o) hd);
+          occupied = λ z e. occupied-noted noted (z .origin) (inr (subst (λ q. word w₁ kinds q ≡ 3) (ap origin-of e) (cl .kind)));
+          on = λ q hd. occupied-noted noted q (still-occupied u q (occupied-below w q hd) hd);
         };
       }
 
@@ -427,8 +423,8 @@ module _ {g : Graph} {w w₁ : List ℕ} {r j : ℕ} {s₁ : NestState} (few : l
         taken = unclaimed-taken r j e (noted .here ∙ sym (unclaimed-same noted (e .target))) (st₂ .regions (e .target) target);
         first = record {
           free = λ z q. absurd (unclaimed-not e (state-of s₁ (e .target)) z q);
-          held = λ z q. absurd (unclaimed-not e (state-of s₁ (e .target)) z q);
-          on = λ q hd. held-noted noted q (still-held u q (held-below w q hd) hd);
+          occupied = λ z q. absurd (unclaimed-not e (state-of s₁ (e .target)) z q);
+          on = λ q hd. occupied-noted noted q (still-occupied u q (occupied-below w q hd) hd);
         };
       }
 
@@ -442,7 +438,7 @@ targets-over g valid fuel r j s {w} shown =
     (omega arith)
 
 -- ---- The cycle.
-module _ (g : Graph) (valid : Valid g) (parts : Parts g valid) (counts : List ℕ)
+module _ (g : Graph) (valid : Valid g) (parts : ShownParts g valid) (counts : List ℕ)
     (right : (r : ℕ) → r < length (g .regions) → getD counts r 0 ≡ getD (incoming-edge-counts g) r 0) where
   live-below : (r : ℕ) → is-in r (K g valid .live) ≡ true → r < length (g .regions)
   live-below r l = K g valid .below r l
@@ -476,7 +472,7 @@ module _ (g : Graph) (valid : Valid g) (parts : Parts g valid) (counts : List �
       → ShowsState g w₁ s₁ → i < length (x .deferred-edges) → y .bundle ≡ getD (x .deferred-edges) i no-bundle
       → y .others ≡ take i (x .deferred-edges) ++ drop (suc i) (x .deferred-edges) → y .bundle .target ≡ to-region t
       → ShowsClaimed g w₁ (y .claimed-region) → y .claimed-region .origin ≡ t
-      → y .claimed-region .structured-body-inputs ≡ y .bundle .target-inputs → (Held w t → ⊥) → Unharmed g w w₁ → cells-in-all w₁ ≤ 641
+      → y .claimed-region .structured-body-inputs ≡ y .bundle .target-inputs → (Occupied w t → ⊥) → Unharmed g w w₁ → cells-in-all w₁ ≤ 641
       → BodyShows g w₁ w₂ r (ok (y .claimed-region) ∷ err (y .others) ∷ []) 4
       (structurize-select-into g (x .children) bool-cond (lazy (condition-in (x .deferred-edges) (y .bundle)))
       (ok (y .claimed-region) ∷ err (y .others) ∷ []) s₁) a
@@ -531,7 +527,7 @@ module _ (g : Graph) (valid : Valid g) (parts : Parts g valid) (counts : List �
   -- The claim of bundle i of region r's set.
   bundle-claim : {w w₁ : List ℕ} (r i : ℕ) {a : code.Claim} → ClaimFor w w₁ (own-target w r i) (own-count w r i) a → (fuel : ℕ)
       (H : ℕ → ℕ) (s : NestState) (d : DeferredEdgeBundleSet) → ShowsState g w s → cells-in-all w ≤ 641 → ShowsOwnSet g w r d
-      → (l : i < length d) → CanScan g valid fuel H d i s → (there : Goes g (own-target w r i) (getD d i no-bundle .target))
+      → (l : i < length d) → CanScan g valid fuel H d i s → (there : GoesTo g (own-target w r i) (getD d i no-bundle .target))
       → ClaimShows g w w₁ (there .region) (getD d i no-bundle .target-inputs)
       (defined fuel (there .region) (getD d i no-bundle .accumulated-count) (getD d i no-bundle .target-inputs) s) a
   bundle-claim {w} {w₁} r i {a} c fuel H s d shown room own l can there =
@@ -561,7 +557,7 @@ module _ (g : Graph) (valid : Valid g) (parts : Parts g valid) (counts : List �
         let result = parts .by-state (subst (λ m. ClaimsByState g (attempted w) r n m w′ a) (right r in-graph) c) (suc fuel) H
         (add-attempt s)
         inputs at (let z = attempt-cells shown few in omega arith) live many d (can-later g valid fuel H r n s in-graph live pos can) in
-        claim-before (attempt-unharmed shown few) (λ x. still-held (attempt-unharmed shown few) r h x)
+        claim-before (attempt-unharmed shown few) (λ x. still-occupied (attempt-unharmed shown few) r h x)
         (let z = attempt-cells shown few in omega arith) (begun-before g fuel r n inputs s (state-of s r) refl old) result
     claim-shown {w} {r} {n} (refused-inside b t) (suc fuel) H s inputs shown room live pos many can =
         let in-graph = live-below r live in
@@ -586,9 +582,9 @@ module _ (g : Graph) (valid : Valid g) (parts : Parts g valid) (counts : List �
         let result = parts .by-state (subst (λ m. ClaimsByState g w₁ r n m w′ a) (right r in-graph) c) (suc fuel) H s₁ inputs st
         (omega arith)
         live many (kind-some r (st .regions r in-graph) old) after in
-        claim-before v (λ x. absurd (not-held w r z x)) (omega arith) (begun-now g fuel r n inputs s fresh p) result
+        claim-before v (λ x. absurd (not-occupied w r z x)) (omega arith) (begun-now g fuel r n inputs s fresh p) result
 
-    pub region-shown : {w w′ : List ℕ} {r : ℕ} {a : Step} → Structurizes g counts w r w′ a → (fuel : ℕ) (H : ℕ → ℕ) (s : NestState)
+    pub region-shown : {w w′ : List ℕ} {r : ℕ} {a : Step} → StructurizesRegion g counts w r w′ a → (fuel : ℕ) (H : ℕ → ℕ) (s : NestState)
         → ShowsState g w s → cells-in-all w ≤ 641 → NotBegun w r → CanBegin g valid fuel H r s
         → RegionShows g w w′ (structurize-region g (defined fuel) r s) a
     region-shown (refused-at-targets {number} {x} t) fuel H s shown room new can =
@@ -614,7 +610,7 @@ module _ (g : Graph) (valid : Valid g) (parts : Parts g valid) (counts : List �
         let all = around-then (around-but ar ar₂ (newly .free)) ar₃ in
         let busy : word w₃ kinds r ≡ 1 = all .kinds-stay r (new .below) (inl (busy-there shown r new)) ∙ busy-there shown r new in
         let last = ready-shown st₃ (parts .few) r (can .in-graph) busy z body₃ in
-        let unharmed = region-unharmed (not-held w r (new .kind)) (beside-kind g w r 1) all
+        let unharmed = region-unharmed (not-occupied w r (new .kind)) (beside-kind g w r 1) all
         (ready-beside st₃ (parts .few) r (can .in-graph) busy z body₃) in
         let c₀ = begun-cells shown (parts .few) r (can .in-graph) (new .kind) in
         let c₁ = ready-cells st₃ (parts .few) r (can .in-graph) busy z body₃ in
@@ -696,7 +692,7 @@ module _ (g : Graph) (valid : Valid g) (parts : Parts g valid) (counts : List �
         if-unclaimed (bundle-claim r i (λ f h z v a b l n m x. claim-shown c f h z v a b l n m x) fuel H s d shown room own l can there)
         λ s₁ f st u k.
         let below : r < 32 = (let z = parts .few in omega arith) in
-        passed-waiting g valid fuel d i l s p f (λ z hd. still-held u z (held-below w z hd) hd) u (omega arith)
+        passed-waiting g valid fuel d i l s p f (λ z hd. still-occupied u z (occupied-below w z hd) hd) u (omega arith)
         (scan-shown t fuel H s₁ d st (omega arith) in-graph (u .kinds-stay r below (inl busy) ∙ busy)
         (own-set-stays (u .later) (u .regions-stay r below (inl busy)) own) size
         (scan-on g valid fuel H d i l s can (there .region) p (there .in-graph) f))

@@ -42,7 +42,8 @@ use Rattle.cfg.specs.Left.{steady-claim}
 use Rattle.cfg.specs.Shows.{K, world, CanClaim, ClaimShows, owed-at-start, if-claimed, if-unclaimed, if-refused}
 use Rattle.cfg.specs.ScansShown.{own-bundle-shown}
 use Rattle.cfg.specs.ClaimsShown.{claim-shown}
-use Rattle.cfg.specs.WholeShown.{parts, few-targets, few-live, total-within}
+use Rattle.meaning.specs.facts.Sums.{total-within}
+use Rattle.cfg.specs.WholeShown.{parts, few-targets, few-live}
 
 abbrev pub outcome-code : Outcome → code.Nested
 outcome-code untouched = Untouched

@@ -45,7 +45,7 @@ use Rattle.bundles.specs.ReadTypes.{TypeRead, end-types-read}
 use Rattle.bundles.specs.RecordValues.{usable-names, few-edges}
 use Rattle.bundles.specs.Deferred.{return-deferred-only, return-deferred-kept, return-deferred-state, return-deferred-shown}
 use Rattle.bundles.specs.CasesFilled as filling
-use Rattle.bundles.specs.CasesFilled.{Taken, filled-one, CasesShown, cases-filled-shown}
+use Rattle.bundles.specs.CasesFilled.{Taken, filled-one, FilledCases, cases-filled-shown}
 use Rattle.bundles.specs.Appended.{row-alone, append-shown}
 use Rattle.selects.specs.SelectsShown.{shows-value}
 use Rattle.selects.specs.IntoShown.{into-shown}
@@ -101,7 +101,7 @@ number-edges {g} valid {r} here {v} {es} is =
     omega arith
 
 -- ---- Region r's blocks are its children, and its set is empty.
-record Prepared (g : Graph) (r : ℕ) (w w₂ : List ℕ) (s : NestState) : Type 0 where
+record PreparedInst (g : Graph) (r : ℕ) (w w₂ : List ℕ) (s : NestState) : Type 0 where
   state : ShowsState g w₂ s
   body : ShowsBody g w₂ r (region-body (blocks-of g r) [])
   later : Later g w w₂
@@ -112,7 +112,7 @@ record Prepared (g : Graph) (r : ℕ) (w w₂ : List ℕ) (s : NestState) : Type
 
 module _ {g : Graph} (few : length (g .regions) ≤ 32) {r : ℕ} (here : r < length (g .regions)) where
   list-stored : {w : List ℕ} {s : NestState} → ShowsState g w s → (word w kinds r ≡ 2 → ⊥) → {h : ℕ}
-      → ShowsChildren g w h (blocks-of g r) → Prepared g r w (stored (stored w children r h) set-lengths r 0) s
+      → ShowsChildren g w h (blocks-of g r) → PreparedInst g r w (stored (stored w children r h) set-lengths r 0) s
   unfolding taken-word
   list-stored {w} {s} state unready {h} list =
       let room = state .tables .size in
@@ -147,7 +147,7 @@ module _ {g : Graph} (few : length (g .regions) ≤ 32) {r : ℕ} (here : r < le
       }
 
   prepared : {w w₁ w₂ : List ℕ} {s : NestState} → AddsBlocks g w r w₁ → w₂ ≡ stored w₁ set-lengths r 0 → ShowsState g w s
-      → (word w kinds r ≡ 2 → ⊥) → 1 ≤ word w head 4 → word w head 4 < 704 → Prepared g r w w₂ s
+      → (word w kinds r ≡ 2 → ⊥) → 1 ≤ word w head 4 → word w head 4 < 704 → PreparedInst g r w w₂ s
   unfolding taken-word
   prepared (no-blocks z e) f state unready one free =
       rw (f, e) (list-stored state unready (record { nodes = no-blocks-of _ r 0 (region g r .blocks) z; made = one }))
@@ -173,7 +173,7 @@ module _ {g : Graph} (few : length (g .regions) ≤ 32) {r : ℕ} (here : r < le
       }
 
   -- How the targets were taken, then.
-  taken-on : {w w₂ : List ℕ} {s : NestState} → Prepared g r w w₂ s → {j : ℕ} {m : MaybeClaimedRegion}
+  taken-on : {w w₂ : List ℕ} {s : NestState} → PreparedInst g r w w₂ s → {j : ℕ} {m : MaybeClaimedRegion}
       → ((c : ClaimedRegion) → m ≡ ok c → c .origin ≡ r → ⊥) → TakenAs g w r j (edge-of g r j) m → Taken g w₂ r j m
   taken-on p {j} other (was-claimed {c} e t cl o i) =
       let in-graph = cl .in-graph in
@@ -189,7 +189,8 @@ module _ {g : Graph} (few : length (g .regions) ≤ 32) {r : ℕ} (here : r < le
   was-three (was-deferred e t) d f = absurd (clash (cc))
   was-three (was-nothing e t) d f = absurd (clash (cc))
 
-  done-body : {w w₂ w′ : List ℕ} {s s′ : NestState} {cs : List MaybeClaimedRegion} {b : StepAnswer Body} {x : Body} → Prepared g r w w₂ s
+  done-body : {w w₂ w′ : List ℕ} {s s′ : NestState} {cs : List MaybeClaimedRegion} {b : StepAnswer Body} {x : Body}
+      → PreparedInst g r w w₂ s
       → b ≡ done x s′ → ShowsState g w′ s′ → ShowsBody g w′ r x → Later g w₂ w′
       → ((q : ℕ) → q < 32 → (q ≡ r → ⊥)
       → ((j : ℕ) (c : ClaimedRegion) → j < length cs → getD cs j no-case ≡ ok c → q ≡ c .origin → ⊥) → KeptRegion w₂ w′ q)
@@ -204,7 +205,7 @@ module _ {g : Graph} (few : length (g .regions) ≤ 32) {r : ℕ} (here : r < le
       }) (omega arith)
 
   -- ---- By the terminator's kind.
-  module _ {w w₂ : List ℕ} {s : NestState} (p : Prepared g r w w₂ s) (busy : word w kinds r ≡ 1) (most : word w head 4 ≤ 641) where
+  module _ {w w₂ : List ℕ} {s : NestState} (p : PreparedInst g r w w₂ s) (busy : word w kinds r ≡ 1) (most : word w head 4 ≤ 641) where
     unready : word w₂ kinds r ≡ 2 → ⊥
     unready e = let z = p .same-kinds r in omega arith
 
@@ -289,7 +290,7 @@ module _ {g : Graph} (few : length (g .regions) ≤ 32) {r : ℕ} (here : r < le
         abbrev w₃ : List ℕ
         w₃ = cases-filled g w₂ r
 
-        filled : CasesShown g w₂ w₃ s r cs
+        filled : FilledCases g w₂ w₃ s r cs
         filled = cases-filled-shown valid here cs size (p .state) (λ k h. taken-on p (other k) (each k (omega arith)))
             (λ i j l h c d. apart i j c d l)
 
@@ -368,7 +369,7 @@ module _ (g : Graph) (valid : Valid g) (few : length (g .regions) ≤ 32) where
       let p = prepared few here blocks empty state (omega arith) (omega arith) (omega arith) in
       by p end (inst-kinds (by-inst.by-inst blocks empty end))
     where
-      by : {a : Made} → Prepared g r w w₂ s → ByTerminator g w₂ r w′ a → SameKinds w w′
+      by : {a : Made} → PreparedInst g r w w₂ s → ByTerminator g w₂ r w′ a → SameKinds w w′
           → BodyShows g w w′ r cs 11 (by-control-inst g (blocks-of g r) (region g r .terminator) cs s) a
       by p (at-unreachable e f) same =
           let more = p .total in

@@ -23,7 +23,7 @@ use Rattle.selects.specs.Cases.{all-replaced, inputs-replaced}
 use Rattle.selects.specs.Turns.{front-turns}
 use Rattle.selects.specs.Emits.{Emits, EmitAt, front-bundle}
 use Rattle.selects.specs.Fronts.{front-cases, front-targets, front-plans, front-select, front-made}
-use Rattle.selects.specs.Into.{SelectIf, not-needed, select-refused, select-made, Structurizes, not-structurized, structurized}
+use Rattle.selects.specs.Into.{SelectIf, not-needed, select-refused, select-made, StructurizesSelect, not-structurized, structurized}
 use Rattle.selects.specs.Into.{StructurizesInto, one-follows, one-refused, all-together, all-refused, with-targets}
 use Rattle.selects.specs.Into.{with-plan}
 use Rattle.loops.specs.Inputs.{RewritesValue, looked-up, left-as-is, RewritesValues, none-yet, one-more, TakesInput, lifted, kept, beyond}
@@ -146,7 +146,7 @@ plan-kinds : (g : Graph) (w : List ℕ) → SameKinds w (with-plan g w)
 plan-kinds g w =
     kinds-then (front-cases g w) (kinds-then (front-targets _) (front-plans g (with-targets g w)))
 
-select-kinds : {g : Graph} {r shape : ℕ} {x : Scrutinee} {w w′ : List ℕ} {a : Made} → Structurizes g r shape x w w′ a → SameKinds w w′
+select-kinds : {g : Graph} {r shape : ℕ} {x : Scrutinee} {w w′ : List ℕ} {a : Made} → StructurizesSelect g r shape x w w′ a → SameKinds w w′
 select-kinds {g} {w} (not-structurized s) = kinds-then (plan-kinds g w) (select-if-kinds s)
 select-kinds {g} {w} (structurized {l₁} s e) =
     rw e (kinds-then (plan-kinds g w) (kinds-then (select-if-kinds s) (replaced-kinds l₁ (case-total l₁) 0)))
@@ -199,11 +199,11 @@ unfolding exits-from
 exits-kinds g r start zero i w = kinds-same w
 exits-kinds g r start (suc k) i w = kinds-then (exit-front g r (bundle-at start i) w) (exits-kinds g r start k (suc i) _)
 
-pub loops-kinds : {g : Graph} {r p : ℕ} {w w′ : List ℕ} {a : Made} → Stands w g → loops.Structurizes r p w w′ a → SameKinds w w′
-loops-kinds {g} {r} {p} {w} st (loops.Structurizes.looped {wrapper} {l₃} n d e l x) =
+pub loops-kinds : {g : Graph} {r p : ℕ} {w w′ : List ℕ} {a : Made} → Stands w g → loops.StructurizesLoop r p w w′ a → SameKinds w w′
+loops-kinds {g} {r} {p} {w} st (loops.StructurizesLoop.looped {wrapper} {l₃} n d e l x) =
     let front = kinds-then (swap-removed-kinds w r p) (kinds-then (defines-kinds d) (kinds-then (entered-kinds e)
     (kinds-then (loop-kinds l) (kinds-stored l₃ bodies (omega arith) r wrapper)))) in
     rw (x g (stands-kept front st)) (kinds-then front (exits-kinds g r _ _ 0 (stored l₃ bodies r wrapper)))
-loops-kinds {r} {p} {w} st (loops.Structurizes.no-wrapper d) = kinds-then (swap-removed-kinds w r p) (defines-kinds d)
-loops-kinds {r} {p} {w} st (loops.Structurizes.no-loop n d e l) =
+loops-kinds {r} {p} {w} st (loops.StructurizesLoop.no-wrapper d) = kinds-then (swap-removed-kinds w r p) (defines-kinds d)
+loops-kinds {r} {p} {w} st (loops.StructurizesLoop.no-loop n d e l) =
     kinds-then (swap-removed-kinds w r p) (kinds-then (defines-kinds d) (kinds-then (entered-kinds e) (loop-kinds l)))

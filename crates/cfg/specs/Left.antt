@@ -26,7 +26,7 @@ use Rattle.cfg.specs.ByState.{busy-waits, other-state, as-claimed}
 use Rattle.cfg.specs.ByInst.{AddsExit, exit-full, exit-added, branches, Selects, selects}
 use Rattle.cfg.specs.ByInst.{ByTerminator, at-unreachable, at-return, at-exit, at-branch, at-bool, at-number, ByControlInst, by-inst}
 use Rattle.cfg.specs.ByInst.{ResolvesBy, resolves, made-ready, backedges-deferred, blocks-kinds}
-use Rattle.cfg.specs.Claims.{NotBegun, TriesClaim, no-region, refused-inside, first-claim, later-claim, Structurizes}
+use Rattle.cfg.specs.Claims.{NotBegun, TriesClaim, no-region, refused-inside, first-claim, later-claim, StructurizesRegion}
 use Rattle.cfg.specs.Claims.{refused-at-targets, refused-at-inst, refused-at-edges, structurized, TargetRegions, no-target}
 use Rattle.cfg.specs.Claims.{target-refused, target-claimed, target-waits, Scans, no-bundle-left, passes-return, passes-waiting}
 use Rattle.cfg.specs.Claims.{claims-bundle, scan-refused, SplitsOut, splits-out, Resolves, no-turn, nothing-claimed, claim-refused}
@@ -70,21 +70,21 @@ unfoldable pub left : List ℕ → ℕ
 left w = left-below 32 (section w kinds)
 
 -- ---- The record stands on, and no region more is not begun.
-pub record Steady (w w′ : List ℕ) : Type 0 where
+pub record SteadyRecord (w w′ : List ℕ) : Type 0 where
   pub front : SameFront w w′
   pub fewer : left w′ ≤ left w
 
-pub steady-same : (w : List ℕ) → Steady w w
+pub steady-same : (w : List ℕ) → SteadyRecord w w
 steady-same w = record { front = front-same w; fewer = omega arith }
 
-pub steady-then : {w w₁ w₂ : List ℕ} → Steady w w₁ → Steady w₁ w₂ → Steady w w₂
+pub steady-then : {w w₁ w₂ : List ℕ} → SteadyRecord w w₁ → SteadyRecord w₁ w₂ → SteadyRecord w w₂
 steady-then a b = let x = a .fewer in let y = b .fewer in record { front = front-then (a .front) (b .front); fewer = omega arith }
 
-pub steady-of : {w w′ : List ℕ} → SameKinds w w′ → Steady w w′
+pub steady-of : {w w′ : List ℕ} → SameKinds w w′ → SteadyRecord w w′
 unfolding left
 steady-of s = record { front = s .front; fewer = rw (s .kinds-words) (omega arith) }
 
-pub steady-kind : (w : List ℕ) (r x : ℕ) → (x ≡ 0 → ⊥) → Steady w (stored w kinds r x)
+pub steady-kind : (w : List ℕ) (r x : ℕ) → (x ≡ 0 → ⊥) → SteadyRecord w (stored w kinds r x)
 unfolding left
 steady-kind w r x d =
     record {
@@ -99,14 +99,14 @@ begins-less w r n b =
     rw (section-stored w kinds r 1) (set-less (section w kinds) r 1 (λ e. absurd (omega arith)) (let z = b .below in omega arith)
     (b .kind) 32 (b .below))
 
-pub steady-attempted : (w : List ℕ) → Steady w (attempted w)
+pub steady-attempted : (w : List ℕ) → SteadyRecord w (attempted w)
 unfolding attempted
 steady-attempted w = elim (decLt (word w head 5) 65535) [
   | yes h ↦ rw (lt-ltb (word w head 5) 65535 h) (steady-of (kinds-stored w head (omega arith) 5 (word w head 5 + 1)))
   | no h ↦ rw (le-ltb (word w head 5) 65535 (omega arith)) (steady-same w)
 ]
 
-pub steady-taken : (w : List ℕ) (r j x : ℕ) → Steady w (taken-stored w r j x)
+pub steady-taken : (w : List ℕ) (r j x : ℕ) → SteadyRecord w (taken-stored w r j x)
 unfolding taken-stored
 steady-taken w r j x = elim (decLt j 8) [
   | yes h ↦ rw (lt-ltb j 8 h) (steady-of (kinds-stored w levels (omega arith) (10 * r + j) x))
@@ -114,17 +114,17 @@ steady-taken w r j x = elim (decLt j 8) [
 ]
 
 -- ---- The steps.
-steady-claimed : (w : List ℕ) (r : ℕ) → Steady w (as-claimed w r)
+steady-claimed : (w : List ℕ) (r : ℕ) → SteadyRecord w (as-claimed w r)
 steady-claimed w r = steady-then (steady-kind w r 3 (λ e. absurd (omega arith)))
     (steady-of (kinds-stored (stored w kinds r 3) bodies (omega arith) r r))
 
-steady-body : {g : Graph} {w w′ : List ℕ} {r : ℕ} {a : Claim} → Stands w g → ClaimsBody g w r w′ a → Steady w w′
+steady-body : {g : Graph} {w w′ : List ℕ} {r : ℕ} {a : Claim} → Stands w g → ClaimsBody g w r w′ a → SteadyRecord w w′
 steady-body {w} {r} st (no-backedges z e) = rw e (steady-claimed w r)
 steady-body {w} {r} st (none-found z y e) = rw e (steady-claimed w r)
 steady-body {w} {r} st (by-loop z y x e) =
     steady-then (steady-claimed w r) (steady-of (loops-kinds (stands-on (steady-claimed w r .front) st) x))
 
-steady-state : {g : Graph} {w w′ : List ℕ} {r n m : ℕ} {a : Claim} → Stands w g → ClaimsByState g w r n m w′ a → Steady w w′
+steady-state : {g : Graph} {w w′ : List ℕ} {r n m : ℕ} {a : Claim} → Stands w g → ClaimsByState g w r n m w′ a → SteadyRecord w w′
 steady-state st (ready-claimed e s b) = steady-body st b
 steady-state {w} st (ready-waits e d s) = rw s (steady-same w)
 steady-state {w} st (busy-claimed e d s) = rw s (steady-same w)
@@ -154,7 +154,7 @@ inst-kinds {r} (by-inst {w₁} b e t) =
 pub resolve-kinds : {g : Graph} {w w′ : List ℕ} {r i : ℕ} {a : Made} → ResolvesBy g w r i w′ a → SameKinds w w′
 resolve-kinds {g} {w} {r} {i} (resolves s) = kinds-then (split-kinds g w r i) (into-kinds s)
 
-pub steady-ready : (w : List ℕ) (r : ℕ) → Steady w (made-ready w r)
+pub steady-ready : (w : List ℕ) (r : ℕ) → SteadyRecord w (made-ready w r)
 steady-ready w r =
     let n = backedges-deferred w r in
     steady-then (steady-of (kinds-stored w backedges (omega arith) r n))
@@ -163,7 +163,7 @@ steady-ready w r =
 -- ---- The cycle.
 module _ {g : Graph} {counts : List ℕ} where
   mutual
-    pub steady-claim : {w w′ : List ℕ} {r n : ℕ} {a : Claim} → TriesClaim g counts w r n w′ a → Stands w g → Steady w w′
+    pub steady-claim : {w w′ : List ℕ} {r n : ℕ} {a : Claim} → TriesClaim g counts w r n w′ a → Stands w g → SteadyRecord w w′
     steady-claim {w} (no-region h e) st = rw e (steady-attempted w)
     steady-claim {w} (refused-inside b s) st =
         steady-then (steady-attempted w) (steady-structurized s (stands-on (steady-attempted w .front) st))
@@ -172,7 +172,7 @@ module _ {g : Graph} {counts : List ℕ} where
         steady-then x (steady-state (stands-on (x .front) st) c)
     steady-claim {w} (later-claim h d c) st = steady-then (steady-attempted w) (steady-state (stands-on (steady-attempted w .front) st) c)
 
-    pub steady-structurized : {w w′ : List ℕ} {r : ℕ} {a : Step} → Structurizes g counts w r w′ a → Stands w g → Steady w w′
+    pub steady-structurized : {w w′ : List ℕ} {r : ℕ} {a : Step} → StructurizesRegion g counts w r w′ a → Stands w g → SteadyRecord w w′
     steady-structurized {w} {r} (refused-at-targets t) st =
         let x = steady-kind w r 1 (λ e. absurd (omega arith)) in steady-then x (steady-targets t (stands-on (x .front) st))
     steady-structurized {w} {r} (refused-at-inst t i) st =
@@ -187,7 +187,7 @@ module _ {g : Graph} {counts : List ℕ} where
         let y = steady-then x (steady-then (steady-targets t (stands-on (x .front) st)) (steady-of (inst-kinds i))) in
         steady-then (steady-then y (steady-all d (stands-on (y .front) st))) (rw e (steady-ready w₃ r))
 
-    pub steady-targets : {w w′ : List ℕ} {r j : ℕ} {a : Step} → TargetRegions g counts w r j w′ a → Stands w g → Steady w w′
+    pub steady-targets : {w w′ : List ℕ} {r j : ℕ} {a : Step} → TargetRegions g counts w r j w′ a → Stands w g → SteadyRecord w w′
     steady-targets {w} (no-target h e) st = rw e (steady-same w)
     steady-targets (target-refused h c) st = steady-claim c st
     steady-targets {r} {j} (target-claimed {w₁} h c t) st =
@@ -195,17 +195,17 @@ module _ {g : Graph} {counts : List ℕ} where
     steady-targets {r} {j} (target-waits {w₁} h c t) st =
         let x = steady-then (steady-claim c st) (steady-taken w₁ r j _) in steady-then x (steady-targets t (stands-on (x .front) st))
 
-    pub steady-scan : {w w′ : List ℕ} {r n i : ℕ} {a : SplitOut} → Scans g counts w r n i w′ a → Stands w g → Steady w w′
+    pub steady-scan : {w w′ : List ℕ} {r n i : ℕ} {a : SplitOut} → Scans g counts w r n i w′ a → Stands w g → SteadyRecord w w′
     steady-scan {w} (no-bundle-left h e) st = rw e (steady-same w)
     steady-scan (passes-return h e s) st = steady-scan s st
     steady-scan (passes-waiting h d c s) st = let x = steady-claim c st in steady-then x (steady-scan s (stands-on (x .front) st))
     steady-scan (claims-bundle h d c) st = steady-claim c st
     steady-scan (scan-refused h d c) st = steady-claim c st
 
-    pub steady-split : {w w′ : List ℕ} {r : ℕ} {a : SplitOut} → SplitsOut g counts w r w′ a → Stands w g → Steady w w′
+    pub steady-split : {w w′ : List ℕ} {r : ℕ} {a : SplitOut} → SplitsOut g counts w r w′ a → Stands w g → SteadyRecord w w′
     steady-split (splits-out s) st = steady-scan s st
 
-    pub steady-resolves : {w w′ : List ℕ} {r n : ℕ} {a : Step} → Resolves g counts w r n w′ a → Stands w g → Steady w w′
+    pub steady-resolves : {w w′ : List ℕ} {r n : ℕ} {a : Step} → Resolves g counts w r n w′ a → Stands w g → SteadyRecord w w′
     steady-resolves {w} (no-turn e) st = rw e (steady-same w)
     steady-resolves (nothing-claimed s) st = steady-split s st
     steady-resolves (claim-refused s) st = steady-split s st
@@ -213,5 +213,5 @@ module _ {g : Graph} {counts : List ℕ} where
     steady-resolves (claims-and s b t) st =
         let x = steady-then (steady-split s st) (steady-of (resolve-kinds b)) in steady-then x (steady-resolves t (stands-on (x .front) st))
 
-    pub steady-all : {w w′ : List ℕ} {r : ℕ} {a : Step} → ResolvesAll g counts w r w′ a → Stands w g → Steady w w′
+    pub steady-all : {w w′ : List ℕ} {r : ℕ} {a : Step} → ResolvesAll g counts w r w′ a → Stands w g → SteadyRecord w w′
     steady-all (resolves-all t) st = steady-resolves t st

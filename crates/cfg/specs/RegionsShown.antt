@@ -33,14 +33,14 @@ use Rattle.state.specs.Sections.{Section, number, word, stored, kinds, backedge
 use Rattle.state.specs.Apart.{section-other, stored-length}
 use Rattle.shown.specs.Stores.{word-changes}
 use Rattle.shown.specs.Sets.{shows-region}
-use Rattle.shown.specs.SetSteps.{Finds, found, none-found, finds}
+use Rattle.shown.specs.Finds.{Finds, found, none-found, finds}
 use Rattle.shown.specs.States.{ShowsState, ShowsBody, is-in-progress, is-ready}
 use Rattle.shown.specs.Kept.{Later, later-then, set-stays, KeptRegion, kept-then}
 use Rattle.shown.specs.RegionSteps.{later-by, kept-by, bundles-same, word-there, word-apart, word-concerns, concerns-states, state-stays}
 use Rattle.shown.specs.RegionSteps.{kind-set, Concerns, MakesNothing}
 use Rattle.cfg.specs.ByState.{backedge-at}
 use Rattle.cfg.specs.ByInst.{backedges-deferred, made-ready}
-use Rattle.cfg.specs.Shows.{Held, Unharmed, Around, cells-in-all, owed-stays, owed-kind}
+use Rattle.cfg.specs.Shows.{Occupied, Unharmed, Around, cells-in-all, owed-stays, owed-kind}
 use Rattle.cfg.specs.Shows.{world, K, CanClaim}
 use Rattle.cfg.specs.TurnsShown.{CanTurn}
 
@@ -175,7 +175,7 @@ beside-kind g w r x =
     }
 
 -- From a region that begins to one that is Ready: what others hold is as it was.
-pub region-unharmed : {g : Graph} {r : ℕ} {w w₁ w₃ w′ : List ℕ} → (Held w r → ⊥) → Beside g r w w₁ → Around g r w₁ w₃ → Beside g r w₃ w′
+pub region-unharmed : {g : Graph} {r : ℕ} {w w₁ w₃ w′ : List ℕ} → (Occupied w r → ⊥) → Beside g r w w₁ → Around g r w₁ w₃ → Beside g r w₃ w′
     → Unharmed g w w′
 region-unharmed {r} {w} {w₁} {w₃} free a b c =
     record {
@@ -185,10 +185,10 @@ region-unharmed {r} {w} {w₁} {w₃} free a b c =
           (kept-then (b .regions-stay q l (other q h) (first q h)) (c .regions-stay q l (other q h)));
     }
   where
-    other : (q : ℕ) → Held w q → q ≡ r → ⊥
-    other q h e = free (subst (λ z. Held w z) e h)
+    other : (q : ℕ) → Occupied w q → q ≡ r → ⊥
+    other q h e = free (subst (λ z. Occupied w z) e h)
 
-    first : (q : ℕ) → Held w q → Held w₁ q
+    first : (q : ℕ) → Occupied w q → Occupied w₁ q
     first q (inl e) = inl (a .kinds-stay q (other q (inl e)) ∙ e)
     first q (inr e) = inr (a .kinds-stay q (other q (inr e)) ∙ e)
 

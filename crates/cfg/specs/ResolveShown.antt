@@ -18,7 +18,7 @@ use Rattle.shown.specs.Cells.{ShowsChildren}
 use Rattle.shown.specs.Sets.{no-bundle}
 use Rattle.shown.specs.States.{ShowsState, ShowsBody, ShowsClaimed, no-case}
 use Rattle.shown.specs.SetStores.{only-word-same}
-use Rattle.shown.specs.SetSteps.{bundle-in}
+use Rattle.shown.specs.Finds.{bundle-in}
 use Rattle.bundles.specs.Words.{split-filled}
 use Rattle.bundles.specs.Targets.{condition-in-shown}
 use Rattle.bundles.specs.SplitFilled.{SplitShown, split-filled-shown}

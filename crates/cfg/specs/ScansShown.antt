@@ -26,12 +26,13 @@ use Rattle.follows.specs.counting.CountScan.{live-of, count-pos}
 use Rattle.follows.specs.counting.CountRegion.{claim-counted}
 use Rattle.state.specs.Sections.{word, set-starts}
 use Rattle.shown.specs.Sets.{ShowsBundle, no-bundle}
-use Rattle.shown.specs.SetSteps.{bundle-in}
+use Rattle.shown.specs.Finds.{bundle-in}
 use Rattle.shown.specs.States.{ShowsState, ShowsOwnSet, ShowsClaimed}
 use Rattle.cfg.specs.declared.claims.SplitOut as split
 use Rattle.cfg.specs.declared.claims.SplitOut.the-variants as split-variants
 use Rattle.cfg.specs.ByInst.{own-bundle}
-use Rattle.cfg.specs.Shows.{Held, Unharmed, unharmed-then, cells-in-all, world, K, CanClaim, ScanShows, shows-nothing, shows-split}
+use Rattle.cfg.specs.Shows.{Occupied, Unharmed, unharmed-then, cells-in-all, world, K, CanClaim, ScanShows, shows-nothing}
+use Rattle.cfg.specs.Shows.{shows-split}
 use Rattle.cfg.specs.Shows.{refuses-scan}
 
 -- ---- Bundle i of region r's set, in words.
@@ -177,7 +178,8 @@ module _ (g : Graph) (valid : Valid g) (fuel : ℕ) where
     passed-return e x = rw (scan-step to-return e) x
 
     pub passed-waiting : {w w₁ w′ : List ℕ} {t : ℕ} → this .target ≡ to-region t → {s₁ : NestState}
-        → claim t (this .accumulated-count) (this .target-inputs) s ≡ done none s₁ → ((q : ℕ) → Held w q → Held w₁ q) → Unharmed g w w₁
+        → claim t (this .accumulated-count) (this .target-inputs) s ≡ done none s₁ → ((q : ℕ) → Occupied w q → Occupied w₁ q)
+        → Unharmed g w w₁
         → cells-in-all w₁ ≤ cells-in-all w
         → {a : split.SplitOut} → ScanShows g w₁ w′ d (scan-from (suc i) s₁) a → ScanShows g w w′ d (scan-from i s) a
     unfolding step-of
@@ -190,7 +192,7 @@ module _ (g : Graph) (valid : Valid g) (fuel : ℕ) where
 
     pub scan-claims : {w w′ : List ℕ} {t : ℕ} → this .target ≡ to-region t → {c : ClaimedRegion} {s′ : NestState}
         → claim t (this .accumulated-count) (this .target-inputs) s ≡ done (some c) s′ → ShowsState g w′ s′ → ShowsClaimed g w′ c
-        → c .origin ≡ t → c .structured-body-inputs ≡ this .target-inputs → (Held w t → ⊥) → Unharmed g w w′ → cells-in-all w′ + 4 ≤
+        → c .origin ≡ t → c .structured-body-inputs ≡ this .target-inputs → (Occupied w t → ⊥) → Unharmed g w w′ → cells-in-all w′ + 4 ≤
         cells-in-all w
         → ScanShows g w w′ d (scan-from i s) (split-variants.At i)
     unfolding step-of

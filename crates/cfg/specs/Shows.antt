@@ -39,49 +39,49 @@ use Rattle.shown.specs.Kept.{Later, later-same, later-then, KeptRegion, kept-sa
 use Rattle.cfg.specs.declared.claim.Claim.{Claim}
 use Rattle.cfg.specs.declared.claim.Claim.the-variants.{Claimed, Unclaimed, Refused}
 
--- ---- A region in progress, or claimed: what it has of its own is held by a step under way.
-abbrev pub Held : List ℕ → ℕ → Type 0
-Held w q = (word w kinds q ≡ 1) ⊎ (word w kinds q ≡ 3)
+-- ---- A region in progress, or claimed: what it has of its own is occupied by a step under way.
+abbrev pub Occupied : List ℕ → ℕ → Type 0
+Occupied w q = (word w kinds q ≡ 1) ⊎ (word w kinds q ≡ 3)
 
 pub record Unharmed (g : Graph) (w w′ : List ℕ) : Type 0 where
   pub later : Later g w w′
-  pub kinds-stay : (q : ℕ) → q < 32 → Held w q → word w′ kinds q ≡ word w kinds q
-  pub regions-stay : (q : ℕ) → q < 32 → Held w q → KeptRegion w w′ q
+  pub kinds-stay : (q : ℕ) → q < 32 → Occupied w q → word w′ kinds q ≡ word w kinds q
+  pub regions-stay : (q : ℕ) → q < 32 → Occupied w q → KeptRegion w w′ q
 
 pub unharmed-same : (g : Graph) (w : List ℕ) → Unharmed g w w
 unharmed-same g w = record { later = later-same g w; kinds-stay = λ q l h. refl; regions-stay = λ q l h. kept-same w q }
 
-pub still-held : {g : Graph} {w w′ : List ℕ} → Unharmed g w w′ → (q : ℕ) → q < 32 → Held w q → Held w′ q
-still-held u q l (inl e) = inl (u .kinds-stay q l (inl e) ∙ e)
-still-held u q l (inr e) = inr (u .kinds-stay q l (inr e) ∙ e)
+pub still-occupied : {g : Graph} {w w′ : List ℕ} → Unharmed g w w′ → (q : ℕ) → q < 32 → Occupied w q → Occupied w′ q
+still-occupied u q l (inl e) = inl (u .kinds-stay q l (inl e) ∙ e)
+still-occupied u q l (inr e) = inr (u .kinds-stay q l (inr e) ∙ e)
 
 pub unharmed-then : {g : Graph} {w w₁ w₂ : List ℕ} → Unharmed g w w₁ → Unharmed g w₁ w₂ → Unharmed g w w₂
 unharmed-then a b =
     record {
       later = later-then (a .later) (b .later);
-      kinds-stay = λ q l h. b .kinds-stay q l (still-held a q l h) ∙ a .kinds-stay q l h;
-      regions-stay = λ q l h. kept-then (a .regions-stay q l h) (b .regions-stay q l (still-held a q l h));
+      kinds-stay = λ q l h. b .kinds-stay q l (still-occupied a q l h) ∙ a .kinds-stay q l h;
+      regions-stay = λ q l h. kept-then (a .regions-stay q l h) (b .regions-stay q l (still-occupied a q l h));
     }
 
 -- A step of region r's own: what other regions have stays.
 pub record Around (g : Graph) (r : ℕ) (w w′ : List ℕ) : Type 0 where
   pub later : Later g w w′
-  pub kinds-stay : (q : ℕ) → q < 32 → Held w q → word w′ kinds q ≡ word w kinds q
-  pub regions-stay : (q : ℕ) → q < 32 → (q ≡ r → ⊥) → Held w q → KeptRegion w w′ q
+  pub kinds-stay : (q : ℕ) → q < 32 → Occupied w q → word w′ kinds q ≡ word w kinds q
+  pub regions-stay : (q : ℕ) → q < 32 → (q ≡ r → ⊥) → Occupied w q → KeptRegion w w′ q
 
 pub around-same : (g : Graph) (r : ℕ) (w : List ℕ) → Around g r w w
 around-same g r w = record { later = later-same g w; kinds-stay = λ q l h. refl; regions-stay = λ q l d h. kept-same w q }
 
-held-around : {g : Graph} {r : ℕ} {w w′ : List ℕ} → Around g r w w′ → (q : ℕ) → q < 32 → Held w q → Held w′ q
-held-around u q l (inl e) = inl (u .kinds-stay q l (inl e) ∙ e)
-held-around u q l (inr e) = inr (u .kinds-stay q l (inr e) ∙ e)
+occupied-around : {g : Graph} {r : ℕ} {w w′ : List ℕ} → Around g r w w′ → (q : ℕ) → q < 32 → Occupied w q → Occupied w′ q
+occupied-around u q l (inl e) = inl (u .kinds-stay q l (inl e) ∙ e)
+occupied-around u q l (inr e) = inr (u .kinds-stay q l (inr e) ∙ e)
 
 pub around-then : {g : Graph} {r : ℕ} {w w₁ w₂ : List ℕ} → Around g r w w₁ → Around g r w₁ w₂ → Around g r w w₂
 around-then a b =
     record {
       later = later-then (a .later) (b .later);
-      kinds-stay = λ q l h. b .kinds-stay q l (held-around a q l h) ∙ a .kinds-stay q l h;
-      regions-stay = λ q l d h. kept-then (a .regions-stay q l d h) (b .regions-stay q l d (held-around a q l h));
+      kinds-stay = λ q l h. b .kinds-stay q l (occupied-around a q l h) ∙ a .kinds-stay q l h;
+      regions-stay = λ q l d h. kept-then (a .regions-stay q l d h) (b .regions-stay q l d (occupied-around a q l h));
     }
 
 pub unharmed-around : {g : Graph} (r : ℕ) {w w′ : List ℕ} → Unharmed g w w′ → Around g r w w′
@@ -173,7 +173,7 @@ module _ (g : Graph) (valid : Valid g) where
 -- ---- Answers shown. b is what the definition answers.
 pub data ClaimShows (g : Graph) (w w′ : List ℕ) (r : ℕ) (inputs : List Value) (b : StepAnswer (Option ClaimedRegion)) : Claim → Type 0 where
   shows-claimed : {c : ClaimedRegion} {s′ : NestState} → b ≡ done (some c) s′ → ShowsState g w′ s′ → ShowsClaimed g w′ c → c .origin ≡ r
-      → c .structured-body-inputs ≡ inputs → (Held w r → ⊥) → Unharmed g w w′ → cells-in-all w′ + 4 ≤ cells-in-all w
+      → c .structured-body-inputs ≡ inputs → (Occupied w r → ⊥) → Unharmed g w w′ → cells-in-all w′ + 4 ≤ cells-in-all w
       → ClaimShows g w w′ r inputs b Claimed
   shows-unclaimed : {s′ : NestState} → b ≡ done none s′ → ShowsState g w′ s′ → Unharmed g w w′ → cells-in-all w′ ≤ cells-in-all w
       → ClaimShows g w w′ r inputs b Unclaimed
@@ -186,9 +186,9 @@ pub data TakenAs (g : Graph) (w : List ℕ) (r j : ℕ) (e : Edge) (m : MaybeCla
   was-deferred : m ≡ defer-edge e → taken-word w r j ≡ 1 → TakenAs g w r j e m
   was-nothing : m ≡ err [] → taken-word w r j ≡ 0 → TakenAs g w r j e m
 
--- The regions that were claimed are different ones, and none was held before.
+-- The regions that were claimed are different ones, and none was occupied before.
 pub record NewlyClaimed (w : List ℕ) (cs : List MaybeClaimedRegion) : Type 0 where
-  pub free : (k : ℕ) (c : ClaimedRegion) → getD cs k no-case ≡ ok c → Held w (c .origin) → ⊥
+  pub free : (k : ℕ) (c : ClaimedRegion) → getD cs k no-case ≡ ok c → Occupied w (c .origin) → ⊥
   pub apart : (i j : ℕ) (c d : ClaimedRegion) → i < j → getD cs i no-case ≡ ok c → getD cs j no-case ≡ ok d → c .origin ≡ d .origin → ⊥
 
 -- The edges es of region r, from place j on.
@@ -202,19 +202,19 @@ pub data TargetsShow (g : Graph) (w w′ : List ℕ) (r j : ℕ) (es : List Edge
 -- A step of region r's own that takes the claimed regions of these cases: what other regions have stays.
 pub record AroundBut (g : Graph) (r : ℕ) (cs : List MaybeClaimedRegion) (w w′ : List ℕ) : Type 0 where
   pub later : Later g w w′
-  pub kinds-stay : (q : ℕ) → q < 32 → Held w q → word w′ kinds q ≡ word w kinds q
+  pub kinds-stay : (q : ℕ) → q < 32 → Occupied w q → word w′ kinds q ≡ word w kinds q
   pub regions-stay : (q : ℕ) → q < 32 → (q ≡ r → ⊥)
-      → ((j : ℕ) (c : ClaimedRegion) → j < length cs → getD cs j no-case ≡ ok c → q ≡ c .origin → ⊥) → Held w q → KeptRegion w w′ q
+      → ((j : ℕ) (c : ClaimedRegion) → j < length cs → getD cs j no-case ≡ ok c → q ≡ c .origin → ⊥) → Occupied w q → KeptRegion w w′ q
 
--- The regions that it takes were not held before.
+-- The regions that it takes were not occupied before.
 pub around-but : {g : Graph} {r : ℕ} {cs : List MaybeClaimedRegion} {w w₁ w₂ : List ℕ} → Around g r w w₁ → AroundBut g r cs w₁ w₂
-    → ((j : ℕ) (c : ClaimedRegion) → getD cs j no-case ≡ ok c → Held w (c .origin) → ⊥) → Around g r w w₂
+    → ((j : ℕ) (c : ClaimedRegion) → getD cs j no-case ≡ ok c → Occupied w (c .origin) → ⊥) → Around g r w w₂
 around-but {w} a b free =
     record {
       later = later-then (a .later) (b .later);
-      kinds-stay = λ q l h. b .kinds-stay q l (held-around a q l h) ∙ a .kinds-stay q l h;
+      kinds-stay = λ q l h. b .kinds-stay q l (occupied-around a q l h) ∙ a .kinds-stay q l h;
       regions-stay = λ q l d h. kept-then (a .regions-stay q l d h)
-          (b .regions-stay q l d (λ j c i p o. free j c p (subst (λ z. Held w z) o h)) (held-around a q l h));
+          (b .regions-stay q l d (λ j c i p o. free j c p (subst (λ z. Occupied w z) o h)) (occupied-around a q l h));
     }
 
 pub data BodyShows (g : Graph) (w w′ : List ℕ) (r : ℕ) (cs : List MaybeClaimedRegion) (more : ℕ) (b : StepAnswer Body) : Made → Type 0 where
@@ -230,8 +230,8 @@ pub data ScanShows (g : Graph) (w w′ : List ℕ) (d : DeferredEdgeBundleSet) (
     shows-split : {i t : ℕ} {y : SplitOut} {s′ : NestState} → b ≡ done (some y) s′ → ShowsState g w′ s′ → i < length d
         → y .bundle ≡ getD d i no-bundle → y .others ≡ take i d ++ drop (suc i) d → y .bundle .target ≡ to-region t
         → ShowsClaimed g w′ (y .claimed-region) → y .claimed-region .origin ≡ t
-        → y .claimed-region .structured-body-inputs ≡ y .bundle .target-inputs → (Held w t → ⊥) → Unharmed g w w′ → cells-in-all w′ + 4 ≤
-        cells-in-all w
+        → y .claimed-region .structured-body-inputs ≡ y .bundle .target-inputs → (Occupied w t → ⊥) → Unharmed g w w′
+        → cells-in-all w′ + 4 ≤ cells-in-all w
         → ScanShows g w w′ d b (split-variants.At i)
     refuses-scan : {m x : ℕ} → b ≡ turned-away m x → ScanShows g w w′ d b (split-variants.Refused m x)
 
@@ -250,7 +250,7 @@ pub data RegionShows (g : Graph) (w w′ : List ℕ) (b : StepAnswer Unit) : Ste
 module _ {g : Graph} {w w′ : List ℕ} {R : Type 0} where
   pub if-claimed : {r : ℕ} {inputs : List Value} {b : StepAnswer (Option ClaimedRegion)} → ClaimShows g w w′ r inputs b Claimed
       → ((c : ClaimedRegion) (s′ : NestState) → b ≡ done (some c) s′ → ShowsState g w′ s′ → ShowsClaimed g w′ c → c .origin ≡ r
-      → c .structured-body-inputs ≡ inputs → (Held w r → ⊥) → Unharmed g w w′ → cells-in-all w′ + 4 ≤ cells-in-all w → R) → R
+      → c .structured-body-inputs ≡ inputs → (Occupied w r → ⊥) → Unharmed g w w′ → cells-in-all w′ + 4 ≤ cells-in-all w → R) → R
   if-claimed (shows-claimed {c} {s′} p st cl o i f u k) go = go c s′ p st cl o i f u k
 
   pub if-unclaimed : {r : ℕ} {inputs : List Value} {b : StepAnswer (Option ClaimedRegion)} → ClaimShows g w w′ r inputs b Unclaimed
@@ -283,7 +283,7 @@ module _ {g : Graph} {w w′ : List ℕ} {R : Type 0} where
   pub if-split : {i : ℕ} {d : DeferredEdgeBundleSet} {b : StepAnswer (Option SplitOut)} → ScanShows g w w′ d b (split-variants.At i)
       → ((t : ℕ) (y : SplitOut) (s′ : NestState) → b ≡ done (some y) s′ → ShowsState g w′ s′ → i < length d → y .bundle ≡ getD d i no-bundle
       → y .others ≡ take i d ++ drop (suc i) d → y .bundle .target ≡ to-region t → ShowsClaimed g w′ (y .claimed-region)
-      → y .claimed-region .origin ≡ t → y .claimed-region .structured-body-inputs ≡ y .bundle .target-inputs → (Held w t → ⊥)
+      → y .claimed-region .origin ≡ t → y .claimed-region .structured-body-inputs ≡ y .bundle .target-inputs → (Occupied w t → ⊥)
       → Unharmed g w w′ → cells-in-all w′ + 4 ≤ cells-in-all w → R) → R
   if-split (shows-split {t} {y} {s′} p st l z o to cl origin many free u k) go = go t y s′ p st l z o to cl origin many free u k
 

@@ -22,21 +22,22 @@ use Rattle.state.specs.declared.defined.Made.{Made}
 use Rattle.state.specs.Sections.{word, stored, kinds, bodies, backedges, children, set-starts, head, used}
 use Rattle.state.specs.Apart.{section-other, stored-length}
 use Rattle.shown.specs.Sets.{shows-region, no-bundle}
-use Rattle.shown.specs.SetSteps.{Finds, found, none-found, finds, same-target-is}
+use Rattle.nesting.specs.steps.TargetsAndCases.{same-target-is}
+use Rattle.shown.specs.Finds.{Finds, found, none-found, finds}
 use Rattle.shown.specs.States.{ShowsState, ShowsOwnSet, ShowsRegion, is-not-begun, is-in-progress, is-ready, is-claimed, ShowsClaimed}
 use Rattle.shown.specs.States.{ShowsBody}
 use Rattle.shown.specs.Cells.{ShowsChildren}
 use Rattle.shown.specs.Kept.{Later, later-then, KeptRegion, kept-then}
 use Rattle.shown.specs.RegionSteps.{word-there, word-concerns, Concerns, concerns-states, state-stays, kind-set}
 use Rattle.loops.specs.ClaimedLoops.{ClaimedLoop, ShowsLoop, shows-loop, loop-refused, structurize-loop-shown}
-use Rattle.loops.specs.Loops.{Structurizes}
+use Rattle.loops.specs.Loops.{StructurizesLoop}
 use Rattle.cfg.specs.declared.claim.Claim as code
 use Rattle.cfg.specs.declared.claim.Claim.the-variants.{Claimed}
 use Rattle.cfg.specs.Leaves.{loops-kinds}
 use Rattle.cfg.specs.ByState.{ClaimsBody, no-backedges, none-found as none-leads-back, by-loop, ClaimsByState, ready-claimed}
 use Rattle.cfg.specs.ByState.{ready-waits}
 use Rattle.cfg.specs.ByState.{busy-claimed, busy-waits, other-state, as-claimed, backedge-at, claim-of}
-use Rattle.cfg.specs.Shows.{Held, Unharmed, unharmed-same, cells-in-all, owed-stays, owed-kind, K, CanClaim, chains-of}
+use Rattle.cfg.specs.Shows.{Occupied, Unharmed, unharmed-same, cells-in-all, owed-stays, owed-kind, K, CanClaim, chains-of}
 use Rattle.cfg.specs.Shows.{ClaimShows, shows-claimed, shows-unclaimed, shows-refused}
 use Rattle.cfg.specs.RegionsShown.{Beside, beside-kind, body-with}
 
@@ -110,7 +111,7 @@ module _ {g : Graph} {w : List ℕ} {s : NestState} (shown : ShowsState g w s) (
         size = many;
       }
 
-  free-before : Held w r → ⊥
+  free-before : Occupied w r → ⊥
   free-before (inl e) = absurd (omega arith)
   free-before (inr e) = absurd (omega arith)
 
@@ -124,8 +125,8 @@ module _ {g : Graph} {w : List ℕ} {s : NestState} (shown : ShowsState g w s) (
         regions-stay = λ q l h. kept-then (claimed-beside .regions-stay q l (other q h)) (kept q (omega arith) (other q h));
       }
     where
-      other : (q : ℕ) → Held w q → q ≡ r → ⊥
-      other q h e = free-before (subst (λ z. Held w z) e h)
+      other : (q : ℕ) → Occupied w q → q ≡ r → ⊥
+      other q h e = free-before (subst (λ z. Occupied w z) e h)
 
 -- ---- Counts of a Ready region's set are within the incoming counts.
 module _ (g : Graph) (valid : Valid g) where
@@ -176,8 +177,9 @@ module _ (g : Graph) (valid : Valid g) (few : length (g .regions) ≤ 32) (bound
           (free-before shown few r in-graph is nodes set)
           (record {
             later = b .later;
-            kinds-stay = λ q l h. b .kinds-stay q (λ e. free-before shown few r in-graph is nodes set (subst (λ z. Held w z) e h));
-            regions-stay = λ q l h. b .regions-stay q l (λ e. free-before shown few r in-graph is nodes set (subst (λ z. Held w z) e h));
+            kinds-stay = λ q l h. b .kinds-stay q (λ e. free-before shown few r in-graph is nodes set (subst (λ z. Occupied w z) e h));
+            regions-stay = λ q l h. b .regions-stay q l
+                (λ e. free-before shown few r in-graph is nodes set (subst (λ z. Occupied w z) e h));
           })
           (omega arith)
 
@@ -199,7 +201,7 @@ module _ (g : Graph) (valid : Valid g) (few : length (g .regions) ≤ 32) (bound
           go zero e = absurd (h e)
           go (suc k) e = refl
 
-      loop-from : {w′ : List ℕ} {m : Made} → Structurizes r (backedge-at (as-claimed w r) r) (as-claimed w r) w′ m
+      loop-from : {w′ : List ℕ} {m : Made} → StructurizesLoop r (backedge-at (as-claimed w r) r) (as-claimed w r) w′ m
           → (word (as-claimed w r) backedges r ≡ 0 → ⊥) → (backedge-at (as-claimed w r) r ≡ 65535 → ⊥)
           → Finds (word (as-claimed w r) set-starts r) (to-region r) d (backedge-at (as-claimed w r) r)
           → ClaimShows g w w′ r inputs (claim-body g r inputs ks d (backedge-of r b d) taken) (claim-of m)
@@ -219,7 +221,7 @@ module _ (g : Graph) (valid : Valid g) (few : length (g .regions) ≤ 32) (bound
             place = l;
             bundle-at-place = at;
             backedge = refl;
-            target = same-target-is (to-region r) (e .target) to;
+            target = sym (same-target-is (to-region r) (e .target) to);
             free = (let z = c in omega arith);
             cell-zero = (let z = body .nodes .made in omega arith);
             chains = chains-of g valid (can .inv);

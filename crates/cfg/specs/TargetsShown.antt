@@ -31,7 +31,7 @@ use Rattle.shown.specs.States.{no-case}
 use Rattle.shown.specs.Kept.{claimed-stays}
 use Rattle.shown.specs.RegionSteps.{Concerns, taken-concerns, word-there, word-apart}
 use Rattle.cfg.specs.declared.claims.Step.{Step}
-use Rattle.cfg.specs.Shows.{Held, NewlyClaimed, Around, around-then, concerns-around, cells-in-all, owed-stays}
+use Rattle.cfg.specs.Shows.{Occupied, NewlyClaimed, Around, around-then, concerns-around, cells-in-all, owed-stays}
 use Rattle.cfg.specs.Shows.{world, K, CanClaim, TakenAs, was-claimed}
 use Rattle.cfg.specs.Shows.{was-deferred, was-nothing, TargetsShow, shows-targets, refuses-targets}
 
@@ -59,15 +59,15 @@ notes g w r j y room b c =
 pub noted-cells : {g : Graph} {w w′ : List ℕ} {r : ℕ} → Concerns g r w w′ → cells-in-all w′ ≡ cells-in-all w
 noted-cells {w} {w′} c = let e = owed-stays w w′ (λ q h. c .same-kinds q) in let h = c .same-head 4 in omega arith
 
--- A region that is held elsewhere is not region r.
-pub held-other : (w : List ℕ) {r q : ℕ} → word w kinds r ≡ 1 → word w kinds q ≡ 3 → q ≡ r → ⊥
-held-other w a b e = let z = ap (λ p. word w kinds p) e in absurd (omega arith)
+-- A region that is occupied elsewhere is not region r.
+pub claimed-other : (w : List ℕ) {r q : ℕ} → word w kinds r ≡ 1 → word w kinds q ≡ 3 → q ≡ r → ⊥
+claimed-other w a b e = let z = ap (λ p. word w kinds p) e in absurd (omega arith)
 
--- Of the case that the first target gives: a claimed region was free, and is held from then on; what was held is.
+-- Of the case that the first target gives: a claimed region was free, and is occupied from then on; what was occupied is.
 pub record FirstNew (w w₂ : List ℕ) (m : MaybeClaimedRegion) : Type 0 where
-  pub free : (c : ClaimedRegion) → m ≡ ok c → Held w (c .origin) → ⊥
-  pub held : (c : ClaimedRegion) → m ≡ ok c → Held w₂ (c .origin)
-  pub on : (q : ℕ) → Held w q → Held w₂ q
+  pub free : (c : ClaimedRegion) → m ≡ ok c → Occupied w (c .origin) → ⊥
+  pub occupied : (c : ClaimedRegion) → m ≡ ok c → Occupied w₂ (c .origin)
+  pub on : (q : ℕ) → Occupied w q → Occupied w₂ q
 
 -- What was taken stays so.
 pub taken-on : {g : Graph} {w w′ : List ℕ} {r j : ℕ} {e : Edge} {m : MaybeClaimedRegion} → length (g .regions) ≤ 32 → word w kinds r ≡ 1
@@ -76,7 +76,7 @@ taken-on {w} {w′} few busy a same (was-claimed {c} p t s o i) =
     let q = c .origin in
     let below : q < 32 = (let z = s .in-graph in omega arith) in
     was-claimed p (same ∙ t)
-    (claimed-stays (a .later) (a .regions-stay q below (held-other w busy (s .kind)) (inr (s .kind)))
+    (claimed-stays (a .later) (a .regions-stay q below (claimed-other w busy (s .kind)) (inr (s .kind)))
     (a .kinds-stay q below (inr (s .kind))) s)
     o i
 taken-on few busy a same (was-deferred p t) = was-deferred p (same ∙ t)
@@ -145,14 +145,14 @@ module _ (g : Graph) (valid : Valid g) (fuel : ℕ) where
         taken zero h = let z : j + 0 ≡ j = omega arith in rw z (taken-on few busy₂ ar (same j (omega arith)) t)
         taken (suc k) h = let z : j + suc k ≡ suc j + k = omega arith in rw z (each k (omega arith))
 
-        free : (k : ℕ) (d : ClaimedRegion) → getD (c ∷ cs) k no-case ≡ ok d → Held w (d .origin) → ⊥
+        free : (k : ℕ) (d : ClaimedRegion) → getD (c ∷ cs) k no-case ≡ ok d → Occupied w (d .origin) → ⊥
         free zero d e h = first .free d e h
         free (suc k) d e h = new .free k d e (first .on (d .origin) h)
 
         apart : (i j : ℕ) (x y : ClaimedRegion) → i < j → getD (c ∷ cs) i no-case ≡ ok x → getD (c ∷ cs) j no-case ≡ ok y
             → x .origin ≡ y .origin → ⊥
         apart zero zero x y l e f same = absurd (omega arith)
-        apart zero (suc j) x y l e f same = new .free j y f (subst (λ q. Held w₂ q) same (first .held x e))
+        apart zero (suc j) x y l e f same = new .free j y f (subst (λ q. Occupied w₂ q) same (first .occupied x e))
         apart (suc i) zero x y l e f same = absurd (omega arith)
         apart (suc i) (suc j) x y l e f same = new .apart i j x y (omega arith) e f same
 

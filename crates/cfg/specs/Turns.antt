@@ -23,21 +23,21 @@ use Rattle.cfg.specs.declared.claims.SplitOut.the-variants as split
 use Rattle.cfg.specs.ByState.{ClaimsByState, unclaimed-word}
 use Rattle.cfg.specs.ByInst.{ByControlInst, ResolvesBy, made-ready}
 use Rattle.cfg.specs.Claims.{Stood, NotBegun, target-count, own-target, own-count, TriesClaim, no-region, refused-inside, first-claim}
-use Rattle.cfg.specs.Claims.{later-claim, Structurizes, refused-at-targets, refused-at-inst, refused-at-edges, structurized}
+use Rattle.cfg.specs.Claims.{later-claim, StructurizesRegion, refused-at-targets, refused-at-inst, refused-at-edges, structurized}
 use Rattle.cfg.specs.Claims.{TargetRegions, no-target, target-refused, target-claimed, target-waits, Scans, no-bundle-left}
 use Rattle.cfg.specs.Claims.{passes-return, passes-waiting, claims-bundle, scan-refused, SplitsOut, splits-out, Resolves, no-turn}
 use Rattle.cfg.specs.Claims.{nothing-claimed, claim-refused, select-refused, claims-and, ResolvesAll, resolves-all}
-use Rattle.cfg.specs.Left.{left, Steady, steady-same, steady-then, steady-taken, steady-claim, steady-split, steady-of}
+use Rattle.cfg.specs.Left.{left, SteadyRecord, steady-same, steady-then, steady-taken, steady-claim, steady-split, steady-of}
 use Rattle.cfg.specs.Left.{begins-less, steady-attempted, steady-targets, inst-kinds, resolve-kinds, steady-kind, steady-structurized}
 
 -- What stood stands on.
-pub stood-on : {w w′ : List ℕ} → Steady w w′ → Stood w → Stood w′
+pub stood-on : {w w′ : List ℕ} → SteadyRecord w w′ → Stood w → Stood w′
 stood-on y s =
     record { graph = s .graph; stands = stands-on (y .front) (s .stands); room = rw (y .front .words) (s .room) }
 
 -- ---- Target regions.
 pub record TargetsPassed (counts w₀ : List ℕ) (r : ℕ) (w : List ℕ) (j : ℕ) : Type 0 where
-  pub steady : Steady w₀ w
+  pub steady : SteadyRecord w₀ w
   pub more : (g : Graph) → Stands w₀ g → {w′ : List ℕ} {a : Step} → TargetRegions g counts w r j w′ a → TargetRegions g counts w₀ r 0 w′ a
 
 pub targets-none : (counts w : List ℕ) (r : ℕ) → TargetsPassed counts w r w 0
@@ -60,7 +60,7 @@ module _ {counts w₀ : List ℕ} {r : ℕ} {w : List ℕ} {j n : ℕ} (passed :
     targets-refused e g st = passed .more g st (target-refused (rw (size g st) at more) (rw e at (its-claim g st)))
 
     module _ (stood : Stood w₀) {w₂ : List ℕ} where
-      passed-on : (y : ℕ) → w₂ ≡ taken-stored w₁ r j y → Steady w₀ w₂
+      passed-on : (y : ℕ) → w₂ ≡ taken-stored w₁ r j y → SteadyRecord w₀ w₂
       passed-on y e =
           steady-then (passed .steady)
           (steady-then (steady-claim (claim (stood .graph) (on (stood .stands))) (on (stood .stands))) (rw e (steady-taken w₁ r j y)))
@@ -84,7 +84,7 @@ module _ {counts w₀ : List ℕ} {r : ℕ} {w : List ℕ} {j n : ℕ} (passed :
 
 -- ---- The scan.
 pub record ScanPassed (counts w₀ : List ℕ) (r n : ℕ) (w : List ℕ) (i : ℕ) (found : SplitOut) : Type 0 where
-  pub steady : Steady w₀ w
+  pub steady : SteadyRecord w₀ w
   pub more : (g : Graph) → Stands w₀ g → {w′ : List ℕ} {a : SplitOut} → Scans g counts w r n i w′ a → Scans g counts w₀ r n 0 w′ a
   pub nothing : found ≡ split.Nothing
 
@@ -141,7 +141,7 @@ module _ {counts w₀ : List ℕ} {r n : ℕ} {w : List ℕ} {i : ℕ} {found : 
 
 -- ---- Turns over the deferred edges.
 pub record TurnsPassed (counts w₀ : List ℕ) (r : ℕ) (w : List ℕ) (turns : ℕ) : Type 0 where
-  pub steady : Steady w₀ w
+  pub steady : SteadyRecord w₀ w
   pub more : (g : Graph) → Stands w₀ g → {w′ : List ℕ} {a : Step} → Resolves g counts w r turns w′ a → ResolvesAll g counts w₀ r w′ a
 
 pub turns-none : (counts w : List ℕ) (r n : ℕ) → ((g : Graph) → Stands w g → n ≡ length (g .regions)) → TurnsPassed counts w r w n
@@ -189,7 +189,7 @@ module _ {counts w₀ : List ℕ} {r : ℕ} {w : List ℕ} {turns : ℕ} (passed
 pub begun-less : {w w₁ : List ℕ} {r : ℕ} → used ≤ length w → NotBegun w r → w₁ ≡ stored w kinds r 1 → suc (left w₁) ≤ left w
 begun-less {w} {r} s b e = rw e (begins-less w r (part-length (start kinds) (size kinds) w (omega arith)) b)
 
-pub begun-steady : {w w₁ : List ℕ} (r : ℕ) → w₁ ≡ stored w kinds r 1 → Steady w w₁
+pub begun-steady : {w w₁ : List ℕ} (r : ℕ) → w₁ ≡ stored w kinds r 1 → SteadyRecord w w₁
 begun-steady {w} r e = rw e (steady-kind w r 1 (λ z. absurd (omega arith)))
 
 module _ {counts w w₁ : List ℕ} {r : ℕ} (begun : w₁ ≡ stored w kinds r 1) {w₂ : List ℕ} {a : Step}
@@ -200,17 +200,17 @@ module _ {counts w w₁ : List ℕ} {r : ℕ} (begun : w₁ ≡ stored w kinds r
   its-targets : {g : Graph} → Stands w g → TargetRegions g counts (stored w kinds r 1) r 0 w₂ a
   its-targets {g} st = rw begun at (targets g (first-on st))
 
-  pub region-refused : {m x : ℕ} → a ≡ step.Refused m x → (g : Graph) → Stands w g → Structurizes g counts w r w₂ (step.Refused m x)
+  pub region-refused : {m x : ℕ} → a ≡ step.Refused m x → (g : Graph) → Stands w g → StructurizesRegion g counts w r w₂ (step.Refused m x)
   region-refused e g st = refused-at-targets (rw e at (its-targets st))
 
   module _ (taken : a ≡ step.Done) {w₃ : List ℕ} {b : Made} (inst : (g : Graph) → Stands w₂ g → ByControlInst g w₂ r w₃ b) where
     second-on : {g : Graph} → Stands w g → Stands w₂ g
     second-on {g} st = stands-on (steady-targets (targets g (first-on st)) (first-on st) .front) (first-on st)
 
-    pub region-full : b ≡ made.Full → (g : Graph) → Stands w g → Structurizes g counts w r w₃ (step.Refused 9 0)
+    pub region-full : b ≡ made.Full → (g : Graph) → Stands w g → StructurizesRegion g counts w r w₃ (step.Refused 9 0)
     region-full e g st = refused-at-inst (rw taken at (its-targets st)) (rw e at (inst g (second-on st)))
 
-    pub after-inst : Stood w → Steady w₁ w₃
+    pub after-inst : Stood w → SteadyRecord w₁ w₃
     after-inst s =
         steady-then (steady-targets (targets (s .graph) (first-on (s .stands))) (first-on (s .stands)))
         (steady-of (inst-kinds (inst (s .graph) (second-on (s .stands)))))
@@ -220,17 +220,17 @@ module _ {counts w w₁ : List ℕ} {r : ℕ} (begun : w₁ ≡ stored w kinds r
       third-on {g} st = stands-on (inst-kinds (inst g (second-on st)) .front) (second-on st)
 
       pub region-refused-late : {m x : ℕ} → d ≡ step.Refused m x → (g : Graph) → Stands w g
-          → Structurizes g counts w r w₄ (step.Refused m x)
+          → StructurizesRegion g counts w r w₄ (step.Refused m x)
       region-refused-late e g st =
           refused-at-edges (rw taken at (its-targets st)) (rw made-so at (inst g (second-on st))) (rw e at (rest g (third-on st)))
 
-      pub region-done : d ≡ step.Done → {w₅ : List ℕ} → w₅ ≡ made-ready w₄ r → (g : Graph) → Stands w g → Structurizes g counts w r w₅
+      pub region-done : d ≡ step.Done → {w₅ : List ℕ} → w₅ ≡ made-ready w₄ r → (g : Graph) → Stands w g → StructurizesRegion g counts w r w₅
           step.Done
       region-done e s g st =
           structurized (rw taken at (its-targets st)) (rw made-so at (inst g (second-on st))) (rw e at (rest g (third-on st))) s
 
 -- ---- A claim.
-pub attempted-on : {w w₁ : List ℕ} → w₁ ≡ attempted w → Steady w w₁
+pub attempted-on : {w w₁ : List ℕ} → w₁ ≡ attempted w → SteadyRecord w w₁
 attempted-on {w} e = rw e (steady-attempted w)
 
 pub not-begun-yet : {w : List ℕ} {r state : ℕ} → r < 32 → state ≡ word w kinds r → state ≡ 0 → NotBegun w r
@@ -249,7 +249,7 @@ module _ {counts w w₁ : List ℕ} {r : ℕ} (n : ℕ) (counted : w₁ ≡ atte
         (rw (i, same, counted) at (c g (rw same (stands-on (attempted-on counted .front) st))))
 
     module _ (new : state ≡ 0) where
-      module _ {w₂ : List ℕ} {a : Step} (inside : (g : Graph) → Stands w₁ g → Structurizes g counts w₁ r w₂ a) where
+      module _ {w₂ : List ℕ} {a : Step} (inside : (g : Graph) → Stands w₁ g → StructurizesRegion g counts w₁ r w₂ a) where
         pub claim-inside : {m x : ℕ} → a ≡ step.Refused m x → (g : Graph) → Stands w g → TriesClaim g counts w r n w₂ (Refused m x)
         claim-inside e g st = refused-inside (rw counted at (not-begun-yet below of-state new))
             (rw (e, counted) at (inside g (stands-on (attempted-on counted .front) st)))

@@ -1,65 +1,31 @@
 -- Counts of an accepted record are small; and so claims and regions are shown for every one.
-use mathlib.Core.Path.{_≡_, refl, ap, _∙_}
-use mathlib.Core.Bool.{Bool, true, false, _||_}
-use mathlib.Core.List.{List, [], _∷_}
+use mathlib.Core.Bool.{Bool, true, false}
 use mathlib.Core.Logic.{_⊎_, inl, inr}
-use Prim.Native.Nat.{ℕ, zero, suc, _+_, _*_, _≤_, _<_}
+use Prim.Native.Nat.{ℕ, _+_, _*_, _≤_, _<_}
 use native.Mathlib.Omega.{arith}
-use lib.ListN.{length, getD, List·getD-eq-default, length-map}
+use lib.ListN.{length, List·getD-eq-default, length-map}
 use lib.Dec.{eqb}
-use borrow.Author.Tests.{eq-eqb}
 use Rattle.meaning.specs.Graph.{Graph, region, edges-of, targets-of, nowhere}
-use Rattle.meaning.specs.Lists.{is-in, pick, times-in, total, Distinct}
-use Rattle.meaning.specs.facts.Tests.{clash, in-or-out}
-use Rattle.meaning.specs.facts.Members.{is-in-at}
+use Rattle.meaning.specs.Lists.{pick, times-in, total}
+use Rattle.meaning.specs.facts.Tests.{in-or-out}
+use Rattle.meaning.specs.facts.Members.{times-few}
+use Rattle.meaning.specs.facts.Sums.{total-within}
+use Rattle.meaning.specs.facts.Pigeonhole.{distinct-few}
 use Rattle.format.specs.Valid.{Valid}
 use Rattle.nesting.specs.Nesting.{reachable, exit-targets}
 use Rattle.bundles.specs.RecordValues.{few-edges}
-use Rattle.merging.specs.Pigeonhole.{pigeonhole}
 use Rattle.cfg.specs.Shows.{K}
-use Rattle.cfg.specs.ClaimsShown.{Parts}
+use Rattle.cfg.specs.ClaimsShown.{ShownParts}
 use Rattle.cfg.specs.StateShown.{state-shown}
 use Rattle.cfg.specs.InstShown.{inst-shown}
 use Rattle.cfg.specs.ResolveShown.{resolve-shown}
 
 -- ---- At most 32 regions are reachable, each with at most 8 edges and 32 exits: the counts are small.
-getD-in : (x : ℕ) (xs : List ℕ) → is-in x xs ≡ false → (i : ℕ) → i < length xs → x ≡ getD xs i 0 → ⊥
-getD-in x xs f i h e =
-    let z : is-in x xs ≡ true = ap (λ y. is-in y xs) e ∙ is-in-at xs i h in
-    clash (cc)
-
-apart : (xs : List ℕ) → Distinct xs → (i j : ℕ) → i < j → j < length xs → getD xs i 0 ≡ getD xs j 0 → ⊥
-apart [] d i j l h e = absurd (omega arith)
-apart (x ∷ xs) d i zero l h e = absurd (omega arith)
-apart (x ∷ xs) d zero (suc j) l h e = getD-in x xs (d .0) j (omega arith) e
-apart (x ∷ xs) d (suc i) (suc j) l h e = apart xs (d .1) i j (omega arith) (omega arith) e
-
-times-few : (r : ℕ) (xs : List ℕ) → times-in r xs ≤ length xs
-times-few r [] = omega arith
-times-few r (x ∷ xs) = let z = times-few r xs in go (eqb r x) z
-  where
-    go : (b : Bool) → times-in r xs ≤ length xs → pick b 1 0 + times-in r xs ≤ suc (length xs)
-    go true z = omega arith
-    go false z = omega arith
-
--- A sum over members of a list.
-pub total-within : (f : ℕ → ℕ) (most : ℕ) (l : List ℕ) → ((i : ℕ) → is-in i l ≡ true → f i ≤ most) → total f l ≤ length l * most
-total-within f most [] h = omega arith
-total-within f most (x ∷ l) h =
-    let a = h x (rw (eq-eqb x x refl)) in
-    let b = total-within f most l (λ i m. h i (go i (eqb i x) m)) in omega arith
-  where
-    go : (i : ℕ) (b : Bool) → is-in i l ≡ true → (b || is-in i l) ≡ true
-    go i true m = refl
-    go i false m = m
-
 module _ (g : Graph) (valid : Valid g) where
   pub few-live : length (reachable g) ≤ 32
   few-live =
       let n = valid .count .1 in
-      let z = pigeonhole (length (g .regions)) (length (reachable g)) (λ i. getD (reachable g) i 0)
-      (λ i h. K g valid .below (getD (reachable g) i 0) (is-in-at (reachable g) i h))
-      (λ i j l h. apart (reachable g) (K g valid .once) i j l h) in omega arith
+      let z = distinct-few (length (g .regions)) (reachable g) (K g valid .once) (K g valid .below) in omega arith
 
   pub few-targets : (r : ℕ) → length (edges-of (region g r .terminator)) ≤ 8
   few-targets r = go (in-or-out r (length (g .regions)))
@@ -89,7 +55,7 @@ module _ (g : Graph) (valid : Valid g) where
       first false s l = omega arith
 
   -- What claims and regions are shown from.
-  pub parts : Parts g valid
+  pub parts : ShownParts g valid
   parts =
       let few = valid .count .1 in
       record {

@@ -119,7 +119,7 @@ fn resolve_deferred(w: &mut [u16; WORDS], counts: [u32; 32], r: u16) -> Step
 fn structurize_region(w: &mut [u16; WORDS], counts: [u32; 32], r: u16) -> Step
     requires { ⌜ words.NotBegun (now w) r ⌝ }
     requires { ⌜ words.Stood (now w) ⌝ }
-    ensures { λ a. ⌜ OfRecord (now (w .entry)) (λ g. words.Structurizes g counts (now (w .entry)) r (now (w .exit)) a) ⌝ }
+    ensures { λ a. ⌜ OfRecord (now (w .entry)) (λ g. words.StructurizesRegion g counts (now (w .entry)) r (now (w .exit)) a) ⌝ }
 {
     set_region_state(w, r, IN_PROGRESS);
     if let Step::Refused(number, word) = target_regions(w, counts, r) {

@@ -38,14 +38,14 @@ pub targets-counted : (g : Graph) (r : ℕ) {n : ℕ} → n ≡ length (edges-of
 targets-counted g r e = e ∙ sym (length-map (edges-of (region g r .terminator)) _)
 
 -- The counts c became c′ by the first j of a list; what the others add is left.
-pub record Counting (c c′ : List ℕ) (j : ℕ) (ts : List ℕ) : Type 0 where
+pub record CountedUpTo (c c′ : List ℕ) (j : ℕ) (ts : List ℕ) : Type 0 where
   pub each : (a : ℕ) → a < 32 → getD c′ a 0 + times-in a (drop j ts) ≡ getD c a 0 + times-in a ts
 
-pub counting-start : (c ts : List ℕ) → Counting c c 0 ts
+pub counting-start : (c ts : List ℕ) → CountedUpTo c c 0 ts
 counting-start c ts = record { each = λ a k. omega arith }
 
-module _ (ts : List ℕ) {n : ℕ} (size : n ≡ length ts) {c c′ : List ℕ} {j : ℕ} (h : Counting c c′ j ts) where
-  pub counting-turn : {d : List ℕ} {x : ℕ} → j < n → x ≡ getD ts j 0 → OneMore c′ d x → Counting c d (j + 1) ts
+module _ (ts : List ℕ) {n : ℕ} (size : n ≡ length ts) {c c′ : List ℕ} {j : ℕ} (h : CountedUpTo c c′ j ts) where
+  pub counting-turn : {d : List ℕ} {x : ℕ} → j < n → x ≡ getD ts j 0 → OneMore c′ d x → CountedUpTo c d (j + 1) ts
   counting-turn l e o =
       record {
         each =

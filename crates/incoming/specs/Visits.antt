@@ -28,18 +28,18 @@ unseen-less (b ∷ seen) zero l e = rw e (omega arith)
 unseen-less (b ∷ seen) (suc r) l e = let z = unseen-less seen r (omega arith) e in omega arith
 
 -- What a mark does: to a region that was not marked yet, and to any other number.
-pub record New (seen after : List Bool) (r : ℕ) : Type 0 where
+pub record NewMark (seen after : List Bool) (r : ℕ) : Type 0 where
   pub within : r < 32
   pub fresh : getD seen r false ≡ false
   pub is : after ≡ set seen r true
 
-pub record Known (seen after : List Bool) (r : ℕ) : Type 0 where
+pub record OldMark (seen after : List Bool) (r : ℕ) : Type 0 where
   pub old : r < 32 → getD seen r false ≡ true
   pub is : after ≡ seen
 
 abbrev pub Marks : List Bool → List Bool → ℕ → Bool → Type 0
-Marks seen after r true = New seen after r
-Marks seen after r false = Known seen after r
+Marks seen after r true = NewMark seen after r
+Marks seen after r false = OldMark seen after r
 
 -- A visit pushes at most eight regions and counts at most 131,070 edges, each time another region.
 pub record Room (seen : List Bool) (counts : List ℕ) (depth : ℕ) : Type 0 where
@@ -124,7 +124,7 @@ module _ {g : Graph} (v : Valid g) where
     within : r < 32
     within = omega (arith, h .inside .0, v .count .1)
 
-    pub known-visit : {after : List Bool} → Known seen after r → Visiting g fuel todo after c
+    pub known-visit : {after : List Bool} → OldMark seen after r → Visiting g fuel todo after c
     unfolding visit
     known-visit m =
         let i : is-in r (h .live) ≡ true = sym (h .marked r within) ∙ m .old within in
@@ -137,7 +137,7 @@ module _ {g : Graph} (v : Valid g) where
           counted = h .counted;
         }
 
-    pub new-visit : {after : List Bool} {d e todo′ : List ℕ} → length seen ≡ 32 → New seen after r → GainsAll c d (targets-of g r)
+    pub new-visit : {after : List Bool} {d e todo′ : List ℕ} → length seen ≡ 32 → NewMark seen after r → GainsAll c d (targets-of g r)
         → GainsAll d e (exit-targets g r) → todo′ ≡ targets-of g r ++ todo → Visiting g fuel todo′ after e
     unfolding visit
     new-visit sized m gain more p =
@@ -202,13 +202,13 @@ pub room-popped : {seen : List Bool} {c : List ℕ} {depth : ℕ} → Room seen 
 room-popped {depth = depth} h n = let e : suc (depth - 1) ≡ depth = omega arith in rw e h
 
 module _ {seen : List Bool} {c : List ℕ} {depth : ℕ} (h : Room seen c (suc depth)) where
-  pub room-known : {after : List Bool} {r : ℕ} → Known seen after r → Room after c depth
+  pub room-known : {after : List Bool} {r : ℕ} → OldMark seen after r → Room after c depth
   room-known m = rw (m .is) record { sized = h .sized; stack = omega (arith, h .stack); small = h .small }
 
   pub room-counts : (n : ℕ) → 4194241 ≤ n → AtMost c n
   room-counts n l = record { each = λ a k. omega (arith, h .small .each a k) }
 
-  pub room-new : {after : List Bool} {r : ℕ} {d e : List ℕ} {depth′ : ℕ} → New seen after r → Grows c d 65535 → Grows d e 65535
+  pub room-new : {after : List Bool} {r : ℕ} {d e : List ℕ} {depth′ : ℕ} → NewMark seen after r → Grows c d 65535 → Grows d e 65535
       → depth′ ≤ depth + 8 → Room after e depth′
   room-new {r = r} m gain more l =
       let z = unseen-less seen r (omega (arith, m .within, h .sized)) (m .fresh) in

@@ -38,19 +38,21 @@ use Rattle.shown.specs.Sets.{ShowsBundle, ShowsSet, no-bundle, target-size}
 use Rattle.shown.specs.Cells.{ShowsChildren}
 use Rattle.shown.specs.States.{ShowsOwnSet, Slots, NamedRewrites, ShowsState, ShowsClaimed}
 use Rattle.shown.specs.Kept.{own-set-stays, children-stay}
-use Rattle.shown.specs.SetSteps.{targets-tell, swap-removed-only, swap-removed-set}
+use Rattle.shown.specs.SetSteps.{swap-removed-only, swap-removed-set}
+use Rattle.shown.specs.Finds.{targets-tell}
 use Rattle.shown.specs.SetStores.{only-word-same}
 use Rattle.shown.specs.RegionSteps.{Concerns, concerns-then, word-concerns, bundle-same, bundle-run, bundle-concerns, aside-by, named-by}
-use Rattle.shown.specs.RegionSteps.{named-stay, slots-stay, Within, within-then, within-aside, within-concerns, within-states, state-next}
+use Rattle.shown.specs.RegionSteps.{named-stay, slots-stay, OnlyRegion, only-region-then, only-region-aside, only-region-concerns}
+use Rattle.shown.specs.RegionSteps.{only-region-states, state-next}
 use Rattle.shown.specs.RegionSteps.{body-set}
 use Rattle.state.specs.declared.defined.Made.{Made}
 use Rattle.state.specs.declared.defined.Made.the-variants.{Done, Full as Refused}
 use Rattle.bundles.specs.Words.{condition-in}
 use Rattle.loops.specs.Inputs.{backedge-inputs}
 use Rattle.loops.specs.Exits.{exits-added}
-use Rattle.loops.specs.Loops.{EntersInputs, LoopDefined, Structurizes, looped, no-wrapper, no-loop}
+use Rattle.loops.specs.Loops.{EntersInputs, LoopDefined, StructurizesLoop, looped, no-wrapper, no-loop}
 use Rattle.loops.specs.ExitsShown.{ExitsCounted, exits-shown}
-use Rattle.loops.specs.LoopsShown.{InputsEntered, inputs-entered, entered-state, LoopWithin, ShowsMade, made-done, made-refused}
+use Rattle.loops.specs.LoopsShown.{InputsEntered, inputs-entered, entered-state, LoopWithin, ShowsLoopMade, made-done, made-refused}
 use Rattle.loops.specs.LoopsShown.{loop-step, loop-made-shown, defines-changes, set-beside}
 
 -- ---- The back edge leaves region r's set: nothing of another region changes.
@@ -147,12 +149,12 @@ pub data ShowsLoop (g : Graph) (w : List ℕ) (r : ℕ) (inputs : List Value) (s
 pub record LoopShown (g : Graph) (r : ℕ) (inputs : List Value) (w w′ : List ℕ) (s : NestState) (a : Made)
     (b : StepAnswer (Option ClaimedRegion)) : Type 0 where
   pub answer : ShowsLoop g w′ r inputs s a b
-  pub within : Within g r w w′
+  pub within : OnlyRegion g r w w′
   pub total-from : word w head 4 ≤ word w′ head 4
   pub total-to : word w′ head 4 ≤ word w head 4 + 5
 
 -- A made loop taken apart by what the code answered.
-record MadeDone {A : Type 0} (F : Value → ℕ → A) (g : Graph) (r : ℕ) (l : List ℕ) (y : LoopInputs) (ks : Nodes) (b : StepAnswer A)
+record LoopMade {A : Type 0} (F : Value → ℕ → A) (g : Graph) (r : ℕ) (l : List ℕ) (y : LoopInputs) (ks : Nodes) (b : StepAnswer A)
     : Type 0 where
   v : Value
   n : ℕ
@@ -162,12 +164,12 @@ record MadeDone {A : Type 0} (F : Value → ℕ → A) (g : Graph) (r : ℕ) (l 
   nodes : ShowsChildren g l (word l children r) (loop (loop-node g n r y v) ks ▸ ⟨⟩)
 
 made-of : {A : Type 0} {F : Value → ℕ → A} {g : Graph} {r : ℕ} {l : List ℕ} {y : LoopInputs} {ks : Nodes} {a : Made} {b : StepAnswer A}
-    → ShowsMade F g r l y ks a b → a ≡ Done → MadeDone F g r l y ks b
+    → ShowsLoopMade F g r l y ks a b → a ≡ Done → LoopMade F g r l y ks b
 made-of (made-done {v} {n} {s} t k) e = record { v = v; n = n; state = s; is = refl; tables = t; nodes = k }
 made-of made-refused e = absurd (clash (cc))
 
 refused-of : {A : Type 0} {F : Value → ℕ → A} {g : Graph} {r : ℕ} {l : List ℕ} {y : LoopInputs} {ks : Nodes} {a : Made} {b : StepAnswer A}
-    → ShowsMade F g r l y ks a b → a ≡ Refused → b ≡ turned-away 9 0
+    → ShowsLoopMade F g r l y ks a b → a ≡ Refused → b ≡ turned-away 9 0
 refused-of (made-done t k) e = absurd (clash (cc))
 refused-of made-refused e = refl
 
@@ -245,10 +247,10 @@ module _ {g : Graph} {w : List ℕ} {s : NestState} {r p i : ℕ} {ks : Nodes} {
       let low : DeferredEdgeBundle → Type 0 = λ y. y .accumulated-count < 65535 in
       all-at low no-bundle exits (all-split low (to-region r) d (x .counts)) j h
 
-  within-region : {a : Defined} {l₁ : List ℕ} → Defines 0 128 w₀ l₁ a → Within g r w l₁
+  within-region : {a : Defined} {l₁ : List ℕ} → Defines 0 128 w₀ l₁ a → OnlyRegion g r w l₁
   within-region y =
-      within-then (within-concerns concerns₀)
-      (within-aside r (aside-by (defines-changes y) (omega arith) (omega arith) (omega arith) (omega arith) g))
+      only-region-then (only-region-concerns concerns₀)
+      (only-region-aside r (aside-by (defines-changes y) (omega arith) (omega arith) (omega arith) (omega arith) g))
 
   refused-wrapper : {w′ : List ℕ} → Defines 0 128 w₀ w′ Full → LoopShown g r inputs w w′ s Refused gives
   unfolding structurize-loop
@@ -294,13 +296,13 @@ module _ {g : Graph} {w : List ℕ} {s : NestState} {r p i : ℕ} {ks : Nodes} {
         inputs-entered g (region₁ .tables) named₁ (rw (region-log s is₁) (x .chains)) (omega arith) (omega arith) refl
         (λ j c. passed j (omega arith)) (omega arith) small (omega arith) (omega arith) enter
 
-    within₂ : Within g r w l₂
-    within₂ = within-then (within-region wraps) (within-aside r (entered .aside))
+    within₂ : OnlyRegion g r w l₂
+    within₂ = only-region-then (within-region wraps) (only-region-aside r (entered .aside))
 
     abbrev F : Value → ℕ → Option ClaimedRegion
     F v m = some (loop-claimed g r ks exits inputs wrapper (entered .values) v m)
 
-    made : LoopWithin g r l₂ l₃ × ShowsMade F g r l₃ (take-inputs g r wrapper 0 (entered .values) no-inputs) ks a
+    made : LoopWithin g r l₂ l₃ × ShowsLoopMade F g r l₃ (take-inputs g r wrapper 0 (entered .values) no-inputs) ks a
         (loop-step repeat F (entered-state g r wrapper (entered .values) (entered .between)))
     made =
         let below = x .in-graph in
@@ -323,8 +325,8 @@ module _ {g : Graph} {w : List ℕ} {s : NestState} {r p i : ℕ} {ks : Nodes} {
     gives-so : gives ≡ loop-step repeat F (entered-state g r wrapper (entered .values) (entered .between))
     gives-so = loop-steps g r ks e repeat exits inputs s is₁ (entered .looked-up)
 
-    within₃ : Within g r w l₃
-    within₃ = within-then within₂ (made .0 .within)
+    within₃ : OnlyRegion g r w l₃
+    within₃ = only-region-then within₂ (made .0 .within)
 
     total-from₃ : word w head 4 ≤ word l₃ head 4
     total-from₃ = let a = total₁ in let b = entered .total-from in let c = made .0 .total-from in omega arith
@@ -347,15 +349,15 @@ module _ {g : Graph} {w : List ℕ} {s : NestState} {r p i : ℕ} {ks : Nodes} {
       abbrev l₄ : List ℕ
       l₄ = stored l₃ bodies r wrapper
 
-      loop₃ : MadeDone F g r l₃ (take-inputs g r wrapper 0 (entered .values) no-inputs) ks
+      loop₃ : LoopMade F g r l₃ (take-inputs g r wrapper 0 (entered .values) no-inputs) ks
           (loop-step repeat F (entered-state g r wrapper (entered .values) (entered .between)))
       loop₃ = made-of (made .1) is-done
 
       body₄ : Concerns g r l₃ l₄
       body₄ = word-concerns g l₃ bodies (omega arith) r wrapper
 
-      within₄ : Within g r w l₄
-      within₄ = within-then within₃ (within-concerns body₄)
+      within₄ : OnlyRegion g r w l₄
+      within₄ = only-region-then within₃ (only-region-concerns body₄)
 
       fits₃ : used ≤ length l₃
       fits₃ = loop₃ .tables .size
@@ -380,8 +382,8 @@ module _ {g : Graph} {w : List ℕ} {s : NestState} {r p i : ℕ} {ks : Nodes} {
       counted : w′ ≡ exits-added g r l₄
       counted = count-exits g (stands-on (within₄ .later .front) (x .shown .stands))
 
-      within₅ : Within g r w (exits-added g r l₄)
-      within₅ = within-then within₄ (within-concerns (exits₄ .concerns))
+      within₅ : OnlyRegion g r w (exits-added g r l₄)
+      within₅ = only-region-then within₄ (only-region-concerns (exits₄ .concerns))
 
       abbrev claims : ClaimedRegion
       claims = loop-claimed g r ks exits inputs wrapper (entered .values) (loop₃ .v) (loop₃ .n)
@@ -401,7 +403,7 @@ module _ {g : Graph} {w : List ℕ} {s : NestState} {r p i : ℕ} {ks : Nodes} {
       state₅ : ShowsState g (exits-added g r l₄) (loop₃ .state)
       state₅ =
           let three = x .claimed in
-          state-next (within₅ .later) (within-states within₅ (x .few) (omega arith))
+          state-next (within₅ .later) (only-region-states within₅ (x .few) (omega arith))
           (tables-stay (exits₄ .concerns .tables) (tables-stay (body₄ .tables) (loop₃ .tables)))
           (named-stay (exits₄ .concerns .tables) (named-stay (body₄ .tables) (made .0 .named (entered .named)))) same-states (x .shown)
 
@@ -436,7 +438,7 @@ module _ {g : Graph} {w : List ℕ} {s : NestState} {r p i : ℕ} {ks : Nodes} {
           }
 
   -- All paths of the code.
-  pub structurize-loop-shown : {w′ : List ℕ} {a : Made} → Structurizes r p w w′ a
+  pub structurize-loop-shown : {w′ : List ℕ} {a : Made} → StructurizesLoop r p w w′ a
       → LoopShown g r inputs w w′ s a (structurize-loop g r ks e (nesting.condition-in d e) (split-out-target (to-region r) d) inputs s)
   structurize-loop-shown (no-wrapper wraps) = refused-wrapper wraps
   structurize-loop-shown (no-loop count wraps enter make) = refused-loop (count g (x .shown .stands)) wraps enter make refl

@@ -19,7 +19,7 @@ use Rattle.shown.specs.Stores.{ChangesOnly, nothing-changes, changes-then}
 use Rattle.shown.specs.Sets.{ShowsTarget, shows-region, shows-return, ShowsBundle, ShowsSet, no-bundle}
 use Rattle.shown.specs.States.{Slots, ShowsOwnSet}
 use Rattle.shown.specs.Kept.{bundle-stays}
-use Rattle.shown.specs.SetSteps.{bundle-in}
+use Rattle.shown.specs.Finds.{bundle-in}
 use Rattle.shown.specs.RegionSteps.{slots-stay, word-there, word-apart, later-by, OnlyBundle, bundle-same, bundle-word, bundle-concerns}
 use Rattle.shown.specs.RegionSteps.{Concerns, concerns-then}
 use Rattle.loops.specs.Exits.{one-more, exit-added, exits-from, exits-added}

@@ -35,17 +35,17 @@ pub data EntersInputs (r wrapper n : ℕ) (l vs l′ : List ℕ) (h : ℕ) : Typ
       → EntersInputs r wrapper n l vs l′ h
 
 -- Region r, whose back edge is bundle p, leaves its set, and the wrapper, the inputs and the loop are made in this order.
-pub data Structurizes (r p : ℕ) (l l′ : List ℕ) : Made → Type 0 where
+pub data StructurizesLoop (r p : ℕ) (l l′ : List ℕ) : Made → Type 0 where
   looped : {n wrapper h : ℕ} {l₁ l₂ l₃ : List ℕ} → OfRecord l (λ g. n ≡ length (region g r .inputs))
       → Defines 0 128 (swap-removed l r p) l₁ (Number wrapper) → EntersInputs r wrapper n l₁ (backedge-inputs l p) l₂ h
       → LoopDefined r (condition-in l p (word l set-lengths r)) h l₂ l₃ Done
       → OfRecord (stored l₃ bodies r wrapper) (λ g. l′ ≡ exits-added g r (stored l₃ bodies r wrapper))
-      → Structurizes r p l l′ Done
-  no-wrapper : Defines 0 128 (swap-removed l r p) l′ Full → Structurizes r p l l′ Refused
+      → StructurizesLoop r p l l′ Done
+  no-wrapper : Defines 0 128 (swap-removed l r p) l′ Full → StructurizesLoop r p l l′ Refused
   no-loop : {n wrapper h : ℕ} {l₁ l₂ : List ℕ} → OfRecord l (λ g. n ≡ length (region g r .inputs))
       → Defines 0 128 (swap-removed l r p) l₁ (Number wrapper) → EntersInputs r wrapper n l₁ (backedge-inputs l p) l₂ h
       → LoopDefined r (condition-in l p (word l set-lengths r)) h l₂ l′ Refused
-      → Structurizes r p l l′ Refused
+      → StructurizesLoop r p l l′ Refused
 
 -- ---- The functions, path by path.
 module _ {r : ℕ} {l : List ℕ} where
@@ -67,15 +67,15 @@ module _ {r : ℕ} {l : List ℕ} where
 module _ {r p n c : ℕ} {l vs l₁ : List ℕ} {a : Defined} (count : OfRecord l (λ g. n ≡ length (region g r .inputs)))
     (values : vs ≡ backedge-inputs l p) {m : ℕ} (many : m ≡ word l set-lengths r) (condition : c ≡ condition-in l p m) {l₀ : List ℕ}
     (removed : l₀ ≡ swap-removed l r p) (region-more : Defines 0 128 l₀ l₁ a) where
-  pub wrapper-full : a ≡ Full → Structurizes r p l l₁ Refused
+  pub wrapper-full : a ≡ Full → StructurizesLoop r p l l₁ Refused
   wrapper-full e = no-wrapper (rw (removed, e) at region-more)
 
   module _ {wrapper : ℕ} (some : a ≡ Number wrapper) {h : ℕ} {l₂ : List ℕ} (inputs : EntersInputs r wrapper n l₁ vs l₂ h) {l₃ : List ℕ}
       {b : Made} (made : LoopDefined r c h l₂ l₃ b) where
-    pub loop-full : b ≡ Refused → Structurizes r p l l₃ Refused
+    pub loop-full : b ≡ Refused → StructurizesLoop r p l l₃ Refused
     loop-full e = no-loop count (rw (removed, some) at region-more) (rw values at inputs) (rw (condition, many, e) at made)
 
     pub loop-made : b ≡ Done → {l₄ l′ : List ℕ} → l₄ ≡ stored l₃ bodies r wrapper → OfRecord l₄ (λ g. l′ ≡ exits-added g r l₄)
-        → Structurizes r p l l′ Done
+        → StructurizesLoop r p l l′ Done
     loop-made e s x =
         looped count (rw (removed, some) at region-more) (rw values at inputs) (rw (condition, many, e) at made) (rw s at x)

@@ -26,7 +26,7 @@ use Rattle.shown.specs.Cells.{ShowsChildren}
 use Rattle.shown.specs.States.{NamedRewrites, ShowsOwnSet}
 use Rattle.shown.specs.Kept.{own-set-stays, set-stays, children-stay}
 use Rattle.shown.specs.RegionSteps.{Aside, aside-then, aside-by, named-by, named-stay, OfOneRegion, word-concerns, bundles-same}
-use Rattle.shown.specs.RegionSteps.{Within, within-then, within-aside, within-concerns, children-set}
+use Rattle.shown.specs.RegionSteps.{OnlyRegion, only-region-then, only-region-aside, only-region-concerns, children-set}
 use Rattle.shown.specs.CellSteps.{ShowsKeptList, kept-list-by, cell-aside, cell-tables, cell-total, cell-handle, loop-added}
 use Rattle.lookups.specs.Materialized.{Materializes}
 use Rattle.lookups.specs.ConditionsShown.{materialize-shown}
@@ -117,18 +117,18 @@ set-beside g w k o five r x s =
     (set-stays (c .later) (λ i h. bundles-same (section-other w k r x bundles (omega arith)) (word w set-starts r + i)) s)
 
 pub record LoopWithin (g : Graph) (r : ℕ) (l l′ : List ℕ) : Type 0 where
-  pub within : Within g r l l′
+  pub within : OnlyRegion g r l l′
   pub own-set : {d : DeferredEdgeBundleSet} → ShowsOwnSet g l r d → ShowsOwnSet g l′ r d
   pub named : NamedRewrites l → NamedRewrites l′
   pub total-from : word l head 4 ≤ word l′ head 4
   pub total-to : word l′ head 4 ≤ suc (word l head 4)
 
 -- What the code answers, and the definition, for whatever is given with the value and the node.
-pub data ShowsMade {A : Type 0} (F : Value → ℕ → A) (g : Graph) (r : ℕ) (l : List ℕ) (y : LoopInputs) (ks : Nodes)
+pub data ShowsLoopMade {A : Type 0} (F : Value → ℕ → A) (g : Graph) (r : ℕ) (l : List ℕ) (y : LoopInputs) (ks : Nodes)
     : Made → StepAnswer A → Type 0 where
   made-done : {v : Value} {n : ℕ} {s : NestState} → ShowsTables l s
-      → ShowsChildren g l (word l children r) (loop (loop-node g n r y v) ks ▸ ⟨⟩) → ShowsMade F g r l y ks Done (done (F v n) s)
-  made-refused : ShowsMade F g r l y ks Refused (turned-away 9 0)
+      → ShowsChildren g l (word l children r) (loop (loop-node g n r y v) ks ▸ ⟨⟩) → ShowsLoopMade F g r l y ks Done (done (F v n) s)
+  made-refused : ShowsLoopMade F g r l y ks Refused (turned-away 9 0)
 
 abbrev pub loop-step : {A : Type 0} → LazyCond → (Value → ℕ → A) → Step A
 loop-step t F = materialize-lazy-cond t >>= λ v. define-node >>= λ n. give (F v n)
@@ -137,7 +137,7 @@ aside-within : {g : Graph} (r : ℕ) {l l′ : List ℕ} → Aside g l l′ → 
     → word l′ head 4 ≡ word l head 4 → LoopWithin g r l l′
 aside-within r a e f =
     record {
-      within = within-aside r a;
+      within = only-region-aside r a;
       own-set = λ s. own-set-stays (a .later) (a .regions r) s;
       named = λ n. named-by e n;
       total-from = omega arith;
@@ -150,7 +150,7 @@ loop-within-then a e b =
     let z = b .total-to in
     let y = b .total-from in
     record {
-      within = within-then (a .within) (b .within);
+      within = only-region-then (a .within) (b .within);
       own-set = λ s. b .own-set (a .own-set s);
       named = λ n. b .named (a .named n);
       total-from = omega arith;
@@ -173,7 +173,7 @@ module _ {g : Graph} {r n x kept : ℕ} {l l′ : List ℕ} {y : LoopInputs} {ks
       let looped : Nodes = loop (loop-node g n r y v) ks ▸ ⟨⟩ in
       subst (λ z. LoopWithin g r l z × SameTables l z × ShowsChildren g z (word z children r) looped) (sym e) (
         record {
-          within = within-then (within-aside r aside) (within-concerns c);
+          within = only-region-then (only-region-aside r aside) (only-region-concerns c);
           own-set = λ s. set-beside g l₁ children (omega arith) (omega arith) r h (own-set-stays (aside .later) (aside .regions r) s);
           named = λ q. named-stay (c .tables) (named-stay tables q);
           total-from = omega arith;
@@ -199,7 +199,7 @@ module _ {A : Type 0} (F : Value → ℕ → A) (g : Graph) {r c kept : ℕ} {l 
       (z .totals 4 (omega arith))
 
   pub loop-made-shown : {l′ : List ℕ} {a : Made} → LoopDefined r c kept l l′ a
-      → LoopWithin g r l l′ × ShowsMade F g r l′ y ks a (loop-step t F s)
+      → LoopWithin g r l l′ × ShowsLoopMade F g r l′ y ks a (loop-step t F s)
   loop-made-shown (no-value m) =
       (value-within m, rw (full-of (materialize-shown m condition tables .answer) refl) made-refused)
   loop-made-shown (no-node m d) =

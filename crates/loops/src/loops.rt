@@ -67,7 +67,7 @@ fn enter_inputs(w: &mut [u16; WORDS], r: u16, wrapper: u16, n: u16, vs: &mut [u1
 
 // The back edge stands at p in region r's set.
 pub fn structurize_loop(w: &mut [u16; WORDS], r: u16, p: u16) -> Made
-    ensures { λ a. ⌜ words.Structurizes r p (now (w .entry)) (now (w .exit)) a ⌝ }
+    ensures { λ a. ⌜ words.StructurizesLoop r p (now (w .entry)) (now (w .exit)) a ⌝ }
 {
     let n = fields::input_count(w, r);
     let condition = condition_in(w, p, set_length(w, r));

@@ -5,3 +5,4 @@ pub mod Parts
 pub mod Members
 pub mod Distinct
 pub mod Sums
+pub mod Pigeonhole

@@ -5,8 +5,6 @@ pub mod Targets
 pub mod Planning
 pub mod Rows
 pub mod Spare
-pub mod Pigeonhole
-pub mod Finds
 pub mod RewritingShown
 pub mod TargetsShown
 pub mod PerCaseShown

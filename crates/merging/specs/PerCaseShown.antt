@@ -1,7 +1,7 @@
 -- What each case passes to a target, and under which condition: the words show what the definition has for every cases that they show.
 use mathlib.Core.Path.{_≡_, refl, sym, ap, _∙_}
 use mathlib.Core.Bool.{Bool, true, false, _&&_}
-use mathlib.Core.List.{List, [], _∷_, map}
+use mathlib.Core.List.{List, [], _∷_}
 use mathlib.Core.Option.{Option, none, some}
 use Prim.Native.Nat.{ℕ, zero, suc, _+_, _*_, _≤_, _<_}
 use native.Mathlib.Omega.{arith}
@@ -11,13 +11,13 @@ use lib.Seq.{getD-set-same, getD-set-other}
 use lib.Dec.{eqb}
 use borrow.Author.Tests.{lt-ltb, le-ltb, eq-eqb, ne-eqb}
 use Rattle.meaning.specs.Lists.{pick, all}
-use Rattle.meaning.specs.facts.Tests.{clash, eqb-sym}
+use Rattle.meaning.specs.facts.Tests.{clash, eqb-sym, pick-and}
 use Rattle.meaning.specs.Graph.{Value, Graph, undef, same-value}
 use Rattle.format.specs.Valid.{Valid}
 use Rattle.nesting.specs.Nesting as nesting
 use Rattle.nesting.specs.Nesting.{LazyCond, undef-cond, false-cond, true-cond, merge, DeferredTarget, DeferredEdgeBundle}
-use Rattle.nesting.specs.Nesting.{DeferredEdgeBundleSet, get-edge-bundle-by-target, same-target, MaybeClaimedRegion, ok, deferred-of}
-use Rattle.nesting.specs.Nesting.{PerCaseDeferred, passed-inputs}
+use Rattle.nesting.specs.Nesting.{DeferredEdgeBundleSet, get-edge-bundle-by-target, MaybeClaimedRegion, ok, deferred-of}
+use Rattle.nesting.specs.Nesting.{passed-inputs}
 use Rattle.state.specs.Sections.{section, word, set-starts, cases, conditions, bundles}
 use Rattle.state.specs.Values.{is-input, input-region, input-index}
 use Rattle.state.specs.Tables.{input-word, case-total}
@@ -33,8 +33,8 @@ use Rattle.bundles.specs.Words.{condition-in}
 use Rattle.merging.specs.Planning.{place-of, per-case-deferred, per-case-condition, in-parent, passed-by, with-passed, unique-from}
 use Rattle.merging.specs.Planning.{unique-input, is-true, all-from, all-true}
 use Rattle.merging.specs.Spare.{SpareOnly, spare-there, spare-later, spare-outside, case-stays}
-use Rattle.merging.specs.Finds.{FirstTo, first-at, none-to, finds}
-use Rattle.merging.specs.TargetsShown.{same-target-is}
+use Rattle.shown.specs.Finds.{Finds, found as there-is, none-found, finds}
+use Rattle.nesting.specs.steps.TargetsAndCases.{same-target-is, per-cases}
 
 -- A word for a value that can be passed, 65535 where none can.
 pub data ShowsPassed (a : ℕ) : Option Value → Type 0 where
@@ -91,19 +91,6 @@ module _ (g : Graph) (l : List ℕ) (r j : ℕ) where
       rw (← n .is) (by-range c kind body inputs x (n .below) (ranged x) refl)
 
 -- ---- The bundle of a set to a target.
-get-there : (x : DeferredTarget) (d : DeferredEdgeBundleSet) (i : ℕ) → i < length d → same-target x (getD d i no-bundle .target) ≡ true
-    → ((k : ℕ) → k < i → same-target x (getD d k no-bundle .target) ≡ false)
-    → get-edge-bundle-by-target x d ≡ some (getD d i no-bundle)
-get-there x [] i h is before = absurd (omega arith)
-get-there x (e ∷ d) zero h is before = rw is
-get-there x (e ∷ d) (suc i) h is before =
-    rw (before 0 (omega arith)) (get-there x d i (omega arith) is (λ k b. before (suc k) (omega arith)))
-
-get-none : (x : DeferredTarget) (d : DeferredEdgeBundleSet) → ((k : ℕ) → k < length d → same-target x (getD d k no-bundle .target) ≡ false)
-    → get-edge-bundle-by-target x d ≡ none
-get-none x [] new = refl
-get-none x (e ∷ d) new = rw (new 0 (omega arith)) (get-none x d (λ k b. new (suc k) (omega arith)))
-
 -- Its place p, outside of the spare slot, which starts at bundle o.
 pub data ShowsPlace (g : Graph) (o : ℕ) (l : List ℕ) (p : ℕ) (x : DeferredTarget) (d : DeferredEdgeBundleSet) : Type 0 where
   stands-at : {e : DeferredEdgeBundle} → (p ≡ 65535 → ⊥) → ((q : ℕ) → q < 33 → p ≡ o + q → ⊥) → ShowsBundle g l p e → e .target ≡ x
@@ -120,20 +107,16 @@ module _ (g : Graph) (valid : Valid g) (o : ℕ) (l : List ℕ) (t : ℕ) {x : D
   place-shown : (j : ℕ) {d : DeferredEdgeBundleSet} → ShowsSet g l (word l cases (10 * j + 4)) (word l cases (10 * j + 5)) d
       → ((i q : ℕ) → i < word l cases (10 * j + 5) → q < 33 → word l cases (10 * j + 4) + i ≡ o + q → ⊥)
       → ShowsPlace g o l (place-of l t j) x d
-  place-shown j {d} y apart =
-      go (finds g valid l (word l cases (10 * j + 4)) t (word l cases (10 * j + 5)) x (λ k. getD d k no-bundle .target) shown (y .room)
-      (y .few)
-      (λ k h. y .each k h .target))
+  place-shown j {d} y apart = let few = valid .count .1 in
+      go (finds l (omega arith) (word l cases (10 * j + 4)) shown y)
     where
-      go : FirstTo x (λ k. getD d k no-bundle .target) (word l cases (10 * j + 5)) (word l cases (10 * j + 4)) (place-of l t j)
-          → ShowsPlace g o l (place-of l t j) x d
-      go (first-at i h is before e) =
+      go : Finds (word l cases (10 * j + 4)) x d (place-of l t j) → ShowsPlace g o l (place-of l t j) x d
+      go (there-is i e h gets is before) =
           let size = y .size in
           let room = y .room in
-          stands-at {e = getD d i no-bundle} (omega arith) (λ q b. rw e (apart i q h b)) (rw e (y .each i h))
-          (sym (same-target-is x (getD d i no-bundle .target) is))
-          (get-there x d i (omega arith) is before)
-      go (none-to new e) = let size = y .size in stands-nowhere e (get-none x d (λ k h. new k (omega arith)))
+          stands-at {e = getD d i no-bundle} (omega arith) (λ q b. rw e (apart i q (omega arith) b)) (rw e (y .each i (omega arith)))
+          (sym (same-target-is x (getD d i no-bundle .target) is)) gets
+      go (none-found e gets) = stands-nowhere e gets
 
 -- ---- Under which condition a case goes there.
 pub condition-shown : (g : Graph) (o : ℕ) (l : List ℕ) (j p : ℕ) {x : DeferredTarget} (d : DeferredEdgeBundleSet)
@@ -163,9 +146,6 @@ pub inputs-nowhere : (x : DeferredTarget) (d : DeferredEdgeBundleSet) → get-ed
 inputs-nowhere x [] get = refl
 inputs-nowhere x (f ∷ d) get = rw get
 
-abbrev pub per-case : DeferredTarget → List MaybeClaimedRegion → List PerCaseDeferred
-per-case x cs = map (λ c. nesting.per-case-deferred x (deferred-of c)) cs
-
 abbrev true-enough : LazyCond → Bool
 true-enough t = elim t [ true-cond ↦ true | undef-cond ↦ true | false-cond ↦ false | merge n k v cs ↦ false ]
 
@@ -184,7 +164,7 @@ module _ (g : Graph) (o : ℕ) (l : List ℕ) (r : ℕ) (x : DeferredTarget) (ps
     pub place : ShowsPlace g o l (getD ps j 0) x (deferred-of c)
 
   pub all-shown : (cs : List MaybeClaimedRegion) (j : ℕ) → ((k : ℕ) → k < length cs → CaseAt (j + k) (getD cs k no-case))
-      → all-from l ps (length cs) j ≡ nesting.all-true (per-case x cs)
+      → all-from l ps (length cs) j ≡ nesting.all-true (per-cases x cs)
   unfolding all-from
   all-shown [] j each = refl
   all-shown (c ∷ cs) j each =
@@ -193,11 +173,7 @@ module _ (g : Graph) (o : ℕ) (l : List ℕ) (r : ℕ) (x : DeferredTarget) (ps
       let shown = condition-shown g o l j (getD ps j 0) (deferred-of c) (first .size) (first .place) in
       let ih = all-shown cs (suc j) (λ k h. let e : suc j + k ≡ j + suc k = omega arith in rw e (each (suc k) (omega arith))) in
       rw (is-true-shown (section l conditions) (per-case-condition l j (getD ps j 0)) (shown .tree), ih)
-      (go (true-enough (nesting.per-case-deferred x (deferred-of c) .condition)) (nesting.all-true (per-case x cs)))
-    where
-      go : (a b : Bool) → pick a b false ≡ (a && b)
-      go true b = refl
-      go false b = refl
+      (pick-and (true-enough (nesting.per-case-deferred x (deferred-of c) .condition)) (nesting.all-true (per-cases x cs)))
 
   -- The value that all pass, if there is one.
   module _ (k : ℕ) (below : k < 4) (within : k < target-size g x) where
@@ -213,7 +189,7 @@ module _ (g : Graph) (o : ℕ) (l : List ℕ) (r : ℕ) (x : DeferredTarget) (ps
         rw (lt-ltb k 4 below) (in-parent-shown g l r j (at .shown) (y .inputs k (omega arith)))
 
     abbrev passed : List MaybeClaimedRegion → List (Option Value)
-    passed cs = passed-inputs k cs (per-case x cs)
+    passed cs = passed-inputs k cs (per-cases x cs)
 
     -- A step past a case that does not go there, and past one that does.
     step-nowhere : (c : MaybeClaimedRegion) (cs : List MaybeClaimedRegion) (j found : ℕ) → getD ps j 0 ≡ 65535

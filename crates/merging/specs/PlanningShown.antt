@@ -22,19 +22,21 @@ use Rattle.state.specs.Tables.{input-stored, case-total}
 use Rattle.shown.specs.Sets.{Names, ShowsTarget, target-size, SameBundle}
 use Rattle.shown.specs.States.{ShowsReturned, ShowsState, ShowsCases, no-case}
 use Rattle.shown.specs.Kept.{Later, KeptRegion, same-bundle, same-bundle-then}
+use Rattle.shown.specs.RegionSteps.{word-there, word-apart}
 use Rattle.merging.specs.Turns.{turned}
 use Rattle.bundles.specs.Words.{input-count}
 use Rattle.merging.specs.Planning.{Planned, planned, also, per-case-deferred, unique-input, all-true, plan-input, plan-inputs}
 use Rattle.merging.specs.Planning.{plan-bundle}
 use Rattle.merging.specs.Planning.{plan-at, plan-bundles}
-use Rattle.merging.specs.Rows.{word-same, word-other, at-cons}
+use Rattle.merging.specs.Rows.{at-cons}
 use Rattle.merging.specs.Spare.{SpareOnly, spare-same, spare-word, spare-then, spare-there, spare-total, spare-later, spare-keeps}
 use Rattle.merging.specs.Spare.{spare-state, spare-cases}
-use Rattle.merging.specs.Finds.{bundle-there}
+use Rattle.shown.specs.Finds.{bundle-in}
 use Rattle.merging.specs.RewritingShown.{count-by}
 use Rattle.merging.specs.TargetsShown.{no-summary, ShowsRow, ShowsRows}
-use Rattle.merging.specs.PerCaseShown.{ShowsPassed, passes, passes-none, per-case, CaseAt, all-shown, unique-from-shown}
+use Rattle.merging.specs.PerCaseShown.{ShowsPassed, passes, passes-none, CaseAt, all-shown, unique-from-shown}
 use Rattle.merging.specs.PerCaseShown.{case-at-stays, cases-at}
+use Rattle.nesting.specs.steps.TargetsAndCases.{per-cases}
 
 -- ---- A planned bundle in a row: an input that is to be merged is 65535, a condition that is to be made 0.
 pub data ShowsPlannedInput (a : ℕ) : PlannedInput → Type 0 where
@@ -101,7 +103,7 @@ module _ (g : Graph) (o : ℕ) (r : ℕ) (x : DeferredTarget) (cs : List MaybeCl
 
   inputs-from : (n k : ℕ) → k + n ≤ 4 → k + n ≤ target-size g x → (l : List ℕ) → used ≤ length l → case-total l ≡ length cs
       → ((j : ℕ) → j < length cs → CaseAt g o l r x places j (getD cs j no-case)) → (b : Bool)
-      → InputsPlanned l b (turned input-step (planned l b) n k) k (nesting.plan-inputs g n k x cs (per-case x cs))
+      → InputsPlanned l b (turned input-step (planned l b) n k) k (nesting.plan-inputs g n k x cs (per-cases x cs))
   unfolding turned
   inputs-from zero k few within l full count at b =
       record {
@@ -114,32 +116,32 @@ module _ (g : Graph) (o : ℕ) (r : ℕ) (x : DeferredTarget) (cs : List MaybeCl
       }
   inputs-from (suc n) k few within l full count at b =
       let v = unique-input l places k in
-      let shown : ShowsPassed v (nesting.unique-input (passed-inputs k cs (per-case x cs))) =
+      let shown : ShowsPassed v (nesting.unique-input (passed-inputs k cs (per-cases x cs))) =
       rw count (unique-from-shown g o l r x places k (omega arith) (omega arith) cs 0
       (λ j h. let e : 0 + j ≡ j = omega arith in rw e (at j h))) in
       let l₁ = stored l bundles (7 * q + (3 + k)) v in
       let stored-is : plan-input l q places k ≡ planned l₁ (eqb v 65535) = input-is q places l k (omega arith) in
       let sp = spare-word o l (7 * q + (3 + k)) v (omega arith) (omega arith) in
-      let y = nesting.plan-input k (target-type g x k) (per-case x cs) (nesting.unique-input (passed-inputs k cs (per-case x cs))) in
+      let y = nesting.plan-input k (target-type g x k) (per-cases x cs) (nesting.unique-input (passed-inputs k cs (per-cases x cs))) in
       let b₁ = pick (eqb v 65535) true b in
       let ih = inputs-from n (suc k) (omega arith) (omega arith) l₁ (rw (sp .words) full) (spare-total sp ∙ count)
       (λ j h. case-at-stays sp (at j h)) b₁ in
-      let other = word-other l bundles (7 * q + (3 + k)) v in
+      let other = word-apart l bundles (7 * q + (3 + k)) v bundles in
       subst (λ z. InputsPlanned l b (turned input-step (planned (z .words) (pick (z .needed) true b)) n (suc k)) k
-      (y ∷ nesting.plan-inputs g n (suc k) x cs (per-case x cs))) (sym stored-is)
+      (y ∷ nesting.plan-inputs g n (suc k) x cs (per-cases x cs))) (sym stored-is)
       (record {
         spare = spare-then sp (ih .spare);
         same-lengths = ih .same-lengths ∙ section-other l bundles (7 * q + (3 + k)) v set-lengths (omega arith);
         before = λ z h. ih .before z (omega arith) ∙ other z (omega arith);
         behind = λ z h. ih .behind z (omega arith) ∙ other z (omega arith);
         each = at-cons (λ z i. ShowsPlannedInput (word (turned input-step (planned l₁ b₁) n (suc k) .words) bundles (7 * q + (3 + z))) i)
-            no-input k (length (nesting.plan-inputs g n (suc k) x cs (per-case x cs)))
-            (nesting.plan-inputs g n (suc k) x cs (per-case x cs))
-            (rw (ih .before (7 * q + (3 + k)) (omega arith), word-same l bundles (7 * q + (3 + k)) v (omega arith) full (omega arith))
-            (planned-shown k (target-type g x k) (per-case x cs) shown)) (ih .each);
+            no-input k (length (nesting.plan-inputs g n (suc k) x cs (per-cases x cs)))
+            (nesting.plan-inputs g n (suc k) x cs (per-cases x cs))
+            (rw (ih .before (7 * q + (3 + k)) (omega arith), word-there l bundles (7 * q + (3 + k)) v (omega arith) (omega arith))
+            (planned-shown k (target-type g x k) (per-cases x cs) shown)) (ih .each);
         needed = ih .needed
-            ∙ rw (planned-needs k (target-type g x k) (per-case x cs) shown)
-            (needed-cons (needs-output y) (any needs-output (nesting.plan-inputs g n (suc k) x cs (per-case x cs))) b);
+            ∙ rw (planned-needs k (target-type g x k) (per-cases x cs) shown)
+            (needed-cons (needs-output y) (any needs-output (nesting.plan-inputs g n (suc k) x cs (per-cases x cs))) b);
       })
 
 inputs-length : (g : Graph) (n k : ℕ) (x : DeferredTarget) (cs : List MaybeClaimedRegion) (ps : List nesting.PerCaseDeferred)
@@ -196,7 +198,7 @@ module _ (g : Graph) (valid : Valid g) (o : ℕ) (below : o + 33 ≤ 1089) (r : 
     places = per-case-deferred l (word l bundles (7 * q + 0))
 
     abbrev is : List PlannedInput
-    is = nesting.plan-inputs g (t .input-count) 0 x cs (per-case x cs)
+    is = nesting.plan-inputs g (t .input-count) 0 x cs (per-cases x cs)
 
     cases-here : (j : ℕ) → j < length cs → CaseAt g o l r x places j (getD cs j no-case)
     cases-here j h = subst (λ z. CaseAt g z l r x places j (getD cs j no-case)) at
@@ -215,7 +217,7 @@ module _ (g : Graph) (valid : Valid g) (o : ℕ) (below : o + 33 ≤ 1089) (r : 
         let size = row .size in
         inputs-from g o r x cs places q from to below (t .input-count) 0 (omega arith) (omega arith) l full (y .size) cases-here false
 
-    all-are : all-true (inputs .words) places ≡ nesting.all-true (per-case x cs)
+    all-are : all-true (inputs .words) places ≡ nesting.all-true (per-cases x cs)
     all-are =
         let sp = inputs-are .spare in
         rw (spare-total sp, y .size) (all-shown g o (inputs .words) r x places cs 0
@@ -227,7 +229,7 @@ module _ (g : Graph) (valid : Valid g) (o : ℕ) (below : o + 33 ≤ 1089) (r : 
           target = x;
           total-edge-count = t .total-edge-count;
           inputs = is;
-          condition = pick b none (some (nesting.conditions-of (per-case x cs)));
+          condition = pick b none (some (nesting.conditions-of (per-cases x cs)));
         }
 
     abbrev condition-put : Planned
@@ -236,7 +238,7 @@ module _ (g : Graph) (valid : Valid g) (o : ℕ) (below : o + 33 ≤ 1089) (r : 
     planned-by : (b : Bool) → BundlePlanned l (pick b inputs condition-put) q (with-condition b)
     planned-by true =
         let p = inputs-are in
-        let size = inputs-length g (t .input-count) 0 x cs (per-case x cs) in
+        let size = inputs-length g (t .input-count) 0 x cs (per-cases x cs) in
         let few = row .few in
         record {
           spare = p .spare;
@@ -259,17 +261,16 @@ module _ (g : Graph) (valid : Valid g) (o : ℕ) (below : o + 33 ≤ 1089) (r : 
         }
     planned-by false =
         let p = inputs-are in
-        let size = inputs-length g (t .input-count) 0 x cs (per-case x cs) in
+        let size = inputs-length g (t .input-count) 0 x cs (per-cases x cs) in
         let few = row .few in
-        let other = word-other (inputs .words) bundles (7 * q + 2) 0 in
+        let other = word-apart (inputs .words) bundles (7 * q + 2) 0 bundles in
         record {
           spare = spare-then (p .spare) (spare-word o (inputs .words) (7 * q + 2) 0 (omega arith) (omega arith));
           same-lengths = section-other (inputs .words) bundles (7 * q + 2) 0 set-lengths (omega arith) ∙ p .same-lengths;
           shown = record {
             target = rw (other (7 * q + 0) (omega arith), p .before (7 * q + 0) (omega arith)) (row .target);
             count = other (7 * q + 1) (omega arith) ∙ p .before (7 * q + 1) (omega arith) ∙ row .count;
-            condition = to-be-made (word-same (inputs .words) bundles (7 * q + 2) 0 (omega arith) (rw (p .spare .words) full)
-                (omega arith));
+            condition = to-be-made (word-there (inputs .words) bundles (7 * q + 2) 0 (rw (p .spare .words) (omega arith)) (omega arith));
             size = size ∙ row .size;
             few = omega arith;
             inputs = λ k h. let e : 0 + k ≡ k = omega arith in rw (other (7 * q + (3 + k)) (omega arith)) (rw e at (p .each k h));
@@ -285,7 +286,7 @@ module _ (g : Graph) (valid : Valid g) (o : ℕ) (below : o + 33 ≤ 1089) (r : 
 
     bundle-planned : BundlePlanned l (plan-bundle g l q) q (nesting.plan-bundle g cs t)
     unfolding plan-bundle
-    bundle-planned = rw (as-inputs, all-are) (planned-by (nesting.all-true (per-case x cs)))
+    bundle-planned = rw (as-inputs, all-are) (planned-by (nesting.all-true (per-cases x cs)))
 
   -- ---- All rows, from row i on.
   record RowsPlanned (l : List ℕ) (b : Bool) (y : Planned) (i : ℕ) (bs : List PlannedBundle) : Type 0 where
@@ -323,7 +324,7 @@ module _ (g : Graph) (valid : Valid g) (o : ℕ) (below : o + 33 ≤ 1089) (r : 
       let y′ = turned (plan-at o g) (planned l₁ b₁) (length ts) (suc i) in
       subst (λ p. RowsPlanned l b (turned (plan-at o g) (planned (plan-bundle g l p .words) (pick (plan-bundle g l p .needed) true b))
       (length ts)
-      (suc i)) i (nesting.plan-bundle g cs t ∷ bs)) (sym (bundle-there o i (omega arith) (omega arith)))
+      (suc i)) i (nesting.plan-bundle g cs t ∷ bs)) (sym (bundle-in o i (omega arith) (omega arith)))
       (record {
         spare = spare-then sp (ih .spare);
         same-lengths = ih .same-lengths ∙ one .same-lengths;

@@ -30,8 +30,9 @@ use Rattle.bundles.specs.Words.{input-count}
 use Rattle.merging.specs.Rewriting.{rewrite-input, rewrite-case-input, rewrite-bundle, rewrite-set, rewrite-inputs, rewrite-given}
 use Rattle.merging.specs.Rewriting.{rewrite-case, rewrite-cases}
 use Rattle.merging.specs.Spare.{case-stays}
-use Rattle.merging.specs.Finds.{bundle-there}
-use Rattle.merging.specs.Rows.{rewrite-word, looked-up, met-twice, at-cons, RowShown, row-shown, named-stay, two-notes, no-note}
+use Rattle.shown.specs.Finds.{bundle-in}
+use Rattle.merging.specs.Rows.{rewrite-word, looked-up, met-twice, at-cons, RowShown, row-shown, two-notes, no-note}
+use Rattle.shown.specs.RegionSteps.{named-by}
 
 -- ---- What rewriting leaves: all but the note, the cases' inputs and the bundles' inputs.
 pub record Stays (w w′ : List ℕ) : Type 0 where
@@ -74,7 +75,7 @@ returned-stays x y =
     record { size = x .totals 8 (omega arith) ∙ y .size; types = λ k h. x .totals (9 + k) (omega arith) ∙ y .types k h }
 
 names-stay : {w w′ : List ℕ} → Stays w w′ → NamedRewrites w → NamedRewrites w′
-names-stay x n = named-stay (x .others rewrites (omega arith) (omega arith) (omega arith)) n
+names-stay x n = named-by (x .others rewrites (omega arith) (omega arith) (omega arith)) n
 
 abbrev ρ : NestState → Value → LookUp Value
 ρ s v = nesting.look-up (s .region-input-rewrites) v
@@ -208,7 +209,7 @@ module _ (g : Graph) (valid : Valid g) where
       rw e (bundle-stays (stays-later g st) (one .others (start + (i + suc k)) (omega arith)) (shown (suc k) (omega arith)))) in
       let l′ = turned (set-step start) l₁ (length d) (suc i) in
       subst (λ p. SetShown s l (turned (set-step start) (rewrite-bundle g l p) (length d) (suc i)) start i (e ∷ d))
-      (sym (bundle-there start i (omega arith) (omega arith)))
+      (sym (bundle-in start i (omega arith) (omega arith)))
       (record {
         stays = stays-then st (ih .stays);
         same-cases = ih .same-cases ∙ one .same-cases;
@@ -370,7 +371,7 @@ module _ (g : Graph) (valid : Valid g) where
   note-found s (ok c) = rw (or-false (met-twice s (c .structured-body-inputs)))
   note-found s (err d) = refl
 
-  pub record CaseShown (s : NestState) (l l′ : List ℕ) (r j : ℕ) (c : MaybeClaimedRegion) : Type 0 where
+  pub record CaseLookedUp (s : NestState) (l l′ : List ℕ) (r j : ℕ) (c : MaybeClaimedRegion) : Type 0 where
     pub stays : Stays l l′
     pub shown : ShowsCase g l′ r j (case-found s c .value)
     pub set : ShowsSet g l′ (word l′ cases (10 * j + 4)) (word l′ cases (10 * j + 5)) (deferred-of (case-found s c .value))
@@ -382,7 +383,7 @@ module _ (g : Graph) (valid : Valid g) where
   pub case-rewritten : (s : NestState) → ((q : ℕ) → ChainsEnd (s .region-input-rewrites) q) → (l : List ℕ) → ShowsTables l s
       → NamedRewrites l → ShowsReturned g l → (r j : ℕ) → j < 8 → {c : MaybeClaimedRegion} → ShowsCase g l r j c
       → ShowsSet g l (word l cases (10 * j + 4)) (word l cases (10 * j + 5)) (deferred-of c)
-      → CaseShown s l (rewrite-case g l j) r j c
+      → CaseLookedUp s l (rewrite-case g l j) r j c
   unfolding rewrite-case
   case-rewritten s all l t names back r j below {c} x y =
       let given = given-rewritten s all l t names r j below x in
@@ -424,7 +425,7 @@ module _ (g : Graph) (valid : Valid g) where
       }
 
   -- ---- All cases, from case j on.
-  pub record CasesShown (s : NestState) (l l′ : List ℕ) (r j : ℕ) (cs : List MaybeClaimedRegion) : Type 0 where
+  pub record CasesLookedUp (s : NestState) (l l′ : List ℕ) (r j : ℕ) (cs : List MaybeClaimedRegion) : Type 0 where
     pub stays : Stays l l′
     pub each : (k : ℕ) → k < length cs → ShowsCase g l′ r (j + k) (getD (map (λ c. case-found s c .value) cs) k no-case)
     pub sets : (k : ℕ) → k < length cs → ShowsSet g l′ (word l′ cases (10 * (j + k) + 4)) (word l′ cases (10 * (j + k) + 5))
@@ -453,7 +454,7 @@ module _ (g : Graph) (valid : Valid g) where
       → ShowsSet g l (word l cases (10 * (j + k) + 4)) (word l cases (10 * (j + k) + 5)) (deferred-of (getD cs k no-case)))
       → ((a b p q : ℕ) → a < b → b < length cs → p < word l cases (10 * (j + a) + 5) → q < word l cases (10 * (j + b) + 5)
       → word l cases (10 * (j + a) + 4) + p ≡ word l cases (10 * (j + b) + 4) + q → ⊥)
-      → CasesShown s l (turned case-step l (length cs) j) r j cs
+      → CasesLookedUp s l (turned case-step l (length cs) j) r j cs
   unfolding turned
   cases-turned r [] s all l t names back j few each sets apart =
       record {
@@ -570,7 +571,7 @@ module _ (g : Graph) (valid : Valid g) (w : List ℕ) (r : ℕ) (s : NestState) 
           slots-apart (shown .slots) q r a b d i p y (omega arith) (omega arith)
 
   module _ (all : (q : ℕ) → ChainsEnd (s .region-input-rewrites) q) where
-    whole : CasesShown g valid s w (rewrite-cases g w) r 0 cs
+    whole : CasesLookedUp g valid s w (rewrite-cases g w) r 0 cs
     unfolding rewrite-cases
     whole =
         let few = x .few in

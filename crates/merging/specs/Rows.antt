@@ -5,7 +5,6 @@ use mathlib.Core.List.{List, [], _∷_, map}
 use Prim.Native.Nat.{ℕ, zero, suc, _+_, _≤_, _<_}
 use native.Mathlib.Omega.{arith}
 use lib.ListN.{length, getD}
-use lib.Seq.{getD-set-same, getD-set-other}
 use lib.Dec.{eqb}
 use borrow.Author.Tests.{eqb-false}
 use Rattle.meaning.specs.Lists.{any, pick}
@@ -13,13 +12,13 @@ use Rattle.meaning.specs.Graph.{Value, undef}
 use Rattle.nesting.specs.Nesting as nesting
 use Rattle.nesting.specs.Nesting.{NestState, nest-state, counts-of, with-twice}
 use Rattle.nesting.specs.lookups.ChainEnds.{ChainsEnd}
-use Rattle.state.specs.Sections.{Section, start, size, used, section, word, stored, head, rewrites}
+use Rattle.state.specs.Sections.{Section, start, size, used, word, stored, head, rewrites}
 use Rattle.state.specs.Values.{is-input, input-region, input-index}
-use Rattle.state.specs.Apart.{section-stored}
 use Rattle.shown.specs.Values.{value}
 use Rattle.shown.specs.Tables.{ShowsTables}
-use Rattle.shown.specs.Stores.{part-length, ChangesOnly, word-changes, changes-then, nothing-changes}
+use Rattle.shown.specs.Stores.{ChangesOnly, word-changes, changes-then, nothing-changes}
 use Rattle.shown.specs.Elsewhere.{Elsewhere, word-elsewhere, tables-stay}
+use Rattle.shown.specs.RegionSteps.{word-there, word-apart, named-by}
 use Rattle.shown.specs.Sets.{Names}
 use Rattle.shown.specs.States.{NamedRewrites}
 use Rattle.lookups.specs.declared.look_up.LookUp.{LookUp}
@@ -27,15 +26,6 @@ use Rattle.lookups.specs.LookUps.{plain, kind-at, entry-at, stays, renumbers, t
 use Rattle.lookups.specs.Shown.{rewritten-value, rewritten-tables, rewrite-changes}
 use Rattle.merging.specs.Turns.{turned}
 use Rattle.merging.specs.Rewriting.{noted}
-
--- ---- A word of a section, stored.
-module _ (l : List ℕ) (k : Section) (i x : ℕ) where
-  pub word-same : start k + size k ≤ used → used ≤ length l → i < size k → word (stored l k i x) k i ≡ x
-  word-same room s h =
-      rw (section-stored l k i x) (getD-set-same (section l k) i x 0 (rw (part-length (start k) (size k) l (omega arith)) h))
-
-  pub word-other : (q : ℕ) → (q ≡ i → ⊥) → word (stored l k i x) k q ≡ word l k q
-  word-other q d = rw (section-stored l k i x) (getD-set-other (section l k) i q x 0 d)
 
 -- ---- A look-up of a word that names a value gives one that does.
 module _ (l : List ℕ) (named : NamedRewrites l) where
@@ -67,10 +57,6 @@ module _ (l : List ℕ) (named : NamedRewrites l) where
 
   pub look-up-below : (x : ℕ) → x < 4096 → look-up l x .value < 4096
   look-up-below x h = turns-below 129 x h
-
--- The rewrites' words name values wherever they stay.
-pub named-stay : {l l′ : List ℕ} → section l′ rewrites ≡ section l rewrites → NamedRewrites l → NamedRewrites l′
-named-stay e n = record { below = λ r k a b d. rw e (n .below r k a b (λ z. d (rw e z))) }
 
 -- ---- Notes one behind the other.
 pub no-note : (s : NestState) → with-twice false s ≡ s
@@ -134,14 +120,14 @@ module _ (k : Section) (away : Elsewhere k) (room : start k + size k ≤ used) (
     step-other : (q : ℕ) → (q ≡ o + (c + i) → ⊥) → word (row-step l i) k q ≡ word l k q
     unfolding x
     step-other q d =
-        word-other (noted l x) k (o + (c + i)) (look-up l x .value) q d
+        word-apart (noted l x) k (o + (c + i)) (look-up l x .value) k q d
         ∙ ap (λ p. getD p q 0) (noted-changes .others k (λ e. away .not-head (sym e)) (λ e. away .not-head (sym e)))
 
     step-named : Names (word (row-step l i) k (o + (c + i))) (nesting.look-up (s .region-input-rewrites) v .value)
     unfolding x
     step-named =
         let full : used ≤ length (noted l x) = rw (noted-changes .words) (t .size) in
-        rw (word-same (noted l x) k (o + (c + i)) (look-up l x .value) room full below)
+        rw (word-there (noted l x) k (o + (c + i)) (look-up l x .value) (omega arith) below)
         (record {
           is = rw (← first .is) (rewritten-value t all step);
           below = look-up-below l names x (first .below);
@@ -170,7 +156,7 @@ module _ (k : Section) (away : Elsewhere k) (room : start k + size k ≤ used) (
       let other = step-other s all l t names i at v first in
       let b = nesting.look-up (s .region-input-rewrites) v .twice in
       let ih = row-shown vs (with-twice b s) all l₁ (step-tables s all l t names i at v first)
-      (named-stay (g .others rewrites (away .not-rewrites) (omega arith)) names) (suc i) (omega arith)
+      (named-by (g .others rewrites (away .not-rewrites) (omega arith)) names) (suc i) (omega arith)
       (λ j h. let e : suc i + j ≡ i + suc j = omega arith in
       rw e (rw (other (o + (c + (i + suc j))) (omega arith)) (shown (suc j) (omega arith)))) in
       record {

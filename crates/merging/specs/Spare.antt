@@ -18,7 +18,7 @@ use Rattle.shown.specs.Front.{stands-on}
 use Rattle.shown.specs.Sets.{SameBundle}
 use Rattle.shown.specs.States.{Slots, ShowsState, ShowsCases, ShowsCase, shows-ok, shows-nothing, shows-edge, shows-others}
 use Rattle.shown.specs.Kept.{Later, KeptRegion, set-stays, region-stays}
-use Rattle.merging.specs.Rows.{word-other, named-stay}
+use Rattle.shown.specs.RegionSteps.{word-apart, named-by}
 
 -- ---- A case stays shown where its words and the slots do.
 pub case-stays : {g : Graph} {l l′ : List ℕ} → Later g l l′ → (r j : ℕ) → ((q : ℕ) → word l′ set-starts q ≡ word l set-starts q)
@@ -53,8 +53,8 @@ module _ (o : ℕ) (w : List ℕ) where
         words = stored-length (start bundles) (size bundles) w i x;
         others = λ k c d. section-other w bundles i x k d;
         lengths = λ q d. ap (λ z. getD z q 0) (section-other w bundles i x set-lengths (omega arith));
-        before = λ q h. word-other w bundles i x q (omega arith);
-        behind = λ q h. word-other w bundles i x q (omega arith);
+        before = λ q h. word-apart w bundles i x bundles q (omega arith);
+        behind = λ q h. word-apart w bundles i x bundles q (omega arith);
       }
 
   pub spare-length : (x : ℕ) → SpareOnly o w (stored w set-lengths 32 x)
@@ -62,7 +62,7 @@ module _ (o : ℕ) (w : List ℕ) where
       record {
         words = stored-length (start set-lengths) (size set-lengths) w 32 x;
         others = λ k c d. section-other w set-lengths 32 x k c;
-        lengths = λ q d. word-other w set-lengths 32 x q d;
+        lengths = λ q d. word-apart w set-lengths 32 x set-lengths q d;
         before = λ q h. ap (λ z. getD z q 0) (section-other w set-lengths 32 x bundles (omega arith));
         behind = λ q h. ap (λ z. getD z q 0) (section-other w set-lengths 32 x bundles (omega arith));
       }
@@ -148,7 +148,7 @@ module _ {o : ℕ} {w w′ : List ℕ} (y : SpareOnly o w w′) where
         record {
           stands = stands-on (spare-later g .front) (x .stands);
           tables = tables-stay spare-tables (x .tables);
-          named = named-stay (y .others rewrites (omega arith) (omega arith)) (x .named);
+          named = named-by (y .others rewrites (omega arith) (omega arith)) (x .named);
           size = x .size;
           regions = λ q h. let n = valid .count in region-stays (spare-later g) (spare-keeps q (omega arith))
               (spare-there kinds (omega arith) (omega arith) q) (x .regions q h);

@@ -8,13 +8,12 @@ use native.Mathlib.Decide.{decLt, ℕ-discrete}
 use lib.ListN.{length, getD, set, length-set, length-append, List·getD-append}
 use lib.Seq.{getD-set-same, getD-set-other, getD-append-seam}
 use lib.Dec.{ltb, eqb}
-use borrow.Author.Tests.{lt-ltb, le-ltb, eq-eqb, ne-eqb, eqb-true, eqb-false}
+use borrow.Author.Tests.{lt-ltb, le-ltb, eq-eqb, ne-eqb, eqb-false}
 use Rattle.meaning.specs.Lists.{pick, total}
-use Rattle.meaning.specs.facts.Tests.{clash}
 use Rattle.meaning.specs.Graph.{Graph}
 use Rattle.format.specs.Valid.{Valid}
 use Rattle.nesting.specs.Nesting as nesting
-use Rattle.nesting.specs.Nesting.{DeferredTarget, to-region, to-return, DeferredEdgeBundle, DeferredEdgeBundleSet, same-target}
+use Rattle.nesting.specs.Nesting.{DeferredTarget, to-return, DeferredEdgeBundle, DeferredEdgeBundleSet, same-target}
 use Rattle.nesting.specs.Nesting.{NestState, DeferredTargetSummary, MaybeClaimedRegion, deferred-of}
 use Rattle.state.specs.Sections.{start, size, used, section, word, stored, stored-all, set-starts, set-lengths, cases, bundles}
 use Rattle.state.specs.Tables.{find-by, bundle-at}
@@ -25,13 +24,14 @@ use Rattle.shown.specs.States.{ShowsState, ShowsCases, no-case}
 use Rattle.shown.specs.Kept.{Later, KeptRegion, bundle-stays, set-stays}
 use Rattle.merging.specs.Turns.{turned}
 use Rattle.merging.specs.Targets.{plus, summarize-bundle, summarize-set, summarize-case, deferred-targets}
-use Rattle.merging.specs.Rows.{word-same, word-other}
 use Rattle.merging.specs.Spare.{SpareOnly, spare-same, spare-word, spare-length, spare-three, spare-then, spare-there, spare-later}
 use Rattle.merging.specs.Spare.{spare-outside}
 use Rattle.merging.specs.Spare.{spare-keeps, spare-state, spare-cases}
-use Rattle.merging.specs.Pigeonhole.{pigeonhole}
-use Rattle.merging.specs.Finds.{bundle-there, FirstTo, first-at, none-to, words-as-targets, finds}
+use Rattle.meaning.specs.facts.Pigeonhole.{pigeonhole}
+use Rattle.shown.specs.Finds.{bundle-in, targets-tell, FirstTo, first-at, none-to, finds-first}
 use Rattle.meaning.specs.facts.Parts.{run-before, run-in}
+use Rattle.shown.specs.RegionSteps.{word-there, word-apart}
+use Rattle.nesting.specs.steps.TargetsAndCases.{same-target-is, same-target-self, summary-with}
 
 -- ---- The definition's step, by the first row to a bundle's target.
 abbrev pub no-summary : DeferredTargetSummary
@@ -40,13 +40,10 @@ no-summary = record { target = to-return; input-count = 0; total-edge-count = 0 
 abbrev pub new-summary : DeferredEdgeBundle → DeferredTargetSummary
 new-summary e = record { target = e .target; input-count = length (e .target-inputs); total-edge-count = e .accumulated-count }
 
-abbrev pub with-edges : DeferredEdgeBundle → DeferredTargetSummary → DeferredTargetSummary
-with-edges e t = record { target = t .target; input-count = t .input-count; total-edge-count = t .total-edge-count + e .accumulated-count }
-
 summarized-there : (e : DeferredEdgeBundle) (ts : List DeferredTargetSummary) (i : ℕ) → i < length ts
     → same-target (e .target) (getD ts i no-summary .target) ≡ true
     → ((k : ℕ) → k < i → same-target (e .target) (getD ts k no-summary .target) ≡ false)
-    → nesting.summarize-bundle e ts ≡ set ts i (with-edges e (getD ts i no-summary))
+    → nesting.summarize-bundle e ts ≡ set ts i (summary-with e (getD ts i no-summary))
 summarized-there e [] i h is before = absurd (omega arith)
 summarized-there e (t ∷ ts) zero h is before = rw is
 summarized-there e (t ∷ ts) (suc i) h is before =
@@ -68,16 +65,6 @@ edges-of-set x d = total (λ e. pick (same-target x (e .target)) (e .accumulated
 
 abbrev pub edges-of-cases : DeferredTarget → List MaybeClaimedRegion → ℕ
 edges-of-cases x cs = total (λ c. edges-of-set x (deferred-of c)) cs
-
-pub same-target-is : (x y : DeferredTarget) → same-target x y ≡ true → x ≡ y
-same-target-is (to-region a) (to-region b) e = ap to-region (eqb-true a b e)
-same-target-is (to-region a) to-return e = absurd (clash (cc))
-same-target-is to-return (to-region b) e = absurd (clash (cc))
-same-target-is to-return to-return e = refl
-
-same-target-self : (x : DeferredTarget) → same-target x x ≡ true
-same-target-self (to-region a) = eq-eqb a a refl
-same-target-self to-return = refl
 
 rows-more : (x : DeferredTarget) (e : DeferredEdgeBundle) (ts : List DeferredTargetSummary)
     → edges-of-rows x (nesting.summarize-bundle e ts) ≡ edges-of-rows x ts + pick (same-target x (e .target)) (e .accumulated-count) 0
@@ -202,21 +189,21 @@ module _ (g : Graph) (valid : Valid g) where
           rw (at, rows .size, f, ne-eqb (o + i) 65535 (omega arith), rows .each i h .count, x .count, no-clip _ _ b)
 
       row-counted : (k : ℕ) → k < length ts → ShowsRow g counted (o + k)
-          (getD (set ts i (with-edges e (getD ts i no-summary))) k no-summary)
+          (getD (set ts i (summary-with e (getD ts i no-summary))) k no-summary)
       row-counted k b =
           let few = rows .few in
           let row = rows .each k b in
-          let other = word-other l bundles (7 * (o + i) + 1) (getD ts i no-summary .total-edge-count + e .accumulated-count) in
+          let other = word-apart l bundles (7 * (o + i) + 1) (getD ts i no-summary .total-edge-count + e .accumulated-count) bundles in
           elim (ℕ-discrete k i) [
-            | yes z ↦ rw (z, getD-set-same ts i (with-edges e (getD ts i no-summary)) no-summary h) (record {
+            | yes z ↦ rw (z, getD-set-same ts i (summary-with e (getD ts i no-summary)) no-summary h) (record {
               target = rw (other (7 * (o + i) + 0) (omega arith)) (rows .each i h .target);
-              count = word-same l bundles (7 * (o + i) + 1) (getD ts i no-summary .total-edge-count + e .accumulated-count)
-                  (omega arith) full (omega arith);
+              count = word-there l bundles (7 * (o + i) + 1) (getD ts i no-summary .total-edge-count + e .accumulated-count)
+                  (omega arith) (omega arith);
               condition = other (7 * (o + i) + 2) (omega arith) ∙ rows .each i h .condition;
               size = rows .each i h .size;
               few = rows .each i h .few;
             })
-            | no z ↦ rw (getD-set-other ts i k (with-edges e (getD ts i no-summary)) no-summary z) (record {
+            | no z ↦ rw (getD-set-other ts i k (summary-with e (getD ts i no-summary)) no-summary z) (record {
               target = rw (other (7 * (o + k) + 0) (omega arith)) (row .target);
               count = other (7 * (o + k) + 1) (omega arith) ∙ row .count;
               condition = other (7 * (o + k) + 2) (omega arith) ∙ row .condition;
@@ -225,12 +212,12 @@ module _ (g : Graph) (valid : Valid g) where
             })
           ]
 
-      rows-counted : RowsAfter o l counted (set ts i (with-edges e (getD ts i no-summary)))
+      rows-counted : RowsAfter o l counted (set ts i (summary-with e (getD ts i no-summary)))
       rows-counted =
           let few = rows .few in
-          let same = length-set ts i (with-edges e (getD ts i no-summary)) in
+          let same = length-set ts i (summary-with e (getD ts i no-summary)) in
           let sum = getD ts i no-summary .total-edge-count + e .accumulated-count in
-          let other = word-other l bundles (7 * (o + i) + 1) sum in
+          let other = word-apart l bundles (7 * (o + i) + 1) sum bundles in
           record {
             spare = spare-word o l (7 * (o + i) + 1) sum (omega arith) (omega arith);
             rows = record {
@@ -250,7 +237,7 @@ module _ (g : Graph) (valid : Valid g) where
 
       new-word : (k : ℕ) → k < n → word l bundles (7 * (o + k) + 0) ≡ t → ⊥
       new-word k h = eqb-false (word l bundles (7 * (o + k) + 0)) t
-          (words-as-targets g valid (x .target) (rows .each k h .target) ∙ new k h)
+          (targets-tell (let few = valid .count .1 in omega arith) (x .target) (rows .each k h .target) ∙ new k h)
 
       there-was-room : n < 33
       there-was-room = rows-few l o t (x .target) rows new-word
@@ -265,7 +252,7 @@ module _ (g : Graph) (valid : Valid g) where
       unfolding summarize-bundle
       as-added f =
           let h = there-was-room in
-          rw (at, rows .size, f, bundle-there o n (omega arith) h, no-clip n 1 (omega arith))
+          rw (at, rows .size, f, bundle-in o n (omega arith) h, no-clip n 1 (omega arith))
 
       old-word : (q : ℕ) → q < 7 * (o + n) → word added bundles q ≡ word l bundles q
       old-word q h =
@@ -312,7 +299,7 @@ module _ (g : Graph) (valid : Valid g) where
           record {
             spare = spare-then (spare-three o l (7 * (o + n)) t count 1 (omega arith) (omega arith)) (spare-length o with-row (n + 1));
             rows = record {
-              size = word-same with-row set-lengths 32 (n + 1) (omega arith) (omega arith) (omega arith) ∙ sym more;
+              size = word-there with-row set-lengths 32 (n + 1) (omega arith) (omega arith) ∙ sym more;
               few = omega arith;
               each = λ k b. row-added-at k (omega arith);
               apart = λ i j a b f. elim (decLt j n) [
@@ -328,8 +315,9 @@ module _ (g : Graph) (valid : Valid g) where
     pub bundle-summarized : edges-of-rows (e .target) ts + e .accumulated-count ≤ 65535
         → RowsAfter o l (summarize-bundle l p) (nesting.summarize-bundle e ts)
     bundle-summarized b =
-        go (finds g valid l o t (length ts) (e .target) (λ k. getD ts k no-summary .target) (x .target) (let few = rows .few in omega arith)
-        (rows .few) (λ k h. rows .each k h .target))
+        let few = rows .few in
+        go (finds-first l (let n = valid .count .1 in omega arith) o (x .target) (length ts) (λ k. getD ts k no-summary .target)
+        (omega arith) few (λ k h. rows .each k h .target))
       where
         go : FirstTo (e .target) (λ k. getD ts k no-summary .target) (length ts) o (find-by l o t (length ts) 0)
             → RowsAfter o l (summarize-bundle l p) (nesting.summarize-bundle e ts)
@@ -368,7 +356,7 @@ module _ (g : Graph) (valid : Valid g) where
       (nesting.summarize-bundle e ts) (one .rows)
       (λ x. let a = rows-more x e ts in let b = bound x in omega arith) in
       subst (λ p. RowsAfter o l (turned (set-step start) (summarize-bundle l p) (length d) (suc i)) (nesting.summarize-set (e ∷ d) ts))
-      (sym (bundle-there start i (omega arith) (omega arith)))
+      (sym (bundle-in start i (omega arith) (omega arith)))
       (record { spare = spare-then (one .spare) (ih .spare); rows = ih .rows })
 
   set-summarized : (o : ℕ) → o + 33 ≤ 1089 → (l : List ℕ) → used ≤ length l → word l set-starts 32 ≡ o → (start n : ℕ)
@@ -438,7 +426,7 @@ deferred-targets-shown g valid w r s cs shown x bound =
     let from-zero : (k : ℕ) → 0 + k ≡ k = λ k. omega arith in
     let at : word m set-starts 32 ≡ o = spare-there first set-starts (omega arith) (omega arith) 32 in
     let none : ShowsRows g m o [] = record {
-      size = word-same w set-lengths 32 0 (omega arith) full (omega arith);
+      size = word-there w set-lengths 32 0 (omega arith) (omega arith);
       few = omega arith;
       each = λ i h. absurd (omega arith);
       apart = λ i j c d. absurd (omega arith);

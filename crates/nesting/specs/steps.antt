@@ -4,3 +4,4 @@ pub mod StatesKept
 pub mod RegionsLeft
 pub mod ScanEnds
 pub mod UnclaimedFalls
+pub mod TargetsAndCases

@@ -16,7 +16,7 @@ use Rattle.shown.specs.Sets.{ShowsSet, SameBundle}
 use Rattle.shown.specs.States.{Slots, ShowsCase, shows-ok, shows-nothing, shows-edge, shows-others, ShowsCases, no-case}
 use Rattle.shown.specs.Kept.{Later, set-stays}
 use Rattle.bundles.specs.Words.{unclaimed-case}
-use Rattle.bundles.specs.CaseSteps.{CaseShown, OneCase, one-row, other-row, shown-stays, row-word, nothing-row}
+use Rattle.bundles.specs.CaseSteps.{CaseAndSet, OneCase, one-row, other-row, shown-stays, row-word, nothing-row}
 use Rattle.bundles.specs.Appended.{ShowsAlone, claimed-parts, edge-parts, rest-parts}
 use Rattle.merging.specs.RewritingShown.{cases-after, case-found}
 use Rattle.merging.specs.TargetsShown.{edges-of-cases, edges-of-set}
@@ -33,7 +33,7 @@ module _ {g : Graph} (few : length (g .regions) ≤ 32) {r : ℕ} (here : r < le
   pub none-left : word (set-aside w j) cases (10 * j + 5) ≡ 0
   none-left = row-word w room j at-most (case-words (unclaimed-case 0 0 0)) (omega arith) 5 (omega arith)
 
-  case-aside : (k : ℕ) → k < length cs → CaseShown g (set-aside w j) r k (getD (set cs j no-case) k no-case)
+  case-aside : (k : ℕ) → k < length cs → CaseAndSet g (set-aside w j) r k (getD (set cs j no-case) k no-case)
   case-aside k h =
       elim (ℕ-discrete k j) [
         | yes e ↦ rw (e, getD-set-same cs j no-case no-case below) (nothing-row w room at-most)
@@ -90,7 +90,7 @@ pub record PartsStay (g : Graph) (w w′ : List ℕ) (j : ℕ) : Type 0 where
   pub bundles : (p : ℕ) → p < word w cases (10 * j + 5) → SameBundle w w′ (word w cases (10 * j + 4) + p)
 
 pub parts-then : {g : Graph} {w w′ : List ℕ} {r j : ℕ} {m : MaybeClaimedRegion} → Slots w → r < 33 → PartsStay g w w′ j
-    → CaseShown g w r j m
+    → CaseAndSet g w r j m
     → ((c : ClaimedRegion) → m ≡ ok c → (word w kinds (c .origin) ≡ 3) × (c .origin ≡ r → ⊥)) → ShowsAlone g w′ r j (case-row w j) m
 parts-then {g} {w} {w′} {r} {j} slots below stay x claimed = go (x .case) (set-stays (stay .later) (stay .bundles) (x .set)) claimed
   where

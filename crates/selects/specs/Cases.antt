@@ -36,11 +36,11 @@ abbrev pub any-non-empty-case : List ℕ → Bool
 any-non-empty-case l = any-from l (case-total l) 0
 
 -- Case j has its region: a claimed one has it already.
-pub data CaseRegion (j : ℕ) (l l′ : List ℕ) : Made → Type 0 where
-  has-region : word l cases (10 * j + 0) ≡ 2 → l′ ≡ l → CaseRegion j l l′ Done
+pub data GetsRegion (j : ℕ) (l l′ : List ℕ) : Made → Type 0 where
+  has-region : word l cases (10 * j + 0) ≡ 2 → l′ ≡ l → GetsRegion j l l′ Done
   new-region : {r : ℕ} {l₁ : List ℕ} → (word l cases (10 * j + 0) ≡ 2 → ⊥) → Defines 0 128 l l₁ (Number r)
-      → l′ ≡ stored l₁ cases (10 * j + 2) r → CaseRegion j l l′ Done
-  no-region : (word l cases (10 * j + 0) ≡ 2 → ⊥) → Defines 0 128 l l′ Refused → CaseRegion j l l′ Full
+      → l′ ≡ stored l₁ cases (10 * j + 2) r → GetsRegion j l l′ Done
+  no-region : (word l cases (10 * j + 0) ≡ 2 → ⊥) → Defines 0 128 l l′ Refused → GetsRegion j l l′ Full
 
 unfoldable pub inputs-replaced : List ℕ → ℕ → List ℕ
 inputs-replaced l j = pick (eqb (word l cases (10 * j + 0)) 2) (inserted l (word l cases (10 * j + 2)) 1 (case-inputs l j)) l

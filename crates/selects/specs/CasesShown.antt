@@ -9,7 +9,7 @@ use lib.Dec.{eqb}
 use borrow.Author.Tests.{eq-eqb, ne-eqb}
 use Rattle.meaning.specs.Lists.{pick, empty}
 use Rattle.meaning.specs.Graph.{Graph}
-use Rattle.meaning.specs.Runs.{Nodes, ⟨⟩}
+use Rattle.meaning.specs.Runs.{⟨⟩}
 use Rattle.nesting.specs.Nesting as nesting
 use Rattle.nesting.specs.Nesting.{MaybeClaimedRegion, ok, err, deferred-of, DeferredEdgeBundleSet, convergent-cases, without-convergent}
 use Rattle.nesting.specs.Nesting.{has-children}
@@ -20,14 +20,16 @@ use Rattle.shown.specs.CellSteps.{has-list}
 use Rattle.selects.specs.Cases.{convergent-from, convergent-case, children-of, children-none, children-some, any-from}
 use Rattle.selects.specs.Cases.{any-non-empty-case}
 use Rattle.selects.specs.Places.{From, first-of, rest-of, from-start}
+use Rattle.nesting.specs.steps.TargetsAndCases.{children-in}
 
 -- ---- The convergent case.
 -- What is found among cases from place j on.
-pub data Converges (j : ℕ) (cs : List MaybeClaimedRegion) (a : ℕ) : Type 0 where
-  none-converges : a ≡ 8 → convergent-cases cs ≡ [] → Converges j cs a
+pub data ConvergesFrom (j : ℕ) (cs : List MaybeClaimedRegion) (a : ℕ) : Type 0 where
+  none-converges : a ≡ 8 → convergent-cases cs ≡ [] → ConvergesFrom j cs a
   one-converges : {i : ℕ} → a ≡ j + i → i < length cs → convergent-cases cs ≡ getD cs i no-case ∷ []
-      → without-convergent cs ≡ set cs i no-case → Converges j cs a
-  more-converge : {c d : MaybeClaimedRegion} {ds : List MaybeClaimedRegion} → a ≡ 8 → convergent-cases cs ≡ c ∷ d ∷ ds → Converges j cs a
+      → without-convergent cs ≡ set cs i no-case → ConvergesFrom j cs a
+  more-converge : {c d : MaybeClaimedRegion} {ds : List MaybeClaimedRegion} → a ≡ 8 → convergent-cases cs ≡ c ∷ d ∷ ds
+      → ConvergesFrom j cs a
 
 -- What follows a case that was found.
 data FollowedBy (cs : List MaybeClaimedRegion) (found a : ℕ) : Type 0 where
@@ -68,33 +70,29 @@ module _ (l : List ℕ) where
           rw (ne-eqb _ _ z, ne-eqb found 8 (omega arith)) (by-another {c = c} {ds = convergent-cases cs} refl (rw e refl))
 
   converges : (cs : List MaybeClaimedRegion) (j : ℕ) → From no-case (Sized l) j cs → j + length cs ≤ 8
-      → Converges j cs (convergent-from l (length cs) j 8)
+      → ConvergesFrom j cs (convergent-from l (length cs) j 8)
   unfolding convergent-from
   converges [] j f h = none-converges refl refl
   converges (c ∷ cs) j f h =
       let rest = rest-of no-case (Sized l) j c cs f in
       go rest (converges cs (suc j) rest (omega arith)) (empty-or-not l j c (first-of no-case (Sized l) j c cs f))
     where
-      on : empty (deferred-of c) ≡ true → {a : ℕ} → Converges (suc j) cs a → Converges j (c ∷ cs) a
+      on : empty (deferred-of c) ≡ true → {a : ℕ} → ConvergesFrom (suc j) cs a → ConvergesFrom j (c ∷ cs) a
       on e (none-converges p q) = none-converges p (rw e q)
       on e (one-converges {i} p k q r) = one-converges {i = suc i} (omega arith) (omega arith) (rw e q) (rw e (ap (λ ds. c ∷ ds) r))
       on e (more-converge {c = a} {d} {ds} p q) = more-converge {c = a} {d = d} {ds = ds} p (rw e q)
 
-      found : empty (deferred-of c) ≡ false → {a : ℕ} → FollowedBy cs j a → Converges j (c ∷ cs) a
+      found : empty (deferred-of c) ≡ false → {a : ℕ} → FollowedBy cs j a → ConvergesFrom j (c ∷ cs) a
       found e (by-none p q r) =
           one-converges {i = 0} (omega arith) (omega arith) (rw e (ap (λ ds. c ∷ ds) q)) (rw e (ap (λ ds. no-case ∷ ds) r))
       found e (by-another {c = d} {ds} p q) = more-converge {c = c} {d = d} {ds = ds} p (rw e (ap (λ ds. c ∷ ds) q))
 
-      go : From no-case (Sized l) (suc j) cs → Converges (suc j) cs (convergent-from l (length cs) (suc j) 8) → EmptyOrNot l j c
-          → Converges j (c ∷ cs) (convergent-from l (length (c ∷ cs)) j 8)
+      go : From no-case (Sized l) (suc j) cs → ConvergesFrom (suc j) cs (convergent-from l (length cs) (suc j) 8) → EmptyOrNot l j c
+          → ConvergesFrom j (c ∷ cs) (convergent-from l (length (c ∷ cs)) j 8)
       go sized rest (is-empty e z) = rw (eq-eqb _ _ z) (on e rest)
       go sized rest (is-not e z) = rw (ne-eqb _ _ z) (found e (followed cs (suc j) j sized (omega arith)))
 
 -- ---- Children of the cases.
-abbrev pub children-in : MaybeClaimedRegion → Nodes
-children-in (ok c) = c .children
-children-in (err d) = ⟨⟩
-
 no-children : {g : Graph} {w : List ℕ} (j : ℕ) → 1 ≤ word w head 4 → (word w cases (10 * j + 0) ≡ 2 → ⊥)
     → ShowsChildren g w (children-of w j) ⟨⟩
 no-children {w} j one d = rw (← children-none w j d) (record { nodes = no-nodes refl; made = one })
@@ -127,7 +125,7 @@ module _ {g : Graph} {w : List ℕ} {r : ℕ} where
       go (err d) e q = by (eqb (children-of w j) 0) q ∙ rw (← e)
 
   module _ {cs : List MaybeClaimedRegion} (shown : ShowsCases g w r cs) where
-    pub convergent-shown : Converges 0 cs (convergent-case w)
+    pub convergent-shown : ConvergesFrom 0 cs (convergent-case w)
     convergent-shown =
         let few = shown .few in
         rw (shown .size) (converges w cs 0 (from-start no-case (Sized w) cs (λ j h. shown .sets j h .size)) (omega arith))

@@ -28,23 +28,24 @@ use Rattle.selects.specs.Places.{From, first-of, rest-of}
 use Rattle.selects.specs.Emits.{EmitInput, input-there, input-made, no-input}
 use Rattle.selects.specs.RegionsShown.{ShowsMade, shows-made, shows-refused, made-of, refused-of}
 use Rattle.selects.specs.SmallTypes.{SmallTypes}
-use Rattle.selects.specs.PerCase.{cases-pass, ShowsPlaces, places-stay, values-shown}
+use Rattle.selects.specs.PerCase.{ShowsPlaces, places-stay, values-shown}
 use Rattle.selects.specs.Emitting.{Emitting, emitting-none, emitting-then, emitting-output, emitting-word, emitting-step, Spared}
 use Rattle.selects.specs.Emitting.{spared-stays}
+use Rattle.nesting.specs.steps.TargetsAndCases.{per-cases}
 
 -- ---- What is planned of these cases, as its row shows it.
 pub data PlannedInputOf (g : Graph) (cs : List MaybeClaimedRegion) (x : DeferredTarget) (w : ℕ) (k : ℕ) : PlannedInput → Type 0 where
   is-shared : {v : Value} → Names w v → PlannedInputOf g cs x w k (shared v)
   is-merged : {ty : ℕ} {vs : List Value} → w ≡ 65535 → ty ≡ nesting.target-type g x k
-      → vs ≡ map (nesting.value-in-case k ty) (cases-pass x cs)
+      → vs ≡ map (nesting.value-in-case k ty) (per-cases x cs)
       → PlannedInputOf g cs x w k (merged ty vs)
 
 pub data PlannedConditionOf (cs : List MaybeClaimedRegion) (x : DeferredTarget) (w : ℕ) : Option LazyConds → Type 0 where
   is-true : w ≡ 1 → PlannedConditionOf cs x w none
-  is-open : {ts : LazyConds} → w ≡ 0 → ts ≡ conditions-of (cases-pass x cs) → PlannedConditionOf cs x w (some ts)
+  is-open : {ts : LazyConds} → w ≡ 0 → ts ≡ conditions-of (per-cases x cs) → PlannedConditionOf cs x w (some ts)
 
-abbrev pub no-planned : PlannedInput
-no-planned = shared (undef 0)
+abbrev pub no-planned-input : PlannedInput
+no-planned-input = shared (undef 0)
 
 pub record PlannedOf (g : Graph) (cs : List MaybeClaimedRegion) (w : List ℕ) (q : ℕ) (p : PlannedBundle) : Type 0 where
   pub target : ShowsTarget g (word w bundles (7 * q + 0)) (p .target)
@@ -53,7 +54,7 @@ pub record PlannedOf (g : Graph) (cs : List MaybeClaimedRegion) (w : List ℕ) (
   pub size : length (p .inputs) ≡ target-size g (p .target)
   pub few : length (p .inputs) ≤ 4
   pub inputs : (k : ℕ) → k < length (p .inputs)
-      → PlannedInputOf g cs (p .target) (word w bundles (7 * q + (3 + k))) k (getD (p .inputs) k no-planned)
+      → PlannedInputOf g cs (p .target) (word w bundles (7 * q + (3 + k))) k (getD (p .inputs) k no-planned-input)
 
 -- ---- The inputs of one bundle.
 -- One input; the definition has the two kinds in its fold.
@@ -75,8 +76,8 @@ pub record InputsDone (g : Graph) (q k : ℕ) (w w′ : List ℕ) (many : ℕ) (
   pub size : length vs ≡ many
   pub named : (i : ℕ) → i < many → Names (word w′ bundles (7 * q + (3 + (k + i)))) (getD vs i (undef 0))
 
-abbrev pub Planned : Graph → List MaybeClaimedRegion → DeferredTarget → ℕ → List ℕ → ℕ → PlannedInput → Type 0
-Planned g cs x q w k i = PlannedInputOf g cs x (word w bundles (7 * q + (3 + k))) k i
+abbrev pub PlannedAt : Graph → List MaybeClaimedRegion → DeferredTarget → ℕ → List ℕ → ℕ → PlannedInput → Type 0
+PlannedAt g cs x q w k i = PlannedInputOf g cs x (word w bundles (7 * q + (3 + k))) k i
 
 output-names : (o : ℕ) → o < 512 → Names (output-word o) (output o)
 unfolding output-word
@@ -121,7 +122,7 @@ module _ {g : Graph} {r base : ℕ} {cs : List MaybeClaimedRegion} (few : length
     unfolding input-stored
     stored-is l v = rw (lt-ltb k 4 (omega arith))
 
-    input-shown : {i : PlannedInput} {w′ : List ℕ} {a : Made} → Planned g cs x q w k i → EmitInput g (n .node) q t places k w w′ a
+    input-shown : {i : PlannedInput} {w′ : List ℕ} {a : Made} → PlannedAt g cs x q w k i → EmitInput g (n .node) q t places k w w′ a
         → ShowsMade (InputDone g q k w w′) a (emit-one n i s)
     input-shown (is-shared {v} names) (input-there d e) =
         rw e (shows-made {a = v} {s = s}
@@ -166,7 +167,7 @@ module _ {g : Graph} {r base : ℕ} {cs : List MaybeClaimedRegion} (few : length
 
   pub inputs-shown : (is : List PlannedInput) (k : ℕ) {w w′ : List ℕ} {s : NestState} {a : Made} {m : ℕ} → m ≡ length is
       → k + length is ≡ target-size g x → Spared g r base cs w → ShowsPlaces w x cs places → ShowsTables w s
-      → From no-planned (Planned g cs x q w) k is → Turns (EmitInput g (n .node) q t places) m k w w′ a
+      → From no-planned-input (PlannedAt g cs x q w) k is → Turns (EmitInput g (n .node) q t places) m k w w′ a
       → ShowsMade (InputsDone g q k w w′ (length is)) a (emit-inputs n is s)
   unfolding emit-inputs
   inputs-shown [] k {w} {s} e b here at tables f (turns-over z p) =
@@ -181,10 +182,10 @@ module _ {g : Graph} {r base : ℕ} {cs : List MaybeClaimedRegion} (few : length
   inputs-shown [] k e b here at tables f (turn-refused z y) = absurd (omega arith)
   inputs-shown (i ∷ is) k e b here at tables f (turns-over z p) = absurd (omega arith)
   inputs-shown (i ∷ is) k {w} {s} e b here at tables f (turn-on {l₁} z y more) =
-      let first = made-of (input-shown here at tables k (omega arith) (first-of no-planned (Planned g cs x q w) k i is f) y) in
+      let first = made-of (input-shown here at tables k (omega arith) (first-of no-planned-input (PlannedAt g cs x q w) k i is f) y) in
       let done₁ = first .shows in
       let step = emitting-step here (done₁ .emitting) from (omega arith) in
-      let rest = rest-of no-planned (Planned g cs x q w) k i is f in
+      let rest = rest-of no-planned-input (PlannedAt g cs x q w) k i is f in
       rw (emit-more n i is s, first .is)
       (with-input done₁ (omega arith) (inputs-shown is (suc k) (omega arith) (omega arith)
       (spared-stays here (done₁ .emitting) from (omega arith)) (places-stay step at) (done₁ .tables)
@@ -193,5 +194,5 @@ module _ {g : Graph} {r base : ℕ} {cs : List MaybeClaimedRegion} (few : length
       rw (
         emit-more n i is s,
         refused-of (input-shown here at tables k (omega arith)
-            (first-of no-planned (Planned g cs x q w) k i is f) y),
+            (first-of no-planned-input (PlannedAt g cs x q w) k i is f) y),
       ) shows-refused

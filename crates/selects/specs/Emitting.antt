@@ -14,7 +14,7 @@ use Rattle.shown.specs.Stores.{ChangesOnly, word-changes}
 use Rattle.shown.specs.Sets.{SameBundle}
 use Rattle.shown.specs.States.{Slots, ShowsReturned, ShowsCases}
 use Rattle.shown.specs.Kept.{Later, later-same, later-then, same-bundle, same-bundle-then}
-use Rattle.shown.specs.SetStores.{slots-stay}
+use Rattle.shown.specs.RegionSteps.{slots-stay}
 use Rattle.shown.specs.RegionSteps.{bundles-same, later-by, bundle-word}
 use Rattle.selects.specs.StepsShown.{SelectStep, cases-stay}
 

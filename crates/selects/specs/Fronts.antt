@@ -7,9 +7,8 @@ use lib.Dec.{eqb}
 use Rattle.meaning.specs.Lists.{pick}
 use Rattle.meaning.specs.Graph.{Graph}
 use Rattle.state.specs.declared.defined.Defined.{Defined}
-use Rattle.state.specs.declared.cells.Cell.{Cell}
-use Rattle.state.specs.Sections.{word, stored, stored-all, head, children, set-starts, set-lengths, cases, cells, bundles}
-use Rattle.state.specs.Tables.{case-total, bundle-at, find-by, Defines, defined, full, Adds, added, no-room, cell-words}
+use Rattle.state.specs.Sections.{word, stored, stored-all, children, set-starts, set-lengths, cases, bundles}
+use Rattle.state.specs.Tables.{case-total, bundle-at, find-by}
 use Rattle.shown.specs.Front.{SameKinds, kinds-same, kinds-stored, kinds-run, kinds-then}
 use Rattle.lookups.specs.Materialized.{Merges, the-scrutinee, new-output, no-output, Materializes, made-true, made-false, made-undef}
 use Rattle.lookups.specs.Materialized.{made-merge, full-part, PartsMade, no-part, part-more}
@@ -20,10 +19,11 @@ use Rattle.merging.specs.Planning.{planned, plan-at, plan-bundles, front-plan}
 use Rattle.state.specs.declared.defined.Made.{Made}
 use Rattle.selects.specs.declared.define.Scrutinee.{Scrutinee}
 use Rattle.selects.specs.Turns.{front-turns}
-use Rattle.selects.specs.Cases.{CaseRegion, has-region, new-region, no-region}
+use Rattle.selects.specs.Cases.{GetsRegion, has-region, new-region, no-region}
 use Rattle.selects.specs.Selects.{ScrutineeMade, given-value, made-value, CaseCells, cells-over, cell-more, SelectAdded, select-added}
 use Rattle.selects.specs.Selects.{SelectDefined, regions-full, scrutinee-full, node-full, select-defined}
 use Rattle.selects.specs.Emits.{front-output}
+use Rattle.shown.specs.Front.{defines-kinds, adds-kinds}
 
 -- ---- Cases rewritten, their targets, and what is planned for them.
 pub front-cases : (g : Graph) (l : List ℕ) → SameKinds l (rewrite-cases g l)
@@ -67,14 +67,10 @@ front-plans g l =
     front-turned (λ x. x .words) (plan-at start g) (front-plan start g) (word l set-lengths 32) (planned l false) 0
 
 -- ---- The select.
-pub front-define : {i limit : ℕ} {l l′ : List ℕ} {a : Defined} → Defines i limit l l′ a → SameKinds l l′
-front-define {i} {l} (defined {n} p h e) = rw e (kinds-stored l head (omega arith) i (n + 1))
-front-define {l} (full h e) = rw e (kinds-same l)
-
-front-region : {j : ℕ} {l l′ : List ℕ} {a : Made} → CaseRegion j l l′ a → SameKinds l l′
+front-region : {j : ℕ} {l l′ : List ℕ} {a : Made} → GetsRegion j l l′ a → SameKinds l l′
 front-region {l} (has-region k e) = rw e (kinds-same l)
-front-region {j} (new-region {r} {l₁} d x e) = rw e (kinds-then (front-define x) (kinds-stored l₁ cases (omega arith) (10 * j + 2) r))
-front-region (no-region d x) = front-define x
+front-region {j} (new-region {r} {l₁} d x e) = rw e (kinds-then (defines-kinds x) (kinds-stored l₁ cases (omega arith) (10 * j + 2) r))
+front-region (no-region d x) = defines-kinds x
 
 front-merges : {l l′ vs : List ℕ} {c : ℕ} {a : Defined} → Merges l c vs l′ a → SameKinds l l′
 front-merges {l} (the-scrutinee e p q) = rw q (kinds-same l)
@@ -97,25 +93,19 @@ front-scrutinee : {l l′ : List ℕ} {x : Scrutinee} {a : Defined} → Scrutine
 front-scrutinee {l} (given-value e) = rw e (kinds-same l)
 front-scrutinee (made-value m) = front-made m
 
-pub front-cell : {l l′ : List ℕ} {x : Cell} {h : ℕ} → Adds l l′ x h → SameKinds l l′
-front-cell {l} {x} {h} (added p b e) =
-    rw e (kinds-then (kinds-run l cells (omega arith) (6 * h) (cell-words x))
-    (kinds-stored (stored-all l cells (6 * h) (cell-words x)) head (omega arith) 4 (h + 1)))
-front-cell {l} (no-room p e q) = rw e (kinds-same l)
-
 front-cells : {n h h′ : ℕ} {l l′ : List ℕ} → CaseCells n h l l′ h′ → SameKinds l l′
 front-cells {l} (cells-over n e p) = rw e (kinds-same l)
-front-cells (cell-more n x y) = kinds-then (front-cell x) (front-cells y)
+front-cells (cell-more n x y) = kinds-then (adds-kinds x) (front-cells y)
 
 front-added : {r node shape v h : ℕ} {l l′ : List ℕ} → SelectAdded r node shape v l l′ h → SameKinds l l′
 front-added {r} {h} (select-added {l₂} x b y e) =
-    rw e (kinds-then (front-cells x) (kinds-then (front-cell y) (kinds-stored l₂ children (omega arith) r h)))
+    rw e (kinds-then (front-cells x) (kinds-then (adds-kinds y) (kinds-stored l₂ children (omega arith) r h)))
 
 pub front-select : {r shape : ℕ} {x : Scrutinee} {l l′ : List ℕ} {a : Defined} → SelectDefined r shape x l l′ a → SameKinds l l′
-front-select (regions-full t) = front-turns CaseRegion (λ j m m′ b y. front-region y) t
-front-select (scrutinee-full t v) = kinds-then (front-turns CaseRegion (λ j m m′ b y. front-region y) t) (front-scrutinee v)
+front-select (regions-full t) = front-turns GetsRegion (λ j m m′ b y. front-region y) t
+front-select (scrutinee-full t v) = kinds-then (front-turns GetsRegion (λ j m m′ b y. front-region y) t) (front-scrutinee v)
 front-select (node-full t v n) =
-    kinds-then (front-turns CaseRegion (λ j m m′ b y. front-region y) t) (kinds-then (front-scrutinee v) (front-define n))
+    kinds-then (front-turns GetsRegion (λ j m m′ b y. front-region y) t) (kinds-then (front-scrutinee v) (defines-kinds n))
 front-select (select-defined t v n s) =
-    kinds-then (front-turns CaseRegion (λ j m m′ b y. front-region y) t)
-    (kinds-then (front-scrutinee v) (kinds-then (front-define n) (front-added s)))
+    kinds-then (front-turns GetsRegion (λ j m m′ b y. front-region y) t)
+    (kinds-then (front-scrutinee v) (kinds-then (defines-kinds n) (front-added s)))

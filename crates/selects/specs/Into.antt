@@ -42,10 +42,10 @@ with-plan g l = plan-bundles g (with-targets g l) .words
 abbrev pub needs-select : Graph → List ℕ → Bool
 needs-select g l = any-non-empty-case l || plan-bundles g (with-targets g l) .needed
 
-pub data Structurizes (g : Graph) (r shape : ℕ) (x : Scrutinee) (l l′ : List ℕ) : Made → Type 0 where
-  not-structurized : SelectIf g (needs-select g l) r shape x (with-plan g l) l′ Full → Structurizes g r shape x l l′ Full
+pub data StructurizesSelect (g : Graph) (r shape : ℕ) (x : Scrutinee) (l l′ : List ℕ) : Made → Type 0 where
+  not-structurized : SelectIf g (needs-select g l) r shape x (with-plan g l) l′ Full → StructurizesSelect g r shape x l l′ Full
   structurized : {l₁ : List ℕ} → SelectIf g (needs-select g l) r shape x (with-plan g l) l₁ Done → l′ ≡ all-replaced l₁ (case-total l₁) 0
-      → Structurizes g r shape x l l′ Done
+      → StructurizesSelect g r shape x l l′ Done
 
 -- The spare slot's set becomes region r's.
 abbrev pub spare-taken : List ℕ → ℕ → List ℕ
@@ -56,13 +56,13 @@ abbrev pub set-aside : List ℕ → ℕ → List ℕ
 set-aside l j = stored-all l cases (10 * j) (case-words (unclaimed-case 0 0 0))
 
 pub data StructurizesInto (g : Graph) (r shape : ℕ) (x : Scrutinee) (l l′ : List ℕ) : Made → Type 0 where
-  one-follows : {l₁ : List ℕ} → convergent-case l < 8 → Structurizes g r shape x (set-aside l (convergent-case l)) l₁ Done
+  one-follows : {l₁ : List ℕ} → convergent-case l < 8 → StructurizesSelect g r shape x (set-aside l (convergent-case l)) l₁ Done
       → Appends l₁ l′ r (case-row l (convergent-case l)) (convergent-case l) → StructurizesInto g r shape x l l′ Done
-  one-refused : convergent-case l < 8 → Structurizes g r shape x (set-aside l (convergent-case l)) l′ Full
+  one-refused : convergent-case l < 8 → StructurizesSelect g r shape x (set-aside l (convergent-case l)) l′ Full
       → StructurizesInto g r shape x l l′ Full
-  all-together : {l₁ : List ℕ} → 8 ≤ convergent-case l → Structurizes g r shape x l l₁ Done → l′ ≡ spare-taken l₁ r
+  all-together : {l₁ : List ℕ} → 8 ≤ convergent-case l → StructurizesSelect g r shape x l l₁ Done → l′ ≡ spare-taken l₁ r
       → StructurizesInto g r shape x l l′ Done
-  all-refused : 8 ≤ convergent-case l → Structurizes g r shape x l l′ Full → StructurizesInto g r shape x l l′ Full
+  all-refused : 8 ≤ convergent-case l → StructurizesSelect g r shape x l l′ Full → StructurizesInto g r shape x l l′ Full
 
 -- ---- The functions, path by path.
 module _ (needed : Bool) (r shape : ℕ) (x : Scrutinee) (l : List ℕ) where
@@ -94,10 +94,11 @@ module _ (r shape : ℕ) (x : Scrutinee) (l : List ℕ) {some merged needed : Bo
       let need : needed ≡ needs-select g l = both ∙ rw (of-cases, fourth) in
       rw (third, need) at (made g (rw third s₃))
 
-  pub select-none : a ≡ Full → OfRecord l (λ g. Structurizes g r shape x l l₄ Full)
+  pub select-none : a ≡ Full → OfRecord l (λ g. StructurizesSelect g r shape x l l₄ Full)
   select-none e g s = not-structurized (rw e at (step-by-step g s))
 
-  pub select-all : a ≡ Done → {l′ : List ℕ} → l′ ≡ all-replaced l₄ (case-total l₄) 0 → OfRecord l (λ g. Structurizes g r shape x l l′ Done)
+  pub select-all : a ≡ Done → {l′ : List ℕ} → l′ ≡ all-replaced l₄ (case-total l₄) 0
+      → OfRecord l (λ g. StructurizesSelect g r shape x l l′ Done)
   select-all e p g s = structurized (rw e at (step-by-step g s)) p
 
 pub spare-by : (l : List ℕ) (r : ℕ) {n : ℕ} {l₁ l₂ : List ℕ} → n ≡ word l set-lengths 32 → l₁ ≡ swapped l r 32
@@ -106,11 +107,11 @@ spare-by l r a b c = c ∙ rw (b, a)
 
 module _ (r shape : ℕ) (x : Scrutinee) (l : List ℕ) {j : ℕ} (found : j ≡ convergent-case l) where
   module _ (one : j < 8) {y z : Case} {l₁ l₂ : List ℕ} {a : Made} (row : y ≡ case-row l j) (none : z ≡ unclaimed-case 0 0 0)
-      (aside : l₁ ≡ stored-all l cases (10 * j) (case-words z)) (made : OfRecord l₁ (λ g. Structurizes g r shape x l₁ l₂ a)) where
+      (aside : l₁ ≡ stored-all l cases (10 * j) (case-words z)) (made : OfRecord l₁ (λ g. StructurizesSelect g r shape x l₁ l₂ a)) where
     below : convergent-case l < 8
     below = rw found at one
 
-    alone : OfRecord l (λ g. Structurizes g r shape x (set-aside l (convergent-case l)) l₂ a)
+    alone : OfRecord l (λ g. StructurizesSelect g r shape x (set-aside l (convergent-case l)) l₂ a)
     alone g s =
         let e : l₁ ≡ set-aside l (convergent-case l) = aside ∙ rw (none, found) in
         rw e at (made g (rw e (stands-kept (kinds-run l cases (omega arith) (10 * convergent-case l)
@@ -122,7 +123,7 @@ module _ (r shape : ℕ) (x : Scrutinee) (l : List ℕ) {j : ℕ} (found : j ≡
     pub into-one : a ≡ Done → {l′ : List ℕ} → Appends l₂ l′ r y j → OfRecord l (λ g. StructurizesInto g r shape x l l′ Done)
     into-one e w g s = one-follows below (rw e at (alone g s)) (rw (row, found) at w)
 
-  module _ (more : 8 ≤ j) {l₁ : List ℕ} {a : Made} (made : OfRecord l (λ g. Structurizes g r shape x l l₁ a)) where
+  module _ (more : 8 ≤ j) {l₁ : List ℕ} {a : Made} (made : OfRecord l (λ g. StructurizesSelect g r shape x l l₁ a)) where
     pub into-none : a ≡ Full → OfRecord l (λ g. StructurizesInto g r shape x l l₁ Full)
     into-none e g s = all-refused (rw found at more) (rw e at (made g s))
 

@@ -37,8 +37,8 @@ use Rattle.state.specs.declared.defined.Made.the-variants.{Done}
 use Rattle.selects.specs.declared.define.Scrutinee.{Scrutinee}
 use Rattle.selects.specs.Cases.{convergent-case}
 use Rattle.selects.specs.Into.{set-aside, spare-taken, StructurizesInto, one-follows, one-refused, all-together, all-refused}
-use Rattle.selects.specs.Into.{Structurizes}
-use Rattle.selects.specs.CasesShown.{Converges, none-converges, one-converges, more-converge, convergent-shown}
+use Rattle.selects.specs.Into.{StructurizesSelect}
+use Rattle.selects.specs.CasesShown.{ConvergesFrom, none-converges, one-converges, more-converge, convergent-shown}
 use Rattle.selects.specs.RegionsShown.{ShowsMade, shows-made, shows-refused, made-of, refused-of}
 use Rattle.selects.specs.SelectsShown.{ShowsScrutinee, scrutinee-stays}
 use Rattle.selects.specs.Aside.{aside-shown, none-left, other-case, field, none-deferred, PartsStay, parts-then}
@@ -137,7 +137,7 @@ module _ {g : Graph} (valid : Valid g) {r : ℕ} (below : r < length (g .regions
     (of-shape : ShowsShape shape (length cs) kind) {parent : Nodes} (own : ShowsChildren g w (word w children r) parent)
     (free : word w head 4 + (length cs + 2) ≤ 704) where
   -- All cases together.
-  together : {w₁ : List ℕ} {a : Made} → Structurizes g r shape x w w₁ a
+  together : {w₁ : List ℕ} {a : Made} → StructurizesSelect g r shape x w w₁ a
       → ShowsMade (Structured g r cs w w₁) a (structurize-select g parent kind y cs s)
   together m =
       let many = valid .count in
@@ -220,7 +220,7 @@ module _ {g : Graph} (valid : Valid g) {r : ℕ} (below : r < length (g .regions
     total₀ : word aside head 4 ≡ word w head 4
     total₀ = changes .totals 4 (omega arith)
 
-    answer : {w₁ : List ℕ} {a : Made} → Structurizes g r shape x aside w₁ a
+    answer : {w₁ : List ℕ} {a : Made} → StructurizesSelect g r shape x aside w₁ a
         → ShowsMade (Structured g r rest aside w₁) a (structurize-select g parent kind y rest s)
     answer m =
         let many = few in
@@ -286,7 +286,7 @@ module _ {g : Graph} (valid : Valid g) {r : ℕ} (below : r < length (g .regions
   all-at-once : 8 ≤ convergent-case w → structurize-select-into g parent kind y cs s ≡ structurize-select g parent kind y cs s
   all-at-once h = by (convergent-shown shown)
     where
-      by : Converges 0 cs (convergent-case w) → structurize-select-into g parent kind y cs s ≡ structurize-select g parent kind y cs s
+      by : ConvergesFrom 0 cs (convergent-case w) → structurize-select-into g parent kind y cs s ≡ structurize-select g parent kind y cs s
       by (none-converges e q) = rw q refl
       by (one-converges e k q p) = let most = shown .few in absurd (omega arith)
       by (more-converge e q) = rw q refl
@@ -299,7 +299,7 @@ module _ {g : Graph} (valid : Valid g) {r : ℕ} (below : r < length (g .regions
   sole : convergent-case w < 8 → Sole (convergent-case w)
   sole h = by (convergent-shown shown)
     where
-      by : Converges 0 cs (convergent-case w) → Sole (convergent-case w)
+      by : ConvergesFrom 0 cs (convergent-case w) → Sole (convergent-case w)
       by (none-converges e q) = absurd (omega arith)
       by (one-converges {i} e k q p) =
           let z : convergent-case w ≡ i = omega arith in rw z (record { inside = k; alone = q; without = p })

@@ -17,17 +17,15 @@ use Rattle.state.specs.Tables.{input-word, case-total}
 use Rattle.shown.specs.Values.{value, value-undef}
 use Rattle.shown.specs.Tables.{ShowsCondition, shows-undef, shows-false, ShowsParts, none-left, one-and, cond-count, ShowsValues}
 use Rattle.shown.specs.Sets.{ShowsTarget, ShowsSet, target-size, no-bundle}
-use Rattle.shown.specs.SetSteps.{Finds, found, none-found, finds, same-target-is, condition-shown}
+use Rattle.shown.specs.SetSteps.{condition-shown}
+use Rattle.nesting.specs.steps.TargetsAndCases.{same-target-is, per-cases}
+use Rattle.shown.specs.Finds.{Finds, found, none-found, finds}
 use Rattle.shown.specs.States.{ShowsCases, no-case}
 use Rattle.bundles.specs.Words as words
-use Rattle.merging.specs.PerCaseShown.{place-is}
+use Rattle.merging.specs.PerCaseShown.{place-is, inputs-nowhere}
 use Rattle.merging.specs.Planning.{per-case-deferred, per-case-condition}
 use Rattle.selects.specs.Emits.{InCases, value-in-case, value-none, value-some}
 use Rattle.selects.specs.StepsShown.{SelectStep}
-
--- What all cases pass to a target.
-abbrev pub cases-pass : DeferredTarget → List MaybeClaimedRegion → List PerCaseDeferred
-cases-pass x cs = map (λ c. nesting.per-case-deferred x (deferred-of c)) cs
 
 -- ---- The cases' bundles to a target.
 pub record ShowsPlaces (w : List ℕ) (x : DeferredTarget) (cs : List MaybeClaimedRegion) (places : List ℕ) : Type 0 where
@@ -48,11 +46,6 @@ pub places-stay : {g : Graph} {r : ℕ} {w w′ : List ℕ} → SelectStep g r w
 places-stay s p = record { each = λ j h. rw (s .case-words j 4 (omega arith) (omega arith)) (p .each j h) }
 
 -- ---- By whether a set has a bundle to the target.
-per-case-none : (x : DeferredTarget) (d : DeferredEdgeBundleSet) → get-edge-bundle-by-target x d ≡ none
-    → nesting.per-case-deferred x d .inputs ≡ none
-per-case-none x [] h = refl
-per-case-none x (e ∷ es) h = ap (λ o. per-case-of (e ∷ es) o .inputs) h
-
 per-case-some : (x : DeferredTarget) (d : DeferredEdgeBundleSet) (e : DeferredEdgeBundle) → get-edge-bundle-by-target x d ≡ some e
     → nesting.per-case-deferred x d ≡ per-case-of d (some e)
 per-case-some x [] e h = absurd (clash (cc))
@@ -64,14 +57,14 @@ module _ {g : Graph} {w : List ℕ} {start n : ℕ} {d : DeferredEdgeBundleSet} 
         → value (value-in-case w p k ty) ≡ nesting.value-in-case k ty (nesting.per-case-deferred x d)
     unfolding input-word
     value-shown (none-found e gets) k ty h b =
-        ap value (sym (value-none w p k ty e)) ∙ value-undef ty b ∙ rw (per-case-none x d gets, nesting.value-in-case)
+        ap value (sym (value-none w p k ty e)) ∙ value-undef ty b ∙ rw (inputs-nowhere x d gets, nesting.value-in-case)
     value-shown (found i at below gets same before) k ty h b =
         let size = set .size in
         let room = set .room in
         let it = getD d i no-bundle in
         let bundle = set .each i (omega arith) in
         let few = bundle .few in
-        let goes : it .target ≡ x = same-target-is x (it .target) same in
+        let goes : it .target ≡ x = sym (same-target-is x (it .target) same) in
         let many : length (it .target-inputs) ≡ target-size g x = rw goes at (bundle .size) in
         let named = bundle .inputs k (omega arith) in
         rw (per-case-some x d it gets, ← value-some w p k ty (omega arith), at, lt-ltb k 4 (omega arith)) (named .is)
@@ -120,29 +113,29 @@ module _ {g : Graph} {w : List ℕ} {r : ℕ} {cs : List MaybeClaimedRegion} (sh
     (at : ShowsPlaces w x cs places) where
   pub values-shown : (k ty : ℕ) → k < target-size g x → ty < 256 → {vs : List ℕ}
       → InCases (case-total w) (λ j. value-in-case w (getD places j 0) k ty) vs
-      → ShowsValues vs 0 (map (nesting.value-in-case k ty) (cases-pass x cs))
+      → ShowsValues vs 0 (map (nesting.value-in-case k ty) (per-cases x cs))
   values-shown k ty h b {vs} y =
       let size = shown .size in
       let few = shown .few in
-      let long : length (map (nesting.value-in-case k ty) (cases-pass x cs)) ≡ length cs =
-      length-map (cases-pass x cs) (nesting.value-in-case k ty) ∙ length-map cs _ in
+      let long : length (map (nesting.value-in-case k ty) (per-cases x cs)) ≡ length cs =
+      length-map (per-cases x cs) (nesting.value-in-case k ty) ∙ length-map cs _ in
       record {
         few = omega arith;
         each = λ j i.
             let below : j < length cs = omega arith in
             let z : 0 + j ≡ j = omega arith in
             rw z (ap value (y .each j (omega arith)) ∙ value-shown (shown .sets j below) (at .each j below) k ty h b
-            ∙ sym (getD-map-in (nesting.value-in-case k ty) (cases-pass x cs) j (nesting.per-case-deferred x (deferred-of no-case))
+            ∙ sym (getD-map-in (nesting.value-in-case k ty) (per-cases x cs) j (nesting.per-case-deferred x (deferred-of no-case))
             (undef 0)
             (rw (length-map cs (λ c. nesting.per-case-deferred x (deferred-of c))) below)
             ∙ ap (nesting.value-in-case k ty) (getD-map-in (λ c. nesting.per-case-deferred x (deferred-of c)) cs j no-case _ below)));
       }
 
   pub parts-shown : {parts : List ℕ} → InCases (case-total w) (λ j. per-case-condition w j (getD places j 0)) parts
-      → ShowsParts w parts 0 (conditions-of (cases-pass x cs))
+      → ShowsParts w parts 0 (conditions-of (per-cases x cs))
   parts-shown {parts} y =
       let size = shown .size in
-      parts-from parts (cases-pass x cs) 0 (λ j h.
+      parts-from parts (per-cases x cs) 0 (λ j h.
       let z : 0 + j ≡ j = omega arith in
       let below : j < length cs = rw (length-map cs (λ c. nesting.per-case-deferred x (deferred-of c))) at h in
       rw (z, y .each j (omega arith), getD-map-in (λ c. nesting.per-case-deferred x (deferred-of c)) cs j no-case no-case-passed below)

@@ -20,36 +20,36 @@ use Rattle.shown.specs.Sets.{Names, ShowsTarget, shows-region, shows-return, Sh
 use Rattle.merging.specs.PlanningShown as planned
 use Rattle.merging.specs.PlanningShown.{ShowsPlanned, shows-shared, shows-merged, always, to-be-made}
 use Rattle.merging.specs.TargetsShown.{no-summary, ShowsRows}
-use Rattle.selects.specs.PerCase.{cases-pass}
 use Rattle.selects.specs.EmitsShown.{PlannedInputOf, is-shared, is-merged, PlannedConditionOf, is-true, is-open, PlannedOf}
-use Rattle.selects.specs.EmitsShown.{no-planned}
+use Rattle.selects.specs.EmitsShown.{no-planned-input}
 use Rattle.selects.specs.SetsEmitted.{no-plan, ShowsPlan}
+use Rattle.nesting.specs.steps.TargetsAndCases.{per-cases}
 
 -- ---- A planned bundle of these cases.
 module _ (g : Graph) (cs : List MaybeClaimedRegion) where
   input-of : {x : DeferredTarget} {a k : ℕ} (u : Option Value)
-      → planned.ShowsPlannedInput a (plan-input k (nesting.target-type g x k) (cases-pass x cs) u)
-      → PlannedInputOf g cs x a k (plan-input k (nesting.target-type g x k) (cases-pass x cs) u)
+      → planned.ShowsPlannedInput a (plan-input k (nesting.target-type g x k) (per-cases x cs) u)
+      → PlannedInputOf g cs x a k (plan-input k (nesting.target-type g x k) (per-cases x cs) u)
   input-of (some v) (shows-shared names) = is-shared names
   input-of none (shows-merged e) = is-merged e refl refl
 
   -- The inputs from k on, m of them.
-  inputs-of : (x : DeferredTarget) (f : ℕ → ℕ) (m k : ℕ) (i : ℕ) → i < length (plan-inputs g m k x cs (cases-pass x cs))
-      → planned.ShowsPlannedInput (f (k + i)) (getD (plan-inputs g m k x cs (cases-pass x cs)) i planned.no-input)
-      → PlannedInputOf g cs x (f (k + i)) (k + i) (getD (plan-inputs g m k x cs (cases-pass x cs)) i no-planned)
+  inputs-of : (x : DeferredTarget) (f : ℕ → ℕ) (m k : ℕ) (i : ℕ) → i < length (plan-inputs g m k x cs (per-cases x cs))
+      → planned.ShowsPlannedInput (f (k + i)) (getD (plan-inputs g m k x cs (per-cases x cs)) i planned.no-input)
+      → PlannedInputOf g cs x (f (k + i)) (k + i) (getD (plan-inputs g m k x cs (per-cases x cs)) i no-planned-input)
   inputs-of x f zero k i h y = absurd (omega arith)
   inputs-of x f (suc m) k zero h y =
       let z : k + 0 ≡ k = omega arith in
-      subst (λ j. PlannedInputOf g cs x (f j) j (plan-input k (nesting.target-type g x k) (cases-pass x cs)
-      (unique-input (passed-inputs k cs (cases-pass x cs))))) (sym z)
-      (input-of (unique-input (passed-inputs k cs (cases-pass x cs))) (rw z at y))
+      subst (λ j. PlannedInputOf g cs x (f j) j (plan-input k (nesting.target-type g x k) (per-cases x cs)
+      (unique-input (passed-inputs k cs (per-cases x cs))))) (sym z)
+      (input-of (unique-input (passed-inputs k cs (per-cases x cs))) (rw z at y))
   inputs-of x f (suc m) k (suc i) h y =
       let z : k + suc i ≡ suc k + i = omega arith in
       rw z (inputs-of x f m (suc k) i (omega arith) (rw z at y))
 
   condition-of : (x : DeferredTarget) {a : ℕ} (b : Bool) → planned.ShowsPlannedCondition a
-      (pick b none (some (conditions-of (cases-pass x cs))))
-      → PlannedConditionOf cs x a (pick b none (some (conditions-of (cases-pass x cs))))
+      (pick b none (some (conditions-of (per-cases x cs))))
+      → PlannedConditionOf cs x a (pick b none (some (conditions-of (per-cases x cs))))
   condition-of x true (always e) = is-true e
   condition-of x false (to-be-made e) = is-open e refl
 
@@ -59,7 +59,7 @@ module _ (g : Graph) (cs : List MaybeClaimedRegion) where
       record {
         target = y .target;
         count = y .count;
-        condition = condition-of (t .target) (all-true (cases-pass (t .target) cs)) (y .condition);
+        condition = condition-of (t .target) (all-true (per-cases (t .target) cs)) (y .condition);
         size = y .size;
         few = y .few;
         inputs = λ k h.
@@ -138,9 +138,9 @@ shared-shown {p} y e =
       few = omega arith;
       inputs = λ k h.
           let below : k < length (p .inputs) = omega arith in
-          rw (getD-map-in its-value (p .inputs) k no-planned (undef 0) below)
+          rw (getD-map-in its-value (p .inputs) k no-planned-input (undef 0) below)
           (value-of (y .inputs k below)
-          (none-of to-make (p .inputs) (or-left (any to-make (p .inputs)) (is-some (p .condition)) e) k no-planned below));
+          (none-of to-make (p .inputs) (or-left (any to-make (p .inputs)) (is-some (p .condition)) e) k no-planned-input below));
     }
 
 pub shared-set : {g : Graph} {cs : List MaybeClaimedRegion} {w : List ℕ} {base : ℕ} {ps : List PlannedBundle} → base + 33 ≤ 1097

@@ -15,16 +15,16 @@ use Rattle.state.specs.Tables.{Defines, defined, full}
 use Rattle.shown.specs.Stores.{ChangesOnly, nothing-changes, head-changes, word-changes, changes-then}
 use Rattle.shown.specs.Tables.{ShowsTables, done-of, full-of}
 use Rattle.shown.specs.Elsewhere.{tables-stay, word-elsewhere}
-use Rattle.shown.specs.Cells.{case-count}
+use Rattle.meaning.specs.Runs.{case-count}
 use Rattle.shown.specs.States.{ShowsCase, shows-ok, shows-nothing, shows-edge, shows-others, no-case}
 use Rattle.shown.specs.Steps.{region-defined}
 use Rattle.shown.specs.RegionSteps.{word-there, word-apart}
 use Rattle.state.specs.declared.defined.Made.{Made}
 use Rattle.state.specs.declared.defined.Made.the-variants.{Done, Full}
 use Rattle.selects.specs.Turns.{Turns, turns-over, turn-on, turn-refused}
-use Rattle.selects.specs.Cases.{CaseRegion, has-region, new-region, no-region}
-use Rattle.selects.specs.CasesShown.{children-in}
+use Rattle.selects.specs.Cases.{GetsRegion, has-region, new-region, no-region}
 use Rattle.selects.specs.Places.{From, first-of, rest-of}
+use Rattle.nesting.specs.steps.TargetsAndCases.{children-in}
 
 -- What a step of the code answers shows what the definition's step gives, or refusal 9.
 pub data ShowsMade {A : Type 0} (R : A → NestState → Type 0) : Made → StepAnswer A → Type 0 where
@@ -94,14 +94,14 @@ keeps-both a b =
       bodies = λ k e. b .bodies k (a .words k 0 (omega arith) (omega arith) ∙ e) ∙ a .bodies k e;
     }
 
-region-keeps : {j : ℕ} {w w′ : List ℕ} {a : Made} → CaseRegion j w w′ a → KeepsCases j w w′
+region-keeps : {j : ℕ} {w w′ : List ℕ} {a : Made} → GetsRegion j w w′ a → KeepsCases j w w′
 region-keeps {j} {w} (has-region k e) = rw e (keeps-same j w)
 region-keeps {j} (new-region {r} {l₁} d x e) =
     let a = total-kept x j in
     rw e (keeps-both a (body-kept l₁ j r (λ z. d (sym (a .words j 0 (omega arith) (omega arith)) ∙ z))))
 region-keeps {j} (no-region d x) = total-kept x j
 
-pub regions-keep : {n j : ℕ} {w w′ : List ℕ} {a : Made} → Turns CaseRegion n j w w′ a → KeepsCases j w w′
+pub regions-keep : {n j : ℕ} {w w′ : List ℕ} {a : Made} → Turns GetsRegion n j w w′ a → KeepsCases j w w′
 regions-keep {j} {w} (turns-over n e) = rw e (keeps-same j w)
 regions-keep (turn-on n x t) = keeps-then (region-keeps x) (regions-keep t)
 regions-keep (turn-refused n x) = region-keeps x
@@ -144,14 +144,14 @@ module _ (c : MaybeClaimedRegion) (cs : List MaybeClaimedRegion) (j : ℕ) (w′
   with-first shows-refused = shows-refused
 
 region-refused : (c : MaybeClaimedRegion) (cs : List MaybeClaimedRegion) {j : ℕ} {w w′ : List ℕ} {s : NestState} → ShowsTables w s
-    → ShowsKind w j c → CaseRegion j w w′ Full → case-regions (c ∷ cs) s ≡ turned-away 9 0
+    → ShowsKind w j c → GetsRegion j w w′ Full → case-regions (c ∷ cs) s ≡ turned-away 9 0
 unfolding case-regions
 region-refused (ok c) cs t (kind-ok k q) (no-region d x) = absurd (d k)
 region-refused (err d) cs t (kind-err k) (no-region z x) = rw (full-of (region-defined t x) refl)
 
 pub regions-shown : (cs : List MaybeClaimedRegion) (j : ℕ) {w w′ : List ℕ} {s : NestState} {a : Made} {n : ℕ} → n ≡ length cs
     → From no-case (ShowsKind w) j cs → ShowsTables w s → j + length cs ≤ 8
-    → Turns CaseRegion n j w w′ a → ShowsMade (RegionsDone j cs w′) a (case-regions cs s)
+    → Turns GetsRegion n j w w′ a → ShowsMade (RegionsDone j cs w′) a (case-regions cs s)
 unfolding case-regions
 regions-shown [] j e f t b (turns-over n q) = rw q (shows-made (refl, t))
 regions-shown [] j e f t b (turn-on n x y) = absurd (omega arith)
@@ -166,7 +166,7 @@ regions-shown (c ∷ cs) j {w} {w′} {s} {a} e f t b (turn-on {l₁} n x y) =
     later : body-at w′ j ≡ body-at l₁ j
     later = regions-keep y .before (10 * j + 2) (omega arith)
 
-    step : (c : MaybeClaimedRegion) → ShowsKind w j c → CaseRegion j w l₁ Done
+    step : (c : MaybeClaimedRegion) → ShowsKind w j c → GetsRegion j w l₁ Done
         → ((s₁ : NestState) → ShowsTables l₁ s₁ → ShowsMade (RegionsDone (suc j) cs w′) a (case-regions cs s₁))
         → ShowsMade (RegionsDone j (c ∷ cs) w′) a (case-regions (c ∷ cs) s)
     step (ok c) (kind-ok k q) (has-region z r) go = with-first (ok c) cs j w′ (c .structured-body) (later ∙ rw r q) (go s (rw r t))

@@ -6,18 +6,14 @@ use native.Mathlib.Omega.{arith}
 use Rattle.state.specs.declared.defined.Defined.{Defined}
 use Rattle.state.specs.declared.defined.Defined.the-variants.{Number, Full}
 use Rattle.state.specs.Sections.{word, stored, cases, children}
-use Rattle.state.specs.Tables as tables
-use Rattle.state.specs.Tables.{Adds, Defines}
+use Rattle.state.specs.Tables.{case-total, Adds, Defines}
 use Rattle.shown.specs.CellSteps.{case-cell, select-cell}
 use Rattle.lookups.specs.Materialized.{Materializes}
 use Rattle.state.specs.declared.defined.Made.the-variants.{Done as MadeDone, Full as MadeFull}
 use Rattle.selects.specs.declared.define.Scrutinee.{Scrutinee}
 use Rattle.selects.specs.declared.define.Scrutinee.the-variants.{Value, Lazy}
 use Rattle.selects.specs.Turns.{Turns}
-use Rattle.selects.specs.Cases.{CaseRegion, children-of}
-
-abbrev pub case-total : List ℕ → ℕ
-case-total l = tables.case-total l
+use Rattle.selects.specs.Cases.{GetsRegion, children-of}
 
 pub data ScrutineeMade (l : List ℕ) : Scrutinee → List ℕ → Defined → Type 0 where
   given-value : {v : ℕ} {l′ : List ℕ} → l′ ≡ l → ScrutineeMade l (Value v) l′ (Number v)
@@ -35,12 +31,12 @@ pub data SelectAdded (r node shape v : ℕ) (l l′ : List ℕ) (h : ℕ) : Type
       → Adds l₁ l₂ (select-cell before node shape v cs) h → l′ ≡ stored l₂ children r h → SelectAdded r node shape v l l′ h
 
 pub data SelectDefined (r shape : ℕ) (x : Scrutinee) (l l′ : List ℕ) : Defined → Type 0 where
-  regions-full : Turns CaseRegion (case-total l) 0 l l′ MadeFull → SelectDefined r shape x l l′ Full
-  scrutinee-full : {l₁ : List ℕ} → Turns CaseRegion (case-total l) 0 l l₁ MadeDone → ScrutineeMade l₁ x l′ Full
+  regions-full : Turns GetsRegion (case-total l) 0 l l′ MadeFull → SelectDefined r shape x l l′ Full
+  scrutinee-full : {l₁ : List ℕ} → Turns GetsRegion (case-total l) 0 l l₁ MadeDone → ScrutineeMade l₁ x l′ Full
       → SelectDefined r shape x l l′ Full
-  node-full : {l₁ l₂ : List ℕ} {v : ℕ} → Turns CaseRegion (case-total l) 0 l l₁ MadeDone → ScrutineeMade l₁ x l₂ (Number v)
+  node-full : {l₁ l₂ : List ℕ} {v : ℕ} → Turns GetsRegion (case-total l) 0 l l₁ MadeDone → ScrutineeMade l₁ x l₂ (Number v)
       → Defines 1 512 l₂ l′ Full → SelectDefined r shape x l l′ Full
-  select-defined : {l₁ l₂ l₃ : List ℕ} {v n h : ℕ} → Turns CaseRegion (case-total l) 0 l l₁ MadeDone → ScrutineeMade l₁ x l₂ (Number v)
+  select-defined : {l₁ l₂ l₃ : List ℕ} {v n h : ℕ} → Turns GetsRegion (case-total l) 0 l l₁ MadeDone → ScrutineeMade l₁ x l₂ (Number v)
       → Defines 1 512 l₂ l₃ (Number n) → SelectAdded r n shape v l₃ l′ h → SelectDefined r shape x l l′ (Number h)
 
 -- ---- Turns of the loop over the cases.

@@ -21,7 +21,8 @@ use Rattle.shown.specs.Stores.{ChangesOnly, nothing-changes, head-changes, chan
 use Rattle.shown.specs.Tables.{ShowsTables, ShowsShape, ShowsCondition, shows-done, done-of, full-of}
 use Rattle.shown.specs.Elsewhere.{SameTables, tables-stay, same-then}
 use Rattle.shown.specs.Steps.{node-defined}
-use Rattle.shown.specs.Cells.{ShowsChildren, case-count}
+use Rattle.shown.specs.Cells.{ShowsChildren}
+use Rattle.meaning.specs.Runs.{case-count}
 use Rattle.shown.specs.States.{ShowsCases, no-case}
 use Rattle.shown.specs.Kept.{Later, later-same, later-then}
 use Rattle.shown.specs.CellSteps.{ShowsCaseList, no-case-list, case-added, select-added, cell-changes, cell-later, cell-total, cell-there}
@@ -33,14 +34,15 @@ use Rattle.state.specs.declared.defined.Made.the-variants.{Done}
 use Rattle.selects.specs.declared.define.Scrutinee.{Scrutinee}
 use Rattle.selects.specs.declared.define.Scrutinee.the-variants.{Value, Lazy}
 use Rattle.selects.specs.Turns.{Turns}
-use Rattle.selects.specs.Cases.{children-of, CaseRegion}
-use Rattle.selects.specs.CasesShown.{children-in, children-shown}
+use Rattle.selects.specs.Cases.{children-of, GetsRegion}
+use Rattle.selects.specs.CasesShown.{children-shown}
 use Rattle.selects.specs.Selects as words
 use Rattle.selects.specs.Selects.{CaseCells, cells-over, cell-more}
 use Rattle.selects.specs.RegionsShown.{cases-from, count-from, body-at, KeepsCases, regions-keep, ShowsKind, kind-shown, RegionsDone}
 use Rattle.selects.specs.RegionsShown.{ShowsMade, made-of, refused-of, regions-shown}
 use Rattle.selects.specs.Places.{from-start}
 use Rattle.selects.specs.StepsShown.{SelectStep, step-then, step-by, step-regions, step-children, cases-stay}
+use Rattle.nesting.specs.steps.TargetsAndCases.{children-in}
 
 children-same : (w w′ : List ℕ) → section w′ cases ≡ section w cases → (j : ℕ) → children-of w′ j ≡ children-of w j
 unfolding children-of
@@ -187,12 +189,12 @@ module _ {g : Graph} {r : ℕ} {cs : List MaybeClaimedRegion} {parent : Nodes} {
     tables : ShowsTables l state
     keeps : KeepsCases 0 w l
 
-  regions-answer : {l : List ℕ} {a : Made} → Turns CaseRegion (case-total w) 0 w l a → ShowsMade (RegionsDone 0 cs l) a (case-regions cs s)
+  regions-answer : {l : List ℕ} {a : Made} → Turns GetsRegion (case-total w) 0 w l a → ShowsMade (RegionsDone 0 cs l) a (case-regions cs s)
   regions-answer m =
       let few = shown .few in
       regions-shown cs 0 (shown .size) (from-start no-case (ShowsKind w) cs (λ j h. kind-shown (shown .each j h))) t (omega arith) m
 
-  with-regions : {l : List ℕ} → Turns CaseRegion (case-total w) 0 w l Done → WithRegions l
+  with-regions : {l : List ℕ} → Turns GetsRegion (case-total w) 0 w l Done → WithRegions l
   with-regions m =
       let x = made-of (regions-answer m) in
       record {

@@ -21,7 +21,7 @@ use Rattle.shown.specs.Elsewhere.{tables-stay, word-elsewhere}
 use Rattle.shown.specs.Conditions.{merge-made, condition-kept}
 use Rattle.shown.specs.Sets.{ShowsBundle, ShowsSet, SameBundle, no-bundle}
 use Rattle.shown.specs.Kept.{Later, bundle-stays}
-use Rattle.shown.specs.SetSteps.{bundle-in}
+use Rattle.shown.specs.Finds.{bundle-in}
 use Rattle.shown.specs.RegionSteps.{word-there, word-apart}
 use Rattle.selects.specs.SmallTypes.{SmallTypes}
 use Rattle.state.specs.declared.defined.Made.{Made}
@@ -33,11 +33,12 @@ use Rattle.selects.specs.Emits.{EmitAt, Emits, EmitInputs, places-of, ta
 use Rattle.bundles.specs.Words.{input-count}
 use Rattle.bundles.specs.Targets.{input-count-shown}
 use Rattle.selects.specs.RegionsShown.{ShowsMade, shows-made, shows-refused, made-of, refused-of}
-use Rattle.selects.specs.PerCase.{cases-pass, ShowsPlaces, places-shown, places-stay, parts-shown, count-conditions}
+use Rattle.selects.specs.PerCase.{ShowsPlaces, places-shown, places-stay, parts-shown, count-conditions}
 use Rattle.selects.specs.Emitting.{Emitting, emitting-none, emitting-then, emitting-within, emitting-condition, emitting-word}
 use Rattle.selects.specs.Emitting.{emitting-step, Spared, spared-stays}
-use Rattle.selects.specs.EmitsShown.{PlannedOf, PlannedConditionOf, is-true, is-open, no-planned, Planned, InputsDone}
+use Rattle.selects.specs.EmitsShown.{PlannedOf, PlannedConditionOf, is-true, is-open, no-planned-input, PlannedAt, InputsDone}
 use Rattle.selects.specs.EmitsShown.{inputs-shown}
+use Rattle.nesting.specs.steps.TargetsAndCases.{per-cases}
 
 -- The cell of a select with this many cases.
 pub record ShowsSelectCell (h : ℕ) (n : DefinedSelect) (many : ℕ) (w : List ℕ) : Type 0 where
@@ -86,8 +87,8 @@ module _ {g : Graph} {r base : ℕ} {cs : List MaybeClaimedRegion} (n : DefinedS
   condition-shown (is-true z) (no-condition e ps m) = absurd (omega arith)
   condition-shown (is-open {ts} z u) (condition-made {l₁} {c} e ps m p) =
       let made = rw (cell .node) at m in
-      let many : length cs ≡ cond-count (conditions-of (cases-pass x cs)) =
-      sym (count-conditions (cases-pass x cs) ∙ length-map cs (λ c. nesting.per-case-deferred x (deferred-of c))) in
+      let many : length cs ≡ cond-count (conditions-of (per-cases x cs)) =
+      sym (count-conditions (per-cases x cs) ∙ length-map cs (λ c. nesting.per-case-deferred x (deferred-of c))) in
       let y = done-of (merge-made tables (ps .size) (rw many at (cell .shape)) (cell .scrutinee) (parts-shown (here .shown) at ps) made)
       refl in
       let changes = merge-changes made in
@@ -104,7 +105,7 @@ module _ {g : Graph} {r base : ℕ} {cs : List MaybeClaimedRegion} (n : DefinedS
       let last = emitting-word g l₁ q 2 c (omega arith) in
       let size = y .tables .size in
       rw (u, y .is, p)
-      (shows-made {a = merge (n .node) (n .kind) (n .scrutinee) (conditions-of (cases-pass x cs))} {s = y .state} (record {
+      (shows-made {a = merge (n .node) (n .kind) (n .scrutinee) (conditions-of (per-cases x cs))} {s = y .state} (record {
         emitting = emitting-then (emitting-condition changes g q (q + 1) later) last;
         tables = tables-stay (word-elsewhere l₁ bundles (omega arith) (7 * q + 2) c) (y .tables);
         others = λ i b d. word-apart l₁ bundles (7 * q + 2) c bundles (7 * q + i) (omega arith) ∙ same (7 * q + i);
@@ -112,8 +113,8 @@ module _ {g : Graph} {r base : ℕ} {cs : List MaybeClaimedRegion} (n : DefinedS
       }))
   condition-shown (is-open z u) (no-condition e ps m) =
       let made = rw (cell .node) at m in
-      let many : length cs ≡ cond-count (conditions-of (cases-pass x cs)) =
-      sym (count-conditions (cases-pass x cs) ∙ length-map cs (λ c. nesting.per-case-deferred x (deferred-of c))) in
+      let many : length cs ≡ cond-count (conditions-of (per-cases x cs)) =
+      sym (count-conditions (per-cases x cs) ∙ length-map cs (λ c. nesting.per-case-deferred x (deferred-of c))) in
       rw (
         u,
         full-of (merge-made tables (ps .size) (rw many at (cell .shape)) (cell .scrutinee) (parts-shown (here .shown) at ps) made)
@@ -152,7 +153,7 @@ module _ {g : Graph} {r base : ℕ} {cs : List MaybeClaimedRegion} (few : length
       size in
       inputs-shown few small n q from to room (planned .target) (omega arith) its-places (p .inputs) 0 many (omega arith) here places-here
       tables
-      (from-start no-planned (Planned g cs (p .target) q w) (p .inputs) (planned .inputs)) (rw (cell .node) at t)
+      (from-start no-planned-input (PlannedAt g cs (p .target) q w) (p .inputs) (planned .inputs)) (rw (cell .node) at t)
 
   finished : {w₁ w′ : List ℕ} {vs : List Value} {c : LazyCond} {s₁ s₂ : NestState} → InputsDone g q 0 w w₁ (length (p .inputs)) vs s₁
       → ConditionDone g q w₁ w′ c s₂ → BundleDone g q w w′ (edge-bundle (p .target) (p .total-edge-count) vs c) s₂

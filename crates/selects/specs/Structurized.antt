@@ -29,7 +29,7 @@ use Rattle.shown.specs.Cells.{ShowsChildren}
 use Rattle.shown.specs.States.{ShowsState, ShowsCases, NamedRewrites}
 use Rattle.shown.specs.Kept.{Later, later-then, KeptRegion, kept-then, same-bundle-then, set-stays}
 use Rattle.shown.specs.CellSteps.{join-none}
-use Rattle.shown.specs.SetStores.{slots-stay}
+use Rattle.shown.specs.RegionSteps.{slots-stay}
 use Rattle.shown.specs.RegionSteps.{bundles-same, later-by, state-next}
 use Rattle.merging.specs.Planning.{plan-bundles}
 use Rattle.merging.specs.Rewriting.{rewrite-cases}
@@ -41,7 +41,8 @@ use Rattle.selects.specs.SmallTypes.{SmallTypes, small-types}
 use Rattle.state.specs.declared.defined.Made.{Made}
 use Rattle.state.specs.declared.defined.Made.the-variants.{Done}
 use Rattle.selects.specs.declared.define.Scrutinee.{Scrutinee}
-use Rattle.selects.specs.Into.{SelectIf, not-needed, select-refused, select-made, with-targets, with-plan, needs-select, Structurizes}
+use Rattle.selects.specs.Into.{SelectIf, not-needed, select-refused, select-made, with-targets, with-plan, needs-select}
+use Rattle.selects.specs.Into.{StructurizesSelect}
 use Rattle.selects.specs.Into.{not-structurized, structurized}
 use Rattle.selects.specs.Cases.{all-replaced}
 use Rattle.selects.specs.Selects as words
@@ -76,7 +77,7 @@ unfolding define-select
 same-select s₀ cs kind y s = rw (same-regions s₀ cs s)
 
 -- ---- The select where it is needed.
-pub record Chosen (g : Graph) (r base : ℕ) (parent : Nodes) (many rows : ℕ) (w w′ : List ℕ) (x : Body) (s : NestState) : Type 0 where
+pub record SelectChosen (g : Graph) (r base : ℕ) (parent : Nodes) (many rows : ℕ) (w w′ : List ℕ) (x : Body) (s : NestState) : Type 0 where
   pub tables : ShowsTables w′ s
   pub step : SelectStep g r w w′
   pub nodes : ShowsChildren g w′ (word w′ children r) (join parent (x .children))
@@ -131,7 +132,7 @@ module _ {g : Graph} (few : length (g .regions) ≤ 32) (small : SmallTypes g) {
     cell-then = record { node = done₁ .node; shape = done₁ .shape; scrutinee = done₁ .scrutinee }
 
     with-set : {w′ : List ℕ} {a : Made} {b : StepAnswer DeferredEdgeBundleSet} → ShowsMade (SetDone g base l w′ (length ps)) a b
-        → ShowsMade (Chosen g r base parent (length cs) (length ps) w w′) a (follow b (λ d. give (region-body (n .children) d)))
+        → ShowsMade (SelectChosen g r base parent (length cs) (length ps) w w′) a (follow b (λ d. give (region-body (n .children) d)))
     with-set {w′} (shows-made {a = d} y) =
         let e = y .emitting in
         let counted = done₁ .total in
@@ -152,7 +153,7 @@ module _ {g : Graph} (few : length (g .regions) ≤ 32) (small : SmallTypes g) {
 
   after-select : {l w′ : List ℕ} {h : ℕ} {a : Made} {b : StepAnswer DefinedSelect}
       → ShowsSelect g r (cases-after s₀ cs) parent w l (Number h) b → Emits g h l w′ a
-      → ShowsMade (Chosen g r base parent (length cs) (length ps) w w′) a
+      → ShowsMade (SelectChosen g r base parent (length cs) (length ps) w w′) a
       (follow b (λ n s₁. follow (emit n ps s₁) (λ d. give (region-body (n .children) d))))
   after-select {h} (shows-select {n} done₁) emits =
       with-set done₁ (emit-shown few small n h (spared-then done₁) (done₁ .tables) (cell-then done₁) (plan-then done₁) emits)
@@ -162,7 +163,7 @@ module _ {g : Graph} (few : length (g .regions) ≤ 32) (small : SmallTypes g) {
 
   pub chosen : {needed : Bool} {w′ : List ℕ} {a : Made} → (needed ≡ false → any-needs-select ps ≡ false)
       → SelectIf g needed r shape x w w′ a
-      → ShowsMade (Chosen g r base parent (length cs) (length ps) w w′) a (select-if needed kind y cs ps s)
+      → ShowsMade (SelectChosen g r base parent (length cs) (length ps) w w′) a (select-if needed kind y cs ps s)
   unfolding select-if
   chosen none (not-needed e p) =
       let a = here .slots .starts 32 (omega arith) in
@@ -285,7 +286,7 @@ module _ {g : Graph} (valid : Valid g) {r : ℕ} (below : r < length (g .regions
       record { shown = p .shown; returned = p .state .returned; slots = p .state .slots; spare = p .spare-at }
 
   made : {w′ : List ℕ} {a : Made} → SelectIf g (needs-select g w) r shape x (with-plan g w) w′ a
-      → ShowsMade (Chosen g r base parent (length cs) (length ps) (with-plan g w) w′) a
+      → ShowsMade (SelectChosen g r base parent (length cs) (length ps) (with-plan g w) w′) a
       (select-if (nesting.any-non-empty-case cs || any-needs-select ps) kind y cs ps (state-after s cs))
   made m =
       let p = before in
@@ -299,7 +300,7 @@ module _ {g : Graph} (valid : Valid g) {r : ℕ} (below : r < length (g .regions
 
   finished : {w₁ : List ℕ} {z : Body} {s₁ : NestState}
       → select-if (nesting.any-non-empty-case cs || any-needs-select ps) kind y cs ps (state-after s cs) ≡ done z s₁
-      → Chosen g r base parent (length cs) (length ps) (with-plan g w) w₁ z s₁
+      → SelectChosen g r base parent (length cs) (length ps) (with-plan g w) w₁ z s₁
       → ShowsMade (Structured g r cs w (all-replaced w₁ (case-total w₁) 0)) Done
       (follow (nesting.replace-inputs (cases-after s cs) s₁) (λ u. give (region-body (join parent (z .children)) (z .deferred-edges))))
   finished {w₁} {z} {s₁} e c =
@@ -342,7 +343,7 @@ module _ {g : Graph} (valid : Valid g) {r : ℕ} (below : r < length (g .regions
         total = omega arith;
       }))
 
-  pub structurized-shown : {w′ : List ℕ} {a : Made} → Structurizes g r shape x w w′ a
+  pub structurized-shown : {w′ : List ℕ} {a : Made} → StructurizesSelect g r shape x w w′ a
       → ShowsMade (Structured g r cs w w′) a (structurize-select g parent kind y cs s)
   unfolding structurize-select
   structurized-shown (not-structurized m) = rw (rewrite-is cs s, refused-of (made m)) shows-refused

@@ -20,15 +20,15 @@ pub data Turns (Step : Steps) : ℕ → ℕ → List ℕ → List ℕ → Made �
   turn-refused : {n m j : ℕ} {l l′ : List ℕ} → n ≡ suc m → Step j l l′ Full → Turns Step n j l l′ Full
 
 -- Whatever the turns that are left make is made of all: the loop's invariant.
-abbrev pub GoesOn : Steps → ℕ → ℕ → List ℕ → List ℕ → Type 0
-GoesOn Step n j l₀ l = (l′ : List ℕ) (a : Made) → Turns Step (n - j) j l l′ a → Turns Step n 0 l₀ l′ a
+abbrev pub TurnsOn : Steps → ℕ → ℕ → List ℕ → List ℕ → Type 0
+TurnsOn Step n j l₀ l = (l′ : List ℕ) (a : Made) → Turns Step (n - j) j l l′ a → Turns Step n 0 l₀ l′ a
 
-pub begins : (Step : Steps) (n : ℕ) (l₀ : List ℕ) → GoesOn Step n 0 l₀ l₀
+pub begins : (Step : Steps) (n : ℕ) (l₀ : List ℕ) → TurnsOn Step n 0 l₀ l₀
 begins Step n l₀ l′ a t = let e : n - 0 ≡ n = omega arith in rw e at t
 
 module _ (Step : Steps) (n : ℕ) (l₀ : List ℕ) where
-  module _ (j : ℕ) (l : List ℕ) (goes-on : GoesOn Step n j l₀ l) where
-    pub turned : j < n → {l₁ : List ℕ} → Step j l l₁ Done → GoesOn Step n (j + 1) l₀ l₁
+  module _ (j : ℕ) (l : List ℕ) (goes-on : TurnsOn Step n j l₀ l) where
+    pub turned : j < n → {l₁ : List ℕ} → Step j l l₁ Done → TurnsOn Step n (j + 1) l₀ l₁
     turned h x l′ a t =
         let s : n - j ≡ suc (n - suc j) = omega arith in
         goes-on l′ a (turn-on s x (rw (add-one j) at t))
@@ -50,7 +50,7 @@ front-turns Step f (turn-refused n x) = f _ _ _ _ x
 
 -- ---- Where the steps are by the record that stands.
 abbrev pub GoesOnBy : (Graph → Steps) → ℕ → ℕ → List ℕ → List ℕ → Type 0
-GoesOnBy Step n j l₀ l = (g : Graph) → Stands l₀ g → Stands l g × GoesOn (Step g) n j l₀ l
+GoesOnBy Step n j l₀ l = (g : Graph) → Stands l₀ g → Stands l g × TurnsOn (Step g) n j l₀ l
 
 pub begins-by : (Step : Graph → Steps) (n : ℕ) (l₀ : List ℕ) → GoesOnBy Step n 0 l₀ l₀
 begins-by Step n l₀ g s = (s, begins (Step g) n l₀)

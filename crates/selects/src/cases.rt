@@ -64,7 +64,7 @@ pub fn any_non_empty_case(w: &[u16; WORDS]) -> bool
 
 // A case that is no claimed region gets a new region.
 fn case_region(w: &mut [u16; WORDS], j: u16) -> Made
-    ensures { λ a. ⌜ words.CaseRegion j (now (w .entry)) (now (w .exit)) a ⌝ }
+    ensures { λ a. ⌜ words.GetsRegion j (now (w .entry)) (now (w .exit)) a ⌝ }
 {
     if case_kind(w, j) == CLAIMED_REGION {
         return Made::Done;
@@ -79,7 +79,7 @@ fn case_region(w: &mut [u16; WORDS], j: u16) -> Made
 }
 
 pub fn case_regions(w: &mut [u16; WORDS]) -> Made
-    ensures { λ a. ⌜ turns.Turns words.CaseRegion (tables.«case-total» (now (w .entry))) 0 (now (w .entry)) (now (w .exit)) a ⌝ }
+    ensures { λ a. ⌜ turns.Turns words.GetsRegion (tables.«case-total» (now (w .entry))) 0 (now (w .entry)) (now (w .exit)) a ⌝ }
 {
     let n = case_count(w);
     let mut j: u16 = 0;

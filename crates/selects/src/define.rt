@@ -1,5 +1,6 @@
 // The select is defined: regions of its cases, its scrutinee's value, its node, and the cell behind the region's children.
 ghost use Rattle.selects.specs.Selects as words;
+ghost use Rattle.state.specs.Tables as tables;
 use crate::cases::case_regions;
 use crate::cases::children_of;
 use lookups::materialize::materialize_lazy_cond;
@@ -33,7 +34,7 @@ fn scrutinee_value(w: &mut [u16; WORDS], scrutinee: Scrutinee) -> Defined
 
 // The cells of the cases, the last first.
 fn case_cells(w: &mut [u16; WORDS]) -> u16
-    ensures { λ a. ⌜ words.CaseCells (words.«case-total» (now (w .entry))) 0 (now (w .entry)) (now (w .exit)) a ⌝ }
+    ensures { λ a. ⌜ words.CaseCells (tables.«case-total» (now (w .entry))) 0 (now (w .entry)) (now (w .exit)) a ⌝ }
 {
     let mut h: u16 = 0;
     let mut j = case_count(w);

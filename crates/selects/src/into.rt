@@ -49,7 +49,7 @@ fn select_if(w: &mut [u16; WORDS], needed: bool, r: u16, shape: u16, scrutinee: 
 
 // With no convergent case set aside. What the cases defer stands in the spare slot.
 fn structurize_select(w: &mut [u16; WORDS], r: u16, shape: u16, scrutinee: Scrutinee) -> Made
-    ensures { λ a. ⌜ OfRecord (now (w .entry)) (λ g. words.Structurizes g r shape scrutinee (now (w .entry)) (now (w .exit)) a) ⌝ }
+    ensures { λ a. ⌜ OfRecord (now (w .entry)) (λ g. words.StructurizesSelect g r shape scrutinee (now (w .entry)) (now (w .exit)) a) ⌝ }
 {
     let full = any_non_empty_case(w);
     rewrite_cases(w);

@@ -25,7 +25,8 @@ use Rattle.shown.specs.Tables.{ShowsShape}
 use Rattle.shown.specs.Elsewhere.{SameTables, same-words}
 use Rattle.shown.specs.Sets.{SameBundle}
 use Rattle.shown.specs.Cells.{CellIs, ShowsKept, none-kept, one-kept, ShowsNodes, no-nodes, all-blocks, two-lists, then-exit}
-use Rattle.shown.specs.Cells.{then-select, the-loop, ShowsCaseCells, no-cases, case-and, ShowsChildren, case-count}
+use Rattle.shown.specs.Cells.{then-select, the-loop, ShowsCaseCells, no-cases, case-and, ShowsChildren}
+use Rattle.meaning.specs.Runs.{case-count}
 use Rattle.shown.specs.Kept.{Later, later-same, KeptRegion, kept-same}
 use Rattle.shown.specs.RegionSteps.{Aside, bundles-same, kept-by, tables-by, states-by, StatesStay}
 use Rattle.meaning.specs.facts.Parts.{run-before, run-in}

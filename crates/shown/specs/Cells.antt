@@ -1,18 +1,14 @@
 -- What the cells show: lists of nodes, of a select's cases, of a loop's kept inputs, each by a handle. A list names earlier cells only.
 use mathlib.Core.Path.{_≡_}
 use mathlib.Core.List.{List, [], _∷_, _++_}
-use Prim.Native.Nat.{ℕ, suc, _+_, _*_, _≤_, _<_}
+use Prim.Native.Nat.{ℕ, _+_, _*_, _≤_, _<_}
 use lib.ListN.{length, getD}
 use Rattle.meaning.specs.Graph.{Value, SelectionKind, Graph, region, input, exit-invocation}
-use Rattle.meaning.specs.Runs.{Nodes, ⟨⟩, _▸_, Cases, ∅, case, loop, exit}
+use Rattle.meaning.specs.Runs.{Nodes, ⟨⟩, _▸_, Cases, ∅, case-count, loop, exit}
 use Rattle.nesting.specs.Nesting.{join, blocks-of, new-case, new-select, LoopInputs, loop-node}
 use Rattle.state.specs.Sections.{section, word, head, cells}
 use Rattle.shown.specs.Values.{value}
 use Rattle.shown.specs.Tables.{ShowsShape}
-
-abbrev pub case-count : Cases → ℕ
-case-count ∅ = 0
-case-count (case c ks cs) = suc (case-count cs)
 
 -- A cell's tag, the list before it, and its other four words.
 pub record CellIs (l : List ℕ) (h tag before a b c d : ℕ) : Type 0 where

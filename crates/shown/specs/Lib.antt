@@ -10,6 +10,7 @@ pub mod Sets
 pub mod Cells
 pub mod States
 pub mod Kept
+pub mod Finds
 pub mod RegionSteps
 pub mod CellSteps
 pub mod SetStores

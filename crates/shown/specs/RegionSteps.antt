@@ -399,15 +399,15 @@ module _ {p : ℕ} {w w′ : List ℕ} (only : OnlyBundle p w w′) where
       }
 
 -- ---- Steps together, of which region r alone is concerned; the tables may change.
-pub record Within (g : Graph) (r : ℕ) (w w′ : List ℕ) : Type 0 where
+pub record OnlyRegion (g : Graph) (r : ℕ) (w w′ : List ℕ) : Type 0 where
   pub later : Later g w w′
   pub others : (q : ℕ) → q < 33 → (q ≡ r → ⊥) → KeptRegion w w′ q
   pub same-kinds : (q : ℕ) → q < length (g .regions) → word w′ kinds q ≡ word w kinds q
   pub same-starts : (a : ℕ) → a < 33 → word w′ set-starts a ≡ word w set-starts a
   pub same-returned : (k : ℕ) → 8 ≤ k → word w′ head k ≡ word w head k
 
-pub within-then : {g : Graph} {r : ℕ} {w w₁ w₂ : List ℕ} → Within g r w w₁ → Within g r w₁ w₂ → Within g r w w₂
-within-then a b =
+pub only-region-then : {g : Graph} {r : ℕ} {w w₁ w₂ : List ℕ} → OnlyRegion g r w w₁ → OnlyRegion g r w₁ w₂ → OnlyRegion g r w w₂
+only-region-then a b =
     record {
       later = later-then (a .later) (b .later);
       others = λ q h d. kept-then (a .others q h d) (b .others q h d);
@@ -416,8 +416,8 @@ within-then a b =
       same-returned = λ k h. b .same-returned k h ∙ a .same-returned k h;
     }
 
-pub within-aside : {g : Graph} (r : ℕ) {w w′ : List ℕ} → Aside g w w′ → Within g r w w′
-within-aside r a =
+pub only-region-aside : {g : Graph} (r : ℕ) {w w′ : List ℕ} → Aside g w w′ → OnlyRegion g r w w′
+only-region-aside r a =
     record {
       later = a .later;
       others = λ q h d. a .regions q;
@@ -426,8 +426,8 @@ within-aside r a =
       same-returned = a .states .same-returned;
     }
 
-pub within-concerns : {g : Graph} {r : ℕ} {w w′ : List ℕ} → Concerns g r w w′ → Within g r w w′
-within-concerns c =
+pub only-region-concerns : {g : Graph} {r : ℕ} {w w′ : List ℕ} → Concerns g r w w′ → OnlyRegion g r w w′
+only-region-concerns c =
     record {
       later = c .later;
       others = c .others;
@@ -437,9 +437,9 @@ within-concerns c =
     }
 
 -- A region that is not Ready shows nothing of its own.
-pub within-states : {g : Graph} {r : ℕ} {w w′ : List ℕ} → Within g r w w′ → length (g .regions) ≤ 32 → (word w kinds r ≡ 2 → ⊥)
+pub only-region-states : {g : Graph} {r : ℕ} {w w′ : List ℕ} → OnlyRegion g r w w′ → length (g .regions) ≤ 32 → (word w kinds r ≡ 2 → ⊥)
     → StatesStay g w w′
-within-states {w} c few d =
+only-region-states {w} c few d =
     record {
       same-kinds = c .same-kinds;
       same-starts = c .same-starts;
@@ -449,4 +449,4 @@ within-states {w} c few d =
 
 pub concerns-states : {g : Graph} {r : ℕ} {w w′ : List ℕ} → Concerns g r w w′ → length (g .regions) ≤ 32
     → (word w kinds r ≡ 2 → ⊥) → StatesStay g w w′
-concerns-states c few d = within-states (within-concerns c) few d
+concerns-states c few d = only-region-states (only-region-concerns c) few d

@@ -1,35 +1,30 @@
--- Steps of sets: a set of one, a search by target, a bundle taken out by swap or by shift, two slots that change hands, a condition.
+-- Steps of sets: a set of one, a bundle taken out by swap or by shift, two slots that change hands, a condition.
 use mathlib.Core.Path.{_≡_, refl, sym, ap, _∙_}
-use mathlib.Core.Bool.{Bool, true, false}
+use mathlib.Core.Bool.{true, false}
 use mathlib.Core.List.{List, [], _∷_, _++_}
-use mathlib.Core.Option.{none, some}
 use Prim.Native.Nat.{ℕ, zero, suc, _+_, _*_, _-_, _≤_, _<_}
 use native.Mathlib.Omega.{arith}
 use native.Mathlib.Decide.{decLt, ℕ-discrete}
 use lib.ListN.{length, getD, take, drop, length-append, length-drop, List·getD-append}
 use lib.Seq.{length-take-le, getD-take, getD-drop, getD-append-add}
 use lib.Dec.{eqb, ltb}
-use borrow.Author.Tests.{lt-ltb, le-ltb, eq-eqb, ne-eqb, eqb-true}
+use borrow.Author.Tests.{lt-ltb, le-ltb, eq-eqb, ne-eqb}
 use Rattle.meaning.specs.Graph.{Graph, Value, undef}
 use Rattle.meaning.specs.Lists.{pick}
-use Rattle.meaning.specs.facts.Tests.{clash, eqb-sym}
-use Rattle.nesting.specs.Nesting.{DeferredTarget, to-region, to-return, DeferredEdgeBundle, DeferredEdgeBundleSet, same-target}
-use Rattle.nesting.specs.Nesting.{LazyCond, edge-bundle, condition-in, get-edge-bundle-by-target, split-out-target}
+use Rattle.nesting.specs.Nesting.{DeferredTarget, DeferredEdgeBundle, DeferredEdgeBundleSet, same-target}
+use Rattle.nesting.specs.Nesting.{LazyCond, edge-bundle, condition-in, split-out-target}
 use Rattle.state.specs.Sections.{used, word, stored, stored-all, set-starts, set-lengths, bundles}
-use Rattle.state.specs.Tables.{bundle-at, bundle-words, find-by, copied, swap-removed, shifted, shift-removed, swapped}
+use Rattle.state.specs.Tables.{bundle-at, bundle-words, copied, swap-removed, shifted, shift-removed, swapped}
 use Rattle.shown.specs.Tables.{ShowsCondition, shows-true}
-use Rattle.shown.specs.Sets.{Names, target-size, ShowsTarget, shows-region, shows-return, ShowsBundle, ShowsSet, SameBundle}
+use Rattle.shown.specs.Sets.{Names, target-size, ShowsTarget, ShowsBundle, ShowsSet, SameBundle}
 use Rattle.shown.specs.Sets.{no-bundle}
 use Rattle.shown.specs.States.{ShowsOwnSet, Slots}
 use Rattle.shown.specs.Kept.{Later, KeptRegion, set-stays, same-bundle, same-bundle-then}
+use Rattle.shown.specs.Finds.{bundle-in}
 use Rattle.shown.specs.RegionSteps.{word-there, word-apart}
 use Rattle.shown.specs.SetStores.{OnlySets, only-same, only-word, only-run, only-then, only-later, only-kept, starts-of-sets}
 use Rattle.shown.specs.SetStores.{lengths-of-sets, bundles-of-sets, word-other, run-elsewhere-word, Moves}
 use Rattle.shown.specs.SetStores.{moves-then, same-moves, same-elsewhere, bundle-stored, copy-moves, copy-beside}
-
-pub bundle-in : (start i : ℕ) → start < 1097 → i < 33 → bundle-at start i ≡ start + i
-unfolding bundle-at
-bundle-in start i a b = rw (lt-ltb start 1097 a, lt-ltb i 33 b)
 
 -- ---- Bundles and sets, moved.
 module _ {g : Graph} {w w′ : List ℕ} (later : Later g w w′) where
@@ -76,60 +71,6 @@ set-of-one {g} {w} {p} {e} h x =
       each = λ i b. let z : i ≡ 0 = omega arith in let y : p + 0 ≡ p = omega arith in rw (z, y) x;
       apart = λ i j a b. absurd (omega arith);
     }
-
--- ---- Targets by their words.
-pub targets-tell : {g : Graph} → length (g .regions) ≤ 32 → {a b : ℕ} {x y : DeferredTarget} → ShowsTarget g a x → ShowsTarget g b y
-    → eqb b a ≡ same-target x y
-targets-tell few (shows-region {r} e h) (shows-region {r = q} f k) = rw (e, f) (eqb-sym q r)
-targets-tell few (shows-region {r} e h) (shows-return f) = rw (e, f) (ne-eqb 65535 r (omega arith))
-targets-tell few (shows-return e) (shows-region {r = q} f k) = rw (e, f) (ne-eqb q 65535 (omega arith))
-targets-tell few (shows-return e) (shows-return f) = rw (e, f)
-
-pub same-target-is : (x y : DeferredTarget) → same-target x y ≡ true → y ≡ x
-same-target-is (to-region a) (to-region b) h = ap to-region (sym (eqb-true a b h))
-same-target-is (to-region a) to-return h = absurd (clash (cc))
-same-target-is to-return (to-region b) h = absurd (clash (cc))
-same-target-is to-return to-return h = refl
-
--- The bundle to a target, the first of its target, or none; `first` is the number of the set's first bundle.
-pub data Finds (first : ℕ) (x : DeferredTarget) (d : DeferredEdgeBundleSet) (a : ℕ) : Type 0 where
-  found : (i : ℕ) → a ≡ first + i → i < length d → get-edge-bundle-by-target x d ≡ some (getD d i no-bundle)
-      → same-target x (getD d i no-bundle .target) ≡ true → ((j : ℕ) → j < i → same-target x (getD d j no-bundle .target) ≡ false)
-      → Finds first x d a
-  none-found : a ≡ 65535 → get-edge-bundle-by-target x d ≡ none → Finds first x d a
-
-module _ {g : Graph} (w : List ℕ) (few : length (g .regions) ≤ 32) (start : ℕ) {t : ℕ} {x : DeferredTarget}
-    (of-target : ShowsTarget g t x) where
-  finds-from : (es : DeferredEdgeBundleSet) (i : ℕ) → i + length es ≤ 33 → start + (i + length es) ≤ 1097
-      → ((j : ℕ) → j < length es → ShowsTarget g (word w bundles (7 * (start + (i + j)) + 0)) (getD es j no-bundle .target))
-      → Finds (start + i) x es (find-by w start t (length es) i)
-  unfolding find-by
-  finds-from [] i a b each = none-found refl refl
-  finds-from (e ∷ es) i a b each =
-      let at : bundle-at start i ≡ start + i = bundle-in start i (omega arith) (omega arith) in
-      let z : i + 0 ≡ i = omega arith in
-      let first : ShowsTarget g (word w bundles (7 * (start + i) + 0)) (e .target) = rw z at (each 0 (omega arith)) in
-      let tells : eqb (word w bundles (7 * bundle-at start i + 0)) t ≡ same-target x (e .target) = rw at
-      (targets-tell few of-target first) in
-      let rest = finds-from es (suc i) (omega arith) (omega arith)
-      (λ j h. let y : suc i + j ≡ i + suc j = omega arith in rw y (each (suc j) (omega arith))) in
-      rw (tells, at) (go (same-target x (e .target)) refl rest)
-    where
-      go : (b : Bool) → same-target x (e .target) ≡ b → Finds (start + suc i) x es (find-by w start t (length es) (suc i))
-          → Finds (start + i) x (e ∷ es) (pick b (start + i) (find-by w start t (length es) (suc i)))
-      go true is y = found 0 (omega arith) (omega arith) (rw is) is (λ j h. absurd (omega arith))
-      go false is (found j at below gets same before) =
-          found (suc j) (omega arith) (omega arith) (rw is gets) same (elim [ zero ↦ (λ h. is) | suc k ↦ (λ h. before k (omega arith)) ])
-      go false is (none-found at gets) = none-found at (rw is gets)
-
-  pub finds : {n : ℕ} {d : DeferredEdgeBundleSet} → ShowsSet g w start n d → Finds start x d (find-by w start t n 0)
-  finds {d} y =
-      let few-bundles = y .few in
-      let room = y .room in
-      let e = y .size in
-      let z : start + 0 ≡ start = omega arith in
-      rw e (rw z at
-      (finds-from d 0 (omega arith) (omega arith) (λ j h. let q : 0 + j ≡ j = omega arith in rw q (y .each j (omega arith) .target))))
 
 -- ---- One bundle out of a list.
 getD-any : {A : Type 0} (l : List A) (k : ℕ) (a b : A) → k < length l → getD l k a ≡ getD l k b

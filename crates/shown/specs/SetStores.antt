@@ -181,15 +181,6 @@ module _ {w w′ : List ℕ} (only : OnlySets w w′) where
           region-stays (only-later g) (kept q h a) (only-word-same kinds (omega arith) q) (is-ready a b n d)
       go q h (is-claimed a) = is-claimed (only-word-same kinds (omega arith) q ∙ a)
 
-pub slots-stay : {w w′ : List ℕ} → ((a : ℕ) → a < 33 → word w′ set-starts a ≡ word w set-starts a) → Slots w → Slots w′
-slots-stay same x =
-    record {
-      slot-number = x .slot-number;
-      starts = λ a h. same a h ∙ x .starts a h;
-      below = x .below;
-      own = x .own;
-    }
-
 -- ---- Bundle q has the words that bundle p had.
 pub record Moves (w w′ : List ℕ) (p q : ℕ) : Type 0 where
   pub words : (i : ℕ) → i < 7 → word w′ bundles (7 * q + i) ≡ word w bundles (7 * p + i)

@@ -8,7 +8,7 @@ use Rattle.meaning.specs.Lists.{tabulate}
 use Rattle.meaning.specs.facts.Tests.{clash}
 use Rattle.meaning.specs.facts.Elements.{length-tabulate}
 use Rattle.format.specs.Store.{Answer, accepted, refused, blocks-checked, word-at, length-right, count-right, store-words}
-use Rattle.format.specs.laws.Stores.{blocks-in, stored, Holds, holds}
+use Rattle.format.specs.laws.Stores.{blocks-in, stored, StoreHolds, holds}
 use Rattle.store.specs.Loaded.{words-counted, words-after}
 
 module _ (s : List ℕ) where
@@ -29,10 +29,10 @@ module _ (s : List ℕ) where
       ap accepted (sym (length-tabulate (word-at s 0) (word-at s))) ∙ ap words-counted (sym (stored s _ _ _ p (sym q) (sym r)))
 
 -- What a store is whose W is answered.
-pub holds-counted : (s : List ℕ) (w : ℕ) → accepted w ≡ words-counted (store-words s) → Holds s w
+pub holds-counted : (s : List ℕ) (w : ℕ) → accepted w ≡ words-counted (store-words s) → StoreHolds s w
 holds-counted s w e = by-answer (store-words s) refl e
   where
-    by-answer : (a : Answer (List ℕ)) → store-words s ≡ a → accepted w ≡ words-counted a → Holds s w
+    by-answer : (a : Answer (List ℕ)) → store-words s ≡ a → accepted w ≡ words-counted a → StoreHolds s w
     by-answer (accepted ws) q e = let is : w ≡ length ws = cc in rw is (holds s ws q)
     by-answer (refused m n) q e = absurd (clash (cc))
 
@@ -41,6 +41,6 @@ pub kept : (before : List ℕ) (a : Answer (List ℕ)) (m n : ℕ) → refused m
 kept before (accepted ws) m n e = absurd (clash (cc))
 kept before (refused k w) m n e = refl
 
-pub filled : (s before : List ℕ) (w : ℕ) → Holds s w → tabulate w (word-at s) ++ drop w before ≡ words-after before (store-words s)
+pub filled : (s before : List ℕ) (w : ℕ) → StoreHolds s w → tabulate w (word-at s) ++ drop w before ≡ words-after before (store-words s)
 filled s before w h =
     ap (λ n. tabulate w (word-at s) ++ drop n before) (sym (length-tabulate w (word-at s))) ∙ ap (words-after before) (sym (h .words))

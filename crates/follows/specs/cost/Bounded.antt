@@ -19,23 +19,23 @@ use Rattle.nesting.specs.laws.DearestCase.{case-at, dearest-case}
 use Rattle.follows.specs.Statements.{Bounded}
 
 -- From s to t at a cost of at most n, if no loop had passed its limit by t. What passed a limit stays so.
-record AtMost (n : ℕ) (s t : RunState) : Type 0 where
+record CostsAtMost (n : ℕ) (s t : RunState) : Type 0 where
   within : t .over-limit ≡ false → (s .over-limit ≡ false) × (t .cost ≤ s .cost + n)
 
 -- The same of wherever a run comes to.
 abbrev ComesTo : ℕ → RunState → Ran → Type 0
-ComesTo n s (through t) = AtMost n s t
-ComesTo n s (ended e t) = AtMost n s t
+ComesTo n s (through t) = CostsAtMost n s t
+ComesTo n s (ended e t) = CostsAtMost n s t
 ComesTo n s (no-end why) = Unit
 
 record Costs (n : ℕ) (s : RunState) (x : Ran) : Type 0 where
   costs : ComesTo n s x
 
 -- ---- one step after another
-both : {n m : ℕ} {s t u : RunState} (k : ℕ) → n + m ≤ k → AtMost n s t → AtMost m t u → AtMost k s u
+both : {n m : ℕ} {s t u : RunState} (k : ℕ) → n + m ≤ k → CostsAtMost n s t → CostsAtMost m t u → CostsAtMost k s u
 both k l a b = record { within = λ e. let y = b .within e in let x = a .within (y .0) in (x .0, omega arith) }
 
-costs-after : {n m : ℕ} {s t : RunState} (k : ℕ) → n + m ≤ k → AtMost n s t → (x : Ran) → Costs m t x → Costs k s x
+costs-after : {n m : ℕ} {s t : RunState} (k : ℕ) → n + m ≤ k → CostsAtMost n s t → (x : Ran) → Costs m t x → Costs k s x
 costs-after k l a (through u) b = record { costs = both k l a (b .costs) }
 costs-after k l a (ended e u) b = record { costs = both k l a (b .costs) }
 costs-after k l a (no-end why) b = record { costs = tt }
@@ -52,22 +52,22 @@ tested-costs (word m) f a = a m
 tested-costs mark f a = record { costs = tt }
 
 -- ---- single steps
-pay-costs : (c : ℕ) (s : RunState) → AtMost c s (pay c s)
+pay-costs : (c : ℕ) (s : RunState) → CostsAtMost c s (pay c s)
 pay-costs c s = record { within = λ e. (e, omega arith) }
 
-inputs-cost-nothing : (r : ℕ) (vs : List Value) (s : RunState) → AtMost 0 s (assign-inputs r vs s)
+inputs-cost-nothing : (r : ℕ) (vs : List Value) (s : RunState) → CostsAtMost 0 s (assign-inputs r vs s)
 inputs-cost-nothing r vs s = record { within = λ e. (e, omega arith) }
 
-leaving-costs-nothing : (n : ℕ) (vs : List Value) (s : RunState) → AtMost n s (leave-loop vs s)
+leaving-costs-nothing : (n : ℕ) (vs : List Value) (s : RunState) → CostsAtMost n s (leave-loop vs s)
 leaving-costs-nothing n vs s = record { within = λ e. (e, omega arith) }
 
-outputs-cost-nothing : (os : List OutputDecl) (vs : List Value) (s : RunState) → AtMost 0 s (assign-outputs os vs s)
+outputs-cost-nothing : (os : List OutputDecl) (vs : List Value) (s : RunState) → CostsAtMost 0 s (assign-outputs os vs s)
 outputs-cost-nothing os vs s = record { within = λ e. (e, omega arith) }
 
-stands : (n : ℕ) (s : RunState) → AtMost n s s
+stands : (n : ℕ) (s : RunState) → CostsAtMost n s s
 stands n s = record { within = λ e. (e, omega arith) }
 
-within-limit : (s : RunState) → AtMost 0 s (note-over false s)
+within-limit : (s : RunState) → CostsAtMost 0 s (note-over false s)
 within-limit s = record { within = λ e. (sym (or-false (s .over-limit)) ∙ e, omega arith) }
 
 -- A run that begins over a limit owes nothing.
@@ -80,11 +80,11 @@ over-limit n s (ended x t) a = record { costs = record { within = λ e. never-wi
 over-limit n s (no-end why) a = record { costs = tt }
 
 module _ (rule : Rule) (test-cost : ℕ) where
-  block-costs : (r k : ℕ) (is : List Instr) (s : RunState) → AtMost (total (λ i. i .cost) is) s (do-block rule r k is s)
+  block-costs : (r k : ℕ) (is : List Instr) (s : RunState) → CostsAtMost (total (λ i. i .cost) is) s (do-block rule r k is s)
   unfolding do-block do-instr
   block-costs r k [] s = stands 0 s
   block-costs r k (i ∷ is) s =
-      let first : AtMost (i .cost) s (do-instr rule r k i s) = record { within = λ e. (e, omega arith) } in
+      let first : CostsAtMost (i .cost) s (do-instr rule r k i s) = record { within = λ e. (e, omega arith) } in
       both (total (λ i. i .cost) (i ∷ is)) (omega arith) first (block-costs r (suc k) is (do-instr rule r k i s))
 
   -- ---- the turns of a loop whose body costs at most n

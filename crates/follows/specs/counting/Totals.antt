@@ -129,10 +129,10 @@ target-totals r k (c ∷ cs) ws h (l, ls) =
     target-totals r k cs (summarize-set (deferred-of c) ws) (set-fits r (k r) (deferred-of c) ws h (l r)) ls
 
 -- A measure that a summary does not raise: where targets are the same, that of the counts' sum is at most the sum.
-abbrev Adds : Measure → Type 0
-Adds μ = (x y : DeferredTarget) (n m : ℕ) → same-target x y ≡ true → μ y (n + m) ≤ μ y n + μ x m
+abbrev AddsUp : Measure → Type 0
+AddsUp μ = (x y : DeferredTarget) (n m : ℕ) → same-target x y ≡ true → μ y (n + m) ≤ μ y n + μ x m
 
-module _ (μ : Measure) (adds : Adds μ) where
+module _ (μ : Measure) (adds : AddsUp μ) where
   bundle-adds : (e : DeferredEdgeBundle) (ws : List DeferredTargetSummary)
       → summary-total μ (summarize-bundle e ws) ≤ summary-total μ ws + μ (e .target) (e .accumulated-count)
   bundle-adds e [] = omega arith
@@ -155,7 +155,7 @@ module _ (μ : Measure) (adds : Adds μ) where
   targets-add [] ws = omega arith
   targets-add (c ∷ cs) ws = let z = set-adds (deferred-of c) ws in let y = targets-add cs (summarize-set (deferred-of c) ws) in omega arith
 
-pub edges-add : (r : ℕ) → Adds (edges-to r)
+pub edges-add : (r : ℕ) → AddsUp (edges-to r)
 edges-add r (to-region a) (to-region b) n m p = let q = eqb-true a b p in rw q (go (eqb r b))
   where
     go : (u : Bool) → pick u (n + m) 0 ≤ pick u n 0 + pick u m 0
@@ -165,7 +165,7 @@ edges-add r (to-region a) to-return n m p = omega arith
 edges-add r to-return (to-region b) n m p = let z : false ≡ true = p in absurd (let y : _≡_ {A = ℕ} 0 1 = cc in omega arith)
 edges-add r to-return to-return n m p = omega arith
 
-pub edgeless-adds : Adds edgeless
+pub edgeless-adds : AddsUp edgeless
 edgeless-adds x (to-region q) zero m p = go (0 + m)
   where
     go : (j : ℕ) → edgeless (to-region q) j ≤ 1 + edgeless x m

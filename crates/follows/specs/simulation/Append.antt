@@ -13,6 +13,7 @@ use Rattle.nesting.specs.lookups.Contexts.{InContext, context-replaced, entry-a
 use Rattle.nesting.specs.Nesting.{Body, ClaimedRegion, MaybeClaimedRegion, append-maybe-claimed-region, deferred-of, err, join, ok}
 use Rattle.nesting.specs.Nesting.{DeferredEdgeBundle, DeferredEdgeBundleSet, LazyCond, false-cond, merge, true-cond, undef-cond, NestState}
 use Rattle.nesting.specs.Nesting.{NodeOutput}
+use Rattle.nesting.specs.steps.TargetsAndCases.{children-in}
 use Rattle.follows.specs.simulation.Key.{key, of-node, owns-join, owns-nodes}
 use Rattle.follows.specs.simulation.World.{World, ar}
 use Rattle.follows.specs.simulation.Tables.{Gains, Resolver, Respects, Tables, entry-law, gains-refl, respects-back, tables}
@@ -21,7 +22,7 @@ use Rattle.follows.specs.simulation.Defined.{IfDone}
 use Rattle.follows.specs.simulation.Scope.{AllScoped, CondOk, EntryOk, InScope, Scoped, SetOk, OwnedWithin, constant, own-input}
 use Rattle.follows.specs.simulation.Scope.{owned, scoped-later, within-left, within-right}
 use Rattle.follows.specs.simulation.ClaimedRegions.{CaseOk, Doing, Holds, Since, doing-with}
-use Rattle.follows.specs.simulation.EnterCase.{Enters, children-in, enter-follows}
+use Rattle.follows.specs.simulation.EnterCase.{Enters, enter-follows}
 use Rattle.follows.specs.simulation.SelectSteps.{Moved, ToRewrite, given, join-nil, rewrite-doing, rewrite-moved}
 
 -- ---- from one scope to another

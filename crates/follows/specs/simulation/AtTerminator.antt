@@ -14,6 +14,7 @@ use Rattle.nesting.specs.Nesting.{block-count, blocks-from, blocks-of, same-tar
 use Rattle.nesting.specs.Nesting.{true-cond, rewrites-of, NestState, NodeOutput, ready, look-up-nodes}
 use Rattle.nesting.specs.lookups.Rewriting.{rewrite-last}
 use Rattle.nesting.specs.steps.RegionsLeft.{state-of}
+use Rattle.nesting.specs.steps.TargetsAndCases.{same-target-self}
 use Rattle.follows.specs.simulation.Usable.{AllUsable, UsableIn, after-blocks}
 use Rattle.meaning.specs.facts.Tests.{eqb-self}
 use Rattle.follows.specs.simulation.Key.{constant-not-input, key, of-instr, owns-nodes}
@@ -24,7 +25,6 @@ use Rattle.follows.specs.simulation.Conditions.{Mat}
 use Rattle.follows.specs.simulation.Leads.{Based, Goes, OnwardTo, ends-with}
 use Rattle.follows.specs.simulation.Inputs.{input-numbered, puts-at}
 use Rattle.follows.specs.simulation.OwnBlocks.{Agree, usable-reads}
-use Rattle.follows.specs.simulation.Bundles.{same-target-self}
 use Rattle.follows.specs.simulation.Final.{final-respects, unrewritten-stays}
 use Rattle.follows.specs.simulation.Scope.{AllScoped, Scoped, own-input, owned, scoped-const}
 use Rattle.follows.specs.simulation.Invariant.{Inv, waiting}

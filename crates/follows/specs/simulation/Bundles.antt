@@ -8,28 +8,12 @@ use Prim.Native.Nat.{suc}
 use native.Mathlib.Omega.{arith}
 use lib.ListN.{getD, length, take}
 use lib.Dec.{eqb}
-use borrow.Author.Tests.{eqb-true}
-use Rattle.meaning.specs.facts.Tests.{clash, eqb-less, eqb-self, eqb-sym}
+use Rattle.meaning.specs.facts.Tests.{clash, eqb-less, eqb-sym}
 use Rattle.meaning.specs.Lists.{empty, pick}
 use Rattle.nesting.specs.Nesting.{fill-gap, get-edge-bundle-by-target, same-target, split-out-target, DeferredEdgeBundle}
-use Rattle.nesting.specs.Nesting.{DeferredEdgeBundleSet, DeferredTarget, to-region, to-return}
+use Rattle.nesting.specs.Nesting.{DeferredEdgeBundleSet, DeferredTarget}
+use Rattle.nesting.specs.steps.TargetsAndCases.{same-target-sym, same-target-self, same-target-is}
 use Rattle.meaning.specs.facts.Elements.{In}
-
-pub same-target-sym : (a b : DeferredTarget) → same-target a b ≡ same-target b a
-same-target-sym (to-region a) (to-region b) = eqb-sym a b
-same-target-sym (to-region a) to-return = refl
-same-target-sym to-return (to-region b) = refl
-same-target-sym to-return to-return = refl
-
-pub same-target-self : (a : DeferredTarget) → same-target a a ≡ true
-same-target-self (to-region a) = eqb-self a
-same-target-self to-return = refl
-
-pub same-target→eq : (a b : DeferredTarget) → same-target a b ≡ true → a ≡ b
-same-target→eq (to-region a) (to-region b) p = ap to-region (eqb-true a b p)
-same-target→eq (to-region a) to-return p = cc
-same-target→eq to-return (to-region b) p = cc
-same-target→eq to-return to-return p = refl
 
 -- a set has each target once
 abbrev pub DistinctBundles : DeferredEdgeBundleSet → Type 0
@@ -50,7 +34,7 @@ found-in x (e ∷ es) y p = go (λ r. found-in x es y r) (same-target x (e .targ
     go : (get-edge-bundle-by-target x es ≡ some y → In y es × (x ≡ y .target)) → (o : Bool) → same-target x (e .target) ≡ o
         → In y (e ∷ es) × (x ≡ y .target)
     go ih true q = let r : some e ≡ some y = rw q at p in let r′ : y ≡ e = cc in
-        (inl r′, same-target→eq x (e .target) q ∙ ap (λ z. z .target) (sym r′))
+        (inl r′, same-target-is x (e .target) q ∙ ap (λ z. z .target) (sym r′))
     go ih false q = let r : get-edge-bundle-by-target x es ≡ some y = rw q at p in let z = ih r in (inr (z .0), z .1)
 
 pub is-empty : (d : DeferredEdgeBundleSet) → empty d ≡ true → d ≡ []

@@ -20,6 +20,7 @@ use Rattle.nesting.specs.Nesting.{by-control-inst, DeferredEdgeBundle, to-regio
 use Rattle.nesting.specs.Nesting.{NodeOutput, look-up-nodes}
 use Rattle.nesting.specs.lookups.Rewriting.{rewrite-nodes}
 use Rattle.nesting.specs.steps.Post.{bind, map-post}
+use Rattle.nesting.specs.steps.TargetsAndCases.{children-in}
 use Rattle.follows.specs.simulation.Usable.{AllUsable, EdgeUsable, EdgesUsable, TerminatorUsable, after-blocks}
 use Rattle.meaning.specs.facts.Elements.{In, nth, nth-getD}
 use Rattle.follows.specs.simulation.Key.{Key, owns-join, owns-nodes}
@@ -31,7 +32,7 @@ use Rattle.follows.specs.simulation.Defined.{IfDone, define-node-post}
 use Rattle.follows.specs.simulation.Scope.{EntryOk}
 use Rattle.follows.specs.simulation.Invariant.{inv-grew, later-grew}
 use Rattle.follows.specs.simulation.ClaimedRegions.{Came, CaseOk, CasesOk, Doing, doing-on, doing-with}
-use Rattle.follows.specs.simulation.EnterCase.{Takes, children-in}
+use Rattle.follows.specs.simulation.EnterCase.{Takes}
 use Rattle.follows.specs.simulation.Append.{TailIs, append-post, append-sim}
 use Rattle.follows.specs.simulation.ConvergentFollows.{structurize-select-into-post}
 use Rattle.follows.specs.simulation.AtTerminator.{EdgeEnters, one-goes, reads-of, usable-all, usable-scoped}

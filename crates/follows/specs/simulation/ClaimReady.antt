@@ -24,24 +24,25 @@ use Rattle.nesting.specs.lookups.Rewriting.{meets, rewrite}
 use Rattle.nesting.specs.steps.RegionsLeft.{state-of}
 use Rattle.nesting.specs.steps.Post.{bind}
 use Rattle.meaning.specs.facts.Elements.{In, Extends, extends-then}
+use Rattle.nesting.specs.steps.TargetsAndCases.{same-target-sym, same-target-is}
 use Rattle.follows.specs.simulation.Key.{Key, input-key, is-input-of, of-input, owns-nodes}
 use Rattle.follows.specs.simulation.World.{Fits, World, ar, size}
 use Rattle.follows.specs.simulation.Tables.{Resolver, Respects, Tables, entry-law, final-input, lookup-keeps, respects-back, tables}
 use Rattle.follows.specs.simulation.Conditions.{Mat, mat-stays}
 use Rattle.follows.specs.simulation.Leads.{Sim, leads-on}
-use Rattle.follows.specs.simulation.Bundles.{DistinctBundles, find-in, found-in, is-always, same-target-sym, same-target→eq}
+use Rattle.follows.specs.simulation.Bundles.{DistinctBundles, find-in, found-in, is-always}
 use Rattle.follows.specs.simulation.LoopFollows.{HeaderInput, loop-sim}
 use Rattle.follows.specs.simulation.Defined.{Grew, IfDone, Materialized, define-node-post, define-region-post, grew-steady, grew-then}
 use Rattle.follows.specs.simulation.Defined.{materialize-post}
 use Rattle.follows.specs.simulation.Scope.{EntryOk, InScope, SetOk, OwnedWithin, context-stays, own-input, owned}
-use Rattle.follows.specs.simulation.Invariant.{Free, Inv, Later, New, Owned, Rewritable, free⁺, idle, inv-grew, inv-rewrite}
-use Rattle.follows.specs.simulation.Invariant.{later-grew, later-refl, later-rewrite, later-then, new, old, owned-same, owned⁺}
+use Rattle.follows.specs.simulation.Invariant.{Free, Inv, LaterState, New, Owned, Rewritable, free⁺, idle, inv-grew, inv-rewrite}
+use Rattle.follows.specs.simulation.Invariant.{later-grew, later-refl, later-rewrite, later-state-then, new, old, owned-same, owned⁺}
 use Rattle.follows.specs.simulation.Invariant.{rewritable⁺, rewriting, unborn, waiting}
 use Rattle.follows.specs.simulation.StateChanges.{changed, inv-busy, later-busy, new-was, not-r, not-rewritable, owned-was, still}
 use Rattle.follows.specs.simulation.ClaimedRegions.{Holds, Since}
 use Rattle.follows.specs.simulation.EnterCase.{getD-rewritten}
 use Rattle.follows.specs.simulation.Append.{set-through}
-use Rattle.follows.specs.simulation.LoopParts.{KeptOrLifted, Renumbered, SameBundle, leaving, leaving-distinct, leaving-from}
+use Rattle.follows.specs.simulation.LoopParts.{KeptOrLifted, Renumbered, SameButCount, leaving, leaving-distinct, leaving-from}
 use Rattle.follows.specs.simulation.LoopParts.{leaving-in, inputs-renumbered}
 
 loop-owns : (x : LoopNode) (ks : Nodes) (κ : Key) → owns-nodes (loop x ks ▸ ⟨⟩) κ ≡ true
@@ -88,7 +89,7 @@ module _ (W : World) where
 
   pub record ClaimDone (r : ℕ) (ins : List Value) (s : NestState) (o : Option ClaimedRegion) (s′ : NestState) : Type 0 where
     pub inv : Inv W s′
-    pub step : Later W s s′
+    pub step : LaterState W s s′
     pub got : ClaimGot r ins s s′ o
 
   module _ (s : NestState) (r b : ℕ) (ks : Nodes) (d : DeferredEdgeBundleSet) (h : Inv W s) (r-in : r < size W)
@@ -102,7 +103,7 @@ module _ (W : World) where
     inv₁ : Inv W s₁
     inv₁ = inv-busy W s r claimed h r-in was refl
 
-    step₁ : Later W s s₁
+    step₁ : LaterState W s s₁
     step₁ = later-busy W s r claimed h r-in was refl
 
     mine : (κ : Key) → owns-nodes ks κ ≡ true → Owned s κ
@@ -159,7 +160,7 @@ module _ (W : World) where
 
       only-back : (y : DeferredEdgeBundle) → In y d → same-target (y .target) (to-region r) ≡ true → y ≡ e
       only-back y i p =
-          let q : y .target ≡ to-region r = same-target→eq (y .target) (to-region r) p in
+          let q : y .target ≡ to-region r = same-target-is (y .target) (to-region r) p in
           let z : get-edge-bundle-by-target (to-region r) d ≡ some y =
           ap (λ x. get-edge-bundle-by-target x d) (sym q) ∙ find-in d dist y i in cc
 
@@ -185,8 +186,8 @@ module _ (W : World) where
         inv₃ : Inv W s₃
         inv₃ = inv-grew W gr₃ inv₁
 
-        step₃ : Later W s s₃
-        step₃ = later-then W step₁ (later-grew W gr₃)
+        step₃ : LaterState W s s₃
+        step₃ = later-state-then W step₁ (later-grew W gr₃)
 
         r-w : r < w
         r-w = omega (arith, h .room, w-is)
@@ -236,7 +237,7 @@ module _ (W : World) where
         inv₄ = inv-rewrite W s₃ r (renumber-or-replace-with (x .rewrites)) inv₃ r-unrewritten₃ r-closed₃ w w-unrewritten₃
             (eqb-false w r ne) lifted
 
-        step₄ : Later W s s₄
+        step₄ : LaterState W s s₄
         step₄ = later-rewrite W s₃ r (renumber-or-replace-with (x .rewrites)) step₃ (waiting r-in was)
 
         -- how a header's input goes on
@@ -269,8 +270,8 @@ module _ (W : World) where
           gr₄₆ : Grew s₄ s₆
           gr₄₆ = grew-then (hm .grew) gr₆
 
-          step₆ : Later W s s₆
-          step₆ = later-then W step₄ (later-grew W gr₄₆)
+          step₆ : LaterState W s s₆
+          step₆ = later-state-then W step₄ (later-grew W gr₄₆)
 
           repeats : (os : List NodeOutput) → Extends (s₅ .node-outputs) os
               → Mat (e .condition) os v ⊎ ((v ≡ bool true) × ((y : DeferredEdgeBundle) → In y d → y ≡ e))
@@ -317,7 +318,7 @@ module _ (W : World) where
                 entries = λ z i. entry z (leaving-from r exits d z i) all;
               }
             where
-              entry : (z : DeferredEdgeBundle) → (y : DeferredEdgeBundle) × In y d × SameBundle y z
+              entry : (z : DeferredEdgeBundle) → (y : DeferredEdgeBundle) × In y d × SameButCount y z
                   → SetOk W (tables s₆) w (ar W r) looped d
                   → EntryOk W (tables s₆) w (ar W r) looped z
               entry z (y, i, bm) all =

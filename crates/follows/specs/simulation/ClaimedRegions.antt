@@ -22,7 +22,8 @@ use Rattle.follows.specs.simulation.World.{World, ar, size}
 use Rattle.follows.specs.simulation.Tables.{tables}
 use Rattle.follows.specs.simulation.Leads.{Sim, leads-on}
 use Rattle.follows.specs.simulation.Scope.{AllScoped, SetOk, scoped-later, set-later, within-refl}
-use Rattle.follows.specs.simulation.Invariant.{Free, Inv, Later, New, Owned, Rewritable, idle, later-then, new, old, owned-by, unborn}
+use Rattle.follows.specs.simulation.Invariant.{Free, Inv, LaterState, New, Owned, Rewritable, idle, later-state-then, new, old}
+use Rattle.follows.specs.simulation.Invariant.{owned-by, unborn}
 use Rattle.follows.specs.simulation.Invariant.{waiting}
 use Rattle.follows.specs.simulation.StateChanges.{changed, else, now}
 
@@ -31,7 +32,7 @@ module _ (W : World) where
   pub record Doing (s₀ : NestState) (r : ℕ) (ks : Nodes) (s : NestState) : Type 0 where
     pub in-range : r < size W
     pub inv : Inv W s
-    pub step : Later W s₀ s
+    pub step : LaterState W s₀ s
     pub began : state-of s₀ r ≡ not-begun
     pub busy : state-of s r ≡ in-progress
     pub unrewritten : rewrites-of (s .region-input-rewrites) r ≡ none
@@ -60,11 +61,11 @@ module _ (W : World) where
   doing-closed e (unborn le) = omega (arith, e .inv .room, e .in-range)
   doing-closed e (waiting lt p) = let z : idle in-progress ≡ true = rw (e .busy) at p in clash (cc)
 
-  pub doing-on : {s₀ s s′ : NestState} {r : ℕ} {ks : Nodes} → Doing s₀ r ks s → Inv W s′ → Later W s s′ → Doing s₀ r ks s′
+  pub doing-on : {s₀ s s′ : NestState} {r : ℕ} {ks : Nodes} → Doing s₀ r ks s → Inv W s′ → LaterState W s s′ → Doing s₀ r ks s′
   doing-on {r} d h st = record {
     in-range = d .in-range;
     inv = h;
-    step = later-then W (d .step) st;
+    step = later-state-then W (d .step) st;
     began = d .began;
     busy = st .busy r (d .busy);
     unrewritten = st .kept r (doing-closed d) (d .unrewritten);
@@ -86,7 +87,7 @@ module _ (W : World) where
     clear = λ κ o. f κ o .1;
   }
 
-  pub holds-on : {c : ClaimedRegion} {s s′ : NestState} → Holds c s → Later W s s′ → Holds c s′
+  pub holds-on : {c : ClaimedRegion} {s s′ : NestState} → Holds c s → LaterState W s s′ → Holds c s′
   holds-on {c} h st = record {
     sim = leads-on W (st .gains) (h .sim);
     set = set-later W (st .gains) (within-refl (c .children)) (h .set);
@@ -95,7 +96,7 @@ module _ (W : World) where
     unrewritten = st .kept (c .structured-body) (h .closed) (h .unrewritten);
   }
 
-  pub came-on : {s₀ s s′ : NestState} {r : ℕ} {ks : Nodes} {d : DeferredEdgeBundleSet} → Came s₀ r ks d s → Inv W s′ → Later W s s′
+  pub came-on : {s₀ s s′ : NestState} {r : ℕ} {ks : Nodes} {d : DeferredEdgeBundleSet} → Came s₀ r ks d s → Inv W s′ → LaterState W s s′
       → Came s₀ r ks d s′
   came-on {ks} c h st =
       record {
@@ -124,7 +125,7 @@ module _ (W : World) where
     pub each : (c : MaybeClaimedRegion) → In c cs → CaseOk s₀ r ks s c
     pub apart : Apart cs
 
-  pub claimed-on : {s₀ s s′ : NestState} {r : ℕ} {ks : Nodes} {c : ClaimedRegion} → ClaimedOk s₀ r ks s c → Later W s s′
+  pub claimed-on : {s₀ s s′ : NestState} {r : ℕ} {ks : Nodes} {c : ClaimedRegion} → ClaimedOk s₀ r ks s c → LaterState W s s′
       → ClaimedOk s₀ r ks s′ c
   claimed-on {ks} h st = record {
     holds = holds-on (h .holds) st;
@@ -134,7 +135,7 @@ module _ (W : World) where
     apart = h .apart;
   }
 
-  pub case-on : {s₀ s s′ : NestState} {r : ℕ} {ks : Nodes} (c : MaybeClaimedRegion) → CaseOk s₀ r ks s c → Later W s s′
+  pub case-on : {s₀ s s′ : NestState} {r : ℕ} {ks : Nodes} (c : MaybeClaimedRegion) → CaseOk s₀ r ks s c → LaterState W s s′
       → CaseOk s₀ r ks s′ c
   case-on (ok c) h st = record { is = claimed-on (h .is) st }
   case-on {ks} (err d) h st = record { is = set-later W (st .gains) (within-refl ks) (h .is) }
@@ -219,7 +220,7 @@ module _ (W : World) where
             (λ e′. mine q b₁ k₁ d₁ p ne₁ κ o (rw (its-children q′ b₂ k₂ d₂ p′ e′) at o′))
             (λ ne₂. h .disjoint q q′ b₁ b₂ k₁ k₂ d₁ d₂ (ready-was q b₁ k₁ d₁ p ne₁) (ready-was q′ b₂ k₂ d₂ p′ ne₂) ne κ o o′))
 
-    pub later-ready : Later W s₀ s⁺
+    pub later-ready : LaterState W s₀ s⁺
     later-ready = record {
       gains = cm .doing .step .gains;
       free = free;

@@ -22,7 +22,8 @@ use Rattle.follows.specs.simulation.ValidUse.{edges-of-usable}
 use Rattle.follows.specs.simulation.Key.{of-instr}
 use Rattle.follows.specs.simulation.World.{Live, World, size}
 use Rattle.follows.specs.simulation.Defined.{Grew, IfDone}
-use Rattle.follows.specs.simulation.Invariant.{Free, Inv, Later, idle, inv-grew, later-grew, later-refl, later-then, new, old}
+use Rattle.follows.specs.simulation.Invariant.{Free, Inv, LaterState, idle, inv-grew, later-grew, later-refl, later-state-then, new}
+use Rattle.follows.specs.simulation.Invariant.{old}
 use Rattle.follows.specs.simulation.Invariant.{waiting}
 use Rattle.follows.specs.simulation.StateChanges.{blocks-own, changed, inv-busy, later-busy, now, owned-was}
 use Rattle.follows.specs.simulation.ClaimedRegions.{Doing, doing-on, inv-ready, later-ready}
@@ -57,7 +58,7 @@ module _ (W : World) where
   -- ---- a region is structurized
   pub structurize-region-post : (cl : Claim) → ClaimOk W cl → (r : ℕ) → r < size W → Live W r → (s : NestState) → Inv W s
       → state-of s r ≡ not-begun
-      → IfDone (λ u s′. Inv W s′ × Later W s s′) (structurize-region (W .g) cl r s)
+      → IfDone (λ u s′. Inv W s′ × LaterState W s s′) (structurize-region (W .g) cl r s)
   unfolding structurize-region
   structurize-region-post cl cl-ok r r-in lv s inv fresh =
       let tm = region (W .g) r .terminator in
@@ -93,13 +94,13 @@ module _ (W : World) where
       go false = record { post = record { inv = inv; step = later-refl W s; got = tt } }
       go true = record { post = tt }
 
-  done-back : (r : ℕ) (ins : List Value) (s s₁ : NestState) → Later W s s₁ → (o : Option ClaimedRegion) (s′ : NestState)
+  done-back : (r : ℕ) (ins : List Value) (s s₁ : NestState) → LaterState W s s₁ → (o : Option ClaimedRegion) (s′ : NestState)
       → ClaimDone W r ins s₁ o s′ → ClaimDone W r ins s o s′
-  done-back r ins s s₁ st none s′ cd = record { inv = cd .inv; step = later-then W st (cd .step); got = tt }
+  done-back r ins s s₁ st none s′ cd = record { inv = cd .inv; step = later-state-then W st (cd .step); got = tt }
   done-back r ins s s₁ st (some c) s′ cd =
       record {
         inv = cd .inv;
-        step = later-then W st (cd .step);
+        step = later-state-then W st (cd .step);
         got = record {
           holds = cd .got .holds;
           since = since-back W st (cd .got .since);
@@ -134,14 +135,14 @@ module _ (W : World) where
       }) λ x s₂ st.
       map-post (claim-by-state (W .g) r n ins (getD counts r 0) x s₂)
       (claim-by-state-post r n (getD counts r 0) ins s₂ (st .1) r-in x (sym (st .0))) λ o s₃ cd.
-      done-back r ins s s₂ (later-then W (later-grew W gr) (st .2)) o s₃ cd
+      done-back r ins s s₂ (later-state-then W (later-grew W gr) (st .2)) o s₃ cd
     where
       Found₁ : NestState → StructurizeRegionState → NestState → Type 0
-      Found₁ s₁ x s₂ = (x ≡ state-of s₂ r) × Inv W s₂ × Later W s₁ s₂
+      Found₁ s₁ x s₂ = (x ≡ state-of s₂ r) × Inv W s₂ × LaterState W s₁ s₂
 
       begun : (s₁ : NestState) → Inv W s₁ → ClaimOk W (λ r′ n′ ins′. try-claim-edge-bundle (W .g) counts d r′ n′ ins′)
           → (x : StructurizeRegionState) → state-of s₁ r ≡ x
-          → IfDone (λ u s₂. Inv W s₂ × Later W s₁ s₂)
+          → IfDone (λ u s₂. Inv W s₂ × LaterState W s₁ s₂)
           (begin x (structurize-region (W .g) (λ r′ n′ ins′. try-claim-edge-bundle (W .g) counts d r′ n′ ins′) r) s₁)
       begun s₁ inv₁ ih not-begun p =
           structurize-region-post (λ r′ n′ ins′. try-claim-edge-bundle (W .g) counts d r′ n′ ins′) ih r r-in lv s₁ inv₁ p

@@ -18,6 +18,7 @@ use Rattle.nesting.specs.lookups.Rewriting.{rewrite-nodes}
 use Rattle.nesting.specs.steps.Post.{bind, map-post}
 use Rattle.meaning.specs.facts.Elements.{In, nth, nth-in}
 use Rattle.meaning.specs.facts.Tests.{or-left, or-right}
+use Rattle.nesting.specs.steps.TargetsAndCases.{children-in}
 use Rattle.follows.specs.simulation.Key.{Key, is-node, key, key-constant, owns-cases, owns-join, owns-nodes}
 use Rattle.follows.specs.simulation.World.{World, ar, runs}
 use Rattle.follows.specs.simulation.Tables.{Gains, Resolver, Respects, Tables, respects-back, tables}
@@ -28,9 +29,9 @@ use Rattle.follows.specs.simulation.SelectRuns.{select-runs}
 use Rattle.follows.specs.simulation.Defined.{IfDone}
 use Rattle.follows.specs.simulation.Scope.{Agrees, Scoped, in-apart, scoped-later, set-later, within-left}
 use Rattle.follows.specs.simulation.ClaimedRegions.{Came, CaseOk, CasesOk, Doing}
-use Rattle.follows.specs.simulation.EnterCase.{Enters, ScrutineeIs, Takes, children-in, enter-follows}
+use Rattle.follows.specs.simulation.EnterCase.{Enters, ScrutineeIs, Takes, enter-follows}
 use Rattle.follows.specs.simulation.SelectDefined.{CasesFrom, cases-apart, cases-children, cases-count, scrutinee-stays}
-use Rattle.follows.specs.simulation.SelectSteps.{Moved, SelectDone, Shape, holds-moved, made, moved-then, structurize-select-post}
+use Rattle.follows.specs.simulation.SelectSteps.{Moved, SelectMade, Shape, holds-moved, made, moved-then, structurize-select-post}
 use Rattle.follows.specs.simulation.SelectSteps.{unmade}
 use Rattle.follows.specs.simulation.SelectFollows.{based-pay, entered, enters-same, far-made, no-children, none-owns, not-out}
 use Rattle.follows.specs.simulation.SelectFollows.{pay-agrees, select-set, select-sim}
@@ -69,7 +70,7 @@ module _ (W : World) where
       (dg : Doing W s₀ r ks s) (fit : CasesOk W s₀ r ks s cases)
       (scrutinee-ok : (T : Tables) → Gains (tables s) T → (v : Value) → ScrutineeIs sc (T .outputs) v → Scoped T r (ar W r) ks v)
       (ld : Leads W r r ks (tables s) (Takes W kind sc cases)) where
-    all-came : (x : Body) (s′ : NestState) → SelectDone W s₀ r ks kind sc cases s dg fit x s′
+    all-came : (x : Body) (s′ : NestState) → SelectMade W s₀ r ks kind sc cases s dg fit x s′
         → Came W s₀ r (x .children) (x .deferred-edges) s′
     all-came x s′ al = subst (λ k. Came W s₀ r k (x .deferred-edges) s′) (sym (al .children-is)) (record {
       doing = al .doing;
@@ -89,7 +90,7 @@ module _ (W : World) where
       c-in : In c cases
       c-in = nth-in cases (cv .at) c (cv .is)
 
-      module _ (x : Body) (s₁ : NestState) (al : SelectDone W s₀ r ks kind sc rest s dg ok′ x s₁) where
+      module _ (x : Body) (s₁ : NestState) (al : SelectMade W s₀ r ks kind sc rest s dg ok′ x s₁) where
         tail : (c : MaybeClaimedRegion) → CaseOk W s₀ r ks s c
             → ((y : ClaimedRegion) → c ≡ ok y → (z : ClaimedRegion) → In (ok z) rest
             → eqb (y .structured-body) (z .structured-body) ≡ false)

@@ -22,7 +22,7 @@ use Rattle.follows.specs.simulation.Key.{OutputAt}
 use Rattle.follows.specs.simulation.Tables.{stays}
 use Rattle.follows.specs.simulation.Conditions.{Mat, Mats, mat-stays, mats-stay}
 use Rattle.follows.specs.simulation.Values.{same-values→eq}
-use Rattle.follows.specs.simulation.Planned.{Emits, EmitsAll, condition-from}
+use Rattle.follows.specs.simulation.Planned.{EmitsInputs, EmitsAll, condition-from}
 use Rattle.meaning.specs.Lists.{pick}
 
 -- What holds of a step that is done; a refusal holds of anything.
@@ -183,11 +183,12 @@ mutual
 
 -- ---- emitting a plan's inputs
 pub record Emitted (n : DefinedSelect) (is : List PlannedInput) (s : NestState) (vs : List Value) (s′ : NestState) : Type 0 where
-  pub emits : Emits (s′ .node-outputs) n is vs
+  pub emits : EmitsInputs (s′ .node-outputs) n is vs
   pub grew : Grew s s′
 
-pub emits-stay : (n : DefinedSelect) (is : List PlannedInput) (a b : List NodeOutput) → Extends a b → (vs : List Value) → Emits a n is vs
-    → Emits b n is vs
+pub emits-stay : (n : DefinedSelect) (is : List PlannedInput) (a b : List NodeOutput) → Extends a b → (vs : List Value)
+    → EmitsInputs a n is vs
+    → EmitsInputs b n is vs
 emits-stay n [] a b p vs h = h
 emits-stay n (shared v ∷ is) a b p vs (w, ws, e, one, rest) = (w, ws, e, one, emits-stay n is a b p ws rest)
 emits-stay n (merged ty us ∷ is) a b p vs (w, ws, e, (k, o, x, at-k, y), rest) =

@@ -16,11 +16,12 @@ use Rattle.nesting.specs.Nesting.{DeferredTarget, LazyConds, merge, true-cond, 
 use Rattle.nesting.specs.Nesting.{any-needs-select, in-parent, merged, per-case-deferred, per-case-of, plan-bundle, plan-input, plan-inputs}
 use Rattle.nesting.specs.Nesting.{shared, target-type, unique-input, value-in-case, DefinedSelect, shared-bundle, NodeOutput}
 use Rattle.meaning.specs.facts.Elements.{In, Extends}
+use Rattle.nesting.specs.steps.TargetsAndCases.{per-cases}
 use Rattle.follows.specs.simulation.Key.{OutputAt}
 use Rattle.follows.specs.simulation.World.{World, ar}
 use Rattle.follows.specs.simulation.Tables.{Tables}
 use Rattle.follows.specs.simulation.Bundles.{DistinctBundles, found-in}
-use Rattle.follows.specs.simulation.Planned.{Emits, EmitsAll, EmitsBundle, EmitsOne, condition-from, emits-from, passed, per-cases}
+use Rattle.follows.specs.simulation.Planned.{EmitsInputs, EmitsAll, EmitsBundle, EmitsOne, condition-from, emits-from, passed}
 use Rattle.follows.specs.simulation.Planned.{unique-from}
 use Rattle.follows.specs.simulation.Defined.{emits-stay}
 use Rattle.follows.specs.simulation.Scope.{AllScoped, CondOk, EntryOk, Scoped, SetOk, scoped-const}
@@ -80,7 +81,7 @@ abbrev is-merged : PlannedInput → Bool
 is-merged i = elim i [ shared v ↦ false | merged ty vs ↦ true ]
 
 shared-emits : (os : List NodeOutput) (n : DefinedSelect) (is : List PlannedInput) → any is-merged is ≡ false
-    → Emits os n is (map (λ i. elim i [ shared v ↦ v | merged ty vs ↦ undef 0 ]) is)
+    → EmitsInputs os n is (map (λ i. elim i [ shared v ↦ v | merged ty vs ↦ undef 0 ]) is)
 shared-emits os n [] h = refl
 shared-emits os n (shared v ∷ is) h = (v, _, refl, refl, shared-emits os n is h)
 shared-emits os n (merged ty vs ∷ is) h = absurd (clash (cc))
@@ -142,7 +143,7 @@ module _ (W : World) where
             rw e (shares (y .0) (y .1) (z .0) (z .1) k w (rw (z .2) (y .2 .2)))
 
     inputs-scoped : (x : DeferredTarget) (a k : ℕ) (vs : List Value)
-        → Emits (T .outputs) n (plan-inputs (W .g) a k x cs (per-cases x cs)) vs
+        → EmitsInputs (T .outputs) n (plan-inputs (W .g) a k x cs (per-cases x cs)) vs
         → AllScoped T r (ar W r) ks vs × (length vs ≡ a)
     inputs-scoped x zero k vs em = ((λ i. rw em (scoped-const (undef 0) refl)), rw em)
     inputs-scoped x (suc a) k vs (v, ws, e, one, rest) =

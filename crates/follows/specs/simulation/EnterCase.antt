@@ -6,7 +6,7 @@ use mathlib.Core.Path.{_∙_, _≡_, ap, refl, sym}
 use Prim.Native.Nat.{_<_, _≤_, ℕ}
 use native.Mathlib.Omega.{arith}
 use lib.ListN.{List·getD-map, getD, length, length-map}
-use Rattle.meaning.specs.Runs.{Nodes, ⟨⟩, Ran, ended, no-end, run-nodes, through, End, Event, RunState, Word, mark, place-taken, word}
+use Rattle.meaning.specs.Runs.{Nodes, Ran, ended, no-end, run-nodes, through, End, Event, RunState, Word, mark, place-taken, word}
 use Rattle.meaning.specs.Graph.{SelectionKind, Value, input, undef}
 use Rattle.nesting.specs.Nesting.{ClaimedRegion, MaybeClaimedRegion, Scrutinee, deferred-of, err, lazy, ok, value, DeferredEdgeBundle}
 use Rattle.nesting.specs.Nesting.{DeferredEdgeBundleSet, DeferredTarget, to-region, rewrites-of, NestState, NodeOutput, RewriteEntry}
@@ -15,6 +15,7 @@ use Rattle.nesting.specs.lookups.Rewriting.{rewrite-nodes, rewrite, rewrite-bun
 use Rattle.nesting.specs.lookups.ChainSteps.{stops-rewrite}
 use Rattle.meaning.specs.facts.Elements.{In, from-map, getD-map-in, in-map, nth}
 use Rattle.meaning.specs.facts.Tests.{false-if}
+use Rattle.nesting.specs.steps.TargetsAndCases.{children-in}
 use Rattle.follows.specs.simulation.Key.{Key, key, nodes-none, owns-nodes}
 use Rattle.follows.specs.simulation.World.{World, ar, runs}
 use Rattle.follows.specs.simulation.Tables.{Resolver, Respects, Tables, tables}
@@ -25,10 +26,6 @@ use Rattle.follows.specs.simulation.Scope.{EntryOk, SetOk, in-apart, sco
 use Rattle.follows.specs.simulation.ClaimedRegions.{CaseOk}
 
 -- ---- cases
-abbrev pub children-in : MaybeClaimedRegion → Nodes
-children-in (ok c) = c .children
-children-in (err d) = ⟨⟩
-
 -- the value stands for the scrutinee
 abbrev pub ScrutineeIs : Scrutinee → List NodeOutput → Value → Type 0
 ScrutineeIs (value u) os v = v ≡ u

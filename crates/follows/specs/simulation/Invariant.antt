@@ -95,7 +95,7 @@ module _ (W : World) where
     pub unrewritten : (q : ℕ) → Rewritable s q → rewrites-of (s .region-input-rewrites) q ≡ none
 
   -- Tables gain; nothing becomes Free or Rewritable again; what is not Rewritable gets no rewrites; who is in progress stays so.
-  pub record Later (s s′ : NestState) : Type 0 where
+  pub record LaterState (s s′ : NestState) : Type 0 where
     pub gains : Gains (tables s) (tables s′)
     pub free : (κ : Key) → Free s′ κ → Free s κ
     pub rewritable : (q : ℕ) → Rewritable s′ q → Rewritable s q
@@ -103,11 +103,11 @@ module _ (W : World) where
         → rewrites-of (s′ .region-input-rewrites) q ≡ none
     pub busy : (q : ℕ) → state-of s q ≡ in-progress → state-of s′ q ≡ in-progress
 
-  pub later-refl : (s : NestState) → Later s s
+  pub later-refl : (s : NestState) → LaterState s s
   later-refl s = record { gains = gains-refl (tables s); free = λ κ h. h; rewritable = λ q h. h; kept = λ q n h. h; busy = λ q h. h }
 
-  pub later-then : {s s′ s″ : NestState} → Later s s′ → Later s′ s″ → Later s s″
-  later-then p q = record {
+  pub later-state-then : {s s′ s″ : NestState} → LaterState s s′ → LaterState s′ s″ → LaterState s s″
+  later-state-then p q = record {
     gains = gains-then (p .gains) (q .gains);
     free = λ κ h. p .free κ (q .free κ h);
     rewritable = λ r h. p .rewritable r (q .rewritable r h);
@@ -136,7 +136,7 @@ module _ (W : World) where
     pub grew-gains : Gains (tables s) (tables s′)
     grew-gains = record { rewrites = extends-same (gr .rewrites); outputs = gr .outputs }
 
-    pub later-grew : Later s s′
+    pub later-grew : LaterState s s′
     later-grew = record {
       gains = grew-gains;
       free = λ v h. go v h;
@@ -210,7 +210,7 @@ module _ (W : World) where
     }
 
     -- since s₀, when the region could still get rewrites
-    pub later-rewrite : {s₀ : NestState} → Later s₀ s → Rewritable s₀ q → Later s₀ s⁺
+    pub later-rewrite : {s₀ : NestState} → LaterState s₀ s → Rewritable s₀ q → LaterState s₀ s⁺
     later-rewrite {s₀} st l = record {
       gains = gains-then (st .gains) rewrite-gains;
       free = λ κ h. st .free κ (free⁺ κ h);

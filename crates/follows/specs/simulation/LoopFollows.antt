@@ -18,6 +18,7 @@ use Rattle.nesting.specs.Nesting.{renumber-or-replace-with, renumber-to, replac
 use Rattle.nesting.specs.lookups.Rewriting.{rewrite-loop, rewrite-nodes}
 use Rattle.meaning.specs.facts.Elements.{In, getD-map-in, Extends, extends-refl}
 use Rattle.meaning.specs.facts.Tests.{eqb-self, or-left, or-right}
+use Rattle.nesting.specs.steps.TargetsAndCases.{same-target-sym}
 use Rattle.follows.specs.simulation.Key.{is-input-of, key, key-constant, of-input, owns-nodes}
 use Rattle.follows.specs.simulation.World.{World, ar, from-region, runs}
 use Rattle.follows.specs.simulation.Tables.{Gains, Resolver, Respects, Tables, entry-law, final-input, respects-back}
@@ -25,7 +26,6 @@ use Rattle.follows.specs.simulation.Frame.{inputs-kept}
 use Rattle.follows.specs.simulation.Conditions.{Mat, Truthy}
 use Rattle.follows.specs.simulation.Leads.{Based, Chosen, Goes, OnwardTo, Sim, Tracks, based-after, ends-with, none-run, onward-reads}
 use Rattle.follows.specs.simulation.Leads.{read, then-on, tracks-less}
-use Rattle.follows.specs.simulation.Bundles.{same-target-sym}
 
 module _ (W : World) where
   -- how a header's input goes on, for the back edge's inputs `ins`, the wrapper q, and the loop's own lists

@@ -19,16 +19,16 @@ use Rattle.follows.specs.simulation.Values.{same-value→eq}
 
 -- ---- the edges that leave the loop
 -- Counts change, and nothing else.
-pub record SameBundle (e z : DeferredEdgeBundle) : Type 0 where
+pub record SameButCount (e z : DeferredEdgeBundle) : Type 0 where
   pub target : z .target ≡ e .target
   pub inputs : z .target-inputs ≡ e .target-inputs
   pub condition : z .condition ≡ e .condition
 
-same-bundle : (xs : List ℕ) (e : DeferredEdgeBundle) → SameBundle e (add-exit-edge xs e)
+same-bundle : (xs : List ℕ) (e : DeferredEdgeBundle) → SameButCount e (add-exit-edge xs e)
 same-bundle xs e = go (e .target) refl
   where
     go : (x : DeferredTarget) → e .target ≡ x
-        → SameBundle e (elim x [
+        → SameButCount e (elim x [
           | to-region r ↦
               record {
                 target = to-region r;
@@ -46,7 +46,7 @@ leaving r xs d = map (add-exit-edge xs) (split-out-target (to-region r) d)
 
 pub leaving-in : (r : ℕ) (xs : List ℕ) (d : DeferredEdgeBundleSet) (y : DeferredEdgeBundle) → In y d
     → same-target (to-region r) (y .target) ≡ false
-    → (z : DeferredEdgeBundle) × In z (leaving r xs d) × SameBundle y z
+    → (z : DeferredEdgeBundle) × In z (leaving r xs d) × SameButCount y z
 leaving-in r xs d y i ne = (
   add-exit-edge xs y,
   in-map (add-exit-edge xs) (split-out-target (to-region r) d) y (in-split-out (to-region r) d y ne i),
@@ -54,10 +54,10 @@ leaving-in r xs d y i ne = (
 )
 
 pub leaving-from : (r : ℕ) (xs : List ℕ) (d : DeferredEdgeBundleSet) (z : DeferredEdgeBundle) → In z (leaving r xs d)
-    → (y : DeferredEdgeBundle) × In y d × SameBundle y z
+    → (y : DeferredEdgeBundle) × In y d × SameButCount y z
 leaving-from r xs d z i =
     let y = from-map (add-exit-edge xs) (split-out-target (to-region r) d) z i in
-    (y .0, from-split-out (to-region r) d (y .0) (y .1), subst (λ q. SameBundle (y .0) q) (sym (y .2)) (same-bundle xs (y .0)))
+    (y .0, from-split-out (to-region r) d (y .0) (y .1), subst (λ q. SameButCount (y .0) q) (sym (y .2)) (same-bundle xs (y .0)))
 
 pub leaving-distinct : (r : ℕ) (xs : List ℕ) (d : DeferredEdgeBundleSet) → DistinctBundles d → DistinctBundles (leaving r xs d)
 leaving-distinct r xs d h = go (split-out-target (to-region r) d) (distinct-split-out (to-region r) d h)

@@ -82,14 +82,14 @@ module _ (rule : Rule) (ρ : Resolver) (on-instr : (q k : ℕ) → ρ (instr q k
       rw z (block-agree (suc k) is (do-instr rule r k i a) (do-instr rule r k (rewrite-reads ρ i) s) us (instr-agree k i a s u ag))
 
 module _ (rule : Rule) (ρ : Resolver) (on-instr : (q k : ℕ) → ρ (instr q k) ≡ instr q k) (r ar : ℕ) where
-  pub record Done (os : List NodeOutput) (test b n k : ℕ) (bs : List (List Instr)) (a s : RunState) : Type 0 where
+  pub record BlocksDone (os : List NodeOutput) (test b n k : ℕ) (bs : List (List Instr)) (a s : RunState) : Type 0 where
     pub state : RunState
     pub runs-on : run-nodes rule test b (rewrite-nodes ρ os (blocks-from n r k bs)) s ≡ through state
     pub agree : Agree ρ r ar (after-blocks k bs) (do-blocks rule r k bs a) state
 
   pub blocks-agree : (os : List NodeOutput) (test b n k : ℕ) (bs : List (List Instr))
       → ((v : Value) → UsableIn r ar 0 v → owns-nodes (blocks-from n r k bs) (key os (ρ v)) ≡ false)
-      → (a s : RunState) → BlocksUsable r ar k bs → Agree ρ r ar k a s → Done os test b n k bs a s
+      → (a s : RunState) → BlocksUsable r ar k bs → Agree ρ r ar k a s → BlocksDone os test b n k bs a s
   unfolding run-nodes look-up-nodes do-blocks owns-nodes
   blocks-agree os test b n k [] apart a s us ag = record { state = s; runs-on = refl; agree = ag }
   blocks-agree os test b n k (x ∷ bs) apart a s (u, us) ag =

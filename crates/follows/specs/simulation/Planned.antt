@@ -10,18 +10,16 @@ use Rattle.meaning.specs.Graph.{Graph, Value, output, same-value, undef}
 use Rattle.meaning.specs.Lists.{all, pick}
 use Rattle.meaning.specs.facts.Tests.{clash, and-both}
 use Rattle.nesting.specs.Nesting.{MaybeClaimedRegion, deferred-of, DeferredEdgeBundle, DeferredEdgeBundleSet, DeferredTarget, LazyCond}
-use Rattle.nesting.specs.Nesting.{LazyConds, false-cond, merge, true-cond, undef-cond, DeferredTargetSummary, PerCaseDeferred}
+use Rattle.nesting.specs.Nesting.{LazyConds, false-cond, merge, true-cond, undef-cond, DeferredTargetSummary}
 use Rattle.nesting.specs.Nesting.{PlannedBundle, PlannedInput, all-true, conditions-of, in-parent, merged, per-case-deferred, plan-bundle}
 use Rattle.nesting.specs.Nesting.{shared, passed-inputs, unique-input, value-in-case, DefinedSelect, NodeOutput}
 use Rattle.meaning.specs.facts.Elements.{In, nth}
+use Rattle.nesting.specs.steps.TargetsAndCases.{per-cases}
 use Rattle.follows.specs.simulation.Key.{OutputAt}
 use Rattle.follows.specs.simulation.Conditions.{condition-at}
 use Rattle.follows.specs.simulation.Values.{same-value→eq}
 
 -- ---- one target in all cases
-abbrev pub per-cases : DeferredTarget → List MaybeClaimedRegion → List PerCaseDeferred
-per-cases x cs = map (λ c. per-case-deferred x (deferred-of c)) cs
-
 pub per-cases-condition : (x : DeferredTarget) (cs : List MaybeClaimedRegion) (j : ℕ) (cj : MaybeClaimedRegion) → nth cs j ≡ some cj
     → condition-at (conditions-of (per-cases x cs)) j ≡ some (per-case-deferred x (deferred-of cj) .condition)
 per-cases-condition x [] j cj p = cc
@@ -124,9 +122,9 @@ abbrev pub EmitsOne : List NodeOutput → DefinedSelect → PlannedInput → Val
 EmitsOne os n (shared v) w = w ≡ v
 EmitsOne os n (merged ty vs) w = (k : ℕ) × (o : NodeOutput) × (w ≡ output k) × (OutputAt (n .node) os k o) × (o .values ≡ vs)
 
-abbrev pub Emits : List NodeOutput → DefinedSelect → List PlannedInput → List Value → Type 0
-Emits os n [] vs = vs ≡ []
-Emits os n (i ∷ is) vs = (v : Value) × (ws : List Value) × (vs ≡ v ∷ ws) × EmitsOne os n i v × Emits os n is ws
+abbrev pub EmitsInputs : List NodeOutput → DefinedSelect → List PlannedInput → List Value → Type 0
+EmitsInputs os n [] vs = vs ≡ []
+EmitsInputs os n (i ∷ is) vs = (v : Value) × (ws : List Value) × (vs ≡ v ∷ ws) × EmitsOne os n i v × EmitsInputs os n is ws
 
 abbrev pub condition-from : DefinedSelect → Option LazyConds → LazyCond
 condition-from n none = true-cond
@@ -134,7 +132,7 @@ condition-from n (some cs) = merge (n .node) (n .kind) (n .scrutinee) cs
 
 pub record EmitsBundle (os : List NodeOutput) (n : DefinedSelect) (p : PlannedBundle) (z : DeferredEdgeBundle) : Type 0 where
   pub target : z .target ≡ p .target
-  pub inputs : Emits os n (p .inputs) (z .target-inputs)
+  pub inputs : EmitsInputs os n (p .inputs) (z .target-inputs)
   pub condition : z .condition ≡ condition-from n (p .condition)
 
 abbrev pub EmitsAll : List NodeOutput → DefinedSelect → List PlannedBundle → DeferredEdgeBundleSet → Type 0

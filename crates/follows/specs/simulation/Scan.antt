@@ -24,7 +24,7 @@ use Rattle.follows.specs.simulation.Leads.{Based, Goes, OnwardTo, leads-
 use Rattle.follows.specs.simulation.Bundles.{DistinctBundles, in-split, is-always, one-only, split-at, split-distinct, split-in}
 use Rattle.follows.specs.simulation.Defined.{IfDone}
 use Rattle.follows.specs.simulation.Scope.{CondOk, SetOk, mat-scoped}
-use Rattle.follows.specs.simulation.Invariant.{Inv, Later, later-refl, later-then}
+use Rattle.follows.specs.simulation.Invariant.{Inv, LaterState, later-refl, later-state-then}
 use Rattle.follows.specs.simulation.ClaimedRegions.{Came, CaseOk, CasesOk, came-on}
 use Rattle.follows.specs.simulation.EnterCase.{Takes}
 use Rattle.follows.specs.simulation.ConvergentFollows.{structurize-select-into-post}
@@ -49,12 +49,12 @@ module _ (W : World) (cl : Claim) (cl-ok : ClaimOk W cl) where
 
   pub record FirstDone (before d : DeferredEdgeBundleSet) (s : NestState) (o : Option SplitOut) (s′ : NestState) : Type 0 where
     pub inv : Inv W s′
-    pub step : Later W s s′
+    pub step : LaterState W s s′
     pub found : FoundIs before d s s′ o
 
-  further : (before : DeferredEdgeBundleSet) (e : DeferredEdgeBundle) (es : DeferredEdgeBundleSet) (s s₁ : NestState) → Later W s s₁
+  further : (before : DeferredEdgeBundleSet) (e : DeferredEdgeBundle) (es : DeferredEdgeBundleSet) (s s₁ : NestState) → LaterState W s s₁
       → (o : Option SplitOut) (s′ : NestState) → FirstDone (before ++ (e ∷ [])) es s₁ o s′ → FirstDone before (e ∷ es) s o s′
-  further before e es s s₁ st o s′ fd = record { inv = fd .inv; step = later-then W st (fd .step); found = by o (fd .found) }
+  further before e es s s₁ st o s′ fd = record { inv = fd .inv; step = later-state-then W st (fd .step); found = by o (fd .found) }
     where
       by : (o : Option SplitOut) → FoundIs (before ++ (e ∷ [])) es s₁ s′ o → FoundIs before (e ∷ es) s s′ o
       by none f = tt
@@ -67,7 +67,7 @@ module _ (W : World) (cl : Claim) (cl-ok : ClaimOk W cl) where
         target = f .target;
         done = record {
           inv = f .done .inv;
-          step = later-then W st (f .done .step);
+          step = later-state-then W st (f .done .step);
           got =
               record {
                 holds = f .done .got .holds;
@@ -79,14 +79,14 @@ module _ (W : World) (cl : Claim) (cl-ok : ClaimOk W cl) where
         };
       }
 
-  abbrev Scans : DeferredEdgeBundleSet → DeferredEdgeBundleSet → NestState → Type 0
-  Scans before d s = IfDone (FirstDone before d s) (split-out-matching (W .g) cl before d s)
+  abbrev ScansOn : DeferredEdgeBundleSet → DeferredEdgeBundleSet → NestState → Type 0
+  ScansOn before d s = IfDone (FirstDone before d s) (split-out-matching (W .g) cl before d s)
 
   -- a bundle to a region: claimed, the scan stops there; else it goes on
   module _ (before es : DeferredEdgeBundleSet) (q n : ℕ) (inputs : List Value) (c : LazyCond) (s : NestState)
-      (later : (s₁ : NestState) → Inv W s₁ → Scans (before ++ (bundle-to q n inputs c ∷ [])) es s₁) where
+      (later : (s₁ : NestState) → Inv W s₁ → ScansOn (before ++ (bundle-to q n inputs c ∷ [])) es s₁) where
     by-answer : (a : StepAnswer (Option ClaimedRegion)) → cl q n inputs s ≡ a → IfDone (ClaimDone W q inputs s) a
-        → Scans before (bundle-to q n inputs c ∷ es) s
+        → ScansOn before (bundle-to q n inputs c ∷ es) s
     unfolding split-out-matching
     by-answer (done (some x) t) comes h =
         subst (λ a. IfDone (FirstDone before (bundle-to q n inputs c ∷ es) s) a)
@@ -105,14 +105,14 @@ module _ (W : World) (cl : Claim) (cl-ok : ClaimOk W cl) where
     by-answer (turned-away refusal at-word) comes h = rw comes (record { post = tt })
 
   pub split-out-matching-post : (before d : DeferredEdgeBundleSet) (s : NestState) → Inv W s
-      → ((e : DeferredEdgeBundle) → In e d → Fits W (e .target) (length (e .target-inputs))) → Scans before d s
+      → ((e : DeferredEdgeBundle) → In e d → Fits W (e .target) (length (e .target-inputs))) → ScansOn before d s
   unfolding split-out-matching
   split-out-matching-post before [] s inv fits = record { post = record { inv = inv; step = later-refl W s; found = tt } }
   split-out-matching-post before (e ∷ es) s inv fits =
       go (e .target) refl (λ s₁ inv₁. split-out-matching-post (before ++ (e ∷ [])) es s₁ inv₁ (λ x i. fits x (inr i))) (fits e (inl refl))
     where
       Rest : DeferredEdgeBundle → Type 0
-      Rest z = (s₁ : NestState) → Inv W s₁ → Scans (before ++ (z ∷ [])) es s₁
+      Rest z = (s₁ : NestState) → Inv W s₁ → ScansOn (before ++ (z ∷ [])) es s₁
 
       with-target : DeferredTarget → DeferredEdgeBundle
       with-target x = record {
@@ -123,19 +123,19 @@ module _ (W : World) (cl : Claim) (cl-ok : ClaimOk W cl) where
             e .condition;
       }
 
-      at : (x : DeferredTarget) → Rest (with-target x) → Fits W x (length (e .target-inputs)) → Scans before (with-target x ∷ es) s
+      at : (x : DeferredTarget) → Rest (with-target x) → Fits W x (length (e .target-inputs)) → ScansOn before (with-target x ∷ es) s
       at to-return rest f = map-post (split-out-matching (W .g) cl (before ++ (with-target to-return ∷ [])) es s) (rest s inv) λ o s′ fd.
           further before (with-target to-return) es s s (later-refl W s) o s′ fd
       at (to-region q) rest f = by-answer before es q (e .accumulated-count) (e .target-inputs) (e .condition) s rest _ refl
           (cl-ok q (e .accumulated-count) (e .target-inputs) s inv (f .0) (f .2))
 
-      go : (x : DeferredTarget) → e .target ≡ x → Rest e → Fits W x (length (e .target-inputs)) → Scans before (e ∷ es) s
-      go x p rest f = subst (λ y. Rest (with-target y) → Scans before (with-target y ∷ es) s) (sym p) (λ rest′. at x rest′ f) rest
+      go : (x : DeferredTarget) → e .target ≡ x → Rest e → Fits W x (length (e .target-inputs)) → ScansOn before (e ∷ es) s
+      go x p rest f = subst (λ y. Rest (with-target y) → ScansOn before (with-target y ∷ es) s) (sym p) (λ rest′. at x rest′ f) rest
 
   -- ---- and its select
   module _ (s₀ : NestState) (r : ℕ) (x : Body) (s s₁ : NestState) (cm : Came W s₀ r (x .children) (x .deferred-edges) s) (y : SplitOut)
       (inv₁ : Inv W s₁)
-      (st₁ : Later W s s₁) (fo : FoundOk [] (x .deferred-edges) s y s₁) where
+      (st₁ : LaterState W s s₁) (fo : FoundOk [] (x .deferred-edges) s y s₁) where
     cm₁ : Came W s₀ r (x .children) (x .deferred-edges) s₁
     cm₁ = came-on W cm inv₁ st₁
 

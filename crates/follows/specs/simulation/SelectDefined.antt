@@ -14,12 +14,13 @@ use Rattle.nesting.specs.Nesting.{new-case, new-select, MaybeClaimedRegion, Scr
 use Rattle.nesting.specs.Nesting.{materialize-lazy-cond, DefinedSelect, case-regions, define-select, scrutinee-value, NestState, NodeOutput}
 use Rattle.nesting.specs.steps.Post.{bind, map-post}
 use Rattle.meaning.specs.facts.Elements.{In, nth, Extends}
+use Rattle.nesting.specs.steps.TargetsAndCases.{children-in}
 use Rattle.follows.specs.simulation.Key.{Key, owns-cases, owns-nodes}
 use Rattle.follows.specs.simulation.Conditions.{mat-stays}
 use Rattle.follows.specs.simulation.SelectRuns.{children-at}
 use Rattle.follows.specs.simulation.Defined.{Grew, IfDone, define-node-post, define-region-post, grew-refl, grew-then}
 use Rattle.follows.specs.simulation.Defined.{materialize-post}
-use Rattle.follows.specs.simulation.EnterCase.{ScrutineeIs, children-in}
+use Rattle.follows.specs.simulation.EnterCase.{ScrutineeIs}
 
 -- ---- the select's cases
 abbrev pub CasesFrom : List MaybeClaimedRegion → Cases → Type 0

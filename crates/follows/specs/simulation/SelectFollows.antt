@@ -17,6 +17,7 @@ use Rattle.nesting.specs.Nesting.{deferred-targets, in-parent, plan-bundles, De
 use Rattle.nesting.specs.Nesting.{look-up-nodes}
 use Rattle.nesting.specs.lookups.Rewriting.{rewrite-claimed, rewrite-nodes, rewrite, rewrite-case}
 use Rattle.meaning.specs.facts.Elements.{In, from-map, nth, nth-in, nth-map}
+use Rattle.nesting.specs.steps.TargetsAndCases.{children-in}
 use Rattle.follows.specs.simulation.Key.{Key, is-constant, is-node, key, node-key, nodes-none, of-node, owns-cases, owns-join}
 use Rattle.follows.specs.simulation.Key.{owns-nodes}
 use Rattle.follows.specs.simulation.World.{Fits, World, ar, fits-same, runs}
@@ -30,13 +31,13 @@ use Rattle.follows.specs.simulation.Scope.{Agrees, Scoped, SetOk, goes-s
 use Rattle.follows.specs.simulation.Scope.{scoped-output, scoped-rewritten, within-left}
 use Rattle.follows.specs.simulation.Invariant.{new}
 use Rattle.follows.specs.simulation.ClaimedRegions.{CaseOk, CasesOk, Doing}
-use Rattle.follows.specs.simulation.EnterCase.{Enters, ScrutineeIs, Takes, children-in, enter-follows, getD-rewritten, set-rewritten}
+use Rattle.follows.specs.simulation.EnterCase.{Enters, ScrutineeIs, Takes, enter-follows, getD-rewritten, set-rewritten}
 use Rattle.follows.specs.simulation.EnterCase.{tracks-rewritten}
 use Rattle.follows.specs.simulation.Targets.{FitAll, targets-distinct, targets-fit, targets-have}
 use Rattle.follows.specs.simulation.SelectDefined.{CasesFrom, cases-apart, cases-children, cases-count, scrutinee-stays}
 use Rattle.follows.specs.simulation.EmittedSet.{emits-all-stay, no-select, no-select-number, no-select-outputs, set-emitted}
 use Rattle.follows.specs.simulation.EmittedSet.{shared-all, shared-no-condition}
-use Rattle.follows.specs.simulation.SelectSteps.{SelectDone, Shape, made, unmade}
+use Rattle.follows.specs.simulation.SelectSteps.{SelectMade, Shape, made, unmade}
 use Rattle.meaning.specs.Lists.{pick}
 
 -- A case's value u is v outside of it: the same constant, or what stands for an input of its own.
@@ -106,7 +107,7 @@ module _ (W : World) where
   module _ (s₀ : NestState) (r : ℕ) (ks : Nodes) (kind : SelectionKind) (sc : Scrutinee) (cases : List MaybeClaimedRegion) (s : NestState)
       (dg : Doing W s₀ r ks s) (fit : CasesOk W s₀ r ks s cases)
       (scrutinee-ok : (T : Tables) → Gains (tables s) T → (v : Value) → ScrutineeIs sc (T .outputs) v → Scoped T r (ar W r) ks v)
-      (y : Body) (s′ : NestState) (al : SelectDone W s₀ r ks kind sc cases s dg fit y s′) where
+      (y : Body) (s′ : NestState) (al : SelectMade W s₀ r ks kind sc cases s dg fit y s′) where
     abbrev σ : Resolver
     σ = rewrite (s .region-input-rewrites)
 

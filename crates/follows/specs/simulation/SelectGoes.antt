@@ -17,6 +17,7 @@ use Rattle.nesting.specs.Nesting.{case-outputs, output-decls, DeferredTargetSum
 use Rattle.nesting.specs.Nesting.{per-case-deferred, per-case-of, plan-bundle, plan-input, plan-inputs, target-type, unique-input}
 use Rattle.nesting.specs.Nesting.{value-in-case, DefinedSelect, NodeOutput}
 use Rattle.meaning.specs.facts.Elements.{In, nth}
+use Rattle.nesting.specs.steps.TargetsAndCases.{per-cases}
 use Rattle.follows.specs.simulation.Key.{OutputAt}
 use Rattle.follows.specs.simulation.World.{World}
 use Rattle.follows.specs.simulation.Tables.{Resolver}
@@ -24,8 +25,8 @@ use Rattle.follows.specs.simulation.Frame.{output-read}
 use Rattle.follows.specs.simulation.Conditions.{Mat, Truthy, condition-at, mats-at}
 use Rattle.follows.specs.simulation.Leads.{Chosen, Goes, OnwardTo, onward-reads, read}
 use Rattle.follows.specs.simulation.Bundles.{DistinctBundles, find-in, found-in, is-always, two-apart}
-use Rattle.follows.specs.simulation.Planned.{Emits, EmitsAll, EmitsBundle, EmitsOne, condition-from, emits-from, emits-in}
-use Rattle.follows.specs.simulation.Planned.{is-true-or-undef, passed, per-cases, per-cases-at, per-cases-condition, per-cases-true}
+use Rattle.follows.specs.simulation.Planned.{EmitsInputs, EmitsAll, EmitsBundle, EmitsOne, condition-from, emits-from, emits-in}
+use Rattle.follows.specs.simulation.Planned.{is-true-or-undef, passed, per-cases-at, per-cases-condition, per-cases-true}
 use Rattle.follows.specs.simulation.Planned.{unique-at}
 use Rattle.meaning.specs.Lists.{pick}
 
@@ -149,7 +150,7 @@ module _ (W : World) (ρ : Resolver) (os : List NodeOutput) (n : DefinedSelect) 
       go (some w) p x = rw x (shares k w (unique-at k (y .target) cj ys mine cs j w at-j p))
 
   all-inputs : (a k : ℕ) (vs : List Value) → k + a ≡ length ys
-      → Emits os n (plan-inputs (W .g) a k (y .target) cs (per-cases (y .target) cs)) vs
+      → EmitsInputs os n (plan-inputs (W .g) a k (y .target) cs (per-cases (y .target) cs)) vs
       → read ρ s′ vs ≡ read ρ s (drop k ys)
   all-inputs zero k vs len em = rw (em, drop-of-length-le ys {i = k} (omega arith))
   all-inputs (suc a) k vs len em =

@@ -20,6 +20,7 @@ use Rattle.nesting.specs.Nesting.{rewrites-of, DefinedSelect, define-select, em
 use Rattle.nesting.specs.Nesting.{structurize-select, NestState, NodeOutput, replace-with}
 use Rattle.nesting.specs.lookups.Rewriting.{rewrite-claimed, rewrite-cases-is, rewrite, rewrite-case}
 use Rattle.nesting.specs.steps.Post.{bind, map-post}
+use Rattle.nesting.specs.steps.TargetsAndCases.{children-in}
 use Rattle.follows.specs.simulation.ConvergentCase.{Apart}
 use Rattle.meaning.specs.facts.Elements.{In, from-map, in-map}
 use Rattle.follows.specs.simulation.Key.{Key, is-node, node-key, of-node, owns-cases, owns-join, owns-nodes}
@@ -31,10 +32,11 @@ use Rattle.follows.specs.simulation.Planned.{EmitsAll}
 use Rattle.follows.specs.simulation.Defined.{Grew, IfDone, emit-post, grew-steady, grew-then}
 use Rattle.follows.specs.simulation.Scope.{AllScoped, OwnedWithin, scoped-later, scoped-rewritten, set-later, within-left}
 use Rattle.follows.specs.simulation.Scope.{within-refl}
-use Rattle.follows.specs.simulation.Invariant.{Free, Later, Rewritable, free⁺, inv-grew, inv-rewrite, later-grew, later-rewrite, new}
+use Rattle.follows.specs.simulation.Invariant.{Free, LaterState, Rewritable, free⁺, inv-grew, inv-rewrite, later-grew, later-rewrite}
+use Rattle.follows.specs.simulation.Invariant.{new}
 use Rattle.follows.specs.simulation.Invariant.{old, owned-same, rewritable⁺, rewrite-gains, rewriting}
 use Rattle.follows.specs.simulation.ClaimedRegions.{CasesOk, ClaimedOk, Doing, Holds, doing-on, doing-with}
-use Rattle.follows.specs.simulation.EnterCase.{ScrutineeIs, children-in, getD-rewritten}
+use Rattle.follows.specs.simulation.EnterCase.{ScrutineeIs, getD-rewritten}
 use Rattle.follows.specs.simulation.SelectDefined.{CasesFrom, DefinesSelect, cases-own, define-select-post, scrutinee-stays}
 
 pub join-nil : (ks : Nodes) → join ks ⟨⟩ ≡ ks
@@ -57,7 +59,7 @@ module _ (W : World) where
     pub free : (κ : Key) → Free s′ κ → Free s κ
     pub rewritable : (q : ℕ) → Rewritable W s′ q → Rewritable W s q
 
-  pub later-moves : {s s′ : NestState} → Later W s s′ → Moved s s′
+  pub later-moves : {s s′ : NestState} → LaterState W s s′ → Moved s s′
   later-moves p = record { gains = p .gains; free = p .free; rewritable = p .rewritable }
 
   pub moved-then : {s s′ s″ : NestState} → Moved s s′ → Moved s′ s″ → Moved s s″
@@ -325,7 +327,7 @@ module _ (W : World) where
       };
     }
 
-    pub record SelectDone (y : Body) (s′ : NestState) : Type 0 where
+    pub record SelectMade (y : Body) (s′ : NestState) : Type 0 where
       pub more : Nodes
       pub children-is : y .children ≡ join ks more
       pub shape : Shape more (y .deferred-edges) (s′ .node-outputs)
@@ -354,7 +356,7 @@ module _ (W : World) where
           since = rw (y .2) (tk .since .region);
         }
 
-    pub structurize-select-post : IfDone SelectDone (structurize-select (W .g) ks kind sc cases s)
+    pub structurize-select-post : IfDone SelectMade (structurize-select (W .g) ks kind sc cases s)
     unfolding structurize-select
     structurize-select-post =
         rw (rewrite-cases-is cases s)

@@ -17,7 +17,8 @@ use Rattle.nesting.specs.steps.RegionsLeft.{state-of, with-state}
 use Rattle.follows.specs.simulation.Key.{Key, instr-key, is-instr, of-input, of-instr, of-node, of-none, owns-nodes}
 use Rattle.follows.specs.simulation.World.{World, size}
 use Rattle.follows.specs.simulation.Tables.{gains-refl, tables}
-use Rattle.follows.specs.simulation.Invariant.{Free, Inv, Later, New, Owned, Rewritable, idle, new, old, owned-by, unborn, waiting}
+use Rattle.follows.specs.simulation.Invariant.{Free, Inv, LaterState, New, Owned, Rewritable, idle, new, old, owned-by, unborn}
+use Rattle.follows.specs.simulation.Invariant.{waiting}
 
 module _ (W : World) (s : NestState) (r : ℕ) (x : StructurizeRegionState) (h : Inv W s) (r-in : r < size W) where
   abbrev pub changed : NestState
@@ -80,7 +81,7 @@ module _ (W : World) (s : NestState) (r : ℕ) (x : StructurizeRegionState) (h :
       unrewritten = λ q l. h .unrewritten q (rewritable-was q l);
     }
 
-    pub later-busy : Later W s changed
+    pub later-busy : LaterState W s changed
     later-busy = record {
       gains = gains-refl (tables s);
       free = free-was;

@@ -25,7 +25,7 @@ use Rattle.follows.specs.simulation.World.{Live, World, ar, size}
 use Rattle.follows.specs.simulation.Tables.{Tables, tables}
 use Rattle.follows.specs.simulation.Defined.{IfDone}
 use Rattle.follows.specs.simulation.Scope.{AllScoped, EntryOk, Scoped, SetOk}
-use Rattle.follows.specs.simulation.Invariant.{Inv, Later, Rewritable, later-refl, later-then}
+use Rattle.follows.specs.simulation.Invariant.{Inv, LaterState, Rewritable, later-refl, later-state-then}
 use Rattle.follows.specs.simulation.ClaimedRegions.{CaseOk, CasesOk, ClaimedOk, Doing, Since, case-on, doing-closed, doing-on}
 use Rattle.follows.specs.simulation.ClaimReady.{ClaimDone}
 use Rattle.follows.specs.simulation.AtTerminator.{EdgeEnters, edge-enters-on, never-ends, one-goes, usable-all}
@@ -38,19 +38,19 @@ module _ (W : World) where
   abbrev pub ClaimOk : Claim → Type 0
   ClaimOk cl = (r n : ℕ) (ins : List Value) (s : NestState) → Inv W s → r < size W → Live W r → IfDone (ClaimDone W r ins s) (cl r n ins s)
 
-  pub since-back : {s₀ s : NestState} {c : ClaimedRegion} → Later W s₀ s → Since W s c → Since W s₀ c
+  pub since-back : {s₀ s : NestState} {c : ClaimedRegion} → LaterState W s₀ s → Since W s c → Since W s₀ c
   since-back {c} st h = record { children = λ v o. st .free v (h .children v o); region = st .rewritable (c .structured-body) (h .region) }
 
-  pub claimed-back : {s₀ s s′ : NestState} {r : ℕ} {ks : Nodes} {c : ClaimedRegion} → Later W s₀ s → ClaimedOk W s r ks s′ c
+  pub claimed-back : {s₀ s s′ : NestState} {r : ℕ} {ks : Nodes} {c : ClaimedRegion} → LaterState W s₀ s → ClaimedOk W s r ks s′ c
       → ClaimedOk W s₀ r ks s′ c
   claimed-back st h = record { holds = h .holds; since = since-back st (h .since); inputs = h .inputs; other = h .other; apart = h .apart }
 
-  case-back : {s₀ s s′ : NestState} {r : ℕ} {ks : Nodes} (c : MaybeClaimedRegion) → Later W s₀ s → CaseOk W s r ks s′ c
+  case-back : {s₀ s s′ : NestState} {r : ℕ} {ks : Nodes} (c : MaybeClaimedRegion) → LaterState W s₀ s → CaseOk W s r ks s′ c
       → CaseOk W s₀ r ks s′ c
   case-back (ok c) st h = record { is = claimed-back st (h .is) }
   case-back (err d) st h = record { is = h .is }
 
-  pub cases-back : {s₀ s s′ : NestState} {r : ℕ} {ks : Nodes} {cs : List MaybeClaimedRegion} → Later W s₀ s → CasesOk W s r ks s′ cs
+  pub cases-back : {s₀ s s′ : NestState} {r : ℕ} {ks : Nodes} {cs : List MaybeClaimedRegion} → LaterState W s₀ s → CasesOk W s r ks s′ cs
       → CasesOk W s₀ r ks s′ cs
   cases-back st h = record { each = λ c i. case-back c st (h .each c i); apart = h .apart }
 
@@ -154,7 +154,7 @@ module _ (W : World) where
 
       pub record CasesDone (s : NestState) (es : List Edge) (cs : List MaybeClaimedRegion) (s′ : NestState) : Type 0 where
         pub inv : Inv W s′
-        pub step : Later W s s′
+        pub step : LaterState W s s′
         pub is : CasesOk W s r ks s′ cs
         pub len : length cs ≡ length es
         pub enters : (j : ℕ) (ed : Edge) → nth es j ≡ some ed
@@ -184,7 +184,7 @@ module _ (W : World) where
           record {
             post = record {
               inv = cs-ok .inv;
-              step = later-then W (cd .step) (cs-ok .step);
+              step = later-state-then W (cd .step) (cs-ok .step);
               is = record {
                 each = λ x i. each c cs s₁ s₂ (case-on W c (ca .is) (cs-ok .step)) (cases-back (cd .step) (cs-ok .is)) x i;
                 apart = apart c cs s₁ s₂ (ca .is) (cs-ok .is);

@@ -3,13 +3,12 @@ use mathlib.Core.Bool.{Bool, false, true}
 use mathlib.Core.List.{List, [], _∷_}
 use mathlib.Core.Logic.{_⊎_, inl, inr}
 use mathlib.Core.Path.{_∙_, _≡_, ap, refl, sym}
-use Prim.Native.Nat.{_+_}
 use lib.ListN.{length}
 use Rattle.nesting.specs.Nesting.{same-target, MaybeClaimedRegion, deferred-of, DeferredEdgeBundle, DeferredEdgeBundleSet, DeferredTarget}
 use Rattle.nesting.specs.Nesting.{DeferredTargetSummary, deferred-targets, summarize-bundle, summarize-set}
 use Rattle.meaning.specs.facts.Elements.{In}
+use Rattle.nesting.specs.steps.TargetsAndCases.{same-target-is, summary-with}
 use Rattle.follows.specs.simulation.World.{Fits, World}
-use Rattle.follows.specs.simulation.Bundles.{same-target→eq}
 use Rattle.meaning.specs.Lists.{pick}
 
 abbrev pub DistinctTargets : List DeferredTargetSummary → Type 0
@@ -20,9 +19,6 @@ pub record Has (x : DeferredTarget) (ws : List DeferredTargetSummary) : Type 0 w
   pub it : DeferredTargetSummary
   pub there : In it ws
   pub target : it .target ≡ x
-
-abbrev with-count : DeferredEdgeBundle → DeferredTargetSummary → DeferredTargetSummary
-with-count e w = record { target = w .target; input-count = w .input-count; total-edge-count = w .total-edge-count + e .accumulated-count }
 
 -- It stood there already, but for its count, or it is the bundle's.
 abbrev Whence : DeferredEdgeBundle → List DeferredTargetSummary → DeferredTargetSummary → Type 0
@@ -37,7 +33,7 @@ from-summary e [] y (inr no-way) = absurd no-way
 from-summary e (w ∷ ws) y i = go (λ k. from-summary e ws y k) (same-target (e .target) (w .target)) i
   where
     go : (In y (summarize-bundle e ws) → Whence e ws y)
-        → (b : Bool) → In y (pick b (with-count e w ∷ ws) (w ∷ summarize-bundle e ws))
+        → (b : Bool) → In y (pick b (summary-with e w ∷ ws) (w ∷ summarize-bundle e ws))
         → Whence e (w ∷ ws) y
     go ih true (inl p) = inl (w, inl refl, ap (λ x. x .target) p, ap (λ x. x .input-count) p)
     go ih true (inr k) = inl (y, inr k, refl, refl)
@@ -55,7 +51,7 @@ summarize-distinct e [] h = ((λ y i. absurd i), tt)
 summarize-distinct e (w ∷ ws) (h, hs) = go (summarize-distinct e ws hs) (same-target (e .target) (w .target)) refl
   where
     go : DistinctTargets (summarize-bundle e ws) → (b : Bool) → same-target (e .target) (w .target) ≡ b
-        → DistinctTargets (pick b (with-count e w ∷ ws) (w ∷ summarize-bundle e ws))
+        → DistinctTargets (pick b (summary-with e w ∷ ws) (w ∷ summarize-bundle e ws))
     go ih true p = (h, hs)
     go ih false p = ((λ y i. other y (from-summary e ws y i)), ih)
       where
@@ -68,8 +64,8 @@ summarize-has e [] = record { it = _; there = inl refl; target = refl }
 summarize-has e (w ∷ ws) = go (summarize-has e ws) (same-target (e .target) (w .target)) refl
   where
     go : Has (e .target) (summarize-bundle e ws) → (b : Bool) → same-target (e .target) (w .target) ≡ b
-        → Has (e .target) (pick b (with-count e w ∷ ws) (w ∷ summarize-bundle e ws))
-    go ih true p = record { it = _; there = inl refl; target = sym (same-target→eq (e .target) (w .target) p) }
+        → Has (e .target) (pick b (summary-with e w ∷ ws) (w ∷ summarize-bundle e ws))
+    go ih true p = record { it = _; there = inl refl; target = sym (same-target-is (e .target) (w .target) p) }
     go ih false p = record { it = ih .it; there = inr (ih .there); target = ih .target }
 
 summarize-keeps : (e : DeferredEdgeBundle) (ws : List DeferredTargetSummary) (x : DeferredTarget) → Has x ws → Has x (summarize-bundle e ws)
@@ -77,7 +73,7 @@ summarize-keeps e [] x h = absurd (h .there)
 summarize-keeps e (w ∷ ws) x h = go (λ k. summarize-keeps e ws x k) (same-target (e .target) (w .target)) (h .there)
   where
     go : (Has x ws → Has x (summarize-bundle e ws)) → (b : Bool) → (h .it ≡ w) ⊎ In (h .it) ws
-        → Has x (pick b (with-count e w ∷ ws) (w ∷ summarize-bundle e ws))
+        → Has x (pick b (summary-with e w ∷ ws) (w ∷ summarize-bundle e ws))
     go ih true (inl p) = record { it = _; there = inl refl; target = ap (λ z. z .target) (sym p) ∙ h .target }
     go ih true (inr i) = record { it = h .it; there = inr i; target = h .target }
     go ih false (inl p) = record { it = w; there = inl refl; target = ap (λ z. z .target) (sym p) ∙ h .target }

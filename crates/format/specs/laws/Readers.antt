@@ -1,10 +1,11 @@
 -- Laws of the readers: what a reading that succeeds consists of, and how a loop follows `many`.
 use mathlib.Core.Path.{_≡_, refl, sym, ap, _∙_}
+use mathlib.Core.Bool.{Bool, true, false}
 use mathlib.Core.List.{List, [], _∷_}
 use Prim.Native.Nat.{ℕ, zero, suc, _<_}
 use native.Mathlib.Omega.{arith}
 use lib.ListN.{length, getD}
-use Rattle.format.specs.Read.{Read, got, bad, Reader, read-then, many}
+use Rattle.format.specs.Read.{Read, got, bad, Reader, read-then, expect, many}
 use Rattle.format.specs.Places.{next, forget-value, after}
 use Rattle.meaning.specs.facts.Tests.{clash}
 
@@ -18,6 +19,10 @@ pub record Parted {A B : Type 0} (r : Read A) (k : A → ℕ → Read B) (b : B)
 pub part : {A B : Type 0} (r : Read A) (k : A → ℕ → Read B) (b : B) (e : ℕ) → read-then r k ≡ got b e → Parted r k b e
 part (got a at) k b e h = record { value = a; place = at; first = refl; second = h }
 part (bad n) k b e h = absurd (clash (cc))
+
+pub expected : (t : Bool) (ws : List ℕ) (i : ℕ) {u : Unit} {j : ℕ} → expect t ws i ≡ got u j → t ≡ true
+expected true ws i q = refl
+expected false ws i q = absurd (clash (cc))
 
 -- what a reading gives is determined
 pub got-value : {A : Type 0} {a b : A} {i j : ℕ} → got a i ≡ got b j → a ≡ b

@@ -92,7 +92,7 @@ stored s l w b p q r =
     ∙ ap (judged s l b) r
 
 -- What an accepted store is: its words are the first w, and they lie within its blocks.
-pub record Holds (s : List ℕ) (w : ℕ) : Type 0 where
+pub record StoreHolds (s : List ℕ) (w : ℕ) : Type 0 where
   pub words : store-words s ≡ accepted (tabulate w (word-at s))
   pub short : length s ≤ 8192
   pub within : w ≤ 253 * (length s / 512)
@@ -112,7 +112,7 @@ some-words s n w e = ltb-true 0 w (and-both _ _ e .0)
 
 module _ (s ws : List ℕ) where
   holds-by : (l t : Bool) (b : Answer Unit) → length-right (length s) ≡ l → count-right s (blocks-in s) (word-at s 0) ≡ t
-      → store-words s ≡ judged s l b t → judged s l b t ≡ accepted ws → Holds s (length ws)
+      → store-words s ≡ judged s l b t → judged s l b t ≡ accepted ws → StoreHolds s (length ws)
   holds-by false t b p q r e = absurd (clash (cc))
   holds-by true t (refused m n) p q r e = absurd (clash (cc))
   holds-by true false (accepted u) p q r e = absurd (clash (cc))
@@ -127,7 +127,7 @@ module _ (s ws : List ℕ) where
         some = rw k (some-words s (blocks-in s) (word-at s 0) q);
       }
 
-  pub holds : store-words s ≡ accepted ws → Holds s (length ws)
+  pub holds : store-words s ≡ accepted ws → StoreHolds s (length ws)
   holds e =
       let r = stored s _ _ _ refl refl refl in
       holds-by _ _ (blocks-checked s (blocks-in s)) refl refl r (sym r ∙ e)

@@ -14,7 +14,7 @@ use Rattle.format.specs.Read.{Read, got, bad, Reader, read-then, expect,
 use Rattle.format.specs.Read.{block, terminator, read-region, opcode-for, fewest-values, most-values, fewest-targets, most-targets}
 use Rattle.format.specs.Read.{edges-passed, control-inst, settle, regions-from, head, Head, read-record}
 use Rattle.meaning.specs.facts.Tests.{clash, and-both}
-use Rattle.format.specs.laws.Readers.{part, got-value, many-length}
+use Rattle.format.specs.laws.Readers.{part, expected, got-value, many-length}
 use Rattle.meaning.specs.Lists.{All, Within, distinct-from, rank}
 
 -- The bounds of what `within` gives.
@@ -24,13 +24,9 @@ within-bounds low high ws at {n} {e} h =
     let a = part (word ws at) (λ m i. read-then (expect (leb low m && leb m high) ws i) λ u j. got m j) n e h in
     let b = part (expect (leb low (a .value) && leb (a .value) high) ws (a .place)) (λ u j. got (a .value) j) n e (a .second) in
     let same : a .value ≡ n = cc in
-    let holds = passed (leb low (a .value) && leb (a .value) high) ws (a .place) (b .first) in
+    let holds = expected (leb low (a .value) && leb (a .value) high) ws (a .place) (b .first) in
     rw same at (bounds (a .value) holds)
   where
-    passed : (t : Bool) (ws : List ℕ) (i : ℕ) {u : Unit} {j : ℕ} → expect t ws i ≡ got u j → t ≡ true
-    passed true ws i q = refl
-    passed false ws i q = absurd (clash (cc))
-
     bounds : (m : ℕ) → (leb low m && leb m high) ≡ true → Within low high m
     bounds m q =
         let both = and-both (leb low m) (leb m high) q in

@@ -18,56 +18,56 @@ use Rattle.format.specs.Read.{read-value, instruction, block, opcode-for
 use Rattle.format.specs.Read.{terminator, read-region, settle, regions-from, Head, head, read-record}
 
 -- What is read of a part of the words, the part at place o, is read of all of them; where the part is too short nothing is said.
-abbrev Moves : {A : Type 0} → ℕ → Read A → Read A → Type 0
-Moves o (got a at) s = s ≡ got a (o + at)
-Moves o (bad n) s = Unit
+abbrev MovesBy : {A : Type 0} → ℕ → Read A → Read A → Type 0
+MovesBy o (got a at) s = s ≡ got a (o + at)
+MovesBy o (bad n) s = Unit
 
-follow-moves : {A B : Type 0} (o : ℕ) (r s : Read A) (k l : A → ℕ → Read B) → Moves o r s
-    → ((a : A) (at : ℕ) → Moves o (k a at) (l a (o + at)))
-    → Moves o (read-then r k) (read-then s l)
+follow-moves : {A B : Type 0} (o : ℕ) (r s : Read A) (k l : A → ℕ → Read B) → MovesBy o r s
+    → ((a : A) (at : ℕ) → MovesBy o (k a at) (l a (o + at)))
+    → MovesBy o (read-then r k) (read-then s l)
 follow-moves o (got a at) s k l h more = rw h (more a at)
 follow-moves o (bad n) s k l h more = tt
 
-record Part (o : ℕ) (us ws : List ℕ) : Type 0 where
+record PartOf (o : ℕ) (us ws : List ℕ) : Type 0 where
   pub same : (i : ℕ) → i < length us → getD ws (o + i) 0 ≡ getD us i 0
   pub room : length us ≤ length ws - o
 
-module _ (o : ℕ) (us ws : List ℕ) (part : Part o us ws) where
-  expect-moves : (b : Bool) (i : ℕ) → Moves o (expect b us i) (expect b ws (o + i))
+module _ (o : ℕ) (us ws : List ℕ) (part : PartOf o us ws) where
+  expect-moves : (b : Bool) (i : ℕ) → MovesBy o (expect b us i) (expect b ws (o + i))
   expect-moves true i = refl
   expect-moves false i = tt
 
-  word-moves : (i : ℕ) → Moves o (word us i) (word ws (o + i))
+  word-moves : (i : ℕ) → MovesBy o (word us i) (word ws (o + i))
   unfolding word
   word-moves i = by-test (ltb i (length us)) refl
     where
       by-test : (b : Bool) → ltb i (length us) ≡ b
-          → Moves {A = ℕ} o (elim b [ true ↦ got (getD us i 0) (i + 1) | false ↦ bad 4 ])
+          → MovesBy {A = ℕ} o (elim b [ true ↦ got (getD us i 0) (i + 1) | false ↦ bad 4 ])
           (elim (ltb (o + i) (length ws)) [ true ↦ got (getD ws (o + i) 0) (o + i + 1) | false ↦ bad 4 ])
       by-test true e =
           let l = ltb-true i (length us) e in
           rw (lt-ltb (o + i) (length ws) (omega (arith, part .room)), part .same i l, add-assoc o i 1)
       by-test false e = tt
 
-  within-moves : (low high i : ℕ) → Moves o (within low high us i) (within low high ws (o + i))
+  within-moves : (low high i : ℕ) → MovesBy o (within low high us i) (within low high ws (o + i))
   unfolding within
   within-moves low high i =
       follow-moves o (word us i) _ _ _ (word-moves i) λ n j.
       follow-moves o (expect (leb low n && leb n high) us j) _ _ _ (expect-moves (leb low n && leb n high) j) λ u k. refl
 
-  many-moves : {A : Type 0} (p : Reader A) → ((i : ℕ) → Moves o (p us i) (p ws (o + i))) → (n i : ℕ)
-      → Moves o (many n p us i) (many n p ws (o + i))
+  many-moves : {A : Type 0} (p : Reader A) → ((i : ℕ) → MovesBy o (p us i) (p ws (o + i))) → (n i : ℕ)
+      → MovesBy o (many n p us i) (many n p ws (o + i))
   unfolding many
   many-moves p h zero i = refl
   many-moves p h (suc n) i =
       follow-moves o (p us i) _ _ _ (h i) λ x j. follow-moves o (many n p us j) _ _ _ (many-moves p h n j) λ xs k. refl
 
-  counted-moves : {A : Type 0} (low high : ℕ) (p : Reader A) → ((i : ℕ) → Moves o (p us i) (p ws (o + i))) → (i : ℕ)
-      → Moves o (counted low high p us i) (counted low high p ws (o + i))
+  counted-moves : {A : Type 0} (low high : ℕ) (p : Reader A) → ((i : ℕ) → MovesBy o (p us i) (p ws (o + i))) → (i : ℕ)
+      → MovesBy o (counted low high p us i) (counted low high p ws (o + i))
   unfolding counted
   counted-moves low high p h i = follow-moves o (within low high us i) _ _ _ (within-moves low high i) λ n j. many-moves p h n j
 
-  value-moves : (i : ℕ) → Moves o (read-value us i) (read-value ws (o + i))
+  value-moves : (i : ℕ) → MovesBy o (read-value us i) (read-value ws (o + i))
   unfolding read-value
   value-moves i =
       follow-moves o (word us i) _ _ _ (word-moves i) λ k j.
@@ -76,7 +76,7 @@ module _ (o : ℕ) (us ws : List ℕ) (part : Part o us ws) where
       follow-moves o (word us m) _ _ _ (word-moves m) λ n q.
       follow-moves o (expect (index-right k n) us q) _ _ _ (expect-moves (index-right k n) q) λ v x. refl
 
-  instruction-moves : (i : ℕ) → Moves o (instruction us i) (instruction ws (o + i))
+  instruction-moves : (i : ℕ) → MovesBy o (instruction us i) (instruction ws (o + i))
   unfolding instruction
   instruction-moves i =
       follow-moves o (word us i) _ _ _ (word-moves i) λ opcode j.
@@ -84,20 +84,20 @@ module _ (o : ℕ) (us ws : List ℕ) (part : Part o us ws) where
       follow-moves o (word us k) _ _ _ (word-moves k) λ cost l.
       follow-moves o (counted 0 3 read-value us l) _ _ _ (counted-moves 0 3 read-value value-moves l) λ reads m. refl
 
-  block-moves : (i : ℕ) → Moves o (block us i) (block ws (o + i))
+  block-moves : (i : ℕ) → MovesBy o (block us i) (block ws (o + i))
   unfolding block
   block-moves i = counted-moves 1 8 instruction instruction-moves i
 
-  opcode-moves : (k i : ℕ) → Moves o (opcode-for k us i) (opcode-for k ws (o + i))
+  opcode-moves : (k i : ℕ) → MovesBy o (opcode-for k us i) (opcode-for k ws (o + i))
   unfolding opcode-for
   opcode-moves k i = by-test (eqb k 2)
     where
-      by-test : (b : Bool) → Moves {A = ℕ} o (elim b [ true ↦ word us i | false ↦ got 0 i ])
+      by-test : (b : Bool) → MovesBy {A = ℕ} o (elim b [ true ↦ word us i | false ↦ got 0 i ])
           (elim b [ true ↦ word ws (o + i) | false ↦ got 0 (o + i) ])
       by-test true = word-moves i
       by-test false = refl
 
-  terminator-moves : (i : ℕ) → Moves o (terminator us i) (terminator ws (o + i))
+  terminator-moves : (i : ℕ) → MovesBy o (terminator us i) (terminator ws (o + i))
   unfolding terminator
   terminator-moves i =
       follow-moves o (within 0 5 us i) _ _ _ (within-moves 0 5 i) λ k j.
@@ -107,11 +107,11 @@ module _ (o : ℕ) (us ws : List ℕ) (part : Part o us ws) where
       follow-moves o (many (length (distinct-from [] ts)) (counted 0 4 read-value) us n) _ _ _
       (many-moves (counted 0 4 read-value) (counted-moves 0 4 read-value value-moves) (length (distinct-from [] ts)) n) λ passes q. refl
 
-  type-moves : (i : ℕ) → Moves o (type us i) (type ws (o + i))
+  type-moves : (i : ℕ) → MovesBy o (type us i) (type ws (o + i))
   unfolding type
   type-moves i = within-moves 1 255 i
 
-  region-moves : (i : ℕ) → Moves o (read-region us i) (read-region ws (o + i))
+  region-moves : (i : ℕ) → MovesBy o (read-region us i) (read-region ws (o + i))
   unfolding read-region
   region-moves i =
       follow-moves o (counted 0 4 type us i) _ _ _ (counted-moves 0 4 type type-moves i) λ inputs j.
@@ -121,7 +121,7 @@ module _ (o : ℕ) (us ws : List ℕ) (part : Part o us ws) where
       follow-moves o (counted 0 32 word us m) _ _ _ (counted-moves 0 32 word word-moves m) λ exits n. refl
 
 -- ---- a region by the words in front of its place
-front-part : (n : ℕ) (ws : List ℕ) (at : ℕ) → Part at (take n (drop at ws)) ws
+front-part : (n : ℕ) (ws : List ℕ) (at : ℕ) → PartOf at (take n (drop at ws)) ws
 front-part n ws at =
     let long = length-take n (drop at ws) in
     let rest = length-drop at ws in
@@ -135,7 +135,7 @@ abbrev or-read : {A : Type 0} → ℕ → Read A → Read A → Read A
 or-read o (got a at) s = got a (o + at)
 or-read o (bad n) s = s
 
-or-same : {A : Type 0} (o : ℕ) (r s : Read A) → Moves o r s → s ≡ or-read o r s
+or-same : {A : Type 0} (o : ℕ) (r s : Read A) → MovesBy o r s → s ≡ or-read o r s
 or-same o (got a at) s h = h
 or-same o (bad n) s h = refl
 
@@ -147,7 +147,7 @@ same-region n ws at =
     let here : at + 0 ≡ at = omega arith in
     let us = take n (drop at ws) in
     or-same at (read-region us 0) (read-region ws at)
-    (subst (λ k. Moves at (read-region us 0) (read-region ws k)) here (region-moves at us ws (front-part n ws at) 0))
+    (subst (λ k. MovesBy at (read-region us 0) (read-region ws k)) here (region-moves at us ws (front-part n ws at) 0))
 
 -- `size` words in front of each region
 module _ (size : ℕ) where

@@ -2,14 +2,14 @@ use Prim.Native.Nat.{_≤_, _-_}
 use native.Mathlib.Omega.{arith}
 use Rattle.nesting.specs.Nesting.{exit-targets}
 use Rattle.record.specs.Stands.{OfRecord}
-use Rattle.incoming.specs.Counted.{Counting, Grows, counting-start, counting-turn, counting-end}
+use Rattle.incoming.specs.Counted.{CountedUpTo, Grows, counting-start, counting-turn, counting-end}
 use Rattle.incoming.specs.Counted.{grows-start, grows-turn, grows-most, grown}
 use borrow.Author.Needs.{needs}
 use Rattle.incoming.proofs.count_exits.Statement.{statement}
 use Rattle.incoming.proofs.count_exits.Tie as tie
 
 abbrev Inv-loop : tie.InvT-loop
-Inv-loop w r counts₀ n k₀ counts k = (k ≤ n) × Grows counts₀ counts k × OfRecord w (λ g. Counting counts₀ counts k (exit-targets g r))
+Inv-loop w r counts₀ n k₀ counts k = (k ≤ n) × Grows counts₀ counts k × OfRecord w (λ g. CountedUpTo counts₀ counts k (exit-targets g r))
 
 abbrev μ-loop : tie.MeasureT-loop
 μ-loop w r counts₀ n k₀ counts k = n - k

@@ -4,14 +4,14 @@ use Prim.Native.Nat.{_≤_, _-_}
 use native.Mathlib.Omega.{arith}
 use Rattle.meaning.specs.Graph.{targets-of}
 use Rattle.record.specs.Stands.{OfRecord}
-use Rattle.incoming.specs.Counted.{Counting, Grows, counting-start, counting-turn, counting-end}
+use Rattle.incoming.specs.Counted.{CountedUpTo, Grows, counting-start, counting-turn, counting-end}
 use Rattle.incoming.specs.Counted.{grows-start, grows-turn, grows-most, grown, targets-counted}
 use borrow.Author.Needs.{needs}
 use Rattle.incoming.proofs.count_targets.Statement.{statement}
 use Rattle.incoming.proofs.count_targets.Tie as tie
 
 abbrev Inv-loop : tie.InvT-loop
-Inv-loop w r counts₀ n j₀ counts j = (j ≤ n) × Grows counts₀ counts j × OfRecord w (λ g. Counting counts₀ counts j (targets-of g r))
+Inv-loop w r counts₀ n j₀ counts j = (j ≤ n) × Grows counts₀ counts j × OfRecord w (λ g. CountedUpTo counts₀ counts j (targets-of g r))
 
 abbrev μ-loop : tie.MeasureT-loop
 μ-loop w r counts₀ n j₀ counts j = n - j

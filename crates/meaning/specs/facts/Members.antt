@@ -54,6 +54,14 @@ in-times r (x ∷ xs) p = go (eqb r x) p (λ h. in-times r xs h)
     go true h ih = omega arith
     go false h ih = let z = ih h in omega arith
 
+pub times-few : (r : ℕ) (xs : List ℕ) → times-in r xs ≤ length xs
+times-few r [] = omega arith
+times-few r (x ∷ xs) = let z = times-few r xs in go (eqb r x) z
+  where
+    go : (b : Bool) → times-in r xs ≤ length xs → pick b 1 0 + times-in r xs ≤ suc (length xs)
+    go true z = omega arith
+    go false z = omega arith
+
 pub is-in-at : (xs : List ℕ) (k : ℕ) → k < length xs → is-in (getD xs k 0) xs ≡ true
 is-in-at [] k l = absurd (omega arith)
 is-in-at (x ∷ xs) zero l = in-front x xs

@@ -9,7 +9,7 @@ use lib.Dec.{eqb}
 use borrow.Author.Tests.{eqb-true, eqb-false}
 use Rattle.meaning.specs.Lists.{is-in, Distinct, total}
 use Rattle.meaning.specs.facts.Tests.{clash}
-use Rattle.meaning.specs.facts.Members.{FirstOrRest, first, rest, first-or-rest}
+use Rattle.meaning.specs.facts.Members.{FirstOrRest, first, rest, first-or-rest, in-front, in-rest}
 
 pub total-less : (f h : ℕ → ℕ) → ((i : ℕ) → f i ≤ h i) → (l : List ℕ) → total f l ≤ total h l
 total-less f h p [] = omega arith
@@ -26,6 +26,13 @@ total-add f h (x ∷ l) = let b = total-add f h l in omega arith
 pub total-each : (k : ℕ) (l : List ℕ) → total (λ i. k) l ≡ length l * k
 total-each k [] = omega arith
 total-each k (x ∷ l) = let b = total-each k l in omega arith
+
+-- Each of a list adds at most so much.
+pub total-within : (f : ℕ → ℕ) (most : ℕ) (l : List ℕ) → ((i : ℕ) → is-in i l ≡ true → f i ≤ most) → total f l ≤ length l * most
+total-within f most [] h = omega arith
+total-within f most (x ∷ l) h =
+    let a = h x (in-front x l) in
+    let b = total-within f most l (λ i m. h i (in-rest i x l m)) in omega arith
 
 pub total-one : (f : ℕ → ℕ) (r : ℕ) (l : List ℕ) → is-in r l ≡ true → f r ≤ total f l
 total-one f r [] i = absurd (clash (cc))

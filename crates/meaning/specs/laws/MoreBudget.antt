@@ -14,25 +14,25 @@ use Rattle.meaning.specs.Runs.{run-nodes, run-case, after-last, start, n
 use Rattle.meaning.specs.facts.Tests.{clash}
 
 -- The first came to nothing (to `gone`), or the second is the same.
-data Stays {A : Type 0} (gone : A) : A → A → Type 0 where
-  nothing : {y : A} → Stays gone gone y
-  same : {x : A} → Stays gone x x
+data StaysAs {A : Type 0} (gone : A) : A → A → Type 0 where
+  nothing : {y : A} → StaysAs gone gone y
+  same : {x : A} → StaysAs gone x x
 
 -- ---- the graph's run
-came : {x y : Option Ended} {r : Ended} → Stays none x y → x ≡ some r → y ≡ some r
+came : {x y : Option Ended} {r : Ended} → StaysAs none x y → x ≡ some r → y ≡ some r
 came nothing e = cc
 came same e = e
 
 abbrev AllStay : GoesOn → GoesOn → Type 0
-AllStay go go′ = (r : ℕ) (ws : List Word) (h : List Event) → Stays none (go r ws h) (go′ r ws h)
+AllStay go go′ = (r : ℕ) (ws : List Word) (h : List Event) → StaysAs none (go r ws h) (go′ r ws h)
 
 along-stays : {go go′ : GoesOn} (σ : Env) (h : List Event) (e : Option Edge) → AllStay go go′
-    → Stays none (along go σ h e) (along go′ σ h e)
+    → StaysAs none (along go σ h e) (along go′ σ h e)
 along-stays σ h none s = nothing
 along-stays σ h (some e) s = s _ _ _
 
 by-terminator-stays : {go go′ : GoesOn} (σ : Env) (h : List Event) (c : ControlInst) → AllStay go go′
-    → Stays none (by-terminator go σ h c) (by-terminator go′ σ h c)
+    → StaysAs none (by-terminator go σ h c) (by-terminator go′ σ h c)
 by-terminator-stays σ h unreachable s = nothing
 by-terminator-stays σ h (return vs) s = same
 by-terminator-stays σ h (exit-invocation op vs) s = same
@@ -53,22 +53,22 @@ graph-run-stays g x m n r l = came (run-from-stays (x .rule) g (base-env x) m n 
 -- ---- the nested run
 -- How two ways to run agree wherever the first comes to something.
 abbrev StepsStay : (RunState → Ran) → (RunState → Ran) → Type 0
-StepsStay f f′ = (s : RunState) → Stays (no-end turns-used-up) (f s) (f′ s)
+StepsStay f f′ = (s : RunState) → StaysAs (no-end turns-used-up) (f s) (f′ s)
 
-and-then-stays : {x y : Ran} {f f′ : RunState → Ran} → Stays (no-end turns-used-up) x y → StepsStay f f′
-    → Stays (no-end turns-used-up) (and-then x f) (and-then y f′)
+and-then-stays : {x y : Ran} {f f′ : RunState → Ran} → StaysAs (no-end turns-used-up) x y → StepsStay f f′
+    → StaysAs (no-end turns-used-up) (and-then x f) (and-then y f′)
 and-then-stays nothing t = nothing
 and-then-stays (same {x = through s}) t = t s
 and-then-stays (same {x = ended e s}) t = same
 and-then-stays (same {x = no-end x}) t = same
 
-tested-stays : (w : Word) {f f′ : ℕ → Ran} → ((n : ℕ) → Stays (no-end turns-used-up) (f n) (f′ n))
-    → Stays (no-end turns-used-up) (tested w f) (tested w f′)
+tested-stays : (w : Word) {f f′ : ℕ → Ran} → ((n : ℕ) → StaysAs (no-end turns-used-up) (f n) (f′ n))
+    → StaysAs (no-end turns-used-up) (tested w f) (tested w f′)
 tested-stays mark t = same
 tested-stays (word n) t = t n
 
 once-more-stays : (vs : List Value) (w : ℕ) (s : RunState) {f f′ : RunState → Ran} → StepsStay f f′
-    → Stays (no-end turns-used-up) (once-more f vs w s) (once-more f′ vs w s)
+    → StaysAs (no-end turns-used-up) (once-more f vs w s) (once-more f′ vs w s)
 once-more-stays vs zero s t = same
 once-more-stays vs (suc w) s t = t s
 
@@ -103,12 +103,12 @@ module _ (rule : Rule) (test-cost : ℕ) where
       case-stays (case c ks cs) zero os s = and-then-stays (nodes-stay ks s) λ s′. same
       case-stays (case c ks cs) (suc j) os s = case-stays cs j os s
 
-after-last-stays : {x y : Ran} (outs : Option (List Value)) → Stays (no-end turns-used-up) x y
-    → Stays (without-end turns-used-up) (after-last outs x) (after-last outs y)
+after-last-stays : {x y : Ran} (outs : Option (List Value)) → StaysAs (no-end turns-used-up) x y
+    → StaysAs (without-end turns-used-up) (after-last outs x) (after-last outs y)
 after-last-stays outs nothing = nothing
 after-last-stays outs same = same
 
-came-to : {x y r : NestedRun} → Stays (without-end turns-used-up) x y → (r ≡ without-end turns-used-up → ⊥) → x ≡ r → y ≡ r
+came-to : {x y r : NestedRun} → StaysAs (without-end turns-used-up) x y → (r ≡ without-end turns-used-up → ⊥) → x ≡ r → y ≡ r
 came-to nothing n e = absurd (n (sym e))
 came-to same n e = e
 

@@ -12,21 +12,22 @@ use Rattle.cfg.specs.Turns.{begun-steady, region-refused, region-full, a
 use Rattle.cfg.specs.Turns.{attempted-on, claim-nowhere, claim-later, not-begun-yet, claim-inside, claim-first}
 use borrow.Fn.Kinds.{In}
 use borrow.Fn.PlainCycle.{Measures, is, falls, and}
+use Rattle.cfg.proofs.claims.+resolve_deferred+split_out_matching+structurize_region+target_regions+try_claim_edge_bundle as cycle
 use Rattle.cfg.proofs.claims.resolve_deferred.Reads as resolve-deferred
 use Rattle.cfg.proofs.claims.resolve_deferred.Kinds as resolve-deferred-kinds
-use Rattle.cfg.proofs.claims.+resolve_deferred+split_out_matching+structurize_region+target_regions+try_claim_edge_bundle.Lts-resolve_deferred as resolve-deferred-lts
+use cycle.Lts-resolve_deferred as resolve-deferred-lts
 use Rattle.cfg.proofs.claims.split_out_matching.Reads as split-out-matching
 use Rattle.cfg.proofs.claims.split_out_matching.Kinds as split-out-matching-kinds
-use Rattle.cfg.proofs.claims.+resolve_deferred+split_out_matching+structurize_region+target_regions+try_claim_edge_bundle.Lts-split_out_matching as split-out-matching-lts
+use cycle.Lts-split_out_matching as split-out-matching-lts
 use Rattle.cfg.proofs.claims.structurize_region.Reads as structurize-region
 use Rattle.cfg.proofs.claims.structurize_region.Kinds as structurize-region-kinds
-use Rattle.cfg.proofs.claims.+resolve_deferred+split_out_matching+structurize_region+target_regions+try_claim_edge_bundle.Lts-structurize_region as structurize-region-lts
+use cycle.Lts-structurize_region as structurize-region-lts
 use Rattle.cfg.proofs.claims.target_regions.Reads as target-regions
 use Rattle.cfg.proofs.claims.target_regions.Kinds as target-regions-kinds
-use Rattle.cfg.proofs.claims.+resolve_deferred+split_out_matching+structurize_region+target_regions+try_claim_edge_bundle.Lts-target_regions as target-regions-lts
+use cycle.Lts-target_regions as target-regions-lts
 use Rattle.cfg.proofs.claims.try_claim_edge_bundle.Reads as try-claim-edge-bundle
 use Rattle.cfg.proofs.claims.try_claim_edge_bundle.Kinds as try-claim-edge-bundle-kinds
-use Rattle.cfg.proofs.claims.+resolve_deferred+split_out_matching+structurize_region+target_regions+try_claim_edge_bundle.Lts-try_claim_edge_bundle as try-claim-edge-bundle-lts
+use cycle.Lts-try_claim_edge_bundle as try-claim-edge-bundle-lts
 use Rattle.cfg.proofs.claim.claim_by_state.Reads as claim-by-state-reads
 use Rattle.cfg.proofs.claim.count.Reads as count-reads
 use Rattle.cfg.proofs.claim.unclaimed_edge.Reads as unclaimed-edge-reads
@@ -46,12 +47,8 @@ use Rattle.state.proofs.sets.bundle_at.Reads as bundle-at-reads
 use Rattle.state.proofs.sets.set_length.Reads as set-length-reads
 use Rattle.state.proofs.sets.set_start.Reads as set-start-reads
 use Rattle.state.proofs.sets.target.Reads as sets-target-reads
-use Rattle.cfg.proofs.claims.+resolve_deferred+split_out_matching+structurize_region+target_regions+try_claim_edge_bundle.{
-  statement,
-}
-use Rattle.cfg.proofs.claims.+resolve_deferred+split_out_matching+structurize_region+target_regions+try_claim_edge_bundle.Tie.{
-  close,
-}
+use cycle.{statement}
+use cycle.Tie.{close}
 
 abbrev μ-resolve-deferred : Measures 1 resolve-deferred-kinds.ps ℕ
 μ-resolve-deferred κs a = 5 * left (now (a .0)) + 4

@@ -1,13 +1,13 @@
 use Prim.Native.Nat.{_-_, _≤_}
 use native.Mathlib.Omega.{arith}
-use Rattle.selects.specs.Turns.{GoesOn, begins, turned, refused, over}
-use Rattle.selects.specs.Cases.{CaseRegion}
+use Rattle.selects.specs.Turns.{TurnsOn, begins, turned, refused, over}
+use Rattle.selects.specs.Cases.{GetsRegion}
 use borrow.Author.Needs.{needs}
 use Rattle.selects.proofs.cases.case_regions.Statement.{statement}
 use Rattle.selects.proofs.cases.case_regions.Tie as tie
 
 abbrev Inv-loop : tie.InvT-loop
-Inv-loop w₀ n j₀ w j = (j ≤ n) × GoesOn CaseRegion n j w₀ w
+Inv-loop w₀ n j₀ w j = (j ≤ n) × TurnsOn GetsRegion n j w₀ w
 
 abbrev μ-loop : tie.MeasureT-loop
 μ-loop w₀ n j₀ w j = n - j

@@ -1,12 +1,17 @@
 -- Numbers below a bound, no two the same, are at most as many as the bound.
-use mathlib.Core.Path.{_≡_, sym, _∙_}
+use mathlib.Core.Path.{_≡_, sym, ap, _∙_}
+use mathlib.Core.Bool.{true, false}
+use mathlib.Core.List.{List, [], _∷_}
 use mathlib.Core.Logic.{_⊎_, inl, inr}
 use Prim.Native.Nat.{ℕ, zero, suc, _-_, _≤_, _<_}
 use native.Mathlib.Omega.{arith}
 use native.Mathlib.Decide.{decLt, ℕ-discrete}
+use lib.ListN.{length, getD}
 use lib.Dec.{eqb}
 use borrow.Author.Tests.{eq-eqb, ne-eqb}
-use Rattle.meaning.specs.Lists.{pick}
+use Rattle.meaning.specs.Lists.{pick, is-in, Distinct}
+use Rattle.meaning.specs.facts.Tests.{clash}
+use Rattle.meaning.specs.facts.Members.{is-in-at}
 
 pub record FoundAt (f : ℕ → ℕ) (n v : ℕ) : Type 0 where
   pub place : ℕ
@@ -73,3 +78,19 @@ pigeonhole (suc bound) n f below apart = go (look-for f n bound)
             | no v ↦ differ i j (omega arith) (omega arith) (omega arith) (sym (moved-other f p last i u) ∙ e ∙ moved-other f p last j v)
           ]
         ]) in omega arith
+
+-- ---- The same of a list in which each stands once.
+not-in-at : (x : ℕ) (xs : List ℕ) → is-in x xs ≡ false → (i : ℕ) → i < length xs → x ≡ getD xs i 0 → ⊥
+not-in-at x xs f i h e =
+    let z : is-in x xs ≡ true = ap (λ y. is-in y xs) e ∙ is-in-at xs i h in
+    clash (cc)
+
+places-apart : (xs : List ℕ) → Distinct xs → (i j : ℕ) → i < j → j < length xs → getD xs i 0 ≡ getD xs j 0 → ⊥
+places-apart [] d i j l h e = absurd (omega arith)
+places-apart (x ∷ xs) d i zero l h e = absurd (omega arith)
+places-apart (x ∷ xs) d zero (suc j) l h e = not-in-at x xs (d .0) j (omega arith) e
+places-apart (x ∷ xs) d (suc i) (suc j) l h e = places-apart xs (d .1) i j (omega arith) (omega arith) e
+
+pub distinct-few : (bound : ℕ) (xs : List ℕ) → Distinct xs → ((x : ℕ) → is-in x xs ≡ true → x < bound) → length xs ≤ bound
+distinct-few bound xs d below =
+    pigeonhole bound (length xs) (λ i. getD xs i 0) (λ i h. below (getD xs i 0) (is-in-at xs i h)) (places-apart xs d)
