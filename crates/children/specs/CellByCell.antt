@@ -1,10 +1,12 @@
 -- A list of nodes that the words show, cell by cell: the list before a cell, and what the cell adds to it, as the words have it.
-use mathlib.Core.Path.{_≡_, refl, sym, ap, _∙_}
-use mathlib.Core.List.{List, []}
+use mathlib.Core.Path.{_≡_, refl}
+use mathlib.Core.Bool.{Bool, true, false}
+use mathlib.Core.List.{List}
 use Prim.Native.Nat.{ℕ, _+_, _*_, _≤_, _<_}
 use native.Mathlib.Omega.{arith}
-use lib.Dec.{eqb}
 use native.Mathlib.Decide.{decLt}
+use lib.Dec.{eqb}
+use lib.ListN.{length}
 use borrow.Author.Tests.{lt-ltb, le-ltb, eq-eqb, ne-eqb}
 use Rattle.meaning.specs.Lists.{pick}
 use Rattle.meaning.specs.Graph.{Value, SelectionKind, Graph, region, exit-invocation}
@@ -30,7 +32,7 @@ list-before w h = pick (eqb (cell-word w h 0) 5) 0 (list-at w h 1)
 
 -- The nodes that a cell with this tag adds to the list before it.
 pub data Added (g : Graph) (w : List ℕ) (h : ℕ) (ks : Nodes) : ℕ → Type 0 where
-  added-blocks : ks ≡ blocks-of g (cell-word w h 2) → Added g w h ks 1
+  added-blocks : 1 ≤ length (region g (cell-word w h 2) .blocks) → ks ≡ blocks-of g (cell-word w h 2) → Added g w h ks 1
   added-list : ShowsNodes g (section w cells) (list-at w h 2) ks → Added g w h ks 2
   added-exit : {op : ℕ} {vs : List Value} → region g (cell-word w h 3) .terminator ≡ exit-invocation op vs
       → ks ≡ exit (cell-word w h 2) op vs ▸ ⟨⟩ → Added g w h ks 3
@@ -57,6 +59,17 @@ pub earlier-below : (p h : ℕ) → 1 ≤ h → earlier p h < h
 unfolding earlier
 earlier-below p h b = elim (decLt p h) [ yes l ↦ rw (lt-ltb p h l) l | no n ↦ rw (le-ltb p h (omega arith)) b ]
 
+pub named-below : {p h : ℕ} (x : ℕ) → p ≡ earlier x h → 1 ≤ h → p < h
+named-below {p} {h} x e b = rw e (earlier-below x h b)
+
+pub before-below : {p h : ℕ} (w : List ℕ) → p ≡ list-before w h → 1 ≤ h → p < h
+unfolding list-before
+before-below {p} {h} w e b = rw e (go (eqb (cell-word w h 0) 5))
+  where
+    go : (t : Bool) → pick t 0 (list-at w h 1) < h
+    go true = b
+    go false = earlier-below (cell-word w h 1) h b
+
 earlier-is : {x p h : ℕ} → x ≡ p → p < h → earlier x h ≡ p
 unfolding earlier
 earlier-is {x} {p} {h} e l = rw (e, lt-ltb p h l)
@@ -73,8 +86,9 @@ module _ (w : List ℕ) {h : ℕ} where
 module _ {g : Graph} (w : List ℕ) {h : ℕ} where
   pub appended : {ks : Nodes} → ShowsNodes g (section w cells) h ks → 1 ≤ h → Appended g w h ks
   appended (no-nodes e) b = absurd (omega arith)
-  appended {ks} (all-blocks x _ _ e) b =
-      appends {ns = ⟨⟩} {ms = ks} (no-nodes (not-loop w x (omega arith) b)) (rw (x .is-tag) (added-blocks (rw (x .is-a) e))) refl
+  appended {ks} (all-blocks x _ some e) b =
+      appends {ns = ⟨⟩} {ms = ks} (no-nodes (not-loop w x (omega arith) b))
+      (rw (x .is-tag) (added-blocks (rw (x .is-a) some) (rw (x .is-a) e))) refl
   appended (two-lists {ns = ns} {ms = ms} x _ p _ q a b e) _ =
       appends {ns = ns} {ms = ms} (rw (not-loop w x (omega arith) p) a) (rw (x .is-tag) (added-list (rw (earlier-is (x .is-a) q) b))) e
   appended (then-exit {n = n} {op = op} {vs = vs} {ns = ns} x p a t e) _ =
