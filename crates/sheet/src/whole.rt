@@ -19,4 +19,3 @@ pub enum Sheet {
     Words(u32),
     TooFew,
 }
-
