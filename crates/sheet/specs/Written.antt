@@ -103,8 +103,13 @@ written-within out end (x ∷ ws) a b =
     let i = end - suc (length ws) in
     let more : end - length ws ≡ suc i = omega arith in
     let size : length (take i out) ≡ i = rw (length-take i out) (omega arith) in
-    rw (written-within out end ws (omega arith) b, more, take-suc out i 0 (omega arith), append-assoc (take i out) (getD out i 0 ∷ [])
-    (ws ++ drop end out)) (set-at (take i out) (getD out i 0) (ws ++ drop end out) x i size)
+    rw (
+      written-within out end ws (omega arith) b,
+      more,
+      take-suc out i 0 (omega arith),
+      append-assoc (take i out) (getD out i 0 ∷ [])
+          (ws ++ drop end out),
+    ) (set-at (take i out) (getD out i 0) (ws ++ drop end out) x i size)
 
 -- ---- Line 1 in front of the lines.
 number-of : Outcome → ℕ

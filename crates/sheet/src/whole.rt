@@ -13,6 +13,7 @@ pub enum Sheet {
     Words(u32),
     TooFew,
 }
+<<<<<<< HEAD
 
 // How many words were put, from FAR down.
 fn words_put(begin: usize) -> usize
@@ -33,3 +34,5 @@ fn lent(out: &[u32]) -> usize
     }
     MOST
 }
+=======
+>>>>>>> selects_lines
