@@ -1,4 +1,3 @@
-pub mod NodeParts
 pub mod SelectParts
 pub mod OwnOutputs
 pub mod CaseNumbers

@@ -20,7 +20,7 @@ use Rattle.writing.specs.Rows.{run, run-turn, run-all, run-list}
 use Rattle.writing.specs.Parts.{OfState, each, output-nodes, value-part, values-part}
 use Rattle.writing.specs.Outputs.{node-times}
 use Rattle.writing.specs.ValueShown.{place-shown}
-use Rattle.select_lines.specs.NodeParts.{values-counted}
+use Rattle.writing.specs.PartLaws.{values-counted}
 use Rattle.select_lines.specs.SelectParts.{output-types}
 
 -- At place j the words have, of each output of the node, the value that the definition takes there.
@@ -29,11 +29,9 @@ ValuesShown w s node j =
     (o : ℕ) → o < length (s .node-outputs) → getD (s .node-outputs) o no-output .node ≡ node
     → value (word w outputs (10 * o + 2 + j)) ≡ getD (getD (s .node-outputs) o no-output .values) j (undef 0)
 
--- So they have where none of these outputs has fewer values.
-pub values-shown : {w : List ℕ} {s : NestState} {node j : ℕ} → ShowsTables w s
-    → ((o : ℕ) → o < length (s .node-outputs) → getD (s .node-outputs) o no-output .node ≡ node
-    → j < length (getD (s .node-outputs) o no-output .values)) → ValuesShown w s node j
-values-shown {j = j} t most o h e = t .outputs-shown o h .values .each j (most o h e)
+-- So they have at all eight places.
+pub values-shown : {w : List ℕ} {s : NestState} {node j : ℕ} → ShowsTables w s → j < 8 → ValuesShown w s node j
+values-shown {j = j} t few o h e = t .outputs-shown o h .values .each j few
 
 abbrev pub PutsCaseOutputs : List ℕ → ℕ → ℕ → List ℕ → Place → List ℕ → Place → Type 0
 PutsCaseOutputs w node j out at out′ at′ =

@@ -13,7 +13,6 @@ pub enum Sheet {
     Words(u32),
     TooFew,
 }
-<<<<<<< HEAD
 
 // How many words were put, from FAR down.
 fn words_put(begin: usize) -> usize
@@ -34,5 +33,3 @@ fn lent(out: &[u32]) -> usize
     }
     MOST
 }
-=======
->>>>>>> selects_lines
