@@ -2,12 +2,12 @@
 use mathlib.Core.Path.{_≡_, refl, sym, ap, _∙_}
 use mathlib.Core.Bool.{Bool, true, false}
 use mathlib.Core.List.{List, [], _∷_, _++_, map, map-append, append-assoc, append-nil}
-use Prim.Native.Nat.{ℕ, suc, _+_, _*_, _≤_, _<_}
+use Prim.Native.Nat.{ℕ, _+_, _≤_, _<_}
 use native.Mathlib.Omega.{arith}
 use lib.ListN.{length, getD, length-map}
 use borrow.Author.Tests.{lt-ltb}
-use Rattle.meaning.specs.Graph.{Value, Graph, region, input}
-use Rattle.meaning.specs.Lists.{pick, any, concat}
+use Rattle.meaning.specs.Graph.{Value, Graph, region}
+use Rattle.meaning.specs.Lists.{pick, concat}
 use Rattle.nesting.specs.Nesting.{NestState, plain, LoopInputs}
 use Rattle.state.specs.Sections.{section, cells}
 use Rattle.state.specs.Tables.{earlier}
@@ -16,7 +16,7 @@ use Rattle.shown.specs.Values.{value, value-input}
 use Rattle.shown.specs.Cells.{ShowsKept, none-kept, one-kept}
 use Rattle.children.specs.CellByCell.{cell-word, list-at, earlier-below}
 use Rattle.writing.specs.declared.place.Place.{Place}
-use Rattle.writing.specs.Puts.{Part, _⊕_, Puts, puts-then, puts-none, puts-as}
+use Rattle.writing.specs.Puts.{Part, _⊕_, Puts, puts-then, puts-none}
 use Rattle.writing.specs.PartLaws.{each-plain, values-counted}
 use Rattle.writing.specs.Parts.{each, value-part, values-part}
 

@@ -1,6 +1,6 @@
 -- The two lines of a loop, its own and its body's region line.
-use mathlib.Core.Path.{_≡_, refl, sym, ap, _∙_}
-use mathlib.Core.Bool.{Bool, true, false, _||_, or-assoc, or-comm}
+use mathlib.Core.Path.{_≡_, refl}
+use mathlib.Core.Bool.{Bool, true, false, _||_}
 use mathlib.Core.List.{List, [], _∷_, append-assoc}
 use Prim.Native.Nat.{ℕ}
 use Rattle.meaning.specs.Runs.{Nodes, loop, LoopNode}
@@ -10,7 +10,8 @@ use Rattle.writing.specs.PartLaws.{kids-looked-up}
 use Rattle.writing.specs.Parts.{most, output-nodes, look-up-at-end, value-part, values-part, node-part, nodes-part, region-part}
 use Rattle.writing.specs.Parts.{loop-words, node-words}
 
-part-same : {xs ys : List ℕ} {p q : Bool} → xs ≡ ys → p ≡ q → _≡_ {A = Part} (record { value = xs; twice = p }) (record { value = ys; twice = q })
+part-same : {xs ys : List ℕ} {p q : Bool} → xs ≡ ys → p ≡ q
+    → _≡_ {A = Part} (record { value = xs; twice = p }) (record { value = ys; twice = q })
 part-same e f = rw (e, f)
 
 -- The notes of a loop's lines and of its body's nodes, in another order.

@@ -1,5 +1,4 @@
 use borrow.Author.Needs.{needs}
-use Rattle.meaning.specs.facts.Tests.{picked, passed-over}
 use Rattle.loop_lines.specs.Kept.{kept-word}
 use Rattle.loop_lines.proofs.kept.kept_value.Statement.{statement}
 use Rattle.loop_lines.proofs.kept.kept_value.Tie as tie

@@ -52,7 +52,8 @@ loop-again c =
     let test = number .before .before in
     let turn = test .before in (
       λ g s x. cells-turn _ _ _ _ _ (turn .loop .inv .0 g s x) (test .loop-test .taken)
-          (rw (type .input-type .ensures g (x .state .stands), number .cell-a .ensures) at (put .put-word .ensures)) (c .cell-before .ensures) refl,
+          (rw (type .input-type .ensures g (x .state .stands), number .cell-a .ensures) at (put .put-word .ensures))
+          (c .cell-before .ensures) refl,
       omega (arith, before-falls _ (c .cell-before .ensures) (test .loop-test .taken)),
       search needs,
     )
