@@ -8,13 +8,13 @@ use borrow.Author.Tests.{eq-eqb, ne-eqb}
 use native.Mathlib.Omega.{arith}
 use Rattle.meaning.specs.Lists.{pick}
 use Rattle.meaning.specs.Graph.{Graph, Value, SelectionKind}
-use Rattle.meaning.specs.Runs.{Nodes, Cases}
+use Rattle.meaning.specs.Runs.{Nodes, Cases, case-count}
 use Rattle.nesting.specs.Nesting.{NestState, plain, case-outputs}
 use Rattle.nesting.specs.Sheet as sheet
 use Rattle.state.specs.Sections.{section, cells}
 use Rattle.shown.specs.Values.{value}
 use Rattle.shown.specs.Tables.{ShowsShape, shape-bool, shape-number}
-use Rattle.shown.specs.Cells.{ShowsNodes, ShowsCaseCells, case-count}
+use Rattle.shown.specs.Cells.{ShowsNodes, ShowsCaseCells}
 use Rattle.children.specs.CellByCell.{cell-word, list-at}
 use Rattle.writing.specs.declared.place.Place.{Place}
 use Rattle.writing.specs.Puts.{Part, _⊕_, Puts, puts-then, puts-as}
