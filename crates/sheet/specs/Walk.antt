@@ -19,12 +19,12 @@ use Rattle.children.specs.CellByCell.{Added, added-blocks, added-list, added-ex
 use Rattle.children.specs.CellByCell.{FirstCase, case-first, first-case, cell-word, list-at, list-before}
 use Rattle.writing.specs.declared.place.Place.{Place}
 use Rattle.writing.specs.Puts.{Part, _⊕_, Puts, puts-then, puts-none, puts-as}
-use Rattle.writing.specs.Parts.{OfState, Concluded, node-part, nodes-part, cases-part}
+use Rattle.writing.specs.Parts.{OfState, Concluded, node-part, nodes-part, cases-part, region-part}
 use Rattle.writing.specs.PartLaws.{parts-assoc, part-last, no-nodes-part, one-node-part, joined-part}
 use Rattle.select_lines.specs.SelectParts.{new-select-part, no-cases-part, new-case-part}
 use Rattle.select_lines.specs.SelectLines.{PutsSelectLine, PutsCaseLine}
 use Rattle.select_lines.specs.OwnOutputs.{values-shown}
-use Rattle.loop_lines.specs.LoopParts.{loop-lines, loop-is}
+use Rattle.loop_lines.specs.LoopParts.{loop-part, loop-lines, loop-is}
 use Rattle.loop_lines.specs.OfLoop.{OfLoop}
 use Rattle.sheet.specs.Regions.{PutsNodes}
 
@@ -48,14 +48,14 @@ module _ (w : List ℕ) (h : ℕ) {tag : ℕ} (of-tag : tag ≡ cell-word w h 0)
 
   pub cell-blocks : {r : ℕ} {out out′ : List ℕ} {at at′ : Place} → tag ≡ 1 → r ≡ cell-word w h 2
       → OfState w (λ g s. Puts out at (nodes-part s (blocks-of g r)) out′ at′) → PutsCell w h out at out′ at′
-  cell-blocks e a p g s c ks x = go (with-tag e x)
+  cell-blocks {out = out} {out′} {at} {at′} e a p g s c ks x = go (with-tag e x)
     where
       go : Added g w h ks 1 → Puts out at (nodes-part s ks) out′ at′
       go (added-blocks some z) = rw z (rw a at (p g s c))
 
   pub cell-list : {list : ℕ} {out out′ : List ℕ} {at at′ : Place} → tag ≡ 2 → list ≡ list-at w h 2 → PutsNodes w list out at out′ at′
       → PutsCell w h out at out′ at′
-  cell-list e a p g s c ks x = go (with-tag e x)
+  cell-list {out = out} {out′} {at} {at′} e a p g s c ks x = go (with-tag e x)
     where
       go : Added g w h ks 2 → Puts out at (nodes-part s ks) out′ at′
       go (added-list z) = p g s c ks (rw a z)
@@ -63,7 +63,7 @@ module _ (w : List ℕ) (h : ℕ) {tag : ℕ} (of-tag : tag ≡ cell-word w h 0)
   pub cell-exit : {node r : ℕ} {out out′ : List ℕ} {at at′ : Place} → tag ≡ 3 → node ≡ cell-word w h 2 → r ≡ cell-word w h 3
       → OfState w (λ g s. (op : ℕ) (vs : List Value) → region g r .terminator ≡ exit-invocation op vs
       → Puts out at (node-part s (exit node op vs)) out′ at′) → PutsCell w h out at out′ at′
-  cell-exit {node} e a b p g s c ks x = go (with-tag e x)
+  cell-exit {node} {out = out} {out′} {at} {at′} e a b p g s c ks x = go (with-tag e x)
     where
       go : Added g w h ks 3 → Puts out at (nodes-part s ks) out′ at′
       go (added-exit {op} {vs} t z) =
@@ -72,13 +72,13 @@ module _ (w : List ℕ) (h : ℕ) {tag : ℕ} (of-tag : tag ≡ cell-word w h 0)
   pub cell-select : {list node : ℕ} {out out₁ out₂ : List ℕ} {at at₁ at₂ : Place} → tag ≡ 4 → list ≡ list-at w h 5
       → node ≡ cell-word w h 2 → PutsCases w list node 0 out at out₁ at₁ → PutsSelectLine w h out₁ at₁ out₂ at₂
       → PutsCell w h out at out₂ at₂
-  cell-select {list} {node} {out₂ = out₂} {at₂ = at₂} e a b p q g s c ks x = go (with-tag e x)
+  cell-select {out = out} {out₂ = out₂} {at = at} {at₂ = at₂} e a b p q g s c ks x = go (with-tag e x)
     where
       few : {shape n : ℕ} {kind : SelectionKind} → ShowsShape shape n kind → n ≤ 8
       few (shape-bool z n) = omega arith
       few (shape-number low high n) = omega arith
 
-      go : Added g w h ks 4 → Puts _ _ (nodes-part s ks) out₂ at₂
+      go : Added g w h ks 4 → Puts out at (nodes-part s ks) out₂ at₂
       go (added-select {kind} {v} {cs} shape t cases z) =
           let m = few shape in
           let first = p g s c cs (rw a cases) (omega arith) in
@@ -87,13 +87,14 @@ module _ (w : List ℕ) (h : ℕ) {tag : ℕ} (of-tag : tag ≡ cell-word w h 0)
 
   pub cell-loop : {list : ℕ} {out out₁ out₂ : List ℕ} {at at₁ at₂ : Place} → tag ≡ 5 → list ≡ list-at w h 1 → PutsNodes w list out at out₁ at₁
       → OfState w (λ g s. OfLoop g w h (λ x ns. Puts out₁ at₁ (loop-lines s x ns) out₂ at₂)) → PutsCell w h out at out₂ at₂
-  cell-loop {out₂ = out₂} {at₂ = at₂} e a p q g s c ks x = go (with-tag e x)
+  cell-loop {out = out} {out₂ = out₂} {at = at} {at₂ = at₂} e a p q g s c ks x = go (with-tag e x)
     where
-      go : Added g w h ks 5 → Puts _ _ (nodes-part s ks) out₂ at₂
+      go : Added g w h ks 5 → Puts out at (nodes-part s ks) out₂ at₂
       go (added-loop {v} {ns} y nodes t kept z) =
           let x = loop-node g (cell-word w h 2) (cell-word w h 3) y v in
           rw z (puts-as (puts-then (p g s c ns (rw a nodes)) (q g s c y v ns nodes t kept))
-          (sym (one-node-part s (loop x ns) ∙ loop-is s x ns ∙ sym (parts-assoc _ _ (nodes-part s ns)))))
+          (sym (one-node-part s (loop x ns) ∙ loop-is s x ns
+          ∙ sym (parts-assoc (loop-part s x) (region-part s (x .body) (x .types) ns (x .outputs)) (nodes-part s ns)))))
 
   -- A cell of another tag adds nothing that is shown.
   pub cell-none : (tag ≡ 1 → ⊥) → (tag ≡ 2 → ⊥) → (tag ≡ 3 → ⊥) → (tag ≡ 4 → ⊥) → (tag ≡ 5 → ⊥) → (out : List ℕ) (at : Place)
@@ -118,9 +119,9 @@ no-cases-put w node j e out at g s c cs x few = go x e
 pub cases-put : (w : List ℕ) (list node j : ℕ) {before kids k : ℕ} {out out₁ out₂ out₃ : List ℕ} {at at₁ at₂ at₃ : Place} → 1 ≤ list
     → before ≡ list-at w list 1 → k ≡ next j → PutsCases w before node k out at out₁ at₁ → kids ≡ list-at w list 3
     → PutsNodes w kids out₁ at₁ out₂ at₂ → PutsCaseLine w list node j out₂ at₂ out₃ at₃ → PutsCases w list node j out at out₃ at₃
-cases-put w list node j {k = k} {out₃ = out₃} {at₃ = at₃} some b n later a nodes line g s c cs x few = go (first-case w x some) few
+cases-put w list node j {k = k} {out = out} {out₃ = out₃} {at = at} {at₃ = at₃} some b n later a nodes line g s c cs x few = go (first-case w x some) few
   where
-    go : {cs : Cases} → FirstCase g w list cs → j + case-count cs ≤ 8 → Puts _ _ (cases-part s cs node j) out₃ at₃
+    go : {cs : Cases} → FirstCase g w list cs → j + case-count cs ≤ 8 → Puts out at (cases-part s cs node j) out₃ at₃
     go (case-first {ns} {cs = rest} shown others z) m =
         let m′ = rw z at m in
         let following : k ≡ suc j = n ∙ rw (lt-ltb j 65535 (omega arith)) (add-one j) in
@@ -148,10 +149,10 @@ module _ (w : List ℕ) (list : ℕ) where
 
   pub walk-turn : (h : ℕ) {p : ℕ} {out out₁ out₂ : List ℕ} {at at₁ at₂ : Place} → 0 < h → PutsBehind w list h out at out₁ at₁
       → PutsCell w h out₁ at₁ out₂ at₂ → p ≡ list-before w h → PutsBehind w list p out at out₂ at₂
-  walk-turn h {p} {out} {out₂ = out₂} {at} {at₂ = at₂} some before cell e g s c ks x =
+  walk-turn h {p} {out} {out₁} {out₂} {at} {at₁} {at₂} some before cell e g s c ks x =
       let b = before g s c ks x in go b (appended w (b .shown) some)
     where
-      go : (b : Behind g w s ks h out at _ _) → Appended g w h (b .left) → Behind g w s ks p out at out₂ at₂
+      go : (b : Behind g w s ks h out at out₁ at₁) → Appended g w h (b .left) → Behind g w s ks p out at out₂ at₂
       go b (appends {ns} {ms} shown added z) =
           record {
             left = ns;
@@ -167,3 +168,6 @@ module _ (w : List ℕ) (list : ℕ) where
       let zero : h ≡ 0 = omega arith in
       let empty : b .left ≡ ⟨⟩ = no-list (b .shown) zero in
       puts-as (b .puts) (sym (b .whole ∙ rw (empty, no-nodes-part s)))
+
+pub some-handle : {h : ℕ} → (h ≡ 0 → ⊥) → 1 ≤ h
+some-handle d = omega arith

@@ -169,7 +169,7 @@ pub measured : (w : List ℕ) (outcome figure : ℕ) {out out′ : List ℕ} {a 
     → Measures w outcome figure n
 measured w outcome figure p e g s c x shown f = let b = p g s c x shown f .begins in e ∙ rw b
 
-lent-few : (out : List ℕ) → (lent out ≤ length out) × (lent out ≤ 4294967295)
+pub lent-few : (out : List ℕ) → (lent out ≤ length out) × (lent out ≤ 4294967295)
 lent-few out = elim (decLt (length out) 4294967295) [
   | yes h ↦ rw (lt-ltb (length out) 4294967295 h) (omega arith, omega arith)
   | no h ↦ rw (le-ltb (length out) 4294967295 (omega arith)) (omega arith, omega arith)

@@ -1,8 +1,8 @@
 // A region of the answer: its line, and those of its children.
 ghost use Rattle.sheet.specs.Regions as regions;
+use crate::nodes::put_nodes;
 use block_lines::types::put_types;
 use child_numbers::put_kids;
-use crate::nodes::put_nodes;
 use defer_lines::inputs::put_inputs;
 use state::regions::children;
 use state::sets::bundle_at;
