@@ -1,3 +1,6 @@
+use mathlib.Core.Path.{refl}
+use native.Mathlib.Omega.{arith}
+use Rattle.nest_text.specs.Prints.{sheet-printed, refusal-printed}
 use borrow.Author.Needs.{needs}
 use Rattle.nest_text.proofs.print.Statement.{statement}
 use Rattle.nest_text.proofs.print.Tie as tie
@@ -41,7 +44,7 @@ same-length-2 c = search needs
 
 -- src/lib.rt:7:1
 returns : tie.Need-returns
-returns c = ?
+returns c = sheet-printed (rw (c .before .before .before .before .before .before .answer .given .1) at (c .before .before .before .before .before .before .before .before .before .before .nest .ensures)) refl (c .before .before .sheet-text .ensures)
 
 -- src/lib.rt:7:1
 same-length-3 : tie.Need-same-length-3
@@ -53,7 +56,7 @@ same-length-4 c = search needs
 
 -- src/lib.rt:7:1
 returns-2 : tie.Need-returns-2
-returns-2 c = ?
+returns-2 c = refusal-printed (rw (c .before .before .before .before .before .answer2 .given .1) at (c .before .before .before .before .before .before .before .before .before .nest .ensures)) (omega arith) (omega arith) (c .before .before .refusal .ensures)
 
 pub print-spec : {M : Type 1} → statement M
 print-spec =
