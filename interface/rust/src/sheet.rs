@@ -4,7 +4,7 @@ use core::fmt;
 /// How far a record was nested.
 #[derive(Clone, Copy, Debug, PartialEq, Eq)]
 pub enum Outcome {
-    /// An edge leads back to the entry: nothing was nested.
+    /// An edge or an exit list leads back to the entry: nothing was nested.
     Untouched,
     /// All of it was nested, and a run that ends may return.
     Whole,
