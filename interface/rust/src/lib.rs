@@ -73,9 +73,7 @@ pub fn accept<'a>(store: &[u8], state: &'a mut State) -> Result<&'a [u16], Refus
 /// Nests the record of a store. Refusals 1 to 11.
 pub fn nest<'a>(store: &[u8], state: &mut State, lent: &'a mut [u32]) -> Answer<'a> {
     // SAFETY: as in `accept`; the lent words are a third piece of memory.
-    let answer = unsafe {
-        rukvetta_nest(store.as_ptr(), store.len(), state.words.as_mut_ptr(), lent.as_mut_ptr(), lent.len())
-    };
+    let answer = unsafe { rukvetta_nest(store.as_ptr(), store.len(), state.words.as_mut_ptr(), lent.as_mut_ptr(), lent.len()) };
     let (number, word) = ((answer >> 32) as u32, answer as u32);
     state.stands(number == 0 || number > 8);
     match number {
