@@ -5,10 +5,10 @@
  * does. "Document 01" is the scope paper of the routine nester: it fixes store,
  * record, refusals and sheet. docs/REFUSALS.md says what to do about a refusal.
  *
- * Memory. A routine uses what it is lent, and a stack of bounded depth. It takes
- * no heap, keeps nothing between calls, and has no memory of its own that changes:
- * calls with different lent memory may run at the same time, in any thread or
- * interrupt. Nothing lent is kept after the call.
+ * Memory. A routine uses what it is lent, and a stack of bounded depth (README.md
+ * has what was measured). It takes no heap, keeps nothing between calls, and has no
+ * memory of its own: calls with different lent memory may run at the same time, in
+ * any thread. Nothing lent is kept after the call. Of the C library it needs memset.
  *
  *   bytes   the store: `length` bytes, read only, any alignment
  *   words   RUKVETTA_WORDS words of 16 bits, aligned for uint16_t. Any values may
