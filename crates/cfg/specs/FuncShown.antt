@@ -1,8 +1,8 @@
 -- The whole of nesting: from an accepted record that stands in the words, what structurize-func answers, and the state that they then show.
 use mathlib.Core.Path.{_≡_, refl, sym, ap, subst, _∙_}
 use mathlib.Core.Bool.{Bool, true, false}
-use mathlib.Core.List.{List, [], _∷_, map}
-use mathlib.Core.Option.{Option}
+use mathlib.Core.List.{List, [], _∷_, map, append-nil}
+use mathlib.Core.Option.{Option, some}
 use Prim.Native.Nat.{ℕ, zero, suc, _+_, _≤_, _<_}
 use native.Mathlib.Omega.{arith}
 use lib.ListN.{length, getD, length-map}
@@ -18,23 +18,27 @@ use Rattle.nesting.specs.Nesting.{NestState, StepAnswer, done, turned-away, Str
 use Rattle.nesting.specs.Nesting.{structurize-func, structurize-func-by, incoming-edge-counts, initial-state, try-claim-edge-bundle}
 use Rattle.nesting.specs.Nesting.{reachable, claim-by-state, structurize-region, begin, follow, get-state, Body, to-region}
 use Rattle.nesting.specs.Nesting.{DeferredEdgeBundleSet, DeferredTarget, to-return, add-attempt, ClaimedRegion, region-body}
+use Rattle.nesting.specs.lookups.ChainEnds.{ChainsEnd}
 use Rattle.nesting.specs.steps.RegionsLeft.{all-not-begun, state-of}
 use Rattle.follows.specs.simulation.Claims.{at-first}
 use Rattle.follows.specs.counting.Totals.{edges-to}
 use Rattle.follows.specs.counting.Counting.{owed, owed-by}
 use Rattle.follows.specs.counting.Reach.{entry-reachable}
 use Rattle.follows.specs.counting.Attempts.{start-pre}
-use Rattle.state.specs.Sections.{used}
+use Rattle.follows.specs.chains.Chains.{chains-end}
+use Rattle.state.specs.Sections.{used, word, kinds}
+use Rattle.shown.specs.Front.{SameFront, front-then, stands-on}
 use Rattle.shown.specs.Sets.{ShowsTarget, shows-region, shows-return}
 use Rattle.shown.specs.States.{ShowsState, ShowsBody, ShowsOwnSet}
 use Rattle.start.specs.Words.{started}
-use Rattle.start.specs.Started.{initial-state-shown}
+use Rattle.start.specs.Started.{started-front, initial-state-shown}
 use Rattle.cfg.specs.declared.claim.Claim as claim
 use Rattle.cfg.specs.declared.func.Nested as code
 use Rattle.cfg.specs.declared.func.Nested.the-variants.{Untouched, Whole, Closed, Leftover, Refused}
 use Rattle.cfg.specs.Claims.{TriesClaim}
 use Rattle.cfg.specs.Func.{Outcomes, FuncBy, Func}
 use Rattle.cfg.specs.Func as func
+use Rattle.cfg.specs.Left.{steady-claim}
 use Rattle.cfg.specs.Shows.{K, world, CanClaim, ClaimShows, owed-at-start, if-claimed, if-unclaimed, if-refused}
 use Rattle.cfg.specs.ScansShown.{own-bundle-shown}
 use Rattle.cfg.specs.ClaimsShown.{claim-shown}
@@ -47,14 +51,16 @@ outcome-code whole = Whole
 outcome-code closed = Closed
 outcome-code leftover = Leftover
 
--- What the words show of the definition's answer b: its state, and the entry's children and set.
-pub data ShowsNested (g : Graph) (w : List ℕ) (b : Answer Nested) : code.Nested → Type 0 where
-  shows-untouched : ShowsState g w (initial-state g) → b ≡ accepted (conclude-by g (initial-state g) ⟨⟩ [] untouched)
-      → ShowsNested g w b Untouched
-  shows-nested : {s : NestState} {x : Body} {a : code.Nested} → ShowsState g w s → ShowsBody g w (g .entry) x
+-- What the words w show of the definition's answer b: its state, by which every look-up ends, and the entry, claimed, with its children and
+-- set; or its refusal. Whatever it is, the record and its index stand as they stood in the words before.
+pub data ShowsNested (g : Graph) (before w : List ℕ) (b : Answer Nested) : code.Nested → Type 0 where
+  shows-untouched : SameFront before w → ShowsState g w (initial-state g) → b ≡ accepted (conclude-by g (initial-state g) ⟨⟩ [] untouched)
+      → ShowsNested g before w b Untouched
+  shows-nested : {s : NestState} {x : Body} {a : code.Nested} → SameFront before w → ShowsState g w s
+      → ((r : ℕ) → ChainsEnd (s .region-input-rewrites) r) → word w kinds (g .entry) ≡ 3 → ShowsBody g w (g .entry) x
       → b ≡ accepted (conclude-by g s (x .children) (x .deferred-edges) (outcome-of (x .deferred-edges)))
-      → a ≡ outcome-code (outcome-of (x .deferred-edges)) → ShowsNested g w b a
-  shows-refused : {number x : ℕ} → b ≡ refused number x → ShowsNested g w b (Refused number x)
+      → a ≡ outcome-code (outcome-of (x .deferred-edges)) → ShowsNested g before w b a
+  shows-refused : {number x : ℕ} → SameFront before w → b ≡ refused number x → ShowsNested g before w b (Refused number x)
 
 -- ---- The entry is claimed with no inputs, whatever its region has; it is no loop, so what is concluded is the same with any.
 module _ (g : Graph) (r n : ℕ) (a b : List Value) where
@@ -166,23 +172,29 @@ module _ (g : Graph) (valid : Valid g) where
         claim-shown g valid (parts g valid) counts right t (suc (length (g .regions))) (λ q. 0) (initial-state g) stand-ins (first .state)
         (omega arith) (entry-reachable g) (omega arith) (length-map (region g (g .entry) .inputs) (λ t. undef 0)) can-start
 
-    by : {a : code.Nested} → FuncBy g counts (started g w) w′ a → ShowsNested g w′ (structurize-func g) a
+    kept : {r n : ℕ} {a : claim.Claim} → TriesClaim g counts (started g w) r n w′ a → SameFront w w′
+    kept t = let f = started-front g w room in front-then f (steady-claim t (stands-on f stands) .front)
+
+    by : {a : code.Nested} → FuncBy g counts (started g w) w′ a → ShowsNested g w w′ (structurize-func g) a
     unfolding conclude
     by (func.untouched n e) =
         let other : getD (incoming-edge-counts g) (g .entry) 0 ≡ 1 → ⊥ = λ z. n (right (g .entry) (valid .entry) ∙ z) in
-        rw e (shows-untouched (initial-state-shown valid stands room refl .state)
+        rw e (shows-untouched (started-front g w room) (initial-state-shown valid stands room refl .state)
         (by-count false (ne-eqb (getD (incoming-edge-counts g) (g .entry) 0) 1 other)))
     by (func.claimed one t o) = if-claimed (claims t) λ c s p st cl origin i f u k.
         let x : ShowsBody g w′ (g .entry) (region-body (c .children) (c .deferred-edges)) =
         subst (λ r. ShowsBody g w′ r (region-body (c .children) (c .deferred-edges))) origin
         (record { nodes = cl .nodes; set = cl .set }) in
-        shows-nested st x (concludes (sym (right (g .entry) (valid .entry)) ∙ one) p)
+        let ends : (r : ℕ) → ChainsEnd (s .region-input-rewrites) r = chains-end g valid (incoming-edge-counts g)
+        (suc (length (g .regions))) 1 stand-ins (some c) s p (s .region-input-rewrites) [] (sym (append-nil (s .region-input-rewrites))) in
+        shows-nested (kept t) st ends
+        (subst (λ r. word w′ kinds r ≡ 3) origin (cl .kind)) x (concludes (sym (right (g .entry) (valid .entry)) ∙ one) p)
         (outcome-shown (valid .count .1) (c .deferred-edges) (x .set) o)
     by (func.unclaimed one t) = if-unclaimed (claims t) λ s p st u k.
-        shows-refused (concludes (sym (right (g .entry) (valid .entry)) ∙ one) p)
+        shows-refused (kept t) (concludes (sym (right (g .entry) (valid .entry)) ∙ one) p)
     by (func.refused one t) = if-refused (claims t) λ p.
-        shows-refused (concludes (sym (right (g .entry) (valid .entry)) ∙ one) p)
+        shows-refused (kept t) (concludes (sym (right (g .entry) (valid .entry)) ∙ one) p)
 
   pub structurize-func-shown : {w w′ : List ℕ} {a : code.Nested} → Stands w g → used ≤ length w → Func g w w′ a
-      → ShowsNested g w′ (structurize-func g) a
+      → ShowsNested g w w′ (structurize-func g) a
   structurize-func-shown stands room f = by stands room (f .counts) (f .right) (f .steps)

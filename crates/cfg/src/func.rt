@@ -64,7 +64,7 @@ fn structurize_func_by(w: &mut [u16; WORDS], counts: [u32; 32]) -> Nested
 // From an accepted record that stands in the words: its outcome, with the tables and the state that the words then show.
 pub fn structurize_func(w: &mut [u16; WORDS]) -> Nested
     requires { ⌜ Stood (now w) ⌝ }
-    ensures { λ a. ⌜ OfRecord (now (w .entry)) (λ g. Valid g → ShowsNested g (now (w .exit)) (structurize-func g) a) ⌝ }
+    ensures { λ a. ⌜ OfRecord (now (w .entry)) (λ g. Valid g → ShowsNested g (now (w .entry)) (now (w .exit)) (structurize-func g) a) ⌝ }
 {
     let counts = incoming_edge_counts(w);
     initial_state(w);

@@ -297,7 +297,7 @@ made-nodes (then-exit {ns} x p n t e) b = rw e (join-second ns _ refl)
 made-nodes (then-select {ns} x p q n s v cs e) b = rw e (join-second ns _ refl)
 made-nodes (the-loop y x p q n v k e) b = rw e refl
 
-no-list : {g : Graph} {l : List ℕ} {h : ℕ} {ks : Nodes} → ShowsNodes g l h ks → h ≡ 0 → ks ≡ ⟨⟩
+pub no-list : {g : Graph} {l : List ℕ} {h : ℕ} {ks : Nodes} → ShowsNodes g l h ks → h ≡ 0 → ks ≡ ⟨⟩
 no-list (no-nodes e) b = refl
 no-list (all-blocks x a some e) b = absurd (omega arith)
 no-list (two-lists x a p c d n m e) b = absurd (omega arith)

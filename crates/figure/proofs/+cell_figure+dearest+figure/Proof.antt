@@ -1,0 +1,350 @@
+-- The three functions of the figure meet their contracts, in one induction: each goes on with a smaller handle.
+-- The loop's invariant: what is still to come and the sum so far cost as much as the whole.
+use Prim.Native.Nat.{ℕ, _+_, _*_, _<_}
+use native.Mathlib.Omega.{arith}
+use borrow.Author.Needs.{needs}
+use borrow.Fn.Kinds.{In}
+use borrow.Fn.PlainCycle.{Measures, is, falls, and}
+use Rattle.children.specs.CellByCell.{named-below, before-below}
+use Rattle.figure.specs.Figured.{Passed}
+use Rattle.figure.specs.Steps.{dearest-none, dearest-of, cell-blocks, cell-joined, cell-select, cell-loop, cell-other}
+use Rattle.figure.specs.Steps.{turns-fit, passed-none, passed-turn, passed-all}
+use Rattle.figure.proofs.cell_figure.Reads as cell-figure
+use Rattle.figure.proofs.cell_figure.Kinds as cell-figure-kinds
+use Rattle.figure.proofs.+cell_figure+dearest+figure.Lts-cell_figure as cell-figure-lts
+use Rattle.figure.proofs.dearest.Reads as dearest
+use Rattle.figure.proofs.dearest.Kinds as dearest-kinds
+use Rattle.figure.proofs.+cell_figure+dearest+figure.Lts-dearest as dearest-lts
+use Rattle.figure.proofs.figure.Reads as figure
+use Rattle.figure.proofs.figure.Kinds as figure-kinds
+use Rattle.figure.proofs.+cell_figure+dearest+figure.Lts-figure as figure-lts
+use Rattle.children.proofs.list_before.Reads as list-before-reads
+use Rattle.fields.proofs.limit.Reads as limit-reads
+use Rattle.fields.proofs.test_cost.Reads as test-cost-reads
+use Rattle.figure.proofs.at_most.Reads as at-most-reads
+use Rattle.figure.proofs.blocks_figure.Reads as blocks-figure-reads
+use Rattle.state.proofs.cells.case_children.Reads as case-children-reads
+use Rattle.state.proofs.cells.cell_a.Reads as cell-a-reads
+use Rattle.state.proofs.cells.cell_b.Reads as cell-b-reads
+use Rattle.state.proofs.cells.cell_before.Reads as cell-before-reads
+use Rattle.state.proofs.cells.cell_tag.Reads as cell-tag-reads
+use Rattle.state.proofs.cells.inner_list.Reads as inner-list-reads
+use Rattle.state.proofs.cells.joined_list.Reads as joined-list-reads
+use Rattle.figure.proofs.+cell_figure+dearest+figure.{statement}
+use Rattle.figure.proofs.+cell_figure+dearest+figure.Tie.{close}
+
+abbrev μ-cell-figure : Measures 1 cell-figure-kinds.ps ℕ
+μ-cell-figure κs a = 3 * a .1 .0 + 1
+
+abbrev μ-dearest : Measures 1 dearest-kinds.ps ℕ
+μ-dearest κs a = 3 * a .1 .0
+
+abbrev μ-figure : Measures 1 figure-kinds.ps ℕ
+μ-figure κs a = 3 * a .1 .0 + 2
+
+abbrev cell-figure-at : ℕ → In 1 cell-figure-kinds.ps
+cell-figure-at t =
+    and 1 cell-figure-kinds.ps (is 1 cell-figure-kinds.ps μ-cell-figure t) cell-figure.Pre
+
+abbrev cell-figure-below : ℕ → In 1 cell-figure-kinds.ps
+cell-figure-below t =
+    and 1 cell-figure-kinds.ps (falls 1 cell-figure-kinds.ps _<_ μ-cell-figure t) cell-figure.Pre
+
+abbrev dearest-at : ℕ → In 1 dearest-kinds.ps
+dearest-at t = and 1 dearest-kinds.ps (is 1 dearest-kinds.ps μ-dearest t) dearest.Pre
+
+abbrev dearest-below : ℕ → In 1 dearest-kinds.ps
+dearest-below t = and 1 dearest-kinds.ps (falls 1 dearest-kinds.ps _<_ μ-dearest t) dearest.Pre
+
+abbrev figure-at : ℕ → In 1 figure-kinds.ps
+figure-at t = and 1 figure-kinds.ps (is 1 figure-kinds.ps μ-figure t) figure.Pre
+
+abbrev figure-below : ℕ → In 1 figure-kinds.ps
+figure-below t = and 1 figure-kinds.ps (falls 1 figure-kinds.ps _<_ μ-figure t) figure.Pre
+
+abbrev cell-figure-called : ℕ → cell-figure-lts.Claims
+cell-figure-called t = (
+  cell-tag-reads.Asked,
+  cell-tag-reads.Learnt,
+  cell-a-reads.Asked,
+  cell-a-reads.Learnt,
+  blocks-figure-reads.Asked,
+  blocks-figure-reads.Learnt,
+  at-most-reads.Asked,
+  at-most-reads.Learnt,
+  joined-list-reads.Asked,
+  joined-list-reads.Learnt,
+  figure-below t,
+  figure.Post,
+  test-cost-reads.Asked,
+  test-cost-reads.Learnt,
+  inner-list-reads.Asked,
+  inner-list-reads.Learnt,
+  dearest-below t,
+  dearest.Post,
+  cell-b-reads.Asked,
+  cell-b-reads.Learnt,
+  limit-reads.Asked,
+  limit-reads.Learnt,
+  cell-before-reads.Asked,
+  cell-before-reads.Learnt,
+)
+
+abbrev dearest-called : ℕ → dearest-lts.Claims
+dearest-called t = (
+  case-children-reads.Asked,
+  case-children-reads.Learnt,
+  figure-below t,
+  figure.Post,
+  cell-before-reads.Asked,
+  cell-before-reads.Learnt,
+  dearest-below t,
+  dearest.Post,
+)
+
+abbrev figure-called : ℕ → figure-lts.Claims
+figure-called t = (
+  cell-figure-below t,
+  cell-figure.Post,
+  at-most-reads.Asked,
+  at-most-reads.Learnt,
+  list-before-reads.Asked,
+  list-before-reads.Learnt,
+)
+
+cell-figure-cell-tag-requires : (t : ℕ) → cell-figure-lts.Need-cell-tag-requires (cell-figure-called t) (cell-figure-at t) cell-figure.Post
+cell-figure-cell-tag-requires t c κs = search needs
+
+cell-figure-cell-a-requires : (t : ℕ) → cell-figure-lts.Need-cell-a-requires (cell-figure-called t) (cell-figure-at t) cell-figure.Post
+cell-figure-cell-a-requires t c κs = search needs
+
+cell-figure-blocks-figure-requires : (t : ℕ) → cell-figure-lts.Need-blocks-figure-requires (cell-figure-called t) (cell-figure-at t)
+    cell-figure.Post
+cell-figure-blocks-figure-requires t c κs = search needs
+
+cell-figure-at-most-requires : (t : ℕ) → cell-figure-lts.Need-at-most-requires (cell-figure-called t) (cell-figure-at t) cell-figure.Post
+cell-figure-at-most-requires t c κs = search needs
+
+cell-figure-returns : (t : ℕ) → cell-figure-lts.Need-returns (cell-figure-called t) (cell-figure-at t) cell-figure.Post
+cell-figure-returns t c = cell-blocks (c .before .before .before .before .cell-tag .ensures) (c .before .before .before .if1 .taken)
+    (c .before .before .cell-a .ensures) (c .before .blocks-figure .ensures) (c .at-most .ensures)
+
+cell-figure-joined-list-requires : (t : ℕ) → cell-figure-lts.Need-joined-list-requires (cell-figure-called t) (cell-figure-at t)
+    cell-figure.Post
+cell-figure-joined-list-requires t c κs = search needs
+
+cell-figure-figure-requires : (t : ℕ) → cell-figure-lts.Need-figure-requires (cell-figure-called t) (cell-figure-at t) cell-figure.Post
+cell-figure-figure-requires t c κs = (
+  omega (
+    arith,
+    c .before .before .before .before .pre .0,
+    named-below _ (c .joined-list .ensures) (c .before .before .before .before .pre .1),
+  ),
+  tt,
+)
+
+cell-figure-returns-2 : (t : ℕ) → cell-figure-lts.Need-returns-2 (cell-figure-called t) (cell-figure-at t) cell-figure.Post
+cell-figure-returns-2 t c = cell-joined (c .before .before .before .before .cell-tag .ensures) (c .before .before .if2 .taken)
+    (c .before .joined-list .ensures) (c .figure .ensures)
+
+cell-figure-test-cost-requires : (t : ℕ) → cell-figure-lts.Need-test-cost-requires (cell-figure-called t) (cell-figure-at t)
+    cell-figure.Post
+cell-figure-test-cost-requires t c κs = search needs
+
+cell-figure-cast-test : (t : ℕ) → cell-figure-lts.Need-cast-test (cell-figure-called t) (cell-figure-at t) cell-figure.Post
+cell-figure-cast-test t c = search needs
+
+cell-figure-inner-list-requires : (t : ℕ) → cell-figure-lts.Need-inner-list-requires (cell-figure-called t) (cell-figure-at t)
+    cell-figure.Post
+cell-figure-inner-list-requires t c κs = search needs
+
+cell-figure-dearest-requires : (t : ℕ) → cell-figure-lts.Need-dearest-requires (cell-figure-called t) (cell-figure-at t) cell-figure.Post
+cell-figure-dearest-requires t c κs = (
+  omega (
+    arith,
+    c .before .before .before .before .before .before .pre .0,
+    named-below _ (c .inner-list .ensures) (c .before .before .before .before .before .before .pre .1),
+  ),
+  tt,
+)
+
+cell-figure-add-at-most : (t : ℕ) → cell-figure-lts.Need-add-at-most (cell-figure-called t) (cell-figure-at t) cell-figure.Post
+cell-figure-add-at-most t c = search needs
+
+cell-figure-at-most-requires-2 : (t : ℕ) → cell-figure-lts.Need-at-most-requires-2 (cell-figure-called t) (cell-figure-at t)
+    cell-figure.Post
+cell-figure-at-most-requires-2 t c κs = search needs
+
+cell-figure-returns-3 : (t : ℕ) → cell-figure-lts.Need-returns-3 (cell-figure-called t) (cell-figure-at t) cell-figure.Post
+cell-figure-returns-3 t c = cell-select (c .before .before .before .before .before .before .before .cell-tag .ensures)
+    (c .before .before .before .before .test-cost .ensures) (c .before .before .before .if3 .taken)
+    (c .before .before .inner-list .ensures) (c .before .dearest .ensures) (c .at-most2 .ensures)
+
+cell-figure-cell-b-requires : (t : ℕ) → cell-figure-lts.Need-cell-b-requires (cell-figure-called t) (cell-figure-at t) cell-figure.Post
+cell-figure-cell-b-requires t c κs = search needs
+
+cell-figure-limit-requires : (t : ℕ) → cell-figure-lts.Need-limit-requires (cell-figure-called t) (cell-figure-at t) cell-figure.Post
+cell-figure-limit-requires t c κs = search needs
+
+cell-figure-cast-limit : (t : ℕ) → cell-figure-lts.Need-cast-limit (cell-figure-called t) (cell-figure-at t) cell-figure.Post
+cell-figure-cast-limit t c = search needs
+
+cell-figure-cell-before-requires : (t : ℕ) → cell-figure-lts.Need-cell-before-requires (cell-figure-called t) (cell-figure-at t)
+    cell-figure.Post
+cell-figure-cell-before-requires t c κs = search needs
+
+cell-figure-figure-requires-2 : (t : ℕ) → cell-figure-lts.Need-figure-requires-2 (cell-figure-called t) (cell-figure-at t) cell-figure.Post
+cell-figure-figure-requires-2 t c κs = (
+  omega (
+    arith,
+    c .before .before .before .before .before .before .before .before .before .pre .0,
+    named-below _ (c .cell-before .ensures) (c .before .before .before .before .before .before .before .before .before .pre .1),
+  ),
+  tt,
+)
+
+cell-figure-add-at-most-2 : (t : ℕ) → cell-figure-lts.Need-add-at-most-2 (cell-figure-called t) (cell-figure-at t) cell-figure.Post
+cell-figure-add-at-most-2 t c = search needs
+
+cell-figure-mul-at-most : (t : ℕ) → cell-figure-lts.Need-mul-at-most (cell-figure-called t) (cell-figure-at t) cell-figure.Post
+cell-figure-mul-at-most t c = omega (
+  arith,
+  turns-fit (c .before .before .limit .ok) (c .figure2 .ensures .small)
+      (c .before .before .before .before .before .before .test-cost .ok),
+)
+
+cell-figure-at-most-requires-3 : (t : ℕ) → cell-figure-lts.Need-at-most-requires-3 (cell-figure-called t) (cell-figure-at t)
+    cell-figure.Post
+cell-figure-at-most-requires-3 t c κs = search needs
+
+cell-figure-returns-4 : (t : ℕ) → cell-figure-lts.Need-returns-4 (cell-figure-called t) (cell-figure-at t) cell-figure.Post
+cell-figure-returns-4 t c = cell-loop
+    (c .before .before .before .before .before .before .before .before .before .before .cell-tag .ensures)
+    (c .before .before .before .before .before .before .before .test-cost .ensures)
+    (c .before .before .before .before .before .if4 .taken) (c .before .before .before .before .cell-b .ensures)
+    (c .before .before .before .limit .ensures) (c .before .before .cell-before .ensures) (c .before .figure2 .ensures)
+    (c .at-most3 .ensures)
+
+cell-figure-returns-5 : (t : ℕ) → cell-figure-lts.Need-returns-5 (cell-figure-called t) (cell-figure-at t) cell-figure.Post
+cell-figure-returns-5 t c = cell-other (c .before .before .before .before .before .cell-tag .ensures)
+    (c .before .before .before .before .if1 .left) (c .before .before .before .if2 .left) (c .before .if3 .left) (c .if4 .left)
+
+dearest-returns : (t : ℕ) → dearest-lts.Need-returns (dearest-called t) (dearest-at t) dearest.Post
+dearest-returns t c = dearest-none (c .if1 .taken)
+
+dearest-case-children-requires : (t : ℕ) → dearest-lts.Need-case-children-requires (dearest-called t) (dearest-at t) dearest.Post
+dearest-case-children-requires t c κs = search needs
+
+dearest-figure-requires : (t : ℕ) → dearest-lts.Need-figure-requires (dearest-called t) (dearest-at t) dearest.Post
+dearest-figure-requires t c κs = (
+  omega (
+    arith,
+    c .before .before .pre .0,
+    named-below _ (c .case-children .ensures) (omega (arith, c .before .if1 .left)),
+  ),
+  tt,
+)
+
+dearest-cell-before-requires : (t : ℕ) → dearest-lts.Need-cell-before-requires (dearest-called t) (dearest-at t) dearest.Post
+dearest-cell-before-requires t c κs = search needs
+
+dearest-dearest-requires : (t : ℕ) → dearest-lts.Need-dearest-requires (dearest-called t) (dearest-at t) dearest.Post
+dearest-dearest-requires t c κs = (
+  omega (
+    arith,
+    c .before .before .before .before .pre .0,
+    named-below _ (c .cell-before .ensures) (omega (arith, c .before .before .before .if1 .left)),
+  ),
+  tt,
+)
+
+dearest-returns-2 : (t : ℕ) → dearest-lts.Need-returns-2 (dearest-called t) (dearest-at t) dearest.Post
+dearest-returns-2 t c = dearest-of (c .before .before .before .before .case-children .ensures)
+    (c .before .before .before .figure .ensures) (c .before .before .cell-before .ensures) (c .before .dearest .ensures)
+    (omega (arith, c .before .before .before .before .before .if1 .left)) (omega (arith, c .if2 .taken))
+
+dearest-returns-3 : (t : ℕ) → dearest-lts.Need-returns-3 (dearest-called t) (dearest-at t) dearest.Post
+dearest-returns-3 t c = dearest-of (c .before .before .before .before .case-children .ensures)
+    (c .before .before .before .figure .ensures) (c .before .before .cell-before .ensures) (c .before .dearest .ensures)
+    (omega (arith, c .before .before .before .before .before .if1 .left)) (omega (arith, c .if2 .left))
+
+abbrev figure-Inv-loop : figure-lts.InvT-loop
+figure-Inv-loop w list sum₀ h₀ sum h = Passed w list h sum
+
+abbrev figure-μ-loop : figure-lts.MeasureT-loop
+figure-μ-loop w list sum₀ h₀ sum h = h
+
+figure-loop-holds : (t : ℕ) → figure-lts.Need-loop-holds (figure-called t) (figure-at t) figure.Post figure-Inv-loop figure-μ-loop
+figure-loop-holds t c = passed-none
+
+figure-cell-figure-requires : (t : ℕ) → figure-lts.Need-cell-figure-requires (figure-called t) (figure-at t) figure.Post figure-Inv-loop
+    figure-μ-loop
+figure-cell-figure-requires t c κs = (omega (arith, c .before .before .pre .0, c .before .loop .inv .below), c .loop-test .taken)
+
+figure-add-at-most : (t : ℕ) → figure-lts.Need-add-at-most (figure-called t) (figure-at t) figure.Post figure-Inv-loop figure-μ-loop
+figure-add-at-most t c = search needs
+
+figure-at-most-requires : (t : ℕ) → figure-lts.Need-at-most-requires (figure-called t) (figure-at t) figure.Post figure-Inv-loop
+    figure-μ-loop
+figure-at-most-requires t c κs = search needs
+
+figure-list-before-requires : (t : ℕ) → figure-lts.Need-list-before-requires (figure-called t) (figure-at t) figure.Post figure-Inv-loop
+    figure-μ-loop
+figure-list-before-requires t c κs = search needs
+
+figure-loop-less : (t : ℕ) → figure-lts.Need-loop-less (figure-called t) (figure-at t) figure.Post figure-Inv-loop figure-μ-loop
+figure-loop-less t c = before-below _ (c .list-before .ensures) (c .before .before .before .loop-test .taken)
+
+figure-loop-again : (t : ℕ) → figure-lts.Need-loop-again (figure-called t) (figure-at t) figure.Post figure-Inv-loop figure-μ-loop
+figure-loop-again t c = passed-turn (c .before .before .before .before .loop .inv) (c .before .before .before .loop-test .taken)
+    (c .before .before .cell-figure .ensures) (c .before .at-most .ensures) (c .list-before .ensures)
+
+figure-returns : (t : ℕ) → figure-lts.Need-returns (figure-called t) (figure-at t) figure.Post figure-Inv-loop figure-μ-loop
+figure-returns t c = passed-all (c .before .loop .inv) (c .loop-test .left)
+
+pub +cell-figure+dearest+figure-spec : {M : Type 1} → statement M
++cell-figure+dearest+figure-spec =
+    close μ-cell-figure μ-dearest μ-figure
+    (λ t. cell-figure-lts.spec (cell-figure-called t) (cell-figure-at t) cell-figure.Post
+    (cell-figure-cell-tag-requires t)
+    (cell-figure-cell-a-requires t)
+    (cell-figure-blocks-figure-requires t)
+    (cell-figure-at-most-requires t)
+    (cell-figure-returns t)
+    (cell-figure-joined-list-requires t)
+    (cell-figure-figure-requires t)
+    (cell-figure-returns-2 t)
+    (cell-figure-test-cost-requires t)
+    (cell-figure-cast-test t)
+    (cell-figure-inner-list-requires t)
+    (cell-figure-dearest-requires t)
+    (cell-figure-add-at-most t)
+    (cell-figure-at-most-requires-2 t)
+    (cell-figure-returns-3 t)
+    (cell-figure-cell-b-requires t)
+    (cell-figure-limit-requires t)
+    (cell-figure-cast-limit t)
+    (cell-figure-cell-before-requires t)
+    (cell-figure-figure-requires-2 t)
+    (cell-figure-add-at-most-2 t)
+    (cell-figure-mul-at-most t)
+    (cell-figure-at-most-requires-3 t)
+    (cell-figure-returns-4 t)
+    (cell-figure-returns-5 t))
+    (λ t. dearest-lts.spec (dearest-called t) (dearest-at t) dearest.Post
+    (dearest-returns t)
+    (dearest-case-children-requires t)
+    (dearest-figure-requires t)
+    (dearest-cell-before-requires t)
+    (dearest-dearest-requires t)
+    (dearest-returns-2 t)
+    (dearest-returns-3 t))
+    λ t. figure-lts.spec (figure-called t) (figure-at t) figure.Post figure-Inv-loop figure-μ-loop
+    (figure-loop-holds t)
+    (figure-cell-figure-requires t)
+    (figure-add-at-most t)
+    (figure-at-most-requires t)
+    (figure-list-before-requires t)
+    (figure-loop-less t)
+    (figure-loop-again t)
+    (figure-returns t)

@@ -1,0 +1,110 @@
+// The figure of a nested form: what a run can cost at most. Beyond 4,294,967,295 it is 4,294,967,296, whatever it exceeds.
+ghost use mathlib.Core.Path.{_≡_};
+ghost use Prim.Native.Nat.{_≤_};
+ghost use Rattle.figure.specs.Figured as figured;
+use children::list_before;
+use state::cells::BLOCKS;
+use state::cells::JOIN;
+use state::cells::LOOP;
+use state::cells::SELECT;
+use state::cells::case_children;
+use state::cells::cell_a;
+use state::cells::cell_b;
+use state::cells::cell_before;
+use state::cells::cell_tag;
+use state::cells::inner_list;
+use state::cells::joined_list;
+use store::WORDS;
+
+pub const BEYOND: u64 = 4294967296;
+
+// A sum, or the first number beyond.
+fn at_most(n: u64) -> u64
+    ensures { λ a. ⌜ a ≡ figured.capped n ⌝ }
+{
+    if n < BEYOND {
+        return n;
+    }
+    BEYOND
+}
+
+// The cost of block b of region r.
+fn block_figure(w: &[u16; WORDS], r: u16, b: u16) -> u64
+    ensures { λ a. ⌜ figured.BlockFigured (now (w .entry)) r b a ⌝ }
+{
+    let n = fields::block_length(w, r, b);
+    let mut sum: u64 = 0;
+    let mut i: u16 = 0;
+    while i < n {
+        let x = fields::instruction(w, r, b, i);
+        sum += x.cost as u64;
+        i += 1;
+    }
+    sum
+}
+
+// The cost of all blocks of region r.
+fn blocks_figure(w: &[u16; WORDS], r: u16) -> u64
+    ensures { λ a. ⌜ figured.BlocksFigured (now (w .entry)) r a ⌝ }
+{
+    let n = fields::block_count(w, r);
+    let mut sum: u64 = 0;
+    let mut b: u16 = 0;
+    while b < n {
+        sum += block_figure(w, r, b);
+        b += 1;
+    }
+    sum
+}
+
+// The dearest of a list of cases.
+fn dearest(w: &[u16; WORDS], cases: u16) -> u64
+    ensures { λ a. ⌜ figured.DearestFigured (now (w .entry)) cases a ⌝ }
+{
+    if cases == 0 {
+        return 0;
+    }
+    let first = figure(w, case_children(w, cases));
+    let others = dearest(w, cell_before(w, cases));
+    if first < others {
+        return others;
+    }
+    first
+}
+
+// What a cell adds: a block its instructions' sum; a select the test cost and its dearest case; a loop its turn limit times body and
+// test cost.
+fn cell_figure(w: &[u16; WORDS], h: u16) -> u64
+    requires { ⌜ 1 ≤ h ⌝ }
+    ensures { λ a. ⌜ figured.CellFigured (now (w .entry)) h a ⌝ }
+{
+    let tag = cell_tag(w, h);
+    if tag == BLOCKS {
+        return at_most(blocks_figure(w, cell_a(w, h)));
+    }
+    if tag == JOIN {
+        return figure(w, joined_list(w, h));
+    }
+    let test = fields::test_cost(w) as u64;
+    if tag == SELECT {
+        return at_most(test + dearest(w, inner_list(w, h)));
+    }
+    if tag == LOOP {
+        let limit = fields::limit(w, cell_b(w, h)) as u64;
+        return at_most(limit * (figure(w, cell_before(w, h)) + test));
+    }
+    0
+}
+
+// A list of children their sum.
+pub fn figure(w: &[u16; WORDS], list: u16) -> u64
+    ensures { λ a. ⌜ figured.Figured (now (w .entry)) list a ⌝ }
+{
+    let mut sum: u64 = 0;
+    let mut h = list;
+    while 0 < h {
+        sum = at_most(sum + cell_figure(w, h));
+        h = list_before(w, h);
+    }
+    sum
+}

@@ -1,0 +1,2 @@
+// The sheet.
+pub mod whole;

@@ -1,0 +1,5 @@
+pub mod Puts
+pub mod Rows
+pub mod Parts
+pub mod Outputs
+pub mod ValueShown

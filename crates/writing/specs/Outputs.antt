@@ -1,0 +1,47 @@
+-- A value's three words: an output by its node, and its place among that node's.
+use mathlib.Core.Path.{_≡_, _∙_}
+use mathlib.Core.List.{List, [], _∷_}
+use Prim.Native.Nat.{ℕ, zero, suc, _+_, _*_, _≤_}
+use native.Mathlib.Omega.{arith}
+use native.Mathlib.Numerals.{add-one}
+use lib.Dec.{ltb, eqb}
+use borrow.Author.Tests.{eq-eqb, ne-eqb}
+use Rattle.meaning.specs.Lists.{pick}
+use Rattle.state.specs.Sections.{word, head, outputs}
+use Rattle.state.specs.Values.{parts-of}
+
+unfoldable pub node-of : List ℕ → ℕ → ℕ
+node-of w o = pick (ltb o (word w head 3)) (word w outputs (10 * o)) 0
+
+-- How many of the first n outputs are the node's.
+unfoldable pub node-times : List ℕ → ℕ → ℕ → ℕ
+node-times w node zero = 0
+node-times w node (suc i) = node-times w node i + pick (eqb (word w outputs (10 * i)) node) 1 0
+
+abbrev pub least : ℕ → ℕ → ℕ
+least a b = pick (ltb a b) a b
+
+abbrev pub place-among : List ℕ → ℕ → ℕ → ℕ
+place-among w node o = node-times w node (least o (word w head 3))
+
+abbrev pub output-words : List ℕ → ℕ → List ℕ
+output-words w o = 3 ∷ node-of w o ∷ place-among w (node-of w o) o ∷ []
+
+-- The three words that show a value.
+unfoldable pub value-words : List ℕ → ℕ → List ℕ
+value-words w x =
+    let p = parts-of x in
+    pick (eqb (p .kind) 3) (output-words w (p .index)) (p .kind ∷ p .of ∷ p .index ∷ [])
+
+-- ---- The loop that counts, turn by turn.
+module _ (w : List ℕ) (node i : ℕ) {sum x : ℕ} (before : sum ≡ node-times w node i) (is : x ≡ word w outputs (10 * i)) where
+  pub one-more : {n : ℕ} → x ≡ node → n ≡ sum + 1 → n ≡ node-times w node (i + 1)
+  unfolding node-times
+  one-more e d = d ∙ rw (add-one i, before, ← is, eq-eqb x node e)
+
+  pub no-more : {n : ℕ} → (x ≡ node → ⊥) → n ≡ sum → n ≡ node-times w node (i + 1)
+  unfolding node-times
+  no-more e d = d ∙ rw (add-one i, ← is, ne-eqb x node e) (omega arith)
+
+pub all-counted : (w : List ℕ) (node : ℕ) {sum i end : ℕ} → sum ≡ node-times w node i → i ≤ end → end ≤ i → sum ≡ node-times w node end
+all-counted w node {i} {end} e a b = let d : i ≡ end = omega arith in rw d at e
