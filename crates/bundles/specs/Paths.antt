@@ -37,7 +37,7 @@ pub run-then : (l : List ℕ) (k : Section) (i : ℕ) (xs ys : List ℕ) {l₁ l
 run-then l k i xs ys p q = q ∙ rw p (run-append l k i xs ys)
 
 -- ---- Values of the record.
-word-of-record : (v : Value) → value-word v ≡ record-word (value-is v)
+pub word-of-record : (v : Value) → value-word v ≡ record-word (value-is v)
 word-of-record (Const i) = refl
 word-of-record (Input r k) = refl
 word-of-record (Instr r k) = refl

@@ -9,19 +9,20 @@ use lib.ListN.{length}
 use lib.Dec.{eqb, leb}
 use borrow.Author.Tests.{leb-true, eqb-true}
 use Rattle.meaning.specs.Graph.{Value, const, input, instr, output, bool, undef, held, no-value, Edge, ControlInst, Region, Graph, nowhere}
+use Rattle.meaning.specs.Graph.{Instr, region}
 use Rattle.meaning.specs.Lists.{All, pick, distinct-from}
 use Rattle.meaning.specs.facts.Elements.{all-getD}
 use Rattle.meaning.specs.facts.Tests.{clash, and-both, or-either}
 use Rattle.format.specs.Store.{accepted, refused}
 use Rattle.format.specs.Read.{got, expect, is-kind, value-from-words, index-right, word, type, counted, many, within, read-value, block}
-use Rattle.format.specs.Read.{terminator}
+use Rattle.format.specs.Read.{instruction, terminator}
 use Rattle.format.specs.Read.{opcode-for, fewest-values, most-values, fewest-targets, most-targets, edges-passed, control-inst, read-region}
 use Rattle.format.specs.Read.{regions-from, head, read-record}
-use Rattle.format.specs.References.{values-of}
+use Rattle.format.specs.References.{values-of, no-instr}
 use Rattle.format.specs.laws.Readers.{part, expected, got-value}
 use Rattle.format.specs.laws.WellRead.{counted-all, within-bounds, step, settled}
 use Rattle.record.specs.Stands.{Stands, words-of-record}
-use Rattle.fields.specs.ByNumber.{end-values}
+use Rattle.fields.specs.ByNumber.{block-of, instr-of, end-values}
 
 abbrev pub TypeRead : Value → Type 0
 TypeRead (const i) = Unit
@@ -72,7 +73,7 @@ value-read ws at v e h =
     (from-words (a .value) (c .value) (d .value) (expected (is-kind (a .value)) ws (a .place) (b .first))
     (expected (index-right (a .value) (d .value)) ws (d .place) (f .first)))
 
--- ---- The values of a terminator, of a region, of all.
+-- ---- The values of a terminator, of an instruction, of a region, of all.
 end-types : (k op : ℕ) (vs : List Value) (es : List Edge) → k ≤ 5 → All TypeRead vs → All TypeRead (values-of (control-inst k op vs es))
 end-types zero op vs es b h = tt
 end-types (suc zero) op vs es b h = h
@@ -96,10 +97,28 @@ terminator-types ws at x e h =
     rw is
     (end-types (a .value) (b .value) (c .value) (edges-passed (d .value) (f .value)) (within-bounds 0 5 ws at (a .first) .1) (types .all))
 
-abbrev EndTypes : Region → Type 0
-EndTypes x = All TypeRead (values-of (x .terminator))
+abbrev ReadsTypes : Instr → Type 0
+ReadsTypes i = All TypeRead (i .reads)
 
-region-types : (ws : List ℕ) (at : ℕ) (x : Region) (e : ℕ) → read-region ws at ≡ got x e → EndTypes x
+instruction-types : (ws : List ℕ) (at : ℕ) (i : Instr) (e : ℕ) → instruction ws at ≡ got i e → ReadsTypes i
+unfolding instruction
+instruction-types ws at i e h =
+    let a = part (word ws at) _ i e h in
+    let b = part (within 0 255 ws (a .place)) _ i e (a .second) in
+    let c = part (word ws (b .place)) _ i e (b .second) in
+    let d = part (counted 0 3 read-value ws (c .place)) _ i e (c .second) in
+    let is = sym (got-value (d .second)) in
+    rw is (counted-all read-value TypeRead ws (value-read ws) 0 3 (c .place) (d .first) .all)
+
+block-types : (ws : List ℕ) (at : ℕ) (b : List Instr) (e : ℕ) → block ws at ≡ got b e → All ReadsTypes b
+unfolding block
+block-types ws at b e h = counted-all instruction ReadsTypes ws (instruction-types ws) 1 8 at h .all
+
+record TypesRead (x : Region) : Type 0 where
+  pub blocks : All (All ReadsTypes) (x .blocks)
+  pub end : All TypeRead (values-of (x .terminator))
+
+region-types : (ws : List ℕ) (at : ℕ) (x : Region) (e : ℕ) → read-region ws at ≡ got x e → TypesRead x
 unfolding read-region
 region-types ws at x e h =
     let a = part (counted 0 4 type ws at) _ x e h in
@@ -108,13 +127,17 @@ region-types ws at x e h =
     let d = part (terminator ws (c .place)) _ x e (c .second) in
     let f = part (counted 0 32 word ws (d .place)) _ x e (d .second) in
     let is = sym (got-value (f .second)) in
-    rw is (terminator-types ws (c .place) (d .value) (d .place) (d .first))
+    rw is
+    record {
+      blocks = counted-all block (All ReadsTypes) ws (block-types ws) 0 8 (a .place) (b .first) .all;
+      end = terminator-types ws (c .place) (d .value) (d .place) (d .first);
+    }
 
-regions-types : (n r : ℕ) (ws : List ℕ) (at : ℕ) (xs : List Region) → regions-from n r ws at ≡ accepted xs → All EndTypes xs
+regions-types : (n r : ℕ) (ws : List ℕ) (at : ℕ) (xs : List Region) → regions-from n r ws at ≡ accepted xs → All TypesRead xs
 unfolding regions-from
 regions-types zero r ws at xs h = over (eqb at (length ws)) h
   where
-    over : (b : Bool) → elim b [ true ↦ accepted [] | false ↦ refused 4 0 ] ≡ accepted xs → All EndTypes xs
+    over : (b : Bool) → elim b [ true ↦ accepted [] | false ↦ refused 4 0 ] ≡ accepted xs → All TypesRead xs
     over true q = let same : xs ≡ [] = cc in rw same tt
     over false q = absurd (clash (cc))
 regions-types (suc n) r ws at xs h =
@@ -123,7 +146,7 @@ regions-types (suc n) r ws at xs h =
     let same : xs ≡ a .value ∷ b .value = cc in
     rw same (region-types ws at (a .value) (a .place) (a .first), regions-types n (suc r) ws (a .place) (b .value) (b .first))
 
-record-types : (ws : List ℕ) (g : Graph) → read-record ws ≡ accepted g → All EndTypes (g .regions)
+record-types : (ws : List ℕ) (g : Graph) → read-record ws ≡ accepted g → All TypesRead (g .regions)
 unfolding read-record
 record-types ws g h =
     let a = settled 0 (head ws 1) _ g h in
@@ -131,6 +154,14 @@ record-types ws g h =
     let is : g .regions ≡ b .value = cc in
     rw is (regions-types (a .value .count) 0 ws (a .place) (b .value) (b .first))
 
--- The values that the terminator of a region has, in a record that stands.
+types-read : {w : List ℕ} {g : Graph} → Stands w g → (r : ℕ) → TypesRead (region g r)
+types-read {w} {g} s r =
+    all-getD TypesRead nowhere (record { blocks = tt; end = tt }) (g .regions) (record-types (words-of-record w) g (s .reads)) r
+
+-- The values that an instruction reads, and those that the terminator of a region has, in a record that stands.
+pub instr-types-read : {w : List ℕ} {g : Graph} → Stands w g → (r b i : ℕ) → All TypeRead (instr-of g r b i .reads)
+instr-types-read {g = g} s r b i =
+    all-getD ReadsTypes no-instr tt (block-of g r b) (all-getD (All ReadsTypes) [] tt (region g r .blocks) (types-read s r .blocks) b) i
+
 pub end-types-read : {w : List ℕ} {g : Graph} → Stands w g → (r : ℕ) → All TypeRead (end-values g r)
-end-types-read {w} {g} s r = all-getD EndTypes nowhere tt (g .regions) (record-types (words-of-record w) g (s .reads)) r
+end-types-read s r = types-read s r .end

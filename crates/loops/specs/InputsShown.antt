@@ -234,7 +234,7 @@ module _ (g : Graph) (r wrapper n : ℕ) (l vs : List ℕ) (vals : List Value) (
         record {
           inputs = inputs;
           are = sym (fold-more h ∙ rw test);
-          kept = kept-added free-cell fits (so .inputs) inputs (step .cell) (so .kept) (here h) refl refl refl;
+          kept = kept-added free-cell fits (so .inputs) inputs (step .cell) place wraps (so .kept) (here h) refl refl refl;
           count = omega arith;
           few = omega arith;
           size = omega arith;

@@ -47,7 +47,7 @@ module _ (g : Graph) (l : List ℕ) (i : ℕ) (xs : List ℕ) where
   kept-before : {r h : ℕ} {is os : List Value} {ts : List ℕ} → ShowsKept g l r h is ts os → 6 * h + 6 ≤ i
       → ShowsKept g (sets l i xs) r h is ts os
   kept-before (none-kept e) n = none-kept e
-  kept-before (one-kept x p k v a b c) n = one-kept (cell-before x n) p (kept-before k (omega arith)) v a b c
+  kept-before (one-kept x p few low k v a b c) n = one-kept (cell-before x n) p few low (kept-before k (omega arith)) v a b c
 
   mutual
     nodes-before : {h : ℕ} {ks : Nodes} → ShowsNodes g l h ks → 6 * h + 6 ≤ i → ShowsNodes g (sets l i xs) h ks
@@ -265,14 +265,14 @@ module _ {w w′ : List ℕ} {h : ℕ} (free : word w head 4 < 704) (room : used
         made = new-made step free room;
       }
 
-  pub kept-added : {r p k wrapper x : ℕ} {v : Value} (y z : LoopInputs) → Adds w w′ (kept-cell p k wrapper x) h → ShowsKeptList g w r p y
-      → value x ≡ v → z .initial-inputs ≡ y .initial-inputs ++ (input wrapper k ∷ [])
+  pub kept-added : {r p k wrapper x : ℕ} {v : Value} (y z : LoopInputs) → Adds w w′ (kept-cell p k wrapper x) h → k < 4
+      → wrapper < 128 → ShowsKeptList g w r p y → value x ≡ v → z .initial-inputs ≡ y .initial-inputs ++ (input wrapper k ∷ [])
       → z .types ≡ y .types ++ (getD (region g r .inputs) k 0 ∷ []) → z .outputs ≡ y .outputs ++ (v ∷ [])
       → ShowsKeptList g w′ r h z
-  kept-added y z step ks v a b c =
+  kept-added y z step few low ks v a b c =
       record {
-        kept = one-kept (cell-there step free room) (before-handle step free room (ks .made)) (kept-list-stays step free room ks .kept) v
-            a b c;
+        kept = one-kept (cell-there step free room) (before-handle step free room (ks .made)) few low
+            (kept-list-stays step free room ks .kept) v a b c;
         made = new-made step free room;
       }
 

@@ -20,11 +20,12 @@ pub record CellIs (l : List ℕ) (h tag before a b c d : ℕ) : Type 0 where
   pub is-c : getD l (6 * h + 4) 0 ≡ c
   pub is-d : getD l (6 * h + 5) 0 ≡ d
 
--- The inputs that the loop of header r keeps: initial inputs, types, outputs of its body.
+-- The inputs that the loop of header r keeps: initial inputs, types, outputs of its body. An initial input is the wrapper's, and one word
+-- names it.
 pub data ShowsKept (g : Graph) (l : List ℕ) (r : ℕ) : ℕ → List Value → List ℕ → List Value → Type 0 where
   none-kept : {h : ℕ} → h ≡ 0 → ShowsKept g l r h [] [] []
   one-kept : {h p k wrapper x : ℕ} {v : Value} {is is′ : List Value} {ts ts′ : List ℕ} {os os′ : List Value} → CellIs l h 7 p k wrapper x 0
-      → p < h → ShowsKept g l r p is ts os → value x ≡ v
+      → p < h → k < 4 → wrapper < 128 → ShowsKept g l r p is ts os → value x ≡ v
       → is′ ≡ is ++ (input wrapper k ∷ []) → ts′ ≡ ts ++ (getD (region g r .inputs) k 0 ∷ []) → os′ ≡ os ++ (v ∷ [])
       → ShowsKept g l r h is′ ts′ os′
 

@@ -1,0 +1,5 @@
+pub mod PartLaws
+pub mod Sums
+pub mod BlockParts
+pub mod RecordNames
+pub mod Exits

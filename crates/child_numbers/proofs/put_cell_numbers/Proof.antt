@@ -1,0 +1,53 @@
+use Rattle.child_numbers.specs.Lists.{cell-blocks, cell-one}
+use borrow.Author.Needs.{needs}
+use Rattle.child_numbers.proofs.put_cell_numbers.Statement.{statement}
+use Rattle.child_numbers.proofs.put_cell_numbers.Tie as tie
+
+cell-tag-requires : tie.Need-cell-tag-requires
+cell-tag-requires c κs = search needs
+
+cell-a-requires : tie.Need-cell-a-requires
+cell-a-requires c κs = search needs
+
+put-block-numbers-requires : tie.Need-put-block-numbers-requires
+put-block-numbers-requires c κs = search needs
+
+same-length : tie.Need-same-length
+same-length c = search needs
+
+returns : tie.Need-returns
+returns c = cell-blocks _ _ (c .before .before .before .before .before .before .cell-tag .ensures)
+    (c .before .before .before .before .before .if1 .taken) (c .before .before .before .cell-a .ensures)
+    (c .before .before .put-block-numbers .ensures)
+
+cell-a-requires-2 : tie.Need-cell-a-requires-2
+cell-a-requires-2 c κs = search needs
+
+cast-put-number : tie.Need-cast-put-number
+cast-put-number c = search needs
+
+put-number-requires : tie.Need-put-number-requires
+put-number-requires c κs = search needs
+
+same-length-2 : tie.Need-same-length-2
+same-length-2 c = search needs
+
+returns-2 : tie.Need-returns-2
+returns-2 c = cell-one _ _ (c .before .before .before .before .before .before .cell-tag .ensures)
+    (c .before .before .before .before .before .if1 .left) (c .before .before .before .cell-a2 .ensures)
+    (c .before .before .put-number .ensures)
+
+pub put-cell-numbers-spec : {M : Type 1} → statement M
+put-cell-numbers-spec =
+    tie.close
+    (tie.spec
+    cell-tag-requires
+    cell-a-requires
+    put-block-numbers-requires
+    same-length
+    returns
+    cell-a-requires-2
+    cast-put-number
+    put-number-requires
+    same-length-2
+    returns-2)

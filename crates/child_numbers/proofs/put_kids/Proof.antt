@@ -1,0 +1,19 @@
+use Rattle.child_numbers.specs.Lists.{kids-put}
+use borrow.Author.Needs.{needs}
+use Rattle.child_numbers.proofs.put_kids.Statement.{statement}
+use Rattle.child_numbers.proofs.put_kids.Tie as tie
+
+put-numbers-requires : tie.Need-put-numbers-requires
+put-numbers-requires c κs = search needs
+
+put-requires : tie.Need-put-requires
+put-requires c κs = search needs
+
+same-length : tie.Need-same-length
+same-length c = search needs
+
+returns : tie.Need-returns
+returns c = kids-put _ _ (c .before .before .before .before .before .before .put-numbers .ensures) (c .before .before .put .ensures)
+
+pub put-kids-spec : {M : Type 1} → statement M
+put-kids-spec = tie.close (tie.spec put-numbers-requires put-requires same-length returns)

@@ -1,0 +1,87 @@
+-- Numbers put from the back and counted, and how many blocks stand before a region.
+use mathlib.Core.Path.{_≡_, refl, sym, ap, _∙_}
+use mathlib.Core.List.{List, [], _∷_, _++_}
+use Prim.Native.Nat.{ℕ, zero, suc, _+_, _*_, _≤_, _<_}
+use native.Mathlib.Omega.{arith}
+use native.Mathlib.Decide.{decLt}
+use native.Mathlib.Numerals.{add-one}
+use lib.ListN.{length, getD, take, length-append}
+use borrow.Author.Tests.{le-leb, lt-leb}
+use Rattle.meaning.specs.Lists.{total}
+use Rattle.meaning.specs.Graph.{Graph, Region, region, nowhere}
+use Rattle.record.specs.Stands.{OfRecord}
+use Rattle.nesting.specs.Nesting.{plain, block-count}
+use Rattle.writing.specs.Puts.{Puts, puts-then, puts-none}
+use Rattle.writing.specs.Parts.{most}
+use Rattle.child_numbers.specs.declared.Counted.{Counted}
+
+-- Numbers put, and counted with those before them.
+pub record PutsNumbers (out : List ℕ) (x : Counted) (ns : List ℕ) (out′ : List ℕ) (x′ : Counted) : Type 0 where
+  pub puts : Puts out (x .at) (plain ns) out′ (x′ .at)
+  pub count : x′ .count ≡ most (x .count + length ns)
+
+-- How many blocks the regions before r have; each has no more than a word can say.
+pub record BlocksBefore (w : List ℕ) (r a : ℕ) : Type 0 where
+  pub is : OfRecord w (λ g. a ≡ block-count (take r (g .regions)))
+  pub within : a ≤ 65535 * r
+
+-- ---- Held at the largest word.
+pub most-whole : (n : ℕ) → n ≤ 4294967295 → n ≡ most n
+most-whole n h = rw (le-leb n 4294967295 h)
+
+pub most-held : (n : ℕ) → 4294967295 < n → 4294967295 ≡ most n
+most-held n h = rw (lt-leb n 4294967295 h)
+
+most-then : (a m n : ℕ) → most (most (a + m) + n) ≡ most (a + (n + m))
+most-then a m n =
+    elim (decLt 4294967295 (a + m)) [
+      | yes h ↦ elim (decLt 0 n) [
+        | yes p ↦ (let e = most-held (a + m) h in
+            rw (← e) (sym (most-held (4294967295 + n) (omega arith)) ∙ most-held (a + (n + m)) (omega arith)))
+        | no p ↦ (let e = most-held (a + m) h in
+            rw (← e) (let z : 4294967295 + n ≡ 4294967295 = omega arith in rw z (most-held (a + (n + m)) (omega arith))))
+      ]
+      | no h ↦ (let e = most-whole (a + m) (omega arith) in
+          rw (← e) (let z : a + m + n ≡ a + (n + m) = omega arith in rw z))
+    ]
+
+-- ---- Some numbers, and others in front of them.
+pub numbers-none : (out : List ℕ) (x : Counted) → x .count ≤ 4294967295 → PutsNumbers out x [] out x
+numbers-none out x h =
+    record {
+      puts = puts-none out (x .at);
+      count = let e : x .count + 0 ≡ x .count = omega arith in rw e (most-whole (x .count) h);
+    }
+
+pub numbers-then : {out out₁ out₂ : List ℕ} {x x₁ x₂ : Counted} {ns ms : List ℕ} → PutsNumbers out x ms out₁ x₁
+    → PutsNumbers out₁ x₁ ns out₂ x₂ → PutsNumbers out x (ns ++ ms) out₂ x₂
+numbers-then {x = x} {ns = ns} {ms} p q =
+    record {
+      puts = puts-then (p .puts) (q .puts);
+      count = q .count ∙ rw (p .count, length-append ns ms) (most-then (x .count) (length ms) (length ns));
+    }
+
+pub numbers-as : {out out′ : List ℕ} {x x′ : Counted} {ns ms : List ℕ} → PutsNumbers out x ns out′ x′ → ns ≡ ms
+    → PutsNumbers out x ms out′ x′
+numbers-as p e = rw e at p
+
+-- ---- The blocks of one region more. One that is not there has none.
+total-next : {A : Type 0} (f : A → ℕ) (d : A) (xs : List A) (r : ℕ) → f d ≡ 0
+    → total f (take (suc r) xs) ≡ total f (take r xs) + f (getD xs r d)
+total-next f d [] zero e = omega arith
+total-next f d [] (suc r) e = omega arith
+total-next f d (x ∷ xs) zero e = omega arith
+total-next f d (x ∷ xs) (suc r) e = let z = total-next f d xs r e in omega arith
+
+pub none-before : (w : List ℕ) → BlocksBefore w 0 0
+none-before w = record { is = λ g s. refl; within = omega arith }
+
+pub blocks-more : {w : List ℕ} {r a n : ℕ} → BlocksBefore w r a → OfRecord w (λ g. n ≡ length (region g r .blocks)) → n ≤ 65535
+    → BlocksBefore w (r + 1) (a + n)
+blocks-more {r = r} b e h =
+    let within = b .within in
+    record {
+      is = λ g s. rw (add-one r) (rw (b .is g s, e g s)
+          (sym (total-next (λ (z : Region). length (z .blocks)) nowhere (g .regions) r refl)));
+      within = omega arith;
+    }

@@ -1,0 +1,98 @@
+// The numbers of a list's child nodes, with their count in front.
+ghost use mathlib.Core.Path.{_≡_};
+ghost use mathlib.Core.List.{[], _∷_};
+ghost use Prim.Native.Nat.{_+_};
+ghost use Rattle.writing.specs.Parts.{most};
+ghost use Rattle.child_numbers.specs.Numbers as numbers;
+ghost use Rattle.child_numbers.specs.Lists as lists;
+use children::list_before;
+use state::cells::BLOCKS;
+use state::cells::JOIN;
+use state::cells::cell_a;
+use state::cells::cell_tag;
+use state::cells::joined_list;
+use store::WORDS;
+use writing::place::Place;
+use writing::place::put;
+
+// Where the next number ends, and how many were put.
+pub struct Counted {
+    pub at: Place,
+    pub count: u32,
+}
+
+fn one_more(n: u32) -> u32
+    ensures { λ a. ⌜ a ≡ most (n + 1) ⌝ }
+{
+    if n < 4294967295 {
+        return n + 1;
+    }
+    n
+}
+
+fn put_number(out: &mut [u32], x: Counted, node: u32) -> Counted
+    ensures { λ a. ⌜ numbers.PutsNumbers (now (out .entry)) x (node ∷ []) (now (out .exit)) a ⌝ }
+{
+    let at = put(out, x.at, node);
+    let count = one_more(x.count);
+    Counted { at, count }
+}
+
+// How many blocks stand before region r: the number of its first block's node.
+pub fn blocks_before(w: &[u16; WORDS], r: u16) -> u32
+    ensures { λ a. ⌜ numbers.BlocksBefore (now (w .entry)) r a ⌝ }
+{
+    let mut sum: u32 = 0;
+    let mut i: u16 = 0;
+    while i < r {
+        sum += fields::block_count(w, i) as u32;
+        i += 1;
+    }
+    sum
+}
+
+fn put_block_numbers(w: &[u16; WORDS], out: &mut [u32], x: Counted, r: u16) -> Counted
+    ensures { λ a. ⌜ lists.PutsBlocks (now (w .entry)) r (now (out .entry)) x (now (out .exit)) a ⌝ }
+{
+    let first = blocks_before(w, r);
+    let mut y = x;
+    let mut b = fields::block_count(w, r);
+    while 0 < b {
+        b -= 1;
+        y = put_number(out, y, first + (b as u32));
+    }
+    y
+}
+
+// What a cell adds to a list, but for another list.
+fn put_cell_numbers(w: &[u16; WORDS], out: &mut [u32], x: Counted, h: u16) -> Counted
+    ensures { λ a. ⌜ lists.PutsCell (now (w .entry)) h (now (out .entry)) x (now (out .exit)) a ⌝ }
+{
+    if cell_tag(w, h) == BLOCKS {
+        return put_block_numbers(w, out, x, cell_a(w, h));
+    }
+    put_number(out, x, cell_a(w, h) as u32)
+}
+
+fn put_numbers(w: &[u16; WORDS], out: &mut [u32], x: Counted, list: u16) -> Counted
+    ensures { λ a. ⌜ lists.PutsList (now (w .entry)) list (now (out .entry)) x (now (out .exit)) a ⌝ }
+{
+    let mut y = x;
+    let mut h = list;
+    while 0 < h {
+        if cell_tag(w, h) == JOIN {
+            y = put_numbers(w, out, y, joined_list(w, h));
+        } else {
+            y = put_cell_numbers(w, out, y, h);
+        }
+        h = list_before(w, h);
+    }
+    y
+}
+
+pub fn put_kids(w: &[u16; WORDS], out: &mut [u32], at: Place, list: u16) -> Place
+    ensures { λ a. ⌜ lists.PutsKids (now (w .entry)) list (now (out .entry)) at (now (out .exit)) a ⌝ }
+{
+    let x = put_numbers(w, out, Counted { at, count: 0 }, list);
+    put(out, x.at, x.count)
+}

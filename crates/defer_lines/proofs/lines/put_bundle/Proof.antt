@@ -1,0 +1,62 @@
+use borrow.Author.Needs.{needs}
+use Rattle.writing.specs.Puts.{puts-then, puts-as}
+use Rattle.defer_lines.specs.DeferParts.{line-is, condition-is}
+use Rattle.defer_lines.proofs.lines.put_bundle.Statement.{statement}
+use Rattle.defer_lines.proofs.lines.put_bundle.Tie as tie
+
+condition-in-requires : tie.Need-condition-in-requires
+condition-in-requires c κs = search needs
+
+put-condition-requires : tie.Need-put-condition-requires
+put-condition-requires c κs = search needs
+
+put-inputs-requires : tie.Need-put-inputs-requires
+put-inputs-requires c κs = search needs
+
+target-requires : tie.Need-target-requires
+target-requires c κs = search needs
+
+accumulated-count-requires : tie.Need-accumulated-count-requires
+accumulated-count-requires c κs = search needs
+
+put-three-requires : tie.Need-put-three-requires
+put-three-requires c κs = search needs
+
+put-requires : tie.Need-put-requires
+put-requires c κs = search needs
+
+same-length : tie.Need-same-length
+same-length c = search needs
+
+returns : tie.Need-returns
+returns c =
+    let lead = c .before .before in
+    let three = lead .before .before .before .before in
+    let count = three .before .before in
+    let to = count .before in
+    let inputs = to .before .before .before in
+    let condition = inputs .before .before .before .before in
+    let number = condition .before in
+    let start = number .before .before .before in
+    λ g s x d e size shows. puts-as
+    (puts-then
+    (puts-then
+    (puts-then (condition .put-condition .ensures _ (condition-is shows s (start .args .r) d (number .condition-in .ensures) size))
+    (inputs .put-inputs .ensures g s x e shows))
+    (three .put-three .ensures))
+    (lead .put .ensures))
+    (line-is shows s (start .args .r) d (to .target .ensures) (count .accumulated-count .ensures))
+
+pub put-bundle-spec : {M : Type 1} → statement M
+put-bundle-spec =
+    tie.close
+    (tie.spec
+    condition-in-requires
+    put-condition-requires
+    put-inputs-requires
+    target-requires
+    accumulated-count-requires
+    put-three-requires
+    put-requires
+    same-length
+    returns)

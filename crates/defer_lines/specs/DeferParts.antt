@@ -1,0 +1,76 @@
+-- A deferred edge's line, part by part: region, target, count, inputs, condition.
+use mathlib.Core.Path.{_≡_, refl, _∙_}
+use mathlib.Core.Bool.{Bool, true, false, or-false}
+use mathlib.Core.List.{List, [], _∷_, append-nil}
+use Prim.Native.Nat.{ℕ, _+_, _*_, _<_}
+use native.Mathlib.Omega.{arith}
+use lib.Dec.{eqb}
+use lib.ListN.{length, getD}
+use borrow.Author.Tests.{lt-ltb}
+use Rattle.meaning.specs.Graph.{Graph}
+use Rattle.meaning.specs.Lists.{pick}
+use Rattle.nesting.specs.Nesting as nesting
+use Rattle.nesting.specs.Nesting.{NestState, plain, DeferredTarget, DeferredEdgeBundle, DeferredEdgeBundleSet}
+use Rattle.nesting.specs.Nesting.{true-cond, look-up-each}
+use Rattle.nesting.specs.Sheet as sheet
+use Rattle.state.specs.Sections.{section, word, bundles, conditions, set-starts, set-lengths}
+use Rattle.state.specs.Tables.{bundle-at}
+use Rattle.shown.specs.Tables.{ShowsCond, shows-true}
+use Rattle.shown.specs.Sets.{ShowsTarget, shows-region, shows-return, ShowsBundle, no-bundle}
+use Rattle.shown.specs.States.{ShowsOwnSet}
+use Rattle.bundles.specs.Words.{condition-in}
+use Rattle.writing.specs.Puts.{Part, _⊕_}
+use Rattle.writing.specs.Rows.{run, run-list}
+use Rattle.writing.specs.Parts.{each, look-up-at-end, values-part, defer-part}
+
+-- ---- The line.
+target-words : {g : Graph} {t : ℕ} {x : DeferredTarget} → ShowsTarget g t x → sheet.target x .words ≡ t ∷ []
+target-words (shows-region {r} e h) = rw e (go (eqb r 65535))
+  where
+    go : (b : Bool) → pick b (sheet.number-as r "return") (sheet.a-number r) .words ≡ r ∷ []
+    go true = refl
+    go false = refl
+target-words (shows-return e) = rw e
+
+module _ {g : Graph} {w : List ℕ} {p : ℕ} {e : DeferredEdgeBundle} (shows : ShowsBundle g w p e) (s : NestState) (r : ℕ)
+    (d : DeferredEdgeBundleSet) where
+  pub line-is : {t n : ℕ} → t ≡ word w bundles (7 * p + 0) → n ≡ word w bundles (7 * p + 1)
+      → plain (5 ∷ []) ⊕ plain (r ∷ t ∷ n ∷ []) ⊕ values-part s (e .target-inputs)
+      ⊕ plain (sheet.condition (nesting.condition-in d e) .words)
+      ≡ defer-part s r d e
+  unfolding defer-part values-part
+  line-is to count =
+      rw (
+        target-words (shows .target),
+        append-nil,
+        or-false (look-up-each (look-up-at-end s) (e .target-inputs) .twice),
+        to,
+        count,
+        shows .count,
+      )
+
+  pub condition-is : {c n : ℕ} → c ≡ condition-in w p n → n ≡ length d → ShowsCond (section w conditions) c (nesting.condition-in d e)
+  unfolding condition-in
+  condition-is {n} is size = rw (is, size) (go (eqb (length d) 1))
+    where
+      go : (b : Bool) → ShowsCond (section w conditions) (pick b 1 (word w bundles (7 * p + 2))) (pick b true-cond (e .condition))
+      go true = shows-true refl
+      go false = shows .condition .tree
+
+-- ---- A region's set.
+abbrev pub defer-at : NestState → ℕ → DeferredEdgeBundleSet → ℕ → Part
+defer-at s r d i = defer-part s r d (getD d i no-bundle)
+
+module _ {g : Graph} {w : List ℕ} (r : ℕ) {d : DeferredEdgeBundleSet} (set : ShowsOwnSet g w r d) {n : ℕ}
+    (of-length : n ≡ word w set-lengths r) where
+  pub bundle-shown : {start i p : ℕ} → start ≡ word w set-starts r → i < n → p ≡ bundle-at start i
+      → ShowsBundle g w p (getD d i no-bundle)
+  unfolding bundle-at
+  bundle-shown {start} {i} {p} of-start below is =
+      let few = set .few in
+      let room = set .room in
+      let there : p ≡ word w set-starts r + i = is ∙ rw (lt-ltb start 1097 (omega arith), lt-ltb i 33 (omega arith), of-start) in
+      rw there (set .each i (omega arith))
+
+  pub set-is : (s : NestState) → run (defer-at s r d) 0 n ≡ each (defer-part s r d) d
+  set-is s = run-list (defer-at s r d) (defer-part s r d) no-bundle n d (of-length ∙ set .size) (λ i h. refl)

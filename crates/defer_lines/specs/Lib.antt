@@ -1,0 +1,4 @@
+pub mod PartLaws
+pub mod Inputs
+pub mod Conditions
+pub mod DeferParts

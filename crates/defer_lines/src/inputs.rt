@@ -1,0 +1,26 @@
+// The inputs of a deferred edge bundle, with their count in front.
+ghost use Rattle.nesting.specs.Nesting.{DeferredEdgeBundle};
+ghost use Rattle.shown.specs.Sets.{ShowsBundle};
+ghost use Rattle.writing.specs.Parts.{OfState, values-part};
+ghost use Rattle.writing.specs.Puts.{Puts};
+use bundles::bundles::input_count;
+use state::sets::target;
+use state::sets::target_input;
+use store::WORDS;
+use writing::place::Place;
+use writing::place::put_word;
+use writing::value::put_value;
+
+pub fn put_inputs(w: &[u16; WORDS], out: &mut [u32], at: Place, p: u16) -> Place
+    ensures { λ a. ⌜ OfState (now (w .entry)) (λ g s. (e : DeferredEdgeBundle) → ShowsBundle g (now (w .entry)) p e
+        → Puts (now (out .entry)) at (values-part s (e .«target-inputs»)) (now (out .exit)) a) ⌝ }
+{
+    let n = input_count(w, target(w, p));
+    let mut to = at;
+    let mut k = n;
+    while 0 < k {
+        k -= 1;
+        to = put_value(w, out, to, target_input(w, p, k));
+    }
+    put_word(out, to, n)
+}

@@ -1,0 +1,2 @@
+pub mod NodeParts
+pub mod SelectParts
