@@ -2,7 +2,7 @@
 import pathlib
 import sys
 
-FLASH = 160 * 1024
+FLASH = 896 * 1024
 root = pathlib.Path(__file__).resolve().parents[2]
 
 
