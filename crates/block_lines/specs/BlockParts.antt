@@ -14,7 +14,7 @@ use Rattle.writing.specs.declared.place.Place.{Place}
 use Rattle.writing.specs.Puts.{Part, _⊕_, Puts, puts-as}
 use Rattle.writing.specs.Rows.{run, run-all}
 use Rattle.writing.specs.Parts.{output-nodes, look-up-at-end, values-part, node-part, nodes-part, node-words}
-use Rattle.block_lines.specs.PartLaws.{no-nodes, first-node, one-across, each-from}
+use Rattle.writing.specs.PartLaws.{no-nodes-part, first-node-part, one-across, each-from}
 use Rattle.block_lines.specs.Sums.{instructions-before}
 
 module _ (s : NestState) where
@@ -63,12 +63,12 @@ module _ (s : NestState) where
         → ((b : ℕ) → b < length bs → h (m + b) ≡ node-part s (block (n + b) r (k + instructions-before bs b) (getD bs b [])))
         → run h m (length bs) ≡ nodes-part s (blocks-from n r k bs)
     unfolding run
-    run-blocks h m n k [] e = sym (no-nodes s)
+    run-blocks h m n k [] e = sym (no-nodes-part s)
     run-blocks h m n k (b ∷ bs) e =
         let first : h m ≡ node-part s (block n r k b) = rw (add-zero m, add-zero n, add-zero k) at (e 0 (omega arith)) in
         let rest = run-blocks h (suc m) (suc n) (k + length b) bs
         (λ j l. rw (one-across m j, one-across n j, ← add-assoc k (length b) (instructions-before bs j)) at (e (suc j) (omega arith))) in
-        rw (first, rest) (sym (first-node s (block n r k b) (blocks-from (suc n) r (k + length b) bs)))
+        rw (first, rest) (sym (first-node-part s (block n r k b) (blocks-from (suc n) r (k + length b) bs)))
 
     pub puts-blocks : (bs : List (List Instr)) {m b : ℕ} {out out₁ : List ℕ} {at at₁ : Place} → m ≡ length bs → b ≤ 0
         → Puts out at (run (block-part bs) b (m - b)) out₁ at₁ → Puts out at (nodes-part s (blocks-from n r 0 bs)) out₁ at₁

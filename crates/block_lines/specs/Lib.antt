@@ -1,4 +1,3 @@
-pub mod PartLaws
 pub mod Sums
 pub mod BlockParts
 pub mod RecordNames

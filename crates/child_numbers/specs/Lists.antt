@@ -3,9 +3,7 @@ use mathlib.Core.Path.{_≡_, refl, sym, ap, _∙_}
 use mathlib.Core.List.{List, [], _∷_, _++_, append-assoc, append-nil}
 use Prim.Native.Nat.{ℕ, zero, suc, _+_, _-_, _≤_, _<_}
 use native.Mathlib.Omega.{arith}
-use native.Mathlib.Decide.{ℕ-discrete}
 use lib.ListN.{length, drop}
-use borrow.Author.Tests.{eq-eqb, ne-eqb}
 use Rattle.meaning.specs.Lists.{numbers-from}
 use Rattle.meaning.specs.Graph.{Graph, Instr, region}
 use Rattle.meaning.specs.Runs.{Nodes, ⟨⟩, _▸_, block, select, loop, exit}
@@ -14,9 +12,10 @@ use Rattle.record.specs.Stands.{Stands, OfRecord}
 use Rattle.nesting.specs.Nesting.{plain, join, blocks-from, blocks-of}
 use Rattle.nesting.specs.Sheet.{kids}
 use Rattle.state.specs.Sections.{section, cells}
-use Rattle.shown.specs.Cells.{ShowsNodes, no-nodes, all-blocks, two-lists, then-exit, then-select, the-loop}
+use Rattle.shown.specs.Cells.{ShowsNodes}
+use Rattle.shown.specs.CellSteps.{no-list}
 use Rattle.children.specs.CellByCell.{Added, added-blocks, added-list, added-exit, added-select, added-loop, Appended, appends, appended}
-use Rattle.children.specs.CellByCell.{cell-word, list-at, list-before, earlier-below}
+use Rattle.children.specs.CellByCell.{cell-word, list-at, list-before}
 use Rattle.writing.specs.declared.place.Place.{Place}
 use Rattle.writing.specs.Puts.{Puts, puts-then}
 use Rattle.writing.specs.Parts.{most}
@@ -82,7 +81,7 @@ module _ (w : List ℕ) (h : ℕ) {out out′ : List ℕ} {x x′ : Counted} whe
   cell-blocks is tag of p g s ks added other = go added (omega arith)
     where
       go : {m : ℕ} → Added g w h ks m → m ≡ 1 → PutsNumbers out x (kids ks) out′ x′
-      go (added-blocks e) _ = rw e (rw of at (p g s))
+      go (added-blocks _ e) _ = rw e (rw of at (p g s))
       go (added-list e) z = absurd (omega arith)
       go (added-exit _ _) z = absurd (omega arith)
       go (added-select _ _ _ _) z = absurd (omega arith)
@@ -93,7 +92,7 @@ module _ (w : List ℕ) (h : ℕ) {out out′ : List ℕ} {x x′ : Counted} whe
   cell-one is tag of p g s ks added other = go added refl
     where
       go : {m : ℕ} → Added g w h ks m → m ≡ cell-word w h 0 → PutsNumbers out x (kids ks) out′ x′
-      go (added-blocks e) z = absurd (tag (omega arith))
+      go (added-blocks _ e) z = absurd (tag (omega arith))
       go (added-list e) z = absurd (other (omega arith))
       go (added-exit _ e) _ = rw e (rw of at p)
       go (added-select _ _ _ e) _ = rw e (rw of at p)
@@ -112,18 +111,6 @@ abbrev pub ListPut : List ℕ → ℕ → ℕ → List ℕ → Counted → List 
 ListPut w list h out₀ x₀ out x =
     OfRecord w (λ g. (ks : Nodes) → ShowsNodes g (section w cells) list ks → BehindPut g w h ks out₀ x₀ out x)
 
--- Each list that a cell names is an earlier one.
-pub inner-below : (w : List ℕ) {h q : ℕ} → 0 < h → q ≡ list-at w h 2 → q < h
-inner-below w {h} some e = rw e (earlier-below (cell-word w h 2) h some)
-
-pub before-below : (w : List ℕ) {h q : ℕ} → 0 < h → q ≡ list-before w h → q < h
-unfolding list-before
-before-below w {h} some e =
-    elim (ℕ-discrete (cell-word w h 0) 5) [
-      | yes d ↦ rw (e, eq-eqb (cell-word w h 0) 5 d) some
-      | no d ↦ rw (e, ne-eqb (cell-word w h 0) 5 d) (earlier-below (cell-word w h 1) h some)
-    ]
-
 pub list-start : (w : List ℕ) (list : ℕ) (out : List ℕ) (x : Counted) → x .count ≤ 4294967295 → ListPut w list list out x out x
 list-start w list out x h g s ks shown =
     record { left = ks; behind = []; shown = shown; whole = sym (append-nil (kids ks)); puts = numbers-none out x h }
@@ -132,14 +119,6 @@ list-start w list out x h g s ks shown =
 pub list-as : {w : List ℕ} {list h h′ : ℕ} {out₀ out out′ : List ℕ} {x₀ x x′ : Counted} → ListPut w list h out₀ x₀ out x → h′ ≡ h
     → out′ ≡ out → x′ ≡ x → ListPut w list h′ out₀ x₀ out′ x′
 list-as p e f d = rw (e, f, d) p
-
-no-list : {g : Graph} {l : List ℕ} {h : ℕ} {ks : Nodes} → ShowsNodes g l h ks → h ≡ 0 → ks ≡ ⟨⟩
-no-list (no-nodes _) z = refl
-no-list (all-blocks _ a _ _) z = absurd (omega arith)
-no-list (two-lists _ _ a _ _ _ _ _) z = absurd (omega arith)
-no-list (then-exit _ a _ _ _) z = absurd (omega arith)
-no-list (then-select _ a _ _ _ _ _ _) z = absurd (omega arith)
-no-list (the-loop _ _ a _ _ _ _ _) z = absurd (omega arith)
 
 module _ (w : List ℕ) (list h : ℕ) {out₀ out : List ℕ} {x₀ x : Counted} (before : ListPut w list h out₀ x₀ out x) where
   -- What the last cell of list h adds is put.
@@ -163,7 +142,7 @@ module _ (w : List ℕ) (list h : ℕ) {out₀ out : List ℕ} {x₀ x : Counted
   list-inner some is tag of {out′} {x′} p = list-turn some λ g s ms added. go g s added (omega arith)
     where
       go : (g : Graph) → Stands w g → {ms : Nodes} {m : ℕ} → Added g w h ms m → m ≡ 2 → PutsNumbers out x (kids ms) out′ x′
-      go g s (added-blocks _) z = absurd (omega arith)
+      go g s (added-blocks _ _) z = absurd (omega arith)
       go g s {ms} (added-list l) _ = p g s ms (rw of l)
       go g s (added-exit _ _) z = absurd (omega arith)
       go g s (added-select _ _ _ _) z = absurd (omega arith)

@@ -30,7 +30,7 @@ fn one_more(n: u32) -> u32
     n
 }
 
-fn put_number(out: &mut [u32], x: Counted, node: u32) -> Counted
+pub fn put_number(out: &mut [u32], x: Counted, node: u32) -> Counted
     ensures { λ a. ⌜ numbers.PutsNumbers (now (out .entry)) x (node ∷ []) (now (out .exit)) a ⌝ }
 {
     let at = put(out, x.at, node);

@@ -10,14 +10,14 @@ use lib.ListN.{length}
 use borrow.Author.Tests.{lt-ltb, le-ltb, eq-eqb, ne-eqb}
 use Rattle.meaning.specs.Lists.{pick}
 use Rattle.meaning.specs.Graph.{Value, SelectionKind, Graph, region, exit-invocation}
-use Rattle.meaning.specs.Runs.{Nodes, ⟨⟩, _▸_, Cases, loop, exit}
+use Rattle.meaning.specs.Runs.{Nodes, ⟨⟩, _▸_, Cases, loop, exit, case-count}
 use Rattle.nesting.specs.Nesting.{join, blocks-of, new-case, new-select, LoopInputs, loop-node}
 use Rattle.state.specs.Sections.{section, word, cells}
 use Rattle.state.specs.Tables.{earlier}
 use Rattle.shown.specs.Values.{value}
 use Rattle.shown.specs.Tables.{ShowsShape}
 use Rattle.shown.specs.Cells.{CellIs, ShowsKept, ShowsNodes, no-nodes, all-blocks, two-lists, then-exit, then-select, the-loop}
-use Rattle.shown.specs.Cells.{ShowsCaseCells, no-cases, case-and, case-count}
+use Rattle.shown.specs.Cells.{ShowsCaseCells, no-cases, case-and}
 
 abbrev pub cell-word : List ℕ → ℕ → ℕ → ℕ
 cell-word w h i = word w cells (6 * h + i)

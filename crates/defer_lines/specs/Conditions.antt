@@ -15,7 +15,7 @@ use Rattle.lookups.specs.Materialized.{part-below}
 use Rattle.writing.specs.declared.place.Place.{Place}
 use Rattle.writing.specs.Puts.{Part, _⊕_, Puts}
 use Rattle.writing.specs.Rows.{run, run-list}
-use Rattle.defer_lines.specs.PartLaws.{each-plain}
+use Rattle.writing.specs.PartLaws.{each-plain}
 
 -- What a routine that puts condition c makes of the lent words, and of the place.
 abbrev pub PutsCondition : List ℕ → ℕ → List ℕ → Place → List ℕ → Place → Type 0

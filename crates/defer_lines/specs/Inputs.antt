@@ -16,8 +16,8 @@ use Rattle.bundles.specs.Words.{input-count}
 use Rattle.bundles.specs.Targets.{input-count-shown}
 use Rattle.writing.specs.Puts.{Part, _⊕_}
 use Rattle.writing.specs.Rows.{run, run-list}
+use Rattle.writing.specs.PartLaws.{values-counted}
 use Rattle.writing.specs.Parts.{Concluded, value-part, values-part}
-use Rattle.defer_lines.specs.PartLaws.{values-are}
 
 -- Input k of bundle p.
 abbrev pub input-part : List ℕ → NestState → ℕ → ℕ → Part
@@ -37,4 +37,4 @@ module _ {g : Graph} {w : List ℕ} {s : NestState} (c : Concluded g w s) {p : �
   pub inputs-are : plain (n ∷ []) ⊕ run (input-part w s p) 0 n ≡ values-part s (e .target-inputs)
   inputs-are =
       rw (run-list (input-part w s p) (value-part s) (undef 0) n (e .target-inputs) count-is input-is, count-is)
-      (sym (values-are s (e .target-inputs)))
+      (sym (values-counted s (e .target-inputs)))

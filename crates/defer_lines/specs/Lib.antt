@@ -1,4 +1,3 @@
-pub mod PartLaws
 pub mod Inputs
 pub mod Conditions
 pub mod DeferParts

@@ -6,7 +6,7 @@ use mathlib.Core.List.{List, [], _∷_, _++_, append-assoc, append-nil}
 use Prim.Native.Nat.{ℕ, suc, _+_, _*_, _≤_, _<_}
 use native.Mathlib.Omega.{arith}
 use native.Mathlib.Decide.{decLt}
-use lib.ListN.{length, getD, set, length-set, length-append, List·getD-append}
+use lib.ListN.{length, getD, set, replicate, length-set, length-append, List·getD-append, List·getD-eq-default, getD-replicate}
 use lib.Seq.{getD-set-same, getD-set-other, getD-append-seam}
 use lib.Dec.{eqb}
 use borrow.Author.Tests.{lt-ltb, eq-eqb, ne-eqb}
@@ -19,7 +19,7 @@ use Rattle.state.specs.declared.defined.Defined.the-variants.{Number, Full}
 use Rattle.state.specs.Sections.{section, word, conditions, outputs}
 use Rattle.state.specs.Values.{output-word, undef-word}
 use Rattle.state.specs.Tables.{earlier-part, shape-size, OutputDefined, output-defined, outputs-full}
-use Rattle.shown.specs.Values.{value, equal-values, value-output, value-undef}
+use Rattle.shown.specs.Values.{value, equal-values, value-output, value-undef, value-beyond}
 use Rattle.shown.specs.Stores.{ChangesOnly, nothing-changes, changes-then}
 use Rattle.shown.specs.Tables.{ShowsValues, ShowsShape, shape-bool, shape-number, cond-count, ShowsCond, shows-true, shows-false}
 use Rattle.shown.specs.Tables.{shows-undef, shows-merge, ShowsConds, no-parts, part-and, ShowsCondition, ShowsTables, ShowsDefined}
@@ -80,12 +80,19 @@ module _ (l : List ℕ) (c : ℕ) (ws l′ : List ℕ) {s : NestState} (t : Show
     (vs : List Value)
     (node : word l conditions (11 * c + 0) ≡ n) (shape : ShowsShape (shape-at l c) (length vs) kind)
     (scrutinee : value (word l conditions (11 * c + 2)) ≡ v)
-    (len : length ws ≡ 8) (each : (k : ℕ) → k < length vs → value (getD ws k 0) ≡ getD vs k (undef 0)) where
+    (len : length ws ≡ 8) (each : (k : ℕ) → k < length vs → value (getD ws k 0) ≡ getD vs k (undef 0))
+    (beyond : (k : ℕ) → length vs ≤ k → k < 8 → getD ws k 0 ≡ 66) where
   abbrev put-together : StepAnswer Value
   put-together = pick (is-test kind vs) (give v) (define-output n 1 vs) s
 
   shown-words : ShowsValues ws 0 vs
-  shown-words = record { few = few-cases shape; each = λ j h. let z : 0 + j ≡ j = omega arith in rw z (each j h) }
+  shown-words = record { few = few-cases shape; each = λ j h. let z : 0 + j ≡ j = omega arith in rw z (at j h) }
+    where
+      at : (j : ℕ) → j < 8 → value (getD ws j 0) ≡ getD vs j (undef 0)
+      at j h = elim (decLt j (length vs)) [
+        | yes l ↦ each j l
+        | no l ↦ ap value (beyond j (omega arith) h) ∙ value-beyond ∙ sym (List·getD-eq-default vs (undef 0) (omega arith))
+      ]
 
   as-value : {a : Defined} {b : StepAnswer Value} → ShowsDefined (λ o u. u ≡ output o) l′ a b → {o x : ℕ} → a ≡ Number o → o < 512
       → x ≡ output-word o
@@ -120,6 +127,7 @@ record PartsShown (l : List ℕ) (c j : ℕ) (l₁ ws : List ℕ) (ts : LazyCond
   values : List Value
   count : length values ≡ j
   each : (k : ℕ) → k < j → value (getD ws k 0) ≡ getD values k (undef 0)
+  beyond : (k : ℕ) → j ≤ k → k < 8 → getD ws k 0 ≡ 66
   rest : LazyConds
   left : ShowsConds (section l conditions) c j rest
   total : j + cond-count rest ≡ cond-count ts
@@ -138,17 +146,18 @@ unfolding earlier-part
 part-is c j p q g h e b = h ∙ rw (g .others conditions (omega arith) (omega arith), e, lt-ltb q c b)
 
 module _ {l : List ℕ} {c : ℕ} {ts : LazyConds} {s : NestState} where
-  parts-start : {l₁ ws : List ℕ} {j : ℕ} → j ≡ 0 → l₁ ≡ l → length ws ≡ 8 → ShowsConds (section l conditions) c 0 ts → ShowsTables l s
+  parts-start : {l₁ ws : List ℕ} {j : ℕ} → j ≡ 0 → l₁ ≡ l → ws ≡ replicate 8 66 → ShowsConds (section l conditions) c 0 ts → ShowsTables l s
       → PartsShown l c j l₁ ws ts s
   parts-start e f g sc t =
       record {
         state = s;
         tables = rw f t;
         changes = rw f (nothing-changes outputs 3 l);
-        len = g;
+        len = ap length g;
         values = [];
         count = sym e;
         each = λ k h. absurd (omega arith);
+        beyond = λ k a b. rw g (getD-replicate 8 k 66 0 b);
         rest = ts;
         left = rw e sc;
         total = omega arith;
@@ -188,6 +197,7 @@ module _ {l : List ℕ} {c : ℕ} {ts : LazyConds} {s : NestState} where
               ∙ ap value (getD-set-same ws j v 0 (omega arith)) ∙ d .shows
               ∙ sym (getD-append-seam xs (d .value) [] (undef 0)) ∙ ap (λ z. getD (xs ++ (d .value ∷ [])) z (undef 0)) (sym end))
         ];
+        beyond = λ k a b. ap (λ z. getD z k 0) ue ∙ getD-set-other ws j k v 0 (omega arith) ∙ x .beyond k (omega arith) b;
         rest = rest;
         left = (let z : i ≡ suc j = omega arith in rw z ps);
         total = omega arith;
@@ -253,7 +263,8 @@ module _ {l l′ : List ℕ} {c : ℕ} where
       let same = x .changes .others conditions (omega arith) (omega arith) in
       let counted : length (x .values) ≡ cond-count ts = x .count ∙ size in
       let r = merges-shown l₁ c ws l′ (x .tables) {n = n} {kind = kind} {v = v} (x .values) (rw same node) (rw (same, counted) shape)
-      (rw same scrutinee) (x .len) (λ k i. x .each k (let z = x .count in omega arith)) m in
+      (rw same scrutinee) (x .len) (λ k i. x .each k (let z = x .count in omega arith))
+      (λ k a b. x .beyond k (let z = x .count in omega arith) b) m in
       rw ended (record { answer = r .answer; changes = changes-then (x .changes) (r .changes) })
 
   -- A part is refused: so is the whole.
@@ -291,7 +302,7 @@ mutual
       full-shown b lt (λ ts d n s′ z. parts-shown ps ts d n s′ z) pe (λ u d s′ z. made-shown m u d s′ z) t sc s y
 
   parts-shown : {l l₁ ws : List ℕ} {c j : ℕ} → PartsMade l c j l₁ ws → RecordsParts l c j l₁ ws
-  parts-shown (no-part e f g) ts sc n s t = parts-start e f (ap length g) sc t
+  parts-shown (no-part e f g) ts sc n s t = parts-start e f g sc t
   parts-shown (part-more {l} {c} ps lt pe m ie ue) ts sc n s t =
       let x = parts-shown ps ts sc n s t in
       parts-next (rw (← n) at lt) (let z = few-parts (shape-at l c) in omega arith) pe ie ue (λ u d s′ z. made-shown m u d s′ z) x

@@ -46,7 +46,7 @@ mutual
 
   -- The first j parts of record c are made: the words then, and the values in eight words.
   pub data PartsMade : List ℕ → ℕ → ℕ → List ℕ → List ℕ → Type 0 where
-    no-part : {l l₁ vs : List ℕ} {c j : ℕ} → j ≡ 0 → l₁ ≡ l → vs ≡ replicate 8 0 → PartsMade l c j l₁ vs
+    no-part : {l l₁ vs : List ℕ} {c j : ℕ} → j ≡ 0 → l₁ ≡ l → vs ≡ replicate 8 66 → PartsMade l c j l₁ vs
     part-more : {l l₁ l₂ vs ws : List ℕ} {c j i p v : ℕ} → PartsMade l c j l₁ vs → j < shape-size (shape-at l c) → p ≡ part-at l₁ c j
         → Materializes l₁ p l₂ (Number v)
         → i ≡ j + 1 → ws ≡ set vs j v → PartsMade l c i l₂ ws

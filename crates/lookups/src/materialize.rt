@@ -14,6 +14,7 @@ use state::defined::Defined;
 use state::outputs::define_output;
 use state::values::FALSE;
 use state::values::TRUE;
+use state::values::UNDEF;
 use state::values::output;
 use state::values::undef;
 use store::WORDS;
@@ -60,7 +61,7 @@ pub fn materialize_lazy_cond(w: &mut [u16; WORDS], c: u16) -> Defined
         return Defined::Number(undef(1));
     }
     let n = shape_size(cond_shape(w, c));
-    let mut vs = [0u16; 8];
+    let mut vs = [UNDEF; 8];
     let mut j: u16 = 0;
     while j < n {
         let part = cond_part(w, c, j);

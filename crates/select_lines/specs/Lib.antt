@@ -1,2 +1,4 @@
-pub mod NodeParts
 pub mod SelectParts
+pub mod OwnOutputs
+pub mod CaseNumbers
+pub mod SelectLines

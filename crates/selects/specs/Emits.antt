@@ -1,10 +1,10 @@
 -- Outputs and conditions of a select, as the words and the graph have them.
-use mathlib.Core.Path.{_≡_, sym, _∙_}
+use mathlib.Core.Path.{_≡_, sym, _∙_, refl}
 use mathlib.Core.List.{List, _∷_}
 use Prim.Native.Nat.{ℕ, _+_, _*_, _≤_, _<_}
 use native.Mathlib.Omega.{arith}
 use native.Mathlib.Decide.{decLt}
-use lib.ListN.{length, getD, set, length-set}
+use lib.ListN.{length, getD, set, replicate, length-set, getD-replicate}
 use lib.Seq.{getD-set-same, getD-set-other}
 use lib.Dec.{eqb}
 use borrow.Author.Tests.{eq-eqb, ne-eqb}
@@ -25,16 +25,18 @@ use Rattle.state.specs.declared.defined.Made.{Made}
 use Rattle.state.specs.declared.defined.Made.the-variants.{Done, Full}
 use Rattle.selects.specs.Turns.{Steps, Turns, LeavesRecord, front-turns}
 
--- ---- Eight words, of which the first have what each case has.
-pub record InCases (n : ℕ) (f : ℕ → ℕ) (vs : List ℕ) : Type 0 where
+-- ---- Eight words, of which the first have what each case has, and the others `fill`.
+pub record InCases (n : ℕ) (f : ℕ → ℕ) (fill : ℕ) (vs : List ℕ) : Type 0 where
   pub size : length vs ≡ 8
   pub each : (j : ℕ) → j < n → getD vs j 0 ≡ f j
+  pub others : (j : ℕ) → n ≤ j → j < 8 → getD vs j 0 ≡ fill
 
-pub in-none : (f : ℕ → ℕ) (vs : List ℕ) → length vs ≡ 8 → InCases 0 f vs
-in-none f vs e = record { size = e; each = λ j h. absurd (omega arith) }
+pub in-none : (f : ℕ → ℕ) (fill : ℕ) → InCases 0 f fill (replicate 8 fill)
+in-none f fill = record { size = refl; each = λ j h. absurd (omega arith); others = λ j a b. getD-replicate 8 j fill 0 b }
 
-pub in-more : {n : ℕ} {f : ℕ → ℕ} {vs : List ℕ} → InCases n f vs → n < 8 → {v : ℕ} → v ≡ f n → InCases (n + 1) f (set vs n v)
-in-more {n} {f} {vs} x h {v} e =
+pub in-more : {n : ℕ} {f : ℕ → ℕ} {fill : ℕ} {vs : List ℕ} → InCases n f fill vs → n < 8 → {v : ℕ} → v ≡ f n
+    → InCases (n + 1) f fill (set vs n v)
+in-more {n} {f} {vs = vs} x h {v} e =
     let s = x .size in
     record {
       size = length-set vs n v ∙ s;
@@ -42,10 +44,11 @@ in-more {n} {f} {vs} x h {v} e =
         | yes c ↦ getD-set-other vs n j v 0 (omega arith) ∙ x .each j c
         | no c ↦ (let z : j ≡ n = omega arith in rw z (getD-set-same vs n v 0 (omega arith) ∙ e))
       ];
+      others = λ j a b. getD-set-other vs n j v 0 (omega arith) ∙ x .others j (omega arith) b;
     }
 
-pub in-all : {n m k : ℕ} {f : ℕ → ℕ} {vs : List ℕ} → InCases n f vs → n ≤ m → m ≤ n → m ≡ k → InCases k f vs
-in-all x a b e = record { size = x .size; each = λ j h. x .each j (omega arith) }
+pub in-all : {n m k : ℕ} {f : ℕ → ℕ} {fill : ℕ} {vs : List ℕ} → InCases n f fill vs → n ≤ m → m ≤ n → m ≡ k → InCases k f fill vs
+in-all x a b e = record { size = x .size; each = λ j h. x .each j (omega arith); others = λ j c d. x .others j (omega arith) d }
 
 unfoldable pub value-in-case : List ℕ → ℕ → ℕ → ℕ → ℕ
 value-in-case l p k ty = pick (eqb p 65535) (undef-word ty) (input-word l p k)
@@ -59,10 +62,10 @@ unfolding value-in-case
 value-some l p k ty d = rw (ne-eqb _ _ d)
 
 abbrev pub ValuesIn : List ℕ → List ℕ → ℕ → ℕ → List ℕ → Type 0
-ValuesIn l places k ty vs = InCases (case-total l) (λ j. value-in-case l (getD places j 0) k ty) vs
+ValuesIn l places k ty vs = InCases (case-total l) (λ j. value-in-case l (getD places j 0) k ty) 66 vs
 
 abbrev pub ConditionsIn : List ℕ → List ℕ → List ℕ → Type 0
-ConditionsIn l places vs = InCases (case-total l) (λ j. per-case-condition l j (getD places j 0)) vs
+ConditionsIn l places vs = InCases (case-total l) (λ j. per-case-condition l j (getD places j 0)) 0 vs
 
 -- ---- Input k of the bundle at q to target t.
 pub data EmitInput (g : Graph) (node q t : ℕ) (places : List ℕ) (k : ℕ) (l l′ : List ℕ) : Made → Type 0 where

@@ -4,7 +4,8 @@ use mathlib.Core.List.{List, [], _∷_, map}
 use mathlib.Core.Option.{none, some}
 use Prim.Native.Nat.{ℕ, suc, _+_, _*_, _≤_, _<_}
 use native.Mathlib.Omega.{arith}
-use lib.ListN.{length, getD, set, length-map}
+use native.Mathlib.Decide.{decLt}
+use lib.ListN.{length, getD, set, length-map, List·getD-eq-default}
 use borrow.Author.Tests.{lt-ltb, eq-eqb, ne-eqb}
 use Rattle.meaning.specs.Graph.{Graph, undef}
 use Rattle.meaning.specs.facts.Tests.{clash}
@@ -14,7 +15,7 @@ use Rattle.nesting.specs.Nesting.{DeferredTarget, DeferredEdgeBundle, DeferredE
 use Rattle.nesting.specs.Nesting.{PerCaseDeferred, per-case-of, get-edge-bundle-by-target, condition-in, conditions-of, undef-cond}
 use Rattle.state.specs.Sections.{word, cases}
 use Rattle.state.specs.Tables.{input-word, case-total}
-use Rattle.shown.specs.Values.{value, value-undef}
+use Rattle.shown.specs.Values.{value, value-undef, value-beyond}
 use Rattle.shown.specs.Tables.{ShowsCondition, shows-undef, shows-false, ShowsParts, none-left, one-and, cond-count, ShowsValues}
 use Rattle.shown.specs.Sets.{ShowsTarget, ShowsSet, target-size, no-bundle}
 use Rattle.shown.specs.SetSteps.{condition-shown}
@@ -112,7 +113,7 @@ module _ {g : Graph} {w : List ℕ} {r : ℕ} {cs : List MaybeClaimedRegion} (sh
     {places : List ℕ}
     (at : ShowsPlaces w x cs places) where
   pub values-shown : (k ty : ℕ) → k < target-size g x → ty < 256 → {vs : List ℕ}
-      → InCases (case-total w) (λ j. value-in-case w (getD places j 0) k ty) vs
+      → InCases (case-total w) (λ j. value-in-case w (getD places j 0) k ty) 66 vs
       → ShowsValues vs 0 (map (nesting.value-in-case k ty) (per-cases x cs))
   values-shown k ty h b {vs} y =
       let size = shown .size in
@@ -121,17 +122,18 @@ module _ {g : Graph} {w : List ℕ} {r : ℕ} {cs : List MaybeClaimedRegion} (sh
       length-map (per-cases x cs) (nesting.value-in-case k ty) ∙ length-map cs _ in
       record {
         few = omega arith;
-        each = λ j i.
-            let below : j < length cs = omega arith in
-            let z : 0 + j ≡ j = omega arith in
-            rw z (ap value (y .each j (omega arith)) ∙ value-shown (shown .sets j below) (at .each j below) k ty h b
-            ∙ sym (getD-map-in (nesting.value-in-case k ty) (per-cases x cs) j (nesting.per-case-deferred x (deferred-of no-case))
-            (undef 0)
-            (rw (length-map cs (λ c. nesting.per-case-deferred x (deferred-of c))) below)
-            ∙ ap (nesting.value-in-case k ty) (getD-map-in (λ c. nesting.per-case-deferred x (deferred-of c)) cs j no-case _ below)));
+        each = λ j i. let z : 0 + j ≡ j = omega arith in rw z (elim (decLt j (length cs)) [
+          | yes below ↦ ap value (y .each j (omega arith)) ∙ value-shown (shown .sets j below) (at .each j below) k ty h b
+              ∙ sym (getD-map-in (nesting.value-in-case k ty) (per-cases x cs) j (nesting.per-case-deferred x (deferred-of no-case))
+              (undef 0)
+              (rw (length-map cs (λ c. nesting.per-case-deferred x (deferred-of c))) below)
+              ∙ ap (nesting.value-in-case k ty) (getD-map-in (λ c. nesting.per-case-deferred x (deferred-of c)) cs j no-case _ below))
+          | no above ↦ ap value (y .others j (omega arith) i) ∙ value-beyond
+              ∙ sym (List·getD-eq-default (map (nesting.value-in-case k ty) (per-cases x cs)) (undef 0) (omega arith))
+        ]);
       }
 
-  pub parts-shown : {parts : List ℕ} → InCases (case-total w) (λ j. per-case-condition w j (getD places j 0)) parts
+  pub parts-shown : {parts : List ℕ} → InCases (case-total w) (λ j. per-case-condition w j (getD places j 0)) 0 parts
       → ShowsParts w parts 0 (conditions-of (per-cases x cs))
   parts-shown {parts} y =
       let size = shown .size in

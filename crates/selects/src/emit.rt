@@ -26,6 +26,7 @@ use state::sets::set_start;
 use state::sets::set_target_input;
 use state::sets::target;
 use state::sets::target_input;
+use state::values::UNDEF;
 use state::values::output;
 use state::values::undef;
 use store::WORDS;
@@ -44,7 +45,7 @@ fn values_in_cases(w: &[u16; WORDS], places: &[u16; 8], k: u16, ty: u16) -> [u16
     ensures { λ a. ⌜ words.ValuesIn (now (w .entry)) (now (places .entry)) k ty a ⌝ }
 {
     let n = case_count(w);
-    let mut vs = [0u16; 8];
+    let mut vs = [UNDEF; 8];
     let mut j: u16 = 0;
     while j < n {
         let v = value_in_case(w, places[j as usize], k, ty);

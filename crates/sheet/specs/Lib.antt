@@ -4,5 +4,6 @@ pub mod Counts
 pub mod Pieces
 pub mod Leftovers
 pub mod Regions
+pub mod Walk
 pub mod Written
 pub mod LinesShown

@@ -52,8 +52,13 @@ module _ (g : Graph) (s : NestState) (o : Outcome) (p : Piece) (us : List Piece)
 
 -- One region alone, with no set.
 alone : (g : Graph) (s : NestState) (p : Piece) → p .deferred ≡ [] → piece-part g s p ≡ lines-part g s p []
-alone g s p e = rw (e, append-nil (piece-part g s p .value), append-nil (piece-part g s p .value), or-false (piece-part g s p .twice),
-    or-false (piece-part g s p .twice))
+alone g s p e = rw (
+  e,
+  append-nil (piece-part g s p .value),
+  append-nil (piece-part g s p .value),
+  or-false (piece-part g s p .twice),
+  or-false (piece-part g s p .twice),
+)
 
 module _ (w : List ℕ) {out out′ : List ℕ} {at at′ : Place} where
   pub lines-whole : {outcome : ℕ} → outcome ≡ 1 → PutsWhole w out at out′ at′ → PutsLines w outcome out at out′ at′

@@ -48,7 +48,7 @@ PutsWhole w out at out′ at′ = OfState w (λ g s. (ks : Nodes) (e : DeferredE
     → ShowsBody g w (g .entry) (region-body ks (e ∷ [])) → Puts out at (region-lines g s (g .entry) ks (e .target-inputs)) out′ at′)
 
 -- ---- The regions of a leftover, each by its state.
-abbrev state-at : NestState → ℕ → StructurizeRegionState
+abbrev pub state-at : NestState → ℕ → StructurizeRegionState
 state-at s r = getD (s .region-states) r not-begun
 
 abbrev pub PutsReady : List ℕ → ℕ → List ℕ → Place → List ℕ → Place → Type 0
@@ -193,42 +193,41 @@ module _ (w : List ℕ) (r : ℕ) {entry : ℕ} (is-entry : OfRecord w (λ g. en
     pub no-given-set : (out : List ℕ) (at : Place) → (k ≡ 2 → ⊥) → PutsGivenSet w r out at out at
     no-given-set out at e g s c d x l = rw (not-entry g s c) (no-set-put g w s r kind (state-at s r) (c .state .regions r l) e out at)
 
--- ---- From the last region to the first.
-module _ (w : List ℕ) {n : ℕ} (count : OfRecord w (λ g. n ≡ length (g .regions))) where
-  -- Those from region r on are put.
-  abbrev pub LinesFrom : ℕ → List ℕ → Place → List ℕ → Place → Type 0
-  LinesFrom r out at out′ at′ = OfState w (λ g s. Puts out at (run (λ q. ready-lines g s q (state-at s q)) r (n - r)) out′ at′)
+-- ---- From the last of n regions to the first: those from region r on are put.
+abbrev pub LinesFrom : List ℕ → ℕ → ℕ → List ℕ → Place → List ℕ → Place → Type 0
+LinesFrom w n r out at out′ at′ = OfState w (λ g s. Puts out at (run (λ q. ready-lines g s q (state-at s q)) r (n - r)) out′ at′)
 
-  pub lines-start : (out : List ℕ) (at : Place) → LinesFrom n out at out at
+abbrev pub SetsFrom : List ℕ → ℕ → ℕ → List ℕ → Place → List ℕ → Place → Type 0
+SetsFrom w n r out at out′ at′ =
+    OfState w (λ g s. (d : DeferredEdgeBundleSet) → EntrySet g w d
+    → Puts out at (run (λ q. given-set g s (g .entry) d q (state-at s q)) r (n - r)) out′ at′)
+
+module _ (w : List ℕ) {n : ℕ} (count : OfRecord w (λ g. n ≡ length (g .regions))) where
+  pub lines-start : (out : List ℕ) (at : Place) → LinesFrom w n n out at out at
   lines-start out at g s c = run-start (λ q. ready-lines g s q (state-at s q)) n out at
 
-  pub lines-turn : (r : ℕ) {out out₁ out₂ : List ℕ} {at at₁ at₂ : Place} → 0 < r → r ≤ n → LinesFrom r out at out₁ at₁
-      → PutsReady w (r - 1) out₁ at₁ out₂ at₂ → LinesFrom (r - 1) out at out₂ at₂
+  pub lines-turn : (r : ℕ) {out out₁ out₂ : List ℕ} {at at₁ at₂ : Place} → 0 < r → r ≤ n → LinesFrom w n r out at out₁ at₁
+      → PutsReady w (r - 1) out₁ at₁ out₂ at₂ → LinesFrom w n (r - 1) out at out₂ at₂
   lines-turn r some within p q g s c =
       let size = count g (c .state .stands) in
       run-turn (λ q. ready-lines g s q (state-at s q)) n r some within (p g s c) (q g s c (omega arith))
 
-  pub lines-end : (r : ℕ) {out out′ : List ℕ} {at at′ : Place} → r ≤ 0 → LinesFrom r out at out′ at′ → PutsUnclaimed w out at out′ at′
+  pub lines-end : (r : ℕ) {out out′ : List ℕ} {at at′ : Place} → r ≤ 0 → LinesFrom w n r out at out′ at′ → PutsUnclaimed w out at out′ at′
   lines-end r none p g s c =
       let size = count g (c .state .stands) ∙ sym (c .state .size) in
       puts-as (run-all (λ q. ready-lines g s q (state-at s q)) n r none (p g s c))
       (rw size (unclaimed-lines g s (λ q. ready-lines g s q (state-at s q)) 0 (s .region-states) (λ j l. rw (zero-add j))))
 
-  abbrev pub SetsFrom : ℕ → List ℕ → Place → List ℕ → Place → Type 0
-  SetsFrom r out at out′ at′ =
-      OfState w (λ g s. (d : DeferredEdgeBundleSet) → EntrySet g w d
-      → Puts out at (run (λ q. given-set g s (g .entry) d q (state-at s q)) r (n - r)) out′ at′)
-
-  pub sets-start : (out : List ℕ) (at : Place) → SetsFrom n out at out at
+  pub sets-start : (out : List ℕ) (at : Place) → SetsFrom w n n out at out at
   sets-start out at g s c d x = run-start (λ q. given-set g s (g .entry) d q (state-at s q)) n out at
 
-  pub sets-turn : (r : ℕ) {out out₁ out₂ : List ℕ} {at at₁ at₂ : Place} → 0 < r → r ≤ n → SetsFrom r out at out₁ at₁
-      → PutsGivenSet w (r - 1) out₁ at₁ out₂ at₂ → SetsFrom (r - 1) out at out₂ at₂
+  pub sets-turn : (r : ℕ) {out out₁ out₂ : List ℕ} {at at₁ at₂ : Place} → 0 < r → r ≤ n → SetsFrom w n r out at out₁ at₁
+      → PutsGivenSet w (r - 1) out₁ at₁ out₂ at₂ → SetsFrom w n (r - 1) out at out₂ at₂
   sets-turn r some within p q g s c d x =
       let size = count g (c .state .stands) in
       run-turn (λ q. given-set g s (g .entry) d q (state-at s q)) n r some within (p g s c d x) (q g s c d x (omega arith))
 
-  pub sets-end : (r : ℕ) {out out′ : List ℕ} {at at′ : Place} → r ≤ 0 → SetsFrom r out at out′ at′ → PutsSets w out at out′ at′
+  pub sets-end : (r : ℕ) {out out′ : List ℕ} {at at′ : Place} → r ≤ 0 → SetsFrom w n r out at out′ at′ → PutsSets w out at out′ at′
   sets-end r none p g s c ks d x =
       let size = count g (c .state .stands) ∙ sym (c .state .size) in
       let inside = c .valid .entry in

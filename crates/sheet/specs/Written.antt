@@ -103,8 +103,13 @@ written-within out end (x ∷ ws) a b =
     let i = end - suc (length ws) in
     let more : end - length ws ≡ suc i = omega arith in
     let size : length (take i out) ≡ i = rw (length-take i out) (omega arith) in
-    rw (written-within out end ws (omega arith) b, more, take-suc out i 0 (omega arith), append-assoc (take i out) (getD out i 0 ∷ [])
-    (ws ++ drop end out)) (set-at (take i out) (getD out i 0) (ws ++ drop end out) x i size)
+    rw (
+      written-within out end ws (omega arith) b,
+      more,
+      take-suc out i 0 (omega arith),
+      append-assoc (take i out) (getD out i 0 ∷ [])
+          (ws ++ drop end out),
+    ) (set-at (take i out) (getD out i 0) (ws ++ drop end out) x i size)
 
 -- ---- Line 1 in front of the lines.
 number-of : Outcome → ℕ
@@ -164,7 +169,7 @@ pub measured : (w : List ℕ) (outcome figure : ℕ) {out out′ : List ℕ} {a 
     → Measures w outcome figure n
 measured w outcome figure p e g s c x shown f = let b = p g s c x shown f .begins in e ∙ rw b
 
-lent-few : (out : List ℕ) → (lent out ≤ length out) × (lent out ≤ 4294967295)
+pub lent-few : (out : List ℕ) → (lent out ≤ length out) × (lent out ≤ 4294967295)
 lent-few out = elim (decLt (length out) 4294967295) [
   | yes h ↦ rw (lt-ltb (length out) 4294967295 h) (omega arith, omega arith)
   | no h ↦ rw (le-ltb (length out) 4294967295 (omega arith)) (omega arith, omega arith)

@@ -19,7 +19,13 @@ fn twice_word(w: &[u16; WORDS], at: Place) -> u16
     head(w, TWICE)
 }
 
-pub fn put_first_line(w: &[u16; WORDS], out: &mut [u32], at: Place, outcome: u16, figure: u32) -> Place
+pub fn put_first_line(
+    w: &[u16; WORDS],
+    out: &mut [u32],
+    at: Place,
+    outcome: u16,
+    figure: u32,
+) -> Place
     ensures { λ a. ⌜ written.PutsHead (now (w .entry)) outcome figure (now (out .entry)) at (now (out .exit)) a ⌝ }
 {
     let note = twice_word(w, at);

@@ -45,10 +45,10 @@ pub record ShowsRewrites (l : List ℕ) (es : List RewriteEntry) : Type 0 where
   pub logged : (r : ℕ) → List·Memᴰ r (map (λ e. e .region) es) → r < 128
 
 -- ---- Outputs: ten words each.
--- Of words in a row, the first stand for these values.
+-- Of eight words in a row, the first stand for these values, and the others for what the definition takes beyond them.
 pub record ShowsValues (ws : List ℕ) (i : ℕ) (vs : List Value) : Type 0 where
   pub few : length vs ≤ 8
-  pub each : (j : ℕ) → j < length vs → value (getD ws (i + j) 0) ≡ getD vs j (undef 0)
+  pub each : (j : ℕ) → j < 8 → value (getD ws (i + j) 0) ≡ getD vs j (undef 0)
 
 pub record ShowsOutput (l : List ℕ) (o : ℕ) (x : NodeOutput) : Type 0 where
   pub node : getD l (10 * o) 0 ≡ x .node

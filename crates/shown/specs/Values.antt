@@ -183,6 +183,11 @@ value-output o h = rw (lt-ltb o 512 h) (go (ranged (322 + o)))
     go (in-instr a b e) = absurd (omega arith)
     go (in-none a e) = absurd (omega arith)
 
+-- What the definition takes beyond a list's end.
+pub value-beyond : value 66 ≡ undef 0
+unfolding value
+value-beyond = refl
+
 pub value-undef : (ty : ℕ) → ty < 256 → value (undef-word ty) ≡ undef ty
 unfolding undef-word
 value-undef ty h = rw (lt-ltb ty 256 h) (go (ranged (66 + ty)))

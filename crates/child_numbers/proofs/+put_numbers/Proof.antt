@@ -8,7 +8,8 @@ use lib.ListN.{length}
 use borrow.Author.Needs.{needs}
 use borrow.Fn.Kinds.{In}
 use borrow.Fn.PlainCycle.{Measures, is, falls, and}
-use Rattle.child_numbers.specs.Lists.{ListPut, inner-below, before-below, list-start, list-inner, list-cell, list-all, list-as}
+use Rattle.children.specs.CellByCell.{named-below, before-below}
+use Rattle.child_numbers.specs.Lists.{ListPut, list-start, list-inner, list-cell, list-all, list-as}
 use Rattle.child_numbers.proofs.put_numbers.Reads as reads
 use Rattle.child_numbers.proofs.put_numbers.Kinds as kinds
 use Rattle.child_numbers.proofs.+put_numbers.Lts-put_numbers as lts
@@ -64,8 +65,8 @@ module _ (t : ℕ) where
     omega (
       arith,
       c .before .before .before .before .before .before .before .pre .0,
-      inner-below _
-          (c .before .before .before .before .loop-test .taken) (c .joined-list .ensures),
+      named-below _ (c .joined-list .ensures)
+          (c .before .before .before .before .loop-test .taken),
     ),
     tt,
   )
@@ -77,7 +78,7 @@ module _ (t : ℕ) where
   list-before-requires c κs = search needs
 
   loop-less : lts.Need-loop-less (called t) (at t) reads.Post Inv-loop μ-loop
-  loop-less c = before-below _ (c .before .before .before .loop-test .taken) (c .list-before .ensures)
+  loop-less c = before-below _ (c .list-before .ensures) (c .before .before .before .loop-test .taken)
 
   loop-again : lts.Need-loop-again (called t) (at t) reads.Post Inv-loop μ-loop
   loop-again c = (
@@ -89,7 +90,7 @@ module _ (t : ℕ) where
         (c .before .before .cell-tag .ensures) (y .0 .left) (y .2 .ensures))
         (c .list-before .ensures) (y .5) (y .6))
         (c .before .if1 .came),
-    omega (arith, before-below _ (c .before .before .before .loop-test .taken) (c .list-before .ensures)),
+    omega (arith, before-below _ (c .list-before .ensures) (c .before .before .before .loop-test .taken)),
     ⊎-elim (λ y. search needs) (λ y. search needs) (c .before .if1 .came),
   )
 

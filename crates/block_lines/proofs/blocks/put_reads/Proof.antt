@@ -7,7 +7,7 @@ use Rattle.fields.specs.ByNumber.{instr-of}
 use Rattle.writing.specs.Puts.{Puts, puts-as}
 use Rattle.writing.specs.Parts.{OfState, value-part}
 use Rattle.writing.specs.Rows.{run, run-start, run-turn}
-use Rattle.block_lines.specs.PartLaws.{puts-listed, values-listed}
+use Rattle.writing.specs.PartLaws.{puts-listed, values-counted}
 use borrow.Author.Needs.{needs}
 use Rattle.block_lines.proofs.blocks.put_reads.Statement.{statement}
 use Rattle.block_lines.proofs.blocks.put_reads.Tie as tie
@@ -61,7 +61,7 @@ returns c = λ g s x size.
     puts-as
     (puts-listed (value-part s) no-value reads size (at-put .before .before .loop-test .left) (at-loop .loop .inv .2 g s x size)
     (at-put .put-word .ensures))
-    (sym (values-listed s reads))
+    (sym (values-counted s reads))
 
 pub put-reads-spec : {M : Type 1} → statement M
 put-reads-spec =

@@ -7,7 +7,7 @@ use Rattle.fields.specs.ByNumber.{end-values}
 use Rattle.writing.specs.Puts.{Puts, puts-as}
 use Rattle.writing.specs.Parts.{OfState, value-part}
 use Rattle.writing.specs.Rows.{run, run-start, run-turn}
-use Rattle.block_lines.specs.PartLaws.{puts-listed, values-listed}
+use Rattle.writing.specs.PartLaws.{puts-listed, values-counted}
 use borrow.Author.Needs.{needs}
 use Rattle.block_lines.proofs.exits.put_end_values.Statement.{statement}
 use Rattle.block_lines.proofs.exits.put_end_values.Tie as tie
@@ -62,7 +62,7 @@ returns c = λ g s x.
     puts-as
     (puts-listed (value-part s) no-value values (at-loop .before .value-count .ensures g (x .state .stands))
     (at-put .before .before .loop-test .left) (at-loop .loop .inv .2 g s x) (at-put .put-word .ensures))
-    (sym (values-listed s values))
+    (sym (values-counted s values))
 
 pub put-end-values-spec : {M : Type 1} → statement M
 put-end-values-spec =

@@ -10,7 +10,7 @@ use Rattle.selects.proofs.emit.conditions_in_cases.Statement.{statement
 use Rattle.selects.proofs.emit.conditions_in_cases.Tie as tie
 
 abbrev Inv-loop : tie.InvT-loop
-Inv-loop w places n parts₀ j₀ parts j = (n ≡ case-total w) × (n ≤ 8) × (j ≤ n) × InCases j (λ i. per-case-condition w i (getD places i 0))
+Inv-loop w places n parts₀ j₀ parts j = (n ≡ case-total w) × (n ≤ 8) × (j ≤ n) × InCases j (λ i. per-case-condition w i (getD places i 0)) 0
     parts
 
 abbrev μ-loop : tie.MeasureT-loop
@@ -20,7 +20,7 @@ case-count-requires : tie.Need-case-count-requires Inv-loop μ-loop
 case-count-requires c κs = search needs
 
 loop-holds : tie.Need-loop-holds Inv-loop μ-loop
-loop-holds c = (c .case-count .ensures, few-total _ _ (c .case-count .ensures), omega arith, in-none _ _ refl)
+loop-holds c = (c .case-count .ensures, few-total _ _ (c .case-count .ensures), omega arith, in-none _ 0)
 
 cast-per-case-condition : tie.Need-cast-per-case-condition Inv-loop μ-loop
 cast-per-case-condition c = search needs

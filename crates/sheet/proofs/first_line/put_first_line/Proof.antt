@@ -2,42 +2,28 @@ use Rattle.writing.specs.Puts.{puts-then}
 use borrow.Author.Needs.{needs}
 use Rattle.sheet.proofs.first_line.put_first_line.Statement.{statement}
 use Rattle.sheet.proofs.first_line.put_first_line.Tie as tie
-use Rattle.sheet.proofs.first_line.put_first_line.Reads as reads
-use Rattle.sheet.proofs.first_line.put_first_line.Lts as lts
-use Rattle.sheet.proofs.first_line.twice_word.Reads as twice-word-reads
-use Rattle.state.proofs.defined.head.Reads as head-reads
-use Rattle.writing.proofs.place.put.Reads as put-reads
-use Rattle.writing.proofs.place.put_word.Reads as put-word-reads
 
--- src/first_line.rt:25:9
 twice-word-requires : tie.Need-twice-word-requires
 twice-word-requires c κs = search needs
 
--- src/first_line.rt:26:9
 put-word-requires : tie.Need-put-word-requires
 put-word-requires c κs = search needs
 
--- src/first_line.rt:27:41
 head-requires : tie.Need-head-requires
 head-requires c κs = search needs
 
--- src/first_line.rt:27:9
 put-word-requires-2 : tie.Need-put-word-requires-2
 put-word-requires-2 c κs = search needs
 
--- src/first_line.rt:28:9
 put-requires : tie.Need-put-requires
 put-requires c κs = search needs
 
--- src/first_line.rt:29:5
 put-word-requires-3 : tie.Need-put-word-requires-3
 put-word-requires-3 c κs = search needs
 
--- src/first_line.rt:22:1
 same-length : tie.Need-same-length
 same-length c = search needs
 
--- src/first_line.rt:22:1
 returns : tie.Need-returns
 returns c =
     rw (← c .before .before .before .before .before .before .before .before .before .before .before .before .before .before .before .before .before .twice-word .ensures, ← c .before .before .before .before .before .before .before .before .before .before .before .head .ensures)

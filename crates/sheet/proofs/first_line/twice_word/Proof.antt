@@ -2,19 +2,13 @@ use Rattle.meaning.specs.facts.Tests.{picked}
 use borrow.Author.Needs.{needs}
 use Rattle.sheet.proofs.first_line.twice_word.Statement.{statement}
 use Rattle.sheet.proofs.first_line.twice_word.Tie as tie
-use Rattle.sheet.proofs.first_line.twice_word.Reads as reads
-use Rattle.sheet.proofs.first_line.twice_word.Lts as lts
-use Rattle.state.proofs.defined.head.Reads as head-reads
 
--- src/first_line.rt:17:9
 returns : tie.Need-returns
 returns c = picked 1 _ (c .if1 .taken)
 
--- src/first_line.rt:19:5
 head-requires : tie.Need-head-requires
 head-requires c κs = search needs
 
--- src/first_line.rt:13:1
 returns-2 : tie.Need-returns-2
 returns-2 c = rw (c .before .if1 .left) (c .head .ensures)
 

@@ -2,14 +2,10 @@ use lib.ListN.{length}
 use borrow.Author.Tests.{lt-ltb, le-ltb}
 use Rattle.sheet.proofs.whole.lent.Statement.{statement}
 use Rattle.sheet.proofs.whole.lent.Tie as tie
-use Rattle.sheet.proofs.whole.lent.Reads as reads
-use Rattle.sheet.proofs.whole.lent.Lts as lts
 
--- src/whole.rt:32:9
 returns : tie.Need-returns
 returns c = rw (lt-ltb (length (c .before .args .out .now)) 4294967295 (c .if1 .taken))
 
--- src/whole.rt:28:1
 returns-2 : tie.Need-returns-2
 returns-2 c = rw (le-ltb (length (c .before .args .out .now)) 4294967295 (c .if1 .left))
 

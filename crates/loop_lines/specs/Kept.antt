@@ -1,0 +1,146 @@
+-- The inputs that a loop keeps, along their cells: each names the one before it, and the last is put first.
+use mathlib.Core.Path.{_≡_, refl, sym, ap, _∙_}
+use mathlib.Core.Bool.{Bool, true, false}
+use mathlib.Core.List.{List, [], _∷_, _++_, map, map-append, append-assoc, append-nil}
+use Prim.Native.Nat.{ℕ, _+_, _≤_, _<_}
+use native.Mathlib.Omega.{arith}
+use lib.ListN.{length, getD, length-map}
+use borrow.Author.Tests.{lt-ltb}
+use Rattle.meaning.specs.Graph.{Value, Graph, region}
+use Rattle.meaning.specs.Lists.{pick, concat}
+use Rattle.nesting.specs.Nesting.{NestState, plain, LoopInputs}
+use Rattle.state.specs.Sections.{section, cells}
+use Rattle.state.specs.Tables.{earlier}
+use Rattle.state.specs.Values.{region-word}
+use Rattle.shown.specs.Values.{value, value-input}
+use Rattle.shown.specs.Cells.{ShowsKept, none-kept, one-kept}
+use Rattle.children.specs.CellByCell.{cell-word, list-at, earlier-below}
+use Rattle.writing.specs.declared.place.Place.{Place}
+use Rattle.writing.specs.Puts.{Part, _⊕_, Puts, puts-then, puts-none}
+use Rattle.writing.specs.PartLaws.{each-plain, values-counted}
+use Rattle.writing.specs.Parts.{each, value-part, values-part}
+
+-- The inputs that the loop of header r keeps, by the list's handle.
+abbrev pub Keeps : Graph → List ℕ → ℕ → ℕ → LoopInputs → Type 0
+Keeps g w r list y = ShowsKept g (section w cells) r list (y .initial-inputs) (y .types) (y .outputs)
+
+-- What is passed back at the end of a turn, and what is passed to the first one: of the cell h, and of all.
+unfoldable pub kept-word : List ℕ → Bool → ℕ → ℕ
+kept-word w back h = pick back (cell-word w h 4) (region-word 1024 (cell-word w h 3) (cell-word w h 2))
+
+abbrev pub kept-values : Bool → LoopInputs → List Value
+kept-values back y = pick back (y .outputs) (y .initial-inputs)
+
+abbrev pub kept-type : Graph → List ℕ → ℕ → ℕ → ℕ
+kept-type g w r h = getD (region g r .inputs) (cell-word w h 2) 0
+
+-- ---- The cells of a list, from its first on.
+pub data Chain (w : List ℕ) : ℕ → List ℕ → Type 0 where
+  no-cell : {h : ℕ} → h ≡ 0 → Chain w h []
+  then-cell : {h : ℕ} {hs hs′ : List ℕ} → 1 ≤ h → Chain w (list-at w h 1) hs → hs′ ≡ hs ++ (h ∷ []) → Chain w h hs′
+
+pub record KeptCells (g : Graph) (w : List ℕ) (r list : ℕ) (is : List Value) (ts : List ℕ) (os : List Value) : Type 0 where
+  pub handles : List ℕ
+  pub chain : Chain w list handles
+  pub initial : is ≡ map (λ h. value (kept-word w false h)) handles
+  pub types : ts ≡ map (kept-type g w r) handles
+  pub outputs : os ≡ map (λ h. value (kept-word w true h)) handles
+
+one-more : {A : Type 0} {xs ys : List A} {x : A} (f : ℕ → A) (hs : List ℕ) (h : ℕ) → ys ≡ xs ++ (x ∷ []) → xs ≡ map f hs → x ≡ f h
+    → ys ≡ map f (hs ++ (h ∷ []))
+one-more f hs h e d a = e ∙ rw (d, a, map-append f hs (h ∷ []))
+
+pub kept-cells : {g : Graph} (w : List ℕ) {r h : ℕ} {is os : List Value} {ts : List ℕ} → ShowsKept g (section w cells) r h is ts os
+    → KeptCells g w r h is ts os
+unfolding kept-word earlier
+kept-cells w (none-kept e) = record { handles = []; chain = no-cell e; initial = refl; types = refl; outputs = refl }
+kept-cells {g} w {r} {h} (one-kept {p = p} {k = k} {wrapper = wrapper} x below few low before v a b c) =
+    let y = kept-cells w before in
+    record {
+      handles = y .handles ++ (h ∷ []);
+      chain = then-cell {h = h} {hs = y .handles} (omega arith) (rw (x .is-before, lt-ltb p h below) (y .chain)) refl;
+      initial = one-more (λ h. value (kept-word w false h)) (y .handles) h a (y .initial)
+          (rw (x .is-a, x .is-b) (sym (value-input wrapper k low few)));
+      types = one-more (kept-type g w r) (y .handles) h b (y .types) (rw (x .is-a));
+      outputs = one-more (λ h. value (kept-word w true h)) (y .handles) h c (y .outputs) (rw (x .is-c) (sym v));
+    }
+
+-- ---- A loop along the cells: those behind list h are put, n of them.
+pub record BehindPut (w : List ℕ) (f : ℕ → Part) (hs : List ℕ) (h n : ℕ) (out₀ : List ℕ) (at₀ : Place) (out : List ℕ) (at : Place)
+    : Type 0 where
+  pub left : List ℕ
+  pub behind : List ℕ
+  pub chain : Chain w h left
+  pub whole : hs ≡ left ++ behind
+  pub count : n ≡ length behind
+  pub puts : Puts out₀ at₀ (each f behind) out at
+
+abbrev pub CellsPut : List ℕ → (ℕ → Part) → ℕ → ℕ → ℕ → List ℕ → Place → List ℕ → Place → Type 0
+CellsPut w f list h n out₀ at₀ out at = (hs : List ℕ) → Chain w list hs → BehindPut w f hs h n out₀ at₀ out at
+
+pub before-falls : {q h : ℕ} (x : ℕ) → q ≡ earlier x h → 0 < h → q < h
+before-falls {q} {h} x e some = rw e (earlier-below x h some)
+
+module _ (w : List ℕ) (f : ℕ → Part) (list : ℕ) where
+  pub cells-start : (out : List ℕ) (at : Place) → CellsPut w f list list 0 out at out at
+  cells-start out at hs c =
+      record { left = hs; behind = []; chain = c; whole = sym (append-nil hs); count = refl; puts = puts-none out at }
+
+  module _ (h n : ℕ) {out₀ out : List ℕ} {at₀ at : Place} (before : CellsPut w f list h n out₀ at₀ out at) where
+    pub cells-turn : 0 < h → {q m : ℕ} {out′ : List ℕ} {at′ : Place} → Puts out at (f h) out′ at′ → q ≡ list-at w h 1 → m ≡ n + 1
+        → CellsPut w f list q m out₀ at₀ out′ at′
+    cells-turn some {q} {m} {out′} {at′} p e d hs c = let x = before hs c in go x (x .chain) (x .whole)
+      where
+        go : (x : BehindPut w f hs h n out₀ at₀ out at) → {left : List ℕ} → Chain w h left → hs ≡ left ++ x .behind
+            → BehindPut w f hs q m out₀ at₀ out′ at′
+        go x (no-cell z) whole = absurd (omega arith)
+        go x (then-cell {hs = ks} b y z) whole =
+            let count = x .count in
+            record {
+              left = ks;
+              behind = h ∷ x .behind;
+              chain = rw e y;
+              whole = whole ∙ rw z (append-assoc ks (h ∷ []) (x .behind));
+              count = omega arith;
+              puts = puts-then (x .puts) p;
+            }
+
+    -- All are put, and then their count.
+    pub cells-counted : h ≤ 0 → {hs out′ : List ℕ} {at′ : Place} → Chain w list hs → Puts out at (plain (n ∷ [])) out′ at′
+        → Puts out₀ at₀ (plain (length hs ∷ []) ⊕ each f hs) out′ at′
+    cells-counted none {hs} {out′} {at′} c p = let x = before hs c in go x (x .chain) (x .whole)
+      where
+        go : (x : BehindPut w f hs h n out₀ at₀ out at) → {left : List ℕ} → Chain w h left → hs ≡ left ++ x .behind
+            → Puts out₀ at₀ (plain (length hs ∷ []) ⊕ each f hs) out′ at′
+        go x (no-cell z) whole = rw (whole, ← x .count) (puts-then (x .puts) p)
+        go x (then-cell b y z) whole = absurd (omega arith)
+
+-- ---- What was put, as the definition has it.
+each-map : {A B : Type 0} (f : B → Part) (g : A → B) (xs : List A) → each f (map g xs) ≡ each (λ x. f (g x)) xs
+each-map f g [] = refl
+each-map f g (x ∷ xs) = ap (λ z. f (g x) ⊕ z) (each-map f g xs)
+
+alone : {A : Type 0} (f : A → ℕ) (xs : List A) → concat (map (λ x. f x ∷ []) xs) ≡ map f xs
+alone f [] = refl
+alone f (x ∷ xs) = rw (alone f xs)
+
+values-of : (s : NestState) (f : ℕ → Value) (hs : List ℕ) {vs : List Value} → vs ≡ map f hs
+    → plain (length hs ∷ []) ⊕ each (λ h. value-part s (f h)) hs ≡ values-part s vs
+values-of s f hs e =
+    ap (λ z. plain (length hs ∷ []) ⊕ z) (sym (each-map (value-part s) f hs)) ∙ rw (e, values-counted s (map f hs), length-map hs f)
+
+types-of : (f : ℕ → ℕ) (hs : List ℕ) {ts : List ℕ} → ts ≡ map f hs
+    → plain (length hs ∷ []) ⊕ each (λ h. plain (f h ∷ [])) hs ≡ plain (length ts ∷ ts)
+types-of f hs e = ap (λ z. plain (length hs ∷ []) ⊕ z) (each-plain (λ h. f h ∷ []) hs) ∙ rw (e, length-map hs f, alone f hs)
+
+module _ {g : Graph} (w : List ℕ) {r list : ℕ} (y : LoopInputs) (keeps : Keeps g w r list y) where
+  abbrev pub handles : List ℕ
+  handles = kept-cells w keeps .handles
+
+  pub values-are : (s : NestState) (back : Bool)
+      → plain (length handles ∷ []) ⊕ each (λ h. value-part s (value (kept-word w back h))) handles ≡ values-part s (kept-values back y)
+  values-are s true = values-of s (λ h. value (kept-word w true h)) handles (kept-cells w keeps .outputs)
+  values-are s false = values-of s (λ h. value (kept-word w false h)) handles (kept-cells w keeps .initial)
+
+  pub types-are : plain (length handles ∷ []) ⊕ each (λ h. plain (kept-type g w r h ∷ [])) handles ≡ plain (length (y .types) ∷ y .types)
+  types-are = types-of (kept-type g w r) handles (kept-cells w keeps .types)

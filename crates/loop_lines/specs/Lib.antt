@@ -1,0 +1,3 @@
+pub mod LoopParts
+pub mod Kept
+pub mod OfLoop

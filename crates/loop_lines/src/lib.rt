@@ -1,0 +1,3 @@
+// The two lines of a loop.
+pub mod kept;
+pub mod lines;

@@ -1,0 +1,86 @@
+-- `put_regions` meets its contract. The measure is the handle: the cases after the first have an earlier one.
+use Prim.Native.Nat.{ℕ, _<_}
+use native.Mathlib.Omega.{arith}
+use borrow.Author.Needs.{needs}
+use borrow.Fn.Kinds.{In}
+use borrow.Fn.PlainCycle.{Measures, is, falls, and}
+use Rattle.children.specs.CellByCell.{named-below}
+use Rattle.select_lines.specs.CaseNumbers.{no-regions, first-region}
+use Rattle.select_lines.proofs.put_regions.Reads as reads
+use Rattle.select_lines.proofs.put_regions.Kinds as kinds
+use Rattle.select_lines.proofs.+put_regions.Lts-put_regions as lts
+use Rattle.child_numbers.proofs.put_number.Reads as put-number
+use Rattle.state.proofs.cells.cell_a.Reads as cell-a
+use Rattle.state.proofs.cells.cell_before.Reads as cell-before
+use Rattle.select_lines.proofs.+put_regions.{statement}
+use Rattle.select_lines.proofs.+put_regions.Tie.{close}
+
+abbrev measure : Measures 2 kinds.ps ℕ
+measure κs a = a .1 .1 .1 .0
+
+abbrev at : ℕ → In 2 kinds.ps
+at t = and 2 kinds.ps (is 2 kinds.ps measure t) reads.Pre
+
+abbrev below : ℕ → In 2 kinds.ps
+below t = and 2 kinds.ps (falls 2 kinds.ps _<_ measure t) reads.Pre
+
+-- What the functions called ask and ensure, this one at an earlier handle.
+abbrev called : ℕ → lts.Claims
+called t = (
+  cell-before.Asked,
+  cell-before.Learnt,
+  below t,
+  reads.Post,
+  cell-a.Asked,
+  cell-a.Learnt,
+  put-number.Asked,
+  put-number.Learnt,
+)
+
+module _ (t : ℕ) where
+  returns : lts.Need-returns (called t) (at t) reads.Post
+  returns c = no-regions _ _ _ (c .if1 .taken) (omega arith)
+
+  cell-before-requires : lts.Need-cell-before-requires (called t) (at t) reads.Post
+  cell-before-requires c κs = search needs
+
+  put-regions-requires : lts.Need-put-regions-requires (called t) (at t) reads.Post
+  put-regions-requires c κs = (
+    omega (
+      arith,
+      c .before .before .before .before .pre .0,
+      c .before .before .if1 .left,
+      named-below _
+          (c .cell-before .ensures) (omega (arith, c .before .before .if1 .left)),
+    ),
+    tt,
+  )
+
+  cell-a-requires : lts.Need-cell-a-requires (called t) (at t) reads.Post
+  cell-a-requires c κs = search needs
+
+  cast-put-number : lts.Need-cast-put-number (called t) (at t) reads.Post
+  cast-put-number c = search needs
+
+  put-number-requires : lts.Need-put-number-requires (called t) (at t) reads.Post
+  put-number-requires c κs = search needs
+
+  same-length : lts.Need-same-length (called t) (at t) reads.Post
+  same-length c = search needs
+
+  returns-2 : lts.Need-returns-2 (called t) (at t) reads.Post
+  returns-2 c = first-region _ (c .before .before .before .before .before .before .before .before .before .before .if1 .left)
+      (c .before .before .before .before .before .before .before .before .cell-before .ensures)
+      (c .before .before .before .before .before .before .before .put-regions .ensures) (c .before .before .before .cell-a .ensures)
+      (c .before .before .put-number .ensures)
+
+pub +put-regions-spec : {M : Type 1} → statement M
++put-regions-spec = close measure λ t. lts.spec (called t) (at t) reads.Post
+    (returns t)
+    (cell-before-requires t)
+    (put-regions-requires t)
+    (cell-a-requires t)
+    (cast-put-number t)
+    (put-number-requires t)
+    (same-length t)
+    (returns-2 t)

@@ -1,0 +1,41 @@
+use Rattle.select_lines.specs.SelectLines.{case-line-put}
+use borrow.Author.Needs.{needs}
+use Rattle.select_lines.proofs.put_case_line.Statement.{statement}
+use Rattle.select_lines.proofs.put_case_line.Tie as tie
+
+put-case-outputs-requires : tie.Need-put-case-outputs-requires
+put-case-outputs-requires c κs = search needs
+
+case-children-requires : tie.Need-case-children-requires
+case-children-requires c κs = search needs
+
+put-kids-requires : tie.Need-put-kids-requires
+put-kids-requires c κs = search needs
+
+cell-a-requires : tie.Need-cell-a-requires
+cell-a-requires c κs = search needs
+
+put-three-requires : tie.Need-put-three-requires
+put-three-requires c κs = search needs
+
+same-length : tie.Need-same-length
+same-length c = search needs
+
+returns : tie.Need-returns
+returns c = case-line-put _ _ _ _
+    (c .before .before .before .before .before .before .before .before .before .before .before .before .put-case-outputs .ensures)
+    (c .before .before .before .before .before .before .before .before .case-children .ensures)
+    (c .before .before .before .before .before .before .before .put-kids .ensures) (c .before .before .before .cell-a .ensures)
+    (c .before .before .put-three .ensures)
+
+pub put-case-line-spec : {M : Type 1} → statement M
+put-case-line-spec =
+    tie.close
+    (tie.spec
+    put-case-outputs-requires
+    case-children-requires
+    put-kids-requires
+    cell-a-requires
+    put-three-requires
+    same-length
+    returns)

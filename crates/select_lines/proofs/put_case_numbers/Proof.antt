@@ -1,0 +1,21 @@
+use native.Mathlib.Omega.{arith}
+use Rattle.select_lines.specs.CaseNumbers.{case-numbers-put}
+use borrow.Author.Needs.{needs}
+use Rattle.select_lines.proofs.put_case_numbers.Statement.{statement}
+use Rattle.select_lines.proofs.put_case_numbers.Tie as tie
+
+put-regions-requires : tie.Need-put-regions-requires
+put-regions-requires c κs = search needs
+
+put-requires : tie.Need-put-requires
+put-requires c κs = search needs
+
+same-length : tie.Need-same-length
+same-length c = search needs
+
+returns : tie.Need-returns
+returns c = case-numbers-put _ (omega arith) (c .before .before .before .before .before .before .put-regions .ensures)
+    (c .before .before .put .ensures)
+
+pub put-case-numbers-spec : {M : Type 1} → statement M
+put-case-numbers-spec = tie.close (tie.spec put-regions-requires put-requires same-length returns)

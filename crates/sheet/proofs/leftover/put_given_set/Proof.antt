@@ -1,0 +1,45 @@
+use Rattle.sheet.specs.Regions.{entry-set-put, ready-set-put, no-given-set}
+use borrow.Author.Needs.{needs}
+use Rattle.sheet.proofs.leftover.put_given_set.Statement.{statement}
+use Rattle.sheet.proofs.leftover.put_given_set.Tie as tie
+
+entry-requires : tie.Need-entry-requires
+entry-requires c κs = search needs
+
+put-set-requires : tie.Need-put-set-requires
+put-set-requires c κs = search needs
+
+same-length : tie.Need-same-length
+same-length c = search needs
+
+returns : tie.Need-returns
+returns c = entry-set-put _ _ (c .before .before .before .before .before .entry .ensures) (c .before .before .before .before .if1 .taken) (c .before .before .put-set .ensures)
+
+region-state-requires : tie.Need-region-state-requires
+region-state-requires c κs = search needs
+
+put-set-requires-2 : tie.Need-put-set-requires-2
+put-set-requires-2 c κs = search needs
+
+same-length-2 : tie.Need-same-length-2
+same-length-2 c = search needs
+
+returns-2 : tie.Need-returns-2
+returns-2 c = ready-set-put _ _ (c .before .before .before .before .before .before .before .entry .ensures) (c .before .before .before .before .before .before .if1 .left) (c .before .before .before .before .before .region-state .ensures) (c .before .before .before .before .if2 .taken) (c .before .before .put-set2 .ensures)
+
+returns-3 : tie.Need-returns-3
+returns-3 c = no-given-set _ _ (c .before .before .before .entry .ensures) (c .before .before .if1 .left) (c .before .region-state .ensures) _ _ (c .if2 .left)
+
+pub put-given-set-spec : {M : Type 1} → statement M
+put-given-set-spec =
+    tie.close
+    (tie.spec
+    entry-requires
+    put-set-requires
+    same-length
+    returns
+    region-state-requires
+    put-set-requires-2
+    same-length-2
+    returns-2
+    returns-3)

@@ -1,0 +1,57 @@
+use borrow.Author.Needs.{needs}
+use mathlib.Core.Path.{_≡_, refl}
+use Prim.Native.Nat.{_≤_}
+use native.Mathlib.Omega.{arith}
+use lib.ListN.{length}
+use Rattle.sheet.specs.Regions.{LinesFrom, lines-start, lines-turn, lines-end}
+use Rattle.sheet.proofs.leftover.put_unclaimed.Statement.{statement}
+use Rattle.sheet.proofs.leftover.put_unclaimed.Tie as tie
+
+abbrev Inv-loop : tie.InvT-loop
+Inv-loop w out₀ e₀ r₀ out e r = LinesFrom w r₀ r out₀ e₀ out e × (r ≤ r₀) × (length out ≡ length out₀)
+
+abbrev μ-loop : tie.MeasureT-loop
+μ-loop w out₀ e₀ r₀ out e r = r
+
+region-count-requires : tie.Need-region-count-requires Inv-loop μ-loop
+region-count-requires c κs = search needs
+
+loop-holds : tie.Need-loop-holds Inv-loop μ-loop
+loop-holds c = (lines-start _ (c .region-count .ensures) _ _, omega arith, refl)
+
+sub-r : tie.Need-sub-r Inv-loop μ-loop
+sub-r c = omega arith
+
+put-ready-requires : tie.Need-put-ready-requires Inv-loop μ-loop
+put-ready-requires c κs = search needs
+
+loop-less : tie.Need-loop-less Inv-loop μ-loop
+loop-less c = omega arith
+
+loop-again : tie.Need-loop-again Inv-loop μ-loop
+loop-again c = (
+  lines-turn _ (c .before .before .before .before .before .before .region-count .ensures) _ (c .before .before .before .before .loop-test .taken) (c .before .before .before .before .before .loop .inv .1) (c .before .before .before .before .before .loop .inv .0) (c .before .before .put-ready .ensures),
+  omega arith,
+  search needs,
+)
+
+same-length : tie.Need-same-length Inv-loop μ-loop
+same-length c = search needs
+
+returns : tie.Need-returns Inv-loop μ-loop
+returns c = lines-end _ (c .before .before .region-count .ensures) _ (c .loop-test .left) (c .before .loop .inv .0)
+
+pub put-unclaimed-spec : {M : Type 1} → statement M
+put-unclaimed-spec =
+    tie.close
+    (tie.spec
+    Inv-loop
+    μ-loop
+    region-count-requires
+    loop-holds
+    sub-r
+    put-ready-requires
+    loop-less
+    loop-again
+    same-length
+    returns)

@@ -1,0 +1,37 @@
+use Rattle.sheet.specs.Regions.{front-put}
+use borrow.Author.Needs.{needs}
+use Rattle.sheet.proofs.pieces.put_region_line.Statement.{statement}
+use Rattle.sheet.proofs.pieces.put_region_line.Tie as tie
+
+children-requires : tie.Need-children-requires
+children-requires c κs = search needs
+
+put-kids-requires : tie.Need-put-kids-requires
+put-kids-requires c κs = search needs
+
+put-types-requires : tie.Need-put-types-requires
+put-types-requires c κs = search needs
+
+put-word-requires : tie.Need-put-word-requires
+put-word-requires c κs = search needs
+
+put-requires : tie.Need-put-requires
+put-requires c κs = search needs
+
+same-length : tie.Need-same-length
+same-length c = search needs
+
+returns : tie.Need-returns
+returns c = front-put _ _ (c .before .before .before .before .before .before .before .before .before .before .before .before .before .before .before .children .ensures) (c .before .before .before .before .before .before .before .before .before .before .before .before .before .before .put-kids .ensures) (c .before .before .before .before .before .before .before .before .before .before .put-types .ensures) (c .before .before .before .before .before .before .put-word .ensures) (c .before .before .put .ensures)
+
+pub put-region-line-spec : {M : Type 1} → statement M
+put-region-line-spec =
+    tie.close
+    (tie.spec
+    children-requires
+    put-kids-requires
+    put-types-requires
+    put-word-requires
+    put-requires
+    same-length
+    returns)

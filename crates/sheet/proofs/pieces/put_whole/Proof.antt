@@ -1,0 +1,46 @@
+use Rattle.sheet.specs.Regions.{whole-put}
+use borrow.Author.Needs.{needs}
+use Rattle.sheet.proofs.pieces.put_whole.Statement.{statement}
+use Rattle.sheet.proofs.pieces.put_whole.Tie as tie
+
+entry-requires : tie.Need-entry-requires
+entry-requires c κs = search needs
+
+children-requires : tie.Need-children-requires
+children-requires c κs = search needs
+
+put-nodes-requires : tie.Need-put-nodes-requires
+put-nodes-requires c κs = search needs
+
+set-start-requires : tie.Need-set-start-requires
+set-start-requires c κs = search needs
+
+bundle-at-requires : tie.Need-bundle-at-requires
+bundle-at-requires c κs = search needs
+
+put-inputs-requires : tie.Need-put-inputs-requires
+put-inputs-requires c κs = search needs
+
+put-region-line-requires : tie.Need-put-region-line-requires
+put-region-line-requires c κs = search needs
+
+same-length : tie.Need-same-length
+same-length c = search needs
+
+returns : tie.Need-returns
+returns c = whole-put _ _ (c .before .before .before .before .before .before .before .before .before .before .before .before .before .children .ensures) (c .before .before .before .before .before .before .before .before .before .before .before .before .put-nodes .ensures) (c .before .before .before .before .before .before .before .before .before .before .before .before .before .before .before .entry .ensures) (c .before .before .before .before .before .before .before .before .set-start .ensures) (c .before .before .before .before .before .before .before .bundle-at .ensures)
+    (c .before .before .before .before .before .before .put-inputs .ensures) (c .before .before .put-region-line .ensures)
+
+pub put-whole-spec : {M : Type 1} → statement M
+put-whole-spec =
+    tie.close
+    (tie.spec
+    entry-requires
+    children-requires
+    put-nodes-requires
+    set-start-requires
+    bundle-at-requires
+    put-inputs-requires
+    put-region-line-requires
+    same-length
+    returns)

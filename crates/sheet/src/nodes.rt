@@ -1,0 +1,84 @@
+// The lines of child nodes: each node, a select's cases or a loop's body following it. The walk falls with the cells' numbers.
+ghost use mathlib.Core.Path.{_≡_};
+ghost use Prim.Native.Nat.{_≤_};
+ghost use Rattle.sheet.specs.Regions as regions;
+ghost use Rattle.sheet.specs.Walk as walk;
+use block_lines::blocks::put_blocks;
+use block_lines::exits::put_exit;
+use children::list_before;
+use loop_lines::lines::put_loop_lines;
+use select_lines::put_case_line;
+use select_lines::put_select_line;
+use state::cells::BLOCKS;
+use state::cells::EXIT;
+use state::cells::JOIN;
+use state::cells::LOOP;
+use state::cells::SELECT;
+use state::cells::case_children;
+use state::cells::cell_a;
+use state::cells::cell_b;
+use state::cells::cell_before;
+use state::cells::cell_tag;
+use state::cells::inner_list;
+use state::cells::joined_list;
+use store::WORDS;
+use writing::place::Place;
+
+fn next(j: u16) -> u16
+    ensures { λ a. ⌜ a ≡ walk.next j ⌝ }
+{
+    if j < 65535 {
+        return j + 1;
+    }
+    j
+}
+
+// What cell h adds to its list.
+fn put_cell(w: &[u16; WORDS], out: &mut [u32], at: Place, h: u16) -> Place
+    requires { ⌜ 1 ≤ h ⌝ }
+    ensures { λ a. ⌜ walk.PutsCell (now (w .entry)) h (now (out .entry)) at (now (out .exit)) a ⌝ }
+{
+    let tag = cell_tag(w, h);
+    if tag == BLOCKS {
+        return put_blocks(w, out, at, cell_a(w, h));
+    }
+    if tag == JOIN {
+        return put_nodes(w, out, at, joined_list(w, h));
+    }
+    if tag == EXIT {
+        return put_exit(w, out, at, cell_a(w, h), cell_b(w, h));
+    }
+    if tag == SELECT {
+        let cases = put_cases(w, out, at, inner_list(w, h), cell_a(w, h), 0);
+        return put_select_line(w, out, cases, h);
+    }
+    if tag == LOOP {
+        let body = put_nodes(w, out, at, cell_before(w, h));
+        return put_loop_lines(w, out, body, h);
+    }
+    at
+}
+
+// The cases of a select, from the place j on: later ones first, since words are put from the back.
+fn put_cases(w: &[u16; WORDS], out: &mut [u32], at: Place, list: u16, node: u16, j: u16) -> Place
+    ensures { λ a. ⌜ walk.PutsCases (now (w .entry)) list node j (now (out .entry)) at (now (out .exit)) a ⌝ }
+{
+    if list == 0 {
+        return at;
+    }
+    let later = put_cases(w, out, at, cell_before(w, list), node, next(j));
+    let nodes = put_nodes(w, out, later, case_children(w, list));
+    put_case_line(w, out, nodes, list, node, j)
+}
+
+pub fn put_nodes(w: &[u16; WORDS], out: &mut [u32], at: Place, list: u16) -> Place
+    ensures { λ a. ⌜ regions.PutsNodes (now (w .entry)) list (now (out .entry)) at (now (out .exit)) a ⌝ }
+{
+    let mut e = at;
+    let mut h = list;
+    while 0 < h {
+        e = put_cell(w, out, e, h);
+        h = list_before(w, h);
+    }
+    e
+}
