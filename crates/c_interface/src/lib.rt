@@ -1,8 +1,9 @@
 // The public routines for C and Rust, under plain names.
 ghost use mathlib.Core.Path.{_≡_};
 ghost use Prim.Native.Nat.{_<_};
-ghost use Rattle.c_interface.specs.Exported.{AcceptExported};
+ghost use Rattle.c_interface.specs.Exported.{AcceptExported, NestExported};
 use accept::Accepted;
+use nester::Answer;
 use store::WORDS;
 
 fn wide(x: u16) -> u32
@@ -10,6 +11,13 @@ fn wide(x: u16) -> u32
     ensures small { λ r. ⌜ r < 65536 ⌝ }
 {
     x as u32
+}
+
+fn long(x: u32) -> u64
+    ensures same { λ r. ⌜ r ≡ x ⌝ }
+    ensures small { λ r. ⌜ r < 4294967296 ⌝ }
+{
+    x as u64
 }
 
 // 0 for a record, which then stands in the lent words; else the refusal's number, 1 to 8, times 65,536, and its word.
@@ -21,5 +29,17 @@ pub extern "C" fn rukvetta_accept(bytes: &[u8], words: &mut [u16; WORDS]) -> u32
     match answer {
         Accepted::Record => 0,
         Accepted::Refused(number, word) => wide(number) * 65536 + wide(word),
+    }
+}
+
+// How many words the sheet has, which then stand in front of `out`; else the refusal's number, 1 to 11, times 4,294,967,296, and its word.
+#[no_mangle]
+pub extern "C" fn rukvetta_nest(bytes: &[u8], words: &mut [u16; WORDS], out: &mut [u32]) -> u64
+    ensures { λ a. ⌜ NestExported (now (bytes .entry)) (now (words .entry)) (now (words .exit)) (now (out .entry)) (now (out .exit)) a ⌝ }
+{
+    let answer = nester::nest(bytes, words, out);
+    match answer {
+        Answer::Sheet(n) => long(n),
+        Answer::Refused(number, word) => long(wide(number)) * 4294967296 + long(wide(word)),
     }
 }

@@ -14,7 +14,7 @@ use Rattle.record_text.specs.Listing.{shown-text}
 use Rattle.accept.specs.declared.Accepted.the-variants.{Record, Refused}
 use Rattle.accept.specs.Judged.{words-given, not-given}
 use Rattle.accept.specs.Accepts.{Accepts}
-use Rattle.show_text.specs.Shows.{InFront}
+use Rattle.text.specs.Whole.{InFront}
 use Rattle.damage.specs.declared.answers.Answer.{Answer}
 use Rattle.damage.specs.Answers.{sum-from, brief, is-listed, as-listed}
 

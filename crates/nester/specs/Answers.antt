@@ -156,7 +156,7 @@ record Answered (g : Graph) (w : List ℕ) (n : ℕ) : Type 0 where
   pub shows : ShowsAnswer g w state nest n
 
 -- The number of an outcome.
-abbrev number-of : code.Nested → ℕ
+abbrev pub number-of : code.Nested → ℕ
 number-of outcomes.Untouched = 0
 number-of outcomes.Whole = 1
 number-of outcomes.Closed = 2

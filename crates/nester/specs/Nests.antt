@@ -2,6 +2,7 @@
 use mathlib.Core.Path.{_≡_, refl, sym, ap, _∙_}
 use mathlib.Core.List.{List}
 use Prim.Native.Nat.{ℕ, _≤_}
+use native.Mathlib.Omega.{arith}
 use lib.ListN.{length}
 use Rattle.meaning.specs.Graph.{Graph}
 use Rattle.format.specs.Store as format
@@ -20,6 +21,8 @@ use Rattle.accept.specs.Accepts.{Accepts, accept-answered}
 use Rattle.accept.specs.declared.Accepted.{Accepted}
 use Rattle.accept.specs.declared.Accepted.the-variants.{Record, Refused as Rejected}
 use Rattle.shown.specs.Front.{SameFront, front-same, stands-on}
+use Rattle.state.specs.Sections.{used}
+use Rattle.cfg.specs.Claims.{Stood}
 use Rattle.sheet.specs.Written.{lent}
 use Rattle.nester.specs.declared.Answer.{Answer}
 use Rattle.nester.specs.declared.Answer.the-variants.{Sheet as Sheeted, Refused}
@@ -86,6 +89,12 @@ module _ {store w loaded : List ℕ} {v : Accepted} (accepts : Accepts store w l
       go : (b : format.Answer Graph) → accept store ≡ b → forget b ≡ accepted tt → Accepting
       go (accepted g) z y = record { graph = g; is = z; stands = accepts .stands g z; valid = accept-valid store g z }
       go (refused n x) z y = absurd (clash (cc))
+
+  pub stood-loaded : v ≡ Record → used ≤ length w → Stood loaded
+  stood-loaded e room =
+      let x = accepting e in
+      let size = accepts .size in
+      record { graph = x .graph; stands = x .stands; room = omega arith }
 
   pub nest-accepted : {w′ out out′ : List ℕ} {a : Answer} → v ≡ Record
       → OfRecord loaded (λ g. Valid g → NestsRecord g loaded w′ out out′ a) → Nests store w w′ out out′ a

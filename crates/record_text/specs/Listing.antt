@@ -9,7 +9,7 @@ use Rattle.meaning.specs.Graph.{unreachable, return, exit-invocation, branch, s
 use Rattle.meaning.specs.Text.{Text, ascii, decimal, listed}
 use Rattle.format.specs.References.{first-edges}
 use Rattle.format.specs.Store.{Answer, accepted, refused}
-use Rattle.text.specs.Text.{labeled, text-of-each}
+use Rattle.text.specs.Text.{labeled, text-of-each, refusal-text}
 
 -- A region's number and a place in it.
 unfoldable pub dotted-text : ℕ → ℕ → Text
@@ -124,11 +124,6 @@ regions-text r (x ∷ xs) = region-text r x ++ regions-text (suc r) xs
 unfoldable pub listing-of : Graph → Text
 unfolding head-text regions-text
 listing-of g = head-text g ++ regions-text 0 (g .regions)
-
--- A refusal is one line: its number and its word (document 01, "The printed sheet").
-unfoldable pub refusal-text : ℕ → ℕ → Text
-unfolding labeled
-refusal-text n w = labeled "refused " n ++ labeled " " w ++ ascii "\n"
 
 -- What is shown of a store: its refusal, or its record.
 abbrev pub shown-text : Answer Graph → Text

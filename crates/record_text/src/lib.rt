@@ -2,7 +2,7 @@
 ghost use Rattle.record.specs.Stands.{OfRecord};
 ghost use Rattle.text.specs.Buffer.{buffer, Wrote};
 ghost use Rattle.text.specs.Whole.{Whole};
-ghost use Rattle.record_text.specs.Listing.{head-text, listing-of, refusal-text};
+ghost use Rattle.record_text.specs.Listing.{head-text, listing-of};
 
 mod lists;
 mod regions;
@@ -33,15 +33,5 @@ pub fn list(w: &[u16; WORDS], out: &mut [u8]) -> Written
 {
     let mut place = put_head(w, out, 0);
     place = put_regions(w, out, place);
-    text::finish(out.len(), place)
-}
-
-// The line of a refusal, from the buffer's beginning on.
-pub fn refusal(number: u16, word: u16, out: &mut [u8]) -> Written
-    ensures { λ r. ⌜ Whole (refusal-text number word) (now (out .entry)) (now (out .exit)) r ⌝ }
-{
-    let mut place = put_labeled(out, 0, b"refused ", number as u32);
-    place = put_labeled(out, place, b" ", word as u32);
-    place = put_byte(out, place, b'\n');
     text::finish(out.len(), place)
 }

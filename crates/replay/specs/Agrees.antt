@@ -10,7 +10,7 @@ use borrow.Author.Tests.{lt-ltb, le-ltb}
 use Rattle.format.specs.Accept.{accept}
 use Rattle.record_text.specs.Listing.{shown-text}
 use Rattle.vectors.specs.Same.{same-bytes, as-same}
-use Rattle.show_text.specs.Shows.{InFront}
+use Rattle.text.specs.Whole.{InFront}
 use Rattle.vectors.specs.Parts.{listed-store, answer-of}
 
 abbrev pub is-shown : List ℕ → List ℕ → Bool

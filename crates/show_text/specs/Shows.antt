@@ -1,13 +1,9 @@
 -- What is shown of a store: its refusal's line, or its record as text.
-use mathlib.Core.Path.{_≡_, refl, sym, ap, subst, _∙_}
-use mathlib.Core.Bool.{Bool, true, false}
-use mathlib.Core.List.{List, _++_}
+use mathlib.Core.Path.{_≡_, refl, subst}
+use mathlib.Core.List.{List}
 use Prim.Native.Nat.{ℕ, _≤_}
 use native.Mathlib.Omega.{arith}
-use lib.ListN.{length, take, drop, length-append}
-use lib.Seq.{take-all, take-at}
-use lib.Dec.{leb}
-use borrow.Author.Tests.{le-leb, leb-true}
+use lib.ListN.{length}
 use Rattle.meaning.specs.Graph.{Graph}
 use Rattle.format.specs.Store.{Answer, accepted, refused}
 use Rattle.format.specs.Accept.{accept}
@@ -16,11 +12,12 @@ use Rattle.record.specs.Outcome.{forget}
 use Rattle.record.specs.Stands.{OfRecord}
 use Rattle.text.specs.declared.Written.{Written}
 use Rattle.text.specs.declared.Written.the-variants.{Bytes, Full}
-use Rattle.text.specs.Whole.{Whole}
+use Rattle.text.specs.Whole.{Whole, room-enough, InFront, in-front}
 use Rattle.accept.specs.declared.Accepted.{Accepted}
 use Rattle.accept.specs.declared.Accepted.the-variants.{Record, Refused}
 use Rattle.accept.specs.Accepts.{Accepts}
-use Rattle.record_text.specs.Listing.{listing-of, refusal-text, shown-text}
+use Rattle.text.specs.Text.{refusal-text}
+use Rattle.record_text.specs.Listing.{listing-of, shown-text}
 use Rattle.format.specs.laws.Stores.{AllBytes}
 use Rattle.record_text.specs.laws.Fits.{shown-fits}
 
@@ -32,13 +29,13 @@ pub record Shows (s old new before after : List ℕ) (r : Written) : Type 0 wher
   pub words : Accepts s old new verdict
 
 module _ (s old new before after : List ℕ) (r : Written) (bytes : AllBytes s) where
-  room-enough : Whole (shown-text (accept s)) before after r → 65536 ≤ length before → r ≡ Bytes (length (shown-text (accept s)))
-  room-enough w l = w .answer ∙ rw (le-leb (length (shown-text (accept s))) (length before) (omega (arith, shown-fits s bytes)))
+  always : Whole (shown-text (accept s)) before after r → 65536 ≤ length before → r ≡ Bytes (length (shown-text (accept s)))
+  always w l = room-enough w (omega (arith, shown-fits s bytes))
 
   pub record-shown : Accepts s old new Record → OfRecord new (λ g. Whole (listing-of g) before after r) → Shows s old new before after r
   record-shown a h =
       let text = by-answer (accept s) refl (a .answer) in
-      record { text = text; fits = room-enough text; verdict = Record; words = a }
+      record { text = text; fits = always text; verdict = Record; words = a }
     where
       by-answer : (x : Answer Graph) → accept s ≡ x → accepted tt ≡ forget x → Whole (shown-text x) before after r
       by-answer (accepted g) q e = h g (a .stands g q)
@@ -47,7 +44,7 @@ module _ (s old new before after : List ℕ) (r : Written) (bytes : AllBytes s) 
   pub refusal-shown : (n w : ℕ) → Accepts s old new (Refused n w) → Whole (refusal-text n w) before after r → Shows s old new before after r
   refusal-shown n w a h =
       let text = by-answer (accept s) (a .answer) in
-      record { text = text; fits = room-enough text; verdict = Refused n w; words = a }
+      record { text = text; fits = always text; verdict = Refused n w; words = a }
     where
       by-answer : (x : Answer Graph) → refused n w ≡ forget x → Whole (shown-text x) before after r
       by-answer (accepted g) e = absurd (clash (cc))
@@ -58,27 +55,7 @@ module _ (s old new before after : List ℕ) (r : Written) (bytes : AllBytes s) 
 pub never-full : {s old new before after : List ℕ} {r : Written} → Shows s old new before after r → 65536 ≤ length before → r ≡ Full → ⊥
 never-full x l full = let whole = x .fits l in clash (cc)
 
--- What is shown stands in front of a buffer of 65,536 bytes or more.
-pub record InFront (text after : List ℕ) (n : ℕ) : Type 0 where
-  pub within : n ≤ length after
-  pub is : take n after ≡ text
-
-pub shown-front : {s old new before after : List ℕ} {r : Written} {n : ℕ} → Shows s old new before after r
-    → 65536 ≤ length before → r ≡ Bytes n → InFront (shown-text (accept s)) after n
-shown-front {s} {before = before} {after} {r} {n} x l is =
-    let text = shown-text (accept s) in
-    let whole = x .fits l in
-    let size : n ≡ length text = cc in
-    let fits : length text ≤ length before = by-answer (leb (length text) (length before)) refl in
-    let parts : after ≡ text ++ drop (length text) before =
-    x .text .bytes ∙ ap (λ t. t ++ drop (length text) before) (take-all (length before) text fits) in
-    record {
-      within = rw (size, parts) (simp length-append (omega arith));
-      is = ap (λ a. take n a) parts ∙ take-at text _ n (sym size);
-    }
-  where
-    by-answer : (t : Bool) → leb (length (shown-text (accept s))) (length before) ≡ t → length (shown-text (accept s)) ≤ length before
-    by-answer true e = leb-true _ _ e
-    by-answer false e =
-        let full : r ≡ Full = x .text .answer ∙ rw e in
-        absurd (never-full x l full)
+-- What is shown stands in front of the buffer.
+pub shown-front : {s old new before after : List ℕ} {r : Written} {n : ℕ} → Shows s old new before after r → r ≡ Bytes n
+    → InFront (shown-text (accept s)) after n
+shown-front x is = in-front (x .text) is

@@ -11,6 +11,6 @@ pub fn show(bytes: &[u8], words: &mut [u16; WORDS], out: &mut [u8]) -> Written
     let verdict = accept::accept(bytes, words);
     match verdict {
         Accepted::Record => record_text::list(words, out),
-        Accepted::Refused(number, word) => record_text::refusal(number, word, out),
+        Accepted::Refused(number, word) => text::refusal(number, word, out),
     }
 }

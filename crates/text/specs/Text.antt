@@ -13,3 +13,8 @@ labeled label n = ascii label ++ decimal n
 unfoldable pub text-of-each : {A : Type 0} → (A → Text) → List A → Text
 text-of-each show [] = []
 text-of-each show (x ∷ xs) = show x ++ text-of-each show xs
+
+-- A refusal is one line: its number and its word (document 01, "The printed sheet").
+unfoldable pub refusal-text : ℕ → ℕ → Text
+unfolding labeled
+refusal-text n w = labeled "refused " n ++ labeled " " w ++ ascii "\n"

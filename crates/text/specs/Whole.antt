@@ -5,22 +5,27 @@ use mathlib.Core.List.{List, [], _∷_, _++_, append-nil}
 use Prim.Native.Nat.{ℕ, suc, _+_, _≤_, _<_, min}
 use native.Mathlib.Omega.{arith}
 use lib.ListN.{length, take, drop, length-append}
-use lib.Seq.{set-at, set-out, take-nil, append-snoc}
+use lib.Seq.{set-at, set-out, take-nil, take-all, take-at, append-snoc}
 use lib.Dec.{leb}
 use borrow.Author.Tests.{le-leb, lt-leb, leb-true, leb-false}
 use Rattle.text.specs.declared.Written.{Written}
 use Rattle.text.specs.declared.Written.the-variants.{Bytes, Full}
 use Rattle.text.specs.Buffer.{buffer, puts, Wrote}
 use Rattle.meaning.specs.Lists.{pick}
+use Rattle.meaning.specs.facts.Tests.{clash}
 
 -- A place beyond the buffer's end says that some byte found no room.
 abbrev pub written-to : ℕ → ℕ → Written
 written-to room place = pick (leb place room) (Bytes place) Full
 
+-- A text over the front of a buffer, as much of it as finds room.
+abbrev pub over : List ℕ → List ℕ → List ℕ
+over text before = take (length before) text ++ drop (length text) before
+
 -- Bytes n: the text, of n bytes, stands in front, and the rest is as lent. Full: the text is longer than the buffer, which its front fills.
 pub record Whole (text before after : List ℕ) (r : Written) : Type 0 where
   pub answer : r ≡ pick (leb (length text) (length before)) (Bytes (length text)) Full
-  pub bytes : after ≡ take (length before) text ++ drop (length text) before
+  pub bytes : after ≡ over text before
 
 beyond : (t b : List ℕ) (at : ℕ) → length b < at → puts (buffer b at) t ≡ buffer b at
 unfolding puts
@@ -66,3 +71,31 @@ whole text before after place w =
       bytes =
           ap (λ o. o .bytes) e;
     }
+
+-- A buffer of the text's length or more holds it whole.
+pub room-enough : {text before after : List ℕ} {r : Written} → Whole text before after r → length text ≤ length before
+    → r ≡ Bytes (length text)
+room-enough {text} {before} w l = w .answer ∙ rw (le-leb (length text) (length before) l)
+
+-- A text that stands in front of a buffer.
+pub record InFront (text after : List ℕ) (n : ℕ) : Type 0 where
+  pub within : n ≤ length after
+  pub is : take n after ≡ text
+
+pub in-front : {text before after : List ℕ} {r : Written} {n : ℕ} → Whole text before after r → r ≡ Bytes n → InFront text after n
+in-front {text} {before} {after} {r} {n} w is = by-answer (leb (length text) (length before)) refl
+  where
+    by-answer : (t : Bool) → leb (length text) (length before) ≡ t → InFront text after n
+    by-answer true e =
+        let fits : length text ≤ length before = leb-true _ _ e in
+        let whole = room-enough w fits in
+        let size : n ≡ length text = cc in
+        let parts : after ≡ text ++ drop (length text) before =
+        w .bytes ∙ ap (λ t. t ++ drop (length text) before) (take-all (length before) text fits) in
+        record {
+          within = rw (size, parts) (simp length-append (omega arith));
+          is = ap (λ a. take n a) parts ∙ take-at text _ n (sym size);
+        }
+    by-answer false e =
+        let full : r ≡ Full = w .answer ∙ rw e in
+        absurd (clash (cc))

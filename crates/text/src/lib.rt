@@ -3,7 +3,8 @@ ghost use mathlib.Core.Path.{_≡_};
 ghost use mathlib.Core.List.{[], _∷_, _++_};
 ghost use Rattle.meaning.specs.Text.{decimal};
 ghost use Rattle.text.specs.Buffer.{buffer, Wrote};
-ghost use Rattle.text.specs.Whole.{written-to};
+ghost use Rattle.text.specs.Text.{refusal-text};
+ghost use Rattle.text.specs.Whole.{Whole, written-to};
 
 // One byte, and the next place. Where the buffer is full the byte is dropped, and the place beyond its end says so.
 pub fn put_byte(out: &mut [u8], at: usize, b: u8) -> usize
@@ -64,4 +65,14 @@ pub fn finish(room: usize, place: usize) -> Written
         return Written::Bytes(place);
     }
     Written::Full
+}
+
+// The line of a refusal, from the buffer's beginning on.
+pub fn refusal(number: u16, word: u16, out: &mut [u8]) -> Written
+    ensures { λ r. ⌜ Whole (refusal-text number word) (now (out .entry)) (now (out .exit)) r ⌝ }
+{
+    let mut place = put_labeled(out, 0, b"refused ", number as u32);
+    place = put_labeled(out, place, b" ", word as u32);
+    place = put_byte(out, place, b'\n');
+    finish(out.len(), place)
 }

@@ -139,7 +139,7 @@ unfolding next-word
 select-read n bool-cond v rs ts rest = then-decoded _ _ _ _ (numbers-read rs _ rest) ∙ then-decoded _ _ _ _ (numbers-read ts [] rest)
 select-read n number v rs ts rest = then-decoded _ _ _ _ (numbers-read rs _ rest) ∙ then-decoded _ _ _ _ (numbers-read ts [] rest)
 
-line-read : (l : Line) (rest : List ℕ) → decode-line (words-of (fields l) ++ rest) ≡ decoded l rest
+pub line-read : (l : Line) (rest : List ℕ) → decode-line (words-of (fields l) ++ rest) ≡ decoded l rest
 unfolding next-word
 line-read (region-line r ts ks vs) rest =
     then-decoded _ _ _ _ (numbers-read ts _ rest) ∙ then-decoded _ _ _ _ (numbers-read ks _ rest)
@@ -168,7 +168,7 @@ takes-line (loop-line b vs r v) n rest = refl
 takes-line (exit-line b op vs) n rest = refl
 takes-line (defer-line e) n rest = refl
 
-some-words : (l : Line) → 1 ≤ length (words-of (fields l))
+pub some-words : (l : Line) → 1 ≤ length (words-of (fields l))
 some-words (region-line r ts ks vs) = omega arith
 some-words (block-line b is) = omega arith
 some-words (select-line x rs) = omega arith

@@ -1,9 +1,9 @@
 -- Every accepted record's listing fits into 65,536 bytes: a record has at most 4,048 words, and 16 bytes a word are enough.
 use mathlib.Core.Path.{_≡_, refl, sym, _∙_}
 use mathlib.Core.List.{List}
-use Prim.Native.Nat.{ℕ, _≤_, _<_}
+use Prim.Native.Nat.{ℕ, _≤_}
 use native.Mathlib.Omega.{arith}
-use lib.ListN.{length, getD, length-append}
+use lib.ListN.{length, getD}
 use Rattle.meaning.specs.Graph.{Graph}
 use Rattle.format.specs.Store.{Answer, accepted, refused, word-at, store-words}
 use Rattle.format.specs.Read.{read-record}
@@ -12,8 +12,8 @@ use Rattle.format.specs.Accept.{accept}
 use Rattle.store.specs.Layout.{record-end}
 use Rattle.format.specs.laws.Stores.{AllBytes, words-small, holds}
 use Rattle.record.specs.laws.Parts.{then, accepted-value}
-use Rattle.text.specs.laws.Lengths.{five-digits}
-use Rattle.record_text.specs.Listing.{listing-of, refusal-text, shown-text}
+use Rattle.text.specs.laws.Lengths.{refusal-length}
+use Rattle.record_text.specs.Listing.{listing-of, shown-text}
 use Rattle.record_text.specs.laws.ItemBytes.{Small}
 use Rattle.record_text.specs.laws.RegionBytes.{listing-enough}
 use Rattle.format.specs.laws.Refusals.{InRange, refusal-range}
@@ -47,14 +47,10 @@ listing-fits s bytes g h =
     let read : read-record (a .value) ≡ accepted g = b .first ∙ c .second in
     omega (arith, words .few, listing-enough (a .value) (words .small) (omega (arith, words .few)) g read)
 
-refusal-fits : (n w : ℕ) → n ≤ 8 → w < 32 → length (refusal-text n w) ≤ 65536
-unfolding refusal-text
-refusal-fits n w a b = simp length-append (omega (arith, five-digits n (omega arith), five-digits w (omega arith)))
-
 -- Whatever is shown of a store.
 pub shown-fits : (s : List ℕ) → AllBytes s → length (shown-text (accept s)) ≤ 65536
 shown-fits s bytes = by-answer (accept s) refl (refusal-range s)
   where
     by-answer : (x : Answer Graph) → accept s ≡ x → InRange x → length (shown-text x) ≤ 65536
     by-answer (accepted g) q h = listing-fits s bytes g q
-    by-answer (refused n w) q h = refusal-fits n w (h .0 .1) (h .1)
+    by-answer (refused n w) q h = omega (arith, h .0 .1, h .1, refusal-length n w (omega arith) (omega arith))

@@ -39,7 +39,7 @@ part-same-end c =
     let at-written = c .before .before in
     let at-show = at-written .before .before .before .before in
     let start = at-show .before .before .before .before .before .before .before in
-    omega (arith, shown-front (at-show .show .ensures) (let room = start .pre .1 in omega arith) (at-written .written .given .1) .within)
+    omega (arith, shown-front (at-show .show .ensures) (at-written .written .given .1) .within)
 
 same-requires : tie.Need-same-requires
 same-requires c κs = search needs
@@ -52,7 +52,7 @@ returns-2 c =
     let at-written = c .before .before .before .before in
     let at-show = at-written .before .before .before .before in
     let start = at-show .before .before .before .before .before .before .before in
-    let front = shown-front (at-show .show .ensures) (let room = start .pre .1 in omega arith) (at-written .written .given .1) in
+    let front = shown-front (at-show .show .ensures) (at-written .written .given .1) in
     as-shown front (c .same .ensures)
 
 pub is-shown-spec : {M : Type 1} → statement M

@@ -15,7 +15,7 @@ module _ {A : Type 0} (show : A → Text) where
   abbrev pub other : A → Text
   other x = ascii "," ++ show x
 
-  joined-each : (x : A) (xs : List A) → joined (ascii ",") (map show (x ∷ xs)) ≡ show x ++ text-of-each other xs
+  pub joined-each : (x : A) (xs : List A) → joined (ascii ",") (map show (x ∷ xs)) ≡ show x ++ text-of-each other xs
   unfolding joined text-of-each
   joined-each x [] = sym (append-nil (show x))
   joined-each x (y ∷ ys) =

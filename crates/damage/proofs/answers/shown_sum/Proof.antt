@@ -34,7 +34,7 @@ part-sum-of-end c =
     let at-written = c .before .before in
     let at-show = at-written .before .before .before .before in
     let start = at-show .before .before .before .before .before in
-    omega (arith, shown-front (at-show .show .ensures) (let room = start .pre in omega arith) (at-written .written .given .1) .within)
+    omega (arith, shown-front (at-show .show .ensures) (at-written .written .given .1) .within)
 
 sum-of-requires : tie.Need-sum-of-requires
 sum-of-requires c κs = search needs
@@ -47,7 +47,7 @@ returns-2 c =
     let at-written = c .before .before .before .before in
     let at-show = at-written .before .before .before .before in
     let start = at-show .before .before .before .before .before in
-    let front = shown-front (at-show .show .ensures) (let room = start .pre in omega arith) (at-written .written .given .1) in
+    let front = shown-front (at-show .show .ensures) (at-written .written .given .1) in
     summed-shown front (c .sum-of .ensures)
 
 pub shown-sum-spec : {M : Type 1} → statement M

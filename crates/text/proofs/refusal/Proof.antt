@@ -1,11 +1,11 @@
 use mathlib.Core.Path.{sym, ap, subst, _∙_}
 use borrow.Author.Needs.{needs}
 use Rattle.text.specs.Whole.{Whole, written-to, whole}
 use Rattle.text.specs.Text.{labeled}
 use Rattle.text.specs.Buffer.{_▸_}
-use Rattle.record_text.specs.Listing.{refusal-text}
-use Rattle.record_text.proofs.refusal.Statement.{statement}
-use Rattle.record_text.proofs.refusal.Tie as tie
+use Rattle.text.specs.Text.{refusal-text}
+use Rattle.text.proofs.refusal.Statement.{statement}
+use Rattle.text.proofs.refusal.Tie as tie
 
 slice-aggregate-put-labeled : tie.Need-slice-aggregate-put-labeled
 slice-aggregate-put-labeled c = search needs

@@ -1,0 +1,53 @@
+-- From the nester's answer to its number.
+use mathlib.Core.Path.{_≡_, refl, ap, _∙_}
+use mathlib.Core.List.{List}
+use Prim.Native.Nat.{ℕ, _+_, _*_, _<_}
+use native.Mathlib.Omega.{arith}
+use lib.ListN.{length}
+use Rattle.format.specs.Store as format
+use Rattle.format.specs.Store.{accepted, refused}
+use Rattle.meaning.specs.facts.Tests.{clash}
+use Rattle.nester.specs.declared.Answer.{Answer}
+use Rattle.nester.specs.declared.Answer.the-variants.{Sheet, Refused}
+use Rattle.nester.specs.Answers.{Ends, ends-sheet, ends-refused}
+use Rattle.nester.specs.Nests.{Nests}
+use Rattle.c_interface.specs.Exported.{NestExported}
+
+module _ {b : format.Answer (List ℕ)} {out out′ : List ℕ} where
+  sheet-length : {n : ℕ} → Ends b out out′ (Sheet n) → (ws : List ℕ) → b ≡ accepted ws → n ≡ length ws
+  sheet-length (ends-sheet {ws = us} e size d) ws f = let same : us ≡ ws = cc in size ∙ ap length same
+
+  not-refused : {n : ℕ} → Ends b out out′ (Sheet n) → {m w : ℕ} → b ≡ refused m w → ⊥
+  not-refused (ends-sheet e size d) f = clash (cc)
+
+  not-sheet : {n x : ℕ} → Ends b out out′ (Refused n x) → {ws : List ℕ} → b ≡ accepted ws → ⊥
+  not-sheet (ends-refused e d) f = clash (cc)
+
+  same-refusal : {n x : ℕ} → Ends b out out′ (Refused n x) → {m w : ℕ} → b ≡ refused m w → (n ≡ m) × (x ≡ w)
+  same-refusal (ends-refused e d) f = (cc, cc)
+
+module _ (s old new out out′ : List ℕ) where
+  pub sheet-exported : {n a : ℕ} → a ≡ n → Nests s old new out out′ (Sheet n) → NestExported s old new out out′ a
+  sheet-exported {n} e h =
+      record {
+        answer = Sheet n;
+        nests = h;
+        is = e;
+        if-sheet = λ ws f. e ∙ sheet-length (h .ends) ws f;
+        if-refused = λ m w f. absurd (not-refused (h .ends) f);
+      }
+
+  pub refusal-exported : {n w a b c d : ℕ} → a ≡ n → b ≡ a → c ≡ w → d ≡ c → d < 4294967296 → Nests s old new out out′ (Refused n w)
+      → NestExported s old new out out′ (b * 4294967296 + d)
+  refusal-exported {n} {w} {b = b} {d = d} p q r t small h =
+      record {
+        answer = Refused n w;
+        nests = h;
+        is = cc;
+        if-sheet = λ ws f. absurd (not-sheet (h .ends) f);
+        if-refused = λ m v f.
+            let same = same-refusal (h .ends) f in
+            let m-is : b ≡ m = q ∙ p ∙ same .0 in
+            let v-is : d ≡ v = t ∙ r ∙ same .1 in
+            (omega arith, omega arith);
+      }

@@ -1,0 +1,42 @@
+use native.Mathlib.Omega.{arith}
+use Rattle.nester.specs.Nests.{stood-loaded, nest-accepted, nest-refused}
+use borrow.Author.Needs.{needs}
+use Rattle.nester.proofs.nest.Statement.{statement}
+use Rattle.nester.proofs.nest.Tie as tie
+
+span-requires : tie.Need-span-requires
+span-requires c κs = search needs
+
+accept-requires : tie.Need-accept-requires
+accept-requires c κs = search needs
+
+enum-told : tie.Need-enum-told
+enum-told c = search needs
+
+nest-record-requires : tie.Need-nest-record-requires
+nest-record-requires c κs = stood-loaded (c .before .before .before .before .accept .ensures) (c .before .before .enum-told .given .1) (let size = c .before .before .before .before .before .before .before .span-arg2 .given in omega arith)
+
+enum-known-number : tie.Need-enum-known-number
+enum-known-number c = search needs
+
+same-length : tie.Need-same-length
+same-length c = search needs
+
+returns : tie.Need-returns
+returns c = nest-accepted (c .before .before .before .before .before .before .before .accept .ensures) (c .before .before .before .before .before .enum-told .given .1) (c .before .before .nest-record .ensures)
+
+returns-2 : tie.Need-returns-2
+returns-2 c = nest-refused (c .before .before .before .accept .ensures) _ (c .before .number .given .1)
+
+pub nest-spec : {M : Type 1} → statement M
+nest-spec =
+    tie.close
+    (tie.spec
+    span-requires
+    accept-requires
+    enum-told
+    nest-record-requires
+    enum-known-number
+    same-length
+    returns
+    returns-2)

@@ -1,0 +1,95 @@
+use mathlib.Core.Path.{ap}
+use native.Mathlib.Omega.{arith}
+use Rattle.nester.specs.Answers.{number-of, nested-unfigured, nested-formed, nested-refused}
+use borrow.Author.Needs.{needs}
+use Rattle.nester.proofs.nest_record.Statement.{statement}
+use Rattle.nester.proofs.nest_record.Tie as tie
+
+structurize-func-requires : tie.Need-structurize-func-requires
+structurize-func-requires c κs = search needs
+
+enum-told : tie.Need-enum-told
+enum-told c = search needs
+
+written-requires : tie.Need-written-requires
+written-requires c κs = search needs
+
+enum-told-2 : tie.Need-enum-told-2
+enum-told-2 c = search needs
+
+formed-requires : tie.Need-formed-requires
+formed-requires c κs = search needs
+
+enum-told-3 : tie.Need-enum-told-3
+enum-told-3 c = search needs
+
+formed-requires-2 : tie.Need-formed-requires-2
+formed-requires-2 c κs = search needs
+
+enum-told-4 : tie.Need-enum-told-4
+enum-told-4 c = search needs
+
+written-requires-2 : tie.Need-written-requires-2
+written-requires-2 c κs = search needs
+
+enum-known-number : tie.Need-enum-known-number
+enum-known-number c = search needs
+
+same-length : tie.Need-same-length
+same-length c = search needs
+
+returns : tie.Need-returns
+returns c = λ g st valid.
+    nested-unfigured valid (c .before .before .before .before .before .before .before .structurize-func .ensures g st valid) (ap number-of (c .before .before .before .before .before .enum-told .given .1)) (omega arith) (λ a b. omega arith)
+    (c .before .before .written .ensures)
+
+same-length-2 : tie.Need-same-length-2
+same-length-2 c = search needs
+
+returns-2 : tie.Need-returns-2
+returns-2 c = λ g st valid.
+    nested-formed valid (c .before .before .before .before .before .before .before .structurize-func .ensures g st valid) (ap number-of (c .before .before .before .before .before .enum-told2 .given .1)) (omega arith) (omega arith)
+    (c .before .before .formed .ensures)
+
+same-length-3 : tie.Need-same-length-3
+same-length-3 c = search needs
+
+returns-3 : tie.Need-returns-3
+returns-3 c = λ g st valid.
+    nested-formed valid (c .before .before .before .before .before .before .before .structurize-func .ensures g st valid) (ap number-of (c .before .before .before .before .before .enum-told3 .given .1)) (omega arith) (omega arith)
+    (c .before .before .formed2 .ensures)
+
+same-length-4 : tie.Need-same-length-4
+same-length-4 c = search needs
+
+returns-4 : tie.Need-returns-4
+returns-4 c = λ g st valid.
+    nested-unfigured valid (c .before .before .before .before .before .before .before .structurize-func .ensures g st valid) (ap number-of (c .before .before .before .before .before .enum-told4 .given .1)) (omega arith) (λ a b. omega arith)
+    (c .before .before .written2 .ensures)
+
+returns-5 : tie.Need-returns-5
+returns-5 c = λ g st valid. nested-refused valid (c .before .before .before .structurize-func .ensures g st valid) (c .before .number .given .1) _
+
+pub nest-record-spec : {M : Type 1} → statement M
+nest-record-spec =
+    tie.close
+    (tie.spec
+    structurize-func-requires
+    enum-told
+    written-requires
+    enum-told-2
+    formed-requires
+    enum-told-3
+    formed-requires-2
+    enum-told-4
+    written-requires-2
+    enum-known-number
+    same-length
+    returns
+    same-length-2
+    returns-2
+    same-length-3
+    returns-3
+    same-length-4
+    returns-4
+    returns-5)

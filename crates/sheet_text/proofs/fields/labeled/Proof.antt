@@ -1,0 +1,23 @@
+use borrow.Author.Needs.{needs}
+use Rattle.sheet_text.specs.Texts.{field-within}
+use Rattle.sheet_text.specs.laws.PutsSteps.{puts-then, puts-any}
+use Rattle.sheet_text.proofs.fields.labeled.Statement.{statement}
+use Rattle.sheet_text.proofs.fields.labeled.Tie as tie
+
+say-requires : tie.Need-say-requires
+say-requires c κs = search needs
+
+put-field-requires : tie.Need-put-field-requires
+put-field-requires c κs = search needs
+
+same-length : tie.Need-same-length
+same-length c = search needs
+
+returns : tie.Need-returns
+returns c = puts-then (c .before .before .before .before .before .before .say .ensures _)
+    (puts-any 0 (λ depth. field-within depth
+    (c .before .before .before .before .before .before .before .before .before .before .before .args .kind))
+    (c .before .before .put-field .ensures))
+
+pub labeled-spec : {M : Type 1} → statement M
+labeled-spec = tie.close (tie.spec say-requires put-field-requires same-length returns)

@@ -1,0 +1,23 @@
+use borrow.Author.Needs.{needs}
+use Rattle.sheet_text.specs.Texts.{list-within}
+use Rattle.sheet_text.specs.laws.PutsSteps.{puts-then, puts-any}
+use Rattle.sheet_text.proofs.fields.listed.Statement.{statement}
+use Rattle.sheet_text.proofs.fields.listed.Tie as tie
+
+say-requires : tie.Need-say-requires
+say-requires c κs = search needs
+
+put-list-requires : tie.Need-put-list-requires
+put-list-requires c κs = search needs
+
+same-length : tie.Need-same-length
+same-length c = search needs
+
+returns : tie.Need-returns
+returns c = puts-then (c .before .before .before .before .before .before .say .ensures _)
+    (puts-any 1 (λ depth. list-within depth
+    (c .before .before .before .before .before .before .before .before .before .before .before .args .kind))
+    (c .before .before .put-list .ensures))
+
+pub listed-spec : {M : Type 1} → statement M
+listed-spec = tie.close (tie.spec say-requires put-list-requires same-length returns)

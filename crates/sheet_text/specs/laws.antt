@@ -1,0 +1,12 @@
+pub mod PutsSteps
+pub mod Readers
+pub mod ListTexts
+pub mod ListTurns
+pub mod FieldTexts
+pub mod LineTexts
+pub mod SheetTexts
+pub mod Room
+pub mod LineRoom
+pub mod Answered
+pub mod SheetByLine
+pub mod AnswerPrinted

@@ -1,0 +1,153 @@
+// The fields of a line, and lists of them.
+ghost use mathlib.Core.Path.{_≡_};
+ghost use mathlib.Core.List.{List};
+ghost use Prim.Native.Nat.{ℕ};
+ghost use lib.ListN.{getD};
+ghost use lib.Dec.{eqb};
+ghost use Rattle.sheet_text.specs.Texts.{say, _then_, field-within, list-within, field-text, list-text, none-text, item-head};
+ghost use Rattle.sheet_text.specs.Texts.{merge-head, plain-text};
+ghost use Rattle.sheet_text.specs.Puts.{Puts, PutsWithin};
+use super::cursor::Cursor;
+use super::cursor::number;
+use super::cursor::say;
+use super::cursor::skip;
+use super::cursor::stop;
+use super::cursor::value;
+
+pub enum Field {
+    Number,
+    Value,
+    Item,
+    Condition,
+}
+
+// An item up to its reads: region.index/opcode/type/
+fn item_head(words: &[u32], text: &mut [u8], c: Cursor) -> Cursor
+    ensures { λ r. ⌜ Puts item-head (now (words .entry)) c (now (text .entry)) (now (text .exit)) r ⌝ }
+{
+    let mut d = number(words, text, c);
+    d = say(text, d, b".");
+    d = number(words, text, d);
+    d = say(text, d, b"/");
+    d = number(words, text, d);
+    d = say(text, d, b"/");
+    d = number(words, text, d);
+    say(text, d, b"/")
+}
+
+// Whether a condition has parts.
+fn is_merge(words: &[u32], c: Cursor) -> bool
+    ensures { λ r. ⌜ r ≡ eqb (getD (now (words .entry)) (c .at) 0) 4 ⌝ }
+{
+    let at = c.at;
+    if words.len() <= at {
+        return false;
+    }
+    words[at] == 4
+}
+
+// A condition without parts.
+fn plain_condition(words: &[u32], text: &mut [u8], c: Cursor) -> Cursor
+    ensures { λ r. ⌜ Puts plain-text (now (words .entry)) c (now (text .entry)) (now (text .exit)) r ⌝ }
+{
+    let at = c.at;
+    if words.len() <= at {
+        return stop(words, c);
+    }
+    let next = Cursor {
+        at: at + 1,
+        place: c.place,
+    };
+    match words[at] {
+        1 => say(text, next, b"t"),
+        2 => say(text, next, b"f"),
+        3 => say(text, next, b"u"),
+        _ => stop(words, c),
+    }
+}
+
+// A condition up to its parts: m, the node and a bracket.
+fn merge_head(words: &[u32], text: &mut [u8], c: Cursor) -> Cursor
+    ensures { λ r. ⌜ Puts merge-head (now (words .entry)) c (now (text .entry)) (now (text .exit)) r ⌝ }
+{
+    let mut d = skip(words, c);
+    d = say(text, d, b"m");
+    d = number(words, text, d);
+    say(text, d, b"[")
+}
+
+fn put_field(words: &[u32], text: &mut [u8], c: Cursor, kind: Field) -> Cursor
+    ensures { λ r. ⌜ PutsWithin 0 (λ depth. field-within depth kind) (now (words .entry)) c (now (text .entry)) (now (text .exit)) r ⌝ }
+{
+    match kind {
+        Field::Number => number(words, text, c),
+        Field::Value => value(words, text, c),
+        Field::Item => {
+            let d = item_head(words, text, c);
+            put_list(words, text, d, Field::Value)
+        }
+        Field::Condition => {
+            if is_merge(words, c) {
+                let mut d = merge_head(words, text, c);
+                d = put_list(words, text, d, Field::Condition);
+                return say(text, d, b"]");
+            }
+            plain_condition(words, text, c)
+        }
+    }
+}
+
+// An empty list: `-`, but nothing between a condition's brackets.
+fn none(text: &mut [u8], c: Cursor, kind: Field) -> Cursor
+    ensures { λ r. ⌜ ((ws : List ℕ) → Puts (say (none-text kind)) ws c (now (text .entry)) (now (text .exit)) r) ⌝ }
+{
+    match kind {
+        Field::Condition => c,
+        _ => say(text, c, b"-"),
+    }
+}
+
+// A count, then as many fields, joined by commas.
+fn put_list(words: &[u32], text: &mut [u8], c: Cursor, kind: Field) -> Cursor
+    ensures { λ r. ⌜ PutsWithin 1 (λ depth. list-within depth kind) (now (words .entry)) c (now (text .entry)) (now (text .exit)) r ⌝ }
+{
+    let at = c.at;
+    if words.len() <= at {
+        return stop(words, c);
+    }
+    let n = words[at];
+    let mut d = Cursor {
+        at: at + 1,
+        place: c.place,
+    };
+    if n == 0 {
+        return none(text, d, kind);
+    }
+    d = put_field(words, text, d, kind);
+    let mut k: u32 = 1;
+    while k < n {
+        if words.len() < d.at {
+            return d;
+        }
+        d = say(text, d, b",");
+        d = put_field(words, text, d, kind);
+        k += 1;
+    }
+    d
+}
+
+pub fn labeled(words: &[u32], text: &mut [u8], c: Cursor, label: &[u8], kind: Field) -> Cursor
+    ensures { λ r. ⌜ Puts (say (now (label .entry)) then field-text kind)
+        (now (words .entry)) c (now (text .entry)) (now (text .exit)) r ⌝ }
+{
+    let d = say(text, c, label);
+    put_field(words, text, d, kind)
+}
+
+pub fn listed(words: &[u32], text: &mut [u8], c: Cursor, label: &[u8], kind: Field) -> Cursor
+    ensures { λ r. ⌜ Puts (say (now (label .entry)) then list-text kind)
+        (now (words .entry)) c (now (text .entry)) (now (text .exit)) r ⌝ }
+{
+    let d = say(text, c, label);
+    put_list(words, text, d, kind)
+}
