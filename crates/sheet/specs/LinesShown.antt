@@ -15,8 +15,9 @@ use Rattle.shown.specs.States.{ShowsBody}
 use Rattle.writing.specs.declared.place.Place.{Place}
 use Rattle.writing.specs.Puts.{Part, _⊕_, Puts, puts-then, puts-none, puts-as}
 use Rattle.writing.specs.Parts.{OfState, Concluded, each}
+use Rattle.writing.specs.PartLaws.{parts-assoc}
 use Rattle.sheet.specs.Pieces.{region-lines, piece-part, set-part, lines-part, lines-are, twice-is}
-use Rattle.sheet.specs.Regions.{PutsPiece, PutsWhole, PutsUnclaimed, PutsSets, PutsLeftover, regrouped}
+use Rattle.sheet.specs.Regions.{PutsPiece, PutsWhole, PutsUnclaimed, PutsSets, PutsLeftover}
 use Rattle.sheet.specs.Written.{ShowsAnswer, shows-untouched, shows-whole, shows-closed, shows-leftover, LinesPut}
 use Rattle.sheet.specs.Written.{PutsLines, behind-head}
 
@@ -29,7 +30,7 @@ leftover-put w is-entry sets unclaimed first g s c ks d kind body =
     let p = piece g (g .entry) ks [] d in
     let q = rw is at (first g s c ks (rw is (body .nodes))) in
     puts-as (puts-then (puts-then (sets g s c ks d (record { kind = kind; set = body .set })) (unclaimed g s c)) q)
-    (regrouped (piece-part g s p) (each (piece-part g s) us) _)
+    (sym (parts-assoc (piece-part g s p) (each (piece-part g s) us) _))
 
 -- ---- By the outcome.
 module _ (g : Graph) (s : NestState) (o : Outcome) (p : Piece) (us : List Piece) (t : (conclude-with g s o p us .outcome ≡ untouched) → ⊥)

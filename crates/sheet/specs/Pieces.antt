@@ -16,17 +16,8 @@ use Rattle.nesting.specs.Sheet as sheet
 use Rattle.writing.specs.Puts.{Part, _⊕_}
 use Rattle.writing.specs.Parts.{most, words-of, region-words, nodes-words, each, output-nodes, look-up-at-end, nodes-part, region-part}
 use Rattle.writing.specs.Parts.{defer-part}
+use Rattle.writing.specs.PartLaws.{kids-looked-up}
 use Rattle.sheet.specs.Whole.{piece-words, defer-words, lines-words}
-
--- ---- A look-up keeps the numbers of child nodes.
-kids-looked : (s : NestState) (ks : Nodes)
-    → sheet.kids (look-up-nodes (look-up-at-end s) (s .node-outputs) ks .value) ≡ sheet.kids ks
-unfolding look-up-nodes
-kids-looked s ⟨⟩ = refl
-kids-looked s (block n r k is ▸ ks) = ap (λ z. n ∷ z) (kids-looked s ks)
-kids-looked s (select x cs ▸ ks) = ap (λ z. x .number ∷ z) (kids-looked s ks)
-kids-looked s (loop x body ▸ ks) = ap (λ z. x .number ∷ z) (kids-looked s ks)
-kids-looked s (exit n op vs ▸ ks) = ap (λ z. n ∷ z) (kids-looked s ks)
 
 -- ---- Pieces, before they are looked up.
 module _ (g : Graph) (s : NestState) where
@@ -50,7 +41,7 @@ module _ (g : Graph) (s : NestState) where
   -- ---- The words.
   piece-is : (p : Piece) → piece-words most (output-nodes s) (looked p) ≡ piece-part p .value
   unfolding look-up-piece region-part nodes-part
-  piece-is p = rw (kids-looked s (p .children))
+  piece-is p = rw (kids-looked-up (look-up-at-end s) (s .node-outputs) (p .children))
 
   set-is : (r : ℕ) (h : DeferredEdgeBundle → LazyCond) (d : DeferredEdgeBundleSet)
       → concat (map (defer-words (output-nodes s) r) (map (λ e. look-up-bundle (look-up-at-end s) h e .value) d))

@@ -25,6 +25,7 @@ use Rattle.writing.specs.declared.place.Place.{Place}
 use Rattle.writing.specs.Puts.{Part, _⊕_, Puts, puts-then, puts-none, puts-as}
 use Rattle.writing.specs.Rows.{run, run-start, run-turn, run-all}
 use Rattle.writing.specs.Parts.{OfState, Concluded, most, region-part, values-part, nodes-part, each, defer-part}
+use Rattle.writing.specs.PartLaws.{parts-assoc}
 use Rattle.sheet.specs.Whole.{lines-words}
 use Rattle.sheet.specs.Pieces.{region-lines, piece-part, set-part, lines-part, lines-are, twice-is}
 use Rattle.sheet.specs.Leftovers.{ready-lines, ready-set, given-set, unclaimed-lines, ascending-sets}
@@ -86,9 +87,6 @@ first-bundle : (start : ℕ) → start < 1097 → bundle-at start 0 ≡ start + 
 unfolding bundle-at
 first-bundle start h = rw (lt-ltb start 1097 h)
 
-pub regrouped : (a b c : Part) → a ⊕ (b ⊕ c) ≡ (a ⊕ b) ⊕ c
-regrouped a b c = rw (append-assoc (a .value) (b .value) (c .value), or-assoc (a .twice) (b .twice) (c .twice))
-
 -- The handle of a list, and what was put for it.
 abbrev pub PutsNodes : List ℕ → ℕ → List ℕ → Place → List ℕ → Place → Type 0
 PutsNodes w list out at out′ at′ =
@@ -99,7 +97,7 @@ region-put : (g : Graph) (s : NestState) (r : ℕ) (ks : Nodes) (vs : List Value
     → Puts out₂ at₂ (plain (front-words g r ks)) out₃ at₃ → Puts out at (region-lines g s r ks vs) out₃ at₃
 unfolding region-part values-part
 region-put g s r ks vs n p q =
-    puts-as (puts-then (puts-then n p) q) (regrouped (plain (front-words g r ks)) (values-part s vs) (nodes-part s ks))
+    puts-as (puts-then (puts-then n p) q) (sym (parts-assoc (plain (front-words g r ks)) (values-part s vs) (nodes-part s ks)))
 
 module _ (w : List ℕ) (r : ℕ) {list : ℕ} (handle : list ≡ word w children r) {out out₁ out₂ out₃ : List ℕ} {at at₁ at₂ at₃ : Place}
     (nodes : PutsNodes w list out at out₁ at₁) where

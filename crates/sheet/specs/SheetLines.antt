@@ -10,6 +10,7 @@ use Rattle.nesting.specs.Nesting.{Nested, Piece, Outcome, untouched, whole, clo
 use Rattle.nesting.specs.Sheet as sheet
 use Rattle.nesting.specs.Sheet.{Field}
 use Rattle.writing.specs.Parts.{words-of, region-words, select-words, loop-words, node-words, nodes-words, cases-words}
+use Rattle.writing.specs.PartLaws.{numbers-words}
 use Rattle.sheet.specs.Whole.{piece-words, defer-words, lines-words, head-words, nested-words}
 
 -- The words of lines.
@@ -22,14 +23,6 @@ concat-append (x ∷ xs) ys = rw (concat-append xs ys) (sym (append-assoc x (con
 
 lines-append : (ls ms : List (List Field)) → of-lines (ls ++ ms) ≡ of-lines ls ++ of-lines ms
 lines-append ls ms = rw (map-append words-of ls ms) (concat-append (map words-of ls) (map words-of ms))
-
--- A list of numbers, with its count.
-numbers-words : (ns : List ℕ) → sheet.numbers ns .words ≡ length ns ∷ ns
-numbers-words ns = rw (length-map ns sheet.a-number, each-word ns)
-  where
-    each-word : (ns : List ℕ) → concat (map (λ (f : Field). f .words) (map sheet.a-number ns)) ≡ ns
-    each-word [] = refl
-    each-word (n ∷ ns) = ap (λ z. n ∷ z) (each-word ns)
 
 abbrev pub same-count : ℕ → ℕ
 same-count n = n

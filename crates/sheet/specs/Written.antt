@@ -113,15 +113,15 @@ written-within out end (x ∷ ws) a b =
     ) (set-at (take i out) (getD out i 0) (ws ++ drop end out) x i size)
 
 -- ---- Line 1 in front of the lines.
-number-of : Outcome → ℕ
-number-of untouched = 0
-number-of whole = 1
-number-of closed = 2
-number-of leftover = 3
+outcome-number : Outcome → ℕ
+outcome-number untouched = 0
+outcome-number whole = 1
+outcome-number closed = 2
+outcome-number leftover = 3
 
 head-is : (o : Outcome) (f a : ℕ) (b : Bool) (ls : List (List sheet.Field))
-    → head-words (record { outcome = o; figure = f; attempts = a; twice = b; lines = ls }) ≡ number-of o ∷ f ∷ a ∷ bit b ∷ []
-unfolding number-of
+    → head-words (record { outcome = o; figure = f; attempts = a; twice = b; lines = ls }) ≡ outcome-number o ∷ f ∷ a ∷ bit b ∷ []
+unfolding outcome-number
 head-is untouched f a b ls = refl
 head-is whole f a b ls = refl
 head-is closed f a b ls = refl
@@ -135,11 +135,11 @@ twice-is-bit false false = refl
 
 -- What every answer has.
 record Answers (s : NestState) (x : Nested) (outcome : ℕ) : Type 0 where
-  pub number : number-of (x .outcome) ≡ outcome
+  pub number : outcome-number (x .outcome) ≡ outcome
   pub attempts : x .attempts ≡ s .attempts
 
 answers : {g : Graph} {w : List ℕ} {s : NestState} {x : Nested} {outcome : ℕ} → ShowsAnswer g w s x outcome → Answers s x outcome
-unfolding number-of
+unfolding outcome-number
 answers (shows-untouched e) = rw e (record { number = refl; attempts = refl })
 answers (shows-whole b e) = rw e (record { number = refl; attempts = refl })
 answers (shows-closed b e) = rw e (record { number = refl; attempts = refl })
