@@ -6,8 +6,7 @@ use native.Mathlib.Omega.{arith}
 use native.Mathlib.Numerals.{add-one}
 use lib.ListN.{length, getD, take}
 use Rattle.meaning.specs.Lists.{total}
-use Rattle.meaning.specs.Graph.{Graph, Region, Instr, nowhere, region}
-use Rattle.nesting.specs.Nesting.{block-count}
+use Rattle.meaning.specs.Graph.{Graph, Instr, region}
 use Rattle.fields.specs.ByNumber.{block-of}
 
 -- What is beyond the list counts 0.
@@ -23,11 +22,6 @@ abbrev pub instructions-before : List (List Instr) → ℕ → ℕ
 instructions-before bs b = total (λ (x : List Instr). length x) (take b bs)
 
 module _ (g : Graph) (r : ℕ) {sum n : ℕ} where
-  pub more-blocks : sum ≡ block-count (take r (g .regions)) → n ≡ length (region g r .blocks)
-      → sum + n ≡ block-count (take (r + 1) (g .regions))
-  more-blocks e size =
-      rw (e, size, add-one r) (sym (total-more (λ (x : Region). length (x .blocks)) nowhere refl (g .regions) r))
-
   pub more-instructions : (b : ℕ) → sum ≡ instructions-before (region g r .blocks) b → n ≡ length (block-of g r b)
       → sum + n ≡ instructions-before (region g r .blocks) (b + 1)
   more-instructions b e size =

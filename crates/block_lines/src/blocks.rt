@@ -12,26 +12,13 @@ ghost use Rattle.writing.specs.Parts.{OfState};
 ghost use Rattle.writing.specs.Puts.{Puts};
 ghost use Rattle.block_lines.specs.BlockParts.{item-part};
 ghost use Rattle.block_lines.specs.Sums as sums;
+use child_numbers::blocks_before;
 use state::values::value_word;
 use store::WORDS;
 use writing::place::Place;
 use writing::place::put;
 use writing::place::put_word;
 use writing::value::put_value;
-
-// How many blocks the regions before r have: the number of its first node. Any words' sum fits.
-pub fn blocks_before(w: &[u16; WORDS], r: u16) -> u32
-    ensures { λ a. ⌜ OfRecord (now (w .entry)) (λ g. a ≡ block-count (take r (g .regions))) ⌝ }
-    ensures { λ a. ⌜ a ≤ 65535 * r ⌝ }
-{
-    let mut blocks: u32 = 0;
-    let mut q: u16 = 0;
-    while q < r {
-        blocks += fields::block_count(w, q) as u32;
-        q += 1;
-    }
-    blocks
-}
 
 // How many instructions region r has before block b: the index of its first.
 fn instructions_before(w: &[u16; WORDS], r: u16, b: u16) -> u32

@@ -65,7 +65,7 @@ returns c = λ g s x.
     let at-first = at-count .before in
     let r = at-first .before .before .args .r in
     let stands = x .state .stands in
-    rw (at-first .blocks-before .ensures .0 g stands)
+    rw (at-first .blocks-before .ensures .is g stands)
     at (puts-blocks s (at-first .blocks-before .result) r (region g r .blocks) (at-count .block-count .ensures g stands)
     (c .loop-test .left) (c .before .loop .inv .2 g s x))
 
