@@ -239,26 +239,31 @@ impl Built {
         found.into_iter().sorted_by_key(|&(header, _)| number(header)).map(line).collect()
     }
 
+    /// The Rust's state before the entry's claim, with the record's exit lists and counts.
+    fn structurizer<'a>(&'a mut self, cx: &'a Context) -> Structurizer<'a> {
+        // Without a graph the lists of Structurizer::new are empty; ours take their place.
+        let cfg = self.func.unstructured_cfg.take();
+        let mut structurizer = Structurizer::new(cx, &mut self.func);
+        structurizer.func_def_body.unstructured_cfg = cfg;
+        structurizer.loop_header_to_exit_targets = mem::take(&mut self.exits);
+        structurizer.incoming_edge_counts_including_loop_exits = mem::take(&mut self.counts);
+        structurizer
+    }
+
     fn sheet(&mut self, cx: &Context, record: &Record, options: Options) -> String {
         ATTEMPTS.set(0);
         let entry = self.func.body;
         let structurizer = if options.lists_of_new {
             Structurizer::new(cx, &mut self.func)
         } else {
-            // Without a graph the lists of Structurizer::new are empty; ours take their place.
-            let cfg = self.func.unstructured_cfg.take();
-            let mut structurizer = Structurizer::new(cx, &mut self.func);
-            structurizer.func_def_body.unstructured_cfg = cfg;
-            structurizer.loop_header_to_exit_targets = mem::take(&mut self.exits);
-            structurizer.incoming_edge_counts_including_loop_exits = mem::take(&mut self.counts);
-            structurizer
+            self.structurizer(cx)
         };
 
         let (outcome, sets) = if options.func {
             structurizer.structurize_func();
             (func_outcome(&self.func), vec![])
         } else {
-            claim_entry(structurizer)
+            claimed_and_rewritten(structurizer)
         };
         let attempts = ATTEMPTS.get();
 
@@ -295,10 +300,11 @@ fn func_outcome(func: &FuncDefBody) -> &'static str {
     }
 }
 
-/// What structurize_func does up to the rebuilding of a leftover: the entry's claim, then the
-/// rewriting, once. Gives the outcome and, of a leftover, the sets of the entry and of all
-/// unclaimed Ready regions.
-fn claim_entry(mut s: Structurizer<'_>) -> (&'static str, Vec<(Region, DeferredEdgeBundleSet)>) {
+/// Outcome and, of a leftover, the sets of the entry and of all unclaimed Ready regions.
+type Claimed = (&'static str, Vec<(Region, DeferredEdgeBundleSet)>);
+
+/// The entry's claim, as structurize_func makes it.
+fn claim_entry(s: &mut Structurizer<'_>) -> Claimed {
     let target = s.func_def_body.body;
     if s.incoming_edge_counts_including_loop_exits[target] != IncomingEdgeCount::ONE {
         return ("untouched", vec![]);
@@ -330,7 +336,17 @@ fn claim_entry(mut s: Structurizer<'_>) -> (&'static str, Vec<(Region, DeferredE
             "leftover"
         }
     };
+    (outcome, sets)
+}
 
+/// What structurize_func does up to the rebuilding of a leftover: the entry's claim, then the
+/// rewriting, once.
+fn claimed_and_rewritten(mut s: Structurizer<'_>) -> Claimed {
+    let (outcome, mut sets) = claim_entry(&mut s);
+    if outcome == "untouched" {
+        return (outcome, sets);
+    }
+    let target = s.func_def_body.body;
     let mut rewrite = RegionInputRewrites::rewrite_all(&s.region_input_rewrites);
     s.func_def_body.at_mut_body().inner_in_place_transform_with(&mut rewrite);
     for (region, set) in &mut sets {
@@ -344,6 +360,30 @@ fn claim_entry(mut s: Structurizer<'_>) -> (&'static str, Vec<(Region, DeferredE
         }
     }
     (outcome, sets)
+}
+
+/// For bench/nesting: a record that is read and built, and its nesting alone.
+pub struct Timed {
+    cx: Context,
+    built: Built,
+}
+
+impl Timed {
+    pub fn new(store: &[u8]) -> Option<Self> {
+        let record = store::read(store).ok()?;
+        let cx = Context::new();
+        let built = Built::new(&cx, &record);
+        Some(Timed { cx, built })
+    }
+
+    pub fn regions(&self) -> usize {
+        self.built.regions.len()
+    }
+
+    /// The entry's claim, from the graph with its exit lists and counts; no value is rewritten.
+    pub fn nest(&mut self) -> &'static str {
+        claim_entry(&mut self.built.structurizer(&self.cx)).0
+    }
 }
 
 /// Items joined by commas, `-` if there are none.

@@ -4,7 +4,8 @@ use mathlib.Core.List.{List, [], _∷_, _++_}
 use Prim.Native.Nat.{ℕ, _+_, _*_, _≤_, _<_}
 use lib.ListN.{length, getD}
 use Rattle.meaning.specs.Graph.{Value, SelectionKind, Graph, region, input, exit-invocation}
-use Rattle.meaning.specs.Runs.{Nodes, ⟨⟩, _▸_, Cases, ∅, case-count, loop, exit}
+use Rattle.meaning.specs.Runs.{Nodes, ⟨⟩, _▸_, Cases, ∅, loop, exit}
+pub use Rattle.meaning.specs.Runs.{case-count}
 use Rattle.nesting.specs.Nesting.{join, blocks-of, new-case, new-select, LoopInputs, loop-node}
 use Rattle.state.specs.Sections.{section, word, head, cells}
 use Rattle.shown.specs.Values.{value}

@@ -117,15 +117,15 @@ pub data Joins (l l′ : List ℕ) (a b h : ℕ) : Type 0 where
 abbrev pub copied : List ℕ → ℕ → ℕ → List ℕ
 copied l to from = stored-all l bundles (7 * to) (bundle-words l from)
 
-unfoldable pub swap-removed : List ℕ → ℕ → ℕ → List ℕ
-swap-removed l r b =
-    let n = word l set-lengths r in
-    pick (eqb n 0) l (stored (copied l b (bundle-at (word l set-starts r) (n - 1))) set-lengths r (n - 1))
-
 -- k bundles behind bundle i.
 unfoldable pub shifted : List ℕ → ℕ → ℕ → ℕ → List ℕ
 shifted l start i zero = l
 shifted l start i (suc k) = shifted (copied l (bundle-at start i) (bundle-at start (suc i))) start (suc i) k
+
+unfoldable pub swap-removed : List ℕ → ℕ → ℕ → List ℕ
+swap-removed l r b =
+    let n = word l set-lengths r in
+    pick (eqb n 0) l (stored (copied l b (bundle-at (word l set-starts r) (n - 1))) set-lengths r (n - 1))
 
 unfoldable pub shift-removed : List ℕ → ℕ → ℕ → List ℕ
 shift-removed l r i =
