@@ -9,4 +9,4 @@ pub mod Room
 pub mod LineRoom
 pub mod Answered
 pub mod SheetByLine
-pub mod SheetFront
+pub mod AnswerPrinted

@@ -1,0 +1,15 @@
+// From a store's bytes to the text that is printed of it: its sheet, or its refusal.
+ghost use Rattle.nest_text.specs.Prints.{Prints};
+use nester::Answer;
+use store::WORDS;
+use text::Written;
+
+pub fn print(bytes: &[u8], words: &mut [u16; WORDS], out: &mut [u32], text: &mut [u8]) -> Written
+    ensures { λ r. ⌜ Prints (now (bytes .entry)) (now (out .entry)) (now (text .entry)) (now (text .exit)) r ⌝ }
+{
+    let answer = nester::nest(bytes, words, out);
+    match answer {
+        Answer::Sheet(n) => sheet_text::sheet_text(out, n as usize, text),
+        Answer::Refused(number, word) => text::refusal(number, word, text),
+    }
+}
