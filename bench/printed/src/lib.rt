@@ -1,20 +1,13 @@
-// For measuring alone: from a store's bytes to the printed lines of its sheet, under a plain name.
-use nester::Answer;
+// For measuring alone: from a store's bytes to what is printed of it, under a plain name.
 use store::WORDS;
 use text::Written;
 
-// How many bytes the text has; 0 for a refusal, and where the buffer is too small.
+// How many bytes are printed; 0 where the buffer is too small.
 #[no_mangle]
 pub extern "C" fn measured_print(bytes: &[u8], words: &mut [u16; WORDS], out: &mut [u32], lines: &mut [u8]) -> u64 {
-    let answer = nester::nest(bytes, words, out);
-    match answer {
-        Answer::Refused(_, _) => 0,
-        Answer::Sheet(n) => {
-            let written = sheet_text::sheet_text(out, n as usize, lines);
-            match written {
-                Written::Bytes(k) => k as u64,
-                Written::Full => 0,
-            }
-        }
+    let written = nest_text::print(bytes, words, out, lines);
+    match written {
+        Written::Bytes(n) => n as u64,
+        Written::Full => 0,
     }
 }
