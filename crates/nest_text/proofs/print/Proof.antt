@@ -30,7 +30,10 @@ same-length-2 : tie.Need-same-length-2
 same-length-2 c = search needs
 
 returns : tie.Need-returns
-returns c = sheet-printed (rw (c .before .before .before .before .before .before .answer .given .1) at (c .before .before .before .before .before .before .before .before .before .before .nest .ensures)) refl (c .before .before .sheet-text .ensures)
+returns c =
+    let told = c .before .before .before .before .before .before in
+    sheet-printed (rw (told .answer .given .1) at (told .before .before .before .before .nest .ensures)) refl
+    (c .before .before .sheet-text .ensures)
 
 same-length-3 : tie.Need-same-length-3
 same-length-3 c = search needs
@@ -39,7 +42,10 @@ same-length-4 : tie.Need-same-length-4
 same-length-4 c = search needs
 
 returns-2 : tie.Need-returns-2
-returns-2 c = refusal-printed (rw (c .before .before .before .before .before .answer2 .given .1) at (c .before .before .before .before .before .before .before .before .before .nest .ensures)) (omega arith) (omega arith) (c .before .before .refusal .ensures)
+returns-2 c =
+    let told = c .before .before .before .before .before in
+    refusal-printed (rw (told .answer2 .given .1) at (told .before .before .before .before .nest .ensures))
+    (omega arith) (omega arith) (c .before .before .refusal .ensures)
 
 pub print-spec : {M : Type 1} → statement M
 print-spec =
