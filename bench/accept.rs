@@ -7,7 +7,7 @@ extern "C" {
     fn rukvetta_accept(bytes: *const u8, length: usize, words: *mut u16) -> u32;
 }
 
-// As many words as the routine is lent: bench/run takes the number from the crate.
+// As many words as the routine is lent: bench/accept takes the number from the crate.
 const WORDS: usize = number(env!("WORDS").as_bytes());
 
 const fn number(digits: &[u8]) -> usize {
@@ -56,6 +56,10 @@ fn median(list: &mut [f64]) -> f64 {
 fn main() {
     let path = std::env::args().nth(1).expect("a vector file");
     let store = full_store(&std::fs::read_to_string(path).unwrap());
+    if store.is_empty() {
+        eprintln!("accept: the list has no store that is accepted");
+        std::process::exit(2);
+    }
     let mut words = vec![0u16; WORDS];
     let (mut accepts, mut sums) = (Vec::new(), Vec::new());
     for _ in 0..201 {

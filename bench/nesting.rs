@@ -2,9 +2,11 @@
 // Of each record of a vector file that both nest. Nesting alone: our structurize_func on the words in which the record stands, and the
 // Rust's claim of the entry on the graph that was built, its exit lists and incoming counts given, while ours counts the edges too.
 // With reading: from the store's bytes on, ours accept and nest, the Rust's the harness's reader, its builder and the claim. Neither
-// rewrites the values at the end or prints. All four are timed in turns; a record's time is the median of its turns.
+// rewrites the values at the end or prints. With printing: from the store's bytes to the text of the sheet, ours the proved routine that
+// `nest` calls, the Rust's with the harness's rewriting and printing. All six are timed in turns; a record's time is the median of its
+// turns. Where a second name is given, a file of that name gets a line for each record, in nanoseconds, for bench/plot.
 // `once ours FILE` and `once rust FILE` nest each record once, between calls of `marked`, for a count of instructions.
-use spirt::cfg::beside::Timed;
+use spirt::cfg::beside::{Options, Timed, answer};
 use std::hint::black_box;
 use std::panic::{AssertUnwindSafe, catch_unwind, set_hook};
 use std::time::Instant;
@@ -12,9 +14,11 @@ use std::time::Instant;
 unsafe extern "C" {
     fn measured_accept(bytes: *const u8, length: usize, words: *mut u16) -> u32;
     fn measured_nest(words: *mut u16) -> u32;
+    fn measured_print(bytes: *const u8, length: usize, words: *mut u16, out: *mut u32, lent: usize, lines: *mut u8, room: usize) -> u64;
 }
 
 const TURNS: usize = 41;
+const COLUMNS: [&str; 6] = ["ours_nest", "rust_nest", "ours_read", "rust_read", "ours_text", "rust_text"];
 
 fn fail(sentence: &str) -> ! {
     eprintln!("nesting: {sentence}");
@@ -41,6 +45,26 @@ fn accepted(store: &[u8], words: &mut [u16]) -> bool {
 
 fn ours(words: &mut [u16]) -> u32 {
     unsafe { measured_nest(words.as_mut_ptr()) }
+}
+
+// What the program lends for a sheet, and room for its text.
+struct Lent {
+    sheet: Vec<u32>,
+    lines: Vec<u8>,
+}
+
+fn printed(store: &[u8], words: &mut [u16], lent: &mut Lent) -> usize {
+    let Lent { sheet, lines } = lent;
+    let (words, out, text) = (words.as_mut_ptr(), sheet.as_mut_ptr(), lines.as_mut_ptr());
+    unsafe { measured_print(store.as_ptr(), store.len(), words, out, sheet.len(), text, lines.len()) as usize }
+}
+
+// Ours is the Rust's text, which has no `twice` at the end of line 1; where twice is 1 the two may differ.
+fn same_text(store: &[u8], words: &mut [u16], lent: &mut Lent) -> bool {
+    let n = printed(store, words, lent);
+    let text = String::from_utf8_lossy(&lent.lines[..n]).into_owned();
+    text.lines().next().is_some_and(|first| !first.ends_with(" twice 0"))
+        || text.replacen(" twice 0\n", "\n", 1) == answer(store, Options::default())
 }
 
 // Both outcomes are the same and neither refuses: 9 is ours alone, and a panic the Rust's. Of an untouched record the Rust here only
@@ -72,11 +96,11 @@ fn median(mut list: Vec<f64>) -> f64 {
     list[list.len() / 2]
 }
 
-// Nanoseconds: ours and the Rust's, nesting alone; then with reading.
-struct Times([f64; 4]);
+// Nanoseconds: ours and the Rust's, nesting alone; then with reading; then with printing too.
+struct Times([f64; 6]);
 
-fn timed(store: &[u8], words: &mut [u16]) -> Times {
-    let mut turns = [const { Vec::new() }; 4];
+fn timed(store: &[u8], words: &mut [u16], lent: &mut Lent) -> Times {
+    let mut turns = [const { Vec::new() }; 6];
     for _ in 0..TURNS {
         accepted(store, words);
         let mut rust = Timed::new(store).unwrap();
@@ -88,6 +112,8 @@ fn timed(store: &[u8], words: &mut [u16]) -> Times {
             rust.nest();
             rust
         }));
+        turns[4].push(time(|| printed(store, words, lent)));
+        turns[5].push(time(|| answer(store, Options::default())));
     }
     Times(turns.map(median))
 }
@@ -98,7 +124,7 @@ fn worst(list: &[f64]) -> f64 {
 
 fn report(what: &str, times: &[&Times]) {
     println!("{what}: {} records", times.len());
-    for (name, at) in [("nesting alone", 0), ("with reading", 2)] {
+    for (name, at) in [("nesting alone", 0), ("with reading", 2), ("with reading and printing", 4)] {
         let side = |k: usize| times.iter().map(|t| t.0[at + k]).collect::<Vec<_>>();
         let told = |list: Vec<f64>| format!("median {:.2} µs, worst {:.2} µs", median(list.clone()) / 1e3, worst(&list) / 1e3);
         let ratios: Vec<f64> = times.iter().map(|t| t.0[at] / t.0[at + 1]).collect();
@@ -126,10 +152,11 @@ fn once(side: &str, store: &[u8], words: &mut [u16]) {
 fn main() {
     let args: Vec<String> = std::env::args().skip(1).collect();
     let args: Vec<&str> = args.iter().map(|a| &**a).collect();
-    let (side, path) = match args[..] {
-        [path] => ("", path),
-        ["once", side @ ("ours" | "rust"), path] => (side, path),
-        _ => fail("usage: nesting [once ours | once rust] VECTORS"),
+    let (side, path, each) = match args[..] {
+        ["once", side @ ("ours" | "rust"), path] => (side, path, None),
+        [path] => ("", path, None),
+        [path, each] => ("", path, Some(each)),
+        _ => fail("usage: nesting [once ours | once rust] VECTORS [TIMES]"),
     };
     set_hook(Box::new(|_| ()));
     let mut words = lent();
@@ -142,7 +169,19 @@ fn main() {
         println!("{} records", stores.len());
         return;
     }
-    let times: Vec<Times> = stores.iter().map(|store| timed(store, &mut words)).collect();
+    let mut lent = Lent { sheet: vec![0; 16384], lines: vec![0; 1 << 20] };
+    if let Some(store) = stores.iter().find(|store| !same_text(store, &mut words, &mut lent)) {
+        fail(&format!("the texts differ on the store that begins {:02x?}", &store[..store.len().min(64)]));
+    }
+    let times: Vec<Times> = stores.iter().map(|store| timed(store, &mut words, &mut lent)).collect();
+    if let Some(each) = each {
+        let mut lines = format!("regions\t{}\n", COLUMNS.join("\t"));
+        for (store, Times(took)) in stores.iter().zip(&times) {
+            let took = took.map(|t| t.to_string()).join("\t");
+            lines += &format!("{}\t{took}\n", Timed::new(store).unwrap().regions());
+        }
+        std::fs::write(each, lines).unwrap_or_else(|_| fail("the file of times can't be written"));
+    }
     report("all", &times.iter().collect::<Vec<_>>());
     let large = |store: &Vec<u8>| Timed::new(store).unwrap().regions() == 32;
     let large: Vec<&Times> = stores.iter().zip(&times).filter(|(s, _)| large(s)).map(|(_, t)| t).collect();
