@@ -1,9 +1,11 @@
-// For measuring alone: a store is accepted, and the record that then stands in the words is nested, under plain names.
+// For measuring alone: the parts of a nesting under plain names, each called by itself.
 ghost use Rattle.cfg.specs.Claims.{Stood};
 use accept::Accepted;
 use cfg::func::Nested;
 use cfg::func::structurize_func;
+use nester::Answer;
 use store::WORDS;
+use text::Written;
 
 // 0 for a record, 1 for a refusal.
 #[no_mangle]
@@ -27,5 +29,25 @@ pub extern "C" fn measured_nest(words: &mut [u16; WORDS]) -> u32
         Nested::Closed => 2,
         Nested::Leftover => 3,
         Nested::Refused(_, _) => 4,
+    }
+}
+
+// From a store to its sheet's words: how many there are, or 0 for a refusal.
+#[no_mangle]
+pub extern "C" fn measured_sheet(bytes: &[u8], words: &mut [u16; WORDS], out: &mut [u32]) -> u32 {
+    let answer = nester::nest(bytes, words, out);
+    match answer {
+        Answer::Sheet(n) => n,
+        Answer::Refused(_, _) => 0,
+    }
+}
+
+// From a store to its text: how many bytes there are, or 0 if there is no room.
+#[no_mangle]
+pub extern "C" fn measured_print(bytes: &[u8], words: &mut [u16; WORDS], out: &mut [u32], text: &mut [u8]) -> usize {
+    let answer = nest_text::print(bytes, words, out, text);
+    match answer {
+        Written::Bytes(n) => n,
+        Written::Full => 0,
     }
 }
