@@ -10,6 +10,7 @@ an accepted record. A few answers are wrong on purpose (`WRONG`).
 import sys
 
 from reading.store import BLOCK
+from .arguments import arguments
 from .damage import repaired
 from .stores import answer
 from .vectors import read_vectors
@@ -54,4 +55,5 @@ def main():
 
 
 if __name__ == "__main__":
+    arguments(__doc__)
     main()

@@ -9,7 +9,6 @@ Attempts are at most 1 + e + n(2n - 1), with n regions in reach and e edges from
 
 import collections
 import random
-import sys
 import time
 
 from reading.nesting import Nesting
@@ -17,6 +16,7 @@ from reading.record import refer, words_of
 from reading.runs import differs, rule
 from reading.sheet import CLOSED, OUTCOMES, WHOLE, nest
 from reading.store import Refused, pack
+from .arguments import arguments, number
 from .records import records
 
 RUNS, BUDGET = 8, 120
@@ -78,4 +78,4 @@ def claims(seed, wanted):
 
 
 if __name__ == "__main__":
-    claims(int(sys.argv[1]), int(sys.argv[2]))
+    claims(*arguments(__doc__, number, number))

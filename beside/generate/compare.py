@@ -19,6 +19,7 @@ from reading.record import refer, words_of
 from reading.sheet import nest, text
 from reading.store import Refused, pack
 from reading.unmarked import Panic, Unmarked
+from .arguments import arguments, number, source
 from .records import records
 
 TOOL = pathlib.Path(__file__).resolve().parents[2] / "tools" / "beside"
@@ -27,10 +28,12 @@ TOOL = pathlib.Path(__file__).resolve().parents[2] / "tools" / "beside"
 def rust(source, stores, *options):
     """The Rust's answers to some stores."""
     given = "".join(f"store {store.hex()}\n.\n" for store in stores)
-    told = subprocess.run([TOOL, *options, source], input=given, capture_output=True, text=True,
-                          check=True).stdout
+    told = subprocess.run([TOOL, *options, source], input=given, capture_output=True, text=True)
+    if told.returncode:
+        print(told.stderr, end="", file=sys.stderr)
+        sys.exit(3)
     answers, answer = [], None
-    for line in told.splitlines(keepends=True):
+    for line in told.stdout.splitlines(keepends=True):
         if answer is None:
             answer = ""
         elif line == ".\n":
@@ -89,4 +92,4 @@ def main(source, seed, count):
 
 
 if __name__ == "__main__":
-    main(sys.argv[1], int(sys.argv[2]), int(sys.argv[3]))
+    main(*arguments(__doc__, source, number, number))

@@ -18,6 +18,7 @@ from reading.runs import NestedRun, graph_run
 from reading.sheet import CLOSED, OUTCOMES, WHOLE, nest
 from reading.store import Refused, pack
 from . import shapes
+from .arguments import arguments
 from .records import record
 from .stores import plain
 
@@ -308,4 +309,5 @@ def main():
 
 
 if __name__ == "__main__":
+    arguments(__doc__)
     main()

@@ -17,6 +17,7 @@ from reading.record import (BRANCH, EXIT, FALSE, IF, INPUT, INSTR, SWITCH, TRUE,
 from reading.sheet import OUTCOMES, nest, printed, text
 from reading.store import Refused, pack
 from . import shapes
+from .arguments import arguments, source
 from .compare import rust
 from .limits import full_sheets, limits
 from .records import record
@@ -195,4 +196,4 @@ def main(source):
 
 
 if __name__ == "__main__":
-    main(sys.argv[1])
+    main(*arguments(__doc__, source))

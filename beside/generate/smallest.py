@@ -8,7 +8,6 @@ COUNT random records is made smaller step by step while the fault stays.
 
 import copy
 import random
-import sys
 
 from reading.nesting import Nesting
 from reading.record import (BRANCH, EXIT, FALSE, IF, INPUT, INSTR, RETURN, SWITCH, TRUE, UNDEF,
@@ -17,6 +16,7 @@ from reading.runs import differs, rule
 from reading.sheet import CLOSED, WHOLE, nest, text
 from reading.store import Refused, pack
 from reading.unmarked import Panic, Unmarked
+from .arguments import arguments, number
 from .claims import words
 from .records import record
 
@@ -263,4 +263,4 @@ def main(seed, count):
 
 
 if __name__ == "__main__":
-    main(int(sys.argv[1]), int(sys.argv[2]))
+    main(*arguments(__doc__, number, number))

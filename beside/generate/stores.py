@@ -12,6 +12,7 @@ from reading.record import (BRANCH, EXIT, IF, RETURN, SWITCH, UNDEF, UNREACHABLE
                             Region, read, refer, show, words_of)
 from reading.store import Refused, blocks, pack, payload
 from . import damage
+from .arguments import arguments
 from .records import record
 from .vectors import vector
 
@@ -229,6 +230,7 @@ def wrong(good):
 
 
 if __name__ == "__main__":
+    arguments(__doc__)
     good = list(dict.fromkeys(stores()))    # each store once
     for store in good:
         sys.stdout.write(vector(store, answer(store)))

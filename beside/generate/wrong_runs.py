@@ -10,6 +10,7 @@ import sys
 
 from reading.nesting import Nesting
 from reading.sheet import accepted, nest
+from .arguments import arguments
 from .runs import Vector
 
 SEED, TIMES = 13, 4
@@ -80,4 +81,5 @@ def main():
 
 
 if __name__ == "__main__":
+    arguments(__doc__)
     main()

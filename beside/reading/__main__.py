@@ -3,7 +3,7 @@
     python3 -m reading < STORE                      the sheet, as the program prints it
     python3 -m reading words < STORE                the sheet's words, on one line
     python3 -m reading show < STORE                 the record
-    python3 -m reading vectors [show] < VECTORS     all stores, answered anew
+    python3 -m reading vectors [words | show] < VECTORS     all stores, answered anew
 """
 
 import sys
@@ -28,15 +28,27 @@ def in_words(store):
         return f"{refused}\n"
 
 
-def main(asked):
-    answer = shown if "show" in asked else in_words if "words" in asked else printed
-    if "vectors" not in asked:
-        sys.stdout.write(answer(sys.stdin.buffer.read()))
-        return
+def vectors(answer):
     for line in sys.stdin:
         if line.startswith("store"):
-            store = bytes.fromhex(line.removeprefix("store").strip())
+            try:
+                store = bytes.fromhex(line.removeprefix("store").strip())
+            except ValueError:
+                sys.exit(f"a store that is not hexadecimal: {line[:60].strip()}")
             sys.stdout.write(f"store {store.hex()}\n{answer(store)}.\n")
 
 
-main(sys.argv[1:])
+def main(asked):
+    answers = {"": printed, "words": in_words, "show": shown}
+    how = " ".join(asked)
+    if how in answers:
+        sys.stdout.write(answers[how](sys.stdin.buffer.read()))
+    elif asked[0] == "vectors" and " ".join(asked[1:]) in answers:
+        vectors(answers[" ".join(asked[1:])])
+    else:
+        print(f"`{how}` is none of these:\n\n{__doc__.split(chr(10), 2)[2]}", file=sys.stderr)
+        return 2
+    return 0
+
+
+sys.exit(main(sys.argv[1:]))

@@ -8,7 +8,7 @@ from .needs import Missing
 VARIABLE = "RUKVETTA_PROGRAMS"
 HERE = os.path.dirname(os.path.abspath(__file__))
 DEFAULT = os.path.normpath(os.path.join(HERE, "..", "..", "target", "bin"))
-BUILT_BY = {"show": "`rt check show` builds it", "nest": "it comes with release 1.0"}
+BUILT_BY = {"show": "`rt check show` builds it", "nest": "`rt check nest` builds it"}
 
 
 def add_option(parser):

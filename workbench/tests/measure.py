@@ -37,6 +37,9 @@ def timed(folder):
 
 
 def main():
+    if not sys.argv[1:] or not all(word.isdecimal() for word in sys.argv[1:]):
+        print("usage: python3 -m tests.measure NUMBER..., in the folder of the workbench", file=sys.stderr)
+        raise SystemExit(2)
     for count in map(int, sys.argv[1:]):
         with tempfile.TemporaryDirectory() as folder:
             for number, store in enumerate(stores(count)):

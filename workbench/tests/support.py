@@ -14,7 +14,7 @@ from rukvetta.programs import Programs     # noqa: E402 (the path comes first)
 
 programs = Programs()
 needs_show = unittest.skipUnless(programs.has("show"), f"there is no show in {programs.folder}; `rt check show` builds it")
-needs_nest = unittest.skipUnless(programs.has("nest"), f"there is no nest in {programs.folder}; it comes with release 1.0")
+needs_nest = unittest.skipUnless(programs.has("nest"), f"there is no nest in {programs.folder}; `rt check nest` builds it")
 
 
 def vectors(name):

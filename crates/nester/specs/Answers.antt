@@ -79,7 +79,8 @@ module _ (s : sheet.Sheet) {out out′ : List ℕ} where
   fits-not : SheetWritten (sheet-words s) out out′ TooFew → Ends (words-if-fit (lent out) s) out out′ (Refused 10 0)
   fits-not (too-few few e) = ends-refused {n = 10} {x = 0} (ap (fit-by s) (lt-leb (length (sheet-words s)) (lent out) few)) e
 
-module _ (w : List ℕ) (outcome figure : ℕ) {out out′ : List ℕ} {y : code-sheet.Sheet} (wrote : WritesSheet w outcome figure out out′ y) where
+module _ (w : List ℕ) (outcome figure : ℕ) {out out′ : List ℕ} {y : code-sheet.Sheet}
+    (wrote : WritesSheet w outcome figure out out′ y) where
   pub written-words : {n : ℕ} → y ≡ Words n → WritesAnswer w outcome figure out out′ (Sheet n)
   written-words e g s c x shown f = fits (sheet-of g x) (rw e at (wrote g s c x shown f))
 
@@ -132,7 +133,8 @@ module _ (w : List ℕ) (outcome : ℕ) {entry list cost : ℕ} (is-entry : OfRe
       let is = cost-is g s c x shown a b in
       ends-refused (figure-out (sheet-of g x) (omega arith) (lent out)) refl
 
-  pub within-figure : {out out′ : List ℕ} {a : Answer} → (cost ≡ 4294967296 → ⊥) → WritesAnswer w outcome cost out out′ a → FormsAnswer w outcome out out′ a
+  pub within-figure : {out out′ : List ℕ} {a : Answer} → (cost ≡ 4294967296 → ⊥)
+      → WritesAnswer w outcome cost out out′ a → FormsAnswer w outcome out out′ a
   within-figure {out} d p g s c x shown a b =
       let is = cost-is g s c x shown a b in
       let small : sheet-of g x .figure ≤ 4294967295 = figure-small (sheet-of g x .figure) is d in
@@ -165,7 +167,8 @@ number-of (outcomes.Refused n x) = 4
 
 module _ {g : Graph} {w : List ℕ} {s : NestState} (c : Concluded g w s) (kind : word w kinds (g .entry) ≡ 3) (ks : Nodes) where
   leaves : (d : DeferredEdgeBundleSet) {o : Outcome} → outcome-of d ≡ o → ShowsBody g w (g .entry) (region-body ks d)
-      → structurize-func g ≡ accepted (conclude-by g s ks d (outcome-of d)) → ShowsAnswer g w s (conclude-by g s ks d o) (number-of (outcome-code o))
+      → structurize-func g ≡ accepted (conclude-by g s ks d (outcome-of d)) → ShowsAnswer g w s (conclude-by g s ks d o)
+      (number-of (outcome-code o))
       → Answered g w (number-of (outcome-code (outcome-of d)))
   leaves d {o} z body b shows = rw z (record { state = s; nest = conclude-by g s ks d o; concluded = c; nests = rw z at b; shows = shows })
 
@@ -240,7 +243,8 @@ module _ {g : Graph} (valid : Valid g) {before w : List ℕ} where
       → (out : List ℕ) → NestsRecord g before w out out (Refused n x)
   unfolding record-words
   nested-refused (shows-untouched front st b) e out = absurd (clash (cc))
-  nested-refused (shows-nested {x = x} front st chains kind body b a) e out = absurd (not-refused (outcome-of (x .deferred-edges)) (sym a ∙ e))
+  nested-refused (shows-nested {x = x} front st chains kind body b a) e out =
+      absurd (not-refused (outcome-of (x .deferred-edges)) (sym a ∙ e))
     where
       not-refused : (o : Outcome) {n x : ℕ} → outcome-code o ≡ outcomes.Refused n x → ⊥
       not-refused untouched e = clash (cc)

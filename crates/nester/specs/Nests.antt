@@ -65,7 +65,8 @@ module _ {store w loaded : List ℕ} {v : Accepted} (accepts : Accepts store w l
   pub nest-refused : (out : List ℕ) {n x : ℕ} → v ≡ Rejected n x → Nests store w loaded out out (Refused n x)
   nest-refused out {n} {x} e =
       record {
-        ends = ends-refused (words-refused store (lent out) (was-refused (accept store) (sym (accepts .answer) ∙ ap accept-answered e))) refl;
+        ends = ends-refused
+            (words-refused store (lent out) (was-refused (accept store) (sym (accepts .answer) ∙ ap accept-answered e))) refl;
         loaded = loaded;
         verdict = v;
         accepts = accepts;

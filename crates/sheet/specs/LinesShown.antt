@@ -8,7 +8,8 @@ use Rattle.meaning.specs.Graph.{Graph}
 use Rattle.meaning.specs.Runs.{Nodes, ⟨⟩}
 use Rattle.meaning.specs.facts.Tests.{clash}
 use Rattle.record.specs.Stands.{OfRecord}
-use Rattle.nesting.specs.Nesting.{NestState, Nested, Outcome, untouched, whole, closed, leftover, Piece, piece, conclude-with, unclaimed-from}
+use Rattle.nesting.specs.Nesting.{NestState, Nested, Outcome, untouched, whole, closed, leftover, Piece, piece, conclude-with}
+use Rattle.nesting.specs.Nesting.{unclaimed-from}
 use Rattle.nesting.specs.Nesting.{DeferredEdgeBundle, DeferredEdgeBundleSet, region-body, look-up-piece, look-up-nodes}
 use Rattle.shown.specs.States.{ShowsBody}
 use Rattle.writing.specs.declared.place.Place.{Place}
@@ -16,7 +17,8 @@ use Rattle.writing.specs.Puts.{Part, _⊕_, Puts, puts-then, puts-none, puts-as
 use Rattle.writing.specs.Parts.{OfState, Concluded, each}
 use Rattle.sheet.specs.Pieces.{region-lines, piece-part, set-part, lines-part, lines-are, twice-is}
 use Rattle.sheet.specs.Regions.{PutsPiece, PutsWhole, PutsUnclaimed, PutsSets, PutsLeftover, regrouped}
-use Rattle.sheet.specs.Written.{ShowsAnswer, shows-untouched, shows-whole, shows-closed, shows-leftover, LinesPut, PutsLines, behind-head}
+use Rattle.sheet.specs.Written.{ShowsAnswer, shows-untouched, shows-whole, shows-closed, shows-leftover, LinesPut}
+use Rattle.sheet.specs.Written.{PutsLines, behind-head}
 
 -- The entry, then the unclaimed regions, then the sets.
 pub leftover-put : (w : List ℕ) {entry : ℕ} → OfRecord w (λ g. entry ≡ g .entry) → {out out₁ out₂ out₃ : List ℕ} {at at₁ at₂ at₃ : Place}
@@ -94,7 +96,8 @@ module _ (w : List ℕ) {out out′ : List ℕ} {at at′ : Place} where
       go x (shows-whole b z) e = absurd (omega arith)
       go x (shows-closed b z) e = absurd (omega arith)
       go x (shows-leftover {ks} {d} k b z) e =
-          rw z (put-as g s leftover (piece g (g .entry) ks [] d) (unclaimed-from g 0 (s .region-states)) (λ y. clash (cc)) (q g s c ks d k b))
+          rw z
+          (put-as g s leftover (piece g (g .entry) ks [] d) (unclaimed-from g 0 (s .region-states)) (λ y. clash (cc)) (q g s c ks d k b))
 
 pub lines-none : (w : List ℕ) {outcome : ℕ} → (outcome ≡ 1 → ⊥) → (outcome ≡ 2 → ⊥) → (outcome ≡ 3 → ⊥) → (out : List ℕ) (at : Place)
     → PutsLines w outcome out at out at

@@ -63,7 +63,8 @@ module _ (nodes : List ℕ) where
       ∷ sheet.label "body" ∷ sheet.a-number (x .body) ∷ sheet.label "repeat" ∷ sheet.value nodes (x .repeat) ∷ [])
       ≡ loop-words same-count nodes x
   loop-line x =
-      ap (λ z. 3 ∷ x .number ∷ z) (ends (sheet.values nodes (x .initial-inputs) .words) (x .body ∷ []) (sheet.value nodes (x .repeat) .words))
+      ap (λ z. 3 ∷ x .number ∷ z)
+      (ends (sheet.values nodes (x .initial-inputs) .words) (x .body ∷ []) (sheet.value nodes (x .repeat) .words))
 
   mutual
     unfolding sheet.node-lines node-words

@@ -85,7 +85,8 @@ module _ (w : List ℕ) (h : ℕ) {tag : ℕ} (of-tag : tag ≡ cell-word w h 0)
           rw z (puts-as (puts-then (rw b at first) (q g s c kind v cs shape t cases))
           (sym (one-node-part s (new-select (cell-word w h 2) kind v cs) ∙ new-select-part s (cell-word w h 2) kind v cs)))
 
-  pub cell-loop : {list : ℕ} {out out₁ out₂ : List ℕ} {at at₁ at₂ : Place} → tag ≡ 5 → list ≡ list-at w h 1 → PutsNodes w list out at out₁ at₁
+  pub cell-loop : {list : ℕ} {out out₁ out₂ : List ℕ} {at at₁ at₂ : Place} → tag ≡ 5 → list ≡ list-at w h 1
+      → PutsNodes w list out at out₁ at₁
       → OfState w (λ g s. OfLoop g w h (λ x ns. Puts out₁ at₁ (loop-lines s x ns) out₂ at₂)) → PutsCell w h out at out₂ at₂
   cell-loop {out = out} {out₂ = out₂} {at = at} {at₂ = at₂} e a p q g s c ks x = go (with-tag e x)
     where
@@ -119,7 +120,8 @@ no-cases-put w node j e out at g s c cs x few = go x e
 pub cases-put : (w : List ℕ) (list node j : ℕ) {before kids k : ℕ} {out out₁ out₂ out₃ : List ℕ} {at at₁ at₂ at₃ : Place} → 1 ≤ list
     → before ≡ list-at w list 1 → k ≡ next j → PutsCases w before node k out at out₁ at₁ → kids ≡ list-at w list 3
     → PutsNodes w kids out₁ at₁ out₂ at₂ → PutsCaseLine w list node j out₂ at₂ out₃ at₃ → PutsCases w list node j out at out₃ at₃
-cases-put w list node j {k = k} {out = out} {out₃ = out₃} {at = at} {at₃ = at₃} some b n later a nodes line g s c cs x few = go (first-case w x some) few
+cases-put w list node j {k = k} {out = out} {out₃ = out₃} {at = at} {at₃ = at₃} some b n later a nodes line g s c cs x few = go
+    (first-case w x some) few
   where
     go : {cs : Cases} → FirstCase g w list cs → j + case-count cs ≤ 8 → Puts out at (cases-part s cs node j) out₃ at₃
     go (case-first {ns} {cs = rest} shown others z) m =
@@ -131,7 +133,8 @@ cases-put w list node j {k = k} {out = out} {out₃ = out₃} {at = at} {at₃ =
         (sym (new-case-part s (cell-word w list 2) ns rest node j)))
 
 -- ---- The loop: what the present handle shows, and what was put behind it, are the whole list.
-pub record Behind (g : Graph) (w : List ℕ) (s : NestState) (ks : Nodes) (h : ℕ) (out : List ℕ) (at : Place) (out′ : List ℕ) (at′ : Place) : Type 0 where
+pub record Behind (g : Graph) (w : List ℕ) (s : NestState) (ks : Nodes) (h : ℕ) (out : List ℕ) (at : Place) (out′ : List ℕ)
+    (at′ : Place) : Type 0 where
   pub left : Nodes
   pub part : Part
   pub shown : ShowsNodes g (section w cells) h left
@@ -162,7 +165,8 @@ module _ (w : List ℕ) (list : ℕ) where
             puts = puts-then (b .puts) (cell g s c ms added);
           }
 
-  pub walk-end : {h : ℕ} {out out′ : List ℕ} {at at′ : Place} → h ≤ 0 → PutsBehind w list h out at out′ at′ → PutsNodes w list out at out′ at′
+  pub walk-end : {h : ℕ} {out out′ : List ℕ} {at at′ : Place} → h ≤ 0 → PutsBehind w list h out at out′ at′
+      → PutsNodes w list out at out′ at′
   walk-end {h} none behind g s c ks x =
       let b = behind g s c ks x in
       let zero : h ≡ 0 = omega arith in

@@ -12,7 +12,8 @@ use borrow.Author.Tests.{lt-ltb, le-ltb}
 use Rattle.meaning.specs.Lists.{pick, bit}
 use Rattle.meaning.specs.Graph.{Graph}
 use Rattle.meaning.specs.Runs.{Nodes, ⟨⟩}
-use Rattle.nesting.specs.Nesting.{NestState, Nested, Outcome, untouched, whole, closed, leftover, piece, conclude-with, unclaimed-from, plain}
+use Rattle.nesting.specs.Nesting.{NestState, Nested, Outcome, untouched, whole, closed, leftover, piece, conclude-with}
+use Rattle.nesting.specs.Nesting.{unclaimed-from, plain}
 use Rattle.nesting.specs.Nesting.{DeferredEdgeBundle, DeferredEdgeBundleSet, region-body}
 use Rattle.nesting.specs.Sheet as sheet
 use Rattle.state.specs.Sections.{word, head, kinds}
@@ -145,7 +146,8 @@ answers (shows-closed b e) = rw e (record { number = refl; attempts = refl })
 answers (shows-leftover k b e) = rw e (record { number = refl; attempts = refl })
 
 module _ (w : List ℕ) (outcome figure : ℕ) {out out₁ out₂ : List ℕ} {end : ℕ} {at₁ at₂ : Place}
-    (lines : PutsLines w outcome out (record { end = end; twice = false }) out₁ at₁) (first : PutsHead w outcome figure out₁ at₁ out₂ at₂) where
+    (lines : PutsLines w outcome out (record { end = end; twice = false }) out₁ at₁)
+    (first : PutsHead w outcome figure out₁ at₁ out₂ at₂) where
   pub sheet-put : PutsSheet w outcome figure out end out₂ (at₂ .end)
   unfolding nested-words sheet.sheet-of
   sheet-put g s c x shown e =

@@ -1,24 +1,7 @@
 // Reads a store from standard input and prints its refusal, or its record as text.
-ghost use mathlib.Core.Path.{_≡_};
-ghost use Rattle.text.specs.declared.Written.the-variants.{Full};
 use libc::STDIN_FILENO;
-use libc::STDOUT_FILENO;
+use printing::print;
 use store::WORDS;
-use text::Written;
-
-// `Full` never comes: the buffer has room for whatever is shown of a store.
-fn print(written: Written, out: &[u8])
-    requires { ⌜ (written ≡ Full → ⊥) ⌝ }
-{
-    match written {
-        Written::Bytes(n) => {
-            if n <= out.len() {
-                io::write_all(STDOUT_FILENO, &out[0..n]);
-            }
-        }
-        Written::Full => {}
-    }
-}
 
 // One byte more than a store may have is enough to be refused.
 fn main() {

@@ -48,7 +48,8 @@ module _ (count : ℕ → ℕ) (nodes : List ℕ) where
 
   -- Node, first inputs, body region, repeat value.
   abbrev pub loop-words : LoopNode → List ℕ
-  loop-words x = (3 ∷ x .number ∷ []) ++ sheet.values nodes (x .initial-inputs) .words ++ (x .body ∷ []) ++ sheet.value nodes (x .repeat) .words
+  loop-words x = (3 ∷ x .number ∷ []) ++ sheet.values nodes (x .initial-inputs) .words ++ (x .body ∷ []) ++ sheet.value nodes
+      (x .repeat) .words
 
   unfoldable mutual
     pub node-words : Node → List ℕ

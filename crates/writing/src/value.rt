@@ -69,7 +69,8 @@ fn put_parts(w: &[u16; WORDS], out: &mut [u32], at: Place, v: u16) -> Place
 }
 
 pub fn put_value(w: &[u16; WORDS], out: &mut [u32], at: Place, v: u16) -> Place
-    ensures { λ a. ⌜ parts.OfState (now (w .entry)) (λ g s. Puts (now (out .entry)) at (parts.«value-part» s (value v)) (now (out .exit)) a) ⌝ }
+    ensures { λ a. ⌜ parts.OfState (now (w .entry)) (λ g s.
+        Puts (now (out .entry)) at (parts.«value-part» s (value v)) (now (out .exit)) a) ⌝ }
 {
     let x = look_up(w, v);
     let noted = note(at, x.twice);

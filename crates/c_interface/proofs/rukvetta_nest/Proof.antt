@@ -37,15 +37,19 @@ same-length : tie.Need-same-length
 same-length c = search needs
 
 returns : tie.Need-returns
-returns c = sheet-exported _ _ _ _ _ (c .long .ensures .0) (rw (c .before .before .answer .given .1) at (c .before .before .before .before .before .before .nest .ensures))
+returns c =
+    let d = c .before .before .before .before .before .before in
+    sheet-exported _ _ _ _ _ (c .long .ensures .0) (rw (c .before .before .answer .given .1) at (d .nest .ensures))
 
 same-length-2 : tie.Need-same-length-2
 same-length-2 c = search needs
 
 returns-2 : tie.Need-returns-2
 returns-2 c =
-    refusal-exported _ _ _ _ _ (c .before .before .before .wide .ensures .0) (c .before .before .long2 .ensures .0) (c .before .wide2 .ensures .0) (c .long3 .ensures .0) (c .long3 .ensures .1)
-    (rw (c .before .before .before .before .before .answer2 .given .1) at (c .before .before .before .before .before .before .before .before .before .nest .ensures))
+    let d = c .before .before .before .before .before in
+    refusal-exported _ _ _ _ _ (c .before .before .before .wide .ensures .0) (c .before .before .long2 .ensures .0)
+    (c .before .wide2 .ensures .0) (c .long3 .ensures .0) (c .long3 .ensures .1)
+    (rw (d .answer2 .given .1) at (d .before .before .before .before .nest .ensures))
 
 pub rukvetta-nest-spec : {M : Type 1} → statement M
 rukvetta-nest-spec =

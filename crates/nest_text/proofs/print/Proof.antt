@@ -4,59 +4,48 @@ use Rattle.nest_text.specs.Prints.{sheet-printed, refusal-printed}
 use borrow.Author.Needs.{needs}
 use Rattle.nest_text.proofs.print.Statement.{statement}
 use Rattle.nest_text.proofs.print.Tie as tie
-use Rattle.nest_text.proofs.print.Reads as reads
-use Rattle.nest_text.proofs.print.Lts as lts
-use Rattle.nester.proofs.nest.Reads as nest-reads
-use Rattle.sheet_text.proofs.sheet_text.Reads as sheet-text-reads
-use Rattle.text.proofs.refusal.Reads as refusal-reads
 
--- src/lib.rt:10:9
 nest-requires : tie.Need-nest-requires
 nest-requires c κs = search needs
 
--- src/lib.rt:12:23
 enum-known-answer : tie.Need-enum-known-answer
 enum-known-answer c = search needs
 
--- src/lib.rt:12:57
 cast-sheet-text : tie.Need-cast-sheet-text
 cast-sheet-text c = search needs
 
--- src/lib.rt:12:29
 sheet-text-requires : tie.Need-sheet-text-requires
 sheet-text-requires c κs = search needs
 
--- src/lib.rt:13:25
 enum-known-answer-2 : tie.Need-enum-known-answer-2
 enum-known-answer-2 c = search needs
 
--- src/lib.rt:13:42
 refusal-requires : tie.Need-refusal-requires
 refusal-requires c κs = search needs
 
--- src/lib.rt:7:1
 same-length : tie.Need-same-length
 same-length c = search needs
 
--- src/lib.rt:7:1
 same-length-2 : tie.Need-same-length-2
 same-length-2 c = search needs
 
--- src/lib.rt:7:1
 returns : tie.Need-returns
-returns c = sheet-printed (rw (c .before .before .before .before .before .before .answer .given .1) at (c .before .before .before .before .before .before .before .before .before .before .nest .ensures)) refl (c .before .before .sheet-text .ensures)
+returns c =
+    let told = c .before .before .before .before .before .before in
+    sheet-printed (rw (told .answer .given .1) at (told .before .before .before .before .nest .ensures)) refl
+    (c .before .before .sheet-text .ensures)
 
--- src/lib.rt:7:1
 same-length-3 : tie.Need-same-length-3
 same-length-3 c = search needs
 
--- src/lib.rt:7:1
 same-length-4 : tie.Need-same-length-4
 same-length-4 c = search needs
 
--- src/lib.rt:7:1
 returns-2 : tie.Need-returns-2
-returns-2 c = refusal-printed (rw (c .before .before .before .before .before .answer2 .given .1) at (c .before .before .before .before .before .before .before .before .before .nest .ensures)) (omega arith) (omega arith) (c .before .before .refusal .ensures)
+returns-2 c =
+    let told = c .before .before .before .before .before in
+    refusal-printed (rw (told .answer2 .given .1) at (told .before .before .before .before .nest .ensures))
+    (omega arith) (omega arith) (c .before .before .refusal .ensures)
 
 pub print-spec : {M : Type 1} → statement M
 print-spec =

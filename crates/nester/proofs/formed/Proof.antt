@@ -14,7 +14,8 @@ figure-requires : tie.Need-figure-requires
 figure-requires c κs = search needs
 
 returns : tie.Need-returns
-returns c = too-dear _ _ (c .before .before .before .entry .ensures) (c .before .before .children .ensures) (c .before .figure .ensures) _ (c .if1 .taken)
+returns c = too-dear _ _ (c .before .before .before .entry .ensures) (c .before .before .children .ensures)
+    (c .before .figure .ensures) _ (c .if1 .taken)
 
 cast-written : tie.Need-cast-written
 cast-written c = search needs
@@ -26,7 +27,9 @@ same-length : tie.Need-same-length
 same-length c = search needs
 
 returns-2 : tie.Need-returns-2
-returns-2 c = within-figure _ _ (c .before .before .before .before .before .before .before .entry .ensures) (c .before .before .before .before .before .before .children .ensures) (c .before .before .before .before .before .figure .ensures) (c .before .before .before .before .if1 .left) (c .before .before .written .ensures)
+returns-2 c = within-figure _ _ (c .before .before .before .before .before .before .before .entry .ensures)
+    (c .before .before .before .before .before .before .children .ensures) (c .before .before .before .before .before .figure .ensures)
+    (c .before .before .before .before .if1 .left) (c .before .before .written .ensures)
 
 pub formed-spec : {M : Type 1} → statement M
 formed-spec =

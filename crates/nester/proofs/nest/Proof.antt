@@ -14,7 +14,8 @@ enum-told : tie.Need-enum-told
 enum-told c = search needs
 
 nest-record-requires : tie.Need-nest-record-requires
-nest-record-requires c κs = stood-loaded (c .before .before .before .before .accept .ensures) (c .before .before .enum-told .given .1) (let size = c .before .before .before .before .before .before .before .span-arg2 .given in omega arith)
+nest-record-requires c κs = stood-loaded (c .before .before .before .before .accept .ensures) (c .before .before .enum-told .given .1)
+    (let size = c .before .before .before .before .before .before .before .span-arg2 .given in omega arith)
 
 enum-known-number : tie.Need-enum-known-number
 enum-known-number c = search needs
@@ -23,7 +24,8 @@ same-length : tie.Need-same-length
 same-length c = search needs
 
 returns : tie.Need-returns
-returns c = nest-accepted (c .before .before .before .before .before .before .before .accept .ensures) (c .before .before .before .before .before .enum-told .given .1) (c .before .before .nest-record .ensures)
+returns c = nest-accepted (c .before .before .before .before .before .before .before .accept .ensures)
+    (c .before .before .before .before .before .enum-told .given .1) (c .before .before .nest-record .ensures)
 
 returns-2 : tie.Need-returns-2
 returns-2 c = nest-refused (c .before .before .before .accept .ensures) _ (c .before .number .given .1)

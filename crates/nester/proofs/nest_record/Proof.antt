@@ -40,7 +40,8 @@ same-length c = search needs
 
 returns : tie.Need-returns
 returns c = λ g st valid.
-    nested-unfigured valid (c .before .before .before .before .before .before .before .structurize-func .ensures g st valid) (ap number-of (c .before .before .before .before .before .enum-told .given .1)) (omega arith) (λ a b. omega arith)
+    nested-unfigured valid (c .before .before .before .before .before .before .before .structurize-func .ensures g st valid)
+    (ap number-of (c .before .before .before .before .before .enum-told .given .1)) (omega arith) (λ a b. omega arith)
     (c .before .before .written .ensures)
 
 same-length-2 : tie.Need-same-length-2
@@ -48,7 +49,8 @@ same-length-2 c = search needs
 
 returns-2 : tie.Need-returns-2
 returns-2 c = λ g st valid.
-    nested-formed valid (c .before .before .before .before .before .before .before .structurize-func .ensures g st valid) (ap number-of (c .before .before .before .before .before .enum-told2 .given .1)) (omega arith) (omega arith)
+    nested-formed valid (c .before .before .before .before .before .before .before .structurize-func .ensures g st valid)
+    (ap number-of (c .before .before .before .before .before .enum-told2 .given .1)) (omega arith) (omega arith)
     (c .before .before .formed .ensures)
 
 same-length-3 : tie.Need-same-length-3
@@ -56,7 +58,8 @@ same-length-3 c = search needs
 
 returns-3 : tie.Need-returns-3
 returns-3 c = λ g st valid.
-    nested-formed valid (c .before .before .before .before .before .before .before .structurize-func .ensures g st valid) (ap number-of (c .before .before .before .before .before .enum-told3 .given .1)) (omega arith) (omega arith)
+    nested-formed valid (c .before .before .before .before .before .before .before .structurize-func .ensures g st valid)
+    (ap number-of (c .before .before .before .before .before .enum-told3 .given .1)) (omega arith) (omega arith)
     (c .before .before .formed2 .ensures)
 
 same-length-4 : tie.Need-same-length-4
@@ -64,11 +67,13 @@ same-length-4 c = search needs
 
 returns-4 : tie.Need-returns-4
 returns-4 c = λ g st valid.
-    nested-unfigured valid (c .before .before .before .before .before .before .before .structurize-func .ensures g st valid) (ap number-of (c .before .before .before .before .before .enum-told4 .given .1)) (omega arith) (λ a b. omega arith)
+    nested-unfigured valid (c .before .before .before .before .before .before .before .structurize-func .ensures g st valid)
+    (ap number-of (c .before .before .before .before .before .enum-told4 .given .1)) (omega arith) (λ a b. omega arith)
     (c .before .before .written2 .ensures)
 
 returns-5 : tie.Need-returns-5
-returns-5 c = λ g st valid. nested-refused valid (c .before .before .before .structurize-func .ensures g st valid) (c .before .number .given .1) _
+returns-5 c = λ g st valid. nested-refused valid (c .before .before .before .structurize-func .ensures g st valid)
+    (c .before .number .given .1) _
 
 pub nest-record-spec : {M : Type 1} → statement M
 nest-record-spec =

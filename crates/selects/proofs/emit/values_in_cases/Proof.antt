@@ -10,7 +10,8 @@ use Rattle.selects.proofs.emit.values_in_cases.Statement.{statement}
 use Rattle.selects.proofs.emit.values_in_cases.Tie as tie
 
 abbrev Inv-loop : tie.InvT-loop
-Inv-loop w places k ty n vs₀ j₀ vs j = (n ≡ case-total w) × (n ≤ 8) × (j ≤ n) × InCases j (λ i. value-in-case w (getD places i 0) k ty) 66 vs
+Inv-loop w places k ty n vs₀ j₀ vs j = (n ≡ case-total w) × (n ≤ 8) × (j ≤ n) × InCases j
+    (λ i. value-in-case w (getD places i 0) k ty) 66 vs
 
 abbrev μ-loop : tie.MeasureT-loop
 μ-loop w places k ty n vs₀ j₀ vs j = n - j

@@ -26,8 +26,12 @@ same-length c = search needs
 
 returns : tie.Need-returns
 returns c =
-    rw (← c .before .before .before .before .before .before .before .before .before .before .before .before .before .before .before .before .before .twice-word .ensures, ← c .before .before .before .before .before .before .before .before .before .before .before .head .ensures)
-    (puts-then (puts-then (puts-then (c .before .before .before .before .before .before .before .before .before .before .before .before .before .before .before .put-word .ensures) (c .before .before .before .before .before .before .before .before .before .before .put-word2 .ensures)) (c .before .before .before .before .before .before .put .ensures)) (c .before .before .put-word3 .ensures))
+    let third = c .before .before .before .before .before .before in
+    let second = third .before .before .before .before in
+    let first = second .before .before .before .before .before in
+    rw (← first .before .before .twice-word .ensures, ← second .before .head .ensures)
+    (puts-then (puts-then (puts-then (first .put-word .ensures) (second .put-word2 .ensures)) (third .put .ensures))
+    (c .before .before .put-word3 .ensures))
 
 pub put-first-line-spec : {M : Type 1} → statement M
 put-first-line-spec =

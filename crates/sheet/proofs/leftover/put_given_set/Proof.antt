@@ -13,7 +13,8 @@ same-length : tie.Need-same-length
 same-length c = search needs
 
 returns : tie.Need-returns
-returns c = entry-set-put _ _ (c .before .before .before .before .before .entry .ensures) (c .before .before .before .before .if1 .taken) (c .before .before .put-set .ensures)
+returns c = entry-set-put _ _ (c .before .before .before .before .before .entry .ensures)
+    (c .before .before .before .before .if1 .taken) (c .before .before .put-set .ensures)
 
 region-state-requires : tie.Need-region-state-requires
 region-state-requires c κs = search needs
@@ -25,10 +26,13 @@ same-length-2 : tie.Need-same-length-2
 same-length-2 c = search needs
 
 returns-2 : tie.Need-returns-2
-returns-2 c = ready-set-put _ _ (c .before .before .before .before .before .before .before .entry .ensures) (c .before .before .before .before .before .before .if1 .left) (c .before .before .before .before .before .region-state .ensures) (c .before .before .before .before .if2 .taken) (c .before .before .put-set2 .ensures)
+returns-2 c = ready-set-put _ _ (c .before .before .before .before .before .before .before .entry .ensures)
+    (c .before .before .before .before .before .before .if1 .left) (c .before .before .before .before .before .region-state .ensures)
+    (c .before .before .before .before .if2 .taken) (c .before .before .put-set2 .ensures)
 
 returns-3 : tie.Need-returns-3
-returns-3 c = no-given-set _ _ (c .before .before .before .entry .ensures) (c .before .before .if1 .left) (c .before .region-state .ensures) _ _ (c .if2 .left)
+returns-3 c = no-given-set _ _ (c .before .before .before .entry .ensures) (c .before .before .if1 .left)
+    (c .before .region-state .ensures) _ _ (c .if2 .left)
 
 pub put-given-set-spec : {M : Type 1} → statement M
 put-given-set-spec =

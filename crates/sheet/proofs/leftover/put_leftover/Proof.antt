@@ -19,7 +19,9 @@ same-length : tie.Need-same-length
 same-length c = search needs
 
 returns : tie.Need-returns
-returns c = leftover-put _ (c .before .before .before .entry .ensures) (c .before .before .before .before .before .before .before .before .before .before .before .put-sets .ensures) (c .before .before .before .before .before .before .before .put-unclaimed .ensures) (c .before .before .put-piece .ensures)
+returns c = leftover-put _ (c .before .before .before .entry .ensures)
+    (c .before .before .before .before .before .before .before .before .before .before .before .put-sets .ensures)
+    (c .before .before .before .before .before .before .before .put-unclaimed .ensures) (c .before .before .put-piece .ensures)
 
 pub put-leftover-spec : {M : Type 1} → statement M
 put-leftover-spec =

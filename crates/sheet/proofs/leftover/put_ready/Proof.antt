@@ -13,7 +13,8 @@ same-length : tie.Need-same-length
 same-length c = search needs
 
 returns : tie.Need-returns
-returns c = ready-put _ _ (c .before .before .before .before .before .region-state .ensures) (c .before .before .before .before .if1 .taken) (c .before .before .put-piece .ensures)
+returns c = ready-put _ _ (c .before .before .before .before .before .region-state .ensures)
+    (c .before .before .before .before .if1 .taken) (c .before .before .put-piece .ensures)
 
 returns-2 : tie.Need-returns-2
 returns-2 c = ready-not-put _ _ (c .before .region-state .ensures) _ _ (c .if1 .left)

@@ -30,7 +30,9 @@ loop-less c = omega arith
 
 loop-again : tie.Need-loop-again Inv-loop μ-loop
 loop-again c = (
-  sets-turn _ (c .before .before .before .before .before .before .region-count .ensures) _ (c .before .before .before .before .loop-test .taken) (c .before .before .before .before .before .loop .inv .1) (c .before .before .before .before .before .loop .inv .0) (c .before .before .put-given-set .ensures),
+  sets-turn _ (c .before .before .before .before .before .before .region-count .ensures) _
+      (c .before .before .before .before .loop-test .taken) (c .before .before .before .before .before .loop .inv .1)
+      (c .before .before .before .before .before .loop .inv .0) (c .before .before .put-given-set .ensures),
   omega arith,
   search needs,
 )

@@ -30,7 +30,9 @@ loop-less c = omega arith
 
 loop-again : tie.Need-loop-again Inv-loop μ-loop
 loop-again c = (
-  lines-turn _ (c .before .before .before .before .before .before .region-count .ensures) _ (c .before .before .before .before .loop-test .taken) (c .before .before .before .before .before .loop .inv .1) (c .before .before .before .before .before .loop .inv .0) (c .before .before .put-ready .ensures),
+  lines-turn _ (c .before .before .before .before .before .before .region-count .ensures) _
+      (c .before .before .before .before .loop-test .taken) (c .before .before .before .before .before .loop .inv .1)
+      (c .before .before .before .before .before .loop .inv .0) (c .before .before .put-ready .ensures),
   omega arith,
   search needs,
 )

@@ -130,14 +130,16 @@ put-cases-next-requires t c κs = search needs
 
 put-cases-put-cases-requires : (t : ℕ) → put-cases-lts.Need-put-cases-requires (put-cases-called t) (put-cases-at t) put-cases.Post
 put-cases-put-cases-requires t c κs =
-    (omega (arith, c .before .before .before .before .before .pre .0, named-below _ (c .before .cell-before .ensures) (some-handle (c .before .before .before .if1 .left))), tt)
+    let d = c .before .before .before .before .before in
+    (omega (arith, d .pre .0, named-below _ (c .before .cell-before .ensures) (some-handle (c .before .before .before .if1 .left))), tt)
 
 put-cases-case-children-requires : (t : ℕ) → put-cases-lts.Need-case-children-requires (put-cases-called t) (put-cases-at t) put-cases.Post
 put-cases-case-children-requires t c κs = search needs
 
 put-cases-put-nodes-requires : (t : ℕ) → put-cases-lts.Need-put-nodes-requires (put-cases-called t) (put-cases-at t) put-cases.Post
 put-cases-put-nodes-requires t c κs =
-    (omega (arith, c .before .before .before .before .before .before .before .before .before .before .pre .0, named-below _ (c .case-children .ensures) (some-handle (c .before .before .before .before .before .before .before .before .if1 .left))), tt)
+    let d = c .before .before .before .before .before .before .before .before in
+    (omega (arith, d .before .before .pre .0, named-below _ (c .case-children .ensures) (some-handle (d .if1 .left))), tt)
 
 put-cases-put-case-line-requires : (t : ℕ) → put-cases-lts.Need-put-case-line-requires (put-cases-called t) (put-cases-at t) put-cases.Post
 put-cases-put-case-line-requires t c κs = search needs
@@ -147,8 +149,11 @@ put-cases-same-length t c = search needs
 
 put-cases-returns-2 : (t : ℕ) → put-cases-lts.Need-returns-2 (put-cases-called t) (put-cases-at t) put-cases.Post
 put-cases-returns-2 t c =
-    cases-put _ _ _ _ (some-handle (c .before .before .before .before .before .before .before .before .before .before .before .before .before .before .before .if1 .left)) (c .before .before .before .before .before .before .before .before .before .before .before .before .before .cell-before .ensures) (c .before .before .before .before .before .before .before .before .before .before .before .before .next .ensures) (c .before .before .before .before .before .before .before .before .before .before .before .put-cases .ensures)
-    (c .before .before .before .before .before .before .before .case-children .ensures) (c .before .before .before .before .before .before .put-nodes .ensures) (c .before .before .put-case-line .ensures)
+    let d = c .before .before .before .before .before .before in
+    cases-put _ _ _ _ (some-handle (d .before .before .before .before .before .before .before .before .before .if1 .left))
+    (d .before .before .before .before .before .before .before .cell-before .ensures)
+    (d .before .before .before .before .before .before .next .ensures) (d .before .before .before .before .before .put-cases .ensures)
+    (d .before .case-children .ensures) (d .put-nodes .ensures) (c .before .before .put-case-line .ensures)
 
 put-cell-cell-tag-requires : (t : ℕ) → put-cell-lts.Need-cell-tag-requires (put-cell-called t) (put-cell-at t) put-cell.Post
 put-cell-cell-tag-requires t c κs = search needs
@@ -164,21 +169,26 @@ put-cell-same-length t c = search needs
 
 put-cell-returns : (t : ℕ) → put-cell-lts.Need-returns (put-cell-called t) (put-cell-at t) put-cell.Post
 put-cell-returns t c =
-    cell-blocks _ _ (c .before .before .before .before .before .before .cell-tag .ensures) (c .before .before .before .before .before .if1 .taken) (c .before .before .before .cell-a .ensures) (c .before .before .put-blocks .ensures)
+    let d = c .before .before .before .before .before in
+    cell-blocks _ _ (d .before .cell-tag .ensures) (d .if1 .taken) (c .before .before .before .cell-a .ensures)
+    (c .before .before .put-blocks .ensures)
 
 put-cell-joined-list-requires : (t : ℕ) → put-cell-lts.Need-joined-list-requires (put-cell-called t) (put-cell-at t) put-cell.Post
 put-cell-joined-list-requires t c κs = search needs
 
 put-cell-put-nodes-requires : (t : ℕ) → put-cell-lts.Need-put-nodes-requires (put-cell-called t) (put-cell-at t) put-cell.Post
 put-cell-put-nodes-requires t c κs =
-    (omega (arith, c .before .before .before .before .before .before .pre .0, named-below _ (c .joined-list .ensures) (c .before .before .before .before .before .before .pre .1)), tt)
+    let d = c .before .before .before .before .before .before in
+    (omega (arith, d .pre .0, named-below _ (c .joined-list .ensures) (d .pre .1)), tt)
 
 put-cell-same-length-2 : (t : ℕ) → put-cell-lts.Need-same-length-2 (put-cell-called t) (put-cell-at t) put-cell.Post
 put-cell-same-length-2 t c = search needs
 
 put-cell-returns-2 : (t : ℕ) → put-cell-lts.Need-returns-2 (put-cell-called t) (put-cell-at t) put-cell.Post
 put-cell-returns-2 t c =
-    cell-list _ _ (c .before .before .before .before .before .before .before .cell-tag .ensures) (c .before .before .before .before .before .if2 .taken) (c .before .before .before .joined-list .ensures) (c .before .before .put-nodes .ensures)
+    let d = c .before .before .before .before .before in
+    cell-list _ _ (d .before .before .cell-tag .ensures) (d .if2 .taken) (c .before .before .before .joined-list .ensures)
+    (c .before .before .put-nodes .ensures)
 
 put-cell-cell-a-requires-2 : (t : ℕ) → put-cell-lts.Need-cell-a-requires-2 (put-cell-called t) (put-cell-at t) put-cell.Post
 put-cell-cell-a-requires-2 t c κs = search needs
@@ -194,7 +204,9 @@ put-cell-same-length-3 t c = search needs
 
 put-cell-returns-3 : (t : ℕ) → put-cell-lts.Need-returns-3 (put-cell-called t) (put-cell-at t) put-cell.Post
 put-cell-returns-3 t c =
-    cell-exit _ _ (c .before .before .before .before .before .before .before .before .before .cell-tag .ensures) (c .before .before .before .before .before .before .if3 .taken) (c .before .before .before .before .cell-a2 .ensures) (c .before .before .before .cell-b .ensures) (c .before .before .put-exit .ensures)
+    let d = c .before .before .before .before in
+    cell-exit _ _ (d .before .before .before .before .before .cell-tag .ensures) (d .before .before .if3 .taken) (d .cell-a2 .ensures)
+    (c .before .before .before .cell-b .ensures) (c .before .before .put-exit .ensures)
 
 put-cell-inner-list-requires : (t : ℕ) → put-cell-lts.Need-inner-list-requires (put-cell-called t) (put-cell-at t) put-cell.Post
 put-cell-inner-list-requires t c κs = search needs
@@ -204,7 +216,8 @@ put-cell-cell-a-requires-3 t c κs = search needs
 
 put-cell-put-cases-requires : (t : ℕ) → put-cell-lts.Need-put-cases-requires (put-cell-called t) (put-cell-at t) put-cell.Post
 put-cell-put-cases-requires t c κs =
-    (omega (arith, c .before .before .before .before .before .before .before .before .before .pre .0, named-below _ (c .before .inner-list .ensures) (c .before .before .before .before .before .before .before .before .before .pre .1)), tt)
+    let d = c .before .before .before .before .before .before .before .before .before in
+    (omega (arith, d .pre .0, named-below _ (c .before .inner-list .ensures) (d .pre .1)), tt)
 
 put-cell-put-select-line-requires : (t : ℕ) → put-cell-lts.Need-put-select-line-requires (put-cell-called t) (put-cell-at t) put-cell.Post
 put-cell-put-select-line-requires t c κs = search needs
@@ -214,15 +227,18 @@ put-cell-same-length-4 t c = search needs
 
 put-cell-returns-4 : (t : ℕ) → put-cell-lts.Need-returns-4 (put-cell-called t) (put-cell-at t) put-cell.Post
 put-cell-returns-4 t c =
-    cell-select _ _ (c .before .before .before .before .before .before .before .before .before .before .before .before .before .before .cell-tag .ensures) (c .before .before .before .before .before .before .before .before .before .before .if4 .taken) (c .before .before .before .before .before .before .before .before .inner-list .ensures) (c .before .before .before .before .before .before .before .cell-a3 .ensures) (c .before .before .before .before .before .before .put-cases .ensures)
-    (c .before .before .put-select-line .ensures)
+    let d = c .before .before .before .before .before .before in
+    cell-select _ _ (d .before .before .before .before .before .before .before .before .cell-tag .ensures)
+    (d .before .before .before .before .if4 .taken) (d .before .before .inner-list .ensures) (d .before .cell-a3 .ensures)
+    (d .put-cases .ensures) (c .before .before .put-select-line .ensures)
 
 put-cell-cell-before-requires : (t : ℕ) → put-cell-lts.Need-cell-before-requires (put-cell-called t) (put-cell-at t) put-cell.Post
 put-cell-cell-before-requires t c κs = search needs
 
 put-cell-put-nodes-requires-2 : (t : ℕ) → put-cell-lts.Need-put-nodes-requires-2 (put-cell-called t) (put-cell-at t) put-cell.Post
 put-cell-put-nodes-requires-2 t c κs =
-    (omega (arith, c .before .before .before .before .before .before .before .before .before .pre .0, named-below _ (c .cell-before .ensures) (c .before .before .before .before .before .before .before .before .before .pre .1)), tt)
+    let d = c .before .before .before .before .before .before .before .before .before in
+    (omega (arith, d .pre .0, named-below _ (c .cell-before .ensures) (d .pre .1)), tt)
 
 put-cell-put-loop-lines-requires : (t : ℕ) → put-cell-lts.Need-put-loop-lines-requires (put-cell-called t) (put-cell-at t) put-cell.Post
 put-cell-put-loop-lines-requires t c κs = search needs
@@ -232,11 +248,16 @@ put-cell-same-length-5 t c = search needs
 
 put-cell-returns-5 : (t : ℕ) → put-cell-lts.Need-returns-5 (put-cell-called t) (put-cell-at t) put-cell.Post
 put-cell-returns-5 t c =
-    cell-loop _ _ (c .before .before .before .before .before .before .before .before .before .before .before .before .before .before .cell-tag .ensures) (c .before .before .before .before .before .before .before .before .before .if5 .taken) (c .before .before .before .before .before .before .before .cell-before .ensures) (c .before .before .before .before .before .before .put-nodes2 .ensures) (c .before .before .put-loop-lines .ensures)
+    let d = c .before .before .before .before .before .before in
+    cell-loop _ _ (d .before .before .before .before .before .before .before .before .cell-tag .ensures)
+    (d .before .before .before .if5 .taken) (d .before .cell-before .ensures) (d .put-nodes2 .ensures)
+    (c .before .before .put-loop-lines .ensures)
 
 put-cell-returns-6 : (t : ℕ) → put-cell-lts.Need-returns-6 (put-cell-called t) (put-cell-at t) put-cell.Post
 put-cell-returns-6 t c =
-    cell-none _ _ (c .before .before .before .before .before .cell-tag .ensures) (c .before .before .before .before .if1 .left) (c .before .before .before .if2 .left) (c .before .before .if3 .left) (c .before .if4 .left) (c .if5 .left) _ _
+    let d = c .before .before .before .before in
+    cell-none _ _ (d .before .cell-tag .ensures) (d .if1 .left) (c .before .before .before .if2 .left) (c .before .before .if3 .left)
+    (c .before .if4 .left) (c .if5 .left) _ _
 
 abbrev put-nodes-Inv-loop : put-nodes-lts.InvT-loop
 put-nodes-Inv-loop w out₀ list e₀ h₀ out e h = PutsBehind w list h out₀ e₀ out e × (h ≤ list) × (length out ≡ length out₀)
@@ -244,32 +265,42 @@ put-nodes-Inv-loop w out₀ list e₀ h₀ out e h = PutsBehind w list h out₀ 
 abbrev put-nodes-μ-loop : put-nodes-lts.MeasureT-loop
 put-nodes-μ-loop w out₀ list e₀ h₀ out e h = h
 
-put-nodes-loop-holds : (t : ℕ) → put-nodes-lts.Need-loop-holds (put-nodes-called t) (put-nodes-at t) put-nodes.Post put-nodes-Inv-loop put-nodes-μ-loop
+put-nodes-loop-holds : (t : ℕ) → put-nodes-lts.Need-loop-holds (put-nodes-called t)
+    (put-nodes-at t) put-nodes.Post put-nodes-Inv-loop put-nodes-μ-loop
 put-nodes-loop-holds t c =
     (walk-start _ _ _ _, omega arith, refl)
 
-put-nodes-put-cell-requires : (t : ℕ) → put-nodes-lts.Need-put-cell-requires (put-nodes-called t) (put-nodes-at t) put-nodes.Post put-nodes-Inv-loop put-nodes-μ-loop
+put-nodes-put-cell-requires : (t : ℕ) → put-nodes-lts.Need-put-cell-requires (put-nodes-called t)
+    (put-nodes-at t) put-nodes.Post put-nodes-Inv-loop put-nodes-μ-loop
 put-nodes-put-cell-requires t c κs =
     (omega (arith, c .before .before .before .before .pre .0, c .before .before .loop .inv .1), c .before .loop-test .taken)
 
-put-nodes-list-before-requires : (t : ℕ) → put-nodes-lts.Need-list-before-requires (put-nodes-called t) (put-nodes-at t) put-nodes.Post put-nodes-Inv-loop put-nodes-μ-loop
+put-nodes-list-before-requires : (t : ℕ) → put-nodes-lts.Need-list-before-requires (put-nodes-called t)
+    (put-nodes-at t) put-nodes.Post put-nodes-Inv-loop put-nodes-μ-loop
 put-nodes-list-before-requires t c κs = search needs
 
-put-nodes-loop-less : (t : ℕ) → put-nodes-lts.Need-loop-less (put-nodes-called t) (put-nodes-at t) put-nodes.Post put-nodes-Inv-loop put-nodes-μ-loop
+put-nodes-loop-less : (t : ℕ) → put-nodes-lts.Need-loop-less (put-nodes-called t)
+    (put-nodes-at t) put-nodes.Post put-nodes-Inv-loop put-nodes-μ-loop
 put-nodes-loop-less t c =
-    before-below _ (c .list-before .ensures) (c .before .before .before .before .before .loop-test .taken)
+    let d = c .before .before .before .before .before in
+    before-below _ (c .list-before .ensures) (d .loop-test .taken)
 
-put-nodes-loop-again : (t : ℕ) → put-nodes-lts.Need-loop-again (put-nodes-called t) (put-nodes-at t) put-nodes.Post put-nodes-Inv-loop put-nodes-μ-loop
-put-nodes-loop-again t c = (
-  walk-turn _ _ _ (c .before .before .before .before .before .loop-test .taken) (c .before .before .before .before .before .before .loop .inv .0) (c .before .before .before .put-cell .ensures) (c .list-before .ensures),
-  omega (arith, before-below _ (c .list-before .ensures) (c .before .before .before .before .before .loop-test .taken), c .before .before .before .before .before .before .loop .inv .1),
-  search needs,
-)
+put-nodes-loop-again : (t : ℕ) → put-nodes-lts.Need-loop-again (put-nodes-called t)
+    (put-nodes-at t) put-nodes.Post put-nodes-Inv-loop put-nodes-μ-loop
+put-nodes-loop-again t c =
+    let d = c .before .before .before .before .before in (
+      walk-turn _ _ _ (d .loop-test .taken) (d .before .loop .inv .0) (c .before .before .before .put-cell .ensures)
+          (c .list-before .ensures),
+      omega (arith, before-below _ (c .list-before .ensures) (d .loop-test .taken), d .before .loop .inv .1),
+      search needs,
+    )
 
-put-nodes-same-length : (t : ℕ) → put-nodes-lts.Need-same-length (put-nodes-called t) (put-nodes-at t) put-nodes.Post put-nodes-Inv-loop put-nodes-μ-loop
+put-nodes-same-length : (t : ℕ) → put-nodes-lts.Need-same-length (put-nodes-called t)
+    (put-nodes-at t) put-nodes.Post put-nodes-Inv-loop put-nodes-μ-loop
 put-nodes-same-length t c = search needs
 
-put-nodes-returns : (t : ℕ) → put-nodes-lts.Need-returns (put-nodes-called t) (put-nodes-at t) put-nodes.Post put-nodes-Inv-loop put-nodes-μ-loop
+put-nodes-returns : (t : ℕ) → put-nodes-lts.Need-returns (put-nodes-called t)
+    (put-nodes-at t) put-nodes.Post put-nodes-Inv-loop put-nodes-μ-loop
 put-nodes-returns t c =
     walk-end _ _ (c .loop-test .left) (c .before .loop .inv .0)
 

@@ -19,7 +19,10 @@ same-length : tie.Need-same-length
 same-length c = search needs
 
 returns : tie.Need-returns
-returns c = piece-put _ _ (c .before .before .before .before .before .before .before .before .before .before .before .children .ensures) (c .before .before .before .before .before .before .before .before .before .before .put-nodes .ensures) (c .before .before .before .before .before .before .put .ensures) (c .before .before .put-region-line .ensures)
+returns c =
+    let d = c .before .before .before .before .before .before in
+    piece-put _ _ (d .before .before .before .before .before .children .ensures) (d .before .before .before .before .put-nodes .ensures)
+    (d .put .ensures) (c .before .before .put-region-line .ensures)
 
 pub put-piece-spec : {M : Type 1} → statement M
 put-piece-spec =

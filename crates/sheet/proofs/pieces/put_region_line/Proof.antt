@@ -22,7 +22,11 @@ same-length : tie.Need-same-length
 same-length c = search needs
 
 returns : tie.Need-returns
-returns c = front-put _ _ (c .before .before .before .before .before .before .before .before .before .before .before .before .before .before .before .children .ensures) (c .before .before .before .before .before .before .before .before .before .before .before .before .before .before .put-kids .ensures) (c .before .before .before .before .before .before .before .before .before .before .put-types .ensures) (c .before .before .before .before .before .before .put-word .ensures) (c .before .before .put .ensures)
+returns c =
+    let d = c .before .before .before .before .before .before in
+    front-put _ _ (d .before .before .before .before .before .before .before .before .before .children .ensures)
+    (d .before .before .before .before .before .before .before .before .put-kids .ensures)
+    (d .before .before .before .before .put-types .ensures) (d .put-word .ensures) (c .before .before .put .ensures)
 
 pub put-region-line-spec : {M : Type 1} → statement M
 put-region-line-spec =

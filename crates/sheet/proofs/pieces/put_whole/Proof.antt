@@ -28,8 +28,12 @@ same-length : tie.Need-same-length
 same-length c = search needs
 
 returns : tie.Need-returns
-returns c = whole-put _ _ (c .before .before .before .before .before .before .before .before .before .before .before .before .before .children .ensures) (c .before .before .before .before .before .before .before .before .before .before .before .before .put-nodes .ensures) (c .before .before .before .before .before .before .before .before .before .before .before .before .before .before .before .entry .ensures) (c .before .before .before .before .before .before .before .before .set-start .ensures) (c .before .before .before .before .before .before .before .bundle-at .ensures)
-    (c .before .before .before .before .before .before .put-inputs .ensures) (c .before .before .put-region-line .ensures)
+returns c =
+    let d = c .before .before .before .before .before .before in
+    whole-put _ _ (d .before .before .before .before .before .before .before .children .ensures)
+    (d .before .before .before .before .before .before .put-nodes .ensures)
+    (d .before .before .before .before .before .before .before .before .before .entry .ensures) (d .before .before .set-start .ensures)
+    (d .before .bundle-at .ensures) (d .put-inputs .ensures) (c .before .before .put-region-line .ensures)
 
 pub put-whole-spec : {M : Type 1} → statement M
 put-whole-spec =

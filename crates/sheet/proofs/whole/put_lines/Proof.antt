@@ -22,7 +22,8 @@ same-length-2 : tie.Need-same-length-2
 same-length-2 c = search needs
 
 returns-2 : tie.Need-returns-2
-returns-2 c = lines-closed _ (c .before .before .before .before .before .if2 .taken) (c .before .before .before .entry .ensures) (c .before .before .put-piece .ensures)
+returns-2 c = lines-closed _ (c .before .before .before .before .before .if2 .taken) (c .before .before .before .entry .ensures)
+    (c .before .before .put-piece .ensures)
 
 put-leftover-requires : tie.Need-put-leftover-requires
 put-leftover-requires c κs = search needs

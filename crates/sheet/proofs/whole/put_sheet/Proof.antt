@@ -13,7 +13,8 @@ same-length : tie.Need-same-length
 same-length c = search needs
 
 returns : tie.Need-returns
-returns c = sheet-put _ _ _ (c .before .before .before .before .before .before .put-lines .ensures) (c .before .before .put-first-line .ensures)
+returns c = sheet-put _ _ _ (c .before .before .before .before .before .before .put-lines .ensures)
+    (c .before .before .put-first-line .ensures)
 
 pub put-sheet-spec : {M : Type 1} → statement M
 put-sheet-spec =

@@ -20,13 +20,17 @@ put-sheet-requires : tie.Need-put-sheet-requires
 put-sheet-requires c κs = search needs
 
 cast-t12 : tie.Need-cast-t12
-cast-t12 c = omega (arith, c .before .before .before .before .if1 .left, c .before .before .before .before .before .lent .ensures, lent-few (c .before .before .before .before .before .before .before .before .before .args .out .now) .1)
+cast-t12 c =
+    let test = c .before .before .before .before in
+    omega (arith, test .if1 .left, test .before .lent .ensures, lent-few (test .before .before .before .before .before .args .out .now) .1)
 
 same-length-2 : tie.Need-same-length-2
 same-length-2 c = search needs
 
 returns-2 : tie.Need-returns-2
-returns-2 c = all-written _ _ _ (c .before .before .before .before .before .before .before .measure .ensures) (rw (c .before .before .before .before .before .lent .ensures) at (c .before .before .before .before .if1 .left)) (c .before .before .put-sheet .ensures)
+returns-2 c = all-written _ _ _ (c .before .before .before .before .before .before .before .measure .ensures)
+    (rw (c .before .before .before .before .before .lent .ensures) at (c .before .before .before .before .if1 .left))
+    (c .before .before .put-sheet .ensures)
 
 pub write-sheet-spec : {M : Type 1} → statement M
 write-sheet-spec =

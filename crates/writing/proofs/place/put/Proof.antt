@@ -16,10 +16,12 @@ same-length : tie.Need-same-length
 same-length c = search needs
 
 returns : tie.Need-returns
-returns c = put-stored (c .before .before .before .args .out .now) (c .before .before .before .args .at) (c .before .before .before .args .x) (c .before .one-less .ensures)
+returns c = put-stored (c .before .before .before .args .out .now) (c .before .before .before .args .at)
+    (c .before .before .before .args .x) (c .before .one-less .ensures)
 
 returns-2 : tie.Need-returns-2
-returns-2 c = put-nowhere (c .before .before .before .args .out .now) (c .before .before .before .args .at) (c .before .before .before .args .x) (c .before .one-less .ensures) (c .if1 .left)
+returns-2 c = put-nowhere (c .before .before .before .args .out .now) (c .before .before .before .args .at)
+    (c .before .before .before .args .x) (c .before .one-less .ensures) (c .if1 .left)
 
 pub put-spec : {M : Type 1} → statement M
 put-spec =

@@ -16,7 +16,10 @@ same-length : tie.Need-same-length
 same-length c = search needs
 
 returns : tie.Need-returns
-returns c = puts-then (puts-then (c .before .before .before .before .before .before .before .before .before .before .put-word .ensures) (c .before .before .before .before .before .before .put-word2 .ensures)) (c .before .before .put-word3 .ensures)
+returns c =
+    let second = c .before .before .before .before .before .before in
+    puts-then (puts-then (second .before .before .before .before .put-word .ensures) (second .put-word2 .ensures))
+    (c .before .before .put-word3 .ensures)
 
 pub put-three-spec : {M : Type 1} → statement M
 put-three-spec =

@@ -36,17 +36,24 @@ loop-less : tie.Need-loop-less Inv-loop μ-loop
 loop-less c = omega arith
 
 loop-again : tie.Need-loop-again Inv-loop μ-loop
-loop-again c = (
-  ⊎-elim
-      (λ x. one-more (c .before .before .before .before .before .before .args .w .now) (c .before .before .before .before .before .before .args .node) (c .before .before .before .loop .i) (c .before .before .before .loop .inv .0) (c .before .output-node .ensures) (x .0 .taken) (x .1))
-      (λ x. no-more (c .before .before .before .before .before .before .args .w .now) (c .before .before .before .before .before .before .args .node) (c .before .before .before .loop .i) (c .before .before .before .loop .inv .0) (c .before .output-node .ensures) (x .0 .left) (x .1))
-      (c .if1 .came),
-  omega arith,
-  ⊎-elim (λ x. omega (arith, x .1)) (λ x. omega (arith, x .1)) (c .if1 .came),
-)
+loop-again c =
+    let turn = c .before .before .before in
+    let args = turn .before .before .before .args in
+    let read = c .before .output-node .ensures in (
+      ⊎-elim
+          (λ x. one-more (args .w .now) (args .node) (turn .loop .i) (turn .loop .inv .0) read (x .0 .taken) (x .1))
+          (λ x. no-more (args .w .now) (args .node) (turn .loop .i) (turn .loop .inv .0) read (x .0 .left) (x .1))
+          (c .if1 .came),
+      omega arith,
+      ⊎-elim (λ x. omega (arith, x .1)) (λ x. omega (arith, x .1)) (c .if1 .came),
+    )
 
 returns : tie.Need-returns Inv-loop μ-loop
-returns c = rw (← c .before .before .before .output-count .ensures, ← c .before .before .least .ensures) (all-counted (c .before .before .before .before .args .w .now) (c .before .before .before .before .args .node) (c .before .loop .inv .0) (c .before .loop .inv .1) (c .loop-test .left))
+returns c =
+    let turn = c .before in
+    let args = turn .before .before .before .args in
+    rw (← turn .before .before .output-count .ensures, ← turn .before .least .ensures)
+    (all-counted (args .w .now) (args .node) (turn .loop .inv .0) (turn .loop .inv .1) (c .loop-test .left))
 
 pub place-among-spec : {M : Type 1} → statement M
 place-among-spec =

@@ -16,7 +16,9 @@ same-length : tie.Need-same-length
 same-length c = search needs
 
 returns : tie.Need-returns
-returns c = rw (← c .before .before .before .before .before .node-of .ensures, ← c .before .before .before .before .place-among .ensures) (c .before .before .put-three .ensures)
+returns c = rw
+    (← c .before .before .before .before .before .node-of .ensures, ← c .before .before .before .before .place-among .ensures)
+    (c .before .before .put-three .ensures)
 
 pub put-output-spec : {M : Type 1} → statement M
 put-output-spec =

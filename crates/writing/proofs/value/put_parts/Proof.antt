@@ -15,7 +15,10 @@ same-length c = search needs
 
 returns : tie.Need-returns
 unfolding value-words
-returns c = rw (← c .before .before .before .before .before .before .parts-of .ensures, eq-eqb (c .before .before .before .before .before .before .parts-of .result .kind) 3 (c .before .before .before .before .if1 .taken)) (c .before .before .put-output .ensures)
+returns c =
+    let told = c .before .before .before .before in
+    rw (← told .before .before .parts-of .ensures, eq-eqb (told .before .before .parts-of .result .kind) 3 (told .if1 .taken))
+    (c .before .before .put-output .ensures)
 
 put-three-requires : tie.Need-put-three-requires
 put-three-requires c κs = search needs
@@ -25,7 +28,10 @@ same-length-2 c = search needs
 
 returns-2 : tie.Need-returns-2
 unfolding value-words
-returns-2 c = rw (← c .before .before .before .before .before .before .parts-of .ensures, ne-eqb (c .before .before .before .before .before .before .parts-of .result .kind) 3 (c .before .before .before .before .if1 .left)) (c .before .before .put-three .ensures)
+returns-2 c =
+    let told = c .before .before .before .before in
+    rw (← told .before .before .parts-of .ensures, ne-eqb (told .before .before .parts-of .result .kind) 3 (told .if1 .left))
+    (c .before .before .put-three .ensures)
 
 pub put-parts-spec : {M : Type 1} → statement M
 put-parts-spec =

@@ -17,7 +17,10 @@ same-length : tie.Need-same-length
 same-length c = search needs
 
 returns : tie.Need-returns
-returns c = λ g s x. puts-as (puts-noted (c .before .before .before .before .note .ensures) (c .before .before .put-parts .ensures)) (rw (c .before .before .before .before .before .look-up .ensures) (value-shown x (c .before .before .before .before .before .before .before .args .v)))
+returns c = λ g s x.
+    let told = c .before .before .before .before in
+    puts-as (puts-noted (told .note .ensures) (c .before .before .put-parts .ensures))
+    (rw (told .before .look-up .ensures) (value-shown x (told .before .before .before .args .v)))
 
 pub put-value-spec : {M : Type 1} → statement M
 put-value-spec =

@@ -1,0 +1,71 @@
+"""librukvetta.a, linked so that Python can call it."""
+
+import ctypes
+import pathlib
+import random
+import shutil
+import subprocess
+
+ROOT = pathlib.Path(__file__).resolve().parents[2]
+LENT, STATE, INDEX = 16384, 28672, range(4048, 4400)
+
+
+class Missing(Exception):
+    """Something that is needed is not there; its text is the sentence to print."""
+
+
+def linked(folder, into):
+    """The library of a folder, or the one that interface/build makes, linked to a file in `into`."""
+    if folder is None:
+        folder = ROOT / "target" / "interface"
+        if subprocess.run([ROOT / "interface" / "build"], stdout=subprocess.DEVNULL).returncode:
+            raise Missing("interface/build could not build the library")
+    archive, path = pathlib.Path(folder) / "librukvetta.a", into / "librukvetta.so"
+    if not archive.is_file():
+        raise Missing(f"{archive} is not there: interface/build makes it")
+    if not shutil.which("cc"):
+        raise Missing("this needs a C compiler (cc) to link the library for Python; Debian: gcc")
+    done = subprocess.run(["cc", "-shared", "-o", path, "-Wl,--whole-archive", archive, "-Wl,--no-whole-archive"],
+                          capture_output=True, text=True)
+    if done.returncode:
+        raise Missing(f"cc could not link {archive}: {done.stderr.strip()}")
+    if not hasattr(ctypes.CDLL(str(path)), "rukvetta_nest"):
+        raise Missing(f"{archive} has no rukvetta_nest")
+    return path
+
+
+class Library:
+    """rukvetta_nest, with memory to lend that has a pattern in it."""
+
+    def __init__(self, path):
+        self.nest = ctypes.CDLL(str(path)).rukvetta_nest
+        self.nest.restype = ctypes.c_uint64
+        self.nest.argtypes = ctypes.c_char_p, ctypes.c_size_t, ctypes.c_void_p, ctypes.c_void_p, ctypes.c_size_t
+        self.state = (ctypes.c_uint16 * STATE)()
+        self.out = (ctypes.c_uint32 * (LENT + 1))()
+        pattern = random.Random(1)
+        self.state_was, self.out_was = pattern.randbytes(2 * STATE), pattern.randbytes(4 * LENT + 4)
+
+    def answer(self, store, lent):
+        """What is answered where so many words are lent: a number and a word. 0 and n are a sheet of n words."""
+        ctypes.memmove(self.state, self.state_was, len(self.state_was))
+        ctypes.memmove(self.out, self.out_was, len(self.out_was))
+        answer = self.nest(store, len(store), ctypes.addressof(self.state), ctypes.addressof(self.out), lent)
+        return answer >> 32, answer & 0xffffffff
+
+    def sheet(self, n):
+        return list(self.out[:n])
+
+    def kept(self, n):
+        """Whether the lent words behind the first n are as lent."""
+        return memoryview(self.out).cast("B")[4 * n:] == self.out_was[4 * n:]
+
+    def state_right(self, front, number):
+        """Whether the record's words stand in front; and, after a refusal 1 to 8, all else as lent, but for the index."""
+        state = memoryview(self.state).cast("B")
+        if state[:len(front)] != front:
+            return False
+        if number in range(1, 9):
+            first, last = (2 * INDEX.start, 2 * INDEX.stop) if front else (len(front), len(front))
+            return state[len(front):first] == self.state_was[len(front):first] and state[last:] == self.state_was[last:]
+        return True

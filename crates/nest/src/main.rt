@@ -1,0 +1,15 @@
+// Reads a store from standard input and prints its sheet, or its refusal. It lends 16,384 words.
+use libc::STDIN_FILENO;
+use printing::print;
+use store::WORDS;
+
+// One byte more than a store may have is enough to be refused. Sixteen bytes for each lent word are room for every sheet.
+fn main() {
+    let mut bytes = [0u8; 8193];
+    let mut words = [0u16; WORDS];
+    let mut out = [0u32; 16384];
+    let mut text = [0u8; 262144];
+    let n = io::read_full(STDIN_FILENO, &mut bytes);
+    let written = nest_text::print(&bytes[..n], &mut words, &mut out, &mut text);
+    print(written, &text);
+}

@@ -1,0 +1,83 @@
+//! From a store of bytes to its nested sheet, by the proved library `librukvetta.a` (rukvetta.h says what it promises).
+//!
+//! ```
+//! let mut state = rukvetta::State::new();
+//! let mut lent = [0u32; rukvetta::USUAL_LENT];
+//! let answer = rukvetta::nest(&[], &mut state, &mut lent);
+//! assert_eq!(answer.unwrap_err().to_string(), "refused 1 0: the length is 0, over 8,192 bytes or no multiple of 512");
+//! ```
+//!
+//! A call takes no heap and keeps nothing: what it uses is lent. A `State` serves any number of calls, one at a time.
+#![no_std]
+#![deny(missing_docs)]
+
+mod refusal;
+mod sheet;
+
+pub use refusal::Refusal;
+pub use sheet::{Outcome, Sheet};
+
+/// How many words of 16 bits a [`State`] holds.
+pub const WORDS: usize = 28_672;
+
+/// How many words of 32 bits the program `nest` lends for a sheet. A few sheets are longer.
+pub const USUAL_LENT: usize = 16_384;
+
+/// What [`nest`] answers: the sheet, which stands in front of the lent words, or a refusal, and the lent words are as they were.
+pub type Answer<'a> = Result<Sheet<'a>, Refusal>;
+
+extern "C" {
+    fn rukvetta_accept(bytes: *const u8, length: usize, words: *mut u16) -> u32;
+    fn rukvetta_nest(bytes: *const u8, length: usize, words: *mut u16, out: *mut u32, lent: usize) -> u64;
+}
+
+/// The memory that nesting works in: 57,344 bytes for the words, and how many of them are a record.
+pub struct State {
+    words: [u16; WORDS],
+    used: usize,
+}
+
+impl State {
+    /// A state without a record.
+    pub const fn new() -> State {
+        State { words: [0; WORDS], used: 0 }
+    }
+
+    /// The words of the record that the last call accepted, W in front; empty if it was refused with 1 to 8.
+    pub fn record(&self) -> &[u16] {
+        &self.words[..self.used]
+    }
+
+    fn stands(&mut self, accepted: bool) {
+        self.used = if accepted { usize::from(self.words[0]) } else { 0 };
+    }
+}
+
+impl Default for State {
+    fn default() -> State {
+        State::new()
+    }
+}
+
+/// Checks a store and reads its record, which then stands in the state. Refusals 1 to 8.
+pub fn accept<'a>(store: &[u8], state: &'a mut State) -> Result<&'a [u16], Refusal> {
+    // SAFETY: slice and array are as long as said, and a reference is never null, is aligned and overlaps no other.
+    let answer = unsafe { rukvetta_accept(store.as_ptr(), store.len(), state.words.as_mut_ptr()) };
+    state.stands(answer == 0);
+    match answer {
+        0 => Ok(state.record()),
+        _ => Err(Refusal::from_words(answer >> 16, answer & 0xffff)),
+    }
+}
+
+/// Nests the record of a store. Refusals 1 to 11.
+pub fn nest<'a>(store: &[u8], state: &mut State, lent: &'a mut [u32]) -> Answer<'a> {
+    // SAFETY: as in `accept`; the lent words are a third piece of memory.
+    let answer = unsafe { rukvetta_nest(store.as_ptr(), store.len(), state.words.as_mut_ptr(), lent.as_mut_ptr(), lent.len()) };
+    let (number, word) = ((answer >> 32) as u32, answer as u32);
+    state.stands(number == 0 || number > 8);
+    match number {
+        0 => Ok(Sheet::new(&lent[..word as usize])),
+        _ => Err(Refusal::from_words(number, word)),
+    }
+}

@@ -1,0 +1,35 @@
+"""Writes chosen stores of the lists as files, for interface/test: python3 interface/stores.py FOLDER
+
+The first store of each refusal, and of each outcome with each `twice`; and every hundredth store.
+"""
+
+import pathlib
+import sys
+
+ROOT = pathlib.Path(__file__).resolve().parents[1]
+sys.path.insert(0, str(ROOT / "beside"))
+
+from generate.vectors import read_vectors      # noqa: E402  (found by the line above)
+
+
+def chosen():
+    seen, number = set(), 0
+    for name in "sheets", "full":
+        for store, answer in read_vectors(ROOT / "beside" / "lists" / f"{name}.vectors"):
+            words = answer.split("\n")[0].split()
+            kind = tuple(words[:2]) if words[0] == "refused" else (words[0], words[-1])
+            if number % 100 == 0 or kind not in seen:
+                yield store
+            seen.add(kind)
+            number += 1
+
+
+def main(folder):
+    for number, store in enumerate(chosen()):
+        (folder / f"{number:03}.store").write_bytes(store)
+
+
+if __name__ == "__main__":
+    if len(sys.argv) != 2 or not pathlib.Path(sys.argv[1]).is_dir():
+        sys.exit(__doc__)
+    main(pathlib.Path(sys.argv[1]))
