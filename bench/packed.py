@@ -10,17 +10,8 @@ import sys
 ROOT = pathlib.Path(__file__).resolve().parents[1]
 sys.path.insert(0, str(ROOT / "beside"))
 
-from generate.stores import only, plain             # noqa: E402  (found by the line above)
+from generate.large import chains                   # noqa: E402  (found by the line above)
 from generate.vectors import read_vectors           # noqa: E402
-from reading.record import BRANCH, IF, TRUE, Inst   # noqa: E402
-
-LAST = 31
-
-
-def chains():
-    yield only(*[plain(kind=BRANCH, blocks=[[Inst(7, 0, 1, [])]], targets=[at + 1], passed={at + 1: []}) for at in range(LAST)], plain())
-    yield only(*[plain(kind=IF, values=[TRUE], targets=[at + 1, LAST], passed={at + 1: [], LAST: []}) for at in range(LAST - 1)],
-               plain(kind=BRANCH, targets=[LAST], passed={LAST: []}), plain())
 
 
 def main(paths):

@@ -1,14 +1,17 @@
-// Nests each store of a list that is accepted: the outcome, a digest of the whole state, the bytes of stack below the calls of accept and
-// of nest, by paint; on the board also the instructions of both. On x86-64 the same file gives the same lines without instructions.
+// Takes each store of a list that is accepted through accept, nesting, and the whole from its bytes to its sheet's words. A line for each:
+// the outcome, a digest of the state after nesting and of the sheet, the bytes of stack below the three calls, by paint, and on the board
+// their instructions; on x86-64 the same file gives 0 for these.
 // A list: for each store 3 bytes of length, then its bytes, packed, so that they begin at any address; 0xffffff ends it.
 #include <stdint.h>
 
 // usize has 64 bits in the module, on every machine.
 uint32_t measured_accept(const uint8_t *bytes, uint64_t length, uint16_t *words);
 uint32_t measured_nest(uint16_t *words);
+uint32_t measured_sheet(const uint8_t *bytes, uint64_t length, uint16_t *words, uint32_t *out, uint64_t room);
 
-enum { BLANK = 0xa5a5 };
+enum { BLANK = 0xa5a5, ROOM = 4096 };
 static uint16_t words[WORDS];
+static uint32_t out[ROOM];
 
 #ifdef __arm__
 #include "board.h"
@@ -37,20 +40,23 @@ static void put_number(uint32_t n, char end) {
     put(at);
 }
 
-static uint32_t took, deep;
+static uint32_t took[3], deep[3];
 
 // Paints the stack below, calls, and looks how far the paint is gone.
-#define MEASURED(call)                                                  \
-    do {                                                                \
-        cell *sp, *p;                                                   \
-        __asm__ volatile(SP : "=r"(sp));                                \
-        for (p = stack_foot; p < sp - 32; p++) *(volatile cell *)p = PAINT; \
-        uint32_t began = clock_now();                                   \
-        call;                                                           \
-        took = instructions_since(began);                               \
+#define MEASURED(k, call)                                                        \
+    do {                                                                         \
+        cell *sp, *p;                                                            \
+        __asm__ volatile(SP : "=r"(sp));                                         \
+        for (p = stack_foot; p < sp - 32; p++) *(volatile cell *)p = PAINT;      \
+        uint32_t began = clock_now();                                            \
+        call;                                                                    \
+        took[k] = instructions_since(began);                                     \
         for (p = stack_foot; p < sp && *(volatile cell *)p == (cell)PAINT;) p++; \
-        deep = sizeof(cell) * (sp - p);                                 \
+        deep[k] = sizeof(cell) * (sp - p);                                       \
     } while (0)
+
+static uint32_t digest;
+static void digested(uint32_t n) { digest = (digest ^ n) * 16777619u; }
 
 int main(void) {
 #ifndef __arm__
@@ -58,21 +64,22 @@ int main(void) {
     cell here;
     stack_foot = &here - 8192;
 #endif
-    for (const uint8_t *at = list;;) {
-        uint32_t length = at[0] | at[1] << 8 | at[2] << 16, answer, digest = 2166136261u;
+    for (const uint8_t *at = list, *bytes;;) {
+        uint32_t length = at[0] | at[1] << 8 | at[2] << 16, refused, outcome, sheet;
         if (length == 0xffffff) return 0;
-        for (int i = 0; i < WORDS; i++) words[i] = BLANK;
-        MEASURED(answer = measured_accept(at + 3, length, words));
+        bytes = at + 3;
         at += 3 + length;
-        if (answer != 0) continue;
-        uint32_t accept_took = took, accept_deep = deep;
-        MEASURED(answer = measured_nest(words));
-        for (int i = 0; i < WORDS; i++) digest = (digest ^ words[i]) * 16777619u;
-        put_number(answer, ' ');
+        digest = 2166136261u;
+        for (int i = 0; i < WORDS; i++) words[i] = BLANK;
+        MEASURED(0, refused = measured_accept(bytes, length, words));
+        if (refused) continue;
+        MEASURED(1, outcome = measured_nest(words));
+        for (int i = 0; i < WORDS; i++) digested(words[i]);
+        MEASURED(2, sheet = measured_sheet(bytes, length, words, out, ROOM));
+        for (uint32_t i = 0; i < sheet; i++) digested(out[i]);
+        put_number(outcome, ' ');
         put_number(digest, ' ');
-        put_number(accept_deep, ' ');
-        put_number(deep, ' ');
-        put_number(accept_took, ' ');
-        put_number(took, '\n');
+        for (int k = 0; k < 3; k++) put_number(deep[k], ' ');
+        for (int k = 0; k < 3; k++) put_number(took[k], k < 2 ? ' ' : '\n');
     }
 }
