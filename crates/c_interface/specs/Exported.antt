@@ -11,8 +11,8 @@ use Rattle.accept.specs.Judged.{WordsGiven}
 use Rattle.accept.specs.Accepts.{Accepts}
 use Rattle.nesting.specs.Sheet.{answer-words}
 use Rattle.sheet.specs.Written.{lent}
-use Rattle.nester.specs.declared.Answer.{Answer}
-use Rattle.nester.specs.declared.Answer.the-variants as nester
+use Rattle.nester.specs.declared.SheetAnswer.{SheetAnswer}
+use Rattle.nester.specs.declared.SheetAnswer.the-variants as nester
 use Rattle.nester.specs.Nests.{Nests}
 
 -- A record is 0; a refusal its number times 65,536, and its word.
@@ -30,13 +30,13 @@ pub record AcceptExported (s old new : List ℕ) (a : ℕ) : Type 0 where
   pub if-refused : (n w : ℕ) → accept s ≡ refused n w → (a / 65536 ≡ n) × (a % 65536 ≡ w)
 
 -- ---- A sheet is its number of words; a refusal its number times 4,294,967,296, and its word.
-abbrev pub nested-number : Answer → ℕ
+abbrev pub nested-number : SheetAnswer → ℕ
 nested-number (nester.Sheet n) = n
 nested-number (nester.Refused n w) = n * 4294967296 + w
 
 -- Below 4,294,967,296 exactly if the store nests and its sheet fits: no refusal has number 0.
 pub record NestExported (s old new out out′ : List ℕ) (a : ℕ) : Type 0 where
-  pub answer : Answer
+  pub answer : SheetAnswer
   pub nests : Nests s old new out out′ answer
   pub is : a ≡ nested-number answer
   pub if-sheet : (ws : List ℕ) → answer-words s (lent out) ≡ accepted ws → a ≡ length ws

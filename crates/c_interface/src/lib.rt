@@ -3,7 +3,7 @@ ghost use mathlib.Core.Path.{_≡_};
 ghost use Prim.Native.Nat.{_<_};
 ghost use Rattle.c_interface.specs.Exported.{AcceptExported, NestExported};
 use accept::Accepted;
-use nester::Answer;
+use nester::SheetAnswer;
 use store::WORDS;
 
 fn wide(x: u16) -> u32
@@ -39,7 +39,7 @@ pub extern "C" fn rukvetta_nest(bytes: &[u8], words: &mut [u16; WORDS], out: &mu
 {
     let answer = nester::nest(bytes, words, out);
     match answer {
-        Answer::Sheet(n) => long(n),
-        Answer::Refused(number, word) => long(wide(number)) * 4294967296 + long(wide(word)),
+        SheetAnswer::Sheet(n) => long(n),
+        SheetAnswer::Refused(number, word) => long(wide(number)) * 4294967296 + long(wide(word)),
     }
 }

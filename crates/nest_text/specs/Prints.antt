@@ -13,7 +13,7 @@ use Rattle.text.specs.Whole.{Whole}
 use Rattle.sheet.specs.Written.{lent}
 use Rattle.sheet_text.specs.Answers.{SheetPrinted}
 use Rattle.sheet_text.specs.laws.AnswerPrinted.{sheet-answered, sheet-room, refusal-answered, refusal-room}
-use Rattle.nester.specs.declared.Answer.the-variants as nester
+use Rattle.nester.specs.declared.SheetAnswer.the-variants as nester
 use Rattle.nester.specs.Answers.{Ends, ends-sheet, ends-refused}
 use Rattle.nester.specs.Nests.{Nests}
 

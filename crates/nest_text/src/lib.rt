@@ -1,6 +1,6 @@
 // From a store's bytes to the text that is printed of it: its sheet, or its refusal.
 ghost use Rattle.nest_text.specs.Prints.{Prints};
-use nester::Answer;
+use nester::SheetAnswer;
 use store::WORDS;
 use text::Written;
 
@@ -9,7 +9,7 @@ pub fn print(bytes: &[u8], words: &mut [u16; WORDS], out: &mut [u32], text: &mut
 {
     let answer = nester::nest(bytes, words, out);
     match answer {
-        Answer::Sheet(n) => sheet_text::sheet_text(out, n as usize, text),
-        Answer::Refused(number, word) => text::refusal(number, word, text),
+        SheetAnswer::Sheet(n) => sheet_text::sheet_text(out, n as usize, text),
+        SheetAnswer::Refused(number, word) => text::refusal(number, word, text),
     }
 }

@@ -36,8 +36,8 @@ use Rattle.sheet.specs.declared.whole.Sheet as code-sheet
 use Rattle.sheet.specs.declared.whole.Sheet.the-variants.{Words, TooFew}
 use Rattle.sheet.specs.Written.{ShowsAnswer, OfAnswer, OfSheet, lent, SheetWritten, sheet-written, too-few, WritesSheet}
 use Rattle.sheet.specs.Written as written
-use Rattle.nester.specs.declared.Answer.{Answer}
-use Rattle.nester.specs.declared.Answer.the-variants.{Sheet, Refused}
+use Rattle.nester.specs.declared.SheetAnswer.{SheetAnswer}
+use Rattle.nester.specs.declared.SheetAnswer.the-variants.{Sheet, Refused}
 
 -- ---- The sheet's words for a record, or the refusal, where so many words are lent.
 abbrev pub words-if-fit : ℕ → sheet.Sheet → format.Answer (List ℕ)
@@ -50,19 +50,19 @@ unfoldable pub record-words : Graph → ℕ → format.Answer (List ℕ)
 record-words g lent = if-accepted (structurize-func g) λ x. words-if-figured lent (sheet-of g x)
 
 -- What is answered, and what the lent words then hold: the sheet and then as lent, all as lent on a refusal.
-pub data Ends (b : format.Answer (List ℕ)) (out out′ : List ℕ) : Answer → Type 0 where
+pub data Ends (b : format.Answer (List ℕ)) (out out′ : List ℕ) : SheetAnswer → Type 0 where
   ends-sheet : {ws : List ℕ} {n : ℕ} → b ≡ accepted ws → n ≡ length ws → out′ ≡ ws ++ drop (length ws) out → Ends b out out′ (Sheet n)
   ends-refused : {n x : ℕ} → b ≡ refused n x → out′ ≡ out → Ends b out out′ (Refused n x)
 
-abbrev pub WritesAnswer : List ℕ → ℕ → ℕ → List ℕ → List ℕ → Answer → Type 0
+abbrev pub WritesAnswer : List ℕ → ℕ → ℕ → List ℕ → List ℕ → SheetAnswer → Type 0
 WritesAnswer w outcome figure out out′ a = OfSheet w outcome figure (λ g x. Ends (words-if-fit (lent out) (sheet-of g x)) out out′ a)
 
 -- Of a whole or closed form.
-abbrev pub FormsAnswer : List ℕ → ℕ → List ℕ → List ℕ → Answer → Type 0
+abbrev pub FormsAnswer : List ℕ → ℕ → List ℕ → List ℕ → SheetAnswer → Type 0
 FormsAnswer w outcome out out′ a =
     OfAnswer w outcome (λ g s x. 1 ≤ outcome → outcome ≤ 2 → Ends (words-if-figured (lent out) (sheet-of g x)) out out′ a)
 
-pub record NestsRecord (g : Graph) (w w′ out out′ : List ℕ) (a : Answer) : Type 0 where
+pub record NestsRecord (g : Graph) (w w′ out out′ : List ℕ) (a : SheetAnswer) : Type 0 where
   pub ends : Ends (record-words g (lent out)) out out′ a
   pub front : SameFront w w′
 
@@ -133,7 +133,7 @@ module _ (w : List ℕ) (outcome : ℕ) {entry list cost : ℕ} (is-entry : OfRe
       let is = cost-is g s c x shown a b in
       ends-refused (figure-out (sheet-of g x) (omega arith) (lent out)) refl
 
-  pub within-figure : {out out′ : List ℕ} {a : Answer} → (cost ≡ 4294967296 → ⊥)
+  pub within-figure : {out out′ : List ℕ} {a : SheetAnswer} → (cost ≡ 4294967296 → ⊥)
       → WritesAnswer w outcome cost out out′ a → FormsAnswer w outcome out out′ a
   within-figure {out} d p g s c x shown a b =
       let is = cost-is g s c x shown a b in
@@ -218,7 +218,7 @@ module _ {g : Graph} (valid : Valid g) {before w : List ℕ} where
   front-of (shows-nested front st chains kind body b a) = front
   front-of (shows-refused front b) = front
 
-  module _ {a : code.Nested} (shown : ShowsNested g before w (structurize-func g) a) {out out′ : List ℕ} {b : Answer} where
+  module _ {a : code.Nested} (shown : ShowsNested g before w (structurize-func g) a) {out out′ : List ℕ} {b : SheetAnswer} where
     pub nested-unfigured : {n : ℕ} → number-of a ≡ n → n ≤ 3 → (1 ≤ n → n ≤ 2 → ⊥) → WritesAnswer w n 0 out out′ b
         → NestsRecord g before w out out′ b
     nested-unfigured e few d p =

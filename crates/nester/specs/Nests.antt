@@ -24,14 +24,14 @@ use Rattle.shown.specs.Front.{SameFront, front-same, stands-on}
 use Rattle.state.specs.Sections.{used}
 use Rattle.cfg.specs.Claims.{Stood}
 use Rattle.sheet.specs.Written.{lent}
-use Rattle.nester.specs.declared.Answer.{Answer}
-use Rattle.nester.specs.declared.Answer.the-variants.{Sheet as Sheeted, Refused}
+use Rattle.nester.specs.declared.SheetAnswer.{SheetAnswer}
+use Rattle.nester.specs.declared.SheetAnswer.the-variants.{Sheet as Sheeted, Refused}
 use Rattle.nester.specs.Answers.{Ends, ends-refused, record-words, words-if-figured, words-if-fit, NestsRecord}
 
 -- `out` are the lent words, `w` the words of the state. The answer is the definition's: how many words its sheet has, or its refusal; the
 -- lent words then begin with the sheet, or are as lent. The state's words are those that accepting the store leaves, but for what stands
 -- behind the record and its index. What was accepted is sound.
-pub record Nests (store w w′ out out′ : List ℕ) (a : Answer) : Type 0 where
+pub record Nests (store w w′ out out′ : List ℕ) (a : SheetAnswer) : Type 0 where
   pub ends : Ends (answer-words store (lent out)) out out′ a
   pub loaded : List ℕ
   pub verdict : Accepted
@@ -97,7 +97,7 @@ module _ {store w loaded : List ℕ} {v : Accepted} (accepts : Accepts store w l
       let size = accepts .size in
       record { graph = x .graph; stands = x .stands; room = omega arith }
 
-  pub nest-accepted : {w′ out out′ : List ℕ} {a : Answer} → v ≡ Record
+  pub nest-accepted : {w′ out out′ : List ℕ} {a : SheetAnswer} → v ≡ Record
       → OfRecord loaded (λ g. Valid g → NestsRecord g loaded w′ out out′ a) → Nests store w w′ out out′ a
   nest-accepted {out = out} e p =
       let x = accepting e in

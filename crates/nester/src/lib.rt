@@ -20,34 +20,34 @@ use store::WORDS;
 use store::span;
 
 // How many words the sheet has, or a refusal's number and its word.
-pub enum Answer {
+pub enum SheetAnswer {
     Sheet(u32),
     Refused(u16, u16),
 }
 
 // Refusal 10: the lent words are too few.
-fn written(w: &[u16; WORDS], out: &mut [u32], outcome: u16, figure: u32) -> Answer
+fn written(w: &[u16; WORDS], out: &mut [u32], outcome: u16, figure: u32) -> SheetAnswer
     ensures { λ a. ⌜ answers.WritesAnswer (now (w .entry)) outcome figure (now (out .entry)) (now (out .exit)) a ⌝ }
 {
     match write_sheet(w, out, outcome, figure) {
-        Sheet::Words(n) => Answer::Sheet(n),
-        Sheet::TooFew => Answer::Refused(10, 0),
+        Sheet::Words(n) => SheetAnswer::Sheet(n),
+        Sheet::TooFew => SheetAnswer::Refused(10, 0),
     }
 }
 
 // A whole or closed form. Refusal 11: its figure exceeds 4,294,967,295.
-fn formed(w: &[u16; WORDS], out: &mut [u32], outcome: u16) -> Answer
+fn formed(w: &[u16; WORDS], out: &mut [u32], outcome: u16) -> SheetAnswer
     ensures { λ a. ⌜ answers.FormsAnswer (now (w .entry)) outcome (now (out .entry)) (now (out .exit)) a ⌝ }
 {
     let cost = figure(w, children(w, fields::entry(w)));
     if cost == BEYOND {
-        return Answer::Refused(11, 0);
+        return SheetAnswer::Refused(11, 0);
     }
     written(w, out, outcome, cost as u32)
 }
 
 // From an accepted record that stands in the words.
-fn nest_record(w: &mut [u16; WORDS], out: &mut [u32]) -> Answer
+fn nest_record(w: &mut [u16; WORDS], out: &mut [u32]) -> SheetAnswer
     requires { ⌜ Stood (now w) ⌝ }
     ensures { λ a. ⌜ OfRecord (now (w .entry)) (λ g. Valid g
         → answers.NestsRecord g (now (w .entry)) (now (w .exit)) (now (out .entry)) (now (out .exit)) a) ⌝ }
@@ -57,16 +57,16 @@ fn nest_record(w: &mut [u16; WORDS], out: &mut [u32]) -> Answer
         Nested::Whole => formed(w, out, WHOLE),
         Nested::Closed => formed(w, out, CLOSED),
         Nested::Leftover => written(w, out, LEFTOVER, 0),
-        Nested::Refused(number, word) => Answer::Refused(number, word),
+        Nested::Refused(number, word) => SheetAnswer::Refused(number, word),
     }
 }
 
-pub fn nest(bytes: &[u8], w: &mut [u16; WORDS], out: &mut [u32]) -> Answer
+pub fn nest(bytes: &[u8], w: &mut [u16; WORDS], out: &mut [u32]) -> SheetAnswer
     ensures { λ a. ⌜ Nests (now (bytes .entry)) (now (w .entry)) (now (w .exit)) (now (out .entry)) (now (out .exit)) a ⌝ }
 {
     span(w);
     match accept::accept(bytes, w) {
         Accepted::Record => nest_record(w, out),
-        Accepted::Refused(number, word) => Answer::Refused(number, word),
+        Accepted::Refused(number, word) => SheetAnswer::Refused(number, word),
     }
 }

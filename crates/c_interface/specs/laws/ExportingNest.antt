@@ -7,8 +7,8 @@ use lib.ListN.{length}
 use Rattle.format.specs.Store as format
 use Rattle.format.specs.Store.{accepted, refused}
 use Rattle.meaning.specs.facts.Tests.{clash}
-use Rattle.nester.specs.declared.Answer.{Answer}
-use Rattle.nester.specs.declared.Answer.the-variants.{Sheet, Refused}
+use Rattle.nester.specs.declared.SheetAnswer.{SheetAnswer}
+use Rattle.nester.specs.declared.SheetAnswer.the-variants.{Sheet, Refused}
 use Rattle.nester.specs.Answers.{Ends, ends-sheet, ends-refused}
 use Rattle.nester.specs.Nests.{Nests}
 use Rattle.c_interface.specs.Exported.{NestExported}
