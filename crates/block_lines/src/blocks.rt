@@ -12,7 +12,6 @@ ghost use Rattle.writing.specs.Parts.{OfState};
 ghost use Rattle.writing.specs.Puts.{Puts};
 ghost use Rattle.block_lines.specs.BlockParts.{item-part};
 ghost use Rattle.block_lines.specs.Sums as sums;
-use child_numbers::blocks_before;
 use state::values::value_word;
 use store::WORDS;
 use writing::place::Place;
@@ -100,7 +99,7 @@ pub fn put_blocks(w: &[u16; WORDS], out: &mut [u32], at: Place, r: u16) -> Place
     ensures { λ a. ⌜ OfState (now (w .entry)) (λ g s. Puts (now (out .entry)) at (parts.«nodes-part» s (blocks-of g r))
         (now (out .exit)) a) ⌝ }
 {
-    let first = blocks_before(w, r);
+    let first = fields::blocks_before(w, r);
     let n = fields::block_count(w, r);
     let mut front = at;
     let mut b = n;

@@ -66,7 +66,7 @@ module _ (g : Graph) (w : List ℕ) (p r j : ℕ) where
   unfolding edge-deferred
   edge-deferred-beside q d = bundle-beside w p (edge-of g r j .target ∷ 1 ∷ 1 ∷ padded (edge-of g r j .inputs)) refl q d
 
-  pub edge-deferred-word : (k : Section) → (number k ≡ 15 → ⊥) → (q : ℕ) → word (edge-deferred g w p r j) k q ≡ word w k q
+  pub edge-deferred-word : (k : Section) → (number k ≡ 14 → ⊥) → (q : ℕ) → word (edge-deferred g w p r j) k q ≡ word w k q
   unfolding edge-deferred
   edge-deferred-word k d q = run-elsewhere-word w bundles (7 * p) _ k d q
 

@@ -157,7 +157,7 @@ pub record OfBody (k : Section) : Type 0 where
   pub not-starts : 4 ≡ number k → ⊥
   pub not-lengths : 5 ≡ number k → ⊥
   pub not-children : 6 ≡ number k → ⊥
-  pub not-bundles : 15 ≡ number k → ⊥
+  pub not-bundles : 14 ≡ number k → ⊥
 
 -- Only region r's state changes.
 pub record Beside (g : Graph) (r : ℕ) (w w′ : List ℕ) : Type 0 where

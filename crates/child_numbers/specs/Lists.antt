@@ -20,7 +20,8 @@ use Rattle.writing.specs.declared.place.Place.{Place}
 use Rattle.writing.specs.Puts.{Puts, puts-then}
 use Rattle.writing.specs.Parts.{most}
 use Rattle.child_numbers.specs.declared.Counted.{Counted}
-use Rattle.child_numbers.specs.Numbers.{PutsNumbers, BlocksBefore, numbers-none, numbers-then, numbers-as}
+use Rattle.fields.specs.ByNumber.{BlocksBefore}
+use Rattle.child_numbers.specs.Numbers.{PutsNumbers, numbers-none, numbers-then, numbers-as}
 
 abbrev pub PutsBlocks : List ℕ → ℕ → List ℕ → Counted → List ℕ → Counted → Type 0
 PutsBlocks w r out x out′ x′ = OfRecord w (λ g. PutsNumbers out x (kids (blocks-of g r)) out′ x′)

@@ -1,16 +1,12 @@
--- Numbers put from the back and counted, and how many blocks stand before a region.
-use mathlib.Core.Path.{_≡_, refl, sym, ap, _∙_}
+-- Numbers put from the back and counted.
+use mathlib.Core.Path.{_≡_, sym, _∙_}
 use mathlib.Core.List.{List, [], _∷_, _++_}
-use Prim.Native.Nat.{ℕ, zero, suc, _+_, _*_, _≤_, _<_}
+use Prim.Native.Nat.{ℕ, _+_, _≤_, _<_}
 use native.Mathlib.Omega.{arith}
 use native.Mathlib.Decide.{decLt}
-use native.Mathlib.Numerals.{add-one}
-use lib.ListN.{length, getD, take, length-append}
+use lib.ListN.{length, length-append}
 use borrow.Author.Tests.{le-leb, lt-leb}
-use Rattle.meaning.specs.Lists.{total}
-use Rattle.meaning.specs.Graph.{Graph, Region, region, nowhere}
-use Rattle.record.specs.Stands.{OfRecord}
-use Rattle.nesting.specs.Nesting.{plain, block-count}
+use Rattle.nesting.specs.Nesting.{plain}
 use Rattle.writing.specs.Puts.{Puts, puts-then, puts-none}
 use Rattle.writing.specs.Parts.{most}
 use Rattle.child_numbers.specs.declared.Counted.{Counted}
@@ -19,11 +15,6 @@ use Rattle.child_numbers.specs.declared.Counted.{Counted}
 pub record PutsNumbers (out : List ℕ) (x : Counted) (ns : List ℕ) (out′ : List ℕ) (x′ : Counted) : Type 0 where
   pub puts : Puts out (x .at) (plain ns) out′ (x′ .at)
   pub count : x′ .count ≡ most (x .count + length ns)
-
--- How many blocks the regions before r have; each has no more than a word can say.
-pub record BlocksBefore (w : List ℕ) (r a : ℕ) : Type 0 where
-  pub is : OfRecord w (λ g. a ≡ block-count (take r (g .regions)))
-  pub within : a ≤ 65535 * r
 
 -- ---- Held at the largest word.
 pub most-whole : (n : ℕ) → n ≤ 4294967295 → n ≡ most n
@@ -64,24 +55,3 @@ numbers-then {x = x} {ns = ns} {ms} p q =
 pub numbers-as : {out out′ : List ℕ} {x x′ : Counted} {ns ms : List ℕ} → PutsNumbers out x ns out′ x′ → ns ≡ ms
     → PutsNumbers out x ms out′ x′
 numbers-as p e = rw e at p
-
--- ---- The blocks of one region more. One that is not there has none.
-total-next : {A : Type 0} (f : A → ℕ) (d : A) (xs : List A) (r : ℕ) → f d ≡ 0
-    → total f (take (suc r) xs) ≡ total f (take r xs) + f (getD xs r d)
-total-next f d [] zero e = omega arith
-total-next f d [] (suc r) e = omega arith
-total-next f d (x ∷ xs) zero e = omega arith
-total-next f d (x ∷ xs) (suc r) e = let z = total-next f d xs r e in omega arith
-
-pub none-before : (w : List ℕ) → BlocksBefore w 0 0
-none-before w = record { is = λ g s. refl; within = omega arith }
-
-pub blocks-more : {w : List ℕ} {r a n : ℕ} → BlocksBefore w r a → OfRecord w (λ g. n ≡ length (region g r .blocks)) → n ≤ 65535
-    → BlocksBefore w (r + 1) (a + n)
-blocks-more {r = r} b e h =
-    let within = b .within in
-    record {
-      is = λ g s. rw (add-one r) (rw (b .is g s, e g s)
-          (sym (total-next (λ (z : Region). length (z .blocks)) nowhere (g .regions) r refl)));
-      within = omega arith;
-    }

@@ -38,23 +38,10 @@ pub fn put_number(out: &mut [u32], x: Counted, node: u32) -> Counted
     Counted { at, count }
 }
 
-// How many blocks stand before region r: the number of its first block's node.
-pub fn blocks_before(w: &[u16; WORDS], r: u16) -> u32
-    ensures { λ a. ⌜ numbers.BlocksBefore (now (w .entry)) r a ⌝ }
-{
-    let mut sum: u32 = 0;
-    let mut i: u16 = 0;
-    while i < r {
-        sum += fields::block_count(w, i) as u32;
-        i += 1;
-    }
-    sum
-}
-
 fn put_block_numbers(w: &[u16; WORDS], out: &mut [u32], x: Counted, r: u16) -> Counted
     ensures { λ a. ⌜ lists.PutsBlocks (now (w .entry)) r (now (out .entry)) x (now (out .exit)) a ⌝ }
 {
-    let first = blocks_before(w, r);
+    let first = fields::blocks_before(w, r);
     let mut y = x;
     let mut b = fields::block_count(w, r);
     while 0 < b {

@@ -20,8 +20,7 @@ use Rattle.shown.specs.Sets.{ShowsTarget, shows-region, shows-return, ShowsBund
 use Rattle.shown.specs.States.{ShowsOwnSet}
 use Rattle.bundles.specs.Words.{condition-in}
 use Rattle.writing.specs.Puts.{Part, _⊕_}
-use Rattle.writing.specs.Rows.{run, run-list}
-use Rattle.writing.specs.Parts.{each, look-up-at-end, values-part, defer-part}
+use Rattle.writing.specs.Parts.{look-up-at-end, values-part, defer-part}
 
 -- ---- The line.
 target-words : {g : Graph} {t : ℕ} {x : DeferredTarget} → ShowsTarget g t x → sheet.target x .words ≡ t ∷ []
@@ -71,6 +70,3 @@ module _ {g : Graph} {w : List ℕ} (r : ℕ) {d : DeferredEdgeBundleSet} (set :
       let room = set .room in
       let there : p ≡ word w set-starts r + i = is ∙ rw (lt-ltb start 1097 (omega arith), lt-ltb i 33 (omega arith), of-start) in
       rw there (set .each i (omega arith))
-
-  pub set-is : (s : NestState) → run (defer-at s r d) 0 n ≡ each (defer-part s r d) d
-  set-is s = run-list (defer-at s r d) (defer-part s r d) no-bundle n d (of-length ∙ set .size) (λ i h. refl)

@@ -1,18 +1,29 @@
 -- What numbers name in a graph: a block, an instruction, an edge; and whether an item of a list stands earlier in it too.
+use mathlib.Core.Path.{_≡_}
 use mathlib.Core.Bool.{Bool, _&&_}
 use mathlib.Core.List.{List, [], _∷_}
-use Prim.Native.Nat.{ℕ, zero, suc}
-use lib.ListN.{length, getD}
+use Prim.Native.Nat.{ℕ, zero, suc, _*_, _≤_}
+use lib.ListN.{length, getD, take}
 use lib.Dec.{ltb}
 use Rattle.meaning.specs.Graph.{Graph, Value, Instr, Edge, region, edges-of, no-edge}
-use Rattle.meaning.specs.Lists.{is-in}
+use Rattle.meaning.specs.Lists.{is-in, total}
 use Rattle.format.specs.References.{no-instr, values-of}
+use Rattle.record.specs.Stands.{OfRecord}
 
 abbrev pub block-of : Graph → ℕ → ℕ → List Instr
 block-of g r b = getD (region g r .blocks) b []
 
 abbrev pub instr-of : Graph → ℕ → ℕ → ℕ → Instr
 instr-of g r b i = getD (block-of g r b) i no-instr
+
+-- The blocks of the regions before r.
+abbrev pub blocks-before : Graph → ℕ → ℕ
+blocks-before g r = total (λ z. length (z .blocks)) (take r (g .regions))
+
+-- How many they are; each region has no more than a word can say.
+pub record BlocksBefore (w : List ℕ) (r a : ℕ) : Type 0 where
+  pub is : OfRecord w (λ g. a ≡ blocks-before g r)
+  pub within : a ≤ 65535 * r
 
 -- The values that the terminator of region r has.
 abbrev pub end-values : Graph → ℕ → List Value

@@ -1,6 +1,7 @@
 pub mod Numbered
 pub mod Lists
 pub mod Regions
+pub mod BlocksBefore
 pub mod Instructions
 pub mod Terminators
 pub mod Repeats

@@ -6,7 +6,7 @@ ghost use Rattle.meaning.specs.Graph.{no-value, region, edges-of, targets-of};
 ghost use Rattle.format.specs.References.{instructions, instr-type};
 ghost use Rattle.record.specs.Stands.{OfRecord};
 ghost use Rattle.fields.specs.Shape.{value-is, instruction-is, terminator-is};
-ghost use Rattle.fields.specs.ByNumber.{block-of, instr-of, end-values, edge-of, stands-before};
+ghost use Rattle.fields.specs.ByNumber.{BlocksBefore, block-of, instr-of, end-values, edge-of, stands-before};
 
 mod places;
 pub mod shape;
@@ -78,6 +78,19 @@ pub fn block_count(w: &[u16; WORDS], r: u16) -> u16
     ensures { λ a. ⌜ OfRecord (now (w .entry)) (λ g. a ≡ length (region g r .blocks)) ⌝ }
 {
     word_at(w, blocks_place(w, r) as usize)
+}
+
+// How many blocks stand before region r: the number of its first block's node.
+pub fn blocks_before(w: &[u16; WORDS], r: u16) -> u32
+    ensures { λ a. ⌜ BlocksBefore (now (w .entry)) r a ⌝ }
+{
+    let mut sum: u32 = 0;
+    let mut i: u16 = 0;
+    while i < r {
+        sum += block_count(w, i) as u32;
+        i += 1;
+    }
+    sum
 }
 
 pub fn block_length(w: &[u16; WORDS], r: u16, b: u16) -> u16

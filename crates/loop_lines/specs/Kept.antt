@@ -7,17 +7,17 @@ use native.Mathlib.Omega.{arith}
 use lib.ListN.{length, getD, length-map}
 use borrow.Author.Tests.{lt-ltb}
 use Rattle.meaning.specs.Graph.{Value, Graph, region}
-use Rattle.meaning.specs.Lists.{pick, concat}
+use Rattle.meaning.specs.Lists.{pick}
 use Rattle.nesting.specs.Nesting.{NestState, plain, LoopInputs}
 use Rattle.state.specs.Sections.{section, cells}
 use Rattle.state.specs.Tables.{earlier}
 use Rattle.state.specs.Values.{region-word}
 use Rattle.shown.specs.Values.{value, value-input}
 use Rattle.shown.specs.Cells.{ShowsKept, none-kept, one-kept}
-use Rattle.children.specs.CellByCell.{cell-word, list-at, earlier-below}
+use Rattle.children.specs.CellByCell.{cell-word, list-at}
 use Rattle.writing.specs.declared.place.Place.{Place}
 use Rattle.writing.specs.Puts.{Part, _⊕_, Puts, puts-then, puts-none}
-use Rattle.writing.specs.PartLaws.{each-plain, values-counted}
+use Rattle.writing.specs.PartLaws.{numbers-listed, values-counted}
 use Rattle.writing.specs.Parts.{each, value-part, values-part}
 
 -- The inputs that the loop of header r keeps, by the list's handle.
@@ -78,9 +78,6 @@ pub record BehindPut (w : List ℕ) (f : ℕ → Part) (hs : List ℕ) (h n : �
 abbrev pub CellsPut : List ℕ → (ℕ → Part) → ℕ → ℕ → ℕ → List ℕ → Place → List ℕ → Place → Type 0
 CellsPut w f list h n out₀ at₀ out at = (hs : List ℕ) → Chain w list hs → BehindPut w f hs h n out₀ at₀ out at
 
-pub before-falls : {q h : ℕ} (x : ℕ) → q ≡ earlier x h → 0 < h → q < h
-before-falls {q} {h} x e some = rw e (earlier-below x h some)
-
 module _ (w : List ℕ) (f : ℕ → Part) (list : ℕ) where
   pub cells-start : (out : List ℕ) (at : Place) → CellsPut w f list list 0 out at out at
   cells-start out at hs c =
@@ -120,10 +117,6 @@ each-map : {A B : Type 0} (f : B → Part) (g : A → B) (xs : List A) → each 
 each-map f g [] = refl
 each-map f g (x ∷ xs) = ap (λ z. f (g x) ⊕ z) (each-map f g xs)
 
-alone : {A : Type 0} (f : A → ℕ) (xs : List A) → concat (map (λ x. f x ∷ []) xs) ≡ map f xs
-alone f [] = refl
-alone f (x ∷ xs) = rw (alone f xs)
-
 values-of : (s : NestState) (f : ℕ → Value) (hs : List ℕ) {vs : List Value} → vs ≡ map f hs
     → plain (length hs ∷ []) ⊕ each (λ h. value-part s (f h)) hs ≡ values-part s vs
 values-of s f hs e =
@@ -131,7 +124,9 @@ values-of s f hs e =
 
 types-of : (f : ℕ → ℕ) (hs : List ℕ) {ts : List ℕ} → ts ≡ map f hs
     → plain (length hs ∷ []) ⊕ each (λ h. plain (f h ∷ [])) hs ≡ plain (length ts ∷ ts)
-types-of f hs e = ap (λ z. plain (length hs ∷ []) ⊕ z) (each-plain (λ h. f h ∷ []) hs) ∙ rw (e, length-map hs f, alone f hs)
+types-of f hs e =
+    ap (λ z. plain (length hs ∷ []) ⊕ z) (sym (each-map (λ n. plain (n ∷ [])) f hs))
+    ∙ rw (e, ← length-map hs f) (numbers-listed (map f hs))
 
 module _ {g : Graph} (w : List ℕ) {r list : ℕ} (y : LoopInputs) (keeps : Keeps g w r list y) where
   abbrev pub handles : List ℕ

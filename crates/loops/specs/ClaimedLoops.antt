@@ -397,7 +397,7 @@ module _ {g : Graph} {w : List ℕ} {s : NestState} {r p i : ℕ} {ks : Nodes} {
           claim-body-keeps still-steady (λ m n. Unit) tt still-log g r inputs ks d (some e) s in
           (rw gives-done at kept) .post .states
 
-      own-word : (k : Section) → (15 ≡ number k → ⊥) → (1 ≡ number k → ⊥) → word (exits-added g r l₄) k r ≡ word l₄ k r
+      own-word : (k : Section) → (14 ≡ number k → ⊥) → (1 ≡ number k → ⊥) → word (exits-added g r l₄) k r ≡ word l₄ k r
       own-word k b h = ap (λ l. getD l r 0) (exits₄ .changes .others k (λ z. b (sym z)) (λ z. h (sym z)))
 
       state₅ : ShowsState g (exits-added g r l₄) (loop₃ .state)

@@ -37,7 +37,7 @@ use Rattle.shown.specs.RegionSteps.{named-by}
 -- ---- What rewriting leaves: all but the note, the cases' inputs and the bundles' inputs.
 pub record Stays (w w′ : List ℕ) : Type 0 where
   pub words : length w′ ≡ length w
-  pub others : (j : Section) → (number j ≡ 10 → ⊥) → (number j ≡ 15 → ⊥) → (number j ≡ 1 → ⊥) → section w′ j ≡ section w j
+  pub others : (j : Section) → (number j ≡ 9 → ⊥) → (number j ≡ 14 → ⊥) → (number j ≡ 1 → ⊥) → section w′ j ≡ section w j
   pub totals : (q : ℕ) → (q ≡ 6 → ⊥) → word w′ head q ≡ word w head q
   pub case-fields : (j i : ℕ) → i < 6 → word w′ cases (10 * j + i) ≡ word w cases (10 * j + i)
   pub bundle-fields : (p i : ℕ) → i < 3 → word w′ bundles (7 * p + i) ≡ word w bundles (7 * p + i)
@@ -592,7 +592,7 @@ module _ (g : Graph) (valid : Valid g) (w : List ℕ) (r : ℕ) (s : NestState) 
         later : Later g w (rewrite-cases g w)
         later = stays-later g (whole .stays)
 
-        same : (k : Section) → (number k ≡ 10 → ⊥) → (number k ≡ 15 → ⊥) → (number k ≡ 1 → ⊥)
+        same : (k : Section) → (number k ≡ 9 → ⊥) → (number k ≡ 14 → ⊥) → (number k ≡ 1 → ⊥)
             → word (rewrite-cases g w) k q ≡ word w k q
         same k a b c = ap (λ z. getD z q 0) (whole .stays .others k a b c)
 
@@ -661,7 +661,7 @@ module _ (g : Graph) (valid : Valid g) (w : List ℕ) (r : ℕ) (s : NestState) 
         → ((j : ℕ) → j < length cs → word w cases (10 * j + 0) ≡ 2 → q ≡ word w cases (10 * j + 1) → ⊥)
         → KeptRegion w (rewrite-cases g w) q
     rewrite-keeps below q h d f =
-        let same : (k : Section) → (number k ≡ 10 → ⊥) → (number k ≡ 15 → ⊥) → (number k ≡ 1 → ⊥) → (i : ℕ)
+        let same : (k : Section) → (number k ≡ 9 → ⊥) → (number k ≡ 14 → ⊥) → (number k ≡ 1 → ⊥) → (i : ℕ)
         → word (rewrite-cases g w) k i ≡ word w k i = λ k a b c i. ap (λ z. getD z i 0) (whole .stays .others k a b c) in
         record {
           set-start = same set-starts (omega arith) (omega arith) (omega arith) q;

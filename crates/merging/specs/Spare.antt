@@ -38,7 +38,7 @@ case-stays later r j starts f same (shows-others {d} kind start) =
 -- ---- From w to w′ only the spare slot's bundles and length change; it starts at bundle o.
 pub record SpareOnly (o : ℕ) (w w′ : List ℕ) : Type 0 where
   pub words : length w′ ≡ length w
-  pub others : (k : Section) → (number k ≡ 5 → ⊥) → (number k ≡ 15 → ⊥) → section w′ k ≡ section w k
+  pub others : (k : Section) → (number k ≡ 5 → ⊥) → (number k ≡ 14 → ⊥) → section w′ k ≡ section w k
   pub lengths : (q : ℕ) → (q ≡ 32 → ⊥) → word w′ set-lengths q ≡ word w set-lengths q
   pub before : (x : ℕ) → x < 7 * o → word w′ bundles x ≡ word w bundles x
   pub behind : (x : ℕ) → 7 * o + 231 ≤ x → word w′ bundles x ≡ word w bundles x
@@ -88,7 +88,7 @@ spare-three o w i a b c h k =
 
 -- ---- What stays shown.
 module _ {o : ℕ} {w w′ : List ℕ} (y : SpareOnly o w w′) where
-  pub spare-there : (k : Section) → (number k ≡ 5 → ⊥) → (number k ≡ 15 → ⊥) → (i : ℕ) → word w′ k i ≡ word w k i
+  pub spare-there : (k : Section) → (number k ≡ 5 → ⊥) → (number k ≡ 14 → ⊥) → (i : ℕ) → word w′ k i ≡ word w k i
   spare-there k a b i = ap (λ z. getD z i 0) (y .others k a b)
 
   pub spare-total : case-total w′ ≡ case-total w

@@ -1,7 +1,9 @@
 // Reads a store from standard input and prints its sheet, or its refusal. It lends 16,384 words.
-use libc::STDIN_FILENO;
-use printing::print;
 use store::WORDS;
+use streams::Input;
+use streams::print;
+use streams::read_input;
+use streams::tell;
 
 // One byte more than a store may have is enough to be refused. Sixteen bytes for each lent word are room for every sheet.
 fn main() {
@@ -9,7 +11,11 @@ fn main() {
     let mut words = [0u16; WORDS];
     let mut out = [0u32; 16384];
     let mut text = [0u8; 262144];
-    let n = io::read_full(STDIN_FILENO, &mut bytes);
+    let input = read_input(&mut bytes);
+    let Input::Bytes(n) = input else {
+        tell(b"nest: standard input cannot be read\n");
+        return;
+    };
     let written = nest_text::print(&bytes[..n], &mut words, &mut out, &mut text);
-    print(written, &text);
+    print(written, &text, b"nest: standard output cannot be written\n");
 }

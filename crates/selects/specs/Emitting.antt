@@ -21,7 +21,7 @@ use Rattle.selects.specs.StepsShown.{SelectStep, cases-stay}
 -- Of the bundles those from a on, before b.
 pub record Emitting (g : Graph) (a b : ℕ) (w w′ : List ℕ) : Type 0 where
   pub words : length w′ ≡ length w
-  pub others : (j : Section) → (number j ≡ 12 → ⊥) → (number j ≡ 13 → ⊥) → (number j ≡ 15 → ⊥) → (number j ≡ 1 → ⊥)
+  pub others : (j : Section) → (number j ≡ 11 → ⊥) → (number j ≡ 12 → ⊥) → (number j ≡ 14 → ⊥) → (number j ≡ 1 → ⊥)
       → section w′ j ≡ section w j
   pub totals : (q : ℕ) → (q ≡ 2 → ⊥) → (q ≡ 3 → ⊥) → word w′ head q ≡ word w head q
   pub later : Later g w w′
@@ -99,7 +99,7 @@ pub record Spared (g : Graph) (r base : ℕ) (cs : List MaybeClaimedRegion) (w :
 
 module _ {g : Graph} {r base : ℕ} {cs : List MaybeClaimedRegion} {a b : ℕ} {w w′ : List ℕ} (here : Spared g r base cs w)
     (x : Emitting g a b w w′) (from : base ≤ a) (to : b ≤ base + 33) where
-  same : (k : Section) → 2 ≤ number k → number k ≤ 11 → (q : ℕ) → word w′ k q ≡ word w k q
+  same : (k : Section) → 2 ≤ number k → number k ≤ 10 → (q : ℕ) → word w′ k q ≡ word w k q
   same k h i q = ap (λ l. getD l q 0) (x .others k (omega arith) (omega arith) (omega arith) (omega arith))
 
   pub emitting-step : SelectStep g r w w′

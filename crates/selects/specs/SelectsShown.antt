@@ -99,7 +99,7 @@ pub record SelectPlaced (g : Graph) (r : ℕ) (w w′ : List ℕ) (h node shape 
   pub tables : SameTables w w′
   pub step : SelectStep g r w w′
   pub total : word w′ head 4 ≡ word w head 4 + (many + 1)
-  pub same : (k : Section) → (number k ≡ 1 → ⊥) → (number k ≡ 6 → ⊥) → (number k ≡ 14 → ⊥) → section w′ k ≡ section w k
+  pub same : (k : Section) → (number k ≡ 1 → ⊥) → (number k ≡ 6 → ⊥) → (number k ≡ 13 → ⊥) → section w′ k ≡ section w k
 
 module _ (g : Graph) (cs : List MaybeClaimedRegion) (r : ℕ) (below : r < 32) where
   placed : {node shape x h : ℕ} {w w′ : List ℕ} {parent : Nodes} {kind : SelectionKind} {v : graph.Value}
@@ -165,7 +165,7 @@ pub record SelectDone (g : Graph) (r : ℕ) (cs : List MaybeClaimedRegion) (pare
   pub node : word w′ cells (6 * h + 2) ≡ n .node
   pub shape : ShowsShape (word w′ cells (6 * h + 3)) (length cs) (n .kind)
   pub scrutinee : value (word w′ cells (6 * h + 4)) ≡ n .scrutinee
-  pub same : (k : Section) → (number k ≡ 1 → ⊥) → (number k ≡ 6 → ⊥) → (number k ≡ 10 → ⊥) → (number k ≡ 12 → ⊥) → (number k ≡ 14 → ⊥)
+  pub same : (k : Section) → (number k ≡ 1 → ⊥) → (number k ≡ 6 → ⊥) → (number k ≡ 9 → ⊥) → (number k ≡ 11 → ⊥) → (number k ≡ 13 → ⊥)
       → section w′ k ≡ section w k
   pub total : word w′ head 4 ≡ word w head 4 + (length cs + 1)
 
@@ -212,7 +212,7 @@ module _ {g : Graph} {r : ℕ} {cs : List MaybeClaimedRegion} {parent : Nodes} {
 
   -- All is defined but the select's cells.
   finished : {l w′ : List ℕ} {h node c : ℕ} {v : graph.Value} {ks : Cases} {s₁ : NestState} → SelectStep g r w l → ShowsTables l s₁
-      → ((k : Section) → (number k ≡ 1 → ⊥) → (number k ≡ 10 → ⊥) → (number k ≡ 12 → ⊥) → section l k ≡ section w k)
+      → ((k : Section) → (number k ≡ 1 → ⊥) → (number k ≡ 9 → ⊥) → (number k ≡ 11 → ⊥) → section l k ≡ section w k)
       → word l head 4 ≡ word w head 4
       → ks ≡ cases-from (body-at l) 0 cs → value c ≡ v → words.SelectAdded r node shape c l w′ h
       → SelectDone g r cs parent w w′ h

@@ -55,7 +55,7 @@ step-then a b =
     }
 
 -- A step that changes one section, none of the regions' and not the cases, and one total of the head.
-pub step-by : {k : Section} {i : ℕ} {w w′ : List ℕ} → ChangesOnly k i w w′ → OfNoRegion k → (2 ≡ number k → ⊥) → (10 ≡ number k → ⊥) → i < 7
+pub step-by : {k : Section} {i : ℕ} {w w′ : List ℕ} → ChangesOnly k i w w′ → OfNoRegion k → (2 ≡ number k → ⊥) → (9 ≡ number k → ⊥) → i < 7
     → (g : Graph) (r : ℕ) → Later g w w′ → SelectStep g r w w′
 step-by changes none d e few g r later =
     let same = changes .others cases e (omega arith) in

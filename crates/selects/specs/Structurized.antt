@@ -190,7 +190,7 @@ pub record Prepared (g : Graph) (r : ℕ) (cs : List MaybeClaimedRegion) (s : Ne
     pub is-needed : needed ≡ any-needs-select (nesting.plan-bundles g (cases-after s cs))
     pub later : Later g w w′
     pub spare-at : word w′ set-starts 32 ≡ base
-    pub same : (k : Section) → (number k ≡ 1 → ⊥) → (number k ≡ 5 → ⊥) → (number k ≡ 10 → ⊥) → (number k ≡ 15 → ⊥)
+    pub same : (k : Section) → (number k ≡ 1 → ⊥) → (number k ≡ 5 → ⊥) → (number k ≡ 9 → ⊥) → (number k ≡ 14 → ⊥)
         → section w′ k ≡ section w k
     pub totals : (q : ℕ) → (q ≡ 6 → ⊥) → word w′ head q ≡ word w head q
     pub kept : (q : ℕ) → q < 32 → (q ≡ r → ⊥)

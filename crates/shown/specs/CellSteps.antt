@@ -170,7 +170,7 @@ pub no-case-list : {g : Graph} {w : List ℕ} → 1 ≤ word w head 4 → ShowsC
 no-case-list one = record { cases = no-cases refl; made = one }
 
 -- They stay where the cells and their total do.
-module _ {k : Section} {i : ℕ} {w w′ : List ℕ} (changes : ChangesOnly k i w w′) (d : 14 ≡ number k → ⊥) (e : 4 ≡ i → ⊥) {g : Graph} where
+module _ {k : Section} {i : ℕ} {w w′ : List ℕ} (changes : ChangesOnly k i w w′) (d : 13 ≡ number k → ⊥) (e : 4 ≡ i → ⊥) {g : Graph} where
   pub case-list-by : {h : ℕ} {cs : Cases} → ShowsCaseList g w h cs → ShowsCaseList g w′ h cs
   case-list-by y = record { cases = rw (changes .others cells d (omega arith)) (y .cases); made = rw (changes .totals 4 e) (y .made) }
 

@@ -43,9 +43,9 @@ condition-there g x = record { tree = rw (g .same-conditions) (x .tree); made = 
 -- Which sections are none of theirs: of a section by its name, `omega arith` proves it.
 pub record Elsewhere (k : Section) : Type 0 where
   pub not-head : 1 ≡ number k → ⊥
-  pub not-rewrites : 11 ≡ number k → ⊥
-  pub not-outputs : 12 ≡ number k → ⊥
-  pub not-conditions : 13 ≡ number k → ⊥
+  pub not-rewrites : 10 ≡ number k → ⊥
+  pub not-outputs : 11 ≡ number k → ⊥
+  pub not-conditions : 12 ≡ number k → ⊥
 
 module _ (w : List ℕ) where
   pub same-words : SameTables w w

@@ -41,8 +41,8 @@ word-apart l k i x j q d =
 -- Neither the record, nor the conditions, nor the cells, nor the totals of these: of a section by its name, `omega arith` proves it.
 pub record MakesNothing (k : Section) (i : ℕ) : Type 0 where
   pub not-front : 0 ≡ number k → ⊥
-  pub not-conditions : 13 ≡ number k → ⊥
-  pub not-cells : 14 ≡ number k → ⊥
+  pub not-conditions : 12 ≡ number k → ⊥
+  pub not-cells : 13 ≡ number k → ⊥
   pub not-merges : 2 ≡ i → ⊥
   pub not-cell-total : 4 ≡ i → ⊥
 
@@ -53,8 +53,8 @@ pub record OfNoRegion (k : Section) : Type 0 where
   pub not-lengths : 5 ≡ number k → ⊥
   pub not-children : 6 ≡ number k → ⊥
   pub not-bodies : 7 ≡ number k → ⊥
-  pub not-levels : 9 ≡ number k → ⊥
-  pub not-bundles : 15 ≡ number k → ⊥
+  pub not-levels : 8 ≡ number k → ⊥
+  pub not-bundles : 14 ≡ number k → ⊥
 
 pub bundles-same : {w w′ : List ℕ} → section w′ bundles ≡ section w bundles → (p : ℕ) → SameBundle w w′ p
 bundles-same e p = record { words = λ i h. ap (λ l. getD l (7 * p + i) 0) e }

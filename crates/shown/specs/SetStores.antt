@@ -50,8 +50,8 @@ pub record NoSets (k : Section) : Type 0 where
   pub not-head : number k ≡ 1 → ⊥
   pub not-starts : number k ≡ 4 → ⊥
   pub not-lengths : number k ≡ 5 → ⊥
-  pub not-cases : number k ≡ 10 → ⊥
-  pub not-bundles : number k ≡ 15 → ⊥
+  pub not-cases : number k ≡ 9 → ⊥
+  pub not-bundles : number k ≡ 14 → ⊥
 
 pub record OfSets (k : Section) : Type 0 where
   pub apart : (j : Section) → NoSets j → number j ≡ number k → ⊥
@@ -192,10 +192,10 @@ pub same-moves : {w w′ : List ℕ} {p : ℕ} → SameBundle w w′ p → Moves
 same-moves s = record { words = s .words }
 
 -- Stores elsewhere leave every bundle.
-pub same-elsewhere : (w : List ℕ) (k : Section) → (15 ≡ number k → ⊥) → (i x p : ℕ) → SameBundle w (stored w k i x) p
+pub same-elsewhere : (w : List ℕ) (k : Section) → (14 ≡ number k → ⊥) → (i x p : ℕ) → SameBundle w (stored w k i x) p
 same-elsewhere w k d i x p = record { words = λ j h. word-other w k i x bundles d (7 * p + j) }
 
-pub same-elsewhere-run : (w : List ℕ) (k : Section) → (15 ≡ number k → ⊥) → (i : ℕ) (xs : List ℕ) (p : ℕ)
+pub same-elsewhere-run : (w : List ℕ) (k : Section) → (14 ≡ number k → ⊥) → (i : ℕ) (xs : List ℕ) (p : ℕ)
     → SameBundle w (stored-all w k i xs) p
 same-elsewhere-run w k d i xs p = record { words = λ j h. run-elsewhere-word w k i xs bundles d (7 * p + j) }
 

@@ -9,15 +9,15 @@ use lib.Seq.{take-length}
 use borrow.Author.Tests.{lt-ltb}
 use Rattle.meaning.specs.Graph.{Graph, Region, region, nowhere, ControlInst, unreachable, return, exit-invocation, branch, select-branch}
 use Rattle.meaning.specs.Graph.{no-value}
-use Rattle.meaning.specs.Lists.{total}
 use Rattle.meaning.specs.facts.Elements.{getD-map-in}
+use Rattle.meaning.specs.facts.Sums.{total-next}
 use Rattle.format.specs.References.{return-types, type-in, behind-all, first-return, values-of}
 use Rattle.format.specs.Valid.{Valid, ValidEnd}
 use Rattle.record.specs.Stands.{Stands}
-use Rattle.fields.specs.ByNumber.{end-values}
+use Rattle.fields.specs.ByNumber.{blocks-before, end-values}
 use Rattle.nesting.specs.Nesting.{initial-state, block-count, not-begun}
 use Rattle.nesting.specs.steps.RegionsLeft.{all-not-begun}
-use Rattle.state.specs.Sections.{Section, number, start, size, used, section, word, head, kinds, set-starts, first-nodes, rewrites}
+use Rattle.state.specs.Sections.{Section, number, start, size, used, section, word, head, kinds, set-starts, rewrites}
 use Rattle.state.specs.Apart.{stored-length, section-other}
 use Rattle.state.specs.Tables.{slot}
 use Rattle.shown.specs.Stores.{run-length, run-other, head-same, head-other}
@@ -25,38 +25,22 @@ use Rattle.shown.specs.Front.{SameFront, stands-on, front-stored, front-run, fr
 use Rattle.shown.specs.SetStores.{run-word}
 use Rattle.shown.specs.Tables.{no-entry}
 use Rattle.shown.specs.States.{ShowsState, is-not-begun}
-use Rattle.start.specs.Words.{nothing-rewritten, nothing-begun, emptied, sum-whole, nodes-before, returned-type, numbered}
+use Rattle.start.specs.Words.{nothing-rewritten, nothing-begun, emptied, returned-type, totals}
 use Rattle.start.specs.Words.{counted, started, filled, filled-front, emptied-front}
 use Rattle.start.specs.Fills.{fill-length, fill-other, fill-beside, fill-there}
 
--- ---- How many blocks stand before region r: no sum is as large as a word.
-total-next : {A : Type 0} (f : A → ℕ) (d : A) (xs : List A) (r : ℕ) → r < length xs
-    → total f (take (suc r) xs) ≡ total f (take r xs) + f (getD xs r d)
-total-next f d [] r h = absurd (omega arith)
-total-next f d (x ∷ xs) zero h = omega arith
-total-next f d (x ∷ xs) (suc r) h = let z = total-next f d xs r (omega arith) in omega arith
-
+-- ---- How many blocks there are: no sum is as large as a word.
 module _ {g : Graph} (valid : Valid g) where
-  record Before (r : ℕ) : Type 0 where
-    pub is : nodes-before g r ≡ block-count (take r (g .regions))
-    pub few : block-count (take r (g .regions)) ≤ 8 * r
-
-  nodes-counted : (r : ℕ) → r ≤ length (g .regions) → Before r
-  unfolding nodes-before
-  nodes-counted zero h = record { is = refl; few = omega arith }
-  nodes-counted (suc r) h =
-      let x = nodes-counted r (omega arith) in
-      let y = x .few in
-      let most = valid .count .1 in
+  few-blocks : (r : ℕ) → r ≤ length (g .regions) → blocks-before g r ≤ 8 * r
+  few-blocks zero h = omega arith
+  few-blocks (suc r) h =
+      let few = few-blocks r (omega arith) in
       let eight = valid .regions r h .blocks-few in
-      let next = total-next (λ (z : Region). length (z .blocks)) nowhere (g .regions) r h in
-      record {
-        is = sym (sum-whole (nodes-before g r) (length (region g r .blocks)) (rw (x .is) (omega arith))) ∙ rw (x .is) (sym next);
-        few = omega arith;
-      }
+      let next = total-next (λ (z : Region). length (z .blocks)) nowhere (g .regions) r refl in
+      omega arith
 
-  all-nodes : nodes-before g (length (g .regions)) ≡ block-count (g .regions)
-  all-nodes = nodes-counted (length (g .regions)) (omega arith) .is ∙ ap block-count (take-length (g .regions))
+  all-blocks : blocks-before g (length (g .regions)) ≡ block-count (g .regions)
+  all-blocks = ap block-count (take-length (g .regions))
 
   -- ---- The values of the first Return.
   end-few : (r : ℕ) (x : ControlInst) → ValidEnd g r x → length (values-of x) ≤ 4
@@ -96,16 +80,10 @@ module _ (g : Graph) (w : List ℕ) (room : used ≤ length w) where
   l₃ = emptied w
 
   abbrev l₄ : List ℕ
-  l₄ = numbered g l₃
-
-  abbrev totals : List ℕ
-  totals = length (g .regions) ∷ nodes-before g (length (g .regions)) ∷ 0 ∷ 0 ∷ 1 ∷ 0 ∷ 0 ∷ []
+  l₄ = counted g l₃
 
   abbrev l₅ : List ℕ
-  l₅ = counted g (nodes-before g (length (g .regions))) l₄
-
-  abbrev l₆ : List ℕ
-  l₆ = filled head (λ k. 9 + k) (returned-type g) 4 0 l₅
+  l₅ = filled head (λ k. 9 + k) (returned-type g) 4 0 l₄
 
   abbrev returned-count : ℕ
   returned-count = length (end-values g (first-return (g .regions)))
@@ -120,37 +98,29 @@ module _ (g : Graph) (w : List ℕ) (room : used ≤ length w) where
   length₃ = fill-length set-starts (λ a. a) slot 33 0 l₂ ∙ length₂
 
   length₄ : length l₄ ≡ length w
-  length₄ = fill-length first-nodes (λ r. r) (nodes-before g) (length (g .regions)) 0 l₃ ∙ length₃
+  length₄ = run-length (start head) (size head) l₃ 0 (totals g) ∙ length₃
 
   length₅ : length l₅ ≡ length w
-  length₅ = run-length (start head) (size head) l₄ 0 totals ∙ length₄
-
-  length₆ : length l₆ ≡ length w
-  length₆ = fill-length head (λ k. 9 + k) (returned-type g) 4 0 l₅ ∙ length₅
+  length₅ = fill-length head (λ k. 9 + k) (returned-type g) 4 0 l₄ ∙ length₄
 
   started-length : length (started g w) ≡ length w
-  started-length = stored-length (start head) (size head) l₆ 8 returned-count ∙ length₆
+  started-length = stored-length (start head) (size head) l₅ 8 returned-count ∙ length₅
 
   pub started-front : SameFront w (started g w)
   started-front =
       front-then (emptied-front w)
-      (front-then (filled-front first-nodes (λ r. r) (nodes-before g) (omega arith) (length (g .regions)) 0 l₃)
-      (front-then (front-run l₄ head (omega arith) 0 totals)
-      (front-then (filled-front head (λ k. 9 + k) (returned-type g) (omega arith) 4 0 l₅)
-      (front-stored l₆ head (omega arith) 8 returned-count))))
+      (front-then (front-run l₃ head (omega arith) 0 (totals g))
+      (front-then (filled-front head (λ k. 9 + k) (returned-type g) (omega arith) 4 0 l₄)
+      (front-stored l₅ head (omega arith) 8 returned-count)))
 
-  behind-head : (j : Section) → (number j ≡ 1 → ⊥) → section (started g w) j ≡ section l₄ j
+  behind-head : (j : Section) → (number j ≡ 1 → ⊥) → section (started g w) j ≡ section l₃ j
   behind-head j d =
-      section-other l₆ head 8 returned-count j d ∙ fill-other head (λ k. 9 + k) (returned-type g) 4 0 l₅ j d
-      ∙ run-other l₄ head 0 totals j d
-
-  behind-nodes : (j : Section) → (number j ≡ 1 → ⊥) → (number j ≡ 8 → ⊥) → section (started g w) j ≡ section l₃ j
-  behind-nodes j d e =
-      behind-head j d ∙ fill-other first-nodes (λ r. r) (nodes-before g) (length (g .regions)) 0 l₃ j e
+      section-other l₅ head 8 returned-count j d ∙ fill-other head (λ k. 9 + k) (returned-type g) 4 0 l₄ j d
+      ∙ run-other l₃ head 0 (totals g) j d
 
   no-rewrite : (r : ℕ) → r < 128 → word (started g w) rewrites (5 * r) ≡ 0
   no-rewrite r h =
-      ap (λ p. getD p (5 * r) 0) (behind-nodes rewrites (omega arith) (omega arith)
+      ap (λ p. getD p (5 * r) 0) (behind-head rewrites (omega arith)
       ∙ fill-other set-starts (λ a. a) slot 33 0 l₂ rewrites (omega arith)
       ∙ fill-other kinds (λ r. r) (λ r. 0) 32 0 l₁ rewrites (omega arith))
       ∙ fill-there rewrites (λ r. 5 * r) (λ r. 0) (λ a b c e. omega arith) 128 0 w (omega arith) r (omega arith) (omega arith) (omega arith)
@@ -158,7 +128,7 @@ module _ (g : Graph) (w : List ℕ) (room : used ≤ length w) where
   no-kind : (r : ℕ) → r < 32 → word (started g w) kinds r ≡ 0
   no-kind r h =
       let len = length₁ in
-      ap (λ p. getD p r 0) (behind-nodes kinds (omega arith) (omega arith)
+      ap (λ p. getD p r 0) (behind-head kinds (omega arith)
       ∙ fill-other set-starts (λ a. a) slot 33 0 l₂ kinds (omega arith))
       ∙ fill-there kinds (λ r. r) (λ r. 0) (λ a b c e. omega arith) 32 0 l₁ (omega arith) r (omega arith) (omega arith) h
 
@@ -166,33 +136,26 @@ module _ (g : Graph) (w : List ℕ) (room : used ≤ length w) where
   unfolding slot
   own-slot a h =
       let len = length₂ in
-      ap (λ p. getD p a 0) (behind-nodes set-starts (omega arith) (omega arith))
+      ap (λ p. getD p a 0) (behind-head set-starts (omega arith))
       ∙ fill-there set-starts (λ a. a) slot (λ a b c e. omega arith) 33 0 l₂ (omega arith) a (omega arith) (omega arith) h
       ∙ rw (lt-ltb a 33 h)
 
-  first-node : length (g .regions) ≤ 32 → (r : ℕ) → r < length (g .regions) → word (started g w) first-nodes r ≡ nodes-before g r
-  first-node few r h =
-      let len = length₃ in
-      ap (λ p. getD p r 0) (behind-head first-nodes (omega arith))
-      ∙ fill-there first-nodes (λ r. r) (nodes-before g) (λ a b c e. omega arith) (length (g .regions)) 0 l₃ (omega arith) r
-      (omega arith) (omega arith) (omega arith)
-
-  first-words : (q : ℕ) → q < 7 → word (started g w) head q ≡ getD totals q 0
+  first-words : (q : ℕ) → q < 7 → word (started g w) head q ≡ getD (totals g) q 0
   first-words q h =
-      let len = length₄ in
+      let len = length₃ in
       let e : q ≡ 0 + q = omega arith in
-      head-other l₆ 8 returned-count q (omega arith)
-      ∙ fill-beside head (λ k. 9 + k) (returned-type g) 4 0 l₅ q (λ m a e. omega arith)
-      ∙ ap (λ p. word l₅ head p) e ∙ run-word l₄ head 0 totals (omega arith) (omega arith) q h
+      head-other l₅ 8 returned-count q (omega arith)
+      ∙ fill-beside head (λ k. 9 + k) (returned-type g) 4 0 l₄ q (λ m a e. omega arith)
+      ∙ ap (λ p. word l₄ head p) e ∙ run-word l₃ head 0 (totals g) (omega arith) (omega arith) q h
 
   count-word : word (started g w) head 8 ≡ returned-count
-  count-word = let len = length₆ in head-same l₆ 8 returned-count (omega arith) (omega arith)
+  count-word = let len = length₅ in head-same l₅ 8 returned-count (omega arith) (omega arith)
 
   type-word : (k : ℕ) → k < 4 → word (started g w) head (9 + k) ≡ returned-type g k
   type-word k h =
-      let len = length₅ in
-      head-other l₆ 8 returned-count (9 + k) (omega arith)
-      ∙ fill-there head (λ k. 9 + k) (returned-type g) (λ a b c e. omega arith) 4 0 l₅ (omega arith) k
+      let len = length₄ in
+      head-other l₅ 8 returned-count (9 + k) (omega arith)
+      ∙ fill-there head (λ k. 9 + k) (returned-type g) (λ a b c e. omega arith) 4 0 l₄ (omega arith) k
       (omega arith) (omega arith) (omega arith)
 
 -- ---- The whole.
@@ -201,14 +164,12 @@ pub record ShowsStarted (g : Graph) (w w′ : List ℕ) : Type 0 where
   pub cell-total : word w′ head 4 ≡ 1
   pub no-kinds : (q : ℕ) → q < 32 → word w′ kinds q ≡ 0
   pub front : SameFront w w′
-  pub nodes : (r : ℕ) → r < length (g .regions) → word w′ first-nodes r ≡ block-count (take r (g .regions))
 
 pub initial-state-shown : {g : Graph} {w w′ : List ℕ} → Valid g → Stands w g → used ≤ length w → w′ ≡ started g w → ShowsStarted g w w′
 initial-state-shown {g} {w} valid stands room e =
     let few = valid .count .1 in
-    let all = all-nodes valid in
-    let most : block-count (g .regions) ≤ 8 * length (g .regions) =
-    rw (take-length (g .regions)) at (nodes-counted valid (length (g .regions)) (omega arith) .few) in
+    let all = all-blocks valid in
+    let most = few-blocks valid (length (g .regions)) (omega arith) in
     let len = started-length g w room in
     let four = few-returned valid (first-return (g .regions)) in
     let sized = returned-size g in
@@ -219,7 +180,7 @@ initial-state-shown {g} {w} valid stands room e =
         tables = record {
           size = omega arith;
           region-total = first-words g w room 0 (omega arith);
-          node-total = first-words g w room 1 (omega arith) ∙ all;
+          node-total = first-words g w room 1 (omega arith) ∙ omega arith;
           merge-total = first-words g w room 2 (omega arith);
           output-total = first-words g w room 3 (omega arith);
           attempts = first-words g w room 5 (omega arith);
@@ -243,5 +204,4 @@ initial-state-shown {g} {w} valid stands room e =
       cell-total = first-words g w room 4 (omega arith);
       no-kinds = no-kind g w room;
       front = started-front g w room;
-      nodes = λ r h. first-node g w room few r h ∙ nodes-counted valid r (omega arith) .is;
     }

@@ -1,11 +1,11 @@
-// The nesting state before the first claim: nothing begun, nothing rewritten, blocks numbered.
+// The nesting state before the first claim: nothing begun, nothing rewritten, blocks counted.
 ghost use mathlib.Core.Path.{_≡_};
+ghost use Prim.Native.Nat.{min};
 ghost use Rattle.record.specs.Stands.{OfRecord};
 ghost use Rattle.start.specs.Words as words;
 use state::defined::RETURNED;
 use state::defined::set_head;
 use state::regions::NOT_BEGUN;
-use state::regions::set_first_node;
 use state::regions::set_region_state;
 use state::rewrites::clear_rewrites;
 use state::sections::HEAD;
@@ -47,36 +47,23 @@ fn start_slots(w: &mut [u16; WORDS])
     }
 }
 
-// The blocks of a record are never as many as a word can be.
-fn sum(a: u16, b: u16) -> u16
-    ensures { λ c. ⌜ c ≡ words.sum a b ⌝ }
+// A record never has as many blocks as a word can say.
+fn held(n: u32) -> u16
+    ensures { λ a. ⌜ a ≡ min n 65535 ⌝ }
 {
-    if 65535 - a < b {
-        return 65535;
+    if n < 65535 {
+        return n as u16;
     }
-    a + b
+    65535
 }
 
-// Nodes are numbered blocks first, in region order. The answer is how many blocks there are.
-fn start_nodes(w: &mut [u16; WORDS]) -> u16
-    ensures { λ a. ⌜ OfRecord (now (w .entry)) (λ g. words.Numbers g (now (w .entry)) (now (w .exit)) a) ⌝ }
+// Regions, nodes, conditions, outputs, cells, of which cell 0 is none, attempts, and twice. Nodes are numbered blocks first.
+fn start_totals(w: &mut [u16; WORDS])
+    ensures { λ _. ⌜ OfRecord (now (w .entry)) (λ g. now (w .exit) ≡ words.counted g (now (w .entry))) ⌝ }
 {
-    let n = fields::region_count(w);
-    let mut node: u16 = 0;
-    let mut r: u16 = 0;
-    while r < n {
-        set_first_node(w, r, node);
-        node = sum(node, fields::block_count(w, r));
-        r += 1;
-    }
-    node
-}
-
-// Regions, nodes, conditions, outputs, cells, of which cell 0 is none, attempts, and twice.
-fn start_totals(w: &mut [u16; WORDS], nodes: u16)
-    ensures { λ _. ⌜ OfRecord (now (w .entry)) (λ g. now (w .exit) ≡ words.counted g nodes (now (w .entry))) ⌝ }
-{
-    let xs = [fields::region_count(w), nodes, 0, 0, 1, 0, 0];
+    let regions = fields::region_count(w);
+    let blocks = held(fields::blocks_before(w, regions));
+    let xs = [regions, blocks, 0, 0, 1, 0, 0];
     put_all(w, HEAD, HEAD_WORDS, 0, &xs);
 }
 
@@ -101,7 +88,6 @@ pub fn initial_state(w: &mut [u16; WORDS])
     start_rewrites(w);
     start_kinds(w);
     start_slots(w);
-    let nodes = start_nodes(w);
-    start_totals(w, nodes);
+    start_totals(w);
     start_returned(w);
 }

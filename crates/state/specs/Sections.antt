@@ -8,10 +8,10 @@ use Rattle.store.specs.Layout.{index-end}
 
 -- How many words each has, from the front on: the record and its index, then the tables of nesting.
 abbrev pub sizes : List ℕ
-sizes = index-end ∷ 16 ∷ 32 ∷ 32 ∷ 33 ∷ 33 ∷ 32 ∷ 32 ∷ 32 ∷ 320 ∷ 80 ∷ 640 ∷ 5120 ∷ 5676 ∷ 4224 ∷ 7679 ∷ []
+sizes = index-end ∷ 16 ∷ 32 ∷ 32 ∷ 33 ∷ 33 ∷ 32 ∷ 32 ∷ 320 ∷ 80 ∷ 640 ∷ 5120 ∷ 5676 ∷ 4224 ∷ 7679 ∷ []
 
 pub data Section : Type 0 where
-  front head kinds backedges set-starts set-lengths children bodies first-nodes : Section
+  front head kinds backedges set-starts set-lengths children bodies : Section
   levels cases rewrites outputs conditions cells bundles : Section
 
 abbrev pub number : Section → ℕ
@@ -23,14 +23,13 @@ number set-starts = 4
 number set-lengths = 5
 number children = 6
 number bodies = 7
-number first-nodes = 8
-number levels = 9
-number cases = 10
-number rewrites = 11
-number outputs = 12
-number conditions = 13
-number cells = 14
-number bundles = 15
+number levels = 8
+number cases = 9
+number rewrites = 10
+number outputs = 11
+number conditions = 12
+number cells = 13
+number bundles = 14
 
 -- Where a section starts, and its size.
 abbrev pub start : Section → ℕ

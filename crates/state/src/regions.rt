@@ -8,7 +8,6 @@ use crate::sections::BACKEDGES;
 use crate::sections::BODIES;
 use crate::sections::BY_REGION;
 use crate::sections::CHILDREN;
-use crate::sections::FIRST_NODES;
 use crate::sections::KINDS;
 use crate::sections::LEVELS;
 use crate::sections::LEVELS_WORDS;
@@ -71,19 +70,6 @@ pub fn set_structured_body(w: &mut [u16; WORDS], r: u16, body: u16)
     ensures { λ _. ⌜ now (w .exit) ≡ sections.stored (now (w .entry)) sections.bodies r body ⌝ }
 {
     put(w, BODIES, BY_REGION, r as usize, body);
-}
-
-// The node of a region's first block: nodes are numbered blocks first, in region order.
-pub fn first_node(w: &[u16; WORDS], r: u16) -> u16
-    ensures { λ a. ⌜ a ≡ sections.word (now (w .entry)) sections.«first-nodes» r ⌝ }
-{
-    get(w, FIRST_NODES, BY_REGION, r as usize)
-}
-
-pub fn set_first_node(w: &mut [u16; WORDS], r: u16, n: u16)
-    ensures { λ _. ⌜ now (w .exit) ≡ sections.stored (now (w .entry)) sections.«first-nodes» r n ⌝ }
-{
-    put(w, FIRST_NODES, BY_REGION, r as usize, n);
 }
 
 // How region r's target at place j was taken: nothing is deferred, its edge is, or it is claimed.

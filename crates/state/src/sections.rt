@@ -29,40 +29,38 @@ pub const CHILDREN: usize = 4546;
 
 pub const BODIES: usize = 4578;
 
-pub const FIRST_NODES: usize = 4610;
-
 // What a level of the cycle holds across a claim: ten words for each region.
-pub const LEVELS: usize = 4642;
+pub const LEVELS: usize = 4610;
 
 pub const LEVELS_WORDS: usize = 320;
 
 // The cases of the select under way, ten words each.
-pub const CASES: usize = 4962;
+pub const CASES: usize = 4930;
 
 pub const CASES_WORDS: usize = 80;
 
 // A kind and four values for each region.
-pub const REWRITES: usize = 5042;
+pub const REWRITES: usize = 5010;
 
 pub const REWRITES_WORDS: usize = 640;
 
 // Node, type and eight values for each output.
-pub const OUTPUTS: usize = 5682;
+pub const OUTPUTS: usize = 5650;
 
 pub const OUTPUTS_WORDS: usize = 5120;
 
 // Node, shape, scrutinee and eight parts for each lazy condition record, behind the three that are no records.
-pub const CONDITIONS: usize = 10802;
+pub const CONDITIONS: usize = 10770;
 
 pub const CONDITIONS_WORDS: usize = 5676;
 
 // Six words for each cell; cell 0 is none.
-pub const CELLS: usize = 16478;
+pub const CELLS: usize = 16446;
 
 pub const CELLS_WORDS: usize = 4224;
 
 // Bundles of seven words: 33 slots of 33, and one for each case's own edge.
-pub const BUNDLES: usize = 20702;
+pub const BUNDLES: usize = 20670;
 
 pub const BUNDLES_WORDS: usize = 7679;
 

@@ -42,6 +42,14 @@ total-one f r (x ∷ l) i = go (first-or-rest r x l i) (λ j. total-one f r l j)
     go (first e) ih = rw e (omega arith)
     go (rest j) ih = let z = ih j in omega arith
 
+-- The first ones and the next; one that is not there adds nothing.
+pub total-next : {A : Type 0} (f : A → ℕ) (d : A) (xs : List A) (r : ℕ) → f d ≡ 0
+    → total f (take (suc r) xs) ≡ total f (take r xs) + f (getD xs r d)
+total-next f d [] zero e = omega arith
+total-next f d [] (suc r) e = omega arith
+total-next f d (x ∷ xs) zero e = omega arith
+total-next f d (x ∷ xs) (suc r) e = let z = total-next f d xs r e in omega arith
+
 pub total-take : (xs : List ℕ) (a b : ℕ) → a < b → total (λ n. n) (take a xs) + getD xs a 0 ≤ total (λ n. n) (take b xs)
 total-take [] zero (suc b) h = omega arith
 total-take [] (suc a) (suc b) h = omega arith

@@ -12,9 +12,6 @@ start-kinds-requires c κs = search needs
 start-slots-requires : tie.Need-start-slots-requires
 start-slots-requires c κs = search needs
 
-start-nodes-requires : tie.Need-start-nodes-requires
-start-nodes-requires c κs = search needs
-
 start-totals-requires : tie.Need-start-totals-requires
 start-totals-requires c κs = search needs
 
@@ -22,10 +19,9 @@ start-returned-requires : tie.Need-start-returned-requires
 start-returned-requires c κs = search needs
 
 returns : tie.Need-returns
-returns c = started-by _ (c .before .before .before .before .before .before .before .before .before .before .start-rewrites .ensures)
-    (c .before .before .before .before .before .before .before .before .start-kinds .ensures)
-    (c .before .before .before .before .before .before .start-slots .ensures) (c .before .before .before .before .start-nodes .ensures)
-    (c .before .before .start-totals .ensures) (c .start-returned .ensures)
+returns c = started-by _ (c .before .before .before .before .before .before .before .before .start-rewrites .ensures)
+    (c .before .before .before .before .before .before .start-kinds .ensures)
+    (c .before .before .before .before .start-slots .ensures) (c .before .before .start-totals .ensures) (c .start-returned .ensures)
 
 pub initial-state-spec : {M : Type 1} → statement M
 initial-state-spec =
@@ -34,7 +30,6 @@ initial-state-spec =
     start-rewrites-requires
     start-kinds-requires
     start-slots-requires
-    start-nodes-requires
     start-totals-requires
     start-returned-requires
     returns)

@@ -5,11 +5,13 @@ use native.Mathlib.Omega.{arith}
 use lib.ListN.{length}
 use borrow.Author.Needs.{needs}
 use Rattle.nesting.specs.Nesting.{DeferredEdgeBundleSet}
+use Rattle.shown.specs.Sets.{no-bundle}
 use Rattle.shown.specs.States.{ShowsOwnSet}
-use Rattle.writing.specs.Puts.{Puts, puts-as}
-use Rattle.writing.specs.Rows.{run, run-start, run-turn, run-all}
-use Rattle.writing.specs.Parts.{OfState}
-use Rattle.defer_lines.specs.DeferParts.{defer-at, bundle-shown, set-is}
+use Rattle.writing.specs.Puts.{Puts}
+use Rattle.writing.specs.Rows.{run, run-start, run-turn}
+use Rattle.writing.specs.Parts.{OfState, defer-part}
+use Rattle.writing.specs.PartLaws.{puts-each}
+use Rattle.defer_lines.specs.DeferParts.{defer-at, bundle-shown}
 use Rattle.defer_lines.proofs.lines.put_set.Statement.{statement}
 use Rattle.defer_lines.proofs.lines.put_set.Tie as tie
 
@@ -68,8 +70,8 @@ returns c =
     let turn = c .before in
     let size = turn .before in
     let start = size .before .before .before in
-    λ g s x d set. puts-as (run-all _ _ _ (c .loop-test .left) (turn .loop .inv .0 g s x d set))
-    (set-is (start .args .r) set (size .set-length .ensures) s)
+    λ g s x d set. puts-each (defer-part s (start .args .r) d) no-bundle d (size .set-length .ensures ∙ set .size) (c .loop-test .left)
+    (turn .loop .inv .0 g s x d set)
 
 pub put-set-spec : {M : Type 1} → statement M
 put-set-spec =

@@ -8,7 +8,8 @@ use borrow.Author.Needs.{needs}
 use Rattle.nesting.specs.Nesting.{plain}
 use Rattle.writing.specs.Puts.{puts-as}
 use Rattle.writing.specs.Parts.{OfState}
-use Rattle.loop_lines.specs.Kept.{kept-type, CellsPut, cells-start, before-falls, cells-turn, cells-counted, kept-cells, types-are}
+use Rattle.children.specs.CellByCell.{named-below}
+use Rattle.loop_lines.specs.Kept.{kept-type, CellsPut, cells-start, cells-turn, cells-counted, kept-cells, types-are}
 use Rattle.loop_lines.proofs.kept.put_kept_types.Statement.{statement}
 use Rattle.loop_lines.proofs.kept.put_kept_types.Tie as tie
 
@@ -42,7 +43,7 @@ cell-before-requires c κs = search needs
 loop-less : tie.Need-loop-less Inv-loop μ-loop
 loop-less c =
     let test = c .before .before .before .before .before .before .before in
-    before-falls _ (c .cell-before .ensures) (test .loop-test .taken)
+    named-below _ (c .cell-before .ensures) (test .loop-test .taken)
 
 loop-again : tie.Need-loop-again Inv-loop μ-loop
 loop-again c =
@@ -54,7 +55,7 @@ loop-again c =
       λ g s x. cells-turn _ _ _ _ _ (turn .loop .inv .0 g s x) (test .loop-test .taken)
           (rw (type .input-type .ensures g (x .state .stands), number .cell-a .ensures) at (put .put-word .ensures))
           (c .cell-before .ensures) refl,
-      omega (arith, before-falls _ (c .cell-before .ensures) (test .loop-test .taken)),
+      omega (arith, named-below _ (c .cell-before .ensures) (test .loop-test .taken)),
       search needs,
     )
 

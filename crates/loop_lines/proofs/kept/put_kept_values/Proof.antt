@@ -7,7 +7,8 @@ use borrow.Author.Needs.{needs}
 use Rattle.shown.specs.Values.{value}
 use Rattle.writing.specs.Puts.{puts-as}
 use Rattle.writing.specs.Parts.{OfState, value-part}
-use Rattle.loop_lines.specs.Kept.{kept-word, CellsPut, cells-start, before-falls, cells-turn, cells-counted, kept-cells, values-are}
+use Rattle.children.specs.CellByCell.{named-below}
+use Rattle.loop_lines.specs.Kept.{kept-word, CellsPut, cells-start, cells-turn, cells-counted, kept-cells, values-are}
 use Rattle.loop_lines.proofs.kept.put_kept_values.Statement.{statement}
 use Rattle.loop_lines.proofs.kept.put_kept_values.Tie as tie
 
@@ -38,7 +39,7 @@ cell-before-requires c κs = search needs
 loop-less : tie.Need-loop-less Inv-loop μ-loop
 loop-less c =
     let test = c .before .before .before .before .before .before in
-    before-falls _ (c .cell-before .ensures) (test .loop-test .taken)
+    named-below _ (c .cell-before .ensures) (test .loop-test .taken)
 
 loop-again : tie.Need-loop-again Inv-loop μ-loop
 loop-again c =
@@ -48,7 +49,7 @@ loop-again c =
     let turn = test .before in (
       λ g s x. cells-turn _ _ _ _ _ (turn .loop .inv .0 g s x) (test .loop-test .taken)
           (rw (word .kept-value .ensures) at (put .put-value .ensures g s x)) (c .cell-before .ensures) refl,
-      omega (arith, before-falls _ (c .cell-before .ensures) (test .loop-test .taken)),
+      omega (arith, named-below _ (c .cell-before .ensures) (test .loop-test .taken)),
       search needs,
     )
 

@@ -2,9 +2,10 @@ use mathlib.Core.Path.{_≡_}
 use Prim.Native.Nat.{_-_, _≤_}
 use native.Mathlib.Omega.{arith}
 use borrow.Author.Needs.{needs}
-use Rattle.child_numbers.specs.Numbers.{BlocksBefore, none-before, blocks-more}
-use Rattle.child_numbers.proofs.blocks_before.Statement.{statement}
-use Rattle.child_numbers.proofs.blocks_before.Tie as tie
+use Rattle.fields.specs.ByNumber.{BlocksBefore}
+use Rattle.fields.specs.laws.BlocksBefore.{none-before, blocks-more}
+use Rattle.fields.proofs.blocks_before.Statement.{statement}
+use Rattle.fields.proofs.blocks_before.Tie as tie
 
 abbrev Inv-loop : tie.InvT-loop
 Inv-loop w r sum₀ i₀ sum i = BlocksBefore w i sum × (i ≤ r)
