@@ -14,7 +14,8 @@ use Rattle.writing.specs.declared.place.Place.{Place}
 use Rattle.writing.specs.Puts.{Part, _⊕_, Puts, puts-as}
 use Rattle.writing.specs.Rows.{run, run-all}
 use Rattle.writing.specs.Parts.{output-nodes, look-up-at-end, values-part, node-part, nodes-part, node-words}
-use Rattle.writing.specs.PartLaws.{no-nodes-part, first-node-part, one-across, each-from}
+use Rattle.meaning.specs.facts.Numbers.{one-further}
+use Rattle.writing.specs.PartLaws.{no-nodes-part, first-node-part, each-from}
 use Rattle.block_lines.specs.Sums.{instructions-before}
 
 module _ (s : NestState) where
@@ -67,7 +68,7 @@ module _ (s : NestState) where
     run-blocks h m n k (b ∷ bs) e =
         let first : h m ≡ node-part s (block n r k b) = rw (add-zero m, add-zero n, add-zero k) at (e 0 (omega arith)) in
         let rest = run-blocks h (suc m) (suc n) (k + length b) bs
-        (λ j l. rw (one-across m j, one-across n j, ← add-assoc k (length b) (instructions-before bs j)) at (e (suc j) (omega arith))) in
+        (λ j l. rw (one-further m j, one-further n j, ← add-assoc k (length b) (instructions-before bs j)) at (e (suc j) (omega arith))) in
         rw (first, rest) (sym (first-node-part s (block n r k b) (blocks-from (suc n) r (k + length b) bs)))
 
     pub puts-blocks : (bs : List (List Instr)) {m b : ℕ} {out out₁ : List ℕ} {at at₁ : Place} → m ≡ length bs → b ≤ 0

@@ -21,18 +21,6 @@ use Rattle.children.specs.CellByCell.{added-select, added-loop, Appended, appen
 use Rattle.figure.specs.Nodes.{figure-join, figure-blocks}
 use Rattle.figure.specs.Figured.{capped, Figured, CellFigured, DearestFigured, BlocksFigured, ToCome, Passed}
 
--- ---- A sum over a list, from place k on, by the length n that the code has.
-module _ {A : Type 0} (f : A → ℕ) (xs : List A) (d : A) {n : ℕ} (size : n ≡ length xs) where
-  pub sum-turn : (k sum whole : ℕ) → k < n → sum + total f (drop k xs) ≡ whole
-      → sum + f (getD xs k d) + total f (drop (k + 1) xs) ≡ whole
-  sum-turn k sum whole l h =
-      let step = ap (total f) (drop-cons xs k d (omega arith)) in
-      let next = ap (λ i. total f (drop i xs)) (add-one k) in
-      omega arith
-
-  pub sum-end : (k sum whole : ℕ) → n ≤ k → sum + total f (drop k xs) ≡ whole → sum ≡ whole
-  sum-end k sum whole l h = let none = ap (total f) (drop-of-length-le xs {i = k} (omega arith)) in omega arith
-
 -- ---- Sums and turns over what is held at the largest number.
 pub capped-times : (m n c : ℕ) → capped (m * (capped n + c)) ≡ capped (m * (n + c))
 capped-times zero n c = omega arith

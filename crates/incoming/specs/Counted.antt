@@ -78,15 +78,3 @@ grows-most k l h = record { most = λ n m. record { each = λ a i. omega (arith,
 
 pub grown : {c c′ : List ℕ} {j m : ℕ} (k : ℕ) → Grows c c′ j → AtMost c m → m + j ≤ k → AtMost c′ k
 grown k h m l = record { each = λ a i. omega (arith, h .most _ m .each a i) }
-
--- A sum over the regions, from region r on.
-module _ (f : Region → ℕ) (xs : List Region) {n : ℕ} (size : n ≡ length xs) where
-  pub sum-turn : (r sum whole : ℕ) → r < n → sum + total f (drop r xs) ≡ whole
-      → sum + f (getD xs r nowhere) + total f (drop (r + 1) xs) ≡ whole
-  sum-turn r sum whole l h =
-      let step = ap (total f) (drop-cons xs r nowhere (omega arith)) in
-      let next = ap (λ i. total f (drop i xs)) (add-one r) in
-      omega arith
-
-  pub sum-end : (r sum whole : ℕ) → n ≤ r → sum + total f (drop r xs) ≡ whole → sum ≡ whole
-  sum-end r sum whole l h = let none = ap (total f) (drop-of-length-le xs {i = r} (omega arith)) in omega arith

@@ -268,34 +268,3 @@ module _ (g : Graph) (r wrapper n : ℕ) (l vs : List ℕ) (vals : List Value) (
       subst (λ z. So z l₁ ws x) (sym e) (subst (λ z. So 0 z ws x) (sym f) (subst (λ z. So 0 l z x) (sym w) (none-so c d)))
   taken-to {k} h (one-taken made step at w) =
       input-turn (taken-to (omega arith) made) (omega arith) step at w
-
--- ---- The header's entry.
-pub named-entry : (w : List ℕ) (r : ℕ) (ws : List ℕ) → used ≤ length w → r < 128 → length ws ≡ 4 → ((k : ℕ) → k < 4 → getD ws k 0 < 4096)
-    → NamedRewrites w → NamedRewrites (inserted w r 2 ws)
-unfolding inserted
-named-entry w r ws room h four below n = go (ℕ-discrete (word w rewrites (5 * r)) 0)
-  where
-    go : Dec (word w rewrites (5 * r) ≡ 0) → NamedRewrites (inserted w r 2 ws)
-    go (no taken) = rw (ne-eqb (word w rewrites (5 * r)) 0 taken) n
-    go (yes free) =
-        let first = stored w rewrites (5 * r) 2 in
-        let len = part-length (start rewrites) (size rewrites) w (omega arith) in
-        let sec : section (stored-all first rewrites (5 * r + 1) ws) rewrites ≡ sets (section w rewrites) (5 * r) (2 ∷ ws) =
-        section-run first rewrites (5 * r + 1) ws ∙ rw (section-stored w rewrites (5 * r) 2, add-one (5 * r)) in
-        let l = section w rewrites in
-        let run : List ℕ = 2 ∷ ws in
-        rw (eq-eqb (word w rewrites (5 * r)) 0 free) (record {
-          below = λ q k a b d. elim (ℕ-discrete q r) [
-            | yes e ↦ (
-                let f : 5 * q + 1 + k ≡ 5 * r + suc k = omega arith in
-                rw (sec, f, run-in l (5 * r) run (suc k) (omega arith) (omega arith)) (below k b))
-            | no c ↦ (
-                let same : (i : ℕ) → 5 * q ≤ i → i < 5 * q + 5 → getD (sets l (5 * r) run) i 0 ≡ getD l i 0 = λ i x y.
-                elim (decLt q r) [
-                  | yes lt ↦ run-before l (5 * r) run i (omega arith)
-                  | no ge ↦ run-behind l (5 * r) run i (omega arith)
-                ] in
-                rw (sec, same (5 * q + 1 + k) (omega arith) (omega arith))
-                (n .below q k a b (λ z. d (ap (λ p. getD p (5 * q) 0) sec ∙ same (5 * q) (omega arith) (omega arith) ∙ z))))
-          ];
-        })

@@ -28,13 +28,14 @@ use Rattle.shown.specs.Kept.{own-set-stays, set-stays, children-stay}
 use Rattle.shown.specs.RegionSteps.{Aside, aside-then, aside-by, named-by, named-stay, OfOneRegion, word-concerns, bundles-same}
 use Rattle.shown.specs.RegionSteps.{OnlyRegion, only-region-then, only-region-aside, only-region-concerns, children-set}
 use Rattle.shown.specs.CellSteps.{ShowsKeptList, kept-list-by, cell-aside, cell-tables, cell-total, cell-handle, loop-added}
+use Rattle.shown.specs.NamedSteps.{named-inserted}
 use Rattle.lookups.specs.Materialized.{Materializes}
 use Rattle.lookups.specs.ConditionsShown.{materialize-shown}
 use Rattle.state.specs.declared.defined.Made.{Made}
 use Rattle.state.specs.declared.defined.Made.the-variants.{Done, Full as Refused}
 use Rattle.loops.specs.Loops.{AddsLoop, adds-loop, LoopDefined, loop-defined, no-value, no-node, EntersInputs, enters}
 use Rattle.loops.specs.RewritesShown.{Rewritten, rewritten-to}
-use Rattle.loops.specs.InputsShown.{InputsTaken, taken-to, named-entry}
+use Rattle.loops.specs.InputsShown.{InputsTaken, taken-to}
 
 -- ---- The header's inputs looked up, taken and entered.
 abbrev pub entered-state : Graph → ℕ → ℕ → List Value → NestState → NestState
@@ -93,7 +94,7 @@ inputs-entered g {r} {wrapper} {n} {h} {l} {vs} {l′} {vals} {s} t named all si
           (renumber-words refl
           (λ k b. subst (λ z. ShowsInput r (getD ws k 0) (getD (z .rewrites) k (renumber-to k))) are (so .entries k b))) e;
       named = subst (λ z. NamedRewrites z) (sym e)
-          (named-entry l₂ r ws (omega arith) header (omega arith) (so .named) (named-stay (so .tables) known));
+          (named-inserted l₂ r 2 ws (omega arith) header (omega arith) (so .named) (named-stay (so .tables) known));
       aside = subst (λ z. Aside g l z) (sym e) aside;
       total-from = subst (λ z. word l head 4 ≤ word z head 4) (sym e) (omega arith);
       total-to = subst (λ z. word z head 4 ≤ word l head 4 + 4) (sym e) (omega arith);

@@ -12,6 +12,7 @@ use lib.Dec.{eqb}
 use borrow.Author.Tests.{lt-ltb, eq-eqb, ne-eqb}
 use Rattle.meaning.specs.Lists.{pick, any, is-some}
 use Rattle.meaning.specs.Graph.{Value, Graph}
+use Rattle.meaning.specs.facts.Elements.{at-cons}
 use Rattle.format.specs.Valid.{Valid}
 use Rattle.nesting.specs.Nesting as nesting
 use Rattle.nesting.specs.Nesting.{LazyConds, DeferredTarget, to-return, NestState, MaybeClaimedRegion, DeferredTargetSummary, PlannedInput}
@@ -28,7 +29,6 @@ use Rattle.bundles.specs.Words.{input-count}
 use Rattle.merging.specs.Planning.{Planned, planned, also, per-case-deferred, unique-input, all-true, plan-input, plan-inputs}
 use Rattle.merging.specs.Planning.{plan-bundle}
 use Rattle.merging.specs.Planning.{plan-at, plan-bundles}
-use Rattle.merging.specs.Rows.{at-cons}
 use Rattle.merging.specs.Spare.{SpareOnly, spare-same, spare-word, spare-then, spare-there, spare-total, spare-later, spare-keeps}
 use Rattle.merging.specs.Spare.{spare-state, spare-cases}
 use Rattle.shown.specs.Finds.{bundle-in}

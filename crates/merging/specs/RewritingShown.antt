@@ -9,6 +9,7 @@ use lib.ListN.{length, getD, length-map, List·getD-eq-default}
 use borrow.Author.Tests.{lt-ltb, eq-eqb, ne-eqb}
 use Rattle.meaning.specs.Lists.{any}
 use Rattle.meaning.specs.Graph.{Value, Graph, region, undef}
+use Rattle.meaning.specs.facts.Elements.{at-cons}
 use Rattle.format.specs.Valid.{Valid}
 use Rattle.nesting.specs.Nesting as nesting
 use Rattle.nesting.specs.Nesting.{NestState, StructurizeRegionState, done, with-twice, DeferredTarget, DeferredEdgeBundle}
@@ -31,7 +32,7 @@ use Rattle.merging.specs.Rewriting.{rewrite-input, rewrite-case-input, r
 use Rattle.merging.specs.Rewriting.{rewrite-case, rewrite-cases}
 use Rattle.merging.specs.Spare.{case-stays}
 use Rattle.shown.specs.Finds.{bundle-in}
-use Rattle.merging.specs.Rows.{rewrite-word, looked-up, met-twice, at-cons, RowShown, row-shown, two-notes, no-note}
+use Rattle.merging.specs.Rows.{rewrite-word, looked-up, met-twice, RowShown, row-shown, two-notes, no-note}
 use Rattle.shown.specs.RegionSteps.{named-by}
 
 -- ---- What rewriting leaves: all but the note, the cases' inputs and the bundles' inputs.

@@ -9,6 +9,7 @@ use lib.Dec.{eqb}
 use borrow.Author.Tests.{eqb-false}
 use Rattle.meaning.specs.Lists.{any, pick}
 use Rattle.meaning.specs.Graph.{Value, undef}
+use Rattle.meaning.specs.facts.Elements.{at-cons}
 use Rattle.nesting.specs.Nesting as nesting
 use Rattle.nesting.specs.Nesting.{NestState, nest-state, counts-of, with-twice}
 use Rattle.nesting.specs.lookups.ChainEnds.{ChainsEnd}
@@ -82,12 +83,6 @@ pub record RowShown (k : Section) (o c : ℕ) (s : NestState) (l l′ : List ℕ
   pub behind : (x : ℕ) → o + (c + i) + length vs ≤ x → word l′ k x ≡ word l k x
   pub tables : ShowsTables l′ (with-twice (met-twice s vs) s)
   pub named : (j : ℕ) → j < length vs → Names (word l′ k (o + (c + (i + j)))) (getD (looked-up s vs) j (undef 0))
-
--- What holds of each of a list, from place i on, and of one in front.
-pub at-cons : {A : Type 0} (P : ℕ → A → Type 0) (z : A) (i n : ℕ) {x : A} (xs : List A) → P i x
-    → ((j : ℕ) → j < n → P (suc i + j) (getD xs j z)) → (j : ℕ) → j < suc n → P (i + j) (getD (x ∷ xs) j z)
-at-cons P z i n xs first rest zero h = let e : i + 0 ≡ i = omega arith in rw e first
-at-cons P z i n xs first rest (suc j) h = let e : i + suc j ≡ suc i + j = omega arith in rw e (rest j (omega arith))
 
 module _ (k : Section) (away : Elsewhere k) (room : start k + size k ≤ used) (o c : ℕ) where
   abbrev row-step : List ℕ → ℕ → List ℕ

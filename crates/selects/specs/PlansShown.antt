@@ -9,7 +9,7 @@ use lib.ListN.{length, getD, length-map}
 use Rattle.meaning.specs.Lists.{pick, any, is-some}
 use Rattle.meaning.specs.Graph.{Graph, Value, undef}
 use Rattle.meaning.specs.facts.Tests.{clash, or-left, or-right}
-use Rattle.meaning.specs.facts.Elements.{getD-map-in}
+use Rattle.meaning.specs.facts.Elements.{getD-map-in, none-of}
 use Rattle.nesting.specs.Nesting as nesting
 use Rattle.nesting.specs.Nesting.{DeferredTarget, MaybeClaimedRegion, LazyConds, PlannedInput, shared, merged, PlannedBundle}
 use Rattle.nesting.specs.Nesting.{DeferredTargetSummary, plan-input, plan-inputs, plan-bundle, all-true, conditions-of}
@@ -99,11 +99,6 @@ plan-shown {g} cs {w} {w′} {base} rows size each =
     }
 
 -- ---- Where nothing is to be made, the rows are the set.
-none-of : {A : Type 0} (f : A → Bool) (xs : List A) → any f xs ≡ false → (i : ℕ) (d : A) → i < length xs → f (getD xs i d) ≡ false
-none-of f [] e i d h = absurd (omega arith)
-none-of f (x ∷ xs) e zero d h = or-left (f x) (any f xs) e
-none-of f (x ∷ xs) e (suc i) d h = none-of f xs (or-right (f x) (any f xs) e) i d (omega arith)
-
 abbrev to-make : PlannedInput → Bool
 to-make i = elim i [ shared v ↦ false | merged ty vs ↦ true ]
 

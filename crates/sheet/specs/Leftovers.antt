@@ -11,6 +11,7 @@ use borrow.Author.Tests.{le-leb, lt-leb, eq-eqb, ne-eqb}
 use Rattle.meaning.specs.Lists.{pick}
 use Rattle.meaning.specs.Graph.{Graph}
 use Rattle.meaning.specs.facts.Tests.{eqb-self}
+use Rattle.meaning.specs.facts.Numbers.{no-further, one-further}
 use Rattle.nesting.specs.Nesting.{NestState, Piece, piece, plain, unclaimed-from, StructurizeRegionState, not-begun, in-progress, claimed}
 use Rattle.nesting.specs.Nesting.{ready, DeferredEdgeBundleSet}
 use Rattle.nesting.specs.Sheet as sheet
@@ -41,20 +42,14 @@ module _ (g : Graph) (s : NestState) where
   sets-of ps = each (λ (p : Piece). set-part g s (p .region) (p .deferred)) ps
 
   -- ---- The regions from k on, whose states are xs; h has the part of each by its number.
-  by-place : (k : ℕ) → k + 0 ≡ k
-  by-place k = omega arith
-
-  next-place : (k j : ℕ) → k + suc j ≡ suc k + j
-  next-place k j = omega arith
-
   pub unclaimed-lines : (h : ℕ → Part) (k : ℕ) (xs : List StructurizeRegionState)
       → ((j : ℕ) → j < length xs → h (k + j) ≡ ready-lines (k + j) (getD xs j not-begun))
       → run h k (length xs) ≡ each (piece-part g s) (unclaimed-from g k xs)
   unfolding run
   unclaimed-lines h k [] e = refl
   unclaimed-lines h k (x ∷ xs) e =
-      let first : h k ≡ ready-lines k x = rw (by-place k) at (e 0 (omega arith)) in
-      let rest = unclaimed-lines h (suc k) xs (λ j l. rw (next-place k j) at (e (suc j) (omega arith))) in
+      let first : h k ≡ ready-lines k x = rw (no-further k) at (e 0 (omega arith)) in
+      let rest = unclaimed-lines h (suc k) xs (λ j l. rw (one-further k j) at (e (suc j) (omega arith))) in
       rw (first, rest) (by x)
     where
       by : (x : StructurizeRegionState)
@@ -70,8 +65,8 @@ module _ (g : Graph) (s : NestState) where
   unfolding run
   unclaimed-sets h k [] e = refl
   unclaimed-sets h k (x ∷ xs) e =
-      let first : h k ≡ ready-set k x = rw (by-place k) at (e 0 (omega arith)) in
-      let rest = unclaimed-sets h (suc k) xs (λ j l. rw (next-place k j) at (e (suc j) (omega arith))) in
+      let first : h k ≡ ready-set k x = rw (no-further k) at (e 0 (omega arith)) in
+      let rest = unclaimed-sets h (suc k) xs (λ j l. rw (one-further k j) at (e (suc j) (omega arith))) in
       rw (first, rest) (by x)
     where
       by : (x : StructurizeRegionState)
@@ -99,9 +94,9 @@ module _ (g : Graph) (s : NestState) where
     unfolding run
     ascending-sets h k [] a b c e = absurd (omega arith)
     ascending-sets h k (x ∷ xs) a b c e =
-        let first : h k ≡ given-set (p .region) (p .deferred) k x = rw (by-place k) at (e 0 (omega arith)) in
+        let first : h k ≡ given-set (p .region) (p .deferred) k x = rw (no-further k) at (e 0 (omega arith)) in
         let later : (j : ℕ) → j < length xs → h (suc k + j) ≡ given-set (p .region) (p .deferred) (suc k + j) (getD xs j not-begun) =
-        λ j l. rw (next-place k j) at (e (suc j) (omega arith)) in
+        λ j l. rw (one-further k j) at (e (suc j) (omega arith)) in
         elim (ℕ-discrete k (p .region)) [
           | yes q ↦
               let here : x ≡ claimed = c 0 (omega arith) (omega arith) in

@@ -6,6 +6,7 @@ use lib.ListN.{length, length-map}
 use Rattle.meaning.specs.Lists.{concat}
 use Rattle.meaning.specs.Graph.{Graph, Value}
 use Rattle.meaning.specs.Runs.{SelectNode, LoopNode, Node, block, select, loop, exit, Nodes, ⟨⟩, _▸_, Cases, ∅, case}
+use Rattle.meaning.specs.facts.Elements.{concat-append}
 use Rattle.nesting.specs.Nesting.{Nested, Piece, Outcome, untouched, whole, closed, leftover, DeferredEdgeBundle}
 use Rattle.nesting.specs.Sheet as sheet
 use Rattle.nesting.specs.Sheet.{Field}
@@ -16,10 +17,6 @@ use Rattle.sheet.specs.Whole.{piece-words, defer-words, lines-words, hea
 -- The words of lines.
 abbrev of-lines : List (List Field) → List ℕ
 of-lines ls = concat (map words-of ls)
-
-concat-append : {A : Type 0} (xs ys : List (List A)) → concat (xs ++ ys) ≡ concat xs ++ concat ys
-concat-append [] ys = refl
-concat-append (x ∷ xs) ys = rw (concat-append xs ys) (sym (append-assoc x (concat xs) (concat ys)))
 
 lines-append : (ls ms : List (List Field)) → of-lines (ls ++ ms) ≡ of-lines ls ++ of-lines ms
 lines-append ls ms = rw (map-append words-of ls ms) (concat-append (map words-of ls) (map words-of ms))

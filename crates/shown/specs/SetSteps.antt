@@ -11,6 +11,7 @@ use lib.Dec.{eqb, ltb}
 use borrow.Author.Tests.{lt-ltb, le-ltb, eq-eqb, ne-eqb}
 use Rattle.meaning.specs.Graph.{Graph, Value, undef}
 use Rattle.meaning.specs.Lists.{pick}
+use Rattle.meaning.specs.facts.Elements.{getD-any}
 use Rattle.nesting.specs.Nesting.{DeferredTarget, DeferredEdgeBundle, DeferredEdgeBundleSet, same-target}
 use Rattle.nesting.specs.Nesting.{LazyCond, edge-bundle, condition-in, split-out-target}
 use Rattle.state.specs.Sections.{used, word, stored, stored-all, set-starts, set-lengths, bundles}
@@ -73,11 +74,6 @@ set-of-one {g} {w} {p} {e} h x =
     }
 
 -- ---- One bundle out of a list.
-getD-any : {A : Type 0} (l : List A) (k : ℕ) (a b : A) → k < length l → getD l k a ≡ getD l k b
-getD-any [] k a b h = absurd (omega arith)
-getD-any (x ∷ l) zero a b h = refl
-getD-any (x ∷ l) (suc k) a b h = getD-any l k a b (omega arith)
-
 -- By swap: the last takes the place of the first to x.
 pub record SplitLeaves (x : DeferredTarget) (d : DeferredEdgeBundleSet) (i : ℕ) : Type 0 where
   pub size : suc (length (split-out-target x d)) ≡ length d

@@ -10,6 +10,7 @@ use lib.ListN.{length, getD, length-map}
 use Rattle.meaning.specs.Lists.{any, concat}
 use Rattle.meaning.specs.Graph.{Value}
 use Rattle.meaning.specs.Runs.{Node, Nodes, ⟨⟩, _▸_, Cases, ∅, case, block, select, loop, exit}
+use Rattle.meaning.specs.facts.Numbers.{one-further}
 use Rattle.nesting.specs.Nesting.{NestState, NodeOutput, LookUp, plain, join, look-up-node, look-up-nodes, look-up-cases}
 use Rattle.nesting.specs.Sheet as sheet
 use Rattle.writing.specs.declared.place.Place.{Place}
@@ -121,9 +122,6 @@ module _ {A : Type 0} (f : A → Part) (d : A) (xs : List A) where
       → Puts out at (plain (length xs ∷ []) ⊕ each f xs) out₂ at₂
   puts-listed size none p q = puts-then (puts-each size none p) (rw size at q)
 
-pub one-across : (n m : ℕ) → n + suc m ≡ suc n + m
-one-across n m = omega arith
-
 -- ---- A list whose items have numbers, from k on.
 unfoldable pub each-from : {A : Type 0} → (ℕ → A → Part) → ℕ → List A → Part
 each-from f k [] = plain []
@@ -136,7 +134,7 @@ module _ {A : Type 0} (f : ℕ → A → Part) (d : A) where
   run-from h m k [] e = refl
   run-from h m k (x ∷ xs) e =
       let first : h m ≡ f k x = rw (add-zero m, add-zero k) at (e 0 (omega arith)) in
-      let rest = run-from h (suc m) (suc k) xs (λ j l. rw (one-across m j, one-across k j) at (e (suc j) (omega arith))) in
+      let rest = run-from h (suc m) (suc k) xs (λ j l. rw (one-further m j, one-further k j) at (e (suc j) (omega arith))) in
       rw (first, rest)
 
   pub puts-from : (k₀ : ℕ) (xs : List A) {n k : ℕ} {out out₁ : List ℕ} {at at₁ : Place} → n ≡ length xs → k ≤ 0

@@ -5,6 +5,7 @@ use mathlib.Core.List.{List, [], _∷_, _++_, map}
 use Prim.Native.Nat.{ℕ, zero, suc, _+_, _-_, _≤_, _<_}
 use native.Mathlib.Omega.{arith}
 use lib.ListN.{length, getD}
+use Rattle.meaning.specs.facts.Numbers.{no-further, one-further, from-none}
 use Rattle.nesting.specs.Nesting.{plain}
 use Rattle.writing.specs.declared.place.Place.{Place}
 use Rattle.writing.specs.Puts.{Part, _⊕_, Puts, puts-then, puts-none}
@@ -41,20 +42,11 @@ pub run-is : {A : Type 0} (h : ℕ → Part) (f : A → Part) (d : A) (k : ℕ) 
 unfolding run
 run-is h f d k [] e = refl
 run-is h f d k (x ∷ xs) e =
-    let first : h k ≡ f x = rw (add-zero k) at (e 0 (omega arith)) in
-    let rest : run h (suc k) (length xs) ≡ each f xs = run-is h f d (suc k) xs (λ j l. rw (add-suc k j) at (e (suc j) (omega arith))) in
+    let first : h k ≡ f x = rw (no-further k) at (e 0 (omega arith)) in
+    let rest : run h (suc k) (length xs) ≡ each f xs = run-is h f d (suc k) xs (λ j l. rw (one-further k j) at (e (suc j) (omega arith))) in
     rw (first, rest)
-  where
-    add-zero : (n : ℕ) → n + 0 ≡ n
-    add-zero n = omega arith
-
-    add-suc : (n m : ℕ) → n + suc m ≡ suc n + m
-    add-suc n m = omega arith
 
 -- From the first on, as a loop's invariant ends with it.
 pub run-list : {A : Type 0} (h : ℕ → Part) (f : A → Part) (d : A) (n : ℕ) (xs : List A) → n ≡ length xs
     → ((j : ℕ) → j < length xs → h j ≡ f (getD xs j d)) → run h 0 n ≡ each f xs
-run-list h f d n xs size e = rw size (run-is h f d 0 xs (λ j l. rw (zero-add j) (e j l)))
-  where
-    zero-add : (n : ℕ) → 0 + n ≡ n
-    zero-add n = omega arith
+run-list h f d n xs size e = rw size (run-is h f d 0 xs (λ j l. rw (from-none j) (e j l)))

@@ -5,7 +5,8 @@ use lib.ListN.{length, drop}
 use Rattle.meaning.specs.Graph.{edges-of}
 use Rattle.meaning.specs.Lists.{total}
 use Rattle.record.specs.Stands.{OfRecord}
-use Rattle.incoming.specs.Counted.{sum-turn, sum-end}
+use Rattle.meaning.specs.Graph.{nowhere}
+use Rattle.meaning.specs.facts.Sums.{sum-turn, sum-end}
 use borrow.Author.Needs.{needs}
 use Rattle.incoming.proofs.visit_count.Statement.{statement}
 use Rattle.incoming.proofs.visit_count.Tie as tie
@@ -44,12 +45,12 @@ loop-again c = (
   omega arith,
   omega (arith, c .target-count .ok),
   λ g s. rw (c .target-count .ensures g s)
-      (sum-turn _ _ (c .before .before .before .region-count .ensures g s) _ _ _
+      (sum-turn _ _ nowhere (c .before .before .before .region-count .ensures g s) _ _ _
       (c .before .loop-test .taken) (c .before .before .loop .inv .2 g s)),
 )
 
 returns : tie.Need-returns Inv-loop μ-loop
-returns c g s = sum-end _ _ (c .before .before .region-count .ensures g s) _ _ _ (c .loop-test .left) (c .before .loop .inv .2 g s)
+returns c g s = sum-end _ _ nowhere (c .before .before .region-count .ensures g s) _ _ _ (c .loop-test .left) (c .before .loop .inv .2 g s)
 
 pub visit-count-spec : {M : Type 1} → statement M
 visit-count-spec =

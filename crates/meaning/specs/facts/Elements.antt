@@ -8,15 +8,15 @@ use mathlib.Core.Option.{Option, none, some}
 use mathlib.Core.Path.{_≡_, ap, refl, sym, _∙_}
 use Prim.Native.Nat.{_<_, suc, zero, ℕ, _≤_, _+_}
 use native.Mathlib.Omega.{arith}
-use native.Mathlib.Nat.{not-suc-le-zero}
+use native.Mathlib.Nat.{add-zero, not-suc-le-zero}
 use native.Mathlib.Decide.{decLt, ℕ-discrete}
 use native.Mathlib.Numerals.{add-one}
 use lib.ListN.{getD, length, take, drop, set, replicate, length-append, List·getD-append}
-use lib.Seq.{getD-append-seam, set-at, drop-cons, append-snoc}
+use lib.Seq.{getD-append-seam, getD-drop, set-at, drop-cons, append-snoc}
 use lib.Dec.{eqb}
 use borrow.Author.Tests.{eqb-true}
-use Rattle.meaning.specs.Lists.{pick, any, filter, numbers-from, All, tabulate}
-use Rattle.meaning.specs.facts.Tests.{clash, and-both}
+use Rattle.meaning.specs.Lists.{pick, any, concat, filter, numbers-from, All, tabulate}
+use Rattle.meaning.specs.facts.Tests.{clash, and-both, or-left, or-right}
 
 abbrev pub nth : {A : Type 0} → List A → ℕ → Option A
 nth [] k = none
@@ -210,3 +210,29 @@ numbers-same (x ∷ xs) [] e = cc
 numbers-same (x ∷ xs) (y ∷ ys) e =
     let h = and-both (eqb x y) (same-numbers xs ys) e in
     rw (eqb-true x y (h .0), numbers-same xs ys (h .1))
+
+-- ---- by place
+-- Within the list any default will do.
+pub getD-any : {A : Type 0} (l : List A) (k : ℕ) (a b : A) → k < length l → getD l k a ≡ getD l k b
+getD-any [] k a b h = absurd (omega arith)
+getD-any (x ∷ l) zero a b h = refl
+getD-any (x ∷ l) (suc k) a b h = getD-any l k a b (omega arith)
+
+pub first-dropped : {A : Type 0} (l : List A) (k : ℕ) (d : A) → getD (drop k l) 0 d ≡ getD l k d
+first-dropped l k d = getD-drop k l 0 d ∙ ap (λ i. getD l i d) (add-zero k)
+
+pub none-of : {A : Type 0} (f : A → Bool) (xs : List A) → any f xs ≡ false → (i : ℕ) (d : A) → i < length xs → f (getD xs i d) ≡ false
+none-of f [] e i d h = absurd (omega arith)
+none-of f (x ∷ xs) e zero d h = or-left (f x) (any f xs) e
+none-of f (x ∷ xs) e (suc i) d h = none-of f xs (or-right (f x) (any f xs) e) i d (omega arith)
+
+-- What holds of each of a list, from place i on, and of one in front.
+pub at-cons : {A : Type 0} (P : ℕ → A → Type 0) (z : A) (i n : ℕ) {x : A} (xs : List A) → P i x
+    → ((j : ℕ) → j < n → P (suc i + j) (getD xs j z)) → (j : ℕ) → j < suc n → P (i + j) (getD (x ∷ xs) j z)
+at-cons P z i n xs first rest zero h = let e : i + 0 ≡ i = omega arith in rw e first
+at-cons P z i n xs first rest (suc j) h = let e : i + suc j ≡ suc i + j = omega arith in rw e (rest j (omega arith))
+
+-- ---- lists of lists
+pub concat-append : {A : Type 0} (xs ys : List (List A)) → concat (xs ++ ys) ≡ concat xs ++ concat ys
+concat-append [] ys = refl
+concat-append (x ∷ xs) ys = rw (concat-append xs ys) (sym (append-assoc x (concat xs) (concat ys)))

@@ -11,6 +11,16 @@ one-less n k l = omega arith
 pub none-left : (n k : ℕ) → n ≤ k → n - k ≡ 0
 none-left n k l = omega arith
 
+-- Places of a list, counted from n on.
+pub no-further : (n : ℕ) → n + 0 ≡ n
+no-further n = omega arith
+
+pub one-further : (n m : ℕ) → n + suc m ≡ suc n + m
+one-further n m = omega arith
+
+pub from-none : (n : ℕ) → 0 + n ≡ n
+from-none n = omega arith
+
 pub pred-below : (n : ℕ) → 1 ≤ n → pred n < n
 pred-below zero le = absurd (omega arith)
 pred-below (suc n) le = omega arith

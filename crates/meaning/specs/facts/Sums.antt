@@ -1,10 +1,12 @@
 -- Sums over a list of numbers, and over its first ones; where each stands once, what a change at one of them does to the sum.
-use mathlib.Core.Path.{_≡_, refl}
+use mathlib.Core.Path.{_≡_, refl, ap}
 use mathlib.Core.Bool.{Bool, true, false, _||_}
 use mathlib.Core.List.{List, [], _∷_}
 use Prim.Native.Nat.{ℕ, zero, suc, _+_, _*_, _≤_, _<_}
 use native.Mathlib.Omega.{arith}
-use lib.ListN.{length, getD, take}
+use native.Mathlib.Numerals.{add-one}
+use lib.ListN.{length, getD, take, drop, drop-of-length-le}
+use lib.Seq.{drop-cons}
 use lib.Dec.{eqb}
 use borrow.Author.Tests.{eqb-true, eqb-false}
 use Rattle.meaning.specs.Lists.{is-in, Distinct, total}
@@ -41,6 +43,18 @@ total-one f r (x ∷ l) i = go (first-or-rest r x l i) (λ j. total-one f r l j)
     go : FirstOrRest r x l → (is-in r l ≡ true → f r ≤ total f l) → f r ≤ f x + total f l
     go (first e) ih = rw e (omega arith)
     go (rest j) ih = let z = ih j in omega arith
+
+-- ---- A sum over a list, from place k on, by the length n that the code has.
+module _ {A : Type 0} (f : A → ℕ) (xs : List A) (d : A) {n : ℕ} (size : n ≡ length xs) where
+  pub sum-turn : (k sum whole : ℕ) → k < n → sum + total f (drop k xs) ≡ whole
+      → sum + f (getD xs k d) + total f (drop (k + 1) xs) ≡ whole
+  sum-turn k sum whole l h =
+      let step = ap (total f) (drop-cons xs k d (omega arith)) in
+      let next = ap (λ i. total f (drop i xs)) (add-one k) in
+      omega arith
+
+  pub sum-end : (k sum whole : ℕ) → n ≤ k → sum + total f (drop k xs) ≡ whole → sum ≡ whole
+  sum-end k sum whole l h = let none = ap (total f) (drop-of-length-le xs {i = k} (omega arith)) in omega arith
 
 -- The first ones and the next; one that is not there adds nothing.
 pub total-next : {A : Type 0} (f : A → ℕ) (d : A) (xs : List A) (r : ℕ) → f d ≡ 0

@@ -16,7 +16,8 @@ use Rattle.sheet_text.specs.Lines.{shown}
 use Rattle.sheet_text.specs.Texts.{say, _then_, item-text, condition-text, list-within, item-head, merge-head, plain-text}
 use Rattle.sheet_text.specs.Puts.{Puts, PutsWithin}
 use Rattle.sheet_text.specs.laws.PutsSteps.{puts-then, puts-there}
-use Rattle.sheet_text.specs.laws.Readers.{here, next-next, next-decoded}
+use Rattle.meaning.specs.facts.Elements.{first-dropped}
+use Rattle.sheet_text.specs.laws.Readers.{next-next, next-decoded}
 
 pub item-shown : (depth : ℕ) (ws : List ℕ) → (item-head then list-within depth Value) ws ≡ item-text ws
 unfolding shown _then_ joined
@@ -52,7 +53,7 @@ module _ {ws : List ℕ} {c : Cursor} where
       let beyond : getD ws (c .at) 0 ≡ 0 = List·getD-eq-default ws 0 {n = c .at} (omega arith) in
       absurd (omega (arith, eqb-true (getD ws (c .at) 0) 4 is))
   merge-there is (suc depth) h a b q =
-      puts-there (λ l. merge-shown depth (drop (c .at) ws) (here ws (c .at) ∙ eqb-true _ _ is))
+      puts-there (λ l. merge-shown depth (drop (c .at) ws) (first-dropped ws (c .at) 0 ∙ eqb-true _ _ is))
       (puts-then a (puts-then (b depth (omega (arith, a .ahead))) q))
 
   pub plain-there : eqb (getD ws (c .at) 0) 4 ≡ false → (depth : ℕ) → length ws ≤ c .at + 0 + depth → {before after : List ℕ} {d : Cursor}
@@ -60,4 +61,4 @@ module _ {ws : List ℕ} {c : Cursor} where
   unfolding shown next-word decode-condition
   plain-there is zero h a = puts-there (λ l. rw (drop-of-length-le ws {i = c .at} (omega arith)) refl) a
   plain-there is (suc depth) h a =
-      puts-there (λ l. plain-shown depth (drop (c .at) ws) λ e. eqb-false _ _ is (sym (here ws (c .at)) ∙ e)) a
+      puts-there (λ l. plain-shown depth (drop (c .at) ws) λ e. eqb-false _ _ is (sym (first-dropped ws (c .at) 0) ∙ e)) a

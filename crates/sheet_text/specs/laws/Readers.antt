@@ -1,11 +1,9 @@
 -- What the readers make of the next words.
-use mathlib.Core.Path.{_≡_, refl, ap, _∙_}
+use mathlib.Core.Path.{_≡_, refl}
 use mathlib.Core.List.{List, [], _∷_}
 use Prim.Native.Nat.{ℕ, zero, suc, _≤_, _<_}
-use native.Mathlib.Nat.{add-zero}
 use native.Mathlib.Omega.{arith}
 use lib.ListN.{length, getD, drop, List·getD-eq-default}
-use lib.Seq.{getD-drop}
 use Rattle.meaning.specs.Text.{Text}
 use Rattle.nesting.specs.decoding.Lines.{value-texts}
 use Rattle.nesting.specs.decoding.Decode.{Decoded, decoded, nothing, WordReader, next-word}
@@ -22,10 +20,6 @@ next-next nothing f g = refl
 pub next-decoded : {A B : Type 0} (a : A) (ws : List ℕ) (f : A → WordReader B) → next-word (decoded a ws) f ≡ f a ws
 unfolding next-word
 next-decoded a ws f = refl
-
--- The next word, as the code and as a reader sees it.
-pub here : (ws : List ℕ) (at : ℕ) → getD (drop at ws) 0 0 ≡ getD ws at 0
-here ws at = getD-drop at ws 0 0 ∙ ap (λ k. getD ws k 0) (add-zero at)
 
 pub either-none : (z o : Text) (w : ℕ) → (w ≡ 0 → ⊥) → (w ≡ 1 → ⊥) → (rest : List ℕ) → either-by z o w rest ≡ nothing
 either-none z o zero a b rest = absurd (a refl)

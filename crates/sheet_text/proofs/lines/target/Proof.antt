@@ -4,7 +4,7 @@ use Rattle.nesting.specs.decoding.Decode.{next-word}
 use Rattle.sheet_text.specs.Lines.{shown}
 use Rattle.sheet_text.specs.laws.PutsSteps.{puts-next, puts-ended, puts-there}
 use Rattle.sheet_text.specs.laws.LineTexts.{number-target}
-use Rattle.sheet_text.specs.laws.Readers.{here}
+use Rattle.meaning.specs.facts.Elements.{first-dropped}
 use Rattle.sheet_text.proofs.lines.target.Statement.{statement}
 use Rattle.sheet_text.proofs.lines.target.Tie as tie
 
@@ -47,7 +47,7 @@ same-length-2 c = search needs
 returns-3 : tie.Need-returns-3
 returns-3 c =
     let a = c .before .before .before .before .before .before .before .before .before .args in
-    puts-there (λ l. number-target _ λ e. c .before .before .before .before .if2 .left (sym (here (a .words .now) (a .c .at)) ∙ e))
+    puts-there (λ l. number-target _ λ e. c .before .before .before .before .if2 .left (sym (first-dropped (a .words .now) (a .c .at) 0) ∙ e))
     (c .before .before .number .ensures)
 
 pub target-spec : {M : Type 1} → statement M
