@@ -1,6 +1,7 @@
 pub mod Sections
 pub mod Stored
 pub mod Tables
+pub mod Edges
 pub mod Finds
 pub mod Apart
 pub mod Values

@@ -1,7 +1,7 @@
 -- What a step does to a table of the state: a definition within its limit, a cell more.
 use mathlib.Core.Path.{_≡_}
 use mathlib.Core.List.{List, [], _∷_}
-use Prim.Native.Nat.{ℕ, zero, suc, _+_, _*_, _-_, _≤_, _<_}
+use Prim.Native.Nat.{ℕ, zero, suc, _+_, _*_, _-_, _≤_, _<_, min}
 use lib.Dec.{ltb, eqb}
 use Rattle.state.specs.declared.defined.Defined.{Defined}
 use Rattle.state.specs.declared.defined.Defined.the-variants.{Number, Full}
@@ -45,6 +45,10 @@ unfoldable pub inserted : List ℕ → ℕ → ℕ → List ℕ → List ℕ
 inserted l r kind vs = pick (eqb (word l rewrites (5 * r)) 0) (stored-all (stored l rewrites (5 * r) kind) rewrites (5 * r + 1) vs) l
 
 -- ---- Bundles.
+-- A number of edges, as a word of the state: held at the largest.
+abbrev pub edges-word : ℕ → ℕ
+edges-word n = min n 65535
+
 unfoldable pub slot : ℕ → ℕ
 slot r = pick (ltb r 33) (33 * r) 65535
 
