@@ -195,8 +195,8 @@ pub fn find_by_target(w: &[u16; WORDS], start: u16, n: u16, t: u16) -> u16
     NO_BUNDLE
 }
 
-// Bundle b leaves its set by swap: the last takes its place.
-pub fn swap_remove(w: &mut [u16; WORDS], r: u16, b: u16)
+// Bundle b leaves region r's set by swap: the last takes its place. It was found by its target before (`find_by_target`).
+pub fn split_out_target(w: &mut [u16; WORDS], r: u16, b: u16)
     ensures { λ _. ⌜ now (w .exit) ≡ tables.«swap-removed» (now (w .entry)) r b ⌝ }
 {
     let n = set_length(w, r);
