@@ -1,3 +1,4 @@
+pub mod Limits
 pub mod Sections
 pub mod Stored
 pub mod Tables
