@@ -195,8 +195,8 @@ pub fn find_by_target(w: &[u16; WORDS], start: u16, n: u16, t: u16) -> u16
     NO_BUNDLE
 }
 
-// Bundle b leaves region r's set by swap: the last takes its place. It was found by its target before (`find_by_target`).
-pub fn split_out_target(w: &mut [u16; WORDS], r: u16, b: u16)
+// Bundle b leaves its set by swap: the last takes its place.
+fn swap_remove(w: &mut [u16; WORDS], r: u16, b: u16)
     ensures { λ _. ⌜ now (w .exit) ≡ tables.«swap-removed» (now (w .entry)) r b ⌝ }
 {
     let n = set_length(w, r);
@@ -206,6 +206,13 @@ pub fn split_out_target(w: &mut [u16; WORDS], r: u16, b: u16)
     let last = bundle_at(set_start(w, r), n - 1);
     copy_bundle(w, b, last);
     put_set_length(w, r, n - 1);
+}
+
+// The bundle to a target leaves region r's set. It is bundle b: `find_by_target` found it before.
+pub fn split_out_target(w: &mut [u16; WORDS], r: u16, b: u16)
+    ensures { λ _. ⌜ now (w .exit) ≡ tables.«swap-removed» (now (w .entry)) r b ⌝ }
+{
+    swap_remove(w, r, b);
 }
 
 // The bundles behind bundle i of n each move one up.

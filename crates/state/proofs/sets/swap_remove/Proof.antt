@@ -2,8 +2,8 @@ use Rattle.state.specs.Tables.{swap-removed}
 use mathlib.Core.Path.{_∙_}
 use Rattle.meaning.specs.facts.Tests.{picked, passed-over, is-equal, not-equal}
 use borrow.Author.Needs.{needs}
-use Rattle.state.proofs.sets.split_out_target.Statement.{statement}
-use Rattle.state.proofs.sets.split_out_target.Tie as tie
+use Rattle.state.proofs.sets.swap_remove.Statement.{statement}
+use Rattle.state.proofs.sets.swap_remove.Tie as tie
 
 set-length-requires : tie.Need-set-length-requires
 set-length-requires c κs = search needs
@@ -41,8 +41,8 @@ returns-2 c = (rw (
     ∙ passed-over _ _ (not-equal (c .before .before .before .before .before .before .before .if1 .left)
     (c .before .before .before .before .before .before .before .before .set-length .ensures))
 
-pub split-out-target-spec : {M : Type 1} → statement M
-split-out-target-spec =
+pub swap-remove-spec : {M : Type 1} → statement M
+swap-remove-spec =
     tie.close
     (tie.spec
     set-length-requires
