@@ -39,8 +39,8 @@ pub data AddsBlocks (g : Graph) (w : List ℕ) (r : ℕ) (w′ : List ℕ) : Typ
 
 pub data AddsExit (w : List ℕ) (r : ℕ) (w′ : List ℕ) : Made → Type 0 where
   exit-full : Defines 1 most-nodes w w′ defined.Full → AddsExit w r w′ Full
-  exit-added : {w₁ w₂ : List ℕ} {node h : ℕ} → Defines 1 most-nodes w w₁ (Number node) → Adds w₁ w₂ (exit-cell (word w₁ children r) node r) h
-      → w′ ≡ stored w₂ children r h → AddsExit w r w′ Done
+  exit-added : {w₁ w₂ : List ℕ} {node h : ℕ} → Defines 1 most-nodes w w₁ (Number node)
+      → Adds w₁ w₂ (exit-cell (word w₁ children r) node r) h → w′ ≡ stored w₂ children r h → AddsExit w r w′ Done
 
 pub data Branches (g : Graph) (w : List ℕ) (r : ℕ) (w′ : List ℕ) : Made → Type 0 where
   branches : Appends (cases-filled g w r) w′ r (case-row (cases-filled g w r) 0) 0 → Branches g w r w′ Done

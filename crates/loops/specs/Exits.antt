@@ -19,7 +19,8 @@ use Rattle.shown.specs.Front.{SameKinds, stands-kept, kinds-same, kinds-stored,
 -- Of loop r, in bundle p.
 unfoldable pub exit-added : Graph → ℕ → ℕ → List ℕ → List ℕ
 exit-added g r p l =
-    pick (is-in (word l bundles (7 * p + 0)) (region g r .exits)) (stored l bundles (7 * p + 1) (edges-word (word l bundles (7 * p + 1) + 1))) l
+    let n = word l bundles (7 * p + 1) in
+    pick (is-in (word l bundles (7 * p + 0)) (region g r .exits)) (stored l bundles (7 * p + 1) (edges-word (n + 1))) l
 
 -- In k bundles from place i on.
 unfoldable pub exits-from : Graph → ℕ → ℕ → ℕ → ℕ → List ℕ → List ℕ

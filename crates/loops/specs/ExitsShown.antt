@@ -74,7 +74,8 @@ module _ (g : Graph) (r : ℕ) (not-return : is-in 65535 (region g r .exits) ≡
     count-word t c e f h = rw e (go (is-in t (region g r .exits)))
       where
         go : (b : Bool)
-            → word (pick b (stored l bundles (7 * p + 1) (edges-word (word l bundles (7 * p + 1) + 1))) l) bundles (7 * p + 1) ≡ pick b (suc c) c
+            → word (pick b (stored l bundles (7 * p + 1) (edges-word (word l bundles (7 * p + 1) + 1))) l) bundles (7 * p + 1)
+            ≡ pick b (suc c) c
         go true = word-there l bundles (7 * p + 1) (edges-word (word l bundles (7 * p + 1) + 1)) (omega arith) (omega arith)
             ∙ ap (λ z. edges-word (z + 1)) f ∙ counted c h
         go false = f

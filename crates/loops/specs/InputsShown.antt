@@ -271,8 +271,8 @@ module _ (g : Graph) (r wrapper n : ℕ) (l vs : List ℕ) (vals : List Value) (
       input-turn (taken-to (omega arith) made) (omega arith) step at w
 
 -- ---- The header's entry.
-pub named-entry : (w : List ℕ) (r : ℕ) (ws : List ℕ) → used ≤ length w → r < most-regions → length ws ≡ 4 → ((k : ℕ) → k < 4 → getD ws k 0 < 4096)
-    → NamedRewrites w → NamedRewrites (inserted w r 2 ws)
+pub named-entry : (w : List ℕ) (r : ℕ) (ws : List ℕ) → used ≤ length w → r < most-regions → length ws ≡ 4
+    → ((k : ℕ) → k < 4 → getD ws k 0 < 4096) → NamedRewrites w → NamedRewrites (inserted w r 2 ws)
 unfolding inserted
 named-entry w r ws room h four below n = go (ℕ-discrete (word w rewrites (5 * r)) 0)
   where

@@ -25,8 +25,8 @@ pub data AddsLoop (r node repeat kept : ℕ) (l l′ : List ℕ) : Type 0 where
 
 -- The repeat condition made real, the node defined, the loop added.
 pub data LoopDefined (r c kept : ℕ) (l l′ : List ℕ) : Made → Type 0 where
-  loop-defined : {x n : ℕ} {l₁ l₂ : List ℕ} → Materializes l c l₁ (Number x) → Defines 1 most-nodes l₁ l₂ (Number n) → AddsLoop r n x kept l₂ l′
-      → LoopDefined r c kept l l′ Done
+  loop-defined : {x n : ℕ} {l₁ l₂ : List ℕ} → Materializes l c l₁ (Number x) → Defines 1 most-nodes l₁ l₂ (Number n)
+      → AddsLoop r n x kept l₂ l′ → LoopDefined r c kept l l′ Done
   no-value : Materializes l c l′ Full → LoopDefined r c kept l l′ Refused
   no-node : {x : ℕ} {l₁ : List ℕ} → Materializes l c l₁ (Number x) → Defines 1 most-nodes l₁ l′ Full → LoopDefined r c kept l l′ Refused
 

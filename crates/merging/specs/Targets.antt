@@ -50,14 +50,16 @@ module _ (l : List ℕ) (p start n t count q : ℕ) (of-start : start ≡ word l
       → l₂ ≡ summarize-bundle l p
   unfolding summarize-bundle
   bundle-new e at first more last =
-      last ∙ rw (← of-start, ← of-length, ← of-target, ← found, eq-eqb q 65535 e, ← of-count .0, first, edges-fit count (of-count .1), at, more)
+      let fits = edges-fit count (of-count .1) in
+      last ∙ rw (← of-start, ← of-length, ← of-target, ← found, eq-eqb q 65535 e, ← of-count .0, first, fits, at, more)
 
   pub bundle-there : (q ≡ 65535 → ⊥) → {before m : ℕ} {l₁ : List ℕ} → (before ≡ word l bundles (7 * q + 1)) × (before ≤ 65535)
       → m ≡ min (before + count) 4294967295 → l₁ ≡ stored l bundles (7 * q + 1) (edges-word m)
       → l₁ ≡ summarize-bundle l p
   unfolding summarize-bundle
-  bundle-there d of-before more last =
-      last ∙ rw (← of-start, ← of-length, ← of-target, ← found, ne-eqb q 65535 d, ← of-count .0, ← of-before .0, more, edges-sum before count (of-before .1) (of-count .1))
+  bundle-there d {before} of-before more last =
+      let held = edges-sum before count (of-before .1) (of-count .1) in
+      last ∙ rw (← of-start, ← of-length, ← of-target, ← found, ne-eqb q 65535 d, ← of-count .0, ← of-before .0, more, held)
 
 pub targets-path : (l l₁ l₂ : List ℕ) (n j : ℕ) → l₁ ≡ stored l set-lengths 32 0 → n ≡ case-total l₁ → n ≤ j
     → turned summarize-case l₂ (n - j) j ≡ turned summarize-case l₁ n 0

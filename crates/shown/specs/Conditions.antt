@@ -147,7 +147,8 @@ module _ {w w′ : List ℕ} {s : NestState} (t : ShowsTables w s) {n shape x : 
         rewritten = rw (g .others rewrites (omega arith) (omega arith)) (t .rewritten);
         outputs-shown = rw (g .others outputs (omega arith) (omega arith)) (t .outputs-shown);
       })
-  merge-made len k q ys (merges-full h e) = let z = t .merge-total in rw (le-ltb (s .merge-count) most-merges (omega arith), define) shows-full
+  merge-made len k q ys (merges-full h e) =
+      let z = t .merge-total in rw (le-ltb (s .merge-count) most-merges (omega arith), define) shows-full
 
   pub condition-kept : {a : Defined} → MergeDefined n shape x ps w w′ a → {c : ℕ} {u : LazyCond} → ShowsCondition w c u
       → ShowsCondition w′ c u

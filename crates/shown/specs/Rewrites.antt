@@ -139,8 +139,8 @@ insert-changes w r kind ws i =
     ]
 
 -- Code and definition enter the same.
-pub rewrites-inserted : {w w′ : List ℕ} {s : NestState} → ShowsTables w s → {r kind : ℕ} {ws : List ℕ} {x : RegionInputRewrites} → r < most-regions
-    → length ws ≡ 4 → EntryWords r kind ws x
+pub rewrites-inserted : {w w′ : List ℕ} {s : NestState} → ShowsTables w s → {r kind : ℕ} {ws : List ℕ} {x : RegionInputRewrites}
+    → r < most-regions → length ws ≡ 4 → EntryWords r kind ws x
     → w′ ≡ inserted w r kind ws
     → ShowsTables w′ (with-tables (s .region-states) (s .region-input-rewrites ++ (record { region = r; rewrites = x } ∷ []))
     (s .node-outputs) s)

@@ -151,7 +151,8 @@ module _ (l : List ℕ) (os : List NodeOutput) (x : NodeOutput) (vs : List ℕ) 
             };
       }
 
-  output-new : length l ≡ 5120 → length os < most-outputs → length vs ≡ 8 → ShowsValues vs 0 (x .values) → ShowsOutput more-words (length os) x
+  output-new : length l ≡ 5120 → length os < most-outputs → length vs ≡ 8 → ShowsValues vs 0 (x .values)
+      → ShowsOutput more-words (length os) x
   output-new a b c d =
       let o = 10 * length os in
       let room : o + length its-words ≤ length l = omega arith in
@@ -213,7 +214,8 @@ module _ {w w′ : List ℕ} {s : NestState} (t : ShowsTables w s) {n ty : ℕ} 
             (record { node = n; type = ty; values = us }) vs (part-length (start outputs) (size outputs) w (let y = t .size in omega arith))
             (omega arith) len shown (t .outputs-shown));
       })
-  output-made (outputs-full h e) = let z = t .output-total in rw (le-ltb (length (s .node-outputs)) most-outputs (omega arith), define) shows-full
+  output-made (outputs-full h e) =
+      let z = t .output-total in rw (le-ltb (length (s .node-outputs)) most-outputs (omega arith), define) shows-full
 
 -- What an output more leaves.
 pub output-changes : {w w′ : List ℕ} {n ty : ℕ} {vs : List ℕ} {a : Defined} → OutputDefined n ty vs w w′ a → ChangesOnly outputs 3 w w′

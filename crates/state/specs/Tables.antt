@@ -100,7 +100,8 @@ taken-stored l r j x = pick (ltb j 8) (stored l levels (10 * r + j) x) l
 
 -- ---- Definitions of the other tables, each within its limit.
 pub data OutputDefined (node ty : ℕ) (vs l l′ : List ℕ) : Defined → Type 0 where
-  output-defined : {o : ℕ} → o ≡ word l head 3 → o < most-outputs → l′ ≡ stored (stored-all l outputs (10 * o) (node ∷ ty ∷ vs)) head 3 (o + 1)
+  output-defined : {o : ℕ} → o ≡ word l head 3 → o < most-outputs
+      → l′ ≡ stored (stored-all l outputs (10 * o) (node ∷ ty ∷ vs)) head 3 (o + 1)
       → OutputDefined node ty vs l l′ (Number o)
   outputs-full : most-outputs ≤ word l head 3 → l′ ≡ l → OutputDefined node ty vs l l′ Full
 
