@@ -154,5 +154,5 @@ pub fn try_claim_edge_bundle(
             return Claim::Refused(number, word);
         }
     }
-    claim_by_state(w, r, n, count_of(counts, r))
+    claim_by_state(w, r, n, count_of(&counts, r))
 }

@@ -51,7 +51,7 @@ fn structurize_func_by(w: &mut [u16; WORDS], counts: [u32; 32]) -> Nested
     ensures { λ a. ⌜ OfRecord (now (w .entry)) (λ g. words.FuncBy g counts (now (w .entry)) (now (w .exit)) a) ⌝ }
 {
     let entry = fields::entry(w);
-    if !count_of(counts, entry).same(ONE) {
+    if !count_of(&counts, entry).same(ONE) {
         return Nested::Untouched;
     }
     match try_claim_edge_bundle(w, counts, entry, ONE) {

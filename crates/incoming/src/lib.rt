@@ -19,9 +19,10 @@ use store::WORDS;
 // Tells its caller how long the array is: it lends the array as a slice, and compiles to nothing.
 fn span(counts: &[u32]) {}
 
-pub fn count_of(counts: [u32; 32], r: u16) -> IncomingEdgeCount
-    ensures { λ a. ⌜ a .0 ≡ getD counts r 0 ⌝ }
+pub fn count_of(counts: &[u32; 32], r: u16) -> IncomingEdgeCount
+    ensures { λ a. ⌜ a .0 ≡ getD (now (counts .entry)) r 0 ⌝ }
 {
+    span(counts);
     if r < 32 {
         return IncomingEdgeCount(counts[r as usize]);
     }

@@ -725,14 +725,14 @@ try-claim-edge-bundle-claim-by-state-requires t c κs = search needs
 try-claim-edge-bundle-returns-3 : (t : ℕ) → try-claim-edge-bundle-lts.Need-returns-3 (try-claim-edge-bundle-called t)
     (try-claim-edge-bundle-at t) try-claim-edge-bundle.Post
 try-claim-edge-bundle-returns-3 t c = ⊎-elim (λ y. claim-first _
-    (c .before .before .before .before .before .before .before .count-attempt .ensures)
-    (c .before .before .before .before .before .before .if1 .left)
-    (c .before .before .before .before .region-state .ensures) (y .0 .taken) (y .2 .ensures) (y .4 .given .1)
+    (c .before .before .before .before .before .before .before .before .count-attempt .ensures)
+    (c .before .before .before .before .before .before .before .if1 .left)
+    (c .before .before .before .before .before .region-state .ensures) (y .0 .taken) (y .2 .ensures) (y .4 .given .1)
     (c .before .count-of .ensures) (y .5) (c .claim-by-state .ensures))
-    (λ y. claim-later _ (c .before .before .before .before .before .before .before .count-attempt .ensures)
-    (c .before .before .before .before .before .before .if1 .left)
-    (c .before .before .before .before .region-state .ensures) (y .0 .left) (c .before .count-of .ensures) (y .1)
-    (c .claim-by-state .ensures)) (c .before .before .before .if2 .came)
+    (λ y. claim-later _ (c .before .before .before .before .before .before .before .before .count-attempt .ensures)
+    (c .before .before .before .before .before .before .before .if1 .left)
+    (c .before .before .before .before .before .region-state .ensures) (y .0 .left) (c .before .count-of .ensures) (y .1)
+    (c .claim-by-state .ensures)) (c .before .before .before .before .if2 .came)
 
 pub +resolve-deferred+split-out-matching+structurize-region+target-regions+try-claim-edge-bundle-spec :
     {M : Type 1} → statement M

@@ -18,7 +18,7 @@ same-requires c κs = search needs
 
 -- src/func.rt:55:9
 returns : tie.Need-returns
-returns c = λ g st. func-untouched g _ _ (c .before .before .before .entry .ensures g st) (c .before .before .count-of .ensures)
+returns c = λ g st. func-untouched g _ _ (c .before .before .before .before .entry .ensures g st) (c .before .before .count-of .ensures)
     (c .before .same .ensures) (not-true _ (c .if1 .taken))
 
 -- src/func.rt:57:11
@@ -43,7 +43,7 @@ enum-known-number c = search needs
 
 -- src/func.rt:49:1
 returns-2 : tie.Need-returns-2
-returns-2 c = λ g st. func-claimed g _ _ (c .before .before .before .before .before .before .before .before .before .entry
+returns-2 c = λ g st. func-claimed g _ _ (c .before .before .before .before .before .before .before .before .before .before .entry
     .ensures g st) (c .before .before .before .before .before .before .before .before .count-of .ensures)
     (c .before .before .before .before .before .before .before .same .ensures)
     (not-false _ (c .before .before .before .before .before .before .if1 .left))
@@ -52,14 +52,14 @@ returns-2 c = λ g st. func-claimed g _ _ (c .before .before .before .before .be
 
 -- src/func.rt:49:1
 returns-3 : tie.Need-returns-3
-returns-3 c = λ g st. func-unclaimed g _ _ (c .before .before .before .before .before .before .before .entry .ensures g st)
+returns-3 c = λ g st. func-unclaimed g _ _ (c .before .before .before .before .before .before .before .before .entry .ensures g st)
     (c .before .before .before .before .before .before .count-of .ensures) (c .before .before .before .before .before .same .ensures)
     (not-false _ (c .before .before .before .before .if1 .left)) (c .before .before .try-claim-edge-bundle .ensures g st)
     (c .enum-told2 .given .1)
 
 -- src/func.rt:49:1
 returns-4 : tie.Need-returns-4
-returns-4 c = λ g st. func-refused g _ _ (c .before .before .before .before .before .before .before .before .entry .ensures g
+returns-4 c = λ g st. func-refused g _ _ (c .before .before .before .before .before .before .before .before .before .entry .ensures g
     st) (c .before .before .before .before .before .before .before .count-of .ensures)
     (c .before .before .before .before .before .before .same .ensures)
     (not-false _ (c .before .before .before .before .before .if1 .left))
