@@ -9,6 +9,7 @@ use Rattle.meaning.specs.Runs.{Nodes}
 use Rattle.nesting.specs.Nesting.{DeferredEdgeBundleSet, ClaimedRegion, MaybeClaimedRegion, ok, err, deferred-of, NestState, Body}
 use Rattle.nesting.specs.Nesting.{region-body, join, done}
 use Rattle.nesting.specs.Nesting.{replace-with, append-maybe-claimed-region}
+use Rattle.nesting.specs.Nesting.{most-regions}
 use Rattle.state.specs.declared.cases.Case.{Case}
 use Rattle.state.specs.Sections.{used, word, stored, head, kinds, set-starts, set-lengths, children, cases, bundles}
 use Rattle.state.specs.Tables.{bundle-at, bundle-words, case-row, copied, swapped, inserted, Joins}
@@ -33,7 +34,7 @@ use Rattle.bundles.specs.CaseSteps.{CaseAndSet}
 -- ---- A case that is to stand alone, by its parts; its inputs stand in row j.
 pub data ShowsAlone (g : Graph) (w : List ℕ) (r j : ℕ) (x : Case) : MaybeClaimedRegion → Type 0 where
   claimed-parts : {c : ClaimedRegion} → x .kind ≡ 2 → x .origin ≡ c .origin → c .origin < length (g .regions) → (c .origin ≡ r → ⊥)
-      → word w kinds (c .origin) ≡ 3 → x .body ≡ c .structured-body → c .structured-body < 128
+      → word w kinds (c .origin) ≡ 3 → x .body ≡ c .structured-body → c .structured-body < most-regions
       → ShowsChildren g w (x .children) (c .children) → ShowsSet g w (word w set-starts (c .origin)) (x .length) (c .deferred-edges)
       → ((k : ℕ) → k < 4 → Names (word w cases (10 * j + (6 + k))) (getD (c .structured-body-inputs) k (undef 0)))
       → ShowsAlone g w r j x (ok c)
@@ -220,7 +221,7 @@ module _ {g : Graph} (few : length (g .regions) ≤ 32) {r : ℕ} (here : r < le
       joins stores =
       let o = c .origin in
       let room = state .tables .size in
-      let body-in : x .body < 128 = omega arith in
+      let body-in : x .body < most-regions = omega arith in
       let vs = case-inputs w j in
       let changes = insert-changes w (x .body) 1 vs 0 in
       let later₁ = later-by changes (omega arith) g in

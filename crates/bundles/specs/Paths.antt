@@ -16,7 +16,7 @@ use Rattle.fields.specs.declared.shape.Value.{Value}
 use Rattle.fields.specs.declared.shape.Value.the-variants.{Const, Input, Instr, Bool as Truth, Undef, Nothing}
 use Rattle.state.specs.declared.cases.Case.{Case}
 use Rattle.state.specs.Sections.{Section, word, stored, stored-all, stored-all-at, head, children, set-starts, set-lengths, cases, bundles}
-use Rattle.state.specs.Tables.{bundle-at, own-edge, taken-word, case-words, copied, shift-removed, swapped, inserted, Joins}
+use Rattle.state.specs.Tables.{bundle-at, own-edge, taken-word, case-words, copied, shift-removed, swapped, inserted, edges-word, Joins}
 use Rattle.state.specs.Values.{value-word}
 use Rattle.shown.specs.Front.{SameKinds, stands-kept, kinds-stored, kinds-run, kinds-then}
 use Rattle.bundles.specs.Words.{record-word, padded-by, padded, edge-deferred, return-deferred, unclaimed-case, claimed-case}
@@ -66,10 +66,11 @@ unfolding edge-deferred
 edge-by g l p r j of-target of-inputs e = e ∙ rw (of-target, of-inputs)
 
 pub return-by : (g : Graph) (l : List ℕ) (r : ℕ) {start p : ℕ} {vs l₁ l₂ : List ℕ} → start ≡ word l set-starts r → p ≡ bundle-at start 0
-    → vs ≡ padded (end-values g r) → l₁ ≡ stored-all l bundles (7 * p) (65535 ∷ 0 ∷ 1 ∷ vs) → l₂ ≡ stored l₁ set-lengths r 1
+    → vs ≡ padded (end-values g r) → {n : ℕ} → n ≡ 0 → l₁ ≡ stored-all l bundles (7 * p) (65535 ∷ edges-word n ∷ 1 ∷ vs)
+    → l₂ ≡ stored l₁ set-lengths r 1
     → l₂ ≡ return-deferred g l r
 unfolding return-deferred
-return-by g l r a b c d e = e ∙ rw (d, c, b, a)
+return-by g l r a b c none d e = e ∙ rw (d, none, c, b, a)
 
 -- ---- Cases.
 module _ (g : Graph) (l : List ℕ) (r j : ℕ) {taken : ℕ} (read : taken ≡ taken-word l r j) where

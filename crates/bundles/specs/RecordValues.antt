@@ -23,6 +23,7 @@ use Rattle.shown.specs.Values.{value-undef, value-input}
 use Rattle.shown.specs.Sets.{Names}
 use Rattle.bundles.specs.ReadTypes.{TypeRead}
 use Rattle.bundles.specs.Words.{record-word, padded-by, padded}
+use Rattle.nesting.specs.Nesting.{most-regions}
 
 -- ---- Words by kind.
 names-const : (i : ℕ) → i < 64 → Names (const-word i) (const i)
@@ -33,9 +34,9 @@ names-undef : (ty : ℕ) → ty < 256 → Names (undef-word ty) (undef ty)
 unfolding undef-word
 names-undef ty h = record { is = value-undef ty h; below = rw (lt-ltb ty 256 h) (omega arith) }
 
-names-input : (r k : ℕ) → r < 128 → k < 4 → Names (region-word 1024 r k) (input r k)
+names-input : (r k : ℕ) → r < most-regions → k < 4 → Names (region-word 1024 r k) (input r k)
 unfolding region-word
-names-input r k h j = record { is = value-input r k h j; below = rw (lt-ltb r 128 h, lt-ltb k 4 j) (omega arith) }
+names-input r k h j = record { is = value-input r k h j; below = rw (lt-ltb r most-regions h, lt-ltb k 4 j) (omega arith) }
 
 names-instr : (r k : ℕ) → r < 32 → k < 64 → Names (instr-word r k) (instr r k)
 unfolding instr-word

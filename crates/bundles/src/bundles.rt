@@ -5,10 +5,13 @@ ghost use Prim.Native.Nat.{_*_};
 ghost use Rattle.record.specs.Stands.{OfRecord};
 ghost use Rattle.fields.specs.ByNumber.{end-values, edge-of};
 ghost use Rattle.state.specs.Sections as sections;
+ghost use Rattle.state.specs.Tables as tables;
 ghost use Rattle.bundles.specs.Words as words;
 use state::conditions::TRUE_COND;
 use state::defined::RETURNED;
 use state::defined::head;
+use state::edges::IncomingEdgeCount;
+use state::edges::ONE;
 use state::sections::BUNDLES;
 use state::sections::BUNDLES_WORDS;
 use state::sections::HEAD;
@@ -99,8 +102,9 @@ fn returned_inputs(w: &[u16; WORDS], r: u16) -> [u16; 4]
 }
 
 // A bundle with its inputs.
-pub fn put_bundle(w: &mut [u16; WORDS], p: u16, t: u16, n: u16, c: u16, vs: &[u16; 4])
-    ensures { λ _. ⌜ now (w .exit) ≡ sections.«stored-all» (now (w .entry)) sections.bundles (7 * p) (t ∷ n ∷ c ∷ now (vs .entry)) ⌝ }
+pub fn put_bundle(w: &mut [u16; WORDS], p: u16, t: u16, n: IncomingEdgeCount, c: u16, vs: &[u16; 4])
+    ensures { λ _. ⌜ now (w .exit) ≡ sections.«stored-all» (now (w .entry)) sections.bundles (7 * p)
+        (t ∷ tables.«edges-word» (n .0) ∷ c ∷ now (vs .entry)) ⌝ }
 {
     set_bundle(w, p, t, n, c);
     put_all(w, BUNDLES, BUNDLES_WORDS, 7 * (p as usize) + 3, vs);
@@ -112,7 +116,7 @@ pub fn defer_edge(w: &mut [u16; WORDS], p: u16, r: u16, j: u16)
 {
     let t = fields::target(w, r, j);
     let vs = passed_inputs(w, r, j);
-    put_bundle(w, p, t, 1, TRUE_COND, &vs);
+    put_bundle(w, p, t, ONE, TRUE_COND, &vs);
 }
 
 // Always Return.
@@ -121,6 +125,6 @@ pub fn defer_return(w: &mut [u16; WORDS], r: u16)
 {
     let p = bundle_at(set_start(w, r), 0);
     let vs = returned_inputs(w, r);
-    put_bundle(w, p, RETURN, 0, TRUE_COND, &vs);
+    put_bundle(w, p, RETURN, IncomingEdgeCount::zero(), TRUE_COND, &vs);
     put_set_length(w, r, 1);
 }

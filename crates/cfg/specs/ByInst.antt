@@ -30,6 +30,7 @@ use Rattle.selects.specs.declared.define.Scrutinee.the-variants as scrutinee
 use Rattle.selects.specs.Into.{StructurizesInto}
 use Rattle.cfg.specs.ByState.{backedge-at}
 use Rattle.shown.specs.CellSteps.{blocks-cell, exit-cell}
+use Rattle.nesting.specs.Nesting.{most-nodes}
 
 pub data AddsBlocks (g : Graph) (w : List ℕ) (r : ℕ) (w′ : List ℕ) : Type 0 where
   no-blocks : length (region g r .blocks) ≡ 0 → w′ ≡ stored w children r 0 → AddsBlocks g w r w′
@@ -37,9 +38,9 @@ pub data AddsBlocks (g : Graph) (w : List ℕ) (r : ℕ) (w′ : List ℕ) : Typ
       → AddsBlocks g w r w′
 
 pub data AddsExit (w : List ℕ) (r : ℕ) (w′ : List ℕ) : Made → Type 0 where
-  exit-full : Defines 1 512 w w′ defined.Full → AddsExit w r w′ Full
-  exit-added : {w₁ w₂ : List ℕ} {node h : ℕ} → Defines 1 512 w w₁ (Number node) → Adds w₁ w₂ (exit-cell (word w₁ children r) node r) h
-      → w′ ≡ stored w₂ children r h → AddsExit w r w′ Done
+  exit-full : Defines 1 most-nodes w w′ defined.Full → AddsExit w r w′ Full
+  exit-added : {w₁ w₂ : List ℕ} {node h : ℕ} → Defines 1 most-nodes w w₁ (Number node)
+      → Adds w₁ w₂ (exit-cell (word w₁ children r) node r) h → w′ ≡ stored w₂ children r h → AddsExit w r w′ Done
 
 pub data Branches (g : Graph) (w : List ℕ) (r : ℕ) (w′ : List ℕ) : Made → Type 0 where
   branches : Appends (cases-filled g w r) w′ r (case-row (cases-filled g w r) 0) 0 → Branches g w r w′ Done
@@ -88,10 +89,10 @@ pub blocks-kinds : {g : Graph} {w w′ : List ℕ} {r : ℕ} → AddsBlocks g w 
 blocks-kinds {w} {r} (no-blocks z e) = rw e (kinds-stored w children (omega arith) r 0)
 blocks-kinds {r} (some-blocks {w₁} {h} d x e) = rw e (kinds-then (adds-kinds x) (kinds-stored w₁ children (omega arith) r h))
 
-pub exit-none : {w w′ : List ℕ} {r : ℕ} {a : Defined} → Defines 1 512 w w′ a → a ≡ defined.Full → AddsExit w r w′ Full
+pub exit-none : {w w′ : List ℕ} {r : ℕ} {a : Defined} → Defines 1 most-nodes w w′ a → a ≡ defined.Full → AddsExit w r w′ Full
 exit-none d e = exit-full (rw e at d)
 
-pub exit-some : {w w₁ w₂ w′ : List ℕ} {r node h before : ℕ} {a : Defined} → Defines 1 512 w w₁ a → a ≡ Number node
+pub exit-some : {w w₁ w₂ w′ : List ℕ} {r node h before : ℕ} {a : Defined} → Defines 1 most-nodes w w₁ a → a ≡ Number node
     → before ≡ word w₁ children r → Adds w₁ w₂ (exit-cell before node r) h → w′ ≡ stored w₂ children r h → AddsExit w r w′ Done
 exit-some d e b x s = exit-added (rw e at d) (rw b at x) s
 

@@ -72,34 +72,36 @@ module _ (w : List ℕ) (t : ℕ) (b : Bool) (test : b ≡ is-trivial w t) where
   pub edge-deferred : b ≡ false → 1 ≡ unclaimed-word w t
   edge-deferred e = rw (← test, e)
 
-module _ (g : Graph) (w : List ℕ) {w₁ w₂ : List ℕ} (r : ℕ) (claims : w₁ ≡ stored w kinds r 3) (itself : w₂ ≡ stored w₁ bodies r r) {b : ℕ}
-    (read : b ≡ word w₂ backedges r) where
+module _ (g : Graph) (w : List ℕ) {w₁ w₂ : List ℕ} (r : ℕ) (claims : w₁ ≡ stored w kinds r 3) (itself : w₂ ≡ stored w₁ bodies r r) {b z : ℕ}
+    (read : (b ≡ word w₂ backedges r) × (b ≤ 65535)) (none : z ≡ 0) {same : Bool} (test : same ≡ eqb b z) where
   now-claimed : w₂ ≡ as-claimed w r
   now-claimed = itself ∙ ap (λ l. stored l bodies r r) claims
 
   backedges-read : b ≡ word (as-claimed w r) backedges r
-  backedges-read = read ∙ ap (λ l. word l backedges r) now-claimed
+  backedges-read = read .0 ∙ ap (λ l. word l backedges r) now-claimed
 
-  pub body-plain : b ≡ 0 → ClaimsBody g w r w₂ Claimed
-  body-plain e = no-backedges (sym backedges-read ∙ e) now-claimed
+  pub body-plain : same ≡ true → ClaimsBody g w r w₂ Claimed
+  body-plain e = no-backedges (sym backedges-read ∙ eqb-true b z (sym test ∙ e) ∙ none) now-claimed
 
-  module _ (some : b ≡ 0 → ⊥) {p : ℕ} (found : p ≡ backedge-at w₂ r) where
+  module _ (some : same ≡ false) {p : ℕ} (found : p ≡ backedge-at w₂ r) where
     found-at : p ≡ backedge-at (as-claimed w r) r
     found-at = found ∙ ap (λ l. backedge-at l r) now-claimed
 
+    has-some : word (as-claimed w r) backedges r ≡ 0 → ⊥
+    has-some y = eqb-false b z (sym test ∙ some) (backedges-read ∙ y ∙ sym none)
+
     pub body-without : p ≡ 65535 → ClaimsBody g w r w₂ Claimed
-    body-without e = none-found (λ z. some (backedges-read ∙ z)) (sym found-at ∙ e) now-claimed
+    body-without e = none-found has-some (sym found-at ∙ e) now-claimed
 
     pub body-loop : (p ≡ 65535 → ⊥) → {w₃ : List ℕ} {made : Made} → StructurizesLoop r p w₂ w₃ made → {a : Claim}
         → a ≡ claim-of made → ClaimsBody g w r w₃ a
-    body-loop d f e = by-loop (λ z. some (backedges-read ∙ z)) (λ z. d (found-at ∙ z)) (rw (now-claimed, found-at) at f) e
+    body-loop d f e = by-loop has-some (λ z. d (found-at ∙ z)) (rw (now-claimed, found-at) at f) e
 
 module _ (g : Graph) (w : List ℕ) (r n incoming : ℕ) {state : ℕ} (of-state : state ≡ word w kinds r) where
-  module _ (ready : state ≡ 2) {b : ℕ} (read : b ≡ word w backedges r) {x m : ℕ} (counted : x ≡ b) (small : x ≤ 65535) (few : n ≤ 65535)
-      (sum : m ≡ min (n + x) 4294967295) {same : Bool}
-      (test : same ≡ eqb incoming m) where
+  module _ (ready : state ≡ 2) {b m : ℕ} (read : (b ≡ word w backedges r) × (b ≤ 65535)) (few : n ≤ 65535)
+      (sum : m ≡ min (n + b) 4294967295) {same : Bool} (test : same ≡ eqb incoming m) where
     all-edges : m ≡ n + word w backedges r
-    all-edges = (let z = counted in let y = read in omega arith)
+    all-edges = (let z = read .0 in let y = read .1 in omega arith)
 
     pub state-claimed : same ≡ true → {w′ : List ℕ} {a : Claim} → ClaimsBody g w r w′ a → ClaimsByState g w r n incoming w′ a
     state-claimed e y = ready-claimed (sym of-state ∙ ready) (eqb-true incoming m (sym test ∙ e) ∙ all-edges) y

@@ -18,6 +18,7 @@ use Rattle.fields.specs.declared.shape.Value as shape
 use Rattle.nesting.specs.Nesting.{NestState, Body, region-body, ClaimedRegion, MaybeClaimedRegion, ok, StepAnswer, done, turned-away}
 use Rattle.nesting.specs.Nesting.{by-control-inst, blocks-of, blocks-from, append-maybe-claimed-region, define-node, add-node, most-nodes}
 use Rattle.nesting.specs.Nesting.{join, edge-bundle, to-return, true-cond}
+use Rattle.nesting.specs.Nesting.{most-nodes}
 use Rattle.follows.specs.simulation.Invariant.{Inv}
 use Rattle.follows.specs.counting.Totals.{edges-to, totals, edgeless}
 use Rattle.state.specs.Sections.{word, stored, used, head, kinds, children, set-starts, set-lengths, bundles, levels, rewrites}
@@ -70,7 +71,7 @@ node-states s {n} {s₁} e = go (ltb (s .node-count) most-nodes) e
     go true p = let z : add-node s ≡ s₁ = cc in rw (← z)
     go false p = absurd (clash (cc))
 
-node-changes : {w w₁ : List ℕ} {n : ℕ} → Defines 1 512 w w₁ (Number n) → ChangesOnly head 1 w w₁
+node-changes : {w w₁ : List ℕ} {n : ℕ} → Defines 1 most-nodes w w₁ (Number n) → ChangesOnly head 1 w w₁
 node-changes {w} (defined {n} p h e) = rw e (head-changes head 1 w (n + 1))
 
 -- The cases filled: nothing but sets and the cases.

@@ -115,14 +115,14 @@ module _ {counts w₀ : List ℕ} {r n : ℕ} {w : List ℕ} {i : ℕ} {found : 
           nothing = passed .nothing;
         }
 
-    module _ (to-region : t ≡ 65535 → ⊥) {m k : ℕ} (of-count : m ≡ word w bundles (7 * p + 1)) (counted : k ≡ m) {w₁ : List ℕ} {a : Claim}
+    module _ (to-region : t ≡ 65535 → ⊥) {k : ℕ} (of-count : k ≡ word w bundles (7 * p + 1)) {w₁ : List ℕ} {a : Claim}
         (claim : (g : Graph) → Stands w g → TriesClaim g counts w t k w₁ a) where
       elsewhere : own-target w r i ≡ 65535 → ⊥
       elsewhere e = to-region (target-is ∙ e)
 
       bundle-claim : (g : Graph) → Stands w₀ g → TriesClaim g counts w (own-target w r i) (own-count w r i) w₁ a
       bundle-claim g st =
-          let c : k ≡ own-count w r i = counted ∙ of-count ∙ rw (place, of-start) in rw (target-is, c) at (claim g (split-on st))
+          let c : k ≡ own-count w r i = of-count ∙ rw (place, of-start) in rw (target-is, c) at (claim g (split-on st))
 
       pub scan-claimed : a ≡ Claimed → (g : Graph) → Stands w₀ g → SplitsOut g counts w₀ r w₁ (split.At i)
       scan-claimed e g st = out-of g st (claims-bundle more elsewhere (rw e at (bundle-claim g st)))

@@ -3,9 +3,9 @@ ghost use mathlib.Core.Path.{_≡_};
 ghost use Prim.Native.Nat.{_≤_};
 ghost use Rattle.record.specs.Stands.{OfRecord};
 ghost use Rattle.cfg.specs.ByState as words;
-use incoming::IncomingEdgeCount;
 use loops::loops::structurize_loop;
 use state::defined::Made;
+use state::edges::IncomingEdgeCount;
 use state::regions::CLAIMED;
 use state::regions::DEFERRED;
 use state::regions::IN_PROGRESS;
@@ -38,12 +38,6 @@ fn claim_of(made: Made) -> Claim
     }
 }
 
-pub fn count(n: u16) -> IncomingEdgeCount
-    ensures { λ a. ⌜ (a .0 ≡ n) × (a .0 ≤ 65535) ⌝ }
-{
-    IncomingEdgeCount(n as u32)
-}
-
 // The bundle of region r's set that leads back to it.
 pub fn find_backedge(w: &[u16; WORDS], r: u16) -> u16
     ensures { λ a. ⌜ a ≡ words.«backedge-at» (now (w .entry)) r ⌝ }
@@ -57,7 +51,7 @@ fn claim_body(w: &mut [u16; WORDS], r: u16) -> Claim
 {
     set_region_state(w, r, CLAIMED);
     set_structured_body(w, r, r);
-    if backedge_count(w, r) == 0 {
+    if backedge_count(w, r).same(IncomingEdgeCount::zero()) {
         return Claim::Claimed;
     }
     let p = find_backedge(w, r);
@@ -79,7 +73,7 @@ pub fn claim_by_state(
 {
     let state = region_state(w, r);
     if state == READY {
-        if incoming.same(n.plus(count(backedge_count(w, r)))) {
+        if incoming.same(n.plus(backedge_count(w, r))) {
             return claim_body(w, r);
         }
         return Claim::Unclaimed;

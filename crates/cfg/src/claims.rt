@@ -5,16 +5,15 @@ ghost use Rattle.record.specs.Stands.{OfRecord};
 ghost use Rattle.cfg.specs.Claims as words;
 use crate::claim::Claim;
 use crate::claim::claim_by_state;
-use crate::claim::count;
 use crate::claim::unclaimed_edge;
 use crate::inst::by_control_inst;
 use crate::inst::make_ready;
 use crate::inst::resolve_by;
-use incoming::IncomingEdgeCount;
-use incoming::ONE;
 use incoming::count_of;
 use state::defined::Made;
 use state::defined::count_attempt;
+use state::edges::IncomingEdgeCount;
+use state::edges::ONE;
 use state::regions::IN_PROGRESS;
 use state::regions::NOT_BEGUN;
 use state::regions::TAKEN;
@@ -76,7 +75,7 @@ fn split_out_matching(w: &mut [u16; WORDS], counts: [u32; 32], r: u16) -> SplitO
         let p = bundle_at(set_start(w, r), i);
         let t = target(w, p);
         if t != RETURN {
-            let edges = count(accumulated_count(w, p));
+            let edges = accumulated_count(w, p);
             match try_claim_edge_bundle(w, counts, t, edges) {
                 Claim::Unclaimed => {}
                 Claim::Claimed => {

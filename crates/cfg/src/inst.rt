@@ -21,6 +21,7 @@ use state::conditions::BOOL_COND;
 use state::defined::Defined;
 use state::defined::Made;
 use state::defined::define_node;
+use state::edges::IncomingEdgeCount;
 use state::regions::READY;
 use state::regions::children;
 use state::regions::set_backedge_count;
@@ -142,12 +143,12 @@ pub fn resolve_by(w: &mut [u16; WORDS], r: u16, i: u16) -> Made
 }
 
 // How many back edges region r's own set has.
-fn backedges_deferred(w: &[u16; WORDS], r: u16) -> u16
-    ensures { λ a. ⌜ a ≡ words.«backedges-deferred» (now (w .entry)) r ⌝ }
+fn backedges_deferred(w: &[u16; WORDS], r: u16) -> IncomingEdgeCount
+    ensures { λ a. ⌜ (a .0 ≡ words.«backedges-deferred» (now (w .entry)) r) × (a .0 ≤ 65535) ⌝ }
 {
     let p = find_backedge(w, r);
     if p == NO_BUNDLE {
-        return 0;
+        return IncomingEdgeCount::zero();
     }
     accumulated_count(w, p)
 }

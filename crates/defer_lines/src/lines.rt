@@ -27,7 +27,7 @@ fn put_bundle(w: &[u16; WORDS], out: &mut [u32], at: Place, r: u16, p: u16, size
     let condition = put_condition(w, out, at, condition_in(w, p, size));
     let inputs = put_inputs(w, out, condition, p);
     let to = target(w, p);
-    let count = accumulated_count(w, p);
+    let count = accumulated_count(w, p).to_word();
     let three = put_three(out, inputs, r, to, count);
     put(out, three, 5)
 }

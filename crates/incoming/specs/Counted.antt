@@ -1,7 +1,7 @@
 -- Counts of the 32 regions: one more for a number, and one for each of a list as often as it stands there.
-use mathlib.Core.Path.{_≡_, sym, ap, _∙_}
+use mathlib.Core.Path.{_≡_, sym, ap, subst, _∙_}
 use mathlib.Core.List.{List}
-use Prim.Native.Nat.{ℕ, _+_, _≤_, _<_}
+use Prim.Native.Nat.{ℕ, _+_, _≤_, _<_, min}
 use native.Mathlib.Numerals.{add-one}
 use native.Mathlib.Omega.{arith}
 use lib.Dec.{eqb}
@@ -30,6 +30,12 @@ one-more-here c r l =
           (λ e. rw (e, eqb-self r) (getD-set-same c r (getD c r 0 + 1) 0 l))
           (λ e. rw (e, getD-set-other c r a (getD c r 0 + 1) 0 (eqb-false a r e)) (omega arith));
     }
+
+pub one-more-by : (c : List ℕ) (r : ℕ) {m : ℕ} → r < length c → getD c r 0 ≤ 4294967294 → m ≡ min (getD c r 0 + 1) 4294967295
+    → OneMore c (set c r m) r
+one-more-by c r {m} l few e =
+    let s : m ≡ getD c r 0 + 1 = omega arith in
+    subst (λ z. OneMore c (set c r z) r) (sym s) (one-more-here c r l)
 
 pub one-more-beyond : (c : List ℕ) (r : ℕ) → 32 ≤ r → OneMore c c r
 one-more-beyond c r l = record { each = λ a h. rw (eqb-less a r (omega arith)) (omega arith) }

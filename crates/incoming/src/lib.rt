@@ -3,7 +3,6 @@ ghost use mathlib.Core.Path.{_≡_};
 ghost use mathlib.Core.Bool.{true};
 ghost use mathlib.Core.List.{_∷_, _++_};
 ghost use Prim.Native.Nat.{ℕ, suc, _+_, _≤_, _<_, min};
-ghost use lib.Dec.{eqb};
 ghost use lib.ListN.{length, getD};
 ghost use Rattle.meaning.specs.Graph.{region, edges-of, targets-of};
 ghost use Rattle.meaning.specs.Lists.{total};
@@ -13,36 +12,9 @@ ghost use Rattle.record.specs.Stands.{OfRecord};
 ghost use Rattle.fields.specs.ByNumber.{before};
 ghost use Rattle.incoming.specs.Counted.{AtMost, OneMore, GainsAll, Grows};
 ghost use Rattle.incoming.specs.Visits.{Marks, Room, Visiting};
+use state::edges::IncomingEdgeCount;
+use state::edges::ONE;
 use store::WORDS;
-
-// A number of edges. It counts edges only and is never an index.
-pub struct IncomingEdgeCount(pub u32);
-
-pub const ONE: IncomingEdgeCount = IncomingEdgeCount(1);
-
-impl IncomingEdgeCount {
-    pub fn zero() -> Self
-        ensures { λ a. ⌜ a .0 ≡ 0 ⌝ }
-    {
-        IncomingEdgeCount(0)
-    }
-
-    // A sum beyond 32 bits is the largest number.
-    pub fn plus(self, other: IncomingEdgeCount) -> Self
-        ensures { λ a. ⌜ a .0 ≡ min (self .0 + other .0) 4294967295 ⌝ }
-    {
-        if self.0 <= 4294967295 - other.0 {
-            return IncomingEdgeCount(self.0 + other.0);
-        }
-        IncomingEdgeCount(4294967295)
-    }
-
-    pub fn same(self, other: IncomingEdgeCount) -> bool
-        ensures { λ a. ⌜ a ≡ eqb (self .0) (other .0) ⌝ }
-    {
-        self.0 == other.0
-    }
-}
 
 // Tells its caller how long the array is: it lends the array as a slice, and compiles to nothing.
 fn span(counts: &[u32]) {}
@@ -64,7 +36,8 @@ fn add_one(counts: &mut [u32; 32], r: u16)
     span(counts);
     if r < 32 {
         let i = r as usize;
-        counts[i] = counts[i] + 1;
+        let n = IncomingEdgeCount(counts[i]).plus(ONE);
+        counts[i] = n.0;
         return;
     }
 }

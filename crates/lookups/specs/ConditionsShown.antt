@@ -14,6 +14,7 @@ use Rattle.meaning.specs.Graph.{Value, SelectionKind, bool-cond, number, bool, 
 use Rattle.meaning.specs.facts.Tests.{clash, pick-and}
 use Rattle.nesting.specs.Nesting.{LazyCond, LazyConds, no-conds, _&_, merge, true-cond, false-cond, undef-cond, NestState, StepAnswer, done}
 use Rattle.nesting.specs.Nesting.{turned-away, follow, give, materialize-lazy-cond, materialize-lazy-conds, define-output}
+use Rattle.nesting.specs.Nesting.{most-outputs}
 use Rattle.state.specs.declared.defined.Defined.{Defined}
 use Rattle.state.specs.declared.defined.Defined.the-variants.{Number, Full}
 use Rattle.state.specs.Sections.{section, word, conditions, outputs}
@@ -94,7 +95,7 @@ module _ (l : List ℕ) (c : ℕ) (ws l′ : List ℕ) {s : NestState} (t : Show
         | no l ↦ ap value (beyond j (omega arith) h) ∙ value-beyond ∙ sym (List·getD-eq-default vs (undef 0) (omega arith))
       ]
 
-  as-value : {a : Defined} {b : StepAnswer Value} → ShowsDefined (λ o u. u ≡ output o) l′ a b → {o x : ℕ} → a ≡ Number o → o < 512
+  as-value : {a : Defined} {b : StepAnswer Value} → ShowsDefined (λ o u. u ≡ output o) l′ a b → {o x : ℕ} → a ≡ Number o → o < most-outputs
       → x ≡ output-word o
       → ShowsDefined (λ y u. value y ≡ u) l′ (Number x) b
   as-value d {o} {x} e h p =
@@ -110,7 +111,7 @@ module _ (l : List ℕ) (c : ℕ) (ws l′ : List ℕ) {s : NestState} (t : Show
       let made = rw node at d in
       rw test (record { answer = as-value (output-made t len shown-words made) refl (below made refl) x; changes = output-changes made })
     where
-      below : {n : ℕ} {a : Defined} → OutputDefined n 1 ws l l′ a → {o : ℕ} → a ≡ Number o → o < 512
+      below : {n : ℕ} {a : Defined} → OutputDefined n 1 ws l l′ a → {o : ℕ} → a ≡ Number o → o < most-outputs
       below (output-defined {o} p h e) {o = q} r = let same : o ≡ q = cc in rw same at h
       below (outputs-full h e) r = absurd (clash (cc))
   merges-shown (no-output e d) =

@@ -18,6 +18,7 @@ use Rattle.nesting.specs.Nesting as nesting
 use Rattle.nesting.specs.Nesting.{DeferredEdgeBundle, DeferredEdgeBundleSet, DeferredTarget, to-region, same-target, fill-gap}
 use Rattle.nesting.specs.Nesting.{split-out-target, LazyCond, NestState, StepAnswer, done, turned-away, define-region, rewrite-values}
 use Rattle.nesting.specs.Nesting.{ClaimedRegion, LoopInputs, no-inputs, take-inputs, loop-node, structurize-loop, most-regions}
+use Rattle.nesting.specs.Nesting.{most-regions}
 use Rattle.nesting.specs.steps.Keeps.{loop-claimed, claim-body-keeps}
 use Rattle.nesting.specs.steps.Post.{Post}
 use Rattle.nesting.specs.steps.StatesKept.{Still, still-steady, still-log}
@@ -247,12 +248,12 @@ module _ {g : Graph} {w : List ℕ} {s : NestState} {r p i : ℕ} {ks : Nodes} {
       let low : DeferredEdgeBundle → Type 0 = λ y. y .accumulated-count < 65535 in
       all-at low no-bundle exits (all-split low (to-region r) d (x .counts)) j h
 
-  within-region : {a : Defined} {l₁ : List ℕ} → Defines 0 128 w₀ l₁ a → OnlyRegion g r w l₁
+  within-region : {a : Defined} {l₁ : List ℕ} → Defines 0 most-regions w₀ l₁ a → OnlyRegion g r w l₁
   within-region y =
       only-region-then (only-region-concerns concerns₀)
       (only-region-aside r (aside-by (defines-changes y) (omega arith) (omega arith) (omega arith) (omega arith) g))
 
-  refused-wrapper : {w′ : List ℕ} → Defines 0 128 w₀ w′ Full → LoopShown g r inputs w w′ s Refused gives
+  refused-wrapper : {w′ : List ℕ} → Defines 0 most-regions w₀ w′ Full → LoopShown g r inputs w w′ s Refused gives
   unfolding structurize-loop
   refused-wrapper y =
       let total = concerns₀ .same-head 4 in
@@ -266,7 +267,7 @@ module _ {g : Graph} {w : List ℕ} {s : NestState} {r p i : ℕ} {ks : Nodes} {
 
   -- As far as the loop: the wrapper defined, the inputs entered, the loop made or refused.
   module _ {n wrapper h : ℕ} {l₁ l₂ l₃ : List ℕ} {a : Made} (count : n ≡ length (region g r .inputs))
-      (wraps : Defines 0 128 w₀ l₁ (Number wrapper)) (enter : EntersInputs r wrapper n l₁ (backedge-inputs w p) l₂ h)
+      (wraps : Defines 0 most-regions w₀ l₁ (Number wrapper)) (enter : EntersInputs r wrapper n l₁ (backedge-inputs w p) l₂ h)
       (make : LoopDefined r (condition-in w p (word w set-lengths r)) h l₂ l₃ a) where
     region₁ : Defines-done (λ k m. k ≡ m) l₁ wrapper (define-region s)
     region₁ = done-of (region-defined tables₀ wraps) refl
@@ -274,7 +275,7 @@ module _ {g : Graph} {w : List ℕ} {s : NestState} {r p i : ℕ} {ks : Nodes} {
     is₁ : define-region s ≡ done wrapper (region₁ .state)
     is₁ = region₁ .is ∙ ap (λ z. done z (region₁ .state)) (sym (region₁ .shows))
 
-    small : wrapper < 128
+    small : wrapper < most-regions
     small = defined-below wraps refl
 
     total₁ : word l₁ head 4 ≡ word w head 4

@@ -2,28 +2,25 @@
 use mathlib.Core.Path.{_≡_, sym, _∙_}
 use mathlib.Core.Bool.{Bool, true, false}
 use mathlib.Core.List.{List}
-use Prim.Native.Nat.{ℕ, zero, suc, _+_, _*_, _-_, _≤_, _<_}
+use Prim.Native.Nat.{ℕ, zero, suc, _+_, _*_, _-_, _≤_, _<_, min}
 use native.Mathlib.Omega.{arith}
 use native.Mathlib.Numerals.{add-one}
 use lib.ListN.{length, getD, drop, drop-of-length-le}
-use lib.Dec.{ltb}
 use lib.Seq.{drop-cons}
-use borrow.Author.Tests.{lt-ltb, le-ltb, eq-eqb, ne-eqb}
+use borrow.Author.Tests.{eq-eqb, ne-eqb}
 use Rattle.meaning.specs.Graph.{Graph, region}
 use Rattle.meaning.specs.Lists.{pick, is-in}
 use Rattle.state.specs.Sections.{word, stored, bundles, set-starts, set-lengths}
 use Rattle.record.specs.Stands.{OfRecord}
-use Rattle.state.specs.Tables.{bundle-at}
+use Rattle.state.specs.Tables.{bundle-at, edges-word}
+use Rattle.state.specs.Edges.{edges-sum}
 use Rattle.shown.specs.Front.{SameKinds, stands-kept, kinds-same, kinds-stored, kinds-then}
-
--- A word that counts: at its largest it stays.
-unfoldable pub one-more : ℕ → ℕ
-one-more n = pick (ltb n 65535) (n + 1) n
 
 -- Of loop r, in bundle p.
 unfoldable pub exit-added : Graph → ℕ → ℕ → List ℕ → List ℕ
 exit-added g r p l =
-    pick (is-in (word l bundles (7 * p + 0)) (region g r .exits)) (stored l bundles (7 * p + 1) (one-more (word l bundles (7 * p + 1)))) l
+    let n = word l bundles (7 * p + 1) in
+    pick (is-in (word l bundles (7 * p + 0)) (region g r .exits)) (stored l bundles (7 * p + 1) (edges-word (n + 1))) l
 
 -- In k bundles from place i on.
 unfoldable pub exits-from : Graph → ℕ → ℕ → ℕ → ℕ → List ℕ → List ℕ
@@ -34,23 +31,15 @@ abbrev pub exits-added : Graph → ℕ → List ℕ → List ℕ
 exits-added g r l = exits-from g r (word l set-starts r) (word l set-lengths r) 0 l
 
 -- ---- The functions, path by path.
-pub counted-on : (n : ℕ) → n < 65535 → n + 1 ≡ one-more n
-unfolding one-more
-counted-on n h = rw (lt-ltb n 65535 h)
-
-pub counted-out : (n : ℕ) → 65535 ≤ n → n ≡ one-more n
-unfolding one-more
-counted-out n h = rw (le-ltb n 65535 h)
-
 module _ (g : Graph) (r p : ℕ) (l : List ℕ) {t : ℕ} {b : Bool} (of-target : t ≡ word l bundles (7 * p + 0))
     (told : b ≡ is-in t (region g r .exits)) where
   tells : is-in (word l bundles (7 * p + 0)) (region g r .exits) ≡ b
   tells = rw (← of-target) (sym told)
 
-  pub exit-counted : b ≡ true → {n m : ℕ} {l′ : List ℕ} → n ≡ word l bundles (7 * p + 1) → m ≡ one-more n
-      → l′ ≡ stored l bundles (7 * p + 1) m → l′ ≡ exit-added g r p l
+  pub exit-counted : b ≡ true → {n m : ℕ} {l′ : List ℕ} → (n ≡ word l bundles (7 * p + 1)) × (n ≤ 65535) → m ≡ min (n + 1) 4294967295
+      → l′ ≡ stored l bundles (7 * p + 1) (edges-word m) → l′ ≡ exit-added g r p l
   unfolding exit-added
-  exit-counted e a c q = q ∙ rw (tells, e, c, a)
+  exit-counted e {n} a c q = q ∙ rw (tells, e, c, edges-sum n 1 (a .1) (omega arith), a .0)
 
   pub exit-not : b ≡ false → l ≡ exit-added g r p l
   unfolding exit-added
@@ -74,8 +63,8 @@ pub exit-front : (g : Graph) (r p : ℕ) (l : List ℕ) → SameKinds l (exit-ad
 unfolding exit-added
 exit-front g r p l = go (is-in (word l bundles (7 * p + 0)) (region g r .exits))
   where
-    go : (b : Bool) → SameKinds l (pick b (stored l bundles (7 * p + 1) (one-more (word l bundles (7 * p + 1)))) l)
-    go true = kinds-stored l bundles (omega arith) (7 * p + 1) (one-more (word l bundles (7 * p + 1)))
+    go : (b : Bool) → SameKinds l (pick b (stored l bundles (7 * p + 1) (edges-word (word l bundles (7 * p + 1) + 1))) l)
+    go true = kinds-stored l bundles (omega arith) (7 * p + 1) (edges-word (word l bundles (7 * p + 1) + 1))
     go false = kinds-same l
 
 pub record ExitsLeft (g : Graph) (r start n i : ℕ) (l₀ l : List ℕ) : Type 0 where

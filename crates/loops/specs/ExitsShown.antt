@@ -7,14 +7,14 @@ use native.Mathlib.Omega.{arith}
 use native.Mathlib.Decide.{decLt}
 use native.Mathlib.Numerals.{add-one}
 use lib.ListN.{length, getD, length-map}
-use borrow.Author.Tests.{lt-ltb}
 use Rattle.meaning.specs.Graph.{Graph, region}
 use Rattle.meaning.specs.Lists.{pick, is-in}
 use Rattle.meaning.specs.facts.Elements.{getD-map-in}
 use Rattle.nesting.specs.Nesting.{DeferredTarget, to-region, to-return, DeferredEdgeBundle, DeferredEdgeBundleSet, add-exit-edge}
 use Rattle.nesting.specs.Nesting.{exit-targets}
 use Rattle.state.specs.Sections.{used, start, size, word, stored, bundles, set-starts, set-lengths}
-use Rattle.state.specs.Tables.{bundle-at}
+use Rattle.state.specs.Tables.{bundle-at, edges-word}
+use Rattle.state.specs.Edges.{edges-fit}
 use Rattle.shown.specs.Stores.{ChangesOnly, nothing-changes, changes-then}
 use Rattle.shown.specs.Sets.{ShowsTarget, shows-region, shows-return, ShowsBundle, ShowsSet, no-bundle}
 use Rattle.shown.specs.States.{Slots, ShowsOwnSet}
@@ -22,11 +22,10 @@ use Rattle.shown.specs.Kept.{bundle-stays}
 use Rattle.shown.specs.Finds.{bundle-in}
 use Rattle.shown.specs.RegionSteps.{slots-stay, word-there, word-apart, later-by, OnlyBundle, bundle-same, bundle-word, bundle-concerns}
 use Rattle.shown.specs.RegionSteps.{Concerns, concerns-then}
-use Rattle.loops.specs.Exits.{one-more, exit-added, exits-from, exits-added}
+use Rattle.loops.specs.Exits.{exit-added, exits-from, exits-added}
 
-counted : (n : ℕ) → n < 65535 → one-more n ≡ suc n
-unfolding one-more
-counted n h = rw (lt-ltb n 65535 h, add-one n)
+counted : (n : ℕ) → n < 65535 → edges-word (n + 1) ≡ suc n
+counted n h = edges-fit (n + 1) (omega arith) ∙ add-one n
 
 return-counts : (xs : List ℕ) (e : DeferredEdgeBundle) → e .target ≡ to-return → add-exit-edge xs e ≡ e
 return-counts xs e is = rw is
@@ -35,8 +34,8 @@ only-exit : (g : Graph) (r p : ℕ) (l : List ℕ) → OnlyBundle p l (exit-adde
 unfolding exit-added
 only-exit g r p l = go (is-in (word l bundles (7 * p + 0)) (region g r .exits))
   where
-    go : (b : Bool) → OnlyBundle p l (pick b (stored l bundles (7 * p + 1) (one-more (word l bundles (7 * p + 1)))) l)
-    go true = bundle-word l p 1 (one-more (word l bundles (7 * p + 1))) (omega arith)
+    go : (b : Bool) → OnlyBundle p l (pick b (stored l bundles (7 * p + 1) (edges-word (word l bundles (7 * p + 1) + 1))) l)
+    go true = bundle-word l p 1 (edges-word (word l bundles (7 * p + 1) + 1)) (omega arith)
     go false = bundle-same l p
 
 -- ---- One bundle.
@@ -50,9 +49,9 @@ module _ (g : Graph) (r : ℕ) (not-return : is-in 65535 (region g r .exits) ≡
   same-target-word p q l = go (is-in (word l bundles (7 * p + 0)) (region g r .exits))
     where
       go : (b : Bool)
-          → word (pick b (stored l bundles (7 * p + 1) (one-more (word l bundles (7 * p + 1)))) l) bundles (7 * q + 0)
+          → word (pick b (stored l bundles (7 * p + 1) (edges-word (word l bundles (7 * p + 1) + 1))) l) bundles (7 * q + 0)
           ≡ word l bundles (7 * q + 0)
-      go true = word-apart l bundles (7 * p + 1) (one-more (word l bundles (7 * p + 1))) bundles (7 * q + 0) (omega arith)
+      go true = word-apart l bundles (7 * p + 1) (edges-word (word l bundles (7 * p + 1) + 1)) bundles (7 * q + 0) (omega arith)
       go false = refl
 
   module _ (p : ℕ) (l : List ℕ) (fits : used ≤ length l) (low : p < 1097) where
@@ -64,9 +63,9 @@ module _ (g : Graph) (r : ℕ) (not-return : is-in 65535 (region g r .exits) ≡
     other-word i d = go (is-in (word l bundles (7 * p + 0)) (region g r .exits))
       where
         go : (b : Bool)
-            → word (pick b (stored l bundles (7 * p + 1) (one-more (word l bundles (7 * p + 1)))) l) bundles (7 * p + i)
+            → word (pick b (stored l bundles (7 * p + 1) (edges-word (word l bundles (7 * p + 1) + 1))) l) bundles (7 * p + i)
             ≡ word l bundles (7 * p + i)
-        go true = word-apart l bundles (7 * p + 1) (one-more (word l bundles (7 * p + 1))) bundles (7 * p + i) (omega arith)
+        go true = word-apart l bundles (7 * p + 1) (edges-word (word l bundles (7 * p + 1) + 1)) bundles (7 * p + i) (omega arith)
         go false = refl
 
     count-word : (t c : ℕ) → word l bundles (7 * p + 0) ≡ t → word l bundles (7 * p + 1) ≡ c → c < 65535
@@ -75,9 +74,10 @@ module _ (g : Graph) (r : ℕ) (not-return : is-in 65535 (region g r .exits) ≡
     count-word t c e f h = rw e (go (is-in t (region g r .exits)))
       where
         go : (b : Bool)
-            → word (pick b (stored l bundles (7 * p + 1) (one-more (word l bundles (7 * p + 1)))) l) bundles (7 * p + 1) ≡ pick b (suc c) c
-        go true = word-there l bundles (7 * p + 1) (one-more (word l bundles (7 * p + 1))) (omega arith) (omega arith)
-            ∙ ap one-more f ∙ counted c h
+            → word (pick b (stored l bundles (7 * p + 1) (edges-word (word l bundles (7 * p + 1) + 1))) l) bundles (7 * p + 1)
+            ≡ pick b (suc c) c
+        go true = word-there l bundles (7 * p + 1) (edges-word (word l bundles (7 * p + 1) + 1)) (omega arith) (omega arith)
+            ∙ ap (λ z. edges-word (z + 1)) f ∙ counted c h
         go false = f
 
     nothing-added : word l bundles (7 * p + 0) ≡ 65535 → l′ ≡ l

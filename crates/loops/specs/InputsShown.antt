@@ -13,6 +13,7 @@ use borrow.Author.Tests.{lt-ltb, eq-eqb, ne-eqb}
 use Rattle.meaning.specs.Graph.{Value, Graph, region, undef, input, same-value}
 use Rattle.nesting.specs.Nesting.{InputRewrite, renumber-to, replace-by, LoopInputs, no-inputs, keep-input, lift-input, take-input}
 use Rattle.nesting.specs.Nesting.{take-inputs}
+use Rattle.nesting.specs.Nesting.{most-regions}
 use Rattle.state.specs.Sections.{used, start, size, section, word, stored, stored-all, head, rewrites}
 use Rattle.state.specs.Apart.{section-stored}
 use Rattle.state.specs.Tables.{inserted}
@@ -31,10 +32,10 @@ use Rattle.loops.specs.Inputs.{KeepsInput, TakesInput, lifted, kept, bey
 use Rattle.meaning.specs.facts.Parts.{run-before, run-behind, run-in}
 
 -- ---- The words of a region's inputs.
-module _ (r k : ℕ) (h : r < 128) (j : k < 4) where
+module _ (r k : ℕ) (h : r < most-regions) (j : k < 4) where
   word-is : (base : ℕ) → region-word base r k ≡ base + 4 * r + k
   unfolding region-word
-  word-is base = rw (lt-ltb r 128 h, lt-ltb k 4 j)
+  word-is base = rw (lt-ltb r most-regions h, lt-ltb k 4 j)
 
   -- The code's test whether an input is passed back unchanged.
   unchanged-test : (x : ℕ) → same-value (value x) (input r k) ≡ eqb x (region-word 1024 r k)
@@ -68,7 +69,7 @@ pub record InputsTaken (g : Graph) (r wrapper k : ℕ) (l vs l₁ ws : List ℕ)
   pub total-to : word l₁ head 4 ≤ word l head 4 + k
 
 module _ (g : Graph) (r wrapper n : ℕ) (l vs : List ℕ) (vals : List Value) (size : n ≡ length vals) (four : length vs ≡ 4) (few : n ≤ 4)
-    (is : (j : ℕ) → j < n → value (getD vs j 0) ≡ getD vals j (undef 0)) (header : r < 128) (wraps : wrapper < 128)
+    (is : (j : ℕ) → j < n → value (getD vs j 0) ≡ getD vals j (undef 0)) (header : r < most-regions) (wraps : wrapper < most-regions)
     (free : word l head 4 + 4 ≤ 704) (room : used ≤ length l) (one : 1 ≤ word l head 4) where
   abbrev So : ℕ → List ℕ → List ℕ → Taken → Type 0
   So k l₁ ws x = InputsTaken g r wrapper k l vs l₁ ws x vals

@@ -16,6 +16,7 @@ use Rattle.state.specs.declared.defined.Made.the-variants.{Done, Full as Refuse
 use Rattle.bundles.specs.Words.{condition-in}
 use Rattle.loops.specs.Inputs.{RewritesValues, TakesInputs, backedge-inputs}
 use Rattle.loops.specs.Exits.{exits-added}
+use Rattle.nesting.specs.Nesting.{most-regions, most-nodes}
 
 -- The loop's cell takes the place of region r's children.
 pub data AddsLoop (r node repeat kept : ℕ) (l l′ : List ℕ) : Type 0 where
@@ -24,10 +25,10 @@ pub data AddsLoop (r node repeat kept : ℕ) (l l′ : List ℕ) : Type 0 where
 
 -- The repeat condition made real, the node defined, the loop added.
 pub data LoopDefined (r c kept : ℕ) (l l′ : List ℕ) : Made → Type 0 where
-  loop-defined : {x n : ℕ} {l₁ l₂ : List ℕ} → Materializes l c l₁ (Number x) → Defines 1 512 l₁ l₂ (Number n) → AddsLoop r n x kept l₂ l′
-      → LoopDefined r c kept l l′ Done
+  loop-defined : {x n : ℕ} {l₁ l₂ : List ℕ} → Materializes l c l₁ (Number x) → Defines 1 most-nodes l₁ l₂ (Number n)
+      → AddsLoop r n x kept l₂ l′ → LoopDefined r c kept l l′ Done
   no-value : Materializes l c l′ Full → LoopDefined r c kept l l′ Refused
-  no-node : {x : ℕ} {l₁ : List ℕ} → Materializes l c l₁ (Number x) → Defines 1 512 l₁ l′ Full → LoopDefined r c kept l l′ Refused
+  no-node : {x : ℕ} {l₁ : List ℕ} → Materializes l c l₁ (Number x) → Defines 1 most-nodes l₁ l′ Full → LoopDefined r c kept l l′ Refused
 
 -- Header r's n inputs looked up, taken and entered; h is the list of kept inputs.
 pub data EntersInputs (r wrapper n : ℕ) (l vs l′ : List ℕ) (h : ℕ) : Type 0 where
@@ -37,13 +38,13 @@ pub data EntersInputs (r wrapper n : ℕ) (l vs l′ : List ℕ) (h : ℕ) : Typ
 -- Region r, whose back edge is bundle p, leaves its set, and the wrapper, the inputs and the loop are made in this order.
 pub data StructurizesLoop (r p : ℕ) (l l′ : List ℕ) : Made → Type 0 where
   looped : {n wrapper h : ℕ} {l₁ l₂ l₃ : List ℕ} → OfRecord l (λ g. n ≡ length (region g r .inputs))
-      → Defines 0 128 (swap-removed l r p) l₁ (Number wrapper) → EntersInputs r wrapper n l₁ (backedge-inputs l p) l₂ h
+      → Defines 0 most-regions (swap-removed l r p) l₁ (Number wrapper) → EntersInputs r wrapper n l₁ (backedge-inputs l p) l₂ h
       → LoopDefined r (condition-in l p (word l set-lengths r)) h l₂ l₃ Done
       → OfRecord (stored l₃ bodies r wrapper) (λ g. l′ ≡ exits-added g r (stored l₃ bodies r wrapper))
       → StructurizesLoop r p l l′ Done
-  no-wrapper : Defines 0 128 (swap-removed l r p) l′ Full → StructurizesLoop r p l l′ Refused
+  no-wrapper : Defines 0 most-regions (swap-removed l r p) l′ Full → StructurizesLoop r p l l′ Refused
   no-loop : {n wrapper h : ℕ} {l₁ l₂ : List ℕ} → OfRecord l (λ g. n ≡ length (region g r .inputs))
-      → Defines 0 128 (swap-removed l r p) l₁ (Number wrapper) → EntersInputs r wrapper n l₁ (backedge-inputs l p) l₂ h
+      → Defines 0 most-regions (swap-removed l r p) l₁ (Number wrapper) → EntersInputs r wrapper n l₁ (backedge-inputs l p) l₂ h
       → LoopDefined r (condition-in l p (word l set-lengths r)) h l₂ l′ Refused
       → StructurizesLoop r p l l′ Refused
 
@@ -57,7 +58,7 @@ module _ {r : ℕ} {l : List ℕ} where
     pub value-full : a ≡ Full → LoopDefined r c kept l l₁ Refused
     value-full e = no-value (rw e at value)
 
-    module _ {x : ℕ} (some : a ≡ Number x) {l₂ : List ℕ} {b : Defined} (node : Defines 1 512 l₁ l₂ b) where
+    module _ {x : ℕ} (some : a ≡ Number x) {l₂ : List ℕ} {b : Defined} (node : Defines 1 most-nodes l₁ l₂ b) where
       pub node-full : b ≡ Full → LoopDefined r c kept l l₂ Refused
       node-full e = no-node (rw some at value) (rw e at node)
 
@@ -66,7 +67,7 @@ module _ {r : ℕ} {l : List ℕ} where
 
 module _ {r p n c : ℕ} {l vs l₁ : List ℕ} {a : Defined} (count : OfRecord l (λ g. n ≡ length (region g r .inputs)))
     (values : vs ≡ backedge-inputs l p) {m : ℕ} (many : m ≡ word l set-lengths r) (condition : c ≡ condition-in l p m) {l₀ : List ℕ}
-    (removed : l₀ ≡ swap-removed l r p) (region-more : Defines 0 128 l₀ l₁ a) where
+    (removed : l₀ ≡ swap-removed l r p) (region-more : Defines 0 most-regions l₀ l₁ a) where
   pub wrapper-full : a ≡ Full → StructurizesLoop r p l l₁ Refused
   wrapper-full e = no-wrapper (rw (removed, e) at region-more)
 

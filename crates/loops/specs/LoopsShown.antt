@@ -11,6 +11,7 @@ use Rattle.nesting.specs.Nesting.{NestState, RewriteEntry, done, rewrite-values
 use Rattle.nesting.specs.Nesting.{take-inputs, no-inputs}
 use Rattle.nesting.specs.Nesting.{DeferredEdgeBundleSet, LazyCond, StepAnswer, turned-away, Step, _>>=_, give, materialize-lazy-cond}
 use Rattle.nesting.specs.Nesting.{define-node, LoopInputs, loop-node}
+use Rattle.nesting.specs.Nesting.{most-regions, most-nodes}
 use Rattle.nesting.specs.lookups.ChainEnds.{ChainsEnd}
 use Rattle.state.specs.declared.defined.Defined.{Defined}
 use Rattle.state.specs.Sections.{Section, number, used, section, word, stored, head, rewrites, children, bundles, set-starts, set-lengths}
@@ -57,7 +58,7 @@ pub record InputsEntered (g : Graph) (r wrapper : ℕ) (l l′ : List ℕ) (h : 
 
 pub inputs-entered : (g : Graph) {r wrapper n h : ℕ} {l vs l′ : List ℕ} {vals : List Value} {s : NestState} → ShowsTables l s
     → NamedRewrites l → ((q : ℕ) → ChainsEnd (s .region-input-rewrites) q) → n ≡ length vals → n ≤ 4 → length vs ≡ 4
-    → ((j : ℕ) → j < n → value (getD vs j 0) ≡ getD vals j (undef 0)) → r < 128 → wrapper < 128 → word l head 4 + 4 ≤ 704
+    → ((j : ℕ) → j < n → value (getD vs j 0) ≡ getD vals j (undef 0)) → r < most-regions → wrapper < most-regions → word l head 4 + 4 ≤ 704
     → 1 ≤ word l head 4 → EntersInputs r wrapper n l vs l′ h → InputsEntered g r wrapper l l′ h vals s
 inputs-entered g {r} {wrapper} {n} {h} {l} {vs} {l′} {vals} {s} t named all size few four is header wraps free one
     (enters {l₁} {l₂} {us} {ws} made taken e) =
@@ -193,7 +194,7 @@ module _ {A : Type 0} (F : Value → ℕ → A) (g : Graph) {r c kept : ℕ} {l 
       aside-within r (aside-by z (omega arith) (omega arith) (omega arith) (omega arith) g) (z .others rewrites (omega arith) (omega arith))
       (z .totals 4 (omega arith))
 
-  node-within : {a : Defined} {l₁ l₂ : List ℕ} → Defines 1 512 l₁ l₂ a → LoopWithin g r l₁ l₂
+  node-within : {a : Defined} {l₁ l₂ : List ℕ} → Defines 1 most-nodes l₁ l₂ a → LoopWithin g r l₁ l₂
   node-within d =
       let z = defines-changes d in
       aside-within r (aside-by z (omega arith) (omega arith) (omega arith) (omega arith) g) (z .others rewrites (omega arith) (omega arith))

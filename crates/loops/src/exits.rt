@@ -4,6 +4,7 @@ ghost use Rattle.meaning.specs.Graph.{region};
 ghost use Rattle.meaning.specs.Lists.{is-in};
 ghost use Rattle.record.specs.Stands.{OfRecord};
 ghost use Rattle.loops.specs.Exits as words;
+use state::edges::ONE;
 use state::sets::accumulated_count;
 use state::sets::bundle_at;
 use state::sets::set_accumulated_count;
@@ -26,22 +27,12 @@ fn is_exit_target(w: &[u16; WORDS], r: u16, t: u16) -> bool
     false
 }
 
-// A count is never as large as a word.
-fn one_more(n: u16) -> u16
-    ensures { λ a. ⌜ a ≡ words.«one-more» n ⌝ }
-{
-    if n < 65535 {
-        return n + 1;
-    }
-    n
-}
-
 fn add_exit_edge(w: &mut [u16; WORDS], r: u16, p: u16)
     ensures { λ _. ⌜ OfRecord (now (w .entry)) (λ g. now (w .exit) ≡ words.«exit-added» g r p (now (w .entry))) ⌝ }
 {
     if is_exit_target(w, r, target(w, p)) {
         let n = accumulated_count(w, p);
-        set_accumulated_count(w, p, one_more(n));
+        set_accumulated_count(w, p, n.plus(ONE));
         return;
     }
 }

@@ -20,7 +20,7 @@ use state::regions::set_structured_body;
 use state::rewrites::RENUMBER_OR_REPLACE_WITH;
 use state::rewrites::insert_rewrites;
 use state::sets::set_length;
-use state::sets::swap_remove;
+use state::sets::split_out_target;
 use store::WORDS;
 
 fn add_loop(w: &mut [u16; WORDS], r: u16, node: u16, repeat: u16, kept: u16)
@@ -72,7 +72,7 @@ pub fn structurize_loop(w: &mut [u16; WORDS], r: u16, p: u16) -> Made
     let n = fields::input_count(w, r);
     let condition = condition_in(w, p, set_length(w, r));
     let mut vs = backedge_inputs(w, p);
-    swap_remove(w, r, p);
+    split_out_target(w, r, p);
     let Defined::Number(wrapper) = define_region(w) else {
         return Made::Full;
     };

@@ -1,25 +1,27 @@
 -- The set of deferred targets in the spare slot, as the words have it.
 use mathlib.Core.Path.{_≡_, _∙_}
 use mathlib.Core.List.{List, [], _∷_}
-use Prim.Native.Nat.{ℕ, _+_, _*_, _-_, _≤_}
+use Prim.Native.Nat.{ℕ, _+_, _*_, _-_, _≤_, min}
 use lib.Dec.{ltb, eqb}
 use borrow.Author.Tests.{eq-eqb, ne-eqb}
 use Rattle.meaning.specs.Lists.{pick}
 use Rattle.state.specs.Sections.{word, stored, stored-all, set-starts, set-lengths, cases, bundles}
-use Rattle.state.specs.Tables.{find-by, bundle-at, case-total}
+use Rattle.state.specs.Tables.{edges-word, find-by, bundle-at, case-total}
+use Rattle.state.specs.Edges.{edges-fit, edges-sum}
 use Rattle.merging.specs.Turns.{turned, turn-last}
 
-unfoldable pub plus : ℕ → ℕ → ℕ
-plus a b = pick (ltb a (65535 - b)) (a + b) 65535
+-- The length of a set with k bundles more.
+unfoldable pub longer : ℕ → ℕ → ℕ
+longer n k = pick (ltb n (65535 - k)) (n + k) 65535
 
 -- A target that has no bundle yet gets one; else its edges are counted with the others.
 abbrev pub row-added : List ℕ → ℕ → ℕ → ℕ → List ℕ
 row-added l p start n =
     let field : ℕ → ℕ = λ i. word l bundles (7 * p + i) in
-    stored (stored-all l bundles (7 * bundle-at start n) (field 0 ∷ field 1 ∷ 1 ∷ [])) set-lengths 32 (plus n 1)
+    stored (stored-all l bundles (7 * bundle-at start n) (field 0 ∷ field 1 ∷ 1 ∷ [])) set-lengths 32 (longer n 1)
 
 abbrev pub edges-added : List ℕ → ℕ → ℕ → List ℕ
-edges-added l p q = stored l bundles (7 * q + 1) (plus (word l bundles (7 * q + 1)) (word l bundles (7 * p + 1)))
+edges-added l p q = stored l bundles (7 * q + 1) (edges-word (word l bundles (7 * q + 1) + word l bundles (7 * p + 1)))
 
 unfoldable pub summarize-bundle : List ℕ → ℕ → List ℕ
 summarize-bundle l p =
@@ -41,20 +43,23 @@ deferred-targets l =
 
 -- ---- The functions, path by path.
 module _ (l : List ℕ) (p start n t count q : ℕ) (of-start : start ≡ word l set-starts 32) (of-length : n ≡ word l set-lengths 32)
-    (of-target : t ≡ word l bundles (7 * p + 0)) (of-count : count ≡ word l bundles (7 * p + 1)) (found : q ≡ find-by l start t n 0) where
+    (of-target : t ≡ word l bundles (7 * p + 0)) (of-count : (count ≡ word l bundles (7 * p + 1)) × (count ≤ 65535))
+    (found : q ≡ find-by l start t n 0) where
   pub bundle-new : q ≡ 65535 → {b m : ℕ} {l₁ l₂ : List ℕ} → b ≡ bundle-at start n
-      → l₁ ≡ stored-all l bundles (7 * b) (t ∷ count ∷ 1 ∷ []) → m ≡ plus n 1 → l₂ ≡ stored l₁ set-lengths 32 m
+      → l₁ ≡ stored-all l bundles (7 * b) (t ∷ edges-word count ∷ 1 ∷ []) → m ≡ longer n 1 → l₂ ≡ stored l₁ set-lengths 32 m
       → l₂ ≡ summarize-bundle l p
   unfolding summarize-bundle
   bundle-new e at first more last =
-      last ∙ rw (← of-start, ← of-length, ← of-target, ← found, eq-eqb q 65535 e, ← of-count, first, at, more)
+      let fits = edges-fit count (of-count .1) in
+      last ∙ rw (← of-start, ← of-length, ← of-target, ← found, eq-eqb q 65535 e, ← of-count .0, first, fits, at, more)
 
-  pub bundle-there : (q ≡ 65535 → ⊥) → {before m : ℕ} {l₁ : List ℕ} → before ≡ word l bundles (7 * q + 1) → m ≡ plus before count
-      → l₁ ≡ stored l bundles (7 * q + 1) m
+  pub bundle-there : (q ≡ 65535 → ⊥) → {before m : ℕ} {l₁ : List ℕ} → (before ≡ word l bundles (7 * q + 1)) × (before ≤ 65535)
+      → m ≡ min (before + count) 4294967295 → l₁ ≡ stored l bundles (7 * q + 1) (edges-word m)
       → l₁ ≡ summarize-bundle l p
   unfolding summarize-bundle
-  bundle-there d of-before more last =
-      last ∙ rw (← of-start, ← of-length, ← of-target, ← found, ne-eqb q 65535 d, ← of-count, ← of-before, more)
+  bundle-there d {before} of-before more last =
+      let held = edges-sum before count (of-before .1) (of-count .1) in
+      last ∙ rw (← of-start, ← of-length, ← of-target, ← found, ne-eqb q 65535 d, ← of-count .0, ← of-before .0, more, held)
 
 pub targets-path : (l l₁ l₂ : List ℕ) (n j : ℕ) → l₁ ≡ stored l set-lengths 32 0 → n ≡ case-total l₁ → n ≤ j
     → turned summarize-case l₂ (n - j) j ≡ turned summarize-case l₁ n 0

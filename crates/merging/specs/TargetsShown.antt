@@ -16,6 +16,7 @@ use Rattle.nesting.specs.Nesting as nesting
 use Rattle.nesting.specs.Nesting.{DeferredTarget, to-return, DeferredEdgeBundle, DeferredEdgeBundleSet, same-target}
 use Rattle.nesting.specs.Nesting.{NestState, DeferredTargetSummary, MaybeClaimedRegion, deferred-of}
 use Rattle.state.specs.Sections.{start, size, used, section, word, stored, stored-all, set-starts, set-lengths, cases, bundles}
+use Rattle.state.specs.Edges.{edges-fit}
 use Rattle.state.specs.Tables.{find-by, bundle-at}
 use Rattle.state.specs.Apart.{section-other}
 use Rattle.shown.specs.Stores.{section-run, run-length, part-length}
@@ -23,7 +24,7 @@ use Rattle.shown.specs.Sets.{ShowsTarget, shows-region, shows-return, target-si
 use Rattle.shown.specs.States.{ShowsState, ShowsCases, no-case}
 use Rattle.shown.specs.Kept.{Later, KeptRegion, bundle-stays, set-stays}
 use Rattle.merging.specs.Turns.{turned}
-use Rattle.merging.specs.Targets.{plus, summarize-bundle, summarize-set, summarize-case, deferred-targets}
+use Rattle.merging.specs.Targets.{longer, summarize-bundle, summarize-set, summarize-case, deferred-targets}
 use Rattle.merging.specs.Spare.{SpareOnly, spare-same, spare-word, spare-length, spare-three, spare-then, spare-there, spare-later}
 use Rattle.merging.specs.Spare.{spare-outside}
 use Rattle.merging.specs.Spare.{spare-keeps, spare-state, spare-cases}
@@ -107,8 +108,8 @@ pub record ShowsRows (g : Graph) (l : List ℕ) (o : ℕ) (ts : List DeferredTar
   pub each : (i : ℕ) → i < length ts → ShowsRow g l (o + i) (getD ts i no-summary)
   pub apart : (i j : ℕ) → i < j → j < length ts → word l bundles (7 * (o + i) + 0) ≡ word l bundles (7 * (o + j) + 0) → ⊥
 
-no-clip : (a b : ℕ) → a + b ≤ 65535 → plus a b ≡ a + b
-unfolding plus
+no-clip : (a b : ℕ) → a + b ≤ 65535 → longer a b ≡ a + b
+unfolding longer
 no-clip a b h =
     elim (decLt a (65535 - b)) [
       | yes c ↦ rw (lt-ltb a (65535 - b) c)
@@ -186,7 +187,7 @@ module _ (g : Graph) (valid : Valid g) where
           → summarize-bundle l p ≡ counted
       unfolding summarize-bundle
       as-counted b f =
-          rw (at, rows .size, f, ne-eqb (o + i) 65535 (omega arith), rows .each i h .count, x .count, no-clip _ _ b)
+          rw (at, rows .size, f, ne-eqb (o + i) 65535 (omega arith), rows .each i h .count, x .count, edges-fit _ b)
 
       row-counted : (k : ℕ) → k < length ts → ShowsRow g counted (o + k)
           (getD (set ts i (summary-with e (getD ts i no-summary))) k no-summary)

@@ -18,12 +18,12 @@ use state::sets::set_start;
 use state::sets::target;
 use store::WORDS;
 
-// A sum that stops at the largest word.
-fn plus(a: u16, b: u16) -> u16
-    ensures { λ n. ⌜ n ≡ words.plus a b ⌝ }
+// The length of a set of n bundles with k more. It stops at the largest word.
+fn longer(n: u16, k: u16) -> u16
+    ensures { λ a. ⌜ a ≡ words.longer n k ⌝ }
 {
-    if a < 65535 - b {
-        return a + b;
+    if n < 65535 - k {
+        return n + k;
     }
     65535
 }
@@ -38,11 +38,11 @@ fn summarize_bundle(w: &mut [u16; WORDS], p: u16)
     let q = find_by_target(w, start, n, t);
     if q == NO_BUNDLE {
         set_bundle(w, bundle_at(start, n), t, count, TRUE_COND);
-        put_set_length(w, SPARE, plus(n, 1));
+        put_set_length(w, SPARE, longer(n, 1));
         return;
     }
     let before = accumulated_count(w, q);
-    set_accumulated_count(w, q, plus(before, count));
+    set_accumulated_count(w, q, before.plus(count));
 }
 
 fn summarize_set(w: &mut [u16; WORDS], start: u16, n: u16)

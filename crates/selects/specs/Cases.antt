@@ -14,6 +14,7 @@ use Rattle.bundles.specs.Words.{case-inputs}
 use Rattle.state.specs.declared.defined.Made.{Made}
 use Rattle.state.specs.declared.defined.Made.the-variants.{Done, Full}
 use Rattle.meaning.specs.Lists.{pick}
+use Rattle.nesting.specs.Nesting.{most-regions}
 
 -- n cases from place j on, with what was found before them.
 unfoldable pub convergent-from : List ℕ → ℕ → ℕ → ℕ → ℕ
@@ -38,9 +39,9 @@ any-non-empty-case l = any-from l (case-total l) 0
 -- Case j has its region: a claimed one has it already.
 pub data GetsRegion (j : ℕ) (l l′ : List ℕ) : Made → Type 0 where
   has-region : word l cases (10 * j + 0) ≡ 2 → l′ ≡ l → GetsRegion j l l′ Done
-  new-region : {r : ℕ} {l₁ : List ℕ} → (word l cases (10 * j + 0) ≡ 2 → ⊥) → Defines 0 128 l l₁ (Number r)
+  new-region : {r : ℕ} {l₁ : List ℕ} → (word l cases (10 * j + 0) ≡ 2 → ⊥) → Defines 0 most-regions l l₁ (Number r)
       → l′ ≡ stored l₁ cases (10 * j + 2) r → GetsRegion j l l′ Done
-  no-region : (word l cases (10 * j + 0) ≡ 2 → ⊥) → Defines 0 128 l l′ Refused → GetsRegion j l l′ Full
+  no-region : (word l cases (10 * j + 0) ≡ 2 → ⊥) → Defines 0 most-regions l l′ Refused → GetsRegion j l l′ Full
 
 unfoldable pub inputs-replaced : List ℕ → ℕ → List ℕ
 inputs-replaced l j = pick (eqb (word l cases (10 * j + 0)) 2) (inserted l (word l cases (10 * j + 2)) 1 (case-inputs l j)) l

@@ -11,6 +11,7 @@ use Rattle.nesting.specs.Nesting as nesting
 use Rattle.nesting.specs.Nesting.{DeferredTarget}
 use Rattle.nesting.specs.Nesting.{LazyConds, MaybeClaimedRegion, PlannedInput, shared, merged, PlannedBundle, DefinedSelect}
 use Rattle.nesting.specs.Nesting.{conditions-of, NestState, StepAnswer, follow, give, emit-inputs, define-output}
+use Rattle.nesting.specs.Nesting.{most-outputs}
 use Rattle.state.specs.declared.defined.Defined.the-variants.{Number}
 use Rattle.state.specs.Sections.{word, stored, bundles}
 use Rattle.state.specs.Tables.{input-word, input-stored, OutputDefined, output-defined}
@@ -79,11 +80,11 @@ pub record InputsDone (g : Graph) (q k : ℕ) (w w′ : List ℕ) (many : ℕ) (
 abbrev pub PlannedAt : Graph → List MaybeClaimedRegion → DeferredTarget → ℕ → List ℕ → ℕ → PlannedInput → Type 0
 PlannedAt g cs x q w k i = PlannedInputOf g cs x (word w bundles (7 * q + (3 + k))) k i
 
-output-names : (o : ℕ) → o < 512 → Names (output-word o) (output o)
+output-names : (o : ℕ) → o < most-outputs → Names (output-word o) (output o)
 unfolding output-word
-output-names o h = record { is = value-output o h; below = rw (lt-ltb o 512 h) (omega arith) }
+output-names o h = record { is = value-output o h; below = rw (lt-ltb o most-outputs h) (omega arith) }
 
-output-below : {n ty : ℕ} {vs l l′ : List ℕ} {o : ℕ} → OutputDefined n ty vs l l′ (Number o) → o < 512
+output-below : {n ty : ℕ} {vs l l′ : List ℕ} {o : ℕ} → OutputDefined n ty vs l l′ (Number o) → o < most-outputs
 output-below (output-defined p h e) = h
 
 -- The definition's fold, an input in front.

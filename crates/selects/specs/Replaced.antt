@@ -7,6 +7,7 @@ use lib.ListN.{length, getD}
 use Rattle.meaning.specs.Graph.{Graph, undef}
 use Rattle.nesting.specs.Nesting.{ClaimedRegion, DeferredEdgeBundleSet, MaybeClaimedRegion, ok, err, NestState, done, replace-inputs}
 use Rattle.nesting.specs.Nesting.{replace-with, with-tables}
+use Rattle.nesting.specs.Nesting.{most-regions}
 use Rattle.state.specs.Sections.{word, section, cases, rewrites}
 use Rattle.state.specs.Tables.{inserted, case-total}
 use Rattle.shown.specs.Values.{value}
@@ -24,7 +25,7 @@ use Rattle.selects.specs.Places.{From, first-of, rest-of, from-start}
 -- What the words of case j say of what is to be replaced.
 pub data ShowsGiven (w : List ℕ) (j : ℕ) : MaybeClaimedRegion → Type 0 where
   given-inputs : {c : ClaimedRegion} → word w cases (10 * j + 0) ≡ 2 → word w cases (10 * j + 2) ≡ c .structured-body
-      → c .structured-body < 128
+      → c .structured-body < most-regions
       → ((k : ℕ) → k < 4 → Names (word w cases (10 * j + (6 + k))) (getD (c .structured-body-inputs) k (undef 0)))
       → ShowsGiven w j (ok c)
   given-nothing : {d : DeferredEdgeBundleSet} → (word w cases (10 * j + 0) ≡ 2 → ⊥) → ShowsGiven w j (err d)
@@ -78,7 +79,7 @@ replaced-from (c ∷ cs) j {w} {s} f t n =
         let vs = case-inputs w j in
         let w₁ = inserted w body 1 vs in
         let changes = insert-changes w body 1 vs 0 in
-        let in-table : body < 128 = omega arith in
+        let in-table : body < most-regions = omega arith in
         let entry : EntryWords body 1 vs (replace-with (c .structured-body-inputs)) =
         replace-words refl (λ m z. ap value (inputs-at w j m z) ∙ i m z .is) in
         let with-entry : ℕ → NestState = λ q. with-tables (s .region-states)

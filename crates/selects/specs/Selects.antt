@@ -14,6 +14,7 @@ use Rattle.selects.specs.declared.define.Scrutinee.{Scrutinee}
 use Rattle.selects.specs.declared.define.Scrutinee.the-variants.{Value, Lazy}
 use Rattle.selects.specs.Turns.{Turns}
 use Rattle.selects.specs.Cases.{GetsRegion, children-of}
+use Rattle.nesting.specs.Nesting.{most-nodes}
 
 pub data ScrutineeMade (l : List ℕ) : Scrutinee → List ℕ → Defined → Type 0 where
   given-value : {v : ℕ} {l′ : List ℕ} → l′ ≡ l → ScrutineeMade l (Value v) l′ (Number v)
@@ -35,9 +36,9 @@ pub data SelectDefined (r shape : ℕ) (x : Scrutinee) (l l′ : List ℕ) : Def
   scrutinee-full : {l₁ : List ℕ} → Turns GetsRegion (case-total l) 0 l l₁ MadeDone → ScrutineeMade l₁ x l′ Full
       → SelectDefined r shape x l l′ Full
   node-full : {l₁ l₂ : List ℕ} {v : ℕ} → Turns GetsRegion (case-total l) 0 l l₁ MadeDone → ScrutineeMade l₁ x l₂ (Number v)
-      → Defines 1 512 l₂ l′ Full → SelectDefined r shape x l l′ Full
+      → Defines 1 most-nodes l₂ l′ Full → SelectDefined r shape x l l′ Full
   select-defined : {l₁ l₂ l₃ : List ℕ} {v n h : ℕ} → Turns GetsRegion (case-total l) 0 l l₁ MadeDone → ScrutineeMade l₁ x l₂ (Number v)
-      → Defines 1 512 l₂ l₃ (Number n) → SelectAdded r n shape v l₃ l′ h → SelectDefined r shape x l l′ (Number h)
+      → Defines 1 most-nodes l₂ l₃ (Number n) → SelectAdded r n shape v l₃ l′ h → SelectDefined r shape x l l′ (Number h)
 
 -- ---- Turns of the loop over the cases.
 -- Whatever the cells that are left make is made of all.

@@ -11,6 +11,7 @@ use Rattle.meaning.specs.Runs.{Nodes, ⟨⟩, _▸_, Cases}
 use Rattle.nesting.specs.Nesting as nesting
 use Rattle.nesting.specs.Nesting.{MaybeClaimedRegion, LazyCond, NestState, StepAnswer, done, turned-away, join, new-select, DefinedSelect}
 use Rattle.nesting.specs.Nesting.{define-select, scrutinee-value, case-regions}
+use Rattle.nesting.specs.Nesting.{most-nodes}
 use Rattle.state.specs.declared.defined.Defined.{Defined}
 use Rattle.state.specs.declared.defined.Defined.the-variants.{Number, Full}
 use Rattle.state.specs.Sections.{Section, number, section, word, used, head, children, cases, outputs, cells}
@@ -236,7 +237,7 @@ module _ {g : Graph} {r : ℕ} {cs : List MaybeClaimedRegion} {parent : Nodes} {
         total = omega arith;
       }
 
-  node-changes : {l l′ : List ℕ} {n : ℕ} → Defines 1 512 l l′ (Number n) → ChangesOnly outputs 1 l l′
+  node-changes : {l l′ : List ℕ} {n : ℕ} → Defines 1 most-nodes l l′ (Number n) → ChangesOnly outputs 1 l l′
   node-changes {l} (defined {n} p h e) = rw e (head-changes outputs 1 l (n + 1))
 
   pub select-shown : {w′ : List ℕ} {a : Defined} → words.SelectDefined r shape x w w′ a

@@ -13,6 +13,7 @@ use Rattle.meaning.specs.Graph.{Value, SelectionKind, Instr, Graph, region, inp
 use Rattle.meaning.specs.Runs.{Nodes, ⟨⟩, _▸_, Cases, ∅, loop, exit}
 use Rattle.meaning.specs.facts.Tests.{clash}
 use Rattle.nesting.specs.Nesting.{join, has-children, blocks-of, blocks-from, new-case, new-select, LoopInputs, loop-node}
+use Rattle.nesting.specs.Nesting.{most-regions}
 use Rattle.state.specs.declared.cells.Cell.{Cell}
 use Rattle.state.specs.Sections.{Section, number, start, size, used, section, word, stored, stored-all, head, conditions, cells}
 use Rattle.state.specs.Sections.{bundles, front}
@@ -266,7 +267,7 @@ module _ {w w′ : List ℕ} {h : ℕ} (free : word w head 4 < 704) (room : used
       }
 
   pub kept-added : {r p k wrapper x : ℕ} {v : Value} (y z : LoopInputs) → Adds w w′ (kept-cell p k wrapper x) h → k < 4
-      → wrapper < 128 → ShowsKeptList g w r p y → value x ≡ v → z .initial-inputs ≡ y .initial-inputs ++ (input wrapper k ∷ [])
+      → wrapper < most-regions → ShowsKeptList g w r p y → value x ≡ v → z .initial-inputs ≡ y .initial-inputs ++ (input wrapper k ∷ [])
       → z .types ≡ y .types ++ (getD (region g r .inputs) k 0 ∷ []) → z .outputs ≡ y .outputs ++ (v ∷ [])
       → ShowsKeptList g w′ r h z
   kept-added y z step few low ks v a b c =

@@ -7,6 +7,7 @@ use Rattle.meaning.specs.Graph.{Value, SelectionKind, Graph, region, input, exi
 use Rattle.meaning.specs.Runs.{Nodes, ⟨⟩, _▸_, Cases, ∅, loop, exit}
 pub use Rattle.meaning.specs.Runs.{case-count}
 use Rattle.nesting.specs.Nesting.{join, blocks-of, new-case, new-select, LoopInputs, loop-node}
+use Rattle.nesting.specs.Nesting.{most-regions}
 use Rattle.state.specs.Sections.{section, word, head, cells}
 use Rattle.shown.specs.Values.{value}
 use Rattle.shown.specs.Tables.{ShowsShape}
@@ -25,7 +26,7 @@ pub record CellIs (l : List ℕ) (h tag before a b c d : ℕ) : Type 0 where
 pub data ShowsKept (g : Graph) (l : List ℕ) (r : ℕ) : ℕ → List Value → List ℕ → List Value → Type 0 where
   none-kept : {h : ℕ} → h ≡ 0 → ShowsKept g l r h [] [] []
   one-kept : {h p k wrapper x : ℕ} {v : Value} {is is′ : List Value} {ts ts′ : List ℕ} {os os′ : List Value} → CellIs l h 7 p k wrapper x 0
-      → p < h → k < 4 → wrapper < 128 → ShowsKept g l r p is ts os → value x ≡ v
+      → p < h → k < 4 → wrapper < most-regions → ShowsKept g l r p is ts os → value x ≡ v
       → is′ ≡ is ++ (input wrapper k ∷ []) → ts′ ≡ ts ++ (getD (region g r .inputs) k 0 ∷ []) → os′ ≡ os ++ (v ∷ [])
       → ShowsKept g l r h is′ ts′ os′
 

@@ -9,6 +9,7 @@ use borrow.Author.Tests.{lt-ltb, le-ltb, ne-eqb}
 use native.Mathlib.Decide.{decLt}
 use Rattle.meaning.specs.Graph.{Value, SelectionKind}
 use Rattle.nesting.specs.Nesting.{LazyCond, LazyConds, merge, NestState, define, define-merge, add-merge}
+use Rattle.nesting.specs.Nesting.{most-merges}
 use Rattle.state.specs.declared.defined.Defined.{Defined}
 use Rattle.state.specs.Sections.{Section, number, section, word, stored, stored-all, head, rewrites, outputs, conditions, used, start, size}
 use Rattle.state.specs.Apart.{section-other}
@@ -77,7 +78,7 @@ module _ (w : List ℕ) (n shape x : ℕ) (ps : List ℕ) (m : ℕ) where
   conditions-after : section after conditions ≡ sets (section w conditions) (11 * (4 + m)) its-words
   conditions-after = section-other with-record head 2 (m + 1) conditions (omega arith) ∙ section-run w conditions (11 * (4 + m)) its-words
 
-  module _ (room : used ≤ length w) (p : m ≡ word w head 2) (h : m < 512) where
+  module _ (room : used ≤ length w) (p : m ≡ word w head 2) (h : m < most-merges) where
     total-after : word after head 2 ≡ m + 1
     total-after = head-same with-record 2 (m + 1) (rw (run-changes conditions 2 w (omega arith) (11 * (4 + m)) its-words .words) room)
         (omega arith)
@@ -128,7 +129,7 @@ module _ {w w′ : List ℕ} {s : NestState} (t : ShowsTables w s) {n shape x : 
       let same : m ≡ s .merge-count = p ∙ t .merge-total in
       let more : m + 1 ≡ suc (s .merge-count) = omega arith in
       let g = record-changes w n shape x ps m in
-      rw (lt-ltb (s .merge-count) 512 (omega arith), define, e, r)
+      rw (lt-ltb (s .merge-count) most-merges (omega arith), define, e, r)
       (shows-done {s = add-merge s}
       (record-after w n shape x ps m (t .size) p h len k q ys)
       record {
@@ -146,7 +147,8 @@ module _ {w w′ : List ℕ} {s : NestState} (t : ShowsTables w s) {n shape x : 
         rewritten = rw (g .others rewrites (omega arith) (omega arith)) (t .rewritten);
         outputs-shown = rw (g .others outputs (omega arith) (omega arith)) (t .outputs-shown);
       })
-  merge-made len k q ys (merges-full h e) = let z = t .merge-total in rw (le-ltb (s .merge-count) 512 (omega arith), define) shows-full
+  merge-made len k q ys (merges-full h e) =
+      let z = t .merge-total in rw (le-ltb (s .merge-count) most-merges (omega arith), define) shows-full
 
   pub condition-kept : {a : Defined} → MergeDefined n shape x ps w w′ a → {c : ℕ} {u : LazyCond} → ShowsCondition w c u
       → ShowsCondition w′ c u

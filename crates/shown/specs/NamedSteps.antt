@@ -14,8 +14,9 @@ use Rattle.state.specs.Tables.{inserted}
 use Rattle.shown.specs.Stores.{section-run, part-length}
 use Rattle.shown.specs.States.{NamedRewrites}
 use Rattle.meaning.specs.facts.Parts.{run-before, run-behind, run-in}
+use Rattle.nesting.specs.Nesting.{most-regions}
 
-pub named-inserted : (w : List ℕ) (r kind : ℕ) (ws : List ℕ) → used ≤ length w → r < 128 → length ws ≡ 4
+pub named-inserted : (w : List ℕ) (r kind : ℕ) (ws : List ℕ) → used ≤ length w → r < most-regions → length ws ≡ 4
     → ((k : ℕ) → k < 4 → getD ws k 0 < 4096) → NamedRewrites w → NamedRewrites (inserted w r kind ws)
 unfolding inserted
 named-inserted w r kind ws room h four below n = go (ℕ-discrete (word w rewrites (5 * r)) 0)

@@ -15,6 +15,7 @@ use borrow.Author.Tests.{eq-eqb, ne-eqb}
 use Rattle.meaning.specs.facts.Tests.{clash}
 use Rattle.nesting.specs.Nesting.{RegionInputRewrites, replace-with, renumber-or-replace-with, RewriteEntry}
 use Rattle.nesting.specs.Nesting.{NestState, rewrites-of, with-tables}
+use Rattle.nesting.specs.Nesting.{most-regions}
 use Rattle.nesting.specs.lookups.ChainEnds.{entry-kept}
 use Rattle.state.specs.Sections.{section, word, stored, stored-all, rewrites, outputs, start, size}
 use Rattle.state.specs.Apart.{section-stored}
@@ -64,7 +65,7 @@ entry-same l l′ r s (replaces e f) =
 entry-same l l′ r s (renumbers {xs} e f) =
     renumbers {xs = xs} (s (5 * r) (omega arith) (omega arith) ∙ e) (λ k h. rw (s (5 * r + 1 + k) (omega arith) (omega arith)) (f k h))
 
-module _ (l : List ℕ) (r kind : ℕ) (ws : List ℕ) (size : length l ≡ 640) (len : length ws ≡ 4) (below : r < 128) where
+module _ (l : List ℕ) (r kind : ℕ) (ws : List ℕ) (size : length l ≡ 640) (len : length ws ≡ 4) (below : r < most-regions) where
   abbrev entered : List ℕ
   entered = sets l (5 * r) (kind ∷ ws)
 
@@ -90,16 +91,16 @@ module _ (l : List ℕ) (r kind : ℕ) (ws : List ℕ) (size : length l ≡ 640)
   entry-new (renumber-words {xs} e f) = renumbers {xs = xs} (entered-kind ∙ e) (λ k h. rw (entered-word k h) (f k h))
 
 -- ---- The entries after an insertion.
-module _ (l : List ℕ) (es : List RewriteEntry) (shown : ShowsRewrites l es) (r kind : ℕ) (ws : List ℕ) (below : r < 128)
+module _ (l : List ℕ) (es : List RewriteEntry) (shown : ShowsRewrites l es) (r kind : ℕ) (ws : List ℕ) (below : r < most-regions)
     (x : RegionInputRewrites) where
   abbrev new-entry : RewriteEntry
   new-entry = record { region = r; rewrites = x }
 
-  logged-more : (q : ℕ) → List·Memᴰ q (map (λ e. e .region) (es ++ (new-entry ∷ []))) → q < 128
+  logged-more : (q : ℕ) → List·Memᴰ q (map (λ e. e .region) (es ++ (new-entry ∷ []))) → q < most-regions
   logged-more q m = go (List·Memᴰ·append-cases (map (λ e. e .region) es)
       (rw (map-append (λ (e : RewriteEntry). e .region) es (new-entry ∷ [])) at m))
     where
-      go : List·Memᴰ q (map (λ e. e .region) es) ⊎ List·Memᴰ q (r ∷ []) → q < 128
+      go : List·Memᴰ q (map (λ e. e .region) es) ⊎ List·Memᴰ q (r ∷ []) → q < most-regions
       go (inl i) = shown .logged q i
       go (inr i) = let e = List·Memᴰ·eq-of-singleton i in omega arith
 
@@ -138,8 +139,8 @@ insert-changes w r kind ws i =
     ]
 
 -- Code and definition enter the same.
-pub rewrites-inserted : {w w′ : List ℕ} {s : NestState} → ShowsTables w s → {r kind : ℕ} {ws : List ℕ} {x : RegionInputRewrites} → r < 128
-    → length ws ≡ 4 → EntryWords r kind ws x
+pub rewrites-inserted : {w w′ : List ℕ} {s : NestState} → ShowsTables w s → {r kind : ℕ} {ws : List ℕ} {x : RegionInputRewrites}
+    → r < most-regions → length ws ≡ 4 → EntryWords r kind ws x
     → w′ ≡ inserted w r kind ws
     → ShowsTables w′ (with-tables (s .region-states) (s .region-input-rewrites ++ (record { region = r; rewrites = x } ∷ []))
     (s .node-outputs) s)

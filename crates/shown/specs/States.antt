@@ -9,6 +9,7 @@ use Rattle.format.specs.References.{return-types}
 use Rattle.record.specs.Stands.{Stands}
 use Rattle.nesting.specs.Nesting.{DeferredEdgeBundleSet, StructurizeRegionState, not-begun, in-progress, claimed, ready, NestState, Body}
 use Rattle.nesting.specs.Nesting.{ClaimedRegion, MaybeClaimedRegion, ok, err, deferred-of}
+use Rattle.nesting.specs.Nesting.{most-regions}
 use Rattle.state.specs.Sections.{word, head, kinds, backedges, set-starts, set-lengths, children, bodies, cases, rewrites}
 use Rattle.state.specs.Tables.{case-total}
 use Rattle.shown.specs.Tables.{ShowsTables}
@@ -40,7 +41,7 @@ pub record ShowsReturned (g : Graph) (w : List ℕ) : Type 0 where
 
 -- The words of the rewrites' entries name values.
 pub record NamedRewrites (w : List ℕ) : Type 0 where
-  pub below : (r k : ℕ) → r < 128 → k < 4 → (word w rewrites (5 * r) ≡ 0 → ⊥) → word w rewrites (5 * r + 1 + k) < 4096
+  pub below : (r k : ℕ) → r < most-regions → k < 4 → (word w rewrites (5 * r) ≡ 0 → ⊥) → word w rewrites (5 * r + 1 + k) < 4096
 
 pub record ShowsState (g : Graph) (w : List ℕ) (s : NestState) : Type 0 where
   pub stands : Stands w g
@@ -61,7 +62,7 @@ pub record ShowsClaimed (g : Graph) (w : List ℕ) (c : ClaimedRegion) : Type 0 
   pub in-graph : c .origin < length (g .regions)
   pub kind : word w kinds (c .origin) ≡ 3
   pub body : word w bodies (c .origin) ≡ c .structured-body
-  pub body-below : c .structured-body < 128
+  pub body-below : c .structured-body < most-regions
   pub nodes : ShowsChildren g w (word w children (c .origin)) (c .children)
   pub set : ShowsOwnSet g w (c .origin) (c .deferred-edges)
   pub size : length (c .structured-body-inputs) ≡ length (region g (c .origin) .inputs)
@@ -70,7 +71,7 @@ pub record ShowsClaimed (g : Graph) (w : List ℕ) (c : ClaimedRegion) : Type 0 
 -- Beyond a claimed region's inputs the words have what the definition takes there.
 pub data ShowsCase (g : Graph) (w : List ℕ) (r j : ℕ) : MaybeClaimedRegion → Type 0 where
   shows-ok : {c : ClaimedRegion} → word w cases (10 * j + 0) ≡ 2 → word w cases (10 * j + 1) ≡ c .origin → c .origin < length (g .regions)
-      → word w cases (10 * j + 2) ≡ c .structured-body → c .structured-body < 128
+      → word w cases (10 * j + 2) ≡ c .structured-body → c .structured-body < most-regions
       → ShowsChildren g w (word w cases (10 * j + 3)) (c .children)
       → word w cases (10 * j + 4) ≡ word w set-starts (c .origin)
       → length (c .structured-body-inputs) ≡ length (region g (c .origin) .inputs)

@@ -15,6 +15,7 @@ use Rattle.nesting.specs.Nesting.{NestState, define}
 use Rattle.nesting.specs.Nesting.{define-region, define-node, define-output, add-region}
 use Rattle.nesting.specs.Nesting.{add-node, add-attempt}
 use Rattle.nesting.specs.Nesting.{with-tables, with-twice}
+use Rattle.nesting.specs.Nesting.{most-regions, most-nodes, most-outputs}
 use Rattle.state.specs.declared.defined.Defined.{Defined}
 use Rattle.state.specs.Sections.{section, word, stored, stored-all, head, rewrites, outputs, start, size}
 use Rattle.state.specs.Apart.{section-other}
@@ -31,13 +32,13 @@ use Rattle.meaning.specs.Lists.{bit}
 
 -- ---- A word of the head stored: the tables stay, and the totals but one.
 module _ {w w′ : List ℕ} {s : NestState} (t : ShowsTables w s) where
-  pub region-defined : {a : Defined} → Defines 0 128 w w′ a → ShowsDefined (λ x n. x ≡ n) w′ a (define-region s)
+  pub region-defined : {a : Defined} → Defines 0 most-regions w w′ a → ShowsDefined (λ x n. x ≡ n) w′ a (define-region s)
   unfolding define-region
   region-defined (defined {n} p h e) =
       let same : n ≡ s .region-count = p ∙ t .region-total in
       let more : n + 1 ≡ suc (s .region-count) = omega arith in
       let g = head-changes head 0 w (n + 1) in
-      rw (lt-ltb (s .region-count) 128 (omega arith), define, e)
+      rw (lt-ltb (s .region-count) most-regions (omega arith), define, e)
       (shows-done {s = add-region s} same
       record {
         size = rw (g .words) (t .size);
@@ -54,15 +55,15 @@ module _ {w w′ : List ℕ} {s : NestState} (t : ShowsTables w s) where
         rewritten = rw (g .others rewrites (omega arith) (omega arith)) (t .rewritten);
         outputs-shown = rw (g .others outputs (omega arith) (omega arith)) (t .outputs-shown);
       })
-  region-defined (full h e) = let z = t .region-total in rw (le-ltb (s .region-count) 128 (omega arith), define) shows-full
+  region-defined (full h e) = let z = t .region-total in rw (le-ltb (s .region-count) most-regions (omega arith), define) shows-full
 
-  pub node-defined : {a : Defined} → Defines 1 512 w w′ a → ShowsDefined (λ x n. x ≡ n) w′ a (define-node s)
+  pub node-defined : {a : Defined} → Defines 1 most-nodes w w′ a → ShowsDefined (λ x n. x ≡ n) w′ a (define-node s)
   unfolding define-node
   node-defined (defined {n} p h e) =
       let same : n ≡ s .node-count = p ∙ t .node-total in
       let more : n + 1 ≡ suc (s .node-count) = omega arith in
       let g = head-changes head 1 w (n + 1) in
-      rw (lt-ltb (s .node-count) 512 (omega arith), define, e)
+      rw (lt-ltb (s .node-count) most-nodes (omega arith), define, e)
       (shows-done {s = add-node s} same
       record {
         size = rw (g .words) (t .size);
@@ -79,7 +80,7 @@ module _ {w w′ : List ℕ} {s : NestState} (t : ShowsTables w s) where
         rewritten = rw (g .others rewrites (omega arith) (omega arith)) (t .rewritten);
         outputs-shown = rw (g .others outputs (omega arith) (omega arith)) (t .outputs-shown);
       })
-  node-defined (full h e) = let z = t .node-total in rw (le-ltb (s .node-count) 512 (omega arith), define) shows-full
+  node-defined (full h e) = let z = t .node-total in rw (le-ltb (s .node-count) most-nodes (omega arith), define) shows-full
 
   -- There are never as many attempts as a word counts (the bound on attempts).
   pub attempt-counted : s .attempts < 65535 → w′ ≡ attempted w
@@ -150,7 +151,8 @@ module _ (l : List ℕ) (os : List NodeOutput) (x : NodeOutput) (vs : List ℕ) 
             };
       }
 
-  output-new : length l ≡ 5120 → length os < 512 → length vs ≡ 8 → ShowsValues vs 0 (x .values) → ShowsOutput more-words (length os) x
+  output-new : length l ≡ 5120 → length os < most-outputs → length vs ≡ 8 → ShowsValues vs 0 (x .values)
+      → ShowsOutput more-words (length os) x
   output-new a b c d =
       let o = 10 * length os in
       let room : o + length its-words ≤ length l = omega arith in
@@ -169,7 +171,7 @@ module _ (l : List ℕ) (os : List NodeOutput) (x : NodeOutput) (vs : List ℕ) 
             };
       }
 
-  outputs-more : length l ≡ 5120 → length os < 512 → length vs ≡ 8 → ShowsValues vs 0 (x .values) → ShowsOutputs l os
+  outputs-more : length l ≡ 5120 → length os < most-outputs → length vs ≡ 8 → ShowsValues vs 0 (x .values) → ShowsOutputs l os
       → ShowsOutputs more-words (os ++ (x ∷ []))
   outputs-more a b c d h q i =
       elim (decLt q (length os)) [
@@ -192,7 +194,7 @@ module _ {w w′ : List ℕ} {s : NestState} (t : ShowsTables w s) {n ty : ℕ} 
       let more : o + 1 ≡ length (s .node-outputs ++ (record { node = n; type = ty; values = us } ∷ [])) = omega arith in
       let sec : section (stored mid head 3 (o + 1)) outputs ≡ sets (section w outputs) (10 * o) (n ∷ ty ∷ vs) =
       section-other mid head 3 (o + 1) outputs (omega arith) ∙ section-run w outputs (10 * o) (n ∷ ty ∷ vs) in
-      rw (lt-ltb (length (s .node-outputs)) 512 (omega arith), define, e)
+      rw (lt-ltb (length (s .node-outputs)) most-outputs (omega arith), define, e)
       (shows-done {s = with-tables (s .region-states) (s .region-input-rewrites)
       (s .node-outputs ++ (record { node = n; type = ty; values = us } ∷ [])) s} (ap output (sym same))
       record {
@@ -212,7 +214,8 @@ module _ {w w′ : List ℕ} {s : NestState} (t : ShowsTables w s) {n ty : ℕ} 
             (record { node = n; type = ty; values = us }) vs (part-length (start outputs) (size outputs) w (let y = t .size in omega arith))
             (omega arith) len shown (t .outputs-shown));
       })
-  output-made (outputs-full h e) = let z = t .output-total in rw (le-ltb (length (s .node-outputs)) 512 (omega arith), define) shows-full
+  output-made (outputs-full h e) =
+      let z = t .output-total in rw (le-ltb (length (s .node-outputs)) most-outputs (omega arith), define) shows-full
 
 -- What an output more leaves.
 pub output-changes : {w w′ : List ℕ} {n ty : ℕ} {vs : List ℕ} {a : Defined} → OutputDefined n ty vs w w′ a → ChangesOnly outputs 3 w w′

@@ -11,6 +11,7 @@ use Rattle.meaning.specs.facts.Tests.{clash}
 use Rattle.nesting.specs.Nesting.{LazyCond, undef-cond, false-cond, true-cond, merge, LazyConds, no-conds, _&_, InputRewrite, renumber-to}
 use Rattle.nesting.specs.Nesting.{replace-by, RegionInputRewrites, replace-with, renumber-or-replace-with, RewriteEntry, NodeOutput}
 use Rattle.nesting.specs.Nesting.{NestState, StepAnswer, done, turned-away, rewrites-of}
+use Rattle.nesting.specs.Nesting.{most-regions, most-nodes, most-merges, most-outputs}
 use Rattle.state.specs.declared.defined.Defined.{Defined}
 use Rattle.state.specs.declared.defined.Defined.the-variants.{Number, Full}
 use Rattle.state.specs.Sections.{section, word, head, rewrites, outputs, conditions, used}
@@ -41,8 +42,8 @@ pub data EntryWords (r kind : ℕ) (ws : List ℕ) : RegionInputRewrites → Typ
       → EntryWords r kind ws (renumber-or-replace-with xs)
 
 pub record ShowsRewrites (l : List ℕ) (es : List RewriteEntry) : Type 0 where
-  pub entry : (r : ℕ) → r < 128 → ShowsEntry l r (rewrites-of es r)
-  pub logged : (r : ℕ) → List·Memᴰ r (map (λ e. e .region) es) → r < 128
+  pub entry : (r : ℕ) → r < most-regions → ShowsEntry l r (rewrites-of es r)
+  pub logged : (r : ℕ) → List·Memᴰ r (map (λ e. e .region) es) → r < most-regions
 
 -- ---- Outputs: ten words each.
 -- Of eight words in a row, the first stand for these values, and the others for what the definition takes beyond them.
@@ -106,10 +107,10 @@ pub record ShowsTables (w : List ℕ) (s : NestState) : Type 0 where
   pub output-total : word w head 3 ≡ length (s .node-outputs)
   pub attempts : word w head 5 ≡ s .attempts
   pub twice : word w head 6 ≡ bit (s .twice)
-  pub few-regions : s .region-count ≤ 128
-  pub few-nodes : s .node-count ≤ 512
-  pub few-merges : s .merge-count ≤ 512
-  pub few-outputs : length (s .node-outputs) ≤ 512
+  pub few-regions : s .region-count ≤ most-regions
+  pub few-nodes : s .node-count ≤ most-nodes
+  pub few-merges : s .merge-count ≤ most-merges
+  pub few-outputs : length (s .node-outputs) ≤ most-outputs
   pub rewritten : ShowsRewrites (section w rewrites) (s .region-input-rewrites)
   pub outputs-shown : ShowsOutputs (section w outputs) (s .node-outputs)
 

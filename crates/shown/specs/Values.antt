@@ -11,6 +11,7 @@ use Rattle.meaning.specs.facts.Tests.{clash}
 use Rattle.meaning.specs.facts.Tests.{and-both}
 use Rattle.state.specs.Values.{input-region, input-index, output-word, undef-word, region-word}
 use Rattle.meaning.specs.Lists.{pick}
+use Rattle.nesting.specs.Nesting.{most-regions, most-outputs}
 
 unfoldable pub value : ℕ → Value
 value x =
@@ -168,9 +169,9 @@ equal-values x y h = go (same-value (value x) (value y)) refl
     go false e = sym (ne-eqb x y (λ p. let s : same-value (value x) (value y) ≡ true = rw p (same-self (value y)) in clash (cc)))
 
 -- ---- The words that steps make.
-pub value-output : (o : ℕ) → o < 512 → value (output-word o) ≡ output o
+pub value-output : (o : ℕ) → o < most-outputs → value (output-word o) ≡ output o
 unfolding output-word
-value-output o h = rw (lt-ltb o 512 h) (go (ranged (322 + o)))
+value-output o h = rw (lt-ltb o most-outputs h) (go (ranged (322 + o)))
   where
     go : {v : Value} → Ranged (322 + o) v → v ≡ output o
     go (in-const a e) = absurd (omega arith)
@@ -203,10 +204,10 @@ value-undef ty h = rw (lt-ltb ty 256 h) (go (ranged (66 + ty)))
     go (in-instr a b e) = absurd (omega arith)
     go (in-none a e) = absurd (omega arith)
 
-module _ (r k : ℕ) (h : r < 128) (j : k < 4) where
+module _ (r k : ℕ) (h : r < most-regions) (j : k < 4) where
   pub value-input : value (region-word 1024 r k) ≡ input r k
   unfolding region-word
-  value-input = rw (lt-ltb r 128 h, lt-ltb k 4 j) (go (ranged (1024 + 4 * r + k)))
+  value-input = rw (lt-ltb r most-regions h, lt-ltb k 4 j) (go (ranged (1024 + 4 * r + k)))
     where
       go : {v : Value} → Ranged (1024 + 4 * r + k) v → v ≡ input r k
       go (in-const a e) = absurd (omega arith)
@@ -223,7 +224,7 @@ module _ (r k : ℕ) (h : r < 128) (j : k < 4) where
 
   pub value-held : value (region-word 1536 r k) ≡ held r k
   unfolding region-word
-  value-held = rw (lt-ltb r 128 h, lt-ltb k 4 j) (go (ranged (1536 + 4 * r + k)))
+  value-held = rw (lt-ltb r most-regions h, lt-ltb k 4 j) (go (ranged (1536 + 4 * r + k)))
     where
       go : {v : Value} → Ranged (1536 + 4 * r + k) v → v ≡ held r k
       go (in-const a e) = absurd (omega arith)

@@ -1,7 +1,7 @@
 -- What a step does to a table of the state: a definition within its limit, a cell more.
 use mathlib.Core.Path.{_≡_}
 use mathlib.Core.List.{List, [], _∷_}
-use Prim.Native.Nat.{ℕ, zero, suc, _+_, _*_, _-_, _≤_, _<_}
+use Prim.Native.Nat.{ℕ, zero, suc, _+_, _*_, _-_, _≤_, _<_, min}
 use lib.Dec.{ltb, eqb}
 use Rattle.state.specs.declared.defined.Defined.{Defined}
 use Rattle.state.specs.declared.defined.Defined.the-variants.{Number, Full}
@@ -10,6 +10,7 @@ use Rattle.state.specs.declared.cases.Case.{Case}
 use Rattle.state.specs.Sections.{word, stored, stored-all, head, cells, rewrites, bundles, set-starts, set-lengths, cases, levels}
 use Rattle.state.specs.Sections.{outputs, conditions}
 use Rattle.meaning.specs.Lists.{pick}
+use Rattle.state.specs.Limits.{most-merges, most-outputs}
 
 -- A handle, or 0 where it names no earlier cell; a condition, or true where it names no earlier one.
 unfoldable pub earlier : ℕ → ℕ → ℕ
@@ -45,6 +46,10 @@ unfoldable pub inserted : List ℕ → ℕ → ℕ → List ℕ → List ℕ
 inserted l r kind vs = pick (eqb (word l rewrites (5 * r)) 0) (stored-all (stored l rewrites (5 * r) kind) rewrites (5 * r + 1) vs) l
 
 -- ---- Bundles.
+-- A number of edges, as a word of the state: held at the largest.
+abbrev pub edges-word : ℕ → ℕ
+edges-word n = min n 65535
+
 unfoldable pub slot : ℕ → ℕ
 slot r = pick (ltb r 33) (33 * r) 65535
 
@@ -95,15 +100,16 @@ taken-stored l r j x = pick (ltb j 8) (stored l levels (10 * r + j) x) l
 
 -- ---- Definitions of the other tables, each within its limit.
 pub data OutputDefined (node ty : ℕ) (vs l l′ : List ℕ) : Defined → Type 0 where
-  output-defined : {o : ℕ} → o ≡ word l head 3 → o < 512 → l′ ≡ stored (stored-all l outputs (10 * o) (node ∷ ty ∷ vs)) head 3 (o + 1)
+  output-defined : {o : ℕ} → o ≡ word l head 3 → o < most-outputs
+      → l′ ≡ stored (stored-all l outputs (10 * o) (node ∷ ty ∷ vs)) head 3 (o + 1)
       → OutputDefined node ty vs l l′ (Number o)
-  outputs-full : 512 ≤ word l head 3 → l′ ≡ l → OutputDefined node ty vs l l′ Full
+  outputs-full : most-outputs ≤ word l head 3 → l′ ≡ l → OutputDefined node ty vs l l′ Full
 
 pub data MergeDefined (node shape scrutinee : ℕ) (parts l l′ : List ℕ) : Defined → Type 0 where
-  merge-defined : {m c : ℕ} → m ≡ word l head 2 → m < 512 → c ≡ 4 + m
+  merge-defined : {m c : ℕ} → m ≡ word l head 2 → m < most-merges → c ≡ 4 + m
       → l′ ≡ stored (stored-all l conditions (11 * c) (node ∷ shape ∷ scrutinee ∷ parts)) head 2 (m + 1)
       → MergeDefined node shape scrutinee parts l l′ (Number c)
-  merges-full : 512 ≤ word l head 2 → l′ ≡ l → MergeDefined node shape scrutinee parts l l′ Full
+  merges-full : most-merges ≤ word l head 2 → l′ ≡ l → MergeDefined node shape scrutinee parts l l′ Full
 
 abbrev pub join-cell : ℕ → ℕ → Cell
 join-cell a b = record { tag = 2; before = a; a = b; b = 0; c = 0; d = 0 }

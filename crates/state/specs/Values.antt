@@ -6,6 +6,7 @@ use Rattle.meaning.specs.Lists.{pick}
 use Rattle.fields.specs.declared.shape.Value.{Value}
 use Rattle.fields.specs.declared.shape.Value.the-variants.{Const, Input, Instr, Bool as Truth, Undef, Nothing}
 use Rattle.state.specs.declared.values.Parts.{Parts}
+use Rattle.state.specs.Limits.{most-regions, most-outputs}
 
 unfoldable pub is-input : ℕ → Bool
 is-input v = pick (ltb v 1024) false (ltb v 1536)
@@ -31,13 +32,13 @@ unfoldable pub instr-word : ℕ → ℕ → ℕ
 instr-word r k = pick (ltb r 32) (pick (ltb k 64) (2048 + 64 * r + k) 4096) 4096
 
 unfoldable pub output-word : ℕ → ℕ
-output-word o = pick (ltb o 512) (322 + o) 4096
+output-word o = pick (ltb o most-outputs) (322 + o) 4096
 
 unfoldable pub undef-word : ℕ → ℕ
 undef-word ty = pick (ltb ty 256) (66 + ty) 4096
 
 unfoldable pub region-word : ℕ → ℕ → ℕ → ℕ
-region-word base r k = pick (ltb r 128) (pick (ltb k 4) (base + 4 * r + k) 4096) 4096
+region-word base r k = pick (ltb r most-regions) (pick (ltb k 4) (base + 4 * r + k) 4096) 4096
 
 -- The word of a record's value.
 abbrev pub value-word : Value → ℕ

@@ -5,6 +5,7 @@ ghost use Rattle.state.specs.Sections as sections;
 ghost use Rattle.state.specs.Tables as tables;
 use crate::defined::Defined;
 use crate::defined::MERGES;
+use crate::defined::MOST_MERGES;
 use crate::defined::head;
 use crate::defined::set_head;
 use crate::sections::CONDITIONS;
@@ -85,7 +86,7 @@ pub fn define_merge(
     ensures { λ a. ⌜ tables.MergeDefined node shape scrutinee (now (parts .entry)) (now (w .entry)) (now (w .exit)) a ⌝ }
 {
     let m = head(w, MERGES);
-    if m < 512 {
+    if m < MOST_MERGES {
         let at = 11 * ((MERGE + m) as usize);
         put(w, CONDITIONS, CONDITIONS_WORDS, at, node);
         put(w, CONDITIONS, CONDITIONS_WORDS, at + 1, shape);

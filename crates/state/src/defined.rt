@@ -1,6 +1,7 @@
 // Totals of all that was ever defined, each with document 01's limit: the first beyond is refused with 9. Attempts and twice.
 ghost use mathlib.Core.Path.{_≡_};
 ghost use Prim.Native.Nat.{_+_, _*_, _≤_};
+ghost use Rattle.state.specs.Limits as limits;
 ghost use Rattle.state.specs.Sections as sections;
 ghost use Rattle.state.specs.Tables as tables;
 use crate::sections::HEAD;
@@ -28,6 +29,15 @@ pub const CASE_TOTAL: usize = 7;
 
 // How many values a Return has, and their four types.
 pub const RETURNED: usize = 8;
+
+// Document 01's limits: how many regions, nodes, lazy condition records and node outputs there can be.
+pub const MOST_REGIONS: u16 = 128;
+
+pub const MOST_NODES: u16 = 512;
+
+pub const MOST_MERGES: u16 = 512;
+
+pub const MOST_OUTPUTS: u16 = 512;
 
 // What a definition answers: its number, or refusal 9.
 pub enum Defined {
@@ -69,15 +79,15 @@ fn define(w: &mut [u16; WORDS], i: usize, limit: u16) -> Defined
 }
 
 pub fn define_node(w: &mut [u16; WORDS]) -> Defined
-    ensures { λ a. ⌜ tables.Defines 1 512 (now (w .entry)) (now (w .exit)) a ⌝ }
+    ensures { λ a. ⌜ tables.Defines 1 limits.«most-nodes» (now (w .entry)) (now (w .exit)) a ⌝ }
 {
-    define(w, NODES, 512)
+    define(w, NODES, MOST_NODES)
 }
 
 pub fn define_region(w: &mut [u16; WORDS]) -> Defined
-    ensures { λ a. ⌜ tables.Defines 0 128 (now (w .entry)) (now (w .exit)) a ⌝ }
+    ensures { λ a. ⌜ tables.Defines 0 limits.«most-regions» (now (w .entry)) (now (w .exit)) a ⌝ }
 {
-    define(w, REGIONS, 128)
+    define(w, REGIONS, MOST_REGIONS)
 }
 
 pub fn count_attempt(w: &mut [u16; WORDS])

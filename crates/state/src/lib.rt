@@ -4,6 +4,7 @@ pub mod cases;
 pub mod cells;
 pub mod conditions;
 pub mod defined;
+pub mod edges;
 pub mod outputs;
 pub mod regions;
 pub mod rewrites;

@@ -4,6 +4,7 @@ ghost use Prim.Native.Nat.{_+_, _*_, _≤_};
 ghost use Rattle.state.specs.Sections as sections;
 ghost use Rattle.state.specs.Tables as tables;
 use crate::defined::Defined;
+use crate::defined::MOST_OUTPUTS;
 use crate::defined::OUTPUT_TOTAL;
 use crate::defined::head;
 use crate::defined::set_head;
@@ -48,7 +49,7 @@ pub fn define_output(w: &mut [u16; WORDS], node: u16, ty: u16, vs: &[u16; 8]) ->
     ensures { λ a. ⌜ tables.OutputDefined node ty (now (vs .entry)) (now (w .entry)) (now (w .exit)) a ⌝ }
 {
     let o = output_count(w);
-    if o < 512 {
+    if o < MOST_OUTPUTS {
         let at = 10 * (o as usize);
         put(w, OUTPUTS, OUTPUTS_WORDS, at, node);
         put(w, OUTPUTS, OUTPUTS_WORDS, at + 1, ty);

@@ -4,6 +4,7 @@ ghost use mathlib.Core.Path.{_≡_};
 ghost use Prim.Native.Nat.{_+_, _*_, _≤_};
 ghost use Rattle.state.specs.Sections as sections;
 ghost use Rattle.state.specs.Tables as tables;
+use crate::edges::IncomingEdgeCount;
 use crate::sections::BACKEDGES;
 use crate::sections::BODIES;
 use crate::sections::BY_REGION;
@@ -35,16 +36,16 @@ pub fn set_region_state(w: &mut [u16; WORDS], r: u16, kind: u16)
     put(w, KINDS, BY_REGION, r as usize, kind);
 }
 
-pub fn backedge_count(w: &[u16; WORDS], r: u16) -> u16
-    ensures { λ a. ⌜ a ≡ sections.word (now (w .entry)) sections.backedges r ⌝ }
+pub fn backedge_count(w: &[u16; WORDS], r: u16) -> IncomingEdgeCount
+    ensures { λ a. ⌜ (a .0 ≡ sections.word (now (w .entry)) sections.backedges r) × (a .0 ≤ 65535) ⌝ }
 {
-    get(w, BACKEDGES, BY_REGION, r as usize)
+    IncomingEdgeCount::of_word(get(w, BACKEDGES, BY_REGION, r as usize))
 }
 
-pub fn set_backedge_count(w: &mut [u16; WORDS], r: u16, n: u16)
-    ensures { λ _. ⌜ now (w .exit) ≡ sections.stored (now (w .entry)) sections.backedges r n ⌝ }
+pub fn set_backedge_count(w: &mut [u16; WORDS], r: u16, n: IncomingEdgeCount)
+    ensures { λ _. ⌜ now (w .exit) ≡ sections.stored (now (w .entry)) sections.backedges r (tables.«edges-word» (n .0)) ⌝ }
 {
-    put(w, BACKEDGES, BY_REGION, r as usize, n);
+    put(w, BACKEDGES, BY_REGION, r as usize, n.to_word());
 }
 
 pub fn children(w: &[u16; WORDS], r: u16) -> u16

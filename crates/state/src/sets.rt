@@ -5,6 +5,7 @@ ghost use mathlib.Core.List.{[], _∷_};
 ghost use Prim.Native.Nat.{_+_, _*_, _-_, _≤_, _<_};
 ghost use Rattle.state.specs.Sections as sections;
 ghost use Rattle.state.specs.Tables as tables;
+use crate::edges::IncomingEdgeCount;
 use crate::sections::BUNDLES;
 use crate::sections::BUNDLES_WORDS;
 use crate::sections::BY_SLOT;
@@ -112,16 +113,16 @@ pub fn target(w: &[u16; WORDS], b: u16) -> u16
     word(w, b, 0)
 }
 
-pub fn accumulated_count(w: &[u16; WORDS], b: u16) -> u16
-    ensures { λ a. ⌜ a ≡ sections.word (now (w .entry)) sections.bundles (7 * b + 1) ⌝ }
+pub fn accumulated_count(w: &[u16; WORDS], b: u16) -> IncomingEdgeCount
+    ensures { λ a. ⌜ (a .0 ≡ sections.word (now (w .entry)) sections.bundles (7 * b + 1)) × (a .0 ≤ 65535) ⌝ }
 {
-    word(w, b, 1)
+    IncomingEdgeCount::of_word(word(w, b, 1))
 }
 
-pub fn set_accumulated_count(w: &mut [u16; WORDS], b: u16, n: u16)
-    ensures { λ _. ⌜ now (w .exit) ≡ sections.stored (now (w .entry)) sections.bundles (7 * b + 1) n ⌝ }
+pub fn set_accumulated_count(w: &mut [u16; WORDS], b: u16, n: IncomingEdgeCount)
+    ensures { λ _. ⌜ now (w .exit) ≡ sections.stored (now (w .entry)) sections.bundles (7 * b + 1) (tables.«edges-word» (n .0)) ⌝ }
 {
-    set_word(w, b, 1, n);
+    set_word(w, b, 1, n.to_word());
 }
 
 pub fn condition(w: &[u16; WORDS], b: u16) -> u16
@@ -155,10 +156,11 @@ pub fn set_target_input(w: &mut [u16; WORDS], b: u16, k: u16, v: u16)
 }
 
 // Target, count and condition; the inputs are set one by one.
-pub fn set_bundle(w: &mut [u16; WORDS], b: u16, t: u16, n: u16, c: u16)
-    ensures { λ _. ⌜ now (w .exit) ≡ sections.«stored-all» (now (w .entry)) sections.bundles (7 * b) (t ∷ n ∷ c ∷ []) ⌝ }
+pub fn set_bundle(w: &mut [u16; WORDS], b: u16, t: u16, n: IncomingEdgeCount, c: u16)
+    ensures { λ _. ⌜ now (w .exit) ≡ sections.«stored-all» (now (w .entry)) sections.bundles (7 * b)
+        (t ∷ tables.«edges-word» (n .0) ∷ c ∷ []) ⌝ }
 {
-    let xs = [t, n, c];
+    let xs = [t, n.to_word(), c];
     put_all(w, BUNDLES, BUNDLES_WORDS, 7 * (b as usize), &xs);
 }
 
@@ -194,7 +196,7 @@ pub fn find_by_target(w: &[u16; WORDS], start: u16, n: u16, t: u16) -> u16
 }
 
 // Bundle b leaves its set by swap: the last takes its place.
-pub fn swap_remove(w: &mut [u16; WORDS], r: u16, b: u16)
+fn swap_remove(w: &mut [u16; WORDS], r: u16, b: u16)
     ensures { λ _. ⌜ now (w .exit) ≡ tables.«swap-removed» (now (w .entry)) r b ⌝ }
 {
     let n = set_length(w, r);
@@ -204,6 +206,13 @@ pub fn swap_remove(w: &mut [u16; WORDS], r: u16, b: u16)
     let last = bundle_at(set_start(w, r), n - 1);
     copy_bundle(w, b, last);
     put_set_length(w, r, n - 1);
+}
+
+// The bundle to a target leaves region r's set. It is bundle b: `find_by_target` found it before.
+pub fn split_out_target(w: &mut [u16; WORDS], r: u16, b: u16)
+    ensures { λ _. ⌜ now (w .exit) ≡ tables.«swap-removed» (now (w .entry)) r b ⌝ }
+{
+    swap_remove(w, r, b);
 }
 
 // The bundles behind bundle i of n each move one up.

@@ -3,6 +3,8 @@ ghost use mathlib.Core.Path.{_≡_};
 ghost use Prim.Native.Nat.{_≤_};
 ghost use lib.Dec.{ltb};
 ghost use Rattle.state.specs.Values as words;
+use crate::defined::MOST_OUTPUTS;
+use crate::defined::MOST_REGIONS;
 use fields::Value;
 
 pub const FALSE: u16 = 64;
@@ -52,18 +54,18 @@ pub fn undef(ty: u16) -> u16
 pub fn output(o: u16) -> u16
     ensures { λ a. ⌜ a ≡ words.«output-word» o ⌝ }
 {
-    if o < 512 {
+    if o < MOST_OUTPUTS {
         return OUTPUT + o;
     }
     NOTHING
 }
 
-// Four from `base` on for each region, of which there are 128 at most.
+// Four from `base` on for each region.
 fn of_region(base: u16, r: u16, k: u16) -> u16
     requires { ⌜ base ≤ 2048 ⌝ }
     ensures { λ a. ⌜ a ≡ words.«region-word» base r k ⌝ }
 {
-    if r < 128 {
+    if r < MOST_REGIONS {
         if k < 4 {
             return base + 4 * r + k;
         }

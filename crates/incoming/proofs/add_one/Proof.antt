@@ -1,5 +1,5 @@
 use native.Mathlib.Omega.{arith}
-use Rattle.incoming.specs.Counted.{one-more-here, one-more-beyond}
+use Rattle.incoming.specs.Counted.{one-more-by, one-more-beyond}
 use borrow.Author.Needs.{needs}
 use Rattle.incoming.proofs.add_one.Statement.{statement}
 use Rattle.incoming.proofs.add_one.Tie as tie
@@ -7,23 +7,25 @@ use Rattle.incoming.proofs.add_one.Tie as tie
 span-requires : tie.Need-span-requires
 span-requires c κs = search needs
 
+mul-t9 : tie.Need-mul-t9
+mul-t9 c = search needs
+
+element-copy-out-t12 : tie.Need-element-copy-out-t12
+element-copy-out-t12 c = search needs
+
+plus-requires : tie.Need-plus-requires
+plus-requires c κs = search needs
+
 mul-counts : tie.Need-mul-counts
 mul-counts c = search needs
-
-element-copy-out-counts : tie.Need-element-copy-out-counts
-element-copy-out-counts c = search needs
-
-add-counts : tie.Need-add-counts
-add-counts c = omega (arith, c .before .before .before .before .before .pre .each _ (c .before .if1 .taken))
-
-mul-counts-2 : tie.Need-mul-counts-2
-mul-counts-2 c = search needs
 
 element-write-counts : tie.Need-element-write-counts
 element-write-counts c = search needs
 
 returns : tie.Need-returns
-returns c = one-more-here _ _ (omega arith)
+returns c =
+    one-more-by _ _ (omega arith)
+    (c .before .before .before .before .before .before .pre .each _ (c .before .before .if1 .taken)) (c .plus .ensures)
 
 returns-2 : tie.Need-returns-2
 returns-2 c = one-more-beyond _ _ (c .if1 .left)
@@ -33,10 +35,10 @@ add-one-spec =
     tie.close
     (tie.spec
     span-requires
+    mul-t9
+    element-copy-out-t12
+    plus-requires
     mul-counts
-    element-copy-out-counts
-    add-counts
-    mul-counts-2
     element-write-counts
     returns
     returns-2)

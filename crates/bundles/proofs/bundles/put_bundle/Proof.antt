@@ -1,6 +1,7 @@
 use Rattle.bundles.specs.Paths.{run-then}
 use mathlib.Core.List.{[], _∷_}
 use Rattle.state.specs.Sections.{bundles}
+use Rattle.state.specs.Tables.{edges-word}
 use borrow.Author.Needs.{needs}
 use Rattle.bundles.proofs.bundles.put_bundle.Statement.{statement}
 use Rattle.bundles.proofs.bundles.put_bundle.Tie as tie
@@ -19,7 +20,7 @@ put-all-requires c κs = search needs
 
 returns : tie.Need-returns
 returns c = run-then _ bundles _
-    (c .before .before .before .before .before .args .t ∷ c .before .before .before .before .before .args .n
+    (c .before .before .before .before .before .args .t ∷ edges-word (c .before .before .before .before .before .args .n .0)
     ∷ c .before .before .before .before .before .args .c ∷ []) _ (c .before .before .before .set-bundle .ensures) (c .put-all .ensures)
 
 pub put-bundle-spec : {M : Type 1} → statement M

@@ -15,10 +15,17 @@ set-structured-body-requires c κs = search needs
 backedge-count-requires : tie.Need-backedge-count-requires
 backedge-count-requires c κs = search needs
 
+zero-requires : tie.Need-zero-requires
+zero-requires c κs = search needs
+
+same-requires : tie.Need-same-requires
+same-requires c κs = search needs
+
 -- src/claim.rt:61:9
 returns : tie.Need-returns
-returns c = λ g st. body-plain g _ _ (c .before .before .before .before .before .set-region-state .ensures)
-    (c .before .before .before .set-structured-body .ensures) (c .before .backedge-count .ensures) (c .if1 .taken)
+returns c = λ g st. body-plain g _ _ (c .before .before .before .before .before .before .before .set-region-state .ensures)
+    (c .before .before .before .before .before .set-structured-body .ensures) (c .before .before .before .backedge-count .ensures)
+    (c .before .before .zero .ensures) (c .before .same .ensures) (c .if1 .taken)
 
 -- src/claim.rt:63:9
 find-backedge-requires : tie.Need-find-backedge-requires
@@ -26,10 +33,11 @@ find-backedge-requires c κs = search needs
 
 -- src/claim.rt:65:9
 returns-2 : tie.Need-returns-2
-returns-2 c = λ g st. body-without g _ _ (c .before .before .before .before .before .before .before .before .set-region-state .ensures)
-    (c .before .before .before .before .before .before .set-structured-body .ensures)
-    (c .before .before .before .before .backedge-count .ensures) (c .before .before .before .if1 .left)
-    (c .before .find-backedge .ensures) (c .if2 .taken)
+returns-2 c =
+    let d = c .before .before .before in
+    λ g st. body-without g _ _ (d .before .before .before .before .before .before .before .set-region-state .ensures)
+    (d .before .before .before .before .before .set-structured-body .ensures) (d .before .before .before .backedge-count .ensures)
+    (d .before .before .zero .ensures) (d .before .same .ensures) (d .if1 .left) (c .before .find-backedge .ensures) (c .if2 .taken)
 
 -- src/claim.rt:67:14
 structurize-loop-requires : tie.Need-structurize-loop-requires
@@ -41,10 +49,11 @@ claim-of-requires c κs = search needs
 
 -- src/claim.rt:55:1
 returns-3 : tie.Need-returns-3
-returns-3 c = λ g st. body-loop g _ _ (c .before .before .before .before .before .before .before .before .before .before .before
-    .set-region-state .ensures) (c .before .before .before .before .before .before .before .before .before .set-structured-body
-    .ensures) (c .before .before .before .before .before .before .before .backedge-count .ensures)
-    (c .before .before .before .before .before .before .if1 .left) (c .before .before .before .before .find-backedge .ensures)
+returns-3 c =
+    let d = c .before .before .before .before .before .before in
+    λ g st. body-loop g _ _ (d .before .before .before .before .before .before .before .set-region-state .ensures)
+    (d .before .before .before .before .before .set-structured-body .ensures) (d .before .before .before .backedge-count .ensures)
+    (d .before .before .zero .ensures) (d .before .same .ensures) (d .if1 .left) (c .before .before .before .before .find-backedge .ensures)
     (c .before .before .before .if2 .left) (c .before .structurize-loop .ensures) (c .claim-of .ensures)
 
 pub claim-body-spec : {M : Type 1} → statement M
@@ -54,6 +63,8 @@ claim-body-spec =
     set-region-state-requires
     set-structured-body-requires
     backedge-count-requires
+    zero-requires
+    same-requires
     returns
     find-backedge-requires
     returns-2

@@ -11,10 +11,6 @@ region-state-requires c κs = search needs
 backedge-count-requires : tie.Need-backedge-count-requires
 backedge-count-requires c κs = search needs
 
--- src/claim.rt:82:33
-count-requires : tie.Need-count-requires
-count-requires c κs = search needs
-
 -- src/claim.rt:82:26
 plus-requires : tie.Need-plus-requires
 plus-requires c κs = search needs
@@ -29,20 +25,18 @@ claim-body-requires c κs = search needs
 
 -- src/claim.rt:83:13
 returns : tie.Need-returns
-returns c = λ g st. state-claimed g _ _ _ _ (c .before .before .before .before .before .before .before .before .before .region-state
-    .ensures) (c .before .before .before .before .before .before .before .before .if1 .taken)
-    (c .before .before .before .before .before .before .backedge-count .ensures)
-    (c .before .before .before .before .before .count .ensures .0) (c .before .before .before .before .before .count .ensures .1)
-    (c .before .before .before .before .before .before .before .before .before .before .before .pre)
+returns c = λ g st. state-claimed g _ _ _ _ (c .before .before .before .before .before .before .before .before .region-state
+    .ensures) (c .before .before .before .before .before .before .before .if1 .taken)
+    (c .before .before .before .before .before .backedge-count .ensures)
+    (c .before .before .before .before .before .before .before .before .before .before .pre)
     (c .before .before .before .before .plus .ensures) (c .before .before .before .same .ensures) (c .before .before .if2 .taken)
     (c .claim-body .ensures g st)
 
 -- src/claim.rt:85:9
 returns-2 : tie.Need-returns-2
-returns-2 c = λ g st. state-waits g _ _ _ _ (c .before .before .before .before .before .before .before .region-state .ensures)
-    (c .before .before .before .before .before .before .if1 .taken) (c .before .before .before .before .backedge-count .ensures)
-    (c .before .before .before .count .ensures .0) (c .before .before .before .count .ensures .1)
-    (c .before .before .before .before .before .before .before .before .before .pre) (c .before .before .plus .ensures)
+returns-2 c = λ g st. state-waits g _ _ _ _ (c .before .before .before .before .before .before .region-state .ensures)
+    (c .before .before .before .before .before .if1 .taken) (c .before .before .before .backedge-count .ensures)
+    (c .before .before .before .before .before .before .before .before .pre) (c .before .before .plus .ensures)
     (c .before .same .ensures) (c .if2 .left)
 
 -- src/claim.rt:88:12
@@ -69,7 +63,6 @@ claim-by-state-spec =
     (tie.spec
     region-state-requires
     backedge-count-requires
-    count-requires
     plus-requires
     same-requires
     claim-body-requires

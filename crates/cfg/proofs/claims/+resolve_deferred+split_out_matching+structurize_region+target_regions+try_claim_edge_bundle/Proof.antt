@@ -29,7 +29,6 @@ use Rattle.cfg.proofs.claims.try_claim_edge_bundle.Reads as try-claim-e
 use Rattle.cfg.proofs.claims.try_claim_edge_bundle.Kinds as try-claim-edge-bundle-kinds
 use cycle.Lts-try_claim_edge_bundle as try-claim-edge-bundle-lts
 use Rattle.cfg.proofs.claim.claim_by_state.Reads as claim-by-state-reads
-use Rattle.cfg.proofs.claim.count.Reads as count-reads
 use Rattle.cfg.proofs.claim.unclaimed_edge.Reads as unclaimed-edge-reads
 use Rattle.cfg.proofs.inst.by_control_inst.Reads as by-control-inst-reads
 use Rattle.cfg.proofs.inst.make_ready.Reads as make-ready-reads
@@ -167,8 +166,6 @@ split-out-matching-called t = (
   sets-target-reads.Learnt,
   accumulated-count-reads.Asked,
   accumulated-count-reads.Learnt,
-  count-reads.Asked,
-  count-reads.Learnt,
   try-claim-edge-bundle-below t,
   try-claim-edge-bundle.Post,
 )
@@ -221,17 +218,17 @@ resolve-deferred-Inv-loop w₀ counts r turns₀ w turns = TurnsPassed counts w�
 abbrev resolve-deferred-μ-loop : resolve-deferred-lts.MeasureT-loop
 resolve-deferred-μ-loop w₀ counts r turns₀ w turns = turns
 
--- src/claims.rt:102:9
+-- src/claims.rt:101:9
 resolve-deferred-region-count-requires : (t : ℕ) → resolve-deferred-lts.Need-region-count-requires (resolve-deferred-called t)
     (resolve-deferred-at t) resolve-deferred.Post resolve-deferred-Inv-loop resolve-deferred-μ-loop
 resolve-deferred-region-count-requires t c κs = search needs
 
--- src/claims.rt:103:5
+-- src/claims.rt:102:5
 resolve-deferred-loop-holds : (t : ℕ) → resolve-deferred-lts.Need-loop-holds (resolve-deferred-called t) (resolve-deferred-at t)
     resolve-deferred.Post resolve-deferred-Inv-loop resolve-deferred-μ-loop
 resolve-deferred-loop-holds t c = turns-none _ _ _ _ (c .region-count .ensures)
 
--- src/claims.rt:104:15
+-- src/claims.rt:103:15
 resolve-deferred-split-out-matching-requires : (t : ℕ) → resolve-deferred-lts.Need-split-out-matching-requires
     (resolve-deferred-called t) (resolve-deferred-at t) resolve-deferred.Post resolve-deferred-Inv-loop resolve-deferred-μ-loop
 resolve-deferred-split-out-matching-requires t c κs = (
@@ -245,45 +242,45 @@ resolve-deferred-split-out-matching-requires t c κs = (
       (c .before .before .before .before .before .pre .1),
 )
 
--- src/claims.rt:105:34
+-- src/claims.rt:104:34
 resolve-deferred-enum-told : (t : ℕ) → resolve-deferred-lts.Need-enum-told (resolve-deferred-called t) (resolve-deferred-at t)
     resolve-deferred.Post resolve-deferred-Inv-loop resolve-deferred-μ-loop
 resolve-deferred-enum-told t c = search needs
 
--- src/claims.rt:105:34
+-- src/claims.rt:104:34
 resolve-deferred-returns : (t : ℕ) → resolve-deferred-lts.Need-returns (resolve-deferred-called t) (resolve-deferred-at t)
     resolve-deferred.Post resolve-deferred-Inv-loop resolve-deferred-μ-loop
 resolve-deferred-returns t c = turn-nothing (c .before .before .before .before .before .loop .inv)
     (c .before .before .before .before .loop-test .taken) (c .before .before .split-out-matching .ensures) (c .enum-told .given .1)
 
--- src/claims.rt:106:31
+-- src/claims.rt:105:31
 resolve-deferred-enum-known-number : (t : ℕ) → resolve-deferred-lts.Need-enum-known-number (resolve-deferred-called t)
     (resolve-deferred-at t) resolve-deferred.Post resolve-deferred-Inv-loop resolve-deferred-μ-loop
 resolve-deferred-enum-known-number t c = search needs
 
--- src/claims.rt:106:48
+-- src/claims.rt:105:48
 resolve-deferred-returns-2 : (t : ℕ) → resolve-deferred-lts.Need-returns-2 (resolve-deferred-called t) (resolve-deferred-at t)
     resolve-deferred.Post resolve-deferred-Inv-loop resolve-deferred-μ-loop
 resolve-deferred-returns-2 t c = turn-refused (c .before .before .before .before .before .before .loop .inv)
     (c .before .before .before .before .before .loop-test .taken) (c .before .before .before .split-out-matching .ensures)
     (c .before .number .given .1)
 
--- src/claims.rt:107:26
+-- src/claims.rt:106:26
 resolve-deferred-enum-known-i : (t : ℕ) → resolve-deferred-lts.Need-enum-known-i (resolve-deferred-called t) (resolve-deferred-at t)
     resolve-deferred.Post resolve-deferred-Inv-loop resolve-deferred-μ-loop
 resolve-deferred-enum-known-i t c = search needs
 
--- src/claims.rt:108:37
+-- src/claims.rt:107:37
 resolve-deferred-resolve-by-requires : (t : ℕ) → resolve-deferred-lts.Need-resolve-by-requires (resolve-deferred-called t)
     (resolve-deferred-at t) resolve-deferred.Post resolve-deferred-Inv-loop resolve-deferred-μ-loop
 resolve-deferred-resolve-by-requires t c κs = search needs
 
--- src/claims.rt:109:21
+-- src/claims.rt:108:21
 resolve-deferred-enum-told-2 : (t : ℕ) → resolve-deferred-lts.Need-enum-told-2 (resolve-deferred-called t) (resolve-deferred-at t)
     resolve-deferred.Post resolve-deferred-Inv-loop resolve-deferred-μ-loop
 resolve-deferred-enum-told-2 t c = search needs
 
--- src/claims.rt:109:21
+-- src/claims.rt:108:21
 resolve-deferred-returns-3 : (t : ℕ) → resolve-deferred-lts.Need-returns-3 (resolve-deferred-called t) (resolve-deferred-at t)
     resolve-deferred.Post resolve-deferred-Inv-loop resolve-deferred-μ-loop
 resolve-deferred-returns-3 t c = turn-full (c .before .before .before .before .before .before .before .before .before .before .loop
@@ -295,17 +292,17 @@ resolve-deferred-enum-told-3 : (t : ℕ) → resolve-deferred-lts.Need-enum-told
     resolve-deferred.Post resolve-deferred-Inv-loop resolve-deferred-μ-loop
 resolve-deferred-enum-told-3 t c = search needs
 
--- src/claims.rt:113:9
+-- src/claims.rt:112:9
 resolve-deferred-sub-left : (t : ℕ) → resolve-deferred-lts.Need-sub-left (resolve-deferred-called t) (resolve-deferred-at t)
     resolve-deferred.Post resolve-deferred-Inv-loop resolve-deferred-μ-loop
 resolve-deferred-sub-left t c = search needs
 
--- src/claims.rt:103:5
+-- src/claims.rt:102:5
 resolve-deferred-loop-less : (t : ℕ) → resolve-deferred-lts.Need-loop-less (resolve-deferred-called t) (resolve-deferred-at t)
     resolve-deferred.Post resolve-deferred-Inv-loop resolve-deferred-μ-loop
 resolve-deferred-loop-less t c = search needs
 
--- src/claims.rt:103:5
+-- src/claims.rt:102:5
 resolve-deferred-loop-again : (t : ℕ) → resolve-deferred-lts.Need-loop-again (resolve-deferred-called t) (resolve-deferred-at t)
     resolve-deferred.Post resolve-deferred-Inv-loop resolve-deferred-μ-loop
 resolve-deferred-loop-again t c = turn-again (c .before .before .before .before .before .before .before .before .before .before .loop
@@ -314,7 +311,7 @@ resolve-deferred-loop-again t c = turn-again (c .before .before .before .before 
     (c .before .before .before .before .before .i .given .1) (c .before .before .resolve-by .ensures) (c .enum-told3 .given .1)
     (c .before .before .before .before .before .before .before .before .before .before .before .before .before .pre .1)
 
--- src/claims.rt:98:1
+-- src/claims.rt:97:1
 resolve-deferred-returns-4 : (t : ℕ) → resolve-deferred-lts.Need-returns-4 (resolve-deferred-called t) (resolve-deferred-at t)
     resolve-deferred.Post resolve-deferred-Inv-loop resolve-deferred-μ-loop
 resolve-deferred-returns-4 t c = turns-over (c .before .loop .inv) (c .loop-test .left)
@@ -325,55 +322,49 @@ split-out-matching-Inv-loop w₀ counts r n found₀ i₀ w found i = ScanPassed
 abbrev split-out-matching-μ-loop : split-out-matching-lts.MeasureT-loop
 split-out-matching-μ-loop w₀ counts r n found₀ i₀ w found i = n - i
 
--- src/claims.rt:72:9
+-- src/claims.rt:71:9
 split-out-matching-set-length-requires : (t : ℕ) → split-out-matching-lts.Need-set-length-requires (split-out-matching-called t)
     (split-out-matching-at t) split-out-matching.Post split-out-matching-Inv-loop split-out-matching-μ-loop
 split-out-matching-set-length-requires t c κs = search needs
 
--- src/claims.rt:75:5
+-- src/claims.rt:74:5
 split-out-matching-loop-holds : (t : ℕ) → split-out-matching-lts.Need-loop-holds (split-out-matching-called t) (split-out-matching-at t)
     split-out-matching.Post split-out-matching-Inv-loop split-out-matching-μ-loop
 split-out-matching-loop-holds t c = scan-none _ _ _ _
 
--- src/claims.rt:76:27
+-- src/claims.rt:75:27
 split-out-matching-set-start-requires : (t : ℕ) → split-out-matching-lts.Need-set-start-requires (split-out-matching-called t)
     (split-out-matching-at t) split-out-matching.Post split-out-matching-Inv-loop split-out-matching-μ-loop
 split-out-matching-set-start-requires t c κs = search needs
 
--- src/claims.rt:76:13
+-- src/claims.rt:75:13
 split-out-matching-bundle-at-requires : (t : ℕ) → split-out-matching-lts.Need-bundle-at-requires (split-out-matching-called t)
     (split-out-matching-at t) split-out-matching.Post split-out-matching-Inv-loop split-out-matching-μ-loop
 split-out-matching-bundle-at-requires t c κs = search needs
 
--- src/claims.rt:77:13
+-- src/claims.rt:76:13
 split-out-matching-target-requires : (t : ℕ) → split-out-matching-lts.Need-target-requires (split-out-matching-called t)
     (split-out-matching-at t) split-out-matching.Post split-out-matching-Inv-loop split-out-matching-μ-loop
 split-out-matching-target-requires t c κs = search needs
 
--- src/claims.rt:79:31
+-- src/claims.rt:78:31
 split-out-matching-accumulated-count-requires : (t : ℕ) → split-out-matching-lts.Need-accumulated-count-requires
     (split-out-matching-called t) (split-out-matching-at t) split-out-matching.Post split-out-matching-Inv-loop split-out-matching-μ-loop
 split-out-matching-accumulated-count-requires t c κs = search needs
 
--- src/claims.rt:79:17
-split-out-matching-count-requires : (t : ℕ) → split-out-matching-lts.Need-count-requires (split-out-matching-called t)
-    (split-out-matching-at t) split-out-matching.Post split-out-matching-Inv-loop split-out-matching-μ-loop
-split-out-matching-count-requires t c κs = search needs
-
--- src/claims.rt:80:19
+-- src/claims.rt:79:19
 split-out-matching-try-claim-edge-bundle-requires : (t : ℕ) → split-out-matching-lts.Need-try-claim-edge-bundle-requires
     (split-out-matching-called t) (split-out-matching-at t) split-out-matching.Post split-out-matching-Inv-loop split-out-matching-μ-loop
 split-out-matching-try-claim-edge-bundle-requires t c κs = (
   omega (
     arith,
-    c .before .before .before .before .before .before .before .before .before .before .before .before .before .before .pre .0,
-    c
-        .before .before .before .before .before .before .before .before .before .before .before .loop .inv .steady .fewer,
+    c .before .before .before .before .before .before .before .before .before .before .before .before .before .pre .0,
+    c .before .before .before .before .before .before .before .before .before .before .loop .inv .steady .fewer,
   ),
   (
-    c .before .count .ensures .1,
-    stood-on (c .before .before .before .before .before .before .before .before .before .before .before
-        .loop .inv .steady) (c .before .before .before .before .before .before .before .before .before .before .before .before .before
+    c .before .accumulated-count .ensures .1,
+    stood-on (c .before .before .before .before .before .before .before .before .before .before
+        .loop .inv .steady) (c .before .before .before .before .before .before .before .before .before .before .before .before
         .before .pre .1),
   ),
 )
@@ -382,80 +373,79 @@ split-out-matching-enum-told : (t : ℕ) → split-out-matching-lts.Need-enum-to
     split-out-matching.Post split-out-matching-Inv-loop split-out-matching-μ-loop
 split-out-matching-enum-told t c = search needs
 
--- src/claims.rt:83:21
+-- src/claims.rt:82:21
 split-out-matching-enum-told-2 : (t : ℕ) → split-out-matching-lts.Need-enum-told-2 (split-out-matching-called t)
     (split-out-matching-at t) split-out-matching.Post split-out-matching-Inv-loop split-out-matching-μ-loop
 split-out-matching-enum-told-2 t c = search needs
 
--- src/claims.rt:86:32
+-- src/claims.rt:85:32
 split-out-matching-enum-known-number : (t : ℕ) → split-out-matching-lts.Need-enum-known-number (split-out-matching-called t)
     (split-out-matching-at t) split-out-matching.Post split-out-matching-Inv-loop split-out-matching-μ-loop
 split-out-matching-enum-known-number t c = search needs
 
--- src/claims.rt:92:9
+-- src/claims.rt:91:9
 split-out-matching-add-i : (t : ℕ) → split-out-matching-lts.Need-add-i (split-out-matching-called t) (split-out-matching-at t)
     split-out-matching.Post split-out-matching-Inv-loop split-out-matching-μ-loop
 split-out-matching-add-i t c = search needs
 
--- src/claims.rt:75:5
+-- src/claims.rt:74:5
 split-out-matching-loop-less : (t : ℕ) → split-out-matching-lts.Need-loop-less (split-out-matching-called t) (split-out-matching-at t)
     split-out-matching.Post split-out-matching-Inv-loop split-out-matching-μ-loop
 split-out-matching-loop-less t c = search needs
 
--- src/claims.rt:75:5
+-- src/claims.rt:74:5
 split-out-matching-loop-again : (t : ℕ) → split-out-matching-lts.Need-loop-again (split-out-matching-called t) (split-out-matching-at t)
     split-out-matching.Post split-out-matching-Inv-loop split-out-matching-μ-loop
-split-out-matching-loop-again t c = ⊎-elim (λ y. rw (y .8) (scan-waiting
+split-out-matching-loop-again t c = ⊎-elim (λ y. rw (y .7) (scan-waiting
     (c .before .before .before .before .before .before .before .loop .inv)
     (c .before .before .before .before .before .before .before .before .set-length .ensures)
     (c .before .before .before .before .before .before .loop-test .taken) (c .before .before .before .before .set-start .ensures)
-    (c .before .before .before .bundle-at .ensures) (c .before .target .ensures) (y .0 .taken) (y .2 .ensures) (y .3 .ensures .0)
-    (y .5 .ensures) (c .before .before .before .before .before .before .before .before .before .before .pre .1) (y .7 .given .1)))
+    (c .before .before .before .bundle-at .ensures) (c .before .target .ensures) (y .0 .taken) (y .2 .ensures .0)
+    (y .4 .ensures) (c .before .before .before .before .before .before .before .before .before .before .pre .1) (y .6 .given .1)))
     (λ y. rw (y .1) (scan-return (c .before .before .before .before .before .before .before .loop .inv)
     (c .before .before .before .before .before .before .before .before .set-length .ensures)
     (c .before .before .before .before .before .before .loop-test .taken) (c .before .before .before .before .set-start .ensures)
     (c .before .before .before .bundle-at .ensures) (c .before .target .ensures) (y .0 .left))) (c .if1 .came)
 
--- src/claims.rt:68:1
+-- src/claims.rt:67:1
 split-out-matching-returns : (t : ℕ) → split-out-matching-lts.Need-returns (split-out-matching-called t) (split-out-matching-at t)
     split-out-matching.Post split-out-matching-Inv-loop split-out-matching-μ-loop
 split-out-matching-returns t c = scan-over (c .before .loop .inv) (c .before .before .set-length .ensures) (c .loop-test .left)
 
--- src/claims.rt:68:1
+-- src/claims.rt:67:1
 split-out-matching-returns-2 : (t : ℕ) → split-out-matching-lts.Need-returns-2 (split-out-matching-called t) (split-out-matching-at t)
     split-out-matching.Post split-out-matching-Inv-loop split-out-matching-μ-loop
-split-out-matching-returns-2 t c = scan-claimed (c .before .before .before .before .before .before .before .before .before .before
-    .before .before .before .before .loop .inv) (c .before .before .before .before .before .before .before .before .before .before
+split-out-matching-returns-2 t c = scan-claimed (c .before .before .before .before .before .before .before .before .before
+    .before .before .before .before .loop .inv) (c .before .before .before .before .before .before .before .before .before
     .before .before .before .before .before .set-length .ensures)
-    (c .before .before .before .before .before .before .before .before .before .before .before .before .before .loop-test .taken)
-    (c .before .before .before .before .before .before .before .before .before .before .before .set-start .ensures)
+    (c .before .before .before .before .before .before .before .before .before .before .before .before .loop-test .taken)
+    (c .before .before .before .before .before .before .before .before .before .before .set-start .ensures)
+    (c .before .before .before .before .before .before .before .before .before .bundle-at .ensures)
+    (c .before .before .before .before .before .before .before .target .ensures)
+    (c .before .before .before .before .before .before .if1 .taken)
+    (c .before .before .before .before .accumulated-count .ensures .0)
+    (c .before .before .try-claim-edge-bundle .ensures) (c .enum-told2 .given .1)
+
+-- src/claims.rt:67:1
+split-out-matching-returns-3 : (t : ℕ) → split-out-matching-lts.Need-returns-3 (split-out-matching-called t) (split-out-matching-at t)
+    split-out-matching.Post split-out-matching-Inv-loop split-out-matching-μ-loop
+split-out-matching-returns-3 t c = scan-refuses (c .before .before .before .before .before .before .before .before .before
+    .before .before .before .before .before .loop .inv) (c .before .before .before .before .before .before .before .before
+    .before .before .before .before .before .before .before .set-length .ensures)
+    (c .before .before .before .before .before .before .before .before .before .before .before .before .before .loop-test
+    .taken) (c .before .before .before .before .before .before .before .before .before .before .before .set-start .ensures)
     (c .before .before .before .before .before .before .before .before .before .before .bundle-at .ensures)
     (c .before .before .before .before .before .before .before .before .target .ensures)
     (c .before .before .before .before .before .before .before .if1 .taken)
-    (c .before .before .before .before .before .accumulated-count .ensures) (c .before .before .before .before .count .ensures .0)
-    (c .before .before .try-claim-edge-bundle .ensures) (c .enum-told2 .given .1)
-
--- src/claims.rt:68:1
-split-out-matching-returns-3 : (t : ℕ) → split-out-matching-lts.Need-returns-3 (split-out-matching-called t) (split-out-matching-at t)
-    split-out-matching.Post split-out-matching-Inv-loop split-out-matching-μ-loop
-split-out-matching-returns-3 t c = scan-refuses (c .before .before .before .before .before .before .before .before .before .before
-    .before .before .before .before .before .loop .inv) (c .before .before .before .before .before .before .before .before .before
-    .before .before .before .before .before .before .before .set-length .ensures)
-    (c .before .before .before .before .before .before .before .before .before .before .before .before .before .before .loop-test
-    .taken) (c .before .before .before .before .before .before .before .before .before .before .before .before .set-start .ensures)
-    (c .before .before .before .before .before .before .before .before .before .before .before .bundle-at .ensures)
-    (c .before .before .before .before .before .before .before .before .before .target .ensures)
-    (c .before .before .before .before .before .before .before .before .if1 .taken)
-    (c .before .before .before .before .before .before .accumulated-count .ensures)
-    (c .before .before .before .before .before .count .ensures .0) (c .before .before .before .try-claim-edge-bundle .ensures)
+    (c .before .before .before .before .before .accumulated-count .ensures .0) (c .before .before .before .try-claim-edge-bundle .ensures)
     (c .before .number .given .1)
 
--- src/claims.rt:124:5
+-- src/claims.rt:123:5
 structurize-region-set-region-state-requires : (t : ℕ) → structurize-region-lts.Need-set-region-state-requires
     (structurize-region-called t) (structurize-region-at t) structurize-region.Post
 structurize-region-set-region-state-requires t c κs = search needs
 
--- src/claims.rt:125:42
+-- src/claims.rt:124:42
 structurize-region-target-regions-requires : (t : ℕ) → structurize-region-lts.Need-target-regions-requires (structurize-region-called t)
     (structurize-region-at t) structurize-region.Post
 structurize-region-target-regions-requires t c κs = (
@@ -468,12 +458,12 @@ structurize-region-target-regions-requires t c κs = (
   stood-on (begun-steady _ (c .before .set-region-state .ensures)) (c .before .before .before .pre .1 .1),
 )
 
--- src/claims.rt:125:26
+-- src/claims.rt:124:26
 structurize-region-enum-known-number : (t : ℕ) → structurize-region-lts.Need-enum-known-number (structurize-region-called t)
     (structurize-region-at t) structurize-region.Post
 structurize-region-enum-known-number t c = search needs
 
--- src/claims.rt:126:9
+-- src/claims.rt:125:9
 structurize-region-returns : (t : ℕ) → structurize-region-lts.Need-returns (structurize-region-called t) (structurize-region-at t)
     structurize-region.Post
 structurize-region-returns t c = region-refused (c .before .before .before .before .before .set-region-state .ensures)
@@ -483,17 +473,17 @@ structurize-region-enum-told : (t : ℕ) → structurize-region-lts.Need-enum-to
     structurize-region.Post
 structurize-region-enum-told t c = search needs
 
--- src/claims.rt:128:25
+-- src/claims.rt:127:25
 structurize-region-by-control-inst-requires : (t : ℕ) → structurize-region-lts.Need-by-control-inst-requires
     (structurize-region-called t) (structurize-region-at t) structurize-region.Post
 structurize-region-by-control-inst-requires t c κs = search needs
 
--- src/claims.rt:129:9
+-- src/claims.rt:128:9
 structurize-region-enum-told-2 : (t : ℕ) → structurize-region-lts.Need-enum-told-2 (structurize-region-called t)
     (structurize-region-at t) structurize-region.Post
 structurize-region-enum-told-2 t c = search needs
 
--- src/claims.rt:129:9
+-- src/claims.rt:128:9
 structurize-region-returns-2 : (t : ℕ) → structurize-region-lts.Need-returns-2 (structurize-region-called t) (structurize-region-at t)
     structurize-region.Post
 structurize-region-returns-2 t c = region-full (c .before .before .before .before .before .before .before .before .set-region-state
@@ -504,7 +494,7 @@ structurize-region-enum-told-3 : (t : ℕ) → structurize-region-lts.Need-enum-
     (structurize-region-at t) structurize-region.Post
 structurize-region-enum-told-3 t c = search needs
 
--- src/claims.rt:131:42
+-- src/claims.rt:130:42
 structurize-region-resolve-deferred-requires : (t : ℕ) → structurize-region-lts.Need-resolve-deferred-requires
     (structurize-region-called t) (structurize-region-at t) structurize-region.Post
 structurize-region-resolve-deferred-requires t c κs = (
@@ -530,12 +520,12 @@ structurize-region-resolve-deferred-requires t c κs = (
       (c .before .before .before .before .before .before .before .before .before .before .before .pre .1 .1),
 )
 
--- src/claims.rt:131:26
+-- src/claims.rt:130:26
 structurize-region-enum-known-number-2 : (t : ℕ) → structurize-region-lts.Need-enum-known-number-2 (structurize-region-called t)
     (structurize-region-at t) structurize-region.Post
 structurize-region-enum-known-number-2 t c = search needs
 
--- src/claims.rt:132:9
+-- src/claims.rt:131:9
 structurize-region-returns-3 : (t : ℕ) → structurize-region-lts.Need-returns-3 (structurize-region-called t) (structurize-region-at t)
     structurize-region.Post
 structurize-region-returns-3 t c = region-refused-late (c .before .before .before .before .before .before .before .before .before
@@ -550,12 +540,12 @@ structurize-region-enum-told-4 : (t : ℕ) → structurize-region-lts.Need-enum-
     (structurize-region-at t) structurize-region.Post
 structurize-region-enum-told-4 t c = search needs
 
--- src/claims.rt:134:5
+-- src/claims.rt:133:5
 structurize-region-make-ready-requires : (t : ℕ) → structurize-region-lts.Need-make-ready-requires (structurize-region-called t)
     (structurize-region-at t) structurize-region.Post
 structurize-region-make-ready-requires t c κs = search needs
 
--- src/claims.rt:119:1
+-- src/claims.rt:118:1
 structurize-region-returns-4 : (t : ℕ) → structurize-region-lts.Need-returns-4 (structurize-region-called t) (structurize-region-at t)
     structurize-region.Post
 structurize-region-returns-4 t c = region-done (c .before .before .before .before .before .before .before .before .before .before
@@ -572,22 +562,22 @@ target-regions-Inv-loop w₀ counts r n j₀ w j = TargetsPassed counts w₀ r w
 abbrev target-regions-μ-loop : target-regions-lts.MeasureT-loop
 target-regions-μ-loop w₀ counts r n j₀ w j = n - j
 
--- src/claims.rt:50:9
+-- src/claims.rt:49:9
 target-regions-target-count-requires : (t : ℕ) → target-regions-lts.Need-target-count-requires (target-regions-called t)
     (target-regions-at t) target-regions.Post target-regions-Inv-loop target-regions-μ-loop
 target-regions-target-count-requires t c κs = search needs
 
--- src/claims.rt:52:5
+-- src/claims.rt:51:5
 target-regions-loop-holds : (t : ℕ) → target-regions-lts.Need-loop-holds (target-regions-called t) (target-regions-at t)
     target-regions.Post target-regions-Inv-loop target-regions-μ-loop
 target-regions-loop-holds t c = targets-none _ _ _
 
--- src/claims.rt:53:13
+-- src/claims.rt:52:13
 target-regions-target-requires : (t : ℕ) → target-regions-lts.Need-target-requires (target-regions-called t) (target-regions-at t)
     target-regions.Post target-regions-Inv-loop target-regions-μ-loop
 target-regions-target-requires t c κs = search needs
 
--- src/claims.rt:54:15
+-- src/claims.rt:53:15
 target-regions-try-claim-edge-bundle-requires : (t : ℕ) → target-regions-lts.Need-try-claim-edge-bundle-requires
     (target-regions-called t) (target-regions-at t) target-regions.Post target-regions-Inv-loop target-regions-μ-loop
 target-regions-try-claim-edge-bundle-requires t c κs = (
@@ -604,12 +594,12 @@ target-regions-try-claim-edge-bundle-requires t c κs = (
   ),
 )
 
--- src/claims.rt:55:28
+-- src/claims.rt:54:28
 target-regions-enum-known-number : (t : ℕ) → target-regions-lts.Need-enum-known-number (target-regions-called t) (target-regions-at t)
     target-regions.Post target-regions-Inv-loop target-regions-μ-loop
 target-regions-enum-known-number t c = search needs
 
--- src/claims.rt:55:45
+-- src/claims.rt:54:45
 target-regions-returns : (t : ℕ) → target-regions-lts.Need-returns (target-regions-called t) (target-regions-at t) target-regions.Post
     target-regions-Inv-loop target-regions-μ-loop
 target-regions-returns t c = targets-refused (c .before .before .before .before .before .before .before .before .loop .inv)
@@ -618,42 +608,42 @@ target-regions-returns t c = targets-refused (c .before .before .before .before 
     (c .before .before .before .before .before .target .ensures) (c .before .before .before .try-claim-edge-bundle .ensures)
     (c .before .number .given .1)
 
--- src/claims.rt:56:48
+-- src/claims.rt:55:48
 target-regions-enum-told : (t : ℕ) → target-regions-lts.Need-enum-told (target-regions-called t) (target-regions-at t)
     target-regions.Post target-regions-Inv-loop target-regions-μ-loop
 target-regions-enum-told t c = search needs
 
--- src/claims.rt:56:31
+-- src/claims.rt:55:31
 target-regions-set-target-taken-requires : (t : ℕ) → target-regions-lts.Need-set-target-taken-requires (target-regions-called t)
     (target-regions-at t) target-regions.Post target-regions-Inv-loop target-regions-μ-loop
 target-regions-set-target-taken-requires t c κs = search needs
 
--- src/claims.rt:58:40
+-- src/claims.rt:57:40
 target-regions-enum-told-2 : (t : ℕ) → target-regions-lts.Need-enum-told-2 (target-regions-called t) (target-regions-at t)
     target-regions.Post target-regions-Inv-loop target-regions-μ-loop
 target-regions-enum-told-2 t c = search needs
 
--- src/claims.rt:58:21
+-- src/claims.rt:57:21
 target-regions-unclaimed-edge-requires : (t : ℕ) → target-regions-lts.Need-unclaimed-edge-requires (target-regions-called t)
     (target-regions-at t) target-regions.Post target-regions-Inv-loop target-regions-μ-loop
 target-regions-unclaimed-edge-requires t c κs = search needs
 
--- src/claims.rt:59:17
+-- src/claims.rt:58:17
 target-regions-set-target-taken-requires-2 : (t : ℕ) → target-regions-lts.Need-set-target-taken-requires-2 (target-regions-called t)
     (target-regions-at t) target-regions.Post target-regions-Inv-loop target-regions-μ-loop
 target-regions-set-target-taken-requires-2 t c κs = search needs
 
--- src/claims.rt:62:9
+-- src/claims.rt:61:9
 target-regions-add-j : (t : ℕ) → target-regions-lts.Need-add-j (target-regions-called t) (target-regions-at t) target-regions.Post
     target-regions-Inv-loop target-regions-μ-loop
 target-regions-add-j t c = search needs
 
--- src/claims.rt:52:5
+-- src/claims.rt:51:5
 target-regions-loop-less : (t : ℕ) → target-regions-lts.Need-loop-less (target-regions-called t) (target-regions-at t)
     target-regions.Post target-regions-Inv-loop target-regions-μ-loop
 target-regions-loop-less t c = search needs
 
--- src/claims.rt:52:5
+-- src/claims.rt:51:5
 target-regions-loop-again : (t : ℕ) → target-regions-lts.Need-loop-again (target-regions-called t) (target-regions-at t)
     target-regions.Post target-regions-Inv-loop target-regions-μ-loop
 target-regions-loop-again t c = ⊎-elim (λ y. targets-claimed (c .before .before .before .before .before .before .loop .inv)
@@ -666,27 +656,27 @@ target-regions-loop-again t c = ⊎-elim (λ y. targets-claimed (c .before .befo
     (c .before .try-claim-edge-bundle .ensures) (c .before .before .before .before .before .before .before .before .before .pre .1)
     (y .1 .given .1) (y .3 .ensures) (y .6 ∙ y .5 .ensures)) (c .match .came)
 
--- src/claims.rt:46:1
+-- src/claims.rt:45:1
 target-regions-returns-2 : (t : ℕ) → target-regions-lts.Need-returns-2 (target-regions-called t) (target-regions-at t)
     target-regions.Post target-regions-Inv-loop target-regions-μ-loop
 target-regions-returns-2 t c = targets-over (c .before .loop .inv) (c .before .before .target-count .ensures) (c .loop-test .left)
 
--- src/claims.rt:149:5
+-- src/claims.rt:148:5
 try-claim-edge-bundle-count-attempt-requires : (t : ℕ) → try-claim-edge-bundle-lts.Need-count-attempt-requires
     (try-claim-edge-bundle-called t) (try-claim-edge-bundle-at t) try-claim-edge-bundle.Post
 try-claim-edge-bundle-count-attempt-requires t c κs = search needs
 
--- src/claims.rt:151:9
+-- src/claims.rt:150:9
 try-claim-edge-bundle-returns : (t : ℕ) → try-claim-edge-bundle-lts.Need-returns (try-claim-edge-bundle-called t)
     (try-claim-edge-bundle-at t) try-claim-edge-bundle.Post
 try-claim-edge-bundle-returns t c = claim-nowhere _ (c .before .count-attempt .ensures) (c .if1 .taken)
 
--- src/claims.rt:153:8
+-- src/claims.rt:152:8
 try-claim-edge-bundle-region-state-requires : (t : ℕ) → try-claim-edge-bundle-lts.Need-region-state-requires
     (try-claim-edge-bundle-called t) (try-claim-edge-bundle-at t) try-claim-edge-bundle.Post
 try-claim-edge-bundle-region-state-requires t c κs = search needs
 
--- src/claims.rt:154:46
+-- src/claims.rt:153:46
 try-claim-edge-bundle-structurize-region-requires : (t : ℕ) → try-claim-edge-bundle-lts.Need-structurize-region-requires
     (try-claim-edge-bundle-called t) (try-claim-edge-bundle-at t) try-claim-edge-bundle.Post
 try-claim-edge-bundle-structurize-region-requires t c κs = (
@@ -704,12 +694,12 @@ try-claim-edge-bundle-structurize-region-requires t c κs = (
   ),
 )
 
--- src/claims.rt:154:30
+-- src/claims.rt:153:30
 try-claim-edge-bundle-enum-known-number : (t : ℕ) → try-claim-edge-bundle-lts.Need-enum-known-number (try-claim-edge-bundle-called t)
     (try-claim-edge-bundle-at t) try-claim-edge-bundle.Post
 try-claim-edge-bundle-enum-known-number t c = search needs
 
--- src/claims.rt:155:13
+-- src/claims.rt:154:13
 try-claim-edge-bundle-returns-2 : (t : ℕ) → try-claim-edge-bundle-lts.Need-returns-2 (try-claim-edge-bundle-called t)
     (try-claim-edge-bundle-at t) try-claim-edge-bundle.Post
 try-claim-edge-bundle-returns-2 t c = claim-inside _ (c .before .before .before .before .before .before .before .before .before
@@ -721,17 +711,17 @@ try-claim-edge-bundle-enum-told : (t : ℕ) → try-claim-edge-bundle-lts.Need-e
     (try-claim-edge-bundle-at t) try-claim-edge-bundle.Post
 try-claim-edge-bundle-enum-told t c = search needs
 
--- src/claims.rt:158:29
+-- src/claims.rt:157:29
 try-claim-edge-bundle-count-of-requires : (t : ℕ) → try-claim-edge-bundle-lts.Need-count-of-requires (try-claim-edge-bundle-called t)
     (try-claim-edge-bundle-at t) try-claim-edge-bundle.Post
 try-claim-edge-bundle-count-of-requires t c κs = search needs
 
--- src/claims.rt:158:5
+-- src/claims.rt:157:5
 try-claim-edge-bundle-claim-by-state-requires : (t : ℕ) → try-claim-edge-bundle-lts.Need-claim-by-state-requires
     (try-claim-edge-bundle-called t) (try-claim-edge-bundle-at t) try-claim-edge-bundle.Post
 try-claim-edge-bundle-claim-by-state-requires t c κs = search needs
 
--- src/claims.rt:139:1
+-- src/claims.rt:138:1
 try-claim-edge-bundle-returns-3 : (t : ℕ) → try-claim-edge-bundle-lts.Need-returns-3 (try-claim-edge-bundle-called t)
     (try-claim-edge-bundle-at t) try-claim-edge-bundle.Post
 try-claim-edge-bundle-returns-3 t c = ⊎-elim (λ y. claim-first _
@@ -792,8 +782,6 @@ pub +resolve-deferred+split-out-matching+structurize-region+target-regions+try-c
       sets-target-reads.Learnt,
       accumulated-count-reads.Asked,
       accumulated-count-reads.Learnt,
-      count-reads.Asked,
-      count-reads.Learnt,
       try-claim-edge-bundle-below t,
       try-claim-edge-bundle.Post,
     )
@@ -807,7 +795,6 @@ pub +resolve-deferred+split-out-matching+structurize-region+target-regions+try-c
     (split-out-matching-bundle-at-requires t)
     (split-out-matching-target-requires t)
     (split-out-matching-accumulated-count-requires t)
-    (split-out-matching-count-requires t)
     (split-out-matching-try-claim-edge-bundle-requires t)
     (split-out-matching-enum-told t)
     (split-out-matching-enum-told-2 t)

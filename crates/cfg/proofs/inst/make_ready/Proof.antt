@@ -2,6 +2,7 @@ use borrow.Author.Needs.{needs}
 use Rattle.cfg.proofs.inst.make_ready.Statement.{statement}
 use Rattle.cfg.proofs.inst.make_ready.Tie as tie
 use mathlib.Core.Path.{_∙_}
+use Rattle.state.specs.Edges.{edges-fit}
 
 -- src/inst.rt:159:9
 backedges-deferred-requires : tie.Need-backedges-deferred-requires
@@ -19,8 +20,8 @@ set-region-state-requires c κs = search needs
 returns : tie.Need-returns
 returns c = c .set-region-state .ensures ∙ rw (
   c .before .before .set-backedge-count .ensures,
-  c .before .before .before .before
-      .backedges-deferred .ensures,
+  edges-fit _ (c .before .before .before .before .backedges-deferred .ensures .1),
+  c .before .before .before .before .backedges-deferred .ensures .0,
 )
 
 pub make-ready-spec : {M : Type 1} → statement M

@@ -1,4 +1,6 @@
+use mathlib.Core.Path.{_∙_}
 use borrow.Author.Needs.{needs}
+use Rattle.state.specs.Edges.{edges-fit}
 use Rattle.writing.specs.Puts.{puts-then, puts-as}
 use Rattle.defer_lines.specs.DeferParts.{line-is, condition-is}
 use Rattle.defer_lines.proofs.lines.put_bundle.Statement.{statement}
@@ -19,6 +21,9 @@ target-requires c κs = search needs
 accumulated-count-requires : tie.Need-accumulated-count-requires
 accumulated-count-requires c κs = search needs
 
+to-word-requires : tie.Need-to-word-requires
+to-word-requires c κs = search needs
+
 put-three-requires : tie.Need-put-three-requires
 put-three-requires c κs = search needs
 
@@ -32,7 +37,8 @@ returns : tie.Need-returns
 returns c =
     let lead = c .before .before in
     let three = lead .before .before .before .before in
-    let count = three .before .before in
+    let word = three .before .before in
+    let count = word .before in
     let to = count .before in
     let inputs = to .before .before .before in
     let condition = inputs .before .before .before .before in
@@ -45,7 +51,8 @@ returns c =
     (inputs .put-inputs .ensures g s x e shows))
     (three .put-three .ensures))
     (lead .put .ensures))
-    (line-is shows s (start .args .r) d (to .target .ensures) (count .accumulated-count .ensures))
+    (line-is shows s (start .args .r) d (to .target .ensures)
+    (word .to-word .ensures ∙ edges-fit _ (count .accumulated-count .ensures .1) ∙ count .accumulated-count .ensures .0))
 
 pub put-bundle-spec : {M : Type 1} → statement M
 put-bundle-spec =
@@ -56,6 +63,7 @@ put-bundle-spec =
     put-inputs-requires
     target-requires
     accumulated-count-requires
+    to-word-requires
     put-three-requires
     put-requires
     same-length

@@ -12,8 +12,8 @@ is-exit-target-requires c κs = search needs
 accumulated-count-requires : tie.Need-accumulated-count-requires
 accumulated-count-requires c κs = search needs
 
-one-more-requires : tie.Need-one-more-requires
-one-more-requires c κs = search needs
+plus-requires : tie.Need-plus-requires
+plus-requires c κs = search needs
 
 set-accumulated-count-requires : tie.Need-set-accumulated-count-requires
 set-accumulated-count-requires c κs = search needs
@@ -22,7 +22,7 @@ returns : tie.Need-returns
 returns c = λ g s. exit-counted g _ _ _ (c .before .before .before .before .before .before .before .target .ensures)
     (c .before .before .before .before .before .before .is-exit-target .ensures g s)
     (c .before .before .before .before .before .if1 .taken) (c .before .before .before .accumulated-count .ensures)
-    (c .before .one-more .ensures) (c .set-accumulated-count .ensures)
+    (c .before .plus .ensures) (c .set-accumulated-count .ensures)
 
 returns-2 : tie.Need-returns-2
 returns-2 c = λ g s. exit-not g _ _ _ (c .before .before .target .ensures) (c .before .is-exit-target .ensures g s) (c .if1 .left)
@@ -34,7 +34,7 @@ add-exit-edge-spec =
     target-requires
     is-exit-target-requires
     accumulated-count-requires
-    one-more-requires
+    plus-requires
     set-accumulated-count-requires
     returns
     returns-2)

@@ -15,8 +15,8 @@ condition-in-requires c κs = search needs
 backedge-inputs-requires : tie.Need-backedge-inputs-requires
 backedge-inputs-requires c κs = search needs
 
-swap-remove-requires : tie.Need-swap-remove-requires
-swap-remove-requires c κs = search needs
+split-out-target-requires : tie.Need-split-out-target-requires
+split-out-target-requires c κs = search needs
 
 define-region-requires : tie.Need-define-region-requires
 define-region-requires c κs = search needs
@@ -33,7 +33,7 @@ returns c =
     let e = d .before .before .before .before in
     wrapper-full (e .before .before .before .before .before .input-count .ensures) (e .backedge-inputs .ensures)
     (e .before .before .before .set-length .ensures) (e .before .before .condition-in .ensures)
-    (d .before .before .swap-remove .ensures) (d .define-region .ensures)
+    (d .before .before .split-out-target .ensures) (d .define-region .ensures)
     (c .enum-told .given .1)
 
 enter-inputs-requires : tie.Need-enter-inputs-requires
@@ -51,7 +51,7 @@ returns-2 c =
     let e = d .before .before .before .before in
     loop-full (e .before .before .before .before .before .input-count .ensures) (e .backedge-inputs .ensures)
     (e .before .before .before .set-length .ensures) (e .before .before .condition-in .ensures)
-    (d .before .before .swap-remove .ensures) (d .define-region .ensures)
+    (d .before .before .split-out-target .ensures) (d .define-region .ensures)
     (c .before .before .before .before .before .before .before .before .wrapper .given .1)
     (c .before .before .before .before .enter-inputs .ensures) (c .before .before .define-loop .ensures) (c .enum-told2 .given .1)
 
@@ -70,7 +70,7 @@ returns-3 c =
     let e = d .before .before .before .before in
     loop-made (e .before .before .before .before .before .input-count .ensures) (e .backedge-inputs .ensures)
     (e .before .before .before .set-length .ensures) (e .before .before .condition-in .ensures)
-    (d .before .before .swap-remove .ensures) (d .define-region .ensures)
+    (d .before .before .split-out-target .ensures) (d .define-region .ensures)
     (c .before .before .before .before .before .before .before .before .before .before .before .before .wrapper .given .1)
     (c .before .before .before .before .before .before .before .before .enter-inputs .ensures)
     (c .before .before .before .before .before .before .define-loop .ensures)
@@ -85,7 +85,7 @@ structurize-loop-spec =
     set-length-requires
     condition-in-requires
     backedge-inputs-requires
-    swap-remove-requires
+    split-out-target-requires
     define-region-requires
     enum-known-wrapper
     enum-told

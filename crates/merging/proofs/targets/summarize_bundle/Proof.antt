@@ -24,8 +24,8 @@ bundle-at-requires c κs = search needs
 set-bundle-requires : tie.Need-set-bundle-requires
 set-bundle-requires c κs = search needs
 
-plus-requires : tie.Need-plus-requires
-plus-requires c κs = search needs
+longer-requires : tie.Need-longer-requires
+longer-requires c κs = search needs
 
 put-set-length-requires : tie.Need-put-set-length-requires
 put-set-length-requires c κs = search needs
@@ -39,13 +39,13 @@ returns c =
     (c .before .before .before .before .before .before .before .find-by-target .ensures)
     (c .before .before .before .before .before .before .if1 .taken) (c .before .before .before .before .bundle-at .ensures)
     (c .before .before .before .set-bundle .ensures)
-    (c .before .plus .ensures) (c .put-set-length .ensures)
+    (c .before .longer .ensures) (c .put-set-length .ensures)
 
 accumulated-count-requires-2 : tie.Need-accumulated-count-requires-2
 accumulated-count-requires-2 c κs = search needs
 
-plus-requires-2 : tie.Need-plus-requires-2
-plus-requires-2 c κs = search needs
+plus-requires : tie.Need-plus-requires
+plus-requires c κs = search needs
 
 set-accumulated-count-requires : tie.Need-set-accumulated-count-requires
 set-accumulated-count-requires c κs = search needs
@@ -58,7 +58,7 @@ returns-2 c =
     (d .before .before .before .target .ensures) (d .before .accumulated-count .ensures)
     (c .before .before .before .before .before .before .find-by-target .ensures)
     (c .before .before .before .before .before .if1 .left) (c .before .before .before .accumulated-count2 .ensures)
-    (c .before .plus2 .ensures)
+    (c .before .plus .ensures)
     (c .set-accumulated-count .ensures)
 
 pub summarize-bundle-spec : {M : Type 1} → statement M
@@ -72,10 +72,10 @@ summarize-bundle-spec =
     find-by-target-requires
     bundle-at-requires
     set-bundle-requires
-    plus-requires
+    longer-requires
     put-set-length-requires
     returns
     accumulated-count-requires-2
-    plus-requires-2
+    plus-requires
     set-accumulated-count-requires
     returns-2)

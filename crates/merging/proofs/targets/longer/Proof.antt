@@ -1,8 +1,8 @@
-use Rattle.merging.specs.Targets.{plus}
+use Rattle.merging.specs.Targets.{longer}
 use borrow.Author.Tests.{lt-ltb, le-ltb}
 use borrow.Author.Needs.{needs}
-use Rattle.merging.proofs.targets.plus.Statement.{statement}
-use Rattle.merging.proofs.targets.plus.Tie as tie
+use Rattle.merging.proofs.targets.longer.Statement.{statement}
+use Rattle.merging.proofs.targets.longer.Tie as tie
 use Rattle.meaning.specs.facts.Tests.{picked, passed-over}
 
 sub-if1 : tie.Need-sub-if1
@@ -12,12 +12,12 @@ add-result : tie.Need-add-result
 add-result c = search needs
 
 returns : tie.Need-returns
-unfolding plus
+unfolding longer
 returns c = picked _ _ (lt-ltb _ _ (c .if1 .taken))
 
 returns-2 : tie.Need-returns-2
-unfolding plus
+unfolding longer
 returns-2 c = passed-over _ _ (le-ltb _ _ (c .if1 .left))
 
-pub plus-spec : {M : Type 1} → statement M
-plus-spec = tie.close (tie.spec sub-if1 add-result returns returns-2)
+pub longer-spec : {M : Type 1} → statement M
+longer-spec = tie.close (tie.spec sub-if1 add-result returns returns-2)
