@@ -30,7 +30,8 @@ left-by : {b : Answer (List ℕ)} {out out′ : List ℕ} {a : SheetAnswer} → 
 left-by (ends-sheet e size d) = rw e d
 left-by (ends-refused e d) = rw e d
 
-module _ {store w w′ out out′ text text′ : List ℕ} {r : Written} (p : Prints store w w′ out out′ text text′ r) (as-lent : out ≡ lent-words) where
+module _ {store w w′ out out′ text text′ : List ℕ} {r : Written} (p : Prints store w w′ out out′ text text′ r)
+    (as-lent : out ≡ lent-words) where
   lent-here : lent out ≡ 16384
   lent-here = ap lent as-lent ∙ lent-all
 

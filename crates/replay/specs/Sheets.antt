@@ -39,6 +39,7 @@ listed-words listed = words-of (hex-bytes (take (behind 10 listed) listed))
 abbrev pub listed-text : List ℕ → List ℕ
 listed-text listed = drop (behind 10 listed) listed
 
+-- Right: the lent words are then the listed ones and behind them as lent, and what is printed is the listed text.
 unfoldable pub is-nested : List ℕ → List ℕ → Bool
 is-nested store listed =
     same-list (words-left lent-words (answer-words store 16384)) (put-over (listed-words listed) lent-words)

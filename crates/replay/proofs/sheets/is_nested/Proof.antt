@@ -48,7 +48,9 @@ slice-aggregate-decode c = sym (length-take-le _ _ (rw (c .before .behind .ensur
 decode-requires : tie.Need-decode-requires
 decode-requires c κs =
     let at-behind = c .before .before in
-    let start = at-behind .before .before .before .before .before .before .before .before .before .before .before .before .before .before .before .before in
+    let at-print = at-behind .before .before .before .before .before .before .before in
+    let at-lend = at-print .before .before .before .before .before in
+    let start = at-lend .before .before .before .before in
     let room = start .pre .1 .0 in
     omega (arith, length-take (at-behind .behind .result) (start .args .listed .now))
 
@@ -90,7 +92,9 @@ sub-same-2 c = rw (c .before .before .before .before .before .before .before .be
 part-same-start-2 : tie.Need-part-same-start-2
 part-same-start-2 c =
     let at-behind = c .before .before .before .before .before .before .before .before .before .before in
-    let start = at-behind .before .before .before .before .before .before .before .before .before .before .before .before .before .before .before .before in
+    let at-print = at-behind .before .before .before .before .before .before .before in
+    let at-lend = at-print .before .before .before .before .before in
+    let start = at-lend .before .before .before .before in
     omega (arith, at-behind .behind .ensures, behind-within 10 (start .args .listed .now))
 
 part-same-end-2 : tie.Need-part-same-end-2
@@ -116,7 +120,8 @@ returns-2 c =
     let front = printed-front (at-print .print .ensures) (at-lend .lend .ensures) (at-written .written .given .1) in
     let text = as-shown front (c .same .ensures) ∙ ap (same-list _) (behind-line listed (at-behind .behind .ensures)) in
     text-decides _ listed (words-kept (at-print .print .ensures) (at-lend .lend .ensures))
-    (at-decode .decode .last .1 .0) (at-decode .decode .result) line (at-lend .lend .ensures) (at-is-written .is-written .ensures) (c .before .before .before .before .if1 .taken) text
+    (at-decode .decode .last .1 .0) (at-decode .decode .result) line (at-lend .lend .ensures) (at-is-written .is-written .ensures)
+    (c .before .before .before .before .if1 .taken) text
 
 same-length-3 : tie.Need-same-length-3
 same-length-3 c = search needs
@@ -132,7 +137,8 @@ returns-3 c =
     let listed = start .args .listed .now in
     let line = at-decode .decode .ensures .bytes ∙ ap (λ k. hex-bytes (take k listed)) (at-behind .behind .ensures) in
     words-differ _ listed (words-kept (at-print .print .ensures) (at-lend .lend .ensures))
-    (at-decode .decode .last .1 .0) (at-decode .decode .result) line (at-lend .lend .ensures) (at-is-written .is-written .ensures) (c .if1 .left)
+    (at-decode .decode .last .1 .0) (at-decode .decode .result) line (at-lend .lend .ensures) (at-is-written .is-written .ensures)
+    (c .if1 .left)
 
 pub is-nested-spec : {M : Type 1} → statement M
 is-nested-spec =
