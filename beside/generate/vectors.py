@@ -1,13 +1,14 @@
 """Vector files: a line `store` and its bytes, the lines of its answer, a line with a dot. With `wrong` for `store` the
-answer is wrong on purpose: a test has to find that it differs."""
+answer is wrong on purpose: a test has to find that it differs. With `nest` the answer is the sheet's words in hexadecimal on
+one line, an empty one for a refusal, and then the text; with `wrong-nest` likewise, wrong on purpose."""
 
 
 def vector(store, answer, word="store"):
     return f"{word} {store.hex()}\n{answer}.\n"
 
 
-def read_vectors(path):
-    """The stores of a vector file with their answers, but for those that are wrong on purpose."""
+def all_vectors(path):
+    """The word, the store and the answer of every vector of a file."""
     with open(path) as lines:
         for line in lines:
             word, _, digits = line.rstrip("\n").partition(" ")
@@ -16,5 +17,9 @@ def read_vectors(path):
                 if line == ".\n":
                     break
                 answer += line
-            if word != "wrong":
-                yield bytes.fromhex(digits), answer
+            yield word, bytes.fromhex(digits), answer
+
+
+def read_vectors(path):
+    """The stores with their answers, but for those that are wrong on purpose or have words."""
+    return ((store, answer) for word, store, answer in all_vectors(path) if word == "store")

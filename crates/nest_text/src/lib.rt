@@ -5,7 +5,8 @@ use store::WORDS;
 use text::Written;
 
 pub fn print(bytes: &[u8], words: &mut [u16; WORDS], out: &mut [u32], text: &mut [u8]) -> Written
-    ensures { λ r. ⌜ Prints (now (bytes .entry)) (now (out .entry)) (now (text .entry)) (now (text .exit)) r ⌝ }
+    ensures { λ r. ⌜ Prints (now (bytes .entry)) (now (words .entry)) (now (words .exit))
+        (now (out .entry)) (now (out .exit)) (now (text .entry)) (now (text .exit)) r ⌝ }
 {
     let answer = nester::nest(bytes, words, out);
     match answer {

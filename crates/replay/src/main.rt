@@ -1,12 +1,16 @@
 // Replays a list of stores with their answers, read from standard input, and prints how many agree.
+mod sheets;
+
 ghost use mathlib.Core.Path.{_≡_};
 ghost use Prim.Native.Nat.{_≤_};
 ghost use mathlib.Core.List.{[], _∷_};
 ghost use lib.ListN.{length, take};
 ghost use Rattle.vectors.specs.Reading.{Reads};
-ghost use Rattle.replay.specs.Agrees.{is-shown, agrees};
+ghost use Rattle.replay.specs.Agrees.{of-sheet, is-shown, agrees};
 use libc::STDIN_FILENO;
 use libc::STDOUT_FILENO;
+use sheets::PRINTED;
+use sheets::is_nested;
 use store::WORDS;
 use text::Written;
 use vectors::Reader;
@@ -22,7 +26,7 @@ fn is_shown(
     words: &mut [u16; WORDS],
     out: &mut [u8],
 ) -> bool
-    requires { ⌜ (size ≤ length (now bytes)) × (length (now out) ≡ 65536) ⌝ }
+    requires { ⌜ (size ≤ length (now bytes)) × (65536 ≤ length (now out)) ⌝ }
     ensures { λ r. ⌜ r ≡ is-shown (take size (now (bytes .entry))) (now (listed .entry)) ⌝ }
 {
     let written = show_text::show(&bytes[..size], words, out);
@@ -32,13 +36,24 @@ fn is_shown(
     check::same(&out[0..n], listed)
 }
 
-// The same of a vector's text.
+// Whether the word before the store ends in t, as `nest` does: then the answer is a sheet's, with its words.
+fn of_sheet(vector: &[u8]) -> bool
+    ensures { λ r. ⌜ r ≡ of-sheet (now (vector .entry)) ⌝ }
+{
+    let at = vectors::behind(vector, b' ');
+    if at < 2 {
+        return false;
+    }
+    vector[at - 2] == b't'
+}
+
+// Whether a vector's listed answer is right.
 fn agrees(
     text: &[u8],
     size: usize,
     bytes: &mut [u8; STORE],
     words: &mut [u16; WORDS],
-    out: &mut [u8; TEXT],
+    out: &mut [u8; PRINTED],
 ) -> bool
     requires { ⌜ size ≤ length (now text) ⌝ }
     ensures { λ r. ⌜ r ≡ agrees (take size (now (text .entry))) ⌝ }
@@ -51,17 +66,20 @@ fn agrees(
     let rest = &vector[at..];
     let end = vectors::behind(rest, b'\n');
     let n = vectors::decode(&rest[..end], bytes);
+    if of_sheet(vector) {
+        return is_nested(bytes, n, &rest[end..], words, out);
+    }
     is_shown(bytes, n, &rest[end..], words, out)
 }
 
-// One byte of the list; the dot behind a vector has its store shown and compared.
+// One byte of the list; the dot behind a vector has its store answered and compared.
 fn fed(
     r: Reader,
     b: u8,
     text: &mut [u8; TEXT],
     bytes: &mut [u8; STORE],
     words: &mut [u16; WORDS],
-    out: &mut [u8; TEXT],
+    out: &mut [u8; PRINTED],
 ) -> Reader
     requires { ⌜ r .size ≤ 65536 ⌝ }
     ensures { λ n. ⌜ Reads agrees r (b ∷ []) (now (text .entry)) (now (text .exit)) n ⌝ }
@@ -79,7 +97,7 @@ fn fed_all(
     text: &mut [u8; TEXT],
     bytes: &mut [u8; STORE],
     words: &mut [u16; WORDS],
-    out: &mut [u8; TEXT],
+    out: &mut [u8; PRINTED],
 ) -> Reader
     requires { ⌜ r .size ≤ 65536 ⌝ }
     ensures { λ n. ⌜ Reads agrees r (now (chunk .entry)) (now (text .entry)) (now (text .exit)) n ⌝ }
@@ -99,7 +117,7 @@ fn replayed(turns: u32) -> Tally {
     let mut text = [0u8; TEXT];
     let mut bytes = [0u8; STORE];
     let mut words = [0u16; WORDS];
-    let mut out = [0u8; TEXT];
+    let mut out = [0u8; PRINTED];
     let mut reader = vectors::start();
     let mut left = turns;
     while left > 0 {

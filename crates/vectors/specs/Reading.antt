@@ -70,4 +70,5 @@ counted-of r agreed = record { size = 0; fresh = false; tally = told-of (r .tall
 
 pub record Decodes (digits after : List ℕ) (n : ℕ) : Type 0 where
   pub within : n ≤ 32768
+  pub room : length after ≡ 32768
   pub bytes : take n after ≡ hex-bytes digits

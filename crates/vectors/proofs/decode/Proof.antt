@@ -65,7 +65,8 @@ loop-again c =
 
 returns : tie.Need-returns Inv-loop μ-loop
 returns c =
-    let known = c .before .loop .inv in record { within = omega arith; bytes = decoded-all _ _ _ (known .1 .1) (c .loop-test .left) }
+    let known = c .before .loop .inv in
+    record { within = omega arith; room = known .1 .0; bytes = decoded-all _ _ _ (known .1 .1) (c .loop-test .left) }
 
 pub decode-spec : {M : Type 1} → statement M
 decode-spec =
