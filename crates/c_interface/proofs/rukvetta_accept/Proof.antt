@@ -55,11 +55,7 @@ use Rattle.c_interface.proofs.rukvetta_accept.Code as code
 abbrev stayed : Stays (f.ended .signature .params) (f.ended .kept)
 stayed = (stay-none-slice (0 ∷ []) tt (plain (λ _. u8)) yes, (stay-ref (1 ∷ []) tt (plain (λ _. T.the-row)), tt))
 
--- What g ensures.
-abbrev Ens : (bytes l l′ : List ℕ) (r : ℕ) → Type 0
-Ens bytes l l′ r = AcceptExported bytes l l′ r
-
--- Its contract, which the walk cites.
+-- The contract of g, which the walk cites.
 abbrev Callee : {M : Type 1} (𝓤 : URA M) (H : Heap 𝓤) (A : Atoms 𝓤) (mem : Memory → SProp 𝓤) (run : Routine → Fun 𝓤) → Contract 𝓤
 Callee 𝓤 H A mem run = tripleOf 𝓤 H A g.signature (g.spec 𝓤 H A mem run)
 
@@ -112,7 +108,7 @@ module _ {M : Type 1} (𝓤 : URA M) (H : Heap 𝓤) (A : Atoms 𝓤) (W : Given
   abbrev Left : (w : Val) (r : ℕ) (l : List ℕ) → List (Item 𝓤)
   Left w r l = Tokens κ₁ q₁ ∷ ‵ (OwnsState κ₁ b o γ (with-words h l)) ∷ OwnsBytes ∷ ‵ (u32 .own r (w ∷ [])) ∷ []
 
-  exits : (w : Val) (r : ℕ) (l : List ℕ) → Ens (bytes .now) (h .words) l r
+  exits : (w : Val) (r : ℕ) (l : List ℕ) → AcceptExported (bytes .now) (h .words) l r
       → ent 𝓤 (⋆ 𝓤 H A (Left w r l)) (Post w)
   exits w r l e =
       qed W (Left w r l) ∵ suffices ! _
@@ -152,8 +148,8 @@ module _ {M : Type 1} (𝓤 : URA M) (H : Heap 𝓤) (A : Atoms 𝓤) (W : Given
         await ! tt $ pick ! (λ r. split ! $ move ! (1 ∷ []) $
         use1 W (some (λ (ls : Lasts g.ended (lifetimes (ν ∷ [])) (args-on ν δ)).
         ‵ (lasts g.ended (lifetimes (ν ∷ [])) (args-on ν δ) ls)
-        ⊛ raw (fact 𝓤 (Ens (bytes .now) (h .words) (ls .1 .0) r)))) (id⊢ 𝓤 _) $
-        pick ! (λ ls. split ! $ move ! (1 ∷ []) $ heard ! (Ens (bytes .now) (h .words) (ls .1 .0) r) (λ e.
+        ⊛ raw (fact 𝓤 (AcceptExported (bytes .now) (h .words) (ls .1 .0) r)))) (id⊢ 𝓤 _) $
+        pick ! (λ ls. split ! $ move ! (1 ∷ []) $ heard ! (AcceptExported (bytes .now) (h .words) (ls .1 .0) r) (λ e.
         fsplit ! $ drop ! $ fsplit ! $ move ! (1 ∷ []) $ drop ! $ move ! (1 ∷ []) $ split ! $ move ! (1 ∷ []) $
         peeks ! u32 (Is u32) (shows 𝓤 H A u32) r (w ∷ []) (λ is.
         land ! (from ! (stop !)) (init ! 11 refl (uint-lawful 𝓤 H A W w32 .typed r _ is .0)) $

@@ -67,11 +67,7 @@ stayed = (
   ),
 )
 
--- What g ensures.
-abbrev Ens : (bytes l out l′ out′ : List ℕ) (r : ℕ) → Type 0
-Ens bytes l out l′ out′ r = NestExported bytes l l′ out out′ r
-
--- Its contract, which the walk cites.
+-- The contract of g, which the walk cites.
 abbrev Callee : {M : Type 1} (𝓤 : URA M) (H : Heap 𝓤) (A : Atoms 𝓤) (mem : Memory → SProp 𝓤) (run : Routine → Fun 𝓤) → Contract 𝓤
 Callee 𝓤 H A mem run = tripleOf 𝓤 H A g.signature (g.spec 𝓤 H A mem run)
 
@@ -130,7 +126,7 @@ module _ {M : Type 1} (𝓤 : URA M) (H : Heap 𝓤) (A : Atoms 𝓤) (W : Given
   Left w r l out′ =
       Tokens κ₁ q₁ ∷ ‵ (OwnsState κ₁ b o γ (with-words h l)) ∷ OwnsBytes ∷ ‵ (finally u32 (out .name) out′) ∷ ‵ (u64 .own r (w ∷ [])) ∷ []
 
-  exits : (w : Val) (r : ℕ) (l out′ : List ℕ) → length out′ ≡ length (out .now) → Ens (bytes .now) (h .words) (out .now) l out′ r
+  exits : (w : Val) (r : ℕ) (l out′ : List ℕ) → length out′ ≡ length (out .now) → NestExported (bytes .now) (h .words) l (out .now) out′ r
       → ent 𝓤 (⋆ 𝓤 H A (Left w r l out′)) (Post w)
   exits w r l out′ long e =
       qed W (Left w r l out′) ∵ suffices ! _
@@ -178,8 +174,9 @@ module _ {M : Type 1} (𝓤 : URA M) (H : Heap 𝓤) (A : Atoms 𝓤) (W : Given
         await ! tt $ pick ! (λ r. split ! $ move ! (1 ∷ []) $
         use1 W (some (λ (ls : Lasts g.ended (lifetimes (ν ∷ [])) (args-on ν δ)).
         ‵ (lasts g.ended (lifetimes (ν ∷ [])) (args-on ν δ) ls)
-        ⊛ raw (fact 𝓤 (Ens (bytes .now) (h .words) (out .now) (ls .1 .0) (ls .1 .1 .0) r)))) (id⊢ 𝓤 _) $
-        pick ! (λ ls. split ! $ move ! (1 ∷ []) $ heard ! (Ens (bytes .now) (h .words) (out .now) (ls .1 .0) (ls .1 .1 .0) r) (λ e.
+        ⊛ raw (fact 𝓤 (NestExported (bytes .now) (h .words) (ls .1 .0) (out .now) (ls .1 .1 .0) r)))) (id⊢ 𝓤 _) $
+        pick ! (λ ls. split ! $ move ! (1 ∷ []) $
+        heard ! (NestExported (bytes .now) (h .words) (ls .1 .0) (out .now) (ls .1 .1 .0) r) (λ e.
         fsplit ! $ drop ! $ fsplit ! $ move ! (1 ∷ []) $ fsplit ! $ fsplit ! $ move ! (1 ∷ []) $ feqL ! (λ long. move ! (1 ∷ []) $
         drop ! $ move ! (2 ∷ []) $ split ! $ move ! (1 ∷ []) $
         peeks ! u64 (Is u64) (shows 𝓤 H A u64) r (w ∷ []) (λ is.
