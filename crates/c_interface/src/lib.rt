@@ -1,8 +1,9 @@
-// The public routines for C and Rust, under plain names.
+// The public routines for C and Rust, under plain names. Each is lent the one nesting state, and lends its words on: no copy is made.
 ghost use mathlib.Core.Path.{_≡_};
 ghost use Prim.Native.Nat.{_<_};
 ghost use Rattle.c_interface.specs.Exported.{AcceptExported, NestExported};
 use accept::Accepted;
+use nest_state::NestState;
 use nester::SheetAnswer;
 use store::WORDS;
 
@@ -20,9 +21,7 @@ fn long(x: u32) -> u64
     x as u64
 }
 
-// 0 for a record, which then stands in the lent words; else the refusal's number, 1 to 8, times 65,536, and its word.
-#[no_mangle]
-pub extern "C" fn rukvetta_accept(bytes: &[u8], words: &mut [u16; WORDS]) -> u32
+fn accept_in_words(bytes: &[u8], words: &mut [u16; WORDS]) -> u32
     ensures { λ a. ⌜ AcceptExported (now (bytes .entry)) (now (words .entry)) (now (words .exit)) a ⌝ }
 {
     let answer = accept::accept(bytes, words);
@@ -32,9 +31,7 @@ pub extern "C" fn rukvetta_accept(bytes: &[u8], words: &mut [u16; WORDS]) -> u32
     }
 }
 
-// How many words the sheet has, which then stand in front of `out`; else the refusal's number, 1 to 11, times 4,294,967,296, and its word.
-#[no_mangle]
-pub extern "C" fn rukvetta_nest(bytes: &[u8], words: &mut [u16; WORDS], out: &mut [u32]) -> u64
+fn nest_in_words(bytes: &[u8], words: &mut [u16; WORDS], out: &mut [u32]) -> u64
     ensures { λ a. ⌜ NestExported (now (bytes .entry)) (now (words .entry)) (now (words .exit)) (now (out .entry)) (now (out .exit)) a ⌝ }
 {
     let answer = nester::nest(bytes, words, out);
@@ -42,4 +39,21 @@ pub extern "C" fn rukvetta_nest(bytes: &[u8], words: &mut [u16; WORDS], out: &mu
         SheetAnswer::Sheet(n) => long(n),
         SheetAnswer::Refused(number, word) => long(wide(number)) * 4294967296 + long(wide(word)),
     }
+}
+
+// 0 for a record, which then stands in the state's words; else the refusal's number, 1 to 8, times 65,536, and its word.
+#[no_mangle]
+pub extern "C" fn rukvetta_accept(bytes: &[u8], state: &mut NestState) -> u32
+    ensures { λ a. ⌜ AcceptExported (now (bytes .entry)) (now (state .entry) .words) (now (state .exit) .words) a ⌝ }
+{
+    accept_in_words(bytes, &mut state.words)
+}
+
+// How many words the sheet has, which then stand in front of `out`; else the refusal's number, 1 to 11, times 4,294,967,296, and its word.
+#[no_mangle]
+pub extern "C" fn rukvetta_nest(bytes: &[u8], state: &mut NestState, out: &mut [u32]) -> u64
+    ensures { λ a. ⌜ NestExported
+        (now (bytes .entry)) (now (state .entry) .words) (now (state .exit) .words) (now (out .entry)) (now (out .exit)) a ⌝ }
+{
+    nest_in_words(bytes, &mut state.words, out)
 }

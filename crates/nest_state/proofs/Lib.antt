@@ -1,0 +1,2 @@
+pub mod LendPart
+pub mod StateWords
