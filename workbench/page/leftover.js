@@ -63,7 +63,7 @@ function fork(x, y, w, h, widths) {
 
 function branchesPart(form, region) {
   const set = form.sheet.deferred.filter(defer => defer.region === region.id);
-  if (!set.length) return note("unreachable");
+  if (!set.length) return note(false, "unreachable");
   const side = columns(set.map(defer => branchPart(form, defer)));
   const top = set.length > 1 ? 24 : 0;
   return { min: side.min, tall: top + side.tall, draw: (x, y, w, h) =>
