@@ -59,7 +59,7 @@ function drawRegion(region, place, record, sheet, path) {
     const above = y - FONT.size;
     if (row.first || row.end) group.append(element("line", { x1: left, x2: left + place.width, y1: above, y2: above }));
     group.append(label(row.shown, left + FONT.pad + 3, y, { class: row.faint ? "faint" : "" }));
-    if (row.cost !== undefined) group.append(label(row.cost, right, y, { class: "faint", "text-anchor": "end" }));
+    if (row.cost !== undefined) group.append(label(String(row.cost), right, y, { class: "faint", "text-anchor": "end" }));
   }
   return group;
 }

@@ -90,6 +90,9 @@ FAULTS = [
     ("record entry a\nregion \u00e4\nreturn\n", 2, 8, "found `\u00e4`"),
     ("type hertz 2\nrecord entry a\nregion a in f:herz\nreturn\n", 3, 15, "near it: `hertz`"),
     (b"record entry a\nregion \xff\n", 2, 8, "expected text in UTF-8"),
+    (HEAD + "    return true,\n", 3, 17, "found the end of the source, expected a name or `undef`"),
+    ("a" * 9999, 1, 1, "found `" + "a" * 59 + "\N{HORIZONTAL ELLIPSIS}`, expected"),
+    ("#\n" * 131073, 1, 1, "found a source of more than 262,144 bytes, expected a shorter one"),
 ]
 
 

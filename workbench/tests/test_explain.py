@@ -1,6 +1,7 @@
 """explain: a sentence with the place for each refusal, number and word as the proved program has them; summaries."""
 
 import os
+import re
 import tempfile
 import unittest
 
@@ -8,8 +9,9 @@ from .support import command, needs_nest, needs_show, programs, vectors
 from .test_assemble import SWEEP
 
 from rukvetta.assemble import assemble
-from rukvetta.explain import place_of
+from rukvetta.explain import explain, place_of
 from rukvetta.record import record_words
+from rukvetta.routine import Routine
 from rukvetta.store import store_of
 
 HEAD = "record entry a test 1 constants 2\n"
@@ -124,6 +126,13 @@ class Missing(Explain):
 
 @needs_nest
 class Summaries(Explain):
+    def test_the_list_of_sheets(self):
+        """The first line is the program's, and that is the list's, on all 1,147 stores: whole, closed, and refused 1 to 11."""
+        for store, answer in vectors("sheets.vectors"):
+            sentences, status = explain(Routine("listed", store), programs)
+            self.assertEqual((sentences[0], status), (answer.split("\n")[0], 1 if answer.startswith("refused") else 0))
+            self.assertTrue(all(re.match(r"[A-Z].+\.\Z", sentence) for sentence in sentences[1:]), sentences)
+
     def test_outcomes(self):
         for source, said in (
                 (SWEEP, "It nests whole: 1 select, 1 loop and 0 exits, after 7 attempts of at most 19."),
