@@ -52,7 +52,17 @@ def parse(source):
         raise Fault(line, column, f"found {found}, expected {called(error.accepts or error.expected)}") from None
     except exceptions.UnexpectedCharacters as error:
         raise Fault(error.line, error.column, f"found `{visible(source, error.pos_in_stream)}`, "
-                    f"expected {called(error.allowed)}") from None
+                    f"expected {called(accepted(source))}") from None
+
+
+def accepted(source):
+    """What could stand where a source has letters that begin nothing; the lexer alone does not know."""
+    state = parser().parse_interactive(source)
+    try:
+        state.exhaust_lexer()
+    except need("lark.exceptions").UnexpectedCharacters:
+        pass
+    return state.accepts()
 
 
 def place(error, source):
