@@ -143,8 +143,9 @@ function rootPart(form, region) {
   const title = [{ text: call(regionName(form, region.id), inputs), class: "title", right: region === sheet.roots[0] ? "entry" : "" }];
   const top = { min: roomFor(title), tall: ROW + 10, draw: (x, y, w, h) =>
     [boxed(form, region, "nest-region-" + region.id, region.id, [x, y, w, h], drawRows(title, x, y + 17, w))] };
-  const end = { whole: () => note(isDear(form, region), ["return", ...region.out.length ? [valuesIn(form, region.out).join(", ")] : []].join(" ")),
-    closed: () => note(isDear(form, region), "no run returns"), leftover: () => branchesPart(form, region) };
+  const dear = isDear(form, region), returned = valuesIn(form, region.out).join(", ");
+  const end = { whole: () => note(dear, returned ? "return " + returned : "return"),
+    closed: () => note(dear, "no run returns"), leftover: () => branchesPart(form, region) };
   return sequence([top, ...children(form, region), end[sheet.outcome]()]);
 }
 

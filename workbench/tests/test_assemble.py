@@ -172,7 +172,7 @@ class RoundTrip(unittest.TestCase):
 class ExitsAuto(unittest.TestCase):
     @needs_show
     def test_the_lists_of_the_rust(self):
-        """loop-exits.txt has what LoopFinder itself finds in the stores of sheets.vectors (`tools/beside --lists`)."""
+        """loop-exits.txt has what LoopFinder itself finds in the stores of sheets.vectors (tests/loop_exits.py)."""
         with open(os.path.join(WORKBENCH, "tests", "loop-exits.txt"), encoding="ascii") as lines:
             found = [line.strip() for line in lines]
         compared = loops = 0

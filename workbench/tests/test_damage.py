@@ -105,7 +105,8 @@ class Usage(unittest.TestCase):
         self.addCleanup(folder.cleanup)
         self.folder = folder.name
         os.mkdir(self.path("folder"))
-        for name, data in ("junk.store", bytes(range(256))), ("junk.routine", bytes(range(256))), ("empty.store", b""), ("one.store", b"\0"):
+        junk = bytes(range(256))
+        for name, data in ("junk.store", junk), ("junk.routine", junk), ("empty.store", b""), ("one.store", b"\0"):
             with open(self.path(name), "wb") as file:
                 file.write(data)
 
