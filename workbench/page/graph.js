@@ -37,7 +37,7 @@ function regionBox(region, record, names) {
   const rows = regionRows(region, names).map(row => ({ ...row, shown: short(row.text, 46) }));
   const widths = rows.map(row => width(row.shown) + (row.cost !== undefined ? width(" " + row.cost) + 12 : 0));
   const top = width(title, "bold") + width("100.0%") + 12;
-  return { title, rows, width: Math.max(90, top, ...widths) + 2 * FONT.pad, height: (rows.length + 1) * FONT.line + 2 * FONT.pad };
+  return { title, rows, width: Math.max(90, top, ...widths) + 2 * FONT.pad + 3, height: (rows.length + 1) * FONT.line + 2 * FONT.pad };
 }
 
 function drawRegion(region, place, record, sheet, path) {
