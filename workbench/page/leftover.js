@@ -25,6 +25,7 @@ function conditionRows(form, condition) {
     return select ? `${valueIn(form, select.test)} is ${caseName(select, k)}` : `select ${node} took ${k}`;
   };
   const ways = alternatives(condition).map(steps => steps.map(step).join(" and ") || "always");
+  if (!ways.length) return ["never"];
   return ways.length > 3 ? [...ways.slice(0, 2), `or ${ways.length - 2} ways more`] : ways.map((text, k) => (k ? "or " : "") + text);
 }
 
