@@ -1,4 +1,4 @@
-"""Times check-catalogue on folders of random stores: python3 -m tests.measure NUMBER..., in the folder of the workbench.
+"""Times check-catalogue on folders of random stores: /usr/bin/python3 -m tests.measure NUMBER..., in the folder of the workbench.
 
 A tenth of the stores is damaged. The sheets are written in a first run, which is not timed.
 """
@@ -38,7 +38,7 @@ def timed(folder):
 
 def main():
     if not sys.argv[1:] or not all(word.isdecimal() for word in sys.argv[1:]):
-        print("usage: python3 -m tests.measure NUMBER..., in the folder of the workbench", file=sys.stderr)
+        print("usage: /usr/bin/python3 -m tests.measure NUMBER..., in the folder of the workbench", file=sys.stderr)
         raise SystemExit(2)
     for count in map(int, sys.argv[1:]):
         with tempfile.TemporaryDirectory() as folder:

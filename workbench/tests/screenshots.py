@@ -1,4 +1,4 @@
-"""Makes the pictures of the docs: python3 -m tests.screenshots, in the folder of the workbench."""
+"""Makes the pictures of the docs: /usr/bin/python3 -m tests.screenshots, in the folder of the workbench."""
 
 import os
 import tempfile

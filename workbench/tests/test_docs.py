@@ -69,6 +69,8 @@ class Readme(unittest.TestCase):
         text = page("README.md")
         self.assertIn(COMMAND, re.sub(r"\s+", " ", text.replace("\\\n", " ")))
         self.assertIn(f"{len(os.listdir(CATALOGUE)) // 2} routines", text)
+        count = unittest.defaultTestLoader.discover(os.path.join(WORKBENCH, "tests"), top_level_dir=WORKBENCH).countTestCases()
+        self.assertIn(f"runs all: {count} tests", text)
 
     def test_links_lead_somewhere(self):
         for name in "README.md", "docs/TEN-MINUTES.md", "docs/SOURCE-FORM.md":
