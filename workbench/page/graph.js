@@ -21,7 +21,9 @@ function endText(region, names) {
 function regionRows(region, names) {
   const rows = instructionRows(region, names), end = endText(region, names);
   if (end) rows.push({ text: end, end: true });
-  if (region.exits.length) rows.push({ text: "exits " + region.exits.map(names.region).join(", "), faint: true });
+  const turns = region.limit > 1 ? `≤ ${grouped(region.limit)} turns` : "";
+  const exits = region.exits.length ? "exits " + region.exits.map(names.region).join(", ") : "";
+  if (turns || exits) rows.push({ text: [turns, exits].filter(Boolean).join(", "), faint: true });
   return rows;
 }
 
@@ -33,10 +35,9 @@ function regionTitle(region, record, names) {
 function regionBox(region, record, names) {
   const title = short(regionTitle(region, record, names), 44);
   const rows = regionRows(region, names).map(row => ({ ...row, shown: short(row.text, 46) }));
-  const turns = region.limit > 1 ? `≤ ${grouped(region.limit)} turns` : "";
   const widths = rows.map(row => width(row.shown) + (row.cost !== undefined ? width(" " + row.cost) + 12 : 0));
-  const top = width(title, "bold") + Math.max(width("100.0%") + 12, turns ? width(turns) + 12 : 0);
-  return { title, rows, turns, width: Math.max(90, top, ...widths) + 2 * FONT.pad, height: (rows.length + 1) * FONT.line + 2 * FONT.pad };
+  const top = width(title, "bold") + width("100.0%") + 12;
+  return { title, rows, width: Math.max(90, top, ...widths) + 2 * FONT.pad + 3, height: (rows.length + 1) * FONT.line + 2 * FONT.pad };
 }
 
 function drawRegion(region, place, record, sheet, path) {
@@ -52,13 +53,13 @@ function drawRegion(region, place, record, sheet, path) {
   let y = top + FONT.pad + FONT.size;
   group.append(label(place.title, left + FONT.pad + 3, y, { class: "title" }));
   const portion = on ? percent(path.regions.get(region.number), sheet.figure) : "";
-  group.append(label(portion || place.turns, right, y, { class: portion ? "share" : "faint", "text-anchor": "end" }));
+  if (portion) group.append(label(portion, right, y, { class: "share", "text-anchor": "end" }));
   for (const row of place.rows) {
     y += FONT.line;
-    const above = y - FONT.size - 1;
+    const above = y - FONT.size;
     if (row.first || row.end) group.append(element("line", { x1: left, x2: left + place.width, y1: above, y2: above }));
     group.append(label(row.shown, left + FONT.pad + 3, y, { class: row.faint ? "faint" : "" }));
-    if (row.cost !== undefined) group.append(label(row.cost, right, y, { class: "faint", "text-anchor": "end" }));
+    if (row.cost !== undefined) group.append(label(String(row.cost), right, y, { class: "faint", "text-anchor": "end" }));
   }
   return group;
 }

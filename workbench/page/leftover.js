@@ -25,6 +25,7 @@ function conditionRows(form, condition) {
     return select ? `${valueIn(form, select.test)} is ${caseName(select, k)}` : `select ${node} took ${k}`;
   };
   const ways = alternatives(condition).map(steps => steps.map(step).join(" and ") || "always");
+  if (!ways.length) return ["never"];
   return ways.length > 3 ? [...ways.slice(0, 2), `or ${ways.length - 2} ways more`] : ways.map((text, k) => (k ? "or " : "") + text);
 }
 
@@ -63,7 +64,7 @@ function fork(x, y, w, h, widths) {
 
 function branchesPart(form, region) {
   const set = form.sheet.deferred.filter(defer => defer.region === region.id);
-  if (!set.length) return note("unreachable");
+  if (!set.length) return note(false, "unreachable");
   const side = columns(set.map(defer => branchPart(form, defer)));
   const top = set.length > 1 ? 24 : 0;
   return { min: side.min, tall: top + side.tall, draw: (x, y, w, h) =>

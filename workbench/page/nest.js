@@ -40,10 +40,12 @@ function columns(parts) {
   }) };
 }
 
-function note(...texts) {
+// What is said beside the lines of the sheet; on the dearest path with its stripe.
+function note(dear, ...texts) {
   const rows = texts.map(text => ({ text: short(text, LETTERS), class: "faint" }));
   return { min: roomFor(rows), tall: rows.length * ROW + 8,
-    draw: (x, y, w, h) => [element("g", { class: "note" }, box(x, y, w, h), ...drawRows(rows, x, y + 15, w))] };
+    draw: (x, y, w, h) => [element("g", { class: "note" }, box(x, y, w, h), dear && box(x, y, 5, h, { class: "stripe" }),
+      ...drawRows(rows, x, y + 15, w))] };
 }
 
 function blockPart(form, node) {
@@ -117,18 +119,18 @@ function loopPart(form, node) {
     ...inside.draw(x + BAR, y + top, w - BAR, h - top - bottom)] };
 }
 
-// A strip with a region's name: what its line of the sheet is linked to.
+// A strip, with the region's name if it shall have one: what its line of the sheet is linked to.
 function stripPart(form, region, named) {
   const name = named ? regionName(form, region.id) : "";
-  return { min: width(name) + 24, tall: name ? STRIP : named ? 6 : 0, draw: (x, y, w, h) => [boxed(form, region, "nest-region-" + region.id,
+  return { min: width(name) + 24, tall: name ? STRIP : 6, draw: (x, y, w, h) => [boxed(form, region, "nest-region-" + region.id,
     region.id, [x, y, w, h], name && label(name, x + FONT.pad + 3, y + 14, { class: "faint" }))] };
 }
 
 // A case of a select: its name, its children, and what it hands out.
 function casePart(form, region, outs) {
   const inside = children(form, region);
-  if (outs.length) inside.push(note(...outs));
-  if (!inside.length) inside.push(note("nothing"));
+  if (outs.length) inside.push(note(isDear(form, region), ...outs));
+  if (!inside.length) inside.push(note(isDear(form, region), "nothing"));
   return sequence([stripPart(form, region, true), ...inside]);
 }
 
@@ -141,8 +143,9 @@ function rootPart(form, region) {
   const title = [{ text: call(regionName(form, region.id), inputs), class: "title", right: region === sheet.roots[0] ? "entry" : "" }];
   const top = { min: roomFor(title), tall: ROW + 10, draw: (x, y, w, h) =>
     [boxed(form, region, "nest-region-" + region.id, region.id, [x, y, w, h], drawRows(title, x, y + 17, w))] };
-  const end = { whole: () => note(["return", ...region.out.length ? [valuesIn(form, region.out).join(", ")] : []].join(" ")),
-    closed: () => note("no run returns"), leftover: () => branchesPart(form, region) };
+  const dear = isDear(form, region), returned = valuesIn(form, region.out).join(", ");
+  const end = { whole: () => note(dear, returned ? "return " + returned : "return"),
+    closed: () => note(dear, "no run returns"), leftover: () => branchesPart(form, region) };
   return sequence([top, ...children(form, region), end[sheet.outcome]()]);
 }
 

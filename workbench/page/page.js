@@ -96,9 +96,10 @@ function linkUp(place) {
 }
 
 // On paper the pictures take what the listings, in two columns each, leave of a landscape A4 sheet.
-function pictureHeight(sheet, record) {
+function pictureHeight(sheet, record, explained) {
   const rows = Math.ceil(Math.max((sheet.lines || []).length + 1, record.lines.length) / 2);
-  return Math.max(70, Math.min(125, 142 - 2.45 * rows));
+  const told = explained ? 7 + 5 * explained.split("\n").length : 0;
+  return Math.max(70, Math.min(125, 142 - told - 2.45 * rows));
 }
 
 // Draws a routine into a place of the page from the texts that `show` and `nest` print.
@@ -118,7 +119,7 @@ function drawRoutine(place, texts, options = {}) {
     ...[legend(sheet, path)].filter(Boolean),
     html("div", { class: "pictures" + (pictures.length > 1 ? " both" : "") + (wide ? " wide" : "") }, ...pictures),
     html("div", { class: "listings" }, listing("Sheet", sheetRows(sheet), 1), ...record ? [listing("Record", recordRows(record), 1)] : []));
-  if (record) place.style.setProperty("--picture-height", pictureHeight(sheet, record) + "mm");
+  if (record) place.style.setProperty("--picture-height", pictureHeight(sheet, record, texts.explained) + "mm");
   linkUp(place);
 }
 window.drawRoutine = drawRoutine;

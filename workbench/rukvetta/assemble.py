@@ -6,7 +6,7 @@ import sys
 from .faults import Fault
 from .needs import REFUSED
 from .record import record_words
-from .source import read_source
+from .source import MOST_BYTES, read_source
 from .store import MOST_WORDS, store_of
 
 DESCRIPTION = "Reads the source of a routine from standard input and writes its store to standard output."
@@ -23,7 +23,7 @@ def assemble(data):
 
 def main():
     argparse.ArgumentParser(prog="assemble", usage="assemble < SOURCE > STORE", description=DESCRIPTION).parse_args()
-    data = sys.stdin.buffer.read()
+    data = sys.stdin.buffer.read(MOST_BYTES + 1)
     try:
         store, _, _ = assemble(data)
     except Fault as fault:

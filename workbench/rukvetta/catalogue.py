@@ -9,10 +9,11 @@ from dataclasses import dataclass
 from .facts import HEADS, add_clock, row
 from .needs import REFUSED, USAGE, Missing, need
 from .programs import BUILT_BY, Programs, add_option
-from .routine import SOURCE, STORE, BadSource, load
+from .routine import SOURCE, STORE, BadSource, load, name_of
 
 DESCRIPTION = "Nests every source (.routine) and store (.store) of a folder and compares each with the sheet (.sheet) beside it."
 WIDTHS = 12, 13, 10, 8, 7, 5        # of the columns after the first
+MOST_WORKERS = 64
 
 
 @dataclass
@@ -37,13 +38,15 @@ def compare(path, sheet, write):
     if not os.path.exists(beside):
         if not write:
             return f"there is no {os.path.basename(beside)} beside it"
-        with open(beside, "w", encoding="ascii") as file:
+        with open(beside, "w", encoding="ascii", newline="") as file:
             file.write(sheet)
-    with open(beside, encoding="ascii", errors="replace") as file:
+    with open(beside, encoding="ascii", errors="replace", newline="") as file:
         expected = file.read()
     if sheet == expected:
         return ""
     new, old = sheet.splitlines(), expected.splitlines()
+    if new == old:
+        return "the sheet differs in the ends of its lines alone"
     at = next((k for k, (a, b) in enumerate(zip(new, old)) if a != b), min(len(new), len(old)))
     shown = [lines[at] if at < len(lines) else "nothing more" for lines in (new, old)]
     return f"line {at + 1} of the sheet is `{shown[0]}`, expected `{shown[1]}`"
@@ -51,7 +54,7 @@ def compare(path, sheet, write):
 
 def check(job):
     """Nest one routine and compare. Runs in a worker."""
-    name = os.path.splitext(os.path.basename(job.path))[0]
+    name = name_of(job.path)
     programs = Programs(job.folder)
     try:
         routine = load(job.path)
@@ -92,13 +95,13 @@ def tracked(results, total, live):
             bar.advance(task)
 
 
-def check_all(jobs, workers):
+def check_all(jobs, at_a_time):
     """Check all jobs, print the table, and answer how many failed."""
     table, live = consoles()
-    wide = max(len(HEADS[0]), *(len(os.path.splitext(os.path.basename(job.path))[0]) for job in jobs))
+    wide = max(len(HEADS[0]), *(len(name_of(job.path)) for job in jobs))
     failed = 0
     table.print(line(HEADS, wide), style="bold", markup=False)
-    with multiprocessing.Pool(workers) as pool:
+    with multiprocessing.Pool(at_a_time) as pool:
         for done in tracked(pool.imap(check, jobs, chunksize=4), len(jobs), live):
             failed += bool(done.wrong)
             table.print(line(done.cells, wide).rstrip(), style="red" if done.wrong else None, markup=False)
@@ -107,11 +110,18 @@ def check_all(jobs, workers):
     return failed
 
 
+def workers(text):
+    """How many are checked at a time."""
+    if text.isdecimal() and 1 <= int(text[:9]) <= MOST_WORKERS:
+        return int(text)
+    raise argparse.ArgumentTypeError(f"found {text}, expected 1 to {MOST_WORKERS}")
+
+
 def main():
     parser = argparse.ArgumentParser(prog="check-catalogue", description=DESCRIPTION)
     parser.add_argument("folder", metavar="FOLDER")
     parser.add_argument("--write", action="store_true", help="write the sheets that are missing")
-    parser.add_argument("--jobs", type=int, default=os.cpu_count(), metavar="N", help="how many at a time (else one a core)")
+    parser.add_argument("--jobs", type=workers, default=os.cpu_count(), metavar="N", help="how many at a time (else one a core)")
     add_clock(parser)
     add_option(parser)
     options = parser.parse_args()
@@ -123,6 +133,6 @@ def main():
     for program in BUILT_BY:
         programs.path(program)
     jobs = [Job(os.path.join(options.folder, name), options.programs, options.clock, options.write) for name in names]
-    failed = check_all(jobs, max(1, options.jobs or 1))
+    failed = check_all(jobs, min(options.jobs or 1, len(jobs)))
     print(f"{len(jobs) - failed} passed, {failed} failed")
     return REFUSED if failed else 0

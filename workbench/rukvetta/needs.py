@@ -42,6 +42,7 @@ def need_dagre():
 
 def run(main):
     """Run a command's main; what is missing, or a broken pipe, ends in a sentence and a status."""
+    sys.stdout.reconfigure(errors="backslashreplace")     # a name or a locale may not be UTF-8
     try:
         status = main()
         sys.stdout.flush()

@@ -54,7 +54,7 @@ def index_page(title, rows):
     heads = "".join(f'<th class="{"number" if k > 1 else ""}">{head}</th>' for k, head in enumerate(rows[0]))
     lines = []
     for (name, link), outcome, *cells in rows[1:]:
-        first = f'<td><a href="{html.escape(quote(link))}">{html.escape(name)}</a></td>'
+        first = f'<td><a href="{html.escape(quote(os.fsencode(link)))}">{html.escape(name)}</a></td>'
         second = f'<td><span class="badge {html.escape(outcome.split()[0])}">{html.escape(outcome)}</span></td>'
         lines.append("<tr>" + first + second + "".join(f'<td class="number">{html.escape(cell)}</td>' for cell in cells) + "</tr>")
     body = f"<header><h1>{html.escape(title)}</h1><p>{len(rows) - 1} routines</p></header>" \

@@ -1,7 +1,7 @@
 """Finds where a record is refused with 6 to 8: which value, target, type or exit, in record order."""
 
 from . import record as r
-from .refusals import Refused, several
+from .refusals import Refused, one_of, several
 
 
 class References:
@@ -47,9 +47,9 @@ class References:
         elif kind == r.INPUT:
             if index < len(region.inputs):
                 return region.inputs[index]
-            why = f"it has {several(len(region.inputs), 'input')}"
+            why = f"it has {several(len(region.inputs), 'input')}; {one_of(f'i{number}.{k}' for k in range(len(region.inputs)))}"
         elif kind == r.INSTRUCTION:
-            why = self.no_output(region, index, before)
+            why = self.no_output(number, index, before)
             if why is None:
                 return region.instructions()[index].type
         elif owner != 0:
@@ -57,7 +57,8 @@ class References:
         elif kind == r.CONSTANT:
             if index < len(self.record.constants):
                 return self.record.constants[index]
-            why = f"the record has {several(len(self.record.constants), 'constant')}"
+            count = len(self.record.constants)
+            why = f"the record has {several(count, 'constant')}; {one_of(f'c{k}' for k in range(count))}"
         elif kind == r.BOOLEAN:
             if index <= 1:
                 return 1
@@ -66,14 +67,15 @@ class References:
             return index
         raise Refused(6, number, f"Region {number} {how}: {why}.", part)
 
-    @staticmethod
-    def no_output(region, index, before):
-        instructions = region.instructions()
+    def no_output(self, number, index, before):
+        """Why an instruction's output may not be used after so many instructions, or None."""
+        instructions = self.record.regions[number].instructions()
+        earlier = one_of(f"d{number}.{k}" for k, instruction in enumerate(instructions[:before]) if instruction.type)
         if index >= len(instructions):
-            return f"it has {several(len(instructions), 'instruction')}"
+            return f"it has {several(len(instructions), 'instruction')}; {earlier}"
         if index >= before:
-            return "only an earlier instruction's output would be allowed"
-        return "that instruction has type 0 and no output" if instructions[index].type == 0 else None
+            return f"that instruction is no earlier one; {earlier}"
+        return f"that instruction has type 0 and no output; {earlier}" if instructions[index].type == 0 else None
 
     def terminator(self, number, region, place):
         part = "terminator", number

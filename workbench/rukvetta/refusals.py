@@ -1,5 +1,7 @@
 """The refusals of document 01: what each number says, and an exception that has the place as well."""
 
+from .faults import either
+
 RULES = {
     1: "the store's length is 0, over 8,192 or no multiple of 512",
     2: "a block's number is wrong",
@@ -32,3 +34,12 @@ def several(count, what):
 
 def allowed(least, most):
     return f"{least} would be allowed" if least == most else f"{least} to {most:,} would be allowed"
+
+
+def one_of(values):
+    """Which of some values would be allowed; of many, the first and the last."""
+    values = list(values)
+    if not values:
+        return "none would be allowed"
+    shown = either(values) if len(values) <= 4 else f"{values[0]}, {values[1]} .. {values[-1]}"
+    return f"{shown} would be allowed"

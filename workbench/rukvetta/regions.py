@@ -12,7 +12,8 @@ def within(items, allowed, at, what):
     """A list, if document 01 allows that many."""
     least, most = allowed
     if not least <= len(items) <= most:
-        raise Fault.at(at, f"found {len(items)} {what}, expected {least} to {most}")
+        found = what.removesuffix("s") if len(items) == 1 else what
+        raise Fault.at(at, f"found {len(items)} {found}, expected {least}" + f" to {most}" * (least < most))
     return items
 
 

@@ -9,7 +9,7 @@ from .facts import HEADS, add_clock, row
 from .needs import REFUSED, USAGE
 from .page import index_page, routine_page
 from .programs import Programs, add_option, refusal
-from .routine import BadSource, load
+from .routine import BadSource, load, name_of
 from .store import words_of
 
 DESCRIPTION = "Draws the graph and the nest of stores, or of sources that it assembles first, in self-contained pages."
@@ -61,7 +61,7 @@ def index(paths, output, programs, clock):
             continue
         write(os.path.join(folder, name), page)
         rows.append(((cells[0], f"{os.path.basename(folder)}/{name}"), *cells[1:]))
-    write(output, index_page(os.path.basename(folder), rows))
+    write(output, index_page(name_of(output), rows))
     return status
 
 

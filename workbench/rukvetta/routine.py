@@ -38,10 +38,15 @@ def read_file(path):
         return file.read()
 
 
+def name_of(path):
+    """A file's name without its ending, as text that can be printed."""
+    return os.fsencode(os.path.splitext(os.path.basename(path))[0]).decode("utf-8", "replace")
+
+
 def load(path):
     """The routine of a file."""
     data = read_file(path)
-    name = os.path.splitext(os.path.basename(path))[0] if path != "-" else "routine"
+    name = name_of(path) if path != "-" else "routine"
     if not is_source(path, data):
         return Routine(name, data)
     try:

@@ -7,6 +7,8 @@ from .names import Names, number
 from .regions import RegionReader, within
 from .syntax import decoded, parse, trees
 
+MOST_BYTES = 262144     # of a source; what `show` prints of a full store has some 40,000
+
 
 def define(names, tree):
     """Types, then opcodes, which name types, then regions."""
@@ -74,4 +76,6 @@ def read_tree(tree):
 
 def read_source(data):
     """The record of a source's bytes, and its names; or a Fault."""
+    if len(data) > MOST_BYTES:
+        raise Fault(1, 1, f"found a source of more than {MOST_BYTES:,} bytes, expected a shorter one")
     return read_tree(parse(decoded(data)))

@@ -52,7 +52,17 @@ def parse(source):
         raise Fault(line, column, f"found {found}, expected {called(error.accepts or error.expected)}") from None
     except exceptions.UnexpectedCharacters as error:
         raise Fault(error.line, error.column, f"found `{visible(source, error.pos_in_stream)}`, "
-                    f"expected {called(error.allowed)}") from None
+                    f"expected {called(accepted(source))}") from None
+
+
+def accepted(source):
+    """What could stand where a source has letters that begin nothing; the lexer alone does not know."""
+    state = parser().parse_interactive(source)
+    try:
+        state.exhaust_lexer()
+    except need("lark.exceptions").UnexpectedCharacters:
+        pass
+    return state.accepts()
 
 
 def place(error, source):
@@ -77,8 +87,11 @@ def misspelt_terminator(source, line, token):
     while before and not before[-1].split("#")[0].strip():
         before.pop()
     word = re.match(r"[ \t]*([A-Za-z_][\w.-]*)(?![ \t]*=)", before[-1] if before else "")
-    if word and near(word[1], TERMINATORS) and not re.search(rf"^[ \t]*opcode[ \t]+{re.escape(word[1])}\b", source, re.M):
-        raise Fault(len(before), word.start(1) + 1, f"found `{word[1]}`, expected an opcode or a terminator{near(word[1], TERMINATORS)}")
+    if not word or word[1] in TERMINATORS or re.search(rf"^[ \t]*opcode[ \t]+{re.escape(word[1])}\b", source, re.M):
+        return
+    close = near(word[1], TERMINATORS)
+    if close:
+        raise Fault(len(before), word.start(1) + 1, f"found `{word[1]}`, expected an opcode or a terminator{close}")
 
 
 def visible(source, at):

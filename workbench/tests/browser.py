@@ -46,11 +46,12 @@ class Browser:
     def count(self, selector):
         return self.run("return document.querySelectorAll(arguments[0]).length", selector)
 
-    def screenshot(self, path, whole=True):
-        if whole:
-            size = self.run("return [document.documentElement.scrollWidth, document.documentElement.scrollHeight]")
-            self.driver.set_window_size(size[0], size[1] + 90)
-        self.driver.save_screenshot(path)
+    def screenshot(self, path, height):
+        """The page from its top down to a height."""
+        clip = {"x": 0, "y": 0, "width": self.run("return innerWidth"), "height": height, "scale": 1}
+        answer = self.driver.execute_cdp_cmd("Page.captureScreenshot", {"clip": clip, "captureBeyondViewport": True})
+        with open(path, "wb") as file:
+            file.write(base64.b64decode(answer["data"]))
 
     def printed(self):
         """The page as a PDF on A4, and how many sheets of paper it takes."""

@@ -1,4 +1,4 @@
-"""Times check-catalogue on folders of random stores: python3 -m tests.measure NUMBER..., in the folder of the workbench.
+"""Times check-catalogue on folders of random stores: /usr/bin/python3 -m tests.measure NUMBER..., in the folder of the workbench.
 
 A tenth of the stores is damaged. The sheets are written in a first run, which is not timed.
 """
@@ -25,7 +25,7 @@ def stores(count):
 
 
 def timed(folder):
-    """The last line, the seconds and the greatest process in megabytes of one run."""
+    """The last line, the seconds, those of the processor with all that was started, and the greatest process in megabytes of one run."""
     start = time.monotonic()
     with tempfile.TemporaryFile() as out:
         child = subprocess.Popen([CHECK, folder], stdout=out)
@@ -33,12 +33,12 @@ def timed(folder):
         child.returncode = 0
         seconds = time.monotonic() - start
         out.seek(0)
-        return out.read().decode().splitlines()[-1], seconds, used.ru_maxrss / 1024
+        return out.read().decode().splitlines()[-1], seconds, used.ru_utime + used.ru_stime, used.ru_maxrss / 1024
 
 
 def main():
     if not sys.argv[1:] or not all(word.isdecimal() for word in sys.argv[1:]):
-        print("usage: python3 -m tests.measure NUMBER..., in the folder of the workbench", file=sys.stderr)
+        print("usage: /usr/bin/python3 -m tests.measure NUMBER..., in the folder of the workbench", file=sys.stderr)
         raise SystemExit(2)
     for count in map(int, sys.argv[1:]):
         with tempfile.TemporaryDirectory() as folder:
@@ -46,8 +46,8 @@ def main():
                 with open(os.path.join(folder, f"r{number:05d}.store"), "wb") as file:
                     file.write(store)
             subprocess.run([CHECK, folder, "--write"], stdout=subprocess.DEVNULL, check=False)
-            said, seconds, size = timed(folder)
-            print(f"{count} stores: {said}, {seconds:.1f} s, {size:.1f} MB")
+            said, seconds, work, size = timed(folder)
+            print(f"{count} stores: {said}, {seconds:.1f} s, {work:.1f} s of processor time, {size:.1f} MB", flush=True)
 
 
 if __name__ == "__main__":

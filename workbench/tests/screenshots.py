@@ -1,4 +1,4 @@
-"""Makes the pictures of the docs: python3 -m tests.screenshots, in the folder of the workbench."""
+"""Makes the pictures of the docs: /usr/bin/python3 -m tests.screenshots, in the folder of the workbench."""
 
 import os
 import tempfile
@@ -15,7 +15,7 @@ PICTURES = ("sweep-markers", False), ("ramp-nested", True), ("trigger-chase", Fa
 
 
 def main():
-    look = Browser(1400, 900)
+    look = Browser(1400, 2000)       # tall, so that no picture has to be scrolled
     with tempfile.TemporaryDirectory() as folder:
         for name, dark in PICTURES:
             path = os.path.join(folder, name + ".html")
@@ -23,8 +23,8 @@ def main():
             with open(path, "w", encoding="utf-8") as file:
                 file.write(routine_page(name, catalogue_texts(name), {"clock": 1e6, "words": words}))
             look.open(path, dark)
-            look.driver.set_window_size(1400, look.run("return document.querySelector('.listings').getBoundingClientRect().top") + 140)
-            look.screenshot(os.path.join(WORKBENCH, "docs", f"{name}-{'dark' if dark else 'light'}.png"), whole=False)
+            below = look.run("return document.querySelector('.listings').getBoundingClientRect().top")
+            look.screenshot(os.path.join(WORKBENCH, "docs", f"{name}-{'dark' if dark else 'light'}.png"), below - 4)
     look.close()
 
 

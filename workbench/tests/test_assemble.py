@@ -69,7 +69,7 @@ FAULTS = [
     (HEAD + "    return undef0\n", 3, 12, "a type from 1 to 255"),
     (HEAD + "    return c70000\n", 3, 12, "up to 65535"),
     (HEAD + "    return true,true,true,true,true\n", 3, 12, "found 5 values, expected 0 to 4"),
-    (HEAD + "    select bool true to a\n", 3, 5, "found 1 targets, expected 2 to 2"),
+    (HEAD + "    select bool true to a\n", 3, 5, "found 1 target, expected 2"),
     (HEAD + "    x = 7\n    return\n", 3, 5, "expected `: TYPE`"),
     (HEAD + "    7 : 256\n    return\n", 3, 9, "found type 256, expected 1 to 255"),
     (HEAD + "    7 cost 65536\n    return\n", 3, 12, "found cost 65536, expected 0 to 65535"),
@@ -87,9 +87,13 @@ FAULTS = [
     ("record entry a\nregion a in 1,1,1,1,1\nreturn\n", 2, 1, "found 5 inputs, expected 0 to 4"),
     ("record entry a\nregion a limit 0\nreturn\n", 2, 16, "found limit 0, expected 1 to 65535"),
     ("record entry a\nregion a in f:hz\nreturn\n", 2, 15, "a type"),
-    ("record entry a\nregion \u00e4\nreturn\n", 2, 8, "found `\u00e4`"),
+    ("record entry a\nregion \u00e4\nreturn\n", 2, 8, "found `\u00e4`, expected a name or a number"),
+    (HEAD + "    return;\n", 3, 11, "found `;`, expected a name, the end of the line, `-` or `undef`"),
     ("type hertz 2\nrecord entry a\nregion a in f:herz\nreturn\n", 3, 15, "near it: `hertz`"),
     (b"record entry a\nregion \xff\n", 2, 8, "expected text in UTF-8"),
+    (HEAD + "    return true,\n", 3, 17, "found the end of the source, expected a name or `undef`"),
+    ("a" * 9999, 1, 1, "found `" + "a" * 59 + "\N{HORIZONTAL ELLIPSIS}`, expected"),
+    ("#\n" * 131073, 1, 1, "found a source of more than 262,144 bytes, expected a shorter one"),
 ]
 
 
@@ -168,7 +172,7 @@ class RoundTrip(unittest.TestCase):
 class ExitsAuto(unittest.TestCase):
     @needs_show
     def test_the_lists_of_the_rust(self):
-        """loop-exits.txt has what LoopFinder itself finds in the stores of sheets.vectors (`tools/beside --lists`)."""
+        """loop-exits.txt has what LoopFinder itself finds in the stores of sheets.vectors (tests/loop_exits.py)."""
         with open(os.path.join(WORKBENCH, "tests", "loop-exits.txt"), encoding="ascii") as lines:
             found = [line.strip() for line in lines]
         compared = loops = 0

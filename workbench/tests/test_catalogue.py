@@ -1,12 +1,14 @@
 """The catalogue, and check-catalogue: the table, the comparison, the last line and the status."""
 
 import os
+import pty
 import re
 import shutil
+import subprocess
 import tempfile
 import unittest
 
-from .support import CATALOGUE, command, needs_nest, needs_show, programs
+from .support import CATALOGUE, WORKBENCH, command, needs_nest, needs_show, programs, vectors
 
 from rukvetta.assemble import assemble
 from rukvetta.facts import clock, duration
@@ -70,6 +72,23 @@ class Check(unittest.TestCase):
         row = next(line for line in lines if line.startswith("case-a"))
         self.assertEqual(row.split(), ["case-a", "whole", "11", "1.1", "µs", "8", "4", "71"])
 
+    def test_the_progress_line(self):
+        """On a terminal the rows come above a line that counts them."""
+        ours, theirs = pty.openpty()
+        done = subprocess.Popen([os.path.join(WORKBENCH, "check-catalogue"), CATALOGUE, "--programs", programs.folder],
+                                stdout=theirs, stderr=theirs, env={**os.environ, "TERM": "xterm", "COLUMNS": "120"})
+        os.close(theirs)
+        shown = b""
+        while True:
+            try:
+                shown += os.read(ours, 65536)
+            except OSError:         # the terminal's other end is closed
+                break
+        os.close(ours)
+        self.assertEqual(done.wait(), 0)
+        for said in "37/37", "two-tone-step     whole", "37 passed, 0 failed":
+            self.assertIn(said, shown.decode())
+
     def test_what_fails(self):
         self.copy("case-a.routine", "case-a.sheet", "case-b.routine", "monitor.routine", "monitor.sheet")
         self.put("case-a.sheet", read("case-a.sheet").replace(b"kids 0,3", b"kids 0,4"))
@@ -82,6 +101,16 @@ class Check(unittest.TestCase):
         for said in ("line 2 of the sheet is `region 0 in - kids 0,3 out n3.0`, expected `region 0 in - kids 0,4 out n3.0`",
                      "there is no case-b.sheet beside it", "line 3, column 1: found `retrun`", "refused 1 0"):
             self.assertIn(said, text)
+
+    def test_the_list_of_sheets(self):
+        """A folder with the 1,147 stores and sheets of the fixed list; one sheet is another."""
+        for number, (store, sheet) in enumerate(vectors("sheets.vectors")):
+            self.put(f"{number:04d}.store", store)
+            self.put(f"{number:04d}.sheet", sheet.encode() if number else b"refused 1 0\n")
+        status, out, said = command("check-catalogue", self.folder)
+        lines = out.decode().splitlines()
+        self.assertEqual((status, lines[-1], said), (1, "1146 passed, 1 failed", ""))
+        self.assertIn("expected `refused 1 0`", lines[2])
 
     def test_sheets_are_written_where_they_are_missing(self):
         self.put("a.store", assemble(read("case-a.routine"))[0])

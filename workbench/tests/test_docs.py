@@ -2,6 +2,8 @@
 
 import os
 import re
+import subprocess
+import tempfile
 import unittest
 
 from .support import CATALOGUE, WORKBENCH, command, needs_nest, needs_show, programs
@@ -17,6 +19,12 @@ def page(name):
 
 def blocks(kind):
     return re.findall(rf"```{kind}\n(.*?)```", page("docs/TEN-MINUTES.md"), re.S)
+
+
+def steps():
+    """The page's sources and its commands, in their order: a pair each, one of the two empty."""
+    text = re.sub(r"```(fault|explained|sheet)\n.*?```", "", page("docs/TEN-MINUTES.md"), flags=re.S)
+    return re.findall(r"```routine\n(.*?)```|^    (\S[^\n]*)$", text, re.S | re.M)
 
 
 class TenMinutes(unittest.TestCase):
@@ -35,8 +43,25 @@ class TenMinutes(unittest.TestCase):
         self.assertEqual((status, text.decode()), (1, blocks("explained")[0]))
 
     @needs_nest
-    def test_the_sheet(self):
-        self.assertEqual(programs.nest(assemble(blocks("routine")[-1].encode())[0]), blocks("sheet")[0])
+    def test_step_by_step(self):
+        """The whole page: each source is written down as it comes, each command run, and the sheet is the page's."""
+        with tempfile.TemporaryDirectory() as folder:
+            os.symlink(WORKBENCH, os.path.join(folder, "workbench"))
+            os.mkdir(os.path.join(folder, "target"))
+            os.symlink(os.path.abspath(programs.folder), os.path.join(folder, "target", "bin"))
+            printed = {}
+            for source, line in steps():
+                if source:
+                    with open(os.path.join(folder, "ping.routine"), "w", encoding="utf-8") as file:
+                        file.write(source)
+                else:
+                    done = subprocess.run(line, shell=True, cwd=folder, capture_output=True, check=False)
+                    self.assertEqual((done.returncode, done.stderr), (0, b""), line)
+                    printed[line] = done.stdout.decode()
+            self.assertEqual(len(printed), 8)
+            self.assertEqual(printed["target/bin/nest < ping.store"], blocks("sheet")[0])
+            self.assertIn("costs at most 204", printed["workbench/explain ping.routine"])
+            self.assertEqual(sorted(os.listdir(os.path.join(folder, "pings"))), ["ping.routine", "ping.sheet"])
 
 
 class Readme(unittest.TestCase):
@@ -44,6 +69,8 @@ class Readme(unittest.TestCase):
         text = page("README.md")
         self.assertIn(COMMAND, re.sub(r"\s+", " ", text.replace("\\\n", " ")))
         self.assertIn(f"{len(os.listdir(CATALOGUE)) // 2} routines", text)
+        count = unittest.defaultTestLoader.discover(os.path.join(WORKBENCH, "tests"), top_level_dir=WORKBENCH).countTestCases()
+        self.assertIn(f"runs all: {count} tests", text)
 
     def test_links_lead_somewhere(self):
         for name in "README.md", "docs/TEN-MINUTES.md", "docs/SOURCE-FORM.md":

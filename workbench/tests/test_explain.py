@@ -1,6 +1,7 @@
 """explain: a sentence with the place for each refusal, number and word as the proved program has them; summaries."""
 
 import os
+import re
 import tempfile
 import unittest
 
@@ -8,8 +9,9 @@ from .support import command, needs_nest, needs_show, programs, vectors
 from .test_assemble import SWEEP
 
 from rukvetta.assemble import assemble
-from rukvetta.explain import place_of
+from rukvetta.explain import explain, place_of
 from rukvetta.record import record_words
+from rukvetta.routine import Routine
 from rukvetta.store import store_of
 
 HEAD = "record entry a test 1 constants 2\n"
@@ -18,12 +20,16 @@ A = "region a in -\n"
 # A source, and what is said where the store that it gives is refused.
 REFUSALS = [
     ("record entry 3\n" + A + "return\n", "refused 6 0", "The entry is region 3; region 0 would be allowed"),
-    (HEAD + A + "7 (c1)\nreturn\n", "refused 6 0", "Region 0 reads c1 (block 0, instruction 0, read 0): the record has 1 constant."),
-    (HEAD + A + "7 (i0.0)\nreturn\n", "refused 6 0", "reads i0.0 (block 0, instruction 0, read 0): it has 0 inputs."),
+    (HEAD + A + "7 (c1)\nreturn\n", "refused 6 0",
+     "Region 0 reads c1 (block 0, instruction 0, read 0): the record has 1 constant; c0 would be allowed."),
+    (HEAD + A + "7 (i0.0)\nreturn\n", "refused 6 0",
+     "reads i0.0 (block 0, instruction 0, read 0): it has 0 inputs; none would be allowed."),
     (HEAD + A + "7 (i1.0)\nreturn\n", "refused 6 0", "only region 0's own inputs and outputs would be allowed, or a constant"),
-    (HEAD + A + "7 (d0.0) : 2\nreturn\n", "refused 6 0", "only an earlier instruction's output would be allowed"),
-    (HEAD + A + "7\n8 (d0.0)\nreturn\n", "refused 6 0", "that instruction has type 0 and no output"),
-    (HEAD + A + "7 (d0.5)\nreturn\n", "refused 6 0", "it has 1 instruction"),
+    (HEAD + A + "7 (d0.0) : 2\nreturn\n", "refused 6 0", "that instruction is no earlier one; none would be allowed."),
+    (HEAD + A + "7\n8 (d0.0)\nreturn\n", "refused 6 0", "that instruction has type 0 and no output; none would be allowed."),
+    (HEAD + A + "7 (d0.5)\nreturn\n", "refused 6 0", "it has 1 instruction; none would be allowed."),
+    (HEAD + A + "7 : 2\n" * 7 + "return d0.7\n", "refused 6 0", "it has 7 instructions; d0.0, d0.1 .. d0.6 would be allowed."),
+    (HEAD + A + "7 : 2\n8\n9 (d0.2)\nreturn\n", "refused 6 0", "that instruction is no earlier one; d0.0 would be allowed."),
     (HEAD + A + "branch to 7\n", "refused 6 0", "goes to region 7 (target 0); region 0 would be allowed"),
     (HEAD + A + "return\nregion b\nreturn\nexits 2\n", "refused 6 1", "Region 1 has region 2 in its exit list (exit 0); regions 0 to 1"),
     (HEAD + A + "select bool c0 to a, a\n", "refused 7 0", "has a boolean test of c0, which has type 2; type 1 would be allowed"),
@@ -124,6 +130,13 @@ class Missing(Explain):
 
 @needs_nest
 class Summaries(Explain):
+    def test_the_list_of_sheets(self):
+        """The first line is the program's, and that is the list's, on all 1,147 stores."""
+        for store, answer in vectors("sheets.vectors"):
+            sentences, status = explain(Routine("listed", store), programs)
+            self.assertEqual((sentences[0], status), (answer.split("\n")[0], 1 if answer.startswith("refused") else 0))
+            self.assertTrue(all(re.match(r"[A-Z].+\.\Z", sentence) for sentence in sentences[1:]), sentences)
+
     def test_outcomes(self):
         for source, said in (
                 (SWEEP, "It nests whole: 1 select, 1 loop and 0 exits, after 7 attempts of at most 19."),

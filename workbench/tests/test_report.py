@@ -41,13 +41,22 @@ class Page(unittest.TestCase):
         return path
 
     def linked(self):
-        """Every line of the sheet leads to a box, every box to a line."""
-        lines, boxes, lost = self.browser.run("""
+        """Every line of the sheet leads to a box that can be seen, every box to a line; no text stands out of its box."""
+        lines, boxes, lost, out = self.browser.run("""
             const rows = [...document.querySelectorAll('li[data-box]')], boxes = [...document.querySelectorAll('svg a.box')];
-            const there = id => document.getElementById(id) !== null;
-            return [rows.length, boxes.length, [...rows.map(r => r.dataset.box), ...boxes.map(b => b.getAttribute('href').slice(1))]
-                .filter(id => !there(id))]""")
-        self.assertEqual([], lost)
+            const seen = id => {
+                const size = (document.getElementById(id) || document.createElement('i')).getBoundingClientRect();
+                return size.width > 2 && size.height > 2;
+            };
+            const stands = (text, around) => {
+                const [a, b] = [text.getBBox(), around.getBBox()];
+                return a.x >= b.x - 1 && a.y >= b.y - 3 && a.x + a.width <= b.x + b.width + 1 && a.y + a.height <= b.y + b.height + 3;
+            };
+            return [rows.length, boxes.length,
+                [...rows.map(r => r.dataset.box), ...boxes.map(b => b.getAttribute('href').slice(1))].filter(id => !seen(id)),
+                [...document.querySelectorAll('svg a.box text, svg .note text')]
+                    .filter(text => !stands(text, text.parentNode.querySelector('rect'))).map(text => text.textContent)]""")
+        self.assertEqual(([], []), (lost, out))
         return lines, boxes
 
     def test_case_a(self):
@@ -147,18 +156,29 @@ class Page(unittest.TestCase):
         self.assertEqual(self.browser.run("return performance.getEntriesByType('resource').length"), 0)
 
     def test_paper(self):
-        for name in "case-a", "case-b", "sweep-stepped", "sweep-markers", "self-test", "trigger-chase", "ramp-nested":
+        for name in "case-a", "case-b", "sweep-stepped", "sweep-markers", "self-test", "trigger-chase", "ramp-nested", "front-panel":
             self.open(name, dark=True)
             self.assertEqual(self.browser.printed()[1], 1, name)
 
+    @needs_nest
     def test_the_whole_catalogue(self):
+        """By the command, with an index: each routine's page has the sheet that is checked in, line for line."""
         names = sorted(name[:-8] for name in os.listdir(CATALOGUE) if name.endswith(".routine"))
         self.assertGreaterEqual(len(names), 24)
-        for name in names:
+        index = os.path.join(self.folder.name, "all.html")
+        paths = [os.path.join(CATALOGUE, name + ".routine") for name in names]
+        self.assertEqual(command("report", *paths, "-o", index), (0, b"", ""))
+        self.assertEqual([], self.browser.open(index, True))
+        self.assertEqual(self.browser.texts("td a"), names)
+        links = self.browser.run("return [...document.querySelectorAll('td a')].map(a => a.href)")
+        for name, link in zip(names, links):
             with self.subTest(name=name):
-                self.open(name)
+                self.assertEqual([], self.browser.open(link.removeprefix("file://")))
                 self.linked()
                 self.assertEqual(self.browser.count(".legend.wrong"), 0)
+                sheet = self.browser.texts("[id^=line-]")
+                self.assertEqual("\n".join(sheet) + "\n", catalogue_texts(name)["sheet"])
+                self.assertEqual(self.browser.printed()[1], 1)
 
     def test_the_lists(self):
         """Every eighth sheet of the fixed list: all lines linked, and the shares add up to the program's figure."""

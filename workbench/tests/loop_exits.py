@@ -1,0 +1,21 @@
+"""Makes loop-exits.txt from the harness's answers, a line for each store; in the repository's folder, SOURCE as in beside/README.md:
+
+tools/beside --lists SOURCE < beside/lists/sheets.vectors | python3 workbench/tests/loop_exits.py > workbench/tests/loop-exits.txt
+"""
+
+import sys
+
+
+def main():
+    found = []
+    for line in map(str.strip, sys.stdin):
+        if line == ".":
+            print("; ".join(found) or "-")
+        elif line.startswith(("store", "wrong")):
+            found = []
+        else:
+            found.append(line)
+
+
+if __name__ == "__main__":
+    main()
