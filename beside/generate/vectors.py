@@ -7,10 +7,12 @@ def vector(store, answer, word="store"):
 
 
 def read_vectors(path):
-    """The stores of a vector file with their answers, but for those that are wrong on purpose."""
+    """The stores of a vector file with their answers, but for those that are wrong on purpose; ValueError if it is none."""
     with open(path) as lines:
         for line in lines:
             word, _, digits = line.rstrip("\n").partition(" ")
+            if word not in ("store", "wrong"):
+                raise ValueError("a vector begins with a line `store` or `wrong`")
             answer = ""
             for line in lines:
                 if line == ".\n":
