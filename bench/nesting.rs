@@ -5,7 +5,8 @@
 // rewrites the values at the end or prints. With printing: from the store's bytes to the text of the sheet, ours the proved routine that
 // `nest` calls, the Rust's with the harness's rewriting and printing. All six are timed in turns; a record's time is the median of its
 // turns. Where a second name is given, a file of that name gets a line for each record, in nanoseconds, for bench/plot.
-// `once ours FILE` and `once rust FILE` nest each record once, between calls of `marked`, for a count of instructions.
+// `once SIDE FILE` takes each record once through `marked`, for a count of instructions: ours and rust nest it, ours-text and rust-text go
+// from the store's bytes to the text.
 use spirt::cfg::beside::{Options, Timed, answer};
 use std::hint::black_box;
 use std::panic::{AssertUnwindSafe, catch_unwind, set_hook};
@@ -151,26 +152,28 @@ fn report(what: &str, times: &[&Times]) {
 // What a count of instructions takes in, and nothing else.
 #[unsafe(no_mangle)]
 #[inline(never)]
-fn marked(side: &str, rust: &mut Timed, words: &mut [u16]) {
+fn marked(side: &str, store: &[u8], rust: &mut Timed, words: &mut [u16], lent: &mut Lent) {
     match side {
         "ours" => drop(black_box(ours(words))),
-        _ => drop(black_box(rust.nest())),
+        "rust" => drop(black_box(rust.nest())),
+        "ours-text" => drop(black_box(printed(store, words, lent))),
+        _ => drop(black_box(answer(store, Options::default()))),
     }
 }
 
-fn once(side: &str, store: &[u8], words: &mut [u16]) {
+fn once(side: &str, store: &[u8], words: &mut [u16], lent: &mut Lent) {
     accepted(store, words);
-    marked(side, &mut Timed::new(store).unwrap(), words);
+    marked(side, store, &mut Timed::new(store).unwrap(), words, lent);
 }
 
 fn main() {
     let args: Vec<String> = std::env::args().skip(1).collect();
     let args: Vec<&str> = args.iter().map(|a| &**a).collect();
     let (side, path, each) = match args[..] {
-        ["once", side @ ("ours" | "rust"), path] => (side, path, None),
+        ["once", side @ ("ours" | "rust" | "ours-text" | "rust-text"), path] => (side, path, None),
         [path] => ("", path, None),
         [path, each] => ("", path, Some(each)),
-        _ => fail("usage: nesting [once ours | once rust] VECTORS [TIMES]"),
+        _ => fail("usage: nesting [once ours | once rust | once ours-text | once rust-text] VECTORS [TIMES]"),
     };
     set_hook(Box::new(|_| ()));
     let mut words = lent();
@@ -178,12 +181,12 @@ fn main() {
     if stores.is_empty() {
         fail("no record that both nest");
     }
+    let mut lent = Lent { sheet: vec![0; 16384], lines: vec![0; 1 << 20] };
     if !side.is_empty() {
-        stores.iter().for_each(|(_, store)| once(side, store, &mut words));
+        stores.iter().for_each(|(_, store)| once(side, store, &mut words, &mut lent));
         println!("{} records", stores.len());
         return;
     }
-    let mut lent = Lent { sheet: vec![0; 16384], lines: vec![0; 1 << 20] };
     if let Some((number, _)) = stores.iter().find(|(_, store)| !same_text(store, &mut words, &mut lent)) {
         fail(&format!("the texts differ on store {number}"));
     }
