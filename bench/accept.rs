@@ -1,5 +1,6 @@
 // How long a full store takes to load, read and check, as a ratio to summing its bytes once.
-// Both are timed in turns within one run, on the same bytes; the median of the turns' ratios is printed.
+// Both are timed in turns within one run, on the same bytes. Printed are the median of the turns' ratios, and the least times with
+// theirs, which other work on the machine disturbs less.
 use std::hint::black_box;
 use std::time::Instant;
 
@@ -20,6 +21,15 @@ const fn number(digits: &[u8]) -> usize {
     n
 }
 
+fn fail(sentence: &str) -> ! {
+    eprintln!("accept: {sentence}");
+    std::process::exit(2);
+}
+
+fn bytes(hex: &str) -> Option<Vec<u8>> {
+    (0..hex.len()).step_by(2).map(|at| u8::from_str_radix(hex.get(at..at + 2)?, 16).ok()).collect()
+}
+
 // The longest store of a vector file whose answer is no refusal.
 fn full_store(vectors: &str) -> Vec<u8> {
     let mut best = Vec::new();
@@ -28,7 +38,7 @@ fn full_store(vectors: &str) -> Vec<u8> {
         let Some(hex) = line.strip_prefix("store ") else { continue };
         let accepted = lines.next().is_some_and(|answer| !answer.starts_with("refused"));
         if accepted && hex.len() / 2 > best.len() {
-            best = (0..hex.len() / 2).map(|i| u8::from_str_radix(&hex[2 * i..2 * i + 2], 16).unwrap()).collect();
+            best = bytes(hex).unwrap_or_else(|| fail("a store that is not hexadecimal"));
         }
     }
     best
@@ -54,11 +64,10 @@ fn median(list: &mut [f64]) -> f64 {
 }
 
 fn main() {
-    let path = std::env::args().nth(1).expect("a vector file");
-    let store = full_store(&std::fs::read_to_string(path).unwrap());
+    let path = std::env::args().nth(1).unwrap_or_else(|| fail("usage: accept VECTORS"));
+    let store = full_store(&std::fs::read_to_string(path).unwrap_or_else(|_| fail("the vector file can't be read")));
     if store.is_empty() {
-        eprintln!("accept: the list has no store that is accepted");
-        std::process::exit(2);
+        fail("the list has no store that is accepted");
     }
     let mut words = vec![0u16; WORDS];
     let (mut accepts, mut sums) = (Vec::new(), Vec::new());
@@ -71,5 +80,7 @@ fn main() {
     }
     let ratio = median(&mut accepts.iter().zip(&sums).map(|(a, b)| a / b).collect::<Vec<_>>());
     println!("{} bytes: accept takes as long as {:.1} sums of the bytes", store.len(), ratio);
-    println!("accept {:.0} ns, sum {:.0} ns", median(&mut accepts), median(&mut sums));
+    println!("median: accept {:.0} ns, sum {:.0} ns", median(&mut accepts), median(&mut sums));
+    // median has sorted them
+    println!("least: accept {:.0} ns, sum {:.0} ns, {:.1} sums", accepts[0], sums[0], accepts[0] / sums[0]);
 }

@@ -5,7 +5,8 @@
 // rewrites the values at the end or prints. With printing: from the store's bytes to the text of the sheet, ours the proved routine that
 // `nest` calls, the Rust's with the harness's rewriting and printing. All six are timed in turns; a record's time is the median of its
 // turns. Where a second name is given, a file of that name gets a line for each record, in nanoseconds, for bench/plot.
-// `once ours FILE` and `once rust FILE` nest each record once, between calls of `marked`, for a count of instructions.
+// `once SIDE FILE` takes each record once through `marked`, for a count of instructions: ours and rust nest it, ours-text and rust-text go
+// from the store's bytes to the text.
 use spirt::cfg::beside::{Options, Timed, answer};
 use std::hint::black_box;
 use std::panic::{AssertUnwindSafe, catch_unwind, set_hook};
@@ -31,12 +32,14 @@ fn lent() -> Vec<u16> {
     vec![0; words.unwrap_or_else(|_| fail("WORDS is a number"))]
 }
 
-fn stores(path: &str) -> Vec<Vec<u8>> {
+// Each store with its number in the file, from 1.
+fn stores(path: &str) -> Vec<(usize, Vec<u8>)> {
     let text = std::fs::read_to_string(path).unwrap_or_else(|_| fail("the vector file can't be read"));
     let byte = |hex: &str, i: usize| u8::from_str_radix(hex.get(2 * i..2 * i + 2)?, 16).ok();
     let bytes = |hex: &str| (0..hex.len().div_ceil(2)).map(|i| byte(hex, i)).collect::<Option<Vec<u8>>>();
     let hex = text.lines().filter_map(|line| line.strip_prefix("store "));
-    hex.map(|hex| bytes(hex.trim()).unwrap_or_else(|| fail("a store that is not hexadecimal"))).collect()
+    let stores = hex.map(|hex| bytes(hex.trim()).unwrap_or_else(|| fail("a store that is not hexadecimal")));
+    (1..).zip(stores).collect()
 }
 
 fn accepted(store: &[u8], words: &mut [u16]) -> bool {
@@ -97,9 +100,13 @@ fn median(mut list: Vec<f64>) -> f64 {
 }
 
 // Nanoseconds: ours and the Rust's, nesting alone; then with reading; then with printing too.
-struct Times([f64; 6]);
+struct Times {
+    number: usize,
+    regions: usize,
+    took: [f64; 6],
+}
 
-fn timed(store: &[u8], words: &mut [u16], lent: &mut Lent) -> Times {
+fn timed(number: usize, store: &[u8], words: &mut [u16], lent: &mut Lent) -> Times {
     let mut turns = [const { Vec::new() }; 6];
     for _ in 0..TURNS {
         accepted(store, words);
@@ -115,7 +122,7 @@ fn timed(store: &[u8], words: &mut [u16], lent: &mut Lent) -> Times {
         turns[4].push(time(|| printed(store, words, lent)));
         turns[5].push(time(|| answer(store, Options::default())));
     }
-    Times(turns.map(median))
+    Times { number, regions: Timed::new(store).unwrap().regions(), took: turns.map(median) }
 }
 
 fn worst(list: &[f64]) -> f64 {
@@ -125,66 +132,74 @@ fn worst(list: &[f64]) -> f64 {
 fn report(what: &str, times: &[&Times]) {
     println!("{what}: {} records", times.len());
     for (name, at) in [("nesting alone", 0), ("with reading", 2), ("with reading and printing", 4)] {
-        let side = |k: usize| times.iter().map(|t| t.0[at + k]).collect::<Vec<_>>();
+        let side = |k: usize| times.iter().map(|t| t.took[at + k]).collect::<Vec<_>>();
         let told = |list: Vec<f64>| format!("median {:.2} µs, worst {:.2} µs", median(list.clone()) / 1e3, worst(&list) / 1e3);
-        let ratios: Vec<f64> = times.iter().map(|t| t.0[at] / t.0[at + 1]).collect();
+        let ratio = |t: &&Times| t.took[at] / t.took[at + 1];
+        let ratios: Vec<f64> = times.iter().map(ratio).collect();
+        let of = times.iter().max_by(|a, b| ratio(a).total_cmp(&ratio(b))).unwrap();
         let sums: f64 = side(0).iter().sum::<f64>() / side(1).iter().sum::<f64>();
         println!("  {name}: ours {}; the Rust {}", told(side(0)), told(side(1)));
-        println!("    ratio: median {:.3}, worst {:.3}, of the sums {sums:.3}", median(ratios.clone()), worst(&ratios));
+        println!(
+            "    ratio: median {:.3}, worst {:.3} (store {}, {} regions), of the sums {sums:.3}",
+            median(ratios.clone()),
+            worst(&ratios),
+            of.number,
+            of.regions
+        );
     }
 }
 
 // What a count of instructions takes in, and nothing else.
 #[unsafe(no_mangle)]
 #[inline(never)]
-fn marked(side: &str, rust: &mut Timed, words: &mut [u16]) {
+fn marked(side: &str, store: &[u8], rust: &mut Timed, words: &mut [u16], lent: &mut Lent) {
     match side {
         "ours" => drop(black_box(ours(words))),
-        _ => drop(black_box(rust.nest())),
+        "rust" => drop(black_box(rust.nest())),
+        "ours-text" => drop(black_box(printed(store, words, lent))),
+        _ => drop(black_box(answer(store, Options::default()))),
     }
 }
 
-fn once(side: &str, store: &[u8], words: &mut [u16]) {
+fn once(side: &str, store: &[u8], words: &mut [u16], lent: &mut Lent) {
     accepted(store, words);
-    marked(side, &mut Timed::new(store).unwrap(), words);
+    marked(side, store, &mut Timed::new(store).unwrap(), words, lent);
 }
 
 fn main() {
     let args: Vec<String> = std::env::args().skip(1).collect();
     let args: Vec<&str> = args.iter().map(|a| &**a).collect();
     let (side, path, each) = match args[..] {
-        ["once", side @ ("ours" | "rust"), path] => (side, path, None),
+        ["once", side @ ("ours" | "rust" | "ours-text" | "rust-text"), path] => (side, path, None),
         [path] => ("", path, None),
         [path, each] => ("", path, Some(each)),
-        _ => fail("usage: nesting [once ours | once rust] VECTORS [TIMES]"),
+        _ => fail("usage: nesting [once ours | once rust | once ours-text | once rust-text] VECTORS [TIMES]"),
     };
     set_hook(Box::new(|_| ()));
     let mut words = lent();
-    let stores: Vec<Vec<u8>> = stores(path).into_iter().filter(|store| both(store, &mut words)).collect();
+    let stores: Vec<(usize, Vec<u8>)> = stores(path).into_iter().filter(|(_, store)| both(store, &mut words)).collect();
     if stores.is_empty() {
         fail("no record that both nest");
     }
+    let mut lent = Lent { sheet: vec![0; 16384], lines: vec![0; 1 << 20] };
     if !side.is_empty() {
-        stores.iter().for_each(|store| once(side, store, &mut words));
+        stores.iter().for_each(|(_, store)| once(side, store, &mut words, &mut lent));
         println!("{} records", stores.len());
         return;
     }
-    let mut lent = Lent { sheet: vec![0; 16384], lines: vec![0; 1 << 20] };
-    if let Some(store) = stores.iter().find(|store| !same_text(store, &mut words, &mut lent)) {
-        fail(&format!("the texts differ on the store that begins {:02x?}", &store[..store.len().min(64)]));
+    if let Some((number, _)) = stores.iter().find(|(_, store)| !same_text(store, &mut words, &mut lent)) {
+        fail(&format!("the texts differ on store {number}"));
     }
-    let times: Vec<Times> = stores.iter().map(|store| timed(store, &mut words, &mut lent)).collect();
+    let times: Vec<Times> = stores.iter().map(|(number, store)| timed(*number, store, &mut words, &mut lent)).collect();
     if let Some(each) = each {
         let mut lines = format!("regions\t{}\n", COLUMNS.join("\t"));
-        for (store, Times(took)) in stores.iter().zip(&times) {
-            let took = took.map(|t| t.to_string()).join("\t");
-            lines += &format!("{}\t{took}\n", Timed::new(store).unwrap().regions());
+        for Times { regions, took, .. } in &times {
+            lines += &format!("{regions}\t{}\n", took.map(|t| t.to_string()).join("\t"));
         }
         std::fs::write(each, lines).unwrap_or_else(|_| fail("the file of times can't be written"));
     }
     report("all", &times.iter().collect::<Vec<_>>());
-    let large = |store: &Vec<u8>| Timed::new(store).unwrap().regions() == 32;
-    let large: Vec<&Times> = stores.iter().zip(&times).filter(|(s, _)| large(s)).map(|(_, t)| t).collect();
+    let large: Vec<&Times> = times.iter().filter(|t| t.regions == 32).collect();
     if !large.is_empty() && large.len() < times.len() {
         report("of 32 regions", &large);
     }

@@ -1,7 +1,6 @@
-"""Stores as bytes, for bench/sizes: python3 packed.py VECTORS.. > PACKED
+"""Stores as bytes, each led by three bytes of its length: python3 packed.py WHAT.. > PACKED
 
-Two records of 32 regions that nest deepest, a chain of branches and a chain of selects; then the stores of vector files. Each is
-led by three bytes of its length.
+WHAT is the name of a vector file, or `chains`: the three records of 32 regions that nest deepest (generate.large).
 """
 
 import pathlib
@@ -14,12 +13,23 @@ from generate.large import chains                   # noqa: E402  (found by the 
 from generate.vectors import read_vectors           # noqa: E402
 
 
-def main(paths):
-    for store in [*chains(), *(store for path in paths for store, _ in read_vectors(path))]:
-        sys.stdout.buffer.write(len(store).to_bytes(3, "little") + store)
+def packed(store):
+    return len(store).to_bytes(3, "little") + store
+
+
+def stores(names):
+    """The stores that are named; a sentence and status 2 where a file is no vector file."""
+    for name in names:
+        try:
+            yield from chains() if name == "chains" else (store for store, _ in read_vectors(name))
+        except (OSError, ValueError) as error:
+            print(f"{name} is no vector file: {error}", file=sys.stderr)
+            sys.exit(2)
 
 
 if __name__ == "__main__":
     if not sys.argv[1:]:
-        sys.exit(__doc__)
-    main(sys.argv[1:])
+        print(__doc__, file=sys.stderr)
+        sys.exit(2)
+    for each in stores(sys.argv[1:]):
+        sys.stdout.buffer.write(packed(each))

@@ -1,5 +1,6 @@
 /*
  * The deepest stack of rukvetta_accept and rukvetta_nest over the stores on standard input: for each 3 bytes of its length, then its bytes.
+ * With arguments the first stores are told one by one, under these names.
  * The stack below is painted before each call; how far the paint is gone afterwards is how deep the call went, its return address and all.
  */
 #include "rukvetta.h"
@@ -28,21 +29,35 @@ static uint32_t sheet[2 * RUKVETTA_USUAL_LENT];
         if ((size_t)(sp - p) * 8 > (deepest)) (deepest) = (size_t)(sp - p) * 8;      \
     } while (0)
 
-int main(void)
+static void tell(const char *name, size_t accepting, size_t nesting)
 {
-    size_t accepting = 0, nesting = 0, stores = 0;
+    printf("stack, %s: accept %zu bytes, nest %zu bytes\n", name, accepting, nesting);
+}
+
+int main(int names, char **name)
+{
+    size_t accepting = 0, nesting = 0;
+    int stores = 0;
     uint8_t lead[3];
+    char all[40];
 
     while (fread(lead, 1, 3, stdin) == 3) {
-        size_t length = lead[0] | lead[1] << 8 | (size_t)lead[2] << 16;
+        size_t length = lead[0] | lead[1] << 8 | (size_t)lead[2] << 16, accept = 0, nest = 0;
         if (fread(bytes, 1, length, stdin) != length) {
             fprintf(stderr, "stack: the list ends within a store\n");
             return 2;
         }
-        DEPTH(rukvetta_accept(bytes, length, words), accepting);
-        DEPTH(rukvetta_nest(bytes, length, words, sheet, 2 * RUKVETTA_USUAL_LENT), nesting);
-        stores++;
+        DEPTH(rukvetta_accept(bytes, length, words), accept);
+        DEPTH(rukvetta_nest(bytes, length, words, sheet, 2 * RUKVETTA_USUAL_LENT), nest);
+        if (++stores < names) {
+            tell(name[stores], accept, nest);
+            continue;
+        }
+        if (accept > accepting) accepting = accept;
+        if (nest > nesting) nesting = nest;
     }
-    printf("stack: accept %zu bytes, nest %zu bytes, deepest over %zu stores\n", accepting, nesting, stores);
+    if (stores < names) return 0;
+    snprintf(all, sizeof all, "the deepest of %d other stores", stores - names + 1);
+    tell(all, accepting, nesting);
     return 0;
 }

@@ -1,6 +1,6 @@
 // Takes each store of a list that is accepted through accept, nesting, and the whole from its bytes to its sheet's words. A line for each:
-// the outcome, a digest of the state after nesting and of the sheet, the bytes of stack below the three calls, by paint, and on the board
-// their instructions; on x86-64 the same file gives 0 for these.
+// the outcome, a digest of the state after nesting and of the sheet, how many words the sheet has (0 where there is none), the bytes of
+// stack below the three calls, by paint, and on the board their instructions; on x86-64 the same file gives 0 for these.
 // A list: for each store 3 bytes of length, then its bytes, packed, so that they begin at any address; 0xffffff ends it.
 #include <stdint.h>
 
@@ -9,7 +9,7 @@ uint32_t measured_accept(const uint8_t *bytes, uint64_t length, uint16_t *words)
 uint32_t measured_nest(uint16_t *words);
 uint32_t measured_sheet(const uint8_t *bytes, uint64_t length, uint16_t *words, uint32_t *out, uint64_t room);
 
-enum { BLANK = 0xa5a5, ROOM = 4096 };
+enum { BLANK = 0xa5a5 };
 static uint16_t words[WORDS];
 static uint32_t out[ROOM];
 
@@ -79,6 +79,7 @@ int main(void) {
         for (uint32_t i = 0; i < sheet; i++) digested(out[i]);
         put_number(outcome, ' ');
         put_number(digest, ' ');
+        put_number(sheet, ' ');
         for (int k = 0; k < 3; k++) put_number(deep[k], ' ');
         for (int k = 0; k < 3; k++) put_number(took[k], k < 2 ? ' ' : '\n');
     }

@@ -1,28 +1,27 @@
-"""pack.py OUT VECTORS..: case A, then the stores of vector files, packed into OUT/list.0 and on, each no longer than the board's flash."""
+"""pack.py OUT VECTORS..: case A, three chains of 32 regions, then the stores of vector files, packed into OUT/list.00 and on, each no
+longer than the board's flash."""
 import pathlib
 import sys
 
 FLASH = 896 * 1024
-root = pathlib.Path(__file__).resolve().parents[2]
+ROOT = pathlib.Path(__file__).resolve().parents[2]
+sys.path.insert(0, str(ROOT / "bench"))
 
-
-def stores(vectors):
-    for line in pathlib.Path(vectors).read_text().splitlines():
-        if line.startswith("store "):
-            yield bytes.fromhex(line[6:])
+from packed import packed, stores       # noqa: E402  (found by the line above)
 
 
 def main(out, *files):
     lists = [b""]
-    for store in [(root / "crates/show/stdin").read_bytes(), *(s for f in files for s in stores(f))]:
-        item = len(store).to_bytes(3, "little") + store
+    for store in [(ROOT / "crates/show/stdin").read_bytes(), *stores(["chains", *files])]:
+        item = packed(store)
         if len(lists[-1]) + len(item) + 3 > FLASH:
             lists.append(b"")
         lists[-1] += item
-    for number, packed in enumerate(lists):
-        (pathlib.Path(out) / f"list.{number}").write_bytes(packed + b"\xff\xff\xff")
+    for number, whole in enumerate(lists):
+        (pathlib.Path(out) / f"list.{number:02}").write_bytes(whole + b"\xff\xff\xff")
 
 
-if len(sys.argv) < 3:
-    sys.exit("usage: pack.py OUT VECTORS..")
-main(*sys.argv[1:])
+if __name__ == "__main__":
+    if len(sys.argv) < 3:
+        sys.exit("usage: pack.py OUT VECTORS..")
+    main(*sys.argv[1:])

@@ -2,29 +2,35 @@
 
     python3 -m generate.large SEED COUNT > VECTORS
 
-First a chain of 32 regions, each with a block and its branch to the next, and a chain of 31
-selects, each of whose cases is the next region or the last: they nest deepest. Then COUNT random
-records with 32 regions, as generate.compare makes them.
+First three records that nest deepest: a chain of regions, each with a block and its branch to the
+next; a chain of 30 selects, each of whose cases is the next region or the last; a chain of 30
+selects of four cases, each with a block, the last case being the next region and the others the
+last. Then COUNT random records with 32 regions, as generate.compare makes them.
 """
 
 import itertools
-import sys
 
-from reading.record import BRANCH, CONST, IF, TRUE, Inst, words_of
+from reading.record import BRANCH, CONST, IF, SWITCH, TRUE, Inst, words_of
 from reading.store import pack
+from .arguments import arguments, number
 from .records import records
 from .stores import only, plain
 
 REGIONS = 32
+BLOCK = [[Inst(7, 0, 1, [])]]
+
+
+def link(kind, targets, **more):
+    """A region of a chain, which passes nothing on."""
+    return plain(kind=kind, targets=targets, passed={target: [] for target in targets}, **more)
 
 
 def chains():
     last = REGIONS - 1
-    yield only(*[plain(kind=BRANCH, blocks=[[Inst(7, 0, 1, [])]], targets=[at + 1], passed={at + 1: []})
-                 for at in range(last)], plain())
-    yield only(*[plain(kind=IF, values=[TRUE], targets=[at + 1, last], passed={at + 1: [], last: []})
-                 for at in range(last - 1)],
-               plain(kind=BRANCH, targets=[last], passed={last: []}), plain())
+    yield only(*[link(BRANCH, [at + 1], blocks=BLOCK) for at in range(last)], plain())
+    yield only(*[link(IF, [at + 1, last], values=[TRUE]) for at in range(last - 1)], link(BRANCH, [last]), plain())
+    yield only(*[link(SWITCH, [last] * 3 + [at + 1], values=[(CONST, 0, 0)], blocks=BLOCK) for at in range(last - 1)],
+               link(BRANCH, [last]), plain(), constants=[2])
 
 
 def main(seed, count):
@@ -35,4 +41,4 @@ def main(seed, count):
 
 
 if __name__ == "__main__":
-    main(int(sys.argv[1]), int(sys.argv[2]))
+    main(*arguments(__doc__, number, number))

@@ -7,11 +7,16 @@ def vector(store, answer, word="store"):
     return f"{word} {store.hex()}\n{answer}.\n"
 
 
+WORDS = ("store", "wrong", "nest", "wrong-nest")
+
+
 def all_vectors(path):
-    """The word, the store and the answer of every vector of a file."""
+    """The word, the store and the answer of every vector of a file; ValueError if it is none."""
     with open(path) as lines:
         for line in lines:
             word, _, digits = line.rstrip("\n").partition(" ")
+            if word not in WORDS:
+                raise ValueError("a vector begins with a line `store`, `wrong`, `nest` or `wrong-nest`")
             answer = ""
             for line in lines:
                 if line == ".\n":

@@ -1,0 +1,55 @@
+"""summary.py NAME < LINES                      what the lines of main.c show: the first is case A's, the next three are the chains'
+summary.py --room STATE BOARD < LINES           how many words of a sheet have room on the board beside the state and the deepest stack
+summary.py --budget STATE BOARD WORDS < LINES   where the board's bytes go; WORDS are lent for the sheet
+"""
+import statistics
+import sys
+
+CALLS = "accept", "nesting", "whole"
+OTHER = 256     # bytes for the caller's own frame, and for an interrupt's
+
+
+class Line:
+    def __init__(self, text):
+        numbers = [int(word) for word in text.split()]
+        self.sheet, self.stack, self.took = numbers[2], numbers[3:6], numbers[6:9]
+
+
+def deepest(lines):
+    return max(line.stack[2] for line in lines)
+
+
+def table(name, lines):
+    print(f"{name}, {len(lines):,} records")
+    print("             stack: case A, branches, selects, of four cases,   others | instructions: case A,    median,     worst")
+    for place, call in enumerate(CALLS):
+        stack = [line.stack[place] for line in lines]
+        took = [line.took[place] for line in lines]
+        counted = f"{took[0]:20,} {statistics.median_high(took):10,} {max(took):10,}" if any(took) else "not counted"
+        print(f"  {call:8} {stack[0]:13,} {stack[1]:9,} {stack[2]:8,} {stack[3]:14,} {max(stack[4:], default=0):8,} | {counted}")
+
+
+def budget(lines, state, board, words):
+    stack = deepest(lines)
+    left = board - state - stack - OTHER
+    fit = sum(state + line.stack[2] + OTHER + 4 * line.sheet <= board for line in lines if line.sheet)
+    print(f"  {board:,} bytes: state {state:,}, deepest stack {stack:,}, caller {OTHER:,}, " +
+          (f"left for the sheet {left:,}, {words:,} words" if left > 0 else f"{-left:,} too many even without a sheet"))
+    print(f"  records for which state, own stack, caller and own sheet are no more than that: "
+          f"{fit:,} of the {sum(line.sheet > 0 for line in lines):,} that have a sheet")
+
+
+def main(what, *given):
+    lines = [Line(text) for text in sys.stdin]
+    numbers = [int(word) for word in given]
+    if what == "--room":
+        state, board = numbers
+        print((board - state - deepest(lines) - OTHER) // 4)
+    elif what == "--budget":
+        budget(lines, *numbers)
+    else:
+        table(what, lines)
+
+
+if __name__ == "__main__":
+    main(*sys.argv[1:])

@@ -1,0 +1,26 @@
+"""page.py FOLDER PAGE: puts what was measured into a page.
+
+Between a line `<!-- measured: NAME -->` and the next line `<!-- end -->` stands what FOLDER/NAME.txt has: a table as it is, anything else
+as a block of text.
+"""
+
+import pathlib
+import re
+import sys
+
+BLOCK = re.compile(r"(<!-- measured: (\w+) -->\n).*?(<!-- end -->\n)", re.DOTALL)
+
+
+def main(folder, page):
+    def block(found):
+        text = (pathlib.Path(folder) / f"{found[2]}.txt").read_text(encoding="utf-8")
+        return found[1] + (f"\n{text}\n" if text.startswith("|") else f"\n```text\n{text}```\n\n") + found[3]
+
+    path = pathlib.Path(page)
+    path.write_text(BLOCK.sub(block, path.read_text(encoding="utf-8")), encoding="utf-8")
+
+
+if __name__ == "__main__":
+    if len(sys.argv) != 3:
+        sys.exit("usage: page.py FOLDER PAGE")
+    main(*sys.argv[1:])
