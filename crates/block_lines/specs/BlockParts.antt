@@ -12,10 +12,10 @@ use Rattle.nesting.specs.Nesting.{NestState, plain, look-up-node, look-up-reads
 use Rattle.nesting.specs.Sheet as sheet
 use Rattle.writing.specs.declared.place.Place.{Place}
 use Rattle.writing.specs.Puts.{Part, _⊕_, Puts, puts-as}
-use Rattle.writing.specs.Rows.{run, run-all}
+use Rattle.writing.specs.laws.Rows.{run, run-all}
 use Rattle.writing.specs.Parts.{output-nodes, look-up-at-end, values-part, node-part, nodes-part, node-words}
 use Rattle.meaning.specs.facts.Numbers.{one-further}
-use Rattle.writing.specs.PartLaws.{no-nodes-part, first-node-part, each-from}
+use Rattle.writing.specs.laws.PartLaws.{no-nodes-part, first-node-part, each-from}
 use Rattle.block_lines.specs.Sums.{instructions-before}
 
 module _ (s : NestState) where

@@ -1,4 +1,3 @@
 pub mod Sums
 pub mod BlockParts
-pub mod RecordNames
-pub mod Exits
+pub mod laws

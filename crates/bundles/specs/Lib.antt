@@ -1,10 +1,2 @@
 pub mod Words
-pub mod Paths
-pub mod Targets
-pub mod ReadTypes
-pub mod RecordValues
-pub mod Deferred
-pub mod CaseSteps
-pub mod CasesFilled
-pub mod SplitFilled
-pub mod Appended
+pub mod laws

@@ -9,7 +9,8 @@ use Rattle.meaning.specs.Lists.{pick}
 use Rattle.fields.specs.ByNumber.{end-values, edge-of}
 use Rattle.state.specs.declared.cases.Case.{Case}
 use Rattle.state.specs.Sections.{word, stored, stored-all, head, children, bodies, set-starts, set-lengths, cases, bundles}
-use Rattle.state.specs.Tables.{bundle-at, own-edge, input-word, taken-word, case-words, copied, shift-removed, swapped, inserted, Joins}
+use Rattle.state.specs.Tables.{bundle-at, own-edge, input-word, taken-word, case-words, bundle-copied, shift-removed}
+use Rattle.state.specs.Tables.{swapped, inserted, Joins}
 use Rattle.state.specs.Values as state
 
 -- ---- Targets.
@@ -110,6 +111,6 @@ pub data Appends (l l′ : List ℕ) (r : ℕ) (x : Case) (j : ℕ) : Type 0 whe
   appended : {l₂ : List ℕ} {h : ℕ} → x .kind ≡ 2
       → Joins (inserted l (x .body) 1 (case-inputs l j)) l₂ (word (inserted l (x .body) 1 (case-inputs l j)) children r) (x .children) h
       → l′ ≡ stored (swapped (stored l₂ children r h) r (x .origin)) set-lengths r (x .length) → Appends l l′ r x j
-  its-edge : x .kind ≡ 1 → l′ ≡ stored (copied l (bundle-at (word l set-starts r) 0) (x .start)) set-lengths r (x .length)
+  its-edge : x .kind ≡ 1 → l′ ≡ stored (bundle-copied l (bundle-at (word l set-starts r) 0) (x .start)) set-lengths r (x .length)
       → Appends l l′ r x j
   its-rest : (x .kind ≡ 2 → ⊥) → (x .kind ≡ 1 → ⊥) → l′ ≡ stored l set-lengths r (x .length) → Appends l l′ r x j

@@ -23,13 +23,13 @@ use Rattle.state.specs.Tables.{Adds, Defines, bundle-at, case-row}
 use Rattle.state.specs.Values.{value-word}
 use Rattle.bundles.specs.Words.{condition-in, return-deferred, cases-filled, split-filled, Appends}
 use Rattle.shown.specs.Front.{SameKinds, stands-kept, kinds-stored, kinds-then, adds-kinds}
-use Rattle.cfg.specs.Leaves.{cases-kinds, split-kinds}
+use Rattle.cfg.specs.laws.Leaves.{cases-kinds, split-kinds}
 use Rattle.state.specs.declared.defined.Made.{Made}
 use Rattle.state.specs.declared.defined.Made.the-variants.{Done, Full}
 use Rattle.selects.specs.declared.define.Scrutinee.the-variants as scrutinee
 use Rattle.selects.specs.Into.{StructurizesInto}
 use Rattle.cfg.specs.ByState.{backedge-at}
-use Rattle.shown.specs.CellSteps.{blocks-cell, exit-cell}
+use Rattle.shown.specs.laws.CellSteps.{blocks-cell, exit-cell}
 use Rattle.nesting.specs.Nesting.{most-nodes}
 
 pub data AddsBlocks (g : Graph) (w : List ℕ) (r : ℕ) (w′ : List ℕ) : Type 0 where

@@ -14,7 +14,7 @@ use Rattle.state.specs.Sections.{word, bundles, set-starts, set-lengths}
 use Rattle.state.specs.Tables.{bundle-at}
 use Rattle.shown.specs.Front.{stands-on}
 use Rattle.start.specs.Words.{started}
-use Rattle.start.specs.Started.{started-front}
+use Rattle.start.specs.laws.Started.{started-front}
 use Rattle.cfg.specs.declared.claim.Claim as code
 use Rattle.cfg.specs.declared.claim.Claim.the-variants as claim
 use Rattle.cfg.specs.declared.func.Nested.{Nested}

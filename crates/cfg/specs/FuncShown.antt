@@ -31,19 +31,19 @@ use Rattle.shown.specs.Front.{SameFront, front-then, stands-on}
 use Rattle.shown.specs.Sets.{ShowsTarget, shows-region, shows-return}
 use Rattle.shown.specs.States.{ShowsState, ShowsBody, ShowsOwnSet}
 use Rattle.start.specs.Words.{started}
-use Rattle.start.specs.Started.{started-front, initial-state-shown}
+use Rattle.start.specs.laws.Started.{started-front, initial-state-shown}
 use Rattle.cfg.specs.declared.claim.Claim as claim
 use Rattle.cfg.specs.declared.func.Nested as code
 use Rattle.cfg.specs.declared.func.Nested.the-variants.{Untouched, Whole, Closed, Leftover, Refused}
 use Rattle.cfg.specs.Claims.{TriesClaim}
 use Rattle.cfg.specs.Func.{Outcomes, FuncBy, Func}
 use Rattle.cfg.specs.Func as func
-use Rattle.cfg.specs.Left.{steady-claim}
-use Rattle.cfg.specs.Shows.{K, world, CanClaim, ClaimShows, owed-at-start, if-claimed, if-unclaimed, if-refused}
-use Rattle.cfg.specs.ScansShown.{own-bundle-shown}
-use Rattle.cfg.specs.ClaimsShown.{claim-shown}
+use Rattle.cfg.specs.laws.Left.{steady-claim}
+use Rattle.cfg.specs.laws.Shows.{K, world, CanClaim, ClaimShows, owed-at-start, if-claimed, if-unclaimed, if-refused}
+use Rattle.cfg.specs.laws.ScansShown.{own-bundle-shown}
+use Rattle.cfg.specs.laws.ClaimsShown.{claim-shown}
 use Rattle.meaning.specs.facts.Sums.{total-within}
-use Rattle.cfg.specs.WholeShown.{parts, few-targets, few-live}
+use Rattle.cfg.specs.laws.WholeShown.{parts, few-targets, few-live}
 
 abbrev pub outcome-code : Outcome → code.Nested
 outcome-code untouched = Untouched

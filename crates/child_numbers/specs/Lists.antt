@@ -13,8 +13,9 @@ use Rattle.nesting.specs.Nesting.{plain, join, blocks-from, blocks-of}
 use Rattle.nesting.specs.Sheet.{kids}
 use Rattle.state.specs.Sections.{section, cells}
 use Rattle.shown.specs.Cells.{ShowsNodes}
-use Rattle.shown.specs.CellSteps.{no-list}
-use Rattle.children.specs.CellByCell.{Added, added-blocks, added-list, added-exit, added-select, added-loop, Appended, appends, appended}
+use Rattle.shown.specs.laws.CellSteps.{no-list}
+use Rattle.children.specs.CellByCell.{CellAdded, added-blocks, added-list, added-exit, added-select, added-loop}
+use Rattle.children.specs.CellByCell.{ListAppended, appends, appended}
 use Rattle.children.specs.CellByCell.{cell-word, list-at, list-before}
 use Rattle.writing.specs.declared.place.Place.{Place}
 use Rattle.writing.specs.Puts.{Puts, puts-then}
@@ -27,9 +28,9 @@ abbrev pub PutsBlocks : List ℕ → ℕ → List ℕ → Counted → List ℕ �
 PutsBlocks w r out x out′ x′ = OfRecord w (λ g. PutsNumbers out x (kids (blocks-of g r)) out′ x′)
 
 -- What cell h adds, where that is no list.
-abbrev pub PutsCell : List ℕ → ℕ → List ℕ → Counted → List ℕ → Counted → Type 0
-PutsCell w h out x out′ x′ =
-    OfRecord w (λ g. (ks : Nodes) → Added g w h ks (cell-word w h 0) → (cell-word w h 0 ≡ 2 → ⊥) → PutsNumbers out x (kids ks) out′ x′)
+abbrev pub PutsCellNumbers : List ℕ → ℕ → List ℕ → Counted → List ℕ → Counted → Type 0
+PutsCellNumbers w h out x out′ x′ =
+    OfRecord w (λ g. (ks : Nodes) → CellAdded g w h ks (cell-word w h 0) → (cell-word w h 0 ≡ 2 → ⊥) → PutsNumbers out x (kids ks) out′ x′)
 
 abbrev pub PutsList : List ℕ → ℕ → List ℕ → Counted → List ℕ → Counted → Type 0
 PutsList w list out x out′ x′ =
@@ -78,10 +79,10 @@ module _ (w : List ℕ) (r first : ℕ) {n : ℕ} (size : OfRecord w (λ g. n �
 -- ---- What a cell adds.
 module _ (w : List ℕ) (h : ℕ) {out out′ : List ℕ} {x x′ : Counted} where
   pub cell-blocks : {t r : ℕ} → t ≡ cell-word w h 0 → t ≡ 1 → r ≡ cell-word w h 2 → PutsBlocks w r out x out′ x′
-      → PutsCell w h out x out′ x′
+      → PutsCellNumbers w h out x out′ x′
   cell-blocks is tag of p g s ks added other = go added (omega arith)
     where
-      go : {m : ℕ} → Added g w h ks m → m ≡ 1 → PutsNumbers out x (kids ks) out′ x′
+      go : {m : ℕ} → CellAdded g w h ks m → m ≡ 1 → PutsNumbers out x (kids ks) out′ x′
       go (added-blocks _ e) _ = rw e (rw of at (p g s))
       go (added-list e) z = absurd (omega arith)
       go (added-exit _ _) z = absurd (omega arith)
@@ -89,10 +90,10 @@ module _ (w : List ℕ) (h : ℕ) {out out′ : List ℕ} {x x′ : Counted} whe
       go (added-loop _ _ _ _ _) z = absurd (omega arith)
 
   pub cell-one : {t n : ℕ} → t ≡ cell-word w h 0 → (t ≡ 1 → ⊥) → n ≡ cell-word w h 2 → PutsNumbers out x (n ∷ []) out′ x′
-      → PutsCell w h out x out′ x′
+      → PutsCellNumbers w h out x out′ x′
   cell-one is tag of p g s ks added other = go added refl
     where
-      go : {m : ℕ} → Added g w h ks m → m ≡ cell-word w h 0 → PutsNumbers out x (kids ks) out′ x′
+      go : {m : ℕ} → CellAdded g w h ks m → m ≡ cell-word w h 0 → PutsNumbers out x (kids ks) out′ x′
       go (added-blocks _ e) z = absurd (tag (omega arith))
       go (added-list e) z = absurd (other (omega arith))
       go (added-exit _ e) _ = rw e (rw of at p)
@@ -100,7 +101,7 @@ module _ (w : List ℕ) (h : ℕ) {out out′ : List ℕ} {x x′ : Counted} whe
       go (added-loop _ _ _ _ e) _ = rw e (rw of at p)
 
 -- ---- A list, from its last cell on. Before a turn the numbers behind list h are put.
-pub record BehindPut (g : Graph) (w : List ℕ) (h : ℕ) (ks : Nodes) (out₀ : List ℕ) (x₀ : Counted) (out : List ℕ) (x : Counted)
+pub record NumbersBehindPut (g : Graph) (w : List ℕ) (h : ℕ) (ks : Nodes) (out₀ : List ℕ) (x₀ : Counted) (out : List ℕ) (x : Counted)
     : Type 0 where
   pub left : Nodes
   pub behind : List ℕ
@@ -110,7 +111,7 @@ pub record BehindPut (g : Graph) (w : List ℕ) (h : ℕ) (ks : Nodes) (out₀ :
 
 abbrev pub ListPut : List ℕ → ℕ → ℕ → List ℕ → Counted → List ℕ → Counted → Type 0
 ListPut w list h out₀ x₀ out x =
-    OfRecord w (λ g. (ks : Nodes) → ShowsNodes g (section w cells) list ks → BehindPut g w h ks out₀ x₀ out x)
+    OfRecord w (λ g. (ks : Nodes) → ShowsNodes g (section w cells) list ks → NumbersBehindPut g w h ks out₀ x₀ out x)
 
 pub list-start : (w : List ℕ) (list : ℕ) (out : List ℕ) (x : Counted) → x .count ≤ 4294967295 → ListPut w list list out x out x
 list-start w list out x h g s ks shown =
@@ -124,11 +125,12 @@ list-as p e f d = rw (e, f, d) p
 module _ (w : List ℕ) (list h : ℕ) {out₀ out : List ℕ} {x₀ x : Counted} (before : ListPut w list h out₀ x₀ out x) where
   -- What the last cell of list h adds is put.
   list-turn : 0 < h → {out′ : List ℕ} {x′ : Counted}
-      → OfRecord w (λ g. (ms : Nodes) → Added g w h ms (cell-word w h 0) → PutsNumbers out x (kids ms) out′ x′)
+      → OfRecord w (λ g. (ms : Nodes) → CellAdded g w h ms (cell-word w h 0) → PutsNumbers out x (kids ms) out′ x′)
       → ListPut w list (list-before w h) out₀ x₀ out′ x′
   list-turn some {out′} {x′} p g s ks shown = let b = before g s ks shown in go b (appended w (b .shown) some)
     where
-      go : (b : BehindPut g w h ks out₀ x₀ out x) → Appended g w h (b .left) → BehindPut g w (list-before w h) ks out₀ x₀ out′ x′
+      go : (b : NumbersBehindPut g w h ks out₀ x₀ out x) → ListAppended g w h (b .left)
+          → NumbersBehindPut g w (list-before w h) ks out₀ x₀ out′ x′
       go b (appends {ns = ns} {ms = ms} rest added e) =
           record {
             left = ns;
@@ -142,7 +144,7 @@ module _ (w : List ℕ) (list h : ℕ) {out₀ out : List ℕ} {x₀ x : Counted
       → PutsList w q out x out′ x′ → ListPut w list (list-before w h) out₀ x₀ out′ x′
   list-inner some is tag of {out′} {x′} p = list-turn some λ g s ms added. go g s added (omega arith)
     where
-      go : (g : Graph) → Stands w g → {ms : Nodes} {m : ℕ} → Added g w h ms m → m ≡ 2 → PutsNumbers out x (kids ms) out′ x′
+      go : (g : Graph) → Stands w g → {ms : Nodes} {m : ℕ} → CellAdded g w h ms m → m ≡ 2 → PutsNumbers out x (kids ms) out′ x′
       go g s (added-blocks _ _) z = absurd (omega arith)
       go g s {ms} (added-list l) _ = p g s ms (rw of l)
       go g s (added-exit _ _) z = absurd (omega arith)
@@ -150,7 +152,7 @@ module _ (w : List ℕ) (list h : ℕ) {out₀ out : List ℕ} {x₀ x : Counted
       go g s (added-loop _ _ _ _ _) z = absurd (omega arith)
 
   pub list-cell : 0 < h → {t : ℕ} → t ≡ cell-word w h 0 → (t ≡ 2 → ⊥) → {out′ : List ℕ} {x′ : Counted}
-      → PutsCell w h out x out′ x′ → ListPut w list (list-before w h) out₀ x₀ out′ x′
+      → PutsCellNumbers w h out x out′ x′ → ListPut w list (list-before w h) out₀ x₀ out′ x′
   list-cell some is tag p = list-turn some λ g s ms added. p g s ms added (λ z. tag (is ∙ z))
 
   pub list-all : h ≤ 0 → PutsList w list out₀ x₀ out x

@@ -53,7 +53,7 @@ fn put_block_numbers(w: &[u16; WORDS], out: &mut [u32], x: Counted, r: u16) -> C
 
 // What a cell adds to a list, but for another list.
 fn put_cell_numbers(w: &[u16; WORDS], out: &mut [u32], x: Counted, h: u16) -> Counted
-    ensures { λ a. ⌜ lists.PutsCell (now (w .entry)) h (now (out .entry)) x (now (out .exit)) a ⌝ }
+    ensures { λ a. ⌜ lists.PutsCellNumbers (now (w .entry)) h (now (out .entry)) x (now (out .exit)) a ⌝ }
 {
     if cell_tag(w, h) == BLOCKS {
         return put_block_numbers(w, out, x, cell_a(w, h));

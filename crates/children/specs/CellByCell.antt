@@ -31,23 +31,23 @@ unfoldable pub list-before : List ℕ → ℕ → ℕ
 list-before w h = pick (eqb (cell-word w h 0) 5) 0 (list-at w h 1)
 
 -- The nodes that a cell with this tag adds to the list before it.
-pub data Added (g : Graph) (w : List ℕ) (h : ℕ) (ks : Nodes) : ℕ → Type 0 where
-  added-blocks : 1 ≤ length (region g (cell-word w h 2) .blocks) → ks ≡ blocks-of g (cell-word w h 2) → Added g w h ks 1
-  added-list : ShowsNodes g (section w cells) (list-at w h 2) ks → Added g w h ks 2
+pub data CellAdded (g : Graph) (w : List ℕ) (h : ℕ) (ks : Nodes) : ℕ → Type 0 where
+  added-blocks : 1 ≤ length (region g (cell-word w h 2) .blocks) → ks ≡ blocks-of g (cell-word w h 2) → CellAdded g w h ks 1
+  added-list : ShowsNodes g (section w cells) (list-at w h 2) ks → CellAdded g w h ks 2
   added-exit : {op : ℕ} {vs : List Value} → region g (cell-word w h 3) .terminator ≡ exit-invocation op vs
-      → ks ≡ exit (cell-word w h 2) op vs ▸ ⟨⟩ → Added g w h ks 3
+      → ks ≡ exit (cell-word w h 2) op vs ▸ ⟨⟩ → CellAdded g w h ks 3
   added-select : {kind : SelectionKind} {v : Value} {cs : Cases} → ShowsShape (cell-word w h 3) (case-count cs) kind
       → value (cell-word w h 4) ≡ v → ShowsCaseCells g (section w cells) (list-at w h 5) cs
-      → ks ≡ new-select (cell-word w h 2) kind v cs ▸ ⟨⟩ → Added g w h ks 4
+      → ks ≡ new-select (cell-word w h 2) kind v cs ▸ ⟨⟩ → CellAdded g w h ks 4
   added-loop : {v : Value} {ns : Nodes} (y : LoopInputs) → ShowsNodes g (section w cells) (list-at w h 1) ns
       → value (cell-word w h 4) ≡ v
       → ShowsKept g (section w cells) (cell-word w h 3) (list-at w h 5) (y .initial-inputs) (y .types) (y .outputs)
-      → ks ≡ loop (loop-node g (cell-word w h 2) (cell-word w h 3) y v) ns ▸ ⟨⟩ → Added g w h ks 5
+      → ks ≡ loop (loop-node g (cell-word w h 2) (cell-word w h 3) y v) ns ▸ ⟨⟩ → CellAdded g w h ks 5
 
 -- A list whose last cell is h: the list before it, and what it adds.
-pub data Appended (g : Graph) (w : List ℕ) (h : ℕ) (ks : Nodes) : Type 0 where
-  appends : {ns ms : Nodes} → ShowsNodes g (section w cells) (list-before w h) ns → Added g w h ms (cell-word w h 0) → ks ≡ join ns ms
-      → Appended g w h ks
+pub data ListAppended (g : Graph) (w : List ℕ) (h : ℕ) (ks : Nodes) : Type 0 where
+  appends : {ns ms : Nodes} → ShowsNodes g (section w cells) (list-before w h) ns → CellAdded g w h ms (cell-word w h 0) → ks ≡ join ns ms
+      → ListAppended g w h ks
 
 -- Cases whose first is cell h.
 pub data FirstCase (g : Graph) (w : List ℕ) (h : ℕ) (ks : Cases) : Type 0 where
@@ -84,7 +84,7 @@ module _ (w : List ℕ) {h : ℕ} where
   not-loop x t l = rw (ne-eqb (cell-word w h 0) 5 (λ z. omega (arith, x .is-tag)), earlier-is (x .is-before) l)
 
 module _ {g : Graph} (w : List ℕ) {h : ℕ} where
-  pub appended : {ks : Nodes} → ShowsNodes g (section w cells) h ks → 1 ≤ h → Appended g w h ks
+  pub appended : {ks : Nodes} → ShowsNodes g (section w cells) h ks → 1 ≤ h → ListAppended g w h ks
   appended (no-nodes e) b = absurd (omega arith)
   appended {ks} (all-blocks x _ some e) b =
       appends {ns = ⟨⟩} {ms = ks} (no-nodes (not-loop w x (omega arith) b))

@@ -15,7 +15,7 @@ use Rattle.accept.specs.declared.Accepted.the-variants.{Record, Refused}
 use Rattle.accept.specs.Judged.{words-given, not-given}
 use Rattle.accept.specs.Accepts.{Accepts}
 use Rattle.text.specs.Whole.{InFront}
-use Rattle.damage.specs.declared.answers.Answer.{Answer}
+use Rattle.damage.specs.declared.answers.Brief.{Brief}
 use Rattle.damage.specs.Answers.{sum-from, brief, is-listed, as-listed}
 
 module _ (text : List ℕ) (sum i : ℕ) (sofar : sum-from sum (drop i text) ≡ sum-from 0 text) where
@@ -38,7 +38,7 @@ summed-shown front is = is ∙ ap (sum-from 0) (rw sub-zero (front .is))
 module _ (s old new : List ℕ) where
   -- a refusal's number and word fit a byte
   pub of-refusal : {n w : ℕ} → Accepts s old new (Refused n w) → {a b : ℕ} → a ≡ n % 256 → b ≡ w % 256
-      → _≡_ {A = Answer} (record { number = a; word = b }) (brief (accept s))
+      → _≡_ {A = Brief} (record { number = a; word = b }) (brief (accept s))
   of-refusal {n} {w} x {a} {b} p q =
       let bad = not-given (accept s) (x .answer) in
       let range = rw bad at (refusal-range s) in
@@ -49,14 +49,14 @@ module _ (s old new : List ℕ) where
       rw bad (cc)
 
   pub of-record : Accepts s old new Record → {b : ℕ} → b ≡ sum-from 0 (shown-text (accept s))
-      → _≡_ {A = Answer} (record { number = 0; word = b }) (brief (accept s))
+      → _≡_ {A = Brief} (record { number = 0; word = b }) (brief (accept s))
   of-record x q =
       let taken = words-given (accept s) (x .answer) in
       let sum = rw (taken .is) at q in
       rw (taken .is) (cc)
 
 -- One question's answer, compared.
-pub listed-right : (s answers : List ℕ) (k : ℕ) {t : List ℕ} {a : Answer} {r : Bool} → a ≡ brief (accept t) → t ≡ s
+pub listed-right : (s answers : List ℕ) (k : ℕ) {t : List ℕ} {a : Brief} {r : Bool} → a ≡ brief (accept t) → t ≡ s
     → r ≡ is-listed a answers k
     → r ≡ as-listed s answers k
 listed-right s answers k is same told = told ∙ ap (λ x. is-listed x answers k) (is ∙ ap (λ x. brief (accept x)) same)

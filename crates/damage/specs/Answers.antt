@@ -5,22 +5,22 @@ use Prim.Native.Nat.{ℕ, _+_, _*_, _/_, _%_}
 use lib.ListN.{length, getD, take}
 use lib.Dec.{eqb, ltb}
 use Rattle.meaning.specs.Graph.{Graph}
-use Rattle.format.specs.Store.{Answer as Verdict, accepted, refused}
+use Rattle.format.specs.Store.{Answer, accepted, refused}
 use Rattle.format.specs.Accept.{accept}
 use Rattle.record_text.specs.Listing.{listing-of}
 use Rattle.damage.specs.Changes.{bit-changed}
-use Rattle.damage.specs.declared.answers.Answer.{Answer}
+use Rattle.damage.specs.declared.answers.Brief.{Brief}
 
 unfoldable pub sum-from : ℕ → List ℕ → ℕ
 sum-from n [] = n
 sum-from n (b ∷ bs) = sum-from ((n + b) % 256) bs
 
-abbrev pub brief : Verdict Graph → Answer
+abbrev pub brief : Answer Graph → Brief
 brief (refused n w) = record { number = n; word = w }
 brief (accepted g) = record { number = 0; word = sum-from 0 (listing-of g) }
 
 -- The two bytes at place k of the list.
-abbrev pub is-listed : Answer → List ℕ → ℕ → Bool
+abbrev pub is-listed : Brief → List ℕ → ℕ → Bool
 is-listed a answers k =
     ltb k (length answers / 2) && (eqb (getD answers (2 * k) 0) (a .number) && eqb (getD answers (2 * k + 1) 0) (a .word))
 

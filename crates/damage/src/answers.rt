@@ -9,7 +9,7 @@ use accept::Accepted;
 use store::WORDS;
 use text::Written;
 
-pub struct Answer {
+pub struct Brief {
     pub number: u8,
     pub word: u8,
 }
@@ -51,26 +51,26 @@ fn shown_sum(bytes: &[u8], words: &mut [u16; WORDS], out: &mut [u8]) -> u8
 }
 
 // The first bytes of an array, as a store.
-pub fn answer_of(bytes: &[u8], size: usize, words: &mut [u16; WORDS], out: &mut [u8]) -> Answer
+pub fn answer_of(bytes: &[u8], size: usize, words: &mut [u16; WORDS], out: &mut [u8]) -> Brief
     requires { ⌜ (size ≤ length (now bytes)) × (length (now out) ≡ 65536) ⌝ }
     ensures { λ a. ⌜ a ≡ brief (accept (take size (now (bytes .entry)))) ⌝ }
 {
     let store = &bytes[..size];
     let verdict = accept::accept(store, words);
     if let Accepted::Refused(number, word) = verdict {
-        return Answer {
+        return Brief {
             number: low(number),
             word: low(word),
         };
     }
-    Answer {
+    Brief {
         number: 0,
         word: shown_sum(store, words, out),
     }
 }
 
 // Whether an answer is the one at place k of the list.
-pub fn is_listed(a: Answer, answers: &[u8], k: usize) -> bool
+pub fn is_listed(a: Brief, answers: &[u8], k: usize) -> bool
     ensures { λ r. ⌜ r ≡ is-listed a (now (answers .entry)) k ⌝ }
 {
     if k >= answers.len() / 2 {

@@ -10,12 +10,12 @@ use Rattle.nesting.specs.Sheet as sheet
 use Rattle.state.specs.Sections.{section, word, conditions}
 use Rattle.state.specs.Tables.{earlier-part, shape-size}
 use Rattle.shown.specs.Tables.{cond-count, ShowsCond, shows-true, shows-false, shows-undef, shows-merge, ShowsConds, no-parts, part-and}
-use Rattle.shown.specs.Conditions.{shape-cases}
+use Rattle.shown.specs.laws.Conditions.{shape-cases}
 use Rattle.lookups.specs.Materialized.{part-below}
 use Rattle.writing.specs.declared.place.Place.{Place}
 use Rattle.writing.specs.Puts.{Part, _⊕_, Puts}
-use Rattle.writing.specs.Rows.{run, run-list}
-use Rattle.writing.specs.PartLaws.{each-plain}
+use Rattle.writing.specs.laws.Rows.{run, run-list}
+use Rattle.writing.specs.laws.PartLaws.{each-plain}
 
 -- What a routine that puts condition c makes of the lent words, and of the place.
 abbrev pub PutsCondition : List ℕ → ℕ → List ℕ → Place → List ℕ → Place → Type 0

@@ -1,3 +1,2 @@
-pub mod Inputs
 pub mod Conditions
-pub mod DeferParts
+pub mod laws

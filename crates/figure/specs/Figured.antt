@@ -11,8 +11,8 @@ use Rattle.record.specs.Stands.{OfRecord}
 use Rattle.fields.specs.ByNumber.{block-of}
 use Rattle.state.specs.Sections.{section, cells}
 use Rattle.shown.specs.Cells.{ShowsNodes, ShowsCaseCells}
-use Rattle.children.specs.CellByCell.{Added, cell-word}
-use Rattle.figure.specs.Nodes.{block-cost}
+use Rattle.children.specs.CellByCell.{CellAdded, cell-word}
+use Rattle.figure.specs.laws.Nodes.{block-cost}
 
 abbrev pub capped : ℕ → ℕ
 capped n = min n 4294967296
@@ -25,7 +25,7 @@ pub record Figured (w : List ℕ) (list a : ℕ) : Type 0 where
 -- The nodes that a cell adds to its list.
 pub record CellFigured (w : List ℕ) (h a : ℕ) : Type 0 where
   pub small : a ≤ 4294967296
-  pub shown : OfRecord w (λ g. (ks : Nodes) → Added g w h ks (cell-word w h 0) → a ≡ capped (figure (g .test-cost) ks))
+  pub shown : OfRecord w (λ g. (ks : Nodes) → CellAdded g w h ks (cell-word w h 0) → a ≡ capped (figure (g .test-cost) ks))
 
 -- The cases that a list shows.
 pub record DearestFigured (w : List ℕ) (list a : ℕ) : Type 0 where
@@ -47,7 +47,7 @@ pub record ToCome (g : Graph) (w : List ℕ) (h sum whole : ℕ) : Type 0 where
   pub shown : ShowsNodes g (section w cells) h nodes
   pub sums : capped (figure (g .test-cost) nodes + sum) ≡ capped whole
 
-pub record Passed (w : List ℕ) (list h sum : ℕ) : Type 0 where
+pub record SummedTo (w : List ℕ) (list h sum : ℕ) : Type 0 where
   pub small : sum ≤ 4294967296
   pub below : h ≤ list
   pub shown : OfRecord w (λ g. (ks : Nodes) → ShowsNodes g (section w cells) list ks → ToCome g w h sum (figure (g .test-cost) ks))

@@ -1,3 +1,2 @@
-pub mod Nodes
 pub mod Figured
-pub mod Steps
+pub mod laws

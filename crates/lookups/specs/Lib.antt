@@ -1,4 +1,3 @@
 pub mod LookUps
 pub mod Materialized
-pub mod Shown
-pub mod ConditionsShown
+pub mod laws

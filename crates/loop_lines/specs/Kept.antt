@@ -17,12 +17,12 @@ use Rattle.shown.specs.Cells.{ShowsKept, none-kept, one-kept}
 use Rattle.children.specs.CellByCell.{cell-word, list-at}
 use Rattle.writing.specs.declared.place.Place.{Place}
 use Rattle.writing.specs.Puts.{Part, _⊕_, Puts, puts-then, puts-none}
-use Rattle.writing.specs.PartLaws.{numbers-listed, values-counted}
+use Rattle.writing.specs.laws.PartLaws.{numbers-listed, values-counted}
 use Rattle.writing.specs.Parts.{each, value-part, values-part}
 
 -- The inputs that the loop of header r keeps, by the list's handle.
-abbrev pub Keeps : Graph → List ℕ → ℕ → ℕ → LoopInputs → Type 0
-Keeps g w r list y = ShowsKept g (section w cells) r list (y .initial-inputs) (y .types) (y .outputs)
+abbrev pub KeepsInputs : Graph → List ℕ → ℕ → ℕ → LoopInputs → Type 0
+KeepsInputs g w r list y = ShowsKept g (section w cells) r list (y .initial-inputs) (y .types) (y .outputs)
 
 -- What is passed back at the end of a turn, and what is passed to the first one: of the cell h, and of all.
 unfoldable pub kept-word : List ℕ → Bool → ℕ → ℕ
@@ -66,7 +66,7 @@ kept-cells {g} w {r} {h} (one-kept {p = p} {k = k} {wrapper = wrapper} x below f
     }
 
 -- ---- A loop along the cells: those behind list h are put, n of them.
-pub record BehindPut (w : List ℕ) (f : ℕ → Part) (hs : List ℕ) (h n : ℕ) (out₀ : List ℕ) (at₀ : Place) (out : List ℕ) (at : Place)
+pub record CellsBehindPut (w : List ℕ) (f : ℕ → Part) (hs : List ℕ) (h n : ℕ) (out₀ : List ℕ) (at₀ : Place) (out : List ℕ) (at : Place)
     : Type 0 where
   pub left : List ℕ
   pub behind : List ℕ
@@ -76,7 +76,7 @@ pub record BehindPut (w : List ℕ) (f : ℕ → Part) (hs : List ℕ) (h n : �
   pub puts : Puts out₀ at₀ (each f behind) out at
 
 abbrev pub CellsPut : List ℕ → (ℕ → Part) → ℕ → ℕ → ℕ → List ℕ → Place → List ℕ → Place → Type 0
-CellsPut w f list h n out₀ at₀ out at = (hs : List ℕ) → Chain w list hs → BehindPut w f hs h n out₀ at₀ out at
+CellsPut w f list h n out₀ at₀ out at = (hs : List ℕ) → Chain w list hs → CellsBehindPut w f hs h n out₀ at₀ out at
 
 module _ (w : List ℕ) (f : ℕ → Part) (list : ℕ) where
   pub cells-start : (out : List ℕ) (at : Place) → CellsPut w f list list 0 out at out at
@@ -88,8 +88,8 @@ module _ (w : List ℕ) (f : ℕ → Part) (list : ℕ) where
         → CellsPut w f list q m out₀ at₀ out′ at′
     cells-turn some {q} {m} {out′} {at′} p e d hs c = let x = before hs c in go x (x .chain) (x .whole)
       where
-        go : (x : BehindPut w f hs h n out₀ at₀ out at) → {left : List ℕ} → Chain w h left → hs ≡ left ++ x .behind
-            → BehindPut w f hs q m out₀ at₀ out′ at′
+        go : (x : CellsBehindPut w f hs h n out₀ at₀ out at) → {left : List ℕ} → Chain w h left → hs ≡ left ++ x .behind
+            → CellsBehindPut w f hs q m out₀ at₀ out′ at′
         go x (no-cell z) whole = absurd (omega arith)
         go x (then-cell {hs = ks} b y z) whole =
             let count = x .count in
@@ -107,7 +107,7 @@ module _ (w : List ℕ) (f : ℕ → Part) (list : ℕ) where
         → Puts out₀ at₀ (plain (length hs ∷ []) ⊕ each f hs) out′ at′
     cells-counted none {hs} {out′} {at′} c p = let x = before hs c in go x (x .chain) (x .whole)
       where
-        go : (x : BehindPut w f hs h n out₀ at₀ out at) → {left : List ℕ} → Chain w h left → hs ≡ left ++ x .behind
+        go : (x : CellsBehindPut w f hs h n out₀ at₀ out at) → {left : List ℕ} → Chain w h left → hs ≡ left ++ x .behind
             → Puts out₀ at₀ (plain (length hs ∷ []) ⊕ each f hs) out′ at′
         go x (no-cell z) whole = rw (whole, ← x .count) (puts-then (x .puts) p)
         go x (then-cell b y z) whole = absurd (omega arith)
@@ -128,7 +128,7 @@ types-of f hs e =
     ap (λ z. plain (length hs ∷ []) ⊕ z) (sym (each-map (λ n. plain (n ∷ [])) f hs))
     ∙ rw (e, ← length-map hs f) (numbers-listed (map f hs))
 
-module _ {g : Graph} (w : List ℕ) {r list : ℕ} (y : LoopInputs) (keeps : Keeps g w r list y) where
+module _ {g : Graph} (w : List ℕ) {r list : ℕ} (y : LoopInputs) (keeps : KeepsInputs g w r list y) where
   abbrev pub handles : List ℕ
   handles = kept-cells w keeps .handles
 

@@ -9,11 +9,11 @@ use Rattle.state.specs.Sections.{section, cells}
 use Rattle.shown.specs.Values.{value}
 use Rattle.shown.specs.Cells.{ShowsNodes}
 use Rattle.children.specs.CellByCell.{cell-word, list-at}
-use Rattle.loop_lines.specs.Kept.{Keeps}
+use Rattle.loop_lines.specs.Kept.{KeepsInputs}
 
 -- By the facts of `added-loop`: the nodes of its body, the repeat value, the inputs that it keeps.
 abbrev pub OfLoop : Graph → List ℕ → ℕ → (LoopNode → Nodes → Type 0) → Type 0
 OfLoop g w h P =
     (y : LoopInputs) (v : Value) (ns : Nodes) → ShowsNodes g (section w cells) (list-at w h 1) ns → value (cell-word w h 4) ≡ v
-    → Keeps g w (cell-word w h 3) (list-at w h 5) y
+    → KeepsInputs g w (cell-word w h 3) (list-at w h 5) y
     → P (loop-node g (cell-word w h 2) (cell-word w h 3) y v) ns

@@ -29,7 +29,7 @@ fn kept_value(w: &[u16; WORDS], h: u16, back: bool) -> u16
 
 // The outputs of the loop's body, or the loop's initial inputs.
 pub fn put_kept_values(w: &[u16; WORDS], out: &mut [u32], at: Place, list: u16, back: bool) -> Place
-    ensures { λ a. ⌜ OfState (now (w .entry)) (λ g s. (r : ℕ) (y : LoopInputs) → kept.Keeps g (now (w .entry)) r list y
+    ensures { λ a. ⌜ OfState (now (w .entry)) (λ g s. (r : ℕ) (y : LoopInputs) → kept.KeepsInputs g (now (w .entry)) r list y
         → Puts (now (out .entry)) at (values-part s (kept.«kept-values» back y)) (now (out .exit)) a) ⌝ }
 {
     let mut to = at;
@@ -45,7 +45,7 @@ pub fn put_kept_values(w: &[u16; WORDS], out: &mut [u32], at: Place, list: u16, 
 
 // Their types, as the header r has them.
 pub fn put_kept_types(w: &[u16; WORDS], out: &mut [u32], at: Place, list: u16, r: u16) -> Place
-    ensures { λ a. ⌜ OfState (now (w .entry)) (λ g s. (y : LoopInputs) → kept.Keeps g (now (w .entry)) r list y
+    ensures { λ a. ⌜ OfState (now (w .entry)) (λ g s. (y : LoopInputs) → kept.KeepsInputs g (now (w .entry)) r list y
         → Puts (now (out .entry)) at (plain (length (y .types) ∷ y .types)) (now (out .exit)) a) ⌝ }
 {
     let mut to = at;

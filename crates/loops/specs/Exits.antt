@@ -12,6 +12,7 @@ use Rattle.meaning.specs.Graph.{Graph, region}
 use Rattle.meaning.specs.Lists.{pick, is-in}
 use Rattle.state.specs.Sections.{word, stored, bundles, set-starts, set-lengths}
 use Rattle.record.specs.Stands.{OfRecord}
+use Rattle.nesting.specs.Nesting.{exit-targets}
 use Rattle.state.specs.Tables.{bundle-at, edges-word}
 use Rattle.state.specs.Edges.{edges-sum}
 use Rattle.shown.specs.Front.{SameKinds, stands-kept, kinds-same, kinds-stored, kinds-then}
@@ -20,7 +21,7 @@ use Rattle.shown.specs.Front.{SameKinds, stands-kept, kinds-same, kinds-stored,
 unfoldable pub exit-added : Graph → ℕ → ℕ → List ℕ → List ℕ
 exit-added g r p l =
     let n = word l bundles (7 * p + 1) in
-    pick (is-in (word l bundles (7 * p + 0)) (region g r .exits)) (stored l bundles (7 * p + 1) (edges-word (n + 1))) l
+    pick (is-in (word l bundles (7 * p + 0)) (exit-targets g r)) (stored l bundles (7 * p + 1) (edges-word (n + 1))) l
 
 -- In k bundles from place i on.
 unfoldable pub exits-from : Graph → ℕ → ℕ → ℕ → ℕ → List ℕ → List ℕ
@@ -32,8 +33,8 @@ exits-added g r l = exits-from g r (word l set-starts r) (word l set-lengths r) 
 
 -- ---- The functions, path by path.
 module _ (g : Graph) (r p : ℕ) (l : List ℕ) {t : ℕ} {b : Bool} (of-target : t ≡ word l bundles (7 * p + 0))
-    (told : b ≡ is-in t (region g r .exits)) where
-  tells : is-in (word l bundles (7 * p + 0)) (region g r .exits) ≡ b
+    (told : b ≡ is-in t (exit-targets g r)) where
+  tells : is-in (word l bundles (7 * p + 0)) (exit-targets g r) ≡ b
   tells = rw (← of-target) (sym told)
 
   pub exit-counted : b ≡ true → {n m : ℕ} {l′ : List ℕ} → (n ≡ word l bundles (7 * p + 1)) × (n ≤ 65535) → m ≡ min (n + 1) 4294967295
@@ -61,7 +62,7 @@ module _ (t : ℕ) (xs : List ℕ) {n k : ℕ} (count : n ≡ length xs) {whole 
 -- ---- The turns over a set: the record stands on, and what is left makes the whole.
 pub exit-front : (g : Graph) (r p : ℕ) (l : List ℕ) → SameKinds l (exit-added g r p l)
 unfolding exit-added
-exit-front g r p l = go (is-in (word l bundles (7 * p + 0)) (region g r .exits))
+exit-front g r p l = go (is-in (word l bundles (7 * p + 0)) (exit-targets g r))
   where
     go : (b : Bool) → SameKinds l (pick b (stored l bundles (7 * p + 1) (edges-word (word l bundles (7 * p + 1) + 1))) l)
     go true = kinds-stored l bundles (omega arith) (7 * p + 1) (edges-word (word l bundles (7 * p + 1) + 1))

@@ -6,7 +6,7 @@ use native.Mathlib.Omega.{arith}
 use lib.ListN.{getD, set}
 use Rattle.state.specs.Values.{region-word}
 use Rattle.state.specs.Tables.{Adds, input-word}
-use Rattle.shown.specs.CellSteps.{kept-cell}
+use Rattle.shown.specs.laws.CellSteps.{kept-cell}
 use Rattle.lookups.specs.LookUps.{Rewrites}
 use Rattle.loops.specs.declared.inputs.Taken.{Taken}
 

@@ -1,8 +1,4 @@
 pub mod Inputs
 pub mod Exits
 pub mod Loops
-pub mod RewritesShown
-pub mod InputsShown
-pub mod ExitsShown
-pub mod LoopsShown
-pub mod ClaimedLoops
+pub mod laws

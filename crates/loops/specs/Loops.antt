@@ -9,7 +9,7 @@ use Rattle.state.specs.declared.defined.Defined.{Defined}
 use Rattle.state.specs.declared.defined.Defined.the-variants.{Number, Full}
 use Rattle.state.specs.Sections.{word, stored, set-lengths, children, bodies}
 use Rattle.state.specs.Tables.{Adds, Defines, inserted, swap-removed}
-use Rattle.shown.specs.CellSteps.{loop-cell}
+use Rattle.shown.specs.laws.CellSteps.{loop-cell}
 use Rattle.lookups.specs.Materialized.{Materializes}
 use Rattle.state.specs.declared.defined.Made.{Made}
 use Rattle.state.specs.declared.defined.Made.the-variants.{Done, Full as Refused}

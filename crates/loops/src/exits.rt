@@ -1,6 +1,6 @@
 // A claimed loop adds ONE to each deferred target in its exit list, once.
 ghost use mathlib.Core.Path.{_≡_};
-ghost use Rattle.meaning.specs.Graph.{region};
+ghost use Rattle.nesting.specs.Nesting.{exit-targets};
 ghost use Rattle.meaning.specs.Lists.{is-in};
 ghost use Rattle.record.specs.Stands.{OfRecord};
 ghost use Rattle.loops.specs.Exits as words;
@@ -14,7 +14,7 @@ use state::sets::target;
 use store::WORDS;
 
 fn is_exit_target(w: &[u16; WORDS], r: u16, t: u16) -> bool
-    ensures { λ a. ⌜ OfRecord (now (w .entry)) (λ g. a ≡ is-in t (region g r .exits)) ⌝ }
+    ensures { λ a. ⌜ OfRecord (now (w .entry)) (λ g. a ≡ is-in t (exit-targets g r)) ⌝ }
 {
     let n = fields::exit_count(w, r);
     let mut k: u16 = 0;

@@ -3,9 +3,4 @@ pub mod Bundles
 pub mod Rewriting
 pub mod Targets
 pub mod Planning
-pub mod Rows
-pub mod Spare
-pub mod RewritingShown
-pub mod TargetsShown
-pub mod PerCaseShown
-pub mod PlanningShown
+pub mod laws

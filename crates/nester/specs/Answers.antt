@@ -18,7 +18,7 @@ use Rattle.record.specs.Stands.{Stands, OfRecord}
 use Rattle.nesting.specs.Nesting.{NestState, Nested, Outcome, untouched, whole, closed, leftover, outcome-of, conclude-by, initial-state}
 use Rattle.nesting.specs.Nesting.{structurize-func, DeferredEdgeBundle, DeferredEdgeBundleSet, DeferredTarget, to-region, to-return, Body}
 use Rattle.nesting.specs.Nesting.{region-body, piece}
-use Rattle.figure.specs.Nodes.{piece-looked-up}
+use Rattle.figure.specs.laws.Nodes.{piece-looked-up}
 use Rattle.nesting.specs.Sheet as sheet
 use Rattle.nesting.specs.Sheet.{sheet-of, sheet-words, figure-fits, words-fit}
 use Rattle.nesting.specs.lookups.ChainEnds.{ChainsEnd, no-more}
@@ -34,7 +34,7 @@ use Rattle.figure.specs.Figured.{Figured}
 use Rattle.writing.specs.Parts.{OfState, Concluded}
 use Rattle.sheet.specs.declared.whole.Sheet as code-sheet
 use Rattle.sheet.specs.declared.whole.Sheet.the-variants.{Words, TooFew}
-use Rattle.sheet.specs.Written.{ShowsAnswer, OfAnswer, OfSheet, lent, SheetWritten, sheet-written, too-few, WritesSheet}
+use Rattle.sheet.specs.Written.{ShowsAnswer, OfShownAnswer, OfSheet, lent, SheetWritten, sheet-written, too-few, WritesSheet}
 use Rattle.sheet.specs.Written as written
 use Rattle.nester.specs.declared.SheetAnswer.{SheetAnswer}
 use Rattle.nester.specs.declared.SheetAnswer.the-variants.{Sheet, Refused}
@@ -60,7 +60,7 @@ WritesAnswer w outcome figure out out′ a = OfSheet w outcome figure (λ g x. E
 -- Of a whole or closed form.
 abbrev pub FormsAnswer : List ℕ → ℕ → List ℕ → List ℕ → SheetAnswer → Type 0
 FormsAnswer w outcome out out′ a =
-    OfAnswer w outcome (λ g s x. 1 ≤ outcome → outcome ≤ 2 → Ends (words-if-figured (lent out) (sheet-of g x)) out out′ a)
+    OfShownAnswer w outcome (λ g s x. 1 ≤ outcome → outcome ≤ 2 → Ends (words-if-figured (lent out) (sheet-of g x)) out out′ a)
 
 pub record NestsRecord (g : Graph) (w w′ out out′ : List ℕ) (a : SheetAnswer) : Type 0 where
   pub ends : Ends (record-words g (lent out)) out out′ a

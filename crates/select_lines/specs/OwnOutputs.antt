@@ -16,11 +16,11 @@ use Rattle.shown.specs.Values.{value}
 use Rattle.shown.specs.Tables.{ShowsTables, no-output}
 use Rattle.writing.specs.declared.place.Place.{Place}
 use Rattle.writing.specs.Puts.{Part, _⊕_, Puts, puts-then, puts-none, puts-as}
-use Rattle.writing.specs.Rows.{run, run-turn, run-all, run-list}
+use Rattle.writing.specs.laws.Rows.{run, run-turn, run-all, run-list}
 use Rattle.writing.specs.Parts.{OfState, each, output-nodes, value-part, values-part}
 use Rattle.writing.specs.Outputs.{node-times}
-use Rattle.writing.specs.ValueShown.{place-shown}
-use Rattle.writing.specs.PartLaws.{values-counted}
+use Rattle.writing.specs.laws.ValueShown.{place-shown}
+use Rattle.writing.specs.laws.PartLaws.{values-counted}
 use Rattle.select_lines.specs.SelectParts.{output-types}
 
 -- At place j the words have, of each output of the node, the value that the definition takes there.

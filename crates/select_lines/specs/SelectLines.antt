@@ -20,7 +20,7 @@ use Rattle.writing.specs.declared.place.Place.{Place}
 use Rattle.writing.specs.Puts.{Part, _⊕_, Puts, puts-then, puts-as}
 use Rattle.writing.specs.Parts.{OfState, region-part, value-part}
 use Rattle.child_numbers.specs.Lists.{PutsKids}
-use Rattle.writing.specs.PartLaws.{region-line}
+use Rattle.writing.specs.laws.PartLaws.{region-line}
 use Rattle.select_lines.specs.SelectParts.{select-part, output-types, select-line}
 use Rattle.select_lines.specs.OwnOutputs.{ValuesShown, PutsCaseOutputs, PutsOutputTypes}
 use Rattle.select_lines.specs.CaseNumbers.{PutsCaseNumbers}

@@ -11,7 +11,7 @@ use Rattle.nesting.specs.Sheet as sheet
 use Rattle.writing.specs.Puts.{Part, _⊕_}
 use Rattle.writing.specs.Parts.{most, output-nodes, look-up-at-end, select-words, node-words, value-part, node-part, nodes-part}
 use Rattle.writing.specs.Parts.{cases-part, region-part}
-use Rattle.writing.specs.PartLaws.{parts-assoc, kids-looked-up, cases-looked-up, numbers-words}
+use Rattle.writing.specs.laws.PartLaws.{parts-assoc, kids-looked-up, cases-looked-up, numbers-words}
 
 -- The line of a select alone: node, kind, value, case regions, types of its outputs.
 unfoldable pub select-part : NestState → ℕ → SelectionKind → Value → Cases → Part

@@ -22,7 +22,7 @@ use Rattle.selects.specs.declared.define.Scrutinee.{Scrutinee}
 use Rattle.selects.specs.Cases.{convergent-case, any-non-empty-case, all-replaced}
 use Rattle.selects.specs.Selects.{SelectDefined}
 use Rattle.selects.specs.Emits.{Emits}
-use Rattle.selects.specs.Fronts.{front-cases, front-targets, front-plans, front-select}
+use Rattle.selects.specs.laws.Fronts.{front-cases, front-targets, front-plans, front-select}
 
 pub data SelectIf (g : Graph) (needed : Bool) (r shape : ℕ) (x : Scrutinee) (l l′ : List ℕ) : Made → Type 0 where
   not-needed : needed ≡ false → l′ ≡ l → SelectIf g needed r shape x l l′ Done

@@ -7,7 +7,7 @@ use Rattle.state.specs.declared.defined.Defined.{Defined}
 use Rattle.state.specs.declared.defined.Defined.the-variants.{Number, Full}
 use Rattle.state.specs.Sections.{word, stored, cases, children}
 use Rattle.state.specs.Tables.{case-total, Adds, Defines}
-use Rattle.shown.specs.CellSteps.{case-cell, select-cell}
+use Rattle.shown.specs.laws.CellSteps.{case-cell, select-cell}
 use Rattle.lookups.specs.Materialized.{Materializes}
 use Rattle.state.specs.declared.defined.Made.the-variants.{Done as MadeDone, Full as MadeFull}
 use Rattle.selects.specs.declared.define.Scrutinee.{Scrutinee}

@@ -1,9 +1,6 @@
 pub mod Whole
-pub mod SheetLines
-pub mod Counts
 pub mod Pieces
-pub mod Leftovers
 pub mod Regions
 pub mod Walk
 pub mod Written
-pub mod LinesShown
+pub mod laws

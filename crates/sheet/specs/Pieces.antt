@@ -16,8 +16,8 @@ use Rattle.nesting.specs.Sheet as sheet
 use Rattle.writing.specs.Puts.{Part, _⊕_}
 use Rattle.writing.specs.Parts.{most, words-of, region-words, nodes-words, each, output-nodes, look-up-at-end, nodes-part, region-part}
 use Rattle.writing.specs.Parts.{defer-part}
-use Rattle.writing.specs.PartLaws.{kids-looked-up}
-use Rattle.sheet.specs.Whole.{piece-words, defer-words, lines-words}
+use Rattle.writing.specs.laws.PartLaws.{kids-looked-up}
+use Rattle.sheet.specs.Whole.{piece-words, defer-words, nested-lines}
 
 -- ---- Pieces, before they are looked up.
 module _ (g : Graph) (s : NestState) where
@@ -80,8 +80,8 @@ module _ (g : Graph) (s : NestState) where
       by rest false = ap (λ z. looked u ∷ z) rest
 
   module _ (o : Outcome) (e : Piece) (us : List Piece) where
-    pub lines-are : lines-words most (conclude-with g s o e us) ≡ lines-part e us .value
-    unfolding lines-words
+    pub lines-are : nested-lines most (conclude-with g s o e us) ≡ lines-part e us .value
+    unfolding nested-lines
     lines-are =
         ap (λ z. z ++ concat (map (λ (p : Piece). concat (map (defer-words (output-nodes s) (p .region)) (p .deferred)))
         (sheet.ascending (looked e) (map looked us)))) (pieces-are (e ∷ us))

@@ -23,21 +23,21 @@ use Rattle.shown.specs.Sets.{ShowsBundle}
 use Rattle.shown.specs.States.{ShowsState, ShowsBody, ShowsOwnSet, ShowsRegion, is-not-begun, is-in-progress, is-ready, is-claimed}
 use Rattle.writing.specs.declared.place.Place.{Place}
 use Rattle.writing.specs.Puts.{Part, _⊕_, Puts, puts-then, puts-none, puts-as}
-use Rattle.writing.specs.Rows.{run, run-start, run-turn, run-all}
+use Rattle.writing.specs.laws.Rows.{run, run-start, run-turn, run-all}
 use Rattle.writing.specs.Parts.{OfState, Concluded, most, region-part, values-part, nodes-part, each, defer-part}
-use Rattle.writing.specs.PartLaws.{parts-assoc}
-use Rattle.sheet.specs.Whole.{lines-words}
+use Rattle.writing.specs.laws.PartLaws.{parts-assoc}
+use Rattle.sheet.specs.Whole.{nested-lines}
 use Rattle.sheet.specs.Pieces.{region-lines, piece-part, set-part, lines-part, lines-are, twice-is}
-use Rattle.sheet.specs.Leftovers.{ready-lines, ready-set, given-set, unclaimed-lines, ascending-sets}
+use Rattle.sheet.specs.laws.Leftovers.{ready-lines, ready-set, given-set, unclaimed-lines, ascending-sets}
 
 -- ---- A region's line in front of its outputs.
-abbrev pub front-words : Graph → ℕ → Nodes → List ℕ
-front-words g r ks =
+abbrev pub region-front : Graph → ℕ → Nodes → List ℕ
+region-front g r ks =
     (0 ∷ r ∷ length (region g r .inputs) ∷ region g r .inputs) ++ (most (length (sheet.kids ks)) ∷ sheet.kids ks)
 
 abbrev pub PutsFront : List ℕ → ℕ → List ℕ → Place → List ℕ → Place → Type 0
 PutsFront w r out at out′ at′ =
-    OfState w (λ g s. (ks : Nodes) → ShowsChildren g w (word w children r) ks → Puts out at (plain (front-words g r ks)) out′ at′)
+    OfState w (λ g s. (ks : Nodes) → ShowsChildren g w (word w children r) ks → Puts out at (plain (region-front g r ks)) out′ at′)
 
 -- ---- A region without outputs; the entry of a whole form, with those of its one deferred edge.
 abbrev pub PutsPiece : List ℕ → ℕ → List ℕ → Place → List ℕ → Place → Type 0
@@ -94,10 +94,10 @@ PutsNodes w list out at out′ at′ =
 
 region-put : (g : Graph) (s : NestState) (r : ℕ) (ks : Nodes) (vs : List Value) {out out₁ out₂ out₃ : List ℕ} {at at₁ at₂ at₃ : Place}
     → Puts out at (nodes-part s ks) out₁ at₁ → Puts out₁ at₁ (values-part s vs) out₂ at₂
-    → Puts out₂ at₂ (plain (front-words g r ks)) out₃ at₃ → Puts out at (region-lines g s r ks vs) out₃ at₃
+    → Puts out₂ at₂ (plain (region-front g r ks)) out₃ at₃ → Puts out at (region-lines g s r ks vs) out₃ at₃
 unfolding region-part values-part
 region-put g s r ks vs n p q =
-    puts-as (puts-then (puts-then n p) q) (sym (parts-assoc (plain (front-words g r ks)) (values-part s vs) (nodes-part s ks)))
+    puts-as (puts-then (puts-then n p) q) (sym (parts-assoc (plain (region-front g r ks)) (values-part s vs) (nodes-part s ks)))
 
 module _ (w : List ℕ) (r : ℕ) {list : ℕ} (handle : list ≡ word w children r) {out out₁ out₂ out₃ : List ℕ} {at at₁ at₂ at₃ : Place}
     (nodes : PutsNodes w list out at out₁ at₁) where

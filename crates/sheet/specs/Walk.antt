@@ -14,13 +14,14 @@ use Rattle.state.specs.Sections.{section, cells}
 use Rattle.shown.specs.Values.{value}
 use Rattle.shown.specs.Tables.{ShowsShape, shape-bool, shape-number}
 use Rattle.shown.specs.Cells.{ShowsNodes, ShowsCaseCells, no-cases, case-and}
-use Rattle.shown.specs.CellSteps.{no-list}
-use Rattle.children.specs.CellByCell.{Added, added-blocks, added-list, added-exit, added-select, added-loop, Appended, appends, appended}
+use Rattle.shown.specs.laws.CellSteps.{no-list}
+use Rattle.children.specs.CellByCell.{CellAdded, added-blocks, added-list, added-exit, added-select, added-loop}
+use Rattle.children.specs.CellByCell.{ListAppended, appends, appended}
 use Rattle.children.specs.CellByCell.{FirstCase, case-first, first-case, cell-word, list-at, list-before}
 use Rattle.writing.specs.declared.place.Place.{Place}
 use Rattle.writing.specs.Puts.{Part, _⊕_, Puts, puts-then, puts-none, puts-as}
 use Rattle.writing.specs.Parts.{OfState, Concluded, node-part, nodes-part, cases-part, region-part}
-use Rattle.writing.specs.PartLaws.{parts-assoc, part-last, no-nodes-part, one-node-part, joined-part}
+use Rattle.writing.specs.laws.PartLaws.{parts-assoc, part-last, no-nodes-part, one-node-part, joined-part}
 use Rattle.select_lines.specs.SelectParts.{new-select-part, no-cases-part, new-case-part}
 use Rattle.select_lines.specs.SelectLines.{PutsSelectLine, PutsCaseLine}
 use Rattle.select_lines.specs.OwnOutputs.{values-shown}
@@ -33,7 +34,7 @@ next j = pick (ltb j 65535) (j + 1) j
 
 abbrev pub PutsCell : List ℕ → ℕ → List ℕ → Place → List ℕ → Place → Type 0
 PutsCell w h out at out′ at′ =
-    OfState w (λ g s. (ks : Nodes) → Added g w h ks (cell-word w h 0) → Puts out at (nodes-part s ks) out′ at′)
+    OfState w (λ g s. (ks : Nodes) → CellAdded g w h ks (cell-word w h 0) → Puts out at (nodes-part s ks) out′ at′)
 
 -- No select has more than eight cases.
 abbrev pub PutsCases : List ℕ → ℕ → ℕ → ℕ → List ℕ → Place → List ℕ → Place → Type 0
@@ -43,21 +44,21 @@ PutsCases w list node j out at out′ at′ =
 
 -- ---- By the tag of a cell.
 module _ (w : List ℕ) (h : ℕ) {tag : ℕ} (of-tag : tag ≡ cell-word w h 0) where
-  with-tag : {n : ℕ} → tag ≡ n → {g : Graph} {ks : Nodes} → Added g w h ks (cell-word w h 0) → Added g w h ks n
+  with-tag : {n : ℕ} → tag ≡ n → {g : Graph} {ks : Nodes} → CellAdded g w h ks (cell-word w h 0) → CellAdded g w h ks n
   with-tag e x = rw (sym of-tag ∙ e) at x
 
   pub cell-blocks : {r : ℕ} {out out′ : List ℕ} {at at′ : Place} → tag ≡ 1 → r ≡ cell-word w h 2
       → OfState w (λ g s. Puts out at (nodes-part s (blocks-of g r)) out′ at′) → PutsCell w h out at out′ at′
   cell-blocks {out = out} {out′} {at} {at′} e a p g s c ks x = go (with-tag e x)
     where
-      go : Added g w h ks 1 → Puts out at (nodes-part s ks) out′ at′
+      go : CellAdded g w h ks 1 → Puts out at (nodes-part s ks) out′ at′
       go (added-blocks some z) = rw z (rw a at (p g s c))
 
   pub cell-list : {list : ℕ} {out out′ : List ℕ} {at at′ : Place} → tag ≡ 2 → list ≡ list-at w h 2 → PutsNodes w list out at out′ at′
       → PutsCell w h out at out′ at′
   cell-list {out = out} {out′} {at} {at′} e a p g s c ks x = go (with-tag e x)
     where
-      go : Added g w h ks 2 → Puts out at (nodes-part s ks) out′ at′
+      go : CellAdded g w h ks 2 → Puts out at (nodes-part s ks) out′ at′
       go (added-list z) = p g s c ks (rw a z)
 
   pub cell-exit : {node r : ℕ} {out out′ : List ℕ} {at at′ : Place} → tag ≡ 3 → node ≡ cell-word w h 2 → r ≡ cell-word w h 3
@@ -65,7 +66,7 @@ module _ (w : List ℕ) (h : ℕ) {tag : ℕ} (of-tag : tag ≡ cell-word w h 0)
       → Puts out at (node-part s (exit node op vs)) out′ at′) → PutsCell w h out at out′ at′
   cell-exit {node} {out = out} {out′} {at} {at′} e a b p g s c ks x = go (with-tag e x)
     where
-      go : Added g w h ks 3 → Puts out at (nodes-part s ks) out′ at′
+      go : CellAdded g w h ks 3 → Puts out at (nodes-part s ks) out′ at′
       go (added-exit {op} {vs} t z) =
           rw (z, ← a) (puts-as (p g s c op vs (rw b t)) (sym (one-node-part s (exit node op vs))))
 
@@ -78,7 +79,7 @@ module _ (w : List ℕ) (h : ℕ) {tag : ℕ} (of-tag : tag ≡ cell-word w h 0)
       few (shape-bool z n) = omega arith
       few (shape-number low high n) = omega arith
 
-      go : Added g w h ks 4 → Puts out at (nodes-part s ks) out₂ at₂
+      go : CellAdded g w h ks 4 → Puts out at (nodes-part s ks) out₂ at₂
       go (added-select {kind} {v} {cs} shape t cases z) =
           let m = few shape in
           let first = p g s c cs (rw a cases) (omega arith) in
@@ -90,7 +91,7 @@ module _ (w : List ℕ) (h : ℕ) {tag : ℕ} (of-tag : tag ≡ cell-word w h 0)
       → OfState w (λ g s. OfLoop g w h (λ x ns. Puts out₁ at₁ (loop-lines s x ns) out₂ at₂)) → PutsCell w h out at out₂ at₂
   cell-loop {out = out} {out₂ = out₂} {at = at} {at₂ = at₂} e a p q g s c ks x = go (with-tag e x)
     where
-      go : Added g w h ks 5 → Puts out at (nodes-part s ks) out₂ at₂
+      go : CellAdded g w h ks 5 → Puts out at (nodes-part s ks) out₂ at₂
       go (added-loop {v} {ns} y nodes t kept z) =
           let x = loop-node g (cell-word w h 2) (cell-word w h 3) y v in
           rw z (puts-as (puts-then (p g s c ns (rw a nodes)) (q g s c y v ns nodes t kept))
@@ -102,7 +103,7 @@ module _ (w : List ℕ) (h : ℕ) {tag : ℕ} (of-tag : tag ≡ cell-word w h 0)
       → PutsCell w h out at out at
   cell-none a b d e f out at g s c ks x = go x of-tag
     where
-      go : {n : ℕ} → Added g w h ks n → tag ≡ n → Puts out at (nodes-part s ks) out at
+      go : {n : ℕ} → CellAdded g w h ks n → tag ≡ n → Puts out at (nodes-part s ks) out at
       go (added-blocks some z) i = absurd (a i)
       go (added-list z) i = absurd (b i)
       go (added-exit t z) i = absurd (d i)
@@ -155,7 +156,7 @@ module _ (w : List ℕ) (list : ℕ) where
   walk-turn h {p} {out} {out₁} {out₂} {at} {at₁} {at₂} some before cell e g s c ks x =
       let b = before g s c ks x in go b (appended w (b .shown) some)
     where
-      go : (b : Behind g w s ks h out at out₁ at₁) → Appended g w h (b .left) → Behind g w s ks p out at out₂ at₂
+      go : (b : Behind g w s ks h out at out₁ at₁) → ListAppended g w h (b .left) → Behind g w s ks p out at out₂ at₂
       go b (appends {ns} {ms} shown added z) =
           record {
             left = ns;

@@ -16,8 +16,8 @@ module _ (count : ℕ → ℕ) (nodes : List ℕ) where
       region-words count nodes (p .region) (p .inputs) (p .children) (p .outputs) ++ nodes-words count nodes (p .children)
 
 -- The entry and the unclaimed regions, then their defer lines by ascending region.
-unfoldable pub lines-words : (ℕ → ℕ) → Nested → List ℕ
-lines-words count x =
+unfoldable pub nested-lines : (ℕ → ℕ) → Nested → List ℕ
+nested-lines count x =
     concat (map (piece-words count (x .output-nodes)) (x .entry ∷ x .unclaimed))
     ++ concat (map (λ (p : Piece). concat (map (defer-words (x .output-nodes) (p .region)) (p .deferred)))
     (sheet.ascending (x .entry) (x .unclaimed)))
@@ -27,12 +27,12 @@ abbrev pub head-words : sheet.Sheet → List ℕ
 head-words s = words-of (sheet.line-1 s)
 
 unfoldable pub nested-words : (ℕ → ℕ) → Graph → Nested → List ℕ
-unfolding lines-words sheet.sheet-of
+unfolding nested-lines sheet.sheet-of
 nested-words count g x =
     head-words (sheet.sheet-of g x)
     ++ elim (x .outcome) [
       | untouched ↦ []
-      | whole ↦ lines-words count x
-      | closed ↦ lines-words count x
-      | leftover ↦ lines-words count x
+      | whole ↦ nested-lines count x
+      | closed ↦ nested-lines count x
+      | leftover ↦ nested-lines count x
     ]

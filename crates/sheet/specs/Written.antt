@@ -23,8 +23,8 @@ use Rattle.writing.specs.Puts.{Part, Puts, puts-then, written}
 use Rattle.writing.specs.Parts.{OfState, Concluded, most}
 use Rattle.sheet.specs.declared.whole.Sheet.{Sheet}
 use Rattle.sheet.specs.declared.whole.Sheet.the-variants.{Words, TooFew}
-use Rattle.sheet.specs.Whole.{lines-words, head-words, nested-words}
-use Rattle.sheet.specs.Counts.{as-long, same-if-short}
+use Rattle.sheet.specs.Whole.{nested-lines, head-words, nested-words}
+use Rattle.sheet.specs.laws.Counts.{as-long, same-if-short}
 
 -- ---- How the words show a nested answer: by the number of its outcome, and the entry's children and set.
 pub data ShowsAnswer (g : Graph) (w : List ℕ) (s : NestState) (x : Nested) : ℕ → Type 0 where
@@ -37,16 +37,16 @@ pub data ShowsAnswer (g : Graph) (w : List ℕ) (s : NestState) (x : Nested) : �
       → x ≡ conclude-with g s leftover (piece g (g .entry) ks [] d) (unclaimed-from g 0 (s .region-states)) → ShowsAnswer g w s x 3
 
 -- Of every answer that the words show under the outcome's number.
-abbrev pub OfAnswer : List ℕ → ℕ → (Graph → NestState → Nested → Type 0) → Type 0
-OfAnswer w outcome P = OfState w (λ g s. (x : Nested) → ShowsAnswer g w s x outcome → P g s x)
+abbrev pub OfShownAnswer : List ℕ → ℕ → (Graph → NestState → Nested → Type 0) → Type 0
+OfShownAnswer w outcome P = OfState w (λ g s. (x : Nested) → ShowsAnswer g w s x outcome → P g s x)
 
 -- The words behind line 1.
 abbrev pub behind-head : Nested → List ℕ
 behind-head x = elim (x .outcome) [
   | untouched ↦ []
-  | whole ↦ lines-words most x
-  | closed ↦ lines-words most x
-  | leftover ↦ lines-words most x
+  | whole ↦ nested-lines most x
+  | closed ↦ nested-lines most x
+  | leftover ↦ nested-lines most x
 ]
 
 -- The lines behind line 1 are put; with the note so far theirs is the answer's.
@@ -56,7 +56,7 @@ pub record LinesPut (s : NestState) (x : Nested) (out : List ℕ) (at : Place) (
   pub puts : Puts out at (record { value = behind-head x; twice = twice }) out′ at′
 
 abbrev pub PutsLines : List ℕ → ℕ → List ℕ → Place → List ℕ → Place → Type 0
-PutsLines w outcome out at out′ at′ = OfAnswer w outcome (λ g s x. LinesPut s x out at out′ at′)
+PutsLines w outcome out at out′ at′ = OfShownAnswer w outcome (λ g s x. LinesPut s x out at out′ at′)
 
 -- ---- Line 1.
 abbrev pub twice-word : List ℕ → Place → ℕ
@@ -72,7 +72,7 @@ pub record SheetPut (ws out : List ℕ) (end : ℕ) (out′ : List ℕ) (a : ℕ
   pub words : out′ ≡ written out end ws
 
 abbrev pub OfSheet : List ℕ → ℕ → ℕ → (Graph → Nested → Type 0) → Type 0
-OfSheet w outcome figure P = OfAnswer w outcome (λ g s x. figure ≡ sheet.sheet-of g x .figure → P g x)
+OfSheet w outcome figure P = OfShownAnswer w outcome (λ g s x. figure ≡ sheet.sheet-of g x .figure → P g x)
 
 abbrev pub PutsSheet : List ℕ → ℕ → ℕ → List ℕ → ℕ → List ℕ → ℕ → Type 0
 PutsSheet w outcome figure out end out′ a = OfSheet w outcome figure (λ g x. SheetPut (nested-words most g x) out end out′ a)

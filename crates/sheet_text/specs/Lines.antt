@@ -3,7 +3,7 @@ use mathlib.Core.List.{List, [], _++_, map}
 use Rattle.meaning.specs.Lists.{concat}
 use Rattle.meaning.specs.Text.{Text, ascii}
 use Rattle.nesting.specs.Sheet.{joint, line-1, sheet-text}
-use Rattle.nesting.specs.decoding.Lines.{Line, fields, TypedSheet, written}
+use Rattle.nesting.specs.decoding.Lines.{Line, fields, TypedSheet, as-sheet}
 use Rattle.nesting.specs.decoding.Decode.{WordReader, next-word, _>>=_, decode-as, decode-number, outcome-of-word, flag-of, decode-sheet}
 
 abbrev pub TextReader : Type 0
@@ -31,11 +31,11 @@ decode-first = do
   decode-as (record { outcome = o; figure = f; attempts = n; twice = b; lines = [] })
 
 abbrev pub first-text : TypedSheet → Text
-first-text s = joint " " (line-1 (written s)) .text ++ ascii "\n"
+first-text s = joint " " (line-1 (as-sheet s)) .text ++ ascii "\n"
 
 -- The lines behind line 1, and the whole sheet.
 abbrev pub lines-text : List Line → Text
 lines-text ls = concat (map line-text ls)
 
 abbrev pub decoded-sheet-text : TextReader
-decoded-sheet-text = shown (λ s. sheet-text (written s)) decode-sheet
+decoded-sheet-text = shown (λ s. sheet-text (as-sheet s)) decode-sheet

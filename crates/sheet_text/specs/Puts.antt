@@ -19,25 +19,25 @@ words-from ws at = pick (leb at (length ws)) (decoded tt (drop at ws)) nothing
 abbrev pub reading : TextReader → Decoded Unit → Decoded Text
 reading r x = next-word x λ u. r
 
-abbrev pub forget : Decoded Text → Decoded Unit
-forget (decoded t ws) = decoded tt ws
-forget nothing = nothing
+abbrev pub read-text : Decoded Text → Decoded Unit
+read-text (decoded t ws) = decoded tt ws
+read-text nothing = nothing
 
 -- From a cursor and a buffer on: the words are read as the reader says, and what it gives is written. Where it gives nothing the bytes
 -- are left open.
-pub record Puts (r : TextReader) (ws : List ℕ) (c : Cursor) (before after : List ℕ) (d : Cursor) : Type 0 where
-  pub words : words-from ws (d .at) ≡ forget (reading r (words-from ws (c .at)))
+pub record PutsText (r : TextReader) (ws : List ℕ) (c : Cursor) (before after : List ℕ) (d : Cursor) : Type 0 where
+  pub words : words-from ws (d .at) ≡ read-text (reading r (words-from ws (c .at)))
   pub bytes : {t : Text} {rest : List ℕ} → reading r (words-from ws (c .at)) ≡ decoded t rest
       → Wrote (buffer before (c .place)) t (buffer after (d .place))
   pub ahead : c .at ≤ d .at
 
 -- The same by a reader that takes a bound of the words left, behind `front` of them.
 abbrev pub PutsWithin : ℕ → (ℕ → TextReader) → List ℕ → Cursor → List ℕ → List ℕ → Cursor → Type 0
-PutsWithin front r ws c before after d = (depth : ℕ) → length ws ≤ c .at + front + depth → Puts (r depth) ws c before after d
+PutsWithin front r ws c before after d = (depth : ℕ) → length ws ≤ c .at + front + depth → PutsText (r depth) ws c before after d
 
 -- The same by a reader that takes a word at least.
 pub record PutsOn (r : TextReader) (ws : List ℕ) (c : Cursor) (before after : List ℕ) (d : Cursor) : Type 0 where
-  pub puts : Puts r ws c before after d
+  pub puts : PutsText r ws c before after d
   pub on : c .at < length ws → c .at < d .at
 
 -- Nothing to read there.

@@ -6,7 +6,7 @@ ghost use Rattle.text.specs.Buffer.{buffer, Wrote};
 ghost use Rattle.nesting.specs.Sheet.{dotted};
 ghost use Rattle.nesting.specs.decoding.Lines.{value-texts};
 ghost use Rattle.sheet_text.specs.Texts.{say, number-text, value-text, skip-text, either-text};
-ghost use Rattle.sheet_text.specs.Puts.{Puts, Stopped};
+ghost use Rattle.sheet_text.specs.Puts.{PutsText, Stopped};
 use text::put_byte;
 use text::put_labeled;
 use text::put_number;
@@ -33,14 +33,14 @@ pub fn stop(words: &[u32], c: Cursor) -> Cursor
 }
 
 pub fn say(text: &mut [u8], c: Cursor, label: &[u8]) -> Cursor
-    ensures { λ r. ⌜ ((ws : List ℕ) → Puts (say (now (label .entry))) ws c (now (text .entry)) (now (text .exit)) r) ⌝ }
+    ensures { λ r. ⌜ ((ws : List ℕ) → PutsText (say (now (label .entry))) ws c (now (text .entry)) (now (text .exit)) r) ⌝ }
 {
     let place = put_text(text, c.place, label);
     Cursor { at: c.at, place }
 }
 
 pub fn number(words: &[u32], text: &mut [u8], c: Cursor) -> Cursor
-    ensures { λ r. ⌜ Puts number-text (now (words .entry)) c (now (text .entry)) (now (text .exit)) r ⌝ }
+    ensures { λ r. ⌜ PutsText number-text (now (words .entry)) c (now (text .entry)) (now (text .exit)) r ⌝ }
 {
     let at = c.at;
     if words.len() <= at {
@@ -52,7 +52,7 @@ pub fn number(words: &[u32], text: &mut [u8], c: Cursor) -> Cursor
 
 // A word for which nothing is shown.
 pub fn skip(words: &[u32], c: Cursor) -> Cursor
-    ensures { λ r. ⌜ ((bytes : List ℕ) → Puts skip-text (now (words .entry)) c bytes bytes r) ⌝ }
+    ensures { λ r. ⌜ ((bytes : List ℕ) → PutsText skip-text (now (words .entry)) c bytes bytes r) ⌝ }
 {
     let at = c.at;
     if words.len() <= at {
@@ -66,7 +66,7 @@ pub fn skip(words: &[u32], c: Cursor) -> Cursor
 
 // A word that is 0 or 1, by a text for each.
 pub fn either(words: &[u32], text: &mut [u8], c: Cursor, zero: &[u8], one: &[u8]) -> Cursor
-    ensures { λ r. ⌜ Puts (either-text (now (zero .entry)) (now (one .entry)))
+    ensures { λ r. ⌜ PutsText (either-text (now (zero .entry)) (now (one .entry)))
         (now (words .entry)) c (now (text .entry)) (now (text .exit)) r ⌝ }
 {
     let at = c.at;
@@ -116,7 +116,7 @@ fn put_value(text: &mut [u8], at: usize, kind: u32, r: u32, k: u32) -> usize
 
 // A value: kind, region, index.
 pub fn value(words: &[u32], text: &mut [u8], c: Cursor) -> Cursor
-    ensures { λ r. ⌜ Puts value-text (now (words .entry)) c (now (text .entry)) (now (text .exit)) r ⌝ }
+    ensures { λ r. ⌜ PutsText value-text (now (words .entry)) c (now (text .entry)) (now (text .exit)) r ⌝ }
 {
     let at = c.at;
     if words.len() < 3 {

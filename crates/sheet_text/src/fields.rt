@@ -6,7 +6,7 @@ ghost use lib.ListN.{getD};
 ghost use lib.Dec.{eqb};
 ghost use Rattle.sheet_text.specs.Texts.{say, _then_, field-within, list-within, field-text, list-text, none-text, item-head};
 ghost use Rattle.sheet_text.specs.Texts.{merge-head, plain-text};
-ghost use Rattle.sheet_text.specs.Puts.{Puts, PutsWithin};
+ghost use Rattle.sheet_text.specs.Puts.{PutsText, PutsWithin};
 use super::cursor::Cursor;
 use super::cursor::number;
 use super::cursor::say;
@@ -23,7 +23,7 @@ pub enum Field {
 
 // An item up to its reads: region.index/opcode/type/
 fn item_head(words: &[u32], text: &mut [u8], c: Cursor) -> Cursor
-    ensures { λ r. ⌜ Puts item-head (now (words .entry)) c (now (text .entry)) (now (text .exit)) r ⌝ }
+    ensures { λ r. ⌜ PutsText item-head (now (words .entry)) c (now (text .entry)) (now (text .exit)) r ⌝ }
 {
     let mut d = number(words, text, c);
     d = say(text, d, b".");
@@ -48,7 +48,7 @@ fn is_merge(words: &[u32], c: Cursor) -> bool
 
 // A condition without parts.
 fn plain_condition(words: &[u32], text: &mut [u8], c: Cursor) -> Cursor
-    ensures { λ r. ⌜ Puts plain-text (now (words .entry)) c (now (text .entry)) (now (text .exit)) r ⌝ }
+    ensures { λ r. ⌜ PutsText plain-text (now (words .entry)) c (now (text .entry)) (now (text .exit)) r ⌝ }
 {
     let at = c.at;
     if words.len() <= at {
@@ -68,7 +68,7 @@ fn plain_condition(words: &[u32], text: &mut [u8], c: Cursor) -> Cursor
 
 // A condition up to its parts: m, the node and a bracket.
 fn merge_head(words: &[u32], text: &mut [u8], c: Cursor) -> Cursor
-    ensures { λ r. ⌜ Puts merge-head (now (words .entry)) c (now (text .entry)) (now (text .exit)) r ⌝ }
+    ensures { λ r. ⌜ PutsText merge-head (now (words .entry)) c (now (text .entry)) (now (text .exit)) r ⌝ }
 {
     let mut d = skip(words, c);
     d = say(text, d, b"m");
@@ -99,7 +99,7 @@ fn put_field(words: &[u32], text: &mut [u8], c: Cursor, kind: Field) -> Cursor
 
 // An empty list: `-`, but nothing between a condition's brackets.
 fn none(text: &mut [u8], c: Cursor, kind: Field) -> Cursor
-    ensures { λ r. ⌜ ((ws : List ℕ) → Puts (say (none-text kind)) ws c (now (text .entry)) (now (text .exit)) r) ⌝ }
+    ensures { λ r. ⌜ ((ws : List ℕ) → PutsText (say (none-text kind)) ws c (now (text .entry)) (now (text .exit)) r) ⌝ }
 {
     match kind {
         Field::Condition => c,
@@ -137,7 +137,7 @@ fn put_list(words: &[u32], text: &mut [u8], c: Cursor, kind: Field) -> Cursor
 }
 
 pub fn labeled(words: &[u32], text: &mut [u8], c: Cursor, label: &[u8], kind: Field) -> Cursor
-    ensures { λ r. ⌜ Puts (say (now (label .entry)) then field-text kind)
+    ensures { λ r. ⌜ PutsText (say (now (label .entry)) then field-text kind)
         (now (words .entry)) c (now (text .entry)) (now (text .exit)) r ⌝ }
 {
     let d = say(text, c, label);
@@ -145,7 +145,7 @@ pub fn labeled(words: &[u32], text: &mut [u8], c: Cursor, label: &[u8], kind: Fi
 }
 
 pub fn listed(words: &[u32], text: &mut [u8], c: Cursor, label: &[u8], kind: Field) -> Cursor
-    ensures { λ r. ⌜ Puts (say (now (label .entry)) then list-text kind)
+    ensures { λ r. ⌜ PutsText (say (now (label .entry)) then list-text kind)
         (now (words .entry)) c (now (text .entry)) (now (text .exit)) r ⌝ }
 {
     let d = say(text, c, label);

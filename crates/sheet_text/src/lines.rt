@@ -3,7 +3,7 @@ ghost use Rattle.nesting.specs.decoding.Decode.{decode-region, decode-block, de
 ghost use Rattle.nesting.specs.decoding.Decode.{line-by, decode-line};
 ghost use Rattle.sheet_text.specs.Lines.{shown, fields-text, line-text, decode-first, first-text, decoded-sheet-text};
 ghost use Rattle.sheet_text.specs.Texts.{say, _then_, skip-text, target-text, outcome-text};
-ghost use Rattle.sheet_text.specs.Puts.{Puts, PutsOn};
+ghost use Rattle.sheet_text.specs.Puts.{PutsText, PutsOn};
 use super::cursor::Cursor;
 use super::cursor::either;
 use super::cursor::number;
@@ -15,7 +15,7 @@ use super::fields::labeled;
 use super::fields::listed;
 
 fn region(words: &[u32], text: &mut [u8], c: Cursor) -> Cursor
-    ensures { λ r. ⌜ Puts (shown fields-text decode-region) (now (words .entry)) c (now (text .entry)) (now (text .exit)) r ⌝ }
+    ensures { λ r. ⌜ PutsText (shown fields-text decode-region) (now (words .entry)) c (now (text .entry)) (now (text .exit)) r ⌝ }
 {
     let mut d = labeled(words, text, c, b"region ", Field::Number);
     d = listed(words, text, d, b" in ", Field::Number);
@@ -24,14 +24,14 @@ fn region(words: &[u32], text: &mut [u8], c: Cursor) -> Cursor
 }
 
 fn block(words: &[u32], text: &mut [u8], c: Cursor) -> Cursor
-    ensures { λ r. ⌜ Puts (shown fields-text decode-block) (now (words .entry)) c (now (text .entry)) (now (text .exit)) r ⌝ }
+    ensures { λ r. ⌜ PutsText (shown fields-text decode-block) (now (words .entry)) c (now (text .entry)) (now (text .exit)) r ⌝ }
 {
     let d = labeled(words, text, c, b"block ", Field::Number);
     listed(words, text, d, b" ", Field::Item)
 }
 
 fn select(words: &[u32], text: &mut [u8], c: Cursor) -> Cursor
-    ensures { λ r. ⌜ Puts (shown fields-text decode-select) (now (words .entry)) c (now (text .entry)) (now (text .exit)) r ⌝ }
+    ensures { λ r. ⌜ PutsText (shown fields-text decode-select) (now (words .entry)) c (now (text .entry)) (now (text .exit)) r ⌝ }
 {
     let mut d = labeled(words, text, c, b"select ", Field::Number);
     d = either(words, text, d, b" bool", b" num");
@@ -41,7 +41,7 @@ fn select(words: &[u32], text: &mut [u8], c: Cursor) -> Cursor
 }
 
 fn loop_line(words: &[u32], text: &mut [u8], c: Cursor) -> Cursor
-    ensures { λ r. ⌜ Puts (shown fields-text decode-loop) (now (words .entry)) c (now (text .entry)) (now (text .exit)) r ⌝ }
+    ensures { λ r. ⌜ PutsText (shown fields-text decode-loop) (now (words .entry)) c (now (text .entry)) (now (text .exit)) r ⌝ }
 {
     let mut d = labeled(words, text, c, b"loop ", Field::Number);
     d = listed(words, text, d, b" in ", Field::Value);
@@ -50,7 +50,7 @@ fn loop_line(words: &[u32], text: &mut [u8], c: Cursor) -> Cursor
 }
 
 fn exit(words: &[u32], text: &mut [u8], c: Cursor) -> Cursor
-    ensures { λ r. ⌜ Puts (shown fields-text decode-exit) (now (words .entry)) c (now (text .entry)) (now (text .exit)) r ⌝ }
+    ensures { λ r. ⌜ PutsText (shown fields-text decode-exit) (now (words .entry)) c (now (text .entry)) (now (text .exit)) r ⌝ }
 {
     let mut d = labeled(words, text, c, b"exit ", Field::Number);
     d = labeled(words, text, d, b" ", Field::Number);
@@ -59,7 +59,7 @@ fn exit(words: &[u32], text: &mut [u8], c: Cursor) -> Cursor
 
 // The target Return is 65,535.
 fn target(words: &[u32], text: &mut [u8], c: Cursor) -> Cursor
-    ensures { λ r. ⌜ Puts target-text (now (words .entry)) c (now (text .entry)) (now (text .exit)) r ⌝ }
+    ensures { λ r. ⌜ PutsText target-text (now (words .entry)) c (now (text .entry)) (now (text .exit)) r ⌝ }
 {
     let at = c.at;
     if words.len() <= at {
@@ -76,7 +76,7 @@ fn target(words: &[u32], text: &mut [u8], c: Cursor) -> Cursor
 }
 
 fn defer(words: &[u32], text: &mut [u8], c: Cursor) -> Cursor
-    ensures { λ r. ⌜ Puts (shown fields-text decode-defer) (now (words .entry)) c (now (text .entry)) (now (text .exit)) r ⌝ }
+    ensures { λ r. ⌜ PutsText (shown fields-text decode-defer) (now (words .entry)) c (now (text .entry)) (now (text .exit)) r ⌝ }
 {
     let mut d = labeled(words, text, c, b"defer ", Field::Number);
     d = say(text, d, b" to ");
@@ -88,7 +88,7 @@ fn defer(words: &[u32], text: &mut [u8], c: Cursor) -> Cursor
 
 // By the word that leads the line.
 fn line_by(words: &[u32], text: &mut [u8], c: Cursor, lead: u32) -> Cursor
-    ensures { λ r. ⌜ Puts (shown fields-text (line-by lead)) (now (words .entry)) c (now (text .entry)) (now (text .exit)) r ⌝ }
+    ensures { λ r. ⌜ PutsText (shown fields-text (line-by lead)) (now (words .entry)) c (now (text .entry)) (now (text .exit)) r ⌝ }
 {
     match lead {
         0 => region(words, text, c),
@@ -118,7 +118,7 @@ pub fn put_line(words: &[u32], text: &mut [u8], c: Cursor) -> Cursor
 
 // A word that is not shown, and a label.
 fn unshown(words: &[u32], text: &mut [u8], c: Cursor, label: &[u8]) -> Cursor
-    ensures { λ r. ⌜ Puts (skip-text then say (now (label .entry))) (now (words .entry)) c (now (text .entry)) (now (text .exit)) r ⌝ }
+    ensures { λ r. ⌜ PutsText (skip-text then say (now (label .entry))) (now (words .entry)) c (now (text .entry)) (now (text .exit)) r ⌝ }
 {
     let d = skip(words, c);
     say(text, d, label)
@@ -126,7 +126,7 @@ fn unshown(words: &[u32], text: &mut [u8], c: Cursor, label: &[u8]) -> Cursor
 
 // The outcome and its figure, which exists for whole and closed.
 fn outcome(words: &[u32], text: &mut [u8], c: Cursor) -> Cursor
-    ensures { λ r. ⌜ Puts outcome-text (now (words .entry)) c (now (text .entry)) (now (text .exit)) r ⌝ }
+    ensures { λ r. ⌜ PutsText outcome-text (now (words .entry)) c (now (text .entry)) (now (text .exit)) r ⌝ }
 {
     let at = c.at;
     if words.len() <= at {
@@ -146,7 +146,7 @@ fn outcome(words: &[u32], text: &mut [u8], c: Cursor) -> Cursor
 }
 
 pub fn put_first_line(words: &[u32], text: &mut [u8], c: Cursor) -> Cursor
-    ensures { λ r. ⌜ Puts (shown first-text decode-first) (now (words .entry)) c (now (text .entry)) (now (text .exit)) r ⌝ }
+    ensures { λ r. ⌜ PutsText (shown first-text decode-first) (now (words .entry)) c (now (text .entry)) (now (text .exit)) r ⌝ }
 {
     let mut d = outcome(words, text, c);
     d = labeled(words, text, d, b" attempts ", Field::Number);
@@ -155,7 +155,7 @@ pub fn put_first_line(words: &[u32], text: &mut [u8], c: Cursor) -> Cursor
 
 // Line 1, then the other lines to the last word.
 pub fn put_sheet(words: &[u32], text: &mut [u8]) -> Cursor
-    ensures { λ r. ⌜ Puts decoded-sheet-text
+    ensures { λ r. ⌜ PutsText decoded-sheet-text
         (now (words .entry)) (record { at = 0; place = 0 }) (now (text .entry)) (now (text .exit)) r ⌝ }
 {
     let mut c = put_first_line(words, text, Cursor { at: 0, place: 0 });

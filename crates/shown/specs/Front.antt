@@ -9,10 +9,11 @@ use Rattle.record.specs.Stands.{Stands}
 use Rattle.fields.specs.laws.Unchanged.{still-stands}
 use Rattle.state.specs.declared.cells.Cell.{Cell}
 use Rattle.state.specs.declared.defined.Defined.{Defined}
+use Rattle.state.specs.Sections as sections
 use Rattle.state.specs.Sections.{Section, number, start, size, part, section, stored, stored-all, front, head, kinds, cells}
 use Rattle.state.specs.Tables.{Adds, added, no-room, cell-words, Defines, defined, full}
-use Rattle.state.specs.Apart.{stored-length, section-other}
-use Rattle.shown.specs.Stores.{run-length, run-other}
+use Rattle.state.specs.laws.Apart.{stored-length, section-other}
+use Rattle.shown.specs.laws.Stores.{run-length, run-other}
 
 pub record SameFront (w w′ : List ℕ) : Type 0 where
   pub words : length w′ ≡ length w
@@ -25,14 +26,15 @@ stands-on {w′} f s = still-stands s w′ (f .words) (f .front-words)
 pub front-same : (w : List ℕ) → SameFront w w
 front-same w = record { words = refl; front-words = refl }
 
-pub front-stored : (w : List ℕ) (k : Section) → (number k ≡ 0 → ⊥) → (i x : ℕ) → SameFront w (stored w k i x)
+pub front-stored : (w : List ℕ) (k : Section) → (number k ≡ number sections.front → ⊥) → (i x : ℕ) → SameFront w (stored w k i x)
 front-stored w k d i x = record {
   words = stored-length (start k) (size k) w i x;
   front-words = section-other w k i x front
       (λ e. d (sym e));
 }
 
-pub front-run : (w : List ℕ) (k : Section) → (number k ≡ 0 → ⊥) → (i : ℕ) (xs : List ℕ) → SameFront w (stored-all w k i xs)
+pub front-run : (w : List ℕ) (k : Section) → (number k ≡ number sections.front → ⊥) → (i : ℕ) (xs : List ℕ)
+    → SameFront w (stored-all w k i xs)
 front-run w k d i xs = record { words = run-length (start k) (size k) w i xs; front-words = run-other w k i xs front (λ e. d (sym e)) }
 
 pub front-then : {w w₁ w₂ : List ℕ} → SameFront w w₁ → SameFront w₁ w₂ → SameFront w w₂
@@ -45,8 +47,8 @@ pub record SameKinds (w w′ : List ℕ) : Type 0 where
 
 -- A section that is neither: of one by its name, `omega arith` proves it.
 pub record BehindKinds (k : Section) : Type 0 where
-  pub not-front : number k ≡ 0 → ⊥
-  pub not-kinds : 2 ≡ number k → ⊥
+  pub not-front : number k ≡ number sections.front → ⊥
+  pub not-kinds : number sections.kinds ≡ number k → ⊥
 
 pub stands-kept : {w w′ : List ℕ} {g : Graph} → SameKinds w w′ → Stands w g → Stands w′ g
 stands-kept f s = stands-on (f .front) s

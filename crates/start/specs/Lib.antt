@@ -1,3 +1,2 @@
 pub mod Words
-pub mod Fills
-pub mod Started
+pub mod laws

@@ -12,6 +12,7 @@ use Rattle.meaning.specs.Lists.{pick}
 use Rattle.format.specs.References.{type-in, behind-all, first-return}
 use Rattle.record.specs.Stands.{OfRecord}
 use Rattle.fields.specs.ByNumber.{blocks-before, end-values}
+use Rattle.state.specs.Sections as sections
 use Rattle.state.specs.Sections.{Section, number, stored, stored-all, head, kinds, set-starts, rewrites}
 use Rattle.state.specs.Tables.{slot}
 use Rattle.shown.specs.Front.{SameFront, stands-on, front-same, front-stored, front-run, front-then}
@@ -64,7 +65,7 @@ module _ (k : Section) (place x : ℕ → ℕ) where
   unfolding filled
   fill-stop n i l h q = let m : n - i ≡ 0 = omega arith in rw m at q
 
-  pub filled-front : (number k ≡ 0 → ⊥) → (n i : ℕ) (l : List ℕ) → SameFront l (filled k place x n i l)
+  pub filled-front : (number k ≡ number sections.front → ⊥) → (n i : ℕ) (l : List ℕ) → SameFront l (filled k place x n i l)
   unfolding filled
   filled-front d zero i l = front-same l
   filled-front d (suc n) i l = front-then (front-stored l k d (place i) (x i)) (filled-front d n (suc i) (stored l k (place i) (x i)))

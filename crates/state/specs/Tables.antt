@@ -120,18 +120,18 @@ pub data Joins (l l′ : List ℕ) (a b h : ℕ) : Type 0 where
   joined : (a ≡ 0 → ⊥) → (b ≡ 0 → ⊥) → Adds l l′ (join-cell a b) h → Joins l l′ a b h
 
 -- ---- A bundle leaves its set: the last takes its place, or those behind it move up.
-abbrev pub copied : List ℕ → ℕ → ℕ → List ℕ
-copied l to from = stored-all l bundles (7 * to) (bundle-words l from)
+abbrev pub bundle-copied : List ℕ → ℕ → ℕ → List ℕ
+bundle-copied l to from = stored-all l bundles (7 * to) (bundle-words l from)
 
 -- k bundles behind bundle i.
 unfoldable pub shifted : List ℕ → ℕ → ℕ → ℕ → List ℕ
 shifted l start i zero = l
-shifted l start i (suc k) = shifted (copied l (bundle-at start i) (bundle-at start (suc i))) start (suc i) k
+shifted l start i (suc k) = shifted (bundle-copied l (bundle-at start i) (bundle-at start (suc i))) start (suc i) k
 
 unfoldable pub swap-removed : List ℕ → ℕ → ℕ → List ℕ
 swap-removed l r b =
     let n = word l set-lengths r in
-    pick (eqb n 0) l (stored (copied l b (bundle-at (word l set-starts r) (n - 1))) set-lengths r (n - 1))
+    pick (eqb n 0) l (stored (bundle-copied l b (bundle-at (word l set-starts r) (n - 1))) set-lengths r (n - 1))
 
 unfoldable pub shift-removed : List ℕ → ℕ → ℕ → List ℕ
 shift-removed l r i =

@@ -1,6 +1,4 @@
 pub mod Puts
-pub mod Rows
 pub mod Parts
-pub mod PartLaws
 pub mod Outputs
-pub mod ValueShown
+pub mod laws

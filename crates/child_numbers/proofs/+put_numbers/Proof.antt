@@ -61,15 +61,17 @@ module _ (t : ℕ) where
   joined-list-requires c κs = search needs
 
   put-numbers-requires : lts.Need-put-numbers-requires (called t) (at t) reads.Post Inv-loop μ-loop
-  put-numbers-requires c κs = (
-    omega (
-      arith,
-      c .before .before .before .before .before .before .before .pre .0,
-      named-below _ (c .joined-list .ensures)
-          (c .before .before .before .before .loop-test .taken),
-    ),
-    tt,
-  )
+  put-numbers-requires c κs =
+      let at-loop-test = c .before .before .before .before in
+      let at-pre = at-loop-test .before .before .before in (
+        omega (
+          arith,
+          at-pre .pre .0,
+          named-below _ (c .joined-list .ensures)
+              (at-loop-test .loop-test .taken),
+        ),
+        tt,
+      )
 
   put-cell-numbers-requires : lts.Need-put-cell-numbers-requires (called t) (at t) reads.Post Inv-loop μ-loop
   put-cell-numbers-requires c κs = search needs

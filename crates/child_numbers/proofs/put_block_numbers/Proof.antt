@@ -44,13 +44,17 @@ loop-less : tie.Need-loop-less Inv-loop μ-loop
 loop-less c = search needs
 
 loop-again : tie.Need-loop-again Inv-loop μ-loop
-loop-again c = (
-  blocks-turn _ _ _ (c .before .before .before .before .before .before .block-count .ensures) _
-      (c .before .before .before .before .before .loop .inv .0) (c .before .before .before .before .loop-test .taken)
-      (c .before .before .before .before .before .loop .inv .1) (c .before .before .put-number .ensures),
-  omega arith,
-  search needs,
-)
+loop-again c =
+    let at-put-number = c .before .before in
+    let at-loop-test = at-put-number .before .before in
+    let at-loop = at-loop-test .before in
+    let at-block-count = at-loop .before in (
+      blocks-turn _ _ _ (at-block-count .block-count .ensures) _
+          (at-loop .loop .inv .0) (at-loop-test .loop-test .taken)
+          (at-loop .loop .inv .1) (at-put-number .put-number .ensures),
+      omega arith,
+      search needs,
+    )
 
 same-length : tie.Need-same-length Inv-loop μ-loop
 same-length c = search needs

@@ -16,9 +16,14 @@ same-length : tie.Need-same-length
 same-length c = search needs
 
 returns : tie.Need-returns
-returns c = cell-blocks _ _ (c .before .before .before .before .before .before .cell-tag .ensures)
-    (c .before .before .before .before .before .if1 .taken) (c .before .before .before .cell-a .ensures)
-    (c .before .before .put-block-numbers .ensures)
+returns c =
+    let at-put-block-numbers = c .before .before in
+    let at-cell-a = at-put-block-numbers .before in
+    let at-if = at-cell-a .before .before in
+    let at-cell-tag = at-if .before in
+    cell-blocks _ _ (at-cell-tag .cell-tag .ensures)
+    (at-if .if1 .taken) (at-cell-a .cell-a .ensures)
+    (at-put-block-numbers .put-block-numbers .ensures)
 
 cell-a-requires-2 : tie.Need-cell-a-requires-2
 cell-a-requires-2 c κs = search needs
@@ -33,9 +38,14 @@ same-length-2 : tie.Need-same-length-2
 same-length-2 c = search needs
 
 returns-2 : tie.Need-returns-2
-returns-2 c = cell-one _ _ (c .before .before .before .before .before .before .cell-tag .ensures)
-    (c .before .before .before .before .before .if1 .left) (c .before .before .before .cell-a2 .ensures)
-    (c .before .before .put-number .ensures)
+returns-2 c =
+    let at-put-number = c .before .before in
+    let at-cell-a = at-put-number .before in
+    let at-if = at-cell-a .before .before in
+    let at-cell-tag = at-if .before in
+    cell-one _ _ (at-cell-tag .cell-tag .ensures)
+    (at-if .if1 .left) (at-cell-a .cell-a2 .ensures)
+    (at-put-number .put-number .ensures)
 
 pub put-cell-numbers-spec : {M : Type 1} → statement M
 put-cell-numbers-spec =

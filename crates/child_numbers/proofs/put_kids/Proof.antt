@@ -13,7 +13,10 @@ same-length : tie.Need-same-length
 same-length c = search needs
 
 returns : tie.Need-returns
-returns c = kids-put _ _ (c .before .before .before .before .before .before .put-numbers .ensures) (c .before .before .put .ensures)
+returns c =
+    let at-put = c .before .before in
+    let at-put-numbers = at-put .before .before .before .before in
+    kids-put _ _ (at-put-numbers .put-numbers .ensures) (at-put .put .ensures)
 
 pub put-kids-spec : {M : Type 1} → statement M
 put-kids-spec = tie.close (tie.spec put-numbers-requires put-requires same-length returns)

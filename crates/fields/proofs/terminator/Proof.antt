@@ -52,10 +52,12 @@ returns-5 c g s =
 
 returns-6 : tie.Need-returns-6
 returns-6 c g s =
-    let bound = kind-by s _ (c .before .before .before .before .before .before .indexed .ensures)
-    (c .before .before .before .before .before .word-at .ensures) in
-    terminator-by s _ (c .before .before .before .before .before .before .indexed .ensures)
-    (c .before .before .before .before .before .word-at .ensures) SelectNumber (omega arith) refl
+    let at-word-at = c .before .before .before .before .before in
+    let at-indexed = at-word-at .before in
+    let bound = kind-by s _ (at-indexed .indexed .ensures)
+    (at-word-at .word-at .ensures) in
+    terminator-by s _ (at-indexed .indexed .ensures)
+    (at-word-at .word-at .ensures) SelectNumber (omega arith) refl
 
 pub terminator-spec : {M : Type 1} → statement M
 terminator-spec =

@@ -6,9 +6,9 @@ use borrow.Author.Needs.{needs}
 use borrow.Fn.Kinds.{In}
 use borrow.Fn.PlainCycle.{Measures, is, falls, and}
 use Rattle.children.specs.CellByCell.{named-below, before-below}
-use Rattle.figure.specs.Figured.{Passed}
-use Rattle.figure.specs.Steps.{dearest-none, dearest-of, cell-blocks, cell-joined, cell-select, cell-loop, cell-other}
-use Rattle.figure.specs.Steps.{turns-fit, passed-none, passed-turn, passed-all}
+use Rattle.figure.specs.Figured.{SummedTo}
+use Rattle.figure.specs.laws.Steps.{dearest-none, dearest-of, cell-blocks, cell-joined, cell-select, cell-loop, cell-other}
+use Rattle.figure.specs.laws.Steps.{turns-fit, passed-none, passed-turn, passed-all}
 use Rattle.figure.proofs.cell_figure.Reads as cell-figure
 use Rattle.figure.proofs.cell_figure.Kinds as cell-figure-kinds
 use Rattle.figure.proofs.+cell_figure+dearest+figure.Lts-cell_figure as cell-figure-lts
@@ -159,14 +159,15 @@ cell-figure-inner-list-requires : (t : ℕ) → cell-figure-lts.Need-inner-list-
 cell-figure-inner-list-requires t c κs = search needs
 
 cell-figure-dearest-requires : (t : ℕ) → cell-figure-lts.Need-dearest-requires (cell-figure-called t) (cell-figure-at t) cell-figure.Post
-cell-figure-dearest-requires t c κs = (
-  omega (
-    arith,
-    c .before .before .before .before .before .before .pre .0,
-    named-below _ (c .inner-list .ensures) (c .before .before .before .before .before .before .pre .1),
-  ),
-  tt,
-)
+cell-figure-dearest-requires t c κs =
+    let at-pre = c .before .before .before .before .before .before in (
+      omega (
+        arith,
+        at-pre .pre .0,
+        named-below _ (c .inner-list .ensures) (at-pre .pre .1),
+      ),
+      tt,
+    )
 
 cell-figure-add-at-most : (t : ℕ) → cell-figure-lts.Need-add-at-most (cell-figure-called t) (cell-figure-at t) cell-figure.Post
 cell-figure-add-at-most t c = search needs
@@ -176,9 +177,14 @@ cell-figure-at-most-requires-2 : (t : ℕ) → cell-figure-lts.Need-at-most-requ
 cell-figure-at-most-requires-2 t c κs = search needs
 
 cell-figure-returns-3 : (t : ℕ) → cell-figure-lts.Need-returns-3 (cell-figure-called t) (cell-figure-at t) cell-figure.Post
-cell-figure-returns-3 t c = cell-select (c .before .before .before .before .before .before .before .cell-tag .ensures)
-    (c .before .before .before .before .test-cost .ensures) (c .before .before .before .if3 .taken)
-    (c .before .before .inner-list .ensures) (c .before .dearest .ensures) (c .at-most2 .ensures)
+cell-figure-returns-3 t c =
+    let at-inner-list = c .before .before in
+    let at-if = at-inner-list .before in
+    let at-test-cost = at-if .before in
+    let at-cell-tag = at-test-cost .before .before .before in
+    cell-select (at-cell-tag .cell-tag .ensures)
+    (at-test-cost .test-cost .ensures) (at-if .if3 .taken)
+    (at-inner-list .inner-list .ensures) (c .before .dearest .ensures) (c .at-most2 .ensures)
 
 cell-figure-cell-b-requires : (t : ℕ) → cell-figure-lts.Need-cell-b-requires (cell-figure-called t) (cell-figure-at t) cell-figure.Post
 cell-figure-cell-b-requires t c κs = search needs
@@ -194,35 +200,46 @@ cell-figure-cell-before-requires : (t : ℕ) → cell-figure-lts.Need-cell-befor
 cell-figure-cell-before-requires t c κs = search needs
 
 cell-figure-figure-requires-2 : (t : ℕ) → cell-figure-lts.Need-figure-requires-2 (cell-figure-called t) (cell-figure-at t) cell-figure.Post
-cell-figure-figure-requires-2 t c κs = (
-  omega (
-    arith,
-    c .before .before .before .before .before .before .before .before .before .pre .0,
-    named-below _ (c .cell-before .ensures) (c .before .before .before .before .before .before .before .before .before .pre .1),
-  ),
-  tt,
-)
+cell-figure-figure-requires-2 t c κs =
+    let at-pre = c .before .before .before .before .before .before .before .before .before in (
+      omega (
+        arith,
+        at-pre .pre .0,
+        named-below _ (c .cell-before .ensures) (at-pre .pre .1),
+      ),
+      tt,
+    )
 
 cell-figure-add-at-most-2 : (t : ℕ) → cell-figure-lts.Need-add-at-most-2 (cell-figure-called t) (cell-figure-at t) cell-figure.Post
 cell-figure-add-at-most-2 t c = search needs
 
 cell-figure-mul-at-most : (t : ℕ) → cell-figure-lts.Need-mul-at-most (cell-figure-called t) (cell-figure-at t) cell-figure.Post
-cell-figure-mul-at-most t c = omega (
-  arith,
-  turns-fit (c .before .before .limit .ok) (c .figure2 .ensures .small)
-      (c .before .before .before .before .before .before .test-cost .ok),
-)
+cell-figure-mul-at-most t c =
+    let at-limit = c .before .before in
+    let at-test-cost = at-limit .before .before .before .before in
+    omega (
+      arith,
+      turns-fit (at-limit .limit .ok) (c .figure2 .ensures .small)
+          (at-test-cost .test-cost .ok),
+    )
 
 cell-figure-at-most-requires-3 : (t : ℕ) → cell-figure-lts.Need-at-most-requires-3 (cell-figure-called t) (cell-figure-at t)
     cell-figure.Post
 cell-figure-at-most-requires-3 t c κs = search needs
 
 cell-figure-returns-4 : (t : ℕ) → cell-figure-lts.Need-returns-4 (cell-figure-called t) (cell-figure-at t) cell-figure.Post
-cell-figure-returns-4 t c = cell-loop
-    (c .before .before .before .before .before .before .before .before .before .before .cell-tag .ensures)
-    (c .before .before .before .before .before .before .before .test-cost .ensures)
-    (c .before .before .before .before .before .if4 .taken) (c .before .before .before .before .cell-b .ensures)
-    (c .before .before .before .limit .ensures) (c .before .before .cell-before .ensures) (c .before .figure2 .ensures)
+cell-figure-returns-4 t c =
+    let at-cell-before = c .before .before in
+    let at-limit = at-cell-before .before in
+    let at-cell-b = at-limit .before in
+    let at-if = at-cell-b .before in
+    let at-test-cost = at-if .before .before in
+    let at-cell-tag = at-test-cost .before .before .before in
+    cell-loop
+    (at-cell-tag .cell-tag .ensures)
+    (at-test-cost .test-cost .ensures)
+    (at-if .if4 .taken) (at-cell-b .cell-b .ensures)
+    (at-limit .limit .ensures) (at-cell-before .cell-before .ensures) (c .before .figure2 .ensures)
     (c .at-most3 .ensures)
 
 cell-figure-returns-5 : (t : ℕ) → cell-figure-lts.Need-returns-5 (cell-figure-called t) (cell-figure-at t) cell-figure.Post
@@ -269,7 +286,7 @@ dearest-returns-3 t c = dearest-of (c .before .before .before .before .case-chil
     (omega (arith, c .before .before .before .before .before .if1 .left)) (omega (arith, c .if2 .left))
 
 abbrev figure-Inv-loop : figure-lts.InvT-loop
-figure-Inv-loop w list sum₀ h₀ sum h = Passed w list h sum
+figure-Inv-loop w list sum₀ h₀ sum h = SummedTo w list h sum
 
 abbrev figure-μ-loop : figure-lts.MeasureT-loop
 figure-μ-loop w list sum₀ h₀ sum h = h

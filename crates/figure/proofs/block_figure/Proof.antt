@@ -7,7 +7,7 @@ use borrow.Author.Needs.{needs}
 use Rattle.format.specs.References.{no-instr}
 use Rattle.record.specs.Stands.{OfRecord}
 use Rattle.fields.specs.ByNumber.{block-of}
-use Rattle.figure.specs.Nodes.{block-cost}
+use Rattle.figure.specs.laws.Nodes.{block-cost}
 use Rattle.meaning.specs.facts.Sums.{sum-turn, sum-end}
 use Rattle.figure.proofs.block_figure.Statement.{statement}
 use Rattle.figure.proofs.block_figure.Tie as tie

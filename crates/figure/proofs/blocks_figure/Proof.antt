@@ -8,7 +8,7 @@ use borrow.Author.Needs.{needs}
 use Rattle.meaning.specs.Lists.{total}
 use Rattle.meaning.specs.Graph.{region}
 use Rattle.record.specs.Stands.{OfRecord}
-use Rattle.figure.specs.Nodes.{block-cost}
+use Rattle.figure.specs.laws.Nodes.{block-cost}
 use Rattle.meaning.specs.facts.Sums.{sum-turn, sum-end}
 use Rattle.figure.proofs.blocks_figure.Statement.{statement}
 use Rattle.figure.proofs.blocks_figure.Tie as tie

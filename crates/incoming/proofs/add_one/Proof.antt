@@ -24,8 +24,10 @@ element-write-counts c = search needs
 
 returns : tie.Need-returns
 returns c =
+    let at-if = c .before .before in
+    let at-pre = at-if .before .before .before .before in
     one-more-by _ _ (omega arith)
-    (c .before .before .before .before .before .before .pre .each _ (c .before .before .if1 .taken)) (c .plus .ensures)
+    (at-pre .pre .each _ (at-if .if1 .taken)) (c .plus .ensures)
 
 returns-2 : tie.Need-returns-2
 returns-2 c = one-more-beyond _ _ (c .if1 .left)

@@ -13,8 +13,9 @@ count-targets-requires c κs = room-counts (c .before .before .before .before .p
 
 count-exits-requires : tie.Need-count-exits-requires
 count-exits-requires c κs =
+    let at-pre = c .before .before .before .before .before .before in
     grown _ (c .before .count-targets .ensures .0)
-    (room-counts (c .before .before .before .before .before .before .pre) 4194241 (omega arith)) (omega arith)
+    (room-counts (at-pre .pre) 4194241 (omega arith)) (omega arith)
 
 push-targets-requires : tie.Need-push-targets-requires
 push-targets-requires c κs = search needs

@@ -27,9 +27,15 @@ same-length : tie.Need-same-length
 same-length c = search needs
 
 returns-2 : tie.Need-returns-2
-returns-2 c = within-figure _ _ (c .before .before .before .before .before .before .before .entry .ensures)
-    (c .before .before .before .before .before .before .children .ensures) (c .before .before .before .before .before .figure .ensures)
-    (c .before .before .before .before .if1 .left) (c .before .before .written .ensures)
+returns-2 c =
+    let at-written = c .before .before in
+    let at-if = at-written .before .before in
+    let at-figure = at-if .before in
+    let at-children = at-figure .before in
+    let at-entry = at-children .before in
+    within-figure _ _ (at-entry .entry .ensures)
+    (at-children .children .ensures) (at-figure .figure .ensures)
+    (at-if .if1 .left) (at-written .written .ensures)
 
 pub formed-spec : {M : Type 1} → statement M
 formed-spec =

@@ -14,8 +14,12 @@ enum-told : tie.Need-enum-told
 enum-told c = search needs
 
 nest-record-requires : tie.Need-nest-record-requires
-nest-record-requires c κs = stood-loaded (c .before .before .before .before .accept .ensures) (c .before .before .enum-told .given .1)
-    (let size = c .before .before .before .before .before .before .before .span-arg2 .given in omega arith)
+nest-record-requires c κs =
+    let at-enum-told = c .before .before in
+    let at-accept = at-enum-told .before .before in
+    let at-span-arg = at-accept .before .before .before in
+    stood-loaded (at-accept .accept .ensures) (at-enum-told .enum-told .given .1)
+    (let size = at-span-arg .span-arg2 .given in omega arith)
 
 enum-known-number : tie.Need-enum-known-number
 enum-known-number c = search needs
@@ -24,8 +28,12 @@ same-length : tie.Need-same-length
 same-length c = search needs
 
 returns : tie.Need-returns
-returns c = nest-accepted (c .before .before .before .before .before .before .before .accept .ensures)
-    (c .before .before .before .before .before .enum-told .given .1) (c .before .before .nest-record .ensures)
+returns c =
+    let at-nest-record = c .before .before in
+    let at-enum-told = at-nest-record .before .before .before in
+    let at-accept = at-enum-told .before .before in
+    nest-accepted (at-accept .accept .ensures)
+    (at-enum-told .enum-told .given .1) (at-nest-record .nest-record .ensures)
 
 returns-2 : tie.Need-returns-2
 returns-2 c = nest-refused (c .before .before .before .accept .ensures) _ (c .before .number .given .1)

@@ -39,37 +39,53 @@ same-length : tie.Need-same-length
 same-length c = search needs
 
 returns : tie.Need-returns
-returns c = λ g st valid.
-    nested-unfigured valid (c .before .before .before .before .before .before .before .structurize-func .ensures g st valid)
-    (ap number-of (c .before .before .before .before .before .enum-told .given .1)) (omega arith) (λ a b. omega arith)
-    (c .before .before .written .ensures)
+returns c =
+    let at-written = c .before .before in
+    let at-enum-told = at-written .before .before .before in
+    let at-structurize-func = at-enum-told .before .before in
+    λ g st valid.
+    nested-unfigured valid (at-structurize-func .structurize-func .ensures g st valid)
+    (ap number-of (at-enum-told .enum-told .given .1)) (omega arith) (λ a b. omega arith)
+    (at-written .written .ensures)
 
 same-length-2 : tie.Need-same-length-2
 same-length-2 c = search needs
 
 returns-2 : tie.Need-returns-2
-returns-2 c = λ g st valid.
-    nested-formed valid (c .before .before .before .before .before .before .before .structurize-func .ensures g st valid)
-    (ap number-of (c .before .before .before .before .before .enum-told2 .given .1)) (omega arith) (omega arith)
-    (c .before .before .formed .ensures)
+returns-2 c =
+    let at-formed = c .before .before in
+    let at-enum-told = at-formed .before .before .before in
+    let at-structurize-func = at-enum-told .before .before in
+    λ g st valid.
+    nested-formed valid (at-structurize-func .structurize-func .ensures g st valid)
+    (ap number-of (at-enum-told .enum-told2 .given .1)) (omega arith) (omega arith)
+    (at-formed .formed .ensures)
 
 same-length-3 : tie.Need-same-length-3
 same-length-3 c = search needs
 
 returns-3 : tie.Need-returns-3
-returns-3 c = λ g st valid.
-    nested-formed valid (c .before .before .before .before .before .before .before .structurize-func .ensures g st valid)
-    (ap number-of (c .before .before .before .before .before .enum-told3 .given .1)) (omega arith) (omega arith)
-    (c .before .before .formed2 .ensures)
+returns-3 c =
+    let at-formed = c .before .before in
+    let at-enum-told = at-formed .before .before .before in
+    let at-structurize-func = at-enum-told .before .before in
+    λ g st valid.
+    nested-formed valid (at-structurize-func .structurize-func .ensures g st valid)
+    (ap number-of (at-enum-told .enum-told3 .given .1)) (omega arith) (omega arith)
+    (at-formed .formed2 .ensures)
 
 same-length-4 : tie.Need-same-length-4
 same-length-4 c = search needs
 
 returns-4 : tie.Need-returns-4
-returns-4 c = λ g st valid.
-    nested-unfigured valid (c .before .before .before .before .before .before .before .structurize-func .ensures g st valid)
-    (ap number-of (c .before .before .before .before .before .enum-told4 .given .1)) (omega arith) (λ a b. omega arith)
-    (c .before .before .written2 .ensures)
+returns-4 c =
+    let at-written = c .before .before in
+    let at-enum-told = at-written .before .before .before in
+    let at-structurize-func = at-enum-told .before .before in
+    λ g st valid.
+    nested-unfigured valid (at-structurize-func .structurize-func .ensures g st valid)
+    (ap number-of (at-enum-told .enum-told4 .given .1)) (omega arith) (λ a b. omega arith)
+    (at-written .written2 .ensures)
 
 returns-5 : tie.Need-returns-5
 returns-5 c = λ g st valid. nested-refused valid (c .before .before .before .structurize-func .ensures g st valid)

@@ -7,7 +7,7 @@ use Rattle.meaning.specs.Graph.{Code, SelectionKind, bool-cond, number}
 use Rattle.nesting.specs.Nesting.{Outcome, untouched, whole, closed, leftover}
 use Rattle.nesting.specs.Sheet.{sheet-text}
 use Rattle.nesting.specs.decoding.Lines.{Line, region-line, block-line, select-line, loop-line, exit-line, defer-line, TypedSheet}
-use Rattle.nesting.specs.decoding.Lines.{written}
+use Rattle.nesting.specs.decoding.Lines.{as-sheet}
 use Rattle.meaning.specs.Text.{Text}
 use Rattle.nesting.specs.ShownForm.{Item, Condition, t-cond, f-cond, u-cond, m-cond, Conditions, no-part, part}
 
@@ -188,7 +188,7 @@ decode-sheet = do
   decode-as (record { outcome = o; figure = f; attempts = n; twice = b; lines = ls })
 
 abbrev pub text-of-got : Decoded TypedSheet → Text
-text-of-got (decoded s ws) = sheet-text (written s)
+text-of-got (decoded s ws) = sheet-text (as-sheet s)
 text-of-got nothing = []
 
 -- The text that is printed for the words of a sheet.

@@ -19,13 +19,13 @@ abbrev pub region-number : ShownRegion → ℕ
 region-number (region-shown r ts ks vs) = r
 
 -- Lines are read from the last to the first: each takes what it holds from the front of what was read before it.
-pub data Part : Type 0 where
-  a-node : ShownNode → Part
-  a-region : ShownRegion → Part
-  an-edge : ShownEdge → Part
+pub data FormPart : Type 0 where
+  a-node : ShownNode → FormPart
+  a-region : ShownRegion → FormPart
+  an-edge : ShownEdge → FormPart
 
 abbrev pub Parts : Type 0
-Parts = List Part
+Parts = List FormPart
 
 -- The first part, if it is a node (or a region) of the number that the line names, and the parts after it.
 abbrev with-node : ℕ → Parts → (ShownNode → Parts → Option Parts) → Option Parts

@@ -30,7 +30,7 @@ pub record TypedSheet : Type 0 where
   pub twice : Bool
   pub lines : List Line
 
--- ---- how a line is written
+-- ---- how a line is as-sheet
 -- By kind, 0 to 5.
 abbrev pub value-texts : ℕ → ℕ → List Text
 value-texts r k =
@@ -88,8 +88,8 @@ words-of fs = concat (map (λ f. f .words) fs)
 abbrev pub lines-words : List Line → List ℕ
 lines-words ls = concat (map words-of (map fields ls))
 
-abbrev pub written : TypedSheet → Sheet
-written s = record { outcome = s .outcome; figure = s .figure; attempts = s .attempts; twice = s .twice; lines = map fields (s .lines) }
+abbrev pub as-sheet : TypedSheet → Sheet
+as-sheet s = record { outcome = s .outcome; figure = s .figure; attempts = s .attempts; twice = s .twice; lines = map fields (s .lines) }
 
 -- ---- the lines of a nested form
 -- `nodes` has the node of each output ever defined, in order.

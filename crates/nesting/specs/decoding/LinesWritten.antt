@@ -1,4 +1,4 @@
--- The sheet of a nested form is its typed lines, written.
+-- The sheet of a nested form is its typed lines, as-sheet.
 use mathlib.Core.Path.{_≡_, refl, _∙_}
 use mathlib.Core.Bool.{true, false}
 use mathlib.Core.List.{List, [], _∷_, _++_, map, map-append}
@@ -11,7 +11,7 @@ use Rattle.nesting.specs.Nesting.{Outcome, LazyCond, undef-cond, false-c
 use Rattle.nesting.specs.Nesting.{to-region, to-return, DeferredEdgeBundle, untouched, whole, closed, leftover, Piece, Nested}
 use Rattle.nesting.specs.Sheet.{condition, conditions, target, value, items, node-lines, nodes-lines, case-lines, piece-lines}
 use Rattle.nesting.specs.Sheet.{defer-fields, defer-lines, ascending, lines-of, sheet-of}
-use Rattle.nesting.specs.decoding.Lines.{value-field, item-field, target-field, condition-field, condition-fields, fields, written}
+use Rattle.nesting.specs.decoding.Lines.{value-field, item-field, target-field, condition-field, condition-fields, fields, as-sheet}
 use Rattle.nesting.specs.decoding.Lines.{typed-node, typed-nodes, typed-cases, typed-pieces, typed-edge, typed-deferred, typed-lines}
 use Rattle.nesting.specs.decoding.Lines.{typed-sheet}
 use Rattle.nesting.specs.ShownForm.{target-word, shown-cond, shown-conds, block-items, shown-value}
@@ -109,11 +109,11 @@ lines-written x =
     map-append fields (typed-pieces nodes ps) (typed-deferred nodes qs)
     ∙ λ i. pieces-written nodes ps i ++ deferred-written nodes qs i
 
-pub sheet-written : (g : Graph) (x : Nested) → written (typed-sheet g x) ≡ sheet-of g x
+pub sheet-written : (g : Graph) (x : Nested) → as-sheet (typed-sheet g x) ≡ sheet-of g x
 unfolding sheet-of
 sheet-written g x = at (x .outcome) refl
   where
-    at : (o : Outcome) → x .outcome ≡ o → written (typed-sheet g x) ≡ sheet-of g x
+    at : (o : Outcome) → x .outcome ≡ o → as-sheet (typed-sheet g x) ≡ sheet-of g x
     at untouched e = rw e
     at whole e = rw (e, lines-written x)
     at closed e = rw (e, lines-written x)

@@ -12,7 +12,7 @@ use Rattle.nesting.specs.Nesting.{Outcome, untouched, whole, closed, lef
 use Rattle.nesting.specs.Sheet.{Field, sheet-of, sheet-words, sheet-text, outcome, figure-field, a-number, number-as}
 use Rattle.nesting.specs.decoding.Lines.{Line, region-line, block-line, select-line, loop-line, exit-line, defer-line, TypedSheet}
 use Rattle.nesting.specs.decoding.Lines.{value-field, values-field, item-field, target-field, condition-field, condition-fields}
-use Rattle.nesting.specs.decoding.Lines.{fields, words-of, lines-words, written, typed-sheet}
+use Rattle.nesting.specs.decoding.Lines.{fields, words-of, lines-words, as-sheet, typed-sheet}
 use Rattle.nesting.specs.decoding.LinesWritten.{sheet-written}
 use Rattle.nesting.specs.decoding.Decode.{Decoded, decoded, WordReader, next-word, _>>=_, decode-as, decode-number, decode-times}
 use Rattle.nesting.specs.decoding.Decode.{decode-value, decode-item, parts, decode-condition, decode-any-condition, decode-line}
@@ -210,7 +210,7 @@ unfolding next-word
 flag-read true rest = refl
 flag-read false rest = refl
 
-pub round-trip : (s : TypedSheet) → decode-sheet (sheet-words (written s)) ≡ decoded s []
+pub round-trip : (s : TypedSheet) → decode-sheet (sheet-words (as-sheet s)) ≡ decoded s []
 unfolding decode-sheet sheet-words next-word
 round-trip s =
     ap decode-sheet (split-words (s .outcome) (s .figure) (s .attempts) (bit (s .twice)) (lines-words (s .lines)))
@@ -218,13 +218,13 @@ round-trip s =
     ∙ then-decoded _ _ _ _ (flag-read (s .twice) _)
     ∙ then-decoded _ _ _ _ (lines-read (s .lines) _ (fewer-lines (s .lines)))
 
-pub unambiguous : (s t : TypedSheet) → sheet-words (written s) ≡ sheet-words (written t) → s ≡ t
+pub unambiguous : (s t : TypedSheet) → sheet-words (as-sheet s) ≡ sheet-words (as-sheet t) → s ≡ t
 unambiguous s t e =
     let p : decoded s [] ≡ decoded t [] = sym (round-trip s) ∙ ap decode-sheet e ∙ round-trip t in
     cc
 
 -- So the text can be had from the words alone.
-pub typed-text-is : (s : TypedSheet) → words-text (sheet-words (written s)) ≡ sheet-text (written s)
+pub typed-text-is : (s : TypedSheet) → words-text (sheet-words (as-sheet s)) ≡ sheet-text (as-sheet s)
 unfolding words-text
 typed-text-is s = ap text-of-got (round-trip s)
 

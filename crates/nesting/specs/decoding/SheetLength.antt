@@ -9,7 +9,7 @@ use Rattle.nesting.specs.Nesting.{Outcome, untouched, whole, closed, lef
 use Rattle.nesting.specs.Sheet.{a-number, kind, outcome, figure-field, sheet-of, sheet-words}
 use Rattle.nesting.specs.decoding.Lines.{Line, region-line, block-line, select-line, loop-line, exit-line, defer-line, TypedSheet}
 use Rattle.nesting.specs.decoding.Lines.{value-field, item-field, condition-field, condition-fields, fields, words-of, lines-words}
-use Rattle.nesting.specs.decoding.Lines.{written, typed-sheet}
+use Rattle.nesting.specs.decoding.Lines.{as-sheet, typed-sheet}
 use Rattle.nesting.specs.decoding.LinesWritten.{sheet-written}
 use Rattle.nesting.specs.decoding.RoundTrip.{target-words}
 use Rattle.nesting.specs.ShownForm.{Item, Condition, t-cond, f-cond, u-cond, m-cond, Conditions, no-part, part}
@@ -97,7 +97,7 @@ line-1-long whole f n t rest = omega arith
 line-1-long closed f n t rest = omega arith
 line-1-long leftover f n t rest = omega arith
 
-pub typed-long : (s : TypedSheet) → length (sheet-words (written s)) ≡ sheet-length s
+pub typed-long : (s : TypedSheet) → length (sheet-words (as-sheet s)) ≡ sheet-length s
 unfolding sheet-words
 typed-long s = line-1-long (s .outcome) (s .figure) (s .attempts) _ (lines-words (s .lines)) ∙ ap (λ n. 4 + n) (lines-long (s .lines))
 

@@ -33,9 +33,12 @@ enum-known-n c = search needs
 
 read-regions-requires : tie.Need-read-regions-requires
 read-regions-requires c κs =
-    let read = c .before .before .before .before .head in
-    let a = word-read _ _ _ refl (read .ensures) (c .before .before .n .given .1) in
-    (omega (arith, a .same, c .before .before .before .before .before .before .if1 .left), head-few _ (a .is))
+    let at-n = c .before .before in
+    let at-head = at-n .before .before in
+    let at-if = at-head .before .before in
+    let read = at-head .head in
+    let a = word-read _ _ _ refl (read .ensures) (at-n .n .given .1) in
+    (omega (arith, a .same, at-if .if1 .left), head-few _ (a .is))
 
 returns-2 : tie.Need-returns-2
 returns-2 c =

@@ -45,12 +45,16 @@ enum-known-step-2 c = search needs
 
 cast-store : tie.Need-cast-store Inv-loop μ-loop
 cast-store c =
-    let a = step-read _ _ _ (c .before .before .before .before .before .before .before .before .loop .inv .1)
-    (c .before .before .before .before .before .region .ensures .step) (c .before .before .before .step2 .given .1) in
+    let at-step = c .before .before .before in
+    let at-region = at-step .before .before in
+    let at-loop = at-region .before .before .before in
+    let at-args = at-loop .before .before .before .before in
+    let a = step-read _ _ _ (at-loop .loop .inv .1)
+    (at-region .region .ensures .step) (at-step .step2 .given .1) in
     omega (
       arith,
-      taken-inside (c .before .before .before .before .before .before .before .before .loop .w)
-          (c .before .before .before .before .before .before .before .before .before .before .before .before .args .from .end)
+      taken-inside (at-loop .loop .w)
+          (at-args .args .from .end)
           (region-inside _ _ (a .is)) .0,
     )
 

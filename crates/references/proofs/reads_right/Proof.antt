@@ -61,16 +61,21 @@ loop-less : tie.Need-loop-less Inv-loop μ-loop
 loop-less c = search needs
 
 loop-again : tie.Need-loop-again Inv-loop μ-loop
-loop-again c = (
-  omega arith,
-  omega (arith, c .block-length .ok),
-  λ g s.
-      rw (c .block-length .ensures g s)
-      (block-passes g _ (region g (c .before .before .before .before .before .before .before .args .r) .blocks)
-      (c .before .before .before .before .before .before .block-count .ensures g s) _ _ _
-      (c .before .before .before .before .loop-test .taken) (c .before .before .before .before .before .loop .inv .2 g s)
-      (sym (ap answered (c .before .enum-told .given .1)) ∙ c .before .before .before .block-reads-right .ensures g s)),
-)
+loop-again c =
+    let at-block-reads-right = c .before .before .before in
+    let at-loop-test = at-block-reads-right .before in
+    let at-loop = at-loop-test .before in
+    let at-block-count = at-loop .before in
+    let at-args = at-block-count .before in (
+      omega arith,
+      omega (arith, c .block-length .ok),
+      λ g s.
+          rw (c .block-length .ensures g s)
+          (block-passes g _ (region g (at-args .args .r) .blocks)
+          (at-block-count .block-count .ensures g s) _ _ _
+          (at-loop-test .loop-test .taken) (at-loop .loop .inv .2 g s)
+          (sym (ap answered (c .before .enum-told .given .1)) ∙ at-block-reads-right .block-reads-right .ensures g s)),
+    )
 
 returns-2 : tie.Need-returns-2 Inv-loop μ-loop
 returns-2 c g s =

@@ -82,6 +82,7 @@ is-nested-requires c κs =
 
 returns-2 : tie.Need-returns-2
 returns-2 c =
+    let at-if = c .before .before .before .before .before .before in
     let at-of-sheet = c .before .before .before .before .before .before .before in
     let at-decode = at-of-sheet .before in
     let at-behind2 = at-decode .before .before .before in
@@ -90,7 +91,7 @@ returns-2 c =
     let v = take (start .args .size) (start .args .text .now) in
     let size : length v ≡ start .args .size = length-take-le _ _ (start .pre) in
     let p = parted v (at-behind .behind .ensures) (at-behind2 .behind2 .ensures) in
-    let kind = sym (at-of-sheet .of-sheet .ensures) ∙ c .before .before .before .before .before .before .if2 .taken in
+    let kind = sym (at-of-sheet .of-sheet .ensures) ∙ at-if .if2 .taken in
     kept-whole v (omega arith) (at-decode .decode .ensures .bytes ∙ p .store) (p .answer) kind (c .is-nested .ensures)
 
 sub-is-shown : tie.Need-sub-is-shown
@@ -113,6 +114,7 @@ is-shown-requires c κs = search needs
 
 returns-3 : tie.Need-returns-3
 returns-3 c =
+    let at-if = c .before .before .before .before .before .before in
     let at-of-sheet = c .before .before .before .before .before .before .before in
     let at-decode = at-of-sheet .before in
     let at-behind2 = at-decode .before .before .before in
@@ -121,7 +123,7 @@ returns-3 c =
     let v = take (start .args .size) (start .args .text .now) in
     let size : length v ≡ start .args .size = length-take-le _ _ (start .pre) in
     let p = parted v (at-behind .behind .ensures) (at-behind2 .behind2 .ensures) in
-    let kind = sym (at-of-sheet .of-sheet .ensures) ∙ c .before .before .before .before .before .before .if2 .left in
+    let kind = sym (at-of-sheet .of-sheet .ensures) ∙ at-if .if2 .left in
     kept-whole v (omega arith) (at-decode .decode .ensures .bytes ∙ p .store) (p .answer) kind (c .is-shown .ensures)
 
 pub agrees-spec : {M : Type 1} → statement M

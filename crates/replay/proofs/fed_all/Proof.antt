@@ -25,7 +25,9 @@ shared-slice-read-fed : tie.Need-shared-slice-read-fed Inv-loop μ-loop
 shared-slice-read-fed c = search needs
 
 fed-requires : tie.Need-fed-requires Inv-loop μ-loop
-fed-requires c κs = c .before .before .before .before .before .before .loop .inv .1 .0
+fed-requires c κs =
+    let at-loop = c .before .before .before .before .before .before in
+    at-loop .loop .inv .1 .0
 
 add-i : tie.Need-add-i Inv-loop μ-loop
 add-i c = search needs

@@ -69,10 +69,16 @@ module _ (t : ℕ) where
   same-length c = search needs
 
   returns-2 : lts.Need-returns-2 (called t) (at t) reads.Post
-  returns-2 c = first-region _ (c .before .before .before .before .before .before .before .before .before .before .if1 .left)
-      (c .before .before .before .before .before .before .before .before .cell-before .ensures)
-      (c .before .before .before .before .before .before .before .put-regions .ensures) (c .before .before .before .cell-a .ensures)
-      (c .before .before .put-number .ensures)
+  returns-2 c =
+      let at-put-number = c .before .before in
+      let at-cell-a = at-put-number .before in
+      let at-put-regions = at-cell-a .before .before .before .before in
+      let at-cell-before = at-put-regions .before in
+      let at-if = at-cell-before .before .before in
+      first-region _ (at-if .if1 .left)
+      (at-cell-before .cell-before .ensures)
+      (at-put-regions .put-regions .ensures) (at-cell-a .cell-a .ensures)
+      (at-put-number .put-number .ensures)
 
 pub +put-regions-spec : {M : Type 1} → statement M
 +put-regions-spec = close measure λ t. lts.spec (called t) (at t) reads.Post

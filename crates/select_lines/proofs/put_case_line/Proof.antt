@@ -22,11 +22,17 @@ same-length : tie.Need-same-length
 same-length c = search needs
 
 returns : tie.Need-returns
-returns c = case-line-put _ _ _ _
-    (c .before .before .before .before .before .before .before .before .before .before .before .before .put-case-outputs .ensures)
-    (c .before .before .before .before .before .before .before .before .case-children .ensures)
-    (c .before .before .before .before .before .before .before .put-kids .ensures) (c .before .before .before .cell-a .ensures)
-    (c .before .before .put-three .ensures)
+returns c =
+    let at-put-three = c .before .before in
+    let at-cell-a = at-put-three .before in
+    let at-put-kids = at-cell-a .before .before .before .before in
+    let at-case-children = at-put-kids .before in
+    let at-put-case-outputs = at-case-children .before .before .before .before in
+    case-line-put _ _ _ _
+    (at-put-case-outputs .put-case-outputs .ensures)
+    (at-case-children .case-children .ensures)
+    (at-put-kids .put-kids .ensures) (at-cell-a .cell-a .ensures)
+    (at-put-three .put-three .ensures)
 
 pub put-case-line-spec : {M : Type 1} → statement M
 put-case-line-spec =

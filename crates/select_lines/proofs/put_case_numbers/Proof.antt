@@ -14,8 +14,11 @@ same-length : tie.Need-same-length
 same-length c = search needs
 
 returns : tie.Need-returns
-returns c = case-numbers-put _ (omega arith) (c .before .before .before .before .before .before .put-regions .ensures)
-    (c .before .before .put .ensures)
+returns c =
+    let at-put = c .before .before in
+    let at-put-regions = at-put .before .before .before .before in
+    case-numbers-put _ (omega arith) (at-put-regions .put-regions .ensures)
+    (at-put .put .ensures)
 
 pub put-case-numbers-spec : {M : Type 1} → statement M
 put-case-numbers-spec = tie.close (tie.spec put-regions-requires put-requires same-length returns)

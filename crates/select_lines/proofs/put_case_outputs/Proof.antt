@@ -4,7 +4,7 @@ use native.Mathlib.Omega.{arith}
 use lib.ListN.{length}
 use borrow.Author.Needs.{needs}
 use Rattle.writing.specs.Puts.{Puts}
-use Rattle.writing.specs.Rows.{run, run-start}
+use Rattle.writing.specs.laws.Rows.{run, run-start}
 use Rattle.writing.specs.Parts.{OfState}
 use Rattle.writing.specs.Outputs.{node-times}
 use Rattle.select_lines.specs.OwnOutputs.{own, case-value, own-put, other-passed, own-counted, other-not-counted, case-outputs-put}
@@ -51,19 +51,25 @@ loop-less : tie.Need-loop-less Inv-loop μ-loop
 loop-less c = search needs
 
 loop-again : tie.Need-loop-again Inv-loop μ-loop
-loop-again c = (
-  λ g s x. own-put _ _ (case-value _ _ s) _ _ (c .before .before .before .before .before .before .output-node .ensures)
-      (c .before .before .before .before .before .before .before .loop-test .taken) (omega arith)
-      (c .before .before .before .before .before .before .before .before .loop .inv .0 g s x)
-      (c .before .before .before .before .before .if1 .taken) (rw (c .before .before .before .output-value .ensures) at
-      (c .before .before .put-value .ensures g s x)),
-  own-counted _ _ _ _ _ (c .before .before .before .before .before .before .output-node .ensures)
-      (c .before .before .before .before .before .before .before .loop-test .taken)
-      (c .before .before .before .before .before .before .before .before .loop .inv .1)
-      (c .before .before .before .before .before .if1 .taken) refl,
-  omega arith,
-  search needs,
-)
+loop-again c =
+    let at-put-value = c .before .before in
+    let at-output-value = at-put-value .before in
+    let at-if = at-output-value .before .before in
+    let at-output-node = at-if .before in
+    let at-loop-test = at-output-node .before in
+    let at-loop = at-loop-test .before in (
+      λ g s x. own-put _ _ (case-value _ _ s) _ _ (at-output-node .output-node .ensures)
+          (at-loop-test .loop-test .taken) (omega arith)
+          (at-loop .loop .inv .0 g s x)
+          (at-if .if1 .taken) (rw (at-output-value .output-value .ensures) at
+          (at-put-value .put-value .ensures g s x)),
+      own-counted _ _ _ _ _ (at-output-node .output-node .ensures)
+          (at-loop-test .loop-test .taken)
+          (at-loop .loop .inv .1)
+          (at-if .if1 .taken) refl,
+      omega arith,
+      search needs,
+    )
 
 loop-less-2 : tie.Need-loop-less-2 Inv-loop μ-loop
 loop-less-2 c = search needs
@@ -85,9 +91,14 @@ same-length : tie.Need-same-length Inv-loop μ-loop
 same-length c = search needs
 
 returns : tie.Need-returns Inv-loop μ-loop
-returns c = case-outputs-put _ _ _ (c .before .before .before .before .before .before .output-count .ensures)
-    (c .before .before .before .before .loop-test .left) (c .before .before .before .before .before .loop .inv .1)
-    (c .before .before .put-word .ensures) _ (c .before .before .before .before .before .loop .inv .0)
+returns c =
+    let at-put-word = c .before .before in
+    let at-loop-test = at-put-word .before .before in
+    let at-loop = at-loop-test .before in
+    let at-output-count = at-loop .before in
+    case-outputs-put _ _ _ (at-output-count .output-count .ensures)
+    (at-loop-test .loop-test .left) (at-loop .loop .inv .1)
+    (at-put-word .put-word .ensures) _ (at-loop .loop .inv .0)
 
 pub put-case-outputs-spec : {M : Type 1} → statement M
 put-case-outputs-spec =

@@ -34,18 +34,26 @@ same-length : tie.Need-same-length
 same-length c = search needs
 
 returns : tie.Need-returns
-returns c = select-line-put _ _
-    (c .before .before .before .before .before .before .before .before .before .before .before .before .before .before .before .before
-    .before .before .before .before .cell-a .ensures)
-    (c .before .before .before .before .before .before .before .before .before .before .before .before .before .before .before .before
-    .before .before .put-output-types .ensures)
-    (c .before .before .before .before .before .before .before .before .before .before .before .before .before .before .inner-list
+returns c =
+    let at-put-three = c .before .before in
+    let at-kind-word = at-put-three .before .before in
+    let at-cell-b = at-kind-word .before in
+    let at-put-value = at-cell-b .before .before .before in
+    let at-cell-c = at-put-value .before in
+    let at-put-case-numbers = at-cell-c .before .before .before .before in
+    let at-inner-list = at-put-case-numbers .before in
+    let at-put-output-types = at-inner-list .before .before .before .before in
+    let at-cell-a = at-put-output-types .before .before in
+    select-line-put _ _
+    (at-cell-a .cell-a .ensures)
+    (at-put-output-types .put-output-types .ensures)
+    (at-inner-list .inner-list
     .ensures)
-    (c .before .before .before .before .before .before .before .before .before .before .before .before .before .put-case-numbers
-    .ensures) (c .before .before .before .before .before .before .before .before .before .cell-c .ensures)
-    (c .before .before .before .before .before .before .before .before .put-value .ensures)
-    (c .before .before .before .before .before .cell-b .ensures) (c .before .before .before .before .kind-word .ensures)
-    (c .before .before .put-three .ensures)
+    (at-put-case-numbers .put-case-numbers
+    .ensures) (at-cell-c .cell-c .ensures)
+    (at-put-value .put-value .ensures)
+    (at-cell-b .cell-b .ensures) (at-kind-word .kind-word .ensures)
+    (at-put-three .put-three .ensures)
 
 pub put-select-line-spec : {M : Type 1} → statement M
 put-select-line-spec =

@@ -13,8 +13,11 @@ same-length : tie.Need-same-length
 same-length c = search needs
 
 returns : tie.Need-returns
-returns c = rw (take-all (c .before .before .before .before .before .before .before .args .n)
-    (c .before .before .before .before .before .before .before .args .words .now) (omega arith)) (c .before .before .sheet .ensures)
+returns c =
+    let at-sheet = c .before .before in
+    let at-args = at-sheet .before .before .before .before .before in
+    rw (take-all (at-args .args .n)
+    (at-args .args .words .now) (omega arith)) (at-sheet .sheet .ensures)
 
 slice-aggregate-sheet : tie.Need-slice-aggregate-sheet
 slice-aggregate-sheet c = sym (length-take-le _ _ (c .before .if1 .left))

@@ -1,4 +1,4 @@
--- From words read and text written to what is answered.
+-- From words read and text as-sheet to what is answered.
 use mathlib.Core.Path.{_≡_, refl, sym, ap, _∙_}
 use mathlib.Core.Bool.{Bool, true, false}
 use mathlib.Core.List.{List, []}
@@ -16,13 +16,13 @@ use Rattle.text.specs.declared.Written.the-variants as answers
 use Rattle.text.specs.Buffer.{buffer, Wrote}
 use Rattle.text.specs.Whole.{Whole, written-to, whole, room-enough}
 use Rattle.nesting.specs.Sheet.{sheet-text}
-use Rattle.nesting.specs.decoding.Lines.{TypedSheet, written}
+use Rattle.nesting.specs.decoding.Lines.{TypedSheet, as-sheet}
 use Rattle.nesting.specs.decoding.Decode.{Decoded, decoded, nothing, next-word, decode-as, decode-sheet, text-of-got, words-text}
 use Rattle.sheet_text.specs.declared.cursor.Cursor.{Cursor}
 use Rattle.sheet_text.specs.declared.Printed.{Printed}
 use Rattle.sheet_text.specs.declared.Printed.the-variants.{Line, Full, NoLine}
 use Rattle.sheet_text.specs.Lines.{TextReader, shown, decoded-sheet-text}
-use Rattle.sheet_text.specs.Puts.{Puts, words-from, reading, forget}
+use Rattle.sheet_text.specs.Puts.{PutsText, words-from, reading, read-text}
 use Rattle.sheet_text.specs.laws.PutsSteps.{from-inside, from-beyond, missing}
 use Rattle.sheet_text.specs.Answers.{text-of, LinePrinted, SheetPrinted}
 use Rattle.sheet_text.specs.laws.Room.{Small, Fits}
@@ -38,7 +38,7 @@ pub record Found (read : TextReader) (ws : List ℕ) (at : ℕ) : Type 0 where
   pub is : read (drop at ws) ≡ decoded text rest
   pub inside : at ≤ length ws
 
-module _ {read : TextReader} {ws before after : List ℕ} {c d : Cursor} (p : Puts read ws c before after d) where
+module _ {read : TextReader} {ws before after : List ℕ} {c d : Cursor} (p : PutsText read ws c before after d) where
   pub found : d .at ≤ length ws → Found read ws (c .at)
   unfolding next-word
   found l = by-read (read (drop (c .at) ws)) refl
@@ -49,7 +49,7 @@ module _ {read : TextReader} {ws before after : List ℕ} {c d : Cursor} (p : Pu
       by-read : (x : Decoded Text) → read (drop (c .at) ws) ≡ x → Found read ws (c .at)
       by-read (decoded t rest) e = record { text = t; rest = rest; is = e; inside = inside }
       by-read nothing e =
-          absurd (missing (sym (p .words ∙ ap (λ x. forget (reading read x)) (from-inside ws (c .at) inside) ∙ ap forget e)
+          absurd (missing (sym (p .words ∙ ap (λ x. read-text (reading read x)) (from-inside ws (c .at) inside) ∙ ap read-text e)
           ∙ from-inside ws (d .at) l))
 
   pub none-found : read [] ≡ nothing → length ws < d .at → read (drop (c .at) ws) ≡ nothing
@@ -60,13 +60,13 @@ module _ {read : TextReader} {ws before after : List ℕ} {c d : Cursor} (p : Pu
       by-read inside nothing e = e
       by-read inside (decoded t rest) e =
           absurd (missing (sym (from-beyond ws (d .at) l)
-          ∙ (p .words ∙ ap (λ x. forget (reading read x)) (from-inside ws (c .at) inside) ∙ ap forget e)))
+          ∙ (p .words ∙ ap (λ x. read-text (reading read x)) (from-inside ws (c .at) inside) ∙ ap read-text e)))
 
       by-place : (b : Bool) → leb (c .at) (length ws) ≡ b → read (drop (c .at) ws) ≡ nothing
       by-place true e = by-read (leb-true _ _ e) (read (drop (c .at) ws)) refl
       by-place false e = rw (drop-of-length-le ws {i = c .at} (omega (arith, leb-false (c .at) (length ws) e))) none
 
-  -- What was found is written, and the next word stands behind it.
+  -- What was found is as-sheet, and the next word stands behind it.
   module _ (f : Found read ws (c .at)) where
     here : reading read (words-from ws (c .at)) ≡ decoded (f .text) (f .rest)
     unfolding next-word
@@ -79,7 +79,7 @@ module _ {read : TextReader} {ws before after : List ℕ} {c d : Cursor} (p : Pu
     found-next = by-place (leb (d .at) (length ws)) refl
       where
         there : words-from ws (d .at) ≡ decoded tt (f .rest)
-        there = p .words ∙ ap forget here
+        there = p .words ∙ ap read-text here
 
         by-place : (b : Bool) → leb (d .at) (length ws) ≡ b → d .at ≡ length ws - length (f .rest)
         by-place true e =
@@ -102,7 +102,7 @@ module _ {read : TextReader} {ws : List ℕ} {at : ℕ} where
   }
 
   pub line-printed : {before after : List ℕ} {d : Cursor} {r : Printed} → Fits 0 0 read → Small ws → Found read ws at
-      → Puts read ws (record { at = at; place = 0 }) before after d → length after ≡ length before
+      → PutsText read ws (record { at = at; place = 0 }) before after d → length after ≡ length before
       → r ≡ pick (leb (d .place) (length after)) (Line (d .at) (d .place)) Full → LinePrinted read ws at before after r
   unfolding line-written
   line-printed {before} {after} {d} {r} fit small f p size is =
@@ -133,7 +133,7 @@ pub words-text-read : (ws : List ℕ) → words-text ws ≡ text-of (decoded-she
 unfolding words-text shown next-word
 words-text-read ws = by-sheet (decode-sheet ws)
   where
-    by-sheet : (x : Decoded TypedSheet) → text-of-got x ≡ text-of (next-word x λ s. decode-as (sheet-text (written s)))
+    by-sheet : (x : Decoded TypedSheet) → text-of-got x ≡ text-of (next-word x λ s. decode-as (sheet-text (as-sheet s)))
     by-sheet (decoded s rest) = refl
     by-sheet nothing = refl
 
@@ -155,7 +155,7 @@ module _ {ws : List ℕ} where
       }
 
   pub sheet-printed : {before after : List ℕ} {d : Cursor} {r : Written} → Small ws → Found decoded-sheet-text ws 0
-      → Puts decoded-sheet-text ws (record { at = 0; place = 0 }) before after d → length after ≡ length before
+      → PutsText decoded-sheet-text ws (record { at = 0; place = 0 }) before after d → length after ≡ length before
       → r ≡ written-to (length after) (d .place) → SheetPrinted ws before after r
   sheet-printed {before} {after} {d} {r} small f p size is =
       let text : words-text ws ≡ f .text = words-text-read ws ∙ ap text-of (f .is) in

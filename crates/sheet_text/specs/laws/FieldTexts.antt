@@ -14,7 +14,7 @@ use Rattle.sheet_text.specs.declared.cursor.Cursor.{Cursor}
 use Rattle.sheet_text.specs.declared.fields.Field.the-variants.{Value, Condition}
 use Rattle.sheet_text.specs.Lines.{shown}
 use Rattle.sheet_text.specs.Texts.{say, _then_, item-text, condition-text, list-within, item-head, merge-head, plain-text}
-use Rattle.sheet_text.specs.Puts.{Puts, PutsWithin}
+use Rattle.sheet_text.specs.Puts.{PutsText, PutsWithin}
 use Rattle.sheet_text.specs.laws.PutsSteps.{puts-then, puts-there}
 use Rattle.meaning.specs.facts.Elements.{first-dropped}
 use Rattle.sheet_text.specs.laws.Readers.{next-next, next-decoded}
@@ -47,8 +47,8 @@ merge-shown depth (w ∷ ws) h = rw h (merge-text depth ws)
 module _ {ws : List ℕ} {c : Cursor} where
   pub merge-there : eqb (getD ws (c .at) 0) 4 ≡ true → (depth : ℕ) → length ws ≤ c .at + 0 + depth
       → {before named parts after : List ℕ} {d e f : Cursor}
-      → Puts merge-head ws c before named d → PutsWithin 1 (λ k. list-within k Condition) ws d named parts e
-      → Puts (say (ascii "]")) ws e parts after f → Puts (condition-text depth) ws c before after f
+      → PutsText merge-head ws c before named d → PutsWithin 1 (λ k. list-within k Condition) ws d named parts e
+      → PutsText (say (ascii "]")) ws e parts after f → PutsText (condition-text depth) ws c before after f
   merge-there is zero h a b q =
       let beyond : getD ws (c .at) 0 ≡ 0 = List·getD-eq-default ws 0 {n = c .at} (omega arith) in
       absurd (omega (arith, eqb-true (getD ws (c .at) 0) 4 is))
@@ -57,7 +57,7 @@ module _ {ws : List ℕ} {c : Cursor} where
       (puts-then a (puts-then (b depth (omega (arith, a .ahead))) q))
 
   pub plain-there : eqb (getD ws (c .at) 0) 4 ≡ false → (depth : ℕ) → length ws ≤ c .at + 0 + depth → {before after : List ℕ} {d : Cursor}
-      → Puts plain-text ws c before after d → Puts (condition-text depth) ws c before after d
+      → PutsText plain-text ws c before after d → PutsText (condition-text depth) ws c before after d
   unfolding shown next-word decode-condition
   plain-there is zero h a = puts-there (λ l. rw (drop-of-length-le ws {i = c .at} (omega arith)) refl) a
   plain-there is (suc depth) h a =

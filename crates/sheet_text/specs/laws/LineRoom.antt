@@ -11,7 +11,7 @@ use Rattle.meaning.specs.Lists.{pick}
 use Rattle.meaning.specs.Text.{Text, ascii, decimal, digits}
 use Rattle.text.specs.laws.Lengths.{ten-digits}
 use Rattle.nesting.specs.Sheet.{number-as, a-number, sheet-text}
-use Rattle.nesting.specs.decoding.Lines.{TypedSheet, written, target-field}
+use Rattle.nesting.specs.decoding.Lines.{TypedSheet, as-sheet, target-field}
 use Rattle.nesting.specs.decoding.Decode.{Decoded, decoded, nothing, next-word, line-by, decode-line, decode-sheet, words-text, text-of-got}
 use Rattle.sheet_text.specs.declared.fields.Field.{Field}
 use Rattle.sheet_text.specs.declared.fields.Field.the-variants.{Number, Value, Item, Condition}
@@ -149,5 +149,5 @@ unfolding words-text shown next-word
 words-text-fits ws s = by-sheet (decode-sheet ws) refl
   where
     by-sheet : (x : Decoded TypedSheet) → decode-sheet ws ≡ x → length (text-of-got x) ≤ 16 * length ws
-    by-sheet (decoded sheet rest) e = omega (arith, fits-sheet .few ws s (sheet-text (written sheet)) rest (rw e refl) .bytes)
+    by-sheet (decoded sheet rest) e = omega (arith, fits-sheet .few ws s (sheet-text (as-sheet sheet)) rest (rw e refl) .bytes)
     by-sheet nothing e = omega arith

@@ -9,7 +9,7 @@ use Rattle.text.specs.Buffer.{wrote-none}
 use Rattle.sheet_text.specs.declared.cursor.Cursor.{Cursor}
 use Rattle.sheet_text.specs.declared.fields.Field.{Field}
 use Rattle.sheet_text.specs.Texts.{say, field-within, list-within, none-text}
-use Rattle.sheet_text.specs.Puts.{Puts, PutsWithin, Stopped}
+use Rattle.sheet_text.specs.Puts.{PutsText, PutsWithin, Stopped}
 use Rattle.sheet_text.specs.laws.PutsSteps.{puts-then, puts-said, puts-next, puts-ended, puts-beyond}
 use Rattle.sheet_text.specs.laws.ListTexts.{others, list-uncounted, list-none, list-some}
 
@@ -19,8 +19,8 @@ pub record Turned (kind : Field) (ws : List ℕ) (at n : ℕ) (text₀ : List �
   pub count : k ≤ n
   pub ahead : at < d .at
   pub rest : (depth : ℕ) → length ws ≤ at + 1 + depth → {after : List ℕ} {e : Cursor}
-      → Puts (others (field-within depth kind) (n - k)) ws d text after e
-      → Puts (others (field-within depth kind) (n - 1)) ws d₀ text₀ after e
+      → PutsText (others (field-within depth kind) (n - k)) ws d text after e
+      → PutsText (others (field-within depth kind) (n - 1)) ws d₀ text₀ after e
 
 module _ {kind : Field} {ws : List ℕ} {at n : ℕ} {text₀ : List ℕ} {d₀ : Cursor} where
   pub turned-first : at < d₀ .at → (n ≡ 0 → ⊥) → Turned kind ws at n text₀ d₀ text₀ d₀ 1
@@ -28,7 +28,7 @@ module _ {kind : Field} {ws : List ℕ} {at n : ℕ} {text₀ : List ℕ} {d₀ 
 
   module _ {text : List ℕ} {d : Cursor} {k : ℕ} (t : Turned kind ws at n text₀ d₀ text d k) where
     pub turned-next : {said done : List ℕ} {e f : Cursor} → k < n → length done ≡ length text
-        → Puts (say (ascii ",")) ws d text said e → PutsWithin 0 (λ depth. field-within depth kind) ws e said done f
+        → PutsText (say (ascii ",")) ws d text said e → PutsWithin 0 (λ depth. field-within depth kind) ws e said done f
         → Turned kind ws at n text₀ d₀ done f (k + 1)
     unfolding others
     turned-next {f = f} l same comma field =
@@ -44,7 +44,7 @@ module _ {kind : Field} {ws : List ℕ} {at n : ℕ} {text₀ : List ℕ} {d₀ 
 
     module _ {place : ℕ} {before : List ℕ} (inside : at < length ws) (is : getD ws at 0 ≡ n) (some : n ≡ 0 → ⊥)
         (first : PutsWithin 0 (λ depth. field-within depth kind) ws (record { at = at + 1; place = place }) before text₀ d₀) where
-      ended : ((depth : ℕ) → Puts (others (field-within depth kind) (n - k)) ws d text text d)
+      ended : ((depth : ℕ) → PutsText (others (field-within depth kind) (n - k)) ws d text text d)
           → PutsWithin 1 (λ depth. list-within depth kind) ws (record { at = at; place = place }) before text d
       ended last depth h =
           puts-next inside (λ rest. rw is (list-some depth kind n some rest))
@@ -65,6 +65,6 @@ module _ (kind : Field) {ws before : List ℕ} where
   list-missing l s depth h = puts-ended (list-uncounted depth kind) l s
 
   pub list-empty : {at place : ℕ} {after : List ℕ} {d : Cursor} → at < length ws → getD ws at 0 ≡ 0
-      → Puts (say (none-text kind)) ws (record { at = at + 1; place = place }) before after d
+      → PutsText (say (none-text kind)) ws (record { at = at + 1; place = place }) before after d
       → PutsWithin 1 (λ depth. list-within depth kind) ws (record { at = at; place = place }) before after d
   list-empty l is p depth h = puts-next l (λ rest. rw is (list-none depth kind rest)) p

@@ -16,7 +16,7 @@ use Rattle.nesting.specs.decoding.Decode.{Decoded, decoded, nothing, next-word,
 use Rattle.sheet_text.specs.declared.cursor.Cursor.{Cursor}
 use Rattle.sheet_text.specs.Lines.{TextReader}
 use Rattle.sheet_text.specs.Texts.{say, _then_}
-use Rattle.sheet_text.specs.Puts.{words-from, reading, forget, Puts, PutsWithin, Stopped}
+use Rattle.sheet_text.specs.Puts.{words-from, reading, read-text, PutsText, PutsWithin, Stopped}
 
 pub from-inside : (ws : List ℕ) (at : ℕ) → at ≤ length ws → words-from ws at ≡ decoded tt (drop at ws)
 unfolding words-from
@@ -39,18 +39,18 @@ pub record ThenParts (r q : TextReader) (x : Decoded Unit) (v : Text) (rest : Li
   pub is : first ++ second ≡ v
 
 module _ (r q : TextReader) where
-  then-second : (t : Text) (y : Decoded Text) → forget y ≡ forget (next-word y λ u. decode-as (t ++ u))
+  then-second : (t : Text) (y : Decoded Text) → read-text y ≡ read-text (next-word y λ u. decode-as (t ++ u))
   unfolding next-word
   then-second t (decoded u ws) = refl
   then-second t nothing = refl
 
   then-first : (y : Decoded Text)
-      → forget (reading q (forget y)) ≡ forget (next-word y λ t rest. next-word (q rest) λ u. decode-as (t ++ u))
+      → read-text (reading q (read-text y)) ≡ read-text (next-word y λ t rest. next-word (q rest) λ u. decode-as (t ++ u))
   unfolding next-word
   then-first (decoded t rest) = then-second t (q rest)
   then-first nothing = refl
 
-  then-forgets : (x : Decoded Unit) → forget (reading q (forget (reading r x))) ≡ forget (reading (r then q) x)
+  then-forgets : (x : Decoded Unit) → read-text (reading q (read-text (reading r x))) ≡ read-text (reading (r then q) x)
   unfolding next-word _then_
   then-forgets (decoded u ws) = then-first (r ws)
   then-forgets nothing = refl
@@ -72,44 +72,44 @@ module _ (r q : TextReader) where
   then-parts nothing v rest h = absurd (missing h)
 
 module _ {ws before between after : List ℕ} {c d e : Cursor} {r q : TextReader} where
-  pub puts-then : Puts r ws c before between d → Puts q ws d between after e → Puts (r then q) ws c before after e
+  pub puts-then : PutsText r ws c before between d → PutsText q ws d between after e → PutsText (r then q) ws c before after e
   unfolding next-word
   puts-then a b =
       record {
-        words = b .words ∙ ap (λ x. forget (reading q x)) (a .words) ∙ then-forgets r q (words-from ws (c .at));
+        words = b .words ∙ ap (λ x. read-text (reading q x)) (a .words) ∙ then-forgets r q (words-from ws (c .at));
         bytes = λ {t} {rest} h.
             let p = then-parts r q (words-from ws (c .at)) t rest h in
-            let there : words-from ws (d .at) ≡ decoded tt (p .between) = a .words ∙ ap forget (p .read-first) in
+            let there : words-from ws (d .at) ≡ decoded tt (p .between) = a .words ∙ ap read-text (p .read-first) in
             of-text (p .is) (a .bytes (p .read-first) ▸ b .bytes (ap (reading q) there ∙ p .read-second));
         ahead = omega (arith, a .ahead, b .ahead);
       }
 
 -- A reader that reads the same there.
 module _ {ws before after : List ℕ} {c d : Cursor} {r q : TextReader} where
-  pub puts-there : (c .at ≤ length ws → r (drop (c .at) ws) ≡ q (drop (c .at) ws)) → Puts r ws c before after d
-      → Puts q ws c before after d
+  pub puts-there : (c .at ≤ length ws → r (drop (c .at) ws) ≡ q (drop (c .at) ws)) → PutsText r ws c before after d
+      → PutsText q ws c before after d
   unfolding next-word
   puts-there h a =
       let e = at-place (leb (c .at) (length ws)) refl in
-      record { words = a .words ∙ ap forget e; bytes = λ g. a .bytes (e ∙ g); ahead = a .ahead }
+      record { words = a .words ∙ ap read-text e; bytes = λ g. a .bytes (e ∙ g); ahead = a .ahead }
     where
       at-place : (t : Bool) → leb (c .at) (length ws) ≡ t → reading r (words-from ws (c .at)) ≡ reading q (words-from ws (c .at))
       at-place true t = rw (from-inside ws (c .at) (leb-true _ _ t)) (h (leb-true _ _ t))
       at-place false t = rw (from-beyond ws (c .at) (leb-false _ _ t))
 
-  pub puts-as : ((ws : List ℕ) → r ws ≡ q ws) → Puts r ws c before after d → Puts q ws c before after d
+  pub puts-as : ((ws : List ℕ) → r ws ≡ q ws) → PutsText r ws c before after d → PutsText q ws c before after d
   puts-as h a = puts-there (λ l. h (drop (c .at) ws)) a
 
 -- The words left are a bound of themselves.
 pub puts-any : (front : ℕ) (r : ℕ → TextReader) {ws before after : List ℕ} {c d : Cursor} → PutsWithin front r ws c before after d
-    → Puts (λ left. r (length left) left) ws c before after d
+    → PutsText (λ left. r (length left) left) ws c before after d
 puts-any front r {ws} {c = c} p =
     let left = length (drop (c .at) ws) in
     puts-there {r = r left} (λ l. refl) (p left (rw length-drop (omega arith)))
 
 -- A text for which no word is read.
 pub puts-said : {ws before after : List ℕ} {c d : Cursor} {t : Text} → d .at ≡ c .at
-    → Wrote (buffer before (c .place)) t (buffer after (d .place)) → Puts (say t) ws c before after d
+    → Wrote (buffer before (c .place)) t (buffer after (d .place)) → PutsText (say t) ws c before after d
 unfolding next-word
 puts-said {ws} {before} {after} {c} {d} {t} same w =
     record {
@@ -118,7 +118,7 @@ puts-said {ws} {before} {after} {c} {d} {t} same w =
       ahead = omega arith;
     }
   where
-    none-read : (x : Decoded Unit) → x ≡ forget (reading (say t) x)
+    none-read : (x : Decoded Unit) → x ≡ read-text (reading (say t) x)
     none-read (decoded tt rest) = refl
     none-read nothing = refl
 
@@ -129,19 +129,21 @@ puts-said {ws} {before} {after} {c} {d} {t} same w =
 -- The next word, by which the rest is read.
 pub puts-next : {ws before after : List ℕ} {at place : ℕ} {d : Cursor} {r q : TextReader} → at < length ws
     → ((rest : List ℕ) → r (getD ws at 0 ∷ rest) ≡ q rest)
-    → Puts q ws (record { at = at + 1; place = place }) before after d → Puts r ws (record { at = at; place = place }) before after d
+    → PutsText q ws (record { at = at + 1; place = place }) before after d
+    → PutsText r ws (record { at = at; place = place }) before after d
 unfolding next-word
 puts-next {ws} {at = at} {r = r} {q} l h a =
     let here : words-from ws at ≡ decoded tt (getD ws at 0 ∷ drop (at + 1) ws) =
     from-inside ws at (omega arith) ∙ ap (decoded tt) (rw add-one (drop-cons ws at 0 l)) in
     let e : reading r (words-from ws at) ≡ reading q (words-from ws (at + 1)) =
     ap (reading r) here ∙ h (drop (at + 1) ws) ∙ sym (ap (reading q) (from-inside ws (at + 1) (omega arith))) in
-    record { words = a .words ∙ ap forget (sym e); bytes = λ g. a .bytes (sym e ∙ g); ahead = omega (arith, a .ahead) }
+    record { words = a .words ∙ ap read-text (sym e); bytes = λ g. a .bytes (sym e ∙ g); ahead = omega (arith, a .ahead) }
 
 -- The next three words.
 pub puts-three : {ws before after : List ℕ} {at place : ℕ} {d : Cursor} {r q : TextReader} → at + 3 ≤ length ws
     → ((rest : List ℕ) → r (getD ws at 0 ∷ getD ws (at + 1) 0 ∷ getD ws (at + 2) 0 ∷ rest) ≡ q rest)
-    → Puts q ws (record { at = at + 3; place = place }) before after d → Puts r ws (record { at = at; place = place }) before after d
+    → PutsText q ws (record { at = at + 3; place = place }) before after d
+    → PutsText r ws (record { at = at; place = place }) before after d
 puts-three {ws} {at = at} l h a =
     let two : at + 1 + 1 ≡ at + 2 = omega arith in
     let three : at + 2 + 1 ≡ at + 3 = omega arith in
@@ -150,12 +152,12 @@ puts-three {ws} {at = at} l h a =
 
 -- Nothing is read from words that are none for the reader.
 module _ {ws before after : List ℕ} {c d : Cursor} {r : TextReader} where
-  pub puts-none : (c .at ≤ length ws → r (drop (c .at) ws) ≡ nothing) → Stopped ws c d → Puts r ws c before after d
+  pub puts-none : (c .at ≤ length ws → r (drop (c .at) ws) ≡ nothing) → Stopped ws c d → PutsText r ws c before after d
   unfolding next-word
   puts-none h s =
       let e = by-place (leb (c .at) (length ws)) refl in
       record {
-        words = from-beyond ws (d .at) (s .beyond) ∙ ap forget (sym e);
+        words = from-beyond ws (d .at) (s .beyond) ∙ ap read-text (sym e);
         bytes = λ g. absurd (missing (sym e ∙ g));
         ahead = s .ahead;
       }
@@ -165,14 +167,14 @@ module _ {ws before after : List ℕ} {c d : Cursor} {r : TextReader} where
       by-place false t = rw (from-beyond ws (c .at) (leb-false _ _ t))
 
   -- The words are at their end.
-  pub puts-ended : r [] ≡ nothing → length ws ≤ c .at → Stopped ws c d → Puts r ws c before after d
+  pub puts-ended : r [] ≡ nothing → length ws ≤ c .at → Stopped ws c d → PutsText r ws c before after d
   puts-ended h l s = puts-none (λ k. rw (drop-of-length-le ws {i = c .at} l) h) s
 
   -- The next word is none that may stand there.
   pub puts-refused : c .at < length ws → ((rest : List ℕ) → r (getD ws (c .at) 0 ∷ rest) ≡ nothing) → Stopped ws c d
-      → Puts r ws c before after d
+      → PutsText r ws c before after d
   puts-refused l h s = puts-none (λ k. rw (drop-cons ws (c .at) 0 l) (h (drop (suc (c .at)) ws))) s
 
 -- Beyond the end nothing is read any more.
-pub puts-beyond : {ws bytes : List ℕ} {c : Cursor} {r : TextReader} → length ws < c .at → Puts r ws c bytes bytes c
+pub puts-beyond : {ws bytes : List ℕ} {c : Cursor} {r : TextReader} → length ws < c .at → PutsText r ws c bytes bytes c
 puts-beyond l = puts-none (λ k. absurd (omega arith)) (record { beyond = l; ahead = omega arith })

@@ -10,7 +10,7 @@ use Rattle.meaning.specs.Lists.{bit}
 use Rattle.meaning.specs.Graph.{Graph}
 use Rattle.nesting.specs.Nesting.{Outcome, untouched, whole, closed, leftover, Nested}
 use Rattle.nesting.specs.Sheet.{sheet-of, sheet-words, sheet-text}
-use Rattle.nesting.specs.decoding.Lines.{Line, fields, words-of, lines-words, TypedSheet, written, typed-sheet}
+use Rattle.nesting.specs.decoding.Lines.{Line, fields, words-of, lines-words, TypedSheet, as-sheet, typed-sheet}
 use Rattle.nesting.specs.decoding.LinesWritten.{sheet-written}
 use Rattle.nesting.specs.decoding.Decode.{decoded, next-word, decode-line}
 use Rattle.nesting.specs.decoding.RoundTrip.{line-read, some-words}
@@ -49,7 +49,7 @@ module _ (f n : ℕ) (ls : List Line) where
   abbrev typed : Outcome → Bool → TypedSheet
   typed o b = record { outcome = o; figure = f; attempts = n; twice = b; lines = ls }
 
-  head-words : (o : Outcome) (b : Bool) → sheet-words (written (typed o b)) ≡ outcome-word o ∷ f ∷ n ∷ bit b ∷ lines-words ls
+  head-words : (o : Outcome) (b : Bool) → sheet-words (as-sheet (typed o b)) ≡ outcome-word o ∷ f ∷ n ∷ bit b ∷ lines-words ls
   unfolding sheet-words outcome-word
   head-words untouched b = refl
   head-words whole b = refl
@@ -69,7 +69,7 @@ module _ (f n : ℕ) (ls : List Line) where
   first-found leftover false rest = refl
 
 typed-by-line : (s : TypedSheet) (more : List ℕ)
-    → ByLine (sheet-words (written s) ++ more) (length (sheet-words (written s))) (sheet-text (written s))
+    → ByLine (sheet-words (as-sheet s) ++ more) (length (sheet-words (as-sheet s))) (sheet-text (as-sheet s))
 unfolding sheet-text
 typed-by-line s more =
     let front = outcome-word (s .outcome) ∷ s .figure ∷ s .attempts ∷ bit (s .twice) ∷ [] in

@@ -11,7 +11,7 @@ use Rattle.text.specs.Buffer.{wrote-none}
 use Rattle.sheet_text.specs.declared.cursor.Cursor.{Cursor}
 use Rattle.sheet_text.specs.Lines.{TextReader, shown, line-text, decode-first, first-text, lines-text, decoded-sheet-text}
 use Rattle.sheet_text.specs.Texts.{say, _then_}
-use Rattle.sheet_text.specs.Puts.{Puts, PutsOn}
+use Rattle.sheet_text.specs.Puts.{PutsText, PutsOn}
 use Rattle.sheet_text.specs.laws.PutsSteps.{puts-then, puts-as, puts-there, puts-said}
 use Rattle.sheet_text.specs.laws.Readers.{next-next, next-decoded}
 
@@ -42,8 +42,8 @@ pub record LinesTurned (ws text₀ : List ℕ) (c₀ : Cursor) (text : List ℕ)
   pub size : length text ≡ length text₀
   pub most : ℕ
   pub bound : length ws ≤ c .at + most
-  pub rest : {after : List ℕ} {e : Cursor} → Puts (lines-within most) ws c text after e
-      → Puts (λ left. lines-within (length left) left) ws c₀ text₀ after e
+  pub rest : {after : List ℕ} {e : Cursor} → PutsText (lines-within most) ws c text after e
+      → PutsText (λ left. lines-within (length left) left) ws c₀ text₀ after e
 
 module _ {ws text₀ : List ℕ} {c₀ : Cursor} where
   pub lines-start : LinesTurned ws text₀ c₀ text₀ c₀
@@ -61,8 +61,8 @@ module _ {ws text₀ : List ℕ} {c₀ : Cursor} where
   lines-next {text} {done} {c} {d} t l same p = by-most (t .most) (t .bound) λ after e q. t .rest q
     where
       by-most : (most : ℕ) → length ws ≤ c .at + most
-          → ((after : List ℕ) (e : Cursor) → Puts (lines-within most) ws c text after e
-          → Puts (λ left. lines-within (length left) left) ws c₀ text₀ after e)
+          → ((after : List ℕ) (e : Cursor) → PutsText (lines-within most) ws c text after e
+          → PutsText (λ left. lines-within (length left) left) ws c₀ text₀ after e)
           → LinesTurned ws text₀ c₀ done d
       by-most zero bound rest = absurd (omega arith)
       by-most (suc most) bound rest = record {
@@ -74,7 +74,7 @@ module _ {ws text₀ : List ℕ} {c₀ : Cursor} where
       }
 
   pub lines-all : {before text : List ℕ} {b c : Cursor} → LinesTurned ws text₀ c₀ text c → length ws ≤ c .at
-      → Puts (shown first-text decode-first) ws b before text₀ c₀ → Puts decoded-sheet-text ws b before text c
+      → PutsText (shown first-text decode-first) ws b before text₀ c₀ → PutsText decoded-sheet-text ws b before text c
   lines-all {c = c} t l p =
       puts-as sheet-shown
       (puts-then p (t .rest (puts-there (λ k. rw (drop-of-length-le ws {i = c .at} l) (no-more-lines (t .most)))

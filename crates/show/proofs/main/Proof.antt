@@ -30,8 +30,10 @@ slice-aggregate-print c = search needs
 
 print-requires : tie.Need-print-requires
 print-requires c κs =
-    never-full (c .before .before .show .ensures) (omega
-    (arith, c .before .before .before .before .before .before .before .before .before .large-buffer .ensures))
+    let at-show = c .before .before in
+    let at-large-buffer = at-show .before .before .before .before .before .before .before in
+    never-full (at-show .show .ensures) (omega
+    (arith, at-large-buffer .large-buffer .ensures))
 
 returns : tie.Need-returns
 returns c = search needs

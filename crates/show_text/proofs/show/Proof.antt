@@ -26,28 +26,38 @@ same-length c = search needs
 
 returns : tie.Need-returns
 returns c =
-    let a = c .before .before .before .before .before .before .before .before .before .before .before .args in
-    record-shown (a .bytes .now) (a .words .now) (c .before .before .before .before .before .before .before .accept .last .1 .0)
+    let at-list = c .before .before in
+    let at-enum-told = at-list .before .before .before in
+    let at-accept = at-enum-told .before .before in
+    let at-shared-slice-known = at-accept .before .before .before in
+    let at-args = at-shared-slice-known .before in
+    let a = at-args .args in
+    record-shown (a .bytes .now) (a .words .now) (at-accept .accept .last .1 .0)
     (a .out .now) _ _
-    (λ k. omega (arith, c .before .before .before .before .before .before .before .before .before .before .shared-slice-known .given k))
-    (subst (Accepts (a .bytes .now) (a .words .now) (c .before .before .before .before .before .before .before .accept .last .1 .0))
-    (c .before .before .before .before .before .enum-told .given .1)
-    (c .before .before .before .before .before .before .before .accept .ensures))
-    (c .before .before .list .ensures)
+    (λ k. omega (arith, at-shared-slice-known .shared-slice-known .given k))
+    (subst (Accepts (a .bytes .now) (a .words .now) (at-accept .accept .last .1 .0))
+    (at-enum-told .enum-told .given .1)
+    (at-accept .accept .ensures))
+    (at-list .list .ensures)
 
 same-length-2 : tie.Need-same-length-2
 same-length-2 c = search needs
 
 returns-2 : tie.Need-returns-2
 returns-2 c =
-    let a = c .before .before .before .before .before .before .before .before .before .before .before .args in
-    refusal-shown (a .bytes .now) (a .words .now) (c .before .before .before .before .before .before .before .accept .last .1 .0)
+    let at-refusal = c .before .before in
+    let at-verdict = at-refusal .before .before .before in
+    let at-accept = at-verdict .before .before in
+    let at-shared-slice-known = at-accept .before .before .before in
+    let at-args = at-shared-slice-known .before in
+    let a = at-args .args in
+    refusal-shown (a .bytes .now) (a .words .now) (at-accept .accept .last .1 .0)
     (a .out .now) _ _
-    (λ k. omega (arith, c .before .before .before .before .before .before .before .before .before .before .shared-slice-known .given k)) _ _
-    (subst (Accepts (a .bytes .now) (a .words .now) (c .before .before .before .before .before .before .before .accept .last .1 .0))
-    (c .before .before .before .before .before .verdict .given .1)
-    (c .before .before .before .before .before .before .before .accept .ensures))
-    (c .before .before .refusal .ensures)
+    (λ k. omega (arith, at-shared-slice-known .shared-slice-known .given k)) _ _
+    (subst (Accepts (a .bytes .now) (a .words .now) (at-accept .accept .last .1 .0))
+    (at-verdict .verdict .given .1)
+    (at-accept .accept .ensures))
+    (at-refusal .refusal .ensures)
 
 pub show-spec : {M : Type 1} → statement M
 show-spec =

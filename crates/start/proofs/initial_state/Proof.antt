@@ -19,9 +19,14 @@ start-returned-requires : tie.Need-start-returned-requires
 start-returned-requires c κs = search needs
 
 returns : tie.Need-returns
-returns c = started-by _ (c .before .before .before .before .before .before .before .before .start-rewrites .ensures)
-    (c .before .before .before .before .before .before .start-kinds .ensures)
-    (c .before .before .before .before .start-slots .ensures) (c .before .before .start-totals .ensures) (c .start-returned .ensures)
+returns c =
+    let at-start-totals = c .before .before in
+    let at-start-slots = at-start-totals .before .before in
+    let at-start-kinds = at-start-slots .before .before in
+    let at-start-rewrites = at-start-kinds .before .before in
+    started-by _ (at-start-rewrites .start-rewrites .ensures)
+    (at-start-kinds .start-kinds .ensures)
+    (at-start-slots .start-slots .ensures) (at-start-totals .start-totals .ensures) (c .start-returned .ensures)
 
 pub initial-state-spec : {M : Type 1} → statement M
 initial-state-spec =

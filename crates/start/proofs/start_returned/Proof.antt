@@ -42,17 +42,27 @@ loop-less : tie.Need-loop-less Inv-loop μ-loop
 loop-less c = search needs
 
 loop-again : tie.Need-loop-again Inv-loop μ-loop
-loop-again c = returned-turn (c .before .before .before .before .before .before .before .before .first-return .ensures)
-    (c .before .before .before .before .before .loop .inv) (c .before .before .before .before .loop-test .taken)
-    (c .before .before .return-type .ensures) (c .set-head .ensures)
+loop-again c =
+    let at-return-type = c .before .before in
+    let at-loop-test = at-return-type .before .before in
+    let at-loop = at-loop-test .before in
+    let at-first-return = at-loop .before .before .before in
+    returned-turn (at-first-return .first-return .ensures)
+    (at-loop .loop .inv) (at-loop-test .loop-test .taken)
+    (at-return-type .return-type .ensures) (c .set-head .ensures)
 
 set-head-requires-2 : tie.Need-set-head-requires-2 Inv-loop μ-loop
 set-head-requires-2 c κs = search needs
 
 returns : tie.Need-returns Inv-loop μ-loop
-returns c = returned-stop (c .before .before .before .before .before .before .first-return .ensures)
-    (c .before .before .before .loop .inv) (c .before .before .loop-test .left)
-    (c .before .before .before .before .value-count .ensures) (c .set-head2 .ensures)
+returns c =
+    let at-loop-test = c .before .before in
+    let at-loop = at-loop-test .before in
+    let at-value-count = at-loop .before in
+    let at-first-return = at-value-count .before .before in
+    returned-stop (at-first-return .first-return .ensures)
+    (at-loop .loop .inv) (at-loop-test .loop-test .left)
+    (at-value-count .value-count .ensures) (c .set-head2 .ensures)
 
 pub start-returned-spec : {M : Type 1} → statement M
 start-returned-spec =

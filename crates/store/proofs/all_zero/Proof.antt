@@ -60,16 +60,19 @@ loop-less : tie.Need-loop-less Inv-loop μ-loop
 loop-less c = omega arith
 
 loop-again : tie.Need-loop-again Inv-loop μ-loop
-loop-again c = (
-  omega arith,
-  (
-    c .next-place .ensures _ (c .before .before .before .before .loop .inv .1 .0)
-        ∙ ap byte-place (add-assoc _ _ 1),
-    zero-more _ _ _ (c .before .before .before .before .loop .inv .1 .1)
-        (sym (word-read (c .before .before .before .before .before .before .args .bytes .now) _ _ _ (c .before .before .pair-at .ensures)
-        (c .before .before .before .before .loop .inv .1 .0)) ∙ c .before .if1 .left),
-  ),
-)
+loop-again c =
+    let at-pair-at = c .before .before in
+    let at-loop = at-pair-at .before .before in
+    let at-args = at-loop .before .before in (
+      omega arith,
+      (
+        c .next-place .ensures _ (at-loop .loop .inv .1 .0)
+            ∙ ap byte-place (add-assoc _ _ 1),
+        zero-more _ _ _ (at-loop .loop .inv .1 .1)
+            (sym (word-read (at-args .args .bytes .now) _ _ _ (at-pair-at .pair-at .ensures)
+            (at-loop .loop .inv .1 .0)) ∙ c .before .if1 .left),
+      ),
+    )
 
 returns-2 : tie.Need-returns-2 Inv-loop μ-loop
 returns-2 c = sym (c .before .loop .inv .1 .1) ∙ ap (all-zero _ _) (omega arith)

@@ -27,7 +27,8 @@ loop-holds c = (omega arith, (refl, refl))
 
 pair-at-requires : tie.Need-pair-at-requires Inv-loop μ-loop
 pair-at-requires c κs =
-    place-within (c .before .loop .j) _ _ (c .before .loop .inv .1 .0) (c .before .before .before .before .before .before .pre .0)
+    let at-pre = c .before .before .before .before .before .before in
+    place-within (c .before .loop .j) _ _ (c .before .loop .inv .1 .0) (at-pre .pre .0)
     (omega arith)
 
 mul-words : tie.Need-mul-words Inv-loop μ-loop
@@ -38,10 +39,12 @@ element-write-words c = omega arith
 
 next-place-requires : tie.Need-next-place-requires Inv-loop μ-loop
 next-place-requires c κs =
+    let at-loop = c .before .before in
+    let at-pre = at-loop .before .before .before .before .before in
     omega (
       arith,
-      place-within (c .before .before .loop .j) _ _ (c .before .before .loop .inv .1 .0)
-          (c .before .before .before .before .before .before .before .pre .0) (omega arith),
+      place-within (at-loop .loop .j) _ _ (at-loop .loop .inv .1 .0)
+          (at-pre .pre .0) (omega arith),
     )
 
 add-j : tie.Need-add-j Inv-loop μ-loop
@@ -51,24 +54,27 @@ loop-less : tie.Need-loop-less Inv-loop μ-loop
 loop-less c = omega arith
 
 loop-again : tie.Need-loop-again Inv-loop μ-loop
-loop-again c = (
-  omega arith,
-  (
-    c .next-place .ensures _ (c .before .before .before .loop .inv .1 .0),
-    rw (
-      c .before .before .before .loop .inv .1 .1,
-      word-read
-          (c .before .before .before .before .before .before .before .before .args .bytes .now) _ _ _ (c .before .pair-at .ensures)
-          (c .before .before .before .loop .inv .1 .0),
-    ) (tabulate-more _ _ _ (omega arith)),
-  ),
-)
+loop-again c =
+    let at-loop = c .before .before .before in
+    let at-args = at-loop .before .before .before .before .before in (
+      omega arith,
+      (
+        c .next-place .ensures _ (at-loop .loop .inv .1 .0),
+        rw (
+          at-loop .loop .inv .1 .1,
+          word-read
+              (at-args .args .bytes .now) _ _ _ (c .before .pair-at .ensures)
+              (at-loop .loop .inv .1 .0),
+        ) (tabulate-more _ _ _ (omega arith)),
+      ),
+    )
 
 returns : tie.Need-returns Inv-loop μ-loop
 returns c =
+    let at-args = c .before .before .before .before .before .before in
     c .before .loop .inv .1 .1 ∙ ap (λ n. tabulate n (word-at
-    (c .before .before .before .before .before .before .args .bytes .now)) ++ drop n
-    (c .before .before .before .before .before .before .args .words .now)) (omega arith)
+    (at-args .args .bytes .now)) ++ drop n
+    (at-args .args .words .now)) (omega arith)
 
 pub copy-words-spec : {M : Type 1} → statement M
 copy-words-spec =

@@ -104,7 +104,9 @@ put-number-same-length-2 : (t : ℕ) → put-number-lts.Need-same-length-2 (
   put-number.Post,
 ) (put-number-at t) put-number.Post
 put-number-same-length-2 t c =
-    c .before .before .put-byte2 .kept .0 ∙ c .before .before .before .before .before .before .put-number .kept .0
+    let at-put-byte = c .before .before in
+    let at-put-number = at-put-byte .before .before .before .before in
+    at-put-byte .put-byte2 .kept .0 ∙ at-put-number .put-number .kept .0
 
 put-number-returns-2 : (t : ℕ) → put-number-lts.Need-returns-2 (
   put-byte-reads.Asked,
@@ -113,8 +115,11 @@ put-number-returns-2 : (t : ℕ) → put-number-lts.Need-returns-2 (
   put-number.Post,
 ) (put-number-at t) put-number.Post
 put-number-returns-2 t c =
-    of-text (sym (decimal-more _ (c .before .before .before .before .before .before .before .before .if1 .left)))
-    (c .before .before .before .before .before .before .put-number .ensures ▸ c .before .before .put-byte2 .ensures)
+    let at-put-byte = c .before .before in
+    let at-put-number = at-put-byte .before .before .before .before in
+    let at-if = at-put-number .before .before in
+    of-text (sym (decimal-more _ (at-if .if1 .left)))
+    (at-put-number .put-number .ensures ▸ at-put-byte .put-byte2 .ensures)
 
 pub +put-number-spec : {M : Type 1} → statement M
 +put-number-spec = close μ-put-number λ t. put-number-lts.spec (

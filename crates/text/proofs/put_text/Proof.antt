@@ -35,14 +35,17 @@ loop-less c = omega arith
 
 loop-again : tie.Need-loop-again Inv-loop μ-loop
 loop-again c =
-    let l = c .before .before .before .before .before .before .loop in
-    let text = c .before .before .before .before .before .before .before .before .before .args .text .now in
+    let at-put-byte = c .before .before in
+    let at-loop = at-put-byte .before .before .before .before in
+    let at-args = at-loop .before .before .before in
+    let l = at-loop .loop in
+    let text = at-args .args .text .now in
     let next : drop (l .k) text ≡ getD text (l .k) 0 ∷ drop (l .k + 1) text = rw add-one (drop-cons text (l .k) 0 (omega arith)) in (
       omega arith,
       (
-        c .before .before .put-byte .kept .0
+        at-put-byte .put-byte .kept .0
             ∙ l .inv .1 .0,
-        λ q w. l .inv .1 .1 q (of-text (sym next) (c .before .before .put-byte .ensures ▸ w)),
+        λ q w. l .inv .1 .1 q (of-text (sym next) (at-put-byte .put-byte .ensures ▸ w)),
       ),
     )
 

@@ -6,8 +6,8 @@ use Rattle.format.specs.References.{no-instr}
 use Rattle.fields.specs.ByNumber.{block-of}
 use Rattle.writing.specs.Puts.{Puts, puts-as, puts-then}
 use Rattle.writing.specs.Parts.{OfState}
-use Rattle.writing.specs.Rows.{run, run-start, run-turn}
-use Rattle.writing.specs.PartLaws.{puts-from}
+use Rattle.writing.specs.laws.Rows.{run, run-start, run-turn}
+use Rattle.writing.specs.laws.PartLaws.{puts-from}
 use Rattle.block_lines.specs.BlockParts.{item-part, block-listed}
 use borrow.Author.Needs.{needs}
 use Rattle.block_lines.proofs.blocks.put_block.Statement.{statement}

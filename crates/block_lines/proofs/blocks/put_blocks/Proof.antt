@@ -5,7 +5,7 @@ use lib.ListN.{length}
 use Rattle.meaning.specs.Graph.{region}
 use Rattle.writing.specs.Puts.{Puts}
 use Rattle.writing.specs.Parts.{OfState}
-use Rattle.writing.specs.Rows.{run, run-start, run-turn}
+use Rattle.writing.specs.laws.Rows.{run, run-start, run-turn}
 use Rattle.block_lines.specs.BlockParts.{block-part, puts-blocks}
 use borrow.Author.Needs.{needs}
 use Rattle.block_lines.proofs.blocks.put_blocks.Statement.{statement}

@@ -1,5 +1,5 @@
 use Rattle.fields.specs.ByNumber.{instr-of}
-use Rattle.block_lines.specs.RecordNames.{named-at, instr-named}
+use Rattle.block_lines.specs.laws.RecordNames.{named-at, instr-named}
 use borrow.Author.Needs.{needs}
 use Rattle.block_lines.proofs.blocks.put_read.Statement.{statement}
 use Rattle.block_lines.proofs.blocks.put_read.Tie as tie

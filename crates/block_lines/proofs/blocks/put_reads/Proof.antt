@@ -6,8 +6,8 @@ use Rattle.meaning.specs.Graph.{no-value}
 use Rattle.fields.specs.ByNumber.{instr-of}
 use Rattle.writing.specs.Puts.{Puts, puts-as}
 use Rattle.writing.specs.Parts.{OfState, value-part}
-use Rattle.writing.specs.Rows.{run, run-start, run-turn}
-use Rattle.writing.specs.PartLaws.{puts-listed, values-counted}
+use Rattle.writing.specs.laws.Rows.{run, run-start, run-turn}
+use Rattle.writing.specs.laws.PartLaws.{puts-listed, values-counted}
 use borrow.Author.Needs.{needs}
 use Rattle.block_lines.proofs.blocks.put_reads.Statement.{statement}
 use Rattle.block_lines.proofs.blocks.put_reads.Tie as tie

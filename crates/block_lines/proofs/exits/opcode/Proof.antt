@@ -1,6 +1,6 @@
 use mathlib.Core.List.{[], _∷_}
 use types.Run.{miss}
-use Rattle.block_lines.specs.Exits.{exit-read, same-opcode}
+use Rattle.block_lines.specs.laws.Exits.{exit-read, same-opcode}
 use borrow.Author.Needs.{needs}
 use Rattle.block_lines.proofs.exits.opcode.Statement.{statement}
 use Rattle.block_lines.proofs.exits.opcode.Tie as tie

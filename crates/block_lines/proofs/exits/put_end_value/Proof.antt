@@ -1,5 +1,5 @@
 use Rattle.fields.specs.ByNumber.{end-values}
-use Rattle.block_lines.specs.RecordNames.{named-at, end-named}
+use Rattle.block_lines.specs.laws.RecordNames.{named-at, end-named}
 use borrow.Author.Needs.{needs}
 use Rattle.block_lines.proofs.exits.put_end_value.Statement.{statement}
 use Rattle.block_lines.proofs.exits.put_end_value.Tie as tie

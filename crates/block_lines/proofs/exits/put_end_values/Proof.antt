@@ -6,8 +6,8 @@ use Rattle.meaning.specs.Graph.{no-value}
 use Rattle.fields.specs.ByNumber.{end-values}
 use Rattle.writing.specs.Puts.{Puts, puts-as}
 use Rattle.writing.specs.Parts.{OfState, value-part}
-use Rattle.writing.specs.Rows.{run, run-start, run-turn}
-use Rattle.writing.specs.PartLaws.{puts-listed, values-counted}
+use Rattle.writing.specs.laws.Rows.{run, run-start, run-turn}
+use Rattle.writing.specs.laws.PartLaws.{puts-listed, values-counted}
 use borrow.Author.Needs.{needs}
 use Rattle.block_lines.proofs.exits.put_end_values.Statement.{statement}
 use Rattle.block_lines.proofs.exits.put_end_values.Tie as tie

@@ -18,11 +18,16 @@ same-length : tie.Need-same-length
 same-length c = search needs
 
 returns : tie.Need-returns
-returns c = λ g s x op vs e.
+returns c =
+    let at-put-three = c .before .before in
+    let at-opcode = at-put-three .before .before in
+    let at-put-end-values = at-opcode .before .before .before in
+    let at-args = at-put-end-values .before .before .before in
+    λ g s x op vs e.
     puts-as
-    (puts-then (rw e at (c .before .before .before .before .before .before .before .put-end-values .ensures g s x))
-    (rw (c .before .before .before .before .opcode .ensures g (x .state .stands) op vs e) at (c .before .before .put-three .ensures)))
-    (sym (exit-listed s (c .before .before .before .before .before .before .before .before .before .before .args .node) op vs))
+    (puts-then (rw e at (at-put-end-values .put-end-values .ensures g s x))
+    (rw (at-opcode .opcode .ensures g (x .state .stands) op vs e) at (at-put-three .put-three .ensures)))
+    (sym (exit-listed s (at-args .args .node) op vs))
 
 pub put-exit-spec : {M : Type 1} → statement M
 put-exit-spec =

@@ -7,8 +7,8 @@ use Rattle.meaning.specs.Graph.{region}
 use Rattle.nesting.specs.Nesting.{plain}
 use Rattle.record.specs.Stands.{OfRecord}
 use Rattle.writing.specs.Puts.{Puts, puts-as}
-use Rattle.writing.specs.Rows.{run, run-start, run-turn}
-use Rattle.writing.specs.PartLaws.{puts-listed, numbers-listed}
+use Rattle.writing.specs.laws.Rows.{run, run-start, run-turn}
+use Rattle.writing.specs.laws.PartLaws.{puts-listed, numbers-listed}
 use Rattle.block_lines.proofs.types.put_types.Statement.{statement}
 use Rattle.block_lines.proofs.types.put_types.Tie as tie
 use borrow.Author.Needs.{needs}

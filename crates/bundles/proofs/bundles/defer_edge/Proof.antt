@@ -1,4 +1,4 @@
-use Rattle.bundles.specs.Paths.{edge-by}
+use Rattle.bundles.specs.laws.Paths.{edge-by}
 use borrow.Author.Needs.{needs}
 use Rattle.bundles.proofs.bundles.defer_edge.Statement.{statement}
 use Rattle.bundles.proofs.bundles.defer_edge.Tie as tie

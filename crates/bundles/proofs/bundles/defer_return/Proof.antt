@@ -1,4 +1,4 @@
-use Rattle.bundles.specs.Paths.{return-by}
+use Rattle.bundles.specs.laws.Paths.{return-by}
 use borrow.Author.Needs.{needs}
 use Rattle.bundles.proofs.bundles.defer_return.Statement.{statement}
 use Rattle.bundles.proofs.bundles.defer_return.Tie as tie
@@ -22,10 +22,16 @@ put-set-length-requires : tie.Need-put-set-length-requires
 put-set-length-requires c κs = search needs
 
 returns : tie.Need-returns
-returns c g s = return-by g _ _ (c .before .before .before .before .before .before .before .before .before .set-start .ensures)
-    (c .before .before .before .before .before .before .before .before .bundle-at .ensures)
-    (c .before .before .before .before .before .before .returned-inputs .ensures g s)
-    (c .before .before .before .before .zero .ensures) (c .before .before .put-bundle .ensures) (c .put-set-length .ensures)
+returns c g s =
+    let at-put-bundle = c .before .before in
+    let at-zero = at-put-bundle .before .before in
+    let at-returned-inputs = at-zero .before .before in
+    let at-bundle-at = at-returned-inputs .before .before in
+    let at-set-start = at-bundle-at .before in
+    return-by g _ _ (at-set-start .set-start .ensures)
+    (at-bundle-at .bundle-at .ensures)
+    (at-returned-inputs .returned-inputs .ensures g s)
+    (at-zero .zero .ensures) (at-put-bundle .put-bundle .ensures) (c .put-set-length .ensures)
 
 pub defer-return-spec : {M : Type 1} → statement M
 defer-return-spec =

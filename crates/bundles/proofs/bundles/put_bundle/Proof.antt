@@ -1,4 +1,4 @@
-use Rattle.bundles.specs.Paths.{run-then}
+use Rattle.bundles.specs.laws.Paths.{run-then}
 use mathlib.Core.List.{[], _∷_}
 use Rattle.state.specs.Sections.{bundles}
 use Rattle.state.specs.Tables.{edges-word}

@@ -1,4 +1,4 @@
-use Rattle.bundles.specs.Paths.{padded-in, padded-beyond}
+use Rattle.bundles.specs.laws.Paths.{padded-in, padded-beyond}
 use borrow.Author.Needs.{needs}
 use Rattle.bundles.proofs.bundles.returned_word.Statement.{statement}
 use Rattle.bundles.proofs.bundles.returned_word.Tie as tie

@@ -1,4 +1,4 @@
-use Rattle.bundles.specs.Paths.{append-claimed, append-edge}
+use Rattle.bundles.specs.laws.Paths.{append-claimed, append-edge}
 use Rattle.bundles.specs.Words.{its-rest}
 use borrow.Author.Needs.{needs}
 use Rattle.bundles.proofs.taken.append_maybe_claimed_region.Statement.{statement}
@@ -27,12 +27,16 @@ put-set-length-requires c κs = search needs
 
 returns : tie.Need-returns
 returns c =
+    let at-swap-sets = c .before .before in
+    let at-set-children = at-swap-sets .before .before in
+    let at-join = at-set-children .before .before in
+    let at-children = at-join .before .before in
     let entered = c .before .before .before .before .before .before .before .before .before .before in
     append-claimed _ _ _ _ (entered .before .before .before .before .before .if1 .taken)
     (entered .before .before .before .case-inputs .ensures) (entered .insert-rewrites .ensures)
-    (c .before .before .before .before .before .before .before .before .children .ensures)
-    (c .before .before .before .before .before .before .join .ensures) (c .before .before .before .before .set-children .ensures)
-    (c .before .before .swap-sets .ensures) (c .put-set-length .ensures)
+    (at-children .children .ensures)
+    (at-join .join .ensures) (at-set-children .set-children .ensures)
+    (at-swap-sets .swap-sets .ensures) (c .put-set-length .ensures)
 
 set-start-requires : tie.Need-set-start-requires
 set-start-requires c κs = search needs
@@ -47,9 +51,14 @@ put-set-length-requires-2 : tie.Need-put-set-length-requires-2
 put-set-length-requires-2 c κs = search needs
 
 returns-2 : tie.Need-returns-2
-returns-2 c = append-edge _ _ _ _ (c .before .before .before .before .before .before .before .if2 .taken)
-    (c .before .before .before .before .before .set-start .ensures) (c .before .before .before .before .bundle-at .ensures)
-    (c .before .before .copy-bundle .ensures)
+returns-2 c =
+    let at-copy-bundle = c .before .before in
+    let at-bundle-at = at-copy-bundle .before .before in
+    let at-set-start = at-bundle-at .before in
+    let at-if = at-set-start .before .before in
+    append-edge _ _ _ _ (at-if .if2 .taken)
+    (at-set-start .set-start .ensures) (at-bundle-at .bundle-at .ensures)
+    (at-copy-bundle .copy-bundle .ensures)
     (c .put-set-length2 .ensures)
 
 put-set-length-requires-3 : tie.Need-put-set-length-requires-3

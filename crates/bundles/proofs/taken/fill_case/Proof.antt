@@ -1,4 +1,4 @@
-use Rattle.bundles.specs.Paths.{fill-claimed, fill-edge, fill-nothing}
+use Rattle.bundles.specs.laws.Paths.{fill-claimed, fill-edge, fill-nothing}
 use borrow.Author.Needs.{needs}
 use Rattle.bundles.proofs.taken.fill_case.Statement.{statement}
 use Rattle.bundles.proofs.taken.fill_case.Tie as tie
@@ -19,11 +19,17 @@ put-case-requires : tie.Need-put-case-requires
 put-case-requires c κs = search needs
 
 returns : tie.Need-returns
-returns c g s = fill-claimed g _ _ _ (c .before .before .before .before .before .before .before .before .before .target-taken .ensures)
-    (c .before .before .before .before .before .before .before .before .if1 .taken)
-    (c .before .before .before .before .before .before .target .ensures g s)
-    (c .before .before .before .before .before .claimed-case .ensures)
-    (c .before .before .before .passed-inputs .ensures g s) (c .put-case .ensures)
+returns c g s =
+    let at-passed-inputs = c .before .before .before in
+    let at-claimed-case = at-passed-inputs .before .before in
+    let at-target = at-claimed-case .before in
+    let at-if = at-target .before .before in
+    let at-target-taken = at-if .before in
+    fill-claimed g _ _ _ (at-target-taken .target-taken .ensures)
+    (at-if .if1 .taken)
+    (at-target .target .ensures g s)
+    (at-claimed-case .claimed-case .ensures)
+    (at-passed-inputs .passed-inputs .ensures g s) (c .put-case .ensures)
 
 own-edge-requires : tie.Need-own-edge-requires
 own-edge-requires c κs = search needs
@@ -38,10 +44,16 @@ set-case-requires : tie.Need-set-case-requires
 set-case-requires c κs = search needs
 
 returns-2 : tie.Need-returns-2
-returns-2 c g s = fill-edge g _ _ _ (c .before .before .before .before .before .before .before .before .target-taken .ensures)
-    (c .before .before .before .before .before .before .before .if1 .left)
-    (c .before .before .before .before .before .before .if2 .taken) (c .before .before .before .before .before .own-edge .ensures)
-    (c .before .before .before .defer-edge .ensures g s) (c .before .unclaimed-case .ensures) (c .set-case .ensures)
+returns-2 c g s =
+    let at-defer-edge = c .before .before .before in
+    let at-own-edge = at-defer-edge .before .before in
+    let at-if = at-own-edge .before in
+    let at-if-2 = at-if .before in
+    let at-target-taken = at-if-2 .before in
+    fill-edge g _ _ _ (at-target-taken .target-taken .ensures)
+    (at-if-2 .if1 .left)
+    (at-if .if2 .taken) (at-own-edge .own-edge .ensures)
+    (at-defer-edge .defer-edge .ensures g s) (c .before .unclaimed-case .ensures) (c .set-case .ensures)
 
 unclaimed-case-requires-2 : tie.Need-unclaimed-case-requires-2
 unclaimed-case-requires-2 c κs = search needs

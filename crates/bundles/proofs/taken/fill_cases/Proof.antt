@@ -2,7 +2,7 @@ use Prim.Native.Nat.{_-_, _≤_}
 use mathlib.Core.Path.{_≡_}
 use native.Mathlib.Omega.{arith}
 use borrow.Author.Needs.{needs}
-use Rattle.bundles.specs.Paths.{fill-start, fill-turn, fill-stop, fill-end, stands-counted}
+use Rattle.bundles.specs.laws.Paths.{fill-start, fill-turn, fill-stop, fill-end, stands-counted}
 use Rattle.record.specs.Stands.{Stands, OfRecord}
 use Rattle.bundles.specs.Words.{filled-from}
 use Rattle.bundles.proofs.taken.fill_cases.Statement.{statement}

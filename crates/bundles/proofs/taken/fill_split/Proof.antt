@@ -1,4 +1,4 @@
-use Rattle.bundles.specs.Paths.{split-by}
+use Rattle.bundles.specs.laws.Paths.{split-by}
 use borrow.Author.Needs.{needs}
 use Rattle.bundles.proofs.taken.fill_split.Statement.{statement}
 use Rattle.bundles.proofs.taken.fill_split.Tie as tie
@@ -38,14 +38,22 @@ set-case-requires c κs = search needs
 
 returns : tie.Need-returns
 returns c g s =
+    let at-put-case = c .before .before .before in
+    let at-set-case-count = at-put-case .before .before .before in
+    let at-set-length = at-set-case-count .before .before in
     let read = c .before .before .before .before .before .before .before .before .before .before in
-    split-by g _ _ _ (read .before .before .before .before .before .before .before .before .set-start .ensures)
-    (read .before .before .before .before .before .before .before .bundle-at .ensures)
-    (read .before .before .before .before .before .target .ensures) (read .before .before .before .before .claimed-case .ensures)
-    (read .before .before .given-inputs .ensures g s)
-    (read .shift-remove .ensures) (c .before .before .before .before .before .before .before .before .set-length .ensures)
-    (c .before .before .before .before .before .before .set-case-count .ensures)
-    (c .before .before .before .put-case .ensures) (c .before .unclaimed-case .ensures) (c .set-case .ensures)
+    let at-given-inputs = read .before .before in
+    let at-claimed-case = at-given-inputs .before .before in
+    let at-target = at-claimed-case .before in
+    let at-bundle-at = at-target .before .before in
+    let at-set-start = at-bundle-at .before in
+    split-by g _ _ _ (at-set-start .set-start .ensures)
+    (at-bundle-at .bundle-at .ensures)
+    (at-target .target .ensures) (at-claimed-case .claimed-case .ensures)
+    (at-given-inputs .given-inputs .ensures g s)
+    (read .shift-remove .ensures) (at-set-length .set-length .ensures)
+    (at-set-case-count .set-case-count .ensures)
+    (at-put-case .put-case .ensures) (c .before .unclaimed-case .ensures) (c .set-case .ensures)
 
 pub fill-split-spec : {M : Type 1} → statement M
 fill-split-spec =

@@ -1,4 +1,4 @@
-use Rattle.bundles.specs.Paths.{given-all}
+use Rattle.bundles.specs.laws.Paths.{given-all}
 use borrow.Author.Needs.{needs}
 use Rattle.bundles.proofs.taken.given_inputs.Statement.{statement}
 use Rattle.bundles.proofs.taken.given_inputs.Tie as tie

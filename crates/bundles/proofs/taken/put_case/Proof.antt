@@ -1,4 +1,4 @@
-use Rattle.bundles.specs.Paths.{run-then}
+use Rattle.bundles.specs.laws.Paths.{run-then}
 use Rattle.state.specs.Sections.{cases}
 use Rattle.state.specs.Tables.{case-words}
 use borrow.Author.Needs.{needs}

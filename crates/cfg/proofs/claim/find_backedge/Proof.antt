@@ -3,19 +3,15 @@ use Rattle.cfg.proofs.claim.find_backedge.Statement.{statement}
 use Rattle.cfg.proofs.claim.find_backedge.Tie as tie
 use mathlib.Core.Path.{_∙_}
 
--- src/claim.rt:51:23
 set-start-requires : tie.Need-set-start-requires
 set-start-requires c κs = search needs
 
--- src/claim.rt:51:40
 set-length-requires : tie.Need-set-length-requires
 set-length-requires c κs = search needs
 
--- src/claim.rt:51:5
 find-by-target-requires : tie.Need-find-by-target-requires
 find-by-target-requires c κs = search needs
 
--- src/claim.rt:48:1
 returns : tie.Need-returns
 returns c = c .find-by-target .ensures ∙ rw (c .before .set-length .ensures, c .before .before .set-start .ensures)
 

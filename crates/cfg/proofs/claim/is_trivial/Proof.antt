@@ -3,28 +3,22 @@ use Rattle.cfg.proofs.claim.is_trivial.Statement.{statement}
 use Rattle.cfg.proofs.claim.is_trivial.Tie as tie
 use Rattle.cfg.specs.ByState.{trivial-state, trivial-set, trivial-children}
 
--- src/claim.rt:100:8
 region-state-requires : tie.Need-region-state-requires
 region-state-requires c κs = search needs
 
--- src/claim.rt:101:9
 returns : tie.Need-returns
 returns c = trivial-state _ _ _ (c .before .region-state .ensures) (c .if1 .taken)
 
--- src/claim.rt:103:8
 set-length-requires : tie.Need-set-length-requires
 set-length-requires c κs = search needs
 
--- src/claim.rt:104:9
 returns-2 : tie.Need-returns-2
 returns-2 c = trivial-set _ _ _ (c .before .before .before .region-state .ensures) (c .before .before .if1 .left) _
     (c .before .set-length .ensures) (c .if2 .taken)
 
--- src/claim.rt:106:5
 children-requires : tie.Need-children-requires
 children-requires c κs = search needs
 
--- src/claim.rt:97:1
 returns-3 : tie.Need-returns-3
 returns-3 c = trivial-children _ _ _ (c .before .before .before .before .region-state .ensures) (c .before .before .before .if1 .left) _
     (c .before .before .set-length .ensures) (c .before .if2 .left) _ (c .children .ensures)

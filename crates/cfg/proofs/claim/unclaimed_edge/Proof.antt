@@ -3,15 +3,12 @@ use Rattle.cfg.proofs.claim.unclaimed_edge.Statement.{statement}
 use Rattle.cfg.proofs.claim.unclaimed_edge.Tie as tie
 use Rattle.cfg.specs.ByState.{edge-nothing, edge-deferred}
 
--- src/claim.rt:113:8
 is-trivial-requires : tie.Need-is-trivial-requires
 is-trivial-requires c κs = search needs
 
--- src/claim.rt:114:9
 returns : tie.Need-returns
 returns c = edge-nothing _ _ _ (c .before .is-trivial .ensures) (c .if1 .taken)
 
--- src/claim.rt:110:1
 returns-2 : tie.Need-returns-2
 returns-2 c = edge-deferred _ _ _ (c .before .is-trivial .ensures) (c .if1 .left)
 

@@ -4,12 +4,13 @@ use mathlib.Core.Path.{_∙_}
 use mathlib.Core.Logic.{⊎-elim}
 use denote.Ref.{now}
 use borrow.Author.Needs.{needs}
-use Rattle.cfg.specs.Left.{left, steady-then}
-use Rattle.cfg.specs.Turns.{stood-on, TargetsPassed, targets-none, targets-over, targets-refused, targets-claimed}
-use Rattle.cfg.specs.Turns.{targets-waiting, ScanPassed, scan-none, scan-over, scan-return, scan-claimed, scan-refuses, scan-waiting}
-use Rattle.cfg.specs.Turns.{TurnsPassed, turns-none, turns-over, turn-nothing, turn-refused, turn-full, turn-again, begun-less}
-use Rattle.cfg.specs.Turns.{begun-steady, region-refused, region-full, after-inst, region-refused-late, region-done}
-use Rattle.cfg.specs.Turns.{attempted-on, claim-nowhere, claim-later, not-begun-yet, claim-inside, claim-first}
+use Rattle.cfg.specs.laws.Left.{left, steady-then}
+use Rattle.cfg.specs.laws.Turns.{stood-on, TargetsPassed, targets-none, targets-over, targets-refused, targets-claimed}
+use Rattle.cfg.specs.laws.Turns.{targets-waiting, ScanPassed, scan-none, scan-over, scan-return, scan-claimed}
+use Rattle.cfg.specs.laws.Turns.{scan-refuses, scan-waiting}
+use Rattle.cfg.specs.laws.Turns.{TurnsPassed, turns-none, turns-over, turn-nothing, turn-refused, turn-full, turn-again, begun-less}
+use Rattle.cfg.specs.laws.Turns.{begun-steady, region-refused, region-full, after-inst, region-refused-late, region-done}
+use Rattle.cfg.specs.laws.Turns.{attempted-on, claim-nowhere, claim-later, not-begun-yet, claim-inside, claim-first}
 use borrow.Fn.Kinds.{In}
 use borrow.Fn.PlainCycle.{Measures, is, falls, and}
 use Rattle.cfg.proofs.claims.+resolve_deferred+split_out_matching+structurize_region+target_regions+try_claim_edge_bundle as cycle
@@ -218,17 +219,14 @@ resolve-deferred-Inv-loop w₀ counts r turns₀ w turns = TurnsPassed counts w�
 abbrev resolve-deferred-μ-loop : resolve-deferred-lts.MeasureT-loop
 resolve-deferred-μ-loop w₀ counts r turns₀ w turns = turns
 
--- src/claims.rt:101:9
 resolve-deferred-region-count-requires : (t : ℕ) → resolve-deferred-lts.Need-region-count-requires (resolve-deferred-called t)
     (resolve-deferred-at t) resolve-deferred.Post resolve-deferred-Inv-loop resolve-deferred-μ-loop
 resolve-deferred-region-count-requires t c κs = search needs
 
--- src/claims.rt:102:5
 resolve-deferred-loop-holds : (t : ℕ) → resolve-deferred-lts.Need-loop-holds (resolve-deferred-called t) (resolve-deferred-at t)
     resolve-deferred.Post resolve-deferred-Inv-loop resolve-deferred-μ-loop
 resolve-deferred-loop-holds t c = turns-none _ _ _ _ (c .region-count .ensures)
 
--- src/claims.rt:103:15
 resolve-deferred-split-out-matching-requires : (t : ℕ) → resolve-deferred-lts.Need-split-out-matching-requires
     (resolve-deferred-called t) (resolve-deferred-at t) resolve-deferred.Post resolve-deferred-Inv-loop resolve-deferred-μ-loop
 resolve-deferred-split-out-matching-requires t c κs = (
@@ -242,76 +240,81 @@ resolve-deferred-split-out-matching-requires t c κs = (
       (c .before .before .before .before .before .pre .1),
 )
 
--- src/claims.rt:104:34
 resolve-deferred-enum-told : (t : ℕ) → resolve-deferred-lts.Need-enum-told (resolve-deferred-called t) (resolve-deferred-at t)
     resolve-deferred.Post resolve-deferred-Inv-loop resolve-deferred-μ-loop
 resolve-deferred-enum-told t c = search needs
 
--- src/claims.rt:104:34
 resolve-deferred-returns : (t : ℕ) → resolve-deferred-lts.Need-returns (resolve-deferred-called t) (resolve-deferred-at t)
     resolve-deferred.Post resolve-deferred-Inv-loop resolve-deferred-μ-loop
 resolve-deferred-returns t c = turn-nothing (c .before .before .before .before .before .loop .inv)
     (c .before .before .before .before .loop-test .taken) (c .before .before .split-out-matching .ensures) (c .enum-told .given .1)
 
--- src/claims.rt:105:31
 resolve-deferred-enum-known-number : (t : ℕ) → resolve-deferred-lts.Need-enum-known-number (resolve-deferred-called t)
     (resolve-deferred-at t) resolve-deferred.Post resolve-deferred-Inv-loop resolve-deferred-μ-loop
 resolve-deferred-enum-known-number t c = search needs
 
--- src/claims.rt:105:48
 resolve-deferred-returns-2 : (t : ℕ) → resolve-deferred-lts.Need-returns-2 (resolve-deferred-called t) (resolve-deferred-at t)
     resolve-deferred.Post resolve-deferred-Inv-loop resolve-deferred-μ-loop
-resolve-deferred-returns-2 t c = turn-refused (c .before .before .before .before .before .before .loop .inv)
-    (c .before .before .before .before .before .loop-test .taken) (c .before .before .before .split-out-matching .ensures)
+resolve-deferred-returns-2 t c =
+    let at-split-out-matching = c .before .before .before in
+    let at-loop-test = at-split-out-matching .before .before in
+    let at-loop = at-loop-test .before in
+    turn-refused (at-loop .loop .inv)
+    (at-loop-test .loop-test .taken) (at-split-out-matching .split-out-matching .ensures)
     (c .before .number .given .1)
 
--- src/claims.rt:106:26
 resolve-deferred-enum-known-i : (t : ℕ) → resolve-deferred-lts.Need-enum-known-i (resolve-deferred-called t) (resolve-deferred-at t)
     resolve-deferred.Post resolve-deferred-Inv-loop resolve-deferred-μ-loop
 resolve-deferred-enum-known-i t c = search needs
 
--- src/claims.rt:107:37
 resolve-deferred-resolve-by-requires : (t : ℕ) → resolve-deferred-lts.Need-resolve-by-requires (resolve-deferred-called t)
     (resolve-deferred-at t) resolve-deferred.Post resolve-deferred-Inv-loop resolve-deferred-μ-loop
 resolve-deferred-resolve-by-requires t c κs = search needs
 
--- src/claims.rt:108:21
 resolve-deferred-enum-told-2 : (t : ℕ) → resolve-deferred-lts.Need-enum-told-2 (resolve-deferred-called t) (resolve-deferred-at t)
     resolve-deferred.Post resolve-deferred-Inv-loop resolve-deferred-μ-loop
 resolve-deferred-enum-told-2 t c = search needs
 
--- src/claims.rt:108:21
 resolve-deferred-returns-3 : (t : ℕ) → resolve-deferred-lts.Need-returns-3 (resolve-deferred-called t) (resolve-deferred-at t)
     resolve-deferred.Post resolve-deferred-Inv-loop resolve-deferred-μ-loop
-resolve-deferred-returns-3 t c = turn-full (c .before .before .before .before .before .before .before .before .before .before .loop
-    .inv) (c .before .before .before .before .before .before .before .before .before .loop-test .taken)
-    (c .before .before .before .before .before .before .before .split-out-matching .ensures)
-    (c .before .before .before .before .before .i .given .1) (c .before .before .resolve-by .ensures) (c .enum-told2 .given .1)
+resolve-deferred-returns-3 t c =
+    let at-resolve-by = c .before .before in
+    let at-i = at-resolve-by .before .before .before in
+    let at-split-out-matching = at-i .before .before in
+    let at-loop-test = at-split-out-matching .before .before in
+    let at-loop = at-loop-test .before in
+    turn-full (at-loop .loop
+    .inv) (at-loop-test .loop-test .taken)
+    (at-split-out-matching .split-out-matching .ensures)
+    (at-i .i .given .1) (at-resolve-by .resolve-by .ensures) (c .enum-told2 .given .1)
 
 resolve-deferred-enum-told-3 : (t : ℕ) → resolve-deferred-lts.Need-enum-told-3 (resolve-deferred-called t) (resolve-deferred-at t)
     resolve-deferred.Post resolve-deferred-Inv-loop resolve-deferred-μ-loop
 resolve-deferred-enum-told-3 t c = search needs
 
--- src/claims.rt:112:9
 resolve-deferred-sub-left : (t : ℕ) → resolve-deferred-lts.Need-sub-left (resolve-deferred-called t) (resolve-deferred-at t)
     resolve-deferred.Post resolve-deferred-Inv-loop resolve-deferred-μ-loop
 resolve-deferred-sub-left t c = search needs
 
--- src/claims.rt:102:5
 resolve-deferred-loop-less : (t : ℕ) → resolve-deferred-lts.Need-loop-less (resolve-deferred-called t) (resolve-deferred-at t)
     resolve-deferred.Post resolve-deferred-Inv-loop resolve-deferred-μ-loop
 resolve-deferred-loop-less t c = search needs
 
--- src/claims.rt:102:5
 resolve-deferred-loop-again : (t : ℕ) → resolve-deferred-lts.Need-loop-again (resolve-deferred-called t) (resolve-deferred-at t)
     resolve-deferred.Post resolve-deferred-Inv-loop resolve-deferred-μ-loop
-resolve-deferred-loop-again t c = turn-again (c .before .before .before .before .before .before .before .before .before .before .loop
-    .inv) (c .before .before .before .before .before .before .before .before .before .loop-test .taken)
-    (c .before .before .before .before .before .before .before .split-out-matching .ensures)
-    (c .before .before .before .before .before .i .given .1) (c .before .before .resolve-by .ensures) (c .enum-told3 .given .1)
-    (c .before .before .before .before .before .before .before .before .before .before .before .before .before .pre .1)
+resolve-deferred-loop-again t c =
+    let at-resolve-by = c .before .before in
+    let at-i = at-resolve-by .before .before .before in
+    let at-split-out-matching = at-i .before .before in
+    let at-loop-test = at-split-out-matching .before .before in
+    let at-loop = at-loop-test .before in
+    let at-pre = at-loop .before .before .before in
+    turn-again (at-loop .loop
+    .inv) (at-loop-test .loop-test .taken)
+    (at-split-out-matching .split-out-matching .ensures)
+    (at-i .i .given .1) (at-resolve-by .resolve-by .ensures) (c .enum-told3 .given .1)
+    (at-pre .pre .1)
 
--- src/claims.rt:97:1
 resolve-deferred-returns-4 : (t : ℕ) → resolve-deferred-lts.Need-returns-4 (resolve-deferred-called t) (resolve-deferred-at t)
     resolve-deferred.Post resolve-deferred-Inv-loop resolve-deferred-μ-loop
 resolve-deferred-returns-4 t c = turns-over (c .before .loop .inv) (c .loop-test .left)
@@ -322,130 +325,136 @@ split-out-matching-Inv-loop w₀ counts r n found₀ i₀ w found i = ScanPassed
 abbrev split-out-matching-μ-loop : split-out-matching-lts.MeasureT-loop
 split-out-matching-μ-loop w₀ counts r n found₀ i₀ w found i = n - i
 
--- src/claims.rt:71:9
 split-out-matching-set-length-requires : (t : ℕ) → split-out-matching-lts.Need-set-length-requires (split-out-matching-called t)
     (split-out-matching-at t) split-out-matching.Post split-out-matching-Inv-loop split-out-matching-μ-loop
 split-out-matching-set-length-requires t c κs = search needs
 
--- src/claims.rt:74:5
 split-out-matching-loop-holds : (t : ℕ) → split-out-matching-lts.Need-loop-holds (split-out-matching-called t) (split-out-matching-at t)
     split-out-matching.Post split-out-matching-Inv-loop split-out-matching-μ-loop
 split-out-matching-loop-holds t c = scan-none _ _ _ _
 
--- src/claims.rt:75:27
 split-out-matching-set-start-requires : (t : ℕ) → split-out-matching-lts.Need-set-start-requires (split-out-matching-called t)
     (split-out-matching-at t) split-out-matching.Post split-out-matching-Inv-loop split-out-matching-μ-loop
 split-out-matching-set-start-requires t c κs = search needs
 
--- src/claims.rt:75:13
 split-out-matching-bundle-at-requires : (t : ℕ) → split-out-matching-lts.Need-bundle-at-requires (split-out-matching-called t)
     (split-out-matching-at t) split-out-matching.Post split-out-matching-Inv-loop split-out-matching-μ-loop
 split-out-matching-bundle-at-requires t c κs = search needs
 
--- src/claims.rt:76:13
 split-out-matching-target-requires : (t : ℕ) → split-out-matching-lts.Need-target-requires (split-out-matching-called t)
     (split-out-matching-at t) split-out-matching.Post split-out-matching-Inv-loop split-out-matching-μ-loop
 split-out-matching-target-requires t c κs = search needs
 
--- src/claims.rt:78:31
 split-out-matching-accumulated-count-requires : (t : ℕ) → split-out-matching-lts.Need-accumulated-count-requires
     (split-out-matching-called t) (split-out-matching-at t) split-out-matching.Post split-out-matching-Inv-loop split-out-matching-μ-loop
 split-out-matching-accumulated-count-requires t c κs = search needs
 
--- src/claims.rt:79:19
 split-out-matching-try-claim-edge-bundle-requires : (t : ℕ) → split-out-matching-lts.Need-try-claim-edge-bundle-requires
     (split-out-matching-called t) (split-out-matching-at t) split-out-matching.Post split-out-matching-Inv-loop split-out-matching-μ-loop
-split-out-matching-try-claim-edge-bundle-requires t c κs = (
-  omega (
-    arith,
-    c .before .before .before .before .before .before .before .before .before .before .before .before .before .pre .0,
-    c .before .before .before .before .before .before .before .before .before .before .loop .inv .steady .fewer,
-  ),
-  (
-    c .before .accumulated-count .ensures .1,
-    stood-on (c .before .before .before .before .before .before .before .before .before .before
-        .loop .inv .steady) (c .before .before .before .before .before .before .before .before .before .before .before .before
-        .before .pre .1),
-  ),
-)
+split-out-matching-try-claim-edge-bundle-requires t c κs =
+    let at-loop = c .before .before .before .before .before .before .before .before .before .before in
+    let at-pre = at-loop .before .before .before in (
+      omega (
+        arith,
+        at-pre .pre .0,
+        at-loop .loop .inv .steady .fewer,
+      ),
+      (
+        c .before .accumulated-count .ensures .1,
+        stood-on (at-loop .loop .inv .steady) (at-pre .pre .1),
+      ),
+    )
 
 split-out-matching-enum-told : (t : ℕ) → split-out-matching-lts.Need-enum-told (split-out-matching-called t) (split-out-matching-at t)
     split-out-matching.Post split-out-matching-Inv-loop split-out-matching-μ-loop
 split-out-matching-enum-told t c = search needs
 
--- src/claims.rt:82:21
 split-out-matching-enum-told-2 : (t : ℕ) → split-out-matching-lts.Need-enum-told-2 (split-out-matching-called t)
     (split-out-matching-at t) split-out-matching.Post split-out-matching-Inv-loop split-out-matching-μ-loop
 split-out-matching-enum-told-2 t c = search needs
 
--- src/claims.rt:85:32
 split-out-matching-enum-known-number : (t : ℕ) → split-out-matching-lts.Need-enum-known-number (split-out-matching-called t)
     (split-out-matching-at t) split-out-matching.Post split-out-matching-Inv-loop split-out-matching-μ-loop
 split-out-matching-enum-known-number t c = search needs
 
--- src/claims.rt:91:9
 split-out-matching-add-i : (t : ℕ) → split-out-matching-lts.Need-add-i (split-out-matching-called t) (split-out-matching-at t)
     split-out-matching.Post split-out-matching-Inv-loop split-out-matching-μ-loop
 split-out-matching-add-i t c = search needs
 
--- src/claims.rt:74:5
 split-out-matching-loop-less : (t : ℕ) → split-out-matching-lts.Need-loop-less (split-out-matching-called t) (split-out-matching-at t)
     split-out-matching.Post split-out-matching-Inv-loop split-out-matching-μ-loop
 split-out-matching-loop-less t c = search needs
 
--- src/claims.rt:74:5
 split-out-matching-loop-again : (t : ℕ) → split-out-matching-lts.Need-loop-again (split-out-matching-called t) (split-out-matching-at t)
     split-out-matching.Post split-out-matching-Inv-loop split-out-matching-μ-loop
-split-out-matching-loop-again t c = ⊎-elim (λ y. rw (y .7) (scan-waiting
-    (c .before .before .before .before .before .before .before .loop .inv)
-    (c .before .before .before .before .before .before .before .before .set-length .ensures)
-    (c .before .before .before .before .before .before .loop-test .taken) (c .before .before .before .before .set-start .ensures)
-    (c .before .before .before .bundle-at .ensures) (c .before .target .ensures) (y .0 .taken) (y .2 .ensures .0)
-    (y .4 .ensures) (c .before .before .before .before .before .before .before .before .before .before .pre .1) (y .6 .given .1)))
-    (λ y. rw (y .1) (scan-return (c .before .before .before .before .before .before .before .loop .inv)
-    (c .before .before .before .before .before .before .before .before .set-length .ensures)
-    (c .before .before .before .before .before .before .loop-test .taken) (c .before .before .before .before .set-start .ensures)
-    (c .before .before .before .bundle-at .ensures) (c .before .target .ensures) (y .0 .left))) (c .if1 .came)
+split-out-matching-loop-again t c =
+    let at-bundle-at = c .before .before .before in
+    let at-set-start = at-bundle-at .before in
+    let at-loop-test = at-set-start .before .before in
+    let at-loop = at-loop-test .before in
+    let at-set-length = at-loop .before in
+    let at-pre = at-set-length .before .before in
+    ⊎-elim (λ y. rw (y .7) (scan-waiting
+    (at-loop .loop .inv)
+    (at-set-length .set-length .ensures)
+    (at-loop-test .loop-test .taken) (at-set-start .set-start .ensures)
+    (at-bundle-at .bundle-at .ensures) (c .before .target .ensures) (y .0 .taken) (y .2 .ensures .0)
+    (y .4 .ensures) (at-pre .pre .1) (y .6 .given .1)))
+    (λ y. rw (y .1) (scan-return (at-loop .loop .inv)
+    (at-set-length .set-length .ensures)
+    (at-loop-test .loop-test .taken) (at-set-start .set-start .ensures)
+    (at-bundle-at .bundle-at .ensures) (c .before .target .ensures) (y .0 .left))) (c .if1 .came)
 
--- src/claims.rt:67:1
 split-out-matching-returns : (t : ℕ) → split-out-matching-lts.Need-returns (split-out-matching-called t) (split-out-matching-at t)
     split-out-matching.Post split-out-matching-Inv-loop split-out-matching-μ-loop
 split-out-matching-returns t c = scan-over (c .before .loop .inv) (c .before .before .set-length .ensures) (c .loop-test .left)
 
--- src/claims.rt:67:1
 split-out-matching-returns-2 : (t : ℕ) → split-out-matching-lts.Need-returns-2 (split-out-matching-called t) (split-out-matching-at t)
     split-out-matching.Post split-out-matching-Inv-loop split-out-matching-μ-loop
-split-out-matching-returns-2 t c = scan-claimed (c .before .before .before .before .before .before .before .before .before
-    .before .before .before .before .loop .inv) (c .before .before .before .before .before .before .before .before .before
-    .before .before .before .before .before .set-length .ensures)
-    (c .before .before .before .before .before .before .before .before .before .before .before .before .loop-test .taken)
-    (c .before .before .before .before .before .before .before .before .before .before .set-start .ensures)
-    (c .before .before .before .before .before .before .before .before .before .bundle-at .ensures)
-    (c .before .before .before .before .before .before .before .target .ensures)
-    (c .before .before .before .before .before .before .if1 .taken)
-    (c .before .before .before .before .accumulated-count .ensures .0)
-    (c .before .before .try-claim-edge-bundle .ensures) (c .enum-told2 .given .1)
+split-out-matching-returns-2 t c =
+    let at-try-claim-edge-bundle = c .before .before in
+    let at-accumulated-count = at-try-claim-edge-bundle .before .before in
+    let at-if = at-accumulated-count .before .before in
+    let at-target = at-if .before in
+    let at-bundle-at = at-target .before .before in
+    let at-set-start = at-bundle-at .before in
+    let at-loop-test = at-set-start .before .before in
+    let at-loop = at-loop-test .before in
+    let at-set-length = at-loop .before in
+    scan-claimed (at-loop .loop .inv) (at-set-length .set-length .ensures)
+    (at-loop-test .loop-test .taken)
+    (at-set-start .set-start .ensures)
+    (at-bundle-at .bundle-at .ensures)
+    (at-target .target .ensures)
+    (at-if .if1 .taken)
+    (at-accumulated-count .accumulated-count .ensures .0)
+    (at-try-claim-edge-bundle .try-claim-edge-bundle .ensures) (c .enum-told2 .given .1)
 
--- src/claims.rt:67:1
 split-out-matching-returns-3 : (t : ℕ) → split-out-matching-lts.Need-returns-3 (split-out-matching-called t) (split-out-matching-at t)
     split-out-matching.Post split-out-matching-Inv-loop split-out-matching-μ-loop
-split-out-matching-returns-3 t c = scan-refuses (c .before .before .before .before .before .before .before .before .before
-    .before .before .before .before .before .loop .inv) (c .before .before .before .before .before .before .before .before
-    .before .before .before .before .before .before .before .set-length .ensures)
-    (c .before .before .before .before .before .before .before .before .before .before .before .before .before .loop-test
-    .taken) (c .before .before .before .before .before .before .before .before .before .before .before .set-start .ensures)
-    (c .before .before .before .before .before .before .before .before .before .before .bundle-at .ensures)
-    (c .before .before .before .before .before .before .before .before .target .ensures)
-    (c .before .before .before .before .before .before .before .if1 .taken)
-    (c .before .before .before .before .before .accumulated-count .ensures .0) (c .before .before .before .try-claim-edge-bundle .ensures)
+split-out-matching-returns-3 t c =
+    let at-try-claim-edge-bundle = c .before .before .before in
+    let at-accumulated-count = at-try-claim-edge-bundle .before .before in
+    let at-if = at-accumulated-count .before .before in
+    let at-target = at-if .before in
+    let at-bundle-at = at-target .before .before in
+    let at-set-start = at-bundle-at .before in
+    let at-loop-test = at-set-start .before .before in
+    let at-loop = at-loop-test .before in
+    let at-set-length = at-loop .before in
+    scan-refuses (at-loop .loop .inv) (at-set-length .set-length .ensures)
+    (at-loop-test .loop-test
+    .taken) (at-set-start .set-start .ensures)
+    (at-bundle-at .bundle-at .ensures)
+    (at-target .target .ensures)
+    (at-if .if1 .taken)
+    (at-accumulated-count .accumulated-count .ensures .0) (at-try-claim-edge-bundle .try-claim-edge-bundle .ensures)
     (c .before .number .given .1)
 
--- src/claims.rt:123:5
 structurize-region-set-region-state-requires : (t : ℕ) → structurize-region-lts.Need-set-region-state-requires
     (structurize-region-called t) (structurize-region-at t) structurize-region.Post
 structurize-region-set-region-state-requires t c κs = search needs
 
--- src/claims.rt:124:42
 structurize-region-target-regions-requires : (t : ℕ) → structurize-region-lts.Need-target-regions-requires (structurize-region-called t)
     (structurize-region-at t) structurize-region.Post
 structurize-region-target-regions-requires t c κs = (
@@ -458,12 +467,10 @@ structurize-region-target-regions-requires t c κs = (
   stood-on (begun-steady _ (c .before .set-region-state .ensures)) (c .before .before .before .pre .1 .1),
 )
 
--- src/claims.rt:124:26
 structurize-region-enum-known-number : (t : ℕ) → structurize-region-lts.Need-enum-known-number (structurize-region-called t)
     (structurize-region-at t) structurize-region.Post
 structurize-region-enum-known-number t c = search needs
 
--- src/claims.rt:125:9
 structurize-region-returns : (t : ℕ) → structurize-region-lts.Need-returns (structurize-region-called t) (structurize-region-at t)
     structurize-region.Post
 structurize-region-returns t c = region-refused (c .before .before .before .before .before .set-region-state .ensures)
@@ -473,88 +480,101 @@ structurize-region-enum-told : (t : ℕ) → structurize-region-lts.Need-enum-to
     structurize-region.Post
 structurize-region-enum-told t c = search needs
 
--- src/claims.rt:127:25
 structurize-region-by-control-inst-requires : (t : ℕ) → structurize-region-lts.Need-by-control-inst-requires
     (structurize-region-called t) (structurize-region-at t) structurize-region.Post
 structurize-region-by-control-inst-requires t c κs = search needs
 
--- src/claims.rt:128:9
 structurize-region-enum-told-2 : (t : ℕ) → structurize-region-lts.Need-enum-told-2 (structurize-region-called t)
     (structurize-region-at t) structurize-region.Post
 structurize-region-enum-told-2 t c = search needs
 
--- src/claims.rt:128:9
 structurize-region-returns-2 : (t : ℕ) → structurize-region-lts.Need-returns-2 (structurize-region-called t) (structurize-region-at t)
     structurize-region.Post
-structurize-region-returns-2 t c = region-full (c .before .before .before .before .before .before .before .before .set-region-state
-    .ensures) (c .before .before .before .before .before .before .target-regions .ensures)
-    (c .before .before .before .before .enum-told .given .1) (c .before .before .by-control-inst .ensures) (c .enum-told2 .given .1)
+structurize-region-returns-2 t c =
+    let at-by-control-inst = c .before .before in
+    let at-enum-told = at-by-control-inst .before .before in
+    let at-target-regions = at-enum-told .before .before in
+    let at-set-region-state = at-target-regions .before .before in
+    region-full (at-set-region-state .set-region-state
+    .ensures) (at-target-regions .target-regions .ensures)
+    (at-enum-told .enum-told .given .1) (at-by-control-inst .by-control-inst .ensures) (c .enum-told2 .given .1)
 
 structurize-region-enum-told-3 : (t : ℕ) → structurize-region-lts.Need-enum-told-3 (structurize-region-called t)
     (structurize-region-at t) structurize-region.Post
 structurize-region-enum-told-3 t c = search needs
 
--- src/claims.rt:130:42
 structurize-region-resolve-deferred-requires : (t : ℕ) → structurize-region-lts.Need-resolve-deferred-requires
     (structurize-region-called t) (structurize-region-at t) structurize-region.Post
-structurize-region-resolve-deferred-requires t c κs = (
-  omega (
-    arith,
-    c .before .before .before .before .before .before .before .before
-        .before .before .before .pre .0,
-    begun-less (c .before .before .before .before .before .before .before .before .before .before
-        .before .pre .1 .1 .room) (c .before .before .before .before .before .before .before .before .before .before .before .pre .1 .0)
-        (c .before .before .before .before .before .before .before .before .before .set-region-state .ensures),
-    after-inst
-        (c .before .before .before .before .before .before .before .before .before .set-region-state .ensures)
-        (c .before .before .before .before .before .before .before .target-regions .ensures)
-        (c .before .before .before .before .before .enum-told .given .1) (c .before .before .before .by-control-inst .ensures)
-        (c .before .before .before .before .before .before .before .before .before .before .before .pre .1 .1) .fewer,
-  ),
-  stood-on
-      (steady-then (begun-steady _ (c .before .before .before .before .before .before .before .before .before .set-region-state .ensures))
-      (after-inst (c .before .before .before .before .before .before .before .before .before .set-region-state .ensures)
-      (c .before .before .before .before .before .before .before .target-regions .ensures)
-      (c .before .before .before .before .before .enum-told .given .1) (c .before .before .before .by-control-inst .ensures)
-      (c .before .before .before .before .before .before .before .before .before .before .before .pre .1 .1)))
-      (c .before .before .before .before .before .before .before .before .before .before .before .pre .1 .1),
-)
+structurize-region-resolve-deferred-requires t c κs =
+    let at-by-control-inst = c .before .before .before in
+    let at-enum-told = at-by-control-inst .before .before in
+    let at-target-regions = at-enum-told .before .before in
+    let at-set-region-state = at-target-regions .before .before in
+    let at-pre = at-set-region-state .before .before in (
+      omega (
+        arith,
+        at-pre .pre .0,
+        begun-less (at-pre .pre .1 .1 .room) (at-pre .pre .1 .0)
+            (at-set-region-state .set-region-state .ensures),
+        after-inst
+            (at-set-region-state .set-region-state .ensures)
+            (at-target-regions .target-regions .ensures)
+            (at-enum-told .enum-told .given .1) (at-by-control-inst .by-control-inst .ensures)
+            (at-pre .pre .1 .1) .fewer,
+      ),
+      stood-on
+          (steady-then (begun-steady _ (at-set-region-state .set-region-state .ensures))
+          (after-inst (at-set-region-state .set-region-state .ensures)
+          (at-target-regions .target-regions .ensures)
+          (at-enum-told .enum-told .given .1) (at-by-control-inst .by-control-inst .ensures)
+          (at-pre .pre .1 .1)))
+          (at-pre .pre .1 .1),
+    )
 
--- src/claims.rt:130:26
 structurize-region-enum-known-number-2 : (t : ℕ) → structurize-region-lts.Need-enum-known-number-2 (structurize-region-called t)
     (structurize-region-at t) structurize-region.Post
 structurize-region-enum-known-number-2 t c = search needs
 
--- src/claims.rt:131:9
 structurize-region-returns-3 : (t : ℕ) → structurize-region-lts.Need-returns-3 (structurize-region-called t) (structurize-region-at t)
     structurize-region.Post
-structurize-region-returns-3 t c = region-refused-late (c .before .before .before .before .before .before .before .before .before
-    .before .before .before .before .set-region-state .ensures)
-    (c .before .before .before .before .before .before .before .before .before .before .before .target-regions .ensures)
-    (c .before .before .before .before .before .before .before .before .before .enum-told .given .1)
-    (c .before .before .before .before .before .before .before .by-control-inst .ensures)
-    (c .before .before .before .before .before .enum-told3 .given .1) (c .before .before .before .resolve-deferred .ensures)
+structurize-region-returns-3 t c =
+    let at-resolve-deferred = c .before .before .before in
+    let at-enum-told = at-resolve-deferred .before .before in
+    let at-by-control-inst = at-enum-told .before .before in
+    let at-enum-told-2 = at-by-control-inst .before .before in
+    let at-target-regions = at-enum-told-2 .before .before in
+    let at-set-region-state = at-target-regions .before .before in
+    region-refused-late (at-set-region-state .set-region-state .ensures)
+    (at-target-regions .target-regions .ensures)
+    (at-enum-told-2 .enum-told .given .1)
+    (at-by-control-inst .by-control-inst .ensures)
+    (at-enum-told .enum-told3 .given .1) (at-resolve-deferred .resolve-deferred .ensures)
     (c .before .number2 .given .1)
 
 structurize-region-enum-told-4 : (t : ℕ) → structurize-region-lts.Need-enum-told-4 (structurize-region-called t)
     (structurize-region-at t) structurize-region.Post
 structurize-region-enum-told-4 t c = search needs
 
--- src/claims.rt:133:5
 structurize-region-make-ready-requires : (t : ℕ) → structurize-region-lts.Need-make-ready-requires (structurize-region-called t)
     (structurize-region-at t) structurize-region.Post
 structurize-region-make-ready-requires t c κs = search needs
 
--- src/claims.rt:118:1
 structurize-region-returns-4 : (t : ℕ) → structurize-region-lts.Need-returns-4 (structurize-region-called t) (structurize-region-at t)
     structurize-region.Post
-structurize-region-returns-4 t c = region-done (c .before .before .before .before .before .before .before .before .before .before
-    .before .before .before .before .set-region-state .ensures)
-    (c .before .before .before .before .before .before .before .before .before .before .before .before .target-regions .ensures)
-    (c .before .before .before .before .before .before .before .before .before .before .enum-told .given .1)
-    (c .before .before .before .before .before .before .before .before .by-control-inst .ensures)
-    (c .before .before .before .before .before .before .enum-told3 .given .1)
-    (c .before .before .before .before .resolve-deferred .ensures) (c .before .before .enum-told4 .given .1) (c .make-ready .ensures)
+structurize-region-returns-4 t c =
+    let at-enum-told = c .before .before in
+    let at-resolve-deferred = at-enum-told .before .before in
+    let at-enum-told-2 = at-resolve-deferred .before .before in
+    let at-by-control-inst = at-enum-told-2 .before .before in
+    let at-enum-told-3 = at-by-control-inst .before .before in
+    let at-target-regions = at-enum-told-3 .before .before in
+    let at-set-region-state = at-target-regions .before .before in
+    region-done (at-set-region-state .set-region-state .ensures)
+    (at-target-regions .target-regions .ensures)
+    (at-enum-told-3 .enum-told .given .1)
+    (at-by-control-inst .by-control-inst .ensures)
+    (at-enum-told-2 .enum-told3 .given .1)
+    (at-resolve-deferred .resolve-deferred .ensures) (at-enum-told .enum-told4 .given .1) (c .make-ready .ensures)
 
 abbrev target-regions-Inv-loop : target-regions-lts.InvT-loop
 target-regions-Inv-loop w₀ counts r n j₀ w j = TargetsPassed counts w₀ r w j
@@ -562,177 +582,181 @@ target-regions-Inv-loop w₀ counts r n j₀ w j = TargetsPassed counts w₀ r w
 abbrev target-regions-μ-loop : target-regions-lts.MeasureT-loop
 target-regions-μ-loop w₀ counts r n j₀ w j = n - j
 
--- src/claims.rt:49:9
 target-regions-target-count-requires : (t : ℕ) → target-regions-lts.Need-target-count-requires (target-regions-called t)
     (target-regions-at t) target-regions.Post target-regions-Inv-loop target-regions-μ-loop
 target-regions-target-count-requires t c κs = search needs
 
--- src/claims.rt:51:5
 target-regions-loop-holds : (t : ℕ) → target-regions-lts.Need-loop-holds (target-regions-called t) (target-regions-at t)
     target-regions.Post target-regions-Inv-loop target-regions-μ-loop
 target-regions-loop-holds t c = targets-none _ _ _
 
--- src/claims.rt:52:13
 target-regions-target-requires : (t : ℕ) → target-regions-lts.Need-target-requires (target-regions-called t) (target-regions-at t)
     target-regions.Post target-regions-Inv-loop target-regions-μ-loop
 target-regions-target-requires t c κs = search needs
 
--- src/claims.rt:53:15
 target-regions-try-claim-edge-bundle-requires : (t : ℕ) → target-regions-lts.Need-try-claim-edge-bundle-requires
     (target-regions-called t) (target-regions-at t) target-regions.Post target-regions-Inv-loop target-regions-μ-loop
-target-regions-try-claim-edge-bundle-requires t c κs = (
-  omega (
-    arith,
-    c .before .before .before .before .before .before .before .pre .0,
-    c .before .before .before .before .loop .inv .steady
-        .fewer,
-  ),
-  (
-    omega arith,
-    stood-on (c .before .before .before .before .loop .inv .steady)
-        (c .before .before .before .before .before .before .before .pre .1),
-  ),
-)
+target-regions-try-claim-edge-bundle-requires t c κs =
+    let at-loop = c .before .before .before .before in
+    let at-pre = at-loop .before .before .before in (
+      omega (
+        arith,
+        at-pre .pre .0,
+        at-loop .loop .inv .steady
+            .fewer,
+      ),
+      (
+        omega arith,
+        stood-on (at-loop .loop .inv .steady)
+            (at-pre .pre .1),
+      ),
+    )
 
--- src/claims.rt:54:28
 target-regions-enum-known-number : (t : ℕ) → target-regions-lts.Need-enum-known-number (target-regions-called t) (target-regions-at t)
     target-regions.Post target-regions-Inv-loop target-regions-μ-loop
 target-regions-enum-known-number t c = search needs
 
--- src/claims.rt:54:45
 target-regions-returns : (t : ℕ) → target-regions-lts.Need-returns (target-regions-called t) (target-regions-at t) target-regions.Post
     target-regions-Inv-loop target-regions-μ-loop
-target-regions-returns t c = targets-refused (c .before .before .before .before .before .before .before .before .loop .inv)
-    (c .before .before .before .before .before .before .before .before .before .target-count .ensures)
-    (c .before .before .before .before .before .before .before .loop-test .taken)
-    (c .before .before .before .before .before .target .ensures) (c .before .before .before .try-claim-edge-bundle .ensures)
+target-regions-returns t c =
+    let at-try-claim-edge-bundle = c .before .before .before in
+    let at-target = at-try-claim-edge-bundle .before .before in
+    let at-loop-test = at-target .before .before in
+    let at-loop = at-loop-test .before in
+    let at-target-count = at-loop .before in
+    targets-refused (at-loop .loop .inv)
+    (at-target-count .target-count .ensures)
+    (at-loop-test .loop-test .taken)
+    (at-target .target .ensures) (at-try-claim-edge-bundle .try-claim-edge-bundle .ensures)
     (c .before .number .given .1)
 
--- src/claims.rt:55:48
 target-regions-enum-told : (t : ℕ) → target-regions-lts.Need-enum-told (target-regions-called t) (target-regions-at t)
     target-regions.Post target-regions-Inv-loop target-regions-μ-loop
 target-regions-enum-told t c = search needs
 
--- src/claims.rt:55:31
 target-regions-set-target-taken-requires : (t : ℕ) → target-regions-lts.Need-set-target-taken-requires (target-regions-called t)
     (target-regions-at t) target-regions.Post target-regions-Inv-loop target-regions-μ-loop
 target-regions-set-target-taken-requires t c κs = search needs
 
--- src/claims.rt:57:40
 target-regions-enum-told-2 : (t : ℕ) → target-regions-lts.Need-enum-told-2 (target-regions-called t) (target-regions-at t)
     target-regions.Post target-regions-Inv-loop target-regions-μ-loop
 target-regions-enum-told-2 t c = search needs
 
--- src/claims.rt:57:21
 target-regions-unclaimed-edge-requires : (t : ℕ) → target-regions-lts.Need-unclaimed-edge-requires (target-regions-called t)
     (target-regions-at t) target-regions.Post target-regions-Inv-loop target-regions-μ-loop
 target-regions-unclaimed-edge-requires t c κs = search needs
 
--- src/claims.rt:58:17
 target-regions-set-target-taken-requires-2 : (t : ℕ) → target-regions-lts.Need-set-target-taken-requires-2 (target-regions-called t)
     (target-regions-at t) target-regions.Post target-regions-Inv-loop target-regions-μ-loop
 target-regions-set-target-taken-requires-2 t c κs = search needs
 
--- src/claims.rt:61:9
 target-regions-add-j : (t : ℕ) → target-regions-lts.Need-add-j (target-regions-called t) (target-regions-at t) target-regions.Post
     target-regions-Inv-loop target-regions-μ-loop
 target-regions-add-j t c = search needs
 
--- src/claims.rt:51:5
 target-regions-loop-less : (t : ℕ) → target-regions-lts.Need-loop-less (target-regions-called t) (target-regions-at t)
     target-regions.Post target-regions-Inv-loop target-regions-μ-loop
 target-regions-loop-less t c = search needs
 
--- src/claims.rt:51:5
 target-regions-loop-again : (t : ℕ) → target-regions-lts.Need-loop-again (target-regions-called t) (target-regions-at t)
     target-regions.Post target-regions-Inv-loop target-regions-μ-loop
-target-regions-loop-again t c = ⊎-elim (λ y. targets-claimed (c .before .before .before .before .before .before .loop .inv)
-    (c .before .before .before .before .before .before .before .target-count .ensures)
-    (c .before .before .before .before .before .loop-test .taken) (c .before .before .before .target .ensures)
-    (c .before .try-claim-edge-bundle .ensures) (c .before .before .before .before .before .before .before .before .before .pre .1)
-    (y .1 .given .1) (y .4 ∙ y .3 .ensures)) (λ y. targets-waiting (c .before .before .before .before .before .before .loop .inv)
-    (c .before .before .before .before .before .before .before .target-count .ensures)
-    (c .before .before .before .before .before .loop-test .taken) (c .before .before .before .target .ensures)
-    (c .before .try-claim-edge-bundle .ensures) (c .before .before .before .before .before .before .before .before .before .pre .1)
+target-regions-loop-again t c =
+    let at-target = c .before .before .before in
+    let at-loop-test = at-target .before .before in
+    let at-loop = at-loop-test .before in
+    let at-target-count = at-loop .before in
+    let at-pre = at-target-count .before .before in
+    ⊎-elim (λ y. targets-claimed (at-loop .loop .inv)
+    (at-target-count .target-count .ensures)
+    (at-loop-test .loop-test .taken) (at-target .target .ensures)
+    (c .before .try-claim-edge-bundle .ensures) (at-pre .pre .1)
+    (y .1 .given .1) (y .4 ∙ y .3 .ensures)) (λ y. targets-waiting (at-loop .loop .inv)
+    (at-target-count .target-count .ensures)
+    (at-loop-test .loop-test .taken) (at-target .target .ensures)
+    (c .before .try-claim-edge-bundle .ensures) (at-pre .pre .1)
     (y .1 .given .1) (y .3 .ensures) (y .6 ∙ y .5 .ensures)) (c .match .came)
 
--- src/claims.rt:45:1
 target-regions-returns-2 : (t : ℕ) → target-regions-lts.Need-returns-2 (target-regions-called t) (target-regions-at t)
     target-regions.Post target-regions-Inv-loop target-regions-μ-loop
 target-regions-returns-2 t c = targets-over (c .before .loop .inv) (c .before .before .target-count .ensures) (c .loop-test .left)
 
--- src/claims.rt:148:5
 try-claim-edge-bundle-count-attempt-requires : (t : ℕ) → try-claim-edge-bundle-lts.Need-count-attempt-requires
     (try-claim-edge-bundle-called t) (try-claim-edge-bundle-at t) try-claim-edge-bundle.Post
 try-claim-edge-bundle-count-attempt-requires t c κs = search needs
 
--- src/claims.rt:150:9
 try-claim-edge-bundle-returns : (t : ℕ) → try-claim-edge-bundle-lts.Need-returns (try-claim-edge-bundle-called t)
     (try-claim-edge-bundle-at t) try-claim-edge-bundle.Post
 try-claim-edge-bundle-returns t c = claim-nowhere _ (c .before .count-attempt .ensures) (c .if1 .taken)
 
--- src/claims.rt:152:8
 try-claim-edge-bundle-region-state-requires : (t : ℕ) → try-claim-edge-bundle-lts.Need-region-state-requires
     (try-claim-edge-bundle-called t) (try-claim-edge-bundle-at t) try-claim-edge-bundle.Post
 try-claim-edge-bundle-region-state-requires t c κs = search needs
 
--- src/claims.rt:153:46
 try-claim-edge-bundle-structurize-region-requires : (t : ℕ) → try-claim-edge-bundle-lts.Need-structurize-region-requires
     (try-claim-edge-bundle-called t) (try-claim-edge-bundle-at t) try-claim-edge-bundle.Post
-try-claim-edge-bundle-structurize-region-requires t c κs = (
-  omega (
-    arith,
-    c .before .before .before .before .before .before .before .pre .0,
-    attempted-on
-        (c .before .before .before .before .before .count-attempt .ensures) .fewer,
-  ),
-  (
-    not-begun-yet (omega (arith, c .before .before .before .before .if1 .left)) (c .before .before .region-state .ensures)
-        (c .before .if2 .taken),
-    stood-on (attempted-on (c .before .before .before .before .before .count-attempt .ensures))
-        (c .before .before .before .before .before .before .before .pre .1 .1),
-  ),
-)
+try-claim-edge-bundle-structurize-region-requires t c κs =
+    let at-region-state = c .before .before in
+    let at-if = at-region-state .before .before in
+    let at-count-attempt = at-if .before in
+    let at-pre = at-count-attempt .before .before in (
+      omega (
+        arith,
+        at-pre .pre .0,
+        attempted-on
+            (at-count-attempt .count-attempt .ensures) .fewer,
+      ),
+      (
+        not-begun-yet (omega (arith, at-if .if1 .left)) (at-region-state .region-state .ensures)
+            (c .before .if2 .taken),
+        stood-on (attempted-on (at-count-attempt .count-attempt .ensures))
+            (at-pre .pre .1 .1),
+      ),
+    )
 
--- src/claims.rt:153:30
 try-claim-edge-bundle-enum-known-number : (t : ℕ) → try-claim-edge-bundle-lts.Need-enum-known-number (try-claim-edge-bundle-called t)
     (try-claim-edge-bundle-at t) try-claim-edge-bundle.Post
 try-claim-edge-bundle-enum-known-number t c = search needs
 
--- src/claims.rt:154:13
 try-claim-edge-bundle-returns-2 : (t : ℕ) → try-claim-edge-bundle-lts.Need-returns-2 (try-claim-edge-bundle-called t)
     (try-claim-edge-bundle-at t) try-claim-edge-bundle.Post
-try-claim-edge-bundle-returns-2 t c = claim-inside _ (c .before .before .before .before .before .before .before .before .before
-    .count-attempt .ensures) (c .before .before .before .before .before .before .before .before .if1 .left)
-    (c .before .before .before .before .before .before .region-state .ensures) (c .before .before .before .before .before .if2 .taken)
-    (c .before .before .before .structurize-region .ensures) (c .before .number .given .1)
+try-claim-edge-bundle-returns-2 t c =
+    let at-structurize-region = c .before .before .before in
+    let at-if = at-structurize-region .before .before in
+    let at-region-state = at-if .before in
+    let at-if-2 = at-region-state .before .before in
+    let at-count-attempt = at-if-2 .before in
+    claim-inside _ (at-count-attempt .count-attempt .ensures) (at-if-2 .if1 .left)
+    (at-region-state .region-state .ensures) (at-if .if2 .taken)
+    (at-structurize-region .structurize-region .ensures) (c .before .number .given .1)
 
 try-claim-edge-bundle-enum-told : (t : ℕ) → try-claim-edge-bundle-lts.Need-enum-told (try-claim-edge-bundle-called t)
     (try-claim-edge-bundle-at t) try-claim-edge-bundle.Post
 try-claim-edge-bundle-enum-told t c = search needs
 
--- src/claims.rt:157:29
 try-claim-edge-bundle-count-of-requires : (t : ℕ) → try-claim-edge-bundle-lts.Need-count-of-requires (try-claim-edge-bundle-called t)
     (try-claim-edge-bundle-at t) try-claim-edge-bundle.Post
 try-claim-edge-bundle-count-of-requires t c κs = search needs
 
--- src/claims.rt:157:5
 try-claim-edge-bundle-claim-by-state-requires : (t : ℕ) → try-claim-edge-bundle-lts.Need-claim-by-state-requires
     (try-claim-edge-bundle-called t) (try-claim-edge-bundle-at t) try-claim-edge-bundle.Post
 try-claim-edge-bundle-claim-by-state-requires t c κs = search needs
 
--- src/claims.rt:138:1
 try-claim-edge-bundle-returns-3 : (t : ℕ) → try-claim-edge-bundle-lts.Need-returns-3 (try-claim-edge-bundle-called t)
     (try-claim-edge-bundle-at t) try-claim-edge-bundle.Post
-try-claim-edge-bundle-returns-3 t c = ⊎-elim (λ y. claim-first _
-    (c .before .before .before .before .before .before .before .before .count-attempt .ensures)
-    (c .before .before .before .before .before .before .before .if1 .left)
-    (c .before .before .before .before .before .region-state .ensures) (y .0 .taken) (y .2 .ensures) (y .4 .given .1)
+try-claim-edge-bundle-returns-3 t c =
+    let at-if = c .before .before .before .before in
+    let at-region-state = at-if .before in
+    let at-if-2 = at-region-state .before .before in
+    let at-count-attempt = at-if-2 .before in
+    ⊎-elim (λ y. claim-first _
+    (at-count-attempt .count-attempt .ensures)
+    (at-if-2 .if1 .left)
+    (at-region-state .region-state .ensures) (y .0 .taken) (y .2 .ensures) (y .4 .given .1)
     (c .before .count-of .ensures) (y .5) (c .claim-by-state .ensures))
-    (λ y. claim-later _ (c .before .before .before .before .before .before .before .before .count-attempt .ensures)
-    (c .before .before .before .before .before .before .before .if1 .left)
-    (c .before .before .before .before .before .region-state .ensures) (y .0 .left) (c .before .count-of .ensures) (y .1)
-    (c .claim-by-state .ensures)) (c .before .before .before .before .if2 .came)
+    (λ y. claim-later _ (at-count-attempt .count-attempt .ensures)
+    (at-if-2 .if1 .left)
+    (at-region-state .region-state .ensures) (y .0 .left) (c .before .count-of .ensures) (y .1)
+    (c .claim-by-state .ensures)) (at-if .if2 .came)
 
 pub +resolve-deferred+split-out-matching+structurize-region+target-regions+try-claim-edge-bundle-spec :
     {M : Type 1} → statement M

@@ -4,24 +4,24 @@ use Rattle.cfg.proofs.func.structurize_func.Tie as tie
 use Rattle.cfg.specs.FuncShown.{structurize-func-shown}
 use Rattle.cfg.specs.Func.{stood-started, func-is}
 
--- src/func.rt:69:9
 incoming-edge-counts-requires : tie.Need-incoming-edge-counts-requires
 incoming-edge-counts-requires c κs = search needs
 
--- src/func.rt:70:5
 initial-state-requires : tie.Need-initial-state-requires
 initial-state-requires c κs = search needs
 
--- src/func.rt:71:5
 structurize-func-by-requires : tie.Need-structurize-func-by-requires
 structurize-func-by-requires c κs = stood-started (c .before .initial-state .ensures) (c .before .before .before .before .before .pre)
 
--- src/func.rt:65:1
 returns : tie.Need-returns
-returns c = λ g st valid.
-    structurize-func-shown g valid st ((c .before .before .before .before .before .before .pre) .room)
-    (func-is (c .before .before .initial-state .ensures) (c .before .before .before .before .before .before .pre) g
-    st valid (c .before .before .before .before .incoming-edge-counts .ensures g st valid) (c .structurize-func-by .ensures))
+returns c =
+    let at-initial-state = c .before .before in
+    let at-incoming-edge-counts = at-initial-state .before .before in
+    let at-pre = at-incoming-edge-counts .before .before in
+    λ g st valid.
+    structurize-func-shown g valid st ((at-pre .pre) .room)
+    (func-is (at-initial-state .initial-state .ensures) (at-pre .pre) g
+    st valid (at-incoming-edge-counts .incoming-edge-counts .ensures g st valid) (c .structurize-func-by .ensures))
 
 pub structurize-func-spec : {M : Type 1} → statement M
 structurize-func-spec =

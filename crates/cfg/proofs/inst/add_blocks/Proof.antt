@@ -4,28 +4,22 @@ use Rattle.cfg.proofs.inst.add_blocks.Tie as tie
 use Rattle.cfg.specs.ByInst.{no-blocks, some-blocks}
 use mathlib.Core.Path.{sym, _∙_}
 
--- src/inst.rt:42:8
 block-count-requires : tie.Need-block-count-requires
 block-count-requires c κs = search needs
 
--- src/inst.rt:43:9
 set-children-requires : tie.Need-set-children-requires
 set-children-requires c κs = search needs
 
--- src/inst.rt:44:9
 returns : tie.Need-returns
 returns c = λ g st. no-blocks (sym (c .before .before .before .block-count .ensures g st) ∙ c .before .before .if1 .taken)
     (c .set-children .ensures)
 
--- src/inst.rt:46:9
 add-cell-requires : tie.Need-add-cell-requires
 add-cell-requires c κs = search needs
 
--- src/inst.rt:57:5
 set-children-requires-2 : tie.Need-set-children-requires-2
 set-children-requires-2 c κs = search needs
 
--- src/inst.rt:39:1
 returns-2 : tie.Need-returns-2
 returns-2 c = λ g st. some-blocks (λ e. c .before .before .before .before .if1 .left
     (c .before .before .before .before .before .block-count .ensures g st ∙ e)) (c .before .before .add-cell .ensures)

@@ -3,39 +3,36 @@ use Rattle.cfg.proofs.inst.add_exit.Statement.{statement}
 use Rattle.cfg.proofs.inst.add_exit.Tie as tie
 use Rattle.cfg.specs.ByInst.{exit-none, exit-some}
 
--- src/inst.rt:63:33
 define-node-requires : tie.Need-define-node-requires
 define-node-requires c κs = search needs
 
--- src/inst.rt:63:25
 enum-known-node : tie.Need-enum-known-node
 enum-known-node c = search needs
 
--- src/inst.rt:64:9
 enum-told : tie.Need-enum-told
 enum-told c = search needs
 
--- src/inst.rt:64:9
 returns : tie.Need-returns
 returns c = exit-none (c .before .before .define-node .ensures) (c .enum-told .given .1)
 
--- src/inst.rt:66:9
 children-requires : tie.Need-children-requires
 children-requires c κs = search needs
 
--- src/inst.rt:67:9
 add-cell-requires : tie.Need-add-cell-requires
 add-cell-requires c κs = search needs
 
--- src/inst.rt:78:5
 set-children-requires : tie.Need-set-children-requires
 set-children-requires c κs = search needs
 
--- src/inst.rt:60:1
 returns-2 : tie.Need-returns-2
-returns-2 c = exit-some (c .before .before .before .before .before .before .before .before .before .define-node .ensures)
-    (c .before .before .before .before .before .before .before .node .given .1) (c .before .before .before .before .children .ensures)
-    (c .before .before .add-cell .ensures) (c .set-children .ensures)
+returns-2 c =
+    let at-add-cell = c .before .before in
+    let at-children = at-add-cell .before .before in
+    let at-node = at-children .before .before .before in
+    let at-define-node = at-node .before .before in
+    exit-some (at-define-node .define-node .ensures)
+    (at-node .node .given .1) (at-children .children .ensures)
+    (at-add-cell .add-cell .ensures) (c .set-children .ensures)
 
 pub add-exit-spec : {M : Type 1} → statement M
 add-exit-spec =

@@ -3,19 +3,15 @@ use Rattle.cfg.proofs.inst.by_control_inst.Statement.{statement}
 use Rattle.cfg.proofs.inst.by_control_inst.Tie as tie
 use Rattle.cfg.specs.ByInst.{inst-taken}
 
--- src/inst.rt:128:5
 add-blocks-requires : tie.Need-add-blocks-requires
 add-blocks-requires c κs = search needs
 
--- src/inst.rt:129:5
 put-set-length-requires : tie.Need-put-set-length-requires
 put-set-length-requires c κs = search needs
 
--- src/inst.rt:130:5
 by-terminator-requires : tie.Need-by-terminator-requires
 by-terminator-requires c κs = search needs
 
--- src/inst.rt:125:1
 returns : tie.Need-returns
 returns c = λ g st. inst-taken st (c .before .before .before .before .add-blocks .ensures g)
     (c .before .before .put-set-length .ensures) (c .by-terminator .ensures g)

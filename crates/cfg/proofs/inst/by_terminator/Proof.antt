@@ -4,79 +4,61 @@ use Rattle.cfg.proofs.inst.by_terminator.Tie as tie
 use Rattle.cfg.specs.ByInst.{told-kind, at-unreachable, at-return, at-exit, at-branch, at-bool, at-number}
 use mathlib.Core.Path.{refl}
 
--- src/inst.rt:110:9
 terminator-requires : tie.Need-terminator-requires
 terminator-requires c κs = search needs
 
--- src/inst.rt:112:36
 enum-told : tie.Need-enum-told
 enum-told c = search needs
 
--- src/inst.rt:114:26
 enum-told-2 : tie.Need-enum-told-2
 enum-told-2 c = search needs
 
--- src/inst.rt:114:13
 defer-return-requires : tie.Need-defer-return-requires
 defer-return-requires c κs = search needs
 
--- src/inst.rt:117:51
 enum-told-3 : tie.Need-enum-told-3
 enum-told-3 c = search needs
 
--- src/inst.rt:117:42
 add-exit-requires : tie.Need-add-exit-requires
 add-exit-requires c κs = search needs
 
--- src/inst.rt:118:38
 enum-told-4 : tie.Need-enum-told-4
 enum-told-4 c = search needs
 
--- src/inst.rt:118:31
 branch-requires : tie.Need-branch-requires
 branch-requires c κs = search needs
 
--- src/inst.rt:119:42
 enum-told-5 : tie.Need-enum-told-5
 enum-told-5 c = search needs
 
--- src/inst.rt:119:35
 select-requires : tie.Need-select-requires
 select-requires c κs = search needs
 
--- src/inst.rt:120:51
 enum-told-6 : tie.Need-enum-told-6
 enum-told-6 c = search needs
 
--- src/inst.rt:120:37
 select-number-requires : tie.Need-select-number-requires
 select-number-requires c κs = search needs
 
--- src/inst.rt:107:1
 returns : tie.Need-returns
 returns c = λ g st. at-unreachable (told-kind _ (c .before .before .terminator .ensures g st) (c .enum-told .given .1)) refl
 
--- src/inst.rt:107:1
 returns-2 : tie.Need-returns-2
 returns-2 c = λ g st. at-return (told-kind _ (c .before .before .before .before .terminator .ensures g st)
     (c .before .before .enum-told2 .given .1)) (c .defer-return .ensures g st)
 
--- src/inst.rt:107:1
 returns-3 : tie.Need-returns-3
 returns-3 c = λ g st. at-exit (told-kind _ (c .before .before .before .before .terminator .ensures g st)
     (c .before .before .enum-told3 .given .1)) (c .add-exit .ensures)
 
--- src/inst.rt:107:1
 returns-4 : tie.Need-returns-4
 returns-4 c = λ g st. at-branch (told-kind _ (c .before .before .before .before .terminator .ensures g st)
     (c .before .before .enum-told4 .given .1)) (c .branch .ensures g st)
 
--- src/inst.rt:107:1
 returns-5 : tie.Need-returns-5
 returns-5 c = λ g st. at-bool (told-kind _ (c .before .before .before .before .terminator .ensures g st)
     (c .before .before .enum-told5 .given .1)) (c .select .ensures g st)
 
--- src/inst.rt:107:1
 returns-6 : tie.Need-returns-6
 returns-6 c = λ g st. at-number (told-kind _ (c .before .before .before .before .terminator .ensures g st)
     (c .before .before .enum-told6 .given .1)) (c .select-number .ensures g st)

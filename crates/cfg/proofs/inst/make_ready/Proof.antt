@@ -4,19 +4,15 @@ use Rattle.cfg.proofs.inst.make_ready.Tie as tie
 use mathlib.Core.Path.{_∙_}
 use Rattle.state.specs.Edges.{edges-fit}
 
--- src/inst.rt:159:9
 backedges-deferred-requires : tie.Need-backedges-deferred-requires
 backedges-deferred-requires c κs = search needs
 
--- src/inst.rt:160:5
 set-backedge-count-requires : tie.Need-set-backedge-count-requires
 set-backedge-count-requires c κs = search needs
 
--- src/inst.rt:161:5
 set-region-state-requires : tie.Need-set-region-state-requires
 set-region-state-requires c κs = search needs
 
--- src/inst.rt:156:1
 returns : tie.Need-returns
 returns c = c .set-region-state .ensures ∙ rw (
   c .before .before .set-backedge-count .ensures,

@@ -3,23 +3,18 @@ use Rattle.cfg.proofs.inst.select.Statement.{statement}
 use Rattle.cfg.proofs.inst.select.Tie as tie
 use Rattle.cfg.specs.ByInst.{select-taken}
 
--- src/inst.rt:94:5
 fill-cases-requires : tie.Need-fill-cases-requires
 fill-cases-requires c κs = search needs
 
--- src/inst.rt:95:9
 value-requires : tie.Need-value-requires
 value-requires c κs = search needs
 
--- src/inst.rt:96:59
 value-word-requires : tie.Need-value-word-requires
 value-word-requires c κs = search needs
 
--- src/inst.rt:96:5
 structurize-select-into-requires : tie.Need-structurize-select-into-requires
 structurize-select-into-requires c κs = search needs
 
--- src/inst.rt:91:1
 returns : tie.Need-returns
 returns c = λ g st. select-taken g _ _ st (c .before .before .before .before .before .fill-cases .ensures g st) _
     (c .before .before .before .value .result) (c .before .before .before .value .ensures g) (c .before .value-word .ensures)

@@ -2,15 +2,12 @@ use borrow.Author.Needs.{needs}
 use Rattle.cfg.proofs.inst.select_number.Statement.{statement}
 use Rattle.cfg.proofs.inst.select_number.Tie as tie
 
--- src/inst.rt:102:9
 target-count-requires : tie.Need-target-count-requires
 target-count-requires c κs = search needs
 
--- src/inst.rt:103:5
 select-requires : tie.Need-select-requires
 select-requires c κs = search needs
 
--- src/inst.rt:99:1
 returns : tie.Need-returns
 returns c = λ g st. rw (c .before .before .target-count .ensures g st) at (c .select .ensures g st)
 

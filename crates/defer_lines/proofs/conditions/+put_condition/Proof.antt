@@ -10,7 +10,7 @@ use Rattle.nesting.specs.Nesting.{LazyCond}
 use Rattle.state.specs.Sections.{section, conditions}
 use Rattle.shown.specs.Tables.{ShowsCond}
 use Rattle.writing.specs.Puts.{Puts, puts-then, puts-as}
-use Rattle.writing.specs.Rows.{run, run-start, run-turn, run-all}
+use Rattle.writing.specs.laws.Rows.{run, run-start, run-turn, run-all}
 use Rattle.defer_lines.specs.Conditions.{condition-part, low-condition, part-falls, part-turn, merge-is}
 use Rattle.defer_lines.proofs.conditions.put_condition.Reads as reads
 use Rattle.defer_lines.proofs.conditions.put_condition.Kinds as kinds

@@ -5,9 +5,9 @@ use lib.ListN.{length}
 use mathlib.Core.Path.{_≡_, refl}
 use borrow.Author.Needs.{needs}
 use Rattle.writing.specs.Puts.{Puts, puts-then, puts-as}
-use Rattle.writing.specs.Rows.{run, run-start, run-turn, run-all}
+use Rattle.writing.specs.laws.Rows.{run, run-start, run-turn, run-all}
 use Rattle.writing.specs.Parts.{OfState}
-use Rattle.defer_lines.specs.Inputs.{input-part, inputs-are}
+use Rattle.defer_lines.specs.laws.Inputs.{input-part, inputs-are}
 use Rattle.defer_lines.proofs.inputs.put_inputs.Statement.{statement}
 use Rattle.defer_lines.proofs.inputs.put_inputs.Tie as tie
 

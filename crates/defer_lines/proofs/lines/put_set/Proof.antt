@@ -8,10 +8,10 @@ use Rattle.nesting.specs.Nesting.{DeferredEdgeBundleSet}
 use Rattle.shown.specs.Sets.{no-bundle}
 use Rattle.shown.specs.States.{ShowsOwnSet}
 use Rattle.writing.specs.Puts.{Puts}
-use Rattle.writing.specs.Rows.{run, run-start, run-turn}
+use Rattle.writing.specs.laws.Rows.{run, run-start, run-turn}
 use Rattle.writing.specs.Parts.{OfState, defer-part}
-use Rattle.writing.specs.PartLaws.{puts-each}
-use Rattle.defer_lines.specs.DeferParts.{defer-at, bundle-shown}
+use Rattle.writing.specs.laws.PartLaws.{puts-each}
+use Rattle.defer_lines.specs.laws.DeferParts.{defer-at, bundle-shown}
 use Rattle.defer_lines.proofs.lines.put_set.Statement.{statement}
 use Rattle.defer_lines.proofs.lines.put_set.Tie as tie
 

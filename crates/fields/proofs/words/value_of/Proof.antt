@@ -34,24 +34,34 @@ returns-5 c =
 
 returns-6 : tie.Need-returns-6
 returns-6 c =
+    let at-if = c .before .before in
+    let at-if-2 = at-if .before in
+    let at-if-3 = at-if-2 .before in
+    let at-if-4 = at-if-3 .before in
+    let at-args = at-if-4 .before in
     simp (
-      ne-eqb _ _ (c .before .before .before .before .before .if1 .left),
-      ne-eqb _ _ (c .before .before .before .before .if2 .left),
-      eq-eqb _ _ (c .before .before .before .if3 .left),
-      ne-eqb _ _ (c .before .before .if4 .left),
+      ne-eqb _ _ (at-if-4 .if1 .left),
+      ne-eqb _ _ (at-if-3 .if2 .left),
+      eq-eqb _ _ (at-if-2 .if3 .left),
+      ne-eqb _ _ (at-if .if4 .left),
       eq-eqb _ _ (c .before .if5 .left),
-      le-leb (c .before .before .before .before .before .before .args .index) 1 (omega arith),
+      le-leb (at-args .args .index) 1 (omega arith),
     )
 
 returns-7 : tie.Need-returns-7
 returns-7 c =
+    let at-if = c .before .before in
+    let at-if-2 = at-if .before in
+    let at-if-3 = at-if-2 .before in
+    let at-if-4 = at-if-3 .before in
+    let at-args = at-if-4 .before in
     simp (
-      ne-eqb _ _ (c .before .before .before .before .before .if1 .left),
-      ne-eqb _ _ (c .before .before .before .before .if2 .left),
-      eq-eqb _ _ (c .before .before .before .if3 .left),
-      ne-eqb _ _ (c .before .before .if4 .left),
+      ne-eqb _ _ (at-if-4 .if1 .left),
+      ne-eqb _ _ (at-if-3 .if2 .left),
+      eq-eqb _ _ (at-if-2 .if3 .left),
+      ne-eqb _ _ (at-if .if4 .left),
       eq-eqb _ _ (c .before .if5 .left),
-      lt-leb (c .before .before .before .before .before .before .args .index) 1 (omega arith),
+      lt-leb (at-args .args .index) 1 (omega arith),
     )
 
 pub value-of-spec : {M : Type 1} → statement M

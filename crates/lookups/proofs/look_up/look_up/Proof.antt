@@ -36,10 +36,17 @@ plain-requires : tie.Need-plain-requires Inv-loop μ-loop
 plain-requires c κs = search needs
 
 returns-2 : tie.Need-returns-2 Inv-loop μ-loop
-returns-2 c = (c .plain .ensures) ∙ turn-none _ _ _ _ _ 0 0 (c .before .before .before .before .before .before .loop-test .taken)
-    (c .before .before .before .before .before .before .before .loop .inv)
-    (sym (c .before .before .before .before .before .is-input .ensures) ∙ not-false _ (c .before .before .before .before .if1 .left))
-    (c .before .before .before .input-region .ensures) (c .before .before .rewrite-kind .ensures) (c .before .if2 .taken)
+returns-2 c =
+    let at-rewrite-kind = c .before .before in
+    let at-input-region = at-rewrite-kind .before in
+    let at-if = at-input-region .before in
+    let at-is-input = at-if .before in
+    let at-loop-test = at-is-input .before in
+    let at-loop = at-loop-test .before in
+    (c .plain .ensures) ∙ turn-none _ _ _ _ _ 0 0 (at-loop-test .loop-test .taken)
+    (at-loop .loop .inv)
+    (sym (at-is-input .is-input .ensures) ∙ not-false _ (at-if .if1 .left))
+    (at-input-region .input-region .ensures) (at-rewrite-kind .rewrite-kind .ensures) (c .before .if2 .taken)
 
 input-index-requires : tie.Need-input-index-requires Inv-loop μ-loop
 input-index-requires c κs = search needs
@@ -54,15 +61,26 @@ plain-requires-2 : tie.Need-plain-requires-2 Inv-loop μ-loop
 plain-requires-2 c κs = search needs
 
 returns-3 : tie.Need-returns-3 Inv-loop μ-loop
-returns-3 c = (c .plain2 .ensures) ∙ turn-renumbers _ _ _ _ _ _ _
-    (c .before .before .before .before .before .before .before .before .before .before .loop-test .taken)
-    (c .before .before .before .before .before .before .before .before .before .before .before .loop .inv)
-    (sym (c .before .before .before .before .before .before .before .before .before .is-input .ensures)
-    ∙ not-false _ (c .before .before .before .before .before .before .before .before .if1 .left))
-    (c .before .before .before .before .before .before .before .input-region .ensures)
-    (c .before .before .before .before .before .before .rewrite-kind .ensures) (c .before .before .before .before .before .if2 .left)
-    (c .before .before .before .before .input-index .ensures) (c .before .before .before .rewrite-value .ensures)
-    (sym (c .before .before .renumbers .ensures) ∙ c .before .if3 .taken)
+returns-3 c =
+    let at-renumbers = c .before .before in
+    let at-rewrite-value = at-renumbers .before in
+    let at-input-index = at-rewrite-value .before in
+    let at-if = at-input-index .before in
+    let at-rewrite-kind = at-if .before in
+    let at-input-region = at-rewrite-kind .before in
+    let at-if-2 = at-input-region .before in
+    let at-is-input = at-if-2 .before in
+    let at-loop-test = at-is-input .before in
+    let at-loop = at-loop-test .before in
+    (c .plain2 .ensures) ∙ turn-renumbers _ _ _ _ _ _ _
+    (at-loop-test .loop-test .taken)
+    (at-loop .loop .inv)
+    (sym (at-is-input .is-input .ensures)
+    ∙ not-false _ (at-if-2 .if1 .left))
+    (at-input-region .input-region .ensures)
+    (at-rewrite-kind .rewrite-kind .ensures) (at-if .if2 .left)
+    (at-input-index .input-index .ensures) (at-rewrite-value .rewrite-value .ensures)
+    (sym (at-renumbers .renumbers .ensures) ∙ c .before .if3 .taken)
 
 sub-left : tie.Need-sub-left Inv-loop μ-loop
 sub-left c = omega arith
@@ -71,13 +89,23 @@ loop-less : tie.Need-loop-less Inv-loop μ-loop
 loop-less c = omega arith
 
 loop-again : tie.Need-loop-again Inv-loop μ-loop
-loop-again c = turn-on _ _ _ _ _ _ _ (c .before .before .before .before .before .before .before .before .before .loop-test .taken)
-    (c .before .before .before .before .before .before .before .before .before .before .loop .inv)
-    (sym (c .before .before .before .before .before .before .before .before .is-input .ensures)
-    ∙ not-false _ (c .before .before .before .before .before .before .before .if1 .left))
-    (c .before .before .before .before .before .before .input-region .ensures)
-    (c .before .before .before .before .before .rewrite-kind .ensures) (c .before .before .before .before .if2 .left)
-    (c .before .before .before .input-index .ensures) (c .before .before .rewrite-value .ensures)
+loop-again c =
+    let at-rewrite-value = c .before .before in
+    let at-input-index = at-rewrite-value .before in
+    let at-if = at-input-index .before in
+    let at-rewrite-kind = at-if .before in
+    let at-input-region = at-rewrite-kind .before in
+    let at-if-2 = at-input-region .before in
+    let at-is-input = at-if-2 .before in
+    let at-loop-test = at-is-input .before in
+    let at-loop = at-loop-test .before in
+    turn-on _ _ _ _ _ _ _ (at-loop-test .loop-test .taken)
+    (at-loop .loop .inv)
+    (sym (at-is-input .is-input .ensures)
+    ∙ not-false _ (at-if-2 .if1 .left))
+    (at-input-region .input-region .ensures)
+    (at-rewrite-kind .rewrite-kind .ensures) (at-if .if2 .left)
+    (at-input-index .input-index .ensures) (at-rewrite-value .rewrite-value .ensures)
     (sym (c .before .renumbers .ensures) ∙ c .if3 .left)
 
 plain-requires-3 : tie.Need-plain-requires-3 Inv-loop μ-loop

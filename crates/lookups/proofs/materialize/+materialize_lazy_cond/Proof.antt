@@ -80,31 +80,42 @@ module _ (t : ℕ) where
   cond-part-requires c κs = search needs
 
   materialize-lazy-cond-requires : lts.Need-materialize-lazy-cond-requires (called t) (at t) reads.Post Inv-loop μ-loop
-  materialize-lazy-cond-requires c κs = (
-    omega (
-      arith,
-      c .before .before .before .before .before .before .before .before .before .before .before .pre .0,
-      c .before .cond-part .ensures,
-      part-below
-          (word (c .before .before .before .before .loop .w) conditions
-          (11 * c .before .before .before .before .before .before .before .before .before .before .before .args .c +
-          (3 + c .before .before .before .before .loop .j)))
-          (c .before .before .before .before .before .before .before .before .before .before .before .args .c)
-          (c .before .before .before .before .before .before .before .before .if3 .left),
-    ),
-    tt,
-  )
+  materialize-lazy-cond-requires c κs =
+      let at-loop = c .before .before .before .before in
+      let at-if = at-loop .before .before .before .before in
+      let at-pre = at-if .before .before .before in (
+        omega (
+          arith,
+          at-pre .pre .0,
+          c .before .cond-part .ensures,
+          part-below
+              (word (at-loop .loop .w) conditions
+              (11 * at-pre .args .c +
+              (3 + at-loop .loop .j)))
+              (at-pre .args .c)
+              (at-if .if3 .left),
+        ),
+        tt,
+      )
 
   enum-told : lts.Need-enum-told (called t) (at t) reads.Post Inv-loop μ-loop
   enum-told c = search needs
 
   returns-4 : lts.Need-returns-4 (called t) (at t) reads.Post Inv-loop μ-loop
-  returns-4 c = part-full _ _ (c .before .before .before .before .before .before .before .loop .inv .0)
-      (c .before .before .before .before .before .before .before .before .shape-size .ensures)
-      (c .before .before .before .before .before .before .before .before .before .cond-shape .ensures)
-      (c .before .before .before .before .before .before .loop-test .taken) (c .before .before .before .before .cond-part .ensures)
-      (c .before .before .materialize-lazy-cond .ensures)
-      (c .before .before .before .before .before .before .before .before .before .before .before .if3 .left) (c .enum-told .given .1)
+  returns-4 c =
+      let at-materialize-lazy-cond = c .before .before in
+      let at-cond-part = at-materialize-lazy-cond .before .before in
+      let at-loop-test = at-cond-part .before .before in
+      let at-loop = at-loop-test .before in
+      let at-shape-size = at-loop .before in
+      let at-cond-shape = at-shape-size .before in
+      let at-if = at-cond-shape .before .before in
+      part-full _ _ (at-loop .loop .inv .0)
+      (at-shape-size .shape-size .ensures)
+      (at-cond-shape .cond-shape .ensures)
+      (at-loop-test .loop-test .taken) (at-cond-part .cond-part .ensures)
+      (at-materialize-lazy-cond .materialize-lazy-cond .ensures)
+      (at-if .if3 .left) (c .enum-told .given .1)
 
   enum-known-v : lts.Need-enum-known-v (called t) (at t) reads.Post Inv-loop μ-loop
   enum-known-v c = search needs
@@ -113,52 +124,77 @@ module _ (t : ℕ) where
   cast-vs c = search needs
 
   mul-vs : lts.Need-mul-vs (called t) (at t) reads.Post Inv-loop μ-loop
-  mul-vs c = omega (
-    arith,
-    c .before .before .before .before .before .before .before .loop-test .taken,
-    c .before .before .before .before .before .before .before .before .before .shape-size .ensures,
-    few-parts
-        (c .before .before .before .before .before .before .before .before .before .before .cond-shape .result),
-  )
+  mul-vs c =
+      let at-loop-test = c .before .before .before .before .before .before .before in
+      let at-shape-size = at-loop-test .before .before in
+      let at-cond-shape = at-shape-size .before in
+      omega (
+        arith,
+        at-loop-test .loop-test .taken,
+        at-shape-size .shape-size .ensures,
+        few-parts
+            (at-cond-shape .cond-shape .result),
+      )
 
   array-write-vs : lts.Need-array-write-vs (called t) (at t) reads.Post Inv-loop μ-loop
-  array-write-vs c = omega (
-    arith,
-    c .before .before .before .before .before .before .before .loop-test .taken,
-    c .before .before .before .before .before .before .before .before .before .shape-size .ensures,
-    few-parts
-        (c .before .before .before .before .before .before .before .before .before .before .cond-shape .result),
-    c .before .before .before .before .before .before .before .before .loop .inv .1,
-  )
+  array-write-vs c =
+      let at-loop-test = c .before .before .before .before .before .before .before in
+      let at-loop = at-loop-test .before in
+      let at-shape-size = at-loop .before in
+      let at-cond-shape = at-shape-size .before in
+      omega (
+        arith,
+        at-loop-test .loop-test .taken,
+        at-shape-size .shape-size .ensures,
+        few-parts
+            (at-cond-shape .cond-shape .result),
+        at-loop .loop .inv .1,
+      )
 
   add-j : lts.Need-add-j (called t) (at t) reads.Post Inv-loop μ-loop
-  add-j c = omega (arith, c .before .before .before .before .before .before .before .loop-test .taken)
+  add-j c =
+      let at-loop-test = c .before .before .before .before .before .before .before in
+      omega (arith, at-loop-test .loop-test .taken)
 
   loop-less : lts.Need-loop-less (called t) (at t) reads.Post Inv-loop μ-loop
-  loop-less c = omega (arith, c .before .before .before .before .before .before .before .loop-test .taken)
+  loop-less c =
+      let at-loop-test = c .before .before .before .before .before .before .before in
+      omega (arith, at-loop-test .loop-test .taken)
 
   loop-again : lts.Need-loop-again (called t) (at t) reads.Post Inv-loop μ-loop
-  loop-again c = (
-    part-turn _ _ (c .before .before .before .before .before .before .before .before .loop .inv .0)
-        (c .before .before .before .before .before .before .before .before .before .shape-size .ensures)
-        (c .before .before .before .before .before .before .before .before .before .before .cond-shape .ensures)
-        (c .before .before .before .before .before .before .before .loop-test .taken)
-        (c .before .before .before .before .before .cond-part .ensures) (c .before .before .before .materialize-lazy-cond .ensures)
-        (c .before .v .given .1),
-    simp length-set (c .before .before .before .before .before .before .before .before .loop .inv .1),
-    omega
-        (arith, c .before .before .before .before .before .before .before .loop-test .taken),
-  )
+  loop-again c =
+      let at-materialize-lazy-cond = c .before .before .before in
+      let at-cond-part = at-materialize-lazy-cond .before .before in
+      let at-loop-test = at-cond-part .before .before in
+      let at-loop = at-loop-test .before in
+      let at-shape-size = at-loop .before in
+      let at-cond-shape = at-shape-size .before in (
+        part-turn _ _ (at-loop .loop .inv .0)
+            (at-shape-size .shape-size .ensures)
+            (at-cond-shape .cond-shape .ensures)
+            (at-loop-test .loop-test .taken)
+            (at-cond-part .cond-part .ensures) (at-materialize-lazy-cond .materialize-lazy-cond .ensures)
+            (c .before .v .given .1),
+        simp length-set (at-loop .loop .inv .1),
+        omega
+            (arith, at-loop-test .loop-test .taken),
+      )
 
   merged-requires : lts.Need-merged-requires (called t) (at t) reads.Post Inv-loop μ-loop
   merged-requires c κs = search needs
 
   returns-5 : lts.Need-returns-5 (called t) (at t) reads.Post Inv-loop μ-loop
-  returns-5 c = parts-all _ _ (c .before .before .before .before .loop .inv .0)
-      (c .before .before .before .before .before .shape-size .ensures)
-      (c .before .before .before .before .before .before .cond-shape .ensures)
-      (c .before .before .before .before .before .before .before .before .if3 .left) (c .before .before .before .before .loop .inv .2)
-      (c .before .before .before .loop-test .left) (c .merged .ensures)
+  returns-5 c =
+      let at-loop-test = c .before .before .before in
+      let at-loop = at-loop-test .before in
+      let at-shape-size = at-loop .before in
+      let at-cond-shape = at-shape-size .before in
+      let at-if = at-cond-shape .before .before in
+      parts-all _ _ (at-loop .loop .inv .0)
+      (at-shape-size .shape-size .ensures)
+      (at-cond-shape .cond-shape .ensures)
+      (at-if .if3 .left) (at-loop .loop .inv .2)
+      (at-loop-test .loop-test .left) (c .merged .ensures)
 
 pub +materialize-lazy-cond-spec : {M : Type 1} → statement M
 +materialize-lazy-cond-spec = close measure λ t. lts.spec (called t) (at t) reads.Post Inv-loop μ-loop

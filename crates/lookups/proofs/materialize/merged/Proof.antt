@@ -32,18 +32,31 @@ output-requires : tie.Need-output-requires
 output-requires c κs = search needs
 
 returns-2 : tie.Need-returns-2
-returns-2 c = merged-full _ _ _ _ _ (c .before .before .before .before .before .before .before .before .cond-shape .ensures)
-    (c .before .before .before .before .before .before .before .is-scrutinee .ensures)
-    (c .before .before .before .before .before .before .if1 .left) (c .before .before .before .before .cond-node .ensures)
-    (c .before .before .define-output .ensures) (c .enum-told .given .1)
+returns-2 c =
+    let at-define-output = c .before .before in
+    let at-cond-node = at-define-output .before .before in
+    let at-if = at-cond-node .before .before in
+    let at-is-scrutinee = at-if .before in
+    let at-cond-shape = at-is-scrutinee .before in
+    merged-full _ _ _ _ _ (at-cond-shape .cond-shape .ensures)
+    (at-is-scrutinee .is-scrutinee .ensures)
+    (at-if .if1 .left) (at-cond-node .cond-node .ensures)
+    (at-define-output .define-output .ensures) (c .enum-told .given .1)
 
 returns-3 : tie.Need-returns-3
-returns-3 c = merged-output _ _ _ _ _
-    (c .before .before .before .before .before .before .before .before .before .before .cond-shape .ensures)
-    (c .before .before .before .before .before .before .before .before .before .is-scrutinee .ensures)
-    (c .before .before .before .before .before .before .before .before .if1 .left)
-    (c .before .before .before .before .before .before .cond-node .ensures) (c .before .before .before .before .define-output .ensures)
-    (c .before .before .o .given .1) (c .output .ensures)
+returns-3 c =
+    let at-o = c .before .before in
+    let at-define-output = at-o .before .before in
+    let at-cond-node = at-define-output .before .before in
+    let at-if = at-cond-node .before .before in
+    let at-is-scrutinee = at-if .before in
+    let at-cond-shape = at-is-scrutinee .before in
+    merged-output _ _ _ _ _
+    (at-cond-shape .cond-shape .ensures)
+    (at-is-scrutinee .is-scrutinee .ensures)
+    (at-if .if1 .left)
+    (at-cond-node .cond-node .ensures) (at-define-output .define-output .ensures)
+    (at-o .o .given .1) (c .output .ensures)
 
 pub merged-spec : {M : Type 1} → statement M
 merged-spec =

@@ -19,9 +19,14 @@ set-accumulated-count-requires : tie.Need-set-accumulated-count-requires
 set-accumulated-count-requires c κs = search needs
 
 returns : tie.Need-returns
-returns c = λ g s. exit-counted g _ _ _ (c .before .before .before .before .before .before .before .target .ensures)
-    (c .before .before .before .before .before .before .is-exit-target .ensures g s)
-    (c .before .before .before .before .before .if1 .taken) (c .before .before .before .accumulated-count .ensures)
+returns c =
+    let at-accumulated-count = c .before .before .before in
+    let at-if = at-accumulated-count .before .before in
+    let at-is-exit-target = at-if .before in
+    let at-target = at-is-exit-target .before in
+    λ g s. exit-counted g _ _ _ (at-target .target .ensures)
+    (at-is-exit-target .is-exit-target .ensures g s)
+    (at-if .if1 .taken) (at-accumulated-count .accumulated-count .ensures)
     (c .before .plus .ensures) (c .set-accumulated-count .ensures)
 
 returns-2 : tie.Need-returns-2

@@ -5,13 +5,14 @@ use lib.ListN.{drop}
 use Rattle.meaning.specs.Graph.{region}
 use Rattle.meaning.specs.Lists.{is-in}
 use Rattle.record.specs.Stands.{OfRecord}
+use Rattle.nesting.specs.Nesting.{exit-targets}
 use Rattle.loops.specs.Exits.{found-here, found-later, found-nowhere}
 use borrow.Author.Needs.{needs}
 use Rattle.loops.proofs.exits.is_exit_target.Statement.{statement}
 use Rattle.loops.proofs.exits.is_exit_target.Tie as tie
 
 abbrev Inv-loop : tie.InvT-loop
-Inv-loop w r t n k₀ k = OfRecord w (λ g. is-in t (drop k (region g r .exits)) ≡ is-in t (region g r .exits)) × (k ≤ n)
+Inv-loop w r t n k₀ k = OfRecord w (λ g. is-in t (drop k (exit-targets g r)) ≡ is-in t (exit-targets g r)) × (k ≤ n)
 
 abbrev μ-loop : tie.MeasureT-loop
 μ-loop w r t n k₀ k = n - k

@@ -25,17 +25,26 @@ enum-told-2 : tie.Need-enum-told-2
 enum-told-2 c = search needs
 
 returns-2 : tie.Need-returns-2
-returns-2 c = node-full (c .before .before .before .before .before .before .before .materialize-lazy-cond .ensures)
-    (c .before .before .before .before .before .repeat .given .1) (c .before .before .define-node .ensures) (c .enum-told2 .given .1)
+returns-2 c =
+    let at-define-node = c .before .before in
+    let at-repeat = at-define-node .before .before .before in
+    let at-materialize-lazy-cond = at-repeat .before .before in
+    node-full (at-materialize-lazy-cond .materialize-lazy-cond .ensures)
+    (at-repeat .repeat .given .1) (at-define-node .define-node .ensures) (c .enum-told2 .given .1)
 
 add-loop-requires : tie.Need-add-loop-requires
 add-loop-requires c κs = search needs
 
 returns-3 : tie.Need-returns-3
-returns-3 c = loop-whole
-    (c .before .before .before .before .before .before .before .before .before .before .materialize-lazy-cond .ensures)
-    (c .before .before .before .before .before .before .before .before .repeat .given .1)
-    (c .before .before .before .before .before .define-node .ensures) (c .before .before .before .node .given .1) (c .add-loop .ensures)
+returns-3 c =
+    let at-node = c .before .before .before in
+    let at-define-node = at-node .before .before in
+    let at-repeat = at-define-node .before .before .before in
+    let at-materialize-lazy-cond = at-repeat .before .before in
+    loop-whole
+    (at-materialize-lazy-cond .materialize-lazy-cond .ensures)
+    (at-repeat .repeat .given .1)
+    (at-define-node .define-node .ensures) (at-node .node .given .1) (c .add-loop .ensures)
 
 pub define-loop-spec : {M : Type 1} → statement M
 define-loop-spec =

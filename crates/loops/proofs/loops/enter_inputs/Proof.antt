@@ -13,8 +13,11 @@ insert-rewrites-requires : tie.Need-insert-rewrites-requires
 insert-rewrites-requires c κs = search needs
 
 returns : tie.Need-returns
-returns c = enters (c .before .before .before .before .before .before .rewrite-values .ensures)
-    (c .before .before .before .take-inputs .ensures) (c .insert-rewrites .ensures)
+returns c =
+    let at-take-inputs = c .before .before .before in
+    let at-rewrite-values = at-take-inputs .before .before .before in
+    enters (at-rewrite-values .rewrite-values .ensures)
+    (at-take-inputs .take-inputs .ensures) (c .insert-rewrites .ensures)
 
 pub enter-inputs-spec : {M : Type 1} → statement M
 enter-inputs-spec =

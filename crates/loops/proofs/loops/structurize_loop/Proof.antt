@@ -47,13 +47,16 @@ enum-told-2 c = search needs
 
 returns-2 : tie.Need-returns-2
 returns-2 c =
+    let at-define-loop = c .before .before in
+    let at-enter-inputs = at-define-loop .before .before in
+    let at-wrapper = at-enter-inputs .before .before .before .before in
     let d = c .before .before .before .before .before .before .before .before .before .before in
     let e = d .before .before .before .before in
     loop-full (e .before .before .before .before .before .input-count .ensures) (e .backedge-inputs .ensures)
     (e .before .before .before .set-length .ensures) (e .before .before .condition-in .ensures)
     (d .before .before .split-out-target .ensures) (d .define-region .ensures)
-    (c .before .before .before .before .before .before .before .before .wrapper .given .1)
-    (c .before .before .before .before .enter-inputs .ensures) (c .before .before .define-loop .ensures) (c .enum-told2 .given .1)
+    (at-wrapper .wrapper .given .1)
+    (at-enter-inputs .enter-inputs .ensures) (at-define-loop .define-loop .ensures) (c .enum-told2 .given .1)
 
 enum-told-3 : tie.Need-enum-told-3
 enum-told-3 c = search needs
@@ -66,15 +69,20 @@ add-exit-edges-requires c κs = search needs
 
 returns-3 : tie.Need-returns-3
 returns-3 c =
+    let at-set-structured-body = c .before .before in
+    let at-enum-told = at-set-structured-body .before .before in
+    let at-define-loop = at-enum-told .before .before in
+    let at-enter-inputs = at-define-loop .before .before in
+    let at-wrapper = at-enter-inputs .before .before .before .before in
     let d = c .before .before .before .before .before .before .before .before .before .before .before .before .before .before in
     let e = d .before .before .before .before in
     loop-made (e .before .before .before .before .before .input-count .ensures) (e .backedge-inputs .ensures)
     (e .before .before .before .set-length .ensures) (e .before .before .condition-in .ensures)
     (d .before .before .split-out-target .ensures) (d .define-region .ensures)
-    (c .before .before .before .before .before .before .before .before .before .before .before .before .wrapper .given .1)
-    (c .before .before .before .before .before .before .before .before .enter-inputs .ensures)
-    (c .before .before .before .before .before .before .define-loop .ensures)
-    (c .before .before .before .before .enum-told3 .given .1) (c .before .before .set-structured-body .ensures)
+    (at-wrapper .wrapper .given .1)
+    (at-enter-inputs .enter-inputs .ensures)
+    (at-define-loop .define-loop .ensures)
+    (at-enum-told .enum-told3 .given .1) (at-set-structured-body .set-structured-body .ensures)
     (c .add-exit-edges .ensures)
 
 pub structurize-loop-spec : {M : Type 1} → statement M

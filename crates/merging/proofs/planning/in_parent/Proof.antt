@@ -32,21 +32,39 @@ case-input-requires : tie.Need-case-input-requires
 case-input-requires c κs = search needs
 
 returns-3 : tie.Need-returns-3
-returns-3 c = parent-given _ _ _ _ (c .before .before .before .before .before .before .before .before .before .before .case-kind .ensures)
-    (c .before .before .before .before .before .before .before .before .before .if1 .left)
-    (c .before .before .before .before .before .before .before .before .is-const .ensures)
-    (c .before .before .before .before .before .before .before .if2 .left)
-    (c .before .before .before .before .before .before .is-input .ensures) (c .before .before .before .before .before .if3 .taken)
-    (c .before .before .before .before .input-region .ensures) (c .before .before .before .case-body .ensures)
-    (c .before .before .if4 .taken)
+returns-3 c =
+    let at-if = c .before .before in
+    let at-case-body = at-if .before in
+    let at-input-region = at-case-body .before in
+    let at-if-2 = at-input-region .before in
+    let at-is-input = at-if-2 .before in
+    let at-if-3 = at-is-input .before in
+    let at-is-const = at-if-3 .before in
+    let at-if-4 = at-is-const .before in
+    let at-case-kind = at-if-4 .before in
+    parent-given _ _ _ _ (at-case-kind .case-kind .ensures)
+    (at-if-4 .if1 .left)
+    (at-is-const .is-const .ensures)
+    (at-if-3 .if2 .left)
+    (at-is-input .is-input .ensures) (at-if-2 .if3 .taken)
+    (at-input-region .input-region .ensures) (at-case-body .case-body .ensures)
+    (at-if .if4 .taken)
     (c .before .input-index .ensures) (c .case-input .ensures)
 
 returns-4 : tie.Need-returns-4
-returns-4 c = parent-elsewhere _ _ _ _ (c .before .before .before .before .before .before .before .before .case-kind .ensures)
-    (c .before .before .before .before .before .before .before .if1 .left)
-    (c .before .before .before .before .before .before .is-const .ensures) (c .before .before .before .before .before .if2 .left)
-    (c .before .before .before .before .is-input .ensures) (c .before .before .before .if3 .taken)
-    (c .before .before .input-region .ensures) (c .before .case-body .ensures) (c .if4 .left)
+returns-4 c =
+    let at-input-region = c .before .before in
+    let at-if = at-input-region .before in
+    let at-is-input = at-if .before in
+    let at-if-2 = at-is-input .before in
+    let at-is-const = at-if-2 .before in
+    let at-if-3 = at-is-const .before in
+    let at-case-kind = at-if-3 .before in
+    parent-elsewhere _ _ _ _ (at-case-kind .case-kind .ensures)
+    (at-if-3 .if1 .left)
+    (at-is-const .is-const .ensures) (at-if-2 .if2 .left)
+    (at-is-input .is-input .ensures) (at-if .if3 .taken)
+    (at-input-region .input-region .ensures) (c .before .case-body .ensures) (c .if4 .left)
 
 returns-5 : tie.Need-returns-5
 returns-5 c = parent-none _ _ _ _ (c .before .before .before .before .before .case-kind .ensures)

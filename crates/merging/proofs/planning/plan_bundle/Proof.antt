@@ -16,20 +16,30 @@ all-true-requires : tie.Need-all-true-requires
 all-true-requires c κs = search needs
 
 returns : tie.Need-returns
-returns c = bundle-true _ _ _ _ _ _ _ (c .before .before .before .before .before .before .before .before .target .ensures)
-    (c .before .before .before .before .before .before .before .per-case-deferred .ensures)
-    (c .before .before .before .before .plan-inputs .ensures)
+returns c =
+    let at-plan-inputs = c .before .before .before .before in
+    let at-per-case-deferred = at-plan-inputs .before .before .before in
+    let at-target = at-per-case-deferred .before in
+    bundle-true _ _ _ _ _ _ _ (at-target .target .ensures)
+    (at-per-case-deferred .per-case-deferred .ensures)
+    (at-plan-inputs .plan-inputs .ensures)
     (c .before .all-true .ensures) (c .if1 .taken)
 
 set-condition-requires : tie.Need-set-condition-requires
 set-condition-requires c κs = search needs
 
 returns-2 : tie.Need-returns-2
-returns-2 c = bundle-conditional _ _ _ _ _ _ _
-    (c .before .before .before .before .before .before .before .before .before .before .target .ensures)
-    (c .before .before .before .before .before .before .before .before .before .per-case-deferred .ensures)
-    (c .before .before .before .before .before .before .plan-inputs .ensures)
-    (c .before .before .before .all-true .ensures) (c .before .before .if1 .left) (c .set-condition .ensures)
+returns-2 c =
+    let at-if = c .before .before in
+    let at-all-true = at-if .before in
+    let at-plan-inputs = at-all-true .before .before .before in
+    let at-per-case-deferred = at-plan-inputs .before .before .before in
+    let at-target = at-per-case-deferred .before in
+    bundle-conditional _ _ _ _ _ _ _
+    (at-target .target .ensures)
+    (at-per-case-deferred .per-case-deferred .ensures)
+    (at-plan-inputs .plan-inputs .ensures)
+    (at-all-true .all-true .ensures) (at-if .if1 .left) (c .set-condition .ensures)
 
 pub plan-bundle-spec : {M : Type 1} → statement M
 plan-bundle-spec =

@@ -38,10 +38,16 @@ with-passed-requires : tie.Need-with-passed-requires Inv-loop μ-loop
 with-passed-requires c κs = search needs
 
 returns : tie.Need-returns Inv-loop μ-loop
-returns c = unique-differs _ _ _ _ _ _ (c .before .before .before .before .before .before .before .loop .inv .1)
-    (c .before .before .before .before .before .before .loop-test .taken) _ refl (c .before .before .before .before .if1 .taken)
-    (c .before .before .before .target-input .ensures)
-    (c .before .before .in-parent .ensures) (c .before .with-passed .ensures) (c .if2 .taken)
+returns c =
+    let at-in-parent = c .before .before in
+    let at-target-input = at-in-parent .before in
+    let at-if = at-target-input .before in
+    let at-loop-test = at-if .before .before in
+    let at-loop = at-loop-test .before in
+    unique-differs _ _ _ _ _ _ (at-loop .loop .inv .1)
+    (at-loop-test .loop-test .taken) _ refl (at-if .if1 .taken)
+    (at-target-input .target-input .ensures)
+    (at-in-parent .in-parent .ensures) (c .before .with-passed .ensures) (c .if2 .taken)
 
 add-j : tie.Need-add-j Inv-loop μ-loop
 add-j c = search needs

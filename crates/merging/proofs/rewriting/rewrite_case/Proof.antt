@@ -16,8 +16,12 @@ rewrite-set-requires : tie.Need-rewrite-set-requires
 rewrite-set-requires c κs = search needs
 
 returns : tie.Need-returns
-returns c = case-path _ _ _ _ _ _ (c .before .before .before .before .before .before .rewrite-given .ensures)
-    (c .before .before .before .before .case-start .ensures) (c .before .before .case-length .ensures) (c .rewrite-set .ensures)
+returns c =
+    let at-case-length = c .before .before in
+    let at-case-start = at-case-length .before .before in
+    let at-rewrite-given = at-case-start .before .before in
+    case-path _ _ _ _ _ _ (at-rewrite-given .rewrite-given .ensures)
+    (at-case-start .case-start .ensures) (at-case-length .case-length .ensures) (c .rewrite-set .ensures)
 
 pub rewrite-case-spec : {M : Type 1} → statement M
 rewrite-case-spec =

@@ -37,13 +37,18 @@ loop-less : tie.Need-loop-less Inv-loop μ-loop
 loop-less c = search needs
 
 loop-again : tie.Need-loop-again Inv-loop μ-loop
-loop-again c = rw (
-  c .summarize-set .ensures,
-  c .before .before .case-length .ensures,
-  c .before .before .before .before .case-start .ensures,
-)
-    (turn-next _ _ _ _ (c .before .before .before .before .before .before .before .loop .inv)
-    (c .before .before .before .before .before .before .loop-test .taken))
+loop-again c =
+    let at-case-length = c .before .before in
+    let at-case-start = at-case-length .before .before in
+    let at-loop-test = at-case-start .before .before in
+    let at-loop = at-loop-test .before in
+    rw (
+      c .summarize-set .ensures,
+      at-case-length .case-length .ensures,
+      at-case-start .case-start .ensures,
+    )
+    (turn-next _ _ _ _ (at-loop .loop .inv)
+    (at-loop-test .loop-test .taken))
 
 returns : tie.Need-returns Inv-loop μ-loop
 returns c = targets-path _ _ _ _ _ (c .before .before .before .before .put-set-length .ensures) (c .before .before .case-count .ensures)

@@ -32,13 +32,20 @@ put-set-length-requires c κs = search needs
 
 returns : tie.Need-returns
 returns c =
+    let at-set-bundle = c .before .before .before in
+    let at-bundle-at = at-set-bundle .before in
+    let at-if = at-bundle-at .before .before in
+    let at-find-by-target = at-if .before in
     let d = c .before .before .before .before .before .before .before .before in
-    bundle-new _ _ _ _ _ _ _ (d .before .before .before .before .before .before .before .set-start .ensures)
-    (d .before .before .before .before .before .set-length .ensures)
-    (d .before .before .before .target .ensures) (d .before .accumulated-count .ensures)
-    (c .before .before .before .before .before .before .before .find-by-target .ensures)
-    (c .before .before .before .before .before .before .if1 .taken) (c .before .before .before .before .bundle-at .ensures)
-    (c .before .before .before .set-bundle .ensures)
+    let at-target = d .before .before .before in
+    let at-set-length = at-target .before .before in
+    let at-set-start = at-set-length .before .before in
+    bundle-new _ _ _ _ _ _ _ (at-set-start .set-start .ensures)
+    (at-set-length .set-length .ensures)
+    (at-target .target .ensures) (d .before .accumulated-count .ensures)
+    (at-find-by-target .find-by-target .ensures)
+    (at-if .if1 .taken) (at-bundle-at .bundle-at .ensures)
+    (at-set-bundle .set-bundle .ensures)
     (c .before .longer .ensures) (c .put-set-length .ensures)
 
 accumulated-count-requires-2 : tie.Need-accumulated-count-requires-2
@@ -52,12 +59,18 @@ set-accumulated-count-requires c κs = search needs
 
 returns-2 : tie.Need-returns-2
 returns-2 c =
+    let at-accumulated-count = c .before .before .before in
+    let at-if = at-accumulated-count .before .before in
+    let at-find-by-target = at-if .before in
     let d = c .before .before .before .before .before .before .before in
-    bundle-there _ _ _ _ _ _ _ (d .before .before .before .before .before .before .before .set-start .ensures)
-    (d .before .before .before .before .before .set-length .ensures)
-    (d .before .before .before .target .ensures) (d .before .accumulated-count .ensures)
-    (c .before .before .before .before .before .before .find-by-target .ensures)
-    (c .before .before .before .before .before .if1 .left) (c .before .before .before .accumulated-count2 .ensures)
+    let at-target = d .before .before .before in
+    let at-set-length = at-target .before .before in
+    let at-set-start = at-set-length .before .before in
+    bundle-there _ _ _ _ _ _ _ (at-set-start .set-start .ensures)
+    (at-set-length .set-length .ensures)
+    (at-target .target .ensures) (d .before .accumulated-count .ensures)
+    (at-find-by-target .find-by-target .ensures)
+    (at-if .if1 .left) (at-accumulated-count .accumulated-count2 .ensures)
     (c .before .plus .ensures)
     (c .set-accumulated-count .ensures)
 

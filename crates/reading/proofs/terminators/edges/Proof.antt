@@ -20,15 +20,19 @@ enum-known-e : tie.Need-enum-known-e
 enum-known-e c = search needs
 
 distinct-requires : tie.Need-distinct-requires
-distinct-requires c κs = λ j l.
-    let a = step-read _ _ _ refl (c .before .before .before .words .ensures) (c .before .e .given .1) in
+distinct-requires c κs =
+    let at-words = c .before .before .before in
+    let at-span-arg = at-words .before .before in
+    let at-args = at-span-arg .before in
+    λ j l.
+    let a = step-read _ _ _ refl (at-words .words .ensures) (c .before .e .given .1) in
     omega (
       arith,
-      targets-inside (c .before .before .before .before .before .before .args .n)
-          (c .before .before .before .before .before .before .args .w .now)
-          (c .before .before .before .before .before .before .args .c .end)
-          (c .before .before .before .before .before .before .args .c .at) (a .is) j l .1,
-      c .before .before .before .before .before .span-arg .given,
+      targets-inside (at-args .args .n)
+          (at-args .args .w .now)
+          (at-args .args .c .end)
+          (at-args .args .c .at) (a .is) j l .1,
+      at-span-arg .span-arg .given,
     )
 
 passes-requires : tie.Need-passes-requires

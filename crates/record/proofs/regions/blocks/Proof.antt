@@ -41,13 +41,18 @@ enum-known-e c = search needs
 
 cast-places : tie.Need-cast-places Inv-loop μ-loop
 cast-places c =
-    let a = step-read _ _ _ (c .before .before .before .before .before .before .loop .inv .1)
-    (c .before .before .before .before .block .ensures) (c .before .before .e .given .1) in
+    let at-e = c .before .before in
+    let at-block = at-e .before .before in
+    let at-loop = at-block .before .before in
+    let at-span-arg = at-loop .before .before in
+    let at-args = at-span-arg .before in
+    let a = step-read _ _ _ (at-loop .loop .inv .1)
+    (at-block .block .ensures) (at-e .e .given .1) in
     omega (
       arith,
-      taken-inside (c .before .before .before .before .before .before .before .before .before .args .w .now)
-          (c .before .before .before .before .before .before .before .before .before .args .from .end) (block-inside _ _ (a .is)) .1,
-      c .before .before .before .before .before .before .before .before .span-arg .given,
+      taken-inside (at-args .args .w .now)
+          (at-args .args .from .end) (block-inside _ _ (a .is)) .1,
+      at-span-arg .span-arg .given,
     )
 
 cast-places-2 : tie.Need-cast-places-2 Inv-loop μ-loop

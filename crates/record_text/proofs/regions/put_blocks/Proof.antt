@@ -46,18 +46,22 @@ loop-less c = omega arith
 
 loop-again : tie.Need-loop-again Inv-loop μ-loop
 loop-again c =
-    let l = c .before .before .before .before .before .before .loop in (
+    let at-put-block = c .before .before .before in
+    let at-loop = at-put-block .before .before .before in
+    let at-block-count = at-loop .before in
+    let at-args = at-block-count .before .before in
+    let l = at-loop .loop in (
       omega arith,
       (
         omega arith,
         (
-          c .before .before .before .put-block .kept .1 .0 ∙ l .inv .1 .1 .0,
+          at-put-block .put-block .kept .1 .0 ∙ l .inv .1 .1 .0,
           λ g s q w.
-              let r = c .before .before .before .before .before .before .before .before .before .args .r in
+              let r = at-args .args .r in
               let bs = region g r .blocks in
-              let size = c .before .before .before .before .before .before .before .block-count .ensures g s in
+              let size = at-block-count .block-count .ensures g s in
               l .inv .1 .1 .1 g s q
-              (wrote-block r (l .k) bs (l .b) (omega arith) (c .before .before .before .put-block .ensures g s)
+              (wrote-block r (l .k) bs (l .b) (omega arith) (at-put-block .put-block .ensures g s)
               (of-text (ap (λ n. blocks-text r (l .k + n) (drop (l .b + 1) bs)) (c .block-length .ensures g s)) w)),
         ),
       ),

@@ -36,15 +36,19 @@ loop-less c = omega arith
 
 loop-again : tie.Need-loop-again Inv-loop μ-loop
 loop-again c =
-    let l = c .before .before .before .before .before .loop in (
+    let at-put-pass-once = c .before .before in
+    let at-loop = at-put-pass-once .before .before .before in
+    let at-target-count = at-loop .before in
+    let at-args = at-target-count .before .before in
+    let l = at-loop .loop in (
       omega arith,
       (
-        c .before .before .put-pass-once .kept .1 .0 ∙ l .inv .1 .0,
+        at-put-pass-once .put-pass-once .kept .1 .0 ∙ l .inv .1 .0,
         λ g s q w.
-            let size = c .before .before .before .before .before .before .target-count .ensures g s in
+            let size = at-target-count .target-count .ensures g s in
             l .inv .1 .1 g s q
-            (wrote-pass (edges-of (region g (c .before .before .before .before .before .before .before .before .args .r) .terminator))
-            (l .j) (omega arith) (c .before .before .put-pass-once .ensures g s) w),
+            (wrote-pass (edges-of (region g (at-args .args .r) .terminator))
+            (l .j) (omega arith) (at-put-pass-once .put-pass-once .ensures g s) w),
       ),
     )
 

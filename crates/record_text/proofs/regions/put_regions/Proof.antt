@@ -35,13 +35,16 @@ loop-less c = omega arith
 
 loop-again : tie.Need-loop-again Inv-loop μ-loop
 loop-again c =
-    let l = c .before .before .before .before .before .loop in (
+    let at-put-region = c .before .before in
+    let at-loop = at-put-region .before .before .before in
+    let at-region-count = at-loop .before in
+    let l = at-loop .loop in (
       omega arith,
       (
-        c .before .before .put-region .kept .1 .0 ∙ l .inv .1 .0,
+        at-put-region .put-region .kept .1 .0 ∙ l .inv .1 .0,
         λ g s q w.
-            let size = c .before .before .before .before .before .before .region-count .ensures g s in
-            l .inv .1 .1 g s q (wrote-region (g .regions) (l .r) (omega arith) (c .before .before .put-region .ensures g s) w),
+            let size = at-region-count .region-count .ensures g s in
+            l .inv .1 .1 g s q (wrote-region (g .regions) (l .r) (omega arith) (at-put-region .put-region .ensures g s) w),
       ),
     )
 

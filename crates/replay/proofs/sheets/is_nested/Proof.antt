@@ -87,7 +87,9 @@ part-same-end c =
     omega (arith, printed-front (at-print .print .ensures) (at-lend .lend .ensures) (at-written .written .given .1) .within)
 
 sub-same-2 : tie.Need-sub-same-2
-sub-same-2 c = rw (c .before .before .before .before .before .before .before .before .before .before .behind .ensures) (behind-within _ _)
+sub-same-2 c =
+    let at-behind = c .before .before .before .before .before .before .before .before .before .before in
+    rw (at-behind .behind .ensures) (behind-within _ _)
 
 part-same-start-2 : tie.Need-part-same-start-2
 part-same-start-2 c =

@@ -28,9 +28,14 @@ returns-2 c = no-region (λ e. c .before .before .before .before .if1 .left
     (rw (c .enum-told .given .1) at (c .before .before .define-region .ensures))
 
 returns-3 : tie.Need-returns-3
-returns-3 c = new-region (λ e. c .before .before .before .before .before .before .before .if1 .left
-    (c .before .before .before .before .before .before .before .before .case-kind .ensures ∙ e))
-    (rw (c .before .before .before .r .given .1) at (c .before .before .before .before .before .define-region .ensures))
+returns-3 c =
+    let at-r = c .before .before .before in
+    let at-define-region = at-r .before .before in
+    let at-if = at-define-region .before .before in
+    let at-case-kind = at-if .before in
+    new-region (λ e. at-if .if1 .left
+    (at-case-kind .case-kind .ensures ∙ e))
+    (rw (at-r .r .given .1) at (at-define-region .define-region .ensures))
     (c .set-case-body .ensures)
 
 pub case-region-spec : {M : Type 1} → statement M

@@ -25,9 +25,14 @@ enum-told : tie.Need-enum-told Inv-loop μ-loop
 enum-told c = search needs
 
 returns : tie.Need-returns Inv-loop μ-loop
-returns c = rw (← c .before .before .before .before .before .before .case-count .ensures)
-    (refused _ _ _ _ _ (c .before .before .before .before .before .loop .inv .1) (c .before .before .before .before .loop-test .taken)
-    (rw (c .enum-told .given .1) at (c .before .before .case-region .ensures)))
+returns c =
+    let at-case-region = c .before .before in
+    let at-loop-test = at-case-region .before .before in
+    let at-loop = at-loop-test .before in
+    let at-case-count = at-loop .before in
+    rw (← at-case-count .case-count .ensures)
+    (refused _ _ _ _ _ (at-loop .loop .inv .1) (at-loop-test .loop-test .taken)
+    (rw (c .enum-told .given .1) at (at-case-region .case-region .ensures)))
 
 enum-told-2 : tie.Need-enum-told-2 Inv-loop μ-loop
 enum-told-2 c = search needs

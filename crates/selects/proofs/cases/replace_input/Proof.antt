@@ -17,9 +17,13 @@ insert-rewrites-requires : tie.Need-insert-rewrites-requires
 insert-rewrites-requires c κs = search needs
 
 returns : tie.Need-returns
-returns c = replaced-claimed _ _ (sym (c .before .before .before .before .before .before .before .before .case-kind .ensures) ∙ c .before
-    .before .before .before .before .before .before .if1 .taken) (c .before .before .before .case-body .ensures)
-    (c .before .before .before .before .before .case-inputs .ensures)
+returns c =
+    let at-case-body = c .before .before .before in
+    let at-case-inputs = at-case-body .before .before in
+    let at-if = at-case-inputs .before .before in
+    let at-case-kind = at-if .before in
+    replaced-claimed _ _ (sym (at-case-kind .case-kind .ensures) ∙ at-if .if1 .taken) (at-case-body .case-body .ensures)
+    (at-case-inputs .case-inputs .ensures)
     (c .insert-rewrites .ensures)
 
 returns-2 : tie.Need-returns-2

@@ -16,8 +16,12 @@ set-children-requires : tie.Need-set-children-requires
 set-children-requires c κs = search needs
 
 returns : tie.Need-returns
-returns c = select-added (c .before .before .before .before .before .before .case-cells .ensures)
-    (c .before .before .before .before .children .ensures) (c .before .before .add-cell .ensures) (c .set-children .ensures)
+returns c =
+    let at-add-cell = c .before .before in
+    let at-children = at-add-cell .before .before in
+    let at-case-cells = at-children .before .before in
+    select-added (at-case-cells .case-cells .ensures)
+    (at-children .children .ensures) (at-add-cell .add-cell .ensures) (c .set-children .ensures)
 
 pub add-select-spec : {M : Type 1} → statement M
 add-select-spec =

@@ -31,9 +31,14 @@ loop-less : tie.Need-loop-less Inv-loop μ-loop
 loop-less c = search needs
 
 loop-again : tie.Need-loop-again Inv-loop μ-loop
-loop-again c = cells-turn _ _ _ _ (c .before .before .before .before .before .before .before .loop .inv)
-    (c .before .before .before .before .before .before .loop-test .taken) (c .before .before .before .before .case-body .ensures)
-    (c .before .before .children-of .ensures)
+loop-again c =
+    let at-children-of = c .before .before in
+    let at-case-body = at-children-of .before .before in
+    let at-loop-test = at-case-body .before .before in
+    let at-loop = at-loop-test .before in
+    cells-turn _ _ _ _ (at-loop .loop .inv)
+    (at-loop-test .loop-test .taken) (at-case-body .case-body .ensures)
+    (at-children-of .children-of .ensures)
     (c .add-cell .ensures)
 
 returns : tie.Need-returns Inv-loop μ-loop

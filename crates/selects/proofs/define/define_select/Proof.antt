@@ -25,9 +25,13 @@ enum-told-3 : tie.Need-enum-told-3
 enum-told-3 c = search needs
 
 returns-2 : tie.Need-returns-2
-returns-2 c = scrutinee-full (rw (c .before .before .before .before .enum-told2 .given .1) at
-    (c .before .before .before .before .before .before .case-regions .ensures))
-    (rw (c .enum-told3 .given .1) at (c .before .before .scrutinee-value .ensures))
+returns-2 c =
+    let at-scrutinee-value = c .before .before in
+    let at-enum-told = at-scrutinee-value .before .before in
+    let at-case-regions = at-enum-told .before .before in
+    scrutinee-full (rw (at-enum-told .enum-told2 .given .1) at
+    (at-case-regions .case-regions .ensures))
+    (rw (c .enum-told3 .given .1) at (at-scrutinee-value .scrutinee-value .ensures))
 
 define-node-requires : tie.Need-define-node-requires
 define-node-requires c κs = search needs
@@ -39,21 +43,32 @@ enum-told-4 : tie.Need-enum-told-4
 enum-told-4 c = search needs
 
 returns-3 : tie.Need-returns-3
-returns-3 c = node-full (rw (c .before .before .before .before .before .before .before .before .before .enum-told2 .given .1) at
-    (c .before .before .before .before .before .before .before .before .before .before .before .case-regions .ensures))
-    (rw (c .before .before .before .before .before .v .given .1) at (c .before .before .before .before .before .before .before
-    .scrutinee-value .ensures)) (rw (c .enum-told4 .given .1) at (c .before .before .define-node .ensures))
+returns-3 c =
+    let at-define-node = c .before .before in
+    let at-v = at-define-node .before .before .before in
+    let at-scrutinee-value = at-v .before .before in
+    let at-enum-told = at-scrutinee-value .before .before in
+    let at-case-regions = at-enum-told .before .before in
+    node-full (rw (at-enum-told .enum-told2 .given .1) at
+    (at-case-regions .case-regions .ensures))
+    (rw (at-v .v .given .1) at (at-scrutinee-value .scrutinee-value .ensures))
+    (rw (c .enum-told4 .given .1) at (at-define-node .define-node .ensures))
 
 add-select-requires : tie.Need-add-select-requires
 add-select-requires c κs = search needs
 
 returns-4 : tie.Need-returns-4
-returns-4 c = select-defined (rw (c .before .before .before .before .before .before .before .before .before .before .before .before
-    .enum-told2 .given .1) at (c .before .before .before .before .before .before .before .before .before .before .before .before .before
-    .before .case-regions .ensures))
-    (rw (c .before .before .before .before .before .before .before .before .v .given .1) at
-    (c .before .before .before .before .before .before .before .before .before .before .scrutinee-value .ensures))
-    (rw (c .before .before .before .node .given .1) at (c .before .before .before .before .before .define-node .ensures))
+returns-4 c =
+    let at-node = c .before .before .before in
+    let at-define-node = at-node .before .before in
+    let at-v = at-define-node .before .before .before in
+    let at-scrutinee-value = at-v .before .before in
+    let at-enum-told = at-scrutinee-value .before .before in
+    let at-case-regions = at-enum-told .before .before in
+    select-defined (rw (at-enum-told .enum-told2 .given .1) at (at-case-regions .case-regions .ensures))
+    (rw (at-v .v .given .1) at
+    (at-scrutinee-value .scrutinee-value .ensures))
+    (rw (at-node .node .given .1) at (at-define-node .define-node .ensures))
     (c .add-select .ensures)
 
 pub define-select-spec : {M : Type 1} → statement M

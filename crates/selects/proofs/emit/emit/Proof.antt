@@ -31,11 +31,18 @@ enum-told : tie.Need-enum-told Inv-loop μ-loop
 enum-told c = search needs
 
 returns : tie.Need-returns Inv-loop μ-loop
-returns c = emits-by _ _ (c .before .before .before .before .before .before .before .before .before .set-start .ensures)
-    (c .before .before .before .before .before .before .before .set-length .ensures)
-    (refused-by _ _ _ _ _ (c .before .before .before .before .before .before .loop .inv .1)
-    (c .before .before .before .before .before .loop-test .taken)
-    (λ g s. rw (c .enum-told .given .1, c .before .before .before .bundle-at .ensures) at (c .before .before .emit-bundle .ensures g s)))
+returns c =
+    let at-emit-bundle = c .before .before in
+    let at-bundle-at = at-emit-bundle .before in
+    let at-loop-test = at-bundle-at .before .before in
+    let at-loop = at-loop-test .before in
+    let at-set-length = at-loop .before in
+    let at-set-start = at-set-length .before .before in
+    emits-by _ _ (at-set-start .set-start .ensures)
+    (at-set-length .set-length .ensures)
+    (refused-by _ _ _ _ _ (at-loop .loop .inv .1)
+    (at-loop-test .loop-test .taken)
+    (λ g s. rw (c .enum-told .given .1, at-bundle-at .bundle-at .ensures) at (at-emit-bundle .emit-bundle .ensures g s)))
 
 enum-told-2 : tie.Need-enum-told-2 Inv-loop μ-loop
 enum-told-2 c = search needs
@@ -47,12 +54,16 @@ loop-less : tie.Need-loop-less Inv-loop μ-loop
 loop-less c = search needs
 
 loop-again : tie.Need-loop-again Inv-loop μ-loop
-loop-again c = (
-  omega arith,
-  turned-by _ _ _ _ _ (c .before .before .before .before .before .before .loop .inv .1) (λ g. bundles-leave g _ _)
-      (c .before .before .before .before .before .loop-test .taken)
-      (λ g s. rw (c .enum-told2 .given .1, c .before .before .before .bundle-at .ensures) at (c .before .before .emit-bundle .ensures g s)),
-)
+loop-again c =
+    let at-emit-bundle = c .before .before in
+    let at-bundle-at = at-emit-bundle .before in
+    let at-loop-test = at-bundle-at .before .before in
+    let at-loop = at-loop-test .before in (
+      omega arith,
+      turned-by _ _ _ _ _ (at-loop .loop .inv .1) (λ g. bundles-leave g _ _)
+          (at-loop-test .loop-test .taken)
+          (λ g s. rw (c .enum-told2 .given .1, at-bundle-at .bundle-at .ensures) at (at-emit-bundle .emit-bundle .ensures g s)),
+    )
 
 returns-2 : tie.Need-returns-2 Inv-loop μ-loop
 returns-2 c = emits-by _ _ (c .before .before .before .before .set-start .ensures) (c .before .before .set-length .ensures)

@@ -19,10 +19,15 @@ enum-told : tie.Need-enum-told
 enum-told c = search needs
 
 returns : tie.Need-returns
-returns c = bundle-refused _ _ _ (c .before .before .before .before .before .before .before .before .target .ensures)
-    (c .before .before .before .before .before .before .before .per-case-deferred .ensures)
-    (c .before .before .before .before .before .cell-a .ensures)
-    (c .before .before .emit-inputs .ensures) (c .enum-told .given .1)
+returns c =
+    let at-emit-inputs = c .before .before in
+    let at-cell-a = at-emit-inputs .before .before .before in
+    let at-per-case-deferred = at-cell-a .before .before in
+    let at-target = at-per-case-deferred .before in
+    bundle-refused _ _ _ (at-target .target .ensures)
+    (at-per-case-deferred .per-case-deferred .ensures)
+    (at-cell-a .cell-a .ensures)
+    (at-emit-inputs .emit-inputs .ensures) (c .enum-told .given .1)
 
 enum-told-2 : tie.Need-enum-told-2
 enum-told-2 c = search needs
@@ -31,10 +36,16 @@ emit-condition-requires : tie.Need-emit-condition-requires
 emit-condition-requires c κs = search needs
 
 returns-2 : tie.Need-returns-2
-returns-2 c = bundle-made _ _ _ (c .before .before .before .before .before .before .before .before .before .before .before .target .ensures)
-    (c .before .before .before .before .before .before .before .before .before .before .per-case-deferred .ensures)
-    (c .before .before .before .before .before .before .before .before .cell-a .ensures)
-    (c .before .before .before .before .before .emit-inputs .ensures) (c .before .before .before .enum-told2 .given .1)
+returns-2 c =
+    let at-enum-told = c .before .before .before in
+    let at-emit-inputs = at-enum-told .before .before in
+    let at-cell-a = at-emit-inputs .before .before .before in
+    let at-per-case-deferred = at-cell-a .before .before in
+    let at-target = at-per-case-deferred .before in
+    bundle-made _ _ _ (at-target .target .ensures)
+    (at-per-case-deferred .per-case-deferred .ensures)
+    (at-cell-a .cell-a .ensures)
+    (at-emit-inputs .emit-inputs .ensures) (at-enum-told .enum-told2 .given .1)
     (c .emit-condition .ensures)
 
 pub emit-bundle-spec : {M : Type 1} → statement M

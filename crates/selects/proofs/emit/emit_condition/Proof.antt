@@ -35,24 +35,36 @@ set-condition-requires : tie.Need-set-condition-requires
 set-condition-requires c κs = search needs
 
 returns-2 : tie.Need-returns-2
-returns-2 c = condition-refused _ _ _ _ (c .before .before .before .before .before .before .before .before .before .before .before .before
-    .before .before .condition .ensures) (c .before .before .before .before .before .before .before .before .before .before .before .before
-    .before .if1 .left) (c .before .before .before .before .before .before .before .before .before .before .before .conditions-in-cases
+returns-2 c =
+    let at-define-merge = c .before .before in
+    let at-cell-c = at-define-merge .before .before .before in
+    let at-cell-b = at-cell-c .before .before in
+    let at-cell-a = at-cell-b .before .before in
+    let at-conditions-in-cases = at-cell-a .before .before in
+    let at-if = at-conditions-in-cases .before .before in
+    let at-condition = at-if .before in
+    condition-refused _ _ _ _ (at-condition .condition .ensures) (at-if .if1 .left) (at-conditions-in-cases .conditions-in-cases
     .ensures)
-    (c .before .before .before .before .before .before .before .before .before .cell-a .ensures)
-    (c .before .before .before .before .before .before .before .cell-b .ensures)
-    (c .before .before .before .before .before .cell-c .ensures) (c .before .before .define-merge .ensures) (c .enum-told .given .1)
+    (at-cell-a .cell-a .ensures)
+    (at-cell-b .cell-b .ensures)
+    (at-cell-c .cell-c .ensures) (at-define-merge .define-merge .ensures) (c .enum-told .given .1)
 
 returns-3 : tie.Need-returns-3
-returns-3 c = condition-set _ _ _ _ (c .before .before .before .before .before .before .before .before .before .before .before .before
-    .before .before .before .before .before .condition .ensures) (c .before .before .before .before .before .before .before .before .before
-    .before .before .before .before .before .before .before .if1 .left)
-    (c .before .before .before .before .before .before .before .before .before .before .before .before .before .before
-    .conditions-in-cases .ensures)
-    (c .before .before .before .before .before .before .before .before .before .before .before .before .cell-a .ensures)
-    (c .before .before .before .before .before .before .before .before .before .before .cell-b .ensures)
-    (c .before .before .before .before .before .before .before .before .cell-c .ensures)
-    (c .before .before .before .before .before .define-merge .ensures) (c .before .before .before .c .given .1)
+returns-3 c =
+    let at-c = c .before .before .before in
+    let at-define-merge = at-c .before .before in
+    let at-cell-c = at-define-merge .before .before .before in
+    let at-cell-b = at-cell-c .before .before in
+    let at-cell-a = at-cell-b .before .before in
+    let at-conditions-in-cases = at-cell-a .before .before in
+    let at-if = at-conditions-in-cases .before .before in
+    let at-condition = at-if .before in
+    condition-set _ _ _ _ (at-condition .condition .ensures) (at-if .if1 .left)
+    (at-conditions-in-cases .conditions-in-cases .ensures)
+    (at-cell-a .cell-a .ensures)
+    (at-cell-b .cell-b .ensures)
+    (at-cell-c .cell-c .ensures)
+    (at-define-merge .define-merge .ensures) (at-c .c .given .1)
     (c .set-condition .ensures)
 
 pub emit-condition-spec : {M : Type 1} → statement M

@@ -32,19 +32,30 @@ set-target-input-requires : tie.Need-set-target-input-requires
 set-target-input-requires c κs = search needs
 
 returns-2 : tie.Need-returns-2
-returns-2 c = input-refused _ _ _ _ _ _ (c .before .before .before .before .before .before .before .before .before .before .target-input
-    .ensures) (c .before .before .before .before .before .before .before .before .before .if1 .left)
-    (c .before .before .before .before .before .before .before .target-type .ensures)
-    (c .before .before .before .before .before .values-in-cases .ensures) (c .before .before .define-output .ensures)
+returns-2 c =
+    let at-define-output = c .before .before in
+    let at-values-in-cases = at-define-output .before .before .before in
+    let at-target-type = at-values-in-cases .before .before in
+    let at-if = at-target-type .before .before in
+    let at-target-input = at-if .before in
+    input-refused _ _ _ _ _ _ (at-target-input .target-input
+    .ensures) (at-if .if1 .left)
+    (at-target-type .target-type .ensures)
+    (at-values-in-cases .values-in-cases .ensures) (at-define-output .define-output .ensures)
     (c .enum-told .given .1)
 
 returns-3 : tie.Need-returns-3
-returns-3 c = input-set _ _ _ _ _ _ (c .before .before .before .before .before .before .before .before .before .before .before .before
-    .before .before .target-input .ensures) (c .before .before .before .before .before .before .before .before .before .before .before
-    .before .before .if1 .left) (c .before .before .before .before .before .before .before .before .before .before .before .target-type
+returns-3 c =
+    let at-o = c .before .before .before .before in
+    let at-define-output = at-o .before .before in
+    let at-values-in-cases = at-define-output .before .before .before in
+    let at-target-type = at-values-in-cases .before .before in
+    let at-if = at-target-type .before .before in
+    let at-target-input = at-if .before in
+    input-set _ _ _ _ _ _ (at-target-input .target-input .ensures) (at-if .if1 .left) (at-target-type .target-type
     .ensures)
-    (c .before .before .before .before .before .before .before .before .before .values-in-cases .ensures)
-    (c .before .before .before .before .before .before .define-output .ensures) (c .before .before .before .before .o .given .1)
+    (at-values-in-cases .values-in-cases .ensures)
+    (at-define-output .define-output .ensures) (at-o .o .given .1)
     (c .before .output .ensures) (c .set-target-input .ensures)
 
 pub emit-input-spec : {M : Type 1} → statement M

@@ -28,10 +28,16 @@ enum-told : tie.Need-enum-told Inv-loop μ-loop
 enum-told c = search needs
 
 returns : tie.Need-returns Inv-loop μ-loop
-returns c = inputs-by _ _ _ _ (c .before .before .before .before .before .before .before .before .target .ensures)
-    (c .before .before .before .before .before .before .input-count .ensures)
-    (refused-by _ _ _ _ _ (c .before .before .before .before .before .loop .inv .1) (c .before .before .before .before .loop-test .taken)
-    (λ g s. rw (c .enum-told .given .1) at (c .before .before .emit-input .ensures g s)))
+returns c =
+    let at-emit-input = c .before .before in
+    let at-loop-test = at-emit-input .before .before in
+    let at-loop = at-loop-test .before in
+    let at-input-count = at-loop .before in
+    let at-target = at-input-count .before .before in
+    inputs-by _ _ _ _ (at-target .target .ensures)
+    (at-input-count .input-count .ensures)
+    (refused-by _ _ _ _ _ (at-loop .loop .inv .1) (at-loop-test .loop-test .taken)
+    (λ g s. rw (c .enum-told .given .1) at (at-emit-input .emit-input .ensures g s)))
 
 enum-told-2 : tie.Need-enum-told-2 Inv-loop μ-loop
 enum-told-2 c = search needs

@@ -24,8 +24,12 @@ returns-2 c = if-full _ _ _ _ _ (not-false _ (c .before .before .before .before 
     (c .enum-told .given .1)
 
 returns-3 : tie.Need-returns-3
-returns-3 c = if-made _ _ _ _ _ (not-false _ (c .before .before .before .before .before .before .before .if1 .left))
-    (c .before .before .before .before .before .define-select .ensures) (c .before .before .before .h .given .1) (c .emit .ensures)
+returns-3 c =
+    let at-h = c .before .before .before in
+    let at-define-select = at-h .before .before in
+    let at-if = at-define-select .before .before in
+    if-made _ _ _ _ _ (not-false _ (at-if .if1 .left))
+    (at-define-select .define-select .ensures) (at-h .h .given .1) (c .emit .ensures)
 
 pub select-if-spec : {M : Type 1} → statement M
 select-if-spec =

@@ -25,11 +25,17 @@ enum-told : tie.Need-enum-told
 enum-told c = search needs
 
 returns : tie.Need-returns
-returns c = select-none _ _ _ _ (c .before .before .before .before .before .before .before .before .before .before .before
-    .any-non-empty-case .ensures) (c .before .before .before .before .before .before .before .before .before .rewrite-cases .ensures)
-    (c .before .before .before .before .before .before .before .deferred-targets .ensures)
-    (c .before .before .before .before .before .plan-bundles .ensures) (c .before .before .before .before .either .ensures)
-    (c .before .before .select-if .ensures) (c .enum-told .given .1)
+returns c =
+    let at-select-if = c .before .before in
+    let at-either = at-select-if .before .before in
+    let at-plan-bundles = at-either .before in
+    let at-deferred-targets = at-plan-bundles .before .before in
+    let at-rewrite-cases = at-deferred-targets .before .before in
+    let at-any-non-empty-case = at-rewrite-cases .before .before in
+    select-none _ _ _ _ (at-any-non-empty-case .any-non-empty-case .ensures) (at-rewrite-cases .rewrite-cases .ensures)
+    (at-deferred-targets .deferred-targets .ensures)
+    (at-plan-bundles .plan-bundles .ensures) (at-either .either .ensures)
+    (at-select-if .select-if .ensures) (c .enum-told .given .1)
 
 enum-told-2 : tie.Need-enum-told-2
 enum-told-2 c = search needs
@@ -38,12 +44,19 @@ replace-inputs-requires : tie.Need-replace-inputs-requires
 replace-inputs-requires c κs = search needs
 
 returns-2 : tie.Need-returns-2
-returns-2 c = select-all _ _ _ _ (c .before .before .before .before .before .before .before .before .before .before .before .before .before
-    .any-non-empty-case .ensures) (c .before .before .before .before .before .before .before .before .before .before .before .rewrite-cases
-    .ensures) (c .before .before .before .before .before .before .before .before .before .deferred-targets .ensures)
-    (c .before .before .before .before .before .before .before .plan-bundles .ensures)
-    (c .before .before .before .before .before .before .either .ensures) (c .before .before .before .before .select-if .ensures)
-    (c .before .before .enum-told2 .given .1) (c .replace-inputs .ensures)
+returns-2 c =
+    let at-enum-told = c .before .before in
+    let at-select-if = at-enum-told .before .before in
+    let at-either = at-select-if .before .before in
+    let at-plan-bundles = at-either .before in
+    let at-deferred-targets = at-plan-bundles .before .before in
+    let at-rewrite-cases = at-deferred-targets .before .before in
+    let at-any-non-empty-case = at-rewrite-cases .before .before in
+    select-all _ _ _ _ (at-any-non-empty-case .any-non-empty-case .ensures) (at-rewrite-cases .rewrite-cases
+    .ensures) (at-deferred-targets .deferred-targets .ensures)
+    (at-plan-bundles .plan-bundles .ensures)
+    (at-either .either .ensures) (at-select-if .select-if .ensures)
+    (at-enum-told .enum-told2 .given .1) (c .replace-inputs .ensures)
 
 pub structurize-select-spec : {M : Type 1} → statement M
 structurize-select-spec =

@@ -22,11 +22,18 @@ enum-told : tie.Need-enum-told
 enum-told c = search needs
 
 returns : tie.Need-returns
-returns c = into-refused _ _ _ _ (c .before .before .before .before .before .before .before .before .before .before .convergent-case
-    .ensures) (c .before .before .before .before .before .before .before .before .before .if1 .taken)
-    (c .before .before .before .before .before .before .before .case-at .ensures)
-    (c .before .before .before .before .before .unclaimed-case .ensures)
-    (c .before .before .before .before .set-case .ensures) (c .before .before .structurize-select .ensures) (c .enum-told .given .1)
+returns c =
+    let at-structurize-select = c .before .before in
+    let at-set-case = at-structurize-select .before .before in
+    let at-unclaimed-case = at-set-case .before in
+    let at-case-at = at-unclaimed-case .before .before in
+    let at-if = at-case-at .before .before in
+    let at-convergent-case = at-if .before in
+    into-refused _ _ _ _ (at-convergent-case .convergent-case
+    .ensures) (at-if .if1 .taken)
+    (at-case-at .case-at .ensures)
+    (at-unclaimed-case .unclaimed-case .ensures)
+    (at-set-case .set-case .ensures) (at-structurize-select .structurize-select .ensures) (c .enum-told .given .1)
 
 enum-told-2 : tie.Need-enum-told-2
 enum-told-2 c = search needs
@@ -35,12 +42,19 @@ append-maybe-claimed-region-requires : tie.Need-append-maybe-claimed-region-requ
 append-maybe-claimed-region-requires c κs = search needs
 
 returns-2 : tie.Need-returns-2
-returns-2 c = into-one _ _ _ _ (c .before .before .before .before .before .before .before .before .before .before .before .before
-    .convergent-case .ensures) (c .before .before .before .before .before .before .before .before .before .before .before .if1 .taken)
-    (c .before .before .before .before .before .before .before .before .before .case-at .ensures)
-    (c .before .before .before .before .before .before .before .unclaimed-case .ensures)
-    (c .before .before .before .before .before .before .set-case .ensures) (c .before .before .before .before .structurize-select .ensures)
-    (c .before .before .enum-told2 .given .1) (c .append-maybe-claimed-region .ensures)
+returns-2 c =
+    let at-enum-told = c .before .before in
+    let at-structurize-select = at-enum-told .before .before in
+    let at-set-case = at-structurize-select .before .before in
+    let at-unclaimed-case = at-set-case .before in
+    let at-case-at = at-unclaimed-case .before .before in
+    let at-if = at-case-at .before .before in
+    let at-convergent-case = at-if .before in
+    into-one _ _ _ _ (at-convergent-case .convergent-case .ensures) (at-if .if1 .taken)
+    (at-case-at .case-at .ensures)
+    (at-unclaimed-case .unclaimed-case .ensures)
+    (at-set-case .set-case .ensures) (at-structurize-select .structurize-select .ensures)
+    (at-enum-told .enum-told2 .given .1) (c .append-maybe-claimed-region .ensures)
 
 structurize-select-requires-2 : tie.Need-structurize-select-requires-2
 structurize-select-requires-2 c κs = search needs
@@ -60,9 +74,14 @@ take-spare-requires : tie.Need-take-spare-requires
 take-spare-requires c κs = search needs
 
 returns-4 : tie.Need-returns-4
-returns-4 c = into-all _ _ _ _ (c .before .before .before .before .before .before .before .convergent-case .ensures)
-    (c .before .before .before .before .before .before .if1 .left) (c .before .before .before .before .structurize-select2 .ensures)
-    (c .before .before .enum-told4 .given .1) (c .take-spare .ensures)
+returns-4 c =
+    let at-enum-told = c .before .before in
+    let at-structurize-select = at-enum-told .before .before in
+    let at-if = at-structurize-select .before .before in
+    let at-convergent-case = at-if .before in
+    into-all _ _ _ _ (at-convergent-case .convergent-case .ensures)
+    (at-if .if1 .left) (at-structurize-select .structurize-select2 .ensures)
+    (at-enum-told .enum-told4 .given .1) (c .take-spare .ensures)
 
 pub structurize-select-into-spec : {M : Type 1} → statement M
 structurize-select-into-spec =

@@ -26,9 +26,15 @@ same-length-2 : tie.Need-same-length-2
 same-length-2 c = search needs
 
 returns-2 : tie.Need-returns-2
-returns-2 c = ready-set-put _ _ (c .before .before .before .before .before .before .before .entry .ensures)
-    (c .before .before .before .before .before .before .if1 .left) (c .before .before .before .before .before .region-state .ensures)
-    (c .before .before .before .before .if2 .taken) (c .before .before .put-set2 .ensures)
+returns-2 c =
+    let at-put-set = c .before .before in
+    let at-if = at-put-set .before .before in
+    let at-region-state = at-if .before in
+    let at-if-2 = at-region-state .before in
+    let at-entry = at-if-2 .before in
+    ready-set-put _ _ (at-entry .entry .ensures)
+    (at-if-2 .if1 .left) (at-region-state .region-state .ensures)
+    (at-if .if2 .taken) (at-put-set .put-set2 .ensures)
 
 returns-3 : tie.Need-returns-3
 returns-3 c = no-given-set _ _ (c .before .before .before .entry .ensures) (c .before .before .if1 .left)

@@ -1,4 +1,4 @@
-use Rattle.sheet.specs.LinesShown.{leftover-put}
+use Rattle.sheet.specs.laws.LinesShown.{leftover-put}
 use borrow.Author.Needs.{needs}
 use Rattle.sheet.proofs.leftover.put_leftover.Statement.{statement}
 use Rattle.sheet.proofs.leftover.put_leftover.Tie as tie
@@ -19,9 +19,14 @@ same-length : tie.Need-same-length
 same-length c = search needs
 
 returns : tie.Need-returns
-returns c = leftover-put _ (c .before .before .before .entry .ensures)
-    (c .before .before .before .before .before .before .before .before .before .before .before .put-sets .ensures)
-    (c .before .before .before .before .before .before .before .put-unclaimed .ensures) (c .before .before .put-piece .ensures)
+returns c =
+    let at-put-piece = c .before .before in
+    let at-entry = at-put-piece .before in
+    let at-put-unclaimed = at-entry .before .before .before .before in
+    let at-put-sets = at-put-unclaimed .before .before .before .before in
+    leftover-put _ (at-entry .entry .ensures)
+    (at-put-sets .put-sets .ensures)
+    (at-put-unclaimed .put-unclaimed .ensures) (at-put-piece .put-piece .ensures)
 
 pub put-leftover-spec : {M : Type 1} → statement M
 put-leftover-spec =

@@ -29,13 +29,17 @@ loop-less : tie.Need-loop-less Inv-loop μ-loop
 loop-less c = omega arith
 
 loop-again : tie.Need-loop-again Inv-loop μ-loop
-loop-again c = (
-  lines-turn _ (c .before .before .before .before .before .before .region-count .ensures) _
-      (c .before .before .before .before .loop-test .taken) (c .before .before .before .before .before .loop .inv .1)
-      (c .before .before .before .before .before .loop .inv .0) (c .before .before .put-ready .ensures),
-  omega arith,
-  search needs,
-)
+loop-again c =
+    let at-put-ready = c .before .before in
+    let at-loop-test = at-put-ready .before .before in
+    let at-loop = at-loop-test .before in
+    let at-region-count = at-loop .before in (
+      lines-turn _ (at-region-count .region-count .ensures) _
+          (at-loop-test .loop-test .taken) (at-loop .loop .inv .1)
+          (at-loop .loop .inv .0) (at-put-ready .put-ready .ensures),
+      omega arith,
+      search needs,
+    )
 
 same-length : tie.Need-same-length Inv-loop μ-loop
 same-length c = search needs

@@ -150,9 +150,13 @@ put-cases-same-length t c = search needs
 put-cases-returns-2 : (t : ℕ) → put-cases-lts.Need-returns-2 (put-cases-called t) (put-cases-at t) put-cases.Post
 put-cases-returns-2 t c =
     let d = c .before .before .before .before .before .before in
-    cases-put _ _ _ _ (some-handle (d .before .before .before .before .before .before .before .before .before .if1 .left))
-    (d .before .before .before .before .before .before .before .cell-before .ensures)
-    (d .before .before .before .before .before .before .next .ensures) (d .before .before .before .before .before .put-cases .ensures)
+    let at-put-cases = d .before .before .before .before .before in
+    let at-next = at-put-cases .before in
+    let at-cell-before = at-next .before in
+    let at-if = at-cell-before .before .before in
+    cases-put _ _ _ _ (some-handle (at-if .if1 .left))
+    (at-cell-before .cell-before .ensures)
+    (at-next .next .ensures) (at-put-cases .put-cases .ensures)
     (d .before .case-children .ensures) (d .put-nodes .ensures) (c .before .before .put-case-line .ensures)
 
 put-cell-cell-tag-requires : (t : ℕ) → put-cell-lts.Need-cell-tag-requires (put-cell-called t) (put-cell-at t) put-cell.Post
@@ -228,8 +232,11 @@ put-cell-same-length-4 t c = search needs
 put-cell-returns-4 : (t : ℕ) → put-cell-lts.Need-returns-4 (put-cell-called t) (put-cell-at t) put-cell.Post
 put-cell-returns-4 t c =
     let d = c .before .before .before .before .before .before in
-    cell-select _ _ (d .before .before .before .before .before .before .before .before .cell-tag .ensures)
-    (d .before .before .before .before .if4 .taken) (d .before .before .inner-list .ensures) (d .before .cell-a3 .ensures)
+    let at-inner-list = d .before .before in
+    let at-if = at-inner-list .before .before in
+    let at-cell-tag = at-if .before .before .before .before in
+    cell-select _ _ (at-cell-tag .cell-tag .ensures)
+    (at-if .if4 .taken) (at-inner-list .inner-list .ensures) (d .before .cell-a3 .ensures)
     (d .put-cases .ensures) (c .before .before .put-select-line .ensures)
 
 put-cell-cell-before-requires : (t : ℕ) → put-cell-lts.Need-cell-before-requires (put-cell-called t) (put-cell-at t) put-cell.Post
@@ -249,8 +256,10 @@ put-cell-same-length-5 t c = search needs
 put-cell-returns-5 : (t : ℕ) → put-cell-lts.Need-returns-5 (put-cell-called t) (put-cell-at t) put-cell.Post
 put-cell-returns-5 t c =
     let d = c .before .before .before .before .before .before in
-    cell-loop _ _ (d .before .before .before .before .before .before .before .before .cell-tag .ensures)
-    (d .before .before .before .if5 .taken) (d .before .cell-before .ensures) (d .put-nodes2 .ensures)
+    let at-if = d .before .before .before in
+    let at-cell-tag = at-if .before .before .before .before .before in
+    cell-loop _ _ (at-cell-tag .cell-tag .ensures)
+    (at-if .if5 .taken) (d .before .cell-before .ensures) (d .put-nodes2 .ensures)
     (c .before .before .put-loop-lines .ensures)
 
 put-cell-returns-6 : (t : ℕ) → put-cell-lts.Need-returns-6 (put-cell-called t) (put-cell-at t) put-cell.Post

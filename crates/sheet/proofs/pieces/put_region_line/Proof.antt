@@ -24,9 +24,12 @@ same-length c = search needs
 returns : tie.Need-returns
 returns c =
     let d = c .before .before .before .before .before .before in
-    front-put _ _ (d .before .before .before .before .before .before .before .before .before .children .ensures)
-    (d .before .before .before .before .before .before .before .before .put-kids .ensures)
-    (d .before .before .before .before .put-types .ensures) (d .put-word .ensures) (c .before .before .put .ensures)
+    let at-put-types = d .before .before .before .before in
+    let at-put-kids = at-put-types .before .before .before .before in
+    let at-children = at-put-kids .before in
+    front-put _ _ (at-children .children .ensures)
+    (at-put-kids .put-kids .ensures)
+    (at-put-types .put-types .ensures) (d .put-word .ensures) (c .before .before .put .ensures)
 
 pub put-region-line-spec : {M : Type 1} → statement M
 put-region-line-spec =

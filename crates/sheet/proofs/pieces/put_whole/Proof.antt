@@ -30,9 +30,13 @@ same-length c = search needs
 returns : tie.Need-returns
 returns c =
     let d = c .before .before .before .before .before .before in
-    whole-put _ _ (d .before .before .before .before .before .before .before .children .ensures)
-    (d .before .before .before .before .before .before .put-nodes .ensures)
-    (d .before .before .before .before .before .before .before .before .before .entry .ensures) (d .before .before .set-start .ensures)
+    let at-set-start = d .before .before in
+    let at-put-nodes = at-set-start .before .before .before .before in
+    let at-children = at-put-nodes .before in
+    let at-entry = at-children .before .before in
+    whole-put _ _ (at-children .children .ensures)
+    (at-put-nodes .put-nodes .ensures)
+    (at-entry .entry .ensures) (at-set-start .set-start .ensures)
     (d .before .bundle-at .ensures) (d .put-inputs .ensures) (c .before .before .put-region-line .ensures)
 
 pub put-whole-spec : {M : Type 1} → statement M

@@ -1,4 +1,4 @@
-use Rattle.sheet.specs.LinesShown.{lines-whole, lines-closed, lines-leftover, lines-none}
+use Rattle.sheet.specs.laws.LinesShown.{lines-whole, lines-closed, lines-leftover, lines-none}
 use borrow.Author.Needs.{needs}
 use Rattle.sheet.proofs.whole.put_lines.Statement.{statement}
 use Rattle.sheet.proofs.whole.put_lines.Tie as tie

@@ -13,8 +13,11 @@ same-length : tie.Need-same-length
 same-length c = search needs
 
 returns : tie.Need-returns
-returns c = sheet-put _ _ _ (c .before .before .before .before .before .before .put-lines .ensures)
-    (c .before .before .put-first-line .ensures)
+returns c =
+    let at-put-first-line = c .before .before in
+    let at-put-lines = at-put-first-line .before .before .before .before in
+    sheet-put _ _ _ (at-put-lines .put-lines .ensures)
+    (at-put-first-line .put-first-line .ensures)
 
 pub put-sheet-spec : {M : Type 1} → statement M
 put-sheet-spec =

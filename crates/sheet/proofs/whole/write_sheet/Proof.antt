@@ -28,9 +28,14 @@ same-length-2 : tie.Need-same-length-2
 same-length-2 c = search needs
 
 returns-2 : tie.Need-returns-2
-returns-2 c = all-written _ _ _ (c .before .before .before .before .before .before .before .measure .ensures)
-    (rw (c .before .before .before .before .before .lent .ensures) at (c .before .before .before .before .if1 .left))
-    (c .before .before .put-sheet .ensures)
+returns-2 c =
+    let at-put-sheet = c .before .before in
+    let at-if = at-put-sheet .before .before in
+    let at-lent = at-if .before in
+    let at-measure = at-lent .before .before in
+    all-written _ _ _ (at-measure .measure .ensures)
+    (rw (at-lent .lent .ensures) at (at-if .if1 .left))
+    (at-put-sheet .put-sheet .ensures)
 
 pub write-sheet-spec : {M : Type 1} → statement M
 write-sheet-spec =

@@ -32,8 +32,12 @@ same-length : tie.Need-same-length
 same-length c = search needs
 
 returns : tie.Need-returns
-returns c = of-text (rw (c .before .before .before .before .before .before .match .keys5) (rw
-    (c .before .before .before .before .before .if1 .taken) refl)) (c .before .before .put-text .ensures)
+returns c =
+    let at-put-text = c .before .before in
+    let at-if = at-put-text .before .before .before in
+    let at-match = at-if .before in
+    of-text (rw (at-match .match .keys5) (rw
+    (at-if .if1 .taken) refl)) (at-put-text .put-text .ensures)
 
 slice-aggregate-put-text-2 : tie.Need-slice-aggregate-put-text-2
 slice-aggregate-put-text-2 c = search needs
@@ -75,8 +79,12 @@ same-length-6 : tie.Need-same-length-6
 same-length-6 c = search needs
 
 returns-6 : tie.Need-returns-6
-returns-6 c = of-text (rw (c .before .before .before .before .before .before .match .keys5) (rw (ne-eqb _ _
-    (c .before .before .before .before .before .if1 .left)) refl)) (c .before .before .put-text2 .ensures)
+returns-6 c =
+    let at-put-text = c .before .before in
+    let at-if = at-put-text .before .before .before in
+    let at-match = at-if .before in
+    of-text (rw (at-match .match .keys5) (rw (ne-eqb _ _
+    (at-if .if1 .left)) refl)) (at-put-text .put-text2 .ensures)
 
 same-length-7 : tie.Need-same-length-7
 same-length-7 c = search needs

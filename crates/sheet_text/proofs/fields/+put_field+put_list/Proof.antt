@@ -159,7 +159,10 @@ module _ (t : ℕ) where
   field-returns-3 c = λ depth h. rw (c .before .before .before .before .enum-told2 .given .1) (c .before .before .value .ensures)
 
   field-same-length-4 : field.Need-same-length-4 (field-calls t) (field-at t) put-field.Post
-  field-same-length-4 c = c .before .before .put-list .kept .1 .0 ∙ c .before .before .before .before .before .before .item-head .kept .1 .0
+  field-same-length-4 c =
+      let at-put-list = c .before .before in
+      let at-item-head = at-put-list .before .before .before .before in
+      at-put-list .put-list .kept .1 .0 ∙ at-item-head .item-head .kept .1 .0
 
   field-returns-4 : field.Need-returns-4 (field-calls t) (field-at t) put-field.Post
   field-returns-4 c =

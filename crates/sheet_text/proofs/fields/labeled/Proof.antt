@@ -14,10 +14,14 @@ same-length : tie.Need-same-length
 same-length c = search needs
 
 returns : tie.Need-returns
-returns c = puts-then (c .before .before .before .before .before .before .say .ensures _)
+returns c =
+    let at-put-field = c .before .before in
+    let at-say = at-put-field .before .before .before .before in
+    let at-args = at-say .before .before .before .before .before in
+    puts-then (at-say .say .ensures _)
     (puts-any 0 (λ depth. field-within depth
-    (c .before .before .before .before .before .before .before .before .before .before .before .args .kind))
-    (c .before .before .put-field .ensures))
+    (at-args .args .kind))
+    (at-put-field .put-field .ensures))
 
 pub labeled-spec : {M : Type 1} → statement M
 labeled-spec = tie.close (tie.spec say-requires put-field-requires same-length returns)

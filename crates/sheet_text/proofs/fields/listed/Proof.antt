@@ -14,10 +14,14 @@ same-length : tie.Need-same-length
 same-length c = search needs
 
 returns : tie.Need-returns
-returns c = puts-then (c .before .before .before .before .before .before .say .ensures _)
+returns c =
+    let at-put-list = c .before .before in
+    let at-say = at-put-list .before .before .before .before in
+    let at-args = at-say .before .before .before .before .before in
+    puts-then (at-say .say .ensures _)
     (puts-any 1 (λ depth. list-within depth
-    (c .before .before .before .before .before .before .before .before .before .before .before .args .kind))
-    (c .before .before .put-list .ensures))
+    (at-args .args .kind))
+    (at-put-list .put-list .ensures))
 
 pub listed-spec : {M : Type 1} → statement M
 listed-spec = tie.close (tie.spec say-requires put-list-requires same-length returns)

@@ -12,14 +12,14 @@ use Rattle.sheet_text.specs.declared.fields.Field.{Field}
 use Rattle.sheet_text.specs.declared.fields.Field.the-variants.{Number, Value, Item, Condition}
 use Rattle.sheet_text.specs.declared.cursor.Cursor.{Cursor}
 use Rattle.sheet_text.specs.Texts.{say, none-text}
-use Rattle.sheet_text.specs.Puts.{Puts}
+use Rattle.sheet_text.specs.Puts.{PutsText}
 use Rattle.sheet_text.specs.laws.PutsSteps.{puts-said}
 use Rattle.sheet_text.proofs.fields.Field.{the-type}
 use Rattle.sheet_text.proofs.fields.none.Statement.{statement}
 use Rattle.sheet_text.proofs.fields.none.Tie as tie
 
 dashed : {ws before after : List ℕ} {c d : Cursor} (k : Field) → OneOf (0 ∷ 1 ∷ 2 ∷ []) (tagOf the-type k)
-    → Puts (say (none-text Number)) ws c before after d → Puts (say (none-text k)) ws c before after d
+    → PutsText (say (none-text Number)) ws c before after d → PutsText (say (none-text k)) ws c before after d
 dashed Number h p = p
 dashed Value h p = p
 dashed Item h p = p
@@ -41,9 +41,13 @@ same-length : tie.Need-same-length
 same-length c = search needs
 
 returns-2 : tie.Need-returns-2
-returns-2 c = λ ws. dashed (c .before .before .before .before .before .before .before .args .kind)
-    (c .before .before .before .before .before .match .keys2)
-    (c .before .before .say .ensures ws)
+returns-2 c =
+    let at-say = c .before .before in
+    let at-match = at-say .before .before .before in
+    let at-args = at-match .before .before in
+    λ ws. dashed (at-args .args .kind)
+    (at-match .match .keys2)
+    (at-say .say .ensures ws)
 
 pub none-spec : {M : Type 1} → statement M
 none-spec =

@@ -48,24 +48,36 @@ same-length c = search needs
 
 returns-2 : tie.Need-returns-2
 unfolding next-word
-returns-2 c = puts-next (c .before .before .before .before .before .before .before .if1 .left)
-    (λ rest. rw (c .before .before .before .before .before .match .keys1) refl) (c .before .before .say .ensures _)
+returns-2 c =
+    let at-say = c .before .before in
+    let at-match = at-say .before .before .before in
+    let at-if = at-match .before .before in
+    puts-next (at-if .if1 .left)
+    (λ rest. rw (at-match .match .keys1) refl) (at-say .say .ensures _)
 
 same-length-2 : tie.Need-same-length-2
 same-length-2 c = search needs
 
 returns-3 : tie.Need-returns-3
 unfolding next-word
-returns-3 c = puts-next (c .before .before .before .before .before .before .before .if1 .left)
-    (λ rest. rw (c .before .before .before .before .before .match .keys2) refl) (c .before .before .say2 .ensures _)
+returns-3 c =
+    let at-say = c .before .before in
+    let at-match = at-say .before .before .before in
+    let at-if = at-match .before .before in
+    puts-next (at-if .if1 .left)
+    (λ rest. rw (at-match .match .keys2) refl) (at-say .say2 .ensures _)
 
 same-length-3 : tie.Need-same-length-3
 same-length-3 c = search needs
 
 returns-4 : tie.Need-returns-4
 unfolding next-word
-returns-4 c = puts-next (c .before .before .before .before .before .before .before .if1 .left)
-    (λ rest. rw (c .before .before .before .before .before .match .keys3) refl) (c .before .before .say3 .ensures _)
+returns-4 c =
+    let at-say = c .before .before in
+    let at-match = at-say .before .before .before in
+    let at-if = at-match .before .before in
+    puts-next (at-if .if1 .left)
+    (λ rest. rw (at-match .match .keys3) refl) (at-say .say3 .ensures _)
 
 returns-5 : tie.Need-returns-5
 unfolding next-word

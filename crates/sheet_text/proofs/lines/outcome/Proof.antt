@@ -55,34 +55,52 @@ same-length : tie.Need-same-length
 same-length c = search needs
 
 returns-2 : tie.Need-returns-2
-returns-2 c = puts-next (c .before .before .before .before .before .before .before .if1 .left)
-    (λ rest. rw (c .before .before .before .before .before .match .keys1) (untouched-shown rest)) (c .before .before .unshown .ensures)
+returns-2 c =
+    let at-unshown = c .before .before in
+    let at-match = at-unshown .before .before .before in
+    let at-if = at-match .before .before in
+    puts-next (at-if .if1 .left)
+    (λ rest. rw (at-match .match .keys1) (untouched-shown rest)) (at-unshown .unshown .ensures)
 
 same-length-2 : tie.Need-same-length-2
 same-length-2 c = search needs
 
 returns-3 : tie.Need-returns-3
-returns-3 c = puts-next (c .before .before .before .before .before .before .before .if1 .left)
-    (λ rest. rw (c .before .before .before .before .before .match .keys2) (whole-shown rest)) (c .before .before .labeled .ensures)
+returns-3 c =
+    let at-labeled = c .before .before in
+    let at-match = at-labeled .before .before .before in
+    let at-if = at-match .before .before in
+    puts-next (at-if .if1 .left)
+    (λ rest. rw (at-match .match .keys2) (whole-shown rest)) (at-labeled .labeled .ensures)
 
 same-length-3 : tie.Need-same-length-3
 same-length-3 c = search needs
 
 returns-4 : tie.Need-returns-4
-returns-4 c = puts-next (c .before .before .before .before .before .before .before .if1 .left)
-    (λ rest. rw (c .before .before .before .before .before .match .keys3) (closed-shown rest)) (c .before .before .labeled2 .ensures)
+returns-4 c =
+    let at-labeled = c .before .before in
+    let at-match = at-labeled .before .before .before in
+    let at-if = at-match .before .before in
+    puts-next (at-if .if1 .left)
+    (λ rest. rw (at-match .match .keys3) (closed-shown rest)) (at-labeled .labeled2 .ensures)
 
 same-length-4 : tie.Need-same-length-4
 same-length-4 c = search needs
 
 returns-5 : tie.Need-returns-5
-returns-5 c = puts-next (c .before .before .before .before .before .before .before .if1 .left)
-    (λ rest. rw (c .before .before .before .before .before .match .keys4) (leftover-shown rest)) (c .before .before .unshown2 .ensures)
+returns-5 c =
+    let at-unshown = c .before .before in
+    let at-match = at-unshown .before .before .before in
+    let at-if = at-match .before .before in
+    puts-next (at-if .if1 .left)
+    (λ rest. rw (at-match .match .keys4) (leftover-shown rest)) (at-unshown .unshown2 .ensures)
 
 returns-6 : tie.Need-returns-6
 returns-6 c =
-    let a = c .before .before .before .before .before .before .args in
-    puts-refused (c .before .before .before .if1 .left)
+    let at-if = c .before .before .before in
+    let at-args = at-if .before .before .before in
+    let a = at-args .args in
+    puts-refused (at-if .if1 .left)
     (no-outcome (getD (a .words .now) (a .c .at) 0) (omega (arith, c .before .match .rest))) (c .stop2 .ensures)
 
 pub outcome-spec : {M : Type 1} → statement M

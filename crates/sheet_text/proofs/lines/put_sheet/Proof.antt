@@ -27,8 +27,12 @@ loop-less : tie.Need-loop-less Inv-loop μ-loop
 loop-less c = omega (arith, c .before .before .put-line .ensures .on (c .before .before .before .before .if1 .taken))
 
 loop-again : tie.Need-loop-again Inv-loop μ-loop
-loop-again c = lines-next (c .before .before .before .before .before .before .loop .inv) (c .before .before .before .before .if1 .taken)
-    (c .before .before .put-line .kept .1 .0) (c .before .before .put-line .ensures)
+loop-again c =
+    let at-put-line = c .before .before in
+    let at-if = at-put-line .before .before in
+    let at-loop = at-if .before .before in
+    lines-next (at-loop .loop .inv) (at-if .if1 .taken)
+    (at-put-line .put-line .kept .1 .0) (at-put-line .put-line .ensures)
 
 same-length : tie.Need-same-length Inv-loop μ-loop
 same-length c = c .before .before .loop .inv .size ∙ c .before .before .before .before .before .put-first-line .kept .1 .0

@@ -35,8 +35,12 @@ same-length c = search needs
 
 returns-2 : tie.Need-returns-2
 unfolding shown next-word
-returns-2 c = puts-next (c .before .before .before .before .before .before .before .if1 .left)
-    (λ rest. rw (c .before .before .before .before .before .if2 .taken) refl) (c .before .before .say .ensures _)
+returns-2 c =
+    let at-say = c .before .before in
+    let at-if = at-say .before .before .before in
+    let at-if-2 = at-if .before .before in
+    puts-next (at-if-2 .if1 .left)
+    (λ rest. rw (at-if .if2 .taken) refl) (at-say .say .ensures _)
 
 number-requires : tie.Need-number-requires
 number-requires c κs = search needs
@@ -46,9 +50,12 @@ same-length-2 c = search needs
 
 returns-3 : tie.Need-returns-3
 returns-3 c =
-    let a = c .before .before .before .before .before .before .before .before .before .args in
-    puts-there (λ l. number-target _ λ e. c .before .before .before .before .if2 .left (sym (first-dropped (a .words .now) (a .c .at) 0) ∙ e))
-    (c .before .before .number .ensures)
+    let at-number = c .before .before in
+    let at-if = at-number .before .before in
+    let at-args = at-if .before .before .before .before .before in
+    let a = at-args .args in
+    puts-there (λ l. number-target _ λ e. at-if .if2 .left (sym (first-dropped (a .words .now) (a .c .at) 0) ∙ e))
+    (at-number .number .ensures)
 
 pub target-spec : {M : Type 1} → statement M
 target-spec =

@@ -27,8 +27,12 @@ set-head-requires : tie.Need-set-head-requires
 set-head-requires c κs = search needs
 
 returns : tie.Need-returns
-returns c = added (c .before .before .before .before .before .before .head .ensures) (c .before .before .before .before .before .if1 .taken)
-    (rw (c .before .before .put-all .ensures) at (c .set-head .ensures))
+returns c =
+    let at-put-all = c .before .before in
+    let at-if = at-put-all .before .before .before in
+    let at-head = at-if .before in
+    added (at-head .head .ensures) (at-if .if1 .taken)
+    (rw (at-put-all .put-all .ensures) at (c .set-head .ensures))
 
 returns-2 : tie.Need-returns-2
 returns-2 c = no-room (omega (arith, c .before .head .ensures)) refl refl

@@ -1,4 +1,4 @@
-use Rattle.state.specs.Stored.{three-and-run}
+use Rattle.state.specs.laws.Stored.{three-and-run}
 use Rattle.state.specs.Tables.{merge-defined, merges-full}
 use Rattle.state.specs.Sections.{stored-all-at}
 use mathlib.Core.Path.{refl}
@@ -50,11 +50,18 @@ add-t10 : tie.Need-add-t10
 add-t10 c = search needs
 
 returns : tie.Need-returns
-returns c = merge-defined (c .before .before .before .before .before .before .before .before .before .before .before .before .head .ensures)
-    (c .before .before .before .before .before .before .before .before .before .before .before .if1 .taken) refl
-    (rw (three-and-run _ _ _ _ _ _ _ _ (c .before .before .before .before .before .before .before .before .before .put .ensures)
-    (c .before .before .before .before .before .before .before .put2 .ensures) (c .before .before .before .before .before .put3 .ensures)
-    (c .before .before .put-all .ensures)) at (c .set-head .ensures))
+returns c =
+    let at-put-all = c .before .before in
+    let at-put = at-put-all .before .before .before in
+    let at-put-2 = at-put .before .before in
+    let at-put-3 = at-put-2 .before .before in
+    let at-if = at-put-3 .before .before in
+    let at-head = at-if .before in
+    merge-defined (at-head .head .ensures)
+    (at-if .if1 .taken) refl
+    (rw (three-and-run _ _ _ _ _ _ _ _ (at-put-3 .put .ensures)
+    (at-put-2 .put2 .ensures) (at-put .put3 .ensures)
+    (at-put-all .put-all .ensures)) at (c .set-head .ensures))
 
 returns-2 : tie.Need-returns-2
 unfolding stored-all-at

@@ -1,4 +1,4 @@
-use Rattle.state.specs.Stored.{two-and-run}
+use Rattle.state.specs.laws.Stored.{two-and-run}
 use Rattle.state.specs.Tables.{output-defined, outputs-full}
 use Rattle.state.specs.Sections.{stored-all-at}
 use mathlib.Core.Path.{refl}
@@ -38,10 +38,16 @@ set-head-requires : tie.Need-set-head-requires
 set-head-requires c κs = search needs
 
 returns : tie.Need-returns
-returns c = output-defined (c .before .before .before .before .before .before .before .before .before .before .output-count .ensures)
-    (c .before .before .before .before .before .before .before .before .before .if1 .taken)
-    (rw (two-and-run _ _ _ _ _ _ _ (c .before .before .before .before .before .before .before .put .ensures)
-    (c .before .before .before .before .before .put2 .ensures) (c .before .before .put-all .ensures)) at (c .set-head .ensures))
+returns c =
+    let at-put-all = c .before .before in
+    let at-put = at-put-all .before .before .before in
+    let at-put-2 = at-put .before .before in
+    let at-if = at-put-2 .before .before in
+    let at-output-count = at-if .before in
+    output-defined (at-output-count .output-count .ensures)
+    (at-if .if1 .taken)
+    (rw (two-and-run _ _ _ _ _ _ _ (at-put-2 .put .ensures)
+    (at-put .put2 .ensures) (at-put-all .put-all .ensures)) at (c .set-head .ensures))
 
 returns-2 : tie.Need-returns-2
 unfolding stored-all-at

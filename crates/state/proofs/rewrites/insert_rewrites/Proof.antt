@@ -26,9 +26,13 @@ put-all-requires c κs = search needs
 
 returns-2 : tie.Need-returns-2
 unfolding inserted
-returns-2 c = (rw (c .before .before .before .put .ensures) at (c .put-all .ensures))
-    ∙ picked _ _ (is-equal (c .before .before .before .before .before .if1 .left)
-    (c .before .before .before .before .before .before .rewrite-kind .ensures))
+returns-2 c =
+    let at-put = c .before .before .before in
+    let at-if = at-put .before .before in
+    let at-rewrite-kind = at-if .before in
+    (rw (at-put .put .ensures) at (c .put-all .ensures))
+    ∙ picked _ _ (is-equal (at-if .if1 .left)
+    (at-rewrite-kind .rewrite-kind .ensures))
 
 pub insert-rewrites-spec : {M : Type 1} → statement M
 insert-rewrites-spec =

@@ -1,5 +1,5 @@
 use mathlib.Core.Path.{sym}
-use Rattle.state.specs.Stored.{read-in, read-beyond}
+use Rattle.state.specs.laws.Stored.{read-in, read-beyond}
 use borrow.Author.Needs.{needs}
 use Rattle.state.proofs.sections.get.Statement.{statement}
 use Rattle.state.proofs.sections.get.Tie as tie
@@ -7,27 +7,21 @@ use Rattle.state.proofs.sections.get.Reads as reads
 use Rattle.state.proofs.sections.get.Lts as lts
 use Rattle.store.proofs.span.Reads as span-reads
 
--- src/sections.rt:71:5
 span-requires : tie.Need-span-requires
 span-requires c κs = search needs
 
--- src/sections.rt:73:18
 add-result : tie.Need-add-result
 add-result c = search needs
 
--- src/sections.rt:73:16
 mul-result : tie.Need-mul-result
 mul-result c = search needs
 
--- src/sections.rt:73:16
 element-copy-out-result : tie.Need-element-copy-out-result
 element-copy-out-result c = search needs
 
--- src/sections.rt:73:9
 returns : tie.Need-returns
 returns c = sym (read-in _ _ _ _ (c .before .if1 .taken))
 
--- src/sections.rt:67:1
 returns-2 : tie.Need-returns-2
 returns-2 c = sym (read-beyond _ _ _ _ (c .if1 .left))
 

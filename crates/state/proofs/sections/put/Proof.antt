@@ -1,5 +1,5 @@
 use mathlib.Core.Path.{sym}
-use Rattle.state.specs.Stored.{stored-in, stored-beyond}
+use Rattle.state.specs.laws.Stored.{stored-in, stored-beyond}
 use borrow.Author.Needs.{needs}
 use Rattle.state.proofs.sections.put.Statement.{statement}
 use Rattle.state.proofs.sections.put.Tie as tie
@@ -7,27 +7,21 @@ use Rattle.state.proofs.sections.put.Reads as reads
 use Rattle.state.proofs.sections.put.Lts as lts
 use Rattle.store.proofs.span.Reads as span-reads
 
--- src/sections.rt:82:5
 span-requires : tie.Need-span-requires
 span-requires c κs = search needs
 
--- src/sections.rt:84:11
 add-w : tie.Need-add-w
 add-w c = search needs
 
--- src/sections.rt:84:9
 mul-w : tie.Need-mul-w
 mul-w c = search needs
 
--- src/sections.rt:84:9
 element-write-w : tie.Need-element-write-w
 element-write-w c = search needs
 
--- src/sections.rt:85:9
 returns : tie.Need-returns
 returns c = sym (stored-in _ _ _ _ _ (c .if1 .taken))
 
--- src/sections.rt:78:1
 returns-2 : tie.Need-returns-2
 returns-2 c = sym (stored-beyond _ _ _ _ _ (c .if1 .left))
 

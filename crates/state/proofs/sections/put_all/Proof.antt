@@ -1,4 +1,4 @@
-use Rattle.state.specs.Stored.{run-turn, run-stop, run-start}
+use Rattle.state.specs.laws.Stored.{run-turn, run-stop, run-start}
 use Rattle.state.specs.Sections.{stored-all-at}
 use lib.ListN.{length, drop}
 use native.Mathlib.Omega.{arith}

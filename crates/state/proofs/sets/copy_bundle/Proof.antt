@@ -34,15 +34,22 @@ put-all-requires c κs = search needs
 
 returns : tie.Need-returns
 returns c =
-    let b = c .before .before .before .before .before .before .before in
+    let at-word = c .before .before .before in
+    let at-word-2 = at-word .before .before in
+    let at-word-3 = at-word-2 .before .before in
+    let b = at-word-3 in
+    let at-word-4 = b .before .before in
+    let at-word-5 = at-word-4 .before .before in
+    let at-word-6 = at-word-5 .before .before in
+    let at-word-7 = at-word-6 .before .before in
     rw (
-      ← b .before .before .before .before .before .before .before .before .word .ensures,
-      ← b .before .before .before .before .before .before .word2 .ensures,
-      ← b .before .before .before .before .word3 .ensures,
-      ← b .before .before .word4 .ensures,
-      ← c .before .before .before .before .before .before .before .word5 .ensures,
-      ← c .before .before .before .before .before .word6 .ensures,
-      ← c .before .before .before .word7 .ensures,
+      ← at-word-7 .word .ensures,
+      ← at-word-6 .word2 .ensures,
+      ← at-word-5 .word3 .ensures,
+      ← at-word-4 .word4 .ensures,
+      ← at-word-3 .word5 .ensures,
+      ← at-word-2 .word6 .ensures,
+      ← at-word .word7 .ensures,
     ) (c .put-all .ensures)
 
 pub copy-bundle-spec : {M : Type 1} → statement M

@@ -1,4 +1,4 @@
-use Rattle.state.specs.Finds.{find-start, find-found, find-turn, find-stop}
+use Rattle.state.specs.laws.Finds.{find-start, find-found, find-turn, find-stop}
 use Rattle.state.specs.Tables.{find-by}
 use Prim.Native.Nat.{_-_, _≤_}
 use mathlib.Core.Path.{_≡_, sym, _∙_}

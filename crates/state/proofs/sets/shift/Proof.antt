@@ -1,4 +1,4 @@
-use Rattle.state.specs.Finds.{shift-turn, shift-stop}
+use Rattle.state.specs.laws.Finds.{shift-turn, shift-stop}
 use Rattle.state.specs.Tables.{shifted}
 use Prim.Native.Nat.{_-_}
 use mathlib.Core.Path.{_≡_, refl}

@@ -26,13 +26,18 @@ put-set-length-requires c κs = search needs
 
 returns-2 : tie.Need-returns-2
 unfolding shift-removed
-returns-2 c = (rw (
-  c .before .before .shift .ensures,
-  c .before .before .before .before .set-start .ensures,
-  c .before .before .before .before .before .before .before .set-length .ensures,
-) at (c .put-set-length .ensures))
-    ∙ passed-over _ _ (not-equal (c .before .before .before .before .before .before .if1 .left)
-    (c .before .before .before .before .before .before .before .set-length .ensures))
+returns-2 c =
+    let at-shift = c .before .before in
+    let at-set-start = at-shift .before .before in
+    let at-if = at-set-start .before .before in
+    let at-set-length = at-if .before in
+    (rw (
+      at-shift .shift .ensures,
+      at-set-start .set-start .ensures,
+      at-set-length .set-length .ensures,
+    ) at (c .put-set-length .ensures))
+    ∙ passed-over _ _ (not-equal (at-if .if1 .left)
+    (at-set-length .set-length .ensures))
 
 pub shift-remove-spec : {M : Type 1} → statement M
 shift-remove-spec =

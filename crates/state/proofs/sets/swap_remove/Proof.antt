@@ -32,14 +32,20 @@ put-set-length-requires c κs = search needs
 
 returns-2 : tie.Need-returns-2
 unfolding swap-removed
-returns-2 c = (rw (
-  c .before .before .copy-bundle .ensures,
-  c .before .before .before .before .bundle-at .ensures,
-  c .before .before .before .before .before .set-start .ensures,
-  c .before .before .before .before .before .before .before .before .set-length .ensures,
-) at (c .put-set-length .ensures))
-    ∙ passed-over _ _ (not-equal (c .before .before .before .before .before .before .before .if1 .left)
-    (c .before .before .before .before .before .before .before .before .set-length .ensures))
+returns-2 c =
+    let at-copy-bundle = c .before .before in
+    let at-bundle-at = at-copy-bundle .before .before in
+    let at-set-start = at-bundle-at .before in
+    let at-if = at-set-start .before .before in
+    let at-set-length = at-if .before in
+    (rw (
+      at-copy-bundle .copy-bundle .ensures,
+      at-bundle-at .bundle-at .ensures,
+      at-set-start .set-start .ensures,
+      at-set-length .set-length .ensures,
+    ) at (c .put-set-length .ensures))
+    ∙ passed-over _ _ (not-equal (at-if .if1 .left)
+    (at-set-length .set-length .ensures))
 
 pub swap-remove-spec : {M : Type 1} → statement M
 swap-remove-spec =

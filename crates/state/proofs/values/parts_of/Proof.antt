@@ -65,13 +65,19 @@ shown-requires-5 c κs = search needs
 returns-5 : tie.Need-returns-5
 unfolding parts-of
 returns-5 c =
-    (rw (c .before .before .input-region .ensures, c .before .input-index .ensures) at (c .shown5 .ensures))
+    let at-input-region = c .before .before in
+    let at-if = at-input-region .before in
+    let at-if-2 = at-if .before in
+    let at-if-3 = at-if-2 .before in
+    let at-if-4 = at-if-3 .before in
+    let at-if-5 = at-if-4 .before in
+    (rw (at-input-region .input-region .ensures, c .before .input-index .ensures) at (c .shown5 .ensures))
     ∙ rw (
-      le-ltb _ _ (c .before .before .before .before .before .before .before .if1 .left),
-      le-ltb _ _ (c .before .before .before .before .before .before .if2 .left),
-      le-ltb _ _ (c .before .before .before .before .before .if3 .left),
-      le-ltb _ _ (c .before .before .before .before .if4 .left),
-      lt-ltb _ _ (c .before .before .before .if5 .taken),
+      le-ltb _ _ (at-if-5 .if1 .left),
+      le-ltb _ _ (at-if-4 .if2 .left),
+      le-ltb _ _ (at-if-3 .if3 .left),
+      le-ltb _ _ (at-if-2 .if4 .left),
+      lt-ltb _ _ (at-if .if5 .taken),
     )
 
 shown-requires-6 : tie.Need-shown-requires-6
@@ -80,13 +86,18 @@ shown-requires-6 c κs = search needs
 returns-6 : tie.Need-returns-6
 unfolding parts-of
 returns-6 c =
+    let at-if = c .before .before in
+    let at-if-2 = at-if .before in
+    let at-if-3 = at-if-2 .before in
+    let at-if-4 = at-if-3 .before in
+    let at-if-5 = at-if-4 .before in
     c .shown6 .ensures
     ∙ rw (
-      le-ltb _ _ (c .before .before .before .before .before .before .if1 .left),
-      le-ltb _ _ (c .before .before .before .before .before .if2 .left),
-      le-ltb _ _ (c .before .before .before .before .if3 .left),
-      le-ltb _ _ (c .before .before .before .if4 .left),
-      le-ltb _ _ (c .before .before .if5 .left),
+      le-ltb _ _ (at-if-5 .if1 .left),
+      le-ltb _ _ (at-if-4 .if2 .left),
+      le-ltb _ _ (at-if-3 .if3 .left),
+      le-ltb _ _ (at-if-2 .if4 .left),
+      le-ltb _ _ (at-if .if5 .left),
       lt-ltb _ _ (c .before .if6 .taken),
     )
 
@@ -96,13 +107,18 @@ shown-requires-7 c κs = search needs
 returns-7 : tie.Need-returns-7
 unfolding parts-of
 returns-7 c =
+    let at-if = c .before .before in
+    let at-if-2 = at-if .before in
+    let at-if-3 = at-if-2 .before in
+    let at-if-4 = at-if-3 .before in
+    let at-if-5 = at-if-4 .before in
     c .shown7 .ensures
     ∙ rw (
-      le-ltb _ _ (c .before .before .before .before .before .before .if1 .left),
-      le-ltb _ _ (c .before .before .before .before .before .if2 .left),
-      le-ltb _ _ (c .before .before .before .before .if3 .left),
-      le-ltb _ _ (c .before .before .before .if4 .left),
-      le-ltb _ _ (c .before .before .if5 .left),
+      le-ltb _ _ (at-if-5 .if1 .left),
+      le-ltb _ _ (at-if-4 .if2 .left),
+      le-ltb _ _ (at-if-3 .if3 .left),
+      le-ltb _ _ (at-if-2 .if4 .left),
+      le-ltb _ _ (at-if .if5 .left),
       le-ltb _ _ (c .before .if6 .left),
     )
 

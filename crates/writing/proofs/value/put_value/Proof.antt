@@ -1,5 +1,5 @@
 use Rattle.writing.specs.Puts.{puts-as, puts-noted}
-use Rattle.writing.specs.ValueShown.{value-shown}
+use Rattle.writing.specs.laws.ValueShown.{value-shown}
 use borrow.Author.Needs.{needs}
 use Rattle.writing.proofs.value.put_value.Statement.{statement}
 use Rattle.writing.proofs.value.put_value.Tie as tie

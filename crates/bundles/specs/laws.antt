@@ -1,0 +1,9 @@
+pub mod Paths
+pub mod Targets
+pub mod ReadTypes
+pub mod RecordValues
+pub mod Deferred
+pub mod CaseSteps
+pub mod CasesFilled
+pub mod SplitFilled
+pub mod Appended

@@ -1,0 +1,161 @@
+-- The targets of a region: each step, from what its claim shows.
+use mathlib.Core.Path.{_≡_, ap, subst, _∙_}
+use mathlib.Core.Bool.{true}
+use mathlib.Core.List.{List, _∷_}
+use mathlib.Core.Logic.{inl, inr}
+use mathlib.Core.Option.{Option}
+use Prim.Native.Nat.{ℕ, zero, suc, _+_, _*_, _≤_, _<_}
+use native.Mathlib.Omega.{arith}
+use lib.ListN.{length, getD}
+use borrow.Author.Tests.{lt-ltb}
+use Rattle.meaning.specs.Graph.{Graph, Edge, no-edge}
+use Rattle.meaning.specs.Lists.{is-in}
+use Rattle.format.specs.Valid.{Valid}
+use Rattle.nesting.specs.Nesting.{NestState, done, ClaimedRegion, MaybeClaimedRegion, ok, deferred-of}
+use Rattle.nesting.specs.Nesting.{to-region, incoming-edge-counts, try-claim-edge-bundle, target-regions, edge-case}
+use Rattle.nesting.specs.Nesting.{Claim}
+use Rattle.nesting.specs.steps.Post.{Post}
+use Rattle.follows.specs.simulation.Defined.{IfDone}
+use Rattle.follows.specs.simulation.ClaimReady.{ClaimDone}
+use Rattle.follows.specs.simulation.Claims.{claim-post}
+use Rattle.follows.specs.simulation.Usable.{EdgeUsable}
+use Rattle.follows.specs.counting.Totals.{edge-total, edges-to}
+use Rattle.follows.specs.counting.Counting.{Nine}
+use Rattle.follows.specs.counting.CountClaim.{Claims}
+use Rattle.follows.specs.counting.CountScan.{aims, CaseCounted, edge-case-counted, first-target, next-target}
+use Rattle.follows.specs.counting.CountRegion.{claim-counted}
+use Rattle.state.specs.Sections.{word, kinds, levels, children, set-lengths, used}
+use Rattle.state.specs.laws.Apart.{section-other}
+use Rattle.state.specs.Tables.{taken-stored, taken-word}
+use Rattle.shown.specs.States.{no-case}
+use Rattle.shown.specs.Kept.{claimed-stays}
+use Rattle.shown.specs.laws.RegionSteps.{Concerns, taken-concerns, word-there, word-apart}
+use Rattle.cfg.specs.declared.claims.Step.{Step}
+use Rattle.cfg.specs.laws.Shows.{Occupied, NewlyClaimed, Around, around-then, concerns-around, cells-in-all, owed-stays}
+use Rattle.cfg.specs.laws.Shows.{world, K, CanClaim, TakenAs, was-claimed}
+use Rattle.cfg.specs.laws.Shows.{was-deferred, was-nothing, TargetsShow, shows-targets, refuses-targets}
+
+-- ---- How a target was taken is noted in region r's own words.
+pub record Noted (g : Graph) (w w′ : List ℕ) (r j y : ℕ) : Type 0 where
+  pub concerns : Concerns g r w w′
+  pub here : taken-word w′ r j ≡ y
+  pub before : (k : ℕ) → k < j → taken-word w′ r k ≡ taken-word w r k
+  pub lengths : (q : ℕ) → word w′ set-lengths q ≡ word w set-lengths q
+  pub handles : (q : ℕ) → word w′ children q ≡ word w children q
+
+pub notes : (g : Graph) (w : List ℕ) (r j y : ℕ) → used ≤ length w → r < 32 → j < 8 → Noted g w (taken-stored w r j y) r j y
+unfolding taken-stored taken-word
+notes g w r j y room b c =
+    rw (lt-ltb j 8 c)
+    record {
+      concerns = taken-concerns g w r j y (omega arith);
+      here = rw (lt-ltb j 8 c) (word-there w levels (10 * r + j) y (omega arith) (omega arith));
+      before = λ k h. let l : k < 8 = omega arith in rw (lt-ltb k 8 l)
+          (word-apart w levels (10 * r + j) y levels (10 * r + k) (omega arith));
+      lengths = λ q. ap (λ l. getD l q 0) (section-other w levels (10 * r + j) y set-lengths (omega arith));
+      handles = λ q. ap (λ l. getD l q 0) (section-other w levels (10 * r + j) y children (omega arith));
+    }
+
+pub noted-cells : {g : Graph} {w w′ : List ℕ} {r : ℕ} → Concerns g r w w′ → cells-in-all w′ ≡ cells-in-all w
+noted-cells {w} {w′} c = let e = owed-stays w w′ (λ q h. c .same-kinds q) in let h = c .same-head 4 in omega arith
+
+-- A region that is occupied elsewhere is not region r.
+pub claimed-other : (w : List ℕ) {r q : ℕ} → word w kinds r ≡ 1 → word w kinds q ≡ 3 → q ≡ r → ⊥
+claimed-other w a b e = let z = ap (λ p. word w kinds p) e in absurd (omega arith)
+
+-- Of the case that the first target gives: a claimed region was free, and is occupied from then on; what was occupied is.
+pub record FirstNew (w w₂ : List ℕ) (m : MaybeClaimedRegion) : Type 0 where
+  pub free : (c : ClaimedRegion) → m ≡ ok c → Occupied w (c .origin) → ⊥
+  pub occupied : (c : ClaimedRegion) → m ≡ ok c → Occupied w₂ (c .origin)
+  pub on : (q : ℕ) → Occupied w q → Occupied w₂ q
+
+-- What was taken stays so.
+pub taken-on : {g : Graph} {w w′ : List ℕ} {r j : ℕ} {e : Edge} {m : MaybeClaimedRegion} → length (g .regions) ≤ 32 → word w kinds r ≡ 1
+    → Around g r w w′ → taken-word w′ r j ≡ taken-word w r j → TakenAs g w r j e m → TakenAs g w′ r j e m
+taken-on {w} {w′} few busy a same (was-claimed {c} p t s o i) =
+    let q = c .origin in
+    let below : q < 32 = (let z = s .in-graph in omega arith) in
+    was-claimed p (same ∙ t)
+    (claimed-stays (a .later) (a .regions-stay q below (claimed-other w busy (s .kind)) (inr (s .kind)))
+    (a .kinds-stay q below (inr (s .kind))) s)
+    o i
+taken-on few busy a same (was-deferred p t) = was-deferred p (same ∙ t)
+taken-on few busy a same (was-nothing p t) = was-nothing p (same ∙ t)
+
+module _ (g : Graph) (valid : Valid g) (fuel : ℕ) where
+  abbrev claim : Claim
+  claim = try-claim-edge-bundle g (incoming-edge-counts g) fuel
+
+  -- The claim of the first of some targets, and of the others after it.
+  pub can-first : (e : Edge) (es : List Edge) (H : ℕ → ℕ) {s : NestState} → CanClaim g valid fuel H (aims (K g valid) (e ∷ es))
+      (length (e ∷ es)) s
+      → CanClaim g valid fuel (λ q. aims (K g valid) es q + H q) (λ q. edges-to q (to-region (e .target)) 1) 1 s
+  can-first e es H c = record { pre = first-target (K g valid) e es H (c .pre); inv = c .inv; few = let z = c .few in omega arith }
+
+  pub can-next : (r : ℕ) (e : Edge) (es : List Edge) (H : ℕ → ℕ) {s s₁ : NestState} {o : Option ClaimedRegion} (c : MaybeClaimedRegion)
+      → EdgeUsable g r e → is-in (e .target) (K g valid .live) ≡ true
+      → CanClaim g valid fuel H (aims (K g valid) (e ∷ es)) (length (e ∷ es)) s → claim (e .target) 1 (e .inputs) s ≡ done o s₁
+      → edge-case e o s₁ ≡ done c s₁
+      → CanClaim g valid fuel (λ q. edge-total (edges-to q) (deferred-of c) + H q) (aims (K g valid) es) (length es) s₁
+  can-next r e es H {s} {s₁} {o} c fit live can p q =
+      let x : Claims (K g valid) 1 (e .target) 1 s o s₁ =
+      subst (λ a. Post Nine (λ o s′. Claims (K g valid) 1 (e .target) 1 s o s′) a) p
+      (claim-counted (K g valid) fuel (e .target) 1 (e .inputs) (λ q. aims (K g valid) es q + H q) s live (omega arith)
+      (can-first e es H can .pre)) .post in
+      let y : CaseCounted (K g valid) (e .target) o s₁ c s₁ =
+      subst (λ a. Post Nine (λ c s′. CaseCounted (K g valid) (e .target) o s₁ c s′) a) q
+      (edge-case-counted (K g valid) e o s₁ live (x .good)) .post in
+      let next = next-target (K g valid) e es H (can .pre) x y in
+      let d : ClaimDone (world g valid) (e .target) (e .inputs) s o s₁ =
+      subst (λ a. IfDone (ClaimDone (world g valid) (e .target) (e .inputs) s) a) p
+      (claim-post (world g valid) (incoming-edge-counts g) fuel (e .target) 1 (e .inputs) s (can .inv) (fit .target) live) .post in
+      record {
+        pre = next .pre;
+        inv = d .inv;
+        few = let z = can .few in let u = next .beside .paid in omega arith;
+      }
+
+  module _ (w : List ℕ) {w₁ w₂ : List ℕ} {r j y : ℕ} (few : length (g .regions) ≤ 32)
+      (busy : word w kinds r ≡ 1) (below : r < 32) (noted : Noted g w₁ w₂ r j y) (around : Around g r w w₁)
+      (levels-same : (k : ℕ) → k < 10 → word w₁ levels (10 * r + k) ≡ word w levels (10 * r + k)) where
+    busy₁ : word w₁ kinds r ≡ 1
+    busy₁ = around .kinds-stay r below (inl busy) ∙ busy
+
+    busy₂ : word w₂ kinds r ≡ 1
+    busy₂ = noted .concerns .same-kinds r ∙ busy₁
+
+    kept-before : (k : ℕ) → k < j → j < 8 → taken-word w₂ r k ≡ taken-word w r k
+    unfolding taken-word
+    kept-before k h b = noted .before k h ∙ (let l : k < 8 = omega arith in rw (lt-ltb k 8 l) (levels-same k (omega arith)))
+
+    -- The others, put behind the first.
+    pub targets-more : {w′ : List ℕ} (e : Edge) (es : List Edge) (s s₁ : NestState) → j < 8 → (o : Option ClaimedRegion)
+        (c : MaybeClaimedRegion) → claim (e .target) 1 (e .inputs) s ≡ done o s₁
+        → edge-case e o s₁ ≡ done c s₁ → TakenAs g w₂ r j e c → FirstNew w w₂ c → cells-in-all w₁ ≤ cells-in-all w → {a : Step}
+        → TargetsShow g w₂ w′ r (suc j) es (target-regions g claim es s₁) a
+        → TargetsShow g w w′ r j (e ∷ es) (target-regions g claim (e ∷ es) s) a
+    unfolding target-regions
+    targets-more {w′} e es s s₁ b o c p q t first cells (shows-targets {cs} {s′} f st n each new ar same few-cells) =
+        let whole : Around g r w w′ = around-then around (around-then (concerns-around (noted .concerns)) ar) in
+        shows-targets {cs = c ∷ cs} {s′ = s′} (rw (p, q, f)) st (ap suc n) taken newly whole
+        (λ k h. same k (omega arith) ∙ kept-before k h b)
+        (let z = noted-cells (noted .concerns) in omega arith)
+      where
+        taken : (k : ℕ) → k < suc (length es) → TakenAs g w′ r (j + k) (getD (e ∷ es) k no-edge) (getD (c ∷ cs) k no-case)
+        taken zero h = let z : j + 0 ≡ j = omega arith in rw z (taken-on few busy₂ ar (same j (omega arith)) t)
+        taken (suc k) h = let z : j + suc k ≡ suc j + k = omega arith in rw z (each k (omega arith))
+
+        free : (k : ℕ) (d : ClaimedRegion) → getD (c ∷ cs) k no-case ≡ ok d → Occupied w (d .origin) → ⊥
+        free zero d e h = first .free d e h
+        free (suc k) d e h = new .free k d e (first .on (d .origin) h)
+
+        apart : (i j : ℕ) (x y : ClaimedRegion) → i < j → getD (c ∷ cs) i no-case ≡ ok x → getD (c ∷ cs) j no-case ≡ ok y
+            → x .origin ≡ y .origin → ⊥
+        apart zero zero x y l e f same = absurd (omega arith)
+        apart zero (suc j) x y l e f same = new .free j y f (subst (λ q. Occupied w₂ q) same (first .occupied x e))
+        apart (suc i) zero x y l e f same = absurd (omega arith)
+        apart (suc i) (suc j) x y l e f same = new .apart i j x y (omega arith) e f same
+
+        newly : NewlyClaimed w (c ∷ cs)
+        newly = record { free = free; apart = apart }
+    targets-more e es s s₁ b o c p q t first cells (refuses-targets {m} {x} f) = refuses-targets {m = m} {x = x} (rw (p, q, f))

@@ -1,0 +1,143 @@
+-- The functions, path by path.
+use mathlib.Core.Path.{_≡_, refl, sym, ap, _∙_}
+use mathlib.Core.List.{List}
+use Prim.Native.Nat.{ℕ, zero, suc, _+_, _*_, _≤_, _<_, max}
+use native.Mathlib.Omega.{arith}
+use native.Mathlib.Nat.{suc-mul, mul-le-mul}
+use native.Mathlib.Decide.{decLt}
+use native.Mathlib.Numerals.{add-one}
+use lib.ListN.{length, getD, drop, drop-of-length-le}
+use lib.Seq.{drop-cons}
+use Rattle.meaning.specs.Lists.{total}
+use Rattle.meaning.specs.Graph.{Graph, region}
+use Rattle.meaning.specs.Runs.{Nodes, Cases}
+use Rattle.nesting.specs.Sheet.{figure, dearest}
+use Rattle.record.specs.Stands.{Stands, OfRecord}
+use Rattle.state.specs.Sections.{section, cells}
+use Rattle.shown.specs.Cells.{ShowsCaseCells, no-cases, case-and}
+use Rattle.shown.specs.laws.CellSteps.{no-list}
+use Rattle.children.specs.CellByCell.{cell-word, list-at, list-before, before-below, CellAdded, added-blocks, added-list, added-exit}
+use Rattle.children.specs.CellByCell.{added-select, added-loop, ListAppended, appends, appended, FirstCase, case-first, first-case}
+use Rattle.figure.specs.laws.Nodes.{figure-join, figure-blocks}
+use Rattle.figure.specs.Figured.{capped, Figured, CellFigured, DearestFigured, BlocksFigured, ToCome, SummedTo}
+
+-- ---- Sums and turns over what is held at the largest number.
+pub capped-times : (m n c : ℕ) → capped (m * (capped n + c)) ≡ capped (m * (n + c))
+capped-times zero n c = omega arith
+capped-times (suc m) n c = by (decLt n 4294967296)
+  where
+    by : Dec (n < 4294967296) → capped (suc m * (capped n + c)) ≡ capped (suc m * (n + c))
+    by (yes l) = let e : capped n ≡ n = omega arith in rw e
+    by (no l) = omega (arith, suc-mul m (capped n + c), suc-mul m (n + c))
+
+-- Words and what is held have room for their product.
+pub turns-fit : {limit n test : ℕ} → limit < 65536 → n ≤ 4294967296 → test < 65536 → limit * (n + test) ≤ 281474976579585
+turns-fit {limit} {n} {test} a b c = mul-le-mul {n₂ = 65535} {m₂ = 4295032831} (omega arith) (omega arith)
+
+-- ---- The dearest of a list of cases.
+module _ {w : List ℕ} {h : ℕ} where
+  pub dearest-none : h ≡ 0 → DearestFigured w h 0
+  unfolding figure
+  dearest-none e = record { small = omega arith; shown = λ g s cs x. none g x }
+    where
+      none : (g : Graph) {cs : Cases} → ShowsCaseCells g (section w cells) h cs → 0 ≡ capped (dearest (g .test-cost) cs)
+      none g (no-cases z) = refl
+      none g (case-and x p q ns cs z) = absurd (omega arith)
+
+  pub dearest-of : {p q x y a : ℕ} → p ≡ list-at w h 3 → Figured w p x → q ≡ list-at w h 1 → DearestFigured w q y → 1 ≤ h → a ≡ max x y
+      → DearestFigured w h a
+  unfolding figure
+  dearest-of {x = x} {y} {a} of-first f of-others d above is =
+      record { small = omega (arith, f .small, d .small); shown = λ g s cs z. both g s (first-case w z above) }
+    where
+      both : (g : Graph) → Stands w g → {cs : Cases} → FirstCase g w h cs → a ≡ capped (dearest (g .test-cost) cs)
+      both g s (case-first ns cs q) =
+          let first = (rw of-first at f) .shown g s _ ns in
+          let others = (rw of-others at d) .shown g s _ cs in
+          rw q (omega arith)
+
+-- ---- What a cell adds.
+module _ {w : List ℕ} {h tag : ℕ} (of-tag : tag ≡ cell-word w h 0) where
+  pub cell-blocks : {r n a : ℕ} → tag ≡ 1 → r ≡ cell-word w h 2 → BlocksFigured w r n → a ≡ capped n → CellFigured w h a
+  cell-blocks {r} {n} {a} e of-region f is = record { small = omega arith; shown = λ g s ks x. go g s (rw (sym of-tag ∙ e) at x) }
+    where
+      go : (g : Graph) → Stands w g → {ks : Nodes} → CellAdded g w h ks 1 → a ≡ capped (figure (g .test-cost) ks)
+      go g s (added-blocks some q) =
+          let all = ap (figure (g .test-cost)) q ∙ figure-blocks (g .test-cost) g (cell-word w h 2) in
+          is ∙ ap capped ((rw of-region at f) .shown g s ∙ sym all)
+
+  pub cell-joined : {p a : ℕ} → tag ≡ 2 → p ≡ list-at w h 2 → Figured w p a → CellFigured w h a
+  cell-joined {p} {a} e of-list f = record { small = f .small; shown = λ g s ks x. go g s (rw (sym of-tag ∙ e) at x) }
+    where
+      go : (g : Graph) → Stands w g → {ks : Nodes} → CellAdded g w h ks 2 → a ≡ capped (figure (g .test-cost) ks)
+      go g s (added-list x) = (rw of-list at f) .shown g s _ x
+
+  module _ {test : ℕ} (of-test : OfRecord w (λ g. test ≡ g .test-cost)) where
+    pub cell-select : {p n a : ℕ} → tag ≡ 4 → p ≡ list-at w h 5 → DearestFigured w p n → a ≡ capped (test + n) → CellFigured w h a
+    unfolding figure
+    cell-select {p} {n} {a} e of-list f is = record { small = omega arith; shown = λ g s ks x. go g s (rw (sym of-tag ∙ e) at x) }
+      where
+        go : (g : Graph) → Stands w g → {ks : Nodes} → CellAdded g w h ks 4 → a ≡ capped (figure (g .test-cost) ks)
+        go g s (added-select shape v cs q) =
+            let t = of-test g s in
+            let n-is = (rw of-list at f) .shown g s _ cs in
+            rw q (omega arith)
+
+    pub cell-loop : {r limit p n a : ℕ} → tag ≡ 5 → r ≡ cell-word w h 3 → OfRecord w (λ g. limit ≡ region g r .limit) → p ≡ list-at w h 1
+        → Figured w p n → a ≡ capped (limit * (n + test)) → CellFigured w h a
+    unfolding figure
+    cell-loop {r} {limit} {p} {n} {a} e of-region of-limit of-list f is =
+        record { small = omega arith; shown = λ g s ks x. go g s (rw (sym of-tag ∙ e) at x) }
+      where
+        go : (g : Graph) → Stands w g → {ks : Nodes} → CellAdded g w h ks 5 → a ≡ capped (figure (g .test-cost) ks)
+        go g s (added-loop {ns} y body v kept q) =
+            let l = (rw of-region at of-limit) g s in
+            let n-is = (rw of-list at f) .shown g s _ body in
+            let turns = capped-times (region g (cell-word w h 3) .limit) (figure (g .test-cost) ns) (g .test-cost) in
+            is ∙ rw (l, n-is, of-test g s, q) (omega arith)
+
+  pub cell-other : (tag ≡ 1 → ⊥) → (tag ≡ 2 → ⊥) → (tag ≡ 4 → ⊥) → (tag ≡ 5 → ⊥) → CellFigured w h 0
+  unfolding figure
+  cell-other a b c d = record { small = omega arith; shown = λ g s ks x. go g (rw (sym of-tag) at x) refl }
+    where
+      go : (g : Graph) {ks : Nodes} {t : ℕ} → CellAdded g w h ks t → tag ≡ t → 0 ≡ capped (figure (g .test-cost) ks)
+      go g (added-blocks some q) e = absurd (a e)
+      go g (added-list x) e = absurd (b e)
+      go g (added-exit t q) e = rw q
+      go g (added-select s v cs q) e = absurd (c e)
+      go g (added-loop y x v k q) e = absurd (d e)
+
+-- ---- A list of nodes, from its last cell on.
+module _ {w : List ℕ} {list : ℕ} where
+  pub passed-none : SummedTo w list list 0
+  passed-none =
+      record { small = omega arith; below = omega arith; shown = λ g s ks x. record { nodes = ks; shown = x; sums = omega arith } }
+
+  pub passed-turn : {h n sum p : ℕ} → SummedTo w list h n → 0 < h → {a : ℕ} → CellFigured w h a → sum ≡ capped (n + a) → p ≡ list-before w h
+      → SummedTo w list p sum
+  passed-turn {h} {n} {sum} {p} x above {a} f is of-list =
+      let b = x .below in
+      let l = before-below w of-list above in
+      record { small = omega arith; below = omega arith; shown = λ g s ks y. go g s (x .shown g s ks y) }
+    where
+      by : (g : Graph) → Stands w g → {ks : Nodes} {whole : ℕ} → ListAppended g w h ks
+          → capped (figure (g .test-cost) ks + n) ≡ capped whole
+          → ToCome g w p sum whole
+      by g s (appends {ns} {ms} before y q) e =
+          let parts = ap (figure (g .test-cost)) q ∙ figure-join (g .test-cost) ns ms in
+          let a-is = f .shown g s ms y in
+          record { nodes = ns; shown = rw of-list before; sums = omega arith }
+
+      go : (g : Graph) → Stands w g → {whole : ℕ} → ToCome g w h n whole → ToCome g w p sum whole
+      go g s y = by g s (appended w (y .shown) above) (y .sums)
+
+  pub passed-all : {h sum : ℕ} → SummedTo w list h sum → h ≤ 0 → Figured w list sum
+  unfolding figure
+  passed-all {h} {sum} x none = record { small = x .small; shown = λ g s ks y. go g (x .shown g s ks y) }
+    where
+      go : (g : Graph) {whole : ℕ} → ToCome g w h sum whole → sum ≡ capped whole
+      go g y =
+          let empty = ap (figure (g .test-cost)) (no-list (y .shown) (omega arith)) in
+          let small = x .small in
+          let e = y .sums in
+          omega arith

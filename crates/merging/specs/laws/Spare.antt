@@ -1,0 +1,184 @@
+-- Stores into the spare slot leave all else that the words show.
+use mathlib.Core.Path.{_≡_, refl, sym, ap, _∙_}
+use mathlib.Core.List.{List, [], _∷_}
+use Prim.Native.Nat.{ℕ, suc, _+_, _*_, _-_, _≤_, _<_}
+use native.Mathlib.Omega.{arith}
+use native.Mathlib.Decide.{decLt}
+use lib.ListN.{length, getD}
+use Rattle.meaning.specs.Graph.{Graph}
+use Rattle.format.specs.Valid.{Valid}
+use Rattle.nesting.specs.Nesting.{NestState, MaybeClaimedRegion}
+use Rattle.state.specs.Sections as sections
+use Rattle.state.specs.Sections.{Section, number, start, size, front, section, word, stored, stored-all, stored-all-at, head, kinds}
+use Rattle.state.specs.Sections.{backedges, set-starts}
+use Rattle.state.specs.Sections.{set-lengths, children, bodies, levels, cases, rewrites, outputs, conditions, cells, bundles}
+use Rattle.state.specs.Tables.{case-total}
+use Rattle.state.specs.laws.Apart.{stored-length, section-other}
+use Rattle.shown.specs.laws.Elsewhere.{SameTables, tables-stay, condition-there}
+use Rattle.shown.specs.Front.{stands-on}
+use Rattle.shown.specs.Sets.{SameBundle}
+use Rattle.shown.specs.States.{Slots, ShowsState, ShowsCases, ShowsCase, shows-ok, shows-nothing, shows-edge, shows-others}
+use Rattle.shown.specs.Kept.{Later, KeptRegion, set-stays, region-stays}
+use Rattle.shown.specs.laws.RegionSteps.{word-apart, named-by}
+
+-- ---- A case stays shown where its words and the slots do.
+pub case-stays : {g : Graph} {l l′ : List ℕ} → Later g l l′ → (r j : ℕ) → ((q : ℕ) → word l′ set-starts q ≡ word l set-starts q)
+    → ((i : ℕ) → i < 6 → word l′ cases (10 * j + i) ≡ word l cases (10 * j + i))
+    → ((k : ℕ) → k < 4 → word l′ cases (10 * j + (6 + k)) ≡ word l cases (10 * j + (6 + k)))
+    → {c : MaybeClaimedRegion} → ShowsCase g l r j c → ShowsCase g l′ r j c
+case-stays later r j starts f same (shows-ok {c} kind origin in-graph body below nodes start size inputs) =
+    shows-ok {c = c} (f 0 (omega arith) ∙ kind) (f 1 (omega arith) ∙ origin) in-graph (f 2 (omega arith) ∙ body) below
+    (rw (f 3 (omega arith)) (later .nodes-stay nodes))
+    (f 4 (omega arith) ∙ start ∙ sym (starts (c .origin))) size (λ k h. rw (same k h) (inputs k h))
+case-stays later r j starts f same (shows-nothing kind none) = shows-nothing (f 0 (omega arith) ∙ kind) (f 5 (omega arith) ∙ none)
+case-stays later r j starts f same (shows-edge {d} kind start one) =
+    shows-edge {d = d} (f 0 (omega arith) ∙ kind) (f 4 (omega arith) ∙ start) (f 5 (omega arith) ∙ one)
+case-stays later r j starts f same (shows-others {d} kind start) =
+    shows-others {d = d} (f 0 (omega arith) ∙ kind) (f 4 (omega arith) ∙ start ∙ sym (starts r))
+
+-- ---- From w to w′ only the spare slot's bundles and length change; it starts at bundle o.
+pub record SpareOnly (o : ℕ) (w w′ : List ℕ) : Type 0 where
+  pub words : length w′ ≡ length w
+  pub others : (k : Section) → (number k ≡ number sections.set-lengths → ⊥) → (number k ≡ number sections.bundles → ⊥)
+      → section w′ k ≡ section w k
+  pub lengths : (q : ℕ) → (q ≡ 32 → ⊥) → word w′ set-lengths q ≡ word w set-lengths q
+  pub before : (x : ℕ) → x < 7 * o → word w′ bundles x ≡ word w bundles x
+  pub behind : (x : ℕ) → 7 * o + 231 ≤ x → word w′ bundles x ≡ word w bundles x
+
+module _ (o : ℕ) (w : List ℕ) where
+  pub spare-same : SpareOnly o w w
+  spare-same = record { words = refl; others = λ k a b. refl; lengths = λ q d. refl; before = λ x h. refl; behind = λ x h. refl }
+
+  pub spare-word : (i x : ℕ) → 7 * o ≤ i → i < 7 * o + 231 → SpareOnly o w (stored w bundles i x)
+  spare-word i x a b =
+      record {
+        words = stored-length (start bundles) (size bundles) w i x;
+        others = λ k c d. section-other w bundles i x k d;
+        lengths = λ q d. ap (λ z. getD z q 0) (section-other w bundles i x set-lengths (omega arith));
+        before = λ q h. word-apart w bundles i x bundles q (omega arith);
+        behind = λ q h. word-apart w bundles i x bundles q (omega arith);
+      }
+
+  pub spare-length : (x : ℕ) → SpareOnly o w (stored w set-lengths 32 x)
+  spare-length x =
+      record {
+        words = stored-length (start set-lengths) (size set-lengths) w 32 x;
+        others = λ k c d. section-other w set-lengths 32 x k c;
+        lengths = λ q d. word-apart w set-lengths 32 x set-lengths q d;
+        before = λ q h. ap (λ z. getD z q 0) (section-other w set-lengths 32 x bundles (omega arith));
+        behind = λ q h. ap (λ z. getD z q 0) (section-other w set-lengths 32 x bundles (omega arith));
+      }
+
+pub spare-then : {o : ℕ} {w w₁ w₂ : List ℕ} → SpareOnly o w w₁ → SpareOnly o w₁ w₂ → SpareOnly o w w₂
+spare-then a b =
+    record {
+      words = b .words ∙ a .words;
+      others = λ k c d. b .others k c d ∙ a .others k c d;
+      lengths = λ q d. b .lengths q d ∙ a .lengths q d;
+      before = λ x h. b .before x h ∙ a .before x h;
+      behind = λ x h. b .behind x h ∙ a .behind x h;
+    }
+
+pub spare-three : (o : ℕ) (w : List ℕ) (i a b c : ℕ) → 7 * o ≤ i → i + 2 < 7 * o + 231
+    → SpareOnly o w (stored-all w bundles i (a ∷ b ∷ c ∷ []))
+unfolding stored-all-at
+spare-three o w i a b c h k =
+    let w₁ = stored w bundles i a in
+    let w₂ = stored w₁ bundles (suc i) b in
+    spare-then (spare-word o w i a h (omega arith)) (spare-then (spare-word o w₁ (suc i) b (omega arith) (omega arith))
+    (spare-word o w₂ (suc (suc i)) c (omega arith) (omega arith)))
+
+-- ---- What stays shown.
+module _ {o : ℕ} {w w′ : List ℕ} (y : SpareOnly o w w′) where
+  pub spare-there : (k : Section) → (number k ≡ number sections.set-lengths → ⊥) → (number k ≡ number sections.bundles → ⊥) → (i : ℕ)
+      → word w′ k i ≡ word w k i
+  spare-there k a b i = ap (λ z. getD z i 0) (y .others k a b)
+
+  pub spare-total : case-total w′ ≡ case-total w
+  unfolding case-total
+  spare-total = rw (spare-there head (omega arith) (omega arith) 7)
+
+  pub spare-tables : SameTables w w′
+  spare-tables =
+      record {
+        words = y .words;
+        same-rewrites = y .others rewrites (omega arith) (omega arith);
+        same-outputs = y .others outputs (omega arith) (omega arith);
+        same-conditions = y .others conditions (omega arith) (omega arith);
+        totals = λ q a b. spare-there head (omega arith) (omega arith) q;
+      }
+
+  pub spare-later : (g : Graph) → Later g w w′
+  spare-later g =
+      record {
+        front = record { words = y .words; front-words = y .others front (omega arith) (omega arith) };
+        conditions-stay = λ c. condition-there spare-tables c;
+        nodes-stay = λ n. record {
+          nodes = rw (y .others cells (omega arith) (omega arith)) (n .nodes);
+          made = rw (spare-there head (omega arith) (omega arith) 4) (n .made);
+        };
+      }
+
+  pub spare-outside : (q : ℕ) → ((i : ℕ) → i < 33 → q ≡ o + i → ⊥) → SameBundle w w′ q
+  spare-outside q d =
+      elim (decLt q o) [
+        | yes h ↦ record { words = λ i b. y .before (7 * q + i) (omega arith) }
+        | no h ↦ elim (decLt q (o + 33)) [
+          | yes b ↦ absurd (d (q - o) (omega arith) (omega arith))
+          | no b ↦ record { words = λ i c. y .behind (7 * q + i) (omega arith) }
+        ]
+      ]
+
+  module _ (slots : Slots w) (spare : word w set-starts 32 ≡ o) where
+    pub spare-keeps : (q : ℕ) → q < 32 → KeptRegion w w′ q
+    spare-keeps q h =
+        let a = slots .starts q (omega arith) in
+        let b = slots .starts 32 (omega arith) in
+        let apart : slots .slot-number q ≡ slots .slot-number 32 → ⊥ =
+        λ e. (let f = slots .own q 32 (omega arith) (omega arith) e in omega arith) in
+        record {
+          set-start = spare-there set-starts (omega arith) (omega arith) q;
+          set-length = y .lengths q (omega arith);
+          handle = spare-there children (omega arith) (omega arith) q;
+          body = spare-there bodies (omega arith) (omega arith) q;
+          backedge = spare-there backedges (omega arith) (omega arith) q;
+          taken = λ j d. spare-there levels (omega arith) (omega arith) (10 * q + j);
+          slot = λ i d. spare-outside (word w set-starts q + i) (λ k c e. apart (omega arith));
+        }
+
+    pub spare-state : {g : Graph} → Valid g → {s : NestState} → ShowsState g w s → ShowsState g w′ s
+    spare-state {g} valid x =
+        record {
+          stands = stands-on (spare-later g .front) (x .stands);
+          tables = tables-stay spare-tables (x .tables);
+          named = named-by (y .others rewrites (omega arith) (omega arith)) (x .named);
+          size = x .size;
+          regions = λ q h. let n = valid .count in region-stays (spare-later g) (spare-keeps q (omega arith))
+              (spare-there kinds (omega arith) (omega arith) q) (x .regions q h);
+          slots = record {
+            slot-number = slots .slot-number;
+            starts = λ a h. spare-there set-starts (omega arith) (omega arith) a ∙ slots .starts a h;
+            below = slots .below;
+            own = slots .own;
+          };
+          returned = record {
+            size = spare-there head (omega arith) (omega arith) 8 ∙ x .returned .size;
+            types = λ k h. spare-there head (omega arith) (omega arith) (9 + k) ∙ x .returned .types k h;
+          };
+        }
+
+    pub spare-cases : {g : Graph} {r : ℕ} {cs : List MaybeClaimedRegion} → ShowsCases g w r cs → ShowsCases g w′ r cs
+    spare-cases {g} {r} x =
+        let f : (i : ℕ) → word w′ cases i ≡ word w cases i = spare-there cases (omega arith) (omega arith) in
+        record {
+          size = spare-total ∙ x .size;
+          few = x .few;
+          each = λ j h. case-stays (spare-later g) r j (spare-there set-starts (omega arith) (omega arith)) (λ i b. f (10 * j + i))
+              (λ k b. f (10 * j + (6 + k))) (x .each j h);
+          sets = λ j h. rw (f (10 * j + 4), f (10 * j + 5)) (set-stays (spare-later g) (λ i b.
+              spare-outside (word w cases (10 * j + 4) + i) (λ k c e. x .not-spare j i k h b c (e ∙ ap (λ z. z + k) (sym spare))))
+              (x .sets j h));
+          apart = λ i j p q a b. rw (f (10 * i + 5), f (10 * j + 5), f (10 * i + 4), f (10 * j + 4)) (x .apart i j p q a b);
+          not-spare = λ j p q a. rw (f (10 * j + 5), f (10 * j + 4), spare-there set-starts (omega arith) (omega arith) 32)
+              (x .not-spare j p q a);
+        }

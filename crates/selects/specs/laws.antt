@@ -1,0 +1,17 @@
+pub mod Fronts
+pub mod Places
+pub mod CasesShown
+pub mod RegionsShown
+pub mod StepsShown
+pub mod SelectsShown
+pub mod Emitting
+pub mod SmallTypes
+pub mod PerCase
+pub mod EmitsShown
+pub mod SetsEmitted
+pub mod PlansShown
+pub mod Replaced
+pub mod RowsKept
+pub mod Aside
+pub mod Structurized
+pub mod IntoShown

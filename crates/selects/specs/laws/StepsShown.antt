@@ -1,0 +1,152 @@
+-- What a select's steps leave: all but region r's own, the spare slot, and the regions of the cases that are not claimed.
+use mathlib.Core.Path.{_≡_, refl, sym, ap, _∙_}
+use mathlib.Core.List.{List}
+use Prim.Native.Nat.{ℕ, _+_, _*_, _≤_, _<_}
+use native.Mathlib.Omega.{arith}
+use lib.ListN.{length, getD}
+use Rattle.meaning.specs.Graph.{Graph}
+use Rattle.nesting.specs.Nesting.{MaybeClaimedRegion}
+use Rattle.state.specs.Sections as sections
+use Rattle.state.specs.Sections.{Section, number, word, stored, head, kinds, set-starts, children, cases}
+use Rattle.state.specs.Sections.{bundles}
+use Rattle.state.specs.laws.Apart.{section-other}
+use Rattle.state.specs.Tables.{case-total}
+use Rattle.shown.specs.laws.Stores.{ChangesOnly}
+use Rattle.shown.specs.Sets.{SameBundle}
+use Rattle.shown.specs.States.{ShowsCase, shows-ok, shows-nothing, shows-edge, shows-others, ShowsCases}
+use Rattle.shown.specs.Kept.{Later, later-same, later-then, KeptRegion, kept-same, kept-then, same-bundle, same-bundle-then, set-stays}
+use Rattle.shown.specs.laws.RegionSteps.{OfNoRegion, kept-by, bundles-same, StatesStay, word-concerns, later-by}
+use Rattle.selects.specs.laws.RegionsShown.{KeepsCases}
+
+pub record SelectStep (g : Graph) (r : ℕ) (w w′ : List ℕ) : Type 0 where
+  pub later : Later g w w′
+  pub same-kinds : (q : ℕ) → word w′ kinds q ≡ word w kinds q
+  pub same-starts : (q : ℕ) → word w′ set-starts q ≡ word w set-starts q
+  pub same-head : (k : ℕ) → 7 ≤ k → word w′ head k ≡ word w head k
+  pub case-words : (k i : ℕ) → i < 10 → (i ≡ 2 → ⊥) → word w′ cases (10 * k + i) ≡ word w cases (10 * k + i)
+  pub case-bodies : (k : ℕ) → word w cases (10 * k + 0) ≡ 2 → word w′ cases (10 * k + 2) ≡ word w cases (10 * k + 2)
+  pub others : (q : ℕ) → q < 32 → (q ≡ r → ⊥) → KeptRegion w w′ q
+  pub bundles-kept : (p : ℕ) → ((i : ℕ) → i < 33 → word w set-starts 32 + i ≡ p → ⊥) → SameBundle w w′ p
+
+pub step-same : (g : Graph) (r : ℕ) (w : List ℕ) → SelectStep g r w w
+step-same g r w =
+    record {
+      later = later-same g w;
+      same-kinds = λ q. refl;
+      same-starts = λ q. refl;
+      same-head = λ k h. refl;
+      case-words = λ k i h d. refl;
+      case-bodies = λ k e. refl;
+      others = λ q h d. kept-same w q;
+      bundles-kept = λ p d. same-bundle w p;
+    }
+
+pub step-then : {g : Graph} {r : ℕ} {w w₁ w₂ : List ℕ} → SelectStep g r w w₁ → SelectStep g r w₁ w₂ → SelectStep g r w w₂
+step-then a b =
+    record {
+      later = later-then (a .later) (b .later);
+      same-kinds = λ q. b .same-kinds q ∙ a .same-kinds q;
+      same-starts = λ q. b .same-starts q ∙ a .same-starts q;
+      same-head = λ k h. b .same-head k h ∙ a .same-head k h;
+      case-words = λ k i h d. b .case-words k i h d ∙ a .case-words k i h d;
+      case-bodies = λ k e. b .case-bodies k (a .case-words k 0 (omega arith) (omega arith) ∙ e) ∙ a .case-bodies k e;
+      others = λ q h d. kept-then (a .others q h d) (b .others q h d);
+      bundles-kept = λ p d. same-bundle-then (a .bundles-kept p d)
+          (b .bundles-kept p (λ i h e. d i h (ap (λ x. x + i) (sym (a .same-starts 32)) ∙ e)));
+    }
+
+-- A step that changes one section, none of the regions' and not the cases, and one total of the head.
+pub step-by : {k : Section} {i : ℕ} {w w′ : List ℕ} → ChangesOnly k i w w′ → OfNoRegion k → (number sections.kinds ≡ number k → ⊥)
+    → (number sections.cases ≡ number k → ⊥) → i < 7
+    → (g : Graph) (r : ℕ) → Later g w w′ → SelectStep g r w w′
+step-by changes none d e few g r later =
+    let same = changes .others cases e (omega arith) in
+    record {
+      later = later;
+      same-kinds = λ q. ap (λ l. getD l q 0) (changes .others kinds d (omega arith));
+      same-starts = λ q. ap (λ l. getD l q 0) (changes .others set-starts (none .not-starts) (omega arith));
+      same-head = λ k b. changes .totals k (omega arith);
+      case-words = λ k i h d. ap (λ l. getD l (10 * k + i) 0) same;
+      case-bodies = λ k e. ap (λ l. getD l (10 * k + 2) 0) same;
+      others = λ q h d. kept-by changes none q;
+      bundles-kept = λ p d. bundles-same (changes .others bundles (none .not-bundles) (omega arith)) p;
+    }
+
+-- The regions of the cases.
+pub step-regions : {w w′ : List ℕ} → KeepsCases 0 w w′ → (g : Graph) (r : ℕ) → SelectStep g r w w′
+step-regions keeps g r =
+    let changes = keeps .changes in
+    record {
+      later = later-by changes (omega arith) g;
+      same-kinds = λ q. ap (λ l. getD l q 0) (changes .others kinds (omega arith) (omega arith));
+      same-starts = λ q. ap (λ l. getD l q 0) (changes .others set-starts (omega arith) (omega arith));
+      same-head = λ k h. changes .totals k (omega arith);
+      case-words = keeps .words;
+      case-bodies = keeps .bodies;
+      others = λ q h d. kept-by changes (omega arith) q;
+      bundles-kept = λ p d. bundles-same (changes .others bundles (omega arith) (omega arith)) p;
+    }
+
+-- Region r's children.
+pub step-children : (g : Graph) (r : ℕ) (w : List ℕ) (h : ℕ) → SelectStep g r w (stored w children r h)
+step-children g r w h =
+    let c = word-concerns g w children (omega arith) r h in
+    let same = section-other w children r h cases (omega arith) in
+    record {
+      later = c .later;
+      same-kinds = c .same-kinds;
+      same-starts = c .same-starts;
+      same-head = λ k b. c .same-head k;
+      case-words = λ k i b d. ap (λ l. getD l (10 * k + i) 0) same;
+      case-bodies = λ k e. ap (λ l. getD l (10 * k + 2) 0) same;
+      others = λ q b d. c .others q (omega arith) d;
+      bundles-kept = λ p d. bundles-same (section-other w children r h bundles (omega arith)) p;
+    }
+
+-- ---- Region r is under way, so that no state of a region changes.
+pub states-of-step : {g : Graph} {r : ℕ} {w w′ : List ℕ} → SelectStep g r w w′ → length (g .regions) ≤ 32 → (word w kinds r ≡ 2 → ⊥)
+    → StatesStay g w w′
+states-of-step {w} x few d =
+    record {
+      same-kinds = λ q h. x .same-kinds q;
+      same-starts = λ a h. x .same-starts a;
+      same-returned = λ k h. x .same-head k (omega arith);
+      ready-kept = λ q h e. x .others q (omega arith) (λ z. d (ap (λ p. word w kinds p) (sym z) ∙ e));
+    }
+
+-- ---- The cases stay shown.
+module _ {g : Graph} {r : ℕ} {w w′ : List ℕ} (x : SelectStep g r w w′) where
+  field-same : (j i : ℕ) → i < 10 → (i ≡ 2 → ⊥) → word w′ cases (10 * j + i) ≡ word w cases (10 * j + i)
+  field-same j i h d = x .case-words j i h d
+
+  case-stays : {j : ℕ} {c : MaybeClaimedRegion} → ShowsCase g w r j c → ShowsCase g w′ r j c
+  case-stays {j} (shows-ok {c} k o b s t n a z i) =
+      shows-ok {c = c} (field-same j 0 (omega arith) (omega arith) ∙ k) (field-same j 1 (omega arith) (omega arith) ∙ o) b
+      (x .case-bodies j k ∙ s) t
+      (rw (field-same j 3 (omega arith) (omega arith)) (x .later .nodes-stay n))
+      (field-same j 4 (omega arith) (omega arith) ∙ a ∙ sym (x .same-starts (c .origin))) z
+      (λ m h. rw (field-same j (6 + m) (omega arith) (omega arith)) (i m h))
+  case-stays {j} (shows-nothing k z) =
+      shows-nothing (field-same j 0 (omega arith) (omega arith) ∙ k) (field-same j 5 (omega arith) (omega arith) ∙ z)
+  case-stays {j} (shows-edge k a z) =
+      shows-edge (field-same j 0 (omega arith) (omega arith) ∙ k) (field-same j 4 (omega arith) (omega arith) ∙ a)
+      (field-same j 5 (omega arith) (omega arith) ∙ z)
+  case-stays {j} (shows-others k a) =
+      shows-others (field-same j 0 (omega arith) (omega arith) ∙ k)
+      (field-same j 4 (omega arith) (omega arith) ∙ a ∙ sym (x .same-starts r))
+
+  pub cases-stay : {cs : List MaybeClaimedRegion} → ShowsCases g w r cs → ShowsCases g w′ r cs
+  unfolding case-total
+  cases-stay {cs} y =
+      let start : (j : ℕ) → word w′ cases (10 * j + 4) ≡ word w cases (10 * j + 4) = λ j. field-same j 4 (omega arith) (omega arith) in
+      let many : (j : ℕ) → word w′ cases (10 * j + 5) ≡ word w cases (10 * j + 5) = λ j. field-same j 5 (omega arith) (omega arith) in
+      record {
+        size = rw (x .same-head 7 (omega arith)) (y .size);
+        few = y .few;
+        each = λ j h. case-stays (y .each j h);
+        sets = λ j h. rw (start j, many j) (set-stays (x .later)
+            (λ i b. x .bundles-kept (word w cases (10 * j + 4) + i) (λ q c e. y .not-spare j i q h b c (sym e))) (y .sets j h));
+        apart = λ i j p q a b c d e.
+            y .apart i j p q a b (rw (many i) at c) (rw (many j) at d) (rw (start i, start j) at e);
+        not-spare = λ j p q a b c e. y .not-spare j p q a (rw (many j) at b) c (rw (start j, x .same-starts 32) at e);
+      }

@@ -1,0 +1,4 @@
+pub mod SheetLines
+pub mod Counts
+pub mod Leftovers
+pub mod LinesShown

@@ -1,0 +1,103 @@
+-- Counts held at the largest word: such a sheet is as long as the definition's, and the same if it has no more words than a word can say.
+use mathlib.Core.Path.{_≡_, refl, sym, ap, _∙_}
+use mathlib.Core.List.{List, [], _∷_, _++_, map}
+use Prim.Native.Nat.{ℕ, suc, _+_, _≤_}
+use native.Mathlib.Omega.{arith}
+use lib.ListN.{length, length-append}
+use borrow.Author.Tests.{le-leb}
+use Rattle.meaning.specs.Lists.{concat}
+use Rattle.meaning.specs.Graph.{Graph, Value}
+use Rattle.meaning.specs.Runs.{Node, block, select, loop, exit, Nodes, ⟨⟩, _▸_, Cases, ∅, case}
+use Rattle.nesting.specs.Nesting.{Nested, Piece, Outcome, untouched, whole, closed, leftover}
+use Rattle.nesting.specs.Sheet as sheet
+use Rattle.writing.specs.Parts.{most, region-words, select-words, loop-words, node-words, nodes-words, cases-words}
+use Rattle.sheet.specs.Whole.{piece-words, defer-words, nested-lines, head-words, nested-words}
+use Rattle.sheet.specs.laws.SheetLines.{same-count, sheet-lines}
+
+-- a is as long as b, and is b where b has no more words than a word can say.
+record Held (a b : List ℕ) : Type 0 where
+  pub long : length a ≡ length b
+  pub same : length b ≤ 4294967295 → a ≡ b
+
+held-same : (a : List ℕ) → Held a a
+held-same a = record { long = refl; same = λ h. refl }
+
+held-then : {a b c d : List ℕ} → Held a b → Held c d → Held (a ++ c) (b ++ d)
+held-then {a} {b} {c} {d} p q =
+    let n = length-append a c in
+    let m = length-append b d in
+    let i = p .long in
+    let j = q .long in
+    record {
+      long = omega arith;
+      same = λ h. rw (p .same (omega arith), q .same (omega arith));
+    }
+
+-- The count in front of as many words.
+held-count : (xs : List ℕ) → Held (most (length xs) ∷ xs) (length xs ∷ xs)
+held-count xs = record { long = refl; same = λ h. rw (le-leb (length xs) 4294967295 (omega arith)) }
+
+module _ (nodes : List ℕ) where
+  region-held : (r : ℕ) (ts : List ℕ) (ks : Nodes) (vs : List Value)
+      → Held (region-words most nodes r ts ks vs) (region-words same-count nodes r ts ks vs)
+  region-held r ts ks vs =
+      held-then (held-then (held-same (0 ∷ r ∷ length ts ∷ ts)) (held-count (sheet.kids ks))) (held-same (sheet.values nodes vs .words))
+
+  mutual
+    unfolding node-words
+
+    node-held : (k : Node) → Held (node-words most nodes k) (node-words same-count nodes k)
+    node-held (block n r k is) = held-same (1 ∷ n ∷ sheet.list (sheet.items nodes r k is) .words)
+    node-held (select x cs) = held-then (held-same (select-words most nodes x cs)) (cases-held cs)
+    node-held (loop x ks) =
+        held-then (held-then (held-same (loop-words most nodes x)) (region-held (x .body) (x .types) ks (x .outputs))) (nodes-held ks)
+    node-held (exit n op vs) = held-same (4 ∷ n ∷ op ∷ sheet.values nodes vs .words)
+
+    nodes-held : (ks : Nodes) → Held (nodes-words most nodes ks) (nodes-words same-count nodes ks)
+    nodes-held ⟨⟩ = held-same []
+    nodes-held (k ▸ ks) = held-then (node-held k) (nodes-held ks)
+
+    cases-held : (cs : Cases) → Held (cases-words most nodes cs) (cases-words same-count nodes cs)
+    cases-held ∅ = held-same []
+    cases-held (case c ks cs) = held-then (held-then (region-held (c .region) [] ks (c .outputs)) (nodes-held ks)) (cases-held cs)
+
+  pieces-held : (ps : List Piece) → Held (concat (map (piece-words most nodes) ps)) (concat (map (piece-words same-count nodes) ps))
+  pieces-held [] = held-same []
+  pieces-held (p ∷ ps) =
+      held-then (held-then (region-held (p .region) (p .inputs) (p .children) (p .outputs)) (nodes-held (p .children))) (pieces-held ps)
+
+lines-held : (x : Nested) → Held (nested-lines most x) (nested-lines same-count x)
+unfolding nested-lines
+lines-held x =
+    held-then (pieces-held (x .output-nodes) (x .entry ∷ x .unclaimed))
+    (held-same (concat (map (λ (p : Piece). concat (map (defer-words (x .output-nodes) (p .region)) (p .deferred)))
+    (sheet.ascending (x .entry) (x .unclaimed)))))
+
+sheet-held : (g : Graph) (x : Nested) → Held (nested-words most g x) (nested-words same-count g x)
+unfolding nested-words
+sheet-held g x = held-then (held-same (head-words (sheet.sheet-of g x))) (by (x .outcome))
+  where
+    by : (o : Outcome) → Held (elim o as (λ o. List ℕ) [
+      | untouched ↦ []
+      | whole ↦ nested-lines most x
+      | closed ↦ nested-lines most x
+      | leftover ↦ nested-lines most x
+    ]) (elim o as (λ o. List ℕ) [
+      | untouched ↦ []
+      | whole ↦ nested-lines same-count x
+      | closed ↦ nested-lines same-count x
+      | leftover ↦ nested-lines same-count x
+    ])
+    by untouched = held-same []
+    by whole = lines-held x
+    by closed = lines-held x
+    by leftover = lines-held x
+
+-- ---- Of the definition's sheet.
+module _ (g : Graph) (x : Nested) where
+  pub as-long : length (nested-words most g x) ≡ length (sheet.sheet-words (sheet.sheet-of g x))
+  as-long = sheet-held g x .long ∙ ap length (sheet-lines g x)
+
+  pub same-if-short : length (sheet.sheet-words (sheet.sheet-of g x)) ≤ 4294967295
+      → nested-words most g x ≡ sheet.sheet-words (sheet.sheet-of g x)
+  same-if-short h = sheet-held g x .same (rw (sheet-lines g x) h) ∙ sheet-lines g x

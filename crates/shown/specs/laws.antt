@@ -1,0 +1,11 @@
+pub mod Stores
+pub mod Steps
+pub mod Rewrites
+pub mod Conditions
+pub mod Elsewhere
+pub mod Finds
+pub mod RegionSteps
+pub mod CellSteps
+pub mod SetStores
+pub mod SetSteps
+pub mod NamedSteps

@@ -1,0 +1,208 @@
+-- What is started is shown: the definition's initial state.
+use mathlib.Core.Path.{_≡_, refl, sym, ap, _∙_}
+use mathlib.Core.List.{List, [], _∷_, List·Memᴰ·not-nil}
+use Prim.Native.Nat.{ℕ, zero, suc, _+_, _*_, _≤_, _<_}
+use native.Mathlib.Omega.{arith}
+use native.Mathlib.Decide.{decLt}
+use lib.ListN.{length, getD, take, length-map, length-replicate, List·getD-eq-default}
+use lib.Seq.{take-length}
+use borrow.Author.Tests.{lt-ltb}
+use Rattle.meaning.specs.Graph.{Graph, Region, region, nowhere, ControlInst, unreachable, return, exit-invocation, branch, select-branch}
+use Rattle.meaning.specs.Graph.{no-value}
+use Rattle.meaning.specs.facts.Elements.{getD-map-in}
+use Rattle.meaning.specs.facts.Sums.{total-next}
+use Rattle.format.specs.References.{return-types, type-in, behind-all, first-return, values-of}
+use Rattle.format.specs.Valid.{Valid, ValidEnd}
+use Rattle.record.specs.Stands.{Stands}
+use Rattle.fields.specs.ByNumber.{blocks-before, end-values}
+use Rattle.nesting.specs.Nesting.{initial-state, block-count, not-begun}
+use Rattle.nesting.specs.steps.RegionsLeft.{all-not-begun}
+use Rattle.state.specs.Sections as sections
+use Rattle.state.specs.Sections.{Section, number, start, size, used, section, word, head, kinds, set-starts, rewrites}
+use Rattle.state.specs.laws.Apart.{stored-length, section-other}
+use Rattle.state.specs.Tables.{slot}
+use Rattle.shown.specs.laws.Stores.{run-length, run-other, head-same, head-other}
+use Rattle.shown.specs.Front.{SameFront, stands-on, front-stored, front-run, front-then}
+use Rattle.shown.specs.laws.SetStores.{run-word}
+use Rattle.shown.specs.Tables.{no-entry}
+use Rattle.shown.specs.States.{ShowsState, is-not-begun}
+use Rattle.start.specs.Words.{nothing-rewritten, nothing-begun, emptied, returned-type, totals}
+use Rattle.start.specs.Words.{counted, started, filled, filled-front, emptied-front}
+use Rattle.start.specs.laws.Fills.{fill-length, fill-other, fill-beside, fill-there}
+
+-- ---- How many blocks there are: no sum is as large as a word.
+module _ {g : Graph} (valid : Valid g) where
+  few-blocks : (r : ℕ) → r ≤ length (g .regions) → blocks-before g r ≤ 8 * r
+  few-blocks zero h = omega arith
+  few-blocks (suc r) h =
+      let few = few-blocks r (omega arith) in
+      let eight = valid .regions r h .blocks-few in
+      let next = total-next (λ (z : Region). length (z .blocks)) nowhere (g .regions) r refl in
+      omega arith
+
+  all-blocks : blocks-before g (length (g .regions)) ≡ block-count (g .regions)
+  all-blocks = ap block-count (take-length (g .regions))
+
+  -- ---- The values of the first Return.
+  end-few : (r : ℕ) (x : ControlInst) → ValidEnd g r x → length (values-of x) ≤ 4
+  end-few r unreachable v = omega arith
+  end-few r (return vs) v = v .0
+  end-few r (exit-invocation op vs) v = v .0
+  end-few r (branch e) v = omega arith
+  end-few r (select-branch k x es) v = omega arith
+
+  few-returned : (q : ℕ) → length (end-values g q) ≤ 4
+  few-returned q =
+      elim (decLt q (length (g .regions))) [
+        | yes h ↦ end-few q (region g q .terminator) (valid .regions q h .terminator)
+        | no h ↦ rw (List·getD-eq-default (g .regions) nowhere {n = q} (omega arith)) (omega arith)
+      ]
+
+module _ (g : Graph) where
+  returned-size : length (end-values g (first-return (g .regions))) ≡ length (return-types g)
+  unfolding return-types
+  returned-size =
+      let q = first-return (g .regions) in sym (length-map (end-values g q) (type-in g q (behind-all g q)))
+
+  returned-is : (k : ℕ) → k < length (end-values g (first-return (g .regions))) → returned-type g k ≡ getD (return-types g) k 0
+  unfolding returned-type return-types
+  returned-is k h =
+      let q = first-return (g .regions) in sym (getD-map-in (type-in g q (behind-all g q)) (end-values g q) k no-value 0 h)
+
+-- ---- The words, section by section.
+module _ (g : Graph) (w : List ℕ) (room : used ≤ length w) where
+  abbrev l₁ : List ℕ
+  l₁ = nothing-rewritten w
+
+  abbrev l₂ : List ℕ
+  l₂ = nothing-begun l₁
+
+  abbrev l₃ : List ℕ
+  l₃ = emptied w
+
+  abbrev l₄ : List ℕ
+  l₄ = counted g l₃
+
+  abbrev l₅ : List ℕ
+  l₅ = filled head (λ k. 9 + k) (returned-type g) 4 0 l₄
+
+  abbrev returned-count : ℕ
+  returned-count = length (end-values g (first-return (g .regions)))
+
+  length₁ : length l₁ ≡ length w
+  length₁ = fill-length rewrites (λ r. 5 * r) (λ r. 0) 128 0 w
+
+  length₂ : length l₂ ≡ length w
+  length₂ = fill-length kinds (λ r. r) (λ r. 0) 32 0 l₁ ∙ length₁
+
+  length₃ : length l₃ ≡ length w
+  length₃ = fill-length set-starts (λ a. a) slot 33 0 l₂ ∙ length₂
+
+  length₄ : length l₄ ≡ length w
+  length₄ = run-length (start head) (size head) l₃ 0 (totals g) ∙ length₃
+
+  length₅ : length l₅ ≡ length w
+  length₅ = fill-length head (λ k. 9 + k) (returned-type g) 4 0 l₄ ∙ length₄
+
+  started-length : length (started g w) ≡ length w
+  started-length = stored-length (start head) (size head) l₅ 8 returned-count ∙ length₅
+
+  pub started-front : SameFront w (started g w)
+  started-front =
+      front-then (emptied-front w)
+      (front-then (front-run l₃ head (omega arith) 0 (totals g))
+      (front-then (filled-front head (λ k. 9 + k) (returned-type g) (omega arith) 4 0 l₄)
+      (front-stored l₅ head (omega arith) 8 returned-count)))
+
+  behind-head : (j : Section) → (number j ≡ number sections.head → ⊥) → section (started g w) j ≡ section l₃ j
+  behind-head j d =
+      section-other l₅ head 8 returned-count j d ∙ fill-other head (λ k. 9 + k) (returned-type g) 4 0 l₄ j d
+      ∙ run-other l₃ head 0 (totals g) j d
+
+  no-rewrite : (r : ℕ) → r < 128 → word (started g w) rewrites (5 * r) ≡ 0
+  no-rewrite r h =
+      ap (λ p. getD p (5 * r) 0) (behind-head rewrites (omega arith)
+      ∙ fill-other set-starts (λ a. a) slot 33 0 l₂ rewrites (omega arith)
+      ∙ fill-other kinds (λ r. r) (λ r. 0) 32 0 l₁ rewrites (omega arith))
+      ∙ fill-there rewrites (λ r. 5 * r) (λ r. 0) (λ a b c e. omega arith) 128 0 w (omega arith) r (omega arith) (omega arith) (omega arith)
+
+  no-kind : (r : ℕ) → r < 32 → word (started g w) kinds r ≡ 0
+  no-kind r h =
+      let len = length₁ in
+      ap (λ p. getD p r 0) (behind-head kinds (omega arith)
+      ∙ fill-other set-starts (λ a. a) slot 33 0 l₂ kinds (omega arith))
+      ∙ fill-there kinds (λ r. r) (λ r. 0) (λ a b c e. omega arith) 32 0 l₁ (omega arith) r (omega arith) (omega arith) h
+
+  own-slot : (a : ℕ) → a < 33 → word (started g w) set-starts a ≡ 33 * a
+  unfolding slot
+  own-slot a h =
+      let len = length₂ in
+      ap (λ p. getD p a 0) (behind-head set-starts (omega arith))
+      ∙ fill-there set-starts (λ a. a) slot (λ a b c e. omega arith) 33 0 l₂ (omega arith) a (omega arith) (omega arith) h
+      ∙ rw (lt-ltb a 33 h)
+
+  first-words : (q : ℕ) → q < 7 → word (started g w) head q ≡ getD (totals g) q 0
+  first-words q h =
+      let len = length₃ in
+      let e : q ≡ 0 + q = omega arith in
+      head-other l₅ 8 returned-count q (omega arith)
+      ∙ fill-beside head (λ k. 9 + k) (returned-type g) 4 0 l₄ q (λ m a e. omega arith)
+      ∙ ap (λ p. word l₄ head p) e ∙ run-word l₃ head 0 (totals g) (omega arith) (omega arith) q h
+
+  count-word : word (started g w) head 8 ≡ returned-count
+  count-word = let len = length₅ in head-same l₅ 8 returned-count (omega arith) (omega arith)
+
+  type-word : (k : ℕ) → k < 4 → word (started g w) head (9 + k) ≡ returned-type g k
+  type-word k h =
+      let len = length₄ in
+      head-other l₅ 8 returned-count (9 + k) (omega arith)
+      ∙ fill-there head (λ k. 9 + k) (returned-type g) (λ a b c e. omega arith) 4 0 l₄ (omega arith) k
+      (omega arith) (omega arith) (omega arith)
+
+-- ---- The whole.
+pub record ShowsStarted (g : Graph) (w w′ : List ℕ) : Type 0 where
+  pub state : ShowsState g w′ (initial-state g)
+  pub cell-total : word w′ head 4 ≡ 1
+  pub no-kinds : (q : ℕ) → q < 32 → word w′ kinds q ≡ 0
+  pub front : SameFront w w′
+
+pub initial-state-shown : {g : Graph} {w w′ : List ℕ} → Valid g → Stands w g → used ≤ length w → w′ ≡ started g w → ShowsStarted g w w′
+initial-state-shown {g} {w} valid stands room e =
+    let few = valid .count .1 in
+    let all = all-blocks valid in
+    let most = few-blocks valid (length (g .regions)) (omega arith) in
+    let len = started-length g w room in
+    let four = few-returned valid (first-return (g .regions)) in
+    let sized = returned-size g in
+    rw e
+    record {
+      state = record {
+        stands = stands-on (started-front g w room) stands;
+        tables = record {
+          size = omega arith;
+          region-total = first-words g w room 0 (omega arith);
+          node-total = first-words g w room 1 (omega arith) ∙ omega arith;
+          merge-total = first-words g w room 2 (omega arith);
+          output-total = first-words g w room 3 (omega arith);
+          attempts = first-words g w room 5 (omega arith);
+          twice = first-words g w room 6 (omega arith);
+          few-regions = omega arith;
+          few-nodes = omega arith;
+          few-merges = omega arith;
+          few-outputs = omega arith;
+          rewritten = record { entry = λ r h. no-entry (no-rewrite g w room r h); logged = λ r m. absurd (List·Memᴰ·not-nil m) };
+          outputs-shown = λ o h. absurd (omega arith);
+        };
+        named = record { below = λ r k a b d. absurd (d (no-rewrite g w room r a)) };
+        size = length-replicate (length (g .regions)) not-begun;
+        regions = λ r h. rw (all-not-begun (length (g .regions)) r) (is-not-begun (no-kind g w room r (omega arith)));
+        slots = record { slot-number = λ a. a; starts = own-slot g w room; below = λ a h. h; own = λ a b h i f. f };
+        returned = record {
+          size = count-word g w room ∙ sized;
+          types = λ k h. type-word g w room k (omega arith) ∙ returned-is g k (omega arith);
+        };
+      };
+      cell-total = first-words g w room 4 (omega arith);
+      no-kinds = no-kind g w room;
+      front = started-front g w room;
+    }
