@@ -34,9 +34,10 @@ extern "C" {
 #define RUKVETTA_MOST_BLOCKS 16
 #define RUKVETTA_MOST_BYTES 8192
 
-/* The lent words: the record stands in front, at most so many of them. */
+/* The lent words: the record stands in front, at most so many of them; behind them its index; then nesting's own. */
 #define RUKVETTA_WORDS 28672
 #define RUKVETTA_RECORD_WORDS 4048
+#define RUKVETTA_NESTING_FROM 4400
 
 /* What the program `nest` lends for a sheet. A few sheets are longer: then refusal 10, and more may be lent. */
 #define RUKVETTA_USUAL_LENT 16384
@@ -123,6 +124,8 @@ enum rukvetta_line {
     RUKVETTA_LINE_EXIT = 4,
     RUKVETTA_LINE_DEFER = 5
 };
+
+enum rukvetta_selection { RUKVETTA_ON_BOOLEAN = 0, RUKVETTA_ON_NUMBER = 1 };
 
 enum rukvetta_condition {
     RUKVETTA_ALWAYS = 1,

@@ -27,7 +27,7 @@ pub enum Refusal {
     Lent,
     /// 11: the figure exceeds 4,294,967,295.
     Figure,
-    /// 12: document 01 has it; it is proved never to come.
+    /// 12: document 01, the scope paper of the routine nester, has it; it is proved never to come.
     Claimed(u16),
 }
 
