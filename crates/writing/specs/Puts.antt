@@ -64,6 +64,21 @@ puts-none out at = record { end = omega arith; twice = sym (or-false (at .twice)
 pub puts-as : {out out′ : List ℕ} {at at′ : Place} {x y : Part} → Puts out at x out′ at′ → x ≡ y → Puts out at y out′ at′
 puts-as p e = rw e at p
 
+-- Where no word is lent, any words of that number.
+pub nothing-lent : {out out′ : List ℕ} {at at′ : Place} {x y : Part} → length out ≤ 0 → length (x .value) ≡ length (y .value)
+    → x .twice ≡ y .twice → Puts out at x out′ at′ → Puts out at y out′ at′
+nothing-lent {out} {at = at} {x = x} {y} none same met p =
+    record {
+      end = p .end ∙ rw same;
+      twice = p .twice ∙ rw met;
+      words = p .words ∙ stays (x .value) ∙ sym (stays (y .value));
+    }
+  where
+    stays : (xs : List ℕ) → written out (at .end) xs ≡ out
+    unfolding written
+    stays [] = refl
+    stays (x ∷ xs) = rw (stays xs) (set-out out (at .end - suc (length xs)) x (omega arith))
+
 -- ---- One word, stored or not.
 module _ (out : List ℕ) (at : Place) (x : ℕ) {e : ℕ} (before : e ≡ at .end - 1) where
   pub put-stored : Puts out at (plain (x ∷ [])) (set out e x) (record { end = e; twice = at .twice })

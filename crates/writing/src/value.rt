@@ -54,6 +54,10 @@ fn put_output(w: &[u16; WORDS], out: &mut [u32], at: Place, o: u16) -> Place
     ensures { λ a. ⌜ Puts (now (out .entry)) at (plain (words.«output-words» (now (w .entry)) o)) (now (out .exit)) a ⌝ }
 {
     let node = node_of(w, o);
+    // Where no word is lent its place among the node's need not be known.
+    if out.len() == 0 {
+        return put_three(out, at, 3, node, 0);
+    }
     let place = place_among(w, node, o);
     put_three(out, at, 3, node, place)
 }

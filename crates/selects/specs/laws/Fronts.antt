@@ -8,13 +8,13 @@ use Rattle.meaning.specs.Lists.{pick}
 use Rattle.meaning.specs.Graph.{Graph}
 use Rattle.state.specs.declared.defined.Defined.{Defined}
 use Rattle.state.specs.Sections.{word, stored, stored-all, children, set-starts, set-lengths, cases, bundles}
-use Rattle.state.specs.Tables.{case-total, bundle-at, find-by}
+use Rattle.state.specs.Tables.{edges-word, case-total, bundle-at, find-by}
 use Rattle.shown.specs.Front.{SameKinds, kinds-same, kinds-stored, kinds-run, kinds-then}
 use Rattle.lookups.specs.Materialized.{Merges, the-scrutinee, new-output, no-output, Materializes, made-true, made-false, made-undef}
 use Rattle.lookups.specs.Materialized.{made-merge, full-part, PartsMade, no-part, part-more}
 use Rattle.merging.specs.Turns.{front-turned}
 use Rattle.merging.specs.Rewriting.{rewrite-case, rewrite-cases, front-case}
-use Rattle.merging.specs.Targets.{plus, row-added, edges-added, summarize-bundle, summarize-set, summarize-case, deferred-targets}
+use Rattle.merging.specs.Targets.{longer, row-added, edges-added, summarize-bundle, summarize-set, summarize-case, deferred-targets}
 use Rattle.merging.specs.Planning.{planned, plan-at, plan-bundles, front-plan}
 use Rattle.state.specs.declared.defined.Made.{Made}
 use Rattle.selects.specs.declared.define.Scrutinee.{Scrutinee}
@@ -45,8 +45,8 @@ front-summary l p = go (eqb q 65535)
         let xs = word l bundles (7 * p + 0) ∷ word l bundles (7 * p + 1) ∷ 1 ∷ [] in
         let at = 7 * bundle-at (word l set-starts 32) n in
         kinds-then (kinds-run l bundles (omega arith) at xs) (kinds-stored (stored-all l bundles at xs) set-lengths (omega arith) 32
-        (plus n 1))
-    go false = kinds-stored l bundles (omega arith) (7 * q + 1) (plus (word l bundles (7 * q + 1)) (word l bundles (7 * p + 1)))
+        (longer n 1))
+    go false = kinds-stored l bundles (omega arith) (7 * q + 1) (edges-word (word l bundles (7 * q + 1) + word l bundles (7 * p + 1)))
 
 front-summaries : (l : List ℕ) (j : ℕ) → SameKinds l (summarize-case l j)
 unfolding summarize-set
