@@ -1,6 +1,7 @@
 // What a region's terminator makes of its targets, each claimed or deferred: children, and deferred edges. And a turn of the loop over
 // these, and the region when it is done.
 ghost use mathlib.Core.Path.{_≡_};
+ghost use Prim.Native.Nat.{_≤_};
 ghost use Rattle.record.specs.Stands.{OfRecord};
 ghost use Rattle.cfg.specs.ByInst as words;
 use crate::claim::find_backedge;

@@ -1,6 +1,5 @@
 // Reads a store from standard input and prints its sheet, or its refusal. It lends 16,384 words.
 use store::WORDS;
-use streams::Input;
 use streams::print;
 use streams::read_input;
 use streams::tell;
@@ -12,10 +11,11 @@ fn main() {
     let mut out = [0u32; 16384];
     let mut text = [0u8; 262144];
     let input = read_input(&mut bytes);
-    let Input::Bytes(n) = input else {
+    if input.failed {
         tell(b"nest: standard input cannot be read\n");
         return;
-    };
+    }
+    let n = input.size;
     let written = nest_text::print(&bytes[..n], &mut words, &mut out, &mut text);
     print(written, &text, b"nest: standard output cannot be written\n");
 }

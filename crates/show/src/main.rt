@@ -1,6 +1,5 @@
 // Reads a store from standard input and prints its refusal, or its record as text.
 use store::WORDS;
-use streams::Input;
 use streams::print;
 use streams::read_input;
 use streams::tell;
@@ -11,10 +10,11 @@ fn main() {
     let mut words = [0u16; WORDS];
     let mut out = io::large_buffer();
     let input = read_input(&mut bytes);
-    let Input::Bytes(n) = input else {
+    if input.failed {
         tell(b"show: standard input cannot be read\n");
         return;
-    };
+    }
+    let n = input.size;
     let written = show_text::show(&bytes[..n], &mut words, &mut out);
     print(written, &out, b"show: standard output cannot be written\n");
 }

@@ -1,35 +1,44 @@
 // Standard input to its end, and a text on standard output: for the programs alone. A program says on standard error what failed.
 ghost use mathlib.Core.Path.{_≡_};
 ghost use Rattle.text.specs.declared.Written.the-variants.{Full};
-ghost use Rattle.streams.specs.Inputs.{InFrontOf};
+ghost use Rattle.io.specs.Counts.{Counts};
 use libc::STDERR_FILENO;
 use libc::STDIN_FILENO;
 use libc::STDOUT_FILENO;
 use text::Written;
 
-// How many bytes were read, or that a read failed.
-pub enum Input {
-    Bytes(usize),
-    Failed,
+// How many bytes were read, and whether a read failed.
+pub struct Input {
+    pub size: usize,
+    pub failed: bool,
 }
 
 // Until the input ends, or the buffer is full.
 pub fn read_input(buffer: &mut [u8]) -> Input
-    ensures { λ r. ⌜ InFrontOf (now (buffer .exit)) r ⌝ }
+    ensures { λ r. ⌜ Counts (r .size) (now (buffer .exit)) ⌝ }
 {
     let mut at: usize = 0;
     while at < buffer.len() {
         let got = libc::read(STDIN_FILENO, &mut buffer[at..]);
         if got < 0 {
-            return Input::Failed;
+            return Input {
+                size: at,
+                failed: true,
+            };
         }
         let more = io::count(got, &buffer[at..]);
         if more == 0 {
-            return Input::Bytes(at);
+            return Input {
+                size: at,
+                failed: false,
+            };
         }
         at += more;
     }
-    Input::Bytes(at)
+    Input {
+        size: at,
+        failed: false,
+    }
 }
 
 // A line on standard error. Where that fails too, nobody can be told.

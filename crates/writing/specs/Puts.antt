@@ -67,6 +67,7 @@ puts-as p e = rw e at p
 -- Where no word is lent, any words of that number.
 pub nothing-lent : {out out′ : List ℕ} {at at′ : Place} {x y : Part} → length out ≤ 0 → length (x .value) ≡ length (y .value)
     → x .twice ≡ y .twice → Puts out at x out′ at′ → Puts out at y out′ at′
+unfolding written
 nothing-lent {out} {at = at} {x = x} {y} none same met p =
     record {
       end = p .end ∙ rw same;
@@ -75,7 +76,6 @@ nothing-lent {out} {at = at} {x = x} {y} none same met p =
     }
   where
     stays : (xs : List ℕ) → written out (at .end) xs ≡ out
-    unfolding written
     stays [] = refl
     stays (x ∷ xs) = rw (stays xs) (set-out out (at .end - suc (length xs)) x (omega arith))
 

@@ -12,7 +12,7 @@ use Rattle.meaning.specs.Graph.{Graph, Value, region}
 use Rattle.meaning.specs.Runs.{Nodes}
 use Rattle.meaning.specs.Lists.{is-in, All}
 use Rattle.format.specs.Valid.{Valid}
-use Rattle.nesting.specs.Nesting.{NestState, StepAnswer, done, DeferredEdgeBundleSet, DeferredTarget, to-region}
+use Rattle.nesting.specs.Nesting.{exit-targets, NestState, StepAnswer, done, DeferredEdgeBundleSet, DeferredTarget, to-region}
 use Rattle.nesting.specs.Nesting.{to-return, ClaimedRegion, claim-by-state, claim-body, claimed-as, backedge-of, get-edge-bundle-by-target}
 use Rattle.nesting.specs.Nesting.{StructurizeRegionState, not-begun, in-progress, claimed, ready, incoming-edge-counts}
 use Rattle.nesting.specs.steps.RegionsLeft.{state-of, with-state}
@@ -205,6 +205,7 @@ module _ (g : Graph) (valid : Valid g) (few : length (g .regions) ≤ 32) (bound
           → (word (as-claimed w r) backedges r ≡ 0 → ⊥) → (backedge-at (as-claimed w r) r ≡ 65535 → ⊥)
           → Finds (word (as-claimed w r) set-starts r) (to-region r) d (backedge-at (as-claimed w r) r)
           → ClaimShows g w w′ r inputs (claim-body g r inputs ks d (backedge-of r b d) taken) (claim-of m)
+      unfolding exit-targets
       loop-from x more there (none-found e q) = absurd (there e)
       loop-from {w′} {m} x more there (found i at l gets to before) =
           let e = getD d i no-bundle in

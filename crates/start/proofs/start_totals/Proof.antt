@@ -5,6 +5,12 @@ use Rattle.start.proofs.start_totals.Tie as tie
 region-count-requires : tie.Need-region-count-requires
 region-count-requires c κs = search needs
 
+blocks-before-requires : tie.Need-blocks-before-requires
+blocks-before-requires c κs = search needs
+
+held-requires : tie.Need-held-requires
+held-requires c κs = search needs
+
 slice-aggregate-put-all : tie.Need-slice-aggregate-put-all
 slice-aggregate-put-all c = search needs
 
@@ -12,8 +18,21 @@ put-all-requires : tie.Need-put-all-requires
 put-all-requires c κs = search needs
 
 returns : tie.Need-returns
-returns c = λ g s. rw (c .before .before .before .region-count .ensures g s) at (c .put-all .ensures)
+returns c =
+    let at-held = c .before .before .before in
+    let at-blocks-before = at-held .before in
+    let at-region-count = at-blocks-before .before .before in
+    λ g s.
+    rw (at-held .held .ensures, at-blocks-before .blocks-before .ensures .is g s, at-region-count .region-count .ensures g s)
+    at (c .put-all .ensures)
 
 pub start-totals-spec : {M : Type 1} → statement M
 start-totals-spec =
-    tie.close (tie.spec region-count-requires slice-aggregate-put-all put-all-requires returns)
+    tie.close
+    (tie.spec
+    region-count-requires
+    blocks-before-requires
+    held-requires
+    slice-aggregate-put-all
+    put-all-requires
+    returns)

@@ -2,7 +2,6 @@ use mathlib.Core.Path.{_≡_, refl}
 use Prim.Native.Nat.{_-_, _≤_}
 use native.Mathlib.Omega.{arith}
 use lib.ListN.{drop}
-use Rattle.meaning.specs.Graph.{region}
 use Rattle.meaning.specs.Lists.{is-in}
 use Rattle.record.specs.Stands.{OfRecord}
 use Rattle.nesting.specs.Nesting.{exit-targets}
@@ -21,12 +20,14 @@ exit-count-requires : tie.Need-exit-count-requires Inv-loop μ-loop
 exit-count-requires c κs = search needs
 
 loop-holds : tie.Need-loop-holds Inv-loop μ-loop
+unfolding exit-targets
 loop-holds c = ((λ g s. refl), omega arith)
 
 exit-target-requires : tie.Need-exit-target-requires Inv-loop μ-loop
 exit-target-requires c κs = search needs
 
 returns : tie.Need-returns Inv-loop μ-loop
+unfolding exit-targets
 returns c = λ g s. found-here _ _ (c .before .before .before .before .exit-count .ensures g s)
     (c .before .before .before .loop .inv .0 g s) (c .before .before .loop-test .taken) (c .before .exit-target .ensures g s)
     (c .if1 .taken)
@@ -38,6 +39,7 @@ loop-less : tie.Need-loop-less Inv-loop μ-loop
 loop-less c = omega arith
 
 loop-again : tie.Need-loop-again Inv-loop μ-loop
+unfolding exit-targets
 loop-again c = (
   (λ g s. found-later _ _ (c .before .before .before .before .exit-count .ensures g s) (c .before .before .before .loop .inv .0 g s)
       (c .before .before .loop-test .taken) (c .before .exit-target .ensures g s) (c .if1 .left)),
@@ -45,6 +47,7 @@ loop-again c = (
 )
 
 returns-2 : tie.Need-returns-2 Inv-loop μ-loop
+unfolding exit-targets
 returns-2 c = λ g s. found-nowhere _ _ (c .before .before .exit-count .ensures g s) (c .before .loop .inv .0 g s) (c .loop-test .left)
 
 pub is-exit-target-spec : {M : Type 1} → statement M
