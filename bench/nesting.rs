@@ -192,9 +192,9 @@ fn main() {
     }
     let times: Vec<Times> = stores.iter().map(|(number, store)| timed(*number, store, &mut words, &mut lent)).collect();
     if let Some(each) = each {
-        let mut lines = format!("regions\t{}\n", COLUMNS.join("\t"));
-        for Times { regions, took, .. } in &times {
-            lines += &format!("{regions}\t{}\n", took.map(|t| t.to_string()).join("\t"));
+        let mut lines = format!("store\tregions\t{}\n", COLUMNS.join("\t"));
+        for Times { number, regions, took } in &times {
+            lines += &format!("{number}\t{regions}\t{}\n", took.map(|t| t.to_string()).join("\t"));
         }
         std::fs::write(each, lines).unwrap_or_else(|_| fail("the file of times can't be written"));
     }
