@@ -11,8 +11,8 @@ use Rattle.state.specs.Tables.{attempted, taken-stored}
 use Rattle.state.specs.declared.defined.Made.the-variants as made
 use Rattle.cfg.specs.declared.claim.Claim.{Claim}
 use Rattle.cfg.specs.declared.claim.Claim.the-variants.{Claimed, Unclaimed, Refused}
-use Rattle.cfg.specs.declared.claims.Step.{Step}
-use Rattle.cfg.specs.declared.claims.Step.the-variants as step
+use Rattle.store.specs.declared.Checked.{Checked}
+use Rattle.store.specs.declared.Checked.the-variants as step
 use Rattle.cfg.specs.declared.claims.SplitOut.{SplitOut}
 use Rattle.cfg.specs.declared.claims.SplitOut.the-variants as split
 use Rattle.cfg.specs.ByState.{ClaimsByState, unclaimed-word}
@@ -45,33 +45,33 @@ mutual
     refused-inside : {w w′ : List ℕ} {r n number x : ℕ} → NotBegun (attempted w) r
         → StructurizesRegion g counts (attempted w) r w′ (step.Refused number x) → TriesClaim g counts w r n w′ (Refused number x)
     first-claim : {w w₁ w′ : List ℕ} {r n : ℕ} {a : Claim} → NotBegun (attempted w) r
-        → StructurizesRegion g counts (attempted w) r w₁ step.Done
+        → StructurizesRegion g counts (attempted w) r w₁ step.Right
         → ClaimsByState g w₁ r n (getD counts r 0) w′ a → TriesClaim g counts w r n w′ a
     later-claim : {w w′ : List ℕ} {r n : ℕ} {a : Claim} → r < 32 → (word (attempted w) kinds r ≡ 0 → ⊥)
         → ClaimsByState g (attempted w) r n (getD counts r 0) w′ a → TriesClaim g counts w r n w′ a
 
-  pub data StructurizesRegion (g : Graph) (counts : List ℕ) : List ℕ → ℕ → List ℕ → Step → Type 0 where
+  pub data StructurizesRegion (g : Graph) (counts : List ℕ) : List ℕ → ℕ → List ℕ → Checked → Type 0 where
     refused-at-targets : {w w′ : List ℕ} {r number x : ℕ} → TargetRegions g counts (stored w kinds r 1) r 0 w′ (step.Refused number x)
         → StructurizesRegion g counts w r w′ (step.Refused number x)
-    refused-at-inst : {w w₁ w′ : List ℕ} {r : ℕ} → TargetRegions g counts (stored w kinds r 1) r 0 w₁ step.Done
+    refused-at-inst : {w w₁ w′ : List ℕ} {r : ℕ} → TargetRegions g counts (stored w kinds r 1) r 0 w₁ step.Right
         → ByControlInst g w₁ r w′ made.Full → StructurizesRegion g counts w r w′ (step.Refused 9 0)
-    refused-at-edges : {w w₁ w₂ w′ : List ℕ} {r number x : ℕ} → TargetRegions g counts (stored w kinds r 1) r 0 w₁ step.Done
+    refused-at-edges : {w w₁ w₂ w′ : List ℕ} {r number x : ℕ} → TargetRegions g counts (stored w kinds r 1) r 0 w₁ step.Right
         → ByControlInst g w₁ r w₂ made.Done → ResolvesAll g counts w₂ r w′ (step.Refused number x)
         → StructurizesRegion g counts w r w′ (step.Refused number x)
-    structurized : {w w₁ w₂ w₃ w′ : List ℕ} {r : ℕ} → TargetRegions g counts (stored w kinds r 1) r 0 w₁ step.Done
-        → ByControlInst g w₁ r w₂ made.Done → ResolvesAll g counts w₂ r w₃ step.Done → w′ ≡ made-ready w₃ r
-        → StructurizesRegion g counts w r w′ step.Done
+    structurized : {w w₁ w₂ w₃ w′ : List ℕ} {r : ℕ} → TargetRegions g counts (stored w kinds r 1) r 0 w₁ step.Right
+        → ByControlInst g w₁ r w₂ made.Done → ResolvesAll g counts w₂ r w₃ step.Right → w′ ≡ made-ready w₃ r
+        → StructurizesRegion g counts w r w′ step.Right
 
   -- Region r's targets from place j on.
-  pub data TargetRegions (g : Graph) (counts : List ℕ) : List ℕ → ℕ → ℕ → List ℕ → Step → Type 0 where
-    no-target : {w w′ : List ℕ} {r j : ℕ} → target-count g r ≤ j → w′ ≡ w → TargetRegions g counts w r j w′ step.Done
+  pub data TargetRegions (g : Graph) (counts : List ℕ) : List ℕ → ℕ → ℕ → List ℕ → Checked → Type 0 where
+    no-target : {w w′ : List ℕ} {r j : ℕ} → target-count g r ≤ j → w′ ≡ w → TargetRegions g counts w r j w′ step.Right
     target-refused : {w w′ : List ℕ} {r j number x : ℕ} → j < target-count g r
         → TriesClaim g counts w (edge-of g r j .target) 1 w′ (Refused number x)
         → TargetRegions g counts w r j w′ (step.Refused number x)
-    target-claimed : {w w₁ w′ : List ℕ} {r j : ℕ} {a : Step} → j < target-count g r
+    target-claimed : {w w₁ w′ : List ℕ} {r j : ℕ} {a : Checked} → j < target-count g r
         → TriesClaim g counts w (edge-of g r j .target) 1 w₁ Claimed
         → TargetRegions g counts (taken-stored w₁ r j 2) r (suc j) w′ a → TargetRegions g counts w r j w′ a
-    target-waits : {w w₁ w′ : List ℕ} {r j : ℕ} {a : Step} → j < target-count g r
+    target-waits : {w w₁ w′ : List ℕ} {r j : ℕ} {a : Checked} → j < target-count g r
         → TriesClaim g counts w (edge-of g r j .target) 1 w₁ Unclaimed
         → TargetRegions g counts (taken-stored w₁ r j (unclaimed-word w₁ (edge-of g r j .target))) r (suc j) w′ a
         → TargetRegions g counts w r j w′ a
@@ -94,15 +94,15 @@ mutual
     splits-out : {w w′ : List ℕ} {r : ℕ} {a : SplitOut} → Scans g counts w r (word w set-lengths r) 0 w′ a → SplitsOut g counts w r w′ a
 
   -- At most `left` turns of the loop over region r's set.
-  pub data Resolves (g : Graph) (counts : List ℕ) : List ℕ → ℕ → ℕ → List ℕ → Step → Type 0 where
-    no-turn : {w w′ : List ℕ} {r : ℕ} → w′ ≡ w → Resolves g counts w r 0 w′ step.Done
-    nothing-claimed : {w w′ : List ℕ} {r left : ℕ} → SplitsOut g counts w r w′ split.Nothing → Resolves g counts w r (suc left) w′ step.Done
+  pub data Resolves (g : Graph) (counts : List ℕ) : List ℕ → ℕ → ℕ → List ℕ → Checked → Type 0 where
+    no-turn : {w w′ : List ℕ} {r : ℕ} → w′ ≡ w → Resolves g counts w r 0 w′ step.Right
+    nothing-claimed : {w w′ : List ℕ} {r left : ℕ} → SplitsOut g counts w r w′ split.Nothing → Resolves g counts w r (suc left) w′ step.Right
     claim-refused : {w w′ : List ℕ} {r left number x : ℕ} → SplitsOut g counts w r w′ (split.Refused number x)
         → Resolves g counts w r (suc left) w′ (step.Refused number x)
     select-refused : {w w₁ w′ : List ℕ} {r left i : ℕ} → SplitsOut g counts w r w₁ (split.At i) → ResolvesBy g w₁ r i w′ made.Full
         → Resolves g counts w r (suc left) w′ (step.Refused 9 0)
-    claims-and : {w w₁ w₂ w′ : List ℕ} {r left i : ℕ} {a : Step} → SplitsOut g counts w r w₁ (split.At i) → ResolvesBy g w₁ r i w₂ made.Done
+    claims-and : {w w₁ w₂ w′ : List ℕ} {r left i : ℕ} {a : Checked} → SplitsOut g counts w r w₁ (split.At i) → ResolvesBy g w₁ r i w₂ made.Done
         → Resolves g counts w₂ r left w′ a → Resolves g counts w r (suc left) w′ a
 
-  pub data ResolvesAll (g : Graph) (counts : List ℕ) : List ℕ → ℕ → List ℕ → Step → Type 0 where
-    resolves-all : {w w′ : List ℕ} {r : ℕ} {a : Step} → Resolves g counts w r (length (g .regions)) w′ a → ResolvesAll g counts w r w′ a
+  pub data ResolvesAll (g : Graph) (counts : List ℕ) : List ℕ → ℕ → List ℕ → Checked → Type 0 where
+    resolves-all : {w w′ : List ℕ} {r : ℕ} {a : Checked} → Resolves g counts w r (length (g .regions)) w′ a → ResolvesAll g counts w r w′ a

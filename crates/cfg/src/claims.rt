@@ -26,13 +26,8 @@ use state::sets::bundle_at;
 use state::sets::set_length;
 use state::sets::set_start;
 use state::sets::target;
+use store::Checked;
 use store::WORDS;
-
-// What a step of structurizing answers.
-pub enum Step {
-    Done,
-    Refused(u16, u16),
-}
 
 // Which bundle of a set the scan claimed.
 pub enum SplitOut {
@@ -42,7 +37,7 @@ pub enum SplitOut {
 }
 
 // Each target of region r is claimed, or its edge is deferred: the Rust's target_regions.
-fn target_regions(w: &mut [u16; WORDS], counts: [u32; 32], r: u16) -> Step
+fn target_regions(w: &mut [u16; WORDS], counts: [u32; 32], r: u16) -> Checked
     requires { ⌜ words.Stood (now w) ⌝ }
     ensures { λ a. ⌜ OfRecord (now (w .entry)) (λ g. words.TargetRegions g counts (now (w .entry)) r 0 (now (w .exit)) a) ⌝ }
 {
@@ -51,7 +46,7 @@ fn target_regions(w: &mut [u16; WORDS], counts: [u32; 32], r: u16) -> Step
     while j < n {
         let t = fields::target(w, r, j);
         match try_claim_edge_bundle(w, counts, t, ONE) {
-            Claim::Refused(number, word) => return Step::Refused(number, word),
+            Claim::Refused(number, word) => return Checked::Refused(number, word),
             Claim::Claimed => set_target_taken(w, r, j, TAKEN),
             Claim::Unclaimed => {
                 let x = unclaimed_edge(w, t);
@@ -60,7 +55,7 @@ fn target_regions(w: &mut [u16; WORDS], counts: [u32; 32], r: u16) -> Step
         }
         j += 1;
     }
-    Step::Done
+    Checked::Right
 }
 
 // A scan that stops at the first claim and hands it out; the others stay in order.
@@ -94,44 +89,44 @@ fn split_out_matching(w: &mut [u16; WORDS], counts: [u32; 32], r: u16) -> SplitO
 }
 
 // Until no deferred edge can be claimed. Each turn but the last claims a region.
-fn resolve_deferred(w: &mut [u16; WORDS], counts: [u32; 32], r: u16) -> Step
+fn resolve_deferred(w: &mut [u16; WORDS], counts: [u32; 32], r: u16) -> Checked
     requires { ⌜ words.Stood (now w) ⌝ }
     ensures { λ a. ⌜ OfRecord (now (w .entry)) (λ g. words.ResolvesAll g counts (now (w .entry)) r (now (w .exit)) a) ⌝ }
 {
     let mut left = fields::region_count(w);
     while 0 < left {
         match split_out_matching(w, counts, r) {
-            SplitOut::Nothing => return Step::Done,
-            SplitOut::Refused(number, word) => return Step::Refused(number, word),
+            SplitOut::Nothing => return Checked::Right,
+            SplitOut::Refused(number, word) => return Checked::Refused(number, word),
             SplitOut::At(i) => {
                 if let Made::Full = resolve_by(w, r, i) {
-                    return Step::Refused(9, 0);
+                    return Checked::Refused(9, 0);
                 }
             }
         }
         left -= 1;
     }
-    Step::Done
+    Checked::Right
 }
 
 // A region becomes Ready, with its children and what they defer.
-fn structurize_region(w: &mut [u16; WORDS], counts: [u32; 32], r: u16) -> Step
+fn structurize_region(w: &mut [u16; WORDS], counts: [u32; 32], r: u16) -> Checked
     requires { ⌜ words.NotBegun (now w) r ⌝ }
     requires { ⌜ words.Stood (now w) ⌝ }
     ensures { λ a. ⌜ OfRecord (now (w .entry)) (λ g. words.StructurizesRegion g counts (now (w .entry)) r (now (w .exit)) a) ⌝ }
 {
     set_region_state(w, r, IN_PROGRESS);
-    if let Step::Refused(number, word) = target_regions(w, counts, r) {
-        return Step::Refused(number, word);
+    if let Checked::Refused(number, word) = target_regions(w, counts, r) {
+        return Checked::Refused(number, word);
     }
     if let Made::Full = by_control_inst(w, r) {
-        return Step::Refused(9, 0);
+        return Checked::Refused(9, 0);
     }
-    if let Step::Refused(number, word) = resolve_deferred(w, counts, r) {
-        return Step::Refused(number, word);
+    if let Checked::Refused(number, word) = resolve_deferred(w, counts, r) {
+        return Checked::Refused(number, word);
     }
     make_ready(w, r);
-    Step::Done
+    Checked::Right
 }
 
 // A region is structurized when it is first observed.
@@ -150,7 +145,7 @@ pub fn try_claim_edge_bundle(
         return Claim::Refused(0, r);
     }
     if region_state(w, r) == NOT_BEGUN {
-        if let Step::Refused(number, word) = structurize_region(w, counts, r) {
+        if let Checked::Refused(number, word) = structurize_region(w, counts, r) {
             return Claim::Refused(number, word);
         }
     }

@@ -186,10 +186,10 @@ module _ {g : Graph} {w : List ℕ} {s : NestState} (c : Concluded g w s) (kind 
   by-set (e ∷ d) body b = by-target e d (e .target) refl body b
 
 -- Its words follow the answer of nesting.
-words-of : (g : Graph) (lent : ℕ) {x : Nested} → structurize-func g ≡ accepted x
+words-for : (g : Graph) (lent : ℕ) {x : Nested} → structurize-func g ≡ accepted x
     → record-words g lent ≡ words-if-figured lent (sheet-of g x)
 unfolding record-words
-words-of g lent e = ap (λ b. if-accepted b λ y. words-if-figured lent (sheet-of g y)) e
+words-for g lent e = ap (λ b. if-accepted b λ y. words-if-figured lent (sheet-of g y)) e
 
 no-figure : {g : Graph} {w : List ℕ} {s : NestState} {x : Nested} {n : ℕ} → ShowsAnswer g w s x n → (1 ≤ n → n ≤ 2 → ⊥)
     → sheet-of g x .figure ≡ 0
@@ -226,7 +226,7 @@ module _ {g : Graph} (valid : Valid g) {before w : List ℕ} where
         let none = no-figure (y .shows) d in
         let small : sheet-of g (y .nest) .figure ≤ 4294967295 = omega arith in
         record {
-          ends = rw (words-of g (lent out) (y .nests), figure-in (sheet-of g (y .nest)) small (lent out))
+          ends = rw (words-for g (lent out) (y .nests), figure-in (sheet-of g (y .nest)) small (lent out))
               (p g (y .state) (y .concluded) (y .nest) (y .shows) (sym none));
           front = front-of shown;
         }
@@ -235,7 +235,7 @@ module _ {g : Graph} (valid : Valid g) {before w : List ℕ} where
     nested-formed e low high p =
         let y = answered shown e (omega arith) in
         record {
-          ends = rw (words-of g (lent out) (y .nests)) (p g (y .state) (y .concluded) (y .nest) (y .shows) low high);
+          ends = rw (words-for g (lent out) (y .nests)) (p g (y .state) (y .concluded) (y .nest) (y .shows) low high);
           front = front-of shown;
         }
 

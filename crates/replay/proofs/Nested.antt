@@ -17,7 +17,7 @@ use Rattle.nester.specs.Answers.{Ends, ends-sheet, ends-refused}
 use Rattle.nest_text.specs.Prints.{Prints}
 use Rattle.vectors.specs.Parts.{behind, hex-bytes, line-and-answer, answer-of}
 use Rattle.vectors.specs.Same.{same-list}
-use Rattle.replay.specs.Sheets.{lent-words, put-over, words-left, words-of, listed-words, listed-text, is-nested}
+use Rattle.replay.specs.Sheets.{lent-words, put-over, words-left, words-from-bytes, listed-words, listed-text, is-nested}
 
 pub lent-length : length lent-words ≡ 16384
 unfolding lent-words
@@ -57,12 +57,12 @@ answer-within v = simp length-drop (omega arith)
 -- The first n of these bytes are those of the line of digits.
 module _ (store listed : List ℕ) {out′ : List ℕ} (left : out′ ≡ words-left lent-words (answer-words store 16384)) (bytes : List ℕ) (n : ℕ)
     (line : take n bytes ≡ hex-bytes (take (behind 10 listed) listed)) {lent : List ℕ} (as-lent : lent ≡ lent-words) {b : Bool}
-    (compared : b ≡ same-list out′ (put-over (words-of (take n bytes)) lent)) where
+    (compared : b ≡ same-list out′ (put-over (words-from-bytes (take n bytes)) lent)) where
   same-words : b ≡ same-list (words-left lent-words (answer-words store 16384)) (put-over (listed-words listed) lent-words)
   same-words =
       compared
-      ∙ ap (λ o. same-list o (put-over (words-of (take n bytes)) lent)) left
-      ∙ ap (λ l. same-list (words-left lent-words (answer-words store 16384)) (put-over (words-of l) lent)) line
+      ∙ ap (λ o. same-list o (put-over (words-from-bytes (take n bytes)) lent)) left
+      ∙ ap (λ l. same-list (words-left lent-words (answer-words store 16384)) (put-over (words-from-bytes l) lent)) line
       ∙ ap (λ l. same-list (words-left lent-words (answer-words store 16384)) (put-over (listed-words listed) l)) as-lent
 
   pub words-differ : b ≡ false → false ≡ is-nested store listed

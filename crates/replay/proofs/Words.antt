@@ -10,15 +10,15 @@ use lib.Seq.{drop-cons, getD-append-add, getD-drop, getD-take, length-take-le}
 use lib.Dec.{eqb}
 use borrow.Author.Tests.{eq-eqb, ne-eqb}
 use Rattle.vectors.specs.Same.{same-list}
-use Rattle.replay.specs.Sheets.{word-of, words-of, put-over}
+use Rattle.replay.specs.Sheets.{word-of, words-from-bytes, put-over}
 
 -- ---- four bytes to a word
 pub record Quarter (bs : List ℕ) : Type 0 where
-  pub few : 4 * length (words-of bs) ≤ length bs
-  pub all : length bs < 4 * length (words-of bs) + 4
+  pub few : 4 * length (words-from-bytes bs) ≤ length bs
+  pub all : length bs < 4 * length (words-from-bytes bs) + 4
 
 pub quarter : (bs : List ℕ) → Quarter bs
-unfolding words-of
+unfolding words-from-bytes
 quarter [] = record { few = omega arith; all = omega arith }
 quarter (a ∷ []) = record { few = omega arith; all = omega arith }
 quarter (a ∷ b ∷ []) = record { few = omega arith; all = omega arith }
@@ -27,8 +27,8 @@ quarter (a ∷ b ∷ c ∷ d ∷ bs) = let q = quarter bs in record { few = omeg
 
 -- The word at place i.
 pub word-at : (bs : List ℕ) (i : ℕ) → 4 * i + 3 < length bs
-    → getD (words-of bs) i 0 ≡ word-of (getD bs (4 * i) 0) (getD bs (4 * i + 1) 0) (getD bs (4 * i + 2) 0) (getD bs (4 * i + 3) 0)
-unfolding words-of
+    → getD (words-from-bytes bs) i 0 ≡ word-of (getD bs (4 * i) 0) (getD bs (4 * i + 1) 0) (getD bs (4 * i + 2) 0) (getD bs (4 * i + 3) 0)
+unfolding words-from-bytes
 word-at [] i h = absurd (omega arith)
 word-at (a ∷ []) i h = absurd (omega arith)
 word-at (a ∷ b ∷ []) i h = absurd (omega arith)
@@ -62,27 +62,27 @@ module _ (bytes lent : List ℕ) (n : ℕ) (within : n ≤ length bytes) where
   size : length (take n bytes) ≡ n
   size = length-take-le n bytes within
 
-  pub as-long : n ≤ 4 * length lent → length lent ≡ length (put-over (words-of (take n bytes)) lent)
+  pub as-long : n ≤ 4 * length lent → length lent ≡ length (put-over (words-from-bytes (take n bytes)) lent)
   as-long h =
       let q = quarter (take n bytes) in
       let s = size in
-      sym (put-over-length (words-of (take n bytes)) lent (omega arith))
+      sym (put-over-length (words-from-bytes (take n bytes)) lent (omega arith))
 
-  pub as-lent : (i : ℕ) → n / 4 ≤ i → getD lent i 0 ≡ getD (put-over (words-of (take n bytes)) lent) i 0
+  pub as-lent : (i : ℕ) → n / 4 ≤ i → getD lent i 0 ≡ getD (put-over (words-from-bytes (take n bytes)) lent) i 0
   as-lent i h =
       let q = quarter (take n bytes) in
       let s = size in
-      sym (put-over-rest (words-of (take n bytes)) lent i (omega arith))
+      sym (put-over-rest (words-from-bytes (take n bytes)) lent i (omega arith))
 
   pub as-listed : (i : ℕ) → i < n / 4 → {r : ℕ}
       → r ≡ word-of (getD bytes (4 * i) 0) (getD bytes (4 * i + 1) 0) (getD bytes (4 * i + 2) 0) (getD bytes (4 * i + 3) 0)
-      → r ≡ getD (put-over (words-of (take n bytes)) lent) i 0
+      → r ≡ getD (put-over (words-from-bytes (take n bytes)) lent) i 0
   as-listed i h is =
       let q = quarter (take n bytes) in
       let s = size in
       let front : (k : ℕ) → k < n → getD (take n bytes) k 0 ≡ getD bytes k 0 = λ k l. getD-take n bytes k 0 l in
       is
-      ∙ sym (put-over-front (words-of (take n bytes)) lent i (omega arith)
+      ∙ sym (put-over-front (words-from-bytes (take n bytes)) lent i (omega arith)
       ∙ word-at (take n bytes) i (omega arith)
       ∙ rw (front (4 * i) (omega arith), front (4 * i + 1) (omega arith), front (4 * i + 2) (omega arith), front (4 * i + 3) (omega arith)))
 

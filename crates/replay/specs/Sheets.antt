@@ -25,16 +25,16 @@ abbrev pub word-of : ℕ → ℕ → ℕ → ℕ → ℕ
 word-of a b c d = 16777216 * a + 65536 * b + 256 * c + d
 
 -- Four bytes to a word, the highest first; what stays over gives none.
-unfoldable pub words-of : List ℕ → List ℕ
-words-of [] = []
-words-of (a ∷ []) = []
-words-of (a ∷ b ∷ []) = []
-words-of (a ∷ b ∷ c ∷ []) = []
-words-of (a ∷ b ∷ c ∷ d ∷ bs) = word-of a b c d ∷ words-of bs
+unfoldable pub words-from-bytes : List ℕ → List ℕ
+words-from-bytes [] = []
+words-from-bytes (a ∷ []) = []
+words-from-bytes (a ∷ b ∷ []) = []
+words-from-bytes (a ∷ b ∷ c ∷ []) = []
+words-from-bytes (a ∷ b ∷ c ∷ d ∷ bs) = word-of a b c d ∷ words-from-bytes bs
 
 -- A listed answer: a line with the words, eight digits each, and behind it the text.
 abbrev pub listed-words : List ℕ → List ℕ
-listed-words listed = words-of (hex-bytes (take (behind 10 listed) listed))
+listed-words listed = words-from-bytes (hex-bytes (take (behind 10 listed) listed))
 
 abbrev pub listed-text : List ℕ → List ℕ
 listed-text listed = drop (behind 10 listed) listed

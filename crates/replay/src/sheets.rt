@@ -3,7 +3,7 @@ ghost use mathlib.Core.Path.{_≡_};
 ghost use Prim.Native.Nat.{_*_, _≤_, _<_};
 ghost use lib.ListN.{length, getD, take};
 ghost use Rattle.vectors.specs.Same.{same-list};
-ghost use Rattle.replay.specs.Sheets.{lent-words, word-of, words-of, put-over, is-nested};
+ghost use Rattle.replay.specs.Sheets.{lent-words, word-of, words-from-bytes, put-over, is-nested};
 use store::WORDS;
 use text::Written;
 use vectors::STORE;
@@ -29,7 +29,7 @@ fn word(a: u8, b: u8, c: u8, d: u8) -> u32
 // What has to stand at place i: a listed word, or what was lent.
 fn word_at(lent: &[u32], listed: &[u8], size: usize, i: usize) -> u32
     requires { ⌜ (size ≤ length (now listed)) × (i < length (now lent)) ⌝ }
-    ensures { λ r. ⌜ r ≡ getD (put-over (words-of (take size (now (listed .entry)))) (now (lent .entry))) i 0 ⌝ }
+    ensures { λ r. ⌜ r ≡ getD (put-over (words-from-bytes (take size (now (listed .entry)))) (now (lent .entry))) i 0 ⌝ }
 {
     if size / 4 <= i {
         return lent[i];
@@ -41,7 +41,7 @@ fn word_at(lent: &[u32], listed: &[u8], size: usize, i: usize) -> u32
 // Whether words are the listed ones, and behind them as lent.
 fn is_written(out: &[u32], lent: &[u32], listed: &[u8], size: usize) -> bool
     requires { ⌜ (length (now out) ≡ length (now lent)) × ((size ≤ length (now listed)) × (size ≤ 4 * length (now lent))) ⌝ }
-    ensures { λ r. ⌜ r ≡ same-list (now (out .entry)) (put-over (words-of (take size (now (listed .entry)))) (now (lent .entry))) ⌝ }
+    ensures { λ r. ⌜ r ≡ same-list (now (out .entry)) (put-over (words-from-bytes (take size (now (listed .entry)))) (now (lent .entry))) ⌝ }
 {
     let mut i: usize = 0;
     while i < out.len() {

@@ -14,7 +14,7 @@ use Rattle.nesting.specs.Nesting.{DeferredEdgeBundle, DeferredEdgeBundleSet, lo
 use Rattle.nesting.specs.Nesting.{LazyCond}
 use Rattle.nesting.specs.Sheet as sheet
 use Rattle.writing.specs.Puts.{Part, _⊕_}
-use Rattle.writing.specs.Parts.{most, words-of, region-words, nodes-words, each, output-nodes, look-up-at-end, nodes-part, region-part}
+use Rattle.writing.specs.Parts.{most, region-words, nodes-words, each, output-nodes, look-up-at-end, nodes-part, region-part}
 use Rattle.writing.specs.Parts.{defer-part}
 use Rattle.writing.specs.laws.PartLaws.{kids-looked-up}
 use Rattle.sheet.specs.Whole.{piece-words, defer-words, nested-lines}

@@ -5,7 +5,8 @@ use Rattle.meaning.specs.Lists.{concat, bit}
 use Rattle.meaning.specs.Graph.{Graph}
 use Rattle.nesting.specs.Nesting.{Nested, Piece, Outcome, untouched, whole, closed, leftover, DeferredEdgeBundle}
 use Rattle.nesting.specs.Sheet as sheet
-use Rattle.writing.specs.Parts.{words-of, region-words, nodes-words}
+use Rattle.nesting.specs.decoding.Lines.{words-of}
+use Rattle.writing.specs.Parts.{region-words, nodes-words}
 
 abbrev pub defer-words : List ℕ → ℕ → DeferredEdgeBundle → List ℕ
 defer-words nodes r e = words-of (sheet.defer-fields nodes r e)

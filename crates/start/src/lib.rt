@@ -48,7 +48,7 @@ fn start_slots(w: &mut [u16; WORDS])
 }
 
 // A record never has as many blocks as a word can say.
-fn held(n: u32) -> u16
+fn as_word(n: u32) -> u16
     ensures { λ a. ⌜ a ≡ min n 65535 ⌝ }
 {
     if n < 65535 {
@@ -62,7 +62,7 @@ fn start_totals(w: &mut [u16; WORDS])
     ensures { λ _. ⌜ OfRecord (now (w .entry)) (λ g. now (w .exit) ≡ words.counted g (now (w .entry))) ⌝ }
 {
     let regions = fields::region_count(w);
-    let blocks = held(fields::blocks_before(w, regions));
+    let blocks = as_word(fields::blocks_before(w, regions));
     let xs = [regions, blocks, 0, 0, 1, 0, 0];
     put_all(w, HEAD, HEAD_WORDS, 0, &xs);
 }

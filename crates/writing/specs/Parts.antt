@@ -12,6 +12,7 @@ use Rattle.nesting.specs.Nesting.{NestState, NodeOutput, LookUp, plain, _⊛_, 
 use Rattle.nesting.specs.Nesting.{look-up-cases, DeferredEdgeBundle, DeferredEdgeBundleSet, LazyCond, look-up-bundle, condition-in}
 use Rattle.nesting.specs.Sheet as sheet
 use Rattle.nesting.specs.lookups.ChainEnds.{ChainsEnd}
+use Rattle.nesting.specs.decoding.Lines.{words-of}
 use Rattle.shown.specs.States.{ShowsState}
 use Rattle.writing.specs.Puts.{Part}
 
@@ -29,9 +30,6 @@ OfState w P = (g : Graph) (s : NestState) → Concluded g w s → P g s
 -- larger has more words than can be lent.
 abbrev pub most : ℕ → ℕ
 most n = pick (leb n 4294967295) n 4294967295
-
-abbrev pub words-of : List sheet.Field → List ℕ
-words-of fs = concat (map (λ f. f .words) fs)
 
 -- `count` is what stands for the number of a region's children, `nodes` has the node of each output.
 module _ (count : ℕ → ℕ) (nodes : List ℕ) where

@@ -51,8 +51,8 @@ use Rattle.shown.specs.laws.RegionSteps.{state-stays, concerns-states, state-ne
 use Rattle.state.specs.declared.defined.Made.{Made}
 use Rattle.cfg.specs.declared.claim.Claim as code
 use Rattle.cfg.specs.declared.claim.Claim.the-variants.{Refused}
-use Rattle.cfg.specs.declared.claims.Step.{Step}
-use Rattle.cfg.specs.declared.claims.Step.the-variants as step
+use Rattle.store.specs.declared.Checked.{Checked}
+use Rattle.store.specs.declared.Checked.the-variants as step
 use Rattle.cfg.specs.declared.claims.SplitOut as split
 use Rattle.cfg.specs.declared.claims.SplitOut.the-variants as split-variants
 use Rattle.cfg.specs.ByState.{ClaimsByState, unclaimed-word, is-trivial}
@@ -432,7 +432,7 @@ module _ {g : Graph} {w w₁ : List ℕ} {r j : ℕ} {s₁ : NestState} (few : l
 
 -- No target left.
 targets-over : (g : Graph) (valid : Valid g) (fuel r j : ℕ) (s : NestState) {w : List ℕ} → ShowsState g w s
-    → TargetsShow g w w r j [] (target-regions g (try-claim-edge-bundle g (incoming-edge-counts g) fuel) [] s) step.Done
+    → TargetsShow g w w r j [] (target-regions g (try-claim-edge-bundle g (incoming-edge-counts g) fuel) [] s) step.Right
 unfolding target-regions
 targets-over g valid fuel r j s {w} shown =
     shows-targets refl shown refl (λ k b. absurd (omega arith))
@@ -494,14 +494,14 @@ module _ (g : Graph) (valid : Valid g) (parts : ShownParts g valid) (counts : Li
       → is-in r (K g valid .live) ≡ true → 1 ≤ n → length inputs ≡ length (region g r .inputs)
       → CanClaim g valid fuel H (λ q. edges-to q (to-region r) n) 1 s → ClaimShows g w w′ r inputs (defined fuel r n inputs s) a
 
-  abbrev TargetsFor : List ℕ → List ℕ → ℕ → ℕ → Step → Type 0
+  abbrev TargetsFor : List ℕ → List ℕ → ℕ → ℕ → Checked → Type 0
   TargetsFor w w′ r j a =
       (fuel : ℕ) (H : ℕ → ℕ) (s : NestState) → ShowsState g w s → cells-in-all w ≤ 641 → r < length (g .regions) → word w kinds r ≡ 1
       → AllLive (K g valid) (drop j (its-edges r)) → EdgesUsable g r (drop j (its-edges r))
       → CanClaim g valid fuel H (aims (K g valid) (drop j (its-edges r))) (length (drop j (its-edges r))) s
       → TargetsShow g w w′ r j (drop j (its-edges r)) (target-regions g (defined fuel) (drop j (its-edges r)) s) a
 
-  first-targets : {w w₁ : List ℕ} {r : ℕ} {a : Step} → TargetsFor (stored w kinds r 1) w₁ r 0 a → (fuel : ℕ) (H : ℕ → ℕ)
+  first-targets : {w w₁ : List ℕ} {r : ℕ} {a : Checked} → TargetsFor (stored w kinds r 1) w₁ r 0 a → (fuel : ℕ) (H : ℕ → ℕ)
       (s : NestState) → ShowsState g w s → cells-in-all w ≤ 641 → NotBegun w r → CanBegin g valid fuel H r s
       → TargetsShow g (stored w kinds r 1) w₁ r 0 (its-edges r)
       (target-regions g (defined fuel) (its-edges r) (with-state s r in-progress)) a
@@ -586,7 +586,7 @@ module _ (g : Graph) (valid : Valid g) (parts : ShownParts g valid) (counts : Li
         live many (kind-some r (st .regions r in-graph) old) after in
         claim-before v (λ x. absurd (not-occupied w r z x)) (omega arith) (begun-now g fuel r n inputs s fresh p) result
 
-    pub region-shown : {w w′ : List ℕ} {r : ℕ} {a : Step} → StructurizesRegion g counts w r w′ a → (fuel : ℕ) (H : ℕ → ℕ) (s : NestState)
+    pub region-shown : {w w′ : List ℕ} {r : ℕ} {a : Checked} → StructurizesRegion g counts w r w′ a → (fuel : ℕ) (H : ℕ → ℕ) (s : NestState)
         → ShowsState g w s → cells-in-all w ≤ 641 → NotBegun w r → CanBegin g valid fuel H r s
         → RegionShows g w w′ (structurize-region g (defined fuel) r s) a
     region-shown (refused-at-targets {number} {x} t) fuel H s shown room new can =
@@ -619,7 +619,7 @@ module _ (g : Graph) (valid : Valid g) (parts : ShownParts g valid) (counts : Li
         rw e (shows-ready {s′ = with-state s₃ r (ready (count-to r (z .deferred-edges)) (z .children) (z .deferred-edges))}
         (rw (p, q, f)) last unharmed (omega arith))
 
-    turns-from : {w w₂ w₃ : List ℕ} {r : ℕ} {a : Step} → ResolvesAll g counts w₂ r w₃ a → (fuel : ℕ) (H : ℕ → ℕ) (s : NestState)
+    turns-from : {w w₂ w₃ : List ℕ} {r : ℕ} {a : Checked} → ResolvesAll g counts w₂ r w₃ a → (fuel : ℕ) (H : ℕ → ℕ) (s : NestState)
         → ShowsState g w s → cells-in-all w ≤ 641 → NotBegun w r → (can : CanBegin g valid fuel H r s) → (cs : List MaybeClaimedRegion)
         (s₁ : NestState) → target-regions g (defined fuel) (its-edges r) (with-state s r in-progress) ≡ done cs s₁
         → Around g r (stored w kinds r 1) w₂ → (y : Body) (s₂ : NestState)
@@ -632,9 +632,9 @@ module _ (g : Graph) (valid : Valid g) (parts : ShownParts g valid) (counts : Li
         turns-shown t fuel s H y s₂ st (omega arith) (can .in-graph) (both .kinds-stay r (new .below) (inl busy) ∙ busy) body
         (can-turn g valid fuel H r s can cs s₁ p y s₂ q)
 
-    pub targets-shown : {w w′ : List ℕ} {r j : ℕ} {a : Step} → TargetRegions g counts w r j w′ a → TargetsFor w w′ r j a
+    pub targets-shown : {w w′ : List ℕ} {r j : ℕ} {a : Checked} → TargetRegions g counts w r j w′ a → TargetsFor w w′ r j a
     targets-shown {w} {w′} {r} {j} (no-target h e) fuel H s shown room in-graph busy live fit can =
-        subst (λ l. TargetsShow g w w′ r j l (target-regions g (defined fuel) l s) step.Done)
+        subst (λ l. TargetsShow g w w′ r j l (target-regions g (defined fuel) l s) step.Right)
         (sym (drop-of-length-le (its-edges r) {i = j} h))
         (rw e (targets-over g valid fuel r j s shown))
     targets-shown {w} {w′} {r} {j} {a} (target-refused {number} {x} h c) fuel H s shown room in-graph busy live fit can =
@@ -710,7 +710,7 @@ module _ (g : Graph) (valid : Valid g) (parts : ShownParts g valid) (counts : Li
         if-refused (bundle-claim r i (λ f h z v a b l n m x. claim-shown c f h z v a b l n m x) fuel H s d shown room own l can there) λ
         f. scan-refusal g valid fuel d i l s (there .is) f
 
-    pub turns-shown : {w w′ : List ℕ} {r n : ℕ} {a : Step} → Resolves g counts w r n w′ a → (fuel : ℕ) (s₀ : NestState) (H : ℕ → ℕ)
+    pub turns-shown : {w w′ : List ℕ} {r n : ℕ} {a : Checked} → Resolves g counts w r n w′ a → (fuel : ℕ) (s₀ : NestState) (H : ℕ → ℕ)
         (x : Body)
         (s : NestState) → ShowsState g w s → cells-in-all w ≤ 641 → r < length (g .regions) → word w kinds r ≡ 1 → ShowsBody g w r x
         → CanTurn g valid fuel s₀ r H x s → TurnsShow g w w′ r (resolve-deferred g (defined fuel) n x s) a

@@ -30,8 +30,8 @@ use Rattle.shown.specs.Sets.{no-bundle}
 use Rattle.shown.specs.States.{ShowsState, ShowsBody, ShowsClaimed, no-case}
 use Rattle.state.specs.declared.defined.Made.{Made}
 use Rattle.state.specs.declared.defined.Made.the-variants as made
-use Rattle.cfg.specs.declared.claims.Step.{Step}
-use Rattle.cfg.specs.declared.claims.Step.the-variants as step
+use Rattle.store.specs.declared.Checked.{Checked}
+use Rattle.store.specs.declared.Checked.the-variants as step
 use Rattle.cfg.specs.declared.claims.SplitOut as split
 use Rattle.cfg.specs.declared.claims.SplitOut.the-variants as split-variants
 use Rattle.shown.specs.laws.RegionSteps.{Concerns}
@@ -192,11 +192,11 @@ pub record NewlyClaimed (w : List ℕ) (cs : List MaybeClaimedRegion) : Type 0 w
   pub apart : (i j : ℕ) (c d : ClaimedRegion) → i < j → getD cs i no-case ≡ ok c → getD cs j no-case ≡ ok d → c .origin ≡ d .origin → ⊥
 
 -- The edges es of region r, from place j on.
-pub data TargetsShow (g : Graph) (w w′ : List ℕ) (r j : ℕ) (es : List Edge) (b : StepAnswer (List MaybeClaimedRegion)) : Step → Type 0 where
+pub data TargetsShow (g : Graph) (w w′ : List ℕ) (r j : ℕ) (es : List Edge) (b : StepAnswer (List MaybeClaimedRegion)) : Checked → Type 0 where
   shows-targets : {cs : List MaybeClaimedRegion} {s′ : NestState} → b ≡ done cs s′ → ShowsState g w′ s′ → length cs ≡ length es
       → ((k : ℕ) → k < length es → TakenAs g w′ r (j + k) (getD es k no-edge) (getD cs k no-case)) → NewlyClaimed w cs → Around g r w w′
       → ((k : ℕ) → k < j → taken-word w′ r k ≡ taken-word w r k) → cells-in-all w′ ≤ cells-in-all w
-      → TargetsShow g w w′ r j es b step.Done
+      → TargetsShow g w w′ r j es b step.Right
   refuses-targets : {m x : ℕ} → b ≡ turned-away m x → TargetsShow g w w′ r j es b (step.Refused m x)
 
 -- A step of region r's own that takes the claimed regions of these cases: what other regions have stays.
@@ -236,14 +236,14 @@ pub data ScanShows (g : Graph) (w w′ : List ℕ) (d : DeferredEdgeBundleSet) (
     refuses-scan : {m x : ℕ} → b ≡ turned-away m x → ScanShows g w w′ d b (split-variants.Refused m x)
 
 -- Turns over region r's set; and the region as a whole.
-pub data TurnsShow (g : Graph) (w w′ : List ℕ) (r : ℕ) (b : StepAnswer Body) : Step → Type 0 where
+pub data TurnsShow (g : Graph) (w w′ : List ℕ) (r : ℕ) (b : StepAnswer Body) : Checked → Type 0 where
   shows-turns : {x : Body} {s′ : NestState} → b ≡ done x s′ → ShowsState g w′ s′ → ShowsBody g w′ r x → Around g r w w′
-      → cells-in-all w′ ≤ cells-in-all w → TurnsShow g w w′ r b step.Done
+      → cells-in-all w′ ≤ cells-in-all w → TurnsShow g w w′ r b step.Right
   refuses-turns : {m x : ℕ} → b ≡ turned-away m x → TurnsShow g w w′ r b (step.Refused m x)
 
-pub data RegionShows (g : Graph) (w w′ : List ℕ) (b : StepAnswer Unit) : Step → Type 0 where
+pub data RegionShows (g : Graph) (w w′ : List ℕ) (b : StepAnswer Unit) : Checked → Type 0 where
   shows-ready : {s′ : NestState} → b ≡ done tt s′ → ShowsState g w′ s′ → Unharmed g w w′ → cells-in-all w′ ≤ cells-in-all w
-      → RegionShows g w w′ b step.Done
+      → RegionShows g w w′ b step.Right
   refuses-region : {m x : ℕ} → b ≡ turned-away m x → RegionShows g w w′ b (step.Refused m x)
 
 -- ---- Each taken apart by what the code answered.
@@ -261,7 +261,7 @@ module _ {g : Graph} {w w′ : List ℕ} {R : Type 0} where
       → (b ≡ turned-away m x → R) → R
   if-refused (shows-refused p) go = go p
 
-  pub if-targets : {r j : ℕ} {es : List Edge} {b : StepAnswer (List MaybeClaimedRegion)} → TargetsShow g w w′ r j es b step.Done
+  pub if-targets : {r j : ℕ} {es : List Edge} {b : StepAnswer (List MaybeClaimedRegion)} → TargetsShow g w w′ r j es b step.Right
       → ((cs : List MaybeClaimedRegion) (s′ : NestState) → b ≡ done cs s′ → ShowsState g w′ s′ → length cs ≡ length es
       → ((k : ℕ) → k < length es → TakenAs g w′ r (j + k) (getD es k no-edge) (getD cs k no-case)) → NewlyClaimed w cs → Around g r w w′
       → cells-in-all w′ ≤ cells-in-all w → R) → R
@@ -287,7 +287,7 @@ module _ {g : Graph} {w w′ : List ℕ} {R : Type 0} where
       → Unharmed g w w′ → cells-in-all w′ + 4 ≤ cells-in-all w → R) → R
   if-split (shows-split {t} {y} {s′} p st l z o to cl origin many free u k) go = go t y s′ p st l z o to cl origin many free u k
 
-  pub if-turns : {r : ℕ} {b : StepAnswer Body} → TurnsShow g w w′ r b step.Done
+  pub if-turns : {r : ℕ} {b : StepAnswer Body} → TurnsShow g w w′ r b step.Right
       → ((x : Body) (s′ : NestState) → b ≡ done x s′ → ShowsState g w′ s′ → ShowsBody g w′ r x → Around g r w w′
       → cells-in-all w′ ≤ cells-in-all w → R) → R
   if-turns (shows-turns {x} {s′} p st b ar k) go = go x s′ p st b ar k
@@ -295,6 +295,6 @@ module _ {g : Graph} {w w′ : List ℕ} {R : Type 0} where
   pub if-turns-refused : {r m x : ℕ} {b : StepAnswer Body} → TurnsShow g w w′ r b (step.Refused m x) → (b ≡ turned-away m x → R) → R
   if-turns-refused (refuses-turns p) go = go p
 
-  pub if-ready : {b : StepAnswer Unit} → RegionShows g w w′ b step.Done
+  pub if-ready : {b : StepAnswer Unit} → RegionShows g w w′ b step.Right
       → ((s′ : NestState) → b ≡ done tt s′ → ShowsState g w′ s′ → Unharmed g w w′ → cells-in-all w′ ≤ cells-in-all w → R) → R
   if-ready (shows-ready {s′} p st u k) go = go s′ p st u k

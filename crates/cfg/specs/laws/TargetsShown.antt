@@ -30,7 +30,7 @@ use Rattle.state.specs.Tables.{taken-stored, taken-word}
 use Rattle.shown.specs.States.{no-case}
 use Rattle.shown.specs.Kept.{claimed-stays}
 use Rattle.shown.specs.laws.RegionSteps.{Concerns, taken-concerns, word-there, word-apart}
-use Rattle.cfg.specs.declared.claims.Step.{Step}
+use Rattle.store.specs.declared.Checked.{Checked}
 use Rattle.cfg.specs.laws.Shows.{Occupied, NewlyClaimed, Around, around-then, concerns-around, cells-in-all, owed-stays}
 use Rattle.cfg.specs.laws.Shows.{world, K, CanClaim, TakenAs, was-claimed}
 use Rattle.cfg.specs.laws.Shows.{was-deferred, was-nothing, TargetsShow, shows-targets, refuses-targets}
@@ -131,7 +131,7 @@ module _ (g : Graph) (valid : Valid g) (fuel : ℕ) where
     -- The others, put behind the first.
     pub targets-more : {w′ : List ℕ} (e : Edge) (es : List Edge) (s s₁ : NestState) → j < 8 → (o : Option ClaimedRegion)
         (c : MaybeClaimedRegion) → claim (e .target) 1 (e .inputs) s ≡ done o s₁
-        → edge-case e o s₁ ≡ done c s₁ → TakenAs g w₂ r j e c → FirstNew w w₂ c → cells-in-all w₁ ≤ cells-in-all w → {a : Step}
+        → edge-case e o s₁ ≡ done c s₁ → TakenAs g w₂ r j e c → FirstNew w w₂ c → cells-in-all w₁ ≤ cells-in-all w → {a : Checked}
         → TargetsShow g w₂ w′ r (suc j) es (target-regions g claim es s₁) a
         → TargetsShow g w w′ r j (e ∷ es) (target-regions g claim (e ∷ es) s) a
     unfolding target-regions

@@ -16,8 +16,8 @@ use Rattle.state.specs.declared.defined.Made.{Made}
 use Rattle.state.specs.declared.defined.Made.the-variants as made
 use Rattle.cfg.specs.declared.claim.Claim.{Claim}
 use Rattle.cfg.specs.declared.claim.Claim.the-variants.{Claimed, Unclaimed, Refused}
-use Rattle.cfg.specs.declared.claims.Step.{Step}
-use Rattle.cfg.specs.declared.claims.Step.the-variants as step
+use Rattle.store.specs.declared.Checked.{Checked}
+use Rattle.store.specs.declared.Checked.the-variants as step
 use Rattle.cfg.specs.declared.claims.SplitOut.{SplitOut}
 use Rattle.cfg.specs.declared.claims.SplitOut.the-variants as split
 use Rattle.cfg.specs.ByState.{ClaimsByState, unclaimed-word}
@@ -39,7 +39,7 @@ stood-on y s =
 -- ---- Target regions.
 pub record TargetsPassed (counts w₀ : List ℕ) (r : ℕ) (w : List ℕ) (j : ℕ) : Type 0 where
   pub steady : SteadyRecord w₀ w
-  pub more : (g : Graph) → Stands w₀ g → {w′ : List ℕ} {a : Step} → TargetRegions g counts w r j w′ a → TargetRegions g counts w₀ r 0 w′ a
+  pub more : (g : Graph) → Stands w₀ g → {w′ : List ℕ} {a : Checked} → TargetRegions g counts w r j w′ a → TargetRegions g counts w₀ r 0 w′ a
 
 pub targets-none : (counts w : List ℕ) (r : ℕ) → TargetsPassed counts w r w 0
 targets-none counts w r = record { steady = steady-same w; more = λ g st t. t }
@@ -49,7 +49,7 @@ module _ {counts w₀ : List ℕ} {r : ℕ} {w : List ℕ} {j n : ℕ} (passed :
   on : {g : Graph} → Stands w₀ g → Stands w g
   on st = stands-on (passed .steady .front) st
 
-  pub targets-over : n ≤ j → (g : Graph) → Stands w₀ g → TargetRegions g counts w₀ r 0 w step.Done
+  pub targets-over : n ≤ j → (g : Graph) → Stands w₀ g → TargetRegions g counts w₀ r 0 w step.Right
   targets-over h g st = passed .more g st (no-target (rw (size g st) at h) refl)
 
   module _ (more : j < n) {t : ℕ} (target : (g : Graph) → Stands w g → t ≡ edge-of g r j .target) {w₁ : List ℕ} {a : Claim}
@@ -143,7 +143,7 @@ module _ {counts w₀ : List ℕ} {r n : ℕ} {w : List ℕ} {i : ℕ} {found : 
 -- ---- Turns over the deferred edges.
 pub record TurnsPassed (counts w₀ : List ℕ) (r : ℕ) (w : List ℕ) (turns : ℕ) : Type 0 where
   pub steady : SteadyRecord w₀ w
-  pub more : (g : Graph) → Stands w₀ g → {w′ : List ℕ} {a : Step} → Resolves g counts w r turns w′ a → ResolvesAll g counts w₀ r w′ a
+  pub more : (g : Graph) → Stands w₀ g → {w′ : List ℕ} {a : Checked} → Resolves g counts w r turns w′ a → ResolvesAll g counts w₀ r w′ a
 
 pub turns-none : (counts w : List ℕ) (r n : ℕ) → ((g : Graph) → Stands w g → n ≡ length (g .regions)) → TurnsPassed counts w r w n
 turns-none counts w r n size =
@@ -153,18 +153,18 @@ module _ {counts w₀ : List ℕ} {r : ℕ} {w : List ℕ} {turns : ℕ} (passed
   turn-on : {g : Graph} → Stands w₀ g → Stands w g
   turn-on st = stands-on (passed .steady .front) st
 
-  pub turns-over : turns ≤ 0 → (g : Graph) → Stands w₀ g → ResolvesAll g counts w₀ r w step.Done
+  pub turns-over : turns ≤ 0 → (g : Graph) → Stands w₀ g → ResolvesAll g counts w₀ r w step.Right
   turns-over h g st = let e : turns ≡ 0 = omega arith in passed .more g st (rw e (no-turn refl))
 
   module _ (some : 0 < turns) {w₁ : List ℕ} {a : SplitOut} (scan : (g : Graph) → Stands w g → SplitsOut g counts w r w₁ a) where
     one-more : suc (turns - 1) ≡ turns
     one-more = omega arith
 
-    turned : (g : Graph) → Stands w₀ g → {w′ : List ℕ} {b : Step} → Resolves g counts w r (suc (turns - 1)) w′ b
+    turned : (g : Graph) → Stands w₀ g → {w′ : List ℕ} {b : Checked} → Resolves g counts w r (suc (turns - 1)) w′ b
         → ResolvesAll g counts w₀ r w′ b
     turned g st x = passed .more g st (rw one-more at x)
 
-    pub turn-nothing : a ≡ split.Nothing → (g : Graph) → Stands w₀ g → ResolvesAll g counts w₀ r w₁ step.Done
+    pub turn-nothing : a ≡ split.Nothing → (g : Graph) → Stands w₀ g → ResolvesAll g counts w₀ r w₁ step.Right
     turn-nothing e g st = turned g st (nothing-claimed (rw e at (scan g (turn-on st))))
 
     pub turn-refused : {m x : ℕ} → a ≡ split.Refused m x → (g : Graph) → Stands w₀ g → ResolvesAll g counts w₀ r w₁ (step.Refused m x)
@@ -193,7 +193,7 @@ begun-less {w} {r} s b e = rw e (begins-less w r (part-length (start kinds) (siz
 pub begun-steady : {w w₁ : List ℕ} (r : ℕ) → w₁ ≡ stored w kinds r 1 → SteadyRecord w w₁
 begun-steady {w} r e = rw e (steady-kind w r 1 (λ z. absurd (omega arith)))
 
-module _ {counts w w₁ : List ℕ} {r : ℕ} (begun : w₁ ≡ stored w kinds r 1) {w₂ : List ℕ} {a : Step}
+module _ {counts w w₁ : List ℕ} {r : ℕ} (begun : w₁ ≡ stored w kinds r 1) {w₂ : List ℕ} {a : Checked}
     (targets : (g : Graph) → Stands w₁ g → TargetRegions g counts w₁ r 0 w₂ a) where
   first-on : {g : Graph} → Stands w g → Stands w₁ g
   first-on st = stands-on (begun-steady r begun .front) st
@@ -204,7 +204,7 @@ module _ {counts w w₁ : List ℕ} {r : ℕ} (begun : w₁ ≡ stored w kinds r
   pub region-refused : {m x : ℕ} → a ≡ step.Refused m x → (g : Graph) → Stands w g → StructurizesRegion g counts w r w₂ (step.Refused m x)
   region-refused e g st = refused-at-targets (rw e at (its-targets st))
 
-  module _ (taken : a ≡ step.Done) {w₃ : List ℕ} {b : Made} (inst : (g : Graph) → Stands w₂ g → ByControlInst g w₂ r w₃ b) where
+  module _ (taken : a ≡ step.Right) {w₃ : List ℕ} {b : Made} (inst : (g : Graph) → Stands w₂ g → ByControlInst g w₂ r w₃ b) where
     second-on : {g : Graph} → Stands w g → Stands w₂ g
     second-on {g} st = stands-on (steady-targets (targets g (first-on st)) (first-on st) .front) (first-on st)
 
@@ -216,7 +216,7 @@ module _ {counts w w₁ : List ℕ} {r : ℕ} (begun : w₁ ≡ stored w kinds r
         steady-then (steady-targets (targets (s .graph) (first-on (s .stands))) (first-on (s .stands)))
         (steady-of (inst-kinds (inst (s .graph) (second-on (s .stands)))))
 
-    module _ (made-so : b ≡ made.Done) {w₄ : List ℕ} {d : Step} (rest : (g : Graph) → Stands w₃ g → ResolvesAll g counts w₃ r w₄ d) where
+    module _ (made-so : b ≡ made.Done) {w₄ : List ℕ} {d : Checked} (rest : (g : Graph) → Stands w₃ g → ResolvesAll g counts w₃ r w₄ d) where
       third-on : {g : Graph} → Stands w g → Stands w₃ g
       third-on {g} st = stands-on (inst-kinds (inst g (second-on st)) .front) (second-on st)
 
@@ -225,8 +225,8 @@ module _ {counts w w₁ : List ℕ} {r : ℕ} (begun : w₁ ≡ stored w kinds r
       region-refused-late e g st =
           refused-at-edges (rw taken at (its-targets st)) (rw made-so at (inst g (second-on st))) (rw e at (rest g (third-on st)))
 
-      pub region-done : d ≡ step.Done → {w₅ : List ℕ} → w₅ ≡ made-ready w₄ r → (g : Graph) → Stands w g → StructurizesRegion g counts w r w₅
-          step.Done
+      pub region-done : d ≡ step.Right → {w₅ : List ℕ} → w₅ ≡ made-ready w₄ r → (g : Graph) → Stands w g → StructurizesRegion g counts w r w₅
+          step.Right
       region-done e s g st =
           structurized (rw taken at (its-targets st)) (rw made-so at (inst g (second-on st))) (rw e at (rest g (third-on st))) s
 
@@ -250,12 +250,12 @@ module _ {counts w w₁ : List ℕ} {r : ℕ} (n : ℕ) (counted : w₁ ≡ atte
         (rw (i, same, counted) at (c g (rw same (stands-on (attempted-on counted .front) st))))
 
     module _ (new : state ≡ 0) where
-      module _ {w₂ : List ℕ} {a : Step} (inside : (g : Graph) → Stands w₁ g → StructurizesRegion g counts w₁ r w₂ a) where
+      module _ {w₂ : List ℕ} {a : Checked} (inside : (g : Graph) → Stands w₁ g → StructurizesRegion g counts w₁ r w₂ a) where
         pub claim-inside : {m x : ℕ} → a ≡ step.Refused m x → (g : Graph) → Stands w g → TriesClaim g counts w r n w₂ (Refused m x)
         claim-inside e g st = refused-inside (rw counted at (not-begun-yet below of-state new))
             (rw (e, counted) at (inside g (stands-on (attempted-on counted .front) st)))
 
-        pub claim-first : a ≡ step.Done → {m : ℕ} → m ≡ getD counts r 0 → {w₃ : List ℕ} → w₃ ≡ w₂ → {w₄ : List ℕ} {b : Claim}
+        pub claim-first : a ≡ step.Right → {m : ℕ} → m ≡ getD counts r 0 → {w₃ : List ℕ} → w₃ ≡ w₂ → {w₄ : List ℕ} {b : Claim}
             → ((g : Graph) → Stands w₃ g → ClaimsByState g w₃ r n m w₄ b) → (g : Graph) → Stands w g → TriesClaim g counts w r n w₄ b
         claim-first e i same c g st =
             let s = inside g (stands-on (attempted-on counted .front) st) in

@@ -23,8 +23,8 @@ use Rattle.state.specs.Sections.{word, kinds}
 use Rattle.shown.specs.Kept.{body-stays}
 use Rattle.shown.specs.States.{ShowsBody}
 use Rattle.state.specs.declared.defined.Made.the-variants as made
-use Rattle.cfg.specs.declared.claims.Step.{Step}
-use Rattle.cfg.specs.declared.claims.Step.the-variants as step
+use Rattle.store.specs.declared.Checked.{Checked}
+use Rattle.store.specs.declared.Checked.the-variants as step
 use Rattle.cfg.specs.declared.claims.SplitOut.the-variants as split-variants
 use Rattle.cfg.specs.laws.Shows.{Unharmed, Around, around-then, unharmed-around, cells-in-all, world, K, BodyShows, refuses-body}
 use Rattle.cfg.specs.laws.Shows.{ScanShows, shows-nothing, refuses-scan, TurnsShow, shows-turns, refuses-turns}
@@ -102,7 +102,7 @@ module _ (g : Graph) (valid : Valid g) (fuel : ℕ) where
   module _ (r n : ℕ) (x : Body) (s : NestState) {w : List ℕ} (busy : word w kinds r ≡ 1) (below : r < 32) where
     pub turns-nothing : ShowsBody g w r x → {w′ : List ℕ}
         → ScanShows g w w′ (x .deferred-edges) (split-out-matching g claim [] (x .deferred-edges) s) split-variants.Nothing
-        → TurnsShow g w w′ r (turns (suc n) x s) step.Done
+        → TurnsShow g w w′ r (turns (suc n) x s) step.Right
     unfolding resolve-deferred
     turns-nothing b (shows-nothing {s′} p st u c) =
         shows-turns {x = x} {s′ = s′} (rw p) st (body-stays (u .later) (u .regions-stay r below (inl busy)) b) (unharmed-around r u) c
@@ -126,7 +126,7 @@ module _ (g : Graph) (valid : Valid g) (fuel : ℕ) where
       turns-full (refuses-body q) = refuses-turns {m = 9} {x = 0} (rw (p, q))
 
       pub turns-again : {w₂ w′ : List ℕ} (x′ : Body) (s₂ : NestState) → selected ≡ done x′ s₂ → Around g r w w₂
-          → cells-in-all w₂ ≤ cells-in-all w₁ + 4 → {a : Step} → TurnsShow g w₂ w′ r (turns n x′ s₂) a
+          → cells-in-all w₂ ≤ cells-in-all w₁ + 4 → {a : Checked} → TurnsShow g w₂ w′ r (turns n x′ s₂) a
           → TurnsShow g w w′ r (turns (suc n) x s) a
       unfolding resolve-deferred
       turns-again x′ s₂ q ar k (shows-turns {x = z} {s′} f st b ar₂ k₂) =

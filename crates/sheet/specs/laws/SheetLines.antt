@@ -10,7 +10,8 @@ use Rattle.meaning.specs.facts.Elements.{concat-append}
 use Rattle.nesting.specs.Nesting.{Nested, Piece, Outcome, untouched, whole, closed, leftover, DeferredEdgeBundle}
 use Rattle.nesting.specs.Sheet as sheet
 use Rattle.nesting.specs.Sheet.{Field}
-use Rattle.writing.specs.Parts.{words-of, region-words, select-words, loop-words, node-words, nodes-words, cases-words}
+use Rattle.nesting.specs.decoding.Lines.{words-of}
+use Rattle.writing.specs.Parts.{region-words, select-words, loop-words, node-words, nodes-words, cases-words}
 use Rattle.writing.specs.laws.PartLaws.{numbers-words}
 use Rattle.sheet.specs.Whole.{piece-words, defer-words, nested-lines, head-words, nested-words}
 

@@ -8,8 +8,8 @@ region-count-requires c κs = search needs
 blocks-before-requires : tie.Need-blocks-before-requires
 blocks-before-requires c κs = search needs
 
-held-requires : tie.Need-held-requires
-held-requires c κs = search needs
+as-word-requires : tie.Need-as-word-requires
+as-word-requires c κs = search needs
 
 slice-aggregate-put-all : tie.Need-slice-aggregate-put-all
 slice-aggregate-put-all c = search needs
@@ -19,11 +19,11 @@ put-all-requires c κs = search needs
 
 returns : tie.Need-returns
 returns c =
-    let at-held = c .before .before .before in
-    let at-blocks-before = at-held .before in
+    let at-as-word = c .before .before .before in
+    let at-blocks-before = at-as-word .before in
     let at-region-count = at-blocks-before .before .before in
     λ g s.
-    rw (at-held .held .ensures, at-blocks-before .blocks-before .ensures .is g s, at-region-count .region-count .ensures g s)
+    rw (at-as-word .as-word .ensures, at-blocks-before .blocks-before .ensures .is g s, at-region-count .region-count .ensures g s)
     at (c .put-all .ensures)
 
 pub start-totals-spec : {M : Type 1} → statement M
@@ -32,7 +32,7 @@ start-totals-spec =
     (tie.spec
     region-count-requires
     blocks-before-requires
-    held-requires
+    as-word-requires
     slice-aggregate-put-all
     put-all-requires
     returns)

@@ -3,7 +3,7 @@ use Prim.Native.Nat.{_-_, _≤_}
 use native.Mathlib.Omega.{arith}
 use lib.ListN.{length, take, drop}
 use Rattle.vectors.specs.Same.{same-list}
-use Rattle.replay.specs.Sheets.{words-of, put-over}
+use Rattle.replay.specs.Sheets.{words-from-bytes, put-over}
 use Rattle.replay.proofs.Words.{as-long, differs-here, same-here, same-to-end}
 use borrow.Author.Needs.{needs}
 use Rattle.replay.proofs.sheets.is_written.Statement.{statement}
@@ -12,8 +12,8 @@ use Rattle.replay.proofs.sheets.is_written.Tie as tie
 abbrev Inv-loop : tie.InvT-loop
 Inv-loop out lent listed size i₀ i =
     (i ≤ length out)
-    × (same-list (drop i out) (drop i (put-over (words-of (take size listed)) lent))
-    ≡ same-list out (put-over (words-of (take size listed)) lent))
+    × (same-list (drop i out) (drop i (put-over (words-from-bytes (take size listed)) lent))
+    ≡ same-list out (put-over (words-from-bytes (take size listed)) lent))
 
 abbrev μ-loop : tie.MeasureT-loop
 μ-loop out lent listed size i₀ i = length out - i
