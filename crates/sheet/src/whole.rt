@@ -79,7 +79,7 @@ fn measure(w: &[u16; WORDS], outcome: u16, figure: u32) -> usize
     ensures { λ a. ⌜ written.Measures (now (w .entry)) outcome figure a ⌝ }
 {
     let mut nowhere = [0u32; 1];
-    let begin = put_sheet(w, &mut nowhere, FAR, outcome, figure);
+    let begin = put_sheet(w, &mut nowhere[..0], FAR, outcome, figure);
     words_put(begin)
 }
 

@@ -3,6 +3,9 @@ use borrow.Author.Needs.{needs}
 use Rattle.sheet.proofs.whole.measure.Statement.{statement}
 use Rattle.sheet.proofs.whole.measure.Tie as tie
 
+array-borrow-prefix-nowhere : tie.Need-array-borrow-prefix-nowhere
+array-borrow-prefix-nowhere c = search needs
+
 slice-aggregate-put-sheet : tie.Need-slice-aggregate-put-sheet
 slice-aggregate-put-sheet c = search needs
 
@@ -17,4 +20,5 @@ returns c = measured _ _ _ (c .before .before .put-sheet .ensures) (c .words-put
 
 pub measure-spec : {M : Type 1} → statement M
 measure-spec =
-    tie.close (tie.spec slice-aggregate-put-sheet put-sheet-requires words-put-requires returns)
+    tie.close
+    (tie.spec array-borrow-prefix-nowhere slice-aggregate-put-sheet put-sheet-requires words-put-requires returns)
