@@ -14,7 +14,7 @@ use Rattle.state.specs.Sections.{word, stored, bundles, set-starts, set-lengths
 use Rattle.record.specs.Stands.{OfRecord}
 use Rattle.nesting.specs.Nesting.{exit-targets}
 use Rattle.state.specs.Tables.{bundle-at, edges-word}
-use Rattle.state.specs.Edges.{edges-sum}
+use Rattle.state.specs.laws.Edges.{edges-sum}
 use Rattle.shown.specs.Front.{SameKinds, stands-kept, kinds-same, kinds-stored, kinds-then}
 
 -- Of loop r, in bundle p.

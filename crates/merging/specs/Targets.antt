@@ -7,7 +7,7 @@ use borrow.Author.Tests.{eq-eqb, ne-eqb}
 use Rattle.meaning.specs.Lists.{pick}
 use Rattle.state.specs.Sections.{word, stored, stored-all, set-starts, set-lengths, cases, bundles}
 use Rattle.state.specs.Tables.{edges-word, find-by, bundle-at, case-total}
-use Rattle.state.specs.Edges.{edges-fit, edges-sum}
+use Rattle.state.specs.laws.Edges.{edges-fit, edges-sum}
 use Rattle.merging.specs.Turns.{turned, turn-last}
 
 -- The length of a set with k bundles more.

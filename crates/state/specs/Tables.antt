@@ -10,7 +10,7 @@ use Rattle.state.specs.declared.cases.Case.{Case}
 use Rattle.state.specs.Sections.{word, stored, stored-all, head, cells, rewrites, bundles, set-starts, set-lengths, cases, levels}
 use Rattle.state.specs.Sections.{outputs, conditions}
 use Rattle.meaning.specs.Lists.{pick}
-use Rattle.state.specs.Limits.{most-merges, most-outputs}
+use Rattle.nesting.specs.Nesting.{most-merges, most-outputs}
 
 -- A handle, or 0 where it names no earlier cell; a condition, or true where it names no earlier one.
 unfoldable pub earlier : ℕ → ℕ → ℕ

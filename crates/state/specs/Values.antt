@@ -6,7 +6,7 @@ use Rattle.meaning.specs.Lists.{pick}
 use Rattle.fields.specs.declared.shape.Value.{Value}
 use Rattle.fields.specs.declared.shape.Value.the-variants.{Const, Input, Instr, Bool as Truth, Undef, Nothing}
 use Rattle.state.specs.declared.values.Parts.{Parts}
-use Rattle.state.specs.Limits.{most-regions, most-outputs}
+use Rattle.nesting.specs.Nesting.{most-regions, most-outputs}
 
 unfoldable pub is-input : ℕ → Bool
 is-input v = pick (ltb v 1024) false (ltb v 1536)

@@ -1,3 +1,4 @@
 pub mod Stored
 pub mod Finds
 pub mod Apart
+pub mod Edges

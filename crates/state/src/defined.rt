@@ -1,7 +1,7 @@
 // Totals of all that was ever defined, each with document 01's limit: the first beyond is refused with 9. Attempts and twice.
 ghost use mathlib.Core.Path.{_≡_};
 ghost use Prim.Native.Nat.{_+_, _*_, _≤_};
-ghost use Rattle.state.specs.Limits as limits;
+ghost use Rattle.nesting.specs.Nesting as limits;
 ghost use Rattle.state.specs.Sections as sections;
 ghost use Rattle.state.specs.Tables as tables;
 use crate::sections::HEAD;

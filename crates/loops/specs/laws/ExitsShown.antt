@@ -15,7 +15,7 @@ use Rattle.nesting.specs.Nesting.{DeferredTarget, to-region, to-return, Deferre
 use Rattle.nesting.specs.Nesting.{exit-targets}
 use Rattle.state.specs.Sections.{used, start, size, word, stored, bundles, set-starts, set-lengths}
 use Rattle.state.specs.Tables.{bundle-at, edges-word}
-use Rattle.state.specs.Edges.{edges-fit}
+use Rattle.state.specs.laws.Edges.{edges-fit}
 use Rattle.shown.specs.laws.Stores.{ChangesOnly, nothing-changes, changes-then}
 use Rattle.shown.specs.Sets.{ShowsTarget, shows-region, shows-return, ShowsBundle, ShowsSet, no-bundle}
 use Rattle.shown.specs.States.{Slots, ShowsOwnSet}

@@ -16,7 +16,7 @@ use Rattle.nesting.specs.Nesting as nesting
 use Rattle.nesting.specs.Nesting.{DeferredTarget, to-return, DeferredEdgeBundle, DeferredEdgeBundleSet, same-target}
 use Rattle.nesting.specs.Nesting.{NestState, DeferredTargetSummary, MaybeClaimedRegion, deferred-of}
 use Rattle.state.specs.Sections.{start, size, used, section, word, stored, stored-all, set-starts, set-lengths, cases, bundles}
-use Rattle.state.specs.Edges.{edges-fit}
+use Rattle.state.specs.laws.Edges.{edges-fit}
 use Rattle.state.specs.Tables.{find-by, bundle-at}
 use Rattle.state.specs.laws.Apart.{section-other}
 use Rattle.shown.specs.laws.Stores.{section-run, run-length, part-length}

@@ -2,7 +2,7 @@ use borrow.Author.Needs.{needs}
 use Rattle.cfg.proofs.inst.make_ready.Statement.{statement}
 use Rattle.cfg.proofs.inst.make_ready.Tie as tie
 use mathlib.Core.Path.{_∙_}
-use Rattle.state.specs.Edges.{edges-fit}
+use Rattle.state.specs.laws.Edges.{edges-fit}
 
 backedges-deferred-requires : tie.Need-backedges-deferred-requires
 backedges-deferred-requires c κs = search needs
