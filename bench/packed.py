@@ -23,7 +23,7 @@ def stores(names):
         try:
             yield from chains() if name == "chains" else (store for store, _ in read_vectors(name))
         except (OSError, ValueError) as error:
-            print(f"{name} is no vector file: {error}", file=sys.stderr)
+            print(f"{name} is no vector file: {getattr(error, 'strerror', None) or error}", file=sys.stderr)
             sys.exit(2)
 
 

@@ -11,6 +11,11 @@ import sys
 BLOCK = re.compile(r"(<!-- measured: (\w+) -->\n).*?(<!-- end -->\n)", re.DOTALL)
 
 
+def refuse(sentence):
+    print(f"page.py: {sentence}", file=sys.stderr)
+    sys.exit(2)
+
+
 def main(folder, page):
     def block(found):
         text = (pathlib.Path(folder) / f"{found[2]}.txt").read_text(encoding="utf-8")
@@ -22,5 +27,10 @@ def main(folder, page):
 
 if __name__ == "__main__":
     if len(sys.argv) != 3:
-        sys.exit("usage: page.py FOLDER PAGE")
-    main(*sys.argv[1:])
+        refuse("usage: page.py FOLDER PAGE")
+    try:
+        main(*sys.argv[1:])
+    except OSError as error:
+        refuse(f"{error.filename}: {error.strerror}")
+    except UnicodeDecodeError:
+        refuse("the page, or what was measured, is no text in UTF-8")

@@ -5,7 +5,7 @@
  * does. "Document 01" is the scope paper of the routine nester: it fixes store,
  * record, refusals and sheet. docs/REFUSALS.md says what to do about a refusal.
  *
- * Memory. A routine uses what it is lent, and a stack of bounded depth (README.md
+ * Memory. A routine uses what it is lent, and a stack of finite depth (README.md
  * has what was measured). It takes no heap, keeps nothing between calls, and has no
  * memory of its own: calls with different lent memory may run at the same time, in
  * any thread. Nothing lent is kept after the call. Of the C library it needs memset.
@@ -68,7 +68,7 @@ enum rukvetta_refusal {
     RUKVETTA_LENGTH = 1,        /* the store's length is 0, over 8,192 or no multiple of 512; 0 */
     RUKVETTA_BLOCK_NUMBER = 2,  /* a block has another number than its place; the block */
     RUKVETTA_CHECK = 3,         /* a block's check is wrong; the block */
-    RUKVETTA_WORD_COUNT = 4,    /* W is 0, or not as many words as the record or the blocks have; 0 */
+    RUKVETTA_WORD_COUNT = 4,    /* W is 0, or not as many words as record or blocks have, or a word after W is not 0; 0 */
     RUKVETTA_RANGE = 5,         /* a count, type, kind or limit is out of range; the region, 0 before the first */
     RUKVETTA_REFERENCE = 6,     /* a region, constant or value that names nothing allowed; the region */
     RUKVETTA_TYPE = 7,          /* a value of another type, or values of another number; the region */
@@ -142,8 +142,8 @@ enum rukvetta_condition {
  * are the record's words. Else a refusal 1 to 8: number * 65,536 + word.
  *
  * After a refusal by the store (1 to 3, and 4 for W, the number of blocks or a word behind W) the lent words are as
- * they were. After another the store's W words stand in front, and of the others only words[4048] to words[4399] may
- * have changed; after an answer of 0 too.
+ * they were. After another the store's W words stand in front, and of the others only words[RUKVETTA_RECORD_WORDS] to
+ * words[RUKVETTA_NESTING_FROM - 1] may have changed; after an answer of 0 too.
  */
 uint32_t rukvetta_accept(const uint8_t *bytes, size_t length, uint16_t *words);
 
@@ -151,9 +151,9 @@ uint32_t rukvetta_accept(const uint8_t *bytes, size_t length, uint16_t *words);
  * Nests the record of a store. Below 2^32: the number n of the sheet's words, which now are out[0] to out[n - 1];
  * out[n] to out[lent - 1] are as lent. Else a refusal 1 to 11: number * 2^32 + word, and all of out is as lent.
  *
- * The record stands in front of `words` after every answer but a refusal 1 to 8, where they are as rukvetta_accept
- * leaves them. Behind the record's words and their index, from words[4400] on, the words are nesting's own and may
- * hold anything. Refusal 10 comes last: a store that is refused with it has a sheet if more words are lent.
+ * After a refusal 1 to 8 all of `words` is as rukvetta_accept leaves it. After any other answer the words before
+ * words[RUKVETTA_NESTING_FROM] are, the record in front; from there on the words are nesting's own and may hold
+ * anything. Refusal 10 comes last: a store that is refused with it has a sheet if more words are lent.
  */
 uint64_t rukvetta_nest(const uint8_t *bytes, size_t length, uint16_t *words, uint32_t *out, size_t lent);
 

@@ -24,6 +24,11 @@ def chosen():
             number += 1
 
 
+def refuse(sentence):
+    print(f"interface/stores.py: {sentence}", file=sys.stderr)
+    sys.exit(2)
+
+
 def main(folder):
     for number, store in enumerate(chosen()):
         (folder / f"{number:03}.store").write_bytes(store)
@@ -31,5 +36,8 @@ def main(folder):
 
 if __name__ == "__main__":
     if len(sys.argv) != 2 or not pathlib.Path(sys.argv[1]).is_dir():
-        sys.exit(__doc__)
-    main(pathlib.Path(sys.argv[1]))
+        refuse("usage: python3 interface/stores.py FOLDER, an existing folder")
+    try:
+        main(pathlib.Path(sys.argv[1]))
+    except OSError as error:
+        refuse(f"{error.filename}: {error.strerror}")

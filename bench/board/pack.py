@@ -10,6 +10,11 @@ sys.path.insert(0, str(ROOT / "bench"))
 from packed import packed, stores       # noqa: E402  (found by the line above)
 
 
+def refuse(sentence):
+    print(f"pack.py: {sentence}", file=sys.stderr)
+    sys.exit(2)
+
+
 def main(out, *files):
     lists = [b""]
     for store in [(ROOT / "crates/show/stdin").read_bytes(), *stores(["chains", *files])]:
@@ -23,5 +28,10 @@ def main(out, *files):
 
 if __name__ == "__main__":
     if len(sys.argv) < 3:
-        sys.exit("usage: pack.py OUT VECTORS..")
-    main(*sys.argv[1:])
+        refuse("usage: pack.py OUT VECTORS..")
+    if not pathlib.Path(sys.argv[1]).is_dir():
+        refuse(f"{sys.argv[1]} is no folder")
+    try:
+        main(*sys.argv[1:])
+    except OSError as error:
+        refuse(f"{error.filename}: {error.strerror}")

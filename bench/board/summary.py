@@ -7,11 +7,15 @@ import sys
 
 CALLS = "accept", "nesting", "whole"
 OTHER = 256     # bytes for the caller's own frame, and for an interrupt's
+CHAINS = 4      # lines of case A and the chains
+COUNTS = {"--room": 2, "--budget": 3}
 
 
 class Line:
     def __init__(self, text):
         numbers = [int(word) for word in text.split()]
+        if len(numbers) != 9:
+            raise ValueError
         self.sheet, self.stack, self.took = numbers[2], numbers[3:6], numbers[6:9]
 
 
@@ -39,9 +43,32 @@ def budget(lines, state, board, words):
           f"{fit:,} of the {sum(line.sheet > 0 for line in lines):,} that have a sheet")
 
 
-def main(what, *given):
-    lines = [Line(text) for text in sys.stdin]
-    numbers = [int(word) for word in given]
+def refuse(sentence):
+    print(f"summary.py: {sentence}", file=sys.stderr)
+    sys.exit(2)
+
+
+def read_lines():
+    """What main.c printed; a sentence and status 2 where it is something else."""
+    try:
+        lines = [Line(text) for text in sys.stdin]
+    except OSError as error:
+        refuse(f"standard input: {error.strerror}")
+    except ValueError:
+        lines = []
+    if len(lines) < CHAINS:
+        refuse("standard input is not what main.c prints: a line for case A, one for each chain, and so on")
+    return lines
+
+
+def main(what="", *given):
+    if not what or len(given) != COUNTS.get(what, 0) or (what.startswith("-") and what not in COUNTS):
+        refuse("usage: summary.py NAME, or --room STATE BOARD, or --budget STATE BOARD WORDS")
+    try:
+        numbers = [int(word) for word in given]
+    except ValueError:
+        refuse(f"{' '.join(given)} are not all numbers")
+    lines = read_lines()
     if what == "--room":
         state, board = numbers
         print((board - state - deepest(lines) - OTHER) // 4)

@@ -31,7 +31,7 @@ def rust(source, stores, *options):
     told = subprocess.run([TOOL, *options, source], input=given, capture_output=True, text=True)
     if told.returncode:
         print(told.stderr, end="", file=sys.stderr)
-        sys.exit(3)
+        sys.exit(2 if told.returncode == 2 else 3)
     answers, answer = [], None
     for line in told.stdout.splitlines(keepends=True):
         if answer is None:

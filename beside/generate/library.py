@@ -3,34 +3,65 @@
 import ctypes
 import pathlib
 import random
+import re
 import shutil
 import subprocess
+import sys
 
 ROOT = pathlib.Path(__file__).resolve().parents[2]
-LENT, STATE, INDEX = 16384, 28672, range(4048, 4400)
+HEADER = ROOT / "interface" / "rukvetta.h"
 
 
 class Missing(Exception):
-    """Something that is needed is not there; its text is the sentence to print."""
+    """Something that is needed is not there; its text is the sentence to print. Status 2 where the command names it."""
+    status = 3
+
+
+class NoLibrary(Missing):
+    """A folder that was named has not our library."""
+    status = 2
+
+
+def numbers(header):
+    """How many words are lent for a sheet and for the state, where the record ends and where its index does, by a header."""
+    try:
+        found = dict(re.findall(r"^#define RUKVETTA_(\w+) (\d+)$", header.read_text(encoding="latin-1"), re.MULTILINE))
+        return [int(found[name]) for name in ("USUAL_LENT", "WORDS", "RECORD_WORDS", "NESTING_FROM")]
+    except OSError as error:
+        raise Missing(f"{header}: {error.strerror}") from None
+    except KeyError as missing:
+        raise Missing(f"{header} has no number RUKVETTA_{missing.args[0]}") from None
+
+
+try:
+    LENT, STATE, *ENDS = numbers(HEADER)
+except Missing as missing:
+    print(missing, file=sys.stderr)
+    sys.exit(3)
+INDEX = range(*ENDS)
 
 
 def linked(folder, into):
     """The library of a folder, or the one that interface/build makes, linked to a file in `into`."""
+    wrong = Missing if folder is None else NoLibrary
     if folder is None:
         folder = ROOT / "target" / "interface"
         if subprocess.run([ROOT / "interface" / "build"], stdout=subprocess.DEVNULL).returncode:
             raise Missing("interface/build could not build the library")
     archive, path = pathlib.Path(folder) / "librukvetta.a", into / "librukvetta.so"
     if not archive.is_file():
-        raise Missing(f"{archive} is not there: interface/build makes it")
+        raise wrong(f"{archive} is not there: interface/build makes it")
+    beside = archive.with_name("rukvetta.h")
+    if beside.is_file() and numbers(beside) != numbers(HEADER):
+        raise wrong(f"{beside} has other numbers than interface/rukvetta.h: the library is of another version")
     if not shutil.which("cc"):
         raise Missing("this needs a C compiler (cc) to link the library for Python; Debian: gcc")
     done = subprocess.run(["cc", "-shared", "-o", path, "-Wl,--whole-archive", archive, "-Wl,--no-whole-archive"],
                           capture_output=True, text=True)
     if done.returncode:
-        raise Missing(f"cc could not link {archive}: {done.stderr.strip()}")
+        raise wrong(f"cc could not link {archive}: {done.stderr.strip()}")
     if not hasattr(ctypes.CDLL(str(path)), "rukvetta_nest"):
-        raise Missing(f"{archive} has no rukvetta_nest")
+        raise wrong(f"{archive} has no rukvetta_nest")
     return path
 
 

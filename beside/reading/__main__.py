@@ -14,6 +14,11 @@ from .sheet import accepted, nest, printed, words
 from .store import Refused
 
 
+def refuse(sentence):
+    print(f"reading: {sentence}", file=sys.stderr)
+    sys.exit(2)
+
+
 def shown(store):
     try:
         return show(accepted(store)[0])
@@ -29,13 +34,17 @@ def in_words(store):
 
 
 def vectors(answer):
+    found = False
     for line in sys.stdin:
         if line.startswith("store"):
+            found = True
             try:
                 store = bytes.fromhex(line.removeprefix("store").strip())
             except ValueError:
-                sys.exit(f"a store that is not hexadecimal: {line[:60].strip()}")
+                refuse(f"a store that is not hexadecimal: {line[:60].strip()}")
             sys.stdout.write(f"store {store.hex()}\n{answer(store)}.\n")
+    if not found:
+        refuse("no line begins with `store`: this is no vector file")
 
 
 def main(asked):
@@ -51,4 +60,9 @@ def main(asked):
     return 0
 
 
-sys.exit(main(sys.argv[1:]))
+try:
+    sys.exit(main(sys.argv[1:]))
+except OSError as error:
+    refuse(f"standard input or output: {error.strerror}")
+except UnicodeDecodeError:
+    refuse("a vector file is plain text, and this is not")

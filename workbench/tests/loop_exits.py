@@ -18,4 +18,7 @@ def main():
 
 
 if __name__ == "__main__":
+    if sys.argv[1:]:
+        print("loop_exits.py: it takes standard input alone", file=sys.stderr)
+        sys.exit(2)
     main()

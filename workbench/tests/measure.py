@@ -13,6 +13,8 @@ import time
 from .random_records import damaged_store, random_store
 from .support import WORKBENCH
 
+from rukvetta.needs import MISSING
+
 CHECK = os.path.join(WORKBENCH, "check-catalogue")
 
 
@@ -37,7 +39,7 @@ def timed(folder):
 
 
 def main():
-    if not sys.argv[1:] or not all(word.isdecimal() for word in sys.argv[1:]):
+    if not sys.argv[1:] or not all(word.isdecimal() and int(word[:9]) for word in sys.argv[1:]):
         print("usage: /usr/bin/python3 -m tests.measure NUMBER..., in the folder of the workbench", file=sys.stderr)
         raise SystemExit(2)
     for count in map(int, sys.argv[1:]):
@@ -45,7 +47,8 @@ def main():
             for number, store in enumerate(stores(count)):
                 with open(os.path.join(folder, f"r{number:05d}.store"), "wb") as file:
                     file.write(store)
-            subprocess.run([CHECK, folder, "--write"], stdout=subprocess.DEVNULL, check=False)
+            if subprocess.run([CHECK, folder, "--write"], stdout=subprocess.DEVNULL, check=False).returncode == MISSING:
+                raise SystemExit(MISSING)       # check-catalogue has said what
             said, seconds, work, size = timed(folder)
             print(f"{count} stores: {said}, {seconds:.1f} s, {work:.1f} s of processor time, {size:.1f} MB", flush=True)
 

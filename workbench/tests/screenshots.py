@@ -1,12 +1,14 @@
 """Makes the pictures of the docs: /usr/bin/python3 -m tests.screenshots, in the folder of the workbench."""
 
 import os
+import sys
 import tempfile
 
-from .browser import Browser
+from .browser import Browser, missing
 from .support import WORKBENCH
 from .test_report import catalogue_texts
 
+from rukvetta.needs import MISSING, USAGE
 from rukvetta.page import routine_page
 from rukvetta.record import record_words
 from rukvetta.routine import load
@@ -14,7 +16,16 @@ from rukvetta.routine import load
 PICTURES = ("sweep-markers", False), ("ramp-nested", True), ("trigger-chase", False)
 
 
+def refuse(sentence, status):
+    print(f"screenshots: {sentence}", file=sys.stderr)
+    raise SystemExit(status)
+
+
 def main():
+    if sys.argv[1:]:
+        refuse("usage: /usr/bin/python3 -m tests.screenshots, with nothing behind it", USAGE)
+    if missing():
+        refuse(missing(), MISSING)
     look = Browser(1400, 2000)       # tall, so that no picture has to be scrolled
     with tempfile.TemporaryDirectory() as folder:
         for name, dark in PICTURES:

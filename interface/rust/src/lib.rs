@@ -17,11 +17,11 @@ mod sheet;
 pub use refusal::Refusal;
 pub use sheet::{Outcome, Sheet};
 
-/// How many words of 16 bits a [`State`] holds.
-pub const WORDS: usize = 28_672;
+/// How many words of 16 bits a [`State`] holds: as many as the library's own header says.
+pub const WORDS: usize = include!(concat!(env!("OUT_DIR"), "/WORDS"));
 
 /// How many words of 32 bits the program `nest` lends for a sheet. A few sheets are longer.
-pub const USUAL_LENT: usize = 16_384;
+pub const USUAL_LENT: usize = include!(concat!(env!("OUT_DIR"), "/USUAL_LENT"));
 
 /// What [`nest`] answers: the sheet, which stands in front of the lent words, or a refusal, and the lent words are as they were.
 pub type Answer<'a> = Result<Sheet<'a>, Refusal>;
