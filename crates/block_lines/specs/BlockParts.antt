@@ -11,7 +11,8 @@ use Rattle.meaning.specs.Runs.{block, exit}
 use Rattle.nesting.specs.Nesting.{NestState, plain, look-up-node, look-up-reads, blocks-from}
 use Rattle.nesting.specs.Sheet as sheet
 use Rattle.writing.specs.declared.place.Place.{Place}
-use Rattle.writing.specs.Puts.{Part, _⊕_, Puts, puts-as}
+use Rattle.writing.specs.Puts.{Part, Puts}
+use Rattle.writing.specs.laws.PutsLaws.{_⊕_, puts-as}
 use Rattle.writing.specs.laws.Rows.{run, run-all}
 use Rattle.writing.specs.Parts.{output-nodes, look-up-at-end, values-part, node-part, nodes-part, node-words}
 use Rattle.meaning.specs.facts.Numbers.{one-further}

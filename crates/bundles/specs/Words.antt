@@ -7,6 +7,7 @@ use lib.Dec.{ltb, eqb}
 use Rattle.meaning.specs.Graph.{Graph, Value, const, input, instr, output, bool, undef, held, no-value, region, edges-of}
 use Rattle.meaning.specs.Lists.{pick}
 use Rattle.fields.specs.ByNumber.{end-values, edge-of}
+use Rattle.fields.specs.Words.{value-item}
 use Rattle.state.specs.declared.cases.Case.{Case}
 use Rattle.state.specs.Sections.{word, stored, stored-all, head, children, bodies, set-starts, set-lengths, cases, bundles}
 use Rattle.state.specs.Tables.{bundle-at, own-edge, input-word, taken-word, case-words, bundle-copied, shift-removed}
@@ -41,6 +42,15 @@ padded-by n vs k = pick (ltb k n) (record-word (getD vs k no-value)) 66
 abbrev pub padded : List Value → List ℕ
 padded vs =
     let word-at : ℕ → ℕ = λ k. padded-by (length vs) vs k in
+    word-at 0 ∷ word-at 1 ∷ word-at 2 ∷ word-at 3 ∷ []
+
+-- The same of the values that are listed at place p.
+unfoldable pub listed-word : List ℕ → ℕ → ℕ → ℕ → ℕ
+listed-word l p n k = pick (ltb k n) (record-word (value-item l p k)) 66
+
+abbrev pub listed : List ℕ → ℕ → List ℕ
+listed l p =
+    let word-at : ℕ → ℕ = λ k. listed-word l p (getD l p 0) k in
     word-at 0 ∷ word-at 1 ∷ word-at 2 ∷ word-at 3 ∷ []
 
 unfoldable pub edge-deferred : Graph → List ℕ → ℕ → ℕ → ℕ → List ℕ

@@ -27,6 +27,7 @@ use state::sets::set_start;
 use state::values::UNDEF;
 use state::values::value_word;
 use store::WORDS;
+use store::layout::word_at;
 
 pub fn input_count(w: &[u16; WORDS], t: u16) -> u16
     ensures { λ a. ⌜ OfRecord (now (w .entry)) (λ g. a ≡ words.«input-count» g (now (w .entry)) t) ⌝ }
@@ -57,48 +58,40 @@ pub fn condition_in(w: &[u16; WORDS], p: u16, n: u16) -> u16
     condition(w, p)
 }
 
-// Of n values that region r passes to its target at place j, value k; beyond them undefined, of type 0.
-fn passed_word(w: &[u16; WORDS], r: u16, j: u16, k: u16, n: u16) -> u16
-    ensures { λ a. ⌜ OfRecord (now (w .entry)) (λ g. a ≡ words.«padded-by» n (edge-of g r j .inputs) k) ⌝ }
+// Value k of the n that are listed at a place; beyond them undefined, of type 0.
+fn listed_word(w: &[u16; WORDS], p: u16, k: u16, n: u16) -> u16
+    ensures { λ a. ⌜ a ≡ words.«listed-word» (now (w .entry)) p n k ⌝ }
 {
     if k < n {
-        return value_word(fields::passed(w, r, j, k));
+        return value_word(fields::value_item(w, p, k));
     }
     UNDEF
+}
+
+// The values that are listed at a place.
+fn listed_inputs(w: &[u16; WORDS], p: u16) -> [u16; 4]
+    ensures { λ a. ⌜ a ≡ words.listed (now (w .entry)) p ⌝ }
+{
+    let n = word_at(w, p as usize);
+    [
+        listed_word(w, p, 0, n),
+        listed_word(w, p, 1, n),
+        listed_word(w, p, 2, n),
+        listed_word(w, p, 3, n),
+    ]
 }
 
 // The values that region r passes to its target at place j.
 pub fn passed_inputs(w: &[u16; WORDS], r: u16, j: u16) -> [u16; 4]
     ensures { λ a. ⌜ OfRecord (now (w .entry)) (λ g. a ≡ words.padded (edge-of g r j .inputs)) ⌝ }
 {
-    let n = fields::passed_count(w, r, j);
-    [
-        passed_word(w, r, j, 0, n),
-        passed_word(w, r, j, 1, n),
-        passed_word(w, r, j, 2, n),
-        passed_word(w, r, j, 3, n),
-    ]
-}
-
-fn returned_word(w: &[u16; WORDS], r: u16, k: u16, n: u16) -> u16
-    ensures { λ a. ⌜ OfRecord (now (w .entry)) (λ g. a ≡ words.«padded-by» n (end-values g r) k) ⌝ }
-{
-    if k < n {
-        return value_word(fields::value(w, r, k));
-    }
-    UNDEF
+    listed_inputs(w, fields::passed_list(w, r, j))
 }
 
 fn returned_inputs(w: &[u16; WORDS], r: u16) -> [u16; 4]
     ensures { λ a. ⌜ OfRecord (now (w .entry)) (λ g. a ≡ words.padded (end-values g r)) ⌝ }
 {
-    let n = fields::value_count(w, r);
-    [
-        returned_word(w, r, 0, n),
-        returned_word(w, r, 1, n),
-        returned_word(w, r, 2, n),
-        returned_word(w, r, 3, n),
-    ]
+    listed_inputs(w, fields::value_list(w, r))
 }
 
 // A bundle with its inputs.

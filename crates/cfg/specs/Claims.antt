@@ -96,13 +96,14 @@ mutual
   -- At most `left` turns of the loop over region r's set.
   pub data Resolves (g : Graph) (counts : List ℕ) : List ℕ → ℕ → ℕ → List ℕ → Checked → Type 0 where
     no-turn : {w w′ : List ℕ} {r : ℕ} → w′ ≡ w → Resolves g counts w r 0 w′ step.Right
-    nothing-claimed : {w w′ : List ℕ} {r left : ℕ} → SplitsOut g counts w r w′ split.Nothing → Resolves g counts w r (suc left) w′ step.Right
+    nothing-claimed : {w w′ : List ℕ} {r left : ℕ} → SplitsOut g counts w r w′ split.Nothing
+        → Resolves g counts w r (suc left) w′ step.Right
     claim-refused : {w w′ : List ℕ} {r left number x : ℕ} → SplitsOut g counts w r w′ (split.Refused number x)
         → Resolves g counts w r (suc left) w′ (step.Refused number x)
     select-refused : {w w₁ w′ : List ℕ} {r left i : ℕ} → SplitsOut g counts w r w₁ (split.At i) → ResolvesBy g w₁ r i w′ made.Full
         → Resolves g counts w r (suc left) w′ (step.Refused 9 0)
-    claims-and : {w w₁ w₂ w′ : List ℕ} {r left i : ℕ} {a : Checked} → SplitsOut g counts w r w₁ (split.At i) → ResolvesBy g w₁ r i w₂ made.Done
-        → Resolves g counts w₂ r left w′ a → Resolves g counts w r (suc left) w′ a
+    claims-and : {w w₁ w₂ w′ : List ℕ} {r left i : ℕ} {a : Checked} → SplitsOut g counts w r w₁ (split.At i)
+        → ResolvesBy g w₁ r i w₂ made.Done → Resolves g counts w₂ r left w′ a → Resolves g counts w r (suc left) w′ a
 
   pub data ResolvesAll (g : Graph) (counts : List ℕ) : List ℕ → ℕ → List ℕ → Checked → Type 0 where
     resolves-all : {w w′ : List ℕ} {r : ℕ} {a : Checked} → Resolves g counts w r (length (g .regions)) w′ a → ResolvesAll g counts w r w′ a

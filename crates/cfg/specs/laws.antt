@@ -1,3 +1,7 @@
+pub mod FuncShownLaws
+pub mod FuncLaws
+pub mod ByStateLaws
+pub mod ByInstLaws
 pub mod Leaves
 pub mod Left
 pub mod Turns

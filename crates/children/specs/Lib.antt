@@ -1,1 +1,2 @@
 pub mod CellByCell
+pub mod laws

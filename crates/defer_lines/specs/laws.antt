@@ -1,2 +1,3 @@
+pub mod ConditionsLaws
 pub mod Inputs
 pub mod DeferParts

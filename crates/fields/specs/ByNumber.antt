@@ -5,10 +5,11 @@ use mathlib.Core.List.{List, [], _∷_}
 use Prim.Native.Nat.{ℕ, zero, suc, _*_, _≤_}
 use lib.ListN.{length, getD, take}
 use lib.Dec.{ltb}
-use Rattle.meaning.specs.Graph.{Graph, Value, Instr, Edge, region, edges-of, no-edge}
+use Rattle.meaning.specs.Graph.{Graph, Value, Instr, Edge, region, edges-of, no-edge, no-value}
 use Rattle.meaning.specs.Lists.{is-in, total}
 use Rattle.format.specs.References.{no-instr, values-of}
 use Rattle.record.specs.Stands.{OfRecord}
+use Rattle.fields.specs.Words.{value-item}
 
 abbrev pub block-of : Graph → ℕ → ℕ → List Instr
 block-of g r b = getD (region g r .blocks) b []
@@ -31,6 +32,11 @@ end-values g r = values-of (region g r .terminator)
 
 abbrev pub edge-of : Graph → ℕ → ℕ → Edge
 edge-of g r j = getD (edges-of (region g r .terminator)) j no-edge
+
+-- The list of values at place p: how many there are, and each.
+pub record ValuesAt (w : List ℕ) (p : ℕ) (vs : List Value) : Type 0 where
+  pub count : getD w p 0 ≡ length vs
+  pub item : (k : ℕ) → value-item w p k ≡ getD vs k no-value
 
 -- The first k items, the last first.
 unfoldable pub before : List ℕ → ℕ → List ℕ

@@ -6,7 +6,7 @@ ghost use Rattle.meaning.specs.Graph.{no-value, region, edges-of, targets-of};
 ghost use Rattle.format.specs.References.{instructions, instr-type};
 ghost use Rattle.record.specs.Stands.{OfRecord};
 ghost use Rattle.fields.specs.Shape.{value-is, instruction-is, terminator-is};
-ghost use Rattle.fields.specs.ByNumber.{BlocksBefore, block-of, instr-of, end-values, edge-of, stands-before};
+ghost use Rattle.fields.specs.ByNumber.{BlocksBefore, ValuesAt, block-of, instr-of, end-values, edge-of, stands-before};
 
 mod places;
 pub mod shape;
@@ -29,7 +29,7 @@ use store::layout::START;
 use store::layout::word_at;
 use words::place;
 use words::stood_before;
-use words::value_item;
+pub use words::value_item;
 use words::word_item;
 
 pub fn region_count(w: &[u16; WORDS]) -> u16
@@ -182,6 +182,13 @@ pub fn terminator(w: &[u16; WORDS], r: u16) -> Terminator
     Terminator::SelectNumber
 }
 
+// Where the terminator's values stand; value_item gives each of them.
+pub fn value_list(w: &[u16; WORDS], r: u16) -> u16
+    ensures { λ a. ⌜ OfRecord (now (w .entry)) (λ g. ValuesAt (now (w .entry)) a (end-values g r)) ⌝ }
+{
+    values_place(w, r)
+}
+
 pub fn value_count(w: &[u16; WORDS], r: u16) -> u16
     ensures { λ a. ⌜ OfRecord (now (w .entry)) (λ g. a ≡ length (end-values g r)) ⌝ }
 {
@@ -204,6 +211,13 @@ pub fn target(w: &[u16; WORDS], r: u16, j: u16) -> u16
     ensures { λ a. ⌜ OfRecord (now (w .entry)) (λ g. a ≡ edge-of g r j .target) ⌝ }
 {
     word_item(w, targets_place(w, r), j)
+}
+
+// Where the values that are passed to the target at place j stand.
+pub fn passed_list(w: &[u16; WORDS], r: u16, j: u16) -> u16
+    ensures { λ a. ⌜ OfRecord (now (w .entry)) (λ g. ValuesAt (now (w .entry)) a (edge-of g r j .inputs)) ⌝ }
+{
+    passed_place(w, r, j)
 }
 
 pub fn passed_count(w: &[u16; WORDS], r: u16, j: u16) -> u16

@@ -10,7 +10,7 @@ use super::words::stood_before;
 use super::words::word_item;
 use store::WORDS;
 use store::layout::BEYOND;
-use store::layout::BLOCKS;
+use store::layout::BLOCK_PLACES;
 use store::layout::LIMIT;
 use store::layout::RECORD_END;
 use store::layout::ROW;
@@ -39,7 +39,7 @@ pub fn block_place(w: &[u16; WORDS], r: u16, b: u16) -> u16
     ensures { λ a. ⌜ a ≡ words.block-place (now (w .entry)) r b ⌝ }
 {
     if b < word_at(w, blocks_place(w, r) as usize) {
-        return indexed(w, r, BLOCKS + (b as usize));
+        return indexed(w, r, BLOCK_PLACES + (b as usize));
     }
     BEYOND
 }

@@ -7,25 +7,25 @@ use state::cells::BLOCKS;
 use state::cells::JOIN;
 use state::cells::LOOP;
 use state::cells::SELECT;
-use state::cells::case_children;
 use state::cells::cell_a;
 use state::cells::cell_b;
 use state::cells::cell_before;
 use state::cells::cell_tag;
+use state::cells::children_of_case;
 use state::cells::inner_list;
 use state::cells::joined_list;
 use store::WORDS;
 
-pub const BEYOND: u64 = 4294967296;
+pub const TOO_LARGE: u64 = 4294967296;
 
 // A sum, or the first number beyond.
 fn at_most(n: u64) -> u64
     ensures { λ a. ⌜ a ≡ figured.capped n ⌝ }
 {
-    if n < BEYOND {
+    if n < TOO_LARGE {
         return n;
     }
-    BEYOND
+    TOO_LARGE
 }
 
 // The cost of block b of region r.
@@ -64,7 +64,7 @@ fn dearest(w: &[u16; WORDS], cases: u16) -> u64
     if cases == 0 {
         return 0;
     }
-    let first = figure(w, case_children(w, cases));
+    let first = figure(w, children_of_case(w, cases));
     let others = dearest(w, cell_before(w, cases));
     if first < others {
         return others;

@@ -1,2 +1,4 @@
+pub mod MaterializedLaws
+pub mod LookUpsLaws
 pub mod Shown
 pub mod ConditionsShown

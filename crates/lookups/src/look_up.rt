@@ -1,6 +1,7 @@
 // Look-ups, the Rust's RegionInputRewrites::rewrite_all, with document 01's mark; and the note `twice`.
 ghost use mathlib.Core.Path.{_≡_};
 ghost use Rattle.lookups.specs.LookUps as words;
+use state::defined::MOST_REGIONS;
 use state::defined::note_twice;
 use state::rewrites::NONE;
 use state::rewrites::RENUMBER_OR_REPLACE_WITH;
@@ -66,12 +67,12 @@ fn renumbers(kind: u16, x: u16) -> bool
     false
 }
 
-// An input is looked up until its region has no entry, or it is marked. No chain passes one of the 128 regions twice.
+// An input is looked up until its region has no entry, or it is marked. No chain passes a region twice.
 pub fn look_up(w: &[u16; WORDS], v: u16) -> LookUp
     ensures { λ a. ⌜ a ≡ words.«look-up» (now (w .entry)) v ⌝ }
 {
     let mut x = v;
-    let mut left: u16 = 129;
+    let mut left: u16 = MOST_REGIONS + 1;
     while 0 < left {
         if !is_input(x) {
             return stays(w, x);

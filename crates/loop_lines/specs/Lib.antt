@@ -1,3 +1,4 @@
 pub mod LoopParts
 pub mod Kept
 pub mod OfLoop
+pub mod laws

@@ -5,7 +5,8 @@ use mathlib.Core.List.{List, [], _∷_, append-assoc}
 use Prim.Native.Nat.{ℕ}
 use Rattle.meaning.specs.Runs.{Nodes, loop, LoopNode}
 use Rattle.nesting.specs.Nesting.{NestState, plain, _⊛_, with-values, look-up-each, look-up-node, look-up-nodes}
-use Rattle.writing.specs.Puts.{Part, _⊕_}
+use Rattle.writing.specs.Puts.{Part}
+use Rattle.writing.specs.laws.PutsLaws.{_⊕_}
 use Rattle.writing.specs.laws.PartLaws.{kids-looked-up}
 use Rattle.writing.specs.Parts.{most, output-nodes, look-up-at-end, value-part, values-part, node-part, nodes-part, region-part}
 use Rattle.writing.specs.Parts.{loop-words, node-words}

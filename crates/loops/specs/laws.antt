@@ -1,3 +1,6 @@
+pub mod LoopsLaws
+pub mod InputsLaws
+pub mod ExitsLaws
 pub mod RewritesShown
 pub mod InputsShown
 pub mod ExitsShown

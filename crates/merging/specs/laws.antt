@@ -1,3 +1,8 @@
+pub mod TurnsLaws
+pub mod TargetsLaws
+pub mod RewritingLaws
+pub mod PlanningLaws
+pub mod BundlesLaws
 pub mod Rows
 pub mod Spare
 pub mod RewritingShown

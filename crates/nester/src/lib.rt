@@ -7,7 +7,7 @@ ghost use Rattle.nester.specs.Nests.{Nests};
 use accept::Accepted;
 use cfg::func::Nested;
 use cfg::func::structurize_func;
-use figure::BEYOND;
+use figure::TOO_LARGE;
 use figure::figure;
 use sheet::whole::CLOSED;
 use sheet::whole::LEFTOVER;
@@ -40,7 +40,7 @@ fn formed(w: &[u16; WORDS], out: &mut [u32], outcome: u16) -> SheetAnswer
     ensures { λ a. ⌜ answers.FormsAnswer (now (w .entry)) outcome (now (out .entry)) (now (out .exit)) a ⌝ }
 {
     let cost = figure(w, children(w, fields::entry(w)));
-    if cost == BEYOND {
+    if cost == TOO_LARGE {
         return SheetAnswer::Refused(11, 0);
     }
     written(w, out, outcome, cost as u32)

@@ -1,7 +1,7 @@
 // The index of a record's regions: a row of words for each, behind the longest record.
 use crate::regions::RegionPlaces;
 use store::WORDS;
-use store::layout::BLOCKS;
+use store::layout::BLOCK_PLACES;
 use store::layout::EXITS;
 use store::layout::LIMIT;
 use store::layout::RECORD_END;
@@ -38,5 +38,5 @@ pub fn store(w: &mut [u16; WORDS], r: u16, start: u16, x: RegionPlaces)
     w[at + START] = start;
     w[at + LIMIT] = limit;
     w[at + EXITS] = exits;
-    store_blocks(w, at + BLOCKS, places);
+    store_blocks(w, at + BLOCK_PLACES, places);
 }

@@ -17,25 +17,25 @@ unfolding decimal labeled
 dotted-text r k = decimal r ++ labeled "." k
 
 -- No record names an output of a node, nor a marked input.
-unfoldable pub value-text : Value → Text
+unfoldable pub value-listing : Value → Text
 unfolding labeled dotted-text
-value-text (const i) = labeled "c" i
-value-text (input r k) = ascii "i" ++ dotted-text r k
-value-text (instr r k) = ascii "d" ++ dotted-text r k
-value-text (output o) = labeled "n" o
-value-text (bool true) = ascii "true"
-value-text (bool false) = ascii "false"
-value-text (undef t) = labeled "undef" t
-value-text no-value = labeled "n" 0  -- in no accepted record
-value-text (held r k) = ascii "i" ++ dotted-text r k
+value-listing (const i) = labeled "c" i
+value-listing (input r k) = ascii "i" ++ dotted-text r k
+value-listing (instr r k) = ascii "d" ++ dotted-text r k
+value-listing (output o) = labeled "n" o
+value-listing (bool true) = ascii "true"
+value-listing (bool false) = ascii "false"
+value-listing (undef t) = labeled "undef" t
+value-listing no-value = labeled "n" 0  -- in no accepted record
+value-listing (held r k) = ascii "i" ++ dotted-text r k
 
 unfoldable pub numbers-text : List ℕ → Text
 unfolding decimal listed
 numbers-text = listed decimal
 
 unfoldable pub values-text : List Value → Text
-unfolding value-text listed
-values-text = listed value-text
+unfolding value-listing listed
+values-text = listed value-listing
 
 unfoldable pub head-text : Graph → Text
 unfolding labeled numbers-text
@@ -48,16 +48,16 @@ head-text g =
     ++ ascii "\n"
 
 -- Instruction k of region r.
-unfoldable pub item-text : ℕ → ℕ → Instr → Text
+unfoldable pub item-listing : ℕ → ℕ → Instr → Text
 unfolding dotted-text labeled values-text
-item-text r k i =
+item-listing r k i =
     dotted-text r k ++ labeled "/" (i .opcode) ++ labeled "/" (i .type) ++ labeled "/" (i .cost) ++ ascii "/" ++ values-text (i .reads)
 
 -- The instructions from number k on.
 unfoldable pub items-text : ℕ → ℕ → List Instr → List Text
-unfolding item-text
+unfolding item-listing
 items-text r k [] = []
-items-text r k (i ∷ is) = item-text r k i ∷ items-text r (suc k) is
+items-text r k (i ∷ is) = item-listing r k i ∷ items-text r (suc k) is
 
 -- The instructions of a region are counted through its blocks; the first of this one has number k.
 unfoldable pub block-text : ℕ → ℕ → List Instr → Text
@@ -75,8 +75,8 @@ unfolding values-text
 values-line label vs = ascii label ++ values-text vs ++ ascii "\n"
 
 unfoldable pub select-line-text : String → Value → List Edge → Text
-unfolding value-text numbers-text
-select-line-text label v es = ascii label ++ value-text v ++ ascii " to " ++ numbers-text (map (λ e. e .target) es) ++ ascii "\n"
+unfolding value-listing numbers-text
+select-line-text label v es = ascii label ++ value-listing v ++ ascii " to " ++ numbers-text (map (λ e. e .target) es) ++ ascii "\n"
 
 unfoldable pub terminator-text : ControlInst → Text
 unfolding labeled values-line select-line-text

@@ -6,7 +6,7 @@ ghost use Rattle.meaning.specs.Graph.{no-value};
 ghost use Rattle.record.specs.Stands.{OfRecord};
 ghost use Rattle.fields.specs.Shape.{value-is};
 ghost use Rattle.text.specs.Buffer.{buffer, Wrote};
-ghost use Rattle.record_text.specs.Listing.{dotted-text, value-text, numbers-text, values-text};
+ghost use Rattle.record_text.specs.Listing.{dotted-text, value-listing, numbers-text, values-text};
 ghost use Rattle.record_text.specs.Parts.{numbers-of, list-of};
 use fields::Value;
 use store::WORDS;
@@ -78,7 +78,7 @@ fn put_of_region(out: &mut [u8], at: usize, letter: u8, r: u16, k: u16) -> usize
 }
 
 pub fn put_value(out: &mut [u8], at: usize, v: Value) -> usize
-    ensures { λ p. ⌜ Wrote (buffer (now (out .entry)) at) (value-text (value-is v)) (buffer (now (out .exit)) p) ⌝ }
+    ensures { λ p. ⌜ Wrote (buffer (now (out .entry)) at) (value-listing (value-is v)) (buffer (now (out .exit)) p) ⌝ }
 {
     match v {
         Value::Const(i) => put_labeled(out, at, b"c", i as u32),

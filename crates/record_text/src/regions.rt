@@ -8,7 +8,7 @@ ghost use Rattle.record.specs.Stands.{OfRecord};
 ghost use Rattle.fields.specs.ByNumber.{block-of, instr-of, end-values, edge-of, stands-before};
 ghost use Rattle.text.specs.Buffer.{buffer, Wrote};
 ghost use Rattle.record_text.specs.Parts.{pass-once};
-ghost use Rattle.record_text.specs.Listing.{value-text, numbers-text, values-text, item-text, items-text, block-text, blocks-text};
+ghost use Rattle.record_text.specs.Listing.{value-listing, numbers-text, values-text, item-listing, items-text, block-text, blocks-text};
 ghost use Rattle.record_text.specs.Listing.{terminator-text, pass-text, passes-text, region-line-text, exits-line, region-text};
 ghost use Rattle.record_text.specs.Listing.{regions-text};
 use super::lists::Numbers;
@@ -26,7 +26,7 @@ use text::put_text;
 // Instruction i of block b, which has number k in its region.
 fn put_item(w: &[u16; WORDS], out: &mut [u8], at: usize, r: u16, b: u16, i: u16, k: u32) -> usize
     ensures { λ p. ⌜ OfRecord (now (w .entry)) (λ g.
-        Wrote (buffer (now (out .entry)) at) (item-text r k (instr-of g r b i)) (buffer (now (out .exit)) p)) ⌝ }
+        Wrote (buffer (now (out .entry)) at) (item-listing r k (instr-of g r b i)) (buffer (now (out .exit)) p)) ⌝ }
 {
     let x = fields::instruction(w, r, b, i);
     let mut place = put_dotted(out, at, r, k);
@@ -97,7 +97,7 @@ fn put_end_values(w: &[u16; WORDS], out: &mut [u8], at: usize, label: &[u8], r: 
 fn put_select(w: &[u16; WORDS], out: &mut [u8], at: usize, label: &[u8], r: u16) -> usize
     ensures { λ p. ⌜ OfRecord (now (w .entry)) (λ g.
         Wrote (buffer (now (out .entry)) at)
-        (now (label .entry) ++ value-text (getD (end-values g r) 0 no-value) ++ ascii " to " ++ numbers-text (targets-of g r) ++ ascii "\n")
+        (now (label .entry) ++ value-listing (getD (end-values g r) 0 no-value) ++ ascii " to " ++ numbers-text (targets-of g r) ++ ascii "\n")
         (buffer (now (out .exit)) p)) ⌝ }
 {
     let mut place = put_text(out, at, label);

@@ -41,7 +41,7 @@ fn type_in(w: &[u16; WORDS], r: u16, before: usize, v: Value) -> u16
     }
 }
 
-fn named(w: &[u16; WORDS], r: u16, before: usize, v: Value) -> Checked
+fn named_right(w: &[u16; WORDS], r: u16, before: usize, v: Value) -> Checked
     ensures { λ a. ⌜ OfRecord (now (w .entry)) (λ g. answered a ≡ format.named-right g r before (value-is v)) ⌝ }
 {
     if type_in(w, r, before, v) == 0 {
@@ -73,7 +73,7 @@ fn instruction_reads_right(w: &[u16; WORDS], r: u16, b: u16, i: u16, before: usi
     let n = x.reads;
     let mut k: u16 = 0;
     while k < n {
-        let c = named(w, r, before, fields::read(w, r, b, i, k));
+        let c = named_right(w, r, before, fields::read(w, r, b, i, k));
         if let Checked::Refused(number, word) = c {
             return Checked::Refused(number, word);
         }
@@ -185,7 +185,7 @@ fn exit_values_right(w: &[u16; WORDS], r: u16) -> Checked
     let n = fields::value_count(w, r);
     let mut k: u16 = 0;
     while k < n {
-        let c = named(w, r, before, fields::value(w, r, k));
+        let c = named_right(w, r, before, fields::value(w, r, k));
         if let Checked::Refused(number, word) = c {
             return Checked::Refused(number, word);
         }
@@ -204,7 +204,7 @@ fn values_right(w: &[u16; WORDS], r: u16) -> Checked
         Terminator::ExitInvocation(_) => exit_values_right(w, r),
         Terminator::Branch => Checked::Right,
         Terminator::SelectBool => named_of_type(w, r, 1, fields::value(w, r, 0)),
-        Terminator::SelectNumber => named(
+        Terminator::SelectNumber => named_right(
             w,
             r,
             fields::instruction_count(w, r),

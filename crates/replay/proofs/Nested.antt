@@ -1,19 +1,19 @@
 -- What printing a sheet leaves, compared with what is listed.
-use mathlib.Core.Path.{_≡_, sym, ap, _∙_}
+use mathlib.Core.Path.{_≡_, refl, ap, _∙_}
 use mathlib.Core.Bool.{Bool, true, false}
 use mathlib.Core.List.{List}
 use Prim.Native.Nat.{ℕ, _-_, _≤_}
 use native.Mathlib.Omega.{arith}
 use lib.ListN.{length, take, drop, length-drop, length-replicate}
 use lib.Seq.{take-all}
-use Rattle.format.specs.Store.{Answer}
+use Rattle.format.specs.Store.{Answer, accepted, refused}
+use Rattle.store.specs.Loaded.{words-after}
 use Rattle.nesting.specs.Sheet.{answer-words, printed}
 use Rattle.text.specs.declared.Written.{Written}
 use Rattle.text.specs.declared.Written.the-variants.{Bytes, Full}
-use Rattle.text.specs.Whole.{InFront, in-front}
+use Rattle.text.specs.Whole.{InFront}
+use Rattle.text.specs.laws.WholeTexts.{in-front}
 use Rattle.sheet.specs.Written.{lent}
-use Rattle.nester.specs.declared.SheetAnswer.{SheetAnswer}
-use Rattle.nester.specs.Answers.{Ends, ends-sheet, ends-refused}
 use Rattle.nest_text.specs.Prints.{Prints}
 use Rattle.vectors.specs.Parts.{behind, hex-bytes, line-and-answer, answer-of}
 use Rattle.vectors.specs.Same.{same-list}
@@ -26,9 +26,9 @@ lent-length = length-replicate {A = ℕ} 16384 2779096485
 lent-all : lent lent-words ≡ 16384
 lent-all = rw lent-length
 
-left-by : {b : Answer (List ℕ)} {out out′ : List ℕ} {a : SheetAnswer} → Ends b out out′ a → out′ ≡ words-left out b
-left-by (ends-sheet e size d) = rw e d
-left-by (ends-refused e d) = rw e d
+as-left : (out : List ℕ) (b : Answer (List ℕ)) → words-after out b ≡ words-left out b
+as-left out (accepted ws) = refl
+as-left out (refused n w) = refl
 
 module _ {store w w′ out out′ text text′ : List ℕ} {r : Written} (p : Prints store w w′ out out′ text text′ r)
     (as-lent : out ≡ lent-words) where
@@ -43,7 +43,7 @@ module _ {store w w′ out out′ text text′ : List ℕ} {r : Written} (p : Pr
   printed-front is = rw lent-here at (in-front (p .whole) is)
 
   pub words-kept : out′ ≡ words-left lent-words (answer-words store 16384)
-  words-kept = left-by (p .nests .ends) ∙ rw (lent-here, as-lent)
+  words-kept = p .nests .ends .words ∙ as-left out (answer-words store (lent out)) ∙ rw (lent-here, as-lent)
 
 -- &listed[end..] behind the line of digits.
 pub behind-line : (listed : List ℕ) {end : ℕ} → end ≡ behind 10 listed → take (length listed - end) (drop end listed) ≡ listed-text listed

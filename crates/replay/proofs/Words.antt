@@ -10,7 +10,7 @@ use lib.Seq.{drop-cons, getD-append-add, getD-drop, getD-take, length-take-le}
 use lib.Dec.{eqb}
 use borrow.Author.Tests.{eq-eqb, ne-eqb}
 use Rattle.vectors.specs.Same.{same-list}
-use Rattle.replay.specs.Sheets.{word-of, words-from-bytes, put-over}
+use Rattle.replay.specs.Sheets.{word-from, words-from-bytes, put-over}
 
 -- ---- four bytes to a word
 pub record Quarter (bs : List ℕ) : Type 0 where
@@ -27,7 +27,7 @@ quarter (a ∷ b ∷ c ∷ d ∷ bs) = let q = quarter bs in record { few = omeg
 
 -- The word at place i.
 pub word-at : (bs : List ℕ) (i : ℕ) → 4 * i + 3 < length bs
-    → getD (words-from-bytes bs) i 0 ≡ word-of (getD bs (4 * i) 0) (getD bs (4 * i + 1) 0) (getD bs (4 * i + 2) 0) (getD bs (4 * i + 3) 0)
+    → getD (words-from-bytes bs) i 0 ≡ word-from (getD bs (4 * i) 0) (getD bs (4 * i + 1) 0) (getD bs (4 * i + 2) 0) (getD bs (4 * i + 3) 0)
 unfolding words-from-bytes
 word-at [] i h = absurd (omega arith)
 word-at (a ∷ []) i h = absurd (omega arith)
@@ -75,7 +75,7 @@ module _ (bytes lent : List ℕ) (n : ℕ) (within : n ≤ length bytes) where
       sym (put-over-rest (words-from-bytes (take n bytes)) lent i (omega arith))
 
   pub as-listed : (i : ℕ) → i < n / 4 → {r : ℕ}
-      → r ≡ word-of (getD bytes (4 * i) 0) (getD bytes (4 * i + 1) 0) (getD bytes (4 * i + 2) 0) (getD bytes (4 * i + 3) 0)
+      → r ≡ word-from (getD bytes (4 * i) 0) (getD bytes (4 * i + 1) 0) (getD bytes (4 * i + 2) 0) (getD bytes (4 * i + 3) 0)
       → r ≡ getD (put-over (words-from-bytes (take n bytes)) lent) i 0
   as-listed i h is =
       let q = quarter (take n bytes) in

@@ -9,7 +9,8 @@ use lib.Dec.{eqb, ltb}
 use borrow.Author.Tests.{lt-ltb, le-ltb}
 use Rattle.format.specs.Accept.{accept}
 use Rattle.record_text.specs.Listing.{shown-text}
-use Rattle.vectors.specs.Same.{same-list, as-same}
+use Rattle.vectors.specs.Same.{same-list}
+use Rattle.vectors.specs.laws.SameLaws.{as-same}
 use Rattle.text.specs.Whole.{InFront}
 use Rattle.vectors.specs.Parts.{behind, listed-store, answer-of}
 use Rattle.replay.specs.Sheets.{is-nested}

@@ -21,8 +21,8 @@ abbrev pub words-left : List ℕ → Answer (List ℕ) → List ℕ
 words-left lent (accepted ws) = put-over ws lent
 words-left lent (refused n w) = lent
 
-abbrev pub word-of : ℕ → ℕ → ℕ → ℕ → ℕ
-word-of a b c d = 16777216 * a + 65536 * b + 256 * c + d
+abbrev pub word-from : ℕ → ℕ → ℕ → ℕ → ℕ
+word-from a b c d = 16777216 * a + 65536 * b + 256 * c + d
 
 -- Four bytes to a word, the highest first; what stays over gives none.
 unfoldable pub words-from-bytes : List ℕ → List ℕ
@@ -30,7 +30,7 @@ words-from-bytes [] = []
 words-from-bytes (a ∷ []) = []
 words-from-bytes (a ∷ b ∷ []) = []
 words-from-bytes (a ∷ b ∷ c ∷ []) = []
-words-from-bytes (a ∷ b ∷ c ∷ d ∷ bs) = word-of a b c d ∷ words-from-bytes bs
+words-from-bytes (a ∷ b ∷ c ∷ d ∷ bs) = word-from a b c d ∷ words-from-bytes bs
 
 -- A listed answer: a line with the words, eight digits each, and behind it the text.
 abbrev pub listed-words : List ℕ → List ℕ

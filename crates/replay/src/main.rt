@@ -13,10 +13,10 @@ use sheets::PRINTED;
 use sheets::is_nested;
 use store::WORDS;
 use text::Written;
-use vectors::Reader;
 use vectors::STORE;
 use vectors::TEXT;
 use vectors::Tally;
+use vectors::VectorReader;
 
 // Whether what is shown of a store, the first bytes of an array, is the listed text.
 fn is_shown(
@@ -74,13 +74,13 @@ fn agrees(
 
 // One byte of the list; the dot behind a vector has its store answered and compared.
 fn fed(
-    r: Reader,
+    r: VectorReader,
     b: u8,
     text: &mut [u8; TEXT],
     bytes: &mut [u8; STORE],
     words: &mut [u16; WORDS],
     out: &mut [u8; PRINTED],
-) -> Reader
+) -> VectorReader
     requires { ⌜ r .size ≤ 65536 ⌝ }
     ensures { λ n. ⌜ Reads agrees r (b ∷ []) (now (text .entry)) (now (text .exit)) n ⌝ }
 {
@@ -92,13 +92,13 @@ fn fed(
 }
 
 fn fed_all(
-    r: Reader,
+    r: VectorReader,
     chunk: &[u8],
     text: &mut [u8; TEXT],
     bytes: &mut [u8; STORE],
     words: &mut [u16; WORDS],
     out: &mut [u8; PRINTED],
-) -> Reader
+) -> VectorReader
     requires { ⌜ r .size ≤ 65536 ⌝ }
     ensures { λ n. ⌜ Reads agrees r (now (chunk .entry)) (now (text .entry)) (now (text .exit)) n ⌝ }
 {

@@ -3,7 +3,7 @@ ghost use mathlib.Core.Path.{_≡_};
 ghost use Prim.Native.Nat.{_*_, _≤_, _<_};
 ghost use lib.ListN.{length, getD, take};
 ghost use Rattle.vectors.specs.Same.{same-list};
-ghost use Rattle.replay.specs.Sheets.{lent-words, word-of, words-from-bytes, put-over, is-nested};
+ghost use Rattle.replay.specs.Sheets.{lent-words, word-from, words-from-bytes, put-over, is-nested};
 use store::WORDS;
 use text::Written;
 use vectors::STORE;
@@ -21,7 +21,7 @@ fn lend() -> [u32; LENT]
 
 // A word in four bytes, the highest first.
 fn word(a: u8, b: u8, c: u8, d: u8) -> u32
-    ensures { λ r. ⌜ r ≡ word-of a b c d ⌝ }
+    ensures { λ r. ⌜ r ≡ word-from a b c d ⌝ }
 {
     16777216 * (a as u32) + 65536 * (b as u32) + 256 * (c as u32) + (d as u32)
 }
@@ -41,7 +41,8 @@ fn word_at(lent: &[u32], listed: &[u8], size: usize, i: usize) -> u32
 // Whether words are the listed ones, and behind them as lent.
 fn is_written(out: &[u32], lent: &[u32], listed: &[u8], size: usize) -> bool
     requires { ⌜ (length (now out) ≡ length (now lent)) × ((size ≤ length (now listed)) × (size ≤ 4 * length (now lent))) ⌝ }
-    ensures { λ r. ⌜ r ≡ same-list (now (out .entry)) (put-over (words-from-bytes (take size (now (listed .entry)))) (now (lent .entry))) ⌝ }
+    ensures { λ r. ⌜ r ≡ same-list (now (out .entry))
+        (put-over (words-from-bytes (take size (now (listed .entry)))) (now (lent .entry))) ⌝ }
 {
     let mut i: usize = 0;
     while i < out.len() {

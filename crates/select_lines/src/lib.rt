@@ -10,11 +10,11 @@ ghost use Rattle.select_lines.specs.SelectLines as lines;
 use child_numbers::Counted;
 use child_numbers::put_kids;
 use child_numbers::put_number;
-use state::cells::case_children;
 use state::cells::cell_a;
 use state::cells::cell_b;
 use state::cells::cell_before;
 use state::cells::cell_c;
+use state::cells::children_of_case;
 use state::cells::inner_list;
 use state::conditions::BOOL_COND;
 use state::outputs::output_count;
@@ -102,7 +102,7 @@ pub fn put_case_line(
     ensures { λ a. ⌜ lines.PutsCaseLine (now (w .entry)) h node j (now (out .entry)) at (now (out .exit)) a ⌝ }
 {
     let outputs = put_case_outputs(w, out, at, node, j);
-    let kids = put_kids(w, out, outputs, case_children(w, h));
+    let kids = put_kids(w, out, outputs, children_of_case(w, h));
     put_three(out, kids, 0, cell_a(w, h), 0)
 }
 

@@ -1,8 +1,7 @@
 -- A select that is defined, as the words alone have it.
-use mathlib.Core.Path.{_≡_, refl}
+use mathlib.Core.Path.{_≡_}
 use mathlib.Core.List.{List}
-use Prim.Native.Nat.{ℕ, suc, _+_, _*_, _-_, _≤_, _<_}
-use native.Mathlib.Omega.{arith}
+use Prim.Native.Nat.{ℕ, suc, _+_, _*_, _-_}
 use Rattle.state.specs.declared.defined.Defined.{Defined}
 use Rattle.state.specs.declared.defined.Defined.the-variants.{Number, Full}
 use Rattle.state.specs.Sections.{word, stored, cases, children}
@@ -44,14 +43,3 @@ pub data SelectDefined (r shape : ℕ) (x : Scrutinee) (l l′ : List ℕ) : Def
 -- Whatever the cells that are left make is made of all.
 abbrev pub CellsOn : List ℕ → ℕ → ℕ → List ℕ → Type 0
 CellsOn l₀ n h l = (l′ : List ℕ) (h′ : ℕ) → CaseCells n h l l′ h′ → CaseCells (case-total l₀) 0 l₀ l′ h′
-
-pub cells-begin : (l₀ : List ℕ) (n : ℕ) → n ≡ case-total l₀ → CellsOn l₀ n 0 l₀
-cells-begin l₀ n e l′ h′ x = rw e at x
-
-module _ (l₀ l : List ℕ) (n h : ℕ) (goes-on : CellsOn l₀ n h l) where
-  pub cells-turn : 0 < n → {body kids h₁ : ℕ} {l₁ : List ℕ} → body ≡ word l cases (10 * (n - 1) + 2)
-      → kids ≡ children-of l (n - 1) → Adds l l₁ (case-cell h body kids) h₁ → CellsOn l₀ (n - 1) h₁ l₁
-  cells-turn more b k x l′ h′ y = let s : n ≡ suc (n - 1) = omega arith in goes-on l′ h′ (cell-more s (rw (b, k) at x) y)
-
-  pub cells-end : n ≤ 0 → CaseCells (case-total l₀) 0 l₀ l h
-  cells-end none = let s : n ≡ 0 = omega arith in goes-on l h (cells-over s refl refl)

@@ -1,3 +1,8 @@
+pub mod TurnsLaws
+pub mod SelectsLaws
+pub mod IntoLaws
+pub mod EmitsLaws
+pub mod CasesLaws
 pub mod Fronts
 pub mod Places
 pub mod CasesShown

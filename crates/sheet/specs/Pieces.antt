@@ -13,7 +13,8 @@ use Rattle.nesting.specs.Nesting.{NestState, Piece, piece, LookUp, plain, _⊛_
 use Rattle.nesting.specs.Nesting.{DeferredEdgeBundle, DeferredEdgeBundleSet, look-up-bundle, condition-in, conclude-with, Outcome}
 use Rattle.nesting.specs.Nesting.{LazyCond}
 use Rattle.nesting.specs.Sheet as sheet
-use Rattle.writing.specs.Puts.{Part, _⊕_}
+use Rattle.writing.specs.Puts.{Part}
+use Rattle.writing.specs.laws.PutsLaws.{_⊕_}
 use Rattle.writing.specs.Parts.{most, region-words, nodes-words, each, output-nodes, look-up-at-end, nodes-part, region-part}
 use Rattle.writing.specs.Parts.{defer-part}
 use Rattle.writing.specs.laws.PartLaws.{kids-looked-up}

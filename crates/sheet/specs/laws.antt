@@ -1,3 +1,6 @@
+pub mod WrittenLaws
+pub mod WalkLaws
+pub mod RegionsLaws
 pub mod SheetLines
 pub mod Counts
 pub mod Leftovers

@@ -14,11 +14,11 @@ use state::cells::EXIT;
 use state::cells::JOIN;
 use state::cells::LOOP;
 use state::cells::SELECT;
-use state::cells::case_children;
 use state::cells::cell_a;
 use state::cells::cell_b;
 use state::cells::cell_before;
 use state::cells::cell_tag;
+use state::cells::children_of_case;
 use state::cells::inner_list;
 use state::cells::joined_list;
 use store::WORDS;
@@ -67,7 +67,7 @@ fn put_cases(w: &[u16; WORDS], out: &mut [u32], at: Place, list: u16, node: u16,
         return at;
     }
     let later = put_cases(w, out, at, cell_before(w, list), node, next(j));
-    let nodes = put_nodes(w, out, later, case_children(w, list));
+    let nodes = put_nodes(w, out, later, children_of_case(w, list));
     put_case_line(w, out, nodes, list, node, j)
 }
 

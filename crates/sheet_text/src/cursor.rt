@@ -13,18 +13,18 @@ use text::put_number;
 use text::put_text;
 
 // The next word to read, and the next byte to write. A place beyond the words' end says that they were not as they should be.
-pub struct Cursor {
+pub struct SheetCursor {
     pub at: usize,
     pub place: usize,
 }
 
 // A word is missing, or is none that may stand there.
-pub fn stop(words: &[u32], c: Cursor) -> Cursor
+pub fn stop(words: &[u32], c: SheetCursor) -> SheetCursor
     ensures { λ r. ⌜ Stopped (now (words .entry)) c r ⌝ }
 {
     let at = c.at;
     if at <= words.len() {
-        return Cursor {
+        return SheetCursor {
             at: words.len() + 1,
             place: c.place,
         };
@@ -32,14 +32,14 @@ pub fn stop(words: &[u32], c: Cursor) -> Cursor
     c
 }
 
-pub fn say(text: &mut [u8], c: Cursor, label: &[u8]) -> Cursor
+pub fn say(text: &mut [u8], c: SheetCursor, label: &[u8]) -> SheetCursor
     ensures { λ r. ⌜ ((ws : List ℕ) → PutsText (say (now (label .entry))) ws c (now (text .entry)) (now (text .exit)) r) ⌝ }
 {
     let place = put_text(text, c.place, label);
-    Cursor { at: c.at, place }
+    SheetCursor { at: c.at, place }
 }
 
-pub fn number(words: &[u32], text: &mut [u8], c: Cursor) -> Cursor
+pub fn number(words: &[u32], text: &mut [u8], c: SheetCursor) -> SheetCursor
     ensures { λ r. ⌜ PutsText number-text (now (words .entry)) c (now (text .entry)) (now (text .exit)) r ⌝ }
 {
     let at = c.at;
@@ -47,25 +47,31 @@ pub fn number(words: &[u32], text: &mut [u8], c: Cursor) -> Cursor
         return stop(words, c);
     }
     let place = put_number(text, c.place, words[at]);
-    Cursor { at: at + 1, place }
+    SheetCursor { at: at + 1, place }
 }
 
 // A word for which nothing is shown.
-pub fn skip(words: &[u32], c: Cursor) -> Cursor
+pub fn skip(words: &[u32], c: SheetCursor) -> SheetCursor
     ensures { λ r. ⌜ ((bytes : List ℕ) → PutsText skip-text (now (words .entry)) c bytes bytes r) ⌝ }
 {
     let at = c.at;
     if words.len() <= at {
         return stop(words, c);
     }
-    Cursor {
+    SheetCursor {
         at: at + 1,
         place: c.place,
     }
 }
 
 // A word that is 0 or 1, by a text for each.
-pub fn either(words: &[u32], text: &mut [u8], c: Cursor, zero: &[u8], one: &[u8]) -> Cursor
+pub fn either(
+    words: &[u32],
+    text: &mut [u8],
+    c: SheetCursor,
+    zero: &[u8],
+    one: &[u8],
+) -> SheetCursor
     ensures { λ r. ⌜ PutsText (either-text (now (zero .entry)) (now (one .entry)))
         (now (words .entry)) c (now (text .entry)) (now (text .exit)) r ⌝ }
 {
@@ -73,7 +79,7 @@ pub fn either(words: &[u32], text: &mut [u8], c: Cursor, zero: &[u8], one: &[u8]
     if words.len() <= at {
         return stop(words, c);
     }
-    let next = Cursor {
+    let next = SheetCursor {
         at: at + 1,
         place: c.place,
     };
@@ -115,7 +121,7 @@ fn put_value(text: &mut [u8], at: usize, kind: u32, r: u32, k: u32) -> usize
 }
 
 // A value: kind, region, index.
-pub fn value(words: &[u32], text: &mut [u8], c: Cursor) -> Cursor
+pub fn value(words: &[u32], text: &mut [u8], c: SheetCursor) -> SheetCursor
     ensures { λ r. ⌜ PutsText value-text (now (words .entry)) c (now (text .entry)) (now (text .exit)) r ⌝ }
 {
     let at = c.at;
@@ -126,5 +132,5 @@ pub fn value(words: &[u32], text: &mut [u8], c: Cursor) -> Cursor
         return stop(words, c);
     }
     let place = put_value(text, c.place, words[at], words[at + 1], words[at + 2]);
-    Cursor { at: at + 3, place }
+    SheetCursor { at: at + 3, place }
 }

@@ -7,7 +7,7 @@ ghost use lib.Dec.{eqb};
 ghost use Rattle.sheet_text.specs.Texts.{say, _then_, field-within, list-within, field-text, list-text, none-text, item-head};
 ghost use Rattle.sheet_text.specs.Texts.{merge-head, plain-text};
 ghost use Rattle.sheet_text.specs.Puts.{PutsText, PutsWithin};
-use super::cursor::Cursor;
+use super::cursor::SheetCursor;
 use super::cursor::number;
 use super::cursor::say;
 use super::cursor::skip;
@@ -22,7 +22,7 @@ pub enum Field {
 }
 
 // An item up to its reads: region.index/opcode/type/
-fn item_head(words: &[u32], text: &mut [u8], c: Cursor) -> Cursor
+fn item_head(words: &[u32], text: &mut [u8], c: SheetCursor) -> SheetCursor
     ensures { λ r. ⌜ PutsText item-head (now (words .entry)) c (now (text .entry)) (now (text .exit)) r ⌝ }
 {
     let mut d = number(words, text, c);
@@ -36,7 +36,7 @@ fn item_head(words: &[u32], text: &mut [u8], c: Cursor) -> Cursor
 }
 
 // Whether a condition has parts.
-fn is_merge(words: &[u32], c: Cursor) -> bool
+fn is_merge(words: &[u32], c: SheetCursor) -> bool
     ensures { λ r. ⌜ r ≡ eqb (getD (now (words .entry)) (c .at) 0) 4 ⌝ }
 {
     let at = c.at;
@@ -47,14 +47,14 @@ fn is_merge(words: &[u32], c: Cursor) -> bool
 }
 
 // A condition without parts.
-fn plain_condition(words: &[u32], text: &mut [u8], c: Cursor) -> Cursor
+fn plain_condition(words: &[u32], text: &mut [u8], c: SheetCursor) -> SheetCursor
     ensures { λ r. ⌜ PutsText plain-text (now (words .entry)) c (now (text .entry)) (now (text .exit)) r ⌝ }
 {
     let at = c.at;
     if words.len() <= at {
         return stop(words, c);
     }
-    let next = Cursor {
+    let next = SheetCursor {
         at: at + 1,
         place: c.place,
     };
@@ -67,7 +67,7 @@ fn plain_condition(words: &[u32], text: &mut [u8], c: Cursor) -> Cursor
 }
 
 // A condition up to its parts: m, the node and a bracket.
-fn merge_head(words: &[u32], text: &mut [u8], c: Cursor) -> Cursor
+fn merge_head(words: &[u32], text: &mut [u8], c: SheetCursor) -> SheetCursor
     ensures { λ r. ⌜ PutsText merge-head (now (words .entry)) c (now (text .entry)) (now (text .exit)) r ⌝ }
 {
     let mut d = skip(words, c);
@@ -76,7 +76,7 @@ fn merge_head(words: &[u32], text: &mut [u8], c: Cursor) -> Cursor
     say(text, d, b"[")
 }
 
-fn put_field(words: &[u32], text: &mut [u8], c: Cursor, kind: Field) -> Cursor
+fn put_field(words: &[u32], text: &mut [u8], c: SheetCursor, kind: Field) -> SheetCursor
     ensures { λ r. ⌜ PutsWithin 0 (λ depth. field-within depth kind) (now (words .entry)) c (now (text .entry)) (now (text .exit)) r ⌝ }
 {
     match kind {
@@ -98,7 +98,7 @@ fn put_field(words: &[u32], text: &mut [u8], c: Cursor, kind: Field) -> Cursor
 }
 
 // An empty list: `-`, but nothing between a condition's brackets.
-fn none(text: &mut [u8], c: Cursor, kind: Field) -> Cursor
+fn none(text: &mut [u8], c: SheetCursor, kind: Field) -> SheetCursor
     ensures { λ r. ⌜ ((ws : List ℕ) → PutsText (say (none-text kind)) ws c (now (text .entry)) (now (text .exit)) r) ⌝ }
 {
     match kind {
@@ -108,7 +108,7 @@ fn none(text: &mut [u8], c: Cursor, kind: Field) -> Cursor
 }
 
 // A count, then as many fields, joined by commas.
-fn put_list(words: &[u32], text: &mut [u8], c: Cursor, kind: Field) -> Cursor
+fn put_list(words: &[u32], text: &mut [u8], c: SheetCursor, kind: Field) -> SheetCursor
     ensures { λ r. ⌜ PutsWithin 1 (λ depth. list-within depth kind) (now (words .entry)) c (now (text .entry)) (now (text .exit)) r ⌝ }
 {
     let at = c.at;
@@ -116,7 +116,7 @@ fn put_list(words: &[u32], text: &mut [u8], c: Cursor, kind: Field) -> Cursor
         return stop(words, c);
     }
     let n = words[at];
-    let mut d = Cursor {
+    let mut d = SheetCursor {
         at: at + 1,
         place: c.place,
     };
@@ -136,7 +136,13 @@ fn put_list(words: &[u32], text: &mut [u8], c: Cursor, kind: Field) -> Cursor
     d
 }
 
-pub fn labeled(words: &[u32], text: &mut [u8], c: Cursor, label: &[u8], kind: Field) -> Cursor
+pub fn labeled(
+    words: &[u32],
+    text: &mut [u8],
+    c: SheetCursor,
+    label: &[u8],
+    kind: Field,
+) -> SheetCursor
     ensures { λ r. ⌜ PutsText (say (now (label .entry)) then field-text kind)
         (now (words .entry)) c (now (text .entry)) (now (text .exit)) r ⌝ }
 {
@@ -144,7 +150,13 @@ pub fn labeled(words: &[u32], text: &mut [u8], c: Cursor, label: &[u8], kind: Fi
     put_field(words, text, d, kind)
 }
 
-pub fn listed(words: &[u32], text: &mut [u8], c: Cursor, label: &[u8], kind: Field) -> Cursor
+pub fn listed(
+    words: &[u32],
+    text: &mut [u8],
+    c: SheetCursor,
+    label: &[u8],
+    kind: Field,
+) -> SheetCursor
     ensures { λ r. ⌜ PutsText (say (now (label .entry)) then list-text kind)
         (now (words .entry)) c (now (text .entry)) (now (text .exit)) r ⌝ }
 {

@@ -12,7 +12,7 @@ mod cursor;
 mod fields;
 mod lines;
 
-use cursor::Cursor;
+use cursor::SheetCursor;
 use lines::put_first_line;
 use lines::put_line;
 use lines::put_sheet;
@@ -26,7 +26,7 @@ pub enum Printed {
     NoLine,
 }
 
-fn answer(room: usize, end: Cursor) -> Printed
+fn answer(room: usize, end: SheetCursor) -> Printed
     ensures { λ r. ⌜ r ≡ pick (leb (end .place) room) (Line (end .at) (end .place)) Full ⌝ }
 {
     if end.place <= room {
@@ -39,7 +39,7 @@ fn answer(room: usize, end: Cursor) -> Printed
 pub fn first_line(words: &[u32], text: &mut [u8]) -> Printed
     ensures { λ r. ⌜ LinePrinted (shown first-text decode-first) (now (words .entry)) 0 (now (text .entry)) (now (text .exit)) r ⌝ }
 {
-    let start = Cursor { at: 0, place: 0 };
+    let start = SheetCursor { at: 0, place: 0 };
     let mut none = [0u8; 1];
     let tried = put_first_line(words, &mut none, start);
     if words.len() < tried.at {
@@ -53,7 +53,7 @@ pub fn first_line(words: &[u32], text: &mut [u8]) -> Printed
 pub fn line(words: &[u32], at: usize, text: &mut [u8]) -> Printed
     ensures { λ r. ⌜ LinePrinted (shown line-text decode-line) (now (words .entry)) at (now (text .entry)) (now (text .exit)) r ⌝ }
 {
-    let start = Cursor { at, place: 0 };
+    let start = SheetCursor { at, place: 0 };
     let mut none = [0u8; 1];
     let tried = put_line(words, &mut none, start);
     if words.len() < tried.at {

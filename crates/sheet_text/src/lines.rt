@@ -4,7 +4,7 @@ ghost use Rattle.nesting.specs.decoding.Decode.{line-by, decode-line};
 ghost use Rattle.sheet_text.specs.Lines.{shown, fields-text, line-text, decode-first, first-text, decoded-sheet-text};
 ghost use Rattle.sheet_text.specs.Texts.{say, _then_, skip-text, target-text, outcome-text};
 ghost use Rattle.sheet_text.specs.Puts.{PutsText, PutsOn};
-use super::cursor::Cursor;
+use super::cursor::SheetCursor;
 use super::cursor::either;
 use super::cursor::number;
 use super::cursor::say;
@@ -14,7 +14,7 @@ use super::fields::Field;
 use super::fields::labeled;
 use super::fields::listed;
 
-fn region(words: &[u32], text: &mut [u8], c: Cursor) -> Cursor
+fn region(words: &[u32], text: &mut [u8], c: SheetCursor) -> SheetCursor
     ensures { λ r. ⌜ PutsText (shown fields-text decode-region) (now (words .entry)) c (now (text .entry)) (now (text .exit)) r ⌝ }
 {
     let mut d = labeled(words, text, c, b"region ", Field::Number);
@@ -23,14 +23,14 @@ fn region(words: &[u32], text: &mut [u8], c: Cursor) -> Cursor
     listed(words, text, d, b" out ", Field::Value)
 }
 
-fn block(words: &[u32], text: &mut [u8], c: Cursor) -> Cursor
+fn block(words: &[u32], text: &mut [u8], c: SheetCursor) -> SheetCursor
     ensures { λ r. ⌜ PutsText (shown fields-text decode-block) (now (words .entry)) c (now (text .entry)) (now (text .exit)) r ⌝ }
 {
     let d = labeled(words, text, c, b"block ", Field::Number);
     listed(words, text, d, b" ", Field::Item)
 }
 
-fn select(words: &[u32], text: &mut [u8], c: Cursor) -> Cursor
+fn select(words: &[u32], text: &mut [u8], c: SheetCursor) -> SheetCursor
     ensures { λ r. ⌜ PutsText (shown fields-text decode-select) (now (words .entry)) c (now (text .entry)) (now (text .exit)) r ⌝ }
 {
     let mut d = labeled(words, text, c, b"select ", Field::Number);
@@ -40,7 +40,7 @@ fn select(words: &[u32], text: &mut [u8], c: Cursor) -> Cursor
     listed(words, text, d, b" out ", Field::Number)
 }
 
-fn loop_line(words: &[u32], text: &mut [u8], c: Cursor) -> Cursor
+fn loop_line(words: &[u32], text: &mut [u8], c: SheetCursor) -> SheetCursor
     ensures { λ r. ⌜ PutsText (shown fields-text decode-loop) (now (words .entry)) c (now (text .entry)) (now (text .exit)) r ⌝ }
 {
     let mut d = labeled(words, text, c, b"loop ", Field::Number);
@@ -49,7 +49,7 @@ fn loop_line(words: &[u32], text: &mut [u8], c: Cursor) -> Cursor
     labeled(words, text, d, b" repeat ", Field::Value)
 }
 
-fn exit(words: &[u32], text: &mut [u8], c: Cursor) -> Cursor
+fn exit(words: &[u32], text: &mut [u8], c: SheetCursor) -> SheetCursor
     ensures { λ r. ⌜ PutsText (shown fields-text decode-exit) (now (words .entry)) c (now (text .entry)) (now (text .exit)) r ⌝ }
 {
     let mut d = labeled(words, text, c, b"exit ", Field::Number);
@@ -58,7 +58,7 @@ fn exit(words: &[u32], text: &mut [u8], c: Cursor) -> Cursor
 }
 
 // The target Return is 65,535.
-fn target(words: &[u32], text: &mut [u8], c: Cursor) -> Cursor
+fn target(words: &[u32], text: &mut [u8], c: SheetCursor) -> SheetCursor
     ensures { λ r. ⌜ PutsText target-text (now (words .entry)) c (now (text .entry)) (now (text .exit)) r ⌝ }
 {
     let at = c.at;
@@ -66,7 +66,7 @@ fn target(words: &[u32], text: &mut [u8], c: Cursor) -> Cursor
         return stop(words, c);
     }
     if words[at] == 65535 {
-        let next = Cursor {
+        let next = SheetCursor {
             at: at + 1,
             place: c.place,
         };
@@ -75,7 +75,7 @@ fn target(words: &[u32], text: &mut [u8], c: Cursor) -> Cursor
     number(words, text, c)
 }
 
-fn defer(words: &[u32], text: &mut [u8], c: Cursor) -> Cursor
+fn defer(words: &[u32], text: &mut [u8], c: SheetCursor) -> SheetCursor
     ensures { λ r. ⌜ PutsText (shown fields-text decode-defer) (now (words .entry)) c (now (text .entry)) (now (text .exit)) r ⌝ }
 {
     let mut d = labeled(words, text, c, b"defer ", Field::Number);
@@ -87,7 +87,7 @@ fn defer(words: &[u32], text: &mut [u8], c: Cursor) -> Cursor
 }
 
 // By the word that leads the line.
-fn line_by(words: &[u32], text: &mut [u8], c: Cursor, lead: u32) -> Cursor
+fn line_by(words: &[u32], text: &mut [u8], c: SheetCursor, lead: u32) -> SheetCursor
     ensures { λ r. ⌜ PutsText (shown fields-text (line-by lead)) (now (words .entry)) c (now (text .entry)) (now (text .exit)) r ⌝ }
 {
     match lead {
@@ -101,14 +101,14 @@ fn line_by(words: &[u32], text: &mut [u8], c: Cursor, lead: u32) -> Cursor
     }
 }
 
-pub fn put_line(words: &[u32], text: &mut [u8], c: Cursor) -> Cursor
+pub fn put_line(words: &[u32], text: &mut [u8], c: SheetCursor) -> SheetCursor
     ensures { λ r. ⌜ PutsOn (shown line-text decode-line) (now (words .entry)) c (now (text .entry)) (now (text .exit)) r ⌝ }
 {
     let at = c.at;
     if words.len() <= at {
         return stop(words, c);
     }
-    let next = Cursor {
+    let next = SheetCursor {
         at: at + 1,
         place: c.place,
     };
@@ -117,7 +117,7 @@ pub fn put_line(words: &[u32], text: &mut [u8], c: Cursor) -> Cursor
 }
 
 // A word that is not shown, and a label.
-fn unshown(words: &[u32], text: &mut [u8], c: Cursor, label: &[u8]) -> Cursor
+fn unshown(words: &[u32], text: &mut [u8], c: SheetCursor, label: &[u8]) -> SheetCursor
     ensures { λ r. ⌜ PutsText (skip-text then say (now (label .entry))) (now (words .entry)) c (now (text .entry)) (now (text .exit)) r ⌝ }
 {
     let d = skip(words, c);
@@ -125,14 +125,14 @@ fn unshown(words: &[u32], text: &mut [u8], c: Cursor, label: &[u8]) -> Cursor
 }
 
 // The outcome and its figure, which exists for whole and closed.
-fn outcome(words: &[u32], text: &mut [u8], c: Cursor) -> Cursor
+fn outcome(words: &[u32], text: &mut [u8], c: SheetCursor) -> SheetCursor
     ensures { λ r. ⌜ PutsText outcome-text (now (words .entry)) c (now (text .entry)) (now (text .exit)) r ⌝ }
 {
     let at = c.at;
     if words.len() <= at {
         return stop(words, c);
     }
-    let next = Cursor {
+    let next = SheetCursor {
         at: at + 1,
         place: c.place,
     };
@@ -145,7 +145,7 @@ fn outcome(words: &[u32], text: &mut [u8], c: Cursor) -> Cursor
     }
 }
 
-pub fn put_first_line(words: &[u32], text: &mut [u8], c: Cursor) -> Cursor
+pub fn put_first_line(words: &[u32], text: &mut [u8], c: SheetCursor) -> SheetCursor
     ensures { λ r. ⌜ PutsText (shown first-text decode-first) (now (words .entry)) c (now (text .entry)) (now (text .exit)) r ⌝ }
 {
     let mut d = outcome(words, text, c);
@@ -154,11 +154,11 @@ pub fn put_first_line(words: &[u32], text: &mut [u8], c: Cursor) -> Cursor
 }
 
 // Line 1, then the other lines to the last word.
-pub fn put_sheet(words: &[u32], text: &mut [u8]) -> Cursor
+pub fn put_sheet(words: &[u32], text: &mut [u8]) -> SheetCursor
     ensures { λ r. ⌜ PutsText decoded-sheet-text
         (now (words .entry)) (record { at = 0; place = 0 }) (now (text .entry)) (now (text .exit)) r ⌝ }
 {
-    let mut c = put_first_line(words, text, Cursor { at: 0, place: 0 });
+    let mut c = put_first_line(words, text, SheetCursor { at: 0, place: 0 });
     while c.at < words.len() {
         c = put_line(words, text, c);
     }

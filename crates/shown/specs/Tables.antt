@@ -1,13 +1,12 @@
 -- What the words show of a state of nesting: its rewrites, outputs, conditions and totals. Each part speaks of one section's words, or of
 -- one word of the head, so a store elsewhere leaves it as it is.
-use mathlib.Core.Path.{_≡_, refl, subst}
+use mathlib.Core.Path.{_≡_}
 use mathlib.Core.Bool.{false}
 use mathlib.Core.List.{List, [], map, List·Memᴰ}
 use mathlib.Core.Option.{Option, none, some}
 use Prim.Native.Nat.{ℕ, suc, _+_, _*_, _≤_, _<_}
 use lib.ListN.{length, getD}
 use Rattle.meaning.specs.Graph.{Value, SelectionKind, bool-cond, number, undef, held}
-use Rattle.meaning.specs.facts.Tests.{clash}
 use Rattle.nesting.specs.Nesting.{LazyCond, undef-cond, false-cond, true-cond, merge, LazyConds, no-conds, _&_, InputRewrite, renumber-to}
 use Rattle.nesting.specs.Nesting.{replace-by, RegionInputRewrites, replace-with, renumber-or-replace-with, RewriteEntry, NodeOutput}
 use Rattle.nesting.specs.Nesting.{NestState, StepAnswer, done, turned-away, rewrites-of}
@@ -126,15 +125,3 @@ pub record Done {A : Type 0} (R : ℕ → A → Type 0) (w : List ℕ) (x : ℕ)
   pub is : b ≡ done value state
   pub shows : R x value
   pub tables : ShowsTables w state
-
-pub done-of : {A : Type 0} {R : ℕ → A → Type 0} {w : List ℕ} {a : Defined} {b : StepAnswer A} → ShowsDefined R w a b → {x : ℕ}
-    → a ≡ Number x
-    → Done R w x b
-done-of {R} (shows-done {x} {a} {s} r t) {x = y} e =
-    let same : x ≡ y = cc in record { value = a; state = s; is = refl; shows = subst (λ z. R z a) same r; tables = t }
-done-of shows-full e = absurd (clash (cc))
-
-pub full-of : {A : Type 0} {R : ℕ → A → Type 0} {w : List ℕ} {a : Defined} {b : StepAnswer A} → ShowsDefined R w a b → a ≡ Full
-    → b ≡ turned-away 9 0
-full-of (shows-done r t) e = absurd (clash (cc))
-full-of shows-full e = refl

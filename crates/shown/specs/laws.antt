@@ -1,3 +1,7 @@
+pub mod DefinedShown
+pub mod RegionsKept
+pub mod FrontKept
+pub mod ValueWords
 pub mod Stores
 pub mod Steps
 pub mod Rewrites

@@ -3,6 +3,7 @@ ghost use mathlib.Core.Path.{_≡_};
 ghost use Prim.Native.Nat.{min};
 ghost use Rattle.record.specs.Stands.{OfRecord};
 ghost use Rattle.start.specs.Words as words;
+use state::defined::MOST_REGIONS;
 use state::defined::RETURNED;
 use state::defined::set_head;
 use state::regions::NOT_BEGUN;
@@ -20,7 +21,7 @@ fn start_rewrites(w: &mut [u16; WORDS])
     ensures { λ _. ⌜ now (w .exit) ≡ words.«nothing-rewritten» (now (w .entry)) ⌝ }
 {
     let mut r: u16 = 0;
-    while r < 128 {
+    while r < MOST_REGIONS {
         clear_rewrites(w, r);
         r += 1;
     }

@@ -38,6 +38,10 @@ start k = total (λ n. n) (take (number k) sizes)
 abbrev pub size : Section → ℕ
 size k = getD sizes (number k) 0
 
+-- Cells that there is room for; cell 0 is none.
+abbrev pub most-cells : ℕ
+most-cells = 704
+
 -- How many words they have in all.
 abbrev pub used : ℕ
 used = total (λ n. n) sizes

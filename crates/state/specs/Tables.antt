@@ -11,6 +11,7 @@ use Rattle.state.specs.Sections.{word, stored, stored-all, head, cells, 
 use Rattle.state.specs.Sections.{outputs, conditions}
 use Rattle.meaning.specs.Lists.{pick}
 use Rattle.nesting.specs.Nesting.{most-merges, most-outputs}
+use Rattle.state.specs.Sections.{most-cells}
 
 -- A handle, or 0 where it names no earlier cell; a condition, or true where it names no earlier one.
 unfoldable pub earlier : ℕ → ℕ → ℕ
@@ -34,8 +35,8 @@ cell-words x = x .tag ∷ x .before ∷ x .a ∷ x .b ∷ x .c ∷ x .d ∷ []
 
 -- A cell more, at the handle that the head counts.
 pub data Adds (l l′ : List ℕ) (x : Cell) (h : ℕ) : Type 0 where
-  added : h ≡ word l head 4 → h < 704 → l′ ≡ stored (stored-all l cells (6 * h) (cell-words x)) head 4 (h + 1) → Adds l l′ x h
-  no-room : 704 ≤ word l head 4 → l′ ≡ l → h ≡ 0 → Adds l l′ x h
+  added : h ≡ word l head 4 → h < most-cells → l′ ≡ stored (stored-all l cells (6 * h) (cell-words x)) head 4 (h + 1) → Adds l l′ x h
+  no-room : most-cells ≤ word l head 4 → l′ ≡ l → h ≡ 0 → Adds l l′ x h
 
 -- ---- Cases, rewrites.
 abbrev pub case-words : Case → List ℕ

@@ -16,7 +16,7 @@ is-held v = pick (ltb v 1536) false (ltb v 2048)
 
 -- The region and the index of an input, marked or not.
 abbrev pub input-region : ℕ → ℕ
-input-region v = v % 512 / 4
+input-region v = v % (4 * most-regions) / 4
 
 abbrev pub input-index : ℕ → ℕ
 input-index v = v % 4

@@ -30,6 +30,9 @@ pub const CASE: u16 = 6;
 
 pub const KEPT: u16 = 7;
 
+// No nesting makes more: docs/STATE.md has the sum.
+const MOST_CELLS: u16 = 704;
+
 // A cell by its six words. `before` is the list that it follows; the others are by tag:
 // blocks region · join list · exit node, region · select node, shape, scrutinee, cases · loop node, body, repeat value, kept inputs
 // (before:
@@ -103,7 +106,7 @@ pub fn joined_list(w: &[u16; WORDS], h: u16) -> u16
     earlier(cell_a(w, h), h)
 }
 
-pub fn case_children(w: &[u16; WORDS], h: u16) -> u16
+pub fn children_of_case(w: &[u16; WORDS], h: u16) -> u16
     ensures { λ a. ⌜ a ≡ tables.earlier (sections.word (now (w .entry)) sections.cells (6 * h + 3)) h ⌝ }
 {
     earlier(cell_b(w, h), h)
@@ -120,7 +123,7 @@ pub fn add_cell(w: &mut [u16; WORDS], x: Cell) -> u16
     ensures { λ a. ⌜ tables.Adds (now (w .entry)) (now (w .exit)) x a ⌝ }
 {
     let n = head(w, CELL_TOTAL);
-    if n < 704 {
+    if n < MOST_CELLS {
         let at = 6 * (n as usize);
         let xs = [x.tag, x.before, x.a, x.b, x.c, x.d];
         put_all(w, CELLS, CELLS_WORDS, at, &xs);

@@ -14,53 +14,53 @@ pub const HEAD_WORDS: usize = 16;
 // A word for each region of the record.
 pub const BY_REGION: usize = 32;
 
-pub const KINDS: usize = 4416;
+pub const KINDS: usize = HEAD + HEAD_WORDS;
 
-pub const BACKEDGES: usize = 4448;
+pub const BACKEDGES: usize = KINDS + BY_REGION;
 
 // Where the sets of the regions start, and behind them the spare one's, as of a region 32.
-pub const SET_STARTS: usize = 4480;
+pub const SET_STARTS: usize = BACKEDGES + BY_REGION;
 
-pub const SET_LENGTHS: usize = 4513;
+pub const SET_LENGTHS: usize = SET_STARTS + BY_SLOT;
 
 pub const BY_SLOT: usize = 33;
 
-pub const CHILDREN: usize = 4546;
+pub const CHILDREN: usize = SET_LENGTHS + BY_SLOT;
 
-pub const BODIES: usize = 4578;
+pub const BODIES: usize = CHILDREN + BY_REGION;
 
 // What a level of the cycle holds across a claim: ten words for each region.
-pub const LEVELS: usize = 4610;
+pub const LEVELS: usize = BODIES + BY_REGION;
 
 pub const LEVELS_WORDS: usize = 320;
 
 // The cases of the select under way, ten words each.
-pub const CASES: usize = 4930;
+pub const CASES: usize = LEVELS + LEVELS_WORDS;
 
 pub const CASES_WORDS: usize = 80;
 
 // A kind and four values for each region.
-pub const REWRITES: usize = 5010;
+pub const REWRITES: usize = CASES + CASES_WORDS;
 
 pub const REWRITES_WORDS: usize = 640;
 
 // Node, type and eight values for each output.
-pub const OUTPUTS: usize = 5650;
+pub const OUTPUTS: usize = REWRITES + REWRITES_WORDS;
 
 pub const OUTPUTS_WORDS: usize = 5120;
 
 // Node, shape, scrutinee and eight parts for each lazy condition record, behind the three that are no records.
-pub const CONDITIONS: usize = 10770;
+pub const CONDITIONS: usize = OUTPUTS + OUTPUTS_WORDS;
 
 pub const CONDITIONS_WORDS: usize = 5676;
 
 // Six words for each cell; cell 0 is none.
-pub const CELLS: usize = 16446;
+pub const CELLS: usize = CONDITIONS + CONDITIONS_WORDS;
 
 pub const CELLS_WORDS: usize = 4224;
 
 // Bundles of seven words: 33 slots of 33, and one for each case's own edge.
-pub const BUNDLES: usize = 20670;
+pub const BUNDLES: usize = CELLS + CELLS_WORDS;
 
 pub const BUNDLES_WORDS: usize = 7679;
 

@@ -21,6 +21,9 @@ pub const HELD: u16 = 1536;
 
 pub const INSTR: u16 = 2048;
 
+// Four of each region.
+const INPUTS: u16 = 4 * MOST_REGIONS;
+
 // What names nothing.
 pub const NOTHING: u16 = 4096;
 
@@ -111,7 +114,7 @@ pub fn value_word(v: Value) -> u16
     }
 }
 
-// A value taken apart: kinds 0 to 5 of document 01, and 6 for a marked input. `of` is a region; index 0 of kind 3 is an output.
+// A value taken apart: kinds 0 to 5 of document 01; a marked input is an input. `of` is a region, 0 where there is none.
 pub struct Parts {
     pub kind: u16,
     pub of: u16,
@@ -152,7 +155,7 @@ pub fn is_held(v: u16) -> bool
 pub fn input_region(v: u16) -> u16
     ensures { λ a. ⌜ a ≡ words.«input-region» v ⌝ }
 {
-    v % 512 / 4
+    v % INPUTS / 4
 }
 
 pub fn input_index(v: u16) -> u16

@@ -23,7 +23,7 @@ pub const LIMIT: usize = 1;
 
 pub const EXITS: usize = 2;
 
-pub const BLOCKS: usize = 3;
+pub const BLOCK_PLACES: usize = 3;
 
 // Tells its caller how long the array is: it lends the array as a slice, and compiles to nothing.
 pub fn span(words: &[u16]) {}

@@ -10,7 +10,7 @@ use lib.Seq.{drop-cons, take-all, take-suc-set, append-snoc}
 use lib.Dec.{eqb}
 use borrow.Author.Tests.{eq-eqb, ne-eqb, lt-ltb, le-ltb}
 use Rattle.vectors.specs.Parts.{behind, hex-byte, hex-bytes, line-and-answer, listed-store, answer-of}
-use Rattle.vectors.specs.declared.Reader.{Reader}
+use Rattle.vectors.specs.declared.VectorReader.{VectorReader}
 use Rattle.vectors.specs.Reading.{Reading, kept-text, ends-at, read-byte, read-bytes, reading-of, counted-of, KeptSoFar, Reads}
 
 -- ---- behind the first b
@@ -118,21 +118,21 @@ module _ (text : List ℕ) (size b : ℕ) (l : length text ≡ 65536) where
   kept-full h = rw (kept-text, le-ltb (length (take size text)) 65536 (omega (arith, length-take size text)))
 
 -- ---- one more byte of a list
-module _ (agrees : List ℕ → Bool) {r : Reader} {before : List ℕ} where
+module _ (agrees : List ℕ → Bool) {r : VectorReader} {before : List ℕ} where
   pub ended : {b : ℕ} → ends-at (r .fresh) b ≡ true → {a : Bool} → a ≡ agrees (take (r .size) before)
-      → {next : Reader} → next ≡ counted-of r a
+      → {next : VectorReader} → next ≡ counted-of r a
       → (after : List ℕ) → Reads agrees r (b ∷ []) before after next
   unfolding read-byte read-bytes
   ended e is same after =
       record { reads = ap (λ n. reading-of n after) same ∙ rw (read-byte, e, ← is); within = rw same (omega arith) }
 
-  pub kept : {b : ℕ} → ends-at (r .fresh) b ≡ false → r .size ≤ 65536 → {after : List ℕ} {next : Reader} → KeptSoFar r b before after next
+  pub kept : {b : ℕ} → ends-at (r .fresh) b ≡ false → r .size ≤ 65536 → {after : List ℕ} {next : VectorReader} → KeptSoFar r b before after next
       → Reads agrees r (b ∷ []) before after next
   unfolding read-byte read-bytes
   kept e small k = record { reads = k .reads ∙ rw (read-byte, e); within = k .within small }
 
   -- the byte at place i, of a list that is read from there on
-  pub read-next : (bs : List ℕ) (i : ℕ) → i < length bs → {after : List ℕ} {next : Reader}
+  pub read-next : (bs : List ℕ) (i : ℕ) → i < length bs → {after : List ℕ} {next : VectorReader}
       → Reads agrees r (getD bs i 0 ∷ []) before after next
       → {all : Reading} → read-bytes agrees (reading-of r before) (drop i bs) ≡ all
       → read-bytes agrees (reading-of next after) (drop (i + 1) bs) ≡ all

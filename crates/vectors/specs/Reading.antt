@@ -6,7 +6,7 @@ use Prim.Native.Nat.{ℕ, _≤_}
 use lib.ListN.{length, take}
 use lib.Dec.{eqb, ltb}
 use Rattle.vectors.specs.declared.Tally.{Tally}
-use Rattle.vectors.specs.declared.Reader.{Reader}
+use Rattle.vectors.specs.declared.VectorReader.{VectorReader}
 use Rattle.vectors.specs.Tally.{told-of}
 use Rattle.vectors.specs.Parts.{hex-bytes}
 
@@ -50,22 +50,22 @@ in-pieces agrees r (x ∷ xs) ys = in-pieces agrees (read-byte agrees r x) xs ys
 
 -- ---- what the code keeps
 -- The bytes so far stand in front of an array.
-abbrev pub reading-of : Reader → List ℕ → Reading
+abbrev pub reading-of : VectorReader → List ℕ → Reading
 reading-of r text = record { text = take (r .size) text; fresh = r .fresh; tally = r .tally }
 
-abbrev pub at-start : Reader
+abbrev pub at-start : VectorReader
 at-start = record { size = 0; fresh = false; tally = record { agree = 0; differ = 0 } }
 
 -- More bytes of a list, from `before` to `after`.
-pub record Reads (agrees : List ℕ → Bool) (r : Reader) (bs before after : List ℕ) (next : Reader) : Type 0 where
+pub record Reads (agrees : List ℕ → Bool) (r : VectorReader) (bs before after : List ℕ) (next : VectorReader) : Type 0 where
   pub reads : reading-of next after ≡ read-bytes agrees (reading-of r before) bs
   pub within : next .size ≤ 65536
 
-pub record KeptSoFar (r : Reader) (b : ℕ) (before after : List ℕ) (next : Reader) : Type 0 where
+pub record KeptSoFar (r : VectorReader) (b : ℕ) (before after : List ℕ) (next : VectorReader) : Type 0 where
   pub reads : reading-of next after ≡ keep-byte (reading-of r before) b
   pub within : r .size ≤ 65536 → next .size ≤ 65536
 
-abbrev pub counted-of : Reader → Bool → Reader
+abbrev pub counted-of : VectorReader → Bool → VectorReader
 counted-of r agreed = record { size = 0; fresh = false; tally = told-of (r .tally) agreed }
 
 pub record Decodes (digits after : List ℕ) (n : ℕ) : Type 0 where

@@ -19,7 +19,7 @@ pub struct Tally {
 }
 
 // How many bytes of a vector are kept so far, whether the next byte begins a line, and the tally of the vectors before.
-pub struct Reader {
+pub struct VectorReader {
     pub size: usize,
     pub fresh: bool,
     pub tally: Tally,
@@ -73,14 +73,14 @@ pub fn decode(digits: &[u8], bytes: &mut [u8; STORE]) -> usize
     n
 }
 
-pub fn start() -> Reader
+pub fn start() -> VectorReader
     ensures { λ r. ⌜ r ≡ at-start ⌝ }
 {
     let none = Tally {
         agree: 0,
         differ: 0,
     };
-    Reader {
+    VectorReader {
         size: 0,
         fresh: false,
         tally: none,
@@ -88,7 +88,7 @@ pub fn start() -> Reader
 }
 
 // Whether a byte is the dot behind a vector.
-pub fn ends(r: Reader, b: u8) -> bool
+pub fn ends(r: VectorReader, b: u8) -> bool
     ensures { λ e. ⌜ e ≡ ends-at (r .fresh) b ⌝ }
 {
     if r.fresh {
@@ -98,7 +98,7 @@ pub fn ends(r: Reader, b: u8) -> bool
 }
 
 // One more byte of a vector.
-pub fn keep(r: Reader, b: u8, text: &mut [u8; TEXT]) -> Reader
+pub fn keep(r: VectorReader, b: u8, text: &mut [u8; TEXT]) -> VectorReader
     ensures { λ n. ⌜ KeptSoFar r b (now (text .entry)) (now (text .exit)) n ⌝ }
 {
     span(text);
@@ -107,13 +107,13 @@ pub fn keep(r: Reader, b: u8, text: &mut [u8; TEXT]) -> Reader
     let fresh = b == b'\n';
     if size < TEXT {
         text[size] = b;
-        return Reader {
+        return VectorReader {
             size: size + 1,
             fresh,
             tally,
         };
     }
-    Reader { size, fresh, tally }
+    VectorReader { size, fresh, tally }
 }
 
 fn more(n: u32) -> u32
@@ -142,11 +142,11 @@ pub fn told(t: Tally, agreed: bool) -> Tally
 }
 
 // Behind a vector that agreed or differed.
-pub fn counted(r: Reader, agreed: bool) -> Reader
+pub fn counted(r: VectorReader, agreed: bool) -> VectorReader
     ensures { λ n. ⌜ n ≡ counted-of r agreed ⌝ }
 {
     let before = r.tally;
-    Reader {
+    VectorReader {
         size: 0,
         fresh: false,
         tally: told(before, agreed),

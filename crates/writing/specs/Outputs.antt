@@ -1,11 +1,7 @@
 -- A value's three words: an output by its node, and its place among that node's.
-use mathlib.Core.Path.{_≡_, _∙_}
 use mathlib.Core.List.{List, [], _∷_}
-use Prim.Native.Nat.{ℕ, zero, suc, _+_, _*_, _≤_}
-use native.Mathlib.Omega.{arith}
-use native.Mathlib.Numerals.{add-one}
+use Prim.Native.Nat.{ℕ, zero, suc, _+_, _*_}
 use lib.Dec.{ltb, eqb}
-use borrow.Author.Tests.{eq-eqb, ne-eqb}
 use Rattle.meaning.specs.Lists.{pick}
 use Rattle.state.specs.Sections.{word, head, outputs}
 use Rattle.state.specs.Values.{parts-of}
@@ -32,16 +28,3 @@ unfoldable pub value-words : List ℕ → ℕ → List ℕ
 value-words w x =
     let p = parts-of x in
     pick (eqb (p .kind) 3) (output-words w (p .index)) (p .kind ∷ p .of ∷ p .index ∷ [])
-
--- ---- The loop that counts, turn by turn.
-module _ (w : List ℕ) (node i : ℕ) {sum x : ℕ} (before : sum ≡ node-times w node i) (is : x ≡ word w outputs (10 * i)) where
-  pub one-more : {n : ℕ} → x ≡ node → n ≡ sum + 1 → n ≡ node-times w node (i + 1)
-  unfolding node-times
-  one-more e d = d ∙ rw (add-one i, before, ← is, eq-eqb x node e)
-
-  pub no-more : {n : ℕ} → (x ≡ node → ⊥) → n ≡ sum → n ≡ node-times w node (i + 1)
-  unfolding node-times
-  no-more e d = d ∙ rw (add-one i, ← is, ne-eqb x node e) (omega arith)
-
-pub all-counted : (w : List ℕ) (node : ℕ) {sum i end : ℕ} → sum ≡ node-times w node i → i ≤ end → end ≤ i → sum ≡ node-times w node end
-all-counted w node {i} {end} e a b = let d : i ≡ end = omega arith in rw d at e

@@ -11,7 +11,7 @@ use Rattle.nesting.specs.Nesting.{region-body, join, done}
 use Rattle.nesting.specs.Nesting.{replace-with, append-maybe-claimed-region}
 use Rattle.nesting.specs.Nesting.{most-regions}
 use Rattle.state.specs.declared.cases.Case.{Case}
-use Rattle.state.specs.Sections.{used, word, stored, head, kinds, set-starts, set-lengths, children, cases, bundles}
+use Rattle.state.specs.Sections.{used, word, stored, head, kinds, set-starts, set-lengths, children, cases, bundles, most-cells}
 use Rattle.state.specs.Tables.{bundle-at, bundle-words, case-row, bundle-copied, swapped, inserted, Joins}
 use Rattle.shown.specs.Tables.{EntryWords, replace-words}
 use Rattle.shown.specs.Values.{value}
@@ -20,7 +20,8 @@ use Rattle.shown.specs.laws.Rewrites.{insert-changes, rewrites-inserted}
 use Rattle.shown.specs.Sets.{Names, ShowsSet}
 use Rattle.shown.specs.Cells.{ShowsChildren}
 use Rattle.shown.specs.States.{Slots, ShowsState, ShowsBody, ShowsCase, shows-ok, shows-nothing, shows-edge, shows-others}
-use Rattle.shown.specs.Kept.{Later, later-same, later-then, KeptRegion, kept-same, kept-then, set-stays}
+use Rattle.shown.specs.Kept.{Later, KeptRegion}
+use Rattle.shown.specs.laws.RegionsKept.{later-same, later-then, kept-same, kept-then, set-stays}
 use Rattle.shown.specs.laws.RegionSteps.{later-by, kept-by, states-by, state-next, state-stays, Concerns, concerns-then, concerns-states}
 use Rattle.shown.specs.laws.RegionSteps.{word-concerns, children-set, length-set-to, bundle-run, bundle-concerns}
 use Rattle.shown.specs.laws.CellSteps.{list-joined}
@@ -212,7 +213,7 @@ slot-taken {g} few {r} {o} here there {w} {w₂} {s} {h} {ks} x {n} {d} set =
 module _ {g : Graph} (few : length (g .regions) ≤ 32) {r : ℕ} (here : r < length (g .regions)) {w : List ℕ} {s : NestState}
     (state : ShowsState g w s) (unready : word w kinds r ≡ 2 → ⊥) {parent : Nodes}
     (nodes : ShowsChildren g w (word w children r) parent) where
-  claimed-appended : (x : Case) {j : ℕ} {c : ClaimedRegion} → word w head 4 < 704 → ShowsAlone g w r j x (ok c) → {w₂ w′ : List ℕ} {h : ℕ}
+  claimed-appended : (x : Case) {j : ℕ} {c : ClaimedRegion} → word w head 4 < most-cells → ShowsAlone g w r j x (ok c) → {w₂ w′ : List ℕ} {h : ℕ}
       → Joins (inserted w (x .body) 1 (case-inputs w j)) w₂ (word (inserted w (x .body) 1 (case-inputs w j)) children r) (x .children) h
       → w′ ≡ stored (swapped (stored w₂ children r h) r (x .origin)) set-lengths r (x .length)
       → AppendShown g w w′ s parent (ok c) r
@@ -235,7 +236,7 @@ module _ {g : Graph} (few : length (g .regions) ≤ 32) {r : ℕ} (here : r < le
       let named₁ = named-inserted w (x .body) 1 vs room body-in refl (λ k b. rw (inputs-at w j k b) (names k b .below)) (state .named) in
       let state₁ = state-next later₁ states₁ tables₁ named₁ refl state in
       let w₁ = inserted w (x .body) 1 vs in
-      let free₁ : word w₁ head 4 < 704 = rw total₁ free in
+      let free₁ : word w₁ head 4 < most-cells = rw total₁ free in
       let outer : ShowsChildren g w₁ (word w₁ children r) parent = rw (kept₁ r .handle) (later₁ .nodes-stay nodes) in
       let y = list-joined free₁ room₁ joins outer (later₁ .nodes-stay inner) in
       let state₂ = state-stays (y .later) (y .states) (y .tables) state₁ in
@@ -262,7 +263,7 @@ module _ {g : Graph} (few : length (g .regions) ≤ 32) {r : ℕ} (here : r < le
       }
 
   -- Code and definition append the same.
-  pub append-shown : {x : Case} {j : ℕ} {m : MaybeClaimedRegion} {w′ : List ℕ} → word w head 4 < 704 → ShowsAlone g w r j x m
+  pub append-shown : {x : Case} {j : ℕ} {m : MaybeClaimedRegion} {w′ : List ℕ} → word w head 4 < most-cells → ShowsAlone g w r j x m
       → Appends w w′ r x j → AppendShown g w w′ s parent m r
   append-shown {x} free (claimed-parts a b c d e f h k l n) (appended p joins stores) =
       claimed-appended x free (claimed-parts a b c d e f h k l n) joins stores

@@ -11,7 +11,8 @@ use Rattle.state.specs.Sections.{used, word, stored-all, head, set-starts, set-
 use Rattle.state.specs.Tables.{own-edge, taken-word, case-words}
 use Rattle.shown.specs.Sets.{Names, ShowsSet, SameBundle}
 use Rattle.shown.specs.States.{Slots, ShowsClaimed, ShowsCase, shows-ok, shows-nothing, shows-edge, shows-others}
-use Rattle.shown.specs.Kept.{KeptRegion, set-stays, same-bundle-then}
+use Rattle.shown.specs.Kept.{KeptRegion}
+use Rattle.shown.specs.laws.RegionsKept.{set-stays, same-bundle-then}
 use Rattle.shown.specs.laws.SetStores.{OnlySets, only-run, only-then, only-later, only-kept, only-word-same}
 use Rattle.shown.specs.laws.SetStores.{cases-of-sets, run-word, run-beside}
 use Rattle.shown.specs.laws.SetStores.{run-elsewhere-word, same-elsewhere-run}

@@ -16,7 +16,8 @@ use Rattle.state.specs.Tables.{own-edge, taken-word, case-words, case-total}
 use Rattle.shown.specs.Sets.{Names, ShowsBundle, SameBundle}
 use Rattle.shown.specs.States.{Slots, ShowsState, ShowsClaimed, ShowsCase, shows-ok, shows-nothing, shows-edge, shows-others, ShowsCases}
 use Rattle.shown.specs.States.{no-case}
-use Rattle.shown.specs.Kept.{Later, KeptRegion, same-bundle, same-bundle-then, claimed-stays}
+use Rattle.shown.specs.Kept.{Later, KeptRegion}
+use Rattle.shown.specs.laws.RegionsKept.{same-bundle, same-bundle-then, claimed-stays}
 use Rattle.shown.specs.laws.Stores.{head-same}
 use Rattle.shown.specs.laws.SetStores.{OnlySets, only-same, only-then, only-total, only-later, only-kept, only-state, only-word-same}
 use Rattle.shown.specs.laws.RegionSteps.{slots-stay}

@@ -16,7 +16,8 @@ use Rattle.state.specs.Tables.{bundle-at}
 use Rattle.shown.specs.Tables.{ShowsCondition, shows-true}
 use Rattle.shown.specs.Sets.{Names, shows-region, shows-return, ShowsBundle, SameBundle}
 use Rattle.shown.specs.States.{ShowsOwnSet, Slots, ShowsState}
-use Rattle.shown.specs.Kept.{KeptRegion, bundle-stays, same-bundle-then}
+use Rattle.shown.specs.Kept.{KeptRegion}
+use Rattle.shown.specs.laws.RegionsKept.{bundle-stays, same-bundle-then}
 use Rattle.shown.specs.laws.RegionSteps.{word-there, word-apart}
 use Rattle.shown.specs.laws.SetStores.{OnlySets, only-run, only-word, only-then, only-later, only-state, bundles-of-sets}
 use Rattle.shown.specs.laws.RegionSteps.{slots-stay}

@@ -10,7 +10,8 @@ use borrow.Author.Tests.{lt-ltb, le-ltb, eq-eqb, ne-eqb}
 use Rattle.meaning.specs.Graph.{Graph, no-value, region, edges-of}
 use Rattle.meaning.specs.Graph as graph
 use Rattle.record.specs.Stands.{Stands}
-use Rattle.fields.specs.ByNumber.{end-values, edge-of}
+use Rattle.fields.specs.ByNumber.{ValuesAt, end-values, edge-of}
+use Rattle.fields.specs.Words.{value-item}
 use Rattle.fields.specs.Shape.{value-is}
 use Rattle.fields.specs.declared.shape.Value.{Value}
 use Rattle.fields.specs.declared.shape.Value.the-variants.{Const, Input, Instr, Bool as Truth, Undef, Nothing}
@@ -19,8 +20,10 @@ use Rattle.state.specs.Sections.{Section, word, stored, stored-all, stored-all-
 use Rattle.state.specs.Tables.{bundle-at, own-edge, taken-word, case-words, bundle-copied, shift-removed, swapped}
 use Rattle.state.specs.Tables.{inserted, edges-word, Joins}
 use Rattle.state.specs.Values.{value-word}
-use Rattle.shown.specs.Front.{SameKinds, stands-kept, kinds-stored, kinds-run, kinds-then}
-use Rattle.bundles.specs.Words.{record-word, padded-by, padded, edge-deferred, return-deferred, unclaimed-case, claimed-case}
+use Rattle.shown.specs.Front.{SameKinds}
+use Rattle.shown.specs.laws.FrontKept.{stands-kept, kinds-stored, kinds-run, kinds-then}
+use Rattle.bundles.specs.Words.{record-word, padded-by, padded, listed-word, listed}
+use Rattle.bundles.specs.Words.{edge-deferred, return-deferred, unclaimed-case, claimed-case}
 use Rattle.bundles.specs.Words.{case-filled}
 use Rattle.bundles.specs.Words.{filled-from, cases-filled, given-word, given-inputs, split-filled, case-inputs, Appends, appended}
 use Rattle.bundles.specs.Words.{its-edge}
@@ -51,14 +54,23 @@ module _ (n : ℕ) (vs : List graph.Value) (k : ℕ) where
   unfolding padded-by
   padded-in h v p q = p ∙ rw (lt-ltb k n h, ← q) (word-of-record v)
 
-  pub padded-beyond : n ≤ k → 66 ≡ padded-by n vs k
-  unfolding padded-by
-  padded-beyond h = rw (le-ltb k n h)
+-- What is listed at a place.
+module _ (l : List ℕ) (p n k : ℕ) where
+  pub listed-in : k < n → (v : Value) → {a : ℕ} → a ≡ value-word v → value-is v ≡ value-item l p k → a ≡ listed-word l p n k
+  unfolding listed-word
+  listed-in h v e q = e ∙ rw (lt-ltb k n h, ← q) (word-of-record v)
 
-pub padded-all : (vs : List graph.Value) {n a b c d : ℕ} → n ≡ length vs → a ≡ padded-by n vs 0 → b ≡ padded-by n vs 1
-    → c ≡ padded-by n vs 2 → d ≡ padded-by n vs 3
-    → (a ∷ b ∷ c ∷ d ∷ []) ≡ padded vs
-padded-all vs size p q r s = rw (p, q, r, s, size)
+  pub listed-beyond : n ≤ k → 66 ≡ listed-word l p n k
+  unfolding listed-word
+  listed-beyond h = rw (le-ltb k n h)
+
+pub listed-all : (l : List ℕ) (p : ℕ) {n a b c d : ℕ} → n ≡ getD l p 0 → a ≡ listed-word l p n 0 → b ≡ listed-word l p n 1
+    → c ≡ listed-word l p n 2 → d ≡ listed-word l p n 3 → (a ∷ b ∷ c ∷ d ∷ []) ≡ listed l p
+listed-all l p size a b c d = rw (a, b, c, d, size)
+
+pub listed-is : (l : List ℕ) (p : ℕ) {vs : List graph.Value} → ValuesAt l p vs → listed l p ≡ padded vs
+unfolding listed-word padded-by
+listed-is l p at = rw (at .count, at .item 0, at .item 1, at .item 2, at .item 3)
 
 pub edge-by : (g : Graph) (l : List ℕ) (p r j : ℕ) {t : ℕ} {vs l′ : List ℕ} → t ≡ edge-of g r j .target → vs ≡ padded
     (edge-of g r j .inputs)

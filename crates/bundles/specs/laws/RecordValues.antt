@@ -17,9 +17,10 @@ use Rattle.format.specs.References.{type-in, behind-all, instructions}
 use Rattle.format.specs.Valid.{Usable, Passed, ValidEdge, ValidEnd, Valid}
 use Rattle.fields.specs.ByNumber.{edge-of}
 use Rattle.state.specs.Values.{const-word, instr-word, undef-word, region-word}
-use Rattle.shown.specs.Values.{value, Ranged, ranged, in-const, in-false, in-true, in-undef, in-output, in-input, in-held, in-instr}
-use Rattle.shown.specs.Values.{in-none}
-use Rattle.shown.specs.Values.{value-undef, value-input}
+use Rattle.shown.specs.Values.{value}
+use Rattle.shown.specs.laws.ValueWords.{Ranged, ranged, in-const, in-false, in-true, in-undef, in-output, in-input, in-held, in-instr}
+use Rattle.shown.specs.laws.ValueWords.{in-none}
+use Rattle.shown.specs.laws.ValueWords.{value-undef, value-input}
 use Rattle.shown.specs.Sets.{Names}
 use Rattle.bundles.specs.laws.ReadTypes.{TypeRead}
 use Rattle.bundles.specs.Words.{record-word, padded-by, padded}

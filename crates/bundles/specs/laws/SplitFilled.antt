@@ -17,7 +17,8 @@ use Rattle.shown.specs.Values.{value}
 use Rattle.shown.specs.Sets.{Names, ShowsTarget, shows-region, shows-return, ShowsBundle, ShowsSet, no-bundle}
 use Rattle.shown.specs.States.{ShowsOwnSet, Slots, ShowsState, ShowsClaimed, ShowsCase, shows-ok, shows-nothing, shows-edge, shows-others}
 use Rattle.shown.specs.States.{ShowsCases, no-case}
-use Rattle.shown.specs.Kept.{Later, KeptRegion, kept-then, set-stays, same-bundle-then, claimed-stays}
+use Rattle.shown.specs.Kept.{Later, KeptRegion}
+use Rattle.shown.specs.laws.RegionsKept.{kept-then, set-stays, same-bundle-then, claimed-stays}
 use Rattle.shown.specs.laws.Stores.{head-same}
 use Rattle.shown.specs.laws.SetStores.{OnlySets, only-then, only-total, only-later, only-state, only-word-same, word-other}
 use Rattle.shown.specs.laws.RegionSteps.{slots-stay}

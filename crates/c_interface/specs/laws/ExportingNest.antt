@@ -1,30 +1,29 @@
 -- From the nester's answer to its number.
-use mathlib.Core.Path.{_≡_, refl, ap, _∙_}
+use mathlib.Core.Path.{_≡_, ap, _∙_}
 use mathlib.Core.List.{List}
 use Prim.Native.Nat.{ℕ, _+_, _*_, _<_}
 use native.Mathlib.Omega.{arith}
 use lib.ListN.{length}
-use Rattle.format.specs.Store as format
-use Rattle.format.specs.Store.{accepted, refused}
+use Rattle.format.specs.Store.{Answer, accepted, refused}
+use Rattle.store.specs.Loaded.{words-counted}
 use Rattle.meaning.specs.facts.Tests.{clash}
-use Rattle.nester.specs.declared.SheetAnswer.{SheetAnswer}
 use Rattle.nester.specs.declared.SheetAnswer.the-variants.{Sheet, Refused}
-use Rattle.nester.specs.Answers.{Ends, ends-sheet, ends-refused}
+use Rattle.nester.specs.Answers.{Ends}
 use Rattle.nester.specs.Nests.{Nests}
 use Rattle.c_interface.specs.Exported.{NestExported}
 
-module _ {b : format.Answer (List ℕ)} {out out′ : List ℕ} where
+module _ {b : Answer (List ℕ)} {out out′ : List ℕ} where
   sheet-length : {n : ℕ} → Ends b out out′ (Sheet n) → (ws : List ℕ) → b ≡ accepted ws → n ≡ length ws
-  sheet-length (ends-sheet {ws = us} e size d) ws f = let same : us ≡ ws = cc in size ∙ ap length same
+  sheet-length h ws f = let is = h .answer ∙ ap words-counted f in cc
 
   not-refused : {n : ℕ} → Ends b out out′ (Sheet n) → {m w : ℕ} → b ≡ refused m w → ⊥
-  not-refused (ends-sheet e size d) f = clash (cc)
+  not-refused h f = let is = h .answer ∙ ap words-counted f in clash (cc)
 
   not-sheet : {n x : ℕ} → Ends b out out′ (Refused n x) → {ws : List ℕ} → b ≡ accepted ws → ⊥
-  not-sheet (ends-refused e d) f = clash (cc)
+  not-sheet h f = let is = h .answer ∙ ap words-counted f in clash (cc)
 
   same-refusal : {n x : ℕ} → Ends b out out′ (Refused n x) → {m w : ℕ} → b ≡ refused m w → (n ≡ m) × (x ≡ w)
-  same-refusal (ends-refused e d) f = (cc, cc)
+  same-refusal h f = let is = h .answer ∙ ap words-counted f in (cc, cc)
 
 module _ (s old new out out′ : List ℕ) where
   pub sheet-exported : {n a : ℕ} → a ≡ n → Nests s old new out out′ (Sheet n) → NestExported s old new out out′ a

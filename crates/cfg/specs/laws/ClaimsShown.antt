@@ -46,7 +46,7 @@ use Rattle.shown.specs.laws.Stores.{ChangesOnly, head-changes}
 use Rattle.shown.specs.Sets.{ShowsTarget, shows-region, shows-return, no-bundle, target-size}
 use Rattle.shown.specs.States.{ShowsState, ShowsBody, ShowsRegion, is-not-begun, is-in-progress, is-ready, is-claimed, ShowsClaimed}
 use Rattle.shown.specs.States.{ShowsOwnSet, no-case}
-use Rattle.shown.specs.Kept.{body-stays, claimed-stays, own-set-stays}
+use Rattle.shown.specs.laws.RegionsKept.{body-stays, claimed-stays, own-set-stays}
 use Rattle.shown.specs.laws.RegionSteps.{state-stays, concerns-states, state-next, states-by, later-by, kept-by, word-there}
 use Rattle.state.specs.declared.defined.Made.{Made}
 use Rattle.cfg.specs.declared.claim.Claim as code

@@ -32,10 +32,12 @@ use Rattle.shown.specs.Front.{SameKinds}
 use Rattle.shown.specs.laws.Stores.{ChangesOnly, head-changes}
 use Rattle.shown.specs.laws.Steps.{node-defined}
 use Rattle.shown.specs.Values as shown-values
-use Rattle.shown.specs.Tables.{ShowsShape, shape-bool, shape-number, done-of, full-of}
+use Rattle.shown.specs.Tables.{ShowsShape, shape-bool, shape-number}
+use Rattle.shown.specs.laws.DefinedShown.{done-of, full-of}
 use Rattle.shown.specs.Cells.{ShowsNodes, no-nodes, ShowsChildren}
 use Rattle.shown.specs.States.{ShowsState, ShowsBody, no-case}
-use Rattle.shown.specs.Kept.{Later, later-same, later-then, KeptRegion, kept-same, kept-then, claimed-stays, body-stays, set-stays}
+use Rattle.shown.specs.Kept.{Later, KeptRegion}
+use Rattle.shown.specs.laws.RegionsKept.{later-same, later-then, kept-same, kept-then, claimed-stays, body-stays, set-stays}
 use Rattle.shown.specs.laws.RegionSteps.{word-concerns, concerns-then, concerns-states, state-stays, state-next}
 use Rattle.shown.specs.laws.RegionSteps.{children-set, length-set-to}
 use Rattle.shown.specs.laws.RegionSteps.{aside-by, bundles-same}
@@ -59,6 +61,7 @@ use Rattle.cfg.specs.laws.Shows.{cells-in-all, owed-stays, world, chains
 use Rattle.cfg.specs.laws.Shows.{was-nothing, BodyShows}
 use Rattle.cfg.specs.laws.Shows.{shows-body, refuses-body}
 use Rattle.cfg.specs.laws.SelectBodies.{edges-bound, into-body}
+use Rattle.state.specs.Sections.{most-cells}
 
 no-blocks-of : {g : Graph} {l : List ℕ} (n r k : ℕ) (bs : List (List Instr)) → length bs ≡ 0 → ShowsNodes g l 0 (blocks-from n r k bs)
 no-blocks-of n r k [] e = no-nodes refl
@@ -150,7 +153,7 @@ module _ {g : Graph} (few : length (g .regions) ≤ 32) {r : ℕ} (here : r < le
       }
 
   prepared : {w w₁ w₂ : List ℕ} {s : NestState} → AddsBlocks g w r w₁ → w₂ ≡ stored w₁ set-lengths r 0 → ShowsState g w s
-      → (word w kinds r ≡ 2 → ⊥) → 1 ≤ word w head 4 → word w head 4 < 704 → PreparedInst g r w w₂ s
+      → (word w kinds r ≡ 2 → ⊥) → 1 ≤ word w head 4 → word w head 4 < most-cells → PreparedInst g r w w₂ s
   unfolding taken-word
   prepared (no-blocks z e) f state unready one free =
       rw (f, e) (list-stored state unready (record { nodes = no-blocks-of _ r 0 (region g r .blocks) z; made = one }))
@@ -259,7 +262,7 @@ module _ {g : Graph} (few : length (g .regions) ≤ 32) {r : ℕ} (here : r < le
         let room₃ = st₃ .tables .size in
         let cells₃ = changes .totals 4 (omega arith) in
         let more = p .total in
-        let free₃ : word w₁ head 4 < 704 = omega arith in
+        let free₃ : word w₁ head 4 < most-cells = omega arith in
         let c₄ = cell-aside x free₃ room₃ g in
         let st₄ = state-stays (c₄ .later) (c₄ .states) (cell-tables x free₃ room₃) st₃ in
         let list = exit-added free₃ room₃ x (body₃ .nodes) e in

@@ -15,14 +15,16 @@ use Rattle.state.specs.Tables.{inserted, swapped, bundle-copied, bundle-at, bun
 use Rattle.state.specs.Tables.{swap-removed, Joins, first-empty}
 use Rattle.state.specs.Tables.{second-empty, joined, case-total}
 use Rattle.lookups.specs.LookUps.{Rewrites, look-up}
-use Rattle.shown.specs.Front.{SameKinds, stands-kept, kinds-same, kinds-stored, kinds-run, kinds-then, adds-kinds, defines-kinds}
+use Rattle.shown.specs.Front.{SameKinds}
+use Rattle.shown.specs.laws.FrontKept.{stands-kept, kinds-same, kinds-stored, kinds-run, kinds-then, adds-kinds, defines-kinds}
 use Rattle.bundles.specs.Words.{Appends, appended, its-edge, its-rest, cases-filled, filled-from, split-filled, return-deferred}
 use Rattle.bundles.specs.Words.{case-inputs}
 use Rattle.bundles.specs.laws.Paths.{front-filled}
 use Rattle.selects.specs.declared.define.Scrutinee.{Scrutinee}
 use Rattle.selects.specs.Cases.{all-replaced, inputs-replaced}
-use Rattle.selects.specs.Turns.{front-turns}
-use Rattle.selects.specs.Emits.{Emits, EmitAt, front-bundle}
+use Rattle.selects.specs.laws.TurnsLaws.{front-turns}
+use Rattle.selects.specs.Emits.{Emits, EmitAt}
+use Rattle.selects.specs.laws.EmitsLaws.{front-bundle}
 use Rattle.selects.specs.laws.Fronts.{front-cases, front-targets, front-plans, front-select, front-made}
 use Rattle.selects.specs.Into.{SelectIf, not-needed, select-refused, select-made, StructurizesSelect, not-structurized, structurized}
 use Rattle.selects.specs.Into.{StructurizesInto, one-follows, one-refused, all-together, all-refused, with-targets}
@@ -30,7 +32,8 @@ use Rattle.selects.specs.Into.{with-plan}
 use Rattle.loops.specs.Inputs.{RewritesValue, looked-up, left-as-is, RewritesValues, none-yet, one-more, TakesInput, lifted, kept, beyond}
 use Rattle.loops.specs.Inputs.{TakesFrom, none-taken, one-taken}
 use Rattle.loops.specs.declared.inputs.Taken.{Taken}
-use Rattle.loops.specs.Exits.{exit-front, exits-from}
+use Rattle.loops.specs.Exits.{exits-from}
+use Rattle.loops.specs.laws.ExitsLaws.{exit-front}
 use Rattle.loops.specs.Loops as loops
 use Rattle.loops.specs.Loops.{adds-loop, LoopDefined, loop-defined, no-value, no-node, EntersInputs, enters}
 

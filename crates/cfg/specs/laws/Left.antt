@@ -14,8 +14,9 @@ use Rattle.record.specs.Stands.{Stands}
 use Rattle.state.specs.Sections.{section, word, stored, kinds, bodies, backedges, children, set-lengths, levels, head}
 use Rattle.state.specs.laws.Apart.{section-stored}
 use Rattle.state.specs.Tables.{attempted, taken-stored}
-use Rattle.shown.specs.Front.{SameFront, front-same, front-then, front-stored, stands-on, SameKinds, kinds-same, kinds-stored, kinds-then}
-use Rattle.shown.specs.Front.{adds-kinds, defines-kinds}
+use Rattle.shown.specs.Front.{SameFront, SameKinds}
+use Rattle.shown.specs.laws.FrontKept.{front-same, front-then, front-stored, stands-on, kinds-same, kinds-stored, kinds-then}
+use Rattle.shown.specs.laws.FrontKept.{adds-kinds, defines-kinds}
 use Rattle.cfg.specs.laws.Leaves.{cases-kinds, split-kinds, return-kinds, appends-kinds, into-kinds, loops-kinds}
 use Rattle.state.specs.declared.defined.Made.{Made}
 use Rattle.cfg.specs.declared.claim.Claim.{Claim}
@@ -25,7 +26,8 @@ use Rattle.cfg.specs.ByState.{ClaimsBody, no-backedges, none-found, by-l
 use Rattle.cfg.specs.ByState.{busy-waits, other-state, as-claimed}
 use Rattle.cfg.specs.ByInst.{AddsExit, exit-full, exit-added, branches, Selects, selects}
 use Rattle.cfg.specs.ByInst.{ByTerminator, at-unreachable, at-return, at-exit, at-branch, at-bool, at-number, ByControlInst, by-inst}
-use Rattle.cfg.specs.ByInst.{ResolvesBy, resolves, made-ready, backedges-deferred, blocks-kinds}
+use Rattle.cfg.specs.ByInst.{ResolvesBy, resolves, made-ready, backedges-deferred}
+use Rattle.cfg.specs.laws.ByInstLaws.{blocks-kinds}
 use Rattle.cfg.specs.Claims.{NotBegun, TriesClaim, no-region, refused-inside, first-claim, later-claim, StructurizesRegion}
 use Rattle.cfg.specs.Claims.{refused-at-targets, refused-at-inst, refused-at-edges, structurized, TargetRegions, no-target}
 use Rattle.cfg.specs.Claims.{target-refused, target-claimed, target-waits, Scans, no-bundle-left, passes-return, passes-waiting}

@@ -36,7 +36,8 @@ use Rattle.shown.specs.laws.Stores.{word-changes}
 use Rattle.shown.specs.Sets.{shows-region}
 use Rattle.shown.specs.laws.Finds.{Finds, found, none-found, finds}
 use Rattle.shown.specs.States.{ShowsState, ShowsBody, is-in-progress, is-ready}
-use Rattle.shown.specs.Kept.{Later, later-then, set-stays, KeptRegion, kept-then}
+use Rattle.shown.specs.Kept.{Later, KeptRegion}
+use Rattle.shown.specs.laws.RegionsKept.{later-then, set-stays, kept-then}
 use Rattle.shown.specs.laws.RegionSteps.{later-by, kept-by, bundles-same, word-there, word-apart, word-concerns}
 use Rattle.shown.specs.laws.RegionSteps.{concerns-states, state-stays}
 use Rattle.shown.specs.laws.RegionSteps.{kind-set, Concerns, MakesNothing}

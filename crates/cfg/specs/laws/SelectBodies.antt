@@ -12,7 +12,8 @@ use Rattle.follows.specs.counting.Totals.{edge-total, edges-to, totals, edgeles
 use Rattle.state.specs.Sections.{word, head}
 use Rattle.state.specs.declared.defined.Made.{Made}
 use Rattle.shown.specs.Front.{SameKinds}
-use Rattle.shown.specs.Kept.{Later, later-then, KeptRegion, kept-then}
+use Rattle.shown.specs.Kept.{Later, KeptRegion}
+use Rattle.shown.specs.laws.RegionsKept.{later-then, kept-then}
 use Rattle.merging.specs.laws.TargetsShown.{edges-of-set, edges-of-cases}
 use Rattle.merging.specs.laws.RewritingShown.{bundle-found, case-found, cases-after}
 use Rattle.selects.specs.laws.RegionsShown.{ShowsMade, shows-made, shows-refused}

@@ -35,7 +35,8 @@ use Rattle.store.specs.declared.Checked.the-variants as step
 use Rattle.cfg.specs.declared.claims.SplitOut as split
 use Rattle.cfg.specs.declared.claims.SplitOut.the-variants as split-variants
 use Rattle.shown.specs.laws.RegionSteps.{Concerns}
-use Rattle.shown.specs.Kept.{Later, later-same, later-then, KeptRegion, kept-same, kept-then}
+use Rattle.shown.specs.Kept.{Later, KeptRegion}
+use Rattle.shown.specs.laws.RegionsKept.{later-same, later-then, kept-same, kept-then}
 use Rattle.cfg.specs.declared.claim.Claim.{Claim}
 use Rattle.cfg.specs.declared.claim.Claim.the-variants.{Claimed, Unclaimed, Refused}
 
@@ -192,7 +193,8 @@ pub record NewlyClaimed (w : List ℕ) (cs : List MaybeClaimedRegion) : Type 0 w
   pub apart : (i j : ℕ) (c d : ClaimedRegion) → i < j → getD cs i no-case ≡ ok c → getD cs j no-case ≡ ok d → c .origin ≡ d .origin → ⊥
 
 -- The edges es of region r, from place j on.
-pub data TargetsShow (g : Graph) (w w′ : List ℕ) (r j : ℕ) (es : List Edge) (b : StepAnswer (List MaybeClaimedRegion)) : Checked → Type 0 where
+pub data TargetsShow (g : Graph) (w w′ : List ℕ) (r j : ℕ) (es : List Edge) (b : StepAnswer (List MaybeClaimedRegion)) :
+    Checked → Type 0 where
   shows-targets : {cs : List MaybeClaimedRegion} {s′ : NestState} → b ≡ done cs s′ → ShowsState g w′ s′ → length cs ≡ length es
       → ((k : ℕ) → k < length es → TakenAs g w′ r (j + k) (getD es k no-edge) (getD cs k no-case)) → NewlyClaimed w cs → Around g r w w′
       → ((k : ℕ) → k < j → taken-word w′ r k ≡ taken-word w r k) → cells-in-all w′ ≤ cells-in-all w

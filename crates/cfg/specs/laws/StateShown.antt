@@ -17,7 +17,7 @@ use Rattle.nesting.specs.Nesting.{to-return, ClaimedRegion, claim-by-state, cla
 use Rattle.nesting.specs.Nesting.{StructurizeRegionState, not-begun, in-progress, claimed, ready, incoming-edge-counts}
 use Rattle.nesting.specs.steps.RegionsLeft.{state-of, with-state}
 use Rattle.follows.specs.counting.Totals.{edge-total, edges-to, edgeless}
-use Rattle.follows.specs.counting.Counting.{Fine, edges-held-by, edges-held-at}
+use Rattle.follows.specs.counting.Counting.{Fine, edges-waiting-by, edges-waiting-at}
 use Rattle.state.specs.declared.defined.Made.{Made}
 use Rattle.state.specs.Sections.{word, stored, kinds, bodies, backedges, children, set-starts, head, used}
 use Rattle.state.specs.laws.Apart.{section-other, stored-length}
@@ -27,7 +27,8 @@ use Rattle.shown.specs.laws.Finds.{Finds, found, none-found, finds}
 use Rattle.shown.specs.States.{ShowsState, ShowsOwnSet, ShowsRegion, is-not-begun, is-in-progress, is-ready, is-claimed, ShowsClaimed}
 use Rattle.shown.specs.States.{ShowsBody}
 use Rattle.shown.specs.Cells.{ShowsChildren}
-use Rattle.shown.specs.Kept.{Later, later-then, KeptRegion, kept-then}
+use Rattle.shown.specs.Kept.{Later, KeptRegion}
+use Rattle.shown.specs.laws.RegionsKept.{later-then, kept-then}
 use Rattle.shown.specs.laws.RegionSteps.{word-there, word-concerns, Concerns, concerns-states, state-stays, kind-set}
 use Rattle.loops.specs.laws.ClaimedLoops.{ClaimedLoop, ShowsLoop, shows-loop, loop-refused, structurize-loop-shown}
 use Rattle.loops.specs.Loops.{StructurizesLoop}
@@ -149,8 +150,8 @@ module _ (g : Graph) (valid : Valid g) where
   ready-counts {s} r b ks d bound live can is =
       let fine : Fine (K g valid) r (ready b ks d) = subst (λ x. Fine (K g valid) r x) is (can .pre .inv .fine r) in
       counts-small d (fine .0 .full) (λ q.
-      let z = edges-held-at (K g valid) q r (s .region-states) live in
-      let y = ap (edges-held-by (K g valid) q r) is in
+      let z = edges-waiting-at (K g valid) q r (s .region-states) live in
+      let y = ap (edges-waiting-by (K g valid) q r) is in
       let u = can .pre .room q in
       let v = bound q in omega arith)
 

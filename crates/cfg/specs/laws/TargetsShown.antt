@@ -28,7 +28,7 @@ use Rattle.state.specs.Sections.{word, kinds, levels, children, set-lengths, us
 use Rattle.state.specs.laws.Apart.{section-other}
 use Rattle.state.specs.Tables.{taken-stored, taken-word}
 use Rattle.shown.specs.States.{no-case}
-use Rattle.shown.specs.Kept.{claimed-stays}
+use Rattle.shown.specs.laws.RegionsKept.{claimed-stays}
 use Rattle.shown.specs.laws.RegionSteps.{Concerns, taken-concerns, word-there, word-apart}
 use Rattle.store.specs.declared.Checked.{Checked}
 use Rattle.cfg.specs.laws.Shows.{Occupied, NewlyClaimed, Around, around-then, concerns-around, cells-in-all, owed-stays}

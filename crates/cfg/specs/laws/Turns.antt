@@ -10,7 +10,7 @@ use Rattle.record.specs.Stands.{Stands}
 use Rattle.fields.specs.ByNumber.{edge-of}
 use Rattle.state.specs.Sections.{word, stored, kinds, bundles, set-starts, set-lengths, start, size, used}
 use Rattle.state.specs.Tables.{attempted, taken-stored, bundle-at}
-use Rattle.shown.specs.Front.{stands-on}
+use Rattle.shown.specs.laws.FrontKept.{stands-on}
 use Rattle.shown.specs.laws.Stores.{part-length}
 use Rattle.state.specs.declared.defined.Made.{Made}
 use Rattle.state.specs.declared.defined.Made.the-variants as made
@@ -39,7 +39,8 @@ stood-on y s =
 -- ---- Target regions.
 pub record TargetsPassed (counts w₀ : List ℕ) (r : ℕ) (w : List ℕ) (j : ℕ) : Type 0 where
   pub steady : SteadyRecord w₀ w
-  pub more : (g : Graph) → Stands w₀ g → {w′ : List ℕ} {a : Checked} → TargetRegions g counts w r j w′ a → TargetRegions g counts w₀ r 0 w′ a
+  pub more : (g : Graph) → Stands w₀ g → {w′ : List ℕ} {a : Checked} → TargetRegions g counts w r j w′ a
+      → TargetRegions g counts w₀ r 0 w′ a
 
 pub targets-none : (counts w : List ℕ) (r : ℕ) → TargetsPassed counts w r w 0
 targets-none counts w r = record { steady = steady-same w; more = λ g st t. t }
@@ -225,7 +226,8 @@ module _ {counts w w₁ : List ℕ} {r : ℕ} (begun : w₁ ≡ stored w kinds r
       region-refused-late e g st =
           refused-at-edges (rw taken at (its-targets st)) (rw made-so at (inst g (second-on st))) (rw e at (rest g (third-on st)))
 
-      pub region-done : d ≡ step.Right → {w₅ : List ℕ} → w₅ ≡ made-ready w₄ r → (g : Graph) → Stands w g → StructurizesRegion g counts w r w₅
+      pub region-done : d ≡ step.Right → {w₅ : List ℕ} → w₅ ≡ made-ready w₄ r → (g : Graph) → Stands w g
+          → StructurizesRegion g counts w r w₅
           step.Right
       region-done e s g st =
           structurized (rw taken at (its-targets st)) (rw made-so at (inst g (second-on st))) (rw e at (rest g (third-on st))) s

@@ -20,7 +20,7 @@ use Rattle.follows.specs.counting.Counting.{Nine, Pre, Good, owed, live-count, 
 use Rattle.follows.specs.counting.CountScan.{ScanCounted, BodyCounted, scan-few, split-out-counted}
 use Rattle.follows.specs.counting.CountRegion.{claim-counted, turn-counted}
 use Rattle.state.specs.Sections.{word, kinds}
-use Rattle.shown.specs.Kept.{body-stays}
+use Rattle.shown.specs.laws.RegionsKept.{body-stays}
 use Rattle.shown.specs.States.{ShowsBody}
 use Rattle.state.specs.declared.defined.Made.the-variants as made
 use Rattle.store.specs.declared.Checked.{Checked}

@@ -8,8 +8,9 @@ use lib.ListN.{length}
 use borrow.Author.Needs.{needs}
 use borrow.Fn.Kinds.{In}
 use borrow.Fn.PlainCycle.{Measures, is, falls, and}
-use Rattle.children.specs.CellByCell.{named-below, before-below}
-use Rattle.child_numbers.specs.Lists.{ListPut, list-start, list-inner, list-cell, list-all, list-as}
+use Rattle.children.specs.laws.CellByCellLaws.{named-below, before-below}
+use Rattle.child_numbers.specs.Lists.{ListPut}
+use Rattle.child_numbers.specs.laws.ListsLaws.{list-start, list-inner, list-cell, list-all, list-as}
 use Rattle.child_numbers.proofs.put_numbers.Reads as reads
 use Rattle.child_numbers.proofs.put_numbers.Kinds as kinds
 use Rattle.child_numbers.proofs.+put_numbers.Lts-put_numbers as lts

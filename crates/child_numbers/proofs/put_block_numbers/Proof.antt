@@ -3,7 +3,9 @@ use Prim.Native.Nat.{_-_, _≤_}
 use native.Mathlib.Omega.{arith}
 use borrow.Author.Needs.{needs}
 use lib.ListN.{length}
-use Rattle.child_numbers.specs.Lists.{BlocksPut, blocks-start, blocks-turn, blocks-all}
+use Rattle.child_numbers.specs.Lists.{BlocksPut}
+use Rattle.child_numbers.specs.laws.ListsLaws.{blocks-turn, blocks-all}
+use Rattle.child_numbers.specs.laws.ListsLaws.{blocks-start}
 use Rattle.child_numbers.proofs.put_block_numbers.Statement.{statement}
 use Rattle.child_numbers.proofs.put_block_numbers.Tie as tie
 

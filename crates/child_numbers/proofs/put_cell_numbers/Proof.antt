@@ -1,4 +1,4 @@
-use Rattle.child_numbers.specs.Lists.{cell-blocks, cell-one}
+use Rattle.child_numbers.specs.laws.ListsLaws.{cell-blocks, cell-one}
 use borrow.Author.Needs.{needs}
 use Rattle.child_numbers.proofs.put_cell_numbers.Statement.{statement}
 use Rattle.child_numbers.proofs.put_cell_numbers.Tie as tie

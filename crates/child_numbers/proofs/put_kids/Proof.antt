@@ -1,4 +1,4 @@
-use Rattle.child_numbers.specs.Lists.{kids-put}
+use Rattle.child_numbers.specs.laws.ListsLaws.{kids-put}
 use borrow.Author.Needs.{needs}
 use Rattle.child_numbers.proofs.put_kids.Statement.{statement}
 use Rattle.child_numbers.proofs.put_kids.Tie as tie

@@ -19,7 +19,8 @@ use Rattle.shown.specs.Tables.{ShowsCond, shows-true}
 use Rattle.shown.specs.Sets.{ShowsTarget, shows-region, shows-return, ShowsBundle, no-bundle}
 use Rattle.shown.specs.States.{ShowsOwnSet}
 use Rattle.bundles.specs.Words.{condition-in}
-use Rattle.writing.specs.Puts.{Part, _⊕_}
+use Rattle.writing.specs.Puts.{Part}
+use Rattle.writing.specs.laws.PutsLaws.{_⊕_}
 use Rattle.writing.specs.Parts.{look-up-at-end, values-part, defer-part}
 
 -- ---- The line.

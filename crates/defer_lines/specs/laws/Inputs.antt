@@ -14,7 +14,8 @@ use Rattle.shown.specs.Values.{value}
 use Rattle.shown.specs.Sets.{ShowsBundle}
 use Rattle.bundles.specs.Words.{input-count}
 use Rattle.bundles.specs.laws.Targets.{input-count-shown}
-use Rattle.writing.specs.Puts.{Part, _⊕_}
+use Rattle.writing.specs.Puts.{Part}
+use Rattle.writing.specs.laws.PutsLaws.{_⊕_}
 use Rattle.writing.specs.laws.Rows.{run, run-list}
 use Rattle.writing.specs.laws.PartLaws.{values-counted}
 use Rattle.writing.specs.Parts.{Concluded, value-part, values-part}

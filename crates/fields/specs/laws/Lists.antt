@@ -16,6 +16,7 @@ use Rattle.store.specs.Layout.{beyond}
 use Rattle.record.specs.laws.Parts.{word-parts, within-parts, counted-parts}
 use Rattle.record.specs.laws.PartsWithin.{ValueParts, value-parts}
 use Rattle.record.specs.Stands.{words-of-record}
+use Rattle.fields.specs.ByNumber.{ValuesAt}
 use Rattle.fields.specs.Words.{placed, value-at, word-item, value-item, behind-words, behind-values}
 use Rattle.meaning.specs.Lists.{pick}
 
@@ -128,6 +129,9 @@ module _ (w : List ℕ) {p : ℕ} where
   pub value-item-is : {xs : List Value} → ListAt w 3 (value-at w) p xs → (k : ℕ) → value-item w p k ≡ getD xs k no-value
   unfolding value-item
   value-item-is l k = item-of w 3 (value-at w) l no-value k
+
+  pub values-listed : {xs : List Value} → ListAt w 3 (value-at w) p xs → ValuesAt w p xs
+  values-listed l = record { count = l .count; item = value-item-is l }
 
 -- A list that is not there has no items.
 pub no-list : {A : Type 0} (w : List ℕ) (width : ℕ) (item : ℕ → A) (p : ℕ) → length w ≤ p → ListAt w width item p []

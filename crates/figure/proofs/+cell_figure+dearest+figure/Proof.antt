@@ -5,7 +5,7 @@ use native.Mathlib.Omega.{arith}
 use borrow.Author.Needs.{needs}
 use borrow.Fn.Kinds.{In}
 use borrow.Fn.PlainCycle.{Measures, is, falls, and}
-use Rattle.children.specs.CellByCell.{named-below, before-below}
+use Rattle.children.specs.laws.CellByCellLaws.{named-below, before-below}
 use Rattle.figure.specs.Figured.{SummedTo}
 use Rattle.figure.specs.laws.Steps.{dearest-none, dearest-of, cell-blocks, cell-joined, cell-select, cell-loop, cell-other}
 use Rattle.figure.specs.laws.Steps.{turns-fit, passed-none, passed-turn, passed-all}
@@ -23,7 +23,7 @@ use Rattle.fields.proofs.limit.Reads as limit-reads
 use Rattle.fields.proofs.test_cost.Reads as test-cost-reads
 use Rattle.figure.proofs.at_most.Reads as at-most-reads
 use Rattle.figure.proofs.blocks_figure.Reads as blocks-figure-reads
-use Rattle.state.proofs.cells.case_children.Reads as case-children-reads
+use Rattle.state.proofs.cells.children_of_case.Reads as children-of-case-reads
 use Rattle.state.proofs.cells.cell_a.Reads as cell-a-reads
 use Rattle.state.proofs.cells.cell_b.Reads as cell-b-reads
 use Rattle.state.proofs.cells.cell_before.Reads as cell-before-reads
@@ -92,8 +92,8 @@ cell-figure-called t = (
 
 abbrev dearest-called : ℕ → dearest-lts.Claims
 dearest-called t = (
-  case-children-reads.Asked,
-  case-children-reads.Learnt,
+  children-of-case-reads.Asked,
+  children-of-case-reads.Learnt,
   figure-below t,
   figure.Post,
   cell-before-reads.Asked,
@@ -249,15 +249,15 @@ cell-figure-returns-5 t c = cell-other (c .before .before .before .before .befor
 dearest-returns : (t : ℕ) → dearest-lts.Need-returns (dearest-called t) (dearest-at t) dearest.Post
 dearest-returns t c = dearest-none (c .if1 .taken)
 
-dearest-case-children-requires : (t : ℕ) → dearest-lts.Need-case-children-requires (dearest-called t) (dearest-at t) dearest.Post
-dearest-case-children-requires t c κs = search needs
+dearest-children-of-case-requires : (t : ℕ) → dearest-lts.Need-children-of-case-requires (dearest-called t) (dearest-at t) dearest.Post
+dearest-children-of-case-requires t c κs = search needs
 
 dearest-figure-requires : (t : ℕ) → dearest-lts.Need-figure-requires (dearest-called t) (dearest-at t) dearest.Post
 dearest-figure-requires t c κs = (
   omega (
     arith,
     c .before .before .pre .0,
-    named-below _ (c .case-children .ensures) (omega (arith, c .before .if1 .left)),
+    named-below _ (c .children-of-case .ensures) (omega (arith, c .before .if1 .left)),
   ),
   tt,
 )
@@ -276,12 +276,12 @@ dearest-dearest-requires t c κs = (
 )
 
 dearest-returns-2 : (t : ℕ) → dearest-lts.Need-returns-2 (dearest-called t) (dearest-at t) dearest.Post
-dearest-returns-2 t c = dearest-of (c .before .before .before .before .case-children .ensures)
+dearest-returns-2 t c = dearest-of (c .before .before .before .before .children-of-case .ensures)
     (c .before .before .before .figure .ensures) (c .before .before .cell-before .ensures) (c .before .dearest .ensures)
     (omega (arith, c .before .before .before .before .before .if1 .left)) (omega (arith, c .if2 .taken))
 
 dearest-returns-3 : (t : ℕ) → dearest-lts.Need-returns-3 (dearest-called t) (dearest-at t) dearest.Post
-dearest-returns-3 t c = dearest-of (c .before .before .before .before .case-children .ensures)
+dearest-returns-3 t c = dearest-of (c .before .before .before .before .children-of-case .ensures)
     (c .before .before .before .figure .ensures) (c .before .before .cell-before .ensures) (c .before .dearest .ensures)
     (omega (arith, c .before .before .before .before .before .if1 .left)) (omega (arith, c .if2 .left))
 
@@ -350,7 +350,7 @@ pub +cell-figure+dearest+figure-spec : {M : Type 1} → statement M
     (cell-figure-returns-5 t))
     (λ t. dearest-lts.spec (dearest-called t) (dearest-at t) dearest.Post
     (dearest-returns t)
-    (dearest-case-children-requires t)
+    (dearest-children-of-case-requires t)
     (dearest-figure-requires t)
     (dearest-cell-before-requires t)
     (dearest-dearest-requires t)

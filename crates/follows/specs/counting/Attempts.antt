@@ -28,7 +28,7 @@ use Rattle.follows.specs.counting.JustReached.{just-reached}
 use Rattle.follows.specs.simulation.ValidUse.{usable-graph, reachable-region}
 use Rattle.meaning.specs.facts.Sums.{total-same, total-add, total-each}
 use Rattle.follows.specs.counting.Totals.{edges-to}
-use Rattle.follows.specs.counting.Counting.{Counting, Nine, busy, owed-by, edges-held-by, owed, edges-held, Pre}
+use Rattle.follows.specs.counting.Counting.{Counting, Nine, busy, owed-by, edges-waiting-by, owed, edges-waiting, Pre}
 use Rattle.follows.specs.counting.CountClaim.{Claims}
 use Rattle.follows.specs.counting.CountRegion.{claim-counted}
 use Rattle.meaning.specs.facts.Elements.{numbered-map}
@@ -80,12 +80,12 @@ module _ (g : Graph) where
         ∙ total-add (λ i. length (edges-of (region g i .terminator))) (λ i. 2 * length (reachable g)) (reachable g)
         ∙ (let z = edges-over (reachable g) in let y = total-each (2 * length (reachable g)) (reachable g) in omega arith)
 
-    edges-held-start : (r : ℕ) → edges-held counting r first-states ≡ incoming-from r (reachable g)
-    unfolding edges-held
-    edges-held-start r =
-        total-same (λ i. edges-held-by counting r i (getD first-states i not-begun))
+    edges-waiting-start : (r : ℕ) → edges-waiting counting r first-states ≡ incoming-from r (reachable g)
+    unfolding edges-waiting
+    edges-waiting-start r =
+        total-same (λ i. edges-waiting-by counting r i (getD first-states i not-begun))
         (λ i. times-in r (targets-of g i) + times-in r (exit-targets g i))
-        (λ i. ap (edges-held-by counting r i) (all-not-begun (length (g .regions)) i)) (reachable g)
+        (λ i. ap (edges-waiting-by counting r i) (all-not-begun (length (g .regions)) i)) (reachable g)
         ∙ over-incoming r (reachable g)
 
     pub start-pre : Pre counting (suc (length (g .regions))) (λ r. 0) (λ r. edges-to r (to-region (g .entry)) 1) (initial-state g)
@@ -96,7 +96,7 @@ module _ (g : Graph) where
             rw z tt;
       };
       enough = let z = count-new (length (g .regions)) in omega arith;
-      room = λ r. let z = edges-held-start r in omega arith;
+      room = λ r. let z = edges-waiting-start r in omega arith;
       waits = λ r b. absurd (let z : false ≡ true = sym (ap busy (all-not-begun (length (g .regions)) r)) ∙ b in clash (cc));
     }
 

@@ -20,13 +20,13 @@ use Rattle.nesting.specs.Nesting.{structurize-loop, backedge-of, claim-body, cl
 use Rattle.nesting.specs.steps.Post.{Post, map-post, bind}
 use Rattle.nesting.specs.steps.Keeps.{loop-claimed, with-entry, define-region-keeps, define-node-keeps, rewrite-values-keeps}
 use Rattle.nesting.specs.steps.Keeps.{materialize-keeps}
-use Rattle.nesting.specs.steps.StatesKept.{Still, still-refl, still-then, still-steady}
+use Rattle.nesting.specs.steps.StatesKept.{KeepsStates, states-kept-refl, states-kept-then, states-kept-steady}
 use Rattle.nesting.specs.steps.RegionsLeft.{state-of, with-state, not-begun-one, count-set}
 use Rattle.follows.specs.simulation.Bundles.{found-in}
 use Rattle.follows.specs.counting.Totals.{edge-total, at, bundles-to, edges-to, edgeless}
 use Rattle.follows.specs.counting.SplitTotals.{split-total, not-found, no-bundles, exits-bundles, exits-edges, exits-edgeless}
-use Rattle.follows.specs.counting.Counting.{Counting, Nine, busy, live-count, live-one, owed-by, edges-held-by, edges-held, owed-set}
-use Rattle.follows.specs.counting.Counting.{edges-held-set, edges-held-at, Good, Fine, CountInv, Pre, Counted, counted-then}
+use Rattle.follows.specs.counting.Counting.{Counting, Nine, busy, live-count, live-one, owed-by, edges-waiting-by, edges-waiting, owed-set}
+use Rattle.follows.specs.counting.Counting.{edges-waiting-set, edges-waiting-at, Good, Fine, CountInv, Pre, Counted, counted-then}
 use Rattle.follows.specs.counting.Counting.{counted-still, inv-set, busy-else, busy-here}
 
 abbrev SetIs : DeferredEdgeBundleSet → Option ClaimedRegion → Type 0
@@ -34,7 +34,7 @@ SetIs d none = ⊥
 SetIs d (some c) = c .deferred-edges ≡ d
 
 record Looped (d : DeferredEdgeBundleSet) (s : NestState) (o : Option ClaimedRegion) (s′ : NestState) : Type 0 where
-  still : Still s s′
+  still : KeepsStates s s′
   is : SetIs d o
 
 loop-set : (g : Graph) (body : ℕ) (children : Nodes) (backedge : DeferredEdgeBundle) (repeat : LazyCond) (exits : DeferredEdgeBundleSet)
@@ -43,19 +43,19 @@ loop-set : (g : Graph) (body : ℕ) (children : Nodes) (backedge : DeferredEdgeB
     (structurize-loop g body children backedge repeat exits inputs s)
 unfolding structurize-loop
 loop-set g body children backedge repeat exits inputs s =
-    bind (define-region s) _ (define-region-keeps still-steady Nine (refl, refl) s) λ wrapper s₁ q₁.
+    bind (define-region s) _ (define-region-keeps states-kept-steady Nine (refl, refl) s) λ wrapper s₁ q₁.
     bind (rewrite-values (backedge .target-inputs) s₁) _
-    (rewrite-values-keeps still-steady Nine (refl, refl) (backedge .target-inputs) s₁) λ vs s₂ q₂.
+    (rewrite-values-keeps states-kept-steady Nine (refl, refl) (backedge .target-inputs) s₁) λ vs s₂ q₂.
     let s₃ = with-entry (record {
       region = body;
       rewrites =
           renumber-or-replace-with (take-inputs g body wrapper 0 vs no-inputs .rewrites);
     }) s₂ in
-    let q₃ : Still s₂ s₃ = record { states = refl; attempts = refl } in
-    bind (materialize-lazy-cond repeat s₃) _ (materialize-keeps still-steady Nine (refl, refl) repeat s₃) λ v s₄ q₄.
+    let q₃ : KeepsStates s₂ s₃ = record { states = refl; attempts = refl } in
+    bind (materialize-lazy-cond repeat s₃) _ (materialize-keeps states-kept-steady Nine (refl, refl) repeat s₃) λ v s₄ q₄.
     bind (define-node s₄) (λ n. give (some (loop-claimed g body children exits inputs wrapper vs v n)))
-    (define-node-keeps still-steady Nine (refl, refl) s₄) λ n s₅ q₅.
-    record { post = record { still = still-then q₁ (still-then q₂ (still-then q₃ (still-then q₄ q₅))); is = refl } }
+    (define-node-keeps states-kept-steady Nine (refl, refl) s₄) λ n s₅ q₅.
+    record { post = record { still = states-kept-then q₁ (states-kept-then q₂ (states-kept-then q₃ (states-kept-then q₄ q₅))); is = refl } }
 
 module _ (K : Counting) where
   abbrev pub claim-gain : Option ClaimedRegion → ℕ
@@ -103,16 +103,16 @@ module _ (K : Counting) where
       inv = inv-set K (s .region-states) q claimed inv lt-q tt;
       paid = let z = owed-set K q (s .region-states) claimed in-q lt-q in let y = ap (owed-by K q) is in omega arith;
       begun = let z = count-set not-begun-one (s .region-states) q claimed lt-q in omega arith;
-      kept = λ r. go r (eqb r q) refl (l r) (edges-held-set K r q (s .region-states) claimed in-q lt-q) (ap (edges-held-by K r q) is);
+      kept = λ r. go r (eqb r q) refl (l r) (edges-waiting-set K r q (s .region-states) claimed in-q lt-q) (ap (edges-waiting-by K r q) is);
       stay = λ r. still-busy r (eqb r q) refl;
     }
       where
         go : (r : ℕ) (x : Bool) → eqb r q ≡ x
             → edge-total (edges-to r) d′ + pick x b 0 ≤ edge-total (edges-to r) d + times-in r (exit-targets (K .g) q)
-            → edges-held K r (set (s .region-states) q claimed) + edges-held-by K r q (state-of s q)
-            ≡ edges-held K r (s .region-states) + pick x (K .incoming r) 0
-            → edges-held-by K r q (state-of s q) ≡ times-in r (exit-targets (K .g) q) + edge-total (edges-to r) d
-            → edges-held K r (set (s .region-states) q claimed) + edge-total (edges-to r) d′ ≤ edges-held K r
+            → edges-waiting K r (set (s .region-states) q claimed) + edges-waiting-by K r q (state-of s q)
+            ≡ edges-waiting K r (s .region-states) + pick x (K .incoming r) 0
+            → edges-waiting-by K r q (state-of s q) ≡ times-in r (exit-targets (K .g) q) + edge-total (edges-to r) d
+            → edges-waiting K r (set (s .region-states) q claimed) + edge-total (edges-to r) d′ ≤ edges-waiting K r
             (s .region-states) + pick x n 0
         go r true p a u v = let z = ap (K .incoming) (eqb-true r q p) in omega arith
         go r false p a u v = omega arith
@@ -193,11 +193,11 @@ module _ (K : Counting) where
         by-count (suc c) p = by-found (get-edge-bundle-by-target (to-region q) d) refl
 
   not-claimed : (q n : ℕ) (s : NestState) → n < K .incoming q → CountInv K (s .region-states) → Claims 0 q n s none s
-  not-claimed q n s l i = record { step = counted-still K (still-refl s) i (λ r. omega arith); good = l }
+  not-claimed q n s l i = record { step = counted-still K (states-kept-refl s) i (λ r. omega arith); good = l }
 
   module _ (q n : ℕ) (inputs : List Value) (fuel : ℕ) (H : ℕ → ℕ) (s : NestState) (in-q : is-in q (K .live) ≡ true) (pos : 1 ≤ n)
       (pre : Pre K fuel H (λ r. edges-to r (to-region q) n) s) where
-    q-room : edges-held K q (s .region-states) + (n + H q) ≤ K .incoming q
+    q-room : edges-waiting K q (s .region-states) + (n + H q) ≤ K .incoming q
     q-room = let x = pre .room q in let y = edges-self q n in omega arith
 
     ready-counted : (b : ℕ) (children : Nodes) (d : DeferredEdgeBundleSet) → state-of s q ≡ ready b children d
@@ -213,8 +213,8 @@ module _ (K : Counting) where
             elim x [ false ↦ give none | true ↦ set-state q claimed >> claim-body (K .g) q inputs children d (backedge-of q b d) ] in
             y s)
         go false e =
-            let a = edges-held-at K q q (s .region-states) in-q in
-            let c = ap (edges-held-by K q q) p in
+            let a = edges-waiting-at K q q (s .region-states) in-q in
+            let c = ap (edges-waiting-by K q q) p in
             let y = q-room in
             let z = eqb-false (K .incoming q) (n + b) e in
             let w = fine .1 in
@@ -225,9 +225,9 @@ module _ (K : Counting) where
         → Post Nine (λ o s′. Claims 0 q n s o s′) (claim-by-state (K .g) q n inputs (K .incoming q) x s)
     claim-by-state-counted not-begun p e = absurd (clash (cc))
     claim-by-state-counted claimed p e =
-        let a = edges-held-at K q q (s .region-states) in-q in
-        let b = ap (edges-held-by K q q) p in
-        let c : edges-held-by K q q claimed ≡ K .incoming q = rw (eq-eqb q q refl) in
+        let a = edges-waiting-at K q q (s .region-states) in-q in
+        let b = ap (edges-waiting-by K q q) p in
+        let c : edges-waiting-by K q q claimed ≡ K .incoming q = rw (eq-eqb q q refl) in
         let y = q-room in
         absurd (omega arith)
     claim-by-state-counted in-progress p e = go (eqb (K .incoming q) n) refl

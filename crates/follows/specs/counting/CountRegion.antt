@@ -17,14 +17,14 @@ use Rattle.nesting.specs.Nesting.{condition-in, count-to, MaybeClaimedRegion, o
 use Rattle.nesting.specs.Nesting.{Claim, SplitOut, begin, claim-by-state, by-control-inst, resolve-by, target-regions, split-out-matching}
 use Rattle.nesting.specs.Nesting.{resolve-deferred, structurize-region, try-claim-edge-bundle, add-attempt}
 use Rattle.nesting.specs.steps.Post.{Post, map-post, bind}
-use Rattle.nesting.specs.steps.StatesKept.{still-refl}
+use Rattle.nesting.specs.steps.StatesKept.{states-kept-refl}
 use Rattle.nesting.specs.steps.RegionsLeft.{count-set, not-begun-one, state-of, with-state}
 use Rattle.meaning.specs.facts.Members.{in-front, in-rest}
 use Rattle.follows.specs.counting.Totals.{edge-total, totals, edges-to, to-regions}
 use Rattle.follows.specs.counting.SplitTotals.{count-total}
 use Rattle.follows.specs.counting.SelectTotals.{select-into-total}
-use Rattle.follows.specs.counting.Counting.{Counting, Nine, busy, live-count, edges-leaving, owed-by, edges-held-by, edges-held}
-use Rattle.follows.specs.counting.Counting.{owed-set, edges-held-set, Good, Pre, Counted, counted-then, counted-as, counted-still}
+use Rattle.follows.specs.counting.Counting.{Counting, Nine, busy, live-count, edges-leaving, owed-by, edges-waiting-by, edges-waiting}
+use Rattle.follows.specs.counting.Counting.{owed-set, edges-waiting-set, Good, Pre, Counted, counted-then, counted-as, counted-still}
 use Rattle.follows.specs.counting.Counting.{pre-after, pre-as, inv-set, busy-else, busy-here}
 use Rattle.follows.specs.counting.CountClaim.{edges-self, one-less, claim-by-state-counted}
 use Rattle.follows.specs.counting.CountScan.{ClaimCounted, aims, AllLive, BodyCounted, ScanCounted, selected-counted}
@@ -79,7 +79,7 @@ module _ (K : Counting) where
     resolve-counted zero x H s good pre = record {
       post = record {
         step = counted-as K (counted-still K {f = λ r. edge-total (edges-to r) (x .deferred-edges)} {f′ =
-            λ r. edge-total (edges-to r) (x .deferred-edges)} (still-refl s) (pre .inv) (λ r. omega arith)) (live-count K) 0
+            λ r. edge-total (edges-to r) (x .deferred-edges)} (states-kept-refl s) (pre .inv) (λ r. omega arith)) (live-count K) 0
             (λ r. edge-total (edges-to r) (x .deferred-edges)) (λ r. edge-total (edges-to r) (x .deferred-edges)) (omega arith)
             (λ r. omega arith);
         good = good;
@@ -129,17 +129,17 @@ module _ (K : Counting) where
       lt-q : q < length (s .region-states)
       lt-q = let z = pre .inv .length in let y = K .below q in-q in omega arith
 
-      edges-held-under-way : (r : ℕ) → edges-held K r (set (s .region-states) q in-progress) + aims K es r ≡ edges-held K r
+      edges-waiting-under-way : (r : ℕ) → edges-waiting K r (set (s .region-states) q in-progress) + aims K es r ≡ edges-waiting K r
           (s .region-states)
-      edges-held-under-way r = let z = edges-held-set K r q (s .region-states) in-progress in-q lt-q in let y =
-          ap (edges-held-by K r q) new in omega arith
+      edges-waiting-under-way r = let z = edges-waiting-set K r q (s .region-states) in-progress in-q lt-q in let y =
+          ap (edges-waiting-by K r q) new in omega arith
 
       pub pre-under-way : Pre K fuel H (aims K es) under-way
       pre-under-way = record {
         inv = inv-set K (s .region-states) q in-progress (pre .inv) lt-q tt;
         enough = let z = count-set not-begun-one (s .region-states) q in-progress lt-q in let y = ap not-begun-one new in let w =
             pre .enough in omega arith;
-        room = λ r. let z = edges-held-under-way r in let y = pre .room r in omega arith;
+        room = λ r. let z = edges-waiting-under-way r in let y = pre .room r in omega arith;
         waits = λ r b. go r b (eqb r q) refl;
       }
         where
@@ -178,9 +178,9 @@ module _ (K : Counting) where
                 let x = a .begun in
                 omega arith;
             kept = λ r.
-                let z = edges-held-under-way r in
-                let v = edges-held-set K r q (s₁ .region-states) last in-q lt-last in
-                let w = ap (edges-held-by K r q) still-under-way in
+                let z = edges-waiting-under-way r in
+                let v = edges-waiting-set K r q (s₁ .region-states) last in-q lt-last in
+                let w = ap (edges-waiting-by K r q) still-under-way in
                 let x = a .kept r in
                 omega arith;
             stay = λ r. go r (eqb r q) refl;
@@ -218,11 +218,11 @@ module _ (K : Counting) where
           old = h .old;
         }
     begin-counted q n H s in-q pos pre in-progress p =
-        record { post = record { step = counted-still K (still-refl s) (pre .inv) (λ r. omega arith); old = ap not-begun-one p } }
+        record { post = record { step = counted-still K (states-kept-refl s) (pre .inv) (λ r. omega arith); old = ap not-begun-one p } }
     begin-counted q n H s in-q pos pre claimed p =
-        record { post = record { step = counted-still K (still-refl s) (pre .inv) (λ r. omega arith); old = ap not-begun-one p } }
+        record { post = record { step = counted-still K (states-kept-refl s) (pre .inv) (λ r. omega arith); old = ap not-begun-one p } }
     begin-counted q n H s in-q pos pre (ready b children d) p =
-        record { post = record { step = counted-still K (still-refl s) (pre .inv) (λ r. omega arith); old = ap not-begun-one p } }
+        record { post = record { step = counted-still K (states-kept-refl s) (pre .inv) (λ r. omega arith); old = ap not-begun-one p } }
 
   record Observed (q n : ℕ) (s : NestState) (x : StructurizeRegionState) (s′ : NestState) : Type 0 where
     step : Counted K 0 0 (λ r. edges-to r (to-region q) n) (λ r. edges-to r (to-region q) n) s s′

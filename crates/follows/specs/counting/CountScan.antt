@@ -18,7 +18,7 @@ use Rattle.nesting.specs.Nesting.{structurize-select-into, Claim, SplitOut, def
 use Rattle.nesting.specs.Nesting.{by-control-inst, target-regions, split-out-matching}
 use Rattle.nesting.specs.steps.Post.{Post, map-post, bind}
 use Rattle.nesting.specs.steps.Keeps.{define-node-keeps}
-use Rattle.nesting.specs.steps.StatesKept.{Still, still-refl, still-steady}
+use Rattle.nesting.specs.steps.StatesKept.{KeepsStates, states-kept-refl, states-kept-steady}
 use Rattle.nesting.specs.steps.RegionsLeft.{state-of}
 use Rattle.meaning.specs.facts.Sums.{total-one, total-add, total-less, total-each}
 use Rattle.follows.specs.counting.Totals.{Measure, edge-total, totals, at, bundles-to, edges-to, to-regions, edgeless, SetFits}
@@ -44,7 +44,7 @@ module _ (K : Counting) where
   AllLive (e ∷ es) = (is-in (e .target) (K .live) ≡ true) × AllLive es
 
   pub record CaseCounted (q : ℕ) (o : Option ClaimedRegion) (s : NestState) (c : MaybeClaimedRegion) (s′ : NestState) : Type 0 where
-    pub still : Still s s′
+    pub still : KeepsStates s s′
     pub kept : (r : ℕ) → edge-total (edges-to r) (deferred-of c) ≤ in-hand K q 1 o r
     pub good : Good K (deferred-of c)
 
@@ -73,19 +73,19 @@ module _ (K : Counting) where
 
   unclaimed-counted : (e : Edge) (x : StructurizeRegionState) (s : NestState) → is-in (e .target) (K .live) ≡ true
       → CaseCounted (e .target) none s (unclaimed-edge e x) s
-  unclaimed-counted e not-begun s h = record { still = still-refl s; kept = λ r. omega arith; good = deferred-good e h }
-  unclaimed-counted e in-progress s h = record { still = still-refl s; kept = λ r. omega arith; good = deferred-good e h }
-  unclaimed-counted e claimed s h = record { still = still-refl s; kept = λ r. omega arith; good = deferred-good e h }
+  unclaimed-counted e not-begun s h = record { still = states-kept-refl s; kept = λ r. omega arith; good = deferred-good e h }
+  unclaimed-counted e in-progress s h = record { still = states-kept-refl s; kept = λ r. omega arith; good = deferred-good e h }
+  unclaimed-counted e claimed s h = record { still = states-kept-refl s; kept = λ r. omega arith; good = deferred-good e h }
   unclaimed-counted e (ready b children d) s h = go (empty d && not (has-children children))
     where
       go : (x : Bool) → CaseCounted (e .target) none s (pick x (err []) (defer-edge e)) s
-      go true = record { still = still-refl s; kept = λ r. omega arith; good = good-empty }
-      go false = record { still = still-refl s; kept = λ r. omega arith; good = deferred-good e h }
+      go true = record { still = states-kept-refl s; kept = λ r. omega arith; good = good-empty }
+      go false = record { still = states-kept-refl s; kept = λ r. omega arith; good = deferred-good e h }
 
   pub edge-case-counted : (e : Edge) (o : Option ClaimedRegion) (s : NestState) → is-in (e .target) (K .live) ≡ true
       → GoodClaim K (e .target) 1 o → Post Nine (λ c s′. CaseCounted (e .target) o s c s′) (edge-case e o s)
   edge-case-counted e none s h g = record { post = unclaimed-counted e (state-of s (e .target)) s h }
-  edge-case-counted e (some c) s h g = record { post = record { still = still-refl s; kept = λ r. omega arith; good = g } }
+  edge-case-counted e (some c) s h g = record { post = record { still = states-kept-refl s; kept = λ r. omega arith; good = g } }
 
   pub selected-counted : (s : NestState) (cs : List MaybeClaimedRegion) (x : Body) (s′ : NestState) → CountInv K (s .region-states)
       → FitsAll (live-one K) cs → totals edgeless cs ≡ 0
@@ -99,23 +99,23 @@ module _ (K : Counting) where
       → CountInv K (s .region-states) → FitsAll (live-one K) cs → totals edgeless cs ≡ 0
       → Post Nine (λ y s′. BodyCounted 0 (λ r. totals (edges-to r) cs) s y s′) (by-control-inst (K .g) parent x cs s)
   by-control-inst-counted parent unreachable cs s i fi fu =
-      record { post = record { step = counted-still K (still-refl s) i (λ r. omega arith); good = good-empty } }
+      record { post = record { step = counted-still K (states-kept-refl s) i (λ r. omega arith); good = good-empty } }
   by-control-inst-counted parent (return vs) cs s i fi fu =
       record {
         post = record {
-          step = counted-still K (still-refl s) i (λ r. omega arith);
+          step = counted-still K (states-kept-refl s) i (λ r. omega arith);
           good =
               record { fits = λ r. omega arith; full = refl };
         };
       }
   by-control-inst-counted parent (exit-invocation op vs) cs s i fi fu =
       bind (define-node s) _
-      (define-node-keeps still-steady Nine (refl, refl) s) λ n s₁ q. record {
+      (define-node-keeps states-kept-steady Nine (refl, refl) s) λ n s₁ q. record {
         post =
             record { step = counted-still K q i (λ r. omega arith); good = good-empty };
       }
   by-control-inst-counted parent (branch e) [] s i fi fu =
-      record { post = record { step = counted-still K (still-refl s) i (λ r. omega arith); good = good-empty } }
+      record { post = record { step = counted-still K (states-kept-refl s) i (λ r. omega arith); good = good-empty } }
   by-control-inst-counted parent (branch e) (c ∷ cs) s i fi fu =
       map-post (append-maybe-claimed-region parent c s) (append-total Nine (refl, refl) (K .g) parent c s) λ y s₁ q.
       record {
@@ -234,7 +234,7 @@ module _ (K : Counting) where
         → Post Nine (λ cs s′. CasesCounted es s cs s′) (target-regions (K .g) claim es s)
     unfolding target-regions
     target-regions-counted [] H s a pre =
-        record { post = record { step = counted-still K (still-refl s) (pre .inv) (λ r. omega arith); fits = tt; full = refl } }
+        record { post = record { step = counted-still K (states-kept-refl s) (pre .inv) (λ r. omega arith); fits = tt; full = refl } }
     target-regions-counted (e ∷ es) H s (a, al) pre =
         bind (claim (e .target) 1 (e .inputs) s) _
         (claim-counted (e .target) 1 (e .inputs) (λ r. aims es r + H r) s a (omega arith) (first-target e es H pre)) λ o s₁ x.
@@ -261,7 +261,7 @@ module _ (K : Counting) where
         → Post Nine (λ o s′. ScanCounted before d s o s′) (split-out-matching (K .g) claim before d s)
     unfolding split-out-matching
     split-out-counted before [] H s hs vo pre =
-        record { post = record { step = counted-still K (still-refl s) (pre .inv) (λ r. omega arith); good = tt } }
+        record { post = record { step = counted-still K (states-kept-refl s) (pre .inv) (λ r. omega arith); good = tt } }
     split-out-counted before (e ∷ es) H s hs vo pre = go (e .target) refl λ s₁ p.
         split-out-counted (before ++ (e ∷ [])) es H s₁ (λ r. let z = last-one (bundles-to r) before e in let y = hs r in omega arith)
         (let z = last-one edgeless before e in omega arith)
@@ -286,7 +286,7 @@ module _ (K : Counting) where
                   >>= split-out-or e (before ++ es) more
             ] in y s)
         go to-return p ih = map-post _ (ih s pre) λ o s′ h. passed before es e s s o s′ 0
-            (counted-still K (still-refl s) (pre .inv) (λ r. omega arith)) (omega arith) h
+            (counted-still K (states-kept-refl s) (pre .inv) (λ r. omega arith)) (omega arith) h
         go (to-region q) p ih =
             let same : (r : ℕ) → edges-to r (e .target) (e .accumulated-count) ≡ edges-to r (to-region q) (e .accumulated-count) =
             λ r. ap (λ y. edges-to r y (e .accumulated-count)) p in

@@ -12,7 +12,7 @@ use Rattle.meaning.specs.Graph.{Graph, region, edges-of, targets-of}
 use Rattle.meaning.specs.Lists.{is-in, Distinct, times-in, total, pick}
 use Rattle.nesting.specs.Nesting.{exit-targets, DeferredEdgeBundleSet, StructurizeRegionState, not-begun, in-progress, claimed, ready}
 use Rattle.nesting.specs.Nesting.{NestState}
-use Rattle.nesting.specs.steps.StatesKept.{Still}
+use Rattle.nesting.specs.steps.StatesKept.{KeepsStates}
 use Rattle.nesting.specs.steps.RegionsLeft.{state-of, not-begun-one, count-states, not-begun-count}
 use Rattle.meaning.specs.facts.Tests.{at-or-else}
 use Rattle.meaning.specs.facts.Sums.{total-one, total-change}
@@ -57,11 +57,11 @@ module _ (K : Counting) where
   owed-by i (ready b children d) = live-count
 
   -- the edges to r that region i has yet to give out, or holds; once r itself is claimed, all
-  abbrev pub edges-held-by : ℕ → ℕ → StructurizeRegionState → ℕ
-  edges-held-by r i not-begun = times-in r (targets-of (K .g) i) + times-in r (exit-targets (K .g) i)
-  edges-held-by r i in-progress = times-in r (exit-targets (K .g) i)
-  edges-held-by r i claimed = pick (eqb r i) (K .incoming r) 0
-  edges-held-by r i (ready b children d) = times-in r (exit-targets (K .g) i) + edge-total (edges-to r) d
+  abbrev pub edges-waiting-by : ℕ → ℕ → StructurizeRegionState → ℕ
+  edges-waiting-by r i not-begun = times-in r (targets-of (K .g) i) + times-in r (exit-targets (K .g) i)
+  edges-waiting-by r i in-progress = times-in r (exit-targets (K .g) i)
+  edges-waiting-by r i claimed = pick (eqb r i) (K .incoming r) 0
+  edges-waiting-by r i (ready b children d) = times-in r (exit-targets (K .g) i) + edge-total (edges-to r) d
 
   weigh : (ℕ → StructurizeRegionState → ℕ) → List StructurizeRegionState → ℕ
   weigh W l = total (λ i. W i (getD l i not-begun)) (K .live)
@@ -70,9 +70,9 @@ module _ (K : Counting) where
   unfolding weigh
   owed l = weigh owed-by l
 
-  unfoldable pub edges-held : ℕ → List StructurizeRegionState → ℕ
+  unfoldable pub edges-waiting : ℕ → List StructurizeRegionState → ℕ
   unfolding weigh
-  edges-held r l = weigh (edges-held-by r) l
+  edges-waiting r l = weigh (edges-waiting-by r) l
 
   weigh-set : (W : ℕ → StructurizeRegionState → ℕ) (r : ℕ) (l : List StructurizeRegionState) (x : StructurizeRegionState)
       → is-in r (K .live) ≡ true → r < length l
@@ -88,15 +88,15 @@ module _ (K : Counting) where
   unfolding owed
   owed-set r l x i h = weigh-set owed-by r l x i h
 
-  pub edges-held-set : (q r : ℕ) (l : List StructurizeRegionState) (x : StructurizeRegionState) → is-in r (K .live) ≡ true → r < length l
-      → edges-held q (set l r x) + edges-held-by q r (getD l r not-begun) ≡ edges-held q l + edges-held-by q r x
-  unfolding edges-held
-  edges-held-set q r l x i h = weigh-set (edges-held-by q) r l x i h
+  pub edges-waiting-set : (q r : ℕ) (l : List StructurizeRegionState) (x : StructurizeRegionState) → is-in r (K .live) ≡ true → r < length l
+      → edges-waiting q (set l r x) + edges-waiting-by q r (getD l r not-begun) ≡ edges-waiting q l + edges-waiting-by q r x
+  unfolding edges-waiting
+  edges-waiting-set q r l x i h = weigh-set (edges-waiting-by q) r l x i h
 
-  pub edges-held-at : (q r : ℕ) (l : List StructurizeRegionState) → is-in r (K .live) ≡ true
-      → edges-held-by q r (getD l r not-begun) ≤ edges-held q l
-  unfolding edges-held weigh
-  edges-held-at q r l i = total-one (λ j. edges-held-by q j (getD l j not-begun)) r (K .live) i
+  pub edges-waiting-at : (q r : ℕ) (l : List StructurizeRegionState) → is-in r (K .live) ≡ true
+      → edges-waiting-by q r (getD l r not-begun) ≤ edges-waiting q l
+  unfolding edges-waiting weigh
+  edges-waiting-at q r l i = total-one (λ j. edges-waiting-by q j (getD l j not-begun)) r (K .live) i
 
   -- ---- a set: at most one bundle to each live region and none to another, each with an edge
   pub record Good (d : DeferredEdgeBundleSet) : Type 0 where
@@ -117,7 +117,7 @@ module _ (K : Counting) where
   pub record Pre (fuel : ℕ) (H f : ℕ → ℕ) (s : NestState) : Type 0 where
     pub inv : CountInv (s .region-states)
     pub enough : not-begun-count s < fuel
-    pub room : (r : ℕ) → edges-held r (s .region-states) + (f r + H r) ≤ K .incoming r
+    pub room : (r : ℕ) → edges-waiting r (s .region-states) + (f r + H r) ≤ K .incoming r
     pub waits : (r : ℕ) → busy (state-of s r) ≡ true → 1 ≤ H r
 
   -- A step at a cost of c attempts, with a gain; in hand was f, and then f′.
@@ -125,7 +125,7 @@ module _ (K : Counting) where
     pub inv : CountInv (s′ .region-states)
     pub paid : s′ .attempts + owed (s′ .region-states) + gain ≤ s .attempts + owed (s .region-states) + c
     pub begun : not-begun-count s′ ≤ not-begun-count s
-    pub kept : (r : ℕ) → edges-held r (s′ .region-states) + f′ r ≤ edges-held r (s .region-states) + f r
+    pub kept : (r : ℕ) → edges-waiting r (s′ .region-states) + f′ r ≤ edges-waiting r (s .region-states) + f r
     pub stay : (r : ℕ) → busy (state-of s′ r) ≡ busy (state-of s r)
 
   pub counted-then : {c c₁ c₂ gain gain₁ gain₂ : ℕ} {f f₁ f₁′ f₂ : ℕ → ℕ} {s s₁ s₂ : NestState} → Counted c₁ gain₁ f f₁ s s₁
@@ -152,13 +152,13 @@ module _ (K : Counting) where
         stay = a .stay;
       }
 
-  pub counted-still : {f f′ : ℕ → ℕ} {s s′ : NestState} → Still s s′ → CountInv (s .region-states) → ((r : ℕ) → f′ r ≤ f r)
+  pub counted-still : {f f′ : ℕ → ℕ} {s s′ : NestState} → KeepsStates s s′ → CountInv (s .region-states) → ((r : ℕ) → f′ r ≤ f r)
       → Counted 0 0 f f′ s s′
   counted-still q i l = record {
     inv = rw (q .states) i;
     paid = let x = ap owed (q .states) in let y = q .attempts in omega arith;
     begun = let x = ap (count-states not-begun-one) (q .states) in omega arith;
-    kept = λ r. let x = ap (edges-held r) (q .states) in let y = l r in omega arith;
+    kept = λ r. let x = ap (edges-waiting r) (q .states) in let y = l r in omega arith;
     stay = λ r. ap (λ l. busy (getD l r not-begun)) (q .states);
   }
 

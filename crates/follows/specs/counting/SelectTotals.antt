@@ -15,7 +15,7 @@ use Rattle.nesting.specs.Nesting.{structurize-select-by, without-convergent, st
 use Rattle.nesting.specs.lookups.Rewriting.{rewrite-cases-is, rewrite, rewrite-bundle, rewrite-case}
 use Rattle.nesting.specs.steps.Post.{Post, map-post, bind}
 use Rattle.nesting.specs.steps.Keeps.{define-select-keeps, emit-inputs-keeps, emit-condition-keeps, replace-inputs-keeps}
-use Rattle.nesting.specs.steps.StatesKept.{Still, still-refl, still-then, still-steady, still-log}
+use Rattle.nesting.specs.steps.StatesKept.{KeepsStates, states-kept-refl, states-kept-then, states-kept-steady, states-kept-log}
 use Rattle.meaning.specs.facts.Elements.{In, nth-in}
 use Rattle.follows.specs.simulation.ConvergentCase.{converges}
 use Rattle.follows.specs.counting.Totals.{Measure, edge-total, totals, summary-total, planned-total, bundles-to, edges-to, edgeless}
@@ -63,24 +63,24 @@ plans-total g μ cs [] = refl
 plans-total g μ cs (w ∷ ws) = ap (λ n. μ (w .target) (w .total-edge-count) + n) (plans-total g μ cs ws)
 
 pub record EmittedTotals (s : NestState) (ps : List PlannedBundle) (s′ : NestState) (d : DeferredEdgeBundleSet) : Type 0 where
-  pub still : Still s s′
+  pub still : KeepsStates s s′
   pub same : (μ : Measure) → edge-total μ d ≡ planned-total μ ps
 
 pub record SelectedTotals (s : NestState) (cs : List MaybeClaimedRegion) (s′ : NestState) (d : DeferredEdgeBundleSet) : Type 0 where
-  pub still : Still s s′
+  pub still : KeepsStates s s′
   pub chosen : ChosenTotals cs d
 
 module _ (Q : ℕ → ℕ → Type 0) (q9 : Q 9 0) where
   emit-total : (n : DefinedSelect) (ps : List PlannedBundle) (s : NestState) → Post Q (λ d s′. EmittedTotals s ps s′ d) (emit n ps s)
   unfolding emit
-  emit-total n [] s = record { post = record { still = still-refl s; same = λ μ. refl } }
+  emit-total n [] s = record { post = record { still = states-kept-refl s; same = λ μ. refl } }
   emit-total n (p ∷ ps) s =
-      bind (emit-inputs n (p .inputs) s) _ (emit-inputs-keeps still-steady Q q9 n (p .inputs) s) λ vs s₁ q₁.
-      bind (emit-condition n (p .condition) s₁) _ (emit-condition-keeps still-steady Q q9 n (p .condition) s₁) λ c s₂ q₂.
+      bind (emit-inputs n (p .inputs) s) _ (emit-inputs-keeps states-kept-steady Q q9 n (p .inputs) s) λ vs s₁ q₁.
+      bind (emit-condition n (p .condition) s₁) _ (emit-condition-keeps states-kept-steady Q q9 n (p .condition) s₁) λ c s₂ q₂.
       bind (emit n ps s₂) _ (emit-total n ps s₂) λ d s₃ h.
       record {
         post = record {
-          still = still-then q₁ (still-then q₂ (h .still));
+          still = states-kept-then q₁ (states-kept-then q₂ (h .still));
           same =
               λ μ. ap (λ x. μ (p .target) (p .total-edge-count) + x) (h .same μ);
         };
@@ -90,11 +90,11 @@ module _ (Q : ℕ → ℕ → Type 0) (q9 : Q 9 0) where
       (s : NestState)
       → Post Q (λ y s′. EmittedTotals s ps s′ (y .deferred-edges)) (select-if b kind x cases ps s)
   unfolding select-if
-  select-if-total false kind x cases ps s = record { post = record { still = still-refl s; same = λ μ. shared-total μ ps } }
+  select-if-total false kind x cases ps s = record { post = record { still = states-kept-refl s; same = λ μ. shared-total μ ps } }
   select-if-total true kind x cases ps s =
-      bind (define-select kind x cases s) _ (define-select-keeps still-steady Q q9 kind x cases s) λ n s₁ q.
+      bind (define-select kind x cases s) _ (define-select-keeps states-kept-steady Q q9 kind x cases s) λ n s₁ q.
       bind (emit n ps s₁) _ (emit-total n ps s₁) λ d s₂ h.
-      record { post = record { still = still-then q (h .still); same = h .same } }
+      record { post = record { still = states-kept-then q (h .still); same = h .same } }
 
   module _ (g : Graph) where
     -- of the cases as they were looked up
@@ -121,7 +121,7 @@ module _ (Q : ℕ → ℕ → Type 0) (q9 : Q 9 0) where
         let cs = map (rewrite-case (rewrite (s .region-input-rewrites))) cases in
         bind (select-if (any-non-empty-case cases || any-needs-select (plan-bundles g cs)) kind x cases (plan-bundles g cs) _) _
         (select-if-total (any-non-empty-case cases || any-needs-select (plan-bundles g cs)) kind x cases (plan-bundles g cs) _) λ y s₁ a.
-        bind (replace-inputs cs s₁) _ (replace-inputs-keeps still-steady Q q9 still-log cs s₁) λ u s₂ q.
+        bind (replace-inputs cs s₁) _ (replace-inputs-keeps states-kept-steady Q q9 states-kept-log cs s₁) λ u s₂ q.
         record {
           post = record {
             still =
@@ -132,9 +132,9 @@ module _ (Q : ℕ → ℕ → Type 0) (q9 : Q 9 0) where
         }
 
     pub append-total : (parent : Nodes) (c : MaybeClaimedRegion) (s : NestState)
-        → Post Q (λ y s′. Still s s′ × (y .deferred-edges ≡ deferred-of c)) (append-maybe-claimed-region parent c s)
+        → Post Q (λ y s′. KeepsStates s s′ × (y .deferred-edges ≡ deferred-of c)) (append-maybe-claimed-region parent c s)
     unfolding append-maybe-claimed-region
-    append-total parent (err d) s = record { post = (still-refl s, refl) }
+    append-total parent (err d) s = record { post = (states-kept-refl s, refl) }
     append-total parent (ok c) s = record { post = (record { states = refl; attempts = refl }, refl) }
 
     select-by-total : (parent : Nodes) (kind : SelectionKind) (x : Scrutinee) (cases cs : List MaybeClaimedRegion)
@@ -148,7 +148,7 @@ module _ (Q : ℕ → ℕ → Type 0) (q9 : Q 9 0) where
         (structurize-select-total parent kind x (without-convergent cases) s) λ y s₁ a.
         map-post (append-maybe-claimed-region (y .children) c s₁)
         (append-total (y .children) c s₁) λ z s₂ b. record {
-          still = still-then (a .still) (b .0);
+          still = states-kept-then (a .still) (b .0);
           chosen =
               rw (b .1) (one-chosen cases c (nth-in cases (cv .at) c (cv .is)));
         }

@@ -1,5 +1,5 @@
 use native.Mathlib.Omega.{arith}
-use Rattle.incoming.specs.Counted.{one-more-by, one-more-beyond}
+use Rattle.incoming.specs.laws.CountedLaws.{one-more-by, one-more-beyond}
 use borrow.Author.Needs.{needs}
 use Rattle.incoming.proofs.add_one.Statement.{statement}
 use Rattle.incoming.proofs.add_one.Tie as tie

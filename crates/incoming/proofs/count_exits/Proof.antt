@@ -2,8 +2,9 @@ use Prim.Native.Nat.{_≤_, _-_}
 use native.Mathlib.Omega.{arith}
 use Rattle.nesting.specs.Nesting.{exit-targets}
 use Rattle.record.specs.Stands.{OfRecord}
-use Rattle.incoming.specs.Counted.{CountedUpTo, Grows, counting-start, counting-turn, counting-end}
-use Rattle.incoming.specs.Counted.{grows-start, grows-turn, grows-most, grown}
+use Rattle.incoming.specs.Counted.{CountedUpTo, Grows}
+use Rattle.incoming.specs.laws.CountedLaws.{counting-start, counting-turn, counting-end}
+use Rattle.incoming.specs.laws.CountedLaws.{grows-start, grows-turn, grows-most, grown}
 use borrow.Author.Needs.{needs}
 use Rattle.incoming.proofs.count_exits.Statement.{statement}
 use Rattle.incoming.proofs.count_exits.Tie as tie

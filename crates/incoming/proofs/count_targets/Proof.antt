@@ -4,8 +4,9 @@ use Prim.Native.Nat.{_≤_, _-_}
 use native.Mathlib.Omega.{arith}
 use Rattle.meaning.specs.Graph.{targets-of}
 use Rattle.record.specs.Stands.{OfRecord}
-use Rattle.incoming.specs.Counted.{CountedUpTo, Grows, counting-start, counting-turn, counting-end}
-use Rattle.incoming.specs.Counted.{grows-start, grows-turn, grows-most, grown, targets-counted}
+use Rattle.incoming.specs.Counted.{CountedUpTo, Grows}
+use Rattle.incoming.specs.laws.CountedLaws.{counting-start, counting-turn, counting-end}
+use Rattle.incoming.specs.laws.CountedLaws.{grows-start, grows-turn, grows-most, grown, targets-counted}
 use borrow.Author.Needs.{needs}
 use Rattle.incoming.proofs.count_targets.Statement.{statement}
 use Rattle.incoming.proofs.count_targets.Tie as tie

@@ -4,8 +4,10 @@ use lib.ListN.{getD-replicate}
 use Rattle.format.specs.Valid.{Valid}
 use Rattle.record.specs.Stands.{OfRecord}
 use Rattle.fields.specs.ByNumber.{before}
-use Rattle.incoming.specs.Visits.{Room, Visiting, room-start, room-popped}
-use Rattle.incoming.specs.Visits.{visiting-start, visiting-popped, empty-stack, none-left, no-fuel}
+use Rattle.incoming.specs.Visits.{Room, Visiting}
+use Rattle.incoming.specs.laws.VisitsLaws.{room-start, room-popped}
+use Rattle.incoming.specs.laws.VisitsLaws.{none-left, no-fuel}
+use Rattle.incoming.specs.laws.VisitsLaws.{visiting-start, visiting-popped, empty-stack}
 use borrow.Author.Needs.{needs}
 use Rattle.incoming.proofs.incoming_edge_counts.Statement.{statement}
 use Rattle.incoming.proofs.incoming_edge_counts.Tie as tie

@@ -7,7 +7,7 @@ use lib.ListN.{length, drop, length-set}
 use Rattle.meaning.specs.Graph.{region, edges-of, targets-of}
 use Rattle.record.specs.Stands.{OfRecord}
 use Rattle.fields.specs.ByNumber.{before}
-use Rattle.incoming.specs.Visits.{push-start, push-turn}
+use Rattle.incoming.specs.laws.VisitsLaws.{push-start, push-turn}
 use borrow.Author.Needs.{needs}
 use Rattle.incoming.proofs.push_targets.Statement.{statement}
 use Rattle.incoming.proofs.push_targets.Tie as tie

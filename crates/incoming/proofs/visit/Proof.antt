@@ -1,6 +1,7 @@
 use native.Mathlib.Omega.{arith}
-use Rattle.incoming.specs.Counted.{grown}
-use Rattle.incoming.specs.Visits.{room-counts, room-known, room-new, known-visit, new-visit, targets-few}
+use Rattle.incoming.specs.laws.CountedLaws.{grown}
+use Rattle.incoming.specs.laws.VisitsLaws.{known-visit, new-visit}
+use Rattle.incoming.specs.laws.VisitsLaws.{room-counts, room-known, room-new, targets-few}
 use borrow.Author.Needs.{needs}
 use Rattle.incoming.proofs.visit.Statement.{statement}
 use Rattle.incoming.proofs.visit.Tie as tie

@@ -20,16 +20,18 @@ use Rattle.state.specs.declared.defined.Defined.the-variants.{Number, Full}
 use Rattle.state.specs.Sections.{section, word, conditions, outputs}
 use Rattle.state.specs.Values.{output-word, undef-word}
 use Rattle.state.specs.Tables.{earlier-part, shape-size, OutputDefined, output-defined, outputs-full}
-use Rattle.shown.specs.Values.{value, equal-values, value-output, value-undef, value-beyond}
+use Rattle.shown.specs.Values.{value}
+use Rattle.shown.specs.laws.ValueWords.{equal-values, value-output, value-undef, value-beyond}
 use Rattle.shown.specs.laws.Stores.{ChangesOnly, nothing-changes, changes-then}
 use Rattle.shown.specs.Tables.{ShowsValues, ShowsShape, shape-bool, shape-number, cond-count, ShowsCond, shows-true, shows-false}
 use Rattle.shown.specs.Tables.{shows-undef, shows-merge, ShowsConds, no-parts, part-and, ShowsCondition, ShowsTables, ShowsDefined}
-use Rattle.shown.specs.Tables.{shows-done, shows-full, done-of, full-of}
+use Rattle.shown.specs.Tables.{shows-done, shows-full}
+use Rattle.shown.specs.laws.DefinedShown.{done-of, full-of}
 use Rattle.shown.specs.laws.Steps.{output-made, output-changes}
 use Rattle.shown.specs.laws.Conditions.{shape-cases, few-cases}
 use Rattle.lookups.specs.Materialized.{is-scrutinee, shape-at, part-at, Merges, the-scrutinee, new-output, no-output, Materializes}
 use Rattle.lookups.specs.Materialized.{made-true, made-false, made-undef, made-merge, full-part, PartsMade, no-part, part-more}
-use Rattle.lookups.specs.Materialized.{few-parts}
+use Rattle.lookups.specs.laws.MaterializedLaws.{few-parts}
 use Rattle.meaning.specs.Lists.{pick}
 
 -- ---- What a step answers, and what it leaves.

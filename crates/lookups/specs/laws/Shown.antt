@@ -17,14 +17,15 @@ use Rattle.meaning.specs.facts.Elements.{any-snoc, length-tabulate, in-tabulate
 use Rattle.nesting.specs.Nesting as nesting
 use Rattle.nesting.specs.Nesting.{InputRewrite, renumber-to, replace-by, RegionInputRewrites, renumber-or-replace-with}
 use Rattle.nesting.specs.Nesting.{RewriteEntry, NestState, done, look-up-chain, look-up-input, rewrite-values, nest-state}
-use Rattle.nesting.specs.Nesting.{counts-of, with-twice}
+use Rattle.nesting.specs.Nesting.{counts-of, with-twice, most-regions}
 use Rattle.nesting.specs.lookups.ChainSteps.{EndsIn, ends-later, chain-same, meets-same}
 use Rattle.nesting.specs.lookups.ChainEnds.{ChainsEnd, ends-within, rewrite-enough, meets-enough}
 use Rattle.state.specs.Sections.{section, stored, head, rewrites}
 use Rattle.state.specs.Values.{is-input, is-held, input-region, input-index}
-use Rattle.shown.specs.Values.{value, Ranged, in-const, in-false, in-true, in-undef, in-output, in-input, in-held, in-instr, in-none}
-use Rattle.shown.specs.Values.{ranged}
-use Rattle.shown.specs.Values.{same-word}
+use Rattle.shown.specs.Values.{value}
+use Rattle.shown.specs.laws.ValueWords.{Ranged, in-const, in-false, in-true, in-undef, in-output, in-input, in-held, in-instr, in-none}
+use Rattle.shown.specs.laws.ValueWords.{ranged}
+use Rattle.shown.specs.laws.ValueWords.{same-word}
 use Rattle.shown.specs.Tables.{ShowsInput, renumbered, replaced, ShowsEntry, no-entry, replaces, renumbers, ShowsRewrites, ShowsTables}
 use Rattle.shown.specs.laws.Stores.{ChangesOnly, head-changes, nothing-changes}
 use Rattle.shown.specs.laws.Steps.{twice-noted}
@@ -161,22 +162,24 @@ module _ (l : List ℕ) (es : List RewriteEntry) (shown : ShowsRewrites (section
   chain-shown zero x = record { value = refl; twice = refl }
   chain-shown (suc n) x = turn-shown n x (λ y. chain-shown n y) (ranged x) refl
 
--- ---- 129 turns are enough: no chain passes one of the 128 regions twice.
+-- ---- A turn more than there are regions is enough: no chain passes a region twice.
 module _ (l : List ℕ) (es : List RewriteEntry) (shown : ShowsRewrites (section l rewrites) es) (all : (r : ℕ) → ChainsEnd es r) where
-  ends-soon : (v : Value) → EndsIn es 128 v
-  ends-soon v = ends-within es 128 (tabulate 128 (λ k. k)) (length-tabulate 128 (λ k. k)) v (λ q n. all q)
-      (λ z m. inl (in-tabulate 128 (λ k. k) z (shown .logged z m)))
+  ends-soon : (v : Value) → EndsIn es most-regions v
+  ends-soon v = ends-within es most-regions (tabulate most-regions (λ k. k)) (length-tabulate most-regions (λ k. k)) v (λ q n. all q)
+      (λ z m. inl (in-tabulate most-regions (λ k. k) z (shown .logged z m)))
 
   pub look-up-shown : (x : ℕ) → ShowsFound (look-up l x) (nesting.look-up es (value x))
   look-up-shown x =
       let v = value x in
-      let f = chain-shown l es shown 129 x in
+      let f = chain-shown l es shown (most-regions + 1) x in
       let e = ends-soon v in
-      let long : ℕ = 129 + length es in
+      let enough : ℕ = most-regions + 1 in
+      let long : ℕ = enough + length es in
       record {
-        value = f .value ∙ chain-same es 129 long v (ends-later es 128 129 v e (omega arith)) (ends-later es 128 long v e (omega arith))
+        value = f .value ∙ chain-same es enough long v (ends-later es most-regions enough v e (omega arith))
+            (ends-later es most-regions long v e (omega arith))
             ∙ rewrite-enough es all v long (omega arith);
-        twice = f .twice ∙ meets-same es 128 v e 129 long (omega arith) (omega arith) ∙ meets-enough es all v long (omega arith);
+        twice = f .twice ∙ meets-same es most-regions v e enough long (omega arith) (omega arith) ∙ meets-enough es all v long (omega arith);
       }
 
 -- ---- The step that looks up one value: `rewrite-values` of it alone.

@@ -21,7 +21,7 @@ use Rattle.nesting.specs.Nesting.{ClaimedRegion, LoopInputs, no-inputs, take-in
 use Rattle.nesting.specs.Nesting.{most-regions}
 use Rattle.nesting.specs.steps.Keeps.{loop-claimed, claim-body-keeps}
 use Rattle.nesting.specs.steps.Post.{Post}
-use Rattle.nesting.specs.steps.StatesKept.{Still, still-steady, still-log}
+use Rattle.nesting.specs.steps.StatesKept.{KeepsStates, states-kept-steady, states-kept-log}
 use Rattle.nesting.specs.lookups.ChainEnds.{ChainsEnd}
 use Rattle.record.specs.Stands.{OfRecord}
 use Rattle.nesting.specs.Nesting.{exit-targets}
@@ -33,14 +33,15 @@ use Rattle.state.specs.Sections.{set-lengths}
 use Rattle.state.specs.laws.Apart.{section-other}
 use Rattle.state.specs.Tables.{Defines, defined, full, bundle-at, bundle-words, bundle-copied, swap-removed, input-word}
 use Rattle.shown.specs.Values.{value}
-use Rattle.shown.specs.Tables.{ShowsCondition, shows-true, ShowsTables, Done as Defines-done, done-of, full-of}
+use Rattle.shown.specs.Tables.{ShowsCondition, shows-true, ShowsTables, Done as Defines-done}
+use Rattle.shown.specs.laws.DefinedShown.{done-of, full-of}
 use Rattle.shown.specs.laws.Steps.{region-defined}
 use Rattle.shown.specs.laws.Elsewhere.{tables-stay}
-use Rattle.shown.specs.Front.{stands-on}
+use Rattle.shown.specs.laws.FrontKept.{stands-on}
 use Rattle.shown.specs.Sets.{ShowsBundle, ShowsSet, no-bundle, target-size}
 use Rattle.shown.specs.Cells.{ShowsChildren}
 use Rattle.shown.specs.States.{ShowsOwnSet, Slots, NamedRewrites, ShowsState, ShowsClaimed}
-use Rattle.shown.specs.Kept.{own-set-stays, children-stay}
+use Rattle.shown.specs.laws.RegionsKept.{own-set-stays, children-stay}
 use Rattle.shown.specs.laws.SetSteps.{swap-removed-only, swap-removed-set}
 use Rattle.shown.specs.laws.Finds.{targets-tell}
 use Rattle.shown.specs.laws.SetStores.{only-word-same}
@@ -59,6 +60,7 @@ use Rattle.loops.specs.laws.ExitsShown.{ExitsCounted, exits-shown}
 use Rattle.loops.specs.laws.LoopsShown.{InputsEntered, inputs-entered, entered-state, LoopWithin, ShowsLoopMade}
 use Rattle.loops.specs.laws.LoopsShown.{made-done, made-refused}
 use Rattle.loops.specs.laws.LoopsShown.{loop-step, loop-made-shown, defines-changes, set-beside}
+use Rattle.state.specs.Sections.{most-cells}
 
 -- ---- The back edge leaves region r's set: nothing of another region changes.
 pub removed-concerns : (g : Graph) (w : List ℕ) (r i p : ℕ) → Slots w → r < 33 → i < 33 → p ≡ word w set-starts r + i
@@ -191,7 +193,7 @@ pub record ClaimedLoop (g : Graph) (w : List ℕ) (s : NestState) (r p i : ℕ) 
   pub bundle-at-place : p ≡ word w set-starts r + i
   pub backedge : getD d i no-bundle ≡ e
   pub target : e .target ≡ to-region r
-  pub free : word w head 4 + 5 ≤ 704
+  pub free : word w head 4 + 5 ≤ most-cells
   pub cell-zero : 1 ≤ word w head 4
   pub chains : (q : ℕ) → ChainsEnd (s .region-input-rewrites) q
   pub counts : All (λ y. y .accumulated-count < 65535) d
@@ -398,8 +400,8 @@ module _ {g : Graph} {w : List ℕ} {s : NestState} {r p i : ℕ} {ks : Nodes} {
 
       same-states : loop₃ .state .region-states ≡ s .region-states
       same-states =
-          let kept : Post (λ m n. Unit) (λ o t. Still s t) gives =
-          claim-body-keeps still-steady (λ m n. Unit) tt still-log g r inputs ks d (some e) s in
+          let kept : Post (λ m n. Unit) (λ o t. KeepsStates s t) gives =
+          claim-body-keeps states-kept-steady (λ m n. Unit) tt states-kept-log g r inputs ks d (some e) s in
           (rw gives-done at kept) .post .states
 
       own-word : (k : Section) → (number sections.bundles ≡ number k → ⊥) → (number sections.head ≡ number k → ⊥)

@@ -19,7 +19,7 @@ use Rattle.state.specs.laws.Edges.{edges-fit}
 use Rattle.shown.specs.laws.Stores.{ChangesOnly, nothing-changes, changes-then}
 use Rattle.shown.specs.Sets.{ShowsTarget, shows-region, shows-return, ShowsBundle, ShowsSet, no-bundle}
 use Rattle.shown.specs.States.{Slots, ShowsOwnSet}
-use Rattle.shown.specs.Kept.{bundle-stays}
+use Rattle.shown.specs.laws.RegionsKept.{bundle-stays}
 use Rattle.shown.specs.laws.Finds.{bundle-in}
 use Rattle.shown.specs.laws.RegionSteps.{slots-stay, word-there, word-apart, later-by, OnlyBundle, bundle-same}
 use Rattle.shown.specs.laws.RegionSteps.{bundle-word, bundle-concerns}

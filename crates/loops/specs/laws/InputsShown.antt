@@ -14,11 +14,12 @@ use Rattle.meaning.specs.Graph.{Value, Graph, region, undef, input, same-value}
 use Rattle.nesting.specs.Nesting.{InputRewrite, renumber-to, replace-by, LoopInputs, no-inputs, keep-input, lift-input, take-input}
 use Rattle.nesting.specs.Nesting.{take-inputs}
 use Rattle.nesting.specs.Nesting.{most-regions}
-use Rattle.state.specs.Sections.{used, start, size, section, word, stored, stored-all, head, rewrites}
+use Rattle.state.specs.Sections.{used, start, size, section, word, stored, stored-all, head, rewrites, most-cells}
 use Rattle.state.specs.laws.Apart.{section-stored}
 use Rattle.state.specs.Tables.{inserted}
 use Rattle.state.specs.Values.{region-word}
-use Rattle.shown.specs.Values.{value, equal-values, value-input, value-held}
+use Rattle.shown.specs.Values.{value}
+use Rattle.shown.specs.laws.ValueWords.{equal-values, value-input, value-held}
 use Rattle.shown.specs.laws.Stores.{section-run, part-length}
 use Rattle.shown.specs.Tables.{ShowsInput, renumbered, replaced}
 use Rattle.shown.specs.laws.Elsewhere.{SameTables, same-words, same-then}
@@ -70,7 +71,7 @@ pub record InputsTaken (g : Graph) (r wrapper k : ℕ) (l vs l₁ ws : List ℕ)
 
 module _ (g : Graph) (r wrapper n : ℕ) (l vs : List ℕ) (vals : List Value) (size : n ≡ length vals) (four : length vs ≡ 4) (few : n ≤ 4)
     (is : (j : ℕ) → j < n → value (getD vs j 0) ≡ getD vals j (undef 0)) (header : r < most-regions) (wraps : wrapper < most-regions)
-    (free : word l head 4 + 4 ≤ 704) (room : used ≤ length l) (one : 1 ≤ word l head 4) where
+    (free : word l head 4 + 4 ≤ most-cells) (room : used ≤ length l) (one : 1 ≤ word l head 4) where
   abbrev So : ℕ → List ℕ → List ℕ → Taken → Type 0
   So k l₁ ws x = InputsTaken g r wrapper k l vs l₁ ws x vals
 
@@ -223,7 +224,7 @@ module _ (g : Graph) (r wrapper n : ℕ) (l vs : List ℕ) (vals : List Value) (
         let from = so .total-from in
         let to = so .total-to in
         let words = so .aside .later .front .words in
-        let free-cell : word l₁ head 4 < 704 = omega arith in
+        let free-cell : word l₁ head 4 < most-cells = omega arith in
         let fits : used ≤ length l₁ = omega arith in
         let inputs = keep-input (input wrapper k) (getD (region g r .inputs) k 0) v (so .inputs) in
         let total = cell-total (step .cell) free-cell fits in

@@ -20,13 +20,14 @@ use Rattle.state.specs.laws.Apart.{section-other}
 use Rattle.state.specs.Tables.{Defines, defined, full, inserted}
 use Rattle.shown.specs.Values.{value}
 use Rattle.shown.specs.laws.Stores.{ChangesOnly, head-changes, nothing-changes}
-use Rattle.shown.specs.Tables.{ShowsInput, renumber-words, ShowsCondition, ShowsTables, done-of, full-of}
+use Rattle.shown.specs.Tables.{ShowsInput, renumber-words, ShowsCondition, ShowsTables}
+use Rattle.shown.specs.laws.DefinedShown.{done-of, full-of}
 use Rattle.shown.specs.laws.Steps.{node-defined}
 use Rattle.shown.specs.laws.Elsewhere.{SameTables, tables-stay, same-then}
 use Rattle.shown.specs.laws.Rewrites.{rewrites-inserted, insert-changes}
 use Rattle.shown.specs.Cells.{ShowsChildren}
 use Rattle.shown.specs.States.{NamedRewrites, ShowsOwnSet}
-use Rattle.shown.specs.Kept.{own-set-stays, set-stays, children-stay}
+use Rattle.shown.specs.laws.RegionsKept.{own-set-stays, set-stays, children-stay}
 use Rattle.shown.specs.laws.RegionSteps.{Aside, aside-then, aside-by, named-by, named-stay, OfOneRegion, word-concerns, bundles-same}
 use Rattle.shown.specs.laws.RegionSteps.{OnlyRegion, only-region-then, only-region-aside, only-region-concerns, children-set}
 use Rattle.shown.specs.laws.CellSteps.{ShowsKeptList, kept-list-by, cell-aside, cell-tables, cell-total, cell-handle, loop-added}
@@ -38,6 +39,7 @@ use Rattle.state.specs.declared.defined.Made.the-variants.{Done, Full as Refuse
 use Rattle.loops.specs.Loops.{AddsLoop, adds-loop, LoopDefined, loop-defined, no-value, no-node, EntersInputs, enters}
 use Rattle.loops.specs.laws.RewritesShown.{Rewritten, rewritten-to}
 use Rattle.loops.specs.laws.InputsShown.{InputsTaken, taken-to}
+use Rattle.state.specs.Sections.{most-cells}
 
 -- ---- The header's inputs looked up, taken and entered.
 abbrev pub entered-state : Graph → ℕ → ℕ → List Value → NestState → NestState
@@ -59,7 +61,7 @@ pub record InputsEntered (g : Graph) (r wrapper : ℕ) (l l′ : List ℕ) (h : 
 
 pub inputs-entered : (g : Graph) {r wrapper n h : ℕ} {l vs l′ : List ℕ} {vals : List Value} {s : NestState} → ShowsTables l s
     → NamedRewrites l → ((q : ℕ) → ChainsEnd (s .region-input-rewrites) q) → n ≡ length vals → n ≤ 4 → length vs ≡ 4
-    → ((j : ℕ) → j < n → value (getD vs j 0) ≡ getD vals j (undef 0)) → r < most-regions → wrapper < most-regions → word l head 4 + 4 ≤ 704
+    → ((j : ℕ) → j < n → value (getD vs j 0) ≡ getD vals j (undef 0)) → r < most-regions → wrapper < most-regions → word l head 4 + 4 ≤ most-cells
     → 1 ≤ word l head 4 → EntersInputs r wrapper n l vs l′ h → InputsEntered g r wrapper l l′ h vals s
 inputs-entered g {r} {wrapper} {n} {h} {l} {vs} {l′} {vals} {s} t named all size few four is header wraps free one
     (enters {l₁} {l₂} {us} {ws} made taken e) =
@@ -161,7 +163,7 @@ loop-within-then a e b =
       total-to = omega arith;
     }
 
-module _ {g : Graph} {r n x kept : ℕ} {l l′ : List ℕ} {y : LoopInputs} {ks : Nodes} {v : Value} (free : word l head 4 < 704)
+module _ {g : Graph} {r n x kept : ℕ} {l l′ : List ℕ} {y : LoopInputs} {ks : Nodes} {v : Value} (free : word l head 4 < most-cells)
     (room : used ≤ length l) (low : r < 32) where
   loop-cell-added : AddsLoop r n x kept l l′ → ShowsChildren g l (word l children r) ks → value x ≡ v → ShowsKeptList g l r kept y
       → LoopWithin g r l l′ × SameTables l l′ × ShowsChildren g l′ (word l′ children r) (loop (loop-node g n r y v) ks ▸ ⟨⟩)
@@ -189,7 +191,7 @@ module _ {g : Graph} {r n x kept : ℕ} {l l′ : List ℕ} {y : LoopInputs} {ks
 
 module _ {A : Type 0} (F : Value → ℕ → A) (g : Graph) {r c kept : ℕ} {l : List ℕ} {t : LazyCond} {y : LoopInputs} {ks : Nodes}
     {s : NestState} (tables : ShowsTables l s) (condition : ShowsCondition l c t) (nodes : ShowsChildren g l (word l children r) ks)
-    (keeps : ShowsKeptList g l r kept y) (free : word l head 4 < 704) (low : r < 32) where
+    (keeps : ShowsKeptList g l r kept y) (free : word l head 4 < most-cells) (low : r < 32) where
   value-within : {a : Defined} {l₁ : List ℕ} → Materializes l c l₁ a → LoopWithin g r l l₁
   value-within m =
       let z = materialize-shown m condition tables .changes in

@@ -21,11 +21,12 @@ use Rattle.nesting.specs.Nesting.{passed-inputs}
 use Rattle.state.specs.Sections.{section, word, set-starts, cases, conditions, bundles}
 use Rattle.state.specs.Values.{is-input, input-region, input-index}
 use Rattle.state.specs.Tables.{input-word, case-total}
-use Rattle.shown.specs.Values.{value, Ranged, in-const, in-false, in-true, in-undef, in-output, in-input, in-held, in-instr, in-none}
-use Rattle.shown.specs.Values.{ranged, equal-values}
+use Rattle.shown.specs.Values.{value}
+use Rattle.shown.specs.laws.ValueWords.{Ranged, in-const, in-false, in-true, in-undef, in-output, in-input, in-held, in-instr, in-none}
+use Rattle.shown.specs.laws.ValueWords.{ranged, equal-values}
 use Rattle.shown.specs.Tables.{ShowsCond, shows-true, shows-false, shows-undef, shows-merge, ShowsCondition}
 use Rattle.shown.specs.Sets.{Names, ShowsTarget, target-size, ShowsBundle, ShowsSet, no-bundle}
-use Rattle.shown.specs.Kept.{bundle-stays}
+use Rattle.shown.specs.laws.RegionsKept.{bundle-stays}
 use Rattle.shown.specs.States.{ShowsCase, shows-ok, shows-nothing, shows-edge, shows-others, ShowsCases, no-case}
 use Rattle.lookups.specs.laws.Shown.{input-in, input-below, input-above}
 use Rattle.merging.specs.Turns.{turned}

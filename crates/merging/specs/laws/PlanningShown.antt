@@ -22,7 +22,8 @@ use Rattle.state.specs.laws.Apart.{section-other}
 use Rattle.state.specs.Tables.{input-stored, case-total}
 use Rattle.shown.specs.Sets.{Names, ShowsTarget, target-size, SameBundle}
 use Rattle.shown.specs.States.{ShowsReturned, ShowsState, ShowsCases, no-case}
-use Rattle.shown.specs.Kept.{Later, KeptRegion, same-bundle, same-bundle-then}
+use Rattle.shown.specs.Kept.{Later, KeptRegion}
+use Rattle.shown.specs.laws.RegionsKept.{same-bundle, same-bundle-then}
 use Rattle.shown.specs.laws.RegionSteps.{word-there, word-apart}
 use Rattle.merging.specs.Turns.{turned}
 use Rattle.bundles.specs.Words.{input-count}

@@ -25,9 +25,11 @@ use Rattle.shown.specs.Sets.{Names, ShowsTarget, shows-region, shows-return, ta
 use Rattle.shown.specs.States.{Slots, ShowsReturned, NamedRewrites, ShowsState, ShowsCases, ShowsCase, shows-ok, shows-nothing, shows-edge}
 use Rattle.shown.specs.States.{shows-others, no-case}
 use Rattle.shown.specs.States.{ShowsRegion, is-not-begun, is-in-progress, is-ready, is-claimed}
-use Rattle.shown.specs.Front.{stands-on}
-use Rattle.shown.specs.Kept.{Later, KeptRegion, bundle-stays, set-stays, same-bundle, same-bundle-then}
-use Rattle.merging.specs.Turns.{turned, turned-same}
+use Rattle.shown.specs.laws.FrontKept.{stands-on}
+use Rattle.shown.specs.Kept.{Later, KeptRegion}
+use Rattle.shown.specs.laws.RegionsKept.{bundle-stays, set-stays, same-bundle, same-bundle-then}
+use Rattle.merging.specs.Turns.{turned}
+use Rattle.merging.specs.laws.TurnsLaws.{turned-same}
 use Rattle.bundles.specs.Words.{input-count}
 use Rattle.merging.specs.Rewriting.{rewrite-input, rewrite-case-input, rewrite-bundle, rewrite-set, rewrite-inputs, rewrite-given}
 use Rattle.merging.specs.Rewriting.{rewrite-case, rewrite-cases}

@@ -15,10 +15,11 @@ use Rattle.state.specs.Sections.{set-lengths, children, bodies, levels, cases, 
 use Rattle.state.specs.Tables.{case-total}
 use Rattle.state.specs.laws.Apart.{stored-length, section-other}
 use Rattle.shown.specs.laws.Elsewhere.{SameTables, tables-stay, condition-there}
-use Rattle.shown.specs.Front.{stands-on}
+use Rattle.shown.specs.laws.FrontKept.{stands-on}
 use Rattle.shown.specs.Sets.{SameBundle}
 use Rattle.shown.specs.States.{Slots, ShowsState, ShowsCases, ShowsCase, shows-ok, shows-nothing, shows-edge, shows-others}
-use Rattle.shown.specs.Kept.{Later, KeptRegion, set-stays, region-stays}
+use Rattle.shown.specs.Kept.{Later, KeptRegion}
+use Rattle.shown.specs.laws.RegionsKept.{set-stays, region-stays}
 use Rattle.shown.specs.laws.RegionSteps.{word-apart, named-by}
 
 -- ---- A case stays shown where its words and the slots do.

@@ -22,7 +22,8 @@ use Rattle.state.specs.laws.Apart.{section-other}
 use Rattle.shown.specs.laws.Stores.{section-run, run-length, part-length}
 use Rattle.shown.specs.Sets.{ShowsTarget, shows-region, shows-return, target-size, ShowsBundle, ShowsSet, no-bundle}
 use Rattle.shown.specs.States.{ShowsState, ShowsCases, no-case}
-use Rattle.shown.specs.Kept.{Later, KeptRegion, bundle-stays, set-stays}
+use Rattle.shown.specs.Kept.{Later, KeptRegion}
+use Rattle.shown.specs.laws.RegionsKept.{bundle-stays, set-stays}
 use Rattle.merging.specs.Turns.{turned}
 use Rattle.merging.specs.Targets.{longer, summarize-bundle, summarize-set, summarize-case, deferred-targets}
 use Rattle.merging.specs.laws.Spare.{SpareOnly, spare-same, spare-word, spare-length, spare-three, spare-then}

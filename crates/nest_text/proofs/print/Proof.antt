@@ -1,6 +1,6 @@
 use mathlib.Core.Path.{refl}
 use native.Mathlib.Omega.{arith}
-use Rattle.nest_text.specs.Prints.{sheet-printed, refusal-printed}
+use Rattle.nest_text.specs.laws.Printing.{sheet-printed, refusal-printed}
 use borrow.Author.Needs.{needs}
 use Rattle.nest_text.proofs.print.Statement.{statement}
 use Rattle.nest_text.proofs.print.Tie as tie

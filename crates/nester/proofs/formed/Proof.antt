@@ -1,5 +1,5 @@
 use native.Mathlib.Omega.{arith}
-use Rattle.nester.specs.Answers.{too-dear, within-figure}
+use Rattle.nester.specs.laws.NestingRecord.{too-dear, within-figure}
 use borrow.Author.Needs.{needs}
 use Rattle.nester.proofs.formed.Statement.{statement}
 use Rattle.nester.proofs.formed.Tie as tie

@@ -1,5 +1,5 @@
 use native.Mathlib.Omega.{arith}
-use Rattle.nester.specs.Nests.{stood-loaded, nest-accepted, nest-refused}
+use Rattle.nester.specs.laws.NestingStore.{stood-loaded, nest-accepted, nest-refused}
 use borrow.Author.Needs.{needs}
 use Rattle.nester.proofs.nest.Statement.{statement}
 use Rattle.nester.proofs.nest.Tie as tie

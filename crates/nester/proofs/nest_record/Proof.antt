@@ -1,6 +1,6 @@
 use mathlib.Core.Path.{ap}
 use native.Mathlib.Omega.{arith}
-use Rattle.nester.specs.Answers.{number-of, nested-unfigured, nested-formed, nested-refused}
+use Rattle.nester.specs.laws.NestingRecord.{number-of, nested-unfigured, nested-formed, nested-refused}
 use borrow.Author.Needs.{needs}
 use Rattle.nester.proofs.nest_record.Statement.{statement}
 use Rattle.nester.proofs.nest_record.Tie as tie

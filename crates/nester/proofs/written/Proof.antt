@@ -1,4 +1,4 @@
-use Rattle.nester.specs.Answers.{written-words, written-few}
+use Rattle.nester.specs.laws.NestingRecord.{written-words, written-few}
 use borrow.Author.Needs.{needs}
 use Rattle.nester.proofs.written.Statement.{statement}
 use Rattle.nester.proofs.written.Tie as tie

@@ -8,7 +8,7 @@ use lib.ListN.{length, getD, set, replicate}
 use Rattle.meaning.specs.Graph.{Value}
 use Rattle.nesting.specs.Nesting.{StructurizeRegionState, not-begun, in-progress, claimed, ready, NestState, with-tables, Claim}
 use Rattle.nesting.specs.steps.Post.{Post}
-use Rattle.nesting.specs.steps.StatesKept.{Still}
+use Rattle.nesting.specs.steps.StatesKept.{KeepsStates}
 
 abbrev pub state-of : NestState → ℕ → StructurizeRegionState
 state-of s r = getD (s .region-states) r not-begun
@@ -61,25 +61,25 @@ all-not-begun (suc n) zero = refl
 all-not-begun (suc n) (suc i) = all-not-begun n i
 
 -- as many regions, no more of them not begun, and by k fewer unclaimed
-pub record Fewer (k : ℕ) (s s′ : NestState) : Type 0 where
+pub record FewerUnclaimed (k : ℕ) (s s′ : NestState) : Type 0 where
   pub length : length (s′ .region-states) ≡ length (s .region-states)
   pub not-begun : not-begun-count s′ ≤ not-begun-count s
   pub unclaimed : unclaimed-count s′ + k ≤ unclaimed-count s
 
-pub fewer-refl : (s : NestState) → Fewer 0 s s
+pub fewer-refl : (s : NestState) → FewerUnclaimed 0 s s
 fewer-refl s = record { length = refl; not-begun = omega arith; unclaimed = omega arith }
 
-pub fewer-then : {k : ℕ} {s s₁ s₂ : NestState} → Fewer 0 s s₁ → Fewer k s₁ s₂ → Fewer k s s₂
+pub fewer-then : {k : ℕ} {s s₁ s₂ : NestState} → FewerUnclaimed 0 s s₁ → FewerUnclaimed k s₁ s₂ → FewerUnclaimed k s s₂
 fewer-then a b = record {
   length = b .length ∙ a .length;
   not-begun = let x = a .not-begun in let y = b .not-begun in omega arith;
   unclaimed = let x = a .unclaimed in let y = b .unclaimed in omega arith;
 }
 
-pub fewer-less : {k : ℕ} {s s′ : NestState} → Fewer k s s′ → Fewer 0 s s′
+pub fewer-less : {k : ℕ} {s s′ : NestState} → FewerUnclaimed k s s′ → FewerUnclaimed 0 s s′
 fewer-less a = record { length = a .length; not-begun = a .not-begun; unclaimed = let x = a .unclaimed in omega arith }
 
-pub fewer-still : {s s′ : NestState} → Still s s′ → Fewer 0 s s′
+pub fewer-still : {s s′ : NestState} → KeepsStates s s′ → FewerUnclaimed 0 s s′
 fewer-still q = record {
   length = ap length (q .states);
   not-begun = let z = ap (count-states not-begun-one) (q .states) in omega arith;
@@ -96,4 +96,4 @@ claimed-count (some a) = 1
 
 abbrev pub ClaimFewer : Claim → Type 0
 ClaimFewer claim = (r n : ℕ) (inputs : List Value) (s : NestState)
-    → Post AnyRefusal (λ o s′. Fewer (claimed-count o) s s′) (claim r n inputs s)
+    → Post AnyRefusal (λ o s′. FewerUnclaimed (claimed-count o) s s′) (claim r n inputs s)

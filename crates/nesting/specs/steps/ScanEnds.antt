@@ -13,8 +13,8 @@ use Rattle.nesting.specs.Nesting.{structurize-select-into, Claim, SplitO
 use Rattle.nesting.specs.Nesting.{split-out-matching, resolve-deferred, structurize-region}
 use Rattle.nesting.specs.steps.Post.{Post}
 use Rattle.nesting.specs.steps.Keeps.{structurize-select-by-keeps, by-control-inst-keeps}
-use Rattle.nesting.specs.steps.StatesKept.{still-steady, still-log}
-use Rattle.nesting.specs.steps.RegionsLeft.{state-of, with-state, unclaimed-one, unclaimed-count, unclaimed-most, count-set, Fewer}
+use Rattle.nesting.specs.steps.StatesKept.{states-kept-steady, states-kept-log}
+use Rattle.nesting.specs.steps.RegionsLeft.{state-of, with-state, unclaimed-one, unclaimed-count, unclaimed-most, count-set, FewerUnclaimed}
 use Rattle.nesting.specs.steps.RegionsLeft.{fewer-still, AnyRefusal, claimed-count, ClaimFewer}
 use Rattle.nesting.specs.steps.UnclaimedFalls.{target-regions-fewer, split-out-fewer}
 
@@ -36,7 +36,7 @@ module _ (g : Graph) (claim : Claim) (claim-fewer : ClaimFewer claim) where
       (split-out-fewer g claim claim-fewer [] (x .deferred-edges) s) λ o s₁ f.
       by o s₁ f (λ y s₂ p. resolve-same fuel more y s₂ p (omega arith))
     where
-      by : (o : Option SplitOut) (s₁ : NestState) → Fewer (claimed-count o) s s₁
+      by : (o : Option SplitOut) (s₁ : NestState) → FewerUnclaimed (claimed-count o) s s₁
           → ((y : Body) (s₂ : NestState) → unclaimed-count s₂ < fuel
           → resolve-deferred g claim fuel y s₂ ≡ resolve-deferred g claim more y s₂)
           → resolve-by g (λ y. resolve-deferred g claim fuel y) x o s₁ ≡ resolve-by g (λ y. resolve-deferred g claim more y) x o s₁
@@ -45,7 +45,7 @@ module _ (g : Graph) (claim : Claim) (claim-fewer : ClaimFewer claim) where
           let cs = ok (y .claimed-region) ∷ err (y .others) ∷ [] in
           let scrutinee = lazy (condition-in (x .deferred-edges) (y .bundle)) in
           follow-same (structurize-select-into g (x .children) bool-cond scrutinee cs s₁) _ _
-          (structurize-select-by-keeps still-steady AnyRefusal tt still-log g (x .children) bool-cond scrutinee cs
+          (structurize-select-by-keeps states-kept-steady AnyRefusal tt states-kept-log g (x .children) bool-cond scrutinee cs
           (convergent-cases cs) s₁) λ z s₂ q.
           ih z s₂ (let a = fewer-still q in omega arith)
 
@@ -71,6 +71,6 @@ module _ (g : Graph) (claim : Claim) (claim-fewer : ClaimFewer claim) where
       follow-same (target-regions g claim (edges-of (region g r .terminator)) s₀) _ _
       (target-regions-fewer g claim claim-fewer (edges-of (region g r .terminator)) s₀) λ cs s₁ a.
       follow-same (by-control-inst g (blocks-of g r) (region g r .terminator) cs s₁) _ _
-      (by-control-inst-keeps still-steady AnyRefusal tt still-log g (blocks-of g r) (region g r .terminator) cs s₁) λ x s₂ q.
+      (by-control-inst-keeps states-kept-steady AnyRefusal tt states-kept-log g (blocks-of g r) (region g r .terminator) cs s₁) λ x s₂ q.
       ap (λ z. follow z (λ y. set-state r (ready (count-to r (y .deferred-edges)) (y .children) (y .deferred-edges))))
       (resolve-same (length (g .regions)) fuel x s₂ (let b = fewer-still q in omega arith) l)

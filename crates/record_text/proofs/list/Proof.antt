@@ -1,7 +1,8 @@
 use mathlib.Core.Path.{sym, ap, subst, _∙_}
 use borrow.Author.Needs.{needs}
-use Rattle.text.specs.Whole.{Whole, written-to, whole}
-use Rattle.text.specs.Buffer.{_▸_}
+use Rattle.text.specs.Whole.{Whole, written-to}
+use Rattle.text.specs.laws.WholeTexts.{whole}
+use Rattle.text.specs.laws.BufferLaws.{_▸_}
 use Rattle.record_text.specs.Listing.{listing-of}
 use Rattle.record_text.proofs.list.Statement.{statement}
 use Rattle.record_text.proofs.list.Tie as tie

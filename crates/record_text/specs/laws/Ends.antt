@@ -10,7 +10,7 @@ use Rattle.format.specs.References.{values-of}
 use Rattle.fields.specs.Shape.{terminator-is}
 use Rattle.fields.specs.declared.shape.Terminator.the-variants.{Unreachable, Return, ExitInvocation, Branch, SelectBool, SelectNumber}
 use Rattle.text.specs.Text.{labeled}
-use Rattle.record_text.specs.Listing.{value-text, numbers-text, values-text, select-line-text, terminator-text}
+use Rattle.record_text.specs.Listing.{value-listing, numbers-text, values-text, select-line-text, terminator-text}
 
 module _ (x : ControlInst) where
   pub unreachable-text : terminator-is Unreachable x ≡ x → ascii "unreachable\n" ≡ terminator-text x
@@ -38,14 +38,14 @@ module _ (x : ControlInst) where
 
   abbrev select-text : String → Text
   select-text label =
-      ascii label ++ value-text (getD (values-of x) 0 no-value) ++ ascii " to " ++ numbers-text
+      ascii label ++ value-listing (getD (values-of x) 0 no-value) ++ ascii " to " ++ numbers-text
       (map (λ e. e .target) (edges-of x)) ++ ascii "\n"
 
   select-same : (k : SelectionKind) (label : String) → select-branch k (getD (values-of x) 0 (undef 0)) (edges-of x) ≡ x
       → select-text label ≡ select-line-text label (getD (values-of x) 0 (undef 0)) (edges-of x)
   unfolding select-line-text
   select-same k label e =
-      ap (λ v. ascii label ++ value-text v ++ ascii " to " ++ numbers-text (map (λ e. e .target) (edges-of x)) ++ ascii "\n") (tested k e)
+      ap (λ v. ascii label ++ value-listing v ++ ascii " to " ++ numbers-text (map (λ e. e .target) (edges-of x)) ++ ascii "\n") (tested k e)
 
   pub bool-text : terminator-is SelectBool x ≡ x → select-text "select bool " ≡ terminator-text x
   unfolding terminator-text

@@ -14,14 +14,14 @@ use Rattle.format.specs.laws.Stores.{AllBytes, words-small, holds}
 use Rattle.record.specs.laws.Parts.{then, accepted-value}
 use Rattle.text.specs.laws.Lengths.{refusal-length}
 use Rattle.record_text.specs.Listing.{listing-of, shown-text}
-use Rattle.record_text.specs.laws.ItemBytes.{Small}
+use Rattle.record_text.specs.laws.ItemBytes.{IsWord}
 use Rattle.record_text.specs.laws.RegionBytes.{listing-enough}
 use Rattle.format.specs.laws.Refusals.{InRange, refusal-range}
 use Rattle.meaning.specs.Lists.{tabulate}
 use Rattle.meaning.specs.facts.Elements.{all-getD}
 
 abbrev AllSmall : List ℕ → Type 0
-AllSmall ws = (k : ℕ) → Small (getD ws k 0)
+AllSmall ws = (k : ℕ) → IsWord (getD ws k 0)
 
 -- The words of a store of bytes.
 record FewWords (ws : List ℕ) : Type 0 where
@@ -34,7 +34,7 @@ few-words s ws bytes h =
     let is : ws ≡ tabulate (length ws) (word-at s) = accepted-value (sym h ∙ a .words) in
     record {
       few = omega (arith, a .within, a .short);
-      small = rw is (all-getD Small 0 (omega arith) (tabulate (length ws) (word-at s)) (words-small s bytes (length ws)));
+      small = rw is (all-getD IsWord 0 (omega arith) (tabulate (length ws) (word-at s)) (words-small s bytes (length ws)));
     }
 
 pub listing-fits : (s : List ℕ) → AllBytes s → (g : Graph) → accept s ≡ accepted g → length (listing-of g) ≤ 65536

@@ -14,31 +14,31 @@ use Rattle.format.specs.laws.Readers.{part, got-place}
 use Rattle.record.specs.laws.Parts.{word-parts, within-parts, counted-parts}
 use Rattle.record.specs.laws.PartsWithin.{value-parts, instr-parts}
 use Rattle.text.specs.laws.Lengths.{five-digits, labeled-length, item-length, listed-length}
-use Rattle.record_text.specs.Listing.{dotted-text, value-text, numbers-text, values-text, item-text, items-text, block-text}
+use Rattle.record_text.specs.Listing.{dotted-text, value-listing, numbers-text, values-text, item-listing, items-text, block-text}
 use Rattle.record_text.specs.Listing.{blocks-text}
 
 -- A word is a number of two bytes.
-abbrev pub Small : ℕ → Type 0
-Small n = n < 65536
+abbrev pub IsWord : ℕ → Type 0
+IsWord n = n < 65536
 
-dotted-length : (r k : ℕ) → Small r → Small k → length (dotted-text r k) ≤ 11
+dotted-length : (r k : ℕ) → IsWord r → IsWord k → length (dotted-text r k) ≤ 11
 unfolding dotted-text
 dotted-length r k p q = rw length-append (omega (arith, five-digits r p, labeled-length "." k q))
 
 abbrev Short : Value → Type 0
-Short v = length (value-text v) ≤ 12
+Short v = length (value-listing v) ≤ 12
 
 short-pick : (b : Bool) (v w : Value) → Short v → Short w → Short (pick b v w)
 short-pick true v w p q = p
 short-pick false v w p q = q
 
 short-bool : (b : Bool) → Short (bool b)
-unfolding value-text
+unfolding value-listing
 short-bool true = omega arith
 short-bool false = omega arith
 
-value-short : (k r i : ℕ) → Small r → Small i → Short (value-from-words k r i)
-unfolding value-text
+value-short : (k r i : ℕ) → IsWord r → IsWord i → Short (value-from-words k r i)
+unfolding value-listing
 value-short k r i p q =
     short-pick (eqb k 1) _ _ (omega (arith, dotted-length r i p q))
     (short-pick (eqb k 2) _ _ (omega (arith, dotted-length r i p q))
@@ -113,8 +113,8 @@ module _ (ws : List ℕ) where
   listed-enough p show h low high =
       record { enough = λ at {x = xs} q. omega (arith, counted-enough p (item-length show) h low high .enough at q, listed-length show xs) }
 
-module _ (ws : List ℕ) (small : (k : ℕ) → Small (getD ws k 0)) where
-  pub word-small : (at : ℕ) {n e : ℕ} → word ws at ≡ got n e → Small n
+module _ (ws : List ℕ) (small : (k : ℕ) → IsWord (getD ws k 0)) where
+  pub word-small : (at : ℕ) {n e : ℕ} → word ws at ≡ got n e → IsWord n
   word-small at q = rw (word-parts ws at q .is) (small at)
 
   word-enough : Enough ws word (item-length decimal)
@@ -137,27 +137,27 @@ module _ (ws : List ℕ) (small : (k : ℕ) → Small (getD ws k 0)) where
   unfolding numbers-text
   types-enough = listed-enough ws type decimal type-enough
 
-  value-enough : Enough ws read-value (item-length value-text)
+  value-enough : Enough ws read-value (item-length value-listing)
   value-enough = record {
     enough = λ at {x = v} q.
         let a = value-parts ws at q in
-        let short : length (value-text v) ≤ 12 = rw (a .is) (value-short (getD ws at 0) _ _ (small (at + 1)) (small (at + 2))) in
+        let short : length (value-listing v) ≤ 12 = rw (a .is) (value-short (getD ws at 0) _ _ (small (at + 1)) (small (at + 2))) in
         omega (arith, a .end);
   }
 
   pub values-enough : (low high : ℕ) → Enough ws (counted low high read-value) (λ vs. 15 + length (values-text vs))
   unfolding values-text
-  values-enough = listed-enough ws read-value value-text value-enough
+  values-enough = listed-enough ws read-value value-listing value-enough
 
   -- An instruction with its comma.
-  item-enough : (r k : ℕ) → Small r → Small k → Enough ws instruction (λ i. suc (length (item-text r k i)))
-  unfolding item-text
+  item-enough : (r k : ℕ) → IsWord r → IsWord k → Enough ws instruction (λ i. suc (length (item-listing r k i)))
+  unfolding item-listing
   item-enough r k p q = record {
     enough = λ at {x = i} h.
         let a = instr-parts ws at h in
-        let opcode : Small (i .opcode) = rw (a .opcode) (small at) in
-        let type : Small (i .type) = omega (arith, a .type-bound) in
-        let cost : Small (i .cost) = rw (a .cost) (small (at + 2)) in
+        let opcode : IsWord (i .opcode) = rw (a .opcode) (small at) in
+        let type : IsWord (i .type) = omega (arith, a .type-bound) in
+        let cost : IsWord (i .cost) = rw (a .cost) (small (at + 2)) in
         simp length-append
         (omega (
           arith,
@@ -171,7 +171,7 @@ module _ (ws : List ℕ) (small : (k : ℕ) → Small (getD ws k 0)) where
   }
 
   -- The instructions of region r.
-  module _ (few : length ws ≤ 65536) (r : ℕ) (known : Small r) where
+  module _ (few : length ws ≤ 65536) (r : ℕ) (known : IsWord r) where
     items-enough : (n k at : ℕ) {b : List Instr} {e : ℕ} → k ≤ at → many n instruction ws at ≡ got b e
         → NumberedEnough (total (item-length (λ t. t)) (items-text r k b)) at (k + length b) e
     unfolding many items-text

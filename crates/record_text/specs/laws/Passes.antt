@@ -16,7 +16,8 @@ use Rattle.format.specs.laws.FirstEdges.{edges-again, edges-new, same-members}
 use Rattle.fields.specs.ByNumber.{before, stands-before}
 use Rattle.fields.specs.laws.Repeats.{stands-within}
 use Rattle.text.specs.Text.{text-of-each}
-use Rattle.text.specs.Buffer.{Buffer, Wrote, _▸_, of-text, wrote-none}
+use Rattle.text.specs.Buffer.{Buffer, Wrote}
+use Rattle.text.specs.laws.BufferLaws.{_▸_, of-text, wrote-none}
 use Rattle.record_text.specs.Listing.{pass-text, passes-text}
 use Rattle.record_text.specs.Parts.{pass-once}
 

@@ -21,13 +21,13 @@ use Rattle.fields.specs.laws.Terminators.{control-edges, edges-length}
 use Rattle.fields.specs.laws.Passed.{edges-targets}
 use Rattle.text.specs.Text.{text-of-each}
 use Rattle.text.specs.laws.Lengths.{five-digits, first-length}
-use Rattle.record_text.specs.Listing.{value-text, numbers-text, values-text, terminator-text, pass-text, passes-text, region-text}
+use Rattle.record_text.specs.Listing.{value-listing, numbers-text, values-text, terminator-text, pass-text, passes-text, region-text}
 use Rattle.record_text.specs.Listing.{regions-text, listing-of}
 use Rattle.record_text.specs.laws.PassLines.{pass-lists}
-use Rattle.record_text.specs.laws.ItemBytes.{Small, Enough, many-parts, many-enough, word-small, words-enough, types-enough}
+use Rattle.record_text.specs.laws.ItemBytes.{IsWord, Enough, many-parts, many-enough, word-small, words-enough, types-enough}
 use Rattle.record_text.specs.laws.ItemBytes.{values-enough, blocks-enough}
 
-terminator-length : (k op : ℕ) (vs : List Value) (es : List Edge) → k ≤ 5 → Small op → fewest-values k ≤ length vs
+terminator-length : (k op : ℕ) (vs : List Value) (es : List Edge) → k ≤ 5 → IsWord op → fewest-values k ≤ length vs
     → fewest-targets k ≤ length es → length (terminator-text (control-inst k op vs es)) ≤ 17 + length (values-text vs) + length
     (numbers-text (map (λ e. e .target) es))
 unfolding terminator-text
@@ -38,21 +38,21 @@ terminator-length (suc (suc (suc zero))) op vs [] l s v t = absurd (omega arith)
 terminator-length (suc (suc (suc zero))) op vs (e ∷ es) l s v t =
     simp length-append (omega (arith, first-length decimal (e .target) (map (λ e. e .target) es)))
 terminator-length (suc (suc (suc (suc zero)))) op [] es l s v t = absurd (omega arith)
-terminator-length (suc (suc (suc (suc zero)))) op (x ∷ vs) es l s v t = simp length-append (omega (arith, first-length value-text x vs))
+terminator-length (suc (suc (suc (suc zero)))) op (x ∷ vs) es l s v t = simp length-append (omega (arith, first-length value-listing x vs))
 terminator-length (suc (suc (suc (suc (suc zero))))) op [] es l s v t = absurd (omega arith)
 terminator-length (suc (suc (suc (suc (suc zero))))) op (x ∷ vs) es l s v t =
-    simp length-append (omega (arith, first-length value-text x vs))
+    simp length-append (omega (arith, first-length value-listing x vs))
 terminator-length (suc (suc (suc (suc (suc (suc k)))))) op vs es l s v t = absurd (omega arith)
 
 -- The bytes of a pass line, by its values.
 abbrev pass-bytes : List Value → ℕ
 pass-bytes vs = 15 + length (values-text vs)
 
-pass-length : (e : Edge) → Small (e .target) → length (pass-text e) ≤ pass-bytes (e .inputs)
+pass-length : (e : Edge) → IsWord (e .target) → length (pass-text e) ≤ pass-bytes (e .inputs)
 unfolding pass-text
 pass-length e s = simp length-append (omega (arith, five-digits (e .target) s))
 
-pass-lines : (es : List Edge) (seen : List ℕ) → All Small (map (λ e. e .target) es)
+pass-lines : (es : List Edge) (seen : List ℕ) → All IsWord (map (λ e. e .target) es)
     → length (text-of-each pass-text (first-edges seen es)) ≤ total (λ e. pass-bytes (e .inputs)) (first-edges seen es)
 unfolding first-edges text-of-each
 pass-lines [] seen s = omega arith
@@ -66,17 +66,17 @@ pass-lines (e ∷ es) seen s = by-test (is-in (e .target) seen) (pass-lines es s
     by-test true again new = again
     by-test false again new = rw length-append (omega (arith, pass-length e (s .0)))
 
-listing-length : (g : Graph) → Small (length (g .regions)) → Small (g .entry) → Small (g .test-cost)
+listing-length : (g : Graph) → IsWord (length (g .regions)) → IsWord (g .entry) → IsWord (g .test-cost)
     → length (listing-of g) ≤ 55 + length (numbers-text (g .constants)) + length (regions-text 0 (g .regions))
 unfolding listing-of
 listing-length g n e t =
     simp length-append (omega (arith, five-digits (length (g .regions)) n, five-digits (g .entry) e, five-digits (g .test-cost) t))
 
 record Opcode (op at e : ℕ) : Type 0 where
-  pub bound : Small op
+  pub bound : IsWord op
   pub end : at ≤ e
 
-module _ (ws : List ℕ) (small : (k : ℕ) → Small (getD ws k 0)) where
+module _ (ws : List ℕ) (small : (k : ℕ) → IsWord (getD ws k 0)) where
   opcode-bounds : (k at : ℕ) {op e : ℕ} → opcode-for k ws at ≡ got op e → Opcode op at e
   unfolding opcode-for
   opcode-bounds k at {op} {e} h = by-test (eqb k 2) h
@@ -102,7 +102,7 @@ module _ (ws : List ℕ) (small : (k : ℕ) → Small (getD ws k 0)) where
         let targets : map (λ e. e .target) es ≡ t .ts = edges-targets (t .ts) (t .passes) in
         let same : length (numbers-text (map (λ e. e .target) es)) ≡ length (numbers-text (t .ts)) =
         ap (λ l. length (numbers-text l)) targets in
-        let all = counted-all word Small ws (λ i x j q. word-small ws small i q) _ _ (t .targets-at) (t .targets) .all in
+        let all = counted-all word IsWord ws (λ i x j q. word-small ws small i q) _ _ (t .targets-at) (t .targets) .all in
         let lists = pass-lists pass-bytes (t .ts) (t .passes) (many-length (counted 0 4 read-value) ws _ (t .passes-at) (t .passed-on)) in
         let line = terminator-length (t .k) (t .op) (t .vs) es (t .kind .high-bound) (o .bound) (v .low-bound)
         (omega (arith, u .low-bound)) in
@@ -117,12 +117,12 @@ module _ (ws : List ℕ) (small : (k : ℕ) → Small (getD ws k 0)) where
 
   -- The number of a region is at most the place where it was read.
   module _ (few : length ws ≤ 65536) where
-    region-enough : (r : ℕ) → Small r → Enough ws read-region (λ x. suc (length (region-text r x)))
+    region-enough : (r : ℕ) → IsWord r → Enough ws read-region (λ x. suc (length (region-text r x)))
     unfolding region-text
     region-enough r s = record {
       enough = λ at {x = x} h.
           let a = region-parts ws at h in
-          let limit : Small (x .limit) = omega (arith, within-parts 1 65535 ws _ (a .limit) .high-bound) in
+          let limit : IsWord (x .limit) = omega (arith, within-parts 1 65535 ws _ (a .limit) .high-bound) in
           let inputs = types-enough ws small 0 4 .enough at (a .inputs) in
           let blocks = blocks-enough ws small few r s .enough _ (a .blocks) in
           let end = terminator-enough .enough _ (a .terminator) in

@@ -9,20 +9,21 @@ use lib.ListN.{length, getD, drop, drop-of-length-le}
 use lib.Seq.{drop-cons}
 use Rattle.meaning.specs.Graph.{Instr, Region, nowhere}
 use Rattle.format.specs.References.{no-instr}
-use Rattle.text.specs.Buffer.{Buffer, Wrote, _▸_, of-text, wrote-none}
-use Rattle.record_text.specs.Listing.{item-text, items-text, block-text, blocks-text, region-text, regions-text}
+use Rattle.text.specs.Buffer.{Buffer, Wrote}
+use Rattle.text.specs.laws.BufferLaws.{_▸_, of-text, wrote-none}
+use Rattle.record_text.specs.Listing.{item-listing, items-text, block-text, blocks-text, region-text, regions-text}
 
 pub items-text-length : (r k : ℕ) (b : List Instr) → length (items-text r k b) ≡ length b
 unfolding items-text
 items-text-length r k [] = refl
 items-text-length r k (i ∷ b) = ap suc (items-text-length r (suc k) b)
 
-pub items-at : (r k : ℕ) (b : List Instr) (j : ℕ) → j < length b → item-text r (k + j) (getD b j no-instr) ≡ getD (items-text r k b) j []
+pub items-at : (r k : ℕ) (b : List Instr) (j : ℕ) → j < length b → item-listing r (k + j) (getD b j no-instr) ≡ getD (items-text r k b) j []
 unfolding items-text
 items-at r k [] j h = absurd (omega arith)
-items-at r k (i ∷ b) zero h = ap (λ n. item-text r n i) (add-zero k)
+items-at r k (i ∷ b) zero h = ap (λ n. item-listing r n i) (add-zero k)
 items-at r k (i ∷ b) (suc j) h =
-    ap (λ n. item-text r n (getD b j no-instr)) (add-suc k j ∙ sym (suc-add k j)) ∙ items-at r (suc k) b j (le-of-suc-le-suc h)
+    ap (λ n. item-listing r n (getD b j no-instr)) (add-suc k j ∙ sym (suc-add k j)) ∙ items-at r (suc k) b j (le-of-suc-le-suc h)
 
 pub wrote-block : {o p q : Buffer} (r k : ℕ) (bs : List (List Instr)) (b : ℕ) → b < length bs → Wrote o (block-text r k (getD bs b [])) p
     → Wrote p (blocks-text r (k + length (getD bs b [])) (drop (b + 1) bs)) q → Wrote o (blocks-text r k (drop b bs)) q

@@ -39,8 +39,8 @@ loop-holds c =
 value-requires : tie.Need-value-requires Inv-loop μ-loop
 value-requires c κs = search needs
 
-named-requires : tie.Need-named-requires Inv-loop μ-loop
-named-requires c κs = search needs
+named-right-requires : tie.Need-named-right-requires Inv-loop μ-loop
+named-right-requires c κs = search needs
 
 enum-known-c : tie.Need-enum-known-c Inv-loop μ-loop
 enum-known-c c = search needs
@@ -51,7 +51,7 @@ returns c =
     let turn = at-before .before in
     let start = turn .before .before in
     call-refused (turn .before .loop .inv) (turn .loop-test .taken)
-    (λ g s. c .before .before .before .named .ensures g s
+    (λ g s. c .before .before .before .named-right .ensures g s
     ∙ rw (start .before .instruction-count .ensures g s, at-before .value .ensures g s))
     (c .before .c .given .1)
 
@@ -69,7 +69,7 @@ loop-again c =
     let turn = c .before .before .before .before in
     let start = turn .before .before in
     call-passed (turn .before .loop .inv) (turn .loop-test .taken)
-    (λ g s. c .before .before .named .ensures g s ∙ rw
+    (λ g s. c .before .before .named-right .ensures g s ∙ rw
     (start .before .instruction-count .ensures g s, c .before .before .before .value .ensures g s))
     (c .enum-told .given .1)
 
@@ -86,7 +86,7 @@ exit-values-right-spec =
     value-count-requires
     loop-holds
     value-requires
-    named-requires
+    named-right-requires
     enum-known-c
     returns
     enum-told

@@ -38,8 +38,8 @@ loop-holds c =
 read-requires : tie.Need-read-requires Inv-loop μ-loop
 read-requires c κs = search needs
 
-named-requires : tie.Need-named-requires Inv-loop μ-loop
-named-requires c κs = search needs
+named-right-requires : tie.Need-named-right-requires Inv-loop μ-loop
+named-right-requires c κs = search needs
 
 enum-known-c : tie.Need-enum-known-c Inv-loop μ-loop
 enum-known-c c = search needs
@@ -49,7 +49,7 @@ returns c =
     let at-before = c .before .before .before .before in
     let turn = at-before .before in
     call-refused (turn .before .loop .inv) (turn .loop-test .taken)
-    (λ g s. c .before .before .before .named .ensures g s ∙ rw (at-before .read .ensures g s))
+    (λ g s. c .before .before .before .named-right .ensures g s ∙ rw (at-before .read .ensures g s))
     (c .before .c .given .1)
 
 enum-told : tie.Need-enum-told Inv-loop μ-loop
@@ -65,7 +65,7 @@ loop-again : tie.Need-loop-again Inv-loop μ-loop
 loop-again c =
     let turn = c .before .before .before .before in
     call-passed (turn .before .loop .inv) (turn .loop-test .taken)
-    (λ g s. c .before .before .named .ensures g s ∙ rw (c .before .before .before .read .ensures g s))
+    (λ g s. c .before .before .named-right .ensures g s ∙ rw (c .before .before .before .read .ensures g s))
     (c .enum-told .given .1)
 
 returns-2 : tie.Need-returns-2 Inv-loop μ-loop
@@ -80,7 +80,7 @@ instruction-reads-right-spec =
     instruction-requires
     loop-holds
     read-requires
-    named-requires
+    named-right-requires
     enum-known-c
     returns
     enum-told

@@ -45,8 +45,8 @@ instruction-count-requires c κs = search needs
 value-requires-2 : tie.Need-value-requires-2
 value-requires-2 c κs = search needs
 
-named-requires : tie.Need-named-requires
-named-requires c κs = search needs
+named-right-requires : tie.Need-named-right-requires
+named-right-requires c κs = search needs
 
 returns : tie.Need-returns
 unfolding format.values-right
@@ -77,7 +77,7 @@ returns-5 c g s =
 returns-6 : tie.Need-returns-6
 returns-6 c g s =
     let at-terminator = c .before .before .before .before .before in
-    c .named .ensures g s ∙ rw (c .before .before .instruction-count .ensures g s)
+    c .named-right .ensures g s ∙ rw (c .before .before .instruction-count .ensures g s)
     (ap (format.named-right g _ _) (c .before .value2 .ensures g s)
     ∙ test-number g _ _ (rw (c .before .before .before .enum-told6 .given .1) at (at-terminator .terminator .ensures g s)))
 
@@ -98,7 +98,7 @@ values-right-spec =
     enum-told-6
     instruction-count-requires
     value-requires-2
-    named-requires
+    named-right-requires
     returns
     returns-2
     returns-3

@@ -4,8 +4,8 @@ use native.Mathlib.Omega.{arith}
 use borrow.Author.Needs.{needs}
 use borrow.Fn.Kinds.{In}
 use borrow.Fn.PlainCycle.{Measures, is, falls, and}
-use Rattle.children.specs.CellByCell.{named-below}
-use Rattle.select_lines.specs.CaseNumbers.{no-regions, first-region}
+use Rattle.children.specs.laws.CellByCellLaws.{named-below}
+use Rattle.select_lines.specs.laws.CaseNumbersLaws.{no-regions, first-region}
 use Rattle.select_lines.proofs.put_regions.Reads as reads
 use Rattle.select_lines.proofs.put_regions.Kinds as kinds
 use Rattle.select_lines.proofs.+put_regions.Lts-put_regions as lts

@@ -1,4 +1,4 @@
-use Rattle.select_lines.specs.SelectLines.{case-line-put}
+use Rattle.select_lines.specs.laws.SelectLinesLaws.{case-line-put}
 use borrow.Author.Needs.{needs}
 use Rattle.select_lines.proofs.put_case_line.Statement.{statement}
 use Rattle.select_lines.proofs.put_case_line.Tie as tie
@@ -6,8 +6,8 @@ use Rattle.select_lines.proofs.put_case_line.Tie as tie
 put-case-outputs-requires : tie.Need-put-case-outputs-requires
 put-case-outputs-requires c κs = search needs
 
-case-children-requires : tie.Need-case-children-requires
-case-children-requires c κs = search needs
+children-of-case-requires : tie.Need-children-of-case-requires
+children-of-case-requires c κs = search needs
 
 put-kids-requires : tie.Need-put-kids-requires
 put-kids-requires c κs = search needs
@@ -26,11 +26,11 @@ returns c =
     let at-put-three = c .before .before in
     let at-cell-a = at-put-three .before in
     let at-put-kids = at-cell-a .before .before .before .before in
-    let at-case-children = at-put-kids .before in
-    let at-put-case-outputs = at-case-children .before .before .before .before in
+    let at-children-of-case = at-put-kids .before in
+    let at-put-case-outputs = at-children-of-case .before .before .before .before in
     case-line-put _ _ _ _
     (at-put-case-outputs .put-case-outputs .ensures)
-    (at-case-children .case-children .ensures)
+    (at-children-of-case .children-of-case .ensures)
     (at-put-kids .put-kids .ensures) (at-cell-a .cell-a .ensures)
     (at-put-three .put-three .ensures)
 
@@ -39,7 +39,7 @@ put-case-line-spec =
     tie.close
     (tie.spec
     put-case-outputs-requires
-    case-children-requires
+    children-of-case-requires
     put-kids-requires
     cell-a-requires
     put-three-requires

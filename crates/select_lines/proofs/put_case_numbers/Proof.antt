@@ -1,5 +1,5 @@
 use native.Mathlib.Omega.{arith}
-use Rattle.select_lines.specs.CaseNumbers.{case-numbers-put}
+use Rattle.select_lines.specs.laws.CaseNumbersLaws.{case-numbers-put}
 use borrow.Author.Needs.{needs}
 use Rattle.select_lines.proofs.put_case_numbers.Statement.{statement}
 use Rattle.select_lines.proofs.put_case_numbers.Tie as tie

@@ -7,7 +7,8 @@ use Rattle.writing.specs.Puts.{Puts}
 use Rattle.writing.specs.laws.Rows.{run, run-start}
 use Rattle.writing.specs.Parts.{OfState}
 use Rattle.writing.specs.Outputs.{node-times}
-use Rattle.select_lines.specs.OwnOutputs.{own, case-value, own-put, other-passed, own-counted, other-not-counted, case-outputs-put}
+use Rattle.select_lines.specs.OwnOutputs.{own, case-value}
+use Rattle.select_lines.specs.laws.OwnOutputsLaws.{own-put, other-passed, own-counted, other-not-counted, case-outputs-put}
 use Rattle.select_lines.proofs.put_case_outputs.Statement.{statement}
 use Rattle.select_lines.proofs.put_case_outputs.Tie as tie
 

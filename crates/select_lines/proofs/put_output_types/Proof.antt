@@ -6,7 +6,8 @@ use borrow.Author.Needs.{needs}
 use Rattle.writing.specs.Puts.{Puts}
 use Rattle.writing.specs.laws.Rows.{run, run-start}
 use Rattle.writing.specs.Outputs.{node-times}
-use Rattle.select_lines.specs.OwnOutputs.{own, type-word, own-put, other-passed, own-counted, other-not-counted, output-types-put}
+use Rattle.select_lines.specs.OwnOutputs.{own, type-word}
+use Rattle.select_lines.specs.laws.OwnOutputsLaws.{own-put, other-passed, own-counted, other-not-counted, output-types-put}
 use Rattle.select_lines.proofs.put_output_types.Statement.{statement}
 use Rattle.select_lines.proofs.put_output_types.Tie as tie
 

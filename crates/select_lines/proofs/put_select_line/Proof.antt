@@ -1,4 +1,4 @@
-use Rattle.select_lines.specs.SelectLines.{select-line-put}
+use Rattle.select_lines.specs.laws.SelectLinesLaws.{select-line-put}
 use borrow.Author.Needs.{needs}
 use Rattle.select_lines.proofs.put_select_line.Statement.{statement}
 use Rattle.select_lines.proofs.put_select_line.Tie as tie

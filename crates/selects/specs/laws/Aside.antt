@@ -14,7 +14,8 @@ use Rattle.state.specs.Sections.{word, used, kinds, set-starts, cases}
 use Rattle.state.specs.Tables.{case-total, case-words, case-row}
 use Rattle.shown.specs.Sets.{ShowsSet, SameBundle}
 use Rattle.shown.specs.States.{Slots, ShowsCase, shows-ok, shows-nothing, shows-edge, shows-others, ShowsCases, no-case}
-use Rattle.shown.specs.Kept.{Later, set-stays}
+use Rattle.shown.specs.Kept.{Later}
+use Rattle.shown.specs.laws.RegionsKept.{set-stays}
 use Rattle.bundles.specs.Words.{unclaimed-case}
 use Rattle.bundles.specs.laws.CaseSteps.{CaseAndSet, OneCase, one-row, other-row, shown-stays, row-word, nothing-row}
 use Rattle.bundles.specs.laws.Appended.{ShowsAlone, claimed-parts, edge-parts, rest-parts}

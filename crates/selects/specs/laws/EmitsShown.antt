@@ -16,8 +16,10 @@ use Rattle.state.specs.declared.defined.Defined.the-variants.{Number}
 use Rattle.state.specs.Sections.{word, stored, bundles}
 use Rattle.state.specs.Tables.{input-word, input-stored, OutputDefined, output-defined}
 use Rattle.state.specs.Values.{output-word}
-use Rattle.shown.specs.Values.{value, value-output}
-use Rattle.shown.specs.Tables.{ShowsTables, done-of, full-of}
+use Rattle.shown.specs.Values.{value}
+use Rattle.shown.specs.laws.ValueWords.{value-output}
+use Rattle.shown.specs.Tables.{ShowsTables}
+use Rattle.shown.specs.laws.DefinedShown.{done-of, full-of}
 use Rattle.shown.specs.laws.Elsewhere.{tables-stay, word-elsewhere}
 use Rattle.shown.specs.laws.Steps.{output-made, output-changes}
 use Rattle.shown.specs.Sets.{Names, ShowsTarget, target-size}

@@ -14,7 +14,8 @@ use Rattle.state.specs.laws.Apart.{section-other}
 use Rattle.shown.specs.laws.Stores.{ChangesOnly, word-changes}
 use Rattle.shown.specs.Sets.{SameBundle}
 use Rattle.shown.specs.States.{Slots, ShowsReturned, ShowsCases}
-use Rattle.shown.specs.Kept.{Later, later-same, later-then, same-bundle, same-bundle-then}
+use Rattle.shown.specs.Kept.{Later}
+use Rattle.shown.specs.laws.RegionsKept.{later-same, later-then, same-bundle, same-bundle-then}
 use Rattle.shown.specs.laws.RegionSteps.{slots-stay}
 use Rattle.shown.specs.laws.RegionSteps.{bundles-same, later-by, bundle-word}
 use Rattle.selects.specs.laws.StepsShown.{SelectStep, cases-stay}

@@ -9,21 +9,24 @@ use Rattle.meaning.specs.Graph.{Graph}
 use Rattle.state.specs.declared.defined.Defined.{Defined}
 use Rattle.state.specs.Sections.{word, stored, stored-all, children, set-starts, set-lengths, cases, bundles}
 use Rattle.state.specs.Tables.{edges-word, case-total, bundle-at, find-by}
-use Rattle.shown.specs.Front.{SameKinds, kinds-same, kinds-stored, kinds-run, kinds-then}
+use Rattle.shown.specs.Front.{SameKinds}
+use Rattle.shown.specs.laws.FrontKept.{kinds-same, kinds-stored, kinds-run, kinds-then}
 use Rattle.lookups.specs.Materialized.{Merges, the-scrutinee, new-output, no-output, Materializes, made-true, made-false, made-undef}
 use Rattle.lookups.specs.Materialized.{made-merge, full-part, PartsMade, no-part, part-more}
 use Rattle.merging.specs.Turns.{front-turned}
-use Rattle.merging.specs.Rewriting.{rewrite-case, rewrite-cases, front-case}
+use Rattle.merging.specs.Rewriting.{rewrite-case, rewrite-cases}
+use Rattle.merging.specs.laws.RewritingLaws.{front-case}
 use Rattle.merging.specs.Targets.{longer, row-added, edges-added, summarize-bundle, summarize-set, summarize-case, deferred-targets}
-use Rattle.merging.specs.Planning.{planned, plan-at, plan-bundles, front-plan}
+use Rattle.merging.specs.Planning.{planned, plan-at, plan-bundles}
+use Rattle.merging.specs.laws.PlanningLaws.{front-plan}
 use Rattle.state.specs.declared.defined.Made.{Made}
 use Rattle.selects.specs.declared.define.Scrutinee.{Scrutinee}
-use Rattle.selects.specs.Turns.{front-turns}
+use Rattle.selects.specs.laws.TurnsLaws.{front-turns}
 use Rattle.selects.specs.Cases.{GetsRegion, has-region, new-region, no-region}
 use Rattle.selects.specs.Selects.{ScrutineeMade, given-value, made-value, CaseCells, cells-over, cell-more, SelectAdded, select-added}
 use Rattle.selects.specs.Selects.{SelectDefined, regions-full, scrutinee-full, node-full, select-defined}
-use Rattle.selects.specs.Emits.{front-output}
-use Rattle.shown.specs.Front.{defines-kinds, adds-kinds}
+use Rattle.selects.specs.laws.EmitsLaws.{front-output}
+use Rattle.shown.specs.laws.FrontKept.{defines-kinds, adds-kinds}
 
 -- ---- Cases rewritten, their targets, and what is planned for them.
 pub front-cases : (g : Graph) (l : List ℕ) → SameKinds l (rewrite-cases g l)

@@ -14,7 +14,7 @@ use Rattle.nesting.specs.Nesting as nesting
 use Rattle.nesting.specs.Nesting.{MaybeClaimedRegion, ok, ClaimedRegion, DeferredTarget, NestState, StepAnswer, Body}
 use Rattle.nesting.specs.Nesting.{structurize-select-into, structurize-select, convergent-cases, without-convergent}
 use Rattle.nesting.specs.lookups.ChainEnds.{ChainsEnd}
-use Rattle.state.specs.Sections.{word, stored, used, head, kinds, set-starts, set-lengths, children, cases}
+use Rattle.state.specs.Sections.{word, stored, used, head, kinds, set-starts, set-lengths, children, cases, most-cells}
 use Rattle.state.specs.Sections.{bundles}
 use Rattle.state.specs.Tables.{swapped, case-words, case-row}
 use Rattle.shown.specs.laws.Stores.{ChangesOnly, run-changes}
@@ -22,7 +22,8 @@ use Rattle.shown.specs.Tables.{ShowsShape}
 use Rattle.shown.specs.Sets.{ShowsSet}
 use Rattle.shown.specs.Cells.{ShowsChildren}
 use Rattle.shown.specs.States.{ShowsState, ShowsBody, ShowsCases, ShowsCase, shows-ok, shows-nothing, shows-edge, shows-others, no-case}
-use Rattle.shown.specs.Kept.{Later, later-then, KeptRegion, kept-then, set-stays, same-bundle-then}
+use Rattle.shown.specs.Kept.{Later, KeptRegion}
+use Rattle.shown.specs.laws.RegionsKept.{later-then, kept-then, set-stays, same-bundle-then}
 use Rattle.shown.specs.laws.RegionSteps.{word-concerns, concerns-states, state-stays, length-set-to, later-by, kept-by}
 use Rattle.shown.specs.laws.RegionSteps.{states-by, tables-by}
 use Rattle.shown.specs.laws.RegionSteps.{bundles-same}
@@ -136,7 +137,7 @@ module _ {g : Graph} (valid : Valid g) {r : ℕ} (below : r < length (g .regions
     (bound : (x : DeferredTarget) → edges-of-cases x (cases-after s cs) ≤ 65535)
     {x : Scrutinee} {y : nesting.Scrutinee} (scrutinee : ShowsScrutinee w x y) {shape : ℕ} {kind : SelectionKind}
     (of-shape : ShowsShape shape (length cs) kind) {parent : Nodes} (own : ShowsChildren g w (word w children r) parent)
-    (free : word w head 4 + (length cs + 2) ≤ 704) where
+    (free : word w head 4 + (length cs + 2) ≤ most-cells) where
   -- All cases together.
   together : {w₁ : List ℕ} {a : Made} → StructurizesSelect g r shape x w w₁ a
       → ShowsMade (Structured g r cs w w₁) a (structurize-select g parent kind y cs s)

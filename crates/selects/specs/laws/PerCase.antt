@@ -15,7 +15,8 @@ use Rattle.nesting.specs.Nesting.{DeferredTarget, DeferredEdgeBundle, DeferredE
 use Rattle.nesting.specs.Nesting.{PerCaseDeferred, per-case-of, get-edge-bundle-by-target, condition-in, conditions-of, undef-cond}
 use Rattle.state.specs.Sections.{word, cases}
 use Rattle.state.specs.Tables.{input-word, case-total}
-use Rattle.shown.specs.Values.{value, value-undef, value-beyond}
+use Rattle.shown.specs.Values.{value}
+use Rattle.shown.specs.laws.ValueWords.{value-undef, value-beyond}
 use Rattle.shown.specs.Tables.{ShowsCondition, shows-undef, shows-false, ShowsParts, none-left, one-and, cond-count, ShowsValues}
 use Rattle.shown.specs.Sets.{ShowsTarget, ShowsSet, target-size, no-bundle}
 use Rattle.shown.specs.laws.SetSteps.{condition-shown}
@@ -25,7 +26,8 @@ use Rattle.shown.specs.States.{ShowsCases, no-case}
 use Rattle.bundles.specs.Words as words
 use Rattle.merging.specs.laws.PerCaseShown.{place-is, inputs-nowhere}
 use Rattle.merging.specs.Planning.{per-case-deferred, per-case-condition}
-use Rattle.selects.specs.Emits.{InCases, value-in-case, value-none, value-some}
+use Rattle.selects.specs.Emits.{InCases, value-in-case}
+use Rattle.selects.specs.laws.EmitsLaws.{value-none, value-some}
 use Rattle.selects.specs.laws.StepsShown.{SelectStep}
 
 -- ---- The cases' bundles to a target.

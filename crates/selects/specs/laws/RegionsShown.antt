@@ -13,7 +13,8 @@ use Rattle.state.specs.Sections.{word, stored, head, cases}
 use Rattle.state.specs.laws.Apart.{section-other}
 use Rattle.state.specs.Tables.{Defines, defined, full}
 use Rattle.shown.specs.laws.Stores.{ChangesOnly, nothing-changes, head-changes, word-changes, changes-then}
-use Rattle.shown.specs.Tables.{ShowsTables, done-of, full-of}
+use Rattle.shown.specs.Tables.{ShowsTables}
+use Rattle.shown.specs.laws.DefinedShown.{done-of, full-of}
 use Rattle.shown.specs.laws.Elsewhere.{tables-stay, word-elsewhere}
 use Rattle.meaning.specs.Runs.{case-count}
 use Rattle.shown.specs.States.{ShowsCase, shows-ok, shows-nothing, shows-edge, shows-others, no-case}

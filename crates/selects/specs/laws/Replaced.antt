@@ -19,7 +19,8 @@ use Rattle.shown.specs.Sets.{Names}
 use Rattle.shown.specs.States.{NamedRewrites, ShowsCases, ShowsCase, shows-ok, shows-nothing, shows-edge, shows-others, no-case}
 use Rattle.bundles.specs.Words.{case-inputs}
 use Rattle.bundles.specs.laws.Appended.{inputs-at}
-use Rattle.selects.specs.Cases.{inputs-replaced, all-replaced, replaced-claimed, replaced-not}
+use Rattle.selects.specs.Cases.{inputs-replaced, all-replaced}
+use Rattle.selects.specs.laws.CasesLaws.{replaced-claimed, replaced-not}
 use Rattle.selects.specs.laws.Places.{From, first-of, rest-of, from-start}
 
 -- What the words of case j say of what is to be replaced.

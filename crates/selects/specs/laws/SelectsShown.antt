@@ -15,18 +15,20 @@ use Rattle.nesting.specs.Nesting.{most-nodes}
 use Rattle.state.specs.declared.defined.Defined.{Defined}
 use Rattle.state.specs.declared.defined.Defined.the-variants.{Number, Full}
 use Rattle.state.specs.Sections as sections
-use Rattle.state.specs.Sections.{Section, number, section, word, used, head, children, cases, outputs, cells}
+use Rattle.state.specs.Sections.{Section, number, section, word, used, head, children, cases, outputs, cells, most-cells}
 use Rattle.state.specs.laws.Apart.{section-other}
 use Rattle.state.specs.Tables.{case-total, Defines, defined}
 use Rattle.shown.specs.Values.{value}
 use Rattle.shown.specs.laws.Stores.{ChangesOnly, nothing-changes, head-changes, changes-then}
-use Rattle.shown.specs.Tables.{ShowsTables, ShowsShape, ShowsCondition, shows-done, done-of, full-of}
+use Rattle.shown.specs.Tables.{ShowsTables, ShowsShape, ShowsCondition, shows-done}
+use Rattle.shown.specs.laws.DefinedShown.{done-of, full-of}
 use Rattle.shown.specs.laws.Elsewhere.{SameTables, tables-stay, same-then}
 use Rattle.shown.specs.laws.Steps.{node-defined}
 use Rattle.shown.specs.Cells.{ShowsChildren}
 use Rattle.meaning.specs.Runs.{case-count}
 use Rattle.shown.specs.States.{ShowsCases, no-case}
-use Rattle.shown.specs.Kept.{Later, later-same, later-then}
+use Rattle.shown.specs.Kept.{Later}
+use Rattle.shown.specs.laws.RegionsKept.{later-same, later-then}
 use Rattle.shown.specs.laws.CellSteps.{ShowsCaseList, no-case-list, case-added, select-added, cell-changes, cell-later}
 use Rattle.shown.specs.laws.CellSteps.{cell-total, cell-there}
 use Rattle.shown.specs.laws.CellSteps.{cell-handle, cell-tables}
@@ -61,7 +63,7 @@ module _ (g : Graph) (cs : List MaybeClaimedRegion) (body : ℕ → ℕ) where
     total : word w′ head 4 ≡ word w head 4 + n
 
   -- The cases from place n on have their cells.
-  cells-shown : {n h h′ : ℕ} {w w′ : List ℕ} → CaseCells n h w w′ h′ → n ≤ length cs → word w head 4 + n ≤ 704 → used ≤ length w
+  cells-shown : {n h h′ : ℕ} {w w′ : List ℕ} → CaseCells n h w w′ h′ → n ≤ length cs → word w head 4 + n ≤ most-cells → used ≤ length w
       → ((j : ℕ) → j < length cs → ShowsChildren g w (children-of w j) (children-in (getD cs j no-case)))
       → ((j : ℕ) → j < length cs → body-at w j ≡ body j) → ShowsCaseList g w h (cases-from body n (drop n cs))
       → CellsShown w w′ h′ n
@@ -74,7 +76,7 @@ module _ (g : Graph) (cs : List MaybeClaimedRegion) (body : ℕ → ℕ) where
         total = omega arith;
       }
   cells-shown {n} {w} (cell-more {m} {l₁} e x y) few free room kids own list =
-      let free₁ : word w head 4 < 704 = omega arith in
+      let free₁ : word w head 4 < most-cells = omega arith in
       let handle = cell-handle x free₁ room in
       let total = cell-total x free₁ room in
       let changes = cell-changes x free₁ room in
@@ -108,7 +110,7 @@ pub record SelectPlaced (g : Graph) (r : ℕ) (w w′ : List ℕ) (h node shape 
 
 module _ (g : Graph) (cs : List MaybeClaimedRegion) (r : ℕ) (below : r < 32) where
   placed : {node shape x h : ℕ} {w w′ : List ℕ} {parent : Nodes} {kind : SelectionKind} {v : graph.Value}
-      → words.SelectAdded r node shape x w w′ h → case-total w ≡ length cs → word w head 4 + (length cs + 1) ≤ 704 → used ≤ length w
+      → words.SelectAdded r node shape x w w′ h → case-total w ≡ length cs → word w head 4 + (length cs + 1) ≤ most-cells → used ≤ length w
       → ((j : ℕ) → j < length cs → ShowsChildren g w (children-of w j) (children-in (getD cs j no-case)))
       → ShowsChildren g w (word w children r) parent → ShowsShape shape (length cs) kind → value x ≡ v
       → SelectPlaced g r w w′ h node shape x (length cs) (join parent (new-select node kind v (cases-from (body-at w) 0 cs) ▸ ⟨⟩))
@@ -119,7 +121,7 @@ module _ (g : Graph) (cs : List MaybeClaimedRegion) (r : ℕ) (below : r < 32) w
       let first : ShowsCaseList g w 0 (cases-from (body-at w) (length cs) (drop (length cs) cs)) = rw none (no-case-list (omega arith)) in
       let m = cells-shown g cs (body-at w) (rw size at cells-made) (omega arith) (omega arith) room kids (λ j i. refl) first in
       let count = m .total in
-      let free₂ : word l₁ head 4 < 704 = omega arith in
+      let free₂ : word l₁ head 4 < most-cells = omega arith in
       let room₂ : used ≤ length l₁ = rw (m .changes .words) room in
       let parent₁ : ShowsChildren g l₁ before parent =
       rw (b, m .changes .others children (omega arith) (omega arith)) (m .later .nodes-stay p) in
@@ -185,7 +187,7 @@ module _ {g : Graph} {r : ℕ} {cs : List MaybeClaimedRegion} {parent : Nodes} {
     {shape : ℕ} {x : Scrutinee} {y : nesting.Scrutinee}
     (below : r < 32) (t : ShowsTables w s) (shown : ShowsCases g w r cs) (scrutinee : ShowsScrutinee w x y)
     (of-shape : ShowsShape shape (length cs) kind) (own : ShowsChildren g w (word w children r) parent)
-    (free : word w head 4 + (length cs + 1) ≤ 704) where
+    (free : word w head 4 + (length cs + 1) ≤ most-cells) where
   -- The cases have their regions.
   record WithRegions (l : List ℕ) : Type 0 where
     made : Cases

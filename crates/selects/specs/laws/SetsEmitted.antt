@@ -16,11 +16,13 @@ use Rattle.state.specs.Sections.{word, stored-all, front, set-lengths, conditio
 use Rattle.state.specs.Tables.{bundle-at, MergeDefined, merge-defined, merges-full}
 use Rattle.shown.specs.Values.{value}
 use Rattle.shown.specs.laws.Stores.{ChangesOnly, run-changes, head-changes, changes-then, nothing-changes}
-use Rattle.shown.specs.Tables.{ShowsTables, ShowsShape, ShowsCondition, shows-true, done-of, full-of, cond-count}
+use Rattle.shown.specs.Tables.{ShowsTables, ShowsShape, ShowsCondition, shows-true, cond-count}
+use Rattle.shown.specs.laws.DefinedShown.{done-of, full-of}
 use Rattle.shown.specs.laws.Elsewhere.{tables-stay, word-elsewhere}
 use Rattle.shown.specs.laws.Conditions.{merge-made, condition-kept}
 use Rattle.shown.specs.Sets.{ShowsBundle, ShowsSet, SameBundle, no-bundle}
-use Rattle.shown.specs.Kept.{Later, bundle-stays}
+use Rattle.shown.specs.Kept.{Later}
+use Rattle.shown.specs.laws.RegionsKept.{bundle-stays}
 use Rattle.shown.specs.laws.Finds.{bundle-in}
 use Rattle.shown.specs.laws.RegionSteps.{word-there, word-apart}
 use Rattle.selects.specs.laws.SmallTypes.{SmallTypes}

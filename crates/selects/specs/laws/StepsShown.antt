@@ -14,7 +14,8 @@ use Rattle.state.specs.Tables.{case-total}
 use Rattle.shown.specs.laws.Stores.{ChangesOnly}
 use Rattle.shown.specs.Sets.{SameBundle}
 use Rattle.shown.specs.States.{ShowsCase, shows-ok, shows-nothing, shows-edge, shows-others, ShowsCases}
-use Rattle.shown.specs.Kept.{Later, later-same, later-then, KeptRegion, kept-same, kept-then, same-bundle, same-bundle-then, set-stays}
+use Rattle.shown.specs.Kept.{Later, KeptRegion}
+use Rattle.shown.specs.laws.RegionsKept.{later-same, later-then, kept-same, kept-then, same-bundle, same-bundle-then, set-stays}
 use Rattle.shown.specs.laws.RegionSteps.{OfNoRegion, kept-by, bundles-same, StatesStay, word-concerns, later-by}
 use Rattle.selects.specs.laws.RegionsShown.{KeepsCases}
 

@@ -18,7 +18,7 @@ use Rattle.nesting.specs.Nesting.{emit, shared-bundle, any-needs-select, struct
 use Rattle.nesting.specs.lookups.ChainEnds.{ChainsEnd}
 use Rattle.nesting.specs.steps.Post.{Post}
 use Rattle.nesting.specs.steps.Keeps.{select-if-keeps}
-use Rattle.nesting.specs.steps.StatesKept.{Still, still-steady}
+use Rattle.nesting.specs.steps.StatesKept.{KeepsStates, states-kept-steady}
 use Rattle.state.specs.declared.defined.Defined.{Defined}
 use Rattle.state.specs.declared.defined.Defined.the-variants.{Number, Full as Refused}
 use Rattle.state.specs.Sections as sections
@@ -28,7 +28,8 @@ use Rattle.shown.specs.Tables.{ShowsTables, ShowsShape}
 use Rattle.shown.specs.Sets.{ShowsSet, SameBundle}
 use Rattle.shown.specs.Cells.{ShowsChildren}
 use Rattle.shown.specs.States.{ShowsState, ShowsCases, NamedRewrites}
-use Rattle.shown.specs.Kept.{Later, later-then, KeptRegion, kept-then, same-bundle-then, set-stays}
+use Rattle.shown.specs.Kept.{Later, KeptRegion}
+use Rattle.shown.specs.laws.RegionsKept.{later-then, kept-then, same-bundle-then, set-stays}
 use Rattle.shown.specs.laws.CellSteps.{join-none}
 use Rattle.shown.specs.laws.RegionSteps.{slots-stay}
 use Rattle.shown.specs.laws.RegionSteps.{bundles-same, later-by, state-next}
@@ -58,6 +59,7 @@ use Rattle.selects.specs.laws.SetsEmitted.{ShowsSelectCell, planned-stay
 use Rattle.selects.specs.laws.PlansShown.{plan-shown, shared-set}
 use Rattle.selects.specs.laws.Replaced.{replaced-shown}
 use Rattle.selects.specs.laws.RowsKept.{row-kept}
+use Rattle.state.specs.Sections.{most-cells}
 
 -- ---- A look-up of the cases leaves what the select's own cases have of them.
 same-regions : (s₀ : NestState) (cs : List MaybeClaimedRegion) (s : NestState) → case-regions (cases-after s₀ cs) s ≡ case-regions cs s
@@ -91,7 +93,7 @@ module _ {g : Graph} (few : length (g .regions) ≤ 32) (small : SmallTypes g) {
     (tables : ShowsTables w s) (cs : List MaybeClaimedRegion) (s₀ : NestState) (here : Spared g r base (cases-after s₀ cs) w)
     {x : Scrutinee} {y : nesting.Scrutinee} (scrutinee : ShowsScrutinee w x y) {shape : ℕ} {kind : SelectionKind}
     (of-shape : ShowsShape shape (length cs) kind) {parent : Nodes} (own : ShowsChildren g w (word w children r) parent)
-    (free : word w head 4 + (length cs + 1) ≤ 704) {ps : List PlannedBundle} (plan : ShowsPlan g (cases-after s₀ cs) w base ps) where
+    (free : word w head 4 + (length cs + 1) ≤ most-cells) {ps : List PlannedBundle} (plan : ShowsPlan g (cases-after s₀ cs) w base ps) where
   many : length (cases-after s₀ cs) ≡ length cs
   many = length-map cs _
 
@@ -258,7 +260,7 @@ pub record Structured (g : Graph) (r : ℕ) (cs : List MaybeClaimedRegion) (w w�
       → word w′ cases (10 * j + q) ≡ word w cases (10 * j + q)
   pub total : word w′ head 4 ≤ word w head 4 + (length cs + 1)
 
-states-kept : {A : Type 0} {s : NestState} (x : StepAnswer A) → Post (λ n u. n ≡ 9) (λ a s′. Still s s′) x → {a : A} {s′ : NestState}
+states-kept : {A : Type 0} {s : NestState} (x : StepAnswer A) → Post (λ n u. n ≡ 9) (λ a s′. KeepsStates s s′) x → {a : A} {s′ : NestState}
     → x ≡ done a s′ → s′ .region-states ≡ s .region-states
 states-kept (done a s₁) p {s′} e = let z : s₁ ≡ s′ = cc in rw (← z) (p .post .states)
 states-kept (turned-away n u) p e = absurd (clash (cc))
@@ -269,7 +271,7 @@ module _ {g : Graph} (valid : Valid g) {r : ℕ} (below : r < length (g .regions
     (bound : (x : DeferredTarget) → edges-of-cases x (cases-after s cs) ≤ 65535)
     {x : Scrutinee} {y : nesting.Scrutinee} (scrutinee : ShowsScrutinee w x y) {shape : ℕ} {kind : SelectionKind}
     (of-shape : ShowsShape shape (length cs) kind) {parent : Nodes} (own : ShowsChildren g w (word w children r) parent)
-    (free : word w head 4 + (length cs + 1) ≤ 704) where
+    (free : word w head 4 + (length cs + 1) ≤ most-cells) where
   abbrev ps : List PlannedBundle
   ps = nesting.plan-bundles g (cases-after s cs)
 
@@ -319,7 +321,7 @@ module _ {g : Graph} (valid : Valid g) {r : ℕ} (below : r < length (g .regions
       λ q. ap (λ l. getD l q 0) (p .same kinds (omega arith) (omega arith) (omega arith) (omega arith)) in
       let same-starts : (q : ℕ) → word (with-plan g w) set-starts q ≡ word w set-starts q =
       λ q. ap (λ l. getD l q 0) (p .same set-starts (omega arith) (omega arith) (omega arith) (omega arith)) in
-      let still = states-kept _ (select-if-keeps still-steady (λ n u. n ≡ 9) refl (nesting.any-non-empty-case cs || any-needs-select ps)
+      let still = states-kept _ (select-if-keeps states-kept-steady (λ n u. n ≡ 9) refl (nesting.any-non-empty-case cs || any-needs-select ps)
       kind y
       cs ps (state-after s cs)) e in
       let stays = states-of-step step (omega arith) (λ h. unready .parent (sym (same-kinds r) ∙ h)) in

@@ -15,15 +15,15 @@ use Rattle.sheet.specs.Whole.{piece-words, defer-words, nested-lines, he
 use Rattle.sheet.specs.laws.SheetLines.{same-count, sheet-lines}
 
 -- a is as long as b, and is b where b has no more words than a word can say.
-record Held (a b : List ℕ) : Type 0 where
+record Capped (a b : List ℕ) : Type 0 where
   pub long : length a ≡ length b
   pub same : length b ≤ 4294967295 → a ≡ b
 
-held-same : (a : List ℕ) → Held a a
-held-same a = record { long = refl; same = λ h. refl }
+capped-same : (a : List ℕ) → Capped a a
+capped-same a = record { long = refl; same = λ h. refl }
 
-held-then : {a b c d : List ℕ} → Held a b → Held c d → Held (a ++ c) (b ++ d)
-held-then {a} {b} {c} {d} p q =
+capped-then : {a b c d : List ℕ} → Capped a b → Capped c d → Capped (a ++ c) (b ++ d)
+capped-then {a} {b} {c} {d} p q =
     let n = length-append a c in
     let m = length-append b d in
     let i = p .long in
@@ -34,50 +34,50 @@ held-then {a} {b} {c} {d} p q =
     }
 
 -- The count in front of as many words.
-held-count : (xs : List ℕ) → Held (most (length xs) ∷ xs) (length xs ∷ xs)
-held-count xs = record { long = refl; same = λ h. rw (le-leb (length xs) 4294967295 (omega arith)) }
+capped-count : (xs : List ℕ) → Capped (most (length xs) ∷ xs) (length xs ∷ xs)
+capped-count xs = record { long = refl; same = λ h. rw (le-leb (length xs) 4294967295 (omega arith)) }
 
 module _ (nodes : List ℕ) where
   region-held : (r : ℕ) (ts : List ℕ) (ks : Nodes) (vs : List Value)
-      → Held (region-words most nodes r ts ks vs) (region-words same-count nodes r ts ks vs)
+      → Capped (region-words most nodes r ts ks vs) (region-words same-count nodes r ts ks vs)
   region-held r ts ks vs =
-      held-then (held-then (held-same (0 ∷ r ∷ length ts ∷ ts)) (held-count (sheet.kids ks))) (held-same (sheet.values nodes vs .words))
+      capped-then (capped-then (capped-same (0 ∷ r ∷ length ts ∷ ts)) (capped-count (sheet.kids ks))) (capped-same (sheet.values nodes vs .words))
 
   mutual
     unfolding node-words
 
-    node-held : (k : Node) → Held (node-words most nodes k) (node-words same-count nodes k)
-    node-held (block n r k is) = held-same (1 ∷ n ∷ sheet.list (sheet.items nodes r k is) .words)
-    node-held (select x cs) = held-then (held-same (select-words most nodes x cs)) (cases-held cs)
+    node-held : (k : Node) → Capped (node-words most nodes k) (node-words same-count nodes k)
+    node-held (block n r k is) = capped-same (1 ∷ n ∷ sheet.list (sheet.items nodes r k is) .words)
+    node-held (select x cs) = capped-then (capped-same (select-words most nodes x cs)) (cases-held cs)
     node-held (loop x ks) =
-        held-then (held-then (held-same (loop-words most nodes x)) (region-held (x .body) (x .types) ks (x .outputs))) (nodes-held ks)
-    node-held (exit n op vs) = held-same (4 ∷ n ∷ op ∷ sheet.values nodes vs .words)
+        capped-then (capped-then (capped-same (loop-words most nodes x)) (region-held (x .body) (x .types) ks (x .outputs))) (nodes-held ks)
+    node-held (exit n op vs) = capped-same (4 ∷ n ∷ op ∷ sheet.values nodes vs .words)
 
-    nodes-held : (ks : Nodes) → Held (nodes-words most nodes ks) (nodes-words same-count nodes ks)
-    nodes-held ⟨⟩ = held-same []
-    nodes-held (k ▸ ks) = held-then (node-held k) (nodes-held ks)
+    nodes-held : (ks : Nodes) → Capped (nodes-words most nodes ks) (nodes-words same-count nodes ks)
+    nodes-held ⟨⟩ = capped-same []
+    nodes-held (k ▸ ks) = capped-then (node-held k) (nodes-held ks)
 
-    cases-held : (cs : Cases) → Held (cases-words most nodes cs) (cases-words same-count nodes cs)
-    cases-held ∅ = held-same []
-    cases-held (case c ks cs) = held-then (held-then (region-held (c .region) [] ks (c .outputs)) (nodes-held ks)) (cases-held cs)
+    cases-held : (cs : Cases) → Capped (cases-words most nodes cs) (cases-words same-count nodes cs)
+    cases-held ∅ = capped-same []
+    cases-held (case c ks cs) = capped-then (capped-then (region-held (c .region) [] ks (c .outputs)) (nodes-held ks)) (cases-held cs)
 
-  pieces-held : (ps : List Piece) → Held (concat (map (piece-words most nodes) ps)) (concat (map (piece-words same-count nodes) ps))
-  pieces-held [] = held-same []
+  pieces-held : (ps : List Piece) → Capped (concat (map (piece-words most nodes) ps)) (concat (map (piece-words same-count nodes) ps))
+  pieces-held [] = capped-same []
   pieces-held (p ∷ ps) =
-      held-then (held-then (region-held (p .region) (p .inputs) (p .children) (p .outputs)) (nodes-held (p .children))) (pieces-held ps)
+      capped-then (capped-then (region-held (p .region) (p .inputs) (p .children) (p .outputs)) (nodes-held (p .children))) (pieces-held ps)
 
-lines-held : (x : Nested) → Held (nested-lines most x) (nested-lines same-count x)
+lines-held : (x : Nested) → Capped (nested-lines most x) (nested-lines same-count x)
 unfolding nested-lines
 lines-held x =
-    held-then (pieces-held (x .output-nodes) (x .entry ∷ x .unclaimed))
-    (held-same (concat (map (λ (p : Piece). concat (map (defer-words (x .output-nodes) (p .region)) (p .deferred)))
+    capped-then (pieces-held (x .output-nodes) (x .entry ∷ x .unclaimed))
+    (capped-same (concat (map (λ (p : Piece). concat (map (defer-words (x .output-nodes) (p .region)) (p .deferred)))
     (sheet.ascending (x .entry) (x .unclaimed)))))
 
-sheet-held : (g : Graph) (x : Nested) → Held (nested-words most g x) (nested-words same-count g x)
+sheet-held : (g : Graph) (x : Nested) → Capped (nested-words most g x) (nested-words same-count g x)
 unfolding nested-words
-sheet-held g x = held-then (held-same (head-words (sheet.sheet-of g x))) (by (x .outcome))
+sheet-held g x = capped-then (capped-same (head-words (sheet.sheet-of g x))) (by (x .outcome))
   where
-    by : (o : Outcome) → Held (elim o as (λ o. List ℕ) [
+    by : (o : Outcome) → Capped (elim o as (λ o. List ℕ) [
       | untouched ↦ []
       | whole ↦ nested-lines most x
       | closed ↦ nested-lines most x
@@ -88,7 +88,7 @@ sheet-held g x = held-then (held-same (head-words (sheet.sheet-of g x))) (by (x 
       | closed ↦ nested-lines same-count x
       | leftover ↦ nested-lines same-count x
     ])
-    by untouched = held-same []
+    by untouched = capped-same []
     by whole = lines-held x
     by closed = lines-held x
     by leftover = lines-held x

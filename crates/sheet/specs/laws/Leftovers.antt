@@ -15,7 +15,8 @@ use Rattle.meaning.specs.facts.Numbers.{no-further, one-further}
 use Rattle.nesting.specs.Nesting.{NestState, Piece, piece, plain, unclaimed-from, StructurizeRegionState, not-begun, in-progress, claimed}
 use Rattle.nesting.specs.Nesting.{ready, DeferredEdgeBundleSet}
 use Rattle.nesting.specs.Sheet as sheet
-use Rattle.writing.specs.Puts.{Part, _⊕_}
+use Rattle.writing.specs.Puts.{Part}
+use Rattle.writing.specs.laws.PutsLaws.{_⊕_}
 use Rattle.writing.specs.Parts.{each}
 use Rattle.writing.specs.laws.Rows.{run}
 use Rattle.sheet.specs.Pieces.{region-lines, piece-part, set-part}

@@ -13,7 +13,8 @@ use Rattle.nesting.specs.Nesting.{unclaimed-from}
 use Rattle.nesting.specs.Nesting.{DeferredEdgeBundle, DeferredEdgeBundleSet, region-body, look-up-piece, look-up-nodes}
 use Rattle.shown.specs.States.{ShowsBody}
 use Rattle.writing.specs.declared.place.Place.{Place}
-use Rattle.writing.specs.Puts.{Part, _⊕_, Puts, puts-then, puts-none, puts-as}
+use Rattle.writing.specs.Puts.{Part, Puts}
+use Rattle.writing.specs.laws.PutsLaws.{_⊕_, puts-then, puts-none, puts-as}
 use Rattle.writing.specs.Parts.{OfState, Concluded, each}
 use Rattle.writing.specs.laws.PartLaws.{parts-assoc}
 use Rattle.sheet.specs.Pieces.{region-lines, piece-part, set-part, lines-part, lines-are, twice-is}

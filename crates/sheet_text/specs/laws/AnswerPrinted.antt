@@ -21,7 +21,8 @@ use Rattle.nesting.specs.decoding.RoundTrip.{words-text-is}
 use Rattle.text.specs.declared.Written.{Written}
 use Rattle.text.specs.declared.Written.the-variants.{Full}
 use Rattle.text.specs.Text.{labeled, refusal-text}
-use Rattle.text.specs.Whole.{Whole, room-enough}
+use Rattle.text.specs.Whole.{Whole}
+use Rattle.text.specs.laws.WholeTexts.{room-enough}
 use Rattle.text.specs.laws.Lengths.{refusal-length}
 use Rattle.sheet_text.specs.Answers.{SheetPrinted}
 

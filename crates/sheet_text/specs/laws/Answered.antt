@@ -14,18 +14,19 @@ use Rattle.meaning.specs.Text.{Text}
 use Rattle.text.specs.declared.Written.{Written}
 use Rattle.text.specs.declared.Written.the-variants as answers
 use Rattle.text.specs.Buffer.{buffer, Wrote}
-use Rattle.text.specs.Whole.{Whole, written-to, whole, room-enough}
+use Rattle.text.specs.Whole.{Whole, written-to}
+use Rattle.text.specs.laws.WholeTexts.{whole, room-enough}
 use Rattle.nesting.specs.Sheet.{sheet-text}
 use Rattle.nesting.specs.decoding.Lines.{TypedSheet, as-sheet}
 use Rattle.nesting.specs.decoding.Decode.{Decoded, decoded, nothing, next-word, decode-as, decode-sheet, text-of-got, words-text}
-use Rattle.sheet_text.specs.declared.cursor.Cursor.{Cursor}
+use Rattle.sheet_text.specs.declared.cursor.SheetCursor.{SheetCursor}
 use Rattle.sheet_text.specs.declared.Printed.{Printed}
 use Rattle.sheet_text.specs.declared.Printed.the-variants.{Line, Full, NoLine}
 use Rattle.sheet_text.specs.Lines.{TextReader, shown, decoded-sheet-text}
 use Rattle.sheet_text.specs.Puts.{PutsText, words-from, reading, read-text}
 use Rattle.sheet_text.specs.laws.PutsSteps.{from-inside, from-beyond, missing}
 use Rattle.sheet_text.specs.Answers.{text-of, LinePrinted, SheetPrinted}
-use Rattle.sheet_text.specs.laws.Room.{Small, Fits}
+use Rattle.sheet_text.specs.laws.Room.{WordsOf32Bits, Fits}
 use Rattle.sheet_text.specs.laws.LineRoom.{words-text-fits}
 
 same-rest : {a b : List ℕ} → _≡_ {A = Decoded Unit} (decoded tt a) (decoded tt b) → a ≡ b
@@ -38,7 +39,7 @@ pub record Found (read : TextReader) (ws : List ℕ) (at : ℕ) : Type 0 where
   pub is : read (drop at ws) ≡ decoded text rest
   pub inside : at ≤ length ws
 
-module _ {read : TextReader} {ws before after : List ℕ} {c d : Cursor} (p : PutsText read ws c before after d) where
+module _ {read : TextReader} {ws before after : List ℕ} {c d : SheetCursor} (p : PutsText read ws c before after d) where
   pub found : d .at ≤ length ws → Found read ws (c .at)
   unfolding next-word
   found l = by-read (read (drop (c .at) ws)) refl
@@ -101,7 +102,7 @@ module _ {read : TextReader} {ws : List ℕ} {at : ℕ} where
     fits = λ l full. clash (cc);
   }
 
-  pub line-printed : {before after : List ℕ} {d : Cursor} {r : Printed} → Fits 0 0 read → Small ws → Found read ws at
+  pub line-printed : {before after : List ℕ} {d : SheetCursor} {r : Printed} → Fits 0 0 read → WordsOf32Bits ws → Found read ws at
       → PutsText read ws (record { at = at; place = 0 }) before after d → length after ≡ length before
       → r ≡ pick (leb (d .place) (length after)) (Line (d .at) (d .place)) Full → LinePrinted read ws at before after r
   unfolding line-written
@@ -154,7 +155,7 @@ module _ {ws : List ℕ} where
         fits = λ l. rw none refl;
       }
 
-  pub sheet-printed : {before after : List ℕ} {d : Cursor} {r : Written} → Small ws → Found decoded-sheet-text ws 0
+  pub sheet-printed : {before after : List ℕ} {d : SheetCursor} {r : Written} → WordsOf32Bits ws → Found decoded-sheet-text ws 0
       → PutsText decoded-sheet-text ws (record { at = 0; place = 0 }) before after d → length after ≡ length before
       → r ≡ written-to (length after) (d .place) → SheetPrinted ws before after r
   sheet-printed {before} {after} {d} {r} small f p size is =

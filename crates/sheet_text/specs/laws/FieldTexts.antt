@@ -10,7 +10,7 @@ use borrow.Author.Tests.{eqb-true, eqb-false}
 use Rattle.meaning.specs.Text.{ascii, joined}
 use Rattle.nesting.specs.decoding.Lines.{condition-field}
 use Rattle.nesting.specs.decoding.Decode.{next-word, decode-condition}
-use Rattle.sheet_text.specs.declared.cursor.Cursor.{Cursor}
+use Rattle.sheet_text.specs.declared.cursor.SheetCursor.{SheetCursor}
 use Rattle.sheet_text.specs.declared.fields.Field.the-variants.{Value, Condition}
 use Rattle.sheet_text.specs.Lines.{shown}
 use Rattle.sheet_text.specs.Texts.{say, _then_, item-text, condition-text, list-within, item-head, merge-head, plain-text}
@@ -44,9 +44,9 @@ merge-shown depth [] h = absurd (omega arith)
 merge-shown depth (w ∷ ws) h = rw h (merge-text depth ws)
 
 -- A condition from a cursor on, with parts and without.
-module _ {ws : List ℕ} {c : Cursor} where
+module _ {ws : List ℕ} {c : SheetCursor} where
   pub merge-there : eqb (getD ws (c .at) 0) 4 ≡ true → (depth : ℕ) → length ws ≤ c .at + 0 + depth
-      → {before named parts after : List ℕ} {d e f : Cursor}
+      → {before named parts after : List ℕ} {d e f : SheetCursor}
       → PutsText merge-head ws c before named d → PutsWithin 1 (λ k. list-within k Condition) ws d named parts e
       → PutsText (say (ascii "]")) ws e parts after f → PutsText (condition-text depth) ws c before after f
   merge-there is zero h a b q =
@@ -56,7 +56,7 @@ module _ {ws : List ℕ} {c : Cursor} where
       puts-there (λ l. merge-shown depth (drop (c .at) ws) (first-dropped ws (c .at) 0 ∙ eqb-true _ _ is))
       (puts-then a (puts-then (b depth (omega (arith, a .ahead))) q))
 
-  pub plain-there : eqb (getD ws (c .at) 0) 4 ≡ false → (depth : ℕ) → length ws ≤ c .at + 0 + depth → {before after : List ℕ} {d : Cursor}
+  pub plain-there : eqb (getD ws (c .at) 0) 4 ≡ false → (depth : ℕ) → length ws ≤ c .at + 0 + depth → {before after : List ℕ} {d : SheetCursor}
       → PutsText plain-text ws c before after d → PutsText (condition-text depth) ws c before after d
   unfolding shown next-word decode-condition
   plain-there is zero h a = puts-there (λ l. rw (drop-of-length-le ws {i = c .at} (omega arith)) refl) a

@@ -22,7 +22,7 @@ use Rattle.sheet_text.specs.laws.LineTexts.{labeled, listed, region-show
 use Rattle.sheet_text.specs.laws.LineTexts.{defer-shown, no-words, line-shown, no-line, untouched-shown, whole-shown, closed-shown}
 use Rattle.sheet_text.specs.laws.LineTexts.{leftover-shown, no-outcome, first-shown}
 use Rattle.sheet_text.specs.laws.SheetTexts.{lines-within, no-more-lines, no-line-left, lines-more, sheet-shown}
-use Rattle.sheet_text.specs.laws.Room.{Small, Fit, Fits, fits-as, fits-less, fits-say, fits-then, fits-word, fits-number, fits-skip}
+use Rattle.sheet_text.specs.laws.Room.{WordsOf32Bits, Fit, Fits, fits-as, fits-less, fits-say, fits-then, fits-word, fits-number, fits-skip}
 use Rattle.sheet_text.specs.laws.Room.{fits-list, fits-field}
 
 fits-any : {gain need : ℕ} (r : ℕ → TextReader) → ((depth : ℕ) → Fits gain need (r depth)) → Fits gain need (λ ws. r (length ws) ws)
@@ -83,7 +83,7 @@ fits-fields (suc (suc (suc (suc (suc (suc lead)))))) =
 pub fits-line : Fits 0 0 (shown line-text decode-line)
 fits-line = record { few = by-words }
   where
-    by-words : (ws : List ℕ) → Small ws → (t : Text) (rest : List ℕ) → shown line-text decode-line ws ≡ decoded t rest → Fit 0 0 ws t rest
+    by-words : (ws : List ℕ) → WordsOf32Bits ws → (t : Text) (rest : List ℕ) → shown line-text decode-line ws ≡ decoded t rest → Fit 0 0 ws t rest
     by-words [] s t rest e = absurd (missing (sym no-words ∙ e))
     by-words (lead ∷ ws) s t rest e =
         let x = fits-then (fits-fields lead) (fits-say (ascii "\n")) .few ws (λ k. s (suc k)) t rest (line-shown lead ws ∙ e) in
@@ -103,13 +103,13 @@ fits-outcome : Fits 8 0 outcome-text
 unfolding next-word
 fits-outcome = record { few = by-words }
   where
-    after : {n : ℕ} {q : TextReader} → Fits 16 n q → n ≤ 24 → (w : ℕ) (ws : List ℕ) → Small (w ∷ ws) → (t : Text) (rest : List ℕ)
+    after : {n : ℕ} {q : TextReader} → Fits 16 n q → n ≤ 24 → (w : ℕ) (ws : List ℕ) → WordsOf32Bits (w ∷ ws) → (t : Text) (rest : List ℕ)
         → outcome-text (w ∷ ws) ≡ q ws → outcome-text (w ∷ ws) ≡ decoded t rest → Fit 8 0 (w ∷ ws) t rest
     after f l w ws s t rest is e =
         let x = f .few ws (λ k. s (suc k)) t rest (sym is ∙ e) in
         record { bytes = omega (arith, x .bytes); small = x .small }
 
-    by-words : (ws : List ℕ) → Small ws → (t : Text) (rest : List ℕ) → outcome-text ws ≡ decoded t rest → Fit 8 0 ws t rest
+    by-words : (ws : List ℕ) → WordsOf32Bits ws → (t : Text) (rest : List ℕ) → outcome-text ws ≡ decoded t rest → Fit 8 0 ws t rest
     by-words [] s t rest e = absurd (missing e)
     by-words (zero ∷ ws) s t rest e =
         after (fits-then fits-skip (fits-say (ascii "untouched figure -"))) (omega arith) 0 ws s t rest (untouched-shown ws) e
@@ -127,11 +127,11 @@ fits-first =
     fits-less (fits-as (fits-then fits-outcome (fits-then (fits-labeled " attempts " Number) fits-twice)) first-shown) 0 0 (omega arith)
 
 -- The lines behind the first words, or none.
-from-words : (most : ℕ) → ((w : ℕ) (ws : List ℕ) → Small (w ∷ ws) → (t : Text) (rest : List ℕ) → lines-within most (w ∷ ws) ≡ decoded t rest
+from-words : (most : ℕ) → ((w : ℕ) (ws : List ℕ) → WordsOf32Bits (w ∷ ws) → (t : Text) (rest : List ℕ) → lines-within most (w ∷ ws) ≡ decoded t rest
     → Fit 0 0 (w ∷ ws) t rest) → Fits 0 0 (lines-within most)
 from-words most some = record { few = by-words }
   where
-    by-words : (ws : List ℕ) → Small ws → (t : Text) (rest : List ℕ) → lines-within most ws ≡ decoded t rest → Fit 0 0 ws t rest
+    by-words : (ws : List ℕ) → WordsOf32Bits ws → (t : Text) (rest : List ℕ) → lines-within most ws ≡ decoded t rest → Fit 0 0 ws t rest
     by-words [] s t rest e = fits-say [] .few [] s t rest (no-more-lines most ∙ e)
     by-words (w ∷ ws) s t rest e = some w ws s t rest e
 
@@ -144,7 +144,7 @@ pub fits-sheet : Fits 0 0 decoded-sheet-text
 fits-sheet = fits-as (fits-then fits-first (fits-any lines-within fits-lines)) sheet-shown
 
 -- What is printed for the words of a sheet.
-pub words-text-fits : (ws : List ℕ) → Small ws → length (words-text ws) ≤ 16 * length ws
+pub words-text-fits : (ws : List ℕ) → WordsOf32Bits ws → length (words-text ws) ≤ 16 * length ws
 unfolding words-text shown next-word
 words-text-fits ws s = by-sheet (decode-sheet ws) refl
   where

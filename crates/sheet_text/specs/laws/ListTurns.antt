@@ -5,8 +5,8 @@ use Prim.Native.Nat.{ℕ, suc, _+_, _-_, _≤_, _<_}
 use native.Mathlib.Omega.{arith}
 use lib.ListN.{length, getD}
 use Rattle.meaning.specs.Text.{ascii}
-use Rattle.text.specs.Buffer.{wrote-none}
-use Rattle.sheet_text.specs.declared.cursor.Cursor.{Cursor}
+use Rattle.text.specs.laws.BufferLaws.{wrote-none}
+use Rattle.sheet_text.specs.declared.cursor.SheetCursor.{SheetCursor}
 use Rattle.sheet_text.specs.declared.fields.Field.{Field}
 use Rattle.sheet_text.specs.Texts.{say, field-within, list-within, none-text}
 use Rattle.sheet_text.specs.Puts.{PutsText, PutsWithin, Stopped}
@@ -14,20 +14,20 @@ use Rattle.sheet_text.specs.laws.PutsSteps.{puts-then, puts-said, puts-n
 use Rattle.sheet_text.specs.laws.ListTexts.{others, list-uncounted, list-none, list-some}
 
 -- k of n fields stand behind the count at a place: the first, and behind it (`text₀`, `d₀`) the others so far.
-pub record Turned (kind : Field) (ws : List ℕ) (at n : ℕ) (text₀ : List ℕ) (d₀ : Cursor) (text : List ℕ) (d : Cursor) (k : ℕ) : Type 0 where
+pub record Turned (kind : Field) (ws : List ℕ) (at n : ℕ) (text₀ : List ℕ) (d₀ : SheetCursor) (text : List ℕ) (d : SheetCursor) (k : ℕ) : Type 0 where
   pub size : length text ≡ length text₀
   pub count : k ≤ n
   pub ahead : at < d .at
-  pub rest : (depth : ℕ) → length ws ≤ at + 1 + depth → {after : List ℕ} {e : Cursor}
+  pub rest : (depth : ℕ) → length ws ≤ at + 1 + depth → {after : List ℕ} {e : SheetCursor}
       → PutsText (others (field-within depth kind) (n - k)) ws d text after e
       → PutsText (others (field-within depth kind) (n - 1)) ws d₀ text₀ after e
 
-module _ {kind : Field} {ws : List ℕ} {at n : ℕ} {text₀ : List ℕ} {d₀ : Cursor} where
+module _ {kind : Field} {ws : List ℕ} {at n : ℕ} {text₀ : List ℕ} {d₀ : SheetCursor} where
   pub turned-first : at < d₀ .at → (n ≡ 0 → ⊥) → Turned kind ws at n text₀ d₀ text₀ d₀ 1
   turned-first l some = record { size = refl; count = omega arith; ahead = l; rest = λ depth h p. p }
 
-  module _ {text : List ℕ} {d : Cursor} {k : ℕ} (t : Turned kind ws at n text₀ d₀ text d k) where
-    pub turned-next : {said done : List ℕ} {e f : Cursor} → k < n → length done ≡ length text
+  module _ {text : List ℕ} {d : SheetCursor} {k : ℕ} (t : Turned kind ws at n text₀ d₀ text d k) where
+    pub turned-next : {said done : List ℕ} {e f : SheetCursor} → k < n → length done ≡ length text
         → PutsText (say (ascii ",")) ws d text said e → PutsWithin 0 (λ depth. field-within depth kind) ws e said done f
         → Turned kind ws at n text₀ d₀ done f (k + 1)
     unfolding others
@@ -60,11 +60,11 @@ module _ {kind : Field} {ws : List ℕ} {at n : ℕ} {text₀ : List ℕ} {d₀ 
 
 -- A list without a count, and an empty one.
 module _ (kind : Field) {ws before : List ℕ} where
-  pub list-missing : {c d : Cursor} → length ws ≤ c .at → Stopped ws c d
+  pub list-missing : {c d : SheetCursor} → length ws ≤ c .at → Stopped ws c d
       → PutsWithin 1 (λ depth. list-within depth kind) ws c before before d
   list-missing l s depth h = puts-ended (list-uncounted depth kind) l s
 
-  pub list-empty : {at place : ℕ} {after : List ℕ} {d : Cursor} → at < length ws → getD ws at 0 ≡ 0
+  pub list-empty : {at place : ℕ} {after : List ℕ} {d : SheetCursor} → at < length ws → getD ws at 0 ≡ 0
       → PutsText (say (none-text kind)) ws (record { at = at + 1; place = place }) before after d
       → PutsWithin 1 (λ depth. list-within depth kind) ws (record { at = at; place = place }) before after d
   list-empty l is p depth h = puts-next l (λ rest. rw is (list-none depth kind rest)) p

@@ -11,9 +11,10 @@ use lib.Dec.{leb}
 use borrow.Author.Tests.{le-leb, lt-leb, leb-true, leb-false}
 use Rattle.meaning.specs.facts.Tests.{clash}
 use Rattle.meaning.specs.Text.{Text}
-use Rattle.text.specs.Buffer.{buffer, Wrote, _▸_, of-text}
+use Rattle.text.specs.Buffer.{buffer, Wrote}
+use Rattle.text.specs.laws.BufferLaws.{_▸_, of-text}
 use Rattle.nesting.specs.decoding.Decode.{Decoded, decoded, nothing, next-word, decode-as}
-use Rattle.sheet_text.specs.declared.cursor.Cursor.{Cursor}
+use Rattle.sheet_text.specs.declared.cursor.SheetCursor.{SheetCursor}
 use Rattle.sheet_text.specs.Lines.{TextReader}
 use Rattle.sheet_text.specs.Texts.{say, _then_}
 use Rattle.sheet_text.specs.Puts.{words-from, reading, read-text, PutsText, PutsWithin, Stopped}
@@ -71,7 +72,7 @@ module _ (r q : TextReader) where
       by-first nothing e g = absurd (missing g)
   then-parts nothing v rest h = absurd (missing h)
 
-module _ {ws before between after : List ℕ} {c d e : Cursor} {r q : TextReader} where
+module _ {ws before between after : List ℕ} {c d e : SheetCursor} {r q : TextReader} where
   pub puts-then : PutsText r ws c before between d → PutsText q ws d between after e → PutsText (r then q) ws c before after e
   unfolding next-word
   puts-then a b =
@@ -85,7 +86,7 @@ module _ {ws before between after : List ℕ} {c d e : Cursor} {r q : TextReader
       }
 
 -- A reader that reads the same there.
-module _ {ws before after : List ℕ} {c d : Cursor} {r q : TextReader} where
+module _ {ws before after : List ℕ} {c d : SheetCursor} {r q : TextReader} where
   pub puts-there : (c .at ≤ length ws → r (drop (c .at) ws) ≡ q (drop (c .at) ws)) → PutsText r ws c before after d
       → PutsText q ws c before after d
   unfolding next-word
@@ -101,14 +102,14 @@ module _ {ws before after : List ℕ} {c d : Cursor} {r q : TextReader} where
   puts-as h a = puts-there (λ l. h (drop (c .at) ws)) a
 
 -- The words left are a bound of themselves.
-pub puts-any : (front : ℕ) (r : ℕ → TextReader) {ws before after : List ℕ} {c d : Cursor} → PutsWithin front r ws c before after d
+pub puts-any : (front : ℕ) (r : ℕ → TextReader) {ws before after : List ℕ} {c d : SheetCursor} → PutsWithin front r ws c before after d
     → PutsText (λ left. r (length left) left) ws c before after d
 puts-any front r {ws} {c = c} p =
     let left = length (drop (c .at) ws) in
     puts-there {r = r left} (λ l. refl) (p left (rw length-drop (omega arith)))
 
 -- A text for which no word is read.
-pub puts-said : {ws before after : List ℕ} {c d : Cursor} {t : Text} → d .at ≡ c .at
+pub puts-said : {ws before after : List ℕ} {c d : SheetCursor} {t : Text} → d .at ≡ c .at
     → Wrote (buffer before (c .place)) t (buffer after (d .place)) → PutsText (say t) ws c before after d
 unfolding next-word
 puts-said {ws} {before} {after} {c} {d} {t} same w =
@@ -127,7 +128,7 @@ puts-said {ws} {before} {after} {c} {d} {t} same w =
     said nothing h = absurd (missing h)
 
 -- The next word, by which the rest is read.
-pub puts-next : {ws before after : List ℕ} {at place : ℕ} {d : Cursor} {r q : TextReader} → at < length ws
+pub puts-next : {ws before after : List ℕ} {at place : ℕ} {d : SheetCursor} {r q : TextReader} → at < length ws
     → ((rest : List ℕ) → r (getD ws at 0 ∷ rest) ≡ q rest)
     → PutsText q ws (record { at = at + 1; place = place }) before after d
     → PutsText r ws (record { at = at; place = place }) before after d
@@ -140,7 +141,7 @@ puts-next {ws} {at = at} {r = r} {q} l h a =
     record { words = a .words ∙ ap read-text (sym e); bytes = λ g. a .bytes (sym e ∙ g); ahead = omega (arith, a .ahead) }
 
 -- The next three words.
-pub puts-three : {ws before after : List ℕ} {at place : ℕ} {d : Cursor} {r q : TextReader} → at + 3 ≤ length ws
+pub puts-three : {ws before after : List ℕ} {at place : ℕ} {d : SheetCursor} {r q : TextReader} → at + 3 ≤ length ws
     → ((rest : List ℕ) → r (getD ws at 0 ∷ getD ws (at + 1) 0 ∷ getD ws (at + 2) 0 ∷ rest) ≡ q rest)
     → PutsText q ws (record { at = at + 3; place = place }) before after d
     → PutsText r ws (record { at = at; place = place }) before after d
@@ -151,7 +152,7 @@ puts-three {ws} {at = at} l h a =
     (puts-next (omega arith) (λ rest. refl) (rw two (puts-next (omega arith) h (rw three a))))
 
 -- Nothing is read from words that are none for the reader.
-module _ {ws before after : List ℕ} {c d : Cursor} {r : TextReader} where
+module _ {ws before after : List ℕ} {c d : SheetCursor} {r : TextReader} where
   pub puts-none : (c .at ≤ length ws → r (drop (c .at) ws) ≡ nothing) → Stopped ws c d → PutsText r ws c before after d
   unfolding next-word
   puts-none h s =
@@ -176,5 +177,5 @@ module _ {ws before after : List ℕ} {c d : Cursor} {r : TextReader} where
   puts-refused l h s = puts-none (λ k. rw (drop-cons ws (c .at) 0 l) (h (drop (suc (c .at)) ws))) s
 
 -- Beyond the end nothing is read any more.
-pub puts-beyond : {ws bytes : List ℕ} {c : Cursor} {r : TextReader} → length ws < c .at → PutsText r ws c bytes bytes c
+pub puts-beyond : {ws bytes : List ℕ} {c : SheetCursor} {r : TextReader} → length ws < c .at → PutsText r ws c bytes bytes c
 puts-beyond l = puts-none (λ k. absurd (omega arith)) (record { beyond = l; ahead = omega arith })

@@ -22,16 +22,16 @@ use Rattle.sheet_text.specs.laws.ListTexts.{others, list-uncounted, list
 use Rattle.sheet_text.specs.laws.FieldTexts.{item-shown, merge-shown, plain-shown}
 
 -- Words of 32 bits.
-abbrev pub Small : List ℕ → Type 0
-Small ws = (k : ℕ) → getD ws k 0 < 4294967296
+abbrev pub WordsOf32Bits : List ℕ → Type 0
+WordsOf32Bits ws = (k : ℕ) → getD ws k 0 < 4294967296
 
 pub record Fit (gain need : ℕ) (ws : List ℕ) (t : Text) (rest : List ℕ) : Type 0 where
   pub bytes : length t + gain + 16 * length rest ≤ need + 16 * length ws
-  pub small : Small rest
+  pub small : WordsOf32Bits rest
 
 -- Sixteen bytes for each word that is read are `gain` more than the text has, once `need` are added.
 pub record Fits (gain need : ℕ) (r : TextReader) : Type 0 where
-  pub few : (ws : List ℕ) → Small ws → (t : Text) (rest : List ℕ) → r ws ≡ decoded t rest → Fit gain need ws t rest
+  pub few : (ws : List ℕ) → WordsOf32Bits ws → (t : Text) (rest : List ℕ) → r ws ≡ decoded t rest → Fit gain need ws t rest
 
 module _ {gain need : ℕ} {r : TextReader} (f : Fits gain need r) where
   pub fits-as : {q : TextReader} → ((ws : List ℕ) → r ws ≡ q ws) → Fits gain need q
@@ -46,7 +46,7 @@ fits-say t = record {
   few = λ ws s u rest e.
       let text : u ≡ t = cc in
       let same : ws ≡ rest = cc in
-      record { bytes = rw (text, same) (omega arith); small = subst Small same s };
+      record { bytes = rw (text, same) (omega arith); small = subst WordsOf32Bits same s };
 }
 
 pub fits-then : {g n h m : ℕ} {r q : TextReader} → Fits g n r → Fits h m q → Fits (g + h) (n + m) (r then q)
@@ -65,11 +65,11 @@ pub fits-word : (most : ℕ) (r : TextReader) → r [] ≡ nothing
     → Fits 16 most r
 fits-word most r none read = record { few = by-words }
   where
-    by-words : (ws : List ℕ) → Small ws → (t : Text) (rest : List ℕ) → r ws ≡ decoded t rest → Fit 16 most ws t rest
+    by-words : (ws : List ℕ) → WordsOf32Bits ws → (t : Text) (rest : List ℕ) → r ws ≡ decoded t rest → Fit 16 most ws t rest
     by-words [] s t rest e = absurd (missing (sym none ∙ e))
     by-words (w ∷ ws) s t rest e =
         let x = read w ws (s 0) t rest e in
-        record { bytes = rw (x .1) (omega (arith, x .0)); small = subst Small (sym (x .1)) λ k. s (suc k) }
+        record { bytes = rw (x .1) (omega (arith, x .0)); small = subst WordsOf32Bits (sym (x .1)) λ k. s (suc k) }
 
 pub fits-number : Fits 16 10 number-text
 unfolding shown next-word
@@ -104,7 +104,7 @@ fits-value : Fits 48 22 value-text
 unfolding shown next-word
 fits-value = record { few = by-words }
   where
-    by-words : (ws : List ℕ) → Small ws → (t : Text) (rest : List ℕ) → value-text ws ≡ decoded t rest → Fit 48 22 ws t rest
+    by-words : (ws : List ℕ) → WordsOf32Bits ws → (t : Text) (rest : List ℕ) → value-text ws ≡ decoded t rest → Fit 48 22 ws t rest
     by-words [] s t rest e = absurd (missing e)
     by-words (k ∷ []) s t rest e = absurd (missing e)
     by-words (k ∷ r ∷ []) s t rest e = absurd (missing e)
@@ -113,7 +113,7 @@ fits-value = record { few = by-words }
         let same : ws ≡ rest = cc in
         record {
           bytes = rw (text, ← same) (omega (arith, value-bytes k r i (s 1) (s 2)));
-          small = subst Small same λ n. s
+          small = subst WordsOf32Bits same λ n. s
               (suc (suc (suc n)));
         }
 
@@ -132,7 +132,7 @@ none-bytes Condition = omega arith
 pub fits-list : (depth : ℕ) (kind : Field) → Fits 1 0 (field-within depth kind) → Fits 15 0 (list-within depth kind)
 fits-list depth kind f = record { few = by-words }
   where
-    by-words : (ws : List ℕ) → Small ws → (t : Text) (rest : List ℕ) → list-within depth kind ws ≡ decoded t rest → Fit 15 0 ws t rest
+    by-words : (ws : List ℕ) → WordsOf32Bits ws → (t : Text) (rest : List ℕ) → list-within depth kind ws ≡ decoded t rest → Fit 15 0 ws t rest
     by-words [] s t rest e = absurd (missing (sym (list-uncounted depth kind) ∙ e))
     by-words (zero ∷ ws) s t rest e =
         let x = fits-say (none-text kind) .few ws (λ k. s (suc k)) t rest (sym (list-none depth kind ws) ∙ e) in
@@ -162,7 +162,7 @@ fits-parts depth f = record { few = λ ws s t rest e. by-lead ws s t rest e (eqb
         let head = fits-then fits-skip (fits-then (fits-say (ascii "m")) (fits-then fits-number (fits-say (ascii "[")))) in
         fits-less (fits-then head (fits-then (fits-list depth Condition f) (fits-say (ascii "]")))) 1 0 (omega arith)
 
-    by-lead : (ws : List ℕ) → Small ws → (t : Text) (rest : List ℕ) → condition-text (suc depth) ws ≡ decoded t rest → (b : Bool)
+    by-lead : (ws : List ℕ) → WordsOf32Bits ws → (t : Text) (rest : List ℕ) → condition-text (suc depth) ws ≡ decoded t rest → (b : Bool)
         → eqb (getD ws 0 0) 4 ≡ b → Fit 1 0 ws t rest
     by-lead ws s t rest e true is = merged .few ws s t rest (merge-shown depth ws (eqb-true _ _ is) ∙ e)
     by-lead ws s t rest e false is =

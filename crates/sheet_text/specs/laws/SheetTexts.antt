@@ -7,8 +7,8 @@ use lib.ListN.{length, drop, length-drop, drop-of-length-le}
 use lib.Seq.{drop-cons}
 use Rattle.nesting.specs.Sheet.{sheet-text}
 use Rattle.nesting.specs.decoding.Decode.{nothing, decode-lines, decode-line, decode-sheet, next-word}
-use Rattle.text.specs.Buffer.{wrote-none}
-use Rattle.sheet_text.specs.declared.cursor.Cursor.{Cursor}
+use Rattle.text.specs.laws.BufferLaws.{wrote-none}
+use Rattle.sheet_text.specs.declared.cursor.SheetCursor.{SheetCursor}
 use Rattle.sheet_text.specs.Lines.{TextReader, shown, line-text, decode-first, first-text, lines-text, decoded-sheet-text}
 use Rattle.sheet_text.specs.Texts.{say, _then_}
 use Rattle.sheet_text.specs.Puts.{PutsText, PutsOn}
@@ -38,14 +38,14 @@ unfolding shown _then_ decode-sheet sheet-text
 sheet-shown ws = simp (next-next, next-decoded, map-map)
 
 -- The loop over the lines, behind line 1 (`text₀`, `c₀`): it stands at c, and `most` lines at most are left.
-pub record LinesTurned (ws text₀ : List ℕ) (c₀ : Cursor) (text : List ℕ) (c : Cursor) : Type 0 where
+pub record LinesTurned (ws text₀ : List ℕ) (c₀ : SheetCursor) (text : List ℕ) (c : SheetCursor) : Type 0 where
   pub size : length text ≡ length text₀
   pub most : ℕ
   pub bound : length ws ≤ c .at + most
-  pub rest : {after : List ℕ} {e : Cursor} → PutsText (lines-within most) ws c text after e
+  pub rest : {after : List ℕ} {e : SheetCursor} → PutsText (lines-within most) ws c text after e
       → PutsText (λ left. lines-within (length left) left) ws c₀ text₀ after e
 
-module _ {ws text₀ : List ℕ} {c₀ : Cursor} where
+module _ {ws text₀ : List ℕ} {c₀ : SheetCursor} where
   pub lines-start : LinesTurned ws text₀ c₀ text₀ c₀
   lines-start =
       let left = length (drop (c₀ .at) ws) in
@@ -56,12 +56,12 @@ module _ {ws text₀ : List ℕ} {c₀ : Cursor} where
         rest = puts-there {r = lines-within left} λ l. refl;
       }
 
-  pub lines-next : {text done : List ℕ} {c d : Cursor} → LinesTurned ws text₀ c₀ text c → c .at < length ws → length done ≡ length text
+  pub lines-next : {text done : List ℕ} {c d : SheetCursor} → LinesTurned ws text₀ c₀ text c → c .at < length ws → length done ≡ length text
       → PutsOn (shown line-text decode-line) ws c text done d → LinesTurned ws text₀ c₀ done d
   lines-next {text} {done} {c} {d} t l same p = by-most (t .most) (t .bound) λ after e q. t .rest q
     where
       by-most : (most : ℕ) → length ws ≤ c .at + most
-          → ((after : List ℕ) (e : Cursor) → PutsText (lines-within most) ws c text after e
+          → ((after : List ℕ) (e : SheetCursor) → PutsText (lines-within most) ws c text after e
           → PutsText (λ left. lines-within (length left) left) ws c₀ text₀ after e)
           → LinesTurned ws text₀ c₀ done d
       by-most zero bound rest = absurd (omega arith)
@@ -73,7 +73,7 @@ module _ {ws text₀ : List ℕ} {c₀ : Cursor} where
             (puts-there (λ k. rw (drop-cons ws (c .at) 0 l) (lines-more most _ _)) (puts-then (p .puts) q));
       }
 
-  pub lines-all : {before text : List ℕ} {b c : Cursor} → LinesTurned ws text₀ c₀ text c → length ws ≤ c .at
+  pub lines-all : {before text : List ℕ} {b c : SheetCursor} → LinesTurned ws text₀ c₀ text c → length ws ≤ c .at
       → PutsText (shown first-text decode-first) ws b before text₀ c₀ → PutsText decoded-sheet-text ws b before text c
   lines-all {c = c} t l p =
       puts-as sheet-shown

@@ -1,6 +1,6 @@
 use native.Mathlib.Omega.{arith}
 use borrow.Author.Needs.{needs}
-use Rattle.show_text.specs.Shows.{never-full}
+use Rattle.show_text.specs.laws.Showing.{never-full}
 use Rattle.show.proofs.main.Statement.{statement}
 use Rattle.show.proofs.main.Tie as tie
 

@@ -2,7 +2,7 @@ use mathlib.Core.Path.{subst}
 use native.Mathlib.Omega.{arith}
 use borrow.Author.Needs.{needs}
 use Rattle.accept.specs.Accepts.{Accepts}
-use Rattle.show_text.specs.Shows.{record-shown, refusal-shown}
+use Rattle.show_text.specs.laws.Showing.{record-shown, refusal-shown}
 use Rattle.show_text.proofs.show.Statement.{statement}
 use Rattle.show_text.proofs.show.Tie as tie
 

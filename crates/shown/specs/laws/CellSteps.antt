@@ -29,9 +29,11 @@ use Rattle.shown.specs.Sets.{SameBundle}
 use Rattle.shown.specs.Cells.{CellIs, ShowsKept, none-kept, one-kept, ShowsNodes, no-nodes, all-blocks, two-lists, then-exit}
 use Rattle.shown.specs.Cells.{then-select, the-loop, ShowsCaseCells, no-cases, case-and, ShowsChildren}
 use Rattle.meaning.specs.Runs.{case-count}
-use Rattle.shown.specs.Kept.{Later, later-same, KeptRegion, kept-same}
+use Rattle.shown.specs.Kept.{Later, KeptRegion}
+use Rattle.shown.specs.laws.RegionsKept.{later-same, kept-same}
 use Rattle.shown.specs.laws.RegionSteps.{Aside, bundles-same, kept-by, tables-by, states-by, StatesStay}
 use Rattle.meaning.specs.facts.Parts.{run-before, run-in}
+use Rattle.state.specs.Sections.{most-cells}
 
 -- ---- Lists before a run of words stay.
 module _ (g : Graph) (l : List ℕ) (i : ℕ) (xs : List ℕ) where
@@ -69,14 +71,14 @@ module _ (g : Graph) (l : List ℕ) (i : ℕ) (xs : List ℕ) where
         case-and (cell-before x n) p q (nodes-before ns (omega arith)) (cases-before cs (omega arith)) e
 
 -- ---- A cell more, where there is room.
-module _ {w w′ : List ℕ} {x : Cell} {h : ℕ} (step : Adds w w′ x h) (free : word w head 4 < 704) (room : used ≤ length w) where
+module _ {w w′ : List ℕ} {x : Cell} {h : ℕ} (step : Adds w w′ x h) (free : word w head 4 < most-cells) (room : used ≤ length w) where
   abbrev with-cell : List ℕ
   with-cell = stored-all w cells (6 * h) (cell-words x)
 
   -- What the step is, as there is room.
   record Added : Type 0 where
     handle : h ≡ word w head 4
-    below : h < 704
+    below : h < most-cells
     words : w′ ≡ stored with-cell head 4 (h + 1)
 
   is-added : Added
@@ -180,7 +182,7 @@ module _ {k : Section} {i : ℕ} {w w′ : List ℕ} (changes : ChangesOnly k i 
   pub kept-list-by : {r h : ℕ} {x : LoopInputs} → ShowsKeptList g w r h x → ShowsKeptList g w′ r h x
   kept-list-by y = record { kept = rw (changes .others cells d (omega arith)) (y .kept); made = rw (changes .totals 4 e) (y .made) }
 
-module _ {w w′ : List ℕ} {x : Cell} {h : ℕ} (step : Adds w w′ x h) (free : word w head 4 < 704) (room : used ≤ length w) {g : Graph} where
+module _ {w w′ : List ℕ} {x : Cell} {h : ℕ} (step : Adds w w′ x h) (free : word w head 4 < most-cells) (room : used ≤ length w) {g : Graph} where
   pub case-list-stays : {p : ℕ} {cs : Cases} → ShowsCaseList g w p cs → ShowsCaseList g w′ p cs
   case-list-stays y =
       let m = y .made in
@@ -220,7 +222,7 @@ case-cell p r q = record { tag = 6; before = p; a = r; b = q; c = 0; d = 0 }
 abbrev pub kept-cell : ℕ → ℕ → ℕ → ℕ → Cell  -- those before it, number, wrapper, value passed back
 kept-cell p k wrapper x = record { tag = 7; before = p; a = k; b = wrapper; c = x; d = 0 }
 
-module _ {w w′ : List ℕ} {h : ℕ} (free : word w head 4 < 704) (room : used ≤ length w) {g : Graph} where
+module _ {w w′ : List ℕ} {h : ℕ} (free : word w head 4 < most-cells) (room : used ≤ length w) {g : Graph} where
   pub blocks-added : {r : ℕ} → Adds w w′ (blocks-cell r) h → 1 ≤ word w head 4 → 1 ≤ length (region g r .blocks)
       → ShowsChildren g w′ h (blocks-of g r)
   blocks-added step one some =
@@ -337,7 +339,7 @@ pub record Joined (g : Graph) (w w′ : List ℕ) (h : ℕ) (ks : Nodes) : Type 
   pub total-from : word w head 4 ≤ word w′ head 4
   pub total-to : word w′ head 4 ≤ suc (word w head 4)
 
-pub list-joined : {w w′ : List ℕ} {a b h : ℕ} {g : Graph} {ns ms : Nodes} → word w head 4 < 704 → used ≤ length w → Joins w w′ a b h
+pub list-joined : {w w′ : List ℕ} {a b h : ℕ} {g : Graph} {ns ms : Nodes} → word w head 4 < most-cells → used ≤ length w → Joins w w′ a b h
     → ShowsChildren g w a ns → ShowsChildren g w b ms → Joined g w w′ h (join ns ms)
 list-joined {w} {w′} {a} {b} {h} {g} {ns} {ms} free room step n m = go step
   where

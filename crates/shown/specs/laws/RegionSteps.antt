@@ -17,13 +17,14 @@ use Rattle.shown.specs.laws.Stores.{ChangesOnly, word-changes, run-chang
 use Rattle.shown.specs.laws.Stores.{part-length, run-other}
 use Rattle.shown.specs.Tables.{ShowsTables}
 use Rattle.shown.specs.laws.Elsewhere.{SameTables, tables-stay, Elsewhere, same-then}
-use Rattle.shown.specs.Front.{stands-on}
+use Rattle.shown.specs.laws.FrontKept.{stands-on}
 use Rattle.shown.specs.Sets.{ShowsSet, SameBundle}
 use Rattle.shown.specs.Cells.{ShowsChildren}
 use Rattle.shown.specs.States.{ShowsOwnSet, ShowsRegion, is-not-begun, is-in-progress, is-ready, is-claimed, ShowsState}
 use Rattle.shown.specs.States.{NamedRewrites, Slots}
-use Rattle.shown.specs.Kept.{Later, later-same, later-then, KeptRegion, kept-same, kept-then, region-stays, set-stays, same-bundle}
-use Rattle.shown.specs.Kept.{same-bundle-then}
+use Rattle.shown.specs.Kept.{Later, KeptRegion}
+use Rattle.shown.specs.laws.RegionsKept.{later-same, later-then, kept-same, kept-then, region-stays, set-stays, same-bundle}
+use Rattle.shown.specs.laws.RegionsKept.{same-bundle-then}
 use Rattle.meaning.specs.facts.Parts.{run-before, run-behind}
 
 -- ---- A word stored in a section, and any other word of any section.

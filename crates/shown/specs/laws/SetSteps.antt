@@ -20,7 +20,8 @@ use Rattle.shown.specs.Tables.{ShowsCondition, shows-true}
 use Rattle.shown.specs.Sets.{Names, target-size, ShowsTarget, ShowsBundle, ShowsSet, SameBundle}
 use Rattle.shown.specs.Sets.{no-bundle}
 use Rattle.shown.specs.States.{ShowsOwnSet, Slots}
-use Rattle.shown.specs.Kept.{Later, KeptRegion, set-stays, same-bundle, same-bundle-then}
+use Rattle.shown.specs.Kept.{Later, KeptRegion}
+use Rattle.shown.specs.laws.RegionsKept.{set-stays, same-bundle, same-bundle-then}
 use Rattle.shown.specs.laws.Finds.{bundle-in}
 use Rattle.shown.specs.laws.RegionSteps.{word-there, word-apart}
 use Rattle.shown.specs.laws.SetStores.{OnlySets, only-same, only-word, only-run, only-then, only-later, only-kept, starts-of-sets}

@@ -15,11 +15,13 @@ use Rattle.state.specs.laws.Apart.{stored-length, section-other}
 use Rattle.state.specs.Tables.{bundle-words, bundle-copied}
 use Rattle.shown.specs.laws.Stores.{run-length, run-other, section-run, part-length, head-other}
 use Rattle.shown.specs.laws.Elsewhere.{SameTables, tables-stay, condition-there}
-use Rattle.shown.specs.Front.{SameFront, stands-on}
+use Rattle.shown.specs.Front.{SameFront}
+use Rattle.shown.specs.laws.FrontKept.{stands-on}
 use Rattle.shown.specs.Sets.{SameBundle}
 use Rattle.shown.specs.States.{ShowsRegion, is-not-begun, is-in-progress, is-ready, is-claimed, Slots}
 use Rattle.shown.specs.States.{ShowsState}
-use Rattle.shown.specs.Kept.{Later, KeptRegion, region-stays}
+use Rattle.shown.specs.Kept.{Later, KeptRegion}
+use Rattle.shown.specs.laws.RegionsKept.{region-stays}
 use Rattle.meaning.specs.facts.Parts.{run-before, run-behind, run-in}
 use Rattle.shown.specs.laws.RegionSteps.{bundle-run}
 

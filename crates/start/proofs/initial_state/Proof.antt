@@ -1,4 +1,4 @@
-use Rattle.start.specs.Words.{started-by}
+use Rattle.start.specs.laws.WordsLaws.{started-by}
 use borrow.Author.Needs.{needs}
 use Rattle.start.proofs.initial_state.Statement.{statement}
 use Rattle.start.proofs.initial_state.Tie as tie

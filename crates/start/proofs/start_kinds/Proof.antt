@@ -1,7 +1,8 @@
 use mathlib.Core.Path.{_≡_, refl}
 use Prim.Native.Nat.{_-_}
 use Rattle.state.specs.Sections.{kinds}
-use Rattle.start.specs.Words.{filled, nothing-begun, fill-turn, fill-stop}
+use Rattle.start.specs.Words.{filled, nothing-begun}
+use Rattle.start.specs.laws.WordsLaws.{fill-turn, fill-stop}
 use borrow.Author.Needs.{needs}
 use Rattle.start.proofs.start_kinds.Statement.{statement}
 use Rattle.start.proofs.start_kinds.Tie as tie

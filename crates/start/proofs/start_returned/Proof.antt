@@ -1,6 +1,7 @@
 use Prim.Native.Nat.{_-_}
 use Rattle.record.specs.Stands.{OfRecord}
-use Rattle.start.specs.Words.{ReturnedLeft, returned-start, returned-turn, returned-stop}
+use Rattle.start.specs.Words.{ReturnedLeft}
+use Rattle.start.specs.laws.WordsLaws.{returned-start, returned-turn, returned-stop}
 use borrow.Author.Needs.{needs}
 use Rattle.start.proofs.start_returned.Statement.{statement}
 use Rattle.start.proofs.start_returned.Tie as tie

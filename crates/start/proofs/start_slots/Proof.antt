@@ -2,7 +2,8 @@ use mathlib.Core.Path.{_≡_, refl}
 use Prim.Native.Nat.{_-_}
 use Rattle.state.specs.Sections.{set-starts}
 use Rattle.state.specs.Tables.{slot}
-use Rattle.start.specs.Words.{filled, slots-placed, fill-turn, fill-stop}
+use Rattle.start.specs.Words.{filled, slots-placed}
+use Rattle.start.specs.laws.WordsLaws.{fill-turn, fill-stop}
 use borrow.Author.Needs.{needs}
 use Rattle.start.proofs.start_slots.Statement.{statement}
 use Rattle.start.proofs.start_slots.Tie as tie

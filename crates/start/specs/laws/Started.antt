@@ -22,13 +22,16 @@ use Rattle.state.specs.Sections.{Section, number, start, size, used, section, w
 use Rattle.state.specs.laws.Apart.{stored-length, section-other}
 use Rattle.state.specs.Tables.{slot}
 use Rattle.shown.specs.laws.Stores.{run-length, run-other, head-same, head-other}
-use Rattle.shown.specs.Front.{SameFront, stands-on, front-stored, front-run, front-then}
+use Rattle.shown.specs.Front.{SameFront}
+use Rattle.shown.specs.laws.FrontKept.{stands-on, front-stored, front-run, front-then}
 use Rattle.shown.specs.laws.SetStores.{run-word}
 use Rattle.shown.specs.Tables.{no-entry}
 use Rattle.shown.specs.States.{ShowsState, is-not-begun}
 use Rattle.start.specs.Words.{nothing-rewritten, nothing-begun, emptied, returned-type, totals}
-use Rattle.start.specs.Words.{counted, started, filled, filled-front, emptied-front}
+use Rattle.start.specs.Words.{counted, started, filled}
+use Rattle.start.specs.laws.WordsLaws.{filled-front, emptied-front}
 use Rattle.start.specs.laws.Fills.{fill-length, fill-other, fill-beside, fill-there}
+use Rattle.nesting.specs.Nesting.{most-regions}
 
 -- ---- How many blocks there are: no sum is as large as a word.
 module _ {g : Graph} (valid : Valid g) where
@@ -90,7 +93,7 @@ module _ (g : Graph) (w : List ℕ) (room : used ≤ length w) where
   returned-count = length (end-values g (first-return (g .regions)))
 
   length₁ : length l₁ ≡ length w
-  length₁ = fill-length rewrites (λ r. 5 * r) (λ r. 0) 128 0 w
+  length₁ = fill-length rewrites (λ r. 5 * r) (λ r. 0) most-regions 0 w
 
   length₂ : length l₂ ≡ length w
   length₂ = fill-length kinds (λ r. r) (λ r. 0) 32 0 l₁ ∙ length₁
@@ -119,12 +122,12 @@ module _ (g : Graph) (w : List ℕ) (room : used ≤ length w) where
       section-other l₅ head 8 returned-count j d ∙ fill-other head (λ k. 9 + k) (returned-type g) 4 0 l₄ j d
       ∙ run-other l₃ head 0 (totals g) j d
 
-  no-rewrite : (r : ℕ) → r < 128 → word (started g w) rewrites (5 * r) ≡ 0
+  no-rewrite : (r : ℕ) → r < most-regions → word (started g w) rewrites (5 * r) ≡ 0
   no-rewrite r h =
       ap (λ p. getD p (5 * r) 0) (behind-head rewrites (omega arith)
       ∙ fill-other set-starts (λ a. a) slot 33 0 l₂ rewrites (omega arith)
       ∙ fill-other kinds (λ r. r) (λ r. 0) 32 0 l₁ rewrites (omega arith))
-      ∙ fill-there rewrites (λ r. 5 * r) (λ r. 0) (λ a b c e. omega arith) 128 0 w (omega arith) r (omega arith) (omega arith) (omega arith)
+      ∙ fill-there rewrites (λ r. 5 * r) (λ r. 0) (λ a b c e. omega arith) most-regions 0 w (omega arith) r (omega arith) (omega arith) (omega arith)
 
   no-kind : (r : ℕ) → r < 32 → word (started g w) kinds r ≡ 0
   no-kind r h =

@@ -5,7 +5,7 @@ use borrow.Author.Needs.{needs}
 use borrow.Fn.Kinds.{In}
 use borrow.Fn.PlainCycle.{Measures, is, falls, and}
 use Rattle.text.specs.laws.Digits.{decimal-small, decimal-more}
-use Rattle.text.specs.Buffer.{_▸_, of-text}
+use Rattle.text.specs.laws.BufferLaws.{_▸_, of-text}
 use Rattle.text.proofs.put_number.Reads as put-number
 use Rattle.text.proofs.put_number.Kinds as put-number-kinds
 use Rattle.text.proofs.+put_number.Lts-put_number as put-number-lts

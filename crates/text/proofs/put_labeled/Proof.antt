@@ -1,5 +1,5 @@
 use borrow.Author.Needs.{needs}
-use Rattle.text.specs.Buffer.{_▸_}
+use Rattle.text.specs.laws.BufferLaws.{_▸_}
 use Rattle.text.proofs.put_labeled.Statement.{statement}
 use Rattle.text.proofs.put_labeled.Tie as tie
 

@@ -6,7 +6,8 @@ use native.Mathlib.Omega.{arith}
 use lib.Seq.{drop-cons}
 use lib.ListN.{length, drop, getD, drop-of-length-le}
 use borrow.Author.Needs.{needs}
-use Rattle.text.specs.Buffer.{Buffer, buffer, Wrote, _▸_, of-text, wrote-none}
+use Rattle.text.specs.Buffer.{Buffer, buffer, Wrote}
+use Rattle.text.specs.laws.BufferLaws.{_▸_, of-text, wrote-none}
 use Rattle.text.proofs.put_text.Statement.{statement}
 use Rattle.text.proofs.put_text.Tie as tie
 

@@ -8,7 +8,8 @@ use lib.ListN.{length, getD, drop, drop-of-length-le}
 use lib.Seq.{drop-cons}
 use Rattle.meaning.specs.Text.{Text, ascii, joined, listed}
 use Rattle.text.specs.Text.{text-of-each}
-use Rattle.text.specs.Buffer.{Buffer, Wrote, _▸_, of-text, wrote-none}
+use Rattle.text.specs.Buffer.{Buffer, Wrote}
+use Rattle.text.specs.laws.BufferLaws.{_▸_, of-text, wrote-none}
 
 module _ {A : Type 0} (show : A → Text) where
   -- An item that is not the first.

@@ -14,7 +14,8 @@ use Rattle.meaning.specs.facts.Numbers.{one-further}
 use Rattle.nesting.specs.Nesting.{NestState, NodeOutput, LookUp, plain, join, look-up-node, look-up-nodes, look-up-cases}
 use Rattle.nesting.specs.Sheet as sheet
 use Rattle.writing.specs.declared.place.Place.{Place}
-use Rattle.writing.specs.Puts.{Part, _⊕_, Puts, puts-then, puts-as}
+use Rattle.writing.specs.Puts.{Part, Puts}
+use Rattle.writing.specs.laws.PutsLaws.{_⊕_, puts-then, puts-as}
 use Rattle.writing.specs.laws.Rows.{run, run-all, run-list}
 use Rattle.writing.specs.Parts.{each, most, output-nodes, look-up-at-end, value-part, values-part, node-part, nodes-part}
 use Rattle.writing.specs.Parts.{region-part, node-words}

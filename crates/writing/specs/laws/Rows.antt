@@ -8,7 +8,8 @@ use lib.ListN.{length, getD}
 use Rattle.meaning.specs.facts.Numbers.{no-further, one-further, from-none}
 use Rattle.nesting.specs.Nesting.{plain}
 use Rattle.writing.specs.declared.place.Place.{Place}
-use Rattle.writing.specs.Puts.{Part, _⊕_, Puts, puts-then, puts-none}
+use Rattle.writing.specs.Puts.{Part, Puts}
+use Rattle.writing.specs.laws.PutsLaws.{_⊕_, puts-then, puts-none}
 use Rattle.writing.specs.Parts.{each}
 
 -- f k, f (k + 1), .., n of them.

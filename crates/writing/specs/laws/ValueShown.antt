@@ -17,8 +17,9 @@ use Rattle.nesting.specs.Nesting.{NestState, NodeOutput, plain, unmarked, look-
 use Rattle.nesting.specs.Sheet as sheet
 use Rattle.state.specs.Sections.{section, word, head, outputs}
 use Rattle.state.specs.Values.{parts-of, input-region, input-index}
-use Rattle.shown.specs.Values.{value, Ranged, in-const, in-false, in-true, in-undef, in-output, in-input, in-held, in-instr, in-none}
-use Rattle.shown.specs.Values.{ranged}
+use Rattle.shown.specs.Values.{value}
+use Rattle.shown.specs.laws.ValueWords.{Ranged, in-const, in-false, in-true, in-undef, in-output, in-input, in-held, in-instr, in-none}
+use Rattle.shown.specs.laws.ValueWords.{ranged}
 use Rattle.shown.specs.Tables.{ShowsTables, no-output}
 use Rattle.lookups.specs.LookUps as words
 use Rattle.lookups.specs.laws.Shown.{ShowsFound, look-up-shown}

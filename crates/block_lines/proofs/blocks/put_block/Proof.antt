@@ -4,7 +4,8 @@ use native.Mathlib.Omega.{arith}
 use lib.ListN.{length, getD}
 use Rattle.format.specs.References.{no-instr}
 use Rattle.fields.specs.ByNumber.{block-of}
-use Rattle.writing.specs.Puts.{Puts, puts-as, puts-then}
+use Rattle.writing.specs.Puts.{Puts}
+use Rattle.writing.specs.laws.PutsLaws.{puts-as, puts-then}
 use Rattle.writing.specs.Parts.{OfState}
 use Rattle.writing.specs.laws.Rows.{run, run-start, run-turn}
 use Rattle.writing.specs.laws.PartLaws.{puts-from}

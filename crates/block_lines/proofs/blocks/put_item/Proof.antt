@@ -1,6 +1,6 @@
 use mathlib.Core.Path.{ap}
 use Rattle.fields.specs.declared.shape.Instruction.{Instruction}
-use Rattle.writing.specs.Puts.{puts-then}
+use Rattle.writing.specs.laws.PutsLaws.{puts-then}
 use borrow.Author.Needs.{needs}
 use Rattle.block_lines.proofs.blocks.put_item.Statement.{statement}
 use Rattle.block_lines.proofs.blocks.put_item.Tie as tie

@@ -4,7 +4,8 @@ use native.Mathlib.Omega.{arith}
 use lib.ListN.{length, getD}
 use Rattle.meaning.specs.Graph.{no-value}
 use Rattle.fields.specs.ByNumber.{instr-of}
-use Rattle.writing.specs.Puts.{Puts, puts-as}
+use Rattle.writing.specs.Puts.{Puts}
+use Rattle.writing.specs.laws.PutsLaws.{puts-as}
 use Rattle.writing.specs.Parts.{OfState, value-part}
 use Rattle.writing.specs.laws.Rows.{run, run-start, run-turn}
 use Rattle.writing.specs.laws.PartLaws.{puts-listed, values-counted}

@@ -1,5 +1,5 @@
 use mathlib.Core.Path.{sym}
-use Rattle.writing.specs.Puts.{puts-as, puts-then}
+use Rattle.writing.specs.laws.PutsLaws.{puts-as, puts-then}
 use Rattle.block_lines.specs.BlockParts.{exit-listed}
 use borrow.Author.Needs.{needs}
 use Rattle.block_lines.proofs.exits.put_exit.Statement.{statement}

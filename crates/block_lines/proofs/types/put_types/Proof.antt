@@ -6,7 +6,8 @@ use lib.ListN.{length, getD}
 use Rattle.meaning.specs.Graph.{region}
 use Rattle.nesting.specs.Nesting.{plain}
 use Rattle.record.specs.Stands.{OfRecord}
-use Rattle.writing.specs.Puts.{Puts, puts-as}
+use Rattle.writing.specs.Puts.{Puts}
+use Rattle.writing.specs.laws.PutsLaws.{puts-as}
 use Rattle.writing.specs.laws.Rows.{run, run-start, run-turn}
 use Rattle.writing.specs.laws.PartLaws.{puts-listed, numbers-listed}
 use Rattle.block_lines.proofs.types.put_types.Statement.{statement}

@@ -1,7 +1,8 @@
 use borrow.Author.Needs.{needs}
 use Rattle.cfg.proofs.claim.claim_body.Statement.{statement}
 use Rattle.cfg.proofs.claim.claim_body.Tie as tie
-use Rattle.cfg.specs.ByState.{body-plain, body-without, body-loop}
+use Rattle.cfg.specs.laws.ByStateLaws.{body-without, body-loop}
+use Rattle.cfg.specs.laws.ByStateLaws.{body-plain}
 
 set-region-state-requires : tie.Need-set-region-state-requires
 set-region-state-requires c κs = search needs

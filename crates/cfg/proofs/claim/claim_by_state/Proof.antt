@@ -1,7 +1,8 @@
 use borrow.Author.Needs.{needs}
 use Rattle.cfg.proofs.claim.claim_by_state.Statement.{statement}
 use Rattle.cfg.proofs.claim.claim_by_state.Tie as tie
-use Rattle.cfg.specs.ByState.{state-claimed, state-waits, busy-refuses, busy-stays, other-refuses}
+use Rattle.cfg.specs.laws.ByStateLaws.{state-claimed, state-waits, busy-refuses, busy-stays}
+use Rattle.cfg.specs.laws.ByStateLaws.{other-refuses}
 
 region-state-requires : tie.Need-region-state-requires
 region-state-requires c κs = search needs

@@ -1,7 +1,8 @@
 use borrow.Author.Needs.{needs}
 use Rattle.cfg.proofs.claim.is_trivial.Statement.{statement}
 use Rattle.cfg.proofs.claim.is_trivial.Tie as tie
-use Rattle.cfg.specs.ByState.{trivial-state, trivial-set, trivial-children}
+use Rattle.cfg.specs.laws.ByStateLaws.{trivial-set, trivial-children}
+use Rattle.cfg.specs.laws.ByStateLaws.{trivial-state}
 
 region-state-requires : tie.Need-region-state-requires
 region-state-requires c κs = search needs

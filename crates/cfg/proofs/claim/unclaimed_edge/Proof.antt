@@ -1,7 +1,7 @@
 use borrow.Author.Needs.{needs}
 use Rattle.cfg.proofs.claim.unclaimed_edge.Statement.{statement}
 use Rattle.cfg.proofs.claim.unclaimed_edge.Tie as tie
-use Rattle.cfg.specs.ByState.{edge-nothing, edge-deferred}
+use Rattle.cfg.specs.laws.ByStateLaws.{edge-nothing, edge-deferred}
 
 is-trivial-requires : tie.Need-is-trivial-requires
 is-trivial-requires c κs = search needs

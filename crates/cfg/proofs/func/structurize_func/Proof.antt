@@ -1,8 +1,8 @@
 use borrow.Author.Needs.{needs}
 use Rattle.cfg.proofs.func.structurize_func.Statement.{statement}
 use Rattle.cfg.proofs.func.structurize_func.Tie as tie
-use Rattle.cfg.specs.FuncShown.{structurize-func-shown}
-use Rattle.cfg.specs.Func.{stood-started, func-is}
+use Rattle.cfg.specs.laws.FuncShownLaws.{structurize-func-shown}
+use Rattle.cfg.specs.laws.FuncLaws.{stood-started, func-is}
 
 incoming-edge-counts-requires : tie.Need-incoming-edge-counts-requires
 incoming-edge-counts-requires c κs = search needs

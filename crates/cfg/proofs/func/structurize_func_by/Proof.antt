@@ -2,7 +2,8 @@ use borrow.Author.Needs.{needs}
 use borrow.Author.Tests.{not-true, not-false}
 use Rattle.cfg.proofs.func.structurize_func_by.Statement.{statement}
 use Rattle.cfg.proofs.func.structurize_func_by.Tie as tie
-use Rattle.cfg.specs.Func.{func-untouched, func-claimed, func-unclaimed, func-refused}
+use Rattle.cfg.specs.laws.FuncLaws.{func-claimed, func-unclaimed, func-refused}
+use Rattle.cfg.specs.laws.FuncLaws.{func-untouched}
 
 entry-requires : tie.Need-entry-requires
 entry-requires c κs = search needs

@@ -1,7 +1,7 @@
 use borrow.Author.Needs.{needs}
 use Rattle.cfg.proofs.inst.add_exit.Statement.{statement}
 use Rattle.cfg.proofs.inst.add_exit.Tie as tie
-use Rattle.cfg.specs.ByInst.{exit-none, exit-some}
+use Rattle.cfg.specs.laws.ByInstLaws.{exit-none, exit-some}
 
 define-node-requires : tie.Need-define-node-requires
 define-node-requires c κs = search needs

@@ -3,7 +3,7 @@ use native.Mathlib.Omega.{arith}
 use borrow.Author.Needs.{needs}
 use Rattle.cfg.proofs.inst.backedges_deferred.Statement.{statement}
 use Rattle.cfg.proofs.inst.backedges_deferred.Tie as tie
-use Rattle.cfg.specs.ByInst.{deferred-none, deferred-some}
+use Rattle.cfg.specs.laws.ByInstLaws.{deferred-none, deferred-some}
 
 find-backedge-requires : tie.Need-find-backedge-requires
 find-backedge-requires c κs = search needs

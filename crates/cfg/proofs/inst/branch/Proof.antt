@@ -1,7 +1,7 @@
 use borrow.Author.Needs.{needs}
 use Rattle.cfg.proofs.inst.branch.Statement.{statement}
 use Rattle.cfg.proofs.inst.branch.Tie as tie
-use Rattle.cfg.specs.ByInst.{branch-taken}
+use Rattle.cfg.specs.laws.ByInstLaws.{branch-taken}
 
 fill-cases-requires : tie.Need-fill-cases-requires
 fill-cases-requires c κs = search needs

@@ -1,7 +1,7 @@
 use borrow.Author.Needs.{needs}
 use Rattle.cfg.proofs.inst.by_control_inst.Statement.{statement}
 use Rattle.cfg.proofs.inst.by_control_inst.Tie as tie
-use Rattle.cfg.specs.ByInst.{inst-taken}
+use Rattle.cfg.specs.laws.ByInstLaws.{inst-taken}
 
 add-blocks-requires : tie.Need-add-blocks-requires
 add-blocks-requires c κs = search needs

@@ -1,7 +1,8 @@
 use borrow.Author.Needs.{needs}
 use Rattle.cfg.proofs.inst.by_terminator.Statement.{statement}
 use Rattle.cfg.proofs.inst.by_terminator.Tie as tie
-use Rattle.cfg.specs.ByInst.{told-kind, at-unreachable, at-return, at-exit, at-branch, at-bool, at-number}
+use Rattle.cfg.specs.ByInst.{at-unreachable, at-return, at-exit, at-branch, at-bool, at-number}
+use Rattle.cfg.specs.laws.ByInstLaws.{told-kind}
 use mathlib.Core.Path.{refl}
 
 terminator-requires : tie.Need-terminator-requires

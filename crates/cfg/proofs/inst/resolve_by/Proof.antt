@@ -1,7 +1,7 @@
 use borrow.Author.Needs.{needs}
 use Rattle.cfg.proofs.inst.resolve_by.Statement.{statement}
 use Rattle.cfg.proofs.inst.resolve_by.Tie as tie
-use Rattle.cfg.specs.ByInst.{resolve-taken}
+use Rattle.cfg.specs.laws.ByInstLaws.{resolve-taken}
 
 set-length-requires : tie.Need-set-length-requires
 set-length-requires c κs = search needs

@@ -1,7 +1,7 @@
 use borrow.Author.Needs.{needs}
 use Rattle.cfg.proofs.inst.select.Statement.{statement}
 use Rattle.cfg.proofs.inst.select.Tie as tie
-use Rattle.cfg.specs.ByInst.{select-taken}
+use Rattle.cfg.specs.laws.ByInstLaws.{select-taken}
 
 fill-cases-requires : tie.Need-fill-cases-requires
 fill-cases-requires c κs = search needs

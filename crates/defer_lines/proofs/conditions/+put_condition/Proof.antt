@@ -9,9 +9,12 @@ use borrow.Fn.PlainCycle.{Measures, is, falls, and}
 use Rattle.nesting.specs.Nesting.{LazyCond}
 use Rattle.state.specs.Sections.{section, conditions}
 use Rattle.shown.specs.Tables.{ShowsCond}
-use Rattle.writing.specs.Puts.{Puts, puts-then, puts-as}
+use Rattle.writing.specs.Puts.{Puts}
+use Rattle.writing.specs.laws.PutsLaws.{puts-then, puts-as}
 use Rattle.writing.specs.laws.Rows.{run, run-start, run-turn, run-all}
-use Rattle.defer_lines.specs.Conditions.{condition-part, low-condition, part-falls, part-turn, merge-is}
+use Rattle.defer_lines.specs.Conditions.{condition-part}
+use Rattle.defer_lines.specs.laws.ConditionsLaws.{part-turn, merge-is}
+use Rattle.defer_lines.specs.laws.ConditionsLaws.{low-condition, part-falls}
 use Rattle.defer_lines.proofs.conditions.put_condition.Reads as reads
 use Rattle.defer_lines.proofs.conditions.put_condition.Kinds as kinds
 use Rattle.defer_lines.proofs.conditions.+put_condition.Lts-put_condition as lts

@@ -4,7 +4,8 @@ use native.Mathlib.Omega.{arith}
 use lib.ListN.{length}
 use mathlib.Core.Path.{_≡_, refl}
 use borrow.Author.Needs.{needs}
-use Rattle.writing.specs.Puts.{Puts, puts-then, puts-as}
+use Rattle.writing.specs.Puts.{Puts}
+use Rattle.writing.specs.laws.PutsLaws.{puts-then, puts-as}
 use Rattle.writing.specs.laws.Rows.{run, run-start, run-turn, run-all}
 use Rattle.writing.specs.Parts.{OfState}
 use Rattle.defer_lines.specs.laws.Inputs.{input-part, inputs-are}

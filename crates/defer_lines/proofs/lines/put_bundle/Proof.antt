@@ -1,7 +1,7 @@
 use mathlib.Core.Path.{_∙_}
 use borrow.Author.Needs.{needs}
 use Rattle.state.specs.laws.Edges.{edges-fit}
-use Rattle.writing.specs.Puts.{puts-then, puts-as}
+use Rattle.writing.specs.laws.PutsLaws.{puts-then, puts-as}
 use Rattle.defer_lines.specs.laws.DeferParts.{line-is, condition-is}
 use Rattle.defer_lines.proofs.lines.put_bundle.Statement.{statement}
 use Rattle.defer_lines.proofs.lines.put_bundle.Tie as tie

@@ -1,4 +1,5 @@
-use Rattle.lookups.specs.LookUps.{again-none, again-replaced, again-renumbered}
+use Rattle.lookups.specs.laws.LookUpsLaws.{again-replaced, again-renumbered}
+use Rattle.lookups.specs.laws.LookUpsLaws.{again-none}
 use borrow.Author.Needs.{needs}
 use Rattle.lookups.proofs.look_up.changes_again.Statement.{statement}
 use Rattle.lookups.proofs.look_up.changes_again.Tie as tie

@@ -1,17 +1,23 @@
 use mathlib.Core.Path.{_≡_, refl, sym, _∙_}
-use Prim.Native.Nat.{_-_}
+use Prim.Native.Nat.{_+_, _-_}
 use native.Mathlib.Omega.{arith}
 use borrow.Author.Needs.{needs}
 use borrow.Author.Tests.{not-true, not-false}
-use Rattle.lookups.specs.LookUps.{turns, turn-stays, turn-none, turn-renumbers, turn-on, turns-over}
+use Rattle.lookups.specs.LookUps.{turns}
+use Rattle.lookups.specs.laws.LookUpsLaws.{turn-none, turn-renumbers, turn-on}
+use Rattle.lookups.specs.laws.LookUpsLaws.{turn-stays, turns-over}
 use Rattle.lookups.proofs.look_up.look_up.Statement.{statement}
 use Rattle.lookups.proofs.look_up.look_up.Tie as tie
+use Rattle.nesting.specs.Nesting.{most-regions}
 
 abbrev Inv-loop : tie.InvT-loop
-Inv-loop w v x₀ left₀ x left = turns left w x ≡ turns 129 w v
+Inv-loop w v x₀ left₀ x left = turns left w x ≡ turns (most-regions + 1) w v
 
 abbrev μ-loop : tie.MeasureT-loop
 μ-loop w v x₀ left₀ x left = left
+
+add-left : tie.Need-add-left Inv-loop μ-loop
+add-left c = search needs
 
 loop-holds : tie.Need-loop-holds Inv-loop μ-loop
 loop-holds c = refl
@@ -120,6 +126,7 @@ look-up-spec =
     (tie.spec
     Inv-loop
     μ-loop
+    add-left
     loop-holds
     is-input-requires
     stays-requires

@@ -1,4 +1,4 @@
-use Rattle.lookups.specs.LookUps.{renumbers-held, renumbers-none}
+use Rattle.lookups.specs.laws.LookUpsLaws.{renumbers-held, renumbers-none}
 use borrow.Author.Needs.{needs}
 use Rattle.lookups.proofs.look_up.renumbers.Statement.{statement}
 use Rattle.lookups.proofs.look_up.renumbers.Tie as tie

@@ -1,6 +1,6 @@
 use mathlib.Core.Path.{refl}
 use borrow.Author.Needs.{needs}
-use Rattle.lookups.specs.LookUps.{rewrite-notes, rewrite-plain}
+use Rattle.lookups.specs.laws.LookUpsLaws.{rewrite-notes, rewrite-plain}
 use Rattle.lookups.proofs.look_up.rewrite.Statement.{statement}
 use Rattle.lookups.proofs.look_up.rewrite.Tie as tie
 

@@ -1,4 +1,4 @@
-use Rattle.lookups.specs.LookUps.{stays-held, stays-plain}
+use Rattle.lookups.specs.laws.LookUpsLaws.{stays-held, stays-plain}
 use borrow.Author.Needs.{needs}
 use Rattle.lookups.proofs.look_up.stays.Statement.{statement}
 use Rattle.lookups.proofs.look_up.stays.Tie as tie

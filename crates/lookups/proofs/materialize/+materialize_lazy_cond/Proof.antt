@@ -8,8 +8,11 @@ use borrow.Author.Needs.{needs}
 use borrow.Fn.Kinds.{In}
 use borrow.Fn.PlainCycle.{Measures, is, falls, and}
 use Rattle.state.specs.Sections.{word, conditions}
-use Rattle.lookups.specs.Materialized.{PartsMade, no-part, made-true, made-false, made-undef, few-parts, part-below, part-turn}
-use Rattle.lookups.specs.Materialized.{part-full, parts-all}
+use Rattle.lookups.specs.Materialized.{PartsMade, no-part, made-true, made-false, made-undef}
+use Rattle.lookups.specs.laws.MaterializedLaws.{part-turn}
+use Rattle.lookups.specs.laws.MaterializedLaws.{few-parts, part-below}
+use Rattle.lookups.specs.laws.MaterializedLaws.{part-full}
+use Rattle.lookups.specs.laws.MaterializedLaws.{parts-all}
 use Rattle.lookups.proofs.materialize.materialize_lazy_cond.Reads as reads
 use Rattle.lookups.proofs.materialize.materialize_lazy_cond.Kinds as kinds
 use Rattle.lookups.proofs.materialize.+materialize_lazy_cond.Lts-materialize_lazy_cond as lts

@@ -1,4 +1,5 @@
-use Rattle.lookups.specs.Materialized.{scrutinee-number, scrutinee-not, scrutinee-if}
+use Rattle.lookups.specs.laws.MaterializedLaws.{scrutinee-not, scrutinee-if}
+use Rattle.lookups.specs.laws.MaterializedLaws.{scrutinee-number}
 use borrow.Author.Needs.{needs}
 use Rattle.lookups.proofs.materialize.is_scrutinee.Statement.{statement}
 use Rattle.lookups.proofs.materialize.is_scrutinee.Tie as tie

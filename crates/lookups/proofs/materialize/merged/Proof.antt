@@ -1,4 +1,5 @@
-use Rattle.lookups.specs.Materialized.{merged-scrutinee, merged-full, merged-output}
+use Rattle.lookups.specs.laws.MaterializedLaws.{merged-full, merged-output}
+use Rattle.lookups.specs.laws.MaterializedLaws.{merged-scrutinee}
 use borrow.Author.Needs.{needs}
 use Rattle.lookups.proofs.materialize.merged.Statement.{statement}
 use Rattle.lookups.proofs.materialize.merged.Tie as tie

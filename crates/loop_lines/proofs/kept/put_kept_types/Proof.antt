@@ -6,10 +6,12 @@ use native.Mathlib.Omega.{arith}
 use lib.ListN.{length}
 use borrow.Author.Needs.{needs}
 use Rattle.nesting.specs.Nesting.{plain}
-use Rattle.writing.specs.Puts.{puts-as}
+use Rattle.writing.specs.laws.PutsLaws.{puts-as}
 use Rattle.writing.specs.Parts.{OfState}
-use Rattle.children.specs.CellByCell.{named-below}
-use Rattle.loop_lines.specs.Kept.{kept-type, CellsPut, cells-start, cells-turn, cells-counted, kept-cells, types-are}
+use Rattle.children.specs.laws.CellByCellLaws.{named-below}
+use Rattle.loop_lines.specs.Kept.{kept-type, CellsPut, kept-cells, types-are}
+use Rattle.loop_lines.specs.laws.KeptLaws.{cells-turn, cells-counted}
+use Rattle.loop_lines.specs.laws.KeptLaws.{cells-start}
 use Rattle.loop_lines.proofs.kept.put_kept_types.Statement.{statement}
 use Rattle.loop_lines.proofs.kept.put_kept_types.Tie as tie
 

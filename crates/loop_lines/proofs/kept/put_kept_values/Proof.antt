@@ -5,10 +5,12 @@ use native.Mathlib.Omega.{arith}
 use lib.ListN.{length}
 use borrow.Author.Needs.{needs}
 use Rattle.shown.specs.Values.{value}
-use Rattle.writing.specs.Puts.{puts-as}
+use Rattle.writing.specs.laws.PutsLaws.{puts-as}
 use Rattle.writing.specs.Parts.{OfState, value-part}
-use Rattle.children.specs.CellByCell.{named-below}
-use Rattle.loop_lines.specs.Kept.{kept-word, CellsPut, cells-start, cells-turn, cells-counted, kept-cells, values-are}
+use Rattle.children.specs.laws.CellByCellLaws.{named-below}
+use Rattle.loop_lines.specs.Kept.{kept-word, CellsPut, kept-cells, values-are}
+use Rattle.loop_lines.specs.laws.KeptLaws.{cells-turn, cells-counted}
+use Rattle.loop_lines.specs.laws.KeptLaws.{cells-start}
 use Rattle.loop_lines.proofs.kept.put_kept_values.Statement.{statement}
 use Rattle.loop_lines.proofs.kept.put_kept_values.Tie as tie
 

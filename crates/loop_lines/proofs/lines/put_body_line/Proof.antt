@@ -1,6 +1,6 @@
 use borrow.Author.Needs.{needs}
 use mathlib.Core.Path.{sym}
-use Rattle.writing.specs.Puts.{puts-then, puts-as}
+use Rattle.writing.specs.laws.PutsLaws.{puts-then, puts-as}
 use Rattle.writing.specs.laws.PartLaws.{region-line}
 use Rattle.loop_lines.proofs.lines.put_body_line.Statement.{statement}
 use Rattle.loop_lines.proofs.lines.put_body_line.Tie as tie

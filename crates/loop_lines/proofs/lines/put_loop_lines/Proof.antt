@@ -1,5 +1,5 @@
 use borrow.Author.Needs.{needs}
-use Rattle.writing.specs.Puts.{puts-then}
+use Rattle.writing.specs.laws.PutsLaws.{puts-then}
 use Rattle.loop_lines.proofs.lines.put_loop_lines.Statement.{statement}
 use Rattle.loop_lines.proofs.lines.put_loop_lines.Tie as tie
 

@@ -1,4 +1,4 @@
-use Rattle.loops.specs.Exits.{exit-counted, exit-not}
+use Rattle.loops.specs.laws.ExitsLaws.{exit-counted, exit-not}
 use borrow.Author.Needs.{needs}
 use Rattle.loops.proofs.exits.add_exit_edge.Statement.{statement}
 use Rattle.loops.proofs.exits.add_exit_edge.Tie as tie

@@ -1,7 +1,8 @@
 use Prim.Native.Nat.{_-_, _≤_}
 use native.Mathlib.Omega.{arith}
 use Rattle.record.specs.Stands.{OfRecord}
-use Rattle.loops.specs.Exits.{ExitsLeft, exits-start, exits-turn, exits-stop}
+use Rattle.loops.specs.Exits.{ExitsLeft}
+use Rattle.loops.specs.laws.ExitsLaws.{exits-start, exits-turn, exits-stop}
 use borrow.Author.Needs.{needs}
 use Rattle.loops.proofs.exits.add_exit_edges.Statement.{statement}
 use Rattle.loops.proofs.exits.add_exit_edges.Tie as tie

@@ -5,7 +5,8 @@ use lib.ListN.{drop}
 use Rattle.meaning.specs.Lists.{is-in}
 use Rattle.record.specs.Stands.{OfRecord}
 use Rattle.nesting.specs.Nesting.{exit-targets}
-use Rattle.loops.specs.Exits.{found-here, found-later, found-nowhere}
+use Rattle.loops.specs.laws.ExitsLaws.{found-here, found-later}
+use Rattle.loops.specs.laws.ExitsLaws.{found-nowhere}
 use borrow.Author.Needs.{needs}
 use Rattle.loops.proofs.exits.is_exit_target.Statement.{statement}
 use Rattle.loops.proofs.exits.is_exit_target.Tie as tie

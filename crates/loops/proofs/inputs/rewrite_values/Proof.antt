@@ -1,7 +1,8 @@
 use mathlib.Core.Path.{refl}
 use Prim.Native.Nat.{_-_, _≤_}
 use native.Mathlib.Omega.{arith}
-use Rattle.loops.specs.Inputs.{RewritesValues, none-yet, one-more, all-rewritten}
+use Rattle.loops.specs.Inputs.{RewritesValues, none-yet, one-more}
+use Rattle.loops.specs.laws.InputsLaws.{all-rewritten}
 use borrow.Author.Needs.{needs}
 use Rattle.loops.proofs.inputs.rewrite_values.Statement.{statement}
 use Rattle.loops.proofs.inputs.rewrite_values.Tie as tie

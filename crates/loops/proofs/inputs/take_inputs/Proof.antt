@@ -1,7 +1,8 @@
 use mathlib.Core.Path.{refl}
 use Prim.Native.Nat.{_-_, _≤_}
 use native.Mathlib.Omega.{arith}
-use Rattle.loops.specs.Inputs.{TakesFrom, none-taken, one-taken, few-kept, all-taken}
+use Rattle.loops.specs.Inputs.{TakesFrom, none-taken, one-taken}
+use Rattle.loops.specs.laws.InputsLaws.{few-kept, all-taken}
 use borrow.Author.Needs.{needs}
 use Rattle.loops.proofs.inputs.take_inputs.Statement.{statement}
 use Rattle.loops.proofs.inputs.take_inputs.Tie as tie

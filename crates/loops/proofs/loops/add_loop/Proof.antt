@@ -1,4 +1,4 @@
-use Rattle.loops.specs.Loops.{loop-put}
+use Rattle.loops.specs.laws.LoopsLaws.{loop-put}
 use borrow.Author.Needs.{needs}
 use Rattle.loops.proofs.loops.add_loop.Statement.{statement}
 use Rattle.loops.proofs.loops.add_loop.Tie as tie

@@ -1,4 +1,4 @@
-use Rattle.loops.specs.Loops.{value-full, node-full, loop-whole}
+use Rattle.loops.specs.laws.LoopsLaws.{value-full, node-full, loop-whole}
 use borrow.Author.Needs.{needs}
 use Rattle.loops.proofs.loops.define_loop.Statement.{statement}
 use Rattle.loops.proofs.loops.define_loop.Tie as tie

@@ -1,4 +1,5 @@
-use Rattle.loops.specs.Loops.{wrapper-full, loop-full, loop-made}
+use Rattle.loops.specs.laws.LoopsLaws.{loop-full, loop-made}
+use Rattle.loops.specs.laws.LoopsLaws.{wrapper-full}
 use borrow.Author.Needs.{needs}
 use Rattle.loops.proofs.loops.structurize_loop.Statement.{statement}
 use Rattle.loops.proofs.loops.structurize_loop.Tie as tie

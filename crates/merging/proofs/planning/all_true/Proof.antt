@@ -1,4 +1,6 @@
-use Rattle.merging.specs.Planning.{all-from, all-true, few-total, all-first, all-last, all-fails, all-next}
+use Rattle.merging.specs.Planning.{all-from, all-true}
+use Rattle.merging.specs.laws.PlanningLaws.{all-fails, all-next}
+use Rattle.merging.specs.laws.PlanningLaws.{few-total, all-first, all-last}
 use mathlib.Core.Path.{_≡_, refl}
 use Prim.Native.Nat.{_-_, _≤_}
 use borrow.Author.Tests.{not-true, not-false}

@@ -1,4 +1,5 @@
-use Rattle.merging.specs.Planning.{parent-same, parent-const, parent-none, parent-elsewhere, parent-given}
+use Rattle.merging.specs.laws.PlanningLaws.{parent-const, parent-none, parent-elsewhere, parent-given}
+use Rattle.merging.specs.laws.PlanningLaws.{parent-same}
 use borrow.Author.Needs.{needs}
 use Rattle.merging.proofs.planning.in_parent.Statement.{statement}
 use Rattle.merging.proofs.planning.in_parent.Tie as tie

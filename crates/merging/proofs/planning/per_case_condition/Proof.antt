@@ -1,4 +1,5 @@
-use Rattle.merging.specs.Planning.{condition-ended, condition-elsewhere, condition-there}
+use Rattle.merging.specs.laws.PlanningLaws.{condition-elsewhere, condition-there}
+use Rattle.merging.specs.laws.PlanningLaws.{condition-ended}
 use borrow.Author.Needs.{needs}
 use Rattle.merging.proofs.planning.per_case_condition.Statement.{statement}
 use Rattle.merging.proofs.planning.per_case_condition.Tie as tie

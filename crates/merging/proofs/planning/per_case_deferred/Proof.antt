@@ -1,4 +1,5 @@
-use Rattle.merging.specs.Planning.{place-of, per-case-deferred, few-total, places-first}
+use Rattle.merging.specs.Planning.{place-of, per-case-deferred}
+use Rattle.merging.specs.laws.PlanningLaws.{few-total, places-first}
 use Rattle.merging.specs.Turns.{turned, turn-next, turn-last}
 use mathlib.Core.Path.{_≡_}
 use Prim.Native.Nat.{_-_, _≤_}

@@ -1,4 +1,4 @@
-use Rattle.merging.specs.Planning.{bundle-true, bundle-conditional}
+use Rattle.merging.specs.laws.PlanningLaws.{bundle-true, bundle-conditional}
 use borrow.Author.Needs.{needs}
 use Rattle.merging.proofs.planning.plan_bundle.Statement.{statement}
 use Rattle.merging.proofs.planning.plan_bundle.Tie as tie

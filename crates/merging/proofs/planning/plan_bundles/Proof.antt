@@ -1,4 +1,5 @@
-use Rattle.merging.specs.Planning.{plan-at, planned, need-more, need-same, bundles-next, bundles-planned}
+use Rattle.merging.specs.Planning.{plan-at, planned}
+use Rattle.merging.specs.laws.PlanningLaws.{need-more, need-same, bundles-next, bundles-planned}
 use Rattle.merging.specs.Turns.{Left, left-first}
 use Prim.Native.Nat.{_-_}
 use mathlib.Core.Bool.{false}

@@ -1,4 +1,4 @@
-use Rattle.merging.specs.Planning.{input-planned}
+use Rattle.merging.specs.laws.PlanningLaws.{input-planned}
 use borrow.Author.Needs.{needs}
 use Rattle.merging.proofs.planning.plan_input.Statement.{statement}
 use Rattle.merging.proofs.planning.plan_input.Tie as tie

@@ -1,4 +1,5 @@
-use Rattle.merging.specs.Planning.{plan-input, planned, also, need-more, need-same, inputs-next, inputs-planned}
+use Rattle.merging.specs.Planning.{plan-input, planned, also}
+use Rattle.merging.specs.laws.PlanningLaws.{need-more, need-same, inputs-next, inputs-planned}
 use Rattle.merging.specs.Turns.{turned, turn-first}
 use Prim.Native.Nat.{_-_}
 use mathlib.Core.Path.{_≡_}

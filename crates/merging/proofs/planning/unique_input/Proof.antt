@@ -1,5 +1,7 @@
-use Rattle.merging.specs.Planning.{unique-from, unique-input, few-total, unique-first, unique-last, unique-past, unique-differs}
-use Rattle.merging.specs.Planning.{unique-next}
+use Rattle.merging.specs.Planning.{unique-from, unique-input}
+use Rattle.merging.specs.laws.PlanningLaws.{unique-past, unique-differs}
+use Rattle.merging.specs.laws.PlanningLaws.{few-total, unique-first, unique-last}
+use Rattle.merging.specs.laws.PlanningLaws.{unique-next}
 use mathlib.Core.Path.{_≡_, refl}
 use mathlib.Core.Logic.{⊎-elim}
 use Prim.Native.Nat.{_-_, _≤_}

@@ -1,4 +1,4 @@
-use Rattle.merging.specs.Rewriting.{case-path}
+use Rattle.merging.specs.laws.RewritingLaws.{case-path}
 use borrow.Author.Needs.{needs}
 use Rattle.merging.proofs.rewriting.rewrite_case.Statement.{statement}
 use Rattle.merging.proofs.rewriting.rewrite_case.Tie as tie

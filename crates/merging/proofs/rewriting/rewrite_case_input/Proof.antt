@@ -1,4 +1,4 @@
-use Rattle.merging.specs.Rewriting.{case-input-path}
+use Rattle.merging.specs.laws.RewritingLaws.{case-input-path}
 use borrow.Author.Needs.{needs}
 use Rattle.merging.proofs.rewriting.rewrite_case_input.Statement.{statement}
 use Rattle.merging.proofs.rewriting.rewrite_case_input.Tie as tie

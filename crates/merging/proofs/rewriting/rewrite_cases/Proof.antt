@@ -1,4 +1,5 @@
-use Rattle.merging.specs.Rewriting.{rewrite-case, rewrite-cases, front-case}
+use Rattle.merging.specs.Rewriting.{rewrite-case, rewrite-cases}
+use Rattle.merging.specs.laws.RewritingLaws.{front-case}
 use Rattle.merging.specs.Turns.{Left, left-first, left-next, left-last}
 use Rattle.record.specs.Stands.{OfRecord}
 use Prim.Native.Nat.{_-_}

@@ -1,4 +1,4 @@
-use Rattle.merging.specs.Rewriting.{given-path, none-given}
+use Rattle.merging.specs.laws.RewritingLaws.{given-path, none-given}
 use borrow.Author.Needs.{needs}
 use Rattle.merging.proofs.rewriting.rewrite_given.Statement.{statement}
 use Rattle.merging.proofs.rewriting.rewrite_given.Tie as tie

@@ -1,4 +1,4 @@
-use Rattle.merging.specs.Rewriting.{input-path}
+use Rattle.merging.specs.laws.RewritingLaws.{input-path}
 use borrow.Author.Needs.{needs}
 use Rattle.merging.proofs.rewriting.rewrite_input.Statement.{statement}
 use Rattle.merging.proofs.rewriting.rewrite_input.Tie as tie

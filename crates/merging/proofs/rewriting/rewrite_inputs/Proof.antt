@@ -1,4 +1,5 @@
-use Rattle.merging.specs.Rewriting.{rewrite-case-input, inputs-path}
+use Rattle.merging.specs.Rewriting.{rewrite-case-input}
+use Rattle.merging.specs.laws.RewritingLaws.{inputs-path}
 use Rattle.merging.specs.Turns.{turned, turn-first, turn-next}
 use mathlib.Core.Path.{_≡_}
 use Prim.Native.Nat.{_-_}

@@ -1,4 +1,5 @@
-use Rattle.merging.specs.Targets.{summarize-case, targets-path}
+use Rattle.merging.specs.Targets.{summarize-case}
+use Rattle.merging.specs.laws.TargetsLaws.{targets-path}
 use Rattle.merging.specs.Turns.{turned, turn-first, turn-next}
 use mathlib.Core.Path.{_≡_}
 use Prim.Native.Nat.{_-_}

@@ -1,4 +1,4 @@
-use Rattle.merging.specs.Targets.{bundle-new, bundle-there}
+use Rattle.merging.specs.laws.TargetsLaws.{bundle-new, bundle-there}
 use borrow.Author.Needs.{needs}
 use Rattle.merging.proofs.targets.summarize_bundle.Statement.{statement}
 use Rattle.merging.proofs.targets.summarize_bundle.Tie as tie

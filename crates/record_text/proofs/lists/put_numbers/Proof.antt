@@ -7,7 +7,8 @@ use borrow.Author.Needs.{needs}
 use Rattle.meaning.specs.Text.{decimal, ascii}
 use Rattle.record.specs.Stands.{OfRecord}
 use Rattle.text.specs.laws.Lists.{other, wrote-empty, wrote-listed, wrote-next, wrote-all}
-use Rattle.text.specs.Buffer.{Buffer, buffer, Wrote, of-text}
+use Rattle.text.specs.Buffer.{Buffer, buffer, Wrote}
+use Rattle.text.specs.laws.BufferLaws.{of-text}
 use Rattle.text.specs.Text.{text-of-each}
 use Rattle.record_text.specs.Parts.{numbers-of}
 use Rattle.record_text.specs.Listing.{numbers-text}

@@ -2,8 +2,8 @@ use mathlib.Core.Path.{sym, ap, refl, _∙_}
 use borrow.Author.Needs.{needs}
 use Rattle.fields.specs.Shape.{value-is}
 use Rattle.text.specs.Text.{labeled}
-use Rattle.text.specs.Buffer.{of-text}
-use Rattle.record_text.specs.Listing.{value-text}
+use Rattle.text.specs.laws.BufferLaws.{of-text}
+use Rattle.record_text.specs.Listing.{value-listing}
 use Rattle.record_text.proofs.lists.put_value.Statement.{statement}
 use Rattle.record_text.proofs.lists.put_value.Tie as tie
 
@@ -44,11 +44,11 @@ same-length : tie.Need-same-length
 same-length c = search needs
 
 returns : tie.Need-returns
-unfolding value-text labeled
+unfolding value-listing labeled
 returns c =
     let at-if1 = c .before .before .before .before .before in
     let at-v4 = at-if1 .before .before in
-    of-text (sym (ap (λ v. value-text (value-is v)) (at-v4 .v4 .given .1) ∙ rw (at-if1 .if1 .taken) refl))
+    of-text (sym (ap (λ v. value-listing (value-is v)) (at-v4 .v4 .given .1) ∙ rw (at-if1 .if1 .taken) refl))
     (c .before .before .put-text .ensures)
 
 slice-aggregate-put-text-2 : tie.Need-slice-aggregate-put-text-2
@@ -82,57 +82,57 @@ same-length-2 : tie.Need-same-length-2
 same-length-2 c = search needs
 
 returns-2 : tie.Need-returns-2
-unfolding value-text labeled
+unfolding value-listing labeled
 returns-2 c =
     let at-v = c .before .before .before .before .before .before in
-    of-text (sym (ap (λ v. value-text (value-is v)) (at-v .v .given .1))) (c .before .before .put-labeled .ensures)
+    of-text (sym (ap (λ v. value-listing (value-is v)) (at-v .v .given .1))) (c .before .before .put-labeled .ensures)
 
 same-length-3 : tie.Need-same-length-3
 same-length-3 c = search needs
 
 returns-3 : tie.Need-returns-3
-unfolding value-text
+unfolding value-listing
 returns-3 c =
     let at-v2 = c .before .before .before .before .before in
-    of-text (sym (ap (λ v. value-text (value-is v)) (at-v2 .v2 .given .1))) (c .before .before .put-of-region .ensures)
+    of-text (sym (ap (λ v. value-listing (value-is v)) (at-v2 .v2 .given .1))) (c .before .before .put-of-region .ensures)
 
 same-length-4 : tie.Need-same-length-4
 same-length-4 c = search needs
 
 returns-4 : tie.Need-returns-4
-unfolding value-text
+unfolding value-listing
 returns-4 c =
     let at-v3 = c .before .before .before .before .before in
-    of-text (sym (ap (λ v. value-text (value-is v)) (at-v3 .v3 .given .1))) (c .before .before .put-of-region2 .ensures)
+    of-text (sym (ap (λ v. value-listing (value-is v)) (at-v3 .v3 .given .1))) (c .before .before .put-of-region2 .ensures)
 
 same-length-5 : tie.Need-same-length-5
 same-length-5 c = search needs
 
 returns-5 : tie.Need-returns-5
-unfolding value-text
+unfolding value-listing
 returns-5 c =
     let at-if1 = c .before .before .before .before .before in
     let at-v4 = at-if1 .before .before in
-    of-text (sym (ap (λ v. value-text (value-is v)) (at-v4 .v4 .given .1) ∙ rw (at-if1 .if1 .left) refl))
+    of-text (sym (ap (λ v. value-listing (value-is v)) (at-v4 .v4 .given .1) ∙ rw (at-if1 .if1 .left) refl))
     (c .before .before .put-text2 .ensures)
 
 same-length-6 : tie.Need-same-length-6
 same-length-6 c = search needs
 
 returns-6 : tie.Need-returns-6
-unfolding value-text labeled
+unfolding value-listing labeled
 returns-6 c =
     let at-v5 = c .before .before .before .before .before .before in
-    of-text (sym (ap (λ v. value-text (value-is v)) (at-v5 .v5 .given .1))) (c .before .before .put-labeled2 .ensures)
+    of-text (sym (ap (λ v. value-listing (value-is v)) (at-v5 .v5 .given .1))) (c .before .before .put-labeled2 .ensures)
 
 same-length-7 : tie.Need-same-length-7
 same-length-7 c = search needs
 
 returns-7 : tie.Need-returns-7
-unfolding value-text labeled
+unfolding value-listing labeled
 returns-7 c =
     let at-enum-told = c .before .before .before .before .before in
-    of-text (sym (ap (λ v. value-text (value-is v)) (at-enum-told .enum-told .given .1))) (c .before .before .put-labeled3 .ensures)
+    of-text (sym (ap (λ v. value-listing (value-is v)) (at-enum-told .enum-told .given .1))) (c .before .before .put-labeled3 .ensures)
 
 pub put-value-spec : {M : Type 1} → statement M
 put-value-spec =

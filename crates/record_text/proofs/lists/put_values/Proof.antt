@@ -6,18 +6,19 @@ use borrow.Author.Needs.{needs}
 use Rattle.meaning.specs.Graph.{no-value}
 use Rattle.record.specs.Stands.{OfRecord}
 use Rattle.text.specs.laws.Lists.{other, wrote-empty, wrote-listed, wrote-next, wrote-all}
-use Rattle.text.specs.Buffer.{Buffer, buffer, Wrote, _▸_, of-text}
+use Rattle.text.specs.Buffer.{Buffer, buffer, Wrote}
+use Rattle.text.specs.laws.BufferLaws.{_▸_, of-text}
 use Rattle.text.specs.Text.{text-of-each}
 use Rattle.record_text.specs.Parts.{list-of}
-use Rattle.record_text.specs.Listing.{value-text, values-text}
+use Rattle.record_text.specs.Listing.{value-listing, values-text}
 use Rattle.record_text.proofs.lists.put_values.Statement.{statement}
 use Rattle.record_text.proofs.lists.put_values.Tie as tie
 
 abbrev Inv-loop : tie.InvT-loop
 Inv-loop w out₀ at l n place₀ k₀ out place k =
     (k ≤ n) × ((length out ≡ length out₀) × OfRecord w (λ g. (q : Buffer)
-    → Wrote (buffer out place) (text-of-each (other value-text) (drop k (list-of g l))) q
-    → Wrote (buffer out₀ place₀) (text-of-each (other value-text) (drop 1 (list-of g l))) q))
+    → Wrote (buffer out place) (text-of-each (other value-listing) (drop k (list-of g l))) q
+    → Wrote (buffer out₀ place₀) (text-of-each (other value-listing) (drop 1 (list-of g l))) q))
 
 abbrev μ-loop : tie.MeasureT-loop
 μ-loop w out₀ at l n place₀ k₀ out place k = n - k
@@ -37,7 +38,7 @@ returns c =
     let at-if1 = c .before .before .before .before in
     let at-value-count = at-if1 .before in
     let start = at-value-count .before .before in
-    λ g s. wrote-empty value-text (list-of g (start .args .l)) (sym (at-value-count .value-count .ensures g s) ∙ at-if1 .if1 .taken)
+    λ g s. wrote-empty value-listing (list-of g (start .args .l)) (sym (at-value-count .value-count .ensures g s) ∙ at-if1 .if1 .taken)
     (c .before .before .put-byte .ensures)
 
 value-item-requires : tie.Need-value-item-requires Inv-loop μ-loop
@@ -77,11 +78,11 @@ loop-again c =
         λ g s q w.
             let xs = list-of g (start .args .l) in
             at-loop .loop .inv .1 .1 g s q
-            (wrote-next (other value-text) no-value xs
+            (wrote-next (other value-listing) no-value xs
             (at-loop .loop .k)
             (omega (arith, at-value-count .value-count .ensures g s))
             (at-put-byte2 .put-byte2 .ensures ▸ of-text
-            (ap value-text (c .before .before .before .value-item2 .ensures g s)) (c .before .before .put-value2 .ensures))
+            (ap value-listing (c .before .before .before .value-item2 .ensures g s)) (c .before .before .put-value2 .ensures))
             w),
       ),
     )
@@ -101,10 +102,10 @@ returns-2 c =
     λ g s.
     let xs = list-of g (start .args .l) in
     let size = at-value-count .value-count .ensures g s in
-    wrote-listed value-text no-value xs (omega arith)
-    (of-text (ap value-text (at-value-item .value-item .ensures g s))
+    wrote-listed value-listing no-value xs (omega arith)
+    (of-text (ap value-listing (at-value-item .value-item .ensures g s))
     (at-put-value .put-value .ensures))
-    (c .before .loop .inv .1 .1 g s _ (wrote-all (other value-text) xs (c .before .loop .k) (omega arith)))
+    (c .before .loop .inv .1 .1 g s _ (wrote-all (other value-listing) xs (c .before .loop .k) (omega arith)))
 
 pub put-values-spec : {M : Type 1} → statement M
 put-values-spec =

@@ -5,7 +5,8 @@ use lib.ListN.{length, drop}
 use borrow.Author.Needs.{needs}
 use Rattle.meaning.specs.Graph.{region}
 use Rattle.record.specs.Stands.{OfRecord}
-use Rattle.text.specs.Buffer.{Buffer, buffer, Wrote, of-text}
+use Rattle.text.specs.Buffer.{Buffer, buffer, Wrote}
+use Rattle.text.specs.laws.BufferLaws.{of-text}
 use Rattle.record_text.specs.laws.Steps.{wrote-block, wrote-blocks}
 use Rattle.record_text.specs.Listing.{blocks-text}
 use Rattle.record_text.proofs.regions.put_blocks.Statement.{statement}

@@ -1,8 +1,8 @@
 use mathlib.Core.Path.{ap, _∙_}
 use borrow.Author.Needs.{needs}
 use Rattle.text.specs.Text.{labeled}
-use Rattle.text.specs.Buffer.{_▸_, of-text}
-use Rattle.record_text.specs.Listing.{item-text}
+use Rattle.text.specs.laws.BufferLaws.{_▸_, of-text}
+use Rattle.record_text.specs.Listing.{item-listing}
 use Rattle.record_text.proofs.regions.put_item.Statement.{statement}
 use Rattle.record_text.proofs.regions.put_item.Tie as tie
 
@@ -56,7 +56,7 @@ same-length c =
     ∙ at-put-labeled2 .put-labeled2 .kept .0 ∙ at-put-labeled .put-labeled .kept .0 ∙ at-put-dotted .put-dotted .kept .0
 
 returns : tie.Need-returns
-unfolding item-text labeled
+unfolding item-listing labeled
 returns c =
     let at-put-byte = c .before .before .before .before .before .before in
     let at-put-labeled3 = at-put-byte .before .before .before .before in

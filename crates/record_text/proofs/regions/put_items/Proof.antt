@@ -10,10 +10,11 @@ use Rattle.meaning.specs.Text.{Text}
 use Rattle.format.specs.References.{no-instr}
 use Rattle.record.specs.Stands.{OfRecord}
 use Rattle.text.specs.laws.Lists.{other, wrote-empty, wrote-listed, wrote-next, wrote-all}
-use Rattle.text.specs.Buffer.{Buffer, buffer, Wrote, _▸_, of-text}
+use Rattle.text.specs.Buffer.{Buffer, buffer, Wrote}
+use Rattle.text.specs.laws.BufferLaws.{_▸_, of-text}
 use Rattle.text.specs.Text.{text-of-each}
 use Rattle.record_text.specs.laws.Steps.{items-text-length, items-at}
-use Rattle.record_text.specs.Listing.{item-text, items-text}
+use Rattle.record_text.specs.Listing.{item-listing, items-text}
 use Rattle.record_text.proofs.regions.put_items.Statement.{statement}
 use Rattle.record_text.proofs.regions.put_items.Tie as tie
 
@@ -111,7 +112,7 @@ returns-2 c =
     let size = at-block-length .block-length .ensures g s in
     let first = items-at (a .r) (a .k) is 0 (omega arith) in
     wrote-listed (λ t. t) [] (items-text (a .r) (a .k) is) (omega (arith, items-text-length (a .r) (a .k) is))
-    (of-text (ap (λ n. item-text (a .r) n (getD is 0 no-instr)) (sym (add-zero (a .k))) ∙ first)
+    (of-text (ap (λ n. item-listing (a .r) n (getD is 0 no-instr)) (sym (add-zero (a .k))) ∙ first)
     (at-put-item .put-item .ensures g s))
     (l .inv .1 .1 g s _ (wrote-all (other (λ (t : Text). t)) (items-text (a .r) (a .k) is) (l .i)
     (omega (arith, items-text-length (a .r) (a .k) is))))

@@ -2,7 +2,7 @@ use mathlib.Core.Path.{sym, ap, _∙_}
 use lib.ListN.{getD}
 use borrow.Author.Needs.{needs}
 use Rattle.meaning.specs.Graph.{region, edges-of, no-edge}
-use Rattle.text.specs.Buffer.{of-text, wrote-none}
+use Rattle.text.specs.laws.BufferLaws.{of-text, wrote-none}
 use Rattle.record_text.specs.Parts.{pass-once}
 use Rattle.record_text.proofs.regions.put_pass_once.Statement.{statement}
 use Rattle.record_text.proofs.regions.put_pass_once.Tie as tie

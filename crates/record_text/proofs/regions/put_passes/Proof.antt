@@ -5,7 +5,8 @@ use lib.ListN.{length}
 use borrow.Author.Needs.{needs}
 use Rattle.meaning.specs.Graph.{region, edges-of}
 use Rattle.record.specs.Stands.{OfRecord}
-use Rattle.text.specs.Buffer.{Buffer, buffer, Wrote, of-text}
+use Rattle.text.specs.Buffer.{Buffer, buffer, Wrote}
+use Rattle.text.specs.laws.BufferLaws.{of-text}
 use Rattle.record_text.specs.laws.Passes.{passes-from, passes-all, wrote-pass, wrote-passes}
 use Rattle.record_text.proofs.regions.put_passes.Statement.{statement}
 use Rattle.record_text.proofs.regions.put_passes.Tie as tie

@@ -1,7 +1,7 @@
 use mathlib.Core.Path.{ap}
 use borrow.Author.Needs.{needs}
 use Rattle.text.specs.Text.{labeled}
-use Rattle.text.specs.Buffer.{_▸_, of-text}
+use Rattle.text.specs.laws.BufferLaws.{_▸_, of-text}
 use Rattle.record_text.specs.Listing.{region-line-text}
 use Rattle.record_text.proofs.regions.put_region_head.Statement.{statement}
 use Rattle.record_text.proofs.regions.put_region_head.Tie as tie

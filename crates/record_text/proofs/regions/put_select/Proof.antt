@@ -1,7 +1,7 @@
 use mathlib.Core.Path.{ap}
 use borrow.Author.Needs.{needs}
-use Rattle.text.specs.Buffer.{_▸_, of-text}
-use Rattle.record_text.specs.Listing.{value-text}
+use Rattle.text.specs.laws.BufferLaws.{_▸_, of-text}
+use Rattle.record_text.specs.Listing.{value-listing}
 use Rattle.record_text.proofs.regions.put_select.Statement.{statement}
 use Rattle.record_text.proofs.regions.put_select.Tie as tie
 
@@ -38,7 +38,7 @@ returns c =
     let at-put-text = at-value .before .before .before .before in
     λ g s.
     at-put-text .put-text .ensures
-    ▸ of-text (ap value-text (at-value .value .ensures g s)) (at-put-value .put-value .ensures)
+    ▸ of-text (ap value-listing (at-value .value .ensures g s)) (at-put-value .put-value .ensures)
     ▸ at-put-text2 .put-text2 .ensures
     ▸ at-put-numbers .put-numbers .ensures g s
     ▸ c .before .before .put-byte .ensures

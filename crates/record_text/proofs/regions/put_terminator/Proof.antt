@@ -2,7 +2,7 @@ use mathlib.Core.Path.{sym, ap, _∙_}
 use borrow.Author.Needs.{needs}
 use Rattle.meaning.specs.Graph.{region}
 use Rattle.fields.specs.Shape.{terminator-is}
-use Rattle.text.specs.Buffer.{_▸_, of-text}
+use Rattle.text.specs.laws.BufferLaws.{_▸_, of-text}
 use Rattle.text.specs.Text.{labeled}
 use Rattle.record_text.specs.laws.Ends.{unreachable-text, return-text, exit-text, branch-text, bool-text, number-text}
 use Rattle.record_text.proofs.regions.put_terminator.Statement.{statement}

@@ -2,7 +2,9 @@ use mathlib.Core.Path.{_≡_, sym, _∙_}
 use Prim.Native.Nat.{_-_, _≤_}
 use native.Mathlib.Omega.{arith}
 use borrow.Author.Needs.{needs}
-use Rattle.selects.specs.Cases.{any-from, any-non-empty-case, any-start, any-found, any-on, any-over}
+use Rattle.selects.specs.Cases.{any-from, any-non-empty-case}
+use Rattle.selects.specs.laws.CasesLaws.{any-found, any-on, any-over}
+use Rattle.selects.specs.laws.CasesLaws.{any-start}
 use Rattle.selects.proofs.cases.any_non_empty_case.Statement.{statement}
 use Rattle.selects.proofs.cases.any_non_empty_case.Tie as tie
 

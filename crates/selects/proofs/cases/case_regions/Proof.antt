@@ -1,6 +1,8 @@
 use Prim.Native.Nat.{_-_, _≤_}
 use native.Mathlib.Omega.{arith}
-use Rattle.selects.specs.Turns.{TurnsOn, begins, turned, refused, over}
+use Rattle.selects.specs.Turns.{TurnsOn}
+use Rattle.selects.specs.laws.TurnsLaws.{turned, refused, over}
+use Rattle.selects.specs.laws.TurnsLaws.{begins}
 use Rattle.selects.specs.Cases.{GetsRegion}
 use borrow.Author.Needs.{needs}
 use Rattle.selects.proofs.cases.case_regions.Statement.{statement}

@@ -1,6 +1,6 @@
 use mathlib.Core.Path.{sym, _∙_}
 use borrow.Author.Needs.{needs}
-use Rattle.selects.specs.Cases.{children-none, children-some}
+use Rattle.selects.specs.laws.CasesLaws.{children-none, children-some}
 use Rattle.selects.proofs.cases.children_of.Statement.{statement}
 use Rattle.selects.proofs.cases.children_of.Tie as tie
 

@@ -2,8 +2,10 @@ use mathlib.Core.Path.{_≡_, sym, _∙_}
 use mathlib.Core.Logic.{⊎-elim}
 use Prim.Native.Nat.{_-_, _≤_}
 use native.Mathlib.Omega.{arith}
-use Rattle.selects.specs.Cases.{convergent-from, convergent-case, convergent-start, convergent-skip, convergent-second}
-use Rattle.selects.specs.Cases.{convergent-first, convergent-over}
+use Rattle.selects.specs.Cases.{convergent-from, convergent-case}
+use Rattle.selects.specs.laws.CasesLaws.{convergent-skip, convergent-second}
+use Rattle.selects.specs.laws.CasesLaws.{convergent-start}
+use Rattle.selects.specs.laws.CasesLaws.{convergent-first, convergent-over}
 use borrow.Author.Needs.{needs}
 use Rattle.selects.proofs.cases.convergent_case.Statement.{statement}
 use Rattle.selects.proofs.cases.convergent_case.Tie as tie

@@ -1,5 +1,5 @@
 use mathlib.Core.Path.{sym, _∙_}
-use Rattle.selects.specs.Cases.{replaced-claimed, replaced-not}
+use Rattle.selects.specs.laws.CasesLaws.{replaced-claimed, replaced-not}
 use borrow.Author.Needs.{needs}
 use Rattle.selects.proofs.cases.replace_input.Statement.{statement}
 use Rattle.selects.proofs.cases.replace_input.Tie as tie

@@ -2,7 +2,9 @@ use mathlib.Core.Path.{_≡_}
 use Prim.Native.Nat.{_-_, _≤_}
 use native.Mathlib.Omega.{arith}
 use Rattle.state.specs.Tables.{case-total}
-use Rattle.selects.specs.Cases.{all-replaced, replace-start, replace-on, replace-over}
+use Rattle.selects.specs.Cases.{all-replaced}
+use Rattle.selects.specs.laws.CasesLaws.{replace-on, replace-over}
+use Rattle.selects.specs.laws.CasesLaws.{replace-start}
 use borrow.Author.Needs.{needs}
 use Rattle.selects.proofs.cases.replace_inputs.Statement.{statement}
 use Rattle.selects.proofs.cases.replace_inputs.Tie as tie

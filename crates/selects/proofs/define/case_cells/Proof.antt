@@ -1,4 +1,5 @@
-use Rattle.selects.specs.Selects.{CellsOn, cells-begin, cells-turn, cells-end}
+use Rattle.selects.specs.Selects.{CellsOn}
+use Rattle.selects.specs.laws.SelectsLaws.{cells-begin, cells-turn, cells-end}
 use borrow.Author.Needs.{needs}
 use Rattle.selects.proofs.define.case_cells.Statement.{statement}
 use Rattle.selects.proofs.define.case_cells.Tie as tie

@@ -1,7 +1,9 @@
 use Prim.Native.Nat.{_-_, _≤_}
 use native.Mathlib.Omega.{arith}
-use Rattle.selects.specs.Turns.{GoesOnBy, begins-by, turned-by, refused-by, over-by}
-use Rattle.selects.specs.Emits.{EmitAt, emits-by, bundles-leave}
+use Rattle.selects.specs.Turns.{GoesOnBy}
+use Rattle.selects.specs.laws.TurnsLaws.{begins-by, turned-by, refused-by, over-by}
+use Rattle.selects.specs.Emits.{EmitAt}
+use Rattle.selects.specs.laws.EmitsLaws.{emits-by, bundles-leave}
 use borrow.Author.Needs.{needs}
 use Rattle.selects.proofs.emit.emit.Statement.{statement}
 use Rattle.selects.proofs.emit.emit.Tie as tie

@@ -1,4 +1,4 @@
-use Rattle.selects.specs.Emits.{bundle-refused, bundle-made}
+use Rattle.selects.specs.laws.EmitsLaws.{bundle-refused, bundle-made}
 use borrow.Author.Needs.{needs}
 use Rattle.selects.proofs.emit.emit_bundle.Statement.{statement}
 use Rattle.selects.proofs.emit.emit_bundle.Tie as tie

@@ -1,5 +1,6 @@
 use mathlib.Core.Path.{refl, _∙_}
-use Rattle.selects.specs.Emits.{condition-there, condition-refused, condition-set}
+use Rattle.selects.specs.Emits.{condition-there}
+use Rattle.selects.specs.laws.EmitsLaws.{condition-refused, condition-set}
 use borrow.Author.Needs.{needs}
 use Rattle.selects.proofs.emit.emit_condition.Statement.{statement}
 use Rattle.selects.proofs.emit.emit_condition.Tie as tie

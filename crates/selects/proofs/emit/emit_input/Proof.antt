@@ -1,5 +1,6 @@
 use mathlib.Core.Path.{refl, _∙_}
-use Rattle.selects.specs.Emits.{input-there, input-refused, input-set}
+use Rattle.selects.specs.Emits.{input-there}
+use Rattle.selects.specs.laws.EmitsLaws.{input-refused, input-set}
 use borrow.Author.Needs.{needs}
 use Rattle.selects.proofs.emit.emit_input.Statement.{statement}
 use Rattle.selects.proofs.emit.emit_input.Tie as tie

@@ -1,5 +1,5 @@
 use mathlib.Core.Path.{_∙_}
-use Rattle.selects.specs.Emits.{value-none, value-some}
+use Rattle.selects.specs.laws.EmitsLaws.{value-none, value-some}
 use borrow.Author.Needs.{needs}
 use Rattle.selects.proofs.emit.value_in_case.Statement.{statement}
 use Rattle.selects.proofs.emit.value_in_case.Tie as tie

@@ -1,5 +1,6 @@
 use borrow.Author.Tests.{not-true, not-false}
-use Rattle.selects.specs.Into.{if-not, if-full, if-made}
+use Rattle.selects.specs.laws.IntoLaws.{if-full, if-made}
+use Rattle.selects.specs.laws.IntoLaws.{if-not}
 use borrow.Author.Needs.{needs}
 use Rattle.selects.proofs.into.select_if.Statement.{statement}
 use Rattle.selects.proofs.into.select_if.Tie as tie

@@ -1,4 +1,4 @@
-use Rattle.selects.specs.Into.{select-none, select-all}
+use Rattle.selects.specs.laws.IntoLaws.{select-none, select-all}
 use borrow.Author.Needs.{needs}
 use Rattle.selects.proofs.into.structurize_select.Statement.{statement}
 use Rattle.selects.proofs.into.structurize_select.Tie as tie

@@ -1,4 +1,4 @@
-use Rattle.selects.specs.Into.{into-refused, into-one, into-none, into-all}
+use Rattle.selects.specs.laws.IntoLaws.{into-refused, into-one, into-none, into-all}
 use borrow.Author.Needs.{needs}
 use Rattle.selects.proofs.into.structurize_select_into.Statement.{statement}
 use Rattle.selects.proofs.into.structurize_select_into.Tie as tie

@@ -1,4 +1,4 @@
-use Rattle.selects.specs.Into.{spare-by}
+use Rattle.selects.specs.laws.IntoLaws.{spare-by}
 use borrow.Author.Needs.{needs}
 use Rattle.selects.proofs.into.take_spare.Statement.{statement}
 use Rattle.selects.proofs.into.take_spare.Tie as tie

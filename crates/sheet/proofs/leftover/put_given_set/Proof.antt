@@ -1,4 +1,5 @@
-use Rattle.sheet.specs.Regions.{entry-set-put, ready-set-put, no-given-set}
+use Rattle.sheet.specs.laws.RegionsLaws.{ready-set-put, no-given-set}
+use Rattle.sheet.specs.laws.RegionsLaws.{entry-set-put}
 use borrow.Author.Needs.{needs}
 use Rattle.sheet.proofs.leftover.put_given_set.Statement.{statement}
 use Rattle.sheet.proofs.leftover.put_given_set.Tie as tie

@@ -1,4 +1,4 @@
-use Rattle.sheet.specs.Regions.{ready-put, ready-not-put}
+use Rattle.sheet.specs.laws.RegionsLaws.{ready-put, ready-not-put}
 use borrow.Author.Needs.{needs}
 use Rattle.sheet.proofs.leftover.put_ready.Statement.{statement}
 use Rattle.sheet.proofs.leftover.put_ready.Tie as tie

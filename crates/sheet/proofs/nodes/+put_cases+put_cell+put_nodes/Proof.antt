@@ -4,9 +4,10 @@ use mathlib.Core.Path.{_≡_, refl}
 use lib.ListN.{length}
 use native.Mathlib.Omega.{arith}
 use borrow.Author.Needs.{needs}
-use Rattle.children.specs.CellByCell.{named-below, before-below}
-use Rattle.sheet.specs.Walk.{PutsBehind, some-handle, cell-blocks, cell-list, cell-exit, cell-select, cell-loop, cell-none}
-use Rattle.sheet.specs.Walk.{no-cases-put, cases-put, walk-start, walk-turn, walk-end}
+use Rattle.children.specs.laws.CellByCellLaws.{named-below, before-below}
+use Rattle.sheet.specs.Walk.{PutsBehind}
+use Rattle.sheet.specs.laws.WalkLaws.{some-handle, cell-blocks, cell-list, cell-exit, cell-select, cell-loop, cell-none}
+use Rattle.sheet.specs.laws.WalkLaws.{no-cases-put, cases-put, walk-start, walk-turn, walk-end}
 use Prim.Native.Nat.{ℕ, _+_, _*_, _<_, _≤_}
 use borrow.Fn.Kinds.{In}
 use borrow.Fn.PlainCycle.{Measures, is, falls, and}
@@ -26,7 +27,7 @@ use Rattle.loop_lines.proofs.lines.put_loop_lines.Reads as put-loop-lines-reads
 use Rattle.select_lines.proofs.put_case_line.Reads as put-case-line-reads
 use Rattle.select_lines.proofs.put_select_line.Reads as put-select-line-reads
 use Rattle.sheet.proofs.nodes.next.Reads as next-reads
-use Rattle.state.proofs.cells.case_children.Reads as case-children-reads
+use Rattle.state.proofs.cells.children_of_case.Reads as children-of-case-reads
 use Rattle.state.proofs.cells.cell_a.Reads as cell-a-reads
 use Rattle.state.proofs.cells.cell_b.Reads as cell-b-reads
 use Rattle.state.proofs.cells.cell_before.Reads as cell-before-reads
@@ -74,8 +75,8 @@ put-cases-called t = (
   next-reads.Learnt,
   put-cases-below t,
   put-cases.Post,
-  case-children-reads.Asked,
-  case-children-reads.Learnt,
+  children-of-case-reads.Asked,
+  children-of-case-reads.Learnt,
   put-nodes-below t,
   put-nodes.Post,
   put-case-line-reads.Asked,
@@ -133,13 +134,13 @@ put-cases-put-cases-requires t c κs =
     let d = c .before .before .before .before .before in
     (omega (arith, d .pre .0, named-below _ (c .before .cell-before .ensures) (some-handle (c .before .before .before .if1 .left))), tt)
 
-put-cases-case-children-requires : (t : ℕ) → put-cases-lts.Need-case-children-requires (put-cases-called t) (put-cases-at t) put-cases.Post
-put-cases-case-children-requires t c κs = search needs
+put-cases-children-of-case-requires : (t : ℕ) → put-cases-lts.Need-children-of-case-requires (put-cases-called t) (put-cases-at t) put-cases.Post
+put-cases-children-of-case-requires t c κs = search needs
 
 put-cases-put-nodes-requires : (t : ℕ) → put-cases-lts.Need-put-nodes-requires (put-cases-called t) (put-cases-at t) put-cases.Post
 put-cases-put-nodes-requires t c κs =
     let d = c .before .before .before .before .before .before .before .before in
-    (omega (arith, d .before .before .pre .0, named-below _ (c .case-children .ensures) (some-handle (d .if1 .left))), tt)
+    (omega (arith, d .before .before .pre .0, named-below _ (c .children-of-case .ensures) (some-handle (d .if1 .left))), tt)
 
 put-cases-put-case-line-requires : (t : ℕ) → put-cases-lts.Need-put-case-line-requires (put-cases-called t) (put-cases-at t) put-cases.Post
 put-cases-put-case-line-requires t c κs = search needs
@@ -157,7 +158,7 @@ put-cases-returns-2 t c =
     cases-put _ _ _ _ (some-handle (at-if .if1 .left))
     (at-cell-before .cell-before .ensures)
     (at-next .next .ensures) (at-put-cases .put-cases .ensures)
-    (d .before .case-children .ensures) (d .put-nodes .ensures) (c .before .before .put-case-line .ensures)
+    (d .before .children-of-case .ensures) (d .put-nodes .ensures) (c .before .before .put-case-line .ensures)
 
 put-cell-cell-tag-requires : (t : ℕ) → put-cell-lts.Need-cell-tag-requires (put-cell-called t) (put-cell-at t) put-cell.Post
 put-cell-cell-tag-requires t c κs = search needs
@@ -322,7 +323,7 @@ pub +put-cases+put-cell+put-nodes-spec : {M : Type 1} → statement M
     (put-cases-cell-before-requires t)
     (put-cases-next-requires t)
     (put-cases-put-cases-requires t)
-    (put-cases-case-children-requires t)
+    (put-cases-children-of-case-requires t)
     (put-cases-put-nodes-requires t)
     (put-cases-put-case-line-requires t)
     (put-cases-same-length t)

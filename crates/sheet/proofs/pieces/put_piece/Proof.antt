@@ -1,4 +1,4 @@
-use Rattle.sheet.specs.Regions.{piece-put}
+use Rattle.sheet.specs.laws.RegionsLaws.{piece-put}
 use borrow.Author.Needs.{needs}
 use Rattle.sheet.proofs.pieces.put_piece.Statement.{statement}
 use Rattle.sheet.proofs.pieces.put_piece.Tie as tie

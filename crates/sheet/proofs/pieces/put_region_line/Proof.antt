@@ -1,4 +1,4 @@
-use Rattle.sheet.specs.Regions.{front-put}
+use Rattle.sheet.specs.laws.RegionsLaws.{front-put}
 use borrow.Author.Needs.{needs}
 use Rattle.sheet.proofs.pieces.put_region_line.Statement.{statement}
 use Rattle.sheet.proofs.pieces.put_region_line.Tie as tie

@@ -1,4 +1,4 @@
-use Rattle.sheet.specs.Regions.{whole-put}
+use Rattle.sheet.specs.laws.RegionsLaws.{whole-put}
 use borrow.Author.Needs.{needs}
 use Rattle.sheet.proofs.pieces.put_whole.Statement.{statement}
 use Rattle.sheet.proofs.pieces.put_whole.Tie as tie

@@ -1,4 +1,4 @@
-use Rattle.sheet.specs.Written.{measured}
+use Rattle.sheet.specs.laws.WrittenLaws.{measured}
 use borrow.Author.Needs.{needs}
 use Rattle.sheet.proofs.whole.measure.Statement.{statement}
 use Rattle.sheet.proofs.whole.measure.Tie as tie

@@ -1,4 +1,4 @@
-use Rattle.sheet.specs.Written.{sheet-put}
+use Rattle.sheet.specs.laws.WrittenLaws.{sheet-put}
 use borrow.Author.Needs.{needs}
 use Rattle.sheet.proofs.whole.put_sheet.Statement.{statement}
 use Rattle.sheet.proofs.whole.put_sheet.Tie as tie

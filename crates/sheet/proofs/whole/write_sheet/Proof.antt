@@ -1,5 +1,6 @@
 use native.Mathlib.Omega.{arith}
-use Rattle.sheet.specs.Written.{lent-few, not-written, all-written}
+use Rattle.sheet.specs.laws.WrittenLaws.{lent-few}
+use Rattle.sheet.specs.laws.WrittenLaws.{not-written, all-written}
 use borrow.Author.Needs.{needs}
 use Rattle.sheet.proofs.whole.write_sheet.Statement.{statement}
 use Rattle.sheet.proofs.whole.write_sheet.Tie as tie

@@ -1,7 +1,7 @@
 use mathlib.Core.List.{append-assoc}
 use borrow.Author.Needs.{needs}
 use Rattle.meaning.specs.Text.{joined}
-use Rattle.text.specs.Buffer.{_▸_, of-text}
+use Rattle.text.specs.laws.BufferLaws.{_▸_, of-text}
 use Rattle.sheet_text.proofs.cursor.put_dotted.Statement.{statement}
 use Rattle.sheet_text.proofs.cursor.put_dotted.Tie as tie
 

@@ -2,7 +2,7 @@ use mathlib.Core.Path.{refl, sym}
 use native.Mathlib.Omega.{arith}
 use borrow.Author.Tests.{ne-eqb}
 use borrow.Author.Needs.{needs}
-use Rattle.text.specs.Buffer.{of-text, wrote-none}
+use Rattle.text.specs.laws.BufferLaws.{of-text, wrote-none}
 use Rattle.sheet_text.specs.laws.Readers.{value-other}
 use Rattle.sheet_text.proofs.cursor.put_value.Statement.{statement}
 use Rattle.sheet_text.proofs.cursor.put_value.Tie as tie

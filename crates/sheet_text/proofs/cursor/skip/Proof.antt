@@ -1,6 +1,6 @@
 use mathlib.Core.Path.{refl}
 use borrow.Author.Needs.{needs}
-use Rattle.text.specs.Buffer.{wrote-none}
+use Rattle.text.specs.laws.BufferLaws.{wrote-none}
 use Rattle.nesting.specs.decoding.Decode.{next-word}
 use Rattle.sheet_text.specs.Lines.{shown}
 use Rattle.sheet_text.specs.laws.PutsSteps.{puts-said, puts-next, puts-ended}

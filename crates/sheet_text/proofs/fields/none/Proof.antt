@@ -7,10 +7,10 @@ use native.Mathlib.Omega.{arith}
 use types.Run.{OneOf}
 use denote.Enum.Declared.{tagOf}
 use borrow.Author.Needs.{needs}
-use Rattle.text.specs.Buffer.{wrote-none}
+use Rattle.text.specs.laws.BufferLaws.{wrote-none}
 use Rattle.sheet_text.specs.declared.fields.Field.{Field}
 use Rattle.sheet_text.specs.declared.fields.Field.the-variants.{Number, Value, Item, Condition}
-use Rattle.sheet_text.specs.declared.cursor.Cursor.{Cursor}
+use Rattle.sheet_text.specs.declared.cursor.SheetCursor.{SheetCursor}
 use Rattle.sheet_text.specs.Texts.{say, none-text}
 use Rattle.sheet_text.specs.Puts.{PutsText}
 use Rattle.sheet_text.specs.laws.PutsSteps.{puts-said}
@@ -18,7 +18,7 @@ use Rattle.sheet_text.proofs.fields.Field.{the-type}
 use Rattle.sheet_text.proofs.fields.none.Statement.{statement}
 use Rattle.sheet_text.proofs.fields.none.Tie as tie
 
-dashed : {ws before after : List ℕ} {c d : Cursor} (k : Field) → OneOf (0 ∷ 1 ∷ 2 ∷ []) (tagOf the-type k)
+dashed : {ws before after : List ℕ} {c d : SheetCursor} (k : Field) → OneOf (0 ∷ 1 ∷ 2 ∷ []) (tagOf the-type k)
     → PutsText (say (none-text Number)) ws c before after d → PutsText (say (none-text k)) ws c before after d
 dashed Number h p = p
 dashed Value h p = p

@@ -1,4 +1,4 @@
-use Rattle.writing.specs.Puts.{noted-true, noted-false}
+use Rattle.writing.specs.laws.PutsLaws.{noted-true, noted-false}
 use Rattle.writing.proofs.place.note.Statement.{statement}
 use Rattle.writing.proofs.place.note.Tie as tie
 

@@ -1,4 +1,4 @@
-use Rattle.writing.specs.Puts.{put-stored, put-nowhere}
+use Rattle.writing.specs.laws.PutsLaws.{put-stored, put-nowhere}
 use borrow.Author.Needs.{needs}
 use Rattle.writing.proofs.place.put.Statement.{statement}
 use Rattle.writing.proofs.place.put.Tie as tie

@@ -1,4 +1,4 @@
-use Rattle.writing.specs.Puts.{puts-then}
+use Rattle.writing.specs.laws.PutsLaws.{puts-then}
 use borrow.Author.Needs.{needs}
 use Rattle.writing.proofs.place.put_three.Statement.{statement}
 use Rattle.writing.proofs.place.put_three.Tie as tie

@@ -3,7 +3,8 @@ use mathlib.Core.Logic.{⊎-elim}
 use Prim.Native.Nat.{_≤_, _-_}
 use native.Mathlib.Omega.{arith}
 use borrow.Author.Needs.{needs}
-use Rattle.writing.specs.Outputs.{node-times, one-more, no-more, all-counted}
+use Rattle.writing.specs.Outputs.{node-times}
+use Rattle.writing.specs.laws.OutputsLaws.{one-more, no-more, all-counted}
 use Rattle.writing.proofs.value.place_among.Statement.{statement}
 use Rattle.writing.proofs.value.place_among.Tie as tie
 

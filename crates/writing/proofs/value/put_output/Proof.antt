@@ -1,7 +1,7 @@
 use native.Mathlib.Omega.{arith}
 use mathlib.Core.Path.{refl}
 use Rattle.writing.specs.Outputs.{output-words}
-use Rattle.writing.specs.Puts.{nothing-lent}
+use Rattle.writing.specs.laws.PutsLaws.{nothing-lent}
 use borrow.Author.Needs.{needs}
 use Rattle.writing.proofs.value.put_output.Statement.{statement}
 use Rattle.writing.proofs.value.put_output.Tie as tie

@@ -1,4 +1,4 @@
-use Rattle.writing.specs.Puts.{puts-as, puts-noted}
+use Rattle.writing.specs.laws.PutsLaws.{puts-as, puts-noted}
 use Rattle.writing.specs.laws.ValueShown.{value-shown}
 use borrow.Author.Needs.{needs}
 use Rattle.writing.proofs.value.put_value.Statement.{statement}

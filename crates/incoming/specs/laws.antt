@@ -1,0 +1,2 @@
+pub mod VisitsLaws
+pub mod CountedLaws

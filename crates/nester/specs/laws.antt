@@ -1,0 +1,2 @@
+pub mod NestingRecord
+pub mod NestingStore

@@ -1,0 +1,4 @@
+pub mod SelectPartsLaws
+pub mod SelectLinesLaws
+pub mod OwnOutputsLaws
+pub mod CaseNumbersLaws
