@@ -1,7 +1,6 @@
-pub mod FuncShownLaws
-pub mod FuncLaws
 pub mod ByStateLaws
 pub mod ByInstLaws
+pub mod FuncLaws
 pub mod Leaves
 pub mod Left
 pub mod Turns
@@ -16,3 +15,4 @@ pub mod WholeShown
 pub mod SelectBodies
 pub mod ResolveShown
 pub mod InstShown
+pub mod FuncShownLaws

@@ -1,7 +1,7 @@
 -- A list of nodes that the words show, cell by cell: the list before a cell, and what the cell adds to it, as the words have it.
 use mathlib.Core.Path.{_≡_}
 use mathlib.Core.List.{List}
-use Prim.Native.Nat.{ℕ, _+_, _*_, _≤_}
+use Prim.Native.Nat.{ℕ, zero, suc, _+_, _*_, _≤_, _<_}
 use lib.Dec.{eqb}
 use lib.ListN.{length}
 use Rattle.meaning.specs.Lists.{pick}
@@ -49,3 +49,13 @@ pub data ListAppended (g : Graph) (w : List ℕ) (h : ℕ) (ks : Nodes) : Type 0
 pub data FirstCase (g : Graph) (w : List ℕ) (h : ℕ) (ks : Cases) : Type 0 where
   case-first : {ns : Nodes} {cs : Cases} → ShowsNodes g (section w cells) (list-at w h 3) ns
       → ShowsCaseCells g (section w cells) (list-at w h 1) cs → ks ≡ new-case (cell-word w h 2) ns cs → FirstCase g w h ks
+
+-- The cell of the case at place j of those from cell h on; 0 behind the last.
+unfoldable pub case-cell : List ℕ → ℕ → ℕ → ℕ
+case-cell w h zero = h
+case-cell w h (suc j) = list-at w (case-cell w h j) 1
+
+-- How many cases there are from cell h on.
+pub record CaseTotal (w : List ℕ) (h n : ℕ) : Type 0 where
+  pub end : case-cell w h n ≡ 0
+  pub some : (j : ℕ) → j < n → 1 ≤ case-cell w h j

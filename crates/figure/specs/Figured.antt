@@ -2,7 +2,7 @@
 -- figures that a sheet can show (refusal 11).
 use mathlib.Core.Path.{_≡_}
 use mathlib.Core.List.{List}
-use Prim.Native.Nat.{ℕ, min, _+_, _≤_}
+use Prim.Native.Nat.{ℕ, min, max, _+_, _≤_}
 use Rattle.meaning.specs.Lists.{total}
 use Rattle.meaning.specs.Graph.{Graph, region}
 use Rattle.meaning.specs.Runs.{Nodes, Cases}
@@ -51,3 +51,15 @@ pub record SummedTo (w : List ℕ) (list h sum : ℕ) : Type 0 where
   pub small : sum ≤ 4294967296
   pub below : h ≤ list
   pub shown : OfRecord w (λ g. (ks : Nodes) → ShowsNodes g (section w cells) list ks → ToCome g w h sum (figure (g .test-cost) ks))
+
+-- A list of cases, passed from its first down to cell h: the dearest so far and that of those still to come is the dearest of all.
+pub record CasesToCome (g : Graph) (w : List ℕ) (h most whole : ℕ) : Type 0 where
+  pub cases : Cases
+  pub shown : ShowsCaseCells g (section w cells) h cases
+  pub dearer : max most (capped (dearest (g .test-cost) cases)) ≡ capped whole
+
+pub record DearestTo (w : List ℕ) (list h most : ℕ) : Type 0 where
+  pub small : most ≤ 4294967296
+  pub below : h ≤ list
+  pub shown : OfRecord w (λ g. (cs : Cases) → ShowsCaseCells g (section w cells) list cs
+      → CasesToCome g w h most (dearest (g .test-cost) cs))

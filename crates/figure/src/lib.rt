@@ -1,6 +1,6 @@
 // The figure of a nested form: what a run can cost at most. Beyond 4,294,967,295 it is 4,294,967,296, whatever it exceeds.
 ghost use mathlib.Core.Path.{_≡_};
-ghost use Prim.Native.Nat.{_≤_};
+ghost use Prim.Native.Nat.{_≤_, max};
 ghost use Rattle.figure.specs.Figured as figured;
 use children::list_before;
 use state::cells::BLOCKS;
@@ -57,19 +57,26 @@ fn blocks_figure(w: &[u16; WORDS], r: u16) -> u64
     sum
 }
 
+fn larger(a: u64, b: u64) -> u64
+    ensures { λ r. ⌜ r ≡ max a b ⌝ }
+{
+    if a < b {
+        return b;
+    }
+    a
+}
+
 // The dearest of a list of cases.
 fn dearest(w: &[u16; WORDS], cases: u16) -> u64
     ensures { λ a. ⌜ figured.DearestFigured (now (w .entry)) cases a ⌝ }
 {
-    if cases == 0 {
-        return 0;
+    let mut most: u64 = 0;
+    let mut h = cases;
+    while 0 < h {
+        most = larger(most, figure(w, children_of_case(w, h)));
+        h = cell_before(w, h);
     }
-    let first = figure(w, children_of_case(w, cases));
-    let others = dearest(w, cell_before(w, cases));
-    if first < others {
-        return others;
-    }
-    first
+    most
 }
 
 // What a cell adds: a block its instructions' sum; a select the test cost and its dearest case; a loop its turn limit times body and

@@ -8,7 +8,8 @@ ghost use Rattle.record.specs.Stands.{OfRecord};
 ghost use Rattle.fields.specs.ByNumber.{block-of, instr-of, end-values, edge-of, stands-before};
 ghost use Rattle.text.specs.Buffer.{buffer, Wrote};
 ghost use Rattle.record_text.specs.Parts.{pass-once};
-ghost use Rattle.record_text.specs.Listing.{value-listing, numbers-text, values-text, item-listing, items-text, block-text, blocks-text};
+ghost use Rattle.record_text.specs.Listing.{value-listing, numbers-text, values-text, item-listing, items-text, block-text};
+ghost use Rattle.record_text.specs.Listing.{blocks-text};
 ghost use Rattle.record_text.specs.Listing.{terminator-text, pass-text, passes-text, region-line-text, exits-line, region-text};
 ghost use Rattle.record_text.specs.Listing.{regions-text};
 use super::lists::Numbers;
@@ -97,7 +98,8 @@ fn put_end_values(w: &[u16; WORDS], out: &mut [u8], at: usize, label: &[u8], r: 
 fn put_select(w: &[u16; WORDS], out: &mut [u8], at: usize, label: &[u8], r: u16) -> usize
     ensures { λ p. ⌜ OfRecord (now (w .entry)) (λ g.
         Wrote (buffer (now (out .entry)) at)
-        (now (label .entry) ++ value-listing (getD (end-values g r) 0 no-value) ++ ascii " to " ++ numbers-text (targets-of g r) ++ ascii "\n")
+        (now (label .entry) ++ value-listing (getD (end-values g r) 0 no-value) ++ ascii " to " ++ numbers-text (targets-of g r)
+        ++ ascii "\n")
         (buffer (now (out .exit)) p)) ⌝ }
 {
     let mut place = put_text(out, at, label);

@@ -2,8 +2,6 @@
 use mathlib.Core.Path.{_≡_}
 use mathlib.Core.List.{List}
 use Prim.Native.Nat.{ℕ, _+_, _≤_}
-use lib.Dec.{ltb}
-use Rattle.meaning.specs.Lists.{pick}
 use Rattle.meaning.specs.Graph.{Graph}
 use Rattle.meaning.specs.Runs.{Nodes, Cases, loop, case-count}
 use Rattle.nesting.specs.Nesting.{NestState}
@@ -16,14 +14,11 @@ use Rattle.writing.specs.Puts.{Part, Puts}
 use Rattle.writing.specs.laws.PutsLaws.{_⊕_}
 use Rattle.writing.specs.Parts.{OfState, nodes-part, cases-part}
 
-abbrev pub next : ℕ → ℕ
-next j = pick (ltb j 65535) (j + 1) j
-
 abbrev pub PutsCell : List ℕ → ℕ → List ℕ → Place → List ℕ → Place → Type 0
 PutsCell w h out at out′ at′ =
     OfState w (λ g s. (ks : Nodes) → CellAdded g w h ks (cell-word w h 0) → Puts out at (nodes-part s ks) out′ at′)
 
--- No select has more than eight cases.
+-- The cases from place j on. No select has more than eight.
 abbrev pub PutsCases : List ℕ → ℕ → ℕ → ℕ → List ℕ → Place → List ℕ → Place → Type 0
 PutsCases w list node j out at out′ at′ =
     OfState w (λ g s. (cs : Cases) → ShowsCaseCells g (section w cells) list cs → j + case-count cs ≤ 8

@@ -1,10 +1,11 @@
 // The lines of child nodes: each node, a select's cases or a loop's body following it. The walk falls with the cells' numbers.
-ghost use mathlib.Core.Path.{_≡_};
 ghost use Prim.Native.Nat.{_≤_};
 ghost use Rattle.sheet.specs.Regions as regions;
 ghost use Rattle.sheet.specs.Walk as walk;
 use block_lines::blocks::put_blocks;
 use block_lines::exits::put_exit;
+use children::case_cell;
+use children::case_total;
 use children::list_before;
 use loop_lines::lines::put_loop_lines;
 use select_lines::put_case_line;
@@ -24,15 +25,6 @@ use state::cells::joined_list;
 use store::WORDS;
 use writing::place::Place;
 
-fn next(j: u16) -> u16
-    ensures { λ a. ⌜ a ≡ walk.next j ⌝ }
-{
-    if j < 65535 {
-        return j + 1;
-    }
-    j
-}
-
 // What cell h adds to its list.
 fn put_cell(w: &[u16; WORDS], out: &mut [u32], at: Place, h: u16) -> Place
     requires { ⌜ 1 ≤ h ⌝ }
@@ -49,7 +41,7 @@ fn put_cell(w: &[u16; WORDS], out: &mut [u32], at: Place, h: u16) -> Place
         return put_exit(w, out, at, cell_a(w, h), cell_b(w, h));
     }
     if tag == SELECT {
-        let cases = put_cases(w, out, at, inner_list(w, h), cell_a(w, h), 0);
+        let cases = put_cases(w, out, at, inner_list(w, h), cell_a(w, h));
         return put_select_line(w, out, cases, h);
     }
     if tag == LOOP {
@@ -59,16 +51,19 @@ fn put_cell(w: &[u16; WORDS], out: &mut [u32], at: Place, h: u16) -> Place
     at
 }
 
-// The cases of a select, from the place j on: later ones first, since words are put from the back.
-fn put_cases(w: &[u16; WORDS], out: &mut [u32], at: Place, list: u16, node: u16, j: u16) -> Place
-    ensures { λ a. ⌜ walk.PutsCases (now (w .entry)) list node j (now (out .entry)) at (now (out .exit)) a ⌝ }
+// The cases of a select: later ones first, since words are put from the back.
+fn put_cases(w: &[u16; WORDS], out: &mut [u32], at: Place, list: u16, node: u16) -> Place
+    ensures { λ a. ⌜ walk.PutsCases (now (w .entry)) list node 0 (now (out .entry)) at (now (out .exit)) a ⌝ }
 {
-    if list == 0 {
-        return at;
+    let mut e = at;
+    let mut j = case_total(w, list);
+    while 0 < j {
+        j -= 1;
+        let c = case_cell(w, list, j);
+        let nodes = put_nodes(w, out, e, children_of_case(w, c));
+        e = put_case_line(w, out, nodes, c, node, j);
     }
-    let later = put_cases(w, out, at, cell_before(w, list), node, next(j));
-    let nodes = put_nodes(w, out, later, children_of_case(w, list));
-    put_case_line(w, out, nodes, list, node, j)
+    e
 }
 
 pub fn put_nodes(w: &[u16; WORDS], out: &mut [u32], at: Place, list: u16) -> Place

@@ -1,8 +1,7 @@
-pub mod DefinedShown
-pub mod RegionsKept
+pub mod Stores
 pub mod FrontKept
 pub mod ValueWords
-pub mod Stores
+pub mod DefinedShown
 pub mod Steps
 pub mod Rewrites
 pub mod Conditions
@@ -12,4 +11,5 @@ pub mod RegionSteps
 pub mod CellSteps
 pub mod SetStores
 pub mod SetSteps
+pub mod RegionsKept
 pub mod NamedSteps

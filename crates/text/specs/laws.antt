@@ -1,5 +1,5 @@
-pub mod WholeTexts
 pub mod BufferLaws
 pub mod Digits
 pub mod Lists
 pub mod Lengths
+pub mod WholeTexts

@@ -126,7 +126,8 @@ module _ (agrees : List ℕ → Bool) {r : VectorReader} {before : List ℕ} whe
   ended e is same after =
       record { reads = ap (λ n. reading-of n after) same ∙ rw (read-byte, e, ← is); within = rw same (omega arith) }
 
-  pub kept : {b : ℕ} → ends-at (r .fresh) b ≡ false → r .size ≤ 65536 → {after : List ℕ} {next : VectorReader} → KeptSoFar r b before after next
+  pub kept : {b : ℕ} → ends-at (r .fresh) b ≡ false → r .size ≤ 65536 → {after : List ℕ} {next : VectorReader}
+      → KeptSoFar r b before after next
       → Reads agrees r (b ∷ []) before after next
   unfolding read-byte read-bytes
   kept e small k = record { reads = k .reads ∙ rw (read-byte, e); within = k .within small }

@@ -213,7 +213,8 @@ slot-taken {g} few {r} {o} here there {w} {w₂} {s} {h} {ks} x {n} {d} set =
 module _ {g : Graph} (few : length (g .regions) ≤ 32) {r : ℕ} (here : r < length (g .regions)) {w : List ℕ} {s : NestState}
     (state : ShowsState g w s) (unready : word w kinds r ≡ 2 → ⊥) {parent : Nodes}
     (nodes : ShowsChildren g w (word w children r) parent) where
-  claimed-appended : (x : Case) {j : ℕ} {c : ClaimedRegion} → word w head 4 < most-cells → ShowsAlone g w r j x (ok c) → {w₂ w′ : List ℕ} {h : ℕ}
+  claimed-appended : (x : Case) {j : ℕ} {c : ClaimedRegion} → word w head 4 < most-cells → ShowsAlone g w r j x (ok c)
+      → {w₂ w′ : List ℕ} {h : ℕ}
       → Joins (inserted w (x .body) 1 (case-inputs w j)) w₂ (word (inserted w (x .body) 1 (case-inputs w j)) children r) (x .children) h
       → w′ ≡ stored (swapped (stored w₂ children r h) r (x .origin)) set-lengths r (x .length)
       → AppendShown g w w′ s parent (ok c) r

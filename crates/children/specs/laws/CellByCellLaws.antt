@@ -1,10 +1,11 @@
 -- Laws on what CellByCell defines, as the proofs cite them.
-use mathlib.Core.Path.{_≡_, refl}
+use mathlib.Core.Path.{_≡_, refl, sym, _∙_}
 use mathlib.Core.Bool.{Bool, true, false}
 use mathlib.Core.List.{List}
-use Prim.Native.Nat.{ℕ, _≤_, _<_}
+use Prim.Native.Nat.{ℕ, zero, suc, _+_, _-_, _≤_, _<_}
 use native.Mathlib.Omega.{arith}
 use native.Mathlib.Decide.{decLt}
+use native.Mathlib.Numerals.{add-one}
 use lib.Dec.{eqb}
 use borrow.Author.Tests.{lt-ltb, le-ltb, eq-eqb, ne-eqb}
 use Rattle.meaning.specs.Lists.{pick}
@@ -16,7 +17,7 @@ use Rattle.state.specs.Tables.{earlier}
 use Rattle.shown.specs.Cells.{CellIs, ShowsNodes, no-nodes, all-blocks, two-lists, then-exit, then-select, the-loop}
 use Rattle.shown.specs.Cells.{ShowsCaseCells, no-cases, case-and}
 use Rattle.children.specs.CellByCell.{cell-word, list-at, list-before, added-blocks, added-list, added-exit, added-select, added-loop}
-use Rattle.children.specs.CellByCell.{ListAppended, appends, FirstCase, case-first}
+use Rattle.children.specs.CellByCell.{ListAppended, appends, FirstCase, case-first, case-cell, CaseTotal}
 
 -- ---- Every list but the empty one ends with a cell, its handle's.
 pub earlier-below : (p h : ℕ) → 1 ≤ h → earlier p h < h
@@ -71,3 +72,42 @@ module _ {g : Graph} (w : List ℕ) {h : ℕ} where
   first-case (no-cases e) b = absurd (omega arith)
   first-case (case-and {ns = ns} {cs = cs} x p q a c e) b =
       case-first {ns = ns} {cs = cs} (rw (earlier-is (x .is-b) q) a) (rw (earlier-is (x .is-before) p) c) (rw (x .is-a) e)
+
+-- ---- Cases by place.
+earlier-within : (p h : ℕ) → earlier p h ≤ h
+unfolding earlier
+earlier-within p h = elim (decLt p h) [ yes l ↦ rw (lt-ltb p h l) (omega arith) | no n ↦ rw (le-ltb p h (omega arith)) (omega arith) ]
+
+module _ (w : List ℕ) (h : ℕ) where
+  case-below : (j : ℕ) → case-cell w h j ≤ h
+  unfolding case-cell
+  case-below zero = omega arith
+  case-below (suc j) =
+      let x = case-below j in
+      let y = earlier-within (cell-word w (case-cell w h j) 1) (case-cell w h j) in
+      omega arith
+
+  pub case-within : (j : ℕ) {c : ℕ} → c ≡ case-cell w h j → c ≤ h
+  case-within j e = rw e (case-below j)
+
+  pub case-step : (i : ℕ) {p q : ℕ} → p ≡ case-cell w h i → q ≡ list-at w p 1 → q ≡ case-cell w h (i + 1)
+  unfolding case-cell
+  case-step i a b = rw (add-one i) (b ∙ rw a)
+
+  pub case-after : (i : ℕ) {j c : ℕ} → j ≡ suc i → c ≡ case-cell w h i → case-cell w h j ≡ list-at w c 1
+  unfolding case-cell
+  case-after i z e = rw (z, e)
+
+  pub case-some : {n c : ℕ} (j : ℕ) → CaseTotal w h n → 0 < j → j ≤ n → c ≡ case-cell w h (j - 1) → 1 ≤ c
+  case-some j total some within e = rw e (total .some (j - 1) (omega arith))
+
+  pub case-reached : (i : ℕ) {j p : ℕ} → j ≤ i → i ≤ j → p ≡ case-cell w h i → p ≡ case-cell w h j
+  case-reached i {j} a b e = let z : j ≡ i = omega arith in rw z e
+
+  pub total-turn : (n : ℕ) {p : ℕ} → p ≡ case-cell w h n → 0 < p → ((j : ℕ) → j < n → 1 ≤ case-cell w h j) → (j : ℕ) → j < n + 1
+      → 1 ≤ case-cell w h j
+  total-turn n e some before j l =
+      elim (decLt j n) [ yes m ↦ before j m | no m ↦ (let z : j ≡ n = omega arith in rw (z, ← e) some) ]
+
+  pub total-end : (n : ℕ) {p : ℕ} → p ≡ case-cell w h n → p ≤ 0 → ((j : ℕ) → j < n → 1 ≤ case-cell w h j) → CaseTotal w h n
+  total-end n {p} e none some = let z : p ≡ 0 = omega arith in record { end = sym e ∙ z; some = some }

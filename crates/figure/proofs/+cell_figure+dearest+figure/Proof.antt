@@ -6,8 +6,9 @@ use borrow.Author.Needs.{needs}
 use borrow.Fn.Kinds.{In}
 use borrow.Fn.PlainCycle.{Measures, is, falls, and}
 use Rattle.children.specs.laws.CellByCellLaws.{named-below, before-below}
-use Rattle.figure.specs.Figured.{SummedTo}
-use Rattle.figure.specs.laws.Steps.{dearest-none, dearest-of, cell-blocks, cell-joined, cell-select, cell-loop, cell-other}
+use Rattle.figure.specs.Figured.{SummedTo, DearestTo}
+use Rattle.figure.specs.laws.Steps.{dearest-start, dearest-turn, dearest-all, cell-blocks, cell-joined, cell-select, cell-loop}
+use Rattle.figure.specs.laws.Steps.{cell-other}
 use Rattle.figure.specs.laws.Steps.{turns-fit, passed-none, passed-turn, passed-all}
 use Rattle.figure.proofs.cell_figure.Reads as cell-figure
 use Rattle.figure.proofs.cell_figure.Kinds as cell-figure-kinds
@@ -22,6 +23,7 @@ use Rattle.children.proofs.list_before.Reads as list-before-reads
 use Rattle.fields.proofs.limit.Reads as limit-reads
 use Rattle.fields.proofs.test_cost.Reads as test-cost-reads
 use Rattle.figure.proofs.at_most.Reads as at-most-reads
+use Rattle.figure.proofs.larger.Reads as larger-reads
 use Rattle.figure.proofs.blocks_figure.Reads as blocks-figure-reads
 use Rattle.state.proofs.cells.children_of_case.Reads as children-of-case-reads
 use Rattle.state.proofs.cells.cell_a.Reads as cell-a-reads
@@ -96,10 +98,10 @@ dearest-called t = (
   children-of-case-reads.Learnt,
   figure-below t,
   figure.Post,
+  larger-reads.Asked,
+  larger-reads.Learnt,
   cell-before-reads.Asked,
   cell-before-reads.Learnt,
-  dearest-below t,
-  dearest.Post,
 )
 
 abbrev figure-called : ℕ → figure-lts.Claims
@@ -246,44 +248,57 @@ cell-figure-returns-5 : (t : ℕ) → cell-figure-lts.Need-returns-5 (cell-figur
 cell-figure-returns-5 t c = cell-other (c .before .before .before .before .before .cell-tag .ensures)
     (c .before .before .before .before .if1 .left) (c .before .before .before .if2 .left) (c .before .if3 .left) (c .if4 .left)
 
-dearest-returns : (t : ℕ) → dearest-lts.Need-returns (dearest-called t) (dearest-at t) dearest.Post
-dearest-returns t c = dearest-none (c .if1 .taken)
+abbrev dearest-Inv-loop : dearest-lts.InvT-loop
+dearest-Inv-loop w cases most₀ h₀ most h = DearestTo w cases h most
 
-dearest-children-of-case-requires : (t : ℕ) → dearest-lts.Need-children-of-case-requires (dearest-called t) (dearest-at t) dearest.Post
+abbrev dearest-μ-loop : dearest-lts.MeasureT-loop
+dearest-μ-loop w cases most₀ h₀ most h = h
+
+dearest-loop-holds : (t : ℕ) → dearest-lts.Need-loop-holds (dearest-called t) (dearest-at t) dearest.Post dearest-Inv-loop
+    dearest-μ-loop
+dearest-loop-holds t c = dearest-start
+
+dearest-children-of-case-requires : (t : ℕ)
+    → dearest-lts.Need-children-of-case-requires (dearest-called t) (dearest-at t) dearest.Post dearest-Inv-loop
+    dearest-μ-loop
 dearest-children-of-case-requires t c κs = search needs
 
-dearest-figure-requires : (t : ℕ) → dearest-lts.Need-figure-requires (dearest-called t) (dearest-at t) dearest.Post
+dearest-figure-requires : (t : ℕ) → dearest-lts.Need-figure-requires (dearest-called t) (dearest-at t) dearest.Post dearest-Inv-loop
+    dearest-μ-loop
 dearest-figure-requires t c κs = (
   omega (
     arith,
-    c .before .before .pre .0,
-    named-below _ (c .children-of-case .ensures) (omega (arith, c .before .if1 .left)),
+    c .before .before .before .pre .0,
+    named-below _ (c .children-of-case .ensures) (c .before .loop-test .taken),
+    c .before .before .loop .inv .below,
   ),
   tt,
 )
 
-dearest-cell-before-requires : (t : ℕ) → dearest-lts.Need-cell-before-requires (dearest-called t) (dearest-at t) dearest.Post
+dearest-larger-requires : (t : ℕ) → dearest-lts.Need-larger-requires (dearest-called t) (dearest-at t) dearest.Post dearest-Inv-loop
+    dearest-μ-loop
+dearest-larger-requires t c κs = search needs
+
+dearest-cell-before-requires : (t : ℕ)
+    → dearest-lts.Need-cell-before-requires (dearest-called t) (dearest-at t) dearest.Post dearest-Inv-loop
+    dearest-μ-loop
 dearest-cell-before-requires t c κs = search needs
 
-dearest-dearest-requires : (t : ℕ) → dearest-lts.Need-dearest-requires (dearest-called t) (dearest-at t) dearest.Post
-dearest-dearest-requires t c κs = (
-  omega (
-    arith,
-    c .before .before .before .before .pre .0,
-    named-below _ (c .cell-before .ensures) (omega (arith, c .before .before .before .if1 .left)),
-  ),
-  tt,
-)
+dearest-loop-less : (t : ℕ) → dearest-lts.Need-loop-less (dearest-called t) (dearest-at t) dearest.Post dearest-Inv-loop
+    dearest-μ-loop
+dearest-loop-less t c = named-below _ (c .cell-before .ensures) (c .before .before .before .before .loop-test .taken)
 
-dearest-returns-2 : (t : ℕ) → dearest-lts.Need-returns-2 (dearest-called t) (dearest-at t) dearest.Post
-dearest-returns-2 t c = dearest-of (c .before .before .before .before .children-of-case .ensures)
-    (c .before .before .before .figure .ensures) (c .before .before .cell-before .ensures) (c .before .dearest .ensures)
-    (omega (arith, c .before .before .before .before .before .if1 .left)) (omega (arith, c .if2 .taken))
+dearest-loop-again : (t : ℕ) → dearest-lts.Need-loop-again (dearest-called t) (dearest-at t) dearest.Post dearest-Inv-loop
+    dearest-μ-loop
+dearest-loop-again t c =
+    let at-figure = c .before .before in
+    let at-loop-test = at-figure .before .before in
+    dearest-turn (at-loop-test .before .loop .inv) (at-loop-test .loop-test .taken) (at-figure .before .children-of-case .ensures)
+    (at-figure .figure .ensures) (c .before .larger .ensures) (c .cell-before .ensures)
 
-dearest-returns-3 : (t : ℕ) → dearest-lts.Need-returns-3 (dearest-called t) (dearest-at t) dearest.Post
-dearest-returns-3 t c = dearest-of (c .before .before .before .before .children-of-case .ensures)
-    (c .before .before .before .figure .ensures) (c .before .before .cell-before .ensures) (c .before .dearest .ensures)
-    (omega (arith, c .before .before .before .before .before .if1 .left)) (omega (arith, c .if2 .left))
+dearest-returns : (t : ℕ) → dearest-lts.Need-returns (dearest-called t) (dearest-at t) dearest.Post dearest-Inv-loop
+    dearest-μ-loop
+dearest-returns t c = dearest-all (c .before .loop .inv) (c .loop-test .left)
 
 abbrev figure-Inv-loop : figure-lts.InvT-loop
 figure-Inv-loop w list sum₀ h₀ sum h = SummedTo w list h sum
@@ -348,14 +363,15 @@ pub +cell-figure+dearest+figure-spec : {M : Type 1} → statement M
     (cell-figure-at-most-requires-3 t)
     (cell-figure-returns-4 t)
     (cell-figure-returns-5 t))
-    (λ t. dearest-lts.spec (dearest-called t) (dearest-at t) dearest.Post
-    (dearest-returns t)
+    (λ t. dearest-lts.spec (dearest-called t) (dearest-at t) dearest.Post dearest-Inv-loop dearest-μ-loop
+    (dearest-loop-holds t)
     (dearest-children-of-case-requires t)
     (dearest-figure-requires t)
+    (dearest-larger-requires t)
     (dearest-cell-before-requires t)
-    (dearest-dearest-requires t)
-    (dearest-returns-2 t)
-    (dearest-returns-3 t))
+    (dearest-loop-less t)
+    (dearest-loop-again t)
+    (dearest-returns t))
     λ t. figure-lts.spec (figure-called t) (figure-at t) figure.Post figure-Inv-loop figure-μ-loop
     (figure-loop-holds t)
     (figure-cell-figure-requires t)

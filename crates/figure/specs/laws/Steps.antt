@@ -17,11 +17,12 @@ use Rattle.state.specs.Sections.{section, cells}
 use Rattle.shown.specs.Cells.{ShowsCaseCells, no-cases, case-and}
 use Rattle.shown.specs.laws.CellSteps.{no-list}
 use Rattle.children.specs.CellByCell.{cell-word, list-at, list-before, CellAdded, added-blocks, added-list, added-exit}
-use Rattle.children.specs.laws.CellByCellLaws.{before-below}
+use Rattle.children.specs.laws.CellByCellLaws.{before-below, named-below}
 use Rattle.children.specs.CellByCell.{added-select, added-loop, ListAppended, appends, FirstCase, case-first}
 use Rattle.children.specs.laws.CellByCellLaws.{appended, first-case}
 use Rattle.figure.specs.laws.Nodes.{figure-join, figure-blocks}
-use Rattle.figure.specs.Figured.{capped, Figured, CellFigured, DearestFigured, BlocksFigured, ToCome, SummedTo}
+use Rattle.figure.specs.Figured.{capped, Figured, CellFigured, DearestFigured, BlocksFigured, ToCome, SummedTo, CasesToCome}
+use Rattle.figure.specs.Figured.{DearestTo}
 
 -- ---- Sums and turns over what is held at the largest number.
 pub capped-times : (m n c : ℕ) → capped (m * (capped n + c)) ≡ capped (m * (n + c))
@@ -37,26 +38,58 @@ pub turns-fit : {limit n test : ℕ} → limit < 65536 → n ≤ 4294967296 → 
 turns-fit {limit} {n} {test} a b c = mul-le-mul {n₂ = 65535} {m₂ = 4295032831} (omega arith) (omega arith)
 
 -- ---- The dearest of a list of cases.
-module _ {w : List ℕ} {h : ℕ} where
-  pub dearest-none : h ≡ 0 → DearestFigured w h 0
-  unfolding figure
-  dearest-none e = record { small = omega arith; shown = λ g s cs x. none g x }
-    where
-      none : (g : Graph) {cs : Cases} → ShowsCaseCells g (section w cells) h cs → 0 ≡ capped (dearest (g .test-cost) cs)
-      none g (no-cases z) = refl
-      none g (case-and x p q ns cs z) = absurd (omega arith)
+max-assoc : (a b c : ℕ) → max (max a b) c ≡ max a (max b c)
+max-assoc a b c = omega arith
 
-  pub dearest-of : {p q x y a : ℕ} → p ≡ list-at w h 3 → Figured w p x → q ≡ list-at w h 1 → DearestFigured w q y → 1 ≤ h → a ≡ max x y
-      → DearestFigured w h a
+capped-max : (a b : ℕ) → capped (max a b) ≡ max (capped a) (capped b)
+capped-max a b = omega arith
+
+module _ {w : List ℕ} {list : ℕ} where
+  pub dearest-start : DearestTo w list list 0
+  dearest-start =
+      record { small = omega arith; below = omega arith; shown = λ g s cs x. record { cases = cs; shown = x; dearer = omega arith } }
+
+  pub dearest-turn : {h n p q x most : ℕ} → DearestTo w list h n → 0 < h → p ≡ list-at w h 3 → Figured w p x → most ≡ max n x
+      → q ≡ list-at w h 1
+      → DearestTo w list q most
   unfolding figure
-  dearest-of {x = x} {y} {a} of-first f of-others d above is =
-      record { small = omega (arith, f .small, d .small); shown = λ g s cs z. both g s (first-case w z above) }
+  dearest-turn {h} {n} {p} {q} {x} {most} d above of-first f is of-others =
+      let b = d .below in
+      let l = named-below _ of-others above in
+      record {
+        small = omega (arith, d .small, f .small);
+        below = omega arith;
+        shown = λ g s cs y. go g s (d .shown g s cs y);
+      }
     where
-      both : (g : Graph) → Stands w g → {cs : Cases} → FirstCase g w h cs → a ≡ capped (dearest (g .test-cost) cs)
-      both g s (case-first ns cs q) =
-          let first = (rw of-first at f) .shown g s _ ns in
-          let others = (rw of-others at d) .shown g s _ cs in
-          rw q (omega arith)
+      by : (g : Graph) → Stands w g → {cs : Cases} {whole : ℕ} → FirstCase g w h cs
+          → max n (capped (dearest (g .test-cost) cs)) ≡ capped whole → CasesToCome g w q most whole
+      by g s {cs} (case-first {ns} {cs = rest} nodes others z) e =
+          let first = (rw of-first at f) .shown g s _ nodes in
+          let parts : dearest (g .test-cost) cs ≡ max (figure (g .test-cost) ns) (dearest (g .test-cost) rest) = ap
+          (dearest (g .test-cost)) z in
+          record {
+            cases = rest;
+            shown = rw of-others others;
+            dearer = rw (is, max-assoc n x _, first, ← capped-max (figure (g .test-cost) ns) (dearest (g .test-cost) rest), ← parts) e;
+          }
+
+      go : (g : Graph) → Stands w g → {whole : ℕ} → CasesToCome g w h n whole → CasesToCome g w q most whole
+      go g s y = by g s (first-case w (y .shown) above) (y .dearer)
+
+  pub dearest-all : {h most : ℕ} → DearestTo w list h most → h ≤ 0 → DearestFigured w list most
+  unfolding figure
+  dearest-all {h} {most} d none = record { small = d .small; shown = λ g s cs y. go g (d .shown g s cs y) }
+    where
+      empty : (g : Graph) {cs : Cases} → ShowsCaseCells g (section w cells) h cs → dearest (g .test-cost) cs ≡ 0
+      empty g (no-cases z) = refl
+      empty g (case-and x p q ns cs z) = absurd (omega arith)
+
+      go : (g : Graph) {whole : ℕ} → CasesToCome g w h most whole → most ≡ capped whole
+      go g y =
+          let zero-left = empty g (y .shown) in
+          let e = y .dearer in
+          omega arith
 
 -- ---- What a cell adds.
 module _ {w : List ℕ} {h tag : ℕ} (of-tag : tag ≡ cell-word w h 0) where

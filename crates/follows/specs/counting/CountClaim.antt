@@ -25,7 +25,8 @@ use Rattle.nesting.specs.steps.RegionsLeft.{state-of, with-state, not-begun-one
 use Rattle.follows.specs.simulation.Bundles.{found-in}
 use Rattle.follows.specs.counting.Totals.{edge-total, at, bundles-to, edges-to, edgeless}
 use Rattle.follows.specs.counting.SplitTotals.{split-total, not-found, no-bundles, exits-bundles, exits-edges, exits-edgeless}
-use Rattle.follows.specs.counting.Counting.{Counting, Nine, busy, live-count, live-one, owed-by, edges-waiting-by, edges-waiting, owed-set}
+use Rattle.follows.specs.counting.Counting.{Counting, Nine, busy, live-count, live-one, owed-by, edges-waiting-by, edges-waiting}
+use Rattle.follows.specs.counting.Counting.{owed-set}
 use Rattle.follows.specs.counting.Counting.{edges-waiting-set, edges-waiting-at, Good, Fine, CountInv, Pre, Counted, counted-then}
 use Rattle.follows.specs.counting.Counting.{counted-still, inv-set, busy-else, busy-here}
 

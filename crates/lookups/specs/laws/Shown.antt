@@ -179,7 +179,8 @@ module _ (l : List ℕ) (es : List RewriteEntry) (shown : ShowsRewrites (section
         value = f .value ∙ chain-same es enough long v (ends-later es most-regions enough v e (omega arith))
             (ends-later es most-regions long v e (omega arith))
             ∙ rewrite-enough es all v long (omega arith);
-        twice = f .twice ∙ meets-same es most-regions v e enough long (omega arith) (omega arith) ∙ meets-enough es all v long (omega arith);
+        twice = f .twice ∙ meets-same es most-regions v e enough long (omega arith) (omega arith)
+            ∙ meets-enough es all v long (omega arith);
       }
 
 -- ---- The step that looks up one value: `rewrite-values` of it alone.

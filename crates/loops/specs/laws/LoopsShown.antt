@@ -61,7 +61,8 @@ pub record InputsEntered (g : Graph) (r wrapper : ℕ) (l l′ : List ℕ) (h : 
 
 pub inputs-entered : (g : Graph) {r wrapper n h : ℕ} {l vs l′ : List ℕ} {vals : List Value} {s : NestState} → ShowsTables l s
     → NamedRewrites l → ((q : ℕ) → ChainsEnd (s .region-input-rewrites) q) → n ≡ length vals → n ≤ 4 → length vs ≡ 4
-    → ((j : ℕ) → j < n → value (getD vs j 0) ≡ getD vals j (undef 0)) → r < most-regions → wrapper < most-regions → word l head 4 + 4 ≤ most-cells
+    → ((j : ℕ) → j < n → value (getD vs j 0) ≡ getD vals j (undef 0)) → r < most-regions → wrapper < most-regions
+    → word l head 4 + 4 ≤ most-cells
     → 1 ≤ word l head 4 → EntersInputs r wrapper n l vs l′ h → InputsEntered g r wrapper l l′ h vals s
 inputs-entered g {r} {wrapper} {n} {h} {l} {vs} {l′} {vals} {s} t named all size few four is header wraps free one
     (enters {l₁} {l₂} {us} {ws} made taken e) =

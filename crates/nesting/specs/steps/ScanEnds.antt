@@ -14,7 +14,8 @@ use Rattle.nesting.specs.Nesting.{split-out-matching, resolve-deferred, 
 use Rattle.nesting.specs.steps.Post.{Post}
 use Rattle.nesting.specs.steps.Keeps.{structurize-select-by-keeps, by-control-inst-keeps}
 use Rattle.nesting.specs.steps.StatesKept.{states-kept-steady, states-kept-log}
-use Rattle.nesting.specs.steps.RegionsLeft.{state-of, with-state, unclaimed-one, unclaimed-count, unclaimed-most, count-set, FewerUnclaimed}
+use Rattle.nesting.specs.steps.RegionsLeft.{state-of, with-state, unclaimed-one, unclaimed-count, unclaimed-most, count-set}
+use Rattle.nesting.specs.steps.RegionsLeft.{FewerUnclaimed}
 use Rattle.nesting.specs.steps.RegionsLeft.{fewer-still, AnyRefusal, claimed-count, ClaimFewer}
 use Rattle.nesting.specs.steps.UnclaimedFalls.{target-regions-fewer, split-out-fewer}
 

@@ -19,16 +19,19 @@ use Rattle.nesting.specs.Nesting.{resolve-deferred, structurize-region, 
 use Rattle.nesting.specs.steps.Post.{Post, map-post, bind}
 use Rattle.nesting.specs.steps.Keeps.{structurize-select-by-keeps, claim-body-keeps, by-control-inst-keeps}
 use Rattle.nesting.specs.steps.StatesKept.{KeepsStates, states-kept-steady, states-kept-log}
-use Rattle.nesting.specs.steps.RegionsLeft.{state-of, with-state, not-begun-one, unclaimed-one, count-states, count-set, FewerUnclaimed}
+use Rattle.nesting.specs.steps.RegionsLeft.{state-of, with-state, not-begun-one, unclaimed-one, count-states, count-set}
+use Rattle.nesting.specs.steps.RegionsLeft.{FewerUnclaimed}
 use Rattle.nesting.specs.steps.RegionsLeft.{fewer-refl, fewer-then, fewer-less, fewer-still, AnyRefusal, claimed-count, ClaimFewer}
 use Rattle.meaning.specs.facts.Tests.{in-or-out}
 
 module _ (g : Graph) (claim : Claim) (claim-fewer : ClaimFewer claim) where
-  edge-case-fewer : (e : Edge) (o : Option ClaimedRegion) (s : NestState) → Post AnyRefusal (λ c s′. FewerUnclaimed 0 s s′) (edge-case e o s)
+  edge-case-fewer : (e : Edge) (o : Option ClaimedRegion) (s : NestState)
+      → Post AnyRefusal (λ c s′. FewerUnclaimed 0 s s′) (edge-case e o s)
   edge-case-fewer e none s = record { post = fewer-refl s }
   edge-case-fewer e (some c) s = record { post = fewer-refl s }
 
-  pub target-regions-fewer : (es : List Edge) (s : NestState) → Post AnyRefusal (λ cs s′. FewerUnclaimed 0 s s′) (target-regions g claim es s)
+  pub target-regions-fewer : (es : List Edge) (s : NestState)
+      → Post AnyRefusal (λ cs s′. FewerUnclaimed 0 s s′) (target-regions g claim es s)
   unfolding target-regions
   target-regions-fewer [] s = record { post = fewer-refl s }
   target-regions-fewer (e ∷ es) s =
@@ -48,7 +51,8 @@ module _ (g : Graph) (claim : Claim) (claim-fewer : ClaimFewer claim) where
 
       by : ((s₁ : NestState) → Post AnyRefusal (λ o s′. FewerUnclaimed (claimed-count o) s₁ s′) (more s₁))
           → (o : Option ClaimedRegion) (s₁ : NestState)
-          → FewerUnclaimed (claimed-count o) s s₁ → Post AnyRefusal (λ y s′. FewerUnclaimed (claimed-count y) s s′) (split-out-or e (before ++ es) more o s₁)
+          → FewerUnclaimed (claimed-count o) s s₁
+          → Post AnyRefusal (λ y s′. FewerUnclaimed (claimed-count y) s s′) (split-out-or e (before ++ es) more o s₁)
       by ih none s₁ a = map-post (more s₁) (ih s₁) λ y s′ h. fewer-then a h
       by ih (some c) s₁ a = record { post = a }
 
@@ -75,7 +79,8 @@ module _ (g : Graph) (claim : Claim) (claim-fewer : ClaimFewer claim) where
       (lazy (condition-in (x .deferred-edges) (y .bundle))) cs (convergent-cases cs) s) λ x′ s₁ q.
       map-post (go x′ s₁) (h x′ s₁) λ z s₂ f. fewer-then (fewer-still q) f
 
-  pub resolve-fewer : (fuel : ℕ) (x : Body) (s : NestState) → Post AnyRefusal (λ y s′. FewerUnclaimed 0 s s′) (resolve-deferred g claim fuel x s)
+  pub resolve-fewer : (fuel : ℕ) (x : Body) (s : NestState)
+      → Post AnyRefusal (λ y s′. FewerUnclaimed 0 s s′) (resolve-deferred g claim fuel x s)
   unfolding resolve-deferred
   resolve-fewer zero x s = record { post = fewer-refl s }
   resolve-fewer (suc fuel) x s =
@@ -172,7 +177,8 @@ module _ (g : Graph) (counts : List IncomingEdgeCount) where
           (let y : Step (Option ClaimedRegion) =
           elim x [ false ↦ give none | true ↦ set-state r claimed >> claim-body g r inputs children d (backedge-of r b d) ] in y s)
       go false = record { post = fewer-refl s }
-      go true = map-post _ (claim-body-keeps states-kept-steady AnyRefusal tt states-kept-log g r inputs children d (backedge-of r b d) _) after
+      go true = map-post _ (claim-body-keeps states-kept-steady AnyRefusal tt states-kept-log g r inputs children d
+          (backedge-of r b d) _) after
 
   pub claim-fewer : (fuel : ℕ) → ClaimFewer (try-claim-edge-bundle g counts fuel)
   unfolding try-claim-edge-bundle

@@ -45,7 +45,8 @@ module _ (x : ControlInst) where
       → select-text label ≡ select-line-text label (getD (values-of x) 0 (undef 0)) (edges-of x)
   unfolding select-line-text
   select-same k label e =
-      ap (λ v. ascii label ++ value-listing v ++ ascii " to " ++ numbers-text (map (λ e. e .target) (edges-of x)) ++ ascii "\n") (tested k e)
+      ap (λ v. ascii label ++ value-listing v ++ ascii " to " ++ numbers-text (map (λ e. e .target) (edges-of x)) ++ ascii "\n")
+      (tested k e)
 
   pub bool-text : terminator-is SelectBool x ≡ x → select-text "select bool " ≡ terminator-text x
   unfolding terminator-text

@@ -321,7 +321,8 @@ module _ {g : Graph} (valid : Valid g) {r : ℕ} (below : r < length (g .regions
       λ q. ap (λ l. getD l q 0) (p .same kinds (omega arith) (omega arith) (omega arith) (omega arith)) in
       let same-starts : (q : ℕ) → word (with-plan g w) set-starts q ≡ word w set-starts q =
       λ q. ap (λ l. getD l q 0) (p .same set-starts (omega arith) (omega arith) (omega arith) (omega arith)) in
-      let still = states-kept _ (select-if-keeps states-kept-steady (λ n u. n ≡ 9) refl (nesting.any-non-empty-case cs || any-needs-select ps)
+      let still = states-kept _ (select-if-keeps states-kept-steady (λ n u. n ≡ 9) refl
+      (nesting.any-non-empty-case cs || any-needs-select ps)
       kind y
       cs ps (state-after s cs)) e in
       let stays = states-of-step step (omega arith) (λ h. unready .parent (sym (same-kinds r) ∙ h)) in

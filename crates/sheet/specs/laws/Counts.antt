@@ -41,7 +41,8 @@ module _ (nodes : List ℕ) where
   region-held : (r : ℕ) (ts : List ℕ) (ks : Nodes) (vs : List Value)
       → Capped (region-words most nodes r ts ks vs) (region-words same-count nodes r ts ks vs)
   region-held r ts ks vs =
-      capped-then (capped-then (capped-same (0 ∷ r ∷ length ts ∷ ts)) (capped-count (sheet.kids ks))) (capped-same (sheet.values nodes vs .words))
+      capped-then (capped-then (capped-same (0 ∷ r ∷ length ts ∷ ts)) (capped-count (sheet.kids ks)))
+      (capped-same (sheet.values nodes vs .words))
 
   mutual
     unfolding node-words

@@ -1,10 +1,8 @@
 -- Laws on what Walk defines, as the proofs cite them.
 use mathlib.Core.Path.{_≡_, sym, _∙_}
 use mathlib.Core.List.{List, []}
-use Prim.Native.Nat.{ℕ, suc, _+_, _≤_, _<_}
+use Prim.Native.Nat.{ℕ, suc, _+_, _-_, _≤_, _<_}
 use native.Mathlib.Omega.{arith}
-use native.Mathlib.Numerals.{add-one}
-use borrow.Author.Tests.{lt-ltb}
 use Rattle.meaning.specs.Graph.{Graph, Value, SelectionKind, region, exit-invocation}
 use Rattle.meaning.specs.Runs.{Nodes, ⟨⟩, Cases, exit, loop, case-count}
 use Rattle.nesting.specs.Nesting.{plain, blocks-of, new-select, loop-node}
@@ -15,8 +13,8 @@ use Rattle.shown.specs.laws.CellSteps.{no-list}
 use Rattle.children.specs.CellByCell.{CellAdded, added-blocks, added-list, added-exit, added-select, added-loop}
 use Rattle.children.specs.CellByCell.{ListAppended, appends}
 use Rattle.children.specs.laws.CellByCellLaws.{appended}
-use Rattle.children.specs.CellByCell.{FirstCase, case-first, cell-word, list-at, list-before}
-use Rattle.children.specs.laws.CellByCellLaws.{first-case}
+use Rattle.children.specs.CellByCell.{FirstCase, case-first, cell-word, list-at, list-before, case-cell, CaseTotal}
+use Rattle.children.specs.laws.CellByCellLaws.{first-case, case-after, case-some}
 use Rattle.writing.specs.declared.place.Place.{Place}
 use Rattle.writing.specs.Puts.{Puts}
 use Rattle.writing.specs.laws.PutsLaws.{_⊕_, puts-then, puts-none, puts-as}
@@ -28,7 +26,7 @@ use Rattle.select_lines.specs.laws.OwnOutputsLaws.{values-shown}
 use Rattle.loop_lines.specs.LoopParts.{loop-part, loop-lines, loop-is}
 use Rattle.loop_lines.specs.OfLoop.{OfLoop}
 use Rattle.sheet.specs.Regions.{PutsNodes}
-use Rattle.sheet.specs.Walk.{next, PutsCell, PutsCases, Behind, PutsBehind}
+use Rattle.sheet.specs.Walk.{PutsCell, PutsCases, Behind, PutsBehind}
 
 -- ---- By the tag of a cell.
 module _ (w : List ℕ) (h : ℕ) {tag : ℕ} (of-tag : tag ≡ cell-word w h 0) where
@@ -99,27 +97,44 @@ module _ (w : List ℕ) (h : ℕ) {tag : ℕ} (of-tag : tag ≡ cell-word w h 0)
       go (added-loop y nodes t kept z) i = absurd (f i)
 
 -- ---- Cases: none, or the later ones, the first's nodes, and its line.
-pub no-cases-put : (w : List ℕ) (node j : ℕ) {list : ℕ} → list ≡ 0 → (out : List ℕ) (at : Place) → PutsCases w list node j out at out at
+no-cases-put : (w : List ℕ) (node j : ℕ) {list : ℕ} → list ≡ 0 → (out : List ℕ) (at : Place) → PutsCases w list node j out at out at
 no-cases-put w node j e out at g s c cs x few = go x e
   where
     go : {list : ℕ} {cs : Cases} → ShowsCaseCells g (section w cells) list cs → list ≡ 0 → Puts out at (cases-part s cs node j) out at
     go (no-cases z) e = puts-as (puts-none out at) (sym (no-cases-part s node j))
     go (case-and y p q ns cs z) e = absurd (omega arith)
 
-pub cases-put : (w : List ℕ) (list node j : ℕ) {before kids k : ℕ} {out out₁ out₂ out₃ : List ℕ} {at at₁ at₂ at₃ : Place} → 1 ≤ list
-    → before ≡ list-at w list 1 → k ≡ next j → PutsCases w before node k out at out₁ at₁ → kids ≡ list-at w list 3
+cases-put : (w : List ℕ) (list node j : ℕ) {before kids k : ℕ} {out out₁ out₂ out₃ : List ℕ} {at at₁ at₂ at₃ : Place} → 1 ≤ list
+    → before ≡ list-at w list 1 → k ≡ suc j → PutsCases w before node k out at out₁ at₁ → kids ≡ list-at w list 3
     → PutsNodes w kids out₁ at₁ out₂ at₂ → PutsCaseLine w list node j out₂ at₂ out₃ at₃ → PutsCases w list node j out at out₃ at₃
-cases-put w list node j {k = k} {out = out} {out₃ = out₃} {at = at} {at₃ = at₃} some b n later a nodes line g s c cs x few = go
+cases-put w list node j {out = out} {out₃ = out₃} {at = at} {at₃ = at₃} some b following later a nodes line g s c cs x few = go
     (first-case w x some) few
   where
     go : {cs : Cases} → FirstCase g w list cs → j + case-count cs ≤ 8 → Puts out at (cases-part s cs node j) out₃ at₃
     go (case-first {ns} {cs = rest} shown others z) m =
         let m′ = rw z at m in
-        let following : k ≡ suc j = n ∙ rw (lt-ltb j 65535 (omega arith)) (add-one j) in
         let first = later g s c rest (rw b others) (omega arith) in
         rw z (puts-as (puts-then (puts-then (rw following at first) (nodes g s c ns (rw a shown)))
         (line g s c ns shown (values-shown (c .state .tables) (omega arith))))
         (sym (new-case-part s (cell-word w list 2) ns rest node j)))
+
+-- The loop over the cases: those from place j on are put.
+module _ (w : List ℕ) (list node : ℕ) where
+  pub cases-start : {n : ℕ} → CaseTotal w list n → (out : List ℕ) (at : Place) → PutsCases w (case-cell w list n) node n out at out at
+  cases-start {n} total out at = no-cases-put w node n (total .end) out at
+
+  pub cases-turn : (j : ℕ) {n c kids : ℕ} {out out₁ out₂ out₃ : List ℕ} {at at₁ at₂ at₃ : Place} → CaseTotal w list n → 0 < j → j ≤ n
+      → PutsCases w (case-cell w list j) node j out at out₁ at₁ → c ≡ case-cell w list (j - 1) → kids ≡ list-at w c 3
+      → PutsNodes w kids out₁ at₁ out₂ at₂ → PutsCaseLine w c node (j - 1) out₂ at₂ out₃ at₃
+      → PutsCases w (case-cell w list (j - 1)) node (j - 1) out at out₃ at₃
+  cases-turn j {c = c} total some within later e a nodes line =
+      let z : j ≡ suc (j - 1) = omega arith in
+      rw (← e) (cases-put w c node (j - 1) (case-some w list j total some within e) (case-after w list (j - 1) z e) z later a nodes line)
+
+  pub cases-end : {j : ℕ} {out out′ : List ℕ} {at at′ : Place} → j ≤ 0 → PutsCases w (case-cell w list j) node j out at out′ at′
+      → PutsCases w list node 0 out at out′ at′
+  unfolding case-cell
+  cases-end {j} none p = let z : j ≡ 0 = omega arith in rw z at p
 
 module _ (w : List ℕ) (list : ℕ) where
   pub walk-start : (out : List ℕ) (at : Place) → PutsBehind w list list out at out at
@@ -148,6 +163,3 @@ module _ (w : List ℕ) (list : ℕ) where
       let zero : h ≡ 0 = omega arith in
       let empty : b .left ≡ ⟨⟩ = no-list (b .shown) zero in
       puts-as (b .puts) (sym (b .whole ∙ rw (empty, no-nodes-part s)))
-
-pub some-handle : {h : ℕ} → (h ≡ 0 → ⊥) → 1 ≤ h
-some-handle d = omega arith

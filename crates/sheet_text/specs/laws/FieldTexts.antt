@@ -56,7 +56,8 @@ module _ {ws : List ℕ} {c : SheetCursor} where
       puts-there (λ l. merge-shown depth (drop (c .at) ws) (first-dropped ws (c .at) 0 ∙ eqb-true _ _ is))
       (puts-then a (puts-then (b depth (omega (arith, a .ahead))) q))
 
-  pub plain-there : eqb (getD ws (c .at) 0) 4 ≡ false → (depth : ℕ) → length ws ≤ c .at + 0 + depth → {before after : List ℕ} {d : SheetCursor}
+  pub plain-there : eqb (getD ws (c .at) 0) 4 ≡ false → (depth : ℕ) → length ws ≤ c .at + 0 + depth
+      → {before after : List ℕ} {d : SheetCursor}
       → PutsText plain-text ws c before after d → PutsText (condition-text depth) ws c before after d
   unfolding shown next-word decode-condition
   plain-there is zero h a = puts-there (λ l. rw (drop-of-length-le ws {i = c .at} (omega arith)) refl) a

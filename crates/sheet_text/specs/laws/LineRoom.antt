@@ -22,7 +22,8 @@ use Rattle.sheet_text.specs.laws.LineTexts.{labeled, listed, region-show
 use Rattle.sheet_text.specs.laws.LineTexts.{defer-shown, no-words, line-shown, no-line, untouched-shown, whole-shown, closed-shown}
 use Rattle.sheet_text.specs.laws.LineTexts.{leftover-shown, no-outcome, first-shown}
 use Rattle.sheet_text.specs.laws.SheetTexts.{lines-within, no-more-lines, no-line-left, lines-more, sheet-shown}
-use Rattle.sheet_text.specs.laws.Room.{WordsOf32Bits, Fit, Fits, fits-as, fits-less, fits-say, fits-then, fits-word, fits-number, fits-skip}
+use Rattle.sheet_text.specs.laws.Room.{WordsOf32Bits, Fit, Fits, fits-as, fits-less, fits-say, fits-then, fits-word, fits-number}
+use Rattle.sheet_text.specs.laws.Room.{fits-skip}
 use Rattle.sheet_text.specs.laws.Room.{fits-list, fits-field}
 
 fits-any : {gain need : ℕ} (r : ℕ → TextReader) → ((depth : ℕ) → Fits gain need (r depth)) → Fits gain need (λ ws. r (length ws) ws)
@@ -83,7 +84,8 @@ fits-fields (suc (suc (suc (suc (suc (suc lead)))))) =
 pub fits-line : Fits 0 0 (shown line-text decode-line)
 fits-line = record { few = by-words }
   where
-    by-words : (ws : List ℕ) → WordsOf32Bits ws → (t : Text) (rest : List ℕ) → shown line-text decode-line ws ≡ decoded t rest → Fit 0 0 ws t rest
+    by-words : (ws : List ℕ) → WordsOf32Bits ws → (t : Text) (rest : List ℕ) → shown line-text decode-line ws ≡ decoded t rest
+        → Fit 0 0 ws t rest
     by-words [] s t rest e = absurd (missing (sym no-words ∙ e))
     by-words (lead ∷ ws) s t rest e =
         let x = fits-then (fits-fields lead) (fits-say (ascii "\n")) .few ws (λ k. s (suc k)) t rest (line-shown lead ws ∙ e) in
@@ -127,7 +129,8 @@ fits-first =
     fits-less (fits-as (fits-then fits-outcome (fits-then (fits-labeled " attempts " Number) fits-twice)) first-shown) 0 0 (omega arith)
 
 -- The lines behind the first words, or none.
-from-words : (most : ℕ) → ((w : ℕ) (ws : List ℕ) → WordsOf32Bits (w ∷ ws) → (t : Text) (rest : List ℕ) → lines-within most (w ∷ ws) ≡ decoded t rest
+from-words : (most : ℕ)
+    → ((w : ℕ) (ws : List ℕ) → WordsOf32Bits (w ∷ ws) → (t : Text) (rest : List ℕ) → lines-within most (w ∷ ws) ≡ decoded t rest
     → Fit 0 0 (w ∷ ws) t rest) → Fits 0 0 (lines-within most)
 from-words most some = record { few = by-words }
   where

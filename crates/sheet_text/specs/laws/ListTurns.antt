@@ -14,7 +14,8 @@ use Rattle.sheet_text.specs.laws.PutsSteps.{puts-then, puts-said, puts-n
 use Rattle.sheet_text.specs.laws.ListTexts.{others, list-uncounted, list-none, list-some}
 
 -- k of n fields stand behind the count at a place: the first, and behind it (`text₀`, `d₀`) the others so far.
-pub record Turned (kind : Field) (ws : List ℕ) (at n : ℕ) (text₀ : List ℕ) (d₀ : SheetCursor) (text : List ℕ) (d : SheetCursor) (k : ℕ) : Type 0 where
+pub record Turned (kind : Field) (ws : List ℕ) (at n : ℕ) (text₀ : List ℕ) (d₀ : SheetCursor) (text : List ℕ) (d : SheetCursor)
+    (k : ℕ) : Type 0 where
   pub size : length text ≡ length text₀
   pub count : k ≤ n
   pub ahead : at < d .at

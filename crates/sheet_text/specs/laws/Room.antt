@@ -132,7 +132,8 @@ none-bytes Condition = omega arith
 pub fits-list : (depth : ℕ) (kind : Field) → Fits 1 0 (field-within depth kind) → Fits 15 0 (list-within depth kind)
 fits-list depth kind f = record { few = by-words }
   where
-    by-words : (ws : List ℕ) → WordsOf32Bits ws → (t : Text) (rest : List ℕ) → list-within depth kind ws ≡ decoded t rest → Fit 15 0 ws t rest
+    by-words : (ws : List ℕ) → WordsOf32Bits ws → (t : Text) (rest : List ℕ) → list-within depth kind ws ≡ decoded t rest
+        → Fit 15 0 ws t rest
     by-words [] s t rest e = absurd (missing (sym (list-uncounted depth kind) ∙ e))
     by-words (zero ∷ ws) s t rest e =
         let x = fits-say (none-text kind) .few ws (λ k. s (suc k)) t rest (sym (list-none depth kind ws) ∙ e) in

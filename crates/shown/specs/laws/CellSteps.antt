@@ -182,7 +182,8 @@ module _ {k : Section} {i : ℕ} {w w′ : List ℕ} (changes : ChangesOnly k i 
   pub kept-list-by : {r h : ℕ} {x : LoopInputs} → ShowsKeptList g w r h x → ShowsKeptList g w′ r h x
   kept-list-by y = record { kept = rw (changes .others cells d (omega arith)) (y .kept); made = rw (changes .totals 4 e) (y .made) }
 
-module _ {w w′ : List ℕ} {x : Cell} {h : ℕ} (step : Adds w w′ x h) (free : word w head 4 < most-cells) (room : used ≤ length w) {g : Graph} where
+module _ {w w′ : List ℕ} {x : Cell} {h : ℕ} (step : Adds w w′ x h) (free : word w head 4 < most-cells) (room : used ≤ length w)
+    {g : Graph} where
   pub case-list-stays : {p : ℕ} {cs : Cases} → ShowsCaseList g w p cs → ShowsCaseList g w′ p cs
   case-list-stays y =
       let m = y .made in

@@ -27,7 +27,8 @@ loop-less : tie.Need-loop-less Inv-loop μ-loop
 loop-less c = search needs
 
 loop-again : tie.Need-loop-again Inv-loop μ-loop
-loop-again c = rw (c .clear-rewrites .ensures) (fill-turn rewrites (λ r. 5 * r) (λ r. 0) most-regions _ _ (c .before .before .loop-test .taken)
+loop-again c = rw (c .clear-rewrites .ensures) (fill-turn rewrites (λ r. 5 * r) (λ r. 0) most-regions _ _
+    (c .before .before .loop-test .taken)
     (c .before .before .before .loop .inv))
 
 returns : tie.Need-returns Inv-loop μ-loop

@@ -127,7 +127,8 @@ module _ (g : Graph) (w : List ℕ) (room : used ≤ length w) where
       ap (λ p. getD p (5 * r) 0) (behind-head rewrites (omega arith)
       ∙ fill-other set-starts (λ a. a) slot 33 0 l₂ rewrites (omega arith)
       ∙ fill-other kinds (λ r. r) (λ r. 0) 32 0 l₁ rewrites (omega arith))
-      ∙ fill-there rewrites (λ r. 5 * r) (λ r. 0) (λ a b c e. omega arith) most-regions 0 w (omega arith) r (omega arith) (omega arith) (omega arith)
+      ∙ fill-there rewrites (λ r. 5 * r) (λ r. 0) (λ a b c e. omega arith) most-regions 0 w (omega arith) r (omega arith) (omega arith)
+      (omega arith)
 
   no-kind : (r : ℕ) → r < 32 → word (started g w) kinds r ≡ 0
   no-kind r h =

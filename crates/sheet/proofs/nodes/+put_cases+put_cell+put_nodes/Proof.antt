@@ -4,10 +4,11 @@ use mathlib.Core.Path.{_≡_, refl}
 use lib.ListN.{length}
 use native.Mathlib.Omega.{arith}
 use borrow.Author.Needs.{needs}
-use Rattle.children.specs.laws.CellByCellLaws.{named-below, before-below}
-use Rattle.sheet.specs.Walk.{PutsBehind}
-use Rattle.sheet.specs.laws.WalkLaws.{some-handle, cell-blocks, cell-list, cell-exit, cell-select, cell-loop, cell-none}
-use Rattle.sheet.specs.laws.WalkLaws.{no-cases-put, cases-put, walk-start, walk-turn, walk-end}
+use Rattle.children.specs.CellByCell.{case-cell}
+use Rattle.children.specs.laws.CellByCellLaws.{named-below, before-below, case-some, case-within}
+use Rattle.sheet.specs.Walk.{PutsBehind, PutsCases}
+use Rattle.sheet.specs.laws.WalkLaws.{cell-blocks, cell-list, cell-exit, cell-select, cell-loop, cell-none}
+use Rattle.sheet.specs.laws.WalkLaws.{cases-start, cases-turn, cases-end, walk-start, walk-turn, walk-end}
 use Prim.Native.Nat.{ℕ, _+_, _*_, _<_, _≤_}
 use borrow.Fn.Kinds.{In}
 use borrow.Fn.PlainCycle.{Measures, is, falls, and}
@@ -22,11 +23,12 @@ use Rattle.sheet.proofs.nodes.put_nodes.Kinds as put-nodes-kinds
 use Rattle.sheet.proofs.nodes.+put_cases+put_cell+put_nodes.Lts-put_nodes as put-nodes-lts
 use Rattle.block_lines.proofs.blocks.put_blocks.Reads as put-blocks-reads
 use Rattle.block_lines.proofs.exits.put_exit.Reads as put-exit-reads
+use Rattle.children.proofs.case_cell.Reads as case-cell-reads
+use Rattle.children.proofs.case_total.Reads as case-total-reads
 use Rattle.children.proofs.list_before.Reads as list-before-reads
 use Rattle.loop_lines.proofs.lines.put_loop_lines.Reads as put-loop-lines-reads
 use Rattle.select_lines.proofs.put_case_line.Reads as put-case-line-reads
 use Rattle.select_lines.proofs.put_select_line.Reads as put-select-line-reads
-use Rattle.sheet.proofs.nodes.next.Reads as next-reads
 use Rattle.state.proofs.cells.children_of_case.Reads as children-of-case-reads
 use Rattle.state.proofs.cells.cell_a.Reads as cell-a-reads
 use Rattle.state.proofs.cells.cell_b.Reads as cell-b-reads
@@ -69,12 +71,10 @@ put-nodes-below t =
 
 abbrev put-cases-called : ℕ → put-cases-lts.Claims
 put-cases-called t = (
-  cell-before-reads.Asked,
-  cell-before-reads.Learnt,
-  next-reads.Asked,
-  next-reads.Learnt,
-  put-cases-below t,
-  put-cases.Post,
+  case-total-reads.Asked,
+  case-total-reads.Learnt,
+  case-cell-reads.Asked,
+  case-cell-reads.Learnt,
   children-of-case-reads.Asked,
   children-of-case-reads.Learnt,
   put-nodes-below t,
@@ -119,46 +119,76 @@ put-nodes-called t = (
   list-before-reads.Learnt,
 )
 
-put-cases-returns : (t : ℕ) → put-cases-lts.Need-returns (put-cases-called t) (put-cases-at t) put-cases.Post
-put-cases-returns t c =
-    no-cases-put _ _ _ (c .if1 .taken) _ _
+abbrev put-cases-Inv-loop : put-cases-lts.InvT-loop
+put-cases-Inv-loop w out₀ list node e₀ j₀ out e j =
+    PutsCases w (case-cell w list j) node j out₀ e₀ out e × (j ≤ j₀) × (length out ≡ length out₀)
 
-put-cases-cell-before-requires : (t : ℕ) → put-cases-lts.Need-cell-before-requires (put-cases-called t) (put-cases-at t) put-cases.Post
-put-cases-cell-before-requires t c κs = search needs
+abbrev put-cases-μ-loop : put-cases-lts.MeasureT-loop
+put-cases-μ-loop w out₀ list node e₀ j₀ out e j = j
 
-put-cases-next-requires : (t : ℕ) → put-cases-lts.Need-next-requires (put-cases-called t) (put-cases-at t) put-cases.Post
-put-cases-next-requires t c κs = search needs
+put-cases-case-total-requires : (t : ℕ) → put-cases-lts.Need-case-total-requires (put-cases-called t) (put-cases-at t) put-cases.Post
+    put-cases-Inv-loop put-cases-μ-loop
+put-cases-case-total-requires t c κs = search needs
 
-put-cases-put-cases-requires : (t : ℕ) → put-cases-lts.Need-put-cases-requires (put-cases-called t) (put-cases-at t) put-cases.Post
-put-cases-put-cases-requires t c κs =
-    let d = c .before .before .before .before .before in
-    (omega (arith, d .pre .0, named-below _ (c .before .cell-before .ensures) (some-handle (c .before .before .before .if1 .left))), tt)
+put-cases-loop-holds : (t : ℕ) → put-cases-lts.Need-loop-holds (put-cases-called t) (put-cases-at t) put-cases.Post
+    put-cases-Inv-loop put-cases-μ-loop
+put-cases-loop-holds t c = (cases-start _ _ _ (c .case-total .ensures) _ _, omega arith, refl)
 
-put-cases-children-of-case-requires : (t : ℕ) → put-cases-lts.Need-children-of-case-requires (put-cases-called t) (put-cases-at t) put-cases.Post
+put-cases-sub-j : (t : ℕ) → put-cases-lts.Need-sub-j (put-cases-called t) (put-cases-at t) put-cases.Post
+    put-cases-Inv-loop put-cases-μ-loop
+put-cases-sub-j t c = omega arith
+
+put-cases-case-cell-requires : (t : ℕ) → put-cases-lts.Need-case-cell-requires (put-cases-called t) (put-cases-at t) put-cases.Post
+    put-cases-Inv-loop put-cases-μ-loop
+put-cases-case-cell-requires t c κs = search needs
+
+put-cases-children-of-case-requires : (t : ℕ)
+    → put-cases-lts.Need-children-of-case-requires (put-cases-called t) (put-cases-at t) put-cases.Post
+    put-cases-Inv-loop put-cases-μ-loop
 put-cases-children-of-case-requires t c κs = search needs
 
 put-cases-put-nodes-requires : (t : ℕ) → put-cases-lts.Need-put-nodes-requires (put-cases-called t) (put-cases-at t) put-cases.Post
+    put-cases-Inv-loop put-cases-μ-loop
 put-cases-put-nodes-requires t c κs =
-    let d = c .before .before .before .before .before .before .before .before in
-    (omega (arith, d .before .before .pre .0, named-below _ (c .children-of-case .ensures) (some-handle (d .if1 .left))), tt)
+    let at-case-cell = c .before .before in
+    let at-loop-test = at-case-cell .before in
+    let at-loop = at-loop-test .before in
+    let at-case-total = at-loop .before in
+    let e = at-case-cell .case-cell .ensures in
+    let some = case-some _ _ _ (at-case-total .case-total .ensures) (at-loop-test .loop-test .taken) (at-loop .loop .inv .1) e in
+    (omega (arith, at-case-total .before .before .pre .0, named-below _ (c .children-of-case .ensures) some, case-within _ _ _ e), tt)
 
 put-cases-put-case-line-requires : (t : ℕ) → put-cases-lts.Need-put-case-line-requires (put-cases-called t) (put-cases-at t) put-cases.Post
+    put-cases-Inv-loop put-cases-μ-loop
 put-cases-put-case-line-requires t c κs = search needs
 
+put-cases-loop-less : (t : ℕ) → put-cases-lts.Need-loop-less (put-cases-called t) (put-cases-at t) put-cases.Post
+    put-cases-Inv-loop put-cases-μ-loop
+put-cases-loop-less t c = omega arith
+
+put-cases-loop-again : (t : ℕ) → put-cases-lts.Need-loop-again (put-cases-called t) (put-cases-at t) put-cases.Post
+    put-cases-Inv-loop put-cases-μ-loop
+put-cases-loop-again t c =
+    let at-put-nodes = c .before .before .before .before .before .before in
+    let at-children-of-case = at-put-nodes .before in
+    let at-case-cell = at-children-of-case .before .before in
+    let at-loop-test = at-case-cell .before in
+    let at-loop = at-loop-test .before in
+    let at-case-total = at-loop .before in (
+      cases-turn _ _ _ _ (at-case-total .case-total .ensures) (at-loop-test .loop-test .taken) (at-loop .loop .inv .1)
+          (at-loop .loop .inv .0) (at-case-cell .case-cell .ensures) (at-children-of-case .children-of-case .ensures)
+          (at-put-nodes .put-nodes .ensures) (c .before .before .put-case-line .ensures),
+      omega arith,
+      search needs,
+    )
+
 put-cases-same-length : (t : ℕ) → put-cases-lts.Need-same-length (put-cases-called t) (put-cases-at t) put-cases.Post
+    put-cases-Inv-loop put-cases-μ-loop
 put-cases-same-length t c = search needs
 
-put-cases-returns-2 : (t : ℕ) → put-cases-lts.Need-returns-2 (put-cases-called t) (put-cases-at t) put-cases.Post
-put-cases-returns-2 t c =
-    let d = c .before .before .before .before .before .before in
-    let at-put-cases = d .before .before .before .before .before in
-    let at-next = at-put-cases .before in
-    let at-cell-before = at-next .before in
-    let at-if = at-cell-before .before .before in
-    cases-put _ _ _ _ (some-handle (at-if .if1 .left))
-    (at-cell-before .cell-before .ensures)
-    (at-next .next .ensures) (at-put-cases .put-cases .ensures)
-    (d .before .children-of-case .ensures) (d .put-nodes .ensures) (c .before .before .put-case-line .ensures)
+put-cases-returns : (t : ℕ) → put-cases-lts.Need-returns (put-cases-called t) (put-cases-at t) put-cases.Post
+    put-cases-Inv-loop put-cases-μ-loop
+put-cases-returns t c = cases-end _ _ _ (c .loop-test .left) (c .before .loop .inv .0)
 
 put-cell-cell-tag-requires : (t : ℕ) → put-cell-lts.Need-cell-tag-requires (put-cell-called t) (put-cell-at t) put-cell.Post
 put-cell-cell-tag-requires t c κs = search needs
@@ -319,15 +349,19 @@ pub +put-cases+put-cell+put-nodes-spec : {M : Type 1} → statement M
     close μ-put-cases μ-put-cell μ-put-nodes (λ t. put-cases-lts.spec (put-cases-called t)
     (put-cases-at t)
     put-cases.Post
-    (put-cases-returns t)
-    (put-cases-cell-before-requires t)
-    (put-cases-next-requires t)
-    (put-cases-put-cases-requires t)
+    put-cases-Inv-loop
+    put-cases-μ-loop
+    (put-cases-case-total-requires t)
+    (put-cases-loop-holds t)
+    (put-cases-sub-j t)
+    (put-cases-case-cell-requires t)
     (put-cases-children-of-case-requires t)
     (put-cases-put-nodes-requires t)
     (put-cases-put-case-line-requires t)
+    (put-cases-loop-less t)
+    (put-cases-loop-again t)
     (put-cases-same-length t)
-    (put-cases-returns-2 t))
+    (put-cases-returns t))
     (λ t. put-cell-lts.spec (put-cell-called t)
     (put-cell-at t)
     put-cell.Post
