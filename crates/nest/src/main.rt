@@ -1,8 +1,9 @@
 // Reads a store from standard input and prints its sheet, or its refusal. It lends 16,384 words.
+use libc::STDERR_FILENO;
+use libc::STDOUT_FILENO;
 use store::WORDS;
-use streams::print;
 use streams::read_input;
-use streams::tell;
+use streams::text_size;
 
 // One byte more than a store may have is enough to be refused. Sixteen bytes for each lent word are room for every sheet.
 fn main() {
@@ -12,10 +13,13 @@ fn main() {
     let mut text = [0u8; 262144];
     let input = read_input(&mut bytes);
     if input.failed {
-        tell(b"nest: standard input cannot be read\n");
+        io::write_all(STDERR_FILENO, b"nest: standard input cannot be read\n");
         return;
     }
     let n = input.size;
     let written = nest_text::print(&bytes[..n], &mut words, &mut out, &mut text);
-    print(written, &text, b"nest: standard output cannot be written\n");
+    let size = text_size(written, &text);
+    if !io::write_all(STDOUT_FILENO, &text[..size]) {
+        io::write_all(STDERR_FILENO, b"nest: standard output cannot be written\n");
+    }
 }

@@ -1,8 +1,9 @@
 // Reads a store from standard input and prints its refusal, or its record as text.
+use libc::STDERR_FILENO;
+use libc::STDOUT_FILENO;
 use store::WORDS;
-use streams::print;
 use streams::read_input;
-use streams::tell;
+use streams::text_size;
 
 // One byte more than a store may have is enough to be refused.
 fn main() {
@@ -11,10 +12,13 @@ fn main() {
     let mut out = io::large_buffer();
     let input = read_input(&mut bytes);
     if input.failed {
-        tell(b"show: standard input cannot be read\n");
+        io::write_all(STDERR_FILENO, b"show: standard input cannot be read\n");
         return;
     }
     let n = input.size;
     let written = show_text::show(&bytes[..n], &mut words, &mut out);
-    print(written, &out, b"show: standard output cannot be written\n");
+    let size = text_size(written, &out);
+    if !io::write_all(STDOUT_FILENO, &out[..size]) {
+        io::write_all(STDERR_FILENO, b"show: standard output cannot be written\n");
+    }
 }

@@ -1,10 +1,10 @@
-// Standard input to its end, and a text on standard output: for the programs alone. A program says on standard error what failed.
+// Standard input to its end, and the text that is put out: for the programs alone, which say on standard error what failed.
 ghost use mathlib.Core.Path.{_≡_};
+ghost use lib.ListN.{length};
 ghost use Rattle.text.specs.declared.Written.the-variants.{Full};
 ghost use Rattle.io.specs.Counts.{Counts};
-use libc::STDERR_FILENO;
+ghost use Rattle.streams.specs.Sizes.{size-within};
 use libc::STDIN_FILENO;
-use libc::STDOUT_FILENO;
 use text::Written;
 
 // How many bytes were read, and whether a read failed.
@@ -41,24 +41,20 @@ pub fn read_input(buffer: &mut [u8]) -> Input
     }
 }
 
-// A line on standard error. Where that fails too, nobody can be told.
-pub fn tell(line: &[u8]) {
-    io::write_all(STDERR_FILENO, line);
-}
-
-// A text that was written whole; `failure` is what is told if it cannot be put out.
+// How many bytes of a buffer are the text that was written into it.
 // `Full` never comes: the programs' buffers have room for whatever is printed of a store.
-pub fn print(written: Written, out: &[u8], failure: &[u8])
+pub fn text_size(written: Written, out: &[u8]) -> usize
     requires { ⌜ (written ≡ Full → ⊥) ⌝ }
+    ensures { λ r. ⌜ Counts r (now (out .entry)) ⌝ }
+    ensures { λ r. ⌜ r ≡ size-within written (length (now (out .entry))) ⌝ }
 {
     match written {
         Written::Bytes(n) => {
             if n <= out.len() {
-                if !io::write_all(STDOUT_FILENO, &out[0..n]) {
-                    tell(failure);
-                }
+                return n;
             }
+            0
         }
-        Written::Full => {}
+        Written::Full => 0,
     }
 }

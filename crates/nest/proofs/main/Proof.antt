@@ -9,11 +9,11 @@ slice-aggregate-read-input c = search needs
 read-input-requires : tie.Need-read-input-requires
 read-input-requires c κs = search needs
 
-slice-aggregate-tell : tie.Need-slice-aggregate-tell
-slice-aggregate-tell c = search needs
+slice-aggregate-write-all : tie.Need-slice-aggregate-write-all
+slice-aggregate-write-all c = search needs
 
-tell-requires : tie.Need-tell-requires
-tell-requires c κs = search needs
+write-all-requires : tie.Need-write-all-requires
+write-all-requires c κs = search needs
 
 returns : tie.Need-returns
 returns c = search needs
@@ -33,17 +33,32 @@ slice-aggregate-print-3 c = search needs
 print-requires : tie.Need-print-requires
 print-requires c κs = search needs
 
-slice-aggregate-print-4 : tie.Need-slice-aggregate-print-4
-slice-aggregate-print-4 c = search needs
+slice-aggregate-text-size : tie.Need-slice-aggregate-text-size
+slice-aggregate-text-size c = search needs
 
-slice-aggregate-print-5 : tie.Need-slice-aggregate-print-5
-slice-aggregate-print-5 c = search needs
+text-size-requires : tie.Need-text-size-requires
+text-size-requires c κs = c .before .before .before .print .ensures .fits (omega arith) (omega arith)
 
-print-requires-2 : tie.Need-print-requires-2
-print-requires-2 c κs = c .before .before .before .before .print .ensures .fits (omega arith) (omega arith)
+array-share-prefix-text : tie.Need-array-share-prefix-text
+array-share-prefix-text c = search needs
+
+slice-aggregate-write-all-2 : tie.Need-slice-aggregate-write-all-2
+slice-aggregate-write-all-2 c = search needs
+
+write-all-requires-2 : tie.Need-write-all-requires-2
+write-all-requires-2 c κs = search needs
+
+slice-aggregate-write-all-3 : tie.Need-slice-aggregate-write-all-3
+slice-aggregate-write-all-3 c = search needs
+
+write-all-requires-3 : tie.Need-write-all-requires-3
+write-all-requires-3 c κs = search needs
 
 returns-2 : tie.Need-returns-2
 returns-2 c = search needs
+
+returns-3 : tie.Need-returns-3
+returns-3 c = search needs
 
 pub main-spec : {M : Type 1} → statement M
 main-spec =
@@ -51,15 +66,20 @@ main-spec =
     (tie.spec
     slice-aggregate-read-input
     read-input-requires
-    slice-aggregate-tell
-    tell-requires
+    slice-aggregate-write-all
+    write-all-requires
     returns
     array-share-prefix-bytes
     slice-aggregate-print
     slice-aggregate-print-2
     slice-aggregate-print-3
     print-requires
-    slice-aggregate-print-4
-    slice-aggregate-print-5
-    print-requires-2
-    returns-2)
+    slice-aggregate-text-size
+    text-size-requires
+    array-share-prefix-text
+    slice-aggregate-write-all-2
+    write-all-requires-2
+    slice-aggregate-write-all-3
+    write-all-requires-3
+    returns-2
+    returns-3)

@@ -15,15 +15,15 @@ use Rattle.sheet.specs.Whole.{piece-words, defer-words, nested-lines, he
 use Rattle.sheet.specs.laws.SheetLines.{same-count, sheet-lines}
 
 -- a is as long as b, and is b where b has no more words than a word can say.
-record Capped (a b : List ℕ) : Type 0 where
+record SameIfShort (a b : List ℕ) : Type 0 where
   pub long : length a ≡ length b
   pub same : length b ≤ 4294967295 → a ≡ b
 
-capped-same : (a : List ℕ) → Capped a a
-capped-same a = record { long = refl; same = λ h. refl }
+short-same : (a : List ℕ) → SameIfShort a a
+short-same a = record { long = refl; same = λ h. refl }
 
-capped-then : {a b c d : List ℕ} → Capped a b → Capped c d → Capped (a ++ c) (b ++ d)
-capped-then {a} {b} {c} {d} p q =
+short-then : {a b c d : List ℕ} → SameIfShort a b → SameIfShort c d → SameIfShort (a ++ c) (b ++ d)
+short-then {a} {b} {c} {d} p q =
     let n = length-append a c in
     let m = length-append b d in
     let i = p .long in
@@ -34,51 +34,51 @@ capped-then {a} {b} {c} {d} p q =
     }
 
 -- The count in front of as many words.
-capped-count : (xs : List ℕ) → Capped (most (length xs) ∷ xs) (length xs ∷ xs)
-capped-count xs = record { long = refl; same = λ h. rw (le-leb (length xs) 4294967295 (omega arith)) }
+short-count : (xs : List ℕ) → SameIfShort (most (length xs) ∷ xs) (length xs ∷ xs)
+short-count xs = record { long = refl; same = λ h. rw (le-leb (length xs) 4294967295 (omega arith)) }
 
 module _ (nodes : List ℕ) where
   region-held : (r : ℕ) (ts : List ℕ) (ks : Nodes) (vs : List Value)
-      → Capped (region-words most nodes r ts ks vs) (region-words same-count nodes r ts ks vs)
+      → SameIfShort (region-words most nodes r ts ks vs) (region-words same-count nodes r ts ks vs)
   region-held r ts ks vs =
-      capped-then (capped-then (capped-same (0 ∷ r ∷ length ts ∷ ts)) (capped-count (sheet.kids ks)))
-      (capped-same (sheet.values nodes vs .words))
+      short-then (short-then (short-same (0 ∷ r ∷ length ts ∷ ts)) (short-count (sheet.kids ks)))
+      (short-same (sheet.values nodes vs .words))
 
   mutual
     unfolding node-words
 
-    node-held : (k : Node) → Capped (node-words most nodes k) (node-words same-count nodes k)
-    node-held (block n r k is) = capped-same (1 ∷ n ∷ sheet.list (sheet.items nodes r k is) .words)
-    node-held (select x cs) = capped-then (capped-same (select-words most nodes x cs)) (cases-held cs)
+    node-held : (k : Node) → SameIfShort (node-words most nodes k) (node-words same-count nodes k)
+    node-held (block n r k is) = short-same (1 ∷ n ∷ sheet.list (sheet.items nodes r k is) .words)
+    node-held (select x cs) = short-then (short-same (select-words most nodes x cs)) (cases-held cs)
     node-held (loop x ks) =
-        capped-then (capped-then (capped-same (loop-words most nodes x)) (region-held (x .body) (x .types) ks (x .outputs))) (nodes-held ks)
-    node-held (exit n op vs) = capped-same (4 ∷ n ∷ op ∷ sheet.values nodes vs .words)
+        short-then (short-then (short-same (loop-words most nodes x)) (region-held (x .body) (x .types) ks (x .outputs))) (nodes-held ks)
+    node-held (exit n op vs) = short-same (4 ∷ n ∷ op ∷ sheet.values nodes vs .words)
 
-    nodes-held : (ks : Nodes) → Capped (nodes-words most nodes ks) (nodes-words same-count nodes ks)
-    nodes-held ⟨⟩ = capped-same []
-    nodes-held (k ▸ ks) = capped-then (node-held k) (nodes-held ks)
+    nodes-held : (ks : Nodes) → SameIfShort (nodes-words most nodes ks) (nodes-words same-count nodes ks)
+    nodes-held ⟨⟩ = short-same []
+    nodes-held (k ▸ ks) = short-then (node-held k) (nodes-held ks)
 
-    cases-held : (cs : Cases) → Capped (cases-words most nodes cs) (cases-words same-count nodes cs)
-    cases-held ∅ = capped-same []
-    cases-held (case c ks cs) = capped-then (capped-then (region-held (c .region) [] ks (c .outputs)) (nodes-held ks)) (cases-held cs)
+    cases-held : (cs : Cases) → SameIfShort (cases-words most nodes cs) (cases-words same-count nodes cs)
+    cases-held ∅ = short-same []
+    cases-held (case c ks cs) = short-then (short-then (region-held (c .region) [] ks (c .outputs)) (nodes-held ks)) (cases-held cs)
 
-  pieces-held : (ps : List Piece) → Capped (concat (map (piece-words most nodes) ps)) (concat (map (piece-words same-count nodes) ps))
-  pieces-held [] = capped-same []
+  pieces-held : (ps : List Piece) → SameIfShort (concat (map (piece-words most nodes) ps)) (concat (map (piece-words same-count nodes) ps))
+  pieces-held [] = short-same []
   pieces-held (p ∷ ps) =
-      capped-then (capped-then (region-held (p .region) (p .inputs) (p .children) (p .outputs)) (nodes-held (p .children))) (pieces-held ps)
+      short-then (short-then (region-held (p .region) (p .inputs) (p .children) (p .outputs)) (nodes-held (p .children))) (pieces-held ps)
 
-lines-held : (x : Nested) → Capped (nested-lines most x) (nested-lines same-count x)
+lines-held : (x : Nested) → SameIfShort (nested-lines most x) (nested-lines same-count x)
 unfolding nested-lines
 lines-held x =
-    capped-then (pieces-held (x .output-nodes) (x .entry ∷ x .unclaimed))
-    (capped-same (concat (map (λ (p : Piece). concat (map (defer-words (x .output-nodes) (p .region)) (p .deferred)))
+    short-then (pieces-held (x .output-nodes) (x .entry ∷ x .unclaimed))
+    (short-same (concat (map (λ (p : Piece). concat (map (defer-words (x .output-nodes) (p .region)) (p .deferred)))
     (sheet.ascending (x .entry) (x .unclaimed)))))
 
-sheet-held : (g : Graph) (x : Nested) → Capped (nested-words most g x) (nested-words same-count g x)
+sheet-held : (g : Graph) (x : Nested) → SameIfShort (nested-words most g x) (nested-words same-count g x)
 unfolding nested-words
-sheet-held g x = capped-then (capped-same (head-words (sheet.sheet-of g x))) (by (x .outcome))
+sheet-held g x = short-then (short-same (head-words (sheet.sheet-of g x))) (by (x .outcome))
   where
-    by : (o : Outcome) → Capped (elim o as (λ o. List ℕ) [
+    by : (o : Outcome) → SameIfShort (elim o as (λ o. List ℕ) [
       | untouched ↦ []
       | whole ↦ nested-lines most x
       | closed ↦ nested-lines most x
@@ -89,7 +89,7 @@ sheet-held g x = capped-then (capped-same (head-words (sheet.sheet-of g x))) (by
       | closed ↦ nested-lines same-count x
       | leftover ↦ nested-lines same-count x
     ])
-    by untouched = capped-same []
+    by untouched = short-same []
     by whole = lines-held x
     by closed = lines-held x
     by leftover = lines-held x

@@ -1,6 +1,6 @@
 use native.Mathlib.Omega.{arith}
-use borrow.Author.Needs.{needs}
 use Rattle.show_text.specs.laws.Showing.{never-full}
+use borrow.Author.Needs.{needs}
 use Rattle.show.proofs.main.Statement.{statement}
 use Rattle.show.proofs.main.Tie as tie
 
@@ -13,11 +13,11 @@ slice-aggregate-read-input c = search needs
 read-input-requires : tie.Need-read-input-requires
 read-input-requires c κs = search needs
 
-slice-aggregate-tell : tie.Need-slice-aggregate-tell
-slice-aggregate-tell c = search needs
+slice-aggregate-write-all : tie.Need-slice-aggregate-write-all
+slice-aggregate-write-all c = search needs
 
-tell-requires : tie.Need-tell-requires
-tell-requires c κs = search needs
+write-all-requires : tie.Need-write-all-requires
+write-all-requires c κs = search needs
 
 returns : tie.Need-returns
 returns c = search needs
@@ -34,18 +34,32 @@ slice-aggregate-show-2 c = search needs
 show-requires : tie.Need-show-requires
 show-requires c κs = search needs
 
-slice-aggregate-print : tie.Need-slice-aggregate-print
-slice-aggregate-print c = search needs
+slice-aggregate-text-size : tie.Need-slice-aggregate-text-size
+slice-aggregate-text-size c = search needs
 
-slice-aggregate-print-2 : tie.Need-slice-aggregate-print-2
-slice-aggregate-print-2 c = search needs
+text-size-requires : tie.Need-text-size-requires
+text-size-requires c κs = never-full (c .before .before .show .ensures) (omega arith)
 
-print-requires : tie.Need-print-requires
-print-requires c κs =
-    never-full (c .before .before .before .show .ensures) (omega arith)
+array-share-prefix-out : tie.Need-array-share-prefix-out
+array-share-prefix-out c = search needs
+
+slice-aggregate-write-all-2 : tie.Need-slice-aggregate-write-all-2
+slice-aggregate-write-all-2 c = search needs
+
+write-all-requires-2 : tie.Need-write-all-requires-2
+write-all-requires-2 c κs = search needs
+
+slice-aggregate-write-all-3 : tie.Need-slice-aggregate-write-all-3
+slice-aggregate-write-all-3 c = search needs
+
+write-all-requires-3 : tie.Need-write-all-requires-3
+write-all-requires-3 c κs = search needs
 
 returns-2 : tie.Need-returns-2
 returns-2 c = search needs
+
+returns-3 : tie.Need-returns-3
+returns-3 c = search needs
 
 pub main-spec : {M : Type 1} → statement M
 main-spec =
@@ -54,14 +68,19 @@ main-spec =
     large-buffer-requires
     slice-aggregate-read-input
     read-input-requires
-    slice-aggregate-tell
-    tell-requires
+    slice-aggregate-write-all
+    write-all-requires
     returns
     array-share-prefix-bytes
     slice-aggregate-show
     slice-aggregate-show-2
     show-requires
-    slice-aggregate-print
-    slice-aggregate-print-2
-    print-requires
-    returns-2)
+    slice-aggregate-text-size
+    text-size-requires
+    array-share-prefix-out
+    slice-aggregate-write-all-2
+    write-all-requires-2
+    slice-aggregate-write-all-3
+    write-all-requires-3
+    returns-2
+    returns-3)
