@@ -35,7 +35,7 @@ extern "C" {
 #define RUKVETTA_MOST_BYTES 8192
 
 /* The lent words: the record stands in front, at most so many of them; behind them its index; then nesting's own. */
-#define RUKVETTA_WORDS 28672
+#define RUKVETTA_WORDS 26942
 #define RUKVETTA_RECORD_WORDS 4048
 #define RUKVETTA_NESTING_FROM 4400
 

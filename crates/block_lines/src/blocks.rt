@@ -1,10 +1,10 @@
 // Blocks: lead, node, items.
 ghost use mathlib.Core.Path.{_≡_};
 ghost use Prim.Native.Nat.{_*_, _≤_, _<_};
-ghost use lib.ListN.{length, getD, take};
+ghost use lib.ListN.{length, getD};
 ghost use Rattle.meaning.specs.Graph.{region, no-value};
 ghost use Rattle.meaning.specs.Runs.{block};
-ghost use Rattle.nesting.specs.Nesting.{block-count, blocks-of};
+ghost use Rattle.nesting.specs.Nesting.{blocks-of};
 ghost use Rattle.record.specs.Stands.{OfRecord};
 ghost use Rattle.fields.specs.ByNumber.{block-of, instr-of};
 ghost use Rattle.writing.specs.Parts as parts;

@@ -13,13 +13,16 @@ use Rattle.state.specs.Sections.{word, stored, stored-all, head, children, bodi
 use Rattle.state.specs.Tables.{bundle-at, own-edge, input-word, taken-word, case-words, bundle-copied, shift-removed}
 use Rattle.state.specs.Tables.{swapped, inserted, Joins}
 use Rattle.state.specs.Values as state
+use Rattle.state.specs.Sections.{cases-at, returned-at, types-at}
+use Rattle.state.specs.Values.{input-from, names-nothing}
+use Rattle.state.specs.Tables.{return-word}
 
 -- ---- Targets.
 unfoldable pub input-count : Graph → List ℕ → ℕ → ℕ
-input-count g l t = pick (eqb t 65535) (word l head 8) (length (region g t .inputs))
+input-count g l t = pick (eqb t return-word) (word l head returned-at) (length (region g t .inputs))
 
 unfoldable pub target-type : Graph → List ℕ → ℕ → ℕ → ℕ
-target-type g l t k = pick (eqb t 65535) (word l head (9 + k)) (getD (region g t .inputs) k 0)
+target-type g l t k = pick (eqb t return-word) (word l head (types-at + k)) (getD (region g t .inputs) k 0)
 
 unfoldable pub condition-in : List ℕ → ℕ → ℕ → ℕ
 condition-in l p n = pick (eqb n 1) 1 (word l bundles (7 * p + 2))
@@ -27,13 +30,13 @@ condition-in l p n = pick (eqb n 1) 1 (word l bundles (7 * p + 2))
 -- ---- Values of the record as words; a record has no outputs and no marked inputs.
 abbrev pub record-word : Value → ℕ
 record-word (const i) = state.const-word i
-record-word (input r k) = state.region-word 1024 r k
+record-word (input r k) = state.region-word input-from r k
 record-word (instr r k) = state.instr-word r k
-record-word (output o) = 4096
+record-word (output o) = names-nothing
 record-word (bool b) = state.bool-word b
 record-word (undef ty) = state.undef-word ty
-record-word (held r k) = 4096
-record-word no-value = 4096
+record-word (held r k) = names-nothing
+record-word no-value = names-nothing
 
 -- Value k of n; beyond them undefined, of type 0.
 unfoldable pub padded-by : ℕ → List Value → ℕ → ℕ
@@ -59,7 +62,7 @@ edge-deferred g l p r j = stored-all l bundles (7 * p) (edge-of g r j .target �
 unfoldable pub return-deferred : Graph → List ℕ → ℕ → List ℕ
 return-deferred g l r =
     let p = bundle-at (word l set-starts r) 0 in
-    stored (stored-all l bundles (7 * p) (65535 ∷ 0 ∷ 1 ∷ padded (end-values g r))) set-lengths r 1
+    stored (stored-all l bundles (7 * p) (return-word ∷ 0 ∷ 1 ∷ padded (end-values g r))) set-lengths r 1
 
 -- ---- Cases.
 abbrev pub unclaimed-case : ℕ → ℕ → ℕ → Case
@@ -92,7 +95,7 @@ filled-from g l r (suc n) j = filled-from g (case-filled g l r j) r n (suc j)
 abbrev pub cases-filled : Graph → List ℕ → ℕ → List ℕ
 cases-filled g l r =
     let n = length (edges-of (region g r .terminator)) in
-    filled-from g (stored l head 7 n) r n 0
+    filled-from g (stored l head cases-at n) r n 0
 
 unfoldable pub given-word : List ℕ → ℕ → ℕ → ℕ → ℕ
 given-word l p n k = pick (ltb k n) (input-word l p k) 66
@@ -108,7 +111,7 @@ split-filled g l r i =
     let p = bundle-at start i in
     let rest = shift-removed l r i in
     let first = case-words (claimed-case l (word l bundles (7 * p + 0))) ++ given-inputs g l p in
-    stored-all (stored-all (stored rest head 7 2) cases (10 * 0) first) cases (10 * 1)
+    stored-all (stored-all (stored rest head cases-at 2) cases (10 * 0) first) cases (10 * 1)
     (case-words (unclaimed-case 3 start (word rest set-lengths r)))
 
 abbrev pub case-inputs : List ℕ → ℕ → List ℕ

@@ -23,6 +23,7 @@ use Rattle.selects.specs.Into.{StructurizesInto}
 use Rattle.cfg.specs.ByState.{backedge-at}
 use Rattle.shown.specs.laws.CellSteps.{blocks-cell, exit-cell}
 use Rattle.nesting.specs.Nesting.{most-nodes}
+use Rattle.state.specs.Tables.{nowhere}
 
 pub data AddsBlocks (g : Graph) (w : List ℕ) (r : ℕ) (w′ : List ℕ) : Type 0 where
   no-blocks : length (region g r .blocks) ≡ 0 → w′ ≡ stored w children r 0 → AddsBlocks g w r w′
@@ -71,7 +72,7 @@ pub data ResolvesBy (g : Graph) (w : List ℕ) (r i : ℕ) (w′ : List ℕ) (a 
   resolves : StructurizesInto g r 0 (scrutinee.Lazy (own-condition w r i)) (split-filled g w r i) w′ a → ResolvesBy g w r i w′ a
 
 unfoldable pub backedges-deferred : List ℕ → ℕ → ℕ
-backedges-deferred w r = pick (eqb (backedge-at w r) 65535) 0 (word w bundles (7 * backedge-at w r + 1))
+backedges-deferred w r = pick (eqb (backedge-at w r) nowhere) 0 (word w bundles (7 * backedge-at w r + 1))
 
 abbrev pub made-ready : List ℕ → ℕ → List ℕ
 made-ready w r = stored (stored w backedges r (backedges-deferred w r)) kinds r 2

@@ -17,6 +17,7 @@ use Rattle.cfg.specs.declared.claims.SplitOut.{SplitOut}
 use Rattle.cfg.specs.declared.claims.SplitOut.the-variants as split
 use Rattle.cfg.specs.ByState.{ClaimsByState, unclaimed-word}
 use Rattle.cfg.specs.ByInst.{ByControlInst, ResolvesBy, own-bundle, made-ready}
+use Rattle.state.specs.Tables.{return-word}
 
 -- A record stands in the words.
 pub record Stood (w : List ℕ) : Type 0 where
@@ -79,14 +80,14 @@ mutual
   -- The scan of region r's set, of n bundles, from place i on.
   pub data Scans (g : Graph) (counts : List ℕ) : List ℕ → ℕ → ℕ → ℕ → List ℕ → SplitOut → Type 0 where
     no-bundle-left : {w w′ : List ℕ} {r n i : ℕ} → n ≤ i → w′ ≡ w → Scans g counts w r n i w′ split.Nothing
-    passes-return : {w w′ : List ℕ} {r n i : ℕ} {a : SplitOut} → i < n → own-target w r i ≡ 65535 → Scans g counts w r n (suc i) w′ a
+    passes-return : {w w′ : List ℕ} {r n i : ℕ} {a : SplitOut} → i < n → own-target w r i ≡ return-word → Scans g counts w r n (suc i) w′ a
         → Scans g counts w r n i w′ a
-    passes-waiting : {w w₁ w′ : List ℕ} {r n i : ℕ} {a : SplitOut} → i < n → (own-target w r i ≡ 65535 → ⊥)
+    passes-waiting : {w w₁ w′ : List ℕ} {r n i : ℕ} {a : SplitOut} → i < n → (own-target w r i ≡ return-word → ⊥)
         → TriesClaim g counts w (own-target w r i) (own-count w r i) w₁ Unclaimed → Scans g counts w₁ r n (suc i) w′ a
         → Scans g counts w r n i w′ a
-    claims-bundle : {w w′ : List ℕ} {r n i : ℕ} → i < n → (own-target w r i ≡ 65535 → ⊥)
+    claims-bundle : {w w′ : List ℕ} {r n i : ℕ} → i < n → (own-target w r i ≡ return-word → ⊥)
         → TriesClaim g counts w (own-target w r i) (own-count w r i) w′ Claimed → Scans g counts w r n i w′ (split.At i)
-    scan-refused : {w w′ : List ℕ} {r n i number x : ℕ} → i < n → (own-target w r i ≡ 65535 → ⊥)
+    scan-refused : {w w′ : List ℕ} {r n i number x : ℕ} → i < n → (own-target w r i ≡ return-word → ⊥)
         → TriesClaim g counts w (own-target w r i) (own-count w r i) w′ (Refused number x)
         → Scans g counts w r n i w′ (split.Refused number x)
 

@@ -7,17 +7,17 @@ use Rattle.meaning.specs.Graph.{Graph}
 use Rattle.nesting.specs.Nesting.{incoming-edge-counts}
 use Rattle.state.specs.Sections.{word, set-lengths}
 use Rattle.start.specs.Words.{started}
-use Rattle.cfg.specs.declared.claim.Claim as code
 use Rattle.cfg.specs.declared.claim.Claim.the-variants as claim
 use Rattle.cfg.specs.declared.func.Nested.{Nested}
 use Rattle.cfg.specs.declared.func.Nested.the-variants.{Untouched, Whole, Closed, Leftover, Refused}
 use Rattle.cfg.specs.Claims.{own-target, TriesClaim}
+use Rattle.state.specs.Tables.{return-word}
 
 -- By the entry's set: none, Return alone, or another.
 pub data Outcomes (w : List ℕ) (entry : ℕ) : Nested → Type 0 where
   is-closed : word w set-lengths entry ≡ 0 → Outcomes w entry Closed
-  is-whole : word w set-lengths entry ≡ 1 → own-target w entry 0 ≡ 65535 → Outcomes w entry Whole
-  one-elsewhere : word w set-lengths entry ≡ 1 → (own-target w entry 0 ≡ 65535 → ⊥) → Outcomes w entry Leftover
+  is-whole : word w set-lengths entry ≡ 1 → own-target w entry 0 ≡ return-word → Outcomes w entry Whole
+  one-elsewhere : word w set-lengths entry ≡ 1 → (own-target w entry 0 ≡ return-word → ⊥) → Outcomes w entry Leftover
   more-left : (word w set-lengths entry ≡ 0 → ⊥) → (word w set-lengths entry ≡ 1 → ⊥) → Outcomes w entry Leftover
 
 pub data FuncBy (g : Graph) (counts w w′ : List ℕ) : Nested → Type 0 where

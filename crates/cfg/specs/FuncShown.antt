@@ -5,7 +5,7 @@ use Prim.Native.Nat.{ℕ}
 use Rattle.meaning.specs.Graph.{Graph}
 use Rattle.meaning.specs.Runs.{⟨⟩}
 use Rattle.format.specs.Store.{Answer, accepted, refused}
-use Rattle.nesting.specs.Nesting.{Nested, Outcome, untouched, whole, closed, leftover, outcome-of, conclude-by, NestState, claimed}
+use Rattle.nesting.specs.Nesting.{Nested, Outcome, untouched, whole, closed, leftover, outcome-of, conclude-by, NestState}
 use Rattle.nesting.specs.Nesting.{initial-state, Body}
 use Rattle.nesting.specs.lookups.ChainEnds.{ChainsEnd}
 use Rattle.state.specs.Sections.{word, kinds}

@@ -1,5 +1,4 @@
 // The Rust's try_claim_edge_bundle and structurize_region, which call each other: what falls is the number of regions not begun.
-ghost use mathlib.Core.Path.{_≡_};
 ghost use Prim.Native.Nat.{_≤_};
 ghost use Rattle.record.specs.Stands.{OfRecord};
 ghost use Rattle.cfg.specs.Claims as words;

@@ -1,6 +1,4 @@
 // The Rust's structurize_func: the entry is claimed, and what comes of it is the outcome.
-ghost use mathlib.Core.Path.{_≡_};
-ghost use Prim.Native.Nat.{_≤_};
 ghost use lib.ListN.{length};
 ghost use Rattle.record.specs.Stands.{OfRecord};
 ghost use Rattle.format.specs.Valid.{Valid};

@@ -4,7 +4,6 @@ use Prim.Native.Nat.{ℕ}
 use lib.ListN.{getD}
 use Rattle.nesting.specs.Nesting.{plain, LazyCond, undef-cond, false-cond, true-cond, merge}
 use Rattle.nesting.specs.Sheet as sheet
-use Rattle.state.specs.Sections.{section, conditions}
 use Rattle.shown.specs.Tables.{ShowsCond}
 use Rattle.writing.specs.declared.place.Place.{Place}
 use Rattle.writing.specs.Puts.{Part, Puts}
@@ -12,7 +11,7 @@ use Rattle.writing.specs.Puts.{Part, Puts}
 -- What a routine that puts condition c makes of the lent words, and of the place.
 abbrev pub PutsCondition : List ℕ → ℕ → List ℕ → Place → List ℕ → Place → Type 0
 PutsCondition w c out at out′ at′ =
-    (t : LazyCond) → ShowsCond (section w conditions) c t → Puts out at (plain (sheet.condition t .words)) out′ at′
+    (t : LazyCond) → ShowsCond w c t → Puts out at (plain (sheet.condition t .words)) out′ at′
 
 abbrev fields-of : LazyCond → List sheet.Field
 fields-of true-cond = []

@@ -4,8 +4,7 @@ use mathlib.Core.Bool.{Bool, true, false}
 use mathlib.Core.List.{List}
 use Prim.Native.Nat.{ℕ, _+_, _-_, _*_, _≤_, _<_}
 use lib.ListN.{length, getD, set}
-use Rattle.meaning.specs.Graph.{Graph, region}
-use Rattle.meaning.specs.Graph.{number}
+use Rattle.meaning.specs.Graph.{Graph}
 use Rattle.meaning.specs.Lists.{All, is-in, pick, total}
 use Rattle.nesting.specs.Nesting.{visit, reachable, incoming-edge-count}
 use Rattle.incoming.specs.Counted.{AtMost}

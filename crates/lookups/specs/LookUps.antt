@@ -9,6 +9,7 @@ use Rattle.state.specs.Values.{is-input, is-held, input-region, input-index}
 use Rattle.lookups.specs.declared.look_up.LookUp.{LookUp}
 use Rattle.meaning.specs.Lists.{pick}
 use Rattle.nesting.specs.Nesting.{most-regions}
+use Rattle.state.specs.Sections.{twice-at}
 
 abbrev pub plain : ℕ → LookUp
 plain x = record { value = x; twice = false }
@@ -43,4 +44,4 @@ look-up l v = turns (most-regions + 1) l v
 -- The value, and the words with the note taken.
 pub record Rewrites (l : List ℕ) (v : ℕ) (l′ : List ℕ) (a : ℕ) : Type 0 where
   pub value : a ≡ look-up l v .value
-  pub noted : l′ ≡ pick (look-up l v .twice) (stored l head 6 1) l
+  pub noted : l′ ≡ pick (look-up l v .twice) (stored l head twice-at 1) l

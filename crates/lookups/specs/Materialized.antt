@@ -9,25 +9,25 @@ use Rattle.state.specs.declared.defined.Defined.{Defined}
 use Rattle.state.specs.declared.defined.Defined.the-variants.{Number, Full}
 use Rattle.state.specs.Sections.{word, conditions}
 use Rattle.state.specs.Values.{output-word, undef-word}
-use Rattle.state.specs.Tables.{earlier-part, shape-size, OutputDefined}
+use Rattle.state.specs.Tables.{earlier-part, shape-size, select-word, OutputDefined}
 use Rattle.meaning.specs.Lists.{pick}
 
 unfoldable pub is-scrutinee : ℕ → List ℕ → Bool
 is-scrutinee shape vs = pick (eqb shape 0) (pick (eqb (getD vs 0 0) 65) (eqb (getD vs 1 0) 64) false) false
 
 abbrev pub shape-at : List ℕ → ℕ → ℕ
-shape-at l c = word l conditions (11 * c + 1)
+shape-at l c = select-word l c 3
 
 abbrev pub part-at : List ℕ → ℕ → ℕ → ℕ
-part-at l c j = earlier-part (word l conditions (11 * c + (3 + j))) c
+part-at l c j = earlier-part (word l conditions (9 * c + (1 + j))) c
 
 -- The parts' values put together: the scrutinee of record c, or a new output of its select.
 pub data Merges (l : List ℕ) (c : ℕ) (vs l′ : List ℕ) : Defined → Type 0 where
-  the-scrutinee : {x : ℕ} → is-scrutinee (shape-at l c) vs ≡ true → x ≡ word l conditions (11 * c + 2) → l′ ≡ l
+  the-scrutinee : {x : ℕ} → is-scrutinee (shape-at l c) vs ≡ true → x ≡ select-word l c 4 → l′ ≡ l
       → Merges l c vs l′ (Number x)
-  new-output : {o x : ℕ} → is-scrutinee (shape-at l c) vs ≡ false → OutputDefined (word l conditions (11 * c + 0)) 1 vs l l′ (Number o)
+  new-output : {o x : ℕ} → is-scrutinee (shape-at l c) vs ≡ false → OutputDefined (select-word l c 2) 1 vs l l′ (Number o)
       → x ≡ output-word o → Merges l c vs l′ (Number x)
-  no-output : is-scrutinee (shape-at l c) vs ≡ false → OutputDefined (word l conditions (11 * c + 0)) 1 vs l l′ Full → Merges l c vs l′ Full
+  no-output : is-scrutinee (shape-at l c) vs ≡ false → OutputDefined (select-word l c 2) 1 vs l l′ Full → Merges l c vs l′ Full
 
 mutual
   -- From words l condition c is made real; l′ are the words then.

@@ -19,8 +19,9 @@ use Rattle.children.specs.CellByCell.{cell-word, list-at}
 use Rattle.writing.specs.declared.place.Place.{Place}
 use Rattle.writing.specs.Puts.{Part, Puts}
 use Rattle.writing.specs.laws.PutsLaws.{_⊕_}
-use Rattle.writing.specs.laws.PartLaws.{numbers-listed, values-counted}
+use Rattle.writing.specs.laws.PartLaws.{numbers-listed, values-counted, each-map}
 use Rattle.writing.specs.Parts.{each, value-part, values-part}
+use Rattle.state.specs.Values.{input-from}
 
 -- The inputs that the loop of header r keeps, by the list's handle.
 abbrev pub KeepsInputs : Graph → List ℕ → ℕ → ℕ → LoopInputs → Type 0
@@ -28,7 +29,7 @@ KeepsInputs g w r list y = ShowsKept g (section w cells) r list (y .initial-inpu
 
 -- What is passed back at the end of a turn, and what is passed to the first one: of the cell h, and of all.
 unfoldable pub kept-word : List ℕ → Bool → ℕ → ℕ
-kept-word w back h = pick back (cell-word w h 4) (region-word 1024 (cell-word w h 3) (cell-word w h 2))
+kept-word w back h = pick back (cell-word w h 4) (region-word input-from (cell-word w h 3) (cell-word w h 2))
 
 abbrev pub kept-values : Bool → LoopInputs → List Value
 kept-values back y = pick back (y .outputs) (y .initial-inputs)
@@ -81,10 +82,6 @@ abbrev pub CellsPut : List ℕ → (ℕ → Part) → ℕ → ℕ → ℕ → Li
 CellsPut w f list h n out₀ at₀ out at = (hs : List ℕ) → Chain w list hs → CellsBehindPut w f hs h n out₀ at₀ out at
 
 -- ---- What was put, as the definition has it.
-each-map : {A B : Type 0} (f : B → Part) (g : A → B) (xs : List A) → each f (map g xs) ≡ each (λ x. f (g x)) xs
-each-map f g [] = refl
-each-map f g (x ∷ xs) = ap (λ z. f (g x) ⊕ z) (each-map f g xs)
-
 values-of : (s : NestState) (f : ℕ → Value) (hs : List ℕ) {vs : List Value} → vs ≡ map f hs
     → plain (length hs ∷ []) ⊕ each (λ h. value-part s (f h)) hs ≡ values-part s vs
 values-of s f hs e =

@@ -8,6 +8,7 @@ use Rattle.state.specs.Tables.{Adds, input-word}
 use Rattle.shown.specs.laws.CellSteps.{kept-cell}
 use Rattle.lookups.specs.LookUps.{Rewrites}
 use Rattle.loops.specs.declared.inputs.Taken.{Taken}
+use Rattle.state.specs.Values.{held-from, input-from}
 
 abbrev pub backedge-inputs : List ℕ → ℕ → List ℕ
 backedge-inputs l p = input-word l p 0 ∷ input-word l p 1 ∷ input-word l p 2 ∷ input-word l p 3 ∷ []
@@ -27,14 +28,14 @@ pub data RewritesValues (n : ℕ) : ℕ → List ℕ → List ℕ → List ℕ �
 pub record KeepsInput (r wrapper k v : ℕ) (x : Taken) (l l′ : List ℕ) (y : Taken) : Type 0 where
   pub cell : Adds l l′ (kept-cell (x .cells) k wrapper v) (y .cells)
   pub count : y .count ≡ x .count + 1
-  pub entry : y .entry ≡ region-word 1536 r (x .count)
+  pub entry : y .entry ≡ region-word held-from r (x .count)
 
 -- Input k of n is taken, for which the back edge passes v.
 pub data TakesInput (r wrapper n k v : ℕ) (x : Taken) (l l′ : List ℕ) (y : Taken) : Type 0 where
-  lifted : k < n → v ≡ region-word 1024 r k → l′ ≡ l → y .count ≡ x .count → y .cells ≡ x .cells → y .entry ≡ region-word 1024 wrapper k
+  lifted : k < n → v ≡ region-word input-from r k → l′ ≡ l → y .count ≡ x .count → y .cells ≡ x .cells → y .entry ≡ region-word input-from wrapper k
       → TakesInput r wrapper n k v x l l′ y
-  kept : k < n → (v ≡ region-word 1024 r k → ⊥) → KeepsInput r wrapper k v x l l′ y → TakesInput r wrapper n k v x l l′ y
-  beyond : n ≤ k → l′ ≡ l → y .count ≡ x .count → y .cells ≡ x .cells → y .entry ≡ region-word 1536 r k
+  kept : k < n → (v ≡ region-word input-from r k → ⊥) → KeepsInput r wrapper k v x l l′ y → TakesInput r wrapper n k v x l l′ y
+  beyond : n ≤ k → l′ ≡ l → y .count ≡ x .count → y .cells ≡ x .cells → y .entry ≡ region-word held-from r k
       → TakesInput r wrapper n k v x l l′ y
 
 -- The first k are taken: from words l and values vs to l′ and ws, where the first k are their entries.

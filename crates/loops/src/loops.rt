@@ -1,5 +1,4 @@
 // The loop itself: the Rust's order of definitions is wrapper region, look-ups, repeat condition, node.
-ghost use mathlib.Core.Path.{_≡_};
 ghost use Rattle.loops.specs.Loops as words;
 use crate::exits::add_exit_edges;
 use crate::inputs::backedge_inputs;

@@ -11,6 +11,8 @@ use Rattle.state.specs.Values.{is-input, input-region, input-index}
 use Rattle.state.specs.Tables.{input-word, input-stored, find-by, bundle-at, case-total}
 use Rattle.merging.specs.Turns.{turned}
 use Rattle.bundles.specs.Words.{input-count, condition-in}
+use Rattle.state.specs.Values.{output-from}
+use Rattle.state.specs.Tables.{nowhere}
 
 -- The bundle of case j to target t.
 abbrev pub place-of : List ℕ → ℕ → ℕ → ℕ
@@ -22,20 +24,24 @@ per-case-deferred l t = turned (λ ps j. set ps j (place-of l t j)) (replicate 8
 unfoldable pub per-case-condition : List ℕ → ℕ → ℕ → ℕ
 per-case-condition l j p =
     let n = word l cases (10 * j + 5) in
-    pick (eqb n 0) 3 (pick (eqb p 65535) 2 (condition-in l p n))
+    pick (eqb n 0) 3 (pick (eqb p nowhere) 2 (condition-in l p n))
+
+-- An input that is still to be merged; while cases are gone through, one that none of them passed.
+abbrev pub to-merge : ℕ
+to-merge = 65535
 
 unfoldable pub in-parent : List ℕ → ℕ → ℕ → ℕ
 in-parent l j v =
-    let of-body = pick (eqb (input-region v) (word l cases (10 * j + 2))) (word l cases (10 * j + (6 + input-index v))) 65535 in
-    pick (eqb (word l cases (10 * j + 0)) 2) (pick (ltb v 322) v (pick (is-input v) of-body 65535)) v
+    let of-body = pick (eqb (input-region v) (word l cases (10 * j + 2))) (word l cases (10 * j + (6 + input-index v))) to-merge in
+    pick (eqb (word l cases (10 * j + 0)) 2) (pick (ltb v output-from) v (pick (is-input v) of-body to-merge)) v
 
 -- What case j passes as input k, where its bundle is p.
 abbrev pub passed-by : List ℕ → ℕ → ℕ → ℕ → ℕ
 passed-by l k p j = in-parent l j (input-word l p k)
 
--- What the cases so far pass, with one more: 65535 where they differ.
+-- What the cases so far pass, with one more: to be merged where they differ.
 unfoldable pub with-passed : ℕ → ℕ → ℕ
-with-passed found v = pick (eqb found 65535) v (pick (eqb found v) v 65535)
+with-passed found v = pick (eqb found to-merge) v (pick (eqb found v) v to-merge)
 
 -- The cases from j on, n of them; `found` is what those before pass.
 unfoldable pub unique-from : List ℕ → List ℕ → ℕ → ℕ → ℕ → ℕ → ℕ
@@ -43,10 +49,10 @@ unique-from l ps k zero j found = found
 unique-from l ps k (suc n) j found =
     let p = getD ps j 0 in
     let more = with-passed found (passed-by l k p j) in
-    pick (eqb p 65535) (unique-from l ps k n (suc j) found) (pick (eqb more 65535) 65535 (unique-from l ps k n (suc j) more))
+    pick (eqb p nowhere) (unique-from l ps k n (suc j) found) (pick (eqb more to-merge) to-merge (unique-from l ps k n (suc j) more))
 
 abbrev pub unique-input : List ℕ → List ℕ → ℕ → ℕ
-unique-input l ps k = unique-from l ps k (case-total l) 0 65535
+unique-input l ps k = unique-from l ps k (case-total l) 0 to-merge
 
 unfoldable pub is-true : ℕ → Bool
 is-true c = pick (eqb c 1) true (eqb c 3)
@@ -67,7 +73,7 @@ abbrev pub planned : List ℕ → Bool → Planned
 planned l b = record { words = l; needed = b }
 
 unfoldable pub plan-input : List ℕ → ℕ → List ℕ → ℕ → Planned
-plan-input l q ps k = let v = unique-input l ps k in planned (input-stored l q k v) (eqb v 65535)
+plan-input l q ps k = let v = unique-input l ps k in planned (input-stored l q k v) (eqb v to-merge)
 
 -- A step more, whose need adds to what was needed before.
 abbrev pub also : (List ℕ → ℕ → Planned) → Planned → ℕ → Planned

@@ -10,10 +10,11 @@ use Rattle.state.specs.Tables.{input-word, input-stored, bundle-at, case-total}
 use Rattle.lookups.specs.LookUps.{look-up}
 use Rattle.merging.specs.Turns.{turned}
 use Rattle.bundles.specs.Words.{input-count}
+use Rattle.state.specs.Sections.{twice-at}
 
 -- The words with the note of a look-up taken.
 unfoldable pub noted : List ℕ → ℕ → List ℕ
-noted l v = pick (look-up l v .twice) (stored l head 6 1) l
+noted l v = pick (look-up l v .twice) (stored l head twice-at 1) l
 
 unfoldable pub rewrite-input : List ℕ → ℕ → ℕ → List ℕ
 rewrite-input l p k = input-stored (noted l (input-word l p k)) p k (look-up l (input-word l p k) .value)

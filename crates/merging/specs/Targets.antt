@@ -6,10 +6,11 @@ use Rattle.meaning.specs.Lists.{pick}
 use Rattle.state.specs.Sections.{word, stored, stored-all, set-starts, set-lengths, cases, bundles}
 use Rattle.state.specs.Tables.{edges-word, find-by, bundle-at, case-total}
 use Rattle.merging.specs.Turns.{turned}
+use Rattle.state.specs.Tables.{largest, nowhere}
 
 -- The length of a set with k bundles more.
 unfoldable pub longer : ℕ → ℕ → ℕ
-longer n k = pick (ltb n (65535 - k)) (n + k) 65535
+longer n k = pick (ltb n (largest - k)) (n + k) largest
 
 -- A target that has no bundle yet gets one; else its edges are counted with the others.
 abbrev pub row-added : List ℕ → ℕ → ℕ → ℕ → List ℕ
@@ -25,7 +26,7 @@ summarize-bundle l p =
     let start = word l set-starts 32 in
     let n = word l set-lengths 32 in
     let q = find-by l start (word l bundles (7 * p + 0)) n 0 in
-    pick (eqb q 65535) (row-added l p start n) (edges-added l p q)
+    pick (eqb q nowhere) (row-added l p start n) (edges-added l p q)
 
 unfoldable pub summarize-set : List ℕ → ℕ → ℕ → List ℕ
 summarize-set l start n = turned (λ m i. summarize-bundle m (bundle-at start i)) l n 0

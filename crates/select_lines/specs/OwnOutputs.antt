@@ -12,7 +12,7 @@ use Rattle.shown.specs.Values.{value}
 use Rattle.shown.specs.Tables.{no-output}
 use Rattle.writing.specs.declared.place.Place.{Place}
 use Rattle.writing.specs.Puts.{Part, Puts}
-use Rattle.writing.specs.Parts.{OfState, each, value-part, values-part}
+use Rattle.writing.specs.Parts.{OfState, value-part, values-part}
 use Rattle.select_lines.specs.SelectParts.{output-types}
 
 -- At place j the words have, of each output of the node, the value that the definition takes there.

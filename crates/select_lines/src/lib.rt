@@ -1,8 +1,5 @@
 // The line of a select, and the region lines of its cases.
 ghost use mathlib.Core.Path.{_≡_};
-ghost use mathlib.Core.List.{[], _∷_};
-ghost use Rattle.nesting.specs.Nesting.{plain};
-ghost use Rattle.nesting.specs.Sheet as sheet;
 ghost use Rattle.writing.specs.Puts.{Puts};
 ghost use Rattle.select_lines.specs.OwnOutputs as outputs;
 ghost use Rattle.select_lines.specs.CaseNumbers as numbers;

@@ -15,6 +15,8 @@ use Rattle.merging.specs.Planning.{per-case-deferred, per-case-condition}
 use Rattle.state.specs.declared.defined.Made.{Made}
 use Rattle.state.specs.declared.defined.Made.the-variants.{Done, Full}
 use Rattle.selects.specs.Turns.{Steps, Turns}
+use Rattle.state.specs.Tables.{nowhere}
+use Rattle.merging.specs.Planning.{to-merge}
 
 -- ---- Eight words, of which the first have what each case has, and the others `fill`.
 pub record InCases (n : ℕ) (f : ℕ → ℕ) (fill : ℕ) (vs : List ℕ) : Type 0 where
@@ -23,7 +25,7 @@ pub record InCases (n : ℕ) (f : ℕ → ℕ) (fill : ℕ) (vs : List ℕ) : Ty
   pub others : (j : ℕ) → n ≤ j → j < 8 → getD vs j 0 ≡ fill
 
 unfoldable pub value-in-case : List ℕ → ℕ → ℕ → ℕ → ℕ
-value-in-case l p k ty = pick (eqb p 65535) (undef-word ty) (input-word l p k)
+value-in-case l p k ty = pick (eqb p nowhere) (undef-word ty) (input-word l p k)
 
 abbrev pub ValuesIn : List ℕ → List ℕ → ℕ → ℕ → List ℕ → Type 0
 ValuesIn l places k ty vs = InCases (case-total l) (λ j. value-in-case l (getD places j 0) k ty) 66 vs
@@ -33,11 +35,11 @@ ConditionsIn l places vs = InCases (case-total l) (λ j. per-case-condition l j 
 
 -- ---- Input k of the bundle at q to target t.
 pub data EmitInput (g : Graph) (node q t : ℕ) (places : List ℕ) (k : ℕ) (l l′ : List ℕ) : Made → Type 0 where
-  input-there : (input-word l q k ≡ 65535 → ⊥) → l′ ≡ l → EmitInput g node q t places k l l′ Done
-  input-made : {l₁ vs : List ℕ} {o : ℕ} → input-word l q k ≡ 65535 → ValuesIn l places k (target-type g l t k) vs
+  input-there : (input-word l q k ≡ to-merge → ⊥) → l′ ≡ l → EmitInput g node q t places k l l′ Done
+  input-made : {l₁ vs : List ℕ} {o : ℕ} → input-word l q k ≡ to-merge → ValuesIn l places k (target-type g l t k) vs
       → OutputDefined node (target-type g l t k) vs l l₁ (Number o) → l′ ≡ input-stored l₁ q k (output-word o)
       → EmitInput g node q t places k l l′ Done
-  no-input : {vs : List ℕ} → input-word l q k ≡ 65535 → ValuesIn l places k (target-type g l t k) vs
+  no-input : {vs : List ℕ} → input-word l q k ≡ to-merge → ValuesIn l places k (target-type g l t k) vs
       → OutputDefined node (target-type g l t k) vs l l′ Refused → EmitInput g node q t places k l l′ Full
 
 abbrev pub target-at : List ℕ → ℕ → ℕ
@@ -50,10 +52,10 @@ EmitInputs g node q places l l′ a = Turns (EmitInput g node q (target-at l q) 
 pub data EmitCondition (h q : ℕ) (places l l′ : List ℕ) : Made → Type 0 where
   condition-there : (word l bundles (7 * q + 2) ≡ 0 → ⊥) → l′ ≡ l → EmitCondition h q places l l′ Done
   condition-made : {l₁ parts : List ℕ} {c : ℕ} → word l bundles (7 * q + 2) ≡ 0 → ConditionsIn l places parts
-      → MergeDefined (word l cells (6 * h + 2)) (word l cells (6 * h + 3)) (word l cells (6 * h + 4)) parts l l₁ (Number c)
+      → MergeDefined h parts l l₁ (Number c)
       → l′ ≡ stored l₁ bundles (7 * q + 2) c → EmitCondition h q places l l′ Done
   no-condition : {parts : List ℕ} → word l bundles (7 * q + 2) ≡ 0 → ConditionsIn l places parts
-      → MergeDefined (word l cells (6 * h + 2)) (word l cells (6 * h + 3)) (word l cells (6 * h + 4)) parts l l′ Refused
+      → MergeDefined h parts l l′ Refused
       → EmitCondition h q places l l′ Full
 
 -- ---- Bundles.

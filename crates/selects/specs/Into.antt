@@ -5,13 +5,12 @@ use mathlib.Core.List.{List}
 use Prim.Native.Nat.{ℕ, _*_, _≤_, _<_}
 use Rattle.meaning.specs.Graph.{Graph}
 use Rattle.state.specs.declared.defined.Defined.the-variants.{Number, Full as Refused}
-use Rattle.state.specs.declared.cases.Case.{Case}
 use Rattle.state.specs.Sections.{word, stored, stored-all, set-lengths, cases}
 use Rattle.state.specs.Tables.{case-total, swapped, case-row, case-words}
 use Rattle.bundles.specs.Words.{unclaimed-case, Appends}
 use Rattle.merging.specs.Rewriting.{rewrite-cases}
 use Rattle.merging.specs.Targets.{deferred-targets}
-use Rattle.merging.specs.Planning.{planned, plan-bundles}
+use Rattle.merging.specs.Planning.{plan-bundles}
 use Rattle.state.specs.declared.defined.Made.{Made}
 use Rattle.state.specs.declared.defined.Made.the-variants.{Done, Full}
 use Rattle.selects.specs.declared.define.Scrutinee.{Scrutinee}

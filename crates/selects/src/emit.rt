@@ -10,8 +10,6 @@ use merging::planning::per_case_condition;
 use merging::planning::per_case_deferred;
 use state::cases::case_count;
 use state::cells::cell_a;
-use state::cells::cell_b;
-use state::cells::cell_c;
 use state::conditions::define_merge;
 use state::defined::Defined;
 use state::defined::Made;
@@ -111,10 +109,7 @@ fn emit_condition(w: &mut [u16; WORDS], h: u16, q: u16, places: &[u16; 8]) -> Ma
         return Made::Done;
     }
     let parts = conditions_in_cases(w, places);
-    let node = cell_a(w, h);
-    let shape = cell_b(w, h);
-    let scrutinee = cell_c(w, h);
-    match define_merge(w, node, shape, scrutinee, &parts) {
+    match define_merge(w, h, &parts) {
         Defined::Full => Made::Full,
         Defined::Number(c) => {
             set_condition(w, q, c);

@@ -1,21 +1,21 @@
 -- The lines of a concluded nesting as parts: what is put, and the note that its look-ups take.
 use mathlib.Core.Path.{_≡_, refl, sym, ap, _∙_}
-use mathlib.Core.Bool.{Bool, true, false, _||_, or-assoc, or-comm, or-false}
-use mathlib.Core.List.{List, [], _∷_, _++_, map, append-assoc, append-nil}
-use Prim.Native.Nat.{ℕ, zero, suc, _+_, _≤_, _<_}
-use native.Mathlib.Omega.{arith}
-use lib.ListN.{length, getD}
+use mathlib.Core.Bool.{Bool, true, false, _||_}
+use mathlib.Core.List.{List, [], _∷_, _++_, map}
+use Prim.Native.Nat.{ℕ, _+_}
 use lib.Dec.{leb}
 use Rattle.meaning.specs.Lists.{concat, any, pick}
+use Rattle.meaning.specs.facts.Tests.{or-turned}
+use Rattle.meaning.specs.facts.Elements.{any-mixed}
 use Rattle.meaning.specs.Graph.{Graph, Value, region}
-use Rattle.meaning.specs.Runs.{Node, block, select, loop, exit, Nodes, ⟨⟩, _▸_}
-use Rattle.nesting.specs.Nesting.{NestState, Piece, piece, LookUp, plain, _⊛_, look-up-each, look-up-nodes, look-up-node, look-up-piece}
+use Rattle.meaning.specs.Runs.{Nodes}
+use Rattle.nesting.specs.Nesting.{NestState, Piece, plain, _⊛_, look-up-each, look-up-nodes, look-up-piece}
 use Rattle.nesting.specs.Nesting.{DeferredEdgeBundle, DeferredEdgeBundleSet, look-up-bundle, condition-in, conclude-with, Outcome}
 use Rattle.nesting.specs.Nesting.{LazyCond}
 use Rattle.nesting.specs.Sheet as sheet
 use Rattle.writing.specs.Puts.{Part}
 use Rattle.writing.specs.laws.PutsLaws.{_⊕_}
-use Rattle.writing.specs.Parts.{most, region-words, nodes-words, each, output-nodes, look-up-at-end, nodes-part, region-part}
+use Rattle.writing.specs.Parts.{most, each, output-nodes, look-up-at-end, nodes-part, region-part}
 use Rattle.writing.specs.Parts.{defer-part}
 use Rattle.writing.specs.laws.PartLaws.{kids-looked-up}
 use Rattle.sheet.specs.Whole.{piece-words, defer-words, nested-lines}
@@ -91,34 +91,14 @@ module _ (g : Graph) (s : NestState) where
         ∙ ap (λ z. each piece-part (e ∷ us) .value ++ z) (sets-are (sheet.ascending e us))
 
 -- ---- The note.
-or-mixed : (c o d a b : Bool) → (((c || o) || d) || (a || b)) ≡ (((o || c) || a) || (d || b))
-or-mixed true true d a b = refl
-or-mixed true false d a b = refl
-or-mixed false true d a b = refl
-or-mixed false false true true b = refl
-or-mixed false false true false b = refl
-or-mixed false false false a b = refl
-
-any-mixed : {A : Type 0} (c o d : A → Bool) (xs : List A)
-    → any (λ x. (c x || o x) || d x) xs ≡ (any (λ x. o x || c x) xs || any d xs)
-any-mixed c o d [] = refl
-any-mixed c o d (x ∷ xs) =
-    ap (λ z. ((c x || o x) || d x) || z) (any-mixed c o d xs)
-    ∙ or-mixed (c x) (o x) (d x) (any (λ x. o x || c x) xs) (any d xs)
-
 any-ascending : (f : Piece → Bool) (e : Piece) (us : List Piece) → any f (sheet.ascending e us) ≡ (f e || any f us)
 any-ascending f e [] = refl
 any-ascending f e (u ∷ us) = by (any-ascending f e us) (leb (e .region) (u .region))
   where
-    swap : (a b c : Bool) → (a || (b || c)) ≡ (b || (a || c))
-    swap true true c = refl
-    swap true false c = refl
-    swap false b c = refl
-
     by : any f (sheet.ascending e us) ≡ (f e || any f us) → (b : Bool)
         → any f (pick b (e ∷ u ∷ us) (u ∷ sheet.ascending e us)) ≡ (f e || (f u || any f us))
     by rest true = refl
-    by rest false = ap (λ z. f u || z) rest ∙ swap (f u) (f e) (any f us)
+    by rest false = ap (λ z. f u || z) rest ∙ or-turned (f u) (f e) (any f us)
 
 module _ (g : Graph) (s : NestState) (o : Outcome) (e : Piece) (us : List Piece) where
   abbrev of-children : Piece → Bool

@@ -6,8 +6,7 @@ use lib.ListN.{length, getD}
 use Rattle.meaning.specs.Graph.{Graph, region}
 use Rattle.meaning.specs.Runs.{Nodes}
 use Rattle.nesting.specs.Nesting.{NestState, Piece, piece, plain, unclaimed-from, StructurizeRegionState, not-begun}
-use Rattle.nesting.specs.Nesting.{claimed, DeferredEdgeBundle, DeferredEdgeBundleSet, region-body}
-use Rattle.nesting.specs.Nesting.{whole, leftover}
+use Rattle.nesting.specs.Nesting.{DeferredEdgeBundle, DeferredEdgeBundleSet, region-body}
 use Rattle.nesting.specs.Sheet as sheet
 use Rattle.state.specs.Sections.{section, cells, word, kinds, children}
 use Rattle.shown.specs.Cells.{ShowsNodes, ShowsChildren}

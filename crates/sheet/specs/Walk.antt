@@ -3,7 +3,7 @@ use mathlib.Core.Path.{_≡_}
 use mathlib.Core.List.{List}
 use Prim.Native.Nat.{ℕ, _+_, _≤_}
 use Rattle.meaning.specs.Graph.{Graph}
-use Rattle.meaning.specs.Runs.{Nodes, Cases, loop, case-count}
+use Rattle.meaning.specs.Runs.{Nodes, Cases, case-count}
 use Rattle.nesting.specs.Nesting.{NestState}
 use Rattle.state.specs.Sections.{section, cells}
 use Rattle.shown.specs.Cells.{ShowsNodes, ShowsCaseCells}

@@ -1,9 +1,9 @@
 -- The words of a whole sheet, line after line. `count` is what stands for the number of a region's children.
 use mathlib.Core.List.{List, [], _∷_, _++_, map}
 use Prim.Native.Nat.{ℕ}
-use Rattle.meaning.specs.Lists.{concat, bit}
+use Rattle.meaning.specs.Lists.{concat}
 use Rattle.meaning.specs.Graph.{Graph}
-use Rattle.nesting.specs.Nesting.{Nested, Piece, Outcome, untouched, whole, closed, leftover, DeferredEdgeBundle}
+use Rattle.nesting.specs.Nesting.{Nested, Piece, untouched, whole, closed, leftover, DeferredEdgeBundle}
 use Rattle.nesting.specs.Sheet as sheet
 use Rattle.nesting.specs.decoding.Lines.{words-of}
 use Rattle.writing.specs.Parts.{region-words, nodes-words}

@@ -3,7 +3,7 @@ use mathlib.Core.Path.{_≡_}
 use mathlib.Core.Bool.{Bool, _||_}
 use mathlib.Core.List.{List, [], _∷_, _++_}
 use Prim.Native.Nat.{ℕ, _+_, _-_, _≤_, _<_}
-use lib.ListN.{length, set, drop}
+use lib.ListN.{length, drop}
 use lib.Dec.{ltb}
 use Rattle.meaning.specs.Lists.{pick}
 use Rattle.meaning.specs.Graph.{Graph}
@@ -19,6 +19,7 @@ use Rattle.writing.specs.Parts.{OfState, most}
 use Rattle.sheet.specs.declared.whole.Sheet.{Sheet}
 use Rattle.sheet.specs.declared.whole.Sheet.the-variants.{Words, TooFew}
 use Rattle.sheet.specs.Whole.{nested-lines, nested-words}
+use Rattle.state.specs.Sections.{attempts-at, twice-at}
 
 -- ---- How the words show a nested answer: by the number of its outcome, and the entry's children and set.
 pub data ShowsAnswer (g : Graph) (w : List ℕ) (s : NestState) (x : Nested) : ℕ → Type 0 where
@@ -54,11 +55,11 @@ PutsLines w outcome out at out′ at′ = OfShownAnswer w outcome (λ g s x. Lin
 
 -- ---- Line 1.
 abbrev pub twice-word : List ℕ → Place → ℕ
-twice-word w at = pick (at .twice) 1 (word w head 6)
+twice-word w at = pick (at .twice) 1 (word w head twice-at)
 
 abbrev pub PutsHead : List ℕ → ℕ → ℕ → List ℕ → Place → List ℕ → Place → Type 0
 PutsHead w outcome figure out at out′ at′ =
-    Puts out at (plain (outcome ∷ figure ∷ word w head 5 ∷ twice-word w at ∷ [])) out′ at′
+    Puts out at (plain (outcome ∷ figure ∷ word w head attempts-at ∷ twice-word w at ∷ [])) out′ at′
 
 -- ---- The whole.
 pub record SheetPut (ws out : List ℕ) (end : ℕ) (out′ : List ℕ) (a : ℕ) : Type 0 where

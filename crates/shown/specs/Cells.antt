@@ -11,6 +11,7 @@ use Rattle.nesting.specs.Nesting.{most-regions}
 use Rattle.state.specs.Sections.{section, word, head, cells}
 use Rattle.shown.specs.Values.{value}
 use Rattle.shown.specs.Tables.{ShowsShape}
+use Rattle.state.specs.Sections.{cells-at}
 
 -- A cell's tag, the list before it, and its other four words.
 pub record CellIs (l : List ℕ) (h tag before a b c d : ℕ) : Type 0 where
@@ -54,4 +55,4 @@ mutual
 -- A list of nodes that was made, by its handle.
 pub record ShowsChildren (g : Graph) (w : List ℕ) (h : ℕ) (ks : Nodes) : Type 0 where
   pub nodes : ShowsNodes g (section w cells) h ks
-  pub made : h < word w head 4
+  pub made : h < word w head cells-at

@@ -24,5 +24,5 @@ pub record KeptRegion (w w′ : List ℕ) (q : ℕ) : Type 0 where
   pub handle : word w′ children q ≡ word w children q
   pub body : word w′ bodies q ≡ word w bodies q
   pub backedge : word w′ backedges q ≡ word w backedges q
-  pub taken : (j : ℕ) → j < 10 → word w′ levels (10 * q + j) ≡ word w levels (10 * q + j)
+  pub taken : (j : ℕ) → j < 8 → word w′ levels (8 * q + j) ≡ word w levels (8 * q + j)
   pub slot : (i : ℕ) → i < 33 → SameBundle w w′ (word w set-starts q + i)

@@ -9,16 +9,18 @@ use Rattle.nesting.specs.Nesting.{DeferredTarget, to-region, to-return, Deferre
 use Rattle.state.specs.Sections.{word, bundles}
 use Rattle.shown.specs.Values.{value}
 use Rattle.shown.specs.Tables.{ShowsCondition}
+use Rattle.state.specs.Values.{names-nothing}
+use Rattle.state.specs.Tables.{return-word}
 
 -- A word that stands for a value, and names it.
 pub record Names (x : ℕ) (v : Value) : Type 0 where
   pub is : value x ≡ v
-  pub below : x < 4096
+  pub below : x < names-nothing
 
 -- The word of a target: a region of the graph, or Return.
 pub data ShowsTarget (g : Graph) (x : ℕ) : DeferredTarget → Type 0 where
   shows-region : {r : ℕ} → x ≡ r → r < length (g .regions) → ShowsTarget g x (to-region r)
-  shows-return : x ≡ 65535 → ShowsTarget g x to-return
+  shows-return : x ≡ return-word → ShowsTarget g x to-return
 
 -- How many inputs a target has.
 abbrev pub target-size : Graph → DeferredTarget → ℕ

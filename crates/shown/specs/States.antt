@@ -15,6 +15,7 @@ use Rattle.state.specs.Tables.{case-total}
 use Rattle.shown.specs.Tables.{ShowsTables}
 use Rattle.shown.specs.Sets.{Names, ShowsSet}
 use Rattle.shown.specs.Cells.{ShowsChildren}
+use Rattle.state.specs.Sections.{returned-at, types-at}
 
 -- The set that region r's slot holds.
 abbrev pub ShowsOwnSet : Graph → List ℕ → ℕ → DeferredEdgeBundleSet → Type 0
@@ -36,8 +37,8 @@ pub record Slots (w : List ℕ) : Type 0 where
 
 -- How many values a Return has, and their types.
 pub record ShowsReturned (g : Graph) (w : List ℕ) : Type 0 where
-  pub size : word w head 8 ≡ length (return-types g)
-  pub types : (k : ℕ) → k < length (return-types g) → word w head (9 + k) ≡ getD (return-types g) k 0
+  pub size : word w head returned-at ≡ length (return-types g)
+  pub types : (k : ℕ) → k < length (return-types g) → word w head (types-at + k) ≡ getD (return-types g) k 0
 
 -- The words of the rewrites' entries name values.
 pub record NamedRewrites (w : List ℕ) : Type 0 where

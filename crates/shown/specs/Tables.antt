@@ -14,9 +14,11 @@ use Rattle.nesting.specs.Nesting.{most-regions, most-nodes, most-merges, most-o
 use Rattle.state.specs.declared.defined.Defined.{Defined}
 use Rattle.state.specs.declared.defined.Defined.the-variants.{Number, Full}
 use Rattle.state.specs.Sections.{section, word, head, rewrites, outputs, conditions, used}
+use Rattle.state.specs.Tables.{select-word}
 use Rattle.state.specs.Values.{is-held}
 use Rattle.shown.specs.Values.{value}
 use Rattle.meaning.specs.Lists.{bit}
+use Rattle.state.specs.Sections.{attempts-at, cells-at, merges-at, nodes-at, outputs-at, regions-at, twice-at}
 
 -- ---- Rewrites: five words for a region.
 -- The word at a loop header's input: a marked one is the new number of an input that stays.
@@ -61,7 +63,7 @@ no-output = record { node = 0; type = 0; values = [] }
 abbrev pub ShowsOutputs : List ℕ → List NodeOutput → Type 0
 ShowsOutputs l os = (o : ℕ) → o < length os → ShowsOutput l o (getD os o no-output)
 
--- ---- Conditions: eleven words for a record, whose parts are earlier ones.
+-- ---- Conditions: nine words for a record, which names the cell of its select; its parts are earlier ones.
 pub data ShowsShape (shape n : ℕ) : SelectionKind → Type 0 where
   shape-bool : shape ≡ 0 → n ≡ 2 → ShowsShape shape n bool-cond
   shape-number : 1 ≤ shape → shape ≤ 8 → n ≡ shape → ShowsShape shape n number
@@ -71,25 +73,25 @@ cond-count no-conds = 0
 cond-count (t & ts) = suc (cond-count ts)
 
 mutual
-  pub data ShowsCond (l : List ℕ) : ℕ → LazyCond → Type 0 where
-    shows-true : {c : ℕ} → c ≡ 1 → ShowsCond l c true-cond
-    shows-false : {c : ℕ} → c ≡ 2 → ShowsCond l c false-cond
-    shows-undef : {c : ℕ} → c ≡ 3 → ShowsCond l c undef-cond
-    shows-merge : {c n : ℕ} {kind : SelectionKind} {v : Value} {ts : LazyConds} → 4 ≤ c → getD l (11 * c + 0) 0 ≡ n
-        → ShowsShape (getD l (11 * c + 1) 0) (cond-count ts) kind → value (getD l (11 * c + 2) 0) ≡ v → ShowsConds l c 0 ts
-        → ShowsCond l c (merge n kind v ts)
+  pub data ShowsCond (w : List ℕ) : ℕ → LazyCond → Type 0 where
+    shows-true : {c : ℕ} → c ≡ 1 → ShowsCond w c true-cond
+    shows-false : {c : ℕ} → c ≡ 2 → ShowsCond w c false-cond
+    shows-undef : {c : ℕ} → c ≡ 3 → ShowsCond w c undef-cond
+    shows-merge : {c n : ℕ} {kind : SelectionKind} {v : Value} {ts : LazyConds} → 4 ≤ c → word w conditions (9 * c + 0) < word w head cells-at
+        → select-word w c 2 ≡ n → ShowsShape (select-word w c 3) (cond-count ts) kind → value (select-word w c 4) ≡ v → ShowsConds w c 0 ts
+        → ShowsCond w c (merge n kind v ts)
 
   -- The parts of record c from place j on.
-  pub data ShowsConds (l : List ℕ) : ℕ → ℕ → LazyConds → Type 0 where
-    no-parts : {c j : ℕ} → ShowsConds l c j no-conds
-    part-and : {c j p : ℕ} {t : LazyCond} {ts : LazyConds} → getD l (11 * c + (3 + j)) 0 ≡ p → p < c → ShowsCond l p t
-        → ShowsConds l c (suc j) ts
-        → ShowsConds l c j (t & ts)
+  pub data ShowsConds (w : List ℕ) : ℕ → ℕ → LazyConds → Type 0 where
+    no-parts : {c j : ℕ} → ShowsConds w c j no-conds
+    part-and : {c j p : ℕ} {t : LazyCond} {ts : LazyConds} → word w conditions (9 * c + (1 + j)) ≡ p → p < c → ShowsCond w p t
+        → ShowsConds w c (suc j) ts
+        → ShowsConds w c j (t & ts)
 
 -- A condition that was made, by its number.
 pub record ShowsCondition (w : List ℕ) (c : ℕ) (t : LazyCond) : Type 0 where
-  pub tree : ShowsCond (section w conditions) c t
-  pub made : c < 4 + word w head 2
+  pub tree : ShowsCond w c t
+  pub made : c < 4 + word w head merges-at
 
 -- Words in a row, from place j on, are conditions that were made.
 pub data ShowsParts (w ps : List ℕ) : ℕ → LazyConds → Type 0 where
@@ -100,12 +102,12 @@ pub data ShowsParts (w ps : List ℕ) : ℕ → LazyConds → Type 0 where
 -- ---- All tables, and the totals of the head, each within its limit.
 pub record ShowsTables (w : List ℕ) (s : NestState) : Type 0 where
   pub size : used ≤ length w
-  pub region-total : word w head 0 ≡ s .region-count
-  pub node-total : word w head 1 ≡ s .node-count
-  pub merge-total : word w head 2 ≡ s .merge-count
-  pub output-total : word w head 3 ≡ length (s .node-outputs)
-  pub attempts : word w head 5 ≡ s .attempts
-  pub twice : word w head 6 ≡ bit (s .twice)
+  pub region-total : word w head regions-at ≡ s .region-count
+  pub node-total : word w head nodes-at ≡ s .node-count
+  pub merge-total : word w head merges-at ≡ s .merge-count
+  pub output-total : word w head outputs-at ≡ length (s .node-outputs)
+  pub attempts : word w head attempts-at ≡ s .attempts
+  pub twice : word w head twice-at ≡ bit (s .twice)
   pub few-regions : s .region-count ≤ most-regions
   pub few-nodes : s .node-count ≤ most-nodes
   pub few-merges : s .merge-count ≤ most-merges

@@ -10,6 +10,8 @@ use Rattle.state.specs.Sections.{Section, stored, stored-all, head, kinds, set-
 use Rattle.state.specs.Tables.{slot}
 use Rattle.shown.specs.Front.{SameFront}
 use Rattle.nesting.specs.Nesting.{most-regions}
+use Rattle.state.specs.Sections.{regions-at, returned-at, types-at}
+use Rattle.state.specs.Tables.{largest}
 
 -- In section k, from turn i on, n words, each at its place.
 unfoldable pub filled : Section → (ℕ → ℕ) → (ℕ → ℕ) → ℕ → ℕ → List ℕ → List ℕ
@@ -36,14 +38,14 @@ module _ (g : Graph) where
       let q = first-return (g .regions) in type-in g q (behind-all g q) (getD (end-values g q) k no-value)
 
   abbrev pub totals : List ℕ
-  totals = length (g .regions) ∷ min (blocks-before g (length (g .regions))) 65535 ∷ 0 ∷ 0 ∷ 1 ∷ 0 ∷ 0 ∷ []
+  totals = length (g .regions) ∷ min (blocks-before g (length (g .regions))) largest ∷ 0 ∷ 0 ∷ 1 ∷ 0 ∷ 0 ∷ []
 
   abbrev pub counted : List ℕ → List ℕ
-  counted l = stored-all l head 0 totals
+  counted l = stored-all l head regions-at totals
 
   abbrev pub returned : List ℕ → List ℕ
   returned l =
-      stored (filled head (λ k. 9 + k) returned-type 4 0 l) head 8 (length (end-values g (first-return (g .regions))))
+      stored (filled head (λ k. types-at + k) returned-type 4 0 l) head returned-at (length (end-values g (first-return (g .regions))))
 
   abbrev pub started : List ℕ → List ℕ
   started l = returned (counted (emptied l))
@@ -51,4 +53,4 @@ module _ (g : Graph) where
 -- ---- The turns over the returned values.
 pub record ReturnedLeft (g : Graph) (k : ℕ) (l₀ l : List ℕ) : Type 0 where
   pub front : SameFront l₀ l
-  pub left : filled head (λ k. 9 + k) (returned-type g) (4 - k) k l ≡ filled head (λ k. 9 + k) (returned-type g) 4 0 l₀
+  pub left : filled head (λ k. types-at + k) (returned-type g) (4 - k) k l ≡ filled head (λ k. types-at + k) (returned-type g) 4 0 l₀

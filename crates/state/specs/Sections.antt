@@ -1,14 +1,14 @@
 -- The sections of the lent words, by number: a word read in one, a word stored in one.
 use mathlib.Core.List.{List, [], _∷_}
 use Prim.Native.Nat.{ℕ, suc, _+_}
-use lib.ListN.{length, getD, set, take, drop}
+use lib.ListN.{getD, set, take, drop}
 use lib.Dec.{ltb}
 use Rattle.meaning.specs.Lists.{pick, total}
 use Rattle.store.specs.Layout.{index-end}
 
 -- How many words each has, from the front on: the record and its index, then the tables of nesting.
 abbrev pub sizes : List ℕ
-sizes = index-end ∷ 16 ∷ 32 ∷ 32 ∷ 33 ∷ 33 ∷ 32 ∷ 32 ∷ 320 ∷ 80 ∷ 640 ∷ 5120 ∷ 5676 ∷ 4224 ∷ 7679 ∷ []
+sizes = index-end ∷ 16 ∷ 32 ∷ 32 ∷ 33 ∷ 33 ∷ 32 ∷ 32 ∷ 256 ∷ 80 ∷ 640 ∷ 5120 ∷ 4644 ∷ 3912 ∷ 7679 ∷ []
 
 pub data Section : Type 0 where
   front head kinds backedges set-starts set-lengths children bodies : Section
@@ -38,9 +38,41 @@ start k = total (λ n. n) (take (number k) sizes)
 abbrev pub size : Section → ℕ
 size k = getD sizes (number k) 0
 
+-- What stands in the head: totals, attempts, whether a marked input was met twice, cases under way, how many values a Return has and
+-- their types.
+abbrev pub regions-at : ℕ
+regions-at = 0
+
+abbrev pub nodes-at : ℕ
+nodes-at = 1
+
+abbrev pub merges-at : ℕ
+merges-at = 2
+
+abbrev pub outputs-at : ℕ
+outputs-at = 3
+
+abbrev pub cells-at : ℕ
+cells-at = 4
+
+abbrev pub attempts-at : ℕ
+attempts-at = 5
+
+abbrev pub twice-at : ℕ
+twice-at = 6
+
+abbrev pub cases-at : ℕ
+cases-at = 7
+
+abbrev pub returned-at : ℕ
+returned-at = 8
+
+abbrev pub types-at : ℕ
+types-at = 9
+
 -- Cells that there is room for; cell 0 is none.
 abbrev pub most-cells : ℕ
-most-cells = 704
+most-cells = 652
 
 -- How many words they have in all.
 abbrev pub used : ℕ

@@ -12,6 +12,7 @@ use Rattle.state.specs.Sections.{outputs, conditions}
 use Rattle.meaning.specs.Lists.{pick}
 use Rattle.nesting.specs.Nesting.{most-merges, most-outputs}
 use Rattle.state.specs.Sections.{most-cells}
+use Rattle.state.specs.Sections.{attempts-at, cases-at, cells-at, merges-at, outputs-at}
 
 -- A handle, or 0 where it names no earlier cell; a condition, or true where it names no earlier one.
 unfoldable pub earlier : ℕ → ℕ → ℕ
@@ -35,8 +36,8 @@ cell-words x = x .tag ∷ x .before ∷ x .a ∷ x .b ∷ x .c ∷ x .d ∷ []
 
 -- A cell more, at the handle that the head counts.
 pub data Adds (l l′ : List ℕ) (x : Cell) (h : ℕ) : Type 0 where
-  added : h ≡ word l head 4 → h < most-cells → l′ ≡ stored (stored-all l cells (6 * h) (cell-words x)) head 4 (h + 1) → Adds l l′ x h
-  no-room : most-cells ≤ word l head 4 → l′ ≡ l → h ≡ 0 → Adds l l′ x h
+  added : h ≡ word l head cells-at → h < most-cells → l′ ≡ stored (stored-all l cells (6 * h) (cell-words x)) head cells-at (h + 1) → Adds l l′ x h
+  no-room : most-cells ≤ word l head cells-at → l′ ≡ l → h ≡ 0 → Adds l l′ x h
 
 -- ---- Cases, rewrites.
 abbrev pub case-words : Case → List ℕ
@@ -46,19 +47,41 @@ case-words x = x .kind ∷ x .origin ∷ x .body ∷ x .children ∷ x .start �
 unfoldable pub inserted : List ℕ → ℕ → ℕ → List ℕ → List ℕ
 inserted l r kind vs = pick (eqb (word l rewrites (5 * r)) 0) (stored-all (stored l rewrites (5 * r) kind) rewrites (5 * r + 1) vs) l
 
--- ---- Bundles.
+-- ---- Bundles: a slot for each of 32 regions and a spare one, with room for 32 targets and Return; then a bundle for each case's own edge.
+abbrev pub slot-count : ℕ
+slot-count = 33
+
+abbrev pub slot-size : ℕ
+slot-size = 33
+
+abbrev pub own-edges-from : ℕ
+own-edges-from = 1089
+
+abbrev pub bundle-total : ℕ
+bundle-total = 1097
+
+-- No bundle; the target Return; the largest word.
+abbrev pub nowhere : ℕ
+nowhere = 65535
+
+abbrev pub return-word : ℕ
+return-word = 65535
+
+abbrev pub largest : ℕ
+largest = 65535
+
 -- A number of edges, as a word of the state: held at the largest.
 abbrev pub edges-word : ℕ → ℕ
-edges-word n = min n 65535
+edges-word n = min n largest
 
 unfoldable pub slot : ℕ → ℕ
-slot r = pick (ltb r 33) (33 * r) 65535
+slot r = pick (ltb r slot-count) (slot-size * r) nowhere
 
 unfoldable pub own-edge : ℕ → ℕ
-own-edge j = pick (ltb j 8) (1089 + j) 65535
+own-edge j = pick (ltb j 8) (own-edges-from + j) nowhere
 
 unfoldable pub bundle-at : ℕ → ℕ → ℕ
-bundle-at start i = pick (ltb start 1097) (pick (ltb i 33) (start + i) 65535) 65535
+bundle-at start i = pick (ltb start bundle-total) (pick (ltb i slot-size) (start + i) nowhere) nowhere
 
 abbrev pub bundle-words : List ℕ → ℕ → List ℕ
 bundle-words l b =
@@ -78,15 +101,15 @@ swapped l a b = stored (stored l set-starts a (word l set-starts b)) set-starts 
 
 -- The first bundle to a target among n from `start` on, of which i were passed.
 unfoldable pub find-by : List ℕ → ℕ → ℕ → ℕ → ℕ → ℕ
-find-by l start t zero i = 65535
+find-by l start t zero i = nowhere
 find-by l start t (suc n) i = pick (eqb (word l bundles (7 * bundle-at start i + 0)) t) (bundle-at start i) (find-by l start t n (suc i))
 
 -- ---- Steps of the head, of levels and of cases.
 unfoldable pub attempted : List ℕ → List ℕ
-attempted l = pick (ltb (word l head 5) 65535) (stored l head 5 (word l head 5 + 1)) l
+attempted l = pick (ltb (word l head attempts-at) largest) (stored l head attempts-at (word l head attempts-at + 1)) l
 
 unfoldable pub case-total : List ℕ → ℕ
-case-total l = pick (ltb (word l head 7) 8) (word l head 7) 8
+case-total l = pick (ltb (word l head cases-at) 8) (word l head cases-at) 8
 
 abbrev pub case-row : List ℕ → ℕ → Case
 case-row l j =
@@ -94,23 +117,28 @@ case-row l j =
     record { kind = field 0; origin = field 1; body = field 2; children = field 3; start = field 4; length = field 5 }
 
 unfoldable pub taken-word : List ℕ → ℕ → ℕ → ℕ
-taken-word l r j = pick (ltb j 8) (word l levels (10 * r + j)) 0
+taken-word l r j = pick (ltb j 8) (word l levels (8 * r + j)) 0
 
 unfoldable pub taken-stored : List ℕ → ℕ → ℕ → ℕ → List ℕ
-taken-stored l r j x = pick (ltb j 8) (stored l levels (10 * r + j) x) l
+taken-stored l r j x = pick (ltb j 8) (stored l levels (8 * r + j) x) l
 
 -- ---- Definitions of the other tables, each within its limit.
 pub data OutputDefined (node ty : ℕ) (vs l l′ : List ℕ) : Defined → Type 0 where
-  output-defined : {o : ℕ} → o ≡ word l head 3 → o < most-outputs
-      → l′ ≡ stored (stored-all l outputs (10 * o) (node ∷ ty ∷ vs)) head 3 (o + 1)
+  output-defined : {o : ℕ} → o ≡ word l head outputs-at → o < most-outputs
+      → l′ ≡ stored (stored-all l outputs (10 * o) (node ∷ ty ∷ vs)) head outputs-at (o + 1)
       → OutputDefined node ty vs l l′ (Number o)
-  outputs-full : most-outputs ≤ word l head 3 → l′ ≡ l → OutputDefined node ty vs l l′ Full
+  outputs-full : most-outputs ≤ word l head outputs-at → l′ ≡ l → OutputDefined node ty vs l l′ Full
 
-pub data MergeDefined (node shape scrutinee : ℕ) (parts l l′ : List ℕ) : Defined → Type 0 where
-  merge-defined : {m c : ℕ} → m ≡ word l head 2 → m < most-merges → c ≡ 4 + m
-      → l′ ≡ stored (stored-all l conditions (11 * c) (node ∷ shape ∷ scrutinee ∷ parts)) head 2 (m + 1)
-      → MergeDefined node shape scrutinee parts l l′ (Number c)
-  merges-full : most-merges ≤ word l head 2 → l′ ≡ l → MergeDefined node shape scrutinee parts l l′ Full
+-- Of a select by its cell.
+pub data MergeDefined (select : ℕ) (parts l l′ : List ℕ) : Defined → Type 0 where
+  merge-defined : {m c : ℕ} → m ≡ word l head merges-at → m < most-merges → c ≡ 4 + m
+      → l′ ≡ stored (stored-all l conditions (9 * c) (select ∷ parts)) head merges-at (m + 1)
+      → MergeDefined select parts l l′ (Number c)
+  merges-full : most-merges ≤ word l head merges-at → l′ ≡ l → MergeDefined select parts l l′ Full
+
+-- Word i of the cell of condition c's select.
+abbrev pub select-word : List ℕ → ℕ → ℕ → ℕ
+select-word l c i = word l cells (6 * word l conditions (9 * c + 0) + i)
 
 abbrev pub join-cell : ℕ → ℕ → Cell
 join-cell a b = record { tag = 2; before = a; a = b; b = 0; c = 0; d = 0 }

@@ -57,7 +57,7 @@ pub fn case_count(w: &[u16; WORDS]) -> u16
 }
 
 pub fn set_case_count(w: &mut [u16; WORDS], n: u16)
-    ensures { λ _. ⌜ now (w .exit) ≡ sections.stored (now (w .entry)) sections.head 7 n ⌝ }
+    ensures { λ _. ⌜ now (w .exit) ≡ sections.stored (now (w .entry)) sections.head sections.«cases-at» n ⌝ }
 {
     set_head(w, CASE_TOTAL, n);
 }

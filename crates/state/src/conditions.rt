@@ -3,6 +3,7 @@ ghost use mathlib.Core.Path.{_≡_};
 ghost use Prim.Native.Nat.{_+_, _*_, _≤_};
 ghost use Rattle.state.specs.Sections as sections;
 ghost use Rattle.state.specs.Tables as tables;
+use crate::cells::cell_word;
 use crate::defined::Defined;
 use crate::defined::MERGES;
 use crate::defined::MOST_MERGES;
@@ -29,34 +30,42 @@ pub const BOOL_COND: u16 = 0;
 
 fn cond_word(w: &[u16; WORDS], c: u16, i: usize) -> u16
     requires { ⌜ i ≤ 65600 ⌝ }
-    ensures { λ a. ⌜ a ≡ sections.word (now (w .entry)) sections.conditions (11 * c + i) ⌝ }
+    ensures { λ a. ⌜ a ≡ sections.word (now (w .entry)) sections.conditions (9 * c + i) ⌝ }
 {
-    get(w, CONDITIONS, CONDITIONS_WORDS, 11 * (c as usize) + i)
+    get(w, CONDITIONS, CONDITIONS_WORDS, 9 * (c as usize) + i)
+}
+
+// A word of its select's cell, where node, shape and scrutinee stand.
+fn select_word(w: &[u16; WORDS], c: u16, i: usize) -> u16
+    requires { ⌜ i ≤ 65600 ⌝ }
+    ensures { λ a. ⌜ a ≡ tables.«select-word» (now (w .entry)) c i ⌝ }
+{
+    cell_word(w, cond_word(w, c, 0), i)
 }
 
 pub fn cond_node(w: &[u16; WORDS], c: u16) -> u16
-    ensures { λ a. ⌜ a ≡ sections.word (now (w .entry)) sections.conditions (11 * c + 0) ⌝ }
+    ensures { λ a. ⌜ a ≡ tables.«select-word» (now (w .entry)) c 2 ⌝ }
 {
-    cond_word(w, c, 0)
+    select_word(w, c, 2)
 }
 
 pub fn cond_shape(w: &[u16; WORDS], c: u16) -> u16
-    ensures { λ a. ⌜ a ≡ sections.word (now (w .entry)) sections.conditions (11 * c + 1) ⌝ }
+    ensures { λ a. ⌜ a ≡ tables.«select-word» (now (w .entry)) c 3 ⌝ }
 {
-    cond_word(w, c, 1)
+    select_word(w, c, 3)
 }
 
 pub fn cond_scrutinee(w: &[u16; WORDS], c: u16) -> u16
-    ensures { λ a. ⌜ a ≡ sections.word (now (w .entry)) sections.conditions (11 * c + 2) ⌝ }
+    ensures { λ a. ⌜ a ≡ tables.«select-word» (now (w .entry)) c 4 ⌝ }
 {
-    cond_word(w, c, 2)
+    select_word(w, c, 4)
 }
 
 // An earlier condition.
 pub fn cond_part(w: &[u16; WORDS], c: u16, j: u16) -> u16
-    ensures { λ a. ⌜ a ≡ tables.«earlier-part» (sections.word (now (w .entry)) sections.conditions (11 * c + (3 + j))) c ⌝ }
+    ensures { λ a. ⌜ a ≡ tables.«earlier-part» (sections.word (now (w .entry)) sections.conditions (9 * c + (1 + j))) c ⌝ }
 {
-    let p = cond_word(w, c, 3 + (j as usize));
+    let p = cond_word(w, c, 1 + (j as usize));
     if p < c {
         return p;
     }
@@ -76,24 +85,18 @@ pub fn shape_size(shape: u16) -> u16
     8
 }
 
-pub fn define_merge(
-    w: &mut [u16; WORDS],
-    node: u16,
-    shape: u16,
-    scrutinee: u16,
-    parts: &[u16; 8],
-) -> Defined
-    ensures { λ a. ⌜ tables.MergeDefined node shape scrutinee (now (parts .entry)) (now (w .entry)) (now (w .exit)) a ⌝ }
+// A record more, of a select by its cell.
+pub fn define_merge(w: &mut [u16; WORDS], select: u16, parts: &[u16; 8]) -> Defined
+    ensures { λ a. ⌜ tables.MergeDefined select (now (parts .entry)) (now (w .entry)) (now (w .exit)) a ⌝ }
 {
     let m = head(w, MERGES);
     if m < MOST_MERGES {
-        let at = 11 * ((MERGE + m) as usize);
-        put(w, CONDITIONS, CONDITIONS_WORDS, at, node);
-        put(w, CONDITIONS, CONDITIONS_WORDS, at + 1, shape);
-        put(w, CONDITIONS, CONDITIONS_WORDS, at + 2, scrutinee);
-        put_all(w, CONDITIONS, CONDITIONS_WORDS, at + 3, parts);
+        let c = MERGE + m;
+        let at = 9 * (c as usize);
+        put(w, CONDITIONS, CONDITIONS_WORDS, at, select);
+        put_all(w, CONDITIONS, CONDITIONS_WORDS, at + 1, parts);
         set_head(w, MERGES, m + 1);
-        return Defined::Number(MERGE + m);
+        return Defined::Number(c);
     }
     Defined::Full
 }

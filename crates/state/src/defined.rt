@@ -1,6 +1,6 @@
 // Totals of all that was ever defined, each with document 01's limit: the first beyond is refused with 9. Attempts and twice.
 ghost use mathlib.Core.Path.{_≡_};
-ghost use Prim.Native.Nat.{_+_, _*_, _≤_};
+ghost use Prim.Native.Nat.{_+_, _≤_};
 ghost use Rattle.nesting.specs.Nesting as limits;
 ghost use Rattle.state.specs.Sections as sections;
 ghost use Rattle.state.specs.Tables as tables;
@@ -102,7 +102,7 @@ pub fn count_attempt(w: &mut [u16; WORDS])
 
 // The note that a marked value was met whose second look-up would change it.
 pub fn note_twice(w: &mut [u16; WORDS])
-    ensures { λ _. ⌜ now (w .exit) ≡ sections.stored (now (w .entry)) sections.head 6 1 ⌝ }
+    ensures { λ _. ⌜ now (w .exit) ≡ sections.stored (now (w .entry)) sections.head sections.«twice-at» 1 ⌝ }
 {
     set_head(w, TWICE, 1);
 }

@@ -1,6 +1,6 @@
 // Outputs of select nodes, by number: node, type, a value for each case.
 ghost use mathlib.Core.Path.{_≡_};
-ghost use Prim.Native.Nat.{_+_, _*_, _≤_};
+ghost use Prim.Native.Nat.{_+_, _*_};
 ghost use Rattle.state.specs.Sections as sections;
 ghost use Rattle.state.specs.Tables as tables;
 use crate::defined::Defined;
@@ -16,7 +16,7 @@ use crate::sections::put_all;
 use store::WORDS;
 
 pub fn output_count(w: &[u16; WORDS]) -> u16
-    ensures { λ a. ⌜ a ≡ sections.word (now (w .entry)) sections.head 3 ⌝ }
+    ensures { λ a. ⌜ a ≡ sections.word (now (w .entry)) sections.head sections.«outputs-at» ⌝ }
 {
     head(w, OUTPUT_TOTAL)
 }

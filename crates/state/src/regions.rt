@@ -84,7 +84,7 @@ pub fn target_taken(w: &[u16; WORDS], r: u16, j: u16) -> u16
     ensures { λ a. ⌜ a ≡ tables.«taken-word» (now (w .entry)) r j ⌝ }
 {
     if j < 8 {
-        return get(w, LEVELS, LEVELS_WORDS, 10 * (r as usize) + (j as usize));
+        return get(w, LEVELS, LEVELS_WORDS, 8 * (r as usize) + (j as usize));
     }
     0
 }
@@ -93,7 +93,7 @@ pub fn set_target_taken(w: &mut [u16; WORDS], r: u16, j: u16, x: u16)
     ensures { λ _. ⌜ now (w .exit) ≡ tables.«taken-stored» (now (w .entry)) r j x ⌝ }
 {
     if j < 8 {
-        put(w, LEVELS, LEVELS_WORDS, 10 * (r as usize) + (j as usize), x);
+        put(w, LEVELS, LEVELS_WORDS, 8 * (r as usize) + (j as usize), x);
         return;
     }
 }

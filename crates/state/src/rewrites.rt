@@ -1,7 +1,7 @@
 // How the inputs of each region are rewritten, the Rust's region_input_rewrites: none, replaced, or renumbered or replaced. Of four
 // values for a region, a marked one in a renumbering is the new number of an input that stays. The first entry of a region wins.
 ghost use mathlib.Core.Path.{_≡_};
-ghost use Prim.Native.Nat.{_+_, _*_, _≤_};
+ghost use Prim.Native.Nat.{_+_, _*_};
 ghost use Rattle.state.specs.Sections as sections;
 ghost use Rattle.state.specs.Tables as tables;
 use crate::sections::REWRITES;

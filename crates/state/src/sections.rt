@@ -29,10 +29,10 @@ pub const CHILDREN: usize = SET_LENGTHS + BY_SLOT;
 
 pub const BODIES: usize = CHILDREN + BY_REGION;
 
-// What a level of the cycle holds across a claim: ten words for each region.
+// What a level of the cycle holds across a claim: a word for each of eight targets of a region.
 pub const LEVELS: usize = BODIES + BY_REGION;
 
-pub const LEVELS_WORDS: usize = 320;
+pub const LEVELS_WORDS: usize = 256;
 
 // The cases of the select under way, ten words each.
 pub const CASES: usize = LEVELS + LEVELS_WORDS;
@@ -49,15 +49,15 @@ pub const OUTPUTS: usize = REWRITES + REWRITES_WORDS;
 
 pub const OUTPUTS_WORDS: usize = 5120;
 
-// Node, shape, scrutinee and eight parts for each lazy condition record, behind the three that are no records.
+// The cell of its select and eight parts for each lazy condition record, behind the four numbers that are no records.
 pub const CONDITIONS: usize = OUTPUTS + OUTPUTS_WORDS;
 
-pub const CONDITIONS_WORDS: usize = 5676;
+pub const CONDITIONS_WORDS: usize = 4644;
 
 // Six words for each cell; cell 0 is none.
 pub const CELLS: usize = CONDITIONS + CONDITIONS_WORDS;
 
-pub const CELLS_WORDS: usize = 4224;
+pub const CELLS_WORDS: usize = 3912;
 
 // Bundles of seven words: 33 slots of 33, and one for each case's own edge.
 pub const BUNDLES: usize = CELLS + CELLS_WORDS;

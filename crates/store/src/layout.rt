@@ -2,8 +2,8 @@
 ghost use mathlib.Core.Path.{_≡_};
 ghost use lib.ListN.{getD};
 
-// How many words are lent. This number stands in this line alone.
-pub const WORDS: usize = 28672;
+// How many words are lent: as many as the sections of nesting have, made even. This number stands in this line alone.
+pub const WORDS: usize = 26942;
 
 // A place that is none of theirs.
 pub const BEYOND: u16 = 65535;

@@ -6,7 +6,6 @@ use lib.ListN.{length, take, drop}
 use lib.Dec.{leb}
 use Rattle.text.specs.declared.Written.{Written}
 use Rattle.text.specs.declared.Written.the-variants.{Bytes, Full}
-use Rattle.text.specs.Buffer.{buffer}
 use Rattle.meaning.specs.Lists.{pick}
 
 -- A place beyond the buffer's end says that some byte found no room.

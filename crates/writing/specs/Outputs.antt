@@ -5,9 +5,10 @@ use lib.Dec.{ltb, eqb}
 use Rattle.meaning.specs.Lists.{pick}
 use Rattle.state.specs.Sections.{word, head, outputs}
 use Rattle.state.specs.Values.{parts-of}
+use Rattle.state.specs.Sections.{outputs-at}
 
 unfoldable pub node-of : List ℕ → ℕ → ℕ
-node-of w o = pick (ltb o (word w head 3)) (word w outputs (10 * o)) 0
+node-of w o = pick (ltb o (word w head outputs-at)) (word w outputs (10 * o)) 0
 
 -- How many of the first n outputs are the node's.
 unfoldable pub node-times : List ℕ → ℕ → ℕ → ℕ
@@ -18,7 +19,7 @@ abbrev pub least : ℕ → ℕ → ℕ
 least a b = pick (ltb a b) a b
 
 abbrev pub place-among : List ℕ → ℕ → ℕ → ℕ
-place-among w node o = node-times w node (least o (word w head 3))
+place-among w node o = node-times w node (least o (word w head outputs-at))
 
 abbrev pub output-words : List ℕ → ℕ → List ℕ
 output-words w o = 3 ∷ node-of w o ∷ place-among w (node-of w o) o ∷ []

@@ -1,15 +1,14 @@
 -- The parts of a sheet, as the definition has them: the words of each line, and the note `twice` of the values that it shows.
-use mathlib.Core.Path.{_≡_}
 use mathlib.Core.List.{List, [], _∷_, _++_, map}
 use Prim.Native.Nat.{ℕ}
 use lib.ListN.{length}
 use lib.Dec.{leb}
 use Rattle.meaning.specs.Lists.{any, concat, pick}
-use Rattle.meaning.specs.Graph.{Graph, Value, Instr}
+use Rattle.meaning.specs.Graph.{Graph, Value}
 use Rattle.meaning.specs.Runs.{Node, block, select, loop, exit, Nodes, ⟨⟩, _▸_, Cases, ∅, case, SelectNode, LoopNode}
 use Rattle.format.specs.Valid.{Valid}
 use Rattle.nesting.specs.Nesting.{NestState, NodeOutput, LookUp, plain, _⊛_, look-up-last, look-up-each, look-up-node, look-up-nodes}
-use Rattle.nesting.specs.Nesting.{look-up-cases, DeferredEdgeBundle, DeferredEdgeBundleSet, LazyCond, look-up-bundle, condition-in}
+use Rattle.nesting.specs.Nesting.{look-up-cases, DeferredEdgeBundle, DeferredEdgeBundleSet, look-up-bundle, condition-in}
 use Rattle.nesting.specs.Sheet as sheet
 use Rattle.nesting.specs.lookups.ChainEnds.{ChainsEnd}
 use Rattle.nesting.specs.decoding.Lines.{words-of}

@@ -1,6 +1,5 @@
 // Words put into the lent words from the back. Where no word is lent nothing is stored: so an empty slice measures.
 ghost use mathlib.Core.Path.{_≡_};
-ghost use mathlib.Core.Bool.{_||_};
 ghost use mathlib.Core.List.{[], _∷_};
 ghost use Prim.Native.Nat.{_-_};
 ghost use Rattle.nesting.specs.Nesting.{plain};

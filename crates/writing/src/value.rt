@@ -1,6 +1,5 @@
 // A value as a sheet shows it: looked up once more, three words.
 ghost use mathlib.Core.Path.{_≡_};
-ghost use mathlib.Core.List.{[], _∷_};
 ghost use Rattle.nesting.specs.Nesting.{plain};
 ghost use Rattle.shown.specs.Values.{value};
 ghost use Rattle.writing.specs.Outputs as words;

@@ -31,7 +31,7 @@ extern "C" {
     fn rukvetta_nest(bytes: *const u8, length: usize, words: *mut u16, out: *mut u32, lent: usize) -> u64;
 }
 
-/// The memory that nesting works in: 57,344 bytes for the words, and how many of them are a record.
+/// The memory that nesting works in: 53,884 bytes for the words, and how many of them are a record.
 pub struct State {
     words: [u16; WORDS],
     used: usize,

@@ -76,7 +76,7 @@ one-kept one slots q h =
 
 pub taken-same : {w w′ : List ℕ} → OnlySets w w′ → (r j : ℕ) → taken-word w′ r j ≡ taken-word w r j
 unfolding taken-word
-taken-same only r j = rw (only-word-same only levels (omega arith) (10 * r + j))
+taken-same only r j = rw (only-word-same only levels (omega arith) (8 * r + j))
 
 -- ---- Where the set of a case lies: in the slot of a region, or in the bundle of its own edge, or nowhere.
 pub data Owner (w : List ℕ) (r j a : ℕ) : Type 0 where

@@ -368,7 +368,7 @@ record NextStep (g : Graph) (w w₁ w₂ : List ℕ) (r j how : ℕ) (m : MaybeC
   below : r < 32
   place : j < 8
   noted : Noted g w₁ w₂ r j how
-  levels-same : (k : ℕ) → k < 10 → word w₁ levels (10 * r + k) ≡ word w levels (10 * r + k)
+  levels-same : (k : ℕ) → k < 8 → word w₁ levels (8 * r + k) ≡ word w levels (8 * r + k)
   state : ShowsState g w₂ s₁
   busy : word w₂ kinds r ≡ 1
   taken : TakenAs g w₂ r j (edge-of g r j) m

@@ -111,7 +111,7 @@ steady-attempted w = elim (decLt (word w head 5) 65535) [
 pub steady-taken : (w : List ℕ) (r j x : ℕ) → SteadyRecord w (taken-stored w r j x)
 unfolding taken-stored
 steady-taken w r j x = elim (decLt j 8) [
-  | yes h ↦ rw (lt-ltb j 8 h) (steady-of (kinds-stored w levels (omega arith) (10 * r + j) x))
+  | yes h ↦ rw (lt-ltb j 8 h) (steady-of (kinds-stored w levels (omega arith) (8 * r + j) x))
   | no h ↦ rw (le-ltb j 8 (omega arith)) (steady-same w)
 ]
 

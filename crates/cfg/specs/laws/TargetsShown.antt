@@ -49,11 +49,11 @@ notes g w r j y room b c =
     rw (lt-ltb j 8 c)
     record {
       concerns = taken-concerns g w r j y (omega arith);
-      here = rw (lt-ltb j 8 c) (word-there w levels (10 * r + j) y (omega arith) (omega arith));
+      here = rw (lt-ltb j 8 c) (word-there w levels (8 * r + j) y (omega arith) (omega arith));
       before = λ k h. let l : k < 8 = omega arith in rw (lt-ltb k 8 l)
-          (word-apart w levels (10 * r + j) y levels (10 * r + k) (omega arith));
-      lengths = λ q. ap (λ l. getD l q 0) (section-other w levels (10 * r + j) y set-lengths (omega arith));
-      handles = λ q. ap (λ l. getD l q 0) (section-other w levels (10 * r + j) y children (omega arith));
+          (word-apart w levels (8 * r + j) y levels (8 * r + k) (omega arith));
+      lengths = λ q. ap (λ l. getD l q 0) (section-other w levels (8 * r + j) y set-lengths (omega arith));
+      handles = λ q. ap (λ l. getD l q 0) (section-other w levels (8 * r + j) y children (omega arith));
     }
 
 pub noted-cells : {g : Graph} {w w′ : List ℕ} {r : ℕ} → Concerns g r w w′ → cells-in-all w′ ≡ cells-in-all w
@@ -117,7 +117,7 @@ module _ (g : Graph) (valid : Valid g) (fuel : ℕ) where
 
   module _ (w : List ℕ) {w₁ w₂ : List ℕ} {r j y : ℕ} (few : length (g .regions) ≤ 32)
       (busy : word w kinds r ≡ 1) (below : r < 32) (noted : Noted g w₁ w₂ r j y) (around : Around g r w w₁)
-      (levels-same : (k : ℕ) → k < 10 → word w₁ levels (10 * r + k) ≡ word w levels (10 * r + k)) where
+      (levels-same : (k : ℕ) → k < 8 → word w₁ levels (8 * r + k) ≡ word w levels (8 * r + k)) where
     busy₁ : word w₁ kinds r ≡ 1
     busy₁ = around .kinds-stay r below (inl busy) ∙ busy
 

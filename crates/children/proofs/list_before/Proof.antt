@@ -1,5 +1,5 @@
 use borrow.Author.Needs.{needs}
-use Rattle.meaning.specs.facts.Tests.{is-equal, not-equal, picked, passed-over}
+use Rattle.meaning.specs.facts.Tests.{is-equal, not-equal, picked}
 use Rattle.children.specs.CellByCell.{list-before}
 use Rattle.children.proofs.list_before.Statement.{statement}
 use Rattle.children.proofs.list_before.Tie as tie

@@ -7,8 +7,8 @@ use lib.ListN.{length, getD}
 use borrow.Author.Tests.{lt-ltb}
 use Rattle.nesting.specs.Nesting.{plain, LazyCond, undef-cond, false-cond, true-cond, merge, LazyConds, no-conds, _&_}
 use Rattle.nesting.specs.Sheet as sheet
-use Rattle.state.specs.Sections.{section, word, conditions}
-use Rattle.state.specs.Tables.{earlier-part, shape-size}
+use Rattle.state.specs.Sections.{word, conditions}
+use Rattle.state.specs.Tables.{earlier-part, shape-size, select-word}
 use Rattle.shown.specs.Tables.{cond-count, ShowsCond, shows-true, shows-false, shows-undef, shows-merge, ShowsConds, no-parts, part-and}
 use Rattle.shown.specs.laws.Conditions.{shape-cases}
 use Rattle.lookups.specs.laws.MaterializedLaws.{part-below}
@@ -26,7 +26,7 @@ unfolding sheet.condition
 low-condition w low p true-cond (shows-true e) = rw e at p
 low-condition w low p false-cond (shows-false e) = rw e at p
 low-condition w low p undef-cond (shows-undef e) = rw e at p
-low-condition w low p (merge n k v ts) (shows-merge h _ _ _ _) = absurd (omega arith)
+low-condition w low p (merge n k v ts) (shows-merge h _ _ _ _ _) = absurd (omega arith)
 
 -- ---- The parts of a merge.
 field-count : (ts : LazyConds) → length (sheet.conditions ts) ≡ cond-count ts
@@ -40,7 +40,7 @@ part-falls {p} {c} x e h = rw e (part-below x c h)
 -- The part at place j, of those from place i on.
 record PartShown (l : List ℕ) (c i j : ℕ) (ts : LazyConds) : Type 0 where
   tree : LazyCond
-  shows : ShowsCond l (earlier-part (getD l (11 * c + (3 + (i + j))) 0) c) tree
+  shows : ShowsCond l (earlier-part (word l conditions (9 * c + (1 + (i + j)))) c) tree
   field : getD (sheet.conditions ts) j (sheet.label "") ≡ sheet.condition tree
 
 part-shown : {l : List ℕ} {c i : ℕ} {ts : LazyConds} → ShowsConds l c i ts → (j : ℕ) → j < cond-count ts → PartShown l c i j ts
@@ -53,28 +53,28 @@ part-shown {l} {c} {i} (part-and e b sc ps) (suc j) h =
     let there : i + suc j ≡ suc i + j = omega arith in
     record { tree = x .tree; shows = rw there (x .shows); field = x .field }
 
-module _ (w : List ℕ) {c n : ℕ} (high : 4 ≤ c) {shape : ℕ} (size : n ≡ shape-size shape) (of-shape : shape ≡ word w conditions (11 * c + 1))
+module _ (w : List ℕ) {c n : ℕ} (high : 4 ≤ c) {shape : ℕ} (size : n ≡ shape-size shape) (of-shape : shape ≡ select-word w c 3)
   where
     -- A turn of the loop over them.
     pub part-turn : {j p : ℕ} {out out′ : List ℕ} {at at′ : Place} → j < n
-        → p ≡ earlier-part (word w conditions (11 * c + (3 + j))) c → PutsCondition w p out at out′ at′
-        → {t : LazyCond} → ShowsCond (section w conditions) c t → Puts out at (condition-part t j) out′ at′
+        → p ≡ earlier-part (word w conditions (9 * c + (1 + j))) c → PutsCondition w p out at out′ at′
+        → {t : LazyCond} → ShowsCond w c t → Puts out at (condition-part t j) out′ at′
     part-turn below part puts (shows-true e) = absurd (omega arith)
     part-turn below part puts (shows-false e) = absurd (omega arith)
     part-turn below part puts (shows-undef e) = absurd (omega arith)
-    part-turn {j} below part puts (shows-merge {ts = ts} h node is v ps) =
+    part-turn {j} below part puts (shows-merge {ts = ts} h b node is v ps) =
         let many : n ≡ cond-count ts = size ∙ ap shape-size of-shape ∙ shape-cases is in
         let x = part-shown ps j (omega arith) in
         let here : 0 + j ≡ j = omega arith in
         rw (x .field) (puts (x .tree) (rw part (rw here at (x .shows))))
 
-    pub merge-is : {node : ℕ} → node ≡ word w conditions (11 * c + 0) → {t : LazyCond} → ShowsCond (section w conditions) c t
+    pub merge-is : {node : ℕ} → node ≡ select-word w c 2 → {t : LazyCond} → ShowsCond w c t
         → plain (4 ∷ node ∷ n ∷ []) ⊕ run (condition-part t) 0 n ≡ plain (sheet.condition t .words)
     unfolding sheet.condition
     merge-is of-node (shows-true e) = absurd (omega arith)
     merge-is of-node (shows-false e) = absurd (omega arith)
     merge-is of-node (shows-undef e) = absurd (omega arith)
-    merge-is of-node {t} (shows-merge {ts = ts} h node is v ps) =
+    merge-is of-node {t} (shows-merge {ts = ts} h b node is v ps) =
         let many : n ≡ length (sheet.conditions ts) = size ∙ ap shape-size of-shape ∙ shape-cases is ∙ sym (field-count ts) in
         rw (
           run-list (condition-part t) (λ x. plain (x .words)) (sheet.label "") n (sheet.conditions ts) many (λ j b. refl)

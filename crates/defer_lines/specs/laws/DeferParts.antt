@@ -13,7 +13,7 @@ use Rattle.nesting.specs.Nesting as nesting
 use Rattle.nesting.specs.Nesting.{NestState, plain, DeferredTarget, DeferredEdgeBundle, DeferredEdgeBundleSet}
 use Rattle.nesting.specs.Nesting.{true-cond, look-up-each}
 use Rattle.nesting.specs.Sheet as sheet
-use Rattle.state.specs.Sections.{section, word, bundles, conditions, set-starts, set-lengths}
+use Rattle.state.specs.Sections.{word, bundles, set-starts, set-lengths}
 use Rattle.state.specs.Tables.{bundle-at}
 use Rattle.shown.specs.Tables.{ShowsCond, shows-true}
 use Rattle.shown.specs.Sets.{ShowsTarget, shows-region, shows-return, ShowsBundle, no-bundle}
@@ -49,11 +49,11 @@ module _ {g : Graph} {w : List ℕ} {p : ℕ} {e : DeferredEdgeBundle} (shows : 
         shows .count,
       )
 
-  pub condition-is : {c n : ℕ} → c ≡ condition-in w p n → n ≡ length d → ShowsCond (section w conditions) c (nesting.condition-in d e)
+  pub condition-is : {c n : ℕ} → c ≡ condition-in w p n → n ≡ length d → ShowsCond w c (nesting.condition-in d e)
   unfolding condition-in
   condition-is {n} is size = rw (is, size) (go (eqb (length d) 1))
     where
-      go : (b : Bool) → ShowsCond (section w conditions) (pick b 1 (word w bundles (7 * p + 2))) (pick b true-cond (e .condition))
+      go : (b : Bool) → ShowsCond w (pick b 1 (word w bundles (7 * p + 2))) (pick b true-cond (e .condition))
       go true = shows-true refl
       go false = shows .condition .tree
 

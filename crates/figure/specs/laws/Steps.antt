@@ -5,12 +5,9 @@ use Prim.Native.Nat.{ℕ, zero, suc, _+_, _*_, _≤_, _<_, max}
 use native.Mathlib.Omega.{arith}
 use native.Mathlib.Nat.{suc-mul, mul-le-mul}
 use native.Mathlib.Decide.{decLt}
-use native.Mathlib.Numerals.{add-one}
-use lib.ListN.{length, getD, drop, drop-of-length-le}
-use lib.Seq.{drop-cons}
-use Rattle.meaning.specs.Lists.{total}
 use Rattle.meaning.specs.Graph.{Graph, region}
 use Rattle.meaning.specs.Runs.{Nodes, Cases}
+use Rattle.meaning.specs.facts.Numbers.{max-assoc}
 use Rattle.nesting.specs.Sheet.{figure, dearest}
 use Rattle.record.specs.Stands.{Stands, OfRecord}
 use Rattle.state.specs.Sections.{section, cells}
@@ -38,9 +35,6 @@ pub turns-fit : {limit n test : ℕ} → limit < 65536 → n ≤ 4294967296 → 
 turns-fit {limit} {n} {test} a b c = mul-le-mul {n₂ = 65535} {m₂ = 4295032831} (omega arith) (omega arith)
 
 -- ---- The dearest of a list of cases.
-max-assoc : (a b c : ℕ) → max (max a b) c ≡ max a (max b c)
-max-assoc a b c = omega arith
-
 capped-max : (a b : ℕ) → capped (max a b) ≡ max (capped a) (capped b)
 capped-max a b = omega arith
 

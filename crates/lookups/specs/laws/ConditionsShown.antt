@@ -17,9 +17,9 @@ use Rattle.nesting.specs.Nesting.{turned-away, follow, give, materialize-lazy-c
 use Rattle.nesting.specs.Nesting.{most-outputs}
 use Rattle.state.specs.declared.defined.Defined.{Defined}
 use Rattle.state.specs.declared.defined.Defined.the-variants.{Number, Full}
-use Rattle.state.specs.Sections.{section, word, conditions, outputs}
+use Rattle.state.specs.Sections.{word, conditions, cells, outputs}
 use Rattle.state.specs.Values.{output-word, undef-word}
-use Rattle.state.specs.Tables.{earlier-part, shape-size, OutputDefined, output-defined, outputs-full}
+use Rattle.state.specs.Tables.{earlier-part, shape-size, select-word, OutputDefined, output-defined, outputs-full}
 use Rattle.shown.specs.Values.{value}
 use Rattle.shown.specs.laws.ValueWords.{equal-values, value-output, value-undef, value-beyond}
 use Rattle.shown.specs.laws.Stores.{ChangesOnly, nothing-changes, changes-then}
@@ -28,7 +28,7 @@ use Rattle.shown.specs.Tables.{shows-undef, shows-merge, ShowsConds, no-parts, 
 use Rattle.shown.specs.Tables.{shows-done, shows-full}
 use Rattle.shown.specs.laws.DefinedShown.{done-of, full-of}
 use Rattle.shown.specs.laws.Steps.{output-made, output-changes}
-use Rattle.shown.specs.laws.Conditions.{shape-cases, few-cases}
+use Rattle.shown.specs.laws.Conditions.{shape-cases, few-cases, cond-same}
 use Rattle.lookups.specs.Materialized.{is-scrutinee, shape-at, part-at, Merges, the-scrutinee, new-output, no-output, Materializes}
 use Rattle.lookups.specs.Materialized.{made-true, made-false, made-undef, made-merge, full-part, PartsMade, no-part, part-more}
 use Rattle.lookups.specs.laws.MaterializedLaws.{few-parts}
@@ -81,8 +81,7 @@ scrutinee-shown shape ws vs (shape-number a b n) h = rw (ne-eqb shape 0 (omega a
 -- ---- The values put together.
 module _ (l : List ℕ) (c : ℕ) (ws l′ : List ℕ) {s : NestState} (t : ShowsTables l s) {n : ℕ} {kind : SelectionKind} {v : Value}
     (vs : List Value)
-    (node : word l conditions (11 * c + 0) ≡ n) (shape : ShowsShape (shape-at l c) (length vs) kind)
-    (scrutinee : value (word l conditions (11 * c + 2)) ≡ v)
+    (node : select-word l c 2 ≡ n) (shape : ShowsShape (shape-at l c) (length vs) kind) (scrutinee : value (select-word l c 4) ≡ v)
     (len : length ws ≡ 8) (each : (k : ℕ) → k < length vs → value (getD ws k 0) ≡ getD vs k (undef 0))
     (beyond : (k : ℕ) → length vs ≤ k → k < 8 → getD ws k 0 ≡ 66) where
   abbrev put-together : StepAnswer Value
@@ -132,7 +131,7 @@ record PartsShown (l : List ℕ) (c j : ℕ) (l₁ ws : List ℕ) (ts : LazyCond
   each : (k : ℕ) → k < j → value (getD ws k 0) ≡ getD values k (undef 0)
   beyond : (k : ℕ) → j ≤ k → k < 8 → getD ws k 0 ≡ 66
   rest : LazyConds
-  left : ShowsConds (section l conditions) c j rest
+  left : ShowsConds l c j rest
   total : j + cond-count rest ≡ cond-count ts
   goes-on : materialize-lazy-conds ts s ≡ follow (materialize-lazy-conds rest state) (λ us. give (values ++ us))
 
@@ -142,14 +141,22 @@ follow-part : (t : LazyCond) (rest : LazyConds) (s s′ : NestState) (vs : List 
 unfolding materialize-lazy-cond
 follow-part t rest s s′ vs v e = rw e (follow-cons vs v (materialize-lazy-conds rest s′))
 
+-- An output more leaves the conditions, and their selects.
+cond-by : {l l₁ : List ℕ} → ChangesOnly outputs 3 l l₁ → {c : ℕ} {t : LazyCond} → ShowsCond l c t → ShowsCond l₁ c t
+cond-by g x = cond-same (g .others conditions (omega arith) (omega arith)) (g .others cells (omega arith) (omega arith))
+    (g .totals 4 (omega arith)) x
+
+select-by : {l l₁ : List ℕ} → ChangesOnly outputs 3 l l₁ → (c i : ℕ) → select-word l₁ c i ≡ select-word l c i
+select-by g c i = rw (g .others conditions (omega arith) (omega arith), g .others cells (omega arith) (omega arith))
+
 -- What a part's own words say it is.
 part-is : {l l₁ : List ℕ} (c j p q : ℕ) → ChangesOnly outputs 3 l l₁ → p ≡ part-at l₁ c j
-    → getD (section l conditions) (11 * c + (3 + j)) 0 ≡ q → q < c → p ≡ q
+    → word l conditions (9 * c + (1 + j)) ≡ q → q < c → p ≡ q
 unfolding earlier-part
 part-is c j p q g h e b = h ∙ rw (g .others conditions (omega arith) (omega arith), e, lt-ltb q c b)
 
 module _ {l : List ℕ} {c : ℕ} {ts : LazyConds} {s : NestState} where
-  parts-start : {l₁ ws : List ℕ} {j : ℕ} → j ≡ 0 → l₁ ≡ l → ws ≡ replicate 8 66 → ShowsConds (section l conditions) c 0 ts → ShowsTables l s
+  parts-start : {l₁ ws : List ℕ} {j : ℕ} → j ≡ 0 → l₁ ≡ l → ws ≡ replicate 8 66 → ShowsConds l c 0 ts → ShowsTables l s
       → PartsShown l c j l₁ ws ts s
   parts-start e f g sc t =
       record {
@@ -169,16 +176,16 @@ module _ {l : List ℕ} {c : ℕ} {ts : LazyConds} {s : NestState} where
 
   parts-next : {l₁ l₂ ws us : List ℕ} {j i p v : ℕ} → j < cond-count ts → cond-count ts ≤ 8 → p ≡ part-at l₁ c j → i ≡ j + 1
       → us ≡ set ws j v
-      → ((t : LazyCond) → ShowsCond (section l₁ conditions) p t → (s₁ : NestState) → ShowsTables l₁ s₁
+      → ((t : LazyCond) → ShowsCond l₁ p t → (s₁ : NestState) → ShowsTables l₁ s₁
       → ShowsValue l₁ l₂ (Number v) (materialize-lazy-cond t s₁))
-      → (x : PartsShown l c j l₁ ws ts s) (rest : LazyConds) → ShowsConds (section l conditions) c j rest
+      → (x : PartsShown l c j l₁ ws ts s) (rest : LazyConds) → ShowsConds l c j rest
       → j + cond-count rest ≡ cond-count ts
       → materialize-lazy-conds ts s ≡ follow (materialize-lazy-conds rest (x .state)) (λ us. give (x .values ++ us))
       → PartsShown l c i l₂ us ts s
   parts-next lt few pe ie ue made x no-conds no-parts total on = absurd (omega arith)
   parts-next {l₁} {l₂} {ws} {us} {j} {i} {p} {v} lt few pe ie ue made x (t & rest) (part-and {p = q} e b sc ps) total on =
       let same : p ≡ q = part-is c j p q (x .changes) pe e b in
-      let r = made t (rw (same, x .changes .others conditions (omega arith) (omega arith)) sc) (x .state) (x .tables) in
+      let r = made t (rw same (cond-by (x .changes) sc)) (x .state) (x .tables) in
       let d = done-of (r .answer) refl in
       let xs = x .values in
       let n = x .count in
@@ -210,11 +217,11 @@ module _ {l : List ℕ} {c : ℕ} {ts : LazyConds} {s : NestState} where
 -- ---- A record: all its parts, and then their values put together; or the refusal of a part.
 abbrev RecordsParts : List ℕ → ℕ → ℕ → List ℕ → List ℕ → Type 0
 RecordsParts l c j l₁ ws =
-    (ts : LazyConds) → ShowsConds (section l conditions) c 0 ts → cond-count ts ≡ shape-size (shape-at l c) → (s : NestState)
+    (ts : LazyConds) → ShowsConds l c 0 ts → cond-count ts ≡ shape-size (shape-at l c) → (s : NestState)
     → ShowsTables l s → PartsShown l c j l₁ ws ts s
 
 abbrev RecordsCond : List ℕ → ℕ → List ℕ → Defined → Type 0
-RecordsCond l c l′ a = (t : LazyCond) → ShowsCond (section l conditions) c t → (s : NestState) → ShowsTables l s
+RecordsCond l c l′ a = (t : LazyCond) → ShowsCond l c t → (s : NestState) → ShowsTables l s
     → ShowsValue l l′ a (materialize-lazy-cond t s)
 
 -- All parts are made: the definition's fold has come to its end.
@@ -232,7 +239,7 @@ module _ {l l′ : List ℕ} {c : ℕ} where
   true-shown e h true-cond (shows-true f) s t = rw h (record { answer = shows-done value-true t; changes = nothing-changes outputs 3 l })
   true-shown e h false-cond (shows-false f) s t = absurd (omega arith)
   true-shown e h undef-cond (shows-undef f) s t = absurd (omega arith)
-  true-shown e h (merge n k v ts) (shows-merge a b d f ps) s t = absurd (omega arith)
+  true-shown e h (merge n k v ts) (shows-merge a u b d f ps) s t = absurd (omega arith)
 
   false-shown : c ≡ 2 → l′ ≡ l → RecordsCond l c l′ (Number 64)
   unfolding materialize-lazy-cond
@@ -243,7 +250,7 @@ module _ {l l′ : List ℕ} {c : ℕ} where
         nothing-changes outputs 3 l;
   })
   false-shown e h undef-cond (shows-undef f) s t = absurd (omega arith)
-  false-shown e h (merge n k v ts) (shows-merge a b d f ps) s t = absurd (omega arith)
+  false-shown e h (merge n k v ts) (shows-merge a u b d f ps) s t = absurd (omega arith)
 
   undef-shown : (c ≡ 1 → ⊥) → (c ≡ 2 → ⊥) → c < 4 → {x : ℕ} → x ≡ undef-word 1 → l′ ≡ l → RecordsCond l c l′ (Number x)
   unfolding materialize-lazy-cond
@@ -251,7 +258,7 @@ module _ {l l′ : List ℕ} {c : ℕ} where
   undef-shown p q b x h false-cond (shows-false f) s t = absurd (q f)
   undef-shown p q b x h undef-cond (shows-undef f) s t =
       rw h (record { answer = shows-done (ap value x ∙ value-undef 1 (omega arith)) t; changes = nothing-changes outputs 3 l })
-  undef-shown p q b x h (merge n k v ts) (shows-merge a d e f ps) s t = absurd (omega arith)
+  undef-shown p q b x h (merge n k v ts) (shows-merge a u d e f ps) s t = absurd (omega arith)
 
   merge-shown : 4 ≤ c → {l₁ ws : List ℕ} {a : Defined} → RecordsParts l c (shape-size (shape-at l c)) l₁ ws → Merges l₁ c ws l′ a
       → RecordsCond l c l′ a
@@ -259,28 +266,28 @@ module _ {l l′ : List ℕ} {c : ℕ} where
   merge-shown b parts m true-cond (shows-true f) s t = absurd (omega arith)
   merge-shown b parts m false-cond (shows-false f) s t = absurd (omega arith)
   merge-shown b parts m undef-cond (shows-undef f) s t = absurd (omega arith)
-  merge-shown b {l₁} {ws} parts m (merge n kind v ts) (shows-merge h node shape scrutinee ps) s t =
+  merge-shown b {l₁} {ws} parts m (merge n kind v ts) (shows-merge h made-cell node shape scrutinee ps) s t =
       let size : shape-size (shape-at l c) ≡ cond-count ts = shape-cases shape in
       let x = parts ts ps (sym size) s t in
       let ended = all-made size x (x .rest) (x .total) (x .goes-on) in
-      let same = x .changes .others conditions (omega arith) (omega arith) in
+      let same = select-by (x .changes) c in
       let counted : length (x .values) ≡ cond-count ts = x .count ∙ size in
-      let r = merges-shown l₁ c ws l′ (x .tables) {n = n} {kind = kind} {v = v} (x .values) (rw same node) (rw (same, counted) shape)
-      (rw same scrutinee) (x .len) (λ k i. x .each k (let z = x .count in omega arith))
+      let r = merges-shown l₁ c ws l′ (x .tables) {n = n} {kind = kind} {v = v} (x .values) (same 2 ∙ node) (rw (same 3, counted) shape)
+      (ap value (same 4) ∙ scrutinee) (x .len) (λ k i. x .each k (let z = x .count in omega arith))
       (λ k a b. x .beyond k (let z = x .count in omega arith) b) m in
       rw ended (record { answer = r .answer; changes = changes-then (x .changes) (r .changes) })
 
   -- A part is refused: so is the whole.
   refused-part : {l₁ ws : List ℕ} {j p : ℕ} {ts : LazyConds} {s : NestState} → j < cond-count ts → p ≡ part-at l₁ c j
       → RecordsCond l₁ p l′ Full → (x : PartsShown l c j l₁ ws ts s)
-      (rest : LazyConds) → ShowsConds (section l conditions) c j rest → j + cond-count rest ≡ cond-count ts
+      (rest : LazyConds) → ShowsConds l c j rest → j + cond-count rest ≡ cond-count ts
       → materialize-lazy-conds ts s ≡ follow (materialize-lazy-conds rest (x .state)) (λ us. give (x .values ++ us))
       → (materialize-lazy-conds ts s ≡ turned-away 9 0) × ChangesOnly outputs 3 l l′
   unfolding materialize-lazy-cond
   refused-part lt pe made x no-conds no-parts total on = absurd (omega arith)
   refused-part {j} {p} lt pe made x (t & rest) (part-and {p = q} e b sc ps) total on =
       let same : p ≡ q = part-is c j p q (x .changes) pe e b in
-      let r = made t (rw (same, x .changes .others conditions (omega arith) (omega arith)) sc) (x .state) (x .tables) in
+      let r = made t (rw same (cond-by (x .changes) sc)) (x .state) (x .tables) in
       (on ∙ rw (full-of (r .answer) refl), changes-then (x .changes) (r .changes))
 
   full-shown : 4 ≤ c → {l₁ ws : List ℕ} {j p : ℕ} → j < shape-size (shape-at l c) → RecordsParts l c j l₁ ws → p ≡ part-at l₁ c j
@@ -289,7 +296,7 @@ module _ {l l′ : List ℕ} {c : ℕ} where
   full-shown b lt parts pe made true-cond (shows-true f) s t = absurd (omega arith)
   full-shown b lt parts pe made false-cond (shows-false f) s t = absurd (omega arith)
   full-shown b lt parts pe made undef-cond (shows-undef f) s t = absurd (omega arith)
-  full-shown b lt parts pe made (merge n kind v ts) (shows-merge h node shape scrutinee ps) s t =
+  full-shown b lt parts pe made (merge n kind v ts) (shows-merge h made-cell node shape scrutinee ps) s t =
       let size : shape-size (shape-at l c) ≡ cond-count ts = shape-cases shape in
       let x = parts ts ps (sym size) s t in
       let r = refused-part (rw size at lt) pe made x (x .rest) (x .left) (x .total) (x .goes-on) in

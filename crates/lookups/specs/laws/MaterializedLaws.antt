@@ -2,7 +2,7 @@
 use mathlib.Core.Path.{_≡_, refl, sym, _∙_}
 use mathlib.Core.Bool.{Bool, true, false}
 use mathlib.Core.List.{List}
-use Prim.Native.Nat.{ℕ, _+_, _*_, _≤_, _<_}
+use Prim.Native.Nat.{ℕ, _+_, _≤_, _<_}
 use native.Mathlib.Omega.{arith}
 use native.Mathlib.Decide.{decLt, ℕ-discrete}
 use lib.ListN.{getD, set}
@@ -10,9 +10,8 @@ use lib.Dec.{eqb}
 use borrow.Author.Tests.{lt-ltb, le-ltb, eq-eqb, ne-eqb}
 use Rattle.state.specs.declared.defined.Defined.{Defined}
 use Rattle.state.specs.declared.defined.Defined.the-variants.{Number, Full}
-use Rattle.state.specs.Sections.{word, conditions}
 use Rattle.state.specs.Values.{output-word}
-use Rattle.state.specs.Tables.{earlier-part, shape-size, OutputDefined}
+use Rattle.state.specs.Tables.{earlier-part, shape-size, select-word, OutputDefined}
 use Rattle.lookups.specs.Materialized.{is-scrutinee, shape-at, part-at, Merges, the-scrutinee, new-output, no-output, Materializes}
 use Rattle.lookups.specs.Materialized.{PartsMade, made-merge, full-part, part-more}
 
@@ -36,10 +35,10 @@ module _ (l : List ℕ) (c : ℕ) (vs : List ℕ) (shape : ℕ) (b : Bool) (of-s
   answer-is : is-scrutinee (shape-at l c) vs ≡ b
   answer-is = rw (← of-shape) (sym test)
 
-  pub merged-scrutinee : b ≡ true → {x : ℕ} → x ≡ word l conditions (11 * c + 2) → Merges l c vs l (Number x)
+  pub merged-scrutinee : b ≡ true → {x : ℕ} → x ≡ select-word l c 4 → Merges l c vs l (Number x)
   merged-scrutinee e p = the-scrutinee (answer-is ∙ e) p refl
 
-  module _ (other : b ≡ false) {l′ : List ℕ} {node : ℕ} {a : Defined} (of-node : node ≡ word l conditions (11 * c + 0))
+  module _ (other : b ≡ false) {l′ : List ℕ} {node : ℕ} {a : Defined} (of-node : node ≡ select-word l c 2)
       (made : OutputDefined node 1 vs l l′ a) where
     pub merged-full : a ≡ Full → Merges l c vs l′ Full
     merged-full e = no-output (answer-is ∙ other) (rw (of-node, e) at made)

@@ -7,7 +7,7 @@ use native.Mathlib.Omega.{arith}
 use native.Mathlib.Decide.{decLt}
 use native.Mathlib.Numerals.{add-one}
 use lib.ListN.{length, getD, length-map}
-use Rattle.meaning.specs.Graph.{Graph, region}
+use Rattle.meaning.specs.Graph.{Graph}
 use Rattle.meaning.specs.Lists.{pick, is-in}
 use Rattle.meaning.specs.facts.Elements.{getD-map-in}
 use Rattle.nesting.specs.Nesting.{exit-targets}

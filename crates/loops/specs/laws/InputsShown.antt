@@ -5,32 +5,27 @@ use mathlib.Core.List.{List, [], _∷_, _++_}
 use Prim.Native.Nat.{ℕ, suc, _+_, _*_, _≤_, _<_}
 use native.Mathlib.Omega.{arith}
 use native.Mathlib.Numerals.{add-one}
-use native.Mathlib.Decide.{decLt, ℕ-discrete}
+use native.Mathlib.Decide.{decLt}
 use lib.ListN.{length, getD, set, take, length-set, length-append, List·getD-append, List·getD-eq-default}
-use lib.Seq.{take-all, take-suc, length-take-le, getD-set-same, getD-set-other, getD-append-seam, sets}
+use lib.Seq.{take-all, take-suc, length-take-le, getD-set-same, getD-set-other, getD-append-seam}
 use lib.Dec.{eqb}
 use borrow.Author.Tests.{lt-ltb, eq-eqb, ne-eqb}
 use Rattle.meaning.specs.Graph.{Value, Graph, region, undef, input, same-value}
 use Rattle.nesting.specs.Nesting.{InputRewrite, renumber-to, replace-by, LoopInputs, no-inputs, keep-input, lift-input, take-input}
 use Rattle.nesting.specs.Nesting.{take-inputs}
 use Rattle.nesting.specs.Nesting.{most-regions}
-use Rattle.state.specs.Sections.{used, start, size, section, word, stored, stored-all, head, rewrites, most-cells}
-use Rattle.state.specs.laws.Apart.{section-stored}
-use Rattle.state.specs.Tables.{inserted}
+use Rattle.state.specs.Sections.{used, size, word, head, rewrites, most-cells}
 use Rattle.state.specs.Values.{region-word}
 use Rattle.shown.specs.Values.{value}
 use Rattle.shown.specs.laws.ValueWords.{equal-values, value-input, value-held}
-use Rattle.shown.specs.laws.Stores.{section-run, part-length}
 use Rattle.shown.specs.Tables.{ShowsInput, renumbered, replaced}
 use Rattle.shown.specs.laws.Elsewhere.{SameTables, same-words, same-then}
 use Rattle.shown.specs.Cells.{none-kept}
-use Rattle.shown.specs.States.{NamedRewrites}
 use Rattle.shown.specs.laws.RegionSteps.{Aside, aside-same, aside-then}
 use Rattle.shown.specs.laws.CellSteps.{ShowsKeptList, kept-added, cell-aside, cell-tables, cell-total, cell-handle}
 use Rattle.lookups.specs.laws.Shown.{held-below}
 use Rattle.loops.specs.declared.inputs.Taken.{Taken}
 use Rattle.loops.specs.Inputs.{KeepsInput, TakesInput, lifted, kept, beyond, TakesFrom, none-taken, one-taken}
-use Rattle.meaning.specs.facts.Parts.{run-before, run-behind, run-in}
 
 -- ---- The words of a region's inputs.
 module _ (r k : ℕ) (h : r < most-regions) (j : k < 4) where

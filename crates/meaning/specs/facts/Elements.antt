@@ -16,7 +16,7 @@ use lib.Seq.{getD-append-seam, getD-drop, set-at, drop-cons, append-snoc}
 use lib.Dec.{eqb}
 use borrow.Author.Tests.{eqb-true}
 use Rattle.meaning.specs.Lists.{pick, any, concat, filter, numbers-from, All, tabulate}
-use Rattle.meaning.specs.facts.Tests.{clash, and-both, or-left, or-right}
+use Rattle.meaning.specs.facts.Tests.{clash, and-both, or-left, or-right, or-mixed}
 
 abbrev pub nth : {A : Type 0} → List A → ℕ → Option A
 nth [] k = none
@@ -91,6 +91,13 @@ numbered-map f k (x ∷ l) (suc r) h = let z : suc k + r ≡ k + suc r = omega a
 pub any-snoc : {A : Type 0} (p : A → Bool) (xs : List A) (x : A) → any p (xs ++ (x ∷ [])) ≡ (any p xs || (p x || false))
 any-snoc p [] x = refl
 any-snoc p (y ∷ xs) x = ap (λ b. p y || b) (any-snoc p xs x) ∙ sym (or-assoc (p y) (any p xs) (p x || false))
+
+pub any-mixed : {A : Type 0} (c o d : A → Bool) (xs : List A)
+    → any (λ x. (c x || o x) || d x) xs ≡ (any (λ x. o x || c x) xs || any d xs)
+any-mixed c o d [] = refl
+any-mixed c o d (x ∷ xs) =
+    ap (λ z. ((c x || o x) || d x) || z) (any-mixed c o d xs)
+    ∙ or-mixed (c x) (o x) (d x) (any (λ x. o x || c x) xs) (any d xs)
 
 -- ---- what each has
 pub all-map : {A : Type 0} (P Q : A → Type 0) → ((x : A) → P x → Q x) → (xs : List A) → All P xs → All Q xs

@@ -1,6 +1,6 @@
 -- Numbers: what is left of a count, a number and the one before it, a bit of a byte.
 use mathlib.Core.Path.{_≡_}
-use Prim.Native.Nat.{ℕ, zero, suc, pred, _+_, _-_, _*_, _%_, _^_, _≤_, _<_}
+use Prim.Native.Nat.{ℕ, zero, suc, pred, _+_, _-_, _*_, _%_, _^_, _≤_, _<_, max}
 use native.Mathlib.Omega.{arith}
 use lib.Pow.{pow-lt}
 
@@ -20,6 +20,9 @@ one-further n m = omega arith
 
 pub from-none : (n : ℕ) → 0 + n ≡ n
 from-none n = omega arith
+
+pub max-assoc : (a b c : ℕ) → max (max a b) c ≡ max a (max b c)
+max-assoc a b c = omega arith
 
 pub pred-below : (n : ℕ) → 1 ≤ n → pred n < n
 pred-below zero le = absurd (omega arith)

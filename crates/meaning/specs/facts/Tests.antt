@@ -1,5 +1,5 @@
 -- Tests: what a boolean or a comparison of numbers says, and what is chosen by one.
-use mathlib.Core.Bool.{Bool, _||_, false, true, _&&_}
+use mathlib.Core.Bool.{Bool, _||_, false, true, _&&_, or-assoc, or-comm}
 use mathlib.Core.Logic.{_⊎_, inl, inr}
 use mathlib.Core.Path.{_≡_, refl, sym, ap, _∙_}
 use Prim.Native.Nat.{_<_, ℕ, _≤_}
@@ -23,6 +23,22 @@ or-left false b h = refl
 pub or-right : (a b : Bool) → (a || b) ≡ false → b ≡ false
 or-right true b h = let z : true ≡ false = h in cc
 or-right false b h = h
+
+pub or-swap : (a b c : Bool) → ((a || b) || c) ≡ (a || (c || b))
+or-swap a b c = or-assoc a b c ∙ ap (λ z. a || z) (or-comm b c)
+
+pub or-turned : (a b c : Bool) → (a || (b || c)) ≡ (b || (a || c))
+or-turned true true c = refl
+or-turned true false c = refl
+or-turned false b c = refl
+
+pub or-mixed : (c o d a b : Bool) → (((c || o) || d) || (a || b)) ≡ (((o || c) || a) || (d || b))
+or-mixed true true d a b = refl
+or-mixed true false d a b = refl
+or-mixed false true d a b = refl
+or-mixed false false true true b = refl
+or-mixed false false true false b = refl
+or-mixed false false false a b = refl
 
 pub false-if : (b : Bool) → (b ≡ true → ⊥) → b ≡ false
 false-if true h = absurd (h refl)

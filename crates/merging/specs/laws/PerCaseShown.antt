@@ -18,7 +18,7 @@ use Rattle.nesting.specs.Nesting as nesting
 use Rattle.nesting.specs.Nesting.{LazyCond, undef-cond, false-cond, true-cond, merge, DeferredTarget, DeferredEdgeBundle}
 use Rattle.nesting.specs.Nesting.{DeferredEdgeBundleSet, get-edge-bundle-by-target, MaybeClaimedRegion, ok, deferred-of}
 use Rattle.nesting.specs.Nesting.{passed-inputs}
-use Rattle.state.specs.Sections.{section, word, set-starts, cases, conditions, bundles}
+use Rattle.state.specs.Sections.{word, set-starts, cases, bundles}
 use Rattle.state.specs.Values.{is-input, input-region, input-index}
 use Rattle.state.specs.Tables.{input-word, case-total}
 use Rattle.shown.specs.Values.{value}
@@ -155,7 +155,7 @@ unfolding is-true
 is-true-shown l c (shows-true e) = rw e
 is-true-shown l c (shows-undef e) = rw e
 is-true-shown l c (shows-false e) = rw e
-is-true-shown l c (shows-merge a n k v ps) = rw (ne-eqb c 1 (omega arith), ne-eqb c 3 (omega arith))
+is-true-shown l c (shows-merge a b n k v ps) = rw (ne-eqb c 1 (omega arith), ne-eqb c 3 (omega arith))
 
 -- ---- Over all cases, from case j on. `ps` are the places of their bundles.
 module _ (g : Graph) (o : ℕ) (l : List ℕ) (r : ℕ) (x : DeferredTarget) (ps : List ℕ) where
@@ -173,7 +173,7 @@ module _ (g : Graph) (o : ℕ) (l : List ℕ) (r : ℕ) (x : DeferredTarget) (ps
       let first : CaseAt j c = rw here at (each 0 (omega arith)) in
       let shown = condition-shown g o l j (getD ps j 0) (deferred-of c) (first .size) (first .place) in
       let ih = all-shown cs (suc j) (λ k h. let e : suc j + k ≡ j + suc k = omega arith in rw e (each (suc k) (omega arith))) in
-      rw (is-true-shown (section l conditions) (per-case-condition l j (getD ps j 0)) (shown .tree), ih)
+      rw (is-true-shown l (per-case-condition l j (getD ps j 0)) (shown .tree), ih)
       (pick-and (true-enough (nesting.per-case-deferred x (deferred-of c) .condition)) (nesting.all-true (per-cases x cs)))
 
   -- The value that all pass, if there is one.

@@ -25,6 +25,7 @@ use Rattle.shown.specs.Sets.{Names, ShowsTarget, shows-region, shows-return, ta
 use Rattle.shown.specs.States.{Slots, ShowsReturned, NamedRewrites, ShowsState, ShowsCases, ShowsCase, shows-ok, shows-nothing, shows-edge}
 use Rattle.shown.specs.States.{shows-others, no-case}
 use Rattle.shown.specs.States.{ShowsRegion, is-not-begun, is-in-progress, is-ready, is-claimed}
+use Rattle.shown.specs.laws.Conditions.{condition-same}
 use Rattle.shown.specs.laws.FrontKept.{stands-on}
 use Rattle.shown.specs.Kept.{Later, KeptRegion}
 use Rattle.shown.specs.laws.RegionsKept.{bundle-stays, set-stays, same-bundle, same-bundle-then}
@@ -65,10 +66,8 @@ pub stays-later : {w w′ : List ℕ} (g : Graph) → Stays w w′ → Later g w
 stays-later g x =
     record {
       front = record { words = x .words; front-words = x .others front (omega arith) (omega arith) (omega arith) };
-      conditions-stay = λ c. record {
-        tree = rw (x .others conditions (omega arith) (omega arith) (omega arith)) (c .tree);
-        made = rw (x .totals 2 (omega arith)) (c .made);
-      };
+      conditions-stay = condition-same (x .others conditions (omega arith) (omega arith) (omega arith))
+          (x .others cells (omega arith) (omega arith) (omega arith)) (x .totals 4 (omega arith)) (x .totals 2 (omega arith));
       nodes-stay = λ n. record {
         nodes = rw (x .others cells (omega arith) (omega arith) (omega arith)) (n .nodes);
         made = rw (x .totals 4 (omega arith)) (n .made);
@@ -676,6 +675,6 @@ module _ (g : Graph) (valid : Valid g) (w : List ℕ) (r : ℕ) (s : NestState) 
           handle = same children (omega arith) (omega arith) (omega arith) q;
           body = same bodies (omega arith) (omega arith) (omega arith) q;
           backedge = same backedges (omega arith) (omega arith) (omega arith) q;
-          taken = λ j z. same levels (omega arith) (omega arith) (omega arith) (10 * q + j);
+          taken = λ j z. same levels (omega arith) (omega arith) (omega arith) (8 * q + j);
           slot = λ i z. bundles-outside (word w set-starts q + i) (λ j p u v e. case-apart q h below d j u (f j u) i p z v e);
         }

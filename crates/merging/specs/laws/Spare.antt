@@ -14,7 +14,8 @@ use Rattle.state.specs.Sections.{backedges, set-starts}
 use Rattle.state.specs.Sections.{set-lengths, children, bodies, levels, cases, rewrites, outputs, conditions, cells, bundles}
 use Rattle.state.specs.Tables.{case-total}
 use Rattle.state.specs.laws.Apart.{stored-length, section-other}
-use Rattle.shown.specs.laws.Elsewhere.{SameTables, tables-stay, condition-there}
+use Rattle.shown.specs.laws.Conditions.{condition-same}
+use Rattle.shown.specs.laws.Elsewhere.{SameTables, tables-stay}
 use Rattle.shown.specs.laws.FrontKept.{stands-on}
 use Rattle.shown.specs.Sets.{SameBundle}
 use Rattle.shown.specs.States.{Slots, ShowsState, ShowsCases, ShowsCase, shows-ok, shows-nothing, shows-edge, shows-others}
@@ -105,7 +106,6 @@ module _ {o : ℕ} {w w′ : List ℕ} (y : SpareOnly o w w′) where
         words = y .words;
         same-rewrites = y .others rewrites (omega arith) (omega arith);
         same-outputs = y .others outputs (omega arith) (omega arith);
-        same-conditions = y .others conditions (omega arith) (omega arith);
         totals = λ q a b. spare-there head (omega arith) (omega arith) q;
       }
 
@@ -113,7 +113,8 @@ module _ {o : ℕ} {w w′ : List ℕ} (y : SpareOnly o w w′) where
   spare-later g =
       record {
         front = record { words = y .words; front-words = y .others front (omega arith) (omega arith) };
-        conditions-stay = λ c. condition-there spare-tables c;
+        conditions-stay = condition-same (y .others conditions (omega arith) (omega arith)) (y .others cells (omega arith) (omega arith))
+            (spare-there head (omega arith) (omega arith) 4) (spare-there head (omega arith) (omega arith) 2);
         nodes-stay = λ n. record {
           nodes = rw (y .others cells (omega arith) (omega arith)) (n .nodes);
           made = rw (spare-there head (omega arith) (omega arith) 4) (n .made);
@@ -143,7 +144,7 @@ module _ {o : ℕ} {w w′ : List ℕ} (y : SpareOnly o w w′) where
           handle = spare-there children (omega arith) (omega arith) q;
           body = spare-there bodies (omega arith) (omega arith) q;
           backedge = spare-there backedges (omega arith) (omega arith) q;
-          taken = λ j d. spare-there levels (omega arith) (omega arith) (10 * q + j);
+          taken = λ j d. spare-there levels (omega arith) (omega arith) (8 * q + j);
           slot = λ i d. spare-outside (word w set-starts q + i) (λ k c e. apart (omega arith));
         }
 

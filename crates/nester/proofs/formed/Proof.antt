@@ -1,4 +1,3 @@
-use native.Mathlib.Omega.{arith}
 use Rattle.nester.specs.laws.NestingRecord.{too-dear, within-figure}
 use borrow.Author.Needs.{needs}
 use Rattle.nester.proofs.formed.Statement.{statement}

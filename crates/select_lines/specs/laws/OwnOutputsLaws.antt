@@ -20,7 +20,7 @@ use Rattle.writing.specs.laws.Rows.{run, run-turn, run-all, run-list}
 use Rattle.writing.specs.Parts.{OfState, each, output-nodes, value-part}
 use Rattle.writing.specs.Outputs.{node-times}
 use Rattle.writing.specs.laws.ValueShown.{place-shown}
-use Rattle.writing.specs.laws.PartLaws.{values-counted}
+use Rattle.writing.specs.laws.PartLaws.{values-counted, each-map}
 use Rattle.select_lines.specs.SelectParts.{output-types}
 use Rattle.select_lines.specs.OwnOutputs.{ValuesShown, PutsCaseOutputs, PutsOutputTypes, own, case-value, type-word}
 
@@ -82,10 +82,6 @@ each-filtered {A} p f (x ∷ xs) = by (p x) _ (each-filtered p f xs)
     by true ys e = ap (λ (r : Part). f x ⊕ r) e
     by false ys e = e
 
-each-mapped : {A B : Type 0} (f : B → Part) (h : A → B) (xs : List A) → each f (map h xs) ≡ each (λ x. f (h x)) xs
-each-mapped f h [] = refl
-each-mapped f h (x ∷ xs) = ap (λ (r : Part). f (h x) ⊕ r) (each-mapped f h xs)
-
 each-word : {A : Type 0} (h : A → ℕ) (xs : List A) → each (λ x. plain (h x ∷ [])) xs ≡ plain (map h xs)
 each-word h [] = refl
 each-word h (x ∷ xs) = ap (λ (r : Part). plain (h x ∷ []) ⊕ r) (each-word h xs)
@@ -146,7 +142,7 @@ module _ (w : List ℕ) (node : ℕ) {total k : ℕ} (c : ℕ) (all : total ≡ 
       let f = case-value w j s in
       let parts : run (own w node f) 0 (word w head 3) ≡ each (value-part s) (case-outputs node j (s .node-outputs)) =
       own-is t node f (λ o. value-part s (value-at o)) (λ o l e. ap (value-part s) (shown o l e))
-      ∙ sym (each-mapped (value-part s) value-at (own-outputs s node)) in
+      ∙ sym (each-map (value-part s) value-at (own-outputs s node)) in
       let size = length-map (own-outputs s node) value-at in
       puts-as (puts-then (run-all (own w node f) total k none (before g s x)) count)
       (rw (all, parts, values-counted s (case-outputs node j (s .node-outputs)), count-is t node c all none counted, size))

@@ -62,10 +62,10 @@ front-output {n} {ty} {vs} {l} (output-defined {o} p h e) =
     (kinds-stored (stored-all l outputs (10 * o) (n ∷ ty ∷ vs)) head (omega arith) 3 (o + 1)))
 front-output {l} (outputs-full h e) = rw e (kinds-same l)
 
-front-merge : {n shape x : ℕ} {ps l l′ : List ℕ} {a : Defined} → MergeDefined n shape x ps l l′ a → SameKinds l l′
-front-merge {n} {shape} {x} {ps} {l} (merge-defined {m} {c} p h q e) =
-    rw e (kinds-then (kinds-run l conditions (omega arith) (11 * c) (n ∷ shape ∷ x ∷ ps))
-    (kinds-stored (stored-all l conditions (11 * c) (n ∷ shape ∷ x ∷ ps)) head (omega arith) 2 (m + 1)))
+front-merge : {h : ℕ} {ps l l′ : List ℕ} {a : Defined} → MergeDefined h ps l l′ a → SameKinds l l′
+front-merge {h} {ps} {l} (merge-defined {m} {c} p b q e) =
+    rw e (kinds-then (kinds-run l conditions (omega arith) (9 * c) (h ∷ ps))
+    (kinds-stored (stored-all l conditions (9 * c) (h ∷ ps)) head (omega arith) 2 (m + 1)))
 front-merge {l} (merges-full h e) = rw e (kinds-same l)
 
 front-input : {g : Graph} {node q t k : ℕ} {places l l′ : List ℕ} {a : Made} → EmitInput g node q t places k l l′ a → SameKinds l l′
@@ -87,19 +87,13 @@ front-bundle (inputs-refused t) = front-inputs t
 front-bundle (bundle-emitted t c) = kinds-then (front-inputs t) (front-condition c)
 
 -- ---- The functions, path by path.
-module _ (h q : ℕ) (places l : List ℕ) {x node shape scrutinee : ℕ} {parts l₁ : List ℕ} {a : Defined}
-    (read : x ≡ word l bundles (7 * q + 2))
-    (open-yet : x ≡ 0) (in-cases : ConditionsIn l places parts) (of-node : node ≡ word l cells (6 * h + 2))
-    (of-shape : shape ≡ word l cells (6 * h + 3)) (of-scrutinee : scrutinee ≡ word l cells (6 * h + 4))
-    (made : MergeDefined node shape scrutinee parts l l₁ a) where
-  as-read : MergeDefined (word l cells (6 * h + 2)) (word l cells (6 * h + 3)) (word l cells (6 * h + 4)) parts l l₁ a
-  as-read = rw (of-node, of-shape, of-scrutinee) at made
-
+module _ (h q : ℕ) (places l : List ℕ) {x : ℕ} {parts l₁ : List ℕ} {a : Defined} (read : x ≡ word l bundles (7 * q + 2))
+    (open-yet : x ≡ 0) (in-cases : ConditionsIn l places parts) (made : MergeDefined h parts l l₁ a) where
   pub condition-refused : a ≡ Refused → EmitCondition h q places l l₁ Full
-  condition-refused e = no-condition (sym read ∙ open-yet) in-cases (rw e at as-read)
+  condition-refused e = no-condition (sym read ∙ open-yet) in-cases (rw e at made)
 
   pub condition-set : {c : ℕ} → a ≡ Number c → {l′ : List ℕ} → l′ ≡ stored l₁ bundles (7 * q + 2) c → EmitCondition h q places l l′ Done
-  condition-set e p = condition-made (sym read ∙ open-yet) in-cases (rw e at as-read) p
+  condition-set e p = condition-made (sym read ∙ open-yet) in-cases (rw e at made) p
 
 module _ (node q t : ℕ) (places : List ℕ) (k : ℕ) (l : List ℕ) {x ty : ℕ} {vs l₁ : List ℕ} {a : Defined} (read : x ≡ input-word l q k)
     (open-yet : x ≡ 65535) (of-type : OfRecord l (λ g. ty ≡ target-type g l t k)) (in-cases : ValuesIn l places k ty vs)

@@ -121,7 +121,7 @@ module _ {g : Graph} {r base : ℕ} {cs : List MaybeClaimedRegion} {a b : ℕ} {
           handle = same children (omega arith) (omega arith) q;
           body = same bodies (omega arith) (omega arith) q;
           backedge = same backedges (omega arith) (omega arith) q;
-          taken = λ j i. same levels (omega arith) (omega arith) (10 * q + j);
+          taken = λ j i. same levels (omega arith) (omega arith) (8 * q + j);
           slot = λ j i. x .beside (word w set-starts q + j) (λ c e.
               let u = here .slots .starts q (omega arith) in
               let v = here .slots .starts 32 (omega arith) in

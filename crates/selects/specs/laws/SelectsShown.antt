@@ -102,6 +102,7 @@ pub record SelectPlaced (g : Graph) (r : ℕ) (w w′ : List ℕ) (h node shape 
   pub is-node : word w′ cells (6 * h + 2) ≡ node
   pub is-shape : word w′ cells (6 * h + 3) ≡ shape
   pub is-scrutinee : word w′ cells (6 * h + 4) ≡ x
+  pub is-made : h < word w′ head 4
   pub tables : SameTables w w′
   pub step : SelectStep g r w w′
   pub total : word w′ head 4 ≡ word w head 4 + (many + 1)
@@ -139,6 +140,7 @@ module _ (g : Graph) (cs : List MaybeClaimedRegion) (r : ℕ) (below : r < 32) w
         is-node = ap (λ l. getD l (6 * h + 2) 0) same ∙ there .is-a;
         is-shape = ap (λ l. getD l (6 * h + 3) 0) same ∙ there .is-b;
         is-scrutinee = ap (λ l. getD l (6 * h + 4) 0) same ∙ there .is-c;
+        is-made = (let z = c .same-head 4 in omega arith);
         tables = same-then (tables-by (m .changes) (omega arith) (λ q a b e. b e)) (same-then (cell-tables y free₂ room₂) (c .tables));
         step = step-then (step-by (m .changes) (omega arith) (omega arith) (omega arith) (omega arith) g r (m .later))
             (step-then (step-by (cell-changes y free₂ room₂) (omega arith) (omega arith) (omega arith) (omega arith) g r
@@ -172,6 +174,7 @@ pub record SelectDone (g : Graph) (r : ℕ) (cs : List MaybeClaimedRegion) (pare
   pub node : word w′ cells (6 * h + 2) ≡ n .node
   pub shape : ShowsShape (word w′ cells (6 * h + 3)) (length cs) (n .kind)
   pub scrutinee : value (word w′ cells (6 * h + 4)) ≡ n .scrutinee
+  pub made : h < word w′ head 4
   pub same : (k : Section) → (number k ≡ number sections.head → ⊥) → (number k ≡ number sections.children → ⊥)
       → (number k ≡ number sections.cases → ⊥) → (number k ≡ number sections.outputs → ⊥) → (number k ≡ number sections.cells → ⊥)
       → section w′ k ≡ section w k
@@ -241,6 +244,7 @@ module _ {g : Graph} {r : ℕ} {cs : List MaybeClaimedRegion} {parent : Nodes} {
         node = p .is-node;
         shape = rw (p .is-shape) of-shape;
         scrutinee = ap value (p .is-scrutinee) ∙ of-value;
+        made = p .is-made;
         same = λ k a b d e f. p .same k a b f ∙ same k a d e;
         total = omega arith;
       }

@@ -12,7 +12,7 @@ use Rattle.nesting.specs.Nesting.{true-cond, merge, MaybeClaimedRegion, Planned
 use Rattle.nesting.specs.Nesting.{turned-away}
 use Rattle.nesting.specs.Nesting.{conditions-of, deferred-of, follow, give, emit-inputs, emit-condition, emit}
 use Rattle.state.specs.declared.defined.Defined.{Defined}
-use Rattle.state.specs.Sections.{word, stored-all, front, set-lengths, conditions, cells, bundles}
+use Rattle.state.specs.Sections.{word, stored-all, front, head, set-lengths, conditions, cells, bundles}
 use Rattle.state.specs.Tables.{bundle-at, MergeDefined, merge-defined, merges-full}
 use Rattle.shown.specs.Values.{value}
 use Rattle.shown.specs.laws.Stores.{ChangesOnly, run-changes, head-changes, changes-then, nothing-changes}
@@ -47,6 +47,7 @@ pub record ShowsSelectCell (h : ℕ) (n : DefinedSelect) (many : ℕ) (w : List 
   pub node : word w cells (6 * h + 2) ≡ n .node
   pub shape : ShowsShape (word w cells (6 * h + 3)) many (n .kind)
   pub scrutinee : value (word w cells (6 * h + 4)) ≡ n .scrutinee
+  pub made : h < word w head 4
 
 cell-stays : {g : Graph} {a b : ℕ} {w w′ : List ℕ} → Emitting g a b w w′ → {h : ℕ} {n : DefinedSelect} {many : ℕ}
     → ShowsSelectCell h n many w → ShowsSelectCell h n many w′
@@ -56,15 +57,16 @@ cell-stays x {h} y =
       node = ap (λ l. getD l (6 * h + 2) 0) same ∙ y .node;
       shape = rw same (y .shape);
       scrutinee = ap (λ l. value (getD l (6 * h + 4) 0)) same ∙ y .scrutinee;
+      made = rw (x .totals 4 (omega arith) (omega arith)) (y .made);
     }
 
 -- ---- A condition.
-merge-changes : {n shape x : ℕ} {ps w w′ : List ℕ} {a : Defined} → MergeDefined n shape x ps w w′ a → ChangesOnly conditions 2 w w′
-merge-changes {n} {shape} {x} {ps} {w} (merge-defined {m} {c} p h r e) =
+merge-changes : {h : ℕ} {ps w w′ : List ℕ} {a : Defined} → MergeDefined h ps w w′ a → ChangesOnly conditions 2 w w′
+merge-changes {h} {ps} {w} (merge-defined {m} {c} p b r e) =
     rw e
-    (changes-then (run-changes conditions 2 w (omega arith) (11 * c) (n ∷ shape ∷ x ∷ ps))
-    (head-changes conditions 2 (stored-all w conditions (11 * c) (n ∷ shape ∷ x ∷ ps)) (m + 1)))
-merge-changes {w} (merges-full h e) = rw e (nothing-changes conditions 2 w)
+    (changes-then (run-changes conditions 2 w (omega arith) (9 * c) (h ∷ ps))
+    (head-changes conditions 2 (stored-all w conditions (9 * c) (h ∷ ps)) (m + 1)))
+merge-changes {w} (merges-full b e) = rw e (nothing-changes conditions 2 w)
 
 record ConditionDone (g : Graph) (q : ℕ) (w w′ : List ℕ) (c : LazyCond) (s : NestState) : Type 0 where
   emitting : Emitting g q (q + 1) w w′
@@ -88,15 +90,14 @@ module _ {g : Graph} {r base : ℕ} {cs : List MaybeClaimedRegion} (n : DefinedS
   condition-shown (is-true z) (condition-made e ps m p) = absurd (omega arith)
   condition-shown (is-true z) (no-condition e ps m) = absurd (omega arith)
   condition-shown (is-open {ts} z u) (condition-made {l₁} {c} e ps m p) =
-      let made = rw (cell .node) at m in
       let many : length cs ≡ cond-count (conditions-of (per-cases x cs)) =
       sym (count-conditions (per-cases x cs) ∙ length-map cs (λ c. nesting.per-case-deferred x (deferred-of c))) in
-      let y = done-of (merge-made tables (ps .size) (rw many at (cell .shape)) (cell .scrutinee) (parts-shown (here .shown) at ps) made)
-      refl in
-      let changes = merge-changes made in
+      let y = done-of (merge-made tables (cell .made) (cell .node) (rw many at (cell .shape)) (cell .scrutinee) (ps .size)
+      (parts-shown (here .shown) at ps) m) refl in
+      let changes = merge-changes m in
       let later : Later g w l₁ = record {
         front = record { words = changes .words; front-words = changes .others front (omega arith) (omega arith) };
-        conditions-stay = λ c. condition-kept tables made c;
+        conditions-stay = λ c. condition-kept tables m c;
         nodes-stay = λ k. record {
           nodes = rw (changes .others cells (omega arith) (omega arith)) (k .nodes);
           made = rw (changes .totals 4 (omega arith)) (k .made);
@@ -114,13 +115,12 @@ module _ {g : Graph} {r base : ℕ} {cs : List MaybeClaimedRegion} (n : DefinedS
         shown = rw (word-there l₁ bundles (7 * q + 2) c (omega arith) (omega arith)) (last .later .conditions-stay (y .shows));
       }))
   condition-shown (is-open z u) (no-condition e ps m) =
-      let made = rw (cell .node) at m in
       let many : length cs ≡ cond-count (conditions-of (per-cases x cs)) =
       sym (count-conditions (per-cases x cs) ∙ length-map cs (λ c. nesting.per-case-deferred x (deferred-of c))) in
       rw (
         u,
-        full-of (merge-made tables (ps .size) (rw many at (cell .shape)) (cell .scrutinee) (parts-shown (here .shown) at ps) made)
-            refl,
+        full-of (merge-made tables (cell .made) (cell .node) (rw many at (cell .shape)) (cell .scrutinee) (ps .size)
+            (parts-shown (here .shown) at ps) m) refl,
       )
       shows-refused
 

@@ -132,7 +132,7 @@ module _ {g : Graph} (few : length (g .regions) ≤ 32) (small : SmallTypes g) {
         }
 
     cell-then : ShowsSelectCell h n (length (cases-after s₀ cs)) l
-    cell-then = record { node = done₁ .node; shape = done₁ .shape; scrutinee = done₁ .scrutinee }
+    cell-then = record { node = done₁ .node; shape = done₁ .shape; scrutinee = done₁ .scrutinee; made = done₁ .made }
 
     with-set : {w′ : List ℕ} {a : Made} {b : StepAnswer DeferredEdgeBundleSet} → ShowsMade (SetDone g base l w′ (length ps)) a b
         → ShowsMade (SelectChosen g r base parent (length cs) (length ps) w w′) a (follow b (λ d. give (region-body (n .children) d)))

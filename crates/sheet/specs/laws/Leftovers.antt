@@ -1,18 +1,17 @@
 -- The regions that a leftover gives, by ascending number: the unclaimed Ready ones, and among their sets the entry's.
-use mathlib.Core.Path.{_≡_, refl, sym, ap, _∙_}
-use mathlib.Core.Bool.{Bool, true, false, _||_}
-use mathlib.Core.List.{List, [], _∷_, _++_, map}
-use Prim.Native.Nat.{ℕ, zero, suc, _+_, _≤_, _<_}
+use mathlib.Core.Path.{_≡_, refl, _∙_}
+use mathlib.Core.List.{List, [], _∷_}
+use Prim.Native.Nat.{ℕ, suc, _+_, _≤_, _<_}
 use native.Mathlib.Omega.{arith}
 use native.Mathlib.Decide.{ℕ-discrete}
 use lib.ListN.{length, getD}
-use lib.Dec.{leb, eqb}
-use borrow.Author.Tests.{le-leb, lt-leb, eq-eqb, ne-eqb}
+use lib.Dec.{eqb}
+use borrow.Author.Tests.{le-leb, lt-leb, ne-eqb}
 use Rattle.meaning.specs.Lists.{pick}
 use Rattle.meaning.specs.Graph.{Graph}
 use Rattle.meaning.specs.facts.Tests.{eqb-self}
 use Rattle.meaning.specs.facts.Numbers.{no-further, one-further}
-use Rattle.nesting.specs.Nesting.{NestState, Piece, piece, plain, unclaimed-from, StructurizeRegionState, not-begun, in-progress, claimed}
+use Rattle.nesting.specs.Nesting.{NestState, Piece, plain, unclaimed-from, StructurizeRegionState, not-begun, in-progress, claimed}
 use Rattle.nesting.specs.Nesting.{ready, DeferredEdgeBundleSet}
 use Rattle.nesting.specs.Sheet as sheet
 use Rattle.writing.specs.Puts.{Part}

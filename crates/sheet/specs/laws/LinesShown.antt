@@ -1,23 +1,21 @@
 -- The lines behind line 1, by the outcome: what was put is what the answer's lines are.
-use mathlib.Core.Path.{_≡_, refl, sym, ap, subst, _∙_}
-use mathlib.Core.Bool.{Bool, true, false, _||_, or-false}
-use mathlib.Core.List.{List, [], _∷_, _++_, append-nil}
-use Prim.Native.Nat.{ℕ, _≤_, _<_}
+use mathlib.Core.Path.{_≡_, refl, sym}
+use mathlib.Core.Bool.{false, or-false}
+use mathlib.Core.List.{List, [], append-nil}
+use Prim.Native.Nat.{ℕ}
 use native.Mathlib.Omega.{arith}
 use Rattle.meaning.specs.Graph.{Graph}
-use Rattle.meaning.specs.Runs.{Nodes, ⟨⟩}
 use Rattle.meaning.specs.facts.Tests.{clash}
 use Rattle.record.specs.Stands.{OfRecord}
 use Rattle.nesting.specs.Nesting.{NestState, Nested, Outcome, untouched, whole, closed, leftover, Piece, piece, conclude-with}
 use Rattle.nesting.specs.Nesting.{unclaimed-from}
-use Rattle.nesting.specs.Nesting.{DeferredEdgeBundle, DeferredEdgeBundleSet, region-body, look-up-piece, look-up-nodes}
-use Rattle.shown.specs.States.{ShowsBody}
+use Rattle.nesting.specs.Nesting.{look-up-piece, look-up-nodes}
 use Rattle.writing.specs.declared.place.Place.{Place}
-use Rattle.writing.specs.Puts.{Part, Puts}
-use Rattle.writing.specs.laws.PutsLaws.{_⊕_, puts-then, puts-none, puts-as}
-use Rattle.writing.specs.Parts.{OfState, Concluded, each}
+use Rattle.writing.specs.Puts.{Puts}
+use Rattle.writing.specs.laws.PutsLaws.{puts-then, puts-none, puts-as}
+use Rattle.writing.specs.Parts.{each}
 use Rattle.writing.specs.laws.PartLaws.{parts-assoc}
-use Rattle.sheet.specs.Pieces.{region-lines, piece-part, set-part, lines-part, lines-are, twice-is}
+use Rattle.sheet.specs.Pieces.{piece-part, lines-part, lines-are, twice-is}
 use Rattle.sheet.specs.Regions.{PutsPiece, PutsWhole, PutsUnclaimed, PutsSets, PutsLeftover}
 use Rattle.sheet.specs.Written.{ShowsAnswer, shows-untouched, shows-whole, shows-closed, shows-leftover, LinesPut}
 use Rattle.sheet.specs.Written.{PutsLines, behind-head}

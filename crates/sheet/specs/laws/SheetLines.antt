@@ -1,8 +1,8 @@
 -- The words of a sheet are those of its lines.
 use mathlib.Core.Path.{_≡_, refl, sym, ap, _∙_}
 use mathlib.Core.List.{List, [], _∷_, _++_, map, append-assoc, append-nil, map-append}
-use Prim.Native.Nat.{ℕ, suc}
-use lib.ListN.{length, length-map}
+use Prim.Native.Nat.{ℕ}
+use lib.ListN.{length}
 use Rattle.meaning.specs.Lists.{concat}
 use Rattle.meaning.specs.Graph.{Graph, Value}
 use Rattle.meaning.specs.Runs.{SelectNode, LoopNode, Node, block, select, loop, exit, Nodes, ⟨⟩, _▸_, Cases, ∅, case}

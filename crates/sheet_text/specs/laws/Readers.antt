@@ -3,7 +3,7 @@ use mathlib.Core.Path.{_≡_, refl}
 use mathlib.Core.List.{List, [], _∷_}
 use Prim.Native.Nat.{ℕ, zero, suc, _≤_, _<_}
 use native.Mathlib.Omega.{arith}
-use lib.ListN.{length, getD, drop, List·getD-eq-default}
+use lib.ListN.{length, getD, List·getD-eq-default}
 use Rattle.meaning.specs.Text.{Text}
 use Rattle.nesting.specs.decoding.Lines.{value-texts}
 use Rattle.nesting.specs.decoding.Decode.{Decoded, decoded, nothing, WordReader, next-word}

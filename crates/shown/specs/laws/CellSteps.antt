@@ -17,21 +17,21 @@ use Rattle.nesting.specs.Nesting.{most-regions}
 use Rattle.state.specs.declared.cells.Cell.{Cell}
 use Rattle.state.specs.Sections as sections
 use Rattle.state.specs.Sections.{Section, number, start, size, used, section, word, stored, stored-all, head, conditions, cells}
-use Rattle.state.specs.Sections.{bundles, front}
+use Rattle.state.specs.Sections.{front}
 use Rattle.state.specs.laws.Apart.{section-other}
 use Rattle.state.specs.Tables.{Adds, added, no-room, cell-words, Joins, first-empty, second-empty, joined}
 use Rattle.shown.specs.Values.{value}
 use Rattle.shown.specs.laws.Stores.{section-run, part-length, head-same, ChangesOnly, head-changes, run-changes}
 use Rattle.shown.specs.laws.Stores.{changes-then, nothing-changes}
 use Rattle.shown.specs.Tables.{ShowsShape}
+use Rattle.shown.specs.laws.Conditions.{ConditionsStay, cond-stays}
 use Rattle.shown.specs.laws.Elsewhere.{SameTables, same-words}
-use Rattle.shown.specs.Sets.{SameBundle}
 use Rattle.shown.specs.Cells.{CellIs, ShowsKept, none-kept, one-kept, ShowsNodes, no-nodes, all-blocks, two-lists, then-exit}
 use Rattle.shown.specs.Cells.{then-select, the-loop, ShowsCaseCells, no-cases, case-and, ShowsChildren}
 use Rattle.meaning.specs.Runs.{case-count}
 use Rattle.shown.specs.Kept.{Later, KeptRegion}
 use Rattle.shown.specs.laws.RegionsKept.{later-same, kept-same}
-use Rattle.shown.specs.laws.RegionSteps.{Aside, bundles-same, kept-by, tables-by, states-by, StatesStay}
+use Rattle.shown.specs.laws.RegionSteps.{Aside, kept-by, tables-by, states-by, StatesStay}
 use Rattle.meaning.specs.facts.Parts.{run-before, run-in}
 use Rattle.state.specs.Sections.{most-cells}
 
@@ -121,13 +121,23 @@ module _ {w w′ : List ℕ} {x : Cell} {h : ℕ} (step : Adds w w′ x h) (free
         is-d = at 5 (omega arith);
       }
 
+  conditions-after : (m : ℕ) → ConditionsStay m w w′
+  conditions-after m =
+      let e = cell-handle in
+      let t = cell-total in
+      record {
+        record-words = λ i b. ap (λ l. getD l i 0) (cell-changes .others conditions (omega arith) (omega arith));
+        made-cells = λ i b. ap (λ l. getD l i 0) cells-after ∙ run-before (section w cells) (6 * h) (cell-words x) i (omega arith);
+        as-many = omega arith;
+      }
+
   pub cell-later : (g : Graph) → Later g w w′
   cell-later g =
       let c = cell-changes in
       record {
         front = record { words = c .words; front-words = c .others front (omega arith) (omega arith) };
         conditions-stay = λ y. record {
-          tree = rw (c .others conditions (omega arith) (omega arith)) (y .tree);
+          tree = cond-stays (conditions-after (4 + word w head 2)) (y .tree) (y .made);
           made = rw (c .totals 2 (omega arith)) (y .made);
         };
         nodes-stay = λ y.
@@ -151,9 +161,6 @@ module _ {w w′ : List ℕ} {x : Cell} {h : ℕ} (step : Adds w w′ x h) (free
   pub cell-aside : (g : Graph) → Aside g w w′
   cell-aside g = record { later = cell-later g; states = cell-states g; regions = cell-regions }
 
-  pub cell-bundles : (p : ℕ) → SameBundle w w′ p
-  cell-bundles = bundles-same (cell-changes .others bundles (omega arith) (omega arith))
-
   before-handle : {p : ℕ} → p < word w head 4 → p < h
   before-handle m = let e = cell-handle in omega arith
 
@@ -176,9 +183,6 @@ no-case-list one = record { cases = no-cases refl; made = one }
 -- They stay where the cells and their total do.
 module _ {k : Section} {i : ℕ} {w w′ : List ℕ} (changes : ChangesOnly k i w w′)
     (d : number sections.cells ≡ number k → ⊥) (e : 4 ≡ i → ⊥) {g : Graph} where
-  pub case-list-by : {h : ℕ} {cs : Cases} → ShowsCaseList g w h cs → ShowsCaseList g w′ h cs
-  case-list-by y = record { cases = rw (changes .others cells d (omega arith)) (y .cases); made = rw (changes .totals 4 e) (y .made) }
-
   pub kept-list-by : {r h : ℕ} {x : LoopInputs} → ShowsKeptList g w r h x → ShowsKeptList g w′ r h x
   kept-list-by y = record { kept = rw (changes .others cells d (omega arith)) (y .kept); made = rw (changes .totals 4 e) (y .made) }
 

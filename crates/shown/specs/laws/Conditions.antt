@@ -11,9 +11,9 @@ use Rattle.meaning.specs.Graph.{Value, SelectionKind}
 use Rattle.nesting.specs.Nesting.{LazyCond, LazyConds, merge, NestState, define, define-merge, add-merge}
 use Rattle.nesting.specs.Nesting.{most-merges}
 use Rattle.state.specs.declared.defined.Defined.{Defined}
-use Rattle.state.specs.Sections.{Section, number, section, word, stored, stored-all, head, rewrites, outputs, conditions, used, start, size}
+use Rattle.state.specs.Sections.{section, word, stored, stored-all, head, rewrites, outputs, conditions, cells, used, start, size}
 use Rattle.state.specs.laws.Apart.{section-other}
-use Rattle.state.specs.Tables.{MergeDefined, merge-defined, merges-full, shape-size}
+use Rattle.state.specs.Tables.{MergeDefined, merge-defined, merges-full, shape-size, select-word}
 use Rattle.shown.specs.Values.{value}
 use Rattle.shown.specs.laws.Stores.{section-run, part-length, head-same, ChangesOnly, head-changes, run-changes}
 use Rattle.meaning.specs.facts.Parts.{run-before, run-in}
@@ -36,107 +36,138 @@ pub few-cases : {shape n : ℕ} {kind : SelectionKind} → ShowsShape shape n ki
 few-cases (shape-bool e f) = omega arith
 few-cases (shape-number a b e) = omega arith
 
--- ---- Records before a run of words stay.
-module _ (l : List ℕ) (i : ℕ) (xs : List ℕ) where
+-- ---- A condition stays where its records' words do, and those of the cells that were made.
+-- Of the conditions below m.
+pub record ConditionsStay (m : ℕ) (w w′ : List ℕ) : Type 0 where
+  pub record-words : (i : ℕ) → i < 9 * m → word w′ conditions i ≡ word w conditions i
+  pub made-cells : (i : ℕ) → i < 6 * word w head 4 → word w′ cells i ≡ word w cells i
+  pub as-many : word w head 4 ≤ word w′ head 4
+
+module _ {m : ℕ} {w w′ : List ℕ} (stay : ConditionsStay m w w′) where
+  select-stays : (c i : ℕ) → c < m → i < 6 → word w conditions (9 * c + 0) < word w head 4 → select-word w′ c i ≡ select-word w c i
+  select-stays c i h d b =
+      ap (λ p. word w′ cells (6 * p + i)) (stay .record-words (9 * c + 0) (omega arith))
+      ∙ stay .made-cells (6 * word w conditions (9 * c + 0) + i) (omega arith)
+
   mutual
-    cond-before : {c : ℕ} {t : LazyCond} → ShowsCond l c t → 11 * c + 11 ≤ i → ShowsCond (sets l i xs) c t
-    cond-before (shows-true e) h = shows-true e
-    cond-before (shows-false e) h = shows-false e
-    cond-before (shows-undef e) h = shows-undef e
-    cond-before (shows-merge {c} {kind} {ts} a n k v ps) h =
-        shows-merge {kind = kind} {ts = ts} a (run-before l i xs (11 * c + 0) (omega arith) ∙ n)
-        (rw (run-before l i xs (11 * c + 1) (omega arith)) k)
-        (ap value (run-before l i xs (11 * c + 2) (omega arith)) ∙ v) (conds-before ps h (let z = few-cases k in omega arith))
+    pub cond-stays : {c : ℕ} {t : LazyCond} → ShowsCond w c t → c < m → ShowsCond w′ c t
+    cond-stays (shows-true e) h = shows-true e
+    cond-stays (shows-false e) h = shows-false e
+    cond-stays (shows-undef e) h = shows-undef e
+    cond-stays (shows-merge {c} {kind} {ts} a b n k v ps) h =
+        let same = stay .record-words (9 * c + 0) (omega arith) in
+        let more = stay .as-many in
+        shows-merge {kind = kind} {ts = ts} a (omega arith) (select-stays c 2 h (omega arith) b ∙ n)
+        (rw (select-stays c 3 h (omega arith) b) k) (ap value (select-stays c 4 h (omega arith) b) ∙ v)
+        (conds-stay ps h (let z = few-cases k in omega arith))
 
-    conds-before : {c j : ℕ} {ts : LazyConds} → ShowsConds l c j ts → 11 * c + 11 ≤ i → j + cond-count ts ≤ 8
-        → ShowsConds (sets l i xs) c j ts
-    conds-before no-parts h f = no-parts
-    conds-before (part-and {c} {j} e b p ps) h f =
-        part-and (run-before l i xs (11 * c + (3 + j)) (omega arith) ∙ e) b (cond-before p (omega arith)) (conds-before ps h (omega arith))
+    conds-stay : {c j : ℕ} {ts : LazyConds} → ShowsConds w c j ts → c < m → j + cond-count ts ≤ 8 → ShowsConds w′ c j ts
+    conds-stay no-parts h f = no-parts
+    conds-stay (part-and {c} {j} e b p ps) h f =
+        part-and (stay .record-words (9 * c + (1 + j)) (omega arith) ∙ e) b (cond-stays p (omega arith)) (conds-stay ps h (omega arith))
 
--- ---- What was made stays made, whatever a step changes but the conditions and their total.
-pub condition-stays : {k : Section} {i : ℕ} {w w′ : List ℕ} → ChangesOnly k i w w′ → (number conditions ≡ number k → ⊥) → (2 ≡ i → ⊥)
-    → {c : ℕ} {t : LazyCond}
-    → ShowsCondition w c t → ShowsCondition w′ c t
-condition-stays g d e x = record { tree = rw (g .others conditions d (omega arith)) (x .tree); made = rw (g .totals 2 e) (x .made) }
+-- Where both sections are the same, and so many cells were made.
+module _ {w w′ : List ℕ} (same-conditions : section w′ conditions ≡ section w conditions) (same-cells : section w′ cells ≡ section w cells)
+    (same-total : word w′ head 4 ≡ word w head 4) {c : ℕ} {t : LazyCond} where
+  pub cond-same : ShowsCond w c t → ShowsCond w′ c t
+  cond-same x =
+      cond-stays {m = suc c} record {
+        record-words = λ i h. ap (λ l. getD l i 0) same-conditions;
+        made-cells = λ i h. ap (λ l. getD l i 0) same-cells;
+        as-many = omega arith;
+      } x (omega arith)
+
+  pub condition-same : word w′ head 2 ≡ word w head 2 → ShowsCondition w c t → ShowsCondition w′ c t
+  condition-same e x = record { tree = cond-same (x .tree); made = rw e (x .made) }
 
 -- ---- A record more.
-module _ (w : List ℕ) (n shape x : ℕ) (ps : List ℕ) (m : ℕ) where
+module _ (w : List ℕ) (h : ℕ) (ps : List ℕ) (m : ℕ) where
   abbrev its-words : List ℕ
-  its-words = n ∷ shape ∷ x ∷ ps
+  its-words = h ∷ ps
 
   abbrev with-record : List ℕ
-  with-record = stored-all w conditions (11 * (4 + m)) its-words
+  with-record = stored-all w conditions (9 * (4 + m)) its-words
 
   abbrev after : List ℕ
   after = stored with-record head 2 (m + 1)
 
   record-changes : ChangesOnly conditions 2 w after
-  record-changes = changes-then (run-changes conditions 2 w (omega arith) (11 * (4 + m)) its-words)
+  record-changes = changes-then (run-changes conditions 2 w (omega arith) (9 * (4 + m)) its-words)
       (head-changes conditions 2 with-record (m + 1))
 
-  conditions-after : section after conditions ≡ sets (section w conditions) (11 * (4 + m)) its-words
-  conditions-after = section-other with-record head 2 (m + 1) conditions (omega arith) ∙ section-run w conditions (11 * (4 + m)) its-words
+  conditions-after : section after conditions ≡ sets (section w conditions) (9 * (4 + m)) its-words
+  conditions-after = section-other with-record head 2 (m + 1) conditions (omega arith) ∙ section-run w conditions (9 * (4 + m)) its-words
 
-  module _ (room : used ≤ length w) (p : m ≡ word w head 2) (h : m < most-merges) where
+  cells-after : section after cells ≡ section w cells
+  cells-after = record-changes .others cells (omega arith) (omega arith)
+
+  stay-after : ConditionsStay (4 + m) w after
+  stay-after =
+      let same = record-changes .totals 4 (omega arith) in
+      record {
+        record-words = λ i b. ap (λ l. getD l i 0) conditions-after ∙ run-before (section w conditions) (9 * (4 + m)) its-words i b;
+        made-cells = λ i b. ap (λ l. getD l i 0) cells-after;
+        as-many = omega arith;
+      }
+
+  module _ (room : used ≤ length w) (p : m ≡ word w head 2) (most : m < most-merges) where
     total-after : word after head 2 ≡ m + 1
-    total-after = head-same with-record 2 (m + 1) (rw (run-changes conditions 2 w (omega arith) (11 * (4 + m)) its-words .words) room)
+    total-after = head-same with-record 2 (m + 1) (rw (run-changes conditions 2 w (omega arith) (9 * (4 + m)) its-words .words) room)
         (omega arith)
 
     kept-after : {c : ℕ} {t : LazyCond} → ShowsCondition w c t → ShowsCondition after c t
     kept-after y =
-        let z = y .made in
-        record {
-          tree = rw conditions-after (cond-before (section w conditions) (11 * (4 + m)) its-words (y .tree) (omega arith));
-          made = rw total-after (omega arith);
-        }
+        let z = y .made in record { tree = cond-stays stay-after (y .tree) (omega arith); made = rw total-after (omega arith) }
 
-    record-room : length ps ≡ 8 → 11 * (4 + m) + length its-words ≤ length (section w conditions)
-    record-room len = let z = part-length (start conditions) (size conditions) w (omega arith) in omega arith
+    module _ (len : length ps ≡ 8) where
+      word-after : (i : ℕ) → i < 9 → word after conditions (9 * (4 + m) + i) ≡ getD its-words i 0
+      word-after i b =
+          let z = part-length (start conditions) (size conditions) w (omega arith) in
+          ap (λ l. getD l (9 * (4 + m) + i) 0) conditions-after
+          ∙ run-in (section w conditions) (9 * (4 + m)) its-words i (omega arith) (omega arith)
 
-    parts-after : length ps ≡ 8 → {j : ℕ} {ts : LazyConds} → ShowsParts w ps j ts → j + cond-count ts ≤ 8
-        → ShowsConds (sets (section w conditions) (11 * (4 + m)) its-words) (4 + m) j ts
-    parts-after len none-left f = no-parts
-    parts-after len (one-and {j} y ys) f =
-        let z = y .made in
-        let e : 3 + j ≡ suc (suc (suc j)) = omega arith in
-        part-and {p = getD ps j 0} (run-in (section w conditions) (11 * (4 + m)) its-words (3 + j) (record-room len) (omega arith) ∙ rw e)
-        (omega arith)
-        (cond-before (section w conditions) (11 * (4 + m)) its-words (y .tree) (omega arith)) (parts-after len ys (omega arith))
+      parts-after : {j : ℕ} {ts : LazyConds} → ShowsParts w ps j ts → j + cond-count ts ≤ 8 → ShowsConds after (4 + m) j ts
+      parts-after none-left f = no-parts
+      parts-after (one-and {j} y ys) f =
+          let z = y .made in
+          let e : 1 + j ≡ suc j = omega arith in
+          part-and {p = getD ps j 0} (word-after (1 + j) (omega arith) ∙ rw e) (omega arith) (cond-stays stay-after (y .tree) (omega arith))
+          (parts-after ys (omega arith))
 
-    record-after : length ps ≡ 8 → {kind : SelectionKind} {v : Value} {ts : LazyConds} → ShowsShape shape (cond-count ts) kind
-        → value x ≡ v → ShowsParts w ps 0 ts
-        → ShowsCondition after (4 + m) (merge n kind v ts)
-    record-after len {kind} {ts} k v ys =
-        let o = 11 * (4 + m) in
-        let l = section w conditions in
-        let few = few-cases k in
-        record {
-          tree = rw conditions-after
-              (shows-merge {c = 4 + m} {kind = kind} {ts = ts} (omega arith) (run-in l o its-words 0 (record-room len) (omega arith))
-              (rw (run-in l o its-words 1 (record-room len) (omega arith)) k)
-              (ap value (run-in l o its-words 2 (record-room len) (omega arith)) ∙ v)
-              (parts-after len ys (omega arith)));
-          made = rw total-after (omega arith);
-        }
+      -- Of the select whose cell is h.
+      record-after : h < word w head 4 → {n : ℕ} {kind : SelectionKind} {v : Value} {ts : LazyConds} → word w cells (6 * h + 2) ≡ n
+          → ShowsShape (word w cells (6 * h + 3)) (cond-count ts) kind → value (word w cells (6 * h + 4)) ≡ v → ShowsParts w ps 0 ts
+          → ShowsCondition after (4 + m) (merge n kind v ts)
+      record-after b {kind} {ts} n k v ys =
+          let here = word-after 0 (omega arith) in
+          let more = record-changes .totals 4 (omega arith) in
+          let few = few-cases k in
+          let field : (i : ℕ) → select-word after (4 + m) i ≡ word w cells (6 * h + i) =
+          λ i. ap (λ q. word after cells (6 * q + i)) here ∙ ap (λ l. getD l (6 * h + i) 0) cells-after in
+          record {
+            tree = shows-merge {c = 4 + m} {kind = kind} {ts = ts} (omega arith) (omega arith) (field 2 ∙ n) (rw (field 3) k)
+                (ap value (field 4) ∙ v) (parts-after ys (omega arith));
+            made = rw total-after (omega arith);
+          }
 
-module _ {w w′ : List ℕ} {s : NestState} (t : ShowsTables w s) {n shape x : ℕ} {ps : List ℕ} where
-  pub merge-made : {kind : SelectionKind} {v : Value} {ts : LazyConds} → length ps ≡ 8 → ShowsShape shape (cond-count ts) kind
-      → value x ≡ v → ShowsParts w ps 0 ts → {a : Defined} → MergeDefined n shape x ps w w′ a
+module _ {w w′ : List ℕ} {s : NestState} (t : ShowsTables w s) {h : ℕ} {ps : List ℕ} where
+  pub merge-made : h < word w head 4 → {n : ℕ} {kind : SelectionKind} {v : Value} {ts : LazyConds} → word w cells (6 * h + 2) ≡ n
+      → ShowsShape (word w cells (6 * h + 3)) (cond-count ts) kind → value (word w cells (6 * h + 4)) ≡ v → length ps ≡ 8
+      → ShowsParts w ps 0 ts → {a : Defined} → MergeDefined h ps w w′ a
       → ShowsDefined (λ c u. ShowsCondition w′ c (merge n kind v ts)) w′ a (define-merge s)
   unfolding define-merge
-  merge-made len k q ys (merge-defined {m} p h r e) =
+  merge-made b n k q len ys (merge-defined {m} p most r e) =
       let same : m ≡ s .merge-count = p ∙ t .merge-total in
       let more : m + 1 ≡ suc (s .merge-count) = omega arith in
-      let g = record-changes w n shape x ps m in
+      let g = record-changes w h ps m in
       rw (lt-ltb (s .merge-count) most-merges (omega arith), define, e, r)
       (shows-done {s = add-merge s}
-      (record-after w n shape x ps m (t .size) p h len k q ys)
+      (record-after w h ps m (t .size) p most len b n k q ys)
       record {
         size = rw (g .words) (t .size);
         region-total = g .totals 0 (omega arith) ∙ t .region-total;
         node-total = g .totals 1 (omega arith) ∙ t .node-total;
-        merge-total = total-after w n shape x ps m (t .size) p h ∙ more;
+        merge-total = total-after w h ps m (t .size) p most ∙ more;
         output-total = g .totals 3 (omega arith) ∙ t .output-total;
         attempts = g .totals 5 (omega arith) ∙ t .attempts;
         twice = g .totals 6 (omega arith) ∙ t .twice;
@@ -147,10 +178,10 @@ module _ {w w′ : List ℕ} {s : NestState} (t : ShowsTables w s) {n shape x : 
         rewritten = rw (g .others rewrites (omega arith) (omega arith)) (t .rewritten);
         outputs-shown = rw (g .others outputs (omega arith) (omega arith)) (t .outputs-shown);
       })
-  merge-made len k q ys (merges-full h e) =
+  merge-made b n k q len ys (merges-full most e) =
       let z = t .merge-total in rw (le-ltb (s .merge-count) most-merges (omega arith), define) shows-full
 
-  pub condition-kept : {a : Defined} → MergeDefined n shape x ps w w′ a → {c : ℕ} {u : LazyCond} → ShowsCondition w c u
+  pub condition-kept : {a : Defined} → MergeDefined h ps w w′ a → {c : ℕ} {u : LazyCond} → ShowsCondition w c u
       → ShowsCondition w′ c u
-  condition-kept (merge-defined {m} p h r e) y = rw (e, r) (kept-after w n shape x ps m (t .size) p h y)
-  condition-kept (merges-full h e) y = rw e y
+  condition-kept (merge-defined {m} p most r e) y = rw (e, r) (kept-after w h ps m (t .size) p most y)
+  condition-kept (merges-full most e) y = rw e y

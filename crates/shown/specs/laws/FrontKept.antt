@@ -9,7 +9,7 @@ use Rattle.fields.specs.laws.Unchanged.{still-stands}
 use Rattle.state.specs.declared.cells.Cell.{Cell}
 use Rattle.state.specs.declared.defined.Defined.{Defined}
 use Rattle.state.specs.Sections as sections
-use Rattle.state.specs.Sections.{Section, number, start, size, part, section, stored, stored-all, front, head, kinds, cells}
+use Rattle.state.specs.Sections.{Section, number, start, size, part, stored, stored-all, front, head, kinds, cells}
 use Rattle.state.specs.Tables.{Adds, added, no-room, cell-words, Defines, defined, full}
 use Rattle.state.specs.laws.Apart.{stored-length, section-other}
 use Rattle.shown.specs.laws.Stores.{run-length, run-other}

@@ -13,10 +13,11 @@ use Rattle.state.specs.Sections as sections
 use Rattle.state.specs.Sections.{Section, number, start, size, used, section, word, stored, stored-all, head, kinds, backedges, set-starts}
 use Rattle.state.specs.Sections.{set-lengths, children, bodies, levels, rewrites, conditions, cells, outputs, bundles, front}
 use Rattle.state.specs.laws.Apart.{section-stored, section-other, part-stored}
-use Rattle.shown.specs.laws.Stores.{ChangesOnly, word-changes, run-changes, changes-then, nothing-changes, section-run}
+use Rattle.shown.specs.laws.Stores.{ChangesOnly, word-changes, run-changes, nothing-changes, section-run}
 use Rattle.shown.specs.laws.Stores.{part-length, run-other}
 use Rattle.shown.specs.Tables.{ShowsTables}
 use Rattle.shown.specs.laws.Elsewhere.{SameTables, tables-stay, Elsewhere, same-then}
+use Rattle.shown.specs.laws.Conditions.{condition-same}
 use Rattle.shown.specs.laws.FrontKept.{stands-on}
 use Rattle.shown.specs.Sets.{ShowsSet, SameBundle}
 use Rattle.shown.specs.Cells.{ShowsChildren}
@@ -24,7 +25,6 @@ use Rattle.shown.specs.States.{ShowsOwnSet, ShowsRegion, is-not-begun, i
 use Rattle.shown.specs.States.{NamedRewrites, Slots}
 use Rattle.shown.specs.Kept.{Later, KeptRegion}
 use Rattle.shown.specs.laws.RegionsKept.{later-same, later-then, kept-same, kept-then, region-stays, set-stays, same-bundle}
-use Rattle.shown.specs.laws.RegionsKept.{same-bundle-then}
 use Rattle.meaning.specs.facts.Parts.{run-before, run-behind}
 
 -- ---- A word stored in a section, and any other word of any section.
@@ -66,10 +66,8 @@ module _ {k : Section} {i : ℕ} {w w′ : List ℕ} (changes : ChangesOnly k i 
   later-by d g =
       record {
         front = record { words = changes .words; front-words = changes .others front (d .not-front) (omega arith) };
-        conditions-stay = λ c. record {
-          tree = rw (changes .others conditions (d .not-conditions) (omega arith)) (c .tree);
-          made = rw (changes .totals 2 (d .not-merges)) (c .made);
-        };
+        conditions-stay = condition-same (changes .others conditions (d .not-conditions) (omega arith))
+            (changes .others cells (d .not-cells) (omega arith)) (changes .totals 4 (d .not-cell-total)) (changes .totals 2 (d .not-merges));
         nodes-stay = λ n. record {
           nodes = rw (changes .others cells (d .not-cells) (omega arith)) (n .nodes);
           made = rw (changes .totals 4 (d .not-cell-total)) (n .made);
@@ -84,7 +82,7 @@ module _ {k : Section} {i : ℕ} {w w′ : List ℕ} (changes : ChangesOnly k i 
         handle = ap (λ l. getD l q 0) (changes .others children (d .not-children) (omega arith));
         body = ap (λ l. getD l q 0) (changes .others bodies (d .not-bodies) (omega arith));
         backedge = ap (λ l. getD l q 0) (changes .others backedges (d .not-backedges) (omega arith));
-        taken = λ j h. ap (λ l. getD l (10 * q + j) 0) (changes .others levels (d .not-levels) (omega arith));
+        taken = λ j h. ap (λ l. getD l (8 * q + j) 0) (changes .others levels (d .not-levels) (omega arith));
         slot = λ j h. bundles-same (changes .others bundles (d .not-bundles) (omega arith)) (word w set-starts q + j);
       }
 
@@ -94,7 +92,6 @@ module _ {k : Section} {i : ℕ} {w w′ : List ℕ} (changes : ChangesOnly k i 
         words = changes .words;
         same-rewrites = changes .others rewrites (d .not-rewrites) (omega arith);
         same-outputs = changes .others outputs (d .not-outputs) (omega arith);
-        same-conditions = changes .others conditions (d .not-conditions) (omega arith);
         totals = λ q a b. changes .totals q (t q a b);
       }
 
@@ -246,7 +243,7 @@ module _ (g : Graph) (w : List ℕ) where
         handle = word-apart w k r x children q n;
         body = word-apart w k r x bodies q n;
         backedge = word-apart w k r x backedges q n;
-        taken = λ j h. ap (λ l. getD l (10 * q + j) 0) (section-other w k r x levels (omega arith));
+        taken = λ j h. ap (λ l. getD l (8 * q + j) 0) (section-other w k r x levels (omega arith));
         slot = λ j h. bundles-same (section-other w k r x bundles (omega arith)) (word w set-starts q + j);
       }
 
@@ -271,9 +268,6 @@ module _ (g : Graph) (w : List ℕ) where
 
     pub body-set : r < 32 → (x : ℕ) → word (stored w bodies r x) bodies r ≡ x
     body-set b x = word-there w bodies r x (omega arith) b
-
-    pub backedge-set : r < 32 → (x : ℕ) → word (stored w backedges r x) backedges r ≡ x
-    backedge-set b x = word-there w backedges r x (omega arith) b
 
     pub length-set-to : r < 33 → {n : ℕ} {d : DeferredEdgeBundleSet} → ShowsSet g w (word w set-starts r) n d
         → ShowsOwnSet g (stored w set-lengths r n) r d
@@ -312,9 +306,9 @@ module _ (g : Graph) (w : List ℕ) where
 
 -- ---- How a target was taken. (A case of the select under way is of no region: `later-by`, `tables-by`, `kept-by` and `states-by`.)
 module _ (g : Graph) (w : List ℕ) where
-  pub taken-concerns : (r j x : ℕ) → j < 10 → Concerns g r w (stored w levels (10 * r + j) x)
+  pub taken-concerns : (r j x : ℕ) → j < 8 → Concerns g r w (stored w levels (8 * r + j) x)
   taken-concerns r j x b =
-      let i = 10 * r + j in
+      let i = 8 * r + j in
       let changes = word-changes levels 16 w (omega arith) i x in
       record {
         later = later-by changes (omega arith) g;
@@ -325,7 +319,7 @@ module _ (g : Graph) (w : List ℕ) where
           handle = ap (λ l. getD l q 0) (changes .others children (omega arith) (omega arith));
           body = ap (λ l. getD l q 0) (changes .others bodies (omega arith) (omega arith));
           backedge = ap (λ l. getD l q 0) (changes .others backedges (omega arith) (omega arith));
-          taken = λ k h. word-apart w levels i x levels (10 * q + k) (omega arith);
+          taken = λ k h. word-apart w levels i x levels (8 * q + k) (omega arith);
           slot = λ k h. bundles-same (changes .others bundles (omega arith) (omega arith)) (word w set-starts q + k);
         };
         same-kinds = λ q. ap (λ l. getD l q 0) (changes .others kinds (omega arith) (omega arith));
@@ -338,14 +332,6 @@ pub record OnlyBundle (p : ℕ) (w w′ : List ℕ) : Type 0 where
   pub changes : ChangesOnly bundles 7 w w′
   pub same-head : section w′ head ≡ section w head
   pub others : (q : ℕ) → (q ≡ p → ⊥) → SameBundle w w′ q
-
-pub only-bundle-then : {p : ℕ} {w w₁ w₂ : List ℕ} → OnlyBundle p w w₁ → OnlyBundle p w₁ w₂ → OnlyBundle p w w₂
-only-bundle-then a b =
-    record {
-      changes = changes-then (a .changes) (b .changes);
-      same-head = b .same-head ∙ a .same-head;
-      others = λ q d. same-bundle-then (a .others q d) (b .others q d);
-    }
 
 module _ (w : List ℕ) (p : ℕ) where
   pub bundle-same : OnlyBundle p w w
@@ -383,7 +369,7 @@ module _ {p : ℕ} {w w′ : List ℕ} (only : OnlyBundle p w w′) where
         handle = ap (λ l. getD l q 0) (changes .others children (omega arith) (omega arith));
         body = ap (λ l. getD l q 0) (changes .others bodies (omega arith) (omega arith));
         backedge = ap (λ l. getD l q 0) (changes .others backedges (omega arith) (omega arith));
-        taken = λ j h. ap (λ l. getD l (10 * q + j) 0) (changes .others levels (omega arith) (omega arith));
+        taken = λ j h. ap (λ l. getD l (8 * q + j) 0) (changes .others levels (omega arith) (omega arith));
         slot = λ j h. only .others (word w set-starts q + j) (d j h);
       }
 

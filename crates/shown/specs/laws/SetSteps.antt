@@ -180,23 +180,10 @@ module _ (w : List ℕ) (r b : ℕ) where
       (word-other (bundle-copied w b last-of) set-lengths r _ set-starts (omega arith) q
       ∙ run-elsewhere-word w bundles (7 * b) _ set-starts (omega arith) q)
 
-  pub swap-removed-lengths : (q : ℕ) → (q ≡ r → ⊥) → word (swap-removed w r b) set-lengths q ≡ word w set-lengths q
-  swap-removed-lengths q d =
-      by-length (λ l. word l set-lengths q ≡ word w set-lengths q) refl
-      (word-apart (bundle-copied w b last-of) set-lengths r _ set-lengths q d
-      ∙ run-elsewhere-word w bundles (7 * b) _ set-lengths (omega arith) q)
-
   pub swap-removed-beside : (p : ℕ) → (p ≡ b → ⊥) → SameBundle w (swap-removed w r b) p
   swap-removed-beside p d =
       by-length (λ l. SameBundle w l p) (same-bundle w p)
       (same-bundle-then (copy-beside w b last-of p d) (same-elsewhere (bundle-copied w b last-of) set-lengths (omega arith) r _ p))
-
-  -- Where b is a bundle of region r's slot.
-  pub swap-removed-kept : Slots w → r < 33 → word w set-starts r ≤ b → b < word w set-starts r + 33 → (q : ℕ) → q < 33 → (q ≡ r → ⊥)
-      → KeptRegion w (swap-removed w r b) q
-  swap-removed-kept slots below from to q h d =
-      kept-beside swap-removed-only slots below h d (swap-removed-starts q) (swap-removed-lengths q d)
-      (λ p e. swap-removed-beside p (λ f. e (omega arith) (omega arith)))
 
 -- The bundle found by its target leaves region r's set: the rest is split-out-target's.
 module _ {g : Graph} {w : List ℕ} (room : used ≤ length w) {r : ℕ} (below : r < 33) {d : DeferredEdgeBundleSet}
@@ -390,10 +377,6 @@ module _ (w : List ℕ) (room : used ≤ length w) (a b : ℕ) (at-a : a < 33) (
   pub swapped-first-set : {g : Graph} {n : ℕ} {d : DeferredEdgeBundleSet} → ShowsSet g w (word w set-starts b) n d
       → ShowsSet g (swapped w a b) (word (swapped w a b) set-starts a) n d
   swapped-first-set {g} x = rw swapped-first (set-stays (only-later swapped-only g) (λ i h. swapped-bundle (word w set-starts b + i)) x)
-
-  pub swapped-second-set : {g : Graph} {n : ℕ} {d : DeferredEdgeBundleSet} → ShowsSet g w (word w set-starts a) n d
-      → ShowsSet g (swapped w a b) (word (swapped w a b) set-starts b) n d
-  swapped-second-set {g} x = rw swapped-second (set-stays (only-later swapped-only g) (λ i h. swapped-bundle (word w set-starts a + i)) x)
 
   -- Region q's slot is that of region `turned q`.
   abbrev turned : ℕ → ℕ

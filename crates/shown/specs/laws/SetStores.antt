@@ -14,7 +14,8 @@ use Rattle.state.specs.Sections.{set-lengths, children, bodies, levels, cases, 
 use Rattle.state.specs.laws.Apart.{stored-length, section-other}
 use Rattle.state.specs.Tables.{bundle-words, bundle-copied}
 use Rattle.shown.specs.laws.Stores.{run-length, run-other, section-run, part-length, head-other}
-use Rattle.shown.specs.laws.Elsewhere.{SameTables, tables-stay, condition-there}
+use Rattle.shown.specs.laws.Conditions.{condition-same}
+use Rattle.shown.specs.laws.Elsewhere.{SameTables, tables-stay}
 use Rattle.shown.specs.Front.{SameFront}
 use Rattle.shown.specs.laws.FrontKept.{stands-on}
 use Rattle.shown.specs.Sets.{SameBundle}
@@ -128,7 +129,6 @@ module _ {w w′ : List ℕ} (only : OnlySets w w′) where
         words = only .words;
         same-rewrites = only .others rewrites (omega arith);
         same-outputs = only .others outputs (omega arith);
-        same-conditions = only .others conditions (omega arith);
         totals = λ q a b. only .totals q (omega arith);
       }
 
@@ -136,7 +136,8 @@ module _ {w w′ : List ℕ} (only : OnlySets w w′) where
   only-later g =
       record {
         front = only-front;
-        conditions-stay = condition-there only-tables;
+        conditions-stay = condition-same (only .others conditions (omega arith)) (only .others cells (omega arith))
+            (only .totals 4 (omega arith)) (only .totals 2 (omega arith));
         nodes-stay = λ n. record {
           nodes = rw (only .others cells (omega arith)) (n .nodes);
           made = rw (only .totals 4 (omega arith)) (n .made);
@@ -152,7 +153,7 @@ module _ {w w′ : List ℕ} (only : OnlySets w w′) where
         handle = only-word-same children (omega arith) q;
         body = only-word-same bodies (omega arith) q;
         backedge = only-word-same backedges (omega arith) q;
-        taken = λ j h. only-word-same levels (omega arith) (10 * q + j);
+        taken = λ j h. only-word-same levels (omega arith) (8 * q + j);
         slot = c;
       }
 

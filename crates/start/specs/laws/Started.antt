@@ -1,10 +1,10 @@
 -- What is started is shown: the definition's initial state.
 use mathlib.Core.Path.{_≡_, refl, sym, ap, _∙_}
-use mathlib.Core.List.{List, [], _∷_, List·Memᴰ·not-nil}
+use mathlib.Core.List.{List, List·Memᴰ·not-nil}
 use Prim.Native.Nat.{ℕ, zero, suc, _+_, _*_, _≤_, _<_}
 use native.Mathlib.Omega.{arith}
 use native.Mathlib.Decide.{decLt}
-use lib.ListN.{length, getD, take, length-map, length-replicate, List·getD-eq-default}
+use lib.ListN.{length, getD, length-map, length-replicate, List·getD-eq-default}
 use lib.Seq.{take-length}
 use borrow.Author.Tests.{lt-ltb}
 use Rattle.meaning.specs.Graph.{Graph, Region, region, nowhere, ControlInst, unreachable, return, exit-invocation, branch, select-branch}

@@ -1,18 +1,13 @@
 -- What a word stored in a section changes: that word, no other of its section, and no other section.
-use mathlib.Core.Path.{_≡_, refl, sym, ap, _∙_}
-use mathlib.Core.Bool.{Bool, true, false}
-use mathlib.Core.List.{List, [], _∷_}
-use Prim.Native.Nat.{ℕ, zero, suc, _+_, _≤_, _<_}
+use mathlib.Core.Path.{_≡_, _∙_}
+use mathlib.Core.List.{List, _∷_}
+use Prim.Native.Nat.{ℕ, suc, _+_, _≤_, _<_}
 use native.Mathlib.Omega.{arith}
-use native.Mathlib.Decide.{decLt}
-use lib.ListN.{length, getD, set, take, drop, length-take, length-set, List·getD-eq-default, drop-of-length-le}
+use lib.ListN.{length, getD, set, take, drop, length-take, List·getD-eq-default, drop-of-length-le}
 use lib.Seq.{getD-take, getD-drop, drop-cons}
-use native.Mathlib.Numerals.{add-one, add-two, add-three}
-use lib.Dec.{ltb}
+use native.Mathlib.Numerals.{add-one, add-two}
 use borrow.Author.Tests.{lt-ltb, le-ltb}
-use Rattle.state.specs.Sections.{Section, number, sizes, start, size, part, read-at, stored-at, section, word, stored, stored-all-at}
-use Rattle.state.specs.Sections.{stored-all}
-use Rattle.meaning.specs.Lists.{pick}
+use Rattle.state.specs.Sections.{part, read-at, stored-at, stored-all-at}
 
 pub read-in : (o n : ℕ) (l : List ℕ) (i : ℕ) → i < n → read-at o n l i ≡ getD l (o + i) 0
 unfolding part
@@ -46,16 +41,15 @@ module _ (o n : ℕ) (xs : List ℕ) (i : ℕ) where
   pub run-start : (w : List ℕ) → stored-all-at o n w (i + 0) (drop 0 xs) ≡ stored-all-at o n w i xs
   run-start w = let e : i + 0 ≡ i = omega arith in rw e
 
--- Two or three words, and a run behind them.
-module _ (o n : ℕ) (l : List ℕ) (i a b : ℕ) where
-  pub two-and-run : (xs : List ℕ) {l₁ l₂ l₃ : List ℕ} → l₁ ≡ stored-at o n l i a → l₂ ≡ stored-at o n l₁ (i + 1) b
+-- One word or two, and a run behind them.
+module _ (o n : ℕ) (l : List ℕ) (i a : ℕ) where
+  pub one-and-run : (xs : List ℕ) {l₁ l₂ : List ℕ} → l₁ ≡ stored-at o n l i a → l₂ ≡ stored-all-at o n l₁ (i + 1) xs
+      → l₂ ≡ stored-all-at o n l i (a ∷ xs)
+  unfolding stored-all-at
+  one-and-run xs p q = q ∙ rw (p, add-one i)
+
+  pub two-and-run : (b : ℕ) (xs : List ℕ) {l₁ l₂ l₃ : List ℕ} → l₁ ≡ stored-at o n l i a → l₂ ≡ stored-at o n l₁ (i + 1) b
       → l₃ ≡ stored-all-at o n l₂ (i + 2) xs
       → l₃ ≡ stored-all-at o n l i (a ∷ b ∷ xs)
   unfolding stored-all-at
-  two-and-run xs p q r = r ∙ rw (q, p, add-one i, add-two i)
-
-  pub three-and-run : (c : ℕ) (xs : List ℕ) {l₁ l₂ l₃ l₄ : List ℕ}
-      → l₁ ≡ stored-at o n l i a → l₂ ≡ stored-at o n l₁ (i + 1) b → l₃ ≡ stored-at o n l₂ (i + 2) c → l₄ ≡ stored-all-at o n l₃ (i + 3) xs
-      → l₄ ≡ stored-all-at o n l i (a ∷ b ∷ c ∷ xs)
-  unfolding stored-all-at
-  three-and-run c xs p q r s = s ∙ rw (r, q, p, add-one i, add-two i, add-three i)
+  two-and-run b xs p q r = r ∙ rw (q, p, add-one i, add-two i)

@@ -1,4 +1,3 @@
-use borrow.Author.Needs.{needs}
 use Rattle.vectors.proofs.ends.Statement.{statement}
 use Rattle.vectors.proofs.ends.Tie as tie
 

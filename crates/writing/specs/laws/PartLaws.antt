@@ -27,6 +27,10 @@ parts-assoc a b c = rw (append-assoc (a .value) (b .value) (c .value), or-assoc 
 pub part-last : (a : Part) → a ⊕ plain [] ≡ a
 part-last a = rw (append-nil (a .value), or-false (a .twice))
 
+pub each-map : {A B : Type 0} (f : B → Part) (g : A → B) (xs : List A) → each f (map g xs) ≡ each (λ x. f (g x)) xs
+each-map f g [] = refl
+each-map f g (x ∷ xs) = ap (λ z. f (g x) ⊕ z) (each-map f g xs)
+
 -- ---- Nodes.
 module _ (s : NestState) where
   pub no-nodes-part : nodes-part s ⟨⟩ ≡ plain []

@@ -1,12 +1,12 @@
 -- Laws on what Puts defines, as the proofs cite them.
-use mathlib.Core.Path.{_≡_, refl, sym, ap, _∙_}
-use mathlib.Core.Bool.{Bool, true, false, _||_, or-assoc, or-comm, or-false, or-true}
+use mathlib.Core.Path.{_≡_, refl, sym, _∙_}
+use mathlib.Core.Bool.{Bool, true, false, _||_, or-false, or-true}
 use mathlib.Core.List.{List, [], _∷_, _++_}
 use Prim.Native.Nat.{ℕ, suc, _+_, _-_, _≤_}
 use native.Mathlib.Omega.{arith}
 use lib.ListN.{length, set, length-append}
 use lib.Seq.{set-out}
-use Rattle.meaning.specs.Lists.{any}
+use Rattle.meaning.specs.facts.Tests.{or-swap}
 use Rattle.nesting.specs.Nesting.{plain}
 use Rattle.writing.specs.declared.place.Place.{Place}
 use Rattle.writing.specs.Puts.{written, Part, Puts, noted}
@@ -23,9 +23,6 @@ written-append out end (x ∷ a) b =
     let n = length-append a b in
     let e : end - length b - suc (length a) ≡ end - suc (length (a ++ b)) = omega arith in
     rw (e, written-append out end a b)
-
-or-swap : (a b c : Bool) → ((a || b) || c) ≡ (a || (c || b))
-or-swap a b c = or-assoc a b c ∙ ap (λ z. a || z) (or-comm b c)
 
 pub puts-then : {out out₁ out₂ : List ℕ} {at at₁ at₂ : Place} {a b : Part} → Puts out at b out₁ at₁ → Puts out₁ at₁ a out₂ at₂
     → Puts out at (a ⊕ b) out₂ at₂

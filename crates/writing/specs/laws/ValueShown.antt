@@ -1,32 +1,29 @@
 -- For every state that the words show, a value's three words are those of the definition.
 use mathlib.Core.Path.{_≡_, refl, sym, ap, _∙_}
-use mathlib.Core.Bool.{Bool, true, false, _||_, or-false}
-use mathlib.Core.List.{List, [], _∷_, _++_, map}
-use Prim.Native.Nat.{ℕ, zero, suc, _+_, _*_, _-_, _/_, _%_, _≤_, _<_}
+use mathlib.Core.List.{List, [], _∷_, _++_}
+use Prim.Native.Nat.{ℕ, zero, suc, _+_, _*_, _-_, _≤_, _<_}
 use native.Mathlib.Omega.{arith}
-use native.Mathlib.Decide.{decLt, ℕ-discrete}
+use native.Mathlib.Decide.{decLt}
 use lib.ListN.{length, getD, take, length-map, List·getD-eq-default}
 use lib.Seq.{take-suc, take-all}
-use lib.Dec.{ltb, eqb}
-use borrow.Author.Tests.{lt-ltb, le-ltb, eq-eqb, ne-eqb}
+use lib.Dec.{eqb}
+use borrow.Author.Tests.{lt-ltb, le-ltb}
 use Rattle.meaning.specs.Lists.{pick, times-in}
-use Rattle.meaning.specs.Graph.{Graph, Value, const, input, instr, output, bool, undef, held, no-value}
+use Rattle.meaning.specs.Graph.{Graph, Value}
 use Rattle.meaning.specs.facts.Elements.{getD-map-in}
-use Rattle.meaning.specs.facts.Tests.{eqb-sym, clash}
-use Rattle.nesting.specs.Nesting.{NestState, NodeOutput, plain, unmarked, look-up}
+use Rattle.meaning.specs.facts.Tests.{eqb-sym}
+use Rattle.nesting.specs.Nesting.{NestState, NodeOutput, unmarked, look-up}
 use Rattle.nesting.specs.Sheet as sheet
-use Rattle.state.specs.Sections.{section, word, head, outputs}
-use Rattle.state.specs.Values.{parts-of, input-region, input-index}
+use Rattle.state.specs.Sections.{word, head, outputs}
+use Rattle.state.specs.Values.{parts-of}
 use Rattle.shown.specs.Values.{value}
 use Rattle.shown.specs.laws.ValueWords.{Ranged, in-const, in-false, in-true, in-undef, in-output, in-input, in-held, in-instr, in-none}
 use Rattle.shown.specs.laws.ValueWords.{ranged}
 use Rattle.shown.specs.Tables.{ShowsTables, no-output}
 use Rattle.lookups.specs.LookUps as words
-use Rattle.lookups.specs.laws.Shown.{ShowsFound, look-up-shown}
-use Rattle.writing.specs.declared.place.Place.{Place}
-use Rattle.writing.specs.Puts.{Part, Puts, noted}
-use Rattle.writing.specs.Parts.{Concluded, OfState, output-nodes, value-part}
-use Rattle.writing.specs.Outputs.{node-of, node-times, least, place-among, value-words}
+use Rattle.lookups.specs.laws.Shown.{look-up-shown}
+use Rattle.writing.specs.Parts.{Concluded, output-nodes, value-part}
+use Rattle.writing.specs.Outputs.{node-of, node-times, place-among, value-words}
 
 -- ---- Outputs: node and place.
 module _ {w : List ℕ} {s : NestState} (t : ShowsTables w s) where

@@ -7,7 +7,6 @@ use borrow.Author.Needs.{needs}
 use borrow.Fn.Kinds.{In}
 use borrow.Fn.PlainCycle.{Measures, is, falls, and}
 use Rattle.nesting.specs.Nesting.{LazyCond}
-use Rattle.state.specs.Sections.{section, conditions}
 use Rattle.shown.specs.Tables.{ShowsCond}
 use Rattle.writing.specs.Puts.{Puts}
 use Rattle.writing.specs.laws.PutsLaws.{puts-then, puts-as}
@@ -57,7 +56,7 @@ called t = (
 
 abbrev Inv-loop : lts.InvT-loop
 Inv-loop w out₀ c n to₀ j₀ out to j =
-    ((t : LazyCond) → ShowsCond (section w conditions) c t → Puts out₀ to₀ (run (condition-part t) j (n - j)) out to)
+    ((t : LazyCond) → ShowsCond w c t → Puts out₀ to₀ (run (condition-part t) j (n - j)) out to)
     × (j ≤ n)
     × (length out ≡ length out₀)
 

@@ -93,8 +93,8 @@ module _ (t : ℕ) where
           c .before .cond-part .ensures,
           part-below
               (word (at-loop .loop .w) conditions
-              (11 * at-pre .args .c +
-              (3 + at-loop .loop .j)))
+              (9 * at-pre .args .c +
+              (1 + at-loop .loop .j)))
               (at-pre .args .c)
               (at-if .if3 .left),
         ),

@@ -1,6 +1,5 @@
 use Rattle.replay.proofs.Words.{as-lent, as-listed}
 use borrow.Author.Needs.{needs}
-use native.Mathlib.Omega.{arith}
 use Rattle.replay.proofs.sheets.word_at.Statement.{statement}
 use Rattle.replay.proofs.sheets.word_at.Tie as tie
 

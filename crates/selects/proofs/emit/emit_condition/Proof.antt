@@ -14,15 +14,6 @@ returns c = condition-there (λ e. c .if1 .taken (c .before .condition .ensures 
 conditions-in-cases-requires : tie.Need-conditions-in-cases-requires
 conditions-in-cases-requires c κs = search needs
 
-cell-a-requires : tie.Need-cell-a-requires
-cell-a-requires c κs = search needs
-
-cell-b-requires : tie.Need-cell-b-requires
-cell-b-requires c κs = search needs
-
-cell-c-requires : tie.Need-cell-c-requires
-cell-c-requires c κs = search needs
-
 define-merge-requires : tie.Need-define-merge-requires
 define-merge-requires c κs = search needs
 
@@ -38,34 +29,21 @@ set-condition-requires c κs = search needs
 returns-2 : tie.Need-returns-2
 returns-2 c =
     let at-define-merge = c .before .before in
-    let at-cell-c = at-define-merge .before .before .before in
-    let at-cell-b = at-cell-c .before .before in
-    let at-cell-a = at-cell-b .before .before in
-    let at-conditions-in-cases = at-cell-a .before .before in
+    let at-conditions-in-cases = at-define-merge .before .before .before in
     let at-if = at-conditions-in-cases .before .before in
     let at-condition = at-if .before in
-    condition-refused _ _ _ _ (at-condition .condition .ensures) (at-if .if1 .left) (at-conditions-in-cases .conditions-in-cases
-    .ensures)
-    (at-cell-a .cell-a .ensures)
-    (at-cell-b .cell-b .ensures)
-    (at-cell-c .cell-c .ensures) (at-define-merge .define-merge .ensures) (c .enum-told .given .1)
+    condition-refused _ _ _ _ (at-condition .condition .ensures) (at-if .if1 .left)
+    (at-conditions-in-cases .conditions-in-cases .ensures) (at-define-merge .define-merge .ensures) (c .enum-told .given .1)
 
 returns-3 : tie.Need-returns-3
 returns-3 c =
     let at-c = c .before .before .before in
     let at-define-merge = at-c .before .before in
-    let at-cell-c = at-define-merge .before .before .before in
-    let at-cell-b = at-cell-c .before .before in
-    let at-cell-a = at-cell-b .before .before in
-    let at-conditions-in-cases = at-cell-a .before .before in
+    let at-conditions-in-cases = at-define-merge .before .before .before in
     let at-if = at-conditions-in-cases .before .before in
     let at-condition = at-if .before in
     condition-set _ _ _ _ (at-condition .condition .ensures) (at-if .if1 .left)
-    (at-conditions-in-cases .conditions-in-cases .ensures)
-    (at-cell-a .cell-a .ensures)
-    (at-cell-b .cell-b .ensures)
-    (at-cell-c .cell-c .ensures)
-    (at-define-merge .define-merge .ensures) (at-c .c .given .1)
+    (at-conditions-in-cases .conditions-in-cases .ensures) (at-define-merge .define-merge .ensures) (at-c .c .given .1)
     (c .set-condition .ensures)
 
 pub emit-condition-spec : {M : Type 1} → statement M
@@ -75,9 +53,6 @@ emit-condition-spec =
     condition-requires
     returns
     conditions-in-cases-requires
-    cell-a-requires
-    cell-b-requires
-    cell-c-requires
     define-merge-requires
     enum-told
     enum-known-c

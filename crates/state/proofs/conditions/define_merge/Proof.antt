@@ -1,4 +1,4 @@
-use Rattle.state.specs.laws.Stored.{three-and-run}
+use Rattle.state.specs.laws.Stored.{one-and-run}
 use Rattle.state.specs.Tables.{merge-defined, merges-full}
 use Rattle.state.specs.Sections.{stored-all-at}
 use mathlib.Core.Path.{refl}
@@ -10,8 +10,8 @@ use Rattle.state.proofs.conditions.define_merge.Tie as tie
 head-requires : tie.Need-head-requires
 head-requires c κs = search needs
 
-add-at : tie.Need-add-at
-add-at c = search needs
+add-c : tie.Need-add-c
+add-c c = search needs
 
 cast-at : tie.Need-cast-at
 cast-at c = search needs
@@ -21,18 +21,6 @@ mul-at c = search needs
 
 put-requires : tie.Need-put-requires
 put-requires c κs = search needs
-
-add-put : tie.Need-add-put
-add-put c = search needs
-
-put-requires-2 : tie.Need-put-requires-2
-put-requires-2 c κs = search needs
-
-add-put-2 : tie.Need-add-put-2
-add-put-2 c = search needs
-
-put-requires-3 : tie.Need-put-requires-3
-put-requires-3 c κs = search needs
 
 add-put-all : tie.Need-add-put-all
 add-put-all c = search needs
@@ -46,22 +34,14 @@ add-set-head c = search needs
 set-head-requires : tie.Need-set-head-requires
 set-head-requires c κs = search needs
 
-add-t10 : tie.Need-add-t10
-add-t10 c = search needs
-
 returns : tie.Need-returns
 returns c =
     let at-put-all = c .before .before in
     let at-put = at-put-all .before .before .before in
-    let at-put-2 = at-put .before .before in
-    let at-put-3 = at-put-2 .before .before in
-    let at-if = at-put-3 .before .before in
+    let at-if = at-put .before .before in
     let at-head = at-if .before in
-    merge-defined (at-head .head .ensures)
-    (at-if .if1 .taken) refl
-    (rw (three-and-run _ _ _ _ _ _ _ _ (at-put-3 .put .ensures)
-    (at-put-2 .put2 .ensures) (at-put .put3 .ensures)
-    (at-put-all .put-all .ensures)) at (c .set-head .ensures))
+    merge-defined (at-head .head .ensures) (at-if .if1 .taken) refl
+    (rw (one-and-run _ _ _ _ _ _ (at-put .put .ensures) (at-put-all .put-all .ensures)) at (c .set-head .ensures))
 
 returns-2 : tie.Need-returns-2
 unfolding stored-all-at
@@ -72,18 +52,13 @@ define-merge-spec =
     tie.close
     (tie.spec
     head-requires
-    add-at
+    add-c
     cast-at
     mul-at
     put-requires
-    add-put
-    put-requires-2
-    add-put-2
-    put-requires-3
     add-put-all
     put-all-requires
     add-set-head
     set-head-requires
-    add-t10
     returns
     returns-2)

@@ -3,9 +3,6 @@ use Rattle.state.specs.laws.Stored.{read-in, read-beyond}
 use borrow.Author.Needs.{needs}
 use Rattle.state.proofs.sections.get.Statement.{statement}
 use Rattle.state.proofs.sections.get.Tie as tie
-use Rattle.state.proofs.sections.get.Reads as reads
-use Rattle.state.proofs.sections.get.Lts as lts
-use Rattle.store.proofs.span.Reads as span-reads
 
 span-requires : tie.Need-span-requires
 span-requires c κs = search needs

@@ -3,9 +3,6 @@ use Rattle.state.specs.laws.Stored.{stored-in, stored-beyond}
 use borrow.Author.Needs.{needs}
 use Rattle.state.proofs.sections.put.Statement.{statement}
 use Rattle.state.proofs.sections.put.Tie as tie
-use Rattle.state.proofs.sections.put.Reads as reads
-use Rattle.state.proofs.sections.put.Lts as lts
-use Rattle.store.proofs.span.Reads as span-reads
 
 span-requires : tie.Need-span-requires
 span-requires c κs = search needs

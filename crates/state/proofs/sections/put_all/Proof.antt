@@ -4,7 +4,7 @@ use lib.ListN.{length, drop}
 use native.Mathlib.Omega.{arith}
 use Prim.Native.Nat.{_+_, _-_, _≤_}
 use borrow.Author.Needs.{needs}
-use mathlib.Core.Path.{_≡_, sym, ap, _∙_}
+use mathlib.Core.Path.{_≡_, sym, _∙_}
 use Rattle.state.proofs.sections.put_all.Statement.{statement}
 use Rattle.state.proofs.sections.put_all.Tie as tie
 

@@ -1,5 +1,4 @@
 use Rattle.state.specs.Values.{const-word}
-use mathlib.Core.Path.{_≡_, refl}
 use borrow.Author.Tests.{lt-ltb, le-ltb}
 use Rattle.state.proofs.values.constant.Statement.{statement}
 use Rattle.state.proofs.values.constant.Tie as tie

@@ -1,5 +1,5 @@
 use Rattle.state.specs.Values.{parts-of}
-use mathlib.Core.Path.{_≡_, refl, _∙_}
+use mathlib.Core.Path.{_∙_}
 use borrow.Author.Tests.{lt-ltb, le-ltb}
 use borrow.Author.Needs.{needs}
 use Rattle.state.proofs.values.parts_of.Statement.{statement}

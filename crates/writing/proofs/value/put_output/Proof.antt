@@ -1,6 +1,5 @@
 use native.Mathlib.Omega.{arith}
 use mathlib.Core.Path.{refl}
-use Rattle.writing.specs.Outputs.{output-words}
 use Rattle.writing.specs.laws.PutsLaws.{nothing-lent}
 use borrow.Author.Needs.{needs}
 use Rattle.writing.proofs.value.put_output.Statement.{statement}
