@@ -1,6 +1,6 @@
 """Stores as bytes, each led by three bytes of its length: python3 packed.py WHAT.. > PACKED
 
-WHAT is the name of a vector file, or `chains`: the three records of 32 regions that nest deepest (generate.large).
+WHAT is the name of a vector file, or `chains`: the four records of 32 regions that nest deepest (generate.large).
 """
 
 import pathlib

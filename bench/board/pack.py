@@ -1,4 +1,4 @@
-"""pack.py OUT VECTORS..: case A, three chains of 32 regions, then the stores of vector files, packed into OUT/list.00 and on, each no
+"""pack.py OUT VECTORS..: case A, four chains of 32 regions, then the stores of vector files, packed into OUT/list.00 and on, each no
 longer than the board's flash."""
 import pathlib
 import sys

@@ -1,4 +1,4 @@
-"""summary.py NAME < LINES                      what the lines of main.c show: the first is case A's, the next three are the chains'
+"""summary.py NAME < LINES                      what the lines of main.c show: the first is case A's, the next four are the chains'
 summary.py --room STATE BOARD < LINES           how many words of a sheet have room on the board beside the state and the deepest stack
 summary.py --budget STATE BOARD WORDS < LINES   where the board's bytes go; WORDS are lent for the sheet
 """
@@ -7,7 +7,7 @@ import sys
 
 CALLS = "accept", "nesting", "whole"
 OTHER = 256     # bytes for the caller's own frame, and for an interrupt's
-CHAINS = 4      # lines of case A and the chains
+CHAINS = 5      # lines of case A and the chains
 COUNTS = {"--room": 2, "--budget": 3}
 
 
@@ -25,12 +25,12 @@ def deepest(lines):
 
 def table(name, lines):
     print(f"{name}, {len(lines):,} records")
-    print("             stack: case A, branches, selects, of four cases,   others | instructions: case A,    median,     worst")
+    print("             stack: case A, branches, selects, of four cases,   loops,   others | instructions: case A,    median,     worst")
     for place, call in enumerate(CALLS):
         stack = [line.stack[place] for line in lines]
         took = [line.took[place] for line in lines]
         counted = f"{took[0]:20,} {statistics.median_high(took):10,} {max(took):10,}" if any(took) else "not counted"
-        print(f"  {call:8} {stack[0]:13,} {stack[1]:9,} {stack[2]:8,} {stack[3]:14,} {max(stack[4:], default=0):8,} | {counted}")
+        print(f"  {call:8} {stack[0]:13,} {stack[1]:9,} {stack[2]:8,} {stack[3]:14,} {stack[4]:8,} {max(stack[CHAINS:], default=0):8,} | {counted}")
 
 
 def budget(lines, state, board, words):

@@ -2,10 +2,11 @@
 
     python3 -m generate.large SEED COUNT > VECTORS
 
-First three records that nest deepest: a chain of regions, each with a block and its branch to the
+First four records that nest deepest: a chain of regions, each with a block and its branch to the
 next; a chain of 30 selects, each of whose cases is the next region or the last; a chain of 30
 selects of four cases, each with a block, the last case being the next region and the others the
-last. Then COUNT random records with 32 regions, as generate.compare makes them.
+last; a chain of 30 loops, each inside the one before, with a block. Then COUNT random records with
+32 regions, as generate.compare makes them.
 """
 
 import itertools
@@ -25,12 +26,23 @@ def link(kind, targets, **more):
     return plain(kind=kind, targets=targets, passed={target: [] for target in targets}, **more)
 
 
+def chain_of_loops():
+    """Regions 1 to 30 are headers: the last five but one lead back to seven of them each, or to what is left, and on."""
+    last, backward = REGIONS - 1, 5
+    first = last - backward
+    back = [[header for header in range(1 + 7 * part, 8 + 7 * part) if header < last] for part in range(backward)]
+    return only(*[link(BRANCH, [at + 1], blocks=BLOCK) for at in range(first)],
+                *[link(SWITCH, back[at - first] + [at + 1], values=[(CONST, 0, 0)], blocks=BLOCK) for at in range(first, last)],
+                plain(), constants=[2])
+
+
 def chains():
     last = REGIONS - 1
     yield only(*[link(BRANCH, [at + 1], blocks=BLOCK) for at in range(last)], plain())
     yield only(*[link(IF, [at + 1, last], values=[TRUE]) for at in range(last - 1)], link(BRANCH, [last]), plain())
     yield only(*[link(SWITCH, [last] * 3 + [at + 1], values=[(CONST, 0, 0)], blocks=BLOCK) for at in range(last - 1)],
                link(BRANCH, [last]), plain(), constants=[2])
+    yield chain_of_loops()
 
 
 def main(seed, count):

@@ -1,5 +1,6 @@
 pub mod WrittenLaws
 pub mod WalkLaws
+pub mod InsideLaws
 pub mod RegionsLaws
 pub mod SheetLines
 pub mod Counts

@@ -1,0 +1,44 @@
+use Rattle.sheet.specs.laws.InsideLaws.{line-case, line-none}
+use borrow.Author.Needs.{needs}
+use Rattle.sheet.proofs.cell.put_part_line.Statement.{statement}
+use Rattle.sheet.proofs.cell.put_part_line.Tie as tie
+
+cell-tag-requires : tie.Need-cell-tag-requires
+cell-tag-requires c κs = search needs
+
+inner-list-requires : tie.Need-inner-list-requires
+inner-list-requires c κs = search needs
+
+case-cell-requires : tie.Need-case-cell-requires
+case-cell-requires c κs = search needs
+
+cell-a-requires : tie.Need-cell-a-requires
+cell-a-requires c κs = search needs
+
+put-case-line-requires : tie.Need-put-case-line-requires
+put-case-line-requires c κs = search needs
+
+same-length : tie.Need-same-length
+same-length c = search needs
+
+returns : tie.Need-returns
+returns c =
+    let d = c .before .before .before .before .before in
+    line-case _ _ (d .before .before .before .cell-tag .ensures) _ (d .before .before .if1 .taken) (d .before .inner-list .ensures) (d .case-cell .ensures)
+    (c .before .before .before .cell-a .ensures) (c .before .before .put-case-line .ensures)
+
+returns-2 : tie.Need-returns-2
+returns-2 c = line-none _ _ (c .before .cell-tag .ensures) _ _ _ (c .if1 .left)
+
+pub put-part-line-spec : {M : Type 1} → statement M
+put-part-line-spec =
+    tie.close
+    (tie.spec
+    cell-tag-requires
+    inner-list-requires
+    case-cell-requires
+    cell-a-requires
+    put-case-line-requires
+    same-length
+    returns
+    returns-2)

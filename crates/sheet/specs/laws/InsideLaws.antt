@@ -1,0 +1,295 @@
+-- Laws on what Inside defines, as the proofs cite them.
+use mathlib.Core.Path.{_≡_, refl, sym, _∙_, subst}
+use mathlib.Core.Bool.{Bool, true, false}
+use mathlib.Core.List.{List}
+use Prim.Native.Nat.{ℕ, _-_, _≤_, _<_}
+use native.Mathlib.Omega.{arith}
+use native.Mathlib.Decide.{ℕ-discrete}
+use mathlib.Core.Logic.{_⊎_, inl, inr}
+use lib.Dec.{eqb, ltb, ltb→lt}
+use borrow.Author.Tests.{eq-eqb, ne-eqb, eqb-true}
+use Rattle.meaning.specs.Lists.{pick}
+use Rattle.meaning.specs.facts.Tests.{clash}
+use Rattle.meaning.specs.Graph.{Value, region, exit-invocation}
+use Rattle.meaning.specs.Runs.{exit}
+use Rattle.nesting.specs.Nesting.{blocks-of}
+use Rattle.state.specs.Tables.{earlier}
+use Rattle.children.specs.CellByCell.{cell-word, list-at, list-before, case-cell, CaseTotal}
+use Rattle.children.specs.laws.CellByCellLaws.{named-below, case-within}
+use Rattle.writing.specs.declared.place.Place.{Place}
+use Rattle.writing.specs.Puts.{Puts}
+use Rattle.writing.specs.Parts.{OfState, node-part, nodes-part}
+use Rattle.select_lines.specs.SelectLines.{PutsSelectLine, PutsCaseLine}
+use Rattle.loop_lines.specs.LoopParts.{loop-lines}
+use Rattle.loop_lines.specs.OfLoop.{OfLoop}
+use Rattle.sheet.specs.Regions.{PutsNodes}
+use Rattle.sheet.specs.Walk.{PutsCell, PutsCases}
+use Rattle.sheet.specs.Inside.{inner-at, InnerTotal, each-case, one-joined, one-body, none-inside, PartLine, case-line, no-part-line}
+use Rattle.sheet.specs.Inside.{OwnLines, blocks-lines, exit-line, select-line, body-lines, no-own-line, LinesPut, own-put, part-put}
+use Rattle.sheet.specs.Inside.{is-loop, walked-list, LoopAlone, loop-alone, no-loop, InsidePut}
+use Rattle.sheet.specs.laws.WalkLaws.{cell-blocks, cell-list, cell-exit, cell-select, cell-loop, cell-none}
+use Rattle.sheet.specs.laws.WalkLaws.{cases-start, cases-turn, cases-end, walk-start, walk-turn, walk-end}
+
+-- ---- The list inside, by the tag that was read.
+module _ (w : List ℕ) (h j : ℕ) where
+  pub inner-case : cell-word w h 0 ≡ 4 → inner-at w h j ≡ list-at w (case-cell w (list-at w h 5) j) 3
+  unfolding inner-at
+  inner-case e = rw (eq-eqb (cell-word w h 0) 4 e)
+
+  pub inner-joined : cell-word w h 0 ≡ 2 → inner-at w h j ≡ list-at w h 2
+  unfolding inner-at
+  inner-joined e = rw (ne-eqb (cell-word w h 0) 4 (omega arith), eq-eqb (cell-word w h 0) 2 e)
+
+  pub inner-before : (cell-word w h 0 ≡ 4 → ⊥) → (cell-word w h 0 ≡ 2 → ⊥) → inner-at w h j ≡ list-at w h 1
+  unfolding inner-at
+  inner-before d e = rw (ne-eqb (cell-word w h 0) 4 d, ne-eqb (cell-word w h 0) 2 e)
+
+list-within : (w : List ℕ) (c i : ℕ) → list-at w c i ≤ c
+unfolding earlier
+list-within w c i = go (ltb (cell-word w c i) c) refl
+  where
+    go : (b : Bool) → ltb (cell-word w c i) c ≡ b → pick b (cell-word w c i) 0 ≤ c
+    go true e = let z = ltb→lt (cell-word w c i) c (rw e tt) in omega arith
+    go false e = omega arith
+
+-- It is an earlier one, and so is the one that is walked for it.
+inner-below : (w : List ℕ) (h j : ℕ) → 1 ≤ h → inner-at w h j < h
+unfolding inner-at
+inner-below w h j some =
+    let c = case-cell w (list-at w h 5) j in
+    let of-case = list-within w c 3 in
+    let of-cases = case-within w (list-at w h 5) j {c = c} refl in
+    let cases = named-below {p = list-at w h 5} (cell-word w h 5) refl some in
+    go (eqb (cell-word w h 0) 4) (eqb (cell-word w h 0) 2) (omega arith) (named-below {p = list-at w h 2} (cell-word w h 2) refl some)
+    (named-below {p = list-at w h 1} (cell-word w h 1) refl some)
+  where
+    go : (a b : Bool) {x y z : ℕ} → x < h → y < h → z < h → pick a x (pick b y z) < h
+    go true b l m n = l
+    go false true l m n = m
+    go false false l m n = n
+
+pub walked-below : (w : List ℕ) (h j : ℕ) {list p : ℕ} → list ≡ inner-at w h j → p ≡ walked-list w list → 1 ≤ h → p < h
+unfolding walked-list
+walked-below w h j {list} a b some = rw b (go (is-loop w list))
+  where
+    go : (t : Bool) → pick t (list-at w list 1) list < h
+    go true = let y = list-within w list 1 in let z = inner-below w h j some in omega arith
+    go false = let z = inner-below w h j some in omega arith
+
+-- What was walked for a list, and the lines before it, are the list's.
+module _ (w : List ℕ) (list : ℕ) where
+  loop-there : is-loop w list ≡ true → (1 ≤ list) × (cell-word w list 0 ≡ 5)
+  unfolding is-loop
+  loop-there e =
+      elim (ℕ-discrete list 0) [
+        | yes z ↦ absurd (clash (let y : false ≡ true = rw (eq-eqb list 0 z) at e in cc))
+        | no d ↦ (omega arith, eqb-true (cell-word w list 0) 5 (rw (ne-eqb list 0 d) at e))
+      ]
+
+  none-before : cell-word w list 0 ≡ 5 → 0 ≡ list-before w list
+  unfolding list-before
+  none-before e = rw (eq-eqb (cell-word w list 0) 5 e)
+
+  list-put : {p : ℕ} {out out₁ out₂ : List ℕ} {at at₁ at₂ : Place} → p ≡ walked-list w list → PutsNodes w p out at out₁ at₁
+      → LoopAlone w list out₁ at₁ out₂ at₂ → PutsNodes w list out at out₂ at₂
+  unfolding walked-list
+  list-put {out = out} {at = at} is nodes (loop-alone e lines) =
+      let there = loop-there e in
+      let body = rw (is, e) at nodes in
+      walk-end w list (omega arith) (walk-turn w list list (there .0) (walk-start w list out at)
+      (cell-loop w list refl (there .1) refl body lines) (none-before (there .1)))
+  list-put is nodes (no-loop e a b) = rw (a, b) (rw (is, e) at nodes)
+
+-- ---- How many there are.
+total-of-cases : {w : List ℕ} {h n t : ℕ} → InnerTotal w h n t → t ≡ 4 → CaseTotal w (list-at w h 5) n
+total-of-cases (each-case x) e = x
+total-of-cases (one-joined x) e = absurd (omega arith)
+total-of-cases (one-body x) e = absurd (omega arith)
+total-of-cases (none-inside a b c x) e = absurd (b e)
+
+few-inside : {w : List ℕ} {h n t : ℕ} → InnerTotal w h n t → (t ≡ 4 → ⊥) → n ≤ 1
+few-inside (each-case x) d = absurd (d refl)
+few-inside (one-joined x) d = omega arith
+few-inside (one-body x) d = omega arith
+few-inside (none-inside a b c x) d = omega arith
+
+one-inside : {w : List ℕ} {h n t : ℕ} → InnerTotal w h n t → (t ≡ 2) ⊎ (t ≡ 5) → n ≡ 1
+one-inside (each-case x) (inl e) = absurd (omega arith)
+one-inside (each-case x) (inr e) = absurd (omega arith)
+one-inside (one-joined x) e = x
+one-inside (one-body x) e = x
+one-inside (none-inside a b c x) (inl e) = absurd (a e)
+one-inside (none-inside a b c x) (inr e) = absurd (c e)
+
+no-inside : {w : List ℕ} {h n t : ℕ} → InnerTotal w h n t → (t ≡ 2 → ⊥) → (t ≡ 4 → ⊥) → (t ≡ 5 → ⊥) → n ≡ 0
+no-inside (each-case x) a b c = absurd (b refl)
+no-inside (one-joined x) a b c = absurd (a refl)
+no-inside (one-body x) a b c = absurd (c refl)
+no-inside (none-inside a b c x) p q r = x
+
+-- ---- The line of a part.
+line-of-case : {w : List ℕ} {h j t : ℕ} {out out′ : List ℕ} {at at′ : Place} → PartLine w h j out at out′ at′ t → t ≡ 4
+    → PutsCaseLine w (case-cell w (list-at w h 5) j) (cell-word w h 2) j out at out′ at′
+line-of-case (case-line p) e = p
+line-of-case (no-part-line d a b) e = absurd (d e)
+
+no-line-there : {w : List ℕ} {h j t : ℕ} {out out′ : List ℕ} {at at′ : Place} → PartLine w h j out at out′ at′ t → (t ≡ 4 → ⊥)
+    → (out′ ≡ out) × (at′ ≡ at)
+no-line-there (case-line p) d = absurd (d refl)
+no-line-there (no-part-line d a b) e = (a, b)
+
+-- What is walked for the list at place j - 1, and the lines before it.
+record PartPut (w : List ℕ) (h j : ℕ) (out : List ℕ) (at : Place) (out′ : List ℕ) (at′ : Place) : Type 0 where
+  words : List ℕ
+  place : Place
+  nodes : PutsNodes w (inner-at w h (j - 1)) out at words place
+  line : PartLine w h (j - 1) words place out′ at′ (cell-word w h 0)
+
+part-of : {w : List ℕ} {h j p : ℕ} {out out₁ out₂ : List ℕ} {at at₁ at₂ : Place} → 0 < j → p ≡ walked-list w (inner-at w h (j - 1))
+    → PutsNodes w p out at out₁ at₁ → LinesPut w h j out₁ at₁ out₂ at₂ → PartPut w h j out at out₂ at₂
+part-of some is nodes (own-put e x) = absurd (omega arith)
+part-of {w} {h} {j} some is nodes (part-put {out₁} {at₁} d alone x) =
+    record { words = out₁; place = at₁; nodes = list-put w (inner-at w h (j - 1)) is nodes alone; line = x }
+
+own-of : {w : List ℕ} {h j : ℕ} {out out′ : List ℕ} {at at′ : Place} → LinesPut w h j out at out′ at′ → j ≡ 0
+    → OwnLines w h out at out′ at′ (cell-word w h 0)
+own-of (own-put e x) none = x
+own-of (part-put d alone x) none = absurd (d none)
+
+same-nodes : (w : List ℕ) (list : ℕ) {out out₁ out₂ out₃ : List ℕ} {at at₁ at₂ at₃ : Place} → out₁ ≡ out → at₁ ≡ at → out₃ ≡ out₂
+    → at₃ ≡ at₂ → PutsNodes w list out₁ at₁ out₂ at₂ → PutsNodes w list out at out₃ at₃
+same-nodes w list a b c d x = rw (c, d) (rw (a, b) at x)
+
+-- ---- The loop.
+module _ (w : List ℕ) (h : ℕ) {n : ℕ} (total : InnerTotal w h n (cell-word w h 0)) where
+  pub inside-start : (out : List ℕ) (at : Place) → InsidePut w h n n out at out at
+  inside-start out at =
+      record {
+        cases = λ e. cases-start w (list-at w h 5) (cell-word w h 2) (total-of-cases total e) out at;
+        list = λ d b. absurd (omega arith);
+        nothing = λ d b. (refl, refl);
+      }
+
+  pub inside-turn : (j : ℕ) {list p : ℕ} {out out₁ out₂ out₃ : List ℕ} {at at₁ at₂ at₃ : Place} → 0 < j → j ≤ n
+      → InsidePut w h n j out at out₁ at₁ → list ≡ inner-at w h (j - 1) → p ≡ walked-list w list → PutsNodes w p out₁ at₁ out₂ at₂
+      → LinesPut w h j out₂ at₂ out₃ at₃ → InsidePut w h n (j - 1) out at out₃ at₃
+  inside-turn j some within before is walked nodes lines =
+      let part = part-of some (walked ∙ rw is) nodes lines in
+      record {
+        cases = λ e. cases-turn w (list-at w h 5) (cell-word w h 2) j (total-of-cases total e) some within (before .cases e) refl
+            (inner-case w h (j - 1) e) (part .nodes) (line-of-case (part .line) e);
+        list = λ d b.
+            let few = few-inside total d in
+            let none = before .nothing d (omega arith) in
+            let same = no-line-there (part .line) d in
+            same-nodes w (inner-at w h (j - 1)) (none .0) (none .1) (same .0) (same .1) (part .nodes);
+        nothing = λ d b. absurd (omega arith);
+      }
+
+  pub cell-put : (j : ℕ) {out out₁ out₂ : List ℕ} {at at₁ at₂ : Place} → j ≤ 0 → InsidePut w h n j out at out₁ at₁
+      → LinesPut w h 0 out₁ at₁ out₂ at₂ → PutsCell w h out at out₂ at₂
+  cell-put j {out} {out₁} {out₂} {at} {at₁} {at₂} end inside lines = go refl (own-of lines refl)
+    where
+      zero-left : j ≡ 0
+      zero-left = omega arith
+
+      first : cell-word w h 0 ≡ 4 → PutsCases w (list-at w h 5) (cell-word w h 2) 0 out at out₁ at₁
+      first e = cases-end w (list-at w h 5) (cell-word w h 2) end (inside .cases e)
+
+      one : (cell-word w h 0 ≡ 2) ⊎ (cell-word w h 0 ≡ 5) → (cell-word w h 0 ≡ 4 → ⊥) → PutsNodes w (inner-at w h 0) out at out₁ at₁
+      one t d = let z = one-inside total t in rw zero-left at (inside .list d (omega arith))
+
+      none : (cell-word w h 0 ≡ 2 → ⊥) → (cell-word w h 0 ≡ 4 → ⊥) → (cell-word w h 0 ≡ 5 → ⊥) → (out₁ ≡ out) × (at₁ ≡ at)
+      none a b c = let z = no-inside total a b c in inside .nothing b (omega arith)
+
+      go : {t : ℕ} → cell-word w h 0 ≡ t → OwnLines w h out₁ at₁ out₂ at₂ t → PutsCell w h out at out₂ at₂
+      go e (blocks-lines p) = let same = none (omega arith) (omega arith) (omega arith) in
+          rw (← same .0, ← same .1) (cell-blocks w h refl e refl p)
+      go e (exit-line p) = let same = none (omega arith) (omega arith) (omega arith) in
+          rw (← same .0, ← same .1) (cell-exit w h refl e refl refl p)
+      go e (select-line p) = cell-select w h refl e refl refl (first e) p
+      go e (body-lines p) =
+          let d : cell-word w h 0 ≡ 4 → ⊥ = omega arith in
+          cell-loop w h refl e refl (rw (inner-before w h 0 d (omega arith)) at (one (inr e) d)) p
+      go {t} e (no-own-line a b c d x y) =
+          elim (ℕ-discrete (cell-word w h 0) 2) [
+            | yes q ↦ rw (x, y) (cell-list w h refl q refl (rw (inner-joined w h 0 q) at (one (inl q) (λ z. c (sym e ∙ z)))))
+            | no q ↦ (let same = none q (λ z. c (sym e ∙ z)) (λ z. d (sym e ∙ z)) in
+                rw (x, y, same .0, same .1)
+                (cell-none w h refl (λ z. a (sym e ∙ z)) q (λ z. b (sym e ∙ z)) (λ z. c (sym e ∙ z)) (λ z. d (sym e ∙ z)) out at))
+          ]
+
+-- ---- The functions, path by path.
+module _ (w : List ℕ) (h : ℕ) {tag : ℕ} (of-tag : tag ≡ cell-word w h 0) where
+  by-tag : (P : ℕ → Type 0) {t : ℕ} → tag ≡ t → P t → P (cell-word w h 0)
+  by-tag P e x = subst P (sym e ∙ of-tag) x
+
+  pub total-cases : {list n : ℕ} → tag ≡ 4 → list ≡ list-at w h 5 → CaseTotal w list n → InnerTotal w h n (cell-word w h 0)
+  total-cases {n = n} e is x = by-tag (InnerTotal w h n) e (each-case (rw is at x))
+
+  pub total-joined : tag ≡ 2 → InnerTotal w h 1 (cell-word w h 0)
+  total-joined e = by-tag (InnerTotal w h 1) e (one-joined refl)
+
+  pub total-body : tag ≡ 5 → InnerTotal w h 1 (cell-word w h 0)
+  total-body e = by-tag (InnerTotal w h 1) e (one-body refl)
+
+  pub total-none : (tag ≡ 4 → ⊥) → (tag ≡ 2 → ⊥) → (tag ≡ 5 → ⊥) → InnerTotal w h 0 (cell-word w h 0)
+  total-none a b c = by-tag (InnerTotal w h 0) refl (none-inside b a c refl)
+
+  pub at-case : {list c p : ℕ} (j : ℕ) → tag ≡ 4 → list ≡ list-at w h 5 → c ≡ case-cell w list j → p ≡ list-at w c 3 → p ≡ inner-at w h j
+  at-case j e is of-case x = x ∙ rw (of-case, is) (sym (inner-case w h j (sym of-tag ∙ e)))
+
+  pub at-joined : {p : ℕ} (j : ℕ) → tag ≡ 2 → p ≡ list-at w h 2 → p ≡ inner-at w h j
+  at-joined j e x = x ∙ sym (inner-joined w h j (sym of-tag ∙ e))
+
+  pub at-before : {p : ℕ} (j : ℕ) → (tag ≡ 4 → ⊥) → (tag ≡ 2 → ⊥) → p ≡ list-at w h 1 → p ≡ inner-at w h j
+  at-before j a b x = x ∙ sym (inner-before w h j (λ z. a (of-tag ∙ z)) (λ z. b (of-tag ∙ z)))
+
+  module _ {out out′ : List ℕ} {at at′ : Place} where
+    pub line-case : {list c node : ℕ} (j : ℕ) → tag ≡ 4 → list ≡ list-at w h 5 → c ≡ case-cell w list j → node ≡ cell-word w h 2
+        → PutsCaseLine w c node j out at out′ at′ → PartLine w h j out at out′ at′ (cell-word w h 0)
+    line-case j e is of-case of-node x =
+        by-tag (PartLine w h j out at out′ at′) e (case-line (rw (of-case, is, of-node) at x))
+
+    pub own-blocks : {r : ℕ} → tag ≡ 1 → r ≡ cell-word w h 2 → OfState w (λ g s. Puts out at (nodes-part s (blocks-of g r)) out′ at′)
+        → OwnLines w h out at out′ at′ (cell-word w h 0)
+    own-blocks e a p = by-tag (OwnLines w h out at out′ at′) e (blocks-lines (λ g s c. rw a at (p g s c)))
+
+    pub own-exit : {node r : ℕ} → tag ≡ 3 → node ≡ cell-word w h 2 → r ≡ cell-word w h 3
+        → OfState w (λ g s. (op : ℕ) (vs : List Value) → region g r .terminator ≡ exit-invocation op vs
+        → Puts out at (node-part s (exit node op vs)) out′ at′) → OwnLines w h out at out′ at′ (cell-word w h 0)
+    own-exit e a b p =
+        by-tag (OwnLines w h out at out′ at′) e (exit-line (λ g s c op vs t. rw a at (p g s c op vs (rw b t))))
+
+    pub own-select : tag ≡ 4 → PutsSelectLine w h out at out′ at′ → OwnLines w h out at out′ at′ (cell-word w h 0)
+    own-select e p = by-tag (OwnLines w h out at out′ at′) e (select-line p)
+
+    pub own-loop : tag ≡ 5 → OfState w (λ g s. OfLoop g w h (λ x ns. Puts out at (loop-lines s x ns) out′ at′))
+        → OwnLines w h out at out′ at′ (cell-word w h 0)
+    own-loop e p = by-tag (OwnLines w h out at out′ at′) e (body-lines p)
+
+  module _ (out : List ℕ) (at : Place) where
+    pub line-none : (j : ℕ) → (tag ≡ 4 → ⊥) → PartLine w h j out at out at (cell-word w h 0)
+    line-none j d = by-tag (PartLine w h j out at out at) refl (no-part-line d refl refl)
+
+    pub own-none : (tag ≡ 1 → ⊥) → (tag ≡ 3 → ⊥) → (tag ≡ 4 → ⊥) → (tag ≡ 5 → ⊥) → OwnLines w h out at out at (cell-word w h 0)
+    own-none a b c d = by-tag (OwnLines w h out at out at) refl (no-own-line a b c d refl refl)
+
+-- A list that is a loop alone, or not.
+module _ (w : List ℕ) (list : ℕ) where
+  pub no-list-there : list ≡ 0 → false ≡ is-loop w list
+  unfolding is-loop
+  no-list-there e = rw (eq-eqb list 0 e)
+
+  pub loop-tag : {tag : ℕ} → (list ≡ 0 → ⊥) → tag ≡ cell-word w list 0 → eqb tag 5 ≡ is-loop w list
+  unfolding is-loop
+  loop-tag d e = rw (ne-eqb list 0 d, e)
+
+  module _ {t : Bool} (test : t ≡ is-loop w list) where
+    pub walked-body : {p : ℕ} → t ≡ true → p ≡ list-at w list 1 → p ≡ walked-list w list
+    unfolding walked-list
+    walked-body e x = x ∙ rw (sym test ∙ e)
+
+    pub walked-itself : t ≡ false → list ≡ walked-list w list
+    unfolding walked-list
+    walked-itself e = rw (sym test ∙ e)

@@ -1,0 +1,132 @@
+// One cell of a list of child nodes: the lists inside it (of a select its cases' children, of a join the list joined, of a loop its
+// body's), and the lines that stand before them. They are apart from the walk, and a list that is a loop alone is no level of its own,
+// so that the walk takes little stack.
+ghost use mathlib.Core.Path.{_≡_};
+ghost use Rattle.children.specs.CellByCell.{«cell-word»};
+ghost use Rattle.sheet.specs.Inside as inside;
+use block_lines::blocks::put_blocks;
+use block_lines::exits::put_exit;
+use children::case_cell;
+use children::case_total;
+use loop_lines::lines::put_loop_lines;
+use select_lines::put_case_line;
+use select_lines::put_select_line;
+use state::cells::BLOCKS;
+use state::cells::EXIT;
+use state::cells::JOIN;
+use state::cells::LOOP;
+use state::cells::SELECT;
+use state::cells::cell_a;
+use state::cells::cell_b;
+use state::cells::cell_before;
+use state::cells::cell_tag;
+use state::cells::children_of_case;
+use state::cells::inner_list;
+use state::cells::joined_list;
+use store::WORDS;
+use writing::place::Place;
+
+// How many lists stand inside cell h.
+pub fn inner_total(w: &[u16; WORDS], h: u16) -> u16
+    ensures { λ a. ⌜ inside.InnerTotal (now (w .entry)) h a («cell-word» (now (w .entry)) h 0) ⌝ }
+{
+    let tag = cell_tag(w, h);
+    if tag == SELECT {
+        return case_total(w, inner_list(w, h));
+    }
+    if tag == JOIN {
+        return 1;
+    }
+    if tag == LOOP {
+        return 1;
+    }
+    0
+}
+
+// The list inside it at place j.
+pub fn inner_at(w: &[u16; WORDS], h: u16, j: u16) -> u16
+    ensures { λ a. ⌜ a ≡ inside.«inner-at» (now (w .entry)) h j ⌝ }
+{
+    let tag = cell_tag(w, h);
+    if tag == SELECT {
+        let c = case_cell(w, inner_list(w, h), j);
+        return children_of_case(w, c);
+    }
+    if tag == JOIN {
+        return joined_list(w, h);
+    }
+    cell_before(w, h)
+}
+
+// Whether a list is a loop alone: nothing stands before a loop.
+fn is_loop(w: &[u16; WORDS], list: u16) -> bool
+    ensures { λ a. ⌜ a ≡ inside.«is-loop» (now (w .entry)) list ⌝ }
+{
+    if list == 0 {
+        return false;
+    }
+    cell_tag(w, list) == LOOP
+}
+
+// The list that is walked for a list: of a loop alone its body's.
+pub fn walked_list(w: &[u16; WORDS], list: u16) -> u16
+    ensures { λ a. ⌜ a ≡ inside.«walked-list» (now (w .entry)) list ⌝ }
+{
+    if is_loop(w, list) {
+        return cell_before(w, list);
+    }
+    list
+}
+
+// The lines before what was walked: of a loop alone, the loop's.
+fn put_loop_alone(w: &[u16; WORDS], out: &mut [u32], at: Place, list: u16) -> Place
+    ensures { λ a. ⌜ inside.LoopAlone (now (w .entry)) list (now (out .entry)) at (now (out .exit)) a ⌝ }
+{
+    if is_loop(w, list) {
+        return put_loop_lines(w, out, at, list);
+    }
+    at
+}
+
+// The line before a list inside: only a case has one.
+fn put_part_line(w: &[u16; WORDS], out: &mut [u32], at: Place, h: u16, j: u16) -> Place
+    ensures { λ a. ⌜ inside.PartLine (now (w .entry)) h j (now (out .entry)) at (now (out .exit)) a («cell-word» (now (w .entry)) h 0) ⌝ }
+{
+    if cell_tag(w, h) == SELECT {
+        let c = case_cell(w, inner_list(w, h), j);
+        return put_case_line(w, out, at, c, cell_a(w, h), j);
+    }
+    at
+}
+
+// The cell's own lines, before all that stands inside it.
+fn put_own_lines(w: &[u16; WORDS], out: &mut [u32], at: Place, h: u16) -> Place
+    ensures { λ a. ⌜ inside.OwnLines (now (w .entry)) h (now (out .entry)) at (now (out .exit)) a («cell-word» (now (w .entry)) h 0) ⌝ }
+{
+    let tag = cell_tag(w, h);
+    if tag == BLOCKS {
+        return put_blocks(w, out, at, cell_a(w, h));
+    }
+    if tag == EXIT {
+        return put_exit(w, out, at, cell_a(w, h), cell_b(w, h));
+    }
+    if tag == SELECT {
+        return put_select_line(w, out, at, h);
+    }
+    if tag == LOOP {
+        return put_loop_lines(w, out, at, h);
+    }
+    at
+}
+
+// The lines before what was walked for the list at place j - 1; with 0, the cell's own.
+pub fn put_cell_lines(w: &[u16; WORDS], out: &mut [u32], at: Place, h: u16, j: u16) -> Place
+    ensures { λ a. ⌜ inside.LinesPut (now (w .entry)) h j (now (out .entry)) at (now (out .exit)) a ⌝ }
+{
+    if j == 0 {
+        return put_own_lines(w, out, at, h);
+    }
+    let list = inner_at(w, h, j - 1);
+    let alone = put_loop_alone(w, out, at, list);
+    put_part_line(w, out, alone, h, j - 1)
+}
