@@ -7,7 +7,7 @@ import sys
 
 CALLS = "accept", "nesting", "whole"
 OTHER = 256     # bytes for the caller's own frame, and for an interrupt's
-CHAINS = 5      # lines of case A and the chains
+NAMED = 5       # lines of case A and the four chains
 COUNTS = {"--room": 2, "--budget": 3}
 
 
@@ -30,7 +30,8 @@ def table(name, lines):
         stack = [line.stack[place] for line in lines]
         took = [line.took[place] for line in lines]
         counted = f"{took[0]:20,} {statistics.median_high(took):10,} {max(took):10,}" if any(took) else "not counted"
-        print(f"  {call:8} {stack[0]:13,} {stack[1]:9,} {stack[2]:8,} {stack[3]:14,} {stack[4]:8,} {max(stack[CHAINS:], default=0):8,} | {counted}")
+        others = max(stack[NAMED:], default=0)
+        print(f"  {call:8} {stack[0]:13,} {stack[1]:9,} {stack[2]:8,} {stack[3]:14,} {stack[4]:8,} {others:8,} | {counted}")
 
 
 def budget(lines, state, board, words):
@@ -56,7 +57,7 @@ def read_lines():
         refuse(f"standard input: {error.strerror}")
     except ValueError:
         lines = []
-    if len(lines) < CHAINS:
+    if len(lines) < NAMED:
         refuse("standard input is not what main.c prints: a line for case A, one for each chain, and so on")
     return lines
 

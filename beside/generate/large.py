@@ -27,7 +27,7 @@ def link(kind, targets, **more):
 
 
 def chain_of_loops():
-    """Regions 1 to 30 are headers: the last five but one lead back to seven of them each, or to what is left, and on."""
+    """Regions 1 to 30 are headers. Regions 26 to 30 lead back to seven of them each, the last to two, and on to the next."""
     last, backward = REGIONS - 1, 5
     first = last - backward
     back = [[header for header in range(1 + 7 * part, 8 + 7 * part) if header < last] for part in range(backward)]

@@ -9,13 +9,12 @@ use Rattle.meaning.specs.Lists.{pick}
 use Rattle.fields.specs.ByNumber.{end-values, edge-of}
 use Rattle.fields.specs.Words.{value-item}
 use Rattle.state.specs.declared.cases.Case.{Case}
-use Rattle.state.specs.Sections.{word, stored, stored-all, head, children, bodies, set-starts, set-lengths, cases, bundles}
-use Rattle.state.specs.Tables.{bundle-at, own-edge, input-word, taken-word, case-words, bundle-copied, shift-removed}
-use Rattle.state.specs.Tables.{swapped, inserted, Joins}
+use Rattle.state.specs.Sections.{word, stored, stored-all, head, children, bodies, set-starts, set-lengths, cases, bundles, cases-at}
+use Rattle.state.specs.Sections.{returned-at, types-at}
+use Rattle.state.specs.Tables.{bundle-at, own-edge, input-word, taken-word, case-words, bundle-copied, shift-removed, swapped, inserted}
+use Rattle.state.specs.Tables.{Joins, return-word}
 use Rattle.state.specs.Values as state
-use Rattle.state.specs.Sections.{cases-at, returned-at, types-at}
-use Rattle.state.specs.Values.{input-from, names-nothing}
-use Rattle.state.specs.Tables.{return-word}
+use Rattle.state.specs.Values.{undef-from, input-from, names-nothing}
 
 -- ---- Targets.
 unfoldable pub input-count : Graph → List ℕ → ℕ → ℕ
@@ -40,7 +39,7 @@ record-word no-value = names-nothing
 
 -- Value k of n; beyond them undefined, of type 0.
 unfoldable pub padded-by : ℕ → List Value → ℕ → ℕ
-padded-by n vs k = pick (ltb k n) (record-word (getD vs k no-value)) 66
+padded-by n vs k = pick (ltb k n) (record-word (getD vs k no-value)) undef-from
 
 abbrev pub padded : List Value → List ℕ
 padded vs =
@@ -49,7 +48,7 @@ padded vs =
 
 -- The same of the values that are listed at place p.
 unfoldable pub listed-word : List ℕ → ℕ → ℕ → ℕ → ℕ
-listed-word l p n k = pick (ltb k n) (record-word (value-item l p k)) 66
+listed-word l p n k = pick (ltb k n) (record-word (value-item l p k)) undef-from
 
 abbrev pub listed : List ℕ → ℕ → List ℕ
 listed l p =
@@ -98,7 +97,7 @@ cases-filled g l r =
     filled-from g (stored l head cases-at n) r n 0
 
 unfoldable pub given-word : List ℕ → ℕ → ℕ → ℕ → ℕ
-given-word l p n k = pick (ltb k n) (input-word l p k) 66
+given-word l p n k = pick (ltb k n) (input-word l p k) undef-from
 
 abbrev pub given-inputs : Graph → List ℕ → ℕ → List ℕ
 given-inputs g l p =

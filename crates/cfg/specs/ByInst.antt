@@ -12,8 +12,8 @@ use Rattle.fields.specs.declared.shape.Value.{Value}
 use Rattle.fields.specs.declared.shape.Terminator.the-variants.{Unreachable, Return, ExitInvocation, Branch, SelectBool, SelectNumber}
 use Rattle.state.specs.declared.defined.Defined.the-variants.{Number}
 use Rattle.state.specs.declared.defined.Defined.the-variants as defined
-use Rattle.state.specs.Sections.{word, stored, kinds, backedges, children, bundles, set-starts, set-lengths}
-use Rattle.state.specs.Tables.{Adds, Defines, bundle-at, case-row}
+use Rattle.state.specs.Sections.{word, stored, kinds, backedges, children, bundles, set-starts, set-lengths, nodes-at}
+use Rattle.state.specs.Tables.{Adds, Defines, bundle-at, case-row, no-bundle-word}
 use Rattle.state.specs.Values.{value-word}
 use Rattle.bundles.specs.Words.{condition-in, return-deferred, cases-filled, split-filled, Appends}
 use Rattle.state.specs.declared.defined.Made.{Made}
@@ -23,7 +23,6 @@ use Rattle.selects.specs.Into.{StructurizesInto}
 use Rattle.cfg.specs.ByState.{backedge-at}
 use Rattle.shown.specs.laws.CellSteps.{blocks-cell, exit-cell}
 use Rattle.nesting.specs.Nesting.{most-nodes}
-use Rattle.state.specs.Tables.{nowhere}
 
 pub data AddsBlocks (g : Graph) (w : List ℕ) (r : ℕ) (w′ : List ℕ) : Type 0 where
   no-blocks : length (region g r .blocks) ≡ 0 → w′ ≡ stored w children r 0 → AddsBlocks g w r w′
@@ -31,8 +30,8 @@ pub data AddsBlocks (g : Graph) (w : List ℕ) (r : ℕ) (w′ : List ℕ) : Typ
       → AddsBlocks g w r w′
 
 pub data AddsExit (w : List ℕ) (r : ℕ) (w′ : List ℕ) : Made → Type 0 where
-  exit-full : Defines 1 most-nodes w w′ defined.Full → AddsExit w r w′ Full
-  exit-added : {w₁ w₂ : List ℕ} {node h : ℕ} → Defines 1 most-nodes w w₁ (Number node)
+  exit-full : Defines nodes-at most-nodes w w′ defined.Full → AddsExit w r w′ Full
+  exit-added : {w₁ w₂ : List ℕ} {node h : ℕ} → Defines nodes-at most-nodes w w₁ (Number node)
       → Adds w₁ w₂ (exit-cell (word w₁ children r) node r) h → w′ ≡ stored w₂ children r h → AddsExit w r w′ Done
 
 pub data Branches (g : Graph) (w : List ℕ) (r : ℕ) (w′ : List ℕ) : Made → Type 0 where
@@ -72,7 +71,7 @@ pub data ResolvesBy (g : Graph) (w : List ℕ) (r i : ℕ) (w′ : List ℕ) (a 
   resolves : StructurizesInto g r 0 (scrutinee.Lazy (own-condition w r i)) (split-filled g w r i) w′ a → ResolvesBy g w r i w′ a
 
 unfoldable pub backedges-deferred : List ℕ → ℕ → ℕ
-backedges-deferred w r = pick (eqb (backedge-at w r) nowhere) 0 (word w bundles (7 * backedge-at w r + 1))
+backedges-deferred w r = pick (eqb (backedge-at w r) no-bundle-word) 0 (word w bundles (7 * backedge-at w r + 1))
 
 abbrev pub made-ready : List ℕ → ℕ → List ℕ
 made-ready w r = stored (stored w backedges r (backedges-deferred w r)) kinds r 2

@@ -7,13 +7,12 @@ use lib.Dec.{eqb}
 use Rattle.meaning.specs.Graph.{Graph}
 use Rattle.meaning.specs.Lists.{pick}
 use Rattle.state.specs.Sections.{word, stored, kinds, backedges, bodies, children, set-starts, set-lengths}
-use Rattle.state.specs.Tables.{find-by}
+use Rattle.state.specs.Tables.{find-by, no-bundle-word}
 use Rattle.state.specs.declared.defined.Made.{Made}
 use Rattle.state.specs.declared.defined.Made.the-variants.{Done, Full}
 use Rattle.loops.specs.Loops.{StructurizesLoop}
 use Rattle.cfg.specs.declared.claim.Claim.{Claim}
 use Rattle.cfg.specs.declared.claim.Claim.the-variants.{Claimed, Unclaimed, Refused}
-use Rattle.state.specs.Tables.{nowhere}
 
 abbrev pub claim-of : Made → Claim
 claim-of Done = Claimed
@@ -28,9 +27,9 @@ as-claimed w r = stored (stored w kinds r 3) bodies r r
 
 pub data ClaimsBody (g : Graph) (w : List ℕ) (r : ℕ) (w′ : List ℕ) : Claim → Type 0 where
   no-backedges : word (as-claimed w r) backedges r ≡ 0 → w′ ≡ as-claimed w r → ClaimsBody g w r w′ Claimed
-  none-found : (word (as-claimed w r) backedges r ≡ 0 → ⊥) → backedge-at (as-claimed w r) r ≡ nowhere → w′ ≡ as-claimed w r
+  none-found : (word (as-claimed w r) backedges r ≡ 0 → ⊥) → backedge-at (as-claimed w r) r ≡ no-bundle-word → w′ ≡ as-claimed w r
       → ClaimsBody g w r w′ Claimed
-  by-loop : {made : Made} {a : Claim} → (word (as-claimed w r) backedges r ≡ 0 → ⊥) → (backedge-at (as-claimed w r) r ≡ nowhere → ⊥)
+  by-loop : {made : Made} {a : Claim} → (word (as-claimed w r) backedges r ≡ 0 → ⊥) → (backedge-at (as-claimed w r) r ≡ no-bundle-word → ⊥)
       → StructurizesLoop r (backedge-at (as-claimed w r) r) (as-claimed w r) w′ made → a ≡ claim-of made → ClaimsBody g w r w′ a
 
 pub data ClaimsByState (g : Graph) (w : List ℕ) (r n incoming : ℕ) (w′ : List ℕ) : Claim → Type 0 where

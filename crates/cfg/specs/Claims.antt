@@ -7,7 +7,7 @@ use Rattle.meaning.specs.Graph.{Graph, region, edges-of}
 use Rattle.record.specs.Stands.{Stands}
 use Rattle.fields.specs.ByNumber.{edge-of}
 use Rattle.state.specs.Sections.{word, stored, kinds, bundles, set-lengths, used}
-use Rattle.state.specs.Tables.{attempted, taken-stored}
+use Rattle.state.specs.Tables.{attempted, taken-stored, return-word}
 use Rattle.state.specs.declared.defined.Made.the-variants as made
 use Rattle.cfg.specs.declared.claim.Claim.{Claim}
 use Rattle.cfg.specs.declared.claim.Claim.the-variants.{Claimed, Unclaimed, Refused}
@@ -17,7 +17,6 @@ use Rattle.cfg.specs.declared.claims.SplitOut.{SplitOut}
 use Rattle.cfg.specs.declared.claims.SplitOut.the-variants as split
 use Rattle.cfg.specs.ByState.{ClaimsByState, unclaimed-word}
 use Rattle.cfg.specs.ByInst.{ByControlInst, ResolvesBy, own-bundle, made-ready}
-use Rattle.state.specs.Tables.{return-word}
 
 -- A record stands in the words.
 pub record Stood (w : List ℕ) : Type 0 where

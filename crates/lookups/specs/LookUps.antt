@@ -4,12 +4,11 @@ use mathlib.Core.Bool.{Bool, true, false, not}
 use mathlib.Core.List.{List}
 use Prim.Native.Nat.{ℕ, zero, suc, _+_, _*_, _-_}
 use lib.Dec.{eqb}
-use Rattle.state.specs.Sections.{word, stored, head, rewrites}
+use Rattle.state.specs.Sections.{word, stored, head, rewrites, twice-at}
 use Rattle.state.specs.Values.{is-input, is-held, input-region, input-index}
 use Rattle.lookups.specs.declared.look_up.LookUp.{LookUp}
 use Rattle.meaning.specs.Lists.{pick}
 use Rattle.nesting.specs.Nesting.{most-regions}
-use Rattle.state.specs.Sections.{twice-at}
 
 abbrev pub plain : ℕ → LookUp
 plain x = record { value = x; twice = false }

@@ -11,7 +11,7 @@ use Rattle.meaning.specs.Lists.{pick}
 use Rattle.nesting.specs.Nesting.{NestState, plain, LoopInputs}
 use Rattle.state.specs.Sections.{section, cells}
 use Rattle.state.specs.Tables.{earlier}
-use Rattle.state.specs.Values.{region-word}
+use Rattle.state.specs.Values.{region-word, input-from}
 use Rattle.shown.specs.Values.{value}
 use Rattle.shown.specs.laws.ValueWords.{value-input}
 use Rattle.shown.specs.Cells.{ShowsKept, none-kept, one-kept}
@@ -21,7 +21,6 @@ use Rattle.writing.specs.Puts.{Part, Puts}
 use Rattle.writing.specs.laws.PutsLaws.{_⊕_}
 use Rattle.writing.specs.laws.PartLaws.{numbers-listed, values-counted, each-map}
 use Rattle.writing.specs.Parts.{each, value-part, values-part}
-use Rattle.state.specs.Values.{input-from}
 
 -- The inputs that the loop of header r keeps, by the list's handle.
 abbrev pub KeepsInputs : Graph → List ℕ → ℕ → ℕ → LoopInputs → Type 0

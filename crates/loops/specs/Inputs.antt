@@ -3,12 +3,11 @@ use mathlib.Core.Path.{_≡_}
 use mathlib.Core.List.{List, [], _∷_}
 use Prim.Native.Nat.{ℕ, _+_, _≤_, _<_}
 use lib.ListN.{getD, set}
-use Rattle.state.specs.Values.{region-word}
+use Rattle.state.specs.Values.{region-word, held-from, input-from}
 use Rattle.state.specs.Tables.{Adds, input-word}
 use Rattle.shown.specs.laws.CellSteps.{kept-cell}
 use Rattle.lookups.specs.LookUps.{Rewrites}
 use Rattle.loops.specs.declared.inputs.Taken.{Taken}
-use Rattle.state.specs.Values.{held-from, input-from}
 
 abbrev pub backedge-inputs : List ℕ → ℕ → List ℕ
 backedge-inputs l p = input-word l p 0 ∷ input-word l p 1 ∷ input-word l p 2 ∷ input-word l p 3 ∷ []
@@ -32,7 +31,8 @@ pub record KeepsInput (r wrapper k v : ℕ) (x : Taken) (l l′ : List ℕ) (y :
 
 -- Input k of n is taken, for which the back edge passes v.
 pub data TakesInput (r wrapper n k v : ℕ) (x : Taken) (l l′ : List ℕ) (y : Taken) : Type 0 where
-  lifted : k < n → v ≡ region-word input-from r k → l′ ≡ l → y .count ≡ x .count → y .cells ≡ x .cells → y .entry ≡ region-word input-from wrapper k
+  lifted : k < n → v ≡ region-word input-from r k → l′ ≡ l → y .count ≡ x .count → y .cells ≡ x .cells
+      → y .entry ≡ region-word input-from wrapper k
       → TakesInput r wrapper n k v x l l′ y
   kept : k < n → (v ≡ region-word input-from r k → ⊥) → KeepsInput r wrapper k v x l l′ y → TakesInput r wrapper n k v x l l′ y
   beyond : n ≤ k → l′ ≡ l → y .count ≡ x .count → y .cells ≡ x .cells → y .entry ≡ region-word held-from r k

@@ -7,6 +7,7 @@ use Rattle.meaning.specs.Graph.{region}
 use Rattle.record.specs.Stands.{OfRecord}
 use Rattle.state.specs.declared.defined.Defined.the-variants.{Number, Full}
 use Rattle.state.specs.Sections.{word, stored, set-lengths, children, bodies}
+use Rattle.state.specs.Sections.{regions-at, nodes-at}
 use Rattle.state.specs.Tables.{Adds, Defines, inserted, swap-removed}
 use Rattle.shown.specs.laws.CellSteps.{loop-cell}
 use Rattle.lookups.specs.Materialized.{Materializes}
@@ -24,10 +25,11 @@ pub data AddsLoop (r node repeat kept : ℕ) (l l′ : List ℕ) : Type 0 where
 
 -- The repeat condition made real, the node defined, the loop added.
 pub data LoopDefined (r c kept : ℕ) (l l′ : List ℕ) : Made → Type 0 where
-  loop-defined : {x n : ℕ} {l₁ l₂ : List ℕ} → Materializes l c l₁ (Number x) → Defines 1 most-nodes l₁ l₂ (Number n)
+  loop-defined : {x n : ℕ} {l₁ l₂ : List ℕ} → Materializes l c l₁ (Number x) → Defines nodes-at most-nodes l₁ l₂ (Number n)
       → AddsLoop r n x kept l₂ l′ → LoopDefined r c kept l l′ Done
   no-value : Materializes l c l′ Full → LoopDefined r c kept l l′ Refused
-  no-node : {x : ℕ} {l₁ : List ℕ} → Materializes l c l₁ (Number x) → Defines 1 most-nodes l₁ l′ Full → LoopDefined r c kept l l′ Refused
+  no-node : {x : ℕ} {l₁ : List ℕ} → Materializes l c l₁ (Number x) → Defines nodes-at most-nodes l₁ l′ Full
+      → LoopDefined r c kept l l′ Refused
 
 -- Header r's n inputs looked up, taken and entered; h is the list of kept inputs.
 pub data EntersInputs (r wrapper n : ℕ) (l vs l′ : List ℕ) (h : ℕ) : Type 0 where
@@ -37,12 +39,12 @@ pub data EntersInputs (r wrapper n : ℕ) (l vs l′ : List ℕ) (h : ℕ) : Typ
 -- Region r, whose back edge is bundle p, leaves its set, and the wrapper, the inputs and the loop are made in this order.
 pub data StructurizesLoop (r p : ℕ) (l l′ : List ℕ) : Made → Type 0 where
   looped : {n wrapper h : ℕ} {l₁ l₂ l₃ : List ℕ} → OfRecord l (λ g. n ≡ length (region g r .inputs))
-      → Defines 0 most-regions (swap-removed l r p) l₁ (Number wrapper) → EntersInputs r wrapper n l₁ (backedge-inputs l p) l₂ h
+      → Defines regions-at most-regions (swap-removed l r p) l₁ (Number wrapper) → EntersInputs r wrapper n l₁ (backedge-inputs l p) l₂ h
       → LoopDefined r (condition-in l p (word l set-lengths r)) h l₂ l₃ Done
       → OfRecord (stored l₃ bodies r wrapper) (λ g. l′ ≡ exits-added g r (stored l₃ bodies r wrapper))
       → StructurizesLoop r p l l′ Done
-  no-wrapper : Defines 0 most-regions (swap-removed l r p) l′ Full → StructurizesLoop r p l l′ Refused
+  no-wrapper : Defines regions-at most-regions (swap-removed l r p) l′ Full → StructurizesLoop r p l l′ Refused
   no-loop : {n wrapper h : ℕ} {l₁ l₂ : List ℕ} → OfRecord l (λ g. n ≡ length (region g r .inputs))
-      → Defines 0 most-regions (swap-removed l r p) l₁ (Number wrapper) → EntersInputs r wrapper n l₁ (backedge-inputs l p) l₂ h
+      → Defines regions-at most-regions (swap-removed l r p) l₁ (Number wrapper) → EntersInputs r wrapper n l₁ (backedge-inputs l p) l₂ h
       → LoopDefined r (condition-in l p (word l set-lengths r)) h l₂ l′ Refused
       → StructurizesLoop r p l l′ Refused

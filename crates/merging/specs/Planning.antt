@@ -7,12 +7,10 @@ use lib.Dec.{ltb, eqb}
 use Rattle.meaning.specs.Lists.{pick}
 use Rattle.meaning.specs.Graph.{Graph}
 use Rattle.state.specs.Sections.{word, stored, set-starts, set-lengths, cases, bundles}
-use Rattle.state.specs.Values.{is-input, input-region, input-index}
-use Rattle.state.specs.Tables.{input-word, input-stored, find-by, bundle-at, case-total}
+use Rattle.state.specs.Values.{is-input, input-region, input-index, output-from}
+use Rattle.state.specs.Tables.{input-word, input-stored, find-by, bundle-at, case-total, no-bundle-word}
 use Rattle.merging.specs.Turns.{turned}
 use Rattle.bundles.specs.Words.{input-count, condition-in}
-use Rattle.state.specs.Values.{output-from}
-use Rattle.state.specs.Tables.{nowhere}
 
 -- The bundle of case j to target t.
 abbrev pub place-of : List ℕ → ℕ → ℕ → ℕ
@@ -24,7 +22,7 @@ per-case-deferred l t = turned (λ ps j. set ps j (place-of l t j)) (replicate 8
 unfoldable pub per-case-condition : List ℕ → ℕ → ℕ → ℕ
 per-case-condition l j p =
     let n = word l cases (10 * j + 5) in
-    pick (eqb n 0) 3 (pick (eqb p nowhere) 2 (condition-in l p n))
+    pick (eqb n 0) 3 (pick (eqb p no-bundle-word) 2 (condition-in l p n))
 
 -- An input that is still to be merged; while cases are gone through, one that none of them passed.
 abbrev pub to-merge : ℕ
@@ -49,7 +47,7 @@ unique-from l ps k zero j found = found
 unique-from l ps k (suc n) j found =
     let p = getD ps j 0 in
     let more = with-passed found (passed-by l k p j) in
-    pick (eqb p nowhere) (unique-from l ps k n (suc j) found) (pick (eqb more to-merge) to-merge (unique-from l ps k n (suc j) more))
+    pick (eqb p no-bundle-word) (unique-from l ps k n (suc j) found) (pick (eqb more to-merge) to-merge (unique-from l ps k n (suc j) more))
 
 abbrev pub unique-input : List ℕ → List ℕ → ℕ → ℕ
 unique-input l ps k = unique-from l ps k (case-total l) 0 to-merge

@@ -5,12 +5,11 @@ use lib.ListN.{length}
 use lib.Dec.{eqb}
 use Rattle.meaning.specs.Lists.{pick}
 use Rattle.meaning.specs.Graph.{Graph, region}
-use Rattle.state.specs.Sections.{word, stored, head, cases, bundles}
+use Rattle.state.specs.Sections.{word, stored, head, cases, bundles, twice-at}
 use Rattle.state.specs.Tables.{input-word, input-stored, bundle-at, case-total}
 use Rattle.lookups.specs.LookUps.{look-up}
 use Rattle.merging.specs.Turns.{turned}
 use Rattle.bundles.specs.Words.{input-count}
-use Rattle.state.specs.Sections.{twice-at}
 
 -- The words with the note of a look-up taken.
 unfoldable pub noted : List ℕ → ℕ → List ℕ

@@ -4,9 +4,8 @@ use Prim.Native.Nat.{ℕ, _+_, _*_, _-_}
 use lib.Dec.{ltb, eqb}
 use Rattle.meaning.specs.Lists.{pick}
 use Rattle.state.specs.Sections.{word, stored, stored-all, set-starts, set-lengths, cases, bundles}
-use Rattle.state.specs.Tables.{edges-word, find-by, bundle-at, case-total}
+use Rattle.state.specs.Tables.{edges-word, find-by, bundle-at, case-total, largest, no-bundle-word}
 use Rattle.merging.specs.Turns.{turned}
-use Rattle.state.specs.Tables.{largest, nowhere}
 
 -- The length of a set with k bundles more.
 unfoldable pub longer : ℕ → ℕ → ℕ
@@ -26,7 +25,7 @@ summarize-bundle l p =
     let start = word l set-starts 32 in
     let n = word l set-lengths 32 in
     let q = find-by l start (word l bundles (7 * p + 0)) n 0 in
-    pick (eqb q nowhere) (row-added l p start n) (edges-added l p q)
+    pick (eqb q no-bundle-word) (row-added l p start n) (edges-added l p q)
 
 unfoldable pub summarize-set : List ℕ → ℕ → ℕ → List ℕ
 summarize-set l start n = turned (λ m i. summarize-bundle m (bundle-at start i)) l n 0

@@ -6,6 +6,7 @@ use Prim.Native.Nat.{ℕ, zero, suc, _+_, _*_, _-_}
 use lib.Dec.{eqb}
 use Rattle.state.specs.declared.defined.Defined.the-variants.{Number, Full as Refused}
 use Rattle.state.specs.Sections.{word, stored, cases}
+use Rattle.state.specs.Sections.{regions-at}
 use Rattle.state.specs.Tables.{case-total, Defines, inserted}
 use Rattle.bundles.specs.Words.{case-inputs}
 use Rattle.state.specs.declared.defined.Made.{Made}
@@ -36,9 +37,9 @@ any-non-empty-case l = any-from l (case-total l) 0
 -- Case j has its region: a claimed one has it already.
 pub data GetsRegion (j : ℕ) (l l′ : List ℕ) : Made → Type 0 where
   has-region : word l cases (10 * j + 0) ≡ 2 → l′ ≡ l → GetsRegion j l l′ Done
-  new-region : {r : ℕ} {l₁ : List ℕ} → (word l cases (10 * j + 0) ≡ 2 → ⊥) → Defines 0 most-regions l l₁ (Number r)
+  new-region : {r : ℕ} {l₁ : List ℕ} → (word l cases (10 * j + 0) ≡ 2 → ⊥) → Defines regions-at most-regions l l₁ (Number r)
       → l′ ≡ stored l₁ cases (10 * j + 2) r → GetsRegion j l l′ Done
-  no-region : (word l cases (10 * j + 0) ≡ 2 → ⊥) → Defines 0 most-regions l l′ Refused → GetsRegion j l l′ Full
+  no-region : (word l cases (10 * j + 0) ≡ 2 → ⊥) → Defines regions-at most-regions l l′ Refused → GetsRegion j l l′ Full
 
 unfoldable pub inputs-replaced : List ℕ → ℕ → List ℕ
 inputs-replaced l j = pick (eqb (word l cases (10 * j + 0)) 2) (inserted l (word l cases (10 * j + 2)) 1 (case-inputs l j)) l

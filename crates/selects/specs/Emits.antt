@@ -8,15 +8,13 @@ use Rattle.meaning.specs.Lists.{pick}
 use Rattle.meaning.specs.Graph.{Graph}
 use Rattle.state.specs.declared.defined.Defined.the-variants.{Number, Full as Refused}
 use Rattle.state.specs.Sections.{word, stored, set-starts, set-lengths, cells, bundles}
-use Rattle.state.specs.Tables.{case-total, input-word, input-stored, bundle-at, OutputDefined, MergeDefined}
+use Rattle.state.specs.Tables.{case-total, input-word, input-stored, bundle-at, OutputDefined, MergeDefined, no-bundle-word}
 use Rattle.state.specs.Values.{undef-word, output-word}
 use Rattle.bundles.specs.Words.{input-count, target-type}
-use Rattle.merging.specs.Planning.{per-case-deferred, per-case-condition}
+use Rattle.merging.specs.Planning.{per-case-deferred, per-case-condition, to-merge}
 use Rattle.state.specs.declared.defined.Made.{Made}
 use Rattle.state.specs.declared.defined.Made.the-variants.{Done, Full}
 use Rattle.selects.specs.Turns.{Steps, Turns}
-use Rattle.state.specs.Tables.{nowhere}
-use Rattle.merging.specs.Planning.{to-merge}
 
 -- ---- Eight words, of which the first have what each case has, and the others `fill`.
 pub record InCases (n : ℕ) (f : ℕ → ℕ) (fill : ℕ) (vs : List ℕ) : Type 0 where
@@ -25,7 +23,7 @@ pub record InCases (n : ℕ) (f : ℕ → ℕ) (fill : ℕ) (vs : List ℕ) : Ty
   pub others : (j : ℕ) → n ≤ j → j < 8 → getD vs j 0 ≡ fill
 
 unfoldable pub value-in-case : List ℕ → ℕ → ℕ → ℕ → ℕ
-value-in-case l p k ty = pick (eqb p nowhere) (undef-word ty) (input-word l p k)
+value-in-case l p k ty = pick (eqb p no-bundle-word) (undef-word ty) (input-word l p k)
 
 abbrev pub ValuesIn : List ℕ → List ℕ → ℕ → ℕ → List ℕ → Type 0
 ValuesIn l places k ty vs = InCases (case-total l) (λ j. value-in-case l (getD places j 0) k ty) 66 vs

@@ -5,6 +5,7 @@ use Prim.Native.Nat.{ℕ, suc, _+_, _*_, _-_}
 use Rattle.state.specs.declared.defined.Defined.{Defined}
 use Rattle.state.specs.declared.defined.Defined.the-variants.{Number, Full}
 use Rattle.state.specs.Sections.{word, stored, cases, children}
+use Rattle.state.specs.Sections.{nodes-at}
 use Rattle.state.specs.Tables.{case-total, Adds, Defines}
 use Rattle.shown.specs.laws.CellSteps.{case-cell, select-cell}
 use Rattle.lookups.specs.Materialized.{Materializes}
@@ -35,9 +36,9 @@ pub data SelectDefined (r shape : ℕ) (x : Scrutinee) (l l′ : List ℕ) : Def
   scrutinee-full : {l₁ : List ℕ} → Turns GetsRegion (case-total l) 0 l l₁ MadeDone → ScrutineeMade l₁ x l′ Full
       → SelectDefined r shape x l l′ Full
   node-full : {l₁ l₂ : List ℕ} {v : ℕ} → Turns GetsRegion (case-total l) 0 l l₁ MadeDone → ScrutineeMade l₁ x l₂ (Number v)
-      → Defines 1 most-nodes l₂ l′ Full → SelectDefined r shape x l l′ Full
+      → Defines nodes-at most-nodes l₂ l′ Full → SelectDefined r shape x l l′ Full
   select-defined : {l₁ l₂ l₃ : List ℕ} {v n h : ℕ} → Turns GetsRegion (case-total l) 0 l l₁ MadeDone → ScrutineeMade l₁ x l₂ (Number v)
-      → Defines 1 most-nodes l₂ l₃ (Number n) → SelectAdded r n shape v l₃ l′ h → SelectDefined r shape x l l′ (Number h)
+      → Defines nodes-at most-nodes l₂ l₃ (Number n) → SelectAdded r n shape v l₃ l′ h → SelectDefined r shape x l l′ (Number h)
 
 -- ---- Turns of the loop over the cases.
 -- Whatever the cells that are left make is made of all.

@@ -1,4 +1,4 @@
--- What stands inside a cell, and the lines before it, by the cell's tag: a join is 2, a select 4, a loop 5.
+-- What stands inside a cell, and the lines before it, by the cell's tag: blocks are 1, a join 2, an exit 3, a select 4, a loop 5.
 use mathlib.Core.Path.{_≡_}
 use mathlib.Core.Bool.{Bool, true, false}
 use mathlib.Core.List.{List}
@@ -13,10 +13,8 @@ use Rattle.writing.specs.declared.place.Place.{Place}
 use Rattle.writing.specs.Puts.{Puts}
 use Rattle.writing.specs.Parts.{OfState, node-part, nodes-part}
 use Rattle.select_lines.specs.SelectLines.{PutsSelectLine, PutsCaseLine}
-use Rattle.loop_lines.specs.LoopParts.{loop-lines}
-use Rattle.loop_lines.specs.OfLoop.{OfLoop}
 use Rattle.sheet.specs.Regions.{PutsNodes}
-use Rattle.sheet.specs.Walk.{PutsCases}
+use Rattle.sheet.specs.Walk.{PutsCases, PutsLoopLines}
 
 -- The list inside cell h at place j.
 unfoldable pub inner-at : List ℕ → ℕ → ℕ → ℕ
@@ -32,9 +30,9 @@ pub data InnerTotal (w : List ℕ) (h n : ℕ) : ℕ → Type 0 where
   none-inside : {tag : ℕ} → (tag ≡ 2 → ⊥) → (tag ≡ 4 → ⊥) → (tag ≡ 5 → ⊥) → n ≡ 0 → InnerTotal w h n tag
 
 -- The line before the list at place j.
-pub data PartLine (w : List ℕ) (h j : ℕ) (out : List ℕ) (at : Place) (out′ : List ℕ) (at′ : Place) : ℕ → Type 0 where
-  case-line : PutsCaseLine w (case-cell w (list-at w h 5) j) (cell-word w h 2) j out at out′ at′ → PartLine w h j out at out′ at′ 4
-  no-part-line : {tag : ℕ} → (tag ≡ 4 → ⊥) → out′ ≡ out → at′ ≡ at → PartLine w h j out at out′ at′ tag
+pub data InnerLine (w : List ℕ) (h j : ℕ) (out : List ℕ) (at : Place) (out′ : List ℕ) (at′ : Place) : ℕ → Type 0 where
+  case-line : PutsCaseLine w (case-cell w (list-at w h 5) j) (cell-word w h 2) j out at out′ at′ → InnerLine w h j out at out′ at′ 4
+  no-inner-line : {tag : ℕ} → (tag ≡ 4 → ⊥) → out′ ≡ out → at′ ≡ at → InnerLine w h j out at out′ at′ tag
 
 -- The cell's own lines.
 pub data OwnLines (w : List ℕ) (h : ℕ) (out : List ℕ) (at : Place) (out′ : List ℕ) (at′ : Place) : ℕ → Type 0 where
@@ -42,7 +40,7 @@ pub data OwnLines (w : List ℕ) (h : ℕ) (out : List ℕ) (at : Place) (out′
   exit-line : OfState w (λ g s. (op : ℕ) (vs : List Value) → region g (cell-word w h 3) .terminator ≡ exit-invocation op vs
       → Puts out at (node-part s (exit (cell-word w h 2) op vs)) out′ at′) → OwnLines w h out at out′ at′ 3
   select-line : PutsSelectLine w h out at out′ at′ → OwnLines w h out at out′ at′ 4
-  body-lines : OfState w (λ g s. OfLoop g w h (λ x ns. Puts out at (loop-lines s x ns) out′ at′)) → OwnLines w h out at out′ at′ 5
+  body-lines : PutsLoopLines w h out at out′ at′ → OwnLines w h out at out′ at′ 5
   no-own-line : {tag : ℕ} → (tag ≡ 1 → ⊥) → (tag ≡ 3 → ⊥) → (tag ≡ 4 → ⊥) → (tag ≡ 5 → ⊥) → out′ ≡ out → at′ ≡ at
       → OwnLines w h out at out′ at′ tag
 
@@ -53,17 +51,16 @@ is-loop w list = pick (eqb list 0) false (eqb (cell-word w list 0) 5)
 unfoldable pub walked-list : List ℕ → ℕ → ℕ
 walked-list w list = pick (is-loop w list) (list-at w list 1) list
 
-pub data LoopAlone (w : List ℕ) (list : ℕ) (out : List ℕ) (at : Place) (out′ : List ℕ) (at′ : Place) : Type 0 where
-  loop-alone : is-loop w list ≡ true → OfState w (λ g s. OfLoop g w list (λ x ns. Puts out at (loop-lines s x ns) out′ at′))
-      → LoopAlone w list out at out′ at′
-  no-loop : is-loop w list ≡ false → out′ ≡ out → at′ ≡ at → LoopAlone w list out at out′ at′
+pub data WalkedLines (w : List ℕ) (list : ℕ) (out : List ℕ) (at : Place) (out′ : List ℕ) (at′ : Place) : Type 0 where
+  loop-alone : is-loop w list ≡ true → PutsLoopLines w list out at out′ at′ → WalkedLines w list out at out′ at′
+  no-loop : is-loop w list ≡ false → out′ ≡ out → at′ ≡ at → WalkedLines w list out at out′ at′
 
 pub data LinesPut (w : List ℕ) (h j : ℕ) (out : List ℕ) (at : Place) (out′ : List ℕ) (at′ : Place) : Type 0 where
   own-put : j ≡ 0 → OwnLines w h out at out′ at′ (cell-word w h 0) → LinesPut w h j out at out′ at′
-  part-put : {out₁ : List ℕ} {at₁ : Place} → (j ≡ 0 → ⊥) → LoopAlone w (inner-at w h (j - 1)) out at out₁ at₁
-      → PartLine w h (j - 1) out₁ at₁ out′ at′ (cell-word w h 0) → LinesPut w h j out at out′ at′
+  inner-put : {out₁ : List ℕ} {at₁ : Place} → (j ≡ 0 → ⊥) → WalkedLines w (inner-at w h (j - 1)) out at out₁ at₁
+      → InnerLine w h (j - 1) out₁ at₁ out′ at′ (cell-word w h 0) → LinesPut w h j out at out′ at′
 
--- ---- The loop: of the n lists inside, those from place j on are put, each with its line.
+-- ---- The walk inside: of the n lists, those from place j on are put, each with its line.
 pub record InsidePut (w : List ℕ) (h n j : ℕ) (out : List ℕ) (at : Place) (out′ : List ℕ) (at′ : Place) : Type 0 where
   pub cases : cell-word w h 0 ≡ 4 → PutsCases w (case-cell w (list-at w h 5) j) (cell-word w h 2) j out at out′ at′
   pub list : (cell-word w h 0 ≡ 4 → ⊥) → j < n → PutsNodes w (inner-at w h j) out at out′ at′

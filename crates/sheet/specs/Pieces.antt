@@ -5,7 +5,7 @@ use mathlib.Core.List.{List, [], _∷_, _++_, map}
 use Prim.Native.Nat.{ℕ, _+_}
 use lib.Dec.{leb}
 use Rattle.meaning.specs.Lists.{concat, any, pick}
-use Rattle.meaning.specs.facts.Tests.{or-turned}
+use Rattle.meaning.specs.facts.Tests.{or-left-comm}
 use Rattle.meaning.specs.facts.Elements.{any-mixed}
 use Rattle.meaning.specs.Graph.{Graph, Value, region}
 use Rattle.meaning.specs.Runs.{Nodes}
@@ -98,7 +98,7 @@ any-ascending f e (u ∷ us) = by (any-ascending f e us) (leb (e .region) (u .re
     by : any f (sheet.ascending e us) ≡ (f e || any f us) → (b : Bool)
         → any f (pick b (e ∷ u ∷ us) (u ∷ sheet.ascending e us)) ≡ (f e || (f u || any f us))
     by rest true = refl
-    by rest false = ap (λ z. f u || z) rest ∙ or-turned (f u) (f e) (any f us)
+    by rest false = ap (λ z. f u || z) rest ∙ or-left-comm (f u) (f e) (any f us)
 
 module _ (g : Graph) (s : NestState) (o : Outcome) (e : Piece) (us : List Piece) where
   abbrev of-children : Piece → Bool

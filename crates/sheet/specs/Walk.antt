@@ -13,6 +13,8 @@ use Rattle.writing.specs.declared.place.Place.{Place}
 use Rattle.writing.specs.Puts.{Part, Puts}
 use Rattle.writing.specs.laws.PutsLaws.{_⊕_}
 use Rattle.writing.specs.Parts.{OfState, nodes-part, cases-part}
+use Rattle.loop_lines.specs.LoopParts.{loop-lines}
+use Rattle.loop_lines.specs.OfLoop.{OfLoop}
 
 abbrev pub PutsCell : List ℕ → ℕ → List ℕ → Place → List ℕ → Place → Type 0
 PutsCell w h out at out′ at′ =
@@ -24,7 +26,11 @@ PutsCases w list node j out at out′ at′ =
     OfState w (λ g s. (cs : Cases) → ShowsCaseCells g (section w cells) list cs → j + case-count cs ≤ 8
     → Puts out at (cases-part s cs node j) out′ at′)
 
--- ---- The loop: what the present handle shows, and what was put behind it, are the whole list.
+-- The lines of the loop that cell h adds, which stand before its body's nodes.
+abbrev pub PutsLoopLines : List ℕ → ℕ → List ℕ → Place → List ℕ → Place → Type 0
+PutsLoopLines w h out at out′ at′ = OfState w (λ g s. OfLoop g w h (λ x ns. Puts out at (loop-lines s x ns) out′ at′))
+
+-- ---- The walk along a list: what the present handle shows, and what was put behind it, are the whole list.
 pub record Behind (g : Graph) (w : List ℕ) (s : NestState) (ks : Nodes) (h : ℕ) (out : List ℕ) (at : Place) (out′ : List ℕ)
     (at′ : Place) : Type 0 where
   pub left : Nodes

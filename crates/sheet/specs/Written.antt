@@ -11,7 +11,7 @@ use Rattle.meaning.specs.Runs.{Nodes, ⟨⟩}
 use Rattle.nesting.specs.Nesting.{NestState, Nested, untouched, whole, closed, leftover, piece, conclude-with, unclaimed-from, plain}
 use Rattle.nesting.specs.Nesting.{DeferredEdgeBundle, DeferredEdgeBundleSet, region-body}
 use Rattle.nesting.specs.Sheet as sheet
-use Rattle.state.specs.Sections.{word, head, kinds}
+use Rattle.state.specs.Sections.{word, head, kinds, attempts-at, twice-at}
 use Rattle.shown.specs.States.{ShowsBody}
 use Rattle.writing.specs.declared.place.Place.{Place}
 use Rattle.writing.specs.Puts.{Puts, written}
@@ -19,7 +19,6 @@ use Rattle.writing.specs.Parts.{OfState, most}
 use Rattle.sheet.specs.declared.whole.Sheet.{Sheet}
 use Rattle.sheet.specs.declared.whole.Sheet.the-variants.{Words, TooFew}
 use Rattle.sheet.specs.Whole.{nested-lines, nested-words}
-use Rattle.state.specs.Sections.{attempts-at, twice-at}
 
 -- ---- How the words show a nested answer: by the number of its outcome, and the entry's children and set.
 pub data ShowsAnswer (g : Graph) (w : List ℕ) (s : NestState) (x : Nested) : ℕ → Type 0 where

@@ -79,8 +79,8 @@ pub fn walked_list(w: &[u16; WORDS], list: u16) -> u16
 }
 
 // The lines before what was walked: of a loop alone, the loop's.
-fn put_loop_alone(w: &[u16; WORDS], out: &mut [u32], at: Place, list: u16) -> Place
-    ensures { λ a. ⌜ inside.LoopAlone (now (w .entry)) list (now (out .entry)) at (now (out .exit)) a ⌝ }
+fn put_walked_lines(w: &[u16; WORDS], out: &mut [u32], at: Place, list: u16) -> Place
+    ensures { λ a. ⌜ inside.WalkedLines (now (w .entry)) list (now (out .entry)) at (now (out .exit)) a ⌝ }
 {
     if is_loop(w, list) {
         return put_loop_lines(w, out, at, list);
@@ -89,8 +89,8 @@ fn put_loop_alone(w: &[u16; WORDS], out: &mut [u32], at: Place, list: u16) -> Pl
 }
 
 // The line before a list inside: only a case has one.
-fn put_part_line(w: &[u16; WORDS], out: &mut [u32], at: Place, h: u16, j: u16) -> Place
-    ensures { λ a. ⌜ inside.PartLine (now (w .entry)) h j (now (out .entry)) at (now (out .exit)) a («cell-word» (now (w .entry)) h 0) ⌝ }
+fn put_inner_line(w: &[u16; WORDS], out: &mut [u32], at: Place, h: u16, j: u16) -> Place
+    ensures { λ a. ⌜ inside.InnerLine (now (w .entry)) h j (now (out .entry)) at (now (out .exit)) a («cell-word» (now (w .entry)) h 0) ⌝ }
 {
     if cell_tag(w, h) == SELECT {
         let c = case_cell(w, inner_list(w, h), j);
@@ -127,6 +127,6 @@ pub fn put_cell_lines(w: &[u16; WORDS], out: &mut [u32], at: Place, h: u16, j: u
         return put_own_lines(w, out, at, h);
     }
     let list = inner_at(w, h, j - 1);
-    let alone = put_loop_alone(w, out, at, list);
-    put_part_line(w, out, alone, h, j - 1)
+    let walked = put_walked_lines(w, out, at, list);
+    put_inner_line(w, out, walked, h, j - 1)
 }

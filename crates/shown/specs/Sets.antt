@@ -10,7 +10,7 @@ use Rattle.state.specs.Sections.{word, bundles}
 use Rattle.shown.specs.Values.{value}
 use Rattle.shown.specs.Tables.{ShowsCondition}
 use Rattle.state.specs.Values.{names-nothing}
-use Rattle.state.specs.Tables.{return-word}
+use Rattle.state.specs.Tables.{return-word, most-bundles}
 
 -- A word that stands for a value, and names it.
 pub record Names (x : ℕ) (v : Value) : Type 0 where
@@ -42,7 +42,7 @@ no-bundle = edge-bundle to-return 0 [] true-cond
 pub record ShowsSet (g : Graph) (w : List ℕ) (start n : ℕ) (d : DeferredEdgeBundleSet) : Type 0 where
   pub size : n ≡ length d
   pub few : n ≤ 33
-  pub room : start + n ≤ 1097
+  pub room : start + n ≤ most-bundles
   pub each : (i : ℕ) → i < n → ShowsBundle g w (start + i) (getD d i no-bundle)
   pub apart : (i j : ℕ) → i < j → j < n → word w bundles (7 * (start + i) + 0) ≡ word w bundles (7 * (start + j) + 0) → ⊥
 

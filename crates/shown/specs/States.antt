@@ -8,14 +8,14 @@ use Rattle.meaning.specs.Runs.{Nodes}
 use Rattle.format.specs.References.{return-types}
 use Rattle.record.specs.Stands.{Stands}
 use Rattle.nesting.specs.Nesting.{DeferredEdgeBundleSet, StructurizeRegionState, not-begun, in-progress, claimed, ready, NestState, Body}
-use Rattle.nesting.specs.Nesting.{ClaimedRegion, MaybeClaimedRegion, ok, err, deferred-of}
-use Rattle.nesting.specs.Nesting.{most-regions}
-use Rattle.state.specs.Sections.{word, head, kinds, backedges, set-starts, set-lengths, children, bodies, cases, rewrites}
-use Rattle.state.specs.Tables.{case-total}
+use Rattle.nesting.specs.Nesting.{ClaimedRegion, MaybeClaimedRegion, ok, err, deferred-of, most-regions}
+use Rattle.state.specs.Sections.{word, head, kinds, backedges, set-starts, set-lengths, children, bodies, cases, rewrites, returned-at}
+use Rattle.state.specs.Sections.{types-at}
+use Rattle.state.specs.Tables.{case-total, own-edges-from}
 use Rattle.shown.specs.Tables.{ShowsTables}
 use Rattle.shown.specs.Sets.{Names, ShowsSet}
 use Rattle.shown.specs.Cells.{ShowsChildren}
-use Rattle.state.specs.Sections.{returned-at, types-at}
+use Rattle.state.specs.Values.{names-nothing}
 
 -- The set that region r's slot holds.
 abbrev pub ShowsOwnSet : Graph → List ℕ → ℕ → DeferredEdgeBundleSet → Type 0
@@ -42,7 +42,7 @@ pub record ShowsReturned (g : Graph) (w : List ℕ) : Type 0 where
 
 -- The words of the rewrites' entries name values.
 pub record NamedRewrites (w : List ℕ) : Type 0 where
-  pub below : (r k : ℕ) → r < most-regions → k < 4 → (word w rewrites (5 * r) ≡ 0 → ⊥) → word w rewrites (5 * r + 1 + k) < 4096
+  pub below : (r k : ℕ) → r < most-regions → k < 4 → (word w rewrites (5 * r) ≡ 0 → ⊥) → word w rewrites (5 * r + 1 + k) < names-nothing
 
 pub record ShowsState (g : Graph) (w : List ℕ) (s : NestState) : Type 0 where
   pub stands : Stands w g
@@ -79,7 +79,7 @@ pub data ShowsCase (g : Graph) (w : List ℕ) (r j : ℕ) : MaybeClaimedRegion �
       → ((k : ℕ) → k < 4 → Names (word w cases (10 * j + (6 + k))) (getD (c .structured-body-inputs) k (undef 0)))
       → ShowsCase g w r j (ok c)
   shows-nothing : word w cases (10 * j + 0) ≡ 0 → word w cases (10 * j + 5) ≡ 0 → ShowsCase g w r j (err [])
-  shows-edge : {d : DeferredEdgeBundleSet} → word w cases (10 * j + 0) ≡ 1 → word w cases (10 * j + 4) ≡ 1089 + j
+  shows-edge : {d : DeferredEdgeBundleSet} → word w cases (10 * j + 0) ≡ 1 → word w cases (10 * j + 4) ≡ own-edges-from + j
       → word w cases (10 * j + 5) ≡ 1 → ShowsCase g w r j (err d)
   shows-others : {d : DeferredEdgeBundleSet} → word w cases (10 * j + 0) ≡ 3 → word w cases (10 * j + 4) ≡ word w set-starts r
       → ShowsCase g w r j (err d)

@@ -1,5 +1,6 @@
 -- What the words show of a state of nesting: its rewrites, outputs, conditions and totals. Each part speaks of one section's words, or of
--- one word of the head, so a store elsewhere leaves it as it is.
+-- one word of the head; a condition of its records, of the cells of their selects and of how many there are. So a store elsewhere leaves
+-- it as it is.
 use mathlib.Core.Path.{_≡_}
 use mathlib.Core.Bool.{false}
 use mathlib.Core.List.{List, [], map, List·Memᴰ}
@@ -9,16 +10,16 @@ use lib.ListN.{length, getD}
 use Rattle.meaning.specs.Graph.{Value, SelectionKind, bool-cond, number, undef, held}
 use Rattle.nesting.specs.Nesting.{LazyCond, undef-cond, false-cond, true-cond, merge, LazyConds, no-conds, _&_, InputRewrite, renumber-to}
 use Rattle.nesting.specs.Nesting.{replace-by, RegionInputRewrites, replace-with, renumber-or-replace-with, RewriteEntry, NodeOutput}
-use Rattle.nesting.specs.Nesting.{NestState, StepAnswer, done, turned-away, rewrites-of}
-use Rattle.nesting.specs.Nesting.{most-regions, most-nodes, most-merges, most-outputs}
+use Rattle.nesting.specs.Nesting.{NestState, StepAnswer, done, turned-away, rewrites-of, most-regions, most-nodes, most-merges}
+use Rattle.nesting.specs.Nesting.{most-outputs}
 use Rattle.state.specs.declared.defined.Defined.{Defined}
 use Rattle.state.specs.declared.defined.Defined.the-variants.{Number, Full}
-use Rattle.state.specs.Sections.{section, word, head, rewrites, outputs, conditions, used}
+use Rattle.state.specs.Sections.{section, word, head, rewrites, outputs, conditions, used, attempts-at, cells-at, merges-at, nodes-at}
+use Rattle.state.specs.Sections.{outputs-at, regions-at, twice-at}
 use Rattle.state.specs.Tables.{select-word}
 use Rattle.state.specs.Values.{is-held}
 use Rattle.shown.specs.Values.{value}
 use Rattle.meaning.specs.Lists.{bit}
-use Rattle.state.specs.Sections.{attempts-at, cells-at, merges-at, nodes-at, outputs-at, regions-at, twice-at}
 
 -- ---- Rewrites: five words for a region.
 -- The word at a loop header's input: a marked one is the new number of an input that stays.
@@ -77,7 +78,8 @@ mutual
     shows-true : {c : ℕ} → c ≡ 1 → ShowsCond w c true-cond
     shows-false : {c : ℕ} → c ≡ 2 → ShowsCond w c false-cond
     shows-undef : {c : ℕ} → c ≡ 3 → ShowsCond w c undef-cond
-    shows-merge : {c n : ℕ} {kind : SelectionKind} {v : Value} {ts : LazyConds} → 4 ≤ c → word w conditions (9 * c + 0) < word w head cells-at
+    shows-merge : {c n : ℕ} {kind : SelectionKind} {v : Value} {ts : LazyConds} → 4 ≤ c
+        → word w conditions (9 * c + 0) < word w head cells-at
         → select-word w c 2 ≡ n → ShowsShape (select-word w c 3) (cond-count ts) kind → value (select-word w c 4) ≡ v → ShowsConds w c 0 ts
         → ShowsCond w c (merge n kind v ts)
 

@@ -6,12 +6,10 @@ use lib.ListN.{length, getD}
 use Rattle.meaning.specs.Graph.{Graph, no-value}
 use Rattle.format.specs.References.{type-in, behind-all, first-return}
 use Rattle.fields.specs.ByNumber.{blocks-before, end-values}
-use Rattle.state.specs.Sections.{Section, stored, stored-all, head, kinds, set-starts, rewrites}
-use Rattle.state.specs.Tables.{slot}
+use Rattle.state.specs.Sections.{Section, stored, stored-all, head, kinds, set-starts, rewrites, regions-at, returned-at, types-at}
+use Rattle.state.specs.Tables.{slot, largest}
 use Rattle.shown.specs.Front.{SameFront}
 use Rattle.nesting.specs.Nesting.{most-regions}
-use Rattle.state.specs.Sections.{regions-at, returned-at, types-at}
-use Rattle.state.specs.Tables.{largest}
 
 -- In section k, from turn i on, n words, each at its place.
 unfoldable pub filled : Section → (ℕ → ℕ) → (ℕ → ℕ) → ℕ → ℕ → List ℕ → List ℕ

@@ -38,7 +38,7 @@ start k = total (λ n. n) (take (number k) sizes)
 abbrev pub size : Section → ℕ
 size k = getD sizes (number k) 0
 
--- What stands in the head: totals, attempts, whether a marked input was met twice, cases under way, how many values a Return has and
+-- What stands in the head: totals, attempts, the note `twice`, cases under way, how many values a Return has and
 -- their types.
 abbrev pub regions-at : ℕ
 regions-at = 0

@@ -8,11 +8,9 @@ use Rattle.state.specs.declared.defined.Defined.the-variants.{Number, Fu
 use Rattle.state.specs.declared.cells.Cell.{Cell}
 use Rattle.state.specs.declared.cases.Case.{Case}
 use Rattle.state.specs.Sections.{word, stored, stored-all, head, cells, rewrites, bundles, set-starts, set-lengths, cases, levels}
-use Rattle.state.specs.Sections.{outputs, conditions}
+use Rattle.state.specs.Sections.{outputs, conditions, most-cells, attempts-at, cases-at, cells-at, merges-at, outputs-at}
 use Rattle.meaning.specs.Lists.{pick}
 use Rattle.nesting.specs.Nesting.{most-merges, most-outputs}
-use Rattle.state.specs.Sections.{most-cells}
-use Rattle.state.specs.Sections.{attempts-at, cases-at, cells-at, merges-at, outputs-at}
 
 -- A handle, or 0 where it names no earlier cell; a condition, or true where it names no earlier one.
 unfoldable pub earlier : ℕ → ℕ → ℕ
@@ -36,7 +34,8 @@ cell-words x = x .tag ∷ x .before ∷ x .a ∷ x .b ∷ x .c ∷ x .d ∷ []
 
 -- A cell more, at the handle that the head counts.
 pub data Adds (l l′ : List ℕ) (x : Cell) (h : ℕ) : Type 0 where
-  added : h ≡ word l head cells-at → h < most-cells → l′ ≡ stored (stored-all l cells (6 * h) (cell-words x)) head cells-at (h + 1) → Adds l l′ x h
+  added : h ≡ word l head cells-at → h < most-cells → l′ ≡ stored (stored-all l cells (6 * h) (cell-words x)) head cells-at (h + 1)
+      → Adds l l′ x h
   no-room : most-cells ≤ word l head cells-at → l′ ≡ l → h ≡ 0 → Adds l l′ x h
 
 -- ---- Cases, rewrites.
@@ -57,12 +56,12 @@ slot-size = 33
 abbrev pub own-edges-from : ℕ
 own-edges-from = 1089
 
-abbrev pub bundle-total : ℕ
-bundle-total = 1097
+abbrev pub most-bundles : ℕ
+most-bundles = 1097
 
 -- No bundle; the target Return; the largest word.
-abbrev pub nowhere : ℕ
-nowhere = 65535
+abbrev pub no-bundle-word : ℕ
+no-bundle-word = 65535
 
 abbrev pub return-word : ℕ
 return-word = 65535
@@ -75,13 +74,13 @@ abbrev pub edges-word : ℕ → ℕ
 edges-word n = min n largest
 
 unfoldable pub slot : ℕ → ℕ
-slot r = pick (ltb r slot-count) (slot-size * r) nowhere
+slot r = pick (ltb r slot-count) (slot-size * r) no-bundle-word
 
 unfoldable pub own-edge : ℕ → ℕ
-own-edge j = pick (ltb j 8) (own-edges-from + j) nowhere
+own-edge j = pick (ltb j 8) (own-edges-from + j) no-bundle-word
 
 unfoldable pub bundle-at : ℕ → ℕ → ℕ
-bundle-at start i = pick (ltb start bundle-total) (pick (ltb i slot-size) (start + i) nowhere) nowhere
+bundle-at start i = pick (ltb start most-bundles) (pick (ltb i slot-size) (start + i) no-bundle-word) no-bundle-word
 
 abbrev pub bundle-words : List ℕ → ℕ → List ℕ
 bundle-words l b =
@@ -101,7 +100,7 @@ swapped l a b = stored (stored l set-starts a (word l set-starts b)) set-starts 
 
 -- The first bundle to a target among n from `start` on, of which i were passed.
 unfoldable pub find-by : List ℕ → ℕ → ℕ → ℕ → ℕ → ℕ
-find-by l start t zero i = nowhere
+find-by l start t zero i = no-bundle-word
 find-by l start t (suc n) i = pick (eqb (word l bundles (7 * bundle-at start i + 0)) t) (bundle-at start i) (find-by l start t n (suc i))
 
 -- ---- Steps of the head, of levels and of cases.

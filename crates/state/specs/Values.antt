@@ -8,7 +8,7 @@ use Rattle.fields.specs.declared.shape.Value.the-variants.{Const, Input, Instr,
 use Rattle.state.specs.declared.values.Parts.{Parts}
 use Rattle.nesting.specs.Nesting.{most-regions, most-outputs}
 
--- Where the outputs begin among the words, and so on; the last and all behind it name nothing.
+-- Where each range begins: undefined values, outputs, inputs, marked inputs, instructions; from the last on a word names nothing.
 abbrev pub undef-from : ℕ
 undef-from = 66
 
@@ -75,7 +75,7 @@ parts kind of index = record { kind = kind; of = of; index = index }
 unfoldable pub parts-of : ℕ → Parts
 parts-of v =
     pick (ltb v 64) (parts 0 0 v)
-    (pick (ltb v 66) (parts 4 0 (v - 64))
+    (pick (ltb v undef-from) (parts 4 0 (v - 64))
     (pick (ltb v output-from) (parts 5 0 (v - undef-from))
     (pick (ltb v input-from) (parts 3 0 (v - output-from))
     (pick (ltb v instr-from) (parts 1 (input-region v) (input-index v))

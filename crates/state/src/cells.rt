@@ -34,9 +34,8 @@ pub const KEPT: u16 = 7;
 const MOST_CELLS: u16 = 652;
 
 // A cell by its six words. `before` is the list that it follows; the others are by tag:
-// blocks region · join list · exit node, region · select node, shape, scrutinee, cases · loop node, body, repeat value, kept inputs
-// (before:
-// the body's children) · case region, children (before: the cases after it) · kept input's number, wrapper region, value passed back
+// blocks region · join list · exit node, region · select node, shape, scrutinee, cases · loop node, body, repeat value, kept inputs;
+// before: the body's children · case region, children (before: the cases after it) · kept input's number, wrapper region, value passed back
 pub struct Cell {
     pub tag: u16,
     pub before: u16,

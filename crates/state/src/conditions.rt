@@ -1,4 +1,5 @@
-// Lazy conditions: true, false, undefined, or a record with a part for each case of a select. A record names only earlier ones.
+// Lazy conditions: true, false, undefined, or a record with a part for each case of a select. A record names its select's
+// cell, and of conditions only earlier ones.
 ghost use mathlib.Core.Path.{_≡_};
 ghost use Prim.Native.Nat.{_+_, _*_, _≤_};
 ghost use Rattle.state.specs.Sections as sections;

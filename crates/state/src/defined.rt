@@ -79,13 +79,13 @@ fn define(w: &mut [u16; WORDS], i: usize, limit: u16) -> Defined
 }
 
 pub fn define_node(w: &mut [u16; WORDS]) -> Defined
-    ensures { λ a. ⌜ tables.Defines 1 limits.«most-nodes» (now (w .entry)) (now (w .exit)) a ⌝ }
+    ensures { λ a. ⌜ tables.Defines sections.«nodes-at» limits.«most-nodes» (now (w .entry)) (now (w .exit)) a ⌝ }
 {
     define(w, NODES, MOST_NODES)
 }
 
 pub fn define_region(w: &mut [u16; WORDS]) -> Defined
-    ensures { λ a. ⌜ tables.Defines 0 limits.«most-regions» (now (w .entry)) (now (w .exit)) a ⌝ }
+    ensures { λ a. ⌜ tables.Defines sections.«regions-at» limits.«most-regions» (now (w .entry)) (now (w .exit)) a ⌝ }
 {
     define(w, REGIONS, MOST_REGIONS)
 }

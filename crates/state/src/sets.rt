@@ -27,6 +27,9 @@ pub const NO_BUNDLE: u16 = 65535;
 // The bundle of the first case's own edge.
 const OWN_EDGES: u16 = 1089;
 
+// Behind the last of them.
+const MOST_BUNDLES: u16 = 1097;
+
 pub fn set_start(w: &[u16; WORDS], r: u16) -> u16
     ensures { λ a. ⌜ a ≡ sections.word (now (w .entry)) sections.«set-starts» r ⌝ }
 {
@@ -75,7 +78,7 @@ pub fn own_edge(j: u16) -> u16
 pub fn bundle_at(start: u16, i: u16) -> u16
     ensures { λ a. ⌜ a ≡ tables.«bundle-at» start i ⌝ }
 {
-    if start < 1097 {
+    if start < MOST_BUNDLES {
         if i < 33 {
             return start + i;
         }

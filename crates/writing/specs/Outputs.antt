@@ -3,9 +3,8 @@ use mathlib.Core.List.{List, [], _∷_}
 use Prim.Native.Nat.{ℕ, zero, suc, _+_, _*_}
 use lib.Dec.{ltb, eqb}
 use Rattle.meaning.specs.Lists.{pick}
-use Rattle.state.specs.Sections.{word, head, outputs}
+use Rattle.state.specs.Sections.{word, head, outputs, outputs-at}
 use Rattle.state.specs.Values.{parts-of}
-use Rattle.state.specs.Sections.{outputs-at}
 
 unfoldable pub node-of : List ℕ → ℕ → ℕ
 node-of w o = pick (ltb o (word w head outputs-at)) (word w outputs (10 * o)) 0

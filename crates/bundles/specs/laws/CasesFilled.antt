@@ -20,17 +20,15 @@ use Rattle.shown.specs.Kept.{Later, KeptRegion}
 use Rattle.shown.specs.laws.RegionsKept.{same-bundle, same-bundle-then, claimed-stays}
 use Rattle.shown.specs.laws.Stores.{head-same}
 use Rattle.shown.specs.laws.SetStores.{OnlySets, only-same, only-then, only-total, only-later, only-kept, only-state, only-word-same}
-use Rattle.shown.specs.laws.RegionSteps.{slots-stay}
 use Rattle.shown.specs.laws.SetStores.{word-other, same-elsewhere}
+use Rattle.shown.specs.laws.RegionSteps.{slots-stay}
 use Rattle.shown.specs.laws.SetSteps.{set-of-one}
 use Rattle.bundles.specs.Words.{padded, claimed-case, unclaimed-case, edge-deferred, case-filled, filled-from, cases-filled}
 use Rattle.bundles.specs.laws.RecordValues.{few-edges}
 use Rattle.bundles.specs.laws.Deferred.{edge-names, edge-deferred-shown}
-use Rattle.bundles.specs.laws.CaseSteps.{OneCase, one-then, one-row, one-edge, own-in, in-slots, one-kept}
-use Rattle.bundles.specs.laws.CaseSteps.{taken-same, Owner, of-claimed}
-use Rattle.bundles.specs.laws.CaseSteps.{of-others, case-placed, placed-apart, placed-not-spare, CaseAndSet, other-row, shown-stays}
-use Rattle.bundles.specs.laws.CaseSteps.{row-word}
-use Rattle.bundles.specs.laws.CaseSteps.{claimed-row, nothing-row, edge-row}
+use Rattle.bundles.specs.laws.CaseSteps.{OneCase, one-then, one-row, one-edge, own-in, in-slots, one-kept, taken-same, Owner}
+use Rattle.bundles.specs.laws.CaseSteps.{of-claimed, of-others, case-placed, placed-apart, placed-not-spare, CaseAndSet, other-row}
+use Rattle.bundles.specs.laws.CaseSteps.{shown-stays, row-word, claimed-row, nothing-row, edge-row}
 
 -- ---- How the target at place j was taken, with the definition's case.
 pub data Taken (g : Graph) (w : List ℕ) (r j : ℕ) : MaybeClaimedRegion → Type 0 where

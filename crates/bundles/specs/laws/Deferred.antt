@@ -18,10 +18,9 @@ use Rattle.shown.specs.Sets.{Names, shows-region, shows-return, ShowsBundle, Sa
 use Rattle.shown.specs.States.{ShowsOwnSet, Slots, ShowsState}
 use Rattle.shown.specs.Kept.{KeptRegion}
 use Rattle.shown.specs.laws.RegionsKept.{bundle-stays, same-bundle-then}
-use Rattle.shown.specs.laws.RegionSteps.{word-there, word-apart}
-use Rattle.shown.specs.laws.SetStores.{OnlySets, only-run, only-word, only-then, only-later, only-state, bundles-of-sets}
-use Rattle.shown.specs.laws.RegionSteps.{slots-stay}
-use Rattle.shown.specs.laws.SetStores.{lengths-of-sets, word-other, run-elsewhere-word, bundle-beside, same-elsewhere}
+use Rattle.shown.specs.laws.RegionSteps.{word-there, word-apart, slots-stay}
+use Rattle.shown.specs.laws.SetStores.{OnlySets, only-run, only-word, only-then, only-later, only-state, bundles-of-sets, lengths-of-sets}
+use Rattle.shown.specs.laws.SetStores.{word-other, run-elsewhere-word, bundle-beside, same-elsewhere}
 use Rattle.shown.specs.laws.SetSteps.{bundle-made, set-of-one, kept-beside}
 use Rattle.shown.specs.laws.Finds.{bundle-in}
 use Rattle.bundles.specs.Words.{padded, edge-deferred, return-deferred}

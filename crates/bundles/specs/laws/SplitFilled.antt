@@ -9,8 +9,7 @@ use borrow.Author.Tests.{lt-ltb, le-ltb}
 use Rattle.meaning.specs.Graph.{Graph, region, undef}
 use Rattle.meaning.specs.facts.Tests.{clash}
 use Rattle.nesting.specs.Nesting.{DeferredTarget, to-region, DeferredEdgeBundle, DeferredEdgeBundleSet, ClaimedRegion, MaybeClaimedRegion}
-use Rattle.nesting.specs.Nesting.{ok}
-use Rattle.nesting.specs.Nesting.{err, NestState}
+use Rattle.nesting.specs.Nesting.{ok, err, NestState}
 use Rattle.state.specs.Sections.{word, stored, stored-all, head, kinds, set-starts, set-lengths, children, bodies, cases, bundles}
 use Rattle.state.specs.Tables.{bundle-at, input-word, case-words, shift-removed}
 use Rattle.shown.specs.Values.{value}
@@ -20,15 +19,14 @@ use Rattle.shown.specs.States.{ShowsCases, no-case}
 use Rattle.shown.specs.Kept.{Later, KeptRegion}
 use Rattle.shown.specs.laws.RegionsKept.{kept-then, set-stays, same-bundle-then, claimed-stays}
 use Rattle.shown.specs.laws.Stores.{head-same}
-use Rattle.shown.specs.laws.SetStores.{OnlySets, only-then, only-total, only-later, only-state, only-word-same, word-other}
+use Rattle.shown.specs.laws.SetStores.{OnlySets, only-then, only-total, only-later, only-state, only-word-same, word-other, same-elsewhere}
+use Rattle.shown.specs.laws.SetStores.{same-elsewhere-run}
 use Rattle.shown.specs.laws.RegionSteps.{slots-stay}
-use Rattle.shown.specs.laws.SetStores.{same-elsewhere, same-elsewhere-run}
 use Rattle.shown.specs.laws.SetSteps.{shift-removes, kept-beside}
 use Rattle.shown.specs.laws.Finds.{bundle-in}
 use Rattle.bundles.specs.Words.{claimed-case, unclaimed-case, given-word, given-inputs, split-filled}
-use Rattle.bundles.specs.laws.CaseSteps.{one-row, Owner, of-claimed, of-others, case-placed, placed-apart}
-use Rattle.bundles.specs.laws.CaseSteps.{placed-not-spare, CaseAndSet}
-use Rattle.bundles.specs.laws.CaseSteps.{shown-stays, claimed-row, others-row, one-kept}
+use Rattle.bundles.specs.laws.CaseSteps.{one-row, Owner, of-claimed, of-others, case-placed, placed-apart, placed-not-spare}
+use Rattle.bundles.specs.laws.CaseSteps.{CaseAndSet, shown-stays, claimed-row, others-row, one-kept}
 use Rattle.bundles.specs.laws.CasesFilled.{total-of}
 
 -- ---- The inputs of a bundle, as four words.

@@ -6,8 +6,8 @@ use Prim.Native.Nat.{ℕ, zero, suc, _+_, _*_, _≤_, _<_}
 use native.Mathlib.Omega.{arith}
 use lib.ListN.{length, getD}
 use lib.Dec.{ltb}
-use Rattle.meaning.specs.Graph.{Graph, Value, Edge, Instr, region, edges-of, no-value, SelectionKind, bool-cond, number}
-use Rattle.meaning.specs.Graph.{exit-invocation, branch, select-branch, return}
+use Rattle.meaning.specs.Graph.{Graph, Value, Edge, Instr, region, edges-of, no-value, SelectionKind, bool-cond, number, exit-invocation}
+use Rattle.meaning.specs.Graph.{branch, select-branch, return}
 use Rattle.meaning.specs.Runs.{⟨⟩, _▸_, exit}
 use Rattle.meaning.specs.Lists.{All}
 use Rattle.meaning.specs.facts.Tests.{clash}
@@ -17,11 +17,10 @@ use Rattle.fields.specs.Shape.{value-is}
 use Rattle.fields.specs.declared.shape.Value as shape
 use Rattle.nesting.specs.Nesting.{NestState, Body, region-body, ClaimedRegion, MaybeClaimedRegion, ok, StepAnswer, done, turned-away}
 use Rattle.nesting.specs.Nesting.{by-control-inst, blocks-of, blocks-from, append-maybe-claimed-region, define-node, add-node, most-nodes}
-use Rattle.nesting.specs.Nesting.{join, edge-bundle, to-return, true-cond}
-use Rattle.nesting.specs.Nesting.{most-nodes}
+use Rattle.nesting.specs.Nesting.{join, edge-bundle, to-return, true-cond, most-nodes}
 use Rattle.follows.specs.simulation.Invariant.{Inv}
 use Rattle.follows.specs.counting.Totals.{edges-to, totals, edgeless}
-use Rattle.state.specs.Sections.{word, stored, used, head, kinds, children, set-starts, set-lengths, bundles, levels, rewrites}
+use Rattle.state.specs.Sections.{word, stored, used, head, kinds, children, set-starts, set-lengths, bundles, levels, rewrites, most-cells}
 use Rattle.state.specs.laws.Apart.{section-other}
 use Rattle.state.specs.Tables.{taken-word, Defines, defined}
 use Rattle.state.specs.Values.{value-word}
@@ -38,9 +37,8 @@ use Rattle.shown.specs.Cells.{ShowsNodes, no-nodes, ShowsChildren}
 use Rattle.shown.specs.States.{ShowsState, ShowsBody, no-case}
 use Rattle.shown.specs.Kept.{Later, KeptRegion}
 use Rattle.shown.specs.laws.RegionsKept.{later-same, later-then, kept-same, kept-then, claimed-stays, body-stays, set-stays}
-use Rattle.shown.specs.laws.RegionSteps.{word-concerns, concerns-then, concerns-states, state-stays, state-next}
-use Rattle.shown.specs.laws.RegionSteps.{children-set, length-set-to}
-use Rattle.shown.specs.laws.RegionSteps.{aside-by, bundles-same}
+use Rattle.shown.specs.laws.RegionSteps.{word-concerns, concerns-then, concerns-states, state-stays, state-next, children-set}
+use Rattle.shown.specs.laws.RegionSteps.{length-set-to, aside-by, bundles-same}
 use Rattle.shown.specs.laws.CellSteps.{blocks-added, exit-added, cell-aside, cell-tables, cell-handle, cell-total, cell-changes}
 use Rattle.shown.specs.laws.SetStores.{OnlySets, only-same, only-then, only-total, only-later, only-word-same, word-other}
 use Rattle.bundles.specs.Words.{cases-filled, filled-from, case-filled, padded-by, record-word, return-deferred}
@@ -57,11 +55,9 @@ use Rattle.cfg.specs.ByInst as by-inst
 use Rattle.cfg.specs.ByInst.{AddsBlocks, no-blocks, some-blocks, AddsExit, exit-full, Branches, branches, Selects, selects}
 use Rattle.cfg.specs.ByInst.{ByTerminator, at-unreachable, at-return, at-exit, at-branch, at-bool, at-number, ByControlInst}
 use Rattle.cfg.specs.laws.Left.{inst-kinds}
-use Rattle.cfg.specs.laws.Shows.{cells-in-all, owed-stays, world, chains-of, TakenAs, was-claimed, was-deferred}
-use Rattle.cfg.specs.laws.Shows.{was-nothing, BodyShows}
-use Rattle.cfg.specs.laws.Shows.{shows-body, refuses-body}
+use Rattle.cfg.specs.laws.Shows.{cells-in-all, owed-stays, world, chains-of, TakenAs, was-claimed, was-deferred, was-nothing}
+use Rattle.cfg.specs.laws.Shows.{BodyShows, shows-body, refuses-body}
 use Rattle.cfg.specs.laws.SelectBodies.{edges-bound, into-body}
-use Rattle.state.specs.Sections.{most-cells}
 
 no-blocks-of : {g : Graph} {l : List ℕ} (n r k : ℕ) (bs : List (List Instr)) → length bs ≡ 0 → ShowsNodes g l 0 (blocks-from n r k bs)
 no-blocks-of n r k [] e = no-nodes refl

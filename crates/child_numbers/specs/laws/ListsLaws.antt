@@ -12,10 +12,9 @@ use Rattle.record.specs.Stands.{Stands, OfRecord}
 use Rattle.nesting.specs.Nesting.{plain, join, blocks-from}
 use Rattle.nesting.specs.Sheet.{kids}
 use Rattle.shown.specs.laws.CellSteps.{no-list}
-use Rattle.children.specs.CellByCell.{CellAdded, added-blocks, added-list, added-exit, added-select, added-loop}
-use Rattle.children.specs.CellByCell.{ListAppended, appends}
-use Rattle.children.specs.laws.CellByCellLaws.{appended}
+use Rattle.children.specs.CellByCell.{CellAdded, added-blocks, added-list, added-exit, added-select, added-loop, ListAppended, appends}
 use Rattle.children.specs.CellByCell.{cell-word, list-at, list-before}
+use Rattle.children.specs.laws.CellByCellLaws.{appended}
 use Rattle.writing.specs.declared.place.Place.{Place}
 use Rattle.writing.specs.Puts.{Puts}
 use Rattle.writing.specs.laws.PutsLaws.{puts-then}

@@ -13,10 +13,9 @@ use Rattle.record.specs.Stands.{Stands, OfRecord}
 use Rattle.state.specs.Sections.{section, cells}
 use Rattle.shown.specs.Cells.{ShowsCaseCells, no-cases, case-and}
 use Rattle.shown.specs.laws.CellSteps.{no-list}
-use Rattle.children.specs.CellByCell.{cell-word, list-at, list-before, CellAdded, added-blocks, added-list, added-exit}
-use Rattle.children.specs.laws.CellByCellLaws.{before-below, named-below}
-use Rattle.children.specs.CellByCell.{added-select, added-loop, ListAppended, appends, FirstCase, case-first}
-use Rattle.children.specs.laws.CellByCellLaws.{appended, first-case}
+use Rattle.children.specs.CellByCell.{cell-word, list-at, list-before, CellAdded, added-blocks, added-list, added-exit, added-select}
+use Rattle.children.specs.CellByCell.{added-loop, ListAppended, appends, FirstCase, case-first}
+use Rattle.children.specs.laws.CellByCellLaws.{before-below, named-below, appended, first-case}
 use Rattle.figure.specs.laws.Nodes.{figure-join, figure-blocks}
 use Rattle.figure.specs.Figured.{capped, Figured, CellFigured, DearestFigured, BlocksFigured, ToCome, SummedTo, CasesToCome}
 use Rattle.figure.specs.Figured.{DearestTo}

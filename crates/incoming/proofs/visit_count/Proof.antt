@@ -2,10 +2,9 @@ use mathlib.Core.Path.{_≡_}
 use Prim.Native.Nat.{suc, _≤_, _-_, _+_, _*_}
 use native.Mathlib.Omega.{arith}
 use lib.ListN.{length, drop}
-use Rattle.meaning.specs.Graph.{edges-of}
+use Rattle.meaning.specs.Graph.{edges-of, nowhere}
 use Rattle.meaning.specs.Lists.{total}
 use Rattle.record.specs.Stands.{OfRecord}
-use Rattle.meaning.specs.Graph.{nowhere}
 use Rattle.meaning.specs.facts.Sums.{sum-turn, sum-end}
 use borrow.Author.Needs.{needs}
 use Rattle.incoming.proofs.visit_count.Statement.{statement}

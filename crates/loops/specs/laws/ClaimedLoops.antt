@@ -18,18 +18,17 @@ use Rattle.nesting.specs.Nesting as nesting
 use Rattle.nesting.specs.Nesting.{DeferredEdgeBundle, DeferredEdgeBundleSet, DeferredTarget, to-region, same-target, fill-gap}
 use Rattle.nesting.specs.Nesting.{split-out-target, LazyCond, NestState, StepAnswer, done, turned-away, define-region, rewrite-values}
 use Rattle.nesting.specs.Nesting.{ClaimedRegion, LoopInputs, no-inputs, take-inputs, loop-node, structurize-loop, most-regions}
-use Rattle.nesting.specs.Nesting.{most-regions}
+use Rattle.nesting.specs.Nesting.{most-regions, exit-targets}
 use Rattle.nesting.specs.steps.Keeps.{loop-claimed, claim-body-keeps}
 use Rattle.nesting.specs.steps.Post.{Post}
 use Rattle.nesting.specs.steps.StatesKept.{KeepsStates, states-kept-steady, states-kept-log}
 use Rattle.nesting.specs.lookups.ChainEnds.{ChainsEnd}
 use Rattle.record.specs.Stands.{OfRecord}
-use Rattle.nesting.specs.Nesting.{exit-targets}
 use Rattle.state.specs.declared.defined.Defined.{Defined}
 use Rattle.state.specs.declared.defined.Defined.the-variants.{Number, Full}
 use Rattle.state.specs.Sections as sections
 use Rattle.state.specs.Sections.{Section, number, used, word, stored, head, kinds, children, bodies, bundles, rewrites, set-starts}
-use Rattle.state.specs.Sections.{set-lengths}
+use Rattle.state.specs.Sections.{set-lengths, most-cells}
 use Rattle.state.specs.laws.Apart.{section-other}
 use Rattle.state.specs.Tables.{Defines, defined, full, bundle-at, bundle-words, bundle-copied, swap-removed, input-word}
 use Rattle.shown.specs.Values.{value}
@@ -45,11 +44,9 @@ use Rattle.shown.specs.laws.RegionsKept.{own-set-stays, children-stay}
 use Rattle.shown.specs.laws.SetSteps.{swap-removed-only, swap-removed-set}
 use Rattle.shown.specs.laws.Finds.{targets-tell}
 use Rattle.shown.specs.laws.SetStores.{only-word-same}
-use Rattle.shown.specs.laws.RegionSteps.{Concerns, concerns-then, word-concerns, bundle-same, bundle-run}
-use Rattle.shown.specs.laws.RegionSteps.{bundle-concerns, aside-by, named-by}
-use Rattle.shown.specs.laws.RegionSteps.{named-stay, slots-stay, OnlyRegion, only-region-then, only-region-aside, only-region-concerns}
-use Rattle.shown.specs.laws.RegionSteps.{only-region-states, state-next}
-use Rattle.shown.specs.laws.RegionSteps.{body-set}
+use Rattle.shown.specs.laws.RegionSteps.{Concerns, concerns-then, word-concerns, bundle-same, bundle-run, bundle-concerns, aside-by}
+use Rattle.shown.specs.laws.RegionSteps.{named-by, named-stay, slots-stay, OnlyRegion, only-region-then, only-region-aside}
+use Rattle.shown.specs.laws.RegionSteps.{only-region-concerns, only-region-states, state-next, body-set}
 use Rattle.state.specs.declared.defined.Made.{Made}
 use Rattle.state.specs.declared.defined.Made.the-variants.{Done, Full as Refused}
 use Rattle.bundles.specs.Words.{condition-in}
@@ -57,10 +54,8 @@ use Rattle.loops.specs.Inputs.{backedge-inputs}
 use Rattle.loops.specs.Exits.{exits-added}
 use Rattle.loops.specs.Loops.{EntersInputs, LoopDefined, StructurizesLoop, looped, no-wrapper, no-loop}
 use Rattle.loops.specs.laws.ExitsShown.{ExitsCounted, exits-shown}
-use Rattle.loops.specs.laws.LoopsShown.{InputsEntered, inputs-entered, entered-state, LoopWithin, ShowsLoopMade}
-use Rattle.loops.specs.laws.LoopsShown.{made-done, made-refused}
-use Rattle.loops.specs.laws.LoopsShown.{loop-step, loop-made-shown, defines-changes, set-beside}
-use Rattle.state.specs.Sections.{most-cells}
+use Rattle.loops.specs.laws.LoopsShown.{InputsEntered, inputs-entered, entered-state, LoopWithin, ShowsLoopMade, made-done}
+use Rattle.loops.specs.laws.LoopsShown.{made-refused, loop-step, loop-made-shown, defines-changes, set-beside}
 
 -- ---- The back edge leaves region r's set: nothing of another region changes.
 pub removed-concerns : (g : Graph) (w : List ℕ) (r i p : ℕ) → Slots w → r < 33 → i < 33 → p ≡ word w set-starts r + i

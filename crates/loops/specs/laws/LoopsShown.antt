@@ -8,14 +8,13 @@ use lib.Seq.{take-all}
 use Rattle.meaning.specs.Graph.{Value, Graph, undef}
 use Rattle.meaning.specs.Runs.{Nodes, ⟨⟩, _▸_, loop}
 use Rattle.nesting.specs.Nesting.{NestState, RewriteEntry, done, rewrite-values, renumber-to, renumber-or-replace-with, with-tables}
-use Rattle.nesting.specs.Nesting.{take-inputs, no-inputs}
-use Rattle.nesting.specs.Nesting.{DeferredEdgeBundleSet, LazyCond, StepAnswer, turned-away, Step, _>>=_, give, materialize-lazy-cond}
-use Rattle.nesting.specs.Nesting.{define-node, LoopInputs, loop-node}
-use Rattle.nesting.specs.Nesting.{most-regions, most-nodes}
+use Rattle.nesting.specs.Nesting.{take-inputs, no-inputs, DeferredEdgeBundleSet, LazyCond, StepAnswer, turned-away, Step, _>>=_, give}
+use Rattle.nesting.specs.Nesting.{materialize-lazy-cond, define-node, LoopInputs, loop-node, most-regions, most-nodes}
 use Rattle.nesting.specs.lookups.ChainEnds.{ChainsEnd}
 use Rattle.state.specs.declared.defined.Defined.{Defined}
 use Rattle.state.specs.Sections as sections
 use Rattle.state.specs.Sections.{Section, number, used, section, word, stored, head, rewrites, children, bundles, set-starts, set-lengths}
+use Rattle.state.specs.Sections.{most-cells}
 use Rattle.state.specs.laws.Apart.{section-other}
 use Rattle.state.specs.Tables.{Defines, defined, full, inserted}
 use Rattle.shown.specs.Values.{value}
@@ -39,7 +38,6 @@ use Rattle.state.specs.declared.defined.Made.the-variants.{Done, Full as Refuse
 use Rattle.loops.specs.Loops.{AddsLoop, adds-loop, LoopDefined, loop-defined, no-value, no-node, EntersInputs, enters}
 use Rattle.loops.specs.laws.RewritesShown.{Rewritten, rewritten-to}
 use Rattle.loops.specs.laws.InputsShown.{InputsTaken, taken-to}
-use Rattle.state.specs.Sections.{most-cells}
 
 -- ---- The header's inputs looked up, taken and entered.
 abbrev pub entered-state : Graph → ℕ → ℕ → List Value → NestState → NestState

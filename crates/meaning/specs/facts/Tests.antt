@@ -24,21 +24,21 @@ pub or-right : (a b : Bool) → (a || b) ≡ false → b ≡ false
 or-right true b h = let z : true ≡ false = h in cc
 or-right false b h = h
 
-pub or-swap : (a b c : Bool) → ((a || b) || c) ≡ (a || (c || b))
-or-swap a b c = or-assoc a b c ∙ ap (λ z. a || z) (or-comm b c)
+pub or-assoc-comm : (a b c : Bool) → ((a || b) || c) ≡ (a || (c || b))
+or-assoc-comm a b c = or-assoc a b c ∙ ap (λ z. a || z) (or-comm b c)
 
-pub or-turned : (a b c : Bool) → (a || (b || c)) ≡ (b || (a || c))
-or-turned true true c = refl
-or-turned true false c = refl
-or-turned false b c = refl
+pub or-left-comm : (a b c : Bool) → (a || (b || c)) ≡ (b || (a || c))
+or-left-comm true true c = refl
+or-left-comm true false c = refl
+or-left-comm false b c = refl
 
-pub or-mixed : (c o d a b : Bool) → (((c || o) || d) || (a || b)) ≡ (((o || c) || a) || (d || b))
-or-mixed true true d a b = refl
-or-mixed true false d a b = refl
-or-mixed false true d a b = refl
-or-mixed false false true true b = refl
-or-mixed false false true false b = refl
-or-mixed false false false a b = refl
+pub or-mixed : (a b c d e : Bool) → (((a || b) || c) || (d || e)) ≡ (((b || a) || d) || (c || e))
+or-mixed true true c d e = refl
+or-mixed true false c d e = refl
+or-mixed false true c d e = refl
+or-mixed false false true true e = refl
+or-mixed false false true false e = refl
+or-mixed false false false d e = refl
 
 pub false-if : (b : Bool) → (b ≡ true → ⊥) → b ≡ false
 false-if true h = absurd (h refl)

@@ -17,9 +17,8 @@ use Rattle.state.specs.Sections.{word, head, cases}
 use Rattle.shown.specs.States.{ShowsCase, shows-ok, shows-nothing, shows-edge, shows-others, ShowsCases, no-case}
 use Rattle.shown.specs.Cells.{ShowsChildren, no-nodes}
 use Rattle.shown.specs.laws.CellSteps.{has-list}
-use Rattle.selects.specs.Cases.{convergent-from, convergent-case, children-of, any-from}
+use Rattle.selects.specs.Cases.{convergent-from, convergent-case, children-of, any-from, any-non-empty-case}
 use Rattle.selects.specs.laws.CasesLaws.{children-none, children-some}
-use Rattle.selects.specs.Cases.{any-non-empty-case}
 use Rattle.selects.specs.laws.Places.{From, first-of, rest-of, from-start}
 use Rattle.nesting.specs.steps.TargetsAndCases.{children-in}
 

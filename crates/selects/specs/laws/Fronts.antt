@@ -10,7 +10,7 @@ use Rattle.state.specs.declared.defined.Defined.{Defined}
 use Rattle.state.specs.Sections.{word, stored, stored-all, children, set-starts, set-lengths, cases, bundles}
 use Rattle.state.specs.Tables.{edges-word, case-total, bundle-at, find-by}
 use Rattle.shown.specs.Front.{SameKinds}
-use Rattle.shown.specs.laws.FrontKept.{kinds-same, kinds-stored, kinds-run, kinds-then}
+use Rattle.shown.specs.laws.FrontKept.{kinds-same, kinds-stored, kinds-run, kinds-then, defines-kinds, adds-kinds}
 use Rattle.lookups.specs.Materialized.{Merges, the-scrutinee, new-output, no-output, Materializes, made-true, made-false, made-undef}
 use Rattle.lookups.specs.Materialized.{made-merge, full-part, PartsMade, no-part, part-more}
 use Rattle.merging.specs.Turns.{front-turned}
@@ -26,7 +26,6 @@ use Rattle.selects.specs.Cases.{GetsRegion, has-region, new-region, no-r
 use Rattle.selects.specs.Selects.{ScrutineeMade, given-value, made-value, CaseCells, cells-over, cell-more, SelectAdded, select-added}
 use Rattle.selects.specs.Selects.{SelectDefined, regions-full, scrutinee-full, node-full, select-defined}
 use Rattle.selects.specs.laws.EmitsLaws.{front-output}
-use Rattle.shown.specs.laws.FrontKept.{defines-kinds, adds-kinds}
 
 -- ---- Cases rewritten, their targets, and what is planned for them.
 pub front-cases : (g : Graph) (l : List ℕ) → SameKinds l (rewrite-cases g l)

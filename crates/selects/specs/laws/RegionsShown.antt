@@ -5,7 +5,7 @@ use Prim.Native.Nat.{ℕ, suc, _+_, _*_, _≤_, _<_}
 use native.Mathlib.Omega.{arith}
 use lib.ListN.{length, getD}
 use Rattle.meaning.specs.Graph.{Graph}
-use Rattle.meaning.specs.Runs.{Cases, ∅}
+use Rattle.meaning.specs.Runs.{Cases, ∅, case-count}
 use Rattle.nesting.specs.Nesting.{MaybeClaimedRegion, ok, err, NestState, StepAnswer, done, turned-away, follow, give, new-case}
 use Rattle.nesting.specs.Nesting.{case-regions, ClaimedRegion, DeferredEdgeBundleSet}
 use Rattle.state.specs.declared.defined.Defined.{Defined}
@@ -16,7 +16,6 @@ use Rattle.shown.specs.laws.Stores.{ChangesOnly, nothing-changes, head-changes,
 use Rattle.shown.specs.Tables.{ShowsTables}
 use Rattle.shown.specs.laws.DefinedShown.{done-of, full-of}
 use Rattle.shown.specs.laws.Elsewhere.{tables-stay, word-elsewhere}
-use Rattle.meaning.specs.Runs.{case-count}
 use Rattle.shown.specs.States.{ShowsCase, shows-ok, shows-nothing, shows-edge, shows-others, no-case}
 use Rattle.shown.specs.laws.Steps.{region-defined}
 use Rattle.shown.specs.laws.RegionSteps.{word-there, word-apart}

@@ -7,11 +7,10 @@ use lib.ListN.{length, getD, drop, drop-of-length-le}
 use lib.Seq.{drop-cons}
 use Rattle.meaning.specs.Graph.{Graph, SelectionKind}
 use Rattle.meaning.specs.Graph as graph
-use Rattle.meaning.specs.Runs.{Nodes, ⟨⟩, _▸_, Cases}
+use Rattle.meaning.specs.Runs.{Nodes, ⟨⟩, _▸_, Cases, case-count}
 use Rattle.nesting.specs.Nesting as nesting
 use Rattle.nesting.specs.Nesting.{MaybeClaimedRegion, LazyCond, NestState, StepAnswer, done, turned-away, join, new-select, DefinedSelect}
-use Rattle.nesting.specs.Nesting.{define-select, scrutinee-value, case-regions}
-use Rattle.nesting.specs.Nesting.{most-nodes}
+use Rattle.nesting.specs.Nesting.{define-select, scrutinee-value, case-regions, most-nodes}
 use Rattle.state.specs.declared.defined.Defined.{Defined}
 use Rattle.state.specs.declared.defined.Defined.the-variants.{Number, Full}
 use Rattle.state.specs.Sections as sections
@@ -25,13 +24,11 @@ use Rattle.shown.specs.laws.DefinedShown.{done-of, full-of}
 use Rattle.shown.specs.laws.Elsewhere.{SameTables, tables-stay, same-then}
 use Rattle.shown.specs.laws.Steps.{node-defined}
 use Rattle.shown.specs.Cells.{ShowsChildren}
-use Rattle.meaning.specs.Runs.{case-count}
 use Rattle.shown.specs.States.{ShowsCases, no-case}
 use Rattle.shown.specs.Kept.{Later}
 use Rattle.shown.specs.laws.RegionsKept.{later-same, later-then}
-use Rattle.shown.specs.laws.CellSteps.{ShowsCaseList, no-case-list, case-added, select-added, cell-changes, cell-later}
-use Rattle.shown.specs.laws.CellSteps.{cell-total, cell-there}
-use Rattle.shown.specs.laws.CellSteps.{cell-handle, cell-tables}
+use Rattle.shown.specs.laws.CellSteps.{ShowsCaseList, no-case-list, case-added, select-added, cell-changes, cell-later, cell-total}
+use Rattle.shown.specs.laws.CellSteps.{cell-there, cell-handle, cell-tables}
 use Rattle.shown.specs.laws.RegionSteps.{later-by, word-concerns, children-set, tables-by}
 use Rattle.lookups.specs.laws.ConditionsShown.{ShowsValue, materialize-shown}
 use Rattle.state.specs.declared.defined.Made.{Made}
@@ -43,9 +40,8 @@ use Rattle.selects.specs.Cases.{children-of, GetsRegion}
 use Rattle.selects.specs.laws.CasesShown.{children-shown}
 use Rattle.selects.specs.Selects as words
 use Rattle.selects.specs.Selects.{CaseCells, cells-over, cell-more}
-use Rattle.selects.specs.laws.RegionsShown.{cases-from, count-from, body-at, KeepsCases, regions-keep, ShowsKind}
-use Rattle.selects.specs.laws.RegionsShown.{kind-shown, RegionsDone}
-use Rattle.selects.specs.laws.RegionsShown.{ShowsMade, made-of, refused-of, regions-shown}
+use Rattle.selects.specs.laws.RegionsShown.{cases-from, count-from, body-at, KeepsCases, regions-keep, ShowsKind, kind-shown}
+use Rattle.selects.specs.laws.RegionsShown.{RegionsDone, ShowsMade, made-of, refused-of, regions-shown}
 use Rattle.selects.specs.laws.Places.{from-start}
 use Rattle.selects.specs.laws.StepsShown.{SelectStep, step-then, step-by, step-regions, step-children, cases-stay}
 use Rattle.nesting.specs.steps.TargetsAndCases.{children-in}

@@ -13,8 +13,7 @@ use Rattle.format.specs.Valid.{Valid}
 use Rattle.nesting.specs.Nesting as nesting
 use Rattle.nesting.specs.Nesting.{MaybeClaimedRegion, ok, err, DeferredTarget, NestState, StepAnswer, done, turned-away, follow, give, Body}
 use Rattle.nesting.specs.Nesting.{region-body, join, DefinedSelect, DeferredEdgeBundleSet, PlannedBundle, case-regions, define-select}
-use Rattle.nesting.specs.Nesting.{select-if}
-use Rattle.nesting.specs.Nesting.{emit, shared-bundle, any-needs-select, structurize-select}
+use Rattle.nesting.specs.Nesting.{select-if, emit, shared-bundle, any-needs-select, structurize-select}
 use Rattle.nesting.specs.lookups.ChainEnds.{ChainsEnd}
 use Rattle.nesting.specs.steps.Post.{Post}
 use Rattle.nesting.specs.steps.Keeps.{select-if-keeps}
@@ -23,6 +22,7 @@ use Rattle.state.specs.declared.defined.Defined.{Defined}
 use Rattle.state.specs.declared.defined.Defined.the-variants.{Number, Full as Refused}
 use Rattle.state.specs.Sections as sections
 use Rattle.state.specs.Sections.{Section, number, section, word, head, kinds, set-starts, set-lengths, children, cases, rewrites, bundles}
+use Rattle.state.specs.Sections.{most-cells}
 use Rattle.state.specs.Tables.{case-total}
 use Rattle.shown.specs.Tables.{ShowsTables, ShowsShape}
 use Rattle.shown.specs.Sets.{ShowsSet, SameBundle}
@@ -31,8 +31,7 @@ use Rattle.shown.specs.States.{ShowsState, ShowsCases, NamedRewrites}
 use Rattle.shown.specs.Kept.{Later, KeptRegion}
 use Rattle.shown.specs.laws.RegionsKept.{later-then, kept-then, same-bundle-then, set-stays}
 use Rattle.shown.specs.laws.CellSteps.{join-none}
-use Rattle.shown.specs.laws.RegionSteps.{slots-stay}
-use Rattle.shown.specs.laws.RegionSteps.{bundles-same, later-by, state-next}
+use Rattle.shown.specs.laws.RegionSteps.{slots-stay, bundles-same, later-by, state-next}
 use Rattle.merging.specs.Planning.{plan-bundles}
 use Rattle.merging.specs.Rewriting.{rewrite-cases}
 use Rattle.merging.specs.laws.RewritingShown.{NoneReady, cases-after, state-after, rewrite-is, rewrite-cases-shown, rewrite-keeps}
@@ -44,8 +43,7 @@ use Rattle.state.specs.declared.defined.Made.{Made}
 use Rattle.state.specs.declared.defined.Made.the-variants.{Done}
 use Rattle.selects.specs.declared.define.Scrutinee.{Scrutinee}
 use Rattle.selects.specs.Into.{SelectIf, not-needed, select-refused, select-made, with-targets, with-plan, needs-select}
-use Rattle.selects.specs.Into.{StructurizesSelect}
-use Rattle.selects.specs.Into.{not-structurized, structurized}
+use Rattle.selects.specs.Into.{StructurizesSelect, not-structurized, structurized}
 use Rattle.selects.specs.Cases.{all-replaced}
 use Rattle.selects.specs.Selects as words
 use Rattle.selects.specs.laws.CasesShown.{any-non-empty-shown}
@@ -59,7 +57,6 @@ use Rattle.selects.specs.laws.SetsEmitted.{ShowsSelectCell, planned-stay
 use Rattle.selects.specs.laws.PlansShown.{plan-shown, shared-set}
 use Rattle.selects.specs.laws.Replaced.{replaced-shown}
 use Rattle.selects.specs.laws.RowsKept.{row-kept}
-use Rattle.state.specs.Sections.{most-cells}
 
 -- ---- A look-up of the cases leaves what the select's own cases have of them.
 same-regions : (s₀ : NestState) (cs : List MaybeClaimedRegion) (s : NestState) → case-regions (cases-after s₀ cs) s ≡ case-regions cs s

@@ -23,10 +23,11 @@ use Rattle.select_lines.specs.SelectLines.{PutsSelectLine, PutsCaseLine}
 use Rattle.loop_lines.specs.LoopParts.{loop-lines}
 use Rattle.loop_lines.specs.OfLoop.{OfLoop}
 use Rattle.sheet.specs.Regions.{PutsNodes}
-use Rattle.sheet.specs.Walk.{PutsCell, PutsCases}
-use Rattle.sheet.specs.Inside.{inner-at, InnerTotal, each-case, one-joined, one-body, none-inside, PartLine, case-line, no-part-line}
-use Rattle.sheet.specs.Inside.{OwnLines, blocks-lines, exit-line, select-line, body-lines, no-own-line, LinesPut, own-put, part-put}
-use Rattle.sheet.specs.Inside.{is-loop, walked-list, LoopAlone, loop-alone, no-loop, InsidePut}
+use Rattle.sheet.specs.Walk.{PutsCell, PutsCases, PutsLoopLines}
+use Rattle.sheet.specs.Inside.{inner-at, InnerTotal, each-case, one-joined, one-body, none-inside, InnerLine, case-line}
+use Rattle.sheet.specs.Inside.{no-inner-line}
+use Rattle.sheet.specs.Inside.{OwnLines, blocks-lines, exit-line, select-line, body-lines, no-own-line, LinesPut, own-put, inner-put}
+use Rattle.sheet.specs.Inside.{is-loop, walked-list, WalkedLines, loop-alone, no-loop, InsidePut}
 use Rattle.sheet.specs.laws.WalkLaws.{cell-blocks, cell-list, cell-exit, cell-select, cell-loop, cell-none}
 use Rattle.sheet.specs.laws.WalkLaws.{cases-start, cases-turn, cases-end, walk-start, walk-turn, walk-end}
 
@@ -91,7 +92,7 @@ module _ (w : List ℕ) (list : ℕ) where
   none-before e = rw (eq-eqb (cell-word w list 0) 5 e)
 
   list-put : {p : ℕ} {out out₁ out₂ : List ℕ} {at at₁ at₂ : Place} → p ≡ walked-list w list → PutsNodes w p out at out₁ at₁
-      → LoopAlone w list out₁ at₁ out₂ at₂ → PutsNodes w list out at out₂ at₂
+      → WalkedLines w list out₁ at₁ out₂ at₂ → PutsNodes w list out at out₂ at₂
   unfolding walked-list
   list-put {out = out} {at = at} is nodes (loop-alone e lines) =
       let there = loop-there e in
@@ -101,11 +102,11 @@ module _ (w : List ℕ) (list : ℕ) where
   list-put is nodes (no-loop e a b) = rw (a, b) (rw (is, e) at nodes)
 
 -- ---- How many there are.
-total-of-cases : {w : List ℕ} {h n t : ℕ} → InnerTotal w h n t → t ≡ 4 → CaseTotal w (list-at w h 5) n
-total-of-cases (each-case x) e = x
-total-of-cases (one-joined x) e = absurd (omega arith)
-total-of-cases (one-body x) e = absurd (omega arith)
-total-of-cases (none-inside a b c x) e = absurd (b e)
+cases-counted : {w : List ℕ} {h n t : ℕ} → InnerTotal w h n t → t ≡ 4 → CaseTotal w (list-at w h 5) n
+cases-counted (each-case x) e = x
+cases-counted (one-joined x) e = absurd (omega arith)
+cases-counted (one-body x) e = absurd (omega arith)
+cases-counted (none-inside a b c x) e = absurd (b e)
 
 few-inside : {w : List ℕ} {h n t : ℕ} → InnerTotal w h n t → (t ≡ 4 → ⊥) → n ≤ 1
 few-inside (each-case x) d = absurd (d refl)
@@ -128,44 +129,44 @@ no-inside (one-body x) a b c = absurd (c refl)
 no-inside (none-inside a b c x) p q r = x
 
 -- ---- The line of a part.
-line-of-case : {w : List ℕ} {h j t : ℕ} {out out′ : List ℕ} {at at′ : Place} → PartLine w h j out at out′ at′ t → t ≡ 4
+case-line-put : {w : List ℕ} {h j t : ℕ} {out out′ : List ℕ} {at at′ : Place} → InnerLine w h j out at out′ at′ t → t ≡ 4
     → PutsCaseLine w (case-cell w (list-at w h 5) j) (cell-word w h 2) j out at out′ at′
-line-of-case (case-line p) e = p
-line-of-case (no-part-line d a b) e = absurd (d e)
+case-line-put (case-line p) e = p
+case-line-put (no-inner-line d a b) e = absurd (d e)
 
-no-line-there : {w : List ℕ} {h j t : ℕ} {out out′ : List ℕ} {at at′ : Place} → PartLine w h j out at out′ at′ t → (t ≡ 4 → ⊥)
+nothing-put : {w : List ℕ} {h j t : ℕ} {out out′ : List ℕ} {at at′ : Place} → InnerLine w h j out at out′ at′ t → (t ≡ 4 → ⊥)
     → (out′ ≡ out) × (at′ ≡ at)
-no-line-there (case-line p) d = absurd (d refl)
-no-line-there (no-part-line d a b) e = (a, b)
+nothing-put (case-line p) d = absurd (d refl)
+nothing-put (no-inner-line d a b) e = (a, b)
 
 -- What is walked for the list at place j - 1, and the lines before it.
-record PartPut (w : List ℕ) (h j : ℕ) (out : List ℕ) (at : Place) (out′ : List ℕ) (at′ : Place) : Type 0 where
+record InnerPut (w : List ℕ) (h j : ℕ) (out : List ℕ) (at : Place) (out′ : List ℕ) (at′ : Place) : Type 0 where
   words : List ℕ
   place : Place
   nodes : PutsNodes w (inner-at w h (j - 1)) out at words place
-  line : PartLine w h (j - 1) words place out′ at′ (cell-word w h 0)
+  line : InnerLine w h (j - 1) words place out′ at′ (cell-word w h 0)
 
-part-of : {w : List ℕ} {h j p : ℕ} {out out₁ out₂ : List ℕ} {at at₁ at₂ : Place} → 0 < j → p ≡ walked-list w (inner-at w h (j - 1))
-    → PutsNodes w p out at out₁ at₁ → LinesPut w h j out₁ at₁ out₂ at₂ → PartPut w h j out at out₂ at₂
-part-of some is nodes (own-put e x) = absurd (omega arith)
-part-of {w} {h} {j} some is nodes (part-put {out₁} {at₁} d alone x) =
+inner-of : {w : List ℕ} {h j p : ℕ} {out out₁ out₂ : List ℕ} {at at₁ at₂ : Place} → 0 < j → p ≡ walked-list w (inner-at w h (j - 1))
+    → PutsNodes w p out at out₁ at₁ → LinesPut w h j out₁ at₁ out₂ at₂ → InnerPut w h j out at out₂ at₂
+inner-of some is nodes (own-put e x) = absurd (omega arith)
+inner-of {w} {h} {j} some is nodes (inner-put {out₁} {at₁} d alone x) =
     record { words = out₁; place = at₁; nodes = list-put w (inner-at w h (j - 1)) is nodes alone; line = x }
 
 own-of : {w : List ℕ} {h j : ℕ} {out out′ : List ℕ} {at at′ : Place} → LinesPut w h j out at out′ at′ → j ≡ 0
     → OwnLines w h out at out′ at′ (cell-word w h 0)
 own-of (own-put e x) none = x
-own-of (part-put d alone x) none = absurd (d none)
+own-of (inner-put d alone x) none = absurd (d none)
 
 same-nodes : (w : List ℕ) (list : ℕ) {out out₁ out₂ out₃ : List ℕ} {at at₁ at₂ at₃ : Place} → out₁ ≡ out → at₁ ≡ at → out₃ ≡ out₂
     → at₃ ≡ at₂ → PutsNodes w list out₁ at₁ out₂ at₂ → PutsNodes w list out at out₃ at₃
 same-nodes w list a b c d x = rw (c, d) (rw (a, b) at x)
 
--- ---- The loop.
+-- ---- The walk inside.
 module _ (w : List ℕ) (h : ℕ) {n : ℕ} (total : InnerTotal w h n (cell-word w h 0)) where
   pub inside-start : (out : List ℕ) (at : Place) → InsidePut w h n n out at out at
   inside-start out at =
       record {
-        cases = λ e. cases-start w (list-at w h 5) (cell-word w h 2) (total-of-cases total e) out at;
+        cases = λ e. cases-start w (list-at w h 5) (cell-word w h 2) (cases-counted total e) out at;
         list = λ d b. absurd (omega arith);
         nothing = λ d b. (refl, refl);
       }
@@ -174,14 +175,14 @@ module _ (w : List ℕ) (h : ℕ) {n : ℕ} (total : InnerTotal w h n (cell-word
       → InsidePut w h n j out at out₁ at₁ → list ≡ inner-at w h (j - 1) → p ≡ walked-list w list → PutsNodes w p out₁ at₁ out₂ at₂
       → LinesPut w h j out₂ at₂ out₃ at₃ → InsidePut w h n (j - 1) out at out₃ at₃
   inside-turn j some within before is walked nodes lines =
-      let part = part-of some (walked ∙ rw is) nodes lines in
+      let part = inner-of some (walked ∙ rw is) nodes lines in
       record {
-        cases = λ e. cases-turn w (list-at w h 5) (cell-word w h 2) j (total-of-cases total e) some within (before .cases e) refl
-            (inner-case w h (j - 1) e) (part .nodes) (line-of-case (part .line) e);
+        cases = λ e. cases-turn w (list-at w h 5) (cell-word w h 2) j (cases-counted total e) some within (before .cases e) refl
+            (inner-case w h (j - 1) e) (part .nodes) (case-line-put (part .line) e);
         list = λ d b.
             let few = few-inside total d in
             let none = before .nothing d (omega arith) in
-            let same = no-line-there (part .line) d in
+            let same = nothing-put (part .line) d in
             same-nodes w (inner-at w h (j - 1)) (none .0) (none .1) (same .0) (same .1) (part .nodes);
         nothing = λ d b. absurd (omega arith);
       }
@@ -247,9 +248,9 @@ module _ (w : List ℕ) (h : ℕ) {tag : ℕ} (of-tag : tag ≡ cell-word w h 0)
 
   module _ {out out′ : List ℕ} {at at′ : Place} where
     pub line-case : {list c node : ℕ} (j : ℕ) → tag ≡ 4 → list ≡ list-at w h 5 → c ≡ case-cell w list j → node ≡ cell-word w h 2
-        → PutsCaseLine w c node j out at out′ at′ → PartLine w h j out at out′ at′ (cell-word w h 0)
+        → PutsCaseLine w c node j out at out′ at′ → InnerLine w h j out at out′ at′ (cell-word w h 0)
     line-case j e is of-case of-node x =
-        by-tag (PartLine w h j out at out′ at′) e (case-line (rw (of-case, is, of-node) at x))
+        by-tag (InnerLine w h j out at out′ at′) e (case-line (rw (of-case, is, of-node) at x))
 
     pub own-blocks : {r : ℕ} → tag ≡ 1 → r ≡ cell-word w h 2 → OfState w (λ g s. Puts out at (nodes-part s (blocks-of g r)) out′ at′)
         → OwnLines w h out at out′ at′ (cell-word w h 0)
@@ -264,13 +265,12 @@ module _ (w : List ℕ) (h : ℕ) {tag : ℕ} (of-tag : tag ≡ cell-word w h 0)
     pub own-select : tag ≡ 4 → PutsSelectLine w h out at out′ at′ → OwnLines w h out at out′ at′ (cell-word w h 0)
     own-select e p = by-tag (OwnLines w h out at out′ at′) e (select-line p)
 
-    pub own-loop : tag ≡ 5 → OfState w (λ g s. OfLoop g w h (λ x ns. Puts out at (loop-lines s x ns) out′ at′))
-        → OwnLines w h out at out′ at′ (cell-word w h 0)
+    pub own-loop : tag ≡ 5 → PutsLoopLines w h out at out′ at′ → OwnLines w h out at out′ at′ (cell-word w h 0)
     own-loop e p = by-tag (OwnLines w h out at out′ at′) e (body-lines p)
 
   module _ (out : List ℕ) (at : Place) where
-    pub line-none : (j : ℕ) → (tag ≡ 4 → ⊥) → PartLine w h j out at out at (cell-word w h 0)
-    line-none j d = by-tag (PartLine w h j out at out at) refl (no-part-line d refl refl)
+    pub line-none : (j : ℕ) → (tag ≡ 4 → ⊥) → InnerLine w h j out at out at (cell-word w h 0)
+    line-none j d = by-tag (InnerLine w h j out at out at) refl (no-inner-line d refl refl)
 
     pub own-none : (tag ≡ 1 → ⊥) → (tag ≡ 3 → ⊥) → (tag ≡ 4 → ⊥) → (tag ≡ 5 → ⊥) → OwnLines w h out at out at (cell-word w h 0)
     own-none a b c d = by-tag (OwnLines w h out at out at) refl (no-own-line a b c d refl refl)

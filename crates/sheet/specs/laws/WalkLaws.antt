@@ -10,11 +10,9 @@ use Rattle.state.specs.Sections.{section, cells}
 use Rattle.shown.specs.Tables.{ShowsShape, shape-bool, shape-number}
 use Rattle.shown.specs.Cells.{ShowsCaseCells, no-cases, case-and}
 use Rattle.shown.specs.laws.CellSteps.{no-list}
-use Rattle.children.specs.CellByCell.{CellAdded, added-blocks, added-list, added-exit, added-select, added-loop}
-use Rattle.children.specs.CellByCell.{ListAppended, appends}
-use Rattle.children.specs.laws.CellByCellLaws.{appended}
+use Rattle.children.specs.CellByCell.{CellAdded, added-blocks, added-list, added-exit, added-select, added-loop, ListAppended, appends}
 use Rattle.children.specs.CellByCell.{FirstCase, case-first, cell-word, list-at, list-before, case-cell, CaseTotal}
-use Rattle.children.specs.laws.CellByCellLaws.{first-case, case-after, case-some}
+use Rattle.children.specs.laws.CellByCellLaws.{appended, first-case, case-after, case-some}
 use Rattle.writing.specs.declared.place.Place.{Place}
 use Rattle.writing.specs.Puts.{Puts}
 use Rattle.writing.specs.laws.PutsLaws.{_⊕_, puts-then, puts-none, puts-as}
@@ -26,7 +24,7 @@ use Rattle.select_lines.specs.laws.OwnOutputsLaws.{values-shown}
 use Rattle.loop_lines.specs.LoopParts.{loop-part, loop-lines, loop-is}
 use Rattle.loop_lines.specs.OfLoop.{OfLoop}
 use Rattle.sheet.specs.Regions.{PutsNodes}
-use Rattle.sheet.specs.Walk.{PutsCell, PutsCases, Behind, PutsBehind}
+use Rattle.sheet.specs.Walk.{PutsCell, PutsCases, PutsLoopLines, Behind, PutsBehind}
 
 -- ---- By the tag of a cell.
 module _ (w : List ℕ) (h : ℕ) {tag : ℕ} (of-tag : tag ≡ cell-word w h 0) where
@@ -74,7 +72,7 @@ module _ (w : List ℕ) (h : ℕ) {tag : ℕ} (of-tag : tag ≡ cell-word w h 0)
 
   pub cell-loop : {list : ℕ} {out out₁ out₂ : List ℕ} {at at₁ at₂ : Place} → tag ≡ 5 → list ≡ list-at w h 1
       → PutsNodes w list out at out₁ at₁
-      → OfState w (λ g s. OfLoop g w h (λ x ns. Puts out₁ at₁ (loop-lines s x ns) out₂ at₂)) → PutsCell w h out at out₂ at₂
+      → PutsLoopLines w h out₁ at₁ out₂ at₂ → PutsCell w h out at out₂ at₂
   cell-loop {out = out} {out₂ = out₂} {at = at} {at₂ = at₂} e a p q g s c ks x = go (with-tag e x)
     where
       go : CellAdded g w h ks 5 → Puts out at (nodes-part s ks) out₂ at₂

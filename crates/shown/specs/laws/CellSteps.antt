@@ -10,30 +10,27 @@ use lib.Seq.{sets}
 use lib.Dec.{eqb}
 use borrow.Author.Tests.{eq-eqb, ne-eqb}
 use Rattle.meaning.specs.Graph.{Value, SelectionKind, Instr, Graph, region, input, exit-invocation}
-use Rattle.meaning.specs.Runs.{Nodes, ⟨⟩, _▸_, Cases, ∅, loop, exit}
+use Rattle.meaning.specs.Runs.{Nodes, ⟨⟩, _▸_, Cases, ∅, loop, exit, case-count}
 use Rattle.meaning.specs.facts.Tests.{clash}
-use Rattle.nesting.specs.Nesting.{join, has-children, blocks-of, blocks-from, new-case, new-select, LoopInputs, loop-node}
-use Rattle.nesting.specs.Nesting.{most-regions}
+use Rattle.nesting.specs.Nesting.{join, has-children, blocks-of, blocks-from, new-case, new-select, LoopInputs, loop-node, most-regions}
 use Rattle.state.specs.declared.cells.Cell.{Cell}
 use Rattle.state.specs.Sections as sections
-use Rattle.state.specs.Sections.{Section, number, start, size, used, section, word, stored, stored-all, head, conditions, cells}
-use Rattle.state.specs.Sections.{front}
+use Rattle.state.specs.Sections.{Section, number, start, size, used, section, word, stored, stored-all, head, conditions, cells, front}
+use Rattle.state.specs.Sections.{most-cells}
 use Rattle.state.specs.laws.Apart.{section-other}
 use Rattle.state.specs.Tables.{Adds, added, no-room, cell-words, Joins, first-empty, second-empty, joined}
 use Rattle.shown.specs.Values.{value}
-use Rattle.shown.specs.laws.Stores.{section-run, part-length, head-same, ChangesOnly, head-changes, run-changes}
-use Rattle.shown.specs.laws.Stores.{changes-then, nothing-changes}
+use Rattle.shown.specs.laws.Stores.{section-run, part-length, head-same, ChangesOnly, head-changes, run-changes, changes-then}
+use Rattle.shown.specs.laws.Stores.{nothing-changes}
 use Rattle.shown.specs.Tables.{ShowsShape}
 use Rattle.shown.specs.laws.Conditions.{ConditionsStay, cond-stays}
 use Rattle.shown.specs.laws.Elsewhere.{SameTables, same-words}
 use Rattle.shown.specs.Cells.{CellIs, ShowsKept, none-kept, one-kept, ShowsNodes, no-nodes, all-blocks, two-lists, then-exit}
 use Rattle.shown.specs.Cells.{then-select, the-loop, ShowsCaseCells, no-cases, case-and, ShowsChildren}
-use Rattle.meaning.specs.Runs.{case-count}
 use Rattle.shown.specs.Kept.{Later, KeptRegion}
 use Rattle.shown.specs.laws.RegionsKept.{later-same, kept-same}
 use Rattle.shown.specs.laws.RegionSteps.{Aside, kept-by, tables-by, states-by, StatesStay}
 use Rattle.meaning.specs.facts.Parts.{run-before, run-in}
-use Rattle.state.specs.Sections.{most-cells}
 
 -- ---- Lists before a run of words stay.
 module _ (g : Graph) (l : List ℕ) (i : ℕ) (xs : List ℕ) where

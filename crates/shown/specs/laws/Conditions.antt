@@ -8,16 +8,14 @@ use lib.Seq.{sets}
 use borrow.Author.Tests.{lt-ltb, le-ltb, ne-eqb}
 use native.Mathlib.Decide.{decLt}
 use Rattle.meaning.specs.Graph.{Value, SelectionKind}
-use Rattle.nesting.specs.Nesting.{LazyCond, LazyConds, merge, NestState, define, define-merge, add-merge}
-use Rattle.nesting.specs.Nesting.{most-merges}
+use Rattle.nesting.specs.Nesting.{LazyCond, LazyConds, merge, NestState, define, define-merge, add-merge, most-merges}
 use Rattle.state.specs.declared.defined.Defined.{Defined}
 use Rattle.state.specs.Sections.{section, word, stored, stored-all, head, rewrites, outputs, conditions, cells, used, start, size}
 use Rattle.state.specs.laws.Apart.{section-other}
 use Rattle.state.specs.Tables.{MergeDefined, merge-defined, merges-full, shape-size, select-word}
 use Rattle.shown.specs.Values.{value}
-use Rattle.shown.specs.laws.Stores.{section-run, part-length, head-same, ChangesOnly, head-changes, run-changes}
+use Rattle.shown.specs.laws.Stores.{section-run, part-length, head-same, ChangesOnly, head-changes, run-changes, changes-then}
 use Rattle.meaning.specs.facts.Parts.{run-before, run-in}
-use Rattle.shown.specs.laws.Stores.{changes-then}
 use Rattle.shown.specs.Tables.{ShowsShape, shape-bool, shape-number, cond-count, ShowsCond, shows-true, shows-false, shows-undef}
 use Rattle.shown.specs.Tables.{shows-merge, ShowsConds, no-parts, part-and, ShowsCondition, ShowsParts, none-left, one-and}
 use Rattle.shown.specs.Tables.{ShowsTables, ShowsDefined, shows-done, shows-full}

@@ -67,7 +67,8 @@ module _ {k : Section} {i : ℕ} {w w′ : List ℕ} (changes : ChangesOnly k i 
       record {
         front = record { words = changes .words; front-words = changes .others front (d .not-front) (omega arith) };
         conditions-stay = condition-same (changes .others conditions (d .not-conditions) (omega arith))
-            (changes .others cells (d .not-cells) (omega arith)) (changes .totals 4 (d .not-cell-total)) (changes .totals 2 (d .not-merges));
+            (changes .others cells (d .not-cells) (omega arith)) (changes .totals 4 (d .not-cell-total))
+            (changes .totals 2 (d .not-merges));
         nodes-stay = λ n. record {
           nodes = rw (changes .others cells (d .not-cells) (omega arith)) (n .nodes);
           made = rw (changes .totals 4 (d .not-cell-total)) (n .made);

@@ -13,19 +13,17 @@ use lib.Seq.{sets}
 use lib.Dec.{eqb}
 use borrow.Author.Tests.{eq-eqb, ne-eqb}
 use Rattle.meaning.specs.facts.Tests.{clash}
-use Rattle.nesting.specs.Nesting.{RegionInputRewrites, replace-with, renumber-or-replace-with, RewriteEntry}
-use Rattle.nesting.specs.Nesting.{NestState, rewrites-of, with-tables}
-use Rattle.nesting.specs.Nesting.{most-regions}
+use Rattle.nesting.specs.Nesting.{RegionInputRewrites, replace-with, renumber-or-replace-with, RewriteEntry, NestState, rewrites-of}
+use Rattle.nesting.specs.Nesting.{with-tables, most-regions}
 use Rattle.nesting.specs.lookups.ChainEnds.{entry-kept}
 use Rattle.state.specs.Sections.{section, word, stored, stored-all, rewrites, outputs, start, size}
 use Rattle.state.specs.laws.Apart.{section-stored}
 use Rattle.state.specs.Tables.{inserted}
 use Rattle.shown.specs.Values.{value}
-use Rattle.shown.specs.laws.Stores.{section-run, part-length, ChangesOnly, run-changes, word-changes}
+use Rattle.shown.specs.laws.Stores.{section-run, part-length, ChangesOnly, run-changes, word-changes, changes-then, nothing-changes}
 use Rattle.meaning.specs.facts.Parts.{run-before, run-behind, run-in}
-use Rattle.shown.specs.laws.Stores.{changes-then, nothing-changes}
-use Rattle.shown.specs.Tables.{ShowsEntry, no-entry, replaces, renumbers, EntryWords, replace-words, renumber-words}
-use Rattle.shown.specs.Tables.{ShowsRewrites, ShowsTables}
+use Rattle.shown.specs.Tables.{ShowsEntry, no-entry, replaces, renumbers, EntryWords, replace-words, renumber-words, ShowsRewrites}
+use Rattle.shown.specs.Tables.{ShowsTables}
 use Rattle.meaning.specs.Lists.{pick}
 
 -- ---- The log with an entry more.

@@ -10,24 +10,17 @@ use lib.ListN.{length, getD, length-append, List·getD-append}
 use lib.Seq.{sets, getD-append-seam}
 use borrow.Author.Tests.{lt-ltb, le-ltb}
 use Rattle.meaning.specs.Graph.{Value, output}
-use Rattle.nesting.specs.Nesting.{NodeOutput}
-use Rattle.nesting.specs.Nesting.{NestState, define}
-use Rattle.nesting.specs.Nesting.{define-region, define-node, define-output, add-region}
-use Rattle.nesting.specs.Nesting.{add-node, add-attempt}
-use Rattle.nesting.specs.Nesting.{with-tables, with-twice}
-use Rattle.nesting.specs.Nesting.{most-regions, most-nodes, most-outputs}
+use Rattle.nesting.specs.Nesting.{NodeOutput, NestState, define, define-region, define-node, define-output, add-region, add-node}
+use Rattle.nesting.specs.Nesting.{add-attempt, with-tables, with-twice, most-regions, most-nodes, most-outputs}
 use Rattle.state.specs.declared.defined.Defined.{Defined}
 use Rattle.state.specs.Sections.{section, word, stored, stored-all, head, rewrites, outputs, start, size}
 use Rattle.state.specs.laws.Apart.{section-other}
-use Rattle.state.specs.Tables.{Defines, defined, full, OutputDefined, output-defined, outputs-full}
-use Rattle.state.specs.Tables.{attempted}
+use Rattle.state.specs.Tables.{Defines, defined, full, OutputDefined, output-defined, outputs-full, attempted}
 use Rattle.shown.specs.Values.{value}
-use Rattle.shown.specs.laws.Stores.{section-run, part-length, head-same}
+use Rattle.shown.specs.laws.Stores.{section-run, part-length, head-same, ChangesOnly, head-changes, run-changes, changes-then}
+use Rattle.shown.specs.laws.Stores.{nothing-changes}
 use Rattle.meaning.specs.facts.Parts.{run-before, run-in}
-use Rattle.shown.specs.laws.Stores.{ChangesOnly, head-changes, run-changes, changes-then, nothing-changes}
-use Rattle.shown.specs.Tables.{ShowsValues, ShowsOutput, ShowsOutputs, no-output}
-use Rattle.shown.specs.Tables.{ShowsTables, ShowsDefined}
-use Rattle.shown.specs.Tables.{shows-done, shows-full}
+use Rattle.shown.specs.Tables.{ShowsValues, ShowsOutput, ShowsOutputs, no-output, ShowsTables, ShowsDefined, shows-done, shows-full}
 use Rattle.meaning.specs.Lists.{bit}
 
 -- ---- A word of the head stored: the tables stay, and the totals but one.

@@ -15,7 +15,7 @@ use Rattle.format.specs.References.{return-types, type-in, behind-all, first-re
 use Rattle.format.specs.Valid.{Valid, ValidEnd}
 use Rattle.record.specs.Stands.{Stands}
 use Rattle.fields.specs.ByNumber.{blocks-before, end-values}
-use Rattle.nesting.specs.Nesting.{initial-state, block-count, not-begun}
+use Rattle.nesting.specs.Nesting.{initial-state, block-count, not-begun, most-regions}
 use Rattle.nesting.specs.steps.RegionsLeft.{all-not-begun}
 use Rattle.state.specs.Sections as sections
 use Rattle.state.specs.Sections.{Section, number, start, size, used, section, word, head, kinds, set-starts, rewrites}
@@ -27,11 +27,9 @@ use Rattle.shown.specs.laws.FrontKept.{stands-on, front-stored, front-run, fron
 use Rattle.shown.specs.laws.SetStores.{run-word}
 use Rattle.shown.specs.Tables.{no-entry}
 use Rattle.shown.specs.States.{ShowsState, is-not-begun}
-use Rattle.start.specs.Words.{nothing-rewritten, nothing-begun, emptied, returned-type, totals}
-use Rattle.start.specs.Words.{counted, started, filled}
+use Rattle.start.specs.Words.{nothing-rewritten, nothing-begun, emptied, returned-type, totals, counted, started, filled}
 use Rattle.start.specs.laws.WordsLaws.{filled-front, emptied-front}
 use Rattle.start.specs.laws.Fills.{fill-length, fill-other, fill-beside, fill-there}
-use Rattle.nesting.specs.Nesting.{most-regions}
 
 -- ---- How many blocks there are: no sum is as large as a word.
 module _ {g : Graph} (valid : Valid g) where

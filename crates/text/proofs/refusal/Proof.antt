@@ -2,9 +2,8 @@ use mathlib.Core.Path.{sym, ap, subst, _∙_}
 use borrow.Author.Needs.{needs}
 use Rattle.text.specs.Whole.{Whole, written-to}
 use Rattle.text.specs.laws.WholeTexts.{whole}
-use Rattle.text.specs.Text.{labeled}
+use Rattle.text.specs.Text.{labeled, refusal-text}
 use Rattle.text.specs.laws.BufferLaws.{_▸_}
-use Rattle.text.specs.Text.{refusal-text}
 use Rattle.text.proofs.refusal.Statement.{statement}
 use Rattle.text.proofs.refusal.Tie as tie
 

@@ -6,7 +6,7 @@ use Prim.Native.Nat.{ℕ, suc, _+_, _-_, _≤_}
 use native.Mathlib.Omega.{arith}
 use lib.ListN.{length, set, length-append}
 use lib.Seq.{set-out}
-use Rattle.meaning.specs.facts.Tests.{or-swap}
+use Rattle.meaning.specs.facts.Tests.{or-assoc-comm}
 use Rattle.nesting.specs.Nesting.{plain}
 use Rattle.writing.specs.declared.place.Place.{Place}
 use Rattle.writing.specs.Puts.{written, Part, Puts, noted}
@@ -32,7 +32,7 @@ puts-then {out} {at = at} {a = a} {b} p q =
     let f = q .end in
     record {
       end = omega arith;
-      twice = q .twice ∙ rw (p .twice) (or-swap (at .twice) (b .twice) (a .twice));
+      twice = q .twice ∙ rw (p .twice) (or-assoc-comm (at .twice) (b .twice) (a .twice));
       words = q .words ∙ rw (p .words, p .end) (written-append out (at .end) (a .value) (b .value));
     }
 

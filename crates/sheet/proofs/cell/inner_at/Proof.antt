@@ -31,7 +31,8 @@ cell-before-requires : tie.Need-cell-before-requires
 cell-before-requires c κs = search needs
 
 returns-3 : tie.Need-returns-3
-returns-3 c = at-before _ _ (c .before .before .before .cell-tag .ensures) _ (c .before .before .if1 .left) (c .before .if2 .left) (c .cell-before .ensures)
+returns-3 c = at-before _ _ (c .before .before .before .cell-tag .ensures) _ (c .before .before .if1 .left) (c .before .if2 .left)
+    (c .cell-before .ensures)
 
 pub inner-at-spec : {M : Type 1} → statement M
 inner-at-spec =

@@ -13,7 +13,8 @@ case-total-requires : tie.Need-case-total-requires
 case-total-requires c κs = search needs
 
 returns : tie.Need-returns
-returns c = total-cases _ _ (c .before .before .before .cell-tag .ensures) (c .before .before .if1 .taken) (c .before .inner-list .ensures) (c .case-total .ensures)
+returns c = total-cases _ _ (c .before .before .before .cell-tag .ensures) (c .before .before .if1 .taken)
+    (c .before .inner-list .ensures) (c .case-total .ensures)
 
 returns-2 : tie.Need-returns-2
 returns-2 c = total-joined _ _ (c .before .before .cell-tag .ensures) (c .if2 .taken)
@@ -22,7 +23,8 @@ returns-3 : tie.Need-returns-3
 returns-3 c = total-body _ _ (c .before .before .before .cell-tag .ensures) (c .if3 .taken)
 
 returns-4 : tie.Need-returns-4
-returns-4 c = total-none _ _ (c .before .before .before .cell-tag .ensures) (c .before .before .if1 .left) (c .before .if2 .left) (c .if3 .left)
+returns-4 c = total-none _ _ (c .before .before .before .cell-tag .ensures) (c .before .before .if1 .left) (c .before .if2 .left)
+    (c .if3 .left)
 
 pub inner-total-spec : {M : Type 1} → statement M
 inner-total-spec =

@@ -1,4 +1,4 @@
-use Rattle.sheet.specs.Inside.{own-put, part-put}
+use Rattle.sheet.specs.Inside.{own-put, inner-put}
 use borrow.Author.Needs.{needs}
 use Rattle.sheet.proofs.cell.put_cell_lines.Statement.{statement}
 use Rattle.sheet.proofs.cell.put_cell_lines.Tie as tie
@@ -18,14 +18,14 @@ sub-inner-at c = search needs
 inner-at-requires : tie.Need-inner-at-requires
 inner-at-requires c κs = search needs
 
-put-loop-alone-requires : tie.Need-put-loop-alone-requires
-put-loop-alone-requires c κs = search needs
+put-walked-lines-requires : tie.Need-put-walked-lines-requires
+put-walked-lines-requires c κs = search needs
 
-sub-put-part-line : tie.Need-sub-put-part-line
-sub-put-part-line c = search needs
+sub-put-inner-line : tie.Need-sub-put-inner-line
+sub-put-inner-line c = search needs
 
-put-part-line-requires : tie.Need-put-part-line-requires
-put-part-line-requires c κs = search needs
+put-inner-line-requires : tie.Need-put-inner-line-requires
+put-inner-line-requires c κs = search needs
 
 same-length-2 : tie.Need-same-length-2
 same-length-2 c = search needs
@@ -33,7 +33,8 @@ same-length-2 c = search needs
 returns-2 : tie.Need-returns-2
 returns-2 c =
     let d = c .before .before .before .before .before .before in
-    part-put (d .before .before .before .if1 .left) (rw (d .before .before .inner-at .ensures) at (d .put-loop-alone .ensures)) (c .before .before .put-part-line .ensures)
+    inner-put (d .before .before .before .if1 .left) (rw (d .before .before .inner-at .ensures) at (d .put-walked-lines .ensures))
+    (c .before .before .put-inner-line .ensures)
 
 pub put-cell-lines-spec : {M : Type 1} → statement M
 put-cell-lines-spec =
@@ -44,8 +45,8 @@ put-cell-lines-spec =
     returns
     sub-inner-at
     inner-at-requires
-    put-loop-alone-requires
-    sub-put-part-line
-    put-part-line-requires
+    put-walked-lines-requires
+    sub-put-inner-line
+    put-inner-line-requires
     same-length-2
     returns-2)

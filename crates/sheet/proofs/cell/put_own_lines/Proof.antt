@@ -18,7 +18,8 @@ same-length c = search needs
 returns : tie.Need-returns
 returns c =
     let d = c .before .before .before .before .before in
-    own-blocks _ _ (d .before .cell-tag .ensures) (d .if1 .taken) (c .before .before .before .cell-a .ensures) (c .before .before .put-blocks .ensures)
+    own-blocks _ _ (d .before .cell-tag .ensures) (d .if1 .taken) (c .before .before .before .cell-a .ensures)
+    (c .before .before .put-blocks .ensures)
 
 cell-a-requires-2 : tie.Need-cell-a-requires-2
 cell-a-requires-2 c κs = search needs
@@ -35,7 +36,8 @@ same-length-2 c = search needs
 returns-2 : tie.Need-returns-2
 returns-2 c =
     let d = c .before .before .before .before in
-    own-exit _ _ (d .before .before .before .before .cell-tag .ensures) (d .before .before .if2 .taken) (d .cell-a2 .ensures) (c .before .before .before .cell-b .ensures)
+    own-exit _ _ (d .before .before .before .before .cell-tag .ensures) (d .before .before .if2 .taken) (d .cell-a2 .ensures)
+    (c .before .before .before .cell-b .ensures)
     (c .before .before .put-exit .ensures)
 
 put-select-line-requires : tie.Need-put-select-line-requires
@@ -62,7 +64,8 @@ returns-4 c =
 
 returns-5 : tie.Need-returns-5
 returns-5 c =
-    own-none _ _ (c .before .before .before .before .cell-tag .ensures) _ _ (c .before .before .before .if1 .left) (c .before .before .if2 .left) (c .before .if3 .left)
+    own-none _ _ (c .before .before .before .before .cell-tag .ensures) _ _ (c .before .before .before .if1 .left)
+    (c .before .before .if2 .left) (c .before .if3 .left)
     (c .if4 .left)
 
 pub put-own-lines-spec : {M : Type 1} → statement M

@@ -74,54 +74,65 @@ put-cell-Inv-loop w out₀ h e₀ j₀ out e j = InsidePut w h j₀ j out₀ e�
 abbrev put-cell-μ-loop : put-cell-lts.MeasureT-loop
 put-cell-μ-loop w out₀ h e₀ j₀ out e j = j
 
-put-cell-inner-total-requires : (t : ℕ) → put-cell-lts.Need-inner-total-requires (put-cell-called t) (put-cell-at t) put-cell.Post put-cell-Inv-loop put-cell-μ-loop
+put-cell-inner-total-requires : (t : ℕ) → put-cell-lts.Need-inner-total-requires
+    (put-cell-called t) (put-cell-at t) put-cell.Post put-cell-Inv-loop put-cell-μ-loop
 put-cell-inner-total-requires t c κs = search needs
 
-put-cell-loop-holds : (t : ℕ) → put-cell-lts.Need-loop-holds (put-cell-called t) (put-cell-at t) put-cell.Post put-cell-Inv-loop put-cell-μ-loop
+put-cell-loop-holds : (t : ℕ) → put-cell-lts.Need-loop-holds
+    (put-cell-called t) (put-cell-at t) put-cell.Post put-cell-Inv-loop put-cell-μ-loop
 put-cell-loop-holds t c = (inside-start _ _ (c .inner-total .ensures) _ _, omega arith, refl)
 
-put-cell-sub-inner-at : (t : ℕ) → put-cell-lts.Need-sub-inner-at (put-cell-called t) (put-cell-at t) put-cell.Post put-cell-Inv-loop put-cell-μ-loop
+put-cell-sub-inner-at : (t : ℕ) → put-cell-lts.Need-sub-inner-at
+    (put-cell-called t) (put-cell-at t) put-cell.Post put-cell-Inv-loop put-cell-μ-loop
 put-cell-sub-inner-at t c = search needs
 
-put-cell-inner-at-requires : (t : ℕ) → put-cell-lts.Need-inner-at-requires (put-cell-called t) (put-cell-at t) put-cell.Post put-cell-Inv-loop put-cell-μ-loop
+put-cell-inner-at-requires : (t : ℕ) → put-cell-lts.Need-inner-at-requires
+    (put-cell-called t) (put-cell-at t) put-cell.Post put-cell-Inv-loop put-cell-μ-loop
 put-cell-inner-at-requires t c κs = search needs
 
 put-cell-walked-list-requires : (t : ℕ) → put-cell-lts.Need-walked-list-requires (put-cell-called t) (put-cell-at t) put-cell.Post
     put-cell-Inv-loop put-cell-μ-loop
 put-cell-walked-list-requires t c κs = search needs
 
-put-cell-put-nodes-requires : (t : ℕ) → put-cell-lts.Need-put-nodes-requires (put-cell-called t) (put-cell-at t) put-cell.Post put-cell-Inv-loop put-cell-μ-loop
+put-cell-put-nodes-requires : (t : ℕ) → put-cell-lts.Need-put-nodes-requires
+    (put-cell-called t) (put-cell-at t) put-cell.Post put-cell-Inv-loop put-cell-μ-loop
 put-cell-put-nodes-requires t c κs =
     let d = c .before .before .before .before .before .before .before in
     let e = c .before .before in
     (omega (arith, d .pre .0, walked-below _ _ _ (e .inner-at .ensures) (c .before .walked-list .ensures) (d .pre .1)), tt)
 
-put-cell-put-cell-lines-requires : (t : ℕ) → put-cell-lts.Need-put-cell-lines-requires (put-cell-called t) (put-cell-at t) put-cell.Post put-cell-Inv-loop put-cell-μ-loop
+put-cell-put-cell-lines-requires : (t : ℕ) → put-cell-lts.Need-put-cell-lines-requires
+    (put-cell-called t) (put-cell-at t) put-cell.Post put-cell-Inv-loop put-cell-μ-loop
 put-cell-put-cell-lines-requires t c κs = search needs
 
 put-cell-sub-j : (t : ℕ) → put-cell-lts.Need-sub-j (put-cell-called t) (put-cell-at t) put-cell.Post put-cell-Inv-loop put-cell-μ-loop
 put-cell-sub-j t c = search needs
 
-put-cell-loop-less : (t : ℕ) → put-cell-lts.Need-loop-less (put-cell-called t) (put-cell-at t) put-cell.Post put-cell-Inv-loop put-cell-μ-loop
+put-cell-loop-less : (t : ℕ) → put-cell-lts.Need-loop-less
+    (put-cell-called t) (put-cell-at t) put-cell.Post put-cell-Inv-loop put-cell-μ-loop
 put-cell-loop-less t c = omega (arith, c .before .before .before .before .before .before .before .before .before .before .loop-test .taken)
 
-put-cell-loop-again : (t : ℕ) → put-cell-lts.Need-loop-again (put-cell-called t) (put-cell-at t) put-cell.Post put-cell-Inv-loop put-cell-μ-loop
+put-cell-loop-again : (t : ℕ) → put-cell-lts.Need-loop-again
+    (put-cell-called t) (put-cell-at t) put-cell.Post put-cell-Inv-loop put-cell-μ-loop
 put-cell-loop-again t c =
     let at-walked = c .before .before .before .before .before .before .before .before in
     let at-inner = at-walked .before in
     let at-test = at-inner .before in
     let at-loop = at-test .before in (
       inside-turn _ _ (at-loop .before .inner-total .ensures) _ (at-test .loop-test .taken) (at-loop .loop .inv .1)
-          (at-loop .loop .inv .0) (at-inner .inner-at .ensures) (at-walked .walked-list .ensures) (c .before .before .before .before .before .before .put-nodes .ensures)
+          (at-loop .loop .inv .0) (at-inner .inner-at .ensures) (at-walked .walked-list .ensures)
+          (c .before .before .before .before .before .before .put-nodes .ensures)
           (c .before .before .put-cell-lines .ensures),
       omega (arith, at-loop .loop .inv .1),
       search (needs, at-loop .loop .inv .2, c .before .out2 .given, c .before .before .before .before .before .out .given),
     )
 
-put-cell-put-cell-lines-requires-2 : (t : ℕ) → put-cell-lts.Need-put-cell-lines-requires-2 (put-cell-called t) (put-cell-at t) put-cell.Post put-cell-Inv-loop put-cell-μ-loop
+put-cell-put-cell-lines-requires-2 : (t : ℕ) → put-cell-lts.Need-put-cell-lines-requires-2
+    (put-cell-called t) (put-cell-at t) put-cell.Post put-cell-Inv-loop put-cell-μ-loop
 put-cell-put-cell-lines-requires-2 t c κs = search needs
 
-put-cell-same-length : (t : ℕ) → put-cell-lts.Need-same-length (put-cell-called t) (put-cell-at t) put-cell.Post put-cell-Inv-loop put-cell-μ-loop
+put-cell-same-length : (t : ℕ) → put-cell-lts.Need-same-length
+    (put-cell-called t) (put-cell-at t) put-cell.Post put-cell-Inv-loop put-cell-μ-loop
 put-cell-same-length t c = search needs
 
 put-cell-returns : (t : ℕ) → put-cell-lts.Need-returns (put-cell-called t) (put-cell-at t) put-cell.Post put-cell-Inv-loop put-cell-μ-loop
@@ -136,23 +147,28 @@ put-nodes-Inv-loop w out₀ list e₀ h₀ out e h = PutsBehind w list h out₀ 
 abbrev put-nodes-μ-loop : put-nodes-lts.MeasureT-loop
 put-nodes-μ-loop w out₀ list e₀ h₀ out e h = h
 
-put-nodes-loop-holds : (t : ℕ) → put-nodes-lts.Need-loop-holds (put-nodes-called t) (put-nodes-at t) put-nodes.Post put-nodes-Inv-loop put-nodes-μ-loop
+put-nodes-loop-holds : (t : ℕ) → put-nodes-lts.Need-loop-holds
+    (put-nodes-called t) (put-nodes-at t) put-nodes.Post put-nodes-Inv-loop put-nodes-μ-loop
 put-nodes-loop-holds t c =
     (walk-start _ _ _ _, omega arith, refl)
 
-put-nodes-put-cell-requires : (t : ℕ) → put-nodes-lts.Need-put-cell-requires (put-nodes-called t) (put-nodes-at t) put-nodes.Post put-nodes-Inv-loop put-nodes-μ-loop
+put-nodes-put-cell-requires : (t : ℕ) → put-nodes-lts.Need-put-cell-requires
+    (put-nodes-called t) (put-nodes-at t) put-nodes.Post put-nodes-Inv-loop put-nodes-μ-loop
 put-nodes-put-cell-requires t c κs =
     (omega (arith, c .before .before .before .before .pre .0, c .before .before .loop .inv .1), c .before .loop-test .taken)
 
-put-nodes-list-before-requires : (t : ℕ) → put-nodes-lts.Need-list-before-requires (put-nodes-called t) (put-nodes-at t) put-nodes.Post put-nodes-Inv-loop put-nodes-μ-loop
+put-nodes-list-before-requires : (t : ℕ) → put-nodes-lts.Need-list-before-requires
+    (put-nodes-called t) (put-nodes-at t) put-nodes.Post put-nodes-Inv-loop put-nodes-μ-loop
 put-nodes-list-before-requires t c κs = search needs
 
-put-nodes-loop-less : (t : ℕ) → put-nodes-lts.Need-loop-less (put-nodes-called t) (put-nodes-at t) put-nodes.Post put-nodes-Inv-loop put-nodes-μ-loop
+put-nodes-loop-less : (t : ℕ) → put-nodes-lts.Need-loop-less
+    (put-nodes-called t) (put-nodes-at t) put-nodes.Post put-nodes-Inv-loop put-nodes-μ-loop
 put-nodes-loop-less t c =
     let d = c .before .before .before .before .before in
     before-below _ (c .list-before .ensures) (d .loop-test .taken)
 
-put-nodes-loop-again : (t : ℕ) → put-nodes-lts.Need-loop-again (put-nodes-called t) (put-nodes-at t) put-nodes.Post put-nodes-Inv-loop put-nodes-μ-loop
+put-nodes-loop-again : (t : ℕ) → put-nodes-lts.Need-loop-again
+    (put-nodes-called t) (put-nodes-at t) put-nodes.Post put-nodes-Inv-loop put-nodes-μ-loop
 put-nodes-loop-again t c =
     let d = c .before .before .before .before .before in (
       walk-turn _ _ _ (d .loop-test .taken) (d .before .loop .inv .0) (c .before .before .before .put-cell .ensures)
@@ -161,10 +177,12 @@ put-nodes-loop-again t c =
       search needs,
     )
 
-put-nodes-same-length : (t : ℕ) → put-nodes-lts.Need-same-length (put-nodes-called t) (put-nodes-at t) put-nodes.Post put-nodes-Inv-loop put-nodes-μ-loop
+put-nodes-same-length : (t : ℕ) → put-nodes-lts.Need-same-length
+    (put-nodes-called t) (put-nodes-at t) put-nodes.Post put-nodes-Inv-loop put-nodes-μ-loop
 put-nodes-same-length t c = search needs
 
-put-nodes-returns : (t : ℕ) → put-nodes-lts.Need-returns (put-nodes-called t) (put-nodes-at t) put-nodes.Post put-nodes-Inv-loop put-nodes-μ-loop
+put-nodes-returns : (t : ℕ) → put-nodes-lts.Need-returns
+    (put-nodes-called t) (put-nodes-at t) put-nodes.Post put-nodes-Inv-loop put-nodes-μ-loop
 put-nodes-returns t c =
     walk-end _ _ (c .loop-test .left) (c .before .loop .inv .0)
 

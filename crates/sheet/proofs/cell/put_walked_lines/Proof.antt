@@ -1,8 +1,8 @@
 use mathlib.Core.Path.{refl, sym, _∙_}
 use Rattle.sheet.specs.Inside.{loop-alone, no-loop}
 use borrow.Author.Needs.{needs}
-use Rattle.sheet.proofs.cell.put_loop_alone.Statement.{statement}
-use Rattle.sheet.proofs.cell.put_loop_alone.Tie as tie
+use Rattle.sheet.proofs.cell.put_walked_lines.Statement.{statement}
+use Rattle.sheet.proofs.cell.put_walked_lines.Tie as tie
 
 is-loop-requires : tie.Need-is-loop-requires
 is-loop-requires c κs = search needs
@@ -21,6 +21,6 @@ returns c =
 returns-2 : tie.Need-returns-2
 returns-2 c = no-loop (sym (c .before .is-loop .ensures) ∙ c .if1 .left) refl refl
 
-pub put-loop-alone-spec : {M : Type 1} → statement M
-put-loop-alone-spec =
+pub put-walked-lines-spec : {M : Type 1} → statement M
+put-walked-lines-spec =
     tie.close (tie.spec is-loop-requires put-loop-lines-requires same-length returns returns-2)

@@ -1,7 +1,7 @@
 use Rattle.sheet.specs.laws.InsideLaws.{line-case, line-none}
 use borrow.Author.Needs.{needs}
-use Rattle.sheet.proofs.cell.put_part_line.Statement.{statement}
-use Rattle.sheet.proofs.cell.put_part_line.Tie as tie
+use Rattle.sheet.proofs.cell.put_inner_line.Statement.{statement}
+use Rattle.sheet.proofs.cell.put_inner_line.Tie as tie
 
 cell-tag-requires : tie.Need-cell-tag-requires
 cell-tag-requires c κs = search needs
@@ -24,14 +24,15 @@ same-length c = search needs
 returns : tie.Need-returns
 returns c =
     let d = c .before .before .before .before .before in
-    line-case _ _ (d .before .before .before .cell-tag .ensures) _ (d .before .before .if1 .taken) (d .before .inner-list .ensures) (d .case-cell .ensures)
+    line-case _ _ (d .before .before .before .cell-tag .ensures) _ (d .before .before .if1 .taken) (d .before .inner-list .ensures)
+    (d .case-cell .ensures)
     (c .before .before .before .cell-a .ensures) (c .before .before .put-case-line .ensures)
 
 returns-2 : tie.Need-returns-2
 returns-2 c = line-none _ _ (c .before .cell-tag .ensures) _ _ _ (c .if1 .left)
 
-pub put-part-line-spec : {M : Type 1} → statement M
-put-part-line-spec =
+pub put-inner-line-spec : {M : Type 1} → statement M
+put-inner-line-spec =
     tie.close
     (tie.spec
     cell-tag-requires
