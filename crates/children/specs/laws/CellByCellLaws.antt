@@ -39,11 +39,12 @@ earlier-is : {x p h : ℕ} → x ≡ p → p < h → earlier x h ≡ p
 unfolding earlier
 earlier-is {x} {p} {h} e l = rw (e, lt-ltb p h l)
 
-module _ (w : List ℕ) {h : ℕ} where
-  of-loop : {p a b c d : ℕ} → CellIs (section w cells) h 5 p a b c d → list-before w h ≡ 0
-  unfolding list-before
-  of-loop x = rw (eq-eqb (cell-word w h 0) 5 (x .is-tag))
+-- Nothing stands before a loop.
+pub none-before : (w : List ℕ) (h : ℕ) → cell-word w h 0 ≡ 5 → list-before w h ≡ 0
+unfolding list-before
+none-before w h e = rw (eq-eqb (cell-word w h 0) 5 e)
 
+module _ (w : List ℕ) {h : ℕ} where
   not-loop : {tag p a b c d : ℕ} → CellIs (section w cells) h tag p a b c d → tag < 5 → p < h → list-before w h ≡ p
   unfolding list-before
   not-loop x t l = rw (ne-eqb (cell-word w h 0) 5 (λ z. omega (arith, x .is-tag)), earlier-is (x .is-before) l)
@@ -64,7 +65,7 @@ module _ {g : Graph} (w : List ℕ) {h : ℕ} where
       (rw (x .is-tag) (added-select {kind = kind} {v = v} {cs = cs} (rw (x .is-b) shape) (rw (x .is-c) t) (rw (earlier-is (x .is-d) q) c)
       (rw (x .is-a)))) e
   appended {ks} (the-loop {v = v} {ns = ns} y x p q a t kept e) _ =
-      appends {ns = ⟨⟩} {ms = ks} (no-nodes (of-loop w x))
+      appends {ns = ⟨⟩} {ms = ks} (no-nodes (none-before w h (x .is-tag)))
       (rw (x .is-tag) (added-loop {v = v} {ns = ns} y (rw (earlier-is (x .is-before) p) a) (rw (x .is-c) t)
       (rw (x .is-b, earlier-is (x .is-d) q) kept) (rw (x .is-a, x .is-b) e))) refl
 
@@ -74,7 +75,7 @@ module _ {g : Graph} (w : List ℕ) {h : ℕ} where
       case-first {ns = ns} {cs = cs} (rw (earlier-is (x .is-b) q) a) (rw (earlier-is (x .is-before) p) c) (rw (x .is-a) e)
 
 -- ---- Cases by place.
-earlier-within : (p h : ℕ) → earlier p h ≤ h
+pub earlier-within : (p h : ℕ) → earlier p h ≤ h
 unfolding earlier
 earlier-within p h = elim (decLt p h) [ yes l ↦ rw (lt-ltb p h l) (omega arith) | no n ↦ rw (le-ltb p h (omega arith)) (omega arith) ]
 

@@ -11,17 +11,14 @@ use Rattle.nesting.specs.Nesting.{DeferredTarget, to-return, DeferredEdgeBundle
 use Rattle.nesting.specs.Nesting.{true-cond, merge, MaybeClaimedRegion, PlannedBundle, DefinedSelect, NestState, StepAnswer, done}
 use Rattle.nesting.specs.Nesting.{turned-away}
 use Rattle.nesting.specs.Nesting.{conditions-of, deferred-of, follow, give, emit-inputs, emit-condition, emit}
-use Rattle.state.specs.declared.defined.Defined.{Defined}
-use Rattle.state.specs.Sections.{word, stored-all, front, head, set-lengths, conditions, cells, bundles}
-use Rattle.state.specs.Tables.{bundle-at, MergeDefined, merge-defined, merges-full}
+use Rattle.state.specs.Sections.{word, head, set-lengths, cells, bundles}
+use Rattle.state.specs.Tables.{bundle-at}
 use Rattle.shown.specs.Values.{value}
-use Rattle.shown.specs.laws.Stores.{ChangesOnly, run-changes, head-changes, changes-then, nothing-changes}
 use Rattle.shown.specs.Tables.{ShowsTables, ShowsShape, ShowsCondition, shows-true, cond-count}
 use Rattle.shown.specs.laws.DefinedShown.{done-of, full-of}
 use Rattle.shown.specs.laws.Elsewhere.{tables-stay, word-elsewhere}
-use Rattle.shown.specs.laws.Conditions.{merge-made, condition-kept}
+use Rattle.shown.specs.laws.Conditions.{merge-made, merge-changes, merge-later}
 use Rattle.shown.specs.Sets.{ShowsBundle, ShowsSet, SameBundle, no-bundle}
-use Rattle.shown.specs.Kept.{Later}
 use Rattle.shown.specs.laws.RegionsKept.{bundle-stays}
 use Rattle.shown.specs.laws.Finds.{bundle-in}
 use Rattle.shown.specs.laws.RegionSteps.{word-there, word-apart}
@@ -61,13 +58,6 @@ cell-stays x {h} y =
     }
 
 -- ---- A condition.
-merge-changes : {h : ℕ} {ps w w′ : List ℕ} {a : Defined} → MergeDefined h ps w w′ a → ChangesOnly conditions 2 w w′
-merge-changes {h} {ps} {w} (merge-defined {m} {c} p b r e) =
-    rw e
-    (changes-then (run-changes conditions 2 w (omega arith) (9 * c) (h ∷ ps))
-    (head-changes conditions 2 (stored-all w conditions (9 * c) (h ∷ ps)) (m + 1)))
-merge-changes {w} (merges-full b e) = rw e (nothing-changes conditions 2 w)
-
 record ConditionDone (g : Graph) (q : ℕ) (w w′ : List ℕ) (c : LazyCond) (s : NestState) : Type 0 where
   emitting : Emitting g q (q + 1) w w′
   tables : ShowsTables w′ s
@@ -95,21 +85,13 @@ module _ {g : Graph} {r base : ℕ} {cs : List MaybeClaimedRegion} (n : DefinedS
       let y = done-of (merge-made tables (cell .made) (cell .node) (rw many at (cell .shape)) (cell .scrutinee) (ps .size)
       (parts-shown (here .shown) at ps) m) refl in
       let changes = merge-changes m in
-      let later : Later g w l₁ = record {
-        front = record { words = changes .words; front-words = changes .others front (omega arith) (omega arith) };
-        conditions-stay = λ c. condition-kept tables m c;
-        nodes-stay = λ k. record {
-          nodes = rw (changes .others cells (omega arith) (omega arith)) (k .nodes);
-          made = rw (changes .totals 4 (omega arith)) (k .made);
-        };
-      } in
       let same : (i : ℕ) → word l₁ bundles i ≡ word w bundles i =
       λ i. ap (λ l. getD l i 0) (changes .others bundles (omega arith) (omega arith)) in
       let last = emitting-word g l₁ q 2 c (omega arith) in
       let size = y .tables .size in
       rw (u, y .is, p)
       (shows-made {a = merge (n .node) (n .kind) (n .scrutinee) (conditions-of (per-cases x cs))} {s = y .state} (record {
-        emitting = emitting-then (emitting-condition changes g q (q + 1) later) last;
+        emitting = emitting-then (emitting-condition changes g q (q + 1) (merge-later tables m g)) last;
         tables = tables-stay (word-elsewhere l₁ bundles (omega arith) (7 * q + 2) c) (y .tables);
         others = λ i b d. word-apart l₁ bundles (7 * q + 2) c bundles (7 * q + i) (omega arith) ∙ same (7 * q + i);
         shown = rw (word-there l₁ bundles (7 * q + 2) c (omega arith) (omega arith)) (last .later .conditions-stay (y .shows));

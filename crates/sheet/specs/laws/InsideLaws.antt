@@ -6,22 +6,19 @@ use Prim.Native.Nat.{ℕ, _-_, _≤_, _<_}
 use native.Mathlib.Omega.{arith}
 use native.Mathlib.Decide.{ℕ-discrete}
 use mathlib.Core.Logic.{_⊎_, inl, inr}
-use lib.Dec.{eqb, ltb, ltb→lt}
+use lib.Dec.{eqb}
 use borrow.Author.Tests.{eq-eqb, ne-eqb, eqb-true}
 use Rattle.meaning.specs.Lists.{pick}
 use Rattle.meaning.specs.facts.Tests.{clash}
 use Rattle.meaning.specs.Graph.{Value, region, exit-invocation}
 use Rattle.meaning.specs.Runs.{exit}
 use Rattle.nesting.specs.Nesting.{blocks-of}
-use Rattle.state.specs.Tables.{earlier}
-use Rattle.children.specs.CellByCell.{cell-word, list-at, list-before, case-cell, CaseTotal}
-use Rattle.children.specs.laws.CellByCellLaws.{named-below, case-within}
+use Rattle.children.specs.CellByCell.{cell-word, list-at, case-cell, CaseTotal}
+use Rattle.children.specs.laws.CellByCellLaws.{named-below, earlier-within, none-before, case-within}
 use Rattle.writing.specs.declared.place.Place.{Place}
 use Rattle.writing.specs.Puts.{Puts}
 use Rattle.writing.specs.Parts.{OfState, node-part, nodes-part}
 use Rattle.select_lines.specs.SelectLines.{PutsSelectLine, PutsCaseLine}
-use Rattle.loop_lines.specs.LoopParts.{loop-lines}
-use Rattle.loop_lines.specs.OfLoop.{OfLoop}
 use Rattle.sheet.specs.Regions.{PutsNodes}
 use Rattle.sheet.specs.Walk.{PutsCell, PutsCases, PutsLoopLines}
 use Rattle.sheet.specs.Inside.{inner-at, InnerTotal, each-case, one-joined, one-body, none-inside, InnerLine, case-line}
@@ -45,20 +42,12 @@ module _ (w : List ℕ) (h j : ℕ) where
   unfolding inner-at
   inner-before d e = rw (ne-eqb (cell-word w h 0) 4 d, ne-eqb (cell-word w h 0) 2 e)
 
-list-within : (w : List ℕ) (c i : ℕ) → list-at w c i ≤ c
-unfolding earlier
-list-within w c i = go (ltb (cell-word w c i) c) refl
-  where
-    go : (b : Bool) → ltb (cell-word w c i) c ≡ b → pick b (cell-word w c i) 0 ≤ c
-    go true e = let z = ltb→lt (cell-word w c i) c (rw e tt) in omega arith
-    go false e = omega arith
-
 -- It is an earlier one, and so is the one that is walked for it.
 inner-below : (w : List ℕ) (h j : ℕ) → 1 ≤ h → inner-at w h j < h
 unfolding inner-at
 inner-below w h j some =
     let c = case-cell w (list-at w h 5) j in
-    let of-case = list-within w c 3 in
+    let of-case = earlier-within (cell-word w c 3) c in
     let of-cases = case-within w (list-at w h 5) j {c = c} refl in
     let cases = named-below {p = list-at w h 5} (cell-word w h 5) refl some in
     go (eqb (cell-word w h 0) 4) (eqb (cell-word w h 0) 2) (omega arith) (named-below {p = list-at w h 2} (cell-word w h 2) refl some)
@@ -74,7 +63,7 @@ unfolding walked-list
 walked-below w h j {list} a b some = rw b (go (is-loop w list))
   where
     go : (t : Bool) → pick t (list-at w list 1) list < h
-    go true = let y = list-within w list 1 in let z = inner-below w h j some in omega arith
+    go true = let y = earlier-within (cell-word w list 1) list in let z = inner-below w h j some in omega arith
     go false = let z = inner-below w h j some in omega arith
 
 -- What was walked for a list, and the lines before it, are the list's.
@@ -87,10 +76,6 @@ module _ (w : List ℕ) (list : ℕ) where
         | no d ↦ (omega arith, eqb-true (cell-word w list 0) 5 (rw (ne-eqb list 0 d) at e))
       ]
 
-  none-before : cell-word w list 0 ≡ 5 → 0 ≡ list-before w list
-  unfolding list-before
-  none-before e = rw (eq-eqb (cell-word w list 0) 5 e)
-
   list-put : {p : ℕ} {out out₁ out₂ : List ℕ} {at at₁ at₂ : Place} → p ≡ walked-list w list → PutsNodes w p out at out₁ at₁
       → WalkedLines w list out₁ at₁ out₂ at₂ → PutsNodes w list out at out₂ at₂
   unfolding walked-list
@@ -98,7 +83,7 @@ module _ (w : List ℕ) (list : ℕ) where
       let there = loop-there e in
       let body = rw (is, e) at nodes in
       walk-end w list (omega arith) (walk-turn w list list (there .0) (walk-start w list out at)
-      (cell-loop w list refl (there .1) refl body lines) (none-before (there .1)))
+      (cell-loop w list refl (there .1) refl body lines) (sym (none-before w list (there .1))))
   list-put is nodes (no-loop e a b) = rw (a, b) (rw (is, e) at nodes)
 
 -- ---- How many there are.

@@ -3,12 +3,12 @@ use mathlib.Core.Path.{_≡_, sym, _∙_}
 use mathlib.Core.List.{List, []}
 use Prim.Native.Nat.{ℕ, suc, _+_, _-_, _≤_, _<_}
 use native.Mathlib.Omega.{arith}
-use Rattle.meaning.specs.Graph.{Graph, Value, SelectionKind, region, exit-invocation}
+use Rattle.meaning.specs.Graph.{Graph, Value, region, exit-invocation}
 use Rattle.meaning.specs.Runs.{Nodes, ⟨⟩, Cases, exit, loop, case-count}
 use Rattle.nesting.specs.Nesting.{plain, blocks-of, new-select, loop-node}
 use Rattle.state.specs.Sections.{section, cells}
-use Rattle.shown.specs.Tables.{ShowsShape, shape-bool, shape-number}
 use Rattle.shown.specs.Cells.{ShowsCaseCells, no-cases, case-and}
+use Rattle.shown.specs.laws.Conditions.{few-cases}
 use Rattle.shown.specs.laws.CellSteps.{no-list}
 use Rattle.children.specs.CellByCell.{CellAdded, added-blocks, added-list, added-exit, added-select, added-loop, ListAppended, appends}
 use Rattle.children.specs.CellByCell.{FirstCase, case-first, cell-word, list-at, list-before, case-cell, CaseTotal}
@@ -21,8 +21,7 @@ use Rattle.writing.specs.laws.PartLaws.{parts-assoc, part-last, no-nodes-part, 
 use Rattle.select_lines.specs.laws.SelectPartsLaws.{new-select-part, no-cases-part, new-case-part}
 use Rattle.select_lines.specs.SelectLines.{PutsSelectLine, PutsCaseLine}
 use Rattle.select_lines.specs.laws.OwnOutputsLaws.{values-shown}
-use Rattle.loop_lines.specs.LoopParts.{loop-part, loop-lines, loop-is}
-use Rattle.loop_lines.specs.OfLoop.{OfLoop}
+use Rattle.loop_lines.specs.LoopParts.{loop-part, loop-is}
 use Rattle.sheet.specs.Regions.{PutsNodes}
 use Rattle.sheet.specs.Walk.{PutsCell, PutsCases, PutsLoopLines, Behind, PutsBehind}
 
@@ -59,13 +58,9 @@ module _ (w : List ℕ) (h : ℕ) {tag : ℕ} (of-tag : tag ≡ cell-word w h 0)
       → PutsCell w h out at out₂ at₂
   cell-select {out = out} {out₂ = out₂} {at = at} {at₂ = at₂} e a b p q g s c ks x = go (with-tag e x)
     where
-      few : {shape n : ℕ} {kind : SelectionKind} → ShowsShape shape n kind → n ≤ 8
-      few (shape-bool z n) = omega arith
-      few (shape-number low high n) = omega arith
-
       go : CellAdded g w h ks 4 → Puts out at (nodes-part s ks) out₂ at₂
       go (added-select {kind} {v} {cs} shape t cases z) =
-          let m = few shape in
+          let m = few-cases shape in
           let first = p g s c cs (rw a cases) (omega arith) in
           rw z (puts-as (puts-then (rw b at first) (q g s c kind v cs shape t cases))
           (sym (one-node-part s (new-select (cell-word w h 2) kind v cs) ∙ new-select-part s (cell-word w h 2) kind v cs)))

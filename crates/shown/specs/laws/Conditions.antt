@@ -7,14 +7,15 @@ use lib.ListN.{length, getD}
 use lib.Seq.{sets}
 use borrow.Author.Tests.{lt-ltb, le-ltb, ne-eqb}
 use native.Mathlib.Decide.{decLt}
-use Rattle.meaning.specs.Graph.{Value, SelectionKind}
+use Rattle.meaning.specs.Graph.{Value, SelectionKind, Graph}
 use Rattle.nesting.specs.Nesting.{LazyCond, LazyConds, merge, NestState, define, define-merge, add-merge, most-merges}
 use Rattle.state.specs.declared.defined.Defined.{Defined}
-use Rattle.state.specs.Sections.{section, word, stored, stored-all, head, rewrites, outputs, conditions, cells, used, start, size}
+use Rattle.state.specs.Sections.{section, word, stored, stored-all, head, rewrites, outputs, conditions, cells, used, start, size, front}
 use Rattle.state.specs.laws.Apart.{section-other}
 use Rattle.state.specs.Tables.{MergeDefined, merge-defined, merges-full, shape-size, select-word}
 use Rattle.shown.specs.Values.{value}
-use Rattle.shown.specs.laws.Stores.{section-run, part-length, head-same, ChangesOnly, head-changes, run-changes, changes-then}
+use Rattle.shown.specs.Kept.{Later}
+use Rattle.shown.specs.laws.Stores.{section-run, part-length, head-same, ChangesOnly, head-changes, run-changes, changes-then, nothing-changes}
 use Rattle.meaning.specs.facts.Parts.{run-before, run-in}
 use Rattle.shown.specs.Tables.{ShowsShape, shape-bool, shape-number, cond-count, ShowsCond, shows-true, shows-false, shows-undef}
 use Rattle.shown.specs.Tables.{shows-merge, ShowsConds, no-parts, part-and, ShowsCondition, ShowsParts, none-left, one-and}
@@ -148,6 +149,10 @@ module _ (w : List ℕ) (h : ℕ) (ps : List ℕ) (m : ℕ) where
             made = rw total-after (omega arith);
           }
 
+pub merge-changes : {h : ℕ} {ps w w′ : List ℕ} {a : Defined} → MergeDefined h ps w w′ a → ChangesOnly conditions 2 w w′
+merge-changes {h} {ps} {w} (merge-defined {m} p most r e) = rw (e, r) (record-changes w h ps m)
+merge-changes {w} (merges-full most e) = rw e (nothing-changes conditions 2 w)
+
 module _ {w w′ : List ℕ} {s : NestState} (t : ShowsTables w s) {h : ℕ} {ps : List ℕ} where
   pub merge-made : h < word w head 4 → {n : ℕ} {kind : SelectionKind} {v : Value} {ts : LazyConds} → word w cells (6 * h + 2) ≡ n
       → ShowsShape (word w cells (6 * h + 3)) (cond-count ts) kind → value (word w cells (6 * h + 4)) ≡ v → length ps ≡ 8
@@ -179,7 +184,18 @@ module _ {w w′ : List ℕ} {s : NestState} (t : ShowsTables w s) {h : ℕ} {ps
   merge-made b n k q len ys (merges-full most e) =
       let z = t .merge-total in rw (le-ltb (s .merge-count) most-merges (omega arith), define) shows-full
 
-  pub condition-kept : {a : Defined} → MergeDefined h ps w w′ a → {c : ℕ} {u : LazyCond} → ShowsCondition w c u
-      → ShowsCondition w′ c u
+  condition-kept : {a : Defined} → MergeDefined h ps w w′ a → {c : ℕ} {u : LazyCond} → ShowsCondition w c u → ShowsCondition w′ c u
   condition-kept (merge-defined {m} p most r e) y = rw (e, r) (kept-after w h ps m (t .size) p most y)
   condition-kept (merges-full most e) y = rw e y
+
+  pub merge-later : {a : Defined} → MergeDefined h ps w w′ a → (g : Graph) → Later g w w′
+  merge-later d g =
+      let changes = merge-changes d in
+      record {
+        front = record { words = changes .words; front-words = changes .others front (omega arith) (omega arith) };
+        conditions-stay = condition-kept d;
+        nodes-stay = λ k. record {
+          nodes = rw (changes .others cells (omega arith) (omega arith)) (k .nodes);
+          made = rw (changes .totals 4 (omega arith)) (k .made);
+        };
+      }
