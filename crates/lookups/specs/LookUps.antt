@@ -5,6 +5,7 @@ use mathlib.Core.List.{List}
 use Prim.Native.Nat.{ℕ, zero, suc, _+_, _*_, _-_}
 use lib.Dec.{eqb}
 use Rattle.state.specs.Sections.{word, stored, head, rewrites, twice-at}
+use Rattle.state.specs.Tables.{rewrite-kind}
 use Rattle.state.specs.Values.{is-input, is-held, input-region, input-index}
 use Rattle.lookups.specs.declared.look_up.LookUp.{LookUp}
 use Rattle.meaning.specs.Lists.{pick}
@@ -15,7 +16,7 @@ plain x = record { value = x; twice = false }
 
 -- The kind of the entry of an input's region, and what it has for the input.
 abbrev pub kind-at : List ℕ → ℕ → ℕ
-kind-at l x = word l rewrites (5 * input-region x)
+kind-at l x = rewrite-kind l (input-region x)
 
 abbrev pub entry-at : List ℕ → ℕ → ℕ
 entry-at l x = word l rewrites (5 * input-region x + 1 + input-index x)

@@ -11,7 +11,7 @@ use Rattle.nesting.specs.Nesting.{DeferredEdgeBundleSet, StructurizeRegionState
 use Rattle.nesting.specs.Nesting.{ClaimedRegion, MaybeClaimedRegion, ok, err, deferred-of, most-regions}
 use Rattle.state.specs.Sections.{word, head, kinds, backedges, set-starts, set-lengths, children, bodies, cases, rewrites, returned-at}
 use Rattle.state.specs.Sections.{types-at}
-use Rattle.state.specs.Tables.{case-total, own-edges-from}
+use Rattle.state.specs.Tables.{case-total, own-edges-from, rewrite-kind}
 use Rattle.shown.specs.Tables.{ShowsTables}
 use Rattle.shown.specs.Sets.{Names, ShowsSet}
 use Rattle.shown.specs.Cells.{ShowsChildren}
@@ -28,12 +28,17 @@ pub data ShowsRegion (g : Graph) (w : List ℕ) (r : ℕ) : StructurizeRegionSta
       → ShowsChildren g w (word w children r) ks → ShowsOwnSet g w r d → ShowsRegion g w r (ready b ks d)
   is-claimed : word w kinds r ≡ 3 → ShowsRegion g w r claimed
 
+-- Of n regions each has a slot; the spare one is as of a region 32. Of a region, and of 32, `omega arith` proves it.
+pub record HasSlot (n a : ℕ) : Type 0 where
+  pub below : a < 33
+  pub of-region : n ≤ a → a ≡ 32
+
 -- Each slot is one region's, or the spare one.
-pub record Slots (w : List ℕ) : Type 0 where
+pub record Slots (n : ℕ) (w : List ℕ) : Type 0 where
   pub slot-number : ℕ → ℕ
-  pub starts : (a : ℕ) → a < 33 → word w set-starts a ≡ 33 * slot-number a
-  pub below : (a : ℕ) → a < 33 → slot-number a < 33
-  pub own : (a b : ℕ) → a < 33 → b < 33 → slot-number a ≡ slot-number b → a ≡ b
+  pub starts : (a : ℕ) → HasSlot n a → word w set-starts a ≡ 33 * slot-number a
+  pub below : (a : ℕ) → HasSlot n a → slot-number a < 33
+  pub own : (a b : ℕ) → HasSlot n a → HasSlot n b → slot-number a ≡ slot-number b → a ≡ b
 
 -- How many values a Return has, and their types.
 pub record ShowsReturned (g : Graph) (w : List ℕ) : Type 0 where
@@ -42,7 +47,7 @@ pub record ShowsReturned (g : Graph) (w : List ℕ) : Type 0 where
 
 -- The words of the rewrites' entries name values.
 pub record NamedRewrites (w : List ℕ) : Type 0 where
-  pub below : (r k : ℕ) → r < most-regions → k < 4 → (word w rewrites (5 * r) ≡ 0 → ⊥) → word w rewrites (5 * r + 1 + k) < names-nothing
+  pub below : (r k : ℕ) → r < most-regions → k < 4 → (rewrite-kind w r ≡ 0 → ⊥) → word w rewrites (5 * r + 1 + k) < names-nothing
 
 pub record ShowsState (g : Graph) (w : List ℕ) (s : NestState) : Type 0 where
   pub stands : Stands w g
@@ -50,7 +55,7 @@ pub record ShowsState (g : Graph) (w : List ℕ) (s : NestState) : Type 0 where
   pub named : NamedRewrites w
   pub size : length (s .region-states) ≡ length (g .regions)
   pub regions : (r : ℕ) → r < length (g .regions) → ShowsRegion g w r (getD (s .region-states) r not-begun)
-  pub slots : Slots w
+  pub slots : Slots (length (g .regions)) w
   pub returned : ShowsReturned g w
 
 -- A region under way, by its number: its children so far, and its set.

@@ -16,7 +16,7 @@ use Rattle.state.specs.declared.defined.Defined.{Defined}
 use Rattle.state.specs.declared.defined.Defined.the-variants.{Number, Full}
 use Rattle.state.specs.Sections.{section, word, head, rewrites, outputs, conditions, used, attempts-at, cells-at, merges-at, nodes-at}
 use Rattle.state.specs.Sections.{outputs-at, regions-at, twice-at}
-use Rattle.state.specs.Tables.{select-word}
+use Rattle.state.specs.Tables.{select-word, entry-kind}
 use Rattle.state.specs.Values.{is-held}
 use Rattle.shown.specs.Values.{value}
 use Rattle.meaning.specs.Lists.{bit}
@@ -29,10 +29,10 @@ pub data ShowsInput (r x : ℕ) : InputRewrite → Type 0 where
 
 -- Beyond a list's end the words have what the definition takes there.
 pub data ShowsEntry (l : List ℕ) (r : ℕ) : Option RegionInputRewrites → Type 0 where
-  no-entry : getD l (5 * r) 0 ≡ 0 → ShowsEntry l r none
-  replaces : {vs : List Value} → getD l (5 * r) 0 ≡ 1 → ((k : ℕ) → k < 4 → value (getD l (5 * r + 1 + k) 0) ≡ getD vs k (undef 0))
+  no-entry : entry-kind l r ≡ 0 → ShowsEntry l r none
+  replaces : {vs : List Value} → entry-kind l r ≡ 1 → ((k : ℕ) → k < 4 → value (getD l (5 * r + 1 + k) 0) ≡ getD vs k (undef 0))
       → ShowsEntry l r (some (replace-with vs))
-  renumbers : {xs : List InputRewrite} → getD l (5 * r) 0 ≡ 2
+  renumbers : {xs : List InputRewrite} → entry-kind l r ≡ 2
       → ((k : ℕ) → k < 4 → ShowsInput r (getD l (5 * r + 1 + k) 0) (getD xs k (renumber-to k)))
       → ShowsEntry l r (some (renumber-or-replace-with xs))
 

@@ -1,5 +1,6 @@
 pub mod Stores
 pub mod FrontKept
+pub mod Fills
 pub mod ValueWords
 pub mod DefinedShown
 pub mod Steps

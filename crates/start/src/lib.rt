@@ -3,49 +3,40 @@ ghost use mathlib.Core.Path.{_≡_};
 ghost use Prim.Native.Nat.{min};
 ghost use Rattle.record.specs.Stands.{OfRecord};
 ghost use Rattle.start.specs.Words as words;
-use state::defined::MOST_REGIONS;
 use state::defined::RETURNED;
 use state::defined::set_head;
 use state::regions::NOT_BEGUN;
 use state::regions::set_region_state;
-use state::rewrites::clear_rewrites;
+use state::rewrites::set_no_rewrites;
 use state::sections::HEAD;
 use state::sections::HEAD_WORDS;
 use state::sections::put_all;
+use state::sets::SPARE;
 use state::sets::put_set_start;
 use state::sets::slot;
 use store::WORDS;
 
-// No region has an entry, defined already or not.
-fn start_rewrites(w: &mut [u16; WORDS])
-    ensures { λ _. ⌜ now (w .exit) ≡ words.«nothing-rewritten» (now (w .entry)) ⌝ }
+// Of the record's n regions.
+fn start_kinds(w: &mut [u16; WORDS], n: u16)
+    ensures { λ _. ⌜ now (w .exit) ≡ words.«nothing-begun» n (now (w .entry)) ⌝ }
 {
     let mut r: u16 = 0;
-    while r < MOST_REGIONS {
-        clear_rewrites(w, r);
-        r += 1;
-    }
-}
-
-fn start_kinds(w: &mut [u16; WORDS])
-    ensures { λ _. ⌜ now (w .exit) ≡ words.«nothing-begun» (now (w .entry)) ⌝ }
-{
-    let mut r: u16 = 0;
-    while r < 32 {
+    while r < n {
         set_region_state(w, r, NOT_BEGUN);
         r += 1;
     }
 }
 
-// Of the regions, and the spare one.
-fn start_slots(w: &mut [u16; WORDS])
-    ensures { λ _. ⌜ now (w .exit) ≡ words.«slots-placed» (now (w .entry)) ⌝ }
+// Of the record's n regions, and the spare one.
+fn start_slots(w: &mut [u16; WORDS], n: u16)
+    ensures { λ _. ⌜ now (w .exit) ≡ words.«slots-placed» n (now (w .entry)) ⌝ }
 {
     let mut a: u16 = 0;
-    while a < 33 {
+    while a < n {
         put_set_start(w, a, slot(a));
         a += 1;
     }
+    put_set_start(w, SPARE, slot(SPARE));
 }
 
 // A record never has as many blocks as a word can say.
@@ -59,23 +50,33 @@ fn as_word(n: u32) -> u16
 }
 
 // Regions, nodes, conditions, outputs, cells, of which cell 0 is none, attempts, and twice. Nodes are numbered blocks first.
-fn start_totals(w: &mut [u16; WORDS])
-    ensures { λ _. ⌜ OfRecord (now (w .entry)) (λ g. now (w .exit) ≡ words.counted g (now (w .entry))) ⌝ }
+fn start_totals(w: &mut [u16; WORDS], n: u16)
+    ensures { λ _. ⌜ OfRecord (now (w .entry)) (λ g. now (w .exit) ≡ words.counted g n (now (w .entry))) ⌝ }
 {
-    let regions = fields::region_count(w);
-    let blocks = as_word(fields::blocks_before(w, regions));
-    let xs = [regions, blocks, 0, 0, 1, 0, 0];
+    let blocks = as_word(fields::blocks_before(w, n));
+    let xs = [n, blocks, 0, 0, 1, 0, 0];
     put_all(w, HEAD, HEAD_WORDS, 0, &xs);
 }
 
-// How many values a Return has, and their types, 0 where there is none.
+// A Return never has more values.
+fn at_most_four(n: u16) -> u16
+    ensures { λ a. ⌜ a ≡ min n 4 ⌝ }
+{
+    if n < 4 {
+        return n;
+    }
+    4
+}
+
+// How many values a Return has, and their types.
 fn start_returned(w: &mut [u16; WORDS])
     ensures { λ _. ⌜ OfRecord (now (w .entry)) (λ g. now (w .exit) ≡ words.returned g (now (w .entry))) ⌝ }
 {
     let q = references::first_return(w);
     let n = fields::value_count(w, q);
+    let few = at_most_four(n);
     let mut k: u16 = 0;
-    while k < 4 {
+    while k < few {
         let ty = references::return_type(w, q, k);
         set_head(w, RETURNED + 1 + (k as usize), ty);
         k += 1;
@@ -83,12 +84,14 @@ fn start_returned(w: &mut [u16; WORDS])
     set_head(w, RETURNED, n);
 }
 
+// Nothing else is set: no answer depends on what else the words hold.
 pub fn initial_state(w: &mut [u16; WORDS])
     ensures { λ _. ⌜ OfRecord (now (w .entry)) (λ g. now (w .exit) ≡ words.started g (now (w .entry))) ⌝ }
 {
-    start_rewrites(w);
-    start_kinds(w);
-    start_slots(w);
-    start_totals(w);
+    let n = fields::region_count(w);
+    set_no_rewrites(w);
+    start_kinds(w, n);
+    start_slots(w, n);
+    start_totals(w, n);
     start_returned(w);
 }

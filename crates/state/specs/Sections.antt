@@ -1,6 +1,6 @@
 -- The sections of the lent words, by number: a word read in one, a word stored in one.
 use mathlib.Core.List.{List, [], _∷_}
-use Prim.Native.Nat.{ℕ, suc, _+_}
+use Prim.Native.Nat.{ℕ, zero, suc, _+_}
 use lib.ListN.{getD, set, take, drop}
 use lib.Dec.{ltb}
 use Rattle.meaning.specs.Lists.{pick, total}
@@ -8,7 +8,7 @@ use Rattle.store.specs.Layout.{index-end}
 
 -- How many words each has, from the front on: the record and its index, then the tables of nesting.
 abbrev pub sizes : List ℕ
-sizes = index-end ∷ 16 ∷ 32 ∷ 32 ∷ 33 ∷ 33 ∷ 32 ∷ 32 ∷ 256 ∷ 80 ∷ 640 ∷ 5120 ∷ 4644 ∷ 3912 ∷ 7679 ∷ []
+sizes = index-end ∷ 16 ∷ 32 ∷ 32 ∷ 33 ∷ 33 ∷ 32 ∷ 32 ∷ 256 ∷ 80 ∷ 641 ∷ 5120 ∷ 4644 ∷ 3912 ∷ 7679 ∷ []
 
 pub data Section : Type 0 where
   front head kinds backedges set-starts set-lengths children bodies : Section
@@ -70,6 +70,10 @@ returned-at = 8
 abbrev pub types-at : ℕ
 types-at = 9
 
+-- In the rewrites, behind their entries: how many of them are set.
+abbrev pub entries-at : ℕ
+entries-at = 640
+
 -- Cells that there is room for; cell 0 is none.
 abbrev pub most-cells : ℕ
 most-cells = 652
@@ -104,3 +108,8 @@ stored-all-at o n l i (x ∷ xs) = stored-all-at o n (stored-at o n l i x) (suc 
 
 abbrev pub stored-all : List ℕ → Section → ℕ → List ℕ → List ℕ
 stored-all l k i xs = stored-all-at (start k) (size k) l i xs
+
+-- In section k, from turn i on, n words, each at its place.
+unfoldable pub filled : Section → (ℕ → ℕ) → (ℕ → ℕ) → ℕ → ℕ → List ℕ → List ℕ
+filled k place x zero i l = l
+filled k place x (suc n) i l = filled k place x n (suc i) (stored l k (place i) (x i))

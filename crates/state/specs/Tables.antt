@@ -2,15 +2,17 @@
 use mathlib.Core.Path.{_≡_}
 use mathlib.Core.List.{List, [], _∷_}
 use Prim.Native.Nat.{ℕ, zero, suc, _+_, _*_, _-_, _≤_, _<_, min}
+use lib.ListN.{getD}
 use lib.Dec.{ltb, eqb}
 use Rattle.state.specs.declared.defined.Defined.{Defined}
 use Rattle.state.specs.declared.defined.Defined.the-variants.{Number, Full}
 use Rattle.state.specs.declared.cells.Cell.{Cell}
 use Rattle.state.specs.declared.cases.Case.{Case}
-use Rattle.state.specs.Sections.{word, stored, stored-all, head, cells, rewrites, bundles, set-starts, set-lengths, cases, levels}
-use Rattle.state.specs.Sections.{outputs, conditions, most-cells, attempts-at, cases-at, cells-at, merges-at, outputs-at}
+use Rattle.state.specs.Sections.{section, word, stored, stored-all, filled, head, cells, rewrites, bundles, set-starts, set-lengths}
+use Rattle.state.specs.Sections.{cases, levels, outputs, conditions, most-cells, attempts-at, cases-at, cells-at, entries-at}
+use Rattle.state.specs.Sections.{merges-at, outputs-at}
 use Rattle.meaning.specs.Lists.{pick}
-use Rattle.nesting.specs.Nesting.{most-merges, most-outputs}
+use Rattle.nesting.specs.Nesting.{most-regions, most-merges, most-outputs}
 
 -- A handle, or 0 where it names no earlier cell; a condition, or true where it names no earlier one.
 unfoldable pub earlier : ℕ → ℕ → ℕ
@@ -42,9 +44,27 @@ pub data Adds (l l′ : List ℕ) (x : Cell) (h : ℕ) : Type 0 where
 abbrev pub case-words : Case → List ℕ
 case-words x = x .kind ∷ x .origin ∷ x .body ∷ x .children ∷ x .start ∷ x .length ∷ []
 
+-- The kind of a region's entry, by the words of the rewrites. What is not set is none, whatever stands there.
+unfoldable pub entry-kind : List ℕ → ℕ → ℕ
+entry-kind l r = pick (ltb r (getD l entries-at 0)) (getD l (5 * r) 0) 0
+
+abbrev pub rewrite-kind : List ℕ → ℕ → ℕ
+rewrite-kind l r = entry-kind (section l rewrites) r
+
+abbrev pub entries : List ℕ → ℕ
+entries l = word l rewrites entries-at
+
+-- Entries are set up to region r's, which is to come: those between are none.
+unfoldable pub reached : List ℕ → ℕ → List ℕ
+reached l r =
+    pick (ltb r (entries l)) l
+    (stored (filled rewrites (λ q. 5 * q) (λ q. 0) (r - entries l) (entries l) l) rewrites entries-at (r + 1))
+
 -- The first entry of a region wins.
 unfoldable pub inserted : List ℕ → ℕ → ℕ → List ℕ → List ℕ
-inserted l r kind vs = pick (eqb (word l rewrites (5 * r)) 0) (stored-all (stored l rewrites (5 * r) kind) rewrites (5 * r + 1) vs) l
+inserted l r kind vs =
+    pick (ltb r most-regions)
+    (pick (eqb (rewrite-kind l r) 0) (stored-all (stored (reached l r) rewrites (5 * r) kind) rewrites (5 * r + 1) vs) l) l
 
 -- ---- Bundles: a slot for each of 32 regions and a spare one, with room for 32 targets and Return; then a bundle for each case's own edge.
 abbrev pub slot-count : ℕ

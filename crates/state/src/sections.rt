@@ -39,10 +39,10 @@ pub const CASES: usize = LEVELS + LEVELS_WORDS;
 
 pub const CASES_WORDS: usize = 80;
 
-// A kind and four values for each region.
+// A kind and four values for each region; behind them, how many of these entries are set.
 pub const REWRITES: usize = CASES + CASES_WORDS;
 
-pub const REWRITES_WORDS: usize = 640;
+pub const REWRITES_WORDS: usize = 641;
 
 // Node, type and eight values for each output.
 pub const OUTPUTS: usize = REWRITES + REWRITES_WORDS;

@@ -19,7 +19,7 @@ use Rattle.shown.specs.laws.Elsewhere.{same-words}
 use Rattle.shown.specs.laws.Rewrites.{insert-changes, rewrites-inserted}
 use Rattle.shown.specs.Sets.{Names, ShowsSet}
 use Rattle.shown.specs.Cells.{ShowsChildren}
-use Rattle.shown.specs.States.{Slots, ShowsState, ShowsBody, ShowsCase, shows-ok, shows-nothing, shows-edge, shows-others}
+use Rattle.shown.specs.States.{Slots, ShowsState, ShowsBody, ShowsCase, shows-ok, shows-nothing, shows-edge, shows-others, HasSlot}
 use Rattle.shown.specs.Kept.{Later, KeptRegion}
 use Rattle.shown.specs.laws.RegionsKept.{later-same, later-then, kept-same, kept-then, set-stays}
 use Rattle.shown.specs.laws.RegionSteps.{later-by, kept-by, states-by, state-next, state-stays, Concerns, concerns-then, concerns-states}
@@ -45,7 +45,8 @@ pub data ShowsAlone (g : Graph) (w : List ℕ) (r j : ℕ) (x : Case) : MaybeCla
       → ShowsAlone g w r j x (err d)
 
 -- Of a case that is shown, the parts are its row.
-pub row-alone : {g : Graph} {w : List ℕ} {r j : ℕ} {m : MaybeClaimedRegion} → Slots w → r < 33 → CaseAndSet g w r j m
+pub row-alone : {g : Graph} {w : List ℕ} {r j : ℕ} {m : MaybeClaimedRegion} → Slots (length (g .regions)) w
+    → HasSlot (length (g .regions)) r → CaseAndSet g w r j m
     → ((c : ClaimedRegion) → m ≡ ok c → (word w kinds (c .origin) ≡ 3) × (c .origin ≡ r → ⊥)) → ShowsAlone g w r j (case-row w j) m
 row-alone {g} {w} {r} {j} slots below x claimed = go (x .case) (x .set) claimed
   where
@@ -87,7 +88,8 @@ pub record AppendShown (g : Graph) (w w′ : List ℕ) (s : NestState) (parent :
   pub state : ShowsState g w′ next
   pub body : ShowsBody g w′ r result
   pub later : Later g w w′
-  pub kept : (q : ℕ) → q < 33 → (q ≡ r → ⊥) → ((c : ClaimedRegion) → m ≡ ok c → q ≡ c .origin → ⊥) → KeptRegion w w′ q
+  pub kept : (q : ℕ) → HasSlot (length (g .regions)) q → (q ≡ r → ⊥) → ((c : ClaimedRegion) → m ≡ ok c → q ≡ c .origin → ⊥)
+      → KeptRegion w w′ q
   pub cells-to : word w′ head 4 ≤ suc (word w head 4)
 
 pub inputs-at : (w : List ℕ) (j k : ℕ) → k < 4 → getD (case-inputs w j) k 0 ≡ word w cases (10 * j + (6 + k))
@@ -158,7 +160,7 @@ record SlotTaken (g : Graph) (w w′ : List ℕ) (s : NestState) (r o : ℕ) (x 
   state : ShowsState g w′ s
   body : ShowsBody g w′ r x
   later : Later g w w′
-  kept : (q : ℕ) → q < 33 → (q ≡ r → ⊥) → (q ≡ o → ⊥) → KeptRegion w w′ q
+  kept : (q : ℕ) → HasSlot (length (g .regions)) q → (q ≡ r → ⊥) → (q ≡ o → ⊥) → KeptRegion w w′ q
   cells-to : word w′ head 4 ≤ suc (word w head 4)
 
 slot-taken : {g : Graph} → length (g .regions) ≤ 32 → {r o : ℕ} → r < length (g .regions) → o < length (g .regions)
@@ -182,7 +184,7 @@ slot-taken {g} few {r} {o} here there {w} {w₂} {s} {h} {ks} x {n} {d} set =
     let later₄ = only-later only₄ g in
     let kind-r : word w₃ kinds r ≡ 2 → ⊥ = λ e. x .unready (sym (c₃ .same-kinds r) ∙ e) in
     let kind-o : word w₃ kinds o ≡ 3 = c₃ .same-kinds o ∙ x .origin-claimed in
-    let state₄ = only-state only₄ (swapped-slots w₃ room₃ r o r-33 o-33 (state₃ .slots))
+    let state₄ = only-state only₄ (swapped-slots w₃ room₃ r o r-33 o-33 (omega arith) (omega arith) (state₃ .slots))
     (λ q k e. swapped-kept w₃ room₃ r o r-33 o-33 q (λ f. kind-r (ap (λ b. word w₃ kinds b) (sym f) ∙ e))
     (λ f. let z : word w₃ kinds o ≡ 2 = ap (λ b. word w₃ kinds b) (sym f) ∙ e in omega (arith, kind-o, z))) state₃ in
     let room₄ = state₄ .tables .size in

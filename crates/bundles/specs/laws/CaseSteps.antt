@@ -10,7 +10,7 @@ use Rattle.nesting.specs.Nesting.{DeferredEdgeBundleSet, ClaimedRegion, MaybeCl
 use Rattle.state.specs.Sections.{used, word, stored-all, head, set-starts, set-lengths, levels, cases}
 use Rattle.state.specs.Tables.{own-edge, taken-word, case-words}
 use Rattle.shown.specs.Sets.{Names, ShowsSet, SameBundle}
-use Rattle.shown.specs.States.{Slots, ShowsClaimed, ShowsCase, shows-ok, shows-nothing, shows-edge, shows-others}
+use Rattle.shown.specs.States.{Slots, ShowsClaimed, ShowsCase, shows-ok, shows-nothing, shows-edge, shows-others, HasSlot}
 use Rattle.shown.specs.Kept.{KeptRegion}
 use Rattle.shown.specs.laws.RegionsKept.{set-stays, same-bundle-then}
 use Rattle.shown.specs.laws.SetStores.{OnlySets, only-run, only-then, only-later, only-kept, only-word-same}
@@ -67,10 +67,10 @@ one-edge g w r j h =
     }
 
 -- The bundles of slots lie before those of own edges.
-pub in-slots : {w : List ℕ} → Slots w → (q i : ℕ) → q < 33 → i < 33 → word w set-starts q + i < 1089
+pub in-slots : {n : ℕ} {w : List ℕ} → Slots n w → (q i : ℕ) → HasSlot n q → i < 33 → word w set-starts q + i < 1089
 in-slots slots q i h j = let a = slots .starts q h in let b = slots .below q h in omega arith
 
-pub one-kept : {w w′ : List ℕ} {j : ℕ} → OneCase w w′ j → Slots w → (q : ℕ) → q < 33 → KeptRegion w w′ q
+pub one-kept : {n : ℕ} {w w′ : List ℕ} {j : ℕ} → OneCase w w′ j → Slots n w → (q : ℕ) → HasSlot n q → KeptRegion w w′ q
 one-kept one slots q h =
     only-kept (one .only) q (one .starts q) (one .lengths q) (λ i k. one .beside _ (let z = in-slots slots q i h k in omega arith))
 
@@ -83,39 +83,39 @@ pub data Owner (w : List ℕ) (r j a : ℕ) : Type 0 where
   of-claimed : word w cases (10 * j + 0) ≡ 2 → word w cases (10 * j + 1) ≡ a → Owner w r j a
   of-others : word w cases (10 * j + 0) ≡ 3 → r ≡ a → Owner w r j a
 
-pub data CasePlaced (w : List ℕ) (r j : ℕ) : Type 0 where
-  in-slot : (o : ℕ) → o < 32 → Owner w r j o → word w cases (10 * j + 4) ≡ word w set-starts o → CasePlaced w r j
-  in-own : word w cases (10 * j + 4) ≡ 1089 + j → word w cases (10 * j + 5) ≡ 1 → CasePlaced w r j
-  nowhere : word w cases (10 * j + 5) ≡ 0 → CasePlaced w r j
+pub data CasePlaced (n : ℕ) (w : List ℕ) (r j : ℕ) : Type 0 where
+  in-slot : (o : ℕ) → o < n → o < 32 → Owner w r j o → word w cases (10 * j + 4) ≡ word w set-starts o → CasePlaced n w r j
+  in-own : word w cases (10 * j + 4) ≡ 1089 + j → word w cases (10 * j + 5) ≡ 1 → CasePlaced n w r j
+  nowhere : word w cases (10 * j + 5) ≡ 0 → CasePlaced n w r j
 
 pub case-placed : {g : Graph} {w : List ℕ} {r j : ℕ} {c : MaybeClaimedRegion} → length (g .regions) ≤ 32 → r < length (g .regions)
-    → ShowsCase g w r j c → CasePlaced w r j
-case-placed few here (shows-ok {c} a b in-graph d e f h k l) = in-slot (c .origin) (omega arith) (of-claimed a b) h
+    → ShowsCase g w r j c → CasePlaced (length (g .regions)) w r j
+case-placed few here (shows-ok {c} a b in-graph d e f h k l) = in-slot (c .origin) in-graph (omega arith) (of-claimed a b) h
 case-placed few here (shows-nothing a b) = nowhere b
 case-placed few here (shows-edge a b d) = in-own b d
-case-placed {r} few here (shows-others a b) = in-slot r (omega arith) (of-others a refl) b
+case-placed {r} few here (shows-others a b) = in-slot r here (omega arith) (of-others a refl) b
 
-pub placed-apart : {w : List ℕ} → Slots w → {r i j : ℕ} → i < 8 → j < 8 → (i ≡ j → ⊥)
-    → ((a b : ℕ) → Owner w r i a → Owner w r j b → a ≡ b → ⊥) → CasePlaced w r i → CasePlaced w r j
+pub placed-apart : {m : ℕ} {w : List ℕ} → Slots m w → {r i j : ℕ} → i < 8 → j < 8 → (i ≡ j → ⊥)
+    → ((a b : ℕ) → Owner w r i a → Owner w r j b → a ≡ b → ⊥) → CasePlaced m w r i → CasePlaced m w r j
     → word w cases (10 * i + 5) ≤ 33 → word w cases (10 * j + 5) ≤ 33 → (p q : ℕ) → p < word w cases (10 * i + 5)
     → q < word w cases (10 * j + 5) → word w cases (10 * i + 4) + p ≡ word w cases (10 * j + 4) + q → ⊥
-placed-apart slots i8 j8 d owners (in-slot a h o e) (in-slot b k u f) m n p q x y z =
+placed-apart slots i8 j8 d owners (in-slot a l h o e) (in-slot b v k u f) m n p q x y z =
     let s = slots .starts a (omega arith) in
     let t = slots .starts b (omega arith) in
     let same : slots .slot-number a ≡ slots .slot-number b = omega arith in
     owners a b o u (slots .own a b (omega arith) (omega arith) same)
-placed-apart slots i8 j8 d owners (in-slot a h o e) (in-own f k) m n p q x y z =
+placed-apart slots i8 j8 d owners (in-slot a l h o e) (in-own f k) m n p q x y z =
     let s = in-slots slots a p (omega arith) (omega arith) in omega arith
-placed-apart slots i8 j8 d owners (in-slot a h o e) (nowhere f) m n p q x y z = omega arith
-placed-apart slots i8 j8 d owners (in-own e h) (in-slot b k u f) m n p q x y z =
+placed-apart slots i8 j8 d owners (in-slot a l h o e) (nowhere f) m n p q x y z = omega arith
+placed-apart slots i8 j8 d owners (in-own e h) (in-slot b v k u f) m n p q x y z =
     let s = in-slots slots b q (omega arith) (omega arith) in omega arith
 placed-apart slots i8 j8 d owners (in-own e h) (in-own f k) m n p q x y z = d (omega arith)
 placed-apart slots i8 j8 d owners (in-own e h) (nowhere f) m n p q x y z = omega arith
 placed-apart slots i8 j8 d owners (nowhere e) y m n p q x u z = omega arith
 
-pub placed-not-spare : {w : List ℕ} → Slots w → {r j : ℕ} → CasePlaced w r j → word w cases (10 * j + 5) ≤ 33 → (p q : ℕ)
+pub placed-not-spare : {m : ℕ} {w : List ℕ} → Slots m w → {r j : ℕ} → CasePlaced m w r j → word w cases (10 * j + 5) ≤ 33 → (p q : ℕ)
     → p < word w cases (10 * j + 5) → q < 33 → word w cases (10 * j + 4) + p ≡ word w set-starts 32 + q → ⊥
-placed-not-spare slots (in-slot a h o e) n p q x y z =
+placed-not-spare slots (in-slot a l h o e) n p q x y z =
     let s = slots .starts a (omega arith) in
     let t = slots .starts 32 (omega arith) in
     let same : slots .slot-number a ≡ slots .slot-number 32 = omega arith in
@@ -146,8 +146,8 @@ module _ {g : Graph} {w w′ : List ℕ} {j : ℕ} (one : OneCase w w′ j) {r q
   case-stays (shows-others a b) =
       shows-others (other-row one q d 0 (omega arith) ∙ a) (other-row one q d 4 (omega arith) ∙ b ∙ sym (one .starts r))
 
-  pub shown-stays : Slots w → length (g .regions) ≤ 32 → r < length (g .regions) → {c : MaybeClaimedRegion} → CaseAndSet g w r q c
-      → CaseAndSet g w′ r q c
+  pub shown-stays : Slots (length (g .regions)) w → length (g .regions) ≤ 32 → r < length (g .regions) → {c : MaybeClaimedRegion}
+      → CaseAndSet g w r q c → CaseAndSet g w′ r q c
   shown-stays slots few here {c} x =
       record {
         case = case-stays (x .case);
@@ -155,8 +155,9 @@ module _ {g : Graph} {w w′ : List ℕ} {j : ℕ} (one : OneCase w w′ j) {r q
             (set-stays (only-later (one .only) g) (λ i h. one .beside _ (apart (case-placed few here (x .case)) i h)) (x .set));
       }
     where
-      apart : CasePlaced w r q → (i : ℕ) → i < word w cases (10 * q + 5) → word w cases (10 * q + 4) + i ≡ 1089 + j → ⊥
-      apart (in-slot a h o e) i k z =
+      apart : CasePlaced (length (g .regions)) w r q → (i : ℕ) → i < word w cases (10 * q + 5)
+          → word w cases (10 * q + 4) + i ≡ 1089 + j → ⊥
+      apart (in-slot a l h o e) i k z =
           let few-bundles = x .set .few in let s = in-slots slots a i (omega arith) (omega arith) in omega arith
       apart (in-own e f) i k z = let y : q ≡ j = omega arith in d y
       apart (nowhere e) i k z = omega arith

@@ -15,7 +15,7 @@ use Rattle.state.specs.Sections.{used, word, stored, stored-all, head, kinds, s
 use Rattle.state.specs.Tables.{own-edge, taken-word, case-words, case-total}
 use Rattle.shown.specs.Sets.{Names, ShowsBundle, SameBundle}
 use Rattle.shown.specs.States.{Slots, ShowsState, ShowsClaimed, ShowsCase, shows-ok, shows-nothing, shows-edge, shows-others, ShowsCases}
-use Rattle.shown.specs.States.{no-case}
+use Rattle.shown.specs.States.{no-case, HasSlot}
 use Rattle.shown.specs.Kept.{Later, KeptRegion}
 use Rattle.shown.specs.laws.RegionsKept.{same-bundle, same-bundle-then, claimed-stays}
 use Rattle.shown.specs.laws.Stores.{head-same}
@@ -37,7 +37,8 @@ pub data Taken (g : Graph) (w : List ℕ) (r j : ℕ) : MaybeClaimedRegion → T
   was-deferred : {m : MaybeClaimedRegion} → taken-word w r j ≡ 1 → m ≡ defer-edge (edge-of g r j) → Taken g w r j m
   was-nothing : taken-word w r j ≡ 0 → Taken g w r j (err [])
 
-pub taken-stays : {g : Graph} {w w′ : List ℕ} → OnlySets w w′ → ((q : ℕ) → q < 33 → KeptRegion w w′ q) → length (g .regions) ≤ 32
+pub taken-stays : {g : Graph} {w w′ : List ℕ} → OnlySets w w′ → ((q : ℕ) → HasSlot (length (g .regions)) q → KeptRegion w w′ q)
+    → length (g .regions) ≤ 32
     → {r j : ℕ} {m : MaybeClaimedRegion} → Taken g w r j m → Taken g w′ r j m
 taken-stays {g} only kept few {r} {j} (was-claimed {c} a b d e) =
     let below = b .in-graph in
@@ -116,7 +117,7 @@ pub record Filled (g : Graph) (w w′ : List ℕ) (r : ℕ) (cs : List MaybeClai
 
 module _ {g : Graph} (valid : Valid g) {r : ℕ} (here : r < length (g .regions)) (cs : List MaybeClaimedRegion)
     (size : length cs ≡ length (edges-of (region g r .terminator))) where
-  fills : (m j : ℕ) → j + m ≡ length cs → (w : List ℕ) → used ≤ length w → Slots w
+  fills : (m j : ℕ) → j + m ≡ length cs → (w : List ℕ) → used ≤ length w → Slots (length (g .regions)) w
       → ((q : ℕ) → q < length cs → Taken g w r q (getD cs q no-case)) → ((q : ℕ) → q < j → CaseAndSet g w r q (getD cs q no-case))
       → ((q : ℕ) → q < j → word w cases (10 * q + 0) ≤ 2) → Filled g w (filled-from g w r m j) r cs
   unfolding filled-from
@@ -176,7 +177,7 @@ pub record FilledCases (g : Graph) (w w′ : List ℕ) (s : NestState) (r : ℕ)
   pub cases-shown : ShowsCases g w′ r cs
   pub state : ShowsState g w′ s
   pub later : Later g w w′
-  pub kept : (q : ℕ) → q < 33 → KeptRegion w w′ q
+  pub kept : (q : ℕ) → HasSlot (length (g .regions)) q → KeptRegion w w′ q
 
 pub cases-filled-shown : {g : Graph} → Valid g → {r : ℕ} → r < length (g .regions) → (cs : List MaybeClaimedRegion)
     → length cs ≡ length (edges-of (region g r .terminator)) → {w : List ℕ} {s : NestState} → ShowsState g w s
@@ -192,7 +193,7 @@ cases-filled-shown {g} valid {r} here cs size {w} {s} state taken origins =
     let w₁ = stored w head 7 n in
     let first = only-total w n in
     let counted = first .words in
-    let kept-first : (q : ℕ) → q < 33 → KeptRegion w w₁ q =
+    let kept-first : (q : ℕ) → HasSlot (length (g .regions)) q → KeptRegion w w₁ q =
     λ q h. only-kept first q (word-other w head 7 n set-starts (omega arith) q) (word-other w head 7 n set-lengths (omega arith) q)
     (λ i k. same-elsewhere w head (omega arith) 7 n _) in
     let slots₁ = slots-stay (λ a h. word-other w head 7 n set-starts (omega arith) a) (state .slots) in
@@ -202,7 +203,7 @@ cases-filled-shown {g} valid {r} here cs size {w} {s} state taken origins =
     let starts : (q : ℕ) → word (cases-filled g w r) set-starts q ≡ word w set-starts q =
     λ q. x .starts q ∙ word-other w head 7 n set-starts (omega arith) q in
     let slots = slots-stay (λ a h. starts a) (state .slots) in
-    let kept : (q : ℕ) → q < 33 → KeptRegion w (cases-filled g w r) q =
+    let kept : (q : ℕ) → HasSlot (length (g .regions)) q → KeptRegion w (cases-filled g w r) q =
     λ q h. only-kept only q (starts q) (x .lengths q ∙ word-other w head 7 n set-lengths (omega arith) q)
     (λ i k. same-bundle-then (same-elsewhere w head (omega arith) 7 n _) (x .low _ (in-slots (state .slots) q i h k))) in
     record {

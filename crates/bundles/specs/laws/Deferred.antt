@@ -15,10 +15,11 @@ use Rattle.state.specs.Sections.{Section, number, used, word, stored-all, kinds
 use Rattle.state.specs.Tables.{bundle-at}
 use Rattle.shown.specs.Tables.{ShowsCondition, shows-true}
 use Rattle.shown.specs.Sets.{Names, shows-region, shows-return, ShowsBundle, SameBundle}
-use Rattle.shown.specs.States.{ShowsOwnSet, Slots, ShowsState}
+use Rattle.shown.specs.States.{ShowsOwnSet, Slots, ShowsState, HasSlot}
 use Rattle.shown.specs.Kept.{KeptRegion}
 use Rattle.shown.specs.laws.RegionsKept.{bundle-stays, same-bundle-then}
-use Rattle.shown.specs.laws.RegionSteps.{word-there, word-apart, slots-stay}
+use Rattle.shown.specs.laws.Stores.{word-there, word-apart}
+use Rattle.shown.specs.laws.RegionSteps.{slots-stay}
 use Rattle.shown.specs.laws.SetStores.{OnlySets, only-run, only-word, only-then, only-later, only-state, bundles-of-sets, lengths-of-sets}
 use Rattle.shown.specs.laws.SetStores.{word-other, run-elsewhere-word, bundle-beside, same-elsewhere}
 use Rattle.shown.specs.laws.SetSteps.{bundle-made, set-of-one, kept-beside}
@@ -83,7 +84,7 @@ module _ (g : Graph) (w : List ℕ) (r : ℕ) where
   abbrev return-stored : List ℕ
   return-stored = stored-all w bundles (7 * bundle-at start-of 0) return-words
 
-  module _ (room : used ≤ length w) (below : r < 33) (slots : Slots w) where
+  module _ (room : used ≤ length w) (below : HasSlot (length (g .regions)) r) (slots : Slots (length (g .regions)) w) where
     start-in : bundle-at start-of 0 ≡ start-of
     start-in =
         let at = slots .starts r below in
@@ -101,7 +102,7 @@ module _ (g : Graph) (w : List ℕ) (r : ℕ) where
         word-other return-stored set-lengths r 1 set-starts (omega arith) q
         ∙ run-elsewhere-word w bundles _ return-words set-starts (omega arith) q
 
-    pub return-deferred-kept : (q : ℕ) → q < 33 → (q ≡ r → ⊥) → KeptRegion w (return-deferred g w r) q
+    pub return-deferred-kept : (q : ℕ) → HasSlot (length (g .regions)) q → (q ≡ r → ⊥) → KeptRegion w (return-deferred g w r) q
     unfolding return-deferred
     return-deferred-kept q h d =
         let at = start-in in
@@ -133,7 +134,7 @@ module _ (g : Graph) (w : List ℕ) (r : ℕ) where
         rw (at, values)
         (bundle-made w start-of (padded vs) room (omega arith) refl (shows-return refl) (true-shown w)
         (passed-length g r (return-types g) vs (x .1)) (x .0) (λ k b. names k (omega arith))) in
-        rw (return-deferred-starts r, word-there return-stored set-lengths r 1 (omega arith) below)
+        rw (return-deferred-starts r, word-there return-stored set-lengths r 1 (omega arith) (below .below))
         (set-of-one (omega arith)
         (bundle-stays (only-later (only-word return-stored lengths-of-sets r 1) g)
         (same-elsewhere return-stored set-lengths (omega arith) r 1 start-of) made))

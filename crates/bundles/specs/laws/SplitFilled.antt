@@ -15,7 +15,7 @@ use Rattle.state.specs.Tables.{bundle-at, input-word, case-words, shift-removed
 use Rattle.shown.specs.Values.{value}
 use Rattle.shown.specs.Sets.{Names, ShowsTarget, shows-region, shows-return, ShowsBundle, ShowsSet, no-bundle}
 use Rattle.shown.specs.States.{ShowsOwnSet, Slots, ShowsState, ShowsClaimed, ShowsCase, shows-ok, shows-nothing, shows-edge, shows-others}
-use Rattle.shown.specs.States.{ShowsCases, no-case}
+use Rattle.shown.specs.States.{ShowsCases, no-case, HasSlot}
 use Rattle.shown.specs.Kept.{Later, KeptRegion}
 use Rattle.shown.specs.laws.RegionsKept.{kept-then, set-stays, same-bundle-then, claimed-stays}
 use Rattle.shown.specs.laws.Stores.{head-same}
@@ -82,7 +82,8 @@ owner-err (shows-edge a b d) (of-others x y) = sym y
 owner-err (shows-others a b) (of-claimed x y) = absurd (omega arith)
 owner-err (shows-others a b) (of-others x y) = sym y
 
-two-cases : {g : Graph} → length (g .regions) ≤ 32 → {r : ℕ} → r < length (g .regions) → {w : List ℕ} → Slots w → word w head 7 ≡ 2
+two-cases : {g : Graph} → length (g .regions) ≤ 32 → {r : ℕ} → r < length (g .regions) → {w : List ℕ}
+    → Slots (length (g .regions)) w → word w head 7 ≡ 2
     → {c : ClaimedRegion} {d : DeferredEdgeBundleSet} → (c .origin ≡ r → ⊥) → CaseAndSet g w r 0 (ok c) → CaseAndSet g w r 1 (err d)
     → ShowsCases g w r (ok c ∷ err d ∷ [])
 two-cases {g} few {r} here {w} slots total {c} {d} other x y =
@@ -117,7 +118,7 @@ pub record SplitShown (g : Graph) (w w′ : List ℕ) (s : NestState) (r : ℕ) 
   pub state : ShowsState g w′ s
   pub only : OnlySets w w′
   pub later : Later g w w′
-  pub kept : (q : ℕ) → q < 33 → (q ≡ r → ⊥) → KeptRegion w w′ q
+  pub kept : (q : ℕ) → HasSlot (length (g .regions)) q → (q ≡ r → ⊥) → KeptRegion w w′ q
 
 -- ---- The two cases, over words of which bundle i is shifted out.
 module _ {g : Graph} (few : length (g .regions) ≤ 32) {r : ℕ} (here : r < length (g .regions)) {w : List ℕ} {s : NestState}
@@ -128,7 +129,7 @@ module _ {g : Graph} (few : length (g .regions) ≤ 32) {r : ℕ} (here : r < le
   pub split-filled-shown : SplitShown g w (split-filled g w r i) s r (ok c ∷ err (take i d ++ drop (suc i) d) ∷ [])
   unfolding split-filled
   split-filled-shown =
-      let in-33 : (q : ℕ) → q < length (g .regions) → q < 33 = λ q h. omega arith in
+      let slot : (q : ℕ) → q < length (g .regions) → HasSlot (length (g .regions)) q = λ q h. omega arith in
       let room = state .tables .size in
       let slots = state .slots in
       let size = shown .size in
@@ -152,7 +153,7 @@ module _ {g : Graph} (few : length (g .regions) ≤ 32) {r : ℕ} (here : r < le
       λ q. word-other rest head 7 2 set-starts (omega arith) q ∙ x .starts q in
       let lengths₂ : (q : ℕ) → (q ≡ r → ⊥) → word w₂ set-lengths q ≡ word w set-lengths q =
       λ q e. word-other rest head 7 2 set-lengths (omega arith) q ∙ x .lengths q e in
-      let kept₂ : (q : ℕ) → q < 33 → (q ≡ r → ⊥) → KeptRegion w w₂ q =
+      let kept₂ : (q : ℕ) → HasSlot (length (g .regions)) q → (q ≡ r → ⊥) → KeptRegion w w₂ q =
       λ q h e. kept-beside only₂ slots (omega arith) h e (starts₂ q) (lengths₂ q e)
       (λ b f. same-bundle-then (x .beside b f) (same-elsewhere rest head (omega arith) 7 2 b)) in
       let slots₂ = slots-stay (λ a h. starts₂ a) slots in
@@ -192,12 +193,12 @@ module _ {g : Graph} (few : length (g .regions) ≤ 32) {r : ℕ} (here : r < le
       let first₄ = shown-stays one₄ clash slots₃ few here first in
       let only = only-then only₂ (only-then (one₃ .only) (one₄ .only)) in
       let slots₄ = slots-stay (λ a h. one₄ .starts a) slots₃ in
-      let kept : (q : ℕ) → q < 33 → (q ≡ r → ⊥) → KeptRegion w w₄ q =
+      let kept : (q : ℕ) → HasSlot (length (g .regions)) q → (q ≡ r → ⊥) → KeptRegion w w₄ q =
       λ q h e. kept-then (kept₂ q h e) (kept-then (one-kept one₃ slots₂ q h) (one-kept one₄ slots₃ q h)) in
       let total : word w₄ head 7 ≡ 2 = one₄ .total ∙ one₃ .total ∙ total₂ in
       record {
         cases-shown = two-cases few here slots₄ total other first₄ second;
-        state = only-state only slots₄ (λ q h e. kept q (in-33 q h) (λ f. unready (ap (λ b. word w kinds b) (sym f) ∙ e))) state;
+        state = only-state only slots₄ (λ q h e. kept q (slot q h) (λ f. unready (ap (λ b. word w kinds b) (sym f) ∙ e))) state;
         only = only;
         later = only-later only g;
         kept = kept;

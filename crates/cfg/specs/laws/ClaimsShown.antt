@@ -6,7 +6,6 @@ use mathlib.Core.Logic.{inl, inr}
 use mathlib.Core.Option.{Option, none, some}
 use Prim.Native.Nat.{ℕ, zero, suc, _+_, _*_, _≤_, _<_}
 use native.Mathlib.Omega.{arith}
-use native.Mathlib.Decide.{decLt}
 use lib.ListN.{length, getD, take, drop, drop-of-length-le}
 use lib.Seq.{drop-cons}
 use lib.Dec.{eqb}
@@ -37,17 +36,16 @@ use Rattle.follows.specs.counting.Counting.{Nine, Counted, counted-as, pre-afte
 use Rattle.follows.specs.counting.CountClaim.{edges-self}
 use Rattle.follows.specs.counting.CountScan.{aims, AllLive}
 use Rattle.follows.specs.counting.CountRegion.{Begun, targets-live, claim-counted, structurize-counted}
-use Rattle.state.specs.Sections.{word, stored, kinds, levels, children, set-lengths, head, rewrites, start, size}
+use Rattle.state.specs.Sections.{word, stored, kinds, levels, children, set-lengths, head, rewrites}
 use Rattle.state.specs.Tables.{attempted, taken-word, taken-stored}
 use Rattle.shown.specs.laws.CellSteps.{has-list}
-use Rattle.state.specs.laws.Stored.{read-beyond}
 use Rattle.shown.specs.laws.Steps.{attempt-counted}
-use Rattle.shown.specs.laws.Stores.{ChangesOnly, head-changes}
+use Rattle.shown.specs.laws.Stores.{ChangesOnly, head-changes, word-there}
 use Rattle.shown.specs.Sets.{ShowsTarget, shows-region, shows-return, no-bundle, target-size}
 use Rattle.shown.specs.States.{ShowsState, ShowsBody, ShowsRegion, is-not-begun, is-in-progress, is-ready, is-claimed, ShowsClaimed}
 use Rattle.shown.specs.States.{ShowsOwnSet, no-case}
 use Rattle.shown.specs.laws.RegionsKept.{body-stays, claimed-stays, own-set-stays}
-use Rattle.shown.specs.laws.RegionSteps.{state-stays, concerns-states, state-next, states-by, later-by, kept-by, word-there}
+use Rattle.shown.specs.laws.RegionSteps.{state-stays, concerns-states, state-next, states-by, later-by, kept-by, named-by}
 use Rattle.state.specs.declared.defined.Made.{Made}
 use Rattle.cfg.specs.declared.claim.Claim as code
 use Rattle.cfg.specs.declared.claim.Claim.the-variants.{Refused}
@@ -83,30 +81,18 @@ use Rattle.cfg.specs.laws.RegionsShown.{CanBegin, can-targets, inv-targe
 use Rattle.cfg.specs.laws.RegionsShown.{begun-cells, beside-kind}
 use Rattle.cfg.specs.laws.RegionsShown.{region-unharmed, ready-shown, ready-beside, ready-cells}
 
--- What is occupied is a region of the record.
-pub occupied-below : (w : List ℕ) (q : ℕ) → Occupied w q → q < 32
-occupied-below w q h = elim (decLt q 32) [
-  | yes l ↦ l
-  | no l ↦ (let z = read-beyond (start kinds) (size kinds) w q (omega arith) in absurd
-      (go h z))
-]
-  where
-    go : Occupied w q → word w kinds q ≡ 0 → ⊥
-    go (inl e) z = absurd (omega arith)
-    go (inr e) z = absurd (omega arith)
-
 -- ---- What the other files show, of a graph and of the counts that the code was given.
 pub record ShownParts (g : Graph) (valid : Valid g) : Type 0 where
   pub few : length (g .regions) ≤ 32
   pub few-targets : (r : ℕ) → length (edges-of (region g r .terminator)) ≤ 8
   pub few-incoming : (q : ℕ) → K g valid .incoming q ≤ 65534
   pub by-state : {w w′ : List ℕ} {r n : ℕ} {a : code.Claim} → ClaimsByState g w r n (getD (incoming-edge-counts g) r 0) w′ a
-      → (fuel : ℕ) (H : ℕ → ℕ) (s : NestState) (inputs : List Value) → ShowsState g w s → cells-in-all w ≤ 641
+      → (fuel : ℕ) (H : ℕ → ℕ) (s : NestState) (inputs : List Value) → ShowsState g w s → cells-in-all g w ≤ 641
       → is-in r (K g valid .live) ≡ true → length inputs ≡ length (region g r .inputs) → (word w kinds r ≡ 0 → ⊥)
       → CanClaim g valid fuel H (λ q. edges-to q (to-region r) n) 0 s
       → ClaimShows g w w′ r inputs (claim-by-state g r n inputs (getD (incoming-edge-counts g) r 0) (state-of s r) s) a
   pub by-inst : {w w′ : List ℕ} {r : ℕ} {a : Made} → ByControlInst g w r w′ a → (s : NestState) (cs : List MaybeClaimedRegion)
-      → ShowsState g w s → cells-in-all w ≤ 641 → r < length (g .regions) → word w kinds r ≡ 1
+      → ShowsState g w s → cells-in-all g w ≤ 641 → r < length (g .regions) → word w kinds r ≡ 1
       → length cs ≡ length (edges-of (region g r .terminator))
       → ((k : ℕ) → k < length (edges-of (region g r .terminator)) → TakenAs g w r k (edge-of g r k) (getD cs k no-case))
       → ((k : ℕ) (c : ClaimedRegion) → getD cs k no-case ≡ ok c → c .origin ≡ r → ⊥)
@@ -114,7 +100,7 @@ pub record ShownParts (g : Graph) (valid : Valid g) : Type 0 where
       → Inv (world g valid) s → ((q : ℕ) → totals (edges-to q) cs ≤ 65535) → totals edgeless cs ≡ 0
       → BodyShows g w w′ r cs 11 (by-control-inst g (blocks-of g r) (region g r .terminator) cs s) a
   pub by-resolve : {w w′ : List ℕ} {r i : ℕ} {a : Made} → ResolvesBy g w r i w′ a → (s : NestState) (x : Body) (y : SplitOut) (t : ℕ)
-      → ShowsState g w s → cells-in-all w ≤ 641 → r < length (g .regions) → word w kinds r ≡ 1 → ShowsBody g w r x
+      → ShowsState g w s → cells-in-all g w ≤ 641 → r < length (g .regions) → word w kinds r ≡ 1 → ShowsBody g w r x
       → i < length (x .deferred-edges) → y .bundle ≡ getD (x .deferred-edges) i no-bundle
       → y .others ≡ take i (x .deferred-edges) ++ drop (suc i) (x .deferred-edges) → y .bundle .target ≡ to-region t → (t ≡ r → ⊥)
       → ShowsClaimed g w (y .claimed-region) → y .claimed-region .origin ≡ t
@@ -191,7 +177,7 @@ module _ {g : Graph} {w : List ℕ} {s : NestState} (shown : ShowsState g w s) (
       let e = changes .others rewrites (omega arith) (omega arith) in
       state-next (later-by changes (omega arith) g) (states-by changes (omega arith) (omega arith) (omega arith) g)
       (attempt-counted (shown .tables) few refl)
-      (record { below = λ r k a b d. rw e (shown .named .below r k a b (λ z. d (ap (λ l. getD l (5 * r) 0) e ∙ z))) }) refl shown
+      (named-by e (shown .named)) refl shown
 
   pub attempt-kinds : (q : ℕ) → word (attempted w) kinds q ≡ word w kinds q
   attempt-kinds q = ap (λ l. getD l q 0) (changes .others kinds (omega arith) (omega arith))
@@ -200,16 +186,16 @@ module _ {g : Graph} {w : List ℕ} {s : NestState} (shown : ShowsState g w s) (
   attempt-unharmed =
       record {
         later = later-by changes (omega arith) g;
-        kinds-stay = λ q l h. attempt-kinds q;
+        kinds-stay = λ q h. attempt-kinds q;
         regions-stay = λ q l h. kept-by changes (omega arith) q;
       }
 
-  pub attempt-cells : cells-in-all (attempted w) ≡ cells-in-all w
-  attempt-cells = let z = owed-stays w (attempted w) (λ q h. attempt-kinds q) in let y = changes .totals 4 (omega arith) in omega arith
+  pub attempt-cells : cells-in-all g (attempted w) ≡ cells-in-all g w
+  attempt-cells = let z = owed-stays g w (attempted w) (λ q h. attempt-kinds q) in let y = changes .totals 4 (omega arith) in omega arith
 
 -- What is shown from later words on, from earlier ones on.
 claim-before : {g : Graph} {w w₁ w′ : List ℕ} {r : ℕ} {inputs : List Value} {b b′ : StepAnswer (Option ClaimedRegion)} {a : code.Claim}
-    → Unharmed g w w₁ → (Occupied w r → Occupied w₁ r) → cells-in-all w₁ ≤ cells-in-all w → b ≡ b′ → ClaimShows g w₁ w′ r inputs b′ a
+    → Unharmed g w w₁ → (Occupied w r → Occupied w₁ r) → cells-in-all g w₁ ≤ cells-in-all g w → b ≡ b′ → ClaimShows g w₁ w′ r inputs b′ a
     → ClaimShows g w w′ r inputs b a
 claim-before u on c e (shows-claimed {c = y} {s′} p st cl o i f v k) =
     shows-claimed {c = y} {s′ = s′} (e ∙ p) st cl o i (λ h. f (on h)) (unharmed-then u v) (omega arith)
@@ -365,7 +351,6 @@ taken-new w y t o free (suc (suc j)) c e h = clash (cc)
 
 -- ---- What a step of the targets leaves for the next.
 record NextStep (g : Graph) (w w₁ w₂ : List ℕ) (r j how : ℕ) (m : MaybeClaimedRegion) (s₁ : NestState) : Type 0 where
-  below : r < 32
   place : j < 8
   noted : Noted g w₁ w₂ r j how
   levels-same : (k : ℕ) → k < 8 → word w₁ levels (8 * r + k) ≡ word w levels (8 * r + k)
@@ -384,12 +369,11 @@ module _ {g : Graph} {w w₁ : List ℕ} {r j : ℕ} {s₁ : NestState} (few : l
       let below : r < 32 = omega arith in
       let place : j < 8 = omega arith in
       let noted = notes g w₁ r j 2 (st .tables .size) below place in
-      let busy₁ : word w₁ kinds r ≡ 1 = u .kinds-stay r below (inl busy) ∙ busy in
+      let busy₁ : word w₁ kinds r ≡ 1 = u .kinds-stay r (inl busy) ∙ busy in
       record {
-        below = below;
         place = place;
         noted = noted;
-        levels-same = λ k b. u .regions-stay r below (inl busy) .taken k b;
+        levels-same = λ k b. u .regions-stay r in-graph (inl busy) .taken k b;
         state = state-stays (noted .concerns .later) (concerns-states (noted .concerns) few (λ z. absurd (omega arith)))
             (noted .concerns .tables) st;
         busy = noted .concerns .same-kinds r ∙ busy₁;
@@ -400,7 +384,7 @@ module _ {g : Graph} {w w₁ : List ℕ} {r j : ℕ} {s₁ : NestState} (few : l
         first = record {
           free = λ z e hd. free (subst (λ q. Occupied w q) (ap origin-of (sym e) ∙ o) hd);
           occupied = λ z e. occupied-noted noted (z .origin) (inr (subst (λ q. word w₁ kinds q ≡ 3) (ap origin-of e) (cl .kind)));
-          on = λ q hd. occupied-noted noted q (still-occupied u q (occupied-below w q hd) hd);
+          on = λ q hd. occupied-noted noted q (still-occupied u q hd);
         };
       }
 
@@ -412,21 +396,20 @@ module _ {g : Graph} {w w₁ : List ℕ} {r j : ℕ} {s₁ : NestState} (few : l
       let place : j < 8 = omega arith in
       let e = edge-of g r j in
       let noted = notes g w₁ r j (unclaimed-word w₁ (e .target)) (st .tables .size) below place in
-      let busy₁ : word w₁ kinds r ≡ 1 = u .kinds-stay r below (inl busy) ∙ busy in
+      let busy₁ : word w₁ kinds r ≡ 1 = u .kinds-stay r (inl busy) ∙ busy in
       let st₂ = state-stays (noted .concerns .later) (concerns-states (noted .concerns) few (λ z. absurd (omega arith)))
       (noted .concerns .tables) st in
       record {
-        below = below;
         place = place;
         noted = noted;
-        levels-same = λ k b. u .regions-stay r below (inl busy) .taken k b;
+        levels-same = λ k b. u .regions-stay r in-graph (inl busy) .taken k b;
         state = st₂;
         busy = noted .concerns .same-kinds r ∙ busy₁;
         taken = unclaimed-taken r j e (noted .here ∙ sym (unclaimed-same noted (e .target))) (st₂ .regions (e .target) target);
         first = record {
           free = λ z q. absurd (unclaimed-not e (state-of s₁ (e .target)) z q);
           occupied = λ z q. absurd (unclaimed-not e (state-of s₁ (e .target)) z q);
-          on = λ q hd. occupied-noted noted q (still-occupied u q (occupied-below w q hd) hd);
+          on = λ q hd. occupied-noted noted q (still-occupied u q hd);
         };
       }
 
@@ -452,16 +435,16 @@ module _ (g : Graph) (valid : Valid g) (parts : ShownParts g valid) (counts : Li
   its-edges r = edges-of (region g r .terminator)
 
   inst-from : {w w₁ w₂ : List ℕ} {r : ℕ} {a : Made} → ByControlInst g w₁ r w₂ a → (fuel : ℕ) (H : ℕ → ℕ) (s : NestState) → ShowsState g w s
-      → cells-in-all w ≤ 641 → NotBegun w r → (can : CanBegin g valid fuel H r s) → (cs : List MaybeClaimedRegion) (s₁ : NestState)
+      → cells-in-all g w ≤ 641 → NotBegun w r → (can : CanBegin g valid fuel H r s) → (cs : List MaybeClaimedRegion) (s₁ : NestState)
       → target-regions g (defined fuel) (its-edges r) (with-state s r in-progress) ≡ done cs s₁ → ShowsState g w₁ s₁
       → length cs ≡ length (its-edges r)
       → ((k : ℕ) → k < length (its-edges r) → TakenAs g w₁ r (0 + k) (getD (its-edges r) k no-edge) (getD cs k no-case))
-      → NewlyClaimed (stored w kinds r 1) cs → Around g r (stored w kinds r 1) w₁ → cells-in-all w₁ ≤ cells-in-all (stored w kinds r 1)
+      → NewlyClaimed (stored w kinds r 1) cs → Around g r (stored w kinds r 1) w₁ → cells-in-all g w₁ ≤ cells-in-all g (stored w kinds r 1)
       → BodyShows g w₁ w₂ r cs 11 (by-control-inst g (blocks-of g r) (region g r .terminator) cs s₁) a
   inst-from {w} {w₁} {r} i fuel H s shown room new can cs s₁ p st len each newly ar k =
       let c = begun-cells shown (parts .few) r (can .in-graph) (new .kind) in
       let busy = busy-there shown r new in
-      parts .by-inst i s₁ cs st (omega arith) (can .in-graph) (ar .kinds-stay r (new .below) (inl busy) ∙ busy) len
+      parts .by-inst i s₁ cs st (omega arith) (can .in-graph) (ar .kinds-stay r (inl busy) ∙ busy) len
       (λ j h. let z : 0 + j ≡ j = omega arith in rw z at (each j h))
       (λ j y e o. newly .free j y e (inl (subst (λ q. word (stored w kinds r 1) kinds q ≡ 1) (sym o) busy))) (newly .apart)
       (inv-targets g valid fuel H r s can cs s₁ p)
@@ -474,14 +457,13 @@ module _ (g : Graph) (valid : Valid g) (parts : ShownParts g valid) (counts : Li
       → ShowsState g w₁ s₁ → i < length (x .deferred-edges) → y .bundle ≡ getD (x .deferred-edges) i no-bundle
       → y .others ≡ take i (x .deferred-edges) ++ drop (suc i) (x .deferred-edges) → y .bundle .target ≡ to-region t
       → ShowsClaimed g w₁ (y .claimed-region) → y .claimed-region .origin ≡ t
-      → y .claimed-region .structured-body-inputs ≡ y .bundle .target-inputs → (Occupied w t → ⊥) → Unharmed g w w₁ → cells-in-all w₁ ≤ 641
-      → BodyShows g w₁ w₂ r (ok (y .claimed-region) ∷ err (y .others) ∷ []) 4
+      → y .claimed-region .structured-body-inputs ≡ y .bundle .target-inputs → (Occupied w t → ⊥) → Unharmed g w w₁
+      → cells-in-all g w₁ ≤ 641 → BodyShows g w₁ w₂ r (ok (y .claimed-region) ∷ err (y .others) ∷ []) 4
       (structurize-select-into g (x .children) bool-cond (lazy (condition-in (x .deferred-edges) (y .bundle)))
       (ok (y .claimed-region) ∷ err (y .others) ∷ []) s₁) a
   select-from {w} {r} b fuel s₀ H x s body busy in-graph can y s₁ t p st l z o to cl origin many free u room =
-      let below : r < 32 = (let z = parts .few in omega arith) in
-      parts .by-resolve b s₁ x y t st room in-graph (u .kinds-stay r below (inl busy) ∙ busy)
-      (body-stays (u .later) (u .regions-stay r below (inl busy)) body) l z o to
+      parts .by-resolve b s₁ x y t st room in-graph (u .kinds-stay r (inl busy) ∙ busy)
+      (body-stays (u .later) (u .regions-stay r in-graph (inl busy)) body) l z o to
       (λ e. free (inl (subst (λ q. word w kinds q ≡ 1) (sym e) busy))) cl origin many
       (first-done g valid fuel s₀ r H x s can (some y) s₁ p .inv)
       (λ q. let v = few-in-cases g valid fuel s₀ r H x s can y s₁ p q in let c = parts .few-incoming q in omega arith)
@@ -490,19 +472,19 @@ module _ (g : Graph) (valid : Valid g) (parts : ShownParts g valid) (counts : Li
   -- What is shown of a claim, and of targets from place j on, whatever state the words show.
   abbrev ClaimFor : List ℕ → List ℕ → ℕ → ℕ → code.Claim → Type 0
   ClaimFor w w′ r n a =
-      (fuel : ℕ) (H : ℕ → ℕ) (s : NestState) (inputs : List Value) → ShowsState g w s → cells-in-all w ≤ 641
+      (fuel : ℕ) (H : ℕ → ℕ) (s : NestState) (inputs : List Value) → ShowsState g w s → cells-in-all g w ≤ 641
       → is-in r (K g valid .live) ≡ true → 1 ≤ n → length inputs ≡ length (region g r .inputs)
       → CanClaim g valid fuel H (λ q. edges-to q (to-region r) n) 1 s → ClaimShows g w w′ r inputs (defined fuel r n inputs s) a
 
   abbrev TargetsFor : List ℕ → List ℕ → ℕ → ℕ → Checked → Type 0
   TargetsFor w w′ r j a =
-      (fuel : ℕ) (H : ℕ → ℕ) (s : NestState) → ShowsState g w s → cells-in-all w ≤ 641 → r < length (g .regions) → word w kinds r ≡ 1
+      (fuel : ℕ) (H : ℕ → ℕ) (s : NestState) → ShowsState g w s → cells-in-all g w ≤ 641 → r < length (g .regions) → word w kinds r ≡ 1
       → AllLive (K g valid) (drop j (its-edges r)) → EdgesUsable g r (drop j (its-edges r))
       → CanClaim g valid fuel H (aims (K g valid) (drop j (its-edges r))) (length (drop j (its-edges r))) s
       → TargetsShow g w w′ r j (drop j (its-edges r)) (target-regions g (defined fuel) (drop j (its-edges r)) s) a
 
   first-targets : {w w₁ : List ℕ} {r : ℕ} {a : Checked} → TargetsFor (stored w kinds r 1) w₁ r 0 a → (fuel : ℕ) (H : ℕ → ℕ)
-      (s : NestState) → ShowsState g w s → cells-in-all w ≤ 641 → NotBegun w r → CanBegin g valid fuel H r s
+      (s : NestState) → ShowsState g w s → cells-in-all g w ≤ 641 → NotBegun w r → CanBegin g valid fuel H r s
       → TargetsShow g (stored w kinds r 1) w₁ r 0 (its-edges r)
       (target-regions g (defined fuel) (its-edges r) (with-state s r in-progress)) a
   first-targets {r} t fuel H s shown room new can =
@@ -514,7 +496,7 @@ module _ (g : Graph) (valid : Valid g) (parts : ShownParts g valid) (counts : Li
 
   -- The claim of the first of a region's targets.
   first-claim-shown : {w w₁ : List ℕ} (r j : ℕ) {a : code.Claim} → ClaimFor w w₁ (edge-of g r j .target) 1 a → (fuel : ℕ)
-      (H : ℕ → ℕ) (s : NestState) → ShowsState g w s → cells-in-all w ≤ 641
+      (H : ℕ → ℕ) (s : NestState) → ShowsState g w s → cells-in-all g w ≤ 641
       → AllLive (K g valid) (edge-of g r j ∷ drop (suc j) (its-edges r)) → EdgesUsable g r (edge-of g r j ∷ drop (suc j) (its-edges r))
       → CanClaim g valid fuel H (aims (K g valid) (edge-of g r j ∷ drop (suc j) (its-edges r)))
       (length (edge-of g r j ∷ drop (suc j) (its-edges r))) s
@@ -528,7 +510,7 @@ module _ (g : Graph) (valid : Valid g) (parts : ShownParts g valid) (counts : Li
 
   -- The claim of bundle i of region r's set.
   bundle-claim : {w w₁ : List ℕ} (r i : ℕ) {a : code.Claim} → ClaimFor w w₁ (own-target w r i) (own-count w r i) a → (fuel : ℕ)
-      (H : ℕ → ℕ) (s : NestState) (d : DeferredEdgeBundleSet) → ShowsState g w s → cells-in-all w ≤ 641 → ShowsOwnSet g w r d
+      (H : ℕ → ℕ) (s : NestState) (d : DeferredEdgeBundleSet) → ShowsState g w s → cells-in-all g w ≤ 641 → ShowsOwnSet g w r d
       → (l : i < length d) → CanScan g valid fuel H d i s → (there : GoesTo g (own-target w r i) (getD d i no-bundle .target))
       → ClaimShows g w w₁ (there .region) (getD d i no-bundle .target-inputs)
       (defined fuel (there .region) (getD d i no-bundle .accumulated-count) (getD d i no-bundle .target-inputs) s) a
@@ -559,7 +541,7 @@ module _ (g : Graph) (valid : Valid g) (parts : ShownParts g valid) (counts : Li
         let result = parts .by-state (subst (λ m. ClaimsByState g (attempted w) r n m w′ a) (right r in-graph) c) (suc fuel) H
         (add-attempt s)
         inputs at (let z = attempt-cells shown few in omega arith) live many d (can-later g valid fuel H r n s in-graph live pos can) in
-        claim-before (attempt-unharmed shown few) (λ x. still-occupied (attempt-unharmed shown few) r h x)
+        claim-before (attempt-unharmed shown few) (λ x. still-occupied (attempt-unharmed shown few) r x)
         (let z = attempt-cells shown few in omega arith) (begun-before g fuel r n inputs s (state-of s r) refl old) result
     claim-shown {w} {r} {n} (refused-inside b t) (suc fuel) H s inputs shown room live pos many can =
         let in-graph = live-below r live in
@@ -587,7 +569,7 @@ module _ (g : Graph) (valid : Valid g) (parts : ShownParts g valid) (counts : Li
         claim-before v (λ x. absurd (not-occupied w r z x)) (omega arith) (begun-now g fuel r n inputs s fresh p) result
 
     pub region-shown : {w w′ : List ℕ} {r : ℕ} {a : Checked} → StructurizesRegion g counts w r w′ a → (fuel : ℕ) (H : ℕ → ℕ) (s : NestState)
-        → ShowsState g w s → cells-in-all w ≤ 641 → NotBegun w r → CanBegin g valid fuel H r s
+        → ShowsState g w s → cells-in-all g w ≤ 641 → NotBegun w r → CanBegin g valid fuel H r s
         → RegionShows g w w′ (structurize-region g (defined fuel) r s) a
     region-shown (refused-at-targets {number} {x} t) fuel H s shown room new can =
         if-targets-refused (first-targets (λ f h z a b i d l u c. targets-shown t f h z a b i d l u c) fuel H s shown room new can) λ p.
@@ -610,7 +592,7 @@ module _ (g : Graph) (valid : Valid g) (parts : ShownParts g valid) (counts : Li
         if-turns (turns-from d fuel H s shown room new can cs s₁ p (around-but ar ar₂ (newly .free)) y s₂ q st₂ body (omega arith))
         λ z s₃ f st₃ body₃ ar₃ k₃.
         let all = around-then (around-but ar ar₂ (newly .free)) ar₃ in
-        let busy : word w₃ kinds r ≡ 1 = all .kinds-stay r (new .below) (inl (busy-there shown r new)) ∙ busy-there shown r new in
+        let busy : word w₃ kinds r ≡ 1 = all .kinds-stay r (inl (busy-there shown r new)) ∙ busy-there shown r new in
         let last = ready-shown st₃ (parts .few) r (can .in-graph) busy z body₃ in
         let unharmed = region-unharmed (not-occupied w r (new .kind)) (beside-kind g w r 1) all
         (ready-beside st₃ (parts .few) r (can .in-graph) busy z body₃) in
@@ -620,16 +602,16 @@ module _ (g : Graph) (valid : Valid g) (parts : ShownParts g valid) (counts : Li
         (rw (p, q, f)) last unharmed (omega arith))
 
     turns-from : {w w₂ w₃ : List ℕ} {r : ℕ} {a : Checked} → ResolvesAll g counts w₂ r w₃ a → (fuel : ℕ) (H : ℕ → ℕ) (s : NestState)
-        → ShowsState g w s → cells-in-all w ≤ 641 → NotBegun w r → (can : CanBegin g valid fuel H r s) → (cs : List MaybeClaimedRegion)
+        → ShowsState g w s → cells-in-all g w ≤ 641 → NotBegun w r → (can : CanBegin g valid fuel H r s) → (cs : List MaybeClaimedRegion)
         (s₁ : NestState) → target-regions g (defined fuel) (its-edges r) (with-state s r in-progress) ≡ done cs s₁
         → Around g r (stored w kinds r 1) w₂ → (y : Body) (s₂ : NestState)
         → by-control-inst g (blocks-of g r) (region g r .terminator) cs s₁ ≡ done y s₂ → ShowsState g w₂ s₂ → ShowsBody g w₂ r y
-        → cells-in-all w₂ ≤ cells-in-all (stored w kinds r 1) + 11
+        → cells-in-all g w₂ ≤ cells-in-all g (stored w kinds r 1) + 11
         → TurnsShow g w₂ w₃ r (resolve-deferred g (defined fuel) (length (g .regions)) y s₂) a
     turns-from {r} (resolves-all t) fuel H s shown room new can cs s₁ p both y s₂ q st body k =
         let c = begun-cells shown (parts .few) r (can .in-graph) (new .kind) in
         let busy = busy-there shown r new in
-        turns-shown t fuel s H y s₂ st (omega arith) (can .in-graph) (both .kinds-stay r (new .below) (inl busy) ∙ busy) body
+        turns-shown t fuel s H y s₂ st (omega arith) (can .in-graph) (both .kinds-stay r (inl busy) ∙ busy) body
         (can-turn g valid fuel H r s can cs s₁ p y s₂ q)
 
     pub targets-shown : {w w′ : List ℕ} {r j : ℕ} {a : Checked} → TargetRegions g counts w r j w′ a → TargetsFor w w′ r j a
@@ -654,7 +636,7 @@ module _ (g : Graph) (valid : Valid g) (parts : ShownParts g valid) (counts : Li
         (if-claimed (first-claim-shown r j (λ f h z v a b l n m x. claim-shown c f h z v a b l n m x) fuel H s shown room live′ fit′
         can′) λ y s₁ p st cl o i free u k.
         let next = claimed-next (parts .few) (parts .few-targets r) in-graph busy h st cl o i free u in
-        targets-more g valid fuel w (parts .few) busy (next .below) (next .noted) (unharmed-around r u) (next .levels-same)
+        targets-more g valid fuel w (parts .few) busy (next .noted) (unharmed-around r u) (next .levels-same)
         (edge-of g r j) (drop (suc j) (its-edges r)) s s₁ (next .place) (some y) (ok y) p refl (next .taken) (next .first) (omega arith)
         (targets-shown t fuel _ s₁ (next .state) (let z = noted-cells (next .noted .concerns) in omega arith) in-graph (next .busy)
         (live′ .1) (fit′ .1) (can-next g valid fuel r (edge-of g r j) (drop (suc j) (its-edges r)) H (ok y) (fit′ .0) (live′ .0) can′ p
@@ -670,13 +652,13 @@ module _ (g : Graph) (valid : Valid g) (parts : ShownParts g valid) (counts : Li
         let e = edge-of g r j in
         let m = unclaimed-edge e (state-of s₁ (e .target)) in
         let next = unclaimed-next (parts .few) (parts .few-targets r) in-graph busy h (fit′ .0 .target) st u in
-        targets-more g valid fuel w (parts .few) busy (next .below) (next .noted) (unharmed-around r u) (next .levels-same)
+        targets-more g valid fuel w (parts .few) busy (next .noted) (unharmed-around r u) (next .levels-same)
         e (drop (suc j) (its-edges r)) s s₁ (next .place) none m p refl (next .taken) (next .first) (omega arith)
         (targets-shown t fuel _ s₁ (next .state) (let z = noted-cells (next .noted .concerns) in omega arith) in-graph (next .busy)
         (live′ .1) (fit′ .1) (can-next g valid fuel r e (drop (suc j) (its-edges r)) H m (fit′ .0) (live′ .0) can′ p refl)))
 
     pub scan-shown : {w w′ : List ℕ} {r n i : ℕ} {a : split.SplitOut} → Scans g counts w r n i w′ a → (fuel : ℕ) (H : ℕ → ℕ) (s : NestState)
-        (d : DeferredEdgeBundleSet) → ShowsState g w s → cells-in-all w ≤ 641 → r < length (g .regions) → word w kinds r ≡ 1
+        (d : DeferredEdgeBundleSet) → ShowsState g w s → cells-in-all g w ≤ 641 → r < length (g .regions) → word w kinds r ≡ 1
         → ShowsOwnSet g w r d → n ≡ length d → CanScan g valid fuel H d i s
         → ScanShows g w w′ d (split-out-matching g (defined fuel) (take i d) (drop i d) s) a
     scan-shown {w} {w′} {i} (no-bundle-left h e) fuel H s d shown room in-graph busy own size can =
@@ -693,10 +675,9 @@ module _ (g : Graph) (valid : Valid g) (parts : ShownParts g valid) (counts : Li
         let p = there .is in
         if-unclaimed (bundle-claim r i (λ f h z v a b l n m x. claim-shown c f h z v a b l n m x) fuel H s d shown room own l can there)
         λ s₁ f st u k.
-        let below : r < 32 = (let z = parts .few in omega arith) in
-        passed-waiting g valid fuel d i l s p f (λ z hd. still-occupied u z (occupied-below w z hd) hd) u (omega arith)
-        (scan-shown t fuel H s₁ d st (omega arith) in-graph (u .kinds-stay r below (inl busy) ∙ busy)
-        (own-set-stays (u .later) (u .regions-stay r below (inl busy)) own) size
+        passed-waiting g valid fuel d i l s p f (λ z hd. still-occupied u z hd) u (omega arith)
+        (scan-shown t fuel H s₁ d st (omega arith) in-graph (u .kinds-stay r (inl busy) ∙ busy)
+        (own-set-stays (u .later) (u .regions-stay r in-graph (inl busy)) own) size
         (scan-on g valid fuel H d i l s can (there .region) p (there .in-graph) f))
     scan-shown {w} {r} {i} (claims-bundle h e c) fuel H s d shown room in-graph busy own size can =
         let l : i < length d = omega arith in
@@ -712,33 +693,32 @@ module _ (g : Graph) (valid : Valid g) (parts : ShownParts g valid) (counts : Li
 
     pub turns-shown : {w w′ : List ℕ} {r n : ℕ} {a : Checked} → Resolves g counts w r n w′ a → (fuel : ℕ) (s₀ : NestState) (H : ℕ → ℕ)
         (x : Body)
-        (s : NestState) → ShowsState g w s → cells-in-all w ≤ 641 → r < length (g .regions) → word w kinds r ≡ 1 → ShowsBody g w r x
+        (s : NestState) → ShowsState g w s → cells-in-all g w ≤ 641 → r < length (g .regions) → word w kinds r ≡ 1 → ShowsBody g w r x
         → CanTurn g valid fuel s₀ r H x s → TurnsShow g w w′ r (resolve-deferred g (defined fuel) n x s) a
     turns-shown {w} {r} (no-turn e) fuel s₀ H x s shown room in-graph busy body can =
         rw e (shows-turns refl shown body (around-same g r w) (omega arith))
     turns-shown {w} {r} (nothing-claimed {left} t) fuel s₀ H x s shown room in-graph busy body can =
-        turns-nothing g valid fuel r left x s busy (let z = parts .few in omega arith) body
+        turns-nothing g valid fuel r left x s busy in-graph body
         (split-shown t fuel s₀ H x s shown room in-graph busy body can)
     turns-shown {w} {r} (claim-refused {left} t) fuel s₀ H x s shown room in-graph busy body can =
-        turns-refuse g valid fuel r left x s busy (let z = parts .few in omega arith)
+        turns-refuse g valid fuel r left x s busy in-graph
         (split-shown t fuel s₀ H x s shown room in-graph busy body can)
     turns-shown {w} {w′} {r} (select-refused {left} {i} t b) fuel s₀ H x s shown room in-graph busy body can =
         if-split (split-shown t fuel s₀ H x s shown room in-graph busy body can) λ q y s₁ p st l z o to cl origin many free u k.
-        turns-full g valid fuel r left x s busy (let z = parts .few in omega arith) y s₁ p u k
+        turns-full g valid fuel r left x s busy in-graph y s₁ p u k
         (select-from b fuel s₀ H x s body busy in-graph can y s₁ q p st l z o to cl origin many free u (omega arith))
     turns-shown {w} {w′} {r} {a} (claims-and {left} {i} t b rest) fuel s₀ H x s shown room in-graph busy body can =
         if-split (split-shown t fuel s₀ H x s shown room in-graph busy body can) λ q y s₁ p st l z o to cl origin many free u k.
         if-body (select-from b fuel s₀ H x s body busy in-graph can y s₁ q p st l z o to cl origin many free u (omega arith))
         λ x₂ s₂ f st₂ body₂ ar k₂.
-        let below : r < 32 = (let z = parts .few in omega arith) in
         let both = around-but (unharmed-around r u) ar (taken-new w y q origin free) in
-        turns-again g valid fuel r left x s busy below y s₁ p u k x₂ s₂ f both k₂
-        (turns-shown rest fuel s₀ H x₂ s₂ st₂ (omega arith) in-graph (both .kinds-stay r below (inl busy) ∙ busy) body₂
+        turns-again g valid fuel r left x s busy in-graph y s₁ p u k x₂ s₂ f both k₂
+        (turns-shown rest fuel s₀ H x₂ s₂ st₂ (omega arith) in-graph (both .kinds-stay r (inl busy) ∙ busy) body₂
         (turn-on g valid fuel s₀ r H x s can y s₁ p x₂ s₂ f))
 
     split-shown : {w w′ : List ℕ} {r : ℕ} {a : split.SplitOut} → SplitsOut g counts w r w′ a → (fuel : ℕ) (s₀ : NestState) (H : ℕ → ℕ)
         (x : Body)
-        (s : NestState) → ShowsState g w s → cells-in-all w ≤ 641 → r < length (g .regions) → word w kinds r ≡ 1 → ShowsBody g w r x
+        (s : NestState) → ShowsState g w s → cells-in-all g w ≤ 641 → r < length (g .regions) → word w kinds r ≡ 1 → ShowsBody g w r x
         → CanTurn g valid fuel s₀ r H x s
         → ScanShows g w w′ (x .deferred-edges) (split-out-matching g (defined fuel) [] (x .deferred-edges) s) a
     split-shown {r} (splits-out t) fuel s₀ H x s shown room in-graph busy body can =

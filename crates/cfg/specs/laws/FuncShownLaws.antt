@@ -152,8 +152,9 @@ module _ (g : Graph) (valid : Valid g) where
         → ClaimShows g (started g w) w′ (g .entry) stand-ins entry-claim a
     claims t =
         let first = initial-state-shown valid stands room refl in
-        let owing = owed-at-start (started g w) (first .no-kinds) in
+        let owing = owed-at-start g (started g w) (first .no-kinds) in
         let cells = first .cell-total in
+        let many = valid .count in
         claim-shown g valid (parts g valid) counts right t (suc (length (g .regions))) (λ q. 0) (initial-state g) stand-ins (first .state)
         (omega arith) (entry-reachable g) (omega arith) (length-map (region g (g .entry) .inputs) (λ t. undef 0)) can-start
 

@@ -2,7 +2,7 @@
 use mathlib.Core.Path.{_≡_, refl, sym, ap, subst, _∙_}
 use mathlib.Core.Bool.{Bool, true, false}
 use mathlib.Core.List.{List, [], _∷_}
-use Prim.Native.Nat.{ℕ, zero, suc, _+_, _*_, _≤_, _<_}
+use Prim.Native.Nat.{ℕ, zero, suc, _+_, _≤_, _<_}
 use native.Mathlib.Omega.{arith}
 use lib.ListN.{length, getD}
 use lib.Dec.{ltb}
@@ -34,10 +34,10 @@ use Rattle.shown.specs.Values as shown-values
 use Rattle.shown.specs.Tables.{ShowsShape, shape-bool, shape-number}
 use Rattle.shown.specs.laws.DefinedShown.{done-of, full-of}
 use Rattle.shown.specs.Cells.{ShowsNodes, no-nodes, ShowsChildren}
-use Rattle.shown.specs.States.{ShowsState, ShowsBody, no-case}
+use Rattle.shown.specs.States.{ShowsState, ShowsBody, no-case, HasSlot}
 use Rattle.shown.specs.Kept.{Later, KeptRegion}
 use Rattle.shown.specs.laws.RegionsKept.{later-same, later-then, kept-same, kept-then, claimed-stays, body-stays, set-stays}
-use Rattle.shown.specs.laws.RegionSteps.{word-concerns, concerns-then, concerns-states, state-stays, state-next, children-set}
+use Rattle.shown.specs.laws.RegionSteps.{word-concerns, concerns-then, concerns-states, state-stays, state-next, children-set, named-by}
 use Rattle.shown.specs.laws.RegionSteps.{length-set-to, aside-by, bundles-same}
 use Rattle.shown.specs.laws.CellSteps.{blocks-added, exit-added, cell-aside, cell-tables, cell-handle, cell-total, cell-changes}
 use Rattle.shown.specs.laws.SetStores.{OnlySets, only-same, only-then, only-total, only-later, only-word-same, word-other}
@@ -107,7 +107,7 @@ record PreparedInst (g : Graph) (r : ℕ) (w w₂ : List ℕ) (s : NestState) : 
   state : ShowsState g w₂ s
   body : ShowsBody g w₂ r (region-body (blocks-of g r) [])
   later : Later g w w₂
-  kept : (q : ℕ) → q < 33 → (q ≡ r → ⊥) → KeptRegion w w₂ q
+  kept : (q : ℕ) → HasSlot (length (g .regions)) q → (q ≡ r → ⊥) → KeptRegion w w₂ q
   same-kinds : (q : ℕ) → word w₂ kinds q ≡ word w kinds q
   taken : (j : ℕ) → taken-word w₂ r j ≡ taken-word w r j
   total : word w₂ head 4 ≤ word w head 4 + 1
@@ -194,15 +194,15 @@ module _ {g : Graph} (few : length (g .regions) ≤ 32) {r : ℕ} (here : r < le
   done-body : {w w₂ w′ : List ℕ} {s s′ : NestState} {cs : List MaybeClaimedRegion} {b : StepAnswer Body} {x : Body}
       → PreparedInst g r w w₂ s
       → b ≡ done x s′ → ShowsState g w′ s′ → ShowsBody g w′ r x → Later g w₂ w′
-      → ((q : ℕ) → q < 32 → (q ≡ r → ⊥)
+      → ((q : ℕ) → q < length (g .regions) → (q ≡ r → ⊥)
       → ((j : ℕ) (c : ClaimedRegion) → j < length cs → getD cs j no-case ≡ ok c → q ≡ c .origin → ⊥) → KeptRegion w₂ w′ q)
       → SameKinds w w′ → word w′ head 4 ≤ word w head 4 + 11 → BodyShows g w w′ r cs 11 b Done
   done-body {w} {w′} {s′} {x} p is state body later kept same room =
-      let owed = owed-stays w w′ (λ q h. ap (λ l. getD l q 0) (same .kinds-words)) in
+      let owed = owed-stays g w w′ (λ q h. ap (λ l. getD l q 0) (same .kinds-words)) in
       shows-body {x = x} {s′ = s′} is state body
       (record {
         later = later-then (p .later) later;
-        kinds-stay = λ q l h. ap (λ l. getD l q 0) (same .kinds-words);
+        kinds-stay = λ q h. ap (λ l. getD l q 0) (same .kinds-words);
         regions-stay = λ q l d f h. kept-then (p .kept q (omega arith) d) (kept q l d f);
       }) (omega arith)
 
@@ -252,7 +252,7 @@ module _ {g : Graph} (few : length (g .regions) ≤ 32) {r : ℕ} (here : r < le
         let c₃ = aside-by changes (omega arith) (omega arith) (omega arith) (omega arith) g in
         let re = changes .others rewrites (omega arith) (omega arith) in
         let st₃ : ShowsState g w₁ (u .state) = state-next (c₃ .later) (c₃ .states) (u .tables)
-        (record { below = λ q k a b n. rw re (p .state .named .below q k a b (λ z. n (ap (λ l. getD l (5 * q) 0) re ∙ z))) })
+        (named-by re (p .state .named))
         (node-states s (u .is)) (p .state) in
         let body₃ = body-stays (c₃ .later) (c₃ .regions r) (p .body) in
         let room₃ = st₃ .tables .size in
@@ -360,7 +360,7 @@ module _ {g : Graph} (few : length (g .regions) ≤ 32) {r : ℕ} (here : r < le
 
 module _ (g : Graph) (valid : Valid g) (few : length (g .regions) ≤ 32) where
   pub inst-shown : {w w′ : List ℕ} {r : ℕ} {a : Made} → ByControlInst g w r w′ a → (s : NestState) (cs : List MaybeClaimedRegion)
-      → ShowsState g w s → cells-in-all w ≤ 641 → r < length (g .regions) → word w kinds r ≡ 1
+      → ShowsState g w s → cells-in-all g w ≤ 641 → r < length (g .regions) → word w kinds r ≡ 1
       → length cs ≡ length (edges-of (region g r .terminator))
       → ((k : ℕ) → k < length (edges-of (region g r .terminator)) → TakenAs g w r k (edge-of g r k) (getD cs k no-case))
       → ((k : ℕ) (c : ClaimedRegion) → getD cs k no-case ≡ ok c → c .origin ≡ r → ⊥)

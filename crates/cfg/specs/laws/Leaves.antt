@@ -10,12 +10,13 @@ use Rattle.meaning.specs.Lists.{pick}
 use Rattle.record.specs.Stands.{Stands}
 use Rattle.state.specs.declared.cases.Case.{Case}
 use Rattle.state.specs.declared.defined.Made.{Made}
-use Rattle.state.specs.Sections.{word, stored, stored-all, head, children, bodies, rewrites, cases, bundles, set-starts, set-lengths}
+use Rattle.state.specs.Sections.{word, stored, front, kinds, head, children, bodies, cases, bundles, set-starts, set-lengths}
 use Rattle.state.specs.Tables.{inserted, swapped, bundle-copied, bundle-at, bundle-words, shifted, shift-removed}
 use Rattle.state.specs.Tables.{swap-removed, Joins, first-empty}
 use Rattle.state.specs.Tables.{second-empty, joined, case-total}
 use Rattle.lookups.specs.LookUps.{Rewrites, look-up}
 use Rattle.shown.specs.Front.{SameKinds}
+use Rattle.shown.specs.laws.Rewrites.{insert-changes}
 use Rattle.shown.specs.laws.FrontKept.{stands-kept, kinds-same, kinds-stored, kinds-run, kinds-then, adds-kinds, defines-kinds}
 use Rattle.bundles.specs.Words.{Appends, appended, its-edge, its-rest, cases-filled, filled-from, split-filled, return-deferred}
 use Rattle.bundles.specs.Words.{case-inputs}
@@ -39,13 +40,12 @@ use Rattle.loops.specs.Loops.{adds-loop, LoopDefined, loop-defined, no-value, n
 
 -- ---- Words of the state.
 inserted-kinds : (w : List ℕ) (r kind : ℕ) (vs : List ℕ) → SameKinds w (inserted w r kind vs)
-unfolding inserted
-inserted-kinds w r kind vs = go (eqb (word w rewrites (5 * r)) 0)
-  where
-    go : (b : Bool) → SameKinds w (pick b (stored-all (stored w rewrites (5 * r) kind) rewrites (5 * r + 1) vs) w)
-    go true = kinds-then (kinds-stored w rewrites (omega arith) (5 * r) kind)
-        (kinds-run (stored w rewrites (5 * r) kind) rewrites (omega arith) (5 * r + 1) vs)
-    go false = kinds-same w
+inserted-kinds w r kind vs =
+    let changes = insert-changes w r kind vs 16 in
+    record {
+      front = record { words = changes .words; front-words = changes .others front (omega arith) (omega arith) };
+      kinds-words = changes .others kinds (omega arith) (omega arith);
+    }
 
 copied-kinds : (w : List ℕ) (to from : ℕ) → SameKinds w (bundle-copied w to from)
 copied-kinds w to from = kinds-run w bundles (omega arith) (7 * to) (bundle-words w from)

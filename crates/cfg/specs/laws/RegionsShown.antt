@@ -32,13 +32,13 @@ use Rattle.follows.specs.counting.CountRegion.{claim-counted, targets-live, pre
 use Rattle.state.specs.Sections as sections
 use Rattle.state.specs.Sections.{Section, number, word, stored, kinds, backedges, children, bundles, set-starts, set-lengths, head, used}
 use Rattle.state.specs.laws.Apart.{section-other, stored-length}
-use Rattle.shown.specs.laws.Stores.{word-changes}
+use Rattle.shown.specs.laws.Stores.{word-changes, word-there, word-apart}
 use Rattle.shown.specs.Sets.{shows-region}
 use Rattle.shown.specs.laws.Finds.{Finds, found, none-found, finds}
 use Rattle.shown.specs.States.{ShowsState, ShowsBody, is-in-progress, is-ready}
 use Rattle.shown.specs.Kept.{Later, KeptRegion}
 use Rattle.shown.specs.laws.RegionsKept.{later-then, set-stays, kept-then}
-use Rattle.shown.specs.laws.RegionSteps.{later-by, kept-by, bundles-same, word-there, word-apart, word-concerns}
+use Rattle.shown.specs.laws.RegionSteps.{later-by, kept-by, bundles-same, word-concerns}
 use Rattle.shown.specs.laws.RegionSteps.{concerns-states, state-stays}
 use Rattle.shown.specs.laws.RegionSteps.{kind-set, Concerns, MakesNothing}
 use Rattle.cfg.specs.ByState.{backedge-at}
@@ -146,10 +146,10 @@ module _ {g : Graph} {w : List ℕ} {s : NestState} (shown : ShowsState g w s) (
       let room = shown .tables .size in
       kind-set g w room r below 1 shown in-graph (is-in-progress (word-there w kinds r 1 (omega arith) below))
 
-  pub begun-cells : word w kinds r ≡ 0 → cells-in-all (stored w kinds r 1) + 11 ≡ cells-in-all w
+  pub begun-cells : word w kinds r ≡ 0 → cells-in-all g (stored w kinds r 1) + 11 ≡ cells-in-all g w
   begun-cells e =
       let room = shown .tables .size in
-      let z = owed-kind w r 1 room below in
+      let z = owed-kind g w r 1 room below in-graph in
       let h : word (stored w kinds r 1) head 4 ≡ word w head 4 = ap (λ l. getD l 4 0) (section-other w kinds r 1 head (omega arith)) in
       let y = rw e at z in omega arith
 
@@ -166,7 +166,7 @@ pub record OfBody (k : Section) : Type 0 where
 pub record Beside (g : Graph) (r : ℕ) (w w′ : List ℕ) : Type 0 where
   pub later : Later g w w′
   pub kinds-stay : (q : ℕ) → (q ≡ r → ⊥) → word w′ kinds q ≡ word w kinds q
-  pub regions-stay : (q : ℕ) → q < 32 → (q ≡ r → ⊥) → KeptRegion w w′ q
+  pub regions-stay : (q : ℕ) → q < length (g .regions) → (q ≡ r → ⊥) → KeptRegion w w′ q
 
 pub beside-kind : (g : Graph) (w : List ℕ) (r x : ℕ) → Beside g r w (stored w kinds r x)
 beside-kind g w r x =
@@ -183,7 +183,7 @@ pub region-unharmed : {g : Graph} {r : ℕ} {w w₁ w₃ w′ : List ℕ} → (O
 region-unharmed {r} {w} {w₁} {w₃} free a b c =
     record {
       later = later-then (a .later) (later-then (b .later) (c .later));
-      kinds-stay = λ q l h. c .kinds-stay q (other q h) ∙ b .kinds-stay q l (first q h) ∙ a .kinds-stay q (other q h);
+      kinds-stay = λ q h. c .kinds-stay q (other q h) ∙ b .kinds-stay q (first q h) ∙ a .kinds-stay q (other q h);
       regions-stay = λ q l h. kept-then (a .regions-stay q l (other q h))
           (kept-then (b .regions-stay q l (other q h) (first q h)) (c .regions-stay q l (other q h)));
     }
@@ -263,14 +263,14 @@ module _ {g : Graph} {w : List ℕ} {s : NestState} (shown : ShowsState g w s) (
       record {
         later = later-then (first .later) (b .later);
         kinds-stay = λ q d. b .kinds-stay q d ∙ first .same-kinds q;
-        regions-stay = λ q l d. kept-then (first .others q (omega arith) d) (b .regions-stay q l d);
+        regions-stay = λ q l d. kept-then (first .others q (let many = few in omega arith) d) (b .regions-stay q l d);
       }
 
-  pub ready-cells : cells-in-all (made-ready w r) ≡ cells-in-all w
+  pub ready-cells : cells-in-all g (made-ready w r) ≡ cells-in-all g w
   ready-cells =
       let room₁ : used ≤ length w₁ = rw (stored-length _ _ w r n) (shown .tables .size) in
-      let e = owed-stays w w₁ (λ q h. first .same-kinds q) in
-      let z = owed-kind w₁ r 2 room₁ there in
+      let e = owed-stays g w w₁ (λ q h. first .same-kinds q) in
+      let z = owed-kind g w₁ r 2 room₁ there in-graph in
       let k : word w₁ kinds r ≡ 1 = first .same-kinds r ∙ busy in
       let y = rw k at z in
       let h : word (made-ready w r) head 4 ≡ word w head 4 = ap (λ l. getD l 4 0) (section-other w₁ kinds r 2 head (omega arith)) ∙

@@ -31,7 +31,7 @@ use Rattle.cfg.specs.laws.SelectBodies.{edges-bound, into-body}
 
 module _ (g : Graph) (valid : Valid g) (few : length (g .regions) ≤ 32) where
   pub resolve-shown : {w w′ : List ℕ} {r i : ℕ} {a : Made} → ResolvesBy g w r i w′ a → (s : NestState) (x : Body) (y : SplitOut) (t : ℕ)
-      → ShowsState g w s → cells-in-all w ≤ 641 → r < length (g .regions) → word w kinds r ≡ 1 → ShowsBody g w r x
+      → ShowsState g w s → cells-in-all g w ≤ 641 → r < length (g .regions) → word w kinds r ≡ 1 → ShowsBody g w r x
       → i < length (x .deferred-edges) → y .bundle ≡ getD (x .deferred-edges) i no-bundle
       → y .others ≡ take i (x .deferred-edges) ++ drop (suc i) (x .deferred-edges) → y .bundle .target ≡ to-region t → (t ≡ r → ⊥)
       → ShowsClaimed g w (y .claimed-region) → y .claimed-region .origin ≡ t

@@ -180,7 +180,7 @@ module _ (g : Graph) (valid : Valid g) (fuel : ℕ) where
     pub passed-waiting : {w w₁ w′ : List ℕ} {t : ℕ} → this .target ≡ to-region t → {s₁ : NestState}
         → claim t (this .accumulated-count) (this .target-inputs) s ≡ done none s₁ → ((q : ℕ) → Occupied w q → Occupied w₁ q)
         → Unharmed g w w₁
-        → cells-in-all w₁ ≤ cells-in-all w
+        → cells-in-all g w₁ ≤ cells-in-all g w
         → {a : split.SplitOut} → ScanShows g w₁ w′ d (scan-from (suc i) s₁) a → ScanShows g w w′ d (scan-from i s) a
     unfolding step-of
     passed-waiting {t} e p on u c (shows-nothing {s′} q st v k) =
@@ -192,8 +192,8 @@ module _ (g : Graph) (valid : Valid g) (fuel : ℕ) where
 
     pub scan-claims : {w w′ : List ℕ} {t : ℕ} → this .target ≡ to-region t → {c : ClaimedRegion} {s′ : NestState}
         → claim t (this .accumulated-count) (this .target-inputs) s ≡ done (some c) s′ → ShowsState g w′ s′ → ShowsClaimed g w′ c
-        → c .origin ≡ t → c .structured-body-inputs ≡ this .target-inputs → (Occupied w t → ⊥) → Unharmed g w w′ → cells-in-all w′ + 4 ≤
-        cells-in-all w
+        → c .origin ≡ t → c .structured-body-inputs ≡ this .target-inputs → (Occupied w t → ⊥) → Unharmed g w w′ → cells-in-all g w′ + 4 ≤
+        cells-in-all g w
         → ScanShows g w w′ d (scan-from i s) (split-variants.At i)
     unfolding step-of
     scan-claims {t} e {c} {s′} p st cl o n f u k =

@@ -70,15 +70,15 @@ edges-bound s cs most none to-return = rw (same-after s to-return cs, cases-retu
 
 -- ---- From w to w₁ the cases were filled, from w₁ to w′ the select made.
 pub into-body : {g : Graph} {w w₁ w′ : List ℕ} {r more : ℕ} {cs : List MaybeClaimedRegion} {b : StepAnswer Body} {a : Made} → Later g w w₁
-    → ((q : ℕ) → q < 32 → (q ≡ r → ⊥) → KeptRegion w w₁ q) → SameKinds w w′ → word w₁ head 4 + (length cs + 2) ≤ word w head 4 + more
-    → ShowsMade (IntoDone g r cs w₁ w′) a b → BodyShows g w w′ r cs more b a
-into-body {w} {w′} later kept same room (shows-made {a = x} {s} m) =
-    let owed = owed-stays w w′ (λ q h. ap (λ l. getD l q 0) (same .kinds-words)) in
+    → ((q : ℕ) → q < length (g .regions) → (q ≡ r → ⊥) → KeptRegion w w₁ q) → SameKinds w w′
+    → word w₁ head 4 + (length cs + 2) ≤ word w head 4 + more → ShowsMade (IntoDone g r cs w₁ w′) a b → BodyShows g w w′ r cs more b a
+into-body {g} {w} {w′} later kept same room (shows-made {a = x} {s} m) =
+    let owed = owed-stays g w w′ (λ q h. ap (λ l. getD l q 0) (same .kinds-words)) in
     let total = m .total in
     shows-body {x = x} {s′ = s} refl (m .state) (m .body)
     (record {
       later = later-then later (m .later);
-      kinds-stay = λ q l h. ap (λ l. getD l q 0) (same .kinds-words);
+      kinds-stay = λ q h. ap (λ l. getD l q 0) (same .kinds-words);
       regions-stay = λ q l d f h. kept-then (kept q l d) (m .kept q l d f);
     }) (omega arith)
 into-body later kept same room shows-refused = refuses-body refl

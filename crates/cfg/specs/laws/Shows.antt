@@ -46,51 +46,51 @@ Occupied w q = (word w kinds q ≡ 1) ⊎ (word w kinds q ≡ 3)
 
 pub record Unharmed (g : Graph) (w w′ : List ℕ) : Type 0 where
   pub later : Later g w w′
-  pub kinds-stay : (q : ℕ) → q < 32 → Occupied w q → word w′ kinds q ≡ word w kinds q
-  pub regions-stay : (q : ℕ) → q < 32 → Occupied w q → KeptRegion w w′ q
+  pub kinds-stay : (q : ℕ) → Occupied w q → word w′ kinds q ≡ word w kinds q
+  pub regions-stay : (q : ℕ) → q < length (g .regions) → Occupied w q → KeptRegion w w′ q
 
 pub unharmed-same : (g : Graph) (w : List ℕ) → Unharmed g w w
-unharmed-same g w = record { later = later-same g w; kinds-stay = λ q l h. refl; regions-stay = λ q l h. kept-same w q }
+unharmed-same g w = record { later = later-same g w; kinds-stay = λ q h. refl; regions-stay = λ q l h. kept-same w q }
 
-pub still-occupied : {g : Graph} {w w′ : List ℕ} → Unharmed g w w′ → (q : ℕ) → q < 32 → Occupied w q → Occupied w′ q
-still-occupied u q l (inl e) = inl (u .kinds-stay q l (inl e) ∙ e)
-still-occupied u q l (inr e) = inr (u .kinds-stay q l (inr e) ∙ e)
+pub still-occupied : {g : Graph} {w w′ : List ℕ} → Unharmed g w w′ → (q : ℕ) → Occupied w q → Occupied w′ q
+still-occupied u q (inl e) = inl (u .kinds-stay q (inl e) ∙ e)
+still-occupied u q (inr e) = inr (u .kinds-stay q (inr e) ∙ e)
 
 pub unharmed-then : {g : Graph} {w w₁ w₂ : List ℕ} → Unharmed g w w₁ → Unharmed g w₁ w₂ → Unharmed g w w₂
 unharmed-then a b =
     record {
       later = later-then (a .later) (b .later);
-      kinds-stay = λ q l h. b .kinds-stay q l (still-occupied a q l h) ∙ a .kinds-stay q l h;
-      regions-stay = λ q l h. kept-then (a .regions-stay q l h) (b .regions-stay q l (still-occupied a q l h));
+      kinds-stay = λ q h. b .kinds-stay q (still-occupied a q h) ∙ a .kinds-stay q h;
+      regions-stay = λ q l h. kept-then (a .regions-stay q l h) (b .regions-stay q l (still-occupied a q h));
     }
 
 -- A step of region r's own: what other regions have stays.
 pub record Around (g : Graph) (r : ℕ) (w w′ : List ℕ) : Type 0 where
   pub later : Later g w w′
-  pub kinds-stay : (q : ℕ) → q < 32 → Occupied w q → word w′ kinds q ≡ word w kinds q
-  pub regions-stay : (q : ℕ) → q < 32 → (q ≡ r → ⊥) → Occupied w q → KeptRegion w w′ q
+  pub kinds-stay : (q : ℕ) → Occupied w q → word w′ kinds q ≡ word w kinds q
+  pub regions-stay : (q : ℕ) → q < length (g .regions) → (q ≡ r → ⊥) → Occupied w q → KeptRegion w w′ q
 
 pub around-same : (g : Graph) (r : ℕ) (w : List ℕ) → Around g r w w
-around-same g r w = record { later = later-same g w; kinds-stay = λ q l h. refl; regions-stay = λ q l d h. kept-same w q }
+around-same g r w = record { later = later-same g w; kinds-stay = λ q h. refl; regions-stay = λ q l d h. kept-same w q }
 
-occupied-around : {g : Graph} {r : ℕ} {w w′ : List ℕ} → Around g r w w′ → (q : ℕ) → q < 32 → Occupied w q → Occupied w′ q
-occupied-around u q l (inl e) = inl (u .kinds-stay q l (inl e) ∙ e)
-occupied-around u q l (inr e) = inr (u .kinds-stay q l (inr e) ∙ e)
+occupied-around : {g : Graph} {r : ℕ} {w w′ : List ℕ} → Around g r w w′ → (q : ℕ) → Occupied w q → Occupied w′ q
+occupied-around u q (inl e) = inl (u .kinds-stay q (inl e) ∙ e)
+occupied-around u q (inr e) = inr (u .kinds-stay q (inr e) ∙ e)
 
 pub around-then : {g : Graph} {r : ℕ} {w w₁ w₂ : List ℕ} → Around g r w w₁ → Around g r w₁ w₂ → Around g r w w₂
 around-then a b =
     record {
       later = later-then (a .later) (b .later);
-      kinds-stay = λ q l h. b .kinds-stay q l (occupied-around a q l h) ∙ a .kinds-stay q l h;
-      regions-stay = λ q l d h. kept-then (a .regions-stay q l d h) (b .regions-stay q l d (occupied-around a q l h));
+      kinds-stay = λ q h. b .kinds-stay q (occupied-around a q h) ∙ a .kinds-stay q h;
+      regions-stay = λ q l d h. kept-then (a .regions-stay q l d h) (b .regions-stay q l d (occupied-around a q h));
     }
 
 pub unharmed-around : {g : Graph} (r : ℕ) {w w′ : List ℕ} → Unharmed g w w′ → Around g r w w′
 unharmed-around r u = record { later = u .later; kinds-stay = u .kinds-stay; regions-stay = λ q l d h. u .regions-stay q l h }
 
-pub concerns-around : {g : Graph} {r : ℕ} {w w′ : List ℕ} → Concerns g r w w′ → Around g r w w′
-concerns-around c =
-    record { later = c .later; kinds-stay = λ q l h. c .same-kinds q; regions-stay = λ q l d h. c .others q (omega arith) d }
+pub concerns-around : {g : Graph} → length (g .regions) ≤ 32 → {r : ℕ} {w w′ : List ℕ} → Concerns g r w w′ → Around g r w w′
+concerns-around few c =
+    record { later = c .later; kinds-stay = λ q h. c .same-kinds q; regions-stay = λ q l d h. c .others q (omega arith) d }
 
 -- ---- Cells, with those that may still be asked for: 11 by a region that begins, 9 by one that is claimed.
 abbrev owe : ℕ → ℕ
@@ -100,12 +100,12 @@ abbrev owed-below : ℕ → List ℕ → ℕ
 owed-below zero l = 0
 owed-below (suc n) l = owe (getD l n 0) + owed-below n l
 
-unfoldable pub cells-owed : List ℕ → ℕ
-cells-owed w = owed-below 32 (section w kinds)
+unfoldable pub cells-owed : Graph → List ℕ → ℕ
+cells-owed g w = owed-below (length (g .regions)) (section w kinds)
 
 -- Before the empty list is made, the total counts as too many: so a bound on it says that a list is made.
-abbrev pub cells-in-all : List ℕ → ℕ
-cells-in-all w = word w head 4 + cells-owed w + 1000 * (1 - word w head 4)
+abbrev pub cells-in-all : Graph → List ℕ → ℕ
+cells-in-all g w = word w head 4 + cells-owed g w + 1000 * (1 - word w head 4)
 
 owed-same : (l l′ : List ℕ) (n : ℕ) → ((q : ℕ) → q < n → getD l′ q 0 ≡ getD l q 0) → owed-below n l′ ≡ owed-below n l
 owed-same l l′ zero h = refl
@@ -125,24 +125,26 @@ owed-set l r x h (suc n) b = elim (ℕ-discrete n r) [
       let o = owed-set l r x h n (omega arith) in rw z (omega arith))
 ]
 
-pub owed-stays : (w w′ : List ℕ) → ((q : ℕ) → q < 32 → word w′ kinds q ≡ word w kinds q) → cells-owed w′ ≡ cells-owed w
+pub owed-stays : (g : Graph) (w w′ : List ℕ) → ((q : ℕ) → q < length (g .regions) → word w′ kinds q ≡ word w kinds q)
+    → cells-owed g w′ ≡ cells-owed g w
 unfolding cells-owed
-owed-stays w w′ h = owed-same (section w kinds) (section w′ kinds) 32 h
+owed-stays g w w′ h = owed-same (section w kinds) (section w′ kinds) (length (g .regions)) h
 
 owed-none-begun : (l : List ℕ) (n : ℕ) → ((q : ℕ) → q < n → getD l q 0 ≡ 0) → owed-below n l ≡ 20 * n
 owed-none-begun l zero h = refl
 owed-none-begun l (suc n) h = let z = owed-none-begun l n (λ q b. h q (omega arith)) in rw (h n (omega arith)) (omega arith)
 
-pub owed-at-start : (w : List ℕ) → ((q : ℕ) → q < 32 → word w kinds q ≡ 0) → cells-owed w ≡ 640
+pub owed-at-start : (g : Graph) (w : List ℕ) → ((q : ℕ) → q < length (g .regions) → word w kinds q ≡ 0)
+    → cells-owed g w ≡ 20 * length (g .regions)
 unfolding cells-owed
-owed-at-start w h = owed-none-begun (section w kinds) 32 h
+owed-at-start g w h = owed-none-begun (section w kinds) (length (g .regions)) h
 
-pub owed-kind : (w : List ℕ) (r x : ℕ) → used ≤ length w → r < 32
-    → cells-owed (stored w kinds r x) + owe (word w kinds r) ≡ cells-owed w + owe x
+pub owed-kind : (g : Graph) (w : List ℕ) (r x : ℕ) → used ≤ length w → r < 32 → r < length (g .regions)
+    → cells-owed g (stored w kinds r x) + owe (word w kinds r) ≡ cells-owed g w + owe x
 unfolding cells-owed
-owed-kind w r x room h =
+owed-kind g w r x room below h =
     let n = part-length (start kinds) (size kinds) w (omega arith) in
-    rw (section-stored w kinds r x) (owed-set (section w kinds) r x (omega arith) 32 h)
+    rw (section-stored w kinds r x) (owed-set (section w kinds) r x (omega arith) (length (g .regions)) h)
 
 -- ---- The definition's side: how nesting stands when a claim is made.
 module _ (g : Graph) (valid : Valid g) where
@@ -174,9 +176,9 @@ module _ (g : Graph) (valid : Valid g) where
 -- ---- Answers shown. b is what the definition answers.
 pub data ClaimShows (g : Graph) (w w′ : List ℕ) (r : ℕ) (inputs : List Value) (b : StepAnswer (Option ClaimedRegion)) : Claim → Type 0 where
   shows-claimed : {c : ClaimedRegion} {s′ : NestState} → b ≡ done (some c) s′ → ShowsState g w′ s′ → ShowsClaimed g w′ c → c .origin ≡ r
-      → c .structured-body-inputs ≡ inputs → (Occupied w r → ⊥) → Unharmed g w w′ → cells-in-all w′ + 4 ≤ cells-in-all w
+      → c .structured-body-inputs ≡ inputs → (Occupied w r → ⊥) → Unharmed g w w′ → cells-in-all g w′ + 4 ≤ cells-in-all g w
       → ClaimShows g w w′ r inputs b Claimed
-  shows-unclaimed : {s′ : NestState} → b ≡ done none s′ → ShowsState g w′ s′ → Unharmed g w w′ → cells-in-all w′ ≤ cells-in-all w
+  shows-unclaimed : {s′ : NestState} → b ≡ done none s′ → ShowsState g w′ s′ → Unharmed g w w′ → cells-in-all g w′ ≤ cells-in-all g w
       → ClaimShows g w w′ r inputs b Unclaimed
   shows-refused : {m x : ℕ} → b ≡ turned-away m x → ClaimShows g w w′ r inputs b (Refused m x)
 
@@ -197,15 +199,15 @@ pub data TargetsShow (g : Graph) (w w′ : List ℕ) (r j : ℕ) (es : List Edge
     Checked → Type 0 where
   shows-targets : {cs : List MaybeClaimedRegion} {s′ : NestState} → b ≡ done cs s′ → ShowsState g w′ s′ → length cs ≡ length es
       → ((k : ℕ) → k < length es → TakenAs g w′ r (j + k) (getD es k no-edge) (getD cs k no-case)) → NewlyClaimed w cs → Around g r w w′
-      → ((k : ℕ) → k < j → taken-word w′ r k ≡ taken-word w r k) → cells-in-all w′ ≤ cells-in-all w
+      → ((k : ℕ) → k < j → taken-word w′ r k ≡ taken-word w r k) → cells-in-all g w′ ≤ cells-in-all g w
       → TargetsShow g w w′ r j es b step.Right
   refuses-targets : {m x : ℕ} → b ≡ turned-away m x → TargetsShow g w w′ r j es b (step.Refused m x)
 
 -- A step of region r's own that takes the claimed regions of these cases: what other regions have stays.
 pub record AroundBut (g : Graph) (r : ℕ) (cs : List MaybeClaimedRegion) (w w′ : List ℕ) : Type 0 where
   pub later : Later g w w′
-  pub kinds-stay : (q : ℕ) → q < 32 → Occupied w q → word w′ kinds q ≡ word w kinds q
-  pub regions-stay : (q : ℕ) → q < 32 → (q ≡ r → ⊥)
+  pub kinds-stay : (q : ℕ) → Occupied w q → word w′ kinds q ≡ word w kinds q
+  pub regions-stay : (q : ℕ) → q < length (g .regions) → (q ≡ r → ⊥)
       → ((j : ℕ) (c : ClaimedRegion) → j < length cs → getD cs j no-case ≡ ok c → q ≡ c .origin → ⊥) → Occupied w q → KeptRegion w w′ q
 
 -- The regions that it takes were not occupied before.
@@ -214,37 +216,37 @@ pub around-but : {g : Graph} {r : ℕ} {cs : List MaybeClaimedRegion} {w w₁ w�
 around-but {w} a b free =
     record {
       later = later-then (a .later) (b .later);
-      kinds-stay = λ q l h. b .kinds-stay q l (occupied-around a q l h) ∙ a .kinds-stay q l h;
+      kinds-stay = λ q h. b .kinds-stay q (occupied-around a q h) ∙ a .kinds-stay q h;
       regions-stay = λ q l d h. kept-then (a .regions-stay q l d h)
-          (b .regions-stay q l d (λ j c i p o. free j c p (subst (λ z. Occupied w z) o h)) (occupied-around a q l h));
+          (b .regions-stay q l d (λ j c i p o. free j c p (subst (λ z. Occupied w z) o h)) (occupied-around a q h));
     }
 
 pub data BodyShows (g : Graph) (w w′ : List ℕ) (r : ℕ) (cs : List MaybeClaimedRegion) (more : ℕ) (b : StepAnswer Body) : Made → Type 0 where
   shows-body : {x : Body} {s′ : NestState} → b ≡ done x s′ → ShowsState g w′ s′ → ShowsBody g w′ r x → AroundBut g r cs w w′
-      → cells-in-all w′ ≤ cells-in-all w + more → BodyShows g w w′ r cs more b made.Done
+      → cells-in-all g w′ ≤ cells-in-all g w + more → BodyShows g w w′ r cs more b made.Done
   refuses-body : b ≡ turned-away 9 0 → BodyShows g w w′ r cs more b made.Full
 
 -- A scan of the set d.
 pub data ScanShows (g : Graph) (w w′ : List ℕ) (d : DeferredEdgeBundleSet) (b : StepAnswer (Option SplitOut)) : split.SplitOut → Type 0
   where
-    shows-nothing : {s′ : NestState} → b ≡ done none s′ → ShowsState g w′ s′ → Unharmed g w w′ → cells-in-all w′ ≤ cells-in-all w
+    shows-nothing : {s′ : NestState} → b ≡ done none s′ → ShowsState g w′ s′ → Unharmed g w w′ → cells-in-all g w′ ≤ cells-in-all g w
         → ScanShows g w w′ d b split-variants.Nothing
     shows-split : {i t : ℕ} {y : SplitOut} {s′ : NestState} → b ≡ done (some y) s′ → ShowsState g w′ s′ → i < length d
         → y .bundle ≡ getD d i no-bundle → y .others ≡ take i d ++ drop (suc i) d → y .bundle .target ≡ to-region t
         → ShowsClaimed g w′ (y .claimed-region) → y .claimed-region .origin ≡ t
         → y .claimed-region .structured-body-inputs ≡ y .bundle .target-inputs → (Occupied w t → ⊥) → Unharmed g w w′
-        → cells-in-all w′ + 4 ≤ cells-in-all w
+        → cells-in-all g w′ + 4 ≤ cells-in-all g w
         → ScanShows g w w′ d b (split-variants.At i)
     refuses-scan : {m x : ℕ} → b ≡ turned-away m x → ScanShows g w w′ d b (split-variants.Refused m x)
 
 -- Turns over region r's set; and the region as a whole.
 pub data TurnsShow (g : Graph) (w w′ : List ℕ) (r : ℕ) (b : StepAnswer Body) : Checked → Type 0 where
   shows-turns : {x : Body} {s′ : NestState} → b ≡ done x s′ → ShowsState g w′ s′ → ShowsBody g w′ r x → Around g r w w′
-      → cells-in-all w′ ≤ cells-in-all w → TurnsShow g w w′ r b step.Right
+      → cells-in-all g w′ ≤ cells-in-all g w → TurnsShow g w w′ r b step.Right
   refuses-turns : {m x : ℕ} → b ≡ turned-away m x → TurnsShow g w w′ r b (step.Refused m x)
 
 pub data RegionShows (g : Graph) (w w′ : List ℕ) (b : StepAnswer Unit) : Checked → Type 0 where
-  shows-ready : {s′ : NestState} → b ≡ done tt s′ → ShowsState g w′ s′ → Unharmed g w w′ → cells-in-all w′ ≤ cells-in-all w
+  shows-ready : {s′ : NestState} → b ≡ done tt s′ → ShowsState g w′ s′ → Unharmed g w w′ → cells-in-all g w′ ≤ cells-in-all g w
       → RegionShows g w w′ b step.Right
   refuses-region : {m x : ℕ} → b ≡ turned-away m x → RegionShows g w w′ b (step.Refused m x)
 
@@ -252,11 +254,11 @@ pub data RegionShows (g : Graph) (w w′ : List ℕ) (b : StepAnswer Unit) : Che
 module _ {g : Graph} {w w′ : List ℕ} {R : Type 0} where
   pub if-claimed : {r : ℕ} {inputs : List Value} {b : StepAnswer (Option ClaimedRegion)} → ClaimShows g w w′ r inputs b Claimed
       → ((c : ClaimedRegion) (s′ : NestState) → b ≡ done (some c) s′ → ShowsState g w′ s′ → ShowsClaimed g w′ c → c .origin ≡ r
-      → c .structured-body-inputs ≡ inputs → (Occupied w r → ⊥) → Unharmed g w w′ → cells-in-all w′ + 4 ≤ cells-in-all w → R) → R
+      → c .structured-body-inputs ≡ inputs → (Occupied w r → ⊥) → Unharmed g w w′ → cells-in-all g w′ + 4 ≤ cells-in-all g w → R) → R
   if-claimed (shows-claimed {c} {s′} p st cl o i f u k) go = go c s′ p st cl o i f u k
 
   pub if-unclaimed : {r : ℕ} {inputs : List Value} {b : StepAnswer (Option ClaimedRegion)} → ClaimShows g w w′ r inputs b Unclaimed
-      → ((s′ : NestState) → b ≡ done none s′ → ShowsState g w′ s′ → Unharmed g w w′ → cells-in-all w′ ≤ cells-in-all w → R) → R
+      → ((s′ : NestState) → b ≡ done none s′ → ShowsState g w′ s′ → Unharmed g w w′ → cells-in-all g w′ ≤ cells-in-all g w → R) → R
   if-unclaimed (shows-unclaimed {s′} p st u k) go = go s′ p st u k
 
   pub if-refused : {r m x : ℕ} {inputs : List Value} {b : StepAnswer (Option ClaimedRegion)} → ClaimShows g w w′ r inputs b (Refused m x)
@@ -266,7 +268,7 @@ module _ {g : Graph} {w w′ : List ℕ} {R : Type 0} where
   pub if-targets : {r j : ℕ} {es : List Edge} {b : StepAnswer (List MaybeClaimedRegion)} → TargetsShow g w w′ r j es b step.Right
       → ((cs : List MaybeClaimedRegion) (s′ : NestState) → b ≡ done cs s′ → ShowsState g w′ s′ → length cs ≡ length es
       → ((k : ℕ) → k < length es → TakenAs g w′ r (j + k) (getD es k no-edge) (getD cs k no-case)) → NewlyClaimed w cs → Around g r w w′
-      → cells-in-all w′ ≤ cells-in-all w → R) → R
+      → cells-in-all g w′ ≤ cells-in-all g w → R) → R
   if-targets (shows-targets {cs} {s′} p st n each new ar same k) go = go cs s′ p st n each new ar k
 
   pub if-targets-refused : {r j m x : ℕ} {es : List Edge} {b : StepAnswer (List MaybeClaimedRegion)}
@@ -275,7 +277,7 @@ module _ {g : Graph} {w w′ : List ℕ} {R : Type 0} where
 
   pub if-body : {r : ℕ} {cs : List MaybeClaimedRegion} {more : ℕ} {b : StepAnswer Body} → BodyShows g w w′ r cs more b made.Done
       → ((x : Body) (s′ : NestState) → b ≡ done x s′ → ShowsState g w′ s′ → ShowsBody g w′ r x → AroundBut g r cs w w′
-      → cells-in-all w′ ≤ cells-in-all w + more → R) → R
+      → cells-in-all g w′ ≤ cells-in-all g w + more → R) → R
   if-body (shows-body {x} {s′} p st b ar k) go = go x s′ p st b ar k
 
   pub if-full : {r : ℕ} {cs : List MaybeClaimedRegion} {more : ℕ} {b : StepAnswer Body} → BodyShows g w w′ r cs more b made.Full
@@ -286,17 +288,17 @@ module _ {g : Graph} {w w′ : List ℕ} {R : Type 0} where
       → ((t : ℕ) (y : SplitOut) (s′ : NestState) → b ≡ done (some y) s′ → ShowsState g w′ s′ → i < length d → y .bundle ≡ getD d i no-bundle
       → y .others ≡ take i d ++ drop (suc i) d → y .bundle .target ≡ to-region t → ShowsClaimed g w′ (y .claimed-region)
       → y .claimed-region .origin ≡ t → y .claimed-region .structured-body-inputs ≡ y .bundle .target-inputs → (Occupied w t → ⊥)
-      → Unharmed g w w′ → cells-in-all w′ + 4 ≤ cells-in-all w → R) → R
+      → Unharmed g w w′ → cells-in-all g w′ + 4 ≤ cells-in-all g w → R) → R
   if-split (shows-split {t} {y} {s′} p st l z o to cl origin many free u k) go = go t y s′ p st l z o to cl origin many free u k
 
   pub if-turns : {r : ℕ} {b : StepAnswer Body} → TurnsShow g w w′ r b step.Right
       → ((x : Body) (s′ : NestState) → b ≡ done x s′ → ShowsState g w′ s′ → ShowsBody g w′ r x → Around g r w w′
-      → cells-in-all w′ ≤ cells-in-all w → R) → R
+      → cells-in-all g w′ ≤ cells-in-all g w → R) → R
   if-turns (shows-turns {x} {s′} p st b ar k) go = go x s′ p st b ar k
 
   pub if-turns-refused : {r m x : ℕ} {b : StepAnswer Body} → TurnsShow g w w′ r b (step.Refused m x) → (b ≡ turned-away m x → R) → R
   if-turns-refused (refuses-turns p) go = go p
 
   pub if-ready : {b : StepAnswer Unit} → RegionShows g w w′ b step.Right
-      → ((s′ : NestState) → b ≡ done tt s′ → ShowsState g w′ s′ → Unharmed g w w′ → cells-in-all w′ ≤ cells-in-all w → R) → R
+      → ((s′ : NestState) → b ≡ done tt s′ → ShowsState g w′ s′ → Unharmed g w w′ → cells-in-all g w′ ≤ cells-in-all g w → R) → R
   if-ready (shows-ready {s′} p st u k) go = go s′ p st u k

@@ -25,11 +25,12 @@ use Rattle.shown.specs.Sets.{shows-region, no-bundle}
 use Rattle.nesting.specs.steps.TargetsAndCases.{same-target-is}
 use Rattle.shown.specs.laws.Finds.{Finds, found, none-found, finds}
 use Rattle.shown.specs.States.{ShowsState, ShowsOwnSet, ShowsRegion, is-not-begun, is-in-progress, is-ready, is-claimed, ShowsClaimed}
-use Rattle.shown.specs.States.{ShowsBody}
+use Rattle.shown.specs.States.{ShowsBody, HasSlot}
 use Rattle.shown.specs.Cells.{ShowsChildren}
 use Rattle.shown.specs.Kept.{Later, KeptRegion}
 use Rattle.shown.specs.laws.RegionsKept.{later-then, kept-then}
-use Rattle.shown.specs.laws.RegionSteps.{word-there, word-concerns, Concerns, concerns-states, state-stays, kind-set}
+use Rattle.shown.specs.laws.Stores.{word-there}
+use Rattle.shown.specs.laws.RegionSteps.{word-concerns, Concerns, concerns-states, state-stays, kind-set}
 use Rattle.loops.specs.laws.ClaimedLoops.{ClaimedLoop, ShowsLoop, shows-loop, loop-refused, structurize-loop-shown}
 use Rattle.loops.specs.Loops.{StructurizesLoop}
 use Rattle.cfg.specs.declared.claim.Claim as code
@@ -86,14 +87,14 @@ module _ {g : Graph} {w : List ℕ} {s : NestState} (shown : ShowsState g w s) (
       record {
         later = later-then (b .later) (second .later);
         kinds-stay = λ q n. second .same-kinds q ∙ b .kinds-stay q n;
-        regions-stay = λ q l n. kept-then (b .regions-stay q l n) (second .others q (omega arith) n);
+        regions-stay = λ q l n. kept-then (b .regions-stay q l n) (second .others q (let many = few in omega arith) n);
       }
 
-  claimed-cells : cells-in-all w₂ + 9 ≡ cells-in-all w
+  claimed-cells : cells-in-all g w₂ + 9 ≡ cells-in-all g w
   claimed-cells =
-      let z = owed-kind w r 3 room below in
+      let z = owed-kind g w r 3 room below in-graph in
       let y = rw is at z in
-      let e = owed-stays w₁ w₂ (λ q h. second .same-kinds q) in
+      let e = owed-stays g w₁ w₂ (λ q h. second .same-kinds q) in
       let h : word w₁ head 4 ≡ word w head 4 = ap (λ l. getD l 4 0) (section-other w kinds r 3 head (omega arith)) in
       let k = second .same-head 4 in omega arith
 
@@ -118,12 +119,13 @@ module _ {g : Graph} {w : List ℕ} {s : NestState} (shown : ShowsState g w s) (
 
   -- Nothing of the others changes, as far as the loop.
   unharmed-by : {w′ : List ℕ} → Later g w₂ w′ → ((q : ℕ) → word w′ kinds q ≡ word w₂ kinds q)
-      → ((q : ℕ) → q < 33 → (q ≡ r → ⊥) → KeptRegion w₂ w′ q) → Unharmed g w w′
+      → ((q : ℕ) → HasSlot (length (g .regions)) q → (q ≡ r → ⊥) → KeptRegion w₂ w′ q) → Unharmed g w w′
   unharmed-by later same kept =
       record {
         later = later-then (claimed-beside .later) later;
-        kinds-stay = λ q l h. same q ∙ claimed-beside .kinds-stay q (other q h);
-        regions-stay = λ q l h. kept-then (claimed-beside .regions-stay q l (other q h)) (kept q (omega arith) (other q h));
+        kinds-stay = λ q h. same q ∙ claimed-beside .kinds-stay q (other q h);
+        regions-stay = λ q l h.
+            kept-then (claimed-beside .regions-stay q l (other q h)) (kept q (let many = few in omega arith) (other q h));
       }
     where
       other : (q : ℕ) → Occupied w q → q ≡ r → ⊥
@@ -158,7 +160,7 @@ module _ (g : Graph) (valid : Valid g) where
 -- ---- The claim, by the region's state.
 module _ (g : Graph) (valid : Valid g) (few : length (g .regions) ≤ 32) (bound : (q : ℕ) → K g valid .incoming q ≤ 65534) where
   module _ (w : List ℕ) (r n fuel : ℕ) (H : ℕ → ℕ) (s : NestState) (inputs : List Value) (shown : ShowsState g w s)
-      (cells : cells-in-all w ≤ 641) (live : is-in r (K g valid .live) ≡ true) (many : length inputs ≡ length (region g r .inputs))
+      (cells : cells-in-all g w ≤ 641) (live : is-in r (K g valid .live) ≡ true) (many : length inputs ≡ length (region g r .inputs))
       (can : CanClaim g valid fuel H (λ q. edges-to q (to-region r) n) 0 s) where
     in-graph : r < length (g .regions)
     in-graph = K g valid .below r live
@@ -178,7 +180,7 @@ module _ (g : Graph) (valid : Valid g) (few : length (g .regions) ≤ 32) (bound
           (free-before shown few r in-graph is nodes set)
           (record {
             later = b .later;
-            kinds-stay = λ q l h. b .kinds-stay q (λ e. free-before shown few r in-graph is nodes set (subst (λ z. Occupied w z) e h));
+            kinds-stay = λ q h. b .kinds-stay q (λ e. free-before shown few r in-graph is nodes set (subst (λ z. Occupied w z) e h));
             regions-stay = λ q l h. b .regions-stay q l
                 (λ e. free-before shown few r in-graph is nodes set (subst (λ z. Occupied w z) e h));
           })
@@ -234,14 +236,14 @@ module _ (g : Graph) (valid : Valid g) (few : length (g .regions) ≤ 32) (bound
           let y = structurize-loop-shown loop x in
           let kinds-same = loops-kinds (claimed-state shown few r in-graph is nodes set .stands) x in
           let same : (q : ℕ) → word w′ kinds q ≡ word (as-claimed w r) kinds q = λ q. ap (λ l. getD l q 0) (kinds-same .kinds-words) in
-          let o = owed-stays (as-claimed w r) w′ (λ q h. same q) in
+          let o = owed-stays g (as-claimed w r) w′ (λ q h. same q) in
           let up = y .total-to in
           rw (some-edges more, gets)
           (by (y .answer)
           (unharmed-by shown few r in-graph is nodes set (y .within .later) same (y .within .others)) (omega arith))
         where
           by : {m : Made} {v : StepAnswer (Option ClaimedRegion)} → ShowsLoop g w′ r inputs taken m v → Unharmed g w w′
-              → cells-in-all w′ + 4 ≤ cells-in-all w → ClaimShows g w w′ r inputs v (claim-of m)
+              → cells-in-all g w′ + 4 ≤ cells-in-all g w → ClaimShows g w w′ r inputs v (claim-of m)
           by (shows-loop st same cl o i) u k = shows-claimed refl st cl o i (free-before shown few r in-graph is nodes set) u k
           by loop-refused u k = shows-refused refl
 

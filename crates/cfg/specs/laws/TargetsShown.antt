@@ -29,7 +29,8 @@ use Rattle.state.specs.laws.Apart.{section-other}
 use Rattle.state.specs.Tables.{taken-stored, taken-word}
 use Rattle.shown.specs.States.{no-case}
 use Rattle.shown.specs.laws.RegionsKept.{claimed-stays}
-use Rattle.shown.specs.laws.RegionSteps.{Concerns, taken-concerns, word-there, word-apart}
+use Rattle.shown.specs.laws.Stores.{word-there, word-apart}
+use Rattle.shown.specs.laws.RegionSteps.{Concerns, taken-concerns}
 use Rattle.store.specs.declared.Checked.{Checked}
 use Rattle.cfg.specs.laws.Shows.{Occupied, NewlyClaimed, Around, around-then, concerns-around, cells-in-all, owed-stays}
 use Rattle.cfg.specs.laws.Shows.{world, K, CanClaim, TakenAs, was-claimed}
@@ -56,8 +57,8 @@ notes g w r j y room b c =
       handles = λ q. ap (λ l. getD l q 0) (section-other w levels (8 * r + j) y children (omega arith));
     }
 
-pub noted-cells : {g : Graph} {w w′ : List ℕ} {r : ℕ} → Concerns g r w w′ → cells-in-all w′ ≡ cells-in-all w
-noted-cells {w} {w′} c = let e = owed-stays w w′ (λ q h. c .same-kinds q) in let h = c .same-head 4 in omega arith
+pub noted-cells : {g : Graph} {w w′ : List ℕ} {r : ℕ} → Concerns g r w w′ → cells-in-all g w′ ≡ cells-in-all g w
+noted-cells {g} {w} {w′} c = let e = owed-stays g w w′ (λ q h. c .same-kinds q) in let h = c .same-head 4 in omega arith
 
 -- A region that is occupied elsewhere is not region r.
 pub claimed-other : (w : List ℕ) {r q : ℕ} → word w kinds r ≡ 1 → word w kinds q ≡ 3 → q ≡ r → ⊥
@@ -70,17 +71,16 @@ pub record FirstNew (w w₂ : List ℕ) (m : MaybeClaimedRegion) : Type 0 where
   pub on : (q : ℕ) → Occupied w q → Occupied w₂ q
 
 -- What was taken stays so.
-pub taken-on : {g : Graph} {w w′ : List ℕ} {r j : ℕ} {e : Edge} {m : MaybeClaimedRegion} → length (g .regions) ≤ 32 → word w kinds r ≡ 1
+pub taken-on : {g : Graph} {w w′ : List ℕ} {r j : ℕ} {e : Edge} {m : MaybeClaimedRegion} → word w kinds r ≡ 1
     → Around g r w w′ → taken-word w′ r j ≡ taken-word w r j → TakenAs g w r j e m → TakenAs g w′ r j e m
-taken-on {w} {w′} few busy a same (was-claimed {c} p t s o i) =
+taken-on {w} {w′} busy a same (was-claimed {c} p t s o i) =
     let q = c .origin in
-    let below : q < 32 = (let z = s .in-graph in omega arith) in
     was-claimed p (same ∙ t)
-    (claimed-stays (a .later) (a .regions-stay q below (claimed-other w busy (s .kind)) (inr (s .kind)))
-    (a .kinds-stay q below (inr (s .kind))) s)
+    (claimed-stays (a .later) (a .regions-stay q (s .in-graph) (claimed-other w busy (s .kind)) (inr (s .kind)))
+    (a .kinds-stay q (inr (s .kind))) s)
     o i
-taken-on few busy a same (was-deferred p t) = was-deferred p (same ∙ t)
-taken-on few busy a same (was-nothing p t) = was-nothing p (same ∙ t)
+taken-on busy a same (was-deferred p t) = was-deferred p (same ∙ t)
+taken-on busy a same (was-nothing p t) = was-nothing p (same ∙ t)
 
 module _ (g : Graph) (valid : Valid g) (fuel : ℕ) where
   abbrev claim : Claim
@@ -116,10 +116,10 @@ module _ (g : Graph) (valid : Valid g) (fuel : ℕ) where
       }
 
   module _ (w : List ℕ) {w₁ w₂ : List ℕ} {r j y : ℕ} (few : length (g .regions) ≤ 32)
-      (busy : word w kinds r ≡ 1) (below : r < 32) (noted : Noted g w₁ w₂ r j y) (around : Around g r w w₁)
+      (busy : word w kinds r ≡ 1) (noted : Noted g w₁ w₂ r j y) (around : Around g r w w₁)
       (levels-same : (k : ℕ) → k < 8 → word w₁ levels (8 * r + k) ≡ word w levels (8 * r + k)) where
     busy₁ : word w₁ kinds r ≡ 1
-    busy₁ = around .kinds-stay r below (inl busy) ∙ busy
+    busy₁ = around .kinds-stay r (inl busy) ∙ busy
 
     busy₂ : word w₂ kinds r ≡ 1
     busy₂ = noted .concerns .same-kinds r ∙ busy₁
@@ -131,18 +131,18 @@ module _ (g : Graph) (valid : Valid g) (fuel : ℕ) where
     -- The others, put behind the first.
     pub targets-more : {w′ : List ℕ} (e : Edge) (es : List Edge) (s s₁ : NestState) → j < 8 → (o : Option ClaimedRegion)
         (c : MaybeClaimedRegion) → claim (e .target) 1 (e .inputs) s ≡ done o s₁
-        → edge-case e o s₁ ≡ done c s₁ → TakenAs g w₂ r j e c → FirstNew w w₂ c → cells-in-all w₁ ≤ cells-in-all w → {a : Checked}
+        → edge-case e o s₁ ≡ done c s₁ → TakenAs g w₂ r j e c → FirstNew w w₂ c → cells-in-all g w₁ ≤ cells-in-all g w → {a : Checked}
         → TargetsShow g w₂ w′ r (suc j) es (target-regions g claim es s₁) a
         → TargetsShow g w w′ r j (e ∷ es) (target-regions g claim (e ∷ es) s) a
     unfolding target-regions
     targets-more {w′} e es s s₁ b o c p q t first cells (shows-targets {cs} {s′} f st n each new ar same few-cells) =
-        let whole : Around g r w w′ = around-then around (around-then (concerns-around (noted .concerns)) ar) in
+        let whole : Around g r w w′ = around-then around (around-then (concerns-around few (noted .concerns)) ar) in
         shows-targets {cs = c ∷ cs} {s′ = s′} (rw (p, q, f)) st (ap suc n) taken newly whole
         (λ k h. same k (omega arith) ∙ kept-before k h b)
         (let z = noted-cells (noted .concerns) in omega arith)
       where
         taken : (k : ℕ) → k < suc (length es) → TakenAs g w′ r (j + k) (getD (e ∷ es) k no-edge) (getD (c ∷ cs) k no-case)
-        taken zero h = let z : j + 0 ≡ j = omega arith in rw z (taken-on few busy₂ ar (same j (omega arith)) t)
+        taken zero h = let z : j + 0 ≡ j = omega arith in rw z (taken-on busy₂ ar (same j (omega arith)) t)
         taken (suc k) h = let z : j + suc k ≡ suc j + k = omega arith in rw z (each k (omega arith))
 
         free : (k : ℕ) (d : ClaimedRegion) → getD (c ∷ cs) k no-case ≡ ok d → Occupied w (d .origin) → ⊥

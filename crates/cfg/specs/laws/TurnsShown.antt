@@ -5,6 +5,7 @@ use mathlib.Core.Logic.{inl}
 use mathlib.Core.Option.{Option, some}
 use Prim.Native.Nat.{ℕ, suc, _+_, _≤_, _<_}
 use native.Mathlib.Omega.{arith}
+use lib.ListN.{length}
 use Rattle.meaning.specs.Graph.{Graph, bool-cond}
 use Rattle.format.specs.Valid.{Valid}
 use Rattle.nesting.specs.Nesting.{NestState, StepAnswer, done, DeferredEdgeBundleSet, incoming-edge-counts, try-claim-edge-bundle}
@@ -99,13 +100,13 @@ module _ (g : Graph) (valid : Valid g) (fuel : ℕ) where
   turns k x s = resolve-deferred g claim k x s
 
   -- ---- The definition's turns, by what the scan gave.
-  module _ (r n : ℕ) (x : Body) (s : NestState) {w : List ℕ} (busy : word w kinds r ≡ 1) (below : r < 32) where
+  module _ (r n : ℕ) (x : Body) (s : NestState) {w : List ℕ} (busy : word w kinds r ≡ 1) (in-graph : r < length (g .regions)) where
     pub turns-nothing : ShowsBody g w r x → {w′ : List ℕ}
         → ScanShows g w w′ (x .deferred-edges) (split-out-matching g claim [] (x .deferred-edges) s) split-variants.Nothing
         → TurnsShow g w w′ r (turns (suc n) x s) step.Right
     unfolding resolve-deferred
     turns-nothing b (shows-nothing {s′} p st u c) =
-        shows-turns {x = x} {s′ = s′} (rw p) st (body-stays (u .later) (u .regions-stay r below (inl busy)) b) (unharmed-around r u) c
+        shows-turns {x = x} {s′ = s′} (rw p) st (body-stays (u .later) (u .regions-stay r in-graph (inl busy)) b) (unharmed-around r u) c
 
     pub turns-refuse : {m k : ℕ} {w′ : List ℕ}
         → ScanShows g w w′ (x .deferred-edges) (split-out-matching g claim [] (x .deferred-edges) s) (split-variants.Refused m k)
@@ -115,7 +116,7 @@ module _ (g : Graph) (valid : Valid g) (fuel : ℕ) where
 
     module _ {w₁ : List ℕ} (y : SplitOut) (s₁ : NestState)
         (p : split-out-matching g claim [] (x .deferred-edges) s ≡ done (some y) s₁) (u : Unharmed g w w₁)
-        (c : cells-in-all w₁ + 4 ≤ cells-in-all w) where
+        (c : cells-in-all g w₁ + 4 ≤ cells-in-all g w) where
       abbrev selected : StepAnswer Body
       selected = structurize-select-into g (x .children) bool-cond (lazy (condition-in (x .deferred-edges) (y .bundle)))
           (ok (y .claimed-region) ∷ err (y .others) ∷ []) s₁
@@ -126,7 +127,7 @@ module _ (g : Graph) (valid : Valid g) (fuel : ℕ) where
       turns-full (refuses-body q) = refuses-turns {m = 9} {x = 0} (rw (p, q))
 
       pub turns-again : {w₂ w′ : List ℕ} (x′ : Body) (s₂ : NestState) → selected ≡ done x′ s₂ → Around g r w w₂
-          → cells-in-all w₂ ≤ cells-in-all w₁ + 4 → {a : Checked} → TurnsShow g w₂ w′ r (turns n x′ s₂) a
+          → cells-in-all g w₂ ≤ cells-in-all g w₁ + 4 → {a : Checked} → TurnsShow g w₂ w′ r (turns n x′ s₂) a
           → TurnsShow g w w′ r (turns (suc n) x s) a
       unfolding resolve-deferred
       turns-again x′ s₂ q ar k (shows-turns {x = z} {s′} f st b ar₂ k₂) =

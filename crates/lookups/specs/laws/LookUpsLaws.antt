@@ -7,6 +7,7 @@ use native.Mathlib.Omega.{arith}
 use lib.Dec.{eqb}
 use borrow.Author.Tests.{eq-eqb, ne-eqb}
 use Rattle.state.specs.Sections.{word, stored, head, rewrites}
+use Rattle.state.specs.Tables.{rewrite-kind}
 use Rattle.state.specs.Values.{is-input, is-held, input-region, input-index}
 use Rattle.lookups.specs.declared.look_up.LookUp.{LookUp}
 use Rattle.meaning.specs.Lists.{pick}
@@ -21,7 +22,7 @@ module _ (l : List ℕ) (n x r k i y : ℕ) {whole : LookUp} (some-left : 0 < n)
   unfolding turns
   turn-stays e = rw e at (rw (← again) at left)
 
-  module _ (an-input : is-input x ≡ true) (of-region : r ≡ input-region x) (kind : k ≡ word l rewrites (5 * r)) where
+  module _ (an-input : is-input x ≡ true) (of-region : r ≡ input-region x) (kind : k ≡ rewrite-kind l r) where
     pub turn-none : k ≡ 0 → plain x ≡ whole
     unfolding turns
     turn-none e =
@@ -30,7 +31,7 @@ module _ (l : List ℕ) (n x r k i y : ℕ) {whole : LookUp} (some-left : 0 < n)
 
     module _ (not-none : k ≡ 0 → ⊥) (index : i ≡ input-index x) (entry : y ≡ word l rewrites (5 * r + 1 + i)) where
       kind-is : k ≡ kind-at l x
-      kind-is = kind ∙ ap (λ q. word l rewrites (5 * q)) of-region
+      kind-is = kind ∙ ap (λ q. rewrite-kind l q) of-region
 
       entry-is : y ≡ entry-at l x
       entry-is = entry ∙ rw (of-region, index)
@@ -52,9 +53,9 @@ unfolding turns
 turns-over l n x h e = let z : n ≡ 0 = omega arith in rw z at e
 
 -- ---- The other functions, path by path.
-module _ (l : List ℕ) (v r k : ℕ) (of-region : r ≡ input-region v) (kind : k ≡ word l rewrites (5 * r)) where
+module _ (l : List ℕ) (v r k : ℕ) (of-region : r ≡ input-region v) (kind : k ≡ rewrite-kind l r) where
   kind-read : k ≡ kind-at l v
-  kind-read = kind ∙ ap (λ q. word l rewrites (5 * q)) of-region
+  kind-read = kind ∙ ap (λ q. rewrite-kind l q) of-region
 
   pub again-none : k ≡ 0 → false ≡ changes-again l v
   unfolding changes-again

@@ -39,7 +39,7 @@ use Rattle.shown.specs.laws.Elsewhere.{tables-stay}
 use Rattle.shown.specs.laws.FrontKept.{stands-on}
 use Rattle.shown.specs.Sets.{ShowsBundle, ShowsSet, no-bundle, target-size}
 use Rattle.shown.specs.Cells.{ShowsChildren}
-use Rattle.shown.specs.States.{ShowsOwnSet, Slots, NamedRewrites, ShowsState, ShowsClaimed}
+use Rattle.shown.specs.States.{ShowsOwnSet, Slots, NamedRewrites, ShowsState, ShowsClaimed, HasSlot}
 use Rattle.shown.specs.laws.RegionsKept.{own-set-stays, children-stay}
 use Rattle.shown.specs.laws.SetSteps.{swap-removed-only, swap-removed-set}
 use Rattle.shown.specs.laws.Finds.{targets-tell}
@@ -58,8 +58,8 @@ use Rattle.loops.specs.laws.LoopsShown.{InputsEntered, inputs-entered, e
 use Rattle.loops.specs.laws.LoopsShown.{made-refused, loop-step, loop-made-shown, defines-changes, set-beside}
 
 -- ---- The back edge leaves region r's set: nothing of another region changes.
-pub removed-concerns : (g : Graph) (w : List ℕ) (r i p : ℕ) → Slots w → r < 33 → i < 33 → p ≡ word w set-starts r + i
-    → Concerns g r w (swap-removed w r p)
+pub removed-concerns : (g : Graph) (w : List ℕ) (r i p : ℕ) → Slots (length (g .regions)) w → HasSlot (length (g .regions)) r → i < 33
+    → p ≡ word w set-starts r + i → Concerns g r w (swap-removed w r p)
 unfolding swap-removed
 removed-concerns g w r i p slots a b e =
     let n = word w set-lengths r in

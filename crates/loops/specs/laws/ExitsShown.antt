@@ -16,12 +16,12 @@ use Rattle.nesting.specs.Nesting.{exit-targets}
 use Rattle.state.specs.Sections.{used, start, size, word, stored, bundles, set-starts, set-lengths}
 use Rattle.state.specs.Tables.{bundle-at, edges-word}
 use Rattle.state.specs.laws.Edges.{edges-fit}
-use Rattle.shown.specs.laws.Stores.{ChangesOnly, nothing-changes, changes-then}
+use Rattle.shown.specs.laws.Stores.{ChangesOnly, nothing-changes, changes-then, word-there, word-apart}
 use Rattle.shown.specs.Sets.{ShowsTarget, shows-region, shows-return, ShowsBundle, ShowsSet, no-bundle}
-use Rattle.shown.specs.States.{Slots, ShowsOwnSet}
+use Rattle.shown.specs.States.{Slots, ShowsOwnSet, HasSlot}
 use Rattle.shown.specs.laws.RegionsKept.{bundle-stays}
 use Rattle.shown.specs.laws.Finds.{bundle-in}
-use Rattle.shown.specs.laws.RegionSteps.{slots-stay, word-there, word-apart, later-by, OnlyBundle, bundle-same}
+use Rattle.shown.specs.laws.RegionSteps.{slots-stay, later-by, OnlyBundle, bundle-same}
 use Rattle.shown.specs.laws.RegionSteps.{bundle-word, bundle-concerns}
 use Rattle.shown.specs.laws.RegionSteps.{Concerns, concerns-then}
 use Rattle.loops.specs.Exits.{exit-added, exits-from, exits-added}
@@ -123,7 +123,8 @@ module _ (g : Graph) (r : ℕ) (not-return : is-in 65535 (exit-targets g r) ≡ 
 
 -- ---- The whole set of loop r, bundle by bundle.
 module _ (g : Graph) (r : ℕ) (not-return : is-in 65535 (exit-targets g r) ≡ false) (l₀ : List ℕ) (start n : ℕ) (d : DeferredEdgeBundleSet)
-    (fits : used ≤ length l₀) (slots : Slots l₀) (below : r < 33) (own : start ≡ word l₀ set-starts r) (shown : ShowsSet g l₀ start n d)
+    (fits : used ≤ length l₀) (slots : Slots (length (g .regions)) l₀) (below : HasSlot (length (g .regions)) r)
+    (own : start ≡ word l₀ set-starts r) (shown : ShowsSet g l₀ start n d)
     (low : (i : ℕ) → i < n → getD d i no-bundle .accumulated-count < 65535) where
   record CountedTo (i : ℕ) (l : List ℕ) : Type 0 where
     concerns : Concerns g r l₀ l
@@ -194,7 +195,8 @@ pub record ExitsCounted (g : Graph) (r : ℕ) (l l′ : List ℕ) (d : DeferredE
   pub set : ShowsOwnSet g l′ r (map (add-exit-edge (exit-targets g r)) d)
 
 pub exits-shown : (g : Graph) (r : ℕ) (l : List ℕ) (d : DeferredEdgeBundleSet) → is-in 65535 (exit-targets g r) ≡ false → used ≤ length l
-    → Slots l → r < 33 → ShowsOwnSet g l r d → ((i : ℕ) → i < length d → getD d i no-bundle .accumulated-count < 65535)
+    → Slots (length (g .regions)) l → HasSlot (length (g .regions)) r → ShowsOwnSet g l r d
+    → ((i : ℕ) → i < length d → getD d i no-bundle .accumulated-count < 65535)
     → ExitsCounted g r l (exits-added g r l) d
 exits-shown g r l d not-return fits slots below shown low =
     let s = shown .size in

@@ -24,7 +24,7 @@ use Rattle.shown.specs.Sets.{Names, ShowsTarget, target-size, SameBundle}
 use Rattle.shown.specs.States.{ShowsReturned, ShowsState, ShowsCases, no-case}
 use Rattle.shown.specs.Kept.{Later, KeptRegion}
 use Rattle.shown.specs.laws.RegionsKept.{same-bundle, same-bundle-then}
-use Rattle.shown.specs.laws.RegionSteps.{word-there, word-apart}
+use Rattle.shown.specs.laws.Stores.{word-there, word-apart}
 use Rattle.merging.specs.Turns.{turned}
 use Rattle.bundles.specs.Words.{input-count}
 use Rattle.merging.specs.Planning.{Planned, planned, also, per-case-deferred, unique-input, all-true, plan-input, plan-inputs}
@@ -320,7 +320,7 @@ module _ (g : Graph) (valid : Valid g) (o : ℕ) (below : o + 33 ≤ 1089) (r : 
       let sp = one .spare in
       let bs = map (nesting.plan-bundle g cs) ts in
       let ih = rows-from s ts (suc i) (omega arith) l₁ (spare-there sp set-starts (omega arith) (omega arith) 32 ∙ at)
-      (spare-state sp (shown .slots) at valid shown) (spare-cases sp (shown .slots) at y)
+      (spare-state sp g (shown .slots) at valid shown) (spare-cases sp g (shown .slots) at y)
       (λ k h. let e : suc i + k ≡ i + suc k = omega arith in
       rw e (row-stays (one .others (o + (i + suc k)) (omega arith)) (rows (suc k) (omega arith)))) b₁ in
       let y′ = turned (plan-at o g) (planned l₁ b₁) (length ts) (suc i) in
@@ -346,7 +346,7 @@ pub record BundlesPlanned (g : Graph) (w : List ℕ) (y : Planned) (r : ℕ) (s 
   pub state : ShowsState g (y .words) s
   pub cases-shown : ShowsCases g (y .words) r cs
   pub later : Later g w (y .words)
-  pub kept : (q : ℕ) → q < 32 → KeptRegion w (y .words) q
+  pub kept : (q : ℕ) → q < length (g .regions) → KeptRegion w (y .words) q
 
 pub plan-bundles-shown : (g : Graph) → Valid g → (w : List ℕ) (r : ℕ) (s : NestState) (cs : List MaybeClaimedRegion) → ShowsState g w s
     → ShowsCases g w r cs → ShowsRows g w (word w set-starts 32) (nesting.deferred-targets cs [])
@@ -369,8 +369,8 @@ plan-bundles-shown g valid w r s cs shown x rows =
       size = ap (λ z. getD z 32 0) (all .same-lengths) ∙ rows .size ∙ sym same;
       needed = all .needed ∙ none-before (any needs-select (nesting.plan-bundles g cs));
       spare = sp;
-      state = spare-state sp slots refl valid shown;
-      cases-shown = spare-cases sp slots refl x;
+      state = spare-state sp g slots refl valid shown;
+      cases-shown = spare-cases sp g slots refl x;
       later = spare-later sp g;
-      kept = spare-keeps sp slots refl;
+      kept = spare-keeps sp g slots refl (valid .count .1);
     })

@@ -23,7 +23,7 @@ use Rattle.state.specs.Tables.{input-word, input-stored, bundle-at, case-total}
 use Rattle.shown.specs.Tables.{ShowsTables}
 use Rattle.shown.specs.Sets.{Names, ShowsTarget, shows-region, shows-return, target-size, ShowsBundle, ShowsSet, SameBundle, no-bundle}
 use Rattle.shown.specs.States.{Slots, ShowsReturned, NamedRewrites, ShowsState, ShowsCases, ShowsCase, shows-ok, shows-nothing, shows-edge}
-use Rattle.shown.specs.States.{shows-others, no-case}
+use Rattle.shown.specs.States.{shows-others, no-case, HasSlot}
 use Rattle.shown.specs.States.{ShowsRegion, is-not-begun, is-in-progress, is-ready, is-claimed}
 use Rattle.shown.specs.laws.Conditions.{condition-same}
 use Rattle.shown.specs.laws.FrontKept.{stands-on}
@@ -37,7 +37,7 @@ use Rattle.merging.specs.Rewriting.{rewrite-case, rewrite-cases}
 use Rattle.merging.specs.laws.Spare.{case-stays}
 use Rattle.shown.specs.laws.Finds.{bundle-in}
 use Rattle.merging.specs.laws.Rows.{rewrite-word, looked-up, met-twice, RowShown, row-shown, two-notes, no-note}
-use Rattle.shown.specs.laws.RegionSteps.{named-by}
+use Rattle.shown.specs.laws.RegionSteps.{named-by, slots-stay}
 
 -- ---- What rewriting leaves: all but the note, the cases' inputs and the bundles' inputs.
 pub record Stays (w w′ : List ℕ) : Type 0 where
@@ -519,8 +519,8 @@ module _ (g : Graph) (valid : Valid g) where
 
 -- ---- The step whole.
 -- No case's set is a Ready region's: the parent is in progress, and what a case claimed is claimed.
-pub record NoneReady (w : List ℕ) (r : ℕ) (cs : List MaybeClaimedRegion) : Type 0 where
-  pub parent-below : r < 33
+pub record NoneReady (g : Graph) (w : List ℕ) (r : ℕ) (cs : List MaybeClaimedRegion) : Type 0 where
+  pub parent-slot : HasSlot (length (g .regions)) r
   pub parent : word w kinds r ≡ 2 → ⊥
   pub origins : (j : ℕ) → j < length cs → word w cases (10 * j + 0) ≡ 2 → word w kinds (word w cases (10 * j + 1)) ≡ 2 → ⊥
 
@@ -547,7 +547,7 @@ from-zero : (k : ℕ) → 0 + k ≡ k
 from-zero k = omega arith
 
 -- Two slots that are not the same have no bundle in common.
-slots-apart : {w : List ℕ} → Slots w → (a b : ℕ) → a < 33 → b < 33 → (a ≡ b → ⊥) → (i j : ℕ) → i < 33 → j < 33
+slots-apart : {n : ℕ} {w : List ℕ} → Slots n w → (a b : ℕ) → HasSlot n a → HasSlot n b → (a ≡ b → ⊥) → (i j : ℕ) → i < 33 → j < 33
     → word w set-starts a + i ≡ word w set-starts b + j → ⊥
 slots-apart sl a b x y d i j h k e =
     let p = sl .starts a x in
@@ -557,7 +557,7 @@ slots-apart sl a b x y d i j h k e =
 module _ (g : Graph) (valid : Valid g) (w : List ℕ) (r : ℕ) (s : NestState) (cs : List MaybeClaimedRegion) (shown : ShowsState g w s)
     (x : ShowsCases g w r cs) where
   -- A bundle of case j is none of slot q's, where q is neither the parent nor the case's origin.
-  pub case-apart : (q : ℕ) → q < 33 → (r < 33) → (q ≡ r → ⊥) → (j : ℕ) → j < length cs
+  pub case-apart : (q : ℕ) → HasSlot (length (g .regions)) q → HasSlot (length (g .regions)) r → (q ≡ r → ⊥) → (j : ℕ) → j < length cs
       → (word w cases (10 * j + 0) ≡ 2 → q ≡ word w cases (10 * j + 1) → ⊥)
       → (i p : ℕ) → i < 33 → p < word w cases (10 * j + 5) → word w set-starts q + i ≡ word w cases (10 * j + 4) + p → ⊥
   case-apart q a b d j h f i p y z e = go (x .each j h)
@@ -589,7 +589,7 @@ module _ (g : Graph) (valid : Valid g) (w : List ℕ) (r : ℕ) (s : NestState) 
     bundles-outside q h = whole .outside q (λ j p. rw (from-zero j) (h j p))
 
     -- What is Ready stays, as no case's set is its own.
-    region-after : NoneReady w r cs → {q : ℕ} → q < length (g .regions) → {y : StructurizeRegionState} → ShowsRegion g w q y
+    region-after : NoneReady g w r cs → {q : ℕ} → q < length (g .regions) → {y : StructurizeRegionState} → ShowsRegion g w q y
         → ShowsRegion g (rewrite-cases g w) q y
     region-after none {q} h y = go y
       where
@@ -615,10 +615,10 @@ module _ (g : Graph) (valid : Valid g) (w : List ℕ) (r : ℕ) (s : NestState) 
             (rw (same children (omega arith) (omega arith) (omega arith)) (later .nodes-stay n))
             (rw (same set-starts (omega arith) (omega arith) (omega arith), same set-lengths (omega arith) (omega arith) (omega arith))
             (set-stays later (λ i z. bundles-outside (word w set-starts q + i) (λ j p u v e.
-            case-apart q (omega arith) (none .parent-below) (λ f. none .parent (ap (λ m. word w kinds m) (sym f) ∙ a)) j u
+            case-apart q (omega arith) (none .parent-slot) (λ f. none .parent (ap (λ m. word w kinds m) (sym f) ∙ a)) j u
             (λ f m. none .origins j u f (ap (λ o. word w kinds o) (sym m) ∙ a)) i p (omega arith) v e)) d))
 
-    pub rewrite-cases-shown : NoneReady w r cs → CasesRewritten g w (rewrite-cases g w) r s cs
+    pub rewrite-cases-shown : NoneReady g w r cs → CasesRewritten g w (rewrite-cases g w) r s cs
     unfolding case-total
     rewrite-cases-shown none =
         let w′ = rewrite-cases g w in
@@ -648,12 +648,7 @@ module _ (g : Graph) (valid : Valid g) (w : List ℕ) (r : ℕ) (s : NestState) 
             named = names-stay st (shown .named);
             size = shown .size;
             regions = λ q h. region-after none h (shown .regions q h);
-            slots = record {
-              slot-number = shown .slots .slot-number;
-              starts = λ a h. starts a ∙ shown .slots .starts a h;
-              below = shown .slots .below;
-              own = shown .slots .own;
-            };
+            slots = slots-stay (λ a h. starts a) (shown .slots);
             returned = returned-stays st (shown .returned);
           };
           later = later;
@@ -662,7 +657,7 @@ module _ (g : Graph) (valid : Valid g) (w : List ℕ) (r : ℕ) (s : NestState) 
         }
 
     -- A region that is neither the parent nor a case's origin keeps all that it has.
-    pub rewrite-keeps : r < 33 → (q : ℕ) → q < 33 → (q ≡ r → ⊥)
+    pub rewrite-keeps : HasSlot (length (g .regions)) r → (q : ℕ) → HasSlot (length (g .regions)) q → (q ≡ r → ⊥)
         → ((j : ℕ) → j < length cs → word w cases (10 * j + 0) ≡ 2 → q ≡ word w cases (10 * j + 1) → ⊥)
         → KeptRegion w (rewrite-cases g w) q
     rewrite-keeps below q h d f =

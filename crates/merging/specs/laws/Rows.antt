@@ -17,9 +17,9 @@ use Rattle.state.specs.Sections.{Section, start, size, used, word, stored, head
 use Rattle.state.specs.Values.{is-input, input-region, input-index}
 use Rattle.shown.specs.Values.{value}
 use Rattle.shown.specs.Tables.{ShowsTables}
-use Rattle.shown.specs.laws.Stores.{ChangesOnly, word-changes, changes-then, nothing-changes}
+use Rattle.shown.specs.laws.Stores.{ChangesOnly, word-changes, changes-then, nothing-changes, word-there, word-apart}
 use Rattle.shown.specs.laws.Elsewhere.{Elsewhere, word-elsewhere, tables-stay}
-use Rattle.shown.specs.laws.RegionSteps.{word-there, word-apart, named-by}
+use Rattle.shown.specs.laws.RegionSteps.{named-by}
 use Rattle.shown.specs.Sets.{Names}
 use Rattle.shown.specs.States.{NamedRewrites}
 use Rattle.lookups.specs.declared.look_up.LookUp.{LookUp}

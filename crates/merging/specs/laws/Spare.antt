@@ -21,7 +21,8 @@ use Rattle.shown.specs.Sets.{SameBundle}
 use Rattle.shown.specs.States.{Slots, ShowsState, ShowsCases, ShowsCase, shows-ok, shows-nothing, shows-edge, shows-others}
 use Rattle.shown.specs.Kept.{Later, KeptRegion}
 use Rattle.shown.specs.laws.RegionsKept.{set-stays, region-stays}
-use Rattle.shown.specs.laws.RegionSteps.{word-apart, named-by}
+use Rattle.shown.specs.laws.Stores.{word-apart}
+use Rattle.shown.specs.laws.RegionSteps.{named-by, slots-stay}
 
 -- ---- A case stays shown where its words and the slots do.
 pub case-stays : {g : Graph} {l l′ : List ℕ} → Later g l l′ → (r j : ℕ) → ((q : ℕ) → word l′ set-starts q ≡ word l set-starts q)
@@ -131,9 +132,9 @@ module _ {o : ℕ} {w w′ : List ℕ} (y : SpareOnly o w w′) where
         ]
       ]
 
-  module _ (slots : Slots w) (spare : word w set-starts 32 ≡ o) where
-    pub spare-keeps : (q : ℕ) → q < 32 → KeptRegion w w′ q
-    spare-keeps q h =
+  module _ (g : Graph) (slots : Slots (length (g .regions)) w) (spare : word w set-starts 32 ≡ o) where
+    pub spare-keeps : length (g .regions) ≤ 32 → (q : ℕ) → q < length (g .regions) → KeptRegion w w′ q
+    spare-keeps few q h =
         let a = slots .starts q (omega arith) in
         let b = slots .starts 32 (omega arith) in
         let apart : slots .slot-number q ≡ slots .slot-number 32 → ⊥ =
@@ -148,29 +149,24 @@ module _ {o : ℕ} {w w′ : List ℕ} (y : SpareOnly o w w′) where
           slot = λ i d. spare-outside (word w set-starts q + i) (λ k c e. apart (omega arith));
         }
 
-    pub spare-state : {g : Graph} → Valid g → {s : NestState} → ShowsState g w s → ShowsState g w′ s
-    spare-state {g} valid x =
+    pub spare-state : Valid g → {s : NestState} → ShowsState g w s → ShowsState g w′ s
+    spare-state valid x =
         record {
           stands = stands-on (spare-later g .front) (x .stands);
           tables = tables-stay spare-tables (x .tables);
           named = named-by (y .others rewrites (omega arith) (omega arith)) (x .named);
           size = x .size;
-          regions = λ q h. let n = valid .count in region-stays (spare-later g) (spare-keeps q (omega arith))
+          regions = λ q h. region-stays (spare-later g) (spare-keeps (valid .count .1) q h)
               (spare-there kinds (omega arith) (omega arith) q) (x .regions q h);
-          slots = record {
-            slot-number = slots .slot-number;
-            starts = λ a h. spare-there set-starts (omega arith) (omega arith) a ∙ slots .starts a h;
-            below = slots .below;
-            own = slots .own;
-          };
+          slots = slots-stay (λ a h. spare-there set-starts (omega arith) (omega arith) a) slots;
           returned = record {
             size = spare-there head (omega arith) (omega arith) 8 ∙ x .returned .size;
             types = λ k h. spare-there head (omega arith) (omega arith) (9 + k) ∙ x .returned .types k h;
           };
         }
 
-    pub spare-cases : {g : Graph} {r : ℕ} {cs : List MaybeClaimedRegion} → ShowsCases g w r cs → ShowsCases g w′ r cs
-    spare-cases {g} {r} x =
+    pub spare-cases : {r : ℕ} {cs : List MaybeClaimedRegion} → ShowsCases g w r cs → ShowsCases g w′ r cs
+    spare-cases {r} x =
         let f : (i : ℕ) → word w′ cases i ≡ word w cases i = spare-there cases (omega arith) (omega arith) in
         record {
           size = spare-total ∙ x .size;

@@ -19,7 +19,7 @@ use Rattle.state.specs.Sections.{start, size, used, section, word, stored, stor
 use Rattle.state.specs.laws.Edges.{edges-fit}
 use Rattle.state.specs.Tables.{find-by, bundle-at}
 use Rattle.state.specs.laws.Apart.{section-other}
-use Rattle.shown.specs.laws.Stores.{section-run, run-length, part-length}
+use Rattle.shown.specs.laws.Stores.{section-run, run-length, part-length, word-there, word-apart}
 use Rattle.shown.specs.Sets.{ShowsTarget, shows-region, shows-return, target-size, ShowsBundle, ShowsSet, no-bundle}
 use Rattle.shown.specs.States.{ShowsState, ShowsCases, no-case}
 use Rattle.shown.specs.Kept.{Later, KeptRegion}
@@ -33,7 +33,6 @@ use Rattle.merging.specs.laws.Spare.{spare-keeps, spare-state, spare-cas
 use Rattle.meaning.specs.facts.Pigeonhole.{pigeonhole}
 use Rattle.shown.specs.laws.Finds.{bundle-in, targets-tell, FirstTo, first-at, none-to, finds-first}
 use Rattle.meaning.specs.facts.Parts.{run-before, run-in}
-use Rattle.shown.specs.laws.RegionSteps.{word-there, word-apart}
 use Rattle.nesting.specs.steps.TargetsAndCases.{same-target-is, same-target-self, summary-with}
 
 -- ---- The definition's step, by the first row to a bundle's target.
@@ -411,7 +410,7 @@ pub record TargetsDeferred (g : Graph) (w w′ : List ℕ) (r : ℕ) (s : NestSt
   pub state : ShowsState g w′ s
   pub cases-shown : ShowsCases g w′ r cs
   pub later : Later g w w′
-  pub kept : (q : ℕ) → q < 32 → KeptRegion w w′ q
+  pub kept : (q : ℕ) → q < length (g .regions) → KeptRegion w w′ q
 
 pub deferred-targets-shown : (g : Graph) → Valid g → (w : List ℕ) (r : ℕ) (s : NestState) (cs : List MaybeClaimedRegion) → ShowsState g w s
     → ShowsCases g w r cs → ((x : DeferredTarget) → edges-of-cases x cs ≤ 65535)
@@ -425,7 +424,7 @@ deferred-targets-shown g valid w r s cs shown x bound =
     let a = slots .starts 32 (omega arith) in
     let b = slots .below 32 (omega arith) in
     let first = spare-length o w 0 in
-    let y = spare-cases first slots refl x in
+    let y = spare-cases first g slots refl x in
     let from-zero : (k : ℕ) → 0 + k ≡ k = λ k. omega arith in
     let at : word m set-starts 32 ≡ o = spare-there first set-starts (omega arith) (omega arith) 32 in
     let none : ShowsRows g m o [] = record {
@@ -442,8 +441,8 @@ deferred-targets-shown g valid w r s cs shown x bound =
     (record {
       rows = all .rows;
       spare = sp;
-      state = spare-state sp slots refl valid shown;
-      cases-shown = spare-cases sp slots refl x;
+      state = spare-state sp g slots refl valid shown;
+      cases-shown = spare-cases sp g slots refl x;
       later = spare-later sp g;
-      kept = spare-keeps sp slots refl;
+      kept = spare-keeps sp g slots refl (valid .count .1);
     })

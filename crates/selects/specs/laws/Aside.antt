@@ -13,7 +13,7 @@ use Rattle.nesting.specs.Nesting.{without-convergent}
 use Rattle.state.specs.Sections.{word, used, kinds, set-starts, cases}
 use Rattle.state.specs.Tables.{case-total, case-words, case-row}
 use Rattle.shown.specs.Sets.{ShowsSet, SameBundle}
-use Rattle.shown.specs.States.{Slots, ShowsCase, shows-ok, shows-nothing, shows-edge, shows-others, ShowsCases, no-case}
+use Rattle.shown.specs.States.{Slots, ShowsCase, shows-ok, shows-nothing, shows-edge, shows-others, ShowsCases, no-case, HasSlot}
 use Rattle.shown.specs.Kept.{Later}
 use Rattle.shown.specs.laws.RegionsKept.{set-stays}
 use Rattle.bundles.specs.Words.{unclaimed-case}
@@ -24,7 +24,8 @@ use Rattle.merging.specs.laws.TargetsShown.{edges-of-cases, edges-of-set}
 use Rattle.selects.specs.Into.{set-aside}
 
 module _ {g : Graph} (few : length (g .regions) ≤ 32) {r : ℕ} (here : r < length (g .regions)) {w : List ℕ} (room : used ≤ length w)
-    (slots : Slots w) {cs : List MaybeClaimedRegion} (shown : ShowsCases g w r cs) (j : ℕ) (below : j < length cs) where
+    (slots : Slots (length (g .regions)) w) {cs : List MaybeClaimedRegion} (shown : ShowsCases g w r cs) (j : ℕ)
+    (below : j < length cs) where
   at-most : j < 8
   at-most = let most = shown .few in omega arith
 
@@ -90,8 +91,8 @@ pub record PartsStay (g : Graph) (w w′ : List ℕ) (j : ℕ) : Type 0 where
   pub inputs : (k : ℕ) → k < 4 → word w′ cases (10 * j + (6 + k)) ≡ word w cases (10 * j + (6 + k))
   pub bundles : (p : ℕ) → p < word w cases (10 * j + 5) → SameBundle w w′ (word w cases (10 * j + 4) + p)
 
-pub parts-then : {g : Graph} {w w′ : List ℕ} {r j : ℕ} {m : MaybeClaimedRegion} → Slots w → r < 33 → PartsStay g w w′ j
-    → CaseAndSet g w r j m
+pub parts-then : {g : Graph} {w w′ : List ℕ} {r j : ℕ} {m : MaybeClaimedRegion} → Slots (length (g .regions)) w
+    → HasSlot (length (g .regions)) r → PartsStay g w w′ j → CaseAndSet g w r j m
     → ((c : ClaimedRegion) → m ≡ ok c → (word w kinds (c .origin) ≡ 3) × (c .origin ≡ r → ⊥)) → ShowsAlone g w′ r j (case-row w j) m
 parts-then {g} {w} {w′} {r} {j} slots below stay x claimed = go (x .case) (set-stays (stay .later) (stay .bundles) (x .set)) claimed
   where

@@ -23,7 +23,7 @@ use Rattle.shown.specs.laws.DefinedShown.{done-of, full-of}
 use Rattle.shown.specs.laws.Elsewhere.{tables-stay, word-elsewhere}
 use Rattle.shown.specs.laws.Steps.{output-made, output-changes}
 use Rattle.shown.specs.Sets.{Names, ShowsTarget, target-size}
-use Rattle.shown.specs.laws.RegionSteps.{word-there, word-apart}
+use Rattle.shown.specs.laws.Stores.{word-there, word-apart}
 use Rattle.bundles.specs.laws.Targets.{target-type-shown}
 use Rattle.state.specs.declared.defined.Made.{Made}
 use Rattle.selects.specs.Turns.{Turns, turns-over, turn-on, turn-refused}

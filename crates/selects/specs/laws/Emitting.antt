@@ -97,7 +97,8 @@ emitting-word g w p i x h =
 pub record Spared (g : Graph) (r base : ℕ) (cs : List MaybeClaimedRegion) (w : List ℕ) : Type 0 where
   pub shown : ShowsCases g w r cs
   pub returned : ShowsReturned g w
-  pub slots : Slots w
+  pub few : length (g .regions) ≤ 32
+  pub slots : Slots (length (g .regions)) w
   pub spare : word w set-starts 32 ≡ base
 
 module _ {g : Graph} {r base : ℕ} {cs : List MaybeClaimedRegion} {a b : ℕ} {w w′ : List ℕ} (here : Spared g r base cs w)
@@ -108,6 +109,7 @@ module _ {g : Graph} {r base : ℕ} {cs : List MaybeClaimedRegion} {a b : ℕ} {
   pub emitting-step : SelectStep g r w w′
   emitting-step =
       let at = here .spare in
+      let few = here .few in
       record {
         later = x .later;
         same-kinds = same kinds (omega arith) (omega arith);
@@ -143,6 +145,7 @@ module _ {g : Graph} {r base : ℕ} {cs : List MaybeClaimedRegion} {a b : ℕ} {
           size = s .same-head 8 (omega arith) ∙ y .size;
           types = λ k h. s .same-head (9 + k) (omega arith) ∙ y .types k h;
         };
+        few = here .few;
         slots = slots-stay (λ q h. s .same-starts q) (here .slots);
         spare = s .same-starts 32 ∙ here .spare;
       }

@@ -22,6 +22,7 @@ use Rattle.shown.specs.Tables.{ShowsShape}
 use Rattle.shown.specs.Sets.{ShowsSet}
 use Rattle.shown.specs.Cells.{ShowsChildren}
 use Rattle.shown.specs.States.{ShowsState, ShowsBody, ShowsCases, ShowsCase, shows-ok, shows-nothing, shows-edge, shows-others, no-case}
+use Rattle.shown.specs.States.{HasSlot}
 use Rattle.shown.specs.Kept.{Later, KeptRegion}
 use Rattle.shown.specs.laws.RegionsKept.{later-then, kept-then, set-stays, same-bundle-then}
 use Rattle.shown.specs.laws.RegionSteps.{word-concerns, concerns-states, state-stays, length-set-to, later-by, kept-by}
@@ -51,7 +52,7 @@ record SpareTaken (g : Graph) (r : ℕ) (w w′ : List ℕ) (x : Body) (s : Nest
   state : ShowsState g w′ s
   body : ShowsBody g w′ r x
   later : Later g w w′
-  kept : (q : ℕ) → q < 32 → (q ≡ r → ⊥) → KeptRegion w w′ q
+  kept : (q : ℕ) → q < length (g .regions) → (q ≡ r → ⊥) → KeptRegion w w′ q
   same-total : word w′ head 4 ≡ word w head 4
 
 spare-shown : {g : Graph} → length (g .regions) ≤ 32 → {r : ℕ} → r < length (g .regions) → {w : List ℕ} {s : NestState} → ShowsState g w s
@@ -65,7 +66,7 @@ spare-shown {g} few {r} here {w} state unready {x} nodes set =
     let w₁ = swapped w r 32 in
     let only = swapped-only w room r 32 r-33 at in
     let later₁ = only-later only g in
-    let state₁ = only-state only (swapped-slots w room r 32 r-33 at (state .slots))
+    let state₁ = only-state only (swapped-slots w room r 32 r-33 at (omega arith) (omega arith) (state .slots))
     (λ q k e. swapped-kept w room r 32 r-33 at q (λ f. unready (ap (λ b. word w kinds b) (sym f) ∙ e)) (omega arith)) state in
     let kind₁ : word w₁ kinds r ≡ 2 → ⊥ = λ e. unready (sym (only-word-same only kinds (omega arith) r) ∙ e) in
     let set₁ : ShowsSet g w₁ (word w₁ set-starts r) n (x .deferred-edges) =
@@ -90,11 +91,11 @@ pub record ClaimedCases (w : List ℕ) (r : ℕ) (cs : List MaybeClaimedRegion) 
   pub claimed : (j : ℕ) → j < length cs → (c : ClaimedRegion) → getD cs j no-case ≡ ok c
       → (word w kinds (c .origin) ≡ 3) × (c .origin ≡ r → ⊥)
 
-none-ready : {g : Graph} {w : List ℕ} {r : ℕ} {cs : List MaybeClaimedRegion} → r < 33 → ShowsCases g w r cs → ClaimedCases w r cs
-    → NoneReady w r cs
-none-ready {g} {w} {r} {cs} below shown claimed =
+none-ready : {g : Graph} {w : List ℕ} {r : ℕ} {cs : List MaybeClaimedRegion} → HasSlot (length (g .regions)) r → ShowsCases g w r cs
+    → ClaimedCases w r cs → NoneReady g w r cs
+none-ready {g} {w} {r} {cs} slot shown claimed =
     record {
-      parent-below = below;
+      parent-slot = slot;
       parent = claimed .parent;
       origins = λ j h k e. go j (shown .each j h) (claimed .claimed j h) k e;
     }
@@ -115,7 +116,7 @@ pub record IntoDone (g : Graph) (r : ℕ) (cs : List MaybeClaimedRegion) (w w′
   pub state : ShowsState g w′ s
   pub body : ShowsBody g w′ r x
   pub later : Later g w w′
-  pub kept : (q : ℕ) → q < 32 → (q ≡ r → ⊥)
+  pub kept : (q : ℕ) → q < length (g .regions) → (q ≡ r → ⊥)
       → ((j : ℕ) (c : ClaimedRegion) → j < length cs → getD cs j no-case ≡ ok c → q ≡ c .origin → ⊥) → KeptRegion w w′ q
   pub total : word w′ head 4 ≤ word w head 4 + (length cs + 2)
 

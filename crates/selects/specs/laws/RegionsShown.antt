@@ -12,13 +12,12 @@ use Rattle.state.specs.declared.defined.Defined.{Defined}
 use Rattle.state.specs.Sections.{word, stored, head, cases}
 use Rattle.state.specs.laws.Apart.{section-other}
 use Rattle.state.specs.Tables.{Defines, defined, full}
-use Rattle.shown.specs.laws.Stores.{ChangesOnly, nothing-changes, head-changes, word-changes, changes-then}
+use Rattle.shown.specs.laws.Stores.{ChangesOnly, nothing-changes, head-changes, word-changes, changes-then, word-there, word-apart}
 use Rattle.shown.specs.Tables.{ShowsTables}
 use Rattle.shown.specs.laws.DefinedShown.{done-of, full-of}
 use Rattle.shown.specs.laws.Elsewhere.{tables-stay, word-elsewhere}
 use Rattle.shown.specs.States.{ShowsCase, shows-ok, shows-nothing, shows-edge, shows-others, no-case}
 use Rattle.shown.specs.laws.Steps.{region-defined}
-use Rattle.shown.specs.laws.RegionSteps.{word-there, word-apart}
 use Rattle.state.specs.declared.defined.Made.{Made}
 use Rattle.state.specs.declared.defined.Made.the-variants.{Done, Full}
 use Rattle.selects.specs.Turns.{Turns, turns-over, turn-on, turn-refused}

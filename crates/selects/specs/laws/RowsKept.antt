@@ -15,7 +15,7 @@ use Rattle.format.specs.Valid.{Valid}
 use Rattle.state.specs.Sections.{word, stored, section, head, cases, bundles}
 use Rattle.state.specs.laws.Apart.{section-other}
 use Rattle.state.specs.Tables.{input-word, input-stored, bundle-at, case-total}
-use Rattle.shown.specs.laws.RegionSteps.{word-apart}
+use Rattle.shown.specs.laws.Stores.{word-apart}
 use Rattle.lookups.specs.LookUps.{look-up}
 use Rattle.merging.specs.Turns.{turned}
 use Rattle.bundles.specs.Words.{input-count}

@@ -21,7 +21,7 @@ use Rattle.shown.specs.laws.Conditions.{merge-made, merge-changes, merge-later}
 use Rattle.shown.specs.Sets.{ShowsBundle, ShowsSet, SameBundle, no-bundle}
 use Rattle.shown.specs.laws.RegionsKept.{bundle-stays}
 use Rattle.shown.specs.laws.Finds.{bundle-in}
-use Rattle.shown.specs.laws.RegionSteps.{word-there, word-apart}
+use Rattle.shown.specs.laws.Stores.{word-there, word-apart}
 use Rattle.selects.specs.laws.SmallTypes.{SmallTypes}
 use Rattle.state.specs.declared.defined.Made.{Made}
 use Rattle.selects.specs.Turns.{Turns, turns-over, turn-on, turn-refused}

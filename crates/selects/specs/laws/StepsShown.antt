@@ -16,7 +16,7 @@ use Rattle.shown.specs.Sets.{SameBundle}
 use Rattle.shown.specs.States.{ShowsCase, shows-ok, shows-nothing, shows-edge, shows-others, ShowsCases}
 use Rattle.shown.specs.Kept.{Later, KeptRegion}
 use Rattle.shown.specs.laws.RegionsKept.{later-same, later-then, kept-same, kept-then, same-bundle, same-bundle-then, set-stays}
-use Rattle.shown.specs.laws.RegionSteps.{OfNoRegion, kept-by, bundles-same, StatesStay, word-concerns, later-by}
+use Rattle.shown.specs.laws.RegionSteps.{OfNoRegion, kept-by, bundles-same, StatesStay, word-concerns, later-by, kept-word}
 use Rattle.selects.specs.laws.RegionsShown.{KeepsCases}
 
 pub record SelectStep (g : Graph) (r : ℕ) (w w′ : List ℕ) : Type 0 where
@@ -26,7 +26,7 @@ pub record SelectStep (g : Graph) (r : ℕ) (w w′ : List ℕ) : Type 0 where
   pub same-head : (k : ℕ) → 7 ≤ k → word w′ head k ≡ word w head k
   pub case-words : (k i : ℕ) → i < 10 → (i ≡ 2 → ⊥) → word w′ cases (10 * k + i) ≡ word w cases (10 * k + i)
   pub case-bodies : (k : ℕ) → word w cases (10 * k + 0) ≡ 2 → word w′ cases (10 * k + 2) ≡ word w cases (10 * k + 2)
-  pub others : (q : ℕ) → q < 32 → (q ≡ r → ⊥) → KeptRegion w w′ q
+  pub others : (q : ℕ) → q < length (g .regions) → (q ≡ r → ⊥) → KeptRegion w w′ q
   pub bundles-kept : (p : ℕ) → ((i : ℕ) → i < 33 → word w set-starts 32 + i ≡ p → ⊥) → SameBundle w w′ p
 
 pub step-same : (g : Graph) (r : ℕ) (w : List ℕ) → SelectStep g r w w
@@ -100,19 +100,18 @@ step-children g r w h =
       same-head = λ k b. c .same-head k;
       case-words = λ k i b d. ap (λ l. getD l (10 * k + i) 0) same;
       case-bodies = λ k e. ap (λ l. getD l (10 * k + 2) 0) same;
-      others = λ q b d. c .others q (omega arith) d;
+      others = λ q b d. kept-word g w children (omega arith) (omega arith) r h q d;
       bundles-kept = λ p d. bundles-same (section-other w children r h bundles (omega arith)) p;
     }
 
 -- ---- Region r is under way, so that no state of a region changes.
-pub states-of-step : {g : Graph} {r : ℕ} {w w′ : List ℕ} → SelectStep g r w w′ → length (g .regions) ≤ 32 → (word w kinds r ≡ 2 → ⊥)
-    → StatesStay g w w′
-states-of-step {w} x few d =
+pub states-of-step : {g : Graph} {r : ℕ} {w w′ : List ℕ} → SelectStep g r w w′ → (word w kinds r ≡ 2 → ⊥) → StatesStay g w w′
+states-of-step {w} x d =
     record {
       same-kinds = λ q h. x .same-kinds q;
       same-starts = λ a h. x .same-starts a;
       same-returned = λ k h. x .same-head k (omega arith);
-      ready-kept = λ q h e. x .others q (omega arith) (λ z. d (ap (λ p. word w kinds p) (sym z) ∙ e));
+      ready-kept = λ q h e. x .others q h (λ z. d (ap (λ p. word w kinds p) (sym z) ∙ e));
     }
 
 -- ---- The cases stay shown.

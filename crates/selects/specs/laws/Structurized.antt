@@ -31,7 +31,7 @@ use Rattle.shown.specs.States.{ShowsState, ShowsCases, NamedRewrites}
 use Rattle.shown.specs.Kept.{Later, KeptRegion}
 use Rattle.shown.specs.laws.RegionsKept.{later-then, kept-then, same-bundle-then, set-stays}
 use Rattle.shown.specs.laws.CellSteps.{join-none}
-use Rattle.shown.specs.laws.RegionSteps.{slots-stay, bundles-same, later-by, state-next}
+use Rattle.shown.specs.laws.RegionSteps.{slots-stay, bundles-same, later-by, state-next, named-by}
 use Rattle.merging.specs.Planning.{plan-bundles}
 use Rattle.merging.specs.Rewriting.{rewrite-cases}
 use Rattle.merging.specs.laws.RewritingShown.{NoneReady, cases-after, state-after, rewrite-is, rewrite-cases-shown, rewrite-keeps}
@@ -112,6 +112,7 @@ module _ {g : Graph} (few : length (g .regions) ≤ 32) (small : SmallTypes g) {
             size = step .same-head 8 (omega arith) ∙ z .size;
             types = λ k b. step .same-head (9 + k) (omega arith) ∙ z .types k b;
           };
+          few = few;
           slots = slots-stay (λ q b. step .same-starts q) (here .slots);
           spare = step .same-starts 32 ∙ here .spare;
         }
@@ -194,7 +195,7 @@ pub record Prepared (g : Graph) (r : ℕ) (cs : List MaybeClaimedRegion) (s : Ne
         → (number k ≡ number sections.cases → ⊥) → (number k ≡ number sections.bundles → ⊥)
         → section w′ k ≡ section w k
     pub totals : (q : ℕ) → (q ≡ 6 → ⊥) → word w′ head q ≡ word w head q
-    pub kept : (q : ℕ) → q < 32 → (q ≡ r → ⊥)
+    pub kept : (q : ℕ) → q < length (g .regions) → (q ≡ r → ⊥)
         → ((j : ℕ) → j < length cs → word w cases (10 * j + 0) ≡ 2 → q ≡ word w cases (10 * j + 1) → ⊥) → KeptRegion w w′ q
     pub outside : (p : ℕ) → ((j i : ℕ) → j < length cs → i < word w cases (10 * j + 5) → p ≡ word w cases (10 * j + 4) + i → ⊥)
         → ((i : ℕ) → i < 33 → p ≡ word w set-starts 32 + i → ⊥) → SameBundle w w′ p
@@ -203,7 +204,7 @@ pub record Prepared (g : Graph) (r : ℕ) (cs : List MaybeClaimedRegion) (s : Ne
         → word w′ cases (10 * j + q) ≡ word w cases (10 * j + q)
 
 module _ {g : Graph} (valid : Valid g) {r : ℕ} (below : r < length (g .regions)) {w : List ℕ} {s : NestState} (state : ShowsState g w s)
-    {cs : List MaybeClaimedRegion} (shown : ShowsCases g w r cs) (unready : NoneReady w r cs)
+    {cs : List MaybeClaimedRegion} (shown : ShowsCases g w r cs) (unready : NoneReady g w r cs)
     (chains : (q : ℕ) → ChainsEnd (s .region-input-rewrites) q)
     (bound : (x : DeferredTarget) → edges-of-cases x (cases-after s cs) ≤ 65535) where
   pub prepared : Prepared g r cs s w (with-plan g w) (word (with-targets g w) set-starts 32) (plan-bundles g (with-targets g w) .needed)
@@ -248,7 +249,7 @@ pub record Structured (g : Graph) (r : ℕ) (cs : List MaybeClaimedRegion) (w w�
   pub later : Later g w w′
   pub same-kinds : (q : ℕ) → word w′ kinds q ≡ word w kinds q
   pub same-starts : (q : ℕ) → word w′ set-starts q ≡ word w set-starts q
-  pub kept : (q : ℕ) → q < 32 → (q ≡ r → ⊥)
+  pub kept : (q : ℕ) → q < length (g .regions) → (q ≡ r → ⊥)
       → ((j : ℕ) → j < length cs → word w cases (10 * j + 0) ≡ 2 → q ≡ word w cases (10 * j + 1) → ⊥) → KeptRegion w w′ q
   pub outside : (p : ℕ) → ((j i : ℕ) → j < length cs → i < word w cases (10 * j + 5) → p ≡ word w cases (10 * j + 4) + i → ⊥)
       → ((i : ℕ) → i < 33 → p ≡ word w set-starts 32 + i → ⊥) → SameBundle w w′ p
@@ -263,7 +264,7 @@ states-kept (done a s₁) p {s′} e = let z : s₁ ≡ s′ = cc in rw (← z) 
 states-kept (turned-away n u) p e = absurd (clash (cc))
 
 module _ {g : Graph} (valid : Valid g) {r : ℕ} (below : r < length (g .regions)) {w : List ℕ} {s : NestState}
-    (state : ShowsState g w s) {cs : List MaybeClaimedRegion} (shown : ShowsCases g w r cs) (unready : NoneReady w r cs)
+    (state : ShowsState g w s) {cs : List MaybeClaimedRegion} (shown : ShowsCases g w r cs) (unready : NoneReady g w r cs)
     (chains : (q : ℕ) → ChainsEnd (s .region-input-rewrites) q)
     (bound : (x : DeferredTarget) → edges-of-cases x (cases-after s cs) ≤ 65535)
     {x : Scrutinee} {y : nesting.Scrutinee} (scrutinee : ShowsScrutinee w x y) {shape : ℕ} {kind : SelectionKind}
@@ -284,7 +285,7 @@ module _ {g : Graph} (valid : Valid g) {r : ℕ} (below : r < length (g .regions
   spared : Spared g r base (cases-after s cs) (with-plan g w)
   spared =
       let p = before in
-      record { shown = p .shown; returned = p .state .returned; slots = p .state .slots; spare = p .spare-at }
+      record { shown = p .shown; returned = p .state .returned; few = valid .count .1; slots = p .state .slots; spare = p .spare-at }
 
   made : {w′ : List ℕ} {a : Made} → SelectIf g (needs-select g w) r shape x (with-plan g w) w′ a
       → ShowsMade (SelectChosen g r base parent (length cs) (length ps) (with-plan g w) w′) a
@@ -307,10 +308,7 @@ module _ {g : Graph} (valid : Valid g) {r : ℕ} (below : r < length (g .regions
   finished {w₁} {z} {s₁} e c =
       let p = before in
       let many = valid .count in
-      let named₁ : NamedRewrites w₁ = record {
-        below = λ q k a b d. rw (c .same-rewrites) (p .state .named .below q k a b
-            (λ u. d (ap (λ l. getD l (5 * q) 0) (c .same-rewrites) ∙ u)));
-      } in
+      let named₁ : NamedRewrites w₁ = named-by (c .same-rewrites) (p .state .named) in
       let o = replaced-shown (cases-stay (c .step) (p .shown)) (c .tables) named₁ in
       let last = step-by (o .changes) (omega arith) (omega arith) (omega arith) (omega arith) g r (later-by (o .changes) (omega arith) g) in
       let step = step-then (c .step) last in
@@ -322,7 +320,7 @@ module _ {g : Graph} (valid : Valid g) {r : ℕ} (below : r < length (g .regions
       (nesting.any-non-empty-case cs || any-needs-select ps)
       kind y
       cs ps (state-after s cs)) e in
-      let stays = states-of-step step (omega arith) (λ h. unready .parent (sym (same-kinds r) ∙ h)) in
+      let stays = states-of-step step (λ h. unready .parent (sym (same-kinds r) ∙ h)) in
       let at : word (all-replaced w₁ (case-total w₁) 0) set-starts 32 ≡ base = step .same-starts 32 ∙ p .spare-at in
       let rows : word (all-replaced w₁ (case-total w₁) 0) set-lengths 32 ≡ length ps =
       ap (λ l. getD l 32 0) (o .changes .others set-lengths (omega arith) (omega arith) ∙ c .same-lengths) ∙ p .plan .size in

@@ -10,11 +10,12 @@ use Rattle.meaning.specs.Graph.{Graph}
 use Rattle.meaning.specs.Runs.{Nodes}
 use Rattle.nesting.specs.Nesting.{DeferredEdgeBundleSet, StructurizeRegionState, not-begun, NestState, with-tables}
 use Rattle.state.specs.Sections as sections
-use Rattle.state.specs.Sections.{Section, number, start, size, used, section, word, stored, stored-all, head, kinds, backedges, set-starts}
+use Rattle.state.specs.Sections.{Section, number, size, used, section, word, stored, stored-all, head, kinds, backedges, set-starts}
 use Rattle.state.specs.Sections.{set-lengths, children, bodies, levels, rewrites, conditions, cells, outputs, bundles, front}
-use Rattle.state.specs.laws.Apart.{section-stored, section-other, part-stored}
+use Rattle.state.specs.Tables.{entry-kind}
+use Rattle.state.specs.laws.Apart.{section-other}
 use Rattle.shown.specs.laws.Stores.{ChangesOnly, word-changes, run-changes, nothing-changes, section-run}
-use Rattle.shown.specs.laws.Stores.{part-length, run-other}
+use Rattle.shown.specs.laws.Stores.{run-other, word-there, word-apart}
 use Rattle.shown.specs.Tables.{ShowsTables}
 use Rattle.shown.specs.laws.Elsewhere.{SameTables, tables-stay, Elsewhere, same-then}
 use Rattle.shown.specs.laws.Conditions.{condition-same}
@@ -22,22 +23,10 @@ use Rattle.shown.specs.laws.FrontKept.{stands-on}
 use Rattle.shown.specs.Sets.{ShowsSet, SameBundle}
 use Rattle.shown.specs.Cells.{ShowsChildren}
 use Rattle.shown.specs.States.{ShowsOwnSet, ShowsRegion, is-not-begun, is-in-progress, is-ready, is-claimed, ShowsState}
-use Rattle.shown.specs.States.{NamedRewrites, Slots}
+use Rattle.shown.specs.States.{NamedRewrites, HasSlot, Slots}
 use Rattle.shown.specs.Kept.{Later, KeptRegion}
 use Rattle.shown.specs.laws.RegionsKept.{later-same, later-then, kept-same, kept-then, region-stays, set-stays, same-bundle}
 use Rattle.meaning.specs.facts.Parts.{run-before, run-behind}
-
--- ---- A word stored in a section, and any other word of any section.
-pub word-there : (l : List ℕ) (k : Section) (i x : ℕ) → start k + size k ≤ length l → i < size k → word (stored l k i x) k i ≡ x
-word-there l k i x s h =
-    rw (section-stored l k i x) (getD-set-same (section l k) i x 0 (rw (part-length (start k) (size k) l s) h))
-
-pub word-apart : (l : List ℕ) (k : Section) (i x : ℕ) (j : Section) (q : ℕ) → (q ≡ i → ⊥) → word (stored l k i x) j q ≡ word l j q
-word-apart l k i x j q d =
-    elim (ℕ-discrete (number j) (number k)) [
-      | yes e ↦ rw (e, part-stored (start k) (size k) l i x) (getD-set-other (section l k) i q x 0 d)
-      | no n ↦ ap (λ p. getD p q 0) (section-other l k i x j n)
-    ]
 
 -- ---- Steps that change one section and one word of the head, by which they are.
 -- Neither the record, nor the conditions, nor the cells, nor the totals of these: of a section by its name, `omega arith` proves it.
@@ -123,12 +112,12 @@ states-by changes d e h g =
       ready-kept = λ q a b. kept-by changes d q;
     }
 
-pub slots-stay : {w w′ : List ℕ} → ((a : ℕ) → a < 33 → word w′ set-starts a ≡ word w set-starts a) → Slots w → Slots w′
+pub slots-stay : {n : ℕ} {w w′ : List ℕ} → ((a : ℕ) → a < 33 → word w′ set-starts a ≡ word w set-starts a) → Slots n w → Slots n w′
 slots-stay e y =
-    record { slot-number = y .slot-number; starts = λ a h. e a h ∙ y .starts a h; below = y .below; own = y .own }
+    record { slot-number = y .slot-number; starts = λ a h. e a (h .below) ∙ y .starts a h; below = y .below; own = y .own }
 
 pub named-by : {w w′ : List ℕ} → section w′ rewrites ≡ section w rewrites → NamedRewrites w → NamedRewrites w′
-named-by e n = record { below = λ r k a b d. rw e (n .below r k a b (λ z. d (ap (λ l. getD l (5 * r) 0) e ∙ z))) }
+named-by e n = record { below = λ r k a b d. rw e (n .below r k a b (λ z. d (ap (λ l. entry-kind l r) e ∙ z))) }
 
 pub named-stay : {w w′ : List ℕ} → SameTables w w′ → NamedRewrites w → NamedRewrites w′
 named-stay t n = named-by (t .same-rewrites) n
@@ -217,7 +206,7 @@ pub record OfOneRegion (k : Section) : Type 0 where
 pub record Concerns (g : Graph) (r : ℕ) (w w′ : List ℕ) : Type 0 where
   pub later : Later g w w′
   pub tables : SameTables w w′
-  pub others : (q : ℕ) → q < 33 → (q ≡ r → ⊥) → KeptRegion w w′ q
+  pub others : (q : ℕ) → HasSlot (length (g .regions)) q → (q ≡ r → ⊥) → KeptRegion w w′ q
   pub same-kinds : (q : ℕ) → word w′ kinds q ≡ word w kinds q
   pub same-starts : (q : ℕ) → word w′ set-starts q ≡ word w set-starts q
   pub same-head : (q : ℕ) → word w′ head q ≡ word w head q
@@ -375,7 +364,8 @@ module _ {p : ℕ} {w w′ : List ℕ} (only : OnlyBundle p w w′) where
       }
 
   -- A bundle of region r's own slot.
-  pub bundle-concerns : (g : Graph) (r i : ℕ) → Slots w → r < 33 → i < 33 → p ≡ word w set-starts r + i → Concerns g r w w′
+  pub bundle-concerns : (g : Graph) (r i : ℕ) → Slots (length (g .regions)) w → HasSlot (length (g .regions)) r → i < 33
+      → p ≡ word w set-starts r + i → Concerns g r w w′
   bundle-concerns g r i slots a b e =
       let changes = only .changes in
       record {
@@ -393,7 +383,7 @@ module _ {p : ℕ} {w w′ : List ℕ} (only : OnlyBundle p w w′) where
 -- ---- Steps together, of which region r alone is concerned; the tables may change.
 pub record OnlyRegion (g : Graph) (r : ℕ) (w w′ : List ℕ) : Type 0 where
   pub later : Later g w w′
-  pub others : (q : ℕ) → q < 33 → (q ≡ r → ⊥) → KeptRegion w w′ q
+  pub others : (q : ℕ) → HasSlot (length (g .regions)) q → (q ≡ r → ⊥) → KeptRegion w w′ q
   pub same-kinds : (q : ℕ) → q < length (g .regions) → word w′ kinds q ≡ word w kinds q
   pub same-starts : (a : ℕ) → a < 33 → word w′ set-starts a ≡ word w set-starts a
   pub same-returned : (k : ℕ) → 8 ≤ k → word w′ head k ≡ word w head k

@@ -4,23 +4,25 @@ use mathlib.Core.Logic.{_⊎_, inl, inr}
 use mathlib.Core.Bool.{Bool, true, false}
 use mathlib.Core.List.{List, [], _∷_, _++_, map, List·Memᴰ, List·Memᴰ·append-cases, List·Memᴰ·eq-of-singleton, map-append}
 use mathlib.Core.Option.{Option, none, some}
-use Prim.Native.Nat.{ℕ, suc, _+_, _*_, _≤_, _<_}
+use Prim.Native.Nat.{ℕ, suc, _+_, _*_, _-_, _≤_, _<_}
 use native.Mathlib.Omega.{arith}
 use native.Mathlib.Decide.{decLt, ℕ-discrete}
 use native.Mathlib.Numerals.{add-one}
 use lib.ListN.{length, getD}
 use lib.Seq.{sets}
-use lib.Dec.{eqb}
-use borrow.Author.Tests.{eq-eqb, ne-eqb}
-use Rattle.meaning.specs.facts.Tests.{clash}
+use lib.Dec.{eqb, ltb}
+use borrow.Author.Tests.{eq-eqb, ne-eqb, lt-ltb, le-ltb}
+use Rattle.meaning.specs.facts.Tests.{clash, in-or-out}
 use Rattle.nesting.specs.Nesting.{RegionInputRewrites, replace-with, renumber-or-replace-with, RewriteEntry, NestState, rewrites-of}
 use Rattle.nesting.specs.Nesting.{with-tables, most-regions}
 use Rattle.nesting.specs.lookups.ChainEnds.{entry-kept}
-use Rattle.state.specs.Sections.{section, word, stored, stored-all, rewrites, outputs, start, size}
+use Rattle.state.specs.Sections.{section, word, stored, stored-all, filled, rewrites, outputs, start, size, used, entries-at}
 use Rattle.state.specs.laws.Apart.{section-stored}
-use Rattle.state.specs.Tables.{inserted}
+use Rattle.state.specs.Tables.{entry-kind, rewrite-kind, entries, reached, inserted}
 use Rattle.shown.specs.Values.{value}
 use Rattle.shown.specs.laws.Stores.{section-run, part-length, ChangesOnly, run-changes, word-changes, changes-then, nothing-changes}
+use Rattle.shown.specs.laws.Stores.{word-there, word-apart}
+use Rattle.shown.specs.laws.Fills.{fill-length, fill-changes, fill-beside, fill-there}
 use Rattle.meaning.specs.facts.Parts.{run-before, run-behind, run-in}
 use Rattle.shown.specs.Tables.{ShowsEntry, no-entry, replaces, renumbers, EntryWords, replace-words, renumber-words, ShowsRewrites}
 use Rattle.shown.specs.Tables.{ShowsTables}
@@ -44,28 +46,111 @@ of-new (y ∷ es) e q h n = go (eqb q (y .region)) n (λ m. of-new es e q h m)
     go false n ih = ih n
 
 -- What the words of a region say of its entry.
-none-if : {l : List ℕ} {r : ℕ} {o : Option RegionInputRewrites} → ShowsEntry l r o → getD l (5 * r) 0 ≡ 0 → o ≡ none
+none-if : {l : List ℕ} {r : ℕ} {o : Option RegionInputRewrites} → ShowsEntry l r o → entry-kind l r ≡ 0 → o ≡ none
 none-if (no-entry e) h = refl
 none-if (replaces e f) h = absurd (omega arith)
 none-if (renumbers e f) h = absurd (omega arith)
 
-some-if : {l : List ℕ} {r : ℕ} {o : Option RegionInputRewrites} → ShowsEntry l r o → (getD l (5 * r) 0 ≡ 0 → ⊥)
+some-if : {l : List ℕ} {r : ℕ} {o : Option RegionInputRewrites} → ShowsEntry l r o → (entry-kind l r ≡ 0 → ⊥)
     → (x : RegionInputRewrites) × (o ≡ some x)
 some-if (no-entry e) h = absurd (h e)
 some-if (replaces {vs} e f) h = (replace-with vs, refl)
 some-if (renumbers {xs} e f) h = (renumber-or-replace-with xs, refl)
 
-entry-same : (l l′ : List ℕ) (r : ℕ) → ((i : ℕ) → 5 * r ≤ i → i < 5 * r + 5 → getD l′ i 0 ≡ getD l i 0) → {o : Option RegionInputRewrites}
+entry-same : (l l′ : List ℕ) (r : ℕ) → entry-kind l′ r ≡ entry-kind l r
+    → ((k : ℕ) → k < 4 → getD l′ (5 * r + 1 + k) 0 ≡ getD l (5 * r + 1 + k) 0) → {o : Option RegionInputRewrites}
     → ShowsEntry l r o → ShowsEntry l′ r o
-entry-same l l′ r s (no-entry e) = no-entry (s (5 * r) (omega arith) (omega arith) ∙ e)
-entry-same l l′ r s (replaces e f) =
-    replaces (s (5 * r) (omega arith) (omega arith) ∙ e) (λ k h. ap value (s (5 * r + 1 + k) (omega arith) (omega arith)) ∙ f k h)
-entry-same l l′ r s (renumbers {xs} e f) =
-    renumbers {xs = xs} (s (5 * r) (omega arith) (omega arith) ∙ e) (λ k h. rw (s (5 * r + 1 + k) (omega arith) (omega arith)) (f k h))
+entry-same l l′ r s t (no-entry e) = no-entry (s ∙ e)
+entry-same l l′ r s t (replaces e f) = replaces (s ∙ e) (λ k h. ap value (t k h) ∙ f k h)
+entry-same l l′ r s t (renumbers {xs} e f) = renumbers {xs = xs} (s ∙ e) (λ k h. rw (t k h) (f k h))
 
-module _ (l : List ℕ) (r kind : ℕ) (ws : List ℕ) (size : length l ≡ 640) (len : length ws ≡ 4) (below : r < most-regions) where
+-- ---- Region r's entry is set, and no other changes.
+pub record Enters (l l′ : List ℕ) (r kind : ℕ) (ws : List ℕ) : Type 0 where
+  pub kind-set : entry-kind l′ r ≡ kind
+  pub words-set : (k : ℕ) → k < 4 → getD l′ (5 * r + 1 + k) 0 ≡ getD ws k 0
+  pub other-kinds : (q : ℕ) → q < most-regions → (q ≡ r → ⊥) → entry-kind l′ q ≡ entry-kind l q
+  pub other-words : (q k : ℕ) → q < most-regions → (q ≡ r → ⊥) → k < 4 → getD l′ (5 * q + 1 + k) 0 ≡ getD l (5 * q + 1 + k) 0
+
+-- Up to it entries are set: those that were not, to none.
+pub reached-changes : (w : List ℕ) (r i : ℕ) → ChangesOnly rewrites i w (reached w r)
+unfolding reached
+reached-changes w r i = go (ltb r (entries w))
+  where
+    go : (b : Bool) → ChangesOnly rewrites i w
+        (pick b w (stored (filled rewrites (λ q. 5 * q) (λ q. 0) (r - entries w) (entries w) w) rewrites entries-at (r + 1)))
+    go true = nothing-changes rewrites i w
+    go false =
+        let between = filled rewrites (λ q. 5 * q) (λ q. 0) (r - entries w) (entries w) w in
+        changes-then (fill-changes rewrites (λ q. 5 * q) (λ q. 0) (omega arith) i (r - entries w) (entries w) w)
+        (word-changes rewrites i between (omega arith) entries-at (r + 1))
+
+module _ (w : List ℕ) (room : used ≤ length w) (r : ℕ) where
+  abbrev between : List ℕ
+  between = filled rewrites (λ q. 5 * q) (λ q. 0) (r - entries w) (entries w) w
+
+  room-between : start rewrites + size rewrites ≤ length between
+  room-between = rw (fill-length rewrites (λ q. 5 * q) (λ q. 0) (r - entries w) (entries w) w) (omega arith)
+
+  abbrev newly : List ℕ
+  newly = stored between rewrites entries-at (r + 1)
+
+  newly-many : entries newly ≡ r + 1
+  newly-many = word-there between rewrites entries-at (r + 1) room-between (omega arith)
+
+  newly-word : (i : ℕ) → i < 640 → ((q : ℕ) → entries w ≤ q → i ≡ 5 * q → ⊥) → word newly rewrites i ≡ word w rewrites i
+  newly-word i h d =
+      word-apart between rewrites entries-at (r + 1) rewrites i (omega arith)
+      ∙ fill-beside rewrites (λ q. 5 * q) (λ q. 0) (r - entries w) (entries w) w i d
+
+  newly-none : (q : ℕ) → q < most-regions → entries w ≤ q → q < r → word newly rewrites (5 * q) ≡ 0
+  newly-none q h a b =
+      word-apart between rewrites entries-at (r + 1) rewrites (5 * q) (omega arith)
+      ∙ fill-there rewrites (λ q. 5 * q) (λ q. 0) (λ a b c e. omega arith) (r - entries w) (entries w) w (omega arith) q a (omega arith)
+      (omega arith)
+
+  newly-kind : entries w ≤ r → (q : ℕ) → q < most-regions → (q ≡ r → ⊥) → rewrite-kind newly q ≡ rewrite-kind w q
+  unfolding entry-kind
+  newly-kind many q h d = go (in-or-out q (entries w)) (in-or-out q r)
+    where
+      go : (q < entries w) ⊎ (entries w ≤ q) → (q < r) ⊎ (r ≤ q) → rewrite-kind newly q ≡ rewrite-kind w q
+      go (inl a) b =
+          rw (newly-many, lt-ltb q (r + 1) (omega arith), lt-ltb q (entries w) a) (newly-word (5 * q) (omega arith) (λ m c e. omega arith))
+      go (inr a) (inl b) =
+          rw (newly-many, lt-ltb q (r + 1) (omega arith), le-ltb q (entries w) a) (newly-none q h a b)
+      go (inr a) (inr b) = rw (newly-many, le-ltb q (r + 1) (omega arith), le-ltb q (entries w) a)
+
+module _ (w : List ℕ) (room : used ≤ length w) (r : ℕ) (below : r < most-regions) where
+  reached-many : r < entries (reached w r)
+  unfolding reached
+  reached-many = go (in-or-out r (entries w))
+    where
+      go : (r < entries w) ⊎ (entries w ≤ r) → r < entries (reached w r)
+      go (inl a) = rw (lt-ltb r (entries w) a) a
+      go (inr a) = let e = newly-many w room r in rw (le-ltb r (entries w) a) (omega arith)
+
+  reached-kind : (q : ℕ) → q < most-regions → (q ≡ r → ⊥) → rewrite-kind (reached w r) q ≡ rewrite-kind w q
+  unfolding reached
+  reached-kind q h d = go (in-or-out r (entries w))
+    where
+      go : (r < entries w) ⊎ (entries w ≤ r) → rewrite-kind (reached w r) q ≡ rewrite-kind w q
+      go (inl a) = rw (lt-ltb r (entries w) a)
+      go (inr a) = rw (le-ltb r (entries w) a) (newly-kind w room r a q h d)
+
+  reached-word : (q k : ℕ) → q < most-regions → k < 4 → word (reached w r) rewrites (5 * q + 1 + k) ≡ word w rewrites (5 * q + 1 + k)
+  unfolding reached
+  reached-word q k h i = go (in-or-out r (entries w))
+    where
+      go : (r < entries w) ⊎ (entries w ≤ r) → word (reached w r) rewrites (5 * q + 1 + k) ≡ word w rewrites (5 * q + 1 + k)
+      go (inl a) = rw (lt-ltb r (entries w) a)
+      go (inr a) = rw (le-ltb r (entries w) a) (newly-word w room r (5 * q + 1 + k) (omega arith) (λ m c e. omega arith))
+
+-- Then the five words of its own.
+module _ (l : List ℕ) (r kind : ℕ) (ws : List ℕ) (size : length l ≡ 641) (len : length ws ≡ 4) (below : r < most-regions) where
   abbrev entered : List ℕ
   entered = sets l (5 * r) (kind ∷ ws)
+
+  entered-many : getD entered entries-at 0 ≡ getD l entries-at 0
+  entered-many = run-behind l (5 * r) (kind ∷ ws) entries-at (omega arith)
 
   entered-other : (q i : ℕ) → (q ≡ r → ⊥) → 5 * q ≤ i → i < 5 * q + 5 → getD entered i 0 ≡ getD l i 0
   entered-other q i d a b =
@@ -75,20 +160,63 @@ module _ (l : List ℕ) (r kind : ℕ) (ws : List ℕ) (size : length l ≡ 640)
             run-behind l (5 * r) (kind ∷ ws) i (omega arith)
       ]
 
-  entered-kind : getD entered (5 * r) 0 ≡ kind
-  entered-kind = let e : 5 * r ≡ 5 * r + 0 = omega arith in ap (λ i. getD entered i 0) e
-      ∙ run-in l (5 * r) (kind ∷ ws) 0 (omega arith) (omega arith)
+  entered-kind : r < getD l entries-at 0 → entry-kind entered r ≡ kind
+  unfolding entry-kind
+  entered-kind h =
+      let e : 5 * r ≡ 5 * r + 0 = omega arith in
+      rw (entered-many, lt-ltb r (getD l entries-at 0) h)
+      (ap (λ i. getD entered i 0) e ∙ run-in l (5 * r) (kind ∷ ws) 0 (omega arith) (omega arith))
+
+  entered-kinds : (q : ℕ) → (q ≡ r → ⊥) → entry-kind entered q ≡ entry-kind l q
+  unfolding entry-kind
+  entered-kinds q d = rw (entered-many, entered-other q (5 * q) d (omega arith) (omega arith))
 
   entered-word : (k : ℕ) → k < 4 → getD entered (5 * r + 1 + k) 0 ≡ getD ws k 0
   entered-word k h =
       let e : 5 * r + 1 + k ≡ 5 * r + suc k = omega arith in
       ap (λ i. getD entered i 0) e ∙ run-in l (5 * r) (kind ∷ ws) (suc k) (omega arith) (omega arith)
 
-  entry-new : {x : RegionInputRewrites} → EntryWords r kind ws x → ShowsEntry entered r (some x)
-  entry-new (replace-words e f) = replaces (entered-kind ∙ e) (λ k h. ap value (entered-word k h) ∙ f k h)
-  entry-new (renumber-words {xs} e f) = renumbers {xs = xs} (entered-kind ∙ e) (λ k h. rw (entered-word k h) (f k h))
+-- ---- An insertion: it enters, or changes nothing.
+module _ (w : List ℕ) (room : used ≤ length w) (r kind : ℕ) (ws : List ℕ) (below : r < most-regions) (len : length ws ≡ 4) where
+  abbrev first : List ℕ
+  first = stored (reached w r) rewrites (5 * r) kind
+
+  inserted-section : section (stored-all first rewrites (5 * r + 1) ws) rewrites ≡ sets (section (reached w r) rewrites) (5 * r) (kind ∷ ws)
+  inserted-section = section-run first rewrites (5 * r + 1) ws ∙ rw (section-stored (reached w r) rewrites (5 * r) kind, add-one (5 * r))
+
+  reached-size : length (section (reached w r) rewrites) ≡ 641
+  reached-size =
+      let e = reached-changes w r 16 .words in part-length (start rewrites) (size rewrites) (reached w r) (omega arith)
+
+  inserted-enters : Enters (section w rewrites) (section (stored-all first rewrites (5 * r + 1) ws) rewrites) r kind ws
+  inserted-enters =
+      let l = section (reached w r) rewrites in
+      rw inserted-section
+      record {
+        kind-set = entered-kind l r kind ws reached-size len below (reached-many w room r below);
+        words-set = entered-word l r kind ws reached-size len below;
+        other-kinds = λ q h d. entered-kinds l r kind ws reached-size len below q d ∙ reached-kind w room r below q h d;
+        other-words = λ q k h d i.
+            entered-other l r kind ws reached-size len below q (5 * q + 1 + k) d (omega arith) (omega arith)
+            ∙ reached-word w room r below q k h i;
+      }
+
+  pub by-insertion : (P : List ℕ → Type 0)
+      → ((w′ : List ℕ) → rewrite-kind w r ≡ 0 → Enters (section w rewrites) (section w′ rewrites) r kind ws → P w′)
+      → ((rewrite-kind w r ≡ 0 → ⊥) → P w) → P (inserted w r kind ws)
+  unfolding inserted
+  by-insertion P enters stays =
+      rw (lt-ltb r most-regions below) (elim (ℕ-discrete (rewrite-kind w r) 0) [
+        | yes e ↦ rw (eq-eqb (rewrite-kind w r) 0 e) (enters _ e inserted-enters)
+        | no d ↦ rw (ne-eqb (rewrite-kind w r) 0 d) (stays d)
+      ])
 
 -- ---- The entries after an insertion.
+entry-new : {l l′ : List ℕ} {r kind : ℕ} {ws : List ℕ} {x : RegionInputRewrites} → Enters l l′ r kind ws → EntryWords r kind ws x
+    → ShowsEntry l′ r (some x)
+entry-new s (replace-words e f) = replaces (s .kind-set ∙ e) (λ k h. ap value (s .words-set k h) ∙ f k h)
+entry-new s (renumber-words {xs} e f) = renumbers {xs = xs} (s .kind-set ∙ e) (λ k h. rw (s .words-set k h) (f k h))
+
 module _ (l : List ℕ) (es : List RewriteEntry) (shown : ShowsRewrites l es) (r kind : ℕ) (ws : List ℕ) (below : r < most-regions)
     (x : RegionInputRewrites) where
   abbrev new-entry : RewriteEntry
@@ -102,20 +230,19 @@ module _ (l : List ℕ) (es : List RewriteEntry) (shown : ShowsRewrites l es) (r
       go (inl i) = shown .logged q i
       go (inr i) = let e = List·Memᴰ·eq-of-singleton i in omega arith
 
-  first-entry : length l ≡ 640 → length ws ≡ 4 → getD l (5 * r) 0 ≡ 0 → EntryWords r kind ws x
-      → ShowsRewrites (sets l (5 * r) (kind ∷ ws)) (es ++ (new-entry ∷ []))
-  first-entry size len free words =
+  first-entry : (l′ : List ℕ) → Enters l l′ r kind ws → entry-kind l r ≡ 0 → EntryWords r kind ws x
+      → ShowsRewrites l′ (es ++ (new-entry ∷ []))
+  first-entry l′ s free words =
       record {
         entry = λ q h. elim (ℕ-discrete q r) [
-          | yes e ↦ rw (e, of-new es new-entry r (eq-eqb r r refl) (none-if (shown .entry r below) free))
-              (entry-new l r kind ws size len below words)
+          | yes e ↦ rw (e, of-new es new-entry r (eq-eqb r r refl) (none-if (shown .entry r below) free)) (entry-new s words)
           | no d ↦ rw (of-other es new-entry q (ne-eqb q r d))
-              (entry-same l _ q (λ i a b. entered-other l r kind ws size len below q i d a b) (shown .entry q h))
+              (entry-same l l′ q (s .other-kinds q h d) (λ k i. s .other-words q k h d i) (shown .entry q h))
         ];
         logged = logged-more;
       }
 
-  later-entry : (getD l (5 * r) 0 ≡ 0 → ⊥) → ShowsRewrites l (es ++ (new-entry ∷ []))
+  later-entry : (entry-kind l r ≡ 0 → ⊥) → ShowsRewrites l (es ++ (new-entry ∷ []))
   later-entry taken =
       record {
         entry = λ q h. elim (ℕ-discrete q r) [
@@ -128,13 +255,18 @@ module _ (l : List ℕ) (es : List RewriteEntry) (shown : ShowsRewrites l es) (r
 
 pub insert-changes : (w : List ℕ) (r kind : ℕ) (ws : List ℕ) (i : ℕ) → ChangesOnly rewrites i w (inserted w r kind ws)
 unfolding inserted
-insert-changes w r kind ws i =
-    elim (ℕ-discrete (word w rewrites (5 * r)) 0) [
-      | yes e ↦ rw (eq-eqb (word w rewrites (5 * r)) 0 e)
-          (changes-then (word-changes rewrites i w (omega arith) (5 * r) kind)
-          (run-changes rewrites i (stored w rewrites (5 * r) kind) (omega arith) (5 * r + 1) ws))
-      | no d ↦ rw (ne-eqb (word w rewrites (5 * r)) 0 d) (nothing-changes rewrites i w)
-    ]
+insert-changes w r kind ws i = go (ltb r most-regions) (eqb (rewrite-kind w r) 0)
+  where
+    after : List ℕ
+    after = stored (reached w r) rewrites (5 * r) kind
+
+    go : (a b : Bool) → ChangesOnly rewrites i w (pick a (pick b (stored-all after rewrites (5 * r + 1) ws) w) w)
+    go false b = nothing-changes rewrites i w
+    go true false = nothing-changes rewrites i w
+    go true true =
+        changes-then (reached-changes w r i)
+        (changes-then (word-changes rewrites i (reached w r) (omega arith) (5 * r) kind)
+        (run-changes rewrites i after (omega arith) (5 * r + 1) ws))
 
 -- Code and definition enter the same.
 pub rewrites-inserted : {w w′ : List ℕ} {s : NestState} → ShowsTables w s → {r kind : ℕ} {ws : List ℕ} {x : RegionInputRewrites}
@@ -142,9 +274,10 @@ pub rewrites-inserted : {w w′ : List ℕ} {s : NestState} → ShowsTables w s 
     → w′ ≡ inserted w r kind ws
     → ShowsTables w′ (with-tables (s .region-states) (s .region-input-rewrites ++ (record { region = r; rewrites = x } ∷ []))
     (s .node-outputs) s)
-unfolding inserted
 rewrites-inserted {w} {w′} {s} t {r} {kind} {ws} {x} below len words e =
     let g = insert-changes w r kind ws 16 in
+    let old = s .region-input-rewrites in
+    let more : List RewriteEntry = old ++ (record { region = r; rewrites = x } ∷ []) in
     rw e
     record {
       size = rw (g .words) (t .size);
@@ -158,19 +291,9 @@ rewrites-inserted {w} {w′} {s} t {r} {kind} {ws} {x} below len words e =
       few-nodes = t .few-nodes;
       few-merges = t .few-merges;
       few-outputs = t .few-outputs;
-      rewritten = shown-after (ℕ-discrete (word w rewrites (5 * r)) 0);
+      rewritten =
+          by-insertion w (t .size) r kind ws below len (λ z. ShowsRewrites (section z rewrites) more)
+          (λ z free enters. first-entry (section w rewrites) old (t .rewritten) r kind ws below x (section z rewrites) enters free words)
+          (later-entry (section w rewrites) old (t .rewritten) r kind ws below x);
       outputs-shown = rw (g .others outputs (omega arith) (omega arith)) (t .outputs-shown);
     }
-  where
-    shown-after : Dec (word w rewrites (5 * r) ≡ 0) → ShowsRewrites (section (inserted w r kind ws) rewrites)
-        (s .region-input-rewrites ++ (record { region = r; rewrites = x } ∷ []))
-    shown-after (yes free) =
-        let first = stored w rewrites (5 * r) kind in
-        let sec : section (stored-all first rewrites (5 * r + 1) ws) rewrites ≡ sets (section w rewrites) (5 * r) (kind ∷ ws) =
-        section-run first rewrites (5 * r + 1) ws ∙ rw (section-stored w rewrites (5 * r) kind, add-one (5 * r)) in
-        rw (eq-eqb (word w rewrites (5 * r)) 0 free, sec)
-        (first-entry (section w rewrites) (s .region-input-rewrites) (t .rewritten) r kind ws below x
-        (part-length (start rewrites) (size rewrites) w (let y = t .size in omega arith)) len free words)
-    shown-after (no taken) =
-        rw (ne-eqb (word w rewrites (5 * r)) 0 taken) (later-entry (section w rewrites) (s .region-input-rewrites)
-        (t .rewritten) r kind ws below x taken)

@@ -19,11 +19,11 @@ use Rattle.state.specs.Tables.{bundle-at, bundle-words, bundle-copied, swap-rem
 use Rattle.shown.specs.Tables.{ShowsCondition, shows-true}
 use Rattle.shown.specs.Sets.{Names, target-size, ShowsTarget, ShowsBundle, ShowsSet, SameBundle}
 use Rattle.shown.specs.Sets.{no-bundle}
-use Rattle.shown.specs.States.{ShowsOwnSet, Slots}
+use Rattle.shown.specs.States.{ShowsOwnSet, HasSlot, Slots}
 use Rattle.shown.specs.Kept.{Later, KeptRegion}
 use Rattle.shown.specs.laws.RegionsKept.{set-stays, same-bundle, same-bundle-then}
 use Rattle.shown.specs.laws.Finds.{bundle-in}
-use Rattle.shown.specs.laws.RegionSteps.{word-there, word-apart}
+use Rattle.shown.specs.laws.Stores.{word-there, word-apart}
 use Rattle.shown.specs.laws.SetStores.{OnlySets, only-same, only-word, only-run, only-then, only-later, only-kept, starts-of-sets}
 use Rattle.shown.specs.laws.SetStores.{lengths-of-sets, bundles-of-sets, word-other, run-elsewhere-word, Moves}
 use Rattle.shown.specs.laws.SetStores.{moves-then, same-moves, same-elsewhere, bundle-stored, copy-moves, copy-beside}
@@ -135,7 +135,7 @@ module _ (d : DeferredEdgeBundleSet) (i : ℕ) (h : i < length d) where
       ∙ ap (λ q. getD d q no-bundle) f
 
 -- ---- A region whose slot is none of those stored into.
-pub kept-beside : {w w′ : List ℕ} → OnlySets w w′ → Slots w → {r q : ℕ} → r < 33 → q < 33 → (q ≡ r → ⊥)
+pub kept-beside : {n : ℕ} {w w′ : List ℕ} → OnlySets w w′ → Slots n w → {r q : ℕ} → HasSlot n r → HasSlot n q → (q ≡ r → ⊥)
     → word w′ set-starts q ≡ word w set-starts q → word w′ set-lengths q ≡ word w set-lengths q
     → ((p : ℕ) → (word w set-starts r ≤ p → p < word w set-starts r + 33 → ⊥) → SameBundle w w′ p) → KeptRegion w w′ q
 kept-beside {w} only slots {r} {q} a b d start length beside =
@@ -392,12 +392,12 @@ module _ (w : List ℕ) (room : used ≤ length w) (a b : ℕ) (at-a : a < 33) (
         ]
       ]
 
-  turned-below : (q : ℕ) → q < 33 → turned q < 33
-  turned-below q h =
+  turned-slot : {n : ℕ} → HasSlot n a → HasSlot n b → (q : ℕ) → HasSlot n q → HasSlot n (turned q)
+  turned-slot of-a of-b q h =
       elim (ℕ-discrete q a) [
-        | yes e ↦ rw (eq-eqb q a e) at-b
+        | yes e ↦ rw (eq-eqb q a e) of-b
         | no d ↦ elim (ℕ-discrete q b) [
-          | yes e ↦ rw (ne-eqb q a d, eq-eqb q b e) at-a
+          | yes e ↦ rw (ne-eqb q a d, eq-eqb q b e) of-a
           | no e ↦ rw (ne-eqb q a d, ne-eqb q b e) h
         ]
       ]
@@ -415,14 +415,15 @@ module _ (w : List ℕ) (room : used ≤ length w) (a b : ℕ) (at-a : a < 33) (
         ]
       ]
 
-  pub swapped-slots : Slots w → Slots (swapped w a b)
-  swapped-slots x =
+  pub swapped-slots : {n : ℕ} → HasSlot n a → HasSlot n b → Slots n w → Slots n (swapped w a b)
+  swapped-slots of-a of-b x =
+      let slot = turned-slot of-a of-b in
       record {
         slot-number = λ q. x .slot-number (turned q);
-        starts = λ q h. turned-start q ∙ x .starts (turned q) (turned-below q h);
-        below = λ q h. x .below (turned q) (turned-below q h);
+        starts = λ q h. turned-start q ∙ x .starts (turned q) (slot q h);
+        below = λ q h. x .below (turned q) (slot q h);
         own = λ p q h k e.
-            let same = x .own (turned p) (turned q) (turned-below p h) (turned-below q k) e in
+            let same = x .own (turned p) (turned q) (slot p h) (slot q k) e in
             sym (turned-twice p) ∙ ap turned same ∙ turned-twice q;
       }
 

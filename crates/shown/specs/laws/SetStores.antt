@@ -24,7 +24,7 @@ use Rattle.shown.specs.States.{ShowsState}
 use Rattle.shown.specs.Kept.{Later, KeptRegion}
 use Rattle.shown.specs.laws.RegionsKept.{region-stays}
 use Rattle.meaning.specs.facts.Parts.{run-before, run-behind, run-in}
-use Rattle.shown.specs.laws.RegionSteps.{bundle-run}
+use Rattle.shown.specs.laws.RegionSteps.{bundle-run, named-stay}
 
 -- ---- A word of a section.
 module _ (w : List ℕ) (k : Section) (i x : ℕ) where
@@ -158,17 +158,13 @@ module _ {w w′ : List ℕ} (only : OnlySets w w′) where
       }
 
   -- The state is shown as long as the Ready regions are kept.
-  pub only-state : {g : Graph} {s : NestState} → Slots w′
+  pub only-state : {g : Graph} {s : NestState} → Slots (length (g .regions)) w′
       → ((q : ℕ) → q < length (g .regions) → word w kinds q ≡ 2 → KeptRegion w w′ q) → ShowsState g w s → ShowsState g w′ s
   only-state {g} {s} slots kept x =
       record {
         stands = stands-on only-front (x .stands);
         tables = tables-stay only-tables (x .tables);
-        named = record {
-          below = λ r k a b d.
-              rw (only-word-same rewrites (omega arith) (5 * r + 1 + k))
-              (x .named .below r k a b (λ e. d (only-word-same rewrites (omega arith) (5 * r) ∙ e)));
-        };
+        named = named-stay only-tables (x .named);
         size = x .size;
         regions = λ q h. go q h (x .regions q h);
         slots = slots;

@@ -3,6 +3,7 @@ use mathlib.Core.Path.{_≡_, refl, sym, ap, _∙_}
 use mathlib.Core.List.{List, [], _∷_}
 use Prim.Native.Nat.{ℕ, suc, _+_, _≤_, _<_}
 use native.Mathlib.Omega.{arith}
+use native.Mathlib.Decide.{ℕ-discrete}
 use lib.ListN.{length, getD, drop, length-take, length-drop}
 use lib.Seq.{sets, getD-set-same, getD-set-other}
 use Rattle.state.specs.Sections as sections
@@ -42,6 +43,18 @@ head-same l i x s h =
 
 pub head-other : (l : List ℕ) (i x q : ℕ) → (q ≡ i → ⊥) → word (stored l head i x) head q ≡ word l head q
 head-other l i x q d = rw (section-stored l head i x) (getD-set-other (section l head) i q x 0 d)
+
+-- ---- A word stored in a section, and any other word of any section.
+pub word-there : (l : List ℕ) (k : Section) (i x : ℕ) → start k + size k ≤ length l → i < size k → word (stored l k i x) k i ≡ x
+word-there l k i x s h =
+    rw (section-stored l k i x) (getD-set-same (section l k) i x 0 (rw (part-length (start k) (size k) l s) h))
+
+pub word-apart : (l : List ℕ) (k : Section) (i x : ℕ) (j : Section) (q : ℕ) → (q ≡ i → ⊥) → word (stored l k i x) j q ≡ word l j q
+word-apart l k i x j q d =
+    elim (ℕ-discrete (number j) (number k)) [
+      | yes e ↦ rw (e, part-stored (start k) (size k) l i x) (getD-set-other (section l k) i q x 0 d)
+      | no n ↦ ap (λ p. getD p q 0) (section-other l k i x j n)
+    ]
 
 -- ---- From l to l′ no section but k and the head changes, and no word of the head but i.
 pub record ChangesOnly (k : Section) (i : ℕ) (l l′ : List ℕ) : Type 0 where

@@ -3,8 +3,11 @@ use borrow.Author.Needs.{needs}
 use Rattle.start.proofs.initial_state.Statement.{statement}
 use Rattle.start.proofs.initial_state.Tie as tie
 
-start-rewrites-requires : tie.Need-start-rewrites-requires
-start-rewrites-requires c κs = search needs
+region-count-requires : tie.Need-region-count-requires
+region-count-requires c κs = search needs
+
+set-no-rewrites-requires : tie.Need-set-no-rewrites-requires
+set-no-rewrites-requires c κs = search needs
 
 start-kinds-requires : tie.Need-start-kinds-requires
 start-kinds-requires c κs = search needs
@@ -23,8 +26,10 @@ returns c =
     let at-start-totals = c .before .before in
     let at-start-slots = at-start-totals .before .before in
     let at-start-kinds = at-start-slots .before .before in
-    let at-start-rewrites = at-start-kinds .before .before in
-    started-by _ (at-start-rewrites .start-rewrites .ensures)
+    let at-set-no-rewrites = at-start-kinds .before .before in
+    let at-region-count = at-set-no-rewrites .before .before in
+    started-by _ (at-region-count .region-count .ensures)
+    (at-set-no-rewrites .set-no-rewrites .ensures)
     (at-start-kinds .start-kinds .ensures)
     (at-start-slots .start-slots .ensures) (at-start-totals .start-totals .ensures) (c .start-returned .ensures)
 
@@ -32,7 +37,8 @@ pub initial-state-spec : {M : Type 1} → statement M
 initial-state-spec =
     tie.close
     (tie.spec
-    start-rewrites-requires
+    region-count-requires
+    set-no-rewrites-requires
     start-kinds-requires
     start-slots-requires
     start-totals-requires

@@ -7,16 +7,19 @@ use Rattle.start.proofs.start_returned.Statement.{statement}
 use Rattle.start.proofs.start_returned.Tie as tie
 
 abbrev Inv-loop : tie.InvT-loop
-Inv-loop w₀ q n k₀ w k = OfRecord w₀ (λ g. ReturnedLeft g k w₀ w)
+Inv-loop w₀ q n few k₀ w k = OfRecord w₀ (λ g. ReturnedLeft g k w₀ w)
 
 abbrev μ-loop : tie.MeasureT-loop
-μ-loop w₀ q n k₀ w k = 4 - k
+μ-loop w₀ q n few k₀ w k = few - k
 
 first-return-requires : tie.Need-first-return-requires Inv-loop μ-loop
 first-return-requires c κs = search needs
 
 value-count-requires : tie.Need-value-count-requires Inv-loop μ-loop
 value-count-requires c κs = search needs
+
+at-most-four-requires : tie.Need-at-most-four-requires Inv-loop μ-loop
+at-most-four-requires c κs = search needs
 
 loop-holds : tie.Need-loop-holds Inv-loop μ-loop
 loop-holds c = λ g s. returned-start g _
@@ -47,8 +50,11 @@ loop-again c =
     let at-return-type = c .before .before in
     let at-loop-test = at-return-type .before .before in
     let at-loop = at-loop-test .before in
-    let at-first-return = at-loop .before .before .before in
+    let at-at-most-four = at-loop .before in
+    let at-value-count = at-at-most-four .before in
+    let at-first-return = at-value-count .before .before in
     returned-turn (at-first-return .first-return .ensures)
+    (at-value-count .value-count .ensures) (at-at-most-four .at-most-four .ensures)
     (at-loop .loop .inv) (at-loop-test .loop-test .taken)
     (at-return-type .return-type .ensures) (c .set-head .ensures)
 
@@ -59,11 +65,12 @@ returns : tie.Need-returns Inv-loop μ-loop
 returns c =
     let at-loop-test = c .before .before in
     let at-loop = at-loop-test .before in
-    let at-value-count = at-loop .before in
+    let at-at-most-four = at-loop .before in
+    let at-value-count = at-at-most-four .before in
     let at-first-return = at-value-count .before .before in
     returned-stop (at-first-return .first-return .ensures)
-    (at-loop .loop .inv) (at-loop-test .loop-test .left)
-    (at-value-count .value-count .ensures) (c .set-head2 .ensures)
+    (at-value-count .value-count .ensures) (at-at-most-four .at-most-four .ensures)
+    (at-loop .loop .inv) (at-loop-test .loop-test .left) (c .set-head2 .ensures)
 
 pub start-returned-spec : {M : Type 1} → statement M
 start-returned-spec =
@@ -73,6 +80,7 @@ start-returned-spec =
     μ-loop
     first-return-requires
     value-count-requires
+    at-most-four-requires
     loop-holds
     return-type-requires
     add-set-head

@@ -2,9 +2,6 @@ use borrow.Author.Needs.{needs}
 use Rattle.start.proofs.start_totals.Statement.{statement}
 use Rattle.start.proofs.start_totals.Tie as tie
 
-region-count-requires : tie.Need-region-count-requires
-region-count-requires c κs = search needs
-
 blocks-before-requires : tie.Need-blocks-before-requires
 blocks-before-requires c κs = search needs
 
@@ -21,16 +18,14 @@ returns : tie.Need-returns
 returns c =
     let at-as-word = c .before .before .before in
     let at-blocks-before = at-as-word .before in
-    let at-region-count = at-blocks-before .before .before in
     λ g s.
-    rw (at-as-word .as-word .ensures, at-blocks-before .blocks-before .ensures .is g s, at-region-count .region-count .ensures g s)
+    rw (at-as-word .as-word .ensures, at-blocks-before .blocks-before .ensures .is g s)
     at (c .put-all .ensures)
 
 pub start-totals-spec : {M : Type 1} → statement M
 start-totals-spec =
     tie.close
     (tie.spec
-    region-count-requires
     blocks-before-requires
     as-word-requires
     slice-aggregate-put-all

@@ -1,12 +1,12 @@
 -- What is started is shown: the definition's initial state.
 use mathlib.Core.Path.{_≡_, refl, sym, ap, _∙_}
 use mathlib.Core.List.{List, List·Memᴰ·not-nil}
-use Prim.Native.Nat.{ℕ, zero, suc, _+_, _*_, _≤_, _<_}
+use Prim.Native.Nat.{ℕ, zero, suc, _+_, _*_, _≤_, _<_, min}
 use native.Mathlib.Omega.{arith}
 use native.Mathlib.Decide.{decLt}
 use lib.ListN.{length, getD, length-map, length-replicate, List·getD-eq-default}
 use lib.Seq.{take-length}
-use borrow.Author.Tests.{lt-ltb}
+use borrow.Author.Tests.{lt-ltb, le-ltb}
 use Rattle.meaning.specs.Graph.{Graph, Region, region, nowhere, ControlInst, unreachable, return, exit-invocation, branch, select-branch}
 use Rattle.meaning.specs.Graph.{no-value}
 use Rattle.meaning.specs.facts.Elements.{getD-map-in}
@@ -15,21 +15,22 @@ use Rattle.format.specs.References.{return-types, type-in, behind-all, first-re
 use Rattle.format.specs.Valid.{Valid, ValidEnd}
 use Rattle.record.specs.Stands.{Stands}
 use Rattle.fields.specs.ByNumber.{blocks-before, end-values}
-use Rattle.nesting.specs.Nesting.{initial-state, block-count, not-begun, most-regions}
+use Rattle.nesting.specs.Nesting.{initial-state, block-count, not-begun}
 use Rattle.nesting.specs.steps.RegionsLeft.{all-not-begun}
 use Rattle.state.specs.Sections as sections
-use Rattle.state.specs.Sections.{Section, number, start, size, used, section, word, head, kinds, set-starts, rewrites}
+use Rattle.state.specs.Sections.{Section, number, start, size, used, section, word, filled, head, kinds, set-starts, rewrites, entries-at}
 use Rattle.state.specs.laws.Apart.{stored-length, section-other}
-use Rattle.state.specs.Tables.{slot}
-use Rattle.shown.specs.laws.Stores.{run-length, run-other, head-same, head-other}
+use Rattle.state.specs.Tables.{slot, entry-kind, rewrite-kind}
+use Rattle.shown.specs.laws.Stores.{run-length, run-other, head-same, head-other, word-there, word-apart}
 use Rattle.shown.specs.Front.{SameFront}
 use Rattle.shown.specs.laws.FrontKept.{stands-on, front-stored, front-run, front-then}
 use Rattle.shown.specs.laws.SetStores.{run-word}
 use Rattle.shown.specs.Tables.{no-entry}
-use Rattle.shown.specs.States.{ShowsState, is-not-begun}
-use Rattle.start.specs.Words.{nothing-rewritten, nothing-begun, emptied, returned-type, totals, counted, started, filled}
-use Rattle.start.specs.laws.WordsLaws.{filled-front, emptied-front}
-use Rattle.start.specs.laws.Fills.{fill-length, fill-other, fill-beside, fill-there}
+use Rattle.shown.specs.States.{ShowsState, HasSlot, is-not-begun}
+use Rattle.shown.specs.laws.Fills.{fill-length, fill-other, fill-front, fill-beside, fill-there}
+use Rattle.start.specs.Words.{nothing-rewritten, nothing-begun, emptied, returned-type, returned-count, totals, counted, started}
+use Rattle.start.specs.Words.{types-stored}
+use Rattle.start.specs.laws.WordsLaws.{emptied-front}
 
 -- ---- How many blocks there are: no sum is as large as a word.
 module _ {g : Graph} (valid : Valid g) where
@@ -72,100 +73,125 @@ module _ (g : Graph) where
 
 -- ---- The words, section by section.
 module _ (g : Graph) (w : List ℕ) (room : used ≤ length w) where
+  abbrev n : ℕ
+  n = length (g .regions)
+
   abbrev l₁ : List ℕ
   l₁ = nothing-rewritten w
 
   abbrev l₂ : List ℕ
-  l₂ = nothing-begun l₁
+  l₂ = nothing-begun n l₁
+
+  -- Without the spare slot, and with it.
+  abbrev l₂′ : List ℕ
+  l₂′ = filled set-starts (λ a. a) slot n 0 l₂
 
   abbrev l₃ : List ℕ
-  l₃ = emptied w
+  l₃ = emptied n w
 
   abbrev l₄ : List ℕ
-  l₄ = counted g l₃
+  l₄ = counted g n l₃
+
+  abbrev few : ℕ
+  few = min (returned-count g) 4
 
   abbrev l₅ : List ℕ
-  l₅ = filled head (λ k. 9 + k) (returned-type g) 4 0 l₄
-
-  abbrev returned-count : ℕ
-  returned-count = length (end-values g (first-return (g .regions)))
+  l₅ = types-stored g few 0 l₄
 
   length₁ : length l₁ ≡ length w
-  length₁ = fill-length rewrites (λ r. 5 * r) (λ r. 0) most-regions 0 w
+  length₁ = stored-length (start rewrites) (size rewrites) w entries-at 0
 
   length₂ : length l₂ ≡ length w
-  length₂ = fill-length kinds (λ r. r) (λ r. 0) 32 0 l₁ ∙ length₁
+  length₂ = fill-length kinds (λ r. r) (λ r. 0) n 0 l₁ ∙ length₁
+
+  length₂′ : length l₂′ ≡ length w
+  length₂′ = fill-length set-starts (λ a. a) slot n 0 l₂ ∙ length₂
 
   length₃ : length l₃ ≡ length w
-  length₃ = fill-length set-starts (λ a. a) slot 33 0 l₂ ∙ length₂
+  length₃ = stored-length (start set-starts) (size set-starts) l₂′ 32 (slot 32) ∙ length₂′
 
   length₄ : length l₄ ≡ length w
-  length₄ = run-length (start head) (size head) l₃ 0 (totals g) ∙ length₃
+  length₄ = run-length (start head) (size head) l₃ 0 (totals g n) ∙ length₃
 
   length₅ : length l₅ ≡ length w
-  length₅ = fill-length head (λ k. 9 + k) (returned-type g) 4 0 l₄ ∙ length₄
+  length₅ = fill-length head (λ k. 9 + k) (returned-type g) few 0 l₄ ∙ length₄
 
   started-length : length (started g w) ≡ length w
-  started-length = stored-length (start head) (size head) l₅ 8 returned-count ∙ length₅
+  started-length = stored-length (start head) (size head) l₅ 8 (returned-count g) ∙ length₅
 
   pub started-front : SameFront w (started g w)
   started-front =
-      front-then (emptied-front w)
-      (front-then (front-run l₃ head (omega arith) 0 (totals g))
-      (front-then (filled-front head (λ k. 9 + k) (returned-type g) (omega arith) 4 0 l₄)
-      (front-stored l₅ head (omega arith) 8 returned-count)))
+      front-then (emptied-front n w)
+      (front-then (front-run l₃ head (omega arith) 0 (totals g n))
+      (front-then (fill-front head (λ k. 9 + k) (returned-type g) (omega arith) few 0 l₄)
+      (front-stored l₅ head (omega arith) 8 (returned-count g))))
 
   behind-head : (j : Section) → (number j ≡ number sections.head → ⊥) → section (started g w) j ≡ section l₃ j
   behind-head j d =
-      section-other l₅ head 8 returned-count j d ∙ fill-other head (λ k. 9 + k) (returned-type g) 4 0 l₄ j d
-      ∙ run-other l₃ head 0 (totals g) j d
+      section-other l₅ head 8 (returned-count g) j d ∙ fill-other head (λ k. 9 + k) (returned-type g) few 0 l₄ j d
+      ∙ run-other l₃ head 0 (totals g n) j d
 
-  no-rewrite : (r : ℕ) → r < most-regions → word (started g w) rewrites (5 * r) ≡ 0
-  no-rewrite r h =
-      ap (λ p. getD p (5 * r) 0) (behind-head rewrites (omega arith)
-      ∙ fill-other set-starts (λ a. a) slot 33 0 l₂ rewrites (omega arith)
-      ∙ fill-other kinds (λ r. r) (λ r. 0) 32 0 l₁ rewrites (omega arith))
-      ∙ fill-there rewrites (λ r. 5 * r) (λ r. 0) (λ a b c e. omega arith) most-regions 0 w (omega arith) r (omega arith) (omega arith)
-      (omega arith)
+  behind-slots : (j : Section) → (number j ≡ number sections.head → ⊥) → (number j ≡ number sections.set-starts → ⊥)
+      → section (started g w) j ≡ section l₂ j
+  behind-slots j d e =
+      behind-head j d ∙ section-other l₂′ set-starts 32 (slot 32) j e ∙ fill-other set-starts (λ a. a) slot n 0 l₂ j e
 
-  no-kind : (r : ℕ) → r < 32 → word (started g w) kinds r ≡ 0
-  no-kind r h =
+  no-entries : word (started g w) rewrites entries-at ≡ 0
+  no-entries =
+      ap (λ p. getD p entries-at 0) (behind-slots rewrites (omega arith) (omega arith)
+      ∙ fill-other kinds (λ r. r) (λ r. 0) n 0 l₁ rewrites (omega arith))
+      ∙ word-there w rewrites entries-at 0 (omega arith) (omega arith)
+
+  no-rewrite : (r : ℕ) → rewrite-kind (started g w) r ≡ 0
+  unfolding entry-kind
+  no-rewrite r = rw (no-entries, le-ltb r 0 (omega arith))
+
+  no-kind : (r : ℕ) → r < n → r < 32 → word (started g w) kinds r ≡ 0
+  no-kind r h below =
       let len = length₁ in
-      ap (λ p. getD p r 0) (behind-head kinds (omega arith)
-      ∙ fill-other set-starts (λ a. a) slot 33 0 l₂ kinds (omega arith))
-      ∙ fill-there kinds (λ r. r) (λ r. 0) (λ a b c e. omega arith) 32 0 l₁ (omega arith) r (omega arith) (omega arith) h
+      ap (λ p. getD p r 0) (behind-slots kinds (omega arith) (omega arith))
+      ∙ fill-there kinds (λ r. r) (λ r. 0) (λ a b c e. omega arith) n 0 l₁ (omega arith) r (omega arith) (omega arith) below
 
-  own-slot : (a : ℕ) → a < 33 → word (started g w) set-starts a ≡ 33 * a
+  slot-is : (a : ℕ) → a < 33 → slot a ≡ 33 * a
   unfolding slot
-  own-slot a h =
-      let len = length₂ in
-      ap (λ p. getD p a 0) (behind-head set-starts (omega arith))
-      ∙ fill-there set-starts (λ a. a) slot (λ a b c e. omega arith) 33 0 l₂ (omega arith) a (omega arith) (omega arith) h
-      ∙ rw (lt-ltb a 33 h)
+  slot-is a h = rw (lt-ltb a 33 h)
 
-  first-words : (q : ℕ) → q < 7 → word (started g w) head q ≡ getD (totals g) q 0
+  own-slot : n ≤ 32 → (a : ℕ) → HasSlot n a → word (started g w) set-starts a ≡ 33 * a
+  own-slot many a h =
+      let len = length₂ in
+      let len′ = length₂′ in
+      ap (λ p. getD p a 0) (behind-head set-starts (omega arith))
+      ∙ elim (decLt a n) [
+        | yes b ↦ word-apart l₂′ set-starts 32 (slot 32) set-starts a (omega arith)
+            ∙ fill-there set-starts (λ a. a) slot (λ a b c e. omega arith) n 0 l₂ (omega arith) a (omega arith) (omega arith) (omega arith)
+            ∙ slot-is a (h .below)
+        | no b ↦ (let e : a ≡ 32 = h .of-region (omega arith) in
+            rw e (word-there l₂′ set-starts 32 (slot 32) (omega arith) (omega arith) ∙ slot-is 32 (omega arith)))
+      ]
+
+  first-words : (q : ℕ) → q < 7 → word (started g w) head q ≡ getD (totals g n) q 0
   first-words q h =
       let len = length₃ in
       let e : q ≡ 0 + q = omega arith in
-      head-other l₅ 8 returned-count q (omega arith)
-      ∙ fill-beside head (λ k. 9 + k) (returned-type g) 4 0 l₄ q (λ m a e. omega arith)
-      ∙ ap (λ p. word l₄ head p) e ∙ run-word l₃ head 0 (totals g) (omega arith) (omega arith) q h
+      head-other l₅ 8 (returned-count g) q (omega arith)
+      ∙ fill-beside head (λ k. 9 + k) (returned-type g) few 0 l₄ q (λ m a e. omega arith)
+      ∙ ap (λ p. word l₄ head p) e ∙ run-word l₃ head 0 (totals g n) (omega arith) (omega arith) q h
 
-  count-word : word (started g w) head 8 ≡ returned-count
-  count-word = let len = length₅ in head-same l₅ 8 returned-count (omega arith) (omega arith)
+  count-word : word (started g w) head 8 ≡ returned-count g
+  count-word = let len = length₅ in head-same l₅ 8 (returned-count g) (omega arith) (omega arith)
 
-  type-word : (k : ℕ) → k < 4 → word (started g w) head (9 + k) ≡ returned-type g k
+  type-word : (k : ℕ) → k < few → word (started g w) head (9 + k) ≡ returned-type g k
   type-word k h =
       let len = length₄ in
-      head-other l₅ 8 returned-count (9 + k) (omega arith)
-      ∙ fill-there head (λ k. 9 + k) (returned-type g) (λ a b c e. omega arith) 4 0 l₄ (omega arith) k
+      head-other l₅ 8 (returned-count g) (9 + k) (omega arith)
+      ∙ fill-there head (λ k. 9 + k) (returned-type g) (λ a b c e. omega arith) few 0 l₄ (omega arith) k
       (omega arith) (omega arith) (omega arith)
 
 -- ---- The whole.
 pub record ShowsStarted (g : Graph) (w w′ : List ℕ) : Type 0 where
   pub state : ShowsState g w′ (initial-state g)
   pub cell-total : word w′ head 4 ≡ 1
-  pub no-kinds : (q : ℕ) → q < 32 → word w′ kinds q ≡ 0
+  pub no-kinds : (q : ℕ) → q < length (g .regions) → word w′ kinds q ≡ 0
   pub front : SameFront w w′
 
 pub initial-state-shown : {g : Graph} {w w′ : List ℕ} → Valid g → Stands w g → used ≤ length w → w′ ≡ started g w → ShowsStarted g w w′
@@ -192,19 +218,19 @@ initial-state-shown {g} {w} valid stands room e =
           few-nodes = omega arith;
           few-merges = omega arith;
           few-outputs = omega arith;
-          rewritten = record { entry = λ r h. no-entry (no-rewrite g w room r h); logged = λ r m. absurd (List·Memᴰ·not-nil m) };
+          rewritten = record { entry = λ r h. no-entry (no-rewrite g w room r); logged = λ r m. absurd (List·Memᴰ·not-nil m) };
           outputs-shown = λ o h. absurd (omega arith);
         };
-        named = record { below = λ r k a b d. absurd (d (no-rewrite g w room r a)) };
+        named = record { below = λ r k a b d. absurd (d (no-rewrite g w room r)) };
         size = length-replicate (length (g .regions)) not-begun;
-        regions = λ r h. rw (all-not-begun (length (g .regions)) r) (is-not-begun (no-kind g w room r (omega arith)));
-        slots = record { slot-number = λ a. a; starts = own-slot g w room; below = λ a h. h; own = λ a b h i f. f };
+        regions = λ r h. rw (all-not-begun (length (g .regions)) r) (is-not-begun (no-kind g w room r h (omega arith)));
+        slots = record { slot-number = λ a. a; starts = own-slot g w room few; below = λ a h. h .below; own = λ a b h i f. f };
         returned = record {
           size = count-word g w room ∙ sized;
           types = λ k h. type-word g w room k (omega arith) ∙ returned-is g k (omega arith);
         };
       };
       cell-total = first-words g w room 4 (omega arith);
-      no-kinds = no-kind g w room;
+      no-kinds = λ q h. no-kind g w room q h (omega arith);
       front = started-front g w room;
     }

@@ -1,13 +1,13 @@
 -- What a word stored in a section changes: that word, no other of its section, and no other section.
 use mathlib.Core.Path.{_≡_, _∙_}
 use mathlib.Core.List.{List, _∷_}
-use Prim.Native.Nat.{ℕ, suc, _+_, _≤_, _<_}
+use Prim.Native.Nat.{ℕ, suc, _+_, _-_, _≤_, _<_}
 use native.Mathlib.Omega.{arith}
 use lib.ListN.{length, getD, set, take, drop, length-take, List·getD-eq-default, drop-of-length-le}
 use lib.Seq.{getD-take, getD-drop, drop-cons}
 use native.Mathlib.Numerals.{add-one, add-two}
 use borrow.Author.Tests.{lt-ltb, le-ltb}
-use Rattle.state.specs.Sections.{part, read-at, stored-at, stored-all-at}
+use Rattle.state.specs.Sections.{Section, part, read-at, stored-at, stored, stored-all-at, filled}
 
 pub read-in : (o n : ℕ) (l : List ℕ) (i : ℕ) → i < n → read-at o n l i ≡ getD l (o + i) 0
 unfolding part
@@ -53,3 +53,17 @@ module _ (o n : ℕ) (l : List ℕ) (i a : ℕ) where
       → l₃ ≡ stored-all-at o n l i (a ∷ b ∷ xs)
   unfolding stored-all-at
   two-and-run b xs p q r = r ∙ rw (q, p, add-one i, add-two i)
+
+-- ---- Words filled in, turn by turn: what is left makes the whole.
+module _ (k : Section) (place x : ℕ → ℕ) where
+  pub fill-start : (n : ℕ) (l : List ℕ) → filled k place x (n - 0) 0 l ≡ filled k place x n 0 l
+  fill-start n l = let e : n - 0 ≡ n = omega arith in rw e
+
+  pub fill-turn : (n i : ℕ) (l : List ℕ) {whole : List ℕ} → i < n → filled k place x (n - i) i l ≡ whole
+      → filled k place x (n - (i + 1)) (i + 1) (stored l k (place i) (x i)) ≡ whole
+  unfolding filled
+  fill-turn n i l h q = let m : n - i ≡ suc (n - (i + 1)) = omega arith in rw (add-one i) (rw (add-one i) at (rw m at q))
+
+  pub fill-stop : (n i : ℕ) (l : List ℕ) {whole : List ℕ} → n ≤ i → filled k place x (n - i) i l ≡ whole → l ≡ whole
+  unfolding filled
+  fill-stop n i l h q = let m : n - i ≡ 0 = omega arith in rw m at q
