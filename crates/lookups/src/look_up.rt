@@ -80,11 +80,11 @@ pub fn look_up(w: &[u16; WORDS], v: u16) -> LookUp
         let r = input_region(x);
         let kind = rewrite_kind(w, r);
         if kind == NONE {
-            return plain(x);
+            break;
         }
         x = rewrite_value(w, r, input_index(x));
         if renumbers(kind, x) {
-            return plain(x);
+            break;
         }
         left -= 1;
     }

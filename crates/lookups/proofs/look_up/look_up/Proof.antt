@@ -1,4 +1,5 @@
 use mathlib.Core.Path.{_≡_, refl, sym, _∙_}
+use mathlib.Core.Logic.{⊎-elim}
 use Prim.Native.Nat.{_+_, _-_}
 use native.Mathlib.Omega.{arith}
 use borrow.Author.Needs.{needs}
@@ -38,22 +39,6 @@ input-region-requires c κs = search needs
 rewrite-kind-requires : tie.Need-rewrite-kind-requires Inv-loop μ-loop
 rewrite-kind-requires c κs = search needs
 
-plain-requires : tie.Need-plain-requires Inv-loop μ-loop
-plain-requires c κs = search needs
-
-returns-2 : tie.Need-returns-2 Inv-loop μ-loop
-returns-2 c =
-    let at-rewrite-kind = c .before .before in
-    let at-input-region = at-rewrite-kind .before in
-    let at-if = at-input-region .before in
-    let at-is-input = at-if .before in
-    let at-loop-test = at-is-input .before in
-    let at-loop = at-loop-test .before in
-    (c .plain .ensures) ∙ turn-none _ _ _ _ _ 0 0 (at-loop-test .loop-test .taken)
-    (at-loop .loop .inv)
-    (sym (at-is-input .is-input .ensures) ∙ not-false _ (at-if .if1 .left))
-    (at-input-region .input-region .ensures) (at-rewrite-kind .rewrite-kind .ensures) (c .before .if2 .taken)
-
 input-index-requires : tie.Need-input-index-requires Inv-loop μ-loop
 input-index-requires c κs = search needs
 
@@ -62,31 +47,6 @@ rewrite-value-requires c κs = search needs
 
 renumbers-requires : tie.Need-renumbers-requires Inv-loop μ-loop
 renumbers-requires c κs = search needs
-
-plain-requires-2 : tie.Need-plain-requires-2 Inv-loop μ-loop
-plain-requires-2 c κs = search needs
-
-returns-3 : tie.Need-returns-3 Inv-loop μ-loop
-returns-3 c =
-    let at-renumbers = c .before .before in
-    let at-rewrite-value = at-renumbers .before in
-    let at-input-index = at-rewrite-value .before in
-    let at-if = at-input-index .before in
-    let at-rewrite-kind = at-if .before in
-    let at-input-region = at-rewrite-kind .before in
-    let at-if-2 = at-input-region .before in
-    let at-is-input = at-if-2 .before in
-    let at-loop-test = at-is-input .before in
-    let at-loop = at-loop-test .before in
-    (c .plain2 .ensures) ∙ turn-renumbers _ _ _ _ _ _ _
-    (at-loop-test .loop-test .taken)
-    (at-loop .loop .inv)
-    (sym (at-is-input .is-input .ensures)
-    ∙ not-false _ (at-if-2 .if1 .left))
-    (at-input-region .input-region .ensures)
-    (at-rewrite-kind .rewrite-kind .ensures) (at-if .if2 .left)
-    (at-input-index .input-index .ensures) (at-rewrite-value .rewrite-value .ensures)
-    (sym (at-renumbers .renumbers .ensures) ∙ c .before .if3 .taken)
 
 sub-left : tie.Need-sub-left Inv-loop μ-loop
 sub-left c = omega arith
@@ -114,11 +74,23 @@ loop-again c =
     (at-input-index .input-index .ensures) (at-rewrite-value .rewrite-value .ensures)
     (sym (c .before .renumbers .ensures) ∙ c .if3 .left)
 
-plain-requires-3 : tie.Need-plain-requires-3 Inv-loop μ-loop
-plain-requires-3 c κs = search needs
+plain-requires : tie.Need-plain-requires Inv-loop μ-loop
+plain-requires c κs = search needs
 
-returns-4 : tie.Need-returns-4 Inv-loop μ-loop
-returns-4 c = (c .plain3 .ensures) ∙ turns-over _ _ _ (c .before .loop-test .left) (c .before .before .loop .inv)
+-- The loop is left after the last turn, at a region without an entry, or at a renumbered input.
+returns-2 : tie.Need-returns-2 Inv-loop μ-loop
+returns-2 c =
+    let left = c .before .before .loop .inv in
+    (c .plain .ensures)
+    ∙ ⊎-elim (λ y. rw (y .1) (turns-over _ _ _ (y .0 .left) left))
+    (⊎-elim
+    (λ y. rw (y .6)
+    (turn-none _ _ _ _ _ 0 0 (y .0 .taken) left (sym (y .1 .ensures) ∙ not-false _ (y .2 .left)) (y .3 .ensures) (y .4 .ensures)
+    (y .5 .taken)))
+    (λ y. rw (y .10)
+    (turn-renumbers _ _ _ _ _ _ _ (y .0 .taken) left (sym (y .1 .ensures) ∙ not-false _ (y .2 .left)) (y .3 .ensures) (y .4 .ensures)
+    (y .5 .left) (y .6 .ensures) (y .7 .ensures) (sym (y .8 .ensures) ∙ y .9 .taken))))
+    (c .before .loop-test .came)
 
 pub look-up-spec : {M : Type 1} → statement M
 look-up-spec =
@@ -133,15 +105,11 @@ look-up-spec =
     returns
     input-region-requires
     rewrite-kind-requires
-    plain-requires
-    returns-2
     input-index-requires
     rewrite-value-requires
     renumbers-requires
-    plain-requires-2
-    returns-3
     sub-left
     loop-less
     loop-again
-    plain-requires-3
-    returns-4)
+    plain-requires
+    returns-2)
