@@ -54,11 +54,13 @@ rewrite-kind l r = entry-kind (section l rewrites) r
 abbrev pub entries : List ℕ → ℕ
 entries l = word l rewrites entries-at
 
+-- n entries from region q's on are none.
+abbrev pub cleared : ℕ → ℕ → List ℕ → List ℕ
+cleared n q l = filled rewrites (λ q. 5 * q) (λ q. 0) n q l
+
 -- Entries are set up to region r's, which is to come: those between are none.
 unfoldable pub reached : List ℕ → ℕ → List ℕ
-reached l r =
-    pick (ltb r (entries l)) l
-    (stored (filled rewrites (λ q. 5 * q) (λ q. 0) (r - entries l) (entries l) l) rewrites entries-at (r + 1))
+reached l r = pick (ltb r (entries l)) l (stored (cleared (r - entries l) (entries l) l) rewrites entries-at (r + 1))
 
 -- The first entry of a region wins.
 unfoldable pub inserted : List ℕ → ℕ → ℕ → List ℕ → List ℕ

@@ -10,14 +10,14 @@ use Rattle.meaning.specs.Lists.{pick}
 use Rattle.record.specs.Stands.{Stands}
 use Rattle.state.specs.declared.cases.Case.{Case}
 use Rattle.state.specs.declared.defined.Made.{Made}
-use Rattle.state.specs.Sections.{word, stored, front, kinds, head, children, bodies, cases, bundles, set-starts, set-lengths}
+use Rattle.state.specs.Sections.{word, stored, head, children, bodies, cases, bundles, set-starts, set-lengths}
 use Rattle.state.specs.Tables.{inserted, swapped, bundle-copied, bundle-at, bundle-words, shifted, shift-removed}
 use Rattle.state.specs.Tables.{swap-removed, Joins, first-empty}
 use Rattle.state.specs.Tables.{second-empty, joined, case-total}
 use Rattle.lookups.specs.LookUps.{Rewrites, look-up}
 use Rattle.shown.specs.Front.{SameKinds}
 use Rattle.shown.specs.laws.Rewrites.{insert-changes}
-use Rattle.shown.specs.laws.FrontKept.{stands-kept, kinds-same, kinds-stored, kinds-run, kinds-then, adds-kinds, defines-kinds}
+use Rattle.shown.specs.laws.FrontKept.{stands-kept, kinds-same, kinds-stored, kinds-run, kinds-by, kinds-then, adds-kinds, defines-kinds}
 use Rattle.bundles.specs.Words.{Appends, appended, its-edge, its-rest, cases-filled, filled-from, split-filled, return-deferred}
 use Rattle.bundles.specs.Words.{case-inputs}
 use Rattle.bundles.specs.laws.Paths.{front-filled}
@@ -40,12 +40,7 @@ use Rattle.loops.specs.Loops.{adds-loop, LoopDefined, loop-defined, no-value, n
 
 -- ---- Words of the state.
 inserted-kinds : (w : List ℕ) (r kind : ℕ) (vs : List ℕ) → SameKinds w (inserted w r kind vs)
-inserted-kinds w r kind vs =
-    let changes = insert-changes w r kind vs 16 in
-    record {
-      front = record { words = changes .words; front-words = changes .others front (omega arith) (omega arith) };
-      kinds-words = changes .others kinds (omega arith) (omega arith);
-    }
+inserted-kinds w r kind vs = kinds-by (insert-changes w r kind vs 16) (omega arith)
 
 copied-kinds : (w : List ℕ) (to from : ℕ) → SameKinds w (bundle-copied w to from)
 copied-kinds w to from = kinds-run w bundles (omega arith) (7 * to) (bundle-words w from)

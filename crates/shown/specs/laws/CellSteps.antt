@@ -15,11 +15,12 @@ use Rattle.meaning.specs.facts.Tests.{clash}
 use Rattle.nesting.specs.Nesting.{join, has-children, blocks-of, blocks-from, new-case, new-select, LoopInputs, loop-node, most-regions}
 use Rattle.state.specs.declared.cells.Cell.{Cell}
 use Rattle.state.specs.Sections as sections
-use Rattle.state.specs.Sections.{Section, number, start, size, used, section, word, stored, stored-all, head, conditions, cells, front}
+use Rattle.state.specs.Sections.{Section, number, start, size, used, section, word, stored, stored-all, head, conditions, cells}
 use Rattle.state.specs.Sections.{most-cells}
 use Rattle.state.specs.laws.Apart.{section-other}
 use Rattle.state.specs.Tables.{Adds, added, no-room, cell-words, Joins, first-empty, second-empty, joined}
 use Rattle.shown.specs.Values.{value}
+use Rattle.shown.specs.laws.FrontKept.{front-by}
 use Rattle.shown.specs.laws.Stores.{section-run, part-length, head-same, ChangesOnly, head-changes, run-changes, changes-then}
 use Rattle.shown.specs.laws.Stores.{nothing-changes}
 use Rattle.shown.specs.Tables.{ShowsShape}
@@ -132,7 +133,7 @@ module _ {w w′ : List ℕ} {x : Cell} {h : ℕ} (step : Adds w w′ x h) (free
   cell-later g =
       let c = cell-changes in
       record {
-        front = record { words = c .words; front-words = c .others front (omega arith) (omega arith) };
+        front = front-by c (omega arith);
         conditions-stay = λ y. record {
           tree = cond-stays (conditions-after (4 + word w head 2)) (y .tree) (y .made);
           made = rw (c .totals 2 (omega arith)) (y .made);

@@ -10,11 +10,12 @@ use native.Mathlib.Decide.{decLt}
 use Rattle.meaning.specs.Graph.{Value, SelectionKind, Graph}
 use Rattle.nesting.specs.Nesting.{LazyCond, LazyConds, merge, NestState, define, define-merge, add-merge, most-merges}
 use Rattle.state.specs.declared.defined.Defined.{Defined}
-use Rattle.state.specs.Sections.{section, word, stored, stored-all, head, rewrites, outputs, conditions, cells, used, start, size, front}
+use Rattle.state.specs.Sections.{section, word, stored, stored-all, head, rewrites, outputs, conditions, cells, used, start, size}
 use Rattle.state.specs.laws.Apart.{section-other}
 use Rattle.state.specs.Tables.{MergeDefined, merge-defined, merges-full, shape-size, select-word}
 use Rattle.shown.specs.Values.{value}
 use Rattle.shown.specs.Kept.{Later}
+use Rattle.shown.specs.laws.FrontKept.{front-by}
 use Rattle.shown.specs.laws.Stores.{section-run, part-length, head-same, ChangesOnly, head-changes, run-changes, changes-then, nothing-changes}
 use Rattle.meaning.specs.facts.Parts.{run-before, run-in}
 use Rattle.shown.specs.Tables.{ShowsShape, shape-bool, shape-number, cond-count, ShowsCond, shows-true, shows-false, shows-undef}
@@ -192,7 +193,7 @@ module _ {w w′ : List ℕ} {s : NestState} (t : ShowsTables w s) {h : ℕ} {ps
   merge-later d g =
       let changes = merge-changes d in
       record {
-        front = record { words = changes .words; front-words = changes .others front (omega arith) (omega arith) };
+        front = front-by changes (omega arith);
         conditions-stay = condition-kept d;
         nodes-stay = λ k. record {
           nodes = rw (changes .others cells (omega arith) (omega arith)) (k .nodes);

@@ -1,23 +1,17 @@
 -- Words filled in at their places: each stands there, and no other word of any section changes.
-use mathlib.Core.Path.{_≡_, refl, sym, _∙_}
+use mathlib.Core.Path.{_≡_, refl, sym, ap, _∙_}
 use mathlib.Core.List.{List}
 use Prim.Native.Nat.{ℕ, zero, suc, _+_, _≤_, _<_}
 use native.Mathlib.Omega.{arith}
 use native.Mathlib.Decide.{ℕ-discrete}
-use lib.ListN.{length}
+use lib.ListN.{length, getD}
 use Rattle.state.specs.Sections as sections
-use Rattle.state.specs.Sections.{Section, number, start, size, section, word, stored, filled, front}
+use Rattle.state.specs.Sections.{Section, number, start, size, section, word, stored, filled, front, head}
 use Rattle.state.specs.laws.Apart.{stored-length, section-other}
 use Rattle.shown.specs.Front.{SameFront}
-use Rattle.shown.specs.laws.Stores.{word-there, word-apart, ChangesOnly, nothing-changes, word-changes, changes-then}
+use Rattle.shown.specs.laws.Stores.{word-there, word-apart, ChangesOnly}
 
 module _ (k : Section) (place x : ℕ → ℕ) where
-  pub fill-changes : (number k ≡ number sections.head → ⊥) → (h n i : ℕ) (l : List ℕ) → ChangesOnly k h l (filled k place x n i l)
-  unfolding filled
-  fill-changes d h zero i l = nothing-changes k h l
-  fill-changes d h (suc n) i l =
-      changes-then (word-changes k h l d (place i) (x i)) (fill-changes d h n (suc i) (stored l k (place i) (x i)))
-
   pub fill-length : (n i : ℕ) (l : List ℕ) → length (filled k place x n i l) ≡ length l
   unfolding filled
   fill-length zero i l = refl
@@ -28,6 +22,14 @@ module _ (k : Section) (place x : ℕ → ℕ) where
   unfolding filled
   fill-other zero i l j d = refl
   fill-other (suc n) i l j d = fill-other n (suc i) (stored l k (place i) (x i)) j d ∙ section-other l k (place i) (x i) j d
+
+  pub fill-changes : (number k ≡ number sections.head → ⊥) → (h n i : ℕ) (l : List ℕ) → ChangesOnly k h l (filled k place x n i l)
+  fill-changes d h n i l =
+      record {
+        words = fill-length n i l;
+        others = λ j a b. fill-other n i l j a;
+        totals = λ q a. ap (λ p. getD p q 0) (fill-other n i l head (λ e. d (sym e)));
+      }
 
   pub fill-front : (number k ≡ number sections.front → ⊥) → (n i : ℕ) (l : List ℕ) → SameFront l (filled k place x n i l)
   fill-front d n i l = record { words = fill-length n i l; front-words = fill-other n i l front (λ e. d (sym e)) }

@@ -14,12 +14,16 @@ use Rattle.meaning.specs.Lists.{pick}
 use Rattle.meaning.specs.facts.Tests.{eqb-sym}
 use Rattle.nesting.specs.Nesting.{DeferredTarget, DeferredEdgeBundleSet, same-target, get-edge-bundle-by-target}
 use Rattle.state.specs.Sections.{word, bundles}
-use Rattle.state.specs.Tables.{bundle-at, find-by}
+use Rattle.state.specs.Tables.{bundle-at, find-by, slot}
 use Rattle.shown.specs.Sets.{ShowsTarget, shows-region, shows-return, ShowsSet, no-bundle}
 
 pub bundle-in : (start i : ℕ) → start < 1097 → i < 33 → bundle-at start i ≡ start + i
 unfolding bundle-at
 bundle-in start i a b = rw (lt-ltb start 1097 a, lt-ltb i 33 b)
+
+pub slot-in : (a : ℕ) → a < 33 → slot a ≡ 33 * a
+unfolding slot
+slot-in a h = rw (lt-ltb a 33 h)
 
 -- Words are the same just where targets are.
 pub targets-tell : {g : Graph} → length (g .regions) ≤ 32 → {a b : ℕ} {x y : DeferredTarget} → ShowsTarget g a x → ShowsTarget g b y

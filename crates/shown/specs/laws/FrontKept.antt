@@ -12,7 +12,7 @@ use Rattle.state.specs.Sections as sections
 use Rattle.state.specs.Sections.{Section, number, start, size, part, stored, stored-all, front, head, kinds, cells}
 use Rattle.state.specs.Tables.{Adds, added, no-room, cell-words, Defines, defined, full}
 use Rattle.state.specs.laws.Apart.{stored-length, section-other}
-use Rattle.shown.specs.laws.Stores.{run-length, run-other}
+use Rattle.shown.specs.laws.Stores.{run-length, run-other, ChangesOnly}
 use Rattle.shown.specs.Front.{SameFront, SameKinds}
 
 pub stands-on : {w w′ : List ℕ} {g : Graph} → SameFront w w′ → Stands w g → Stands w′ g
@@ -32,6 +32,9 @@ front-stored w k d i x = record {
 pub front-run : (w : List ℕ) (k : Section) → (number k ≡ number sections.front → ⊥) → (i : ℕ) (xs : List ℕ)
     → SameFront w (stored-all w k i xs)
 front-run w k d i xs = record { words = run-length (start k) (size k) w i xs; front-words = run-other w k i xs front (λ e. d (sym e)) }
+
+pub front-by : {k : Section} {i : ℕ} {w w′ : List ℕ} → ChangesOnly k i w w′ → (number sections.front ≡ number k → ⊥) → SameFront w w′
+front-by changes d = record { words = changes .words; front-words = changes .others front d (omega arith) }
 
 pub front-then : {w w₁ w₂ : List ℕ} → SameFront w w₁ → SameFront w₁ w₂ → SameFront w w₂
 front-then a b = record { words = b .words ∙ a .words; front-words = b .front-words ∙ a .front-words }
@@ -53,6 +56,13 @@ kinds-stored w k d i x =
 
 pub kinds-run : (w : List ℕ) (k : Section) → BehindKinds k → (i : ℕ) (xs : List ℕ) → SameKinds w (stored-all w k i xs)
 kinds-run w k d i xs = record { front = front-run w k (d .not-front) i xs; kinds-words = run-other w k i xs kinds (d .not-kinds) }
+
+pub kinds-by : {k : Section} {i : ℕ} {w w′ : List ℕ} → ChangesOnly k i w w′ → BehindKinds k → SameKinds w w′
+kinds-by changes d =
+    record {
+      front = front-by changes (λ e. d .not-front (sym e));
+      kinds-words = changes .others kinds (d .not-kinds) (omega arith);
+    }
 
 pub kinds-then : {w w₁ w₂ : List ℕ} → SameKinds w w₁ → SameKinds w₁ w₂ → SameKinds w w₂
 kinds-then a b = record { front = front-then (a .front) (b .front); kinds-words = b .kinds-words ∙ a .kinds-words }

@@ -11,7 +11,7 @@ use Rattle.meaning.specs.Runs.{Nodes}
 use Rattle.nesting.specs.Nesting.{DeferredEdgeBundleSet, StructurizeRegionState, not-begun, NestState, with-tables}
 use Rattle.state.specs.Sections as sections
 use Rattle.state.specs.Sections.{Section, number, size, used, section, word, stored, stored-all, head, kinds, backedges, set-starts}
-use Rattle.state.specs.Sections.{set-lengths, children, bodies, levels, rewrites, conditions, cells, outputs, bundles, front}
+use Rattle.state.specs.Sections.{set-lengths, children, bodies, levels, rewrites, conditions, cells, outputs, bundles}
 use Rattle.state.specs.Tables.{entry-kind}
 use Rattle.state.specs.laws.Apart.{section-other}
 use Rattle.shown.specs.laws.Stores.{ChangesOnly, word-changes, run-changes, nothing-changes, section-run}
@@ -19,7 +19,7 @@ use Rattle.shown.specs.laws.Stores.{run-other, word-there, word-apart}
 use Rattle.shown.specs.Tables.{ShowsTables}
 use Rattle.shown.specs.laws.Elsewhere.{SameTables, tables-stay, Elsewhere, same-then}
 use Rattle.shown.specs.laws.Conditions.{condition-same}
-use Rattle.shown.specs.laws.FrontKept.{stands-on}
+use Rattle.shown.specs.laws.FrontKept.{stands-on, front-by}
 use Rattle.shown.specs.Sets.{ShowsSet, SameBundle}
 use Rattle.shown.specs.Cells.{ShowsChildren}
 use Rattle.shown.specs.States.{ShowsOwnSet, ShowsRegion, is-not-begun, is-in-progress, is-ready, is-claimed, ShowsState}
@@ -54,7 +54,7 @@ module _ {k : Section} {i : ℕ} {w w′ : List ℕ} (changes : ChangesOnly k i 
   pub later-by : MakesNothing k i → (g : Graph) → Later g w w′
   later-by d g =
       record {
-        front = record { words = changes .words; front-words = changes .others front (d .not-front) (omega arith) };
+        front = front-by changes (d .not-front);
         conditions-stay = condition-same (changes .others conditions (d .not-conditions) (omega arith))
             (changes .others cells (d .not-cells) (omega arith)) (changes .totals 4 (d .not-cell-total))
             (changes .totals 2 (d .not-merges));

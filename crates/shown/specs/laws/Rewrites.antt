@@ -16,9 +16,9 @@ use Rattle.meaning.specs.facts.Tests.{clash, in-or-out}
 use Rattle.nesting.specs.Nesting.{RegionInputRewrites, replace-with, renumber-or-replace-with, RewriteEntry, NestState, rewrites-of}
 use Rattle.nesting.specs.Nesting.{with-tables, most-regions}
 use Rattle.nesting.specs.lookups.ChainEnds.{entry-kept}
-use Rattle.state.specs.Sections.{section, word, stored, stored-all, filled, rewrites, outputs, start, size, used, entries-at}
+use Rattle.state.specs.Sections.{section, word, stored, stored-all, rewrites, outputs, start, size, used, entries-at}
 use Rattle.state.specs.laws.Apart.{section-stored}
-use Rattle.state.specs.Tables.{entry-kind, rewrite-kind, entries, reached, inserted}
+use Rattle.state.specs.Tables.{entry-kind, rewrite-kind, entries, cleared, reached, inserted}
 use Rattle.shown.specs.Values.{value}
 use Rattle.shown.specs.laws.Stores.{section-run, part-length, ChangesOnly, run-changes, word-changes, changes-then, nothing-changes}
 use Rattle.shown.specs.laws.Stores.{word-there, word-apart}
@@ -72,80 +72,69 @@ pub record Enters (l l′ : List ℕ) (r kind : ℕ) (ws : List ℕ) : Type 0 wh
   pub other-words : (q k : ℕ) → q < most-regions → (q ≡ r → ⊥) → k < 4 → getD l′ (5 * q + 1 + k) 0 ≡ getD l (5 * q + 1 + k) 0
 
 -- Up to it entries are set: those that were not, to none.
-pub reached-changes : (w : List ℕ) (r i : ℕ) → ChangesOnly rewrites i w (reached w r)
-unfolding reached
-reached-changes w r i = go (ltb r (entries w))
-  where
-    go : (b : Bool) → ChangesOnly rewrites i w
-        (pick b w (stored (filled rewrites (λ q. 5 * q) (λ q. 0) (r - entries w) (entries w) w) rewrites entries-at (r + 1)))
-    go true = nothing-changes rewrites i w
-    go false =
-        let between = filled rewrites (λ q. 5 * q) (λ q. 0) (r - entries w) (entries w) w in
-        changes-then (fill-changes rewrites (λ q. 5 * q) (λ q. 0) (omega arith) i (r - entries w) (entries w) w)
-        (word-changes rewrites i between (omega arith) entries-at (r + 1))
-
-module _ (w : List ℕ) (room : used ≤ length w) (r : ℕ) where
+module _ (w : List ℕ) (r : ℕ) where
   abbrev between : List ℕ
-  between = filled rewrites (λ q. 5 * q) (λ q. 0) (r - entries w) (entries w) w
-
-  room-between : start rewrites + size rewrites ≤ length between
-  room-between = rw (fill-length rewrites (λ q. 5 * q) (λ q. 0) (r - entries w) (entries w) w) (omega arith)
+  between = cleared (r - entries w) (entries w) w
 
   abbrev newly : List ℕ
   newly = stored between rewrites entries-at (r + 1)
 
-  newly-many : entries newly ≡ r + 1
-  newly-many = word-there between rewrites entries-at (r + 1) room-between (omega arith)
-
-  newly-word : (i : ℕ) → i < 640 → ((q : ℕ) → entries w ≤ q → i ≡ 5 * q → ⊥) → word newly rewrites i ≡ word w rewrites i
-  newly-word i h d =
-      word-apart between rewrites entries-at (r + 1) rewrites i (omega arith)
-      ∙ fill-beside rewrites (λ q. 5 * q) (λ q. 0) (r - entries w) (entries w) w i d
-
-  newly-none : (q : ℕ) → q < most-regions → entries w ≤ q → q < r → word newly rewrites (5 * q) ≡ 0
-  newly-none q h a b =
-      word-apart between rewrites entries-at (r + 1) rewrites (5 * q) (omega arith)
-      ∙ fill-there rewrites (λ q. 5 * q) (λ q. 0) (λ a b c e. omega arith) (r - entries w) (entries w) w (omega arith) q a (omega arith)
-      (omega arith)
-
-  newly-kind : entries w ≤ r → (q : ℕ) → q < most-regions → (q ≡ r → ⊥) → rewrite-kind newly q ≡ rewrite-kind w q
-  unfolding entry-kind
-  newly-kind many q h d = go (in-or-out q (entries w)) (in-or-out q r)
-    where
-      go : (q < entries w) ⊎ (entries w ≤ q) → (q < r) ⊎ (r ≤ q) → rewrite-kind newly q ≡ rewrite-kind w q
-      go (inl a) b =
-          rw (newly-many, lt-ltb q (r + 1) (omega arith), lt-ltb q (entries w) a) (newly-word (5 * q) (omega arith) (λ m c e. omega arith))
-      go (inr a) (inl b) =
-          rw (newly-many, lt-ltb q (r + 1) (omega arith), le-ltb q (entries w) a) (newly-none q h a b)
-      go (inr a) (inr b) = rw (newly-many, le-ltb q (r + 1) (omega arith), le-ltb q (entries w) a)
-
-module _ (w : List ℕ) (room : used ≤ length w) (r : ℕ) (below : r < most-regions) where
-  reached-many : r < entries (reached w r)
+  by-reach : (P : List ℕ → Type 0) → (r < entries w → P w) → (entries w ≤ r → P newly) → P (reached w r)
   unfolding reached
-  reached-many = go (in-or-out r (entries w))
+  by-reach P there new = go (in-or-out r (entries w))
     where
-      go : (r < entries w) ⊎ (entries w ≤ r) → r < entries (reached w r)
-      go (inl a) = rw (lt-ltb r (entries w) a) a
-      go (inr a) = let e = newly-many w room r in rw (le-ltb r (entries w) a) (omega arith)
+      go : (r < entries w) ⊎ (entries w ≤ r) → P (reached w r)
+      go (inl a) = rw (lt-ltb r (entries w) a) (there a)
+      go (inr a) = rw (le-ltb r (entries w) a) (new a)
 
-  reached-kind : (q : ℕ) → q < most-regions → (q ≡ r → ⊥) → rewrite-kind (reached w r) q ≡ rewrite-kind w q
-  unfolding reached
-  reached-kind q h d = go (in-or-out r (entries w))
-    where
-      go : (r < entries w) ⊎ (entries w ≤ r) → rewrite-kind (reached w r) q ≡ rewrite-kind w q
-      go (inl a) = rw (lt-ltb r (entries w) a)
-      go (inr a) = rw (le-ltb r (entries w) a) (newly-kind w room r a q h d)
+  reached-changes : (i : ℕ) → ChangesOnly rewrites i w (reached w r)
+  reached-changes i =
+      by-reach (λ z. ChangesOnly rewrites i w z) (λ a. nothing-changes rewrites i w)
+      (λ a. changes-then (fill-changes rewrites (λ q. 5 * q) (λ q. 0) (omega arith) i (r - entries w) (entries w) w)
+      (word-changes rewrites i between (omega arith) entries-at (r + 1)))
 
-  reached-word : (q k : ℕ) → q < most-regions → k < 4 → word (reached w r) rewrites (5 * q + 1 + k) ≡ word w rewrites (5 * q + 1 + k)
-  unfolding reached
-  reached-word q k h i = go (in-or-out r (entries w))
-    where
-      go : (r < entries w) ⊎ (entries w ≤ r) → word (reached w r) rewrites (5 * q + 1 + k) ≡ word w rewrites (5 * q + 1 + k)
-      go (inl a) = rw (lt-ltb r (entries w) a)
-      go (inr a) = rw (le-ltb r (entries w) a) (newly-word w room r (5 * q + 1 + k) (omega arith) (λ m c e. omega arith))
+  module _ (room : used ≤ length w) where
+    newly-many : entries newly ≡ r + 1
+    newly-many =
+        let e = fill-length rewrites (λ q. 5 * q) (λ q. 0) (r - entries w) (entries w) w in
+        word-there between rewrites entries-at (r + 1) (omega arith) (omega arith)
+
+    newly-word : (i : ℕ) → i < entries-at → ((q : ℕ) → entries w ≤ q → i ≡ 5 * q → ⊥) → word newly rewrites i ≡ word w rewrites i
+    newly-word i h d =
+        word-apart between rewrites entries-at (r + 1) rewrites i (omega arith)
+        ∙ fill-beside rewrites (λ q. 5 * q) (λ q. 0) (r - entries w) (entries w) w i d
+
+    newly-none : (q : ℕ) → q < most-regions → entries w ≤ q → q < r → word newly rewrites (5 * q) ≡ 0
+    newly-none q h a b =
+        word-apart between rewrites entries-at (r + 1) rewrites (5 * q) (omega arith)
+        ∙ fill-there rewrites (λ q. 5 * q) (λ q. 0) (λ a b c e. omega arith) (r - entries w) (entries w) w (omega arith) q a (omega arith)
+        (omega arith)
+
+    newly-kind : entries w ≤ r → (q : ℕ) → q < most-regions → (q ≡ r → ⊥) → rewrite-kind newly q ≡ rewrite-kind w q
+    unfolding entry-kind
+    newly-kind many q h d = go (in-or-out q (entries w)) (in-or-out q r)
+      where
+        go : (q < entries w) ⊎ (entries w ≤ q) → (q < r) ⊎ (r ≤ q) → rewrite-kind newly q ≡ rewrite-kind w q
+        go (inl a) b =
+            rw (newly-many, lt-ltb q (r + 1) (omega arith), lt-ltb q (entries w) a)
+            (newly-word (5 * q) (omega arith) (λ m c e. omega arith))
+        go (inr a) (inl b) =
+            rw (newly-many, lt-ltb q (r + 1) (omega arith), le-ltb q (entries w) a) (newly-none q h a b)
+        go (inr a) (inr b) = rw (newly-many, le-ltb q (r + 1) (omega arith), le-ltb q (entries w) a)
+
+    reached-many : r < entries (reached w r)
+    reached-many = by-reach (λ z. r < entries z) (λ a. a) (λ a. let e = newly-many in omega arith)
+
+    reached-kind : (q : ℕ) → q < most-regions → (q ≡ r → ⊥) → rewrite-kind (reached w r) q ≡ rewrite-kind w q
+    reached-kind q h d = by-reach (λ z. rewrite-kind z q ≡ rewrite-kind w q) (λ a. refl) (λ a. newly-kind a q h d)
+
+    reached-word : (q k : ℕ) → q < most-regions → k < 4 → word (reached w r) rewrites (5 * q + 1 + k) ≡ word w rewrites (5 * q + 1 + k)
+    reached-word q k h i =
+        by-reach (λ z. word z rewrites (5 * q + 1 + k) ≡ word w rewrites (5 * q + 1 + k)) (λ a. refl)
+        (λ a. newly-word (5 * q + 1 + k) (omega arith) (λ m c e. omega arith))
 
 -- Then the five words of its own.
-module _ (l : List ℕ) (r kind : ℕ) (ws : List ℕ) (size : length l ≡ 641) (len : length ws ≡ 4) (below : r < most-regions) where
+module _ (l : List ℕ) (r kind : ℕ) (ws : List ℕ) (long : entries-at < length l) (len : length ws ≡ 4) (below : r < most-regions) where
   abbrev entered : List ℕ
   entered = sets l (5 * r) (kind ∷ ws)
 
@@ -184,21 +173,22 @@ module _ (w : List ℕ) (room : used ≤ length w) (r kind : ℕ) (ws : List ℕ
   inserted-section : section (stored-all first rewrites (5 * r + 1) ws) rewrites ≡ sets (section (reached w r) rewrites) (5 * r) (kind ∷ ws)
   inserted-section = section-run first rewrites (5 * r + 1) ws ∙ rw (section-stored (reached w r) rewrites (5 * r) kind, add-one (5 * r))
 
-  reached-size : length (section (reached w r) rewrites) ≡ 641
-  reached-size =
-      let e = reached-changes w r 16 .words in part-length (start rewrites) (size rewrites) (reached w r) (omega arith)
+  reached-long : entries-at < length (section (reached w r) rewrites)
+  reached-long =
+      let e = reached-changes w r 16 .words in
+      let f = part-length (start rewrites) (size rewrites) (reached w r) (omega arith) in omega arith
 
   inserted-enters : Enters (section w rewrites) (section (stored-all first rewrites (5 * r + 1) ws) rewrites) r kind ws
   inserted-enters =
       let l = section (reached w r) rewrites in
       rw inserted-section
       record {
-        kind-set = entered-kind l r kind ws reached-size len below (reached-many w room r below);
-        words-set = entered-word l r kind ws reached-size len below;
-        other-kinds = λ q h d. entered-kinds l r kind ws reached-size len below q d ∙ reached-kind w room r below q h d;
+        kind-set = entered-kind l r kind ws reached-long len below (reached-many w r room);
+        words-set = entered-word l r kind ws reached-long len below;
+        other-kinds = λ q h d. entered-kinds l r kind ws reached-long len below q d ∙ reached-kind w r room q h d;
         other-words = λ q k h d i.
-            entered-other l r kind ws reached-size len below q (5 * q + 1 + k) d (omega arith) (omega arith)
-            ∙ reached-word w room r below q k h i;
+            entered-other l r kind ws reached-long len below q (5 * q + 1 + k) d (omega arith) (omega arith)
+            ∙ reached-word w r room q k h i;
       }
 
   pub by-insertion : (P : List ℕ → Type 0)

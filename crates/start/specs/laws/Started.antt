@@ -6,7 +6,7 @@ use native.Mathlib.Omega.{arith}
 use native.Mathlib.Decide.{decLt}
 use lib.ListN.{length, getD, length-map, length-replicate, List·getD-eq-default}
 use lib.Seq.{take-length}
-use borrow.Author.Tests.{lt-ltb, le-ltb}
+use borrow.Author.Tests.{le-ltb}
 use Rattle.meaning.specs.Graph.{Graph, Region, region, nowhere, ControlInst, unreachable, return, exit-invocation, branch, select-branch}
 use Rattle.meaning.specs.Graph.{no-value}
 use Rattle.meaning.specs.facts.Elements.{getD-map-in}
@@ -27,6 +27,7 @@ use Rattle.shown.specs.laws.FrontKept.{stands-on, front-stored, front-run, fron
 use Rattle.shown.specs.laws.SetStores.{run-word}
 use Rattle.shown.specs.Tables.{no-entry}
 use Rattle.shown.specs.States.{ShowsState, HasSlot, is-not-begun}
+use Rattle.shown.specs.laws.Finds.{slot-in}
 use Rattle.shown.specs.laws.Fills.{fill-length, fill-other, fill-front, fill-beside, fill-there}
 use Rattle.start.specs.Words.{nothing-rewritten, nothing-begun, emptied, returned-type, returned-count, totals, counted, started}
 use Rattle.start.specs.Words.{types-stored}
@@ -152,10 +153,6 @@ module _ (g : Graph) (w : List ℕ) (room : used ≤ length w) where
       ap (λ p. getD p r 0) (behind-slots kinds (omega arith) (omega arith))
       ∙ fill-there kinds (λ r. r) (λ r. 0) (λ a b c e. omega arith) n 0 l₁ (omega arith) r (omega arith) (omega arith) below
 
-  slot-is : (a : ℕ) → a < 33 → slot a ≡ 33 * a
-  unfolding slot
-  slot-is a h = rw (lt-ltb a 33 h)
-
   own-slot : n ≤ 32 → (a : ℕ) → HasSlot n a → word (started g w) set-starts a ≡ 33 * a
   own-slot many a h =
       let len = length₂ in
@@ -164,9 +161,9 @@ module _ (g : Graph) (w : List ℕ) (room : used ≤ length w) where
       ∙ elim (decLt a n) [
         | yes b ↦ word-apart l₂′ set-starts 32 (slot 32) set-starts a (omega arith)
             ∙ fill-there set-starts (λ a. a) slot (λ a b c e. omega arith) n 0 l₂ (omega arith) a (omega arith) (omega arith) (omega arith)
-            ∙ slot-is a (h .below)
+            ∙ slot-in a (h .below)
         | no b ↦ (let e : a ≡ 32 = h .of-region (omega arith) in
-            rw e (word-there l₂′ set-starts 32 (slot 32) (omega arith) (omega arith) ∙ slot-is 32 (omega arith)))
+            rw e (word-there l₂′ set-starts 32 (slot 32) (omega arith) (omega arith) ∙ slot-in 32 (omega arith)))
       ]
 
   first-words : (q : ℕ) → q < 7 → word (started g w) head q ≡ getD (totals g n) q 0

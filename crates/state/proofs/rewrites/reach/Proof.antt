@@ -2,14 +2,14 @@ use mathlib.Core.Path.{_≡_, refl, _∙_}
 use Prim.Native.Nat.{_-_, _*_}
 use borrow.Author.Needs.{needs}
 use Rattle.meaning.specs.facts.Tests.{picked, passed-over, is-below, not-below}
-use Rattle.state.specs.Sections.{rewrites, filled}
-use Rattle.state.specs.Tables.{reached}
+use Rattle.state.specs.Sections.{rewrites}
+use Rattle.state.specs.Tables.{cleared, reached}
 use Rattle.state.specs.laws.Stored.{fill-turn, fill-stop}
 use Rattle.state.proofs.rewrites.reach.Statement.{statement}
 use Rattle.state.proofs.rewrites.reach.Tie as tie
 
 abbrev Inv-loop : tie.InvT-loop
-Inv-loop w₀ r q₀ w q = filled rewrites (λ q. 5 * q) (λ q. 0) (r - q) q w ≡ filled rewrites (λ q. 5 * q) (λ q. 0) (r - q₀) q₀ w₀
+Inv-loop w₀ r q₀ w q = cleared (r - q) q w ≡ cleared (r - q₀) q₀ w₀
 
 abbrev μ-loop : tie.MeasureT-loop
 μ-loop w₀ r q₀ w q = r - q
