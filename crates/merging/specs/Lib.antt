@@ -1,5 +1,4 @@
 pub mod Turns
-pub mod Bundles
 pub mod Rewriting
 pub mod Targets
 pub mod Planning

@@ -1,3 +1,4 @@
 pub mod Listing
 pub mod Parts
 pub mod laws
+pub mod cases

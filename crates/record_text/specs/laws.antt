@@ -6,4 +6,3 @@ pub mod PassLines
 pub mod ItemBytes
 pub mod RegionBytes
 pub mod Fits
-pub mod CaseA

@@ -127,7 +127,7 @@ module _ {g : Graph} (few : length (g .regions) ≤ 32) {r : ℕ} (here : r < le
         cells-to = let z = both .same-head 4 in omega arith;
       }
 
-  -- The edge of its own is bundle-copied to the front of region r's slot.
+  -- The edge of its own is copied to the front of region r's slot.
   edge-appended : {d : DeferredEdgeBundleSet} {p : ℕ} → ShowsSet g w p 1 d
       → AppendShown g w (stored (bundle-copied w (bundle-at (word w set-starts r) 0) p) set-lengths r 1) s parent (err d) r
   edge-appended {d} {p} set =

@@ -1,4 +1,5 @@
--- Laws on what ByInst defines, as the proofs cite them.
+-- For the proofs of inst.rt: what a function read and stored on one of its paths is the step that ByInst names for it. The record is shown
+-- to stand on where a later part of the same function reads it again.
 use mathlib.Core.Path.{_≡_, sym, subst, _∙_}
 use mathlib.Core.List.{List}
 use Prim.Native.Nat.{ℕ, _+_, _*_}

@@ -1,4 +1,5 @@
--- Laws on what ByState defines, as the proofs cite them.
+-- For the proofs of claim.rt: the test that the code took is the one that ByState decides by. The code's sum of edges is held at 32 bits;
+-- that it is never held back is shown here.
 use mathlib.Core.Path.{_≡_, refl, sym, ap, _∙_}
 use mathlib.Core.Bool.{Bool, true, false}
 use mathlib.Core.List.{List}

@@ -1,4 +1,5 @@
--- Laws on what Func defines, as the proofs cite them.
+-- For the proofs of func.rt: the outcome by what the entry's set has, the answer by what the entry's claim was; and that the record stands
+-- after the first step has filled the state.
 use mathlib.Core.Path.{_≡_, refl, sym, _∙_}
 use mathlib.Core.Bool.{Bool, true, false}
 use mathlib.Core.List.{List}

@@ -1,4 +1,5 @@
--- Laws on what FuncShown defines, as the proofs cite them.
+-- The end of the refinement: whatever Func allows shows what the definition's structurize-func answers. The definition claims the entry
+-- with no inputs; the laws below are for regions with all of theirs, so stand-ins are passed, and shown to make no difference.
 use mathlib.Core.Path.{_≡_, refl, sym, ap, subst, _∙_}
 use mathlib.Core.Bool.{Bool, true, false}
 use mathlib.Core.List.{List, [], map, append-nil, _∷_}

@@ -1,4 +1,5 @@
--- Laws on what Lists defines, as the proofs cite them.
+-- Why numbers put from the last cell to the first are the definition's, which reads from the first: a turn puts the last of what is left in
+-- front of what was put. Lists within a list are put where they stand, by the same routine.
 use mathlib.Core.Path.{_≡_, refl, sym, _∙_}
 use mathlib.Core.List.{List, [], _∷_, _++_, append-assoc, append-nil}
 use Prim.Native.Nat.{ℕ, suc, _+_, _-_, _≤_, _<_}

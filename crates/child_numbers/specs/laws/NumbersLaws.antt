@@ -1,4 +1,4 @@
--- Laws on what Numbers defines, as the proofs cite them.
+-- Numbers put in front of others, with one count for all. The count is held at the largest word, and stays right so.
 use mathlib.Core.Path.{_≡_, sym, _∙_}
 use mathlib.Core.List.{List, [], _++_}
 use Prim.Native.Nat.{ℕ, _+_, _≤_, _<_}

@@ -1,4 +1,5 @@
--- Laws on what CellByCell defines, as the proofs cite them.
+-- What a cell names stands before it, so that every walk over cells ends; and what a handle shows is what its last cell adds to the list
+-- before it. Cited by all crates that walk: the figure and the lines.
 use mathlib.Core.Path.{_≡_, refl, sym, _∙_}
 use mathlib.Core.Bool.{Bool, true, false}
 use mathlib.Core.List.{List}

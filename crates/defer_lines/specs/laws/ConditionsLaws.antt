@@ -1,4 +1,5 @@
--- Laws on what Conditions defines, as the proofs cite them.
+-- A deferred edge's condition, put part by part as its cells have it, is the definition's field; a part's number is less than its merge's,
+-- so that the recursion ends.
 use mathlib.Core.Path.{_≡_, refl, sym, ap, _∙_}
 use mathlib.Core.List.{List, [], _∷_}
 use Prim.Native.Nat.{ℕ, zero, suc, _+_, _*_, _≤_, _<_}

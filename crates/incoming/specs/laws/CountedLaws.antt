@@ -1,4 +1,4 @@
--- Laws on what Counted defines, as the proofs cite them.
+-- One more for each target makes what the definition counts of the list; and how far a count can have grown, so that none passes 32 bits.
 use mathlib.Core.Path.{_≡_, sym, ap, subst, _∙_}
 use mathlib.Core.List.{List}
 use Prim.Native.Nat.{ℕ, _+_, _≤_, _<_, min}

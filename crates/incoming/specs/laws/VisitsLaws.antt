@@ -1,4 +1,5 @@
--- Laws on what Visits defines, as the proofs cite them.
+-- The loop with its stack visits what the definition's recursion visits, in the same order, so that the counts are equal at its end; and
+-- neither the stack nor a count outgrows its room, since each region is visited once.
 use mathlib.Core.Path.{_≡_, refl, sym, ap, _∙_}
 use mathlib.Core.Bool.{Bool, true, false}
 use mathlib.Core.List.{List, [], _∷_, _++_}

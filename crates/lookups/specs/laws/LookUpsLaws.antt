@@ -1,4 +1,4 @@
--- Laws on what LookUps defines, as the proofs cite them.
+-- For the proofs of look_up.rt: a turn of the loop along a chain of rewrites, by the entry that was read, leaves the same look-up to do.
 use mathlib.Core.Path.{_≡_, sym, ap, _∙_}
 use mathlib.Core.Bool.{Bool, true, false, not}
 use mathlib.Core.List.{List}

@@ -1,4 +1,5 @@
--- Laws on what Materialized defines, as the proofs cite them.
+-- For the proofs of materialize.rt: the parts of a condition made into values one by one, then merged; a part's number is less than its
+-- merge's, so that the recursion ends.
 use mathlib.Core.Path.{_≡_, refl, sym, _∙_}
 use mathlib.Core.Bool.{Bool, true, false}
 use mathlib.Core.List.{List}

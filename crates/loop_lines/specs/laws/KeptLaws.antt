@@ -1,4 +1,5 @@
--- Laws on what Kept defines, as the proofs cite them.
+-- A loop along the cells of kept inputs puts the last first. Turn by turn, what was put stands behind what is left; at the end the count is
+-- the number of cells.
 use mathlib.Core.Path.{_≡_, refl, sym, _∙_}
 use mathlib.Core.List.{List, [], _∷_, _++_, append-assoc, append-nil}
 use Prim.Native.Nat.{ℕ, _+_, _≤_, _<_}

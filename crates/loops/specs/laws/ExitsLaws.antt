@@ -1,4 +1,5 @@
--- Laws on what Exits defines, as the proofs cite them.
+-- For the proofs of exits.rt: an edge is added to each bundle whose target the exit list names, bundle by bundle; the record stands through
+-- all turns, since a turn reads the exit list from it.
 use mathlib.Core.Path.{_≡_, sym, _∙_}
 use mathlib.Core.Bool.{Bool, true, false}
 use mathlib.Core.List.{List}

@@ -1,4 +1,4 @@
--- Laws on what Inputs defines, as the proofs cite them.
+-- What the loops over a header's four places need at their ends: no more inputs are kept than places were passed, and four are all.
 use mathlib.Core.Path.{_≡_}
 use mathlib.Core.List.{List}
 use Prim.Native.Nat.{ℕ, _+_, _≤_}

@@ -1,4 +1,4 @@
--- Laws on what Loops defines, as the proofs cite them.
+-- For the proofs of loops.rt: the steps of structurize_loop, by how far they came; each may find its table full.
 use mathlib.Core.Path.{_≡_}
 use mathlib.Core.List.{List}
 use Prim.Native.Nat.{ℕ}

@@ -1,4 +1,4 @@
--- Laws on what Bundles defines, as the proofs cite them.
+-- An input stored in a bundle leaves the record and the regions' kinds.
 use mathlib.Core.Bool.{Bool, true, false}
 use mathlib.Core.List.{List}
 use Prim.Native.Nat.{ℕ, _+_, _*_}

@@ -1,4 +1,5 @@
--- Laws on what Planning defines, as the proofs cite them.
+-- For the proofs of planning.rt: a search or a plan over the cases, turn by turn. What is left always makes the same whole, so that the
+-- last turn has the definition's answer. The record stands through all turns, for the plan reads inputs from it.
 use mathlib.Core.Path.{_≡_, _∙_}
 use mathlib.Core.Bool.{Bool, true, false}
 use mathlib.Core.List.{List}

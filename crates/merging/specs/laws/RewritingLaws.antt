@@ -1,4 +1,4 @@
--- Laws on what Rewriting defines, as the proofs cite them.
+-- For the proofs of rewriting.rt: each value of the cases looked up and stored, place by place; the record stands through all turns.
 use mathlib.Core.Path.{_≡_, _∙_}
 use mathlib.Core.Bool.{Bool, true, false}
 use mathlib.Core.List.{List}

@@ -1,4 +1,4 @@
--- Laws on what Targets defines, as the proofs cite them.
+-- For the proofs of targets.rt: a bundle that has a fellow for its target adds its edges there, another gets a row of its own.
 use mathlib.Core.Path.{_≡_, _∙_}
 use mathlib.Core.List.{List, [], _∷_}
 use Prim.Native.Nat.{ℕ, _+_, _*_, _-_, _≤_, min}

@@ -1,4 +1,4 @@
--- Laws on what Turns defines, as the proofs cite them.
+-- Two loops whose turns agree as far as they go make the same: where a turn is replaced by what it shows.
 use mathlib.Core.Path.{_≡_, refl}
 use Prim.Native.Nat.{ℕ, zero, suc, _+_, _-_, _≤_, _<_}
 use native.Mathlib.Omega.{arith}

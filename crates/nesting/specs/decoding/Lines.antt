@@ -30,7 +30,7 @@ pub record TypedSheet : Type 0 where
   pub twice : Bool
   pub lines : List Line
 
--- ---- how a line is as-sheet
+-- ---- how a line is written
 -- By kind, 0 to 5.
 abbrev pub value-texts : ℕ → ℕ → List Text
 value-texts r k =

@@ -1,4 +1,4 @@
--- The sheet of a nested form is its typed lines, as-sheet.
+-- The sheet of a nested form is its typed lines, written.
 use mathlib.Core.Path.{_≡_, refl, _∙_}
 use mathlib.Core.Bool.{true, false}
 use mathlib.Core.List.{List, [], _∷_, _++_, map, map-append}

@@ -1,4 +1,5 @@
--- Laws on what CaseNumbers defines, as the proofs cite them.
+-- The regions of the cases, put from the last to the first, with their count in front. The count is not held back: a handle has no more
+-- cases than its number.
 use mathlib.Core.Path.{_≡_}
 use mathlib.Core.List.{List, [], _∷_}
 use Prim.Native.Nat.{ℕ, _+_, _≤_}

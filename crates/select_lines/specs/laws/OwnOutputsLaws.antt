@@ -1,4 +1,5 @@
--- Laws on what OwnOutputs defines, as the proofs cite them.
+-- A loop over all outputs from the last on, which passes those of other nodes: what it put and counted are the definition's lists of the
+-- node's own outputs, of values for a case and of types for the select.
 use mathlib.Core.Path.{_≡_, refl, sym, ap, _∙_}
 use mathlib.Core.Bool.{Bool, true, false}
 use mathlib.Core.List.{List, [], _∷_, map}

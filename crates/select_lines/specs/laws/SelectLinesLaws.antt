@@ -1,4 +1,4 @@
--- Laws on what SelectLines defines, as the proofs cite them.
+-- The parts of a case's line and of a select's, put from the back, are the whole line of the definition.
 use mathlib.Core.Path.{_≡_, sym, _∙_}
 use mathlib.Core.List.{List, [], _∷_}
 use Prim.Native.Nat.{ℕ}

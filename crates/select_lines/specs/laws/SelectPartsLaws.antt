@@ -1,4 +1,4 @@
--- Laws on what SelectParts defines, as the proofs cite them.
+-- The definition's words of a select, as the parts that are put: its own line, then each case's line with the nodes behind it.
 use mathlib.Core.Path.{_≡_, refl, ap}
 use mathlib.Core.Bool.{or-false}
 use mathlib.Core.List.{List, [], _∷_, _++_, append-assoc}

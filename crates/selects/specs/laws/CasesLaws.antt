@@ -1,4 +1,5 @@
--- Laws on what Cases defines, as the proofs cite them.
+-- For the proofs of cases.rt: searches over the cases, turn by turn, for the one case that goes on and for one that has nodes; and the
+-- inputs of claimed cases replaced in turn.
 use mathlib.Core.Path.{_≡_, _∙_}
 use mathlib.Core.Bool.{Bool, true, false}
 use mathlib.Core.List.{List}

@@ -1,4 +1,5 @@
--- Laws on what Emits defines, as the proofs cite them.
+-- For the proofs of emit.rt: a merged input or condition gets its values case by case, then an output of the select; the bundles in turn,
+-- until a table is full. The record stands through all of it.
 use mathlib.Core.Path.{_≡_, sym, _∙_, refl}
 use mathlib.Core.List.{List, _∷_}
 use Prim.Native.Nat.{ℕ, _+_, _*_, _≤_, _<_}

@@ -1,4 +1,4 @@
--- Laws on what Into defines, as the proofs cite them.
+-- For the proofs of into.rt: the steps of structurize_select and what follows it, by how far they came; each may find its table full.
 use mathlib.Core.Path.{_≡_, refl, ap, _∙_}
 use mathlib.Core.Bool.{Bool, true, false, _||_}
 use mathlib.Core.List.{List}

@@ -1,4 +1,4 @@
--- Laws on what Selects defines, as the proofs cite them.
+-- The turns of case_cells, from the last case to the first: what the turns that are left will make is made of all.
 use mathlib.Core.Path.{_≡_, refl}
 use mathlib.Core.List.{List}
 use Prim.Native.Nat.{ℕ, suc, _+_, _*_, _-_, _≤_, _<_}

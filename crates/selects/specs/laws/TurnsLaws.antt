@@ -1,4 +1,4 @@
--- Laws on what Turns defines, as the proofs cite them.
+-- A loop whose steps may be refused: it begins, a turn is taken or refused, it is over. With steps that read the record, it stands on.
 use mathlib.Core.Path.{_≡_, refl}
 use mathlib.Core.List.{List}
 use Prim.Native.Nat.{ℕ, suc, _+_, _-_, _≤_, _<_}

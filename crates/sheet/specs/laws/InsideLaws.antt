@@ -1,4 +1,5 @@
--- Laws on what Inside defines, as the proofs cite them.
+-- Why put_cell puts what a cell adds, whatever its tag: the lists inside from the last on, each with the lines before it, then the cell's
+-- own. A list that is a loop alone is walked by its body at once, which saves a level of stack; the lines come out the same.
 use mathlib.Core.Path.{_≡_, refl, sym, _∙_, subst}
 use mathlib.Core.Bool.{Bool, true, false}
 use mathlib.Core.List.{List}

@@ -1,4 +1,5 @@
--- Laws on what Regions defines, as the proofs cite them.
+-- Lines of regions, by what the region's state was read to be; and the two loops over all regions for a leftover, from the last on: one for
+-- the lines of regions that are Ready, one for the sets.
 use mathlib.Core.Path.{_≡_, refl, sym, subst, _∙_}
 use mathlib.Core.Bool.{false}
 use mathlib.Core.List.{List, [], _∷_}

@@ -1,4 +1,5 @@
--- Laws on what Walk defines, as the proofs cite them.
+-- Lines put from the last cell to the first are the definition's lines of the whole list: a turn puts what the last cell adds in front of
+-- what was put, and goes on with the list before it.
 use mathlib.Core.Path.{_≡_, sym, _∙_}
 use mathlib.Core.List.{List, []}
 use Prim.Native.Nat.{ℕ, suc, _+_, _-_, _≤_, _<_}

@@ -1,4 +1,5 @@
--- Laws on what Written defines, as the proofs cite them.
+-- Line 1 and the lines behind it are the whole sheet; measured where no word is lent, then written if that many are, they leave the words
+-- behind the sheet as they were.
 use mathlib.Core.Path.{_≡_, refl, sym, ap, _∙_}
 use mathlib.Core.Bool.{Bool, _||_, true, false}
 use mathlib.Core.List.{List, [], _∷_, _++_, append-assoc}

@@ -1,4 +1,4 @@
--- From words read and text as-sheet to what is answered.
+-- From words read and text written to what is answered.
 use mathlib.Core.Path.{_≡_, refl, sym, ap, _∙_}
 use mathlib.Core.Bool.{Bool, true, false}
 use mathlib.Core.List.{List, []}
@@ -67,7 +67,7 @@ module _ {read : TextReader} {ws before after : List ℕ} {c d : SheetCursor} (p
       by-place true e = by-read (leb-true _ _ e) (read (drop (c .at) ws)) refl
       by-place false e = rw (drop-of-length-le ws {i = c .at} (omega (arith, leb-false (c .at) (length ws) e))) none
 
-  -- What was found is as-sheet, and the next word stands behind it.
+  -- What was found is written, and the next word stands behind it.
   module _ (f : Found read ws (c .at)) where
     here : reading read (words-from ws (c .at)) ≡ decoded (f .text) (f .rest)
     unfolding next-word

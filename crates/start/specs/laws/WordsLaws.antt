@@ -1,4 +1,5 @@
--- Laws on what Words defines, as the proofs cite them.
+-- The types of what is returned, stored one by one; and the five steps of initial_state, after each of which the record stands for the
+-- next.
 use mathlib.Core.Path.{_≡_, _∙_}
 use mathlib.Core.List.{List}
 use Prim.Native.Nat.{ℕ, _+_, _-_, _≤_, _<_, min}

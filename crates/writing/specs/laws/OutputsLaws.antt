@@ -1,4 +1,4 @@
--- Laws on what Outputs defines, as the proofs cite them.
+-- The loop of place_among, turn by turn: how many of the outputs so far are the node's.
 use mathlib.Core.Path.{_≡_, _∙_}
 use mathlib.Core.List.{List}
 use Prim.Native.Nat.{ℕ, _+_, _*_, _≤_}

@@ -1,4 +1,5 @@
--- Laws on what Puts defines, as the proofs cite them.
+-- How parts join: what is put in front of a part makes one part of both, and the note twice goes along. All crates that write lines cite
+-- it.
 use mathlib.Core.Path.{_≡_, refl, sym, _∙_}
 use mathlib.Core.Bool.{Bool, true, false, _||_, or-false, or-true}
 use mathlib.Core.List.{List, [], _∷_, _++_}

@@ -1,1 +1,0 @@
--- An input stored in a bundle leaves the record and the regions' kinds.
