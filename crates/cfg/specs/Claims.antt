@@ -13,8 +13,8 @@ use Rattle.cfg.specs.declared.claim.Claim.{Claim}
 use Rattle.cfg.specs.declared.claim.Claim.the-variants.{Claimed, Unclaimed, Refused}
 use Rattle.store.specs.declared.Checked.{Checked}
 use Rattle.store.specs.declared.Checked.the-variants as step
-use Rattle.cfg.specs.declared.claims.SplitOut.{SplitOut}
-use Rattle.cfg.specs.declared.claims.SplitOut.the-variants as split
+use Rattle.cfg.specs.SplitOut.{SplitOut}
+use Rattle.cfg.specs.SplitOut as split
 use Rattle.cfg.specs.ByState.{ClaimsByState, unclaimed-word}
 use Rattle.cfg.specs.ByInst.{ByControlInst, ResolvesBy, own-bundle, made-ready}
 

@@ -1,12 +1,16 @@
 -- The whole of nesting, as the words alone have it.
 use mathlib.Core.Path.{_≡_}
+use mathlib.Core.Bool.{Bool}
 use mathlib.Core.List.{List}
 use Prim.Native.Nat.{ℕ, _<_}
+use lib.Dec.{eqb}
 use lib.ListN.{length, getD}
 use Rattle.meaning.specs.Graph.{Graph}
+use Rattle.format.specs.Valid.{Valid}
 use Rattle.nesting.specs.Nesting.{incoming-edge-counts}
 use Rattle.state.specs.Sections.{word, set-lengths}
 use Rattle.start.specs.Words.{started}
+use Rattle.cfg.specs.declared.claim.Claim.{Claim}
 use Rattle.cfg.specs.declared.claim.Claim.the-variants as claim
 use Rattle.cfg.specs.declared.func.Nested.{Nested}
 use Rattle.cfg.specs.declared.func.Nested.the-variants.{Untouched, Whole, Closed, Leftover, Refused}
@@ -20,13 +24,22 @@ pub data Outcomes (w : List ℕ) (entry : ℕ) : Nested → Type 0 where
   one-elsewhere : word w set-lengths entry ≡ 1 → (own-target w entry 0 ≡ return-word → ⊥) → Outcomes w entry Leftover
   more-left : (word w set-lengths entry ≡ 0 → ⊥) → (word w set-lengths entry ≡ 1 → ⊥) → Outcomes w entry Leftover
 
+-- What comes before the first claim: the counts, whether the entry's is ONE, and the state at its beginning.
+pub record Begins (g : Graph) (w counts : List ℕ) (once : Bool) (w′ : List ℕ) : Type 0 where
+  pub counted : Valid g → (r : ℕ) → r < length (g .regions) → getD counts r 0 ≡ getD (incoming-edge-counts g) r 0
+  pub test : once ≡ eqb (getD counts (g .entry) 0) 1
+  pub begun : w′ ≡ started g w
+
+-- What is concluded from the claim's answer, which left the words w.
+pub data Concludes (g : Graph) (w : List ℕ) : Claim → Nested → Type 0 where
+  claimed : {a : Nested} → Outcomes w (g .entry) a → Concludes g w claim.Claimed a
+  unclaimed : Concludes g w claim.Unclaimed (Refused 0 0)
+  refused : {number x : ℕ} → Concludes g w (claim.Refused number x) (Refused number x)
+
 pub data FuncBy (g : Graph) (counts w w′ : List ℕ) : Nested → Type 0 where
   untouched : (getD counts (g .entry) 0 ≡ 1 → ⊥) → w′ ≡ w → FuncBy g counts w w′ Untouched
-  claimed : {a : Nested} → getD counts (g .entry) 0 ≡ 1 → TriesClaim g counts w (g .entry) 1 w′ claim.Claimed → Outcomes w′ (g .entry) a
+  concluded : {c : Claim} {a : Nested} → getD counts (g .entry) 0 ≡ 1 → TriesClaim g counts w (g .entry) 1 w′ c → Concludes g w′ c a
       → FuncBy g counts w w′ a
-  unclaimed : getD counts (g .entry) 0 ≡ 1 → TriesClaim g counts w (g .entry) 1 w′ claim.Unclaimed → FuncBy g counts w w′ (Refused 0 0)
-  refused : {number x : ℕ} → getD counts (g .entry) 0 ≡ 1 → TriesClaim g counts w (g .entry) 1 w′ (claim.Refused number x)
-      → FuncBy g counts w w′ (Refused number x)
 
 -- The counts that the code was given are the definition's.
 pub record Func (g : Graph) (w w′ : List ℕ) (a : Nested) : Type 0 where

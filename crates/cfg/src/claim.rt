@@ -2,6 +2,7 @@
 ghost use mathlib.Core.Path.{_≡_};
 ghost use Prim.Native.Nat.{_≤_};
 ghost use Rattle.record.specs.Stands.{OfRecord};
+ghost use Rattle.state.specs.Tables.{«taken-stored»};
 ghost use Rattle.cfg.specs.ByState as words;
 use loops::loops::structurize_loop;
 use state::defined::Made;
@@ -16,6 +17,7 @@ use state::regions::children;
 use state::regions::region_state;
 use state::regions::set_region_state;
 use state::regions::set_structured_body;
+use state::regions::set_target_taken;
 use state::sets::NO_BUNDLE;
 use state::sets::find_by_target;
 use state::sets::set_length;
@@ -101,11 +103,19 @@ fn is_trivial(w: &[u16; WORDS], t: u16) -> bool
 }
 
 // How the edge to a region that was not claimed is taken.
-pub fn unclaimed_edge(w: &[u16; WORDS], t: u16) -> u16
+fn unclaimed_edge(w: &[u16; WORDS], t: u16) -> u16
     ensures { λ a. ⌜ a ≡ words.«unclaimed-word» (now (w .entry)) t ⌝ }
 {
     if is_trivial(w, t) {
         return UNREACHABLE;
     }
     DEFERRED
+}
+
+// Target j of region r is t, which was not claimed.
+pub fn defer_target(w: &mut [u16; WORDS], r: u16, j: u16, t: u16)
+    ensures { λ _. ⌜ now (w .exit) ≡ «taken-stored» (now (w .entry)) r j (words.«unclaimed-word» (now (w .entry)) t) ⌝ }
+{
+    let x = unclaimed_edge(w, t);
+    set_target_taken(w, r, j, x);
 }

@@ -2,20 +2,19 @@
 ghost use lib.ListN.{length};
 ghost use Rattle.record.specs.Stands.{OfRecord};
 ghost use Rattle.format.specs.Valid.{Valid};
-ghost use Rattle.cfg.specs.Claims.{Stood};
+ghost use Rattle.cfg.specs.Claims.{Stood, TriesClaim};
 ghost use Rattle.nesting.specs.Nesting.{structurize-func};
 ghost use Rattle.cfg.specs.Func as words;
 ghost use Rattle.cfg.specs.FuncShown.{ShowsNested};
 use crate::claim::Claim;
 use crate::claims::try_claim_edge_bundle;
+use crate::inst::own_bundle;
 use incoming::count_of;
 use incoming::incoming_edge_counts;
 use start::initial_state;
 use state::edges::ONE;
 use state::sets::RETURN;
-use state::sets::bundle_at;
 use state::sets::set_length;
-use state::sets::set_start;
 use state::sets::target;
 use store::WORDS;
 
@@ -28,6 +27,32 @@ pub enum Nested {
     Refused(u16, u16),
 }
 
+// What the first claim is made by: the incoming counts, and whether the entry's is ONE.
+pub struct Counted {
+    pub counts: [u32; 32],
+    pub once: bool,
+}
+
+// What comes before the first claim: the counts are taken, and the state is set to its beginning.
+fn before_claim(w: &mut [u16; WORDS]) -> Counted
+    requires { ⌜ Stood (now w) ⌝ }
+    ensures { λ a. ⌜ OfRecord (now (w .entry)) (λ g. words.Begins g (now (w .entry)) (a .counts) (a .once) (now (w .exit))) ⌝ }
+{
+    let counts = incoming_edge_counts(w);
+    let once = count_of(&counts, fields::entry(w)).same(ONE);
+    initial_state(w);
+    Counted { counts, once }
+}
+
+// The claim of the entry, with ONE edge.
+fn claim_entry(w: &mut [u16; WORDS], counts: [u32; 32]) -> Claim
+    requires { ⌜ Stood (now w) ⌝ }
+    ensures { λ a. ⌜ OfRecord (now (w .entry)) (λ g. TriesClaim g counts (now (w .entry)) (g .entry) 1 (now (w .exit)) a) ⌝ }
+{
+    let entry = fields::entry(w);
+    try_claim_edge_bundle(w, counts, entry, ONE)
+}
+
 // Whole if the deferred set is Always Return, closed if it is Unreachable.
 fn outcome_of(w: &[u16; WORDS], entry: u16) -> Nested
     ensures { λ a. ⌜ words.Outcomes (now (w .entry)) entry a ⌝ }
@@ -37,23 +62,19 @@ fn outcome_of(w: &[u16; WORDS], entry: u16) -> Nested
         return Nested::Closed;
     }
     if n == 1 {
-        if target(w, bundle_at(set_start(w, entry), 0)) == RETURN {
+        if target(w, own_bundle(w, entry, 0)) == RETURN {
             return Nested::Whole;
         }
     }
     Nested::Leftover
 }
 
-fn structurize_func_by(w: &mut [u16; WORDS], counts: [u32; 32]) -> Nested
-    requires { ⌜ Stood (now w) ⌝ }
-    ensures { λ a. ⌜ OfRecord (now (w .entry)) (λ g. words.FuncBy g counts (now (w .entry)) (now (w .exit)) a) ⌝ }
+// What is concluded from the claim's answer.
+fn conclude(w: &[u16; WORDS], claim: Claim) -> Nested
+    ensures { λ a. ⌜ OfRecord (now (w .entry)) (λ g. words.Concludes g (now (w .entry)) claim a) ⌝ }
 {
-    let entry = fields::entry(w);
-    if !count_of(&counts, entry).same(ONE) {
-        return Nested::Untouched;
-    }
-    match try_claim_edge_bundle(w, counts, entry, ONE) {
-        Claim::Claimed => outcome_of(w, entry),
+    match claim {
+        Claim::Claimed => outcome_of(w, fields::entry(w)),
         Claim::Unclaimed => Nested::Refused(0, 0),
         Claim::Refused(number, word) => Nested::Refused(number, word),
     }
@@ -64,7 +85,11 @@ pub fn structurize_func(w: &mut [u16; WORDS]) -> Nested
     requires { ⌜ Stood (now w) ⌝ }
     ensures { λ a. ⌜ OfRecord (now (w .entry)) (λ g. Valid g → ShowsNested g (now (w .entry)) (now (w .exit)) (structurize-func g) a) ⌝ }
 {
-    let counts = incoming_edge_counts(w);
-    initial_state(w);
-    structurize_func_by(w, counts)
+    let first = before_claim(w);
+    if !first.once {
+        return Nested::Untouched;
+    }
+    let counts = first.counts;
+    let claim = claim_entry(w, counts);
+    conclude(w, claim)
 }

@@ -132,12 +132,19 @@ pub fn by_control_inst(w: &mut [u16; WORDS], r: u16) -> Made
     by_terminator(w, r)
 }
 
+// Bundle i of region r's own set.
+pub fn own_bundle(w: &[u16; WORDS], r: u16, i: u16) -> u16
+    ensures { λ a. ⌜ a ≡ words.«own-bundle» (now (w .entry)) r i ⌝ }
+{
+    bundle_at(set_start(w, r), i)
+}
+
 // A select on the condition of bundle i: the region that it claimed, or the others.
 pub fn resolve_by(w: &mut [u16; WORDS], r: u16, i: u16) -> Made
     ensures { λ a. ⌜ OfRecord (now (w .entry)) (λ g. words.ResolvesBy g (now (w .entry)) r i (now (w .exit)) a) ⌝ }
 {
     let n = set_length(w, r);
-    let p = bundle_at(set_start(w, r), i);
+    let p = own_bundle(w, r, i);
     let condition = condition_in(w, p, n);
     fill_split(w, r, i);
     structurize_select_into(w, r, BOOL_COND, Scrutinee::Lazy(condition))

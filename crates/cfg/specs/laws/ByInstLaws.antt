@@ -16,8 +16,8 @@ use Rattle.state.specs.declared.cases.Case.{Case}
 use Rattle.state.specs.declared.defined.Defined.{Defined}
 use Rattle.state.specs.declared.defined.Defined.the-variants.{Number}
 use Rattle.state.specs.declared.defined.Defined.the-variants as defined
-use Rattle.state.specs.Sections.{word, stored, children, bundles, set-starts, set-lengths}
-use Rattle.state.specs.Tables.{Adds, Defines, bundle-at, case-row}
+use Rattle.state.specs.Sections.{word, stored, children, bundles, set-lengths}
+use Rattle.state.specs.Tables.{Adds, Defines, case-row}
 use Rattle.state.specs.Values.{value-word}
 use Rattle.bundles.specs.Words.{condition-in, cases-filled, split-filled, Appends}
 use Rattle.shown.specs.Front.{SameKinds}
@@ -31,7 +31,7 @@ use Rattle.cfg.specs.ByState.{backedge-at}
 use Rattle.shown.specs.laws.CellSteps.{exit-cell}
 use Rattle.nesting.specs.Nesting.{most-nodes}
 use Rattle.cfg.specs.ByInst.{AddsBlocks, no-blocks, some-blocks, AddsExit, exit-full, exit-added, Branches, branches, Selects}
-use Rattle.cfg.specs.ByInst.{selects, ByTerminator, ByControlInst, by-inst, ResolvesBy, resolves, backedges-deferred}
+use Rattle.cfg.specs.ByInst.{selects, ByTerminator, ByControlInst, by-inst, ResolvesBy, resolves, own-bundle, backedges-deferred}
 
 -- ---- The functions, path by path.
 pub blocks-kinds : {g : Graph} {w w′ : List ℕ} {r : ℕ} → AddsBlocks g w r w′ → SameKinds w w′
@@ -64,13 +64,12 @@ module _ {g : Graph} {w w₁ w₂ : List ℕ} {r : ℕ} (st : Stands w g) (block
       (kinds-stored w₁ set-lengths (omega arith) r 0)) st) in
       by-inst (blocks st) emptied (y on)
 
-module _ (g : Graph) (w : List ℕ) (r i : ℕ) {n start p c : ℕ} {w₁ : List ℕ} (st : Stands w g) (of-length : n ≡ word w set-lengths r)
-    (of-start : start ≡ word w set-starts r) (at : p ≡ bundle-at start i) (under : c ≡ condition-in w p n)
-    (filled : Stands w g → w₁ ≡ split-filled g w r i) where
+module _ (g : Graph) (w : List ℕ) (r i : ℕ) {n p c : ℕ} {w₁ : List ℕ} (st : Stands w g) (of-length : n ≡ word w set-lengths r)
+    (at : p ≡ own-bundle w r i) (under : c ≡ condition-in w p n) (filled : Stands w g → w₁ ≡ split-filled g w r i) where
   pub resolve-taken : {w₂ : List ℕ} {a : Made} → (Stands w₁ g → StructurizesInto g r 0 (scrutinee.Lazy c) w₁ w₂ a) → ResolvesBy g w r i w₂ a
   resolve-taken y =
       let on : Stands w₁ g = rw (filled st) (stands-kept (split-kinds g w r i) st) in
-      resolves (rw (under, at, of-length, of-start, filled st) at (y on))
+      resolves (rw (under, at, of-length, filled st) at (y on))
 
 module _ (w : List ℕ) (r p : ℕ) (found : p ≡ backedge-at w r) where
   pub deferred-none : p ≡ 65535 → 0 ≡ backedges-deferred w r

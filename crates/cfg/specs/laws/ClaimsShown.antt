@@ -51,8 +51,7 @@ use Rattle.cfg.specs.declared.claim.Claim as code
 use Rattle.cfg.specs.declared.claim.Claim.the-variants.{Refused}
 use Rattle.store.specs.declared.Checked.{Checked}
 use Rattle.store.specs.declared.Checked.the-variants as step
-use Rattle.cfg.specs.declared.claims.SplitOut as split
-use Rattle.cfg.specs.declared.claims.SplitOut.the-variants as split-variants
+use Rattle.cfg.specs.SplitOut as split
 use Rattle.cfg.specs.ByState.{ClaimsByState, unclaimed-word, is-trivial}
 use Rattle.cfg.specs.ByInst.{ByControlInst, ResolvesBy}
 use Rattle.cfg.specs.Claims.{NotBegun, own-target, own-count, TriesClaim, no-region, refused-inside, first-claim}
@@ -662,7 +661,7 @@ module _ (g : Graph) (valid : Valid g) (parts : ShownParts g valid) (counts : Li
         → ShowsOwnSet g w r d → n ≡ length d → CanScan g valid fuel H d i s
         → ScanShows g w w′ d (split-out-matching g (defined fuel) (take i d) (drop i d) s) a
     scan-shown {w} {w′} {i} (no-bundle-left h e) fuel H s d shown room in-graph busy own size can =
-        subst (λ l. ScanShows g w w′ d (split-out-matching g (defined fuel) (take i d) l s) split-variants.Nothing)
+        subst (λ l. ScanShows g w w′ d (split-out-matching g (defined fuel) (take i d) l s) split.Nothing)
         (sym (drop-of-length-le d {i = i} (omega arith))) (rw e (shows-nothing refl shown (unharmed-same g w) (omega arith)))
     scan-shown {w} {r} {i} (passes-return h e t) fuel H s d shown room in-graph busy own size can =
         let l : i < length d = omega arith in

@@ -1,28 +1,26 @@
 -- For the proofs of func.rt: the outcome by what the entry's set has, the answer by what the entry's claim was; and that the record stands
 -- after the first step has filled the state.
-use mathlib.Core.Path.{_≡_, refl, sym, _∙_}
+use mathlib.Core.Path.{_≡_, sym, _∙_}
 use mathlib.Core.Bool.{Bool, true, false}
 use mathlib.Core.List.{List}
-use Prim.Native.Nat.{ℕ, _+_, _*_, _<_}
-use lib.ListN.{length, getD}
-use lib.Dec.{eqb}
+use Prim.Native.Nat.{ℕ, _+_, _*_}
+use lib.ListN.{getD}
 use borrow.Author.Tests.{eqb-true, eqb-false}
 use Rattle.meaning.specs.Graph.{Graph}
 use Rattle.format.specs.Valid.{Valid}
 use Rattle.record.specs.Stands.{Stands}
-use Rattle.nesting.specs.Nesting.{incoming-edge-counts}
-use Rattle.state.specs.Sections.{word, bundles, set-starts, set-lengths}
-use Rattle.state.specs.Tables.{bundle-at}
+use Rattle.state.specs.Sections.{word, bundles, set-lengths}
 use Rattle.shown.specs.laws.FrontKept.{stands-on}
-use Rattle.start.specs.Words.{started}
 use Rattle.start.specs.laws.Started.{started-front}
 use Rattle.cfg.specs.declared.claim.Claim as code
 use Rattle.cfg.specs.declared.claim.Claim.the-variants as claim
 use Rattle.cfg.specs.declared.func.Nested.{Nested}
 use Rattle.cfg.specs.declared.func.Nested.the-variants.{Untouched, Whole, Closed, Leftover, Refused}
+use Rattle.cfg.specs.ByInst.{own-bundle}
 use Rattle.cfg.specs.Claims.{own-target, TriesClaim, Stood}
-use Rattle.cfg.specs.Func.{Outcomes, is-closed, is-whole, one-elsewhere, more-left, FuncBy, untouched, claimed, unclaimed, refused}
-use Rattle.cfg.specs.Func.{Func}
+use Rattle.cfg.specs.Func.{Outcomes, is-closed, is-whole, one-elsewhere, more-left, Begins, Concludes, claimed, unclaimed, refused}
+use Rattle.cfg.specs.Func.{untouched, concluded, Func}
+use Rattle.cfg.specs.laws.Left.{steady-claim}
 
 -- ---- The functions, path by path.
 module _ (w : List ℕ) (entry : ℕ) {n : ℕ} (size : n ≡ word w set-lengths entry) where
@@ -32,10 +30,9 @@ module _ (w : List ℕ) (entry : ℕ) {n : ℕ} (size : n ≡ word w set-lengths
   pub many-edges : (n ≡ 0 → ⊥) → (n ≡ 1 → ⊥) → Outcomes w entry Leftover
   many-edges d e = more-left (λ z. d (size ∙ z)) (λ z. e (size ∙ z))
 
-  module _ (one : n ≡ 1) {start p t : ℕ} (of-start : start ≡ word w set-starts entry) (at : p ≡ bundle-at start 0)
-      (of-target : t ≡ word w bundles (7 * p + 0)) where
+  module _ (one : n ≡ 1) {p t : ℕ} (at : p ≡ own-bundle w entry 0) (of-target : t ≡ word w bundles (7 * p + 0)) where
     target-is : t ≡ own-target w entry 0
-    target-is = of-target ∙ rw (at, of-start)
+    target-is = of-target ∙ rw at
 
     pub return-edge : t ≡ 65535 → Outcomes w entry Whole
     return-edge e = is-whole (sym size ∙ one) (sym target-is ∙ e)
@@ -43,42 +40,51 @@ module _ (w : List ℕ) (entry : ℕ) {n : ℕ} (size : n ≡ word w set-lengths
     pub other-edge : (t ≡ 65535 → ⊥) → Outcomes w entry Leftover
     other-edge d = one-elsewhere (sym size ∙ one) (λ z. d (target-is ∙ z))
 
-module _ (g : Graph) (counts w : List ℕ) {entry count : ℕ} {same : Bool} (of-entry : entry ≡ g .entry) (read : count ≡ getD counts entry 0)
-    (test : same ≡ eqb count 1) where
-  count-is : count ≡ getD counts (g .entry) 0
-  count-is = read ∙ rw of-entry
+module _ {g : Graph} {w : List ℕ} {c : code.Claim} where
+  pub of-claimed : c ≡ claim.Claimed → {entry : ℕ} → entry ≡ g .entry → {o : Nested} → Outcomes w entry o → Concludes g w c o
+  of-claimed e of-entry x = rw e (claimed (rw of-entry at x))
 
-  pub func-untouched : same ≡ false → FuncBy g counts w w Untouched
-  func-untouched e = untouched (λ z. eqb-false count 1 (sym test ∙ e) (count-is ∙ z)) refl
+  pub of-unclaimed : c ≡ claim.Unclaimed → Concludes g w c (Refused 0 0)
+  of-unclaimed e = rw e unclaimed
 
-  module _ (once : same ≡ true) {w′ : List ℕ} {a : code.Claim} (step : TriesClaim g counts w entry 1 w′ a) where
-    one-edge : getD counts (g .entry) 0 ≡ 1
-    one-edge = sym count-is ∙ eqb-true count 1 (sym test ∙ once)
+  pub of-refused : {number x : ℕ} → c ≡ claim.Refused number x → Concludes g w c (Refused number x)
+  of-refused e = rw e refused
 
-    pub func-claimed : a ≡ claim.Claimed → {o : Nested} → Outcomes w′ entry o → FuncBy g counts w w′ o
-    func-claimed e x = claimed one-edge (rw (e, of-entry) at step) (rw of-entry at x)
+-- ---- The three, one after the other.
+module _ {w counts w₁ : List ℕ} {once : Bool} (begins : (g : Graph) → Stands w g → Begins g w counts once w₁) (stood : Stood w) where
+  stands-begun : (g : Graph) → Stands w g → Stands w₁ g
+  stands-begun g st = rw (begins g st .begun) (stands-on (started-front g w (stood .room)) st)
 
-    pub func-unclaimed : a ≡ claim.Unclaimed → FuncBy g counts w w′ (Refused 0 0)
-    func-unclaimed e = unclaimed one-edge (rw (e, of-entry) at step)
-
-    pub func-refused : {number x : ℕ} → a ≡ claim.Refused number x → FuncBy g counts w w′ (Refused number x)
-    func-refused e = refused one-edge (rw (e, of-entry) at step)
-
-module _ {w w₁ : List ℕ} (begun : (g : Graph) → Stands w g → w₁ ≡ started g w) (stood : Stood w) where
-  stands-started : (g : Graph) → Stands w g → Stands w₁ g
-  stands-started g st = rw (begun g st) (stands-on (started-front g w (stood .room)) st)
-
-  pub stood-started : Stood w₁
-  stood-started =
+  pub stood-begun : Stood w₁
+  stood-begun =
       let g = stood .graph in
+      let st = stood .stands in
       record {
         graph = g;
-        stands = stands-started g (stood .stands);
-        room = rw (begun g (stood .stands), started-front g w (stood .room) .words) (stood .room);
+        stands = stands-begun g st;
+        room = rw (begins g st .begun, started-front g w (stood .room) .words) (stood .room);
       }
 
-  pub func-is : {counts w′ : List ℕ} {a : Nested} (g : Graph) → Stands w g → Valid g
-      → ((r : ℕ) → r < length (g .regions) → getD counts r 0 ≡ getD (incoming-edge-counts g) r 0)
-      → ((g : Graph) → Stands w₁ g → FuncBy g counts w₁ w′ a) → Func g w w′ a
-  func-is {counts} g st valid right steps =
-      record { counts = counts; right = right; steps = rw (begun g st) at (steps g (stands-started g st)) }
+  module _ (g : Graph) (st : Stands w g) (valid : Valid g) where
+    pub func-untouched : once ≡ false → Func g w w₁ Untouched
+    func-untouched e =
+        let b = begins g st in
+        record {
+          counts = counts;
+          right = b .counted valid;
+          steps = untouched (eqb-false (getD counts (g .entry) 0) 1 (sym (b .test) ∙ e)) (b .begun);
+        }
+
+    pub func-concluded : once ≡ true → {w′ : List ℕ} {c : code.Claim} {a : Nested}
+        → ((g : Graph) → Stands w₁ g → TriesClaim g counts w₁ (g .entry) 1 w′ c)
+        → ((g : Graph) → Stands w′ g → Concludes g w′ c a) → Func g w w′ a
+    func-concluded e claims concludes =
+        let b = begins g st in
+        let on = stands-begun g st in
+        let t = claims g on in
+        record {
+          counts = counts;
+          right = b .counted valid;
+          steps = concluded (eqb-true (getD counts (g .entry) 0) 1 (sym (b .test) ∙ e)) (rw (b .begun) at t)
+              (concludes g (stands-on (steady-claim t on .front) on));
+        }

@@ -168,7 +168,7 @@ module _ (g : Graph) (valid : Valid g) where
         let other : getD (incoming-edge-counts g) (g .entry) 0 ≡ 1 → ⊥ = λ z. n (right (g .entry) (valid .entry) ∙ z) in
         rw e (shows-untouched (started-front g w room) (initial-state-shown valid stands room refl .state)
         (by-count false (ne-eqb (getD (incoming-edge-counts g) (g .entry) 0) 1 other)))
-    by (func.claimed one t o) = if-claimed (claims t) λ c s p st cl origin i f u k.
+    by (func.concluded one t (func.claimed o)) = if-claimed (claims t) λ c s p st cl origin i f u k.
         let x : ShowsBody g w′ (g .entry) (region-body (c .children) (c .deferred-edges)) =
         subst (λ r. ShowsBody g w′ r (region-body (c .children) (c .deferred-edges))) origin
         (record { nodes = cl .nodes; set = cl .set }) in
@@ -177,9 +177,9 @@ module _ (g : Graph) (valid : Valid g) where
         shows-nested (kept t) st ends
         (subst (λ r. word w′ kinds r ≡ 3) origin (cl .kind)) x (concludes (sym (right (g .entry) (valid .entry)) ∙ one) p)
         (outcome-shown (valid .count .1) (c .deferred-edges) (x .set) o)
-    by (func.unclaimed one t) = if-unclaimed (claims t) λ s p st u k.
+    by (func.concluded one t func.unclaimed) = if-unclaimed (claims t) λ s p st u k.
         shows-refused (kept t) (concludes (sym (right (g .entry) (valid .entry)) ∙ one) p)
-    by (func.refused one t) = if-refused (claims t) λ p.
+    by (func.concluded one t func.refused) = if-refused (claims t) λ p.
         shows-refused (kept t) (concludes (sym (right (g .entry) (valid .entry)) ∙ one) p)
 
   pub structurize-func-shown : {w w′ : List ℕ} {a : code.Nested} → Stands w g → used ≤ length w → Func g w w′ a

@@ -21,7 +21,7 @@ use Rattle.cfg.specs.laws.Leaves.{cases-kinds, split-kinds, return-kinds
 use Rattle.state.specs.declared.defined.Made.{Made}
 use Rattle.cfg.specs.declared.claim.Claim.{Claim}
 use Rattle.store.specs.declared.Checked.{Checked}
-use Rattle.cfg.specs.declared.claims.SplitOut.{SplitOut}
+use Rattle.cfg.specs.SplitOut.{SplitOut}
 use Rattle.cfg.specs.ByState.{ClaimsBody, no-backedges, none-found, by-loop, ClaimsByState, ready-claimed, ready-waits, busy-claimed}
 use Rattle.cfg.specs.ByState.{busy-waits, other-state, as-claimed}
 use Rattle.cfg.specs.ByInst.{AddsExit, exit-full, exit-added, branches, Selects, selects}

@@ -28,8 +28,7 @@ use Rattle.state.specs.Sections.{word, set-starts}
 use Rattle.shown.specs.Sets.{ShowsBundle, no-bundle}
 use Rattle.shown.specs.laws.Finds.{bundle-in}
 use Rattle.shown.specs.States.{ShowsState, ShowsOwnSet, ShowsClaimed}
-use Rattle.cfg.specs.declared.claims.SplitOut as split
-use Rattle.cfg.specs.declared.claims.SplitOut.the-variants as split-variants
+use Rattle.cfg.specs.SplitOut as split
 use Rattle.cfg.specs.ByInst.{own-bundle}
 use Rattle.cfg.specs.laws.Shows.{Occupied, Unharmed, unharmed-then, cells-in-all, world, K, CanClaim, ScanShows, shows-nothing}
 use Rattle.cfg.specs.laws.Shows.{shows-split}
@@ -194,7 +193,7 @@ module _ (g : Graph) (valid : Valid g) (fuel : ℕ) where
         → claim t (this .accumulated-count) (this .target-inputs) s ≡ done (some c) s′ → ShowsState g w′ s′ → ShowsClaimed g w′ c
         → c .origin ≡ t → c .structured-body-inputs ≡ this .target-inputs → (Occupied w t → ⊥) → Unharmed g w w′ → cells-in-all g w′ + 4 ≤
         cells-in-all g w
-        → ScanShows g w w′ d (scan-from i s) (split-variants.At i)
+        → ScanShows g w w′ d (scan-from i s) (split.At i)
     unfolding step-of
     scan-claims {t} e {c} {s′} p st cl o n f u k =
         shows-split {i = i} {t = t} {y = record { bundle = this; claimed-region = c; others = take i d ++ drop (suc i) d }} {s′ = s′}
@@ -202,6 +201,6 @@ module _ (g : Graph) (valid : Valid g) (fuel : ℕ) where
 
     pub scan-refusal : {w w′ : List ℕ} {t : ℕ} → this .target ≡ to-region t → {m x : ℕ}
         → claim t (this .accumulated-count) (this .target-inputs) s ≡ turned-away m x
-        → ScanShows g w w′ d (scan-from i s) (split-variants.Refused m x)
+        → ScanShows g w w′ d (scan-from i s) (split.Refused m x)
     unfolding step-of
     scan-refusal {t} e {m} {x} p = refuses-scan {m = m} {x = x} (scan-step (to-region t) e ∙ rw p)

@@ -32,8 +32,7 @@ use Rattle.state.specs.declared.defined.Made.{Made}
 use Rattle.state.specs.declared.defined.Made.the-variants as made
 use Rattle.store.specs.declared.Checked.{Checked}
 use Rattle.store.specs.declared.Checked.the-variants as step
-use Rattle.cfg.specs.declared.claims.SplitOut as split
-use Rattle.cfg.specs.declared.claims.SplitOut.the-variants as split-variants
+use Rattle.cfg.specs.SplitOut as split
 use Rattle.shown.specs.laws.RegionSteps.{Concerns}
 use Rattle.shown.specs.Kept.{Later, KeptRegion}
 use Rattle.shown.specs.laws.RegionsKept.{later-same, later-then, kept-same, kept-then}
@@ -230,14 +229,14 @@ pub data BodyShows (g : Graph) (w w′ : List ℕ) (r : ℕ) (cs : List MaybeCla
 pub data ScanShows (g : Graph) (w w′ : List ℕ) (d : DeferredEdgeBundleSet) (b : StepAnswer (Option SplitOut)) : split.SplitOut → Type 0
   where
     shows-nothing : {s′ : NestState} → b ≡ done none s′ → ShowsState g w′ s′ → Unharmed g w w′ → cells-in-all g w′ ≤ cells-in-all g w
-        → ScanShows g w w′ d b split-variants.Nothing
+        → ScanShows g w w′ d b split.Nothing
     shows-split : {i t : ℕ} {y : SplitOut} {s′ : NestState} → b ≡ done (some y) s′ → ShowsState g w′ s′ → i < length d
         → y .bundle ≡ getD d i no-bundle → y .others ≡ take i d ++ drop (suc i) d → y .bundle .target ≡ to-region t
         → ShowsClaimed g w′ (y .claimed-region) → y .claimed-region .origin ≡ t
         → y .claimed-region .structured-body-inputs ≡ y .bundle .target-inputs → (Occupied w t → ⊥) → Unharmed g w w′
         → cells-in-all g w′ + 4 ≤ cells-in-all g w
-        → ScanShows g w w′ d b (split-variants.At i)
-    refuses-scan : {m x : ℕ} → b ≡ turned-away m x → ScanShows g w w′ d b (split-variants.Refused m x)
+        → ScanShows g w w′ d b (split.At i)
+    refuses-scan : {m x : ℕ} → b ≡ turned-away m x → ScanShows g w w′ d b (split.Refused m x)
 
 -- Turns over region r's set; and the region as a whole.
 pub data TurnsShow (g : Graph) (w w′ : List ℕ) (r : ℕ) (b : StepAnswer Body) : Checked → Type 0 where
@@ -284,7 +283,7 @@ module _ {g : Graph} {w w′ : List ℕ} {R : Type 0} where
       → (b ≡ turned-away 9 0 → R) → R
   if-full (refuses-body p) go = go p
 
-  pub if-split : {i : ℕ} {d : DeferredEdgeBundleSet} {b : StepAnswer (Option SplitOut)} → ScanShows g w w′ d b (split-variants.At i)
+  pub if-split : {i : ℕ} {d : DeferredEdgeBundleSet} {b : StepAnswer (Option SplitOut)} → ScanShows g w w′ d b (split.At i)
       → ((t : ℕ) (y : SplitOut) (s′ : NestState) → b ≡ done (some y) s′ → ShowsState g w′ s′ → i < length d → y .bundle ≡ getD d i no-bundle
       → y .others ≡ take i d ++ drop (suc i) d → y .bundle .target ≡ to-region t → ShowsClaimed g w′ (y .claimed-region)
       → y .claimed-region .origin ≡ t → y .claimed-region .structured-body-inputs ≡ y .bundle .target-inputs → (Occupied w t → ⊥)

@@ -8,8 +8,8 @@ use lib.ListN.{length, getD}
 use Rattle.meaning.specs.Graph.{Graph}
 use Rattle.record.specs.Stands.{Stands}
 use Rattle.fields.specs.ByNumber.{edge-of}
-use Rattle.state.specs.Sections.{word, stored, kinds, bundles, set-starts, set-lengths, start, size, used}
-use Rattle.state.specs.Tables.{attempted, taken-stored, bundle-at}
+use Rattle.state.specs.Sections.{word, stored, kinds, bundles, set-lengths, start, size, used}
+use Rattle.state.specs.Tables.{attempted, taken-stored}
 use Rattle.shown.specs.laws.FrontKept.{stands-on}
 use Rattle.shown.specs.laws.Stores.{part-length}
 use Rattle.state.specs.declared.defined.Made.{Made}
@@ -18,10 +18,10 @@ use Rattle.cfg.specs.declared.claim.Claim.{Claim}
 use Rattle.cfg.specs.declared.claim.Claim.the-variants.{Claimed, Unclaimed, Refused}
 use Rattle.store.specs.declared.Checked.{Checked}
 use Rattle.store.specs.declared.Checked.the-variants as step
-use Rattle.cfg.specs.declared.claims.SplitOut.{SplitOut}
-use Rattle.cfg.specs.declared.claims.SplitOut.the-variants as split
+use Rattle.cfg.specs.SplitOut.{SplitOut}
+use Rattle.cfg.specs.SplitOut as split
 use Rattle.cfg.specs.ByState.{ClaimsByState, unclaimed-word}
-use Rattle.cfg.specs.ByInst.{ByControlInst, ResolvesBy, made-ready}
+use Rattle.cfg.specs.ByInst.{ByControlInst, ResolvesBy, own-bundle, made-ready}
 use Rattle.cfg.specs.Claims.{Stood, NotBegun, target-count, own-target, own-count, TriesClaim, no-region, refused-inside, first-claim}
 use Rattle.cfg.specs.Claims.{later-claim, StructurizesRegion, refused-at-targets, refused-at-inst, refused-at-edges, structurized}
 use Rattle.cfg.specs.Claims.{TargetRegions, no-target, target-refused, target-claimed, target-waits, Scans, no-bundle-left}
@@ -75,46 +75,48 @@ module _ {counts w₀ : List ℕ} {r : ℕ} {w : List ℕ} {j n : ℕ} (passed :
                 (rw (s, add-one j) at t));
           }
 
-      pub targets-waiting : a ≡ Unclaimed → {y : ℕ} → y ≡ unclaimed-word w₁ t → w₂ ≡ taken-stored w₁ r j y
-          → TargetsPassed counts w₀ r w₂ (j + 1)
-      targets-waiting e {y} u s =
+      pub targets-waiting : a ≡ Unclaimed → w₂ ≡ taken-stored w₁ r j (unclaimed-word w₁ t) → TargetsPassed counts w₀ r w₂ (j + 1)
+      targets-waiting e s =
           record {
-            steady = passed-on y s;
+            steady = passed-on (unclaimed-word w₁ t) s;
             more = λ g st x. passed .more g st (target-waits (rw (size g st) at more) (rw e at (its-claim g st))
-                (rw (s, add-one j, u, target g (on st)) at x));
+                (rw (s, add-one j, target g (on st)) at x));
           }
 
 -- ---- The scan.
-pub record ScanPassed (counts w₀ : List ℕ) (r n : ℕ) (w : List ℕ) (i : ℕ) (found : SplitOut) : Type 0 where
+pub record ScanPassed (counts w₀ : List ℕ) (r n : ℕ) (w : List ℕ) (i : ℕ) : Type 0 where
   pub steady : SteadyRecord w₀ w
   pub more : (g : Graph) → Stands w₀ g → {w′ : List ℕ} {a : SplitOut} → Scans g counts w r n i w′ a → Scans g counts w₀ r n 0 w′ a
-  pub nothing : found ≡ split.Nothing
 
-pub scan-none : (counts w : List ℕ) (r n : ℕ) → ScanPassed counts w r n w 0 split.Nothing
-scan-none counts w r n = record { steady = steady-same w; more = λ g st t. t; nothing = refl }
+-- How it ends: past the last bundle, or at the one that was claimed.
+pub record Scanned (counts w : List ℕ) (r n : ℕ) (w₁ : List ℕ) (i : ℕ) : Type 0 where
+  pub claims-none : n ≤ i → (g : Graph) → Stands w g → SplitsOut g counts w r w₁ split.Nothing
+  pub claims-one : i < n → (g : Graph) → Stands w g → SplitsOut g counts w r w₁ (split.At i)
 
-module _ {counts w₀ : List ℕ} {r n : ℕ} {w : List ℕ} {i : ℕ} {found : SplitOut} (passed : ScanPassed counts w₀ r n w i found)
-    (size : n ≡ word w₀ set-lengths r) where
+pub scan-none : (counts w : List ℕ) (r n : ℕ) → ScanPassed counts w r n w 0
+scan-none counts w r n = record { steady = steady-same w; more = λ g st t. t }
+
+module _ {counts w₀ : List ℕ} {r n : ℕ} {w : List ℕ} {i : ℕ} (passed : ScanPassed counts w₀ r n w i) where
   split-on : {g : Graph} → Stands w₀ g → Stands w g
   split-on st = stands-on (passed .steady .front) st
 
-  out-of : (g : Graph) → Stands w₀ g → {w′ : List ℕ} {a : SplitOut} → Scans g counts w r n i w′ a → SplitsOut g counts w₀ r w′ a
-  out-of g st x = splits-out (rw size at (passed .more g st x))
+  out-of : n ≡ word w₀ set-lengths r → (g : Graph) → Stands w₀ g → {w′ : List ℕ} {a : SplitOut} → Scans g counts w r n i w′ a
+      → SplitsOut g counts w₀ r w′ a
+  out-of size g st x = splits-out (rw size at (passed .more g st x))
 
-  pub scan-over : n ≤ i → (g : Graph) → Stands w₀ g → SplitsOut g counts w₀ r w found
-  scan-over h g st = rw (passed .nothing) (out-of g st (no-bundle-left h refl))
+  pub scan-over : n ≡ word w₀ set-lengths r → n ≤ i → Scanned counts w₀ r n w i
+  scan-over size h =
+      record { claims-none = λ l g st. out-of size g st (no-bundle-left l refl); claims-one = λ l. absurd (omega arith) }
 
-  module _ (more : i < n) {at p t : ℕ} (of-start : at ≡ word w set-starts r) (place : p ≡ bundle-at at i)
-      (target : t ≡ word w bundles (7 * p + 0)) where
+  module _ (more : i < n) {p t : ℕ} (place : p ≡ own-bundle w r i) (target : t ≡ word w bundles (7 * p + 0)) where
     target-is : t ≡ own-target w r i
-    target-is = target ∙ rw (place, of-start)
+    target-is = target ∙ rw place
 
-    pub scan-return : t ≡ 65535 → ScanPassed counts w₀ r n w (i + 1) found
+    pub scan-return : t ≡ 65535 → ScanPassed counts w₀ r n w (i + 1)
     scan-return e =
         record {
           steady = passed .steady;
           more = λ g st x. passed .more g st (passes-return more (sym target-is ∙ e) (rw (add-one i) at x));
-          nothing = passed .nothing;
         }
 
     module _ (to-region : t ≡ 65535 → ⊥) {k : ℕ} (of-count : k ≡ word w bundles (7 * p + 1)) {w₁ : List ℕ} {a : Claim}
@@ -124,21 +126,25 @@ module _ {counts w₀ : List ℕ} {r n : ℕ} {w : List ℕ} {i : ℕ} {found : 
 
       bundle-claim : (g : Graph) → Stands w₀ g → TriesClaim g counts w (own-target w r i) (own-count w r i) w₁ a
       bundle-claim g st =
-          let c : k ≡ own-count w r i = of-count ∙ rw (place, of-start) in rw (target-is, c) at (claim g (split-on st))
+          let c : k ≡ own-count w r i = of-count ∙ rw place in rw (target-is, c) at (claim g (split-on st))
 
-      pub scan-claimed : a ≡ Claimed → (g : Graph) → Stands w₀ g → SplitsOut g counts w₀ r w₁ (split.At i)
-      scan-claimed e g st = out-of g st (claims-bundle more elsewhere (rw e at (bundle-claim g st)))
+      pub scan-claimed : n ≡ word w₀ set-lengths r → a ≡ Claimed → Scanned counts w₀ r n w₁ i
+      scan-claimed size e =
+          record {
+            claims-none = λ l. absurd (omega arith);
+            claims-one = λ l g st. out-of size g st (claims-bundle more elsewhere (rw e at (bundle-claim g st)));
+          }
 
-      pub scan-refuses : {x y : ℕ} → a ≡ Refused x y → (g : Graph) → Stands w₀ g → SplitsOut g counts w₀ r w₁ (split.Refused x y)
-      scan-refuses e g st = out-of g st (scan-refused more elsewhere (rw e at (bundle-claim g st)))
+      pub scan-refuses : n ≡ word w₀ set-lengths r → {x y : ℕ} → a ≡ Refused x y → (g : Graph) → Stands w₀ g
+          → SplitsOut g counts w₀ r w₁ (split.Refused x y)
+      scan-refuses size e g st = out-of size g st (scan-refused more elsewhere (rw e at (bundle-claim g st)))
 
-      pub scan-waiting : Stood w₀ → a ≡ Unclaimed → ScanPassed counts w₀ r n w₁ (i + 1) found
+      pub scan-waiting : Stood w₀ → a ≡ Unclaimed → ScanPassed counts w₀ r n w₁ (i + 1)
       scan-waiting stood e =
           record {
             steady = steady-then (passed .steady) (steady-claim (claim (stood .graph) (split-on (stood .stands)))
                 (split-on (stood .stands)));
             more = λ g st x. passed .more g st (passes-waiting more elsewhere (rw e at (bundle-claim g st)) (rw (add-one i) at x));
-            nothing = passed .nothing;
           }
 
 -- ---- Turns over the deferred edges.
@@ -157,7 +163,7 @@ module _ {counts w₀ : List ℕ} {r : ℕ} {w : List ℕ} {turns : ℕ} (passed
   pub turns-over : turns ≤ 0 → (g : Graph) → Stands w₀ g → ResolvesAll g counts w₀ r w step.Right
   turns-over h g st = let e : turns ≡ 0 = omega arith in passed .more g st (rw e (no-turn refl))
 
-  module _ (some : 0 < turns) {w₁ : List ℕ} {a : SplitOut} (scan : (g : Graph) → Stands w g → SplitsOut g counts w r w₁ a) where
+  module _ (some : 0 < turns) where
     one-more : suc (turns - 1) ≡ turns
     one-more = omega arith
 
@@ -165,18 +171,21 @@ module _ {counts w₀ : List ℕ} {r : ℕ} {w : List ℕ} {turns : ℕ} (passed
         → ResolvesAll g counts w₀ r w′ b
     turned g st x = passed .more g st (rw one-more at x)
 
-    pub turn-nothing : a ≡ split.Nothing → (g : Graph) → Stands w₀ g → ResolvesAll g counts w₀ r w₁ step.Right
-    turn-nothing e g st = turned g st (nothing-claimed (rw e at (scan g (turn-on st))))
+    pub turn-nothing : {w₁ : List ℕ} → ((g : Graph) → Stands w g → SplitsOut g counts w r w₁ split.Nothing) → (g : Graph) → Stands w₀ g
+        → ResolvesAll g counts w₀ r w₁ step.Right
+    turn-nothing scan g st = turned g st (nothing-claimed (scan g (turn-on st)))
 
-    pub turn-refused : {m x : ℕ} → a ≡ split.Refused m x → (g : Graph) → Stands w₀ g → ResolvesAll g counts w₀ r w₁ (step.Refused m x)
-    turn-refused e g st = turned g st (claim-refused (rw e at (scan g (turn-on st))))
+    pub turn-refused : {w₁ : List ℕ} {m x : ℕ} → ((g : Graph) → Stands w g → SplitsOut g counts w r w₁ (split.Refused m x))
+        → (g : Graph) → Stands w₀ g → ResolvesAll g counts w₀ r w₁ (step.Refused m x)
+    turn-refused scan g st = turned g st (claim-refused (scan g (turn-on st)))
 
-    module _ {i : ℕ} (at : a ≡ split.At i) {w₂ : List ℕ} {b : Made} (select : (g : Graph) → Stands w₁ g → ResolvesBy g w₁ r i w₂ b) where
+    module _ {w₁ : List ℕ} {i : ℕ} (scan : (g : Graph) → Stands w g → SplitsOut g counts w r w₁ (split.At i)) {w₂ : List ℕ} {b : Made}
+        (select : (g : Graph) → Stands w₁ g → ResolvesBy g w₁ r i w₂ b) where
       then-on : {g : Graph} → Stands w₀ g → Stands w₁ g
       then-on {g} st = stands-on (steady-split (scan g (turn-on st)) (turn-on st) .front) (turn-on st)
 
       pub turn-full : b ≡ made.Full → (g : Graph) → Stands w₀ g → ResolvesAll g counts w₀ r w₂ (step.Refused 9 0)
-      turn-full e g st = turned g st (select-refused (rw at at (scan g (turn-on st))) (rw e at (select g (then-on st))))
+      turn-full e g st = turned g st (select-refused (scan g (turn-on st)) (rw e at (select g (then-on st))))
 
       pub turn-again : b ≡ made.Done → Stood w₀ → TurnsPassed counts w₀ r w₂ (turns - 1)
       turn-again e stood =
@@ -184,7 +193,7 @@ module _ {counts w₀ : List ℕ} {r : ℕ} {w : List ℕ} {turns : ℕ} (passed
           record {
             steady = steady-then (passed .steady) (steady-then (steady-split (scan g (turn-on (stood .stands))) (turn-on (stood .stands)))
                 (steady-of (resolve-kinds (select g (then-on (stood .stands))))));
-            more = λ g st x. turned g st (claims-and (rw at at (scan g (turn-on st))) (rw e at (select g (then-on st))) x);
+            more = λ g st x. turned g st (claims-and (scan g (turn-on st)) (rw e at (select g (then-on st))) x);
           }
 
 -- ---- A region, from its first step on.
@@ -194,43 +203,51 @@ begun-less {w} {r} s b e = rw e (begins-less w r (part-length (start kinds) (siz
 pub begun-steady : {w w₁ : List ℕ} (r : ℕ) → w₁ ≡ stored w kinds r 1 → SteadyRecord w w₁
 begun-steady {w} r e = rw e (steady-kind w r 1 (λ z. absurd (omega arith)))
 
-module _ {counts w w₁ : List ℕ} {r : ℕ} (begun : w₁ ≡ stored w kinds r 1) {w₂ : List ℕ} {a : Checked}
-    (targets : (g : Graph) → Stands w₁ g → TargetRegions g counts w₁ r 0 w₂ a) where
+-- What stands before the loop over region r's deferred edges, from words w to words w₃.
+pub record BeforeTurns (counts w : List ℕ) (r : ℕ) (w₃ : List ℕ) : Type 0 where
+  pub less : suc (left w₃) ≤ left w
+  pub stood : Stood w₃
+  pub refused-late : (g : Graph) → Stands w g → {w₄ : List ℕ} {m x : ℕ}
+      → ((g : Graph) → Stands w₃ g → ResolvesAll g counts w₃ r w₄ (step.Refused m x))
+      → StructurizesRegion g counts w r w₄ (step.Refused m x)
+  pub all-done : (g : Graph) → Stands w g → {w₄ : List ℕ} → ((g : Graph) → Stands w₃ g → ResolvesAll g counts w₃ r w₄ step.Right)
+      → {w₅ : List ℕ} → w₅ ≡ made-ready w₄ r → StructurizesRegion g counts w r w₅ step.Right
+
+module _ {w w₁ : List ℕ} (r : ℕ) (begun : w₁ ≡ stored w kinds r 1) where
   first-on : {g : Graph} → Stands w g → Stands w₁ g
   first-on st = stands-on (begun-steady r begun .front) st
 
-  its-targets : {g : Graph} → Stands w g → TargetRegions g counts (stored w kinds r 1) r 0 w₂ a
-  its-targets {g} st = rw begun at (targets g (first-on st))
+  pub region-refused : {counts w₂ : List ℕ} {m x : ℕ} → ((g : Graph) → Stands w₁ g → TargetRegions g counts w₁ r 0 w₂ (step.Refused m x))
+      → (g : Graph) → Stands w g → StructurizesRegion g counts w r w₂ (step.Refused m x)
+  region-refused targets g st = refused-at-targets (rw begun at (targets g (first-on st)))
 
-  pub region-refused : {m x : ℕ} → a ≡ step.Refused m x → (g : Graph) → Stands w g → StructurizesRegion g counts w r w₂ (step.Refused m x)
-  region-refused e g st = refused-at-targets (rw e at (its-targets st))
+  module _ {counts w₂ : List ℕ} (targets : (g : Graph) → Stands w₁ g → TargetRegions g counts w₁ r 0 w₂ step.Right) where
+    its-targets : {g : Graph} → Stands w g → TargetRegions g counts (stored w kinds r 1) r 0 w₂ step.Right
+    its-targets {g} st = rw begun at (targets g (first-on st))
 
-  module _ (taken : a ≡ step.Right) {w₃ : List ℕ} {b : Made} (inst : (g : Graph) → Stands w₂ g → ByControlInst g w₂ r w₃ b) where
     second-on : {g : Graph} → Stands w g → Stands w₂ g
     second-on {g} st = stands-on (steady-targets (targets g (first-on st)) (first-on st) .front) (first-on st)
 
-    pub region-full : b ≡ made.Full → (g : Graph) → Stands w g → StructurizesRegion g counts w r w₃ (step.Refused 9 0)
-    region-full e g st = refused-at-inst (rw taken at (its-targets st)) (rw e at (inst g (second-on st)))
+    module _ {w₃ : List ℕ} {b : Made} (inst : (g : Graph) → Stands w₂ g → ByControlInst g w₂ r w₃ b) where
+      pub region-full : b ≡ made.Full → (g : Graph) → Stands w g → StructurizesRegion g counts w r w₃ (step.Refused 9 0)
+      region-full e g st = refused-at-inst (its-targets st) (rw e at (inst g (second-on st)))
 
-    pub after-inst : Stood w → SteadyRecord w₁ w₃
-    after-inst s =
-        steady-then (steady-targets (targets (s .graph) (first-on (s .stands))) (first-on (s .stands)))
-        (steady-of (inst-kinds (inst (s .graph) (second-on (s .stands)))))
-
-    module _ (made-so : b ≡ made.Done) {w₄ : List ℕ} {d : Checked} (rest : (g : Graph) → Stands w₃ g → ResolvesAll g counts w₃ r w₄ d) where
       third-on : {g : Graph} → Stands w g → Stands w₃ g
       third-on {g} st = stands-on (inst-kinds (inst g (second-on st)) .front) (second-on st)
 
-      pub region-refused-late : {m x : ℕ} → d ≡ step.Refused m x → (g : Graph) → Stands w g
-          → StructurizesRegion g counts w r w₄ (step.Refused m x)
-      region-refused-late e g st =
-          refused-at-edges (rw taken at (its-targets st)) (rw made-so at (inst g (second-on st))) (rw e at (rest g (third-on st)))
+      after-inst : Stood w → SteadyRecord w₁ w₃
+      after-inst s =
+          steady-then (steady-targets (targets (s .graph) (first-on (s .stands))) (first-on (s .stands)))
+          (steady-of (inst-kinds (inst (s .graph) (second-on (s .stands)))))
 
-      pub region-done : d ≡ step.Right → {w₅ : List ℕ} → w₅ ≡ made-ready w₄ r → (g : Graph) → Stands w g
-          → StructurizesRegion g counts w r w₅
-          step.Right
-      region-done e s g st =
-          structurized (rw taken at (its-targets st)) (rw made-so at (inst g (second-on st))) (rw e at (rest g (third-on st))) s
+      pub before-turns : b ≡ made.Done → NotBegun w r → Stood w → BeforeTurns counts w r w₃
+      before-turns e new s =
+          record {
+            less = let x = begun-less (s .room) new begun in let y = after-inst s .fewer in omega arith;
+            stood = stood-on (steady-then (begun-steady r begun) (after-inst s)) s;
+            refused-late = λ g st rest. refused-at-edges (its-targets st) (rw e at (inst g (second-on st))) (rest g (third-on st));
+            all-done = λ g st rest z. structurized (its-targets st) (rw e at (inst g (second-on st))) (rest g (third-on st)) z;
+          }
 
 -- ---- A claim.
 pub attempted-on : {w w₁ : List ℕ} → w₁ ≡ attempted w → SteadyRecord w w₁

@@ -26,7 +26,7 @@ use Rattle.shown.specs.States.{ShowsBody}
 use Rattle.state.specs.declared.defined.Made.the-variants as made
 use Rattle.store.specs.declared.Checked.{Checked}
 use Rattle.store.specs.declared.Checked.the-variants as step
-use Rattle.cfg.specs.declared.claims.SplitOut.the-variants as split-variants
+use Rattle.cfg.specs.SplitOut as split
 use Rattle.cfg.specs.laws.Shows.{Unharmed, Around, around-then, unharmed-around, cells-in-all, world, K, BodyShows, refuses-body}
 use Rattle.cfg.specs.laws.Shows.{ScanShows, shows-nothing, refuses-scan, TurnsShow, shows-turns, refuses-turns}
 use Rattle.cfg.specs.laws.ScansShown.{CanScan}
@@ -102,14 +102,14 @@ module _ (g : Graph) (valid : Valid g) (fuel : ℕ) where
   -- ---- The definition's turns, by what the scan gave.
   module _ (r n : ℕ) (x : Body) (s : NestState) {w : List ℕ} (busy : word w kinds r ≡ 1) (in-graph : r < length (g .regions)) where
     pub turns-nothing : ShowsBody g w r x → {w′ : List ℕ}
-        → ScanShows g w w′ (x .deferred-edges) (split-out-matching g claim [] (x .deferred-edges) s) split-variants.Nothing
+        → ScanShows g w w′ (x .deferred-edges) (split-out-matching g claim [] (x .deferred-edges) s) split.Nothing
         → TurnsShow g w w′ r (turns (suc n) x s) step.Right
     unfolding resolve-deferred
     turns-nothing b (shows-nothing {s′} p st u c) =
         shows-turns {x = x} {s′ = s′} (rw p) st (body-stays (u .later) (u .regions-stay r in-graph (inl busy)) b) (unharmed-around r u) c
 
     pub turns-refuse : {m k : ℕ} {w′ : List ℕ}
-        → ScanShows g w w′ (x .deferred-edges) (split-out-matching g claim [] (x .deferred-edges) s) (split-variants.Refused m k)
+        → ScanShows g w w′ (x .deferred-edges) (split-out-matching g claim [] (x .deferred-edges) s) (split.Refused m k)
         → TurnsShow g w w′ r (turns (suc n) x s) (step.Refused m k)
     unfolding resolve-deferred
     turns-refuse {m} {k} (refuses-scan p) = refuses-turns {m = m} {x = k} (rw p)

@@ -10,34 +10,27 @@ set-length-requires c κs = search needs
 returns : tie.Need-returns
 returns c = no-edges _ _ (c .before .set-length .ensures) (c .if1 .taken)
 
-set-start-requires : tie.Need-set-start-requires
-set-start-requires c κs = search needs
-
-bundle-at-requires : tie.Need-bundle-at-requires
-bundle-at-requires c κs = search needs
+own-bundle-requires : tie.Need-own-bundle-requires
+own-bundle-requires c κs = search needs
 
 target-requires : tie.Need-target-requires
 target-requires c κs = search needs
 
 returns-2 : tie.Need-returns-2
 returns-2 c =
-    let at-bundle-at = c .before .before in
-    let at-set-start = at-bundle-at .before in
-    let at-if = at-set-start .before in
+    let at-own-bundle = c .before .before in
+    let at-if = at-own-bundle .before in
     let at-set-length = at-if .before .before in
-    return-edge _ _ (at-set-length .set-length .ensures)
-    (at-if .if2 .taken) (at-set-start .set-start .ensures)
-    (at-bundle-at .bundle-at .ensures) (c .before .target .ensures) (c .if3 .taken)
+    return-edge _ _ (at-set-length .set-length .ensures) (at-if .if2 .taken) (at-own-bundle .own-bundle .ensures)
+    (c .before .target .ensures) (c .if3 .taken)
 
 returns-3 : tie.Need-returns-3
 returns-3 c =
-    let at-bundle-at = c .before .before in
-    let at-set-start = at-bundle-at .before in
-    let at-if = at-set-start .before in
+    let at-own-bundle = c .before .before in
+    let at-if = at-own-bundle .before in
     let at-set-length = at-if .before .before in
-    other-edge _ _ (at-set-length .set-length .ensures)
-    (at-if .if2 .taken) (at-set-start .set-start .ensures)
-    (at-bundle-at .bundle-at .ensures) (c .before .target .ensures) (c .if3 .left)
+    other-edge _ _ (at-set-length .set-length .ensures) (at-if .if2 .taken) (at-own-bundle .own-bundle .ensures)
+    (c .before .target .ensures) (c .if3 .left)
 
 returns-4 : tie.Need-returns-4
 returns-4 c = many-edges _ _ (c .before .before .set-length .ensures) (c .before .if1 .left) (c .if2 .left)
@@ -48,8 +41,7 @@ outcome-of-spec =
     (tie.spec
     set-length-requires
     returns
-    set-start-requires
-    bundle-at-requires
+    own-bundle-requires
     target-requires
     returns-2
     returns-3

@@ -1,33 +1,38 @@
 use borrow.Author.Needs.{needs}
+use borrow.Author.Tests.{not-true, not-false}
+use Rattle.cfg.specs.laws.FuncLaws.{stood-begun, func-untouched, func-concluded}
+use Rattle.cfg.specs.laws.FuncShownLaws.{structurize-func-shown}
 use Rattle.cfg.proofs.func.structurize_func.Statement.{statement}
 use Rattle.cfg.proofs.func.structurize_func.Tie as tie
-use Rattle.cfg.specs.laws.FuncShownLaws.{structurize-func-shown}
-use Rattle.cfg.specs.laws.FuncLaws.{stood-started, func-is}
 
-incoming-edge-counts-requires : tie.Need-incoming-edge-counts-requires
-incoming-edge-counts-requires c κs = search needs
-
-initial-state-requires : tie.Need-initial-state-requires
-initial-state-requires c κs = search needs
-
-structurize-func-by-requires : tie.Need-structurize-func-by-requires
-structurize-func-by-requires c κs = stood-started (c .before .initial-state .ensures) (c .before .before .before .before .before .pre)
+before-claim-requires : tie.Need-before-claim-requires
+before-claim-requires c κs = search needs
 
 returns : tie.Need-returns
 returns c =
-    let at-initial-state = c .before .before in
-    let at-incoming-edge-counts = at-initial-state .before .before in
-    let at-pre = at-incoming-edge-counts .before .before in
-    λ g st valid.
-    structurize-func-shown g valid st ((at-pre .pre) .room)
-    (func-is (at-initial-state .initial-state .ensures) (at-pre .pre) g
-    st valid (at-incoming-edge-counts .incoming-edge-counts .ensures g st valid) (c .structurize-func-by .ensures))
+    let at-before = c .before .before in
+    let stood = at-before .before .before .pre in
+    λ g st valid. structurize-func-shown g valid st (stood .room)
+    (func-untouched (at-before .before-claim .ensures) stood g st valid (not-true _ (c .if1 .taken)))
+
+claim-entry-requires : tie.Need-claim-entry-requires
+claim-entry-requires c κs =
+    let at-before = c .before .before .before .before in stood-begun (at-before .before-claim .ensures) (at-before .before .before .pre)
+
+conclude-requires : tie.Need-conclude-requires
+conclude-requires c κs = search needs
+
+returns-2 : tie.Need-returns-2
+returns-2 c =
+    let at-claim = c .before .before in
+    let at-if = at-claim .before .before .before in
+    let at-before = at-if .before .before in
+    let stood = at-before .before .before .pre in
+    λ g st valid. structurize-func-shown g valid st (stood .room)
+    (func-concluded (at-before .before-claim .ensures) stood g st valid (not-false _ (at-if .if1 .left)) (at-claim .claim-entry .ensures)
+    (c .conclude .ensures))
 
 pub structurize-func-spec : {M : Type 1} → statement M
 structurize-func-spec =
     tie.close
-    (tie.spec
-    incoming-edge-counts-requires
-    initial-state-requires
-    structurize-func-by-requires
-    returns)
+    (tie.spec before-claim-requires returns claim-entry-requires conclude-requires returns-2)

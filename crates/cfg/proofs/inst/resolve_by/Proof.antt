@@ -6,11 +6,8 @@ use Rattle.cfg.specs.laws.ByInstLaws.{resolve-taken}
 set-length-requires : tie.Need-set-length-requires
 set-length-requires c κs = search needs
 
-set-start-requires : tie.Need-set-start-requires
-set-start-requires c κs = search needs
-
-bundle-at-requires : tie.Need-bundle-at-requires
-bundle-at-requires c κs = search needs
+own-bundle-requires : tie.Need-own-bundle-requires
+own-bundle-requires c κs = search needs
 
 condition-in-requires : tie.Need-condition-in-requires
 condition-in-requires c κs = search needs
@@ -25,21 +22,17 @@ returns : tie.Need-returns
 returns c =
     let at-fill-split = c .before .before in
     let at-condition-in = at-fill-split .before .before in
-    let at-bundle-at = at-condition-in .before .before in
-    let at-set-start = at-bundle-at .before in
-    let at-set-length = at-set-start .before .before in
-    λ g st. resolve-taken g _ _ _ st (at-set-length .set-length
-    .ensures) (at-set-start .set-start .ensures)
-    (at-bundle-at .bundle-at .ensures) (at-condition-in .condition-in .ensures)
-    (at-fill-split .fill-split .ensures g) (c .structurize-select-into .ensures g)
+    let at-own-bundle = at-condition-in .before .before in
+    let at-set-length = at-own-bundle .before .before in
+    λ g st. resolve-taken g _ _ _ st (at-set-length .set-length .ensures) (at-own-bundle .own-bundle .ensures)
+    (at-condition-in .condition-in .ensures) (at-fill-split .fill-split .ensures g) (c .structurize-select-into .ensures g)
 
 pub resolve-by-spec : {M : Type 1} → statement M
 resolve-by-spec =
     tie.close
     (tie.spec
     set-length-requires
-    set-start-requires
-    bundle-at-requires
+    own-bundle-requires
     condition-in-requires
     fill-split-requires
     structurize-select-into-requires
