@@ -10,6 +10,7 @@ use Rattle.meaning.specs.Graph.{Value, Instr}
 use Rattle.meaning.specs.Runs.{block, exit}
 use Rattle.nesting.specs.Nesting.{NestState, plain, look-up-node, look-up-reads, blocks-from}
 use Rattle.nesting.specs.Sheet as sheet
+use Rattle.nesting.specs.SheetNumbers.{lead-block, lead-exit}
 use Rattle.writing.specs.declared.place.Place.{Place}
 use Rattle.writing.specs.Puts.{Part, Puts}
 use Rattle.writing.specs.laws.PutsLaws.{_⊕_, puts-as}
@@ -17,7 +18,7 @@ use Rattle.writing.specs.laws.Rows.{run, run-all}
 use Rattle.writing.specs.Parts.{output-nodes, look-up-at-end, values-part, node-part, nodes-part, node-words}
 use Rattle.meaning.specs.facts.Numbers.{one-further}
 use Rattle.writing.specs.laws.PartLaws.{no-nodes-part, first-node-part, each-from}
-use Rattle.block_lines.specs.Sums.{instructions-before}
+use Rattle.fields.specs.ByNumber.{instructions-before}
 
 module _ (s : NestState) where
   -- Region, index, opcode, type, reads.
@@ -47,12 +48,12 @@ module _ (s : NestState) where
 
     -- Lead, node, items.
     pub block-listed : (n k : ℕ) (is : List Instr)
-        → node-part s (block n r k is) ≡ plain (1 ∷ n ∷ length is ∷ []) ⊕ each-from (item-part r) k is
+        → node-part s (block n r k is) ≡ plain (lead-block ∷ n ∷ length is ∷ []) ⊕ each-from (item-part r) k is
     unfolding node-part look-up-node node-words
     block-listed n k is = rw (items-count k is, items-words k is, items-notes k is)
 
   -- Lead, node, opcode, values.
-  pub exit-listed : (n op : ℕ) (vs : List Value) → node-part s (exit n op vs) ≡ plain (4 ∷ n ∷ op ∷ []) ⊕ values-part s vs
+  pub exit-listed : (n op : ℕ) (vs : List Value) → node-part s (exit n op vs) ≡ plain (lead-exit ∷ n ∷ op ∷ []) ⊕ values-part s vs
   unfolding node-part look-up-node node-words values-part
   exit-listed n op vs = refl
 

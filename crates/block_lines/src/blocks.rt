@@ -1,37 +1,22 @@
 // Blocks: lead, node, items.
 ghost use mathlib.Core.Path.{_≡_};
-ghost use Prim.Native.Nat.{_*_, _≤_, _<_};
+ghost use Prim.Native.Nat.{_<_};
 ghost use lib.ListN.{length, getD};
 ghost use Rattle.meaning.specs.Graph.{region, no-value};
 ghost use Rattle.meaning.specs.Runs.{block};
 ghost use Rattle.nesting.specs.Nesting.{blocks-of};
-ghost use Rattle.record.specs.Stands.{OfRecord};
-ghost use Rattle.fields.specs.ByNumber.{block-of, instr-of};
+ghost use Rattle.fields.specs.ByNumber.{block-of, instr-of, instructions-before};
 ghost use Rattle.writing.specs.Parts as parts;
 ghost use Rattle.writing.specs.Parts.{OfState};
 ghost use Rattle.writing.specs.Puts.{Puts};
 ghost use Rattle.block_lines.specs.BlockParts.{item-part};
-ghost use Rattle.block_lines.specs.Sums as sums;
 use state::values::value_word;
 use store::WORDS;
+use writing::leads::BLOCK_LINE;
 use writing::place::Place;
 use writing::place::put;
 use writing::place::put_word;
 use writing::value::put_value;
-
-// How many instructions region r has before block b: the index of its first.
-fn instructions_before(w: &[u16; WORDS], r: u16, b: u16) -> u32
-    ensures { λ a. ⌜ OfRecord (now (w .entry)) (λ g. a ≡ sums.«instructions-before» (region g r .blocks) b) ⌝ }
-    ensures { λ a. ⌜ a ≤ 65535 * b ⌝ }
-{
-    let mut instructions: u32 = 0;
-    let mut q: u16 = 0;
-    while q < b {
-        instructions += fields::block_length(w, r, q) as u32;
-        q += 1;
-    }
-    instructions
-}
 
 fn put_read(w: &[u16; WORDS], out: &mut [u32], at: Place, r: u16, b: u16, i: u16, k: u16) -> Place
     ensures { λ a. ⌜ OfState (now (w .entry)) (λ g s. k < length (instr-of g r b i .reads) → Puts (now (out .entry)) at
@@ -79,10 +64,10 @@ fn put_item(
 // Block b of region r, as this node.
 pub fn put_block(w: &[u16; WORDS], out: &mut [u32], at: Place, r: u16, b: u16, node: u32) -> Place
     ensures { λ a. ⌜ OfState (now (w .entry)) (λ g s. Puts (now (out .entry)) at
-        (parts.«node-part» s (block node r (sums.«instructions-before» (region g r .blocks) b) (block-of g r b))) (now (out .exit)) a) ⌝ }
+        (parts.«node-part» s (block node r (instructions-before (region g r .blocks) b) (block-of g r b))) (now (out .exit)) a) ⌝ }
 {
     let n = fields::block_length(w, r, b);
-    let first = instructions_before(w, r, b);
+    let first = fields::instructions_before(w, r, b);
     let mut front = at;
     let mut i = n;
     while 0 < i {
@@ -91,7 +76,7 @@ pub fn put_block(w: &[u16; WORDS], out: &mut [u32], at: Place, r: u16, b: u16, n
     }
     let items = put_word(out, front, n);
     let number = put(out, items, node);
-    put(out, number, 1)
+    put_word(out, number, BLOCK_LINE)
 }
 
 // The blocks of region r, in order.

@@ -14,6 +14,7 @@ ghost use Rattle.writing.specs.Puts.{Puts};
 use fields::Terminator;
 use state::values::value_word;
 use store::WORDS;
+use writing::leads::EXIT_LINE;
 use writing::place::Place;
 use writing::place::put_three;
 use writing::place::put_word;
@@ -61,5 +62,5 @@ pub fn put_exit(w: &[u16; WORDS], out: &mut [u32], at: Place, node: u16, r: u16)
 {
     let values = put_end_values(w, out, at, r);
     let op = opcode(w, r);
-    put_three(out, values, 4, node, op)
+    put_three(out, values, EXIT_LINE, node, op)
 }

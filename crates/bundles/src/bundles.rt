@@ -10,20 +10,16 @@ ghost use Rattle.bundles.specs.Words as words;
 use state::conditions::TRUE_COND;
 use state::defined::RETURNED;
 use state::defined::head;
+use state::defined::returned_type;
 use state::edges::IncomingEdgeCount;
 use state::edges::ONE;
-use state::sections::BUNDLES;
-use state::sections::BUNDLES_WORDS;
-use state::sections::HEAD;
-use state::sections::HEAD_WORDS;
-use state::sections::get;
-use state::sections::put_all;
 use state::sets::RETURN;
 use state::sets::bundle_at;
 use state::sets::condition;
 use state::sets::put_set_length;
 use state::sets::set_bundle;
 use state::sets::set_start;
+use state::sets::set_target_inputs;
 use state::values::UNDEF;
 use state::values::value_word;
 use store::WORDS;
@@ -43,7 +39,7 @@ pub fn target_type(w: &[u16; WORDS], t: u16, k: u16) -> u16
     ensures { λ a. ⌜ OfRecord (now (w .entry)) (λ g. a ≡ words.«target-type» g (now (w .entry)) t k) ⌝ }
 {
     if t == RETURN {
-        return get(w, HEAD, HEAD_WORDS, RETURNED + 1 + (k as usize));
+        return returned_type(w, k);
     }
     fields::input_type(w, t, k)
 }
@@ -100,7 +96,7 @@ pub fn put_bundle(w: &mut [u16; WORDS], p: u16, t: u16, n: IncomingEdgeCount, c:
         (t ∷ tables.«edges-word» (n .0) ∷ c ∷ now (vs .entry)) ⌝ }
 {
     set_bundle(w, p, t, n, c);
-    put_all(w, BUNDLES, BUNDLES_WORDS, 7 * (p as usize) + 3, vs);
+    set_target_inputs(w, p, vs);
 }
 
 // Region r's edge at place j, as a bundle of one.

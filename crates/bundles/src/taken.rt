@@ -16,6 +16,7 @@ use state::cases::OWN_EDGE;
 use state::cases::case_input;
 use state::cases::set_case;
 use state::cases::set_case_count;
+use state::cases::set_case_inputs;
 use state::cells::join;
 use state::regions::DEFERRED;
 use state::regions::TAKEN;
@@ -25,9 +26,6 @@ use state::regions::structured_body;
 use state::regions::target_taken;
 use state::rewrites::REPLACE_WITH;
 use state::rewrites::insert_rewrites;
-use state::sections::CASES;
-use state::sections::CASES_WORDS;
-use state::sections::put_all;
 use state::sets::bundle_at;
 use state::sets::copy_bundle;
 use state::sets::own_edge;
@@ -74,7 +72,7 @@ fn put_case(w: &mut [u16; WORDS], j: u16, x: Case, vs: &[u16; 4])
         (tables.«case-words» x ++ now (vs .entry)) ⌝ }
 {
     set_case(w, j, x);
-    put_all(w, CASES, CASES_WORDS, 10 * (j as usize) + 6, vs);
+    set_case_inputs(w, j, vs);
 }
 
 fn fill_case(w: &mut [u16; WORDS], r: u16, j: u16)

@@ -21,18 +21,18 @@ use Rattle.state.specs.declared.defined.Made.the-variants.{Done, Full}
 use Rattle.selects.specs.declared.define.Scrutinee.the-variants as scrutinee
 use Rattle.selects.specs.Into.{StructurizesInto}
 use Rattle.cfg.specs.ByState.{backedge-at}
-use Rattle.shown.specs.laws.CellSteps.{blocks-cell, exit-cell}
+use Rattle.state.specs.declared.cells.Cell.the-variants.{Blocks, Exit}
 use Rattle.nesting.specs.Nesting.{most-nodes}
 
 pub data AddsBlocks (g : Graph) (w : List ℕ) (r : ℕ) (w′ : List ℕ) : Type 0 where
   no-blocks : length (region g r .blocks) ≡ 0 → w′ ≡ stored w children r 0 → AddsBlocks g w r w′
-  some-blocks : {w₁ : List ℕ} {h : ℕ} → (length (region g r .blocks) ≡ 0 → ⊥) → Adds w w₁ (blocks-cell r) h → w′ ≡ stored w₁ children r h
+  some-blocks : {w₁ : List ℕ} {h : ℕ} → (length (region g r .blocks) ≡ 0 → ⊥) → Adds w w₁ (Blocks r) h → w′ ≡ stored w₁ children r h
       → AddsBlocks g w r w′
 
 pub data AddsExit (w : List ℕ) (r : ℕ) (w′ : List ℕ) : Made → Type 0 where
   exit-full : Defines nodes-at most-nodes w w′ defined.Full → AddsExit w r w′ Full
   exit-added : {w₁ w₂ : List ℕ} {node h : ℕ} → Defines nodes-at most-nodes w w₁ (Number node)
-      → Adds w₁ w₂ (exit-cell (word w₁ children r) node r) h → w′ ≡ stored w₂ children r h → AddsExit w r w′ Done
+      → Adds w₁ w₂ (Exit (word w₁ children r) node r) h → w′ ≡ stored w₂ children r h → AddsExit w r w′ Done
 
 pub data Branches (g : Graph) (w : List ℕ) (r : ℕ) (w′ : List ℕ) : Made → Type 0 where
   branches : Appends (cases-filled g w r) w′ r (case-row (cases-filled g w r) 0) 0 → Branches g w r w′ Done

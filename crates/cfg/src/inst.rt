@@ -14,9 +14,7 @@ use fields::Terminator;
 use selects::define::Scrutinee;
 use selects::into::structurize_select_into;
 use state::cases::case_at;
-use state::cells::BLOCKS;
 use state::cells::Cell;
-use state::cells::EXIT;
 use state::cells::add_cell;
 use state::conditions::BOOL_COND;
 use state::defined::Defined;
@@ -45,17 +43,7 @@ fn add_blocks(w: &mut [u16; WORDS], r: u16)
         set_children(w, r, 0);
         return;
     }
-    let h = add_cell(
-        w,
-        Cell {
-            tag: BLOCKS,
-            before: 0,
-            a: r,
-            b: 0,
-            c: 0,
-            d: 0,
-        },
-    );
+    let h = add_cell(w, Cell::Blocks { region: r });
     set_children(w, r, h);
 }
 
@@ -68,13 +56,10 @@ fn add_exit(w: &mut [u16; WORDS], r: u16) -> Made
     let before = children(w, r);
     let h = add_cell(
         w,
-        Cell {
-            tag: EXIT,
+        Cell::Exit {
             before,
-            a: node,
-            b: r,
-            c: 0,
-            d: 0,
+            node,
+            region: r,
         },
     );
     set_children(w, r, h);

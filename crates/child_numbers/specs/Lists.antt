@@ -10,9 +10,9 @@ use Rattle.record.specs.Stands.{OfRecord}
 use Rattle.nesting.specs.Nesting.{plain, blocks-of}
 use Rattle.nesting.specs.Sheet.{kids}
 use Rattle.state.specs.Sections.{section, cells}
+use Rattle.state.specs.CellRows.{tag-join, cell-tag}
 use Rattle.shown.specs.Cells.{ShowsNodes}
 use Rattle.children.specs.CellByCell.{CellAdded}
-use Rattle.children.specs.CellByCell.{cell-word}
 use Rattle.writing.specs.declared.place.Place.{Place}
 use Rattle.writing.specs.Puts.{Puts}
 use Rattle.writing.specs.Parts.{most}
@@ -25,7 +25,7 @@ PutsBlocks w r out x out′ x′ = OfRecord w (λ g. PutsNumbers out x (kids (bl
 -- What cell h adds, where that is no list.
 abbrev pub PutsCellNumbers : List ℕ → ℕ → List ℕ → Counted → List ℕ → Counted → Type 0
 PutsCellNumbers w h out x out′ x′ =
-    OfRecord w (λ g. (ks : Nodes) → CellAdded g w h ks (cell-word w h 0) → (cell-word w h 0 ≡ 2 → ⊥) → PutsNumbers out x (kids ks) out′ x′)
+    OfRecord w (λ g. (ks : Nodes) → CellAdded g w h ks (cell-tag w h) → (cell-tag w h ≡ tag-join → ⊥) → PutsNumbers out x (kids ks) out′ x′)
 
 abbrev pub PutsList : List ℕ → ℕ → List ℕ → Counted → List ℕ → Counted → Type 0
 PutsList w list out x out′ x′ =

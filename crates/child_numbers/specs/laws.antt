@@ -1,2 +1,4 @@
 pub mod NumbersLaws
 pub mod ListsLaws
+pub mod KeptLaws
+pub mod RegionLineLaws

@@ -1,16 +1,21 @@
-// The numbers of a list's child nodes, with their count in front.
+// The line of a region, and the numbers of a list's child nodes in it, with their count in front.
 ghost use mathlib.Core.Path.{_≡_};
 ghost use mathlib.Core.List.{[], _∷_};
 ghost use Prim.Native.Nat.{_+_};
 ghost use Rattle.writing.specs.Parts.{most};
 ghost use Rattle.child_numbers.specs.Numbers as numbers;
 ghost use Rattle.child_numbers.specs.Lists as lists;
+
+pub mod region_line;
+pub mod types;
+
 use children::list_before;
 use state::cells::BLOCKS;
 use state::cells::JOIN;
-use state::cells::cell_a;
+use state::cells::blocks_region;
+use state::cells::cell_node;
 use state::cells::cell_tag;
-use state::cells::joined_list;
+use state::cells::join_list;
 use store::WORDS;
 use writing::place::Place;
 use writing::place::put;
@@ -56,9 +61,9 @@ fn put_cell_numbers(w: &[u16; WORDS], out: &mut [u32], x: Counted, h: u16) -> Co
     ensures { λ a. ⌜ lists.PutsCellNumbers (now (w .entry)) h (now (out .entry)) x (now (out .exit)) a ⌝ }
 {
     if cell_tag(w, h) == BLOCKS {
-        return put_block_numbers(w, out, x, cell_a(w, h));
+        return put_block_numbers(w, out, x, blocks_region(w, h));
     }
-    put_number(out, x, cell_a(w, h) as u32)
+    put_number(out, x, cell_node(w, h) as u32)
 }
 
 fn put_numbers(w: &[u16; WORDS], out: &mut [u32], x: Counted, list: u16) -> Counted
@@ -68,7 +73,7 @@ fn put_numbers(w: &[u16; WORDS], out: &mut [u32], x: Counted, list: u16) -> Coun
     let mut h = list;
     while 0 < h {
         if cell_tag(w, h) == JOIN {
-            y = put_numbers(w, out, y, joined_list(w, h));
+            y = put_numbers(w, out, y, join_list(w, h));
         } else {
             y = put_cell_numbers(w, out, y, h);
         }

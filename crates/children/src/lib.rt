@@ -2,6 +2,7 @@
 ghost use mathlib.Core.Path.{_≡_};
 ghost use Rattle.children.specs.CellByCell as cells;
 use state::cells::LOOP;
+use state::cells::cases_after;
 use state::cells::cell_before;
 use state::cells::cell_tag;
 use store::WORDS;
@@ -23,7 +24,7 @@ pub fn case_total(w: &[u16; WORDS], list: u16) -> u16
     let mut h = list;
     let mut n: u16 = 0;
     while 0 < h {
-        h = cell_before(w, h);
+        h = cases_after(w, h);
         n += 1;
     }
     n
@@ -36,7 +37,7 @@ pub fn case_cell(w: &[u16; WORDS], list: u16, j: u16) -> u16
     let mut h = list;
     let mut i: u16 = 0;
     while i < j {
-        h = cell_before(w, h);
+        h = cases_after(w, h);
         i += 1;
     }
     h

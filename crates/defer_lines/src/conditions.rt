@@ -24,5 +24,5 @@ pub fn put_condition(w: &[u16; WORDS], out: &mut [u32], at: Place, c: u16) -> Pl
         to = put_condition(w, out, to, cond_part(w, c, j - 1));
         j -= 1;
     }
-    put_three(out, to, 4, cond_node(w, c), n)
+    put_three(out, to, MERGE, cond_node(w, c), n)
 }

@@ -1,4 +1,4 @@
-// The inputs of a deferred edge bundle, with their count in front.
+// The target inputs of a deferred edge bundle, with their count in front.
 ghost use Rattle.nesting.specs.Nesting.{DeferredEdgeBundle};
 ghost use Rattle.shown.specs.Sets.{ShowsBundle};
 ghost use Rattle.writing.specs.Parts.{OfState, values-part};
@@ -11,7 +11,8 @@ use writing::place::Place;
 use writing::place::put_word;
 use writing::value::put_value;
 
-pub fn put_inputs(w: &[u16; WORDS], out: &mut [u32], at: Place, p: u16) -> Place
+// In its own line, or as the outputs of a whole form.
+pub fn put_target_inputs(w: &[u16; WORDS], out: &mut [u32], at: Place, p: u16) -> Place
     ensures { λ a. ⌜ OfState (now (w .entry)) (λ g s. (e : DeferredEdgeBundle) → ShowsBundle g (now (w .entry)) p e
         → Puts (now (out .entry)) at (values-part s (e .«target-inputs»)) (now (out .exit)) a) ⌝ }
 {

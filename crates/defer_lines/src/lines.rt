@@ -1,4 +1,4 @@
-// Defer lines: the lead 5, region, target, count, inputs, condition.
+// Defer lines: lead, region, target, count, inputs, condition.
 ghost use mathlib.Core.Path.{_≡_};
 ghost use lib.ListN.{length};
 ghost use Rattle.nesting.specs.Nesting.{DeferredEdgeBundle, DeferredEdgeBundleSet};
@@ -7,7 +7,7 @@ ghost use Rattle.shown.specs.States.{ShowsOwnSet};
 ghost use Rattle.writing.specs.Parts.{OfState, each, defer-part};
 ghost use Rattle.writing.specs.Puts.{Puts};
 use crate::conditions::put_condition;
-use crate::inputs::put_inputs;
+use crate::inputs::put_target_inputs;
 use bundles::bundles::condition_in;
 use state::sets::accumulated_count;
 use state::sets::bundle_at;
@@ -15,9 +15,10 @@ use state::sets::set_length;
 use state::sets::set_start;
 use state::sets::target;
 use store::WORDS;
+use writing::leads::DEFER_LINE;
 use writing::place::Place;
-use writing::place::put;
 use writing::place::put_three;
+use writing::place::put_word;
 
 // Bundle p of a set of `size` bundles.
 fn put_bundle(w: &[u16; WORDS], out: &mut [u32], at: Place, r: u16, p: u16, size: u16) -> Place
@@ -25,11 +26,11 @@ fn put_bundle(w: &[u16; WORDS], out: &mut [u32], at: Place, r: u16, p: u16, size
         → ShowsBundle g (now (w .entry)) p e → Puts (now (out .entry)) at (defer-part s r d e) (now (out .exit)) a) ⌝ }
 {
     let condition = put_condition(w, out, at, condition_in(w, p, size));
-    let inputs = put_inputs(w, out, condition, p);
+    let inputs = put_target_inputs(w, out, condition, p);
     let to = target(w, p);
     let count = accumulated_count(w, p).to_word();
     let three = put_three(out, inputs, r, to, count);
-    put(out, three, 5)
+    put_word(out, three, DEFER_LINE)
 }
 
 // In the order of region r's set.

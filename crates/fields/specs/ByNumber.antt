@@ -26,6 +26,10 @@ pub record BlocksBefore (w : List ℕ) (r a : ℕ) : Type 0 where
   pub is : OfRecord w (λ g. a ≡ blocks-before g r)
   pub within : a ≤ 65535 * r
 
+-- How many instructions stand before block b of a region.
+abbrev pub instructions-before : List (List Instr) → ℕ → ℕ
+instructions-before bs b = total (λ (x : List Instr). length x) (take b bs)
+
 -- The values that the terminator of region r has.
 abbrev pub end-values : Graph → ℕ → List Value
 end-values g r = values-of (region g r .terminator)

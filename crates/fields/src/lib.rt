@@ -1,12 +1,13 @@
 // An accepted record's fields, by the words that it stands in and the index behind them. Each accessor takes any words and any
 // numbers; a number that names nothing gets the definition's answer for it: 0, an empty list, Nothing, an unreachable region.
 ghost use mathlib.Core.Path.{_≡_};
+ghost use Prim.Native.Nat.{_*_, _≤_};
 ghost use lib.ListN.{length, getD};
 ghost use Rattle.meaning.specs.Graph.{no-value, region, edges-of, targets-of};
 ghost use Rattle.format.specs.References.{instructions, instr-type};
 ghost use Rattle.record.specs.Stands.{OfRecord};
 ghost use Rattle.fields.specs.Shape.{value-is, instruction-is, terminator-is};
-ghost use Rattle.fields.specs.ByNumber.{BlocksBefore, ValuesAt, block-of, instr-of, end-values, edge-of, stands-before};
+ghost use Rattle.fields.specs.ByNumber.{BlocksBefore, ValuesAt, block-of, instr-of, instructions-before, end-values, edge-of, stands-before};
 
 mod places;
 pub mod shape;
@@ -97,6 +98,20 @@ pub fn block_length(w: &[u16; WORDS], r: u16, b: u16) -> u16
     ensures { λ a. ⌜ OfRecord (now (w .entry)) (λ g. a ≡ length (block-of g r b)) ⌝ }
 {
     word_at(w, block_place(w, r, b) as usize)
+}
+
+// How many instructions region r has before block b: the index of its first.
+pub fn instructions_before(w: &[u16; WORDS], r: u16, b: u16) -> u32
+    ensures { λ a. ⌜ OfRecord (now (w .entry)) (λ g. a ≡ instructions-before (region g r .blocks) b) ⌝ }
+    ensures { λ a. ⌜ a ≤ 65535 * b ⌝ }
+{
+    let mut instructions: u32 = 0;
+    let mut q: u16 = 0;
+    while q < b {
+        instructions += block_length(w, r, q) as u32;
+        q += 1;
+    }
+    instructions
 }
 
 pub fn instruction(w: &[u16; WORDS], r: u16, b: u16, i: u16) -> Instruction

@@ -10,8 +10,9 @@ use Rattle.nesting.specs.Sheet.{figure, dearest}
 use Rattle.record.specs.Stands.{OfRecord}
 use Rattle.fields.specs.ByNumber.{block-of}
 use Rattle.state.specs.Sections.{section, cells}
+use Rattle.state.specs.CellRows.{cell-tag}
 use Rattle.shown.specs.Cells.{ShowsNodes, ShowsCaseCells}
-use Rattle.children.specs.CellByCell.{CellAdded, cell-word}
+use Rattle.children.specs.CellByCell.{CellAdded}
 use Rattle.figure.specs.laws.Nodes.{block-cost}
 
 abbrev pub capped : ℕ → ℕ
@@ -25,7 +26,7 @@ pub record Figured (w : List ℕ) (list a : ℕ) : Type 0 where
 -- The nodes that a cell adds to its list.
 pub record CellFigured (w : List ℕ) (h a : ℕ) : Type 0 where
   pub small : a ≤ 4294967296
-  pub shown : OfRecord w (λ g. (ks : Nodes) → CellAdded g w h ks (cell-word w h 0) → a ≡ capped (figure (g .test-cost) ks))
+  pub shown : OfRecord w (λ g. (ks : Nodes) → CellAdded g w h ks (cell-tag w h) → a ≡ capped (figure (g .test-cost) ks))
 
 -- The cases that a list shows.
 pub record DearestFigured (w : List ℕ) (list a : ℕ) : Type 0 where

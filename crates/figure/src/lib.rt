@@ -7,13 +7,14 @@ use state::cells::BLOCKS;
 use state::cells::JOIN;
 use state::cells::LOOP;
 use state::cells::SELECT;
-use state::cells::cell_a;
-use state::cells::cell_b;
-use state::cells::cell_before;
+use state::cells::blocks_region;
+use state::cells::cases_after;
 use state::cells::cell_tag;
 use state::cells::children_of_case;
-use state::cells::inner_list;
-use state::cells::joined_list;
+use state::cells::join_list;
+use state::cells::loop_body;
+use state::cells::loop_header;
+use state::cells::select_cases;
 use store::WORDS;
 
 pub const TOO_LARGE: u64 = 4294967296;
@@ -74,7 +75,7 @@ fn dearest(w: &[u16; WORDS], cases: u16) -> u64
     let mut h = cases;
     while 0 < h {
         most = larger(most, figure(w, children_of_case(w, h)));
-        h = cell_before(w, h);
+        h = cases_after(w, h);
     }
     most
 }
@@ -87,18 +88,18 @@ fn cell_figure(w: &[u16; WORDS], h: u16) -> u64
 {
     let tag = cell_tag(w, h);
     if tag == BLOCKS {
-        return at_most(blocks_figure(w, cell_a(w, h)));
+        return at_most(blocks_figure(w, blocks_region(w, h)));
     }
     if tag == JOIN {
-        return figure(w, joined_list(w, h));
+        return figure(w, join_list(w, h));
     }
     let test = fields::test_cost(w) as u64;
     if tag == SELECT {
-        return at_most(test + dearest(w, inner_list(w, h)));
+        return at_most(test + dearest(w, select_cases(w, h)));
     }
     if tag == LOOP {
-        let limit = fields::limit(w, cell_b(w, h)) as u64;
-        return at_most(limit * (figure(w, cell_before(w, h)) + test));
+        let limit = fields::limit(w, loop_header(w, h)) as u64;
+        return at_most(limit * (figure(w, loop_body(w, h)) + test));
     }
     0
 }

@@ -1,4 +1,2 @@
 pub mod LoopParts
-pub mod Kept
 pub mod OfLoop
-pub mod laws

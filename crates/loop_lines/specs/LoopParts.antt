@@ -5,6 +5,7 @@ use mathlib.Core.List.{List, [], _∷_, append-assoc}
 use Prim.Native.Nat.{ℕ}
 use Rattle.meaning.specs.Runs.{Nodes, loop, LoopNode}
 use Rattle.nesting.specs.Nesting.{NestState, plain, _⊛_, with-values, look-up-each, look-up-node, look-up-nodes}
+use Rattle.nesting.specs.SheetNumbers.{lead-loop}
 use Rattle.writing.specs.Puts.{Part}
 use Rattle.writing.specs.laws.PutsLaws.{_⊕_}
 use Rattle.writing.specs.laws.PartLaws.{kids-looked-up}
@@ -35,7 +36,7 @@ module _ (s : NestState) where
 
   pub loop-line : (x : LoopNode)
       → loop-part x
-      ≡ plain (3 ∷ x .number ∷ []) ⊕ values-part s (x .initial-inputs) ⊕ plain (x .body ∷ []) ⊕ value-part s (x .repeat)
+      ≡ plain (lead-loop ∷ x .number ∷ []) ⊕ values-part s (x .initial-inputs) ⊕ plain (x .body ∷ []) ⊕ value-part s (x .repeat)
   unfolding loop-part values-part value-part
   loop-line x = simp append-assoc
 

@@ -1,16 +1,14 @@
 // The inputs that a loop keeps, along their cells: the last is put first, and then their count.
 ghost use mathlib.Core.Path.{_≡_};
-ghost use mathlib.Core.List.{_∷_};
 ghost use Prim.Native.Nat.{ℕ};
-ghost use lib.ListN.{length};
-ghost use Rattle.nesting.specs.Nesting.{plain, LoopInputs};
+ghost use Rattle.nesting.specs.Nesting.{LoopInputs};
 ghost use Rattle.writing.specs.Parts.{OfState, values-part};
 ghost use Rattle.writing.specs.Puts.{Puts};
-ghost use Rattle.loop_lines.specs.Kept as kept;
-use state::cells::cell_a;
-use state::cells::cell_b;
+ghost use Rattle.child_numbers.specs.Kept as kept;
 use state::cells::cell_before;
-use state::cells::cell_c;
+use state::cells::kept_back;
+use state::cells::kept_input;
+use state::cells::kept_wrapper;
 use state::values::input;
 use store::WORDS;
 use writing::place::Place;
@@ -22,9 +20,9 @@ fn kept_value(w: &[u16; WORDS], h: u16, back: bool) -> u16
     ensures { λ a. ⌜ a ≡ kept.«kept-word» (now (w .entry)) back h ⌝ }
 {
     if back {
-        return cell_c(w, h);
+        return kept_back(w, h);
     }
-    input(cell_b(w, h), cell_a(w, h))
+    input(kept_wrapper(w, h), kept_input(w, h))
 }
 
 // The outputs of the loop's body, or the loop's initial inputs.
@@ -37,22 +35,6 @@ pub fn put_kept_values(w: &[u16; WORDS], out: &mut [u32], at: Place, list: u16, 
     let mut h = list;
     while 0 < h {
         to = put_value(w, out, to, kept_value(w, h, back));
-        n += 1;
-        h = cell_before(w, h);
-    }
-    put_word(out, to, n)
-}
-
-// Their types, as the header r has them.
-pub fn put_kept_types(w: &[u16; WORDS], out: &mut [u32], at: Place, list: u16, r: u16) -> Place
-    ensures { λ a. ⌜ OfState (now (w .entry)) (λ g s. (y : LoopInputs) → kept.KeepsInputs g (now (w .entry)) r list y
-        → Puts (now (out .entry)) at (plain (length (y .types) ∷ y .types)) (now (out .exit)) a) ⌝ }
-{
-    let mut to = at;
-    let mut n: u16 = 0;
-    let mut h = list;
-    while 0 < h {
-        to = put_word(out, to, fields::input_type(w, r, cell_a(w, h)));
         n += 1;
         h = cell_before(w, h);
     }

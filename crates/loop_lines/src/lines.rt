@@ -3,17 +3,17 @@ ghost use Rattle.writing.specs.Parts.{OfState, region-part};
 ghost use Rattle.writing.specs.Puts.{Puts};
 ghost use Rattle.loop_lines.specs.LoopParts.{loop-part, loop-lines};
 ghost use Rattle.loop_lines.specs.OfLoop.{OfLoop};
-use crate::kept::put_kept_types;
 use crate::kept::put_kept_values;
-use child_numbers::put_kids;
-use state::cells::cell_a;
-use state::cells::cell_b;
-use state::cells::cell_before;
-use state::cells::cell_c;
-use state::cells::inner_list;
+use child_numbers::region_line::RegionInputs;
+use child_numbers::region_line::put_region_line;
+use state::cells::loop_body;
+use state::cells::loop_header;
+use state::cells::loop_kept;
+use state::cells::loop_node;
+use state::cells::loop_repeat;
 use store::WORDS;
+use writing::leads::LOOP_LINE;
 use writing::place::Place;
-use writing::place::put;
 use writing::place::put_word;
 use writing::value::put_value;
 
@@ -22,13 +22,17 @@ fn put_body_line(w: &[u16; WORDS], out: &mut [u32], at: Place, h: u16) -> Place
     ensures { λ a. ⌜ OfState (now (w .entry)) (λ g s. OfLoop g (now (w .entry)) h (λ x ns.
         Puts (now (out .entry)) at (region-part s (x .body) (x .types) ns (x .outputs)) (now (out .exit)) a)) ⌝ }
 {
-    let r = cell_b(w, h);
-    let kept = inner_list(w, h);
+    let r = loop_header(w, h);
+    let kept = loop_kept(w, h);
     let outputs = put_kept_values(w, out, at, kept, true);
-    let numbers = put_kids(w, out, outputs, cell_before(w, h));
-    let types = put_kept_types(w, out, numbers, kept, r);
-    let region = put_word(out, types, r);
-    put(out, region, 0)
+    put_region_line(
+        w,
+        out,
+        outputs,
+        r,
+        RegionInputs::Kept(kept),
+        loop_body(w, h),
+    )
 }
 
 // Node, initial inputs, body region, repeat value.
@@ -36,11 +40,11 @@ fn put_loop_line(w: &[u16; WORDS], out: &mut [u32], at: Place, h: u16) -> Place
     ensures { λ a. ⌜ OfState (now (w .entry)) (λ g s. OfLoop g (now (w .entry)) h (λ x ns.
         Puts (now (out .entry)) at (loop-part s x) (now (out .exit)) a)) ⌝ }
 {
-    let repeat = put_value(w, out, at, cell_c(w, h));
-    let body = put_word(out, repeat, cell_b(w, h));
-    let initial = put_kept_values(w, out, body, inner_list(w, h), false);
-    let number = put_word(out, initial, cell_a(w, h));
-    put(out, number, 3)
+    let repeat = put_value(w, out, at, loop_repeat(w, h));
+    let body = put_word(out, repeat, loop_header(w, h));
+    let initial = put_kept_values(w, out, body, loop_kept(w, h), false);
+    let number = put_word(out, initial, loop_node(w, h));
+    put_word(out, number, LOOP_LINE)
 }
 
 // Of the loop that cell h adds: what stands before its body's nodes.

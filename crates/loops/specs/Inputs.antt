@@ -5,7 +5,7 @@ use Prim.Native.Nat.{ℕ, _+_, _≤_, _<_}
 use lib.ListN.{getD, set}
 use Rattle.state.specs.Values.{region-word, held-from, input-from}
 use Rattle.state.specs.Tables.{Adds, input-word}
-use Rattle.shown.specs.laws.CellSteps.{kept-cell}
+use Rattle.state.specs.declared.cells.Cell.the-variants.{Kept}
 use Rattle.lookups.specs.LookUps.{Rewrites}
 use Rattle.loops.specs.declared.inputs.Taken.{Taken}
 
@@ -25,7 +25,7 @@ pub data RewritesValues (n : ℕ) : ℕ → List ℕ → List ℕ → List ℕ �
 
 -- Input k of header r is kept: its cell, and its new number.
 pub record KeepsInput (r wrapper k v : ℕ) (x : Taken) (l l′ : List ℕ) (y : Taken) : Type 0 where
-  pub cell : Adds l l′ (kept-cell (x .cells) k wrapper v) (y .cells)
+  pub cell : Adds l l′ (Kept (x .cells) k wrapper v) (y .cells)
   pub count : y .count ≡ x .count + 1
   pub entry : y .entry ≡ region-word held-from r (x .count)
 

@@ -9,7 +9,7 @@ use Rattle.state.specs.declared.defined.Defined.the-variants.{Number, Full}
 use Rattle.state.specs.Sections.{word, stored, set-lengths, children, bodies}
 use Rattle.state.specs.Sections.{regions-at, nodes-at}
 use Rattle.state.specs.Tables.{Adds, Defines, inserted, swap-removed}
-use Rattle.shown.specs.laws.CellSteps.{loop-cell}
+use Rattle.state.specs.declared.cells.Cell.the-variants.{Loop}
 use Rattle.lookups.specs.Materialized.{Materializes}
 use Rattle.state.specs.declared.defined.Made.{Made}
 use Rattle.state.specs.declared.defined.Made.the-variants.{Done, Full as Refused}
@@ -20,7 +20,7 @@ use Rattle.nesting.specs.Nesting.{most-regions, most-nodes}
 
 -- The loop's cell takes the place of region r's children.
 pub data AddsLoop (r node repeat kept : ℕ) (l l′ : List ℕ) : Type 0 where
-  adds-loop : {h : ℕ} {l₁ : List ℕ} → Adds l l₁ (loop-cell (word l children r) node r repeat kept) h → l′ ≡ stored l₁ children r h
+  adds-loop : {h : ℕ} {l₁ : List ℕ} → Adds l l₁ (Loop (word l children r) node r repeat kept) h → l′ ≡ stored l₁ children r h
       → AddsLoop r node repeat kept l l′
 
 -- The repeat condition made real, the node defined, the loop added.

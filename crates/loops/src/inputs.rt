@@ -4,7 +4,6 @@ ghost use Prim.Native.Nat.{_≤_};
 ghost use Rattle.loops.specs.Inputs as words;
 use lookups::look_up::rewrite;
 use state::cells::Cell;
-use state::cells::KEPT;
 use state::cells::add_cell;
 use state::sets::target_input;
 use state::values::held;
@@ -58,13 +57,11 @@ fn keep_input(w: &mut [u16; WORDS], r: u16, wrapper: u16, k: u16, v: u16, x: Tak
 {
     let h = add_cell(
         w,
-        Cell {
-            tag: KEPT,
+        Cell::Kept {
             before: x.cells,
-            a: k,
-            b: wrapper,
-            c: v,
-            d: 0,
+            input: k,
+            wrapper,
+            back: v,
         },
     );
     Taken {

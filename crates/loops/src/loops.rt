@@ -7,7 +7,6 @@ use crate::inputs::take_inputs;
 use bundles::bundles::condition_in;
 use lookups::materialize::materialize_lazy_cond;
 use state::cells::Cell;
-use state::cells::LOOP;
 use state::cells::add_cell;
 use state::defined::Defined;
 use state::defined::Made;
@@ -28,13 +27,12 @@ fn add_loop(w: &mut [u16; WORDS], r: u16, node: u16, repeat: u16, kept: u16)
     let body = children(w, r);
     let h = add_cell(
         w,
-        Cell {
-            tag: LOOP,
-            before: body,
-            a: node,
-            b: r,
-            c: repeat,
-            d: kept,
+        Cell::Loop {
+            body,
+            node,
+            header: r,
+            repeat,
+            kept,
         },
     );
     set_children(w, r, h);

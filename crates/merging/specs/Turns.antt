@@ -1,5 +1,5 @@
 -- A loop that counts up: what is left of it, from a turn to the next.
-use mathlib.Core.Path.{_≡_}
+use mathlib.Core.Path.{_≡_, refl}
 use mathlib.Core.List.{List}
 use Prim.Native.Nat.{ℕ, zero, suc, _+_, _-_, _≤_, _<_}
 use native.Mathlib.Omega.{arith}
@@ -26,6 +26,14 @@ module _ {A : Type 0} (f : A → ℕ → A) where
     pub turn-last : n ≤ i → a ≡ whole
     unfolding turned
     turn-last h = let s : n - i ≡ 0 = omega arith in rw s at left
+
+-- Turns that are the same, as far as there are turns.
+pub turned-same : {A : Type 0} (f f′ : A → ℕ → A) (most : ℕ) → ((a : A) (i : ℕ) → i < most → f a i ≡ f′ a i) → (n : ℕ) (a : A) (i : ℕ)
+    → i + n ≤ most → turned f a n i ≡ turned f′ a n i
+unfolding turned
+turned-same f f′ most same zero a i h = refl
+turned-same f f′ most same (suc n) a i h =
+    rw (same a i (omega arith)) (turned-same f f′ most same n (f′ a i) (suc i) (omega arith))
 
 -- ---- A loop whose turns read the record: it stands as long as nothing is stored in front.
 module _ {A : Type 0} (words : A → List ℕ) where

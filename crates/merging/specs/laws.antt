@@ -1,8 +1,6 @@
-pub mod TurnsLaws
 pub mod TargetsLaws
 pub mod RewritingLaws
 pub mod PlanningLaws
-pub mod BundlesLaws
 pub mod Rows
 pub mod Spare
 pub mod RewritingShown

@@ -1,4 +1,5 @@
 pub mod Nesting
+pub mod SheetNumbers
 pub mod Sheet
 pub mod ShownForm
 pub mod AnswerValues

@@ -15,6 +15,9 @@ use Rattle.format.specs.Accept.{accept}
 use Rattle.nesting.specs.Nesting.{Outcome, LazyCond, undef-cond, false-cond, true-cond, merge, LazyConds, _&_, DeferredTarget}
 use Rattle.nesting.specs.Nesting.{to-region, to-return, DeferredEdgeBundle, untouched, whole, closed, leftover, Piece, Nested}
 use Rattle.nesting.specs.Nesting.{structurize-func}
+use Rattle.nesting.specs.SheetNumbers.{kind-bool, kind-num, lead-block, lead-defer, lead-exit, lead-loop, lead-region, lead-select}
+use Rattle.nesting.specs.SheetNumbers.{letter-f, letter-m, letter-t, letter-u, outcome-closed, outcome-leftover, outcome-untouched}
+use Rattle.nesting.specs.SheetNumbers.{outcome-whole, return-word}
 
 -- ---- The figure of a nested form: what a run can cost at most (document 01, "What comes out").
 module _ (test-cost : ℕ) where
@@ -72,23 +75,23 @@ undefined ty = record { words = 5 ∷ 0 ∷ ty ∷ []; text = ascii "undef" ++ d
 
 -- The kind of a select: bool 0, num 1.
 abbrev pub kind : SelectionKind → Field
-kind bool-cond = number-as 0 "bool"
-kind number = number-as 1 "num"
+kind bool-cond = number-as kind-bool "bool"
+kind number = number-as kind-num "num"
 
 -- The target Return prints `return` and is 65,535 as a word, which is no number of a region that is accepted (`accept-valid`).
 abbrev pub target : DeferredTarget → Field
-target to-return = number-as 65535 "return"
-target (to-region r) = pick (eqb r 65535) (number-as r "return") (a-number r)
+target to-return = number-as return-word "return"
+target (to-region r) = pick (eqb r return-word) (number-as r "return") (a-number r)
 
 unfoldable mutual
   -- A condition: t, f, u, or m, the node and its parts in brackets.
   pub condition : LazyCond → Field
-  condition true-cond = number-as 1 "t"
-  condition false-cond = number-as 2 "f"
-  condition undef-cond = number-as 3 "u"
+  condition true-cond = number-as letter-t "t"
+  condition false-cond = number-as letter-f "f"
+  condition undef-cond = number-as letter-u "u"
   condition (merge n k v cs) =
       let parts = conditions cs in
-      record { words = 4 ∷ n ∷ list parts .words; text = ascii "m" ++ decimal n ++ ascii "[" ++ joint "," parts .text ++ ascii "]" }
+      record { words = letter-m ∷ n ∷ list parts .words; text = ascii "m" ++ decimal n ++ ascii "[" ++ joint "," parts .text ++ ascii "]" }
 
   pub conditions : LazyConds → List Field
   conditions LazyConds.no-conds = []
@@ -131,24 +134,24 @@ module _ (nodes : List ℕ) where
   -- Region, inputs' types, child nodes, output values.
   abbrev pub region-fields : ℕ → List ℕ → Nodes → List Value → List Field
   region-fields r ts ks vs =
-      number-as 0 "region" ∷ a-number r ∷ label "in" ∷ numbers ts ∷ label "kids" ∷ numbers (kids ks) ∷ label "out" ∷ values vs ∷ []
+      number-as lead-region "region" ∷ a-number r ∷ label "in" ∷ numbers ts ∷ label "kids" ∷ numbers (kids ks) ∷ label "out" ∷ values vs ∷ []
 
   unfoldable mutual
     -- Each child, a select's cases or a loop's body following it. Block: node, items. Select: node, kind, value, case regions,
     -- types of its outputs. Loop: node, first inputs, body region, repeat value. Exit: node, opcode, values.
     pub node-lines : Node → List (List Field)
-    node-lines (block n r k is) = (number-as 1 "block" ∷ a-number n ∷ list (items r k is) ∷ []) ∷ []
+    node-lines (block n r k is) = (number-as lead-block "block" ∷ a-number n ∷ list (items r k is) ∷ []) ∷ []
     node-lines (select x cs) =
         let types = map (λ o. o .type) (x .outputs) in
-        (number-as 2 "select" ∷ a-number (x .number) ∷ kind (x .kind) ∷ value (x .scrutinee)
+        (number-as lead-select "select" ∷ a-number (x .number) ∷ kind (x .kind) ∷ value (x .scrutinee)
         ∷ label "cases" ∷ numbers (case-numbers cs) ∷ label "out" ∷ numbers types ∷ [])
         ∷ case-lines cs
     node-lines (loop x ks) =
-        (number-as 3 "loop" ∷ a-number (x .number) ∷ label "in" ∷ values (x .initial-inputs)
+        (number-as lead-loop "loop" ∷ a-number (x .number) ∷ label "in" ∷ values (x .initial-inputs)
         ∷ label "body" ∷ a-number (x .body) ∷ label "repeat" ∷ value (x .repeat) ∷ [])
         ∷ region-fields (x .body) (x .types) ks (x .outputs)
         ∷ nodes-lines ks
-    node-lines (exit n op vs) = (number-as 4 "exit" ∷ a-number n ∷ a-number op ∷ label "in" ∷ values vs ∷ []) ∷ []
+    node-lines (exit n op vs) = (number-as lead-exit "exit" ∷ a-number n ∷ a-number op ∷ label "in" ∷ values vs ∷ []) ∷ []
 
     pub nodes-lines : Nodes → List (List Field)
     nodes-lines ⟨⟩ = []
@@ -165,7 +168,7 @@ module _ (nodes : List ℕ) where
   -- Region, target, count, inputs, condition.
   abbrev pub defer-fields : ℕ → DeferredEdgeBundle → List Field
   defer-fields r e =
-      number-as 5 "defer" ∷ a-number r ∷ label "to" ∷ target (e .target) ∷ label "count" ∷ a-number (e .accumulated-count)
+      number-as lead-defer "defer" ∷ a-number r ∷ label "to" ∷ target (e .target) ∷ label "count" ∷ a-number (e .accumulated-count)
       ∷ label "in" ∷ values (e .target-inputs) ∷ label "if" ∷ condition (e .condition) ∷ []
 
   -- In the order of the region's set.
@@ -206,10 +209,10 @@ sheet-of g x =
 
 -- The outcomes, 0 to 3.
 abbrev pub outcome : Outcome → Field
-outcome untouched = number-as 0 "untouched"
-outcome whole = number-as 1 "whole"
-outcome closed = number-as 2 "closed"
-outcome leftover = number-as 3 "leftover"
+outcome untouched = number-as outcome-untouched "untouched"
+outcome whole = number-as outcome-whole "whole"
+outcome closed = number-as outcome-closed "closed"
+outcome leftover = number-as outcome-leftover "leftover"
 
 -- `-` if there is none, which is 0 as a word.
 abbrev pub figure-field : Outcome → ℕ → Field

@@ -9,6 +9,7 @@ use Rattle.meaning.specs.Runs.{SelectNode, Node, block, select, loop, exit, Nod
 use Rattle.nesting.specs.Nesting.{Outcome, untouched, whole, closed, leftover, LazyCond, undef-cond, false-cond, true-cond, merge}
 use Rattle.nesting.specs.Nesting.{LazyConds, _&_, DeferredTarget, to-region, to-return, DeferredEdgeBundle, Piece, Nested}
 use Rattle.nesting.specs.Sheet.{figure, ascending}
+use Rattle.nesting.specs.SheetNumbers.{return-word}
 
 -- An instruction of a block. A value is its three words.
 pub record Item : Type 0 where
@@ -73,7 +74,7 @@ pub record ShownForm : Type 0 where
 
 abbrev pub target-word : DeferredTarget → ℕ
 target-word (to-region r) = r
-target-word to-return = 65535
+target-word to-return = return-word
 
 unfoldable mutual
   pub shown-cond : LazyCond → Condition

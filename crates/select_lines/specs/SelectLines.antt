@@ -7,30 +7,31 @@ use Rattle.meaning.specs.Lists.{pick}
 use Rattle.meaning.specs.Graph.{Value, SelectionKind}
 use Rattle.meaning.specs.Runs.{Nodes, Cases, case-count}
 use Rattle.nesting.specs.Nesting.{case-outputs}
+use Rattle.nesting.specs.SheetNumbers.{kind-bool, kind-num}
 use Rattle.state.specs.Sections.{section, cells}
+use Rattle.state.specs.CellRows.{select-node, select-shape, select-scrutinee, select-cases, case-region, children-of-case}
 use Rattle.shown.specs.Values.{value}
 use Rattle.shown.specs.Tables.{ShowsShape}
 use Rattle.shown.specs.Cells.{ShowsNodes, ShowsCaseCells}
-use Rattle.children.specs.CellByCell.{cell-word, list-at}
 use Rattle.writing.specs.declared.place.Place.{Place}
 use Rattle.writing.specs.Puts.{Puts}
 use Rattle.writing.specs.Parts.{OfState, region-part}
 use Rattle.select_lines.specs.SelectParts.{select-part}
 use Rattle.select_lines.specs.OwnOutputs.{ValuesShown}
 
--- bool 0, num 1, by a select's shape.
+-- By a select's shape.
 unfoldable pub kind-word : ℕ → ℕ
-kind-word shape = pick (eqb shape 0) 0 1
+kind-word shape = pick (eqb shape 0) kind-bool kind-num
 
 -- The case of cell h, at place j of the node's.
 abbrev pub PutsCaseLine : List ℕ → ℕ → ℕ → ℕ → List ℕ → Place → List ℕ → Place → Type 0
 PutsCaseLine w h node j out at out′ at′ =
-    OfState w (λ g s. (ns : Nodes) → ShowsNodes g (section w cells) (list-at w h 3) ns → ValuesShown w s node j
-    → Puts out at (region-part s (cell-word w h 2) [] ns (case-outputs node j (s .node-outputs))) out′ at′)
+    OfState w (λ g s. (ns : Nodes) → ShowsNodes g (section w cells) (children-of-case w h) ns → ValuesShown w s node j
+    → Puts out at (region-part s (case-region w h) [] ns (case-outputs node j (s .node-outputs))) out′ at′)
 
 -- The select of cell h.
 abbrev pub PutsSelectLine : List ℕ → ℕ → List ℕ → Place → List ℕ → Place → Type 0
 PutsSelectLine w h out at out′ at′ =
-    OfState w (λ g s. (kind : SelectionKind) (v : Value) (cs : Cases) → ShowsShape (cell-word w h 3) (case-count cs) kind
-    → value (cell-word w h 4) ≡ v → ShowsCaseCells g (section w cells) (list-at w h 5) cs
-    → Puts out at (select-part s (cell-word w h 2) kind v cs) out′ at′)
+    OfState w (λ g s. (kind : SelectionKind) (v : Value) (cs : Cases) → ShowsShape (select-shape w h) (case-count cs) kind
+    → value (select-scrutinee w h) ≡ v → ShowsCaseCells g (section w cells) (select-cases w h) cs
+    → Puts out at (select-part s (select-node w h) kind v cs) out′ at′)

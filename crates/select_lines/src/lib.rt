@@ -5,20 +5,25 @@ ghost use Rattle.select_lines.specs.OwnOutputs as outputs;
 ghost use Rattle.select_lines.specs.CaseNumbers as numbers;
 ghost use Rattle.select_lines.specs.SelectLines as lines;
 use child_numbers::Counted;
-use child_numbers::put_kids;
 use child_numbers::put_number;
-use state::cells::cell_a;
-use state::cells::cell_b;
-use state::cells::cell_before;
-use state::cells::cell_c;
+use child_numbers::region_line::RegionInputs;
+use child_numbers::region_line::put_region_line;
+use state::cells::case_region;
+use state::cells::cases_after;
 use state::cells::children_of_case;
-use state::cells::inner_list;
+use state::cells::select_cases;
+use state::cells::select_node;
+use state::cells::select_scrutinee;
+use state::cells::select_shape;
 use state::conditions::BOOL_COND;
 use state::outputs::output_count;
 use state::outputs::output_node;
 use state::outputs::output_type;
 use state::outputs::output_value;
 use store::WORDS;
+use writing::leads::BOOL_SELECT;
+use writing::leads::NUM_SELECT;
+use writing::leads::SELECT_LINE;
 use writing::place::Place;
 use writing::place::put;
 use writing::place::put_three;
@@ -65,8 +70,8 @@ fn put_regions(w: &[u16; WORDS], out: &mut [u32], x: Counted, list: u16) -> Coun
     if list == 0 {
         return x;
     }
-    let y = put_regions(w, out, x, cell_before(w, list));
-    put_number(out, y, cell_a(w, list) as u32)
+    let y = put_regions(w, out, x, cases_after(w, list));
+    put_number(out, y, case_region(w, list) as u32)
 }
 
 fn put_case_numbers(w: &[u16; WORDS], out: &mut [u32], at: Place, list: u16) -> Place
@@ -77,14 +82,13 @@ fn put_case_numbers(w: &[u16; WORDS], out: &mut [u32], at: Place, list: u16) -> 
 }
 
 // ---- The lines.
-// bool 0, num 1
 fn kind_word(shape: u16) -> u16
     ensures { λ a. ⌜ a ≡ lines.«kind-word» shape ⌝ }
 {
     if shape == BOOL_COND {
-        return 0;
+        return BOOL_SELECT;
     }
-    1
+    NUM_SELECT
 }
 
 // The region line of a case, at place j of its node's; it has no inputs.
@@ -99,18 +103,19 @@ pub fn put_case_line(
     ensures { λ a. ⌜ lines.PutsCaseLine (now (w .entry)) h node j (now (out .entry)) at (now (out .exit)) a ⌝ }
 {
     let outputs = put_case_outputs(w, out, at, node, j);
-    let kids = put_kids(w, out, outputs, children_of_case(w, h));
-    put_three(out, kids, 0, cell_a(w, h), 0)
+    let r = case_region(w, h);
+    let list = children_of_case(w, h);
+    put_region_line(w, out, outputs, r, RegionInputs::None, list)
 }
 
 // The line of a select, without those of its cases.
 pub fn put_select_line(w: &[u16; WORDS], out: &mut [u32], at: Place, h: u16) -> Place
     ensures { λ a. ⌜ lines.PutsSelectLine (now (w .entry)) h (now (out .entry)) at (now (out .exit)) a ⌝ }
 {
-    let node = cell_a(w, h);
+    let node = select_node(w, h);
     let types = put_output_types(w, out, at, node);
-    let cases = put_case_numbers(w, out, types, inner_list(w, h));
-    let value = put_value(w, out, cases, cell_c(w, h));
-    let kind = kind_word(cell_b(w, h));
-    put_three(out, value, 2, node, kind)
+    let cases = put_case_numbers(w, out, types, select_cases(w, h));
+    let value = put_value(w, out, cases, select_scrutinee(w, h));
+    let kind = kind_word(select_shape(w, h));
+    put_three(out, value, SELECT_LINE, node, kind)
 }

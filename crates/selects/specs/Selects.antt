@@ -7,7 +7,7 @@ use Rattle.state.specs.declared.defined.Defined.the-variants.{Number, Full}
 use Rattle.state.specs.Sections.{word, stored, cases, children}
 use Rattle.state.specs.Sections.{nodes-at}
 use Rattle.state.specs.Tables.{case-total, Adds, Defines}
-use Rattle.shown.specs.laws.CellSteps.{case-cell, select-cell}
+use Rattle.state.specs.declared.cells.Cell.the-variants.{Case, Select}
 use Rattle.lookups.specs.Materialized.{Materializes}
 use Rattle.state.specs.declared.defined.Made.the-variants.{Done as MadeDone, Full as MadeFull}
 use Rattle.selects.specs.declared.define.Scrutinee.{Scrutinee}
@@ -24,12 +24,12 @@ pub data ScrutineeMade (l : List ℕ) : Scrutinee → List ℕ → Defined → T
 pub data CaseCells : ℕ → ℕ → List ℕ → List ℕ → ℕ → Type 0 where
   cells-over : {n h h′ : ℕ} {l l′ : List ℕ} → n ≡ 0 → l′ ≡ l → h′ ≡ h → CaseCells n h l l′ h′
   cell-more : {n m h h₁ h′ : ℕ} {l l₁ l′ : List ℕ} → n ≡ suc m
-      → Adds l l₁ (case-cell h (word l cases (10 * m + 2)) (children-of l m)) h₁ → CaseCells m h₁ l₁ l′ h′
+      → Adds l l₁ (Case h (word l cases (10 * m + 2)) (children-of l m)) h₁ → CaseCells m h₁ l₁ l′ h′
       → CaseCells n h l l′ h′
 
 pub data SelectAdded (r node shape v : ℕ) (l l′ : List ℕ) (h : ℕ) : Type 0 where
   select-added : {l₁ l₂ : List ℕ} {cs before : ℕ} → CaseCells (case-total l) 0 l l₁ cs → before ≡ word l₁ children r
-      → Adds l₁ l₂ (select-cell before node shape v cs) h → l′ ≡ stored l₂ children r h → SelectAdded r node shape v l l′ h
+      → Adds l₁ l₂ (Select before node shape v cs) h → l′ ≡ stored l₂ children r h → SelectAdded r node shape v l l′ h
 
 pub data SelectDefined (r shape : ℕ) (x : Scrutinee) (l l′ : List ℕ) : Defined → Type 0 where
   regions-full : Turns GetsRegion (case-total l) 0 l l′ MadeFull → SelectDefined r shape x l l′ Full

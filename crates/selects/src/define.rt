@@ -6,9 +6,7 @@ use crate::cases::children_of;
 use lookups::materialize::materialize_lazy_cond;
 use state::cases::case_body;
 use state::cases::case_count;
-use state::cells::CASE;
 use state::cells::Cell;
-use state::cells::SELECT;
 use state::cells::add_cell;
 use state::defined::Defined;
 use state::defined::Made;
@@ -44,13 +42,10 @@ fn case_cells(w: &mut [u16; WORDS]) -> u16
         let kids = children_of(w, j);
         h = add_cell(
             w,
-            Cell {
-                tag: CASE,
-                before: h,
-                a: body,
-                b: kids,
-                c: 0,
-                d: 0,
+            Cell::Case {
+                after: h,
+                region: body,
+                children: kids,
             },
         );
     }
@@ -65,13 +60,12 @@ fn add_select(w: &mut [u16; WORDS], r: u16, node: u16, shape: u16, v: u16) -> u1
     let before = children(w, r);
     let h = add_cell(
         w,
-        Cell {
-            tag: SELECT,
+        Cell::Select {
             before,
-            a: node,
-            b: shape,
-            c: v,
-            d: cases,
+            node,
+            shape,
+            scrutinee: v,
+            cases,
         },
     );
     set_children(w, r, h);

@@ -9,7 +9,7 @@ use merging::planning::TO_MERGE;
 use merging::planning::per_case_condition;
 use merging::planning::per_case_deferred;
 use state::cases::case_count;
-use state::cells::cell_a;
+use state::cells::select_node;
 use state::conditions::define_merge;
 use state::defined::Defined;
 use state::defined::Made;
@@ -122,7 +122,7 @@ fn emit_bundle(w: &mut [u16; WORDS], h: u16, q: u16) -> Made
     ensures { λ a. ⌜ OfRecord (now (w .entry)) (λ g. words.EmitBundle g h q (now (w .entry)) (now (w .exit)) a) ⌝ }
 {
     let places = per_case_deferred(w, target(w, q));
-    let node = cell_a(w, h);
+    let node = select_node(w, h);
     if let Made::Full = emit_inputs(w, node, q, &places) {
         return Made::Full;
     }

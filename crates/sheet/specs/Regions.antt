@@ -1,11 +1,11 @@
 -- The lines of regions and of sets, as the code puts them.
 use mathlib.Core.Path.{_≡_}
-use mathlib.Core.List.{List, [], _∷_, _++_}
-use Prim.Native.Nat.{ℕ, _+_, _-_, _<_}
+use mathlib.Core.List.{List, [], _∷_}
+use Prim.Native.Nat.{ℕ, _-_, _<_}
 use lib.ListN.{length, getD}
 use Rattle.meaning.specs.Graph.{Graph, region}
 use Rattle.meaning.specs.Runs.{Nodes}
-use Rattle.nesting.specs.Nesting.{NestState, Piece, piece, plain, unclaimed-from, StructurizeRegionState, not-begun}
+use Rattle.nesting.specs.Nesting.{NestState, Piece, piece, unclaimed-from, StructurizeRegionState, not-begun}
 use Rattle.nesting.specs.Nesting.{DeferredEdgeBundle, DeferredEdgeBundleSet, region-body}
 use Rattle.nesting.specs.Sheet as sheet
 use Rattle.state.specs.Sections.{section, cells, word, kinds, children}
@@ -14,18 +14,9 @@ use Rattle.shown.specs.States.{ShowsBody, ShowsOwnSet}
 use Rattle.writing.specs.declared.place.Place.{Place}
 use Rattle.writing.specs.Puts.{Puts}
 use Rattle.writing.specs.laws.Rows.{run}
-use Rattle.writing.specs.Parts.{OfState, most, nodes-part, each, defer-part}
+use Rattle.writing.specs.Parts.{OfState, nodes-part, values-part, each, defer-part}
 use Rattle.sheet.specs.Pieces.{region-lines, piece-part, set-part, lines-part}
 use Rattle.sheet.specs.laws.Leftovers.{ready-lines, given-set}
-
--- ---- A region's line in front of its outputs.
-abbrev pub region-front : Graph → ℕ → Nodes → List ℕ
-region-front g r ks =
-    (0 ∷ r ∷ length (region g r .inputs) ∷ region g r .inputs) ++ (most (length (sheet.kids ks)) ∷ sheet.kids ks)
-
-abbrev pub PutsFront : List ℕ → ℕ → List ℕ → Place → List ℕ → Place → Type 0
-PutsFront w r out at out′ at′ =
-    OfState w (λ g s. (ks : Nodes) → ShowsChildren g w (word w children r) ks → Puts out at (plain (region-front g r ks)) out′ at′)
 
 -- ---- A region without outputs; the entry of a whole form, with those of its one deferred edge.
 abbrev pub PutsPiece : List ℕ → ℕ → List ℕ → Place → List ℕ → Place → Type 0
@@ -35,6 +26,11 @@ PutsPiece w r out at out′ at′ =
 abbrev pub PutsWhole : List ℕ → List ℕ → Place → List ℕ → Place → Type 0
 PutsWhole w out at out′ at′ = OfState w (λ g s. (ks : Nodes) (e : DeferredEdgeBundle)
     → ShowsBody g w (g .entry) (region-body ks (e ∷ [])) → Puts out at (region-lines g s (g .entry) ks (e .target-inputs)) out′ at′)
+
+-- The outputs of a whole form, whose body is region r.
+abbrev pub PutsWholeOutputs : List ℕ → ℕ → List ℕ → Place → List ℕ → Place → Type 0
+PutsWholeOutputs w r out at out′ at′ = OfState w (λ g s. (ks : Nodes) (e : DeferredEdgeBundle)
+    → ShowsBody g w r (region-body ks (e ∷ [])) → Puts out at (values-part s (e .target-inputs)) out′ at′)
 
 -- ---- The regions of a leftover, each by its state.
 abbrev pub state-at : NestState → ℕ → StructurizeRegionState

@@ -6,9 +6,9 @@ use Rattle.meaning.specs.Graph.{Graph}
 use Rattle.meaning.specs.Runs.{Nodes, Cases, case-count}
 use Rattle.nesting.specs.Nesting.{NestState}
 use Rattle.state.specs.Sections.{section, cells}
+use Rattle.state.specs.CellRows.{cell-tag}
 use Rattle.shown.specs.Cells.{ShowsNodes, ShowsCaseCells}
 use Rattle.children.specs.CellByCell.{CellAdded}
-use Rattle.children.specs.CellByCell.{cell-word}
 use Rattle.writing.specs.declared.place.Place.{Place}
 use Rattle.writing.specs.Puts.{Part, Puts}
 use Rattle.writing.specs.laws.PutsLaws.{_⊕_}
@@ -18,7 +18,7 @@ use Rattle.loop_lines.specs.OfLoop.{OfLoop}
 
 abbrev pub PutsCell : List ℕ → ℕ → List ℕ → Place → List ℕ → Place → Type 0
 PutsCell w h out at out′ at′ =
-    OfState w (λ g s. (ks : Nodes) → CellAdded g w h ks (cell-word w h 0) → Puts out at (nodes-part s ks) out′ at′)
+    OfState w (λ g s. (ks : Nodes) → CellAdded g w h ks (cell-tag w h) → Puts out at (nodes-part s ks) out′ at′)
 
 -- The cases from place j on. No select has more than eight.
 abbrev pub PutsCases : List ℕ → ℕ → ℕ → ℕ → List ℕ → Place → List ℕ → Place → Type 0

@@ -2,7 +2,7 @@
 // body's), and the lines that stand before them. They are apart from the walk, and a list that is a loop alone is no level of its own,
 // so that the walk takes little stack.
 ghost use mathlib.Core.Path.{_≡_};
-ghost use Rattle.children.specs.CellByCell.{«cell-word»};
+ghost use Rattle.state.specs.CellRows as rows;
 ghost use Rattle.sheet.specs.Inside as inside;
 use block_lines::blocks::put_blocks;
 use block_lines::exits::put_exit;
@@ -16,23 +16,25 @@ use state::cells::EXIT;
 use state::cells::JOIN;
 use state::cells::LOOP;
 use state::cells::SELECT;
-use state::cells::cell_a;
-use state::cells::cell_b;
-use state::cells::cell_before;
+use state::cells::blocks_region;
 use state::cells::cell_tag;
 use state::cells::children_of_case;
-use state::cells::inner_list;
-use state::cells::joined_list;
+use state::cells::exit_node;
+use state::cells::exit_region;
+use state::cells::join_list;
+use state::cells::loop_body;
+use state::cells::select_cases;
+use state::cells::select_node;
 use store::WORDS;
 use writing::place::Place;
 
 // How many lists stand inside cell h.
 pub fn inner_total(w: &[u16; WORDS], h: u16) -> u16
-    ensures { λ a. ⌜ inside.InnerTotal (now (w .entry)) h a («cell-word» (now (w .entry)) h 0) ⌝ }
+    ensures { λ a. ⌜ inside.InnerTotal (now (w .entry)) h a (rows.«cell-tag» (now (w .entry)) h) ⌝ }
 {
     let tag = cell_tag(w, h);
     if tag == SELECT {
-        return case_total(w, inner_list(w, h));
+        return case_total(w, select_cases(w, h));
     }
     if tag == JOIN {
         return 1;
@@ -49,13 +51,13 @@ pub fn inner_at(w: &[u16; WORDS], h: u16, j: u16) -> u16
 {
     let tag = cell_tag(w, h);
     if tag == SELECT {
-        let c = case_cell(w, inner_list(w, h), j);
+        let c = case_cell(w, select_cases(w, h), j);
         return children_of_case(w, c);
     }
     if tag == JOIN {
-        return joined_list(w, h);
+        return join_list(w, h);
     }
-    cell_before(w, h)
+    loop_body(w, h)
 }
 
 // Whether a list is a loop alone: nothing stands before a loop.
@@ -73,7 +75,7 @@ pub fn walked_list(w: &[u16; WORDS], list: u16) -> u16
     ensures { λ a. ⌜ a ≡ inside.«walked-list» (now (w .entry)) list ⌝ }
 {
     if is_loop(w, list) {
-        return cell_before(w, list);
+        return loop_body(w, list);
     }
     list
 }
@@ -90,25 +92,25 @@ fn put_walked_lines(w: &[u16; WORDS], out: &mut [u32], at: Place, list: u16) -> 
 
 // The line before a list inside: only a case has one.
 fn put_inner_line(w: &[u16; WORDS], out: &mut [u32], at: Place, h: u16, j: u16) -> Place
-    ensures { λ a. ⌜ inside.InnerLine (now (w .entry)) h j (now (out .entry)) at (now (out .exit)) a («cell-word» (now (w .entry)) h 0) ⌝ }
+    ensures { λ a. ⌜ inside.InnerLine (now (w .entry)) h j (now (out .entry)) at (now (out .exit)) a (rows.«cell-tag» (now (w .entry)) h) ⌝ }
 {
     if cell_tag(w, h) == SELECT {
-        let c = case_cell(w, inner_list(w, h), j);
-        return put_case_line(w, out, at, c, cell_a(w, h), j);
+        let c = case_cell(w, select_cases(w, h), j);
+        return put_case_line(w, out, at, c, select_node(w, h), j);
     }
     at
 }
 
 // The cell's own lines, before all that stands inside it.
 fn put_own_lines(w: &[u16; WORDS], out: &mut [u32], at: Place, h: u16) -> Place
-    ensures { λ a. ⌜ inside.OwnLines (now (w .entry)) h (now (out .entry)) at (now (out .exit)) a («cell-word» (now (w .entry)) h 0) ⌝ }
+    ensures { λ a. ⌜ inside.OwnLines (now (w .entry)) h (now (out .entry)) at (now (out .exit)) a (rows.«cell-tag» (now (w .entry)) h) ⌝ }
 {
     let tag = cell_tag(w, h);
     if tag == BLOCKS {
-        return put_blocks(w, out, at, cell_a(w, h));
+        return put_blocks(w, out, at, blocks_region(w, h));
     }
     if tag == EXIT {
-        return put_exit(w, out, at, cell_a(w, h), cell_b(w, h));
+        return put_exit(w, out, at, exit_node(w, h), exit_region(w, h));
     }
     if tag == SELECT {
         return put_select_line(w, out, at, h);

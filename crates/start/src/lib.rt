@@ -4,13 +4,11 @@ ghost use Prim.Native.Nat.{min};
 ghost use Rattle.record.specs.Stands.{OfRecord};
 ghost use Rattle.start.specs.Words as words;
 use state::defined::RETURNED;
+use state::defined::set_first_totals;
 use state::defined::set_head;
 use state::regions::NOT_BEGUN;
 use state::regions::set_region_state;
 use state::rewrites::set_no_rewrites;
-use state::sections::HEAD;
-use state::sections::HEAD_WORDS;
-use state::sections::put_all;
 use state::sets::SPARE;
 use state::sets::put_set_start;
 use state::sets::slot;
@@ -54,8 +52,7 @@ fn start_totals(w: &mut [u16; WORDS], n: u16)
     ensures { λ _. ⌜ OfRecord (now (w .entry)) (λ g. now (w .exit) ≡ words.counted g n (now (w .entry))) ⌝ }
 {
     let blocks = as_word(fields::blocks_before(w, n));
-    let xs = [n, blocks, 0, 0, 1, 0, 0];
-    put_all(w, HEAD, HEAD_WORDS, 0, &xs);
+    set_first_totals(w, n, blocks);
 }
 
 // A Return never has more values.

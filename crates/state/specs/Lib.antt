@@ -1,4 +1,5 @@
 pub mod Sections
+pub mod CellRows
 pub mod Tables
 pub mod Values
 pub mod laws

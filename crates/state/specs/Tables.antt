@@ -7,17 +7,16 @@ use lib.Dec.{ltb, eqb}
 use Rattle.state.specs.declared.defined.Defined.{Defined}
 use Rattle.state.specs.declared.defined.Defined.the-variants.{Number, Full}
 use Rattle.state.specs.declared.cells.Cell.{Cell}
+use Rattle.state.specs.declared.cells.Cell.the-variants.{Join}
 use Rattle.state.specs.declared.cases.Case.{Case}
 use Rattle.state.specs.Sections.{section, word, stored, stored-all, filled, head, cells, rewrites, bundles, set-starts, set-lengths}
 use Rattle.state.specs.Sections.{cases, levels, outputs, conditions, most-cells, attempts-at, cases-at, cells-at, entries-at}
 use Rattle.state.specs.Sections.{merges-at, outputs-at}
+use Rattle.state.specs.CellRows.{cell-words}
 use Rattle.meaning.specs.Lists.{pick}
 use Rattle.nesting.specs.Nesting.{most-regions, most-merges, most-outputs}
 
--- A handle, or 0 where it names no earlier cell; a condition, or true where it names no earlier one.
-unfoldable pub earlier : ℕ → ℕ → ℕ
-earlier p h = pick (ltb p h) p 0
-
+-- A condition, or true where it names no earlier one.
 unfoldable pub earlier-part : ℕ → ℕ → ℕ
 earlier-part p c = pick (ltb p c) p 1
 
@@ -29,10 +28,6 @@ shape-size shape = pick (eqb shape 0) 2 (pick (ltb shape 8) shape 8)
 pub data Defines (i limit : ℕ) (l l′ : List ℕ) : Defined → Type 0 where
   defined : {n : ℕ} → n ≡ word l head i → n < limit → l′ ≡ stored l head i (n + 1) → Defines i limit l l′ (Number n)
   full : limit ≤ word l head i → l′ ≡ l → Defines i limit l l′ Full
-
--- The six words of a cell.
-abbrev pub cell-words : Cell → List ℕ
-cell-words x = x .tag ∷ x .before ∷ x .a ∷ x .b ∷ x .c ∷ x .d ∷ []
 
 -- A cell more, at the handle that the head counts.
 pub data Adds (l l′ : List ℕ) (x : Cell) (h : ℕ) : Type 0 where
@@ -161,13 +156,10 @@ pub data MergeDefined (select : ℕ) (parts l l′ : List ℕ) : Defined → Typ
 abbrev pub select-word : List ℕ → ℕ → ℕ → ℕ
 select-word l c i = word l cells (6 * word l conditions (9 * c + 0) + i)
 
-abbrev pub join-cell : ℕ → ℕ → Cell
-join-cell a b = record { tag = 2; before = a; a = b; b = 0; c = 0; d = 0 }
-
 pub data Joins (l l′ : List ℕ) (a b h : ℕ) : Type 0 where
   first-empty : a ≡ 0 → l′ ≡ l → h ≡ b → Joins l l′ a b h
   second-empty : (a ≡ 0 → ⊥) → b ≡ 0 → l′ ≡ l → h ≡ a → Joins l l′ a b h
-  joined : (a ≡ 0 → ⊥) → (b ≡ 0 → ⊥) → Adds l l′ (join-cell a b) h → Joins l l′ a b h
+  joined : (a ≡ 0 → ⊥) → (b ≡ 0 → ⊥) → Adds l l′ (Join a b) h → Joins l l′ a b h
 
 -- ---- A bundle leaves its set: the last takes its place, or those behind it move up.
 abbrev pub bundle-copied : List ℕ → ℕ → ℕ → List ℕ

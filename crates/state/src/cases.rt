@@ -125,6 +125,13 @@ pub fn set_case(w: &mut [u16; WORDS], j: u16, x: Case)
     put_all(w, CASES, CASES_WORDS, 10 * (j as usize), &xs);
 }
 
+// All four of its inputs.
+pub fn set_case_inputs(w: &mut [u16; WORDS], j: u16, vs: &[u16; 4])
+    ensures { λ _. ⌜ now (w .exit) ≡ sections.«stored-all» (now (w .entry)) sections.cases (10 * j + 6) (now (vs .entry)) ⌝ }
+{
+    put_all(w, CASES, CASES_WORDS, 10 * (j as usize) + 6, vs);
+}
+
 pub fn case_at(w: &[u16; WORDS], j: u16) -> Case
     ensures { λ a. ⌜ a ≡ tables.«case-row» (now (w .entry)) j ⌝ }
 {

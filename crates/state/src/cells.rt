@@ -2,6 +2,7 @@
 // h is cell h, the last of it, with the list before it (of cases: the first, with those after it). Nothing in a cell ever changes.
 ghost use mathlib.Core.Path.{_≡_};
 ghost use Prim.Native.Nat.{_+_, _*_, _≤_};
+ghost use Rattle.state.specs.CellRows as rows;
 ghost use Rattle.state.specs.Sections as sections;
 ghost use Rattle.state.specs.Tables as tables;
 use crate::defined::CELL_TOTAL;
@@ -26,26 +27,57 @@ pub const SELECT: u16 = 4;
 pub const LOOP: u16 = 5;
 
 // A case of a select; an input that a loop keeps.
-pub const CASE: u16 = 6;
+const CASE: u16 = 6;
 
-pub const KEPT: u16 = 7;
+const KEPT: u16 = 7;
 
 // No nesting makes more: docs/STATE.md has the sum.
 const MOST_CELLS: u16 = 652;
 
-// A cell by its six words. `before` is the list that it follows; the others are by tag:
-// blocks region · join list · exit node, region · select node, shape, scrutinee, cases · loop node, body, repeat value, kept inputs;
-// before: the body's children · case region, children (before: the cases after it) · kept input's number, wrapper region, value passed back
-pub struct Cell {
-    pub tag: u16,
-    pub before: u16,
-    pub a: u16,
-    pub b: u16,
-    pub c: u16,
-    pub d: u16,
+// A cell by its tag. What a list or the cases name is an earlier cell.
+pub enum Cell {
+    Blocks {
+        region: u16,
+    },
+    Join {
+        before: u16,
+        list: u16,
+    },
+    Exit {
+        before: u16,
+        node: u16,
+        region: u16,
+    },
+    Select {
+        before: u16,
+        node: u16,
+        shape: u16,
+        scrutinee: u16,
+        cases: u16,
+    },
+    // Nothing stands before a loop: its body's children take that place.
+    Loop {
+        body: u16,
+        node: u16,
+        header: u16,
+        repeat: u16,
+        kept: u16,
+    },
+    Case {
+        after: u16,
+        region: u16,
+        children: u16,
+    },
+    // The number of the input, the wrapper region, and the value that is passed back.
+    Kept {
+        before: u16,
+        input: u16,
+        wrapper: u16,
+        back: u16,
+    },
 }
 
-pub fn cell_word(w: &[u16; WORDS], h: u16, i: usize) -> u16
+fn cell_word(w: &[u16; WORDS], h: u16, i: usize) -> u16
     requires { ⌜ i ≤ 65600 ⌝ }
     ensures { λ a. ⌜ a ≡ sections.word (now (w .entry)) sections.cells (6 * h + i) ⌝ }
 {
@@ -54,7 +86,7 @@ pub fn cell_word(w: &[u16; WORDS], h: u16, i: usize) -> u16
 
 // An earlier handle.
 fn earlier(p: u16, h: u16) -> u16
-    ensures { λ a. ⌜ a ≡ tables.earlier p h ⌝ }
+    ensures { λ a. ⌜ a ≡ rows.earlier p h ⌝ }
 {
     if p < h {
         return p;
@@ -62,59 +94,187 @@ fn earlier(p: u16, h: u16) -> u16
     0
 }
 
+// The list that a cell names at one of its words.
+fn list_word(w: &[u16; WORDS], h: u16, i: usize) -> u16
+    requires { ⌜ i ≤ 65600 ⌝ }
+    ensures { λ a. ⌜ a ≡ rows.earlier (sections.word (now (w .entry)) sections.cells (6 * h + i)) h ⌝ }
+{
+    earlier(cell_word(w, h, i), h)
+}
+
 pub fn cell_tag(w: &[u16; WORDS], h: u16) -> u16
-    ensures { λ a. ⌜ a ≡ sections.word (now (w .entry)) sections.cells (6 * h + 0) ⌝ }
+    ensures { λ a. ⌜ a ≡ rows.«cell-tag» (now (w .entry)) h ⌝ }
 {
     cell_word(w, h, 0)
 }
 
+// The list that a cell follows.
 pub fn cell_before(w: &[u16; WORDS], h: u16) -> u16
-    ensures { λ a. ⌜ a ≡ tables.earlier (sections.word (now (w .entry)) sections.cells (6 * h + 1)) h ⌝ }
+    ensures { λ a. ⌜ a ≡ rows.«cell-before» (now (w .entry)) h ⌝ }
 {
-    earlier(cell_word(w, h, 1), h)
+    list_word(w, h, 1)
 }
 
-pub fn cell_a(w: &[u16; WORDS], h: u16) -> u16
-    ensures { λ a. ⌜ a ≡ sections.word (now (w .entry)) sections.cells (6 * h + 2) ⌝ }
+// The node of an exit, a select or a loop.
+pub fn cell_node(w: &[u16; WORDS], h: u16) -> u16
+    ensures { λ a. ⌜ a ≡ rows.«cell-node» (now (w .entry)) h ⌝ }
 {
     cell_word(w, h, 2)
 }
 
-pub fn cell_b(w: &[u16; WORDS], h: u16) -> u16
-    ensures { λ a. ⌜ a ≡ sections.word (now (w .entry)) sections.cells (6 * h + 3) ⌝ }
+pub fn blocks_region(w: &[u16; WORDS], h: u16) -> u16
+    ensures { λ a. ⌜ a ≡ rows.«blocks-region» (now (w .entry)) h ⌝ }
+{
+    cell_word(w, h, 2)
+}
+
+pub fn join_list(w: &[u16; WORDS], h: u16) -> u16
+    ensures { λ a. ⌜ a ≡ rows.«join-list» (now (w .entry)) h ⌝ }
+{
+    list_word(w, h, 2)
+}
+
+pub fn exit_node(w: &[u16; WORDS], h: u16) -> u16
+    ensures { λ a. ⌜ a ≡ rows.«exit-node» (now (w .entry)) h ⌝ }
+{
+    cell_word(w, h, 2)
+}
+
+pub fn exit_region(w: &[u16; WORDS], h: u16) -> u16
+    ensures { λ a. ⌜ a ≡ rows.«exit-region» (now (w .entry)) h ⌝ }
 {
     cell_word(w, h, 3)
 }
 
-pub fn cell_c(w: &[u16; WORDS], h: u16) -> u16
-    ensures { λ a. ⌜ a ≡ sections.word (now (w .entry)) sections.cells (6 * h + 4) ⌝ }
+pub fn select_node(w: &[u16; WORDS], h: u16) -> u16
+    ensures { λ a. ⌜ a ≡ rows.«select-node» (now (w .entry)) h ⌝ }
+{
+    cell_word(w, h, 2)
+}
+
+pub fn select_shape(w: &[u16; WORDS], h: u16) -> u16
+    ensures { λ a. ⌜ a ≡ rows.«select-shape» (now (w .entry)) h ⌝ }
+{
+    cell_word(w, h, 3)
+}
+
+pub fn select_scrutinee(w: &[u16; WORDS], h: u16) -> u16
+    ensures { λ a. ⌜ a ≡ rows.«select-scrutinee» (now (w .entry)) h ⌝ }
 {
     cell_word(w, h, 4)
 }
 
-pub fn cell_d(w: &[u16; WORDS], h: u16) -> u16
-    ensures { λ a. ⌜ a ≡ sections.word (now (w .entry)) sections.cells (6 * h + 5) ⌝ }
+pub fn select_cases(w: &[u16; WORDS], h: u16) -> u16
+    ensures { λ a. ⌜ a ≡ rows.«select-cases» (now (w .entry)) h ⌝ }
 {
-    cell_word(w, h, 5)
+    list_word(w, h, 5)
 }
 
-// The list that a cell names besides the one before it: a join's, a case's children; a select's cases, a loop's kept inputs.
-pub fn joined_list(w: &[u16; WORDS], h: u16) -> u16
-    ensures { λ a. ⌜ a ≡ tables.earlier (sections.word (now (w .entry)) sections.cells (6 * h + 2)) h ⌝ }
+// The children of a loop's body.
+pub fn loop_body(w: &[u16; WORDS], h: u16) -> u16
+    ensures { λ a. ⌜ a ≡ rows.«loop-body» (now (w .entry)) h ⌝ }
 {
-    earlier(cell_a(w, h), h)
+    list_word(w, h, 1)
+}
+
+pub fn loop_node(w: &[u16; WORDS], h: u16) -> u16
+    ensures { λ a. ⌜ a ≡ rows.«loop-node» (now (w .entry)) h ⌝ }
+{
+    cell_word(w, h, 2)
+}
+
+pub fn loop_header(w: &[u16; WORDS], h: u16) -> u16
+    ensures { λ a. ⌜ a ≡ rows.«loop-header» (now (w .entry)) h ⌝ }
+{
+    cell_word(w, h, 3)
+}
+
+pub fn loop_repeat(w: &[u16; WORDS], h: u16) -> u16
+    ensures { λ a. ⌜ a ≡ rows.«loop-repeat» (now (w .entry)) h ⌝ }
+{
+    cell_word(w, h, 4)
+}
+
+pub fn loop_kept(w: &[u16; WORDS], h: u16) -> u16
+    ensures { λ a. ⌜ a ≡ rows.«loop-kept» (now (w .entry)) h ⌝ }
+{
+    list_word(w, h, 5)
+}
+
+pub fn cases_after(w: &[u16; WORDS], h: u16) -> u16
+    ensures { λ a. ⌜ a ≡ rows.«cases-after» (now (w .entry)) h ⌝ }
+{
+    list_word(w, h, 1)
+}
+
+pub fn case_region(w: &[u16; WORDS], h: u16) -> u16
+    ensures { λ a. ⌜ a ≡ rows.«case-region» (now (w .entry)) h ⌝ }
+{
+    cell_word(w, h, 2)
 }
 
 pub fn children_of_case(w: &[u16; WORDS], h: u16) -> u16
-    ensures { λ a. ⌜ a ≡ tables.earlier (sections.word (now (w .entry)) sections.cells (6 * h + 3)) h ⌝ }
+    ensures { λ a. ⌜ a ≡ rows.«children-of-case» (now (w .entry)) h ⌝ }
 {
-    earlier(cell_b(w, h), h)
+    list_word(w, h, 3)
 }
 
-pub fn inner_list(w: &[u16; WORDS], h: u16) -> u16
-    ensures { λ a. ⌜ a ≡ tables.earlier (sections.word (now (w .entry)) sections.cells (6 * h + 5)) h ⌝ }
+pub fn kept_input(w: &[u16; WORDS], h: u16) -> u16
+    ensures { λ a. ⌜ a ≡ rows.«kept-input» (now (w .entry)) h ⌝ }
 {
-    earlier(cell_d(w, h), h)
+    cell_word(w, h, 2)
+}
+
+pub fn kept_wrapper(w: &[u16; WORDS], h: u16) -> u16
+    ensures { λ a. ⌜ a ≡ rows.«kept-wrapper» (now (w .entry)) h ⌝ }
+{
+    cell_word(w, h, 3)
+}
+
+pub fn kept_back(w: &[u16; WORDS], h: u16) -> u16
+    ensures { λ a. ⌜ a ≡ rows.«kept-back» (now (w .entry)) h ⌝ }
+{
+    cell_word(w, h, 4)
+}
+
+// The six words of a cell: its tag, the list before it, and what its tag has.
+fn cell_words(x: Cell) -> [u16; 6]
+    ensures { λ a. ⌜ a ≡ rows.«cell-words» x ⌝ }
+{
+    match x {
+        Cell::Blocks { region } => [BLOCKS, 0, region, 0, 0, 0],
+        Cell::Join { before, list } => [JOIN, before, list, 0, 0, 0],
+        Cell::Exit {
+            before,
+            node,
+            region,
+        } => [EXIT, before, node, region, 0, 0],
+        Cell::Select {
+            before,
+            node,
+            shape,
+            scrutinee,
+            cases,
+        } => [SELECT, before, node, shape, scrutinee, cases],
+        Cell::Loop {
+            body,
+            node,
+            header,
+            repeat,
+            kept,
+        } => [LOOP, body, node, header, repeat, kept],
+        Cell::Case {
+            after,
+            region,
+            children,
+        } => [CASE, after, region, children, 0, 0],
+        Cell::Kept {
+            before,
+            input,
+            wrapper,
+            back,
+        } => [KEPT, before, input, wrapper, back, 0],
+    }
 }
 
 // A cell more, and its handle. There is room for every cell that a nesting can make.
@@ -124,7 +284,7 @@ pub fn add_cell(w: &mut [u16; WORDS], x: Cell) -> u16
     let n = head(w, CELL_TOTAL);
     if n < MOST_CELLS {
         let at = 6 * (n as usize);
-        let xs = [x.tag, x.before, x.a, x.b, x.c, x.d];
+        let xs = cell_words(x);
         put_all(w, CELLS, CELLS_WORDS, at, &xs);
         set_head(w, CELL_TOTAL, n + 1);
         return n;
@@ -142,15 +302,5 @@ pub fn join(w: &mut [u16; WORDS], a: u16, b: u16) -> u16
     if b == 0 {
         return a;
     }
-    add_cell(
-        w,
-        Cell {
-            tag: JOIN,
-            before: a,
-            a: b,
-            b: 0,
-            c: 0,
-            d: 0,
-        },
-    )
+    add_cell(w, Cell::Join { before: a, list: b })
 }

@@ -4,7 +4,9 @@ ghost use mathlib.Core.Path.{_≡_};
 ghost use Prim.Native.Nat.{_+_, _*_, _≤_};
 ghost use Rattle.state.specs.Sections as sections;
 ghost use Rattle.state.specs.Tables as tables;
-use crate::cells::cell_word;
+use crate::cells::select_node;
+use crate::cells::select_scrutinee;
+use crate::cells::select_shape;
 use crate::defined::Defined;
 use crate::defined::MERGES;
 use crate::defined::MOST_MERGES;
@@ -36,30 +38,29 @@ fn cond_word(w: &[u16; WORDS], c: u16, i: usize) -> u16
     get(w, CONDITIONS, CONDITIONS_WORDS, 9 * (c as usize) + i)
 }
 
-// A word of its select's cell, where node, shape and scrutinee stand.
-fn select_word(w: &[u16; WORDS], c: u16, i: usize) -> u16
-    requires { ⌜ i ≤ 65600 ⌝ }
-    ensures { λ a. ⌜ a ≡ tables.«select-word» (now (w .entry)) c i ⌝ }
+// The cell of its select, where node, shape and scrutinee stand.
+fn cond_select(w: &[u16; WORDS], c: u16) -> u16
+    ensures { λ a. ⌜ a ≡ sections.word (now (w .entry)) sections.conditions (9 * c + 0) ⌝ }
 {
-    cell_word(w, cond_word(w, c, 0), i)
+    cond_word(w, c, 0)
 }
 
 pub fn cond_node(w: &[u16; WORDS], c: u16) -> u16
     ensures { λ a. ⌜ a ≡ tables.«select-word» (now (w .entry)) c 2 ⌝ }
 {
-    select_word(w, c, 2)
+    select_node(w, cond_select(w, c))
 }
 
 pub fn cond_shape(w: &[u16; WORDS], c: u16) -> u16
     ensures { λ a. ⌜ a ≡ tables.«select-word» (now (w .entry)) c 3 ⌝ }
 {
-    select_word(w, c, 3)
+    select_shape(w, cond_select(w, c))
 }
 
 pub fn cond_scrutinee(w: &[u16; WORDS], c: u16) -> u16
     ensures { λ a. ⌜ a ≡ tables.«select-word» (now (w .entry)) c 4 ⌝ }
 {
-    select_word(w, c, 4)
+    select_scrutinee(w, cond_select(w, c))
 }
 
 // An earlier condition.

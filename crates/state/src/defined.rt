@@ -1,5 +1,6 @@
 // Totals of all that was ever defined, each with document 01's limit: the first beyond is refused with 9. Attempts and twice.
 ghost use mathlib.Core.Path.{_≡_};
+ghost use mathlib.Core.List.{[], _∷_};
 ghost use Prim.Native.Nat.{_+_, _≤_};
 ghost use Rattle.nesting.specs.Nesting as limits;
 ghost use Rattle.state.specs.Sections as sections;
@@ -8,6 +9,7 @@ use crate::sections::HEAD;
 use crate::sections::HEAD_WORDS;
 use crate::sections::get;
 use crate::sections::put;
+use crate::sections::put_all;
 use store::WORDS;
 
 pub const REGIONS: usize = 0;
@@ -63,6 +65,22 @@ pub fn set_head(w: &mut [u16; WORDS], i: usize, x: u16)
     ensures { λ _. ⌜ now (w .exit) ≡ sections.stored (now (w .entry)) sections.head i x ⌝ }
 {
     put(w, HEAD, HEAD_WORDS, i, x);
+}
+
+// Type k of a Return's values.
+pub fn returned_type(w: &[u16; WORDS], k: u16) -> u16
+    ensures { λ a. ⌜ a ≡ sections.word (now (w .entry)) sections.head (sections.«types-at» + k) ⌝ }
+{
+    get(w, HEAD, HEAD_WORDS, RETURNED + 1 + (k as usize))
+}
+
+// Before the first claim: so many regions and nodes, no conditions and no outputs, cell 0, which is none, no attempts, and no note.
+pub fn set_first_totals(w: &mut [u16; WORDS], regions: u16, nodes: u16)
+    ensures { λ _. ⌜ now (w .exit) ≡ sections.«stored-all» (now (w .entry)) sections.head sections.«regions-at»
+        (regions ∷ nodes ∷ 0 ∷ 0 ∷ 1 ∷ 0 ∷ 0 ∷ []) ⌝ }
+{
+    let xs = [regions, nodes, 0, 0, 1, 0, 0];
+    put_all(w, HEAD, HEAD_WORDS, REGIONS, &xs);
 }
 
 // One more of what the head counts at i, within its limit.

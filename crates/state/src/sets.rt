@@ -167,6 +167,13 @@ pub fn set_bundle(w: &mut [u16; WORDS], b: u16, t: u16, n: IncomingEdgeCount, c:
     put_all(w, BUNDLES, BUNDLES_WORDS, 7 * (b as usize), &xs);
 }
 
+// All four of its inputs.
+pub fn set_target_inputs(w: &mut [u16; WORDS], b: u16, vs: &[u16; 4])
+    ensures { λ _. ⌜ now (w .exit) ≡ sections.«stored-all» (now (w .entry)) sections.bundles (7 * b + 3) (now (vs .entry)) ⌝ }
+{
+    put_all(w, BUNDLES, BUNDLES_WORDS, 7 * (b as usize) + 3, vs);
+}
+
 pub fn copy_bundle(w: &mut [u16; WORDS], to: u16, from: u16)
     ensures { λ _. ⌜ now (w .exit) ≡ sections.«stored-all» (now (w .entry)) sections.bundles (7 * to)
         (tables.«bundle-words» (now (w .entry)) from) ⌝ }

@@ -10,6 +10,7 @@ use Rattle.format.specs.Valid.{Valid}
 use Rattle.nesting.specs.Nesting.{NestState, NodeOutput, LookUp, plain, _⊛_, look-up-last, look-up-each, look-up-node, look-up-nodes}
 use Rattle.nesting.specs.Nesting.{look-up-cases, DeferredEdgeBundle, DeferredEdgeBundleSet, look-up-bundle, condition-in}
 use Rattle.nesting.specs.Sheet as sheet
+use Rattle.nesting.specs.SheetNumbers.{lead-region, lead-block, lead-select, lead-loop, lead-exit}
 use Rattle.nesting.specs.lookups.ChainEnds.{ChainsEnd}
 use Rattle.nesting.specs.decoding.Lines.{words-of}
 use Rattle.shown.specs.States.{ShowsState}
@@ -35,25 +36,25 @@ module _ (count : ℕ → ℕ) (nodes : List ℕ) where
   -- Region, inputs' types, child nodes, output values.
   abbrev pub region-words : ℕ → List ℕ → Nodes → List Value → List ℕ
   region-words r ts ks vs =
-      (0 ∷ r ∷ length ts ∷ ts) ++ (count (length (sheet.kids ks)) ∷ sheet.kids ks) ++ sheet.values nodes vs .words
+      (lead-region ∷ r ∷ length ts ∷ ts) ++ (count (length (sheet.kids ks)) ∷ sheet.kids ks) ++ sheet.values nodes vs .words
 
   -- Node, kind, value, case regions, types of its outputs.
   abbrev pub select-words : SelectNode → Cases → List ℕ
   select-words x cs =
-      (2 ∷ x .number ∷ []) ++ sheet.kind (x .kind) .words ++ sheet.value nodes (x .scrutinee) .words
+      (lead-select ∷ x .number ∷ []) ++ sheet.kind (x .kind) .words ++ sheet.value nodes (x .scrutinee) .words
       ++ sheet.numbers (sheet.case-numbers cs) .words ++ sheet.numbers (map (λ o. o .type) (x .outputs)) .words
 
   -- Node, first inputs, body region, repeat value.
   abbrev pub loop-words : LoopNode → List ℕ
-  loop-words x = (3 ∷ x .number ∷ []) ++ sheet.values nodes (x .initial-inputs) .words ++ (x .body ∷ []) ++ sheet.value nodes
+  loop-words x = (lead-loop ∷ x .number ∷ []) ++ sheet.values nodes (x .initial-inputs) .words ++ (x .body ∷ []) ++ sheet.value nodes
       (x .repeat) .words
 
   unfoldable mutual
     pub node-words : Node → List ℕ
-    node-words (block n r k is) = 1 ∷ n ∷ sheet.list (sheet.items nodes r k is) .words
+    node-words (block n r k is) = lead-block ∷ n ∷ sheet.list (sheet.items nodes r k is) .words
     node-words (select x cs) = select-words x cs ++ cases-words cs
     node-words (loop x ks) = loop-words x ++ region-words (x .body) (x .types) ks (x .outputs) ++ nodes-words ks
-    node-words (exit n op vs) = 4 ∷ n ∷ op ∷ sheet.values nodes vs .words
+    node-words (exit n op vs) = lead-exit ∷ n ∷ op ∷ sheet.values nodes vs .words
 
     pub nodes-words : Nodes → List ℕ
     nodes-words ⟨⟩ = []

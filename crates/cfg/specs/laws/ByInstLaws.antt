@@ -28,7 +28,7 @@ use Rattle.state.specs.declared.defined.Made.the-variants.{Done, Full}
 use Rattle.selects.specs.declared.define.Scrutinee.the-variants as scrutinee
 use Rattle.selects.specs.Into.{StructurizesInto}
 use Rattle.cfg.specs.ByState.{backedge-at}
-use Rattle.shown.specs.laws.CellSteps.{exit-cell}
+use Rattle.state.specs.declared.cells.Cell.the-variants.{Exit}
 use Rattle.nesting.specs.Nesting.{most-nodes}
 use Rattle.cfg.specs.ByInst.{AddsBlocks, no-blocks, some-blocks, AddsExit, exit-full, exit-added, Branches, branches, Selects}
 use Rattle.cfg.specs.ByInst.{selects, ByTerminator, ByControlInst, by-inst, ResolvesBy, resolves, own-bundle, backedges-deferred}
@@ -42,7 +42,7 @@ pub exit-none : {w w′ : List ℕ} {r : ℕ} {a : Defined} → Defines 1 most-n
 exit-none d e = exit-full (rw e at d)
 
 pub exit-some : {w w₁ w₂ w′ : List ℕ} {r node h before : ℕ} {a : Defined} → Defines 1 most-nodes w w₁ a → a ≡ Number node
-    → before ≡ word w₁ children r → Adds w₁ w₂ (exit-cell before node r) h → w′ ≡ stored w₂ children r h → AddsExit w r w′ Done
+    → before ≡ word w₁ children r → Adds w₁ w₂ (Exit before node r) h → w′ ≡ stored w₂ children r h → AddsExit w r w′ Done
 exit-some d e b x s = exit-added (rw e at d) (rw b at x) s
 
 module _ (g : Graph) (w : List ℕ) (r : ℕ) {w₁ : List ℕ} (st : Stands w g) (filled : w₁ ≡ cases-filled g w r) where

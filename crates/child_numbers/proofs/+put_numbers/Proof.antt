@@ -17,7 +17,7 @@ use Rattle.child_numbers.proofs.+put_numbers.Lts-put_numbers as lts
 use Rattle.child_numbers.proofs.put_cell_numbers.Reads as put-cell-numbers
 use Rattle.children.proofs.list_before.Reads as list-before
 use Rattle.state.proofs.cells.cell_tag.Reads as cell-tag
-use Rattle.state.proofs.cells.joined_list.Reads as joined-list
+use Rattle.state.proofs.cells.join_list.Reads as join-list
 use Rattle.child_numbers.proofs.+put_numbers.{statement}
 use Rattle.child_numbers.proofs.+put_numbers.Tie.{close}
 
@@ -35,8 +35,8 @@ abbrev called : ℕ → lts.Claims
 called t = (
   cell-tag.Asked,
   cell-tag.Learnt,
-  joined-list.Asked,
-  joined-list.Learnt,
+  join-list.Asked,
+  join-list.Learnt,
   below t,
   reads.Post,
   put-cell-numbers.Asked,
@@ -58,8 +58,8 @@ module _ (t : ℕ) where
   cell-tag-requires : lts.Need-cell-tag-requires (called t) (at t) reads.Post Inv-loop μ-loop
   cell-tag-requires c κs = search needs
 
-  joined-list-requires : lts.Need-joined-list-requires (called t) (at t) reads.Post Inv-loop μ-loop
-  joined-list-requires c κs = search needs
+  join-list-requires : lts.Need-join-list-requires (called t) (at t) reads.Post Inv-loop μ-loop
+  join-list-requires c κs = search needs
 
   put-numbers-requires : lts.Need-put-numbers-requires (called t) (at t) reads.Post Inv-loop μ-loop
   put-numbers-requires c κs =
@@ -68,7 +68,7 @@ module _ (t : ℕ) where
         omega (
           arith,
           at-pre .pre .0,
-          named-below _ (c .joined-list .ensures)
+          named-below _ (c .join-list .ensures)
               (at-loop-test .loop-test .taken),
         ),
         tt,
@@ -107,7 +107,7 @@ pub +put-numbers-spec : {M : Type 1} → statement M
 +put-numbers-spec = close measure λ t. lts.spec (called t) (at t) reads.Post Inv-loop μ-loop
     (loop-holds t)
     (cell-tag-requires t)
-    (joined-list-requires t)
+    (join-list-requires t)
     (put-numbers-requires t)
     (put-cell-numbers-requires t)
     (list-before-requires t)

@@ -12,9 +12,10 @@ use Rattle.meaning.specs.facts.Parts.{from-place, none-from}
 use Rattle.record.specs.Stands.{Stands, OfRecord}
 use Rattle.nesting.specs.Nesting.{plain, join, blocks-from}
 use Rattle.nesting.specs.Sheet.{kids}
+use Rattle.state.specs.CellRows.{tag-blocks, tag-join, cell-tag, cell-node, blocks-region, join-list}
 use Rattle.shown.specs.laws.CellSteps.{no-list}
 use Rattle.children.specs.CellByCell.{CellAdded, added-blocks, added-list, added-exit, added-select, added-loop, ListAppended, appends}
-use Rattle.children.specs.CellByCell.{cell-word, list-at, list-before}
+use Rattle.children.specs.CellByCell.{list-before}
 use Rattle.children.specs.laws.CellByCellLaws.{appended}
 use Rattle.writing.specs.declared.place.Place.{Place}
 use Rattle.writing.specs.Puts.{Puts}
@@ -57,7 +58,7 @@ module _ (w : List ℕ) (r first : ℕ) {n : ℕ} (size : OfRecord w (λ g. n �
 
 -- ---- What a cell adds.
 module _ (w : List ℕ) (h : ℕ) {out out′ : List ℕ} {x x′ : Counted} where
-  pub cell-blocks : {t r : ℕ} → t ≡ cell-word w h 0 → t ≡ 1 → r ≡ cell-word w h 2 → PutsBlocks w r out x out′ x′
+  pub cell-blocks : {t r : ℕ} → t ≡ cell-tag w h → t ≡ tag-blocks → r ≡ blocks-region w h → PutsBlocks w r out x out′ x′
       → PutsCellNumbers w h out x out′ x′
   cell-blocks is tag of p g s ks added other = go added (omega arith)
     where
@@ -68,11 +69,11 @@ module _ (w : List ℕ) (h : ℕ) {out out′ : List ℕ} {x x′ : Counted} whe
       go (added-select _ _ _ _) z = absurd (omega arith)
       go (added-loop _ _ _ _ _) z = absurd (omega arith)
 
-  pub cell-one : {t n : ℕ} → t ≡ cell-word w h 0 → (t ≡ 1 → ⊥) → n ≡ cell-word w h 2 → PutsNumbers out x (n ∷ []) out′ x′
+  pub cell-one : {t n : ℕ} → t ≡ cell-tag w h → (t ≡ tag-blocks → ⊥) → n ≡ cell-node w h → PutsNumbers out x (n ∷ []) out′ x′
       → PutsCellNumbers w h out x out′ x′
   cell-one is tag of p g s ks added other = go added refl
     where
-      go : {m : ℕ} → CellAdded g w h ks m → m ≡ cell-word w h 0 → PutsNumbers out x (kids ks) out′ x′
+      go : {m : ℕ} → CellAdded g w h ks m → m ≡ cell-tag w h → PutsNumbers out x (kids ks) out′ x′
       go (added-blocks _ e) z = absurd (tag (omega arith))
       go (added-list e) z = absurd (other (omega arith))
       go (added-exit _ e) _ = rw e (rw of at p)
@@ -91,7 +92,7 @@ list-as p e f d = rw (e, f, d) p
 module _ (w : List ℕ) (list h : ℕ) {out₀ out : List ℕ} {x₀ x : Counted} (before : ListPut w list h out₀ x₀ out x) where
   -- What the last cell of list h adds is put.
   list-turn : 0 < h → {out′ : List ℕ} {x′ : Counted}
-      → OfRecord w (λ g. (ms : Nodes) → CellAdded g w h ms (cell-word w h 0) → PutsNumbers out x (kids ms) out′ x′)
+      → OfRecord w (λ g. (ms : Nodes) → CellAdded g w h ms (cell-tag w h) → PutsNumbers out x (kids ms) out′ x′)
       → ListPut w list (list-before w h) out₀ x₀ out′ x′
   list-turn some {out′} {x′} p g s ks shown = let b = before g s ks shown in go b (appended w (b .shown) some)
     where
@@ -106,7 +107,7 @@ module _ (w : List ℕ) (list h : ℕ) {out₀ out : List ℕ} {x₀ x : Counted
             puts = numbers-then (b .puts) (p g s ms added);
           }
 
-  pub list-inner : 0 < h → {t : ℕ} → t ≡ cell-word w h 0 → t ≡ 2 → {q : ℕ} → q ≡ list-at w h 2 → {out′ : List ℕ} {x′ : Counted}
+  pub list-inner : 0 < h → {t : ℕ} → t ≡ cell-tag w h → t ≡ tag-join → {q : ℕ} → q ≡ join-list w h → {out′ : List ℕ} {x′ : Counted}
       → PutsList w q out x out′ x′ → ListPut w list (list-before w h) out₀ x₀ out′ x′
   list-inner some is tag of {out′} {x′} p = list-turn some λ g s ms added. go g s added (omega arith)
     where
@@ -117,7 +118,7 @@ module _ (w : List ℕ) (list h : ℕ) {out₀ out : List ℕ} {x₀ x : Counted
       go g s (added-select _ _ _ _) z = absurd (omega arith)
       go g s (added-loop _ _ _ _ _) z = absurd (omega arith)
 
-  pub list-cell : 0 < h → {t : ℕ} → t ≡ cell-word w h 0 → (t ≡ 2 → ⊥) → {out′ : List ℕ} {x′ : Counted}
+  pub list-cell : 0 < h → {t : ℕ} → t ≡ cell-tag w h → (t ≡ tag-join → ⊥) → {out′ : List ℕ} {x′ : Counted}
       → PutsCellNumbers w h out x out′ x′ → ListPut w list (list-before w h) out₀ x₀ out′ x′
   list-cell some is tag p = list-turn some λ g s ms added. p g s ms added (λ z. tag (is ∙ z))
 

@@ -17,8 +17,8 @@ loop-holds : tie.Need-loop-holds Inv-loop μ-loop
 unfolding case-cell
 loop-holds c = (refl, omega arith)
 
-cell-before-requires : tie.Need-cell-before-requires Inv-loop μ-loop
-cell-before-requires c κs = search needs
+cases-after-requires : tie.Need-cases-after-requires Inv-loop μ-loop
+cases-after-requires c κs = search needs
 
 add-i : tie.Need-add-i Inv-loop μ-loop
 add-i c = search needs
@@ -27,7 +27,7 @@ loop-less : tie.Need-loop-less Inv-loop μ-loop
 loop-less c = search needs
 
 loop-again : tie.Need-loop-again Inv-loop μ-loop
-loop-again c = (case-step _ _ _ (c .before .before .loop .inv .0) (c .cell-before .ensures), omega arith)
+loop-again c = (case-step _ _ _ (c .before .before .loop .inv .0) (c .cases-after .ensures), omega arith)
 
 returns : tie.Need-returns Inv-loop μ-loop
 returns c = case-reached _ _ _ (c .loop-test .left) (c .before .loop .inv .1) (c .before .loop .inv .0)
@@ -39,7 +39,7 @@ case-cell-spec =
     Inv-loop
     μ-loop
     loop-holds
-    cell-before-requires
+    cases-after-requires
     add-i
     loop-less
     loop-again

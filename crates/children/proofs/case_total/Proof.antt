@@ -18,22 +18,22 @@ loop-holds : tie.Need-loop-holds Inv-loop μ-loop
 unfolding case-cell
 loop-holds c = (refl, λ j l. absurd (omega arith), omega arith)
 
-cell-before-requires : tie.Need-cell-before-requires Inv-loop μ-loop
-cell-before-requires c κs = search needs
+cases-after-requires : tie.Need-cases-after-requires Inv-loop μ-loop
+cases-after-requires c κs = search needs
 
 add-n : tie.Need-add-n Inv-loop μ-loop
 add-n c = omega (arith, c .before .before .loop .inv .2)
 
 loop-less : tie.Need-loop-less Inv-loop μ-loop
-loop-less c = named-below _ (c .cell-before .ensures) (c .before .loop-test .taken)
+loop-less c = named-below _ (c .cases-after .ensures) (c .before .loop-test .taken)
 
 loop-again : tie.Need-loop-again Inv-loop μ-loop
 loop-again c =
     let at-loop-test = c .before in
     let at-loop = at-loop-test .before in (
-      case-step _ _ _ (at-loop .loop .inv .0) (c .cell-before .ensures),
+      case-step _ _ _ (at-loop .loop .inv .0) (c .cases-after .ensures),
       total-turn _ _ _ (at-loop .loop .inv .0) (at-loop-test .loop-test .taken) (at-loop .loop .inv .1),
-      omega (arith, named-below _ (c .cell-before .ensures) (at-loop-test .loop-test .taken), at-loop .loop .inv .2),
+      omega (arith, named-below _ (c .cases-after .ensures) (at-loop-test .loop-test .taken), at-loop .loop .inv .2),
     )
 
 returns : tie.Need-returns Inv-loop μ-loop
@@ -46,7 +46,7 @@ case-total-spec =
     Inv-loop
     μ-loop
     loop-holds
-    cell-before-requires
+    cases-after-requires
     add-n
     loop-less
     loop-again

@@ -14,10 +14,10 @@ use Rattle.meaning.specs.Graph.{Graph}
 use Rattle.meaning.specs.Runs.{Nodes, ⟨⟩, _▸_, Cases, exit}
 use Rattle.nesting.specs.Nesting.{new-select}
 use Rattle.state.specs.Sections.{section, cells}
-use Rattle.state.specs.Tables.{earlier}
+use Rattle.state.specs.CellRows.{earlier, cell-word, tag-loop, cell-tag, cell-before, cases-after}
 use Rattle.shown.specs.Cells.{CellIs, ShowsNodes, no-nodes, all-blocks, two-lists, then-exit, then-select, the-loop}
 use Rattle.shown.specs.Cells.{ShowsCaseCells, no-cases, case-and}
-use Rattle.children.specs.CellByCell.{cell-word, list-at, list-before, added-blocks, added-list, added-exit, added-select, added-loop}
+use Rattle.children.specs.CellByCell.{list-before, added-blocks, added-list, added-exit, added-select, added-loop}
 use Rattle.children.specs.CellByCell.{ListAppended, appends, FirstCase, case-first, case-cell, CaseTotal}
 
 -- ---- Every list but the empty one ends with a cell, its handle's.
@@ -30,9 +30,9 @@ named-below {p} {h} x e b = rw e (earlier-below x h b)
 
 pub before-below : {p h : ℕ} (w : List ℕ) → p ≡ list-before w h → 1 ≤ h → p < h
 unfolding list-before
-before-below {p} {h} w e b = rw e (go (eqb (cell-word w h 0) 5))
+before-below {p} {h} w e b = rw e (go (eqb (cell-tag w h) tag-loop))
   where
-    go : (t : Bool) → pick t 0 (list-at w h 1) < h
+    go : (t : Bool) → pick t 0 (cell-before w h) < h
     go true = b
     go false = earlier-below (cell-word w h 1) h b
 
@@ -41,14 +41,14 @@ unfolding earlier
 earlier-is {x} {p} {h} e l = rw (e, lt-ltb p h l)
 
 -- Nothing stands before a loop.
-pub none-before : (w : List ℕ) (h : ℕ) → cell-word w h 0 ≡ 5 → list-before w h ≡ 0
+pub none-before : (w : List ℕ) (h : ℕ) → cell-tag w h ≡ tag-loop → list-before w h ≡ 0
 unfolding list-before
-none-before w h e = rw (eq-eqb (cell-word w h 0) 5 e)
+none-before w h e = rw (eq-eqb (cell-tag w h) tag-loop e)
 
 module _ (w : List ℕ) {h : ℕ} where
   not-loop : {tag p a b c d : ℕ} → CellIs (section w cells) h tag p a b c d → tag < 5 → p < h → list-before w h ≡ p
   unfolding list-before
-  not-loop x t l = rw (ne-eqb (cell-word w h 0) 5 (λ z. omega (arith, x .is-tag)), earlier-is (x .is-before) l)
+  not-loop x t l = rw (ne-eqb (cell-tag w h) tag-loop (λ z. omega (arith, x .is-tag)), earlier-is (x .is-before) l)
 
 module _ {g : Graph} (w : List ℕ) {h : ℕ} where
   pub appended : {ks : Nodes} → ShowsNodes g (section w cells) h ks → 1 ≤ h → ListAppended g w h ks
@@ -92,11 +92,11 @@ module _ (w : List ℕ) (h : ℕ) where
   pub case-within : (j : ℕ) {c : ℕ} → c ≡ case-cell w h j → c ≤ h
   case-within j e = rw e (case-below j)
 
-  pub case-step : (i : ℕ) {p q : ℕ} → p ≡ case-cell w h i → q ≡ list-at w p 1 → q ≡ case-cell w h (i + 1)
+  pub case-step : (i : ℕ) {p q : ℕ} → p ≡ case-cell w h i → q ≡ cases-after w p → q ≡ case-cell w h (i + 1)
   unfolding case-cell
   case-step i a b = rw (add-one i) (b ∙ rw a)
 
-  pub case-after : (i : ℕ) {j c : ℕ} → j ≡ suc i → c ≡ case-cell w h i → case-cell w h j ≡ list-at w c 1
+  pub case-after : (i : ℕ) {j c : ℕ} → j ≡ suc i → c ≡ case-cell w h i → case-cell w h j ≡ cases-after w c
   unfolding case-cell
   case-after i z e = rw (z, e)
 

@@ -8,6 +8,7 @@ use lib.ListN.{length, getD}
 use borrow.Author.Tests.{lt-ltb}
 use Rattle.nesting.specs.Nesting.{plain, LazyCond, undef-cond, false-cond, true-cond, merge, LazyConds, no-conds, _&_}
 use Rattle.nesting.specs.Sheet as sheet
+use Rattle.nesting.specs.SheetNumbers.{letter-m}
 use Rattle.state.specs.Sections.{word, conditions}
 use Rattle.state.specs.Tables.{earlier-part, shape-size, select-word}
 use Rattle.shown.specs.Tables.{cond-count, ShowsCond, shows-true, shows-false, shows-undef, shows-merge, ShowsConds, no-parts, part-and}
@@ -70,7 +71,7 @@ module _ (w : List ℕ) {c n : ℕ} (high : 4 ≤ c) {shape : ℕ} (size : n ≡
         rw (x .field) (puts (x .tree) (rw part (rw here at (x .shows))))
 
     pub merge-is : {node : ℕ} → node ≡ select-word w c 2 → {t : LazyCond} → ShowsCond w c t
-        → plain (4 ∷ node ∷ n ∷ []) ⊕ run (condition-part t) 0 n ≡ plain (sheet.condition t .words)
+        → plain (letter-m ∷ node ∷ n ∷ []) ⊕ run (condition-part t) 0 n ≡ plain (sheet.condition t .words)
     unfolding sheet.condition
     merge-is of-node (shows-true e) = absurd (omega arith)
     merge-is of-node (shows-false e) = absurd (omega arith)

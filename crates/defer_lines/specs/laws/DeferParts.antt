@@ -13,6 +13,7 @@ use Rattle.nesting.specs.Nesting as nesting
 use Rattle.nesting.specs.Nesting.{NestState, plain, DeferredTarget, DeferredEdgeBundle, DeferredEdgeBundleSet}
 use Rattle.nesting.specs.Nesting.{true-cond, look-up-each}
 use Rattle.nesting.specs.Sheet as sheet
+use Rattle.nesting.specs.SheetNumbers.{lead-defer}
 use Rattle.state.specs.Sections.{word, bundles, set-starts, set-lengths}
 use Rattle.state.specs.Tables.{bundle-at}
 use Rattle.shown.specs.Tables.{ShowsCond, shows-true}
@@ -35,7 +36,7 @@ target-words (shows-return e) = rw e
 module _ {g : Graph} {w : List ℕ} {p : ℕ} {e : DeferredEdgeBundle} (shows : ShowsBundle g w p e) (s : NestState) (r : ℕ)
     (d : DeferredEdgeBundleSet) where
   pub line-is : {t n : ℕ} → t ≡ word w bundles (7 * p + 0) → n ≡ word w bundles (7 * p + 1)
-      → plain (5 ∷ []) ⊕ plain (r ∷ t ∷ n ∷ []) ⊕ values-part s (e .target-inputs)
+      → plain (lead-defer ∷ []) ⊕ plain (r ∷ t ∷ n ∷ []) ⊕ values-part s (e .target-inputs)
       ⊕ plain (sheet.condition (nesting.condition-in d e) .words)
       ≡ defer-part s r d e
   unfolding defer-part values-part

@@ -26,12 +26,13 @@ use Rattle.figure.proofs.at_most.Reads as at-most-reads
 use Rattle.figure.proofs.larger.Reads as larger-reads
 use Rattle.figure.proofs.blocks_figure.Reads as blocks-figure-reads
 use Rattle.state.proofs.cells.children_of_case.Reads as children-of-case-reads
-use Rattle.state.proofs.cells.cell_a.Reads as cell-a-reads
-use Rattle.state.proofs.cells.cell_b.Reads as cell-b-reads
-use Rattle.state.proofs.cells.cell_before.Reads as cell-before-reads
+use Rattle.state.proofs.cells.blocks_region.Reads as blocks-region-reads
+use Rattle.state.proofs.cells.loop_header.Reads as loop-header-reads
+use Rattle.state.proofs.cells.cases_after.Reads as cases-after-reads
+use Rattle.state.proofs.cells.loop_body.Reads as loop-body-reads
 use Rattle.state.proofs.cells.cell_tag.Reads as cell-tag-reads
-use Rattle.state.proofs.cells.inner_list.Reads as inner-list-reads
-use Rattle.state.proofs.cells.joined_list.Reads as joined-list-reads
+use Rattle.state.proofs.cells.select_cases.Reads as select-cases-reads
+use Rattle.state.proofs.cells.join_list.Reads as join-list-reads
 use Rattle.figure.proofs.+cell_figure+dearest+figure.{statement}
 use Rattle.figure.proofs.+cell_figure+dearest+figure.Tie.{close}
 
@@ -68,28 +69,28 @@ abbrev cell-figure-called : ℕ → cell-figure-lts.Claims
 cell-figure-called t = (
   cell-tag-reads.Asked,
   cell-tag-reads.Learnt,
-  cell-a-reads.Asked,
-  cell-a-reads.Learnt,
+  blocks-region-reads.Asked,
+  blocks-region-reads.Learnt,
   blocks-figure-reads.Asked,
   blocks-figure-reads.Learnt,
   at-most-reads.Asked,
   at-most-reads.Learnt,
-  joined-list-reads.Asked,
-  joined-list-reads.Learnt,
+  join-list-reads.Asked,
+  join-list-reads.Learnt,
   figure-below t,
   figure.Post,
   test-cost-reads.Asked,
   test-cost-reads.Learnt,
-  inner-list-reads.Asked,
-  inner-list-reads.Learnt,
+  select-cases-reads.Asked,
+  select-cases-reads.Learnt,
   dearest-below t,
   dearest.Post,
-  cell-b-reads.Asked,
-  cell-b-reads.Learnt,
+  loop-header-reads.Asked,
+  loop-header-reads.Learnt,
   limit-reads.Asked,
   limit-reads.Learnt,
-  cell-before-reads.Asked,
-  cell-before-reads.Learnt,
+  loop-body-reads.Asked,
+  loop-body-reads.Learnt,
 )
 
 abbrev dearest-called : ℕ → dearest-lts.Claims
@@ -100,8 +101,8 @@ dearest-called t = (
   figure.Post,
   larger-reads.Asked,
   larger-reads.Learnt,
-  cell-before-reads.Asked,
-  cell-before-reads.Learnt,
+  cases-after-reads.Asked,
+  cases-after-reads.Learnt,
 )
 
 abbrev figure-called : ℕ → figure-lts.Claims
@@ -117,8 +118,9 @@ figure-called t = (
 cell-figure-cell-tag-requires : (t : ℕ) → cell-figure-lts.Need-cell-tag-requires (cell-figure-called t) (cell-figure-at t) cell-figure.Post
 cell-figure-cell-tag-requires t c κs = search needs
 
-cell-figure-cell-a-requires : (t : ℕ) → cell-figure-lts.Need-cell-a-requires (cell-figure-called t) (cell-figure-at t) cell-figure.Post
-cell-figure-cell-a-requires t c κs = search needs
+cell-figure-blocks-region-requires : (t : ℕ)
+    → cell-figure-lts.Need-blocks-region-requires (cell-figure-called t) (cell-figure-at t) cell-figure.Post
+cell-figure-blocks-region-requires t c κs = search needs
 
 cell-figure-blocks-figure-requires : (t : ℕ) → cell-figure-lts.Need-blocks-figure-requires (cell-figure-called t) (cell-figure-at t)
     cell-figure.Post
@@ -129,25 +131,25 @@ cell-figure-at-most-requires t c κs = search needs
 
 cell-figure-returns : (t : ℕ) → cell-figure-lts.Need-returns (cell-figure-called t) (cell-figure-at t) cell-figure.Post
 cell-figure-returns t c = cell-blocks (c .before .before .before .before .cell-tag .ensures) (c .before .before .before .if1 .taken)
-    (c .before .before .cell-a .ensures) (c .before .blocks-figure .ensures) (c .at-most .ensures)
+    (c .before .before .blocks-region .ensures) (c .before .blocks-figure .ensures) (c .at-most .ensures)
 
-cell-figure-joined-list-requires : (t : ℕ) → cell-figure-lts.Need-joined-list-requires (cell-figure-called t) (cell-figure-at t)
+cell-figure-join-list-requires : (t : ℕ) → cell-figure-lts.Need-join-list-requires (cell-figure-called t) (cell-figure-at t)
     cell-figure.Post
-cell-figure-joined-list-requires t c κs = search needs
+cell-figure-join-list-requires t c κs = search needs
 
 cell-figure-figure-requires : (t : ℕ) → cell-figure-lts.Need-figure-requires (cell-figure-called t) (cell-figure-at t) cell-figure.Post
 cell-figure-figure-requires t c κs = (
   omega (
     arith,
     c .before .before .before .before .pre .0,
-    named-below _ (c .joined-list .ensures) (c .before .before .before .before .pre .1),
+    named-below _ (c .join-list .ensures) (c .before .before .before .before .pre .1),
   ),
   tt,
 )
 
 cell-figure-returns-2 : (t : ℕ) → cell-figure-lts.Need-returns-2 (cell-figure-called t) (cell-figure-at t) cell-figure.Post
 cell-figure-returns-2 t c = cell-joined (c .before .before .before .before .cell-tag .ensures) (c .before .before .if2 .taken)
-    (c .before .joined-list .ensures) (c .figure .ensures)
+    (c .before .join-list .ensures) (c .figure .ensures)
 
 cell-figure-test-cost-requires : (t : ℕ) → cell-figure-lts.Need-test-cost-requires (cell-figure-called t) (cell-figure-at t)
     cell-figure.Post
@@ -156,9 +158,9 @@ cell-figure-test-cost-requires t c κs = search needs
 cell-figure-cast-test : (t : ℕ) → cell-figure-lts.Need-cast-test (cell-figure-called t) (cell-figure-at t) cell-figure.Post
 cell-figure-cast-test t c = search needs
 
-cell-figure-inner-list-requires : (t : ℕ) → cell-figure-lts.Need-inner-list-requires (cell-figure-called t) (cell-figure-at t)
+cell-figure-select-cases-requires : (t : ℕ) → cell-figure-lts.Need-select-cases-requires (cell-figure-called t) (cell-figure-at t)
     cell-figure.Post
-cell-figure-inner-list-requires t c κs = search needs
+cell-figure-select-cases-requires t c κs = search needs
 
 cell-figure-dearest-requires : (t : ℕ) → cell-figure-lts.Need-dearest-requires (cell-figure-called t) (cell-figure-at t) cell-figure.Post
 cell-figure-dearest-requires t c κs =
@@ -166,7 +168,7 @@ cell-figure-dearest-requires t c κs =
       omega (
         arith,
         at-pre .pre .0,
-        named-below _ (c .inner-list .ensures) (at-pre .pre .1),
+        named-below _ (c .select-cases .ensures) (at-pre .pre .1),
       ),
       tt,
     )
@@ -180,16 +182,17 @@ cell-figure-at-most-requires-2 t c κs = search needs
 
 cell-figure-returns-3 : (t : ℕ) → cell-figure-lts.Need-returns-3 (cell-figure-called t) (cell-figure-at t) cell-figure.Post
 cell-figure-returns-3 t c =
-    let at-inner-list = c .before .before in
-    let at-if = at-inner-list .before in
+    let at-select-cases = c .before .before in
+    let at-if = at-select-cases .before in
     let at-test-cost = at-if .before in
     let at-cell-tag = at-test-cost .before .before .before in
     cell-select (at-cell-tag .cell-tag .ensures)
     (at-test-cost .test-cost .ensures) (at-if .if3 .taken)
-    (at-inner-list .inner-list .ensures) (c .before .dearest .ensures) (c .at-most2 .ensures)
+    (at-select-cases .select-cases .ensures) (c .before .dearest .ensures) (c .at-most2 .ensures)
 
-cell-figure-cell-b-requires : (t : ℕ) → cell-figure-lts.Need-cell-b-requires (cell-figure-called t) (cell-figure-at t) cell-figure.Post
-cell-figure-cell-b-requires t c κs = search needs
+cell-figure-loop-header-requires : (t : ℕ)
+    → cell-figure-lts.Need-loop-header-requires (cell-figure-called t) (cell-figure-at t) cell-figure.Post
+cell-figure-loop-header-requires t c κs = search needs
 
 cell-figure-limit-requires : (t : ℕ) → cell-figure-lts.Need-limit-requires (cell-figure-called t) (cell-figure-at t) cell-figure.Post
 cell-figure-limit-requires t c κs = search needs
@@ -197,9 +200,9 @@ cell-figure-limit-requires t c κs = search needs
 cell-figure-cast-limit : (t : ℕ) → cell-figure-lts.Need-cast-limit (cell-figure-called t) (cell-figure-at t) cell-figure.Post
 cell-figure-cast-limit t c = search needs
 
-cell-figure-cell-before-requires : (t : ℕ) → cell-figure-lts.Need-cell-before-requires (cell-figure-called t) (cell-figure-at t)
+cell-figure-loop-body-requires : (t : ℕ) → cell-figure-lts.Need-loop-body-requires (cell-figure-called t) (cell-figure-at t)
     cell-figure.Post
-cell-figure-cell-before-requires t c κs = search needs
+cell-figure-loop-body-requires t c κs = search needs
 
 cell-figure-figure-requires-2 : (t : ℕ) → cell-figure-lts.Need-figure-requires-2 (cell-figure-called t) (cell-figure-at t) cell-figure.Post
 cell-figure-figure-requires-2 t c κs =
@@ -207,7 +210,7 @@ cell-figure-figure-requires-2 t c κs =
       omega (
         arith,
         at-pre .pre .0,
-        named-below _ (c .cell-before .ensures) (at-pre .pre .1),
+        named-below _ (c .loop-body .ensures) (at-pre .pre .1),
       ),
       tt,
     )
@@ -231,17 +234,17 @@ cell-figure-at-most-requires-3 t c κs = search needs
 
 cell-figure-returns-4 : (t : ℕ) → cell-figure-lts.Need-returns-4 (cell-figure-called t) (cell-figure-at t) cell-figure.Post
 cell-figure-returns-4 t c =
-    let at-cell-before = c .before .before in
-    let at-limit = at-cell-before .before in
-    let at-cell-b = at-limit .before in
-    let at-if = at-cell-b .before in
+    let at-loop-headerefore = c .before .before in
+    let at-limit = at-loop-headerefore .before in
+    let at-loop-header = at-limit .before in
+    let at-if = at-loop-header .before in
     let at-test-cost = at-if .before .before in
     let at-cell-tag = at-test-cost .before .before .before in
     cell-loop
     (at-cell-tag .cell-tag .ensures)
     (at-test-cost .test-cost .ensures)
-    (at-if .if4 .taken) (at-cell-b .cell-b .ensures)
-    (at-limit .limit .ensures) (at-cell-before .cell-before .ensures) (c .before .figure2 .ensures)
+    (at-if .if4 .taken) (at-loop-header .loop-header .ensures)
+    (at-limit .limit .ensures) (at-loop-headerefore .loop-body .ensures) (c .before .figure2 .ensures)
     (c .at-most3 .ensures)
 
 cell-figure-returns-5 : (t : ℕ) → cell-figure-lts.Need-returns-5 (cell-figure-called t) (cell-figure-at t) cell-figure.Post
@@ -279,14 +282,14 @@ dearest-larger-requires : (t : ℕ) → dearest-lts.Need-larger-requires (deares
     dearest-μ-loop
 dearest-larger-requires t c κs = search needs
 
-dearest-cell-before-requires : (t : ℕ)
-    → dearest-lts.Need-cell-before-requires (dearest-called t) (dearest-at t) dearest.Post dearest-Inv-loop
+dearest-cases-after-requires : (t : ℕ)
+    → dearest-lts.Need-cases-after-requires (dearest-called t) (dearest-at t) dearest.Post dearest-Inv-loop
     dearest-μ-loop
-dearest-cell-before-requires t c κs = search needs
+dearest-cases-after-requires t c κs = search needs
 
 dearest-loop-less : (t : ℕ) → dearest-lts.Need-loop-less (dearest-called t) (dearest-at t) dearest.Post dearest-Inv-loop
     dearest-μ-loop
-dearest-loop-less t c = named-below _ (c .cell-before .ensures) (c .before .before .before .before .loop-test .taken)
+dearest-loop-less t c = named-below _ (c .cases-after .ensures) (c .before .before .before .before .loop-test .taken)
 
 dearest-loop-again : (t : ℕ) → dearest-lts.Need-loop-again (dearest-called t) (dearest-at t) dearest.Post dearest-Inv-loop
     dearest-μ-loop
@@ -294,7 +297,7 @@ dearest-loop-again t c =
     let at-figure = c .before .before in
     let at-loop-test = at-figure .before .before in
     dearest-turn (at-loop-test .before .loop .inv) (at-loop-test .loop-test .taken) (at-figure .before .children-of-case .ensures)
-    (at-figure .figure .ensures) (c .before .larger .ensures) (c .cell-before .ensures)
+    (at-figure .figure .ensures) (c .before .larger .ensures) (c .cases-after .ensures)
 
 dearest-returns : (t : ℕ) → dearest-lts.Need-returns (dearest-called t) (dearest-at t) dearest.Post dearest-Inv-loop
     dearest-μ-loop
@@ -339,24 +342,24 @@ pub +cell-figure+dearest+figure-spec : {M : Type 1} → statement M
     close μ-cell-figure μ-dearest μ-figure
     (λ t. cell-figure-lts.spec (cell-figure-called t) (cell-figure-at t) cell-figure.Post
     (cell-figure-cell-tag-requires t)
-    (cell-figure-cell-a-requires t)
+    (cell-figure-blocks-region-requires t)
     (cell-figure-blocks-figure-requires t)
     (cell-figure-at-most-requires t)
     (cell-figure-returns t)
-    (cell-figure-joined-list-requires t)
+    (cell-figure-join-list-requires t)
     (cell-figure-figure-requires t)
     (cell-figure-returns-2 t)
     (cell-figure-test-cost-requires t)
     (cell-figure-cast-test t)
-    (cell-figure-inner-list-requires t)
+    (cell-figure-select-cases-requires t)
     (cell-figure-dearest-requires t)
     (cell-figure-add-at-most t)
     (cell-figure-at-most-requires-2 t)
     (cell-figure-returns-3 t)
-    (cell-figure-cell-b-requires t)
+    (cell-figure-loop-header-requires t)
     (cell-figure-limit-requires t)
     (cell-figure-cast-limit t)
-    (cell-figure-cell-before-requires t)
+    (cell-figure-loop-body-requires t)
     (cell-figure-figure-requires-2 t)
     (cell-figure-add-at-most-2 t)
     (cell-figure-mul-at-most t)
@@ -368,7 +371,7 @@ pub +cell-figure+dearest+figure-spec : {M : Type 1} → statement M
     (dearest-children-of-case-requires t)
     (dearest-figure-requires t)
     (dearest-larger-requires t)
-    (dearest-cell-before-requires t)
+    (dearest-cases-after-requires t)
     (dearest-loop-less t)
     (dearest-loop-again t)
     (dearest-returns t))

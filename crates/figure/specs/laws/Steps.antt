@@ -11,9 +11,11 @@ use Rattle.meaning.specs.facts.Numbers.{max-assoc}
 use Rattle.nesting.specs.Sheet.{figure, dearest}
 use Rattle.record.specs.Stands.{Stands, OfRecord}
 use Rattle.state.specs.Sections.{section, cells}
+use Rattle.state.specs.CellRows.{tag-blocks, tag-join, tag-select, tag-loop, cell-tag, blocks-region, join-list, select-cases}
+use Rattle.state.specs.CellRows.{loop-body, loop-header, cases-after, children-of-case}
 use Rattle.shown.specs.Cells.{ShowsCaseCells, no-cases, case-and}
 use Rattle.shown.specs.laws.CellSteps.{no-list}
-use Rattle.children.specs.CellByCell.{cell-word, list-at, list-before, CellAdded, added-blocks, added-list, added-exit, added-select}
+use Rattle.children.specs.CellByCell.{list-before, CellAdded, added-blocks, added-list, added-exit, added-select}
 use Rattle.children.specs.CellByCell.{added-loop, ListAppended, appends, FirstCase, case-first}
 use Rattle.children.specs.laws.CellByCellLaws.{before-below, named-below, appended, first-case}
 use Rattle.figure.specs.laws.Nodes.{figure-join, figure-blocks}
@@ -42,8 +44,8 @@ module _ {w : List ℕ} {list : ℕ} where
   dearest-start =
       record { small = omega arith; below = omega arith; shown = λ g s cs x. record { cases = cs; shown = x; dearer = omega arith } }
 
-  pub dearest-turn : {h n p q x most : ℕ} → DearestTo w list h n → 0 < h → p ≡ list-at w h 3 → Figured w p x → most ≡ max n x
-      → q ≡ list-at w h 1
+  pub dearest-turn : {h n p q x most : ℕ} → DearestTo w list h n → 0 < h → p ≡ children-of-case w h → Figured w p x → most ≡ max n x
+      → q ≡ cases-after w h
       → DearestTo w list q most
   unfolding figure
   dearest-turn {h} {n} {p} {q} {x} {most} d above of-first f is of-others =
@@ -85,46 +87,48 @@ module _ {w : List ℕ} {list : ℕ} where
           omega arith
 
 -- ---- What a cell adds.
-module _ {w : List ℕ} {h tag : ℕ} (of-tag : tag ≡ cell-word w h 0) where
-  pub cell-blocks : {r n a : ℕ} → tag ≡ 1 → r ≡ cell-word w h 2 → BlocksFigured w r n → a ≡ capped n → CellFigured w h a
+module _ {w : List ℕ} {h tag : ℕ} (of-tag : tag ≡ cell-tag w h) where
+  pub cell-blocks : {r n a : ℕ} → tag ≡ tag-blocks → r ≡ blocks-region w h → BlocksFigured w r n → a ≡ capped n → CellFigured w h a
   cell-blocks {r} {n} {a} e of-region f is = record { small = omega arith; shown = λ g s ks x. go g s (rw (sym of-tag ∙ e) at x) }
     where
-      go : (g : Graph) → Stands w g → {ks : Nodes} → CellAdded g w h ks 1 → a ≡ capped (figure (g .test-cost) ks)
+      go : (g : Graph) → Stands w g → {ks : Nodes} → CellAdded g w h ks tag-blocks → a ≡ capped (figure (g .test-cost) ks)
       go g s (added-blocks some q) =
-          let all = ap (figure (g .test-cost)) q ∙ figure-blocks (g .test-cost) g (cell-word w h 2) in
+          let all = ap (figure (g .test-cost)) q ∙ figure-blocks (g .test-cost) g (blocks-region w h) in
           is ∙ ap capped ((rw of-region at f) .shown g s ∙ sym all)
 
-  pub cell-joined : {p a : ℕ} → tag ≡ 2 → p ≡ list-at w h 2 → Figured w p a → CellFigured w h a
+  pub cell-joined : {p a : ℕ} → tag ≡ tag-join → p ≡ join-list w h → Figured w p a → CellFigured w h a
   cell-joined {p} {a} e of-list f = record { small = f .small; shown = λ g s ks x. go g s (rw (sym of-tag ∙ e) at x) }
     where
-      go : (g : Graph) → Stands w g → {ks : Nodes} → CellAdded g w h ks 2 → a ≡ capped (figure (g .test-cost) ks)
+      go : (g : Graph) → Stands w g → {ks : Nodes} → CellAdded g w h ks tag-join → a ≡ capped (figure (g .test-cost) ks)
       go g s (added-list x) = (rw of-list at f) .shown g s _ x
 
   module _ {test : ℕ} (of-test : OfRecord w (λ g. test ≡ g .test-cost)) where
-    pub cell-select : {p n a : ℕ} → tag ≡ 4 → p ≡ list-at w h 5 → DearestFigured w p n → a ≡ capped (test + n) → CellFigured w h a
+    pub cell-select : {p n a : ℕ} → tag ≡ tag-select → p ≡ select-cases w h → DearestFigured w p n → a ≡ capped (test + n)
+        → CellFigured w h a
     unfolding figure
     cell-select {p} {n} {a} e of-list f is = record { small = omega arith; shown = λ g s ks x. go g s (rw (sym of-tag ∙ e) at x) }
       where
-        go : (g : Graph) → Stands w g → {ks : Nodes} → CellAdded g w h ks 4 → a ≡ capped (figure (g .test-cost) ks)
+        go : (g : Graph) → Stands w g → {ks : Nodes} → CellAdded g w h ks tag-select → a ≡ capped (figure (g .test-cost) ks)
         go g s (added-select shape v cs q) =
             let t = of-test g s in
             let n-is = (rw of-list at f) .shown g s _ cs in
             rw q (omega arith)
 
-    pub cell-loop : {r limit p n a : ℕ} → tag ≡ 5 → r ≡ cell-word w h 3 → OfRecord w (λ g. limit ≡ region g r .limit) → p ≡ list-at w h 1
+    pub cell-loop : {r limit p n a : ℕ} → tag ≡ tag-loop → r ≡ loop-header w h → OfRecord w (λ g. limit ≡ region g r .limit)
+        → p ≡ loop-body w h
         → Figured w p n → a ≡ capped (limit * (n + test)) → CellFigured w h a
     unfolding figure
     cell-loop {r} {limit} {p} {n} {a} e of-region of-limit of-list f is =
         record { small = omega arith; shown = λ g s ks x. go g s (rw (sym of-tag ∙ e) at x) }
       where
-        go : (g : Graph) → Stands w g → {ks : Nodes} → CellAdded g w h ks 5 → a ≡ capped (figure (g .test-cost) ks)
+        go : (g : Graph) → Stands w g → {ks : Nodes} → CellAdded g w h ks tag-loop → a ≡ capped (figure (g .test-cost) ks)
         go g s (added-loop {ns} y body v kept q) =
             let l = (rw of-region at of-limit) g s in
             let n-is = (rw of-list at f) .shown g s _ body in
-            let turns = capped-times (region g (cell-word w h 3) .limit) (figure (g .test-cost) ns) (g .test-cost) in
+            let turns = capped-times (region g (loop-header w h) .limit) (figure (g .test-cost) ns) (g .test-cost) in
             is ∙ rw (l, n-is, of-test g s, q) (omega arith)
 
-  pub cell-other : (tag ≡ 1 → ⊥) → (tag ≡ 2 → ⊥) → (tag ≡ 4 → ⊥) → (tag ≡ 5 → ⊥) → CellFigured w h 0
+  pub cell-other : (tag ≡ tag-blocks → ⊥) → (tag ≡ tag-join → ⊥) → (tag ≡ tag-select → ⊥) → (tag ≡ tag-loop → ⊥) → CellFigured w h 0
   unfolding figure
   cell-other a b c d = record { small = omega arith; shown = λ g s ks x. go g (rw (sym of-tag) at x) refl }
     where

@@ -9,7 +9,7 @@ use Rattle.state.specs.declared.defined.Defined.{Defined}
 use Rattle.state.specs.declared.defined.Defined.the-variants.{Number, Full}
 use Rattle.state.specs.Sections.{word, stored, set-lengths, children, bodies}
 use Rattle.state.specs.Tables.{Adds, Defines, swap-removed}
-use Rattle.shown.specs.laws.CellSteps.{loop-cell}
+use Rattle.state.specs.declared.cells.Cell.the-variants.{Loop}
 use Rattle.lookups.specs.Materialized.{Materializes}
 use Rattle.state.specs.declared.defined.Made.{Made}
 use Rattle.state.specs.declared.defined.Made.the-variants.{Done, Full as Refused}
@@ -23,7 +23,7 @@ use Rattle.loops.specs.Loops.{looped, no-wrapper, no-loop}
 -- ---- The functions, path by path.
 module _ {r : ℕ} {l : List ℕ} where
   pub loop-put : {node repeat kept body h : ℕ} {l₁ l′ : List ℕ} → body ≡ word l children r
-      → Adds l l₁ (loop-cell body node r repeat kept) h → l′ ≡ stored l₁ children r h → AddsLoop r node repeat kept l l′
+      → Adds l l₁ (Loop body node r repeat kept) h → l′ ≡ stored l₁ children r h → AddsLoop r node repeat kept l l′
   loop-put e a s = adds-loop (rw e at a) s
 
   module _ {c kept : ℕ} {l₁ : List ℕ} {a : Defined} (value : Materializes l c l₁ a) where

@@ -17,10 +17,9 @@ use Rattle.state.specs.Sections.{word, stored, head, set-starts, set-lengths, c
 use Rattle.state.specs.Values.{is-input, input-region, input-index}
 use Rattle.state.specs.Tables.{input-word, input-stored, bundle-at, case-total}
 use Rattle.shown.specs.Front.{SameKinds}
-use Rattle.shown.specs.laws.FrontKept.{kinds-stored, kinds-then}
+use Rattle.shown.specs.laws.FrontKept.{kinds-stored, kinds-then, kinds-input-stored}
 use Rattle.merging.specs.Turns.{turned, turn-next, turn-last, front-turned, Left, left-next, left-last}
 use Rattle.bundles.specs.Words.{input-count, condition-in}
-use Rattle.merging.specs.laws.BundlesLaws.{front-input-stored}
 use Rattle.merging.specs.Planning.{place-of, per-case-deferred, per-case-condition, in-parent, with-passed, unique-from, unique-input}
 use Rattle.merging.specs.Planning.{is-true, all-from, all-true, Planned, planned, plan-input, also, plan-inputs, plan-bundle, plan-at}
 use Rattle.merging.specs.Planning.{plan-bundles}
@@ -30,7 +29,7 @@ front-inputs : (g : Graph) (l : List ℕ) (q : ℕ) (ps : List ℕ) → SameKind
 unfolding plan-inputs plan-input
 front-inputs g l q ps =
     front-turned (λ x. x .words) (also (λ m k. plan-input m q ps k))
-    (λ x k. front-input-stored (x .words) q k (unique-input (x .words) ps k)) (input-count g l (word l bundles (7 * q + 0)))
+    (λ x k. kinds-input-stored (x .words) q k (unique-input (x .words) ps k)) (input-count g l (word l bundles (7 * q + 0)))
     (planned l false) 0
 
 front-bundle : (g : Graph) (l : List ℕ) (q : ℕ) → SameKinds l (plan-bundle g l q .words)

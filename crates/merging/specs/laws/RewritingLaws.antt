@@ -14,10 +14,9 @@ use Rattle.state.specs.Sections.{word, stored, head, cases, bundles}
 use Rattle.state.specs.Tables.{input-word, input-stored, bundle-at}
 use Rattle.lookups.specs.LookUps.{look-up, Rewrites}
 use Rattle.shown.specs.Front.{SameKinds}
-use Rattle.shown.specs.laws.FrontKept.{kinds-same, kinds-stored, kinds-then, stands-kept}
+use Rattle.shown.specs.laws.FrontKept.{kinds-same, kinds-stored, kinds-then, stands-kept, kinds-input-stored}
 use Rattle.merging.specs.Turns.{turned, turn-last, front-turned}
 use Rattle.bundles.specs.Words.{input-count}
-use Rattle.merging.specs.laws.BundlesLaws.{front-input-stored}
 use Rattle.merging.specs.Rewriting.{noted, rewrite-input, rewrite-case-input, rewrite-bundle, rewrite-set, rewrite-inputs}
 use Rattle.merging.specs.Rewriting.{rewrite-given, rewrite-case}
 
@@ -33,7 +32,7 @@ front-noted l v = go (look-up l v .twice)
 pub front-bundle : (g : Graph) (l : List ℕ) (p : ℕ) → SameKinds l (rewrite-bundle g l p)
 unfolding rewrite-bundle rewrite-input
 front-bundle g l p = front-turned (λ l. l) (λ m k. rewrite-input m p k)
-    (λ m k. kinds-then (front-noted m (input-word m p k)) (front-input-stored (noted m (input-word m p k)) p k
+    (λ m k. kinds-then (front-noted m (input-word m p k)) (kinds-input-stored (noted m (input-word m p k)) p k
     (look-up m (input-word m p k) .value))) (input-count g l (word l bundles (7 * p + 0))) l 0
 
 front-set : (g : Graph) (l : List ℕ) (start n : ℕ) → SameKinds l (rewrite-set g l start n)

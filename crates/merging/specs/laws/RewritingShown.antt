@@ -30,7 +30,7 @@ use Rattle.shown.specs.laws.FrontKept.{stands-on}
 use Rattle.shown.specs.Kept.{Later, KeptRegion}
 use Rattle.shown.specs.laws.RegionsKept.{bundle-stays, set-stays, same-bundle, same-bundle-then}
 use Rattle.merging.specs.Turns.{turned}
-use Rattle.merging.specs.laws.TurnsLaws.{turned-same}
+use Rattle.merging.specs.Turns.{turned-same}
 use Rattle.bundles.specs.Words.{input-count}
 use Rattle.merging.specs.Rewriting.{rewrite-input, rewrite-case-input, rewrite-bundle, rewrite-set, rewrite-inputs, rewrite-given}
 use Rattle.merging.specs.Rewriting.{rewrite-case, rewrite-cases}

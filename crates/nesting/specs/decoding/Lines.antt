@@ -14,6 +14,8 @@ use Rattle.nesting.specs.Sheet.{figure, Field, label, number-as, a-numbe
 use Rattle.nesting.specs.Sheet.{ascending, Sheet}
 use Rattle.nesting.specs.ShownForm.{Item, Condition, t-cond, f-cond, u-cond, m-cond, Conditions, no-part, part, ShownSelect}
 use Rattle.nesting.specs.ShownForm.{ShownEdge, shown-value, block-items, shown-select, shown-edge}
+use Rattle.nesting.specs.SheetNumbers.{lead-block, lead-defer, lead-exit, lead-loop, lead-region, lead-select, letter-f, letter-m}
+use Rattle.nesting.specs.SheetNumbers.{letter-t, letter-u, return-word}
 
 pub data Line : Type 0 where
   region-line : ℕ → List ℕ → List ℕ → List Code → Line  -- region, inputs' types, child nodes, output values
@@ -53,16 +55,16 @@ abbrev pub item-field : Item → Field
 item-field i = joint "/" (dotted (i .region) (i .index) ∷ a-number (i .opcode) ∷ a-number (i .type) ∷ values-field (i .reads) ∷ [])
 
 abbrev pub target-field : ℕ → Field
-target-field r = pick (eqb r 65535) (number-as r "return") (a-number r)
+target-field r = pick (eqb r return-word) (number-as r "return") (a-number r)
 
 unfoldable mutual
   pub condition-field : Condition → Field
-  condition-field t-cond = number-as 1 "t"
-  condition-field f-cond = number-as 2 "f"
-  condition-field u-cond = number-as 3 "u"
+  condition-field t-cond = number-as letter-t "t"
+  condition-field f-cond = number-as letter-f "f"
+  condition-field u-cond = number-as letter-u "u"
   condition-field (m-cond n cs) =
       let parts = condition-fields cs in
-      record { words = 4 ∷ n ∷ list parts .words; text = ascii "m" ++ decimal n ++ ascii "[" ++ joint "," parts .text ++ ascii "]" }
+      record { words = letter-m ∷ n ∷ list parts .words; text = ascii "m" ++ decimal n ++ ascii "[" ++ joint "," parts .text ++ ascii "]" }
 
   pub condition-fields : Conditions → List Field
   condition-fields no-part = []
@@ -70,16 +72,16 @@ unfoldable mutual
 
 abbrev pub fields : Line → List Field
 fields (region-line r ts ks vs) =
-    number-as 0 "region" ∷ a-number r ∷ label "in" ∷ numbers ts ∷ label "kids" ∷ numbers ks ∷ label "out" ∷ values-field vs ∷ []
-fields (block-line n is) = number-as 1 "block" ∷ a-number n ∷ list (map item-field is) ∷ []
+    number-as lead-region "region" ∷ a-number r ∷ label "in" ∷ numbers ts ∷ label "kids" ∷ numbers ks ∷ label "out" ∷ values-field vs ∷ []
+fields (block-line n is) = number-as lead-block "block" ∷ a-number n ∷ list (map item-field is) ∷ []
 fields (select-line x rs) =
-    number-as 2 "select" ∷ a-number (x .number) ∷ kind (x .kind) ∷ value-field (x .scrutinee)
+    number-as lead-select "select" ∷ a-number (x .number) ∷ kind (x .kind) ∷ value-field (x .scrutinee)
     ∷ label "cases" ∷ numbers rs ∷ label "out" ∷ numbers (x .output-types) ∷ []
 fields (loop-line n vs r v) =
-    number-as 3 "loop" ∷ a-number n ∷ label "in" ∷ values-field vs ∷ label "body" ∷ a-number r ∷ label "repeat" ∷ value-field v ∷ []
-fields (exit-line n op vs) = number-as 4 "exit" ∷ a-number n ∷ a-number op ∷ label "in" ∷ values-field vs ∷ []
+    number-as lead-loop "loop" ∷ a-number n ∷ label "in" ∷ values-field vs ∷ label "body" ∷ a-number r ∷ label "repeat" ∷ value-field v ∷ []
+fields (exit-line n op vs) = number-as lead-exit "exit" ∷ a-number n ∷ a-number op ∷ label "in" ∷ values-field vs ∷ []
 fields (defer-line e) =
-    number-as 5 "defer" ∷ a-number (e .region) ∷ label "to" ∷ target-field (e .target) ∷ label "count" ∷ a-number (e .count)
+    number-as lead-defer "defer" ∷ a-number (e .region) ∷ label "to" ∷ target-field (e .target) ∷ label "count" ∷ a-number (e .count)
     ∷ label "in" ∷ values-field (e .inputs) ∷ label "if" ∷ condition-field (e .condition) ∷ []
 
 abbrev pub words-of : List Field → List ℕ

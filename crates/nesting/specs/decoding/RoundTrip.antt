@@ -19,6 +19,7 @@ use Rattle.nesting.specs.decoding.Decode.{decode-value, decode-item, par
 use Rattle.nesting.specs.decoding.Decode.{decode-lines, outcome-of-word, flag-of, decode-sheet, text-of-got, words-text}
 use Rattle.meaning.specs.Lists.{pick, bit}
 use Rattle.nesting.specs.ShownForm.{Item, Condition, t-cond, f-cond, u-cond, m-cond, Conditions, no-part, part, ShownSelect}
+use Rattle.nesting.specs.SheetNumbers.{lead-defer, return-word}
 
 -- ---- one thing after another
 then-decoded : {A B : Type 0} (x : Decoded A) (f : A → WordReader B) (a : A) (rest : List ℕ) → x ≡ decoded a rest → next-word x f ≡ f a rest
@@ -125,7 +126,7 @@ any-condition-read c rest =
 
 -- ---- lines
 pub target-words : (r : ℕ) → target-field r .words ≡ r ∷ []
-target-words r = at (eqb r 65535)
+target-words r = at (eqb r return-word)
   where
     at : (b : Bool) → pick b (number-as r "return") (a-number r) .words ≡ r ∷ []
     at true = refl
@@ -151,7 +152,7 @@ line-read (exit-line n op vs) rest = then-decoded _ _ _ _ (values-read vs [] res
 line-read (defer-line e) rest =
     let vs = e .inputs in
     let c = e .condition in
-    ap (λ ws. decode-line (5 ∷ e .region ∷ (ws ++ (e .count ∷ (values-field vs .words ++ (condition-field c .words ++ []))) ++ rest)))
+    ap (λ ws. decode-line (lead-defer ∷ e .region ∷ (ws ++ (e .count ∷ (values-field vs .words ++ (condition-field c .words ++ []))) ++ rest)))
     (target-words (e .target))
     ∙ then-decoded _ _ _ _ (values-read vs _ rest)
     ∙ then-decoded _ _ _ _ (ap decode-any-condition (append-assoc (condition-field c .words) [] rest) ∙ any-condition-read c rest)

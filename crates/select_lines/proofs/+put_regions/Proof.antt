@@ -10,8 +10,8 @@ use Rattle.select_lines.proofs.put_regions.Reads as reads
 use Rattle.select_lines.proofs.put_regions.Kinds as kinds
 use Rattle.select_lines.proofs.+put_regions.Lts-put_regions as lts
 use Rattle.child_numbers.proofs.put_number.Reads as put-number
-use Rattle.state.proofs.cells.cell_a.Reads as cell-a
-use Rattle.state.proofs.cells.cell_before.Reads as cell-before
+use Rattle.state.proofs.cells.case_region.Reads as case-region
+use Rattle.state.proofs.cells.cases_after.Reads as cases-after
 use Rattle.select_lines.proofs.+put_regions.{statement}
 use Rattle.select_lines.proofs.+put_regions.Tie.{close}
 
@@ -27,12 +27,12 @@ below t = and 2 kinds.ps (falls 2 kinds.ps _<_ measure t) reads.Pre
 -- What the functions called ask and ensure, this one at an earlier handle.
 abbrev called : ℕ → lts.Claims
 called t = (
-  cell-before.Asked,
-  cell-before.Learnt,
+  cases-after.Asked,
+  cases-after.Learnt,
   below t,
   reads.Post,
-  cell-a.Asked,
-  cell-a.Learnt,
+  case-region.Asked,
+  case-region.Learnt,
   put-number.Asked,
   put-number.Learnt,
 )
@@ -41,8 +41,8 @@ module _ (t : ℕ) where
   returns : lts.Need-returns (called t) (at t) reads.Post
   returns c = no-regions _ _ _ (c .if1 .taken) (omega arith)
 
-  cell-before-requires : lts.Need-cell-before-requires (called t) (at t) reads.Post
-  cell-before-requires c κs = search needs
+  cases-after-requires : lts.Need-cases-after-requires (called t) (at t) reads.Post
+  cases-after-requires c κs = search needs
 
   put-regions-requires : lts.Need-put-regions-requires (called t) (at t) reads.Post
   put-regions-requires c κs = (
@@ -51,13 +51,13 @@ module _ (t : ℕ) where
       c .before .before .before .before .pre .0,
       c .before .before .if1 .left,
       named-below _
-          (c .cell-before .ensures) (omega (arith, c .before .before .if1 .left)),
+          (c .cases-after .ensures) (omega (arith, c .before .before .if1 .left)),
     ),
     tt,
   )
 
-  cell-a-requires : lts.Need-cell-a-requires (called t) (at t) reads.Post
-  cell-a-requires c κs = search needs
+  case-region-requires : lts.Need-case-region-requires (called t) (at t) reads.Post
+  case-region-requires c κs = search needs
 
   cast-put-number : lts.Need-cast-put-number (called t) (at t) reads.Post
   cast-put-number c = search needs
@@ -71,21 +71,21 @@ module _ (t : ℕ) where
   returns-2 : lts.Need-returns-2 (called t) (at t) reads.Post
   returns-2 c =
       let at-put-number = c .before .before in
-      let at-cell-a = at-put-number .before in
-      let at-put-regions = at-cell-a .before .before .before .before in
-      let at-cell-before = at-put-regions .before in
-      let at-if = at-cell-before .before .before in
+      let at-case-region = at-put-number .before in
+      let at-put-regions = at-case-region .before .before .before .before in
+      let at-cases-after = at-put-regions .before in
+      let at-if = at-cases-after .before .before in
       first-region _ (at-if .if1 .left)
-      (at-cell-before .cell-before .ensures)
-      (at-put-regions .put-regions .ensures) (at-cell-a .cell-a .ensures)
+      (at-cases-after .cases-after .ensures)
+      (at-put-regions .put-regions .ensures) (at-case-region .case-region .ensures)
       (at-put-number .put-number .ensures)
 
 pub +put-regions-spec : {M : Type 1} → statement M
 +put-regions-spec = close measure λ t. lts.spec (called t) (at t) reads.Post
     (returns t)
-    (cell-before-requires t)
+    (cases-after-requires t)
     (put-regions-requires t)
-    (cell-a-requires t)
+    (case-region-requires t)
     (cast-put-number t)
     (put-number-requires t)
     (same-length t)

@@ -10,8 +10,9 @@ use Rattle.meaning.specs.Runs.{Cases}
 use Rattle.nesting.specs.Nesting.{plain}
 use Rattle.nesting.specs.Sheet.{case-numbers}
 use Rattle.state.specs.Sections.{section, cells}
+use Rattle.state.specs.CellRows.{cases-after, case-region}
 use Rattle.shown.specs.Cells.{ShowsCaseCells, no-cases, case-and}
-use Rattle.children.specs.CellByCell.{cell-word, list-at, FirstCase, case-first}
+use Rattle.children.specs.CellByCell.{FirstCase, case-first}
 use Rattle.children.specs.laws.CellByCellLaws.{first-case}
 use Rattle.writing.specs.declared.place.Place.{Place}
 use Rattle.writing.specs.Puts.{Puts}
@@ -28,8 +29,8 @@ no-regions w {list} out x z h g cs shown = go shown
     go (no-cases _) = numbers-none out x h
     go (case-and _ p _ _ _ _) = absurd (omega arith)
 
-pub first-region : (w : List ℕ) {list q n : ℕ} {out out₁ out₂ : List ℕ} {x x₁ x₂ : Counted} → (list ≡ 0 → ⊥) → q ≡ list-at w list 1
-    → PutsRegions w q out x out₁ x₁ → n ≡ cell-word w list 2 → PutsNumbers out₁ x₁ (n ∷ []) out₂ x₂ → PutsRegions w list out x out₂ x₂
+pub first-region : (w : List ℕ) {list q n : ℕ} {out out₁ out₂ : List ℕ} {x x₁ x₂ : Counted} → (list ≡ 0 → ⊥) → q ≡ cases-after w list
+    → PutsRegions w q out x out₁ x₁ → n ≡ case-region w list → PutsNumbers out₁ x₁ (n ∷ []) out₂ x₂ → PutsRegions w list out x out₂ x₂
 first-region w {list} {out = out} {out₂ = out₂} {x = x} {x₂ = x₂} some of-rest p of-region last g cs shown =
     go (first-case w shown (omega arith))
   where

@@ -8,6 +8,7 @@ use Rattle.meaning.specs.Graph.{Value, SelectionKind}
 use Rattle.meaning.specs.Runs.{Nodes, Cases, ∅}
 use Rattle.nesting.specs.Nesting.{NestState, plain, new-case, new-select, case-outputs, look-up-node}
 use Rattle.nesting.specs.Sheet as sheet
+use Rattle.nesting.specs.SheetNumbers.{lead-select}
 use Rattle.writing.specs.laws.PutsLaws.{_⊕_}
 use Rattle.writing.specs.Parts.{look-up-at-end, node-words, value-part, node-part, nodes-part}
 use Rattle.writing.specs.Parts.{cases-part, region-part}
@@ -20,11 +21,11 @@ regrouped a b c d e = simp append-assoc
 module _ (s : NestState) where
   pub select-line : (n : ℕ) (kind : SelectionKind) (v : Value) (cs : Cases)
       → select-part s n kind v cs
-      ≡ plain (2 ∷ n ∷ []) ⊕ plain (sheet.kind kind .words) ⊕ value-part s v
+      ≡ plain (lead-select ∷ n ∷ []) ⊕ plain (sheet.kind kind .words) ⊕ value-part s v
       ⊕ plain (length (sheet.case-numbers cs) ∷ sheet.case-numbers cs) ⊕ plain (length (output-types s n) ∷ output-types s n)
   unfolding select-part value-part
   select-line n kind v cs =
-      let words = regrouped (2 ∷ n ∷ []) (sheet.kind kind .words) (value-part s v .value)
+      let words = regrouped (lead-select ∷ n ∷ []) (sheet.kind kind .words) (value-part s v .value)
       (length (sheet.case-numbers cs) ∷ sheet.case-numbers cs) (length (output-types s n) ∷ output-types s n) in
       let note = look-up-at-end s v .twice in
       rw (numbers-words (sheet.case-numbers cs), numbers-words (output-types s n), or-false note)

@@ -17,9 +17,8 @@ use Rattle.state.specs.Tables.{input-word, input-stored, OutputDefined, output-
 use Rattle.state.specs.Tables.{merge-defined, merges-full}
 use Rattle.state.specs.Values.{undef-word, output-word}
 use Rattle.shown.specs.Front.{SameKinds}
-use Rattle.shown.specs.laws.FrontKept.{kinds-same, kinds-stored, kinds-run, kinds-then}
+use Rattle.shown.specs.laws.FrontKept.{kinds-same, kinds-stored, kinds-run, kinds-then, kinds-input-stored}
 use Rattle.bundles.specs.Words.{input-count, target-type}
-use Rattle.merging.specs.laws.BundlesLaws.{front-input-stored}
 use Rattle.merging.specs.Planning.{per-case-deferred}
 use Rattle.state.specs.declared.defined.Made.{Made}
 use Rattle.state.specs.declared.defined.Made.the-variants.{Done, Full}
@@ -71,7 +70,7 @@ front-merge {l} (merges-full h e) = rw e (kinds-same l)
 
 front-input : {g : Graph} {node q t k : ℕ} {places l l′ : List ℕ} {a : Made} → EmitInput g node q t places k l l′ a → SameKinds l l′
 front-input {l} (input-there d e) = rw e (kinds-same l)
-front-input {q} {k} (input-made {l₁} {o} e vs x p) = rw p (kinds-then (front-output x) (front-input-stored l₁ q k (output-word o)))
+front-input {q} {k} (input-made {l₁} {o} e vs x p) = rw p (kinds-then (front-output x) (kinds-input-stored l₁ q k (output-word o)))
 front-input (no-input e vs x) = front-output x
 
 front-inputs : {g : Graph} {node q : ℕ} {places l l′ : List ℕ} {a : Made} → EmitInputs g node q places l l′ a → SameKinds l l′

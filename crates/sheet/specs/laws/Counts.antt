@@ -10,6 +10,7 @@ use Rattle.meaning.specs.Graph.{Graph, Value}
 use Rattle.meaning.specs.Runs.{Node, block, select, loop, exit, Nodes, ⟨⟩, _▸_, Cases, ∅, case}
 use Rattle.nesting.specs.Nesting.{Nested, Piece, Outcome, untouched, whole, closed, leftover}
 use Rattle.nesting.specs.Sheet as sheet
+use Rattle.nesting.specs.SheetNumbers.{lead-region, lead-block, lead-exit}
 use Rattle.writing.specs.Parts.{most, region-words, select-words, loop-words, node-words, nodes-words, cases-words}
 use Rattle.sheet.specs.Whole.{piece-words, defer-words, nested-lines, head-words, nested-words}
 use Rattle.sheet.specs.laws.SheetLines.{same-count, sheet-lines}
@@ -41,18 +42,18 @@ module _ (nodes : List ℕ) where
   region-held : (r : ℕ) (ts : List ℕ) (ks : Nodes) (vs : List Value)
       → SameIfShort (region-words most nodes r ts ks vs) (region-words same-count nodes r ts ks vs)
   region-held r ts ks vs =
-      short-then (short-then (short-same (0 ∷ r ∷ length ts ∷ ts)) (short-count (sheet.kids ks)))
+      short-then (short-then (short-same (lead-region ∷ r ∷ length ts ∷ ts)) (short-count (sheet.kids ks)))
       (short-same (sheet.values nodes vs .words))
 
   mutual
     unfolding node-words
 
     node-held : (k : Node) → SameIfShort (node-words most nodes k) (node-words same-count nodes k)
-    node-held (block n r k is) = short-same (1 ∷ n ∷ sheet.list (sheet.items nodes r k is) .words)
+    node-held (block n r k is) = short-same (lead-block ∷ n ∷ sheet.list (sheet.items nodes r k is) .words)
     node-held (select x cs) = short-then (short-same (select-words most nodes x cs)) (cases-held cs)
     node-held (loop x ks) =
         short-then (short-then (short-same (loop-words most nodes x)) (region-held (x .body) (x .types) ks (x .outputs))) (nodes-held ks)
-    node-held (exit n op vs) = short-same (4 ∷ n ∷ op ∷ sheet.values nodes vs .words)
+    node-held (exit n op vs) = short-same (lead-exit ∷ n ∷ op ∷ sheet.values nodes vs .words)
 
     nodes-held : (ks : Nodes) → SameIfShort (nodes-words most nodes ks) (nodes-words same-count nodes ks)
     nodes-held ⟨⟩ = short-same []

@@ -13,7 +13,6 @@ use Rattle.meaning.specs.Graph.{Graph, Value, region}
 use Rattle.meaning.specs.Runs.{Nodes}
 use Rattle.nesting.specs.Nesting.{NestState, piece, plain, StructurizeRegionState, not-begun, in-progress}
 use Rattle.nesting.specs.Nesting.{claimed, ready, DeferredEdgeBundle, DeferredEdgeBundleSet, region-body}
-use Rattle.nesting.specs.Sheet as sheet
 use Rattle.record.specs.Stands.{OfRecord}
 use Rattle.state.specs.Sections.{section, cells, word, kinds, children, set-starts}
 use Rattle.state.specs.Tables.{bundle-at}
@@ -24,55 +23,54 @@ use Rattle.writing.specs.declared.place.Place.{Place}
 use Rattle.writing.specs.Puts.{Puts}
 use Rattle.writing.specs.laws.PutsLaws.{puts-then, puts-none, puts-as}
 use Rattle.writing.specs.laws.Rows.{run-start, run-turn, run-all}
-use Rattle.writing.specs.Parts.{OfState, Concluded, most, region-part, values-part, nodes-part, each}
-use Rattle.writing.specs.laws.PartLaws.{parts-assoc}
+use Rattle.writing.specs.Parts.{OfState, Concluded, values-part, nodes-part, each}
+use Rattle.child_numbers.specs.declared.region_line.RegionInputs.the-variants.{All}
+use Rattle.child_numbers.specs.RegionLine.{region-front, all-types, PutsRegionLine}
+use Rattle.child_numbers.specs.laws.RegionLineLaws.{line-put}
 use Rattle.sheet.specs.Pieces.{region-lines, set-part}
 use Rattle.sheet.specs.laws.Leftovers.{ready-lines, ready-set, given-set, unclaimed-lines, ascending-sets}
-use Rattle.sheet.specs.Regions.{region-front, PutsFront, PutsPiece, PutsWhole, state-at, PutsReady, PutsUnclaimed, PutsGivenSet}
+use Rattle.sheet.specs.Regions.{PutsPiece, PutsWhole, PutsWholeOutputs, state-at, PutsReady, PutsUnclaimed, PutsGivenSet}
 use Rattle.sheet.specs.Regions.{PutsSets, PutsNodes, PutsSet, LinesFrom, SetsFrom}
 
--- ---- Paths of put_piece and put_whole.
+-- ---- Paths of put_piece, put_whole_outputs and put_whole.
 first-bundle : (start : ℕ) → start < 1097 → bundle-at start 0 ≡ start + 0
 unfolding bundle-at
 first-bundle start h = rw (lt-ltb start 1097 h)
 
-region-put : (g : Graph) (s : NestState) (r : ℕ) (ks : Nodes) (vs : List Value) {out out₁ out₂ out₃ : List ℕ} {at at₁ at₂ at₃ : Place}
-    → Puts out at (nodes-part s ks) out₁ at₁ → Puts out₁ at₁ (values-part s vs) out₂ at₂
-    → Puts out₂ at₂ (plain (region-front g r ks)) out₃ at₃ → Puts out at (region-lines g s r ks vs) out₃ at₃
-unfolding region-part values-part
-region-put g s r ks vs n p q =
-    puts-as (puts-then (puts-then n p) q) (sym (parts-assoc (plain (region-front g r ks)) (values-part s vs) (nodes-part s ks)))
+module _ (g : Graph) (s : NestState) (r : ℕ) (ks : Nodes) (vs : List Value) where
+  region-put : {out out₁ out₂ out₃ : List ℕ} {at at₁ at₂ at₃ : Place} → Puts out at (nodes-part s ks) out₁ at₁
+      → Puts out₁ at₁ (values-part s vs) out₂ at₂ → Puts out₂ at₂ (plain (region-front r (region g r .inputs) ks)) out₃ at₃
+      → Puts out at (region-lines g s r ks vs) out₃ at₃
+  region-put nodes outputs front = puts-then nodes (line-put s r (region g r .inputs) ks vs outputs front)
+
+pub outputs-put : (w : List ℕ) (r : ℕ) {start bundle : ℕ} {out out′ : List ℕ} {at at′ : Place} → start ≡ word w set-starts r
+    → bundle ≡ bundle-at start 0
+    → OfState w (λ g s. (e : DeferredEdgeBundle) → ShowsBundle g w bundle e → Puts out at (values-part s (e .target-inputs)) out′ at′)
+    → PutsWholeOutputs w r out at out′ at′
+outputs-put w r {bundle = bundle} of-start of-bundle p g s c ks e body =
+    let set = body .set in
+    let room = set .room in
+    let size = set .size in
+    let first : ShowsBundle g w bundle e = rw (of-bundle, of-start, first-bundle (word w set-starts r) (omega arith))
+    (set .each 0 (omega arith)) in
+    p g s c e first
 
 module _ (w : List ℕ) (r : ℕ) {list : ℕ} (handle : list ≡ word w children r) {out out₁ out₂ out₃ : List ℕ} {at at₁ at₂ at₃ : Place}
     (nodes : PutsNodes w list out at out₁ at₁) where
-  pub piece-put : Puts out₁ at₁ (plain (0 ∷ [])) out₂ at₂ → PutsFront w r out₂ at₂ out₃ at₃ → PutsPiece w r out at out₃ at₃
+  pub piece-put : Puts out₁ at₁ (plain (0 ∷ [])) out₂ at₂ → PutsRegionLine w r All list out₂ at₂ out₃ at₃ → PutsPiece w r out at out₃ at₃
   unfolding values-part
-  piece-put p q g s c ks shown = region-put g s r ks [] (nodes g s c ks (rw handle (shown .nodes))) p (q g s c ks shown)
+  piece-put p q g s c ks shown =
+      let here : ShowsNodes g (section w cells) list ks = rw handle (shown .nodes) in
+      region-put g s r ks [] (nodes g s c ks here) p (q g s c (region g r .inputs) ks all-types here)
 
-  pub whole-put : OfRecord w (λ g. r ≡ g .entry) → {start bundle : ℕ} → start ≡ word w set-starts r → bundle ≡ bundle-at start 0
-      → OfState w (λ g s. (e : DeferredEdgeBundle) → ShowsBundle g w bundle e → Puts out₁ at₁ (values-part s (e .target-inputs)) out₂ at₂)
-      → PutsFront w r out₂ at₂ out₃ at₃ → PutsWhole w out at out₃ at₃
-  whole-put entry {bundle = bundle} of-start of-bundle p q g s c ks e shown =
+  pub whole-put : OfRecord w (λ g. r ≡ g .entry) → PutsWholeOutputs w r out₁ at₁ out₂ at₂ → PutsRegionLine w r All list out₂ at₂ out₃ at₃
+      → PutsWhole w out at out₃ at₃
+  whole-put entry p q g s c ks e shown =
       let is : r ≡ g .entry = entry g (c .state .stands) in
       let body : ShowsBody g w r (region-body ks (e ∷ [])) = rw is shown in
-      let set = body .set in
-      let room = set .room in
-      let size = set .size in
-      let first : ShowsBundle g w bundle e = rw (of-bundle, of-start, first-bundle (word w set-starts r) (omega arith))
-      (set .each 0 (omega arith)) in
-      rw is at (region-put g s r ks (e .target-inputs) (nodes g s c ks (rw handle (body .nodes .nodes))) (p g s c e first)
-      (q g s c ks (body .nodes)))
-
--- ---- A region's line: children, types, number, lead.
-pub front-put : (w : List ℕ) (r : ℕ) {list : ℕ} {out out₁ out₂ out₃ out₄ : List ℕ} {at at₁ at₂ at₃ at₄ : Place}
-    → list ≡ word w children r
-    → OfRecord w (λ g. (ks : Nodes) → ShowsNodes g (section w cells) list ks
-    → Puts out at (plain (most (length (sheet.kids ks)) ∷ sheet.kids ks)) out₁ at₁)
-    → OfRecord w (λ g. Puts out₁ at₁ (plain (length (region g r .inputs) ∷ region g r .inputs)) out₂ at₂)
-    → Puts out₂ at₂ (plain (r ∷ [])) out₃ at₃ → Puts out₃ at₃ (plain (0 ∷ [])) out₄ at₄ → PutsFront w r out at out₄ at₄
-front-put w r handle kids types number lead g s c ks shown =
-    let stands = c .state .stands in
-    puts-then (puts-then (puts-then (kids g stands ks (rw handle (shown .nodes))) (types g stands)) number) lead
+      let here : ShowsNodes g (section w cells) list ks = rw handle (body .nodes .nodes) in
+      rw is at (region-put g s r ks (e .target-inputs) (nodes g s c ks here) (p g s c ks e body)
+      (q g s c (region g r .inputs) ks all-types here))
 
 -- ---- By a region's state.
 module _ (g : Graph) (w : List ℕ) (s : NestState) (r : ℕ) {k : ℕ} (kind : k ≡ word w kinds r) where

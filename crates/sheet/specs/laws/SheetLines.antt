@@ -11,6 +11,7 @@ use Rattle.nesting.specs.Nesting.{Nested, Piece, Outcome, untouched, whole, clo
 use Rattle.nesting.specs.Sheet as sheet
 use Rattle.nesting.specs.Sheet.{Field}
 use Rattle.nesting.specs.decoding.Lines.{words-of}
+use Rattle.nesting.specs.SheetNumbers.{lead-region, lead-block, lead-select, lead-loop, lead-exit}
 use Rattle.writing.specs.Parts.{region-words, select-words, loop-words, node-words, nodes-words, cases-words}
 use Rattle.writing.specs.laws.PartLaws.{numbers-words}
 use Rattle.sheet.specs.Whole.{piece-words, defer-words, nested-lines, head-words, nested-words}
@@ -36,9 +37,9 @@ module _ (nodes : List ℕ) where
   region-line : (r : ℕ) (ts : List ℕ) (ks : Nodes) (vs : List Value)
       → words-of (sheet.region-fields nodes r ts ks vs) ≡ region-words same-count nodes r ts ks vs
   region-line r ts ks vs =
-      ap (λ z. 0 ∷ r ∷ z) (ends (sheet.numbers ts .words) (sheet.numbers (sheet.kids ks) .words) (sheet.values nodes vs .words))
-      ∙ ap (λ z. 0 ∷ r ∷ (z ++ sheet.numbers (sheet.kids ks) .words ++ sheet.values nodes vs .words)) (numbers-words ts)
-      ∙ ap (λ z. 0 ∷ r ∷ ((length ts ∷ ts) ++ z ++ sheet.values nodes vs .words)) (numbers-words (sheet.kids ks))
+      ap (λ z. lead-region ∷ r ∷ z) (ends (sheet.numbers ts .words) (sheet.numbers (sheet.kids ks) .words) (sheet.values nodes vs .words))
+      ∙ ap (λ z. lead-region ∷ r ∷ (z ++ sheet.numbers (sheet.kids ks) .words ++ sheet.values nodes vs .words)) (numbers-words ts)
+      ∙ ap (λ z. lead-region ∷ r ∷ ((length ts ∷ ts) ++ z ++ sheet.values nodes vs .words)) (numbers-words (sheet.kids ks))
 
   select-line : (x : SelectNode) (cs : Cases)
       → words-of (sheet.number-as 2 "select" ∷ sheet.a-number (x .number) ∷ sheet.kind (x .kind) ∷ sheet.value nodes (x .scrutinee)
@@ -46,7 +47,7 @@ module _ (nodes : List ℕ) where
       ∷ sheet.numbers (map (λ o. o .type) (x .outputs)) ∷ [])
       ≡ select-words same-count nodes x cs
   select-line x cs =
-      ap (λ z. 2 ∷ x .number ∷ z) (ends-four (sheet.kind (x .kind) .words) (sheet.value nodes (x .scrutinee) .words)
+      ap (λ z. lead-select ∷ x .number ∷ z) (ends-four (sheet.kind (x .kind) .words) (sheet.value nodes (x .scrutinee) .words)
       (sheet.numbers (sheet.case-numbers cs) .words) (sheet.numbers (map (λ o. o .type) (x .outputs)) .words))
 
   loop-line : (x : LoopNode)
@@ -54,7 +55,7 @@ module _ (nodes : List ℕ) where
       ∷ sheet.label "body" ∷ sheet.a-number (x .body) ∷ sheet.label "repeat" ∷ sheet.value nodes (x .repeat) ∷ [])
       ≡ loop-words same-count nodes x
   loop-line x =
-      ap (λ z. 3 ∷ x .number ∷ z)
+      ap (λ z. lead-loop ∷ x .number ∷ z)
       (ends (sheet.values nodes (x .initial-inputs) .words) (x .body ∷ []) (sheet.value nodes (x .repeat) .words))
 
   mutual
@@ -62,8 +63,8 @@ module _ (nodes : List ℕ) where
 
     node-line-words : (k : Node) → of-lines (sheet.node-lines nodes k) ≡ node-words same-count nodes k
     node-line-words (block n r k is) =
-        append-nil (1 ∷ n ∷ (sheet.list (sheet.items nodes r k is) .words ++ []))
-        ∙ ap (λ z. 1 ∷ n ∷ z) (append-nil (sheet.list (sheet.items nodes r k is) .words))
+        append-nil (lead-block ∷ n ∷ (sheet.list (sheet.items nodes r k is) .words ++ []))
+        ∙ ap (λ z. lead-block ∷ n ∷ z) (append-nil (sheet.list (sheet.items nodes r k is) .words))
     node-line-words (select x cs) =
         ap (λ z. z ++ of-lines (sheet.case-lines nodes cs)) (select-line x cs)
         ∙ ap (λ z. select-words same-count nodes x cs ++ z) (case-line-words cs)
@@ -77,8 +78,8 @@ module _ (nodes : List ℕ) where
         ∙ sym (append-assoc (loop-words same-count nodes x) (region-words same-count nodes (x .body) (x .types) ks (x .outputs))
         (nodes-words same-count nodes ks))
     node-line-words (exit n op vs) =
-        append-nil (4 ∷ n ∷ op ∷ (sheet.values nodes vs .words ++ []))
-        ∙ ap (λ z. 4 ∷ n ∷ op ∷ z) (append-nil (sheet.values nodes vs .words))
+        append-nil (lead-exit ∷ n ∷ op ∷ (sheet.values nodes vs .words ++ []))
+        ∙ ap (λ z. lead-exit ∷ n ∷ op ∷ z) (append-nil (sheet.values nodes vs .words))
 
     nodes-line-words : (ks : Nodes) → of-lines (sheet.nodes-lines nodes ks) ≡ nodes-words same-count nodes ks
     nodes-line-words ⟨⟩ = refl

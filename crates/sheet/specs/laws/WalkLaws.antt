@@ -8,11 +8,15 @@ use Rattle.meaning.specs.Graph.{Graph, Value, region, exit-invocation}
 use Rattle.meaning.specs.Runs.{Nodes, ⟨⟩, Cases, exit, loop, case-count}
 use Rattle.nesting.specs.Nesting.{plain, blocks-of, new-select, loop-node}
 use Rattle.state.specs.Sections.{section, cells}
+use Rattle.state.specs.CellRows as rows
+use Rattle.state.specs.CellRows.{tag-blocks, tag-join, tag-exit, tag-select, tag-loop, cell-tag, blocks-region, join-list, exit-node}
+use Rattle.state.specs.CellRows.{exit-region, select-node, select-cases, loop-body, loop-header, cases-after, case-region}
+use Rattle.state.specs.CellRows.{children-of-case}
 use Rattle.shown.specs.Cells.{ShowsCaseCells, no-cases, case-and}
 use Rattle.shown.specs.laws.Conditions.{few-cases}
 use Rattle.shown.specs.laws.CellSteps.{no-list}
 use Rattle.children.specs.CellByCell.{CellAdded, added-blocks, added-list, added-exit, added-select, added-loop, ListAppended, appends}
-use Rattle.children.specs.CellByCell.{FirstCase, case-first, cell-word, list-at, list-before, case-cell, CaseTotal}
+use Rattle.children.specs.CellByCell.{FirstCase, case-first, list-before, case-cell, CaseTotal}
 use Rattle.children.specs.laws.CellByCellLaws.{appended, first-case, case-after, case-some}
 use Rattle.writing.specs.declared.place.Place.{Place}
 use Rattle.writing.specs.Puts.{Puts}
@@ -27,59 +31,60 @@ use Rattle.sheet.specs.Regions.{PutsNodes}
 use Rattle.sheet.specs.Walk.{PutsCell, PutsCases, PutsLoopLines, Behind, PutsBehind}
 
 -- ---- By the tag of a cell.
-module _ (w : List ℕ) (h : ℕ) {tag : ℕ} (of-tag : tag ≡ cell-word w h 0) where
-  with-tag : {n : ℕ} → tag ≡ n → {g : Graph} {ks : Nodes} → CellAdded g w h ks (cell-word w h 0) → CellAdded g w h ks n
+module _ (w : List ℕ) (h : ℕ) {tag : ℕ} (of-tag : tag ≡ cell-tag w h) where
+  with-tag : {n : ℕ} → tag ≡ n → {g : Graph} {ks : Nodes} → CellAdded g w h ks (cell-tag w h) → CellAdded g w h ks n
   with-tag e x = rw (sym of-tag ∙ e) at x
 
-  pub cell-blocks : {r : ℕ} {out out′ : List ℕ} {at at′ : Place} → tag ≡ 1 → r ≡ cell-word w h 2
+  pub cell-blocks : {r : ℕ} {out out′ : List ℕ} {at at′ : Place} → tag ≡ tag-blocks → r ≡ blocks-region w h
       → OfState w (λ g s. Puts out at (nodes-part s (blocks-of g r)) out′ at′) → PutsCell w h out at out′ at′
   cell-blocks {out = out} {out′} {at} {at′} e a p g s c ks x = go (with-tag e x)
     where
-      go : CellAdded g w h ks 1 → Puts out at (nodes-part s ks) out′ at′
+      go : CellAdded g w h ks tag-blocks → Puts out at (nodes-part s ks) out′ at′
       go (added-blocks some z) = rw z (rw a at (p g s c))
 
-  pub cell-list : {list : ℕ} {out out′ : List ℕ} {at at′ : Place} → tag ≡ 2 → list ≡ list-at w h 2 → PutsNodes w list out at out′ at′
+  pub cell-list : {list : ℕ} {out out′ : List ℕ} {at at′ : Place} → tag ≡ tag-join → list ≡ join-list w h → PutsNodes w list out at out′ at′
       → PutsCell w h out at out′ at′
   cell-list {out = out} {out′} {at} {at′} e a p g s c ks x = go (with-tag e x)
     where
-      go : CellAdded g w h ks 2 → Puts out at (nodes-part s ks) out′ at′
+      go : CellAdded g w h ks tag-join → Puts out at (nodes-part s ks) out′ at′
       go (added-list z) = p g s c ks (rw a z)
 
-  pub cell-exit : {node r : ℕ} {out out′ : List ℕ} {at at′ : Place} → tag ≡ 3 → node ≡ cell-word w h 2 → r ≡ cell-word w h 3
+  pub cell-exit : {node r : ℕ} {out out′ : List ℕ} {at at′ : Place} → tag ≡ tag-exit → node ≡ exit-node w h → r ≡ exit-region w h
       → OfState w (λ g s. (op : ℕ) (vs : List Value) → region g r .terminator ≡ exit-invocation op vs
       → Puts out at (node-part s (exit node op vs)) out′ at′) → PutsCell w h out at out′ at′
   cell-exit {node} {out = out} {out′} {at} {at′} e a b p g s c ks x = go (with-tag e x)
     where
-      go : CellAdded g w h ks 3 → Puts out at (nodes-part s ks) out′ at′
+      go : CellAdded g w h ks tag-exit → Puts out at (nodes-part s ks) out′ at′
       go (added-exit {op} {vs} t z) =
           rw (z, ← a) (puts-as (p g s c op vs (rw b t)) (sym (one-node-part s (exit node op vs))))
 
-  pub cell-select : {list node : ℕ} {out out₁ out₂ : List ℕ} {at at₁ at₂ : Place} → tag ≡ 4 → list ≡ list-at w h 5
-      → node ≡ cell-word w h 2 → PutsCases w list node 0 out at out₁ at₁ → PutsSelectLine w h out₁ at₁ out₂ at₂
+  pub cell-select : {list node : ℕ} {out out₁ out₂ : List ℕ} {at at₁ at₂ : Place} → tag ≡ tag-select → list ≡ select-cases w h
+      → node ≡ select-node w h → PutsCases w list node 0 out at out₁ at₁ → PutsSelectLine w h out₁ at₁ out₂ at₂
       → PutsCell w h out at out₂ at₂
   cell-select {out = out} {out₂ = out₂} {at = at} {at₂ = at₂} e a b p q g s c ks x = go (with-tag e x)
     where
-      go : CellAdded g w h ks 4 → Puts out at (nodes-part s ks) out₂ at₂
+      go : CellAdded g w h ks tag-select → Puts out at (nodes-part s ks) out₂ at₂
       go (added-select {kind} {v} {cs} shape t cases z) =
           let m = few-cases shape in
           let first = p g s c cs (rw a cases) (omega arith) in
           rw z (puts-as (puts-then (rw b at first) (q g s c kind v cs shape t cases))
-          (sym (one-node-part s (new-select (cell-word w h 2) kind v cs) ∙ new-select-part s (cell-word w h 2) kind v cs)))
+          (sym (one-node-part s (new-select (select-node w h) kind v cs) ∙ new-select-part s (select-node w h) kind v cs)))
 
-  pub cell-loop : {list : ℕ} {out out₁ out₂ : List ℕ} {at at₁ at₂ : Place} → tag ≡ 5 → list ≡ list-at w h 1
+  pub cell-loop : {list : ℕ} {out out₁ out₂ : List ℕ} {at at₁ at₂ : Place} → tag ≡ tag-loop → list ≡ loop-body w h
       → PutsNodes w list out at out₁ at₁
       → PutsLoopLines w h out₁ at₁ out₂ at₂ → PutsCell w h out at out₂ at₂
   cell-loop {out = out} {out₂ = out₂} {at = at} {at₂ = at₂} e a p q g s c ks x = go (with-tag e x)
     where
-      go : CellAdded g w h ks 5 → Puts out at (nodes-part s ks) out₂ at₂
+      go : CellAdded g w h ks tag-loop → Puts out at (nodes-part s ks) out₂ at₂
       go (added-loop {v} {ns} y nodes t kept z) =
-          let x = loop-node g (cell-word w h 2) (cell-word w h 3) y v in
+          let x = loop-node g (rows.loop-node w h) (loop-header w h) y v in
           rw z (puts-as (puts-then (p g s c ns (rw a nodes)) (q g s c y v ns nodes t kept))
           (sym (one-node-part s (loop x ns) ∙ loop-is s x ns
           ∙ sym (parts-assoc (loop-part s x) (region-part s (x .body) (x .types) ns (x .outputs)) (nodes-part s ns)))))
 
   -- A cell of another tag adds nothing that is shown.
-  pub cell-none : (tag ≡ 1 → ⊥) → (tag ≡ 2 → ⊥) → (tag ≡ 3 → ⊥) → (tag ≡ 4 → ⊥) → (tag ≡ 5 → ⊥) → (out : List ℕ) (at : Place)
+  pub cell-none : (tag ≡ tag-blocks → ⊥) → (tag ≡ tag-join → ⊥) → (tag ≡ tag-exit → ⊥) → (tag ≡ tag-select → ⊥) → (tag ≡ tag-loop → ⊥)
+      → (out : List ℕ) (at : Place)
       → PutsCell w h out at out at
   cell-none a b d e f out at g s c ks x = go x of-tag
     where
@@ -99,7 +104,7 @@ no-cases-put w node j e out at g s c cs x few = go x e
     go (case-and y p q ns cs z) e = absurd (omega arith)
 
 cases-put : (w : List ℕ) (list node j : ℕ) {before kids k : ℕ} {out out₁ out₂ out₃ : List ℕ} {at at₁ at₂ at₃ : Place} → 1 ≤ list
-    → before ≡ list-at w list 1 → k ≡ suc j → PutsCases w before node k out at out₁ at₁ → kids ≡ list-at w list 3
+    → before ≡ cases-after w list → k ≡ suc j → PutsCases w before node k out at out₁ at₁ → kids ≡ children-of-case w list
     → PutsNodes w kids out₁ at₁ out₂ at₂ → PutsCaseLine w list node j out₂ at₂ out₃ at₃ → PutsCases w list node j out at out₃ at₃
 cases-put w list node j {out = out} {out₃ = out₃} {at = at} {at₃ = at₃} some b following later a nodes line g s c cs x few = go
     (first-case w x some) few
@@ -110,7 +115,7 @@ cases-put w list node j {out = out} {out₃ = out₃} {at = at} {at₃ = at₃} 
         let first = later g s c rest (rw b others) (omega arith) in
         rw z (puts-as (puts-then (puts-then (rw following at first) (nodes g s c ns (rw a shown)))
         (line g s c ns shown (values-shown (c .state .tables) (omega arith))))
-        (sym (new-case-part s (cell-word w list 2) ns rest node j)))
+        (sym (new-case-part s (case-region w list) ns rest node j)))
 
 -- The loop over the cases: those from place j on are put.
 module _ (w : List ℕ) (list node : ℕ) where
@@ -118,7 +123,7 @@ module _ (w : List ℕ) (list node : ℕ) where
   cases-start {n} total out at = no-cases-put w node n (total .end) out at
 
   pub cases-turn : (j : ℕ) {n c kids : ℕ} {out out₁ out₂ out₃ : List ℕ} {at at₁ at₂ at₃ : Place} → CaseTotal w list n → 0 < j → j ≤ n
-      → PutsCases w (case-cell w list j) node j out at out₁ at₁ → c ≡ case-cell w list (j - 1) → kids ≡ list-at w c 3
+      → PutsCases w (case-cell w list j) node j out at out₁ at₁ → c ≡ case-cell w list (j - 1) → kids ≡ children-of-case w c
       → PutsNodes w kids out₁ at₁ out₂ at₂ → PutsCaseLine w c node (j - 1) out₂ at₂ out₃ at₃
       → PutsCases w (case-cell w list (j - 1)) node (j - 1) out at out₃ at₃
   cases-turn j {c = c} total some within later e a nodes line =

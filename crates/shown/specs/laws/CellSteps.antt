@@ -14,11 +14,13 @@ use Rattle.meaning.specs.Runs.{Nodes, ⟨⟩, _▸_, Cases, ∅, loop, exit, ca
 use Rattle.meaning.specs.facts.Tests.{clash}
 use Rattle.nesting.specs.Nesting.{join, has-children, blocks-of, blocks-from, new-case, new-select, LoopInputs, loop-node, most-regions}
 use Rattle.state.specs.declared.cells.Cell.{Cell}
+use Rattle.state.specs.declared.cells.Cell.the-variants.{Blocks, Join, Exit, Select, Loop, Case, Kept}
 use Rattle.state.specs.Sections as sections
 use Rattle.state.specs.Sections.{Section, number, start, size, used, section, word, stored, stored-all, head, conditions, cells}
 use Rattle.state.specs.Sections.{most-cells}
 use Rattle.state.specs.laws.Apart.{section-other}
-use Rattle.state.specs.Tables.{Adds, added, no-room, cell-words, Joins, first-empty, second-empty, joined}
+use Rattle.state.specs.CellRows.{cell-words}
+use Rattle.state.specs.Tables.{Adds, added, no-room, Joins, first-empty, second-empty, joined}
 use Rattle.shown.specs.Values.{value}
 use Rattle.shown.specs.laws.FrontKept.{front-by}
 use Rattle.shown.specs.laws.Stores.{section-run, part-length, head-same, ChangesOnly, head-changes, run-changes, changes-then}
@@ -69,6 +71,15 @@ module _ (g : Graph) (l : List ℕ) (i : ℕ) (xs : List ℕ) where
         case-and (cell-before x n) p q (nodes-before ns (omega arith)) (cases-before cs (omega arith)) e
 
 -- ---- A cell more, where there is room.
+six-words : (x : Cell) → length (cell-words x) ≡ 6
+six-words (Blocks r) = refl
+six-words (Join p q) = refl
+six-words (Exit p n r) = refl
+six-words (Select p n shape x q) = refl
+six-words (Loop p n r x q) = refl
+six-words (Case p r q) = refl
+six-words (Kept p k wrapper x) = refl
+
 module _ {w w′ : List ℕ} {x : Cell} {h : ℕ} (step : Adds w w′ x h) (free : word w head 4 < most-cells) (room : used ≤ length w) where
   abbrev with-cell : List ℕ
   with-cell = stored-all w cells (6 * h) (cell-words x)
@@ -102,13 +113,17 @@ module _ {w w′ : List ℕ} {x : Cell} {h : ℕ} (step : Adds w w′ x h) (free
   cells-after = ap (λ l. section l cells) (is-added .words) ∙ section-other with-cell head 4 (h + 1) cells (omega arith)
       ∙ section-run w cells (6 * h) (cell-words x)
 
-  pub cell-there : CellIs (section w′ cells) h (x .tag) (x .before) (x .a) (x .b) (x .c) (x .d)
+  abbrev word-of : ℕ → ℕ
+  word-of i = getD (cell-words x) i 0
+
+  pub cell-there : CellIs (section w′ cells) h (word-of 0) (word-of 1) (word-of 2) (word-of 3) (word-of 4) (word-of 5)
   cell-there =
+      let six = six-words x in
       let l = section w cells in
       let z = part-length (start cells) (size cells) w (omega arith) in
       let b = is-added .below in
       let at : (k : ℕ) → k < 6 → getD (sets l (6 * h) (cell-words x)) (6 * h + k) 0 ≡ getD (cell-words x) k 0 =
-      λ k i. run-in l (6 * h) (cell-words x) k (omega arith) i in
+      λ k i. run-in l (6 * h) (cell-words x) k (omega arith) (rw six i) in
       rw cells-after
       record {
         is-tag = at 0 (omega arith);
@@ -207,32 +222,14 @@ module _ {w w′ : List ℕ} {x : Cell} {h : ℕ} (step : Adds w w′ x h) (free
       }
 
 -- ---- The cells, by kind.
-abbrev pub blocks-cell : ℕ → Cell
-blocks-cell r = record { tag = 1; before = 0; a = r; b = 0; c = 0; d = 0 }
-
-abbrev pub exit-cell : ℕ → ℕ → ℕ → Cell  -- the list before it, node, region
-exit-cell p n r = record { tag = 3; before = p; a = n; b = r; c = 0; d = 0 }
-
-abbrev pub select-cell : ℕ → ℕ → ℕ → ℕ → ℕ → Cell  -- the list before it, node, shape, scrutinee, cases
-select-cell p n shape x q = record { tag = 4; before = p; a = n; b = shape; c = x; d = q }
-
-abbrev pub loop-cell : ℕ → ℕ → ℕ → ℕ → ℕ → Cell  -- its body, node, header, repeat value, kept inputs
-loop-cell p n r x q = record { tag = 5; before = p; a = n; b = r; c = x; d = q }
-
-abbrev pub case-cell : ℕ → ℕ → ℕ → Cell  -- the cases after it, region, children
-case-cell p r q = record { tag = 6; before = p; a = r; b = q; c = 0; d = 0 }
-
-abbrev pub kept-cell : ℕ → ℕ → ℕ → ℕ → Cell  -- those before it, number, wrapper, value passed back
-kept-cell p k wrapper x = record { tag = 7; before = p; a = k; b = wrapper; c = x; d = 0 }
-
 module _ {w w′ : List ℕ} {h : ℕ} (free : word w head 4 < most-cells) (room : used ≤ length w) {g : Graph} where
-  pub blocks-added : {r : ℕ} → Adds w w′ (blocks-cell r) h → 1 ≤ word w head 4 → 1 ≤ length (region g r .blocks)
+  pub blocks-added : {r : ℕ} → Adds w w′ (Blocks r) h → 1 ≤ word w head 4 → 1 ≤ length (region g r .blocks)
       → ShowsChildren g w′ h (blocks-of g r)
   blocks-added step one some =
       let e = cell-handle step free room in
       record { nodes = all-blocks (cell-there step free room) (omega arith) some refl; made = new-made step free room }
 
-  pub exit-added : {p n r op : ℕ} {vs : List Value} {ns : Nodes} → Adds w w′ (exit-cell p n r) h → ShowsChildren g w p ns
+  pub exit-added : {p n r op : ℕ} {vs : List Value} {ns : Nodes} → Adds w w′ (Exit p n r) h → ShowsChildren g w p ns
       → region g r .terminator ≡ exit-invocation op vs → ShowsChildren g w′ h (join ns (exit n op vs ▸ ⟨⟩))
   exit-added step ns e =
       record {
@@ -242,7 +239,7 @@ module _ {w w′ : List ℕ} {h : ℕ} (free : word w head 4 < most-cells) (room
       }
 
   pub select-added : {p n shape x q : ℕ} {kind : SelectionKind} {v : Value} {cs : Cases} {ns : Nodes}
-      → Adds w w′ (select-cell p n shape x q) h → ShowsChildren g w p ns → ShowsShape shape (case-count cs) kind → value x ≡ v
+      → Adds w w′ (Select p n shape x q) h → ShowsChildren g w p ns → ShowsShape shape (case-count cs) kind → value x ≡ v
       → ShowsCaseList g w q cs
       → ShowsChildren g w′ h (join ns (new-select n kind v cs ▸ ⟨⟩))
   select-added step ns s v cs =
@@ -253,7 +250,7 @@ module _ {w w′ : List ℕ} {h : ℕ} (free : word w head 4 < most-cells) (room
         made = new-made step free room;
       }
 
-  pub loop-added : {p n r x q : ℕ} {v : Value} {ns : Nodes} (y : LoopInputs) → Adds w w′ (loop-cell p n r x q) h → ShowsChildren g w p ns
+  pub loop-added : {p n r x q : ℕ} {v : Value} {ns : Nodes} (y : LoopInputs) → Adds w w′ (Loop p n r x q) h → ShowsChildren g w p ns
       → value x ≡ v → ShowsKeptList g w r q y → ShowsChildren g w′ h (loop (loop-node g n r y v) ns ▸ ⟨⟩)
   loop-added y step ns v k =
       record {
@@ -263,7 +260,7 @@ module _ {w w′ : List ℕ} {h : ℕ} (free : word w head 4 < most-cells) (room
         made = new-made step free room;
       }
 
-  pub case-added : {p r q : ℕ} {ns : Nodes} {cs : Cases} → Adds w w′ (case-cell p r q) h → ShowsChildren g w q ns → ShowsCaseList g w p cs
+  pub case-added : {p r q : ℕ} {ns : Nodes} {cs : Cases} → Adds w w′ (Case p r q) h → ShowsChildren g w q ns → ShowsCaseList g w p cs
       → ShowsCaseList g w′ h (new-case r ns cs)
   case-added step ns cs =
       record {
@@ -273,7 +270,7 @@ module _ {w w′ : List ℕ} {h : ℕ} (free : word w head 4 < most-cells) (room
         made = new-made step free room;
       }
 
-  pub kept-added : {r p k wrapper x : ℕ} {v : Value} (y z : LoopInputs) → Adds w w′ (kept-cell p k wrapper x) h → k < 4
+  pub kept-added : {r p k wrapper x : ℕ} {v : Value} (y z : LoopInputs) → Adds w w′ (Kept p k wrapper x) h → k < 4
       → wrapper < most-regions → ShowsKeptList g w r p y → value x ≡ v → z .initial-inputs ≡ y .initial-inputs ++ (input wrapper k ∷ [])
       → z .types ≡ y .types ++ (getD (region g r .inputs) k 0 ∷ []) → z .outputs ≡ y .outputs ++ (v ∷ [])
       → ShowsKeptList g w′ r h z

@@ -1,16 +1,20 @@
 -- The record and its index stay: what each store leaves, and steps one after another.
 use mathlib.Core.Path.{_≡_, refl, sym, _∙_}
+use mathlib.Core.Bool.{Bool, true, false}
 use mathlib.Core.List.{List}
 use Prim.Native.Nat.{ℕ, _+_, _*_}
 use native.Mathlib.Omega.{arith}
+use lib.Dec.{ltb}
 use Rattle.meaning.specs.Graph.{Graph}
+use Rattle.meaning.specs.Lists.{pick}
 use Rattle.record.specs.Stands.{Stands}
 use Rattle.fields.specs.laws.Unchanged.{still-stands}
 use Rattle.state.specs.declared.cells.Cell.{Cell}
 use Rattle.state.specs.declared.defined.Defined.{Defined}
 use Rattle.state.specs.Sections as sections
-use Rattle.state.specs.Sections.{Section, number, start, size, part, stored, stored-all, front, head, kinds, cells}
-use Rattle.state.specs.Tables.{Adds, added, no-room, cell-words, Defines, defined, full}
+use Rattle.state.specs.Sections.{Section, number, start, size, part, stored, stored-all, front, head, kinds, cells, bundles}
+use Rattle.state.specs.Tables.{Adds, added, no-room, Defines, defined, full, input-stored}
+use Rattle.state.specs.CellRows.{cell-words}
 use Rattle.state.specs.laws.Apart.{stored-length, section-other}
 use Rattle.shown.specs.laws.Stores.{run-length, run-other, ChangesOnly}
 use Rattle.shown.specs.Front.{SameFront, SameKinds}
@@ -56,6 +60,14 @@ kinds-stored w k d i x =
 
 pub kinds-run : (w : List ℕ) (k : Section) → BehindKinds k → (i : ℕ) (xs : List ℕ) → SameKinds w (stored-all w k i xs)
 kinds-run w k d i xs = record { front = front-run w k (d .not-front) i xs; kinds-words = run-other w k i xs kinds (d .not-kinds) }
+
+pub kinds-input-stored : (l : List ℕ) (p k x : ℕ) → SameKinds l (input-stored l p k x)
+unfolding input-stored
+kinds-input-stored l p k x = go (ltb k 4)
+  where
+    go : (b : Bool) → SameKinds l (pick b (stored l bundles (7 * p + (3 + k)) x) l)
+    go true = kinds-stored l bundles (omega arith) (7 * p + (3 + k)) x
+    go false = kinds-same l
 
 pub kinds-by : {k : Section} {i : ℕ} {w w′ : List ℕ} → ChangesOnly k i w w′ → BehindKinds k → SameKinds w w′
 kinds-by changes d =

@@ -8,19 +8,16 @@ blocks-before-requires c κs = search needs
 as-word-requires : tie.Need-as-word-requires
 as-word-requires c κs = search needs
 
-slice-aggregate-put-all : tie.Need-slice-aggregate-put-all
-slice-aggregate-put-all c = search needs
-
-put-all-requires : tie.Need-put-all-requires
-put-all-requires c κs = search needs
+set-first-totals-requires : tie.Need-set-first-totals-requires
+set-first-totals-requires c κs = search needs
 
 returns : tie.Need-returns
 returns c =
-    let at-as-word = c .before .before .before in
+    let at-as-word = c .before .before in
     let at-blocks-before = at-as-word .before in
     λ g s.
     rw (at-as-word .as-word .ensures, at-blocks-before .blocks-before .ensures .is g s)
-    at (c .put-all .ensures)
+    at (c .set-first-totals .ensures)
 
 pub start-totals-spec : {M : Type 1} → statement M
 start-totals-spec =
@@ -28,6 +25,5 @@ start-totals-spec =
     (tie.spec
     blocks-before-requires
     as-word-requires
-    slice-aggregate-put-all
-    put-all-requires
+    set-first-totals-requires
     returns)

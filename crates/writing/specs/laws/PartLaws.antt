@@ -13,6 +13,7 @@ use Rattle.meaning.specs.Runs.{Node, Nodes, ⟨⟩, _▸_, Cases, ∅, case, bl
 use Rattle.meaning.specs.facts.Numbers.{one-further}
 use Rattle.nesting.specs.Nesting.{NestState, NodeOutput, LookUp, plain, join, look-up-node, look-up-nodes, look-up-cases}
 use Rattle.nesting.specs.Sheet as sheet
+use Rattle.nesting.specs.SheetNumbers.{lead-region}
 use Rattle.writing.specs.declared.place.Place.{Place}
 use Rattle.writing.specs.Puts.{Part, Puts}
 use Rattle.writing.specs.laws.PutsLaws.{_⊕_, puts-then, puts-as}
@@ -96,9 +97,9 @@ module _ (s : NestState) where
   -- A region's line: number, inputs' types, child nodes, output values.
   pub region-line : (r : ℕ) (ts : List ℕ) (ks : Nodes) (vs : List Value)
       → region-part s r ts ks vs
-      ≡ plain (0 ∷ r ∷ length ts ∷ ts) ⊕ plain (most (length (sheet.kids ks)) ∷ sheet.kids ks) ⊕ values-part s vs
+      ≡ plain (lead-region ∷ r ∷ length ts ∷ ts) ⊕ plain (most (length (sheet.kids ks)) ∷ sheet.kids ks) ⊕ values-part s vs
   unfolding region-part values-part
-  region-line r ts ks vs = rw (append-assoc (0 ∷ r ∷ length ts ∷ ts) (most (length (sheet.kids ks)) ∷ sheet.kids ks) _)
+  region-line r ts ks vs = rw (append-assoc (lead-region ∷ r ∷ length ts ∷ ts) (most (length (sheet.kids ks)) ∷ sheet.kids ks) _)
 
 -- ---- Parts without a note.
 pub each-plain : {A : Type 0} (f : A → List ℕ) (xs : List A) → each (λ x. plain (f x)) xs ≡ plain (concat (map f xs))

@@ -66,8 +66,8 @@ put-word-requires c κs = search needs
 put-requires : tie.Need-put-requires Inv-loop μ-loop
 put-requires c κs = search needs
 
-put-requires-2 : tie.Need-put-requires-2 Inv-loop μ-loop
-put-requires-2 c κs = search needs
+put-word-requires-2 : tie.Need-put-word-requires-2 Inv-loop μ-loop
+put-word-requires-2 c κs = search needs
 
 same-length : tie.Need-same-length Inv-loop μ-loop
 same-length c = search needs
@@ -86,7 +86,7 @@ returns c = λ g s x.
     (at-count .before .before .loop-test .left) (at-loop .loop .inv .2 g s x) in
     puts-as
     (puts-then (puts-then (puts-then items (rw size at (at-count .put-word .ensures))) (at-node .put .ensures))
-    (c .before .before .put2 .ensures))
+    (c .before .before .put-word2 .ensures))
     (rw (at-first .instructions-before .ensures .0 g stands) (sym (block-listed s (start .args .r) (start .args .node) _ is)))
 
 pub put-block-spec : {M : Type 1} → statement M
@@ -106,6 +106,6 @@ put-block-spec =
     loop-again
     put-word-requires
     put-requires
-    put-requires-2
+    put-word-requires-2
     same-length
     returns)

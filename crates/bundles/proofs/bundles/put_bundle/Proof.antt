@@ -9,20 +9,14 @@ use Rattle.bundles.proofs.bundles.put_bundle.Tie as tie
 set-bundle-requires : tie.Need-set-bundle-requires
 set-bundle-requires c κs = search needs
 
-mul-put-all : tie.Need-mul-put-all
-mul-put-all c = search needs
-
-add-put-all : tie.Need-add-put-all
-add-put-all c = search needs
-
-put-all-requires : tie.Need-put-all-requires
-put-all-requires c κs = search needs
+set-target-inputs-requires : tie.Need-set-target-inputs-requires
+set-target-inputs-requires c κs = search needs
 
 returns : tie.Need-returns
 returns c = run-then _ bundles _
-    (c .before .before .before .before .before .args .t ∷ edges-word (c .before .before .before .before .before .args .n .0)
-    ∷ c .before .before .before .before .before .args .c ∷ []) _ (c .before .before .before .set-bundle .ensures) (c .put-all .ensures)
+    (c .before .before .before .before .args .t ∷ edges-word (c .before .before .before .before .args .n .0)
+    ∷ c .before .before .before .before .args .c ∷ []) _ (c .before .before .set-bundle .ensures) (c .set-target-inputs .ensures)
 
 pub put-bundle-spec : {M : Type 1} → statement M
 put-bundle-spec =
-    tie.close (tie.spec set-bundle-requires mul-put-all add-put-all put-all-requires returns)
+    tie.close (tie.spec set-bundle-requires set-target-inputs-requires returns)

@@ -4,18 +4,12 @@ use borrow.Author.Needs.{needs}
 use Rattle.bundles.proofs.bundles.target_type.Statement.{statement}
 use Rattle.bundles.proofs.bundles.target_type.Tie as tie
 
-add-get : tie.Need-add-get
-add-get c = search needs
-
-add-get-2 : tie.Need-add-get-2
-add-get-2 c = search needs
-
-get-requires : tie.Need-get-requires
-get-requires c κs = search needs
+returned-type-requires : tie.Need-returned-type-requires
+returned-type-requires c κs = search needs
 
 returns : tie.Need-returns
 unfolding target-type
-returns c g s = rw (eq-eqb _ _ (c .before .if1 .taken)) (c .get .ensures)
+returns c g s = rw (eq-eqb _ _ (c .before .if1 .taken)) (c .returned-type .ensures)
 
 input-type-requires : tie.Need-input-type-requires
 input-type-requires c κs = search needs
@@ -26,4 +20,4 @@ returns-2 c g s = rw (ne-eqb _ _ (c .before .if1 .left)) (c .input-type .ensures
 
 pub target-type-spec : {M : Type 1} → statement M
 target-type-spec =
-    tie.close (tie.spec add-get add-get-2 get-requires returns input-type-requires returns-2)
+    tie.close (tie.spec returned-type-requires returns input-type-requires returns-2)

@@ -8,19 +8,13 @@ use Rattle.bundles.proofs.taken.put_case.Tie as tie
 set-case-requires : tie.Need-set-case-requires
 set-case-requires c κs = search needs
 
-mul-put-all : tie.Need-mul-put-all
-mul-put-all c = search needs
-
-add-put-all : tie.Need-add-put-all
-add-put-all c = search needs
-
-put-all-requires : tie.Need-put-all-requires
-put-all-requires c κs = search needs
+set-case-inputs-requires : tie.Need-set-case-inputs-requires
+set-case-inputs-requires c κs = search needs
 
 returns : tie.Need-returns
-returns c = run-then _ cases _ (case-words (c .before .before .before .before .before .args .x)) _
-    (c .before .before .before .set-case .ensures) (c .put-all .ensures)
+returns c = run-then _ cases _ (case-words (c .before .before .before .before .args .x)) _
+    (c .before .before .set-case .ensures) (c .set-case-inputs .ensures)
 
 pub put-case-spec : {M : Type 1} → statement M
 put-case-spec =
-    tie.close (tie.spec set-case-requires mul-put-all add-put-all put-all-requires returns)
+    tie.close (tie.spec set-case-requires set-case-inputs-requires returns)

@@ -12,8 +12,8 @@ condition-in-requires c κs = search needs
 put-condition-requires : tie.Need-put-condition-requires
 put-condition-requires c κs = search needs
 
-put-inputs-requires : tie.Need-put-inputs-requires
-put-inputs-requires c κs = search needs
+put-target-inputs-requires : tie.Need-put-target-inputs-requires
+put-target-inputs-requires c κs = search needs
 
 target-requires : tie.Need-target-requires
 target-requires c κs = search needs
@@ -27,8 +27,8 @@ to-word-requires c κs = search needs
 put-three-requires : tie.Need-put-three-requires
 put-three-requires c κs = search needs
 
-put-requires : tie.Need-put-requires
-put-requires c κs = search needs
+put-word-requires : tie.Need-put-word-requires
+put-word-requires c κs = search needs
 
 same-length : tie.Need-same-length
 same-length c = search needs
@@ -48,9 +48,9 @@ returns c =
     (puts-then
     (puts-then
     (puts-then (condition .put-condition .ensures _ (condition-is shows s (start .args .r) d (number .condition-in .ensures) size))
-    (inputs .put-inputs .ensures g s x e shows))
+    (inputs .put-target-inputs .ensures g s x e shows))
     (three .put-three .ensures))
-    (lead .put .ensures))
+    (lead .put-word .ensures))
     (line-is shows s (start .args .r) d (to .target .ensures)
     (word .to-word .ensures ∙ edges-fit _ (count .accumulated-count .ensures .1) ∙ count .accumulated-count .ensures .0))
 
@@ -60,11 +60,11 @@ put-bundle-spec =
     (tie.spec
     condition-in-requires
     put-condition-requires
-    put-inputs-requires
+    put-target-inputs-requires
     target-requires
     accumulated-count-requires
     to-word-requires
     put-three-requires
-    put-requires
+    put-word-requires
     same-length
     returns)

@@ -8,9 +8,9 @@ use Rattle.shown.specs.Values.{value}
 use Rattle.writing.specs.laws.PutsLaws.{puts-as}
 use Rattle.writing.specs.Parts.{OfState, value-part}
 use Rattle.children.specs.laws.CellByCellLaws.{named-below}
-use Rattle.loop_lines.specs.Kept.{kept-word, CellsPut, kept-cells, values-are}
-use Rattle.loop_lines.specs.laws.KeptLaws.{cells-turn, cells-counted}
-use Rattle.loop_lines.specs.laws.KeptLaws.{cells-start}
+use Rattle.child_numbers.specs.Kept.{kept-word, CellsPut, kept-cells, values-are}
+use Rattle.child_numbers.specs.laws.KeptLaws.{cells-turn, cells-counted}
+use Rattle.child_numbers.specs.laws.KeptLaws.{cells-start}
 use Rattle.loop_lines.proofs.kept.put_kept_values.Statement.{statement}
 use Rattle.loop_lines.proofs.kept.put_kept_values.Tie as tie
 

@@ -1,71 +1,48 @@
 use borrow.Author.Needs.{needs}
-use mathlib.Core.Path.{sym}
-use Rattle.writing.specs.laws.PutsLaws.{puts-then, puts-as}
-use Rattle.writing.specs.laws.PartLaws.{region-line}
+use Rattle.child_numbers.specs.RegionLine.{kept-types}
+use Rattle.child_numbers.specs.laws.RegionLineLaws.{line-put}
 use Rattle.loop_lines.proofs.lines.put_body_line.Statement.{statement}
 use Rattle.loop_lines.proofs.lines.put_body_line.Tie as tie
 
-cell-b-requires : tie.Need-cell-b-requires
-cell-b-requires c κs = search needs
+loop-header-requires : tie.Need-loop-header-requires
+loop-header-requires c κs = search needs
 
-inner-list-requires : tie.Need-inner-list-requires
-inner-list-requires c κs = search needs
+loop-kept-requires : tie.Need-loop-kept-requires
+loop-kept-requires c κs = search needs
 
 put-kept-values-requires : tie.Need-put-kept-values-requires
 put-kept-values-requires c κs = search needs
 
-cell-before-requires : tie.Need-cell-before-requires
-cell-before-requires c κs = search needs
+loop-body-requires : tie.Need-loop-body-requires
+loop-body-requires c κs = search needs
 
-put-kids-requires : tie.Need-put-kids-requires
-put-kids-requires c κs = search needs
-
-put-kept-types-requires : tie.Need-put-kept-types-requires
-put-kept-types-requires c κs = search needs
-
-put-word-requires : tie.Need-put-word-requires
-put-word-requires c κs = search needs
-
-put-requires : tie.Need-put-requires
-put-requires c κs = search needs
+put-region-line-requires : tie.Need-put-region-line-requires
+put-region-line-requires c κs = search needs
 
 same-length : tie.Need-same-length
 same-length c = search needs
 
 returns : tie.Need-returns
 returns c =
-    let lead = c .before .before in
-    let region = lead .before .before .before .before in
-    let types = region .before .before .before .before in
-    let numbers = types .before .before .before .before in
-    let body = numbers .before in
+    let line = c .before .before in
+    let body = line .before in
     let outputs = body .before .before .before .before in
     let kept = outputs .before .before in
     let header = kept .before in
     λ g s x y v ns nodes repeat keeps.
-    let here = rw (← header .cell-b .ensures, ← kept .inner-list .ensures) at keeps in
-    puts-as
-    (puts-then
-    (puts-then
-    (puts-then
-    (puts-then (outputs .put-kept-values .ensures g s x _ y here)
-    (numbers .put-kids .ensures g (x .state .stands) ns (rw (body .cell-before .ensures) nodes)))
-    (types .put-kept-types .ensures g s x y here))
-    (region .put-word .ensures))
-    (lead .put .ensures))
-    (rw (header .cell-b .ensures) (sym (region-line s _ (y .types) ns (y .outputs))))
+    let here = rw (← header .loop-header .ensures, ← kept .loop-kept .ensures) at keeps in
+    rw (header .loop-header .ensures) at
+    (line-put s _ (y .types) ns (y .outputs) (outputs .put-kept-values .ensures g s x _ y here)
+    (line .put-region-line .ensures g s x (y .types) ns (kept-types y here) (rw (body .loop-body .ensures) nodes)))
 
 pub put-body-line-spec : {M : Type 1} → statement M
 put-body-line-spec =
     tie.close
     (tie.spec
-    cell-b-requires
-    inner-list-requires
+    loop-header-requires
+    loop-kept-requires
     put-kept-values-requires
-    cell-before-requires
-    put-kids-requires
-    put-kept-types-requires
-    put-word-requires
-    put-requires
+    loop-body-requires
+    put-region-line-requires
     same-length
     returns)

@@ -5,32 +5,32 @@ use Rattle.loop_lines.specs.LoopParts.{loop-line}
 use Rattle.loop_lines.proofs.lines.put_loop_line.Statement.{statement}
 use Rattle.loop_lines.proofs.lines.put_loop_line.Tie as tie
 
-cell-c-requires : tie.Need-cell-c-requires
-cell-c-requires c κs = search needs
+loop-repeat-requires : tie.Need-loop-repeat-requires
+loop-repeat-requires c κs = search needs
 
 put-value-requires : tie.Need-put-value-requires
 put-value-requires c κs = search needs
 
-cell-b-requires : tie.Need-cell-b-requires
-cell-b-requires c κs = search needs
+loop-header-requires : tie.Need-loop-header-requires
+loop-header-requires c κs = search needs
 
 put-word-requires : tie.Need-put-word-requires
 put-word-requires c κs = search needs
 
-inner-list-requires : tie.Need-inner-list-requires
-inner-list-requires c κs = search needs
+loop-kept-requires : tie.Need-loop-kept-requires
+loop-kept-requires c κs = search needs
 
 put-kept-values-requires : tie.Need-put-kept-values-requires
 put-kept-values-requires c κs = search needs
 
-cell-a-requires : tie.Need-cell-a-requires
-cell-a-requires c κs = search needs
+loop-node-requires : tie.Need-loop-node-requires
+loop-node-requires c κs = search needs
 
 put-word-requires-2 : tie.Need-put-word-requires-2
 put-word-requires-2 c κs = search needs
 
-put-requires : tie.Need-put-requires
-put-requires c κs = search needs
+put-word-requires-3 : tie.Need-put-word-requires-3
+put-word-requires-3 c κs = search needs
 
 same-length : tie.Need-same-length
 same-length c = search needs
@@ -52,23 +52,23 @@ returns c =
     (puts-then
     (puts-then
     (puts-then (again .put-value .ensures g s x) (body .put-word .ensures))
-    (initial .put-kept-values .ensures g s x _ y (rw (← kept .inner-list .ensures) at keeps)))
+    (initial .put-kept-values .ensures g s x _ y (rw (← kept .loop-kept .ensures) at keeps)))
     (number .put-word2 .ensures))
-    (lead .put .ensures))
-    (rw (word .cell-c .ensures, repeat, header .cell-b .ensures, node .cell-a .ensures) (sym (loop-line s _)))
+    (lead .put-word3 .ensures))
+    (rw (word .loop-repeat .ensures, repeat, header .loop-header .ensures, node .loop-node .ensures) (sym (loop-line s _)))
 
 pub put-loop-line-spec : {M : Type 1} → statement M
 put-loop-line-spec =
     tie.close
     (tie.spec
-    cell-c-requires
+    loop-repeat-requires
     put-value-requires
-    cell-b-requires
+    loop-header-requires
     put-word-requires
-    inner-list-requires
+    loop-kept-requires
     put-kept-values-requires
-    cell-a-requires
+    loop-node-requires
     put-word-requires-2
-    put-requires
+    put-word-requires-3
     same-length
     returns)

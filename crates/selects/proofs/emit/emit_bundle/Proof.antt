@@ -9,8 +9,8 @@ target-requires c κs = search needs
 per-case-deferred-requires : tie.Need-per-case-deferred-requires
 per-case-deferred-requires c κs = search needs
 
-cell-a-requires : tie.Need-cell-a-requires
-cell-a-requires c κs = search needs
+select-node-requires : tie.Need-select-node-requires
+select-node-requires c κs = search needs
 
 emit-inputs-requires : tie.Need-emit-inputs-requires
 emit-inputs-requires c κs = search needs
@@ -21,12 +21,12 @@ enum-told c = search needs
 returns : tie.Need-returns
 returns c =
     let at-emit-inputs = c .before .before in
-    let at-cell-a = at-emit-inputs .before .before .before in
-    let at-per-case-deferred = at-cell-a .before .before in
+    let at-select-node = at-emit-inputs .before .before .before in
+    let at-per-case-deferred = at-select-node .before .before in
     let at-target = at-per-case-deferred .before in
     bundle-refused _ _ _ (at-target .target .ensures)
     (at-per-case-deferred .per-case-deferred .ensures)
-    (at-cell-a .cell-a .ensures)
+    (at-select-node .select-node .ensures)
     (at-emit-inputs .emit-inputs .ensures) (c .enum-told .given .1)
 
 enum-told-2 : tie.Need-enum-told-2
@@ -39,12 +39,12 @@ returns-2 : tie.Need-returns-2
 returns-2 c =
     let at-enum-told = c .before .before .before in
     let at-emit-inputs = at-enum-told .before .before in
-    let at-cell-a = at-emit-inputs .before .before .before in
-    let at-per-case-deferred = at-cell-a .before .before in
+    let at-select-node = at-emit-inputs .before .before .before in
+    let at-per-case-deferred = at-select-node .before .before in
     let at-target = at-per-case-deferred .before in
     bundle-made _ _ _ (at-target .target .ensures)
     (at-per-case-deferred .per-case-deferred .ensures)
-    (at-cell-a .cell-a .ensures)
+    (at-select-node .select-node .ensures)
     (at-emit-inputs .emit-inputs .ensures) (at-enum-told .enum-told2 .given .1)
     (c .emit-condition .ensures)
 
@@ -54,7 +54,7 @@ emit-bundle-spec =
     (tie.spec
     target-requires
     per-case-deferred-requires
-    cell-a-requires
+    select-node-requires
     emit-inputs-requires
     enum-told
     returns

@@ -6,15 +6,15 @@ use Rattle.sheet.proofs.cell.inner_total.Tie as tie
 cell-tag-requires : tie.Need-cell-tag-requires
 cell-tag-requires c κs = search needs
 
-inner-list-requires : tie.Need-inner-list-requires
-inner-list-requires c κs = search needs
+select-cases-requires : tie.Need-select-cases-requires
+select-cases-requires c κs = search needs
 
 case-total-requires : tie.Need-case-total-requires
 case-total-requires c κs = search needs
 
 returns : tie.Need-returns
 returns c = total-cases _ _ (c .before .before .before .cell-tag .ensures) (c .before .before .if1 .taken)
-    (c .before .inner-list .ensures) (c .case-total .ensures)
+    (c .before .select-cases .ensures) (c .case-total .ensures)
 
 returns-2 : tie.Need-returns-2
 returns-2 c = total-joined _ _ (c .before .before .cell-tag .ensures) (c .if2 .taken)
@@ -31,7 +31,7 @@ inner-total-spec =
     tie.close
     (tie.spec
     cell-tag-requires
-    inner-list-requires
+    select-cases-requires
     case-total-requires
     returns
     returns-2

@@ -6,8 +6,8 @@ use Rattle.sheet.proofs.cell.put_own_lines.Tie as tie
 cell-tag-requires : tie.Need-cell-tag-requires
 cell-tag-requires c κs = search needs
 
-cell-a-requires : tie.Need-cell-a-requires
-cell-a-requires c κs = search needs
+blocks-region-requires : tie.Need-blocks-region-requires
+blocks-region-requires c κs = search needs
 
 put-blocks-requires : tie.Need-put-blocks-requires
 put-blocks-requires c κs = search needs
@@ -18,14 +18,14 @@ same-length c = search needs
 returns : tie.Need-returns
 returns c =
     let d = c .before .before .before .before .before in
-    own-blocks _ _ (d .before .cell-tag .ensures) (d .if1 .taken) (c .before .before .before .cell-a .ensures)
+    own-blocks _ _ (d .before .cell-tag .ensures) (d .if1 .taken) (c .before .before .before .blocks-region .ensures)
     (c .before .before .put-blocks .ensures)
 
-cell-a-requires-2 : tie.Need-cell-a-requires-2
-cell-a-requires-2 c κs = search needs
+exit-node-requires : tie.Need-exit-node-requires
+exit-node-requires c κs = search needs
 
-cell-b-requires : tie.Need-cell-b-requires
-cell-b-requires c κs = search needs
+exit-region-requires : tie.Need-exit-region-requires
+exit-region-requires c κs = search needs
 
 put-exit-requires : tie.Need-put-exit-requires
 put-exit-requires c κs = search needs
@@ -36,8 +36,8 @@ same-length-2 c = search needs
 returns-2 : tie.Need-returns-2
 returns-2 c =
     let d = c .before .before .before .before in
-    own-exit _ _ (d .before .before .before .before .cell-tag .ensures) (d .before .before .if2 .taken) (d .cell-a2 .ensures)
-    (c .before .before .before .cell-b .ensures)
+    own-exit _ _ (d .before .before .before .before .cell-tag .ensures) (d .before .before .if2 .taken) (d .exit-node .ensures)
+    (c .before .before .before .exit-region .ensures)
     (c .before .before .put-exit .ensures)
 
 put-select-line-requires : tie.Need-put-select-line-requires
@@ -73,12 +73,12 @@ put-own-lines-spec =
     tie.close
     (tie.spec
     cell-tag-requires
-    cell-a-requires
+    blocks-region-requires
     put-blocks-requires
     same-length
     returns
-    cell-a-requires-2
-    cell-b-requires
+    exit-node-requires
+    exit-region-requires
     put-exit-requires
     same-length-2
     returns-2

@@ -9,8 +9,8 @@ children-requires c κs = search needs
 put-nodes-requires : tie.Need-put-nodes-requires
 put-nodes-requires c κs = search needs
 
-put-requires : tie.Need-put-requires
-put-requires c κs = search needs
+put-word-requires : tie.Need-put-word-requires
+put-word-requires c κs = search needs
 
 put-region-line-requires : tie.Need-put-region-line-requires
 put-region-line-requires c κs = search needs
@@ -20,9 +20,11 @@ same-length c = search needs
 
 returns : tie.Need-returns
 returns c =
-    let d = c .before .before .before .before .before .before in
-    piece-put _ _ (d .before .before .before .before .before .children .ensures) (d .before .before .before .before .put-nodes .ensures)
-    (d .put .ensures) (c .before .before .put-region-line .ensures)
+    let line = c .before .before in
+    let none = line .before .before .before .before in
+    let nodes = none .before .before .before .before in
+    let list = nodes .before .before in
+    piece-put _ _ (list .children .ensures) (nodes .put-nodes .ensures) (none .put-word .ensures) (line .put-region-line .ensures)
 
 pub put-piece-spec : {M : Type 1} → statement M
 put-piece-spec =
@@ -30,7 +32,7 @@ put-piece-spec =
     (tie.spec
     children-requires
     put-nodes-requires
-    put-requires
+    put-word-requires
     put-region-line-requires
     same-length
     returns)

@@ -12,14 +12,8 @@ children-requires c κs = search needs
 put-nodes-requires : tie.Need-put-nodes-requires
 put-nodes-requires c κs = search needs
 
-set-start-requires : tie.Need-set-start-requires
-set-start-requires c κs = search needs
-
-bundle-at-requires : tie.Need-bundle-at-requires
-bundle-at-requires c κs = search needs
-
-put-inputs-requires : tie.Need-put-inputs-requires
-put-inputs-requires c κs = search needs
+put-whole-outputs-requires : tie.Need-put-whole-outputs-requires
+put-whole-outputs-requires c κs = search needs
 
 put-region-line-requires : tie.Need-put-region-line-requires
 put-region-line-requires c κs = search needs
@@ -29,15 +23,13 @@ same-length c = search needs
 
 returns : tie.Need-returns
 returns c =
-    let d = c .before .before .before .before .before .before in
-    let at-set-start = d .before .before in
-    let at-put-nodes = at-set-start .before .before .before .before in
-    let at-children = at-put-nodes .before in
-    let at-entry = at-children .before .before in
-    whole-put _ _ (at-children .children .ensures)
-    (at-put-nodes .put-nodes .ensures)
-    (at-entry .entry .ensures) (at-set-start .set-start .ensures)
-    (d .before .bundle-at .ensures) (d .put-inputs .ensures) (c .before .before .put-region-line .ensures)
+    let line = c .before .before in
+    let outputs = line .before .before .before .before in
+    let nodes = outputs .before .before .before .before in
+    let list = nodes .before .before in
+    let entry = list .before in
+    whole-put _ _ (list .children .ensures) (nodes .put-nodes .ensures) (entry .entry .ensures)
+    (outputs .put-whole-outputs .ensures) (line .put-region-line .ensures)
 
 pub put-whole-spec : {M : Type 1} → statement M
 put-whole-spec =
@@ -46,9 +38,7 @@ put-whole-spec =
     entry-requires
     children-requires
     put-nodes-requires
-    set-start-requires
-    bundle-at-requires
-    put-inputs-requires
+    put-whole-outputs-requires
     put-region-line-requires
     same-length
     returns)

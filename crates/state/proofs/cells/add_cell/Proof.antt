@@ -14,6 +14,9 @@ cast-at c = search needs
 mul-at : tie.Need-mul-at
 mul-at c = search needs
 
+cell-words-requires : tie.Need-cell-words-requires
+cell-words-requires c κs = search needs
+
 slice-aggregate-put-all : tie.Need-slice-aggregate-put-all
 slice-aggregate-put-all c = search needs
 
@@ -29,10 +32,10 @@ set-head-requires c κs = search needs
 returns : tie.Need-returns
 returns c =
     let at-put-all = c .before .before in
-    let at-if = at-put-all .before .before .before in
-    let at-head = at-if .before in
-    added (at-head .head .ensures) (at-if .if1 .taken)
-    (rw (at-put-all .put-all .ensures) at (c .set-head .ensures))
+    let at-words = at-put-all .before .before .before in
+    let at-if = at-words .before in
+    added (at-if .before .head .ensures) (at-if .if1 .taken)
+    (rw (at-put-all .put-all .ensures, at-words .cell-words .ensures) at (c .set-head .ensures))
 
 returns-2 : tie.Need-returns-2
 returns-2 c = no-room (omega (arith, c .before .head .ensures)) refl refl
@@ -44,6 +47,7 @@ add-cell-spec =
     head-requires
     cast-at
     mul-at
+    cell-words-requires
     slice-aggregate-put-all
     put-all-requires
     add-set-head
