@@ -9,7 +9,7 @@ use Rattle.format.specs.Store.{Answer, accepted, refused, store-words}
 use Rattle.format.specs.Accept.{accept}
 use Rattle.store.specs.Layout.{record-end, index-end}
 use Rattle.store.specs.Loaded.{answered}
-use Rattle.store.specs.declared.Checked.{Checked}
+use Rattle.store.specs.declared.Verdict.{Verdict}
 use Rattle.record.specs.Stands.{Stands}
 use Rattle.record.specs.Outcome.{forget, RestKept, record-in}
 use Rattle.accept.specs.declared.Accepted.{Accepted}
@@ -33,6 +33,6 @@ pub record Accepts (s old new : List ℕ) (a : Accepted) : Type 0 where
   pub as-lent : (n w : ℕ) → store-words s ≡ refused n w → new ≡ old
 
 -- Of the record in front of the words: what reading and references answer, and that only the index may have changed.
-pub record ReadChecked (old new : List ℕ) (a : Checked) : Type 0 where
+pub record ReadChecked (old new : List ℕ) (a : Verdict) : Type 0 where
   pub judged : Judged (record-in old) new (answered a)
   pub kept : RestKept old new

@@ -1,6 +1,5 @@
 pub mod Paths
 pub mod Targets
-pub mod ReadTypes
 pub mod RecordValues
 pub mod Deferred
 pub mod CaseSteps

@@ -3,7 +3,8 @@ use Prim.Native.Nat.{ℕ}
 use lib.ListN.{length}
 use Rattle.meaning.specs.Graph as graph
 use Rattle.meaning.specs.Graph.{Instr, ControlInst, edges-of}
-use Rattle.format.specs.Read.{control-inst}
+use Rattle.format.specs.Read.{control-inst, terminator-unreachable, terminator-return, terminator-exit, terminator-branch, terminator-bool}
+use Rattle.format.specs.Read.{terminator-number}
 use Rattle.format.specs.References.{values-of}
 use Rattle.fields.specs.declared.shape.Value.{Value}
 use Rattle.fields.specs.declared.shape.Value.the-variants.{Const, Input, Instr as Output, Bool as Truth, Undef, Nothing}
@@ -24,14 +25,14 @@ value-is Nothing = graph.Value.no-value
 abbrev pub instruction-is : Instr → Instruction
 instruction-is i = record { opcode = i .opcode; ty = i .type; cost = i .cost; reads = length (i .reads) }
 
--- The number of a kind of terminator, and the opcode that kind 2 has.
+-- The number of a kind of terminator, and the opcode that ExitInvocation has.
 abbrev pub kind-is : Terminator → ℕ
-kind-is Unreachable = 0
-kind-is Return = 1
-kind-is (ExitInvocation op) = 2
-kind-is Branch = 3
-kind-is SelectBool = 4
-kind-is SelectNumber = 5
+kind-is Unreachable = terminator-unreachable
+kind-is Return = terminator-return
+kind-is (ExitInvocation op) = terminator-exit
+kind-is Branch = terminator-branch
+kind-is SelectBool = terminator-bool
+kind-is SelectNumber = terminator-number
 
 abbrev pub opcode-is : Terminator → ℕ
 opcode-is Unreachable = 0

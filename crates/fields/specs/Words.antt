@@ -5,7 +5,7 @@ use Prim.Native.Nat.{ℕ, zero, suc, _+_, _*_}
 use lib.ListN.{getD}
 use lib.Dec.{eqb, ltb}
 use Rattle.meaning.specs.Graph.{Value, no-value}
-use Rattle.format.specs.Read.{value-from-words}
+use Rattle.format.specs.Read.{value-from-words, terminator-exit}
 use Rattle.store.specs.Layout.{beyond, start-word, limit-word, blocks-word, index-at}
 use Rattle.reading.specs.Readings.{stands}
 use Rattle.meaning.specs.Lists.{pick}
@@ -58,7 +58,7 @@ module _ (w : List ℕ) where
 
   unfoldable pub values-place : ℕ → ℕ
   values-place r =
-      pick (eqb (getD w (indexed r limit-word + 1) 0) 2) (placed (indexed r limit-word + 3)) (placed (indexed r limit-word + 2))
+      let at = indexed r limit-word in pick (eqb (getD w (at + 1) 0) terminator-exit) (placed (at + 3)) (placed (at + 2))
 
   unfoldable pub targets-place : ℕ → ℕ
   targets-place r = behind-values (values-place r)

@@ -9,3 +9,5 @@ pub mod Targets
 pub mod Passed
 pub mod Turns
 pub mod Unchanged
+pub mod Returns
+pub mod UndefinedTypes

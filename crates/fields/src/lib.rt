@@ -11,6 +11,7 @@ ghost use Rattle.fields.specs.ByNumber.{BlocksBefore, ValuesAt, block-of
 
 mod places;
 pub mod shape;
+pub mod types;
 mod words;
 
 use places::block_place;
@@ -20,6 +21,11 @@ use places::instruction_place;
 use places::passed_place;
 use places::targets_place;
 use places::values_place;
+use reading::kinds::TERMINATOR_BOOL;
+use reading::kinds::TERMINATOR_BRANCH;
+use reading::kinds::TERMINATOR_EXIT;
+use reading::kinds::TERMINATOR_RETURN;
+use reading::kinds::TERMINATOR_UNREACHABLE;
 pub use shape::Instruction;
 pub use shape::Terminator;
 pub use shape::Value;
@@ -28,6 +34,9 @@ use store::layout::EXITS;
 use store::layout::LIMIT;
 use store::layout::START;
 use store::layout::word_at;
+pub use types::first_return;
+pub use types::return_type;
+pub use types::type_in;
 use words::place;
 use words::stood_before;
 pub use words::value_item;
@@ -179,19 +188,19 @@ pub fn terminator(w: &[u16; WORDS], r: u16) -> Terminator
 {
     let p = indexed(w, r, LIMIT) as usize;
     let kind = word_at(w, p + 1);
-    if kind == 0 {
+    if kind == TERMINATOR_UNREACHABLE {
         return Terminator::Unreachable;
     }
-    if kind == 1 {
+    if kind == TERMINATOR_RETURN {
         return Terminator::Return;
     }
-    if kind == 2 {
+    if kind == TERMINATOR_EXIT {
         return Terminator::ExitInvocation(word_at(w, p + 2));
     }
-    if kind == 3 {
+    if kind == TERMINATOR_BRANCH {
         return Terminator::Branch;
     }
-    if kind == 4 {
+    if kind == TERMINATOR_BOOL {
         return Terminator::SelectBool;
     }
     Terminator::SelectNumber

@@ -8,6 +8,7 @@ use super::words::behind_words;
 use super::words::place;
 use super::words::stood_before;
 use super::words::word_item;
+use reading::kinds::TERMINATOR_EXIT;
 use store::WORDS;
 use store::layout::BEYOND;
 use store::layout::BLOCK_PLACES;
@@ -67,12 +68,12 @@ pub fn instruction_place(w: &[u16; WORDS], r: u16, b: u16, i: u16) -> u16
     BEYOND
 }
 
-// The kind stands behind the turn limit; an opcode word stands for kind 2 only.
+// The kind stands behind the turn limit; an opcode word stands for ExitInvocation only.
 pub fn values_place(w: &[u16; WORDS], r: u16) -> u16
     ensures { λ a. ⌜ a ≡ words.values-place (now (w .entry)) r ⌝ }
 {
     let p = indexed(w, r, LIMIT) as usize;
-    if word_at(w, p + 1) == 2 {
+    if word_at(w, p + 1) == TERMINATOR_EXIT {
         return place(p + 3);
     }
     place(p + 2)

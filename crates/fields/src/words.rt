@@ -4,6 +4,10 @@ ghost use Rattle.format.specs.Read.{value-from-words};
 ghost use Rattle.fields.specs.Shape.{value-is};
 ghost use Rattle.fields.specs.Words.{placed, word-item, value-item, behind-words, behind-values, again};
 use super::shape::Value;
+use reading::kinds::BOOL_KIND;
+use reading::kinds::CONST_KIND;
+use reading::kinds::INPUT_KIND;
+use reading::kinds::INSTR_KIND;
 use reading::words::stands_before;
 use store::WORDS;
 use store::layout::BEYOND;
@@ -33,19 +37,19 @@ pub fn word_item(w: &[u16; WORDS], p: u16, k: u16) -> u16
 fn value_of(kind: u16, region: u16, index: u16) -> Value
     ensures { λ a. ⌜ value-is a ≡ value-from-words kind region index ⌝ }
 {
-    if kind == 1 {
+    if kind == INPUT_KIND {
         return Value::Input(region, index);
     }
-    if kind == 2 {
+    if kind == INSTR_KIND {
         return Value::Instr(region, index);
     }
     if region != 0 {
         return Value::Nothing;
     }
-    if kind == 0 {
+    if kind == CONST_KIND {
         return Value::Const(index);
     }
-    if kind != 4 {
+    if kind != BOOL_KIND {
         return Value::Undef(index);
     }
     if index < 2 {

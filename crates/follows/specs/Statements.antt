@@ -12,6 +12,7 @@ use Rattle.meaning.specs.Runs.{Nodes, Given, Ended, graph-run, NestedEnded, end
 use Rattle.format.specs.Store.{accepted, refused}
 use Rattle.format.specs.Accept.{accept}
 use Rattle.format.specs.Valid.{Valid}
+use Rattle.format.specs.Refusals.{wrong-length, exit-named-twice, too-many, too-few-words, figure-too-large}
 use Rattle.nesting.specs.Nesting.{whole, closed, Nested, reachable, structurize-func}
 use Rattle.nesting.specs.Sheet.{figure, Sheet, sheet-of, answer}
 use Rattle.nesting.specs.AnswerValues.{NoMarks, NestedNamed}
@@ -92,10 +93,10 @@ Sound = (store : List ℕ) (lent : ℕ) (s : Sheet) → answer store lent ≡ ac
 -- 5. REFUSED. Each refusal has a number from 1 to 11 and its word: of the store or the record (1 to 8) a block, a region or 0; of
 -- nesting's limits (9), the lent words (10) and the figure (11) it is 0. So neither 0 nor 12, where the Rust stops, is ever met.
 pub data Refusal : ℕ → ℕ → Type 0 where
-  by-store : {n w : ℕ} → Within 1 8 n → w < 32 → Refusal n w
-  by-limit : Refusal 9 0
-  by-lent : Refusal 10 0
-  by-figure : Refusal 11 0
+  by-store : {n w : ℕ} → Within wrong-length exit-named-twice n → w < 32 → Refusal n w
+  by-limit : Refusal too-many 0
+  by-lent : Refusal too-few-words 0
+  by-figure : Refusal figure-too-large 0
 
 abbrev pub Refused : Type 0
 Refused = (store : List ℕ) (lent n w : ℕ) → answer store lent ≡ refused n w → Refusal n w

@@ -1,3 +1,4 @@
+pub mod Refusals
 pub mod Store
 pub mod Read
 pub mod References

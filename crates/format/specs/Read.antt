@@ -5,8 +5,10 @@ use Prim.Native.Nat.{ℕ, zero, suc, _+_}
 use lib.ListN.{length, getD}
 use lib.Dec.{eqb, leb, ltb}
 use Rattle.format.specs.Store.{Answer, accepted, refused, if-accepted}
+use Rattle.format.specs.Refusals.{wrong-word-count, out-of-range}
 use Rattle.meaning.specs.Graph.{Value, const, input, instr, bool, undef, no-value, Instr, bool-cond, number, Edge, ControlInst, unreachable}
 use Rattle.meaning.specs.Graph.{return, exit-invocation, branch, select-branch, Region, Graph, no-edge}
+use Rattle.meaning.specs.Graph.{const-kind, input-kind, instr-kind, bool-kind, undef-kind}
 use Rattle.meaning.specs.Lists.{pick, distinct-from, rank}
 
 -- What was read and the place after it, or the refusal's number.
@@ -32,14 +34,14 @@ _>>=_ p k ws at = read-then (p ws at) (λ a at′. k a ws at′)
 abbrev pub _>>_ : {A B : Type 0} → Reader A → Reader B → Reader B
 _>>_ p q ws at = read-then (p ws at) (λ a at′. q ws at′)
 
--- 5 unless the test holds
+-- Out of range unless the test holds.
 abbrev pub expect : Bool → Reader Unit
 expect true ws at = got tt at
-expect false ws at = bad 5
+expect false ws at = bad out-of-range
 
--- A word; past W it is 4.
+-- A word; past W there is none.
 unfoldable pub word : Reader ℕ
-word ws at = elim (ltb at (length ws)) [ true ↦ got (getD ws at 0) (at + 1) | false ↦ bad 4 ]
+word ws at = elim (ltb at (length ws)) [ true ↦ got (getD ws at 0) (at + 1) | false ↦ bad wrong-word-count ]
 
 -- A count, type, kind or limit, within its bounds.
 unfoldable pub within : ℕ → ℕ → Reader ℕ
@@ -62,25 +64,25 @@ unfoldable pub type : Reader ℕ
 unfolding within
 type = within 1 255
 
--- The kinds that a record may have: 3, the output of a node, arises only in nesting.
+-- The kinds that a record may have: the output of a node arises only in nesting.
 abbrev pub is-kind : ℕ → Bool
-is-kind k = leb k 2 || (eqb k 4 || eqb k 5)
+is-kind k = leb k instr-kind || (eqb k bool-kind || eqb k undef-kind)
 
--- Kinds 0, 4 and 5 have region 0, and kind 4 has index 0 or 1. What breaks that names nothing,
+-- Constants, booleans and undefined values have region 0, and a boolean has index 0 or 1. What breaks that names nothing,
 -- and the references refuse it.
 abbrev pub bool-of : ℕ → Value
 bool-of i = pick (leb i 1) (bool (eqb i 1)) no-value
 
 abbrev pub fixed-of : ℕ → ℕ → Value
-fixed-of k i = pick (eqb k 0) (const i) (pick (eqb k 4) (bool-of i) (undef i))
+fixed-of k i = pick (eqb k const-kind) (const i) (pick (eqb k bool-kind) (bool-of i) (undef i))
 
 abbrev pub value-from-words : ℕ → ℕ → ℕ → Value
 value-from-words k r i =
-    pick (eqb k 1) (input r i) (pick (eqb k 2) (instr r i) (pick (eqb r 0) (fixed-of k i) no-value))
+    pick (eqb k input-kind) (input r i) (pick (eqb k instr-kind) (instr r i) (pick (eqb r 0) (fixed-of k i) no-value))
 
--- The index of kind 5, undefined, is a type.
+-- The index of an undefined value is its type.
 abbrev pub index-right : ℕ → ℕ → Bool
-index-right k i = pick (eqb k 5) (leb 1 i && leb i 255) true
+index-right k i = pick (eqb k undef-kind) (leb 1 i && leb i 255) true
 
 -- Three words: kind, region, index.
 unfoldable pub read-value : Reader Value
@@ -106,42 +108,60 @@ unfoldable pub block : Reader (List Instr)
 unfolding counted instruction
 block = counted 1 8 instruction
 
--- The opcode word stands for ExitInvocation, kind 2, only.
+-- The kinds of terminators (document 01, "store and record"); the last two are SelectBranch on a boolean and on a number.
+abbrev pub terminator-unreachable : ℕ
+terminator-unreachable = 0
+
+abbrev pub terminator-return : ℕ
+terminator-return = 1
+
+abbrev pub terminator-exit : ℕ
+terminator-exit = 2
+
+abbrev pub terminator-branch : ℕ
+terminator-branch = 3
+
+abbrev pub terminator-bool : ℕ
+terminator-bool = 4
+
+abbrev pub terminator-number : ℕ
+terminator-number = 5
+
+-- The opcode word stands for ExitInvocation only.
 unfoldable pub opcode-for : ℕ → Reader ℕ
 unfolding word
-opcode-for k ws at = elim (eqb k 2) [ true ↦ word ws at | false ↦ got 0 at ]
+opcode-for k ws at = elim (eqb k terminator-exit) [ true ↦ word ws at | false ↦ got 0 at ]
 
 -- How many values and targets a kind of terminator has, at least and at most.
 abbrev pub fewest-values : ℕ → ℕ
-fewest-values k = pick (leb 4 k) 1 0
+fewest-values k = pick (leb terminator-bool k) 1 0
 
 abbrev pub most-values : ℕ → ℕ
-most-values k = pick (leb 4 k) 1 (pick (eqb k 1 || eqb k 2) 4 0)
+most-values k = pick (leb terminator-bool k) 1 (pick (eqb k terminator-return || eqb k terminator-exit) 4 0)
 
 abbrev pub fewest-targets : ℕ → ℕ
-fewest-targets k = pick (eqb k 4) 2 (pick (leb 3 k) 1 0)
+fewest-targets k = pick (eqb k terminator-bool) 2 (pick (leb terminator-branch k) 1 0)
 
 abbrev pub most-targets : ℕ → ℕ
-most-targets k = pick (eqb k 5) 8 (pick (eqb k 4) 2 (pick (eqb k 3) 1 0))
+most-targets k = pick (eqb k terminator-number) 8 (pick (eqb k terminator-bool) 2 (pick (eqb k terminator-branch) 1 0))
 
 -- Each place of the targets, with the values passed to its target.
 unfoldable pub edges-passed : List ℕ → List (List Value) → List Edge
 unfolding distinct-from rank
 edges-passed ts passes = map (λ t. record { target = t; inputs = getD passes (rank t (distinct-from [] ts)) [] }) ts
 
--- Kinds 0 Unreachable, 1 Return, 2 ExitInvocation, 3 Branch, 4 SelectBranch on a boolean, 5 SelectBranch on a number.
 abbrev pub control-inst : ℕ → ℕ → List Value → List Edge → ControlInst
 control-inst k op vs es =
-    pick (eqb k 0) unreachable
-    (pick (eqb k 1) (return vs)
-    (pick (eqb k 2) (exit-invocation op vs)
-    (pick (eqb k 3) (branch (getD es 0 no-edge))
-    (select-branch (pick (eqb k 4) bool-cond number) (getD vs 0 (undef 0)) es))))
+    pick (eqb k terminator-unreachable) unreachable
+    (pick (eqb k terminator-return) (return vs)
+    (pick (eqb k terminator-exit) (exit-invocation op vs)
+    (pick (eqb k terminator-branch) (branch (getD es 0 no-edge))
+    (select-branch (pick (eqb k terminator-bool) bool-cond number) (getD vs 0 (undef 0)) es))))
 
 unfoldable pub terminator : Reader ControlInst
 unfolding within opcode-for counted many read-value distinct-from edges-passed
 terminator = do
-  k ← within 0 5
+  k ← within terminator-unreachable terminator-number
   op ← opcode-for k
   vs ← counted (fewest-values k) (most-values k) read-value
   ts ← counted (fewest-targets k) (most-targets k) word
@@ -158,9 +178,9 @@ read-region = do
   exits ← counted 0 32 word
   read-as (record { inputs = inputs; blocks = blocks; limit = limit; terminator = end; exits = exits })
 
--- 5 has the region being read for its word, 0 before the first; 4 has 0.
+-- `out-of-range` has the region being read for its word, 0 before the first; `wrong-word-count` has 0.
 abbrev pub word-for : ℕ → ℕ → ℕ
-word-for n r = pick (eqb n 5) r 0
+word-for n r = pick (eqb n out-of-range) r 0
 
 abbrev pub settle : {A B : Type 0} → ℕ → Read A → (A → ℕ → Answer B) → Answer B
 settle r (got a at) k = k a at
@@ -169,7 +189,7 @@ settle r (bad n) k = refused n (word-for n r)
 -- n regions from number r on, and the place after them
 unfoldable pub regions-from : ℕ → ℕ → List ℕ → ℕ → Answer (List Region)
 unfolding read-region
-regions-from zero r ws at = elim (eqb at (length ws)) [ true ↦ accepted [] | false ↦ refused 4 0 ]
+regions-from zero r ws at = elim (eqb at (length ws)) [ true ↦ accepted [] | false ↦ refused wrong-word-count 0 ]
 regions-from (suc n) r ws at =
     settle r (read-region ws at) λ x at′. if-accepted (regions-from n (suc r) ws at′) λ xs. accepted (x ∷ xs)
 

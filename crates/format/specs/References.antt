@@ -9,6 +9,7 @@ use Rattle.meaning.specs.Graph.{ControlInst, unreachable, return, exit-invocati
 use Rattle.meaning.specs.Graph.{no-value}
 use Rattle.meaning.specs.Lists.{concat, is-in, pick}
 use Rattle.format.specs.Store.{Answer, accepted, refused, if-accepted}
+use Rattle.format.specs.Refusals.{wrong-reference, wrong-type, exit-named-twice}
 
 -- A region's instructions are counted from 0 through its blocks.
 unfoldable pub instructions : List (List Instr) → List Instr
@@ -84,11 +85,11 @@ is-region g r = ltb r (length (g .regions))
 module _ (g : Graph) (r : ℕ) where
   unfoldable pub named-right : ℕ → Value → Answer Unit
   unfolding instructions
-  named-right before v = refuse-unless 6 r (not (eqb (type-in g r before v) 0))
+  named-right before v = refuse-unless wrong-reference r (not (eqb (type-in g r before v) 0))
 
   unfoldable pub of-type : ℕ → Value → Answer Unit
   unfolding instructions
-  of-type t v = refuse-unless 7 r (eqb (type-in g r (behind-all g r) v) t)
+  of-type t v = refuse-unless wrong-type r (eqb (type-in g r (behind-all g r) v) t)
 
   -- Each read of the instructions from number k on.
   unfoldable pub reads-right : ℕ → List Instr → Answer Unit
@@ -106,7 +107,7 @@ module _ (g : Graph) (r : ℕ) where
   -- Values for inputs of these types: as many, then each named, and of its type.
   unfoldable pub passed-right : List ℕ → List Value → Answer Unit
   unfolding types-right
-  passed-right types vs = if-accepted (refuse-unless 7 r (eqb (length vs) (length types))) λ _. types-right types vs
+  passed-right types vs = if-accepted (refuse-unless wrong-type r (eqb (length vs) (length types))) λ _. types-right types vs
 
   unfoldable pub test-right : SelectionKind → Value → Answer Unit
   unfolding of-type
@@ -122,7 +123,7 @@ module _ (g : Graph) (r : ℕ) where
   values-right (select-branch k v es) = if-accepted (named-right (behind-all g r) v) λ _. test-right k v
 
   unfoldable pub target-right : Edge → Answer Unit
-  target-right e = refuse-unless 6 r (is-region g (e .target))
+  target-right e = refuse-unless wrong-reference r (is-region g (e .target))
 
   unfoldable pub edge-right : Edge → Answer Unit
   unfolding passed-right
@@ -132,8 +133,8 @@ module _ (g : Graph) (r : ℕ) where
   unfoldable pub exits-right : List ℕ → List ℕ → Answer Unit
   exits-right seen [] = accepted tt
   exits-right seen (x ∷ xs) =
-      if-accepted (refuse-unless 6 r (is-region g x)) λ _.
-      if-accepted (refuse-unless 8 r (not (is-in x seen))) λ _. exits-right (x ∷ seen) xs
+      if-accepted (refuse-unless wrong-reference r (is-region g x)) λ _.
+      if-accepted (refuse-unless exit-named-twice r (not (is-in x seen))) λ _. exits-right (x ∷ seen) xs
 
   unfoldable pub region-right : Region → Answer Unit
   unfolding reads-right instructions values-right first-refusal target-right edge-right first-edges exits-right
@@ -152,4 +153,4 @@ regions-right g r (x ∷ xs) = if-accepted (region-right g r x) λ _. regions-ri
 -- The entry, then each region, also where it is out of reach.
 unfoldable pub references : Graph → Answer Unit
 unfolding regions-right
-references g = if-accepted (refuse-unless 6 0 (is-region g (g .entry))) λ _. regions-right g 0 (g .regions)
+references g = if-accepted (refuse-unless wrong-reference 0 (is-region g (g .entry))) λ _. regions-right g 0 (g .regions)

@@ -5,6 +5,7 @@ use Prim.Native.Nat.{ℕ, zero, suc, _+_, _-_, _*_, _/_, _%_}
 use lib.ListN.{length, getD}
 use lib.Dec.{eqb, leb, ltb}
 use Rattle.meaning.specs.Lists.{tabulate}
+use Rattle.format.specs.Refusals.{wrong-length, wrong-block-number, wrong-check, wrong-word-count}
 
 -- What is taken, or the refusal's number and its word.
 pub data Answer (A : Type 0) : Type 0 where
@@ -31,13 +32,16 @@ number-right s b = eqb (pair s (512 * b)) b
 abbrev pub check-right : List ℕ → ℕ → Bool
 check-right s b = eqb (pair s (512 * b + 508) + 65536 * pair s (512 * b + 510)) (weighted s (512 * b) 508)
 
--- The first fault among the first n blocks: 2 for a wrong number, 3 for a wrong check, each with the block.
+-- The first fault among the first n blocks, its number before its check, each with the block.
 unfoldable pub blocks-checked : List ℕ → ℕ → Answer Unit
 unfolding weighted
 blocks-checked s zero = accepted tt
 blocks-checked s (suc n) =
     if-accepted (blocks-checked s n) λ _.
-    elim (number-right s n) [ false ↦ refused 2 n | true ↦ elim (check-right s n) [ false ↦ refused 3 n | true ↦ accepted tt ] ]
+    elim (number-right s n) [
+      | false ↦ refused wrong-block-number n
+      | true ↦ elim (check-right s n) [ false ↦ refused wrong-check n | true ↦ accepted tt ]
+    ]
 
 -- Word j of the joined payloads: 253 words to a block, from its byte 2 on.
 abbrev pub word-at : List ℕ → ℕ → ℕ
@@ -60,10 +64,10 @@ unfoldable pub store-words : List ℕ → Answer (List ℕ)
 unfolding blocks-checked all-zero tabulate
 store-words s =
     elim (length-right (length s)) [
-      | false ↦ refused 1 0
+      | false ↦ refused wrong-length 0
       | true ↦ if-accepted (blocks-checked s (length s / 512)) λ _.
           elim (count-right s (length s / 512) (word-at s 0)) [
-            | false ↦ refused 4 0
+            | false ↦ refused wrong-word-count 0
             | true ↦ accepted (tabulate (word-at s 0) (word-at s))
           ]
     ]

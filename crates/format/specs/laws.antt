@@ -5,3 +5,4 @@ pub mod AcceptValid
 pub mod ReadingStops
 pub mod Refusals
 pub mod FirstEdges
+pub mod UndefinedTypes

@@ -21,22 +21,47 @@ pub data Value : Type 0 where
   held : ℕ → ℕ → Value
   no-value : Value
 
--- Three words of a value: kind, region, index. A marked input and what names nothing have kinds of their own,
--- 6 and 7, which no sheet shows.
+-- The kinds of values (document 01, "store and record"). A marked input and what names nothing have kinds of their own, which no sheet
+-- shows.
+abbrev pub const-kind : ℕ
+const-kind = 0
+
+abbrev pub input-kind : ℕ
+input-kind = 1
+
+abbrev pub instr-kind : ℕ
+instr-kind = 2
+
+abbrev pub output-kind : ℕ
+output-kind = 3
+
+abbrev pub bool-kind : ℕ
+bool-kind = 4
+
+abbrev pub undef-kind : ℕ
+undef-kind = 5
+
+abbrev pub held-kind : ℕ
+held-kind = 6
+
+abbrev pub nothing-kind : ℕ
+nothing-kind = 7
+
+-- Three words of a value: kind, region, index.
 pub record Code : Type 0 where
   pub kind : ℕ
   pub region : ℕ
   pub index : ℕ
 
 abbrev pub code-of : Value → Code
-code-of (const i) = record { kind = 0; region = 0; index = i }
-code-of (input r k) = record { kind = 1; region = r; index = k }
-code-of (instr r k) = record { kind = 2; region = r; index = k }
-code-of (output o) = record { kind = 3; region = 0; index = o }
-code-of (bool b) = record { kind = 4; region = 0; index = bit b }
-code-of (undef t) = record { kind = 5; region = 0; index = t }
-code-of (held r k) = record { kind = 6; region = r; index = k }
-code-of no-value = record { kind = 7; region = 0; index = 0 }
+code-of (const i) = record { kind = const-kind; region = 0; index = i }
+code-of (input r k) = record { kind = input-kind; region = r; index = k }
+code-of (instr r k) = record { kind = instr-kind; region = r; index = k }
+code-of (output o) = record { kind = output-kind; region = 0; index = o }
+code-of (bool b) = record { kind = bool-kind; region = 0; index = bit b }
+code-of (undef t) = record { kind = undef-kind; region = 0; index = t }
+code-of (held r k) = record { kind = held-kind; region = r; index = k }
+code-of no-value = record { kind = nothing-kind; region = 0; index = 0 }
 
 abbrev pub same-code : Code → Code → Bool
 same-code a b = eqb (a .kind) (b .kind) && (eqb (a .region) (b .region) && eqb (a .index) (b .index))

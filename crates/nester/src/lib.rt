@@ -17,6 +17,8 @@ use sheet::whole::WHOLE;
 use sheet::whole::write_sheet;
 use state::regions::children;
 use store::WORDS;
+use store::refusals::FIGURE_TOO_LARGE;
+use store::refusals::TOO_FEW_WORDS;
 use store::span;
 
 // How many words the sheet has, or a refusal's number and its word.
@@ -25,23 +27,23 @@ pub enum SheetAnswer {
     Refused(u16, u16),
 }
 
-// Refusal 10: the lent words are too few.
+// Refused where the lent words are too few.
 fn written(w: &[u16; WORDS], out: &mut [u32], outcome: u16, figure: u32) -> SheetAnswer
     ensures { λ a. ⌜ answers.WritesAnswer (now (w .entry)) outcome figure (now (out .entry)) (now (out .exit)) a ⌝ }
 {
     match write_sheet(w, out, outcome, figure) {
         Sheet::Words(n) => SheetAnswer::Sheet(n),
-        Sheet::TooFew => SheetAnswer::Refused(10, 0),
+        Sheet::TooFew => SheetAnswer::Refused(TOO_FEW_WORDS, 0),
     }
 }
 
-// A whole or closed form. Refusal 11: its figure exceeds 4,294,967,295.
+// A whole or closed form, refused where its figure exceeds 4,294,967,295.
 fn formed(w: &[u16; WORDS], out: &mut [u32], outcome: u16) -> SheetAnswer
     ensures { λ a. ⌜ answers.FormsAnswer (now (w .entry)) outcome (now (out .entry)) (now (out .exit)) a ⌝ }
 {
     let cost = figure(w, children(w, fields::entry(w)));
     if cost == TOO_LARGE {
-        return SheetAnswer::Refused(11, 0);
+        return SheetAnswer::Refused(FIGURE_TOO_LARGE, 0);
     }
     written(w, out, outcome, cost as u32)
 }

@@ -13,6 +13,7 @@ use Rattle.meaning.specs.Runs.{Nodes, ⟨⟩, _▸_, block, select, Cases, ∅,
 use Rattle.meaning.specs.Runs.{Node}
 use Rattle.format.specs.References.{return-types}
 use Rattle.format.specs.Store.{Answer, accepted, refused}
+use Rattle.format.specs.Refusals.{too-many, already-claimed}
 
 -- ---- Deferred edges: what a region could not claim, each with the condition under which it is taken.
 -- A number of edges. It counts edges only and is never an index.
@@ -165,7 +166,7 @@ most-outputs = 512
 
 -- A definition where n are defined already, with its limit: the first beyond is refused.
 abbrev pub define : {A : Type 0} → ℕ → ℕ → A → NestState → StepAnswer A
-define n limit a s = elim (ltb n limit) [ true ↦ done a s | false ↦ turned-away 9 0 ]
+define n limit a s = elim (ltb n limit) [ true ↦ done a s | false ↦ turned-away too-many 0 ]
 
 unfoldable pub define-region : Step ℕ
 define-region s = define (s .region-count) most-regions (s .region-count) (add-region s)
@@ -728,8 +729,8 @@ module _ (g : Graph) where
   -- target, accumulated count, inputs, its incoming count, its state. 0, not begun, and 12, the Rust stops, are never met (`refused-nine`).
   abbrev pub claim-by-state : ℕ → IncomingEdgeCount → List Value → IncomingEdgeCount → StructurizeRegionState → Step (Option ClaimedRegion)
   claim-by-state r n inputs incoming not-begun = turn-away 0 r
-  claim-by-state r n inputs incoming claimed = turn-away 12 r
-  claim-by-state r n inputs incoming in-progress = elim (eqb incoming n) [ false ↦ give none | true ↦ turn-away 12 r ]
+  claim-by-state r n inputs incoming claimed = turn-away already-claimed r
+  claim-by-state r n inputs incoming in-progress = elim (eqb incoming n) [ false ↦ give none | true ↦ turn-away already-claimed r ]
   claim-by-state r n inputs incoming (ready b children d) =
       elim (eqb incoming (n + b)) [ false ↦ give none | true ↦ set-state r claimed >> claim-body r inputs children d (backedge-of r b d) ]
 

@@ -7,11 +7,12 @@ use lib.Dec.{leb, eqb}
 use Prim.Native.String.{String}
 use Rattle.meaning.specs.Lists.{concat, total, times-in, pick, bit}
 use Rattle.meaning.specs.Graph.{Instr, SelectionKind, Value, const, input, instr, output, bool, undef, held, Graph, bool-cond, number}
-use Rattle.meaning.specs.Graph.{no-value}
+use Rattle.meaning.specs.Graph.{no-value, const-kind, input-kind, instr-kind, output-kind, bool-kind, undef-kind}
 use Rattle.meaning.specs.Runs.{Node, block, select, loop, exit, Nodes, ⟨⟩, _▸_, Cases, ∅, case}
 use Rattle.meaning.specs.Text.{Text, ascii, decimal, joined, listed}
 use Rattle.format.specs.Store.{Answer, accepted, refused, if-accepted}
 use Rattle.format.specs.Accept.{accept}
+use Rattle.format.specs.Refusals.{too-few-words, figure-too-large}
 use Rattle.nesting.specs.Nesting.{Outcome, LazyCond, undef-cond, false-cond, true-cond, merge, LazyConds, _&_, DeferredTarget}
 use Rattle.nesting.specs.Nesting.{to-region, to-return, DeferredEdgeBundle, untouched, whole, closed, leftover, Piece, Nested}
 use Rattle.nesting.specs.Nesting.{structurize-func}
@@ -71,7 +72,7 @@ dotted r k = joint "." (a-number r ∷ a-number k ∷ [])
 
 -- An undefined value, by its type.
 abbrev pub undefined : ℕ → Field
-undefined ty = record { words = 5 ∷ 0 ∷ ty ∷ []; text = ascii "undef" ++ decimal ty }
+undefined ty = record { words = undef-kind ∷ 0 ∷ ty ∷ []; text = ascii "undef" ++ decimal ty }
 
 -- The kind of a select: bool 0, num 1.
 abbrev pub kind : SelectionKind → Field
@@ -113,12 +114,12 @@ case-numbers (case c ks cs) = c .region ∷ case-numbers cs
 module _ (nodes : List ℕ) where
   -- A value: kind, region, index. An output is shown as its node and its place among that node's.
   abbrev pub value : Value → Field
-  value (const i) = record { words = 0 ∷ 0 ∷ i ∷ []; text = ascii "c" ++ decimal i }
-  value (input r k) = joint "" (number-as 1 "i" ∷ dotted r k ∷ [])
-  value (instr r k) = joint "" (number-as 2 "d" ∷ dotted r k ∷ [])
-  value (output o) = let n = getD nodes o 0 in joint "" (number-as 3 "n" ∷ dotted n (times-in n (take o nodes)) ∷ [])
-  value (bool false) = record { words = 4 ∷ 0 ∷ 0 ∷ []; text = ascii "false" }
-  value (bool true) = record { words = 4 ∷ 0 ∷ 1 ∷ []; text = ascii "true" }
+  value (const i) = record { words = const-kind ∷ 0 ∷ i ∷ []; text = ascii "c" ++ decimal i }
+  value (input r k) = joint "" (number-as input-kind "i" ∷ dotted r k ∷ [])
+  value (instr r k) = joint "" (number-as instr-kind "d" ∷ dotted r k ∷ [])
+  value (output o) = let n = getD nodes o 0 in joint "" (number-as output-kind "n" ∷ dotted n (times-in n (take o nodes)) ∷ [])
+  value (bool false) = record { words = bool-kind ∷ 0 ∷ 0 ∷ []; text = ascii "false" }
+  value (bool true) = record { words = bool-kind ∷ 0 ∷ 1 ∷ []; text = ascii "true" }
   value (undef ty) = undefined ty
   value no-value = undefined 0  -- on no sheet: `nested-named`
   value (held r k) = undefined 0  -- on no sheet: `no-marks`
@@ -134,7 +135,8 @@ module _ (nodes : List ℕ) where
   -- Region, inputs' types, child nodes, output values.
   abbrev pub region-fields : ℕ → List ℕ → Nodes → List Value → List Field
   region-fields r ts ks vs =
-      number-as lead-region "region" ∷ a-number r ∷ label "in" ∷ numbers ts ∷ label "kids" ∷ numbers (kids ks) ∷ label "out" ∷ values vs ∷ []
+      number-as lead-region "region" ∷ a-number r ∷ label "in" ∷ numbers ts
+      ∷ label "kids" ∷ numbers (kids ks) ∷ label "out" ∷ values vs ∷ []
 
   unfoldable mutual
     -- Each child, a select's cases or a loop's body following it. Block: node, items. Select: node, kind, value, case regions,
@@ -240,7 +242,7 @@ sheet-text s = concat (map (λ l. joint " " l .text ++ ascii "\n") (line-1 s ∷
 -- ---- From the bytes of a store to the whole answer: a refusal, or the sheet in the lent words and in print (document 01).
 -- Refusal 11: the figure exceeds 4,294,967,295.
 abbrev pub figure-fits : Sheet → Answer Sheet
-figure-fits s = elim (leb (s .figure) 4294967295) [ true ↦ accepted s | false ↦ refused 11 0 ]
+figure-fits s = elim (leb (s .figure) 4294967295) [ true ↦ accepted s | false ↦ refused figure-too-large 0 ]
 
 -- Store, reading, references, nesting, figure: the sheet, or a refusal other than 10.
 unfoldable pub sheet-for : List ℕ → Answer Sheet
@@ -252,7 +254,7 @@ sheet-for store =
 
 -- Refusal 10: the lent words are too few.
 abbrev pub words-fit : ℕ → Sheet → Answer Sheet
-words-fit lent s = elim (leb (length (sheet-words s)) lent) [ true ↦ accepted s | false ↦ refused 10 0 ]
+words-fit lent s = elim (leb (length (sheet-words s)) lent) [ true ↦ accepted s | false ↦ refused too-few-words 0 ]
 
 unfoldable pub answer : List ℕ → ℕ → Answer Sheet
 unfolding sheet-for sheet-words

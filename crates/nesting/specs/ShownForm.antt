@@ -5,6 +5,7 @@ use Prim.Native.Nat.{ℕ, suc}
 use lib.ListN.{getD, take}
 use Rattle.meaning.specs.Lists.{times-in}
 use Rattle.meaning.specs.Graph.{Instr, Code, SelectionKind, Value, const, input, instr, output, bool, undef, held, no-value, code-of, Graph}
+use Rattle.meaning.specs.Graph.{output-kind}
 use Rattle.meaning.specs.Runs.{SelectNode, Node, block, select, loop, exit, Nodes, ⟨⟩, _▸_, Cases, ∅, case}
 use Rattle.nesting.specs.Nesting.{Outcome, untouched, whole, closed, leftover, LazyCond, undef-cond, false-cond, true-cond, merge}
 use Rattle.nesting.specs.Nesting.{LazyConds, _&_, DeferredTarget, to-region, to-return, DeferredEdgeBundle, Piece, Nested}
@@ -94,7 +95,7 @@ module _ (nodes : List ℕ) where
   shown-value (const i) = code-of (const i)
   shown-value (input r k) = code-of (input r k)
   shown-value (instr r k) = code-of (instr r k)
-  shown-value (output o) = record { kind = 3; region = getD nodes o 0; index = times-in (getD nodes o 0) (take o nodes) }
+  shown-value (output o) = record { kind = output-kind; region = getD nodes o 0; index = times-in (getD nodes o 0) (take o nodes) }
   shown-value (bool b) = code-of (bool b)
   shown-value (undef ty) = code-of (undef ty)
   shown-value no-value = code-of (undef 0)  -- on no sheet

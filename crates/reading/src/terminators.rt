@@ -1,4 +1,10 @@
 // Terminators: kind, opcode, values, targets, and the values passed to each distinct target.
+use crate::kinds::TERMINATOR_BOOL;
+use crate::kinds::TERMINATOR_BRANCH;
+use crate::kinds::TERMINATOR_EXIT;
+use crate::kinds::TERMINATOR_NUMBER;
+use crate::kinds::TERMINATOR_RETURN;
+use crate::kinds::TERMINATOR_UNREACHABLE;
 use crate::values::counted_values;
 use crate::words::Cursor;
 use crate::words::Item;
@@ -19,7 +25,7 @@ ghost use Rattle.reading.specs.Readings.{first, firsts, edges-lists, ope
 fn fewest_values(k: u16) -> u16
     ensures { λ r. ⌜ r ≡ read.fewest-values k ⌝ }
 {
-    if 4 <= k {
+    if TERMINATOR_BOOL <= k {
         return 1;
     }
     0
@@ -28,13 +34,13 @@ fn fewest_values(k: u16) -> u16
 fn most_values(k: u16) -> u16
     ensures { λ r. ⌜ r ≡ read.most-values k ⌝ }
 {
-    if 4 <= k {
+    if TERMINATOR_BOOL <= k {
         return 1;
     }
-    if k == 1 {
+    if k == TERMINATOR_RETURN {
         return 4;
     }
-    if k == 2 {
+    if k == TERMINATOR_EXIT {
         return 4;
     }
     0
@@ -43,10 +49,10 @@ fn most_values(k: u16) -> u16
 fn fewest_targets(k: u16) -> u16
     ensures { λ r. ⌜ r ≡ read.fewest-targets k ⌝ }
 {
-    if k == 4 {
+    if k == TERMINATOR_BOOL {
         return 2;
     }
-    if 3 <= k {
+    if TERMINATOR_BRANCH <= k {
         return 1;
     }
     0
@@ -55,23 +61,23 @@ fn fewest_targets(k: u16) -> u16
 fn most_targets(k: u16) -> u16
     ensures { λ r. ⌜ r ≡ read.most-targets k ⌝ }
 {
-    if k == 5 {
+    if k == TERMINATOR_NUMBER {
         return 8;
     }
-    if k == 4 {
+    if k == TERMINATOR_BOOL {
         return 2;
     }
-    if k == 3 {
+    if k == TERMINATOR_BRANCH {
         return 1;
     }
     0
 }
 
-// The opcode word stands for ExitInvocation, kind 2, only.
+// The opcode word stands for ExitInvocation only.
 fn opcode_for(w: &[u16; WORDS], c: Cursor, k: u16) -> Step
     ensures { λ r. ⌜ r ≡ step-at (read.opcode-for k) (now (w .entry)) c ⌝ }
 {
-    if k == 2 {
+    if k == TERMINATOR_EXIT {
         return words(w, c, 1);
     }
     Step::At(c)
@@ -158,7 +164,7 @@ fn operands(w: &[u16; WORDS], c: Cursor, k: u16) -> Step
 pub fn terminator(w: &[u16; WORDS], c: Cursor) -> Step
     ensures { λ r. ⌜ r ≡ step-at read.terminator (now (w .entry)) c ⌝ }
 {
-    match within(w, c, 0, 5) {
+    match within(w, c, TERMINATOR_UNREACHABLE, TERMINATOR_NUMBER) {
         Item::Bad(m) => Step::Bad(m),
         Item::Word(k, p) => match opcode_for(w, p, k) {
             Step::Bad(m) => Step::Bad(m),

@@ -1,33 +1,37 @@
 // Values, instructions and blocks.
+use crate::kinds::BOOL_KIND;
+use crate::kinds::INSTR_KIND;
+use crate::kinds::UNDEF_KIND;
 use crate::words::Cursor;
 use crate::words::Item;
 use crate::words::Step;
 use crate::words::within;
 use crate::words::word;
 use store::WORDS;
+use store::refusals::OUT_OF_RANGE;
 ghost use mathlib.Core.Path.{_≡_};
 ghost use Rattle.format.specs.Read as read;
 ghost use Rattle.reading.specs.Answers.{step-at};
 ghost use Rattle.reading.specs.Readings.{named-by};
 
-// Whether a record may have kind k: 3 arises only in nesting.
+// Whether a record may have kind k: the output of a node arises only in nesting.
 fn is_kind(k: u16) -> bool
     ensures { λ r. ⌜ r ≡ read.is-kind k ⌝ }
 {
-    if k <= 2 {
+    if k <= INSTR_KIND {
         return true;
     }
-    if k == 4 {
+    if k == BOOL_KIND {
         return true;
     }
-    k == 5
+    k == UNDEF_KIND
 }
 
-// Whether i can be the index of a value of kind k: of kind 5 it is a type.
+// Whether i can be the index of a value of kind k: of an undefined value it is the type.
 fn index_right(k: u16, i: u16) -> bool
     ensures { λ r. ⌜ r ≡ read.index-right k i ⌝ }
 {
-    if k == 5 {
+    if k == UNDEF_KIND {
         if i < 1 {
             return false;
         }
@@ -48,7 +52,7 @@ fn named(w: &[u16; WORDS], c: Cursor, k: u16) -> Step
                 if index_right(k, i) {
                     return Step::At(e);
                 }
-                Step::Bad(5)
+                Step::Bad(OUT_OF_RANGE)
             }
         },
     }
@@ -63,7 +67,7 @@ pub fn value(w: &[u16; WORDS], c: Cursor) -> Step
             if is_kind(k) {
                 return named(w, p, k);
             }
-            Step::Bad(5)
+            Step::Bad(OUT_OF_RANGE)
         }
     }
 }

@@ -6,6 +6,8 @@ ghost use Rattle.reading.specs.Answers.{item-at, step-at};
 ghost use Rattle.reading.specs.Readings.{stands};
 use store::WORDS;
 use store::layout::word_at;
+use store::refusals::OUT_OF_RANGE;
+use store::refusals::WRONG_WORD_COUNT;
 use store::span;
 
 // Where reading stands: the next word to read, and the end of the record's words.
@@ -34,10 +36,10 @@ pub fn word(w: &[u16; WORDS], c: Cursor) -> Item
     let at = c.at;
     let end = c.end;
     if end <= at {
-        return Item::Bad(4);
+        return Item::Bad(WRONG_WORD_COUNT);
     }
     if WORDS <= at {
-        return Item::Bad(4);
+        return Item::Bad(WRONG_WORD_COUNT);
     }
     Item::Word(w[at], Cursor { at: at + 1, end })
 }
@@ -49,10 +51,10 @@ pub fn within(w: &[u16; WORDS], c: Cursor, low: u16, high: u16) -> Item
         Item::Bad(m) => Item::Bad(m),
         Item::Word(n, e) => {
             if n < low {
-                return Item::Bad(5);
+                return Item::Bad(OUT_OF_RANGE);
             }
             if high < n {
-                return Item::Bad(5);
+                return Item::Bad(OUT_OF_RANGE);
             }
             Item::Word(n, e)
         }

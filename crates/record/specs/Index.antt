@@ -9,7 +9,7 @@ use Rattle.format.specs.Read.{read-region, regions-from}
 use Rattle.format.specs.Places.{after, blocks-of-region, block-of-region, limit-of-region, exits-of-region}
 use Rattle.store.specs.Layout.{start-word, limit-word, exits-word, blocks-word, index-at}
 use Rattle.store.specs.Loaded.{answered}
-use Rattle.store.specs.declared.Checked.{Checked}
+use Rattle.store.specs.declared.Verdict.{Verdict}
 use Rattle.record.specs.Outcome.{forget, RestKept}
 use Rattle.record.specs.declared.regions.RegionPlaces.{RegionPlaces}
 
@@ -36,7 +36,7 @@ pub record IndexedFrom (ws : List ℕ) (from : ℕ) (w : List ℕ) (r : ℕ) : T
       → getD w (index-at r + blocks-word + b) 0 ≡ block-of-region ws (after r read-region ws from) b
 
 -- n regions from a place on.
-pub record RegionsOutcome (n count from : ℕ) (old new : List ℕ) (a : Checked) : Type 0 where
+pub record RegionsOutcome (n count from : ℕ) (old new : List ℕ) (a : Verdict) : Type 0 where
   pub answer : answered a ≡ forget (regions-from n 0 (take count old) from)
   pub index : (rs : List Region) → regions-from n 0 (take count old) from ≡ accepted rs → (r : ℕ) → r < n
       → IndexedFrom (take count old) from new r

@@ -7,9 +7,10 @@ use lib.Dec.{leb}
 use Rattle.meaning.specs.Graph.{Graph}
 use Rattle.format.specs.Store.{Answer, accepted, refused}
 use Rattle.format.specs.Read.{read-record}
+use Rattle.format.specs.Refusals.{wrong-word-count}
 use Rattle.store.specs.Layout.{record-end, index-end}
 use Rattle.store.specs.Loaded.{answered}
-use Rattle.store.specs.declared.Checked.{Checked}
+use Rattle.store.specs.declared.Verdict.{Verdict}
 use Rattle.record.specs.Stands.{words-of-record, Stands}
 use Rattle.meaning.specs.Lists.{pick}
 
@@ -26,10 +27,10 @@ pub record RestKept (old new : List ℕ) : Type 0 where
 
 -- The record in front of the words: word 0 says how many words it has, and no record has more than the longest.
 abbrev pub record-in : List ℕ → Answer Graph
-record-in w = pick (leb (getD w 0 0) record-end) (read-record (words-of-record w)) (refused 4 0)
+record-in w = pick (leb (getD w 0 0) record-end) (read-record (words-of-record w)) (refused wrong-word-count 0)
 
 -- `old` are the lent words as they are read, `new` as they are handed back.
-pub record ReadOutcome (old new : List ℕ) (a : Checked) : Type 0 where
+pub record ReadOutcome (old new : List ℕ) (a : Verdict) : Type 0 where
   pub answer : answered a ≡ forget (record-in old)
   pub stands : (g : Graph) → record-in old ≡ accepted g → Stands new g
   pub kept : RestKept old new

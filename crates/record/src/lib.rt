@@ -8,32 +8,37 @@ use crate::regions::region;
 use reading::words::Cursor;
 use reading::words::Item;
 use reading::words::Step;
-use store::Checked;
+use store::Refusal;
+use store::Verdict;
 use store::WORDS;
 use store::layout::RECORD_END;
 use store::layout::word_at;
+use store::refusals::OUT_OF_RANGE;
 use store::span;
 ghost use mathlib.Core.Path.{_≡_};
 ghost use Prim.Native.Nat.{_≤_};
 ghost use Rattle.format.specs.Store.{refused};
 ghost use Rattle.format.specs.Read.{word-for};
+ghost use Rattle.format.specs.Refusals.{wrong-word-count, out-of-range};
+ghost use Rattle.meaning.specs.Lists.{Within};
 ghost use Rattle.store.specs.Layout.{record-end};
 ghost use Rattle.store.specs.Loaded.{answered};
 ghost use Rattle.record.specs.Outcome.{ReadOutcome};
 ghost use Rattle.record.specs.Index.{RegionsOutcome};
 
-// 5 has the region being read for its word, 4 has 0.
-fn refusal(n: u16, r: u16) -> Checked
+// The refusal of a number that reading answers, in region r.
+fn refusal(n: u16, r: u16) -> Verdict
+    requires { ⌜ Within wrong-word-count out-of-range n ⌝ }
     ensures { λ a. ⌜ answered a ≡ refused n (word-for n r) ⌝ }
 {
-    if n == 5 {
-        return Checked::Refused(n, r);
+    if n == OUT_OF_RANGE {
+        return Verdict::Refused(Refusal::OutOfRange(r));
     }
-    Checked::Refused(n, 0)
+    Verdict::Refused(Refusal::WrongWordCount)
 }
 
-// n regions from a cursor on; words that stay over are 4.
-fn read_regions(w: &mut [u16; WORDS], from: Cursor, n: u16) -> Checked
+// n regions from a cursor on; no words may stay over.
+fn read_regions(w: &mut [u16; WORDS], from: Cursor, n: u16) -> Verdict
     requires { ⌜ (from .end ≤ record-end) × (n ≤ 32) ⌝ }
     ensures { λ a. ⌜ RegionsOutcome n (from .end) (from .at) (now (w .entry)) (now (w .exit)) a ⌝ }
 {
@@ -53,19 +58,19 @@ fn read_regions(w: &mut [u16; WORDS], from: Cursor, n: u16) -> Checked
         }
     }
     if c.at == c.end {
-        return Checked::Right;
+        return Verdict::Right;
     }
-    Checked::Refused(4, 0)
+    Verdict::Refused(Refusal::WrongWordCount)
 }
 
 // The record in front of the words, W of them, which word 0 says; the index is made on the way.
-pub fn read_record(w: &mut [u16; WORDS]) -> Checked
+pub fn read_record(w: &mut [u16; WORDS]) -> Verdict
     ensures { λ a. ⌜ ReadOutcome (now (w .entry)) (now (w .exit)) a ⌝ }
 {
     span(w);
     let count = word_at(w, 0) as usize;
     if RECORD_END < count {
-        return Checked::Refused(4, 0);
+        return Verdict::Refused(Refusal::WrongWordCount);
     }
     let first = Cursor { at: 1, end: count };
     match head(w, first) {

@@ -2,8 +2,7 @@
 ghost use mathlib.Core.Path.{_≡_};
 ghost use mathlib.Core.List.{[]};
 ghost use Prim.Native.Nat.{_≤_};
-ghost use lib.ListN.{getD};
-ghost use Rattle.meaning.specs.Graph.{no-value, region, edges-of};
+ghost use Rattle.meaning.specs.Graph.{region, edges-of};
 ghost use Rattle.format.specs.References as format;
 ghost use Rattle.store.specs.Loaded.{answered};
 ghost use Rattle.record.specs.Stands.{OfRecord};
@@ -12,60 +11,35 @@ ghost use Rattle.fields.specs.Shape.{value-is};
 ghost use Rattle.references.specs.Checks.{typed, first-right};
 use fields::Terminator;
 use fields::Value;
-use store::Checked;
+use store::Refusal;
+use store::Verdict;
 use store::WORDS;
 
-// The type of a value used in region r behind its first `before` instructions; 0 where it names nothing allowed there.
-fn type_in(w: &[u16; WORDS], r: u16, before: usize, v: Value) -> u16
-    ensures { λ a. ⌜ OfRecord (now (w .entry)) (λ g. a ≡ format.type-in g r before (value-is v)) ⌝ }
-{
-    match v {
-        Value::Const(i) => fields::constant_type(w, i),
-        Value::Input(q, k) => {
-            if q == r {
-                return fields::input_type(w, r, k);
-            }
-            0
-        }
-        Value::Instr(q, k) => {
-            if q == r {
-                if (k as usize) < before {
-                    return fields::output_type(w, r, k);
-                }
-            }
-            0
-        }
-        Value::Bool(_) => 1,
-        Value::Undef(t) => t,
-        Value::Nothing => 0,
-    }
-}
-
-fn named_right(w: &[u16; WORDS], r: u16, before: usize, v: Value) -> Checked
+fn named_right(w: &[u16; WORDS], r: u16, before: usize, v: Value) -> Verdict
     ensures { λ a. ⌜ OfRecord (now (w .entry)) (λ g. answered a ≡ format.named-right g r before (value-is v)) ⌝ }
 {
-    if type_in(w, r, before, v) == 0 {
-        return Checked::Refused(6, r);
+    if fields::type_in(w, r, before, v) == 0 {
+        return Verdict::Refused(Refusal::WrongReference(r));
     }
-    Checked::Right
+    Verdict::Right
 }
 
 // A value behind all instructions of region r: named, and of type t.
-fn named_of_type(w: &[u16; WORDS], r: u16, t: u16, v: Value) -> Checked
+fn named_of_type(w: &[u16; WORDS], r: u16, t: u16, v: Value) -> Verdict
     ensures { λ a. ⌜ OfRecord (now (w .entry)) (λ g. answered a ≡ typed g r t (value-is v)) ⌝ }
 {
-    let found = type_in(w, r, fields::instruction_count(w, r), v);
+    let found = fields::type_in(w, r, fields::instruction_count(w, r), v);
     if found == 0 {
-        return Checked::Refused(6, r);
+        return Verdict::Refused(Refusal::WrongReference(r));
     }
     if found != t {
-        return Checked::Refused(7, r);
+        return Verdict::Refused(Refusal::WrongType(r));
     }
-    Checked::Right
+    Verdict::Right
 }
 
 // Each read of instruction i of block b, which stands behind `before` instructions of the region.
-fn instruction_reads_right(w: &[u16; WORDS], r: u16, b: u16, i: u16, before: usize) -> Checked
+fn instruction_reads_right(w: &[u16; WORDS], r: u16, b: u16, i: u16, before: usize) -> Verdict
     ensures { λ a. ⌜ OfRecord (now (w .entry)) (λ g.
         answered a ≡ format.first-refusal (format.named-right g r before) (instr-of g r b i .reads)) ⌝ }
 {
@@ -74,15 +48,15 @@ fn instruction_reads_right(w: &[u16; WORDS], r: u16, b: u16, i: u16, before: usi
     let mut k: u16 = 0;
     while k < n {
         let c = named_right(w, r, before, fields::read(w, r, b, i, k));
-        if let Checked::Refused(number, word) = c {
-            return Checked::Refused(number, word);
+        if let Verdict::Refused(why) = c {
+            return Verdict::Refused(why);
         }
         k += 1;
     }
-    Checked::Right
+    Verdict::Right
 }
 
-fn block_reads_right(w: &[u16; WORDS], r: u16, b: u16, before: usize) -> Checked
+fn block_reads_right(w: &[u16; WORDS], r: u16, b: u16, before: usize) -> Verdict
     requires { ⌜ before ≤ 4294836225 ⌝ }
     ensures { λ a. ⌜ OfRecord (now (w .entry)) (λ g. answered a ≡ format.reads-right g r before (block-of g r b)) ⌝ }
 {
@@ -90,15 +64,15 @@ fn block_reads_right(w: &[u16; WORDS], r: u16, b: u16, before: usize) -> Checked
     let mut i: u16 = 0;
     while i < n {
         let c = instruction_reads_right(w, r, b, i, before + (i as usize));
-        if let Checked::Refused(number, word) = c {
-            return Checked::Refused(number, word);
+        if let Verdict::Refused(why) = c {
+            return Verdict::Refused(why);
         }
         i += 1;
     }
-    Checked::Right
+    Verdict::Right
 }
 
-fn reads_right(w: &[u16; WORDS], r: u16) -> Checked
+fn reads_right(w: &[u16; WORDS], r: u16) -> Verdict
     ensures { λ a. ⌜ OfRecord (now (w .entry)) (λ g. answered a ≡ format.reads-right g r 0 (format.instructions (region g r .blocks))) ⌝ }
 {
     let n = fields::block_count(w, r);
@@ -106,78 +80,37 @@ fn reads_right(w: &[u16; WORDS], r: u16) -> Checked
     let mut b: u16 = 0;
     while b < n {
         let c = block_reads_right(w, r, b, before);
-        if let Checked::Refused(number, word) = c {
-            return Checked::Refused(number, word);
+        if let Verdict::Refused(why) = c {
+            return Verdict::Refused(why);
         }
         before += fields::block_length(w, r, b) as usize;
         b += 1;
     }
-    Checked::Right
-}
-
-fn is_return(w: &[u16; WORDS], r: u16) -> bool
-    ensures { λ a. ⌜ OfRecord (now (w .entry)) (λ g. a ≡ format.is-return (region g r .terminator)) ⌝ }
-{
-    let t = fields::terminator(w, r);
-    match t {
-        Terminator::Unreachable => false,
-        Terminator::Return => true,
-        Terminator::ExitInvocation(_) => false,
-        Terminator::Branch => false,
-        Terminator::SelectBool => false,
-        Terminator::SelectNumber => false,
-    }
-}
-
-// How many regions stand before the first Return region.
-pub fn first_return(w: &[u16; WORDS]) -> u16
-    ensures { λ a. ⌜ OfRecord (now (w .entry)) (λ g. a ≡ format.first-return (g .regions)) ⌝ }
-{
-    let n = fields::region_count(w);
-    let mut q: u16 = 0;
-    while q < n {
-        if is_return(w, q) {
-            return q;
-        }
-        q += 1;
-    }
-    q
-}
-
-// The type of value k that region q returns.
-pub fn return_type(w: &[u16; WORDS], q: u16, k: u16) -> u16
-    ensures { λ a. ⌜ OfRecord (now (w .entry)) (λ g. a ≡ format.type-in g q (format.behind-all g q) (getD (end-values g q) k no-value)) ⌝ }
-{
-    type_in(
-        w,
-        q,
-        fields::instruction_count(w, q),
-        fields::value(w, q, k),
-    )
+    Verdict::Right
 }
 
 // What region r returns has the types of what the first Return region returns.
-fn returned_right(w: &[u16; WORDS], r: u16) -> Checked
+fn returned_right(w: &[u16; WORDS], r: u16) -> Verdict
     ensures { λ a. ⌜ OfRecord (now (w .entry)) (λ g. answered a ≡ format.passed-right g r (format.return-types g) (end-values g r)) ⌝ }
 {
-    let q = first_return(w);
+    let q = fields::first_return(w);
     let n = fields::value_count(w, r);
     if n != fields::value_count(w, q) {
-        return Checked::Refused(7, r);
+        return Verdict::Refused(Refusal::WrongType(r));
     }
     let mut k: u16 = 0;
     while k < n {
-        let c = named_of_type(w, r, return_type(w, q, k), fields::value(w, r, k));
-        if let Checked::Refused(number, word) = c {
-            return Checked::Refused(number, word);
+        let c = named_of_type(w, r, fields::return_type(w, q, k), fields::value(w, r, k));
+        if let Verdict::Refused(why) = c {
+            return Verdict::Refused(why);
         }
         k += 1;
     }
-    Checked::Right
+    Verdict::Right
 }
 
 // Each value that ExitInvocation names.
-fn exit_values_right(w: &[u16; WORDS], r: u16) -> Checked
+fn exit_values_right(w: &[u16; WORDS], r: u16) -> Verdict
     ensures { λ a. ⌜ OfRecord (now (w .entry)) (λ g.
         answered a ≡ format.first-refusal (format.named-right g r (format.behind-all g r)) (end-values g r)) ⌝ }
 {
@@ -186,23 +119,23 @@ fn exit_values_right(w: &[u16; WORDS], r: u16) -> Checked
     let mut k: u16 = 0;
     while k < n {
         let c = named_right(w, r, before, fields::value(w, r, k));
-        if let Checked::Refused(number, word) = c {
-            return Checked::Refused(number, word);
+        if let Verdict::Refused(why) = c {
+            return Verdict::Refused(why);
         }
         k += 1;
     }
-    Checked::Right
+    Verdict::Right
 }
 
-fn values_right(w: &[u16; WORDS], r: u16) -> Checked
+fn values_right(w: &[u16; WORDS], r: u16) -> Verdict
     ensures { λ a. ⌜ OfRecord (now (w .entry)) (λ g. answered a ≡ format.values-right g r (region g r .terminator)) ⌝ }
 {
     let t = fields::terminator(w, r);
     match t {
-        Terminator::Unreachable => Checked::Right,
+        Terminator::Unreachable => Verdict::Right,
         Terminator::Return => returned_right(w, r),
         Terminator::ExitInvocation(_) => exit_values_right(w, r),
-        Terminator::Branch => Checked::Right,
+        Terminator::Branch => Verdict::Right,
         Terminator::SelectBool => named_of_type(w, r, 1, fields::value(w, r, 0)),
         Terminator::SelectNumber => named_right(
             w,
@@ -213,7 +146,7 @@ fn values_right(w: &[u16; WORDS], r: u16) -> Checked
     }
 }
 
-fn targets_right(w: &[u16; WORDS], r: u16) -> Checked
+fn targets_right(w: &[u16; WORDS], r: u16) -> Verdict
     ensures { λ a. ⌜ OfRecord (now (w .entry)) (λ g.
         answered a ≡ format.first-refusal (format.target-right g r) (edges-of (region g r .terminator))) ⌝ }
 {
@@ -222,21 +155,21 @@ fn targets_right(w: &[u16; WORDS], r: u16) -> Checked
     let mut j: u16 = 0;
     while j < n {
         if count <= fields::target(w, r, j) {
-            return Checked::Refused(6, r);
+            return Verdict::Refused(Refusal::WrongReference(r));
         }
         j += 1;
     }
-    Checked::Right
+    Verdict::Right
 }
 
 // Values for the inputs of the target at place j: as many, then each named, and of its type.
-fn passed_right(w: &[u16; WORDS], r: u16, j: u16) -> Checked
+fn passed_right(w: &[u16; WORDS], r: u16, j: u16) -> Verdict
     ensures { λ a. ⌜ OfRecord (now (w .entry)) (λ g. answered a ≡ format.edge-right g r (edge-of g r j)) ⌝ }
 {
     let t = fields::target(w, r, j);
     let n = fields::passed_count(w, r, j);
     if n != fields::input_count(w, t) {
-        return Checked::Refused(7, r);
+        return Verdict::Refused(Refusal::WrongType(r));
     }
     let mut k: u16 = 0;
     while k < n {
@@ -246,26 +179,26 @@ fn passed_right(w: &[u16; WORDS], r: u16, j: u16) -> Checked
             fields::input_type(w, t, k),
             fields::passed(w, r, j, k),
         );
-        if let Checked::Refused(number, word) = c {
-            return Checked::Refused(number, word);
+        if let Verdict::Refused(why) = c {
+            return Verdict::Refused(why);
         }
         k += 1;
     }
-    Checked::Right
+    Verdict::Right
 }
 
 // The values for the target at place j, where it stands for the first time.
-fn edge_right(w: &[u16; WORDS], r: u16, j: u16) -> Checked
+fn edge_right(w: &[u16; WORDS], r: u16, j: u16) -> Verdict
     ensures { λ a. ⌜ OfRecord (now (w .entry)) (λ g. answered a ≡ first-right g r (edges-of (region g r .terminator)) j) ⌝ }
 {
     if fields::target_again(w, r, j) {
-        return Checked::Right;
+        return Verdict::Right;
     }
     passed_right(w, r, j)
 }
 
 // The values passed to each distinct target.
-fn edges_right(w: &[u16; WORDS], r: u16) -> Checked
+fn edges_right(w: &[u16; WORDS], r: u16) -> Verdict
     ensures { λ a. ⌜ OfRecord (now (w .entry)) (λ g.
         answered a ≡ format.first-refusal (format.edge-right g r) (format.first-edges [] (edges-of (region g r .terminator)))) ⌝ }
 {
@@ -273,16 +206,16 @@ fn edges_right(w: &[u16; WORDS], r: u16) -> Checked
     let mut j: u16 = 0;
     while j < n {
         let c = edge_right(w, r, j);
-        if let Checked::Refused(number, word) = c {
-            return Checked::Refused(number, word);
+        if let Verdict::Refused(why) = c {
+            return Verdict::Refused(why);
         }
         j += 1;
     }
-    Checked::Right
+    Verdict::Right
 }
 
-// Each exit is a region (6), and none stands twice (8).
-fn exits_right(w: &[u16; WORDS], r: u16) -> Checked
+// Each exit is a region, and none stands twice.
+fn exits_right(w: &[u16; WORDS], r: u16) -> Verdict
     ensures { λ a. ⌜ OfRecord (now (w .entry)) (λ g. answered a ≡ format.exits-right g r [] (region g r .exits)) ⌝ }
 {
     let count = fields::region_count(w);
@@ -290,53 +223,53 @@ fn exits_right(w: &[u16; WORDS], r: u16) -> Checked
     let mut k: u16 = 0;
     while k < n {
         if count <= fields::exit_target(w, r, k) {
-            return Checked::Refused(6, r);
+            return Verdict::Refused(Refusal::WrongReference(r));
         }
         if fields::exit_again(w, r, k) {
-            return Checked::Refused(8, r);
+            return Verdict::Refused(Refusal::ExitNamedTwice(r));
         }
         k += 1;
     }
-    Checked::Right
+    Verdict::Right
 }
 
-fn region_right(w: &[u16; WORDS], r: u16) -> Checked
+fn region_right(w: &[u16; WORDS], r: u16) -> Verdict
     ensures { λ a. ⌜ OfRecord (now (w .entry)) (λ g. answered a ≡ format.region-right g r (region g r)) ⌝ }
 {
     let reads = reads_right(w, r);
-    if let Checked::Refused(number, word) = reads {
-        return Checked::Refused(number, word);
+    if let Verdict::Refused(why) = reads {
+        return Verdict::Refused(why);
     }
     let values = values_right(w, r);
-    if let Checked::Refused(number, word) = values {
-        return Checked::Refused(number, word);
+    if let Verdict::Refused(why) = values {
+        return Verdict::Refused(why);
     }
     let targets = targets_right(w, r);
-    if let Checked::Refused(number, word) = targets {
-        return Checked::Refused(number, word);
+    if let Verdict::Refused(why) = targets {
+        return Verdict::Refused(why);
     }
     let edges = edges_right(w, r);
-    if let Checked::Refused(number, word) = edges {
-        return Checked::Refused(number, word);
+    if let Verdict::Refused(why) = edges {
+        return Verdict::Refused(why);
     }
     exits_right(w, r)
 }
 
 // The entry, then each region, also where it is out of reach.
-pub fn references(w: &[u16; WORDS]) -> Checked
+pub fn references(w: &[u16; WORDS]) -> Verdict
     ensures { λ a. ⌜ OfRecord (now (w .entry)) (λ g. answered a ≡ format.references g) ⌝ }
 {
     let n = fields::region_count(w);
     if n <= fields::entry(w) {
-        return Checked::Refused(6, 0);
+        return Verdict::Refused(Refusal::WrongReference(0));
     }
     let mut r: u16 = 0;
     while r < n {
         let c = region_right(w, r);
-        if let Checked::Refused(number, word) = c {
-            return Checked::Refused(number, word);
+        if let Verdict::Refused(why) = c {
+            return Verdict::Refused(why);
         }
         r += 1;
     }
-    Checked::Right
+    Verdict::Right
 }

@@ -7,6 +7,12 @@ ghost use Rattle.nesting.specs.Sheet.{dotted};
 ghost use Rattle.nesting.specs.decoding.Lines.{value-texts};
 ghost use Rattle.sheet_text.specs.Texts.{say, number-text, value-text, skip-text, either-text};
 ghost use Rattle.sheet_text.specs.Puts.{PutsText, Stopped};
+use nesting::BOOL_KIND;
+use nesting::CONST_KIND;
+use nesting::INPUT_KIND;
+use nesting::INSTR_KIND;
+use nesting::OUTPUT_KIND;
+use nesting::UNDEF_KIND;
 use text::put_byte;
 use text::put_labeled;
 use text::put_number;
@@ -105,17 +111,17 @@ fn put_value(text: &mut [u8], at: usize, kind: u32, r: u32, k: u32) -> usize
     ensures { λ p. ⌜ Wrote (buffer (now (text .entry)) at) (getD (value-texts r k) kind []) (buffer (now (text .exit)) p) ⌝ }
 {
     match kind {
-        0 => put_labeled(text, at, b"c", k),
-        1 => put_dotted(text, at, b'i', r, k),
-        2 => put_dotted(text, at, b'd', r, k),
-        3 => put_dotted(text, at, b'n', r, k),
-        4 => {
+        CONST_KIND => put_labeled(text, at, b"c", k),
+        INPUT_KIND => put_dotted(text, at, b'i', r, k),
+        INSTR_KIND => put_dotted(text, at, b'd', r, k),
+        OUTPUT_KIND => put_dotted(text, at, b'n', r, k),
+        BOOL_KIND => {
             if k == 1 {
                 return put_text(text, at, b"true");
             }
             put_text(text, at, b"false")
         }
-        5 => put_labeled(text, at, b"undef", k),
+        UNDEF_KIND => put_labeled(text, at, b"undef", k),
         _ => at,
     }
 }

@@ -4,6 +4,7 @@ ghost use mathlib.Core.List.{List};
 ghost use Prim.Native.Nat.{ℕ};
 ghost use lib.ListN.{getD};
 ghost use lib.Dec.{eqb};
+ghost use Rattle.nesting.specs.SheetNumbers.{letter-m};
 ghost use Rattle.sheet_text.specs.Texts.{say, _then_, field-within, list-within, field-text, list-text, none-text, item-head};
 ghost use Rattle.sheet_text.specs.Texts.{merge-head, plain-text};
 ghost use Rattle.sheet_text.specs.Puts.{PutsText, PutsWithin};
@@ -13,6 +14,10 @@ use super::cursor::say;
 use super::cursor::skip;
 use super::cursor::stop;
 use super::cursor::value;
+use nesting::LETTER_F;
+use nesting::LETTER_M;
+use nesting::LETTER_T;
+use nesting::LETTER_U;
 
 pub enum Field {
     Number,
@@ -37,13 +42,13 @@ fn item_head(words: &[u32], text: &mut [u8], c: SheetCursor) -> SheetCursor
 
 // Whether a condition has parts.
 fn is_merge(words: &[u32], c: SheetCursor) -> bool
-    ensures { λ r. ⌜ r ≡ eqb (getD (now (words .entry)) (c .at) 0) 4 ⌝ }
+    ensures { λ r. ⌜ r ≡ eqb (getD (now (words .entry)) (c .at) 0) letter-m ⌝ }
 {
     let at = c.at;
     if words.len() <= at {
         return false;
     }
-    words[at] == 4
+    words[at] == LETTER_M
 }
 
 // A condition without parts.
@@ -59,9 +64,9 @@ fn plain_condition(words: &[u32], text: &mut [u8], c: SheetCursor) -> SheetCurso
         place: c.place,
     };
     match words[at] {
-        1 => say(text, next, b"t"),
-        2 => say(text, next, b"f"),
-        3 => say(text, next, b"u"),
+        LETTER_T => say(text, next, b"t"),
+        LETTER_F => say(text, next, b"f"),
+        LETTER_U => say(text, next, b"u"),
         _ => stop(words, c),
     }
 }

@@ -13,6 +13,17 @@ use super::cursor::stop;
 use super::fields::Field;
 use super::fields::labeled;
 use super::fields::listed;
+use nesting::LEAD_BLOCK;
+use nesting::LEAD_DEFER;
+use nesting::LEAD_EXIT;
+use nesting::LEAD_LOOP;
+use nesting::LEAD_REGION;
+use nesting::LEAD_SELECT;
+use nesting::OUTCOME_CLOSED;
+use nesting::OUTCOME_LEFTOVER;
+use nesting::OUTCOME_UNTOUCHED;
+use nesting::OUTCOME_WHOLE;
+use nesting::RETURN_WORD;
 
 fn region(words: &[u32], text: &mut [u8], c: SheetCursor) -> SheetCursor
     ensures { λ r. ⌜ PutsText (shown fields-text decode-region) (now (words .entry)) c (now (text .entry)) (now (text .exit)) r ⌝ }
@@ -65,7 +76,7 @@ fn target(words: &[u32], text: &mut [u8], c: SheetCursor) -> SheetCursor
     if words.len() <= at {
         return stop(words, c);
     }
-    if words[at] == 65535 {
+    if words[at] == RETURN_WORD {
         let next = SheetCursor {
             at: at + 1,
             place: c.place,
@@ -91,12 +102,12 @@ fn line_by(words: &[u32], text: &mut [u8], c: SheetCursor, lead: u32) -> SheetCu
     ensures { λ r. ⌜ PutsText (shown fields-text (line-by lead)) (now (words .entry)) c (now (text .entry)) (now (text .exit)) r ⌝ }
 {
     match lead {
-        0 => region(words, text, c),
-        1 => block(words, text, c),
-        2 => select(words, text, c),
-        3 => loop_line(words, text, c),
-        4 => exit(words, text, c),
-        5 => defer(words, text, c),
+        LEAD_REGION => region(words, text, c),
+        LEAD_BLOCK => block(words, text, c),
+        LEAD_SELECT => select(words, text, c),
+        LEAD_LOOP => loop_line(words, text, c),
+        LEAD_EXIT => exit(words, text, c),
+        LEAD_DEFER => defer(words, text, c),
         _ => stop(words, c),
     }
 }
@@ -137,10 +148,10 @@ fn outcome(words: &[u32], text: &mut [u8], c: SheetCursor) -> SheetCursor
         place: c.place,
     };
     match words[at] {
-        0 => unshown(words, text, next, b"untouched figure -"),
-        1 => labeled(words, text, next, b"whole figure ", Field::Number),
-        2 => labeled(words, text, next, b"closed figure ", Field::Number),
-        3 => unshown(words, text, next, b"leftover figure -"),
+        OUTCOME_UNTOUCHED => unshown(words, text, next, b"untouched figure -"),
+        OUTCOME_WHOLE => labeled(words, text, next, b"whole figure ", Field::Number),
+        OUTCOME_CLOSED => labeled(words, text, next, b"closed figure ", Field::Number),
+        OUTCOME_LEFTOVER => unshown(words, text, next, b"leftover figure -"),
         _ => stop(words, c),
     }
 }

@@ -20,6 +20,7 @@ use Rattle.state.specs.Tables.{select-word, entry-kind}
 use Rattle.state.specs.Values.{is-held}
 use Rattle.shown.specs.Values.{value}
 use Rattle.meaning.specs.Lists.{bit}
+use Rattle.format.specs.Refusals.{too-many}
 
 -- ---- Rewrites: five words for a region.
 -- The word at a loop header's input: a marked one is the new number of an input that stays.
@@ -120,7 +121,7 @@ pub record ShowsTables (w : List ℕ) (s : NestState) : Type 0 where
 -- What a step of the code answers, and its words, show what the definition's step gives: a number that shows its value, or refusal 9.
 pub data ShowsDefined {A : Type 0} (R : ℕ → A → Type 0) (w : List ℕ) : Defined → StepAnswer A → Type 0 where
   shows-done : {x : ℕ} {a : A} {s : NestState} → R x a → ShowsTables w s → ShowsDefined R w (Number x) (done a s)
-  shows-full : ShowsDefined R w Full (turned-away 9 0)
+  shows-full : ShowsDefined R w Full (turned-away too-many 0)
 
 -- Taken apart by what the code answered.
 pub record Done {A : Type 0} (R : ℕ → A → Type 0) (w : List ℕ) (x : ℕ) (b : StepAnswer A) : Type 0 where

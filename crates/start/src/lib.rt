@@ -69,12 +69,12 @@ fn at_most_four(n: u16) -> u16
 fn start_returned(w: &mut [u16; WORDS])
     ensures { λ _. ⌜ OfRecord (now (w .entry)) (λ g. now (w .exit) ≡ words.returned g (now (w .entry))) ⌝ }
 {
-    let q = references::first_return(w);
+    let q = fields::first_return(w);
     let n = fields::value_count(w, q);
     let few = at_most_four(n);
     let mut k: u16 = 0;
     while k < few {
-        let ty = references::return_type(w, q, k);
+        let ty = fields::return_type(w, q, k);
         set_head(w, RETURNED + 1 + (k as usize), ty);
         k += 1;
     }

@@ -2,16 +2,19 @@
 use mathlib.Core.Bool.{Bool, true, false}
 use mathlib.Core.List.{List}
 use Prim.Native.Nat.{ℕ, _+_, _*_, _/_, _%_}
-use Rattle.format.specs.Store.{Answer, accepted, refused, number-right, check-right}
+use Rattle.format.specs.Store.{Answer, accepted, number-right, check-right}
+use Rattle.store.specs.Refusals.{refused-as}
+use Rattle.store.specs.declared.refusals.Refusal.{Refusal}
+use Rattle.store.specs.declared.refusals.Refusal.the-variants.{WrongBlockNumber, WrongCheck}
 
--- The refusal of the first test that failed: m or n, with block b.
-abbrev pub first-wrong : ℕ → Bool → ℕ → Bool → ℕ → Answer Unit
-first-wrong b first m second n =
-    elim first [ false ↦ refused m b | true ↦ elim second [ false ↦ refused n b | true ↦ accepted tt ] ]
+-- The refusal of the first test that failed.
+abbrev pub first-wrong : Bool → Refusal → Bool → Refusal → Answer Unit
+first-wrong first why second other =
+    elim first [ false ↦ refused-as why | true ↦ elim second [ false ↦ refused-as other | true ↦ accepted tt ] ]
 
--- Of block b alone: 2 for a wrong number, 3 for a wrong check.
+-- Of block b alone: its number, then its check.
 abbrev pub block-checked : List ℕ → ℕ → Answer Unit
-block-checked s b = first-wrong b (number-right s b) 2 (check-right s b) 3
+block-checked s b = first-wrong (number-right s b) (WrongBlockNumber b) (check-right s b) (WrongCheck b)
 
 -- The byte at which word j of the joined payloads begins.
 abbrev pub byte-place : ℕ → ℕ

@@ -1,3 +1,5 @@
 pub mod Layout
+pub mod Refusals
 pub mod Loaded
 pub mod Block
+pub mod laws

@@ -6,17 +6,18 @@ use lib.ListN.{length, drop}
 use Rattle.format.specs.Store.{Answer, accepted, refused, store-words}
 use Rattle.store.specs.declared.Loaded.{Loaded}
 use Rattle.store.specs.declared.Loaded.the-variants.{Words, Refused}
-use Rattle.store.specs.declared.Checked.{Checked}
-use Rattle.store.specs.declared.Checked.the-variants as checked
+use Rattle.store.specs.declared.Verdict.{Verdict}
+use Rattle.store.specs.declared.Verdict.the-variants as verdict
+use Rattle.store.specs.Refusals.{refused-as}
 
 -- Document 01's number and word of each refusal, or W.
 abbrev pub load-answered : Loaded → Answer ℕ
 load-answered (Words n) = accepted n
-load-answered (Refused n w) = refused n w
+load-answered (Refused why) = refused-as why
 
-abbrev pub answered : Checked → Answer Unit
-answered checked.Right = accepted tt
-answered (checked.Refused n w) = refused n w
+abbrev pub answered : Verdict → Answer Unit
+answered verdict.Right = accepted tt
+answered (verdict.Refused why) = refused-as why
 
 -- The words of a store, counted: W.
 abbrev pub words-counted : Answer (List ℕ) → Answer ℕ

@@ -9,17 +9,25 @@ ghost use Rattle.store.specs.Block.{first-wrong, block-checked, byte-pla
 ghost use Rattle.meaning.specs.Lists.{tabulate};
 
 pub mod layout;
+pub mod refusals;
 
 pub use layout::WORDS;
 pub use layout::span;
+pub use refusals::Refusal;
 
-// W, the words that a store holds, or a refusal's number and its word.
+// W, the words that a store holds, or its refusal.
 pub enum Loaded {
     Words(u16),
-    Refused(u16, u16),
+    Refused(Refusal),
 }
 
-// Nothing to refuse so far, or a refusal's number and its word.
+// Nothing to refuse so far, or the refusal.
+pub enum Verdict {
+    Right,
+    Refused(Refusal),
+}
+
+// The same with a refusal's number and its word, as nesting's steps answer.
 pub enum Checked {
     Right,
     Refused(u16, u16),
@@ -53,21 +61,21 @@ pub fn check_of(bytes: &[u8], at: usize) -> u32
     sum
 }
 
-// The refusal of the first test that failed, each with its number, for a block.
-fn first_wrong(b: u16, first: bool, m: u16, second: bool, n: u16) -> Checked
-    ensures { λ r. ⌜ answered r ≡ first-wrong b first m second n ⌝ }
+// The refusal of the first test that failed.
+fn first_wrong(first: bool, why: Refusal, second: bool, other: Refusal) -> Verdict
+    ensures { λ r. ⌜ answered r ≡ first-wrong first why second other ⌝ }
 {
     if !first {
-        return Checked::Refused(m, b);
+        return Verdict::Refused(why);
     }
     if !second {
-        return Checked::Refused(n, b);
+        return Verdict::Refused(other);
     }
-    Checked::Right
+    Verdict::Right
 }
 
 // One block: its number, then its check.
-fn block_checked(bytes: &[u8], b: usize) -> Checked
+fn block_checked(bytes: &[u8], b: usize) -> Verdict
     requires { ⌜ (b < 16) × (512 * b + 512 ≤ length (now bytes)) ⌝ }
     ensures { λ r. ⌜ answered r ≡ block-checked (now (bytes .entry)) b ⌝ }
 {
@@ -77,23 +85,26 @@ fn block_checked(bytes: &[u8], b: usize) -> Checked
     let high = pair_at(bytes, at + 510) as u32;
     let stated = low + 65536 * high;
     let sum = check_of(bytes, at);
-    first_wrong(b as u16, number == b, 2, stated == sum, 3)
+    let block = b as u16;
+    let other_number = Refusal::WrongBlockNumber(block);
+    let other_check = Refusal::WrongCheck(block);
+    first_wrong(number == b, other_number, stated == sum, other_check)
 }
 
 // The blocks in turn, up to the first that is wrong.
-fn blocks_checked(bytes: &[u8], n: usize) -> Checked
+fn blocks_checked(bytes: &[u8], n: usize) -> Verdict
     requires { ⌜ (n ≤ 16) × (512 * n ≤ length (now bytes)) ⌝ }
     ensures { λ r. ⌜ answered r ≡ blocks-checked (now (bytes .entry)) n ⌝ }
 {
     let mut b: usize = 0;
     while b < n {
         let c = block_checked(bytes, b);
-        if let Checked::Refused(number, word) = c {
-            return Checked::Refused(number, word);
+        if let Verdict::Refused(why) = c {
+            return Verdict::Refused(why);
         }
         b += 1;
     }
-    Checked::Right
+    Verdict::Right
 }
 
 // The byte at which the next word begins: from the last of a block's 253 words, byte 2 of the next block.
@@ -145,24 +156,24 @@ fn words_used(bytes: &[u8]) -> Loaded
 {
     let length = bytes.len();
     if length == 0 {
-        return Loaded::Refused(1, 0);
+        return Loaded::Refused(Refusal::WrongLength);
     }
     if 8192 < length {
-        return Loaded::Refused(1, 0);
+        return Loaded::Refused(Refusal::WrongLength);
     }
     if length % 512 != 0 {
-        return Loaded::Refused(1, 0);
+        return Loaded::Refused(Refusal::WrongLength);
     }
     let n = length / 512;
     let c = blocks_checked(bytes, n);
-    if let Checked::Refused(number, word) = c {
-        return Loaded::Refused(number, word);
+    if let Verdict::Refused(why) = c {
+        return Loaded::Refused(why);
     }
     let w = pair_at(bytes, 2);
     if count_right(bytes, n, w) {
         return Loaded::Words(w);
     }
-    Loaded::Refused(4, 0)
+    Loaded::Refused(Refusal::WrongWordCount)
 }
 
 // The first w words of a store, in front of the lent words.

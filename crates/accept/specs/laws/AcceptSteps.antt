@@ -12,30 +12,31 @@ use Rattle.format.specs.Accept.{with-references, accept}
 use Rattle.meaning.specs.facts.Tests.{clash}
 use Rattle.meaning.specs.facts.Parts.{same-part}
 use Rattle.store.specs.declared.Loaded.the-variants as loaded
+use Rattle.store.specs.declared.refusals.Refusal.{Refusal}
+use Rattle.store.specs.Refusals.{refused-as}
 use Rattle.store.specs.Loaded.{answered, words-counted, words-after, Loads}
-use Rattle.store.proofs.Front.{Front, front}
+use Rattle.store.specs.laws.Front.{Front, front}
 use Rattle.store.specs.Layout.{record-end, index-end}
-use Rattle.store.specs.declared.Checked.{Checked}
+use Rattle.store.specs.declared.Verdict.{Verdict}
 use Rattle.record.specs.Outcome.{forget, record-in}
 use Rattle.accept.specs.declared.Accepted.{Accepted}
-use Rattle.accept.specs.declared.Accepted.the-variants.{Refused}
 use Rattle.accept.specs.Accepts.{accept-answered, Accepts, ReadChecked}
 
 accept-is : (s : List ℕ) {r : Answer (List ℕ)} → store-words s ≡ r → accept s ≡ if-accepted r (λ ws. with-references (read-record ws))
 unfolding accept
 accept-is s h = ap (λ x. if-accepted x (λ ws. with-references (read-record ws))) h
 
-pub store-refused : (s old mid : List ℕ) {n w : ℕ} → Loads s old mid (loaded.Refused n w) → Accepts s old mid (Refused n w)
-store-refused s old mid {n} {w} l = by-answer (store-words s) refl (l .answer) (l .words)
+pub store-refused : (s old mid : List ℕ) {why : Refusal} {x : Accepted} → accept-answered x ≡ refused-as why
+    → Loads s old mid (loaded.Refused why) → Accepts s old mid x
+store-refused s old mid {why} {x} told l = by-answer (store-words s) refl (l .answer) (l .words)
   where
-    by-answer : (a : Answer (List ℕ)) → store-words s ≡ a → refused n w ≡ words-counted a → mid ≡ words-after old a
-        → Accepts s old mid (Refused n w)
+    by-answer : (a : Answer (List ℕ)) → store-words s ≡ a → refused-as why ≡ words-counted a → mid ≡ words-after old a → Accepts s old mid x
     by-answer (accepted ws) q e k = absurd (clash (cc))
     by-answer (refused m v) q e k =
         let whole = accept-is s q in
-        let same : _≡_ {A = Answer Unit} (refused n w) (refused m v) = cc in
+        let same : _≡_ {A = Answer Unit} (refused-as why) (refused m v) = cc in
         record {
-          answer = same ∙ sym (ap forget whole);
+          answer = told ∙ same ∙ sym (ap forget whole);
           stands = λ g f. absurd (clash (cc));
           in-front = λ ws f. absurd (clash (cc));
           between = λ ws f. absurd (clash (cc));
@@ -80,7 +81,7 @@ module _ (s old mid : List ℕ) {count : ℕ} (room : index-end ≤ length old) 
       let split : count + (record-end - count) ≡ record-end = omega arith in
       rw split at (same-part count (record-end - count) mid old (omega (arith, mid-size)) (omega arith) (in-front .rest))
 
-  front-words : (new : List ℕ) {y : Checked} → ReadChecked mid new y → take count new ≡ take count mid
+  front-words : (new : List ℕ) {y : Verdict} → ReadChecked mid new y → take count new ≡ take count mid
   front-words new r =
       sym (take-take count record-end new (in-front .few)) ∙ ap (take count) (r .kept .front)
       ∙ take-take count record-end mid (in-front .few)
@@ -89,7 +90,7 @@ module _ (s old mid : List ℕ) {count : ℕ} (room : index-end ≤ length old) 
   record-is : record-in mid ≡ read-record (take count mid)
   record-is = rw (in-front .first, le-leb count record-end (in-front .few))
 
-  pub record-judged : (new : List ℕ) {x : Accepted} {y : Checked} → accept-answered x ≡ answered y → ReadChecked mid new y
+  pub record-judged : (new : List ℕ) {x : Accepted} {y : Verdict} → accept-answered x ≡ answered y → ReadChecked mid new y
       → Accepts s old new x
   record-judged new {x} told r =
       let same : with-references (record-in mid) ≡ accept s = ap with-references record-is ∙ sym (accept-is s (in-front .words)) in

@@ -8,8 +8,10 @@ use Rattle.format.specs.References.{references}
 use Rattle.format.specs.Accept.{with-references}
 use Rattle.meaning.specs.facts.Tests.{clash}
 use Rattle.store.specs.Loaded.{answered}
-use Rattle.store.specs.declared.Checked.{Checked}
-use Rattle.store.specs.declared.Checked.the-variants.{Right, Refused}
+use Rattle.store.specs.Refusals.{refused-as}
+use Rattle.store.specs.declared.refusals.Refusal.{Refusal}
+use Rattle.store.specs.declared.Verdict.{Verdict}
+use Rattle.store.specs.declared.Verdict.the-variants.{Right, Refused}
 use Rattle.record.specs.Outcome.{forget, record-in, ReadOutcome}
 use Rattle.record.specs.laws.Parts.{then, accepted-value}
 use Rattle.record.specs.Stands.{OfRecord}
@@ -24,17 +26,17 @@ forget-then (refused n w) g = refl
 same-graph : {g : Graph} (a : Answer Unit) (x : Graph) → if-accepted a (λ _. accepted x) ≡ accepted g → x ≡ g
 same-graph a x h = accepted-value (then a (λ _. accepted x) _ h .second)
 
-module _ {old new : List ℕ} {read : Checked} (r : ReadOutcome old new read) where
-  pub unread : {n w : ℕ} → read ≡ Refused n w → ReadChecked old new (Refused n w)
-  unread {n} {w} e =
-      let bad : record-in old ≡ refused n w = not-given (record-in old) (sym (ap answered e) ∙ r .answer) in
+module _ {old new : List ℕ} {read : Verdict} (r : ReadOutcome old new read) where
+  pub unread : {why : Refusal} → read ≡ Refused why → ReadChecked old new (Refused why)
+  unread {why} e =
+      let bad : record-in old ≡ refused-as why = not-given (record-in old) (sym (ap answered e) ∙ r .answer) in
       let none = ap with-references bad in
       record {
         judged = record { answer = sym (ap forget none); stands = λ g f. absurd (clash (cc)) };
         kept = r .kept;
       }
 
-  pub by-references : {a : Checked} → read ≡ Right → OfRecord new (λ g. answered a ≡ references g) → ReadChecked old new a
+  pub by-references : {a : Verdict} → read ≡ Right → OfRecord new (λ g. answered a ≡ references g) → ReadChecked old new a
   by-references {a} e refs =
       let x = words-given (record-in old) (sym (ap answered e) ∙ r .answer) in
       let g = x .value in

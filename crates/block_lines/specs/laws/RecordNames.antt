@@ -23,7 +23,8 @@ use Rattle.state.specs.Values.{value-word}
 use Rattle.shown.specs.Values.{value}
 use Rattle.bundles.specs.Words.{record-word}
 use Rattle.bundles.specs.laws.Paths.{word-of-record}
-use Rattle.bundles.specs.laws.ReadTypes.{TypeRead, instr-types-read, end-types-read}
+use Rattle.format.specs.laws.UndefinedTypes.{TypeRead}
+use Rattle.fields.specs.laws.UndefinedTypes.{instr-types-read, end-types-read}
 use Rattle.bundles.specs.laws.RecordValues.{usable-names}
 
 -- The word of the record's value stands for it.

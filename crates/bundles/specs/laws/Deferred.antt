@@ -25,7 +25,7 @@ use Rattle.shown.specs.laws.SetStores.{word-other, run-elsewhere-word, bundle-b
 use Rattle.shown.specs.laws.SetSteps.{bundle-made, set-of-one, kept-beside}
 use Rattle.shown.specs.laws.Finds.{bundle-in}
 use Rattle.bundles.specs.Words.{padded, edge-deferred, return-deferred}
-use Rattle.bundles.specs.laws.ReadTypes.{end-types-read}
+use Rattle.fields.specs.laws.UndefinedTypes.{end-types-read}
 use Rattle.bundles.specs.laws.RecordValues.{passed-names, passed-types, passed-length, padded-names, valid-edge}
 
 pub true-shown : (w : List ℕ) → ShowsCondition w 1 true-cond

@@ -22,7 +22,7 @@ use Rattle.shown.specs.laws.ValueWords.{Ranged, ranged, in-const, in-false, in-
 use Rattle.shown.specs.laws.ValueWords.{in-none}
 use Rattle.shown.specs.laws.ValueWords.{value-undef, value-input}
 use Rattle.shown.specs.Sets.{Names}
-use Rattle.bundles.specs.laws.ReadTypes.{TypeRead}
+use Rattle.format.specs.laws.UndefinedTypes.{TypeRead}
 use Rattle.bundles.specs.Words.{record-word, padded-by, padded}
 use Rattle.nesting.specs.Nesting.{most-regions}
 

@@ -5,7 +5,7 @@ use Prim.Native.Nat.{ℕ, _+_, _*_, _<_}
 use native.Mathlib.Omega.{arith}
 use Rattle.format.specs.Accept.{accept}
 use Rattle.meaning.specs.facts.Tests.{clash}
-use Rattle.format.specs.laws.Refusals.{refusal-number}
+use Rattle.format.specs.laws.Refusals.{number-within}
 use Rattle.accept.specs.declared.Accepted.the-variants.{Record, Refused}
 use Rattle.accept.specs.Judged.{words-given, not-given}
 use Rattle.accept.specs.Accepts.{Accepts}
@@ -28,7 +28,7 @@ module _ (s old new : List ℕ) where
       → AcceptExported s old new (a * 65536 + b)
   refusal-exported {n} {w} {a} {b} p q small h =
       let bad = not-given (accept s) (h .answer) in
-      let number = refusal-number s bad in
+      let number = number-within s bad in
       record {
         answer = Refused n w;
         accepts = h;

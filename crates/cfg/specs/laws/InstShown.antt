@@ -43,7 +43,8 @@ use Rattle.shown.specs.laws.CellSteps.{blocks-added, exit-added, cell-aside, ce
 use Rattle.shown.specs.laws.SetStores.{OnlySets, only-same, only-then, only-total, only-later, only-word-same, word-other}
 use Rattle.bundles.specs.Words.{cases-filled, filled-from, case-filled, padded-by, record-word, return-deferred}
 use Rattle.bundles.specs.laws.Paths.{padded-in}
-use Rattle.bundles.specs.laws.ReadTypes.{TypeRead, end-types-read}
+use Rattle.format.specs.laws.UndefinedTypes.{TypeRead}
+use Rattle.fields.specs.laws.UndefinedTypes.{end-types-read}
 use Rattle.bundles.specs.laws.RecordValues.{usable-names, few-edges}
 use Rattle.bundles.specs.laws.Deferred.{return-deferred-only, return-deferred-kept, return-deferred-state, return-deferred-shown}
 use Rattle.bundles.specs.laws.CasesFilled as filling

@@ -12,6 +12,7 @@ use lib.Dec.{eqb, ltb}
 use borrow.Author.Tests.{ltb-true, ltb-false}
 use Rattle.meaning.specs.Graph.{Graph, Value, Edge, ControlInst, region, edges-of, targets-of, no-edge}
 use Rattle.format.specs.Read.{counted, word, read-value, most-targets, edges-passed}
+use Rattle.format.specs.Read.{terminator-branch, terminator-bool, terminator-number}
 use Rattle.format.specs.laws.Readers.{many-at}
 use Rattle.store.specs.Layout.{beyond}
 use Rattle.record.specs.laws.Parts.{counted-parts}
@@ -39,7 +40,7 @@ unfolding edges-passed
 edge-inputs ts passes j l = ap (λ e. e .inputs) (getD-map-in _ ts j 0 no-edge l)
 
 most-targets-eight : (k : ℕ) → most-targets k ≤ 8
-most-targets-eight k = by-tests (eqb k 5) (eqb k 4) (eqb k 3)
+most-targets-eight k = by-tests (eqb k terminator-number) (eqb k terminator-bool) (eqb k terminator-branch)
   where
     by-tests : (a b c : Bool) → pick a 8 (pick b 2 (pick c 1 0)) ≤ 8
     by-tests true b c = omega arith

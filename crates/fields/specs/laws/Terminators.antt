@@ -9,7 +9,7 @@ use lib.ListN.{length, getD, length-map}
 use lib.Dec.{eqb}
 use Rattle.meaning.specs.Graph.{Graph, Value, Edge, ControlInst, region, edges-of, no-edge}
 use Rattle.format.specs.Read.{got, word, read-value, fewest-values, most-values, fewest-targets, most-targets, opcode-for, edges-passed}
-use Rattle.format.specs.Read.{control-inst}
+use Rattle.format.specs.Read.{control-inst, terminator-exit, terminator-number}
 use Rattle.format.specs.References.{values-of}
 use Rattle.format.specs.Places.{start-of-region, limit-of-region, exits-of-region}
 use Rattle.format.specs.laws.Readers.{got-value, got-place}
@@ -27,7 +27,8 @@ use Rattle.meaning.specs.Lists.{pick}
 use Rattle.meaning.specs.facts.Elements.{no-element, one-element}
 
 -- A terminator has the values and the edges that it was made from, in the numbers that its kind allows.
-pub control-values : (k op : ℕ) (vs : List Value) (es : List Edge) → k ≤ 5 → fewest-values k ≤ length vs → length vs ≤ most-values k
+pub control-values : (k op : ℕ) (vs : List Value) (es : List Edge) → k ≤ terminator-number → fewest-values k ≤ length vs
+    → length vs ≤ most-values k
     → values-of (control-inst k op vs es) ≡ vs
 control-values zero op vs es b l h = no-element vs h
 control-values (suc zero) op vs es b l h = refl
@@ -37,7 +38,8 @@ control-values (suc (suc (suc (suc zero)))) op vs es b l h = one-element _ vs l 
 control-values (suc (suc (suc (suc (suc zero))))) op vs es b l h = one-element _ vs l h
 control-values (suc (suc (suc (suc (suc (suc k)))))) op vs es b l h = absurd (omega arith)
 
-pub control-edges : (k op : ℕ) (vs : List Value) (es : List Edge) → k ≤ 5 → fewest-targets k ≤ length es → length es ≤ most-targets k
+pub control-edges : (k op : ℕ) (vs : List Value) (es : List Edge) → k ≤ terminator-number → fewest-targets k ≤ length es
+    → length es ≤ most-targets k
     → edges-of (control-inst k op vs es) ≡ es
 control-edges zero op vs es b l h = no-element es h
 control-edges (suc zero) op vs es b l h = no-element es h
@@ -47,16 +49,16 @@ control-edges (suc (suc (suc (suc zero)))) op vs es b l h = refl
 control-edges (suc (suc (suc (suc (suc zero))))) op vs es b l h = refl
 control-edges (suc (suc (suc (suc (suc (suc k)))))) op vs es b l h = absurd (omega arith)
 
--- The opcode word stands for kind 2 only.
+-- The opcode word stands for ExitInvocation only.
 pub record OpcodeParts (w : List ℕ) (k at op e : ℕ) : Type 0 where
-  pub is : op ≡ pick (eqb k 2) (getD w at 0) 0
-  pub end : e ≡ pick (eqb k 2) (at + 1) at
+  pub is : op ≡ pick (eqb k terminator-exit) (getD w at 0) 0
+  pub end : e ≡ pick (eqb k terminator-exit) (at + 1) at
 
 pub opcode-parts : (w : List ℕ) (k at : ℕ) {op e : ℕ} → opcode-for k (words-of-record w) at ≡ got op e → OpcodeParts w k at op e
 unfolding opcode-for
-opcode-parts w k at {op} {e} h = by-test (eqb k 2) refl h
+opcode-parts w k at {op} {e} h = by-test (eqb k terminator-exit) refl h
   where
-    by-test : (t : Bool) → eqb k 2 ≡ t → elim t [ true ↦ word (words-of-record w) at | false ↦ got 0 at ] ≡ got op e
+    by-test : (t : Bool) → eqb k terminator-exit ≡ t → elim t [ true ↦ word (words-of-record w) at | false ↦ got 0 at ] ≡ got op e
         → OpcodeParts w k at op e
     by-test true q p =
         let a = word-parts (words-of-record w) at p in record { is = rw q (a .is ∙ front w at (a .inside)); end = rw q (a .end) }
@@ -127,7 +129,7 @@ module _ {w : List ℕ} {g : Graph} (s : Stands w g) where
 
       values-at : values-place w r ≡ t .values-at
       values-at =
-          ap (λ k. pick (eqb k 2) (placed (indexed w r limit-word + 3)) (placed (indexed w r limit-word + 2))) kind
+          ap (λ k. pick (eqb k terminator-exit) (placed (indexed w r limit-word + 3)) (placed (indexed w r limit-word + 2))) kind
           ∙ by-kind (eqb (t .k) 2) (t .values-at) (o .end) (small s (va .inside))
 
   module _ (r : ℕ) where
@@ -145,7 +147,7 @@ module _ {w : List ℕ} {g : Graph} (s : Stands w g) where
     unfolding targets-place
     no-targets k = ap (behind-values w) (no-values k) ∙ beyond-values s
 
-    pub kind-bound : getD w (indexed w r limit-word + 1) 0 ≤ 5
+    pub kind-bound : getD w (indexed w r limit-word + 1) 0 ≤ terminator-number
     kind-bound =
         ⊎-elim
         (λ k. let t = known-end k in omega (arith, t .kind-word, t .parts .kind .high-bound))
@@ -190,7 +192,7 @@ module _ {w : List ℕ} {g : Graph} (s : Stands w g) where
             ∙ ap (λ x. x .terminator) (sym (k .none))
 
     -- The same by the place and the kind that the code has.
-    pub kind-by : {p kind : ℕ} → p ≡ indexed w r limit-word → kind ≡ getD w (p + 1) 0 → kind ≤ 5
+    pub kind-by : {p kind : ℕ} → p ≡ indexed w r limit-word → kind ≡ getD w (p + 1) 0 → kind ≤ terminator-number
     kind-by here is = rw (is, here) kind-bound
 
     pub terminator-by : {p kind : ℕ} → p ≡ indexed w r limit-word → kind ≡ getD w (p + 1) 0 → (t : Terminator) → kind ≡ kind-is t

@@ -16,6 +16,7 @@ use Rattle.nesting.specs.steps.StatesKept.{KeepsStates}
 use Rattle.nesting.specs.steps.RegionsLeft.{state-of, not-begun-one, count-states, not-begun-count}
 use Rattle.meaning.specs.facts.Tests.{at-or-else}
 use Rattle.meaning.specs.facts.Sums.{total-one, total-change}
+use Rattle.format.specs.Refusals.{too-many}
 use Rattle.follows.specs.counting.Totals.{edge-total, edges-to, edgeless, SetFits}
 
 -- The graph, its live regions, the incoming count of each, and the list in which claims look them up.
@@ -31,7 +32,7 @@ pub record Counting : Type 0 where
 
 -- Only a limit refuses: number 9, word 0.
 abbrev pub Nine : ℕ → ℕ → Type 0
-Nine n w = (n ≡ 9) × (w ≡ 0)
+Nine n w = (n ≡ too-many) × (w ≡ 0)
 
 abbrev pub busy : StructurizeRegionState → Bool
 busy not-begun = false

@@ -22,6 +22,7 @@ use Rattle.meaning.specs.facts.Tests.{clash}
 use Rattle.meaning.specs.facts.Members.{none-seen}
 use Rattle.format.specs.laws.WellRead.{SamePasses, InstrRead, BlockRead, EndRead, TargetsRead, RegionRead, RecordRead, record-read}
 use Rattle.format.specs.laws.WellRead.{step}
+use Rattle.format.specs.Refusals.{wrong-reference, wrong-type, exit-named-twice}
 use Rattle.meaning.specs.facts.Elements.{all-map, all-append}
 
 -- the instructions of blocks that were read
@@ -66,7 +67,7 @@ module _ (g : Graph) (r : ℕ) where
   passed-valid : (ts : List ℕ) (vs : List Value) → passed-right g r ts vs ≡ accepted tt → Passed g r ts vs
   unfolding passed-right
   passed-valid ts vs h =
-      let a = step (refuse-unless 7 r (eqb (length vs) (length ts))) _ tt h in
+      let a = step (refuse-unless wrong-type r (eqb (length vs) (length ts))) _ tt h in
       types-passed ts vs (eqb-true (length vs) (length ts) (expected 7 r (eqb (length vs) (length ts)) (a .first))) (a .second)
 
   instrs-valid : (k : ℕ) (is : List Instr) → All InstrRead is → reads-right g r k is ≡ accepted tt → ValidInstrs g r k is
@@ -165,8 +166,8 @@ module _ (g : Graph) (r : ℕ) where
   unfolding exits-right
   exits-valid seen [] h = record { regions = tt; new = tt; distinct = tt }
   exits-valid seen (x ∷ xs) h =
-      let a = step (refuse-unless 6 r (is-region g x)) _ tt h in
-      let b = step (refuse-unless 8 r (not (is-in x seen))) _ tt (a .second) in
+      let a = step (refuse-unless wrong-reference r (is-region g x)) _ tt h in
+      let b = step (refuse-unless exit-named-twice r (not (is-in x seen))) _ tt (a .second) in
       let rest = exits-valid (x ∷ seen) xs (b .second) in
       let apart = none-seen x seen xs (rest .new) in
       record {
@@ -212,7 +213,7 @@ regions-valid g r (x ∷ xs) w h (suc k) l =
 graph-valid : (g : Graph) → RecordRead g → references g ≡ accepted tt → Valid g
 unfolding references
 graph-valid g w h =
-    let a = step (refuse-unless 6 0 (is-region g (g .entry))) _ tt h in
+    let a = step (refuse-unless wrong-reference 0 (is-region g (g .entry))) _ tt h in
     record {
       count = w .count;
       entry = ltb-true (g .entry) (length (g .regions)) (expected 6 0 (is-region g (g .entry)) (a .first));

@@ -7,12 +7,13 @@ use lib.ListN.{length, getD}
 use lib.Dec.{eqb, leb, ltb}
 use Rattle.format.specs.Read.{Read, got, bad, Reader, read-then, expect, word, within, many, counted, type, is-kind, index-right}
 use Rattle.format.specs.Read.{read-value, instruction, block, opcode-for, fewest-values, most-values, fewest-targets, most-targets}
-use Rattle.format.specs.Read.{terminator, read-region, head}
+use Rattle.format.specs.Read.{terminator, read-region, head, terminator-unreachable, terminator-exit, terminator-number}
+use Rattle.format.specs.Refusals.{wrong-word-count, out-of-range}
 use Rattle.meaning.specs.Lists.{distinct-from}
 
 abbrev pub StopsReading : {A : Type 0} → Read A → Type 0
 StopsReading (got a at) = Unit
-StopsReading (bad n) = (4 ≤ n) × (n ≤ 5)
+StopsReading (bad n) = (wrong-word-count ≤ n) × (n ≤ out-of-range)
 
 follow-stops : {A B : Type 0} (r : Read A) (k : A → ℕ → Read B) → StopsReading r → ((a : A) (at : ℕ) → StopsReading (k a at))
     → StopsReading (read-then r k)
@@ -28,7 +29,7 @@ module _ (ws : List ℕ) where
   unfolding word
   word-stops at = by-test (ltb at (length ws))
     where
-      by-test : (b : Bool) → StopsReading {A = ℕ} (elim b [ true ↦ got (getD ws at 0) (at + 1) | false ↦ bad 4 ])
+      by-test : (b : Bool) → StopsReading {A = ℕ} (elim b [ true ↦ got (getD ws at 0) (at + 1) | false ↦ bad wrong-word-count ])
       by-test true = tt
       by-test false = (omega arith, omega arith)
 
@@ -71,7 +72,7 @@ module _ (ws : List ℕ) where
 
   opcode-stops : (k at : ℕ) → StopsReading (opcode-for k ws at)
   unfolding opcode-for
-  opcode-stops k at = by-test (eqb k 2)
+  opcode-stops k at = by-test (eqb k terminator-exit)
     where
       by-test : (b : Bool) → StopsReading {A = ℕ} (elim b [ true ↦ word ws at | false ↦ got 0 at ])
       by-test true = word-stops at
@@ -80,7 +81,8 @@ module _ (ws : List ℕ) where
   terminator-stops : (at : ℕ) → StopsReading (terminator ws at)
   unfolding terminator
   terminator-stops at =
-      follow-stops (within 0 5 ws at) _ (within-stops 0 5 at) λ k i.
+      follow-stops (within terminator-unreachable terminator-number ws at) _
+      (within-stops terminator-unreachable terminator-number at) λ k i.
       follow-stops (opcode-for k ws i) _ (opcode-stops k i) λ op j.
       follow-stops (counted (fewest-values k) (most-values k) read-value ws j) _ (counted-stops _ _ read-value value-stops j) λ vs l.
       follow-stops (counted (fewest-targets k) (most-targets k) word ws l) _ (counted-stops _ _ word word-stops l) λ ts m.

@@ -20,6 +20,8 @@ use Rattle.format.specs.References.{target-right, edge-right, first-edge
 use Rattle.format.specs.Accept.{accept}
 use Rattle.format.specs.laws.WellRead.{head-read, record-read}
 use Rattle.format.specs.laws.ReadingStops.{StopsReading, region-stops, head-stops}
+use Rattle.format.specs.Refusals.{wrong-length, wrong-block-number, wrong-check, wrong-word-count, wrong-reference, wrong-type}
+use Rattle.format.specs.Refusals.{exit-named-twice, out-of-range}
 use Rattle.meaning.specs.facts.Tests.{and-both}
 
 -- P of a refusal's number and word. Nothing is said of what is accepted.
@@ -45,7 +47,7 @@ then-range r k h more = then-refused Ranges r k h more
 settle-range : {A B : Type 0} (r : ℕ) (x : Read A) (k : A → ℕ → Answer B) → r < 32 → StopsReading x
     → ((a : A) (at : ℕ) → x ≡ got a at → InRange (k a at)) → InRange (settle r x k)
 settle-range r (got a at) k l h more = more a at refl
-settle-range r (bad n) k l h more = ((omega arith, omega arith), by-test (eqb n 5))
+settle-range r (bad n) k l h more = ((omega arith, omega arith), by-test (eqb n out-of-range))
   where
     by-test : (b : Bool) → pick b r 0 < 32
     by-test true = l
@@ -59,7 +61,7 @@ blocks-range s (suc n) l =
     then-range (blocks-checked s n) _ (blocks-range s n (omega arith)) λ u e. by-tests (number-right s n) (check-right s n)
   where
     by-tests : (a b : Bool) → InRange {A = Unit}
-        (elim a [ false ↦ refused 2 n | true ↦ elim b [ false ↦ refused 3 n | true ↦ accepted tt ] ])
+        (elim a [ false ↦ refused wrong-block-number n | true ↦ elim b [ false ↦ refused wrong-check n | true ↦ accepted tt ] ])
     by-tests true true = tt
     by-tests true false = ((omega arith, omega arith), omega arith)
     by-tests false b = ((omega arith, omega arith), omega arith)
@@ -68,15 +70,19 @@ store-range : (s : List ℕ) → InRange (store-words s)
 unfolding store-words
 store-range s = by-length (length-right (length s)) refl
   where
-    by-count : (b : Bool) → InRange {A = List ℕ} (elim b [ false ↦ refused 4 0 | true ↦ accepted (tabulate (word-at s 0) (word-at s)) ])
+    by-count : (b : Bool) → InRange {A = List ℕ}
+        (elim b [ false ↦ refused wrong-word-count 0 | true ↦ accepted (tabulate (word-at s 0) (word-at s)) ])
     by-count true = tt
     by-count false = ((omega arith, omega arith), omega arith)
 
     by-length : (b : Bool) → length-right (length s) ≡ b → InRange {A = List ℕ}
         (elim b [
-          | false ↦ refused 1 0
+          | false ↦ refused wrong-length 0
           | true ↦ if-accepted (blocks-checked s (length s / 512)) λ _. elim
-              (count-right s (length s / 512) (word-at s 0)) [ false ↦ refused 4 0 | true ↦ accepted (tabulate (word-at s 0) (word-at s)) ]
+              (count-right s (length s / 512) (word-at s 0)) [
+                | false ↦ refused wrong-word-count 0
+                | true ↦ accepted (tabulate (word-at s 0) (word-at s))
+              ]
         ])
     by-length true q =
         let few : length s ≤ 8192 =
@@ -92,7 +98,7 @@ regions-range : (n r : ℕ) (ws : List ℕ) (at : ℕ) → r + n ≤ 32 → InRa
 unfolding regions-from
 regions-range zero r ws at l = by-test (eqb at (length ws))
   where
-    by-test : (b : Bool) → InRange {A = List Region} (elim b [ true ↦ accepted [] | false ↦ refused 4 0 ])
+    by-test : (b : Bool) → InRange {A = List Region} (elim b [ true ↦ accepted [] | false ↦ refused wrong-word-count 0 ])
     by-test true = tt
     by-test false = ((omega arith, omega arith), omega arith)
 regions-range (suc n) r ws at l =
@@ -119,11 +125,11 @@ each-range f h (x ∷ xs) = then-range (f x) _ (h x) λ u e. each-range f h xs
 module _ (g : Graph) (r : ℕ) (l : r < 32) where
   named-range : (before : ℕ) (v : Value) → InRange (named-right g r before v)
   unfolding named-right
-  named-range before v = expect-range 6 r (not (eqb (type-in g r before v) 0)) (omega arith, omega arith) l
+  named-range before v = expect-range wrong-reference r (not (eqb (type-in g r before v) 0)) (omega arith, omega arith) l
 
   type-range : (t : ℕ) (v : Value) → InRange (of-type g r t v)
   unfolding of-type
-  type-range t v = expect-range 7 r (eqb (type-in g r (behind-all g r) v) t) (omega arith, omega arith) l
+  type-range t v = expect-range wrong-type r (eqb (type-in g r (behind-all g r) v) t) (omega arith, omega arith) l
 
   reads-range : (k : ℕ) (is : List Instr) → InRange (reads-right g r k is)
   unfolding reads-right
@@ -143,8 +149,8 @@ module _ (g : Graph) (r : ℕ) (l : r < 32) where
   passed-range : (ts : List ℕ) (vs : List Value) → InRange (passed-right g r ts vs)
   unfolding passed-right
   passed-range ts vs =
-      then-range (refuse-unless 7 r (eqb (length vs) (length ts))) _
-      (expect-range 7 r (eqb (length vs) (length ts)) (omega arith, omega arith) l) λ u e. types-range ts vs
+      then-range (refuse-unless wrong-type r (eqb (length vs) (length ts))) _
+      (expect-range wrong-type r (eqb (length vs) (length ts)) (omega arith, omega arith) l) λ u e. types-range ts vs
 
   test-range : (k : SelectionKind) (v : Value) → InRange (test-right g r k v)
   unfolding test-right
@@ -162,7 +168,7 @@ module _ (g : Graph) (r : ℕ) (l : r < 32) where
 
   target-range : (e : Edge) → InRange (target-right g r e)
   unfolding target-right
-  target-range e = expect-range 6 r (is-region g (e .target)) (omega arith, omega arith) l
+  target-range e = expect-range wrong-reference r (is-region g (e .target)) (omega arith, omega arith) l
 
   edge-range : (e : Edge) → InRange (edge-right g r e)
   unfolding edge-right
@@ -172,8 +178,10 @@ module _ (g : Graph) (r : ℕ) (l : r < 32) where
   unfolding exits-right
   exits-range seen [] = tt
   exits-range seen (x ∷ xs) =
-      then-range (refuse-unless 6 r (is-region g x)) _ (expect-range 6 r (is-region g x) (omega arith, omega arith) l) λ u e.
-      then-range (refuse-unless 8 r (not (is-in x seen))) _ (expect-range 8 r (not (is-in x seen)) (omega arith, omega arith) l) λ w f.
+      then-range (refuse-unless wrong-reference r (is-region g x)) _
+      (expect-range wrong-reference r (is-region g x) (omega arith, omega arith) l) λ u e.
+      then-range (refuse-unless exit-named-twice r (not (is-in x seen))) _
+      (expect-range exit-named-twice r (not (is-in x seen)) (omega arith, omega arith) l) λ w f.
       exits-range (x ∷ seen) xs
 
   region-range : (x : Region) → InRange (region-right g r x)
@@ -196,8 +204,8 @@ each-region-range g r (x ∷ xs) l =
 references-range : (g : Graph) → length (g .regions) ≤ 32 → InRange (references g)
 unfolding references
 references-range g l =
-    then-range (refuse-unless 6 0 (is-region g (g .entry))) _
-    (expect-range 6 0 (is-region g (g .entry)) (omega arith, omega arith) (omega arith)) λ u e.
+    then-range (refuse-unless wrong-reference 0 (is-region g (g .entry))) _
+    (expect-range wrong-reference 0 (is-region g (g .entry)) (omega arith, omega arith) (omega arith)) λ u e.
     each-region-range g 0 (g .regions) (omega arith)
 
 pub refusal-range : (s : List ℕ) → InRange (accept s)
@@ -208,5 +216,5 @@ refusal-range s =
     then-range (references g) _ (references-range g (record-read ws g f .count .1)) λ u h. tt
 
 -- No refusal has number 0, and none one above 8.
-pub refusal-number : (s : List ℕ) {n w : ℕ} → accept s ≡ refused n w → Within 1 8 n
-refusal-number s {n} {w} h = rw h at (refusal-range s) .0
+pub number-within : (s : List ℕ) {n w : ℕ} → accept s ≡ refused n w → Within 1 8 n
+number-within s {n} {w} h = rw h at (refusal-range s) .0

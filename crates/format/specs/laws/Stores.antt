@@ -16,6 +16,7 @@ use Rattle.meaning.specs.facts.Tests.{clash, and-both}
 use Rattle.meaning.specs.facts.Elements.{length-tabulate, all-tabulate}
 use Rattle.format.specs.Store.{Answer, accepted, refused, if-accepted, pair, weighted, blocks-checked, word-at, all-zero}
 use Rattle.format.specs.Store.{length-right, count-right, store-words}
+use Rattle.format.specs.Refusals.{wrong-length, wrong-word-count}
 
 -- ---- the words behind W
 pub zero-more : (s : List ℕ) (j n : ℕ) → all-zero s j n ≡ true → word-at s (j + n) ≡ 0 → all-zero s j (n + 1) ≡ true
@@ -64,8 +65,8 @@ blocks-stay s m (suc n) a b l e =
 abbrev pub judged : List ℕ → Bool → Answer Unit → Bool → Answer (List ℕ)
 judged s l b w =
     elim l [
-      | false ↦ refused 1 0
-      | true ↦ if-accepted b λ _. elim w [ false ↦ refused 4 0 | true ↦ accepted (tabulate (word-at s 0) (word-at s)) ]
+      | false ↦ refused wrong-length 0
+      | true ↦ if-accepted b λ _. elim w [ false ↦ refused wrong-word-count 0 | true ↦ accepted (tabulate (word-at s 0) (word-at s)) ]
     ]
 
 abbrev pub blocks-in : List ℕ → ℕ

@@ -13,8 +13,10 @@ use Rattle.format.specs.Store.{Answer, accepted, refused, if-accepted}
 use Rattle.format.specs.Read.{Read, got, bad, Reader, read-then, expect, many, counted, within, word, type, read-value, instruction}
 use Rattle.format.specs.Read.{block, terminator, read-region, opcode-for, fewest-values, most-values, fewest-targets, most-targets}
 use Rattle.format.specs.Read.{edges-passed, control-inst, settle, regions-from, head, Head, read-record}
+use Rattle.format.specs.Read.{terminator-unreachable, terminator-number}
 use Rattle.meaning.specs.facts.Tests.{clash, and-both}
 use Rattle.format.specs.laws.Readers.{part, expected, got-value, many-length}
+use Rattle.format.specs.Refusals.{wrong-word-count}
 use Rattle.meaning.specs.Lists.{All, Within, distinct-from, rank}
 
 -- The bounds of what `within` gives.
@@ -139,7 +141,7 @@ end-read (suc (suc (suc (suc (suc (suc k)))))) op vs es h v t s = absurd (omega 
 terminator-read : (ws : List ℕ) (at : ℕ) (x : ControlInst) (e : ℕ) → terminator ws at ≡ got x e → EndRead x
 unfolding terminator
 terminator-read ws at x e h =
-    let a = part (within 0 5 ws at) _ x e h in
+    let a = part (within terminator-unreachable terminator-number ws at) _ x e h in
     let b = part (opcode-for (a .value) ws (a .place)) _ x e (a .second) in
     let c = part (counted (fewest-values (a .value)) (most-values (a .value)) read-value ws (b .place)) _ x e (b .second) in
     let d = part (counted (fewest-targets (a .value)) (most-targets (a .value)) word ws (c .place)) _ x e (c .second) in
@@ -149,7 +151,8 @@ terminator-read ws at x e h =
     let targets = counted-all word Any ws (λ j y k q. tt) (fewest-targets (a .value)) (most-targets (a .value)) (c .place) (d .first) in
     let long : length (edges-passed (d .value) (f .value)) ≡ length (d .value) = edges-length (d .value) (f .value) in
     rw is
-    (end-read (a .value) (b .value) (c .value) (edges-passed (d .value) (f .value)) (within-bounds 0 5 ws at (a .first) .1)
+    (end-read (a .value) (b .value) (c .value) (edges-passed (d .value) (f .value))
+    (within-bounds terminator-unreachable terminator-number ws at (a .first) .1)
     (values .count .1) (rw long (targets .count))
     (same-passes (d .value) (f .value)))
 
@@ -210,7 +213,7 @@ regions-read : (n r : ℕ) (ws : List ℕ) (at : ℕ) (xs : List Region) → reg
 unfolding regions-from
 regions-read zero r ws at xs h = over (eqb at (length ws)) h
   where
-    over : (b : Bool) → elim b [ true ↦ accepted [] | false ↦ refused 4 0 ] ≡ accepted xs → RegionsRead zero xs
+    over : (b : Bool) → elim b [ true ↦ accepted [] | false ↦ refused wrong-word-count 0 ] ≡ accepted xs → RegionsRead zero xs
     over true q = let same : xs ≡ [] = cc in rw same (record { count = refl; all = tt })
     over false q = absurd (clash (cc))
 regions-read (suc n) r ws at xs h =

@@ -6,6 +6,8 @@ use lib.ListN.{length, drop}
 use Rattle.meaning.specs.Graph.{Value, Code, code-of, Instr, bool-cond, number, Edge, ControlInst, unreachable, return, exit-invocation}
 use Rattle.meaning.specs.Graph.{branch, select-branch, Region, Graph, edges-of}
 use Rattle.meaning.specs.Lists.{is-in, concat}
+use Rattle.format.specs.Read.{terminator-unreachable, terminator-return, terminator-exit, terminator-branch, terminator-bool}
+use Rattle.format.specs.Read.{terminator-number}
 
 -- ---- the record's words
 -- A list its count, then its items.
@@ -27,12 +29,12 @@ instr-words i = i .opcode ∷ i .type ∷ i .cost ∷ values-words (i .reads)
 
 -- Kind, the opcode of ExitInvocation, values.
 abbrev pub terminator-words : ControlInst → List ℕ
-terminator-words unreachable = 0 ∷ 0 ∷ []
-terminator-words (return vs) = 1 ∷ values-words vs
-terminator-words (exit-invocation op vs) = 2 ∷ op ∷ values-words vs
-terminator-words (branch e) = 3 ∷ 0 ∷ []
-terminator-words (select-branch bool-cond v es) = 4 ∷ values-words (v ∷ [])
-terminator-words (select-branch number v es) = 5 ∷ values-words (v ∷ [])
+terminator-words unreachable = terminator-unreachable ∷ 0 ∷ []
+terminator-words (return vs) = terminator-return ∷ values-words vs
+terminator-words (exit-invocation op vs) = terminator-exit ∷ op ∷ values-words vs
+terminator-words (branch e) = terminator-branch ∷ 0 ∷ []
+terminator-words (select-branch bool-cond v es) = terminator-bool ∷ values-words (v ∷ [])
+terminator-words (select-branch number v es) = terminator-number ∷ values-words (v ∷ [])
 
 -- The inputs of each distinct target, by first standing.
 unfoldable pub passed-words : List ℕ → List Edge → List ℕ

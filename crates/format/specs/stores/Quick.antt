@@ -19,6 +19,7 @@ use Rattle.format.specs.Accept.{with-references, accept}
 use Rattle.meaning.specs.Graph.{Graph}
 use Rattle.format.specs.stores.Pack.{check-from}
 use Rattle.format.specs.stores.QuickRead.{quick-read-record, same-read-record}
+use Rattle.format.specs.Refusals.{wrong-length, wrong-block-number, wrong-check, wrong-word-count}
 use Rattle.meaning.specs.Lists.{tabulate}
 use Rattle.meaning.specs.facts.Elements.{length-tabulate, tabulate-at}
 
@@ -118,8 +119,11 @@ words-tabulated n w s h =
 abbrev pub quick-block-checked : List ℕ → ℕ → ℕ → Answer Unit
 quick-block-checked s b sum =
     elim (number-right s b) [
-      | false ↦ refused 2 b
-      | true ↦ elim (eqb (pair s (512 * b + 508) + 65536 * pair s (512 * b + 510)) sum) [ false ↦ refused 3 b | true ↦ accepted tt ]
+      | false ↦ refused wrong-block-number b
+      | true ↦ elim (eqb (pair s (512 * b + 508) + 65536 * pair s (512 * b + 510)) sum) [
+        | false ↦ refused wrong-check b
+        | true ↦ accepted tt
+      ]
     ]
 
 unfoldable pub quick-blocks : List ℕ → ℕ → Answer Unit
@@ -170,7 +174,7 @@ rest-zero s n w = go (decLe w (253 * n))
 
 -- with the words from W on right or not, what is read
 abbrev pub words-if : Bool → List ℕ → Answer (List ℕ)
-words-if right ws = elim right [ false ↦ refused 4 0 | true ↦ accepted ws ]
+words-if right ws = elim right [ false ↦ refused wrong-word-count 0 | true ↦ accepted ws ]
 
 -- with n blocks, all their words, and W
 abbrev pub quick-count : ℕ → List ℕ → ℕ → Answer (List ℕ)
@@ -180,7 +184,7 @@ unfoldable quick-store-words : List ℕ → Answer (List ℕ)
 unfolding quick-blocks check-from all-words front-words only-zeros
 quick-store-words s =
     elim (length-right (length s)) [
-      | false ↦ refused 1 0
+      | false ↦ refused wrong-length 0
       | true ↦ if-accepted (quick-blocks s (length s / 512)) λ _. quick-count (length s / 512) (all-words (length s / 512) s) (word-at s 0)
     ]
 
@@ -199,7 +203,7 @@ same-count s n w =
 abbrev definition : List ℕ → Bool → Answer (List ℕ)
 definition s right =
     elim right [
-      | false ↦ refused 1 0
+      | false ↦ refused wrong-length 0
       | true ↦ if-accepted (blocks-checked s (length s / 512)) λ _. words-if (count-right s (length s / 512) (word-at s 0))
           (tabulate (word-at s 0) (word-at s))
     ]
@@ -207,7 +211,7 @@ definition s right =
 abbrev walk : List ℕ → Bool → Answer (List ℕ)
 walk s right =
     elim right [
-      | false ↦ refused 1 0
+      | false ↦ refused wrong-length 0
       | true ↦ if-accepted (quick-blocks s (length s / 512)) λ _. quick-count (length s / 512) (all-words (length s / 512) s) (word-at s 0)
     ]
 

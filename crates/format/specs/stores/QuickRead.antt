@@ -15,7 +15,9 @@ use Rattle.meaning.specs.Lists.{distinct-from}
 use Rattle.format.specs.Store.{Answer, accepted, refused, if-accepted}
 use Rattle.format.specs.Read.{Read, got, bad, Reader, read-then, expect, word, within, many, counted, type, is-kind, index-right}
 use Rattle.format.specs.Read.{read-value, instruction, block, opcode-for, fewest-values, most-values, fewest-targets, most-targets}
-use Rattle.format.specs.Read.{terminator, read-region, settle, regions-from, Head, head, read-record}
+use Rattle.format.specs.Read.{terminator, read-region, settle, regions-from, Head, head, read-record, terminator-unreachable}
+use Rattle.format.specs.Read.{terminator-exit, terminator-number}
+use Rattle.format.specs.Refusals.{wrong-word-count}
 
 -- What is read of a part of the words, the part at place o, is read of all of them; where the part is too short nothing is said.
 abbrev MovesBy : {A : Type 0} → ℕ → Read A → Read A → Type 0
@@ -42,8 +44,8 @@ module _ (o : ℕ) (us ws : List ℕ) (part : PartOf o us ws) where
   word-moves i = by-test (ltb i (length us)) refl
     where
       by-test : (b : Bool) → ltb i (length us) ≡ b
-          → MovesBy {A = ℕ} o (elim b [ true ↦ got (getD us i 0) (i + 1) | false ↦ bad 4 ])
-          (elim (ltb (o + i) (length ws)) [ true ↦ got (getD ws (o + i) 0) (o + i + 1) | false ↦ bad 4 ])
+          → MovesBy {A = ℕ} o (elim b [ true ↦ got (getD us i 0) (i + 1) | false ↦ bad wrong-word-count ])
+          (elim (ltb (o + i) (length ws)) [ true ↦ got (getD ws (o + i) 0) (o + i + 1) | false ↦ bad wrong-word-count ])
       by-test true e =
           let l = ltb-true i (length us) e in
           rw (lt-ltb (o + i) (length ws) (omega (arith, part .room)), part .same i l, add-assoc o i 1)
@@ -65,7 +67,8 @@ module _ (o : ℕ) (us ws : List ℕ) (part : PartOf o us ws) where
   counted-moves : {A : Type 0} (low high : ℕ) (p : Reader A) → ((i : ℕ) → MovesBy o (p us i) (p ws (o + i))) → (i : ℕ)
       → MovesBy o (counted low high p us i) (counted low high p ws (o + i))
   unfolding counted
-  counted-moves low high p h i = follow-moves o (within low high us i) _ _ _ (within-moves low high i) λ n j. many-moves p h n j
+  counted-moves low high p h i = follow-moves o (within low high us i) _ _ _
+      (within-moves low high i) λ n j. many-moves p h n j
 
   value-moves : (i : ℕ) → MovesBy o (read-value us i) (read-value ws (o + i))
   unfolding read-value
@@ -90,7 +93,7 @@ module _ (o : ℕ) (us ws : List ℕ) (part : PartOf o us ws) where
 
   opcode-moves : (k i : ℕ) → MovesBy o (opcode-for k us i) (opcode-for k ws (o + i))
   unfolding opcode-for
-  opcode-moves k i = by-test (eqb k 2)
+  opcode-moves k i = by-test (eqb k terminator-exit)
     where
       by-test : (b : Bool) → MovesBy {A = ℕ} o (elim b [ true ↦ word us i | false ↦ got 0 i ])
           (elim b [ true ↦ word ws (o + i) | false ↦ got 0 (o + i) ])
@@ -100,7 +103,8 @@ module _ (o : ℕ) (us ws : List ℕ) (part : PartOf o us ws) where
   terminator-moves : (i : ℕ) → MovesBy o (terminator us i) (terminator ws (o + i))
   unfolding terminator
   terminator-moves i =
-      follow-moves o (within 0 5 us i) _ _ _ (within-moves 0 5 i) λ k j.
+      follow-moves o (within terminator-unreachable terminator-number us i) _ _ _
+      (within-moves terminator-unreachable terminator-number i) λ k j.
       follow-moves o (opcode-for k us j) _ _ _ (opcode-moves k j) λ op l.
       follow-moves o (counted (fewest-values k) (most-values k) read-value us l) _ _ _ (counted-moves _ _ read-value value-moves l) λ vs m.
       follow-moves o (counted (fewest-targets k) (most-targets k) word us m) _ _ _ (counted-moves _ _ word word-moves m) λ ts n.
@@ -153,7 +157,7 @@ same-region n ws at =
 module _ (size : ℕ) where
   unfoldable regions-by : ℕ → ℕ → List ℕ → ℕ → Answer (List Region)
   unfolding read-region
-  regions-by zero r ws at = elim (eqb at (length ws)) [ true ↦ accepted [] | false ↦ refused 4 0 ]
+  regions-by zero r ws at = elim (eqb at (length ws)) [ true ↦ accepted [] | false ↦ refused wrong-word-count 0 ]
   regions-by (suc n) r ws at =
       settle r (region-by size ws at) λ x at′. if-accepted (regions-by n (suc r) ws at′) λ xs. accepted (x ∷ xs)
 

@@ -33,6 +33,7 @@ use Rattle.lookups.specs.Materialized.{is-scrutinee, shape-at, part-at, 
 use Rattle.lookups.specs.Materialized.{made-true, made-false, made-undef, made-merge, full-part, PartsMade, no-part, part-more}
 use Rattle.lookups.specs.laws.MaterializedLaws.{few-parts}
 use Rattle.meaning.specs.Lists.{pick}
+use Rattle.format.specs.Refusals.{too-many}
 
 -- ---- What a step answers, and what it leaves.
 pub record ShowsValue (l l′ : List ℕ) (a : Defined) (b : StepAnswer Value) : Type 0 where
@@ -282,7 +283,7 @@ module _ {l l′ : List ℕ} {c : ℕ} where
       → RecordsCond l₁ p l′ Full → (x : PartsShown l c j l₁ ws ts s)
       (rest : LazyConds) → ShowsConds l c j rest → j + cond-count rest ≡ cond-count ts
       → materialize-lazy-conds ts s ≡ follow (materialize-lazy-conds rest (x .state)) (λ us. give (x .values ++ us))
-      → (materialize-lazy-conds ts s ≡ turned-away 9 0) × ChangesOnly outputs 3 l l′
+      → (materialize-lazy-conds ts s ≡ turned-away too-many 0) × ChangesOnly outputs 3 l l′
   unfolding materialize-lazy-cond
   refused-part lt pe made x no-conds no-parts total on = absurd (omega arith)
   refused-part {j} {p} lt pe made x (t & rest) (part-and {p = q} e b sc ps) total on =

@@ -56,6 +56,7 @@ use Rattle.loops.specs.Loops.{EntersInputs, LoopDefined, StructurizesLoo
 use Rattle.loops.specs.laws.ExitsShown.{ExitsCounted, exits-shown}
 use Rattle.loops.specs.laws.LoopsShown.{InputsEntered, inputs-entered, entered-state, LoopWithin, ShowsLoopMade, made-done}
 use Rattle.loops.specs.laws.LoopsShown.{made-refused, loop-step, loop-made-shown, defines-changes, set-beside}
+use Rattle.format.specs.Refusals.{too-many}
 
 -- ---- The back edge leaves region r's set: nothing of another region changes.
 pub removed-concerns : (g : Graph) (w : List ℕ) (r i p : ℕ) → Slots (length (g .regions)) w → HasSlot (length (g .regions)) r → i < 33
@@ -123,7 +124,7 @@ region-log : (s : NestState) {n : ℕ} {s₁ : NestState} → define-region s �
 unfolding define-region
 region-log s {n} {s₁} e = go (ltb (s .region-count) most-regions) e
   where
-    go : (b : Bool) → elim b [ true ↦ done (s .region-count) (nesting.add-region s) | false ↦ turned-away 9 0 ] ≡ done n s₁
+    go : (b : Bool) → elim b [ true ↦ done (s .region-count) (nesting.add-region s) | false ↦ turned-away too-many 0 ] ≡ done n s₁
         → s₁ .region-input-rewrites ≡ s .region-input-rewrites
     go true q = ap (λ z. log-of z s .region-input-rewrites) (sym q)
     go false q = absurd (clash (cc))
@@ -146,7 +147,7 @@ pub data ShowsLoop (g : Graph) (w : List ℕ) (r : ℕ) (inputs : List Value) (s
     → Type 0 where
   shows-loop : {c : ClaimedRegion} {s′ : NestState} → ShowsState g w s′ → s′ .region-states ≡ s .region-states → ShowsClaimed g w c
       → c .origin ≡ r → c .structured-body-inputs ≡ inputs → ShowsLoop g w r inputs s Done (done (some c) s′)
-  loop-refused : ShowsLoop g w r inputs s Refused (turned-away 9 0)
+  loop-refused : ShowsLoop g w r inputs s Refused (turned-away too-many 0)
 
 pub record LoopShown (g : Graph) (r : ℕ) (inputs : List Value) (w w′ : List ℕ) (s : NestState) (a : Made)
     (b : StepAnswer (Option ClaimedRegion)) : Type 0 where
@@ -171,7 +172,7 @@ made-of (made-done {v} {n} {s} t k) e = record { v = v; n = n; state = s; is = r
 made-of made-refused e = absurd (clash (cc))
 
 refused-of : {A : Type 0} {F : Value → ℕ → A} {g : Graph} {r : ℕ} {l : List ℕ} {y : LoopInputs} {ks : Nodes} {a : Made} {b : StepAnswer A}
-    → ShowsLoopMade F g r l y ks a b → a ≡ Refused → b ≡ turned-away 9 0
+    → ShowsLoopMade F g r l y ks a b → a ≡ Refused → b ≡ turned-away too-many 0
 refused-of (made-done t k) e = absurd (clash (cc))
 refused-of made-refused e = refl
 

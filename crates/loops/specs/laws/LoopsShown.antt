@@ -38,6 +38,7 @@ use Rattle.state.specs.declared.defined.Made.the-variants.{Done, Full as Refuse
 use Rattle.loops.specs.Loops.{AddsLoop, adds-loop, LoopDefined, loop-defined, no-value, no-node, EntersInputs, enters}
 use Rattle.loops.specs.laws.RewritesShown.{Rewritten, rewritten-to}
 use Rattle.loops.specs.laws.InputsShown.{InputsTaken, taken-to}
+use Rattle.format.specs.Refusals.{too-many}
 
 -- ---- The header's inputs looked up, taken and entered.
 abbrev pub entered-state : Graph → ℕ → ℕ → List Value → NestState → NestState
@@ -133,7 +134,7 @@ pub data ShowsLoopMade {A : Type 0} (F : Value → ℕ → A) (g : Graph) (r : �
     : Made → StepAnswer A → Type 0 where
   made-done : {v : Value} {n : ℕ} {s : NestState} → ShowsTables l s
       → ShowsChildren g l (word l children r) (loop (loop-node g n r y v) ks ▸ ⟨⟩) → ShowsLoopMade F g r l y ks Done (done (F v n) s)
-  made-refused : ShowsLoopMade F g r l y ks Refused (turned-away 9 0)
+  made-refused : ShowsLoopMade F g r l y ks Refused (turned-away too-many 0)
 
 abbrev pub loop-step : {A : Type 0} → LazyCond → (Value → ℕ → A) → Step A
 loop-step t F = materialize-lazy-cond t >>= λ v. define-node >>= λ n. give (F v n)

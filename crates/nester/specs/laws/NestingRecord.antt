@@ -13,6 +13,7 @@ use Rattle.meaning.specs.facts.Tests.{clash}
 use Rattle.format.specs.Store as format
 use Rattle.format.specs.Store.{accepted, refused, if-accepted}
 use Rattle.format.specs.Valid.{Valid}
+use Rattle.format.specs.Refusals.{too-few-words, figure-too-large}
 use Rattle.record.specs.Stands.{OfRecord}
 use Rattle.nesting.specs.Nesting.{NestState, Nested, Outcome, untouched, whole, closed, leftover, outcome-of, conclude-by, initial-state}
 use Rattle.nesting.specs.Nesting.{structurize-func, DeferredEdgeBundle, DeferredEdgeBundleSet, DeferredTarget, to-region, to-return}
@@ -21,6 +22,7 @@ use Rattle.figure.specs.laws.Nodes.{piece-looked-up}
 use Rattle.nesting.specs.Sheet as sheet
 use Rattle.nesting.specs.Sheet.{sheet-of, sheet-words}
 use Rattle.nesting.specs.lookups.ChainEnds.{no-more}
+use Rattle.nesting.specs.SheetNumbers.{outcome-untouched, outcome-whole, outcome-closed, outcome-leftover}
 use Rattle.state.specs.Sections.{section, cells, word, kinds}
 use Rattle.state.specs.Sections as sections
 use Rattle.shown.specs.Front.{SameFront}
@@ -48,7 +50,7 @@ module _ {b : format.Answer (List ℕ)} {out out′ : List ℕ} where
 
 -- ---- Refusal 10.
 abbrev fit-by : sheet.Sheet → Bool → format.Answer (List ℕ)
-fit-by s b = if-accepted (elim b as (λ b. format.Answer sheet.Sheet) [ true ↦ accepted s | false ↦ refused 10 0 ]) λ t.
+fit-by s b = if-accepted (elim b as (λ b. format.Answer sheet.Sheet) [ true ↦ accepted s | false ↦ refused too-few-words 0 ]) λ t.
     accepted (sheet-words t)
 
 module _ (s : sheet.Sheet) {out out′ : List ℕ} where
@@ -56,26 +58,26 @@ module _ (s : sheet.Sheet) {out out′ : List ℕ} where
   fits (sheet-written size few e) =
       ends-sheet {ws = sheet-words s} (ap (fit-by s) (le-leb (length (sheet-words s)) (lent out) few)) size e
 
-  fits-not : SheetWritten (sheet-words s) out out′ TooFew → Ends (words-if-fit (lent out) s) out out′ (Refused 10 0)
-  fits-not (too-few few e) = ends-refused {n = 10} {x = 0} (ap (fit-by s) (lt-leb (length (sheet-words s)) (lent out) few)) e
+  fits-not : SheetWritten (sheet-words s) out out′ TooFew → Ends (words-if-fit (lent out) s) out out′ (Refused too-few-words 0)
+  fits-not (too-few few e) = ends-refused {n = too-few-words} {x = 0} (ap (fit-by s) (lt-leb (length (sheet-words s)) (lent out) few)) e
 
 module _ (w : List ℕ) (outcome figure : ℕ) {out out′ : List ℕ} {y : code-sheet.Sheet}
     (wrote : WritesSheet w outcome figure out out′ y) where
   pub written-words : {n : ℕ} → y ≡ Words n → WritesAnswer w outcome figure out out′ (Sheet n)
   written-words e g s c x shown f = fits (sheet-of g x) (rw e at (wrote g s c x shown f))
 
-  pub written-few : y ≡ TooFew → WritesAnswer w outcome figure out out′ (Refused 10 0)
+  pub written-few : y ≡ TooFew → WritesAnswer w outcome figure out out′ (Refused too-few-words 0)
   written-few e g s c x shown f = fits-not (sheet-of g x) (rw e at (wrote g s c x shown f))
 
 -- ---- Refusal 11.
 abbrev figure-by : ℕ → sheet.Sheet → Bool → format.Answer (List ℕ)
 figure-by lent s b =
-    if-accepted (elim b as (λ b. format.Answer sheet.Sheet) [ true ↦ accepted s | false ↦ refused 11 0 ]) (words-if-fit lent)
+    if-accepted (elim b as (λ b. format.Answer sheet.Sheet) [ true ↦ accepted s | false ↦ refused figure-too-large 0 ]) (words-if-fit lent)
 
 figure-in : (s : sheet.Sheet) → s .figure ≤ 4294967295 → (lent : ℕ) → words-if-figured lent s ≡ words-if-fit lent s
 figure-in s h lent = ap (figure-by lent s) (le-leb (s .figure) 4294967295 h)
 
-figure-out : (s : sheet.Sheet) → 4294967295 < s .figure → (lent : ℕ) → words-if-figured lent s ≡ refused 11 0
+figure-out : (s : sheet.Sheet) → 4294967295 < s .figure → (lent : ℕ) → words-if-figured lent s ≡ refused figure-too-large 0
 figure-out s h lent = ap (figure-by lent s) (lt-leb (s .figure) 4294967295 h)
 
 -- The figure of a whole or closed answer is that of the entry's children, before they are looked up.
@@ -108,7 +110,7 @@ module _ (w : List ℕ) (outcome : ℕ) {entry list cost : ℕ} (is-entry : OfRe
       let at : ShowsNodes g (section w cells) list (form .children) = rw (handle, is-entry g stands) (form .nodes) in
       figured .shown g stands (form .children) at ∙ rw (form .figure)
 
-  pub too-dear : (out : List ℕ) → cost ≡ 4294967296 → FormsAnswer w outcome out out (Refused 11 0)
+  pub too-dear : (out : List ℕ) → cost ≡ 4294967296 → FormsAnswer w outcome out out (Refused figure-too-large 0)
   too-dear out e g s c x shown a b =
       let is = cost-is g s c x shown a b in
       ends-refused (figure-out (sheet-of g x) (omega arith) (lent out)) refl
@@ -139,10 +141,10 @@ record Answered (g : Graph) (w : List ℕ) (n : ℕ) : Type 0 where
 
 -- The number of an outcome.
 abbrev pub number-of : code.Nested → ℕ
-number-of outcomes.Untouched = 0
-number-of outcomes.Whole = 1
-number-of outcomes.Closed = 2
-number-of outcomes.Leftover = 3
+number-of outcomes.Untouched = outcome-untouched
+number-of outcomes.Whole = outcome-whole
+number-of outcomes.Closed = outcome-closed
+number-of outcomes.Leftover = outcome-leftover
 number-of (outcomes.Refused n x) = 4
 
 module _ {g : Graph} {w : List ℕ} {s : NestState} (c : Concluded g w s) (kind : word w kinds (g .entry) ≡ 3) (ks : Nodes) where

@@ -6,6 +6,7 @@ use mathlib.Core.Option.{none, some}
 use Prim.Native.Nat.{ℕ}
 use Rattle.meaning.specs.Graph.{Code, bool-cond}
 use Rattle.format.specs.Store.{accepted, refused}
+use Rattle.format.specs.Refusals.{too-few-words}
 use Rattle.nesting.specs.cases.Computes.{nesting-computes}
 use Rattle.format.specs.stores.Pack.{store-of-graph}
 use Rattle.nesting.specs.Sheet.{answer-words}
@@ -36,7 +37,7 @@ pub A-words : answer-words (store-of-graph A) 67 ≡ accepted A-sheet
 unfolding answer-words nesting-computes store-of-graph
 A-words = refl
 
-pub A-too-few : answer-words (store-of-graph A) 66 ≡ refused 10 0
+pub A-too-few : answer-words (store-of-graph A) 66 ≡ refused too-few-words 0
 unfolding answer-words nesting-computes store-of-graph
 A-too-few = refl
 

@@ -29,6 +29,7 @@ use Rattle.nesting.specs.named.NamedSteps.{KeepsNamed, then-keeps, next-
 use Rattle.nesting.specs.named.NamedSteps.{define-node-named}
 use Rattle.nesting.specs.named.NamedSteps.{insert-rewrites-named, materialize-named}
 use Rattle.nesting.specs.named.NamedSelects.{BundleMaybe, bundle-named, condition-named, BodyNamed, append-named, select-into-named}
+use Rattle.format.specs.Refusals.{already-claimed}
 
 module _ (M : ℕ) where
   abbrev pub ClaimMaybe : Option ClaimedRegion → Type 0
@@ -175,7 +176,7 @@ module _ (M : ℕ) where
     claim-by-state-named r n ins inc in-progress = go (eqb inc n)
       where
         go : (b : Bool) → KeepsNamed M (AllNamed M ins × Unit) ClaimMaybe
-            (elim b as (λ b. Step (Option ClaimedRegion)) [ false ↦ give none | true ↦ turn-away 12 r ])
+            (elim b as (λ b. Step (Option ClaimedRegion)) [ false ↦ give none | true ↦ turn-away already-claimed r ])
         go false = give-keeps M none (λ h. tt)
         go true = refusal-named 12 r
     claim-by-state-named r n ins inc (ready b ks d) = go (eqb inc (n + b))

@@ -2,6 +2,7 @@
 use mathlib.Core.Bool.{Bool, true, false}
 use Prim.Native.Nat.{ℕ}
 use Rattle.nesting.specs.Nesting.{NestState, StepAnswer, done, turned-away, Step, follow}
+use Rattle.format.specs.Refusals.{too-many}
 
 abbrev pub OfAnswer : {A : Type 0} → (ℕ → ℕ → Type 0) → (A → NestState → Type 0) → StepAnswer A → Type 0
 OfAnswer Q P (done a s) = P a s
@@ -23,6 +24,6 @@ bind (turned-away refusal word) k p q = record { post = p .post }
 
 -- of what is defined while there is room for it
 pub when-room : {A : Type 0} {Q : ℕ → ℕ → Type 0} {P : A → NestState → Type 0} → Q 9 0 → (b : Bool) (a : A) (s : NestState) → P a s
-    → Post {A = A} Q P (elim b [ true ↦ done a s | false ↦ turned-away 9 0 ])
+    → Post {A = A} Q P (elim b [ true ↦ done a s | false ↦ turned-away too-many 0 ])
 when-room q true a s p = record { post = p }
 when-room q false a s p = record { post = q }

@@ -12,6 +12,7 @@ use Rattle.format.specs.Places.{next, forget-value, after}
 use Rattle.meaning.specs.facts.Numbers.{one-less, none-left}
 use Rattle.meaning.specs.facts.Tests.{clash}
 use Rattle.format.specs.laws.Readers.{many-step, many-stop}
+use Rattle.format.specs.Refusals.{wrong-word-count, out-of-range}
 
 -- The value is forgotten at the end of a sequence; what is only given there is forgotten, and what does not look at a value may
 -- have it forgotten.
@@ -39,14 +40,14 @@ module _ (w : List ℕ) (end at : ℕ) where
   unfolding word
   word-in h l = rw (word, lt-ltb at (length (take end w)) (omega (arith, length-take end w)), getD-take end w at 0 h)
 
-  outside : length (take end w) ≤ at → bad 4 ≡ word (take end w) at
+  outside : length (take end w) ≤ at → bad wrong-word-count ≡ word (take end w) at
   unfolding word
   outside h = rw (word, le-ltb at (length (take end w)) h)
 
-  pub word-out : end ≤ at → bad 4 ≡ word (take end w) at
+  pub word-out : end ≤ at → bad wrong-word-count ≡ word (take end w) at
   word-out h = outside (omega (arith, length-take end w))
 
-  pub word-past : length w ≤ at → bad 4 ≡ word (take end w) at
+  pub word-past : length w ≤ at → bad wrong-word-count ≡ word (take end w) at
   word-past h = outside (omega (arith, length-take end w))
 
 module _ (low high : ℕ) (ws : List ℕ) (at : ℕ) where
@@ -54,11 +55,11 @@ module _ (low high : ℕ) (ws : List ℕ) (at : ℕ) where
   unfolding within
   within-stop h = rw h
 
-  pub within-low : {n e : ℕ} → word ws at ≡ got n e → n < low → bad 5 ≡ within low high ws at
+  pub within-low : {n e : ℕ} → word ws at ≡ got n e → n < low → bad out-of-range ≡ within low high ws at
   unfolding within
   within-low {n} h l = rw (h, lt-leb low n l)
 
-  pub within-high : {n e : ℕ} → word ws at ≡ got n e → low ≤ n → high < n → bad 5 ≡ within low high ws at
+  pub within-high : {n e : ℕ} → word ws at ≡ got n e → low ≤ n → high < n → bad out-of-range ≡ within low high ws at
   unfolding within
   within-high {n} h l m = rw (h, le-leb low n l, lt-leb n high m)
 

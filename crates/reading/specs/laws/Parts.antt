@@ -10,6 +10,7 @@ use borrow.Author.Tests.{ltb-true, leb-true}
 use Rattle.format.specs.Read.{got, bad, Reader, read-then, expect, word, within, many, counted}
 use Rattle.meaning.specs.facts.Tests.{clash, and-both}
 use Rattle.format.specs.laws.Readers.{part, many-length}
+use Rattle.format.specs.Refusals.{wrong-word-count}
 
 -- a word stands below W
 pub record WordParts (ws : List ℕ) (at n e : ℕ) : Type 0 where
@@ -21,7 +22,7 @@ pub word-parts : (ws : List ℕ) (at : ℕ) {n e : ℕ} → word ws at ≡ got n
 unfolding word
 word-parts ws at {n} {e} h = by-test (ltb at (length ws)) refl h
   where
-    by-test : (t : Bool) → ltb at (length ws) ≡ t → elim t [ true ↦ got (getD ws at 0) (at + 1) | false ↦ bad 4 ] ≡ got n e
+    by-test : (t : Bool) → ltb at (length ws) ≡ t → elim t [ true ↦ got (getD ws at 0) (at + 1) | false ↦ bad wrong-word-count ] ≡ got n e
         → WordParts ws at n e
     by-test true q r = record { inside = ltb-true at (length ws) q; is = cc; end = cc }
     by-test false q r = absurd (clash (cc))

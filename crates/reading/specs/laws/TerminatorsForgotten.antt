@@ -7,7 +7,8 @@ use lib.ListN.{length, take}
 use lib.Dec.{eqb}
 use Rattle.meaning.specs.Graph.{ControlInst}
 use Rattle.format.specs.Read.{Read, got, bad, read-then, word, within, many, counted, read-value, opcode-for, fewest-values, most-values}
-use Rattle.format.specs.Read.{fewest-targets, most-targets, edges-passed, control-inst, terminator}
+use Rattle.format.specs.Read.{fewest-targets, most-targets, edges-passed, control-inst, terminator, terminator-unreachable}
+use Rattle.format.specs.Read.{terminator-exit, terminator-number}
 use Rattle.format.specs.Places.{forget-value}
 use Rattle.meaning.specs.facts.Tests.{clash}
 use Rattle.format.specs.laws.Readers.{got-place}
@@ -27,11 +28,11 @@ found (got a i) h = record { value = a; is = ap (got a) (got-place h) }
 found (bad n) h = absurd (clash (cc))
 
 module _ (k : ℕ) (ws : List ℕ) (at : ℕ) where
-  pub opcode-none : eqb k 2 ≡ false → got tt at ≡ forget-value (opcode-for k ws at)
+  pub opcode-none : eqb k terminator-exit ≡ false → got tt at ≡ forget-value (opcode-for k ws at)
   unfolding opcode-for
   opcode-none h = rw (opcode-for, h)
 
-  pub opcode-word : eqb k 2 ≡ true → forget-value (many 1 word ws at) ≡ forget-value (opcode-for k ws at)
+  pub opcode-word : eqb k terminator-exit ≡ true → forget-value (many 1 word ws at) ≡ forget-value (opcode-for k ws at)
   unfolding opcode-for many
   opcode-word h = rw (opcode-for, h) (one (word ws at))
     where
@@ -97,11 +98,12 @@ unfolding operands-read edges-lists counted
 operands-made k op ws at = simp (forget-value-follow, follow-forget-value, follow-follow, forget-value-given)
 
 module _ (ws : List ℕ) (at : ℕ) where
-  pub terminator-stop : {m : ℕ} → within 0 5 ws at ≡ bad m → bad m ≡ forget-value (terminator ws at)
+  pub terminator-stop : {m : ℕ} → within terminator-unreachable terminator-number ws at ≡ bad m → bad m ≡ forget-value (terminator ws at)
   unfolding terminator
   terminator-stop h = rw h
 
-  pub terminator-opcode : {k p m : ℕ} → within 0 5 ws at ≡ got k p → forget-value (opcode-for k ws p) ≡ bad m
+  pub terminator-opcode : {k p m : ℕ} → within terminator-unreachable terminator-number ws at ≡ got k p
+      → forget-value (opcode-for k ws p) ≡ bad m
       → bad m ≡ forget-value (terminator ws at)
   unfolding terminator
   terminator-opcode {k} {p} {m} h j = rw h (by-opcode (opcode-for k ws p) j _)
@@ -110,7 +112,8 @@ module _ (ws : List ℕ) (at : ℕ) where
       by-opcode (got a i) q f = absurd (clash (cc))
       by-opcode (bad n) q f = sym q
 
-  pub terminator-rest : {k p e : ℕ} → within 0 5 ws at ≡ got k p → forget-value (opcode-for k ws p) ≡ got tt e
+  pub terminator-rest : {k p e : ℕ} → within terminator-unreachable terminator-number ws at ≡ got k p
+      → forget-value (opcode-for k ws p) ≡ got tt e
       → forget-value (operands-read k ws e) ≡ forget-value (terminator ws at)
   unfolding terminator
   terminator-rest {k} {p} {e} h j =

@@ -5,21 +5,23 @@ use mathlib.Core.List.{List}
 use Prim.Native.Nat.{ℕ, _≤_, _<_}
 use lib.Dec.{eqb}
 use borrow.Author.Tests.{le-leb, lt-leb, eq-eqb, ne-eqb}
+use Rattle.meaning.specs.Graph.{instr-kind, bool-kind, undef-kind}
 use Rattle.format.specs.Read.{Read, got, bad, read-then, expect, word, within, counted, is-kind, index-right, value-from-words, read-value}
 use Rattle.format.specs.Read.{instruction}
 use Rattle.format.specs.Places.{forget-value}
+use Rattle.format.specs.Refusals.{out-of-range}
 use Rattle.reading.specs.Readings.{named-by}
 use Rattle.reading.specs.laws.Forgotten.{forget-value-follow, forget-value-given}
 
 -- the kinds that a record may have
-pub kind-low : (k : ℕ) → k ≤ 2 → true ≡ is-kind k
-kind-low k h = rw (le-leb k 2 h)
+pub kind-low : (k : ℕ) → k ≤ instr-kind → true ≡ is-kind k
+kind-low k h = rw (le-leb k instr-kind h)
 
-pub kind-four : (k : ℕ) → 2 < k → k ≡ 4 → true ≡ is-kind k
-kind-four k h q = rw (lt-leb k 2 h, eq-eqb k 4 q)
+pub kind-four : (k : ℕ) → instr-kind < k → k ≡ bool-kind → true ≡ is-kind k
+kind-four k h q = rw (lt-leb k instr-kind h, eq-eqb k bool-kind q)
 
-pub kind-five : (k : ℕ) → 2 < k → (k ≡ 4 → ⊥) → eqb k 5 ≡ is-kind k
-kind-five k h q = rw (lt-leb k 2 h, ne-eqb k 4 q)
+pub kind-five : (k : ℕ) → instr-kind < k → (k ≡ bool-kind → ⊥) → eqb k undef-kind ≡ is-kind k
+kind-five k h q = rw (lt-leb k instr-kind h, ne-eqb k bool-kind q)
 
 module _ (k : ℕ) (ws : List ℕ) (at : ℕ) where
   pub named-stop : {m : ℕ} → word ws at ≡ bad m → bad m ≡ forget-value (named-by k ws at)
@@ -31,7 +33,7 @@ module _ (k : ℕ) (ws : List ℕ) (at : ℕ) where
   named-short h j = rw (h, j)
 
   pub named-bad : {r p i e : ℕ} → word ws at ≡ got r p → word ws p ≡ got i e → index-right k i ≡ false
-      → bad 5 ≡ forget-value (named-by k ws at)
+      → bad out-of-range ≡ forget-value (named-by k ws at)
   unfolding named-by
   named-bad h j t = rw (h, j, t)
 
@@ -57,7 +59,7 @@ module _ (ws : List ℕ) (at : ℕ) where
   unfolding read-value
   value-stop h = rw h
 
-  pub value-kind : {k p : ℕ} → word ws at ≡ got k p → is-kind k ≡ false → bad 5 ≡ forget-value (read-value ws at)
+  pub value-kind : {k p : ℕ} → word ws at ≡ got k p → is-kind k ≡ false → bad out-of-range ≡ forget-value (read-value ws at)
   unfolding read-value
   value-kind h t = rw (h, t)
 

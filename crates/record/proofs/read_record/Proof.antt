@@ -2,7 +2,7 @@
 use mathlib.Core.Path.{refl, sym}
 use native.Mathlib.Omega.{arith}
 use Rattle.reading.specs.laws.AnswerSteps.{word-read, word-refused}
-use Rattle.record.specs.laws.RecordSteps.{in-words, too-long, record-stop, record-whole, head-few}
+use Rattle.record.specs.laws.RecordSteps.{in-words, too-long, record-stop, record-whole, head-few, number-of-head}
 use borrow.Author.Needs.{needs}
 use Rattle.record.proofs.read_record.Statement.{statement}
 use Rattle.record.proofs.read_record.Tie as tie
@@ -26,7 +26,9 @@ enum-known-m : tie.Need-enum-known-m
 enum-known-m c = search needs
 
 refusal-requires : tie.Need-refusal-requires
-refusal-requires c κs = search needs
+refusal-requires c κs =
+    let read = c .before .before .before .head in
+    number-of-head _ (word-refused _ _ _ refl (read .ensures) (c .before .m .given .1))
 
 enum-known-n : tie.Need-enum-known-n
 enum-known-n c = search needs

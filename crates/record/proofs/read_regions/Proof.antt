@@ -6,7 +6,8 @@ use borrow.Author.Needs.{needs}
 use Rattle.reading.specs.laws.AnswerSteps.{step-read}
 use Rattle.meaning.specs.facts.Parts.{taken-inside}
 use Rattle.record.specs.laws.RegionsForgotten.{region-inside}
-use Rattle.record.specs.laws.IndexSteps.{RegionsGoing, regions-start, regions-next, regions-refused, regions-read, regions-left}
+use Rattle.record.specs.laws.IndexSteps.{RegionsGoing, regions-start, regions-next, number-of-region, regions-refused}
+use Rattle.record.specs.laws.IndexSteps.{regions-read, regions-left}
 use Rattle.record.proofs.read_regions.Statement.{statement}
 use Rattle.record.proofs.read_regions.Tie as tie
 
@@ -29,7 +30,13 @@ enum-known-step : tie.Need-enum-known-step Inv-loop μ-loop
 enum-known-step c = search needs
 
 refusal-requires : tie.Need-refusal-requires Inv-loop μ-loop
-refusal-requires c κs = search needs
+refusal-requires c κs =
+    let at-region = c .before .before .before in
+    let turn = at-region .before .before in
+    let at-loop = turn .before in
+    let start = at-loop .before .before .before .before in
+    number-of-region _ _ _ _ _ (at-region .region .result) (at-loop .loop .inv .0) (at-loop .loop .inv .1) (turn .loop-test .taken)
+    (start .pre .0) (at-region .region .ensures) (c .before .step .given .1)
 
 returns : tie.Need-returns Inv-loop μ-loop
 returns c =

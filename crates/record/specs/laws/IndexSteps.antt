@@ -13,12 +13,16 @@ use Rattle.meaning.specs.Graph.{Region}
 use Rattle.meaning.specs.facts.Numbers.{one-less, none-left}
 use Rattle.format.specs.Store.{Answer, accepted, refused, if-accepted}
 use Rattle.format.specs.Read.{Read, got, bad, read-region, block, word-for, settle, regions-from}
+use Rattle.format.specs.Refusals.{wrong-word-count, out-of-range}
+use Rattle.format.specs.laws.ReadingStops.{StopsReading, region-stops}
+use Rattle.meaning.specs.Lists.{Within}
 use Rattle.format.specs.Places.{next, forget-value, after, block-of-region, limit-of-region, exits-of-region}
 use Rattle.meaning.specs.facts.Tests.{clash}
 use Rattle.store.specs.Layout.{record-end, row-words, start-word, limit-word, exits-word, blocks-word, index-at, index-end}
 use Rattle.store.specs.Loaded.{answered}
-use Rattle.store.specs.declared.Checked.{Checked}
-use Rattle.store.specs.declared.Checked.the-variants as checked
+use Rattle.store.specs.declared.Verdict.{Verdict}
+use Rattle.store.specs.declared.Verdict.the-variants as verdict
+use Rattle.store.specs.declared.refusals.Refusal.the-variants.{WrongWordCount}
 use Rattle.reading.specs.laws.Forgotten.{next-of}
 use Rattle.reading.specs.laws.AnswerSteps.{step-read, step-refused}
 use Rattle.reading.specs.declared.words.Cursor.{Cursor}
@@ -28,6 +32,11 @@ use Rattle.record.specs.laws.Row.{row-none, row-next, row-join, row-fron
 use Rattle.record.specs.Outcome.{forget, RestKept}
 use Rattle.record.specs.Index.{Row, row-of, IndexedFrom, RegionsOutcome}
 use Rattle.record.specs.declared.regions.RegionPlaces.{RegionPlaces}
+
+-- the number of a reading that stops
+pub stopped-within : {A : Type 0} (r : Read A) {m : ℕ} → forget-value r ≡ bad m → StopsReading r → Within wrong-word-count out-of-range m
+stopped-within (got a i) q h = absurd (clash (cc))
+stopped-within (bad k) {m} q h = let same : k ≡ m = cc in rw same at h
 
 -- one region more, refused, and the end
 pub forget-then : {A B : Type 0} (r : Answer A) (f : A → B) → forget (if-accepted r λ a. accepted (f a)) ≡ forget r
@@ -59,7 +68,7 @@ regions-end : (r : ℕ) (ws : List ℕ) (at : ℕ) → at ≡ length ws → acce
 unfolding regions-from
 regions-end r ws at h = rw (regions-from, eq-eqb at (length ws) h)
 
-regions-over : (r : ℕ) (ws : List ℕ) (at : ℕ) → (at ≡ length ws → ⊥) → refused 4 0 ≡ forget (regions-from 0 r ws at)
+regions-over : (r : ℕ) (ws : List ℕ) (at : ℕ) → (at ≡ length ws → ⊥) → refused wrong-word-count 0 ≡ forget (regions-from 0 r ws at)
 unfolding regions-from
 regions-over r ws at h = rw (regions-from, ne-eqb at (length ws) h)
 
@@ -187,7 +196,12 @@ module _ (n count from : ℕ) (old : List ℕ) where
             let same : k ≡ r = omega (arith, ltb-false k r q) in
             rw same (indexed-here (take count old) from r (c .at) x mid new (g .place) placed row)
 
-    pub regions-refused : {m : ℕ} (a : Checked) → x .step ≡ Bad m → answered a ≡ refused m (word-for m r)
+    pub number-of-region : {m : ℕ} → x .step ≡ Bad m → Within wrong-word-count out-of-range m
+    number-of-region step =
+        let stop = step-refused read-region mid c ends (read .step) step in
+        stopped-within (read-region (take count mid) (c .at)) stop (region-stops (take count mid) (c .at))
+
+    pub regions-refused : {m : ℕ} (a : Verdict) → x .step ≡ Bad m → answered a ≡ refused m (word-for m r)
         → RegionsOutcome n count from old mid a
     regions-refused {m} a step told =
         let ws = take count old in
@@ -201,7 +215,7 @@ module _ (n count from : ℕ) (old : List ℕ) where
     long : length (take count old) ≡ count
     long = length-take-le count old fits
 
-    pub regions-read : at ≡ count → RegionsOutcome n count from old mid checked.Right
+    pub regions-read : at ≡ count → RegionsOutcome n count from old mid verdict.Right
     regions-read h =
         record {
           answer =
@@ -211,9 +225,9 @@ module _ (n count from : ℕ) (old : List ℕ) where
           kept = g .kept;
         }
 
-    pub regions-left : (at ≡ count → ⊥) → RegionsOutcome n count from old mid (checked.Refused 4 0)
+    pub regions-left : (at ≡ count → ⊥) → RegionsOutcome n count from old mid (verdict.Refused WrongWordCount)
     regions-left h =
         let ws = take count old in
-        let answer : refused 4 0 ≡ forget (regions-from n 0 ws from) = regions-over r ws at (λ q. h (q ∙ long))
+        let answer : refused wrong-word-count 0 ≡ forget (regions-from n 0 ws from) = regions-over r ws at (λ q. h (q ∙ long))
         ∙ sym (g .rest ∙ ap (λ k. forget (regions-from k r ws at)) (none-left n r over)) in
         record { answer = answer; index = λ rs q. never (regions-from n 0 ws from) (sym answer) q; kept = g .kept }

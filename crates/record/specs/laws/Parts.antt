@@ -15,6 +15,7 @@ use Rattle.format.specs.Read.{regions-from, Head, head, read-record}
 use Rattle.format.specs.Places.{next, after, start-of-region, blocks-of-region, limit-of-region, exits-of-region}
 use Rattle.meaning.specs.facts.Tests.{clash}
 use Rattle.format.specs.laws.Readers.{part, got-value, got-place, many-length, many-end, many-at}
+use Rattle.format.specs.Refusals.{wrong-word-count}
 pub use Rattle.reading.specs.laws.Parts.{WordParts, word-parts, WithinParts, within-parts, CountedParts, counted-parts}
 
 -- Each part of a region at its place; the region ends at e.
@@ -84,7 +85,7 @@ pub regions-many : (n r : ℕ) (ws : List ℕ) (at : ℕ) {xs : List Region} →
 unfolding regions-from many
 regions-many zero r ws at {xs} h = by-test (eqb at (length ws)) refl h
   where
-    by-test : (t : Bool) → eqb at (length ws) ≡ t → elim t [ true ↦ accepted [] | false ↦ refused 4 0 ] ≡ accepted xs
+    by-test : (t : Bool) → eqb at (length ws) ≡ t → elim t [ true ↦ accepted [] | false ↦ refused wrong-word-count 0 ] ≡ accepted xs
         → got [] at ≡ got xs (length ws)
     by-test true q p = ap (λ x. got x at) (accepted-value p) ∙ ap (got xs) (eqb-true at (length ws) q)
     by-test false q p = absurd (clash (cc))

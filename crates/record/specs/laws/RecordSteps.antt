@@ -9,14 +9,18 @@ use Rattle.meaning.specs.Graph.{Graph, Region}
 use Rattle.meaning.specs.Graph as graph
 use Rattle.store.specs.Layout.{record-end, Lent}
 use Rattle.store.specs.Loaded.{answered}
-use Rattle.store.specs.declared.Checked.{Checked}
-use Rattle.store.specs.declared.Checked.the-variants as checked
+use Rattle.store.specs.declared.Verdict.{Verdict}
+use Rattle.store.specs.declared.Verdict.the-variants as verdict
+use Rattle.store.specs.declared.refusals.Refusal.the-variants.{WrongWordCount}
 use borrow.Author.Tests.{le-leb, lt-leb}
 use Rattle.format.specs.Store.{accepted, refused}
 use Rattle.format.specs.Read.{Read, got, bad, block, read-region, word-for, regions-from, Head, head, read-record}
 use Rattle.format.specs.Places.{next, after, start-of-region, blocks-of-region, block-of-region, limit-of-region, exits-of-region}
 use Rattle.meaning.specs.facts.Tests.{clash}
+use Rattle.format.specs.Refusals.{wrong-word-count, out-of-range}
+use Rattle.format.specs.laws.ReadingStops.{head-stops}
 use Rattle.format.specs.laws.Readers.{many-length}
+use Rattle.meaning.specs.Lists.{Within}
 use Rattle.record.specs.Stands.{words-of-record, Indexed, Stands}
 use Rattle.record.specs.laws.Parts.{RecordParts, record-parts, region-parts, counted-parts, settled-at, then, regions-many}
 use Rattle.record.specs.laws.Parts.{accepted-value}
@@ -47,25 +51,29 @@ bad-head : (r : Read Head) {m : ℕ} → count-of r ≡ bad m → r ≡ bad m
 bad-head (got h i) q = absurd (clash (cc))
 bad-head (bad n) q = cc
 
+pub number-of-head : (ws : List ℕ) {m : ℕ} → head-count ws 1 ≡ bad m → Within wrong-word-count out-of-range m
+unfolding head-count
+number-of-head ws h = rw (bad-head (head ws 1) h) at (head-stops ws 1)
+
 -- Of a record with W words, which is not too long.
-pub record WordsOutcome (count : ℕ) (old new : List ℕ) (a : Checked) : Type 0 where
+pub record WordsOutcome (count : ℕ) (old new : List ℕ) (a : Verdict) : Type 0 where
   pub answer : answered a ≡ forget (read-record (take count old))
   pub stands : (g : Graph) → read-record (take count old) ≡ accepted g → Stands new g
   pub kept : RestKept old new
 
-pub in-words : (count : ℕ) (old new : List ℕ) (a : Checked) → count ≡ getD old 0 0 → count ≤ record-end → WordsOutcome count old new a
+pub in-words : (count : ℕ) (old new : List ℕ) (a : Verdict) → count ≡ getD old 0 0 → count ≤ record-end → WordsOutcome count old new a
     → ReadOutcome old new a
 in-words count old new a is few o =
     let same : record-in old ≡ read-record (take count old) = rw (← is, le-leb count record-end few) in
     record { answer = o .answer ∙ sym (ap forget same); stands = λ g q. o .stands g (sym same ∙ q); kept = o .kept }
 
-pub too-long : (count : ℕ) (old : List ℕ) → count ≡ getD old 0 0 → record-end < count → ReadOutcome old old (checked.Refused 4 0)
+pub too-long : (count : ℕ) (old : List ℕ) → count ≡ getD old 0 0 → record-end < count → ReadOutcome old old (verdict.Refused WrongWordCount)
 too-long count old is over =
-    let none : record-in old ≡ refused 4 0 = rw (← is, lt-leb count record-end over) in
+    let none : record-in old ≡ refused wrong-word-count 0 = rw (← is, lt-leb count record-end over) in
     record { answer = sym (ap forget none); stands = λ g q. absurd (clash (cc)); kept = kept-none old }
 
 -- the head is refused
-pub record-stop : (count : ℕ) (old : List ℕ) (a : Checked) {m : ℕ} → head-count (take count old) 1 ≡ bad m
+pub record-stop : (count : ℕ) (old : List ℕ) (a : Verdict) {m : ℕ} → head-count (take count old) 1 ≡ bad m
     → answered a ≡ refused m (word-for m 0) → WordsOutcome count old old a
 unfolding read-record head-count
 record-stop count old a {m} h told =
@@ -125,7 +133,7 @@ indexed-as ws w g at r words place parts below x =
           ∙ ap (λ s. block-of-region s (start-of-region (words-of-record w) r) b) (sym words);
     }
 
-pub record-whole : (n count at : ℕ) (old new : List ℕ) (a : Checked) → count ≤ record-end → getD old 0 0 ≡ count → Lent old
+pub record-whole : (n count at : ℕ) (old new : List ℕ) (a : Verdict) → count ≤ record-end → getD old 0 0 ≡ count → Lent old
     → head-count (take count old) 1 ≡ got n at → RegionsOutcome n count at old new a → WordsOutcome count old new a
 record-whole n count at old new a small first long h out =
     let ws = take count old in

@@ -5,9 +5,11 @@ use Prim.Native.Nat.{ℕ, _+_, _≤_, _<_}
 use native.Mathlib.Omega.{arith}
 use Rattle.meaning.specs.Graph.{Graph}
 use Rattle.format.specs.Store.{Answer, accepted, refused, if-accepted}
+use Rattle.store.specs.Refusals.{refused-as}
 use Rattle.store.specs.Loaded.{answered}
-use Rattle.store.specs.declared.Checked.{Checked}
-use Rattle.store.specs.declared.Checked.the-variants.{Right, Refused}
+use Rattle.store.specs.declared.refusals.Refusal.{Refusal}
+use Rattle.store.specs.declared.Verdict.{Verdict}
+use Rattle.store.specs.declared.Verdict.the-variants.{Right, Refused}
 use Rattle.record.specs.Stands.{OfRecord}
 use Rattle.references.specs.laws.Walk.{Walk, passes, stops, ends, walk-refused, then-rest}
 
@@ -36,17 +38,17 @@ module _ {w : List ℕ} {step : Graph → ℕ → Answer Unit} {whole : Graph �
     round-refused h g s = stops (x .walk g s) _ _ l (x .rest g s) (h g s)
 
     -- By the answer of a call.
-    module _ {y : Checked} (call : OfRecord w (λ g. answered y ≡ step g k)) where
+    module _ {y : Verdict} (call : OfRecord w (λ g. answered y ≡ step g k)) where
       pub call-passed : y ≡ Right → Round w step whole n (k + 1)
       call-passed q = round-passed λ g s. sym (ap answered q) ∙ call g s
 
-      pub call-refused : {a b : ℕ} → y ≡ Refused a b → OfRecord w (λ g. refused a b ≡ whole g)
+      pub call-refused : {why : Refusal} → y ≡ Refused why → OfRecord w (λ g. refused-as why ≡ whole g)
       call-refused q = round-refused λ g s. sym (ap answered q) ∙ call g s
 
 -- A check before the rest, by the answer of a call: the rest decides, or the check refuses.
-module _ {y : Checked} {a : Answer Unit} (rest : Answer Unit) (call : answered y ≡ a) where
+module _ {y : Verdict} {a : Answer Unit} (rest : Answer Unit) (call : answered y ≡ a) where
   pub passed-on : y ≡ Right → rest ≡ if-accepted a (λ _. rest)
   passed-on q = then-rest rest (sym (ap answered q) ∙ call)
 
-  pub stopped : {i j : ℕ} → y ≡ Refused i j → refused i j ≡ if-accepted a (λ _. rest)
+  pub stopped : {why : Refusal} → y ≡ Refused why → refused-as why ≡ if-accepted a (λ _. rest)
   stopped q = walk-refused rest (sym (ap answered q) ∙ call)

@@ -11,13 +11,14 @@ use borrow.Author.Tests.{lt-ltb, le-ltb, eq-eqb, ne-eqb}
 use Rattle.meaning.specs.Graph.{Graph, Value, no-value, undef, Instr, Edge, SelectionKind, bool-cond, number, ControlInst, select-branch}
 use Rattle.meaning.specs.Graph.{Region, region, nowhere, edges-of}
 use Rattle.format.specs.Store.{Answer, accepted, refused, if-accepted}
-use Rattle.format.specs.References.{instructions, type-in, behind-all, refuse-unless, first-refusal, is-return, first-return, return-types}
+use Rattle.format.specs.References.{instructions, type-in, behind-all, refuse-unless, first-refusal, first-return, return-types}
 use Rattle.format.specs.References.{values-of, is-region, named-right, of-type, reads-right, types-right, passed-right, test-right}
 use Rattle.format.specs.References.{values-right, target-right, edge-right, first-edges, exits-right, regions-right, references}
+use Rattle.format.specs.Refusals.{wrong-reference, wrong-type, exit-named-twice}
 use Rattle.fields.specs.ByNumber.{stands-before}
 use Rattle.references.specs.laws.Walk.{then-then, then-accepted, walk-refused, then-rest}
 use Rattle.references.specs.Checks.{typed}
-use Rattle.references.specs.laws.Walks.{exit-right}
+use Rattle.references.specs.laws.Walks.{exit-new, exit-right}
 use Rattle.meaning.specs.facts.Parts.{from-place, none-from}
 
 -- A test that fails refuses, one that holds does not.
@@ -35,28 +36,28 @@ module _ (g : Graph) (r before : ℕ) (v : Value) {x : ℕ} (is : x ≡ type-in 
   some-type : (x ≡ 0 → ⊥) → not (eqb (type-in g r before v) 0) ≡ true
   some-type ne = ap not (ne-eqb _ 0 (λ e. ne (is ∙ e)))
 
-  pub not-named : x ≡ 0 → refused 6 r ≡ named-right g r before v
+  pub not-named : x ≡ 0 → refused wrong-reference r ≡ named-right g r before v
   unfolding named-right
-  not-named h = refused-unless 6 r (zero-type h)
+  not-named h = refused-unless wrong-reference r (zero-type h)
 
   pub is-named : (x ≡ 0 → ⊥) → accepted tt ≡ named-right g r before v
   unfolding named-right
-  is-named ne = accepted-if 6 r (some-type ne)
+  is-named ne = accepted-if wrong-reference r (some-type ne)
 
 module _ (g : Graph) (r t : ℕ) (v : Value) {x : ℕ} (is : x ≡ type-in g r (behind-all g r) v) where
-  pub not-typed : x ≡ 0 → refused 6 r ≡ typed g r t v
+  pub not-typed : x ≡ 0 → refused wrong-reference r ≡ typed g r t v
   not-typed h = walk-refused (of-type g r t v) (not-named g r (behind-all g r) v is h)
 
   then-type : (x ≡ 0 → ⊥) → of-type g r t v ≡ typed g r t v
   then-type ne = then-rest (of-type g r t v) (is-named g r (behind-all g r) v is ne)
 
-  pub other-type : (x ≡ 0 → ⊥) → (x ≡ t → ⊥) → refused 7 r ≡ typed g r t v
+  pub other-type : (x ≡ 0 → ⊥) → (x ≡ t → ⊥) → refused wrong-type r ≡ typed g r t v
   unfolding of-type
-  other-type ne other = refused-unless 7 r (ne-eqb _ t (λ e. other (is ∙ e))) ∙ then-type ne
+  other-type ne other = refused-unless wrong-type r (ne-eqb _ t (λ e. other (is ∙ e))) ∙ then-type ne
 
   pub right-type : (x ≡ 0 → ⊥) → x ≡ t → accepted tt ≡ typed g r t v
   unfolding of-type
-  right-type ne same = accepted-if 7 r (eq-eqb _ t (sym is ∙ same)) ∙ then-type ne
+  right-type ne same = accepted-if wrong-type r (eq-eqb _ t (sym is ∙ same)) ∙ then-type ne
 
 module _ (g : Graph) (r : ℕ) where
   -- Reads of one list of instructions and then of another.
@@ -96,16 +97,16 @@ module _ (g : Graph) (r : ℕ) where
 
   -- As many values as types, or not.
   module _ (types : List ℕ) (vs : List Value) {n m : ℕ} (values-are : n ≡ length vs) (types-are : m ≡ length types) where
-    pub sizes-differ : (n ≡ m → ⊥) → refused 7 r ≡ passed-right g r types vs
+    pub sizes-differ : (n ≡ m → ⊥) → refused wrong-type r ≡ passed-right g r types vs
     unfolding passed-right
     sizes-differ ne =
-        walk-refused (types-right g r types vs) (refused-unless 7 r
+        walk-refused (types-right g r types vs) (refused-unless wrong-type r
         (ne-eqb (length vs) (length types) (λ e. ne (values-are ∙ e ∙ sym types-are))))
 
     pub sizes-agree : n ≡ m → types-right g r types vs ≡ passed-right g r types vs
     unfolding passed-right
     sizes-agree e =
-        then-rest (types-right g r types vs) (accepted-if 7 r (eq-eqb (length vs) (length types) (sym values-are ∙ e ∙ types-are)))
+        then-rest (types-right g r types vs) (accepted-if wrong-type r (eq-eqb (length vs) (length types) (sym values-are ∙ e ∙ types-are)))
 
 -- A target or an exit against the number of regions that the code has.
 module _ (g : Graph) (r : ℕ) {count t : ℕ} (regions : count ≡ length (g .regions)) where
@@ -115,31 +116,31 @@ module _ (g : Graph) (r : ℕ) {count t : ℕ} (regions : count ≡ length (g .r
   a-region : (x : ℕ) → t ≡ x → t < count → is-region g x ≡ true
   a-region x is l = lt-ltb x (length (g .regions)) (omega arith)
 
-  pub bad-target : (e : Edge) → t ≡ e .target → count ≤ t → refused 6 r ≡ target-right g r e
+  pub bad-target : (e : Edge) → t ≡ e .target → count ≤ t → refused wrong-reference r ≡ target-right g r e
   unfolding target-right
-  bad-target e is l = refused-unless 6 r (no-region (e .target) is l)
+  bad-target e is l = refused-unless wrong-reference r (no-region (e .target) is l)
 
   pub good-target : (e : Edge) → t ≡ e .target → t < count → accepted tt ≡ target-right g r e
   unfolding target-right
-  good-target e is l = accepted-if 6 r (a-region (e .target) is l)
+  good-target e is l = accepted-if wrong-reference r (a-region (e .target) is l)
 
   module _ (xs : List ℕ) (k : ℕ) (is : t ≡ getD xs k 0) where
-    pub bad-exit : count ≤ t → refused 6 r ≡ exit-right g r xs k
-    bad-exit l = walk-refused (refuse-unless 8 r (not (stands-before xs k))) (refused-unless 6 r (no-region (getD xs k 0) is l))
+    pub bad-exit : count ≤ t → refused wrong-reference r ≡ exit-right g r xs k
+    bad-exit l = walk-refused (exit-new g r (stands-before xs k)) (refused-unless wrong-reference r (no-region (getD xs k 0) is l))
 
-    then-first : t < count → refuse-unless 8 r (not (stands-before xs k)) ≡ exit-right g r xs k
-    then-first l = then-rest (refuse-unless 8 r (not (stands-before xs k))) (accepted-if 6 r (a-region (getD xs k 0) is l))
+    then-first : t < count → exit-new g r (stands-before xs k) ≡ exit-right g r xs k
+    then-first l = then-rest (exit-new g r (stands-before xs k)) (accepted-if wrong-reference r (a-region (getD xs k 0) is l))
 
-    pub exit-twice : t < count → stands-before xs k ≡ true → refused 8 r ≡ exit-right g r xs k
-    exit-twice l h = refused-unless 8 r (ap not h) ∙ then-first l
+    pub exit-twice : t < count → stands-before xs k ≡ true → refused exit-named-twice r ≡ exit-right g r xs k
+    exit-twice l h = refused-unless exit-named-twice r (ap not h) ∙ then-first l
 
     pub good-exit : t < count → stands-before xs k ≡ false → accepted tt ≡ exit-right g r xs k
-    good-exit l h = accepted-if 8 r (ap not h) ∙ then-first l
+    good-exit l h = accepted-if exit-named-twice r (ap not h) ∙ then-first l
 
 -- An edge's values against the inputs of its target t.
 module _ (g : Graph) (r : ℕ) (e : Edge) {t n m : ℕ} (target : t ≡ e .target) (values-are : n ≡ length (e .inputs))
     (types-are : m ≡ length (region g t .inputs)) where
-  pub edge-differs : (n ≡ m → ⊥) → refused 7 r ≡ edge-right g r e
+  pub edge-differs : (n ≡ m → ⊥) → refused wrong-type r ≡ edge-right g r e
   unfolding edge-right
   edge-differs ne =
       sizes-differ g r (region g (e .target) .inputs) (e .inputs) values-are (types-are ∙ ap (λ q. length (region g q .inputs)) target) ne
@@ -150,31 +151,6 @@ module _ (g : Graph) (r : ℕ) (e : Edge) {t n m : ℕ} (target : t ≡ e .targe
       ap (λ q. types-right g r (region g q .inputs) (e .inputs)) target
       ∙ sizes-agree g r (region g (e .target) .inputs) (e .inputs) values-are
       (types-are ∙ ap (λ q. length (region g q .inputs)) target) same
-
--- The first Return region, from region q on.
-first-here : (x : Region) (xs : List Region) → is-return (x .terminator) ≡ true → first-return (x ∷ xs) ≡ 0
-unfolding first-return
-first-here x xs h = rw (h, first-return)
-
-first-later : (x : Region) (xs : List Region) → is-return (x .terminator) ≡ false → first-return (x ∷ xs) ≡ suc (first-return xs)
-unfolding first-return
-first-later x xs h = rw (h, first-return)
-
-module _ (rs : List Region) {n : ℕ} (size : n ≡ length rs) (q : ℕ) where
-  pub return-here : q < n → is-return (getD rs q nowhere .terminator) ≡ true → q + first-return (drop q rs) ≡ first-return rs
-      → q ≡ first-return rs
-  return-here l h e = let here : first-return (drop q rs) ≡ 0 = ap first-return (from-place rs nowhere size q l) ∙ first-here _ _ h in
-      omega arith
-
-  pub return-later : q < n → is-return (getD rs q nowhere .terminator) ≡ false → q + first-return (drop q rs) ≡ first-return rs
-      → q + 1 + first-return (drop (q + 1) rs) ≡ first-return rs
-  return-later l h e =
-      let later : first-return (drop q rs) ≡ suc (first-return (drop (q + 1) rs)) = ap first-return (from-place rs nowhere size q l)
-      ∙ first-later _ _ h in omega arith
-
-  pub no-return : n ≤ q → q + first-return (drop q rs) ≡ first-return rs → q ≡ first-return rs
-  unfolding first-return
-  no-return l e = let none : first-return (drop q rs) ≡ 0 = ap first-return (none-from rs nowhere size q l) in omega arith
 
 -- The types that the first Return region returns.
 pub return-count : (g : Graph) {q n : ℕ} → q ≡ first-return (g .regions) → n ≡ length (values-of (region g q .terminator))
@@ -226,10 +202,10 @@ module _ (g : Graph) (r : ℕ) (x : Region) where
 
 -- The entry against the number of regions that the code has.
 module _ (g : Graph) {count t : ℕ} (regions : count ≡ length (g .regions)) (is : t ≡ g .entry) where
-  pub bad-entry : count ≤ t → refused 6 0 ≡ references g
+  pub bad-entry : count ≤ t → refused wrong-reference 0 ≡ references g
   unfolding references
-  bad-entry l = walk-refused (regions-right g 0 (g .regions)) (refused-unless 6 0 (no-region g 0 regions (g .entry) is l))
+  bad-entry l = walk-refused (regions-right g 0 (g .regions)) (refused-unless wrong-reference 0 (no-region g 0 regions (g .entry) is l))
 
   pub good-entry : t < count → regions-right g 0 (g .regions) ≡ references g
   unfolding references
-  good-entry l = then-rest (regions-right g 0 (g .regions)) (accepted-if 6 0 (a-region g 0 regions (g .entry) is l))
+  good-entry l = then-rest (regions-right g 0 (g .regions)) (accepted-if wrong-reference 0 (a-region g 0 regions (g .entry) is l))

@@ -1,6 +1,6 @@
 -- The walks of the references: reads, typed values, targets, edges, exits, regions.
 use mathlib.Core.Path.{_≡_, sym, ap, _∙_}
-use mathlib.Core.Bool.{not}
+use mathlib.Core.Bool.{Bool, not}
 use mathlib.Core.List.{List, _∷_}
 use Prim.Native.Nat.{ℕ, suc, _+_}
 use native.Mathlib.Omega.{arith}
@@ -12,6 +12,7 @@ use Rattle.meaning.specs.Lists.{is-in}
 use Rattle.meaning.specs.facts.Parts.{from-place, none-from}
 use Rattle.format.specs.References.{no-instr, behind-all, refuse-unless, first-refusal, is-region, named-right, of-type, reads-right}
 use Rattle.format.specs.References.{types-right, exits-right, region-right, regions-right}
+use Rattle.format.specs.Refusals.{wrong-reference, exit-named-twice}
 use Rattle.fields.specs.ByNumber.{before, stands-before}
 use Rattle.fields.specs.laws.Repeats.{stands-within}
 use Rattle.references.specs.Checks.{typed}
@@ -54,8 +55,14 @@ module _ (g : Graph) (r : ℕ) where
       }
 
   -- an exit that is a region, and stands for the first time
+  abbrev pub exit-there : List ℕ → ℕ → Answer Unit
+  exit-there xs k = refuse-unless wrong-reference r (is-region g (getD xs k 0))
+
+  abbrev pub exit-new : Bool → Answer Unit
+  exit-new seen = refuse-unless exit-named-twice r (not seen)
+
   abbrev pub exit-right : List ℕ → ℕ → Answer Unit
-  exit-right xs k = if-accepted (refuse-unless 6 r (is-region g (getD xs k 0))) λ _. refuse-unless 8 r (not (stands-before xs k))
+  exit-right xs k = if-accepted (exit-there xs k) λ _. exit-new (stands-before xs k)
 
   pub exits-walk : (xs : List ℕ) {m : ℕ} → m ≡ length xs → Walk (λ k. exits-right g r (before xs k) (drop k xs)) (λ k. exit-right xs k) m
   unfolding exits-right before
@@ -63,11 +70,11 @@ module _ (g : Graph) (r : ℕ) where
       record {
         more = λ k l.
             ap (exits-right g r (before xs k)) (from-place xs 0 size k l)
-            ∙ then-then (refuse-unless 6 r (is-region g (getD xs k 0))) (λ _. refuse-unless 8 r (not (is-in (getD xs k 0) (before xs k))))
+            ∙ then-then (exit-there xs k) (λ _. exit-new (is-in (getD xs k 0) (before xs k)))
             (λ _. exits-right g r (getD xs k 0 ∷ before xs k) (drop (k + 1) xs))
-            ∙ ap (λ j. if-accepted (if-accepted (refuse-unless 6 r (is-region g (getD xs k 0))) λ _. refuse-unless 8 r
-            (not (is-in (getD xs k 0) (before xs k)))) (λ _. exits-right g r (before xs j) (drop (k + 1) xs))) (sym (add-one k))
-            ∙ ap (λ b. if-accepted (if-accepted (refuse-unless 6 r (is-region g (getD xs k 0))) λ _. refuse-unless 8 r (not b))
+            ∙ ap (λ j. if-accepted (if-accepted (exit-there xs k) λ _. exit-new (is-in (getD xs k 0) (before xs k)))
+            (λ _. exits-right g r (before xs j) (drop (k + 1) xs))) (sym (add-one k))
+            ∙ ap (λ b. if-accepted (if-accepted (exit-there xs k) λ _. exit-new b)
             (λ _. exits-right g r (before xs (k + 1)) (drop (k + 1) xs))) (sym (stands-within xs k (omega arith)));
         done = λ k l. ap (exits-right g r (before xs k)) (none-from xs 0 size k l);
       }

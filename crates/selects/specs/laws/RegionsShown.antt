@@ -24,11 +24,12 @@ use Rattle.selects.specs.Turns.{Turns, turns-over, turn-on, turn-refused
 use Rattle.selects.specs.Cases.{GetsRegion, has-region, new-region, no-region}
 use Rattle.selects.specs.laws.Places.{From, first-of, rest-of}
 use Rattle.nesting.specs.steps.TargetsAndCases.{children-in}
+use Rattle.format.specs.Refusals.{too-many}
 
 -- What a step of the code answers shows what the definition's step gives, or refusal 9.
 pub data ShowsMade {A : Type 0} (R : A → NestState → Type 0) : Made → StepAnswer A → Type 0 where
   shows-made : {a : A} {s : NestState} → R a s → ShowsMade R Done (done a s)
-  shows-refused : ShowsMade R Full (turned-away 9 0)
+  shows-refused : ShowsMade R Full (turned-away too-many 0)
 
 -- Taken apart by what the code answered.
 pub record MadeDone {A : Type 0} (R : A → NestState → Type 0) (b : StepAnswer A) : Type 0 where
@@ -40,7 +41,7 @@ pub record MadeDone {A : Type 0} (R : A → NestState → Type 0) (b : StepAnswe
 pub made-of : {A : Type 0} {R : A → NestState → Type 0} {b : StepAnswer A} → ShowsMade R Done b → MadeDone R b
 made-of (shows-made {a} {s} r) = record { value = a; state = s; is = refl; shows = r }
 
-pub refused-of : {A : Type 0} {R : A → NestState → Type 0} {b : StepAnswer A} → ShowsMade R Full b → b ≡ turned-away 9 0
+pub refused-of : {A : Type 0} {R : A → NestState → Type 0} {b : StepAnswer A} → ShowsMade R Full b → b ≡ turned-away too-many 0
 refused-of shows-refused = refl
 
 -- ---- What stays of the cases: all words but the bodies of those that are not claimed, and those before place j.
@@ -143,7 +144,7 @@ module _ (c : MaybeClaimedRegion) (cs : List MaybeClaimedRegion) (j : ℕ) (w′
   with-first shows-refused = shows-refused
 
 region-refused : (c : MaybeClaimedRegion) (cs : List MaybeClaimedRegion) {j : ℕ} {w w′ : List ℕ} {s : NestState} → ShowsTables w s
-    → ShowsKind w j c → GetsRegion j w w′ Full → case-regions (c ∷ cs) s ≡ turned-away 9 0
+    → ShowsKind w j c → GetsRegion j w w′ Full → case-regions (c ∷ cs) s ≡ turned-away too-many 0
 unfolding case-regions
 region-refused (ok c) cs t (kind-ok k q) (no-region d x) = absurd (d k)
 region-refused (err d) cs t (kind-err k) (no-region z x) = rw (full-of (region-defined t x) refl)

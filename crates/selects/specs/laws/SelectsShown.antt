@@ -45,6 +45,7 @@ use Rattle.selects.specs.laws.RegionsShown.{RegionsDone, ShowsMade, made
 use Rattle.selects.specs.laws.Places.{from-start}
 use Rattle.selects.specs.laws.StepsShown.{SelectStep, step-then, step-by, step-regions, step-children, cases-stay}
 use Rattle.nesting.specs.steps.TargetsAndCases.{children-in}
+use Rattle.format.specs.Refusals.{too-many}
 
 children-same : (w w′ : List ℕ) → section w′ cases ≡ section w cases → (j : ℕ) → children-of w′ j ≡ children-of w j
 unfolding children-of
@@ -180,7 +181,7 @@ pub data ShowsSelect (g : Graph) (r : ℕ) (cs : List MaybeClaimedRegion) (paren
     : Defined → StepAnswer DefinedSelect → Type 0 where
   shows-select : {h : ℕ} {n : DefinedSelect} {s : NestState} → SelectDone g r cs parent w w′ h n s
       → ShowsSelect g r cs parent w w′ (Number h) (done n s)
-  shows-no-select : ShowsSelect g r cs parent w w′ Full (turned-away 9 0)
+  shows-no-select : ShowsSelect g r cs parent w w′ Full (turned-away too-many 0)
 
 module _ {g : Graph} {r : ℕ} {cs : List MaybeClaimedRegion} {parent : Nodes} {w : List ℕ} {s : NestState} {kind : SelectionKind}
     {shape : ℕ} {x : Scrutinee} {y : nesting.Scrutinee}

@@ -15,7 +15,8 @@ use Rattle.record.specs.Stands.{Stands}
 use Rattle.nesting.specs.Nesting as nesting
 use Rattle.nesting.specs.Nesting.{DeferredTarget, to-region, to-return}
 use Rattle.fields.specs.ByNumber.{end-values}
-use Rattle.bundles.specs.laws.ReadTypes.{TypeRead, end-types-read}
+use Rattle.format.specs.laws.UndefinedTypes.{TypeRead}
+use Rattle.fields.specs.laws.UndefinedTypes.{end-types-read}
 
 pub record SmallTypes (g : Graph) : Type 0 where
   pub below : (x : DeferredTarget) (k : ℕ) → nesting.target-type g x k < 256

@@ -10,6 +10,7 @@ use Rattle.meaning.specs.Graph.{Graph, SelectionKind}
 use Rattle.meaning.specs.Runs.{Nodes, ⟨⟩}
 use Rattle.meaning.specs.facts.Tests.{clash, or-right}
 use Rattle.format.specs.Valid.{Valid}
+use Rattle.format.specs.Refusals.{too-many}
 use Rattle.nesting.specs.Nesting as nesting
 use Rattle.nesting.specs.Nesting.{MaybeClaimedRegion, ok, err, DeferredTarget, NestState, StepAnswer, done, turned-away, follow, give, Body}
 use Rattle.nesting.specs.Nesting.{region-body, join, DefinedSelect, DeferredEdgeBundleSet, PlannedBundle, case-regions, define-select}
@@ -159,7 +160,8 @@ module _ {g : Graph} (few : length (g .regions) ≤ 32) (small : SmallTypes g) {
   after-select {h} (shows-select {n} done₁) emits =
       with-set done₁ (emit-shown few small n h (spared-then done₁) (done₁ .tables) (cell-then done₁) (plan-then done₁) emits)
 
-  no-select : {l : List ℕ} {b : StepAnswer DefinedSelect} → ShowsSelect g r (cases-after s₀ cs) parent w l Refused b → b ≡ turned-away 9 0
+  no-select : {l : List ℕ} {b : StepAnswer DefinedSelect} → ShowsSelect g r (cases-after s₀ cs) parent w l Refused b
+      → b ≡ turned-away too-many 0
   no-select shows-no-select = refl
 
   pub chosen : {needed : Bool} {w′ : List ℕ} {a : Made} → (needed ≡ false → any-needs-select ps ≡ false)

@@ -8,6 +8,7 @@ use Rattle.state.specs.declared.defined.Defined.{Defined}
 use Rattle.state.specs.declared.defined.Defined.the-variants.{Number, Full}
 use Rattle.shown.specs.Values.{value}
 use Rattle.shown.specs.Tables.{ShowsDefined, shows-done, shows-full, Done}
+use Rattle.format.specs.Refusals.{too-many}
 
 pub done-of : {A : Type 0} {R : ℕ → A → Type 0} {w : List ℕ} {a : Defined} {b : StepAnswer A} → ShowsDefined R w a b → {x : ℕ}
     → a ≡ Number x
@@ -17,6 +18,6 @@ done-of {R} (shows-done {x} {a} {s} r t) {x = y} e =
 done-of shows-full e = absurd (clash (cc))
 
 pub full-of : {A : Type 0} {R : ℕ → A → Type 0} {w : List ℕ} {a : Defined} {b : StepAnswer A} → ShowsDefined R w a b → a ≡ Full
-    → b ≡ turned-away 9 0
+    → b ≡ turned-away too-many 0
 full-of (shows-done r t) e = absurd (clash (cc))
 full-of shows-full e = refl

@@ -5,7 +5,7 @@ use native.Mathlib.Nat.{add-assoc}
 use native.Mathlib.Omega.{arith}
 use Rattle.format.specs.Store.{all-zero}
 use Rattle.store.specs.Block.{byte-place}
-use Rattle.store.proofs.Words.{place-within, word-read}
+use Rattle.store.specs.laws.Words.{place-within, word-read}
 use Rattle.format.specs.laws.Stores.{zero-more, zero-stays}
 use Rattle.store.proofs.all_zero.Statement.{statement}
 use Rattle.store.proofs.all_zero.Tie as tie

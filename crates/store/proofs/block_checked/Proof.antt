@@ -1,6 +1,6 @@
 use mathlib.Core.Path.{_∙_}
 use borrow.Author.Needs.{needs}
-use Rattle.store.proofs.Blocks.{block-by}
+use Rattle.store.specs.laws.Blocks.{block-by}
 use Rattle.store.proofs.block_checked.Statement.{statement}
 use Rattle.store.proofs.block_checked.Tie as tie
 
@@ -40,8 +40,8 @@ add-stated c = search needs
 check-of-requires : tie.Need-check-of-requires
 check-of-requires c κs = search needs
 
-cast-first-wrong : tie.Need-cast-first-wrong
-cast-first-wrong c = search needs
+cast-block : tie.Need-cast-block
+cast-block c = search needs
 
 first-wrong-requires : tie.Need-first-wrong-requires
 first-wrong-requires c κs = search needs
@@ -69,6 +69,6 @@ block-checked-spec =
     mul-stated
     add-stated
     check-of-requires
-    cast-first-wrong
+    cast-block
     first-wrong-requires
     returns)

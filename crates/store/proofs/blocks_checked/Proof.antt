@@ -4,7 +4,7 @@ use native.Mathlib.Omega.{arith}
 use borrow.Author.Needs.{needs}
 use Rattle.format.specs.Store.{accepted, blocks-checked}
 use Rattle.store.specs.Loaded.{answered}
-use Rattle.store.proofs.Blocks.{blocks-more, blocks-stop}
+use Rattle.store.specs.laws.Blocks.{blocks-more, blocks-stop}
 use Rattle.store.proofs.blocks_checked.Statement.{statement}
 use Rattle.store.proofs.blocks_checked.Tie as tie
 

@@ -6,7 +6,7 @@ use lib.ListN.{drop}
 use borrow.Author.Needs.{needs}
 use Rattle.format.specs.Store.{word-at}
 use Rattle.store.specs.Block.{byte-place}
-use Rattle.store.proofs.Words.{place-within, word-read}
+use Rattle.store.specs.laws.Words.{place-within, word-read}
 use Rattle.meaning.specs.facts.Elements.{tabulate-more}
 use Rattle.store.proofs.copy_words.Statement.{statement}
 use Rattle.store.proofs.copy_words.Tie as tie

@@ -2,7 +2,7 @@ use mathlib.Core.Path.{sym, ap, _∙_}
 use borrow.Author.Needs.{needs}
 use Rattle.format.specs.Store.{store-words}
 use Rattle.store.specs.Loaded.{load-answered}
-use Rattle.store.proofs.Store.{holds-counted, kept, filled}
+use Rattle.store.specs.laws.Store.{holds-counted, kept, filled}
 use Rattle.store.proofs.load.Statement.{statement}
 use Rattle.store.proofs.load.Tie as tie
 

@@ -1,5 +1,5 @@
 use borrow.Author.Needs.{needs}
-use Rattle.store.proofs.Words.{place-next}
+use Rattle.store.specs.laws.Words.{place-next}
 use Rattle.store.proofs.next_place.Statement.{statement}
 use Rattle.store.proofs.next_place.Tie as tie
 

@@ -3,7 +3,7 @@ use borrow.Author.Needs.{needs}
 use Rattle.format.specs.Store.{accepted, count-right}
 use Rattle.store.specs.Loaded.{answered}
 use Rattle.format.specs.laws.Stores.{length-zero, length-over, length-part, length-right-true}
-use Rattle.store.proofs.Store.{length-wrong, blocks-wrong, count-wrong, words-right}
+use Rattle.store.specs.laws.Store.{length-wrong, blocks-wrong, count-wrong, words-right}
 use Rattle.store.proofs.words_used.Statement.{statement}
 use Rattle.store.proofs.words_used.Tie as tie
 

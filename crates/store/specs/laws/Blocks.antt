@@ -8,6 +8,7 @@ use lib.Dec.{eqb}
 use Rattle.format.specs.Store.{accepted, refused, pair, weighted, blocks-checked}
 use Rattle.format.specs.laws.Stores.{blocks-stay}
 use Rattle.store.specs.Block.{first-wrong, block-checked}
+use Rattle.store.specs.declared.refusals.Refusal.the-variants.{WrongBlockNumber, WrongCheck}
 
 pub blocks-more : (s : List ℕ) (n : ℕ) → blocks-checked s n ≡ accepted tt → blocks-checked s (n + 1) ≡ block-checked s n
 unfolding blocks-checked
@@ -21,5 +22,5 @@ blocks-stop s m n a b e l h = sym (blocks-stay s (m + 1) n a b (omega arith) (bl
 -- The verdict by the numbers that were read.
 pub block-by : (s : List ℕ) (b number low high sum : ℕ) → number ≡ pair s (512 * b) → low ≡ pair s (512 * b + 508)
     → high ≡ pair s (512 * b + 510) → sum ≡ weighted s (512 * b) 508
-    → first-wrong b (eqb number b) 2 (eqb (low + 65536 * high) sum) 3 ≡ block-checked s b
+    → first-wrong (eqb number b) (WrongBlockNumber b) (eqb (low + 65536 * high) sum) (WrongCheck b) ≡ block-checked s b
 block-by s b number low high sum p q r t = rw (p, q, r, t) refl

@@ -9,10 +9,11 @@ use Rattle.meaning.specs.facts.Tests.{clash}
 use Rattle.meaning.specs.facts.Elements.{length-tabulate}
 use Rattle.format.specs.Store.{Answer, accepted, refused, blocks-checked, word-at, length-right, count-right, store-words}
 use Rattle.format.specs.laws.Stores.{blocks-in, stored, StoreHolds, holds}
+use Rattle.format.specs.Refusals.{wrong-length, wrong-word-count}
 use Rattle.store.specs.Loaded.{words-counted, words-after}
 
 module _ (s : List ℕ) where
-  pub length-wrong : length-right (length s) ≡ false → refused 1 0 ≡ words-counted (store-words s)
+  pub length-wrong : length-right (length s) ≡ false → refused wrong-length 0 ≡ words-counted (store-words s)
   length-wrong p = ap words-counted (sym (stored s _ _ _ p refl refl))
 
   pub blocks-wrong : (a b : ℕ) → length-right (length s) ≡ true → refused a b ≡ blocks-checked s (blocks-in s)
@@ -20,7 +21,7 @@ module _ (s : List ℕ) where
   blocks-wrong a b p q = ap words-counted (sym (stored s _ _ _ p (sym q) refl))
 
   pub count-wrong : length-right (length s) ≡ true → accepted tt ≡ blocks-checked s (blocks-in s)
-      → false ≡ count-right s (blocks-in s) (word-at s 0) → refused 4 0 ≡ words-counted (store-words s)
+      → false ≡ count-right s (blocks-in s) (word-at s 0) → refused wrong-word-count 0 ≡ words-counted (store-words s)
   count-wrong p q r = ap words-counted (sym (stored s _ _ _ p (sym q) (sym r)))
 
   pub words-right : length-right (length s) ≡ true → accepted tt ≡ blocks-checked s (blocks-in s)

@@ -9,7 +9,7 @@ use Rattle.format.specs.Store.{accepted, store-words, word-at}
 use Rattle.store.specs.Layout.{record-end}
 use Rattle.store.specs.Loaded.{words-after, Loads}
 use Rattle.store.specs.declared.Loaded.the-variants.{Words}
-use Rattle.store.proofs.Store.{holds-counted}
+use Rattle.store.specs.laws.Store.{holds-counted}
 use Rattle.meaning.specs.Lists.{tabulate}
 use Rattle.meaning.specs.facts.Elements.{length-tabulate, tabulate-at}
 

@@ -1,13 +1,13 @@
 use borrow.Author.Needs.{needs}
-use Rattle.references.proofs.first_return.Statement.{statement}
-use Rattle.references.proofs.first_return.Tie as tie
+use Rattle.fields.proofs.types.first_return.Statement.{statement}
+use Rattle.fields.proofs.types.first_return.Tie as tie
 use mathlib.Core.Path.{_≡_, sym, _∙_}
 use Prim.Native.Nat.{_≤_, _-_, _+_}
 use native.Mathlib.Omega.{arith}
 use lib.ListN.{drop}
 use Rattle.format.specs.References as format
 use Rattle.record.specs.Stands.{OfRecord}
-use Rattle.references.specs.laws.Steps.{return-here, return-later, no-return}
+use Rattle.fields.specs.laws.Returns.{return-here, return-later, no-return}
 
 abbrev Inv-loop : tie.InvT-loop
 Inv-loop w n q₀ q =

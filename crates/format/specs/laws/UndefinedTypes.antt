@@ -1,4 +1,4 @@
--- What reading leaves of undefined values: their types are types that a record has. Valid does not say it.
+-- What reading leaves of undefined values: their types are types that a record has. Valid, which the theorems assume, does not need it.
 use mathlib.Core.Path.{_≡_, sym}
 use mathlib.Core.Bool.{Bool, true, false, _||_}
 use mathlib.Core.Logic.{inl, inr}
@@ -8,21 +8,20 @@ use native.Mathlib.Omega.{arith}
 use lib.ListN.{length}
 use lib.Dec.{eqb, leb}
 use borrow.Author.Tests.{leb-true, eqb-true}
-use Rattle.meaning.specs.Graph.{Value, const, input, instr, output, bool, undef, held, no-value, Edge, ControlInst, Region, Graph, nowhere}
-use Rattle.meaning.specs.Graph.{Instr, region}
+use Rattle.meaning.specs.Graph.{Value, const, input, instr, output, bool, undef, held, no-value, Edge, ControlInst, Region, Graph}
+use Rattle.meaning.specs.Graph.{Instr, instr-kind, bool-kind, undef-kind}
 use Rattle.meaning.specs.Lists.{All, pick, distinct-from}
 use Rattle.meaning.specs.facts.Elements.{all-getD}
 use Rattle.meaning.specs.facts.Tests.{clash, and-both, or-either}
 use Rattle.format.specs.Store.{accepted, refused}
-use Rattle.format.specs.Read.{got, expect, is-kind, value-from-words, index-right, word, type, counted, many, within, read-value, block}
-use Rattle.format.specs.Read.{instruction, terminator}
-use Rattle.format.specs.Read.{opcode-for, fewest-values, most-values, fewest-targets, most-targets, edges-passed, control-inst, read-region}
-use Rattle.format.specs.Read.{regions-from, head, read-record}
-use Rattle.format.specs.References.{values-of, no-instr}
+use Rattle.format.specs.Read.{got, expect, is-kind, value-from-words, index-right, word, type, counted, many, within, read-value}
+use Rattle.format.specs.Read.{block, instruction, terminator, terminator-unreachable, terminator-number}
+use Rattle.format.specs.Read.{opcode-for, fewest-values, most-values, fewest-targets, most-targets, edges-passed, control-inst}
+use Rattle.format.specs.Read.{read-region, regions-from, head, read-record}
+use Rattle.format.specs.References.{values-of}
 use Rattle.format.specs.laws.Readers.{part, expected, got-value}
 use Rattle.format.specs.laws.WellRead.{counted-all, within-bounds, step, settled}
-use Rattle.record.specs.Stands.{Stands, words-of-record}
-use Rattle.fields.specs.ByNumber.{block-of, instr-of, end-values}
+use Rattle.format.specs.Refusals.{wrong-word-count}
 
 abbrev pub TypeRead : Value → Type 0
 TypeRead (const i) = Unit
@@ -39,13 +38,13 @@ either : (b : Bool) (x y : Value) → TypeRead x → TypeRead y → TypeRead (pi
 either true x y p q = p
 either false x y p q = q
 
-kind-few : (k : ℕ) → is-kind k ≡ true → k ≤ 5
+kind-few : (k : ℕ) → is-kind k ≡ true → k ≤ undef-kind
 kind-few k h =
-    elim (or-either (leb k 2) (eqb k 4 || eqb k 5) h) [
-      | inl a ↦ (let z = leb-true k 2 a in omega arith)
-      | inr b ↦ elim (or-either (eqb k 4) (eqb k 5) b) [
-        | inl c ↦ (let z = eqb-true k 4 c in omega arith)
-        | inr d ↦ (let z = eqb-true k 5 d in omega arith)
+    elim (or-either (leb k instr-kind) (eqb k bool-kind || eqb k undef-kind) h) [
+      | inl a ↦ (let z = leb-true k instr-kind a in omega arith)
+      | inr b ↦ elim (or-either (eqb k bool-kind) (eqb k undef-kind) b) [
+        | inl c ↦ (let z = eqb-true k bool-kind c in omega arith)
+        | inr d ↦ (let z = eqb-true k undef-kind d in omega arith)
       ]
     ]
 
@@ -74,7 +73,8 @@ value-read ws at v e h =
     (expected (index-right (a .value) (d .value)) ws (d .place) (f .first)))
 
 -- ---- The values of a terminator, of an instruction, of a region, of all.
-end-types : (k op : ℕ) (vs : List Value) (es : List Edge) → k ≤ 5 → All TypeRead vs → All TypeRead (values-of (control-inst k op vs es))
+end-types : (k op : ℕ) (vs : List Value) (es : List Edge) → k ≤ terminator-number → All TypeRead vs
+    → All TypeRead (values-of (control-inst k op vs es))
 end-types zero op vs es b h = tt
 end-types (suc zero) op vs es b h = h
 end-types (suc (suc zero)) op vs es b h = h
@@ -86,7 +86,7 @@ end-types (suc (suc (suc (suc (suc (suc k)))))) op vs es b h = absurd (omega ari
 terminator-types : (ws : List ℕ) (at : ℕ) (x : ControlInst) (e : ℕ) → terminator ws at ≡ got x e → All TypeRead (values-of x)
 unfolding terminator
 terminator-types ws at x e h =
-    let a = part (within 0 5 ws at) _ x e h in
+    let a = part (within terminator-unreachable terminator-number ws at) _ x e h in
     let b = part (opcode-for (a .value) ws (a .place)) _ x e (a .second) in
     let c = part (counted (fewest-values (a .value)) (most-values (a .value)) read-value ws (b .place)) _ x e (b .second) in
     let d = part (counted (fewest-targets (a .value)) (most-targets (a .value)) word ws (c .place)) _ x e (c .second) in
@@ -95,9 +95,10 @@ terminator-types ws at x e h =
     let types = counted-all read-value TypeRead ws (value-read ws) (fewest-values (a .value)) (most-values (a .value)) (b .place)
     (c .first) in
     rw is
-    (end-types (a .value) (b .value) (c .value) (edges-passed (d .value) (f .value)) (within-bounds 0 5 ws at (a .first) .1) (types .all))
+    (end-types (a .value) (b .value) (c .value) (edges-passed (d .value) (f .value))
+    (within-bounds terminator-unreachable terminator-number ws at (a .first) .1) (types .all))
 
-abbrev ReadsTypes : Instr → Type 0
+abbrev pub ReadsTypes : Instr → Type 0
 ReadsTypes i = All TypeRead (i .reads)
 
 instruction-types : (ws : List ℕ) (at : ℕ) (i : Instr) (e : ℕ) → instruction ws at ≡ got i e → ReadsTypes i
@@ -114,7 +115,7 @@ block-types : (ws : List ℕ) (at : ℕ) (b : List Instr) (e : ℕ) → block ws
 unfolding block
 block-types ws at b e h = counted-all instruction ReadsTypes ws (instruction-types ws) 1 8 at h .all
 
-record TypesRead (x : Region) : Type 0 where
+pub record TypesRead (x : Region) : Type 0 where
   pub blocks : All (All ReadsTypes) (x .blocks)
   pub end : All TypeRead (values-of (x .terminator))
 
@@ -137,7 +138,7 @@ regions-types : (n r : ℕ) (ws : List ℕ) (at : ℕ) (xs : List Region) → re
 unfolding regions-from
 regions-types zero r ws at xs h = over (eqb at (length ws)) h
   where
-    over : (b : Bool) → elim b [ true ↦ accepted [] | false ↦ refused 4 0 ] ≡ accepted xs → All TypesRead xs
+    over : (b : Bool) → elim b [ true ↦ accepted [] | false ↦ refused wrong-word-count 0 ] ≡ accepted xs → All TypesRead xs
     over true q = let same : xs ≡ [] = cc in rw same tt
     over false q = absurd (clash (cc))
 regions-types (suc n) r ws at xs h =
@@ -146,22 +147,10 @@ regions-types (suc n) r ws at xs h =
     let same : xs ≡ a .value ∷ b .value = cc in
     rw same (region-types ws at (a .value) (a .place) (a .first), regions-types n (suc r) ws (a .place) (b .value) (b .first))
 
-record-types : (ws : List ℕ) (g : Graph) → read-record ws ≡ accepted g → All TypesRead (g .regions)
+pub record-types : (ws : List ℕ) (g : Graph) → read-record ws ≡ accepted g → All TypesRead (g .regions)
 unfolding read-record
 record-types ws g h =
     let a = settled 0 (head ws 1) _ g h in
     let b = step (regions-from (a .value .count) 0 ws (a .place)) _ g (a .second) in
     let is : g .regions ≡ b .value = cc in
     rw is (regions-types (a .value .count) 0 ws (a .place) (b .value) (b .first))
-
-types-read : {w : List ℕ} {g : Graph} → Stands w g → (r : ℕ) → TypesRead (region g r)
-types-read {w} {g} s r =
-    all-getD TypesRead nowhere (record { blocks = tt; end = tt }) (g .regions) (record-types (words-of-record w) g (s .reads)) r
-
--- The values that an instruction reads, and those that the terminator of a region has, in a record that stands.
-pub instr-types-read : {w : List ℕ} {g : Graph} → Stands w g → (r b i : ℕ) → All TypeRead (instr-of g r b i .reads)
-instr-types-read {g = g} s r b i =
-    all-getD ReadsTypes no-instr tt (block-of g r b) (all-getD (All ReadsTypes) [] tt (region g r .blocks) (types-read s r .blocks) b) i
-
-pub end-types-read : {w : List ℕ} {g : Graph} → Stands w g → (r : ℕ) → All TypeRead (end-values g r)
-end-types-read s r = types-read s r .end

@@ -1,6 +1,6 @@
 use borrow.Author.Needs.{needs}
-use Rattle.references.proofs.is_return.Statement.{statement}
-use Rattle.references.proofs.is_return.Tie as tie
+use Rattle.fields.proofs.types.is_return.Statement.{statement}
+use Rattle.fields.proofs.types.is_return.Tie as tie
 use mathlib.Core.Path.{ap}
 use Rattle.format.specs.References as format
 

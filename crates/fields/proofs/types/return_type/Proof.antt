@@ -1,6 +1,6 @@
 use borrow.Author.Needs.{needs}
-use Rattle.references.proofs.return_type.Statement.{statement}
-use Rattle.references.proofs.return_type.Tie as tie
+use Rattle.fields.proofs.types.return_type.Statement.{statement}
+use Rattle.fields.proofs.types.return_type.Tie as tie
 
 instruction-count-requires : tie.Need-instruction-count-requires
 instruction-count-requires c κs = search needs

@@ -1,6 +1,6 @@
 use borrow.Author.Needs.{needs}
-use Rattle.references.proofs.type_in.Statement.{statement}
-use Rattle.references.proofs.type_in.Tie as tie
+use Rattle.fields.proofs.types.type_in.Statement.{statement}
+use Rattle.fields.proofs.types.type_in.Tie as tie
 use mathlib.Core.Path.{_∙_}
 use Rattle.meaning.specs.facts.Tests.{picked, passed-over, both-true, first-false, second-false}
 use borrow.Author.Tests.{eq-eqb, ne-eqb, lt-ltb, le-ltb}
