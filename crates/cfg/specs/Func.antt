@@ -24,11 +24,13 @@ pub data Outcomes (w : List ℕ) (entry : ℕ) : Nested → Type 0 where
   one-elsewhere : word w set-lengths entry ≡ 1 → (own-target w entry 0 ≡ return-word → ⊥) → Outcomes w entry Leftover
   more-left : (word w set-lengths entry ≡ 0 → ⊥) → (word w set-lengths entry ≡ 1 → ⊥) → Outcomes w entry Leftover
 
--- What comes before the first claim: the counts, whether the entry's is ONE, and the state at its beginning.
-pub record Begins (g : Graph) (w counts : List ℕ) (once : Bool) (w′ : List ℕ) : Type 0 where
+-- What comes before the first claim: the counts, and the state at its beginning.
+pub record Begins (g : Graph) (w counts w′ : List ℕ) : Type 0 where
   pub counted : Valid g → (r : ℕ) → r < length (g .regions) → getD counts r 0 ≡ getD (incoming-edge-counts g) r 0
-  pub test : once ≡ eqb (getD counts (g .entry) 0) 1
   pub begun : w′ ≡ started g w
+
+abbrev pub entered-once : Graph → List ℕ → Bool
+entered-once g counts = eqb (getD counts (g .entry) 0) 1
 
 -- What is concluded from the claim's answer, which left the words w.
 pub data Concludes (g : Graph) (w : List ℕ) : Claim → Nested → Type 0 where

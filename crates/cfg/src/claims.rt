@@ -36,11 +36,14 @@ fn structurize_region(w: &mut [u16; WORDS], counts: [u32; 32], r: u16) -> Checke
     ensures { λ a. ⌜ OfRecord (now (w .entry)) (λ g. words.StructurizesRegion g counts (now (w .entry)) r (now (w .exit)) a) ⌝ }
 {
     set_region_state(w, r, IN_PROGRESS);
+    // One place for the answers of both loops' claims: so it stands once in a level.
+    let mut claim;
     let n = fields::target_count(w, r);
     let mut j: u16 = 0;
     while j < n {
         let t = fields::target(w, r, j);
-        match try_claim_edge_bundle(w, counts, t, ONE) {
+        claim = try_claim_edge_bundle(w, counts, t, ONE);
+        match claim {
             Claim::Refused(number, word) => return Checked::Refused(number, word),
             Claim::Claimed => set_target_taken(w, r, j, TAKEN),
             Claim::Unclaimed => defer_target(w, r, j, t),
@@ -51,6 +54,8 @@ fn structurize_region(w: &mut [u16; WORDS], counts: [u32; 32], r: u16) -> Checke
         return Checked::Refused(9, 0);
     }
     let mut left = fields::region_count(w);
+    // By value once more, beside the loop that hands them on: so the compiler keeps one copy of the counts in a level, and not two.
+    let again = counts;
     while 0 < left {
         let m = set_length(w, r);
         let mut i: u16 = 0;
@@ -59,7 +64,8 @@ fn structurize_region(w: &mut [u16; WORDS], counts: [u32; 32], r: u16) -> Checke
             let t = target(w, p);
             if t != RETURN {
                 let edges = accumulated_count(w, p);
-                match try_claim_edge_bundle(w, counts, t, edges) {
+                claim = try_claim_edge_bundle(w, again, t, edges);
+                match claim {
                     Claim::Refused(number, word) => return Checked::Refused(number, word),
                     Claim::Claimed => break,
                     Claim::Unclaimed => {}

@@ -1,4 +1,5 @@
 // The Rust's structurize_func: the entry is claimed, and what comes of it is the outcome.
+ghost use mathlib.Core.Path.{_≡_};
 ghost use lib.ListN.{length};
 ghost use Rattle.record.specs.Stands.{OfRecord};
 ghost use Rattle.format.specs.Valid.{Valid};
@@ -27,21 +28,20 @@ pub enum Nested {
     Refused(u16, u16),
 }
 
-// What the first claim is made by: the incoming counts, and whether the entry's is ONE.
-pub struct Counted {
-    pub counts: [u32; 32],
-    pub once: bool,
-}
-
-// What comes before the first claim: the counts are taken, and the state is set to its beginning.
-fn before_claim(w: &mut [u16; WORDS]) -> Counted
-    requires { ⌜ Stood (now w) ⌝ }
-    ensures { λ a. ⌜ OfRecord (now (w .entry)) (λ g. words.Begins g (now (w .entry)) (a .counts) (a .once) (now (w .exit))) ⌝ }
+// What comes before the first claim: the incoming counts are taken, and the state is set to its beginning.
+fn before_claim(w: &mut [u16; WORDS]) -> [u32; 32]
+    ensures { λ a. ⌜ OfRecord (now (w .entry)) (λ g. words.Begins g (now (w .entry)) a (now (w .exit))) ⌝ }
 {
     let counts = incoming_edge_counts(w);
-    let once = count_of(&counts, fields::entry(w)).same(ONE);
     initial_state(w);
-    Counted { counts, once }
+    counts
+}
+
+// Whether the entry's count is ONE: if not, nothing is claimed.
+fn entered_once(w: &[u16; WORDS], counts: &[u32; 32]) -> bool
+    ensures { λ a. ⌜ OfRecord (now (w .entry)) (λ g. a ≡ words.«entered-once» g (now (counts .entry))) ⌝ }
+{
+    count_of(counts, fields::entry(w)).same(ONE)
 }
 
 // The claim of the entry, with ONE edge.
@@ -85,11 +85,10 @@ pub fn structurize_func(w: &mut [u16; WORDS]) -> Nested
     requires { ⌜ Stood (now w) ⌝ }
     ensures { λ a. ⌜ OfRecord (now (w .entry)) (λ g. Valid g → ShowsNested g (now (w .entry)) (now (w .exit)) (structurize-func g) a) ⌝ }
 {
-    let first = before_claim(w);
-    if !first.once {
+    let counts = before_claim(w);
+    if !entered_once(w, &counts) {
         return Nested::Untouched;
     }
-    let counts = first.counts;
     let claim = claim_entry(w, counts);
     conclude(w, claim)
 }

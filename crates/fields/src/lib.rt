@@ -7,7 +7,8 @@ ghost use Rattle.meaning.specs.Graph.{no-value, region, edges-of, targets-of};
 ghost use Rattle.format.specs.References.{instructions, instr-type};
 ghost use Rattle.record.specs.Stands.{OfRecord};
 ghost use Rattle.fields.specs.Shape.{value-is, instruction-is, terminator-is};
-ghost use Rattle.fields.specs.ByNumber.{BlocksBefore, ValuesAt, block-of, instr-of, instructions-before, end-values, edge-of, stands-before};
+ghost use Rattle.fields.specs.ByNumber.{BlocksBefore, ValuesAt, block-of, instr-of, instructions-before, end-values};
+ghost use Rattle.fields.specs.ByNumber.{edge-of, stands-before};
 
 mod places;
 pub mod shape;

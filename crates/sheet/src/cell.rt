@@ -92,7 +92,8 @@ fn put_walked_lines(w: &[u16; WORDS], out: &mut [u32], at: Place, list: u16) -> 
 
 // The line before a list inside: only a case has one.
 fn put_inner_line(w: &[u16; WORDS], out: &mut [u32], at: Place, h: u16, j: u16) -> Place
-    ensures { λ a. ⌜ inside.InnerLine (now (w .entry)) h j (now (out .entry)) at (now (out .exit)) a (rows.«cell-tag» (now (w .entry)) h) ⌝ }
+    ensures { λ a. ⌜ inside.InnerLine (now (w .entry)) h j (now (out .entry)) at
+        (now (out .exit)) a (rows.«cell-tag» (now (w .entry)) h) ⌝ }
 {
     if cell_tag(w, h) == SELECT {
         let c = case_cell(w, select_cases(w, h), j);

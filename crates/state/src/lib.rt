@@ -8,6 +8,6 @@ pub mod edges;
 pub mod outputs;
 pub mod regions;
 pub mod rewrites;
-pub mod sections;
+mod sections;
 pub mod sets;
 pub mod values;

@@ -18,8 +18,8 @@ use Rattle.cfg.specs.declared.func.Nested.{Nested}
 use Rattle.cfg.specs.declared.func.Nested.the-variants.{Untouched, Whole, Closed, Leftover, Refused}
 use Rattle.cfg.specs.ByInst.{own-bundle}
 use Rattle.cfg.specs.Claims.{own-target, TriesClaim, Stood}
-use Rattle.cfg.specs.Func.{Outcomes, is-closed, is-whole, one-elsewhere, more-left, Begins, Concludes, claimed, unclaimed, refused}
-use Rattle.cfg.specs.Func.{untouched, concluded, Func}
+use Rattle.cfg.specs.Func.{Outcomes, is-closed, is-whole, one-elsewhere, more-left, Begins, entered-once, Concludes, claimed}
+use Rattle.cfg.specs.Func.{unclaimed, refused, untouched, concluded, Func}
 use Rattle.cfg.specs.laws.Left.{steady-claim}
 
 -- ---- The functions, path by path.
@@ -51,7 +51,7 @@ module _ {g : Graph} {w : List ℕ} {c : code.Claim} where
   of-refused e = rw e refused
 
 -- ---- The three, one after the other.
-module _ {w counts w₁ : List ℕ} {once : Bool} (begins : (g : Graph) → Stands w g → Begins g w counts once w₁) (stood : Stood w) where
+module _ {w counts w₁ : List ℕ} (begins : (g : Graph) → Stands w g → Begins g w counts w₁) (stood : Stood w) where
   stands-begun : (g : Graph) → Stands w g → Stands w₁ g
   stands-begun g st = rw (begins g st .begun) (stands-on (started-front g w (stood .room)) st)
 
@@ -65,26 +65,27 @@ module _ {w counts w₁ : List ℕ} {once : Bool} (begins : (g : Graph) → Stan
         room = rw (begins g st .begun, started-front g w (stood .room) .words) (stood .room);
       }
 
-  module _ (g : Graph) (st : Stands w g) (valid : Valid g) where
-    pub func-untouched : once ≡ false → Func g w w₁ Untouched
-    func-untouched e =
-        let b = begins g st in
-        record {
-          counts = counts;
-          right = b .counted valid;
-          steps = untouched (eqb-false (getD counts (g .entry) 0) 1 (sym (b .test) ∙ e)) (b .begun);
-        }
+  module _ {once : Bool} (test : (g : Graph) → Stands w₁ g → once ≡ entered-once g counts) (g : Graph) (st : Stands w g) (valid : Valid g)
+    where
+      pub func-untouched : once ≡ false → Func g w w₁ Untouched
+      func-untouched e =
+          let b = begins g st in
+          record {
+            counts = counts;
+            right = b .counted valid;
+            steps = untouched (eqb-false (getD counts (g .entry) 0) 1 (sym (test g (stands-begun g st)) ∙ e)) (b .begun);
+          }
 
-    pub func-concluded : once ≡ true → {w′ : List ℕ} {c : code.Claim} {a : Nested}
-        → ((g : Graph) → Stands w₁ g → TriesClaim g counts w₁ (g .entry) 1 w′ c)
-        → ((g : Graph) → Stands w′ g → Concludes g w′ c a) → Func g w w′ a
-    func-concluded e claims concludes =
-        let b = begins g st in
-        let on = stands-begun g st in
-        let t = claims g on in
-        record {
-          counts = counts;
-          right = b .counted valid;
-          steps = concluded (eqb-true (getD counts (g .entry) 0) 1 (sym (b .test) ∙ e)) (rw (b .begun) at t)
-              (concludes g (stands-on (steady-claim t on .front) on));
-        }
+      pub func-concluded : once ≡ true → {w′ : List ℕ} {c : code.Claim} {a : Nested}
+          → ((g : Graph) → Stands w₁ g → TriesClaim g counts w₁ (g .entry) 1 w′ c)
+          → ((g : Graph) → Stands w′ g → Concludes g w′ c a) → Func g w w′ a
+      func-concluded e claims concludes =
+          let b = begins g st in
+          let on = stands-begun g st in
+          let t = claims g on in
+          record {
+            counts = counts;
+            right = b .counted valid;
+            steps = concluded (eqb-true (getD counts (g .entry) 0) 1 (sym (test g on) ∙ e)) (rw (b .begun) at t)
+                (concludes g (stands-on (steady-claim t on .front) on));
+          }

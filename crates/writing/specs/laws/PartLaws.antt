@@ -1,4 +1,4 @@
--- The parts of a sheet, one after another: nodes, lists with their count, a region's line, rows that are put from the last to the first.
+-- The parts of a sheet, one after another: nodes, lists with their count, rows that are put from the last to the first.
 -- Looking up changes no number of a node or of a region.
 use mathlib.Core.Path.{_≡_, refl, sym, ap, _∙_}
 use mathlib.Core.Bool.{false, or-assoc, or-false}
@@ -13,13 +13,12 @@ use Rattle.meaning.specs.Runs.{Node, Nodes, ⟨⟩, _▸_, Cases, ∅, case, bl
 use Rattle.meaning.specs.facts.Numbers.{one-further}
 use Rattle.nesting.specs.Nesting.{NestState, NodeOutput, LookUp, plain, join, look-up-node, look-up-nodes, look-up-cases}
 use Rattle.nesting.specs.Sheet as sheet
-use Rattle.nesting.specs.SheetNumbers.{lead-region}
 use Rattle.writing.specs.declared.place.Place.{Place}
 use Rattle.writing.specs.Puts.{Part, Puts}
 use Rattle.writing.specs.laws.PutsLaws.{_⊕_, puts-then, puts-as}
 use Rattle.writing.specs.laws.Rows.{run, run-all, run-list}
-use Rattle.writing.specs.Parts.{each, most, output-nodes, look-up-at-end, value-part, values-part, node-part, nodes-part}
-use Rattle.writing.specs.Parts.{region-part, node-words}
+use Rattle.writing.specs.Parts.{each, output-nodes, look-up-at-end, value-part, values-part, node-part, nodes-part}
+use Rattle.writing.specs.Parts.{node-words}
 
 -- ---- Parts in a row.
 pub parts-assoc : (a b c : Part) → (a ⊕ b) ⊕ c ≡ a ⊕ b ⊕ c
@@ -93,13 +92,6 @@ module _ (s : NestState) where
       notes : (vs : List Value) → any (λ v. look-up-at-end s v .twice) vs ≡ any (λ v. value-part s v .twice) vs
       notes [] = refl
       notes (v ∷ vs) = rw (notes vs)
-
-  -- A region's line: number, inputs' types, child nodes, output values.
-  pub region-line : (r : ℕ) (ts : List ℕ) (ks : Nodes) (vs : List Value)
-      → region-part s r ts ks vs
-      ≡ plain (lead-region ∷ r ∷ length ts ∷ ts) ⊕ plain (most (length (sheet.kids ks)) ∷ sheet.kids ks) ⊕ values-part s vs
-  unfolding region-part values-part
-  region-line r ts ks vs = rw (append-assoc (lead-region ∷ r ∷ length ts ∷ ts) (most (length (sheet.kids ks)) ∷ sheet.kids ks) _)
 
 -- ---- Parts without a note.
 pub each-plain : {A : Type 0} (f : A → List ℕ) (xs : List A) → each (λ x. plain (f x)) xs ≡ plain (concat (map f xs))

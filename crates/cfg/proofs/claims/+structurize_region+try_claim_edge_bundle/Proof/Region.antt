@@ -69,16 +69,16 @@ abbrev pub μ-targets : lts.MeasureT-loop
 μ-targets w₀ counts r n j₀ w j = n - j
 
 abbrev pub Inv-scan : lts.InvT-loop3
-Inv-scan w₀ counts r n j left m i₀ w i = ScanPassed counts w₀ r m w i
+Inv-scan w₀ r n j left again m i₀ w i = ScanPassed again w₀ r m w i
 
 abbrev pub μ-scan : lts.MeasureT-loop3
-μ-scan w₀ counts r n j left m i₀ w i = m - i
+μ-scan w₀ r n j left again m i₀ w i = m - i
 
 abbrev pub Inv-turns : lts.InvT-loop2
-Inv-turns w₀ counts r n j left₀ w left = TurnsPassed counts w₀ r w left
+Inv-turns w₀ r n j left₀ again w left = TurnsPassed again w₀ r w left
 
 abbrev pub μ-turns : lts.MeasureT-loop2
-μ-turns w₀ counts r n j left₀ w left = left
+μ-turns w₀ r n j left₀ again w left = left
 
 module _ (t : ℕ) where
   pub set-region-state-requires : lts.Need-set-region-state-requires (called t) (structurize-region-at t) structurize-region.Post
@@ -117,9 +117,9 @@ module _ (t : ℕ) where
         ),
       )
 
-  pub enum-known-number : lts.Need-enum-known-number (called t) (structurize-region-at t) structurize-region.Post
+  pub enum-known-claim : lts.Need-enum-known-claim (called t) (structurize-region-at t) structurize-region.Post
       Inv-targets μ-targets Inv-scan μ-scan Inv-turns μ-turns
-  enum-known-number c = search needs
+  enum-known-claim c = search needs
 
   pub returns : lts.Need-returns (called t) (structurize-region-at t) structurize-region.Post
       Inv-targets μ-targets Inv-scan μ-scan Inv-turns μ-turns
@@ -130,7 +130,7 @@ module _ (t : ℕ) where
       let at-loop = at-loop-test .before in
       region-refused _ (at-loop .before .before .before .set-region-state .ensures) (targets-refused (at-loop .loop .inv)
       (at-loop .before .target-count .ensures) (at-loop-test .loop-test .taken) (at-target .target .ensures)
-      (at-claim .try-claim-edge-bundle .ensures) (c .before .number .given .1))
+      (at-claim .try-claim-edge-bundle .ensures) (c .before .claim .given .1))
 
   pub enum-told : lts.Need-enum-told (called t) (structurize-region-at t) structurize-region.Post
       Inv-targets μ-targets Inv-scan μ-scan Inv-turns μ-turns
@@ -263,9 +263,9 @@ module _ (t : ℕ) where
         ),
       )
 
-  pub enum-known-number-2 : lts.Need-enum-known-number-2 (called t) (structurize-region-at t) structurize-region.Post
+  pub enum-known-claim-2 : lts.Need-enum-known-claim-2 (called t) (structurize-region-at t) structurize-region.Post
       Inv-targets μ-targets Inv-scan μ-scan Inv-turns μ-turns
-  enum-known-number-2 c = search needs
+  enum-known-claim-2 c = search needs
 
   pub returns-3 : lts.Need-returns-3 (called t) (structurize-region-at t) structurize-region.Post
       Inv-targets μ-targets Inv-scan μ-scan Inv-turns μ-turns
@@ -281,7 +281,7 @@ module _ (t : ℕ) where
       λ g st. begun (at-turns .before .before .before) .refused-late g st (turn-refused (at-turns .loop2 .inv)
       (at-scan .before .before .before .loop2-test .taken) (scan-refuses (at-scan .loop3 .inv) (at-scan-test .loop3-test .taken)
       (at-bundle .own-bundle .ensures) (at-target .target2 .ensures) (at-if .if1 .taken) (at-count .accumulated-count .ensures .0)
-      (at-claim .try-claim-edge-bundle2 .ensures) (at-scan .before .set-length .ensures) (c .before .number2 .given .1)))
+      (at-claim .try-claim-edge-bundle2 .ensures) (at-scan .before .set-length .ensures) (c .before .claim2 .given .1)))
 
   pub enum-told-5 : lts.Need-enum-told-5 (called t) (structurize-region-at t) structurize-region.Post
       Inv-targets μ-targets Inv-scan μ-scan Inv-turns μ-turns
