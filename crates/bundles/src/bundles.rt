@@ -1,12 +1,12 @@
 // Deferred edge bundles over the record: how many inputs a target has and their types, and bundles made of its edges and values.
 ghost use mathlib.Core.Path.{_≡_};
 ghost use mathlib.Core.List.{_∷_};
-ghost use Prim.Native.Nat.{_*_};
 ghost use Rattle.record.specs.Stands.{OfRecord};
 ghost use Rattle.fields.specs.ByNumber.{end-values, edge-of};
 ghost use Rattle.state.specs.Sections as sections;
 ghost use Rattle.state.specs.Tables as tables;
 ghost use Rattle.bundles.specs.Words as words;
+ghost use Rattle.state.specs.Rows as rows;
 use state::conditions::TRUE_COND;
 use state::defined::RETURNED;
 use state::defined::head;
@@ -92,7 +92,7 @@ fn returned_inputs(w: &[u16; WORDS], r: u16) -> [u16; 4]
 
 // A bundle with its inputs.
 pub fn put_bundle(w: &mut [u16; WORDS], p: u16, t: u16, n: IncomingEdgeCount, c: u16, vs: &[u16; 4])
-    ensures { λ _. ⌜ now (w .exit) ≡ sections.«stored-all» (now (w .entry)) sections.bundles (7 * p)
+    ensures { λ _. ⌜ now (w .exit) ≡ sections.«stored-all» (now (w .entry)) sections.bundles (rows.«bundle-row-at» p)
         (t ∷ tables.«edges-word» (n .0) ∷ c ∷ now (vs .entry)) ⌝ }
 {
     set_bundle(w, p, t, n, c);

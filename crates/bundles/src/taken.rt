@@ -1,11 +1,11 @@
 // The cases of a select, or of a branch: how each target of a region was taken, and what follows a claimed bundle of its own set.
 ghost use mathlib.Core.Path.{_≡_};
 ghost use mathlib.Core.List.{_++_};
-ghost use Prim.Native.Nat.{_*_};
 ghost use Rattle.record.specs.Stands.{OfRecord};
 ghost use Rattle.state.specs.Sections as sections;
 ghost use Rattle.state.specs.Tables as tables;
 ghost use Rattle.bundles.specs.Words as words;
+ghost use Rattle.state.specs.Rows as rows;
 use crate::bundles::defer_edge;
 use crate::bundles::passed_inputs;
 use state::cases::CLAIMED_REGION;
@@ -68,7 +68,7 @@ fn claimed_case(w: &[u16; WORDS], t: u16) -> Case
 
 // Case j with its inputs.
 fn put_case(w: &mut [u16; WORDS], j: u16, x: Case, vs: &[u16; 4])
-    ensures { λ _. ⌜ now (w .exit) ≡ sections.«stored-all» (now (w .entry)) sections.cases (10 * j)
+    ensures { λ _. ⌜ now (w .exit) ≡ sections.«stored-all» (now (w .entry)) sections.cases (rows.«case-row-at» j)
         (tables.«case-words» x ++ now (vs .entry)) ⌝ }
 {
     set_case(w, j, x);

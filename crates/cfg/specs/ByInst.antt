@@ -1,7 +1,7 @@
 -- What a terminator makes of its targets, as the words alone have it.
 use mathlib.Core.Path.{_≡_}
 use mathlib.Core.List.{List}
-use Prim.Native.Nat.{ℕ, _+_, _*_}
+use Prim.Native.Nat.{ℕ}
 use lib.Dec.{eqb}
 use lib.ListN.{length, getD}
 use Rattle.meaning.specs.Graph.{Graph, region, edges-of, no-value}
@@ -12,8 +12,8 @@ use Rattle.fields.specs.declared.shape.Value.{Value}
 use Rattle.fields.specs.declared.shape.Terminator.the-variants.{Unreachable, Return, ExitInvocation, Branch, SelectBool, SelectNumber}
 use Rattle.state.specs.declared.defined.Defined.the-variants.{Number}
 use Rattle.state.specs.declared.defined.Defined.the-variants as defined
-use Rattle.state.specs.Sections.{word, stored, kinds, backedges, children, bundles, set-starts, set-lengths, nodes-at}
-use Rattle.state.specs.Tables.{Adds, Defines, bundle-at, case-row, no-bundle-word}
+use Rattle.state.specs.Sections.{word, stored, kinds, backedges, children, set-starts, set-lengths}
+use Rattle.state.specs.Tables.{Adds, Defines, bundle-at, case-row}
 use Rattle.state.specs.Values.{value-word}
 use Rattle.bundles.specs.Words.{condition-in, return-deferred, cases-filled, split-filled, Appends}
 use Rattle.state.specs.declared.defined.Made.{Made}
@@ -23,6 +23,7 @@ use Rattle.selects.specs.Into.{StructurizesInto}
 use Rattle.cfg.specs.ByState.{backedge-at}
 use Rattle.state.specs.declared.cells.Cell.the-variants.{Blocks, Exit}
 use Rattle.nesting.specs.Nesting.{most-nodes}
+use Rattle.state.specs.Rows.{bundle-count, kind-ready, no-bundle-word, nodes-at}
 
 pub data AddsBlocks (g : Graph) (w : List ℕ) (r : ℕ) (w′ : List ℕ) : Type 0 where
   no-blocks : length (region g r .blocks) ≡ 0 → w′ ≡ stored w children r 0 → AddsBlocks g w r w′
@@ -71,7 +72,7 @@ pub data ResolvesBy (g : Graph) (w : List ℕ) (r i : ℕ) (w′ : List ℕ) (a 
   resolves : StructurizesInto g r 0 (scrutinee.Lazy (own-condition w r i)) (split-filled g w r i) w′ a → ResolvesBy g w r i w′ a
 
 unfoldable pub backedges-deferred : List ℕ → ℕ → ℕ
-backedges-deferred w r = pick (eqb (backedge-at w r) no-bundle-word) 0 (word w bundles (7 * backedge-at w r + 1))
+backedges-deferred w r = pick (eqb (backedge-at w r) no-bundle-word) 0 (bundle-count w (backedge-at w r))
 
 abbrev pub made-ready : List ℕ → ℕ → List ℕ
-made-ready w r = stored (stored w backedges r (backedges-deferred w r)) kinds r 2
+made-ready w r = stored (stored w backedges r (backedges-deferred w r)) kinds r kind-ready

@@ -7,12 +7,13 @@ use lib.Dec.{eqb}
 use Rattle.meaning.specs.Graph.{Graph}
 use Rattle.meaning.specs.Lists.{pick}
 use Rattle.state.specs.Sections.{word, stored, kinds, backedges, bodies, children, set-starts, set-lengths}
-use Rattle.state.specs.Tables.{find-by, no-bundle-word}
+use Rattle.state.specs.Tables.{find-by}
 use Rattle.state.specs.declared.defined.Made.{Made}
 use Rattle.state.specs.declared.defined.Made.the-variants.{Done, Full}
 use Rattle.loops.specs.Loops.{StructurizesLoop}
 use Rattle.cfg.specs.declared.claim.Claim.{Claim}
 use Rattle.cfg.specs.declared.claim.Claim.the-variants.{Claimed, Unclaimed, Refused}
+use Rattle.state.specs.Rows.{kind-claimed, kind-in-progress, kind-ready, no-bundle-word, region-kind}
 
 abbrev pub claim-of : Made → Claim
 claim-of Done = Claimed
@@ -23,7 +24,7 @@ backedge-at w r = find-by w (word w set-starts r) r (word w set-lengths r) 0
 
 -- Region r's state is claimed, and it is its own structured body.
 abbrev pub as-claimed : List ℕ → ℕ → List ℕ
-as-claimed w r = stored (stored w kinds r 3) bodies r r
+as-claimed w r = stored (stored w kinds r kind-claimed) bodies r r
 
 pub data ClaimsBody (g : Graph) (w : List ℕ) (r : ℕ) (w′ : List ℕ) : Claim → Type 0 where
   no-backedges : word (as-claimed w r) backedges r ≡ 0 → w′ ≡ as-claimed w r → ClaimsBody g w r w′ Claimed
@@ -33,15 +34,17 @@ pub data ClaimsBody (g : Graph) (w : List ℕ) (r : ℕ) (w′ : List ℕ) : Cla
       → StructurizesLoop r (backedge-at (as-claimed w r) r) (as-claimed w r) w′ made → a ≡ claim-of made → ClaimsBody g w r w′ a
 
 pub data ClaimsByState (g : Graph) (w : List ℕ) (r n incoming : ℕ) (w′ : List ℕ) : Claim → Type 0 where
-  ready-claimed : {a : Claim} → word w kinds r ≡ 2 → incoming ≡ n + word w backedges r → ClaimsBody g w r w′ a
+  ready-claimed : {a : Claim} → region-kind w r ≡ kind-ready → incoming ≡ n + word w backedges r → ClaimsBody g w r w′ a
       → ClaimsByState g w r n incoming w′ a
-  ready-waits : word w kinds r ≡ 2 → (incoming ≡ n + word w backedges r → ⊥) → w′ ≡ w → ClaimsByState g w r n incoming w′ Unclaimed
-  busy-claimed : word w kinds r ≡ 1 → incoming ≡ n → w′ ≡ w → ClaimsByState g w r n incoming w′ (Refused 12 r)
-  busy-waits : word w kinds r ≡ 1 → (incoming ≡ n → ⊥) → w′ ≡ w → ClaimsByState g w r n incoming w′ Unclaimed
-  other-state : (word w kinds r ≡ 2 → ⊥) → (word w kinds r ≡ 1 → ⊥) → w′ ≡ w → ClaimsByState g w r n incoming w′ (Refused 12 r)
+  ready-waits : region-kind w r ≡ kind-ready → (incoming ≡ n + word w backedges r → ⊥) → w′ ≡ w
+      → ClaimsByState g w r n incoming w′ Unclaimed
+  busy-claimed : region-kind w r ≡ kind-in-progress → incoming ≡ n → w′ ≡ w → ClaimsByState g w r n incoming w′ (Refused 12 r)
+  busy-waits : region-kind w r ≡ kind-in-progress → (incoming ≡ n → ⊥) → w′ ≡ w → ClaimsByState g w r n incoming w′ Unclaimed
+  other-state : (region-kind w r ≡ kind-ready → ⊥) → (region-kind w r ≡ kind-in-progress → ⊥) → w′ ≡ w
+      → ClaimsByState g w r n incoming w′ (Refused 12 r)
 
 unfoldable pub is-trivial : List ℕ → ℕ → Bool
-is-trivial w t = pick (eqb (word w kinds t) 2) (pick (eqb (word w set-lengths t) 0) (eqb (word w children t) 0) false) false
+is-trivial w t = pick (eqb (region-kind w t) kind-ready) (pick (eqb (word w set-lengths t) 0) (eqb (word w children t) 0) false) false
 
 -- How the edge to a region that was not claimed is taken.
 abbrev pub unclaimed-word : List ℕ → ℕ → ℕ

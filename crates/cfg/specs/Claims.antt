@@ -1,13 +1,13 @@
 -- Claims and regions, which call each other, as the words alone have them: what each call does, told by what the calls in it do.
 use mathlib.Core.Path.{_≡_}
 use mathlib.Core.List.{List}
-use Prim.Native.Nat.{ℕ, suc, _+_, _*_, _-_, _≤_, _<_}
+use Prim.Native.Nat.{ℕ, suc, _-_, _≤_, _<_}
 use lib.ListN.{length, getD}
 use Rattle.meaning.specs.Graph.{Graph, region, edges-of}
 use Rattle.record.specs.Stands.{Stands}
 use Rattle.fields.specs.ByNumber.{edge-of}
-use Rattle.state.specs.Sections.{word, stored, kinds, bundles, set-lengths, used}
-use Rattle.state.specs.Tables.{attempted, taken-stored, return-word}
+use Rattle.state.specs.Sections.{word, stored, kinds, set-lengths, used}
+use Rattle.state.specs.Tables.{attempted, taken-stored}
 use Rattle.state.specs.declared.defined.Made.the-variants as made
 use Rattle.cfg.specs.declared.claim.Claim.{Claim}
 use Rattle.cfg.specs.declared.claim.Claim.the-variants.{Claimed, Unclaimed, Refused}
@@ -17,6 +17,7 @@ use Rattle.cfg.specs.SplitOut.{SplitOut}
 use Rattle.cfg.specs.SplitOut as split
 use Rattle.cfg.specs.ByState.{ClaimsByState, unclaimed-word}
 use Rattle.cfg.specs.ByInst.{ByControlInst, ResolvesBy, own-bundle, made-ready}
+use Rattle.state.specs.Rows.{bundle-count, bundle-target, kind-in-progress, kind-not-begun, level-claimed, region-kind, return-word}
 
 -- A record stands in the words.
 pub record Stood (w : List ℕ) : Type 0 where
@@ -26,17 +27,17 @@ pub record Stood (w : List ℕ) : Type 0 where
 
 pub record NotBegun (w : List ℕ) (r : ℕ) : Type 0 where
   pub below : r < 32
-  pub kind : word w kinds r ≡ 0
+  pub kind : region-kind w r ≡ kind-not-begun
 
 abbrev pub target-count : Graph → ℕ → ℕ
 target-count g r = length (edges-of (region g r .terminator))
 
 -- Target and count of bundle i of region r's set.
 abbrev pub own-target : List ℕ → ℕ → ℕ → ℕ
-own-target w r i = word w bundles (7 * own-bundle w r i + 0)
+own-target w r i = bundle-target w (own-bundle w r i)
 
 abbrev pub own-count : List ℕ → ℕ → ℕ → ℕ
-own-count w r i = word w bundles (7 * own-bundle w r i + 1)
+own-count w r i = bundle-count w (own-bundle w r i)
 
 mutual
   -- A claim of region r with n edges.
@@ -47,18 +48,19 @@ mutual
     first-claim : {w w₁ w′ : List ℕ} {r n : ℕ} {a : Claim} → NotBegun (attempted w) r
         → StructurizesRegion g counts (attempted w) r w₁ step.Right
         → ClaimsByState g w₁ r n (getD counts r 0) w′ a → TriesClaim g counts w r n w′ a
-    later-claim : {w w′ : List ℕ} {r n : ℕ} {a : Claim} → r < 32 → (word (attempted w) kinds r ≡ 0 → ⊥)
+    later-claim : {w w′ : List ℕ} {r n : ℕ} {a : Claim} → r < 32 → (region-kind (attempted w) r ≡ kind-not-begun → ⊥)
         → ClaimsByState g (attempted w) r n (getD counts r 0) w′ a → TriesClaim g counts w r n w′ a
 
   pub data StructurizesRegion (g : Graph) (counts : List ℕ) : List ℕ → ℕ → List ℕ → Checked → Type 0 where
-    refused-at-targets : {w w′ : List ℕ} {r number x : ℕ} → TargetRegions g counts (stored w kinds r 1) r 0 w′ (step.Refused number x)
+    refused-at-targets : {w w′ : List ℕ} {r number x : ℕ}
+        → TargetRegions g counts (stored w kinds r kind-in-progress) r 0 w′ (step.Refused number x)
         → StructurizesRegion g counts w r w′ (step.Refused number x)
-    refused-at-inst : {w w₁ w′ : List ℕ} {r : ℕ} → TargetRegions g counts (stored w kinds r 1) r 0 w₁ step.Right
+    refused-at-inst : {w w₁ w′ : List ℕ} {r : ℕ} → TargetRegions g counts (stored w kinds r kind-in-progress) r 0 w₁ step.Right
         → ByControlInst g w₁ r w′ made.Full → StructurizesRegion g counts w r w′ (step.Refused 9 0)
-    refused-at-edges : {w w₁ w₂ w′ : List ℕ} {r number x : ℕ} → TargetRegions g counts (stored w kinds r 1) r 0 w₁ step.Right
+    refused-at-edges : {w w₁ w₂ w′ : List ℕ} {r number x : ℕ} → TargetRegions g counts (stored w kinds r kind-in-progress) r 0 w₁ step.Right
         → ByControlInst g w₁ r w₂ made.Done → ResolvesAll g counts w₂ r w′ (step.Refused number x)
         → StructurizesRegion g counts w r w′ (step.Refused number x)
-    structurized : {w w₁ w₂ w₃ w′ : List ℕ} {r : ℕ} → TargetRegions g counts (stored w kinds r 1) r 0 w₁ step.Right
+    structurized : {w w₁ w₂ w₃ w′ : List ℕ} {r : ℕ} → TargetRegions g counts (stored w kinds r kind-in-progress) r 0 w₁ step.Right
         → ByControlInst g w₁ r w₂ made.Done → ResolvesAll g counts w₂ r w₃ step.Right → w′ ≡ made-ready w₃ r
         → StructurizesRegion g counts w r w′ step.Right
 
@@ -70,7 +72,7 @@ mutual
         → TargetRegions g counts w r j w′ (step.Refused number x)
     target-claimed : {w w₁ w′ : List ℕ} {r j : ℕ} {a : Checked} → j < target-count g r
         → TriesClaim g counts w (edge-of g r j .target) 1 w₁ Claimed
-        → TargetRegions g counts (taken-stored w₁ r j 2) r (suc j) w′ a → TargetRegions g counts w r j w′ a
+        → TargetRegions g counts (taken-stored w₁ r j level-claimed) r (suc j) w′ a → TargetRegions g counts w r j w′ a
     target-waits : {w w₁ w′ : List ℕ} {r j : ℕ} {a : Checked} → j < target-count g r
         → TriesClaim g counts w (edge-of g r j .target) 1 w₁ Unclaimed
         → TargetRegions g counts (taken-stored w₁ r j (unclaimed-word w₁ (edge-of g r j .target))) r (suc j) w′ a

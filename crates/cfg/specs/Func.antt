@@ -15,7 +15,7 @@ use Rattle.cfg.specs.declared.claim.Claim.the-variants as claim
 use Rattle.cfg.specs.declared.func.Nested.{Nested}
 use Rattle.cfg.specs.declared.func.Nested.the-variants.{Untouched, Whole, Closed, Leftover, Refused}
 use Rattle.cfg.specs.Claims.{own-target, TriesClaim}
-use Rattle.state.specs.Tables.{return-word}
+use Rattle.state.specs.Rows.{return-word}
 
 -- By the entry's set: none, Return alone, or another.
 pub data Outcomes (w : List ℕ) (entry : ℕ) : Nested → Type 0 where

@@ -8,11 +8,11 @@ use Rattle.format.specs.Store.{Answer, accepted, refused}
 use Rattle.nesting.specs.Nesting.{Nested, Outcome, untouched, whole, closed, leftover, outcome-of, conclude-by, NestState}
 use Rattle.nesting.specs.Nesting.{initial-state, Body}
 use Rattle.nesting.specs.lookups.ChainEnds.{ChainsEnd}
-use Rattle.state.specs.Sections.{word, kinds}
 use Rattle.shown.specs.Front.{SameFront}
 use Rattle.shown.specs.States.{ShowsState, ShowsBody}
 use Rattle.cfg.specs.declared.func.Nested as code
 use Rattle.cfg.specs.declared.func.Nested.the-variants.{Untouched, Whole, Closed, Leftover, Refused}
+use Rattle.state.specs.Rows.{kind-claimed, region-kind}
 
 abbrev pub outcome-code : Outcome → code.Nested
 outcome-code untouched = Untouched
@@ -26,7 +26,7 @@ pub data ShowsNested (g : Graph) (before w : List ℕ) (b : Answer Nested) : cod
   shows-untouched : SameFront before w → ShowsState g w (initial-state g) → b ≡ accepted (conclude-by g (initial-state g) ⟨⟩ [] untouched)
       → ShowsNested g before w b Untouched
   shows-nested : {s : NestState} {x : Body} {a : code.Nested} → SameFront before w → ShowsState g w s
-      → ((r : ℕ) → ChainsEnd (s .region-input-rewrites) r) → word w kinds (g .entry) ≡ 3 → ShowsBody g w (g .entry) x
+      → ((r : ℕ) → ChainsEnd (s .region-input-rewrites) r) → region-kind w (g .entry) ≡ kind-claimed → ShowsBody g w (g .entry) x
       → b ≡ accepted (conclude-by g s (x .children) (x .deferred-edges) (outcome-of (x .deferred-edges)))
       → a ≡ outcome-code (outcome-of (x .deferred-edges)) → ShowsNested g before w b a
   shows-refused : {number x : ℕ} → SameFront before w → b ≡ refused number x → ShowsNested g before w b (Refused number x)

@@ -2,7 +2,7 @@
 use mathlib.Core.Path.{_≡_, refl, sym, ap, _∙_}
 use mathlib.Core.Bool.{Bool, true, false}
 use mathlib.Core.List.{List, [], _∷_, _++_, map, map-append}
-use Prim.Native.Nat.{ℕ, _+_, _≤_}
+use Prim.Native.Nat.{ℕ, _≤_}
 use native.Mathlib.Omega.{arith}
 use lib.ListN.{length, getD, length-map}
 use borrow.Author.Tests.{lt-ltb}
@@ -11,7 +11,7 @@ use Rattle.meaning.specs.Lists.{pick}
 use Rattle.nesting.specs.Nesting.{NestState, plain, LoopInputs}
 use Rattle.state.specs.Sections.{section, cells}
 use Rattle.state.specs.Values.{region-word, input-from}
-use Rattle.state.specs.CellRows.{earlier, cell-before, kept-input, kept-wrapper, kept-back}
+use Rattle.state.specs.Rows.{earlier, cell-before, kept-input, kept-wrapper, kept-back}
 use Rattle.shown.specs.Values.{value}
 use Rattle.shown.specs.laws.ValueWords.{value-input}
 use Rattle.shown.specs.Cells.{ShowsKept, none-kept, one-kept}

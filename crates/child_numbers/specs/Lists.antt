@@ -10,7 +10,7 @@ use Rattle.record.specs.Stands.{OfRecord}
 use Rattle.nesting.specs.Nesting.{plain, blocks-of}
 use Rattle.nesting.specs.Sheet.{kids}
 use Rattle.state.specs.Sections.{section, cells}
-use Rattle.state.specs.CellRows.{tag-join, cell-tag}
+use Rattle.state.specs.Rows.{tag-join, cell-tag}
 use Rattle.shown.specs.Cells.{ShowsNodes}
 use Rattle.children.specs.CellByCell.{CellAdded}
 use Rattle.writing.specs.declared.place.Place.{Place}

@@ -9,10 +9,10 @@ use Rattle.meaning.specs.Graph.{Value, SelectionKind, Graph, region, exit-invoc
 use Rattle.meaning.specs.Runs.{Nodes, ⟨⟩, _▸_, Cases, loop, exit, case-count}
 use Rattle.nesting.specs.Nesting.{join, blocks-of, new-case, new-select, LoopInputs, loop-node}
 use Rattle.state.specs.Sections.{section, cells}
-use Rattle.state.specs.CellRows as rows
-use Rattle.state.specs.CellRows.{tag-blocks, tag-join, tag-exit, tag-select, tag-loop, cell-tag, cell-before, blocks-region}
-use Rattle.state.specs.CellRows.{join-list, exit-node, exit-region, select-node, select-shape, select-scrutinee, select-cases}
-use Rattle.state.specs.CellRows.{loop-body, loop-header, loop-repeat, loop-kept, cases-after, case-region, children-of-case}
+use Rattle.state.specs.Rows as rows
+use Rattle.state.specs.Rows.{tag-blocks, tag-join, tag-exit, tag-select, tag-loop, cell-tag, cell-before, blocks-region}
+use Rattle.state.specs.Rows.{join-list, exit-node, exit-region, select-node, select-shape, select-scrutinee, select-cases}
+use Rattle.state.specs.Rows.{loop-body, loop-header, loop-repeat, loop-kept, cases-after, case-region, children-of-case}
 use Rattle.shown.specs.Values.{value}
 use Rattle.shown.specs.Tables.{ShowsShape}
 use Rattle.shown.specs.Cells.{ShowsKept, ShowsNodes}

@@ -10,7 +10,7 @@ use Rattle.nesting.specs.Sheet.{figure, dearest}
 use Rattle.record.specs.Stands.{OfRecord}
 use Rattle.fields.specs.ByNumber.{block-of}
 use Rattle.state.specs.Sections.{section, cells}
-use Rattle.state.specs.CellRows.{cell-tag}
+use Rattle.state.specs.Rows.{cell-tag}
 use Rattle.shown.specs.Cells.{ShowsNodes, ShowsCaseCells}
 use Rattle.children.specs.CellByCell.{CellAdded}
 use Rattle.figure.specs.laws.Nodes.{block-cost}

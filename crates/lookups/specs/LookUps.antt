@@ -2,14 +2,15 @@
 use mathlib.Core.Path.{_≡_}
 use mathlib.Core.Bool.{Bool, true, false, not}
 use mathlib.Core.List.{List}
-use Prim.Native.Nat.{ℕ, zero, suc, _+_, _*_, _-_}
+use Prim.Native.Nat.{ℕ, zero, suc, _+_, _-_}
 use lib.Dec.{eqb}
-use Rattle.state.specs.Sections.{word, stored, head, rewrites, twice-at}
+use Rattle.state.specs.Sections.{stored, head}
 use Rattle.state.specs.Tables.{rewrite-kind}
 use Rattle.state.specs.Values.{is-input, is-held, input-region, input-index}
 use Rattle.lookups.specs.declared.look_up.LookUp.{LookUp}
 use Rattle.meaning.specs.Lists.{pick}
 use Rattle.nesting.specs.Nesting.{most-regions}
+use Rattle.state.specs.Rows.{rewrite-value, twice-at}
 
 abbrev pub plain : ℕ → LookUp
 plain x = record { value = x; twice = false }
@@ -19,7 +20,7 @@ abbrev pub kind-at : List ℕ → ℕ → ℕ
 kind-at l x = rewrite-kind l (input-region x)
 
 abbrev pub entry-at : List ℕ → ℕ → ℕ
-entry-at l x = word l rewrites (5 * input-region x + 1 + input-index x)
+entry-at l x = rewrite-value l (input-region x) (input-index x)
 
 unfoldable pub changes-again : List ℕ → ℕ → Bool
 changes-again l v = pick (eqb (kind-at l v) 0) false (pick (eqb (kind-at l v) 1) true (not (eqb (entry-at l v) v)))

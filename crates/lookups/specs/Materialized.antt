@@ -2,32 +2,33 @@
 use mathlib.Core.Path.{_≡_}
 use mathlib.Core.Bool.{Bool, true, false}
 use mathlib.Core.List.{List}
-use Prim.Native.Nat.{ℕ, _+_, _*_, _≤_, _<_}
+use Prim.Native.Nat.{ℕ, _+_, _≤_, _<_}
 use lib.ListN.{getD, set, replicate}
 use lib.Dec.{eqb}
 use Rattle.state.specs.declared.defined.Defined.{Defined}
 use Rattle.state.specs.declared.defined.Defined.the-variants.{Number, Full}
-use Rattle.state.specs.Sections.{word, conditions}
 use Rattle.state.specs.Values.{output-word, undef-word}
-use Rattle.state.specs.Tables.{earlier-part, shape-size, select-word, OutputDefined}
+use Rattle.state.specs.Tables.{earlier-part, shape-size, OutputDefined}
 use Rattle.meaning.specs.Lists.{pick}
+use Rattle.state.specs.Values.{undef-from}
+use Rattle.state.specs.Rows.{merge-node, merge-part, merge-scrutinee, merge-shape}
 
 unfoldable pub is-scrutinee : ℕ → List ℕ → Bool
 is-scrutinee shape vs = pick (eqb shape 0) (pick (eqb (getD vs 0 0) 65) (eqb (getD vs 1 0) 64) false) false
 
 abbrev pub shape-at : List ℕ → ℕ → ℕ
-shape-at l c = select-word l c 3
+shape-at l c = merge-shape l c
 
 abbrev pub part-at : List ℕ → ℕ → ℕ → ℕ
-part-at l c j = earlier-part (word l conditions (9 * c + (1 + j))) c
+part-at l c j = earlier-part (merge-part l c j) c
 
 -- The parts' values put together: the scrutinee of record c, or a new output of its select.
 pub data Merges (l : List ℕ) (c : ℕ) (vs l′ : List ℕ) : Defined → Type 0 where
-  the-scrutinee : {x : ℕ} → is-scrutinee (shape-at l c) vs ≡ true → x ≡ select-word l c 4 → l′ ≡ l
+  the-scrutinee : {x : ℕ} → is-scrutinee (shape-at l c) vs ≡ true → x ≡ merge-scrutinee l c → l′ ≡ l
       → Merges l c vs l′ (Number x)
-  new-output : {o x : ℕ} → is-scrutinee (shape-at l c) vs ≡ false → OutputDefined (select-word l c 2) 1 vs l l′ (Number o)
+  new-output : {o x : ℕ} → is-scrutinee (shape-at l c) vs ≡ false → OutputDefined (merge-node l c) 1 vs l l′ (Number o)
       → x ≡ output-word o → Merges l c vs l′ (Number x)
-  no-output : is-scrutinee (shape-at l c) vs ≡ false → OutputDefined (select-word l c 2) 1 vs l l′ Full → Merges l c vs l′ Full
+  no-output : is-scrutinee (shape-at l c) vs ≡ false → OutputDefined (merge-node l c) 1 vs l l′ Full → Merges l c vs l′ Full
 
 mutual
   -- From words l condition c is made real; l′ are the words then.
@@ -43,7 +44,7 @@ mutual
 
   -- The first j parts of record c are made: the words then, and the values in eight words.
   pub data PartsMade : List ℕ → ℕ → ℕ → List ℕ → List ℕ → Type 0 where
-    no-part : {l l₁ vs : List ℕ} {c j : ℕ} → j ≡ 0 → l₁ ≡ l → vs ≡ replicate 8 66 → PartsMade l c j l₁ vs
+    no-part : {l l₁ vs : List ℕ} {c j : ℕ} → j ≡ 0 → l₁ ≡ l → vs ≡ replicate 8 undef-from → PartsMade l c j l₁ vs
     part-more : {l l₁ l₂ vs ws : List ℕ} {c j i p v : ℕ} → PartsMade l c j l₁ vs → j < shape-size (shape-at l c) → p ≡ part-at l₁ c j
         → Materializes l₁ p l₂ (Number v)
         → i ≡ j + 1 → ws ≡ set vs j v → PartsMade l c i l₂ ws

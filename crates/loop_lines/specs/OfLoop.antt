@@ -5,9 +5,9 @@ use Prim.Native.Nat.{ℕ}
 use Rattle.meaning.specs.Graph.{Value, Graph}
 use Rattle.meaning.specs.Runs.{Nodes, LoopNode}
 use Rattle.nesting.specs.Nesting.{LoopInputs, loop-node}
-use Rattle.state.specs.CellRows as rows
+use Rattle.state.specs.Rows as rows
 use Rattle.state.specs.Sections.{section, cells}
-use Rattle.state.specs.CellRows.{loop-body, loop-header, loop-repeat, loop-kept}
+use Rattle.state.specs.Rows.{loop-body, loop-header, loop-repeat, loop-kept}
 use Rattle.shown.specs.Values.{value}
 use Rattle.shown.specs.Cells.{ShowsNodes}
 use Rattle.child_numbers.specs.Kept.{KeepsInputs}

@@ -1,19 +1,20 @@
 -- ONE for each deferred target of a loop's exit list, as the words and the graph have it.
 use mathlib.Core.Path.{_≡_}
 use mathlib.Core.List.{List}
-use Prim.Native.Nat.{ℕ, zero, suc, _+_, _*_, _-_}
+use Prim.Native.Nat.{ℕ, zero, suc, _+_, _-_}
 use Rattle.meaning.specs.Graph.{Graph}
 use Rattle.meaning.specs.Lists.{pick, is-in}
 use Rattle.state.specs.Sections.{word, stored, bundles, set-starts, set-lengths}
 use Rattle.nesting.specs.Nesting.{exit-targets}
 use Rattle.state.specs.Tables.{bundle-at, edges-word}
 use Rattle.shown.specs.Front.{SameKinds}
+use Rattle.state.specs.Rows.{bundle-count, bundle-count-at, bundle-target}
 
 -- Of loop r, in bundle p.
 unfoldable pub exit-added : Graph → ℕ → ℕ → List ℕ → List ℕ
 exit-added g r p l =
-    let n = word l bundles (7 * p + 1) in
-    pick (is-in (word l bundles (7 * p + 0)) (exit-targets g r)) (stored l bundles (7 * p + 1) (edges-word (n + 1))) l
+    let n = bundle-count l p in
+    pick (is-in (bundle-target l p) (exit-targets g r)) (stored l bundles (bundle-count-at p) (edges-word (n + 1))) l
 
 -- In k bundles from place i on.
 unfoldable pub exits-from : Graph → ℕ → ℕ → ℕ → ℕ → List ℕ → List ℕ

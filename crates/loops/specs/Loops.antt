@@ -7,7 +7,6 @@ use Rattle.meaning.specs.Graph.{region}
 use Rattle.record.specs.Stands.{OfRecord}
 use Rattle.state.specs.declared.defined.Defined.the-variants.{Number, Full}
 use Rattle.state.specs.Sections.{word, stored, set-lengths, children, bodies}
-use Rattle.state.specs.Sections.{regions-at, nodes-at}
 use Rattle.state.specs.Tables.{Adds, Defines, inserted, swap-removed}
 use Rattle.state.specs.declared.cells.Cell.the-variants.{Loop}
 use Rattle.lookups.specs.Materialized.{Materializes}
@@ -17,6 +16,7 @@ use Rattle.bundles.specs.Words.{condition-in}
 use Rattle.loops.specs.Inputs.{RewritesValues, TakesInputs, backedge-inputs}
 use Rattle.loops.specs.Exits.{exits-added}
 use Rattle.nesting.specs.Nesting.{most-regions, most-nodes}
+use Rattle.state.specs.Rows.{entry-renumber, nodes-at, regions-at}
 
 -- The loop's cell takes the place of region r's children.
 pub data AddsLoop (r node repeat kept : ℕ) (l l′ : List ℕ) : Type 0 where
@@ -33,7 +33,8 @@ pub data LoopDefined (r c kept : ℕ) (l l′ : List ℕ) : Made → Type 0 wher
 
 -- Header r's n inputs looked up, taken and entered; h is the list of kept inputs.
 pub data EntersInputs (r wrapper n : ℕ) (l vs l′ : List ℕ) (h : ℕ) : Type 0 where
-  enters : {l₁ l₂ us ws : List ℕ} → RewritesValues n 4 l vs l₁ us → TakesInputs r wrapper n l₁ us l₂ ws h → l′ ≡ inserted l₂ r 2 ws
+  enters : {l₁ l₂ us ws : List ℕ} → RewritesValues n 4 l vs l₁ us → TakesInputs r wrapper n l₁ us l₂ ws h
+      → l′ ≡ inserted l₂ r entry-renumber ws
       → EntersInputs r wrapper n l vs l′ h
 
 -- Region r, whose back edge is bundle p, leaves its set, and the wrapper, the inputs and the loop are made in this order.

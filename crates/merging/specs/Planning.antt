@@ -1,28 +1,30 @@
 -- What the cases pass to a target, and what of it is the same in all, as the words and the graph have it.
 use mathlib.Core.Bool.{Bool, true, false}
 use mathlib.Core.List.{List}
-use Prim.Native.Nat.{ℕ, zero, suc, _+_, _*_, _-_}
+use Prim.Native.Nat.{ℕ, zero, suc, _-_}
 use lib.ListN.{getD, set, replicate}
 use lib.Dec.{ltb, eqb}
 use Rattle.meaning.specs.Lists.{pick}
 use Rattle.meaning.specs.Graph.{Graph}
-use Rattle.state.specs.Sections.{word, stored, set-starts, set-lengths, cases, bundles}
+use Rattle.state.specs.Sections.{word, stored, set-starts, set-lengths, bundles}
 use Rattle.state.specs.Values.{is-input, input-region, input-index, output-from}
-use Rattle.state.specs.Tables.{input-word, input-stored, find-by, bundle-at, case-total, no-bundle-word}
+use Rattle.state.specs.Tables.{input-word, input-stored, find-by, bundle-at, case-total}
 use Rattle.merging.specs.Turns.{turned}
 use Rattle.bundles.specs.Words.{input-count, condition-in}
+use Rattle.state.specs.Rows.{bundle-condition-at, bundle-target, case-body, case-claimed, case-input, case-kind, case-set-length}
+use Rattle.state.specs.Rows.{case-set-start, condition-false, condition-true, condition-undef, no-bundle-word, spare-slot}
 
 -- The bundle of case j to target t.
 abbrev pub place-of : List ℕ → ℕ → ℕ → ℕ
-place-of l t j = find-by l (word l cases (10 * j + 4)) t (word l cases (10 * j + 5)) 0
+place-of l t j = find-by l (case-set-start l j) t (case-set-length l j) 0
 
 unfoldable pub per-case-deferred : List ℕ → ℕ → List ℕ
 per-case-deferred l t = turned (λ ps j. set ps j (place-of l t j)) (replicate 8 0) (case-total l) 0
 
 unfoldable pub per-case-condition : List ℕ → ℕ → ℕ → ℕ
 per-case-condition l j p =
-    let n = word l cases (10 * j + 5) in
-    pick (eqb n 0) 3 (pick (eqb p no-bundle-word) 2 (condition-in l p n))
+    let n = case-set-length l j in
+    pick (eqb n 0) condition-undef (pick (eqb p no-bundle-word) condition-false (condition-in l p n))
 
 -- An input that is still to be merged; while cases are gone through, one that none of them passed.
 abbrev pub to-merge : ℕ
@@ -30,8 +32,8 @@ to-merge = 65535
 
 unfoldable pub in-parent : List ℕ → ℕ → ℕ → ℕ
 in-parent l j v =
-    let of-body = pick (eqb (input-region v) (word l cases (10 * j + 2))) (word l cases (10 * j + (6 + input-index v))) to-merge in
-    pick (eqb (word l cases (10 * j + 0)) 2) (pick (ltb v output-from) v (pick (is-input v) of-body to-merge)) v
+    let of-body = pick (eqb (input-region v) (case-body l j)) (case-input l j (input-index v)) to-merge in
+    pick (eqb (case-kind l j) case-claimed) (pick (ltb v output-from) v (pick (is-input v) of-body to-merge)) v
 
 -- What case j passes as input k, where its bundle is p.
 abbrev pub passed-by : List ℕ → ℕ → ℕ → ℕ → ℕ
@@ -53,7 +55,7 @@ abbrev pub unique-input : List ℕ → List ℕ → ℕ → ℕ
 unique-input l ps k = unique-from l ps k (case-total l) 0 to-merge
 
 unfoldable pub is-true : ℕ → Bool
-is-true c = pick (eqb c 1) true (eqb c 3)
+is-true c = pick (eqb c condition-true) true (eqb c condition-undef)
 
 unfoldable pub all-from : List ℕ → List ℕ → ℕ → ℕ → Bool
 all-from l ps zero j = true
@@ -78,17 +80,17 @@ abbrev pub also : (List ℕ → ℕ → Planned) → Planned → ℕ → Planned
 also f x i = let y = f (x .words) i in planned (y .words) (pick (y .needed) true (x .needed))
 
 unfoldable pub plan-inputs : Graph → List ℕ → ℕ → List ℕ → Planned
-plan-inputs g l q ps = turned (also (λ m k. plan-input m q ps k)) (planned l false) (input-count g l (word l bundles (7 * q + 0))) 0
+plan-inputs g l q ps = turned (also (λ m k. plan-input m q ps k)) (planned l false) (input-count g l (bundle-target l q)) 0
 
 unfoldable pub plan-bundle : Graph → List ℕ → ℕ → Planned
 plan-bundle g l q =
-    let ps = per-case-deferred l (word l bundles (7 * q + 0)) in
+    let ps = per-case-deferred l (bundle-target l q) in
     let x = plan-inputs g l q ps in
-    pick (all-true (x .words) ps) x (planned (stored (x .words) bundles (7 * q + 2) 0) true)
+    pick (all-true (x .words) ps) x (planned (stored (x .words) bundles (bundle-condition-at q) 0) true)
 
 -- Bundle i of those from `start` on.
 abbrev pub plan-at : ℕ → Graph → Planned → ℕ → Planned
 plan-at start g = also (λ m i. plan-bundle g m (bundle-at start i))
 
 unfoldable pub plan-bundles : Graph → List ℕ → Planned
-plan-bundles g l = turned (plan-at (word l set-starts 32) g) (planned l false) (word l set-lengths 32) 0
+plan-bundles g l = turned (plan-at (word l set-starts spare-slot) g) (planned l false) (word l set-lengths spare-slot) 0

@@ -1,15 +1,17 @@
 -- The values of the cases looked up, as the words and the graph have it.
 use mathlib.Core.List.{List}
-use Prim.Native.Nat.{ℕ, _+_, _*_, _-_}
+use Prim.Native.Nat.{ℕ, _-_}
 use lib.ListN.{length}
 use lib.Dec.{eqb}
 use Rattle.meaning.specs.Lists.{pick}
 use Rattle.meaning.specs.Graph.{Graph, region}
-use Rattle.state.specs.Sections.{word, stored, head, cases, bundles, twice-at}
+use Rattle.state.specs.Sections.{stored, head, cases}
 use Rattle.state.specs.Tables.{input-word, input-stored, bundle-at, case-total}
 use Rattle.lookups.specs.LookUps.{look-up}
 use Rattle.merging.specs.Turns.{turned}
 use Rattle.bundles.specs.Words.{input-count}
+use Rattle.state.specs.Rows.{bundle-target, case-claimed, case-input, case-input-at, case-kind, case-origin, case-set-length}
+use Rattle.state.specs.Rows.{case-set-start, twice-at}
 
 -- The words with the note of a look-up taken.
 unfoldable pub noted : List ℕ → ℕ → List ℕ
@@ -20,25 +22,25 @@ rewrite-input l p k = input-stored (noted l (input-word l p k)) p k (look-up l (
 
 unfoldable pub rewrite-case-input : List ℕ → ℕ → ℕ → List ℕ
 rewrite-case-input l j k =
-    let v = word l cases (10 * j + (6 + k)) in
-    stored (noted l v) cases (10 * j + (6 + k)) (look-up l v .value)
+    let v = case-input l j k in
+    stored (noted l v) cases (case-input-at j k) (look-up l v .value)
 
 unfoldable pub rewrite-bundle : Graph → List ℕ → ℕ → List ℕ
-rewrite-bundle g l p = turned (λ m k. rewrite-input m p k) l (input-count g l (word l bundles (7 * p + 0))) 0
+rewrite-bundle g l p = turned (λ m k. rewrite-input m p k) l (input-count g l (bundle-target l p)) 0
 
 unfoldable pub rewrite-set : Graph → List ℕ → ℕ → ℕ → List ℕ
 rewrite-set g l start n = turned (λ m i. rewrite-bundle g m (bundle-at start i)) l n 0
 
 unfoldable pub rewrite-inputs : Graph → List ℕ → ℕ → List ℕ
-rewrite-inputs g l j = turned (λ m k. rewrite-case-input m j k) l (length (region g (word l cases (10 * j + 1)) .inputs)) 0
+rewrite-inputs g l j = turned (λ m k. rewrite-case-input m j k) l (length (region g (case-origin l j) .inputs)) 0
 
 unfoldable pub rewrite-given : Graph → List ℕ → ℕ → List ℕ
-rewrite-given g l j = pick (eqb (word l cases (10 * j + 0)) 2) (rewrite-inputs g l j) l
+rewrite-given g l j = pick (eqb (case-kind l j) case-claimed) (rewrite-inputs g l j) l
 
 unfoldable pub rewrite-case : Graph → List ℕ → ℕ → List ℕ
 rewrite-case g l j =
     let m = rewrite-given g l j in
-    rewrite-set g m (word m cases (10 * j + 4)) (word m cases (10 * j + 5))
+    rewrite-set g m (case-set-start m j) (case-set-length m j)
 
 unfoldable pub rewrite-cases : Graph → List ℕ → List ℕ
 rewrite-cases g l = turned (λ m j. rewrite-case g m j) l (case-total l) 0

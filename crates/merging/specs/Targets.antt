@@ -1,11 +1,13 @@
 -- The set of deferred targets in the spare slot, as the words have it.
 use mathlib.Core.List.{List, [], _∷_}
-use Prim.Native.Nat.{ℕ, _+_, _*_, _-_}
+use Prim.Native.Nat.{ℕ, _+_, _-_}
 use lib.Dec.{ltb, eqb}
 use Rattle.meaning.specs.Lists.{pick}
-use Rattle.state.specs.Sections.{word, stored, stored-all, set-starts, set-lengths, cases, bundles}
-use Rattle.state.specs.Tables.{edges-word, find-by, bundle-at, case-total, largest, no-bundle-word}
+use Rattle.state.specs.Sections.{word, stored, stored-all, set-starts, set-lengths, bundles}
+use Rattle.state.specs.Tables.{edges-word, find-by, bundle-at, case-total}
 use Rattle.merging.specs.Turns.{turned}
+use Rattle.state.specs.Rows.{bundle-count, bundle-count-at, bundle-row-at, bundle-target, bundle-word, case-set-length, case-set-start}
+use Rattle.state.specs.Rows.{largest, no-bundle-word, spare-slot}
 
 -- The length of a set with k bundles more.
 unfoldable pub longer : ℕ → ℕ → ℕ
@@ -14,26 +16,26 @@ longer n k = pick (ltb n (largest - k)) (n + k) largest
 -- A target that has no bundle yet gets one; else its edges are counted with the others.
 abbrev pub row-added : List ℕ → ℕ → ℕ → ℕ → List ℕ
 row-added l p start n =
-    let field : ℕ → ℕ = λ i. word l bundles (7 * p + i) in
-    stored (stored-all l bundles (7 * bundle-at start n) (field 0 ∷ field 1 ∷ 1 ∷ [])) set-lengths 32 (longer n 1)
+    let field : ℕ → ℕ = λ i. bundle-word l p i in
+    stored (stored-all l bundles (bundle-row-at (bundle-at start n)) (field 0 ∷ field 1 ∷ 1 ∷ [])) set-lengths spare-slot (longer n 1)
 
 abbrev pub edges-added : List ℕ → ℕ → ℕ → List ℕ
-edges-added l p q = stored l bundles (7 * q + 1) (edges-word (word l bundles (7 * q + 1) + word l bundles (7 * p + 1)))
+edges-added l p q = stored l bundles (bundle-count-at q) (edges-word (bundle-count l q + bundle-count l p))
 
 unfoldable pub summarize-bundle : List ℕ → ℕ → List ℕ
 summarize-bundle l p =
-    let start = word l set-starts 32 in
-    let n = word l set-lengths 32 in
-    let q = find-by l start (word l bundles (7 * p + 0)) n 0 in
+    let start = word l set-starts spare-slot in
+    let n = word l set-lengths spare-slot in
+    let q = find-by l start (bundle-target l p) n 0 in
     pick (eqb q no-bundle-word) (row-added l p start n) (edges-added l p q)
 
 unfoldable pub summarize-set : List ℕ → ℕ → ℕ → List ℕ
 summarize-set l start n = turned (λ m i. summarize-bundle m (bundle-at start i)) l n 0
 
 abbrev pub summarize-case : List ℕ → ℕ → List ℕ
-summarize-case l j = summarize-set l (word l cases (10 * j + 4)) (word l cases (10 * j + 5))
+summarize-case l j = summarize-set l (case-set-start l j) (case-set-length l j)
 
 unfoldable pub deferred-targets : List ℕ → List ℕ
 deferred-targets l =
-    let m = stored l set-lengths 32 0 in
+    let m = stored l set-lengths spare-slot 0 in
     turned summarize-case m (case-total m) 0

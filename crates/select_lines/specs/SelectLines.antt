@@ -9,7 +9,7 @@ use Rattle.meaning.specs.Runs.{Nodes, Cases, case-count}
 use Rattle.nesting.specs.Nesting.{case-outputs}
 use Rattle.nesting.specs.SheetNumbers.{kind-bool, kind-num}
 use Rattle.state.specs.Sections.{section, cells}
-use Rattle.state.specs.CellRows.{select-node, select-shape, select-scrutinee, select-cases, case-region, children-of-case}
+use Rattle.state.specs.Rows.{select-node, select-shape, select-scrutinee, select-cases, case-region, children-of-case}
 use Rattle.shown.specs.Values.{value}
 use Rattle.shown.specs.Tables.{ShowsShape}
 use Rattle.shown.specs.Cells.{ShowsNodes, ShowsCaseCells}

@@ -2,30 +2,30 @@
 use mathlib.Core.Path.{_≡_}
 use mathlib.Core.Bool.{Bool, true, false}
 use mathlib.Core.List.{List}
-use Prim.Native.Nat.{ℕ, zero, suc, _+_, _*_, _-_}
+use Prim.Native.Nat.{ℕ, zero, suc, _-_}
 use lib.Dec.{eqb}
 use Rattle.state.specs.declared.defined.Defined.the-variants.{Number, Full as Refused}
-use Rattle.state.specs.Sections.{word, stored, cases}
-use Rattle.state.specs.Sections.{regions-at}
+use Rattle.state.specs.Sections.{stored, cases}
 use Rattle.state.specs.Tables.{case-total, Defines, inserted}
 use Rattle.bundles.specs.Words.{case-inputs}
 use Rattle.state.specs.declared.defined.Made.{Made}
 use Rattle.state.specs.declared.defined.Made.the-variants.{Done, Full}
 use Rattle.meaning.specs.Lists.{pick}
 use Rattle.nesting.specs.Nesting.{most-regions}
+use Rattle.state.specs.Rows.{case-body, case-body-at, case-children, case-claimed, case-kind, case-set-length, entry-replace, regions-at}
 
 -- n cases from place j on, with what was found before them.
 unfoldable pub convergent-from : List ℕ → ℕ → ℕ → ℕ → ℕ
 convergent-from l zero j found = found
 convergent-from l (suc n) j found =
-    pick (eqb (word l cases (10 * j + 5)) 0) (convergent-from l n (suc j) found) (pick (eqb found 8) (convergent-from l n (suc j) j) 8)
+    pick (eqb (case-set-length l j) 0) (convergent-from l n (suc j) found) (pick (eqb found 8) (convergent-from l n (suc j) j) 8)
 
 abbrev pub convergent-case : List ℕ → ℕ
 convergent-case l = convergent-from l (case-total l) 0 8
 
 -- Only a claimed region has children.
 unfoldable pub children-of : List ℕ → ℕ → ℕ
-children-of l j = pick (eqb (word l cases (10 * j + 0)) 2) (word l cases (10 * j + 3)) 0
+children-of l j = pick (eqb (case-kind l j) case-claimed) (case-children l j) 0
 
 unfoldable pub any-from : List ℕ → ℕ → ℕ → Bool
 any-from l zero j = false
@@ -36,13 +36,13 @@ any-non-empty-case l = any-from l (case-total l) 0
 
 -- Case j has its region: a claimed one has it already.
 pub data GetsRegion (j : ℕ) (l l′ : List ℕ) : Made → Type 0 where
-  has-region : word l cases (10 * j + 0) ≡ 2 → l′ ≡ l → GetsRegion j l l′ Done
-  new-region : {r : ℕ} {l₁ : List ℕ} → (word l cases (10 * j + 0) ≡ 2 → ⊥) → Defines regions-at most-regions l l₁ (Number r)
-      → l′ ≡ stored l₁ cases (10 * j + 2) r → GetsRegion j l l′ Done
-  no-region : (word l cases (10 * j + 0) ≡ 2 → ⊥) → Defines regions-at most-regions l l′ Refused → GetsRegion j l l′ Full
+  has-region : case-kind l j ≡ case-claimed → l′ ≡ l → GetsRegion j l l′ Done
+  new-region : {r : ℕ} {l₁ : List ℕ} → (case-kind l j ≡ case-claimed → ⊥) → Defines regions-at most-regions l l₁ (Number r)
+      → l′ ≡ stored l₁ cases (case-body-at j) r → GetsRegion j l l′ Done
+  no-region : (case-kind l j ≡ case-claimed → ⊥) → Defines regions-at most-regions l l′ Refused → GetsRegion j l l′ Full
 
 unfoldable pub inputs-replaced : List ℕ → ℕ → List ℕ
-inputs-replaced l j = pick (eqb (word l cases (10 * j + 0)) 2) (inserted l (word l cases (10 * j + 2)) 1 (case-inputs l j)) l
+inputs-replaced l j = pick (eqb (case-kind l j) case-claimed) (inserted l (case-body l j) entry-replace (case-inputs l j)) l
 
 unfoldable pub all-replaced : List ℕ → ℕ → ℕ → List ℕ
 all-replaced l zero j = l

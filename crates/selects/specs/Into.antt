@@ -2,7 +2,7 @@
 use mathlib.Core.Path.{_≡_}
 use mathlib.Core.Bool.{Bool, true, false, _||_}
 use mathlib.Core.List.{List}
-use Prim.Native.Nat.{ℕ, _*_, _≤_, _<_}
+use Prim.Native.Nat.{ℕ, _≤_, _<_}
 use Rattle.meaning.specs.Graph.{Graph}
 use Rattle.state.specs.declared.defined.Defined.the-variants.{Number, Full as Refused}
 use Rattle.state.specs.Sections.{word, stored, stored-all, set-lengths, cases}
@@ -17,6 +17,7 @@ use Rattle.selects.specs.declared.define.Scrutinee.{Scrutinee}
 use Rattle.selects.specs.Cases.{convergent-case, any-non-empty-case, all-replaced}
 use Rattle.selects.specs.Selects.{SelectDefined}
 use Rattle.selects.specs.Emits.{Emits}
+use Rattle.state.specs.Rows.{case-nothing, case-row-at, spare-slot}
 
 pub data SelectIf (g : Graph) (needed : Bool) (r shape : ℕ) (x : Scrutinee) (l l′ : List ℕ) : Made → Type 0 where
   not-needed : needed ≡ false → l′ ≡ l → SelectIf g needed r shape x l l′ Done
@@ -43,11 +44,11 @@ pub data StructurizesSelect (g : Graph) (r shape : ℕ) (x : Scrutinee) (l l′ 
 
 -- The spare slot's set becomes region r's.
 abbrev pub spare-taken : List ℕ → ℕ → List ℕ
-spare-taken l r = stored (swapped l r 32) set-lengths r (word l set-lengths 32)
+spare-taken l r = stored (swapped l r spare-slot) set-lengths r (word l set-lengths spare-slot)
 
 -- Case j is set aside: it is Unreachable.
 abbrev pub set-aside : List ℕ → ℕ → List ℕ
-set-aside l j = stored-all l cases (10 * j) (case-words (unclaimed-case 0 0 0))
+set-aside l j = stored-all l cases (case-row-at j) (case-words (unclaimed-case case-nothing 0 0))
 
 pub data StructurizesInto (g : Graph) (r shape : ℕ) (x : Scrutinee) (l l′ : List ℕ) : Made → Type 0 where
   one-follows : {l₁ : List ℕ} → convergent-case l < 8 → StructurizesSelect g r shape x (set-aside l (convergent-case l)) l₁ Done

@@ -1,11 +1,10 @@
 -- A select that is defined, as the words alone have it.
 use mathlib.Core.Path.{_≡_}
 use mathlib.Core.List.{List}
-use Prim.Native.Nat.{ℕ, suc, _+_, _*_, _-_}
+use Prim.Native.Nat.{ℕ, suc, _-_}
 use Rattle.state.specs.declared.defined.Defined.{Defined}
 use Rattle.state.specs.declared.defined.Defined.the-variants.{Number, Full}
-use Rattle.state.specs.Sections.{word, stored, cases, children}
-use Rattle.state.specs.Sections.{nodes-at}
+use Rattle.state.specs.Sections.{word, stored, children}
 use Rattle.state.specs.Tables.{case-total, Adds, Defines}
 use Rattle.state.specs.declared.cells.Cell.the-variants.{Case, Select}
 use Rattle.lookups.specs.Materialized.{Materializes}
@@ -15,6 +14,7 @@ use Rattle.selects.specs.declared.define.Scrutinee.the-variants.{Value, 
 use Rattle.selects.specs.Turns.{Turns}
 use Rattle.selects.specs.Cases.{GetsRegion, children-of}
 use Rattle.nesting.specs.Nesting.{most-nodes}
+use Rattle.state.specs.Rows.{case-body, nodes-at}
 
 pub data ScrutineeMade (l : List ℕ) : Scrutinee → List ℕ → Defined → Type 0 where
   given-value : {v : ℕ} {l′ : List ℕ} → l′ ≡ l → ScrutineeMade l (Value v) l′ (Number v)
@@ -24,7 +24,7 @@ pub data ScrutineeMade (l : List ℕ) : Scrutinee → List ℕ → Defined → T
 pub data CaseCells : ℕ → ℕ → List ℕ → List ℕ → ℕ → Type 0 where
   cells-over : {n h h′ : ℕ} {l l′ : List ℕ} → n ≡ 0 → l′ ≡ l → h′ ≡ h → CaseCells n h l l′ h′
   cell-more : {n m h h₁ h′ : ℕ} {l l₁ l′ : List ℕ} → n ≡ suc m
-      → Adds l l₁ (Case h (word l cases (10 * m + 2)) (children-of l m)) h₁ → CaseCells m h₁ l₁ l′ h′
+      → Adds l l₁ (Case h (case-body l m) (children-of l m)) h₁ → CaseCells m h₁ l₁ l′ h′
       → CaseCells n h l l′ h′
 
 pub data SelectAdded (r node shape v : ℕ) (l l′ : List ℕ) (h : ℕ) : Type 0 where

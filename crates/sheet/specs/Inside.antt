@@ -8,8 +8,8 @@ use Rattle.meaning.specs.Lists.{pick}
 use Rattle.meaning.specs.Graph.{Value, region, exit-invocation}
 use Rattle.meaning.specs.Runs.{exit}
 use Rattle.nesting.specs.Nesting.{blocks-of}
-use Rattle.state.specs.CellRows.{tag-blocks, tag-join, tag-exit, tag-select, tag-loop, cell-tag, blocks-region, join-list, exit-node}
-use Rattle.state.specs.CellRows.{exit-region, select-node, select-cases, loop-body, children-of-case}
+use Rattle.state.specs.Rows.{tag-blocks, tag-join, tag-exit, tag-select, tag-loop, cell-tag, blocks-region, join-list, exit-node}
+use Rattle.state.specs.Rows.{exit-region, select-node, select-cases, loop-body, children-of-case}
 use Rattle.children.specs.CellByCell.{case-cell, CaseTotal}
 use Rattle.writing.specs.declared.place.Place.{Place}
 use Rattle.writing.specs.Puts.{Puts}

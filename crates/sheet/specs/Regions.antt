@@ -8,7 +8,7 @@ use Rattle.meaning.specs.Runs.{Nodes}
 use Rattle.nesting.specs.Nesting.{NestState, Piece, piece, unclaimed-from, StructurizeRegionState, not-begun}
 use Rattle.nesting.specs.Nesting.{DeferredEdgeBundle, DeferredEdgeBundleSet, region-body}
 use Rattle.nesting.specs.Sheet as sheet
-use Rattle.state.specs.Sections.{section, cells, word, kinds, children}
+use Rattle.state.specs.Sections.{section, cells, word, children}
 use Rattle.shown.specs.Cells.{ShowsNodes, ShowsChildren}
 use Rattle.shown.specs.States.{ShowsBody, ShowsOwnSet}
 use Rattle.writing.specs.declared.place.Place.{Place}
@@ -17,6 +17,7 @@ use Rattle.writing.specs.laws.Rows.{run}
 use Rattle.writing.specs.Parts.{OfState, nodes-part, values-part, each, defer-part}
 use Rattle.sheet.specs.Pieces.{region-lines, piece-part, set-part, lines-part}
 use Rattle.sheet.specs.laws.Leftovers.{ready-lines, given-set}
+use Rattle.state.specs.Rows.{kind-claimed, region-kind}
 
 -- ---- A region without outputs; the entry of a whole form, with those of its one deferred edge.
 abbrev pub PutsPiece : List ℕ → ℕ → List ℕ → Place → List ℕ → Place → Type 0
@@ -46,7 +47,7 @@ PutsUnclaimed w out at out′ at′ =
 
 -- The entry is claimed, and d is its set.
 pub record EntrySet (g : Graph) (w : List ℕ) (d : DeferredEdgeBundleSet) : Type 0 where
-  pub kind : word w kinds (g .entry) ≡ 3
+  pub kind : region-kind w (g .entry) ≡ kind-claimed
   pub set : ShowsOwnSet g w (g .entry) d
 
 abbrev pub PutsGivenSet : List ℕ → ℕ → List ℕ → Place → List ℕ → Place → Type 0
@@ -62,7 +63,7 @@ PutsSets w out at out′ at′ =
 
 abbrev pub PutsLeftover : List ℕ → List ℕ → Place → List ℕ → Place → Type 0
 PutsLeftover w out at out′ at′ =
-    OfState w (λ g s. (ks : Nodes) (d : DeferredEdgeBundleSet) → word w kinds (g .entry) ≡ 3
+    OfState w (λ g s. (ks : Nodes) (d : DeferredEdgeBundleSet) → region-kind w (g .entry) ≡ kind-claimed
     → ShowsBody g w (g .entry) (region-body ks d)
     → Puts out at (lines-part g s (piece g (g .entry) ks [] d) (unclaimed-from g 0 (s .region-states))) out′ at′)
 

@@ -6,7 +6,7 @@ use Rattle.meaning.specs.Graph.{Graph}
 use Rattle.meaning.specs.Runs.{Nodes, Cases, case-count}
 use Rattle.nesting.specs.Nesting.{NestState}
 use Rattle.state.specs.Sections.{section, cells}
-use Rattle.state.specs.CellRows.{cell-tag}
+use Rattle.state.specs.Rows.{cell-tag}
 use Rattle.shown.specs.Cells.{ShowsNodes, ShowsCaseCells}
 use Rattle.children.specs.CellByCell.{CellAdded}
 use Rattle.writing.specs.declared.place.Place.{Place}

@@ -2,7 +2,7 @@
 use mathlib.Core.Path.{_≡_}
 use mathlib.Core.Bool.{Bool, _||_}
 use mathlib.Core.List.{List, [], _∷_, _++_}
-use Prim.Native.Nat.{ℕ, _+_, _-_, _≤_, _<_}
+use Prim.Native.Nat.{ℕ, _-_, _≤_, _<_}
 use lib.ListN.{length, drop}
 use lib.Dec.{ltb}
 use Rattle.meaning.specs.Lists.{pick}
@@ -11,7 +11,7 @@ use Rattle.meaning.specs.Runs.{Nodes, ⟨⟩}
 use Rattle.nesting.specs.Nesting.{NestState, Nested, untouched, whole, closed, leftover, piece, conclude-with, unclaimed-from, plain}
 use Rattle.nesting.specs.Nesting.{DeferredEdgeBundle, DeferredEdgeBundleSet, region-body}
 use Rattle.nesting.specs.Sheet as sheet
-use Rattle.state.specs.Sections.{word, head, kinds, attempts-at, twice-at}
+use Rattle.state.specs.Sections.{word, head}
 use Rattle.shown.specs.States.{ShowsBody}
 use Rattle.writing.specs.declared.place.Place.{Place}
 use Rattle.writing.specs.Puts.{Puts, written}
@@ -19,6 +19,7 @@ use Rattle.writing.specs.Parts.{OfState, most}
 use Rattle.sheet.specs.declared.whole.Sheet.{Sheet}
 use Rattle.sheet.specs.declared.whole.Sheet.the-variants.{Words, TooFew}
 use Rattle.sheet.specs.Whole.{nested-lines, nested-words}
+use Rattle.state.specs.Rows.{attempts-at, kind-claimed, region-kind, twice-at}
 
 -- ---- How the words show a nested answer: by the number of its outcome, and the entry's children and set.
 pub data ShowsAnswer (g : Graph) (w : List ℕ) (s : NestState) (x : Nested) : ℕ → Type 0 where
@@ -27,7 +28,8 @@ pub data ShowsAnswer (g : Graph) (w : List ℕ) (s : NestState) (x : Nested) : �
       → x ≡ conclude-with g s whole (piece g (g .entry) ks (e .target-inputs) []) [] → ShowsAnswer g w s x 1
   shows-closed : {ks : Nodes} → ShowsBody g w (g .entry) (region-body ks [])
       → x ≡ conclude-with g s closed (piece g (g .entry) ks [] []) [] → ShowsAnswer g w s x 2
-  shows-leftover : {ks : Nodes} {d : DeferredEdgeBundleSet} → word w kinds (g .entry) ≡ 3 → ShowsBody g w (g .entry) (region-body ks d)
+  shows-leftover : {ks : Nodes} {d : DeferredEdgeBundleSet} → region-kind w (g .entry) ≡ kind-claimed
+      → ShowsBody g w (g .entry) (region-body ks d)
       → x ≡ conclude-with g s leftover (piece g (g .entry) ks [] d) (unclaimed-from g 0 (s .region-states)) → ShowsAnswer g w s x 3
 
 -- Of every answer that the words show under the outcome's number.

@@ -2,7 +2,7 @@
 // body's), and the lines that stand before them. They are apart from the walk, and a list that is a loop alone is no level of its own,
 // so that the walk takes little stack.
 ghost use mathlib.Core.Path.{_≡_};
-ghost use Rattle.state.specs.CellRows as rows;
+ghost use Rattle.state.specs.Rows as rows;
 ghost use Rattle.sheet.specs.Inside as inside;
 use block_lines::blocks::put_blocks;
 use block_lines::exits::put_exit;

@@ -1,15 +1,16 @@
 -- What stays shown: lists and conditions once made, and the sets whose bundles and slots are not stored into.
 use mathlib.Core.Path.{_≡_}
 use mathlib.Core.List.{List}
-use Prim.Native.Nat.{ℕ, _+_, _*_, _<_}
+use Prim.Native.Nat.{ℕ, _+_, _<_}
 use Rattle.meaning.specs.Graph.{Graph}
 use Rattle.meaning.specs.Runs.{Nodes}
 use Rattle.nesting.specs.Nesting.{LazyCond}
-use Rattle.state.specs.Sections.{word, backedges, set-starts, set-lengths, children, bodies, levels}
+use Rattle.state.specs.Sections.{word, backedges, set-starts, set-lengths, children, bodies}
 use Rattle.shown.specs.Front.{SameFront}
 use Rattle.shown.specs.Tables.{ShowsCondition}
 use Rattle.shown.specs.Sets.{SameBundle}
 use Rattle.shown.specs.Cells.{ShowsChildren}
+use Rattle.state.specs.Rows.{level, slot-size}
 
 -- ---- From w to w′ what was made stays made, and the record stands.
 pub record Later (g : Graph) (w w′ : List ℕ) : Type 0 where
@@ -24,5 +25,5 @@ pub record KeptRegion (w w′ : List ℕ) (q : ℕ) : Type 0 where
   pub handle : word w′ children q ≡ word w children q
   pub body : word w′ bodies q ≡ word w bodies q
   pub backedge : word w′ backedges q ≡ word w backedges q
-  pub taken : (j : ℕ) → j < 8 → word w′ levels (8 * q + j) ≡ word w levels (8 * q + j)
-  pub slot : (i : ℕ) → i < 33 → SameBundle w w′ (word w set-starts q + i)
+  pub taken : (j : ℕ) → j < 8 → level w′ q j ≡ level w q j
+  pub slot : (i : ℕ) → i < slot-size → SameBundle w w′ (word w set-starts q + i)

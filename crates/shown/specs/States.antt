@@ -9,35 +9,38 @@ use Rattle.format.specs.References.{return-types}
 use Rattle.record.specs.Stands.{Stands}
 use Rattle.nesting.specs.Nesting.{DeferredEdgeBundleSet, StructurizeRegionState, not-begun, in-progress, claimed, ready, NestState, Body}
 use Rattle.nesting.specs.Nesting.{ClaimedRegion, MaybeClaimedRegion, ok, err, deferred-of, most-regions}
-use Rattle.state.specs.Sections.{word, head, kinds, backedges, set-starts, set-lengths, children, bodies, cases, rewrites, returned-at}
-use Rattle.state.specs.Sections.{types-at}
-use Rattle.state.specs.Tables.{case-total, own-edges-from, rewrite-kind}
+use Rattle.state.specs.Sections.{word, head, backedges, set-starts, set-lengths, children, bodies}
+use Rattle.state.specs.Tables.{case-total, rewrite-kind}
 use Rattle.shown.specs.Tables.{ShowsTables}
 use Rattle.shown.specs.Sets.{Names, ShowsSet}
 use Rattle.shown.specs.Cells.{ShowsChildren}
 use Rattle.state.specs.Values.{names-nothing}
+use Rattle.state.specs.Rows.{case-body, case-children, case-claimed, case-input, case-kind, case-nothing, case-origin, case-others}
+use Rattle.state.specs.Rows.{case-own-edge, case-set-length, case-set-start, entry-none, kind-claimed, kind-in-progress, kind-not-begun}
+use Rattle.state.specs.Rows.{kind-ready, own-edges-from, region-kind, returned-at, rewrite-value, slot-count, slot-size, spare-slot}
+use Rattle.state.specs.Rows.{types-at}
 
 -- The set that region r's slot holds.
 abbrev pub ShowsOwnSet : Graph → List ℕ → ℕ → DeferredEdgeBundleSet → Type 0
 ShowsOwnSet g w r d = ShowsSet g w (word w set-starts r) (word w set-lengths r) d
 
 pub data ShowsRegion (g : Graph) (w : List ℕ) (r : ℕ) : StructurizeRegionState → Type 0 where
-  is-not-begun : word w kinds r ≡ 0 → ShowsRegion g w r not-begun
-  is-in-progress : word w kinds r ≡ 1 → ShowsRegion g w r in-progress
-  is-ready : {b : ℕ} {ks : Nodes} {d : DeferredEdgeBundleSet} → word w kinds r ≡ 2 → word w backedges r ≡ b
+  is-not-begun : region-kind w r ≡ kind-not-begun → ShowsRegion g w r not-begun
+  is-in-progress : region-kind w r ≡ kind-in-progress → ShowsRegion g w r in-progress
+  is-ready : {b : ℕ} {ks : Nodes} {d : DeferredEdgeBundleSet} → region-kind w r ≡ kind-ready → word w backedges r ≡ b
       → ShowsChildren g w (word w children r) ks → ShowsOwnSet g w r d → ShowsRegion g w r (ready b ks d)
-  is-claimed : word w kinds r ≡ 3 → ShowsRegion g w r claimed
+  is-claimed : region-kind w r ≡ kind-claimed → ShowsRegion g w r claimed
 
 -- Of n regions each has a slot; the spare one is as of a region 32. Of a region, and of 32, `omega arith` proves it.
 pub record HasSlot (n a : ℕ) : Type 0 where
-  pub below : a < 33
-  pub of-region : n ≤ a → a ≡ 32
+  pub below : a < slot-count
+  pub of-region : n ≤ a → a ≡ spare-slot
 
 -- Each slot is one region's, or the spare one.
 pub record Slots (n : ℕ) (w : List ℕ) : Type 0 where
   pub slot-number : ℕ → ℕ
-  pub starts : (a : ℕ) → HasSlot n a → word w set-starts a ≡ 33 * slot-number a
-  pub below : (a : ℕ) → HasSlot n a → slot-number a < 33
+  pub starts : (a : ℕ) → HasSlot n a → word w set-starts a ≡ slot-size * slot-number a
+  pub below : (a : ℕ) → HasSlot n a → slot-number a < slot-count
   pub own : (a b : ℕ) → HasSlot n a → HasSlot n b → slot-number a ≡ slot-number b → a ≡ b
 
 -- How many values a Return has, and their types.
@@ -47,7 +50,7 @@ pub record ShowsReturned (g : Graph) (w : List ℕ) : Type 0 where
 
 -- The words of the rewrites' entries name values.
 pub record NamedRewrites (w : List ℕ) : Type 0 where
-  pub below : (r k : ℕ) → r < most-regions → k < 4 → (rewrite-kind w r ≡ 0 → ⊥) → word w rewrites (5 * r + 1 + k) < names-nothing
+  pub below : (r k : ℕ) → r < most-regions → k < 4 → (rewrite-kind w r ≡ entry-none → ⊥) → rewrite-value w r k < names-nothing
 
 pub record ShowsState (g : Graph) (w : List ℕ) (s : NestState) : Type 0 where
   pub stands : Stands w g
@@ -66,7 +69,7 @@ pub record ShowsBody (g : Graph) (w : List ℕ) (r : ℕ) (x : Body) : Type 0 wh
 -- A claimed region, by its number. Its inputs stand elsewhere.
 pub record ShowsClaimed (g : Graph) (w : List ℕ) (c : ClaimedRegion) : Type 0 where
   pub in-graph : c .origin < length (g .regions)
-  pub kind : word w kinds (c .origin) ≡ 3
+  pub kind : region-kind w (c .origin) ≡ kind-claimed
   pub body : word w bodies (c .origin) ≡ c .structured-body
   pub body-below : c .structured-body < most-regions
   pub nodes : ShowsChildren g w (word w children (c .origin)) (c .children)
@@ -76,17 +79,17 @@ pub record ShowsClaimed (g : Graph) (w : List ℕ) (c : ClaimedRegion) : Type 0 
 -- ---- The cases of the select under way in region r: a claimed region; nothing; the edge of its own; what is left of region r's set.
 -- Beyond a claimed region's inputs the words have what the definition takes there.
 pub data ShowsCase (g : Graph) (w : List ℕ) (r j : ℕ) : MaybeClaimedRegion → Type 0 where
-  shows-ok : {c : ClaimedRegion} → word w cases (10 * j + 0) ≡ 2 → word w cases (10 * j + 1) ≡ c .origin → c .origin < length (g .regions)
-      → word w cases (10 * j + 2) ≡ c .structured-body → c .structured-body < most-regions
-      → ShowsChildren g w (word w cases (10 * j + 3)) (c .children)
-      → word w cases (10 * j + 4) ≡ word w set-starts (c .origin)
+  shows-ok : {c : ClaimedRegion} → case-kind w j ≡ case-claimed → case-origin w j ≡ c .origin → c .origin < length (g .regions)
+      → case-body w j ≡ c .structured-body → c .structured-body < most-regions
+      → ShowsChildren g w (case-children w j) (c .children)
+      → case-set-start w j ≡ word w set-starts (c .origin)
       → length (c .structured-body-inputs) ≡ length (region g (c .origin) .inputs)
-      → ((k : ℕ) → k < 4 → Names (word w cases (10 * j + (6 + k))) (getD (c .structured-body-inputs) k (undef 0)))
+      → ((k : ℕ) → k < 4 → Names (case-input w j k) (getD (c .structured-body-inputs) k (undef 0)))
       → ShowsCase g w r j (ok c)
-  shows-nothing : word w cases (10 * j + 0) ≡ 0 → word w cases (10 * j + 5) ≡ 0 → ShowsCase g w r j (err [])
-  shows-edge : {d : DeferredEdgeBundleSet} → word w cases (10 * j + 0) ≡ 1 → word w cases (10 * j + 4) ≡ own-edges-from + j
-      → word w cases (10 * j + 5) ≡ 1 → ShowsCase g w r j (err d)
-  shows-others : {d : DeferredEdgeBundleSet} → word w cases (10 * j + 0) ≡ 3 → word w cases (10 * j + 4) ≡ word w set-starts r
+  shows-nothing : case-kind w j ≡ case-nothing → case-set-length w j ≡ 0 → ShowsCase g w r j (err [])
+  shows-edge : {d : DeferredEdgeBundleSet} → case-kind w j ≡ case-own-edge → case-set-start w j ≡ own-edges-from + j
+      → case-set-length w j ≡ 1 → ShowsCase g w r j (err d)
+  shows-others : {d : DeferredEdgeBundleSet} → case-kind w j ≡ case-others → case-set-start w j ≡ word w set-starts r
       → ShowsCase g w r j (err d)
 
 abbrev pub no-case : MaybeClaimedRegion
@@ -98,8 +101,8 @@ pub record ShowsCases (g : Graph) (w : List ℕ) (r : ℕ) (cs : List MaybeClaim
   pub few : length cs ≤ 8
   pub each : (j : ℕ) → j < length cs → ShowsCase g w r j (getD cs j no-case)
   pub sets : (j : ℕ) → j < length cs
-      → ShowsSet g w (word w cases (10 * j + 4)) (word w cases (10 * j + 5)) (deferred-of (getD cs j no-case))
-  pub apart : (i j p q : ℕ) → i < j → j < length cs → p < word w cases (10 * i + 5) → q < word w cases (10 * j + 5)
-      → word w cases (10 * i + 4) + p ≡ word w cases (10 * j + 4) + q → ⊥
-  pub not-spare : (j p q : ℕ) → j < length cs → p < word w cases (10 * j + 5) → q < 33
-      → word w cases (10 * j + 4) + p ≡ word w set-starts 32 + q → ⊥
+      → ShowsSet g w (case-set-start w j) (case-set-length w j) (deferred-of (getD cs j no-case))
+  pub apart : (i j p q : ℕ) → i < j → j < length cs → p < case-set-length w i → q < case-set-length w j
+      → case-set-start w i + p ≡ case-set-start w j + q → ⊥
+  pub not-spare : (j p q : ℕ) → j < length cs → p < case-set-length w j → q < slot-size
+      → case-set-start w j + p ≡ word w set-starts spare-slot + q → ⊥

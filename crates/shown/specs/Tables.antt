@@ -5,7 +5,7 @@ use mathlib.Core.Path.{_≡_}
 use mathlib.Core.Bool.{false}
 use mathlib.Core.List.{List, [], map, List·Memᴰ}
 use mathlib.Core.Option.{Option, none, some}
-use Prim.Native.Nat.{ℕ, suc, _+_, _*_, _≤_, _<_}
+use Prim.Native.Nat.{ℕ, suc, _+_, _≤_, _<_}
 use lib.ListN.{length, getD}
 use Rattle.meaning.specs.Graph.{Value, SelectionKind, bool-cond, number, undef, held}
 use Rattle.nesting.specs.Nesting.{LazyCond, undef-cond, false-cond, true-cond, merge, LazyConds, no-conds, _&_, InputRewrite, renumber-to}
@@ -14,13 +14,16 @@ use Rattle.nesting.specs.Nesting.{NestState, StepAnswer, done, turned-away, rew
 use Rattle.nesting.specs.Nesting.{most-outputs}
 use Rattle.state.specs.declared.defined.Defined.{Defined}
 use Rattle.state.specs.declared.defined.Defined.the-variants.{Number, Full}
-use Rattle.state.specs.Sections.{section, word, head, rewrites, outputs, conditions, used, attempts-at, cells-at, merges-at, nodes-at}
-use Rattle.state.specs.Sections.{outputs-at, regions-at, twice-at}
-use Rattle.state.specs.Tables.{select-word, entry-kind}
+use Rattle.state.specs.Sections.{section, word, head, rewrites, outputs, used}
+use Rattle.state.specs.Tables.{entry-kind}
 use Rattle.state.specs.Values.{is-held}
 use Rattle.shown.specs.Values.{value}
 use Rattle.meaning.specs.Lists.{bit}
 use Rattle.format.specs.Refusals.{too-many}
+use Rattle.state.specs.Rows.{attempts-at, cells-at, condition-false, condition-true, condition-undef, entry-none, entry-renumber}
+use Rattle.state.specs.Rows.{entry-replace, merge-node, merge-part, merge-scrutinee, merge-select, merge-shape, merges-at, merges-from}
+use Rattle.state.specs.Rows.{nodes-at, output-node-at, output-type-at, output-values-at, outputs-at, regions-at, rewrite-value-at}
+use Rattle.state.specs.Rows.{twice-at}
 
 -- ---- Rewrites: five words for a region.
 -- The word at a loop header's input: a marked one is the new number of an input that stays.
@@ -30,18 +33,20 @@ pub data ShowsInput (r x : ℕ) : InputRewrite → Type 0 where
 
 -- Beyond a list's end the words have what the definition takes there.
 pub data ShowsEntry (l : List ℕ) (r : ℕ) : Option RegionInputRewrites → Type 0 where
-  no-entry : entry-kind l r ≡ 0 → ShowsEntry l r none
-  replaces : {vs : List Value} → entry-kind l r ≡ 1 → ((k : ℕ) → k < 4 → value (getD l (5 * r + 1 + k) 0) ≡ getD vs k (undef 0))
+  no-entry : entry-kind l r ≡ entry-none → ShowsEntry l r none
+  replaces : {vs : List Value} → entry-kind l r ≡ entry-replace
+      → ((k : ℕ) → k < 4 → value (getD l (rewrite-value-at r k) 0) ≡ getD vs k (undef 0))
       → ShowsEntry l r (some (replace-with vs))
-  renumbers : {xs : List InputRewrite} → entry-kind l r ≡ 2
-      → ((k : ℕ) → k < 4 → ShowsInput r (getD l (5 * r + 1 + k) 0) (getD xs k (renumber-to k)))
+  renumbers : {xs : List InputRewrite} → entry-kind l r ≡ entry-renumber
+      → ((k : ℕ) → k < 4 → ShowsInput r (getD l (rewrite-value-at r k) 0) (getD xs k (renumber-to k)))
       → ShowsEntry l r (some (renumber-or-replace-with xs))
 
 -- The kind and the four words of an entry to be.
 pub data EntryWords (r kind : ℕ) (ws : List ℕ) : RegionInputRewrites → Type 0 where
-  replace-words : {vs : List Value} → kind ≡ 1 → ((k : ℕ) → k < 4 → value (getD ws k 0) ≡ getD vs k (undef 0))
+  replace-words : {vs : List Value} → kind ≡ entry-replace → ((k : ℕ) → k < 4 → value (getD ws k 0) ≡ getD vs k (undef 0))
       → EntryWords r kind ws (replace-with vs)
-  renumber-words : {xs : List InputRewrite} → kind ≡ 2 → ((k : ℕ) → k < 4 → ShowsInput r (getD ws k 0) (getD xs k (renumber-to k)))
+  renumber-words : {xs : List InputRewrite} → kind ≡ entry-renumber
+      → ((k : ℕ) → k < 4 → ShowsInput r (getD ws k 0) (getD xs k (renumber-to k)))
       → EntryWords r kind ws (renumber-or-replace-with xs)
 
 pub record ShowsRewrites (l : List ℕ) (es : List RewriteEntry) : Type 0 where
@@ -55,9 +60,9 @@ pub record ShowsValues (ws : List ℕ) (i : ℕ) (vs : List Value) : Type 0 wher
   pub each : (j : ℕ) → j < 8 → value (getD ws (i + j) 0) ≡ getD vs j (undef 0)
 
 pub record ShowsOutput (l : List ℕ) (o : ℕ) (x : NodeOutput) : Type 0 where
-  pub node : getD l (10 * o) 0 ≡ x .node
-  pub type : getD l (10 * o + 1) 0 ≡ x .type
-  pub values : ShowsValues l (10 * o + 2) (x .values)
+  pub node : getD l (output-node-at o) 0 ≡ x .node
+  pub type : getD l (output-type-at o) 0 ≡ x .type
+  pub values : ShowsValues l (output-values-at o) (x .values)
 
 abbrev pub no-output : NodeOutput
 no-output = record { node = 0; type = 0; values = [] }
@@ -76,25 +81,25 @@ cond-count (t & ts) = suc (cond-count ts)
 
 mutual
   pub data ShowsCond (w : List ℕ) : ℕ → LazyCond → Type 0 where
-    shows-true : {c : ℕ} → c ≡ 1 → ShowsCond w c true-cond
-    shows-false : {c : ℕ} → c ≡ 2 → ShowsCond w c false-cond
-    shows-undef : {c : ℕ} → c ≡ 3 → ShowsCond w c undef-cond
-    shows-merge : {c n : ℕ} {kind : SelectionKind} {v : Value} {ts : LazyConds} → 4 ≤ c
-        → word w conditions (9 * c + 0) < word w head cells-at
-        → select-word w c 2 ≡ n → ShowsShape (select-word w c 3) (cond-count ts) kind → value (select-word w c 4) ≡ v → ShowsConds w c 0 ts
+    shows-true : {c : ℕ} → c ≡ condition-true → ShowsCond w c true-cond
+    shows-false : {c : ℕ} → c ≡ condition-false → ShowsCond w c false-cond
+    shows-undef : {c : ℕ} → c ≡ condition-undef → ShowsCond w c undef-cond
+    shows-merge : {c n : ℕ} {kind : SelectionKind} {v : Value} {ts : LazyConds} → merges-from ≤ c
+        → merge-select w c < word w head cells-at
+        → merge-node w c ≡ n → ShowsShape (merge-shape w c) (cond-count ts) kind → value (merge-scrutinee w c) ≡ v → ShowsConds w c 0 ts
         → ShowsCond w c (merge n kind v ts)
 
   -- The parts of record c from place j on.
   pub data ShowsConds (w : List ℕ) : ℕ → ℕ → LazyConds → Type 0 where
     no-parts : {c j : ℕ} → ShowsConds w c j no-conds
-    part-and : {c j p : ℕ} {t : LazyCond} {ts : LazyConds} → word w conditions (9 * c + (1 + j)) ≡ p → p < c → ShowsCond w p t
+    part-and : {c j p : ℕ} {t : LazyCond} {ts : LazyConds} → merge-part w c j ≡ p → p < c → ShowsCond w p t
         → ShowsConds w c (suc j) ts
         → ShowsConds w c j (t & ts)
 
 -- A condition that was made, by its number.
 pub record ShowsCondition (w : List ℕ) (c : ℕ) (t : LazyCond) : Type 0 where
   pub tree : ShowsCond w c t
-  pub made : c < 4 + word w head merges-at
+  pub made : c < merges-from + word w head merges-at
 
 -- Words in a row, from place j on, are conditions that were made.
 pub data ShowsParts (w ps : List ℕ) : ℕ → LazyConds → Type 0 where

@@ -6,10 +6,10 @@ use lib.ListN.{length, getD}
 use Rattle.meaning.specs.Graph.{Graph, no-value}
 use Rattle.format.specs.References.{type-in, behind-all, first-return}
 use Rattle.fields.specs.ByNumber.{blocks-before, end-values}
-use Rattle.state.specs.Sections.{stored, stored-all, filled, head, kinds, set-starts, rewrites, regions-at, returned-at, types-at}
-use Rattle.state.specs.Sections.{entries-at}
-use Rattle.state.specs.Tables.{slot, largest}
+use Rattle.state.specs.Sections.{stored, stored-all, filled, head, kinds, set-starts, rewrites}
+use Rattle.state.specs.Tables.{slot}
 use Rattle.shown.specs.Front.{SameFront}
+use Rattle.state.specs.Rows.{entries-at, largest, regions-at, returned-at, spare-slot, types-at}
 
 -- ---- Of n regions: no entry is set, none is begun, and each has a slot of its own, as the spare one has.
 abbrev pub nothing-rewritten : List ℕ → List ℕ
@@ -20,7 +20,7 @@ module _ (n : ℕ) where
   nothing-begun l = filled kinds (λ r. r) (λ r. 0) n 0 l
 
   abbrev pub slots-placed : List ℕ → List ℕ
-  slots-placed l = stored (filled set-starts (λ a. a) slot n 0 l) set-starts 32 (slot 32)
+  slots-placed l = stored (filled set-starts (λ a. a) slot n 0 l) set-starts spare-slot (slot 32)
 
   abbrev pub emptied : List ℕ → List ℕ
   emptied l = slots-placed (nothing-begun (nothing-rewritten l))

@@ -1,5 +1,5 @@
+pub mod Rows
 pub mod Sections
-pub mod CellRows
 pub mod Tables
 pub mod Values
 pub mod laws

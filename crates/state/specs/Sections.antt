@@ -38,46 +38,6 @@ start k = total (λ n. n) (take (number k) sizes)
 abbrev pub size : Section → ℕ
 size k = getD sizes (number k) 0
 
--- What stands in the head: totals, attempts, the note `twice`, cases under way, how many values a Return has and
--- their types.
-abbrev pub regions-at : ℕ
-regions-at = 0
-
-abbrev pub nodes-at : ℕ
-nodes-at = 1
-
-abbrev pub merges-at : ℕ
-merges-at = 2
-
-abbrev pub outputs-at : ℕ
-outputs-at = 3
-
-abbrev pub cells-at : ℕ
-cells-at = 4
-
-abbrev pub attempts-at : ℕ
-attempts-at = 5
-
-abbrev pub twice-at : ℕ
-twice-at = 6
-
-abbrev pub cases-at : ℕ
-cases-at = 7
-
-abbrev pub returned-at : ℕ
-returned-at = 8
-
-abbrev pub types-at : ℕ
-types-at = 9
-
--- In the rewrites, behind their entries: how many of them are set.
-abbrev pub entries-at : ℕ
-entries-at = 640
-
--- Cells that there is room for; cell 0 is none.
-abbrev pub most-cells : ℕ
-most-cells = 652
-
 -- How many words they have in all.
 abbrev pub used : ℕ
 used = total (λ n. n) sizes

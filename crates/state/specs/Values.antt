@@ -27,6 +27,13 @@ instr-from = 2048
 abbrev pub names-nothing : ℕ
 names-nothing = 4096
 
+-- Input k of region r, marked or not: four from `base` on for each region. Instruction k of region r: 64 for each.
+abbrev pub input-word-at : ℕ → ℕ → ℕ → ℕ
+input-word-at base r k = base + 4 * r + k
+
+abbrev pub instr-word-at : ℕ → ℕ → ℕ
+instr-word-at r k = instr-from + 64 * r + k
+
 unfoldable pub is-input : ℕ → Bool
 is-input v = pick (ltb v input-from) false (ltb v held-from)
 
@@ -48,7 +55,7 @@ abbrev pub bool-word : Bool → ℕ
 bool-word b = pick b 65 64
 
 unfoldable pub instr-word : ℕ → ℕ → ℕ
-instr-word r k = pick (ltb r 32) (pick (ltb k 64) (instr-from + 64 * r + k) names-nothing) names-nothing
+instr-word r k = pick (ltb r 32) (pick (ltb k 64) (instr-word-at r k) names-nothing) names-nothing
 
 unfoldable pub output-word : ℕ → ℕ
 output-word o = pick (ltb o most-outputs) (output-from + o) names-nothing
@@ -57,7 +64,7 @@ unfoldable pub undef-word : ℕ → ℕ
 undef-word ty = pick (ltb ty 256) (undef-from + ty) names-nothing
 
 unfoldable pub region-word : ℕ → ℕ → ℕ → ℕ
-region-word base r k = pick (ltb r most-regions) (pick (ltb k 4) (base + 4 * r + k) names-nothing) names-nothing
+region-word base r k = pick (ltb r most-regions) (pick (ltb k 4) (input-word-at base r k) names-nothing) names-nothing
 
 -- The word of a record's value.
 abbrev pub value-word : Value → ℕ

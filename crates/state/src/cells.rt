@@ -1,18 +1,19 @@
 // Lists of child nodes, of a select's cases and of a loop's inputs, as cells that name earlier cells. A list is a handle: 0 is empty,
 // h is cell h, the last of it, with the list before it (of cases: the first, with those after it). Nothing in a cell ever changes.
 ghost use mathlib.Core.Path.{_≡_};
-ghost use Prim.Native.Nat.{_+_, _*_, _≤_};
-ghost use Rattle.state.specs.CellRows as rows;
-ghost use Rattle.state.specs.Sections as sections;
+ghost use Prim.Native.Nat.{_≤_};
+ghost use Rattle.state.specs.Rows as rows;
 ghost use Rattle.state.specs.Tables as tables;
 use crate::defined::CELL_TOTAL;
 use crate::defined::head;
 use crate::defined::set_head;
 use crate::sections::CELLS;
-use crate::sections::CELLS_WORDS;
 use crate::sections::get;
 use crate::sections::put_all;
 use store::WORDS;
+
+// A cell has six words.
+const ROW: usize = 6;
 
 // All blocks of a region.
 pub const BLOCKS: u16 = 1;
@@ -79,9 +80,9 @@ pub enum Cell {
 
 fn cell_word(w: &[u16; WORDS], h: u16, i: usize) -> u16
     requires { ⌜ i ≤ 65600 ⌝ }
-    ensures { λ a. ⌜ a ≡ sections.word (now (w .entry)) sections.cells (6 * h + i) ⌝ }
+    ensures { λ a. ⌜ a ≡ rows.«cell-word» (now (w .entry)) h i ⌝ }
 {
-    get(w, CELLS, CELLS_WORDS, 6 * (h as usize) + i)
+    get(w, CELLS, ROW * (h as usize) + i)
 }
 
 // An earlier handle.
@@ -97,7 +98,7 @@ fn earlier(p: u16, h: u16) -> u16
 // The list that a cell names at one of its words.
 fn list_word(w: &[u16; WORDS], h: u16, i: usize) -> u16
     requires { ⌜ i ≤ 65600 ⌝ }
-    ensures { λ a. ⌜ a ≡ rows.earlier (sections.word (now (w .entry)) sections.cells (6 * h + i)) h ⌝ }
+    ensures { λ a. ⌜ a ≡ rows.earlier (rows.«cell-word» (now (w .entry)) h i) h ⌝ }
 {
     earlier(cell_word(w, h, i), h)
 }
@@ -239,7 +240,7 @@ pub fn kept_back(w: &[u16; WORDS], h: u16) -> u16
 
 // The six words of a cell: its tag, the list before it, and what its tag has.
 fn cell_words(x: Cell) -> [u16; 6]
-    ensures { λ a. ⌜ a ≡ rows.«cell-words» x ⌝ }
+    ensures { λ a. ⌜ a ≡ tables.«cell-words» x ⌝ }
 {
     match x {
         Cell::Blocks { region } => [BLOCKS, 0, region, 0, 0, 0],
@@ -283,9 +284,9 @@ pub fn add_cell(w: &mut [u16; WORDS], x: Cell) -> u16
 {
     let n = head(w, CELL_TOTAL);
     if n < MOST_CELLS {
-        let at = 6 * (n as usize);
+        let at = ROW * (n as usize);
         let xs = cell_words(x);
-        put_all(w, CELLS, CELLS_WORDS, at, &xs);
+        put_all(w, CELLS, at, &xs);
         set_head(w, CELL_TOTAL, n + 1);
         return n;
     }

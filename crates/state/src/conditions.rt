@@ -1,9 +1,10 @@
 // Lazy conditions: true, false, undefined, or a record with a part for each case of a select. A record names its select's
 // cell, and of conditions only earlier ones.
 ghost use mathlib.Core.Path.{_≡_};
-ghost use Prim.Native.Nat.{_+_, _*_, _≤_};
+ghost use Prim.Native.Nat.{_≤_};
 ghost use Rattle.state.specs.Sections as sections;
 ghost use Rattle.state.specs.Tables as tables;
+ghost use Rattle.state.specs.Rows as rows;
 use crate::cells::select_node;
 use crate::cells::select_scrutinee;
 use crate::cells::select_shape;
@@ -13,11 +14,13 @@ use crate::defined::MOST_MERGES;
 use crate::defined::head;
 use crate::defined::set_head;
 use crate::sections::CONDITIONS;
-use crate::sections::CONDITIONS_WORDS;
 use crate::sections::get;
 use crate::sections::put;
 use crate::sections::put_all;
 use store::WORDS;
+
+// A record has nine words.
+const ROW: usize = 9;
 
 // As the sheet has them; the record of number m is MERGE + m.
 pub const TRUE_COND: u16 = 1;
@@ -33,14 +36,14 @@ pub const BOOL_COND: u16 = 0;
 
 fn cond_word(w: &[u16; WORDS], c: u16, i: usize) -> u16
     requires { ⌜ i ≤ 65600 ⌝ }
-    ensures { λ a. ⌜ a ≡ sections.word (now (w .entry)) sections.conditions (9 * c + i) ⌝ }
+    ensures { λ a. ⌜ a ≡ sections.word (now (w .entry)) sections.conditions (rows.«merge-word-at» c i) ⌝ }
 {
-    get(w, CONDITIONS, CONDITIONS_WORDS, 9 * (c as usize) + i)
+    get(w, CONDITIONS, ROW * (c as usize) + i)
 }
 
 // The cell of its select, where node, shape and scrutinee stand.
 fn cond_select(w: &[u16; WORDS], c: u16) -> u16
-    ensures { λ a. ⌜ a ≡ sections.word (now (w .entry)) sections.conditions (9 * c + 0) ⌝ }
+    ensures { λ a. ⌜ a ≡ rows.«merge-select» (now (w .entry)) c ⌝ }
 {
     cond_word(w, c, 0)
 }
@@ -65,7 +68,7 @@ pub fn cond_scrutinee(w: &[u16; WORDS], c: u16) -> u16
 
 // An earlier condition.
 pub fn cond_part(w: &[u16; WORDS], c: u16, j: u16) -> u16
-    ensures { λ a. ⌜ a ≡ tables.«earlier-part» (sections.word (now (w .entry)) sections.conditions (9 * c + (1 + j))) c ⌝ }
+    ensures { λ a. ⌜ a ≡ tables.«earlier-part» (rows.«merge-part» (now (w .entry)) c j) c ⌝ }
 {
     let p = cond_word(w, c, 1 + (j as usize));
     if p < c {
@@ -94,9 +97,9 @@ pub fn define_merge(w: &mut [u16; WORDS], select: u16, parts: &[u16; 8]) -> Defi
     let m = head(w, MERGES);
     if m < MOST_MERGES {
         let c = MERGE + m;
-        let at = 9 * (c as usize);
-        put(w, CONDITIONS, CONDITIONS_WORDS, at, select);
-        put_all(w, CONDITIONS, CONDITIONS_WORDS, at + 1, parts);
+        let at = ROW * (c as usize);
+        put(w, CONDITIONS, at, select);
+        put_all(w, CONDITIONS, at + 1, parts);
         set_head(w, MERGES, m + 1);
         return Defined::Number(c);
     }

@@ -5,8 +5,8 @@ ghost use Prim.Native.Nat.{_+_, _≤_};
 ghost use Rattle.nesting.specs.Nesting as limits;
 ghost use Rattle.state.specs.Sections as sections;
 ghost use Rattle.state.specs.Tables as tables;
+ghost use Rattle.state.specs.Rows as rows;
 use crate::sections::HEAD;
-use crate::sections::HEAD_WORDS;
 use crate::sections::get;
 use crate::sections::put;
 use crate::sections::put_all;
@@ -57,30 +57,30 @@ pub fn head(w: &[u16; WORDS], i: usize) -> u16
     requires { ⌜ i ≤ 65535 ⌝ }
     ensures { λ a. ⌜ a ≡ sections.word (now (w .entry)) sections.head i ⌝ }
 {
-    get(w, HEAD, HEAD_WORDS, i)
+    get(w, HEAD, i)
 }
 
 pub fn set_head(w: &mut [u16; WORDS], i: usize, x: u16)
     requires { ⌜ i ≤ 65535 ⌝ }
     ensures { λ _. ⌜ now (w .exit) ≡ sections.stored (now (w .entry)) sections.head i x ⌝ }
 {
-    put(w, HEAD, HEAD_WORDS, i, x);
+    put(w, HEAD, i, x);
 }
 
 // Type k of a Return's values.
 pub fn returned_type(w: &[u16; WORDS], k: u16) -> u16
-    ensures { λ a. ⌜ a ≡ sections.word (now (w .entry)) sections.head (sections.«types-at» + k) ⌝ }
+    ensures { λ a. ⌜ a ≡ sections.word (now (w .entry)) sections.head (rows.«types-at» + k) ⌝ }
 {
-    get(w, HEAD, HEAD_WORDS, RETURNED + 1 + (k as usize))
+    get(w, HEAD, RETURNED + 1 + (k as usize))
 }
 
 // Before the first claim: so many regions and nodes, no conditions and no outputs, cell 0, which is none, no attempts, and no note.
 pub fn set_first_totals(w: &mut [u16; WORDS], regions: u16, nodes: u16)
-    ensures { λ _. ⌜ now (w .exit) ≡ sections.«stored-all» (now (w .entry)) sections.head sections.«regions-at»
+    ensures { λ _. ⌜ now (w .exit) ≡ sections.«stored-all» (now (w .entry)) sections.head rows.«regions-at»
         (regions ∷ nodes ∷ 0 ∷ 0 ∷ 1 ∷ 0 ∷ 0 ∷ []) ⌝ }
 {
     let xs = [regions, nodes, 0, 0, 1, 0, 0];
-    put_all(w, HEAD, HEAD_WORDS, REGIONS, &xs);
+    put_all(w, HEAD, REGIONS, &xs);
 }
 
 // One more of what the head counts at i, within its limit.
@@ -97,13 +97,13 @@ fn define(w: &mut [u16; WORDS], i: usize, limit: u16) -> Defined
 }
 
 pub fn define_node(w: &mut [u16; WORDS]) -> Defined
-    ensures { λ a. ⌜ tables.Defines sections.«nodes-at» limits.«most-nodes» (now (w .entry)) (now (w .exit)) a ⌝ }
+    ensures { λ a. ⌜ tables.Defines rows.«nodes-at» limits.«most-nodes» (now (w .entry)) (now (w .exit)) a ⌝ }
 {
     define(w, NODES, MOST_NODES)
 }
 
 pub fn define_region(w: &mut [u16; WORDS]) -> Defined
-    ensures { λ a. ⌜ tables.Defines sections.«regions-at» limits.«most-regions» (now (w .entry)) (now (w .exit)) a ⌝ }
+    ensures { λ a. ⌜ tables.Defines rows.«regions-at» limits.«most-regions» (now (w .entry)) (now (w .exit)) a ⌝ }
 {
     define(w, REGIONS, MOST_REGIONS)
 }
@@ -120,7 +120,7 @@ pub fn count_attempt(w: &mut [u16; WORDS])
 
 // The note that a marked value was met whose second look-up would change it.
 pub fn note_twice(w: &mut [u16; WORDS])
-    ensures { λ _. ⌜ now (w .exit) ≡ sections.stored (now (w .entry)) sections.head sections.«twice-at» 1 ⌝ }
+    ensures { λ _. ⌜ now (w .exit) ≡ sections.stored (now (w .entry)) sections.head rows.«twice-at» 1 ⌝ }
 {
     set_head(w, TWICE, 1);
 }

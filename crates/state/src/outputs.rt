@@ -1,48 +1,45 @@
 // Outputs of select nodes, by number: node, type, a value for each case.
 ghost use mathlib.Core.Path.{_≡_};
-ghost use Prim.Native.Nat.{_+_, _*_};
 ghost use Rattle.state.specs.Sections as sections;
 ghost use Rattle.state.specs.Tables as tables;
+ghost use Rattle.state.specs.Rows as rows;
 use crate::defined::Defined;
 use crate::defined::MOST_OUTPUTS;
 use crate::defined::OUTPUT_TOTAL;
 use crate::defined::head;
 use crate::defined::set_head;
 use crate::sections::OUTPUTS;
-use crate::sections::OUTPUTS_WORDS;
 use crate::sections::get;
 use crate::sections::put;
 use crate::sections::put_all;
 use store::WORDS;
 
+// An output has ten words.
+const ROW: usize = 10;
+
 pub fn output_count(w: &[u16; WORDS]) -> u16
-    ensures { λ a. ⌜ a ≡ sections.word (now (w .entry)) sections.head sections.«outputs-at» ⌝ }
+    ensures { λ a. ⌜ a ≡ sections.word (now (w .entry)) sections.head rows.«outputs-at» ⌝ }
 {
     head(w, OUTPUT_TOTAL)
 }
 
 pub fn output_node(w: &[u16; WORDS], o: u16) -> u16
-    ensures { λ a. ⌜ a ≡ sections.word (now (w .entry)) sections.outputs (10 * o) ⌝ }
+    ensures { λ a. ⌜ a ≡ rows.«output-node» (now (w .entry)) o ⌝ }
 {
-    get(w, OUTPUTS, OUTPUTS_WORDS, 10 * (o as usize))
+    get(w, OUTPUTS, ROW * (o as usize))
 }
 
 pub fn output_type(w: &[u16; WORDS], o: u16) -> u16
-    ensures { λ a. ⌜ a ≡ sections.word (now (w .entry)) sections.outputs (10 * o + 1) ⌝ }
+    ensures { λ a. ⌜ a ≡ rows.«output-type» (now (w .entry)) o ⌝ }
 {
-    get(w, OUTPUTS, OUTPUTS_WORDS, 10 * (o as usize) + 1)
+    get(w, OUTPUTS, ROW * (o as usize) + 1)
 }
 
 // In the case at place j.
 pub fn output_value(w: &[u16; WORDS], o: u16, j: u16) -> u16
-    ensures { λ a. ⌜ a ≡ sections.word (now (w .entry)) sections.outputs (10 * o + 2 + j) ⌝ }
+    ensures { λ a. ⌜ a ≡ rows.«output-value» (now (w .entry)) o j ⌝ }
 {
-    get(
-        w,
-        OUTPUTS,
-        OUTPUTS_WORDS,
-        10 * (o as usize) + 2 + (j as usize),
-    )
+    get(w, OUTPUTS, ROW * (o as usize) + 2 + (j as usize))
 }
 
 pub fn define_output(w: &mut [u16; WORDS], node: u16, ty: u16, vs: &[u16; 8]) -> Defined
@@ -50,10 +47,10 @@ pub fn define_output(w: &mut [u16; WORDS], node: u16, ty: u16, vs: &[u16; 8]) ->
 {
     let o = output_count(w);
     if o < MOST_OUTPUTS {
-        let at = 10 * (o as usize);
-        put(w, OUTPUTS, OUTPUTS_WORDS, at, node);
-        put(w, OUTPUTS, OUTPUTS_WORDS, at + 1, ty);
-        put_all(w, OUTPUTS, OUTPUTS_WORDS, at + 2, vs);
+        let at = ROW * (o as usize);
+        put(w, OUTPUTS, at, node);
+        put(w, OUTPUTS, at + 1, ty);
+        put_all(w, OUTPUTS, at + 2, vs);
         set_head(w, OUTPUT_TOTAL, o + 1);
         return Defined::Number(o);
     }

@@ -7,14 +7,15 @@ ghost use Rattle.state.specs.Tables as tables;
 use crate::edges::IncomingEdgeCount;
 use crate::sections::BACKEDGES;
 use crate::sections::BODIES;
-use crate::sections::BY_REGION;
 use crate::sections::CHILDREN;
 use crate::sections::KINDS;
 use crate::sections::LEVELS;
-use crate::sections::LEVELS_WORDS;
 use crate::sections::get;
 use crate::sections::put;
 use store::WORDS;
+
+// A region has a word for each of eight targets.
+const ROW: usize = 8;
 
 pub const NOT_BEGUN: u16 = 0;
 
@@ -27,50 +28,50 @@ pub const CLAIMED: u16 = 3;
 pub fn region_state(w: &[u16; WORDS], r: u16) -> u16
     ensures { λ a. ⌜ a ≡ sections.word (now (w .entry)) sections.kinds r ⌝ }
 {
-    get(w, KINDS, BY_REGION, r as usize)
+    get(w, KINDS, r as usize)
 }
 
 pub fn set_region_state(w: &mut [u16; WORDS], r: u16, kind: u16)
     ensures { λ _. ⌜ now (w .exit) ≡ sections.stored (now (w .entry)) sections.kinds r kind ⌝ }
 {
-    put(w, KINDS, BY_REGION, r as usize, kind);
+    put(w, KINDS, r as usize, kind);
 }
 
 pub fn backedge_count(w: &[u16; WORDS], r: u16) -> IncomingEdgeCount
     ensures { λ a. ⌜ (a .0 ≡ sections.word (now (w .entry)) sections.backedges r) × (a .0 ≤ 65535) ⌝ }
 {
-    IncomingEdgeCount::of_word(get(w, BACKEDGES, BY_REGION, r as usize))
+    IncomingEdgeCount::of_word(get(w, BACKEDGES, r as usize))
 }
 
 pub fn set_backedge_count(w: &mut [u16; WORDS], r: u16, n: IncomingEdgeCount)
     ensures { λ _. ⌜ now (w .exit) ≡ sections.stored (now (w .entry)) sections.backedges r (tables.«edges-word» (n .0)) ⌝ }
 {
-    put(w, BACKEDGES, BY_REGION, r as usize, n.to_word());
+    put(w, BACKEDGES, r as usize, n.to_word());
 }
 
 pub fn children(w: &[u16; WORDS], r: u16) -> u16
     ensures { λ a. ⌜ a ≡ sections.word (now (w .entry)) sections.children r ⌝ }
 {
-    get(w, CHILDREN, BY_REGION, r as usize)
+    get(w, CHILDREN, r as usize)
 }
 
 pub fn set_children(w: &mut [u16; WORDS], r: u16, h: u16)
     ensures { λ _. ⌜ now (w .exit) ≡ sections.stored (now (w .entry)) sections.children r h ⌝ }
 {
-    put(w, CHILDREN, BY_REGION, r as usize, h);
+    put(w, CHILDREN, r as usize, h);
 }
 
 // Of a claimed region: itself, or the wrapper of its loop.
 pub fn structured_body(w: &[u16; WORDS], r: u16) -> u16
     ensures { λ a. ⌜ a ≡ sections.word (now (w .entry)) sections.bodies r ⌝ }
 {
-    get(w, BODIES, BY_REGION, r as usize)
+    get(w, BODIES, r as usize)
 }
 
 pub fn set_structured_body(w: &mut [u16; WORDS], r: u16, body: u16)
     ensures { λ _. ⌜ now (w .exit) ≡ sections.stored (now (w .entry)) sections.bodies r body ⌝ }
 {
-    put(w, BODIES, BY_REGION, r as usize, body);
+    put(w, BODIES, r as usize, body);
 }
 
 // How region r's target at place j was taken: nothing is deferred, its edge is, or it is claimed.
@@ -84,7 +85,7 @@ pub fn target_taken(w: &[u16; WORDS], r: u16, j: u16) -> u16
     ensures { λ a. ⌜ a ≡ tables.«taken-word» (now (w .entry)) r j ⌝ }
 {
     if j < 8 {
-        return get(w, LEVELS, LEVELS_WORDS, 8 * (r as usize) + (j as usize));
+        return get(w, LEVELS, ROW * (r as usize) + (j as usize));
     }
     0
 }
@@ -93,7 +94,7 @@ pub fn set_target_taken(w: &mut [u16; WORDS], r: u16, j: u16, x: u16)
     ensures { λ _. ⌜ now (w .exit) ≡ tables.«taken-stored» (now (w .entry)) r j x ⌝ }
 {
     if j < 8 {
-        put(w, LEVELS, LEVELS_WORDS, 8 * (r as usize) + (j as usize), x);
+        put(w, LEVELS, ROW * (r as usize) + (j as usize), x);
         return;
     }
 }

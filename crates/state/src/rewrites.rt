@@ -1,17 +1,20 @@
 // How the inputs of each region are rewritten, the Rust's region_input_rewrites: none, replaced, or renumbered or replaced. Of four
 // values for a region, a marked one in a renumbering is the new number of an input that stays. The first entry of a region wins.
 ghost use mathlib.Core.Path.{_≡_};
-ghost use Prim.Native.Nat.{_+_, _*_, _<_};
+ghost use Prim.Native.Nat.{_<_};
 ghost use Rattle.nesting.specs.Nesting as limits;
 ghost use Rattle.state.specs.Sections as sections;
 ghost use Rattle.state.specs.Tables as tables;
+ghost use Rattle.state.specs.Rows as rows;
 use crate::defined::MOST_REGIONS;
 use crate::sections::REWRITES;
-use crate::sections::REWRITES_WORDS;
 use crate::sections::get;
 use crate::sections::put;
 use crate::sections::put_all;
 use store::WORDS;
+
+// An entry has five words.
+const ROW: usize = 5;
 
 pub const NONE: u16 = 0;
 
@@ -25,33 +28,28 @@ const ENTRIES: usize = 640;
 fn entries(w: &[u16; WORDS]) -> u16
     ensures { λ a. ⌜ a ≡ tables.entries (now (w .entry)) ⌝ }
 {
-    get(w, REWRITES, REWRITES_WORDS, ENTRIES)
+    get(w, REWRITES, ENTRIES)
 }
 
 pub fn rewrite_kind(w: &[u16; WORDS], r: u16) -> u16
     ensures { λ a. ⌜ a ≡ tables.«rewrite-kind» (now (w .entry)) r ⌝ }
 {
     if r < entries(w) {
-        return get(w, REWRITES, REWRITES_WORDS, 5 * (r as usize));
+        return get(w, REWRITES, ROW * (r as usize));
     }
     NONE
 }
 
 pub fn rewrite_value(w: &[u16; WORDS], r: u16, k: u16) -> u16
-    ensures { λ a. ⌜ a ≡ sections.word (now (w .entry)) sections.rewrites (5 * r + 1 + k) ⌝ }
+    ensures { λ a. ⌜ a ≡ rows.«rewrite-value» (now (w .entry)) r k ⌝ }
 {
-    get(
-        w,
-        REWRITES,
-        REWRITES_WORDS,
-        5 * (r as usize) + 1 + (k as usize),
-    )
+    get(w, REWRITES, ROW * (r as usize) + 1 + (k as usize))
 }
 
 pub fn set_no_rewrites(w: &mut [u16; WORDS])
-    ensures { λ _. ⌜ now (w .exit) ≡ sections.stored (now (w .entry)) sections.rewrites sections.«entries-at» 0 ⌝ }
+    ensures { λ _. ⌜ now (w .exit) ≡ sections.stored (now (w .entry)) sections.rewrites rows.«entries-at» 0 ⌝ }
 {
-    put(w, REWRITES, REWRITES_WORDS, ENTRIES, 0);
+    put(w, REWRITES, ENTRIES, 0);
 }
 
 // Entries are set up to region r's: those between, to none.
@@ -64,10 +62,10 @@ fn reach(w: &mut [u16; WORDS], r: u16)
         return;
     }
     while q < r {
-        put(w, REWRITES, REWRITES_WORDS, 5 * (q as usize), NONE);
+        put(w, REWRITES, ROW * (q as usize), NONE);
         q += 1;
     }
-    put(w, REWRITES, REWRITES_WORDS, ENTRIES, r + 1);
+    put(w, REWRITES, ENTRIES, r + 1);
 }
 
 pub fn insert_rewrites(w: &mut [u16; WORDS], r: u16, kind: u16, vs: &[u16; 4])
@@ -80,7 +78,7 @@ pub fn insert_rewrites(w: &mut [u16; WORDS], r: u16, kind: u16, vs: &[u16; 4])
         return;
     }
     reach(w, r);
-    let at = 5 * (r as usize);
-    put(w, REWRITES, REWRITES_WORDS, at, kind);
-    put_all(w, REWRITES, REWRITES_WORDS, at + 1, vs);
+    let at = ROW * (r as usize);
+    put(w, REWRITES, at, kind);
+    put_all(w, REWRITES, at + 1, vs);
 }

@@ -2,19 +2,21 @@
 // target has. A region's set is the first bundles of its slot; slot 32 is the spare, in which a select's set is made.
 ghost use mathlib.Core.Path.{_≡_};
 ghost use mathlib.Core.List.{[], _∷_};
-ghost use Prim.Native.Nat.{_+_, _*_, _-_, _≤_, _<_};
+ghost use Prim.Native.Nat.{_-_, _≤_, _<_};
 ghost use Rattle.state.specs.Sections as sections;
 ghost use Rattle.state.specs.Tables as tables;
+ghost use Rattle.state.specs.Rows as rows;
 use crate::edges::IncomingEdgeCount;
 use crate::sections::BUNDLES;
-use crate::sections::BUNDLES_WORDS;
-use crate::sections::BY_SLOT;
 use crate::sections::SET_LENGTHS;
 use crate::sections::SET_STARTS;
 use crate::sections::get;
 use crate::sections::put;
 use crate::sections::put_all;
 use store::WORDS;
+
+// A bundle has seven words.
+const ROW: usize = 7;
 
 // The target of a Return.
 pub const RETURN: u16 = 65535;
@@ -33,25 +35,25 @@ const MOST_BUNDLES: u16 = 1097;
 pub fn set_start(w: &[u16; WORDS], r: u16) -> u16
     ensures { λ a. ⌜ a ≡ sections.word (now (w .entry)) sections.«set-starts» r ⌝ }
 {
-    get(w, SET_STARTS, BY_SLOT, r as usize)
+    get(w, SET_STARTS, r as usize)
 }
 
 pub fn put_set_start(w: &mut [u16; WORDS], r: u16, start: u16)
     ensures { λ _. ⌜ now (w .exit) ≡ sections.stored (now (w .entry)) sections.«set-starts» r start ⌝ }
 {
-    put(w, SET_STARTS, BY_SLOT, r as usize, start);
+    put(w, SET_STARTS, r as usize, start);
 }
 
 pub fn set_length(w: &[u16; WORDS], r: u16) -> u16
     ensures { λ a. ⌜ a ≡ sections.word (now (w .entry)) sections.«set-lengths» r ⌝ }
 {
-    get(w, SET_LENGTHS, BY_SLOT, r as usize)
+    get(w, SET_LENGTHS, r as usize)
 }
 
 pub fn put_set_length(w: &mut [u16; WORDS], r: u16, n: u16)
     ensures { λ _. ⌜ now (w .exit) ≡ sections.stored (now (w .entry)) sections.«set-lengths» r n ⌝ }
 {
-    put(w, SET_LENGTHS, BY_SLOT, r as usize, n);
+    put(w, SET_LENGTHS, r as usize, n);
 }
 
 // The first bundle of slot r.
@@ -98,44 +100,44 @@ pub fn swap_sets(w: &mut [u16; WORDS], a: u16, b: u16)
 
 fn word(w: &[u16; WORDS], b: u16, i: usize) -> u16
     requires { ⌜ i ≤ 65600 ⌝ }
-    ensures { λ a. ⌜ a ≡ sections.word (now (w .entry)) sections.bundles (7 * b + i) ⌝ }
+    ensures { λ a. ⌜ a ≡ rows.«bundle-word» (now (w .entry)) b i ⌝ }
 {
-    get(w, BUNDLES, BUNDLES_WORDS, 7 * (b as usize) + i)
+    get(w, BUNDLES, ROW * (b as usize) + i)
 }
 
 fn set_word(w: &mut [u16; WORDS], b: u16, i: usize, x: u16)
     requires { ⌜ i ≤ 65600 ⌝ }
-    ensures { λ _. ⌜ now (w .exit) ≡ sections.stored (now (w .entry)) sections.bundles (7 * b + i) x ⌝ }
+    ensures { λ _. ⌜ now (w .exit) ≡ sections.stored (now (w .entry)) sections.bundles (rows.«bundle-word-at» b i) x ⌝ }
 {
-    put(w, BUNDLES, BUNDLES_WORDS, 7 * (b as usize) + i, x);
+    put(w, BUNDLES, ROW * (b as usize) + i, x);
 }
 
 pub fn target(w: &[u16; WORDS], b: u16) -> u16
-    ensures { λ a. ⌜ a ≡ sections.word (now (w .entry)) sections.bundles (7 * b + 0) ⌝ }
+    ensures { λ a. ⌜ a ≡ rows.«bundle-target» (now (w .entry)) b ⌝ }
 {
     word(w, b, 0)
 }
 
 pub fn accumulated_count(w: &[u16; WORDS], b: u16) -> IncomingEdgeCount
-    ensures { λ a. ⌜ (a .0 ≡ sections.word (now (w .entry)) sections.bundles (7 * b + 1)) × (a .0 ≤ 65535) ⌝ }
+    ensures { λ a. ⌜ (a .0 ≡ rows.«bundle-count» (now (w .entry)) b) × (a .0 ≤ 65535) ⌝ }
 {
     IncomingEdgeCount::of_word(word(w, b, 1))
 }
 
 pub fn set_accumulated_count(w: &mut [u16; WORDS], b: u16, n: IncomingEdgeCount)
-    ensures { λ _. ⌜ now (w .exit) ≡ sections.stored (now (w .entry)) sections.bundles (7 * b + 1) (tables.«edges-word» (n .0)) ⌝ }
+    ensures { λ _. ⌜ now (w .exit) ≡ sections.stored (now (w .entry)) sections.bundles (rows.«bundle-count-at» b) (tables.«edges-word» (n .0)) ⌝ }
 {
     set_word(w, b, 1, n.to_word());
 }
 
 pub fn condition(w: &[u16; WORDS], b: u16) -> u16
-    ensures { λ a. ⌜ a ≡ sections.word (now (w .entry)) sections.bundles (7 * b + 2) ⌝ }
+    ensures { λ a. ⌜ a ≡ rows.«bundle-condition» (now (w .entry)) b ⌝ }
 {
     word(w, b, 2)
 }
 
 pub fn set_condition(w: &mut [u16; WORDS], b: u16, c: u16)
-    ensures { λ _. ⌜ now (w .exit) ≡ sections.stored (now (w .entry)) sections.bundles (7 * b + 2) c ⌝ }
+    ensures { λ _. ⌜ now (w .exit) ≡ sections.stored (now (w .entry)) sections.bundles (rows.«bundle-condition-at» b) c ⌝ }
 {
     set_word(w, b, 2, c);
 }
@@ -160,22 +162,22 @@ pub fn set_target_input(w: &mut [u16; WORDS], b: u16, k: u16, v: u16)
 
 // Target, count and condition; the inputs are set one by one.
 pub fn set_bundle(w: &mut [u16; WORDS], b: u16, t: u16, n: IncomingEdgeCount, c: u16)
-    ensures { λ _. ⌜ now (w .exit) ≡ sections.«stored-all» (now (w .entry)) sections.bundles (7 * b)
+    ensures { λ _. ⌜ now (w .exit) ≡ sections.«stored-all» (now (w .entry)) sections.bundles (rows.«bundle-row-at» b)
         (t ∷ tables.«edges-word» (n .0) ∷ c ∷ []) ⌝ }
 {
     let xs = [t, n.to_word(), c];
-    put_all(w, BUNDLES, BUNDLES_WORDS, 7 * (b as usize), &xs);
+    put_all(w, BUNDLES, ROW * (b as usize), &xs);
 }
 
 // All four of its inputs.
 pub fn set_target_inputs(w: &mut [u16; WORDS], b: u16, vs: &[u16; 4])
-    ensures { λ _. ⌜ now (w .exit) ≡ sections.«stored-all» (now (w .entry)) sections.bundles (7 * b + 3) (now (vs .entry)) ⌝ }
+    ensures { λ _. ⌜ now (w .exit) ≡ sections.«stored-all» (now (w .entry)) sections.bundles (rows.«bundle-word-at» b 3) (now (vs .entry)) ⌝ }
 {
-    put_all(w, BUNDLES, BUNDLES_WORDS, 7 * (b as usize) + 3, vs);
+    put_all(w, BUNDLES, ROW * (b as usize) + 3, vs);
 }
 
 pub fn copy_bundle(w: &mut [u16; WORDS], to: u16, from: u16)
-    ensures { λ _. ⌜ now (w .exit) ≡ sections.«stored-all» (now (w .entry)) sections.bundles (7 * to)
+    ensures { λ _. ⌜ now (w .exit) ≡ sections.«stored-all» (now (w .entry)) sections.bundles (rows.«bundle-row-at» to)
         (tables.«bundle-words» (now (w .entry)) from) ⌝ }
 {
     let xs = [
@@ -187,7 +189,7 @@ pub fn copy_bundle(w: &mut [u16; WORDS], to: u16, from: u16)
         word(w, from, 5),
         word(w, from, 6),
     ];
-    put_all(w, BUNDLES, BUNDLES_WORDS, 7 * (to as usize), &xs);
+    put_all(w, BUNDLES, ROW * (to as usize), &xs);
 }
 
 // The bundle to a target among n from `start` on.

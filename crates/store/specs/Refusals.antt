@@ -1,7 +1,8 @@
 -- Document 01's number and word of each refusal that the code has.
 use Prim.Native.Nat.{ℕ}
 use Rattle.format.specs.Store.{Answer, refused}
-use Rattle.format.specs.Refusals.{wrong-length, wrong-block-number, wrong-check, wrong-word-count, out-of-range, wrong-reference, wrong-type}
+use Rattle.format.specs.Refusals.{wrong-length, wrong-block-number, wrong-check, wrong-word-count, out-of-range, wrong-reference}
+use Rattle.format.specs.Refusals.{wrong-type}
 use Rattle.format.specs.Refusals.{exit-named-twice, too-many, too-few-words, figure-too-large, already-claimed}
 use Rattle.store.specs.declared.refusals.Refusal.{Refusal}
 use Rattle.store.specs.declared.refusals.Refusal.the-variants.{WrongLength, WrongBlockNumber, WrongCheck, WrongWordCount, OutOfRange}

@@ -1,18 +1,19 @@
 -- A value's three words: an output by its node, and its place among that node's.
 use mathlib.Core.List.{List, [], _∷_}
-use Prim.Native.Nat.{ℕ, zero, suc, _+_, _*_}
+use Prim.Native.Nat.{ℕ, zero, suc, _+_}
 use lib.Dec.{ltb, eqb}
 use Rattle.meaning.specs.Lists.{pick}
-use Rattle.state.specs.Sections.{word, head, outputs, outputs-at}
+use Rattle.state.specs.Sections.{word, head}
 use Rattle.state.specs.Values.{parts-of}
+use Rattle.state.specs.Rows.{output-node, outputs-at}
 
 unfoldable pub node-of : List ℕ → ℕ → ℕ
-node-of w o = pick (ltb o (word w head outputs-at)) (word w outputs (10 * o)) 0
+node-of w o = pick (ltb o (word w head outputs-at)) (output-node w o) 0
 
 -- How many of the first n outputs are the node's.
 unfoldable pub node-times : List ℕ → ℕ → ℕ → ℕ
 node-times w node zero = 0
-node-times w node (suc i) = node-times w node i + pick (eqb (word w outputs (10 * i)) node) 1 0
+node-times w node (suc i) = node-times w node i + pick (eqb (output-node w i) node) 1 0
 
 abbrev pub least : ℕ → ℕ → ℕ
 least a b = pick (ltb a b) a b

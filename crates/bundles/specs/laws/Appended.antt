@@ -1,7 +1,7 @@
 -- A case that stands alone is appended to its parent, as the definition has it.
 use mathlib.Core.Path.{_≡_, refl, sym, ap, _∙_}
 use mathlib.Core.List.{List}
-use Prim.Native.Nat.{ℕ, zero, suc, _+_, _*_, _≤_, _<_}
+use Prim.Native.Nat.{ℕ, zero, suc, _+_, _≤_, _<_}
 use native.Mathlib.Omega.{arith}
 use lib.ListN.{length, getD}
 use Rattle.meaning.specs.Graph.{Graph, undef}
@@ -11,7 +11,7 @@ use Rattle.nesting.specs.Nesting.{region-body, join, done}
 use Rattle.nesting.specs.Nesting.{replace-with, append-maybe-claimed-region}
 use Rattle.nesting.specs.Nesting.{most-regions}
 use Rattle.state.specs.declared.cases.Case.{Case}
-use Rattle.state.specs.Sections.{used, word, stored, head, kinds, set-starts, set-lengths, children, cases, bundles, most-cells}
+use Rattle.state.specs.Sections.{used, word, stored, head, kinds, set-starts, set-lengths, children, bundles}
 use Rattle.state.specs.Tables.{bundle-at, bundle-words, case-row, bundle-copied, swapped, inserted, Joins}
 use Rattle.shown.specs.Tables.{EntryWords, replace-words}
 use Rattle.shown.specs.Values.{value}
@@ -31,28 +31,35 @@ use Rattle.shown.specs.laws.SetSteps.{set-moves, swapped-only, swapped-first-se
 use Rattle.shown.specs.laws.Finds.{bundle-in}
 use Rattle.bundles.specs.Words.{case-inputs, Appends, appended, its-edge, its-rest}
 use Rattle.bundles.specs.laws.CaseSteps.{CaseAndSet}
+use Rattle.state.specs.Rows.{bundle-row-at, case-claimed, case-input, case-own-edge, case-set-length, case-set-start, cells-at}
+use Rattle.state.specs.Rows.{entry-replace, kind-claimed, kind-ready, most-cells, region-kind}
 
 -- ---- A case that is to stand alone, by its parts; its inputs stand in row j.
 pub data ShowsAlone (g : Graph) (w : List ℕ) (r j : ℕ) (x : Case) : MaybeClaimedRegion → Type 0 where
-  claimed-parts : {c : ClaimedRegion} → x .kind ≡ 2 → x .origin ≡ c .origin → c .origin < length (g .regions) → (c .origin ≡ r → ⊥)
-      → word w kinds (c .origin) ≡ 3 → x .body ≡ c .structured-body → c .structured-body < most-regions
+  claimed-parts : {c : ClaimedRegion} → x .kind ≡ case-claimed → x .origin ≡ c .origin → c .origin < length (g .regions)
+      → (c .origin ≡ r → ⊥)
+      → region-kind w (c .origin) ≡ kind-claimed → x .body ≡ c .structured-body → c .structured-body < most-regions
       → ShowsChildren g w (x .children) (c .children) → ShowsSet g w (word w set-starts (c .origin)) (x .length) (c .deferred-edges)
-      → ((k : ℕ) → k < 4 → Names (word w cases (10 * j + (6 + k))) (getD (c .structured-body-inputs) k (undef 0)))
+      → ((k : ℕ) → k < 4 → Names (case-input w j k) (getD (c .structured-body-inputs) k (undef 0)))
       → ShowsAlone g w r j x (ok c)
-  edge-parts : {d : DeferredEdgeBundleSet} → x .kind ≡ 1 → x .length ≡ 1 → ShowsSet g w (x .start) 1 d → ShowsAlone g w r j x (err d)
+  edge-parts : {d : DeferredEdgeBundleSet} → x .kind ≡ case-own-edge → x .length ≡ 1 → ShowsSet g w (x .start) 1 d
+      → ShowsAlone g w r j x (err d)
   -- Nothing, or what is left of region r's own set.
-  rest-parts : {d : DeferredEdgeBundleSet} → (x .kind ≡ 2 → ⊥) → (x .kind ≡ 1 → ⊥) → ShowsSet g w (word w set-starts r) (x .length) d
+  rest-parts : {d : DeferredEdgeBundleSet} → (x .kind ≡ case-claimed → ⊥) → (x .kind ≡ case-own-edge → ⊥)
+      → ShowsSet g w (word w set-starts r) (x .length) d
       → ShowsAlone g w r j x (err d)
 
 -- Of a case that is shown, the parts are its row.
 pub row-alone : {g : Graph} {w : List ℕ} {r j : ℕ} {m : MaybeClaimedRegion} → Slots (length (g .regions)) w
     → HasSlot (length (g .regions)) r → CaseAndSet g w r j m
-    → ((c : ClaimedRegion) → m ≡ ok c → (word w kinds (c .origin) ≡ 3) × (c .origin ≡ r → ⊥)) → ShowsAlone g w r j (case-row w j) m
+    → ((c : ClaimedRegion) → m ≡ ok c → (region-kind w (c .origin) ≡ kind-claimed) × (c .origin ≡ r → ⊥))
+    → ShowsAlone g w r j (case-row w j) m
 row-alone {g} {w} {r} {j} slots below x claimed = go (x .case) (x .set) claimed
   where
     go : {m : MaybeClaimedRegion} → ShowsCase g w r j m
-        → ShowsSet g w (word w cases (10 * j + 4)) (word w cases (10 * j + 5)) (deferred-of m)
-        → ((c : ClaimedRegion) → m ≡ ok c → (word w kinds (c .origin) ≡ 3) × (c .origin ≡ r → ⊥)) → ShowsAlone g w r j (case-row w j) m
+        → ShowsSet g w (case-set-start w j) (case-set-length w j) (deferred-of m)
+        → ((c : ClaimedRegion) → m ≡ ok c → (region-kind w (c .origin) ≡ kind-claimed) × (c .origin ≡ r → ⊥))
+        → ShowsAlone g w r j (case-row w j) m
     go (shows-ok {c} a b in-graph d e f start size names) s claimed =
         let y = claimed c refl in claimed-parts {c = c} a b in-graph (y .1) (y .0) d e f (rw start at s) names
     go (shows-nothing a b) s claimed =
@@ -90,9 +97,9 @@ pub record AppendShown (g : Graph) (w w′ : List ℕ) (s : NestState) (parent :
   pub later : Later g w w′
   pub kept : (q : ℕ) → HasSlot (length (g .regions)) q → (q ≡ r → ⊥) → ((c : ClaimedRegion) → m ≡ ok c → q ≡ c .origin → ⊥)
       → KeptRegion w w′ q
-  pub cells-to : word w′ head 4 ≤ suc (word w head 4)
+  pub cells-to : word w′ head cells-at ≤ suc (word w head cells-at)
 
-pub inputs-at : (w : List ℕ) (j k : ℕ) → k < 4 → getD (case-inputs w j) k 0 ≡ word w cases (10 * j + (6 + k))
+pub inputs-at : (w : List ℕ) (j k : ℕ) → k < 4 → getD (case-inputs w j) k 0 ≡ case-input w j k
 inputs-at w j zero h = refl
 inputs-at w j (suc zero) h = refl
 inputs-at w j (suc (suc zero)) h = refl
@@ -100,7 +107,7 @@ inputs-at w j (suc (suc (suc zero))) h = refl
 inputs-at w j (suc (suc (suc (suc k)))) h = absurd (omega arith)
 
 module _ {g : Graph} (few : length (g .regions) ≤ 32) {r : ℕ} (here : r < length (g .regions)) {w : List ℕ} {s : NestState}
-    (state : ShowsState g w s) (unready : word w kinds r ≡ 2 → ⊥) {parent : Nodes}
+    (state : ShowsState g w s) (unready : region-kind w r ≡ kind-ready → ⊥) {parent : Nodes}
     (nodes : ShowsChildren g w (word w children r) parent) where
   -- Only region r's set changes, from w to w₁ within its slot, and then in its length.
   set-appended : {w₁ : List ℕ} {d : DeferredEdgeBundleSet} {n : ℕ} → Concerns g r w w₁ → word w₁ children r ≡ word w children r
@@ -124,7 +131,7 @@ module _ {g : Graph} (few : length (g .regions) ≤ 32) {r : ℕ} (here : r < le
             };
         later = both .later;
         kept = λ q h e f. both .others q h e;
-        cells-to = let z = both .same-head 4 in omega arith;
+        cells-to = let z = both .same-head cells-at in omega arith;
       }
 
   -- The edge of its own is copied to the front of region r's slot.
@@ -140,7 +147,7 @@ module _ {g : Graph} (few : length (g .regions) ≤ 32) {r : ℕ} (here : r < le
       let first = bundle-concerns (bundle-run w start (bundle-words w p) (omega arith)) g r 0 slots (omega arith) (omega arith) (sym z) in
       let moved = copy-moves w start p (state .tables .size) (omega arith) in
       rw front
-      (set-appended first (run-elsewhere-word w bundles (7 * start) (bundle-words w p) children (omega arith) r)
+      (set-appended first (run-elsewhere-word w bundles (bundle-row-at start) (bundle-words w p) children (omega arith) r)
       (rw (first .same-starts r)
       (set-moves (first .later) (λ k. k) (set .size) (omega arith) (omega arith) (λ k h. h) (λ i k a b e. omega arith)
       (λ k h. let e : k ≡ 0 = omega arith in let y : p + 0 ≡ p = omega arith in rw (e, z, y) moved) (λ k h. refl) set)))
@@ -149,19 +156,19 @@ module _ {g : Graph} (few : length (g .regions) ≤ 32) {r : ℕ} (here : r < le
 -- Before its slot is taken: h is the list of all children, ks.
 record Entered (g : Graph) (w w₂ : List ℕ) (s : NestState) (r o h : ℕ) (ks : Nodes) : Type 0 where
   state : ShowsState g w₂ s
-  unready : word w₂ kinds r ≡ 2 → ⊥
-  origin-claimed : word w₂ kinds o ≡ 3
+  unready : region-kind w₂ r ≡ kind-ready → ⊥
+  origin-claimed : region-kind w₂ o ≡ kind-claimed
   nodes : ShowsChildren g w₂ h ks
   later : Later g w w₂
   kept : (q : ℕ) → KeptRegion w w₂ q
-  cells-to : word w₂ head 4 ≤ suc (word w head 4)
+  cells-to : word w₂ head cells-at ≤ suc (word w head cells-at)
 
 record SlotTaken (g : Graph) (w w′ : List ℕ) (s : NestState) (r o : ℕ) (x : Body) : Type 0 where
   state : ShowsState g w′ s
   body : ShowsBody g w′ r x
   later : Later g w w′
   kept : (q : ℕ) → HasSlot (length (g .regions)) q → (q ≡ r → ⊥) → (q ≡ o → ⊥) → KeptRegion w w′ q
-  cells-to : word w′ head 4 ≤ suc (word w head 4)
+  cells-to : word w′ head cells-at ≤ suc (word w head cells-at)
 
 slot-taken : {g : Graph} → length (g .regions) ≤ 32 → {r o : ℕ} → r < length (g .regions) → o < length (g .regions)
     → {w w₂ : List ℕ} {s : NestState} {h : ℕ} {ks : Nodes} → Entered g w w₂ s r o h ks → {n : ℕ} {d : DeferredEdgeBundleSet}
@@ -182,13 +189,13 @@ slot-taken {g} few {r} {o} here there {w} {w₂} {s} {h} {ks} x {n} {d} set =
     let w₄ = swapped w₃ r o in
     let only₄ = swapped-only w₃ room₃ r o r-33 o-33 in
     let later₄ = only-later only₄ g in
-    let kind-r : word w₃ kinds r ≡ 2 → ⊥ = λ e. x .unready (sym (c₃ .same-kinds r) ∙ e) in
-    let kind-o : word w₃ kinds o ≡ 3 = c₃ .same-kinds o ∙ x .origin-claimed in
+    let kind-r : region-kind w₃ r ≡ kind-ready → ⊥ = λ e. x .unready (sym (c₃ .same-kinds r) ∙ e) in
+    let kind-o : region-kind w₃ o ≡ kind-claimed = c₃ .same-kinds o ∙ x .origin-claimed in
     let state₄ = only-state only₄ (swapped-slots w₃ room₃ r o r-33 o-33 (omega arith) (omega arith) (state₃ .slots))
-    (λ q k e. swapped-kept w₃ room₃ r o r-33 o-33 q (λ f. kind-r (ap (λ b. word w₃ kinds b) (sym f) ∙ e))
-    (λ f. let z : word w₃ kinds o ≡ 2 = ap (λ b. word w₃ kinds b) (sym f) ∙ e in omega (arith, kind-o, z))) state₃ in
+    (λ q k e. swapped-kept w₃ room₃ r o r-33 o-33 q (λ f. kind-r (ap (λ b. region-kind w₃ b) (sym f) ∙ e))
+    (λ f. let z : region-kind w₃ o ≡ kind-ready = ap (λ b. region-kind w₃ b) (sym f) ∙ e in omega (arith, kind-o, z))) state₃ in
     let room₄ = state₄ .tables .size in
-    let kind₄ : word w₄ kinds r ≡ 2 → ⊥ = λ e. kind-r (sym (only-word-same only₄ kinds (omega arith) r) ∙ e) in
+    let kind₄ : region-kind w₄ r ≡ kind-ready → ⊥ = λ e. kind-r (sym (only-word-same only₄ kinds (omega arith) r) ∙ e) in
     let start₃ : word w₃ set-starts o ≡ word w set-starts o = c₃ .same-starts o ∙ x .kept o .set-start in
     let set₃ : ShowsSet g w₃ (word w₃ set-starts o) n d =
     rw start₃ (set-stays (c₃ .later) (λ i k. same-elsewhere w₂ children (omega arith) r h _) set₂) in
@@ -197,7 +204,7 @@ slot-taken {g} few {r} {o} here there {w} {w₂} {s} {h} {ks} x {n} {d} set =
     let handle₄ : word w₄ children r ≡ word w₃ children r = only-word-same only₄ children (omega arith) r in
     let handle₅ : word (stored w₄ set-lengths r n) children r ≡ word w₃ children r =
     word-other w₄ set-lengths r n children (omega arith) r ∙ handle₄ in
-    let total₅ = c₅ .same-head 4 ∙ only₄ .totals 4 (omega arith) ∙ c₃ .same-head 4 in
+    let total₅ = c₅ .same-head cells-at ∙ only₄ .totals cells-at (omega arith) ∙ c₃ .same-head cells-at in
     record {
       state = state-stays (c₅ .later) (concerns-states c₅ few kind₄) (c₅ .tables) state₄;
       body =
@@ -213,11 +220,12 @@ slot-taken {g} few {r} {o} here there {w} {w₂} {s} {h} {ks} x {n} {d} set =
     }
 
 module _ {g : Graph} (few : length (g .regions) ≤ 32) {r : ℕ} (here : r < length (g .regions)) {w : List ℕ} {s : NestState}
-    (state : ShowsState g w s) (unready : word w kinds r ≡ 2 → ⊥) {parent : Nodes}
+    (state : ShowsState g w s) (unready : region-kind w r ≡ kind-ready → ⊥) {parent : Nodes}
     (nodes : ShowsChildren g w (word w children r) parent) where
-  claimed-appended : (x : Case) {j : ℕ} {c : ClaimedRegion} → word w head 4 < most-cells → ShowsAlone g w r j x (ok c)
+  claimed-appended : (x : Case) {j : ℕ} {c : ClaimedRegion} → word w head cells-at < most-cells → ShowsAlone g w r j x (ok c)
       → {w₂ w′ : List ℕ} {h : ℕ}
-      → Joins (inserted w (x .body) 1 (case-inputs w j)) w₂ (word (inserted w (x .body) 1 (case-inputs w j)) children r) (x .children) h
+      → Joins (inserted w (x .body) entry-replace (case-inputs w j)) w₂
+      (word (inserted w (x .body) entry-replace (case-inputs w j)) children r) (x .children) h
       → w′ ≡ stored (swapped (stored w₂ children r h) r (x .origin)) set-lengths r (x .length)
       → AppendShown g w w′ s parent (ok c) r
   unfolding append-maybe-claimed-region
@@ -231,15 +239,16 @@ module _ {g : Graph} (few : length (g .regions) ≤ 32) {r : ℕ} (here : r < le
       let later₁ = later-by changes (omega arith) g in
       let states₁ = states-by changes (omega arith) (omega arith) (omega arith) g in
       let kept₁ = kept-by changes (omega arith) in
-      let room₁ : used ≤ length (inserted w (x .body) 1 vs) = rw (changes .words) room in
-      let total₁ = changes .totals 4 (omega arith) in
+      let room₁ : used ≤ length (inserted w (x .body) entry-replace vs) = rw (changes .words) room in
+      let total₁ = changes .totals cells-at (omega arith) in
       let entry : EntryWords (x .body) 1 vs (replace-with (c .structured-body-inputs)) =
       replace-words refl (λ k b. ap value (inputs-at w j k b) ∙ names k b .is) in
       let tables₁ = rewrites-inserted (state .tables) body-in refl entry refl in
-      let named₁ = named-inserted w (x .body) 1 vs room body-in refl (λ k b. rw (inputs-at w j k b) (names k b .below)) (state .named) in
+      let named₁ = named-inserted w (x .body) entry-replace vs room body-in refl (λ k b. rw (inputs-at w j k b) (names k b .below))
+      (state .named) in
       let state₁ = state-next later₁ states₁ tables₁ named₁ refl state in
-      let w₁ = inserted w (x .body) 1 vs in
-      let free₁ : word w₁ head 4 < most-cells = rw total₁ free in
+      let w₁ = inserted w (x .body) entry-replace vs in
+      let free₁ : word w₁ head cells-at < most-cells = rw total₁ free in
       let outer : ShowsChildren g w₁ (word w₁ children r) parent = rw (kept₁ r .handle) (later₁ .nodes-stay nodes) in
       let y = list-joined free₁ room₁ joins outer (later₁ .nodes-stay inner) in
       let state₂ = state-stays (y .later) (y .states) (y .tables) state₁ in
@@ -266,7 +275,7 @@ module _ {g : Graph} (few : length (g .regions) ≤ 32) {r : ℕ} (here : r < le
       }
 
   -- Code and definition append the same.
-  pub append-shown : {x : Case} {j : ℕ} {m : MaybeClaimedRegion} {w′ : List ℕ} → word w head 4 < most-cells → ShowsAlone g w r j x m
+  pub append-shown : {x : Case} {j : ℕ} {m : MaybeClaimedRegion} {w′ : List ℕ} → word w head cells-at < most-cells → ShowsAlone g w r j x m
       → Appends w w′ r x j → AppendShown g w w′ s parent m r
   append-shown {x} free (claimed-parts a b c d e f h k l n) (appended p joins stores) =
       claimed-appended x free (claimed-parts a b c d e f h k l n) joins stores

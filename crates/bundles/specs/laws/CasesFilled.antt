@@ -1,7 +1,7 @@
 -- The cases of a region's terminator, filled: they show what the definition's list has, and the state stays shown.
 use mathlib.Core.Path.{_≡_, refl, sym, subst, _∙_}
 use mathlib.Core.List.{List, [], _++_}
-use Prim.Native.Nat.{ℕ, zero, suc, _+_, _*_, _≤_, _<_}
+use Prim.Native.Nat.{ℕ, zero, suc, _+_, _≤_, _<_}
 use native.Mathlib.Omega.{arith}
 use native.Mathlib.Decide.{decLt, ℕ-discrete}
 use lib.ListN.{length, getD}
@@ -29,13 +29,15 @@ use Rattle.bundles.specs.laws.Deferred.{edge-names, edge-deferred-shown}
 use Rattle.bundles.specs.laws.CaseSteps.{OneCase, one-then, one-row, one-edge, own-in, in-slots, one-kept, taken-same, Owner}
 use Rattle.bundles.specs.laws.CaseSteps.{of-claimed, of-others, case-placed, placed-apart, placed-not-spare, CaseAndSet, other-row}
 use Rattle.bundles.specs.laws.CaseSteps.{shown-stays, row-word, claimed-row, nothing-row, edge-row}
+use Rattle.state.specs.Rows.{case-claimed, case-kind, case-nothing, case-origin, case-own-edge, case-row-at, cases-at, level-claimed}
+use Rattle.state.specs.Rows.{level-deferred, level-unreachable, own-edges-from}
 
 -- ---- How the target at place j was taken, with the definition's case.
 pub data Taken (g : Graph) (w : List ℕ) (r j : ℕ) : MaybeClaimedRegion → Type 0 where
-  was-claimed : {c : ClaimedRegion} → taken-word w r j ≡ 2 → ShowsClaimed g w c → c .origin ≡ edge-of g r j .target
+  was-claimed : {c : ClaimedRegion} → taken-word w r j ≡ level-claimed → ShowsClaimed g w c → c .origin ≡ edge-of g r j .target
       → c .structured-body-inputs ≡ edge-of g r j .inputs → Taken g w r j (ok c)
-  was-deferred : {m : MaybeClaimedRegion} → taken-word w r j ≡ 1 → m ≡ defer-edge (edge-of g r j) → Taken g w r j m
-  was-nothing : taken-word w r j ≡ 0 → Taken g w r j (err [])
+  was-deferred : {m : MaybeClaimedRegion} → taken-word w r j ≡ level-deferred → m ≡ defer-edge (edge-of g r j) → Taken g w r j m
+  was-nothing : taken-word w r j ≡ level-unreachable → Taken g w r j (err [])
 
 pub taken-stays : {g : Graph} {w w′ : List ℕ} → OnlySets w w′ → ((q : ℕ) → HasSlot (length (g .regions)) q → KeptRegion w w′ q)
     → length (g .regions) ≤ 32
@@ -51,34 +53,34 @@ taken-stays only kept few {r} {j} (was-nothing a) = was-nothing (taken-same only
 pub filled-one : (g : Graph) (w : List ℕ) (r j : ℕ) → j < 8 → OneCase w (case-filled g w r j) j
 unfolding case-filled
 filled-one g w r j h =
-    elim (ℕ-discrete (taken-word w r j) 2) [
-      | yes e ↦ rw (eq-eqb (taken-word w r j) 2 e) (one-row w j _ (omega arith))
-      | no d ↦ elim (ℕ-discrete (taken-word w r j) 1) [
-        | yes e ↦ rw (ne-eqb (taken-word w r j) 2 d, eq-eqb (taken-word w r j) 1 e)
+    elim (ℕ-discrete (taken-word w r j) level-claimed) [
+      | yes e ↦ rw (eq-eqb (taken-word w r j) level-claimed e) (one-row w j _ (omega arith))
+      | no d ↦ elim (ℕ-discrete (taken-word w r j) level-deferred) [
+        | yes e ↦ rw (ne-eqb (taken-word w r j) level-claimed d, eq-eqb (taken-word w r j) level-deferred e)
             (one-then (one-edge g w r j h) (one-row _ j _ (omega arith)))
-        | no f ↦ rw (ne-eqb (taken-word w r j) 2 d, ne-eqb (taken-word w r j) 1 f) (one-row w j _ (omega arith))
+        | no f ↦ rw (ne-eqb (taken-word w r j) level-claimed d, ne-eqb (taken-word w r j) level-deferred f) (one-row w j _ (omega arith))
       ]
     ]
 
 row-kind : (w : List ℕ) → used ≤ length w → (j : ℕ) → j < 8 → (x : Case) (ws : List ℕ) → length ws ≤ 4 → x .kind ≤ 2
-    → word (stored-all w cases (10 * j) (case-words x ++ ws)) cases (10 * j + 0) ≤ 2
+    → case-kind (stored-all w cases (case-row-at j) (case-words x ++ ws)) j ≤ 2
 row-kind w room j h x ws few kind =
     let e = row-word w room j h (case-words x ++ ws) (omega arith) 0 (omega arith) in rw e kind
 
-filled-plain : (g : Graph) (w : List ℕ) (r j : ℕ) → used ≤ length w → j < 8 → word (case-filled g w r j) cases (10 * j + 0) ≤ 2
+filled-plain : (g : Graph) (w : List ℕ) (r j : ℕ) → used ≤ length w → j < 8 → case-kind (case-filled g w r j) j ≤ 2
 unfolding case-filled
 filled-plain g w r j room h =
     let e = edge-of g r j in
     let more = one-edge g w r j h .only .words in
-    elim (ℕ-discrete (taken-word w r j) 2) [
-      | yes a ↦ rw (eq-eqb (taken-word w r j) 2 a)
+    elim (ℕ-discrete (taken-word w r j) level-claimed) [
+      | yes a ↦ rw (eq-eqb (taken-word w r j) level-claimed a)
           (row-kind w room j h (claimed-case w (e .target)) (padded (e .inputs)) (omega arith) (omega arith))
-      | no d ↦ elim (ℕ-discrete (taken-word w r j) 1) [
-        | yes a ↦ rw (ne-eqb (taken-word w r j) 2 d, eq-eqb (taken-word w r j) 1 a)
-            (row-kind (edge-deferred g w (own-edge j) r j) (omega arith) j h (unclaimed-case 1 (own-edge j) 1) [] (omega arith)
+      | no d ↦ elim (ℕ-discrete (taken-word w r j) level-deferred) [
+        | yes a ↦ rw (ne-eqb (taken-word w r j) level-claimed d, eq-eqb (taken-word w r j) level-deferred a)
+            (row-kind (edge-deferred g w (own-edge j) r j) (omega arith) j h (unclaimed-case case-own-edge (own-edge j) 1) [] (omega arith)
             (omega arith))
-        | no f ↦ rw (ne-eqb (taken-word w r j) 2 d, ne-eqb (taken-word w r j) 1 f)
-            (row-kind w room j h (unclaimed-case 0 0 0) [] (omega arith) (omega arith))
+        | no f ↦ rw (ne-eqb (taken-word w r j) level-claimed d, ne-eqb (taken-word w r j) level-deferred f)
+            (row-kind w room j h (unclaimed-case case-nothing 0 0) [] (omega arith) (omega arith))
       ]
     ]
 
@@ -88,7 +90,7 @@ module _ {g : Graph} (valid : Valid g) {r : ℕ} (here : r < length (g .regions)
   unfolding case-filled
   filled-shows {j} place w room (was-claimed {c} a b origin inputs) =
       let few = few-edges valid here in
-      rw (eq-eqb (taken-word w r j) 2 a, ← origin, ← inputs)
+      rw (eq-eqb (taken-word w r j) level-claimed a, ← origin, ← inputs)
       (claimed-row w room (omega arith) (padded (c .structured-body-inputs)) refl b
       (λ k h. subst (λ vs. Names (getD (padded vs) k 0) (getD vs k (undef 0))) (sym inputs) (edge-names valid here place k h)))
   filled-shows {j} place w room (was-deferred a is) =
@@ -98,28 +100,29 @@ module _ {g : Graph} (valid : Valid g) {r : ℕ} (here : r < length (g .regions)
       let e = edge-of g r j in
       let bundle = edge-bundle (to-region (e .target)) 1 (e .inputs) true-cond in
       let shown = edge-deferred-shown valid here place w (own-edge j) room (omega arith) in
-      rw (ne-eqb (taken-word w r j) 2 (omega arith), eq-eqb (taken-word w r j) 1 a, is)
+      rw (ne-eqb (taken-word w r j) level-claimed (omega arith), eq-eqb (taken-word w r j) level-deferred a, is)
       (edge-row (edge-deferred g w (own-edge j) r j) (omega arith) (omega arith)
       (set-of-one (omega arith) (subst (λ p. ShowsBundle g (edge-deferred g w (own-edge j) r j) p bundle) at shown)))
   filled-shows {j} place w room (was-nothing a) =
       let few = few-edges valid here in
-      rw (ne-eqb (taken-word w r j) 2 (omega arith), ne-eqb (taken-word w r j) 1 (omega arith)) (nothing-row w room (omega arith))
+      rw (ne-eqb (taken-word w r j) level-claimed (omega arith), ne-eqb (taken-word w r j) level-deferred (omega arith))
+      (nothing-row w room (omega arith))
 
 -- ---- All cases filled.
 pub record Filled (g : Graph) (w w′ : List ℕ) (r : ℕ) (cs : List MaybeClaimedRegion) : Type 0 where
   pub only : OnlySets w w′
-  pub total : word w′ head 7 ≡ word w head 7
+  pub total : word w′ head cases-at ≡ word w head cases-at
   pub starts : (q : ℕ) → word w′ set-starts q ≡ word w set-starts q
   pub lengths : (q : ℕ) → word w′ set-lengths q ≡ word w set-lengths q
-  pub low : (p : ℕ) → p < 1089 → SameBundle w w′ p
+  pub low : (p : ℕ) → p < own-edges-from → SameBundle w w′ p
   pub shown : (q : ℕ) → q < length cs → CaseAndSet g w′ r q (getD cs q no-case)
-  pub plain : (q : ℕ) → q < length cs → word w′ cases (10 * q + 0) ≤ 2
+  pub plain : (q : ℕ) → q < length cs → case-kind w′ q ≤ 2
 
 module _ {g : Graph} (valid : Valid g) {r : ℕ} (here : r < length (g .regions)) (cs : List MaybeClaimedRegion)
     (size : length cs ≡ length (edges-of (region g r .terminator))) where
   fills : (m j : ℕ) → j + m ≡ length cs → (w : List ℕ) → used ≤ length w → Slots (length (g .regions)) w
       → ((q : ℕ) → q < length cs → Taken g w r q (getD cs q no-case)) → ((q : ℕ) → q < j → CaseAndSet g w r q (getD cs q no-case))
-      → ((q : ℕ) → q < j → word w cases (10 * q + 0) ≤ 2) → Filled g w (filled-from g w r m j) r cs
+      → ((q : ℕ) → q < j → case-kind w q ≤ 2) → Filled g w (filled-from g w r m j) r cs
   unfolding filled-from
   fills zero j sum w room slots taken shown plain =
       record {
@@ -157,14 +160,14 @@ module _ {g : Graph} (valid : Valid g) {r : ℕ} (here : r < length (g .regions)
       }
 
 -- A case of kind 2 is a claimed region's.
-claimed-of : {g : Graph} {w : List ℕ} {r j : ℕ} {m : MaybeClaimedRegion} → ShowsCase g w r j m → word w cases (10 * j + 0) ≡ 2
-    → (c : ClaimedRegion) × (m ≡ ok c) × (word w cases (10 * j + 1) ≡ c .origin)
+claimed-of : {g : Graph} {w : List ℕ} {r j : ℕ} {m : MaybeClaimedRegion} → ShowsCase g w r j m → case-kind w j ≡ case-claimed
+    → (c : ClaimedRegion) × (m ≡ ok c) × (case-origin w j ≡ c .origin)
 claimed-of (shows-ok {c} a b d e f h k l n) is = (c, refl, b)
 claimed-of (shows-nothing a b) is = absurd (omega arith)
 claimed-of (shows-edge a b d) is = absurd (omega arith)
 claimed-of (shows-others a b) is = absurd (omega arith)
 
-pub total-of : (w : List ℕ) (n : ℕ) → word w head 7 ≡ n → n ≤ 8 → case-total w ≡ n
+pub total-of : (w : List ℕ) (n : ℕ) → word w head cases-at ≡ n → n ≤ 8 → case-total w ≡ n
 unfolding case-total
 total-of w n e h =
     elim (decLt n 8) [
@@ -190,26 +193,28 @@ cases-filled-shown {g} valid {r} here cs size {w} {s} state taken origins =
     let room = state .tables .size in
     let few = valid .count .1 in
     let eight = few-edges valid here in
-    let w₁ = stored w head 7 n in
+    let w₁ = stored w head cases-at n in
     let first = only-total w n in
     let counted = first .words in
     let kept-first : (q : ℕ) → HasSlot (length (g .regions)) q → KeptRegion w w₁ q =
-    λ q h. only-kept first q (word-other w head 7 n set-starts (omega arith) q) (word-other w head 7 n set-lengths (omega arith) q)
-    (λ i k. same-elsewhere w head (omega arith) 7 n _) in
-    let slots₁ = slots-stay (λ a h. word-other w head 7 n set-starts (omega arith) a) (state .slots) in
+    λ q h. only-kept first q (word-other w head cases-at n set-starts (omega arith) q)
+    (word-other w head cases-at n set-lengths (omega arith) q)
+    (λ i k. same-elsewhere w head (omega arith) cases-at n _) in
+    let slots₁ = slots-stay (λ a h. word-other w head cases-at n set-starts (omega arith) a) (state .slots) in
     let x = fills valid here cs size n 0 (omega arith) w₁ (omega arith) slots₁ (λ q h. taken-stays first kept-first few (taken q h))
     (λ q h. absurd (omega arith)) (λ q h. absurd (omega arith)) in
     let only = only-then first (x .only) in
     let starts : (q : ℕ) → word (cases-filled g w r) set-starts q ≡ word w set-starts q =
-    λ q. x .starts q ∙ word-other w head 7 n set-starts (omega arith) q in
+    λ q. x .starts q ∙ word-other w head cases-at n set-starts (omega arith) q in
     let slots = slots-stay (λ a h. starts a) (state .slots) in
     let kept : (q : ℕ) → HasSlot (length (g .regions)) q → KeptRegion w (cases-filled g w r) q =
-    λ q h. only-kept only q (starts q) (x .lengths q ∙ word-other w head 7 n set-lengths (omega arith) q)
-    (λ i k. same-bundle-then (same-elsewhere w head (omega arith) 7 n _) (x .low _ (in-slots (state .slots) q i h k))) in
+    λ q h. only-kept only q (starts q) (x .lengths q ∙ word-other w head cases-at n set-lengths (omega arith) q)
+    (λ i k. same-bundle-then (same-elsewhere w head (omega arith) cases-at n _) (x .low _ (in-slots (state .slots) q i h k))) in
     record {
       cases-shown =
           record {
-            size = total-of (cases-filled g w r) (length cs) (x .total ∙ head-same w 7 n room (omega arith) ∙ sym size) (omega arith);
+            size = total-of (cases-filled g w r) (length cs) (x .total ∙ head-same w cases-at n room (omega arith) ∙ sym size)
+                (omega arith);
             few = omega arith;
             each = λ j h. x .shown j h .case;
             sets = λ j h. x .shown j h .set;
@@ -227,7 +232,7 @@ cases-filled-shown {g} valid {r} here cs size {w} {s} state taken origins =
       kept = kept;
     }
   where
-    go : (w′ : List ℕ) {i j : ℕ} → word w′ cases (10 * i + 0) ≤ 2 → word w′ cases (10 * j + 0) ≤ 2 → {m n : MaybeClaimedRegion}
+    go : (w′ : List ℕ) {i j : ℕ} → case-kind w′ i ≤ 2 → case-kind w′ j ≤ 2 → {m n : MaybeClaimedRegion}
         → ShowsCase g w′ r i m → ShowsCase g w′ r j n
         → ((a b : ClaimedRegion) → m ≡ ok a → n ≡ ok b → a .origin ≡ b .origin → ⊥) → {o u : ℕ} → Owner w′ r i o → Owner w′ r j u → o ≡ u
         → ⊥

@@ -1,7 +1,7 @@
 -- A region's edge, or its Return, deferred: the bundle that the words show then, and what they leave.
 use mathlib.Core.Path.{_≡_, refl, sym, ap, _∙_}
 use mathlib.Core.List.{List, [], _∷_}
-use Prim.Native.Nat.{ℕ, _+_, _*_, _≤_, _<_}
+use Prim.Native.Nat.{ℕ, _+_, _≤_, _<_}
 use native.Mathlib.Omega.{arith}
 use lib.ListN.{length, getD}
 use Rattle.meaning.specs.Graph.{Value, Graph, region, edges-of, return, undef}
@@ -11,7 +11,7 @@ use Rattle.record.specs.Stands.{Stands}
 use Rattle.fields.specs.ByNumber.{edge-of, end-values}
 use Rattle.nesting.specs.Nesting.{to-region, to-return, edge-bundle, true-cond, NestState}
 use Rattle.state.specs.Sections as sections
-use Rattle.state.specs.Sections.{Section, number, used, word, stored-all, kinds, set-starts, set-lengths, bundles}
+use Rattle.state.specs.Sections.{Section, number, used, word, stored-all, set-starts, set-lengths, bundles}
 use Rattle.state.specs.Tables.{bundle-at}
 use Rattle.shown.specs.Tables.{ShowsCondition, shows-true}
 use Rattle.shown.specs.Sets.{Names, shows-region, shows-return, ShowsBundle, SameBundle}
@@ -27,6 +27,7 @@ use Rattle.shown.specs.laws.Finds.{bundle-in}
 use Rattle.bundles.specs.Words.{padded, edge-deferred, return-deferred}
 use Rattle.fields.specs.laws.UndefinedTypes.{end-types-read}
 use Rattle.bundles.specs.laws.RecordValues.{passed-names, passed-types, passed-length, padded-names, valid-edge}
+use Rattle.state.specs.Rows.{bundle-row-at, condition-true, kind-ready, most-bundles, region-kind, return-word}
 
 pub true-shown : (w : List ℕ) → ShowsCondition w 1 true-cond
 true-shown w = record { tree = shows-true refl; made = omega arith }
@@ -49,7 +50,7 @@ module _ {g : Graph} (valid : Valid g) {r : ℕ} (here : r < length (g .regions)
       (x .inputs) in
       padded-names (edge-of g r j .inputs) (passed-names valid here ts (edge-of g r j .inputs) types (x .inputs))
 
-  pub edge-deferred-shown : (w : List ℕ) (p : ℕ) → used ≤ length w → p < 1097
+  pub edge-deferred-shown : (w : List ℕ) (p : ℕ) → used ≤ length w → p < most-bundles
       → ShowsBundle g (edge-deferred g w p r j) p (edge-bundle (to-region (edge-of g r j .target)) 1 (edge-of g r j .inputs) true-cond)
   unfolding edge-deferred
   edge-deferred-shown w p room h =
@@ -62,7 +63,7 @@ module _ {g : Graph} (valid : Valid g) {r : ℕ} (here : r < length (g .regions)
 module _ (g : Graph) (w : List ℕ) (p r j : ℕ) where
   pub edge-deferred-only : OnlySets w (edge-deferred g w p r j)
   unfolding edge-deferred
-  edge-deferred-only = only-run w bundles-of-sets (7 * p) _
+  edge-deferred-only = only-run w bundles-of-sets (bundle-row-at p) _
 
   pub edge-deferred-beside : (q : ℕ) → (q ≡ p → ⊥) → SameBundle w (edge-deferred g w p r j) q
   unfolding edge-deferred
@@ -71,7 +72,7 @@ module _ (g : Graph) (w : List ℕ) (p r j : ℕ) where
   pub edge-deferred-word : (k : Section) → (number k ≡ number sections.bundles → ⊥) → (q : ℕ)
       → word (edge-deferred g w p r j) k q ≡ word w k q
   unfolding edge-deferred
-  edge-deferred-word k d q = run-elsewhere-word w bundles (7 * p) _ k d q
+  edge-deferred-word k d q = run-elsewhere-word w bundles (bundle-row-at p) _ k d q
 
 -- ---- A Return.
 module _ (g : Graph) (w : List ℕ) (r : ℕ) where
@@ -79,10 +80,10 @@ module _ (g : Graph) (w : List ℕ) (r : ℕ) where
   start-of = word w set-starts r
 
   abbrev return-words : List ℕ
-  return-words = 65535 ∷ 0 ∷ 1 ∷ padded (end-values g r)
+  return-words = return-word ∷ 0 ∷ condition-true ∷ padded (end-values g r)
 
   abbrev return-stored : List ℕ
-  return-stored = stored-all w bundles (7 * bundle-at start-of 0) return-words
+  return-stored = stored-all w bundles (bundle-row-at (bundle-at start-of 0)) return-words
 
   module _ (room : used ≤ length w) (below : HasSlot (length (g .regions)) r) (slots : Slots (length (g .regions)) w) where
     start-in : bundle-at start-of 0 ≡ start-of
@@ -112,11 +113,11 @@ module _ (g : Graph) (w : List ℕ) (r : ℕ) where
         (same-elsewhere return-stored set-lengths (omega arith) r 1 p))
 
     -- A region that is not Ready may take its Return.
-    pub return-deferred-state : {s : NestState} → length (g .regions) ≤ 32 → (word w kinds r ≡ 2 → ⊥) → ShowsState g w s
+    pub return-deferred-state : {s : NestState} → length (g .regions) ≤ 32 → (region-kind w r ≡ kind-ready → ⊥) → ShowsState g w s
         → ShowsState g (return-deferred g w r) s
     return-deferred-state few unready x =
         only-state return-deferred-only (slots-stay (λ a h. return-deferred-starts a) slots)
-        (λ q h e. return-deferred-kept q (omega arith) (λ f. unready (ap (λ p. word w kinds p) (sym f) ∙ e))) x
+        (λ q h e. return-deferred-kept q (omega arith) (λ f. unready (ap (λ p. region-kind w p) (sym f) ∙ e))) x
 
     pub return-deferred-shown : Valid g → Stands w g → r < length (g .regions) → {vs : List Value} → region g r .terminator ≡ return vs
         → ShowsOwnSet g (return-deferred g w r) r (edge-bundle to-return 0 vs true-cond ∷ [])
@@ -127,7 +128,7 @@ module _ (g : Graph) (w : List ℕ) (r : ℕ) where
         let at = start-in in
         let in-slots = slots .below r below in
         let at-slot = slots .starts r below in
-        let counted = only-run w bundles-of-sets (7 * bundle-at start-of 0) return-words .words in
+        let counted = only-run w bundles-of-sets (bundle-row-at (bundle-at start-of 0)) return-words .words in
         let names = padded-names vs (passed-names valid here (return-types g) vs (rw values at (end-types-read stands r)) (x .1)) in
         let four = x .0 in
         let made : ShowsBundle g return-stored start-of (edge-bundle to-return 0 vs true-cond) =

@@ -1,7 +1,7 @@
 -- The functions, path by path: what the code read and stored is what the words have.
 use mathlib.Core.Path.{_≡_, refl, sym, _∙_}
 use mathlib.Core.List.{List, [], _∷_, _++_}
-use Prim.Native.Nat.{ℕ, suc, _+_, _*_, _-_, _≤_, _<_}
+use Prim.Native.Nat.{ℕ, suc, _+_, _-_, _≤_, _<_}
 use native.Mathlib.Omega.{arith}
 use native.Mathlib.Decide.{ℕ-discrete}
 use native.Mathlib.Numerals.{add-one}
@@ -27,6 +27,9 @@ use Rattle.bundles.specs.Words.{edge-deferred, return-deferred, unclaime
 use Rattle.bundles.specs.Words.{case-filled}
 use Rattle.bundles.specs.Words.{filled-from, cases-filled, given-word, given-inputs, split-filled, case-inputs, Appends, appended}
 use Rattle.bundles.specs.Words.{its-edge}
+use Rattle.state.specs.Values.{undef-from}
+use Rattle.state.specs.Rows.{bundle-row-at, bundle-target, case-claimed, case-nothing, case-others, case-own-edge, case-row-at, cases-at}
+use Rattle.state.specs.Rows.{condition-true, entry-replace, level-claimed, level-deferred, return-word}
 
 -- ---- A run behind a run.
 run-append : (l : List ℕ) (k : Section) (i : ℕ) (xs ys : List ℕ)
@@ -60,7 +63,7 @@ module _ (l : List ℕ) (p n k : ℕ) where
   unfolding listed-word
   listed-in h v e q = e ∙ rw (lt-ltb k n h, ← q) (word-of-record v)
 
-  pub listed-beyond : n ≤ k → 66 ≡ listed-word l p n k
+  pub listed-beyond : n ≤ k → undef-from ≡ listed-word l p n k
   unfolding listed-word
   listed-beyond h = rw (le-ltb k n h)
 
@@ -74,12 +77,13 @@ listed-is l p at = rw (at .count, at .item 0, at .item 1, at .item 2, at .item 3
 
 pub edge-by : (g : Graph) (l : List ℕ) (p r j : ℕ) {t : ℕ} {vs l′ : List ℕ} → t ≡ edge-of g r j .target → vs ≡ padded
     (edge-of g r j .inputs)
-    → l′ ≡ stored-all l bundles (7 * p) (t ∷ 1 ∷ 1 ∷ vs) → l′ ≡ edge-deferred g l p r j
+    → l′ ≡ stored-all l bundles (bundle-row-at p) (t ∷ 1 ∷ 1 ∷ vs) → l′ ≡ edge-deferred g l p r j
 unfolding edge-deferred
 edge-by g l p r j of-target of-inputs e = e ∙ rw (of-target, of-inputs)
 
 pub return-by : (g : Graph) (l : List ℕ) (r : ℕ) {start p : ℕ} {vs l₁ l₂ : List ℕ} → start ≡ word l set-starts r → p ≡ bundle-at start 0
-    → vs ≡ padded (end-values g r) → {n : ℕ} → n ≡ 0 → l₁ ≡ stored-all l bundles (7 * p) (65535 ∷ edges-word n ∷ 1 ∷ vs)
+    → vs ≡ padded (end-values g r) → {n : ℕ} → n ≡ 0
+    → l₁ ≡ stored-all l bundles (bundle-row-at p) (return-word ∷ edges-word n ∷ condition-true ∷ vs)
     → l₂ ≡ stored l₁ set-lengths r 1
     → l₂ ≡ return-deferred g l r
 unfolding return-deferred
@@ -88,32 +92,46 @@ return-by g l r a b c none d e = e ∙ rw (d, none, c, b, a)
 -- ---- Cases.
 module _ (g : Graph) (l : List ℕ) (r j : ℕ) {taken : ℕ} (read : taken ≡ taken-word l r j) where
   pub fill-claimed : taken ≡ 2 → {t : ℕ} {x : Case} {vs l′ : List ℕ} → t ≡ edge-of g r j .target → x ≡ claimed-case l t
-      → vs ≡ padded (edge-of g r j .inputs) → l′ ≡ stored-all l cases (10 * j) (case-words x ++ vs) → l′ ≡ case-filled g l r j
+      → vs ≡ padded (edge-of g r j .inputs) → l′ ≡ stored-all l cases (case-row-at j) (case-words x ++ vs) → l′ ≡ case-filled g l r j
   unfolding case-filled
-  fill-claimed is a b c e = e ∙ rw (b, a, c, eq-eqb (taken-word l r j) 2 (sym read ∙ is))
+  fill-claimed is a b c e = e ∙ rw (b, a, c, eq-eqb (taken-word l r j) level-claimed (sym read ∙ is))
 
   pub fill-edge : (taken ≡ 2 → ⊥) → taken ≡ 1 → {p : ℕ} {x : Case} {l₁ l₂ : List ℕ} → p ≡ own-edge j → l₁ ≡ edge-deferred g l p r j
-      → x ≡ unclaimed-case 1 p 1 → l₂ ≡ stored-all l₁ cases (10 * j) (case-words x) → l₂ ≡ case-filled g l r j
+      → x ≡ unclaimed-case case-own-edge p 1 → l₂ ≡ stored-all l₁ cases (case-row-at j) (case-words x) → l₂ ≡ case-filled g l r j
   unfolding case-filled
   fill-edge unlike is a b c e =
-      e ∙ rw (b, c, a, ne-eqb (taken-word l r j) 2 (λ h. unlike (read ∙ h)), eq-eqb (taken-word l r j) 1 (sym read ∙ is))
+      e ∙ rw (
+        b,
+        c,
+        a,
+        ne-eqb (taken-word l r j) level-claimed (λ h. unlike (read ∙ h)),
+        eq-eqb (taken-word l r j) level-deferred
+            (sym read ∙ is),
+      )
 
-  pub fill-nothing : (taken ≡ 2 → ⊥) → (taken ≡ 1 → ⊥) → {x : Case} {l′ : List ℕ} → x ≡ unclaimed-case 0 0 0
-      → l′ ≡ stored-all l cases (10 * j) (case-words x) → l′ ≡ case-filled g l r j
+  pub fill-nothing : (taken ≡ 2 → ⊥) → (taken ≡ 1 → ⊥) → {x : Case} {l′ : List ℕ} → x ≡ unclaimed-case case-nothing 0 0
+      → l′ ≡ stored-all l cases (case-row-at j) (case-words x) → l′ ≡ case-filled g l r j
   unfolding case-filled
   fill-nothing unlike nor a e =
-      e ∙ rw (a, ne-eqb (taken-word l r j) 2 (λ h. unlike (read ∙ h)), ne-eqb (taken-word l r j) 1 (λ h. nor (read ∙ h)))
+      e ∙ rw (
+        a,
+        ne-eqb (taken-word l r j) level-claimed (λ h. unlike (read ∙ h)),
+        ne-eqb (taken-word l r j) level-deferred
+            (λ h. nor (read ∙ h)),
+      )
 
 -- What a case leaves: the record stands.
 pub front-filled : (g : Graph) (l : List ℕ) (r j : ℕ) → SameKinds l (case-filled g l r j)
 unfolding case-filled edge-deferred
 front-filled g l r j =
-    elim (ℕ-discrete (taken-word l r j) 2) [
-      | yes e ↦ rw (eq-eqb (taken-word l r j) 2 e) (kinds-run l cases (omega arith) (10 * j) _)
-      | no d ↦ elim (ℕ-discrete (taken-word l r j) 1) [
-        | yes e ↦ rw (ne-eqb (taken-word l r j) 2 d, eq-eqb (taken-word l r j) 1 e)
-            (kinds-then (kinds-run l bundles (omega arith) (7 * own-edge j) _) (kinds-run _ cases (omega arith) (10 * j) _))
-        | no f ↦ rw (ne-eqb (taken-word l r j) 2 d, ne-eqb (taken-word l r j) 1 f) (kinds-run l cases (omega arith) (10 * j) _)
+    elim (ℕ-discrete (taken-word l r j) level-claimed) [
+      | yes e ↦ rw (eq-eqb (taken-word l r j) level-claimed e) (kinds-run l cases (omega arith) (case-row-at j) _)
+      | no d ↦ elim (ℕ-discrete (taken-word l r j) level-deferred) [
+        | yes e ↦ rw (ne-eqb (taken-word l r j) level-claimed d, eq-eqb (taken-word l r j) level-deferred e)
+            (kinds-then (kinds-run l bundles (omega arith) (bundle-row-at (own-edge j)) _)
+            (kinds-run _ cases (omega arith) (case-row-at j) _))
+        | no f ↦ rw (ne-eqb (taken-word l r j) level-claimed d, ne-eqb (taken-word l r j) level-deferred f)
+            (kinds-run l cases (omega arith) (case-row-at j) _)
       ]
     ]
 
@@ -121,11 +139,11 @@ pub fill-start : (g : Graph) (l : List ℕ) (r n : ℕ) → filled-from g l r (n
 fill-start g l r n = let e : n - 0 ≡ n = omega arith in rw e
 
 -- The case total is stored first.
-pub stands-counted : {g : Graph} {w w′ : List ℕ} (n : ℕ) → Stands w g → w′ ≡ stored w head 7 n → Stands w′ g
-stands-counted {w} n s e = rw e (stands-kept (kinds-stored w head (omega arith) 7 n) s)
+pub stands-counted : {g : Graph} {w w′ : List ℕ} (n : ℕ) → Stands w g → w′ ≡ stored w head cases-at n → Stands w′ g
+stands-counted {w} n s e = rw e (stands-kept (kinds-stored w head (omega arith) cases-at n) s)
 
 pub fill-end : (g : Graph) (l : List ℕ) (r : ℕ) {n : ℕ} {l₁ l′ : List ℕ} → n ≡ length (edges-of (region g r .terminator))
-    → l₁ ≡ stored l head 7 n → l′ ≡ filled-from g l₁ r n 0 → l′ ≡ cases-filled g l r
+    → l₁ ≡ stored l head cases-at n → l′ ≡ filled-from g l₁ r n 0 → l′ ≡ cases-filled g l r
 fill-end g l r size e f = f ∙ rw (e, size)
 
 module _ (g : Graph) (r n j : ℕ) {w whole : List ℕ} where
@@ -140,27 +158,29 @@ module _ (g : Graph) (r n j : ℕ) {w whole : List ℕ} where
   unfolding filled-from
   fill-stop h q = let z : n - j ≡ 0 = omega arith in rw z at q
 
-pub given-all : (g : Graph) (l : List ℕ) (p : ℕ) {t n a b c d : ℕ} → t ≡ word l bundles (7 * p + 0) → n ≡ length (region g t .inputs)
+pub given-all : (g : Graph) (l : List ℕ) (p : ℕ) {t n a b c d : ℕ} → t ≡ bundle-target l p → n ≡ length (region g t .inputs)
     → a ≡ given-word l p n 0 → b ≡ given-word l p n 1 → c ≡ given-word l p n 2 → d ≡ given-word l p n 3
     → (a ∷ b ∷ c ∷ d ∷ []) ≡ given-inputs g l p
 given-all g l p of-target size a b c d = rw (a, b, c, d, size, of-target)
 
 pub split-by : (g : Graph) (l : List ℕ) (r i : ℕ) {start p t n : ℕ} {x y : Case} {vs l₁ l₂ l₃ l₄ : List ℕ} → start ≡ word l set-starts r
-    → p ≡ bundle-at start i → t ≡ word l bundles (7 * p + 0) → x ≡ claimed-case l t → vs ≡ given-inputs g l p → l₁ ≡ shift-removed l r i
-    → n ≡ word l₁ set-lengths r → l₂ ≡ stored l₁ head 7 2 → l₃ ≡ stored-all l₂ cases (10 * 0) (case-words x ++ vs)
-    → y ≡ unclaimed-case 3 start n → l₄ ≡ stored-all l₃ cases (10 * 1) (case-words y) → l₄ ≡ split-filled g l r i
+    → p ≡ bundle-at start i → t ≡ bundle-target l p → x ≡ claimed-case l t → vs ≡ given-inputs g l p → l₁ ≡ shift-removed l r i
+    → n ≡ word l₁ set-lengths r → l₂ ≡ stored l₁ head cases-at 2 → l₃ ≡ stored-all l₂ cases (case-row-at 0) (case-words x ++ vs)
+    → y ≡ unclaimed-case case-others start n → l₄ ≡ stored-all l₃ cases (case-row-at 1) (case-words y) → l₄ ≡ split-filled g l r i
 unfolding split-filled
 split-by g l r i a b c d e f h k m o q = q ∙ rw (o, m, k, h, f, e, d, c, b, a)
 
 -- ---- A case that stands alone.
-pub append-claimed : (l : List ℕ) (r : ℕ) (x : Case) (j : ℕ) {vs l₁ l₂ l₃ l₄ l₅ : List ℕ} {before h : ℕ} → x .kind ≡ 2
+pub append-claimed : (l : List ℕ) (r : ℕ) (x : Case) (j : ℕ) {vs l₁ l₂ l₃ l₄ l₅ : List ℕ} {before h : ℕ} → x .kind ≡ case-claimed
     → vs ≡ case-inputs l j
-    → l₁ ≡ inserted l (x .body) 1 vs → before ≡ word l₁ children r → Joins l₁ l₂ before (x .children) h → l₃ ≡ stored l₂ children r h
+    → l₁ ≡ inserted l (x .body) entry-replace vs → before ≡ word l₁ children r → Joins l₁ l₂ before (x .children) h
+    → l₃ ≡ stored l₂ children r h
     → l₄ ≡ swapped l₃ r (x .origin) → l₅ ≡ stored l₄ set-lengths r (x .length) → Appends l l₅ r x j
 append-claimed l r x j kind a b c d e f k =
-    let start : _ ≡ inserted l (x .body) 1 (case-inputs l j) = b ∙ rw a in
+    let start : _ ≡ inserted l (x .body) entry-replace (case-inputs l j) = b ∙ rw a in
     appended kind (rw (c, start) at d) (k ∙ rw (f, e))
 
-pub append-edge : (l : List ℕ) (r : ℕ) (x : Case) (j : ℕ) {start p : ℕ} {l₁ l₂ : List ℕ} → x .kind ≡ 1 → start ≡ word l set-starts r
+pub append-edge : (l : List ℕ) (r : ℕ) (x : Case) (j : ℕ) {start p : ℕ} {l₁ l₂ : List ℕ} → x .kind ≡ case-own-edge
+    → start ≡ word l set-starts r
     → p ≡ bundle-at start 0 → l₁ ≡ bundle-copied l p (x .start) → l₂ ≡ stored l₁ set-lengths r (x .length) → Appends l l₂ r x j
 append-edge l r x j kind a b c d = its-edge kind (d ∙ rw (c, b, a))

@@ -2,7 +2,7 @@
 use mathlib.Core.Path.{_≡_, refl, ap, _∙_}
 use mathlib.Core.Bool.{true, false, _&&_}
 use mathlib.Core.List.{List, [], _∷_}
-use Prim.Native.Nat.{ℕ, zero, suc, _+_, _*_, _-_, _/_, _%_, _≤_, _<_}
+use Prim.Native.Nat.{ℕ, zero, suc, _*_, _-_, _/_, _%_, _≤_, _<_}
 use native.Mathlib.Omega.{arith}
 use native.Mathlib.Decide.{decLt}
 use lib.ListN.{length, getD, length-append, List·getD-eq-default}
@@ -25,6 +25,7 @@ use Rattle.shown.specs.Sets.{Names}
 use Rattle.format.specs.laws.UndefinedTypes.{TypeRead}
 use Rattle.bundles.specs.Words.{record-word, padded-by, padded}
 use Rattle.nesting.specs.Nesting.{most-regions}
+use Rattle.state.specs.Values.{input-from, instr-from, instr-word-at}
 
 -- ---- Words by kind.
 names-const : (i : ℕ) → i < 64 → Names (const-word i) (const i)
@@ -35,7 +36,7 @@ names-undef : (ty : ℕ) → ty < 256 → Names (undef-word ty) (undef ty)
 unfolding undef-word
 names-undef ty h = record { is = value-undef ty h; below = rw (lt-ltb ty 256 h) (omega arith) }
 
-names-input : (r k : ℕ) → r < most-regions → k < 4 → Names (region-word 1024 r k) (input r k)
+names-input : (r k : ℕ) → r < most-regions → k < 4 → Names (region-word input-from r k) (input r k)
 unfolding region-word
 names-input r k h j = record { is = value-input r k h j; below = rw (lt-ltb r most-regions h, lt-ltb k 4 j) (omega arith) }
 
@@ -43,11 +44,11 @@ names-instr : (r k : ℕ) → r < 32 → k < 64 → Names (instr-word r k) (inst
 unfolding instr-word
 names-instr r k h j =
     record {
-      is = rw (lt-ltb r 32 h, lt-ltb k 64 j) (go (ranged (2048 + 64 * r + k)));
+      is = rw (lt-ltb r 32 h, lt-ltb k 64 j) (go (ranged (instr-word-at r k)));
       below = rw (lt-ltb r 32 h, lt-ltb k 64 j) (omega arith);
     }
   where
-    go : {v : Value} → Ranged (2048 + 64 * r + k) v → v ≡ instr r k
+    go : {v : Value} → Ranged (instr-word-at r k) v → v ≡ instr r k
     go (in-const a e) = absurd (omega arith)
     go (in-false a e) = absurd (omega arith)
     go (in-true a e) = absurd (omega arith)
@@ -56,8 +57,8 @@ names-instr r k h j =
     go (in-input a b e) = absurd (omega arith)
     go (in-held a b e) = absurd (omega arith)
     go (in-instr a b e) =
-        let y : (2048 + 64 * r + k - 2048) / 64 ≡ r = omega arith in
-        let z : (2048 + 64 * r + k) % 64 ≡ k = omega arith in
+        let y : (instr-word-at r k - instr-from) / 64 ≡ r = omega arith in
+        let z : (instr-word-at r k) % 64 ≡ k = omega arith in
         e ∙ rw (y, z)
     go (in-none a e) = absurd (omega arith)
 

@@ -1,7 +1,7 @@
 -- The region that a bundle of region r's own set claimed, and the others of that set, as the two cases of a select.
 use mathlib.Core.Path.{_≡_, refl, sym, ap, subst, _∙_}
 use mathlib.Core.List.{List, [], _∷_, _++_}
-use Prim.Native.Nat.{ℕ, zero, suc, _+_, _*_, _≤_, _<_}
+use Prim.Native.Nat.{ℕ, zero, suc, _+_, _≤_, _<_}
 use native.Mathlib.Omega.{arith}
 use native.Mathlib.Decide.{decLt}
 use lib.ListN.{length, getD, take, drop, List·getD-eq-default}
@@ -10,7 +10,7 @@ use Rattle.meaning.specs.Graph.{Graph, region, undef}
 use Rattle.meaning.specs.facts.Tests.{clash}
 use Rattle.nesting.specs.Nesting.{DeferredTarget, to-region, DeferredEdgeBundle, DeferredEdgeBundleSet, ClaimedRegion, MaybeClaimedRegion}
 use Rattle.nesting.specs.Nesting.{ok, err, NestState}
-use Rattle.state.specs.Sections.{word, stored, stored-all, head, kinds, set-starts, set-lengths, children, bodies, cases, bundles}
+use Rattle.state.specs.Sections.{word, stored, stored-all, head, kinds, set-starts, set-lengths, children, bodies, cases}
 use Rattle.state.specs.Tables.{bundle-at, input-word, case-words, shift-removed}
 use Rattle.shown.specs.Values.{value}
 use Rattle.shown.specs.Sets.{Names, ShowsTarget, shows-region, shows-return, ShowsBundle, ShowsSet, no-bundle}
@@ -28,6 +28,7 @@ use Rattle.bundles.specs.Words.{claimed-case, unclaimed-case, given-word
 use Rattle.bundles.specs.laws.CaseSteps.{one-row, Owner, of-claimed, of-others, case-placed, placed-apart, placed-not-spare}
 use Rattle.bundles.specs.laws.CaseSteps.{CaseAndSet, shown-stays, claimed-row, others-row, one-kept}
 use Rattle.bundles.specs.laws.CasesFilled.{total-of}
+use Rattle.state.specs.Rows.{bundle-target, case-others, case-row-at, case-set-length, case-set-start, cases-at, kind-ready, region-kind}
 
 -- ---- The inputs of a bundle, as four words.
 module _ {g : Graph} {w : List ℕ} {p : ℕ} {e : DeferredEdgeBundle} (shown : ShowsBundle g w p e) where
@@ -42,7 +43,7 @@ module _ {g : Graph} {w : List ℕ} {p : ℕ} {e : DeferredEdgeBundle} (shown : 
         ) record { is = refl; below = omega arith }
       ]
 
-  target-word : {o : ℕ} → e .target ≡ to-region o → word w bundles (7 * p + 0) ≡ o
+  target-word : {o : ℕ} → e .target ≡ to-region o → bundle-target w p ≡ o
   target-word is = go (shown .target) is
     where
       go : {x : ℕ} {y : DeferredTarget} → ShowsTarget g x y → {o : ℕ} → y ≡ to-region o → x ≡ o
@@ -83,7 +84,7 @@ owner-err (shows-others a b) (of-claimed x y) = absurd (omega arith)
 owner-err (shows-others a b) (of-others x y) = sym y
 
 two-cases : {g : Graph} → length (g .regions) ≤ 32 → {r : ℕ} → r < length (g .regions) → {w : List ℕ}
-    → Slots (length (g .regions)) w → word w head 7 ≡ 2
+    → Slots (length (g .regions)) w → word w head cases-at ≡ 2
     → {c : ClaimedRegion} {d : DeferredEdgeBundleSet} → (c .origin ≡ r → ⊥) → CaseAndSet g w r 0 (ok c) → CaseAndSet g w r 1 (err d)
     → ShowsCases g w r (ok c ∷ err d ∷ [])
 two-cases {g} few {r} here {w} slots total {c} {d} other x y =
@@ -104,8 +105,8 @@ two-cases {g} few {r} here {w} slots total {c} {d} other x y =
     at (suc zero) h = y
     at (suc (suc j)) h = absurd (omega arith)
 
-    apart : (i j : ℕ) → i ≡ 0 → j ≡ 1 → (p q : ℕ) → p < word w cases (10 * i + 5) → q < word w cases (10 * j + 5)
-        → word w cases (10 * i + 4) + p ≡ word w cases (10 * j + 4) + q → ⊥
+    apart : (i j : ℕ) → i ≡ 0 → j ≡ 1 → (p q : ℕ) → p < case-set-length w i → q < case-set-length w j
+        → case-set-start w i + p ≡ case-set-start w j + q → ⊥
     apart i j e f =
         rw (e, f)
         (placed-apart slots (omega arith) (omega arith) (omega arith)
@@ -122,7 +123,8 @@ pub record SplitShown (g : Graph) (w w′ : List ℕ) (s : NestState) (r : ℕ) 
 
 -- ---- The two cases, over words of which bundle i is shifted out.
 module _ {g : Graph} (few : length (g .regions) ≤ 32) {r : ℕ} (here : r < length (g .regions)) {w : List ℕ} {s : NestState}
-    (state : ShowsState g w s) (unready : word w kinds r ≡ 2 → ⊥) {d : DeferredEdgeBundleSet} (shown : ShowsOwnSet g w r d) {i : ℕ}
+    (state : ShowsState g w s) (unready : region-kind w r ≡ kind-ready → ⊥) {d : DeferredEdgeBundleSet} (shown : ShowsOwnSet g w r d)
+    {i : ℕ}
     (place : i < length d) {c : ClaimedRegion} (claimed : ShowsClaimed g w c) (other : c .origin ≡ r → ⊥)
     (is : getD d i no-bundle .target ≡ to-region (c .origin))
     (inputs : c .structured-body-inputs ≡ getD d i no-bundle .target-inputs) where
@@ -141,30 +143,30 @@ module _ {g : Graph} (few : length (g .regions) ≤ 32) {r : ℕ} (here : r < le
       let bundle : ShowsBundle g w p (getD d i no-bundle) = rw at (shown .each i (omega arith)) in
       let o = c .origin in
       let below = claimed .in-graph in
-      let target : word w bundles (7 * p + 0) ≡ o = target-word bundle is in
+      let target : bundle-target w p ≡ o = target-word bundle is in
       let rest = shift-removed w r i in
       let x = shift-removes room (omega arith) shown i place in
       let rest-room = x .only .words in
-      let total₂ : word (stored rest head 7 2) head 7 ≡ 2 = head-same rest 7 2 (omega arith) (omega arith) in
-      let w₂ = stored rest head 7 2 in
+      let total₂ : word (stored rest head cases-at 2) head cases-at ≡ 2 = head-same rest cases-at 2 (omega arith) (omega arith) in
+      let w₂ = stored rest head cases-at 2 in
       let only₂ = only-then (x .only) (only-total rest 2) in
       let room₂ = only₂ .words in
       let starts₂ : (q : ℕ) → word w₂ set-starts q ≡ word w set-starts q =
-      λ q. word-other rest head 7 2 set-starts (omega arith) q ∙ x .starts q in
+      λ q. word-other rest head cases-at 2 set-starts (omega arith) q ∙ x .starts q in
       let lengths₂ : (q : ℕ) → (q ≡ r → ⊥) → word w₂ set-lengths q ≡ word w set-lengths q =
-      λ q e. word-other rest head 7 2 set-lengths (omega arith) q ∙ x .lengths q e in
+      λ q e. word-other rest head cases-at 2 set-lengths (omega arith) q ∙ x .lengths q e in
       let kept₂ : (q : ℕ) → HasSlot (length (g .regions)) q → (q ≡ r → ⊥) → KeptRegion w w₂ q =
       λ q h e. kept-beside only₂ slots (omega arith) h e (starts₂ q) (lengths₂ q e)
-      (λ b f. same-bundle-then (x .beside b f) (same-elsewhere rest head (omega arith) 7 2 b)) in
+      (λ b f. same-bundle-then (x .beside b f) (same-elsewhere rest head (omega arith) cases-at 2 b)) in
       let slots₂ = slots-stay (λ a h. starts₂ a) slots in
       let n = word rest set-lengths r in
       let left : ShowsSet g w₂ start n (take i d ++ drop (suc i) d) =
-      set-stays (only-later (only-total rest 2) g) (λ k h. same-elsewhere rest head (omega arith) 7 2 _)
+      set-stays (only-later (only-total rest 2) g) (λ k h. same-elsewhere rest head (omega arith) cases-at 2 _)
       (rw (x .starts r) at (x .set)) in
       let claimed₂ = claimed-stays (only-later only₂ g) (kept₂ o (omega arith) other)
       (only-word-same only₂ kinds (omega arith) o) claimed in
       let given = given-inputs g w p in
-      let same-case : claimed-case w₂ o ≡ claimed-case w (word w bundles (7 * p + 0)) =
+      let same-case : claimed-case w₂ o ≡ claimed-case w (bundle-target w p) =
       rw (
         only-word-same only₂ bodies (omega arith) o,
         only-word-same only₂ children (omega arith) o,
@@ -172,33 +174,34 @@ module _ {g : Graph} (few : length (g .regions) ≤ 32) {r : ℕ} (here : r < le
         lengths₂ o other,
         target,
       ) in
-      let row₀ = case-words (claimed-case w (word w bundles (7 * p + 0))) ++ given in
-      let w₃ = stored-all w₂ cases (10 * 0) row₀ in
+      let row₀ = case-words (claimed-case w (bundle-target w p)) ++ given in
+      let w₃ = stored-all w₂ cases (case-row-at 0) row₀ in
       let one₃ = one-row w₂ 0 row₀ (omega arith) in
       let room₃ = one₃ .only .words in
       let first : CaseAndSet g w₃ r 0 (ok c) =
-      subst (λ y. CaseAndSet g (stored-all w₂ cases (10 * 0) (case-words y ++ given)) r 0 (ok c)) same-case
+      subst (λ y. CaseAndSet g (stored-all w₂ cases (case-row-at 0) (case-words y ++ given)) r 0 (ok c)) same-case
       (claimed-row w₂ (omega arith) {r = r} {j = 0} (omega arith) given refl claimed₂
       (λ k h. subst (λ vs. Names (getD given k 0) (getD vs k (undef 0))) (sym inputs) (given-all-name bundle is k h))) in
       let slots₃ = slots-stay (λ a h. one₃ .starts a) slots₂ in
       let start₃ : word w₃ set-starts r ≡ start = one₃ .starts r ∙ starts₂ r in
       let left₃ : ShowsSet g w₃ (word w₃ set-starts r) n (take i d ++ drop (suc i) d) =
-      rw start₃ (set-stays (only-later (one₃ .only) g) (λ k h. same-elsewhere-run w₂ cases (omega arith) (10 * 0) row₀ _) left) in
-      let row₁ = case-words (unclaimed-case 3 start n) in
-      let w₄ = stored-all w₃ cases (10 * 1) row₁ in
+      rw start₃ (set-stays (only-later (one₃ .only) g) (λ k h. same-elsewhere-run w₂ cases (omega arith) (case-row-at 0) row₀ _) left) in
+      let row₁ = case-words (unclaimed-case case-others start n) in
+      let w₄ = stored-all w₃ cases (case-row-at 1) row₁ in
       let one₄ = one-row w₃ 1 row₁ (omega arith) in
       let second : CaseAndSet g w₄ r 1 (err (take i d ++ drop (suc i) d)) =
-      subst (λ b. CaseAndSet g (stored-all w₃ cases (10 * 1) (case-words (unclaimed-case 3 b n))) r 1 (err (take i d ++ drop (suc i) d)))
+      subst (λ b. CaseAndSet g (stored-all w₃ cases (case-row-at 1) (case-words (unclaimed-case case-others b n))) r 1
+      (err (take i d ++ drop (suc i) d)))
       start₃ (others-row w₃ (omega arith) {r = r} {j = 1} (omega arith) left₃) in
       let first₄ = shown-stays one₄ clash slots₃ few here first in
       let only = only-then only₂ (only-then (one₃ .only) (one₄ .only)) in
       let slots₄ = slots-stay (λ a h. one₄ .starts a) slots₃ in
       let kept : (q : ℕ) → HasSlot (length (g .regions)) q → (q ≡ r → ⊥) → KeptRegion w w₄ q =
       λ q h e. kept-then (kept₂ q h e) (kept-then (one-kept one₃ slots₂ q h) (one-kept one₄ slots₃ q h)) in
-      let total : word w₄ head 7 ≡ 2 = one₄ .total ∙ one₃ .total ∙ total₂ in
+      let total : word w₄ head cases-at ≡ 2 = one₄ .total ∙ one₃ .total ∙ total₂ in
       record {
         cases-shown = two-cases few here slots₄ total other first₄ second;
-        state = only-state only slots₄ (λ q h e. kept q (slot q h) (λ f. unready (ap (λ b. word w kinds b) (sym f) ∙ e))) state;
+        state = only-state only slots₄ (λ q h e. kept q (slot q h) (λ f. unready (ap (λ b. region-kind w b) (sym f) ∙ e))) state;
         only = only;
         later = only-later only g;
         kept = kept;

@@ -13,18 +13,19 @@ use Rattle.shown.specs.Sets.{ShowsTarget, shows-region, shows-return, target-si
 use Rattle.shown.specs.States.{ShowsReturned}
 use Rattle.shown.specs.laws.SetSteps.{condition-shown}
 use Rattle.bundles.specs.Words.{input-count, target-type, condition-in}
+use Rattle.state.specs.Rows.{return-word}
 
 module _ {g : Graph} (w : List ℕ) (few : length (g .regions) ≤ 32) (returned : ShowsReturned g w) where
   pub input-count-shown : {t : ℕ} {x : DeferredTarget} → ShowsTarget g t x → input-count g w t ≡ target-size g x
   unfolding input-count
-  input-count-shown {t} (shows-region e h) = rw (ne-eqb t 65535 (omega arith), e)
-  input-count-shown {t} (shows-return e) = rw (eq-eqb t 65535 e) (returned .size)
+  input-count-shown {t} (shows-region e h) = rw (ne-eqb t return-word (omega arith), e)
+  input-count-shown {t} (shows-return e) = rw (eq-eqb t return-word e) (returned .size)
 
   pub target-type-shown : {t : ℕ} {x : DeferredTarget} → ShowsTarget g t x → (k : ℕ) → k < target-size g x
       → target-type g w t k ≡ nesting.target-type g x k
   unfolding target-type
-  target-type-shown {t} (shows-region e h) k b = rw (ne-eqb t 65535 (omega arith), e)
-  target-type-shown {t} (shows-return e) k b = rw (eq-eqb t 65535 e) (returned .types k b)
+  target-type-shown {t} (shows-region e h) k b = rw (ne-eqb t return-word (omega arith), e)
+  target-type-shown {t} (shows-return e) k b = rw (eq-eqb t return-word e) (returned .types k b)
 
 pub condition-in-shown : {g : Graph} {w : List ℕ} {start n : ℕ} {d : DeferredEdgeBundleSet} → ShowsSet g w start n d → (i : ℕ) → i < n
     → ShowsCondition w (condition-in w (start + i) n) (nesting.condition-in d (getD d i no-bundle))

@@ -2,7 +2,7 @@
 -- to stand on where a later part of the same function reads it again.
 use mathlib.Core.Path.{_≡_, sym, subst, _∙_}
 use mathlib.Core.List.{List}
-use Prim.Native.Nat.{ℕ, _+_, _*_}
+use Prim.Native.Nat.{ℕ}
 use native.Mathlib.Omega.{arith}
 use lib.ListN.{getD}
 use borrow.Author.Tests.{eq-eqb, ne-eqb}
@@ -16,7 +16,7 @@ use Rattle.state.specs.declared.cases.Case.{Case}
 use Rattle.state.specs.declared.defined.Defined.{Defined}
 use Rattle.state.specs.declared.defined.Defined.the-variants.{Number}
 use Rattle.state.specs.declared.defined.Defined.the-variants as defined
-use Rattle.state.specs.Sections.{word, stored, children, bundles, set-lengths}
+use Rattle.state.specs.Sections.{word, stored, children, set-lengths}
 use Rattle.state.specs.Tables.{Adds, Defines, case-row}
 use Rattle.state.specs.Values.{value-word}
 use Rattle.bundles.specs.Words.{condition-in, cases-filled, split-filled, Appends}
@@ -32,6 +32,7 @@ use Rattle.state.specs.declared.cells.Cell.the-variants.{Exit}
 use Rattle.nesting.specs.Nesting.{most-nodes}
 use Rattle.cfg.specs.ByInst.{AddsBlocks, no-blocks, some-blocks, AddsExit, exit-full, exit-added, Branches, branches, Selects}
 use Rattle.cfg.specs.ByInst.{selects, ByTerminator, ByControlInst, by-inst, ResolvesBy, resolves, own-bundle, backedges-deferred}
+use Rattle.state.specs.Rows.{bundle-count, no-bundle-word}
 
 -- ---- The functions, path by path.
 pub blocks-kinds : {g : Graph} {w w′ : List ℕ} {r : ℕ} → AddsBlocks g w r w′ → SameKinds w w′
@@ -72,13 +73,13 @@ module _ (g : Graph) (w : List ℕ) (r i : ℕ) {n p c : ℕ} {w₁ : List ℕ} 
       resolves (rw (under, at, of-length, filled st) at (y on))
 
 module _ (w : List ℕ) (r p : ℕ) (found : p ≡ backedge-at w r) where
-  pub deferred-none : p ≡ 65535 → 0 ≡ backedges-deferred w r
+  pub deferred-none : p ≡ no-bundle-word → 0 ≡ backedges-deferred w r
   unfolding backedges-deferred
-  deferred-none e = rw (eq-eqb (backedge-at w r) 65535 (sym found ∙ e))
+  deferred-none e = rw (eq-eqb (backedge-at w r) no-bundle-word (sym found ∙ e))
 
-  pub deferred-some : (p ≡ 65535 → ⊥) → (n : ℕ) → n ≡ word w bundles (7 * p + 1) → n ≡ backedges-deferred w r
+  pub deferred-some : (p ≡ no-bundle-word → ⊥) → (n : ℕ) → n ≡ bundle-count w p → n ≡ backedges-deferred w r
   unfolding backedges-deferred
-  deferred-some d n e = e ∙ rw (ne-eqb (backedge-at w r) 65535 (λ z. d (found ∙ z)), found)
+  deferred-some d n e = e ∙ rw (ne-eqb (backedge-at w r) no-bundle-word (λ z. d (found ∙ z)), found)
 
 -- The terminator's kind, as it was told.
 pub told-kind : {x : ControlInst} (k : Terminator) → terminator-is k x ≡ x → {k′ : Terminator} → k ≡ k′ → terminator-is k′ x ≡ x

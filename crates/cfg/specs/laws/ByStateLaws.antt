@@ -15,22 +15,24 @@ use Rattle.cfg.specs.declared.claim.Claim.{Claim}
 use Rattle.cfg.specs.declared.claim.Claim.the-variants.{Claimed, Unclaimed, Refused}
 use Rattle.cfg.specs.ByState.{claim-of, backedge-at, as-claimed, ClaimsBody, no-backedges, none-found, by-loop, ClaimsByState}
 use Rattle.cfg.specs.ByState.{ready-claimed, ready-waits, busy-claimed, busy-waits, other-state, is-trivial, unclaimed-word}
+use Rattle.state.specs.Rows.{kind-claimed, kind-in-progress, kind-ready, largest, no-bundle-word, region-kind}
 
 -- ---- The functions, path by path.
-module _ (w : List ℕ) (t state : ℕ) (of-state : state ≡ word w kinds t) where
-  pub trivial-state : (state ≡ 2 → ⊥) → false ≡ is-trivial w t
+module _ (w : List ℕ) (t state : ℕ) (of-state : state ≡ region-kind w t) where
+  pub trivial-state : (state ≡ kind-ready → ⊥) → false ≡ is-trivial w t
   unfolding is-trivial
-  trivial-state d = rw (ne-eqb (word w kinds t) 2 (λ e. d (of-state ∙ e)))
+  trivial-state d = rw (ne-eqb (region-kind w t) kind-ready (λ e. d (of-state ∙ e)))
 
-  module _ (ready : state ≡ 2) (n : ℕ) (of-length : n ≡ word w set-lengths t) where
+  module _ (ready : state ≡ kind-ready) (n : ℕ) (of-length : n ≡ word w set-lengths t) where
     pub trivial-set : (n ≡ 0 → ⊥) → false ≡ is-trivial w t
     unfolding is-trivial
-    trivial-set d = rw (eq-eqb (word w kinds t) 2 (sym of-state ∙ ready), ne-eqb (word w set-lengths t) 0 (λ e. d (of-length ∙ e)))
+    trivial-set d = rw
+        (eq-eqb (region-kind w t) kind-ready (sym of-state ∙ ready), ne-eqb (word w set-lengths t) 0 (λ e. d (of-length ∙ e)))
 
     pub trivial-children : n ≡ 0 → (h : ℕ) → h ≡ word w children t → eqb h 0 ≡ is-trivial w t
     unfolding is-trivial
     trivial-children z h e =
-        rw (eq-eqb (word w kinds t) 2 (sym of-state ∙ ready), eq-eqb (word w set-lengths t) 0 (sym of-length ∙ z), e)
+        rw (eq-eqb (region-kind w t) kind-ready (sym of-state ∙ ready), eq-eqb (word w set-lengths t) 0 (sym of-length ∙ z), e)
 
 module _ (w : List ℕ) (t : ℕ) (b : Bool) (test : b ≡ is-trivial w t) where
   pub edge-nothing : b ≡ true → 0 ≡ unclaimed-word w t
@@ -39,8 +41,9 @@ module _ (w : List ℕ) (t : ℕ) (b : Bool) (test : b ≡ is-trivial w t) where
   pub edge-deferred : b ≡ false → 1 ≡ unclaimed-word w t
   edge-deferred e = rw (← test, e)
 
-module _ (g : Graph) (w : List ℕ) {w₁ w₂ : List ℕ} (r : ℕ) (claims : w₁ ≡ stored w kinds r 3) (itself : w₂ ≡ stored w₁ bodies r r) {b z : ℕ}
-    (read : (b ≡ word w₂ backedges r) × (b ≤ 65535)) (none : z ≡ 0) {same : Bool} (test : same ≡ eqb b z) where
+module _ (g : Graph) (w : List ℕ) {w₁ w₂ : List ℕ} (r : ℕ) (claims : w₁ ≡ stored w kinds r kind-claimed)
+    (itself : w₂ ≡ stored w₁ bodies r r) {b z : ℕ}
+    (read : (b ≡ word w₂ backedges r) × (b ≤ largest)) (none : z ≡ 0) {same : Bool} (test : same ≡ eqb b z) where
   now-claimed : w₂ ≡ as-claimed w r
   now-claimed = itself ∙ ap (λ l. stored l bodies r r) claims
 
@@ -57,15 +60,15 @@ module _ (g : Graph) (w : List ℕ) {w₁ w₂ : List ℕ} (r : ℕ) (claims : w
     has-some : word (as-claimed w r) backedges r ≡ 0 → ⊥
     has-some y = eqb-false b z (sym test ∙ some) (backedges-read ∙ y ∙ sym none)
 
-    pub body-without : p ≡ 65535 → ClaimsBody g w r w₂ Claimed
+    pub body-without : p ≡ no-bundle-word → ClaimsBody g w r w₂ Claimed
     body-without e = none-found has-some (sym found-at ∙ e) now-claimed
 
-    pub body-loop : (p ≡ 65535 → ⊥) → {w₃ : List ℕ} {made : Made} → StructurizesLoop r p w₂ w₃ made → {a : Claim}
+    pub body-loop : (p ≡ no-bundle-word → ⊥) → {w₃ : List ℕ} {made : Made} → StructurizesLoop r p w₂ w₃ made → {a : Claim}
         → a ≡ claim-of made → ClaimsBody g w r w₃ a
     body-loop d f e = by-loop has-some (λ z. d (found-at ∙ z)) (rw (now-claimed, found-at) at f) e
 
-module _ (g : Graph) (w : List ℕ) (r n incoming : ℕ) {state : ℕ} (of-state : state ≡ word w kinds r) where
-  module _ (ready : state ≡ 2) {b m : ℕ} (read : (b ≡ word w backedges r) × (b ≤ 65535)) (few : n ≤ 65535)
+module _ (g : Graph) (w : List ℕ) (r n incoming : ℕ) {state : ℕ} (of-state : state ≡ region-kind w r) where
+  module _ (ready : state ≡ kind-ready) {b m : ℕ} (read : (b ≡ word w backedges r) × (b ≤ largest)) (few : n ≤ largest)
       (sum : m ≡ min (n + b) 4294967295) {same : Bool} (test : same ≡ eqb incoming m) where
     all-edges : m ≡ n + word w backedges r
     all-edges = (let z = read .0 in let y = read .1 in omega arith)
@@ -76,12 +79,12 @@ module _ (g : Graph) (w : List ℕ) (r n incoming : ℕ) {state : ℕ} (of-state
     pub state-waits : same ≡ false → ClaimsByState g w r n incoming w Unclaimed
     state-waits e = ready-waits (sym of-state ∙ ready) (λ z. eqb-false incoming m (sym test ∙ e) (z ∙ sym all-edges)) refl
 
-  module _ (busy : state ≡ 1) {same : Bool} (test : same ≡ eqb incoming n) where
+  module _ (busy : state ≡ kind-in-progress) {same : Bool} (test : same ≡ eqb incoming n) where
     pub busy-refuses : same ≡ true → ClaimsByState g w r n incoming w (Refused 12 r)
     busy-refuses e = busy-claimed (sym of-state ∙ busy) (eqb-true incoming n (sym test ∙ e)) refl
 
     pub busy-stays : same ≡ false → ClaimsByState g w r n incoming w Unclaimed
     busy-stays e = busy-waits (sym of-state ∙ busy) (eqb-false incoming n (sym test ∙ e)) refl
 
-  pub other-refuses : (state ≡ 2 → ⊥) → (state ≡ 1 → ⊥) → ClaimsByState g w r n incoming w (Refused 12 r)
+  pub other-refuses : (state ≡ kind-ready → ⊥) → (state ≡ kind-in-progress → ⊥) → ClaimsByState g w r n incoming w (Refused 12 r)
   other-refuses d e = other-state (λ z. d (of-state ∙ z)) (λ z. e (of-state ∙ z)) refl

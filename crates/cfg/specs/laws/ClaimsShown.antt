@@ -4,7 +4,7 @@ use mathlib.Core.Bool.{Bool, true, false, _&&_, not}
 use mathlib.Core.List.{List, [], _∷_, _++_}
 use mathlib.Core.Logic.{inl, inr}
 use mathlib.Core.Option.{Option, none, some}
-use Prim.Native.Nat.{ℕ, zero, suc, _+_, _*_, _≤_, _<_}
+use Prim.Native.Nat.{ℕ, zero, suc, _+_, _≤_, _<_}
 use native.Mathlib.Omega.{arith}
 use lib.ListN.{length, getD, take, drop, drop-of-length-le}
 use lib.Seq.{drop-cons}
@@ -36,7 +36,7 @@ use Rattle.follows.specs.counting.Counting.{Nine, Counted, counted-as, pre-afte
 use Rattle.follows.specs.counting.CountClaim.{edges-self}
 use Rattle.follows.specs.counting.CountScan.{aims, AllLive}
 use Rattle.follows.specs.counting.CountRegion.{Begun, targets-live, claim-counted, structurize-counted}
-use Rattle.state.specs.Sections.{word, stored, kinds, levels, children, set-lengths, head, rewrites}
+use Rattle.state.specs.Sections.{word, stored, kinds, children, set-lengths, head, rewrites}
 use Rattle.state.specs.Tables.{attempted, taken-word, taken-stored}
 use Rattle.shown.specs.laws.CellSteps.{has-list}
 use Rattle.shown.specs.laws.Steps.{attempt-counted}
@@ -59,17 +59,10 @@ use Rattle.cfg.specs.Claims.{later-claim, StructurizesRegion, refused-at
 use Rattle.cfg.specs.Claims.{TargetRegions, no-target, target-refused, target-claimed, target-waits, Scans, no-bundle-left}
 use Rattle.cfg.specs.Claims.{passes-return, passes-waiting, claims-bundle, scan-refused, SplitsOut, splits-out, Resolves, no-turn}
 use Rattle.cfg.specs.Claims.{nothing-claimed, claim-refused, select-refused, claims-and, ResolvesAll, resolves-all}
-use Rattle.cfg.specs.laws.Shows.{Occupied, still-occupied, Unharmed, unharmed-same, unharmed-then}
-use Rattle.cfg.specs.laws.Shows.{unharmed-around, Around, around-same}
+use Rattle.cfg.specs.laws.Shows.{Occupied, still-occupied, unharmed-same, unharmed-then}
+use Rattle.cfg.specs.laws.Shows.{unharmed-around, around-same}
 use Rattle.cfg.specs.laws.Shows.{around-then, around-but}
-use Rattle.cfg.specs.laws.Shows.{cells-in-all, owed-stays, world, K, CanClaim, ClaimShows}
-use Rattle.cfg.specs.laws.Shows.{shows-claimed, shows-unclaimed, shows-refused, TakenAs, was-claimed, was-deferred, was-nothing}
-use Rattle.cfg.specs.laws.Shows.{TargetsShow}
-use Rattle.cfg.specs.laws.Shows.{shows-targets, refuses-targets, NewlyClaimed, BodyShows, ScanShows, shows-nothing}
-use Rattle.cfg.specs.laws.Shows.{TurnsShow, shows-turns, RegionShows, shows-ready, refuses-region}
-use Rattle.cfg.specs.laws.Shows.{if-claimed, if-unclaimed, if-refused, if-targets, if-targets-refused, if-body, if-full, if-split}
-use Rattle.cfg.specs.laws.Shows.{if-turns}
-use Rattle.cfg.specs.laws.Shows.{if-turns-refused, if-ready}
+use Rattle.cfg.specs.laws.Shows.{cells-in-all, owed-stays}
 use Rattle.cfg.specs.laws.TargetsShown.{Noted, notes, noted-cells, claimed-other, FirstNew, can-first, can-next, targets-more}
 use Rattle.cfg.specs.laws.ScansShown.{own-bundle-shown, CanScan, bundle-live, bundle-counts, can-claim-bundle, scan-on}
 use Rattle.cfg.specs.laws.ScansShown.{scan-past-return, passed-return, passed-waiting, scan-claims, scan-refusal}
@@ -79,6 +72,10 @@ use Rattle.cfg.specs.laws.TurnsShown.{turns-full, turns-again}
 use Rattle.cfg.specs.laws.RegionsShown.{CanBegin, can-targets, inv-targets, few-in-targets, right-in-targets, can-turn, begun-shown}
 use Rattle.cfg.specs.laws.RegionsShown.{begun-cells, beside-kind}
 use Rattle.cfg.specs.laws.RegionsShown.{region-unharmed, ready-shown, ready-beside, ready-cells}
+use Rattle.state.specs.Values.{parts}
+use Rattle.state.specs.Rows.{attempts-at, cells-at, kind-claimed, kind-in-progress, kind-not-begun, kind-ready, largest, level}
+use Rattle.state.specs.Rows.{level-claimed, region-kind, return-word}
+use Rattle.cfg.specs.laws.Shows.{most-cells-in-all}
 
 -- ---- What the other files show, of a graph and of the counts that the code was given.
 pub record ShownParts (g : Graph) (valid : Valid g) : Type 0 where
@@ -86,52 +83,54 @@ pub record ShownParts (g : Graph) (valid : Valid g) : Type 0 where
   pub few-targets : (r : ℕ) → length (edges-of (region g r .terminator)) ≤ 8
   pub few-incoming : (q : ℕ) → K g valid .incoming q ≤ 65534
   pub by-state : {w w′ : List ℕ} {r n : ℕ} {a : code.Claim} → ClaimsByState g w r n (getD (incoming-edge-counts g) r 0) w′ a
-      → (fuel : ℕ) (H : ℕ → ℕ) (s : NestState) (inputs : List Value) → ShowsState g w s → cells-in-all g w ≤ 641
-      → is-in r (K g valid .live) ≡ true → length inputs ≡ length (region g r .inputs) → (word w kinds r ≡ 0 → ⊥)
+      → (fuel : ℕ) (H : ℕ → ℕ) (s : NestState) (inputs : List Value) → ShowsState g w s → cells-in-all g w ≤ most-cells-in-all
+      → is-in r (K g valid .live) ≡ true → length inputs ≡ length (region g r .inputs) → (region-kind w r ≡ kind-not-begun → ⊥)
       → CanClaim g valid fuel H (λ q. edges-to q (to-region r) n) 0 s
       → ClaimShows g w w′ r inputs (claim-by-state g r n inputs (getD (incoming-edge-counts g) r 0) (state-of s r) s) a
   pub by-inst : {w w′ : List ℕ} {r : ℕ} {a : Made} → ByControlInst g w r w′ a → (s : NestState) (cs : List MaybeClaimedRegion)
-      → ShowsState g w s → cells-in-all g w ≤ 641 → r < length (g .regions) → word w kinds r ≡ 1
+      → ShowsState g w s → cells-in-all g w ≤ most-cells-in-all → r < length (g .regions) → region-kind w r ≡ kind-in-progress
       → length cs ≡ length (edges-of (region g r .terminator))
       → ((k : ℕ) → k < length (edges-of (region g r .terminator)) → TakenAs g w r k (edge-of g r k) (getD cs k no-case))
       → ((k : ℕ) (c : ClaimedRegion) → getD cs k no-case ≡ ok c → c .origin ≡ r → ⊥)
       → ((i j : ℕ) (c d : ClaimedRegion) → i < j → getD cs i no-case ≡ ok c → getD cs j no-case ≡ ok d → c .origin ≡ d .origin → ⊥)
-      → Inv (world g valid) s → ((q : ℕ) → totals (edges-to q) cs ≤ 65535) → totals edgeless cs ≡ 0
+      → Inv (world g valid) s → ((q : ℕ) → totals (edges-to q) cs ≤ largest) → totals edgeless cs ≡ 0
       → BodyShows g w w′ r cs 11 (by-control-inst g (blocks-of g r) (region g r .terminator) cs s) a
   pub by-resolve : {w w′ : List ℕ} {r i : ℕ} {a : Made} → ResolvesBy g w r i w′ a → (s : NestState) (x : Body) (y : SplitOut) (t : ℕ)
-      → ShowsState g w s → cells-in-all g w ≤ 641 → r < length (g .regions) → word w kinds r ≡ 1 → ShowsBody g w r x
+      → ShowsState g w s → cells-in-all g w ≤ most-cells-in-all → r < length (g .regions) → region-kind w r ≡ kind-in-progress
+      → ShowsBody g w r x
       → i < length (x .deferred-edges) → y .bundle ≡ getD (x .deferred-edges) i no-bundle
       → y .others ≡ take i (x .deferred-edges) ++ drop (suc i) (x .deferred-edges) → y .bundle .target ≡ to-region t → (t ≡ r → ⊥)
       → ShowsClaimed g w (y .claimed-region) → y .claimed-region .origin ≡ t
       → y .claimed-region .structured-body-inputs ≡ y .bundle .target-inputs → Inv (world g valid) s
-      → ((q : ℕ) → totals (edges-to q) (ok (y .claimed-region) ∷ err (y .others) ∷ []) ≤ 65535)
+      → ((q : ℕ) → totals (edges-to q) (ok (y .claimed-region) ∷ err (y .others) ∷ []) ≤ largest)
       → totals edgeless (ok (y .claimed-region) ∷ err (y .others) ∷ []) ≡ 0
       → BodyShows g w w′ r (ok (y .claimed-region) ∷ err (y .others) ∷ []) 4
       (structurize-select-into g (x .children) bool-cond (lazy (condition-in (x .deferred-edges) (y .bundle)))
       (ok (y .claimed-region) ∷ err (y .others) ∷ []) s) a
 
 -- ---- A region's kind says its state.
-kind-none : {g : Graph} {w : List ℕ} {r : ℕ} {x : StructurizeRegionState} → ShowsRegion g w r x → word w kinds r ≡ 0 → x ≡ not-begun
+kind-none : {g : Graph} {w : List ℕ} {r : ℕ} {x : StructurizeRegionState} → ShowsRegion g w r x → region-kind w r ≡ kind-not-begun
+    → x ≡ not-begun
 kind-none (is-not-begun a) e = refl
 kind-none (is-in-progress a) e = absurd (omega arith)
 kind-none (is-ready a b c d) e = absurd (omega arith)
 kind-none (is-claimed a) e = absurd (omega arith)
 
-kind-some : {g : Graph} {w : List ℕ} (r : ℕ) {x : StructurizeRegionState} → ShowsRegion g w r x → not-begun-one x ≡ 0 → word w kinds r ≡
+kind-some : {g : Graph} {w : List ℕ} (r : ℕ) {x : StructurizeRegionState} → ShowsRegion g w r x → not-begun-one x ≡ 0 → region-kind w r ≡
     0 → ⊥
 kind-some r (is-not-begun a) e z = absurd (omega arith)
 kind-some r (is-in-progress a) e z = absurd (omega arith)
 kind-some r (is-ready a b c d) e z = absurd (omega arith)
 kind-some r (is-claimed a) e z = absurd (omega arith)
 
-some-kind : {g : Graph} {w : List ℕ} {r : ℕ} {x : StructurizeRegionState} → ShowsRegion g w r x → (word w kinds r ≡ 0 → ⊥) →
+some-kind : {g : Graph} {w : List ℕ} {r : ℕ} {x : StructurizeRegionState} → ShowsRegion g w r x → (region-kind w r ≡ kind-not-begun → ⊥) →
     not-begun-one x ≡ 0
 some-kind (is-not-begun a) d = absurd (d a)
 some-kind (is-in-progress a) d = refl
 some-kind (is-ready a b c e) d = refl
 some-kind (is-claimed a) d = refl
 
-not-occupied : (w : List ℕ) (r : ℕ) → word w kinds r ≡ 0 → Occupied w r → ⊥
+not-occupied : (w : List ℕ) (r : ℕ) → region-kind w r ≡ kind-not-begun → Occupied w r → ⊥
 not-occupied w r e (inl p) = absurd (omega arith)
 not-occupied w r e (inr p) = absurd (omega arith)
 
@@ -139,15 +138,15 @@ not-occupied w r e (inr p) = absurd (omega arith)
 module _ {g : Graph} {w : List ℕ} (r j : ℕ) (e : Edge) (noted : taken-word w r j ≡ unclaimed-word w (e .target)) where
   unclaimed-taken : {x : StructurizeRegionState} → ShowsRegion g w (e .target) x → TakenAs g w r j e (unclaimed-edge e x)
   unfolding is-trivial
-  unclaimed-taken (is-not-begun a) = was-deferred refl (noted ∙ rw (ne-eqb (word w kinds (e .target)) 2 (omega arith)))
-  unclaimed-taken (is-in-progress a) = was-deferred refl (noted ∙ rw (ne-eqb (word w kinds (e .target)) 2 (omega arith)))
-  unclaimed-taken (is-claimed a) = was-deferred refl (noted ∙ rw (ne-eqb (word w kinds (e .target)) 2 (omega arith)))
+  unclaimed-taken (is-not-begun a) = was-deferred refl (noted ∙ rw (ne-eqb (region-kind w (e .target)) kind-ready (omega arith)))
+  unclaimed-taken (is-in-progress a) = was-deferred refl (noted ∙ rw (ne-eqb (region-kind w (e .target)) kind-ready (omega arith)))
+  unclaimed-taken (is-claimed a) = was-deferred refl (noted ∙ rw (ne-eqb (region-kind w (e .target)) kind-ready (omega arith)))
   unclaimed-taken (is-ready {b} {ks} {d} a c n s) =
       let childless : eqb (word w children (e .target)) 0 ≡ not (has-children ks) = go₁ (eqb (word w children (e .target)) 0)
       (has-list n) in
       let none : eqb (word w set-lengths (e .target)) 0 ≡ empty d = ap (λ k. eqb k 0) (s .size) ∙ go₂ d in
       let all : is-trivial w (e .target) ≡ (empty d && not (has-children ks)) =
-      rw (eq-eqb (word w kinds (e .target)) 2 a, none, childless) (pick-and (empty d) (not (has-children ks))) in
+      rw (eq-eqb (region-kind w (e .target)) kind-ready a, none, childless) (pick-and (empty d) (not (has-children ks))) in
       go (empty d && not (has-children ks)) (noted ∙ ap (λ t. pick t 0 1) all)
     where
       go₁ : (t : Bool) → has-children ks ≡ not t → t ≡ not (has-children ks)
@@ -163,13 +162,13 @@ module _ {g : Graph} {w : List ℕ} (r j : ℕ) (e : Edge) (noted : taken-word w
       go false p = was-deferred refl p
 
 -- ---- The attempt is counted, and nothing else changes.
-module _ {g : Graph} {w : List ℕ} {s : NestState} (shown : ShowsState g w s) (few : s .attempts < 65535) where
-  at-is : attempted w ≡ stored w head 5 (word w head 5 + 1)
+module _ {g : Graph} {w : List ℕ} {s : NestState} (shown : ShowsState g w s) (few : s .attempts < largest) where
+  at-is : attempted w ≡ stored w head attempts-at (word w head attempts-at + 1)
   unfolding attempted
-  at-is = let z = shown .tables .attempts in rw (lt-ltb (word w head 5) 65535 (omega arith))
+  at-is = let z = shown .tables .attempts in rw (lt-ltb (word w head attempts-at) largest (omega arith))
 
-  changes : ChangesOnly head 5 w (attempted w)
-  changes = rw at-is (head-changes head 5 w (word w head 5 + 1))
+  changes : ChangesOnly head attempts-at w (attempted w)
+  changes = rw at-is (head-changes head attempts-at w (word w head attempts-at + 1))
 
   pub attempt-shown : ShowsState g (attempted w) (add-attempt s)
   attempt-shown =
@@ -178,7 +177,7 @@ module _ {g : Graph} {w : List ℕ} {s : NestState} (shown : ShowsState g w s) (
       (attempt-counted (shown .tables) few refl)
       (named-by e (shown .named)) refl shown
 
-  pub attempt-kinds : (q : ℕ) → word (attempted w) kinds q ≡ word w kinds q
+  pub attempt-kinds : (q : ℕ) → region-kind (attempted w) q ≡ region-kind w q
   attempt-kinds q = ap (λ l. getD l q 0) (changes .others kinds (omega arith) (omega arith))
 
   pub attempt-unharmed : Unharmed g w (attempted w)
@@ -190,7 +189,8 @@ module _ {g : Graph} {w : List ℕ} {s : NestState} (shown : ShowsState g w s) (
       }
 
   pub attempt-cells : cells-in-all g (attempted w) ≡ cells-in-all g w
-  attempt-cells = let z = owed-stays g w (attempted w) (λ q h. attempt-kinds q) in let y = changes .totals 4 (omega arith) in omega arith
+  attempt-cells = let z = owed-stays g w (attempted w) (λ q h. attempt-kinds q) in let y = changes .totals cells-at
+      (omega arith) in omega arith
 
 -- What is shown from later words on, from earlier ones on.
 claim-before : {g : Graph} {w w₁ w′ : List ℕ} {r : ℕ} {inputs : List Value} {b b′ : StepAnswer (Option ClaimedRegion)} {a : code.Claim}
@@ -306,11 +306,11 @@ record GoesTo (g : Graph) (x : ℕ) (y : DeferredTarget) : Type 0 where
   word : x ≡ region
   in-graph : region < length (g .regions)
 
-goes-there : {g : Graph} {x : ℕ} {y : DeferredTarget} → ShowsTarget g x y → (x ≡ 65535 → ⊥) → GoesTo g x y
+goes-there : {g : Graph} {x : ℕ} {y : DeferredTarget} → ShowsTarget g x y → (x ≡ return-word → ⊥) → GoesTo g x y
 goes-there (shows-region {r} e l) d = record { region = r; is = refl; word = e; in-graph = l }
 goes-there (shows-return e) d = absurd (d e)
 
-returns-there : {g : Graph} {x : ℕ} {y : DeferredTarget} → length (g .regions) ≤ 32 → ShowsTarget g x y → x ≡ 65535 → y ≡ to-return
+returns-there : {g : Graph} {x : ℕ} {y : DeferredTarget} → length (g .regions) ≤ 32 → ShowsTarget g x y → x ≡ return-word → y ≡ to-return
 returns-there few (shows-region e l) p = absurd (omega arith)
 returns-there few (shows-return e) p = refl
 
@@ -338,8 +338,9 @@ unclaimed-same : {g : Graph} {w w′ : List ℕ} {r j y : ℕ} → Noted g w w�
 unfolding is-trivial
 unclaimed-same n t = rw (n .concerns .same-kinds t, n .lengths t, n .handles t)
 
-busy-there : {g : Graph} {w : List ℕ} {s : NestState} → ShowsState g w s → (r : ℕ) → NotBegun w r → word (stored w kinds r 1) kinds r ≡ 1
-busy-there {w} shown r new = let room = shown .tables .size in word-there w kinds r 1 (omega arith) (new .below)
+busy-there : {g : Graph} {w : List ℕ} {s : NestState} → ShowsState g w s → (r : ℕ) → NotBegun w r
+    → region-kind (stored w kinds r kind-in-progress) r ≡ kind-in-progress
+busy-there {w} shown r new = let room = shown .tables .size in word-there w kinds r kind-in-progress (omega arith) (new .below)
 
 -- The region that a scan claimed was not occupied before.
 taken-new : (w : List ℕ) (y : SplitOut) (t : ℕ) → y .claimed-region .origin ≡ t → (Occupied w t → ⊥) → (j : ℕ) (c : ClaimedRegion)
@@ -352,23 +353,24 @@ taken-new w y t o free (suc (suc j)) c e h = clash (cc)
 record NextStep (g : Graph) (w w₁ w₂ : List ℕ) (r j how : ℕ) (m : MaybeClaimedRegion) (s₁ : NestState) : Type 0 where
   place : j < 8
   noted : Noted g w₁ w₂ r j how
-  levels-same : (k : ℕ) → k < 8 → word w₁ levels (8 * r + k) ≡ word w levels (8 * r + k)
+  levels-same : (k : ℕ) → k < 8 → level w₁ r k ≡ level w r k
   state : ShowsState g w₂ s₁
-  busy : word w₂ kinds r ≡ 1
+  busy : region-kind w₂ r ≡ kind-in-progress
   taken : TakenAs g w₂ r j (edge-of g r j) m
   first : FirstNew w w₂ m
 
 module _ {g : Graph} {w w₁ : List ℕ} {r j : ℕ} {s₁ : NestState} (few : length (g .regions) ≤ 32)
-    (few-targets : length (edges-of (region g r .terminator)) ≤ 8) (in-graph : r < length (g .regions)) (busy : word w kinds r ≡ 1)
+    (few-targets : length (edges-of (region g r .terminator)) ≤ 8) (in-graph : r < length (g .regions))
+    (busy : region-kind w r ≡ kind-in-progress)
     (h : j < length (edges-of (region g r .terminator))) where
   claimed-next : {y : ClaimedRegion} → ShowsState g w₁ s₁ → ShowsClaimed g w₁ y → y .origin ≡ edge-of g r j .target
       → y .structured-body-inputs ≡ edge-of g r j .inputs → (Occupied w (edge-of g r j .target) → ⊥) → Unharmed g w w₁
-      → NextStep g w w₁ (taken-stored w₁ r j 2) r j 2 (ok y) s₁
+      → NextStep g w w₁ (taken-stored w₁ r j level-claimed) r j 2 (ok y) s₁
   claimed-next {y} st cl o i free u =
       let below : r < 32 = omega arith in
       let place : j < 8 = omega arith in
       let noted = notes g w₁ r j 2 (st .tables .size) below place in
-      let busy₁ : word w₁ kinds r ≡ 1 = u .kinds-stay r (inl busy) ∙ busy in
+      let busy₁ : region-kind w₁ r ≡ kind-in-progress = u .kinds-stay r (inl busy) ∙ busy in
       record {
         place = place;
         noted = noted;
@@ -382,7 +384,8 @@ module _ {g : Graph} {w w₁ : List ℕ} {r j : ℕ} {s₁ : NestState} (few : l
             (noted .concerns .same-kinds (y .origin)) cl) o i;
         first = record {
           free = λ z e hd. free (subst (λ q. Occupied w q) (ap origin-of (sym e) ∙ o) hd);
-          occupied = λ z e. occupied-noted noted (z .origin) (inr (subst (λ q. word w₁ kinds q ≡ 3) (ap origin-of e) (cl .kind)));
+          occupied = λ z e. occupied-noted noted (z .origin)
+              (inr (subst (λ q. region-kind w₁ q ≡ kind-claimed) (ap origin-of e) (cl .kind)));
           on = λ q hd. occupied-noted noted q (still-occupied u q hd);
         };
       }
@@ -395,7 +398,7 @@ module _ {g : Graph} {w w₁ : List ℕ} {r j : ℕ} {s₁ : NestState} (few : l
       let place : j < 8 = omega arith in
       let e = edge-of g r j in
       let noted = notes g w₁ r j (unclaimed-word w₁ (e .target)) (st .tables .size) below place in
-      let busy₁ : word w₁ kinds r ≡ 1 = u .kinds-stay r (inl busy) ∙ busy in
+      let busy₁ : region-kind w₁ r ≡ kind-in-progress = u .kinds-stay r (inl busy) ∙ busy in
       let st₂ = state-stays (noted .concerns .later) (concerns-states (noted .concerns) few (λ z. absurd (omega arith)))
       (noted .concerns .tables) st in
       record {
@@ -434,36 +437,40 @@ module _ (g : Graph) (valid : Valid g) (parts : ShownParts g valid) (counts : Li
   its-edges r = edges-of (region g r .terminator)
 
   inst-from : {w w₁ w₂ : List ℕ} {r : ℕ} {a : Made} → ByControlInst g w₁ r w₂ a → (fuel : ℕ) (H : ℕ → ℕ) (s : NestState) → ShowsState g w s
-      → cells-in-all g w ≤ 641 → NotBegun w r → (can : CanBegin g valid fuel H r s) → (cs : List MaybeClaimedRegion) (s₁ : NestState)
+      → cells-in-all g w ≤ most-cells-in-all → NotBegun w r → (can : CanBegin g valid fuel H r s)
+      → (cs : List MaybeClaimedRegion) (s₁ : NestState)
       → target-regions g (defined fuel) (its-edges r) (with-state s r in-progress) ≡ done cs s₁ → ShowsState g w₁ s₁
       → length cs ≡ length (its-edges r)
       → ((k : ℕ) → k < length (its-edges r) → TakenAs g w₁ r (0 + k) (getD (its-edges r) k no-edge) (getD cs k no-case))
-      → NewlyClaimed (stored w kinds r 1) cs → Around g r (stored w kinds r 1) w₁ → cells-in-all g w₁ ≤ cells-in-all g (stored w kinds r 1)
+      → NewlyClaimed (stored w kinds r kind-in-progress) cs → Around g r (stored w kinds r kind-in-progress) w₁
+      → cells-in-all g w₁ ≤ cells-in-all g (stored w kinds r kind-in-progress)
       → BodyShows g w₁ w₂ r cs 11 (by-control-inst g (blocks-of g r) (region g r .terminator) cs s₁) a
   inst-from {w} {w₁} {r} i fuel H s shown room new can cs s₁ p st len each newly ar k =
       let c = begun-cells shown (parts .few) r (can .in-graph) (new .kind) in
       let busy = busy-there shown r new in
       parts .by-inst i s₁ cs st (omega arith) (can .in-graph) (ar .kinds-stay r (inl busy) ∙ busy) len
       (λ j h. let z : 0 + j ≡ j = omega arith in rw z at (each j h))
-      (λ j y e o. newly .free j y e (inl (subst (λ q. word (stored w kinds r 1) kinds q ≡ 1) (sym o) busy))) (newly .apart)
+      (λ j y e o. newly .free j y e (inl (subst (λ q. region-kind (stored w kinds r kind-in-progress) q ≡ kind-in-progress) (sym o) busy)))
+      (newly .apart)
       (inv-targets g valid fuel H r s can cs s₁ p)
       (λ q. let z = few-in-targets g valid fuel H r s can cs s₁ p q in let y = parts .few-incoming q in omega arith)
       (right-in-targets g valid fuel H r s can cs s₁ p)
 
   select-from : {w w₁ w₂ : List ℕ} {r i : ℕ} {a : Made} → ResolvesBy g w₁ r i w₂ a → (fuel : ℕ) (s₀ : NestState) (H : ℕ → ℕ) (x : Body)
-      (s : NestState) → ShowsBody g w r x → word w kinds r ≡ 1 → r < length (g .regions) → (can : CanTurn g valid fuel s₀ r H x s)
+      (s : NestState) → ShowsBody g w r x → region-kind w r ≡ kind-in-progress → r < length (g .regions)
+      → (can : CanTurn g valid fuel s₀ r H x s)
       → (y : SplitOut) (s₁ : NestState) (t : ℕ) → split-out-matching g (defined fuel) [] (x .deferred-edges) s ≡ done (some y) s₁
       → ShowsState g w₁ s₁ → i < length (x .deferred-edges) → y .bundle ≡ getD (x .deferred-edges) i no-bundle
       → y .others ≡ take i (x .deferred-edges) ++ drop (suc i) (x .deferred-edges) → y .bundle .target ≡ to-region t
       → ShowsClaimed g w₁ (y .claimed-region) → y .claimed-region .origin ≡ t
       → y .claimed-region .structured-body-inputs ≡ y .bundle .target-inputs → (Occupied w t → ⊥) → Unharmed g w w₁
-      → cells-in-all g w₁ ≤ 641 → BodyShows g w₁ w₂ r (ok (y .claimed-region) ∷ err (y .others) ∷ []) 4
+      → cells-in-all g w₁ ≤ most-cells-in-all → BodyShows g w₁ w₂ r (ok (y .claimed-region) ∷ err (y .others) ∷ []) 4
       (structurize-select-into g (x .children) bool-cond (lazy (condition-in (x .deferred-edges) (y .bundle)))
       (ok (y .claimed-region) ∷ err (y .others) ∷ []) s₁) a
   select-from {w} {r} b fuel s₀ H x s body busy in-graph can y s₁ t p st l z o to cl origin many free u room =
       parts .by-resolve b s₁ x y t st room in-graph (u .kinds-stay r (inl busy) ∙ busy)
       (body-stays (u .later) (u .regions-stay r in-graph (inl busy)) body) l z o to
-      (λ e. free (inl (subst (λ q. word w kinds q ≡ 1) (sym e) busy))) cl origin many
+      (λ e. free (inl (subst (λ q. region-kind w q ≡ kind-in-progress) (sym e) busy))) cl origin many
       (first-done g valid fuel s₀ r H x s can (some y) s₁ p .inv)
       (λ q. let v = few-in-cases g valid fuel s₀ r H x s can y s₁ p q in let c = parts .few-incoming q in omega arith)
       (right-in-cases g valid fuel s₀ r H x s can y s₁ p)
@@ -471,20 +478,21 @@ module _ (g : Graph) (valid : Valid g) (parts : ShownParts g valid) (counts : Li
   -- What is shown of a claim, and of targets from place j on, whatever state the words show.
   abbrev ClaimFor : List ℕ → List ℕ → ℕ → ℕ → code.Claim → Type 0
   ClaimFor w w′ r n a =
-      (fuel : ℕ) (H : ℕ → ℕ) (s : NestState) (inputs : List Value) → ShowsState g w s → cells-in-all g w ≤ 641
+      (fuel : ℕ) (H : ℕ → ℕ) (s : NestState) (inputs : List Value) → ShowsState g w s → cells-in-all g w ≤ most-cells-in-all
       → is-in r (K g valid .live) ≡ true → 1 ≤ n → length inputs ≡ length (region g r .inputs)
       → CanClaim g valid fuel H (λ q. edges-to q (to-region r) n) 1 s → ClaimShows g w w′ r inputs (defined fuel r n inputs s) a
 
   abbrev TargetsFor : List ℕ → List ℕ → ℕ → ℕ → Checked → Type 0
   TargetsFor w w′ r j a =
-      (fuel : ℕ) (H : ℕ → ℕ) (s : NestState) → ShowsState g w s → cells-in-all g w ≤ 641 → r < length (g .regions) → word w kinds r ≡ 1
+      (fuel : ℕ) (H : ℕ → ℕ) (s : NestState) → ShowsState g w s → cells-in-all g w ≤ most-cells-in-all → r < length (g .regions)
+      → region-kind w r ≡ kind-in-progress
       → AllLive (K g valid) (drop j (its-edges r)) → EdgesUsable g r (drop j (its-edges r))
       → CanClaim g valid fuel H (aims (K g valid) (drop j (its-edges r))) (length (drop j (its-edges r))) s
       → TargetsShow g w w′ r j (drop j (its-edges r)) (target-regions g (defined fuel) (drop j (its-edges r)) s) a
 
-  first-targets : {w w₁ : List ℕ} {r : ℕ} {a : Checked} → TargetsFor (stored w kinds r 1) w₁ r 0 a → (fuel : ℕ) (H : ℕ → ℕ)
-      (s : NestState) → ShowsState g w s → cells-in-all g w ≤ 641 → NotBegun w r → CanBegin g valid fuel H r s
-      → TargetsShow g (stored w kinds r 1) w₁ r 0 (its-edges r)
+  first-targets : {w w₁ : List ℕ} {r : ℕ} {a : Checked} → TargetsFor (stored w kinds r kind-in-progress) w₁ r 0 a → (fuel : ℕ) (H : ℕ → ℕ)
+      (s : NestState) → ShowsState g w s → cells-in-all g w ≤ most-cells-in-all → NotBegun w r → CanBegin g valid fuel H r s
+      → TargetsShow g (stored w kinds r kind-in-progress) w₁ r 0 (its-edges r)
       (target-regions g (defined fuel) (its-edges r) (with-state s r in-progress)) a
   first-targets {r} t fuel H s shown room new can =
       let c = begun-cells shown (parts .few) r (can .in-graph) (new .kind) in
@@ -495,7 +503,7 @@ module _ (g : Graph) (valid : Valid g) (parts : ShownParts g valid) (counts : Li
 
   -- The claim of the first of a region's targets.
   first-claim-shown : {w w₁ : List ℕ} (r j : ℕ) {a : code.Claim} → ClaimFor w w₁ (edge-of g r j .target) 1 a → (fuel : ℕ)
-      (H : ℕ → ℕ) (s : NestState) → ShowsState g w s → cells-in-all g w ≤ 641
+      (H : ℕ → ℕ) (s : NestState) → ShowsState g w s → cells-in-all g w ≤ most-cells-in-all
       → AllLive (K g valid) (edge-of g r j ∷ drop (suc j) (its-edges r)) → EdgesUsable g r (edge-of g r j ∷ drop (suc j) (its-edges r))
       → CanClaim g valid fuel H (aims (K g valid) (edge-of g r j ∷ drop (suc j) (its-edges r)))
       (length (edge-of g r j ∷ drop (suc j) (its-edges r))) s
@@ -509,7 +517,8 @@ module _ (g : Graph) (valid : Valid g) (parts : ShownParts g valid) (counts : Li
 
   -- The claim of bundle i of region r's set.
   bundle-claim : {w w₁ : List ℕ} (r i : ℕ) {a : code.Claim} → ClaimFor w w₁ (own-target w r i) (own-count w r i) a → (fuel : ℕ)
-      (H : ℕ → ℕ) (s : NestState) (d : DeferredEdgeBundleSet) → ShowsState g w s → cells-in-all g w ≤ 641 → ShowsOwnSet g w r d
+      (H : ℕ → ℕ) (s : NestState) (d : DeferredEdgeBundleSet) → ShowsState g w s → cells-in-all g w ≤ most-cells-in-all
+      → ShowsOwnSet g w r d
       → (l : i < length d) → CanScan g valid fuel H d i s → (there : GoesTo g (own-target w r i) (getD d i no-bundle .target))
       → ClaimShows g w w₁ (there .region) (getD d i no-bundle .target-inputs)
       (defined fuel (there .region) (getD d i no-bundle .accumulated-count) (getD d i no-bundle .target-inputs) s) a
@@ -534,7 +543,7 @@ module _ (g : Graph) (valid : Valid g) (parts : ShownParts g valid) (counts : Li
         absurd (let z = live-below r live in let y = parts .few in omega arith)
     claim-shown {w} {w′} {r} {n} {a} (later-claim h d c) (suc fuel) H s inputs shown room live pos many can =
         let in-graph = live-below r live in
-        let few : s .attempts < 65535 = (let z = can .few in omega arith) in
+        let few : s .attempts < largest = (let z = can .few in omega arith) in
         let at = attempt-shown shown few in
         let old : not-begun-one (state-of s r) ≡ 0 = some-kind (at .regions r in-graph) d in
         let result = parts .by-state (subst (λ m. ClaimsByState g (attempted w) r n m w′ a) (right r in-graph) c) (suc fuel) H
@@ -544,7 +553,7 @@ module _ (g : Graph) (valid : Valid g) (parts : ShownParts g valid) (counts : Li
         (let z = attempt-cells shown few in omega arith) (begun-before g fuel r n inputs s (state-of s r) refl old) result
     claim-shown {w} {r} {n} (refused-inside b t) (suc fuel) H s inputs shown room live pos many can =
         let in-graph = live-below r live in
-        let few : s .attempts < 65535 = (let z = can .few in omega arith) in
+        let few : s .attempts < largest = (let z = can .few in omega arith) in
         let at = attempt-shown shown few in
         let fresh : state-of s r ≡ not-begun = kind-none (at .regions r in-graph) (b .kind) in
         refused-from (begun-not g fuel r n inputs s fresh)
@@ -552,7 +561,7 @@ module _ (g : Graph) (valid : Valid g) (parts : ShownParts g valid) (counts : Li
         (can-begin g valid fuel H r n s in-graph live pos can fresh))
     claim-shown {w} {w′} {r} {n} {a} (first-claim {w₁} b t c) (suc fuel) H s inputs shown room live pos many can =
         let in-graph = live-below r live in
-        let few : s .attempts < 65535 = (let z = can .few in omega arith) in
+        let few : s .attempts < largest = (let z = can .few in omega arith) in
         let at = attempt-shown shown few in
         let fresh : state-of s r ≡ not-begun = kind-none (at .regions r in-graph) (b .kind) in
         if-ready (region-shown t fuel (λ q. edges-to q (to-region r) n + H q) (add-attempt s) at
@@ -561,14 +570,14 @@ module _ (g : Graph) (valid : Valid g) (parts : ShownParts g valid) (counts : Li
         let old = begun-counted g valid fuel H r n s in-graph live pos can fresh s₁ p .old in
         let v = unharmed-then (attempt-unharmed shown few) u in
         let cells = attempt-cells shown few in
-        let z : word w kinds r ≡ 0 = sym (attempt-kinds shown few r) ∙ b .kind in
+        let z : region-kind w r ≡ kind-not-begun = sym (attempt-kinds shown few r) ∙ b .kind in
         let result = parts .by-state (subst (λ m. ClaimsByState g w₁ r n m w′ a) (right r in-graph) c) (suc fuel) H s₁ inputs st
         (omega arith)
         live many (kind-some r (st .regions r in-graph) old) after in
         claim-before v (λ x. absurd (not-occupied w r z x)) (omega arith) (begun-now g fuel r n inputs s fresh p) result
 
     pub region-shown : {w w′ : List ℕ} {r : ℕ} {a : Checked} → StructurizesRegion g counts w r w′ a → (fuel : ℕ) (H : ℕ → ℕ) (s : NestState)
-        → ShowsState g w s → cells-in-all g w ≤ 641 → NotBegun w r → CanBegin g valid fuel H r s
+        → ShowsState g w s → cells-in-all g w ≤ most-cells-in-all → NotBegun w r → CanBegin g valid fuel H r s
         → RegionShows g w w′ (structurize-region g (defined fuel) r s) a
     region-shown (refused-at-targets {number} {x} t) fuel H s shown room new can =
         if-targets-refused (first-targets (λ f h z a b i d l u c. targets-shown t f h z a b i d l u c) fuel H s shown room new can) λ p.
@@ -591,7 +600,7 @@ module _ (g : Graph) (valid : Valid g) (parts : ShownParts g valid) (counts : Li
         if-turns (turns-from d fuel H s shown room new can cs s₁ p (around-but ar ar₂ (newly .free)) y s₂ q st₂ body (omega arith))
         λ z s₃ f st₃ body₃ ar₃ k₃.
         let all = around-then (around-but ar ar₂ (newly .free)) ar₃ in
-        let busy : word w₃ kinds r ≡ 1 = all .kinds-stay r (inl (busy-there shown r new)) ∙ busy-there shown r new in
+        let busy : region-kind w₃ r ≡ kind-in-progress = all .kinds-stay r (inl (busy-there shown r new)) ∙ busy-there shown r new in
         let last = ready-shown st₃ (parts .few) r (can .in-graph) busy z body₃ in
         let unharmed = region-unharmed (not-occupied w r (new .kind)) (beside-kind g w r 1) all
         (ready-beside st₃ (parts .few) r (can .in-graph) busy z body₃) in
@@ -601,11 +610,12 @@ module _ (g : Graph) (valid : Valid g) (parts : ShownParts g valid) (counts : Li
         (rw (p, q, f)) last unharmed (omega arith))
 
     turns-from : {w w₂ w₃ : List ℕ} {r : ℕ} {a : Checked} → ResolvesAll g counts w₂ r w₃ a → (fuel : ℕ) (H : ℕ → ℕ) (s : NestState)
-        → ShowsState g w s → cells-in-all g w ≤ 641 → NotBegun w r → (can : CanBegin g valid fuel H r s) → (cs : List MaybeClaimedRegion)
+        → ShowsState g w s → cells-in-all g w ≤ most-cells-in-all → NotBegun w r → (can : CanBegin g valid fuel H r s)
+        → (cs : List MaybeClaimedRegion)
         (s₁ : NestState) → target-regions g (defined fuel) (its-edges r) (with-state s r in-progress) ≡ done cs s₁
-        → Around g r (stored w kinds r 1) w₂ → (y : Body) (s₂ : NestState)
+        → Around g r (stored w kinds r kind-in-progress) w₂ → (y : Body) (s₂ : NestState)
         → by-control-inst g (blocks-of g r) (region g r .terminator) cs s₁ ≡ done y s₂ → ShowsState g w₂ s₂ → ShowsBody g w₂ r y
-        → cells-in-all g w₂ ≤ cells-in-all g (stored w kinds r 1) + 11
+        → cells-in-all g w₂ ≤ cells-in-all g (stored w kinds r kind-in-progress) + 11
         → TurnsShow g w₂ w₃ r (resolve-deferred g (defined fuel) (length (g .regions)) y s₂) a
     turns-from {r} (resolves-all t) fuel H s shown room new can cs s₁ p both y s₂ q st body k =
         let c = begun-cells shown (parts .few) r (can .in-graph) (new .kind) in
@@ -657,7 +667,8 @@ module _ (g : Graph) (valid : Valid g) (parts : ShownParts g valid) (counts : Li
         (live′ .1) (fit′ .1) (can-next g valid fuel r e (drop (suc j) (its-edges r)) H m (fit′ .0) (live′ .0) can′ p refl)))
 
     pub scan-shown : {w w′ : List ℕ} {r n i : ℕ} {a : split.SplitOut} → Scans g counts w r n i w′ a → (fuel : ℕ) (H : ℕ → ℕ) (s : NestState)
-        (d : DeferredEdgeBundleSet) → ShowsState g w s → cells-in-all g w ≤ 641 → r < length (g .regions) → word w kinds r ≡ 1
+        (d : DeferredEdgeBundleSet) → ShowsState g w s → cells-in-all g w ≤ most-cells-in-all → r < length (g .regions)
+        → region-kind w r ≡ kind-in-progress
         → ShowsOwnSet g w r d → n ≡ length d → CanScan g valid fuel H d i s
         → ScanShows g w w′ d (split-out-matching g (defined fuel) (take i d) (drop i d) s) a
     scan-shown {w} {w′} {i} (no-bundle-left h e) fuel H s d shown room in-graph busy own size can =
@@ -692,7 +703,8 @@ module _ (g : Graph) (valid : Valid g) (parts : ShownParts g valid) (counts : Li
 
     pub turns-shown : {w w′ : List ℕ} {r n : ℕ} {a : Checked} → Resolves g counts w r n w′ a → (fuel : ℕ) (s₀ : NestState) (H : ℕ → ℕ)
         (x : Body)
-        (s : NestState) → ShowsState g w s → cells-in-all g w ≤ 641 → r < length (g .regions) → word w kinds r ≡ 1 → ShowsBody g w r x
+        (s : NestState) → ShowsState g w s → cells-in-all g w ≤ most-cells-in-all → r < length (g .regions)
+        → region-kind w r ≡ kind-in-progress → ShowsBody g w r x
         → CanTurn g valid fuel s₀ r H x s → TurnsShow g w w′ r (resolve-deferred g (defined fuel) n x s) a
     turns-shown {w} {r} (no-turn e) fuel s₀ H x s shown room in-graph busy body can =
         rw e (shows-turns refl shown body (around-same g r w) (omega arith))
@@ -717,7 +729,8 @@ module _ (g : Graph) (valid : Valid g) (parts : ShownParts g valid) (counts : Li
 
     split-shown : {w w′ : List ℕ} {r : ℕ} {a : split.SplitOut} → SplitsOut g counts w r w′ a → (fuel : ℕ) (s₀ : NestState) (H : ℕ → ℕ)
         (x : Body)
-        (s : NestState) → ShowsState g w s → cells-in-all g w ≤ 641 → r < length (g .regions) → word w kinds r ≡ 1 → ShowsBody g w r x
+        (s : NestState) → ShowsState g w s → cells-in-all g w ≤ most-cells-in-all → r < length (g .regions)
+        → region-kind w r ≡ kind-in-progress → ShowsBody g w r x
         → CanTurn g valid fuel s₀ r H x s
         → ScanShows g w w′ (x .deferred-edges) (split-out-matching g (defined fuel) [] (x .deferred-edges) s) a
     split-shown {r} (splits-out t) fuel s₀ H x s shown room in-graph busy body can =

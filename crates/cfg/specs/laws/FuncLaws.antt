@@ -3,13 +3,13 @@
 use mathlib.Core.Path.{_≡_, sym, _∙_}
 use mathlib.Core.Bool.{Bool, true, false}
 use mathlib.Core.List.{List}
-use Prim.Native.Nat.{ℕ, _+_, _*_}
+use Prim.Native.Nat.{ℕ}
 use lib.ListN.{getD}
 use borrow.Author.Tests.{eqb-true, eqb-false}
 use Rattle.meaning.specs.Graph.{Graph}
 use Rattle.format.specs.Valid.{Valid}
 use Rattle.record.specs.Stands.{Stands}
-use Rattle.state.specs.Sections.{word, bundles, set-lengths}
+use Rattle.state.specs.Sections.{word, set-lengths}
 use Rattle.shown.specs.laws.FrontKept.{stands-on}
 use Rattle.start.specs.laws.Started.{started-front}
 use Rattle.cfg.specs.declared.claim.Claim as code
@@ -21,6 +21,7 @@ use Rattle.cfg.specs.Claims.{own-target, TriesClaim, Stood}
 use Rattle.cfg.specs.Func.{Outcomes, is-closed, is-whole, one-elsewhere, more-left, Begins, entered-once, Concludes, claimed}
 use Rattle.cfg.specs.Func.{unclaimed, refused, untouched, concluded, Func}
 use Rattle.cfg.specs.laws.Left.{steady-claim}
+use Rattle.state.specs.Rows.{bundle-target, return-word}
 
 -- ---- The functions, path by path.
 module _ (w : List ℕ) (entry : ℕ) {n : ℕ} (size : n ≡ word w set-lengths entry) where
@@ -30,14 +31,14 @@ module _ (w : List ℕ) (entry : ℕ) {n : ℕ} (size : n ≡ word w set-lengths
   pub many-edges : (n ≡ 0 → ⊥) → (n ≡ 1 → ⊥) → Outcomes w entry Leftover
   many-edges d e = more-left (λ z. d (size ∙ z)) (λ z. e (size ∙ z))
 
-  module _ (one : n ≡ 1) {p t : ℕ} (at : p ≡ own-bundle w entry 0) (of-target : t ≡ word w bundles (7 * p + 0)) where
+  module _ (one : n ≡ 1) {p t : ℕ} (at : p ≡ own-bundle w entry 0) (of-target : t ≡ bundle-target w p) where
     target-is : t ≡ own-target w entry 0
     target-is = of-target ∙ rw at
 
-    pub return-edge : t ≡ 65535 → Outcomes w entry Whole
+    pub return-edge : t ≡ return-word → Outcomes w entry Whole
     return-edge e = is-whole (sym size ∙ one) (sym target-is ∙ e)
 
-    pub other-edge : (t ≡ 65535 → ⊥) → Outcomes w entry Leftover
+    pub other-edge : (t ≡ return-word → ⊥) → Outcomes w entry Leftover
     other-edge d = one-elsewhere (sym size ∙ one) (λ z. d (target-is ∙ z))
 
 module _ {g : Graph} {w : List ℕ} {c : code.Claim} where

@@ -27,7 +27,7 @@ use Rattle.follows.specs.counting.Counting.{owed, owed-by}
 use Rattle.follows.specs.counting.Reach.{entry-reachable}
 use Rattle.follows.specs.counting.Attempts.{start-pre}
 use Rattle.follows.specs.chains.Chains.{chains-end}
-use Rattle.state.specs.Sections.{used, word, kinds}
+use Rattle.state.specs.Sections.{used}
 use Rattle.shown.specs.Front.{SameFront}
 use Rattle.shown.specs.laws.FrontKept.{front-then, stands-on}
 use Rattle.shown.specs.States.{ShowsBody, ShowsOwnSet}
@@ -40,13 +40,14 @@ use Rattle.cfg.specs.Claims.{TriesClaim}
 use Rattle.cfg.specs.Func.{FuncBy, Func, Outcomes}
 use Rattle.cfg.specs.Func as func
 use Rattle.cfg.specs.laws.Left.{steady-claim}
-use Rattle.cfg.specs.laws.Shows.{K, world, CanClaim, ClaimShows, owed-at-start, if-claimed, if-unclaimed, if-refused}
+use Rattle.cfg.specs.laws.Shows.{owed-at-start}
 use Rattle.cfg.specs.laws.ClaimsShown.{claim-shown}
 use Rattle.meaning.specs.facts.Sums.{total-within}
 use Rattle.cfg.specs.laws.WholeShown.{parts, few-targets, few-live}
 use Rattle.shown.specs.Sets.{ShowsTarget, shows-region, shows-return}
 use Rattle.cfg.specs.laws.ScansShown.{own-bundle-shown}
 use Rattle.cfg.specs.FuncShown.{outcome-code, ShowsNested, shows-untouched, shows-nested, shows-refused}
+use Rattle.state.specs.Rows.{kind-claimed, region-kind, return-word}
 
 -- ---- The entry is claimed with no inputs, whatever its region has; it is no loop, so what is concluded is the same with any.
 module _ (g : Graph) (r n : ℕ) (a b : List Value) where
@@ -82,12 +83,12 @@ not-alone (to-region q) = refl
 not-alone to-return = refl
 
 module _ {g : Graph} (few : length (g .regions) ≤ 32) where
-  alone : {t : ℕ} (e : DeferredTarget) → ShowsTarget g t e → t ≡ 65535
+  alone : {t : ℕ} (e : DeferredTarget) → ShowsTarget g t e → t ≡ return-word
       → Whole ≡ outcome-code (elim e [ to-region q ↦ leftover | to-return ↦ whole ])
   alone (to-region q) (shows-region p l) d = absurd (omega arith)
   alone to-return (shows-return p) d = refl
 
-  elsewhere : {t : ℕ} (e : DeferredTarget) → ShowsTarget g t e → (t ≡ 65535 → ⊥)
+  elsewhere : {t : ℕ} (e : DeferredTarget) → ShowsTarget g t e → (t ≡ return-word → ⊥)
       → Leftover ≡ outcome-code (elim e [ to-region q ↦ leftover | to-return ↦ whole ])
   elsewhere (to-region q) (shows-region p l) d = refl
   elsewhere to-return (shows-return p) d = absurd (d p)
@@ -175,7 +176,7 @@ module _ (g : Graph) (valid : Valid g) where
         let ends : (r : ℕ) → ChainsEnd (s .region-input-rewrites) r = chains-end g valid (incoming-edge-counts g)
         (suc (length (g .regions))) 1 stand-ins (some c) s p (s .region-input-rewrites) [] (sym (append-nil (s .region-input-rewrites))) in
         shows-nested (kept t) st ends
-        (subst (λ r. word w′ kinds r ≡ 3) origin (cl .kind)) x (concludes (sym (right (g .entry) (valid .entry)) ∙ one) p)
+        (subst (λ r. region-kind w′ r ≡ kind-claimed) origin (cl .kind)) x (concludes (sym (right (g .entry) (valid .entry)) ∙ one) p)
         (outcome-shown (valid .count .1) (c .deferred-edges) (x .set) o)
     by (func.concluded one t func.unclaimed) = if-unclaimed (claims t) λ s p st u k.
         shows-refused (kept t) (concludes (sym (right (g .entry) (valid .entry)) ∙ one) p)

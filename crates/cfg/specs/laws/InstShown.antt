@@ -20,7 +20,7 @@ use Rattle.nesting.specs.Nesting.{by-control-inst, blocks-of, blocks-from, appe
 use Rattle.nesting.specs.Nesting.{join, edge-bundle, to-return, true-cond, most-nodes}
 use Rattle.follows.specs.simulation.Invariant.{Inv}
 use Rattle.follows.specs.counting.Totals.{edges-to, totals, edgeless}
-use Rattle.state.specs.Sections.{word, stored, used, head, kinds, children, set-starts, set-lengths, bundles, levels, rewrites, most-cells}
+use Rattle.state.specs.Sections.{word, stored, used, head, kinds, children, set-starts, set-lengths, bundles, levels, rewrites}
 use Rattle.state.specs.laws.Apart.{section-other}
 use Rattle.state.specs.Tables.{taken-word, Defines, defined}
 use Rattle.state.specs.Values.{value-word}
@@ -56,9 +56,10 @@ use Rattle.cfg.specs.ByInst as by-inst
 use Rattle.cfg.specs.ByInst.{AddsBlocks, no-blocks, some-blocks, AddsExit, exit-full, Branches, branches, Selects, selects}
 use Rattle.cfg.specs.ByInst.{ByTerminator, at-unreachable, at-return, at-exit, at-branch, at-bool, at-number, ByControlInst}
 use Rattle.cfg.specs.laws.Left.{inst-kinds}
-use Rattle.cfg.specs.laws.Shows.{cells-in-all, owed-stays, world, chains-of, TakenAs, was-claimed, was-deferred, was-nothing}
-use Rattle.cfg.specs.laws.Shows.{BodyShows, shows-body, refuses-body}
+use Rattle.cfg.specs.laws.Shows.{cells-in-all, owed-stays}
 use Rattle.cfg.specs.laws.SelectBodies.{edges-bound, into-body}
+use Rattle.state.specs.Rows.{cases-at, cells-at, kind-claimed, kind-in-progress, kind-ready, largest, most-cells, nodes-at, region-kind}
+use Rattle.cfg.specs.laws.Shows.{most-cells-in-all}
 
 no-blocks-of : {g : Graph} {l : List ℕ} (n r k : ℕ) (bs : List (List Instr)) → length bs ≡ 0 → ShowsNodes g l 0 (blocks-from n r k bs)
 no-blocks-of n r k [] e = no-nodes refl
@@ -73,8 +74,8 @@ node-states s {n} {s₁} e = go (ltb (s .node-count) most-nodes) e
     go true p = let z : add-node s ≡ s₁ = cc in rw (← z)
     go false p = absurd (clash (cc))
 
-node-changes : {w w₁ : List ℕ} {n : ℕ} → Defines 1 most-nodes w w₁ (Number n) → ChangesOnly head 1 w w₁
-node-changes {w} (defined {n} p h e) = rw e (head-changes head 1 w (n + 1))
+node-changes : {w w₁ : List ℕ} {n : ℕ} → Defines 1 most-nodes w w₁ (Number n) → ChangesOnly head nodes-at w w₁
+node-changes {w} (defined {n} p h e) = rw e (head-changes head nodes-at w (n + 1))
 
 -- The cases filled: nothing but sets and the cases.
 filled-only : (g : Graph) (r m j : ℕ) → j + m ≤ 8 → (w : List ℕ) → OnlySets w (filled-from g w r m j)
@@ -86,7 +87,7 @@ filled-only g r (suc m) j h w =
 cases-only : {g : Graph} → Valid g → {r : ℕ} → r < length (g .regions) → (w : List ℕ) → OnlySets w (cases-filled g w r)
 cases-only {g} valid {r} here w =
     let n = length (edges-of (region g r .terminator)) in
-    only-then (only-total w n) (filled-only g r n 0 (let z = few-edges valid here in omega arith) (stored w head 7 n))
+    only-then (only-total w n) (filled-only g r n 0 (let z = few-edges valid here in omega arith) (stored w head cases-at n))
 
 -- How many edges a select has.
 bool-edges : {g : Graph} → Valid g → {r : ℕ} → r < length (g .regions) → {v : Value} {es : List Edge}
@@ -109,12 +110,12 @@ record PreparedInst (g : Graph) (r : ℕ) (w w₂ : List ℕ) (s : NestState) : 
   body : ShowsBody g w₂ r (region-body (blocks-of g r) [])
   later : Later g w w₂
   kept : (q : ℕ) → HasSlot (length (g .regions)) q → (q ≡ r → ⊥) → KeptRegion w w₂ q
-  same-kinds : (q : ℕ) → word w₂ kinds q ≡ word w kinds q
+  same-kinds : (q : ℕ) → region-kind w₂ q ≡ region-kind w q
   taken : (j : ℕ) → taken-word w₂ r j ≡ taken-word w r j
-  total : word w₂ head 4 ≤ word w head 4 + 1
+  total : word w₂ head cells-at ≤ word w head cells-at + 1
 
 module _ {g : Graph} (few : length (g .regions) ≤ 32) {r : ℕ} (here : r < length (g .regions)) where
-  list-stored : {w : List ℕ} {s : NestState} → ShowsState g w s → (word w kinds r ≡ 2 → ⊥) → {h : ℕ}
+  list-stored : {w : List ℕ} {s : NestState} → ShowsState g w s → (region-kind w r ≡ kind-ready → ⊥) → {h : ℕ}
       → ShowsChildren g w h (blocks-of g r) → PreparedInst g r w (stored (stored w children r h) set-lengths r 0) s
   unfolding taken-word
   list-stored {w} {s} state unready {h} list =
@@ -127,7 +128,7 @@ module _ {g : Graph} (few : length (g .regions) ≤ 32) {r : ℕ} (here : r < le
       let at = state .slots .starts r (omega arith) in
       let in-slots = state .slots .below r (omega arith) in
       let start = a .same-starts r in
-      let cells = c .same-head 4 in
+      let cells = c .same-head cells-at in
       record {
         state = state-stays (c .later) (concerns-states c few unready) (c .tables) state;
         body = record {
@@ -150,7 +151,7 @@ module _ {g : Graph} (few : length (g .regions) ≤ 32) {r : ℕ} (here : r < le
       }
 
   prepared : {w w₁ w₂ : List ℕ} {s : NestState} → AddsBlocks g w r w₁ → w₂ ≡ stored w₁ set-lengths r 0 → ShowsState g w s
-      → (word w kinds r ≡ 2 → ⊥) → 1 ≤ word w head 4 → word w head 4 < most-cells → PreparedInst g r w w₂ s
+      → (region-kind w r ≡ kind-ready → ⊥) → 1 ≤ word w head cells-at → word w head cells-at < most-cells → PreparedInst g r w w₂ s
   unfolding taken-word
   prepared (no-blocks z e) f state unready one free =
       rw (f, e) (list-stored state unready (record { nodes = no-blocks-of _ r 0 (region g r .blocks) z; made = one }))
@@ -161,8 +162,8 @@ module _ {g : Graph} (few : length (g .regions) ≤ 32) {r : ℕ} (here : r < le
       let p = list-stored st (λ k. unready (sym (c .states .same-kinds r here) ∙ k)) (blocks-added free room x one (omega arith)) in
       let handle = cell-handle x free room in
       let cells = cell-total x free room in
-      let first = word-concerns g w₁ children (omega arith) r h .same-head 4 in
-      let last = word-concerns g (stored w₁ children r h) set-lengths (omega arith) r 0 .same-head 4 in
+      let first = word-concerns g w₁ children (omega arith) r h .same-head cells-at in
+      let last = word-concerns g (stored w₁ children r h) set-lengths (omega arith) r 0 .same-head cells-at in
       let changes = cell-changes x free room in
       rw (f, e)
       record {
@@ -187,7 +188,7 @@ module _ {g : Graph} (few : length (g .regions) ≤ 32) {r : ℕ} (here : r < le
   taken-on p {j} other (was-nothing e t) = rw e (filling.was-nothing (p .taken j ∙ t))
 
   was-three : {w : List ℕ} {j : ℕ} {m : MaybeClaimedRegion} → TakenAs g w r j (edge-of g r j) m → (c : ClaimedRegion) → m ≡ ok c
-      → word w kinds (c .origin) ≡ 3
+      → region-kind w (c .origin) ≡ kind-claimed
   was-three (was-claimed {c} e t cl o i) d f = let same : c ≡ d = cc in rw (← same) (cl .kind)
   was-three (was-deferred e t) d f = absurd (clash (cc))
   was-three (was-nothing e t) d f = absurd (clash (cc))
@@ -197,7 +198,7 @@ module _ {g : Graph} (few : length (g .regions) ≤ 32) {r : ℕ} (here : r < le
       → b ≡ done x s′ → ShowsState g w′ s′ → ShowsBody g w′ r x → Later g w₂ w′
       → ((q : ℕ) → q < length (g .regions) → (q ≡ r → ⊥)
       → ((j : ℕ) (c : ClaimedRegion) → j < length cs → getD cs j no-case ≡ ok c → q ≡ c .origin → ⊥) → KeptRegion w₂ w′ q)
-      → SameKinds w w′ → word w′ head 4 ≤ word w head 4 + 11 → BodyShows g w w′ r cs 11 b Done
+      → SameKinds w w′ → word w′ head cells-at ≤ word w head cells-at + 11 → BodyShows g w w′ r cs 11 b Done
   done-body {w} {w′} {s′} {x} p is state body later kept same room =
       let owed = owed-stays g w w′ (λ q h. ap (λ l. getD l q 0) (same .kinds-words)) in
       shows-body {x = x} {s′ = s′} is state body
@@ -208,8 +209,9 @@ module _ {g : Graph} (few : length (g .regions) ≤ 32) {r : ℕ} (here : r < le
       }) (omega arith)
 
   -- ---- By the terminator's kind.
-  module _ {w w₂ : List ℕ} {s : NestState} (p : PreparedInst g r w w₂ s) (busy : word w kinds r ≡ 1) (most : word w head 4 ≤ 641) where
-    unready : word w₂ kinds r ≡ 2 → ⊥
+  module _ {w w₂ : List ℕ} {s : NestState} (p : PreparedInst g r w w₂ s) (busy : region-kind w r ≡ kind-in-progress)
+      (most : word w head cells-at ≤ most-cells-in-all) where
+    unready : region-kind w₂ r ≡ kind-ready → ⊥
     unready e = let z = p .same-kinds r in omega arith
 
     room : used ≤ length w₂
@@ -221,7 +223,7 @@ module _ {g : Graph} (few : length (g .regions) ≤ 32) {r : ℕ} (here : r < le
     at-return-shown valid {cs} {vs} e same =
         let slots = p .state .slots in
         let only = return-deferred-only g w₂ r room (omega arith) slots in
-        let cells = only .totals 4 (omega arith) in
+        let cells = only .totals cells-at (omega arith) in
         let more = p .total in
         done-body {x = region-body (blocks-of g r) (edge-bundle to-return 0 vs true-cond ∷ [])} p
         (ap (λ t. by-control-inst g (blocks-of g r) t cs s) e)
@@ -257,9 +259,9 @@ module _ {g : Graph} (few : length (g .regions) ≤ 32) {r : ℕ} (here : r < le
         (node-states s (u .is)) (p .state) in
         let body₃ = body-stays (c₃ .later) (c₃ .regions r) (p .body) in
         let room₃ = st₃ .tables .size in
-        let cells₃ = changes .totals 4 (omega arith) in
+        let cells₃ = changes .totals cells-at (omega arith) in
         let more = p .total in
-        let free₃ : word w₁ head 4 < most-cells = omega arith in
+        let free₃ : word w₁ head cells-at < most-cells = omega arith in
         let c₄ = cell-aside x free₃ room₃ g in
         let st₄ = state-stays (c₄ .later) (c₄ .states) (cell-tables x free₃ room₃) st₃ in
         let list = exit-added free₃ room₃ x (body₃ .nodes) e in
@@ -268,8 +270,8 @@ module _ {g : Graph} (few : length (g .regions) ≤ 32) {r : ℕ} (here : r < le
         let handle₄ = cell-handle x free₃ room₃ in
         let cells₄ = cell-total x free₃ room₃ in
         let c₅ = word-concerns g w₄ children (omega arith) r h in
-        let cells₅ = c₅ .same-head 4 in
-        let unready₄ : word w₄ kinds r ≡ 2 → ⊥ =
+        let cells₅ = c₅ .same-head cells-at in
+        let unready₄ : region-kind w₄ r ≡ kind-ready → ⊥ =
         λ z. unready (sym (c₃ .states .same-kinds r here) ∙ sym (c₄ .states .same-kinds r here) ∙ z) in
         let node-is : node ≡ u .value = u .shows in
         rw f
@@ -297,20 +299,20 @@ module _ {g : Graph} (few : length (g .regions) ≤ 32) {r : ℕ} (here : r < le
         filled = cases-filled-shown valid here cs size (p .state) (λ k h. taken-on p (other k) (each k (omega arith)))
             (λ i j l h c d. apart i j c d l)
 
-        same-kinds₃ : (q : ℕ) → word w₃ kinds q ≡ word w kinds q
+        same-kinds₃ : (q : ℕ) → region-kind w₃ q ≡ region-kind w q
         same-kinds₃ q = only-word-same (cases-only valid here w₂) kinds (omega arith) q ∙ p .same-kinds q
 
-        cells₃ : word w₃ head 4 ≡ word w₂ head 4
-        cells₃ = cases-only valid here w₂ .totals 4 (omega arith)
+        cells₃ : word w₃ head cells-at ≡ word w₂ head cells-at
+        cells₃ = cases-only valid here w₂ .totals cells-at (omega arith)
 
-        unready₃ : word w₃ kinds r ≡ 2 → ⊥
+        unready₃ : region-kind w₃ r ≡ kind-ready → ⊥
         unready₃ e = let z = same-kinds₃ r in omega arith
 
         nodes₃ : ShowsChildren g w₃ (word w₃ children r) (blocks-of g r)
         nodes₃ = body-stays (filled .later) (filled .kept r (omega arith)) (p .body) .nodes
 
         claimed₃ : (j : ℕ) → j < length cs → (c : ClaimedRegion) → getD cs j no-case ≡ ok c
-            → (word w₃ kinds (c .origin) ≡ 3) × (c .origin ≡ r → ⊥)
+            → (region-kind w₃ (c .origin) ≡ kind-claimed) × (c .origin ≡ r → ⊥)
         claimed₃ j h c e = (same-kinds₃ (c .origin) ∙ was-three (each j (omega arith)) c e, other j c e)
 
         first-case : (e : Edge) (xs : List MaybeClaimedRegion) → length xs ≡ 1
@@ -335,7 +337,7 @@ module _ {g : Graph} (few : length (g .regions) ≤ 32) {r : ℕ} (here : r < le
             (later-then (filled .later) (o .later))
             (λ q l d f. kept-then (filled .kept q (omega arith)) (o .kept q (omega arith) d (λ c h. f 0 c in-list h))) same (omega arith)
 
-        module _ (inv : Inv (world g valid) s) (bound : (q : ℕ) → totals (edges-to q) cs ≤ 65535)
+        module _ (inv : Inv (world g valid) s) (bound : (q : ℕ) → totals (edges-to q) cs ≤ largest)
             (none : totals edgeless cs ≡ 0) {kind : SelectionKind} {v : Value} {es : List Edge}
             (is : region g r .terminator ≡ select-branch kind v es) where
           value-shown : (x : shape.Value) → value-is x ≡ getD (end-values g r) 0 no-value → shown-values.value (value-word x) ≡ v
@@ -361,12 +363,12 @@ module _ {g : Graph} (few : length (g .regions) ≤ 32) {r : ℕ} (here : r < le
 
 module _ (g : Graph) (valid : Valid g) (few : length (g .regions) ≤ 32) where
   pub inst-shown : {w w′ : List ℕ} {r : ℕ} {a : Made} → ByControlInst g w r w′ a → (s : NestState) (cs : List MaybeClaimedRegion)
-      → ShowsState g w s → cells-in-all g w ≤ 641 → r < length (g .regions) → word w kinds r ≡ 1
+      → ShowsState g w s → cells-in-all g w ≤ most-cells-in-all → r < length (g .regions) → region-kind w r ≡ kind-in-progress
       → length cs ≡ length (edges-of (region g r .terminator))
       → ((k : ℕ) → k < length (edges-of (region g r .terminator)) → TakenAs g w r k (edge-of g r k) (getD cs k no-case))
       → ((k : ℕ) (c : ClaimedRegion) → getD cs k no-case ≡ ok c → c .origin ≡ r → ⊥)
       → ((i j : ℕ) (c d : ClaimedRegion) → i < j → getD cs i no-case ≡ ok c → getD cs j no-case ≡ ok d → c .origin ≡ d .origin → ⊥)
-      → Inv (world g valid) s → ((q : ℕ) → totals (edges-to q) cs ≤ 65535) → totals edgeless cs ≡ 0
+      → Inv (world g valid) s → ((q : ℕ) → totals (edges-to q) cs ≤ largest) → totals edgeless cs ≡ 0
       → BodyShows g w w′ r cs 11 (by-control-inst g (blocks-of g r) (region g r .terminator) cs s) a
   inst-shown {w} {w′} {r} (by-inst.by-inst {w₂} blocks empty end) s cs state room here busy size each other apart inv bound none =
       let p = prepared few here blocks empty state (omega arith) (omega arith) (omega arith) in

@@ -1,7 +1,7 @@
 -- What the parts leave, by the words alone: the record, and the kinds of the regions.
 use mathlib.Core.Bool.{Bool, true, false}
 use mathlib.Core.List.{List}
-use Prim.Native.Nat.{ℕ, zero, suc, _+_, _*_, _-_}
+use Prim.Native.Nat.{ℕ, zero, suc, _-_}
 use native.Mathlib.Omega.{arith}
 use lib.ListN.{length}
 use lib.Dec.{eqb}
@@ -37,13 +37,15 @@ use Rattle.loops.specs.Exits.{exits-from}
 use Rattle.loops.specs.laws.ExitsLaws.{exit-front}
 use Rattle.loops.specs.Loops as loops
 use Rattle.loops.specs.Loops.{adds-loop, LoopDefined, loop-defined, no-value, no-node, EntersInputs, enters}
+use Rattle.state.specs.Rows.{bundle-row-at, case-body, case-claimed, case-kind, case-row-at, cases-at, entry-replace, no-total}
+use Rattle.state.specs.Rows.{spare-slot, twice-at}
 
 -- ---- Words of the state.
 inserted-kinds : (w : List ℕ) (r kind : ℕ) (vs : List ℕ) → SameKinds w (inserted w r kind vs)
-inserted-kinds w r kind vs = kinds-by (insert-changes w r kind vs 16) (omega arith)
+inserted-kinds w r kind vs = kinds-by (insert-changes w r kind vs no-total) (omega arith)
 
 copied-kinds : (w : List ℕ) (to from : ℕ) → SameKinds w (bundle-copied w to from)
-copied-kinds w to from = kinds-run w bundles (omega arith) (7 * to) (bundle-words w from)
+copied-kinds w to from = kinds-run w bundles (omega arith) (bundle-row-at to) (bundle-words w from)
 
 swapped-kinds : (w : List ℕ) (a b : ℕ) → SameKinds w (swapped w a b)
 swapped-kinds w a b =
@@ -95,19 +97,20 @@ filled-kinds g w r (suc n) j = kinds-then (front-filled g w r j) (filled-kinds g
 pub cases-kinds : (g : Graph) (w : List ℕ) (r : ℕ) → SameKinds w (cases-filled g w r)
 cases-kinds g w r =
     let n = length (edges-of (region g r .terminator)) in
-    kinds-then (kinds-stored w head (omega arith) 7 n) (filled-kinds g (stored w head 7 n) r n 0)
+    kinds-then (kinds-stored w head (omega arith) cases-at n) (filled-kinds g (stored w head cases-at n) r n 0)
 
 pub split-kinds : (g : Graph) (w : List ℕ) (r i : ℕ) → SameKinds w (split-filled g w r i)
 unfolding split-filled
 split-kinds g w r i =
     kinds-then (shift-removed-kinds w r i)
-    (kinds-then (kinds-stored (shift-removed w r i) head (omega arith) 7 2)
-    (kinds-then (kinds-run _ cases (omega arith) (10 * 0) _) (kinds-run _ cases (omega arith) (10 * 1) _)))
+    (kinds-then (kinds-stored (shift-removed w r i) head (omega arith) cases-at 2)
+    (kinds-then (kinds-run _ cases (omega arith) (case-row-at 0) _) (kinds-run _ cases (omega arith) (case-row-at 1) _)))
 
 pub return-kinds : (g : Graph) (w : List ℕ) (r : ℕ) → SameKinds w (return-deferred g w r)
 unfolding return-deferred
 return-kinds g w r =
-    kinds-then (kinds-run w bundles (omega arith) (7 * bundle-at (word w set-starts r) 0) _) (kinds-stored _ set-lengths (omega arith) r 1)
+    kinds-then (kinds-run w bundles (omega arith) (bundle-row-at (bundle-at (word w set-starts r) 0)) _)
+    (kinds-stored _ set-lengths (omega arith) r 1)
 
 pub appends-kinds : {w w′ : List ℕ} {r j : ℕ} {x : Case} → Appends w w′ r x j → SameKinds w w′
 appends-kinds {w} {r} {j} {x} (appended {l₂} {h} k y e) =
@@ -126,14 +129,14 @@ appends-kinds {w} {r} {x} (its-rest d f e) = rw e (kinds-stored w set-lengths (o
 replaced-kinds : (w : List ℕ) (n j : ℕ) → SameKinds w (all-replaced w n j)
 unfolding all-replaced inputs-replaced
 replaced-kinds w zero j = kinds-same w
-replaced-kinds w (suc n) j = kinds-then (go (eqb (word w cases (10 * j + 0)) 2)) (replaced-kinds (inputs-replaced w j) n (suc j))
+replaced-kinds w (suc n) j = kinds-then (go (eqb (case-kind w j) case-claimed)) (replaced-kinds (inputs-replaced w j) n (suc j))
   where
-    go : (b : Bool) → SameKinds w (pick b (inserted w (word w cases (10 * j + 2)) 1 (case-inputs w j)) w)
-    go true = inserted-kinds w (word w cases (10 * j + 2)) 1 (case-inputs w j)
+    go : (b : Bool) → SameKinds w (pick b (inserted w (case-body w j) entry-replace (case-inputs w j)) w)
+    go true = inserted-kinds w (case-body w j) 1 (case-inputs w j)
     go false = kinds-same w
 
 emits-kinds : {g : Graph} {h : ℕ} {w w′ : List ℕ} {a : Made} → Emits g h w w′ a → SameKinds w w′
-emits-kinds {g} {h} {w} t = front-turns (EmitAt g h (word w set-starts 32)) (λ j m m′ b x. front-bundle x) t
+emits-kinds {g} {h} {w} t = front-turns (EmitAt g h (word w set-starts spare-slot)) (λ j m m′ b x. front-bundle x) t
 
 select-if-kinds : {g : Graph} {needed : Bool} {r shape : ℕ} {x : Scrutinee} {w w′ : List ℕ} {a : Made} → SelectIf g needed r shape x w w′ a
     → SameKinds w w′
@@ -155,15 +158,15 @@ into-kinds {w} (one-follows h s y) = kinds-then (kinds-run w cases (omega arith)
 into-kinds {w} (one-refused h s) = kinds-then (kinds-run w cases (omega arith) _ _) (select-kinds s)
 into-kinds {r} (all-together {l₁} h s e) =
     rw e (kinds-then (select-kinds s) (kinds-then (swapped-kinds l₁ r 32)
-    (kinds-stored (swapped l₁ r 32) set-lengths (omega arith) r (word l₁ set-lengths 32))))
+    (kinds-stored (swapped l₁ r 32) set-lengths (omega arith) r (word l₁ set-lengths spare-slot))))
 into-kinds (all-refused h s) = select-kinds s
 
 -- ---- Loops.
 rewrites-kinds : {w w′ : List ℕ} {v a : ℕ} → Rewrites w v w′ a → SameKinds w w′
 rewrites-kinds {w} {w′} {v} x = rw (x .noted) (go (look-up w v .twice))
   where
-    go : (b : Bool) → SameKinds w (pick b (stored w head 6 1) w)
-    go true = kinds-stored w head (omega arith) 6 1
+    go : (b : Bool) → SameKinds w (pick b (stored w head twice-at 1) w)
+    go true = kinds-stored w head (omega arith) twice-at 1
     go false = kinds-same w
 
 values-kinds : {n k : ℕ} {w vs w′ us : List ℕ} → RewritesValues n k w vs w′ us → SameKinds w w′

@@ -1,7 +1,7 @@
 -- The number of regions not begun falls with each region that is structurized, and never grows; and the record goes on standing.
 use mathlib.Core.Path.{_≡_, refl, ap, _∙_}
 use mathlib.Core.List.{List}
-use Prim.Native.Nat.{ℕ, zero, suc, _+_, _*_, _≤_, _<_}
+use Prim.Native.Nat.{ℕ, zero, suc, _+_, _≤_, _<_}
 use native.Mathlib.Omega.{arith}
 use native.Mathlib.Decide.{ℕ-discrete, decLt}
 use lib.ListN.{length, getD, set}
@@ -33,6 +33,7 @@ use Rattle.cfg.specs.Claims.{refused-at-targets, refused-at-inst, refuse
 use Rattle.cfg.specs.Claims.{target-refused, target-claimed, target-waits, Scans, no-bundle-left, passes-return, passes-waiting}
 use Rattle.cfg.specs.Claims.{claims-bundle, scan-refused, SplitsOut, splits-out, Resolves, no-turn, nothing-claimed, claim-refused}
 use Rattle.cfg.specs.Claims.{select-refused, claims-and, ResolvesAll, resolves-all}
+use Rattle.state.specs.Rows.{attempts-at, kind-claimed, kind-in-progress, largest, level-at}
 
 -- ---- How many of the first n are 0.
 abbrev left-below : ℕ → List ℕ → ℕ
@@ -95,30 +96,33 @@ steady-kind w r x d =
     }
 
 -- A region that begins is one less, where the section is whole.
-pub begins-less : (w : List ℕ) (r : ℕ) → length (section w kinds) ≡ 32 → NotBegun w r → suc (left (stored w kinds r 1)) ≤ left w
+pub begins-less : (w : List ℕ) (r : ℕ) → length (section w kinds) ≡ 32 → NotBegun w r
+    → suc (left (stored w kinds r kind-in-progress)) ≤ left w
 unfolding left
 begins-less w r n b =
-    rw (section-stored w kinds r 1) (set-less (section w kinds) r 1 (λ e. absurd (omega arith)) (let z = b .below in omega arith)
+    rw (section-stored w kinds r kind-in-progress)
+    (set-less (section w kinds) r 1 (λ e. absurd (omega arith)) (let z = b .below in omega arith)
     (b .kind) 32 (b .below))
 
 pub steady-attempted : (w : List ℕ) → SteadyRecord w (attempted w)
 unfolding attempted
-steady-attempted w = elim (decLt (word w head 5) 65535) [
-  | yes h ↦ rw (lt-ltb (word w head 5) 65535 h) (steady-of (kinds-stored w head (omega arith) 5 (word w head 5 + 1)))
-  | no h ↦ rw (le-ltb (word w head 5) 65535 (omega arith)) (steady-same w)
+steady-attempted w = elim (decLt (word w head attempts-at) largest) [
+  | yes h ↦ rw (lt-ltb (word w head attempts-at) largest h)
+      (steady-of (kinds-stored w head (omega arith) attempts-at (word w head attempts-at + 1)))
+  | no h ↦ rw (le-ltb (word w head attempts-at) largest (omega arith)) (steady-same w)
 ]
 
 pub steady-taken : (w : List ℕ) (r j x : ℕ) → SteadyRecord w (taken-stored w r j x)
 unfolding taken-stored
 steady-taken w r j x = elim (decLt j 8) [
-  | yes h ↦ rw (lt-ltb j 8 h) (steady-of (kinds-stored w levels (omega arith) (8 * r + j) x))
+  | yes h ↦ rw (lt-ltb j 8 h) (steady-of (kinds-stored w levels (omega arith) (level-at r j) x))
   | no h ↦ rw (le-ltb j 8 (omega arith)) (steady-same w)
 ]
 
 -- ---- The steps.
 steady-claimed : (w : List ℕ) (r : ℕ) → SteadyRecord w (as-claimed w r)
 steady-claimed w r = steady-then (steady-kind w r 3 (λ e. absurd (omega arith)))
-    (steady-of (kinds-stored (stored w kinds r 3) bodies (omega arith) r r))
+    (steady-of (kinds-stored (stored w kinds r kind-claimed) bodies (omega arith) r r))
 
 steady-body : {g : Graph} {w w′ : List ℕ} {r : ℕ} {a : Claim} → Stands w g → ClaimsBody g w r w′ a → SteadyRecord w w′
 steady-body {w} {r} st (no-backedges z e) = rw e (steady-claimed w r)

@@ -43,9 +43,9 @@ use Rattle.shown.specs.laws.RegionSteps.{concerns-states, state-stays}
 use Rattle.shown.specs.laws.RegionSteps.{kind-set, Concerns, MakesNothing}
 use Rattle.cfg.specs.ByState.{backedge-at}
 use Rattle.cfg.specs.ByInst.{backedges-deferred, made-ready}
-use Rattle.cfg.specs.laws.Shows.{Occupied, Unharmed, Around, cells-in-all, owed-stays, owed-kind}
-use Rattle.cfg.specs.laws.Shows.{world, K, CanClaim}
+use Rattle.cfg.specs.laws.Shows.{Occupied, cells-in-all, owed-stays, owed-kind}
 use Rattle.cfg.specs.laws.TurnsShown.{CanTurn}
+use Rattle.state.specs.Rows.{bundle-count, cells-at, kind-in-progress, kind-not-begun, kind-ready, no-bundle-word, no-total, region-kind}
 
 module _ (g : Graph) (valid : Valid g) (fuel : ℕ) where
   abbrev claim : Claim
@@ -141,16 +141,17 @@ module _ {g : Graph} {w : List ℕ} {s : NestState} (shown : ShowsState g w s) (
   below : r < 32
   below = omega arith
 
-  pub begun-shown : ShowsState g (stored w kinds r 1) (with-state s r in-progress)
+  pub begun-shown : ShowsState g (stored w kinds r kind-in-progress) (with-state s r in-progress)
   begun-shown =
       let room = shown .tables .size in
-      kind-set g w room r below 1 shown in-graph (is-in-progress (word-there w kinds r 1 (omega arith) below))
+      kind-set g w room r below 1 shown in-graph (is-in-progress (word-there w kinds r kind-in-progress (omega arith) below))
 
-  pub begun-cells : word w kinds r ≡ 0 → cells-in-all g (stored w kinds r 1) + 11 ≡ cells-in-all g w
+  pub begun-cells : region-kind w r ≡ kind-not-begun → cells-in-all g (stored w kinds r kind-in-progress) + 11 ≡ cells-in-all g w
   begun-cells e =
       let room = shown .tables .size in
       let z = owed-kind g w r 1 room below in-graph in
-      let h : word (stored w kinds r 1) head 4 ≡ word w head 4 = ap (λ l. getD l 4 0) (section-other w kinds r 1 head (omega arith)) in
+      let h : word (stored w kinds r kind-in-progress) head cells-at ≡ word w head cells-at = ap (λ l. getD l 4 0)
+      (section-other w kinds r kind-in-progress head (omega arith)) in
       let y = rw e at z in omega arith
 
 -- A list that a region under way does not have of its own.
@@ -165,12 +166,12 @@ pub record OfBody (k : Section) : Type 0 where
 -- Only region r's state changes.
 pub record Beside (g : Graph) (r : ℕ) (w w′ : List ℕ) : Type 0 where
   pub later : Later g w w′
-  pub kinds-stay : (q : ℕ) → (q ≡ r → ⊥) → word w′ kinds q ≡ word w kinds q
+  pub kinds-stay : (q : ℕ) → (q ≡ r → ⊥) → region-kind w′ q ≡ region-kind w q
   pub regions-stay : (q : ℕ) → q < length (g .regions) → (q ≡ r → ⊥) → KeptRegion w w′ q
 
 pub beside-kind : (g : Graph) (w : List ℕ) (r x : ℕ) → Beside g r w (stored w kinds r x)
 beside-kind g w r x =
-    let changes = word-changes kinds 16 w (omega arith) r x in
+    let changes = word-changes kinds no-total w (omega arith) r x in
     record {
       later = later-by changes (omega arith) g;
       kinds-stay = λ q d. word-apart w kinds r x kinds q d;
@@ -198,7 +199,7 @@ region-unharmed {r} {w} {w₁} {w₃} free a b c =
 pub body-with : {g : Graph} (r : ℕ) (x : Body) (k : Section) (w : List ℕ) (y : ℕ) → OfBody k → ShowsBody g w r x
     → ShowsBody g (stored w k r y) r x
 body-with {g} r x k w y o b =
-    let changes = word-changes k 16 w (o .not-head) r y in
+    let changes = word-changes k no-total w (o .not-head) r y in
     let later = later-by changes (o .nothing) g in
     let starts : word (stored w k r y) set-starts r ≡ word w set-starts r = ap (λ l. getD l r 0)
     (changes .others set-starts (o .not-starts) (omega arith)) in
@@ -214,7 +215,7 @@ body-with {g} r x k w y o b =
     }
 
 module _ {g : Graph} {w : List ℕ} {s : NestState} (shown : ShowsState g w s) (few : length (g .regions) ≤ 32) (r : ℕ)
-    (in-graph : r < length (g .regions)) (busy : word w kinds r ≡ 1) (x : Body) (body : ShowsBody g w r x) where
+    (in-graph : r < length (g .regions)) (busy : region-kind w r ≡ kind-in-progress) (x : Body) (body : ShowsBody g w r x) where
   abbrev d : DeferredEdgeBundleSet
   d = x .deferred-edges
 
@@ -227,12 +228,12 @@ module _ {g : Graph} {w : List ℕ} {s : NestState} (shown : ShowsState g w s) (
   backedges-are = go (finds w few (word w set-starts r) (shows-region refl in-graph) (body .set))
     where
       go : Finds (word w set-starts r) (to-region r) d (backedge-at w r)
-          → pick (eqb (backedge-at w r) 65535) 0 (word w bundles (7 * backedge-at w r + 1)) ≡ count-to r d
+          → pick (eqb (backedge-at w r) no-bundle-word) 0 (bundle-count w (backedge-at w r)) ≡ count-to r d
       go (found i at l gets same before) =
           let size = body .set .size in
           let most = body .set .room in
-          rw (ne-eqb (backedge-at w r) 65535 (omega arith), gets, count-to, at) (body .set .each i (omega arith) .count)
-      go (none-found at gets) = rw (eq-eqb (backedge-at w r) 65535 at, gets, count-to)
+          rw (ne-eqb (backedge-at w r) no-bundle-word (omega arith), gets, count-to, at) (body .set .each i (omega arith) .count)
+      go (none-found at gets) = rw (eq-eqb (backedge-at w r) no-bundle-word at, gets, count-to)
 
   abbrev w₁ : List ℕ
   w₁ = stored w backedges r n
@@ -249,13 +250,13 @@ module _ {g : Graph} {w : List ℕ} {s : NestState} (shown : ShowsState g w s) (
       let st : ShowsState g w₁ s = state-stays (first .later) (concerns-states first few (λ e. absurd (omega arith))) (first .tables)
       shown in
       let b₁ = body-with r x backedges w n (omega arith) body in
-      let b₂ = body-with r x kinds w₁ 2 (omega arith) b₁ in
+      let b₂ = body-with r x kinds w₁ kind-ready (omega arith) b₁ in
       let room₁ = st .tables .size in
       let counted : word (made-ready w r) backedges r ≡ count-to r d =
-      ap (λ l. getD l r 0) (section-other w₁ kinds r 2 backedges (omega arith)) ∙ word-there w backedges r n (omega arith) there ∙
+      ap (λ l. getD l r 0) (section-other w₁ kinds r kind-ready backedges (omega arith)) ∙ word-there w backedges r n (omega arith) there ∙
       backedges-are in
       kind-set g w₁ room₁ r there 2 st in-graph
-      (is-ready (word-there w₁ kinds r 2 (omega arith) there) counted (b₂ .nodes) (b₂ .set))
+      (is-ready (word-there w₁ kinds r kind-ready (omega arith) there) counted (b₂ .nodes) (b₂ .set))
 
   pub ready-beside : Beside g r w (made-ready w r)
   ready-beside =
@@ -271,8 +272,9 @@ module _ {g : Graph} {w : List ℕ} {s : NestState} (shown : ShowsState g w s) (
       let room₁ : used ≤ length w₁ = rw (stored-length _ _ w r n) (shown .tables .size) in
       let e = owed-stays g w w₁ (λ q h. first .same-kinds q) in
       let z = owed-kind g w₁ r 2 room₁ there in-graph in
-      let k : word w₁ kinds r ≡ 1 = first .same-kinds r ∙ busy in
+      let k : region-kind w₁ r ≡ kind-in-progress = first .same-kinds r ∙ busy in
       let y = rw k at z in
-      let h : word (made-ready w r) head 4 ≡ word w head 4 = ap (λ l. getD l 4 0) (section-other w₁ kinds r 2 head (omega arith)) ∙
-      first .same-head 4 in
+      let h : word (made-ready w r) head cells-at ≡ word w head cells-at = ap (λ l. getD l 4 0)
+      (section-other w₁ kinds r kind-ready head (omega arith)) ∙
+      first .same-head cells-at in
       omega arith

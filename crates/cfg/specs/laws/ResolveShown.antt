@@ -26,17 +26,20 @@ use Rattle.selects.specs.laws.SelectsShown.{shows-lazy}
 use Rattle.selects.specs.laws.IntoShown.{into-shown}
 use Rattle.cfg.specs.ByInst.{ResolvesBy, resolves, own-condition}
 use Rattle.cfg.specs.laws.Left.{resolve-kinds}
-use Rattle.cfg.specs.laws.Shows.{cells-in-all, world, chains-of, BodyShows}
+use Rattle.cfg.specs.laws.Shows.{cells-in-all}
 use Rattle.cfg.specs.laws.SelectBodies.{edges-bound, into-body}
+use Rattle.state.specs.Rows.{cells-at, kind-claimed, kind-in-progress, kind-ready, largest, region-kind}
+use Rattle.cfg.specs.laws.Shows.{most-cells-in-all}
 
 module _ (g : Graph) (valid : Valid g) (few : length (g .regions) ≤ 32) where
   pub resolve-shown : {w w′ : List ℕ} {r i : ℕ} {a : Made} → ResolvesBy g w r i w′ a → (s : NestState) (x : Body) (y : SplitOut) (t : ℕ)
-      → ShowsState g w s → cells-in-all g w ≤ 641 → r < length (g .regions) → word w kinds r ≡ 1 → ShowsBody g w r x
+      → ShowsState g w s → cells-in-all g w ≤ most-cells-in-all → r < length (g .regions) → region-kind w r ≡ kind-in-progress
+      → ShowsBody g w r x
       → i < length (x .deferred-edges) → y .bundle ≡ getD (x .deferred-edges) i no-bundle
       → y .others ≡ take i (x .deferred-edges) ++ drop (suc i) (x .deferred-edges) → y .bundle .target ≡ to-region t → (t ≡ r → ⊥)
       → ShowsClaimed g w (y .claimed-region) → y .claimed-region .origin ≡ t
       → y .claimed-region .structured-body-inputs ≡ y .bundle .target-inputs → Inv (world g valid) s
-      → ((q : ℕ) → totals (edges-to q) (ok (y .claimed-region) ∷ err (y .others) ∷ []) ≤ 65535)
+      → ((q : ℕ) → totals (edges-to q) (ok (y .claimed-region) ∷ err (y .others) ∷ []) ≤ largest)
       → totals edgeless (ok (y .claimed-region) ∷ err (y .others) ∷ []) ≡ 0
       → BodyShows g w w′ r (ok (y .claimed-region) ∷ err (y .others) ∷ []) 4
       (structurize-select-into g (x .children) bool-cond (lazy (nesting.condition-in (x .deferred-edges) (y .bundle)))
@@ -48,7 +51,7 @@ module _ (g : Graph) (valid : Valid g) (few : length (g .regions) ≤ 32) where
       let size = body .set .size in
       let few-bundles = body .set .few in
       let in-slots = body .set .room in
-      let unready : word w kinds r ≡ 2 → ⊥ = λ e. omega arith in
+      let unready : region-kind w r ≡ kind-ready → ⊥ = λ e. omega arith in
       let not-own : c .origin ≡ r → ⊥ = λ e. other (sym origin ∙ e) in
       let cases = ok c ∷ err (y .others) ∷ [] in
       let w₁ = split-filled g w r i in
@@ -56,8 +59,8 @@ module _ (g : Graph) (valid : Valid g) (few : length (g .regions) ≤ 32) where
       rw others
       (split-filled-shown few here state unready (body .set) place claimed not-own
       (ap (λ b. b .target) (sym bundle) ∙ target ∙ ap to-region (sym origin)) (inputs ∙ ap (λ b. b .target-inputs) bundle)) in
-      let same-kinds : (q : ℕ) → word w₁ kinds q ≡ word w kinds q = λ q. only-word-same (filled .only) kinds (omega arith) q in
-      let cells = filled .only .totals 4 (omega arith) in
+      let same-kinds : (q : ℕ) → region-kind w₁ q ≡ region-kind w q = λ q. only-word-same (filled .only) kinds (omega arith) q in
+      let cells = filled .only .totals cells-at (omega arith) in
       let at = bundle-in (word w set-starts r) i (omega arith) (omega arith) in
       let under : ShowsCondition w (own-condition w r i) (nesting.condition-in d (y .bundle)) =
       rw (at, bundle) (condition-in-shown (body .set) i (omega arith)) in
@@ -73,8 +76,9 @@ module _ (g : Graph) (valid : Valid g) (few : length (g .regions) ≤ 32) where
       (chains-of g valid inv) (edges-bound s cases most none) (shows-lazy (filled .later .conditions-stay under))
       (shape-bool refl refl) own (omega arith) m)
     where
-      in-cases : (c : ClaimedRegion) (d : nesting.DeferredEdgeBundleSet) → word w kinds (c .origin) ≡ 3 → (j : ℕ) (z : ClaimedRegion)
-          → getD (ok c ∷ err d ∷ []) j no-case ≡ ok z → word w kinds (z .origin) ≡ 3
+      in-cases : (c : ClaimedRegion) (d : nesting.DeferredEdgeBundleSet) → region-kind w (c .origin) ≡ kind-claimed
+          → (j : ℕ) (z : ClaimedRegion)
+          → getD (ok c ∷ err d ∷ []) j no-case ≡ ok z → region-kind w (z .origin) ≡ kind-claimed
       in-cases c d k zero z e = let same : c ≡ z = cc in rw (← same) k
       in-cases c d k (suc zero) z e = absurd (clash (cc))
       in-cases c d k (suc (suc j)) z e = absurd (clash (cc))

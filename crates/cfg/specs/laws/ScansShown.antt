@@ -30,9 +30,7 @@ use Rattle.shown.specs.laws.Finds.{bundle-in}
 use Rattle.shown.specs.States.{ShowsState, ShowsOwnSet, ShowsClaimed}
 use Rattle.cfg.specs.SplitOut as split
 use Rattle.cfg.specs.ByInst.{own-bundle}
-use Rattle.cfg.specs.laws.Shows.{Occupied, Unharmed, unharmed-then, cells-in-all, world, K, CanClaim, ScanShows, shows-nothing}
-use Rattle.cfg.specs.laws.Shows.{shows-split}
-use Rattle.cfg.specs.laws.Shows.{refuses-scan}
+use Rattle.cfg.specs.laws.Shows.{Occupied, unharmed-then, cells-in-all}
 
 -- ---- Bundle i of region r's set, in words.
 pub own-bundle-is : {g : Graph} {w : List ℕ} (r : ℕ) {d : DeferredEdgeBundleSet} → ShowsOwnSet g w r d → (i : ℕ) → i < length d

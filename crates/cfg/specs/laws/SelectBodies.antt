@@ -18,7 +18,8 @@ use Rattle.merging.specs.laws.TargetsShown.{edges-of-set, edges-of-cases}
 use Rattle.merging.specs.laws.RewritingShown.{bundle-found, case-found, cases-after}
 use Rattle.selects.specs.laws.RegionsShown.{ShowsMade, shows-made, shows-refused}
 use Rattle.selects.specs.laws.IntoShown.{IntoDone}
-use Rattle.cfg.specs.laws.Shows.{BodyShows, shows-body, refuses-body, owed-stays}
+use Rattle.cfg.specs.laws.Shows.{owed-stays}
+use Rattle.state.specs.Rows.{cells-at, largest}
 
 -- ---- Rewriting keeps targets and counts.
 set-after : (s : NestState) (x : DeferredTarget) (d : DeferredEdgeBundleSet)
@@ -63,15 +64,16 @@ cases-return [] e = refl
 cases-return (c ∷ cs) e =
     let y = set-returns (deferred-of c) (omega arith) in let z = cases-return cs (omega arith) in omega arith
 
-pub edges-bound : (s : NestState) (cs : List MaybeClaimedRegion) → ((q : ℕ) → totals (edges-to q) cs ≤ 65535) → totals edgeless cs ≡ 0
-    → (x : DeferredTarget) → edges-of-cases x (cases-after s cs) ≤ 65535
+pub edges-bound : (s : NestState) (cs : List MaybeClaimedRegion) → ((q : ℕ) → totals (edges-to q) cs ≤ largest) → totals edgeless cs ≡ 0
+    → (x : DeferredTarget) → edges-of-cases x (cases-after s cs) ≤ largest
 edges-bound s cs most none (to-region q) = rw (same-after s (to-region q) cs, cases-to q cs) (most q)
 edges-bound s cs most none to-return = rw (same-after s to-return cs, cases-return cs none) (omega arith)
 
 -- ---- From w to w₁ the cases were filled, from w₁ to w′ the select made.
 pub into-body : {g : Graph} {w w₁ w′ : List ℕ} {r more : ℕ} {cs : List MaybeClaimedRegion} {b : StepAnswer Body} {a : Made} → Later g w w₁
     → ((q : ℕ) → q < length (g .regions) → (q ≡ r → ⊥) → KeptRegion w w₁ q) → SameKinds w w′
-    → word w₁ head 4 + (length cs + 2) ≤ word w head 4 + more → ShowsMade (IntoDone g r cs w₁ w′) a b → BodyShows g w w′ r cs more b a
+    → word w₁ head cells-at + (length cs + 2) ≤ word w head cells-at + more → ShowsMade (IntoDone g r cs w₁ w′) a b
+    → BodyShows g w w′ r cs more b a
 into-body {g} {w} {w′} later kept same room (shows-made {a = x} {s} m) =
     let owed = owed-stays g w w′ (λ q h. ap (λ l. getD l q 0) (same .kinds-words)) in
     let total = m .total in

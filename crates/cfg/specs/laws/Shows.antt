@@ -38,14 +38,16 @@ use Rattle.shown.specs.Kept.{Later, KeptRegion}
 use Rattle.shown.specs.laws.RegionsKept.{later-same, later-then, kept-same, kept-then}
 use Rattle.cfg.specs.declared.claim.Claim.{Claim}
 use Rattle.cfg.specs.declared.claim.Claim.the-variants.{Claimed, Unclaimed, Refused}
+use Rattle.state.specs.Rows.{cells-at, kind-claimed, kind-in-progress, kind-not-begun, level-claimed, level-deferred, level-unreachable}
+use Rattle.state.specs.Rows.{region-kind}
 
 -- ---- A region in progress, or claimed: what it has of its own is occupied by a step under way.
 abbrev pub Occupied : List ℕ → ℕ → Type 0
-Occupied w q = (word w kinds q ≡ 1) ⊎ (word w kinds q ≡ 3)
+Occupied w q = (region-kind w q ≡ kind-in-progress) ⊎ (region-kind w q ≡ kind-claimed)
 
 pub record Unharmed (g : Graph) (w w′ : List ℕ) : Type 0 where
   pub later : Later g w w′
-  pub kinds-stay : (q : ℕ) → Occupied w q → word w′ kinds q ≡ word w kinds q
+  pub kinds-stay : (q : ℕ) → Occupied w q → region-kind w′ q ≡ region-kind w q
   pub regions-stay : (q : ℕ) → q < length (g .regions) → Occupied w q → KeptRegion w w′ q
 
 pub unharmed-same : (g : Graph) (w : List ℕ) → Unharmed g w w
@@ -66,7 +68,7 @@ unharmed-then a b =
 -- A step of region r's own: what other regions have stays.
 pub record Around (g : Graph) (r : ℕ) (w w′ : List ℕ) : Type 0 where
   pub later : Later g w w′
-  pub kinds-stay : (q : ℕ) → Occupied w q → word w′ kinds q ≡ word w kinds q
+  pub kinds-stay : (q : ℕ) → Occupied w q → region-kind w′ q ≡ region-kind w q
   pub regions-stay : (q : ℕ) → q < length (g .regions) → (q ≡ r → ⊥) → Occupied w q → KeptRegion w w′ q
 
 pub around-same : (g : Graph) (r : ℕ) (w : List ℕ) → Around g r w w
@@ -102,9 +104,13 @@ owed-below (suc n) l = owe (getD l n 0) + owed-below n l
 unfoldable pub cells-owed : Graph → List ℕ → ℕ
 cells-owed g w = owed-below (length (g .regions)) (section w kinds)
 
+-- Cells made and owed in all: at the start one, and twenty for each of 32 regions.
+abbrev pub most-cells-in-all : ℕ
+most-cells-in-all = 641
+
 -- Before the empty list is made, the total counts as too many: so a bound on it says that a list is made.
 abbrev pub cells-in-all : Graph → List ℕ → ℕ
-cells-in-all g w = word w head 4 + cells-owed g w + 1000 * (1 - word w head 4)
+cells-in-all g w = word w head cells-at + cells-owed g w + 1000 * (1 - word w head cells-at)
 
 owed-same : (l l′ : List ℕ) (n : ℕ) → ((q : ℕ) → q < n → getD l′ q 0 ≡ getD l q 0) → owed-below n l′ ≡ owed-below n l
 owed-same l l′ zero h = refl
@@ -124,7 +130,7 @@ owed-set l r x h (suc n) b = elim (ℕ-discrete n r) [
       let o = owed-set l r x h n (omega arith) in rw z (omega arith))
 ]
 
-pub owed-stays : (g : Graph) (w w′ : List ℕ) → ((q : ℕ) → q < length (g .regions) → word w′ kinds q ≡ word w kinds q)
+pub owed-stays : (g : Graph) (w w′ : List ℕ) → ((q : ℕ) → q < length (g .regions) → region-kind w′ q ≡ region-kind w q)
     → cells-owed g w′ ≡ cells-owed g w
 unfolding cells-owed
 owed-stays g w w′ h = owed-same (section w kinds) (section w′ kinds) (length (g .regions)) h
@@ -133,13 +139,13 @@ owed-none-begun : (l : List ℕ) (n : ℕ) → ((q : ℕ) → q < n → getD l q
 owed-none-begun l zero h = refl
 owed-none-begun l (suc n) h = let z = owed-none-begun l n (λ q b. h q (omega arith)) in rw (h n (omega arith)) (omega arith)
 
-pub owed-at-start : (g : Graph) (w : List ℕ) → ((q : ℕ) → q < length (g .regions) → word w kinds q ≡ 0)
+pub owed-at-start : (g : Graph) (w : List ℕ) → ((q : ℕ) → q < length (g .regions) → region-kind w q ≡ kind-not-begun)
     → cells-owed g w ≡ 20 * length (g .regions)
 unfolding cells-owed
 owed-at-start g w h = owed-none-begun (section w kinds) (length (g .regions)) h
 
 pub owed-kind : (g : Graph) (w : List ℕ) (r x : ℕ) → used ≤ length w → r < 32 → r < length (g .regions)
-    → cells-owed g (stored w kinds r x) + owe (word w kinds r) ≡ cells-owed g w + owe x
+    → cells-owed g (stored w kinds r x) + owe (region-kind w r) ≡ cells-owed g w + owe x
 unfolding cells-owed
 owed-kind g w r x room below h =
     let n = part-length (start kinds) (size kinds) w (omega arith) in
@@ -183,10 +189,10 @@ pub data ClaimShows (g : Graph) (w w′ : List ℕ) (r : ℕ) (inputs : List Val
 
 -- How region r's target at place j was taken, which is that of edge e.
 pub data TakenAs (g : Graph) (w : List ℕ) (r j : ℕ) (e : Edge) (m : MaybeClaimedRegion) : Type 0 where
-  was-claimed : {c : ClaimedRegion} → m ≡ ok c → taken-word w r j ≡ 2 → ShowsClaimed g w c → c .origin ≡ e .target
+  was-claimed : {c : ClaimedRegion} → m ≡ ok c → taken-word w r j ≡ level-claimed → ShowsClaimed g w c → c .origin ≡ e .target
       → c .structured-body-inputs ≡ e .inputs → TakenAs g w r j e m
-  was-deferred : m ≡ defer-edge e → taken-word w r j ≡ 1 → TakenAs g w r j e m
-  was-nothing : m ≡ err [] → taken-word w r j ≡ 0 → TakenAs g w r j e m
+  was-deferred : m ≡ defer-edge e → taken-word w r j ≡ level-deferred → TakenAs g w r j e m
+  was-nothing : m ≡ err [] → taken-word w r j ≡ level-unreachable → TakenAs g w r j e m
 
 -- The regions that were claimed are different ones, and none was occupied before.
 pub record NewlyClaimed (w : List ℕ) (cs : List MaybeClaimedRegion) : Type 0 where
@@ -205,7 +211,7 @@ pub data TargetsShow (g : Graph) (w w′ : List ℕ) (r j : ℕ) (es : List Edge
 -- A step of region r's own that takes the claimed regions of these cases: what other regions have stays.
 pub record AroundBut (g : Graph) (r : ℕ) (cs : List MaybeClaimedRegion) (w w′ : List ℕ) : Type 0 where
   pub later : Later g w w′
-  pub kinds-stay : (q : ℕ) → Occupied w q → word w′ kinds q ≡ word w kinds q
+  pub kinds-stay : (q : ℕ) → Occupied w q → region-kind w′ q ≡ region-kind w q
   pub regions-stay : (q : ℕ) → q < length (g .regions) → (q ≡ r → ⊥)
       → ((j : ℕ) (c : ClaimedRegion) → j < length cs → getD cs j no-case ≡ ok c → q ≡ c .origin → ⊥) → Occupied w q → KeptRegion w w′ q
 

@@ -39,13 +39,14 @@ use Rattle.cfg.specs.laws.Leaves.{loops-kinds}
 use Rattle.cfg.specs.ByState.{ClaimsBody, no-backedges, none-found as none-leads-back, by-loop, ClaimsByState, ready-claimed}
 use Rattle.cfg.specs.ByState.{ready-waits}
 use Rattle.cfg.specs.ByState.{busy-claimed, busy-waits, other-state, as-claimed, backedge-at, claim-of}
-use Rattle.cfg.specs.laws.Shows.{Occupied, Unharmed, unharmed-same, cells-in-all, owed-stays, owed-kind, K, CanClaim, chains-of}
-use Rattle.cfg.specs.laws.Shows.{ClaimShows, shows-claimed, shows-unclaimed, shows-refused}
+use Rattle.cfg.specs.laws.Shows.{Occupied, unharmed-same, cells-in-all, owed-stays, owed-kind}
 use Rattle.cfg.specs.laws.RegionsShown.{Beside, beside-kind, body-with}
+use Rattle.state.specs.Rows.{cells-at, kind-claimed, kind-not-begun, kind-ready, largest, no-bundle-word, region-kind}
+use Rattle.cfg.specs.laws.Shows.{most-cells-in-all}
 
 -- ---- Region r is claimed, and its own structured body: the others stay, and what it has.
 module _ {g : Graph} {w : List ℕ} {s : NestState} (shown : ShowsState g w s) (few : length (g .regions) ≤ 32) (r : ℕ)
-    (in-graph : r < length (g .regions)) (is : word w kinds r ≡ 2) {ks : Nodes} {d : DeferredEdgeBundleSet}
+    (in-graph : r < length (g .regions)) (is : region-kind w r ≡ kind-ready) {ks : Nodes} {d : DeferredEdgeBundleSet}
     (nodes : ShowsChildren g w (word w children r) ks) (set : ShowsOwnSet g w r d) where
   below : r < 32
   below = omega arith
@@ -54,7 +55,7 @@ module _ {g : Graph} {w : List ℕ} {s : NestState} (shown : ShowsState g w s) (
   room = shown .tables .size
 
   abbrev w₁ : List ℕ
-  w₁ = stored w kinds r 3
+  w₁ = stored w kinds r kind-claimed
 
   abbrev w₂ : List ℕ
   w₂ = as-claimed w r
@@ -65,21 +66,21 @@ module _ {g : Graph} {w : List ℕ} {s : NestState} (shown : ShowsState g w s) (
   second : Concerns g r w₁ w₂
   second = word-concerns g w₁ bodies (omega arith) r r
 
-  kind-there : word w₁ kinds r ≡ 3
-  kind-there = word-there w kinds r 3 (omega arith) below
+  kind-there : region-kind w₁ r ≡ kind-claimed
+  kind-there = word-there w kinds r kind-claimed (omega arith) below
 
   claimed-state : ShowsState g w₂ (with-state s r claimed)
   claimed-state =
       let first = kind-set g w room r below 3 shown in-graph (is-claimed kind-there) in
       state-stays (second .later) (concerns-states second few (λ e. let z = kind-there in absurd (omega arith))) (second .tables) first
 
-  claimed-kind : word w₂ kinds r ≡ 3
+  claimed-kind : region-kind w₂ r ≡ kind-claimed
   claimed-kind = second .same-kinds r ∙ kind-there
 
   claimed-body : ShowsBody g w₂ r (record { children = ks; deferred-edges = d })
   claimed-body =
       body-with r (record { children = ks; deferred-edges = d }) bodies w₁ r (omega arith)
-      (body-with r (record { children = ks; deferred-edges = d }) kinds w 3 (omega arith) (record { nodes = nodes; set = set }))
+      (body-with r (record { children = ks; deferred-edges = d }) kinds w kind-claimed (omega arith) (record { nodes = nodes; set = set }))
 
   claimed-beside : Beside g r w w₂
   claimed-beside =
@@ -95,8 +96,9 @@ module _ {g : Graph} {w : List ℕ} {s : NestState} (shown : ShowsState g w s) (
       let z = owed-kind g w r 3 room below in-graph in
       let y = rw is at z in
       let e = owed-stays g w₁ w₂ (λ q h. second .same-kinds q) in
-      let h : word w₁ head 4 ≡ word w head 4 = ap (λ l. getD l 4 0) (section-other w kinds r 3 head (omega arith)) in
-      let k = second .same-head 4 in omega arith
+      let h : word w₁ head cells-at ≡ word w head cells-at = ap (λ l. getD l 4 0)
+      (section-other w kinds r kind-claimed head (omega arith)) in
+      let k = second .same-head cells-at in omega arith
 
   itself : word w₂ bodies r ≡ r
   itself = let z = room₁ in word-there w₁ bodies r r (omega arith) below
@@ -118,7 +120,7 @@ module _ {g : Graph} {w : List ℕ} {s : NestState} (shown : ShowsState g w s) (
   free-before (inr e) = absurd (omega arith)
 
   -- Nothing of the others changes, as far as the loop.
-  unharmed-by : {w′ : List ℕ} → Later g w₂ w′ → ((q : ℕ) → word w′ kinds q ≡ word w₂ kinds q)
+  unharmed-by : {w′ : List ℕ} → Later g w₂ w′ → ((q : ℕ) → region-kind w′ q ≡ region-kind w₂ q)
       → ((q : ℕ) → HasSlot (length (g .regions)) q → (q ≡ r → ⊥) → KeptRegion w₂ w′ q) → Unharmed g w w′
   unharmed-by later same kept =
       record {
@@ -134,21 +136,21 @@ module _ {g : Graph} {w : List ℕ} {s : NestState} (shown : ShowsState g w s) (
 -- ---- Counts of a Ready region's set are within the incoming counts.
 module _ (g : Graph) (valid : Valid g) where
   counts-small : (d : DeferredEdgeBundleSet) → edge-total edgeless d ≡ 0 → ((q : ℕ) → edge-total (edges-to q) d ≤ 65534)
-      → All (λ y. y .accumulated-count < 65535) d
+      → All (λ y. y .accumulated-count < largest) d
   counts-small [] f h = tt
   counts-small (e ∷ d) f h = (
     one (e .target) (e .accumulated-count) (let z = f in omega arith) (λ q. let z = h q in omega arith),
     counts-small d (omega arith) (λ q. let z = h q in omega arith),
   )
     where
-      one : (x : DeferredTarget) (n : ℕ) → edgeless x n ≡ 0 → ((q : ℕ) → edges-to q x n ≤ 65534) → n < 65535
+      one : (x : DeferredTarget) (n : ℕ) → edgeless x n ≡ 0 → ((q : ℕ) → edges-to q x n ≤ 65534) → n < largest
       one (to-region q) n z k = let y : edges-to q (to-region q) n ≡ n = rw (eq-eqb q q refl) in let v = k q in omega arith
       one to-return zero z k = omega arith
       one to-return (suc n) z k = absurd (omega arith)
 
   ready-counts : {fuel : ℕ} {H f : ℕ → ℕ} {c : ℕ} {s : NestState} (r b : ℕ) (ks : Nodes) (d : DeferredEdgeBundleSet)
       → ((q : ℕ) → K g valid .incoming q ≤ 65534) → is-in r (K g valid .live) ≡ true → CanClaim g valid fuel H f c s
-      → state-of s r ≡ ready b ks d → All (λ y. y .accumulated-count < 65535) d
+      → state-of s r ≡ ready b ks d → All (λ y. y .accumulated-count < largest) d
   ready-counts {s} r b ks d bound live can is =
       let fine : Fine (K g valid) r (ready b ks d) = subst (λ x. Fine (K g valid) r x) is (can .pre .inv .fine r) in
       counts-small d (fine .0 .full) (λ q.
@@ -160,13 +162,14 @@ module _ (g : Graph) (valid : Valid g) where
 -- ---- The claim, by the region's state.
 module _ (g : Graph) (valid : Valid g) (few : length (g .regions) ≤ 32) (bound : (q : ℕ) → K g valid .incoming q ≤ 65534) where
   module _ (w : List ℕ) (r n fuel : ℕ) (H : ℕ → ℕ) (s : NestState) (inputs : List Value) (shown : ShowsState g w s)
-      (cells : cells-in-all g w ≤ 641) (live : is-in r (K g valid .live) ≡ true) (many : length inputs ≡ length (region g r .inputs))
+      (cells : cells-in-all g w ≤ most-cells-in-all) (live : is-in r (K g valid .live) ≡ true)
+      (many : length inputs ≡ length (region g r .inputs))
       (can : CanClaim g valid fuel H (λ q. edges-to q (to-region r) n) 0 s) where
     in-graph : r < length (g .regions)
     in-graph = K g valid .below r live
 
     -- A Ready region that has all its edges.
-    module _ (b : ℕ) (ks : Nodes) (d : DeferredEdgeBundleSet) (is : word w kinds r ≡ 2) (back : word w backedges r ≡ b)
+    module _ (b : ℕ) (ks : Nodes) (d : DeferredEdgeBundleSet) (is : region-kind w r ≡ kind-ready) (back : word w backedges r ≡ b)
         (nodes : ShowsChildren g w (word w children r) ks) (set : ShowsOwnSet g w r d) (ready-now : state-of s r ≡ ready b ks d) where
       abbrev taken : NestState
       taken = with-state s r claimed
@@ -188,8 +191,8 @@ module _ (g : Graph) (valid : Valid g) (few : length (g .regions) ≤ 32) (bound
 
       same-backedges : word (as-claimed w r) backedges r ≡ b
       same-backedges =
-          ap (λ l. getD l r 0) (section-other (stored w kinds r 3) bodies r r backedges (omega arith))
-          ∙ ap (λ l. getD l r 0) (section-other w kinds r 3 backedges (omega arith)) ∙ back
+          ap (λ l. getD l r 0) (section-other (stored w kinds r kind-claimed) bodies r r backedges (omega arith))
+          ∙ ap (λ l. getD l r 0) (section-other w kinds r kind-claimed backedges (omega arith)) ∙ back
 
       -- The set is the same, so what leads back is found where it was.
       leads-back : Finds (word (as-claimed w r) set-starts r) (to-region r) d (backedge-at (as-claimed w r) r)
@@ -205,7 +208,7 @@ module _ (g : Graph) (valid : Valid g) (few : length (g .regions) ≤ 32) (bound
           go (suc k) e = refl
 
       loop-from : {w′ : List ℕ} {m : Made} → StructurizesLoop r (backedge-at (as-claimed w r) r) (as-claimed w r) w′ m
-          → (word (as-claimed w r) backedges r ≡ 0 → ⊥) → (backedge-at (as-claimed w r) r ≡ 65535 → ⊥)
+          → (word (as-claimed w r) backedges r ≡ 0 → ⊥) → (backedge-at (as-claimed w r) r ≡ no-bundle-word → ⊥)
           → Finds (word (as-claimed w r) set-starts r) (to-region r) d (backedge-at (as-claimed w r) r)
           → ClaimShows g w w′ r inputs (claim-body g r inputs ks d (backedge-of r b d) taken) (claim-of m)
       unfolding exit-targets
@@ -235,7 +238,7 @@ module _ (g : Graph) (valid : Valid g) (few : length (g .regions) ≤ 32) (bound
           } in
           let y = structurize-loop-shown loop x in
           let kinds-same = loops-kinds (claimed-state shown few r in-graph is nodes set .stands) x in
-          let same : (q : ℕ) → word w′ kinds q ≡ word (as-claimed w r) kinds q = λ q. ap (λ l. getD l q 0) (kinds-same .kinds-words) in
+          let same : (q : ℕ) → region-kind w′ q ≡ region-kind (as-claimed w r) q = λ q. ap (λ l. getD l q 0) (kinds-same .kinds-words) in
           let o = owed-stays g (as-claimed w r) w′ (λ q h. same q) in
           let up = y .total-to in
           rw (some-edges more, gets)
@@ -253,7 +256,7 @@ module _ (g : Graph) (valid : Valid g) (few : length (g .regions) ≤ 32) (bound
       body-shown (none-leads-back h e s) = rw (s, some-edges h, nowhere leads-back e) as-region
         where
           nowhere : Finds (word (as-claimed w r) set-starts r) (to-region r) d (backedge-at (as-claimed w r) r)
-              → backedge-at (as-claimed w r) r ≡ 65535 → get-edge-bundle-by-target (to-region r) d ≡ none
+              → backedge-at (as-claimed w r) r ≡ no-bundle-word → get-edge-bundle-by-target (to-region r) d ≡ none
           nowhere (none-found f q) p = q
           nowhere (found i at l gets to before) p =
               let z = claimed-body shown few r in-graph is nodes set .set in
@@ -262,7 +265,7 @@ module _ (g : Graph) (valid : Valid g) (few : length (g .regions) ≤ 32) (bound
       body-shown (by-loop h f x e) = rw e (loop-from x h f leads-back)
 
     pub state-shown : {w′ : List ℕ} {a : code.Claim} → ClaimsByState g w r n (getD (incoming-edge-counts g) r 0) w′ a
-        → (word w kinds r ≡ 0 → ⊥)
+        → (region-kind w r ≡ kind-not-begun → ⊥)
         → ClaimShows g w w′ r inputs (claim-by-state g r n inputs (getD (incoming-edge-counts g) r 0) (state-of s r) s) a
     state-shown {w′} {a} step begun = go (state-of s r) refl (shown .regions r in-graph) a w′ step
       where

@@ -4,7 +4,7 @@ use mathlib.Core.Bool.{true}
 use mathlib.Core.List.{List, _∷_}
 use mathlib.Core.Logic.{inl, inr}
 use mathlib.Core.Option.{Option}
-use Prim.Native.Nat.{ℕ, zero, suc, _+_, _*_, _≤_, _<_}
+use Prim.Native.Nat.{ℕ, zero, suc, _+_, _≤_, _<_}
 use native.Mathlib.Omega.{arith}
 use lib.ListN.{length, getD}
 use borrow.Author.Tests.{lt-ltb}
@@ -24,7 +24,7 @@ use Rattle.follows.specs.counting.Counting.{Nine}
 use Rattle.follows.specs.counting.CountClaim.{Claims}
 use Rattle.follows.specs.counting.CountScan.{aims, CaseCounted, edge-case-counted, first-target, next-target}
 use Rattle.follows.specs.counting.CountRegion.{claim-counted}
-use Rattle.state.specs.Sections.{word, kinds, levels, children, set-lengths, used}
+use Rattle.state.specs.Sections.{word, levels, children, set-lengths, used}
 use Rattle.state.specs.laws.Apart.{section-other}
 use Rattle.state.specs.Tables.{taken-stored, taken-word}
 use Rattle.shown.specs.States.{no-case}
@@ -32,9 +32,8 @@ use Rattle.shown.specs.laws.RegionsKept.{claimed-stays}
 use Rattle.shown.specs.laws.Stores.{word-there, word-apart}
 use Rattle.shown.specs.laws.RegionSteps.{Concerns, taken-concerns}
 use Rattle.store.specs.declared.Checked.{Checked}
-use Rattle.cfg.specs.laws.Shows.{Occupied, NewlyClaimed, Around, around-then, concerns-around, cells-in-all, owed-stays}
-use Rattle.cfg.specs.laws.Shows.{world, K, CanClaim, TakenAs, was-claimed}
-use Rattle.cfg.specs.laws.Shows.{was-deferred, was-nothing, TargetsShow, shows-targets, refuses-targets}
+use Rattle.cfg.specs.laws.Shows.{Occupied, around-then, concerns-around, cells-in-all, owed-stays}
+use Rattle.state.specs.Rows.{cells-at, kind-claimed, kind-in-progress, level, level-at, region-kind}
 
 -- ---- How a target was taken is noted in region r's own words.
 pub record Noted (g : Graph) (w w′ : List ℕ) (r j y : ℕ) : Type 0 where
@@ -50,19 +49,19 @@ notes g w r j y room b c =
     rw (lt-ltb j 8 c)
     record {
       concerns = taken-concerns g w r j y (omega arith);
-      here = rw (lt-ltb j 8 c) (word-there w levels (8 * r + j) y (omega arith) (omega arith));
+      here = rw (lt-ltb j 8 c) (word-there w levels (level-at r j) y (omega arith) (omega arith));
       before = λ k h. let l : k < 8 = omega arith in rw (lt-ltb k 8 l)
-          (word-apart w levels (8 * r + j) y levels (8 * r + k) (omega arith));
-      lengths = λ q. ap (λ l. getD l q 0) (section-other w levels (8 * r + j) y set-lengths (omega arith));
-      handles = λ q. ap (λ l. getD l q 0) (section-other w levels (8 * r + j) y children (omega arith));
+          (word-apart w levels (level-at r j) y levels (level-at r k) (omega arith));
+      lengths = λ q. ap (λ l. getD l q 0) (section-other w levels (level-at r j) y set-lengths (omega arith));
+      handles = λ q. ap (λ l. getD l q 0) (section-other w levels (level-at r j) y children (omega arith));
     }
 
 pub noted-cells : {g : Graph} {w w′ : List ℕ} {r : ℕ} → Concerns g r w w′ → cells-in-all g w′ ≡ cells-in-all g w
-noted-cells {g} {w} {w′} c = let e = owed-stays g w w′ (λ q h. c .same-kinds q) in let h = c .same-head 4 in omega arith
+noted-cells {g} {w} {w′} c = let e = owed-stays g w w′ (λ q h. c .same-kinds q) in let h = c .same-head cells-at in omega arith
 
 -- A region that is occupied elsewhere is not region r.
-pub claimed-other : (w : List ℕ) {r q : ℕ} → word w kinds r ≡ 1 → word w kinds q ≡ 3 → q ≡ r → ⊥
-claimed-other w a b e = let z = ap (λ p. word w kinds p) e in absurd (omega arith)
+pub claimed-other : (w : List ℕ) {r q : ℕ} → region-kind w r ≡ kind-in-progress → region-kind w q ≡ kind-claimed → q ≡ r → ⊥
+claimed-other w a b e = let z = ap (λ p. region-kind w p) e in absurd (omega arith)
 
 -- Of the case that the first target gives: a claimed region was free, and is occupied from then on; what was occupied is.
 pub record FirstNew (w w₂ : List ℕ) (m : MaybeClaimedRegion) : Type 0 where
@@ -71,7 +70,7 @@ pub record FirstNew (w w₂ : List ℕ) (m : MaybeClaimedRegion) : Type 0 where
   pub on : (q : ℕ) → Occupied w q → Occupied w₂ q
 
 -- What was taken stays so.
-pub taken-on : {g : Graph} {w w′ : List ℕ} {r j : ℕ} {e : Edge} {m : MaybeClaimedRegion} → word w kinds r ≡ 1
+pub taken-on : {g : Graph} {w w′ : List ℕ} {r j : ℕ} {e : Edge} {m : MaybeClaimedRegion} → region-kind w r ≡ kind-in-progress
     → Around g r w w′ → taken-word w′ r j ≡ taken-word w r j → TakenAs g w r j e m → TakenAs g w′ r j e m
 taken-on {w} {w′} busy a same (was-claimed {c} p t s o i) =
     let q = c .origin in
@@ -116,12 +115,12 @@ module _ (g : Graph) (valid : Valid g) (fuel : ℕ) where
       }
 
   module _ (w : List ℕ) {w₁ w₂ : List ℕ} {r j y : ℕ} (few : length (g .regions) ≤ 32)
-      (busy : word w kinds r ≡ 1) (noted : Noted g w₁ w₂ r j y) (around : Around g r w w₁)
-      (levels-same : (k : ℕ) → k < 8 → word w₁ levels (8 * r + k) ≡ word w levels (8 * r + k)) where
-    busy₁ : word w₁ kinds r ≡ 1
+      (busy : region-kind w r ≡ kind-in-progress) (noted : Noted g w₁ w₂ r j y) (around : Around g r w w₁)
+      (levels-same : (k : ℕ) → k < 8 → level w₁ r k ≡ level w r k) where
+    busy₁ : region-kind w₁ r ≡ kind-in-progress
     busy₁ = around .kinds-stay r (inl busy) ∙ busy
 
-    busy₂ : word w₂ kinds r ≡ 1
+    busy₂ : region-kind w₂ r ≡ kind-in-progress
     busy₂ = noted .concerns .same-kinds r ∙ busy₁
 
     kept-before : (k : ℕ) → k < j → j < 8 → taken-word w₂ r k ≡ taken-word w r k

@@ -1,14 +1,14 @@
 -- The functions of the cycle, path by path: what each turn of their loops leaves to be done.
 use mathlib.Core.Path.{_≡_, refl, sym, _∙_}
 use mathlib.Core.List.{List}
-use Prim.Native.Nat.{ℕ, suc, _+_, _*_, _-_, _≤_, _<_}
+use Prim.Native.Nat.{ℕ, suc, _+_, _-_, _≤_, _<_}
 use native.Mathlib.Omega.{arith}
 use native.Mathlib.Numerals.{add-one}
 use lib.ListN.{length, getD}
 use Rattle.meaning.specs.Graph.{Graph}
 use Rattle.record.specs.Stands.{Stands}
 use Rattle.fields.specs.ByNumber.{edge-of}
-use Rattle.state.specs.Sections.{word, stored, kinds, bundles, set-lengths, start, size, used}
+use Rattle.state.specs.Sections.{word, stored, kinds, set-lengths, start, size, used}
 use Rattle.state.specs.Tables.{attempted, taken-stored}
 use Rattle.shown.specs.laws.FrontKept.{stands-on}
 use Rattle.shown.specs.laws.Stores.{part-length}
@@ -30,6 +30,7 @@ use Rattle.cfg.specs.Claims.{nothing-claimed, claim-refused, select-refu
 use Rattle.cfg.specs.laws.Left.{left, SteadyRecord, steady-same, steady-then, steady-taken, steady-claim, steady-split, steady-of}
 use Rattle.cfg.specs.laws.Left.{begins-less, steady-attempted, steady-targets, inst-kinds, resolve-kinds}
 use Rattle.cfg.specs.laws.Left.{steady-kind, steady-structurized}
+use Rattle.state.specs.Rows.{bundle-count, bundle-target, kind-in-progress, kind-not-begun, level-claimed, region-kind, return-word}
 
 -- What stood stands on.
 pub stood-on : {w w′ : List ℕ} → SteadyRecord w w′ → Stood w → Stood w′
@@ -67,7 +68,7 @@ module _ {counts w₀ : List ℕ} {r : ℕ} {w : List ℕ} {j n : ℕ} (passed :
           steady-then (passed .steady)
           (steady-then (steady-claim (claim (stood .graph) (on (stood .stands))) (on (stood .stands))) (rw e (steady-taken w₁ r j y)))
 
-      pub targets-claimed : a ≡ Claimed → w₂ ≡ taken-stored w₁ r j 2 → TargetsPassed counts w₀ r w₂ (j + 1)
+      pub targets-claimed : a ≡ Claimed → w₂ ≡ taken-stored w₁ r j level-claimed → TargetsPassed counts w₀ r w₂ (j + 1)
       targets-claimed e s =
           record {
             steady = passed-on 2 s;
@@ -108,20 +109,20 @@ module _ {counts w₀ : List ℕ} {r n : ℕ} {w : List ℕ} {i : ℕ} (passed :
   scan-over size h =
       record { claims-none = λ l g st. out-of size g st (no-bundle-left l refl); claims-one = λ l. absurd (omega arith) }
 
-  module _ (more : i < n) {p t : ℕ} (place : p ≡ own-bundle w r i) (target : t ≡ word w bundles (7 * p + 0)) where
+  module _ (more : i < n) {p t : ℕ} (place : p ≡ own-bundle w r i) (target : t ≡ bundle-target w p) where
     target-is : t ≡ own-target w r i
     target-is = target ∙ rw place
 
-    pub scan-return : t ≡ 65535 → ScanPassed counts w₀ r n w (i + 1)
+    pub scan-return : t ≡ return-word → ScanPassed counts w₀ r n w (i + 1)
     scan-return e =
         record {
           steady = passed .steady;
           more = λ g st x. passed .more g st (passes-return more (sym target-is ∙ e) (rw (add-one i) at x));
         }
 
-    module _ (to-region : t ≡ 65535 → ⊥) {k : ℕ} (of-count : k ≡ word w bundles (7 * p + 1)) {w₁ : List ℕ} {a : Claim}
+    module _ (to-region : t ≡ return-word → ⊥) {k : ℕ} (of-count : k ≡ bundle-count w p) {w₁ : List ℕ} {a : Claim}
         (claim : (g : Graph) → Stands w g → TriesClaim g counts w t k w₁ a) where
-      elsewhere : own-target w r i ≡ 65535 → ⊥
+      elsewhere : own-target w r i ≡ return-word → ⊥
       elsewhere e = to-region (target-is ∙ e)
 
       bundle-claim : (g : Graph) → Stands w₀ g → TriesClaim g counts w (own-target w r i) (own-count w r i) w₁ a
@@ -197,10 +198,10 @@ module _ {counts w₀ : List ℕ} {r : ℕ} {w : List ℕ} {turns : ℕ} (passed
           }
 
 -- ---- A region, from its first step on.
-pub begun-less : {w w₁ : List ℕ} {r : ℕ} → used ≤ length w → NotBegun w r → w₁ ≡ stored w kinds r 1 → suc (left w₁) ≤ left w
+pub begun-less : {w w₁ : List ℕ} {r : ℕ} → used ≤ length w → NotBegun w r → w₁ ≡ stored w kinds r kind-in-progress → suc (left w₁) ≤ left w
 begun-less {w} {r} s b e = rw e (begins-less w r (part-length (start kinds) (size kinds) w (omega arith)) b)
 
-pub begun-steady : {w w₁ : List ℕ} (r : ℕ) → w₁ ≡ stored w kinds r 1 → SteadyRecord w w₁
+pub begun-steady : {w w₁ : List ℕ} (r : ℕ) → w₁ ≡ stored w kinds r kind-in-progress → SteadyRecord w w₁
 begun-steady {w} r e = rw e (steady-kind w r 1 (λ z. absurd (omega arith)))
 
 -- What stands before the loop over region r's deferred edges, from words w to words w₃.
@@ -213,7 +214,7 @@ pub record BeforeTurns (counts w : List ℕ) (r : ℕ) (w₃ : List ℕ) : Type 
   pub all-done : (g : Graph) → Stands w g → {w₄ : List ℕ} → ((g : Graph) → Stands w₃ g → ResolvesAll g counts w₃ r w₄ step.Right)
       → {w₅ : List ℕ} → w₅ ≡ made-ready w₄ r → StructurizesRegion g counts w r w₅ step.Right
 
-module _ {w w₁ : List ℕ} (r : ℕ) (begun : w₁ ≡ stored w kinds r 1) where
+module _ {w w₁ : List ℕ} (r : ℕ) (begun : w₁ ≡ stored w kinds r kind-in-progress) where
   first-on : {g : Graph} → Stands w g → Stands w₁ g
   first-on st = stands-on (begun-steady r begun .front) st
 
@@ -222,7 +223,7 @@ module _ {w w₁ : List ℕ} (r : ℕ) (begun : w₁ ≡ stored w kinds r 1) whe
   region-refused targets g st = refused-at-targets (rw begun at (targets g (first-on st)))
 
   module _ {counts w₂ : List ℕ} (targets : (g : Graph) → Stands w₁ g → TargetRegions g counts w₁ r 0 w₂ step.Right) where
-    its-targets : {g : Graph} → Stands w g → TargetRegions g counts (stored w kinds r 1) r 0 w₂ step.Right
+    its-targets : {g : Graph} → Stands w g → TargetRegions g counts (stored w kinds r kind-in-progress) r 0 w₂ step.Right
     its-targets {g} st = rw begun at (targets g (first-on st))
 
     second-on : {g : Graph} → Stands w g → Stands w₂ g
@@ -253,22 +254,22 @@ module _ {w w₁ : List ℕ} (r : ℕ) (begun : w₁ ≡ stored w kinds r 1) whe
 pub attempted-on : {w w₁ : List ℕ} → w₁ ≡ attempted w → SteadyRecord w w₁
 attempted-on {w} e = rw e (steady-attempted w)
 
-pub not-begun-yet : {w : List ℕ} {r state : ℕ} → r < 32 → state ≡ word w kinds r → state ≡ 0 → NotBegun w r
+pub not-begun-yet : {w : List ℕ} {r state : ℕ} → r < 32 → state ≡ region-kind w r → state ≡ kind-not-begun → NotBegun w r
 not-begun-yet below of-state new = record { below = below; kind = sym of-state ∙ new }
 
 module _ {counts w w₁ : List ℕ} {r : ℕ} (n : ℕ) (counted : w₁ ≡ attempted w) where
   pub claim-nowhere : 32 ≤ r → (g : Graph) → Stands w g → TriesClaim g counts w r n w₁ (Refused 0 r)
   claim-nowhere h g st = no-region h counted
 
-  module _ (below : r < 32) {state : ℕ} (of-state : state ≡ word w₁ kinds r) where
-    pub claim-later : (state ≡ 0 → ⊥) → {m : ℕ} → m ≡ getD counts r 0
+  module _ (below : r < 32) {state : ℕ} (of-state : state ≡ region-kind w₁ r) where
+    pub claim-later : (state ≡ kind-not-begun → ⊥) → {m : ℕ} → m ≡ getD counts r 0
         → {w₂ : List ℕ} → w₂ ≡ w₁ → {w₃ : List ℕ} {a : Claim} → ((g : Graph) → Stands w₂ g → ClaimsByState g w₂ r n m w₃ a)
         → (g : Graph) → Stands w g → TriesClaim g counts w r n w₃ a
     claim-later d i same c g st =
         later-claim below (λ e. d (of-state ∙ rw counted e))
         (rw (i, same, counted) at (c g (rw same (stands-on (attempted-on counted .front) st))))
 
-    module _ (new : state ≡ 0) where
+    module _ (new : state ≡ kind-not-begun) where
       module _ {w₂ : List ℕ} {a : Checked} (inside : (g : Graph) → Stands w₁ g → StructurizesRegion g counts w₁ r w₂ a) where
         pub claim-inside : {m x : ℕ} → a ≡ step.Refused m x → (g : Graph) → Stands w g → TriesClaim g counts w r n w₂ (Refused m x)
         claim-inside e g st = refused-inside (rw counted at (not-begun-yet below of-state new))

@@ -20,16 +20,15 @@ use Rattle.follows.specs.counting.Totals.{edge-total, edges-to, totals, edgeles
 use Rattle.follows.specs.counting.Counting.{Nine, Pre, Good, owed, live-count, pre-after, pre-as}
 use Rattle.follows.specs.counting.CountScan.{ScanCounted, BodyCounted, scan-few, split-out-counted}
 use Rattle.follows.specs.counting.CountRegion.{claim-counted, turn-counted}
-use Rattle.state.specs.Sections.{word, kinds}
 use Rattle.shown.specs.laws.RegionsKept.{body-stays}
 use Rattle.shown.specs.States.{ShowsBody}
 use Rattle.state.specs.declared.defined.Made.the-variants as made
 use Rattle.store.specs.declared.Checked.{Checked}
 use Rattle.store.specs.declared.Checked.the-variants as step
 use Rattle.cfg.specs.SplitOut as split
-use Rattle.cfg.specs.laws.Shows.{Unharmed, Around, around-then, unharmed-around, cells-in-all, world, K, BodyShows, refuses-body}
-use Rattle.cfg.specs.laws.Shows.{ScanShows, shows-nothing, refuses-scan, TurnsShow, shows-turns, refuses-turns}
+use Rattle.cfg.specs.laws.Shows.{around-then, unharmed-around, cells-in-all}
 use Rattle.cfg.specs.laws.ScansShown.{CanScan}
+use Rattle.state.specs.Rows.{kind-in-progress, region-kind}
 
 module _ (g : Graph) (valid : Valid g) (fuel : ℕ) where
   abbrev claim : Claim
@@ -100,7 +99,8 @@ module _ (g : Graph) (valid : Valid g) (fuel : ℕ) where
   turns k x s = resolve-deferred g claim k x s
 
   -- ---- The definition's turns, by what the scan gave.
-  module _ (r n : ℕ) (x : Body) (s : NestState) {w : List ℕ} (busy : word w kinds r ≡ 1) (in-graph : r < length (g .regions)) where
+  module _ (r n : ℕ) (x : Body) (s : NestState) {w : List ℕ} (busy : region-kind w r ≡ kind-in-progress)
+      (in-graph : r < length (g .regions)) where
     pub turns-nothing : ShowsBody g w r x → {w′ : List ℕ}
         → ScanShows g w w′ (x .deferred-edges) (split-out-matching g claim [] (x .deferred-edges) s) split.Nothing
         → TurnsShow g w w′ r (turns (suc n) x s) step.Right

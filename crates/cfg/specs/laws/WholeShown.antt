@@ -14,7 +14,6 @@ use Rattle.meaning.specs.facts.Pigeonhole.{distinct-few}
 use Rattle.format.specs.Valid.{Valid}
 use Rattle.nesting.specs.Nesting.{reachable, exit-targets}
 use Rattle.bundles.specs.laws.RecordValues.{few-edges}
-use Rattle.cfg.specs.laws.Shows.{K}
 use Rattle.cfg.specs.laws.ClaimsShown.{ShownParts}
 use Rattle.cfg.specs.laws.StateShown.{state-shown}
 use Rattle.cfg.specs.laws.InstShown.{inst-shown}

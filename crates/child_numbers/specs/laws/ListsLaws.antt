@@ -12,7 +12,7 @@ use Rattle.meaning.specs.facts.Parts.{from-place, none-from}
 use Rattle.record.specs.Stands.{Stands, OfRecord}
 use Rattle.nesting.specs.Nesting.{plain, join, blocks-from}
 use Rattle.nesting.specs.Sheet.{kids}
-use Rattle.state.specs.CellRows.{tag-blocks, tag-join, cell-tag, cell-node, blocks-region, join-list}
+use Rattle.state.specs.Rows.{tag-blocks, tag-join, cell-tag, cell-node, blocks-region, join-list}
 use Rattle.shown.specs.laws.CellSteps.{no-list}
 use Rattle.children.specs.CellByCell.{CellAdded, added-blocks, added-list, added-exit, added-select, added-loop, ListAppended, appends}
 use Rattle.children.specs.CellByCell.{list-before}

@@ -14,7 +14,7 @@ use Rattle.meaning.specs.Graph.{Graph}
 use Rattle.meaning.specs.Runs.{Nodes, ⟨⟩, _▸_, Cases, exit}
 use Rattle.nesting.specs.Nesting.{new-select}
 use Rattle.state.specs.Sections.{section, cells}
-use Rattle.state.specs.CellRows.{earlier, cell-word, tag-loop, cell-tag, cell-before, cases-after}
+use Rattle.state.specs.Rows.{earlier, cell-word, tag-loop, cell-tag, cell-before, cases-after}
 use Rattle.shown.specs.Cells.{CellIs, ShowsNodes, no-nodes, all-blocks, two-lists, then-exit, then-select, the-loop}
 use Rattle.shown.specs.Cells.{ShowsCaseCells, no-cases, case-and}
 use Rattle.children.specs.CellByCell.{list-before, added-blocks, added-list, added-exit, added-select, added-loop}

@@ -2,15 +2,14 @@
 -- so that the recursion ends.
 use mathlib.Core.Path.{_≡_, refl, sym, ap, _∙_}
 use mathlib.Core.List.{List, [], _∷_}
-use Prim.Native.Nat.{ℕ, zero, suc, _+_, _*_, _≤_, _<_}
+use Prim.Native.Nat.{ℕ, zero, suc, _+_, _≤_, _<_}
 use native.Mathlib.Omega.{arith}
 use lib.ListN.{length, getD}
 use borrow.Author.Tests.{lt-ltb}
 use Rattle.nesting.specs.Nesting.{plain, LazyCond, undef-cond, false-cond, true-cond, merge, LazyConds, no-conds, _&_}
 use Rattle.nesting.specs.Sheet as sheet
 use Rattle.nesting.specs.SheetNumbers.{letter-m}
-use Rattle.state.specs.Sections.{word, conditions}
-use Rattle.state.specs.Tables.{earlier-part, shape-size, select-word}
+use Rattle.state.specs.Tables.{earlier-part, shape-size}
 use Rattle.shown.specs.Tables.{cond-count, ShowsCond, shows-true, shows-false, shows-undef, shows-merge, ShowsConds, no-parts, part-and}
 use Rattle.shown.specs.laws.Conditions.{shape-cases}
 use Rattle.lookups.specs.laws.MaterializedLaws.{part-below}
@@ -20,6 +19,7 @@ use Rattle.writing.specs.laws.PutsLaws.{_⊕_}
 use Rattle.writing.specs.laws.Rows.{run, run-list}
 use Rattle.writing.specs.laws.PartLaws.{each-plain}
 use Rattle.defer_lines.specs.Conditions.{PutsCondition, condition-part}
+use Rattle.state.specs.Rows.{merge-node, merge-part, merge-shape}
 
 -- ---- t, f, u.
 pub low-condition : (w : List ℕ) {c : ℕ} {out out′ : List ℕ} {at at′ : Place} → c < 4 → Puts out at (plain (c ∷ [])) out′ at′
@@ -42,7 +42,7 @@ part-falls {p} {c} x e h = rw e (part-below x c h)
 -- The part at place j, of those from place i on.
 record PartShown (l : List ℕ) (c i j : ℕ) (ts : LazyConds) : Type 0 where
   tree : LazyCond
-  shows : ShowsCond l (earlier-part (word l conditions (9 * c + (1 + (i + j)))) c) tree
+  shows : ShowsCond l (earlier-part (merge-part l c (i + j)) c) tree
   field : getD (sheet.conditions ts) j (sheet.label "") ≡ sheet.condition tree
 
 part-shown : {l : List ℕ} {c i : ℕ} {ts : LazyConds} → ShowsConds l c i ts → (j : ℕ) → j < cond-count ts → PartShown l c i j ts
@@ -55,11 +55,11 @@ part-shown {l} {c} {i} (part-and e b sc ps) (suc j) h =
     let there : i + suc j ≡ suc i + j = omega arith in
     record { tree = x .tree; shows = rw there (x .shows); field = x .field }
 
-module _ (w : List ℕ) {c n : ℕ} (high : 4 ≤ c) {shape : ℕ} (size : n ≡ shape-size shape) (of-shape : shape ≡ select-word w c 3)
+module _ (w : List ℕ) {c n : ℕ} (high : 4 ≤ c) {shape : ℕ} (size : n ≡ shape-size shape) (of-shape : shape ≡ merge-shape w c)
   where
     -- A turn of the loop over them.
     pub part-turn : {j p : ℕ} {out out′ : List ℕ} {at at′ : Place} → j < n
-        → p ≡ earlier-part (word w conditions (9 * c + (1 + j))) c → PutsCondition w p out at out′ at′
+        → p ≡ earlier-part (merge-part w c j) c → PutsCondition w p out at out′ at′
         → {t : LazyCond} → ShowsCond w c t → Puts out at (condition-part t j) out′ at′
     part-turn below part puts (shows-true e) = absurd (omega arith)
     part-turn below part puts (shows-false e) = absurd (omega arith)
@@ -70,7 +70,7 @@ module _ (w : List ℕ) {c n : ℕ} (high : 4 ≤ c) {shape : ℕ} (size : n ≡
         let here : 0 + j ≡ j = omega arith in
         rw (x .field) (puts (x .tree) (rw part (rw here at (x .shows))))
 
-    pub merge-is : {node : ℕ} → node ≡ select-word w c 2 → {t : LazyCond} → ShowsCond w c t
+    pub merge-is : {node : ℕ} → node ≡ merge-node w c → {t : LazyCond} → ShowsCond w c t
         → plain (letter-m ∷ node ∷ n ∷ []) ⊕ run (condition-part t) 0 n ≡ plain (sheet.condition t .words)
     unfolding sheet.condition
     merge-is of-node (shows-true e) = absurd (omega arith)

@@ -2,7 +2,7 @@
 use mathlib.Core.Path.{_≡_, refl, _∙_}
 use mathlib.Core.Bool.{Bool, true, false, or-false}
 use mathlib.Core.List.{List, [], _∷_, append-nil}
-use Prim.Native.Nat.{ℕ, _+_, _*_, _<_}
+use Prim.Native.Nat.{ℕ, _+_, _<_}
 use native.Mathlib.Omega.{arith}
 use lib.Dec.{eqb}
 use lib.ListN.{length, getD}
@@ -14,7 +14,7 @@ use Rattle.nesting.specs.Nesting.{NestState, plain, DeferredTarget, DeferredEdg
 use Rattle.nesting.specs.Nesting.{true-cond, look-up-each}
 use Rattle.nesting.specs.Sheet as sheet
 use Rattle.nesting.specs.SheetNumbers.{lead-defer}
-use Rattle.state.specs.Sections.{word, bundles, set-starts, set-lengths}
+use Rattle.state.specs.Sections.{word, set-starts, set-lengths}
 use Rattle.state.specs.Tables.{bundle-at}
 use Rattle.shown.specs.Tables.{ShowsCond, shows-true}
 use Rattle.shown.specs.Sets.{ShowsTarget, shows-region, shows-return, ShowsBundle, no-bundle}
@@ -23,10 +23,11 @@ use Rattle.bundles.specs.Words.{condition-in}
 use Rattle.writing.specs.Puts.{Part}
 use Rattle.writing.specs.laws.PutsLaws.{_⊕_}
 use Rattle.writing.specs.Parts.{look-up-at-end, values-part, defer-part}
+use Rattle.state.specs.Rows.{bundle-condition, bundle-count, bundle-target, most-bundles, return-word}
 
 -- ---- The line.
 target-words : {g : Graph} {t : ℕ} {x : DeferredTarget} → ShowsTarget g t x → sheet.target x .words ≡ t ∷ []
-target-words (shows-region {r} e h) = rw e (go (eqb r 65535))
+target-words (shows-region {r} e h) = rw e (go (eqb r return-word))
   where
     go : (b : Bool) → pick b (sheet.number-as r "return") (sheet.a-number r) .words ≡ r ∷ []
     go true = refl
@@ -35,7 +36,7 @@ target-words (shows-return e) = rw e
 
 module _ {g : Graph} {w : List ℕ} {p : ℕ} {e : DeferredEdgeBundle} (shows : ShowsBundle g w p e) (s : NestState) (r : ℕ)
     (d : DeferredEdgeBundleSet) where
-  pub line-is : {t n : ℕ} → t ≡ word w bundles (7 * p + 0) → n ≡ word w bundles (7 * p + 1)
+  pub line-is : {t n : ℕ} → t ≡ bundle-target w p → n ≡ bundle-count w p
       → plain (lead-defer ∷ []) ⊕ plain (r ∷ t ∷ n ∷ []) ⊕ values-part s (e .target-inputs)
       ⊕ plain (sheet.condition (nesting.condition-in d e) .words)
       ≡ defer-part s r d e
@@ -54,7 +55,7 @@ module _ {g : Graph} {w : List ℕ} {p : ℕ} {e : DeferredEdgeBundle} (shows : 
   unfolding condition-in
   condition-is {n} is size = rw (is, size) (go (eqb (length d) 1))
     where
-      go : (b : Bool) → ShowsCond w (pick b 1 (word w bundles (7 * p + 2))) (pick b true-cond (e .condition))
+      go : (b : Bool) → ShowsCond w (pick b 1 (bundle-condition w p)) (pick b true-cond (e .condition))
       go true = shows-true refl
       go false = shows .condition .tree
 
@@ -70,5 +71,5 @@ module _ {g : Graph} {w : List ℕ} (r : ℕ) {d : DeferredEdgeBundleSet} (set :
   bundle-shown {start} {i} {p} of-start below is =
       let few = set .few in
       let room = set .room in
-      let there : p ≡ word w set-starts r + i = is ∙ rw (lt-ltb start 1097 (omega arith), lt-ltb i 33 (omega arith), of-start) in
+      let there : p ≡ word w set-starts r + i = is ∙ rw (lt-ltb start most-bundles (omega arith), lt-ltb i 33 (omega arith), of-start) in
       rw there (set .each i (omega arith))

@@ -1,14 +1,13 @@
 -- The inputs of a bundle, as its words have them and as the definition has them.
 use mathlib.Core.Path.{_≡_, sym, ap, _∙_}
 use mathlib.Core.List.{List, [], _∷_}
-use Prim.Native.Nat.{ℕ, _+_, _*_, _<_}
+use Prim.Native.Nat.{ℕ, _<_}
 use native.Mathlib.Omega.{arith}
 use lib.ListN.{length, getD}
 use borrow.Author.Tests.{lt-ltb}
 use Rattle.meaning.specs.Graph.{Graph, undef}
 use Rattle.record.specs.Stands.{OfRecord}
 use Rattle.nesting.specs.Nesting.{NestState, plain, DeferredEdgeBundle}
-use Rattle.state.specs.Sections.{word, bundles}
 use Rattle.state.specs.Tables.{input-word}
 use Rattle.shown.specs.Values.{value}
 use Rattle.shown.specs.Sets.{ShowsBundle}
@@ -19,13 +18,14 @@ use Rattle.writing.specs.laws.PutsLaws.{_⊕_}
 use Rattle.writing.specs.laws.Rows.{run, run-list}
 use Rattle.writing.specs.laws.PartLaws.{values-counted}
 use Rattle.writing.specs.Parts.{Concluded, value-part, values-part}
+use Rattle.state.specs.Rows.{bundle-target}
 
 -- Input k of bundle p.
 abbrev pub input-part : List ℕ → NestState → ℕ → ℕ → Part
 input-part w s p k = value-part s (value (input-word w p k))
 
 module _ {g : Graph} {w : List ℕ} {s : NestState} (c : Concluded g w s) {p : ℕ} {e : DeferredEdgeBundle} (shows : ShowsBundle g w p e)
-    {t n : ℕ} (to : t ≡ word w bundles (7 * p + 0)) (count : OfRecord w (λ g. n ≡ input-count g w t)) where
+    {t n : ℕ} (to : t ≡ bundle-target w p) (count : OfRecord w (λ g. n ≡ input-count g w t)) where
   count-is : n ≡ length (e .target-inputs)
   count-is =
       count g (c .state .stands) ∙ ap (λ x. input-count g w x) to

@@ -11,8 +11,8 @@ use Rattle.meaning.specs.facts.Numbers.{max-assoc}
 use Rattle.nesting.specs.Sheet.{figure, dearest}
 use Rattle.record.specs.Stands.{Stands, OfRecord}
 use Rattle.state.specs.Sections.{section, cells}
-use Rattle.state.specs.CellRows.{tag-blocks, tag-join, tag-select, tag-loop, cell-tag, blocks-region, join-list, select-cases}
-use Rattle.state.specs.CellRows.{loop-body, loop-header, cases-after, children-of-case}
+use Rattle.state.specs.Rows.{tag-blocks, tag-join, tag-select, tag-loop, cell-tag, blocks-region, join-list, select-cases}
+use Rattle.state.specs.Rows.{loop-body, loop-header, cases-after, children-of-case}
 use Rattle.shown.specs.Cells.{ShowsCaseCells, no-cases, case-and}
 use Rattle.shown.specs.laws.CellSteps.{no-list}
 use Rattle.children.specs.CellByCell.{list-before, CellAdded, added-blocks, added-list, added-exit, added-select}
@@ -21,6 +21,7 @@ use Rattle.children.specs.laws.CellByCellLaws.{before-below, named-below, appen
 use Rattle.figure.specs.laws.Nodes.{figure-join, figure-blocks}
 use Rattle.figure.specs.Figured.{capped, Figured, CellFigured, DearestFigured, BlocksFigured, ToCome, SummedTo, CasesToCome}
 use Rattle.figure.specs.Figured.{DearestTo}
+use Rattle.state.specs.Values.{parts}
 
 -- ---- Sums and turns over what is held at the largest number.
 pub capped-times : (m n c : ℕ) → capped (m * (capped n + c)) ≡ capped (m * (n + c))

@@ -3,7 +3,7 @@
 use mathlib.Core.Path.{_≡_, refl, sym, ap, _∙_}
 use mathlib.Core.Bool.{Bool, true, false, and-true}
 use mathlib.Core.List.{List, [], _∷_, _++_, append-assoc, append-nil}
-use Prim.Native.Nat.{ℕ, suc, _+_, _*_, _≤_, _<_}
+use Prim.Native.Nat.{ℕ, suc, _+_, _≤_, _<_}
 use native.Mathlib.Omega.{arith}
 use native.Mathlib.Decide.{decLt}
 use lib.ListN.{length, getD, set, replicate, length-set, length-append, List·getD-append, List·getD-eq-default, getD-replicate}
@@ -17,7 +17,7 @@ use Rattle.nesting.specs.Nesting.{turned-away, follow, give, materialize-lazy-c
 use Rattle.nesting.specs.Nesting.{most-outputs}
 use Rattle.state.specs.declared.defined.Defined.{Defined}
 use Rattle.state.specs.declared.defined.Defined.the-variants.{Number, Full}
-use Rattle.state.specs.Sections.{word, conditions, cells, outputs}
+use Rattle.state.specs.Sections.{conditions, cells, outputs}
 use Rattle.state.specs.Values.{output-word, undef-word}
 use Rattle.state.specs.Tables.{earlier-part, shape-size, select-word, OutputDefined, output-defined, outputs-full}
 use Rattle.shown.specs.Values.{value}
@@ -34,11 +34,13 @@ use Rattle.lookups.specs.Materialized.{made-true, made-false, made-undef
 use Rattle.lookups.specs.laws.MaterializedLaws.{few-parts}
 use Rattle.meaning.specs.Lists.{pick}
 use Rattle.format.specs.Refusals.{too-many}
+use Rattle.state.specs.Values.{parts, undef-from}
+use Rattle.state.specs.Rows.{cells-at, merge-node, merge-part, merge-scrutinee, outputs-at}
 
 -- ---- What a step answers, and what it leaves.
 pub record ShowsValue (l l′ : List ℕ) (a : Defined) (b : StepAnswer Value) : Type 0 where
   pub answer : ShowsDefined (λ x v. value x ≡ v) l′ a b
-  pub changes : ChangesOnly outputs 3 l l′
+  pub changes : ChangesOnly outputs outputs-at l l′
 
 follow-give : (x : StepAnswer (List Value)) → x ≡ follow x (λ us. give ([] ++ us))
 follow-give (done us s) = refl
@@ -82,9 +84,9 @@ scrutinee-shown shape ws vs (shape-number a b n) h = rw (ne-eqb shape 0 (omega a
 -- ---- The values put together.
 module _ (l : List ℕ) (c : ℕ) (ws l′ : List ℕ) {s : NestState} (t : ShowsTables l s) {n : ℕ} {kind : SelectionKind} {v : Value}
     (vs : List Value)
-    (node : select-word l c 2 ≡ n) (shape : ShowsShape (shape-at l c) (length vs) kind) (scrutinee : value (select-word l c 4) ≡ v)
+    (node : merge-node l c ≡ n) (shape : ShowsShape (shape-at l c) (length vs) kind) (scrutinee : value (merge-scrutinee l c) ≡ v)
     (len : length ws ≡ 8) (each : (k : ℕ) → k < length vs → value (getD ws k 0) ≡ getD vs k (undef 0))
-    (beyond : (k : ℕ) → length vs ≤ k → k < 8 → getD ws k 0 ≡ 66) where
+    (beyond : (k : ℕ) → length vs ≤ k → k < 8 → getD ws k 0 ≡ undef-from) where
   abbrev put-together : StepAnswer Value
   put-together = pick (is-test kind vs) (give v) (define-output n 1 vs) s
 
@@ -107,7 +109,7 @@ module _ (l : List ℕ) (c : ℕ) (ws l′ : List ℕ) {s : NestState} (t : Show
   pub merges-shown : {a : Defined} → Merges l c ws l′ a → ShowsValue l l′ a put-together
   merges-shown (the-scrutinee e x p) =
       let test : is-test kind vs ≡ true = sym (scrutinee-shown (shape-at l c) ws vs shape each) ∙ e in
-      rw (test, p) (record { answer = shows-done (ap value x ∙ scrutinee) t; changes = nothing-changes outputs 3 l })
+      rw (test, p) (record { answer = shows-done (ap value x ∙ scrutinee) t; changes = nothing-changes outputs outputs-at l })
   merges-shown (new-output {o} e d x) =
       let test : is-test kind vs ≡ false = sym (scrutinee-shown (shape-at l c) ws vs shape each) ∙ e in
       let made = rw node at d in
@@ -125,12 +127,12 @@ module _ (l : List ℕ) (c : ℕ) (ws l′ : List ℕ) {s : NestState} (t : Show
 record PartsShown (l : List ℕ) (c j : ℕ) (l₁ ws : List ℕ) (ts : LazyConds) (s : NestState) : Type 0 where
   state : NestState
   tables : ShowsTables l₁ state
-  changes : ChangesOnly outputs 3 l l₁
+  changes : ChangesOnly outputs outputs-at l l₁
   len : length ws ≡ 8
   values : List Value
   count : length values ≡ j
   each : (k : ℕ) → k < j → value (getD ws k 0) ≡ getD values k (undef 0)
-  beyond : (k : ℕ) → j ≤ k → k < 8 → getD ws k 0 ≡ 66
+  beyond : (k : ℕ) → j ≤ k → k < 8 → getD ws k 0 ≡ undef-from
   rest : LazyConds
   left : ShowsConds l c j rest
   total : j + cond-count rest ≡ cond-count ts
@@ -143,32 +145,32 @@ unfolding materialize-lazy-cond
 follow-part t rest s s′ vs v e = rw e (follow-cons vs v (materialize-lazy-conds rest s′))
 
 -- An output more leaves the conditions, and their selects.
-cond-by : {l l₁ : List ℕ} → ChangesOnly outputs 3 l l₁ → {c : ℕ} {t : LazyCond} → ShowsCond l c t → ShowsCond l₁ c t
+cond-by : {l l₁ : List ℕ} → ChangesOnly outputs outputs-at l l₁ → {c : ℕ} {t : LazyCond} → ShowsCond l c t → ShowsCond l₁ c t
 cond-by g x = cond-same (g .others conditions (omega arith) (omega arith)) (g .others cells (omega arith) (omega arith))
-    (g .totals 4 (omega arith)) x
+    (g .totals cells-at (omega arith)) x
 
-select-by : {l l₁ : List ℕ} → ChangesOnly outputs 3 l l₁ → (c i : ℕ) → select-word l₁ c i ≡ select-word l c i
+select-by : {l l₁ : List ℕ} → ChangesOnly outputs outputs-at l l₁ → (c i : ℕ) → select-word l₁ c i ≡ select-word l c i
 select-by g c i = rw (g .others conditions (omega arith) (omega arith), g .others cells (omega arith) (omega arith))
 
 -- What a part's own words say it is.
-part-is : {l l₁ : List ℕ} (c j p q : ℕ) → ChangesOnly outputs 3 l l₁ → p ≡ part-at l₁ c j
-    → word l conditions (9 * c + (1 + j)) ≡ q → q < c → p ≡ q
+part-is : {l l₁ : List ℕ} (c j p q : ℕ) → ChangesOnly outputs outputs-at l l₁ → p ≡ part-at l₁ c j
+    → merge-part l c j ≡ q → q < c → p ≡ q
 unfolding earlier-part
 part-is c j p q g h e b = h ∙ rw (g .others conditions (omega arith) (omega arith), e, lt-ltb q c b)
 
 module _ {l : List ℕ} {c : ℕ} {ts : LazyConds} {s : NestState} where
-  parts-start : {l₁ ws : List ℕ} {j : ℕ} → j ≡ 0 → l₁ ≡ l → ws ≡ replicate 8 66 → ShowsConds l c 0 ts → ShowsTables l s
+  parts-start : {l₁ ws : List ℕ} {j : ℕ} → j ≡ 0 → l₁ ≡ l → ws ≡ replicate 8 undef-from → ShowsConds l c 0 ts → ShowsTables l s
       → PartsShown l c j l₁ ws ts s
   parts-start e f g sc t =
       record {
         state = s;
         tables = rw f t;
-        changes = rw f (nothing-changes outputs 3 l);
+        changes = rw f (nothing-changes outputs outputs-at l);
         len = ap length g;
         values = [];
         count = sym e;
         each = λ k h. absurd (omega arith);
-        beyond = λ k a b. rw g (getD-replicate 8 k 66 0 b);
+        beyond = λ k a b. rw g (getD-replicate 8 k undef-from 0 b);
         rest = ts;
         left = rw e sc;
         total = omega arith;
@@ -237,7 +239,8 @@ all-made e x (t & ts) n on = absurd (omega arith)
 module _ {l l′ : List ℕ} {c : ℕ} where
   true-shown : c ≡ 1 → l′ ≡ l → RecordsCond l c l′ (Number 65)
   unfolding materialize-lazy-cond
-  true-shown e h true-cond (shows-true f) s t = rw h (record { answer = shows-done value-true t; changes = nothing-changes outputs 3 l })
+  true-shown e h true-cond (shows-true f) s t = rw h
+      (record { answer = shows-done value-true t; changes = nothing-changes outputs outputs-at l })
   true-shown e h false-cond (shows-false f) s t = absurd (omega arith)
   true-shown e h undef-cond (shows-undef f) s t = absurd (omega arith)
   true-shown e h (merge n k v ts) (shows-merge a u b d f ps) s t = absurd (omega arith)
@@ -248,7 +251,7 @@ module _ {l l′ : List ℕ} {c : ℕ} where
   false-shown e h false-cond (shows-false f) s t = rw h (record {
     answer = shows-done value-false t;
     changes =
-        nothing-changes outputs 3 l;
+        nothing-changes outputs outputs-at l;
   })
   false-shown e h undef-cond (shows-undef f) s t = absurd (omega arith)
   false-shown e h (merge n k v ts) (shows-merge a u b d f ps) s t = absurd (omega arith)
@@ -258,7 +261,7 @@ module _ {l l′ : List ℕ} {c : ℕ} where
   undef-shown p q b x h true-cond (shows-true f) s t = absurd (p f)
   undef-shown p q b x h false-cond (shows-false f) s t = absurd (q f)
   undef-shown p q b x h undef-cond (shows-undef f) s t =
-      rw h (record { answer = shows-done (ap value x ∙ value-undef 1 (omega arith)) t; changes = nothing-changes outputs 3 l })
+      rw h (record { answer = shows-done (ap value x ∙ value-undef 1 (omega arith)) t; changes = nothing-changes outputs outputs-at l })
   undef-shown p q b x h (merge n k v ts) (shows-merge a u d e f ps) s t = absurd (omega arith)
 
   merge-shown : 4 ≤ c → {l₁ ws : List ℕ} {a : Defined} → RecordsParts l c (shape-size (shape-at l c)) l₁ ws → Merges l₁ c ws l′ a
@@ -283,7 +286,7 @@ module _ {l l′ : List ℕ} {c : ℕ} where
       → RecordsCond l₁ p l′ Full → (x : PartsShown l c j l₁ ws ts s)
       (rest : LazyConds) → ShowsConds l c j rest → j + cond-count rest ≡ cond-count ts
       → materialize-lazy-conds ts s ≡ follow (materialize-lazy-conds rest (x .state)) (λ us. give (x .values ++ us))
-      → (materialize-lazy-conds ts s ≡ turned-away too-many 0) × ChangesOnly outputs 3 l l′
+      → (materialize-lazy-conds ts s ≡ turned-away too-many 0) × ChangesOnly outputs outputs-at l l′
   unfolding materialize-lazy-cond
   refused-part lt pe made x no-conds no-parts total on = absurd (omega arith)
   refused-part {j} {p} lt pe made x (t & rest) (part-and {p = q} e b sc ps) total on =

@@ -2,16 +2,17 @@
 use mathlib.Core.Path.{_≡_, sym, ap, _∙_}
 use mathlib.Core.Bool.{Bool, true, false, not}
 use mathlib.Core.List.{List}
-use Prim.Native.Nat.{ℕ, suc, _+_, _*_, _-_, _≤_, _<_}
+use Prim.Native.Nat.{ℕ, suc, _-_, _≤_, _<_}
 use native.Mathlib.Omega.{arith}
 use lib.Dec.{eqb}
 use borrow.Author.Tests.{eq-eqb, ne-eqb}
-use Rattle.state.specs.Sections.{word, stored, head, rewrites}
+use Rattle.state.specs.Sections.{stored, head}
 use Rattle.state.specs.Tables.{rewrite-kind}
 use Rattle.state.specs.Values.{is-input, is-held, input-region, input-index}
 use Rattle.lookups.specs.declared.look_up.LookUp.{LookUp}
 use Rattle.meaning.specs.Lists.{pick}
 use Rattle.lookups.specs.LookUps.{plain, kind-at, entry-at, changes-again, stays, renumbers, turns, look-up, Rewrites}
+use Rattle.state.specs.Rows.{rewrite-value, twice-at}
 
 -- ---- A turn of the code's loop, by what it read: the region, its entry's kind, the index, the entry's word.
 module _ (l : List ℕ) (n x r k i y : ℕ) {whole : LookUp} (some-left : 0 < n) (left : turns n l x ≡ whole) where
@@ -29,7 +30,7 @@ module _ (l : List ℕ) (n x r k i y : ℕ) {whole : LookUp} (some-left : 0 < n)
         let h : kind-at l x ≡ 0 = rw of-region at (sym kind ∙ e) in
         rw (an-input, eq-eqb (kind-at l x) 0 h) at (rw (← again) at left)
 
-    module _ (not-none : k ≡ 0 → ⊥) (index : i ≡ input-index x) (entry : y ≡ word l rewrites (5 * r + 1 + i)) where
+    module _ (not-none : k ≡ 0 → ⊥) (index : i ≡ input-index x) (entry : y ≡ rewrite-value l r i) where
       kind-is : k ≡ kind-at l x
       kind-is = kind ∙ ap (λ q. rewrite-kind l q) of-region
 
@@ -66,7 +67,7 @@ module _ (l : List ℕ) (v r k : ℕ) (of-region : r ≡ input-region v) (kind :
     unfolding changes-again
     again-replaced e = rw (ne-eqb (kind-at l v) 0 (λ h. not-none (kind-read ∙ h)), eq-eqb (kind-at l v) 1 (sym kind-read ∙ e))
 
-    pub again-renumbered : (k ≡ 1 → ⊥) → (i y : ℕ) → i ≡ input-index v → y ≡ word l rewrites (5 * r + 1 + i)
+    pub again-renumbered : (k ≡ 1 → ⊥) → (i y : ℕ) → i ≡ input-index v → y ≡ rewrite-value l r i
         → not (eqb y v) ≡ changes-again l v
     unfolding changes-again
     again-renumbered d i y index entry =
@@ -97,7 +98,7 @@ unfolding renumbers
 renumbers-none kind x d = rw (ne-eqb kind 2 d)
 
 module _ (l : List ℕ) (v : ℕ) (l′ : List ℕ) (found : LookUp) (is : found ≡ look-up l v) where
-  pub rewrite-notes : found .twice ≡ true → l′ ≡ stored l head 6 1 → Rewrites l v l′ (found .value)
+  pub rewrite-notes : found .twice ≡ true → l′ ≡ stored l head twice-at 1 → Rewrites l v l′ (found .value)
   rewrite-notes e s = record { value = ap (λ f. f .value) is; noted = s ∙ rw (← is, e) }
 
   pub rewrite-plain : found .twice ≡ false → l′ ≡ l → Rewrites l v l′ (found .value)

@@ -12,9 +12,10 @@ use borrow.Author.Tests.{lt-ltb, le-ltb, eq-eqb, ne-eqb}
 use Rattle.state.specs.declared.defined.Defined.{Defined}
 use Rattle.state.specs.declared.defined.Defined.the-variants.{Number, Full}
 use Rattle.state.specs.Values.{output-word}
-use Rattle.state.specs.Tables.{earlier-part, shape-size, select-word, OutputDefined}
+use Rattle.state.specs.Tables.{earlier-part, shape-size, OutputDefined}
 use Rattle.lookups.specs.Materialized.{is-scrutinee, shape-at, part-at, Merges, the-scrutinee, new-output, no-output, Materializes}
 use Rattle.lookups.specs.Materialized.{PartsMade, made-merge, full-part, part-more}
+use Rattle.state.specs.Rows.{merge-node, merge-scrutinee}
 
 -- ---- The functions, path by path.
 module _ (shape : ℕ) (vs : List ℕ) where
@@ -36,10 +37,10 @@ module _ (l : List ℕ) (c : ℕ) (vs : List ℕ) (shape : ℕ) (b : Bool) (of-s
   answer-is : is-scrutinee (shape-at l c) vs ≡ b
   answer-is = rw (← of-shape) (sym test)
 
-  pub merged-scrutinee : b ≡ true → {x : ℕ} → x ≡ select-word l c 4 → Merges l c vs l (Number x)
+  pub merged-scrutinee : b ≡ true → {x : ℕ} → x ≡ merge-scrutinee l c → Merges l c vs l (Number x)
   merged-scrutinee e p = the-scrutinee (answer-is ∙ e) p refl
 
-  module _ (other : b ≡ false) {l′ : List ℕ} {node : ℕ} {a : Defined} (of-node : node ≡ select-word l c 2)
+  module _ (other : b ≡ false) {l′ : List ℕ} {node : ℕ} {a : Defined} (of-node : node ≡ merge-node l c)
       (made : OutputDefined node 1 vs l l′ a) where
     pub merged-full : a ≡ Full → Merges l c vs l′ Full
     merged-full e = no-output (answer-is ∙ other) (rw (of-node, e) at made)

@@ -32,36 +32,38 @@ use Rattle.shown.specs.laws.Steps.{twice-noted}
 use Rattle.lookups.specs.declared.look_up.LookUp.{LookUp}
 use Rattle.lookups.specs.LookUps as words
 use Rattle.lookups.specs.LookUps.{plain, kind-at, entry-at, changes-again, stays, turns, look-up, Rewrites}
+use Rattle.state.specs.Values.{held-from, input-from, instr-from}
+use Rattle.state.specs.Rows.{twice-at}
 
 -- ---- The tests of a word, by its range.
-pub input-in : (x : ℕ) → 1024 ≤ x → x < 1536 → is-input x ≡ true
+pub input-in : (x : ℕ) → input-from ≤ x → x < held-from → is-input x ≡ true
 unfolding is-input
-input-in x a b = rw (le-ltb x 1024 a, lt-ltb x 1536 b)
+input-in x a b = rw (le-ltb x input-from a, lt-ltb x held-from b)
 
-pub input-below : (x : ℕ) → x < 1024 → is-input x ≡ false
+pub input-below : (x : ℕ) → x < input-from → is-input x ≡ false
 unfolding is-input
-input-below x a = rw (lt-ltb x 1024 a)
+input-below x a = rw (lt-ltb x input-from a)
 
-pub input-above : (x : ℕ) → 1536 ≤ x → is-input x ≡ false
+pub input-above : (x : ℕ) → held-from ≤ x → is-input x ≡ false
 unfolding is-input
-input-above x a = let b : 1024 ≤ x = omega arith in rw (le-ltb x 1024 b, le-ltb x 1536 a)
+input-above x a = let b : input-from ≤ x = omega arith in rw (le-ltb x input-from b, le-ltb x held-from a)
 
-pub held-in : (x : ℕ) → 1536 ≤ x → x < 2048 → is-held x ≡ true
+pub held-in : (x : ℕ) → held-from ≤ x → x < instr-from → is-held x ≡ true
 unfolding is-held
-held-in x a b = rw (le-ltb x 1536 a, lt-ltb x 2048 b)
+held-in x a b = rw (le-ltb x held-from a, lt-ltb x instr-from b)
 
-pub held-below : (x : ℕ) → x < 1536 → is-held x ≡ false
+pub held-below : (x : ℕ) → x < held-from → is-held x ≡ false
 unfolding is-held
-held-below x a = rw (lt-ltb x 1536 a)
+held-below x a = rw (lt-ltb x held-from a)
 
-pub held-above : (x : ℕ) → 2048 ≤ x → is-held x ≡ false
+pub held-above : (x : ℕ) → instr-from ≤ x → is-held x ≡ false
 unfolding is-held
-held-above x a = let b : 1536 ≤ x = omega arith in rw (le-ltb x 1536 b, le-ltb x 2048 a)
+held-above x a = let b : held-from ≤ x = omega arith in rw (le-ltb x held-from b, le-ltb x instr-from a)
 
-held-range : (x r k : ℕ) → value x ≡ held r k → (1536 ≤ x) × (x < 2048)
+held-range : (x r k : ℕ) → value x ≡ held r k → (held-from ≤ x) × (x < instr-from)
 held-range x r k h = go (ranged x) h
   where
-    go : {v : Value} → Ranged x v → v ≡ held r k → (1536 ≤ x) × (x < 2048)
+    go : {v : Value} → Ranged x v → v ≡ held r k → (held-from ≤ x) × (x < instr-from)
     go (in-const a e) h = absurd (clash (cc))
     go (in-false a e) h = absurd (clash (cc))
     go (in-true a e) h = absurd (clash (cc))
@@ -208,12 +210,12 @@ module _ {w w′ : List ℕ} {s : NestState} (t : ShowsTables w s) (all : (r : �
   unfolding rewrite-values
   rewrite-shown = (rw (rewritten-value, or-false (found .twice)), rewritten-tables)
 
-  pub rewrite-changes : ChangesOnly head 6 w w′
+  pub rewrite-changes : ChangesOnly head twice-at w w′
   rewrite-changes = go (look-up w x .twice) refl
     where
-      go : (b : Bool) → look-up w x .twice ≡ b → ChangesOnly head 6 w w′
-      go true e = let n : w′ ≡ stored w head 6 1 = step .noted ∙ rw e in rw n (head-changes head 6 w 1)
-      go false e = let n : w′ ≡ w = step .noted ∙ rw e in rw n (nothing-changes head 6 w)
+      go : (b : Bool) → look-up w x .twice ≡ b → ChangesOnly head twice-at w w′
+      go true e = let n : w′ ≡ stored w head twice-at 1 = step .noted ∙ rw e in rw n (head-changes head twice-at w 1)
+      go false e = let n : w′ ≡ w = step .noted ∙ rw e in rw n (nothing-changes head twice-at w)
 
 -- ---- Values looked up in turn, one by one.
 pub rewrite-none : (s : NestState) → rewrite-values [] s ≡ done [] s

@@ -3,7 +3,7 @@ use mathlib.Core.Path.{_≡_, refl, sym, ap, _∙_, subst}
 use mathlib.Core.Bool.{Bool, true, false}
 use mathlib.Core.List.{List, [], _∷_}
 use mathlib.Core.Option.{Option, some}
-use Prim.Native.Nat.{ℕ, zero, suc, _+_, _*_, _-_, _≤_, _<_}
+use Prim.Native.Nat.{ℕ, zero, suc, _+_, _-_, _≤_, _<_}
 use native.Mathlib.Omega.{arith}
 use native.Mathlib.Decide.{ℕ-discrete}
 use lib.ListN.{length, getD}
@@ -27,8 +27,8 @@ use Rattle.record.specs.Stands.{OfRecord}
 use Rattle.state.specs.declared.defined.Defined.{Defined}
 use Rattle.state.specs.declared.defined.Defined.the-variants.{Number, Full}
 use Rattle.state.specs.Sections as sections
-use Rattle.state.specs.Sections.{Section, number, used, word, stored, head, kinds, children, bodies, bundles, rewrites, set-starts}
-use Rattle.state.specs.Sections.{set-lengths, most-cells}
+use Rattle.state.specs.Sections.{Section, number, used, word, stored, head, children, bodies, rewrites, set-starts}
+use Rattle.state.specs.Sections.{set-lengths}
 use Rattle.state.specs.laws.Apart.{section-other}
 use Rattle.state.specs.Tables.{Defines, defined, full, bundle-at, bundle-words, bundle-copied, swap-removed, input-word}
 use Rattle.shown.specs.Values.{value}
@@ -57,6 +57,7 @@ use Rattle.loops.specs.laws.ExitsShown.{ExitsCounted, exits-shown}
 use Rattle.loops.specs.laws.LoopsShown.{InputsEntered, inputs-entered, entered-state, LoopWithin, ShowsLoopMade, made-done}
 use Rattle.loops.specs.laws.LoopsShown.{made-refused, loop-step, loop-made-shown, defines-changes, set-beside}
 use Rattle.format.specs.Refusals.{too-many}
+use Rattle.state.specs.Rows.{bundle-input, cells-at, kind-claimed, largest, most-cells, region-kind}
 
 -- ---- The back edge leaves region r's set: nothing of another region changes.
 pub removed-concerns : (g : Graph) (w : List ℕ) (r i p : ℕ) → Slots (length (g .regions)) w → HasSlot (length (g .regions)) r → i < 33
@@ -107,7 +108,7 @@ condition-shown {w} {p} {n} d {e} size x =
       | no more ↦ rw (ne-eqb n 1 more, ne-eqb (length d) 1 (λ z. more (size ∙ z))) (x .condition)
     ]
 
-passed-word : (w : List ℕ) (p j : ℕ) → j < 4 → getD (backedge-inputs w p) j 0 ≡ word w bundles (7 * p + (3 + j))
+passed-word : (w : List ℕ) (p j : ℕ) → j < 4 → getD (backedge-inputs w p) j 0 ≡ bundle-input w p j
 unfolding input-word
 passed-word w p zero h = refl
 passed-word w p (suc zero) h = refl
@@ -153,8 +154,8 @@ pub record LoopShown (g : Graph) (r : ℕ) (inputs : List Value) (w w′ : List 
     (b : StepAnswer (Option ClaimedRegion)) : Type 0 where
   pub answer : ShowsLoop g w′ r inputs s a b
   pub within : OnlyRegion g r w w′
-  pub total-from : word w head 4 ≤ word w′ head 4
-  pub total-to : word w′ head 4 ≤ word w head 4 + 5
+  pub total-from : word w head cells-at ≤ word w′ head cells-at
+  pub total-to : word w′ head cells-at ≤ word w head cells-at + 5
 
 -- A made loop taken apart by what the code answered.
 record LoopMade {A : Type 0} (F : Value → ℕ → A) (g : Graph) (r : ℕ) (l : List ℕ) (y : LoopInputs) (ks : Nodes) (b : StepAnswer A)
@@ -182,17 +183,17 @@ pub record ClaimedLoop (g : Graph) (w : List ℕ) (s : NestState) (r p i : ℕ) 
   pub few : length (g .regions) ≤ 32
   pub shown : ShowsState g w s
   pub in-graph : r < length (g .regions)
-  pub claimed : word w kinds r ≡ 3
+  pub claimed : region-kind w r ≡ kind-claimed
   pub nodes : ShowsChildren g w (word w children r) ks
   pub set : ShowsOwnSet g w r d
   pub place : i < length d
   pub bundle-at-place : p ≡ word w set-starts r + i
   pub backedge : getD d i no-bundle ≡ e
   pub target : e .target ≡ to-region r
-  pub free : word w head 4 + 5 ≤ most-cells
-  pub cell-zero : 1 ≤ word w head 4
+  pub free : word w head cells-at + 5 ≤ most-cells
+  pub cell-zero : 1 ≤ word w head cells-at
   pub chains : (q : ℕ) → ChainsEnd (s .region-input-rewrites) q
-  pub counts : All (λ y. y .accumulated-count < 65535) d
+  pub counts : All (λ y. y .accumulated-count < largest) d
   pub exits-below : All (λ t. t < length (g .regions)) (exit-targets g r)
   pub given : length inputs ≡ length (region g r .inputs)
 
@@ -245,9 +246,9 @@ module _ {g : Graph} {w : List ℕ} {s : NestState} {r p i : ℕ} {ks : Nodes} {
       (swap-removed-set (x .shown .tables .size) (omega arith) (x .set) (to-region r) i h (rw target-is (eq-eqb r r refl))
       (λ j b. ap (λ y. same-target y (getD d j no-bundle .target)) (sym target-is) ∙ other-target few (x .set) (omega arith) b))
 
-  low-exits : (j : ℕ) → j < length exits → getD exits j no-bundle .accumulated-count < 65535
+  low-exits : (j : ℕ) → j < length exits → getD exits j no-bundle .accumulated-count < largest
   low-exits j h =
-      let low : DeferredEdgeBundle → Type 0 = λ y. y .accumulated-count < 65535 in
+      let low : DeferredEdgeBundle → Type 0 = λ y. y .accumulated-count < largest in
       all-at low no-bundle exits (all-split low (to-region r) d (x .counts)) j h
 
   within-region : {a : Defined} {l₁ : List ℕ} → Defines 0 most-regions w₀ l₁ a → OnlyRegion g r w l₁
@@ -258,8 +259,8 @@ module _ {g : Graph} {w : List ℕ} {s : NestState} {r p i : ℕ} {ks : Nodes} {
   refused-wrapper : {w′ : List ℕ} → Defines 0 most-regions w₀ w′ Full → LoopShown g r inputs w w′ s Refused gives
   unfolding structurize-loop
   refused-wrapper y =
-      let total = concerns₀ .same-head 4 in
-      let total₁ = defines-changes y .totals 4 (omega arith) in
+      let total = concerns₀ .same-head cells-at in
+      let total₁ = defines-changes y .totals cells-at (omega arith) in
       record {
         answer = rw (full-of (region-defined tables₀ y) refl) loop-refused;
         within = within-region y;
@@ -280,8 +281,8 @@ module _ {g : Graph} {w : List ℕ} {s : NestState} {r p i : ℕ} {ks : Nodes} {
     small : wrapper < most-regions
     small = defined-below wraps refl
 
-    total₁ : word l₁ head 4 ≡ word w head 4
-    total₁ = defines-changes wraps .totals 4 (omega arith) ∙ concerns₀ .same-head 4
+    total₁ : word l₁ head cells-at ≡ word w head cells-at
+    total₁ = defines-changes wraps .totals cells-at (omega arith) ∙ concerns₀ .same-head cells-at
 
     named₁ : NamedRewrites l₁
     named₁ = named-by (defines-changes wraps .others rewrites (omega arith) (omega arith))
@@ -331,10 +332,10 @@ module _ {g : Graph} {w : List ℕ} {s : NestState} {r p i : ℕ} {ks : Nodes} {
     within₃ : OnlyRegion g r w l₃
     within₃ = only-region-then within₂ (made .0 .within)
 
-    total-from₃ : word w head 4 ≤ word l₃ head 4
+    total-from₃ : word w head cells-at ≤ word l₃ head cells-at
     total-from₃ = let a = total₁ in let b = entered .total-from in let c = made .0 .total-from in omega arith
 
-    total-to₃ : word l₃ head 4 ≤ word w head 4 + 5
+    total-to₃ : word l₃ head cells-at ≤ word w head cells-at + 5
     total-to₃ = let a = total₁ in let b = entered .total-to in let c = made .0 .total-to in omega arith
 
     refused-loop : a ≡ Refused → LoopShown g r inputs w l₃ s Refused gives
@@ -429,8 +430,8 @@ module _ {g : Graph} {w : List ℕ} {s : NestState} {r p i : ℕ} {ks : Nodes} {
 
       looped-shown : LoopShown g r inputs w w′ s Done gives
       looped-shown =
-          let same = body₄ .same-head 4 in
-          let same₅ = exits₄ .concerns .same-head 4 in
+          let same = body₄ .same-head cells-at in
+          let same₅ = exits₄ .concerns .same-head cells-at in
           let from = total-from₃ in
           let to = total-to₃ in
           rw (counted, gives-done)

@@ -3,7 +3,7 @@
 use mathlib.Core.Path.{_≡_, sym, _∙_}
 use mathlib.Core.Bool.{Bool, true, false}
 use mathlib.Core.List.{List}
-use Prim.Native.Nat.{ℕ, suc, _+_, _*_, _-_, _≤_, _<_, min}
+use Prim.Native.Nat.{ℕ, suc, _+_, _-_, _≤_, _<_, min}
 use native.Mathlib.Omega.{arith}
 use native.Mathlib.Numerals.{add-one}
 use lib.ListN.{length, getD, drop, drop-of-length-le}
@@ -19,15 +19,16 @@ use Rattle.state.specs.laws.Edges.{edges-sum}
 use Rattle.shown.specs.Front.{SameKinds}
 use Rattle.shown.specs.laws.FrontKept.{stands-kept, kinds-same, kinds-stored, kinds-then}
 use Rattle.loops.specs.Exits.{exit-added, exits-from, exits-added, ExitsLeft}
+use Rattle.state.specs.Rows.{bundle-count, bundle-count-at, bundle-target, largest}
 
 -- ---- The functions, path by path.
-module _ (g : Graph) (r p : ℕ) (l : List ℕ) {t : ℕ} {b : Bool} (of-target : t ≡ word l bundles (7 * p + 0))
+module _ (g : Graph) (r p : ℕ) (l : List ℕ) {t : ℕ} {b : Bool} (of-target : t ≡ bundle-target l p)
     (told : b ≡ is-in t (exit-targets g r)) where
-  tells : is-in (word l bundles (7 * p + 0)) (exit-targets g r) ≡ b
+  tells : is-in (bundle-target l p) (exit-targets g r) ≡ b
   tells = rw (← of-target) (sym told)
 
-  pub exit-counted : b ≡ true → {n m : ℕ} {l′ : List ℕ} → (n ≡ word l bundles (7 * p + 1)) × (n ≤ 65535) → m ≡ min (n + 1) 4294967295
-      → l′ ≡ stored l bundles (7 * p + 1) (edges-word m) → l′ ≡ exit-added g r p l
+  pub exit-counted : b ≡ true → {n m : ℕ} {l′ : List ℕ} → (n ≡ bundle-count l p) × (n ≤ largest) → m ≡ min (n + 1) 4294967295
+      → l′ ≡ stored l bundles (bundle-count-at p) (edges-word m) → l′ ≡ exit-added g r p l
   unfolding exit-added
   exit-counted e {n} a c q = q ∙ rw (tells, e, c, edges-sum n 1 (a .1) (omega arith), a .0)
 
@@ -51,10 +52,10 @@ module _ (t : ℕ) (xs : List ℕ) {n k : ℕ} (count : n ≡ length xs) {whole 
 -- ---- The turns over a set: the record stands on, and what is left makes the whole.
 pub exit-front : (g : Graph) (r p : ℕ) (l : List ℕ) → SameKinds l (exit-added g r p l)
 unfolding exit-added
-exit-front g r p l = go (is-in (word l bundles (7 * p + 0)) (exit-targets g r))
+exit-front g r p l = go (is-in (bundle-target l p) (exit-targets g r))
   where
-    go : (b : Bool) → SameKinds l (pick b (stored l bundles (7 * p + 1) (edges-word (word l bundles (7 * p + 1) + 1))) l)
-    go true = kinds-stored l bundles (omega arith) (7 * p + 1) (edges-word (word l bundles (7 * p + 1) + 1))
+    go : (b : Bool) → SameKinds l (pick b (stored l bundles (bundle-count-at p) (edges-word (bundle-count l p + 1))) l)
+    go true = kinds-stored l bundles (omega arith) (bundle-count-at p) (edges-word (bundle-count l p + 1))
     go false = kinds-same l
 
 pub exits-start : (g : Graph) (r start n : ℕ) (l : List ℕ) → ExitsLeft g r start n 0 l l

@@ -2,7 +2,7 @@
 use mathlib.Core.Path.{_≡_, refl, sym, ap, _∙_, subst}
 use mathlib.Core.Bool.{Bool, true, false}
 use mathlib.Core.List.{List, map}
-use Prim.Native.Nat.{ℕ, zero, suc, _+_, _*_, _≤_, _<_}
+use Prim.Native.Nat.{ℕ, zero, suc, _+_, _≤_, _<_}
 use native.Mathlib.Omega.{arith}
 use native.Mathlib.Decide.{decLt}
 use native.Mathlib.Numerals.{add-one}
@@ -22,11 +22,13 @@ use Rattle.shown.specs.States.{Slots, ShowsOwnSet, HasSlot}
 use Rattle.shown.specs.laws.RegionsKept.{bundle-stays}
 use Rattle.shown.specs.laws.Finds.{bundle-in}
 use Rattle.shown.specs.laws.RegionSteps.{slots-stay, later-by, OnlyBundle, bundle-same}
-use Rattle.shown.specs.laws.RegionSteps.{bundle-word, bundle-concerns}
+use Rattle.shown.specs.laws.RegionSteps.{bundle-word-concerns, bundle-concerns}
 use Rattle.shown.specs.laws.RegionSteps.{Concerns, concerns-then}
 use Rattle.loops.specs.Exits.{exit-added, exits-from, exits-added}
+use Rattle.state.specs.Rows.{bundle-count, bundle-count-at, bundle-target, bundle-target-at, bundle-word, bundle-word-at, cases-at}
+use Rattle.state.specs.Rows.{largest, most-bundles, no-bundle-word, return-word}
 
-counted : (n : ℕ) → n < 65535 → edges-word (n + 1) ≡ suc n
+counted : (n : ℕ) → n < largest → edges-word (n + 1) ≡ suc n
 counted n h = edges-fit (n + 1) (omega arith) ∙ add-one n
 
 return-counts : (xs : List ℕ) (e : DeferredEdgeBundle) → e .target ≡ to-return → add-exit-edge xs e ≡ e
@@ -34,10 +36,10 @@ return-counts xs e is = rw is
 
 only-exit : (g : Graph) (r p : ℕ) (l : List ℕ) → OnlyBundle p l (exit-added g r p l)
 unfolding exit-added
-only-exit g r p l = go (is-in (word l bundles (7 * p + 0)) (exit-targets g r))
+only-exit g r p l = go (is-in (bundle-target l p) (exit-targets g r))
   where
-    go : (b : Bool) → OnlyBundle p l (pick b (stored l bundles (7 * p + 1) (edges-word (word l bundles (7 * p + 1) + 1))) l)
-    go true = bundle-word l p 1 (edges-word (word l bundles (7 * p + 1) + 1)) (omega arith)
+    go : (b : Bool) → OnlyBundle p l (pick b (stored l bundles (bundle-count-at p) (edges-word (bundle-count l p + 1))) l)
+    go true = bundle-word-concerns l p 1 (edges-word (bundle-count l p + 1)) (omega arith)
     go false = bundle-same l p
 
 -- ---- One bundle.
@@ -46,59 +48,59 @@ module _ (g : Graph) (r : ℕ) (not-return : is-in 65535 (exit-targets g r) ≡ 
   counts-exit = add-exit-edge (exit-targets g r)
 
   -- Its target stays.
-  pub same-target-word : (p q : ℕ) (l : List ℕ) → word (exit-added g r p l) bundles (7 * q + 0) ≡ word l bundles (7 * q + 0)
+  pub same-target-word : (p q : ℕ) (l : List ℕ) → bundle-target (exit-added g r p l) q ≡ bundle-target l q
   unfolding exit-added
-  same-target-word p q l = go (is-in (word l bundles (7 * p + 0)) (exit-targets g r))
+  same-target-word p q l = go (is-in (bundle-target l p) (exit-targets g r))
     where
       go : (b : Bool)
-          → word (pick b (stored l bundles (7 * p + 1) (edges-word (word l bundles (7 * p + 1) + 1))) l) bundles (7 * q + 0)
-          ≡ word l bundles (7 * q + 0)
-      go true = word-apart l bundles (7 * p + 1) (edges-word (word l bundles (7 * p + 1) + 1)) bundles (7 * q + 0) (omega arith)
+          → bundle-target (pick b (stored l bundles (bundle-count-at p) (edges-word (bundle-count l p + 1))) l) q
+          ≡ bundle-target l q
+      go true = word-apart l bundles (bundle-count-at p) (edges-word (bundle-count l p + 1)) bundles (bundle-target-at q) (omega arith)
       go false = refl
 
-  module _ (p : ℕ) (l : List ℕ) (fits : used ≤ length l) (low : p < 1097) where
+  module _ (p : ℕ) (l : List ℕ) (fits : used ≤ length l) (low : p < most-bundles) where
     abbrev l′ : List ℕ
     l′ = exit-added g r p l
 
-    other-word : (i : ℕ) → (i ≡ 1 → ⊥) → word l′ bundles (7 * p + i) ≡ word l bundles (7 * p + i)
+    other-word : (i : ℕ) → (i ≡ 1 → ⊥) → bundle-word l′ p i ≡ bundle-word l p i
     unfolding exit-added
-    other-word i d = go (is-in (word l bundles (7 * p + 0)) (exit-targets g r))
+    other-word i d = go (is-in (bundle-target l p) (exit-targets g r))
       where
         go : (b : Bool)
-            → word (pick b (stored l bundles (7 * p + 1) (edges-word (word l bundles (7 * p + 1) + 1))) l) bundles (7 * p + i)
-            ≡ word l bundles (7 * p + i)
-        go true = word-apart l bundles (7 * p + 1) (edges-word (word l bundles (7 * p + 1) + 1)) bundles (7 * p + i) (omega arith)
+            → bundle-word (pick b (stored l bundles (bundle-count-at p) (edges-word (bundle-count l p + 1))) l) p i
+            ≡ bundle-word l p i
+        go true = word-apart l bundles (bundle-count-at p) (edges-word (bundle-count l p + 1)) bundles (bundle-word-at p i) (omega arith)
         go false = refl
 
-    count-word : (t c : ℕ) → word l bundles (7 * p + 0) ≡ t → word l bundles (7 * p + 1) ≡ c → c < 65535
-        → word l′ bundles (7 * p + 1) ≡ pick (is-in t (exit-targets g r)) (suc c) c
+    count-word : (t c : ℕ) → bundle-target l p ≡ t → bundle-count l p ≡ c → c < largest
+        → bundle-count l′ p ≡ pick (is-in t (exit-targets g r)) (suc c) c
     unfolding exit-added
     count-word t c e f h = rw e (go (is-in t (exit-targets g r)))
       where
         go : (b : Bool)
-            → word (pick b (stored l bundles (7 * p + 1) (edges-word (word l bundles (7 * p + 1) + 1))) l) bundles (7 * p + 1)
+            → bundle-count (pick b (stored l bundles (bundle-count-at p) (edges-word (bundle-count l p + 1))) l) p
             ≡ pick b (suc c) c
-        go true = word-there l bundles (7 * p + 1) (edges-word (word l bundles (7 * p + 1) + 1)) (omega arith) (omega arith)
+        go true = word-there l bundles (bundle-count-at p) (edges-word (bundle-count l p + 1)) (omega arith) (omega arith)
             ∙ ap (λ z. edges-word (z + 1)) f ∙ counted c h
         go false = f
 
-    nothing-added : word l bundles (7 * p + 0) ≡ 65535 → l′ ≡ l
+    nothing-added : bundle-target l p ≡ no-bundle-word → l′ ≡ l
     unfolding exit-added
     nothing-added e = rw (e, not-return)
 
     region-word-is : {x t : ℕ} → ShowsTarget g x (to-region t) → x ≡ t
     region-word-is (shows-region e h) = e
 
-    return-word-is : {x : ℕ} → ShowsTarget g x to-return → x ≡ 65535
+    return-word-is : {x : ℕ} → ShowsTarget g x to-return → x ≡ return-word
     return-word-is (shows-return e) = e
 
-    module _ {e : DeferredEdgeBundle} (x : ShowsBundle g l p e) (low-count : e .accumulated-count < 65535) where
+    module _ {e : DeferredEdgeBundle} (x : ShowsBundle g l p e) (low-count : e .accumulated-count < largest) where
       to-region-so : (t : ℕ) → e .target ≡ to-region t → ShowsBundle g l′ p (counts-exit e)
       unfolding exit-targets
       to-region-so t is =
           let four = x .few in
           let later = later-by (only-exit g r p l .changes) (omega arith) g in
-          let at : ShowsTarget g (word l bundles (7 * p + 0)) (to-region t) = rw is at (x .target) in
+          let at : ShowsTarget g (bundle-target l p) (to-region t) = rw is at (x .target) in
           rw is
           (record {
             target = rw (other-word 0 (omega arith)) at;
@@ -111,7 +113,7 @@ module _ (g : Graph) (r : ℕ) (not-return : is-in 65535 (exit-targets g r) ≡ 
 
       to-return-so : e .target ≡ to-return → ShowsBundle g l′ p (counts-exit e)
       to-return-so is =
-          let at : ShowsTarget g (word l bundles (7 * p + 0)) to-return = rw is at (x .target) in
+          let at : ShowsTarget g (bundle-target l p) to-return = rw is at (x .target) in
           subst (λ z. ShowsBundle g l′ p z) (sym (return-counts (exit-targets g r) e is)) (rw (nothing-added (return-word-is at)) x)
 
       exit-bundle : ShowsBundle g l′ p (counts-exit e)
@@ -125,19 +127,19 @@ module _ (g : Graph) (r : ℕ) (not-return : is-in 65535 (exit-targets g r) ≡ 
 module _ (g : Graph) (r : ℕ) (not-return : is-in 65535 (exit-targets g r) ≡ false) (l₀ : List ℕ) (start n : ℕ) (d : DeferredEdgeBundleSet)
     (fits : used ≤ length l₀) (slots : Slots (length (g .regions)) l₀) (below : HasSlot (length (g .regions)) r)
     (own : start ≡ word l₀ set-starts r) (shown : ShowsSet g l₀ start n d)
-    (low : (i : ℕ) → i < n → getD d i no-bundle .accumulated-count < 65535) where
+    (low : (i : ℕ) → i < n → getD d i no-bundle .accumulated-count < largest) where
   record CountedTo (i : ℕ) (l : List ℕ) : Type 0 where
     concerns : Concerns g r l₀ l
-    changes : ChangesOnly bundles 7 l₀ l
+    changes : ChangesOnly bundles cases-at l₀ l
     passed : (j : ℕ) → j < i → ShowsBundle g l (start + j) (counts-exit g r not-return (getD d j no-bundle))
     left : (j : ℕ) → i ≤ j → j < n → ShowsBundle g l (start + j) (getD d j no-bundle)
-    targets : (j : ℕ) → word l bundles (7 * (start + j) + 0) ≡ word l₀ bundles (7 * (start + j) + 0)
+    targets : (j : ℕ) → bundle-target l (start + j) ≡ bundle-target l₀ (start + j)
 
   none-counted : CountedTo 0 l₀
   none-counted =
       record {
         concerns = bundle-concerns (bundle-same l₀ start) g r 0 slots below (omega arith) (own ∙ omega arith);
-        changes = nothing-changes bundles 7 l₀;
+        changes = nothing-changes bundles cases-at l₀;
         passed = λ j h. absurd (omega arith);
         left = λ j a b. shown .each j b;
         targets = λ j. refl;
@@ -191,12 +193,12 @@ module _ (g : Graph) (r : ℕ) (not-return : is-in 65535 (exit-targets g r) ≡ 
 -- Loop r's own set, after the code's last step.
 pub record ExitsCounted (g : Graph) (r : ℕ) (l l′ : List ℕ) (d : DeferredEdgeBundleSet) : Type 0 where
   pub concerns : Concerns g r l l′
-  pub changes : ChangesOnly bundles 7 l l′
+  pub changes : ChangesOnly bundles cases-at l l′
   pub set : ShowsOwnSet g l′ r (map (add-exit-edge (exit-targets g r)) d)
 
 pub exits-shown : (g : Graph) (r : ℕ) (l : List ℕ) (d : DeferredEdgeBundleSet) → is-in 65535 (exit-targets g r) ≡ false → used ≤ length l
     → Slots (length (g .regions)) l → HasSlot (length (g .regions)) r → ShowsOwnSet g l r d
-    → ((i : ℕ) → i < length d → getD d i no-bundle .accumulated-count < 65535)
+    → ((i : ℕ) → i < length d → getD d i no-bundle .accumulated-count < largest)
     → ExitsCounted g r l (exits-added g r l) d
 exits-shown g r l d not-return fits slots below shown low =
     let s = shown .size in

@@ -2,7 +2,7 @@
 use mathlib.Core.Path.{_≡_, refl, sym, ap, _∙_, subst}
 use mathlib.Core.Bool.{true, false}
 use mathlib.Core.List.{List, [], _∷_, _++_}
-use Prim.Native.Nat.{ℕ, suc, _+_, _*_, _≤_, _<_}
+use Prim.Native.Nat.{ℕ, suc, _+_, _≤_, _<_}
 use native.Mathlib.Omega.{arith}
 use native.Mathlib.Numerals.{add-one}
 use native.Mathlib.Decide.{decLt}
@@ -14,7 +14,7 @@ use Rattle.meaning.specs.Graph.{Value, Graph, region, undef, input, same-value}
 use Rattle.nesting.specs.Nesting.{InputRewrite, renumber-to, replace-by, LoopInputs, no-inputs, keep-input, lift-input, take-input}
 use Rattle.nesting.specs.Nesting.{take-inputs}
 use Rattle.nesting.specs.Nesting.{most-regions}
-use Rattle.state.specs.Sections.{used, size, word, head, rewrites, most-cells}
+use Rattle.state.specs.Sections.{used, size, word, head}
 use Rattle.state.specs.Values.{region-word}
 use Rattle.shown.specs.Values.{value}
 use Rattle.shown.specs.laws.ValueWords.{equal-values, value-input, value-held}
@@ -26,17 +26,19 @@ use Rattle.shown.specs.laws.CellSteps.{ShowsKeptList, kept-added, cell-aside, c
 use Rattle.lookups.specs.laws.Shown.{held-below}
 use Rattle.loops.specs.declared.inputs.Taken.{Taken}
 use Rattle.loops.specs.Inputs.{KeepsInput, TakesInput, lifted, kept, beyond, TakesFrom, none-taken, one-taken}
+use Rattle.state.specs.Values.{held-from, input-from, input-word-at, names-nothing}
+use Rattle.state.specs.Rows.{cells-at, most-cells}
 
 -- ---- The words of a region's inputs.
 module _ (r k : ℕ) (h : r < most-regions) (j : k < 4) where
-  word-is : (base : ℕ) → region-word base r k ≡ base + 4 * r + k
+  word-is : (base : ℕ) → region-word base r k ≡ input-word-at base r k
   unfolding region-word
   word-is base = rw (lt-ltb r most-regions h, lt-ltb k 4 j)
 
   -- The code's test whether an input is passed back unchanged.
-  unchanged-test : (x : ℕ) → same-value (value x) (input r k) ≡ eqb x (region-word 1024 r k)
+  unchanged-test : (x : ℕ) → same-value (value x) (input r k) ≡ eqb x (region-word input-from r k)
   unchanged-test x = ap (λ v. same-value (value x) v) (sym (value-input r k h j))
-      ∙ equal-values x (region-word 1024 r k) (rw (word-is 1024) (omega arith))
+      ∙ equal-values x (region-word input-from r k) (rw (word-is input-from) (omega arith))
 
 -- ---- The definition's fold, with a value more.
 taken-more : (g : Graph) (r wrapper k : ℕ) (vs : List Value) (v : Value) (x : LoopInputs)
@@ -56,17 +58,17 @@ pub record InputsTaken (g : Graph) (r wrapper k : ℕ) (l vs l₁ ws : List ℕ)
   pub few : x .count ≤ k
   pub size : length (inputs .rewrites) ≡ length (take k vals)
   pub entries : (j : ℕ) → j < k → ShowsInput r (getD ws j 0) (getD (inputs .rewrites) j (renumber-to j))
-  pub named : (j : ℕ) → j < k → getD ws j 0 < 4096
+  pub named : (j : ℕ) → j < k → getD ws j 0 < names-nothing
   pub left : (j : ℕ) → k ≤ j → getD ws j 0 ≡ getD vs j 0
   pub len : length ws ≡ length vs
   pub aside : Aside g l l₁
   pub tables : SameTables l l₁
-  pub total-from : word l head 4 ≤ word l₁ head 4
-  pub total-to : word l₁ head 4 ≤ word l head 4 + k
+  pub total-from : word l head cells-at ≤ word l₁ head cells-at
+  pub total-to : word l₁ head cells-at ≤ word l head cells-at + k
 
 module _ (g : Graph) (r wrapper n : ℕ) (l vs : List ℕ) (vals : List Value) (size : n ≡ length vals) (four : length vs ≡ 4) (few : n ≤ 4)
     (is : (j : ℕ) → j < n → value (getD vs j 0) ≡ getD vals j (undef 0)) (header : r < most-regions) (wraps : wrapper < most-regions)
-    (free : word l head 4 + 4 ≤ most-cells) (room : used ≤ length l) (one : 1 ≤ word l head 4) where
+    (free : word l head cells-at + 4 ≤ most-cells) (room : used ≤ length l) (one : 1 ≤ word l head cells-at) where
   abbrev So : ℕ → List ℕ → List ℕ → Taken → Type 0
   So k l₁ ws x = InputsTaken g r wrapper k l vs l₁ ws x vals
 
@@ -91,7 +93,7 @@ module _ (g : Graph) (r wrapper n : ℕ) (l vs : List ℕ) (vals : List Value) (
 
   module _ {k : ℕ} {l₁ ws : List ℕ} {x : Taken} (so : So k l₁ ws x) (place : k < 4) (entry : ℕ) where
     -- An entry more: those before it, and it.
-    named-more : {ws′ : List ℕ} → ws′ ≡ set ws k entry → entry < 4096 → (j : ℕ) → j < k + 1 → getD ws′ j 0 < 4096
+    named-more : {ws′ : List ℕ} → ws′ ≡ set ws k entry → entry < names-nothing → (j : ℕ) → j < k + 1 → getD ws′ j 0 < names-nothing
     named-more e h j b =
         let z = so .len in
         elim (decLt j k) [
@@ -130,8 +132,8 @@ module _ (g : Graph) (r wrapper n : ℕ) (l vs : List ℕ) (vals : List Value) (
         rw (e, taken-more g r wrapper 0 (take k vals) (getD vals k (undef 0)) no-inputs, m, so .are)
 
     -- Passed back unchanged.
-    lifted-so : {y : Taken} {ws′ : List ℕ} → k < n → getD ws k 0 ≡ region-word 1024 r k → y .count ≡ x .count → y .cells ≡ x .cells
-        → entry ≡ region-word 1024 wrapper k → ws′ ≡ set ws k entry → So (k + 1) l₁ ws′ y
+    lifted-so : {y : Taken} {ws′ : List ℕ} → k < n → getD ws k 0 ≡ region-word input-from r k → y .count ≡ x .count → y .cells ≡ x .cells
+        → entry ≡ region-word input-from wrapper k → ws′ ≡ set ws k entry → So (k + 1) l₁ ws′ y
     lifted-so {y} h e c d f w =
         let v = getD vals k (undef 0) in
         let t = length-take-le k vals (omega arith) in
@@ -143,10 +145,10 @@ module _ (g : Graph) (r wrapper n : ℕ) (l vs : List ℕ) (vals : List Value) (
         let end : k ≡ length old = omega arith in
         let test : same-value v (input r k) ≡ true =
         ap (λ z. same-value z (input r k)) (sym (here h)) ∙ unchanged-test r k header place (getD ws k 0)
-        ∙ eq-eqb (getD ws k 0) (region-word 1024 r k) e in
+        ∙ eq-eqb (getD ws k 0) (region-word input-from r k) e in
         let few = so .few in
         let to = so .total-to in
-        let is = f ∙ word-is wrapper k wraps place 1024 in
+        let is = f ∙ word-is wrapper k wraps place input-from in
         record {
           inputs = lift-input (input wrapper k) (so .inputs);
           are = sym (fold-more h ∙ rw test);
@@ -169,7 +171,7 @@ module _ (g : Graph) (r wrapper n : ℕ) (l vs : List ℕ) (vals : List Value) (
         }
 
     -- Beyond the header's inputs the words have what the definition takes there.
-    beyond-so : {y : Taken} {ws′ : List ℕ} → n ≤ k → y .count ≡ x .count → y .cells ≡ x .cells → entry ≡ region-word 1536 r k
+    beyond-so : {y : Taken} {ws′ : List ℕ} → n ≤ k → y .count ≡ x .count → y .cells ≡ x .cells → entry ≡ region-word held-from r k
         → ws′ ≡ set ws k entry → So (k + 1) l₁ ws′ y
     beyond-so {y} h c d f w =
         let same : take (k + 1) vals ≡ take k vals = take-all (k + 1) vals (omega arith) ∙ sym (take-all k vals (omega arith)) in
@@ -177,7 +179,7 @@ module _ (g : Graph) (r wrapper n : ℕ) (l vs : List ℕ) (vals : List Value) (
         let s = so .size in
         let few = so .few in
         let to = so .total-to in
-        let is = f ∙ word-is r k header place 1536 in
+        let is = f ∙ word-is r k header place held-from in
         record {
           inputs = so .inputs;
           are = rw same (so .are);
@@ -198,7 +200,7 @@ module _ (g : Graph) (r wrapper n : ℕ) (l vs : List ℕ) (vals : List Value) (
         }
 
     -- Kept, and renumbered.
-    kept-so : {l′ ws′ : List ℕ} {y : Taken} → k < n → (getD ws k 0 ≡ region-word 1024 r k → ⊥)
+    kept-so : {l′ ws′ : List ℕ} {y : Taken} → k < n → (getD ws k 0 ≡ region-word input-from r k → ⊥)
         → KeepsInput r wrapper k (getD ws k 0) x l₁ l′ y → entry ≡ y .entry → ws′ ≡ set ws k entry → So (k + 1) l′ ws′ y
     kept-so {l′} {ws′} {y} h d step f w =
         let v = getD vals k (undef 0) in
@@ -214,19 +216,19 @@ module _ (g : Graph) (r wrapper n : ℕ) (l vs : List ℕ) (vals : List Value) (
         let end : k ≡ length old = omega arith in
         let test : same-value v (input r k) ≡ false =
         ap (λ z. same-value z (input r k)) (sym (here h)) ∙ unchanged-test r k header place (getD ws k 0)
-        ∙ ne-eqb (getD ws k 0) (region-word 1024 r k) d in
+        ∙ ne-eqb (getD ws k 0) (region-word input-from r k) d in
         let few = so .few in
         let from = so .total-from in
         let to = so .total-to in
         let words = so .aside .later .front .words in
-        let free-cell : word l₁ head 4 < most-cells = omega arith in
+        let free-cell : word l₁ head cells-at < most-cells = omega arith in
         let fits : used ≤ length l₁ = omega arith in
         let inputs = keep-input (input wrapper k) (getD (region g r .inputs) k 0) v (so .inputs) in
         let total = cell-total (step .cell) free-cell fits in
         let handle = cell-handle (step .cell) free-cell fits in
-        let is : entry ≡ region-word 1536 r number = f ∙ step .entry ∙ ap (region-word 1536 r) c in
+        let is : entry ≡ region-word held-from r number = f ∙ step .entry ∙ ap (region-word held-from r) c in
         let small : number < 4 = omega arith in
-        let is-word = is ∙ word-is r number header small 1536 in
+        let is-word = is ∙ word-is r number header small held-from in
         let counted = step .count in
         record {
           inputs = inputs;

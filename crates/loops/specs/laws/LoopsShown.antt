@@ -14,7 +14,6 @@ use Rattle.nesting.specs.lookups.ChainEnds.{ChainsEnd}
 use Rattle.state.specs.declared.defined.Defined.{Defined}
 use Rattle.state.specs.Sections as sections
 use Rattle.state.specs.Sections.{Section, number, used, section, word, stored, head, rewrites, children, bundles, set-starts, set-lengths}
-use Rattle.state.specs.Sections.{most-cells}
 use Rattle.state.specs.laws.Apart.{section-other}
 use Rattle.state.specs.Tables.{Defines, defined, full, inserted}
 use Rattle.shown.specs.Values.{value}
@@ -39,6 +38,7 @@ use Rattle.loops.specs.Loops.{AddsLoop, adds-loop, LoopDefined, loop-def
 use Rattle.loops.specs.laws.RewritesShown.{Rewritten, rewritten-to}
 use Rattle.loops.specs.laws.InputsShown.{InputsTaken, taken-to}
 use Rattle.format.specs.Refusals.{too-many}
+use Rattle.state.specs.Rows.{cells-at, entry-renumber, most-cells}
 
 -- ---- The header's inputs looked up, taken and entered.
 abbrev pub entered-state : Graph → ℕ → ℕ → List Value → NestState → NestState
@@ -55,14 +55,14 @@ pub record InputsEntered (g : Graph) (r wrapper : ℕ) (l l′ : List ℕ) (h : 
   pub tables : ShowsTables l′ (entered-state g r wrapper values between)
   pub named : NamedRewrites l′
   pub aside : Aside g l l′
-  pub total-from : word l head 4 ≤ word l′ head 4
-  pub total-to : word l′ head 4 ≤ word l head 4 + 4
+  pub total-from : word l head cells-at ≤ word l′ head cells-at
+  pub total-to : word l′ head cells-at ≤ word l head cells-at + 4
 
 pub inputs-entered : (g : Graph) {r wrapper n h : ℕ} {l vs l′ : List ℕ} {vals : List Value} {s : NestState} → ShowsTables l s
     → NamedRewrites l → ((q : ℕ) → ChainsEnd (s .region-input-rewrites) q) → n ≡ length vals → n ≤ 4 → length vs ≡ 4
     → ((j : ℕ) → j < n → value (getD vs j 0) ≡ getD vals j (undef 0)) → r < most-regions → wrapper < most-regions
-    → word l head 4 + 4 ≤ most-cells
-    → 1 ≤ word l head 4 → EntersInputs r wrapper n l vs l′ h → InputsEntered g r wrapper l l′ h vals s
+    → word l head cells-at + 4 ≤ most-cells
+    → 1 ≤ word l head cells-at → EntersInputs r wrapper n l vs l′ h → InputsEntered g r wrapper l l′ h vals s
 inputs-entered g {r} {wrapper} {n} {h} {l} {vs} {l′} {vals} {s} t named all size few four is header wraps free one
     (enters {l₁} {l₂} {us} {ws} made taken e) =
     let x : Rewritten 4 l vs l₁ us vals s = rewritten-to {vals = vals} size all t (omega arith) is made in
@@ -71,7 +71,7 @@ inputs-entered g {r} {wrapper} {n} {h} {l} {vs} {l′} {vals} {s} t named all si
     let fits = t .size in
     let words = x .changes .words in
     let len = x .len in
-    let total = x .changes .totals 4 (omega arith) in
+    let total = x .changes .totals cells-at (omega arith) in
     let so : InputsTaken g r wrapper 4 l₁ us l₂ ws (taken .last) (x .values) = taken-to g r wrapper n l₁ us (x .values) (sym count)
     (omega arith) few (λ j b. x .each j (omega arith)) header wraps
     (omega arith) (omega arith) (omega arith) (omega arith) (taken .taken) in
@@ -82,8 +82,8 @@ inputs-entered g {r} {wrapper} {n} {h} {l} {vs} {l′} {vals} {s} t named all si
     let mid = so .aside .later .front .words in
     let wlen = so .len in
     let changes = insert-changes l₂ r 2 ws 7 in
-    let after = changes .totals 4 (omega arith) in
-    let kept : ShowsKeptList g (inserted l₂ r 2 ws) r h (so .inputs) =
+    let after = changes .totals cells-at (omega arith) in
+    let kept : ShowsKeptList g (inserted l₂ r entry-renumber ws) r h (so .inputs) =
     kept-list-by changes (omega arith) (omega arith) (subst (λ z. ShowsKeptList g l₂ r z (so .inputs)) (sym (taken .cells)) (so .kept)) in
     let known : NamedRewrites l₁ = named-by (x .changes .others rewrites (omega arith) (omega arith)) named in
     let aside = aside-then (aside-by (x .changes) (omega arith) (omega arith) (omega arith) (omega arith) g)
@@ -93,15 +93,15 @@ inputs-entered g {r} {wrapper} {n} {h} {l} {vs} {l′} {vals} {s} t named all si
       between = x .state;
       looked-up = subst (λ z. rewrite-values z s ≡ done (x .values) (x .state)) whole (x .step);
       kept = subst (λ z. ShowsKeptList g z r h (take-inputs g r wrapper 0 (x .values) no-inputs)) (sym e)
-          (subst (λ z. ShowsKeptList g (inserted l₂ r 2 ws) r h z) are kept);
+          (subst (λ z. ShowsKeptList g (inserted l₂ r entry-renumber ws) r h z) are kept);
       tables = rewrites-inserted (tables-stay (so .tables) (x .tables)) header (omega arith)
           (renumber-words refl
           (λ k b. subst (λ z. ShowsInput r (getD ws k 0) (getD (z .rewrites) k (renumber-to k))) are (so .entries k b))) e;
       named = subst (λ z. NamedRewrites z) (sym e)
-          (named-inserted l₂ r 2 ws (omega arith) header (omega arith) (so .named) (named-stay (so .tables) known));
+          (named-inserted l₂ r entry-renumber ws (omega arith) header (omega arith) (so .named) (named-stay (so .tables) known));
       aside = subst (λ z. Aside g l z) (sym e) aside;
-      total-from = subst (λ z. word l head 4 ≤ word z head 4) (sym e) (omega arith);
-      total-to = subst (λ z. word z head 4 ≤ word l head 4 + 4) (sym e) (omega arith);
+      total-from = subst (λ z. word l head cells-at ≤ word z head cells-at) (sym e) (omega arith);
+      total-to = subst (λ z. word z head cells-at ≤ word l head cells-at + 4) (sym e) (omega arith);
     }
 
 -- ---- The repeat value, the node, and the loop's cell in the place of region r's children.
@@ -126,8 +126,8 @@ pub record LoopWithin (g : Graph) (r : ℕ) (l l′ : List ℕ) : Type 0 where
   pub within : OnlyRegion g r l l′
   pub own-set : {d : DeferredEdgeBundleSet} → ShowsOwnSet g l r d → ShowsOwnSet g l′ r d
   pub named : NamedRewrites l → NamedRewrites l′
-  pub total-from : word l head 4 ≤ word l′ head 4
-  pub total-to : word l′ head 4 ≤ suc (word l head 4)
+  pub total-from : word l head cells-at ≤ word l′ head cells-at
+  pub total-to : word l′ head cells-at ≤ suc (word l head cells-at)
 
 -- What the code answers, and the definition, for whatever is given with the value and the node.
 pub data ShowsLoopMade {A : Type 0} (F : Value → ℕ → A) (g : Graph) (r : ℕ) (l : List ℕ) (y : LoopInputs) (ks : Nodes)
@@ -140,7 +140,7 @@ abbrev pub loop-step : {A : Type 0} → LazyCond → (Value → ℕ → A) → S
 loop-step t F = materialize-lazy-cond t >>= λ v. define-node >>= λ n. give (F v n)
 
 aside-within : {g : Graph} (r : ℕ) {l l′ : List ℕ} → Aside g l l′ → section l′ rewrites ≡ section l rewrites
-    → word l′ head 4 ≡ word l head 4 → LoopWithin g r l l′
+    → word l′ head cells-at ≡ word l head cells-at → LoopWithin g r l l′
 aside-within r a e f =
     record {
       within = only-region-aside r a;
@@ -150,7 +150,8 @@ aside-within r a e f =
       total-to = omega arith;
     }
 
-loop-within-then : {g : Graph} {r : ℕ} {l l₁ l₂ : List ℕ} → LoopWithin g r l l₁ → word l₁ head 4 ≡ word l head 4 → LoopWithin g r l₁ l₂
+loop-within-then : {g : Graph} {r : ℕ} {l l₁ l₂ : List ℕ} → LoopWithin g r l l₁ → word l₁ head cells-at ≡ word l head cells-at
+    → LoopWithin g r l₁ l₂
     → LoopWithin g r l l₂
 loop-within-then a e b =
     let z = b .total-to in
@@ -163,7 +164,7 @@ loop-within-then a e b =
       total-to = omega arith;
     }
 
-module _ {g : Graph} {r n x kept : ℕ} {l l′ : List ℕ} {y : LoopInputs} {ks : Nodes} {v : Value} (free : word l head 4 < most-cells)
+module _ {g : Graph} {r n x kept : ℕ} {l l′ : List ℕ} {y : LoopInputs} {ks : Nodes} {v : Value} (free : word l head cells-at < most-cells)
     (room : used ≤ length l) (low : r < 32) where
   loop-cell-added : AddsLoop r n x kept l l′ → ShowsChildren g l (word l children r) ks → value x ≡ v → ShowsKeptList g l r kept y
       → LoopWithin g r l l′ × SameTables l l′ × ShowsChildren g l′ (word l′ children r) (loop (loop-node g n r y v) ks ▸ ⟨⟩)
@@ -174,7 +175,7 @@ module _ {g : Graph} {r n x kept : ℕ} {l l′ : List ℕ} {y : LoopInputs} {ks
       let words = aside .later .front .words in
       let total = cell-total cell free room in
       let handle = cell-handle cell free room in
-      let same = c .same-head 4 in
+      let same = c .same-head cells-at in
       let made = loop-added free room y cell nodes is keeps in
       let looped : Nodes = loop (loop-node g n r y v) ks ▸ ⟨⟩ in
       subst (λ z. LoopWithin g r l z × SameTables l z × ShowsChildren g z (word z children r) looped) (sym e) (
@@ -191,18 +192,18 @@ module _ {g : Graph} {r n x kept : ℕ} {l l′ : List ℕ} {y : LoopInputs} {ks
 
 module _ {A : Type 0} (F : Value → ℕ → A) (g : Graph) {r c kept : ℕ} {l : List ℕ} {t : LazyCond} {y : LoopInputs} {ks : Nodes}
     {s : NestState} (tables : ShowsTables l s) (condition : ShowsCondition l c t) (nodes : ShowsChildren g l (word l children r) ks)
-    (keeps : ShowsKeptList g l r kept y) (free : word l head 4 < most-cells) (low : r < 32) where
+    (keeps : ShowsKeptList g l r kept y) (free : word l head cells-at < most-cells) (low : r < 32) where
   value-within : {a : Defined} {l₁ : List ℕ} → Materializes l c l₁ a → LoopWithin g r l l₁
   value-within m =
       let z = materialize-shown m condition tables .changes in
       aside-within r (aside-by z (omega arith) (omega arith) (omega arith) (omega arith) g) (z .others rewrites (omega arith) (omega arith))
-      (z .totals 4 (omega arith))
+      (z .totals cells-at (omega arith))
 
   node-within : {a : Defined} {l₁ l₂ : List ℕ} → Defines 1 most-nodes l₁ l₂ a → LoopWithin g r l₁ l₂
   node-within d =
       let z = defines-changes d in
       aside-within r (aside-by z (omega arith) (omega arith) (omega arith) (omega arith) g) (z .others rewrites (omega arith) (omega arith))
-      (z .totals 4 (omega arith))
+      (z .totals cells-at (omega arith))
 
   pub loop-made-shown : {l′ : List ℕ} {a : Made} → LoopDefined r c kept l l′ a
       → LoopWithin g r l l′ × ShowsLoopMade F g r l′ y ks a (loop-step t F s)
@@ -210,7 +211,7 @@ module _ {A : Type 0} (F : Value → ℕ → A) (g : Graph) {r c kept : ℕ} {l 
       (value-within m, rw (full-of (materialize-shown m condition tables .answer) refl) made-refused)
   loop-made-shown (no-node m d) =
       let x = done-of (materialize-shown m condition tables .answer) refl in
-      let total = materialize-shown m condition tables .changes .totals 4 (omega arith) in (
+      let total = materialize-shown m condition tables .changes .totals cells-at (omega arith) in (
         loop-within-then (value-within m) total (node-within d),
         rw (x .is, full-of (node-defined (x .tables) d) refl) made-refused,
       )
@@ -223,8 +224,8 @@ module _ {A : Type 0} (F : Value → ℕ → A) (g : Graph) {r c kept : ℕ} {l 
       let fits = tables .size in
       let words = first .words in
       let words₂ = second .words in
-      let total = first .totals 4 (omega arith) in
-      let total₂ = second .totals 4 (omega arith) in
+      let total = first .totals cells-at (omega arith) in
+      let total₂ = second .totals cells-at (omega arith) in
       let aside = aside-then (aside-by first (omega arith) (omega arith) (omega arith) (omega arith) g)
       (aside-by second (omega arith) (omega arith) (omega arith) (omega arith) g) in
       let there : ShowsChildren g l₂ (word l₂ children r) ks = children-stay (aside .later) (aside .regions r) nodes in

@@ -18,6 +18,7 @@ use Rattle.shown.specs.Tables.{ShowsTables}
 use Rattle.lookups.specs.LookUps.{Rewrites}
 use Rattle.lookups.specs.laws.Shown.{rewrite-shown, rewrite-changes, rewrite-none, rewrite-more}
 use Rattle.loops.specs.Inputs.{RewritesValue, looked-up, left-as-is, RewritesValues, none-yet, one-more}
+use Rattle.state.specs.Rows.{twice-at}
 
 -- The first k words of vs stand for the first values of vals, and were looked up: l₁ and us are the words then.
 pub record Rewritten (k : ℕ) (l vs l₁ us : List ℕ) (vals : List Value) (s : NestState) : Type 0 where
@@ -25,7 +26,7 @@ pub record Rewritten (k : ℕ) (l vs l₁ us : List ℕ) (vals : List Value) (s 
   pub tables : ShowsTables l₁ state
   pub same-log : state .region-input-rewrites ≡ s .region-input-rewrites
   pub same-states : state .region-states ≡ s .region-states
-  pub changes : ChangesOnly head 6 l l₁
+  pub changes : ChangesOnly head twice-at l l₁
   pub len : length us ≡ length vs
   pub values : List Value
   pub count : length values ≡ length (take k vals)
@@ -108,7 +109,7 @@ module _ {n : ℕ} {vals : List Value} {s : NestState} (size : n ≡ length vals
         tables = t;
         same-log = refl;
         same-states = refl;
-        changes = nothing-changes head 6 l;
+        changes = nothing-changes head twice-at l;
         len = refl;
         values = [];
         count = rw none refl;

@@ -3,7 +3,7 @@ use mathlib.Core.Path.{_≡_, refl, sym, ap, _∙_}
 use mathlib.Core.Bool.{Bool, true, false, _&&_}
 use mathlib.Core.List.{List, [], _∷_}
 use mathlib.Core.Option.{Option, none, some}
-use Prim.Native.Nat.{ℕ, zero, suc, _+_, _*_, _≤_, _<_}
+use Prim.Native.Nat.{ℕ, zero, suc, _+_, _≤_, _<_}
 use native.Mathlib.Omega.{arith}
 use native.Mathlib.Decide.{ℕ-discrete}
 use lib.ListN.{length, getD, set, replicate, length-set, length-replicate}
@@ -18,7 +18,7 @@ use Rattle.nesting.specs.Nesting as nesting
 use Rattle.nesting.specs.Nesting.{LazyCond, undef-cond, false-cond, true-cond, merge, DeferredTarget, DeferredEdgeBundle}
 use Rattle.nesting.specs.Nesting.{DeferredEdgeBundleSet, get-edge-bundle-by-target, MaybeClaimedRegion, ok, deferred-of}
 use Rattle.nesting.specs.Nesting.{passed-inputs}
-use Rattle.state.specs.Sections.{word, set-starts, cases, bundles}
+use Rattle.state.specs.Sections.{word, set-starts, cases}
 use Rattle.state.specs.Values.{is-input, input-region, input-index}
 use Rattle.state.specs.Tables.{input-word, case-total}
 use Rattle.shown.specs.Values.{value}
@@ -36,43 +36,46 @@ use Rattle.merging.specs.Planning.{unique-input, is-true, all-from, all-
 use Rattle.merging.specs.laws.Spare.{SpareOnly, spare-there, spare-later, spare-outside, case-stays}
 use Rattle.shown.specs.laws.Finds.{Finds, found as there-is, none-found, finds}
 use Rattle.nesting.specs.steps.TargetsAndCases.{same-target-is, per-cases}
+use Rattle.state.specs.Values.{held-from, input-from, names-nothing, output-from}
+use Rattle.state.specs.Rows.{bundle-condition, case-body, case-claimed, case-input, case-input-at, case-kind, case-set-length}
+use Rattle.state.specs.Rows.{case-set-length-at, case-set-start, case-word-at, no-bundle-word, spare-slot}
 
 -- A word for a value that can be passed, 65535 where none can.
 pub data ShowsPassed (a : ℕ) : Option Value → Type 0 where
   passes : {v : Value} → Names a v → ShowsPassed a (some v)
-  passes-none : a ≡ 65535 → ShowsPassed a none
+  passes-none : a ≡ no-bundle-word → ShowsPassed a none
 
 -- ---- A case's value in the select's parent.
 module _ (g : Graph) (l : List ℕ) (r j : ℕ) where
-  other-kind : (word l cases (10 * j + 0) ≡ 2 → ⊥) → {x : ℕ} {v : Value} → Names x v → ShowsPassed (in-parent l j x) (some v)
+  other-kind : (case-kind l j ≡ case-claimed → ⊥) → {x : ℕ} {v : Value} → Names x v → ShowsPassed (in-parent l j x) (some v)
   unfolding in-parent
-  other-kind d n = rw (ne-eqb (word l cases (10 * j + 0)) 2 d) (passes n)
+  other-kind d n = rw (ne-eqb (case-kind l j) case-claimed d) (passes n)
 
-  module _ (c : nesting.ClaimedRegion) (kind : word l cases (10 * j + 0) ≡ 2) (body : word l cases (10 * j + 2) ≡ c .structured-body)
-      (inputs : (k : ℕ) → k < 4 → Names (word l cases (10 * j + (6 + k))) (getD (c .structured-body-inputs) k (undef 0))) (x : ℕ) where
-    stays-const : x < 322 → {v : Value} → Names x v → ShowsPassed (in-parent l j x) (some v)
+  module _ (c : nesting.ClaimedRegion) (kind : case-kind l j ≡ case-claimed) (body : case-body l j ≡ c .structured-body)
+      (inputs : (k : ℕ) → k < 4 → Names (case-input l j k) (getD (c .structured-body-inputs) k (undef 0))) (x : ℕ) where
+    stays-const : x < output-from → {v : Value} → Names x v → ShowsPassed (in-parent l j x) (some v)
     unfolding in-parent
-    stays-const h n = rw (eq-eqb (word l cases (10 * j + 0)) 2 kind, lt-ltb x 322 h) (passes n)
+    stays-const h n = rw (eq-eqb (case-kind l j) case-claimed kind, lt-ltb x output-from h) (passes n)
 
-    passes-no : 322 ≤ x → is-input x ≡ false → ShowsPassed (in-parent l j x) none
+    passes-no : output-from ≤ x → is-input x ≡ false → ShowsPassed (in-parent l j x) none
     unfolding in-parent
-    passes-no h e = rw (eq-eqb (word l cases (10 * j + 0)) 2 kind, le-ltb x 322 h, e) (passes-none refl)
+    passes-no h e = rw (eq-eqb (case-kind l j) case-claimed kind, le-ltb x output-from h, e) (passes-none refl)
 
-    passes-input : 1024 ≤ x → x < 1536
+    passes-input : input-from ≤ x → x < held-from
         → ShowsPassed (in-parent l j x)
         (pick (eqb (input-region x) (c .structured-body)) (some (getD (c .structured-body-inputs) (input-index x) (undef 0))) none)
     unfolding in-parent
     passes-input a b =
-        let h : 322 ≤ x = omega arith in
-        rw (eq-eqb (word l cases (10 * j + 0)) 2 kind, le-ltb x 322 h, input-in x a b, body)
+        let h : output-from ≤ x = omega arith in
+        rw (eq-eqb (case-kind l j) case-claimed kind, le-ltb x output-from h, input-in x a b, body)
         (go (eqb (input-region x) (c .structured-body)))
       where
-        go : (b : Bool) → ShowsPassed (pick b (word l cases (10 * j + (6 + input-index x))) 65535)
+        go : (b : Bool) → ShowsPassed (pick b (case-input l j (input-index x)) 65535)
             (pick b (some (getD (c .structured-body-inputs) (input-index x) (undef 0))) none)
         go true = passes (inputs (input-index x) (omega arith))
         go false = passes-none refl
 
-    by-range : {v : Value} → x < 4096 → Ranged x v → value x ≡ v → ShowsPassed (in-parent l j x) (nesting.in-parent (ok c) v)
+    by-range : {v : Value} → x < names-nothing → Ranged x v → value x ≡ v → ShowsPassed (in-parent l j x) (nesting.in-parent (ok c) v)
     by-range b (in-const a e) h = rw e (stays-const (omega arith) (record { is = h ∙ e; below = b }))
     by-range b (in-false a e) h = rw e (stays-const (omega arith) (record { is = h ∙ e; below = b }))
     by-range b (in-true a e) h = rw e (stays-const (omega arith) (record { is = h ∙ e; below = b }))
@@ -94,9 +97,9 @@ module _ (g : Graph) (l : List ℕ) (r j : ℕ) where
 -- ---- The bundle of a set to a target.
 -- Its place p, outside of the spare slot, which starts at bundle o.
 pub data ShowsPlace (g : Graph) (o : ℕ) (l : List ℕ) (p : ℕ) (x : DeferredTarget) (d : DeferredEdgeBundleSet) : Type 0 where
-  stands-at : {e : DeferredEdgeBundle} → (p ≡ 65535 → ⊥) → ((q : ℕ) → q < 33 → p ≡ o + q → ⊥) → ShowsBundle g l p e → e .target ≡ x
+  stands-at : {e : DeferredEdgeBundle} → (p ≡ no-bundle-word → ⊥) → ((q : ℕ) → q < 33 → p ≡ o + q → ⊥) → ShowsBundle g l p e → e .target ≡ x
       → get-edge-bundle-by-target x d ≡ some e → ShowsPlace g o l p x d
-  stands-nowhere : p ≡ 65535 → get-edge-bundle-by-target x d ≡ none → ShowsPlace g o l p x d
+  stands-nowhere : p ≡ no-bundle-word → get-edge-bundle-by-target x d ≡ none → ShowsPlace g o l p x d
 
 place-stays : {g : Graph} {o : ℕ} {l l′ : List ℕ} → SpareOnly o l l′ → {p : ℕ} {x : DeferredTarget} {d : DeferredEdgeBundleSet}
     → ShowsPlace g o l p x d → ShowsPlace g o l′ p x d
@@ -105,13 +108,13 @@ place-stays {g} sp {p} (stands-at {e} there apart shown is get) =
 place-stays sp (stands-nowhere gone get) = stands-nowhere gone get
 
 module _ (g : Graph) (valid : Valid g) (o : ℕ) (l : List ℕ) (t : ℕ) {x : DeferredTarget} (shown : ShowsTarget g t x) where
-  place-shown : (j : ℕ) {d : DeferredEdgeBundleSet} → ShowsSet g l (word l cases (10 * j + 4)) (word l cases (10 * j + 5)) d
-      → ((i q : ℕ) → i < word l cases (10 * j + 5) → q < 33 → word l cases (10 * j + 4) + i ≡ o + q → ⊥)
+  place-shown : (j : ℕ) {d : DeferredEdgeBundleSet} → ShowsSet g l (case-set-start l j) (case-set-length l j) d
+      → ((i q : ℕ) → i < case-set-length l j → q < 33 → case-set-start l j + i ≡ o + q → ⊥)
       → ShowsPlace g o l (place-of l t j) x d
   place-shown j {d} y apart = let few = valid .count .1 in
-      go (finds l (omega arith) (word l cases (10 * j + 4)) shown y)
+      go (finds l (omega arith) (case-set-start l j) shown y)
     where
-      go : Finds (word l cases (10 * j + 4)) x d (place-of l t j) → ShowsPlace g o l (place-of l t j) x d
+      go : Finds (case-set-start l j) x d (place-of l t j) → ShowsPlace g o l (place-of l t j) x d
       go (there-is i e h gets is before) =
           let size = y .size in
           let room = y .room in
@@ -121,18 +124,18 @@ module _ (g : Graph) (valid : Valid g) (o : ℕ) (l : List ℕ) (t : ℕ) {x : D
 
 -- ---- Under which condition a case goes there.
 pub condition-shown : (g : Graph) (o : ℕ) (l : List ℕ) (j p : ℕ) {x : DeferredTarget} (d : DeferredEdgeBundleSet)
-    → word l cases (10 * j + 5) ≡ length d → ShowsPlace g o l p x d
+    → case-set-length l j ≡ length d → ShowsPlace g o l p x d
     → ShowsCondition l (per-case-condition l j p) (nesting.per-case-deferred x d .condition)
 unfolding per-case-condition condition-in
 condition-shown g o l j p [] size y =
-    rw (eq-eqb (word l cases (10 * j + 5)) 0 size) (record { tree = shows-undef refl; made = omega arith })
+    rw (eq-eqb (case-set-length l j) 0 size) (record { tree = shows-undef refl; made = omega arith })
 condition-shown g o l j p (e ∷ d) size (stands-nowhere gone get) =
-    rw (ne-eqb (word l cases (10 * j + 5)) 0 (omega arith), eq-eqb p 65535 gone, get)
+    rw (ne-eqb (case-set-length l j) 0 (omega arith), eq-eqb p 65535 gone, get)
     (record { tree = shows-false refl; made = omega arith })
 condition-shown g o l j p (e ∷ d) size (stands-at {e = f} there apart shown is get) =
-    rw (ne-eqb (word l cases (10 * j + 5)) 0 (omega arith), ne-eqb p 65535 there, get, size) (go (eqb (length (e ∷ d)) 1))
+    rw (ne-eqb (case-set-length l j) 0 (omega arith), ne-eqb p 65535 there, get, size) (go (eqb (length (e ∷ d)) 1))
   where
-    go : (b : Bool) → ShowsCondition l (pick b 1 (word l bundles (7 * p + 2))) (pick b true-cond (f .condition))
+    go : (b : Bool) → ShowsCondition l (pick b 1 (bundle-condition l p)) (pick b true-cond (f .condition))
     go true = record { tree = shows-true refl; made = omega arith }
     go false = shown .condition
 
@@ -161,7 +164,7 @@ is-true-shown l c (shows-merge a b n k v ps) = rw (ne-eqb c 1 (omega arith), ne-
 module _ (g : Graph) (o : ℕ) (l : List ℕ) (r : ℕ) (x : DeferredTarget) (ps : List ℕ) where
   pub record CaseAt (j : ℕ) (c : MaybeClaimedRegion) : Type 0 where
     pub shown : ShowsCase g l r j c
-    pub size : word l cases (10 * j + 5) ≡ length (deferred-of c)
+    pub size : case-set-length l j ≡ length (deferred-of c)
     pub place : ShowsPlace g o l (getD ps j 0) x (deferred-of c)
 
   pub all-shown : (cs : List MaybeClaimedRegion) (j : ℕ) → ((k : ℕ) → k < length cs → CaseAt (j + k) (getD cs k no-case))
@@ -300,9 +303,9 @@ pub case-at-stays : {g : Graph} {o : ℕ} {l l′ : List ℕ} → SpareOnly o l 
 case-at-stays {g} sp {r} {j} y =
     let same = spare-there sp cases (omega arith) (omega arith) in
     record {
-      shown = case-stays (spare-later sp g) r j (spare-there sp set-starts (omega arith) (omega arith)) (λ i h. same (10 * j + i))
-          (λ k h. same (10 * j + (6 + k))) (y .shown);
-      size = same (10 * j + 5) ∙ y .size;
+      shown = case-stays (spare-later sp g) r j (spare-there sp set-starts (omega arith) (omega arith)) (λ i h. same (case-word-at j i))
+          (λ k h. same (case-input-at j k)) (y .shown);
+      size = same (case-set-length-at j) ∙ y .size;
       place = place-stays sp (y .place);
     }
 
@@ -337,7 +340,7 @@ module _ (l : List ℕ) (t : ℕ) where
 pub cases-at : (g : Graph) → Valid g → (l : List ℕ) (r : ℕ) {cs : List MaybeClaimedRegion} → ShowsCases g l r cs → (t : ℕ)
     {x : DeferredTarget}
     → ShowsTarget g t x → (j : ℕ) → j < length cs
-    → CaseAt g (word l set-starts 32) l r x (per-case-deferred l t) j (getD cs j no-case)
+    → CaseAt g (word l set-starts spare-slot) l r x (per-case-deferred l t) j (getD cs j no-case)
 cases-at g valid l r y t shown j h =
     let few = y .few in
     let size = y .size in
@@ -345,5 +348,5 @@ cases-at g valid l r y t shown j h =
       shown = y .each j h;
       size = y .sets j h .size;
       place = rw (place-is l t j (omega arith) (omega arith))
-          (place-shown g valid (word l set-starts 32) l t shown j (y .sets j h) (λ i q a b. y .not-spare j i q h a b));
+          (place-shown g valid (word l set-starts spare-slot) l t shown j (y .sets j h) (λ i q a b. y .not-spare j i q h a b));
     }

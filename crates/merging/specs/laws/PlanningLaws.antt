@@ -3,7 +3,7 @@
 use mathlib.Core.Path.{_≡_, _∙_}
 use mathlib.Core.Bool.{Bool, true, false}
 use mathlib.Core.List.{List}
-use Prim.Native.Nat.{ℕ, suc, _+_, _*_, _-_, _≤_, _<_}
+use Prim.Native.Nat.{ℕ, suc, _+_, _-_, _≤_, _<_}
 use native.Mathlib.Omega.{arith}
 use native.Mathlib.Decide.{decLt}
 use native.Mathlib.Numerals.{add-one}
@@ -13,7 +13,7 @@ use borrow.Author.Tests.{lt-ltb, le-ltb, eq-eqb, ne-eqb}
 use Rattle.meaning.specs.Lists.{pick}
 use Rattle.meaning.specs.Graph.{Graph}
 use Rattle.record.specs.Stands.{OfRecord}
-use Rattle.state.specs.Sections.{word, stored, head, set-starts, set-lengths, cases, bundles}
+use Rattle.state.specs.Sections.{word, stored, head, set-starts, set-lengths, bundles}
 use Rattle.state.specs.Values.{is-input, input-region, input-index}
 use Rattle.state.specs.Tables.{input-word, input-stored, bundle-at, case-total}
 use Rattle.shown.specs.Front.{SameKinds}
@@ -23,13 +23,16 @@ use Rattle.bundles.specs.Words.{input-count, condition-in}
 use Rattle.merging.specs.Planning.{place-of, per-case-deferred, per-case-condition, in-parent, with-passed, unique-from, unique-input}
 use Rattle.merging.specs.Planning.{is-true, all-from, all-true, Planned, planned, plan-input, also, plan-inputs, plan-bundle, plan-at}
 use Rattle.merging.specs.Planning.{plan-bundles}
+use Rattle.state.specs.Values.{output-from}
+use Rattle.state.specs.Rows.{bundle-condition-at, bundle-target, case-body, case-input, case-kind, case-set-length, cases-at}
+use Rattle.state.specs.Rows.{no-bundle-word, spare-slot}
 
 -- ---- The record stands in front of all that is stored.
 front-inputs : (g : Graph) (l : List ℕ) (q : ℕ) (ps : List ℕ) → SameKinds l (plan-inputs g l q ps .words)
 unfolding plan-inputs plan-input
 front-inputs g l q ps =
     front-turned (λ x. x .words) (also (λ m k. plan-input m q ps k))
-    (λ x k. kinds-input-stored (x .words) q k (unique-input (x .words) ps k)) (input-count g l (word l bundles (7 * q + 0)))
+    (λ x k. kinds-input-stored (x .words) q k (unique-input (x .words) ps k)) (input-count g l (bundle-target l q))
     (planned l false) 0
 
 front-bundle : (g : Graph) (l : List ℕ) (q : ℕ) → SameKinds l (plan-bundle g l q .words)
@@ -37,14 +40,14 @@ unfolding plan-bundle
 front-bundle g l q = go (all-true (x .words) ps)
   where
     ps : List ℕ
-    ps = per-case-deferred l (word l bundles (7 * q + 0))
+    ps = per-case-deferred l (bundle-target l q)
 
     x : Planned
     x = plan-inputs g l q ps
 
-    go : (b : Bool) → SameKinds l (pick b x (planned (stored (x .words) bundles (7 * q + 2) 0) true) .words)
+    go : (b : Bool) → SameKinds l (pick b x (planned (stored (x .words) bundles (bundle-condition-at q) 0) true) .words)
     go true = front-inputs g l q ps
-    go false = kinds-then (front-inputs g l q ps) (kinds-stored (x .words) bundles (omega arith) (7 * q + 2) 0)
+    go false = kinds-then (front-inputs g l q ps) (kinds-stored (x .words) bundles (omega arith) (bundle-condition-at q) 0)
 
 pub front-plan : (start : ℕ) (g : Graph) (x : Planned) (i : ℕ) → SameKinds (x .words) (plan-at start g x i .words)
 front-plan start g x i = front-bundle g (x .words) (bundle-at start i)
@@ -52,9 +55,9 @@ front-plan start g x i = front-bundle g (x .words) (bundle-at start i)
 -- ---- The functions, path by path.
 few-cases : (l : List ℕ) → case-total l ≤ 8
 unfolding case-total
-few-cases l = elim (decLt (word l head 7) 8) [
-  | yes h ↦ rw (lt-ltb (word l head 7) 8 h) (omega arith)
-  | no h ↦ rw (le-ltb (word l head 7) 8 (omega arith)) (omega arith)
+few-cases l = elim (decLt (word l head cases-at) 8) [
+  | yes h ↦ rw (lt-ltb (word l head cases-at) 8 h) (omega arith)
+  | no h ↦ rw (le-ltb (word l head cases-at) 8 (omega arith)) (omega arith)
 ]
 
 module _ (l : List ℕ) (n : ℕ) (size : n ≡ case-total l) where
@@ -74,26 +77,26 @@ module _ (l : List ℕ) (n : ℕ) (size : n ≡ case-total l) where
   pub all-first : (ps : List ℕ) → all-from l ps (n - 0) 0 ≡ all-true l ps
   all-first ps = rw all-turns
 
-module _ (l : List ℕ) (j p n : ℕ) (of-length : n ≡ word l cases (10 * j + 5)) where
+module _ (l : List ℕ) (j p n : ℕ) (of-length : n ≡ case-set-length l j) where
   pub condition-ended : n ≡ 0 → 3 ≡ per-case-condition l j p
   unfolding per-case-condition
   condition-ended e = rw (← of-length, eq-eqb n 0 e)
 
   module _ (some-left : n ≡ 0 → ⊥) where
-    pub condition-elsewhere : p ≡ 65535 → 2 ≡ per-case-condition l j p
+    pub condition-elsewhere : p ≡ no-bundle-word → 2 ≡ per-case-condition l j p
     unfolding per-case-condition
     condition-elsewhere e = rw (← of-length, ne-eqb n 0 some-left, eq-eqb p 65535 e)
 
-    pub condition-there : (p ≡ 65535 → ⊥) → {a : ℕ} → a ≡ condition-in l p n → a ≡ per-case-condition l j p
+    pub condition-there : (p ≡ no-bundle-word → ⊥) → {a : ℕ} → a ≡ condition-in l p n → a ≡ per-case-condition l j p
     unfolding per-case-condition
     condition-there d e = e ∙ rw (← of-length, ne-eqb n 0 some-left, ne-eqb p 65535 d)
 
-module _ (l : List ℕ) (j v kind : ℕ) (of-kind : kind ≡ word l cases (10 * j + 0)) where
+module _ (l : List ℕ) (j v kind : ℕ) (of-kind : kind ≡ case-kind l j) where
   pub parent-same : (kind ≡ 2 → ⊥) → v ≡ in-parent l j v
   unfolding in-parent
   parent-same d = rw (← of-kind, ne-eqb kind 2 d)
 
-  module _ (claimed : kind ≡ 2) {const : Bool} (is-const : const ≡ ltb v 322) where
+  module _ (claimed : kind ≡ 2) {const : Bool} (is-const : const ≡ ltb v output-from) where
     pub parent-const : const ≡ true → v ≡ in-parent l j v
     unfolding in-parent
     parent-const e = rw (← of-kind, eq-eqb kind 2 claimed, ← is-const, e)
@@ -103,13 +106,13 @@ module _ (l : List ℕ) (j v kind : ℕ) (of-kind : kind ≡ word l cases (10 * 
       unfolding in-parent
       parent-none e = rw (← of-kind, eq-eqb kind 2 claimed, ← is-const, not-const, ← is-given, e)
 
-      module _ (an-input : given ≡ true) {r body : ℕ} (of-region : r ≡ input-region v) (of-body : body ≡ word l cases (10 * j + 2)) where
+      module _ (an-input : given ≡ true) {r body : ℕ} (of-region : r ≡ input-region v) (of-body : body ≡ case-body l j) where
         pub parent-elsewhere : (r ≡ body → ⊥) → 65535 ≡ in-parent l j v
         unfolding in-parent
         parent-elsewhere d =
             rw (← of-kind, eq-eqb kind 2 claimed, ← is-const, not-const, ← is-given, an-input, ← of-region, ← of-body, ne-eqb r body d)
 
-        pub parent-given : r ≡ body → {k a : ℕ} → k ≡ input-index v → a ≡ word l cases (10 * j + (6 + k)) → a ≡ in-parent l j v
+        pub parent-given : r ≡ body → {k a : ℕ} → k ≡ input-index v → a ≡ case-input l j k → a ≡ in-parent l j v
         unfolding in-parent
         parent-given e index is =
             is ∙ rw (
@@ -136,11 +139,11 @@ module _ (l ps : List ℕ) (k n j found : ℕ) {whole : ℕ} (left : unique-from
     again = omega arith
 
     module _ (p : ℕ) (of-place : p ≡ getD ps j 0) where
-      pub unique-past : p ≡ 65535 → unique-from l ps k (n - (j + 1)) (j + 1) found ≡ whole
+      pub unique-past : p ≡ no-bundle-word → unique-from l ps k (n - (j + 1)) (j + 1) found ≡ whole
       unfolding unique-from
       unique-past e = rw (add-one j) (rw (add-one j) at (rw (← of-place, eq-eqb p 65535 e) at (rw again at left)))
 
-      module _ (there : p ≡ 65535 → ⊥) {x v f : ℕ} (of-input : x ≡ input-word l p k) (passed : v ≡ in-parent l j x)
+      module _ (there : p ≡ no-bundle-word → ⊥) {x v f : ℕ} (of-input : x ≡ input-word l p k) (passed : v ≡ in-parent l j x)
           (is : f ≡ with-passed found v) where
         next : pick (eqb f 65535) 65535 (unique-from l ps k (n - (j + 1)) (suc j) f) ≡ whole
         unfolding unique-from
@@ -192,7 +195,7 @@ inputs-next l l₁ q ps b m m′ n k left h step more =
     let f : List ℕ → ℕ → Planned = λ x i. plan-input x q ps i in
     rw (also-turn f l l₁ b m m′ k step more) (turn-next (also f) (planned l m) n k left h)
 
-pub inputs-planned : (l l′ : List ℕ) (q : ℕ) (ps : List ℕ) (b : Bool) (n t k : ℕ) → n ≤ k → t ≡ word l bundles (7 * q + 0)
+pub inputs-planned : (l l′ : List ℕ) (q : ℕ) (ps : List ℕ) (b : Bool) (n t k : ℕ) → n ≤ k → t ≡ bundle-target l q
     → OfRecord l (λ g. n ≡ input-count g l t)
     → turned (also (λ m i. plan-input m q ps i)) (planned l′ b) (n - k) k ≡ turned (also (λ m i. plan-input m q ps i)) (planned l false) n 0
     → OfRecord l (λ g. planned l′ b ≡ plan-inputs g l q ps)
@@ -200,14 +203,14 @@ unfolding plan-inputs
 inputs-planned l l′ q ps b n t k over of-target count left g st =
     turn-last (also (λ m i. plan-input m q ps i)) (planned l′ b) n k left over ∙ rw (← of-target, ← count g st)
 
-module _ (l l₁ ps : List ℕ) (q t : ℕ) (merged b : Bool) (of-target : t ≡ word l bundles (7 * q + 0))
+module _ (l l₁ ps : List ℕ) (q t : ℕ) (merged b : Bool) (of-target : t ≡ bundle-target l q)
     (of-places : ps ≡ per-case-deferred l t)
     (inputs : OfRecord l (λ g. planned l₁ merged ≡ plan-inputs g l q ps)) (test : b ≡ all-true l₁ ps) where
   pub bundle-true : b ≡ true → OfRecord l (λ g. planned l₁ merged ≡ plan-bundle g l q)
   unfolding plan-bundle
   bundle-true e g st = rw (← of-target, ← of-places, ← inputs g st, ← test, e)
 
-  pub bundle-conditional : b ≡ false → {l₂ : List ℕ} → l₂ ≡ stored l₁ bundles (7 * q + 2) 0
+  pub bundle-conditional : b ≡ false → {l₂ : List ℕ} → l₂ ≡ stored l₁ bundles (bundle-condition-at q) 0
       → OfRecord l (λ g. planned l₂ true ≡ plan-bundle g l q)
   unfolding plan-bundle
   bundle-conditional e last g st = rw (← of-target, ← of-places, ← inputs g st, ← test, e, last)
@@ -220,7 +223,8 @@ bundles-next l₀ l l₁ b m m′ start n i p left h at step more =
     left-next (λ x. x .words) (plan-at start) (planned l₀ false) n (planned l m) i left (front-plan start) h (planned l₁ m′)
     (λ g st. also-turn (λ x k. plan-bundle g x (bundle-at start k)) l l₁ b m m′ i (rw (← at) (step g st)) more)
 
-pub bundles-planned : (l l′ : List ℕ) (b : Bool) (start n i : ℕ) → start ≡ word l set-starts 32 → n ≡ word l set-lengths 32 → n ≤ i
+pub bundles-planned : (l l′ : List ℕ) (b : Bool) (start n i : ℕ) → start ≡ word l set-starts spare-slot → n ≡ word l set-lengths spare-slot
+    → n ≤ i
     → OfRecord l (Left (λ x. x .words) (plan-at start) (planned l false) n (planned l′ b) i)
     → OfRecord l (λ g. planned l′ b ≡ plan-bundles g l)
 unfolding plan-bundles

@@ -4,7 +4,7 @@ use mathlib.Core.Path.{_≡_, refl, sym, ap, subst, _∙_}
 use mathlib.Core.Bool.{Bool, true, false, _||_, or-false}
 use mathlib.Core.List.{List, [], _∷_, map}
 use mathlib.Core.Option.{Option, none, some}
-use Prim.Native.Nat.{ℕ, zero, suc, _+_, _*_, _≤_, _<_}
+use Prim.Native.Nat.{ℕ, zero, suc, _+_, _≤_, _<_}
 use native.Mathlib.Omega.{arith}
 use native.Mathlib.Decide.{decLt}
 use lib.ListN.{length, getD, length-map}
@@ -39,11 +39,14 @@ use Rattle.merging.specs.laws.TargetsShown.{no-summary, ShowsRow, ShowsR
 use Rattle.merging.specs.laws.PerCaseShown.{ShowsPassed, passes, passes-none, CaseAt, all-shown, unique-from-shown}
 use Rattle.merging.specs.laws.PerCaseShown.{case-at-stays, cases-at}
 use Rattle.nesting.specs.steps.TargetsAndCases.{per-cases}
+use Rattle.state.specs.Rows.{bundle-condition, bundle-condition-at, bundle-count, bundle-count-at, bundle-input, bundle-input-at}
+use Rattle.state.specs.Rows.{bundle-row-at, bundle-row-size, bundle-target, bundle-target-at, bundle-word-at, no-bundle-word}
+use Rattle.state.specs.Rows.{own-edges-from, spare-slot}
 
 -- ---- A planned bundle in a row: an input that is to be merged is 65535, a condition that is to be made 0.
 pub data ShowsPlannedInput (a : ℕ) : PlannedInput → Type 0 where
   shows-shared : {v : Value} → Names a v → ShowsPlannedInput a (shared v)
-  shows-merged : {ty : ℕ} {vs : List Value} → a ≡ 65535 → ShowsPlannedInput a (merged ty vs)
+  shows-merged : {ty : ℕ} {vs : List Value} → a ≡ no-bundle-word → ShowsPlannedInput a (merged ty vs)
 
 pub data ShowsPlannedCondition (a : ℕ) : Option LazyConds → Type 0 where
   always : a ≡ 1 → ShowsPlannedCondition a none
@@ -56,12 +59,12 @@ abbrev pub no-planned : PlannedBundle
 no-planned = record { target = to-return; total-edge-count = 0; inputs = []; condition = none }
 
 pub record ShowsPlanned (g : Graph) (l : List ℕ) (p : ℕ) (b : PlannedBundle) : Type 0 where
-  pub target : ShowsTarget g (word l bundles (7 * p + 0)) (b .target)
-  pub count : word l bundles (7 * p + 1) ≡ b .total-edge-count
-  pub condition : ShowsPlannedCondition (word l bundles (7 * p + 2)) (b .condition)
+  pub target : ShowsTarget g (bundle-target l p) (b .target)
+  pub count : bundle-count l p ≡ b .total-edge-count
+  pub condition : ShowsPlannedCondition (bundle-condition l p) (b .condition)
   pub size : length (b .inputs) ≡ target-size g (b .target)
   pub few : length (b .inputs) ≤ 4
-  pub inputs : (k : ℕ) → k < length (b .inputs) → ShowsPlannedInput (word l bundles (7 * p + (3 + k))) (getD (b .inputs) k no-input)
+  pub inputs : (k : ℕ) → k < length (b .inputs) → ShowsPlannedInput (bundle-input l p k) (getD (b .inputs) k no-input)
 
 abbrev needs-output : PlannedInput → Bool
 needs-output i = elim i [ shared v ↦ false | merged ty vs ↦ true ]
@@ -85,19 +88,20 @@ module _ (k ty : ℕ) (ps : List nesting.PerCaseDeferred) where
   planned-needs {a} (passes-none e) = eq-eqb a 65535 e
 
 input-is : (q : ℕ) (places l : List ℕ) (k : ℕ) → k < 4
-    → plan-input l q places k ≡ planned (stored l bundles (7 * q + (3 + k)) (unique-input l places k)) (eqb (unique-input l places k) 65535)
+    → plan-input l q places k ≡ planned (stored l bundles (bundle-input-at q k) (unique-input l places k))
+    (eqb (unique-input l places k) 65535)
 unfolding plan-input input-stored
 input-is q places l k h = rw (lt-ltb k 4 h)
 
 -- ---- The inputs of the row at bundle q, from input k on.
 module _ (g : Graph) (o : ℕ) (r : ℕ) (x : DeferredTarget) (cs : List MaybeClaimedRegion) (places : List ℕ) (q : ℕ) (from : o ≤ q)
-    (to : q < o + 33) (below : o + 33 ≤ 1089) where
+    (to : q < o + 33) (below : o + 33 ≤ own-edges-from) where
   record InputsPlanned (l : List ℕ) (b : Bool) (y : Planned) (k : ℕ) (is : List PlannedInput) : Type 0 where
     pub spare : SpareOnly o l (y .words)
     pub same-lengths : section (y .words) set-lengths ≡ section l set-lengths
-    pub before : (z : ℕ) → z < 7 * q + (3 + k) → word (y .words) bundles z ≡ word l bundles z
-    pub behind : (z : ℕ) → 7 * q + 7 ≤ z → word (y .words) bundles z ≡ word l bundles z
-    pub each : (i : ℕ) → i < length is → ShowsPlannedInput (word (y .words) bundles (7 * q + (3 + (k + i)))) (getD is i no-input)
+    pub before : (z : ℕ) → z < bundle-input-at q k → word (y .words) bundles z ≡ word l bundles z
+    pub behind : (z : ℕ) → bundle-row-at q + bundle-row-size ≤ z → word (y .words) bundles z ≡ word l bundles z
+    pub each : (i : ℕ) → i < length is → ShowsPlannedInput (bundle-input (y .words) q (k + i)) (getD is i no-input)
     pub needed : y .needed ≡ pick (any needs-output is) true b
 
   abbrev input-step : Planned → ℕ → Planned
@@ -121,25 +125,25 @@ module _ (g : Graph) (o : ℕ) (r : ℕ) (x : DeferredTarget) (cs : List MaybeCl
       let shown : ShowsPassed v (nesting.unique-input (passed-inputs k cs (per-cases x cs))) =
       rw count (unique-from-shown g o l r x places k (omega arith) (omega arith) cs 0
       (λ j h. let e : 0 + j ≡ j = omega arith in rw e (at j h))) in
-      let l₁ = stored l bundles (7 * q + (3 + k)) v in
+      let l₁ = stored l bundles (bundle-input-at q k) v in
       let stored-is : plan-input l q places k ≡ planned l₁ (eqb v 65535) = input-is q places l k (omega arith) in
-      let sp = spare-word o l (7 * q + (3 + k)) v (omega arith) (omega arith) in
+      let sp = spare-word o l (bundle-input-at q k) v (omega arith) (omega arith) in
       let y = nesting.plan-input k (target-type g x k) (per-cases x cs) (nesting.unique-input (passed-inputs k cs (per-cases x cs))) in
       let b₁ = pick (eqb v 65535) true b in
       let ih = inputs-from n (suc k) (omega arith) (omega arith) l₁ (rw (sp .words) full) (spare-total sp ∙ count)
       (λ j h. case-at-stays sp (at j h)) b₁ in
-      let other = word-apart l bundles (7 * q + (3 + k)) v bundles in
+      let other = word-apart l bundles (bundle-input-at q k) v bundles in
       subst (λ z. InputsPlanned l b (turned input-step (planned (z .words) (pick (z .needed) true b)) n (suc k)) k
       (y ∷ nesting.plan-inputs g n (suc k) x cs (per-cases x cs))) (sym stored-is)
       (record {
         spare = spare-then sp (ih .spare);
-        same-lengths = ih .same-lengths ∙ section-other l bundles (7 * q + (3 + k)) v set-lengths (omega arith);
+        same-lengths = ih .same-lengths ∙ section-other l bundles (bundle-input-at q k) v set-lengths (omega arith);
         before = λ z h. ih .before z (omega arith) ∙ other z (omega arith);
         behind = λ z h. ih .behind z (omega arith) ∙ other z (omega arith);
-        each = at-cons (λ z i. ShowsPlannedInput (word (turned input-step (planned l₁ b₁) n (suc k) .words) bundles (7 * q + (3 + z))) i)
+        each = at-cons (λ z i. ShowsPlannedInput (bundle-input (turned input-step (planned l₁ b₁) n (suc k) .words) q z) i)
             no-input k (length (nesting.plan-inputs g n (suc k) x cs (per-cases x cs)))
             (nesting.plan-inputs g n (suc k) x cs (per-cases x cs))
-            (rw (ih .before (7 * q + (3 + k)) (omega arith), word-there l bundles (7 * q + (3 + k)) v (omega arith) (omega arith))
+            (rw (ih .before (bundle-input-at q k) (omega arith), word-there l bundles (bundle-input-at q k) v (omega arith) (omega arith))
             (planned-shown k (target-type g x k) (per-cases x cs) shown)) (ih .each);
         needed = ih .needed
             ∙ rw (planned-needs k (target-type g x k) (per-cases x cs) shown)
@@ -183,7 +187,7 @@ planned-stays same x =
       inputs = λ k h. rw (same .words (3 + k) (omega arith)) (x .inputs k h);
     }
 
-module _ (g : Graph) (valid : Valid g) (o : ℕ) (below : o + 33 ≤ 1089) (r : ℕ) (cs : List MaybeClaimedRegion) where
+module _ (g : Graph) (valid : Valid g) (o : ℕ) (below : o + 33 ≤ own-edges-from) (r : ℕ) (cs : List MaybeClaimedRegion) where
   record BundlePlanned (l : List ℕ) (y : Planned) (q : ℕ) (b : PlannedBundle) : Type 0 where
     pub spare : SpareOnly o l (y .words)
     pub same-lengths : section (y .words) set-lengths ≡ section l set-lengths
@@ -191,27 +195,28 @@ module _ (g : Graph) (valid : Valid g) (o : ℕ) (below : o + 33 ≤ 1089) (r : 
     pub others : (p : ℕ) → (p ≡ q → ⊥) → SameBundle l (y .words) p
     pub needed : y .needed ≡ needs-select b
 
-  module _ (l : List ℕ) (full : used ≤ length l) (at : word l set-starts 32 ≡ o) (y : ShowsCases g l r cs) (back : ShowsReturned g l)
+  module _ (l : List ℕ) (full : used ≤ length l) (at : word l set-starts spare-slot ≡ o) (y : ShowsCases g l r cs)
+      (back : ShowsReturned g l)
       (q : ℕ) (from : o ≤ q) (to : q < o + 33) {t : DeferredTargetSummary} (row : ShowsRow g l q t) where
     abbrev x : DeferredTarget
     x = t .target
 
     abbrev places : List ℕ
-    places = per-case-deferred l (word l bundles (7 * q + 0))
+    places = per-case-deferred l (bundle-target l q)
 
     abbrev is : List PlannedInput
     is = nesting.plan-inputs g (t .input-count) 0 x cs (per-cases x cs)
 
     cases-here : (j : ℕ) → j < length cs → CaseAt g o l r x places j (getD cs j no-case)
     cases-here j h = subst (λ z. CaseAt g z l r x places j (getD cs j no-case)) at
-        (cases-at g valid l r y (word l bundles (7 * q + 0)) (row .target) j h)
+        (cases-at g valid l r y (bundle-target l q) (row .target) j h)
 
     abbrev inputs : Planned
     inputs = turned (input-step g o r x cs places q from to below) (planned l false) (t .input-count) 0
 
     as-inputs : plan-inputs g l q places ≡ inputs
     unfolding plan-inputs
-    as-inputs = rw (count-by g valid l (word l bundles (7 * q + 0)) back (row .target), ← row .size)
+    as-inputs = rw (count-by g valid l (bundle-target l q) back (row .target), ← row .size)
 
     inputs-are : InputsPlanned g o r x cs places q from to below l false inputs 0 is
     inputs-are =
@@ -235,7 +240,7 @@ module _ (g : Graph) (valid : Valid g) (o : ℕ) (below : o + 33 ≤ 1089) (r : 
         }
 
     abbrev condition-put : Planned
-    condition-put = planned (stored (inputs .words) bundles (7 * q + 2) 0) true
+    condition-put = planned (stored (inputs .words) bundles (bundle-condition-at q) 0) true
 
     planned-by : (b : Bool) → BundlePlanned l (pick b inputs condition-put) q (with-condition b)
     planned-by true =
@@ -246,17 +251,17 @@ module _ (g : Graph) (valid : Valid g) (o : ℕ) (below : o + 33 ≤ 1089) (r : 
           spare = p .spare;
           same-lengths = p .same-lengths;
           shown = record {
-            target = rw (p .before (7 * q + 0) (omega arith)) (row .target);
-            count = p .before (7 * q + 1) (omega arith) ∙ row .count;
-            condition = always (p .before (7 * q + 2) (omega arith) ∙ row .condition);
+            target = rw (p .before (bundle-target-at q) (omega arith)) (row .target);
+            count = p .before (bundle-count-at q) (omega arith) ∙ row .count;
+            condition = always (p .before (bundle-condition-at q) (omega arith) ∙ row .condition);
             size = size ∙ row .size;
             few = omega arith;
             inputs = λ k h. let e : 0 + k ≡ k = omega arith in rw e at (p .each k h);
           };
           others = λ z d. record {
             words = λ i h. elim (decLt z q) [
-              | yes a ↦ p .before (7 * z + i) (omega arith)
-              | no a ↦ p .behind (7 * z + i) (omega arith)
+              | yes a ↦ p .before (bundle-word-at z i) (omega arith)
+              | no a ↦ p .behind (bundle-word-at z i) (omega arith)
             ];
           };
           needed = p .needed ∙ none-before (any needs-output is) ∙ sym (or-false (any needs-output is));
@@ -265,22 +270,23 @@ module _ (g : Graph) (valid : Valid g) (o : ℕ) (below : o + 33 ≤ 1089) (r : 
         let p = inputs-are in
         let size = inputs-length g (t .input-count) 0 x cs (per-cases x cs) in
         let few = row .few in
-        let other = word-apart (inputs .words) bundles (7 * q + 2) 0 bundles in
+        let other = word-apart (inputs .words) bundles (bundle-condition-at q) 0 bundles in
         record {
-          spare = spare-then (p .spare) (spare-word o (inputs .words) (7 * q + 2) 0 (omega arith) (omega arith));
-          same-lengths = section-other (inputs .words) bundles (7 * q + 2) 0 set-lengths (omega arith) ∙ p .same-lengths;
+          spare = spare-then (p .spare) (spare-word o (inputs .words) (bundle-condition-at q) 0 (omega arith) (omega arith));
+          same-lengths = section-other (inputs .words) bundles (bundle-condition-at q) 0 set-lengths (omega arith) ∙ p .same-lengths;
           shown = record {
-            target = rw (other (7 * q + 0) (omega arith), p .before (7 * q + 0) (omega arith)) (row .target);
-            count = other (7 * q + 1) (omega arith) ∙ p .before (7 * q + 1) (omega arith) ∙ row .count;
-            condition = to-be-made (word-there (inputs .words) bundles (7 * q + 2) 0 (rw (p .spare .words) (omega arith)) (omega arith));
+            target = rw (other (bundle-target-at q) (omega arith), p .before (bundle-target-at q) (omega arith)) (row .target);
+            count = other (bundle-count-at q) (omega arith) ∙ p .before (bundle-count-at q) (omega arith) ∙ row .count;
+            condition = to-be-made
+                (word-there (inputs .words) bundles (bundle-condition-at q) 0 (rw (p .spare .words) (omega arith)) (omega arith));
             size = size ∙ row .size;
             few = omega arith;
-            inputs = λ k h. let e : 0 + k ≡ k = omega arith in rw (other (7 * q + (3 + k)) (omega arith)) (rw e at (p .each k h));
+            inputs = λ k h. let e : 0 + k ≡ k = omega arith in rw (other (bundle-input-at q k) (omega arith)) (rw e at (p .each k h));
           };
           others = λ z d. record {
-            words = λ i h. other (7 * z + i) (omega arith) ∙ elim (decLt z q) [
-              | yes a ↦ p .before (7 * z + i) (omega arith)
-              | no a ↦ p .behind (7 * z + i) (omega arith)
+            words = λ i h. other (bundle-word-at z i) (omega arith) ∙ elim (decLt z q) [
+              | yes a ↦ p .before (bundle-word-at z i) (omega arith)
+              | no a ↦ p .behind (bundle-word-at z i) (omega arith)
             ];
           };
           needed = or-true (any needs-output is);
@@ -298,7 +304,8 @@ module _ (g : Graph) (valid : Valid g) (o : ℕ) (below : o + 33 ≤ 1089) (r : 
     pub before : (p : ℕ) → p < o + i → SameBundle l (y .words) p
     pub needed : y .needed ≡ pick (any needs-select bs) true b
 
-  rows-from : (s : NestState) (ts : List DeferredTargetSummary) (i : ℕ) → i + length ts ≤ 33 → (l : List ℕ) → word l set-starts 32 ≡ o
+  rows-from : (s : NestState) (ts : List DeferredTargetSummary) (i : ℕ) → i + length ts ≤ 33 → (l : List ℕ)
+      → word l set-starts spare-slot ≡ o
       → ShowsState g l s → ShowsCases g l r cs → ((k : ℕ) → k < length ts → ShowsRow g l (o + (i + k)) (getD ts k no-summary)) → (b : Bool)
       → RowsPlanned l b (turned (plan-at o g) (planned l b) (length ts) i) i (map (nesting.plan-bundle g cs) ts)
   unfolding turned
@@ -339,21 +346,21 @@ module _ (g : Graph) (valid : Valid g) (o : ℕ) (below : o + 33 ≤ 1089) (r : 
 -- ---- The step whole.
 pub record BundlesPlanned (g : Graph) (w : List ℕ) (y : Planned) (r : ℕ) (s : NestState) (cs : List MaybeClaimedRegion) : Type 0 where
   pub each : (i : ℕ) → i < length (nesting.plan-bundles g cs)
-      → ShowsPlanned g (y .words) (word w set-starts 32 + i) (getD (nesting.plan-bundles g cs) i no-planned)
-  pub size : word (y .words) set-lengths 32 ≡ length (nesting.plan-bundles g cs)
+      → ShowsPlanned g (y .words) (word w set-starts spare-slot + i) (getD (nesting.plan-bundles g cs) i no-planned)
+  pub size : word (y .words) set-lengths spare-slot ≡ length (nesting.plan-bundles g cs)
   pub needed : y .needed ≡ nesting.any-needs-select (nesting.plan-bundles g cs)
-  pub spare : SpareOnly (word w set-starts 32) w (y .words)
+  pub spare : SpareOnly (word w set-starts spare-slot) w (y .words)
   pub state : ShowsState g (y .words) s
   pub cases-shown : ShowsCases g (y .words) r cs
   pub later : Later g w (y .words)
   pub kept : (q : ℕ) → q < length (g .regions) → KeptRegion w (y .words) q
 
 pub plan-bundles-shown : (g : Graph) → Valid g → (w : List ℕ) (r : ℕ) (s : NestState) (cs : List MaybeClaimedRegion) → ShowsState g w s
-    → ShowsCases g w r cs → ShowsRows g w (word w set-starts 32) (nesting.deferred-targets cs [])
+    → ShowsCases g w r cs → ShowsRows g w (word w set-starts spare-slot) (nesting.deferred-targets cs [])
     → BundlesPlanned g w (plan-bundles g w) r s cs
 unfolding plan-bundles
 plan-bundles-shown g valid w r s cs shown x rows =
-    let o = word w set-starts 32 in
+    let o = word w set-starts spare-slot in
     let ts = nesting.deferred-targets cs [] in
     let slots = shown .slots in
     let a = slots .starts 32 (omega arith) in

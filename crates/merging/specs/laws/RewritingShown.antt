@@ -2,7 +2,7 @@
 use mathlib.Core.Path.{_≡_, refl, sym, ap, subst, _∙_}
 use mathlib.Core.Bool.{Bool, false, _||_, or-false}
 use mathlib.Core.List.{List, [], _∷_, map}
-use Prim.Native.Nat.{ℕ, suc, _+_, _*_, _-_, _≤_, _<_}
+use Prim.Native.Nat.{ℕ, suc, _+_, _-_, _≤_, _<_}
 use native.Mathlib.Omega.{arith}
 use native.Mathlib.Decide.{decLt}
 use lib.ListN.{length, getD, length-map, List·getD-eq-default}
@@ -38,6 +38,10 @@ use Rattle.merging.specs.laws.Spare.{case-stays}
 use Rattle.shown.specs.laws.Finds.{bundle-in}
 use Rattle.merging.specs.laws.Rows.{rewrite-word, looked-up, met-twice, RowShown, row-shown, two-notes, no-note}
 use Rattle.shown.specs.laws.RegionSteps.{named-by, slots-stay}
+use Rattle.state.specs.Rows.{bundle-input-at, bundle-row-at, bundle-target, bundle-word, bundle-word-at, case-claimed, case-input}
+use Rattle.state.specs.Rows.{case-input-at, case-kind, case-origin, case-row-at, case-row-size, case-set-length, case-set-start}
+use Rattle.state.specs.Rows.{case-word, case-word-at, cases-at, cells-at, kind-ready, level-at, merges-at, most-bundles, region-kind}
+use Rattle.state.specs.Rows.{returned-at, types-at}
 
 -- ---- What rewriting leaves: all but the note, the cases' inputs and the bundles' inputs.
 pub record Stays (w w′ : List ℕ) : Type 0 where
@@ -45,8 +49,8 @@ pub record Stays (w w′ : List ℕ) : Type 0 where
   pub others : (j : Section) → (number j ≡ number sections.cases → ⊥) → (number j ≡ number sections.bundles → ⊥)
       → (number j ≡ number sections.head → ⊥) → section w′ j ≡ section w j
   pub totals : (q : ℕ) → (q ≡ 6 → ⊥) → word w′ head q ≡ word w head q
-  pub case-fields : (j i : ℕ) → i < 6 → word w′ cases (10 * j + i) ≡ word w cases (10 * j + i)
-  pub bundle-fields : (p i : ℕ) → i < 3 → word w′ bundles (7 * p + i) ≡ word w bundles (7 * p + i)
+  pub case-fields : (j i : ℕ) → i < 6 → case-word w′ j i ≡ case-word w j i
+  pub bundle-fields : (p i : ℕ) → i < 3 → bundle-word w′ p i ≡ bundle-word w p i
 
 pub stays-same : (w : List ℕ) → Stays w w
 stays-same w =
@@ -67,16 +71,17 @@ stays-later g x =
     record {
       front = record { words = x .words; front-words = x .others front (omega arith) (omega arith) (omega arith) };
       conditions-stay = condition-same (x .others conditions (omega arith) (omega arith) (omega arith))
-          (x .others cells (omega arith) (omega arith) (omega arith)) (x .totals 4 (omega arith)) (x .totals 2 (omega arith));
+          (x .others cells (omega arith) (omega arith) (omega arith)) (x .totals cells-at (omega arith))
+          (x .totals merges-at (omega arith));
       nodes-stay = λ n. record {
         nodes = rw (x .others cells (omega arith) (omega arith) (omega arith)) (n .nodes);
-        made = rw (x .totals 4 (omega arith)) (n .made);
+        made = rw (x .totals cells-at (omega arith)) (n .made);
       };
     }
 
 pub returned-stays : {w w′ : List ℕ} {g : Graph} → Stays w w′ → ShowsReturned g w → ShowsReturned g w′
 returned-stays x y =
-    record { size = x .totals 8 (omega arith) ∙ y .size; types = λ k h. x .totals (9 + k) (omega arith) ∙ y .types k h }
+    record { size = x .totals returned-at (omega arith) ∙ y .size; types = λ k h. x .totals (types-at + k) (omega arith) ∙ y .types k h }
 
 names-stay : {w w′ : List ℕ} → Stays w w′ → NamedRewrites w → NamedRewrites w′
 names-stay x n = named-by (x .others rewrites (omega arith) (omega arith) (omega arith)) n
@@ -91,7 +96,7 @@ abbrev pub case-found : NestState → MaybeClaimedRegion → LookUp MaybeClaimed
 case-found s c = look-up-case (ρ s) c
 
 -- ---- A bundle.
-input-as-word : (p : ℕ) (m : List ℕ) (k : ℕ) → k < 4 → rewrite-input m p k ≡ rewrite-word bundles m (7 * p + (3 + k))
+input-as-word : (p : ℕ) (m : List ℕ) (k : ℕ) → k < 4 → rewrite-input m p k ≡ rewrite-word bundles m (bundle-input-at p k)
 unfolding rewrite-input input-word input-stored
 input-as-word p m k h = rw (lt-ltb k 4 h)
 
@@ -111,26 +116,26 @@ module _ (g : Graph) (valid : Valid g) where
     pub tables : ShowsTables l′ (with-twice (bundle-found s e .twice) s)
 
   module _ (s : NestState) (all : (r : ℕ) → ChainsEnd (s .region-input-rewrites) r) (l : List ℕ) (t : ShowsTables l s)
-      (names : NamedRewrites l) (back : ShowsReturned g l) (p : ℕ) (below : p < 1097) {e : DeferredEdgeBundle}
+      (names : NamedRewrites l) (back : ShowsReturned g l) (p : ℕ) (below : p < most-bundles) {e : DeferredEdgeBundle}
       (x : ShowsBundle g l p e) where
     abbrev vs : List Value
     vs = e .target-inputs
 
     abbrev row : List ℕ
-    row = turned (λ m k. rewrite-word bundles m (7 * p + (3 + k))) l (length vs) 0
+    row = turned (λ m k. rewrite-word bundles m (bundle-input-at p k)) l (length vs) 0
 
     as-row : rewrite-bundle g l p ≡ row
     unfolding rewrite-bundle
     as-row =
         let few = x .few in
-        rw (count-by l (word l bundles (7 * p + 0)) back (x .target), ← x .size)
-        (turned-same (λ m k. rewrite-input m p k) (λ m k. rewrite-word bundles m (7 * p + (3 + k))) 4 (input-as-word p) (length vs) l 0
+        rw (count-by l (bundle-target l p) back (x .target), ← x .size)
+        (turned-same (λ m k. rewrite-input m p k) (λ m k. rewrite-word bundles m (bundle-input-at p k)) 4 (input-as-word p) (length vs) l 0
         (omega arith))
 
-    row-is : RowShown bundles (7 * p) 3 s l row 0 vs
+    row-is : RowShown bundles (bundle-row-at p) 3 s l row 0 vs
     row-is =
         let few = x .few in
-        row-shown bundles (omega arith) (omega arith) (7 * p) 3 vs s all l t names 0 (omega arith)
+        row-shown bundles (omega arith) (omega arith) (bundle-row-at p) 3 vs s all l t names 0 (omega arith)
         (λ j h. let e : 0 + j ≡ j = omega arith in rw e (x .inputs j h))
 
     row-stays : Stays l row
@@ -144,8 +149,8 @@ module _ (g : Graph) (valid : Valid g) where
           totals = c .totals;
           case-fields = λ j i h. rw same refl;
           bundle-fields = λ q i h. elim (decLt p q) [
-            | yes d ↦ row-is .behind (7 * q + i) (omega arith)
-            | no d ↦ row-is .before (7 * q + i) (omega arith)
+            | yes d ↦ row-is .behind (bundle-word-at q i) (omega arith)
+            | no d ↦ row-is .before (bundle-word-at q i) (omega arith)
           ];
         }
 
@@ -167,8 +172,8 @@ module _ (g : Graph) (valid : Valid g) where
           };
           others = λ q d. record {
             words = λ i h. elim (decLt p q) [
-              | yes b ↦ row-is .behind (7 * q + i) (omega arith)
-              | no b ↦ row-is .before (7 * q + i) (omega arith)
+              | yes b ↦ row-is .behind (bundle-word-at q i) (omega arith)
+              | no b ↦ row-is .before (bundle-word-at q i) (omega arith)
             ];
           };
           tables = rw (or-false (met-twice s vs)) (row-is .tables);
@@ -187,7 +192,8 @@ module _ (g : Graph) (valid : Valid g) where
   set-step start m i = rewrite-bundle g m (bundle-at start i)
 
   bundles-rewritten : (start : ℕ) (d : DeferredEdgeBundleSet) (s : NestState) → ((r : ℕ) → ChainsEnd (s .region-input-rewrites) r)
-      → (l : List ℕ) → ShowsTables l s → NamedRewrites l → ShowsReturned g l → (i : ℕ) → start + i + length d ≤ 1097 → i + length d ≤ 33
+      → (l : List ℕ) → ShowsTables l s → NamedRewrites l → ShowsReturned g l → (i : ℕ) → start + i + length d ≤ most-bundles
+      → i + length d ≤ 33
       → ((k : ℕ) → k < length d → ShowsBundle g l (start + (i + k)) (getD d k no-bundle))
       → SetShown s l (turned (set-step start) l (length d) i) start i d
   unfolding turned
@@ -258,13 +264,13 @@ module _ (g : Graph) (valid : Valid g) where
     pub stays : Stays l l′
     pub same-bundles : section l′ bundles ≡ section l bundles
     pub shown : ShowsCase g l′ r j (case-found s c .value)
-    pub before : (x : ℕ) → x < 10 * j → word l′ cases x ≡ word l cases x
-    pub behind : (x : ℕ) → 10 * j + 10 ≤ x → word l′ cases x ≡ word l cases x
+    pub before : (x : ℕ) → x < case-row-at j → word l′ cases x ≡ word l cases x
+    pub behind : (x : ℕ) → case-row-at j + case-row-size ≤ x → word l′ cases x ≡ word l cases x
     pub tables : ShowsTables l′ (with-twice (given-note s c) s)
 
   -- A case whose inputs stay.
   inputs-stay : {l l′ : List ℕ} → Stays l l′ → (r j : ℕ)
-      → ((k : ℕ) → k < 4 → word l′ cases (10 * j + (6 + k)) ≡ word l cases (10 * j + (6 + k)))
+      → ((k : ℕ) → k < 4 → case-input l′ j k ≡ case-input l j k)
       → {c : MaybeClaimedRegion} → ShowsCase g l r j c → ShowsCase g l′ r j c
   inputs-stay st r j same x =
       case-stays (stays-later g st) r j (λ q. ap (λ z. getD z q 0) (st .others set-starts (omega arith) (omega arith) (omega arith)))
@@ -272,11 +278,11 @@ module _ (g : Graph) (valid : Valid g) where
 
   module _ (s : NestState) (all : (r : ℕ) → ChainsEnd (s .region-input-rewrites) r) (l : List ℕ) (t : ShowsTables l s)
       (names : NamedRewrites l) (r j : ℕ) (below : j < 8) where
-    none-given : {d : DeferredEdgeBundleSet} → (word l cases (10 * j + 0) ≡ 2 → ⊥)
+    none-given : {d : DeferredEdgeBundleSet} → (case-kind l j ≡ case-claimed → ⊥)
         → ShowsCase g l r j (err (map (λ e. bundle-found s e .value) d)) → GivenShown s l (rewrite-given g l j) r j (err d)
     unfolding rewrite-given
     none-given d x =
-        rw (ne-eqb (word l cases (10 * j + 0)) 2 d)
+        rw (ne-eqb (case-kind l j) case-claimed d)
         (record {
           stays = stays-same l;
           same-bundles = refl;
@@ -286,27 +292,27 @@ module _ (g : Graph) (valid : Valid g) where
           tables = subst (λ z. ShowsTables l z) (sym (no-note s)) t;
         })
 
-    module _ (c : ClaimedRegion) (kind : word l cases (10 * j + 0) ≡ 2) (origin : word l cases (10 * j + 1) ≡ c .origin)
+    module _ (c : ClaimedRegion) (kind : case-kind l j ≡ case-claimed) (origin : case-origin l j ≡ c .origin)
         (in-graph : c .origin < length (g .regions))
         (size : length (c .structured-body-inputs) ≡ length (region g (c .origin) .inputs))
-        (inputs : (k : ℕ) → k < 4 → Names (word l cases (10 * j + (6 + k))) (getD (c .structured-body-inputs) k (undef 0))) where
+        (inputs : (k : ℕ) → k < 4 → Names (case-input l j k) (getD (c .structured-body-inputs) k (undef 0))) where
       abbrev us : List Value
       us = c .structured-body-inputs
 
       abbrev given-row : List ℕ
-      given-row = turned (λ m k. rewrite-word cases m (10 * j + (6 + k))) l (length us) 0
+      given-row = turned (λ m k. rewrite-word cases m (case-input-at j k)) l (length us) 0
 
       as-given : rewrite-given g l j ≡ given-row
       unfolding rewrite-given rewrite-inputs rewrite-case-input
-      as-given = rw (eq-eqb (word l cases (10 * j + 0)) 2 kind, origin, ← size)
+      as-given = rw (eq-eqb (case-kind l j) case-claimed kind, origin, ← size)
 
       few-given : length us ≤ 4
       few-given = rw size (valid .regions (c .origin) in-graph .inputs-few)
 
-      given-is : RowShown cases (10 * j) 6 s l given-row 0 us
+      given-is : RowShown cases (case-row-at j) 6 s l given-row 0 us
       given-is =
           let few = few-given in
-          row-shown cases (omega arith) (omega arith) (10 * j) 6 us s all l t names 0 (omega arith)
+          row-shown cases (omega arith) (omega arith) (case-row-at j) 6 us s all l t names 0 (omega arith)
           (λ k h. let e : 0 + k ≡ k = omega arith in rw e (inputs k (omega arith)))
 
       given-stays : Stays l given-row
@@ -318,19 +324,19 @@ module _ (g : Graph) (valid : Valid g) where
             others = λ q a b d. x .others q a d;
             totals = x .totals;
             case-fields = λ q i h. elim (decLt j q) [
-              | yes d ↦ given-is .behind (10 * q + i) (omega arith)
-              | no d ↦ given-is .before (10 * q + i) (omega arith)
+              | yes d ↦ given-is .behind (case-word-at q i) (omega arith)
+              | no d ↦ given-is .before (case-word-at q i) (omega arith)
             ];
-            bundle-fields = λ p i h. ap (λ z. getD z (7 * p + i) 0) (x .others bundles (omega arith) (omega arith));
+            bundle-fields = λ p i h. ap (λ z. getD z (bundle-word-at p i) 0) (x .others bundles (omega arith) (omega arith));
           }
 
-      given-named : (k : ℕ) → k < 4 → Names (word given-row cases (10 * j + (6 + k))) (getD (looked-up s us) k (undef 0))
+      given-named : (k : ℕ) → k < 4 → Names (case-input given-row j k) (getD (looked-up s us) k (undef 0))
       given-named k h =
           let same = length-map us (λ v. ρ s v .value) in
           elim (decLt k (length us)) [
             | yes d ↦ (let e : 0 + k ≡ k = omega arith in rw e at (given-is .named k d))
             | no d ↦ rw (
-              given-is .behind (10 * j + (6 + k)) (omega arith),
+              given-is .behind (case-input-at j k) (omega arith),
               List·getD-eq-default (looked-up s us) (undef 0) {n = k} (omega arith),
               ← List·getD-eq-default us (undef 0) {n = k} (omega arith),
             ) (inputs k h)
@@ -378,27 +384,27 @@ module _ (g : Graph) (valid : Valid g) where
   pub record CaseLookedUp (s : NestState) (l l′ : List ℕ) (r j : ℕ) (c : MaybeClaimedRegion) : Type 0 where
     pub stays : Stays l l′
     pub shown : ShowsCase g l′ r j (case-found s c .value)
-    pub set : ShowsSet g l′ (word l′ cases (10 * j + 4)) (word l′ cases (10 * j + 5)) (deferred-of (case-found s c .value))
-    pub before : (x : ℕ) → x < 10 * j → word l′ cases x ≡ word l cases x
-    pub behind : (x : ℕ) → 10 * j + 10 ≤ x → word l′ cases x ≡ word l cases x
-    pub outside : (q : ℕ) → ((p : ℕ) → p < word l cases (10 * j + 5) → q ≡ word l cases (10 * j + 4) + p → ⊥) → SameBundle l l′ q
+    pub set : ShowsSet g l′ (case-set-start l′ j) (case-set-length l′ j) (deferred-of (case-found s c .value))
+    pub before : (x : ℕ) → x < case-row-at j → word l′ cases x ≡ word l cases x
+    pub behind : (x : ℕ) → case-row-at j + case-row-size ≤ x → word l′ cases x ≡ word l cases x
+    pub outside : (q : ℕ) → ((p : ℕ) → p < case-set-length l j → q ≡ case-set-start l j + p → ⊥) → SameBundle l l′ q
     pub tables : ShowsTables l′ (with-twice (case-found s c .twice) s)
 
   pub case-rewritten : (s : NestState) → ((q : ℕ) → ChainsEnd (s .region-input-rewrites) q) → (l : List ℕ) → ShowsTables l s
       → NamedRewrites l → ShowsReturned g l → (r j : ℕ) → j < 8 → {c : MaybeClaimedRegion} → ShowsCase g l r j c
-      → ShowsSet g l (word l cases (10 * j + 4)) (word l cases (10 * j + 5)) (deferred-of c)
+      → ShowsSet g l (case-set-start l j) (case-set-length l j) (deferred-of c)
       → CaseLookedUp s l (rewrite-case g l j) r j c
   unfolding rewrite-case
   case-rewritten s all l t names back r j below {c} x y =
       let given = given-rewritten s all l t names r j below x in
       let m = rewrite-given g l j in
       let st = given .stays in
-      let start = word m cases (10 * j + 4) in
-      let n = word m cases (10 * j + 5) in
+      let start = case-set-start m j in
+      let n = case-set-length m j in
       let old-set : ShowsSet g m start n (deferred-of c) =
       rw (st .case-fields j 4 (omega arith), st .case-fields j 5 (omega arith))
       (set-stays (stays-later g st) (λ i h. record {
-        words = λ q b. ap (λ z. getD z (7 * (word l cases (10 * j + 4) + i) + q) 0)
+        words = λ q b. ap (λ z. getD z (bundle-word-at (case-set-start l j + i) q) 0)
             (given .same-bundles);
       }) y) in
       let set = set-rewritten (with-twice (given-note s c) s) all m (given .tables) (names-stay st names) (returned-stays st back)
@@ -406,7 +412,7 @@ module _ (g : Graph) (valid : Valid g) where
       let l′ = rewrite-set g m start n in
       record {
         stays = stays-then st (set .stays);
-        shown = inputs-stay (set .stays) r j (λ k h. ap (λ z. getD z (10 * j + (6 + k)) 0) (set .same-cases)) (given .shown);
+        shown = inputs-stay (set .stays) r j (λ k h. ap (λ z. getD z (case-input-at j k) 0) (set .same-cases)) (given .shown);
         set = rw (deferred-found s c, set .stays .case-fields j 4 (omega arith), set .stays .case-fields j 5 (omega arith))
             (set-shown old-set set);
         before = λ q h. ap (λ z. getD z q 0) (set .same-cases) ∙ given .before q h;
@@ -415,7 +421,7 @@ module _ (g : Graph) (valid : Valid g) where
             let a = st .case-fields j 4 (omega arith) in
             let b = st .case-fields j 5 (omega arith) in
             let size = old-set .size in
-            same-bundle-then (record { words = λ i d. ap (λ z. getD z (7 * q + i) 0) (given .same-bundles) })
+            same-bundle-then (record { words = λ i d. ap (λ z. getD z (bundle-word-at q i) 0) (given .same-bundles) })
             (elim (decLt q start) [
               | yes d ↦ set .before q (omega arith)
               | no d ↦ elim (decLt q (start + n)) [
@@ -432,11 +438,11 @@ module _ (g : Graph) (valid : Valid g) where
   pub record CasesLookedUp (s : NestState) (l l′ : List ℕ) (r j : ℕ) (cs : List MaybeClaimedRegion) : Type 0 where
     pub stays : Stays l l′
     pub each : (k : ℕ) → k < length cs → ShowsCase g l′ r (j + k) (getD (map (λ c. case-found s c .value) cs) k no-case)
-    pub sets : (k : ℕ) → k < length cs → ShowsSet g l′ (word l′ cases (10 * (j + k) + 4)) (word l′ cases (10 * (j + k) + 5))
+    pub sets : (k : ℕ) → k < length cs → ShowsSet g l′ (case-set-start l′ (j + k)) (case-set-length l′ (j + k))
         (deferred-of (getD (map (λ c. case-found s c .value) cs) k no-case))
-    pub before : (x : ℕ) → x < 10 * j → word l′ cases x ≡ word l cases x
+    pub before : (x : ℕ) → x < case-row-at j → word l′ cases x ≡ word l cases x
     pub outside : (q : ℕ)
-        → ((k p : ℕ) → k < length cs → p < word l cases (10 * (j + k) + 5) → q ≡ word l cases (10 * (j + k) + 4) + p → ⊥)
+        → ((k p : ℕ) → k < length cs → p < case-set-length l (j + k) → q ≡ case-set-start l (j + k) + p → ⊥)
         → SameBundle l l′ q
     pub tables : ShowsTables l′ (with-twice (any (λ c. case-found s c .twice) cs) s)
 
@@ -445,9 +451,9 @@ module _ (g : Graph) (valid : Valid g) where
 
   -- A set stays where its case's fields and its bundles do.
   moved-set : {l l′ : List ℕ} → Stays l l′ → (j : ℕ) →
-      ((i : ℕ) → i < word l cases (10 * j + 5) → SameBundle l l′ (word l cases (10 * j + 4) + i))
-      → {d : DeferredEdgeBundleSet} → ShowsSet g l (word l cases (10 * j + 4)) (word l cases (10 * j + 5)) d
-      → ShowsSet g l′ (word l′ cases (10 * j + 4)) (word l′ cases (10 * j + 5)) d
+      ((i : ℕ) → i < case-set-length l j → SameBundle l l′ (case-set-start l j + i))
+      → {d : DeferredEdgeBundleSet} → ShowsSet g l (case-set-start l j) (case-set-length l j) d
+      → ShowsSet g l′ (case-set-start l′ j) (case-set-length l′ j) d
   moved-set st j same x =
       rw (st .case-fields j 4 (omega arith), st .case-fields j 5 (omega arith)) (set-stays (stays-later g st) same x)
 
@@ -455,9 +461,9 @@ module _ (g : Graph) (valid : Valid g) where
       → (l : List ℕ) → ShowsTables l s → NamedRewrites l → ShowsReturned g l → (j : ℕ) → j + length cs ≤ 8
       → ((k : ℕ) → k < length cs → ShowsCase g l r (j + k) (getD cs k no-case))
       → ((k : ℕ) → k < length cs
-      → ShowsSet g l (word l cases (10 * (j + k) + 4)) (word l cases (10 * (j + k) + 5)) (deferred-of (getD cs k no-case)))
-      → ((a b p q : ℕ) → a < b → b < length cs → p < word l cases (10 * (j + a) + 5) → q < word l cases (10 * (j + b) + 5)
-      → word l cases (10 * (j + a) + 4) + p ≡ word l cases (10 * (j + b) + 4) + q → ⊥)
+      → ShowsSet g l (case-set-start l (j + k)) (case-set-length l (j + k)) (deferred-of (getD cs k no-case)))
+      → ((a b p q : ℕ) → a < b → b < length cs → p < case-set-length l (j + a) → q < case-set-length l (j + b)
+      → case-set-start l (j + a) + p ≡ case-set-start l (j + b) + q → ⊥)
       → CasesLookedUp s l (turned case-step l (length cs) j) r j cs
   unfolding turned
   cases-turned r [] s all l t names back j few each sets apart =
@@ -472,10 +478,10 @@ module _ (g : Graph) (valid : Valid g) where
   cases-turned r (c ∷ cs) s all l t names back j few each sets apart =
       let here : j + 0 ≡ j = omega arith in
       let first : ShowsCase g l r j c = rw here at (each 0 (omega arith)) in
-      let first-set : ShowsSet g l (word l cases (10 * j + 4)) (word l cases (10 * j + 5)) (deferred-of c) = rw here at
+      let first-set : ShowsSet g l (case-set-start l j) (case-set-length l j) (deferred-of c) = rw here at
       (sets 0 (omega arith)) in
-      let first-apart : (b p q : ℕ) → b < length cs → p < word l cases (10 * j + 5) → q < word l cases (10 * (j + suc b) + 5)
-      → word l cases (10 * j + 4) + p ≡ word l cases (10 * (j + suc b) + 4) + q → ⊥ =
+      let first-apart : (b p q : ℕ) → b < length cs → p < case-set-length l j → q < case-set-length l (j + suc b)
+      → case-set-start l j + p ≡ case-set-start l (j + suc b) + q → ⊥ =
       λ b p q h x y e. apart 0 (suc b) p q (omega arith) (omega arith) (rw here x) y (rw here e) in
       let one = case-rewritten s all l t names back r j (omega arith) first first-set in
       let l₁ = rewrite-case g l j in
@@ -483,9 +489,9 @@ module _ (g : Graph) (valid : Valid g) where
       let m = case-found s c .twice in
       let next : (k : ℕ) → suc j + k ≡ j + suc k = λ k. omega arith in
       let ih = cases-turned r cs (with-twice m s) all l₁ (one .tables) (names-stay st names) (returned-stays st back) (suc j) (omega arith)
-      (λ k h. rw (next k) (inputs-stay st r (j + suc k) (λ i d. one .behind (10 * (j + suc k) + (6 + i)) (omega arith))
+      (λ k h. rw (next k) (inputs-stay st r (j + suc k) (λ i d. one .behind (case-input-at (j + suc k) i) (omega arith))
       (each (suc k) (omega arith))))
-      (λ k h. rw (next k) (moved-set st (j + suc k) (λ i d. one .outside (word l cases (10 * (j + suc k) + 4) + i)
+      (λ k h. rw (next k) (moved-set st (j + suc k) (λ i d. one .outside (case-set-start l (j + suc k) + i)
       (λ p x e. first-apart k p i h x d (sym e))) (sets (suc k) (omega arith))))
       (λ a b p q h d. rw (
         next a,
@@ -497,16 +503,16 @@ module _ (g : Graph) (valid : Valid g) where
       )
       (apart (suc a) (suc b) p q (omega arith) (omega arith))) in
       let l′ = turned case-step l₁ (length cs) (suc j) in
-      let length-of : (k : ℕ) → word l₁ cases (10 * k + 5) ≡ word l cases (10 * k + 5) = λ k. st .case-fields k 5 (omega arith) in
-      let start-of : (k : ℕ) → word l₁ cases (10 * k + 4) ≡ word l cases (10 * k + 4) = λ k. st .case-fields k 4 (omega arith) in
+      let length-of : (k : ℕ) → case-set-length l₁ k ≡ case-set-length l k = λ k. st .case-fields k 5 (omega arith) in
+      let start-of : (k : ℕ) → case-set-start l₁ k ≡ case-set-start l k = λ k. st .case-fields k 4 (omega arith) in
       let us = map (λ x. case-found s x .value) cs in
       record {
         stays = stays-then st (ih .stays);
         each = at-cons (λ q x. ShowsCase g l′ r q x) no-case j (length cs) us
-            (inputs-stay (ih .stays) r j (λ k h. ih .before (10 * j + (6 + k)) (omega arith)) (one .shown)) (ih .each);
-        sets = at-cons (λ q x. ShowsSet g l′ (word l′ cases (10 * q + 4)) (word l′ cases (10 * q + 5)) (deferred-of x)) no-case j
+            (inputs-stay (ih .stays) r j (λ k h. ih .before (case-input-at j k) (omega arith)) (one .shown)) (ih .each);
+        sets = at-cons (λ q x. ShowsSet g l′ (case-set-start l′ q) (case-set-length l′ q) (deferred-of x)) no-case j
             (length cs) us
-            (moved-set (ih .stays) j (λ i d. ih .outside (word l₁ cases (10 * j + 4) + i) (λ k p a b e.
+            (moved-set (ih .stays) j (λ i d. ih .outside (case-set-start l₁ j + i) (λ k p a b e.
             first-apart k i p a (rw (length-of j) at d) (rw (next k, length-of (j + suc k)) at b)
             (rw (next k, start-of j, start-of (j + suc k)) at e))) (one .set))
             (ih .sets);
@@ -521,8 +527,8 @@ module _ (g : Graph) (valid : Valid g) where
 -- No case's set is a Ready region's: the parent is in progress, and what a case claimed is claimed.
 pub record NoneReady (g : Graph) (w : List ℕ) (r : ℕ) (cs : List MaybeClaimedRegion) : Type 0 where
   pub parent-slot : HasSlot (length (g .regions)) r
-  pub parent : word w kinds r ≡ 2 → ⊥
-  pub origins : (j : ℕ) → j < length cs → word w cases (10 * j + 0) ≡ 2 → word w kinds (word w cases (10 * j + 1)) ≡ 2 → ⊥
+  pub parent : region-kind w r ≡ kind-ready → ⊥
+  pub origins : (j : ℕ) → j < length cs → case-kind w j ≡ case-claimed → region-kind w (case-origin w j) ≡ kind-ready → ⊥
 
 abbrev pub cases-after : NestState → List MaybeClaimedRegion → List MaybeClaimedRegion
 cases-after s cs = map (λ c. case-found s c .value) cs
@@ -540,7 +546,7 @@ pub record CasesRewritten (g : Graph) (w w′ : List ℕ) (r : ℕ) (s : NestSta
   pub later : Later g w w′
   pub stays : Stays w w′
   pub outside : (q : ℕ)
-      → ((j p : ℕ) → j < length cs → p < word w cases (10 * j + 5) → q ≡ word w cases (10 * j + 4) + p → ⊥)
+      → ((j p : ℕ) → j < length cs → p < case-set-length w j → q ≡ case-set-start w j + p → ⊥)
       → SameBundle w w′ q
 
 from-zero : (k : ℕ) → 0 + k ≡ k
@@ -558,8 +564,8 @@ module _ (g : Graph) (valid : Valid g) (w : List ℕ) (r : ℕ) (s : NestState) 
     (x : ShowsCases g w r cs) where
   -- A bundle of case j is none of slot q's, where q is neither the parent nor the case's origin.
   pub case-apart : (q : ℕ) → HasSlot (length (g .regions)) q → HasSlot (length (g .regions)) r → (q ≡ r → ⊥) → (j : ℕ) → j < length cs
-      → (word w cases (10 * j + 0) ≡ 2 → q ≡ word w cases (10 * j + 1) → ⊥)
-      → (i p : ℕ) → i < 33 → p < word w cases (10 * j + 5) → word w set-starts q + i ≡ word w cases (10 * j + 4) + p → ⊥
+      → (case-kind w j ≡ case-claimed → q ≡ case-origin w j → ⊥)
+      → (i p : ℕ) → i < 33 → p < case-set-length w j → word w set-starts q + i ≡ case-set-start w j + p → ⊥
   case-apart q a b d j h f i p y z e = go (x .each j h)
     where
       go : {c : MaybeClaimedRegion} → ShowsCase g w r j c → ⊥
@@ -584,7 +590,7 @@ module _ (g : Graph) (valid : Valid g) (w : List ℕ) (r : ℕ) (s : NestState) 
         (λ k h. rw (from-zero k) (x .each k h)) (λ k h. rw (from-zero k) (x .sets k h))
         (λ a b p q h d. rw (from-zero a, from-zero b) (x .apart a b p q h d)))
 
-    bundles-outside : (q : ℕ) → ((j p : ℕ) → j < length cs → p < word w cases (10 * j + 5) → q ≡ word w cases (10 * j + 4) + p → ⊥)
+    bundles-outside : (q : ℕ) → ((j p : ℕ) → j < length cs → p < case-set-length w j → q ≡ case-set-start w j + p → ⊥)
         → SameBundle w (rewrite-cases g w) q
     bundles-outside q h = whole .outside q (λ j p. rw (from-zero j) (h j p))
 
@@ -601,7 +607,7 @@ module _ (g : Graph) (valid : Valid g) (w : List ℕ) (r : ℕ) (s : NestState) 
             → word (rewrite-cases g w) k q ≡ word w k q
         same k a b c = ap (λ z. getD z q 0) (whole .stays .others k a b c)
 
-        kind : word (rewrite-cases g w) kinds q ≡ word w kinds q
+        kind : region-kind (rewrite-cases g w) q ≡ region-kind w q
         kind = same kinds (omega arith) (omega arith) (omega arith)
 
         go : {y : StructurizeRegionState} → ShowsRegion g w q y → ShowsRegion g (rewrite-cases g w) q y
@@ -615,8 +621,8 @@ module _ (g : Graph) (valid : Valid g) (w : List ℕ) (r : ℕ) (s : NestState) 
             (rw (same children (omega arith) (omega arith) (omega arith)) (later .nodes-stay n))
             (rw (same set-starts (omega arith) (omega arith) (omega arith), same set-lengths (omega arith) (omega arith) (omega arith))
             (set-stays later (λ i z. bundles-outside (word w set-starts q + i) (λ j p u v e.
-            case-apart q (omega arith) (none .parent-slot) (λ f. none .parent (ap (λ m. word w kinds m) (sym f) ∙ a)) j u
-            (λ f m. none .origins j u f (ap (λ o. word w kinds o) (sym m) ∙ a)) i p (omega arith) v e)) d))
+            case-apart q (omega arith) (none .parent-slot) (λ f. none .parent (ap (λ m. region-kind w m) (sym f) ∙ a)) j u
+            (λ f m. none .origins j u f (ap (λ o. region-kind w o) (sym m) ∙ a)) i p (omega arith) v e)) d))
 
     pub rewrite-cases-shown : NoneReady g w r cs → CasesRewritten g w (rewrite-cases g w) r s cs
     unfolding case-total
@@ -629,7 +635,7 @@ module _ (g : Graph) (valid : Valid g) (w : List ℕ) (r : ℕ) (s : NestState) 
         λ q. ap (λ z. getD z q 0) (st .others set-starts (omega arith) (omega arith) (omega arith)) in
         record {
           cases-shown = record {
-            size = rw (st .totals 7 (omega arith)) (x .size ∙ sym same);
+            size = rw (st .totals cases-at (omega arith)) (x .size ∙ sym same);
             few = rw same (x .few);
             each = λ j h. rw (from-zero j) at (whole .each j (rw same at h));
             sets = λ j h. rw (from-zero j) at (whole .sets j (rw same at h));
@@ -658,7 +664,7 @@ module _ (g : Graph) (valid : Valid g) (w : List ℕ) (r : ℕ) (s : NestState) 
 
     -- A region that is neither the parent nor a case's origin keeps all that it has.
     pub rewrite-keeps : HasSlot (length (g .regions)) r → (q : ℕ) → HasSlot (length (g .regions)) q → (q ≡ r → ⊥)
-        → ((j : ℕ) → j < length cs → word w cases (10 * j + 0) ≡ 2 → q ≡ word w cases (10 * j + 1) → ⊥)
+        → ((j : ℕ) → j < length cs → case-kind w j ≡ case-claimed → q ≡ case-origin w j → ⊥)
         → KeptRegion w (rewrite-cases g w) q
     rewrite-keeps below q h d f =
         let same : (k : Section) → (number k ≡ number sections.cases → ⊥) → (number k ≡ number sections.bundles → ⊥)
@@ -670,6 +676,6 @@ module _ (g : Graph) (valid : Valid g) (w : List ℕ) (r : ℕ) (s : NestState) 
           handle = same children (omega arith) (omega arith) (omega arith) q;
           body = same bodies (omega arith) (omega arith) (omega arith) q;
           backedge = same backedges (omega arith) (omega arith) (omega arith) q;
-          taken = λ j z. same levels (omega arith) (omega arith) (omega arith) (8 * q + j);
+          taken = λ j z. same levels (omega arith) (omega arith) (omega arith) (level-at q j);
           slot = λ i z. bundles-outside (word w set-starts q + i) (λ j p u v e. case-apart q h below d j u (f j u) i p z v e);
         }

@@ -27,36 +27,38 @@ use Rattle.lookups.specs.LookUps.{plain, kind-at, entry-at, stays, renumbers, t
 use Rattle.lookups.specs.laws.Shown.{rewritten-value, rewritten-tables, rewrite-changes}
 use Rattle.merging.specs.Turns.{turned}
 use Rattle.merging.specs.Rewriting.{noted}
+use Rattle.state.specs.Values.{names-nothing}
+use Rattle.state.specs.Rows.{twice-at}
 
 -- ---- A look-up of a word that names a value gives one that does.
 module _ (l : List ℕ) (named : NamedRewrites l) where
-  module _ (x : ℕ) (h : x < 4096) (next : ℕ → LookUp) (before : (y : ℕ) → y < 4096 → next y .value < 4096) where
+  module _ (x : ℕ) (h : x < names-nothing) (next : ℕ → LookUp) (before : (y : ℕ) → y < names-nothing → next y .value < names-nothing) where
     abbrev by-entry : LookUp
     by-entry = pick (renumbers (kind-at l x) (entry-at l x)) (plain (entry-at l x)) (next (entry-at l x))
 
-    entry-below : eqb (kind-at l x) 0 ≡ false → by-entry .value < 4096
+    entry-below : eqb (kind-at l x) 0 ≡ false → by-entry .value < names-nothing
     entry-below e = go (renumbers (kind-at l x) (entry-at l x))
       where
-        there : entry-at l x < 4096
+        there : entry-at l x < names-nothing
         there = named .below (input-region x) (input-index x) (omega arith) (omega arith) (eqb-false (kind-at l x) 0 e)
 
-        go : (b : Bool) → pick b (plain (entry-at l x)) (next (entry-at l x)) .value < 4096
+        go : (b : Bool) → pick b (plain (entry-at l x)) (next (entry-at l x)) .value < names-nothing
         go true = there
         go false = before (entry-at l x) there
 
-    turn-below : (a b : Bool) → eqb (kind-at l x) 0 ≡ b → pick a (pick b (plain x) by-entry) (stays l x) .value < 4096
+    turn-below : (a b : Bool) → eqb (kind-at l x) 0 ≡ b → pick a (pick b (plain x) by-entry) (stays l x) .value < names-nothing
     unfolding stays
     turn-below true true e = h
     turn-below true false e = entry-below e
     turn-below false b e = h
 
-  turns-below : (n x : ℕ) → x < 4096 → turns n l x .value < 4096
+  turns-below : (n x : ℕ) → x < names-nothing → turns n l x .value < names-nothing
   unfolding turns
   turns-below zero x h = h
   turns-below (suc n) x h =
       turn-below x h (λ y. turns n l y) (λ y. turns-below n y) (is-input x) (eqb (kind-at l x) 0) refl
 
-  pub look-up-below : (x : ℕ) → x < 4096 → look-up l x .value < 4096
+  pub look-up-below : (x : ℕ) → x < names-nothing → look-up l x .value < names-nothing
   look-up-below x h = turns-below 129 x h
 
 -- ---- Notes one behind the other.
@@ -102,7 +104,7 @@ module _ (k : Section) (away : Elsewhere k) (room : start k + size k ≤ used) (
     step-tables = tables-stay (word-elsewhere (noted l x) k away (o + (c + i)) (look-up l x .value))
         (rw (first .is) at (rewritten-tables t all step))
 
-    noted-changes : ChangesOnly head 6 l (noted l x)
+    noted-changes : ChangesOnly head twice-at l (noted l x)
     noted-changes = rewrite-changes t all step
 
     step-changes : ChangesOnly k 6 l (row-step l i)

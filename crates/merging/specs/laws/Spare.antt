@@ -1,7 +1,7 @@
 -- Stores into the spare slot leave all else that the words show.
 use mathlib.Core.Path.{_≡_, refl, sym, ap, _∙_}
 use mathlib.Core.List.{List, [], _∷_}
-use Prim.Native.Nat.{ℕ, suc, _+_, _*_, _-_, _≤_, _<_}
+use Prim.Native.Nat.{ℕ, suc, _+_, _-_, _≤_, _<_}
 use native.Mathlib.Omega.{arith}
 use native.Mathlib.Decide.{decLt}
 use lib.ListN.{length, getD}
@@ -23,11 +23,13 @@ use Rattle.shown.specs.Kept.{Later, KeptRegion}
 use Rattle.shown.specs.laws.RegionsKept.{set-stays, region-stays}
 use Rattle.shown.specs.laws.Stores.{word-apart}
 use Rattle.shown.specs.laws.RegionSteps.{named-by, slots-stay}
+use Rattle.state.specs.Rows.{bundle-row-at, bundle-word-at, case-input, case-input-at, case-set-length-at, case-set-start}
+use Rattle.state.specs.Rows.{case-set-start-at, case-word, case-word-at, level-at, slot-words, spare-slot}
 
 -- ---- A case stays shown where its words and the slots do.
 pub case-stays : {g : Graph} {l l′ : List ℕ} → Later g l l′ → (r j : ℕ) → ((q : ℕ) → word l′ set-starts q ≡ word l set-starts q)
-    → ((i : ℕ) → i < 6 → word l′ cases (10 * j + i) ≡ word l cases (10 * j + i))
-    → ((k : ℕ) → k < 4 → word l′ cases (10 * j + (6 + k)) ≡ word l cases (10 * j + (6 + k)))
+    → ((i : ℕ) → i < 6 → case-word l′ j i ≡ case-word l j i)
+    → ((k : ℕ) → k < 4 → case-input l′ j k ≡ case-input l j k)
     → {c : MaybeClaimedRegion} → ShowsCase g l r j c → ShowsCase g l′ r j c
 case-stays later r j starts f same (shows-ok {c} kind origin in-graph body below nodes start size inputs) =
     shows-ok {c = c} (f 0 (omega arith) ∙ kind) (f 1 (omega arith) ∙ origin) in-graph (f 2 (omega arith) ∙ body) below
@@ -45,14 +47,14 @@ pub record SpareOnly (o : ℕ) (w w′ : List ℕ) : Type 0 where
   pub others : (k : Section) → (number k ≡ number sections.set-lengths → ⊥) → (number k ≡ number sections.bundles → ⊥)
       → section w′ k ≡ section w k
   pub lengths : (q : ℕ) → (q ≡ 32 → ⊥) → word w′ set-lengths q ≡ word w set-lengths q
-  pub before : (x : ℕ) → x < 7 * o → word w′ bundles x ≡ word w bundles x
-  pub behind : (x : ℕ) → 7 * o + 231 ≤ x → word w′ bundles x ≡ word w bundles x
+  pub before : (x : ℕ) → x < bundle-row-at o → word w′ bundles x ≡ word w bundles x
+  pub behind : (x : ℕ) → bundle-row-at o + slot-words ≤ x → word w′ bundles x ≡ word w bundles x
 
 module _ (o : ℕ) (w : List ℕ) where
   pub spare-same : SpareOnly o w w
   spare-same = record { words = refl; others = λ k a b. refl; lengths = λ q d. refl; before = λ x h. refl; behind = λ x h. refl }
 
-  pub spare-word : (i x : ℕ) → 7 * o ≤ i → i < 7 * o + 231 → SpareOnly o w (stored w bundles i x)
+  pub spare-word : (i x : ℕ) → bundle-row-at o ≤ i → i < bundle-row-at o + slot-words → SpareOnly o w (stored w bundles i x)
   spare-word i x a b =
       record {
         words = stored-length (start bundles) (size bundles) w i x;
@@ -62,14 +64,14 @@ module _ (o : ℕ) (w : List ℕ) where
         behind = λ q h. word-apart w bundles i x bundles q (omega arith);
       }
 
-  pub spare-length : (x : ℕ) → SpareOnly o w (stored w set-lengths 32 x)
+  pub spare-length : (x : ℕ) → SpareOnly o w (stored w set-lengths spare-slot x)
   spare-length x =
       record {
         words = stored-length (start set-lengths) (size set-lengths) w 32 x;
-        others = λ k c d. section-other w set-lengths 32 x k c;
-        lengths = λ q d. word-apart w set-lengths 32 x set-lengths q d;
-        before = λ q h. ap (λ z. getD z q 0) (section-other w set-lengths 32 x bundles (omega arith));
-        behind = λ q h. ap (λ z. getD z q 0) (section-other w set-lengths 32 x bundles (omega arith));
+        others = λ k c d. section-other w set-lengths spare-slot x k c;
+        lengths = λ q d. word-apart w set-lengths spare-slot x set-lengths q d;
+        before = λ q h. ap (λ z. getD z q 0) (section-other w set-lengths spare-slot x bundles (omega arith));
+        behind = λ q h. ap (λ z. getD z q 0) (section-other w set-lengths spare-slot x bundles (omega arith));
       }
 
 pub spare-then : {o : ℕ} {w w₁ w₂ : List ℕ} → SpareOnly o w w₁ → SpareOnly o w₁ w₂ → SpareOnly o w w₂
@@ -82,7 +84,7 @@ spare-then a b =
       behind = λ x h. b .behind x h ∙ a .behind x h;
     }
 
-pub spare-three : (o : ℕ) (w : List ℕ) (i a b c : ℕ) → 7 * o ≤ i → i + 2 < 7 * o + 231
+pub spare-three : (o : ℕ) (w : List ℕ) (i a b c : ℕ) → bundle-row-at o ≤ i → i + 2 < bundle-row-at o + slot-words
     → SpareOnly o w (stored-all w bundles i (a ∷ b ∷ c ∷ []))
 unfolding stored-all-at
 spare-three o w i a b c h k =
@@ -125,14 +127,14 @@ module _ {o : ℕ} {w w′ : List ℕ} (y : SpareOnly o w w′) where
   pub spare-outside : (q : ℕ) → ((i : ℕ) → i < 33 → q ≡ o + i → ⊥) → SameBundle w w′ q
   spare-outside q d =
       elim (decLt q o) [
-        | yes h ↦ record { words = λ i b. y .before (7 * q + i) (omega arith) }
+        | yes h ↦ record { words = λ i b. y .before (bundle-word-at q i) (omega arith) }
         | no h ↦ elim (decLt q (o + 33)) [
           | yes b ↦ absurd (d (q - o) (omega arith) (omega arith))
-          | no b ↦ record { words = λ i c. y .behind (7 * q + i) (omega arith) }
+          | no b ↦ record { words = λ i c. y .behind (bundle-word-at q i) (omega arith) }
         ]
       ]
 
-  module _ (g : Graph) (slots : Slots (length (g .regions)) w) (spare : word w set-starts 32 ≡ o) where
+  module _ (g : Graph) (slots : Slots (length (g .regions)) w) (spare : word w set-starts spare-slot ≡ o) where
     pub spare-keeps : length (g .regions) ≤ 32 → (q : ℕ) → q < length (g .regions) → KeptRegion w w′ q
     spare-keeps few q h =
         let a = slots .starts q (omega arith) in
@@ -145,7 +147,7 @@ module _ {o : ℕ} {w w′ : List ℕ} (y : SpareOnly o w w′) where
           handle = spare-there children (omega arith) (omega arith) q;
           body = spare-there bodies (omega arith) (omega arith) q;
           backedge = spare-there backedges (omega arith) (omega arith) q;
-          taken = λ j d. spare-there levels (omega arith) (omega arith) (8 * q + j);
+          taken = λ j d. spare-there levels (omega arith) (omega arith) (level-at q j);
           slot = λ i d. spare-outside (word w set-starts q + i) (λ k c e. apart (omega arith));
         }
 
@@ -171,12 +173,14 @@ module _ {o : ℕ} {w w′ : List ℕ} (y : SpareOnly o w w′) where
         record {
           size = spare-total ∙ x .size;
           few = x .few;
-          each = λ j h. case-stays (spare-later g) r j (spare-there set-starts (omega arith) (omega arith)) (λ i b. f (10 * j + i))
-              (λ k b. f (10 * j + (6 + k))) (x .each j h);
-          sets = λ j h. rw (f (10 * j + 4), f (10 * j + 5)) (set-stays (spare-later g) (λ i b.
-              spare-outside (word w cases (10 * j + 4) + i) (λ k c e. x .not-spare j i k h b c (e ∙ ap (λ z. z + k) (sym spare))))
+          each = λ j h. case-stays (spare-later g) r j (spare-there set-starts (omega arith) (omega arith)) (λ i b. f (case-word-at j i))
+              (λ k b. f (case-input-at j k)) (x .each j h);
+          sets = λ j h. rw (f (case-set-start-at j), f (case-set-length-at j)) (set-stays (spare-later g) (λ i b.
+              spare-outside (case-set-start w j + i) (λ k c e. x .not-spare j i k h b c (e ∙ ap (λ z. z + k) (sym spare))))
               (x .sets j h));
-          apart = λ i j p q a b. rw (f (10 * i + 5), f (10 * j + 5), f (10 * i + 4), f (10 * j + 4)) (x .apart i j p q a b);
-          not-spare = λ j p q a. rw (f (10 * j + 5), f (10 * j + 4), spare-there set-starts (omega arith) (omega arith) 32)
+          apart = λ i j p q a b. rw (f (case-set-length-at i), f (case-set-length-at j), f (case-set-start-at i), f (case-set-start-at j))
+              (x .apart i j p q a b);
+          not-spare = λ j p q a. rw
+              (f (case-set-length-at j), f (case-set-start-at j), spare-there set-starts (omega arith) (omega arith) 32)
               (x .not-spare j p q a);
         }

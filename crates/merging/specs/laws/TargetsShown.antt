@@ -2,7 +2,7 @@
 use mathlib.Core.Path.{_≡_, refl, sym, ap, subst, _∙_}
 use mathlib.Core.Bool.{Bool, true, false}
 use mathlib.Core.List.{List, [], _∷_, _++_}
-use Prim.Native.Nat.{ℕ, zero, suc, _+_, _*_, _-_, _≤_, _<_}
+use Prim.Native.Nat.{ℕ, zero, suc, _+_, _-_, _≤_, _<_}
 use native.Mathlib.Omega.{arith}
 use native.Mathlib.Decide.{decLt, ℕ-discrete}
 use lib.ListN.{length, getD, set, length-set, length-append, List·getD-append}
@@ -34,6 +34,9 @@ use Rattle.meaning.specs.facts.Pigeonhole.{pigeonhole}
 use Rattle.shown.specs.laws.Finds.{bundle-in, targets-tell, FirstTo, first-at, none-to, finds-first}
 use Rattle.meaning.specs.facts.Parts.{run-before, run-in}
 use Rattle.nesting.specs.steps.TargetsAndCases.{same-target-is, same-target-self, summary-with}
+use Rattle.state.specs.Rows.{bundle-condition, bundle-condition-at, bundle-count, bundle-count-at, bundle-row-at, bundle-target}
+use Rattle.state.specs.Rows.{bundle-target-at, bundle-word, bundle-word-at, case-set-length, case-set-length-at, case-set-start}
+use Rattle.state.specs.Rows.{case-set-start-at, largest, most-bundles, own-edges-from, spare-slot}
 
 -- ---- The definition's step, by the first row to a bundle's target.
 abbrev pub no-summary : DeferredTargetSummary
@@ -97,19 +100,19 @@ row-within x (t ∷ ts) (suc i) h is = let a = row-within x ts i (omega arith) i
 
 -- ---- Rows in the spare slot, which starts at bundle o.
 pub record ShowsRow (g : Graph) (l : List ℕ) (p : ℕ) (t : DeferredTargetSummary) : Type 0 where
-  pub target : ShowsTarget g (word l bundles (7 * p + 0)) (t .target)
-  pub count : word l bundles (7 * p + 1) ≡ t .total-edge-count
-  pub condition : word l bundles (7 * p + 2) ≡ 1
+  pub target : ShowsTarget g (bundle-target l p) (t .target)
+  pub count : bundle-count l p ≡ t .total-edge-count
+  pub condition : bundle-condition l p ≡ 1
   pub size : t .input-count ≡ target-size g (t .target)
   pub few : t .input-count ≤ 4
 
 pub record ShowsRows (g : Graph) (l : List ℕ) (o : ℕ) (ts : List DeferredTargetSummary) : Type 0 where
-  pub size : word l set-lengths 32 ≡ length ts
+  pub size : word l set-lengths spare-slot ≡ length ts
   pub few : length ts ≤ 33
   pub each : (i : ℕ) → i < length ts → ShowsRow g l (o + i) (getD ts i no-summary)
-  pub apart : (i j : ℕ) → i < j → j < length ts → word l bundles (7 * (o + i) + 0) ≡ word l bundles (7 * (o + j) + 0) → ⊥
+  pub apart : (i j : ℕ) → i < j → j < length ts → bundle-target l (o + i) ≡ bundle-target l (o + j) → ⊥
 
-no-clip : (a b : ℕ) → a + b ≤ 65535 → longer a b ≡ a + b
+no-clip : (a b : ℕ) → a + b ≤ largest → longer a b ≡ a + b
 unfolding longer
 no-clip a b h =
     elim (decLt a (65535 - b)) [
@@ -141,13 +144,13 @@ module _ (g : Graph) (valid : Valid g) where
 
   -- Rows to different targets, and one target more: there was room.
   rows-few : (l : List ℕ) (o t : ℕ) {x : DeferredTarget} {ts : List DeferredTargetSummary} → ShowsTarget g t x → ShowsRows g l o ts
-      → ((k : ℕ) → k < length ts → word l bundles (7 * (o + k) + 0) ≡ t → ⊥) → length ts < 33
+      → ((k : ℕ) → k < length ts → bundle-target l (o + k) ≡ t → ⊥) → length ts < 33
   rows-few l o t {ts} shown rows new = pigeonhole 33 (suc (length ts)) number below apart
     where
       number : ℕ → ℕ
-      number k = pick (ltb k (length ts)) (target-number (word l bundles (7 * (o + k) + 0))) (target-number t)
+      number k = pick (ltb k (length ts)) (target-number (bundle-target l (o + k))) (target-number t)
 
-      old : (k : ℕ) → k < length ts → number k ≡ target-number (word l bundles (7 * (o + k) + 0))
+      old : (k : ℕ) → k < length ts → number k ≡ target-number (bundle-target l (o + k))
       old k h = rw (lt-ltb k (length ts) h)
 
       last : (k : ℕ) → length ts ≤ k → number k ≡ target-number t
@@ -171,20 +174,20 @@ module _ (g : Graph) (valid : Valid g) where
     pub spare : SpareOnly o l l′
     pub rows : ShowsRows g l′ o ts
 
-  module _ (o : ℕ) (below : o + 33 ≤ 1089) (l : List ℕ) (full : used ≤ length l) (at : word l set-starts 32 ≡ o) (p : ℕ)
+  module _ (o : ℕ) (below : o + 33 ≤ own-edges-from) (l : List ℕ) (full : used ≤ length l) (at : word l set-starts spare-slot ≡ o) (p : ℕ)
       {e : DeferredEdgeBundle} (x : ShowsBundle g l p e) (ts : List DeferredTargetSummary) (rows : ShowsRows g l o ts) where
     abbrev t : ℕ
-    t = word l bundles (7 * p + 0)
+    t = bundle-target l p
 
     abbrev count : ℕ
-    count = word l bundles (7 * p + 1)
+    count = bundle-count l p
 
     -- The edges are counted with those of row i.
     module _ (i : ℕ) (h : i < length ts) where
       abbrev counted : List ℕ
-      counted = stored l bundles (7 * (o + i) + 1) (getD ts i no-summary .total-edge-count + e .accumulated-count)
+      counted = stored l bundles (bundle-count-at (o + i)) (getD ts i no-summary .total-edge-count + e .accumulated-count)
 
-      as-counted : getD ts i no-summary .total-edge-count + e .accumulated-count ≤ 65535 → find-by l o t (length ts) 0 ≡ o + i
+      as-counted : getD ts i no-summary .total-edge-count + e .accumulated-count ≤ largest → find-by l o t (length ts) 0 ≡ o + i
           → summarize-bundle l p ≡ counted
       unfolding summarize-bundle
       as-counted b f =
@@ -195,20 +198,21 @@ module _ (g : Graph) (valid : Valid g) where
       row-counted k b =
           let few = rows .few in
           let row = rows .each k b in
-          let other = word-apart l bundles (7 * (o + i) + 1) (getD ts i no-summary .total-edge-count + e .accumulated-count) bundles in
+          let other = word-apart l bundles (bundle-count-at (o + i))
+          (getD ts i no-summary .total-edge-count + e .accumulated-count) bundles in
           elim (ℕ-discrete k i) [
             | yes z ↦ rw (z, getD-set-same ts i (summary-with e (getD ts i no-summary)) no-summary h) (record {
-              target = rw (other (7 * (o + i) + 0) (omega arith)) (rows .each i h .target);
-              count = word-there l bundles (7 * (o + i) + 1) (getD ts i no-summary .total-edge-count + e .accumulated-count)
+              target = rw (other (bundle-target-at (o + i)) (omega arith)) (rows .each i h .target);
+              count = word-there l bundles (bundle-count-at (o + i)) (getD ts i no-summary .total-edge-count + e .accumulated-count)
                   (omega arith) (omega arith);
-              condition = other (7 * (o + i) + 2) (omega arith) ∙ rows .each i h .condition;
+              condition = other (bundle-condition-at (o + i)) (omega arith) ∙ rows .each i h .condition;
               size = rows .each i h .size;
               few = rows .each i h .few;
             })
             | no z ↦ rw (getD-set-other ts i k (summary-with e (getD ts i no-summary)) no-summary z) (record {
-              target = rw (other (7 * (o + k) + 0) (omega arith)) (row .target);
-              count = other (7 * (o + k) + 1) (omega arith) ∙ row .count;
-              condition = other (7 * (o + k) + 2) (omega arith) ∙ row .condition;
+              target = rw (other (bundle-target-at (o + k)) (omega arith)) (row .target);
+              count = other (bundle-count-at (o + k)) (omega arith) ∙ row .count;
+              condition = other (bundle-condition-at (o + k)) (omega arith) ∙ row .condition;
               size = row .size;
               few = row .few;
             })
@@ -219,15 +223,15 @@ module _ (g : Graph) (valid : Valid g) where
           let few = rows .few in
           let same = length-set ts i (summary-with e (getD ts i no-summary)) in
           let sum = getD ts i no-summary .total-edge-count + e .accumulated-count in
-          let other = word-apart l bundles (7 * (o + i) + 1) sum bundles in
+          let other = word-apart l bundles (bundle-count-at (o + i)) sum bundles in
           record {
-            spare = spare-word o l (7 * (o + i) + 1) sum (omega arith) (omega arith);
+            spare = spare-word o l (bundle-count-at (o + i)) sum (omega arith) (omega arith);
             rows = record {
-              size = ap (λ z. getD z 32 0) (section-other l bundles (7 * (o + i) + 1) sum set-lengths (omega arith))
+              size = ap (λ z. getD z 32 0) (section-other l bundles (bundle-count-at (o + i)) sum set-lengths (omega arith))
                   ∙ rows .size ∙ sym same;
               few = rw same few;
               each = λ k b. row-counted k (rw same at b);
-              apart = λ a b c d. rw (other (7 * (o + a) + 0) (omega arith), other (7 * (o + b) + 0) (omega arith))
+              apart = λ a b c d. rw (other (bundle-target-at (o + a)) (omega arith), other (bundle-target-at (o + b)) (omega arith))
                   (rows .apart a b c (rw same at d));
             };
           }
@@ -237,18 +241,18 @@ module _ (g : Graph) (valid : Valid g) where
       abbrev n : ℕ
       n = length ts
 
-      new-word : (k : ℕ) → k < n → word l bundles (7 * (o + k) + 0) ≡ t → ⊥
-      new-word k h = eqb-false (word l bundles (7 * (o + k) + 0)) t
+      new-word : (k : ℕ) → k < n → bundle-target l (o + k) ≡ t → ⊥
+      new-word k h = eqb-false (bundle-target l (o + k)) t
           (targets-tell (let few = valid .count .1 in omega arith) (x .target) (rows .each k h .target) ∙ new k h)
 
       there-was-room : n < 33
       there-was-room = rows-few l o t (x .target) rows new-word
 
       abbrev with-row : List ℕ
-      with-row = stored-all l bundles (7 * (o + n)) (t ∷ count ∷ 1 ∷ [])
+      with-row = stored-all l bundles (bundle-row-at (o + n)) (t ∷ count ∷ 1 ∷ [])
 
       abbrev added : List ℕ
-      added = stored with-row set-lengths 32 (n + 1)
+      added = stored with-row set-lengths spare-slot (n + 1)
 
       as-added : find-by l o t n 0 ≡ 65535 → summarize-bundle l p ≡ added
       unfolding summarize-bundle
@@ -256,28 +260,28 @@ module _ (g : Graph) (valid : Valid g) where
           let h = there-was-room in
           rw (at, rows .size, f, bundle-in o n (omega arith) h, no-clip n 1 (omega arith))
 
-      old-word : (q : ℕ) → q < 7 * (o + n) → word added bundles q ≡ word l bundles q
+      old-word : (q : ℕ) → q < bundle-row-at (o + n) → word added bundles q ≡ word l bundles q
       old-word q h =
-          ap (λ z. getD z q 0) (section-other with-row set-lengths 32 (n + 1) bundles (omega arith)
-          ∙ section-run l bundles (7 * (o + n)) (t ∷ count ∷ 1 ∷ []))
-          ∙ run-before (section l bundles) (7 * (o + n)) (t ∷ count ∷ 1 ∷ []) q h
+          ap (λ z. getD z q 0) (section-other with-row set-lengths spare-slot (n + 1) bundles (omega arith)
+          ∙ section-run l bundles (bundle-row-at (o + n)) (t ∷ count ∷ 1 ∷ []))
+          ∙ run-before (section l bundles) (bundle-row-at (o + n)) (t ∷ count ∷ 1 ∷ []) q h
 
-      own-word : (j : ℕ) → j < 3 → word added bundles (7 * (o + n) + j) ≡ getD (t ∷ count ∷ 1 ∷ []) j 0
+      own-word : (j : ℕ) → j < 3 → bundle-word added (o + n) j ≡ getD (t ∷ count ∷ 1 ∷ []) j 0
       own-word j h =
           let r = there-was-room in
           let z = part-length (start bundles) (size bundles) l (omega arith) in
-          ap (λ z. getD z (7 * (o + n) + j) 0) (section-other with-row set-lengths 32 (n + 1) bundles (omega arith)
-          ∙ section-run l bundles (7 * (o + n)) (t ∷ count ∷ 1 ∷ []))
-          ∙ run-in (section l bundles) (7 * (o + n)) (t ∷ count ∷ 1 ∷ []) j (omega arith) h
+          ap (λ z. getD z (bundle-word-at (o + n) j) 0) (section-other with-row set-lengths spare-slot (n + 1) bundles (omega arith)
+          ∙ section-run l bundles (bundle-row-at (o + n)) (t ∷ count ∷ 1 ∷ []))
+          ∙ run-in (section l bundles) (bundle-row-at (o + n)) (t ∷ count ∷ 1 ∷ []) j (omega arith) h
 
       row-added-at : (k : ℕ) → k < suc n → ShowsRow g added (o + k) (getD (ts ++ (new-summary e ∷ [])) k no-summary)
       row-added-at k h = elim (decLt k n) [
         | yes b ↦ (
             let row = rows .each k b in
             rw (List·getD-append ts (new-summary e ∷ []) no-summary k b) (record {
-              target = rw (old-word (7 * (o + k) + 0) (omega arith)) (row .target);
-              count = old-word (7 * (o + k) + 1) (omega arith) ∙ row .count;
-              condition = old-word (7 * (o + k) + 2) (omega arith) ∙ row .condition;
+              target = rw (old-word (bundle-target-at (o + k)) (omega arith)) (row .target);
+              count = old-word (bundle-count-at (o + k)) (omega arith) ∙ row .count;
+              condition = old-word (bundle-condition-at (o + k)) (omega arith) ∙ row .condition;
               size = row .size;
               few = row .few;
             }))
@@ -296,25 +300,27 @@ module _ (g : Graph) (valid : Valid g) where
       rows-added =
           let h = there-was-room in
           let more = length-append ts (new-summary e ∷ []) in
-          let run-size = run-length (start bundles) (size bundles) l (7 * (o + n)) (t ∷ count ∷ 1 ∷ []) in
-          let shown : word added bundles (7 * (o + n) + 0) ≡ t = own-word 0 (omega arith) in
+          let run-size = run-length (start bundles) (size bundles) l (bundle-row-at (o + n)) (t ∷ count ∷ 1 ∷ []) in
+          let shown : bundle-target added (o + n) ≡ t = own-word 0 (omega arith) in
           record {
-            spare = spare-then (spare-three o l (7 * (o + n)) t count 1 (omega arith) (omega arith)) (spare-length o with-row (n + 1));
+            spare = spare-then (spare-three o l (bundle-row-at (o + n)) t count 1 (omega arith) (omega arith))
+                (spare-length o with-row (n + 1));
             rows = record {
-              size = word-there with-row set-lengths 32 (n + 1) (omega arith) (omega arith) ∙ sym more;
+              size = word-there with-row set-lengths spare-slot (n + 1) (omega arith) (omega arith) ∙ sym more;
               few = omega arith;
               each = λ k b. row-added-at k (omega arith);
               apart = λ i j a b f. elim (decLt j n) [
-                | yes c ↦ rows .apart i j a c (sym (old-word (7 * (o + i) + 0) (omega arith)) ∙ f ∙ old-word (7 * (o + j) + 0)
+                | yes c ↦ rows .apart i j a c
+                    (sym (old-word (bundle-target-at (o + i)) (omega arith)) ∙ f ∙ old-word (bundle-target-at (o + j))
                     (omega arith))
                 | no c ↦ (
                     let z : j ≡ n = omega arith in
-                    new-word i (omega arith) (sym (old-word (7 * (o + i) + 0) (omega arith)) ∙ (rw z at f) ∙ shown))
+                    new-word i (omega arith) (sym (old-word (bundle-target-at (o + i)) (omega arith)) ∙ (rw z at f) ∙ shown))
               ];
             };
           }
 
-    pub bundle-summarized : edges-of-rows (e .target) ts + e .accumulated-count ≤ 65535
+    pub bundle-summarized : edges-of-rows (e .target) ts + e .accumulated-count ≤ largest
         → RowsAfter o l (summarize-bundle l p) (nesting.summarize-bundle e ts)
     bundle-summarized b =
         let few = rows .few in
@@ -332,12 +338,12 @@ module _ (g : Graph) (valid : Valid g) where
   abbrev set-step : ℕ → List ℕ → ℕ → List ℕ
   set-step start m i = summarize-bundle m (bundle-at start i)
 
-  bundles-summarized : (o : ℕ) → o + 33 ≤ 1089 → (start : ℕ) (d : DeferredEdgeBundleSet) (l : List ℕ) → used ≤ length l
-      → word l set-starts 32 ≡ o → (i : ℕ) → start + i + length d ≤ 1097 → i + length d ≤ 33
+  bundles-summarized : (o : ℕ) → o + 33 ≤ own-edges-from → (start : ℕ) (d : DeferredEdgeBundleSet) (l : List ℕ) → used ≤ length l
+      → word l set-starts spare-slot ≡ o → (i : ℕ) → start + i + length d ≤ most-bundles → i + length d ≤ 33
       → ((k : ℕ) → k < length d → ShowsBundle g l (start + (i + k)) (getD d k no-bundle))
       → ((k q : ℕ) → k < length d → q < 33 → start + (i + k) ≡ o + q → ⊥)
       → (ts : List DeferredTargetSummary) → ShowsRows g l o ts
-      → ((x : DeferredTarget) → edges-of-rows x ts + edges-of-set x d ≤ 65535)
+      → ((x : DeferredTarget) → edges-of-rows x ts + edges-of-set x d ≤ largest)
       → RowsAfter o l (turned (set-step start) l (length d) i) (nesting.summarize-set d ts)
   unfolding turned
   bundles-summarized o below start [] l full at i room few shown apart ts rows bound = record { spare = spare-same o l; rows = rows }
@@ -346,7 +352,7 @@ module _ (g : Graph) (valid : Valid g) where
       let first : ShowsBundle g l (start + i) e = rw here at (shown 0 (omega arith)) in
       let own = bound (e .target) in
       let self = same-target-self (e .target) in
-      let head : edges-of-rows (e .target) ts + e .accumulated-count ≤ 65535 = (let z = rw self at own in omega arith) in
+      let head : edges-of-rows (e .target) ts + e .accumulated-count ≤ largest = (let z = rw self at own in omega arith) in
       let one = bundle-summarized o below l full at (start + i) first ts rows head in
       let l₁ = summarize-bundle l (start + i) in
       let next : (k : ℕ) → suc i + k ≡ i + suc k = λ k. omega arith in
@@ -361,10 +367,10 @@ module _ (g : Graph) (valid : Valid g) where
       (sym (bundle-in start i (omega arith) (omega arith)))
       (record { spare = spare-then (one .spare) (ih .spare); rows = ih .rows })
 
-  set-summarized : (o : ℕ) → o + 33 ≤ 1089 → (l : List ℕ) → used ≤ length l → word l set-starts 32 ≡ o → (start n : ℕ)
+  set-summarized : (o : ℕ) → o + 33 ≤ own-edges-from → (l : List ℕ) → used ≤ length l → word l set-starts spare-slot ≡ o → (start n : ℕ)
       {d : DeferredEdgeBundleSet} → ShowsSet g l start n d → ((k q : ℕ) → k < n → q < 33 → start + k ≡ o + q → ⊥)
       → (ts : List DeferredTargetSummary) → ShowsRows g l o ts
-      → ((x : DeferredTarget) → edges-of-rows x ts + edges-of-set x d ≤ 65535)
+      → ((x : DeferredTarget) → edges-of-rows x ts + edges-of-set x d ≤ largest)
       → RowsAfter o l (summarize-set l start n) (nesting.summarize-set d ts)
   unfolding summarize-set
   set-summarized o below l full at start n {d} x apart ts rows bound =
@@ -376,49 +382,50 @@ module _ (g : Graph) (valid : Valid g) where
       (λ k h. rw (from-zero k) (x .each k (omega arith))) (λ k q h. rw (from-zero k) (apart k q (omega arith))) ts rows bound)
 
   -- ---- All cases, from case j on.
-  cases-summarized : (o : ℕ) → o + 33 ≤ 1089 → (cs : List MaybeClaimedRegion) (l : List ℕ) → used ≤ length l
-      → word l set-starts 32 ≡ o → (j : ℕ)
+  cases-summarized : (o : ℕ) → o + 33 ≤ own-edges-from → (cs : List MaybeClaimedRegion) (l : List ℕ) → used ≤ length l
+      → word l set-starts spare-slot ≡ o → (j : ℕ)
       → ((k : ℕ) → k < length cs
-      → ShowsSet g l (word l cases (10 * (j + k) + 4)) (word l cases (10 * (j + k) + 5)) (deferred-of (getD cs k no-case)))
-      → ((k p q : ℕ) → k < length cs → p < word l cases (10 * (j + k) + 5) → q < 33 → word l cases (10 * (j + k) + 4) + p ≡ o + q → ⊥)
+      → ShowsSet g l (case-set-start l (j + k)) (case-set-length l (j + k)) (deferred-of (getD cs k no-case)))
+      → ((k p q : ℕ) → k < length cs → p < case-set-length l (j + k) → q < 33 → case-set-start l (j + k) + p ≡ o + q → ⊥)
       → (ts : List DeferredTargetSummary) → ShowsRows g l o ts
-      → ((x : DeferredTarget) → edges-of-rows x ts + edges-of-cases x cs ≤ 65535)
+      → ((x : DeferredTarget) → edges-of-rows x ts + edges-of-cases x cs ≤ largest)
       → RowsAfter o l (turned summarize-case l (length cs) j) (nesting.deferred-targets cs ts)
   unfolding turned
   cases-summarized o below [] l full at j sets apart ts rows bound = record { spare = spare-same o l; rows = rows }
   cases-summarized o below (c ∷ cs) l full at j sets apart ts rows bound =
       let here : j + 0 ≡ j = omega arith in
       let next : (k : ℕ) → suc j + k ≡ j + suc k = λ k. omega arith in
-      let one = set-summarized o below l full at (word l cases (10 * j + 4)) (word l cases (10 * j + 5)) (rw here at (sets 0 (omega arith)))
+      let one = set-summarized o below l full at (case-set-start l j) (case-set-length l j) (rw here at (sets 0 (omega arith)))
       (λ k q h b f. apart 0 k q (omega arith) (rw here h) b (rw here f)) ts rows (λ x. let b = bound x in omega arith) in
       let l₁ = summarize-case l j in
       let sp = one .spare in
       let same : (i : ℕ) → word l₁ cases i ≡ word l cases i = spare-there sp cases (omega arith) (omega arith) in
       let ih = cases-summarized o below cs l₁ (rw (sp .words) full) (spare-there sp set-starts (omega arith) (omega arith) 32 ∙ at) (suc j)
-      (λ k h. rw (next k, same (10 * (j + suc k) + 4), same (10 * (j + suc k) + 5)) (set-stays (spare-later sp g)
-      (λ i b. spare-outside sp (word l cases (10 * (j + suc k) + 4) + i) (λ q c. apart (suc k) i q (omega arith) b c))
+      (λ k h. rw (next k, same (case-set-start-at (j + suc k)), same (case-set-length-at (j + suc k))) (set-stays (spare-later sp g)
+      (λ i b. spare-outside sp (case-set-start l (j + suc k) + i) (λ q c. apart (suc k) i q (omega arith) b c))
       (sets (suc k) (omega arith))))
-      (λ k p q h. rw (next k, same (10 * (j + suc k) + 4), same (10 * (j + suc k) + 5)) (apart (suc k) p q (omega arith)))
+      (λ k p q h. rw (next k, same (case-set-start-at (j + suc k)), same (case-set-length-at (j + suc k)))
+      (apart (suc k) p q (omega arith)))
       (nesting.summarize-set (deferred-of c) ts) (one .rows)
       (λ x. let a = rows-set x (deferred-of c) ts in let b = bound x in omega arith) in
       record { spare = spare-then sp (ih .spare); rows = ih .rows }
 
 -- ---- The step whole.
 pub record TargetsDeferred (g : Graph) (w w′ : List ℕ) (r : ℕ) (s : NestState) (cs : List MaybeClaimedRegion) : Type 0 where
-  pub rows : ShowsRows g w′ (word w set-starts 32) (nesting.deferred-targets cs [])
-  pub spare : SpareOnly (word w set-starts 32) w w′
+  pub rows : ShowsRows g w′ (word w set-starts spare-slot) (nesting.deferred-targets cs [])
+  pub spare : SpareOnly (word w set-starts spare-slot) w w′
   pub state : ShowsState g w′ s
   pub cases-shown : ShowsCases g w′ r cs
   pub later : Later g w w′
   pub kept : (q : ℕ) → q < length (g .regions) → KeptRegion w w′ q
 
 pub deferred-targets-shown : (g : Graph) → Valid g → (w : List ℕ) (r : ℕ) (s : NestState) (cs : List MaybeClaimedRegion) → ShowsState g w s
-    → ShowsCases g w r cs → ((x : DeferredTarget) → edges-of-cases x cs ≤ 65535)
+    → ShowsCases g w r cs → ((x : DeferredTarget) → edges-of-cases x cs ≤ largest)
     → TargetsDeferred g w (deferred-targets w) r s cs
 unfolding deferred-targets
 deferred-targets-shown g valid w r s cs shown x bound =
-    let o = word w set-starts 32 in
-    let m = stored w set-lengths 32 0 in
+    let o = word w set-starts spare-slot in
+    let m = stored w set-lengths spare-slot 0 in
     let full = shown .tables .size in
     let slots = shown .slots in
     let a = slots .starts 32 (omega arith) in
@@ -426,9 +433,9 @@ deferred-targets-shown g valid w r s cs shown x bound =
     let first = spare-length o w 0 in
     let y = spare-cases first g slots refl x in
     let from-zero : (k : ℕ) → 0 + k ≡ k = λ k. omega arith in
-    let at : word m set-starts 32 ≡ o = spare-there first set-starts (omega arith) (omega arith) 32 in
+    let at : word m set-starts spare-slot ≡ o = spare-there first set-starts (omega arith) (omega arith) 32 in
     let none : ShowsRows g m o [] = record {
-      size = word-there w set-lengths 32 0 (omega arith) (omega arith);
+      size = word-there w set-lengths spare-slot 0 (omega arith) (omega arith);
       few = omega arith;
       each = λ i h. absurd (omega arith);
       apart = λ i j c d. absurd (omega arith);

@@ -23,7 +23,7 @@ use Rattle.nesting.specs.Sheet as sheet
 use Rattle.nesting.specs.Sheet.{sheet-of, sheet-words}
 use Rattle.nesting.specs.lookups.ChainEnds.{no-more}
 use Rattle.nesting.specs.SheetNumbers.{outcome-untouched, outcome-whole, outcome-closed, outcome-leftover}
-use Rattle.state.specs.Sections.{section, cells, word, kinds}
+use Rattle.state.specs.Sections.{section, cells, word}
 use Rattle.state.specs.Sections as sections
 use Rattle.shown.specs.Front.{SameFront}
 use Rattle.shown.specs.Cells.{ShowsNodes}
@@ -40,6 +40,7 @@ use Rattle.sheet.specs.Written as written
 use Rattle.nester.specs.declared.SheetAnswer.{SheetAnswer}
 use Rattle.nester.specs.declared.SheetAnswer.the-variants.{Sheet, Refused}
 use Rattle.nester.specs.Answers.{Ends, words-if-fit, words-if-figured, record-words, WritesAnswer, FormsAnswer, NestsRecord}
+use Rattle.state.specs.Rows.{kind-claimed, region-kind}
 
 module _ {b : format.Answer (List ℕ)} {out out′ : List ℕ} where
   pub ends-sheet : {ws : List ℕ} {n : ℕ} → b ≡ accepted ws → n ≡ length ws → out′ ≡ ws ++ drop (length ws) out → Ends b out out′ (Sheet n)
@@ -147,7 +148,7 @@ number-of outcomes.Closed = outcome-closed
 number-of outcomes.Leftover = outcome-leftover
 number-of (outcomes.Refused n x) = 4
 
-module _ {g : Graph} {w : List ℕ} {s : NestState} (c : Concluded g w s) (kind : word w kinds (g .entry) ≡ 3) (ks : Nodes) where
+module _ {g : Graph} {w : List ℕ} {s : NestState} (c : Concluded g w s) (kind : region-kind w (g .entry) ≡ kind-claimed) (ks : Nodes) where
   leaves : (d : DeferredEdgeBundleSet) {o : Outcome} → outcome-of d ≡ o → ShowsBody g w (g .entry) (region-body ks d)
       → structurize-func g ≡ accepted (conclude-by g s ks d (outcome-of d)) → ShowsAnswer g w s (conclude-by g s ks d o)
       (number-of (outcome-code o))

@@ -152,7 +152,8 @@ line-read (exit-line n op vs) rest = then-decoded _ _ _ _ (values-read vs [] res
 line-read (defer-line e) rest =
     let vs = e .inputs in
     let c = e .condition in
-    ap (λ ws. decode-line (lead-defer ∷ e .region ∷ (ws ++ (e .count ∷ (values-field vs .words ++ (condition-field c .words ++ []))) ++ rest)))
+    ap (λ ws. decode-line
+    (lead-defer ∷ e .region ∷ (ws ++ (e .count ∷ (values-field vs .words ++ (condition-field c .words ++ []))) ++ rest)))
     (target-words (e .target))
     ∙ then-decoded _ _ _ _ (values-read vs _ rest)
     ∙ then-decoded _ _ _ _ (ap decode-any-condition (append-assoc (condition-field c .words) [] rest) ∙ any-condition-read c rest)

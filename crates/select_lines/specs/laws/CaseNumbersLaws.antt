@@ -10,7 +10,7 @@ use Rattle.meaning.specs.Runs.{Cases}
 use Rattle.nesting.specs.Nesting.{plain}
 use Rattle.nesting.specs.Sheet.{case-numbers}
 use Rattle.state.specs.Sections.{section, cells}
-use Rattle.state.specs.CellRows.{cases-after, case-region}
+use Rattle.state.specs.Rows.{cases-after, case-region}
 use Rattle.shown.specs.Cells.{ShowsCaseCells, no-cases, case-and}
 use Rattle.children.specs.CellByCell.{FirstCase, case-first}
 use Rattle.children.specs.laws.CellByCellLaws.{first-case}

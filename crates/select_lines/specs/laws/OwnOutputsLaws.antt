@@ -3,7 +3,7 @@
 use mathlib.Core.Path.{_≡_, refl, sym, ap, _∙_}
 use mathlib.Core.Bool.{Bool, true, false}
 use mathlib.Core.List.{List, [], _∷_, map}
-use Prim.Native.Nat.{ℕ, suc, _+_, _*_, _-_, _≤_, _<_}
+use Prim.Native.Nat.{ℕ, suc, _+_, _-_, _≤_, _<_}
 use native.Mathlib.Omega.{arith}
 use lib.ListN.{length, getD, length-map}
 use lib.Seq.{take-all}
@@ -12,7 +12,7 @@ use borrow.Author.Tests.{le-ltb, eq-eqb, ne-eqb, eqb-true}
 use Rattle.meaning.specs.Lists.{filter, pick, times-in}
 use Rattle.meaning.specs.Graph.{Value, undef}
 use Rattle.nesting.specs.Nesting.{NestState, NodeOutput, plain, case-outputs, output-decls}
-use Rattle.state.specs.Sections.{word, head, outputs}
+use Rattle.state.specs.Sections.{word, head}
 use Rattle.shown.specs.Tables.{ShowsTables, no-output}
 use Rattle.writing.specs.declared.place.Place.{Place}
 use Rattle.writing.specs.Puts.{Part, Puts}
@@ -24,28 +24,30 @@ use Rattle.writing.specs.laws.ValueShown.{place-shown}
 use Rattle.writing.specs.laws.PartLaws.{values-counted, each-map}
 use Rattle.select_lines.specs.SelectParts.{output-types}
 use Rattle.select_lines.specs.OwnOutputs.{ValuesShown, PutsCaseOutputs, PutsOutputTypes, own, case-value, type-word}
+use Rattle.state.specs.Values.{parts}
+use Rattle.state.specs.Rows.{output-node, outputs-at}
 
 -- So they have at all eight places.
 pub values-shown : {w : List ℕ} {s : NestState} {node j : ℕ} → ShowsTables w s → j < 8 → ValuesShown w s node j
 values-shown {j = j} t few o h e = t .outputs-shown o h .values .each j few
 
-module _ (w : List ℕ) (node : ℕ) (f : ℕ → Part) (n k : ℕ) {x : ℕ} (is : x ≡ word w outputs (10 * (k - 1))) {out₀ out : List ℕ}
+module _ (w : List ℕ) (node : ℕ) (f : ℕ → Part) (n k : ℕ) {x : ℕ} (is : x ≡ output-node w (k - 1)) {out₀ out : List ℕ}
     {at₀ at : Place} (some : 0 < k) (within : k ≤ n) (before : Puts out₀ at₀ (run (own w node f) k (n - k)) out at) where
   pub own-put : x ≡ node → {out′ : List ℕ} {at′ : Place} → Puts out at (f (k - 1)) out′ at′
       → Puts out₀ at₀ (run (own w node f) (k - 1) (n - (k - 1))) out′ at′
   unfolding own
   own-put e p =
       run-turn (own w node f) n k some within before
-      (puts-as p (rw (eq-eqb node (word w outputs (10 * (k - 1))) (sym e ∙ is))))
+      (puts-as p (rw (eq-eqb node (output-node w (k - 1)) (sym e ∙ is))))
 
   pub other-passed : (x ≡ node → ⊥) → {out′ : List ℕ} {at′ : Place} → out′ ≡ out → at′ ≡ at
       → Puts out₀ at₀ (run (own w node f) (k - 1) (n - (k - 1))) out′ at′
   unfolding own
   other-passed d e f′ =
       rw (e, f′) (run-turn (own w node f) n k some within before
-      (puts-as (puts-none out at) (rw (ne-eqb node (word w outputs (10 * (k - 1))) (λ z. d (is ∙ sym z))))))
+      (puts-as (puts-none out at) (rw (ne-eqb node (output-node w (k - 1)) (λ z. d (is ∙ sym z))))))
 
-module _ (w : List ℕ) (node n k c : ℕ) {x : ℕ} (is : x ≡ word w outputs (10 * (k - 1))) (some : 0 < k)
+module _ (w : List ℕ) (node n k c : ℕ) {x : ℕ} (is : x ≡ output-node w (k - 1)) (some : 0 < k)
     (before : node-times w node n ≡ node-times w node k + c) where
   pub own-counted : x ≡ node → {c′ : ℕ} → c′ ≡ c + 1 → node-times w node n ≡ node-times w node (k - 1) + c′
   unfolding node-times
@@ -100,9 +102,9 @@ decl-types node k (o ∷ os) = by (eqb node (o .node)) (decl-types node (suc k) 
     by false e = e
 
 module _ {w : List ℕ} {s : NestState} (t : ShowsTables w s) (node : ℕ) where
-  all-counted : node-times w node (word w head 3) ≡ length (own-outputs s node)
+  all-counted : node-times w node (word w head outputs-at) ≡ length (own-outputs s node)
   all-counted =
-      let n = word w head 3 in
+      let n = word w head outputs-at in
       let size : length (output-nodes s) ≡ length (s .node-outputs) = length-map (s .node-outputs) (λ (o : NodeOutput). o .node) in
       let total = t .output-total in
       let all = place-shown t node n in
@@ -112,10 +114,10 @@ module _ {w : List ℕ} {s : NestState} (t : ShowsTables w s) (node : ℕ) where
   own-is : (f : ℕ → Part) (h : NodeOutput → Part)
       → ((o : ℕ) → o < length (s .node-outputs) → getD (s .node-outputs) o no-output .node ≡ node
       → f o ≡ h (getD (s .node-outputs) o no-output))
-      → run (own w node f) 0 (word w head 3) ≡ each h (own-outputs s node)
+      → run (own w node f) 0 (word w head outputs-at) ≡ each h (own-outputs s node)
   unfolding own
   own-is f h same =
-      run-list (own w node f) (λ x. pick (eqb node (x .node)) (h x) (plain [])) no-output (word w head 3) (s .node-outputs)
+      run-list (own w node f) (λ x. pick (eqb node (x .node)) (h x) (plain [])) no-output (word w head outputs-at) (s .node-outputs)
       (t .output-total) (λ o l. rw (t .outputs-shown o l .node) (by o l (eqb node (getD (s .node-outputs) o no-output .node)) refl))
       ∙ each-filtered (λ x. eqb node (x .node)) h (s .node-outputs)
     where
@@ -124,15 +126,15 @@ module _ {w : List ℕ} {s : NestState} (t : ShowsTables w s) (node : ℕ) where
       by o l true e = same o l (sym (eqb-true node (getD (s .node-outputs) o no-output .node) e))
       by o l false e = refl
 
-count-is : {w : List ℕ} {s : NestState} → ShowsTables w s → (node : ℕ) {total k : ℕ} (c : ℕ) → total ≡ word w head 3 → k ≤ 0
+count-is : {w : List ℕ} {s : NestState} → ShowsTables w s → (node : ℕ) {total k : ℕ} (c : ℕ) → total ≡ word w head outputs-at → k ≤ 0
     → node-times w node total ≡ node-times w node k + c → c ≡ length (own-outputs s node)
 unfolding node-times
 count-is {w} t node {k = k} c all none counted =
     let z : k ≡ 0 = omega arith in
-    let e : node-times w node (word w head 3) ≡ 0 + c = rw (all, z) at counted in
+    let e : node-times w node (word w head outputs-at) ≡ 0 + c = rw (all, z) at counted in
     omega (arith, all-counted t node)
 
-module _ (w : List ℕ) (node : ℕ) {total k : ℕ} (c : ℕ) (all : total ≡ word w head 3) (none : k ≤ 0)
+module _ (w : List ℕ) (node : ℕ) {total k : ℕ} (c : ℕ) (all : total ≡ word w head outputs-at) (none : k ≤ 0)
     (counted : node-times w node total ≡ node-times w node k + c) {out₀ out out′ : List ℕ} {at₀ at at′ : Place}
     (count : Puts out at (plain (c ∷ [])) out′ at′) where
   pub case-outputs-put : (j : ℕ) → OfState w (λ g s. Puts out₀ at₀ (run (own w node (case-value w j s)) k (total - k)) out at)
@@ -141,7 +143,7 @@ module _ (w : List ℕ) (node : ℕ) {total k : ℕ} (c : ℕ) (all : total ≡ 
       let t = x .state .tables in
       let value-at : NodeOutput → Value = λ o. getD (o .values) j (undef 0) in
       let f = case-value w j s in
-      let parts : run (own w node f) 0 (word w head 3) ≡ each (value-part s) (case-outputs node j (s .node-outputs)) =
+      let parts : run (own w node f) 0 (word w head outputs-at) ≡ each (value-part s) (case-outputs node j (s .node-outputs)) =
       own-is t node f (λ o. value-part s (value-at o)) (λ o l e. ap (value-part s) (shown o l e))
       ∙ sym (each-map (value-part s) value-at (own-outputs s node)) in
       let size = length-map (own-outputs s node) value-at in
@@ -153,7 +155,7 @@ module _ (w : List ℕ) (node : ℕ) {total k : ℕ} (c : ℕ) (all : total ≡ 
       let t = x .state .tables in
       let type-of : NodeOutput → ℕ = λ o. o .type in
       let types = decl-types node 0 (s .node-outputs) in
-      let parts : run (own w node (type-word w)) 0 (word w head 3) ≡ plain (output-types s node) =
+      let parts : run (own w node (type-word w)) 0 (word w head outputs-at) ≡ plain (output-types s node) =
       own-is t node (type-word w) (λ o. plain (type-of o ∷ [])) (λ o l e. rw (t .outputs-shown o l .type))
       ∙ each-word type-of (own-outputs s node) ∙ ap (λ (l : List ℕ). plain l) (sym types) in
       let size : length (output-types s node) ≡ length (own-outputs s node) = ap length types ∙ length-map (own-outputs s node) type-of in

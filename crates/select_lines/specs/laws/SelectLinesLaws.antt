@@ -8,7 +8,7 @@ use Rattle.meaning.specs.Graph.{SelectionKind}
 use Rattle.nesting.specs.Nesting.{plain, case-outputs}
 use Rattle.nesting.specs.Sheet as sheet
 use Rattle.nesting.specs.SheetNumbers.{lead-select}
-use Rattle.state.specs.CellRows.{select-node, select-shape, select-scrutinee, select-cases, case-region, children-of-case}
+use Rattle.state.specs.Rows.{select-node, select-shape, select-scrutinee, select-cases, case-region, children-of-case}
 use Rattle.shown.specs.Values.{value}
 use Rattle.shown.specs.Tables.{ShowsShape, shape-bool, shape-number}
 use Rattle.writing.specs.declared.place.Place.{Place}

@@ -1,7 +1,7 @@
 -- One case set aside: it is Unreachable then, and all others are as they were.
 use mathlib.Core.Path.{_≡_, refl, sym, ap, _∙_}
 use mathlib.Core.List.{List, [], _∷_}
-use Prim.Native.Nat.{ℕ, _+_, _*_, _≤_, _<_}
+use Prim.Native.Nat.{ℕ, _+_, _≤_, _<_}
 use native.Mathlib.Omega.{arith}
 use native.Mathlib.Decide.{ℕ-discrete}
 use lib.ListN.{length, getD, set, length-set}
@@ -10,7 +10,7 @@ use Rattle.meaning.specs.Lists.{pick, empty, total}
 use Rattle.meaning.specs.Graph.{Graph}
 use Rattle.nesting.specs.Nesting.{MaybeClaimedRegion, ok, err, ClaimedRegion, DeferredTarget, DeferredEdgeBundleSet, NestState, deferred-of}
 use Rattle.nesting.specs.Nesting.{without-convergent}
-use Rattle.state.specs.Sections.{word, used, kinds, set-starts, cases}
+use Rattle.state.specs.Sections.{word, used, set-starts}
 use Rattle.state.specs.Tables.{case-total, case-words, case-row}
 use Rattle.shown.specs.Sets.{ShowsSet, SameBundle}
 use Rattle.shown.specs.States.{Slots, ShowsCase, shows-ok, shows-nothing, shows-edge, shows-others, ShowsCases, no-case, HasSlot}
@@ -22,6 +22,7 @@ use Rattle.bundles.specs.laws.Appended.{ShowsAlone, claimed-parts, edge-parts, 
 use Rattle.merging.specs.laws.RewritingShown.{cases-after, case-found}
 use Rattle.merging.specs.laws.TargetsShown.{edges-of-cases, edges-of-set}
 use Rattle.selects.specs.Into.{set-aside}
+use Rattle.state.specs.Rows.{case-input, case-nothing, case-set-length, case-set-start, case-word, kind-claimed, region-kind}
 
 module _ {g : Graph} (few : length (g .regions) ≤ 32) {r : ℕ} (here : r < length (g .regions)) {w : List ℕ} (room : used ≤ length w)
     (slots : Slots (length (g .regions)) w) {cs : List MaybeClaimedRegion} (shown : ShowsCases g w r cs) (j : ℕ)
@@ -30,10 +31,10 @@ module _ {g : Graph} (few : length (g .regions) ≤ 32) {r : ℕ} (here : r < le
   at-most = let most = shown .few in omega arith
 
   one : OneCase w (set-aside w j) j
-  one = one-row w j (case-words (unclaimed-case 0 0 0)) (omega arith)
+  one = one-row w j (case-words (unclaimed-case case-nothing 0 0)) (omega arith)
 
-  pub none-left : word (set-aside w j) cases (10 * j + 5) ≡ 0
-  none-left = row-word w room j at-most (case-words (unclaimed-case 0 0 0)) (omega arith) 5 (omega arith)
+  pub none-left : case-set-length (set-aside w j) j ≡ 0
+  none-left = row-word w room j at-most (case-words (unclaimed-case case-nothing 0 0)) (omega arith) 5 (omega arith)
 
   case-aside : (k : ℕ) → k < length cs → CaseAndSet g (set-aside w j) r k (getD (set cs j no-case) k no-case)
   case-aside k h =
@@ -44,11 +45,11 @@ module _ {g : Graph} (few : length (g .regions) ≤ 32) {r : ℕ} (here : r < le
       ]
 
   -- A case with bundles is another one.
-  pub other-case : (k p : ℕ) → p < word (set-aside w j) cases (10 * k + 5) → k ≡ j → ⊥
+  pub other-case : (k p : ℕ) → p < case-set-length (set-aside w j) k → k ≡ j → ⊥
   other-case k p h e =
-      let z : word (set-aside w j) cases (10 * k + 5) ≡ 0 = ap (λ i. word (set-aside w j) cases (10 * i + 5)) e ∙ none-left in omega arith
+      let z : case-set-length (set-aside w j) k ≡ 0 = ap (λ i. case-set-length (set-aside w j) i) e ∙ none-left in omega arith
 
-  pub field : (k i : ℕ) → (k ≡ j → ⊥) → i < 10 → word (set-aside w j) cases (10 * k + i) ≡ word w cases (10 * k + i)
+  pub field : (k i : ℕ) → (k ≡ j → ⊥) → i < 10 → case-word (set-aside w j) k i ≡ case-word w k i
   field k i d h = other-row one k d i h
 
   pub aside-shown : ShowsCases g (set-aside w j) r (set cs j no-case)
@@ -86,19 +87,20 @@ module _ (s : NestState) (x : DeferredTarget) where
 -- ---- The parts of the case set aside stay shown.
 pub record PartsStay (g : Graph) (w w′ : List ℕ) (j : ℕ) : Type 0 where
   pub later : Later g w w′
-  pub same-kinds : (q : ℕ) → word w′ kinds q ≡ word w kinds q
+  pub same-kinds : (q : ℕ) → region-kind w′ q ≡ region-kind w q
   pub same-starts : (q : ℕ) → word w′ set-starts q ≡ word w set-starts q
-  pub inputs : (k : ℕ) → k < 4 → word w′ cases (10 * j + (6 + k)) ≡ word w cases (10 * j + (6 + k))
-  pub bundles : (p : ℕ) → p < word w cases (10 * j + 5) → SameBundle w w′ (word w cases (10 * j + 4) + p)
+  pub inputs : (k : ℕ) → k < 4 → case-input w′ j k ≡ case-input w j k
+  pub bundles : (p : ℕ) → p < case-set-length w j → SameBundle w w′ (case-set-start w j + p)
 
 pub parts-then : {g : Graph} {w w′ : List ℕ} {r j : ℕ} {m : MaybeClaimedRegion} → Slots (length (g .regions)) w
     → HasSlot (length (g .regions)) r → PartsStay g w w′ j → CaseAndSet g w r j m
-    → ((c : ClaimedRegion) → m ≡ ok c → (word w kinds (c .origin) ≡ 3) × (c .origin ≡ r → ⊥)) → ShowsAlone g w′ r j (case-row w j) m
+    → ((c : ClaimedRegion) → m ≡ ok c → (region-kind w (c .origin) ≡ kind-claimed) × (c .origin ≡ r → ⊥))
+    → ShowsAlone g w′ r j (case-row w j) m
 parts-then {g} {w} {w′} {r} {j} slots below stay x claimed = go (x .case) (set-stays (stay .later) (stay .bundles) (x .set)) claimed
   where
     go : {m : MaybeClaimedRegion} → ShowsCase g w r j m
-        → ShowsSet g w′ (word w cases (10 * j + 4)) (word w cases (10 * j + 5)) (deferred-of m)
-        → ((c : ClaimedRegion) → m ≡ ok c → (word w kinds (c .origin) ≡ 3) × (c .origin ≡ r → ⊥))
+        → ShowsSet g w′ (case-set-start w j) (case-set-length w j) (deferred-of m)
+        → ((c : ClaimedRegion) → m ≡ ok c → (region-kind w (c .origin) ≡ kind-claimed) × (c .origin ≡ r → ⊥))
         → ShowsAlone g w′ r j (case-row w j) m
     go (shows-ok {c} a b in-graph d e f start size names) s claimed =
         let y = claimed c refl in

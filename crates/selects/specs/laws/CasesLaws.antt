@@ -3,15 +3,15 @@
 use mathlib.Core.Path.{_≡_, _∙_}
 use mathlib.Core.Bool.{Bool, true, false}
 use mathlib.Core.List.{List}
-use Prim.Native.Nat.{ℕ, suc, _+_, _*_, _-_, _≤_, _<_}
+use Prim.Native.Nat.{ℕ, suc, _+_, _-_, _≤_, _<_}
 use native.Mathlib.Omega.{arith}
 use native.Mathlib.Numerals.{add-one}
 use borrow.Author.Tests.{eq-eqb, ne-eqb}
-use Rattle.state.specs.Sections.{word, cases}
 use Rattle.state.specs.Tables.{case-total, inserted}
 use Rattle.bundles.specs.Words.{case-inputs}
 use Rattle.selects.specs.Cases.{convergent-from, convergent-case, children-of, any-from, any-non-empty-case, inputs-replaced}
 use Rattle.selects.specs.Cases.{all-replaced}
+use Rattle.state.specs.Rows.{case-body, case-children, case-claimed, case-kind, case-set-length, entry-replace}
 
 -- ---- Turns of the loops.
 module _ (l : List ℕ) (n : ℕ) (all : n ≡ case-total l) where
@@ -32,15 +32,15 @@ module _ (l : List ℕ) (n j : ℕ) where
   next h = omega arith
 
   module _ (found : ℕ) {whole : ℕ} (left : convergent-from l (n - j) j found ≡ whole) where
-    pub convergent-skip : j < n → word l cases (10 * j + 5) ≡ 0 → convergent-from l (n - (j + 1)) (j + 1) found ≡ whole
+    pub convergent-skip : j < n → case-set-length l j ≡ 0 → convergent-from l (n - (j + 1)) (j + 1) found ≡ whole
     unfolding convergent-from
     convergent-skip h e = rw (add-one j) (rw (add-one j) at (rw (eq-eqb _ _ e) at (rw (next h) at left)))
 
-    pub convergent-second : j < n → (word l cases (10 * j + 5) ≡ 0 → ⊥) → (found ≡ 8 → ⊥) → 8 ≡ whole
+    pub convergent-second : j < n → (case-set-length l j ≡ 0 → ⊥) → (found ≡ 8 → ⊥) → 8 ≡ whole
     unfolding convergent-from
     convergent-second h e d = rw (ne-eqb _ _ e, ne-eqb _ _ d) at (rw (next h) at left)
 
-    pub convergent-first : j < n → (word l cases (10 * j + 5) ≡ 0 → ⊥) → found ≡ 8 → convergent-from l (n - (j + 1)) (j + 1) j ≡ whole
+    pub convergent-first : j < n → (case-set-length l j ≡ 0 → ⊥) → found ≡ 8 → convergent-from l (n - (j + 1)) (j + 1) j ≡ whole
     unfolding convergent-from
     convergent-first h e d = rw (add-one j) (rw (add-one j) at (rw (ne-eqb _ _ e, eq-eqb _ _ d) at (rw (next h) at left)))
 
@@ -72,19 +72,19 @@ module _ (l : List ℕ) (n j : ℕ) where
 
 -- ---- The functions, path by path.
 module _ (l : List ℕ) (j : ℕ) where
-  pub children-none : (word l cases (10 * j + 0) ≡ 2 → ⊥) → 0 ≡ children-of l j
+  pub children-none : (case-kind l j ≡ case-claimed → ⊥) → 0 ≡ children-of l j
   unfolding children-of
   children-none d = rw (ne-eqb _ _ d)
 
-  pub children-some : word l cases (10 * j + 0) ≡ 2 → word l cases (10 * j + 3) ≡ children-of l j
+  pub children-some : case-kind l j ≡ case-claimed → case-children l j ≡ children-of l j
   unfolding children-of
   children-some e = rw (eq-eqb _ _ e)
 
-  pub replaced-claimed : word l cases (10 * j + 0) ≡ 2 → {body : ℕ} {vs l′ : List ℕ} → body ≡ word l cases (10 * j + 2)
-      → vs ≡ case-inputs l j → l′ ≡ inserted l body 1 vs → l′ ≡ inputs-replaced l j
+  pub replaced-claimed : case-kind l j ≡ case-claimed → {body : ℕ} {vs l′ : List ℕ} → body ≡ case-body l j
+      → vs ≡ case-inputs l j → l′ ≡ inserted l body entry-replace vs → l′ ≡ inputs-replaced l j
   unfolding inputs-replaced
   replaced-claimed e p q r = r ∙ rw (eq-eqb _ _ e, p, q)
 
-  pub replaced-not : (word l cases (10 * j + 0) ≡ 2 → ⊥) → l ≡ inputs-replaced l j
+  pub replaced-not : (case-kind l j ≡ case-claimed → ⊥) → l ≡ inputs-replaced l j
   unfolding inputs-replaced
   replaced-not d = rw (ne-eqb _ _ d)

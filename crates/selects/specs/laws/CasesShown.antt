@@ -2,7 +2,7 @@
 use mathlib.Core.Path.{_≡_, refl, ap, _∙_}
 use mathlib.Core.Bool.{Bool, true, false, not, _||_}
 use mathlib.Core.List.{List, [], _∷_}
-use Prim.Native.Nat.{ℕ, suc, _+_, _*_, _≤_, _<_}
+use Prim.Native.Nat.{ℕ, suc, _+_, _≤_, _<_}
 use native.Mathlib.Omega.{arith}
 use lib.ListN.{length, getD, set}
 use lib.Dec.{eqb}
@@ -13,7 +13,7 @@ use Rattle.meaning.specs.Runs.{⟨⟩}
 use Rattle.nesting.specs.Nesting as nesting
 use Rattle.nesting.specs.Nesting.{MaybeClaimedRegion, ok, err, deferred-of, DeferredEdgeBundleSet, convergent-cases, without-convergent}
 use Rattle.nesting.specs.Nesting.{has-children}
-use Rattle.state.specs.Sections.{word, head, cases}
+use Rattle.state.specs.Sections.{word, head}
 use Rattle.shown.specs.States.{ShowsCase, shows-ok, shows-nothing, shows-edge, shows-others, ShowsCases, no-case}
 use Rattle.shown.specs.Cells.{ShowsChildren, no-nodes}
 use Rattle.shown.specs.laws.CellSteps.{has-list}
@@ -21,6 +21,7 @@ use Rattle.selects.specs.Cases.{convergent-from, convergent-case, childr
 use Rattle.selects.specs.laws.CasesLaws.{children-none, children-some}
 use Rattle.selects.specs.laws.Places.{From, first-of, rest-of, from-start}
 use Rattle.nesting.specs.steps.TargetsAndCases.{children-in}
+use Rattle.state.specs.Rows.{case-claimed, case-kind, case-set-length, cells-at}
 
 -- ---- The convergent case.
 -- What is found among cases from place j on.
@@ -38,11 +39,11 @@ data FollowedBy (cs : List MaybeClaimedRegion) (found a : ℕ) : Type 0 where
 
 -- One of two cases, by whether the set of c is empty.
 data EmptyOrNot (l : List ℕ) (j : ℕ) (c : MaybeClaimedRegion) : Type 0 where
-  is-empty : empty (deferred-of c) ≡ true → word l cases (10 * j + 5) ≡ 0 → EmptyOrNot l j c
-  is-not : empty (deferred-of c) ≡ false → (word l cases (10 * j + 5) ≡ 0 → ⊥) → EmptyOrNot l j c
+  is-empty : empty (deferred-of c) ≡ true → case-set-length l j ≡ 0 → EmptyOrNot l j c
+  is-not : empty (deferred-of c) ≡ false → (case-set-length l j ≡ 0 → ⊥) → EmptyOrNot l j c
 
 abbrev Sized : List ℕ → ℕ → MaybeClaimedRegion → Type 0
-Sized l j c = word l cases (10 * j + 5) ≡ length (deferred-of c)
+Sized l j c = case-set-length l j ≡ length (deferred-of c)
 
 empty-or-not : (l : List ℕ) (j : ℕ) (c : MaybeClaimedRegion) → Sized l j c → EmptyOrNot l j c
 empty-or-not l j c e = go (deferred-of c) refl
@@ -93,20 +94,20 @@ module _ (l : List ℕ) where
       go sized rest (is-not e z) = rw (ne-eqb _ _ z) (found e (followed cs (suc j) j sized (omega arith)))
 
 -- ---- Children of the cases.
-no-children : {g : Graph} {w : List ℕ} (j : ℕ) → 1 ≤ word w head 4 → (word w cases (10 * j + 0) ≡ 2 → ⊥)
+no-children : {g : Graph} {w : List ℕ} (j : ℕ) → 1 ≤ word w head cells-at → (case-kind w j ≡ case-claimed → ⊥)
     → ShowsChildren g w (children-of w j) ⟨⟩
 no-children {w} j one d = rw (← children-none w j d) (record { nodes = no-nodes refl; made = one })
 
 module _ {g : Graph} {w : List ℕ} {r : ℕ} where
   -- Where there is a cell: cell 0 is none.
-  pub children-shown : 1 ≤ word w head 4 → (j : ℕ) (c : MaybeClaimedRegion) → ShowsCase g w r j c
+  pub children-shown : 1 ≤ word w head cells-at → (j : ℕ) (c : MaybeClaimedRegion) → ShowsCase g w r j c
       → ShowsChildren g w (children-of w j) (children-in c)
   children-shown one j (ok c) (shows-ok k o b s t n a z i) = rw (← children-some w j k) n
   children-shown one j (err d) (shows-nothing k z) = no-children j one (λ e. omega arith)
   children-shown one j (err d) (shows-edge k a z) = no-children j one (λ e. omega arith)
   children-shown one j (err d) (shows-others k a) = no-children j one (λ e. omega arith)
 
-  any-shown : 1 ≤ word w head 4 → (cs : List MaybeClaimedRegion) (j : ℕ) → From no-case (ShowsCase g w r) j cs
+  any-shown : 1 ≤ word w head cells-at → (cs : List MaybeClaimedRegion) (j : ℕ) → From no-case (ShowsCase g w r) j cs
       → any-from w (length cs) j ≡ nesting.any-non-empty-case cs
   unfolding any-from
   any-shown one [] j f = refl
@@ -130,5 +131,5 @@ module _ {g : Graph} {w : List ℕ} {r : ℕ} where
         let few = shown .few in
         rw (shown .size) (converges w cs 0 (from-start no-case (Sized w) cs (λ j h. shown .sets j h .size)) (omega arith))
 
-    pub any-non-empty-shown : 1 ≤ word w head 4 → any-non-empty-case w ≡ nesting.any-non-empty-case cs
+    pub any-non-empty-shown : 1 ≤ word w head cells-at → any-non-empty-case w ≡ nesting.any-non-empty-case cs
     any-non-empty-shown one = rw (shown .size) (any-shown one cs 0 (from-start no-case (ShowsCase g w r) cs (shown .each)))

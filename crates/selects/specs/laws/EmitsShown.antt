@@ -2,7 +2,7 @@
 use mathlib.Core.Path.{_≡_, refl, sym, ap, _∙_}
 use mathlib.Core.List.{List, [], _∷_, map}
 use mathlib.Core.Option.{Option, none, some}
-use Prim.Native.Nat.{ℕ, zero, suc, _+_, _*_, _≤_, _<_}
+use Prim.Native.Nat.{ℕ, zero, suc, _+_, _≤_, _<_}
 use native.Mathlib.Omega.{arith}
 use lib.ListN.{length, getD}
 use borrow.Author.Tests.{lt-ltb}
@@ -35,6 +35,8 @@ use Rattle.selects.specs.laws.PerCase.{ShowsPlaces, places-stay, values-
 use Rattle.selects.specs.laws.Emitting.{Emitting, emitting-none, emitting-then, emitting-output, emitting-word, emitting-step, Spared}
 use Rattle.selects.specs.laws.Emitting.{spared-stays}
 use Rattle.nesting.specs.steps.TargetsAndCases.{per-cases}
+use Rattle.state.specs.Rows.{bundle-condition, bundle-count, bundle-input, bundle-input-at, bundle-target, bundle-word, bundle-word-at}
+use Rattle.state.specs.Rows.{most-bundles}
 
 -- ---- What is planned of these cases, as its row shows it.
 pub data PlannedInputOf (g : Graph) (cs : List MaybeClaimedRegion) (x : DeferredTarget) (w : ℕ) (k : ℕ) : PlannedInput → Type 0 where
@@ -51,13 +53,13 @@ abbrev pub no-planned-input : PlannedInput
 no-planned-input = shared (undef 0)
 
 pub record PlannedOf (g : Graph) (cs : List MaybeClaimedRegion) (w : List ℕ) (q : ℕ) (p : PlannedBundle) : Type 0 where
-  pub target : ShowsTarget g (word w bundles (7 * q + 0)) (p .target)
-  pub count : word w bundles (7 * q + 1) ≡ p .total-edge-count
-  pub condition : PlannedConditionOf cs (p .target) (word w bundles (7 * q + 2)) (p .condition)
+  pub target : ShowsTarget g (bundle-target w q) (p .target)
+  pub count : bundle-count w q ≡ p .total-edge-count
+  pub condition : PlannedConditionOf cs (p .target) (bundle-condition w q) (p .condition)
   pub size : length (p .inputs) ≡ target-size g (p .target)
   pub few : length (p .inputs) ≤ 4
   pub inputs : (k : ℕ) → k < length (p .inputs)
-      → PlannedInputOf g cs (p .target) (word w bundles (7 * q + (3 + k))) k (getD (p .inputs) k no-planned-input)
+      → PlannedInputOf g cs (p .target) (bundle-input w q k) k (getD (p .inputs) k no-planned-input)
 
 -- ---- The inputs of one bundle.
 -- One input; the definition has the two kinds in its fold.
@@ -68,19 +70,19 @@ emit-one n (merged ty vs) = define-output (n .node) ty vs
 record InputDone (g : Graph) (q k : ℕ) (w w′ : List ℕ) (v : Value) (s : NestState) : Type 0 where
   emitting : Emitting g q (q + 1) w w′
   tables : ShowsTables w′ s
-  others : (i : ℕ) → i < 7 → (i ≡ 3 + k → ⊥) → word w′ bundles (7 * q + i) ≡ word w bundles (7 * q + i)
-  named : Names (word w′ bundles (7 * q + (3 + k))) v
+  others : (i : ℕ) → i < 7 → (i ≡ 3 + k → ⊥) → bundle-word w′ q i ≡ bundle-word w q i
+  named : Names (bundle-input w′ q k) v
 
 -- Those from place k on.
 pub record InputsDone (g : Graph) (q k : ℕ) (w w′ : List ℕ) (many : ℕ) (vs : List Value) (s : NestState) : Type 0 where
   pub emitting : Emitting g q (q + 1) w w′
   pub tables : ShowsTables w′ s
-  pub before : (i : ℕ) → i < 3 + k → word w′ bundles (7 * q + i) ≡ word w bundles (7 * q + i)
+  pub before : (i : ℕ) → i < 3 + k → bundle-word w′ q i ≡ bundle-word w q i
   pub size : length vs ≡ many
-  pub named : (i : ℕ) → i < many → Names (word w′ bundles (7 * q + (3 + (k + i)))) (getD vs i (undef 0))
+  pub named : (i : ℕ) → i < many → Names (bundle-input w′ q (k + i)) (getD vs i (undef 0))
 
 abbrev pub PlannedAt : Graph → List MaybeClaimedRegion → DeferredTarget → ℕ → List ℕ → ℕ → PlannedInput → Type 0
-PlannedAt g cs x q w k i = PlannedInputOf g cs x (word w bundles (7 * q + (3 + k))) k i
+PlannedAt g cs x q w k i = PlannedInputOf g cs x (bundle-input w q k) k i
 
 output-names : (o : ℕ) → o < most-outputs → Names (output-word o) (output o)
 unfolding output-word
@@ -113,15 +115,15 @@ with-input {k} {many} {w′} {v} first h (shows-made {a = vs} rest) =
 with-input first h shows-refused = shows-refused
 
 module _ {g : Graph} {r base : ℕ} {cs : List MaybeClaimedRegion} (few : length (g .regions) ≤ 32) (small : SmallTypes g)
-    (n : DefinedSelect) (q : ℕ) (from : base ≤ q) (to : q < base + 33) (room : q < 1097)
+    (n : DefinedSelect) (q : ℕ) (from : base ≤ q) (to : q < base + 33) (room : q < most-bundles)
     {t : ℕ} {x : DeferredTarget} (target : ShowsTarget g t x) (most : target-size g x ≤ 4) (places : List ℕ) where
   module _ {w : List ℕ} (here : Spared g r base cs w) (at : ShowsPlaces w x cs places) {s : NestState} (tables : ShowsTables w s) (k : ℕ)
       (below : k < target-size g x) where
-    input-is : input-word w q k ≡ word w bundles (7 * q + (3 + k))
+    input-is : input-word w q k ≡ bundle-input w q k
     unfolding input-word
     input-is = rw (lt-ltb k 4 (omega arith))
 
-    stored-is : (l : List ℕ) (v : ℕ) → input-stored l q k v ≡ stored l bundles (7 * q + (3 + k)) v
+    stored-is : (l : List ℕ) (v : ℕ) → input-stored l q k v ≡ stored l bundles (bundle-input-at q k) v
     unfolding input-stored
     stored-is l v = rw (lt-ltb k 4 (omega arith))
 
@@ -132,11 +134,11 @@ module _ {g : Graph} {r base : ℕ} {cs : List MaybeClaimedRegion} (few : length
         (record { emitting = emitting-none g q (q + 1) w; tables = tables; others = λ i h z. refl; named = names }))
     input-shown (is-merged z u v) (input-there d e) = absurd (d (input-is ∙ z))
     input-shown (is-shared names) (input-made e vs o p) =
-        let y : word w bundles (7 * q + (3 + k)) ≡ 65535 = sym input-is ∙ e in
+        let y : bundle-input w q k ≡ 65535 = sym input-is ∙ e in
         let b = names .below in
         absurd (omega arith)
     input-shown (is-shared names) (no-input e vs o) =
-        let y : word w bundles (7 * q + (3 + k)) ≡ 65535 = sym input-is ∙ e in
+        let y : bundle-input w q k ≡ 65535 = sym input-is ∙ e in
         let b = names .below in
         absurd (omega arith)
     input-shown (is-merged z u v) (input-made {l₁} {o} e vs out p) =
@@ -152,9 +154,10 @@ module _ {g : Graph} {r base : ℕ} {cs : List MaybeClaimedRegion} (few : length
         rw (v, u, y .is, p, stored-is l₁ (output-word o))
         (shows-made {a = y .value} {s = y .state} (record {
           emitting = emitting-then (emitting-output changes g q (q + 1)) (emitting-word g l₁ q (3 + k) (output-word o) (omega arith));
-          tables = tables-stay (word-elsewhere l₁ bundles (omega arith) (7 * q + (3 + k)) (output-word o)) (y .tables);
-          others = λ i h d. word-apart l₁ bundles (7 * q + (3 + k)) (output-word o) bundles (7 * q + i) (omega arith) ∙ same (7 * q + i);
-          named = rw (word-there l₁ bundles (7 * q + (3 + k)) (output-word o) (omega arith) (omega arith), y .shows)
+          tables = tables-stay (word-elsewhere l₁ bundles (omega arith) (bundle-input-at q k) (output-word o)) (y .tables);
+          others = λ i h d. word-apart l₁ bundles (bundle-input-at q k) (output-word o) bundles (bundle-word-at q i) (omega arith)
+              ∙ same (bundle-word-at q i);
+          named = rw (word-there l₁ bundles (bundle-input-at q k) (output-word o) (omega arith) (omega arith), y .shows)
               (output-names o (output-below out));
         }))
     input-shown (is-merged z u v) (no-input e vs out) =

@@ -1,7 +1,7 @@
 -- What making outputs and conditions leaves: all but these, their totals, and some bundles of the spare slot.
 use mathlib.Core.Path.{_≡_, refl, ap, _∙_}
 use mathlib.Core.List.{List}
-use Prim.Native.Nat.{ℕ, _+_, _*_, _-_, _≤_, _<_}
+use Prim.Native.Nat.{ℕ, _+_, _-_, _≤_, _<_}
 use native.Mathlib.Omega.{arith}
 use lib.ListN.{length, getD}
 use Rattle.meaning.specs.Graph.{Graph}
@@ -17,8 +17,10 @@ use Rattle.shown.specs.States.{Slots, ShowsReturned, ShowsCases}
 use Rattle.shown.specs.Kept.{Later}
 use Rattle.shown.specs.laws.RegionsKept.{later-same, later-then, same-bundle, same-bundle-then}
 use Rattle.shown.specs.laws.RegionSteps.{slots-stay}
-use Rattle.shown.specs.laws.RegionSteps.{bundles-same, later-by, bundle-word}
+use Rattle.shown.specs.laws.RegionSteps.{bundles-same, later-by, bundle-word-concerns}
 use Rattle.selects.specs.laws.StepsShown.{SelectStep, cases-stay}
+use Rattle.state.specs.Rows.{bundle-word-at, case-body-at, case-word-at, level-at, merges-at, no-total, outputs-at, returned-at}
+use Rattle.state.specs.Rows.{spare-slot, types-at}
 
 -- Of the bundles those from a on, before b.
 pub record Emitting (g : Graph) (a b : ℕ) (w w′ : List ℕ) : Type 0 where
@@ -61,7 +63,7 @@ emitting-within x h k =
     }
 
 -- An output, or a condition.
-pub emitting-output : {w w′ : List ℕ} → ChangesOnly outputs 3 w w′ → (g : Graph) (a b : ℕ) → Emitting g a b w w′
+pub emitting-output : {w w′ : List ℕ} → ChangesOnly outputs outputs-at w w′ → (g : Graph) (a b : ℕ) → Emitting g a b w w′
 emitting-output changes g a b =
     record {
       words = changes .words;
@@ -71,7 +73,8 @@ emitting-output changes g a b =
       beside = λ p d. bundles-same (changes .others bundles (omega arith) (omega arith)) p;
     }
 
-pub emitting-condition : {w w′ : List ℕ} → ChangesOnly conditions 2 w w′ → (g : Graph) (a b : ℕ) → Later g w w′ → Emitting g a b w w′
+pub emitting-condition : {w w′ : List ℕ} → ChangesOnly conditions merges-at w w′ → (g : Graph) (a b : ℕ) → Later g w w′
+    → Emitting g a b w w′
 emitting-condition changes g a b later =
     record {
       words = changes .words;
@@ -82,15 +85,15 @@ emitting-condition changes g a b later =
     }
 
 -- A word of bundle p.
-pub emitting-word : (g : Graph) (w : List ℕ) (p i x : ℕ) → i < 7 → Emitting g p (p + 1) w (stored w bundles (7 * p + i) x)
+pub emitting-word : (g : Graph) (w : List ℕ) (p i x : ℕ) → i < 7 → Emitting g p (p + 1) w (stored w bundles (bundle-word-at p i) x)
 emitting-word g w p i x h =
-    let changes = word-changes bundles 16 w (omega arith) (7 * p + i) x in
+    let changes = word-changes bundles no-total w (omega arith) (bundle-word-at p i) x in
     record {
       words = changes .words;
       others = λ j c d e f. changes .others j e f;
-      totals = λ q c d. ap (λ l. getD l q 0) (section-other w bundles (7 * p + i) x head (omega arith));
+      totals = λ q c d. ap (λ l. getD l q 0) (section-other w bundles (bundle-word-at p i) x head (omega arith));
       later = later-by changes (omega arith) g;
-      beside = λ q d. bundle-word w p i x h .others q (λ e. d (omega arith) (omega arith));
+      beside = λ q d. bundle-word-concerns w p i x h .others q (λ e. d (omega arith) (omega arith));
     }
 
 -- ---- Where the bundles are of the spare slot, which begins at `base`.
@@ -99,7 +102,7 @@ pub record Spared (g : Graph) (r base : ℕ) (cs : List MaybeClaimedRegion) (w :
   pub returned : ShowsReturned g w
   pub few : length (g .regions) ≤ 32
   pub slots : Slots (length (g .regions)) w
-  pub spare : word w set-starts 32 ≡ base
+  pub spare : word w set-starts spare-slot ≡ base
 
 module _ {g : Graph} {r base : ℕ} {cs : List MaybeClaimedRegion} {a b : ℕ} {w w′ : List ℕ} (here : Spared g r base cs w)
     (x : Emitting g a b w w′) (from : base ≤ a) (to : b ≤ base + 33) where
@@ -115,15 +118,15 @@ module _ {g : Graph} {r base : ℕ} {cs : List MaybeClaimedRegion} {a b : ℕ} {
         same-kinds = same kinds (omega arith) (omega arith);
         same-starts = same set-starts (omega arith) (omega arith);
         same-head = λ k h. x .totals k (omega arith) (omega arith);
-        case-words = λ k i h d. same cases (omega arith) (omega arith) (10 * k + i);
-        case-bodies = λ k e. same cases (omega arith) (omega arith) (10 * k + 2);
+        case-words = λ k i h d. same cases (omega arith) (omega arith) (case-word-at k i);
+        case-bodies = λ k e. same cases (omega arith) (omega arith) (case-body-at k);
         others = λ q h d. record {
           set-start = same set-starts (omega arith) (omega arith) q;
           set-length = same set-lengths (omega arith) (omega arith) q;
           handle = same children (omega arith) (omega arith) q;
           body = same bodies (omega arith) (omega arith) q;
           backedge = same backedges (omega arith) (omega arith) q;
-          taken = λ j i. same levels (omega arith) (omega arith) (8 * q + j);
+          taken = λ j i. same levels (omega arith) (omega arith) (level-at q j);
           slot = λ j i. x .beside (word w set-starts q + j) (λ c e.
               let u = here .slots .starts q (omega arith) in
               let v = here .slots .starts 32 (omega arith) in
@@ -131,7 +134,7 @@ module _ {g : Graph} {r base : ℕ} {cs : List MaybeClaimedRegion} {a b : ℕ} {
               omega arith);
         };
         bundles-kept = λ p d. x .beside p (λ c e.
-            let z : word w set-starts 32 + (p - base) ≡ p = omega arith in
+            let z : word w set-starts spare-slot + (p - base) ≡ p = omega arith in
             d (p - base) (omega arith) z);
       }
 
@@ -142,8 +145,8 @@ module _ {g : Graph} {r base : ℕ} {cs : List MaybeClaimedRegion} {a b : ℕ} {
       record {
         shown = cases-stay s (here .shown);
         returned = record {
-          size = s .same-head 8 (omega arith) ∙ y .size;
-          types = λ k h. s .same-head (9 + k) (omega arith) ∙ y .types k h;
+          size = s .same-head returned-at (omega arith) ∙ y .size;
+          types = λ k h. s .same-head (types-at + k) (omega arith) ∙ y .types k h;
         };
         few = here .few;
         slots = slots-stay (λ q h. s .same-starts q) (here .slots);

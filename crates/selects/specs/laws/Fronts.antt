@@ -1,7 +1,7 @@
 -- The record stands in front of all that a select stores.
 use mathlib.Core.Bool.{Bool, true, false}
 use mathlib.Core.List.{List, [], _∷_}
-use Prim.Native.Nat.{ℕ, _+_, _*_}
+use Prim.Native.Nat.{ℕ, _+_}
 use native.Mathlib.Omega.{arith}
 use lib.Dec.{eqb}
 use Rattle.meaning.specs.Lists.{pick}
@@ -26,6 +26,8 @@ use Rattle.selects.specs.Cases.{GetsRegion, has-region, new-region, no-r
 use Rattle.selects.specs.Selects.{ScrutineeMade, given-value, made-value, CaseCells, cells-over, cell-more, SelectAdded, select-added}
 use Rattle.selects.specs.Selects.{SelectDefined, regions-full, scrutinee-full, node-full, select-defined}
 use Rattle.selects.specs.laws.EmitsLaws.{front-output}
+use Rattle.state.specs.Rows.{bundle-count, bundle-count-at, bundle-row-at, bundle-target, case-body-at, case-set-length, case-set-start}
+use Rattle.state.specs.Rows.{spare-slot}
 
 -- ---- Cases rewritten, their targets, and what is planned for them.
 pub front-cases : (g : Graph) (l : List ℕ) → SameKinds l (rewrite-cases g l)
@@ -37,41 +39,41 @@ unfolding summarize-bundle
 front-summary l p = go (eqb q 65535)
   where
     n : ℕ
-    n = word l set-lengths 32
+    n = word l set-lengths spare-slot
 
     q : ℕ
-    q = find-by l (word l set-starts 32) (word l bundles (7 * p + 0)) n 0
+    q = find-by l (word l set-starts spare-slot) (bundle-target l p) n 0
 
-    go : (b : Bool) → SameKinds l (pick b (row-added l p (word l set-starts 32) n) (edges-added l p q))
+    go : (b : Bool) → SameKinds l (pick b (row-added l p (word l set-starts spare-slot) n) (edges-added l p q))
     go true =
-        let xs = word l bundles (7 * p + 0) ∷ word l bundles (7 * p + 1) ∷ 1 ∷ [] in
-        let at = 7 * bundle-at (word l set-starts 32) n in
+        let xs = bundle-target l p ∷ bundle-count l p ∷ 1 ∷ [] in
+        let at = bundle-row-at (bundle-at (word l set-starts spare-slot) n) in
         kinds-then (kinds-run l bundles (omega arith) at xs) (kinds-stored (stored-all l bundles at xs) set-lengths (omega arith) 32
         (longer n 1))
-    go false = kinds-stored l bundles (omega arith) (7 * q + 1) (edges-word (word l bundles (7 * q + 1) + word l bundles (7 * p + 1)))
+    go false = kinds-stored l bundles (omega arith) (bundle-count-at q) (edges-word (bundle-count l q + bundle-count l p))
 
 front-summaries : (l : List ℕ) (j : ℕ) → SameKinds l (summarize-case l j)
 unfolding summarize-set
 front-summaries l j =
-    front-turned (λ m. m) (λ m i. summarize-bundle m (bundle-at (word l cases (10 * j + 4)) i))
-    (λ m i. front-summary m (bundle-at (word l cases (10 * j + 4)) i)) (word l cases (10 * j + 5)) l 0
+    front-turned (λ m. m) (λ m i. summarize-bundle m (bundle-at (case-set-start l j) i))
+    (λ m i. front-summary m (bundle-at (case-set-start l j) i)) (case-set-length l j) l 0
 
 pub front-targets : (l : List ℕ) → SameKinds l (deferred-targets l)
 unfolding deferred-targets
 front-targets l =
-    let m = stored l set-lengths 32 0 in
+    let m = stored l set-lengths spare-slot 0 in
     kinds-then (kinds-stored l set-lengths (omega arith) 32 0) (front-turned (λ m. m) summarize-case front-summaries (case-total m) m 0)
 
 pub front-plans : (g : Graph) (l : List ℕ) → SameKinds l (plan-bundles g l .words)
 unfolding plan-bundles
 front-plans g l =
-    let start = word l set-starts 32 in
-    front-turned (λ x. x .words) (plan-at start g) (front-plan start g) (word l set-lengths 32) (planned l false) 0
+    let start = word l set-starts spare-slot in
+    front-turned (λ x. x .words) (plan-at start g) (front-plan start g) (word l set-lengths spare-slot) (planned l false) 0
 
 -- ---- The select.
 front-region : {j : ℕ} {l l′ : List ℕ} {a : Made} → GetsRegion j l l′ a → SameKinds l l′
 front-region {l} (has-region k e) = rw e (kinds-same l)
-front-region {j} (new-region {r} {l₁} d x e) = rw e (kinds-then (defines-kinds x) (kinds-stored l₁ cases (omega arith) (10 * j + 2) r))
+front-region {j} (new-region {r} {l₁} d x e) = rw e (kinds-then (defines-kinds x) (kinds-stored l₁ cases (omega arith) (case-body-at j) r))
 front-region (no-region d x) = defines-kinds x
 
 front-merges : {l l′ vs : List ℕ} {c : ℕ} {a : Defined} → Merges l c vs l′ a → SameKinds l l′

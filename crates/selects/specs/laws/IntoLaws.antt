@@ -2,7 +2,7 @@
 use mathlib.Core.Path.{_≡_, refl, ap, _∙_}
 use mathlib.Core.Bool.{Bool, true, false, _||_}
 use mathlib.Core.List.{List}
-use Prim.Native.Nat.{ℕ, _*_, _≤_, _<_}
+use Prim.Native.Nat.{ℕ, _≤_, _<_}
 use native.Mathlib.Omega.{arith}
 use Rattle.record.specs.Stands.{OfRecord}
 use Rattle.state.specs.declared.defined.Defined.{Defined}
@@ -25,6 +25,7 @@ use Rattle.selects.specs.laws.Fronts.{front-cases, front-targets, front-
 use Rattle.selects.specs.Into.{SelectIf, not-needed, select-refused, select-made, with-targets, with-plan, needs-select}
 use Rattle.selects.specs.Into.{StructurizesSelect, not-structurized, structurized, spare-taken, set-aside, StructurizesInto}
 use Rattle.selects.specs.Into.{one-follows, one-refused, all-together, all-refused}
+use Rattle.state.specs.Rows.{case-nothing, case-row-at, spare-slot}
 
 -- ---- The functions, path by path.
 module _ (needed : Bool) (r shape : ℕ) (x : Scrutinee) (l : List ℕ) where
@@ -63,21 +64,22 @@ module _ (r shape : ℕ) (x : Scrutinee) (l : List ℕ) {some merged needed : Bo
       → OfRecord l (λ g. StructurizesSelect g r shape x l l′ Done)
   select-all e p g s = structurized (rw e at (step-by-step g s)) p
 
-pub spare-by : (l : List ℕ) (r : ℕ) {n : ℕ} {l₁ l₂ : List ℕ} → n ≡ word l set-lengths 32 → l₁ ≡ swapped l r 32
+pub spare-by : (l : List ℕ) (r : ℕ) {n : ℕ} {l₁ l₂ : List ℕ} → n ≡ word l set-lengths spare-slot → l₁ ≡ swapped l r 32
     → l₂ ≡ stored l₁ set-lengths r n → l₂ ≡ spare-taken l r
 spare-by l r a b c = c ∙ rw (b, a)
 
 module _ (r shape : ℕ) (x : Scrutinee) (l : List ℕ) {j : ℕ} (found : j ≡ convergent-case l) where
-  module _ (one : j < 8) {y z : Case} {l₁ l₂ : List ℕ} {a : Made} (row : y ≡ case-row l j) (none : z ≡ unclaimed-case 0 0 0)
-      (aside : l₁ ≡ stored-all l cases (10 * j) (case-words z)) (made : OfRecord l₁ (λ g. StructurizesSelect g r shape x l₁ l₂ a)) where
+  module _ (one : j < 8) {y z : Case} {l₁ l₂ : List ℕ} {a : Made} (row : y ≡ case-row l j) (none : z ≡ unclaimed-case case-nothing 0 0)
+      (aside : l₁ ≡ stored-all l cases (case-row-at j) (case-words z))
+      (made : OfRecord l₁ (λ g. StructurizesSelect g r shape x l₁ l₂ a)) where
     below : convergent-case l < 8
     below = rw found at one
 
     alone : OfRecord l (λ g. StructurizesSelect g r shape x (set-aside l (convergent-case l)) l₂ a)
     alone g s =
         let e : l₁ ≡ set-aside l (convergent-case l) = aside ∙ rw (none, found) in
-        rw e at (made g (rw e (stands-kept (kinds-run l cases (omega arith) (10 * convergent-case l)
-        (case-words (unclaimed-case 0 0 0))) s)))
+        rw e at (made g (rw e (stands-kept (kinds-run l cases (omega arith) (case-row-at (convergent-case l))
+        (case-words (unclaimed-case case-nothing 0 0))) s)))
 
     pub into-refused : a ≡ Full → OfRecord l (λ g. StructurizesInto g r shape x l l₂ Full)
     into-refused e g s = one-refused below (rw e at (alone g s))

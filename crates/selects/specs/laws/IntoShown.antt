@@ -1,7 +1,7 @@
 -- A select and what follows it, for every state that the words show: the definition's structurize-select-into, or its refusal.
 use mathlib.Core.Path.{_≡_, refl, sym, ap, _∙_}
 use mathlib.Core.List.{List, [], _∷_}
-use Prim.Native.Nat.{ℕ, _+_, _*_, _≤_, _<_}
+use Prim.Native.Nat.{ℕ, _+_, _≤_, _<_}
 use native.Mathlib.Omega.{arith}
 use native.Mathlib.Decide.{ℕ-discrete, decLt}
 use lib.ListN.{length, getD, set, length-set}
@@ -14,7 +14,7 @@ use Rattle.nesting.specs.Nesting as nesting
 use Rattle.nesting.specs.Nesting.{MaybeClaimedRegion, ok, ClaimedRegion, DeferredTarget, NestState, StepAnswer, Body}
 use Rattle.nesting.specs.Nesting.{structurize-select-into, structurize-select, convergent-cases, without-convergent}
 use Rattle.nesting.specs.lookups.ChainEnds.{ChainsEnd}
-use Rattle.state.specs.Sections.{word, stored, used, head, kinds, set-starts, set-lengths, children, cases, most-cells}
+use Rattle.state.specs.Sections.{word, stored, used, head, kinds, set-starts, set-lengths, children, cases}
 use Rattle.state.specs.Sections.{bundles}
 use Rattle.state.specs.Tables.{swapped, case-words, case-row}
 use Rattle.shown.specs.laws.Stores.{ChangesOnly, run-changes}
@@ -46,6 +46,9 @@ use Rattle.selects.specs.laws.RegionsShown.{ShowsMade, shows-made, shows
 use Rattle.selects.specs.laws.SelectsShown.{ShowsScrutinee, scrutinee-stays}
 use Rattle.selects.specs.laws.Aside.{aside-shown, none-left, other-case, field, none-deferred, PartsStay, parts-then}
 use Rattle.selects.specs.laws.Structurized.{Structured, structurized-shown}
+use Rattle.state.specs.Values.{parts}
+use Rattle.state.specs.Rows.{case-claimed, case-input-at, case-kind, case-nothing, case-origin, case-row-at, case-set-start, cases-at}
+use Rattle.state.specs.Rows.{cells-at, kind-claimed, kind-ready, largest, most-cells, region-kind, spare-slot}
 
 -- ---- The spare slot's set becomes region r's.
 record SpareTaken (g : Graph) (r : ℕ) (w w′ : List ℕ) (x : Body) (s : NestState) : Type 0 where
@@ -53,22 +56,23 @@ record SpareTaken (g : Graph) (r : ℕ) (w w′ : List ℕ) (x : Body) (s : Nest
   body : ShowsBody g w′ r x
   later : Later g w w′
   kept : (q : ℕ) → q < length (g .regions) → (q ≡ r → ⊥) → KeptRegion w w′ q
-  same-total : word w′ head 4 ≡ word w head 4
+  same-total : word w′ head cells-at ≡ word w head cells-at
 
 spare-shown : {g : Graph} → length (g .regions) ≤ 32 → {r : ℕ} → r < length (g .regions) → {w : List ℕ} {s : NestState} → ShowsState g w s
-    → (word w kinds r ≡ 2 → ⊥) → {x : Body} → ShowsChildren g w (word w children r) (x .children)
-    → ShowsSet g w (word w set-starts 32) (word w set-lengths 32) (x .deferred-edges) → SpareTaken g r w (spare-taken w r) x s
+    → (region-kind w r ≡ kind-ready → ⊥) → {x : Body} → ShowsChildren g w (word w children r) (x .children)
+    → ShowsSet g w (word w set-starts spare-slot) (word w set-lengths spare-slot) (x .deferred-edges)
+    → SpareTaken g r w (spare-taken w r) x s
 spare-shown {g} few {r} here {w} state unready {x} nodes set =
     let r-33 : r < 33 = omega arith in
     let at : 32 < 33 = omega arith in
     let room = state .tables .size in
-    let n = word w set-lengths 32 in
+    let n = word w set-lengths spare-slot in
     let w₁ = swapped w r 32 in
     let only = swapped-only w room r 32 r-33 at in
     let later₁ = only-later only g in
     let state₁ = only-state only (swapped-slots w room r 32 r-33 at (omega arith) (omega arith) (state .slots))
-    (λ q k e. swapped-kept w room r 32 r-33 at q (λ f. unready (ap (λ b. word w kinds b) (sym f) ∙ e)) (omega arith)) state in
-    let kind₁ : word w₁ kinds r ≡ 2 → ⊥ = λ e. unready (sym (only-word-same only kinds (omega arith) r) ∙ e) in
+    (λ q k e. swapped-kept w room r 32 r-33 at q (λ f. unready (ap (λ b. region-kind w b) (sym f) ∙ e)) (omega arith)) state in
+    let kind₁ : region-kind w₁ r ≡ kind-ready → ⊥ = λ e. unready (sym (only-word-same only kinds (omega arith) r) ∙ e) in
     let set₁ : ShowsSet g w₁ (word w₁ set-starts r) n (x .deferred-edges) =
     rw (swapped-first w room r 32 r-33 at) (set-stays later₁ (λ i k. swapped-bundle w room r 32 r-33 at _) set) in
     let c = word-concerns g w₁ set-lengths (omega arith) r n in
@@ -82,14 +86,14 @@ spare-shown {g} few {r} here {w} state unready {x} nodes set =
       };
       later = later-then later₁ (c .later);
       kept = λ q k d. kept-then (swapped-kept w room r 32 r-33 at q d (omega arith)) (c .others q (omega arith) d);
-      same-total = c .same-head 4 ∙ only .totals 4 (omega arith);
+      same-total = c .same-head cells-at ∙ only .totals cells-at (omega arith);
     }
 
 -- ---- What is asked of the cases: a claimed region is claimed, and none is region r.
 pub record ClaimedCases (w : List ℕ) (r : ℕ) (cs : List MaybeClaimedRegion) : Type 0 where
-  pub parent : word w kinds r ≡ 2 → ⊥
+  pub parent : region-kind w r ≡ kind-ready → ⊥
   pub claimed : (j : ℕ) → j < length cs → (c : ClaimedRegion) → getD cs j no-case ≡ ok c
-      → (word w kinds (c .origin) ≡ 3) × (c .origin ≡ r → ⊥)
+      → (region-kind w (c .origin) ≡ kind-claimed) × (c .origin ≡ r → ⊥)
 
 none-ready : {g : Graph} {w : List ℕ} {r : ℕ} {cs : List MaybeClaimedRegion} → HasSlot (length (g .regions)) r → ShowsCases g w r cs
     → ClaimedCases w r cs → NoneReady g w r cs
@@ -101,11 +105,11 @@ none-ready {g} {w} {r} {cs} slot shown claimed =
     }
   where
     go : (j : ℕ) {c : MaybeClaimedRegion} → ShowsCase g w r j c
-        → ((x : ClaimedRegion) → c ≡ ok x → (word w kinds (x .origin) ≡ 3) × (x .origin ≡ r → ⊥)) → word w cases (10 * j + 0) ≡ 2
-        → word w kinds (word w cases (10 * j + 1)) ≡ 2 → ⊥
+        → ((x : ClaimedRegion) → c ≡ ok x → (region-kind w (x .origin) ≡ kind-claimed) × (x .origin ≡ r → ⊥)) → case-kind w j ≡ case-claimed
+        → region-kind w (case-origin w j) ≡ kind-ready → ⊥
     go j (shows-ok {c} a o b s t n u z i) f k e =
         let y = f c refl .0 in
-        let at : word w kinds (word w cases (10 * j + 1)) ≡ word w kinds (c .origin) = ap (λ q. word w kinds q) o in
+        let at : region-kind w (case-origin w j) ≡ region-kind w (c .origin) = ap (λ q. region-kind w q) o in
         omega arith
     go j (shows-nothing a z) f k e = omega arith
     go j (shows-edge a u z) f k e = omega arith
@@ -118,12 +122,12 @@ pub record IntoDone (g : Graph) (r : ℕ) (cs : List MaybeClaimedRegion) (w w′
   pub later : Later g w w′
   pub kept : (q : ℕ) → q < length (g .regions) → (q ≡ r → ⊥)
       → ((j : ℕ) (c : ClaimedRegion) → j < length cs → getD cs j no-case ≡ ok c → q ≡ c .origin → ⊥) → KeptRegion w w′ q
-  pub total : word w′ head 4 ≤ word w head 4 + (length cs + 2)
+  pub total : word w′ head cells-at ≤ word w head cells-at + (length cs + 2)
 
 -- By the words, the origin of a claimed case is the definition's.
 not-origin : {g : Graph} {w : List ℕ} {r : ℕ} {cs : List MaybeClaimedRegion} → ShowsCases g w r cs → {q : ℕ}
     → ((j : ℕ) (c : ClaimedRegion) → j < length cs → getD cs j no-case ≡ ok c → q ≡ c .origin → ⊥)
-    → (j : ℕ) → j < length cs → word w cases (10 * j + 0) ≡ 2 → q ≡ word w cases (10 * j + 1) → ⊥
+    → (j : ℕ) → j < length cs → case-kind w j ≡ case-claimed → q ≡ case-origin w j → ⊥
 not-origin {g} {w} {r} shown {q} f j h k e = go (shown .each j h) (λ c. f j c h)
   where
     go : {c : MaybeClaimedRegion} → ShowsCase g w r j c → ((x : ClaimedRegion) → c ≡ ok x → q ≡ x .origin → ⊥) → ⊥
@@ -135,10 +139,10 @@ not-origin {g} {w} {r} shown {q} f j h k e = go (shown .each j h) (λ c. f j c h
 module _ {g : Graph} (valid : Valid g) {r : ℕ} (below : r < length (g .regions)) {w : List ℕ} {s : NestState}
     (state : ShowsState g w s) {cs : List MaybeClaimedRegion} (shown : ShowsCases g w r cs) (claimed : ClaimedCases w r cs)
     (chains : (q : ℕ) → ChainsEnd (s .region-input-rewrites) q)
-    (bound : (x : DeferredTarget) → edges-of-cases x (cases-after s cs) ≤ 65535)
+    (bound : (x : DeferredTarget) → edges-of-cases x (cases-after s cs) ≤ largest)
     {x : Scrutinee} {y : nesting.Scrutinee} (scrutinee : ShowsScrutinee w x y) {shape : ℕ} {kind : SelectionKind}
     (of-shape : ShowsShape shape (length cs) kind) {parent : Nodes} (own : ShowsChildren g w (word w children r) parent)
-    (free : word w head 4 + (length cs + 2) ≤ most-cells) where
+    (free : word w head cells-at + (length cs + 2) ≤ most-cells) where
   -- All cases together.
   together : {w₁ : List ℕ} {a : Made} → StructurizesSelect g r shape x w w₁ a
       → ShowsMade (Structured g r cs w w₁) a (structurize-select g parent kind y cs s)
@@ -180,8 +184,8 @@ module _ {g : Graph} (valid : Valid g) {r : ℕ} (below : r < length (g .regions
     same-size : length rest ≡ length cs
     same-size = length-set cs j no-case
 
-    changes : ChangesOnly cases 7 w aside
-    changes = run-changes cases 7 w (omega arith) (10 * j) (case-words (unclaimed-case 0 0 0))
+    changes : ChangesOnly cases cases-at w aside
+    changes = run-changes cases cases-at w (omega arith) (case-row-at j) (case-words (unclaimed-case case-nothing 0 0))
 
     later₀ : Later g w aside
     later₀ = later-by changes (omega arith) g
@@ -193,7 +197,7 @@ module _ {g : Graph} (valid : Valid g) {r : ℕ} (below : r < length (g .regions
     shown₀ : ShowsCases g aside r rest
     shown₀ = aside-shown few below room (state .slots) shown j inside
 
-    same-kinds₀ : (q : ℕ) → word aside kinds q ≡ word w kinds q
+    same-kinds₀ : (q : ℕ) → region-kind aside q ≡ region-kind w q
     same-kinds₀ q = ap (λ l. getD l q 0) (changes .others kinds (omega arith) (omega arith))
 
     -- A claimed case that is left was one before.
@@ -214,14 +218,14 @@ module _ {g : Graph} (valid : Valid g) {r : ℕ} (below : r < length (g .regions
               (same-kinds₀ (c .origin) ∙ x .0, x .1);
         }
 
-    bound₀ : (x : DeferredTarget) → edges-of-cases x (cases-after s rest) ≤ 65535
+    bound₀ : (x : DeferredTarget) → edges-of-cases x (cases-after s rest) ≤ largest
     bound₀ x = rw (← without) (let z = none-deferred s x cs in omega arith)
 
     own₀ : ShowsChildren g aside (word aside children r) parent
     own₀ = rw (changes .others children (omega arith) (omega arith)) (later₀ .nodes-stay own)
 
-    total₀ : word aside head 4 ≡ word w head 4
-    total₀ = changes .totals 4 (omega arith)
+    total₀ : word aside head cells-at ≡ word w head cells-at
+    total₀ = changes .totals cells-at (omega arith)
 
     answer : {w₁ : List ℕ} {a : Made} → StructurizesSelect g r shape x aside w₁ a
         → ShowsMade (Structured g r rest aside w₁) a (structurize-select g parent kind y rest s)
@@ -235,8 +239,8 @@ module _ {g : Graph} (valid : Valid g) {r : ℕ} (below : r < length (g .regions
     -- What the select leaves of the case that follows.
     parts-stay : {w₁ : List ℕ} {z : Body} {s₁ : NestState} → Structured g r rest aside w₁ z s₁ → PartsStay g w w₁ j
     parts-stay c =
-        let xs = case-words (unclaimed-case 0 0 0) in
-        let kind : word aside cases (10 * j + 0) ≡ 0 = row-word w room j (let most = shown .few in omega arith) xs (omega arith) 0
+        let xs = case-words (unclaimed-case case-nothing 0 0) in
+        let kind : case-kind aside j ≡ case-nothing = row-word w room j (let most = shown .few in omega arith) xs (omega arith) 0
         (omega arith) in
         let same-starts : (q : ℕ) → word aside set-starts q ≡ word w set-starts q =
         λ q. ap (λ l. getD l q 0) (changes .others set-starts (omega arith) (omega arith)) in
@@ -246,10 +250,10 @@ module _ {g : Graph} (valid : Valid g) {r : ℕ} (below : r < length (g .regions
           same-starts = λ q. c .same-starts q ∙ same-starts q;
           inputs = λ k h. c .rows j (omega arith) (none-left few below room (state .slots) shown j inside) (6 + k) (omega arith)
               (omega arith)
-              ∙ run-beside w cases (10 * j) xs (10 * j + (6 + k)) (λ a b. omega arith);
+              ∙ run-beside w cases (case-row-at j) xs (case-input-at j k) (λ a b. omega arith);
           bundles = λ p h. same-bundle-then (bundles-same (changes .others bundles (omega arith) (omega arith))
-              (word w cases (10 * j + 4) + p))
-              (c .outside (word w cases (10 * j + 4) + p)
+              (case-set-start w j + p))
+              (c .outside (case-set-start w j + p)
               (λ k i a b e.
               let d = other-case few below room (state .slots) shown j inside k i b in
               let start = field few below room (state .slots) shown j inside k 4 d (omega arith) in

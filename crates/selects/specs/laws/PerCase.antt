@@ -2,7 +2,7 @@
 use mathlib.Core.Path.{_≡_, refl, sym, ap, _∙_}
 use mathlib.Core.List.{List, [], _∷_, map}
 use mathlib.Core.Option.{none, some}
-use Prim.Native.Nat.{ℕ, suc, _+_, _*_, _≤_, _<_}
+use Prim.Native.Nat.{ℕ, suc, _+_, _≤_, _<_}
 use native.Mathlib.Omega.{arith}
 use native.Mathlib.Decide.{decLt}
 use lib.ListN.{length, getD, set, length-map, List·getD-eq-default}
@@ -13,7 +13,6 @@ use Rattle.meaning.specs.facts.Elements.{getD-map-in}
 use Rattle.nesting.specs.Nesting as nesting
 use Rattle.nesting.specs.Nesting.{DeferredTarget, DeferredEdgeBundle, DeferredEdgeBundleSet, MaybeClaimedRegion, deferred-of}
 use Rattle.nesting.specs.Nesting.{PerCaseDeferred, per-case-of, get-edge-bundle-by-target, condition-in, conditions-of, undef-cond}
-use Rattle.state.specs.Sections.{word, cases}
 use Rattle.state.specs.Tables.{input-word, case-total}
 use Rattle.shown.specs.Values.{value}
 use Rattle.shown.specs.laws.ValueWords.{value-undef, value-beyond}
@@ -29,10 +28,12 @@ use Rattle.merging.specs.Planning.{per-case-deferred, per-case-condition}
 use Rattle.selects.specs.Emits.{InCases, value-in-case}
 use Rattle.selects.specs.laws.EmitsLaws.{value-none, value-some}
 use Rattle.selects.specs.laws.StepsShown.{SelectStep}
+use Rattle.state.specs.Values.{parts, undef-from}
+use Rattle.state.specs.Rows.{case-set-length, case-set-start}
 
 -- ---- The cases' bundles to a target.
 pub record ShowsPlaces (w : List ℕ) (x : DeferredTarget) (cs : List MaybeClaimedRegion) (places : List ℕ) : Type 0 where
-  pub each : (j : ℕ) → j < length cs → Finds (word w cases (10 * j + 4)) x (deferred-of (getD cs j no-case)) (getD places j 0)
+  pub each : (j : ℕ) → j < length cs → Finds (case-set-start w j) x (deferred-of (getD cs j no-case)) (getD places j 0)
 
 pub places-shown : {g : Graph} {w : List ℕ} {r : ℕ} {cs : List MaybeClaimedRegion} → ShowsCases g w r cs → length (g .regions) ≤ 32
     → {t : ℕ} {x : DeferredTarget} → ShowsTarget g t x → ShowsPlaces w x cs (per-case-deferred w t)
@@ -41,7 +42,7 @@ places-shown {w} {cs} shown few {t} {x} target =
     let size = shown .size in
     record {
       each = λ j h. rw (place-is w t j (omega arith) (omega arith))
-          (finds w few (word w cases (10 * j + 4)) target (shown .sets j h));
+          (finds w few (case-set-start w j) target (shown .sets j h));
     }
 
 pub places-stay : {g : Graph} {r : ℕ} {w w′ : List ℕ} → SelectStep g r w w′ → {x : DeferredTarget} {cs : List MaybeClaimedRegion}
@@ -72,23 +73,23 @@ module _ {g : Graph} {w : List ℕ} {start n : ℕ} {d : DeferredEdgeBundleSet} 
         let named = bundle .inputs k (omega arith) in
         rw (per-case-some x d it gets, ← value-some w p k ty (omega arith), at, lt-ltb k 4 (omega arith)) (named .is)
 
-    condition-of-case : (j : ℕ) → word w cases (10 * j + 5) ≡ n → Finds start x d p
+    condition-of-case : (j : ℕ) → case-set-length w j ≡ n → Finds start x d p
         → ShowsCondition w (per-case-condition w j p) (nesting.per-case-deferred x d .condition)
     unfolding per-case-condition words.condition-in
     condition-of-case j e (none-found q gets) = go d (set .size) gets
       where
         go : (d : DeferredEdgeBundleSet) → n ≡ length d → get-edge-bundle-by-target x d ≡ none
             → ShowsCondition w (per-case-condition w j p) (nesting.per-case-deferred x d .condition)
-        go [] z h = rw (eq-eqb (word w cases (10 * j + 5)) 0 (omega arith)) record { tree = shows-undef refl; made = omega arith }
+        go [] z h = rw (eq-eqb (case-set-length w j) 0 (omega arith)) record { tree = shows-undef refl; made = omega arith }
         go (y ∷ ys) z h =
-            rw (ne-eqb (word w cases (10 * j + 5)) 0 (omega arith), eq-eqb p 65535 q, h) record
+            rw (ne-eqb (case-set-length w j) 0 (omega arith), eq-eqb p 65535 q, h) record
             { tree = shows-false refl; made = omega arith }
     condition-of-case j e (found i at below gets same before) =
         let size = set .size in
         let room = set .room in
         rw (
           per-case-some x d (getD d i no-bundle) gets,
-          ne-eqb (word w cases (10 * j + 5)) 0 (omega arith),
+          ne-eqb (case-set-length w j) 0 (omega arith),
           ne-eqb p 65535 (omega arith),
           at,
           e,
@@ -115,7 +116,7 @@ module _ {g : Graph} {w : List ℕ} {r : ℕ} {cs : List MaybeClaimedRegion} (sh
     {places : List ℕ}
     (at : ShowsPlaces w x cs places) where
   pub values-shown : (k ty : ℕ) → k < target-size g x → ty < 256 → {vs : List ℕ}
-      → InCases (case-total w) (λ j. value-in-case w (getD places j 0) k ty) 66 vs
+      → InCases (case-total w) (λ j. value-in-case w (getD places j 0) k ty) undef-from vs
       → ShowsValues vs 0 (map (nesting.value-in-case k ty) (per-cases x cs))
   values-shown k ty h b {vs} y =
       let size = shown .size in

@@ -3,7 +3,7 @@ use mathlib.Core.Path.{_≡_, refl, sym, subst, _∙_}
 use mathlib.Core.Bool.{Bool, true, false, _||_}
 use mathlib.Core.List.{List, [], map}
 use mathlib.Core.Option.{Option, none, some}
-use Prim.Native.Nat.{ℕ, zero, suc, _+_, _*_, _≤_, _<_}
+use Prim.Native.Nat.{ℕ, zero, suc, _+_, _≤_, _<_}
 use native.Mathlib.Omega.{arith}
 use lib.ListN.{length, getD, length-map}
 use Rattle.meaning.specs.Lists.{pick, any, is-some}
@@ -14,7 +14,7 @@ use Rattle.nesting.specs.Nesting as nesting
 use Rattle.nesting.specs.Nesting.{DeferredTarget, MaybeClaimedRegion, LazyConds, PlannedInput, shared, merged, PlannedBundle}
 use Rattle.nesting.specs.Nesting.{DeferredTargetSummary, plan-input, plan-inputs, plan-bundle, all-true, conditions-of}
 use Rattle.nesting.specs.Nesting.{shared-bundle, any-needs-select, unique-input, passed-inputs}
-use Rattle.state.specs.Sections.{word, set-lengths, bundles}
+use Rattle.state.specs.Sections.{word, set-lengths}
 use Rattle.shown.specs.Tables.{shows-true}
 use Rattle.shown.specs.Sets.{Names, ShowsTarget, shows-region, shows-return, ShowsSet, ShowsBundle, no-bundle}
 use Rattle.merging.specs.laws.PlanningShown as planned
@@ -24,6 +24,7 @@ use Rattle.selects.specs.laws.EmitsShown.{PlannedInputOf, is-shared, is-
 use Rattle.selects.specs.laws.EmitsShown.{no-planned-input}
 use Rattle.selects.specs.laws.SetsEmitted.{no-plan, ShowsPlan}
 use Rattle.nesting.specs.steps.TargetsAndCases.{per-cases}
+use Rattle.state.specs.Rows.{bundle-input, bundle-target, most-bundles, spare-slot}
 
 -- ---- A planned bundle of these cases.
 module _ (g : Graph) (cs : List MaybeClaimedRegion) where
@@ -64,7 +65,7 @@ module _ (g : Graph) (cs : List MaybeClaimedRegion) where
         few = y .few;
         inputs = λ k h.
             let z : 0 + k ≡ k = omega arith in
-            let f : ℕ → ℕ = λ i. word w bundles (7 * q + (3 + i)) in
+            let f : ℕ → ℕ = λ i. bundle-input w q i in
             rw z at (inputs-of (t .target) f (t .input-count) 0 k h (subst (λ i. planned.ShowsPlannedInput (f i)
             (getD (plan-bundle g cs t .inputs) k planned.no-input)) (sym z) (y .inputs k h)));
       }
@@ -76,7 +77,7 @@ target-word (shows-return e) (shows-return f) = e ∙ sym f
 
 -- ---- All of them, from the rows of the deferred targets.
 pub plan-shown : {g : Graph} (cs : List MaybeClaimedRegion) {w w′ : List ℕ} {base : ℕ} → ShowsRows g w base (nesting.deferred-targets cs [])
-    → word w′ set-lengths 32 ≡ length (nesting.plan-bundles g cs)
+    → word w′ set-lengths spare-slot ≡ length (nesting.plan-bundles g cs)
     → ((i : ℕ) → i < length (nesting.plan-bundles g cs) → ShowsPlanned g w′ (base + i)
     (getD (nesting.plan-bundles g cs) i planned.no-planned))
     → ShowsPlan g cs w′ base (nesting.plan-bundles g cs)
@@ -89,7 +90,7 @@ plan-shown {g} cs {w} {w′} {base} rows size each =
     λ i d h. getD-map-in (plan-bundle g cs) ts i no-summary d h in
     let own : (i : ℕ) → i < length ts → ShowsPlanned g w′ (base + i) (plan-bundle g cs (getD ts i no-summary)) =
     λ i h. rw (is-plan i planned.no-planned h) at (each i (omega arith)) in
-    let target : (i : ℕ) → i < length ts → word w′ bundles (7 * (base + i) + 0) ≡ word w bundles (7 * (base + i) + 0) =
+    let target : (i : ℕ) → i < length ts → bundle-target w′ (base + i) ≡ bundle-target w (base + i) =
     λ i h. target-word (own i h .target) (rows .each i h .target) in
     record {
       size = size;
@@ -138,7 +139,7 @@ shared-shown {p} y e =
           (none-of to-make (p .inputs) (or-left (any to-make (p .inputs)) (is-some (p .condition)) e) k no-planned-input below));
     }
 
-pub shared-set : {g : Graph} {cs : List MaybeClaimedRegion} {w : List ℕ} {base : ℕ} {ps : List PlannedBundle} → base + 33 ≤ 1097
+pub shared-set : {g : Graph} {cs : List MaybeClaimedRegion} {w : List ℕ} {base : ℕ} {ps : List PlannedBundle} → base + 33 ≤ most-bundles
     → ShowsPlan g cs w base ps → any-needs-select ps ≡ false → ShowsSet g w base (length ps) (map shared-bundle ps)
 shared-set {ps} room plan e =
     let same = length-map ps shared-bundle in

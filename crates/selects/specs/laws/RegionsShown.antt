@@ -1,7 +1,7 @@
 -- The regions of a select's cases, for every state that the words show.
 use mathlib.Core.Path.{_≡_, refl, sym, ap, _∙_}
 use mathlib.Core.List.{List, [], _∷_}
-use Prim.Native.Nat.{ℕ, suc, _+_, _*_, _≤_, _<_}
+use Prim.Native.Nat.{ℕ, suc, _+_, _≤_, _<_}
 use native.Mathlib.Omega.{arith}
 use lib.ListN.{length, getD}
 use Rattle.meaning.specs.Graph.{Graph}
@@ -25,6 +25,7 @@ use Rattle.selects.specs.Cases.{GetsRegion, has-region, new-region, no-r
 use Rattle.selects.specs.laws.Places.{From, first-of, rest-of}
 use Rattle.nesting.specs.steps.TargetsAndCases.{children-in}
 use Rattle.format.specs.Refusals.{too-many}
+use Rattle.state.specs.Rows.{case-body, case-body-at, case-claimed, case-kind, case-row-at, case-word, case-word-at, regions-at}
 
 -- What a step of the code answers shows what the definition's step gives, or refusal 9.
 pub data ShowsMade {A : Type 0} (R : A → NestState → Type 0) : Made → StepAnswer A → Type 0 where
@@ -46,13 +47,14 @@ refused-of shows-refused = refl
 
 -- ---- What stays of the cases: all words but the bodies of those that are not claimed, and those before place j.
 pub record KeepsCases (j : ℕ) (w w′ : List ℕ) : Type 0 where
-  pub changes : ChangesOnly cases 0 w w′
-  pub before : (i : ℕ) → i < 10 * j → word w′ cases i ≡ word w cases i
-  pub words : (k i : ℕ) → i < 10 → (i ≡ 2 → ⊥) → word w′ cases (10 * k + i) ≡ word w cases (10 * k + i)
-  pub bodies : (k : ℕ) → word w cases (10 * k + 0) ≡ 2 → word w′ cases (10 * k + 2) ≡ word w cases (10 * k + 2)
+  pub changes : ChangesOnly cases regions-at w w′
+  pub before : (i : ℕ) → i < case-row-at j → word w′ cases i ≡ word w cases i
+  pub words : (k i : ℕ) → i < 10 → (i ≡ 2 → ⊥) → case-word w′ k i ≡ case-word w k i
+  pub bodies : (k : ℕ) → case-kind w k ≡ case-claimed → case-body w′ k ≡ case-body w k
 
 keeps-same : (j : ℕ) (w : List ℕ) → KeepsCases j w w
-keeps-same j w = record { changes = nothing-changes cases 0 w; before = λ i h. refl; words = λ k i h d. refl; bodies = λ k e. refl }
+keeps-same j w = record
+    { changes = nothing-changes cases regions-at w; before = λ i h. refl; words = λ k i h d. refl; bodies = λ k e. refl }
 
 keeps-then : {j : ℕ} {w w₁ w₂ : List ℕ} → KeepsCases j w w₁ → KeepsCases (suc j) w₁ w₂ → KeepsCases j w w₂
 keeps-then a b =
@@ -65,23 +67,23 @@ keeps-then a b =
 
 total-kept : {limit : ℕ} {w w₁ : List ℕ} {a : Defined} → Defines 0 limit w w₁ a → (j : ℕ) → KeepsCases j w w₁
 total-kept {w} (defined {n} p h e) j =
-    let same = section-other w head 0 (n + 1) cases (omega arith) in
+    let same = section-other w head regions-at (n + 1) cases (omega arith) in
     rw e
     record {
-      changes = head-changes cases 0 w (n + 1);
+      changes = head-changes cases regions-at w (n + 1);
       before = λ i h. ap (λ l. getD l i 0) same;
-      words = λ k i h d. ap (λ l. getD l (10 * k + i) 0) same;
-      bodies = λ k q. ap (λ l. getD l (10 * k + 2) 0) same;
+      words = λ k i h d. ap (λ l. getD l (case-word-at k i) 0) same;
+      bodies = λ k q. ap (λ l. getD l (case-body-at k) 0) same;
     }
 total-kept {w} (full h e) j = rw e (keeps-same j w)
 
-body-kept : (w : List ℕ) (j r : ℕ) → (word w cases (10 * j + 0) ≡ 2 → ⊥) → KeepsCases j w (stored w cases (10 * j + 2) r)
+body-kept : (w : List ℕ) (j r : ℕ) → (case-kind w j ≡ case-claimed → ⊥) → KeepsCases j w (stored w cases (case-body-at j) r)
 body-kept w j r d =
     record {
-      changes = word-changes cases 0 w (omega arith) (10 * j + 2) r;
-      before = λ i h. word-apart w cases (10 * j + 2) r cases i (omega arith);
-      words = λ k i h n. word-apart w cases (10 * j + 2) r cases (10 * k + i) (omega arith);
-      bodies = λ k e. word-apart w cases (10 * j + 2) r cases (10 * k + 2)
+      changes = word-changes cases regions-at w (omega arith) (case-body-at j) r;
+      before = λ i h. word-apart w cases (case-body-at j) r cases i (omega arith);
+      words = λ k i h n. word-apart w cases (case-body-at j) r cases (case-word-at k i) (omega arith);
+      bodies = λ k e. word-apart w cases (case-body-at j) r cases (case-body-at k)
           (λ z. let same : k ≡ j = omega arith in d (rw same at e));
     }
 
@@ -116,12 +118,12 @@ count-from body j [] = refl
 count-from body j (c ∷ cs) = ap suc (count-from body (suc j) cs)
 
 abbrev pub body-at : List ℕ → ℕ → ℕ
-body-at w j = word w cases (10 * j + 2)
+body-at w j = case-body w j
 
 -- A case that is claimed says so, and has its region.
 pub data ShowsKind (w : List ℕ) (j : ℕ) : MaybeClaimedRegion → Type 0 where
-  kind-ok : {c : ClaimedRegion} → word w cases (10 * j + 0) ≡ 2 → body-at w j ≡ c .structured-body → ShowsKind w j (ok c)
-  kind-err : {d : DeferredEdgeBundleSet} → (word w cases (10 * j + 0) ≡ 2 → ⊥) → ShowsKind w j (err d)
+  kind-ok : {c : ClaimedRegion} → case-kind w j ≡ case-claimed → body-at w j ≡ c .structured-body → ShowsKind w j (ok c)
+  kind-err : {d : DeferredEdgeBundleSet} → (case-kind w j ≡ case-claimed → ⊥) → ShowsKind w j (err d)
 
 pub kind-shown : {g : Graph} {w : List ℕ} {r j : ℕ} {c : MaybeClaimedRegion} → ShowsCase g w r j c → ShowsKind w j c
 kind-shown (shows-ok k o b s t n a z i) = kind-ok k s
@@ -164,7 +166,7 @@ regions-shown (c ∷ cs) j {w} {w′} {s} {a} e f t b (turn-on {l₁} n x y) =
     step c m x (λ s₁ t₁. regions-shown cs (suc j) {s = s₁} (omega arith) (λ i h. kind-keeps keeps (rest i h)) t₁ (omega arith) y)
   where
     later : body-at w′ j ≡ body-at l₁ j
-    later = regions-keep y .before (10 * j + 2) (omega arith)
+    later = regions-keep y .before (case-body-at j) (omega arith)
 
     step : (c : MaybeClaimedRegion) → ShowsKind w j c → GetsRegion j w l₁ Done
         → ((s₁ : NestState) → ShowsTables l₁ s₁ → ShowsMade (RegionsDone (suc j) cs w′) a (case-regions cs s₁))
@@ -174,10 +176,10 @@ regions-shown (c ∷ cs) j {w} {w′} {s} {a} e f t b (turn-on {l₁} n x y) =
     step (err d) (kind-err k) (has-region z r) go = absurd (k z)
     step (err d) (kind-err k) (new-region {r = number} {l₁ = l} z x q) go =
         let x₁ = done-of (region-defined t x) refl in
-        let t₁ = tables-stay (word-elsewhere l cases (omega arith) (10 * j + 2) number) (x₁ .tables) in
+        let t₁ = tables-stay (word-elsewhere l cases (omega arith) (case-body-at j) number) (x₁ .tables) in
         let room = x₁ .tables .size in
         rw (x₁ .is)
-        (with-first (err d) cs j w′ (x₁ .value) (later ∙ ap (λ l. body-at l j) q ∙ word-there l cases (10 * j + 2) number (omega arith)
+        (with-first (err d) cs j w′ (x₁ .value) (later ∙ ap (λ l. body-at l j) q ∙ word-there l cases (case-body-at j) number (omega arith)
         (omega arith) ∙ x₁ .shows)
         (go (x₁ .state) (rw q t₁)))
 regions-shown (c ∷ cs) j {w} {s} e f t b (turn-refused n x) =

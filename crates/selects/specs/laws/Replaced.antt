@@ -1,14 +1,14 @@
 -- The claimed cases' inputs replaced, for every state that the words show.
 use mathlib.Core.Path.{_≡_, refl, sym, ap, subst, _∙_}
 use mathlib.Core.List.{List, [], _∷_, _++_}
-use Prim.Native.Nat.{ℕ, suc, _+_, _*_, _<_}
+use Prim.Native.Nat.{ℕ, suc, _<_}
 use native.Mathlib.Omega.{arith}
 use lib.ListN.{length, getD}
 use Rattle.meaning.specs.Graph.{Graph, undef}
 use Rattle.nesting.specs.Nesting.{ClaimedRegion, DeferredEdgeBundleSet, MaybeClaimedRegion, ok, err, NestState, done, replace-inputs}
 use Rattle.nesting.specs.Nesting.{replace-with, with-tables}
 use Rattle.nesting.specs.Nesting.{most-regions}
-use Rattle.state.specs.Sections.{word, section, cases, rewrites}
+use Rattle.state.specs.Sections.{section, cases, rewrites}
 use Rattle.state.specs.Tables.{inserted, case-total}
 use Rattle.shown.specs.Values.{value}
 use Rattle.shown.specs.laws.Stores.{ChangesOnly, nothing-changes, changes-then}
@@ -22,14 +22,15 @@ use Rattle.bundles.specs.laws.Appended.{inputs-at}
 use Rattle.selects.specs.Cases.{inputs-replaced, all-replaced}
 use Rattle.selects.specs.laws.CasesLaws.{replaced-claimed, replaced-not}
 use Rattle.selects.specs.laws.Places.{From, first-of, rest-of, from-start}
+use Rattle.state.specs.Rows.{case-body, case-body-at, case-claimed, case-input, case-kind, case-kind-at, entry-replace, regions-at}
 
 -- What the words of case j say of what is to be replaced.
 pub data ShowsGiven (w : List ℕ) (j : ℕ) : MaybeClaimedRegion → Type 0 where
-  given-inputs : {c : ClaimedRegion} → word w cases (10 * j + 0) ≡ 2 → word w cases (10 * j + 2) ≡ c .structured-body
+  given-inputs : {c : ClaimedRegion} → case-kind w j ≡ case-claimed → case-body w j ≡ c .structured-body
       → c .structured-body < most-regions
-      → ((k : ℕ) → k < 4 → Names (word w cases (10 * j + (6 + k))) (getD (c .structured-body-inputs) k (undef 0)))
+      → ((k : ℕ) → k < 4 → Names (case-input w j k) (getD (c .structured-body-inputs) k (undef 0)))
       → ShowsGiven w j (ok c)
-  given-nothing : {d : DeferredEdgeBundleSet} → (word w cases (10 * j + 0) ≡ 2 → ⊥) → ShowsGiven w j (err d)
+  given-nothing : {d : DeferredEdgeBundleSet} → (case-kind w j ≡ case-claimed → ⊥) → ShowsGiven w j (err d)
 
 pub given-shown : {g : Graph} {w : List ℕ} {r j : ℕ} {c : MaybeClaimedRegion} → ShowsCase g w r j c → ShowsGiven w j c
 given-shown (shows-ok {c} k o b s t n a z i) = given-inputs {c = c} k s t i
@@ -39,15 +40,15 @@ given-shown (shows-others k a) = given-nothing (omega arith)
 
 given-stays : {w w′ : List ℕ} → section w′ cases ≡ section w cases → {j : ℕ} {c : MaybeClaimedRegion} → ShowsGiven w j c → ShowsGiven w′ j c
 given-stays e {j} (given-inputs {c} k b h i) =
-    given-inputs {c = c} (ap (λ l. getD l (10 * j + 0) 0) e ∙ k) (ap (λ l. getD l (10 * j + 2) 0) e ∙ b) h (λ m z. rw e (i m z))
-given-stays e {j} (given-nothing d) = given-nothing (λ z. d (sym (ap (λ l. getD l (10 * j + 0) 0) e) ∙ z))
+    given-inputs {c = c} (ap (λ l. getD l (case-kind-at j) 0) e ∙ k) (ap (λ l. getD l (case-body-at j) 0) e ∙ b) h (λ m z. rw e (i m z))
+given-stays e {j} (given-nothing d) = given-nothing (λ z. d (sym (ap (λ l. getD l (case-kind-at j) 0) e) ∙ z))
 
 pub record ReplacedShown (w w′ : List ℕ) (cs : List MaybeClaimedRegion) (s : NestState) : Type 0 where
   pub next : NestState
   pub is : replace-inputs cs s ≡ done tt next
   pub tables : ShowsTables w′ next
   pub named : NamedRewrites w′
-  pub changes : ChangesOnly rewrites 0 w w′
+  pub changes : ChangesOnly rewrites regions-at w w′
   pub same-states : next .region-states ≡ s .region-states
 
 -- The cases from place j on.
@@ -55,7 +56,7 @@ replaced-from : (cs : List MaybeClaimedRegion) (j : ℕ) {w : List ℕ} {s : Nes
     → NamedRewrites w → ReplacedShown w (all-replaced w (length cs) j) cs s
 unfolding all-replaced replace-inputs
 replaced-from [] j {w} {s} f t n =
-    record { next = s; is = refl; tables = t; named = n; changes = nothing-changes rewrites 0 w; same-states = refl }
+    record { next = s; is = refl; tables = t; named = n; changes = nothing-changes rewrites regions-at w; same-states = refl }
 replaced-from (c ∷ cs) j {w} {s} f t n =
     step c (first-of no-case (ShowsGiven w) j c cs f) (rest-of no-case (ShowsGiven w) j c cs f)
     (λ w₁ s₁ f₁ t₁ n₁. replaced-from cs (suc j) f₁ t₁ n₁)
@@ -76,9 +77,9 @@ replaced-from (c ∷ cs) j {w} {s} f t n =
           same-states = y .same-states;
         }
     step (ok c) (given-inputs k b h i) rest go =
-        let body = word w cases (10 * j + 2) in
+        let body = case-body w j in
         let vs = case-inputs w j in
-        let w₁ = inserted w body 1 vs in
+        let w₁ = inserted w body entry-replace vs in
         let changes = insert-changes w body 1 vs 0 in
         let in-table : body < most-regions = omega arith in
         let entry : EntryWords body 1 vs (replace-with (c .structured-body-inputs)) =
@@ -88,7 +89,7 @@ replaced-from (c ∷ cs) j {w} {s} f t n =
         in
         let y = go w₁ (with-entry (c .structured-body)) (λ m z. given-stays (changes .others cases (omega arith) (omega arith)) (rest m z))
         (subst (λ q. ShowsTables w₁ (with-entry q)) b (rewrites-inserted t in-table refl entry refl))
-        (named-inserted w body 1 vs (t .size) in-table refl (λ m z. rw (inputs-at w j m z) (i m z .below)) n) in
+        (named-inserted w body entry-replace vs (t .size) in-table refl (λ m z. rw (inputs-at w j m z) (i m z .below)) n) in
         rw (← replaced-claimed w j k refl refl refl)
         record {
           next = y .next;

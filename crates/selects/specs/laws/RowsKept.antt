@@ -2,7 +2,7 @@
 use mathlib.Core.Path.{_≡_, refl, sym, ap, _∙_}
 use mathlib.Core.Bool.{Bool, true, false}
 use mathlib.Core.List.{List}
-use Prim.Native.Nat.{ℕ, zero, suc, _+_, _*_, _≤_, _<_}
+use Prim.Native.Nat.{ℕ, zero, suc, _+_, _≤_, _<_}
 use native.Mathlib.Omega.{arith}
 use native.Mathlib.Decide.{decLt, ℕ-discrete}
 use lib.ListN.{length, getD, List·getD-eq-default}
@@ -12,7 +12,7 @@ use Rattle.meaning.specs.Lists.{pick}
 use Rattle.meaning.specs.Graph.{Graph, region}
 use Rattle.meaning.specs.Graph as graph
 use Rattle.format.specs.Valid.{Valid}
-use Rattle.state.specs.Sections.{word, stored, section, head, cases, bundles}
+use Rattle.state.specs.Sections.{stored, section, head, cases, bundles}
 use Rattle.state.specs.laws.Apart.{section-other}
 use Rattle.state.specs.Tables.{input-word, input-stored, bundle-at, case-total}
 use Rattle.shown.specs.laws.Stores.{word-apart}
@@ -21,22 +21,24 @@ use Rattle.merging.specs.Turns.{turned}
 use Rattle.bundles.specs.Words.{input-count}
 use Rattle.merging.specs.Rewriting.{noted, rewrite-input, rewrite-case-input, rewrite-bundle, rewrite-set, rewrite-inputs, rewrite-given}
 use Rattle.merging.specs.Rewriting.{rewrite-case, rewrite-cases}
+use Rattle.state.specs.Rows.{bundle-input-at, bundle-target, case-claimed, case-input, case-input-at, case-kind, case-origin}
+use Rattle.state.specs.Rows.{case-set-length, case-set-start, case-word, case-word-at, twice-at}
 
 -- ---- Bundles that are rewritten leave the cases.
 cases-noted : (l : List ℕ) (v : ℕ) → section (noted l v) cases ≡ section l cases
 unfolding noted
 cases-noted l v = go (look-up l v .twice)
   where
-    go : (b : Bool) → section (pick b (stored l head 6 1) l) cases ≡ section l cases
-    go true = section-other l head 6 1 cases (omega arith)
+    go : (b : Bool) → section (pick b (stored l head twice-at 1) l) cases ≡ section l cases
+    go true = section-other l head twice-at 1 cases (omega arith)
     go false = refl
 
 cases-input : (l : List ℕ) (p k x : ℕ) → section (input-stored l p k x) cases ≡ section l cases
 unfolding input-stored
 cases-input l p k x = go (ltb k 4)
   where
-    go : (b : Bool) → section (pick b (stored l bundles (7 * p + (3 + k)) x) l) cases ≡ section l cases
-    go true = section-other l bundles (7 * p + (3 + k)) x cases (omega arith)
+    go : (b : Bool) → section (pick b (stored l bundles (bundle-input-at p k) x) l) cases ≡ section l cases
+    go true = section-other l bundles (bundle-input-at p k) x cases (omega arith)
     go false = refl
 
 cases-turned : (f : List ℕ → ℕ → List ℕ) → ((l : List ℕ) (i : ℕ) → section (f l i) cases ≡ section l cases) → (n : ℕ) (l : List ℕ) (i : ℕ)
@@ -49,7 +51,7 @@ cases-bundle : (g : Graph) (l : List ℕ) (p : ℕ) → section (rewrite-bundle 
 unfolding rewrite-bundle rewrite-input
 cases-bundle g l p = cases-turned (λ m k. rewrite-input m p k)
     (λ m k. cases-input (noted m (input-word m p k)) p k (look-up m (input-word m p k) .value) ∙ cases-noted m (input-word m p k))
-    (input-count g l (word l bundles (7 * p + 0))) l 0
+    (input-count g l (bundle-target l p)) l 0
 
 cases-set : (g : Graph) (l : List ℕ) (start n : ℕ) → section (rewrite-set g l start n) cases ≡ section l cases
 unfolding rewrite-set
@@ -65,40 +67,40 @@ few-inputs g valid t =
 
 -- n inputs from place i on.
 inputs-turned : (j k q : ℕ) → (k ≡ j → ⊥) → q < 10 → (n : ℕ) (l : List ℕ) (i : ℕ) → i + n ≤ 4
-    → word (turned (λ m a. rewrite-case-input m k a) l n i) cases (10 * j + q) ≡ word l cases (10 * j + q)
+    → case-word (turned (λ m a. rewrite-case-input m k a) l n i) j q ≡ case-word l j q
 unfolding turned rewrite-case-input
 inputs-turned j k q d h zero l i b = refl
 inputs-turned j k q d h (suc n) l i b =
-    let v = word l cases (10 * k + (6 + i)) in
+    let v = case-input l k i in
     inputs-turned j k q d h n _ (suc i) (omega arith)
-    ∙ word-apart (noted l v) cases (10 * k + (6 + i)) (look-up l v .value) cases (10 * j + q) (omega arith)
-    ∙ ap (λ m. getD m (10 * j + q) 0) (cases-noted l v)
+    ∙ word-apart (noted l v) cases (case-input-at k i) (look-up l v .value) cases (case-word-at j q) (omega arith)
+    ∙ ap (λ m. getD m (case-word-at j q) 0) (cases-noted l v)
 
 row-given : (g : Graph) → Valid g → (j k q : ℕ) → (k ≡ j → ⊥) → q < 10 → (l : List ℕ)
-    → word (rewrite-given g l k) cases (10 * j + q) ≡ word l cases (10 * j + q)
+    → case-word (rewrite-given g l k) j q ≡ case-word l j q
 unfolding rewrite-given rewrite-inputs
-row-given g valid j k q d h l = go (eqb (word l cases (10 * k + 0)) 2)
+row-given g valid j k q d h l = go (eqb (case-kind l k) case-claimed)
   where
-    go : (b : Bool) → word (pick b (rewrite-inputs g l k) l) cases (10 * j + q) ≡ word l cases (10 * j + q)
-    go true = inputs-turned j k q d h (length (region g (word l cases (10 * k + 1)) .inputs)) l 0
-        (let few = few-inputs g valid (word l cases (10 * k + 1)) in omega arith)
+    go : (b : Bool) → case-word (pick b (rewrite-inputs g l k) l) j q ≡ case-word l j q
+    go true = inputs-turned j k q d h (length (region g (case-origin l k) .inputs)) l 0
+        (let few = few-inputs g valid (case-origin l k) in omega arith)
     go false = refl
 
 row-case : (g : Graph) → Valid g → (j k q : ℕ) → (k ≡ j → ⊥) → q < 10 → (l : List ℕ)
-    → word (rewrite-case g l k) cases (10 * j + q) ≡ word l cases (10 * j + q)
+    → case-word (rewrite-case g l k) j q ≡ case-word l j q
 unfolding rewrite-case
 row-case g valid j k q d h l =
     let m = rewrite-given g l k in
-    ap (λ z. getD z (10 * j + q) 0) (cases-set g m (word m cases (10 * k + 4)) (word m cases (10 * k + 5))) ∙ row-given g valid j k q d h l
+    ap (λ z. getD z (case-word-at j q) 0) (cases-set g m (case-set-start m k) (case-set-length m k)) ∙ row-given g valid j k q d h l
 
 -- ---- Its own turn does nothing.
-own-turn : (g : Graph) (l : List ℕ) (j : ℕ) → (word l cases (10 * j + 0) ≡ 2 → ⊥) → word l cases (10 * j + 5) ≡ 0 → rewrite-case g l j ≡ l
+own-turn : (g : Graph) (l : List ℕ) (j : ℕ) → (case-kind l j ≡ case-claimed → ⊥) → case-set-length l j ≡ 0 → rewrite-case g l j ≡ l
 unfolding rewrite-case rewrite-given rewrite-set turned
-own-turn g l j d e = rw (ne-eqb (word l cases (10 * j + 0)) 2 d, e)
+own-turn g l j d e = rw (ne-eqb (case-kind l j) case-claimed d, e)
 
-rows-turned : (g : Graph) → Valid g → (j : ℕ) (n : ℕ) (l : List ℕ) (i : ℕ) → (word l cases (10 * j + 0) ≡ 2 → ⊥)
-    → word l cases (10 * j + 5) ≡ 0 → (q : ℕ) → q < 10
-    → word (turned (λ m k. rewrite-case g m k) l n i) cases (10 * j + q) ≡ word l cases (10 * j + q)
+rows-turned : (g : Graph) → Valid g → (j : ℕ) (n : ℕ) (l : List ℕ) (i : ℕ) → (case-kind l j ≡ case-claimed → ⊥)
+    → case-set-length l j ≡ 0 → (q : ℕ) → q < 10
+    → case-word (turned (λ m k. rewrite-case g m k) l n i) j q ≡ case-word l j q
 unfolding turned
 rows-turned g valid j zero l i d e q h = refl
 rows-turned g valid j (suc n) l i d e q h =
@@ -109,7 +111,7 @@ rows-turned g valid j (suc n) l i d e q h =
           ∙ row-case g valid j i q z h l
     ]
 
-pub row-kept : {g : Graph} → Valid g → (w : List ℕ) (j : ℕ) → (word w cases (10 * j + 0) ≡ 2 → ⊥) → word w cases (10 * j + 5) ≡ 0
-    → (q : ℕ) → q < 10 → word (rewrite-cases g w) cases (10 * j + q) ≡ word w cases (10 * j + q)
+pub row-kept : {g : Graph} → Valid g → (w : List ℕ) (j : ℕ) → (case-kind w j ≡ case-claimed → ⊥) → case-set-length w j ≡ 0
+    → (q : ℕ) → q < 10 → case-word (rewrite-cases g w) j q ≡ case-word w j q
 unfolding rewrite-cases
 row-kept {g} valid w j d e q h = rows-turned g valid j (case-total w) w 0 d e q h

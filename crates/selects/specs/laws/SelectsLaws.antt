@@ -1,19 +1,19 @@
 -- The turns of case_cells, from the last case to the first: what the turns that are left will make is made of all.
 use mathlib.Core.Path.{_≡_, refl}
 use mathlib.Core.List.{List}
-use Prim.Native.Nat.{ℕ, suc, _+_, _*_, _-_, _≤_, _<_}
+use Prim.Native.Nat.{ℕ, suc, _-_, _≤_, _<_}
 use native.Mathlib.Omega.{arith}
-use Rattle.state.specs.Sections.{word, cases}
 use Rattle.state.specs.Tables.{case-total, Adds}
 use Rattle.state.specs.declared.cells.Cell.the-variants.{Case}
 use Rattle.selects.specs.Cases.{children-of}
 use Rattle.selects.specs.Selects.{CaseCells, cells-over, cell-more, CellsOn}
+use Rattle.state.specs.Rows.{case-body}
 
 pub cells-begin : (l₀ : List ℕ) (n : ℕ) → n ≡ case-total l₀ → CellsOn l₀ n 0 l₀
 cells-begin l₀ n e l′ h′ x = rw e at x
 
 module _ (l₀ l : List ℕ) (n h : ℕ) (goes-on : CellsOn l₀ n h l) where
-  pub cells-turn : 0 < n → {body kids h₁ : ℕ} {l₁ : List ℕ} → body ≡ word l cases (10 * (n - 1) + 2)
+  pub cells-turn : 0 < n → {body kids h₁ : ℕ} {l₁ : List ℕ} → body ≡ case-body l (n - 1)
       → kids ≡ children-of l (n - 1) → Adds l l₁ (Case h body kids) h₁ → CellsOn l₀ (n - 1) h₁ l₁
   cells-turn more b k x l′ h′ y = let s : n ≡ suc (n - 1) = omega arith in goes-on l′ h′ (cell-more s (rw (b, k) at x) y)
 

@@ -1,7 +1,7 @@
 -- A select that is defined, for every state that the words show: the same regions, value, node and cell, or the same refusal.
 use mathlib.Core.Path.{_≡_, refl, sym, ap, _∙_}
 use mathlib.Core.List.{List, []}
-use Prim.Native.Nat.{ℕ, _+_, _*_, _≤_, _<_}
+use Prim.Native.Nat.{ℕ, _+_, _≤_, _<_}
 use native.Mathlib.Omega.{arith}
 use lib.ListN.{length, getD, drop, drop-of-length-le}
 use lib.Seq.{drop-cons}
@@ -14,7 +14,7 @@ use Rattle.nesting.specs.Nesting.{define-select, scrutinee-value, case-regions,
 use Rattle.state.specs.declared.defined.Defined.{Defined}
 use Rattle.state.specs.declared.defined.Defined.the-variants.{Number, Full}
 use Rattle.state.specs.Sections as sections
-use Rattle.state.specs.Sections.{Section, number, section, word, used, head, children, cases, outputs, cells, most-cells}
+use Rattle.state.specs.Sections.{Section, number, section, word, used, head, children, cases, outputs, cells}
 use Rattle.state.specs.laws.Apart.{section-other}
 use Rattle.state.specs.Tables.{case-total, Defines, defined}
 use Rattle.shown.specs.Values.{value}
@@ -46,6 +46,8 @@ use Rattle.selects.specs.laws.Places.{from-start}
 use Rattle.selects.specs.laws.StepsShown.{SelectStep, step-then, step-by, step-regions, step-children, cases-stay}
 use Rattle.nesting.specs.steps.TargetsAndCases.{children-in}
 use Rattle.format.specs.Refusals.{too-many}
+use Rattle.state.specs.Rows.{case-body-at, cell-word-at, cells-at, most-cells, nodes-at, outputs-at, select-node, select-scrutinee}
+use Rattle.state.specs.Rows.{select-shape}
 
 children-same : (w w′ : List ℕ) → section w′ cases ≡ section w cases → (j : ℕ) → children-of w′ j ≡ children-of w j
 unfolding children-of
@@ -55,12 +57,13 @@ children-same w w′ e j = rw e
 module _ (g : Graph) (cs : List MaybeClaimedRegion) (body : ℕ → ℕ) where
   record CellsShown (w w′ : List ℕ) (h n : ℕ) : Type 0 where
     list : ShowsCaseList g w′ h (cases-from body 0 cs)
-    changes : ChangesOnly cells 4 w w′
+    changes : ChangesOnly cells cells-at w w′
     later : Later g w w′
-    total : word w′ head 4 ≡ word w head 4 + n
+    total : word w′ head cells-at ≡ word w head cells-at + n
 
   -- The cases from place n on have their cells.
-  cells-shown : {n h h′ : ℕ} {w w′ : List ℕ} → CaseCells n h w w′ h′ → n ≤ length cs → word w head 4 + n ≤ most-cells → used ≤ length w
+  cells-shown : {n h h′ : ℕ} {w w′ : List ℕ} → CaseCells n h w w′ h′ → n ≤ length cs → word w head cells-at + n ≤ most-cells
+      → used ≤ length w
       → ((j : ℕ) → j < length cs → ShowsChildren g w (children-of w j) (children-in (getD cs j no-case)))
       → ((j : ℕ) → j < length cs → body-at w j ≡ body j) → ShowsCaseList g w h (cases-from body n (drop n cs))
       → CellsShown w w′ h′ n
@@ -68,12 +71,12 @@ module _ (g : Graph) (cs : List MaybeClaimedRegion) (body : ℕ → ℕ) where
       rw (e, q)
       record {
         list = rw n at list;
-        changes = nothing-changes cells 4 w;
+        changes = nothing-changes cells cells-at w;
         later = later-same g w;
         total = omega arith;
       }
   cells-shown {n} {w} (cell-more {m} {l₁} e x y) few free room kids own list =
-      let free₁ : word w head 4 < most-cells = omega arith in
+      let free₁ : word w head cells-at < most-cells = omega arith in
       let handle = cell-handle x free₁ room in
       let total = cell-total x free₁ room in
       let changes = cell-changes x free₁ room in
@@ -83,7 +86,7 @@ module _ (g : Graph) (cs : List MaybeClaimedRegion) (body : ℕ → ℕ) where
       let added = case-added free₁ room x (kids m below) (rw e at list) in
       let rest = cells-shown {n = m} y (omega arith) (omega arith) (rw (changes .words) room)
       (λ j h. rw (children-same w l₁ same j) (later .nodes-stay (kids j h)))
-      (λ j h. ap (λ l. getD l (10 * j + 2) 0) same ∙ own j h)
+      (λ j h. ap (λ l. getD l (case-body-at j) 0) same ∙ own j h)
       (rw (drop-cons cs m no-case below, ← own m below) added) in
       let more = rest .total in
       record {
@@ -96,19 +99,20 @@ module _ (g : Graph) (cs : List MaybeClaimedRegion) (body : ℕ → ℕ) where
 -- ---- The select behind region r's children.
 pub record SelectPlaced (g : Graph) (r : ℕ) (w w′ : List ℕ) (h node shape x many : ℕ) (ks : Nodes) : Type 0 where
   pub nodes : ShowsChildren g w′ (word w′ children r) ks
-  pub is-node : word w′ cells (6 * h + 2) ≡ node
-  pub is-shape : word w′ cells (6 * h + 3) ≡ shape
-  pub is-scrutinee : word w′ cells (6 * h + 4) ≡ x
-  pub is-made : h < word w′ head 4
+  pub is-node : select-node w′ h ≡ node
+  pub is-shape : select-shape w′ h ≡ shape
+  pub is-scrutinee : select-scrutinee w′ h ≡ x
+  pub is-made : h < word w′ head cells-at
   pub tables : SameTables w w′
   pub step : SelectStep g r w w′
-  pub total : word w′ head 4 ≡ word w head 4 + (many + 1)
+  pub total : word w′ head cells-at ≡ word w head cells-at + (many + 1)
   pub same : (k : Section) → (number k ≡ number sections.head → ⊥) → (number k ≡ number sections.children → ⊥)
       → (number k ≡ number sections.cells → ⊥) → section w′ k ≡ section w k
 
 module _ (g : Graph) (cs : List MaybeClaimedRegion) (r : ℕ) (below : r < 32) where
   placed : {node shape x h : ℕ} {w w′ : List ℕ} {parent : Nodes} {kind : SelectionKind} {v : graph.Value}
-      → words.SelectAdded r node shape x w w′ h → case-total w ≡ length cs → word w head 4 + (length cs + 1) ≤ most-cells → used ≤ length w
+      → words.SelectAdded r node shape x w w′ h → case-total w ≡ length cs → word w head cells-at + (length cs + 1) ≤ most-cells
+      → used ≤ length w
       → ((j : ℕ) → j < length cs → ShowsChildren g w (children-of w j) (children-in (getD cs j no-case)))
       → ShowsChildren g w (word w children r) parent → ShowsShape shape (length cs) kind → value x ≡ v
       → SelectPlaced g r w w′ h node shape x (length cs) (join parent (new-select node kind v (cases-from (body-at w) 0 cs) ▸ ⟨⟩))
@@ -119,7 +123,7 @@ module _ (g : Graph) (cs : List MaybeClaimedRegion) (r : ℕ) (below : r < 32) w
       let first : ShowsCaseList g w 0 (cases-from (body-at w) (length cs) (drop (length cs) cs)) = rw none (no-case-list (omega arith)) in
       let m = cells-shown g cs (body-at w) (rw size at cells-made) (omega arith) (omega arith) room kids (λ j i. refl) first in
       let count = m .total in
-      let free₂ : word l₁ head 4 < most-cells = omega arith in
+      let free₂ : word l₁ head cells-at < most-cells = omega arith in
       let room₂ : used ≤ length l₁ = rw (m .changes .words) room in
       let parent₁ : ShowsChildren g l₁ before parent =
       rw (b, m .changes .others children (omega arith) (omega arith)) (m .later .nodes-stay p) in
@@ -134,15 +138,15 @@ module _ (g : Graph) (cs : List MaybeClaimedRegion) (r : ℕ) (below : r < 32) w
       rw e
       record {
         nodes = children-set g l₂ room₃ r below chosen;
-        is-node = ap (λ l. getD l (6 * h + 2) 0) same ∙ there .is-a;
-        is-shape = ap (λ l. getD l (6 * h + 3) 0) same ∙ there .is-b;
-        is-scrutinee = ap (λ l. getD l (6 * h + 4) 0) same ∙ there .is-c;
-        is-made = (let z = c .same-head 4 in omega arith);
+        is-node = ap (λ l. getD l (cell-word-at h 2) 0) same ∙ there .is-a;
+        is-shape = ap (λ l. getD l (cell-word-at h 3) 0) same ∙ there .is-b;
+        is-scrutinee = ap (λ l. getD l (cell-word-at h 4) 0) same ∙ there .is-c;
+        is-made = (let z = c .same-head cells-at in omega arith);
         tables = same-then (tables-by (m .changes) (omega arith) (λ q a b e. b e)) (same-then (cell-tables y free₂ room₂) (c .tables));
         step = step-then (step-by (m .changes) (omega arith) (omega arith) (omega arith) (omega arith) g r (m .later))
             (step-then (step-by (cell-changes y free₂ room₂) (omega arith) (omega arith) (omega arith) (omega arith) g r
             (cell-later y free₂ room₂ g)) (step-children g r l₂ h));
-        total = c .same-head 4 ∙ omega arith;
+        total = c .same-head cells-at ∙ omega arith;
         same = λ k a b d. section-other l₂ children r h k b ∙ cell-changes y free₂ room₂ .others k d a ∙ m .changes .others k d a;
       }
 
@@ -159,7 +163,7 @@ scrutinee-stays later (shows-lazy c) = shows-lazy (later .conditions-stay c)
 scrutinee-shown : {w w′ : List ℕ} {x : Scrutinee} {y : nesting.Scrutinee} {a : Defined} {s : NestState} → words.ScrutineeMade w x w′ a
     → ShowsScrutinee w x y → ShowsTables w s → ShowsValue w w′ a (scrutinee-value y s)
 scrutinee-shown {w} (words.given-value e) (shows-value q) t =
-    rw e (record { answer = shows-done q t; changes = nothing-changes outputs 3 w })
+    rw e (record { answer = shows-done q t; changes = nothing-changes outputs outputs-at w })
 scrutinee-shown (words.made-value m) (shows-lazy c) t = materialize-shown m c t
 
 -- ---- The select.
@@ -168,14 +172,14 @@ pub record SelectDone (g : Graph) (r : ℕ) (cs : List MaybeClaimedRegion) (pare
   pub tables : ShowsTables w′ s
   pub step : SelectStep g r w w′
   pub nodes : ShowsChildren g w′ (word w′ children r) (join parent (n .children))
-  pub node : word w′ cells (6 * h + 2) ≡ n .node
-  pub shape : ShowsShape (word w′ cells (6 * h + 3)) (length cs) (n .kind)
-  pub scrutinee : value (word w′ cells (6 * h + 4)) ≡ n .scrutinee
-  pub made : h < word w′ head 4
+  pub node : select-node w′ h ≡ n .node
+  pub shape : ShowsShape (select-shape w′ h) (length cs) (n .kind)
+  pub scrutinee : value (select-scrutinee w′ h) ≡ n .scrutinee
+  pub made : h < word w′ head cells-at
   pub same : (k : Section) → (number k ≡ number sections.head → ⊥) → (number k ≡ number sections.children → ⊥)
       → (number k ≡ number sections.cases → ⊥) → (number k ≡ number sections.outputs → ⊥) → (number k ≡ number sections.cells → ⊥)
       → section w′ k ≡ section w k
-  pub total : word w′ head 4 ≡ word w head 4 + (length cs + 1)
+  pub total : word w′ head cells-at ≡ word w head cells-at + (length cs + 1)
 
 pub data ShowsSelect (g : Graph) (r : ℕ) (cs : List MaybeClaimedRegion) (parent : Nodes) (w w′ : List ℕ)
     : Defined → StepAnswer DefinedSelect → Type 0 where
@@ -187,7 +191,7 @@ module _ {g : Graph} {r : ℕ} {cs : List MaybeClaimedRegion} {parent : Nodes} {
     {shape : ℕ} {x : Scrutinee} {y : nesting.Scrutinee}
     (below : r < 32) (t : ShowsTables w s) (shown : ShowsCases g w r cs) (scrutinee : ShowsScrutinee w x y)
     (of-shape : ShowsShape shape (length cs) kind) (own : ShowsChildren g w (word w children r) parent)
-    (free : word w head 4 + (length cs + 1) ≤ most-cells) where
+    (free : word w head cells-at + (length cs + 1) ≤ most-cells) where
   -- The cases have their regions.
   record WithRegions (l : List ℕ) : Type 0 where
     made : Cases
@@ -222,7 +226,7 @@ module _ {g : Graph} {r : ℕ} {cs : List MaybeClaimedRegion} {parent : Nodes} {
   finished : {l w′ : List ℕ} {h node c : ℕ} {v : graph.Value} {ks : Cases} {s₁ : NestState} → SelectStep g r w l → ShowsTables l s₁
       → ((k : Section) → (number k ≡ number sections.head → ⊥) → (number k ≡ number sections.cases → ⊥)
       → (number k ≡ number sections.outputs → ⊥) → section l k ≡ section w k)
-      → word l head 4 ≡ word w head 4
+      → word l head cells-at ≡ word w head cells-at
       → ks ≡ cases-from (body-at l) 0 cs → value c ≡ v → words.SelectAdded r node shape c l w′ h
       → SelectDone g r cs parent w w′ h
       (record { node = node; kind = kind; scrutinee = v; children = new-select node kind v ks ▸ ⟨⟩ }) s₁
@@ -246,8 +250,8 @@ module _ {g : Graph} {r : ℕ} {cs : List MaybeClaimedRegion} {parent : Nodes} {
         total = omega arith;
       }
 
-  node-changes : {l l′ : List ℕ} {n : ℕ} → Defines 1 most-nodes l l′ (Number n) → ChangesOnly outputs 1 l l′
-  node-changes {l} (defined {n} p h e) = rw e (head-changes outputs 1 l (n + 1))
+  node-changes : {l l′ : List ℕ} {n : ℕ} → Defines 1 most-nodes l l′ (Number n) → ChangesOnly outputs nodes-at l l′
+  node-changes {l} (defined {n} p h e) = rw e (head-changes outputs nodes-at l (n + 1))
 
   pub select-shown : {w′ : List ℕ} {a : Defined} → words.SelectDefined r shape x w w′ a
       → ShowsSelect g r cs parent w w′ a (define-select kind y cs s)
@@ -278,5 +282,5 @@ module _ {g : Graph} {r : ℕ} {cs : List MaybeClaimedRegion} {parent : Nodes} {
       (step-by c (omega arith) (omega arith) (omega arith) (omega arith) g r (later-by c (omega arith) g))))
       (d .tables)
       (λ k d e f. c .others k f d ∙ b .others k f d ∙ a .others k e d)
-      (c .totals 4 (omega arith) ∙ b .totals 4 (omega arith) ∙ a .totals 4 (omega arith))
-      (z .cases-are ∙ ap (λ l. cases-from (λ j. getD l (10 * j + 2) 0) 0 cs) (sym same-cases)) (q .shows) added))
+      (c .totals cells-at (omega arith) ∙ b .totals cells-at (omega arith) ∙ a .totals cells-at (omega arith))
+      (z .cases-are ∙ ap (λ l. cases-from (λ j. getD l (case-body-at j) 0) 0 cs) (sym same-cases)) (q .shows) added))

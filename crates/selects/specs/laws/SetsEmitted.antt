@@ -2,7 +2,7 @@
 use mathlib.Core.Path.{_≡_, refl, sym, ap, _∙_}
 use mathlib.Core.List.{List, [], _∷_}
 use mathlib.Core.Option.{Option, none}
-use Prim.Native.Nat.{ℕ, zero, suc, _+_, _*_, _≤_, _<_}
+use Prim.Native.Nat.{ℕ, zero, suc, _+_, _≤_, _<_}
 use native.Mathlib.Omega.{arith}
 use lib.ListN.{length, getD, length-map}
 use Rattle.meaning.specs.Graph.{Graph, Value}
@@ -38,36 +38,38 @@ use Rattle.selects.specs.laws.Emitting.{emitting-step, Spared, spared-st
 use Rattle.selects.specs.laws.EmitsShown.{PlannedOf, PlannedConditionOf, is-true, is-open, no-planned-input, PlannedAt, InputsDone}
 use Rattle.selects.specs.laws.EmitsShown.{inputs-shown}
 use Rattle.nesting.specs.steps.TargetsAndCases.{per-cases}
+use Rattle.state.specs.Rows.{bundle-condition, bundle-condition-at, bundle-target, bundle-word, bundle-word-at, cell-word-at, cells-at}
+use Rattle.state.specs.Rows.{most-bundles, select-node, select-scrutinee, select-shape, spare-slot}
 
 -- The cell of a select with this many cases.
 pub record ShowsSelectCell (h : ℕ) (n : DefinedSelect) (many : ℕ) (w : List ℕ) : Type 0 where
-  pub node : word w cells (6 * h + 2) ≡ n .node
-  pub shape : ShowsShape (word w cells (6 * h + 3)) many (n .kind)
-  pub scrutinee : value (word w cells (6 * h + 4)) ≡ n .scrutinee
-  pub made : h < word w head 4
+  pub node : select-node w h ≡ n .node
+  pub shape : ShowsShape (select-shape w h) many (n .kind)
+  pub scrutinee : value (select-scrutinee w h) ≡ n .scrutinee
+  pub made : h < word w head cells-at
 
 cell-stays : {g : Graph} {a b : ℕ} {w w′ : List ℕ} → Emitting g a b w w′ → {h : ℕ} {n : DefinedSelect} {many : ℕ}
     → ShowsSelectCell h n many w → ShowsSelectCell h n many w′
 cell-stays x {h} y =
     let same = x .others cells (omega arith) (omega arith) (omega arith) (omega arith) in
     record {
-      node = ap (λ l. getD l (6 * h + 2) 0) same ∙ y .node;
+      node = ap (λ l. getD l (cell-word-at h 2) 0) same ∙ y .node;
       shape = rw same (y .shape);
-      scrutinee = ap (λ l. value (getD l (6 * h + 4) 0)) same ∙ y .scrutinee;
-      made = rw (x .totals 4 (omega arith) (omega arith)) (y .made);
+      scrutinee = ap (λ l. value (getD l (cell-word-at h 4) 0)) same ∙ y .scrutinee;
+      made = rw (x .totals cells-at (omega arith) (omega arith)) (y .made);
     }
 
 -- ---- A condition.
 record ConditionDone (g : Graph) (q : ℕ) (w w′ : List ℕ) (c : LazyCond) (s : NestState) : Type 0 where
   emitting : Emitting g q (q + 1) w w′
   tables : ShowsTables w′ s
-  others : (i : ℕ) → i < 7 → (i ≡ 2 → ⊥) → word w′ bundles (7 * q + i) ≡ word w bundles (7 * q + i)
-  shown : ShowsCondition w′ (word w′ bundles (7 * q + 2)) c
+  others : (i : ℕ) → i < 7 → (i ≡ 2 → ⊥) → bundle-word w′ q i ≡ bundle-word w q i
+  shown : ShowsCondition w′ (bundle-condition w′ q) c
 
-module _ {g : Graph} {r base : ℕ} {cs : List MaybeClaimedRegion} (n : DefinedSelect) (h q : ℕ) (room : q < 1097)
+module _ {g : Graph} {r base : ℕ} {cs : List MaybeClaimedRegion} (n : DefinedSelect) (h q : ℕ) (room : q < most-bundles)
     {x : DeferredTarget} (places : List ℕ) {w : List ℕ} (here : Spared g r base cs w) (at : ShowsPlaces w x cs places) {s : NestState}
     (tables : ShowsTables w s) (cell : ShowsSelectCell h n (length cs) w) where
-  condition-shown : {o : Option LazyConds} {w′ : List ℕ} {a : Made} → PlannedConditionOf cs x (word w bundles (7 * q + 2)) o
+  condition-shown : {o : Option LazyConds} {w′ : List ℕ} {a : Made} → PlannedConditionOf cs x (bundle-condition w q) o
       → EmitCondition h q places w w′ a → ShowsMade (ConditionDone g q w w′) a (emit-condition n o s)
   condition-shown (is-true z) (condition-there d e) =
       rw e (shows-made {a = true-cond} {s = s} (record {
@@ -92,9 +94,10 @@ module _ {g : Graph} {r base : ℕ} {cs : List MaybeClaimedRegion} (n : DefinedS
       rw (u, y .is, p)
       (shows-made {a = merge (n .node) (n .kind) (n .scrutinee) (conditions-of (per-cases x cs))} {s = y .state} (record {
         emitting = emitting-then (emitting-condition changes g q (q + 1) (merge-later tables m g)) last;
-        tables = tables-stay (word-elsewhere l₁ bundles (omega arith) (7 * q + 2) c) (y .tables);
-        others = λ i b d. word-apart l₁ bundles (7 * q + 2) c bundles (7 * q + i) (omega arith) ∙ same (7 * q + i);
-        shown = rw (word-there l₁ bundles (7 * q + 2) c (omega arith) (omega arith)) (last .later .conditions-stay (y .shows));
+        tables = tables-stay (word-elsewhere l₁ bundles (omega arith) (bundle-condition-at q) c) (y .tables);
+        others = λ i b d. word-apart l₁ bundles (bundle-condition-at q) c bundles (bundle-word-at q i) (omega arith)
+            ∙ same (bundle-word-at q i);
+        shown = rw (word-there l₁ bundles (bundle-condition-at q) c (omega arith) (omega arith)) (last .later .conditions-stay (y .shows));
       }))
   condition-shown (is-open z u) (no-condition e ps m) =
       let many : length cs ≡ cond-count (conditions-of (per-cases x cs)) =
@@ -115,11 +118,11 @@ emit-bundle n p s =
 pub record BundleDone (g : Graph) (q : ℕ) (w w′ : List ℕ) (e : DeferredEdgeBundle) (s : NestState) : Type 0 where
   pub emitting : Emitting g q (q + 1) w w′
   pub tables : ShowsTables w′ s
-  pub same-target : word w′ bundles (7 * q + 0) ≡ word w bundles (7 * q + 0)
+  pub same-target : bundle-target w′ q ≡ bundle-target w q
   pub shown : ShowsBundle g w′ q e
 
 module _ {g : Graph} {r base : ℕ} {cs : List MaybeClaimedRegion} (few : length (g .regions) ≤ 32) (small : SmallTypes g)
-    (n : DefinedSelect) (h q : ℕ) (from : base ≤ q) (to : q < base + 33) (room : q < 1097)
+    (n : DefinedSelect) (h q : ℕ) (from : base ≤ q) (to : q < base + 33) (room : q < most-bundles)
     {w : List ℕ} (here : Spared g r base cs w) {s : NestState} (tables : ShowsTables w s) (cell : ShowsSelectCell h n (length cs) w)
     {p : PlannedBundle} (planned : PlannedOf g cs w q p) where
   abbrev its-places : List ℕ
@@ -128,7 +131,7 @@ module _ {g : Graph} {r base : ℕ} {cs : List MaybeClaimedRegion} (few : length
   places-here : ShowsPlaces w (p .target) cs its-places
   places-here = places-shown (here .shown) few (planned .target)
 
-  inputs-answer : {w₁ : List ℕ} {a : Made} → EmitInputs g (word w cells (6 * h + 2)) q its-places w w₁ a
+  inputs-answer : {w₁ : List ℕ} {a : Made} → EmitInputs g (select-node w h) q its-places w w₁ a
       → ShowsMade (InputsDone g q 0 w w₁ (length (p .inputs))) a (emit-inputs n (p .inputs) s)
   inputs-answer t =
       let size = planned .size in
@@ -145,7 +148,7 @@ module _ {g : Graph} {r base : ℕ} {cs : List MaybeClaimedRegion} (few : length
       let size = planned .size in
       let most = planned .few in
       let long = first .size in
-      let field : (i : ℕ) → i < 2 → word w′ bundles (7 * q + i) ≡ word w bundles (7 * q + i) =
+      let field : (i : ℕ) → i < 2 → bundle-word w′ q i ≡ bundle-word w q i =
       λ i b. second .others i (omega arith) (omega arith) ∙ first .before i (omega arith) in
       record {
         emitting = emitting-then (first .emitting) (second .emitting);
@@ -226,7 +229,7 @@ planned-stays same x =
 pub record RowsDone (g : Graph) (base i : ℕ) (w w′ : List ℕ) (many : ℕ) (d : DeferredEdgeBundleSet) (s : NestState) : Type 0 where
   pub emitting : Emitting g (base + i) (base + (i + many)) w w′
   pub tables : ShowsTables w′ s
-  pub same-targets : (j : ℕ) → j < many → word w′ bundles (7 * (base + (i + j)) + 0) ≡ word w bundles (7 * (base + (i + j)) + 0)
+  pub same-targets : (j : ℕ) → j < many → bundle-target w′ (base + (i + j)) ≡ bundle-target w (base + (i + j))
   pub size : length d ≡ many
   pub each : (j : ℕ) → j < many → ShowsBundle g w′ (base + (i + j)) (getD d j no-bundle)
 
@@ -256,7 +259,7 @@ with-bundle {base} {i} {many} {e} first (shows-made {a = d} rest) =
 with-bundle first shows-refused = shows-refused
 
 module _ {g : Graph} {r base : ℕ} {cs : List MaybeClaimedRegion} (few : length (g .regions) ≤ 32) (small : SmallTypes g)
-    (n : DefinedSelect) (h : ℕ) (room : base + 33 ≤ 1097) where
+    (n : DefinedSelect) (h : ℕ) (room : base + 33 ≤ most-bundles) where
   rows-shown : (ps : List PlannedBundle) (i : ℕ) {w w′ : List ℕ} {s : NestState} {a : Made} {m : ℕ} → m ≡ length ps
       → i + length ps ≤ 33 → Spared g r base cs w → ShowsTables w s → ShowsSelectCell h n (length cs) w
       → From no-plan (λ j p. PlannedOf g cs w (base + j) p) i ps → Turns (EmitAt g h base) m i w w′ a
@@ -298,10 +301,10 @@ module _ {g : Graph} {r base : ℕ} {cs : List MaybeClaimedRegion} (few : length
 -- ---- The set of the spare slot.
 -- What is planned, a row for each deferred target.
 pub record ShowsPlan (g : Graph) (cs : List MaybeClaimedRegion) (w : List ℕ) (base : ℕ) (ps : List PlannedBundle) : Type 0 where
-  pub size : word w set-lengths 32 ≡ length ps
+  pub size : word w set-lengths spare-slot ≡ length ps
   pub few : length ps ≤ 33
   pub rows : (i : ℕ) → i < length ps → PlannedOf g cs w (base + i) (getD ps i no-plan)
-  pub apart : (i j : ℕ) → i < j → j < length ps → word w bundles (7 * (base + i) + 0) ≡ word w bundles (7 * (base + j) + 0) → ⊥
+  pub apart : (i j : ℕ) → i < j → j < length ps → bundle-target w (base + i) ≡ bundle-target w (base + j) → ⊥
 
 pub record SetDone (g : Graph) (base : ℕ) (w w′ : List ℕ) (many : ℕ) (d : DeferredEdgeBundleSet) (s : NestState) : Type 0 where
   pub emitting : Emitting g base (base + 33) w w′
@@ -311,7 +314,7 @@ pub record SetDone (g : Graph) (base : ℕ) (w w′ : List ℕ) (many : ℕ) (d 
 module _ {g : Graph} {r : ℕ} {cs : List MaybeClaimedRegion} (few : length (g .regions) ≤ 32) (small : SmallTypes g) (n : DefinedSelect)
     (h : ℕ) {base : ℕ} {w : List ℕ} (here : Spared g r base cs w) {s : NestState} (tables : ShowsTables w s)
     (cell : ShowsSelectCell h n (length cs) w) {ps : List PlannedBundle} (plan : ShowsPlan g cs w base ps) where
-  room : base + 33 ≤ 1097
+  room : base + 33 ≤ most-bundles
   room =
       let a = here .slots .starts 32 (omega arith) in
       let b = here .slots .below 32 (omega arith) in
@@ -323,7 +326,7 @@ module _ {g : Graph} {r : ℕ} {cs : List MaybeClaimedRegion} (few : length (g .
   as-set {w′} (shows-made x) =
       let most = plan .few in
       let end = room in
-      let target : (i : ℕ) → i < length ps → word w′ bundles (7 * (base + i) + 0) ≡ word w bundles (7 * (base + i) + 0) =
+      let target : (i : ℕ) → i < length ps → bundle-target w′ (base + i) ≡ bundle-target w (base + i) =
       λ i b. let z : 0 + i ≡ i = omega arith in rw z at (x .same-targets i b) in
       shows-made (record {
         emitting = emitting-within (x .emitting) (omega arith) (omega arith);

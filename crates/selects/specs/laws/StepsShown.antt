@@ -1,7 +1,7 @@
 -- What a select's steps leave: all but region r's own, the spare slot, and the regions of the cases that are not claimed.
 use mathlib.Core.Path.{_≡_, refl, sym, ap, _∙_}
 use mathlib.Core.List.{List}
-use Prim.Native.Nat.{ℕ, _+_, _*_, _≤_, _<_}
+use Prim.Native.Nat.{ℕ, _+_, _≤_, _<_}
 use native.Mathlib.Omega.{arith}
 use lib.ListN.{length, getD}
 use Rattle.meaning.specs.Graph.{Graph}
@@ -18,16 +18,18 @@ use Rattle.shown.specs.Kept.{Later, KeptRegion}
 use Rattle.shown.specs.laws.RegionsKept.{later-same, later-then, kept-same, kept-then, same-bundle, same-bundle-then, set-stays}
 use Rattle.shown.specs.laws.RegionSteps.{OfNoRegion, kept-by, bundles-same, StatesStay, word-concerns, later-by, kept-word}
 use Rattle.selects.specs.laws.RegionsShown.{KeepsCases}
+use Rattle.state.specs.Rows.{case-body, case-body-at, case-claimed, case-kind, case-set-length, case-set-start, case-word, case-word-at}
+use Rattle.state.specs.Rows.{cases-at, kind-ready, region-kind, spare-slot}
 
 pub record SelectStep (g : Graph) (r : ℕ) (w w′ : List ℕ) : Type 0 where
   pub later : Later g w w′
-  pub same-kinds : (q : ℕ) → word w′ kinds q ≡ word w kinds q
+  pub same-kinds : (q : ℕ) → region-kind w′ q ≡ region-kind w q
   pub same-starts : (q : ℕ) → word w′ set-starts q ≡ word w set-starts q
   pub same-head : (k : ℕ) → 7 ≤ k → word w′ head k ≡ word w head k
-  pub case-words : (k i : ℕ) → i < 10 → (i ≡ 2 → ⊥) → word w′ cases (10 * k + i) ≡ word w cases (10 * k + i)
-  pub case-bodies : (k : ℕ) → word w cases (10 * k + 0) ≡ 2 → word w′ cases (10 * k + 2) ≡ word w cases (10 * k + 2)
+  pub case-words : (k i : ℕ) → i < 10 → (i ≡ 2 → ⊥) → case-word w′ k i ≡ case-word w k i
+  pub case-bodies : (k : ℕ) → case-kind w k ≡ case-claimed → case-body w′ k ≡ case-body w k
   pub others : (q : ℕ) → q < length (g .regions) → (q ≡ r → ⊥) → KeptRegion w w′ q
-  pub bundles-kept : (p : ℕ) → ((i : ℕ) → i < 33 → word w set-starts 32 + i ≡ p → ⊥) → SameBundle w w′ p
+  pub bundles-kept : (p : ℕ) → ((i : ℕ) → i < 33 → word w set-starts spare-slot + i ≡ p → ⊥) → SameBundle w w′ p
 
 pub step-same : (g : Graph) (r : ℕ) (w : List ℕ) → SelectStep g r w w
 step-same g r w =
@@ -67,8 +69,8 @@ step-by changes none d e few g r later =
       same-kinds = λ q. ap (λ l. getD l q 0) (changes .others kinds d (omega arith));
       same-starts = λ q. ap (λ l. getD l q 0) (changes .others set-starts (none .not-starts) (omega arith));
       same-head = λ k b. changes .totals k (omega arith);
-      case-words = λ k i h d. ap (λ l. getD l (10 * k + i) 0) same;
-      case-bodies = λ k e. ap (λ l. getD l (10 * k + 2) 0) same;
+      case-words = λ k i h d. ap (λ l. getD l (case-word-at k i) 0) same;
+      case-bodies = λ k e. ap (λ l. getD l (case-body-at k) 0) same;
       others = λ q h d. kept-by changes none q;
       bundles-kept = λ p d. bundles-same (changes .others bundles (none .not-bundles) (omega arith)) p;
     }
@@ -98,25 +100,25 @@ step-children g r w h =
       same-kinds = c .same-kinds;
       same-starts = c .same-starts;
       same-head = λ k b. c .same-head k;
-      case-words = λ k i b d. ap (λ l. getD l (10 * k + i) 0) same;
-      case-bodies = λ k e. ap (λ l. getD l (10 * k + 2) 0) same;
+      case-words = λ k i b d. ap (λ l. getD l (case-word-at k i) 0) same;
+      case-bodies = λ k e. ap (λ l. getD l (case-body-at k) 0) same;
       others = λ q b d. kept-word g w children (omega arith) (omega arith) r h q d;
       bundles-kept = λ p d. bundles-same (section-other w children r h bundles (omega arith)) p;
     }
 
 -- ---- Region r is under way, so that no state of a region changes.
-pub states-of-step : {g : Graph} {r : ℕ} {w w′ : List ℕ} → SelectStep g r w w′ → (word w kinds r ≡ 2 → ⊥) → StatesStay g w w′
+pub states-of-step : {g : Graph} {r : ℕ} {w w′ : List ℕ} → SelectStep g r w w′ → (region-kind w r ≡ kind-ready → ⊥) → StatesStay g w w′
 states-of-step {w} x d =
     record {
       same-kinds = λ q h. x .same-kinds q;
       same-starts = λ a h. x .same-starts a;
       same-returned = λ k h. x .same-head k (omega arith);
-      ready-kept = λ q h e. x .others q h (λ z. d (ap (λ p. word w kinds p) (sym z) ∙ e));
+      ready-kept = λ q h e. x .others q h (λ z. d (ap (λ p. region-kind w p) (sym z) ∙ e));
     }
 
 -- ---- The cases stay shown.
 module _ {g : Graph} {r : ℕ} {w w′ : List ℕ} (x : SelectStep g r w w′) where
-  field-same : (j i : ℕ) → i < 10 → (i ≡ 2 → ⊥) → word w′ cases (10 * j + i) ≡ word w cases (10 * j + i)
+  field-same : (j i : ℕ) → i < 10 → (i ≡ 2 → ⊥) → case-word w′ j i ≡ case-word w j i
   field-same j i h d = x .case-words j i h d
 
   case-stays : {j : ℕ} {c : MaybeClaimedRegion} → ShowsCase g w r j c → ShowsCase g w′ r j c
@@ -138,14 +140,14 @@ module _ {g : Graph} {r : ℕ} {w w′ : List ℕ} (x : SelectStep g r w w′) w
   pub cases-stay : {cs : List MaybeClaimedRegion} → ShowsCases g w r cs → ShowsCases g w′ r cs
   unfolding case-total
   cases-stay {cs} y =
-      let start : (j : ℕ) → word w′ cases (10 * j + 4) ≡ word w cases (10 * j + 4) = λ j. field-same j 4 (omega arith) (omega arith) in
-      let many : (j : ℕ) → word w′ cases (10 * j + 5) ≡ word w cases (10 * j + 5) = λ j. field-same j 5 (omega arith) (omega arith) in
+      let start : (j : ℕ) → case-set-start w′ j ≡ case-set-start w j = λ j. field-same j 4 (omega arith) (omega arith) in
+      let many : (j : ℕ) → case-set-length w′ j ≡ case-set-length w j = λ j. field-same j 5 (omega arith) (omega arith) in
       record {
-        size = rw (x .same-head 7 (omega arith)) (y .size);
+        size = rw (x .same-head cases-at (omega arith)) (y .size);
         few = y .few;
         each = λ j h. case-stays (y .each j h);
         sets = λ j h. rw (start j, many j) (set-stays (x .later)
-            (λ i b. x .bundles-kept (word w cases (10 * j + 4) + i) (λ q c e. y .not-spare j i q h b c (sym e))) (y .sets j h));
+            (λ i b. x .bundles-kept (case-set-start w j + i) (λ q c e. y .not-spare j i q h b c (sym e))) (y .sets j h));
         apart = λ i j p q a b c d e.
             y .apart i j p q a b (rw (many i) at c) (rw (many j) at d) (rw (start i, start j) at e);
         not-spare = λ j p q a b c e. y .not-spare j p q a (rw (many j) at b) c (rw (start j, x .same-starts 32) at e);

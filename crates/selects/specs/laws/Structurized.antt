@@ -3,7 +3,7 @@
 use mathlib.Core.Path.{_≡_, refl, sym, ap, _∙_}
 use mathlib.Core.Bool.{Bool, false, _||_}
 use mathlib.Core.List.{List, [], _∷_, map}
-use Prim.Native.Nat.{ℕ, _+_, _*_, _≤_, _<_}
+use Prim.Native.Nat.{ℕ, _+_, _≤_, _<_}
 use native.Mathlib.Omega.{arith}
 use lib.ListN.{length, getD, length-map}
 use Rattle.meaning.specs.Graph.{Graph, SelectionKind}
@@ -23,7 +23,6 @@ use Rattle.state.specs.declared.defined.Defined.{Defined}
 use Rattle.state.specs.declared.defined.Defined.the-variants.{Number, Full as Refused}
 use Rattle.state.specs.Sections as sections
 use Rattle.state.specs.Sections.{Section, number, section, word, head, kinds, set-starts, set-lengths, children, cases, rewrites, bundles}
-use Rattle.state.specs.Sections.{most-cells}
 use Rattle.state.specs.Tables.{case-total}
 use Rattle.shown.specs.Tables.{ShowsTables, ShowsShape}
 use Rattle.shown.specs.Sets.{ShowsSet, SameBundle}
@@ -58,6 +57,8 @@ use Rattle.selects.specs.laws.SetsEmitted.{ShowsSelectCell, planned-stay
 use Rattle.selects.specs.laws.PlansShown.{plan-shown, shared-set}
 use Rattle.selects.specs.laws.Replaced.{replaced-shown}
 use Rattle.selects.specs.laws.RowsKept.{row-kept}
+use Rattle.state.specs.Rows.{bundle-target-at, case-claimed, case-kind, case-origin, case-set-length, case-set-start, case-word}
+use Rattle.state.specs.Rows.{case-word-at, cells-at, largest, most-cells, region-kind, returned-at, spare-slot, types-at}
 
 -- ---- A look-up of the cases leaves what the select's own cases have of them.
 same-regions : (s₀ : NestState) (cs : List MaybeClaimedRegion) (s : NestState) → case-regions (cases-after s₀ cs) s ≡ case-regions cs s
@@ -85,13 +86,14 @@ pub record SelectChosen (g : Graph) (r base : ℕ) (parent : Nodes) (many rows :
   pub set : ShowsSet g w′ base rows (x .deferred-edges)
   pub same-lengths : section w′ set-lengths ≡ section w set-lengths
   pub same-rewrites : section w′ rewrites ≡ section w rewrites
-  pub total : word w′ head 4 ≤ word w head 4 + (many + 1)
+  pub total : word w′ head cells-at ≤ word w head cells-at + (many + 1)
 
 module _ {g : Graph} (few : length (g .regions) ≤ 32) (small : SmallTypes g) {r base : ℕ} (below : r < 32) {w : List ℕ} {s : NestState}
     (tables : ShowsTables w s) (cs : List MaybeClaimedRegion) (s₀ : NestState) (here : Spared g r base (cases-after s₀ cs) w)
     {x : Scrutinee} {y : nesting.Scrutinee} (scrutinee : ShowsScrutinee w x y) {shape : ℕ} {kind : SelectionKind}
     (of-shape : ShowsShape shape (length cs) kind) {parent : Nodes} (own : ShowsChildren g w (word w children r) parent)
-    (free : word w head 4 + (length cs + 1) ≤ most-cells) {ps : List PlannedBundle} (plan : ShowsPlan g (cases-after s₀ cs) w base ps) where
+    (free : word w head cells-at + (length cs + 1) ≤ most-cells) {ps : List PlannedBundle}
+    (plan : ShowsPlan g (cases-after s₀ cs) w base ps) where
   many : length (cases-after s₀ cs) ≡ length cs
   many = length-map cs _
 
@@ -110,8 +112,8 @@ module _ {g : Graph} (few : length (g .regions) ≤ 32) (small : SmallTypes g) {
         record {
           shown = cases-stay step (here .shown);
           returned = record {
-            size = step .same-head 8 (omega arith) ∙ z .size;
-            types = λ k b. step .same-head (9 + k) (omega arith) ∙ z .types k b;
+            size = step .same-head returned-at (omega arith) ∙ z .size;
+            types = λ k b. step .same-head (types-at + k) (omega arith) ∙ z .types k b;
           };
           few = few;
           slots = slots-stay (λ q b. step .same-starts q) (here .slots);
@@ -127,7 +129,7 @@ module _ {g : Graph} (few : length (g .regions) ≤ 32) (small : SmallTypes g) {
           size = ap (λ m. getD m 32 0) lengths ∙ plan .size;
           few = plan .few;
           rows = λ i b. planned-stays (bundles-same same (base + i)) (plan .rows i b);
-          apart = λ i j a b e. plan .apart i j a b (sym (at (7 * (base + i) + 0)) ∙ e ∙ at (7 * (base + j) + 0));
+          apart = λ i j a b e. plan .apart i j a b (sym (at (bundle-target-at (base + i))) ∙ e ∙ at (bundle-target-at (base + j)));
         }
 
     cell-then : ShowsSelectCell h n (length (cases-after s₀ cs)) l
@@ -139,7 +141,7 @@ module _ {g : Graph} (few : length (g .regions) ≤ 32) (small : SmallTypes g) {
         let e = y .emitting in
         let counted = done₁ .total in
         let same-count = many in
-        let kept = e .totals 4 (omega arith) (omega arith) in
+        let kept = e .totals cells-at (omega arith) (omega arith) in
         shows-made {a = region-body (n .children) d} (record {
           tables = y .tables;
           step = step-then (done₁ .step) (emitting-step spared-then e (omega arith) (omega arith));
@@ -192,33 +194,35 @@ pub record Prepared (g : Graph) (r : ℕ) (cs : List MaybeClaimedRegion) (s : Ne
     pub plan : ShowsPlan g (cases-after s cs) w′ base (nesting.plan-bundles g (cases-after s cs))
     pub is-needed : needed ≡ any-needs-select (nesting.plan-bundles g (cases-after s cs))
     pub later : Later g w w′
-    pub spare-at : word w′ set-starts 32 ≡ base
+    pub spare-at : word w′ set-starts spare-slot ≡ base
     pub same : (k : Section) → (number k ≡ number sections.head → ⊥) → (number k ≡ number sections.set-lengths → ⊥)
         → (number k ≡ number sections.cases → ⊥) → (number k ≡ number sections.bundles → ⊥)
         → section w′ k ≡ section w k
     pub totals : (q : ℕ) → (q ≡ 6 → ⊥) → word w′ head q ≡ word w head q
     pub kept : (q : ℕ) → q < length (g .regions) → (q ≡ r → ⊥)
-        → ((j : ℕ) → j < length cs → word w cases (10 * j + 0) ≡ 2 → q ≡ word w cases (10 * j + 1) → ⊥) → KeptRegion w w′ q
-    pub outside : (p : ℕ) → ((j i : ℕ) → j < length cs → i < word w cases (10 * j + 5) → p ≡ word w cases (10 * j + 4) + i → ⊥)
-        → ((i : ℕ) → i < 33 → p ≡ word w set-starts 32 + i → ⊥) → SameBundle w w′ p
+        → ((j : ℕ) → j < length cs → case-kind w j ≡ case-claimed → q ≡ case-origin w j → ⊥) → KeptRegion w w′ q
+    pub outside : (p : ℕ) → ((j i : ℕ) → j < length cs → i < case-set-length w j → p ≡ case-set-start w j + i → ⊥)
+        → ((i : ℕ) → i < 33 → p ≡ word w set-starts spare-slot + i → ⊥) → SameBundle w w′ p
     -- The row of a case that is not claimed and defers nothing.
-    pub rows : (j : ℕ) → (word w cases (10 * j + 0) ≡ 2 → ⊥) → word w cases (10 * j + 5) ≡ 0 → (q : ℕ) → q < 10
-        → word w′ cases (10 * j + q) ≡ word w cases (10 * j + q)
+    pub rows : (j : ℕ) → (case-kind w j ≡ case-claimed → ⊥) → case-set-length w j ≡ 0 → (q : ℕ) → q < 10
+        → case-word w′ j q ≡ case-word w j q
 
 module _ {g : Graph} (valid : Valid g) {r : ℕ} (below : r < length (g .regions)) {w : List ℕ} {s : NestState} (state : ShowsState g w s)
     {cs : List MaybeClaimedRegion} (shown : ShowsCases g w r cs) (unready : NoneReady g w r cs)
     (chains : (q : ℕ) → ChainsEnd (s .region-input-rewrites) q)
-    (bound : (x : DeferredTarget) → edges-of-cases x (cases-after s cs) ≤ 65535) where
-  pub prepared : Prepared g r cs s w (with-plan g w) (word (with-targets g w) set-starts 32) (plan-bundles g (with-targets g w) .needed)
+    (bound : (x : DeferredTarget) → edges-of-cases x (cases-after s cs) ≤ largest) where
+  pub prepared : Prepared g r cs s w (with-plan g w) (word (with-targets g w) set-starts spare-slot)
+      (plan-bundles g (with-targets g w) .needed)
   prepared =
       let many = valid .count in
       let w₁ = rewrite-cases g w in
       let a = rewrite-cases-shown g valid w r s cs state shown chains unready in
       let b = deferred-targets-shown g valid w₁ r (state-after s cs) (cases-after s cs) (a .state) (a .cases-shown) bound in
       let w₂ = with-targets g w in
-      let first : word w₁ set-starts 32 ≡ word w set-starts 32 =
+      let first : word w₁ set-starts spare-slot ≡ word w set-starts spare-slot =
       ap (λ l. getD l 32 0) (a .stays .others set-starts (omega arith) (omega arith) (omega arith)) in
-      let second : word w₂ set-starts 32 ≡ word w₁ set-starts 32 = spare-there (b .spare) set-starts (omega arith) (omega arith) 32 in
+      let second : word w₂ set-starts spare-slot ≡ word w₁ set-starts spare-slot = spare-there (b .spare) set-starts (omega arith)
+      (omega arith) 32 in
       let rows = rw (← second) at (b .rows) in
       let c = plan-bundles-shown g valid w₂ r (state-after s cs) (cases-after s cs) (b .state) (b .cases-shown) rows in
       let third = spare-there (c .spare) set-starts (omega arith) (omega arith) 32 in
@@ -238,8 +242,8 @@ module _ {g : Graph} (valid : Valid g) {r : ℕ} (below : r < length (g .regions
         outside = λ p d e. same-bundle-then (a .outside p d)
             (same-bundle-then (spare-outside (b .spare) p (λ i h z. e i h (z ∙ ap (λ n. n + i) first)))
             (spare-outside (c .spare) p (λ i h z. e i h (z ∙ ap (λ n. n + i) (second ∙ first)))));
-        rows = λ j d e q h. spare-there (c .spare) cases (omega arith) (omega arith) (10 * j + q)
-            ∙ spare-there (b .spare) cases (omega arith) (omega arith) (10 * j + q) ∙ row-kept valid w j d e q h;
+        rows = λ j d e q h. spare-there (c .spare) cases (omega arith) (omega arith) (case-word-at j q)
+            ∙ spare-there (b .spare) cases (omega arith) (omega arith) (case-word-at j q) ∙ row-kept valid w j d e q h;
       }
 
 -- ---- The step whole.
@@ -247,18 +251,18 @@ pub record Structured (g : Graph) (r : ℕ) (cs : List MaybeClaimedRegion) (w w�
   pub state : ShowsState g w′ s
   pub nodes : ShowsChildren g w′ (word w′ children r) (x .children)
   -- It stands in the spare slot.
-  pub set : ShowsSet g w′ (word w′ set-starts 32) (word w′ set-lengths 32) (x .deferred-edges)
+  pub set : ShowsSet g w′ (word w′ set-starts spare-slot) (word w′ set-lengths spare-slot) (x .deferred-edges)
   pub later : Later g w w′
-  pub same-kinds : (q : ℕ) → word w′ kinds q ≡ word w kinds q
+  pub same-kinds : (q : ℕ) → region-kind w′ q ≡ region-kind w q
   pub same-starts : (q : ℕ) → word w′ set-starts q ≡ word w set-starts q
   pub kept : (q : ℕ) → q < length (g .regions) → (q ≡ r → ⊥)
-      → ((j : ℕ) → j < length cs → word w cases (10 * j + 0) ≡ 2 → q ≡ word w cases (10 * j + 1) → ⊥) → KeptRegion w w′ q
-  pub outside : (p : ℕ) → ((j i : ℕ) → j < length cs → i < word w cases (10 * j + 5) → p ≡ word w cases (10 * j + 4) + i → ⊥)
-      → ((i : ℕ) → i < 33 → p ≡ word w set-starts 32 + i → ⊥) → SameBundle w w′ p
+      → ((j : ℕ) → j < length cs → case-kind w j ≡ case-claimed → q ≡ case-origin w j → ⊥) → KeptRegion w w′ q
+  pub outside : (p : ℕ) → ((j i : ℕ) → j < length cs → i < case-set-length w j → p ≡ case-set-start w j + i → ⊥)
+      → ((i : ℕ) → i < 33 → p ≡ word w set-starts spare-slot + i → ⊥) → SameBundle w w′ p
   -- The row of a case that is not claimed and defers nothing, but for its region.
-  pub rows : (j : ℕ) → (word w cases (10 * j + 0) ≡ 2 → ⊥) → word w cases (10 * j + 5) ≡ 0 → (q : ℕ) → q < 10 → (q ≡ 2 → ⊥)
-      → word w′ cases (10 * j + q) ≡ word w cases (10 * j + q)
-  pub total : word w′ head 4 ≤ word w head 4 + (length cs + 1)
+  pub rows : (j : ℕ) → (case-kind w j ≡ case-claimed → ⊥) → case-set-length w j ≡ 0 → (q : ℕ) → q < 10 → (q ≡ 2 → ⊥)
+      → case-word w′ j q ≡ case-word w j q
+  pub total : word w′ head cells-at ≤ word w head cells-at + (length cs + 1)
 
 states-kept : {A : Type 0} {s : NestState} (x : StepAnswer A) → Post (λ n u. n ≡ 9) (λ a s′. KeepsStates s s′) x → {a : A} {s′ : NestState}
     → x ≡ done a s′ → s′ .region-states ≡ s .region-states
@@ -268,15 +272,15 @@ states-kept (turned-away n u) p e = absurd (clash (cc))
 module _ {g : Graph} (valid : Valid g) {r : ℕ} (below : r < length (g .regions)) {w : List ℕ} {s : NestState}
     (state : ShowsState g w s) {cs : List MaybeClaimedRegion} (shown : ShowsCases g w r cs) (unready : NoneReady g w r cs)
     (chains : (q : ℕ) → ChainsEnd (s .region-input-rewrites) q)
-    (bound : (x : DeferredTarget) → edges-of-cases x (cases-after s cs) ≤ 65535)
+    (bound : (x : DeferredTarget) → edges-of-cases x (cases-after s cs) ≤ largest)
     {x : Scrutinee} {y : nesting.Scrutinee} (scrutinee : ShowsScrutinee w x y) {shape : ℕ} {kind : SelectionKind}
     (of-shape : ShowsShape shape (length cs) kind) {parent : Nodes} (own : ShowsChildren g w (word w children r) parent)
-    (free : word w head 4 + (length cs + 1) ≤ most-cells) where
+    (free : word w head cells-at + (length cs + 1) ≤ most-cells) where
   abbrev ps : List PlannedBundle
   ps = nesting.plan-bundles g (cases-after s cs)
 
   abbrev base : ℕ
-  base = word (with-targets g w) set-starts 32
+  base = word (with-targets g w) set-starts spare-slot
 
   before : Prepared g r cs s w (with-plan g w) base (plan-bundles g (with-targets g w) .needed)
   before = prepared valid below state shown unready chains bound
@@ -297,7 +301,7 @@ module _ {g : Graph} (valid : Valid g) {r : ℕ} (below : r < length (g .regions
       let many = valid .count in
       let own₁ : ShowsChildren g (with-plan g w) (word (with-plan g w) children r) parent =
       rw (p .same children (omega arith) (omega arith) (omega arith) (omega arith)) (p .later .nodes-stay own) in
-      let counted = p .totals 4 (omega arith) in
+      let counted = p .totals cells-at (omega arith) in
       chosen (omega arith) (small-types valid (state .stands)) (omega arith) (p .state .tables) cs s spared
       (scrutinee-stays (p .later) scrutinee) of-shape own₁ (omega arith)
       (p .plan) (λ e. or-right (nesting.any-non-empty-case cs) (any-needs-select ps) e) (rw need-is at m)
@@ -314,7 +318,7 @@ module _ {g : Graph} (valid : Valid g) {r : ℕ} (below : r < length (g .regions
       let o = replaced-shown (cases-stay (c .step) (p .shown)) (c .tables) named₁ in
       let last = step-by (o .changes) (omega arith) (omega arith) (omega arith) (omega arith) g r (later-by (o .changes) (omega arith) g) in
       let step = step-then (c .step) last in
-      let same-kinds : (q : ℕ) → word (with-plan g w) kinds q ≡ word w kinds q =
+      let same-kinds : (q : ℕ) → region-kind (with-plan g w) q ≡ region-kind w q =
       λ q. ap (λ l. getD l q 0) (p .same kinds (omega arith) (omega arith) (omega arith) (omega arith)) in
       let same-starts : (q : ℕ) → word (with-plan g w) set-starts q ≡ word w set-starts q =
       λ q. ap (λ l. getD l q 0) (p .same set-starts (omega arith) (omega arith) (omega arith) (omega arith)) in
@@ -323,11 +327,11 @@ module _ {g : Graph} (valid : Valid g) {r : ℕ} (below : r < length (g .regions
       kind y
       cs ps (state-after s cs)) e in
       let stays = states-of-step step (λ h. unready .parent (sym (same-kinds r) ∙ h)) in
-      let at : word (all-replaced w₁ (case-total w₁) 0) set-starts 32 ≡ base = step .same-starts 32 ∙ p .spare-at in
-      let rows : word (all-replaced w₁ (case-total w₁) 0) set-lengths 32 ≡ length ps =
+      let at : word (all-replaced w₁ (case-total w₁) 0) set-starts spare-slot ≡ base = step .same-starts 32 ∙ p .spare-at in
+      let rows : word (all-replaced w₁ (case-total w₁) 0) set-lengths spare-slot ≡ length ps =
       ap (λ l. getD l 32 0) (o .changes .others set-lengths (omega arith) (omega arith) ∙ c .same-lengths) ∙ p .plan .size in
-      let counted = o .changes .totals 4 (omega arith) in
-      let before-it = p .totals 4 (omega arith) in
+      let counted = o .changes .totals cells-at (omega arith) in
+      let before-it = p .totals cells-at (omega arith) in
       let more = c .total in
       rw (o .is)
       (shows-made {a = region-body (join parent (z .children)) (z .deferred-edges)} (record {

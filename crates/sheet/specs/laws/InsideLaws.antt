@@ -14,8 +14,8 @@ use Rattle.meaning.specs.facts.Tests.{clash}
 use Rattle.meaning.specs.Graph.{Value, region, exit-invocation}
 use Rattle.meaning.specs.Runs.{exit}
 use Rattle.nesting.specs.Nesting.{blocks-of}
-use Rattle.state.specs.CellRows.{cell-word, tag-blocks, tag-join, tag-exit, tag-select, tag-loop, cell-tag, blocks-region, join-list}
-use Rattle.state.specs.CellRows.{exit-node, exit-region, select-node, select-cases, loop-body, children-of-case}
+use Rattle.state.specs.Rows.{cell-word, tag-blocks, tag-join, tag-exit, tag-select, tag-loop, cell-tag, blocks-region, join-list}
+use Rattle.state.specs.Rows.{exit-node, exit-region, select-node, select-cases, loop-body, children-of-case}
 use Rattle.children.specs.CellByCell.{case-cell, CaseTotal}
 use Rattle.children.specs.laws.CellByCellLaws.{named-below, earlier-within, none-before, case-within}
 use Rattle.writing.specs.declared.place.Place.{Place}

@@ -14,7 +14,7 @@ use Rattle.meaning.specs.Runs.{Nodes}
 use Rattle.nesting.specs.Nesting.{NestState, piece, plain, StructurizeRegionState, not-begun, in-progress}
 use Rattle.nesting.specs.Nesting.{claimed, ready, DeferredEdgeBundle, DeferredEdgeBundleSet, region-body}
 use Rattle.record.specs.Stands.{OfRecord}
-use Rattle.state.specs.Sections.{section, cells, word, kinds, children, set-starts}
+use Rattle.state.specs.Sections.{section, cells, word, children, set-starts}
 use Rattle.state.specs.Tables.{bundle-at}
 use Rattle.shown.specs.Cells.{ShowsNodes, ShowsChildren}
 use Rattle.shown.specs.Sets.{ShowsBundle}
@@ -31,11 +31,12 @@ use Rattle.sheet.specs.Pieces.{region-lines, set-part}
 use Rattle.sheet.specs.laws.Leftovers.{ready-lines, ready-set, given-set, unclaimed-lines, ascending-sets}
 use Rattle.sheet.specs.Regions.{PutsPiece, PutsWhole, PutsWholeOutputs, state-at, PutsReady, PutsUnclaimed, PutsGivenSet}
 use Rattle.sheet.specs.Regions.{PutsSets, PutsNodes, PutsSet, LinesFrom, SetsFrom}
+use Rattle.state.specs.Rows.{kind-claimed, most-bundles, region-kind}
 
 -- ---- Paths of put_piece, put_whole_outputs and put_whole.
-first-bundle : (start : ℕ) → start < 1097 → bundle-at start 0 ≡ start + 0
+first-bundle : (start : ℕ) → start < most-bundles → bundle-at start 0 ≡ start + 0
 unfolding bundle-at
-first-bundle start h = rw (lt-ltb start 1097 h)
+first-bundle start h = rw (lt-ltb start most-bundles h)
 
 module _ (g : Graph) (s : NestState) (r : ℕ) (ks : Nodes) (vs : List Value) where
   region-put : {out out₁ out₂ out₃ : List ℕ} {at at₁ at₂ at₃ : Place} → Puts out at (nodes-part s ks) out₁ at₁
@@ -73,7 +74,7 @@ module _ (w : List ℕ) (r : ℕ) {list : ℕ} (handle : list ≡ word w childre
       (q g s c (region g r .inputs) ks all-types here))
 
 -- ---- By a region's state.
-module _ (g : Graph) (w : List ℕ) (s : NestState) (r : ℕ) {k : ℕ} (kind : k ≡ word w kinds r) where
+module _ (g : Graph) (w : List ℕ) (s : NestState) (r : ℕ) {k : ℕ} (kind : k ≡ region-kind w r) where
   is-put : (x : StructurizeRegionState) → ShowsRegion g w r x → k ≡ 2 → {out out′ : List ℕ} {at at′ : Place}
       → ((ks : Nodes) → ShowsChildren g w (word w children r) ks → Puts out at (region-lines g s r ks []) out′ at′)
       → Puts out at (ready-lines g s r x) out′ at′
@@ -104,7 +105,7 @@ module _ (g : Graph) (w : List ℕ) (s : NestState) (r : ℕ) {k : ℕ} (kind : 
   no-set-put claimed (is-claimed a) e out at = puts-none out at
   no-set-put (ready b ks d) (is-ready a _ n t) e out at = absurd (e (kind ∙ a))
 
-module _ (w : List ℕ) (r : ℕ) {k : ℕ} (kind : k ≡ word w kinds r) where
+module _ (w : List ℕ) (r : ℕ) {k : ℕ} (kind : k ≡ region-kind w r) where
   pub ready-put : {out out′ : List ℕ} {at at′ : Place} → k ≡ 2 → PutsPiece w r out at out′ at′ → PutsReady w r out at out′ at′
   ready-put e p g s c l = is-put g w s r kind (state-at s r) (c .state .regions r l) e (p g s c)
 
@@ -117,7 +118,7 @@ module _ (w : List ℕ) (r : ℕ) {entry : ℕ} (is-entry : OfRecord w (λ g. en
       let same : r ≡ g .entry = e ∙ is-entry g (c .state .stands) in
       rw (eq-eqb r (g .entry) same) (p g s c d (rw same (x .set)))
 
-  module _ (other : r ≡ entry → ⊥) {k : ℕ} (kind : k ≡ word w kinds r) where
+  module _ (other : r ≡ entry → ⊥) {k : ℕ} (kind : k ≡ region-kind w r) where
     not-entry : (g : Graph) (s : NestState) → Concluded g w s → eqb r (g .entry) ≡ false
     not-entry g s c = ne-eqb r (g .entry) (λ e. other (e ∙ sym (is-entry g (c .state .stands))))
 
@@ -165,7 +166,8 @@ module _ (w : List ℕ) {n : ℕ} (count : OfRecord w (λ g. n ≡ length (g .re
       (subst (λ q. ShowsRegion g w (g .entry) (state-at s q)) (sym (sym (zero-add j) ∙ e)) (c .state .regions (g .entry) inside)))
       (λ j l. rw (zero-add j))))
     where
-      is-claimed-state : (g : Graph) (w : List ℕ) {r : ℕ} → word w kinds r ≡ 3 → (y : StructurizeRegionState) → ShowsRegion g w r y
+      is-claimed-state : (g : Graph) (w : List ℕ) {r : ℕ} → region-kind w r ≡ kind-claimed → (y : StructurizeRegionState)
+          → ShowsRegion g w r y
           → y ≡ claimed
       is-claimed-state g w e not-begun (is-not-begun a) = absurd (omega arith)
       is-claimed-state g w e in-progress (is-in-progress a) = absurd (omega arith)

@@ -8,10 +8,10 @@ use Rattle.meaning.specs.Graph.{Graph, Value, region, exit-invocation}
 use Rattle.meaning.specs.Runs.{Nodes, ⟨⟩, Cases, exit, loop, case-count}
 use Rattle.nesting.specs.Nesting.{plain, blocks-of, new-select, loop-node}
 use Rattle.state.specs.Sections.{section, cells}
-use Rattle.state.specs.CellRows as rows
-use Rattle.state.specs.CellRows.{tag-blocks, tag-join, tag-exit, tag-select, tag-loop, cell-tag, blocks-region, join-list, exit-node}
-use Rattle.state.specs.CellRows.{exit-region, select-node, select-cases, loop-body, loop-header, cases-after, case-region}
-use Rattle.state.specs.CellRows.{children-of-case}
+use Rattle.state.specs.Rows as rows
+use Rattle.state.specs.Rows.{tag-blocks, tag-join, tag-exit, tag-select, tag-loop, cell-tag, blocks-region, join-list, exit-node}
+use Rattle.state.specs.Rows.{exit-region, select-node, select-cases, loop-body, loop-header, cases-after, case-region}
+use Rattle.state.specs.Rows.{children-of-case}
 use Rattle.shown.specs.Cells.{ShowsCaseCells, no-cases, case-and}
 use Rattle.shown.specs.laws.Conditions.{few-cases}
 use Rattle.shown.specs.laws.CellSteps.{no-list}

@@ -3,7 +3,7 @@
 use mathlib.Core.Path.{_≡_, refl, sym, ap, _∙_}
 use mathlib.Core.Bool.{Bool, _||_, true, false}
 use mathlib.Core.List.{List, [], _∷_, _++_, append-assoc}
-use Prim.Native.Nat.{ℕ, _+_, _-_, _≤_, _<_, suc}
+use Prim.Native.Nat.{ℕ, _-_, _≤_, _<_, suc}
 use native.Mathlib.Omega.{arith}
 use lib.ListN.{length, drop, getD, take, length-take, take-append-drop}
 use native.Mathlib.Decide.{decLt}
@@ -23,6 +23,7 @@ use Rattle.writing.specs.laws.PutsLaws.{puts-then}
 use Rattle.sheet.specs.laws.Counts.{as-long, same-if-short}
 use Rattle.sheet.specs.Written.{ShowsAnswer, shows-untouched, shows-whole, shows-closed, shows-leftover, behind-head, PutsLines}
 use Rattle.sheet.specs.Written.{twice-word, PutsHead, PutsSheet, far, Measures, lent, sheet-written, too-few, WritesSheet}
+use Rattle.state.specs.Rows.{attempts-at}
 
 -- ---- Line 1 in front of the lines.
 outcome-number : Outcome → ℕ
@@ -90,11 +91,11 @@ module _ (w : List ℕ) (outcome figure : ℕ) {out out₁ out₂ : List ℕ} {e
       let t = c .state .tables in
       let y = answers shown in
       let note : twice-word w at₁ ≡ bit (x .twice) = rw (l .puts .twice, t .twice, twice-is-bit (s .twice) (l .twice), l .noted) in
-      let words : outcome ∷ figure ∷ word w head 5 ∷ twice-word w at₁ ∷ [] ≡ head-words (sheet.sheet-of g x) =
+      let words : outcome ∷ figure ∷ word w head attempts-at ∷ twice-word w at₁ ∷ [] ≡ head-words (sheet.sheet-of g x) =
       rw (← y .number, e, t .attempts, note, ← y .attempts)
       (sym (head-is (x .outcome) (sheet.sheet-of g x .figure) (x .attempts) (x .twice) (sheet.sheet-of g x .lines))) in
       let p = puts-then (l .puts) first in
-      let whole-words : (outcome ∷ figure ∷ word w head 5 ∷ twice-word w at₁ ∷ []) ++ behind-head x ≡ nested-words most g x =
+      let whole-words : (outcome ∷ figure ∷ word w head attempts-at ∷ twice-word w at₁ ∷ []) ++ behind-head x ≡ nested-words most g x =
       ap (λ z. z ++ behind-head x) words in
       record {
         begins = p .end ∙ ap (λ z. end - length z) whole-words;

@@ -2,7 +2,7 @@
 use mathlib.Core.Path.{_≡_, refl, ap, _∙_}
 use mathlib.Core.Bool.{true, not}
 use mathlib.Core.List.{List, [], _∷_, _++_}
-use Prim.Native.Nat.{ℕ, suc, _+_, _*_, _≤_, _<_}
+use Prim.Native.Nat.{ℕ, suc, _+_, _≤_, _<_}
 use native.Mathlib.Omega.{arith}
 use native.Mathlib.Decide.{ℕ-discrete}
 use lib.ListN.{length, getD}
@@ -17,9 +17,8 @@ use Rattle.state.specs.declared.cells.Cell.{Cell}
 use Rattle.state.specs.declared.cells.Cell.the-variants.{Blocks, Join, Exit, Select, Loop, Case, Kept}
 use Rattle.state.specs.Sections as sections
 use Rattle.state.specs.Sections.{Section, number, start, size, used, section, word, stored, stored-all, head, conditions, cells}
-use Rattle.state.specs.Sections.{most-cells}
 use Rattle.state.specs.laws.Apart.{section-other}
-use Rattle.state.specs.CellRows.{cell-words}
+use Rattle.state.specs.Tables.{cell-words}
 use Rattle.state.specs.Tables.{Adds, added, no-room, Joins, first-empty, second-empty, joined}
 use Rattle.shown.specs.Values.{value}
 use Rattle.shown.specs.laws.FrontKept.{front-by}
@@ -34,27 +33,29 @@ use Rattle.shown.specs.Kept.{Later, KeptRegion}
 use Rattle.shown.specs.laws.RegionsKept.{later-same, kept-same}
 use Rattle.shown.specs.laws.RegionSteps.{Aside, kept-by, tables-by, states-by, StatesStay}
 use Rattle.meaning.specs.facts.Parts.{run-before, run-in}
+use Rattle.state.specs.Rows.{cell-row-at, cell-row-size, cell-word-at, cells-at, merges-at, merges-from, most-cells}
 
 -- ---- Lists before a run of words stay.
 module _ (g : Graph) (l : List ℕ) (i : ℕ) (xs : List ℕ) where
-  cell-before : {h tag before a b c d : ℕ} → CellIs l h tag before a b c d → 6 * h + 6 ≤ i → CellIs (sets l i xs) h tag before a b c d
+  cell-before : {h tag before a b c d : ℕ} → CellIs l h tag before a b c d → cell-row-at h + cell-row-size ≤ i
+      → CellIs (sets l i xs) h tag before a b c d
   cell-before {h} x n =
       record {
-        is-tag = run-before l i xs (6 * h + 0) (omega arith) ∙ x .is-tag;
-        is-before = run-before l i xs (6 * h + 1) (omega arith) ∙ x .is-before;
-        is-a = run-before l i xs (6 * h + 2) (omega arith) ∙ x .is-a;
-        is-b = run-before l i xs (6 * h + 3) (omega arith) ∙ x .is-b;
-        is-c = run-before l i xs (6 * h + 4) (omega arith) ∙ x .is-c;
-        is-d = run-before l i xs (6 * h + 5) (omega arith) ∙ x .is-d;
+        is-tag = run-before l i xs (cell-word-at h 0) (omega arith) ∙ x .is-tag;
+        is-before = run-before l i xs (cell-word-at h 1) (omega arith) ∙ x .is-before;
+        is-a = run-before l i xs (cell-word-at h 2) (omega arith) ∙ x .is-a;
+        is-b = run-before l i xs (cell-word-at h 3) (omega arith) ∙ x .is-b;
+        is-c = run-before l i xs (cell-word-at h 4) (omega arith) ∙ x .is-c;
+        is-d = run-before l i xs (cell-word-at h 5) (omega arith) ∙ x .is-d;
       }
 
-  kept-before : {r h : ℕ} {is os : List Value} {ts : List ℕ} → ShowsKept g l r h is ts os → 6 * h + 6 ≤ i
+  kept-before : {r h : ℕ} {is os : List Value} {ts : List ℕ} → ShowsKept g l r h is ts os → cell-row-at h + cell-row-size ≤ i
       → ShowsKept g (sets l i xs) r h is ts os
   kept-before (none-kept e) n = none-kept e
   kept-before (one-kept x p few low k v a b c) n = one-kept (cell-before x n) p few low (kept-before k (omega arith)) v a b c
 
   mutual
-    nodes-before : {h : ℕ} {ks : Nodes} → ShowsNodes g l h ks → 6 * h + 6 ≤ i → ShowsNodes g (sets l i xs) h ks
+    nodes-before : {h : ℕ} {ks : Nodes} → ShowsNodes g l h ks → cell-row-at h + cell-row-size ≤ i → ShowsNodes g (sets l i xs) h ks
     nodes-before (no-nodes e) n = no-nodes e
     nodes-before (all-blocks x a b e) n = all-blocks (cell-before x n) a b e
     nodes-before (two-lists x a b c d ns ms e) n =
@@ -65,7 +66,7 @@ module _ (g : Graph) (l : List ℕ) (i : ℕ) (xs : List ℕ) where
     nodes-before (the-loop y x p q ns v k e) n =
         the-loop y (cell-before x n) p q (nodes-before ns (omega arith)) v (kept-before k (omega arith)) e
 
-    cases-before : {h : ℕ} {cs : Cases} → ShowsCaseCells g l h cs → 6 * h + 6 ≤ i → ShowsCaseCells g (sets l i xs) h cs
+    cases-before : {h : ℕ} {cs : Cases} → ShowsCaseCells g l h cs → cell-row-at h + cell-row-size ≤ i → ShowsCaseCells g (sets l i xs) h cs
     cases-before (no-cases e) n = no-cases e
     cases-before (case-and x p q ns cs e) n =
         case-and (cell-before x n) p q (nodes-before ns (omega arith)) (cases-before cs (omega arith)) e
@@ -80,15 +81,15 @@ six-words (Loop p n r x q) = refl
 six-words (Case p r q) = refl
 six-words (Kept p k wrapper x) = refl
 
-module _ {w w′ : List ℕ} {x : Cell} {h : ℕ} (step : Adds w w′ x h) (free : word w head 4 < most-cells) (room : used ≤ length w) where
+module _ {w w′ : List ℕ} {x : Cell} {h : ℕ} (step : Adds w w′ x h) (free : word w head cells-at < most-cells) (room : used ≤ length w) where
   abbrev with-cell : List ℕ
-  with-cell = stored-all w cells (6 * h) (cell-words x)
+  with-cell = stored-all w cells (cell-row-at h) (cell-words x)
 
   -- What the step is, as there is room.
   record Added : Type 0 where
-    handle : h ≡ word w head 4
+    handle : h ≡ word w head cells-at
     below : h < most-cells
-    words : w′ ≡ stored with-cell head 4 (h + 1)
+    words : w′ ≡ stored with-cell head cells-at (h + 1)
 
   is-added : Added
   is-added = go step
@@ -97,21 +98,23 @@ module _ {w w′ : List ℕ} {x : Cell} {h : ℕ} (step : Adds w w′ x h) (free
       go (added a b e) = record { handle = a; below = b; words = e }
       go (no-room a b e) = absurd (omega arith)
 
-  pub cell-handle : h ≡ word w head 4
+  pub cell-handle : h ≡ word w head cells-at
   cell-handle = is-added .handle
 
-  pub cell-changes : ChangesOnly cells 4 w w′
+  pub cell-changes : ChangesOnly cells cells-at w w′
   cell-changes = rw (is-added .words)
-      (changes-then (run-changes cells 4 w (omega arith) (6 * h) (cell-words x)) (head-changes cells 4 with-cell (h + 1)))
+      (changes-then (run-changes cells cells-at w (omega arith) (cell-row-at h) (cell-words x))
+      (head-changes cells cells-at with-cell (h + 1)))
 
-  pub cell-total : word w′ head 4 ≡ suc h
-  cell-total = ap (λ l. word l head 4) (is-added .words)
-      ∙ head-same with-cell 4 (h + 1) (rw (run-changes cells 4 w (omega arith) (6 * h) (cell-words x) .words) room) (omega arith)
+  pub cell-total : word w′ head cells-at ≡ suc h
+  cell-total = ap (λ l. word l head cells-at) (is-added .words)
+      ∙ head-same with-cell cells-at (h + 1) (rw (run-changes cells cells-at w (omega arith) (cell-row-at h) (cell-words x) .words) room)
+      (omega arith)
       ∙ omega arith
 
-  cells-after : section w′ cells ≡ sets (section w cells) (6 * h) (cell-words x)
-  cells-after = ap (λ l. section l cells) (is-added .words) ∙ section-other with-cell head 4 (h + 1) cells (omega arith)
-      ∙ section-run w cells (6 * h) (cell-words x)
+  cells-after : section w′ cells ≡ sets (section w cells) (cell-row-at h) (cell-words x)
+  cells-after = ap (λ l. section l cells) (is-added .words) ∙ section-other with-cell head cells-at (h + 1) cells (omega arith)
+      ∙ section-run w cells (cell-row-at h) (cell-words x)
 
   abbrev word-of : ℕ → ℕ
   word-of i = getD (cell-words x) i 0
@@ -122,8 +125,8 @@ module _ {w w′ : List ℕ} {x : Cell} {h : ℕ} (step : Adds w w′ x h) (free
       let l = section w cells in
       let z = part-length (start cells) (size cells) w (omega arith) in
       let b = is-added .below in
-      let at : (k : ℕ) → k < 6 → getD (sets l (6 * h) (cell-words x)) (6 * h + k) 0 ≡ getD (cell-words x) k 0 =
-      λ k i. run-in l (6 * h) (cell-words x) k (omega arith) (rw six i) in
+      let at : (k : ℕ) → k < 6 → getD (sets l (cell-row-at h) (cell-words x)) (cell-word-at h k) 0 ≡ getD (cell-words x) k 0 =
+      λ k i. run-in l (cell-row-at h) (cell-words x) k (omega arith) (rw six i) in
       rw cells-after
       record {
         is-tag = at 0 (omega arith);
@@ -140,7 +143,7 @@ module _ {w w′ : List ℕ} {x : Cell} {h : ℕ} (step : Adds w w′ x h) (free
       let t = cell-total in
       record {
         record-words = λ i b. ap (λ l. getD l i 0) (cell-changes .others conditions (omega arith) (omega arith));
-        made-cells = λ i b. ap (λ l. getD l i 0) cells-after ∙ run-before (section w cells) (6 * h) (cell-words x) i (omega arith);
+        made-cells = λ i b. ap (λ l. getD l i 0) cells-after ∙ run-before (section w cells) (cell-row-at h) (cell-words x) i (omega arith);
         as-many = omega arith;
       }
 
@@ -150,14 +153,14 @@ module _ {w w′ : List ℕ} {x : Cell} {h : ℕ} (step : Adds w w′ x h) (free
       record {
         front = front-by c (omega arith);
         conditions-stay = λ y. record {
-          tree = cond-stays (conditions-after (4 + word w head 2)) (y .tree) (y .made);
-          made = rw (c .totals 2 (omega arith)) (y .made);
+          tree = cond-stays (conditions-after (merges-from + word w head merges-at)) (y .tree) (y .made);
+          made = rw (c .totals merges-at (omega arith)) (y .made);
         };
         nodes-stay = λ y.
             let m = y .made in
             let e = cell-handle in
             record {
-              nodes = rw cells-after (nodes-before g (section w cells) (6 * h) (cell-words x) (y .nodes) (omega arith));
+              nodes = rw cells-after (nodes-before g (section w cells) (cell-row-at h) (cell-words x) (y .nodes) (omega arith));
               made = rw cell-total (omega arith);
             };
       }
@@ -174,32 +177,32 @@ module _ {w w′ : List ℕ} {x : Cell} {h : ℕ} (step : Adds w w′ x h) (free
   pub cell-aside : (g : Graph) → Aside g w w′
   cell-aside g = record { later = cell-later g; states = cell-states g; regions = cell-regions }
 
-  before-handle : {p : ℕ} → p < word w head 4 → p < h
+  before-handle : {p : ℕ} → p < word w head cells-at → p < h
   before-handle m = let e = cell-handle in omega arith
 
-  new-made : h < word w′ head 4
+  new-made : h < word w′ head cells-at
   new-made = rw cell-total (omega arith)
 
 -- ---- Lists of cases and of kept inputs that were made, by their handles.
 pub record ShowsCaseList (g : Graph) (w : List ℕ) (h : ℕ) (cs : Cases) : Type 0 where
   pub cases : ShowsCaseCells g (section w cells) h cs
-  pub made : h < word w head 4
+  pub made : h < word w head cells-at
 
 -- Of a loop of header r.
 pub record ShowsKeptList (g : Graph) (w : List ℕ) (r h : ℕ) (x : LoopInputs) : Type 0 where
   pub kept : ShowsKept g (section w cells) r h (x .initial-inputs) (x .types) (x .outputs)
-  pub made : h < word w head 4
+  pub made : h < word w head cells-at
 
-pub no-case-list : {g : Graph} {w : List ℕ} → 1 ≤ word w head 4 → ShowsCaseList g w 0 ∅
+pub no-case-list : {g : Graph} {w : List ℕ} → 1 ≤ word w head cells-at → ShowsCaseList g w 0 ∅
 no-case-list one = record { cases = no-cases refl; made = one }
 
 -- They stay where the cells and their total do.
 module _ {k : Section} {i : ℕ} {w w′ : List ℕ} (changes : ChangesOnly k i w w′)
-    (d : number sections.cells ≡ number k → ⊥) (e : 4 ≡ i → ⊥) {g : Graph} where
+    (d : number sections.cells ≡ number k → ⊥) (e : cells-at ≡ i → ⊥) {g : Graph} where
   pub kept-list-by : {r h : ℕ} {x : LoopInputs} → ShowsKeptList g w r h x → ShowsKeptList g w′ r h x
-  kept-list-by y = record { kept = rw (changes .others cells d (omega arith)) (y .kept); made = rw (changes .totals 4 e) (y .made) }
+  kept-list-by y = record { kept = rw (changes .others cells d (omega arith)) (y .kept); made = rw (changes .totals cells-at e) (y .made) }
 
-module _ {w w′ : List ℕ} {x : Cell} {h : ℕ} (step : Adds w w′ x h) (free : word w head 4 < most-cells) (room : used ≤ length w)
+module _ {w w′ : List ℕ} {x : Cell} {h : ℕ} (step : Adds w w′ x h) (free : word w head cells-at < most-cells) (room : used ≤ length w)
     {g : Graph} where
   pub case-list-stays : {p : ℕ} {cs : Cases} → ShowsCaseList g w p cs → ShowsCaseList g w′ p cs
   case-list-stays y =
@@ -207,7 +210,7 @@ module _ {w w′ : List ℕ} {x : Cell} {h : ℕ} (step : Adds w w′ x h) (free
       let e = cell-handle step free room in
       record {
         cases = rw (cells-after step free room)
-            (cases-before g (section w cells) (6 * h) (cell-words x) (y .cases) (omega arith));
+            (cases-before g (section w cells) (cell-row-at h) (cell-words x) (y .cases) (omega arith));
         made = rw (cell-total step free room) (omega arith);
       }
 
@@ -217,13 +220,13 @@ module _ {w w′ : List ℕ} {x : Cell} {h : ℕ} (step : Adds w w′ x h) (free
       let e = cell-handle step free room in
       record {
         kept = rw (cells-after step free room)
-            (kept-before g (section w cells) (6 * h) (cell-words x) (y .kept) (omega arith));
+            (kept-before g (section w cells) (cell-row-at h) (cell-words x) (y .kept) (omega arith));
         made = rw (cell-total step free room) (omega arith);
       }
 
 -- ---- The cells, by kind.
-module _ {w w′ : List ℕ} {h : ℕ} (free : word w head 4 < most-cells) (room : used ≤ length w) {g : Graph} where
-  pub blocks-added : {r : ℕ} → Adds w w′ (Blocks r) h → 1 ≤ word w head 4 → 1 ≤ length (region g r .blocks)
+module _ {w w′ : List ℕ} {h : ℕ} (free : word w head cells-at < most-cells) (room : used ≤ length w) {g : Graph} where
+  pub blocks-added : {r : ℕ} → Adds w w′ (Blocks r) h → 1 ≤ word w head cells-at → 1 ≤ length (region g r .blocks)
       → ShowsChildren g w′ h (blocks-of g r)
   blocks-added step one some =
       let e = cell-handle step free room in
@@ -335,17 +338,18 @@ pub record Joined (g : Graph) (w w′ : List ℕ) (h : ℕ) (ks : Nodes) : Type 
   pub tables : SameTables w w′
   pub states : StatesStay g w w′
   pub regions : (q : ℕ) → KeptRegion w w′ q
-  pub changes : ChangesOnly cells 4 w w′
-  pub total-from : word w head 4 ≤ word w′ head 4
-  pub total-to : word w′ head 4 ≤ suc (word w head 4)
+  pub changes : ChangesOnly cells cells-at w w′
+  pub total-from : word w head cells-at ≤ word w′ head cells-at
+  pub total-to : word w′ head cells-at ≤ suc (word w head cells-at)
 
-pub list-joined : {w w′ : List ℕ} {a b h : ℕ} {g : Graph} {ns ms : Nodes} → word w head 4 < most-cells → used ≤ length w → Joins w w′ a b h
+pub list-joined : {w w′ : List ℕ} {a b h : ℕ} {g : Graph} {ns ms : Nodes} → word w head cells-at < most-cells → used ≤ length w
+    → Joins w w′ a b h
     → ShowsChildren g w a ns → ShowsChildren g w b ms → Joined g w w′ h (join ns ms)
 list-joined {w} {w′} {a} {b} {h} {g} {ns} {ms} free room step n m = go step
   where
     unchanged : {c : ℕ} {ks : Nodes} → w′ ≡ w → h ≡ c → ShowsChildren g w c ks → Joined g w w′ h ks
     unchanged same e x =
-        let changes = nothing-changes cells 4 w in
+        let changes = nothing-changes cells cells-at w in
         rw (same, e)
         record {
           nodes = x;

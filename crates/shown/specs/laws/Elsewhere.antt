@@ -9,6 +9,7 @@ use Rattle.state.specs.Sections as sections
 use Rattle.state.specs.Sections.{Section, number, start, size, section, word, stored, head, rewrites, outputs}
 use Rattle.state.specs.laws.Apart.{stored-length, section-other}
 use Rattle.shown.specs.Tables.{ShowsTables}
+use Rattle.state.specs.Rows.{attempts-at, merges-at, nodes-at, outputs-at, regions-at, twice-at}
 
 -- The tables have the same words. Of the head they have the first seven, but for the total of cells.
 pub record SameTables (w w′ : List ℕ) : Type 0 where
@@ -21,12 +22,12 @@ pub tables-stay : {w w′ : List ℕ} {s : NestState} → SameTables w w′ → 
 tables-stay g t =
     record {
       size = rw (g .words) (t .size);
-      region-total = g .totals 0 (omega arith) (omega arith) ∙ t .region-total;
-      node-total = g .totals 1 (omega arith) (omega arith) ∙ t .node-total;
-      merge-total = g .totals 2 (omega arith) (omega arith) ∙ t .merge-total;
-      output-total = g .totals 3 (omega arith) (omega arith) ∙ t .output-total;
-      attempts = g .totals 5 (omega arith) (omega arith) ∙ t .attempts;
-      twice = g .totals 6 (omega arith) (omega arith) ∙ t .twice;
+      region-total = g .totals regions-at (omega arith) (omega arith) ∙ t .region-total;
+      node-total = g .totals nodes-at (omega arith) (omega arith) ∙ t .node-total;
+      merge-total = g .totals merges-at (omega arith) (omega arith) ∙ t .merge-total;
+      output-total = g .totals outputs-at (omega arith) (omega arith) ∙ t .output-total;
+      attempts = g .totals attempts-at (omega arith) (omega arith) ∙ t .attempts;
+      twice = g .totals twice-at (omega arith) (omega arith) ∙ t .twice;
       few-regions = t .few-regions;
       few-nodes = t .few-nodes;
       few-merges = t .few-merges;

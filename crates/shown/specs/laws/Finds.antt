@@ -13,13 +13,13 @@ use Rattle.meaning.specs.Graph.{Graph}
 use Rattle.meaning.specs.Lists.{pick}
 use Rattle.meaning.specs.facts.Tests.{eqb-sym}
 use Rattle.nesting.specs.Nesting.{DeferredTarget, DeferredEdgeBundleSet, same-target, get-edge-bundle-by-target}
-use Rattle.state.specs.Sections.{word, bundles}
 use Rattle.state.specs.Tables.{bundle-at, find-by, slot}
 use Rattle.shown.specs.Sets.{ShowsTarget, shows-region, shows-return, ShowsSet, no-bundle}
+use Rattle.state.specs.Rows.{bundle-target, most-bundles, no-bundle-word, return-word, slot-size}
 
-pub bundle-in : (start i : ℕ) → start < 1097 → i < 33 → bundle-at start i ≡ start + i
+pub bundle-in : (start i : ℕ) → start < most-bundles → i < slot-size → bundle-at start i ≡ start + i
 unfolding bundle-at
-bundle-in start i a b = rw (lt-ltb start 1097 a, lt-ltb i 33 b)
+bundle-in start i a b = rw (lt-ltb start most-bundles a, lt-ltb i 33 b)
 
 pub slot-in : (a : ℕ) → a < 33 → slot a ≡ 33 * a
 unfolding slot
@@ -29,20 +29,20 @@ slot-in a h = rw (lt-ltb a 33 h)
 pub targets-tell : {g : Graph} → length (g .regions) ≤ 32 → {a b : ℕ} {x y : DeferredTarget} → ShowsTarget g a x → ShowsTarget g b y
     → eqb b a ≡ same-target x y
 targets-tell few (shows-region {r} e h) (shows-region {r = q} f k) = rw (e, f) (eqb-sym q r)
-targets-tell few (shows-region {r} e h) (shows-return f) = rw (e, f) (ne-eqb 65535 r (omega arith))
-targets-tell few (shows-return e) (shows-region {r = q} f k) = rw (e, f) (ne-eqb q 65535 (omega arith))
+targets-tell few (shows-region {r} e h) (shows-return f) = rw (e, f) (ne-eqb return-word r (omega arith))
+targets-tell few (shows-return e) (shows-region {r = q} f k) = rw (e, f) (ne-eqb q return-word (omega arith))
 targets-tell few (shows-return e) (shows-return f) = rw (e, f)
 
 -- The first of n to target x, where k goes to `to k`; a is its bundle.
 pub data FirstTo (x : DeferredTarget) (to : ℕ → DeferredTarget) (n start a : ℕ) : Type 0 where
   first-at : (i : ℕ) → i < n → same-target x (to i) ≡ true → ((k : ℕ) → k < i → same-target x (to k) ≡ false) → a ≡ start + i
       → FirstTo x to n start a
-  none-to : ((k : ℕ) → k < n → same-target x (to k) ≡ false) → a ≡ 65535 → FirstTo x to n start a
+  none-to : ((k : ℕ) → k < n → same-target x (to k) ≡ false) → a ≡ no-bundle-word → FirstTo x to n start a
 
 module _ {g : Graph} (l : List ℕ) (few : length (g .regions) ≤ 32) (start : ℕ) {t : ℕ} {x : DeferredTarget} (of-target : ShowsTarget g t x)
   where
-    module _ (n : ℕ) (to : ℕ → DeferredTarget) (room : start + n ≤ 1097) (short : n ≤ 33)
-        (each : (k : ℕ) → k < n → ShowsTarget g (word l bundles (7 * (start + k) + 0)) (to k)) where
+    module _ (n : ℕ) (to : ℕ → DeferredTarget) (room : start + n ≤ most-bundles) (short : n ≤ slot-size)
+        (each : (k : ℕ) → k < n → ShowsTarget g (bundle-target l (start + k)) (to k)) where
       first-from : (m i : ℕ) → i + m ≡ n → ((k : ℕ) → k < i → same-target x (to k) ≡ false) → FirstTo x to n start (find-by l start t m i)
       unfolding find-by
       first-from zero i e before = none-to (λ k h. before k (omega arith)) refl
@@ -79,7 +79,7 @@ pub data Finds (first : ℕ) (x : DeferredTarget) (d : DeferredEdgeBundleSet) (a
   found : (i : ℕ) → a ≡ first + i → i < length d → get-edge-bundle-by-target x d ≡ some (getD d i no-bundle)
       → same-target x (getD d i no-bundle .target) ≡ true → ((j : ℕ) → j < i → same-target x (getD d j no-bundle .target) ≡ false)
       → Finds first x d a
-  none-found : a ≡ 65535 → get-edge-bundle-by-target x d ≡ none → Finds first x d a
+  none-found : a ≡ no-bundle-word → get-edge-bundle-by-target x d ≡ none → Finds first x d a
 
 pub finds : {g : Graph} (w : List ℕ) → length (g .regions) ≤ 32 → (start : ℕ) {t : ℕ} {x : DeferredTarget} → ShowsTarget g t x → {n : ℕ}
     {d : DeferredEdgeBundleSet} → ShowsSet g w start n d → Finds start x d (find-by w start t n 0)

@@ -2,7 +2,7 @@
 use mathlib.Core.Path.{_≡_, refl, sym, _∙_}
 use mathlib.Core.Bool.{Bool, true, false}
 use mathlib.Core.List.{List}
-use Prim.Native.Nat.{ℕ, _+_, _*_}
+use Prim.Native.Nat.{ℕ, _+_}
 use native.Mathlib.Omega.{arith}
 use lib.Dec.{ltb}
 use Rattle.meaning.specs.Graph.{Graph}
@@ -14,10 +14,11 @@ use Rattle.state.specs.declared.defined.Defined.{Defined}
 use Rattle.state.specs.Sections as sections
 use Rattle.state.specs.Sections.{Section, number, start, size, part, stored, stored-all, front, head, kinds, cells, bundles}
 use Rattle.state.specs.Tables.{Adds, added, no-room, Defines, defined, full, input-stored}
-use Rattle.state.specs.CellRows.{cell-words}
+use Rattle.state.specs.Tables.{cell-words}
 use Rattle.state.specs.laws.Apart.{stored-length, section-other}
 use Rattle.shown.specs.laws.Stores.{run-length, run-other, ChangesOnly}
 use Rattle.shown.specs.Front.{SameFront, SameKinds}
+use Rattle.state.specs.Rows.{bundle-input-at, cell-row-at, cells-at}
 
 pub stands-on : {w w′ : List ℕ} {g : Graph} → SameFront w w′ → Stands w g → Stands w′ g
 unfolding part
@@ -65,8 +66,8 @@ pub kinds-input-stored : (l : List ℕ) (p k x : ℕ) → SameKinds l (input-sto
 unfolding input-stored
 kinds-input-stored l p k x = go (ltb k 4)
   where
-    go : (b : Bool) → SameKinds l (pick b (stored l bundles (7 * p + (3 + k)) x) l)
-    go true = kinds-stored l bundles (omega arith) (7 * p + (3 + k)) x
+    go : (b : Bool) → SameKinds l (pick b (stored l bundles (bundle-input-at p k) x) l)
+    go true = kinds-stored l bundles (omega arith) (bundle-input-at p k) x
     go false = kinds-same l
 
 pub kinds-by : {k : Section} {i : ℕ} {w w′ : List ℕ} → ChangesOnly k i w w′ → BehindKinds k → SameKinds w w′
@@ -82,8 +83,8 @@ kinds-then a b = record { front = front-then (a .front) (b .front); kinds-words 
 pub adds-kinds : {w w′ : List ℕ} {x : Cell} {h : ℕ} → Adds w w′ x h → SameKinds w w′
 adds-kinds {w} {x} {h} (added e l s) =
     rw s
-    (kinds-then (kinds-run w cells (omega arith) (6 * h) (cell-words x))
-    (kinds-stored (stored-all w cells (6 * h) (cell-words x)) head (omega arith) 4 (h + 1)))
+    (kinds-then (kinds-run w cells (omega arith) (cell-row-at h) (cell-words x))
+    (kinds-stored (stored-all w cells (cell-row-at h) (cell-words x)) head (omega arith) cells-at (h + 1)))
 adds-kinds {w} (no-room l s e) = rw s (kinds-same w)
 
 pub defines-kinds : {i limit : ℕ} {w w′ : List ℕ} {a : Defined} → Defines i limit w w′ a → SameKinds w w′

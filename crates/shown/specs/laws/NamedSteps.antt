@@ -9,8 +9,9 @@ use Rattle.state.specs.Tables.{inserted}
 use Rattle.shown.specs.laws.Rewrites.{Enters, by-insertion}
 use Rattle.shown.specs.States.{NamedRewrites}
 use Rattle.nesting.specs.Nesting.{most-regions}
+use Rattle.state.specs.Values.{names-nothing}
 
-named-entered : (w w′ : List ℕ) (r kind : ℕ) (ws : List ℕ) → ((k : ℕ) → k < 4 → getD ws k 0 < 4096) → NamedRewrites w
+named-entered : (w w′ : List ℕ) (r kind : ℕ) (ws : List ℕ) → ((k : ℕ) → k < 4 → getD ws k 0 < names-nothing) → NamedRewrites w
     → Enters (section w rewrites) (section w′ rewrites) r kind ws → NamedRewrites w′
 named-entered w w′ r kind ws below n s =
     record {
@@ -21,6 +22,6 @@ named-entered w w′ r kind ws below n s =
     }
 
 pub named-inserted : (w : List ℕ) (r kind : ℕ) (ws : List ℕ) → used ≤ length w → r < most-regions → length ws ≡ 4
-    → ((k : ℕ) → k < 4 → getD ws k 0 < 4096) → NamedRewrites w → NamedRewrites (inserted w r kind ws)
+    → ((k : ℕ) → k < 4 → getD ws k 0 < names-nothing) → NamedRewrites w → NamedRewrites (inserted w r kind ws)
 named-inserted w r kind ws room h four below n =
     by-insertion w room r kind ws h four (λ z. NamedRewrites z) (λ z free s. named-entered w z r kind ws below n s) (λ taken. n)

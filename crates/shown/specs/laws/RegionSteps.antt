@@ -1,7 +1,7 @@
 -- Stores into the regions' fixed lists, into cases and into bundles: what stays shown, and what is shown then.
 use mathlib.Core.Path.{_≡_, refl, sym, ap, _∙_, subst}
 use mathlib.Core.List.{List}
-use Prim.Native.Nat.{ℕ, _+_, _*_, _≤_, _<_}
+use Prim.Native.Nat.{ℕ, _+_, _≤_, _<_}
 use native.Mathlib.Omega.{arith}
 use native.Mathlib.Decide.{ℕ-discrete, decLt}
 use lib.ListN.{length, getD, set, length-set}
@@ -27,6 +27,8 @@ use Rattle.shown.specs.States.{NamedRewrites, HasSlot, Slots}
 use Rattle.shown.specs.Kept.{Later, KeptRegion}
 use Rattle.shown.specs.laws.RegionsKept.{later-same, later-then, kept-same, kept-then, region-stays, set-stays, same-bundle}
 use Rattle.meaning.specs.facts.Parts.{run-before, run-behind}
+use Rattle.state.specs.Rows.{bundle-row-at, bundle-word-at, cases-at, cells-at, kind-ready, level-at, merges-at, no-total, region-kind}
+use Rattle.state.specs.Rows.{regions-at, returned-at, slot-size, types-at}
 
 -- ---- Steps that change one section and one word of the head, by which they are.
 -- Neither the record, nor the conditions, nor the cells, nor the totals of these: of a section by its name, `omega arith` proves it.
@@ -34,8 +36,8 @@ pub record MakesNothing (k : Section) (i : ℕ) : Type 0 where
   pub not-front : number sections.front ≡ number k → ⊥
   pub not-conditions : number sections.conditions ≡ number k → ⊥
   pub not-cells : number sections.cells ≡ number k → ⊥
-  pub not-merges : 2 ≡ i → ⊥
-  pub not-cell-total : 4 ≡ i → ⊥
+  pub not-merges : merges-at ≡ i → ⊥
+  pub not-cell-total : cells-at ≡ i → ⊥
 
 -- No list of the regions' own, and no bundles.
 pub record OfNoRegion (k : Section) : Type 0 where
@@ -48,7 +50,7 @@ pub record OfNoRegion (k : Section) : Type 0 where
   pub not-bundles : number sections.bundles ≡ number k → ⊥
 
 pub bundles-same : {w w′ : List ℕ} → section w′ bundles ≡ section w bundles → (p : ℕ) → SameBundle w w′ p
-bundles-same e p = record { words = λ i h. ap (λ l. getD l (7 * p + i) 0) e }
+bundles-same e p = record { words = λ i h. ap (λ l. getD l (bundle-word-at p i) 0) e }
 
 module _ {k : Section} {i : ℕ} {w w′ : List ℕ} (changes : ChangesOnly k i w w′) where
   pub later-by : MakesNothing k i → (g : Graph) → Later g w w′
@@ -56,11 +58,11 @@ module _ {k : Section} {i : ℕ} {w w′ : List ℕ} (changes : ChangesOnly k i 
       record {
         front = front-by changes (d .not-front);
         conditions-stay = condition-same (changes .others conditions (d .not-conditions) (omega arith))
-            (changes .others cells (d .not-cells) (omega arith)) (changes .totals 4 (d .not-cell-total))
-            (changes .totals 2 (d .not-merges));
+            (changes .others cells (d .not-cells) (omega arith)) (changes .totals cells-at (d .not-cell-total))
+            (changes .totals merges-at (d .not-merges));
         nodes-stay = λ n. record {
           nodes = rw (changes .others cells (d .not-cells) (omega arith)) (n .nodes);
-          made = rw (changes .totals 4 (d .not-cell-total)) (n .made);
+          made = rw (changes .totals cells-at (d .not-cell-total)) (n .made);
         };
       }
 
@@ -72,7 +74,7 @@ module _ {k : Section} {i : ℕ} {w w′ : List ℕ} (changes : ChangesOnly k i 
         handle = ap (λ l. getD l q 0) (changes .others children (d .not-children) (omega arith));
         body = ap (λ l. getD l q 0) (changes .others bodies (d .not-bodies) (omega arith));
         backedge = ap (λ l. getD l q 0) (changes .others backedges (d .not-backedges) (omega arith));
-        taken = λ j h. ap (λ l. getD l (8 * q + j) 0) (changes .others levels (d .not-levels) (omega arith));
+        taken = λ j h. ap (λ l. getD l (level-at q j) 0) (changes .others levels (d .not-levels) (omega arith));
         slot = λ j h. bundles-same (changes .others bundles (d .not-bundles) (omega arith)) (word w set-starts q + j);
       }
 
@@ -87,10 +89,10 @@ module _ {k : Section} {i : ℕ} {w w′ : List ℕ} (changes : ChangesOnly k i 
 
 -- ---- What the regions' states have besides the tables: where nothing of it changes, the words show the same states.
 pub record StatesStay (g : Graph) (w w′ : List ℕ) : Type 0 where
-  pub same-kinds : (q : ℕ) → q < length (g .regions) → word w′ kinds q ≡ word w kinds q
+  pub same-kinds : (q : ℕ) → q < length (g .regions) → region-kind w′ q ≡ region-kind w q
   pub same-starts : (a : ℕ) → a < 33 → word w′ set-starts a ≡ word w set-starts a
-  pub same-returned : (k : ℕ) → 8 ≤ k → word w′ head k ≡ word w head k
-  pub ready-kept : (q : ℕ) → q < length (g .regions) → word w kinds q ≡ 2 → KeptRegion w w′ q
+  pub same-returned : (k : ℕ) → returned-at ≤ k → word w′ head k ≡ word w head k
+  pub ready-kept : (q : ℕ) → q < length (g .regions) → region-kind w q ≡ kind-ready → KeptRegion w w′ q
 
 pub states-then : {g : Graph} {w w₁ w₂ : List ℕ} → StatesStay g w w₁ → StatesStay g w₁ w₂ → StatesStay g w w₂
 states-then a b =
@@ -141,8 +143,8 @@ module _ {g : Graph} {w w′ : List ℕ} (later : Later g w w′) (stay : States
         regions = λ q h. subst (λ z. ShowsRegion g w′ q (getD z q not-begun)) (sym e) (region-next q h (x .regions q h));
         slots = slots-stay (λ a h. stay .same-starts a h) (x .slots);
         returned = (let y = x .returned in record {
-          size = stay .same-returned 8 (omega arith) ∙ y .size;
-          types = λ k h. stay .same-returned (9 + k) (omega arith) ∙ y .types k h;
+          size = stay .same-returned returned-at (omega arith) ∙ y .size;
+          types = λ k h. stay .same-returned (types-at + k) (omega arith) ∙ y .types k h;
         });
       }
 
@@ -159,7 +161,7 @@ pub aside-same : (g : Graph) (w : List ℕ) → Aside g w w
 aside-same g w =
     record {
       later = later-same g w;
-      states = states-by (nothing-changes head 0 w) (omega arith) (omega arith) (omega arith) g;
+      states = states-by (nothing-changes head regions-at w) (omega arith) (omega arith) (omega arith) g;
       regions = kept-same w;
     }
 
@@ -207,7 +209,7 @@ pub record Concerns (g : Graph) (r : ℕ) (w w′ : List ℕ) : Type 0 where
   pub later : Later g w w′
   pub tables : SameTables w w′
   pub others : (q : ℕ) → HasSlot (length (g .regions)) q → (q ≡ r → ⊥) → KeptRegion w w′ q
-  pub same-kinds : (q : ℕ) → word w′ kinds q ≡ word w kinds q
+  pub same-kinds : (q : ℕ) → region-kind w′ q ≡ region-kind w q
   pub same-starts : (q : ℕ) → word w′ set-starts q ≡ word w set-starts q
   pub same-head : (q : ℕ) → word w′ head q ≡ word w head q
 
@@ -233,7 +235,7 @@ module _ (g : Graph) (w : List ℕ) where
         handle = word-apart w k r x children q n;
         body = word-apart w k r x bodies q n;
         backedge = word-apart w k r x backedges q n;
-        taken = λ j h. ap (λ l. getD l (8 * q + j) 0) (section-other w k r x levels (omega arith));
+        taken = λ j h. ap (λ l. getD l (level-at q j) 0) (section-other w k r x levels (omega arith));
         slot = λ j h. bundles-same (section-other w k r x bundles (omega arith)) (word w set-starts q + j);
       }
 
@@ -241,7 +243,7 @@ module _ (g : Graph) (w : List ℕ) where
   word-concerns k d r x =
       let a = d .behind-kinds in
       let b = d .before-levels in
-      let changes = word-changes k 16 w (omega arith) r x in
+      let changes = word-changes k no-total w (omega arith) r x in
       record {
         later = later-by changes (omega arith) g;
         tables = tables-by changes (omega arith) (omega arith);
@@ -273,7 +275,7 @@ module _ (g : Graph) (w : List ℕ) where
         (with-tables (set (s .region-states) r y) (s .region-input-rewrites) (s .node-outputs) s)
     kind-set {s} b x {y} shown below own =
         let w′ = stored w kinds r x in
-        let changes = word-changes kinds 16 w (omega arith) r x in
+        let changes = word-changes kinds no-total w (omega arith) r x in
         let later = later-by changes (omega arith) g in
         let t = tables-by changes (omega arith) (omega arith) in
         let n = shown .size in
@@ -289,17 +291,17 @@ module _ (g : Graph) (w : List ℕ) where
           ];
           slots = slots-stay (λ a h. ap (λ l. getD l a 0) (changes .others set-starts (omega arith) (omega arith))) (shown .slots);
           returned = (let z = shown .returned in record {
-            size = changes .totals 8 (omega arith) ∙ z .size;
-            types = λ k h. ap (λ l. getD l (9 + k) 0) (section-other w kinds r x head (omega arith)) ∙ z .types k h;
+            size = changes .totals returned-at (omega arith) ∙ z .size;
+            types = λ k h. ap (λ l. getD l (types-at + k) 0) (section-other w kinds r x head (omega arith)) ∙ z .types k h;
           });
         }
 
 -- ---- How a target was taken. (A case of the select under way is of no region: `later-by`, `tables-by`, `kept-by` and `states-by`.)
 module _ (g : Graph) (w : List ℕ) where
-  pub taken-concerns : (r j x : ℕ) → j < 8 → Concerns g r w (stored w levels (8 * r + j) x)
+  pub taken-concerns : (r j x : ℕ) → j < 8 → Concerns g r w (stored w levels (level-at r j) x)
   taken-concerns r j x b =
-      let i = 8 * r + j in
-      let changes = word-changes levels 16 w (omega arith) i x in
+      let i = level-at r j in
+      let changes = word-changes levels no-total w (omega arith) i x in
       record {
         later = later-by changes (omega arith) g;
         tables = tables-by changes (omega arith) (omega arith);
@@ -309,7 +311,7 @@ module _ (g : Graph) (w : List ℕ) where
           handle = ap (λ l. getD l q 0) (changes .others children (omega arith) (omega arith));
           body = ap (λ l. getD l q 0) (changes .others bodies (omega arith) (omega arith));
           backedge = ap (λ l. getD l q 0) (changes .others backedges (omega arith) (omega arith));
-          taken = λ k h. word-apart w levels i x levels (8 * q + k) (omega arith);
+          taken = λ k h. word-apart w levels i x levels (level-at q k) (omega arith);
           slot = λ k h. bundles-same (changes .others bundles (omega arith) (omega arith)) (word w set-starts q + k);
         };
         same-kinds = λ q. ap (λ l. getD l q 0) (changes .others kinds (omega arith) (omega arith));
@@ -319,38 +321,38 @@ module _ (g : Graph) (w : List ℕ) where
 
 -- ---- Words of bundle p: no other bundle changes, and no region whose slot has it not.
 pub record OnlyBundle (p : ℕ) (w w′ : List ℕ) : Type 0 where
-  pub changes : ChangesOnly bundles 7 w w′
+  pub changes : ChangesOnly bundles cases-at w w′
   pub same-head : section w′ head ≡ section w head
   pub others : (q : ℕ) → (q ≡ p → ⊥) → SameBundle w w′ q
 
 module _ (w : List ℕ) (p : ℕ) where
   pub bundle-same : OnlyBundle p w w
-  bundle-same = record { changes = nothing-changes bundles 7 w; same-head = refl; others = λ q d. same-bundle w q }
+  bundle-same = record { changes = nothing-changes bundles cases-at w; same-head = refl; others = λ q d. same-bundle w q }
 
-  pub bundle-word : (i x : ℕ) → i < 7 → OnlyBundle p w (stored w bundles (7 * p + i) x)
-  bundle-word i x h =
+  pub bundle-word-concerns : (i x : ℕ) → i < 7 → OnlyBundle p w (stored w bundles (bundle-word-at p i) x)
+  bundle-word-concerns i x h =
       record {
-        changes = word-changes bundles 7 w (omega arith) (7 * p + i) x;
-        same-head = section-other w bundles (7 * p + i) x head (omega arith);
-        others = λ q d. record { words = λ j a. word-apart w bundles (7 * p + i) x bundles (7 * q + j) (omega arith) };
+        changes = word-changes bundles cases-at w (omega arith) (bundle-word-at p i) x;
+        same-head = section-other w bundles (bundle-word-at p i) x head (omega arith);
+        others = λ q d. record { words = λ j a. word-apart w bundles (bundle-word-at p i) x bundles (bundle-word-at q j) (omega arith) };
       }
 
   -- Up to seven words from its first on.
-  pub bundle-run : (xs : List ℕ) → length xs ≤ 7 → OnlyBundle p w (stored-all w bundles (7 * p) xs)
+  pub bundle-run : (xs : List ℕ) → length xs ≤ 7 → OnlyBundle p w (stored-all w bundles (bundle-row-at p) xs)
   bundle-run xs h =
       record {
-        changes = run-changes bundles 7 w (omega arith) (7 * p) xs;
-        same-head = run-other w bundles (7 * p) xs head (omega arith);
+        changes = run-changes bundles cases-at w (omega arith) (bundle-row-at p) xs;
+        same-head = run-other w bundles (bundle-row-at p) xs head (omega arith);
         others = λ q d. record {
-          words = λ j a. rw (section-run w bundles (7 * p) xs) (elim (decLt q p) [
-            | yes b ↦ run-before (section w bundles) (7 * p) xs (7 * q + j) (omega arith)
-            | no b ↦ run-behind (section w bundles) (7 * p) xs (7 * q + j) (omega arith)
+          words = λ j a. rw (section-run w bundles (bundle-row-at p) xs) (elim (decLt q p) [
+            | yes b ↦ run-before (section w bundles) (bundle-row-at p) xs (bundle-word-at q j) (omega arith)
+            | no b ↦ run-behind (section w bundles) (bundle-row-at p) xs (bundle-word-at q j) (omega arith)
           ]);
         };
       }
 
 module _ {p : ℕ} {w w′ : List ℕ} (only : OnlyBundle p w w′) where
-  pub kept-bundle : (q : ℕ) → ((i : ℕ) → i < 33 → word w set-starts q + i ≡ p → ⊥) → KeptRegion w w′ q
+  pub kept-bundle : (q : ℕ) → ((i : ℕ) → i < slot-size → word w set-starts q + i ≡ p → ⊥) → KeptRegion w w′ q
   kept-bundle q d =
       let changes = only .changes in
       record {
@@ -359,12 +361,12 @@ module _ {p : ℕ} {w w′ : List ℕ} (only : OnlyBundle p w w′) where
         handle = ap (λ l. getD l q 0) (changes .others children (omega arith) (omega arith));
         body = ap (λ l. getD l q 0) (changes .others bodies (omega arith) (omega arith));
         backedge = ap (λ l. getD l q 0) (changes .others backedges (omega arith) (omega arith));
-        taken = λ j h. ap (λ l. getD l (8 * q + j) 0) (changes .others levels (omega arith) (omega arith));
+        taken = λ j h. ap (λ l. getD l (level-at q j) 0) (changes .others levels (omega arith) (omega arith));
         slot = λ j h. only .others (word w set-starts q + j) (d j h);
       }
 
   -- A bundle of region r's own slot.
-  pub bundle-concerns : (g : Graph) (r i : ℕ) → Slots (length (g .regions)) w → HasSlot (length (g .regions)) r → i < 33
+  pub bundle-concerns : (g : Graph) (r i : ℕ) → Slots (length (g .regions)) w → HasSlot (length (g .regions)) r → i < slot-size
       → p ≡ word w set-starts r + i → Concerns g r w w′
   bundle-concerns g r i slots a b e =
       let changes = only .changes in
@@ -384,9 +386,9 @@ module _ {p : ℕ} {w w′ : List ℕ} (only : OnlyBundle p w w′) where
 pub record OnlyRegion (g : Graph) (r : ℕ) (w w′ : List ℕ) : Type 0 where
   pub later : Later g w w′
   pub others : (q : ℕ) → HasSlot (length (g .regions)) q → (q ≡ r → ⊥) → KeptRegion w w′ q
-  pub same-kinds : (q : ℕ) → q < length (g .regions) → word w′ kinds q ≡ word w kinds q
+  pub same-kinds : (q : ℕ) → q < length (g .regions) → region-kind w′ q ≡ region-kind w q
   pub same-starts : (a : ℕ) → a < 33 → word w′ set-starts a ≡ word w set-starts a
-  pub same-returned : (k : ℕ) → 8 ≤ k → word w′ head k ≡ word w head k
+  pub same-returned : (k : ℕ) → returned-at ≤ k → word w′ head k ≡ word w head k
 
 pub only-region-then : {g : Graph} {r : ℕ} {w w₁ w₂ : List ℕ} → OnlyRegion g r w w₁ → OnlyRegion g r w₁ w₂ → OnlyRegion g r w w₂
 only-region-then a b =
@@ -419,16 +421,17 @@ only-region-concerns c =
     }
 
 -- A region that is not Ready shows nothing of its own.
-pub only-region-states : {g : Graph} {r : ℕ} {w w′ : List ℕ} → OnlyRegion g r w w′ → length (g .regions) ≤ 32 → (word w kinds r ≡ 2 → ⊥)
+pub only-region-states : {g : Graph} {r : ℕ} {w w′ : List ℕ} → OnlyRegion g r w w′ → length (g .regions) ≤ 32
+    → (region-kind w r ≡ kind-ready → ⊥)
     → StatesStay g w w′
 only-region-states {w} c few d =
     record {
       same-kinds = c .same-kinds;
       same-starts = c .same-starts;
       same-returned = c .same-returned;
-      ready-kept = λ q h e. c .others q (omega arith) (λ z. d (ap (λ p. word w kinds p) (sym z) ∙ e));
+      ready-kept = λ q h e. c .others q (omega arith) (λ z. d (ap (λ p. region-kind w p) (sym z) ∙ e));
     }
 
 pub concerns-states : {g : Graph} {r : ℕ} {w w′ : List ℕ} → Concerns g r w w′ → length (g .regions) ≤ 32
-    → (word w kinds r ≡ 2 → ⊥) → StatesStay g w w′
+    → (region-kind w r ≡ kind-ready → ⊥) → StatesStay g w w′
 concerns-states c few d = only-region-states (only-region-concerns c) few d

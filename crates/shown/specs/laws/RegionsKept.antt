@@ -7,12 +7,13 @@ use Rattle.meaning.specs.Graph.{Graph}
 use Rattle.meaning.specs.Runs.{Nodes}
 use Rattle.nesting.specs.Nesting.{DeferredEdgeBundle, DeferredEdgeBundleSet, Body, StructurizeRegionState}
 use Rattle.nesting.specs.Nesting.{ClaimedRegion}
-use Rattle.state.specs.Sections.{word, kinds, set-starts, children}
+use Rattle.state.specs.Sections.{word, set-starts, children}
 use Rattle.shown.specs.laws.FrontKept.{front-same, front-then}
 use Rattle.shown.specs.Sets.{ShowsBundle, ShowsSet, SameBundle}
 use Rattle.shown.specs.Cells.{ShowsChildren}
 use Rattle.shown.specs.States.{ShowsOwnSet, ShowsRegion, is-not-begun, is-in-progress, is-ready, is-claimed, ShowsBody, ShowsClaimed}
 use Rattle.shown.specs.Kept.{Later, KeptRegion}
+use Rattle.state.specs.Rows.{region-kind}
 
 pub later-same : (g : Graph) (w : List ℕ) → Later g w w
 later-same g w = record { front = front-same w; conditions-stay = λ c. c; nodes-stay = λ n. n }
@@ -93,14 +94,14 @@ module _ {g : Graph} {w w′ : List ℕ} (later : Later g w w′) {q : ℕ} (kep
   pub body-stays : {x : Body} → ShowsBody g w q x → ShowsBody g w′ q x
   body-stays y = record { nodes = children-stay (y .nodes); set = own-set-stays (y .set) }
 
-  pub region-stays : word w′ kinds q ≡ word w kinds q → {x : StructurizeRegionState} → ShowsRegion g w q x → ShowsRegion g w′ q x
+  pub region-stays : region-kind w′ q ≡ region-kind w q → {x : StructurizeRegionState} → ShowsRegion g w q x → ShowsRegion g w′ q x
   region-stays e (is-not-begun a) = is-not-begun (e ∙ a)
   region-stays e (is-in-progress a) = is-in-progress (e ∙ a)
   region-stays e (is-ready a b n d) = is-ready (e ∙ a) (kept .backedge ∙ b) (children-stay n) (own-set-stays d)
   region-stays e (is-claimed a) = is-claimed (e ∙ a)
 
 pub claimed-stays : {g : Graph} {w w′ : List ℕ} → Later g w w′ → {c : ClaimedRegion} → KeptRegion w w′ (c .origin)
-    → word w′ kinds (c .origin) ≡ word w kinds (c .origin) → ShowsClaimed g w c → ShowsClaimed g w′ c
+    → region-kind w′ (c .origin) ≡ region-kind w (c .origin) → ShowsClaimed g w c → ShowsClaimed g w′ c
 claimed-stays later kept e x =
     record {
       in-graph = x .in-graph;

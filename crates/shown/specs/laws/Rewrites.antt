@@ -4,7 +4,7 @@ use mathlib.Core.Logic.{_⊎_, inl, inr}
 use mathlib.Core.Bool.{Bool, true, false}
 use mathlib.Core.List.{List, [], _∷_, _++_, map, List·Memᴰ, List·Memᴰ·append-cases, List·Memᴰ·eq-of-singleton, map-append}
 use mathlib.Core.Option.{Option, none, some}
-use Prim.Native.Nat.{ℕ, suc, _+_, _*_, _-_, _≤_, _<_}
+use Prim.Native.Nat.{ℕ, suc, _+_, _-_, _≤_, _<_}
 use native.Mathlib.Omega.{arith}
 use native.Mathlib.Decide.{decLt, ℕ-discrete}
 use native.Mathlib.Numerals.{add-one}
@@ -16,7 +16,7 @@ use Rattle.meaning.specs.facts.Tests.{clash, in-or-out}
 use Rattle.nesting.specs.Nesting.{RegionInputRewrites, replace-with, renumber-or-replace-with, RewriteEntry, NestState, rewrites-of}
 use Rattle.nesting.specs.Nesting.{with-tables, most-regions}
 use Rattle.nesting.specs.lookups.ChainEnds.{entry-kept}
-use Rattle.state.specs.Sections.{section, word, stored, stored-all, rewrites, outputs, start, size, used, entries-at}
+use Rattle.state.specs.Sections.{section, word, stored, stored-all, rewrites, outputs, start, size, used}
 use Rattle.state.specs.laws.Apart.{section-stored}
 use Rattle.state.specs.Tables.{entry-kind, rewrite-kind, entries, cleared, reached, inserted}
 use Rattle.shown.specs.Values.{value}
@@ -27,6 +27,8 @@ use Rattle.meaning.specs.facts.Parts.{run-before, run-behind, run-in}
 use Rattle.shown.specs.Tables.{ShowsEntry, no-entry, replaces, renumbers, EntryWords, replace-words, renumber-words, ShowsRewrites}
 use Rattle.shown.specs.Tables.{ShowsTables}
 use Rattle.meaning.specs.Lists.{pick}
+use Rattle.state.specs.Rows.{attempts-at, entries-at, entry-none, merges-at, no-total, nodes-at, outputs-at, regions-at, rewrite-kind-at}
+use Rattle.state.specs.Rows.{rewrite-row-size, rewrite-value, rewrite-value-at, rewrite-values-at, twice-at}
 
 -- ---- The log with an entry more.
 of-other : (es : List RewriteEntry) (e : RewriteEntry) (q : ℕ) → eqb q (e .region) ≡ false
@@ -46,19 +48,19 @@ of-new (y ∷ es) e q h n = go (eqb q (y .region)) n (λ m. of-new es e q h m)
     go false n ih = ih n
 
 -- What the words of a region say of its entry.
-none-if : {l : List ℕ} {r : ℕ} {o : Option RegionInputRewrites} → ShowsEntry l r o → entry-kind l r ≡ 0 → o ≡ none
+none-if : {l : List ℕ} {r : ℕ} {o : Option RegionInputRewrites} → ShowsEntry l r o → entry-kind l r ≡ entry-none → o ≡ none
 none-if (no-entry e) h = refl
 none-if (replaces e f) h = absurd (omega arith)
 none-if (renumbers e f) h = absurd (omega arith)
 
-some-if : {l : List ℕ} {r : ℕ} {o : Option RegionInputRewrites} → ShowsEntry l r o → (entry-kind l r ≡ 0 → ⊥)
+some-if : {l : List ℕ} {r : ℕ} {o : Option RegionInputRewrites} → ShowsEntry l r o → (entry-kind l r ≡ entry-none → ⊥)
     → (x : RegionInputRewrites) × (o ≡ some x)
 some-if (no-entry e) h = absurd (h e)
 some-if (replaces {vs} e f) h = (replace-with vs, refl)
 some-if (renumbers {xs} e f) h = (renumber-or-replace-with xs, refl)
 
 entry-same : (l l′ : List ℕ) (r : ℕ) → entry-kind l′ r ≡ entry-kind l r
-    → ((k : ℕ) → k < 4 → getD l′ (5 * r + 1 + k) 0 ≡ getD l (5 * r + 1 + k) 0) → {o : Option RegionInputRewrites}
+    → ((k : ℕ) → k < 4 → getD l′ (rewrite-value-at r k) 0 ≡ getD l (rewrite-value-at r k) 0) → {o : Option RegionInputRewrites}
     → ShowsEntry l r o → ShowsEntry l′ r o
 entry-same l l′ r s t (no-entry e) = no-entry (s ∙ e)
 entry-same l l′ r s t (replaces e f) = replaces (s ∙ e) (λ k h. ap value (t k h) ∙ f k h)
@@ -67,9 +69,9 @@ entry-same l l′ r s t (renumbers {xs} e f) = renumbers {xs = xs} (s ∙ e) (λ
 -- ---- Region r's entry is set, and no other changes.
 pub record Enters (l l′ : List ℕ) (r kind : ℕ) (ws : List ℕ) : Type 0 where
   pub kind-set : entry-kind l′ r ≡ kind
-  pub words-set : (k : ℕ) → k < 4 → getD l′ (5 * r + 1 + k) 0 ≡ getD ws k 0
+  pub words-set : (k : ℕ) → k < 4 → getD l′ (rewrite-value-at r k) 0 ≡ getD ws k 0
   pub other-kinds : (q : ℕ) → q < most-regions → (q ≡ r → ⊥) → entry-kind l′ q ≡ entry-kind l q
-  pub other-words : (q k : ℕ) → q < most-regions → (q ≡ r → ⊥) → k < 4 → getD l′ (5 * q + 1 + k) 0 ≡ getD l (5 * q + 1 + k) 0
+  pub other-words : (q k : ℕ) → q < most-regions → (q ≡ r → ⊥) → k < 4 → getD l′ (rewrite-value-at q k) 0 ≡ getD l (rewrite-value-at q k) 0
 
 -- Up to it entries are set: those that were not, to none.
 module _ (w : List ℕ) (r : ℕ) where
@@ -90,24 +92,26 @@ module _ (w : List ℕ) (r : ℕ) where
   reached-changes : (i : ℕ) → ChangesOnly rewrites i w (reached w r)
   reached-changes i =
       by-reach (λ z. ChangesOnly rewrites i w z) (λ a. nothing-changes rewrites i w)
-      (λ a. changes-then (fill-changes rewrites (λ q. 5 * q) (λ q. 0) (omega arith) i (r - entries w) (entries w) w)
+      (λ a. changes-then (fill-changes rewrites (λ q. rewrite-kind-at q) (λ q. 0) (omega arith) i (r - entries w) (entries w) w)
       (word-changes rewrites i between (omega arith) entries-at (r + 1)))
 
   module _ (room : used ≤ length w) where
     newly-many : entries newly ≡ r + 1
     newly-many =
-        let e = fill-length rewrites (λ q. 5 * q) (λ q. 0) (r - entries w) (entries w) w in
+        let e = fill-length rewrites (λ q. rewrite-kind-at q) (λ q. 0) (r - entries w) (entries w) w in
         word-there between rewrites entries-at (r + 1) (omega arith) (omega arith)
 
-    newly-word : (i : ℕ) → i < entries-at → ((q : ℕ) → entries w ≤ q → i ≡ 5 * q → ⊥) → word newly rewrites i ≡ word w rewrites i
+    newly-word : (i : ℕ) → i < entries-at → ((q : ℕ) → entries w ≤ q → i ≡ rewrite-kind-at q → ⊥)
+        → word newly rewrites i ≡ word w rewrites i
     newly-word i h d =
         word-apart between rewrites entries-at (r + 1) rewrites i (omega arith)
-        ∙ fill-beside rewrites (λ q. 5 * q) (λ q. 0) (r - entries w) (entries w) w i d
+        ∙ fill-beside rewrites (λ q. rewrite-kind-at q) (λ q. 0) (r - entries w) (entries w) w i d
 
-    newly-none : (q : ℕ) → q < most-regions → entries w ≤ q → q < r → word newly rewrites (5 * q) ≡ 0
+    newly-none : (q : ℕ) → q < most-regions → entries w ≤ q → q < r → word newly rewrites (rewrite-kind-at q) ≡ 0
     newly-none q h a b =
-        word-apart between rewrites entries-at (r + 1) rewrites (5 * q) (omega arith)
-        ∙ fill-there rewrites (λ q. 5 * q) (λ q. 0) (λ a b c e. omega arith) (r - entries w) (entries w) w (omega arith) q a (omega arith)
+        word-apart between rewrites entries-at (r + 1) rewrites (rewrite-kind-at q) (omega arith)
+        ∙ fill-there rewrites (λ q. rewrite-kind-at q) (λ q. 0) (λ a b c e. omega arith) (r - entries w) (entries w) w (omega arith) q a
+        (omega arith)
         (omega arith)
 
     newly-kind : entries w ≤ r → (q : ℕ) → q < most-regions → (q ≡ r → ⊥) → rewrite-kind newly q ≡ rewrite-kind w q
@@ -117,7 +121,7 @@ module _ (w : List ℕ) (r : ℕ) where
         go : (q < entries w) ⊎ (entries w ≤ q) → (q < r) ⊎ (r ≤ q) → rewrite-kind newly q ≡ rewrite-kind w q
         go (inl a) b =
             rw (newly-many, lt-ltb q (r + 1) (omega arith), lt-ltb q (entries w) a)
-            (newly-word (5 * q) (omega arith) (λ m c e. omega arith))
+            (newly-word (rewrite-kind-at q) (omega arith) (λ m c e. omega arith))
         go (inr a) (inl b) =
             rw (newly-many, lt-ltb q (r + 1) (omega arith), le-ltb q (entries w) a) (newly-none q h a b)
         go (inr a) (inr b) = rw (newly-many, le-ltb q (r + 1) (omega arith), le-ltb q (entries w) a)
@@ -128,57 +132,59 @@ module _ (w : List ℕ) (r : ℕ) where
     reached-kind : (q : ℕ) → q < most-regions → (q ≡ r → ⊥) → rewrite-kind (reached w r) q ≡ rewrite-kind w q
     reached-kind q h d = by-reach (λ z. rewrite-kind z q ≡ rewrite-kind w q) (λ a. refl) (λ a. newly-kind a q h d)
 
-    reached-word : (q k : ℕ) → q < most-regions → k < 4 → word (reached w r) rewrites (5 * q + 1 + k) ≡ word w rewrites (5 * q + 1 + k)
+    reached-word : (q k : ℕ) → q < most-regions → k < 4 → rewrite-value (reached w r) q k ≡ rewrite-value w q k
     reached-word q k h i =
-        by-reach (λ z. word z rewrites (5 * q + 1 + k) ≡ word w rewrites (5 * q + 1 + k)) (λ a. refl)
-        (λ a. newly-word (5 * q + 1 + k) (omega arith) (λ m c e. omega arith))
+        by-reach (λ z. rewrite-value z q k ≡ rewrite-value w q k) (λ a. refl)
+        (λ a. newly-word (rewrite-value-at q k) (omega arith) (λ m c e. omega arith))
 
 -- Then the five words of its own.
 module _ (l : List ℕ) (r kind : ℕ) (ws : List ℕ) (long : entries-at < length l) (len : length ws ≡ 4) (below : r < most-regions) where
   abbrev entered : List ℕ
-  entered = sets l (5 * r) (kind ∷ ws)
+  entered = sets l (rewrite-kind-at r) (kind ∷ ws)
 
   entered-many : getD entered entries-at 0 ≡ getD l entries-at 0
-  entered-many = run-behind l (5 * r) (kind ∷ ws) entries-at (omega arith)
+  entered-many = run-behind l (rewrite-kind-at r) (kind ∷ ws) entries-at (omega arith)
 
-  entered-other : (q i : ℕ) → (q ≡ r → ⊥) → 5 * q ≤ i → i < 5 * q + 5 → getD entered i 0 ≡ getD l i 0
+  entered-other : (q i : ℕ) → (q ≡ r → ⊥) → rewrite-kind-at q ≤ i → i < rewrite-kind-at q + rewrite-row-size → getD entered i 0 ≡ getD l i 0
   entered-other q i d a b =
       elim (decLt q r) [
-        | yes h ↦ run-before l (5 * r) (kind ∷ ws) i (omega arith)
+        | yes h ↦ run-before l (rewrite-kind-at r) (kind ∷ ws) i (omega arith)
         | no h ↦
-            run-behind l (5 * r) (kind ∷ ws) i (omega arith)
+            run-behind l (rewrite-kind-at r) (kind ∷ ws) i (omega arith)
       ]
 
   entered-kind : r < getD l entries-at 0 → entry-kind entered r ≡ kind
   unfolding entry-kind
   entered-kind h =
-      let e : 5 * r ≡ 5 * r + 0 = omega arith in
+      let e : rewrite-kind-at r ≡ rewrite-kind-at r + 0 = omega arith in
       rw (entered-many, lt-ltb r (getD l entries-at 0) h)
-      (ap (λ i. getD entered i 0) e ∙ run-in l (5 * r) (kind ∷ ws) 0 (omega arith) (omega arith))
+      (ap (λ i. getD entered i 0) e ∙ run-in l (rewrite-kind-at r) (kind ∷ ws) 0 (omega arith) (omega arith))
 
   entered-kinds : (q : ℕ) → (q ≡ r → ⊥) → entry-kind entered q ≡ entry-kind l q
   unfolding entry-kind
-  entered-kinds q d = rw (entered-many, entered-other q (5 * q) d (omega arith) (omega arith))
+  entered-kinds q d = rw (entered-many, entered-other q (rewrite-kind-at q) d (omega arith) (omega arith))
 
-  entered-word : (k : ℕ) → k < 4 → getD entered (5 * r + 1 + k) 0 ≡ getD ws k 0
+  entered-word : (k : ℕ) → k < 4 → getD entered (rewrite-value-at r k) 0 ≡ getD ws k 0
   entered-word k h =
-      let e : 5 * r + 1 + k ≡ 5 * r + suc k = omega arith in
-      ap (λ i. getD entered i 0) e ∙ run-in l (5 * r) (kind ∷ ws) (suc k) (omega arith) (omega arith)
+      let e : rewrite-kind-at r + 1 + k ≡ rewrite-kind-at r + suc k = omega arith in
+      ap (λ i. getD entered i 0) e ∙ run-in l (rewrite-kind-at r) (kind ∷ ws) (suc k) (omega arith) (omega arith)
 
 -- ---- An insertion: it enters, or changes nothing.
 module _ (w : List ℕ) (room : used ≤ length w) (r kind : ℕ) (ws : List ℕ) (below : r < most-regions) (len : length ws ≡ 4) where
   abbrev first : List ℕ
-  first = stored (reached w r) rewrites (5 * r) kind
+  first = stored (reached w r) rewrites (rewrite-kind-at r) kind
 
-  inserted-section : section (stored-all first rewrites (5 * r + 1) ws) rewrites ≡ sets (section (reached w r) rewrites) (5 * r) (kind ∷ ws)
-  inserted-section = section-run first rewrites (5 * r + 1) ws ∙ rw (section-stored (reached w r) rewrites (5 * r) kind, add-one (5 * r))
+  inserted-section : section (stored-all first rewrites (rewrite-values-at r) ws) rewrites ≡ sets (section (reached w r) rewrites)
+      (rewrite-kind-at r) (kind ∷ ws)
+  inserted-section = section-run first rewrites (rewrite-values-at r) ws
+      ∙ rw (section-stored (reached w r) rewrites (rewrite-kind-at r) kind, add-one (rewrite-kind-at r))
 
   reached-long : entries-at < length (section (reached w r) rewrites)
   reached-long =
-      let e = reached-changes w r 16 .words in
+      let e = reached-changes w r no-total .words in
       let f = part-length (start rewrites) (size rewrites) (reached w r) (omega arith) in omega arith
 
-  inserted-enters : Enters (section w rewrites) (section (stored-all first rewrites (5 * r + 1) ws) rewrites) r kind ws
+  inserted-enters : Enters (section w rewrites) (section (stored-all first rewrites (rewrite-values-at r) ws) rewrites) r kind ws
   inserted-enters =
       let l = section (reached w r) rewrites in
       rw inserted-section
@@ -187,18 +193,18 @@ module _ (w : List ℕ) (room : used ≤ length w) (r kind : ℕ) (ws : List ℕ
         words-set = entered-word l r kind ws reached-long len below;
         other-kinds = λ q h d. entered-kinds l r kind ws reached-long len below q d ∙ reached-kind w r room q h d;
         other-words = λ q k h d i.
-            entered-other l r kind ws reached-long len below q (5 * q + 1 + k) d (omega arith) (omega arith)
+            entered-other l r kind ws reached-long len below q (rewrite-value-at q k) d (omega arith) (omega arith)
             ∙ reached-word w r room q k h i;
       }
 
   pub by-insertion : (P : List ℕ → Type 0)
-      → ((w′ : List ℕ) → rewrite-kind w r ≡ 0 → Enters (section w rewrites) (section w′ rewrites) r kind ws → P w′)
-      → ((rewrite-kind w r ≡ 0 → ⊥) → P w) → P (inserted w r kind ws)
+      → ((w′ : List ℕ) → rewrite-kind w r ≡ entry-none → Enters (section w rewrites) (section w′ rewrites) r kind ws → P w′)
+      → ((rewrite-kind w r ≡ entry-none → ⊥) → P w) → P (inserted w r kind ws)
   unfolding inserted
   by-insertion P enters stays =
-      rw (lt-ltb r most-regions below) (elim (ℕ-discrete (rewrite-kind w r) 0) [
-        | yes e ↦ rw (eq-eqb (rewrite-kind w r) 0 e) (enters _ e inserted-enters)
-        | no d ↦ rw (ne-eqb (rewrite-kind w r) 0 d) (stays d)
+      rw (lt-ltb r most-regions below) (elim (ℕ-discrete (rewrite-kind w r) entry-none) [
+        | yes e ↦ rw (eq-eqb (rewrite-kind w r) entry-none e) (enters _ e inserted-enters)
+        | no d ↦ rw (ne-eqb (rewrite-kind w r) entry-none d) (stays d)
       ])
 
 -- ---- The entries after an insertion.
@@ -220,7 +226,7 @@ module _ (l : List ℕ) (es : List RewriteEntry) (shown : ShowsRewrites l es) (r
       go (inl i) = shown .logged q i
       go (inr i) = let e = List·Memᴰ·eq-of-singleton i in omega arith
 
-  first-entry : (l′ : List ℕ) → Enters l l′ r kind ws → entry-kind l r ≡ 0 → EntryWords r kind ws x
+  first-entry : (l′ : List ℕ) → Enters l l′ r kind ws → entry-kind l r ≡ entry-none → EntryWords r kind ws x
       → ShowsRewrites l′ (es ++ (new-entry ∷ []))
   first-entry l′ s free words =
       record {
@@ -232,7 +238,7 @@ module _ (l : List ℕ) (es : List RewriteEntry) (shown : ShowsRewrites l es) (r
         logged = logged-more;
       }
 
-  later-entry : (entry-kind l r ≡ 0 → ⊥) → ShowsRewrites l (es ++ (new-entry ∷ []))
+  later-entry : (entry-kind l r ≡ entry-none → ⊥) → ShowsRewrites l (es ++ (new-entry ∷ []))
   later-entry taken =
       record {
         entry = λ q h. elim (ℕ-discrete q r) [
@@ -245,18 +251,18 @@ module _ (l : List ℕ) (es : List RewriteEntry) (shown : ShowsRewrites l es) (r
 
 pub insert-changes : (w : List ℕ) (r kind : ℕ) (ws : List ℕ) (i : ℕ) → ChangesOnly rewrites i w (inserted w r kind ws)
 unfolding inserted
-insert-changes w r kind ws i = go (ltb r most-regions) (eqb (rewrite-kind w r) 0)
+insert-changes w r kind ws i = go (ltb r most-regions) (eqb (rewrite-kind w r) entry-none)
   where
     after : List ℕ
-    after = stored (reached w r) rewrites (5 * r) kind
+    after = stored (reached w r) rewrites (rewrite-kind-at r) kind
 
-    go : (a b : Bool) → ChangesOnly rewrites i w (pick a (pick b (stored-all after rewrites (5 * r + 1) ws) w) w)
+    go : (a b : Bool) → ChangesOnly rewrites i w (pick a (pick b (stored-all after rewrites (rewrite-values-at r) ws) w) w)
     go false b = nothing-changes rewrites i w
     go true false = nothing-changes rewrites i w
     go true true =
         changes-then (reached-changes w r i)
-        (changes-then (word-changes rewrites i (reached w r) (omega arith) (5 * r) kind)
-        (run-changes rewrites i after (omega arith) (5 * r + 1) ws))
+        (changes-then (word-changes rewrites i (reached w r) (omega arith) (rewrite-kind-at r) kind)
+        (run-changes rewrites i after (omega arith) (rewrite-values-at r) ws))
 
 -- Code and definition enter the same.
 pub rewrites-inserted : {w w′ : List ℕ} {s : NestState} → ShowsTables w s → {r kind : ℕ} {ws : List ℕ} {x : RegionInputRewrites}
@@ -265,18 +271,18 @@ pub rewrites-inserted : {w w′ : List ℕ} {s : NestState} → ShowsTables w s 
     → ShowsTables w′ (with-tables (s .region-states) (s .region-input-rewrites ++ (record { region = r; rewrites = x } ∷ []))
     (s .node-outputs) s)
 rewrites-inserted {w} {w′} {s} t {r} {kind} {ws} {x} below len words e =
-    let g = insert-changes w r kind ws 16 in
+    let g = insert-changes w r kind ws no-total in
     let old = s .region-input-rewrites in
     let more : List RewriteEntry = old ++ (record { region = r; rewrites = x } ∷ []) in
     rw e
     record {
       size = rw (g .words) (t .size);
-      region-total = g .totals 0 (omega arith) ∙ t .region-total;
-      node-total = g .totals 1 (omega arith) ∙ t .node-total;
-      merge-total = g .totals 2 (omega arith) ∙ t .merge-total;
-      output-total = g .totals 3 (omega arith) ∙ t .output-total;
-      attempts = g .totals 5 (omega arith) ∙ t .attempts;
-      twice = g .totals 6 (omega arith) ∙ t .twice;
+      region-total = g .totals regions-at (omega arith) ∙ t .region-total;
+      node-total = g .totals nodes-at (omega arith) ∙ t .node-total;
+      merge-total = g .totals merges-at (omega arith) ∙ t .merge-total;
+      output-total = g .totals outputs-at (omega arith) ∙ t .output-total;
+      attempts = g .totals attempts-at (omega arith) ∙ t .attempts;
+      twice = g .totals twice-at (omega arith) ∙ t .twice;
       few-regions = t .few-regions;
       few-nodes = t .few-nodes;
       few-merges = t .few-merges;

@@ -2,7 +2,7 @@
 use mathlib.Core.Path.{_≡_, refl, sym, ap, _∙_}
 use mathlib.Core.Bool.{true, false}
 use mathlib.Core.List.{List, [], _∷_, _++_}
-use Prim.Native.Nat.{ℕ, zero, suc, _+_, _*_, _-_, _≤_, _<_}
+use Prim.Native.Nat.{ℕ, zero, suc, _+_, _-_, _≤_, _<_}
 use native.Mathlib.Omega.{arith}
 use native.Mathlib.Decide.{decLt, ℕ-discrete}
 use lib.ListN.{length, getD, take, drop, length-append, length-drop, List·getD-append}
@@ -27,6 +27,7 @@ use Rattle.shown.specs.laws.Stores.{word-there, word-apart}
 use Rattle.shown.specs.laws.SetStores.{OnlySets, only-same, only-word, only-run, only-then, only-later, only-kept, starts-of-sets}
 use Rattle.shown.specs.laws.SetStores.{lengths-of-sets, bundles-of-sets, word-other, run-elsewhere-word, Moves}
 use Rattle.shown.specs.laws.SetStores.{moves-then, same-moves, same-elsewhere, bundle-stored, copy-moves, copy-beside}
+use Rattle.state.specs.Rows.{bundle-condition, bundle-row-at, bundle-target, bundle-word, most-bundles}
 
 -- ---- Bundles and sets, moved.
 module _ {g : Graph} {w w′ : List ℕ} (later : Later g w w′) where
@@ -43,7 +44,7 @@ module _ {g : Graph} {w w′ : List ℕ} (later : Later g w w′) where
       }
 
   -- Bundle j of the new set is bundle f j of the old one.
-  pub set-moves : {start n start′ n′ : ℕ} {d d′ : DeferredEdgeBundleSet} (f : ℕ → ℕ) → n′ ≡ length d′ → n′ ≤ 33 → start′ + n′ ≤ 1097
+  pub set-moves : {start n start′ n′ : ℕ} {d d′ : DeferredEdgeBundleSet} (f : ℕ → ℕ) → n′ ≡ length d′ → n′ ≤ 33 → start′ + n′ ≤ most-bundles
       → ((j : ℕ) → j < n′ → f j < n) → ((i j : ℕ) → i < j → j < n′ → f i ≡ f j → ⊥)
       → ((j : ℕ) → j < n′ → Moves w w′ (start + f j) (start′ + j))
       → ((j : ℕ) → j < n′ → getD d′ j no-bundle ≡ getD d (f j) no-bundle)
@@ -55,7 +56,7 @@ module _ {g : Graph} {w w′ : List ℕ} (later : Later g w w′) where
         room = room;
         each = λ j h. rw (is j h) (bundle-moves (moves j h) (x .each (f j) (within j h)));
         apart = λ i j a b e.
-            let same : word w bundles (7 * (start + f i) + 0) ≡ word w bundles (7 * (start + f j) + 0) =
+            let same : bundle-target w (start + f i) ≡ bundle-target w (start + f j) =
             sym (moves i (omega arith) .words 0 (omega arith)) ∙ e ∙ moves j b .words 0 (omega arith) in
             elim (decLt (f i) (f j)) [
               | yes h ↦ x .apart (f i) (f j) h (within j b) same
@@ -64,7 +65,8 @@ module _ {g : Graph} {w w′ : List ℕ} (later : Later g w w′) where
             ];
       }
 
-pub set-of-one : {g : Graph} {w : List ℕ} {p : ℕ} {e : DeferredEdgeBundle} → p < 1097 → ShowsBundle g w p e → ShowsSet g w p 1 (e ∷ [])
+pub set-of-one : {g : Graph} {w : List ℕ} {p : ℕ} {e : DeferredEdgeBundle} → p < most-bundles → ShowsBundle g w p e
+    → ShowsSet g w p 1 (e ∷ [])
 set-of-one {g} {w} {p} {e} h x =
     record {
       size = refl;
@@ -172,13 +174,13 @@ module _ (w : List ℕ) (r b : ℕ) where
   pub swap-removed-only : OnlySets w (swap-removed w r b)
   swap-removed-only =
       by-length (λ l. OnlySets w l) (only-same w)
-      (only-then (only-run w bundles-of-sets (7 * b) _) (only-word (bundle-copied w b last-of) lengths-of-sets r _))
+      (only-then (only-run w bundles-of-sets (bundle-row-at b) _) (only-word (bundle-copied w b last-of) lengths-of-sets r _))
 
   pub swap-removed-starts : (q : ℕ) → word (swap-removed w r b) set-starts q ≡ word w set-starts q
   swap-removed-starts q =
       by-length (λ l. word l set-starts q ≡ word w set-starts q) refl
       (word-other (bundle-copied w b last-of) set-lengths r _ set-starts (omega arith) q
-      ∙ run-elsewhere-word w bundles (7 * b) _ set-starts (omega arith) q)
+      ∙ run-elsewhere-word w bundles (bundle-row-at b) _ set-starts (omega arith) q)
 
   pub swap-removed-beside : (p : ℕ) → (p ≡ b → ⊥) → SameBundle w (swap-removed w r b) p
   swap-removed-beside p d =
@@ -208,7 +210,7 @@ module _ {g : Graph} {w : List ℕ} (room : used ≤ length w) {r : ℕ} (below 
       let copied-words = bundle-copied w b (last-of w r b) in
       let at : last-of w r b ≡ own-start + (n - 1) = bundle-in own-start (n - 1) (omega arith) (omega arith) in
       let whole = swap-removed-is w r b (omega arith) in
-      let counted = only-run w bundles-of-sets (7 * b) (bundle-words w (last-of w r b)) .words in
+      let counted = only-run w bundles-of-sets (bundle-row-at b) (bundle-words w (last-of w r b)) .words in
       let new-length : word (swap-removed w r b) set-lengths r ≡ n - 1 =
       rw whole (length-stored copied-words (n - 1) (rw counted room)) in
       let out-size = out .size in
@@ -242,7 +244,8 @@ pub record Shifted (w w′ : List ℕ) (start i k : ℕ) : Type 0 where
   pub beside : (p : ℕ) → (start + i ≤ p → p < start + i + k → ⊥) → SameBundle w w′ p
   pub moved : (j : ℕ) → i ≤ j → j < i + k → Moves w w′ (start + suc j) (start + j)
 
-pub shifts : (w : List ℕ) (start i k : ℕ) → used ≤ length w → start + i + k < 1097 → i + k < 33 → Shifted w (shifted w start i k) start i k
+pub shifts : (w : List ℕ) (start i k : ℕ) → used ≤ length w → start + i + k < most-bundles → i + k < 33
+    → Shifted w (shifted w start i k) start i k
 unfolding shifted
 shifts w start i zero room a b =
     record {
@@ -257,14 +260,14 @@ shifts w start i (suc k) room a b =
     let behind : bundle-at start (suc i) ≡ start + suc i = bundle-in start (suc i) (omega arith) (omega arith) in
     let first = bundle-copied w (start + i) (start + suc i) in
     let xs = bundle-words w (start + suc i) in
-    let once = only-run w bundles-of-sets (7 * (start + i)) xs in
+    let once = only-run w bundles-of-sets (bundle-row-at (start + i)) xs in
     let counted = once .words in
     let rest = shifts first start (suc i) k (omega arith) (omega arith) (omega arith) in
     rw (at, behind)
     record {
       only = only-then once (rest .only);
-      starts = λ q. rest .starts q ∙ run-elsewhere-word w bundles (7 * (start + i)) xs set-starts (omega arith) q;
-      lengths = λ q. rest .lengths q ∙ run-elsewhere-word w bundles (7 * (start + i)) xs set-lengths (omega arith) q;
+      starts = λ q. rest .starts q ∙ run-elsewhere-word w bundles (bundle-row-at (start + i)) xs set-starts (omega arith) q;
+      lengths = λ q. rest .lengths q ∙ run-elsewhere-word w bundles (bundle-row-at (start + i)) xs set-lengths (omega arith) q;
       beside = λ p d.
           same-bundle-then (copy-beside w (start + i) (start + suc i) p (λ e. d (omega arith) (omega arith)))
           (rest .beside p (λ x y. d (omega arith) (omega arith)));
@@ -429,7 +432,7 @@ module _ (w : List ℕ) (room : used ≤ length w) (a b : ℕ) (at-a : a < 33) (
 
 -- ---- The condition of a bundle in its set.
 pub condition-shown : {g : Graph} {w : List ℕ} {start n : ℕ} {d : DeferredEdgeBundleSet} → ShowsSet g w start n d → (i : ℕ) → i < n
-    → ShowsCondition w (pick (eqb n 1) 1 (word w bundles (7 * (start + i) + 2))) (condition-in d (getD d i no-bundle))
+    → ShowsCondition w (pick (eqb n 1) 1 (bundle-condition w (start + i))) (condition-in d (getD d i no-bundle))
 condition-shown {n} {d} x i h =
     let size = x .size in
     elim (ℕ-discrete n 1) [
@@ -439,15 +442,16 @@ condition-shown {n} {d} x i h =
 
 -- ---- A bundle stored whole: target, count, condition and four words, of which the first are its inputs.
 pub bundle-made : {g : Graph} (w : List ℕ) (p : ℕ) {t n c : ℕ} (ws : List ℕ) {x : DeferredTarget} {vs : List Value} {y : LazyCond}
-    → used ≤ length w → p < 1097 → length ws ≡ 4 → ShowsTarget g t x → ShowsCondition w c y → length vs ≡ target-size g x → length vs ≤ 4
+    → used ≤ length w → p < most-bundles → length ws ≡ 4 → ShowsTarget g t x → ShowsCondition w c y → length vs ≡ target-size g x
+    → length vs ≤ 4
     → ((k : ℕ) → k < length vs → Names (getD ws k 0) (getD vs k (undef 0)))
-    → ShowsBundle g (stored-all w bundles (7 * p) (t ∷ n ∷ c ∷ ws)) p (edge-bundle x n vs y)
+    → ShowsBundle g (stored-all w bundles (bundle-row-at p) (t ∷ n ∷ c ∷ ws)) p (edge-bundle x n vs y)
 bundle-made {g} w p {t} {n} {c} ws room h four target condition size few names =
     let xs = t ∷ n ∷ c ∷ ws in
     let seven : length xs ≡ 7 = ap (λ m. suc (suc (suc m))) four in
-    let at : (i : ℕ) → i < 7 → word (stored-all w bundles (7 * p) xs) bundles (7 * p + i) ≡ getD xs i 0 =
+    let at : (i : ℕ) → i < 7 → bundle-word (stored-all w bundles (bundle-row-at p) xs) p i ≡ getD xs i 0 =
     λ i k. bundle-stored w p xs seven room h i k in
-    let later = only-later (only-run w bundles-of-sets (7 * p) xs) g in
+    let later = only-later (only-run w bundles-of-sets (bundle-row-at p) xs) g in
     record {
       target = rw (at 0 (omega arith)) target;
       count = at 1 (omega arith);

@@ -1,7 +1,7 @@
 -- Stores into sets and cases: what they change of a bundle, and that all else stays.
 use mathlib.Core.Path.{_≡_, refl, ap, _∙_}
 use mathlib.Core.List.{List}
-use Prim.Native.Nat.{ℕ, zero, suc, _+_, _*_, _≤_, _<_}
+use Prim.Native.Nat.{ℕ, zero, suc, _+_, _≤_, _<_}
 use native.Mathlib.Omega.{arith}
 use native.Mathlib.Decide.{decLt}
 use lib.ListN.{length, getD}
@@ -25,6 +25,8 @@ use Rattle.shown.specs.Kept.{Later, KeptRegion}
 use Rattle.shown.specs.laws.RegionsKept.{region-stays}
 use Rattle.meaning.specs.facts.Parts.{run-before, run-behind, run-in}
 use Rattle.shown.specs.laws.RegionSteps.{bundle-run, named-stay}
+use Rattle.state.specs.Rows.{bundle-row-at, bundle-word, bundle-word-at, cases-at, cells-at, kind-ready, level-at, merges-at}
+use Rattle.state.specs.Rows.{most-bundles, region-kind, returned-at, slot-size, types-at}
 
 -- ---- A word of a section.
 module _ (w : List ℕ) (k : Section) (i x : ℕ) where
@@ -77,7 +79,7 @@ bundles-of-sets = record { apart = λ j a. a .not-bundles; not-head = omega arit
 pub record OnlySets (w w′ : List ℕ) : Type 0 where
   pub words : length w′ ≡ length w
   pub others : (k : Section) → NoSets k → section w′ k ≡ section w k
-  pub totals : (q : ℕ) → (q ≡ 7 → ⊥) → word w′ head q ≡ word w head q
+  pub totals : (q : ℕ) → (q ≡ cases-at → ⊥) → word w′ head q ≡ word w head q
 
 module _ (w : List ℕ) where
   pub only-same : OnlySets w w
@@ -99,12 +101,12 @@ module _ (w : List ℕ) where
         totals = λ q d. run-elsewhere-word w k i xs head (o .not-head) q;
       }
 
-  pub only-total : (x : ℕ) → OnlySets w (stored w head 7 x)
+  pub only-total : (x : ℕ) → OnlySets w (stored w head cases-at x)
   only-total x =
       record {
-        words = stored-length (start head) (size head) w 7 x;
-        others = λ j d. section-other w head 7 x j (d .not-head);
-        totals = λ q d. head-other w 7 x q d;
+        words = stored-length (start head) (size head) w cases-at x;
+        others = λ j d. section-other w head cases-at x j (d .not-head);
+        totals = λ q d. head-other w cases-at x q d;
       }
 
 pub only-then : {w w₁ w₂ : List ℕ} → OnlySets w w₁ → OnlySets w₁ w₂ → OnlySets w w₂
@@ -137,15 +139,15 @@ module _ {w w′ : List ℕ} (only : OnlySets w w′) where
       record {
         front = only-front;
         conditions-stay = condition-same (only .others conditions (omega arith)) (only .others cells (omega arith))
-            (only .totals 4 (omega arith)) (only .totals 2 (omega arith));
+            (only .totals cells-at (omega arith)) (only .totals merges-at (omega arith));
         nodes-stay = λ n. record {
           nodes = rw (only .others cells (omega arith)) (n .nodes);
-          made = rw (only .totals 4 (omega arith)) (n .made);
+          made = rw (only .totals cells-at (omega arith)) (n .made);
         };
       }
 
   pub only-kept : (q : ℕ) → word w′ set-starts q ≡ word w set-starts q → word w′ set-lengths q ≡ word w set-lengths q
-      → ((i : ℕ) → i < 33 → SameBundle w w′ (word w set-starts q + i)) → KeptRegion w w′ q
+      → ((i : ℕ) → i < slot-size → SameBundle w w′ (word w set-starts q + i)) → KeptRegion w w′ q
   only-kept q a b c =
       record {
         set-start = a;
@@ -153,13 +155,13 @@ module _ {w w′ : List ℕ} (only : OnlySets w w′) where
         handle = only-word-same children (omega arith) q;
         body = only-word-same bodies (omega arith) q;
         backedge = only-word-same backedges (omega arith) q;
-        taken = λ j h. only-word-same levels (omega arith) (8 * q + j);
+        taken = λ j h. only-word-same levels (omega arith) (level-at q j);
         slot = c;
       }
 
   -- The state is shown as long as the Ready regions are kept.
   pub only-state : {g : Graph} {s : NestState} → Slots (length (g .regions)) w′
-      → ((q : ℕ) → q < length (g .regions) → word w kinds q ≡ 2 → KeptRegion w w′ q) → ShowsState g w s → ShowsState g w′ s
+      → ((q : ℕ) → q < length (g .regions) → region-kind w q ≡ kind-ready → KeptRegion w w′ q) → ShowsState g w s → ShowsState g w′ s
   only-state {g} {s} slots kept x =
       record {
         stands = stands-on only-front (x .stands);
@@ -169,8 +171,8 @@ module _ {w w′ : List ℕ} (only : OnlySets w w′) where
         regions = λ q h. go q h (x .regions q h);
         slots = slots;
         returned = record {
-          size = only .totals 8 (omega arith) ∙ x .returned .size;
-          types = λ k h. only .totals (9 + k) (omega arith) ∙ x .returned .types k h;
+          size = only .totals returned-at (omega arith) ∙ x .returned .size;
+          types = λ k h. only .totals (types-at + k) (omega arith) ∙ x .returned .types k h;
         };
       }
     where
@@ -183,7 +185,7 @@ module _ {w w′ : List ℕ} (only : OnlySets w w′) where
 
 -- ---- Bundle q has the words that bundle p had.
 pub record Moves (w w′ : List ℕ) (p q : ℕ) : Type 0 where
-  pub words : (i : ℕ) → i < 7 → word w′ bundles (7 * q + i) ≡ word w bundles (7 * p + i)
+  pub words : (i : ℕ) → i < 7 → bundle-word w′ q i ≡ bundle-word w p i
 
 pub moves-then : {w w₁ w₂ : List ℕ} {p q r : ℕ} → Moves w w₁ p q → Moves w₁ w₂ q r → Moves w w₂ p r
 moves-then a b = record { words = λ i h. b .words i h ∙ a .words i h }
@@ -193,22 +195,22 @@ same-moves s = record { words = s .words }
 
 -- Stores elsewhere leave every bundle.
 pub same-elsewhere : (w : List ℕ) (k : Section) → (number sections.bundles ≡ number k → ⊥) → (i x p : ℕ) → SameBundle w (stored w k i x) p
-same-elsewhere w k d i x p = record { words = λ j h. word-other w k i x bundles d (7 * p + j) }
+same-elsewhere w k d i x p = record { words = λ j h. word-other w k i x bundles d (bundle-word-at p j) }
 
 pub same-elsewhere-run : (w : List ℕ) (k : Section) → (number sections.bundles ≡ number k → ⊥) → (i : ℕ) (xs : List ℕ) (p : ℕ)
     → SameBundle w (stored-all w k i xs) p
-same-elsewhere-run w k d i xs p = record { words = λ j h. run-elsewhere-word w k i xs bundles d (7 * p + j) }
+same-elsewhere-run w k d i xs p = record { words = λ j h. run-elsewhere-word w k i xs bundles d (bundle-word-at p j) }
 
 -- A bundle stored whole, and the others.
 module _ (w : List ℕ) (p : ℕ) (xs : List ℕ) (seven : length xs ≡ 7) where
-  pub bundle-stored : used ≤ length w → p < 1097 → (i : ℕ) → i < 7 → word (stored-all w bundles (7 * p) xs) bundles
-      (7 * p + i) ≡ getD xs i 0
-  bundle-stored room h i j = run-word w bundles (7 * p) xs (omega arith) (omega arith) i (omega arith)
+  pub bundle-stored : used ≤ length w → p < most-bundles → (i : ℕ) → i < 7 → word (stored-all w bundles (bundle-row-at p) xs) bundles
+      (bundle-word-at p i) ≡ getD xs i 0
+  bundle-stored room h i j = run-word w bundles (bundle-row-at p) xs (omega arith) (omega arith) i (omega arith)
 
-  pub bundle-beside : (q : ℕ) → (q ≡ p → ⊥) → SameBundle w (stored-all w bundles (7 * p) xs) q
+  pub bundle-beside : (q : ℕ) → (q ≡ p → ⊥) → SameBundle w (stored-all w bundles (bundle-row-at p) xs) q
   bundle-beside q d = bundle-run w p xs (omega arith) .others q d
 
-bundle-words-at : (w : List ℕ) (p i : ℕ) → i < 7 → getD (bundle-words w p) i 0 ≡ word w bundles (7 * p + i)
+bundle-words-at : (w : List ℕ) (p i : ℕ) → i < 7 → getD (bundle-words w p) i 0 ≡ bundle-word w p i
 bundle-words-at w p zero h = refl
 bundle-words-at w p (suc zero) h = refl
 bundle-words-at w p (suc (suc zero)) h = refl
@@ -218,7 +220,7 @@ bundle-words-at w p (suc (suc (suc (suc (suc zero))))) h = refl
 bundle-words-at w p (suc (suc (suc (suc (suc (suc zero)))))) h = refl
 bundle-words-at w p (suc (suc (suc (suc (suc (suc (suc i))))))) h = absurd (omega arith)
 
-pub copy-moves : (w : List ℕ) (to from : ℕ) → used ≤ length w → to < 1097 → Moves w (bundle-copied w to from) from to
+pub copy-moves : (w : List ℕ) (to from : ℕ) → used ≤ length w → to < most-bundles → Moves w (bundle-copied w to from) from to
 copy-moves w to from room h =
     record { words = λ i j. bundle-stored w to (bundle-words w from) refl room h i j ∙ bundle-words-at w from i j }
 

@@ -2,7 +2,7 @@
 use mathlib.Core.Path.{_≡_, refl, sym, ap, _∙_}
 use mathlib.Core.Bool.{Bool, true, false, _||_}
 use mathlib.Core.List.{List, [], _∷_, _++_}
-use Prim.Native.Nat.{ℕ, suc, _+_, _*_, _≤_, _<_}
+use Prim.Native.Nat.{ℕ, suc, _+_, _≤_, _<_}
 use native.Mathlib.Omega.{arith}
 use native.Mathlib.Decide.{decLt}
 use native.Mathlib.Numerals.{add-one}
@@ -22,6 +22,8 @@ use Rattle.shown.specs.laws.Stores.{nothing-changes}
 use Rattle.meaning.specs.facts.Parts.{run-before, run-in}
 use Rattle.shown.specs.Tables.{ShowsValues, ShowsOutput, ShowsOutputs, no-output, ShowsTables, ShowsDefined, shows-done, shows-full}
 use Rattle.meaning.specs.Lists.{bit}
+use Rattle.state.specs.Rows.{attempts-at, largest, merges-at, nodes-at, output-node-at, output-type-at, output-value-at, outputs-at}
+use Rattle.state.specs.Rows.{regions-at, twice-at}
 
 -- ---- A word of the head stored: the tables stay, and the totals but one.
 module _ {w w′ : List ℕ} {s : NestState} (t : ShowsTables w s) where
@@ -30,17 +32,17 @@ module _ {w w′ : List ℕ} {s : NestState} (t : ShowsTables w s) where
   region-defined (defined {n} p h e) =
       let same : n ≡ s .region-count = p ∙ t .region-total in
       let more : n + 1 ≡ suc (s .region-count) = omega arith in
-      let g = head-changes head 0 w (n + 1) in
+      let g = head-changes head regions-at w (n + 1) in
       rw (lt-ltb (s .region-count) most-regions (omega arith), define, e)
       (shows-done {s = add-region s} same
       record {
         size = rw (g .words) (t .size);
-        region-total = head-same w 0 (n + 1) (t .size) (omega arith) ∙ more;
-        node-total = g .totals 1 (omega arith) ∙ t .node-total;
-        merge-total = g .totals 2 (omega arith) ∙ t .merge-total;
-        output-total = g .totals 3 (omega arith) ∙ t .output-total;
-        attempts = g .totals 5 (omega arith) ∙ t .attempts;
-        twice = g .totals 6 (omega arith) ∙ t .twice;
+        region-total = head-same w regions-at (n + 1) (t .size) (omega arith) ∙ more;
+        node-total = g .totals nodes-at (omega arith) ∙ t .node-total;
+        merge-total = g .totals merges-at (omega arith) ∙ t .merge-total;
+        output-total = g .totals outputs-at (omega arith) ∙ t .output-total;
+        attempts = g .totals attempts-at (omega arith) ∙ t .attempts;
+        twice = g .totals twice-at (omega arith) ∙ t .twice;
         few-regions = omega arith;
         few-nodes = t .few-nodes;
         few-merges = t .few-merges;
@@ -55,17 +57,17 @@ module _ {w w′ : List ℕ} {s : NestState} (t : ShowsTables w s) where
   node-defined (defined {n} p h e) =
       let same : n ≡ s .node-count = p ∙ t .node-total in
       let more : n + 1 ≡ suc (s .node-count) = omega arith in
-      let g = head-changes head 1 w (n + 1) in
+      let g = head-changes head nodes-at w (n + 1) in
       rw (lt-ltb (s .node-count) most-nodes (omega arith), define, e)
       (shows-done {s = add-node s} same
       record {
         size = rw (g .words) (t .size);
-        region-total = g .totals 0 (omega arith) ∙ t .region-total;
-        node-total = head-same w 1 (n + 1) (t .size) (omega arith) ∙ more;
-        merge-total = g .totals 2 (omega arith) ∙ t .merge-total;
-        output-total = g .totals 3 (omega arith) ∙ t .output-total;
-        attempts = g .totals 5 (omega arith) ∙ t .attempts;
-        twice = g .totals 6 (omega arith) ∙ t .twice;
+        region-total = g .totals regions-at (omega arith) ∙ t .region-total;
+        node-total = head-same w nodes-at (n + 1) (t .size) (omega arith) ∙ more;
+        merge-total = g .totals merges-at (omega arith) ∙ t .merge-total;
+        output-total = g .totals outputs-at (omega arith) ∙ t .output-total;
+        attempts = g .totals attempts-at (omega arith) ∙ t .attempts;
+        twice = g .totals twice-at (omega arith) ∙ t .twice;
         few-regions = t .few-regions;
         few-nodes = omega arith;
         few-merges = t .few-merges;
@@ -76,22 +78,24 @@ module _ {w w′ : List ℕ} {s : NestState} (t : ShowsTables w s) where
   node-defined (full h e) = let z = t .node-total in rw (le-ltb (s .node-count) most-nodes (omega arith), define) shows-full
 
   -- There are never as many attempts as a word counts (the bound on attempts).
-  pub attempt-counted : s .attempts < 65535 → w′ ≡ attempted w
+  pub attempt-counted : s .attempts < largest → w′ ≡ attempted w
       → ShowsTables w′ (add-attempt s)
   unfolding attempted
   attempt-counted h e =
       let z = t .attempts in
-      let q : w′ ≡ stored w head 5 (word w head 5 + 1) = e ∙ rw (lt-ltb (word w head 5) 65535 (omega arith)) in
-      let g = head-changes head 5 w (word w head 5 + 1) in
+      let q : w′ ≡ stored w head attempts-at (word w head attempts-at + 1) = e
+      ∙ rw (lt-ltb (word w head attempts-at) largest (omega arith)) in
+      let g = head-changes head attempts-at w (word w head attempts-at + 1) in
       rw q
       record {
         size = rw (g .words) (t .size);
-        region-total = g .totals 0 (omega arith) ∙ t .region-total;
-        node-total = g .totals 1 (omega arith) ∙ t .node-total;
-        merge-total = g .totals 2 (omega arith) ∙ t .merge-total;
-        output-total = g .totals 3 (omega arith) ∙ t .output-total;
-        attempts = head-same w 5 (word w head 5 + 1) (t .size) (omega arith) ∙ rw (add-one (word w head 5), z);
-        twice = g .totals 6 (omega arith) ∙ t .twice;
+        region-total = g .totals regions-at (omega arith) ∙ t .region-total;
+        node-total = g .totals nodes-at (omega arith) ∙ t .node-total;
+        merge-total = g .totals merges-at (omega arith) ∙ t .merge-total;
+        output-total = g .totals outputs-at (omega arith) ∙ t .output-total;
+        attempts = head-same w attempts-at (word w head attempts-at + 1) (t .size) (omega arith)
+            ∙ rw (add-one (word w head attempts-at), z);
+        twice = g .totals twice-at (omega arith) ∙ t .twice;
         few-regions = t .few-regions;
         few-nodes = t .few-nodes;
         few-merges = t .few-merges;
@@ -101,19 +105,19 @@ module _ {w w′ : List ℕ} {s : NestState} (t : ShowsTables w s) where
       }
 
   -- The note that `twice` is to be 1.
-  pub twice-noted : w′ ≡ stored w head 6 1 → ShowsTables w′ (with-twice true s)
+  pub twice-noted : w′ ≡ stored w head twice-at 1 → ShowsTables w′ (with-twice true s)
   twice-noted e =
-      let g = head-changes head 6 w 1 in
+      let g = head-changes head twice-at w 1 in
       let b : (x : Bool) → 1 ≡ bit (x || true) = elim [ true ↦ refl | false ↦ refl ] in
       rw e
       record {
         size = rw (g .words) (t .size);
-        region-total = g .totals 0 (omega arith) ∙ t .region-total;
-        node-total = g .totals 1 (omega arith) ∙ t .node-total;
-        merge-total = g .totals 2 (omega arith) ∙ t .merge-total;
-        output-total = g .totals 3 (omega arith) ∙ t .output-total;
-        attempts = g .totals 5 (omega arith) ∙ t .attempts;
-        twice = head-same w 6 1 (t .size) (omega arith) ∙ b (s .twice);
+        region-total = g .totals regions-at (omega arith) ∙ t .region-total;
+        node-total = g .totals nodes-at (omega arith) ∙ t .node-total;
+        merge-total = g .totals merges-at (omega arith) ∙ t .merge-total;
+        output-total = g .totals outputs-at (omega arith) ∙ t .output-total;
+        attempts = g .totals attempts-at (omega arith) ∙ t .attempts;
+        twice = head-same w twice-at 1 (t .size) (omega arith) ∙ b (s .twice);
         few-regions = t .few-regions;
         few-nodes = t .few-nodes;
         few-merges = t .few-merges;
@@ -128,26 +132,27 @@ module _ (l : List ℕ) (os : List NodeOutput) (x : NodeOutput) (vs : List ℕ) 
   its-words = x .node ∷ x .type ∷ vs
 
   abbrev more-words : List ℕ
-  more-words = sets l (10 * length os) its-words
+  more-words = sets l (output-node-at (length os)) its-words
 
   output-kept : (q : ℕ) (y : NodeOutput) → q < length os → ShowsOutput l q y → ShowsOutput more-words q y
   output-kept q y h a =
       let u = a .values in
       record {
-        node = run-before l (10 * length os) its-words (10 * q) (omega arith) ∙ a .node;
-        type = run-before l (10 * length os) its-words (10 * q + 1) (omega arith) ∙ a .type;
+        node = run-before l (output-node-at (length os)) its-words (output-node-at q) (omega arith) ∙ a .node;
+        type = run-before l (output-node-at (length os)) its-words (output-type-at q) (omega arith) ∙ a .type;
         values =
             record {
               few = u .few;
-              each = λ j i. ap value (run-before l (10 * length os) its-words (10 * q + 2 + j) (let z = u .few in omega arith))
+              each = λ j i. ap value
+                  (run-before l (output-node-at (length os)) its-words (output-value-at q j) (let z = u .few in omega arith))
                   ∙ u .each j i;
             };
       }
 
-  output-new : length l ≡ 5120 → length os < most-outputs → length vs ≡ 8 → ShowsValues vs 0 (x .values)
+  output-new : length l ≡ size outputs → length os < most-outputs → length vs ≡ 8 → ShowsValues vs 0 (x .values)
       → ShowsOutput more-words (length os) x
   output-new a b c d =
-      let o = 10 * length os in
+      let o = output-node-at (length os) in
       let room : o + length its-words ≤ length l = omega arith in
       record {
         node = (let e : o ≡ o + 0 = omega arith in ap (λ i. getD more-words i 0) e ∙ run-in l o its-words 0 room (omega arith));
@@ -164,7 +169,7 @@ module _ (l : List ℕ) (os : List NodeOutput) (x : NodeOutput) (vs : List ℕ) 
             };
       }
 
-  outputs-more : length l ≡ 5120 → length os < most-outputs → length vs ≡ 8 → ShowsValues vs 0 (x .values) → ShowsOutputs l os
+  outputs-more : length l ≡ size outputs → length os < most-outputs → length vs ≡ 8 → ShowsValues vs 0 (x .values) → ShowsOutputs l os
       → ShowsOutputs more-words (os ++ (x ∷ []))
   outputs-more a b c d h q i =
       elim (decLt q (length os)) [
@@ -180,24 +185,24 @@ module _ {w w′ : List ℕ} {s : NestState} (t : ShowsTables w s) {n ty : ℕ} 
   unfolding define-output
   output-made (output-defined {o} p h e) =
       let same : o ≡ length (s .node-outputs) = p ∙ t .output-total in
-      let mid = stored-all w outputs (10 * o) (n ∷ ty ∷ vs) in
-      let first = run-changes outputs 3 w (omega arith) (10 * o) (n ∷ ty ∷ vs) in
-      let g = changes-then first (head-changes outputs 3 mid (o + 1)) in
+      let mid = stored-all w outputs (output-node-at o) (n ∷ ty ∷ vs) in
+      let first = run-changes outputs outputs-at w (omega arith) (output-node-at o) (n ∷ ty ∷ vs) in
+      let g = changes-then first (head-changes outputs outputs-at mid (o + 1)) in
       let z = length-append (s .node-outputs) (record { node = n; type = ty; values = us } ∷ []) in
       let more : o + 1 ≡ length (s .node-outputs ++ (record { node = n; type = ty; values = us } ∷ [])) = omega arith in
-      let sec : section (stored mid head 3 (o + 1)) outputs ≡ sets (section w outputs) (10 * o) (n ∷ ty ∷ vs) =
-      section-other mid head 3 (o + 1) outputs (omega arith) ∙ section-run w outputs (10 * o) (n ∷ ty ∷ vs) in
+      let sec : section (stored mid head outputs-at (o + 1)) outputs ≡ sets (section w outputs) (output-node-at o) (n ∷ ty ∷ vs) =
+      section-other mid head outputs-at (o + 1) outputs (omega arith) ∙ section-run w outputs (output-node-at o) (n ∷ ty ∷ vs) in
       rw (lt-ltb (length (s .node-outputs)) most-outputs (omega arith), define, e)
       (shows-done {s = with-tables (s .region-states) (s .region-input-rewrites)
       (s .node-outputs ++ (record { node = n; type = ty; values = us } ∷ [])) s} (ap output (sym same))
       record {
         size = rw (g .words) (t .size);
-        region-total = g .totals 0 (omega arith) ∙ t .region-total;
-        node-total = g .totals 1 (omega arith) ∙ t .node-total;
-        merge-total = g .totals 2 (omega arith) ∙ t .merge-total;
-        output-total = head-same mid 3 (o + 1) (rw (first .words) (t .size)) (omega arith) ∙ more;
-        attempts = g .totals 5 (omega arith) ∙ t .attempts;
-        twice = g .totals 6 (omega arith) ∙ t .twice;
+        region-total = g .totals regions-at (omega arith) ∙ t .region-total;
+        node-total = g .totals nodes-at (omega arith) ∙ t .node-total;
+        merge-total = g .totals merges-at (omega arith) ∙ t .merge-total;
+        output-total = head-same mid outputs-at (o + 1) (rw (first .words) (t .size)) (omega arith) ∙ more;
+        attempts = g .totals attempts-at (omega arith) ∙ t .attempts;
+        twice = g .totals twice-at (omega arith) ∙ t .twice;
         few-regions = t .few-regions;
         few-nodes = t .few-nodes;
         few-merges = t .few-merges;
@@ -211,9 +216,10 @@ module _ {w w′ : List ℕ} {s : NestState} (t : ShowsTables w s) {n ty : ℕ} 
       let z = t .output-total in rw (le-ltb (length (s .node-outputs)) most-outputs (omega arith), define) shows-full
 
 -- What an output more leaves.
-pub output-changes : {w w′ : List ℕ} {n ty : ℕ} {vs : List ℕ} {a : Defined} → OutputDefined n ty vs w w′ a → ChangesOnly outputs 3 w w′
+pub output-changes : {w w′ : List ℕ} {n ty : ℕ} {vs : List ℕ} {a : Defined} → OutputDefined n ty vs w w′ a
+    → ChangesOnly outputs outputs-at w w′
 output-changes {w} {n} {ty} {vs} (output-defined {o} p h e) =
     rw e
-    (changes-then (run-changes outputs 3 w (omega arith) (10 * o) (n ∷ ty ∷ vs))
-    (head-changes outputs 3 (stored-all w outputs (10 * o) (n ∷ ty ∷ vs)) (o + 1)))
-output-changes {w} (outputs-full h e) = rw e (nothing-changes outputs 3 w)
+    (changes-then (run-changes outputs outputs-at w (omega arith) (output-node-at o) (n ∷ ty ∷ vs))
+    (head-changes outputs outputs-at (stored-all w outputs (output-node-at o) (n ∷ ty ∷ vs)) (o + 1)))
+output-changes {w} (outputs-full h e) = rw e (nothing-changes outputs outputs-at w)

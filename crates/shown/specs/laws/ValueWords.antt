@@ -1,7 +1,7 @@
 -- The words of values: what each range stands for, and that below 4,096 two words are equal just if their values are.
 use mathlib.Core.Path.{_≡_, refl, sym, ap, _∙_}
 use mathlib.Core.Bool.{Bool, true, false, _&&_}
-use Prim.Native.Nat.{ℕ, zero, suc, _+_, _*_, _-_, _/_, _%_, _≤_, _<_}
+use Prim.Native.Nat.{ℕ, zero, suc, _+_, _-_, _/_, _%_, _≤_, _<_}
 use native.Mathlib.Omega.{arith}
 use native.Mathlib.Decide.{decLt}
 use lib.Dec.{eqb}
@@ -12,31 +12,32 @@ use Rattle.meaning.specs.facts.Tests.{and-both}
 use Rattle.state.specs.Values.{input-region, input-index, output-word, undef-word, region-word}
 use Rattle.nesting.specs.Nesting.{most-regions, most-outputs}
 use Rattle.shown.specs.Values.{value}
+use Rattle.state.specs.Values.{held-from, input-from, input-word-at, instr-from, instr-word-at, names-nothing, output-from, undef-from}
 
 -- By which range a word stands for its value.
 pub data Ranged (x : ℕ) (v : Value) : Type 0 where
   in-const : x < 64 → v ≡ const x → Ranged x v
   in-false : x ≡ 64 → v ≡ bool false → Ranged x v
   in-true : x ≡ 65 → v ≡ bool true → Ranged x v
-  in-undef : 66 ≤ x → x < 322 → v ≡ undef (x - 66) → Ranged x v
-  in-output : 322 ≤ x → x < 1024 → v ≡ output (x - 322) → Ranged x v
-  in-input : 1024 ≤ x → x < 1536 → v ≡ input (input-region x) (input-index x) → Ranged x v
-  in-held : 1536 ≤ x → x < 2048 → v ≡ held (input-region x) (input-index x) → Ranged x v
-  in-instr : 2048 ≤ x → x < 4096 → v ≡ instr ((x - 2048) / 64) (x % 64) → Ranged x v
-  in-none : 4096 ≤ x → v ≡ no-value → Ranged x v
+  in-undef : undef-from ≤ x → x < output-from → v ≡ undef (x - undef-from) → Ranged x v
+  in-output : output-from ≤ x → x < input-from → v ≡ output (x - output-from) → Ranged x v
+  in-input : input-from ≤ x → x < held-from → v ≡ input (input-region x) (input-index x) → Ranged x v
+  in-held : held-from ≤ x → x < instr-from → v ≡ held (input-region x) (input-index x) → Ranged x v
+  in-instr : instr-from ≤ x → x < names-nothing → v ≡ instr ((x - instr-from) / 64) (x % 64) → Ranged x v
+  in-none : names-nothing ≤ x → v ≡ no-value → Ranged x v
 
-above : (x : ℕ) → 2048 ≤ x → Ranged x (value x)
+above : (x : ℕ) → instr-from ≤ x → Ranged x (value x)
 unfolding value
 above x h =
     let n : 64 ≤ x = omega arith in
-    let p : 66 ≤ x = omega arith in
-    let q : 322 ≤ x = omega arith in
-    let r : 1024 ≤ x = omega arith in
-    let s : 1536 ≤ x = omega arith in
-    elim (decLt x 4096) [
+    let p : undef-from ≤ x = omega arith in
+    let q : output-from ≤ x = omega arith in
+    let r : input-from ≤ x = omega arith in
+    let s : held-from ≤ x = omega arith in
+    elim (decLt x names-nothing) [
       | yes a ↦ in-instr h a
           (rw (le-ltb _ _ n, le-ltb _ _ p, le-ltb _ _ q, le-ltb _ _ r, le-ltb _ _ s, le-ltb _ _ h, lt-ltb _ _ a))
-      | no a ↦ (let b : 4096 ≤ x = omega arith in
+      | no a ↦ (let b : names-nothing ≤ x = omega arith in
           in-none b (rw (le-ltb _ _ n, le-ltb _ _ p, le-ltb _ _ q, le-ltb _ _ r, le-ltb _ _ s, le-ltb _ _ h, le-ltb _ _ b)))
     ]
 
@@ -49,19 +50,19 @@ ranged x =
           elim (decLt x 65) [
             | yes b ↦ (let e : x ≡ 64 = omega arith in in-false e (rw e))
             | no b ↦
-                elim (decLt x 66) [
+                elim (decLt x undef-from) [
                   | yes c ↦ (let e : x ≡ 65 = omega arith in in-true e (rw e))
-                  | no c ↦ let p : 66 ≤ x = omega arith in
-                      elim (decLt x 322) [
+                  | no c ↦ let p : undef-from ≤ x = omega arith in
+                      elim (decLt x output-from) [
                         | yes d ↦ in-undef p d (rw (le-ltb _ _ n, le-ltb _ _ p, lt-ltb _ _ d))
-                        | no d ↦ let q : 322 ≤ x = omega arith in
-                            elim (decLt x 1024) [
+                        | no d ↦ let q : output-from ≤ x = omega arith in
+                            elim (decLt x input-from) [
                               | yes e ↦ in-output q e (rw (le-ltb _ _ n, le-ltb _ _ p, le-ltb _ _ q, lt-ltb _ _ e))
-                              | no e ↦ let r : 1024 ≤ x = omega arith in
-                                  elim (decLt x 1536) [
+                              | no e ↦ let r : input-from ≤ x = omega arith in
+                                  elim (decLt x held-from) [
                                     | yes f ↦ in-input r f (rw (le-ltb _ _ n, le-ltb _ _ p, le-ltb _ _ q, le-ltb _ _ r, lt-ltb _ _ f))
-                                    | no f ↦ let s : 1536 ≤ x = omega arith in
-                                        elim (decLt x 2048) [
+                                    | no f ↦ let s : held-from ≤ x = omega arith in
+                                        elim (decLt x instr-from) [
                                           | yes g ↦ in-held s g
                                               (rw (le-ltb _ _ n, le-ltb _ _ p, le-ltb _ _ q, le-ltb _ _ r, le-ltb _ _ s, lt-ltb _ _ g))
                                           | no g ↦ above x (omega arith)
@@ -76,19 +77,19 @@ ranged x =
 -- The word of a value, by its code; where the numbers fit a word's ranges it stands for the value.
 unfoldable pub word-by : ℕ → ℕ → ℕ → ℕ
 word-by zero r k = k
-word-by (suc zero) r k = 1024 + 4 * r + k
-word-by (suc (suc zero)) r k = 2048 + 64 * r + k
-word-by (suc (suc (suc zero))) r k = 322 + k
+word-by (suc zero) r k = input-word-at input-from r k
+word-by (suc (suc zero)) r k = instr-word-at r k
+word-by (suc (suc (suc zero))) r k = output-from + k
 word-by (suc (suc (suc (suc zero)))) r k = 64 + k
-word-by (suc (suc (suc (suc (suc zero))))) r k = 66 + k
-word-by (suc (suc (suc (suc (suc (suc zero)))))) r k = 1536 + 4 * r + k
-word-by (suc (suc (suc (suc (suc (suc (suc n))))))) r k = 4096
+word-by (suc (suc (suc (suc (suc zero))))) r k = undef-from + k
+word-by (suc (suc (suc (suc (suc (suc zero)))))) r k = input-word-at held-from r k
+word-by (suc (suc (suc (suc (suc (suc (suc n))))))) r k = names-nothing
 
 abbrev pub word-of : Value → ℕ
 word-of v = word-by (code-of v .kind) (code-of v .region) (code-of v .index)
 
 -- The word comes back, but for those beyond 4096.
-pub word-of-value : (x : ℕ) → x ≤ 4096 → word-of (value x) ≡ x
+pub word-of-value : (x : ℕ) → x ≤ names-nothing → word-of (value x) ≡ x
 unfolding word-by
 word-of-value x h = go (ranged x)
   where
@@ -103,11 +104,11 @@ word-of-value x h = go (ranged x)
     go (in-instr a b e) = rw e (omega arith)
     go (in-none a e) = rw e (omega arith)
 
-beyond-value : (x : ℕ) → 4096 ≤ x → word-of (value x) ≡ 4096
+beyond-value : (x : ℕ) → names-nothing ≤ x → word-of (value x) ≡ names-nothing
 unfolding value word-by
 beyond-value x h = go (ranged x)
   where
-    go : {v : Value} → Ranged x v → word-of v ≡ 4096
+    go : {v : Value} → Ranged x v → word-of v ≡ names-nothing
     go (in-const a e) = absurd (omega arith)
     go (in-false a e) = absurd (omega arith)
     go (in-true a e) = absurd (omega arith)
@@ -119,15 +120,15 @@ beyond-value x h = go (ranged x)
     go (in-none a e) = rw e
 
 -- A word has the value of a word below 4096 only if it is that word.
-coded-word : (x y : ℕ) → y < 4096 → word-of (value x) ≡ word-of (value y) → x ≡ y
+coded-word : (x y : ℕ) → y < names-nothing → word-of (value x) ≡ word-of (value y) → x ≡ y
 coded-word x y h e =
     let z = word-of-value y (omega arith) in
-    elim (decLt x 4096) [
+    elim (decLt x names-nothing) [
       | yes a ↦ let c = word-of-value x (omega arith) in omega arith
       | no a ↦ let c = beyond-value x (omega arith) in absurd (omega arith)
     ]
 
-pub same-word : (x y : ℕ) → y < 4096 → value x ≡ value y → x ≡ y
+pub same-word : (x y : ℕ) → y < names-nothing → value x ≡ value y → x ≡ y
 same-word x y h e = coded-word x y h (ap word-of e)
 
 -- Equal words, equal values.
@@ -151,7 +152,7 @@ same-coded v w h =
           (code-of v .index) (code-of w .index) (y .1),
     )
 
-pub equal-values : (x y : ℕ) → y < 4096 → same-value (value x) (value y) ≡ eqb x y
+pub equal-values : (x y : ℕ) → y < names-nothing → same-value (value x) (value y) ≡ eqb x y
 equal-values x y h = go (same-value (value x) (value y)) refl
   where
     go : (b : Bool) → same-value (value x) (value y) ≡ b → b ≡ eqb x y
@@ -161,33 +162,33 @@ equal-values x y h = go (same-value (value x) (value y)) refl
 -- ---- The words that steps make.
 pub value-output : (o : ℕ) → o < most-outputs → value (output-word o) ≡ output o
 unfolding output-word
-value-output o h = rw (lt-ltb o most-outputs h) (go (ranged (322 + o)))
+value-output o h = rw (lt-ltb o most-outputs h) (go (ranged (output-from + o)))
   where
-    go : {v : Value} → Ranged (322 + o) v → v ≡ output o
+    go : {v : Value} → Ranged (output-from + o) v → v ≡ output o
     go (in-const a e) = absurd (omega arith)
     go (in-false a e) = absurd (omega arith)
     go (in-true a e) = absurd (omega arith)
     go (in-undef a b e) = absurd (omega arith)
-    go (in-output a b e) = e ∙ (let z : 322 + o - 322 ≡ o = omega arith in rw z)
+    go (in-output a b e) = e ∙ (let z : output-from + o - output-from ≡ o = omega arith in rw z)
     go (in-input a b e) = absurd (omega arith)
     go (in-held a b e) = absurd (omega arith)
     go (in-instr a b e) = absurd (omega arith)
     go (in-none a e) = absurd (omega arith)
 
 -- What the definition takes beyond a list's end.
-pub value-beyond : value 66 ≡ undef 0
+pub value-beyond : value undef-from ≡ undef 0
 unfolding value
 value-beyond = refl
 
 pub value-undef : (ty : ℕ) → ty < 256 → value (undef-word ty) ≡ undef ty
 unfolding undef-word
-value-undef ty h = rw (lt-ltb ty 256 h) (go (ranged (66 + ty)))
+value-undef ty h = rw (lt-ltb ty 256 h) (go (ranged (undef-from + ty)))
   where
-    go : {v : Value} → Ranged (66 + ty) v → v ≡ undef ty
+    go : {v : Value} → Ranged (undef-from + ty) v → v ≡ undef ty
     go (in-const a e) = absurd (omega arith)
     go (in-false a e) = absurd (omega arith)
     go (in-true a e) = absurd (omega arith)
-    go (in-undef a b e) = e ∙ (let z : 66 + ty - 66 ≡ ty = omega arith in rw z)
+    go (in-undef a b e) = e ∙ (let z : undef-from + ty - undef-from ≡ ty = omega arith in rw z)
     go (in-output a b e) = absurd (omega arith)
     go (in-input a b e) = absurd (omega arith)
     go (in-held a b e) = absurd (omega arith)
@@ -195,28 +196,29 @@ value-undef ty h = rw (lt-ltb ty 256 h) (go (ranged (66 + ty)))
     go (in-none a e) = absurd (omega arith)
 
 module _ (r k : ℕ) (h : r < most-regions) (j : k < 4) where
-  pub value-input : value (region-word 1024 r k) ≡ input r k
+  pub value-input : value (region-word input-from r k) ≡ input r k
   unfolding region-word
-  value-input = rw (lt-ltb r most-regions h, lt-ltb k 4 j) (go (ranged (1024 + 4 * r + k)))
+  value-input = rw (lt-ltb r most-regions h, lt-ltb k 4 j) (go (ranged (input-word-at input-from r k)))
     where
-      go : {v : Value} → Ranged (1024 + 4 * r + k) v → v ≡ input r k
+      go : {v : Value} → Ranged (input-word-at input-from r k) v → v ≡ input r k
       go (in-const a e) = absurd (omega arith)
       go (in-false a e) = absurd (omega arith)
       go (in-true a e) = absurd (omega arith)
       go (in-undef a b e) = absurd (omega arith)
       go (in-output a b e) = absurd (omega arith)
       go (in-input a b e) =
-          let y : input-region (1024 + 4 * r + k) ≡ r = omega arith in let z : input-index (1024 + 4 * r + k) ≡ k = omega arith in e
+          let y : input-region (input-word-at input-from r k) ≡ r = omega arith in let z : input-index
+          (input-word-at input-from r k) ≡ k = omega arith in e
           ∙ rw (y, z)
       go (in-held a b e) = absurd (omega arith)
       go (in-instr a b e) = absurd (omega arith)
       go (in-none a e) = absurd (omega arith)
 
-  pub value-held : value (region-word 1536 r k) ≡ held r k
+  pub value-held : value (region-word held-from r k) ≡ held r k
   unfolding region-word
-  value-held = rw (lt-ltb r most-regions h, lt-ltb k 4 j) (go (ranged (1536 + 4 * r + k)))
+  value-held = rw (lt-ltb r most-regions h, lt-ltb k 4 j) (go (ranged (input-word-at held-from r k)))
     where
-      go : {v : Value} → Ranged (1536 + 4 * r + k) v → v ≡ held r k
+      go : {v : Value} → Ranged (input-word-at held-from r k) v → v ≡ held r k
       go (in-const a e) = absurd (omega arith)
       go (in-false a e) = absurd (omega arith)
       go (in-true a e) = absurd (omega arith)
@@ -224,7 +226,8 @@ module _ (r k : ℕ) (h : r < most-regions) (j : k < 4) where
       go (in-output a b e) = absurd (omega arith)
       go (in-input a b e) = absurd (omega arith)
       go (in-held a b e) =
-          let y : input-region (1536 + 4 * r + k) ≡ r = omega arith in let z : input-index (1536 + 4 * r + k) ≡ k = omega arith in e
+          let y : input-region (input-word-at held-from r k) ≡ r = omega arith in let z : input-index
+          (input-word-at held-from r k) ≡ k = omega arith in e
           ∙ rw (y, z)
       go (in-instr a b e) = absurd (omega arith)
       go (in-none a e) = absurd (omega arith)

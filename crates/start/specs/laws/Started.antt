@@ -18,7 +18,7 @@ use Rattle.fields.specs.ByNumber.{blocks-before, end-values}
 use Rattle.nesting.specs.Nesting.{initial-state, block-count, not-begun}
 use Rattle.nesting.specs.steps.RegionsLeft.{all-not-begun}
 use Rattle.state.specs.Sections as sections
-use Rattle.state.specs.Sections.{Section, number, start, size, used, section, word, filled, head, kinds, set-starts, rewrites, entries-at}
+use Rattle.state.specs.Sections.{Section, number, start, size, used, section, word, filled, head, kinds, set-starts, rewrites}
 use Rattle.state.specs.laws.Apart.{stored-length, section-other}
 use Rattle.state.specs.Tables.{slot, entry-kind, rewrite-kind}
 use Rattle.shown.specs.laws.Stores.{run-length, run-other, head-same, head-other, word-there, word-apart}
@@ -32,6 +32,7 @@ use Rattle.shown.specs.laws.Fills.{fill-length, fill-other, fill-front, fill-be
 use Rattle.start.specs.Words.{nothing-rewritten, nothing-begun, emptied, returned-type, returned-count, totals, counted, started}
 use Rattle.start.specs.Words.{types-stored}
 use Rattle.start.specs.laws.WordsLaws.{emptied-front}
+use Rattle.state.specs.Rows.{cells-at, entries-at, entry-none, kind-not-begun, region-kind, regions-at, returned-at, spare-slot, types-at}
 
 -- ---- How many blocks there are: no sum is as large as a word.
 module _ {g : Graph} (valid : Valid g) where
@@ -123,19 +124,19 @@ module _ (g : Graph) (w : List ℕ) (room : used ≤ length w) where
   pub started-front : SameFront w (started g w)
   started-front =
       front-then (emptied-front n w)
-      (front-then (front-run l₃ head (omega arith) 0 (totals g n))
+      (front-then (front-run l₃ head (omega arith) regions-at (totals g n))
       (front-then (fill-front head (λ k. 9 + k) (returned-type g) (omega arith) few 0 l₄)
-      (front-stored l₅ head (omega arith) 8 (returned-count g))))
+      (front-stored l₅ head (omega arith) returned-at (returned-count g))))
 
   behind-head : (j : Section) → (number j ≡ number sections.head → ⊥) → section (started g w) j ≡ section l₃ j
   behind-head j d =
-      section-other l₅ head 8 (returned-count g) j d ∙ fill-other head (λ k. 9 + k) (returned-type g) few 0 l₄ j d
-      ∙ run-other l₃ head 0 (totals g n) j d
+      section-other l₅ head returned-at (returned-count g) j d ∙ fill-other head (λ k. 9 + k) (returned-type g) few 0 l₄ j d
+      ∙ run-other l₃ head regions-at (totals g n) j d
 
   behind-slots : (j : Section) → (number j ≡ number sections.head → ⊥) → (number j ≡ number sections.set-starts → ⊥)
       → section (started g w) j ≡ section l₂ j
   behind-slots j d e =
-      behind-head j d ∙ section-other l₂′ set-starts 32 (slot 32) j e ∙ fill-other set-starts (λ a. a) slot n 0 l₂ j e
+      behind-head j d ∙ section-other l₂′ set-starts spare-slot (slot 32) j e ∙ fill-other set-starts (λ a. a) slot n 0 l₂ j e
 
   no-entries : word (started g w) rewrites entries-at ≡ 0
   no-entries =
@@ -143,11 +144,11 @@ module _ (g : Graph) (w : List ℕ) (room : used ≤ length w) where
       ∙ fill-other kinds (λ r. r) (λ r. 0) n 0 l₁ rewrites (omega arith))
       ∙ word-there w rewrites entries-at 0 (omega arith) (omega arith)
 
-  no-rewrite : (r : ℕ) → rewrite-kind (started g w) r ≡ 0
+  no-rewrite : (r : ℕ) → rewrite-kind (started g w) r ≡ entry-none
   unfolding entry-kind
   no-rewrite r = rw (no-entries, le-ltb r 0 (omega arith))
 
-  no-kind : (r : ℕ) → r < n → r < 32 → word (started g w) kinds r ≡ 0
+  no-kind : (r : ℕ) → r < n → r < 32 → region-kind (started g w) r ≡ kind-not-begun
   no-kind r h below =
       let len = length₁ in
       ap (λ p. getD p r 0) (behind-slots kinds (omega arith) (omega arith))
@@ -159,36 +160,36 @@ module _ (g : Graph) (w : List ℕ) (room : used ≤ length w) where
       let len′ = length₂′ in
       ap (λ p. getD p a 0) (behind-head set-starts (omega arith))
       ∙ elim (decLt a n) [
-        | yes b ↦ word-apart l₂′ set-starts 32 (slot 32) set-starts a (omega arith)
+        | yes b ↦ word-apart l₂′ set-starts spare-slot (slot 32) set-starts a (omega arith)
             ∙ fill-there set-starts (λ a. a) slot (λ a b c e. omega arith) n 0 l₂ (omega arith) a (omega arith) (omega arith) (omega arith)
             ∙ slot-in a (h .below)
         | no b ↦ (let e : a ≡ 32 = h .of-region (omega arith) in
-            rw e (word-there l₂′ set-starts 32 (slot 32) (omega arith) (omega arith) ∙ slot-in 32 (omega arith)))
+            rw e (word-there l₂′ set-starts spare-slot (slot 32) (omega arith) (omega arith) ∙ slot-in 32 (omega arith)))
       ]
 
   first-words : (q : ℕ) → q < 7 → word (started g w) head q ≡ getD (totals g n) q 0
   first-words q h =
       let len = length₃ in
       let e : q ≡ 0 + q = omega arith in
-      head-other l₅ 8 (returned-count g) q (omega arith)
+      head-other l₅ returned-at (returned-count g) q (omega arith)
       ∙ fill-beside head (λ k. 9 + k) (returned-type g) few 0 l₄ q (λ m a e. omega arith)
-      ∙ ap (λ p. word l₄ head p) e ∙ run-word l₃ head 0 (totals g n) (omega arith) (omega arith) q h
+      ∙ ap (λ p. word l₄ head p) e ∙ run-word l₃ head regions-at (totals g n) (omega arith) (omega arith) q h
 
-  count-word : word (started g w) head 8 ≡ returned-count g
-  count-word = let len = length₅ in head-same l₅ 8 (returned-count g) (omega arith) (omega arith)
+  count-word : word (started g w) head returned-at ≡ returned-count g
+  count-word = let len = length₅ in head-same l₅ returned-at (returned-count g) (omega arith) (omega arith)
 
-  type-word : (k : ℕ) → k < few → word (started g w) head (9 + k) ≡ returned-type g k
+  type-word : (k : ℕ) → k < few → word (started g w) head (types-at + k) ≡ returned-type g k
   type-word k h =
       let len = length₄ in
-      head-other l₅ 8 (returned-count g) (9 + k) (omega arith)
+      head-other l₅ returned-at (returned-count g) (9 + k) (omega arith)
       ∙ fill-there head (λ k. 9 + k) (returned-type g) (λ a b c e. omega arith) few 0 l₄ (omega arith) k
       (omega arith) (omega arith) (omega arith)
 
 -- ---- The whole.
 pub record ShowsStarted (g : Graph) (w w′ : List ℕ) : Type 0 where
   pub state : ShowsState g w′ (initial-state g)
-  pub cell-total : word w′ head 4 ≡ 1
-  pub no-kinds : (q : ℕ) → q < length (g .regions) → word w′ kinds q ≡ 0
+  pub cell-total : word w′ head cells-at ≡ 1
+  pub no-kinds : (q : ℕ) → q < length (g .regions) → region-kind w′ q ≡ kind-not-begun
   pub front : SameFront w w′
 
 pub initial-state-shown : {g : Graph} {w w′ : List ℕ} → Valid g → Stands w g → used ≤ length w → w′ ≡ started g w → ShowsStarted g w w′

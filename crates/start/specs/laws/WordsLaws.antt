@@ -9,7 +9,7 @@ use Rattle.meaning.specs.Graph.{Graph, no-value}
 use Rattle.format.specs.References.{type-in, behind-all, first-return}
 use Rattle.record.specs.Stands.{OfRecord}
 use Rattle.fields.specs.ByNumber.{end-values}
-use Rattle.state.specs.Sections.{stored, filled, head, kinds, set-starts, rewrites, entries-at}
+use Rattle.state.specs.Sections.{stored, filled, head, kinds, set-starts, rewrites}
 use Rattle.state.specs.Tables.{slot}
 use Rattle.state.specs.laws.Stored.{fill-start, fill-turn, fill-stop}
 use Rattle.shown.specs.Front.{SameFront}
@@ -17,6 +17,7 @@ use Rattle.shown.specs.laws.FrontKept.{stands-on, front-same, front-stored, fro
 use Rattle.shown.specs.laws.Fills.{fill-front}
 use Rattle.start.specs.Words.{nothing-rewritten, nothing-begun, slots-placed, emptied, returned-type, returned-count, counted}
 use Rattle.start.specs.Words.{returned, started, ReturnedLeft}
+use Rattle.state.specs.Rows.{entries-at, regions-at, returned-at, types-at}
 
 pub returned-start : (g : Graph) (l : List ℕ) → ReturnedLeft g 0 l l
 returned-start g l = record { front = front-same l; left = fill-start head (λ k. 9 + k) (returned-type g) _ l }
@@ -28,7 +29,7 @@ module _ {q k n few : ℕ} {l₀ l : List ℕ} (first : OfRecord l₀ (λ g. q �
   turns g s = let e : n ≡ returned-count g = count g s ∙ rw (first g s) in omega arith
 
   pub returned-turn : k < few → {t : ℕ} → OfRecord l (λ g. t ≡ type-in g q (behind-all g q) (getD (end-values g q) k no-value))
-      → {l′ : List ℕ} → l′ ≡ stored l head (9 + k) t → OfRecord l₀ (λ g. ReturnedLeft g (k + 1) l₀ l′)
+      → {l′ : List ℕ} → l′ ≡ stored l head (types-at + k) t → OfRecord l₀ (λ g. ReturnedLeft g (k + 1) l₀ l′)
   unfolding returned-type
   returned-turn h {t} type e g s =
       let x = left g s in
@@ -39,7 +40,7 @@ module _ {q k n few : ℕ} {l₀ l : List ℕ} (first : OfRecord l₀ (λ g. q �
         left = rw (e, f) (fill-turn head (λ k. 9 + k) (returned-type g) (min (returned-count g) 4) k l (omega arith) (x .left));
       }
 
-  pub returned-stop : few ≤ k → {l′ : List ℕ} → l′ ≡ stored l head 8 n → OfRecord l₀ (λ g. l′ ≡ returned g l₀)
+  pub returned-stop : few ≤ k → {l′ : List ℕ} → l′ ≡ stored l head returned-at n → OfRecord l₀ (λ g. l′ ≡ returned g l₀)
   returned-stop h e g s =
       let all = turns g s in
       let f = fill-stop head (λ k. 9 + k) (returned-type g) (min (returned-count g) 4) k l (omega arith) (left g s .left) in
@@ -63,5 +64,5 @@ started-by l {n} {l₃ = l₃} {l₄} many a b c totals types g s =
     let e : l₃ ≡ emptied n l = rw (c, b, a) in
     let s₃ = stands-on {w′ = l₃} (rw e (emptied-front n l)) s in
     let y = totals g s₃ in
-    let s₄ = stands-on {w′ = l₄} (rw y (front-run l₃ head (omega arith) 0 _)) s₃ in
+    let s₄ = stands-on {w′ = l₄} (rw y (front-run l₃ head (omega arith) regions-at _)) s₃ in
     types g s₄ ∙ rw (y, e, many g s)

@@ -1,22 +1,22 @@
 -- The turns of a search for a target among bundles, and of moving bundles up.
 use mathlib.Core.Path.{_≡_}
 use mathlib.Core.List.{List}
-use Prim.Native.Nat.{ℕ, suc, _+_, _*_, _-_, _≤_, _<_}
+use Prim.Native.Nat.{ℕ, suc, _+_, _-_, _≤_, _<_}
 use native.Mathlib.Omega.{arith}
 use native.Mathlib.Numerals.{add-one}
 use borrow.Author.Tests.{eq-eqb, ne-eqb}
-use Rattle.state.specs.Sections.{word, bundles}
 use Rattle.state.specs.Tables.{bundle-at, find-by, shifted, bundle-copied}
+use Rattle.state.specs.Rows.{bundle-target}
 
 pub find-start : (l : List ℕ) (start t n : ℕ) → find-by l start t (n - 0) 0 ≡ find-by l start t n 0
 find-start l start t n = let e : n - 0 ≡ n = omega arith in rw e
 
 module _ (l : List ℕ) (start t n i : ℕ) {whole : ℕ} where
-  pub find-found : i < n → word l bundles (7 * bundle-at start i + 0) ≡ t → find-by l start t (n - i) i ≡ whole → bundle-at start i ≡ whole
+  pub find-found : i < n → bundle-target l (bundle-at start i) ≡ t → find-by l start t (n - i) i ≡ whole → bundle-at start i ≡ whole
   unfolding find-by
   find-found h e q = let s : n - i ≡ suc (n - (i + 1)) = omega arith in rw (eq-eqb _ _ e) at (rw s at q)
 
-  pub find-turn : i < n → (word l bundles (7 * bundle-at start i + 0) ≡ t → ⊥) → find-by l start t (n - i) i ≡ whole
+  pub find-turn : i < n → (bundle-target l (bundle-at start i) ≡ t → ⊥) → find-by l start t (n - i) i ≡ whole
       → find-by l start t (n - (i + 1)) (i + 1) ≡ whole
   unfolding find-by
   find-turn h e q =

@@ -1,15 +1,15 @@
 -- The loop of place_among, turn by turn: how many of the outputs so far are the node's.
 use mathlib.Core.Path.{_≡_, _∙_}
 use mathlib.Core.List.{List}
-use Prim.Native.Nat.{ℕ, _+_, _*_, _≤_}
+use Prim.Native.Nat.{ℕ, _+_, _≤_}
 use native.Mathlib.Omega.{arith}
 use native.Mathlib.Numerals.{add-one}
 use borrow.Author.Tests.{eq-eqb, ne-eqb}
-use Rattle.state.specs.Sections.{word, outputs}
 use Rattle.writing.specs.Outputs.{node-times}
+use Rattle.state.specs.Rows.{output-node}
 
 -- ---- The loop that counts, turn by turn.
-module _ (w : List ℕ) (node i : ℕ) {sum x : ℕ} (before : sum ≡ node-times w node i) (is : x ≡ word w outputs (10 * i)) where
+module _ (w : List ℕ) (node i : ℕ) {sum x : ℕ} (before : sum ≡ node-times w node i) (is : x ≡ output-node w i) where
   pub one-more : {n : ℕ} → x ≡ node → n ≡ sum + 1 → n ≡ node-times w node (i + 1)
   unfolding node-times
   one-more e d = d ∙ rw (add-one i, before, ← is, eq-eqb x node e)

@@ -1,7 +1,7 @@
 -- For every state that the words show, a value's three words are those of the definition.
 use mathlib.Core.Path.{_≡_, refl, sym, ap, _∙_}
 use mathlib.Core.List.{List, [], _∷_, _++_}
-use Prim.Native.Nat.{ℕ, zero, suc, _+_, _*_, _-_, _≤_, _<_}
+use Prim.Native.Nat.{ℕ, zero, suc, _+_, _-_, _≤_, _<_}
 use native.Mathlib.Omega.{arith}
 use native.Mathlib.Decide.{decLt}
 use lib.ListN.{length, getD, take, length-map, List·getD-eq-default}
@@ -14,7 +14,7 @@ use Rattle.meaning.specs.facts.Elements.{getD-map-in}
 use Rattle.meaning.specs.facts.Tests.{eqb-sym}
 use Rattle.nesting.specs.Nesting.{NestState, NodeOutput, unmarked, look-up}
 use Rattle.nesting.specs.Sheet as sheet
-use Rattle.state.specs.Sections.{word, head, outputs}
+use Rattle.state.specs.Sections.{word, head}
 use Rattle.state.specs.Values.{parts-of}
 use Rattle.shown.specs.Values.{value}
 use Rattle.shown.specs.laws.ValueWords.{Ranged, in-const, in-false, in-true, in-undef, in-output, in-input, in-held, in-instr, in-none}
@@ -24,10 +24,12 @@ use Rattle.lookups.specs.LookUps as words
 use Rattle.lookups.specs.laws.Shown.{look-up-shown}
 use Rattle.writing.specs.Parts.{Concluded, output-nodes, value-part}
 use Rattle.writing.specs.Outputs.{node-of, node-times, place-among, value-words}
+use Rattle.state.specs.Values.{input-from, instr-from, names-nothing, output-from, undef-from}
+use Rattle.state.specs.Rows.{output-node, outputs-at}
 
 -- ---- Outputs: node and place.
 module _ {w : List ℕ} {s : NestState} (t : ShowsTables w s) where
-  node-at : (i : ℕ) → i < length (s .node-outputs) → word w outputs (10 * i) ≡ getD (output-nodes s) i 0
+  node-at : (i : ℕ) → i < length (s .node-outputs) → output-node w i ≡ getD (output-nodes s) i 0
   node-at i h = t .outputs-shown i h .node ∙ sym (getD-map-in (λ (o : NodeOutput). o .node) (s .node-outputs) i no-output 0 h)
 
   pub node-shown : (o : ℕ) → node-of w o ≡ getD (output-nodes s) o 0
@@ -35,8 +37,8 @@ module _ {w : List ℕ} {s : NestState} (t : ShowsTables w s) where
   node-shown o =
       let n = t .output-total in
       elim (decLt o (length (s .node-outputs))) [
-        | yes h ↦ rw (lt-ltb o (word w head 3) (omega arith)) (node-at o h)
-        | no h ↦ rw (le-ltb o (word w head 3) (omega arith))
+        | yes h ↦ rw (lt-ltb o (word w head outputs-at) (omega arith)) (node-at o h)
+        | no h ↦ rw (le-ltb o (word w head outputs-at) (omega arith))
             (sym (List·getD-eq-default (output-nodes s) 0 (rw (length-map (s .node-outputs) (λ (o : NodeOutput). o .node)) (omega arith))))
       ]
 
@@ -57,8 +59,8 @@ module _ {w : List ℕ} {s : NestState} (t : ShowsTables w s) where
       let total = t .output-total in
       let size : length (output-nodes s) ≡ length (s .node-outputs) = length-map (s .node-outputs) (λ (o : NodeOutput). o .node) in
       elim (decLt o (length (s .node-outputs))) [
-        | yes h ↦ rw (lt-ltb o (word w head 3) (omega arith)) (times-shown n o (omega arith))
-        | no h ↦ rw (le-ltb o (word w head 3) (omega arith), total) (times-shown n (length (s .node-outputs)) (omega arith)
+        | yes h ↦ rw (lt-ltb o (word w head outputs-at) (omega arith)) (times-shown n o (omega arith))
+        | no h ↦ rw (le-ltb o (word w head outputs-at) (omega arith), total) (times-shown n (length (s .node-outputs)) (omega arith)
             ∙ ap (times-in n) (take-all (length (s .node-outputs)) (output-nodes s) (omega arith)
             ∙ sym (take-all o (output-nodes s) (omega arith))))
       ]
@@ -70,40 +72,55 @@ module _ {w : List ℕ} {s : NestState} (t : ShowsTables w s) where
   words-shown x (in-false a e) = rw (e, a)
   words-shown x (in-true a e) = rw (e, a)
   words-shown x (in-undef a b e) =
-      rw (e, le-ltb x 64 (omega arith), le-ltb x 66 a, lt-ltb x 322 b)
+      rw (e, le-ltb x 64 (omega arith), le-ltb x undef-from a, lt-ltb x output-from b)
   words-shown x (in-output a b e) =
       rw (
         e,
         le-ltb x 64 (omega arith),
-        le-ltb x 66 (omega arith),
-        le-ltb x 322 a,
-        lt-ltb x 1024 b,
-        node-shown (x - 322),
-        place-shown (getD (output-nodes s) (x - 322) 0) (x - 322),
+        le-ltb x undef-from (omega arith),
+        le-ltb x output-from a,
+        lt-ltb x input-from b,
+        node-shown (x - output-from),
+        place-shown (getD (output-nodes s) (x - output-from) 0) (x - output-from),
       )
   words-shown x (in-input a b e) =
-      rw (e, le-ltb x 64 (omega arith), le-ltb x 66 (omega arith), le-ltb x 322 (omega arith), le-ltb x 1024 a, lt-ltb x 2048 (omega arith))
+      rw (
+        e,
+        le-ltb x 64 (omega arith),
+        le-ltb x undef-from (omega arith),
+        le-ltb x output-from (omega arith),
+        le-ltb x input-from a,
+        lt-ltb x instr-from (omega arith),
+      )
   words-shown x (in-held a b e) =
-      rw (e, le-ltb x 64 (omega arith), le-ltb x 66 (omega arith), le-ltb x 322 (omega arith), le-ltb x 1024 (omega arith), lt-ltb x 2048 b)
+      rw (
+        e,
+        le-ltb x 64 (omega arith),
+        le-ltb x undef-from (omega arith),
+        le-ltb x output-from (omega arith),
+        le-ltb x input-from
+            (omega arith),
+        lt-ltb x instr-from b,
+      )
   words-shown x (in-instr a b e) =
       rw (
         e,
         le-ltb x 64 (omega arith),
-        le-ltb x 66 (omega arith),
-        le-ltb x 322 (omega arith),
-        le-ltb x 1024 (omega arith),
-        le-ltb x 2048 a,
-        lt-ltb x 4096 b,
+        le-ltb x undef-from (omega arith),
+        le-ltb x output-from (omega arith),
+        le-ltb x input-from (omega arith),
+        le-ltb x instr-from a,
+        lt-ltb x names-nothing b,
       )
   words-shown x (in-none a e) =
       rw (
         e,
         le-ltb x 64 (omega arith),
-        le-ltb x 66 (omega arith),
-        le-ltb x 322 (omega arith),
-        le-ltb x 1024 (omega arith),
-        le-ltb x 2048 (omega arith),
-        le-ltb x 4096 a,
+        le-ltb x undef-from (omega arith),
+        le-ltb x output-from (omega arith),
+        le-ltb x input-from (omega arith),
+        le-ltb x instr-from (omega arith),
+        le-ltb x names-nothing a,
       )
 
 -- ---- A value looked up for the last time.

@@ -1,7 +1,7 @@
 -- `materialize_lazy_cond` meets its contract. The measure is the condition's number: a part's is smaller. The loop's invariant: the parts
 -- passed are made.
 use mathlib.Core.Path.{_≡_, refl}
-use Prim.Native.Nat.{ℕ, _+_, _*_, _-_, _<_, _≤_}
+use Prim.Native.Nat.{ℕ, _-_, _<_, _≤_}
 use native.Mathlib.Omega.{arith}
 use lib.ListN.{length, length-set}
 use borrow.Author.Needs.{needs}
@@ -23,6 +23,7 @@ use Rattle.state.proofs.conditions.shape_size.Reads as shape-size
 use Rattle.state.proofs.values.undef.Reads as undef
 use Rattle.lookups.proofs.materialize.+materialize_lazy_cond.{statement}
 use Rattle.lookups.proofs.materialize.+materialize_lazy_cond.Tie.{close}
+use Rattle.state.specs.Rows.{merge-part-at}
 
 abbrev measure : Measures 1 kinds.ps ℕ
 measure κs a = a .1 .0
@@ -93,8 +94,7 @@ module _ (t : ℕ) where
           c .before .cond-part .ensures,
           part-below
               (word (at-loop .loop .w) conditions
-              (9 * at-pre .args .c +
-              (1 + at-loop .loop .j)))
+              (merge-part-at (at-pre .args .c) (at-loop .loop .j)))
               (at-pre .args .c)
               (at-if .if3 .left),
         ),

@@ -10,6 +10,7 @@ use Rattle.selects.specs.laws.EmitsLaws.{in-none, in-more, in-all}
 use borrow.Author.Needs.{needs}
 use Rattle.selects.proofs.emit.conditions_in_cases.Statement.{statement}
 use Rattle.selects.proofs.emit.conditions_in_cases.Tie as tie
+use Rattle.state.specs.Values.{parts}
 
 abbrev Inv-loop : tie.InvT-loop
 Inv-loop w places n parts₀ j₀ parts j = (n ≡ case-total w) × (n ≤ 8) × (j ≤ n) × InCases j (λ i. per-case-condition w i (getD places i 0)) 0

@@ -9,10 +9,11 @@ use Rattle.selects.specs.laws.EmitsLaws.{in-none, in-more, in-all}
 use borrow.Author.Needs.{needs}
 use Rattle.selects.proofs.emit.values_in_cases.Statement.{statement}
 use Rattle.selects.proofs.emit.values_in_cases.Tie as tie
+use Rattle.state.specs.Values.{undef-from}
 
 abbrev Inv-loop : tie.InvT-loop
 Inv-loop w places k ty n vs₀ j₀ vs j = (n ≡ case-total w) × (n ≤ 8) × (j ≤ n) × InCases j
-    (λ i. value-in-case w (getD places i 0) k ty) 66 vs
+    (λ i. value-in-case w (getD places i 0) k ty) undef-from vs
 
 abbrev μ-loop : tie.MeasureT-loop
 μ-loop w places k ty n vs₀ j₀ vs j = n - j
@@ -21,7 +22,7 @@ case-count-requires : tie.Need-case-count-requires Inv-loop μ-loop
 case-count-requires c κs = search needs
 
 loop-holds : tie.Need-loop-holds Inv-loop μ-loop
-loop-holds c = (c .case-count .ensures, few-total _ _ (c .case-count .ensures), omega arith, in-none _ 66)
+loop-holds c = (c .case-count .ensures, few-total _ _ (c .case-count .ensures), omega arith, in-none _ undef-from)
 
 cast-value-in-case : tie.Need-cast-value-in-case Inv-loop μ-loop
 cast-value-in-case c = search needs

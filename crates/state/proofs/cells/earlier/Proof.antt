@@ -1,4 +1,4 @@
-use Rattle.state.specs.CellRows.{earlier}
+use Rattle.state.specs.Rows.{earlier}
 use Rattle.meaning.specs.facts.Tests.{picked, passed-over}
 use borrow.Author.Tests.{lt-ltb, le-ltb}
 use Rattle.state.proofs.cells.earlier.Statement.{statement}

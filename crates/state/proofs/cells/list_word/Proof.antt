@@ -1,5 +1,5 @@
 use Prim.Native.Nat.{ℕ}
-use Rattle.state.specs.CellRows.{earlier}
+use Rattle.state.specs.Rows.{earlier}
 use mathlib.Core.Path.{ap, _∙_}
 use borrow.Author.Needs.{needs}
 use Rattle.state.proofs.cells.list_word.Statement.{statement}

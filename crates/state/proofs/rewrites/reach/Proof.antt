@@ -1,5 +1,5 @@
 use mathlib.Core.Path.{_≡_, refl, _∙_}
-use Prim.Native.Nat.{_-_, _*_}
+use Prim.Native.Nat.{_-_}
 use borrow.Author.Needs.{needs}
 use Rattle.meaning.specs.facts.Tests.{picked, passed-over, is-below, not-below}
 use Rattle.state.specs.Sections.{rewrites}
@@ -7,6 +7,7 @@ use Rattle.state.specs.Tables.{cleared, reached}
 use Rattle.state.specs.laws.Stored.{fill-turn, fill-stop}
 use Rattle.state.proofs.rewrites.reach.Statement.{statement}
 use Rattle.state.proofs.rewrites.reach.Tie as tie
+use Rattle.state.specs.Rows.{rewrite-kind-at}
 
 abbrev Inv-loop : tie.InvT-loop
 Inv-loop w₀ r q₀ w q = cleared (r - q) q w ≡ cleared (r - q₀) q₀ w₀
@@ -40,7 +41,7 @@ loop-less : tie.Need-loop-less Inv-loop μ-loop
 loop-less c = search needs
 
 loop-again : tie.Need-loop-again Inv-loop μ-loop
-loop-again c = rw (c .put .ensures) (fill-turn rewrites (λ q. 5 * q) (λ q. 0) _ _ _ (c .before .before .loop-test .taken)
+loop-again c = rw (c .put .ensures) (fill-turn rewrites (λ q. rewrite-kind-at q) (λ q. 0) _ _ _ (c .before .before .loop-test .taken)
     (c .before .before .before .loop .inv))
 
 add-put : tie.Need-add-put Inv-loop μ-loop
@@ -56,7 +57,7 @@ returns-2 c =
     let at-loop = at-loop-test .before in
     let at-if = at-loop .before in
     let number = at-if .before .entries .ensures in
-    let all = fill-stop rewrites (λ q. 5 * q) (λ q. 0) _ _ _ (at-loop-test .loop-test .left) (at-loop .loop .inv) in
+    let all = fill-stop rewrites (λ q. rewrite-kind-at q) (λ q. 0) _ _ _ (at-loop-test .loop-test .left) (at-loop .loop .inv) in
     (rw (all, number) at (c .put2 .ensures)) ∙ passed-over _ _ (not-below (at-if .if1 .left) number)
 
 pub reach-spec : {M : Type 1} → statement M

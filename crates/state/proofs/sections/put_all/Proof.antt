@@ -9,11 +9,12 @@ use Rattle.state.proofs.sections.put_all.Statement.{statement}
 use Rattle.state.proofs.sections.put_all.Tie as tie
 
 abbrev Inv-loop : tie.InvT-loop
-Inv-loop w₀ section size i xs j₀ w j =
-    (j ≤ length xs) × (stored-all-at section size w (i + j) (drop j xs) ≡ stored-all-at section size w₀ i xs)
+Inv-loop w₀ section i xs j₀ w j =
+    (j ≤ length xs) ×
+    (stored-all-at (section .from) (section .words) w (i + j) (drop j xs) ≡ stored-all-at (section .from) (section .words) w₀ i xs)
 
 abbrev μ-loop : tie.MeasureT-loop
-μ-loop w₀ section size i xs j₀ w j = length xs - j
+μ-loop w₀ section i xs j₀ w j = length xs - j
 
 loop-holds : tie.Need-loop-holds Inv-loop μ-loop
 loop-holds c = (omega arith, run-start _ _ _ _ _)
