@@ -3,8 +3,8 @@ ghost use mathlib.Core.Path.{_≡_};
 ghost use Prim.Native.Nat.{_<_};
 ghost use Rattle.c_interface.specs.Exported.{AcceptExported, NestExported};
 use accept::Accepted;
-use nest_state::NestState;
 use nester::SheetAnswer;
+use state_lent::NestState;
 use store::WORDS;
 
 fn wide(x: u16) -> u32

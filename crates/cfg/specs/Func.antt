@@ -8,14 +8,14 @@ use lib.ListN.{length, getD}
 use Rattle.meaning.specs.Graph.{Graph}
 use Rattle.format.specs.Valid.{Valid}
 use Rattle.nesting.specs.Nesting.{incoming-edge-counts}
-use Rattle.state.specs.Sections.{word, set-lengths}
-use Rattle.start.specs.Words.{started}
-use Rattle.cfg.specs.declared.claim.Claim.{Claim}
-use Rattle.cfg.specs.declared.claim.Claim.the-variants as claim
+use Rattle.state_words.specs.Sections.{word, set-lengths}
+use Rattle.cfg_start.specs.Words.{started}
+use Rattle.cfg_regions.specs.declared.claim.Claim.{Claim}
+use Rattle.cfg_regions.specs.declared.claim.Claim.the-variants as claim
 use Rattle.cfg.specs.declared.func.Nested.{Nested}
 use Rattle.cfg.specs.declared.func.Nested.the-variants.{Untouched, Whole, Closed, Leftover, Refused}
-use Rattle.cfg.specs.Claims.{own-target, TriesClaim}
-use Rattle.state.specs.Rows.{return-word}
+use Rattle.cfg_claims.specs.Claims.{own-target, TriesClaim}
+use Rattle.state_words.specs.Rows.{return-word}
 
 -- By the entry's set: none, Return alone, or another.
 pub data Outcomes (w : List ℕ) (entry : ℕ) : Nested → Type 0 where

@@ -8,11 +8,11 @@ use Rattle.format.specs.Store.{Answer, accepted, refused}
 use Rattle.nesting.specs.Nesting.{Nested, Outcome, untouched, whole, closed, leftover, outcome-of, conclude-by, NestState}
 use Rattle.nesting.specs.Nesting.{initial-state, Body}
 use Rattle.nesting.specs.lookups.ChainEnds.{ChainsEnd}
-use Rattle.shown.specs.Front.{SameFront}
-use Rattle.shown.specs.States.{ShowsState, ShowsBody}
+use Rattle.state_shown.specs.Front.{SameFront}
+use Rattle.state_shown.specs.States.{ShowsState, ShowsBody}
 use Rattle.cfg.specs.declared.func.Nested as code
 use Rattle.cfg.specs.declared.func.Nested.the-variants.{Untouched, Whole, Closed, Leftover, Refused}
-use Rattle.state.specs.Rows.{kind-claimed, region-kind}
+use Rattle.state_words.specs.Rows.{kind-claimed, region-kind}
 
 abbrev pub outcome-code : Outcome → code.Nested
 outcome-code untouched = Untouched

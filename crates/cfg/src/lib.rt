@@ -1,5 +1,2 @@
-// The Structurizer on the lent words, beside src/cfg.rs: claims and regions, which call each other, and the whole.
-pub mod claim;
-pub mod claims;
+// structurize_func: from a record that stands in the words to its nested form, whole, closed or left over.
 pub mod func;
-pub mod inst;

@@ -10,7 +10,7 @@ use lib.ListN.{length, getD, take, drop, drop-of-length-le}
 use lib.Seq.{drop-cons}
 use Rattle.format.specs.Accept.{accept}
 use Rattle.format.specs.laws.Refusals.{refusal-range}
-use Rattle.record_text.specs.Listing.{shown-text}
+use Rattle.text_parts.specs.Listing.{shown-text}
 use Rattle.accept.specs.declared.Accepted.the-variants.{Record, Refused}
 use Rattle.accept.specs.Judged.{words-given, not-given}
 use Rattle.accept.specs.Accepts.{Accepts}

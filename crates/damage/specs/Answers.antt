@@ -7,7 +7,7 @@ use lib.Dec.{eqb, ltb}
 use Rattle.meaning.specs.Graph.{Graph}
 use Rattle.format.specs.Store.{Answer, accepted, refused}
 use Rattle.format.specs.Accept.{accept}
-use Rattle.record_text.specs.Listing.{listing-of}
+use Rattle.text_parts.specs.Listing.{listing-of}
 use Rattle.damage.specs.Changes.{bit-changed}
 use Rattle.damage.specs.declared.answers.Brief.{Brief}
 

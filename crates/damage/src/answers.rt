@@ -3,7 +3,7 @@ ghost use mathlib.Core.Path.{_≡_};
 ghost use Prim.Native.Nat.{_+_, _%_, _≤_};
 ghost use lib.ListN.{length, take};
 ghost use Rattle.format.specs.Accept.{accept};
-ghost use Rattle.record_text.specs.Listing.{shown-text};
+ghost use Rattle.text_parts.specs.Listing.{shown-text};
 ghost use Rattle.damage.specs.Answers.{sum-from, brief, is-listed};
 use accept::Accepted;
 use store::WORDS;
@@ -43,7 +43,7 @@ fn shown_sum(bytes: &[u8], words: &mut [u16; WORDS], out: &mut [u8]) -> u8
     requires { ⌜ length (now out) ≡ 65536 ⌝ }
     ensures { λ r. ⌜ r ≡ sum-from 0 (shown-text (accept (now (bytes .entry)))) ⌝ }
 {
-    let written = show_text::show(bytes, words, out);
+    let written = text_show::show(bytes, words, out);
     let Written::Bytes(n) = written else {
         return 0;
     };

@@ -9,10 +9,10 @@ use Rattle.meaning.specs.Runs.{Nodes, Cases}
 use Rattle.nesting.specs.Sheet.{figure, dearest}
 use Rattle.record.specs.Stands.{OfRecord}
 use Rattle.fields.specs.ByNumber.{block-of}
-use Rattle.state.specs.Sections.{section, cells}
-use Rattle.state.specs.Rows.{cell-tag}
-use Rattle.shown.specs.Cells.{ShowsNodes, ShowsCaseCells}
-use Rattle.children.specs.CellByCell.{CellAdded}
+use Rattle.state_words.specs.Sections.{section, cells}
+use Rattle.state_words.specs.Rows.{cell-tag}
+use Rattle.state_shown.specs.Cells.{ShowsNodes, ShowsCaseCells}
+use Rattle.state_lists.specs.CellByCell.{CellAdded}
 use Rattle.figure.specs.laws.Nodes.{block-cost}
 
 abbrev pub capped : ℕ → ℕ

@@ -17,7 +17,7 @@ fn main() {
         return;
     }
     let n = input.size;
-    let written = nest_text::print(&bytes[..n], &mut words, &mut out, &mut text);
+    let written = text_nest::print(&bytes[..n], &mut words, &mut out, &mut text);
     let size = text_size(written, &text);
     if !io::write_all(STDOUT_FILENO, &text[..size]) {
         io::write_all(STDERR_FILENO, b"nest: standard output cannot be written\n");

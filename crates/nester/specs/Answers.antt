@@ -8,7 +8,7 @@ use Rattle.store.specs.Loaded.{words-counted, words-after}
 use Rattle.nesting.specs.Nesting.{structurize-func}
 use Rattle.nesting.specs.Sheet as sheet
 use Rattle.nesting.specs.Sheet.{sheet-of, sheet-words, figure-fits, words-fit}
-use Rattle.shown.specs.Front.{SameFront}
+use Rattle.state_shown.specs.Front.{SameFront}
 use Rattle.sheet.specs.Written.{OfShownAnswer, OfSheet, lent}
 use Rattle.nester.specs.declared.SheetAnswer.{SheetAnswer}
 use Rattle.nester.specs.declared.SheetAnswer.the-variants.{Sheet, Refused}

@@ -8,7 +8,7 @@ use Rattle.nesting.specs.Sheet.{Sheet, answer, answer-words}
 use Rattle.follows.specs.Statements.{SoundSheet}
 use Rattle.accept.specs.Accepts.{Accepts}
 use Rattle.accept.specs.declared.Accepted.{Accepted}
-use Rattle.shown.specs.Front.{SameFront}
+use Rattle.state_shown.specs.Front.{SameFront}
 use Rattle.sheet.specs.Written.{lent}
 use Rattle.nester.specs.declared.SheetAnswer.{SheetAnswer}
 use Rattle.nester.specs.Answers.{Ends}

@@ -1,5 +1,5 @@
 // The public routine: from a store's bytes to the sheet in lent words, or a refusal.
-ghost use Rattle.cfg.specs.Claims.{Stood};
+ghost use Rattle.cfg_claims.specs.Claims.{Stood};
 ghost use Rattle.format.specs.Valid.{Valid};
 ghost use Rattle.record.specs.Stands.{OfRecord};
 ghost use Rattle.nester.specs.Answers as answers;
@@ -15,7 +15,7 @@ use sheet::whole::Sheet;
 use sheet::whole::UNTOUCHED;
 use sheet::whole::WHOLE;
 use sheet::whole::write_sheet;
-use state::regions::children;
+use state_regions::regions::children;
 use store::WORDS;
 use store::refusals::FIGURE_TOO_LARGE;
 use store::refusals::TOO_FEW_WORDS;

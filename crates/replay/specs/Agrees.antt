@@ -3,17 +3,14 @@ use mathlib.Core.Path.{_≡_, sym, ap, _∙_}
 use mathlib.Core.Bool.{Bool, true, false, _&&_}
 use mathlib.Core.List.{List}
 use Prim.Native.Nat.{ℕ, _-_, _≤_, _<_}
-use native.Mathlib.Nat.{sub-zero}
-use lib.ListN.{length, getD, take, drop}
+use lib.ListN.{length, getD}
 use lib.Dec.{eqb, ltb}
 use borrow.Author.Tests.{lt-ltb, le-ltb}
 use Rattle.format.specs.Accept.{accept}
-use Rattle.record_text.specs.Listing.{shown-text}
+use Rattle.text_parts.specs.Listing.{shown-text}
 use Rattle.vectors.specs.Same.{same-list}
-use Rattle.vectors.specs.laws.SameLaws.{as-same}
-use Rattle.text.specs.Whole.{InFront}
 use Rattle.vectors.specs.Parts.{behind, listed-store, answer-of}
-use Rattle.replay.specs.Sheets.{is-nested}
+use Rattle.replay_sheets.specs.Sheets.{is-nested}
 
 abbrev pub is-shown : List ℕ → List ℕ → Bool
 is-shown store listed = same-list (shown-text (accept store)) listed
@@ -41,9 +38,3 @@ kept-whole v h {s} {l} p q {b} kind is =
     ∙ ap (is-right b (listed-store v)) q
     ∙ ap (λ x. is-right x (listed-store v) (answer-of v)) (sym kind)
     ∙ rw (agrees, lt-ltb (length v) 65536 h)
-
--- A comparison of the listed text with &after[0..n], where what is shown stands.
-pub as-shown : {text after listed : List ℕ} {n : ℕ} {r : Bool} → InFront text after n
-    → (r ≡ true → take (n - 0) (drop 0 after) ≡ listed) × (take (n - 0) (drop 0 after) ≡ listed → r ≡ true)
-    → r ≡ same-list text listed
-as-shown {listed = listed} front h = as-same _ _ _ h ∙ ap (λ l. same-list l listed) (rw sub-zero (front .is))

@@ -1,6 +1,4 @@
 // Replays a list of stores with their answers, read from standard input, and prints how many agree.
-mod sheets;
-
 ghost use mathlib.Core.Path.{_≡_};
 ghost use Prim.Native.Nat.{_≤_};
 ghost use mathlib.Core.List.{[], _∷_};
@@ -9,8 +7,8 @@ ghost use Rattle.vectors.specs.Reading.{Reads};
 ghost use Rattle.replay.specs.Agrees.{of-sheet, is-shown, agrees};
 use libc::STDIN_FILENO;
 use libc::STDOUT_FILENO;
-use sheets::PRINTED;
-use sheets::is_nested;
+use replay_sheets::sheets::PRINTED;
+use replay_sheets::sheets::is_nested;
 use store::WORDS;
 use text::Written;
 use vectors::STORE;
@@ -29,7 +27,7 @@ fn is_shown(
     requires { ⌜ (size ≤ length (now bytes)) × (65536 ≤ length (now out)) ⌝ }
     ensures { λ r. ⌜ r ≡ is-shown (take size (now (bytes .entry))) (now (listed .entry)) ⌝ }
 {
-    let written = show_text::show(&bytes[..size], words, out);
+    let written = text_show::show(&bytes[..size], words, out);
     let Written::Bytes(n) = written else {
         return false;
     };

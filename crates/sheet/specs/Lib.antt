@@ -1,7 +1,2 @@
-pub mod Whole
-pub mod Pieces
-pub mod Regions
-pub mod Walk
-pub mod Inside
 pub mod Written
 pub mod laws

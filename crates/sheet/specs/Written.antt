@@ -11,15 +11,15 @@ use Rattle.meaning.specs.Runs.{Nodes, ⟨⟩}
 use Rattle.nesting.specs.Nesting.{NestState, Nested, untouched, whole, closed, leftover, piece, conclude-with, unclaimed-from, plain}
 use Rattle.nesting.specs.Nesting.{DeferredEdgeBundle, DeferredEdgeBundleSet, region-body}
 use Rattle.nesting.specs.Sheet as sheet
-use Rattle.state.specs.Sections.{word, head}
-use Rattle.shown.specs.States.{ShowsBody}
-use Rattle.writing.specs.declared.place.Place.{Place}
-use Rattle.writing.specs.Puts.{Puts, written}
-use Rattle.writing.specs.Parts.{OfState, most}
+use Rattle.state_words.specs.Sections.{word, head}
+use Rattle.state_shown.specs.States.{ShowsBody}
+use Rattle.sheet_words.specs.declared.place.Place.{Place}
+use Rattle.sheet_words.specs.Puts.{Puts, written}
+use Rattle.sheet_words.specs.Parts.{OfState, most}
 use Rattle.sheet.specs.declared.whole.Sheet.{Sheet}
 use Rattle.sheet.specs.declared.whole.Sheet.the-variants.{Words, TooFew}
-use Rattle.sheet.specs.Whole.{nested-lines, nested-words}
-use Rattle.state.specs.Rows.{attempts-at, kind-claimed, region-kind, twice-at}
+use Rattle.sheet_nodes.specs.Whole.{nested-lines, nested-words}
+use Rattle.state_words.specs.Rows.{attempts-at, kind-claimed, region-kind, twice-at}
 
 -- ---- How the words show a nested answer: by the number of its outcome, and the entry's children and set.
 pub data ShowsAnswer (g : Graph) (w : List ℕ) (s : NestState) (x : Nested) : ℕ → Type 0 where

@@ -1,13 +1,13 @@
 // Line 1: outcome, figure, attempts, twice.
 ghost use mathlib.Core.Path.{_≡_};
 ghost use Rattle.sheet.specs.Written as written;
-use state::defined::ATTEMPTS;
-use state::defined::TWICE;
-use state::defined::head;
+use sheet_words::place::Place;
+use sheet_words::place::put;
+use sheet_words::place::put_word;
+use state_words::defined::ATTEMPTS;
+use state_words::defined::TWICE;
+use state_words::defined::head;
 use store::WORDS;
-use writing::place::Place;
-use writing::place::put;
-use writing::place::put_word;
 
 // What was noted while nesting, or by the last rewriting.
 fn twice_word(w: &[u16; WORDS], at: Place) -> u16

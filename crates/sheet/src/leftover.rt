@@ -1,11 +1,11 @@
 // What a leftover gives: the entry and the unclaimed Ready regions, and the sets of all of them by ascending region.
-ghost use Rattle.sheet.specs.Regions as regions;
+ghost use Rattle.sheet_nodes.specs.Regions as regions;
 use crate::pieces::put_piece;
-use defer_lines::lines::put_set;
-use state::regions::READY;
-use state::regions::region_state;
+use sheet_defers::lines::put_set;
+use sheet_words::place::Place;
+use state_regions::regions::READY;
+use state_regions::regions::region_state;
 use store::WORDS;
-use writing::place::Place;
 
 fn put_ready(w: &[u16; WORDS], out: &mut [u32], at: Place, r: u16) -> Place
     ensures { λ a. ⌜ regions.PutsReady (now (w .entry)) r (now (out .entry)) at (now (out .exit)) a ⌝ }

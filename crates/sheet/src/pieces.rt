@@ -1,15 +1,15 @@
 // A region of the answer: its line, and those of its children.
-ghost use Rattle.sheet.specs.Regions as regions;
-use crate::nodes::put_nodes;
-use child_numbers::region_line::RegionInputs;
-use child_numbers::region_line::put_region_line;
-use defer_lines::inputs::put_target_inputs;
-use state::regions::children;
-use state::sets::bundle_at;
-use state::sets::set_start;
+ghost use Rattle.sheet_nodes.specs.Regions as regions;
+use sheet_defers::inputs::put_target_inputs;
+use sheet_nodes::nodes::put_nodes;
+use sheet_regions::region_line::RegionInputs;
+use sheet_regions::region_line::put_region_line;
+use sheet_words::place::Place;
+use sheet_words::place::put_word;
+use state_regions::regions::children;
+use state_sets::sets::bundle_at;
+use state_sets::sets::set_start;
 use store::WORDS;
-use writing::place::Place;
-use writing::place::put_word;
 
 // A region without outputs.
 pub fn put_piece(w: &[u16; WORDS], out: &mut [u32], at: Place, r: u16) -> Place

@@ -6,8 +6,8 @@ use crate::first_line::put_first_line;
 use crate::leftover::put_leftover;
 use crate::pieces::put_piece;
 use crate::pieces::put_whole;
+use sheet_words::place::Place;
 use store::WORDS;
-use writing::place::Place;
 
 // Outcomes as line 1 has them.
 pub const UNTOUCHED: u16 = 0;

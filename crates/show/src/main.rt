@@ -16,7 +16,7 @@ fn main() {
         return;
     }
     let n = input.size;
-    let written = show_text::show(&bytes[..n], &mut words, &mut out);
+    let written = text_show::show(&bytes[..n], &mut words, &mut out);
     let size = text_size(written, &out);
     if !io::write_all(STDOUT_FILENO, &out[..size]) {
         io::write_all(STDERR_FILENO, b"show: standard output cannot be written\n");

@@ -40,9 +40,9 @@ use denote.Triple.Clauses.{Lasts, ensured, lasts}
 use denote.Triple.Table.{entered, cited}
 use denote.Triple.Walked.{says, Stays, stay-ref, stay-none-slice, walkOf, goes-ref, goes-none-slice, Walks, ends-at, walked, walk-meets}
 use Rattle.c_interface.specs.Exported.{AcceptExported}
-use Rattle.nest_state.specs.declared.NestState.{NestState}
-use Rattle.nest_state.proofs.NestState as T
-use Rattle.nest_state.proofs.StateWords.{Words, with-words, OwnsState, words-at, words-pointer, OwnsWords, Kept, lends-words, words-back}
+use Rattle.state_lent.specs.declared.NestState.{NestState}
+use Rattle.state_lent.proofs.NestState as T
+use Rattle.state_lent.proofs.StateWords.{Words, with-words, OwnsState, words-at, words-pointer, OwnsWords, Kept, lends-words, words-back}
 use Rattle.c_interface.proofs.accept_in_words as g
 use Rattle.c_interface.proofs.accept_in_words.Symbol as g-def
 use Rattle.c_interface.proofs.accept_in_words.Symbol.{name as #g}

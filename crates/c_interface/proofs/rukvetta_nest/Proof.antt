@@ -43,9 +43,9 @@ use denote.Triple.Table.{entered, cited}
 use denote.Triple.Walked.{says, Stays, stay-ref, stay-none-slice, gave-slice, walkOf, goes-ref, goes-none-slice, goes-gave-slice, Walks}
 use denote.Triple.Walked.{ends-at, walked, walk-meets}
 use Rattle.c_interface.specs.Exported.{NestExported}
-use Rattle.nest_state.specs.declared.NestState.{NestState}
-use Rattle.nest_state.proofs.NestState as T
-use Rattle.nest_state.proofs.StateWords.{Words, with-words, OwnsState, words-at, words-pointer, OwnsWords, Kept, lends-words, words-back}
+use Rattle.state_lent.specs.declared.NestState.{NestState}
+use Rattle.state_lent.proofs.NestState as T
+use Rattle.state_lent.proofs.StateWords.{Words, with-words, OwnsState, words-at, words-pointer, OwnsWords, Kept, lends-words, words-back}
 use Rattle.c_interface.proofs.nest_in_words as g
 use Rattle.c_interface.proofs.nest_in_words.Symbol as g-def
 use Rattle.c_interface.proofs.nest_in_words.Symbol.{name as #g}

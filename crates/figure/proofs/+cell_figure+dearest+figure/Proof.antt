@@ -5,7 +5,7 @@ use native.Mathlib.Omega.{arith}
 use borrow.Author.Needs.{needs}
 use borrow.Fn.Kinds.{In}
 use borrow.Fn.PlainCycle.{Measures, is, falls, and}
-use Rattle.children.specs.laws.CellByCellLaws.{named-below, before-below}
+use Rattle.state_lists.specs.laws.CellByCellLaws.{named-below, before-below}
 use Rattle.figure.specs.Figured.{SummedTo, DearestTo}
 use Rattle.figure.specs.laws.Steps.{dearest-start, dearest-turn, dearest-all, cell-blocks, cell-joined, cell-select, cell-loop}
 use Rattle.figure.specs.laws.Steps.{cell-other}
@@ -19,20 +19,20 @@ use Rattle.figure.proofs.+cell_figure+dearest+figure.Lts-dearest as dea
 use Rattle.figure.proofs.figure.Reads as figure
 use Rattle.figure.proofs.figure.Kinds as figure-kinds
 use Rattle.figure.proofs.+cell_figure+dearest+figure.Lts-figure as figure-lts
-use Rattle.children.proofs.list_before.Reads as list-before-reads
+use Rattle.state_lists.proofs.list_before.Reads as list-before-reads
 use Rattle.fields.proofs.limit.Reads as limit-reads
 use Rattle.fields.proofs.test_cost.Reads as test-cost-reads
 use Rattle.figure.proofs.at_most.Reads as at-most-reads
 use Rattle.figure.proofs.larger.Reads as larger-reads
 use Rattle.figure.proofs.blocks_figure.Reads as blocks-figure-reads
-use Rattle.state.proofs.cells.children_of_case.Reads as children-of-case-reads
-use Rattle.state.proofs.cells.blocks_region.Reads as blocks-region-reads
-use Rattle.state.proofs.cells.loop_header.Reads as loop-header-reads
-use Rattle.state.proofs.cells.cases_after.Reads as cases-after-reads
-use Rattle.state.proofs.cells.loop_body.Reads as loop-body-reads
-use Rattle.state.proofs.cells.cell_tag.Reads as cell-tag-reads
-use Rattle.state.proofs.cells.select_cases.Reads as select-cases-reads
-use Rattle.state.proofs.cells.join_list.Reads as join-list-reads
+use Rattle.state_nodes.proofs.cells.children_of_case.Reads as children-of-case-reads
+use Rattle.state_nodes.proofs.cells.blocks_region.Reads as blocks-region-reads
+use Rattle.state_nodes.proofs.cells.loop_header.Reads as loop-header-reads
+use Rattle.state_nodes.proofs.cells.cases_after.Reads as cases-after-reads
+use Rattle.state_nodes.proofs.cells.loop_body.Reads as loop-body-reads
+use Rattle.state_nodes.proofs.cells.cell_tag.Reads as cell-tag-reads
+use Rattle.state_nodes.proofs.cells.select_cases.Reads as select-cases-reads
+use Rattle.state_nodes.proofs.cells.join_list.Reads as join-list-reads
 use Rattle.figure.proofs.+cell_figure+dearest+figure.{statement}
 use Rattle.figure.proofs.+cell_figure+dearest+figure.Tie.{close}
 

@@ -10,18 +10,18 @@ use Rattle.meaning.specs.Runs.{Nodes, Cases}
 use Rattle.meaning.specs.facts.Numbers.{max-assoc}
 use Rattle.nesting.specs.Sheet.{figure, dearest}
 use Rattle.record.specs.Stands.{Stands, OfRecord}
-use Rattle.state.specs.Sections.{section, cells}
-use Rattle.state.specs.Rows.{tag-blocks, tag-join, tag-select, tag-loop, cell-tag, blocks-region, join-list, select-cases}
-use Rattle.state.specs.Rows.{loop-body, loop-header, cases-after, children-of-case}
-use Rattle.shown.specs.Cells.{ShowsCaseCells, no-cases, case-and}
-use Rattle.shown.specs.laws.CellSteps.{no-list}
-use Rattle.children.specs.CellByCell.{list-before, CellAdded, added-blocks, added-list, added-exit, added-select}
-use Rattle.children.specs.CellByCell.{added-loop, ListAppended, appends, FirstCase, case-first}
-use Rattle.children.specs.laws.CellByCellLaws.{before-below, named-below, appended, first-case}
+use Rattle.state_words.specs.Sections.{section, cells}
+use Rattle.state_words.specs.Rows.{tag-blocks, tag-join, tag-select, tag-loop, cell-tag, blocks-region, join-list, select-cases}
+use Rattle.state_words.specs.Rows.{loop-body, loop-header, cases-after, children-of-case}
+use Rattle.state_shown.specs.Cells.{ShowsCaseCells, no-cases, case-and}
+use Rattle.state_shown.specs.laws.CellSteps.{no-list}
+use Rattle.state_lists.specs.CellByCell.{list-before, CellAdded, added-blocks, added-list, added-exit, added-select}
+use Rattle.state_lists.specs.CellByCell.{added-loop, ListAppended, appends, FirstCase, case-first}
+use Rattle.state_lists.specs.laws.CellByCellLaws.{before-below, named-below, appended, first-case}
 use Rattle.figure.specs.laws.Nodes.{figure-join, figure-blocks}
 use Rattle.figure.specs.Figured.{capped, Figured, CellFigured, DearestFigured, BlocksFigured, ToCome, SummedTo, CasesToCome}
 use Rattle.figure.specs.Figured.{DearestTo}
-use Rattle.state.specs.Values.{parts}
+use Rattle.state_words.specs.Values.{parts}
 
 -- ---- Sums and turns over what is held at the largest number.
 pub capped-times : (m n c : ℕ) → capped (m * (capped n + c)) ≡ capped (m * (n + c))

@@ -23,16 +23,16 @@ use Rattle.nesting.specs.Sheet as sheet
 use Rattle.nesting.specs.Sheet.{sheet-of, sheet-words}
 use Rattle.nesting.specs.lookups.ChainEnds.{no-more}
 use Rattle.nesting.specs.SheetNumbers.{outcome-untouched, outcome-whole, outcome-closed, outcome-leftover}
-use Rattle.state.specs.Sections.{section, cells, word}
-use Rattle.state.specs.Sections as sections
-use Rattle.shown.specs.Front.{SameFront}
-use Rattle.shown.specs.Cells.{ShowsNodes}
-use Rattle.shown.specs.States.{ShowsBody}
+use Rattle.state_words.specs.Sections.{section, cells, word}
+use Rattle.state_words.specs.Sections as sections
+use Rattle.state_shown.specs.Front.{SameFront}
+use Rattle.state_shown.specs.Cells.{ShowsNodes}
+use Rattle.state_shown.specs.States.{ShowsBody}
 use Rattle.cfg.specs.declared.func.Nested as code
 use Rattle.cfg.specs.declared.func.Nested.the-variants as outcomes
 use Rattle.cfg.specs.FuncShown.{ShowsNested, outcome-code, shows-untouched, shows-nested, shows-refused}
 use Rattle.figure.specs.Figured.{Figured}
-use Rattle.writing.specs.Parts.{Concluded}
+use Rattle.sheet_words.specs.Parts.{Concluded}
 use Rattle.sheet.specs.declared.whole.Sheet as code-sheet
 use Rattle.sheet.specs.declared.whole.Sheet.the-variants.{Words, TooFew}
 use Rattle.sheet.specs.Written.{ShowsAnswer, lent, SheetWritten, sheet-written, too-few, WritesSheet}
@@ -40,7 +40,7 @@ use Rattle.sheet.specs.Written as written
 use Rattle.nester.specs.declared.SheetAnswer.{SheetAnswer}
 use Rattle.nester.specs.declared.SheetAnswer.the-variants.{Sheet, Refused}
 use Rattle.nester.specs.Answers.{Ends, words-if-fit, words-if-figured, record-words, WritesAnswer, FormsAnswer, NestsRecord}
-use Rattle.state.specs.Rows.{kind-claimed, region-kind}
+use Rattle.state_words.specs.Rows.{kind-claimed, region-kind}
 
 module _ {b : format.Answer (List ℕ)} {out out′ : List ℕ} where
   pub ends-sheet : {ws : List ℕ} {n : ℕ} → b ≡ accepted ws → n ≡ length ws → out′ ≡ ws ++ drop (length ws) out → Ends b out out′ (Sheet n)

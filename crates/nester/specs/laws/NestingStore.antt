@@ -19,9 +19,9 @@ use Rattle.follows.specs.sound.Sound.{sound}
 use Rattle.accept.specs.Accepts.{Accepts, accept-answered}
 use Rattle.accept.specs.declared.Accepted.{Accepted}
 use Rattle.accept.specs.declared.Accepted.the-variants.{Record, Refused as Rejected}
-use Rattle.shown.specs.laws.FrontKept.{front-same}
-use Rattle.state.specs.Sections.{used}
-use Rattle.cfg.specs.Claims.{Stood}
+use Rattle.state_shown.specs.laws.FrontKept.{front-same}
+use Rattle.state_words.specs.Sections.{used}
+use Rattle.cfg_claims.specs.Claims.{Stood}
 use Rattle.sheet.specs.Written.{lent}
 use Rattle.nester.specs.declared.SheetAnswer.{SheetAnswer}
 use Rattle.nester.specs.declared.SheetAnswer.the-variants.{Refused}

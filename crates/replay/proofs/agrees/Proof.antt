@@ -5,7 +5,7 @@ use lib.ListN.{length, take}
 use lib.Seq.{length-take-le}
 use Rattle.vectors.proofs.Laws.{behind-within, parted}
 use Rattle.replay.specs.Agrees.{answer-too-long, kept-whole}
-use Rattle.replay.proofs.Nested.{answer-within}
+use Rattle.replay_sheets.proofs.Nested.{answer-within}
 use borrow.Author.Needs.{needs}
 use Rattle.replay.proofs.agrees.Statement.{statement}
 use Rattle.replay.proofs.agrees.Tie as tie

@@ -1,8 +1,8 @@
 use mathlib.Core.Path.{sym}
 use native.Mathlib.Omega.{arith}
 use lib.Seq.{length-take-le}
-use Rattle.show_text.specs.laws.Showing.{never-full, shown-front}
-use Rattle.replay.specs.Agrees.{as-shown}
+use Rattle.text_show.specs.laws.Showing.{never-full, shown-front}
+use Rattle.replay_sheets.specs.Compared.{as-shown}
 use borrow.Author.Needs.{needs}
 use Rattle.replay.proofs.is_shown.Statement.{statement}
 use Rattle.replay.proofs.is_shown.Tie as tie

@@ -11,8 +11,8 @@ use Rattle.meaning.specs.Runs.{Node, block, select, loop, exit, Nodes, ⟨⟩, 
 use Rattle.nesting.specs.Nesting.{Nested, Piece, Outcome, untouched, whole, closed, leftover}
 use Rattle.nesting.specs.Sheet as sheet
 use Rattle.nesting.specs.SheetNumbers.{lead-region, lead-block, lead-exit}
-use Rattle.writing.specs.Parts.{most, region-words, select-words, loop-words, node-words, nodes-words, cases-words}
-use Rattle.sheet.specs.Whole.{piece-words, defer-words, nested-lines, head-words, nested-words}
+use Rattle.sheet_words.specs.Parts.{most, region-words, select-words, loop-words, node-words, nodes-words, cases-words}
+use Rattle.sheet_nodes.specs.Whole.{piece-words, defer-words, nested-lines, head-words, nested-words}
 use Rattle.sheet.specs.laws.SheetLines.{same-count, sheet-lines}
 
 -- a is as long as b, and is b where b has no more words than a word can say.

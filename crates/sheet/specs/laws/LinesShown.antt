@@ -10,13 +10,13 @@ use Rattle.record.specs.Stands.{OfRecord}
 use Rattle.nesting.specs.Nesting.{NestState, Nested, Outcome, untouched, whole, closed, leftover, Piece, piece, conclude-with}
 use Rattle.nesting.specs.Nesting.{unclaimed-from}
 use Rattle.nesting.specs.Nesting.{look-up-piece, look-up-nodes}
-use Rattle.writing.specs.declared.place.Place.{Place}
-use Rattle.writing.specs.Puts.{Puts}
-use Rattle.writing.specs.laws.PutsLaws.{puts-then, puts-none, puts-as}
-use Rattle.writing.specs.Parts.{each}
-use Rattle.writing.specs.laws.PartLaws.{parts-assoc}
-use Rattle.sheet.specs.Pieces.{piece-part, lines-part, lines-are, twice-is}
-use Rattle.sheet.specs.Regions.{PutsPiece, PutsWhole, PutsUnclaimed, PutsSets, PutsLeftover}
+use Rattle.sheet_words.specs.declared.place.Place.{Place}
+use Rattle.sheet_words.specs.Puts.{Puts}
+use Rattle.sheet_words.specs.laws.PutsLaws.{puts-then, puts-none, puts-as}
+use Rattle.sheet_words.specs.Parts.{each}
+use Rattle.sheet_words.specs.laws.PartLaws.{parts-assoc}
+use Rattle.sheet_nodes.specs.Pieces.{piece-part, lines-part, lines-are, twice-is}
+use Rattle.sheet_nodes.specs.Regions.{PutsPiece, PutsWhole, PutsUnclaimed, PutsSets, PutsLeftover}
 use Rattle.sheet.specs.Written.{ShowsAnswer, shows-untouched, shows-whole, shows-closed, shows-leftover, LinesPut}
 use Rattle.sheet.specs.Written.{PutsLines, behind-head}
 

@@ -14,24 +14,24 @@ use Rattle.meaning.specs.Runs.{Nodes}
 use Rattle.nesting.specs.Nesting.{NestState, piece, plain, StructurizeRegionState, not-begun, in-progress}
 use Rattle.nesting.specs.Nesting.{claimed, ready, DeferredEdgeBundle, DeferredEdgeBundleSet, region-body}
 use Rattle.record.specs.Stands.{OfRecord}
-use Rattle.state.specs.Sections.{section, cells, word, children, set-starts}
-use Rattle.state.specs.Tables.{bundle-at}
-use Rattle.shown.specs.Cells.{ShowsNodes, ShowsChildren}
-use Rattle.shown.specs.Sets.{ShowsBundle}
-use Rattle.shown.specs.States.{ShowsBody, ShowsOwnSet, ShowsRegion, is-not-begun, is-in-progress, is-ready, is-claimed}
-use Rattle.writing.specs.declared.place.Place.{Place}
-use Rattle.writing.specs.Puts.{Puts}
-use Rattle.writing.specs.laws.PutsLaws.{puts-then, puts-none, puts-as}
-use Rattle.writing.specs.laws.Rows.{run-start, run-turn, run-all}
-use Rattle.writing.specs.Parts.{OfState, Concluded, values-part, nodes-part, each}
-use Rattle.child_numbers.specs.declared.region_line.RegionInputs.the-variants.{All}
-use Rattle.child_numbers.specs.RegionLine.{region-front, all-types, PutsRegionLine}
-use Rattle.child_numbers.specs.laws.RegionLineLaws.{line-put}
-use Rattle.sheet.specs.Pieces.{region-lines, set-part}
-use Rattle.sheet.specs.laws.Leftovers.{ready-lines, ready-set, given-set, unclaimed-lines, ascending-sets}
-use Rattle.sheet.specs.Regions.{PutsPiece, PutsWhole, PutsWholeOutputs, state-at, PutsReady, PutsUnclaimed, PutsGivenSet}
-use Rattle.sheet.specs.Regions.{PutsSets, PutsNodes, PutsSet, LinesFrom, SetsFrom}
-use Rattle.state.specs.Rows.{kind-claimed, most-bundles, region-kind}
+use Rattle.state_words.specs.Sections.{section, cells, word, children, set-starts}
+use Rattle.state_sets.specs.SetTables.{bundle-at}
+use Rattle.state_shown.specs.Cells.{ShowsNodes, ShowsChildren}
+use Rattle.state_shown.specs.Sets.{ShowsBundle}
+use Rattle.state_shown.specs.States.{ShowsBody, ShowsOwnSet, ShowsRegion, is-not-begun, is-in-progress, is-ready, is-claimed}
+use Rattle.sheet_words.specs.declared.place.Place.{Place}
+use Rattle.sheet_words.specs.Puts.{Puts}
+use Rattle.sheet_words.specs.laws.PutsLaws.{puts-then, puts-none, puts-as}
+use Rattle.sheet_words.specs.laws.Rows.{run-start, run-turn, run-all}
+use Rattle.sheet_words.specs.Parts.{OfState, Concluded, values-part, nodes-part, each}
+use Rattle.sheet_regions.specs.declared.region_line.RegionInputs.the-variants.{All}
+use Rattle.sheet_regions.specs.RegionLine.{region-front, all-types, PutsRegionLine}
+use Rattle.sheet_regions.specs.laws.RegionLineLaws.{line-put}
+use Rattle.sheet_nodes.specs.Pieces.{region-lines, set-part}
+use Rattle.sheet_nodes.specs.laws.Leftovers.{ready-lines, ready-set, given-set, unclaimed-lines, ascending-sets}
+use Rattle.sheet_nodes.specs.Regions.{PutsPiece, PutsWhole, PutsWholeOutputs, state-at, PutsReady, PutsUnclaimed, PutsGivenSet}
+use Rattle.sheet_nodes.specs.Regions.{PutsSets, PutsNodes, PutsSet, LinesFrom, SetsFrom}
+use Rattle.state_words.specs.Rows.{kind-claimed, most-bundles, region-kind}
 
 -- ---- Paths of put_piece, put_whole_outputs and put_whole.
 first-bundle : (start : ℕ) → start < most-bundles → bundle-at start 0 ≡ start + 0

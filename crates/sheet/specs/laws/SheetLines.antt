@@ -12,9 +12,9 @@ use Rattle.nesting.specs.Sheet as sheet
 use Rattle.nesting.specs.Sheet.{Field}
 use Rattle.nesting.specs.decoding.Lines.{words-of}
 use Rattle.nesting.specs.SheetNumbers.{lead-region, lead-block, lead-select, lead-loop, lead-exit}
-use Rattle.writing.specs.Parts.{region-words, select-words, loop-words, node-words, nodes-words, cases-words}
-use Rattle.writing.specs.laws.PartLaws.{numbers-words}
-use Rattle.sheet.specs.Whole.{piece-words, defer-words, nested-lines, head-words, nested-words}
+use Rattle.sheet_words.specs.Parts.{region-words, select-words, loop-words, node-words, nodes-words, cases-words}
+use Rattle.sheet_words.specs.laws.PartLaws.{numbers-words}
+use Rattle.sheet_nodes.specs.Whole.{piece-words, defer-words, nested-lines, head-words, nested-words}
 
 -- The words of lines.
 abbrev of-lines : List (List Field) → List ℕ

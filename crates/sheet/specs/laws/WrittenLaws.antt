@@ -12,18 +12,18 @@ use Rattle.meaning.specs.Lists.{pick, bit}
 use Rattle.meaning.specs.Graph.{Graph}
 use Rattle.nesting.specs.Nesting.{NestState, Nested, Outcome, untouched, whole, closed, leftover}
 use Rattle.nesting.specs.Sheet as sheet
-use Rattle.state.specs.Sections.{word, head}
-use Rattle.writing.specs.declared.place.Place.{Place}
-use Rattle.writing.specs.Puts.{written}
-use Rattle.writing.specs.Parts.{most}
+use Rattle.state_words.specs.Sections.{word, head}
+use Rattle.sheet_words.specs.declared.place.Place.{Place}
+use Rattle.sheet_words.specs.Puts.{written}
+use Rattle.sheet_words.specs.Parts.{most}
 use Rattle.sheet.specs.declared.whole.Sheet.the-variants.{Words, TooFew}
-use Rattle.sheet.specs.Whole.{nested-words, head-words}
+use Rattle.sheet_nodes.specs.Whole.{nested-words, head-words}
 use lib.Seq.{take-suc, set-at}
-use Rattle.writing.specs.laws.PutsLaws.{puts-then}
+use Rattle.sheet_words.specs.laws.PutsLaws.{puts-then}
 use Rattle.sheet.specs.laws.Counts.{as-long, same-if-short}
 use Rattle.sheet.specs.Written.{ShowsAnswer, shows-untouched, shows-whole, shows-closed, shows-leftover, behind-head, PutsLines}
 use Rattle.sheet.specs.Written.{twice-word, PutsHead, PutsSheet, far, Measures, lent, sheet-written, too-few, WritesSheet}
-use Rattle.state.specs.Rows.{attempts-at}
+use Rattle.state_words.specs.Rows.{attempts-at}
 
 -- ---- Line 1 in front of the lines.
 outcome-number : Outcome → ℕ

@@ -1,5 +1,5 @@
 use native.Mathlib.Omega.{arith}
-use Rattle.show_text.specs.laws.Showing.{never-full}
+use Rattle.text_show.specs.laws.Showing.{never-full}
 use borrow.Author.Needs.{needs}
 use Rattle.show.proofs.main.Statement.{statement}
 use Rattle.show.proofs.main.Tie as tie

@@ -1,5 +1,5 @@
 use borrow.Author.Needs.{needs}
-use Rattle.cfg.specs.laws.FuncLaws.{of-claimed, of-unclaimed, of-refused}
+use Rattle.cfg.specs.laws.paths.FuncLaws.{of-claimed, of-unclaimed, of-refused}
 use Rattle.cfg.proofs.func.conclude.Statement.{statement}
 use Rattle.cfg.proofs.func.conclude.Tie as tie
 

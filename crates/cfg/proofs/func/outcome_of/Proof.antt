@@ -1,8 +1,8 @@
 use borrow.Author.Needs.{needs}
 use Rattle.cfg.proofs.func.outcome_of.Statement.{statement}
 use Rattle.cfg.proofs.func.outcome_of.Tie as tie
-use Rattle.cfg.specs.laws.FuncLaws.{return-edge, other-edge}
-use Rattle.cfg.specs.laws.FuncLaws.{no-edges, many-edges}
+use Rattle.cfg.specs.laws.paths.FuncLaws.{return-edge, other-edge}
+use Rattle.cfg.specs.laws.paths.FuncLaws.{no-edges, many-edges}
 
 set-length-requires : tie.Need-set-length-requires
 set-length-requires c κs = search needs

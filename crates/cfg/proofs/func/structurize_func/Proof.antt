@@ -1,7 +1,7 @@
 use borrow.Author.Needs.{needs}
 use borrow.Author.Tests.{not-true, not-false}
-use Rattle.cfg.specs.laws.FuncLaws.{stood-begun, func-untouched, func-concluded}
-use Rattle.cfg.specs.laws.FuncShownLaws.{structurize-func-shown}
+use Rattle.cfg.specs.laws.paths.FuncLaws.{stood-begun, func-untouched, func-concluded}
+use Rattle.cfg.specs.laws.shown.FuncShownLaws.{structurize-func-shown}
 use Rattle.cfg.proofs.func.structurize_func.Statement.{statement}
 use Rattle.cfg.proofs.func.structurize_func.Tie as tie
 

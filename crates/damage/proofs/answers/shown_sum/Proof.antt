@@ -1,5 +1,5 @@
 use native.Mathlib.Omega.{arith}
-use Rattle.show_text.specs.laws.Showing.{never-full, shown-front}
+use Rattle.text_show.specs.laws.Showing.{never-full, shown-front}
 use Rattle.damage.proofs.Laws.{summed-shown}
 use borrow.Author.Needs.{needs}
 use Rattle.damage.proofs.answers.shown_sum.Statement.{statement}

@@ -3,7 +3,7 @@ use Prim.Native.Nat.{_≤_}
 use native.Mathlib.Omega.{arith}
 use lib.ListN.{length}
 use borrow.Author.Needs.{needs}
-use Rattle.sheet.specs.Regions.{SetsFrom}
+use Rattle.sheet_nodes.specs.Regions.{SetsFrom}
 use Rattle.sheet.specs.laws.RegionsLaws.{sets-start, sets-turn, sets-end}
 use Rattle.sheet.proofs.leftover.put_sets.Statement.{statement}
 use Rattle.sheet.proofs.leftover.put_sets.Tie as tie

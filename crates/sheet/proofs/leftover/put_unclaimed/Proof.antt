@@ -3,7 +3,7 @@ use mathlib.Core.Path.{_≡_, refl}
 use Prim.Native.Nat.{_≤_}
 use native.Mathlib.Omega.{arith}
 use lib.ListN.{length}
-use Rattle.sheet.specs.Regions.{LinesFrom}
+use Rattle.sheet_nodes.specs.Regions.{LinesFrom}
 use Rattle.sheet.specs.laws.RegionsLaws.{lines-start, lines-turn, lines-end}
 use Rattle.sheet.proofs.leftover.put_unclaimed.Statement.{statement}
 use Rattle.sheet.proofs.leftover.put_unclaimed.Tie as tie

@@ -1,0 +1,12 @@
+pub mod Shows
+pub mod TargetsShown
+pub mod ScansShown
+pub mod TurnsShown
+pub mod RegionsShown
+pub mod ClaimsShown
+pub mod StateShown
+pub mod WholeShown
+pub mod SelectBodies
+pub mod ResolveShown
+pub mod InstShown
+pub mod FuncShownLaws

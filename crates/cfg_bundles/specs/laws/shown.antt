@@ -1,0 +1,5 @@
+pub mod Targets
+pub mod RecordValues
+pub mod Deferred
+pub mod CaseSteps
+pub mod Appended

@@ -1,0 +1,2 @@
+pub mod CasesFilled
+pub mod SplitFilled

@@ -1,0 +1,3 @@
+pub mod SplitOut
+pub mod Claims
+pub mod laws

@@ -1,0 +1,2 @@
+pub mod MaterializedLaws
+pub mod LookUpsLaws

@@ -1,0 +1,3 @@
+pub mod LoopsLaws
+pub mod InputsLaws
+pub mod ExitsLaws

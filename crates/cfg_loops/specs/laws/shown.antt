@@ -1,0 +1,5 @@
+pub mod RewritesShown
+pub mod InputsShown
+pub mod ExitsShown
+pub mod LoopsShown
+pub mod ClaimedLoops

@@ -1,0 +1,4 @@
+pub mod Turns
+pub mod Rewriting
+pub mod Targets
+pub mod laws

@@ -1,0 +1,2 @@
+pub mod TargetsLaws
+pub mod RewritingLaws

@@ -1,0 +1,4 @@
+pub mod Rows
+pub mod Spare
+pub mod RewritingShown
+pub mod TargetsShown

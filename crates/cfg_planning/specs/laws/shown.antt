@@ -1,0 +1,2 @@
+pub mod PerCaseShown
+pub mod PlanningShown

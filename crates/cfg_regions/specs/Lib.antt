@@ -1,0 +1,3 @@
+pub mod ByState
+pub mod ByInst
+pub mod laws

@@ -1,0 +1,3 @@
+pub mod ByStateLaws
+pub mod ByInstLaws
+pub mod Leaves

@@ -1,0 +1,4 @@
+pub mod Turns
+pub mod Cases
+pub mod Selects
+pub mod laws

@@ -1,0 +1,2 @@
+pub mod IntoLaws
+pub mod Fronts

@@ -1,4 +1,0 @@
-pub mod MaterializedLaws
-pub mod LookUpsLaws
-pub mod Shown
-pub mod ConditionsShown

@@ -1,5 +1,0 @@
-pub mod Turns
-pub mod Rewriting
-pub mod Targets
-pub mod Planning
-pub mod laws

@@ -1,9 +1,0 @@
-pub mod TargetsLaws
-pub mod RewritingLaws
-pub mod PlanningLaws
-pub mod Rows
-pub mod Spare
-pub mod RewritingShown
-pub mod TargetsShown
-pub mod PerCaseShown
-pub mod PlanningShown

@@ -1,4 +1,0 @@
-pub mod Listing
-pub mod Parts
-pub mod laws
-pub mod cases

@@ -1,8 +1,0 @@
-pub mod Lists
-pub mod Steps
-pub mod Passes
-pub mod Ends
-pub mod PassLines
-pub mod ItemBytes
-pub mod RegionBytes
-pub mod Fits

@@ -1,6 +1,0 @@
-pub mod Turns
-pub mod Cases
-pub mod Selects
-pub mod Emits
-pub mod Into
-pub mod laws

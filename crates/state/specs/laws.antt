@@ -1,4 +1,0 @@
-pub mod Stored
-pub mod Finds
-pub mod Apart
-pub mod Edges

@@ -1,0 +1,53 @@
+use borrow.Author.Needs.{needs}
+use mathlib.Core.Path.{_≡_, refl}
+use Prim.Native.Nat.{ℕ, _+_, _≤_, _<_}
+use native.Mathlib.Omega.{arith}
+use Rattle.state_lists.specs.CellByCell.{case-cell}
+use Rattle.state_lists.specs.laws.CellByCellLaws.{named-below, case-step, total-turn, total-end}
+use Rattle.state_lists.proofs.case_total.Statement.{statement}
+use Rattle.state_lists.proofs.case_total.Tie as tie
+
+abbrev Inv-loop : tie.InvT-loop
+Inv-loop w list h₀ n₀ h n =
+    (h ≡ case-cell w list n) × ((j : ℕ) → j < n → 1 ≤ case-cell w list j) × (n + h ≤ list)
+
+abbrev μ-loop : tie.MeasureT-loop
+μ-loop w list h₀ n₀ h n = h
+
+loop-holds : tie.Need-loop-holds Inv-loop μ-loop
+unfolding case-cell
+loop-holds c = (refl, λ j l. absurd (omega arith), omega arith)
+
+cases-after-requires : tie.Need-cases-after-requires Inv-loop μ-loop
+cases-after-requires c κs = search needs
+
+add-n : tie.Need-add-n Inv-loop μ-loop
+add-n c = omega (arith, c .before .before .loop .inv .2)
+
+loop-less : tie.Need-loop-less Inv-loop μ-loop
+loop-less c = named-below _ (c .cases-after .ensures) (c .before .loop-test .taken)
+
+loop-again : tie.Need-loop-again Inv-loop μ-loop
+loop-again c =
+    let at-loop-test = c .before in
+    let at-loop = at-loop-test .before in (
+      case-step _ _ _ (at-loop .loop .inv .0) (c .cases-after .ensures),
+      total-turn _ _ _ (at-loop .loop .inv .0) (at-loop-test .loop-test .taken) (at-loop .loop .inv .1),
+      omega (arith, named-below _ (c .cases-after .ensures) (at-loop-test .loop-test .taken), at-loop .loop .inv .2),
+    )
+
+returns : tie.Need-returns Inv-loop μ-loop
+returns c = total-end _ _ _ (c .before .loop .inv .0) (c .loop-test .left) (c .before .loop .inv .1)
+
+pub case-total-spec : {M : Type 1} → statement M
+case-total-spec =
+    tie.close
+    (tie.spec
+    Inv-loop
+    μ-loop
+    loop-holds
+    cases-after-requires
+    add-n
+    loop-less
+    loop-again
+    returns)

@@ -1,0 +1,36 @@
+use borrow.Author.Needs.{needs}
+use Rattle.state_regions.proofs.cases.case_at.Statement.{statement}
+use Rattle.state_regions.proofs.cases.case_at.Tie as tie
+
+case-kind-requires : tie.Need-case-kind-requires
+case-kind-requires c κs = search needs
+
+case-origin-requires : tie.Need-case-origin-requires
+case-origin-requires c κs = search needs
+
+case-body-requires : tie.Need-case-body-requires
+case-body-requires c κs = search needs
+
+case-children-requires : tie.Need-case-children-requires
+case-children-requires c κs = search needs
+
+case-start-requires : tie.Need-case-start-requires
+case-start-requires c κs = search needs
+
+case-length-requires : tie.Need-case-length-requires
+case-length-requires c κs = search needs
+
+returns : tie.Need-returns
+returns c = cc
+
+pub case-at-spec : {M : Type 1} → statement M
+case-at-spec =
+    tie.close
+    (tie.spec
+    case-kind-requires
+    case-origin-requires
+    case-body-requires
+    case-children-requires
+    case-start-requires
+    case-length-requires
+    returns)

@@ -1,0 +1,23 @@
+use Rattle.state_sets.specs.SetTables.{bundle-at}
+use borrow.Author.Tests.{lt-ltb, le-ltb}
+use borrow.Author.Needs.{needs}
+use Rattle.state_sets.proofs.sets.bundle_at.Statement.{statement}
+use Rattle.state_sets.proofs.sets.bundle_at.Tie as tie
+
+add-result : tie.Need-add-result
+add-result c = search needs
+
+returns : tie.Need-returns
+unfolding bundle-at
+returns c = simp (lt-ltb _ _ (c .before .if1 .taken), lt-ltb _ _ (c .if2 .taken))
+
+returns-2 : tie.Need-returns-2
+unfolding bundle-at
+returns-2 c = simp (lt-ltb _ _ (c .before .if1 .taken), le-ltb _ _ (c .if2 .left))
+
+returns-3 : tie.Need-returns-3
+unfolding bundle-at
+returns-3 c = simp (le-ltb _ _ (c .if1 .left))
+
+pub bundle-at-spec : {M : Type 1} → statement M
+bundle-at-spec = tie.close (tie.spec add-result returns returns-2 returns-3)

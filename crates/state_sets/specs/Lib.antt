@@ -1,0 +1,2 @@
+pub mod SetTables
+pub mod laws

@@ -1,0 +1,5 @@
+pub mod Rows
+pub mod Sections
+pub mod Totals
+pub mod Values
+pub mod laws

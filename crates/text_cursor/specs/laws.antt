@@ -1,0 +1,2 @@
+pub mod PutsSteps
+pub mod Readers

@@ -1,0 +1,4 @@
+pub mod ListTexts
+pub mod ListTurns
+pub mod FieldTexts
+pub mod Room

@@ -1,0 +1,4 @@
+pub mod LineRoom
+pub mod Answered
+pub mod SheetByLine
+pub mod AnswerPrinted
