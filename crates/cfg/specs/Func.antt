@@ -9,7 +9,7 @@ use Rattle.meaning.specs.Graph.{Graph}
 use Rattle.format.specs.Valid.{Valid}
 use Rattle.nesting.specs.Nesting.{incoming-edge-counts}
 use Rattle.state_words.specs.Sections.{word, set-lengths}
-use Rattle.cfg_start.specs.Words.{started}
+use Rattle.cfg_start.specs.InitialState.{started}
 use Rattle.cfg_regions.specs.declared.claim.Claim.{Claim}
 use Rattle.cfg_regions.specs.declared.claim.Claim.the-variants as claim
 use Rattle.cfg.specs.declared.func.Nested.{Nested}

@@ -1,6 +1,6 @@
 // A region's children and set go on with those of a case.
 ghost use mathlib.Core.Path.{_≡_};
-ghost use Rattle.cfg_bundles.specs.Words as words;
+ghost use Rattle.cfg_bundles.specs.EdgesAndCases as words;
 use state_nodes::cells::join;
 use state_nodes::rewrites::REPLACE_WITH;
 use state_nodes::rewrites::insert_rewrites;

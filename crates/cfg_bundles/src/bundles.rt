@@ -5,7 +5,7 @@ ghost use Rattle.record.specs.Stands.{OfRecord};
 ghost use Rattle.fields.specs.ByNumber.{end-values, edge-of};
 ghost use Rattle.state_words.specs.Sections as sections;
 ghost use Rattle.state_words.specs.Totals as totals;
-ghost use Rattle.cfg_bundles.specs.Words as words;
+ghost use Rattle.cfg_bundles.specs.EdgesAndCases as words;
 ghost use Rattle.state_words.specs.Rows as rows;
 use state_nodes::conditions::TRUE_COND;
 use state_sets::sets::RETURN;

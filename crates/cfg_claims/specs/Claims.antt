@@ -8,7 +8,7 @@ use Rattle.record.specs.Stands.{Stands}
 use Rattle.fields.specs.ByNumber.{edge-of}
 use Rattle.state_words.specs.Sections.{word, stored, kinds, set-lengths, used}
 use Rattle.state_words.specs.Totals.{attempted}
-use Rattle.state_regions.specs.RegionTables.{taken-stored}
+use Rattle.state_regions.specs.RegionTables.{target-answer-stored}
 use Rattle.state_words.specs.declared.defined.Made.the-variants as made
 use Rattle.cfg_regions.specs.declared.claim.Claim.{Claim}
 use Rattle.cfg_regions.specs.declared.claim.Claim.the-variants.{Claimed, Unclaimed, Refused}
@@ -73,10 +73,10 @@ mutual
         → TargetRegions g counts w r j w′ (step.Refused number x)
     target-claimed : {w w₁ w′ : List ℕ} {r j : ℕ} {a : Checked} → j < target-count g r
         → TriesClaim g counts w (edge-of g r j .target) 1 w₁ Claimed
-        → TargetRegions g counts (taken-stored w₁ r j level-claimed) r (suc j) w′ a → TargetRegions g counts w r j w′ a
+        → TargetRegions g counts (target-answer-stored w₁ r j level-claimed) r (suc j) w′ a → TargetRegions g counts w r j w′ a
     target-waits : {w w₁ w′ : List ℕ} {r j : ℕ} {a : Checked} → j < target-count g r
         → TriesClaim g counts w (edge-of g r j .target) 1 w₁ Unclaimed
-        → TargetRegions g counts (taken-stored w₁ r j (unclaimed-word w₁ (edge-of g r j .target))) r (suc j) w′ a
+        → TargetRegions g counts (target-answer-stored w₁ r j (unclaimed-word w₁ (edge-of g r j .target))) r (suc j) w′ a
         → TargetRegions g counts w r j w′ a
 
   -- The scan of region r's set, of n bundles, from place i on.

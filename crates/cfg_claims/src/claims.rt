@@ -12,10 +12,10 @@ use cfg_regions::inst::own_bundle;
 use cfg_regions::inst::resolve_by;
 use state_regions::regions::IN_PROGRESS;
 use state_regions::regions::NOT_BEGUN;
-use state_regions::regions::TAKEN;
+use state_regions::regions::TARGET_CLAIMED;
 use state_regions::regions::region_state;
 use state_regions::regions::set_region_state;
-use state_regions::regions::set_target_taken;
+use state_regions::regions::set_target_answer;
 use state_sets::sets::RETURN;
 use state_sets::sets::accumulated_count;
 use state_sets::sets::set_length;
@@ -45,7 +45,7 @@ fn structurize_region(w: &mut [u16; WORDS], counts: [u32; 32], r: u16) -> Checke
         claim = try_claim_edge_bundle(w, counts, t, ONE);
         match claim {
             Claim::Refused(number, word) => return Checked::Refused(number, word),
-            Claim::Claimed => set_target_taken(w, r, j, TAKEN),
+            Claim::Claimed => set_target_answer(w, r, j, TARGET_CLAIMED),
             Claim::Unclaimed => defer_target(w, r, j, t),
         }
         j += 1;

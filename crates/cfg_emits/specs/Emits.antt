@@ -12,7 +12,7 @@ use Rattle.state_regions.specs.RegionTables.{case-total}
 use Rattle.state_sets.specs.SetTables.{input-word, input-stored, bundle-at}
 use Rattle.state_nodes.specs.NodeTables.{OutputDefined, MergeDefined}
 use Rattle.state_words.specs.Values.{undef-word, output-word}
-use Rattle.cfg_bundles.specs.Words.{input-count, target-type}
+use Rattle.cfg_bundles.specs.EdgesAndCases.{input-count, target-type}
 use Rattle.cfg_planning.specs.Planning.{per-case-deferred, per-case-condition, to-merge}
 use Rattle.state_words.specs.declared.defined.Made.{Made}
 use Rattle.state_words.specs.declared.defined.Made.the-variants.{Done, Full}

@@ -14,7 +14,7 @@ use Rattle.state_nodes.specs.declared.cells.Cell.the-variants.{Loop}
 use Rattle.cfg_lookups.specs.Materialized.{Materializes}
 use Rattle.state_words.specs.declared.defined.Made.{Made}
 use Rattle.state_words.specs.declared.defined.Made.the-variants.{Done, Full as Refused}
-use Rattle.cfg_bundles.specs.Words.{condition-in}
+use Rattle.cfg_bundles.specs.EdgesAndCases.{condition-in}
 use Rattle.cfg_loops.specs.Inputs.{RewritesValues, TakesInputs, backedge-inputs}
 use Rattle.cfg_loops.specs.Exits.{exits-added}
 use Rattle.nesting.specs.Nesting.{most-regions, most-nodes}

@@ -10,8 +10,8 @@ use state_words::values::held;
 use state_words::values::input;
 use store::WORDS;
 
-// The header's inputs taken so far: how many are kept, and their cells; and the word of the last one's entry.
-pub struct Taken {
+// The definition's LoopInputs, so far: how many are kept, and their cells; and the word of the last one's entry.
+pub struct LoopInputs {
     pub count: u16,
     pub cells: u16,
     pub entry: u16,
@@ -51,7 +51,14 @@ pub fn rewrite_values(w: &mut [u16; WORDS], vs: &mut [u16; 4], n: u16)
     }
 }
 
-fn keep_input(w: &mut [u16; WORDS], r: u16, wrapper: u16, k: u16, v: u16, x: Taken) -> Taken
+fn keep_input(
+    w: &mut [u16; WORDS],
+    r: u16,
+    wrapper: u16,
+    k: u16,
+    v: u16,
+    x: LoopInputs,
+) -> LoopInputs
     requires { ⌜ x .count ≤ 4 ⌝ }
     ensures { λ a. ⌜ words.KeepsInput r wrapper k v x (now (w .entry)) (now (w .exit)) a ⌝ }
 {
@@ -64,7 +71,7 @@ fn keep_input(w: &mut [u16; WORDS], r: u16, wrapper: u16, k: u16, v: u16, x: Tak
             back: v,
         },
     );
-    Taken {
+    LoopInputs {
         count: x.count + 1,
         cells: h,
         entry: held(r, x.count),
@@ -72,13 +79,21 @@ fn keep_input(w: &mut [u16; WORDS], r: u16, wrapper: u16, k: u16, v: u16, x: Tak
 }
 
 // An input that is passed back unchanged is lifted out of the loop; another is kept, and renumbered.
-fn take_input(w: &mut [u16; WORDS], r: u16, wrapper: u16, n: u16, k: u16, v: u16, x: Taken) -> Taken
+fn take_input(
+    w: &mut [u16; WORDS],
+    r: u16,
+    wrapper: u16,
+    n: u16,
+    k: u16,
+    v: u16,
+    x: LoopInputs,
+) -> LoopInputs
     requires { ⌜ x .count ≤ 4 ⌝ }
     ensures { λ a. ⌜ words.TakesInput r wrapper n k v x (now (w .entry)) (now (w .exit)) a ⌝ }
 {
     if k < n {
         if v == input(r, k) {
-            return Taken {
+            return LoopInputs {
                 count: x.count,
                 cells: x.cells,
                 entry: input(wrapper, k),
@@ -86,7 +101,7 @@ fn take_input(w: &mut [u16; WORDS], r: u16, wrapper: u16, n: u16, k: u16, v: u16
         }
         return keep_input(w, r, wrapper, k, v, x);
     }
-    Taken {
+    LoopInputs {
         count: x.count,
         cells: x.cells,
         entry: held(r, k),
@@ -97,7 +112,7 @@ fn take_input(w: &mut [u16; WORDS], r: u16, wrapper: u16, n: u16, k: u16, v: u16
 pub fn take_inputs(w: &mut [u16; WORDS], r: u16, wrapper: u16, n: u16, vs: &mut [u16; 4]) -> u16
     ensures { λ a. ⌜ words.TakesInputs r wrapper n (now (w .entry)) (now (vs .entry)) (now (w .exit)) (now (vs .exit)) a ⌝ }
 {
-    let mut x = Taken {
+    let mut x = LoopInputs {
         count: 0,
         cells: 0,
         entry: 0,

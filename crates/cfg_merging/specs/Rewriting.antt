@@ -10,7 +10,7 @@ use Rattle.state_sets.specs.SetTables.{input-word, input-stored, bundle-at}
 use Rattle.state_regions.specs.RegionTables.{case-total}
 use Rattle.cfg_lookups.specs.LookUps.{look-up}
 use Rattle.cfg_merging.specs.Turns.{turned}
-use Rattle.cfg_bundles.specs.Words.{input-count}
+use Rattle.cfg_bundles.specs.EdgesAndCases.{input-count}
 use Rattle.state_words.specs.Rows.{bundle-target, case-claimed, case-input, case-input-at, case-kind, case-origin, case-set-length}
 use Rattle.state_words.specs.Rows.{case-set-start, twice-at}
 

@@ -11,7 +11,7 @@ use Rattle.state_words.specs.Values.{is-input, input-region, input-index, outpu
 use Rattle.state_sets.specs.SetTables.{input-word, input-stored, find-by, bundle-at}
 use Rattle.state_regions.specs.RegionTables.{case-total}
 use Rattle.cfg_merging.specs.Turns.{turned}
-use Rattle.cfg_bundles.specs.Words.{input-count, condition-in}
+use Rattle.cfg_bundles.specs.EdgesAndCases.{input-count, condition-in}
 use Rattle.state_words.specs.Rows.{bundle-condition-at, bundle-target, case-body, case-claimed, case-input, case-kind, case-set-length}
 use Rattle.state_words.specs.Rows.{case-set-start, condition-false, condition-true, condition-undef, no-bundle-word, spare-slot}
 

@@ -18,7 +18,7 @@ use Rattle.state_words.specs.Totals.{Defines}
 use Rattle.state_sets.specs.SetTables.{bundle-at}
 use Rattle.state_regions.specs.RegionTables.{case-row}
 use Rattle.state_words.specs.Values.{value-word}
-use Rattle.cfg_bundles.specs.Words.{condition-in, return-deferred, cases-filled, split-filled, Appends}
+use Rattle.cfg_bundles.specs.EdgesAndCases.{condition-in, return-deferred, cases-filled, split-filled, Appends}
 use Rattle.state_words.specs.declared.defined.Made.{Made}
 use Rattle.state_words.specs.declared.defined.Made.the-variants.{Done, Full}
 use Rattle.cfg_select_nodes.specs.declared.define.Scrutinee.the-variants as scrutinee

@@ -46,6 +46,6 @@ pub data ClaimsByState (g : Graph) (w : List ℕ) (r n incoming : ℕ) (w′ : L
 unfoldable pub is-trivial : List ℕ → ℕ → Bool
 is-trivial w t = pick (eqb (region-kind w t) kind-ready) (pick (eqb (word w set-lengths t) 0) (eqb (word w children t) 0) false) false
 
--- How the edge to a region that was not claimed is taken.
+-- How the edge to a region that was not claimed is answered.
 abbrev pub unclaimed-word : List ℕ → ℕ → ℕ
 unclaimed-word w t = pick (is-trivial w t) 0 1

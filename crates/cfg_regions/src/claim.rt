@@ -2,20 +2,20 @@
 ghost use mathlib.Core.Path.{_≡_};
 ghost use Prim.Native.Nat.{_≤_};
 ghost use Rattle.record.specs.Stands.{OfRecord};
-ghost use Rattle.state_regions.specs.RegionTables.{«taken-stored»};
+ghost use Rattle.state_regions.specs.RegionTables.{«target-answer-stored»};
 ghost use Rattle.cfg_regions.specs.ByState as words;
 use cfg_loops::loops::structurize_loop;
 use state_regions::regions::CLAIMED;
-use state_regions::regions::DEFERRED;
 use state_regions::regions::IN_PROGRESS;
 use state_regions::regions::READY;
-use state_regions::regions::UNREACHABLE;
+use state_regions::regions::TARGET_DEFERRED;
+use state_regions::regions::TARGET_UNREACHABLE;
 use state_regions::regions::backedge_count;
 use state_regions::regions::children;
 use state_regions::regions::region_state;
 use state_regions::regions::set_region_state;
 use state_regions::regions::set_structured_body;
-use state_regions::regions::set_target_taken;
+use state_regions::regions::set_target_answer;
 use state_sets::sets::NO_BUNDLE;
 use state_sets::sets::find_by_target;
 use state_sets::sets::set_length;
@@ -102,20 +102,20 @@ fn is_trivial(w: &[u16; WORDS], t: u16) -> bool
     children(w, t) == 0
 }
 
-// How the edge to a region that was not claimed is taken.
+// How the edge to a region that was not claimed is answered.
 fn unclaimed_edge(w: &[u16; WORDS], t: u16) -> u16
     ensures { λ a. ⌜ a ≡ words.«unclaimed-word» (now (w .entry)) t ⌝ }
 {
     if is_trivial(w, t) {
-        return UNREACHABLE;
+        return TARGET_UNREACHABLE;
     }
-    DEFERRED
+    TARGET_DEFERRED
 }
 
 // Target j of region r is t, which was not claimed.
 pub fn defer_target(w: &mut [u16; WORDS], r: u16, j: u16, t: u16)
-    ensures { λ _. ⌜ now (w .exit) ≡ «taken-stored» (now (w .entry)) r j (words.«unclaimed-word» (now (w .entry)) t) ⌝ }
+    ensures { λ _. ⌜ now (w .exit) ≡ «target-answer-stored» (now (w .entry)) r j (words.«unclaimed-word» (now (w .entry)) t) ⌝ }
 {
     let x = unclaimed_edge(w, t);
-    set_target_taken(w, r, j, x);
+    set_target_answer(w, r, j, x);
 }

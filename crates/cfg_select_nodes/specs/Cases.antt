@@ -9,7 +9,7 @@ use Rattle.state_words.specs.Sections.{stored, cases}
 use Rattle.state_regions.specs.RegionTables.{case-total}
 use Rattle.state_words.specs.Totals.{Defines}
 use Rattle.state_nodes.specs.NodeTables.{inserted}
-use Rattle.cfg_bundles.specs.Words.{case-inputs}
+use Rattle.cfg_bundles.specs.EdgesAndCases.{case-inputs}
 use Rattle.state_words.specs.declared.defined.Made.{Made}
 use Rattle.state_words.specs.declared.defined.Made.the-variants.{Done, Full}
 use Rattle.meaning.specs.Lists.{pick}

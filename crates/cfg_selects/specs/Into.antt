@@ -8,7 +8,7 @@ use Rattle.state_words.specs.declared.defined.Defined.the-variants.{Number, Ful
 use Rattle.state_words.specs.Sections.{word, stored, stored-all, set-lengths, cases}
 use Rattle.state_regions.specs.RegionTables.{case-total, case-row, case-words}
 use Rattle.state_sets.specs.SetTables.{swapped}
-use Rattle.cfg_bundles.specs.Words.{unclaimed-case, Appends}
+use Rattle.cfg_bundles.specs.EdgesAndCases.{unclaimed-case, Appends}
 use Rattle.cfg_merging.specs.Rewriting.{rewrite-cases}
 use Rattle.cfg_merging.specs.Targets.{deferred-targets}
 use Rattle.cfg_planning.specs.Planning.{plan-bundles}

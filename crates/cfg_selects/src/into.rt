@@ -5,7 +5,7 @@ ghost use mathlib.Core.Bool.{_||_};
 ghost use Rattle.record.specs.Stands.{OfRecord};
 ghost use Rattle.cfg_selects.specs.Into as words;
 use cfg_bundles::append::append_maybe_claimed_region;
-use cfg_cases::taken::unclaimed_case;
+use cfg_cases::cases::unclaimed_case;
 use cfg_emits::emit::emit;
 use cfg_merging::rewriting::rewrite_cases;
 use cfg_merging::targets::deferred_targets;

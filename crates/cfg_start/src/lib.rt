@@ -2,7 +2,7 @@
 ghost use mathlib.Core.Path.{_≡_};
 ghost use Prim.Native.Nat.{min};
 ghost use Rattle.record.specs.Stands.{OfRecord};
-ghost use Rattle.cfg_start.specs.Words as words;
+ghost use Rattle.cfg_start.specs.InitialState as words;
 use state_nodes::rewrites::set_no_rewrites;
 use state_regions::regions::NOT_BEGUN;
 use state_regions::regions::set_region_state;

@@ -9,7 +9,7 @@ use Rattle.meaning.specs.Graph.{Graph, Value, Instr, Edge, region, edges-of, no
 use Rattle.meaning.specs.Lists.{is-in, total}
 use Rattle.format.specs.References.{no-instr, values-of}
 use Rattle.record.specs.Stands.{OfRecord}
-use Rattle.fields.specs.Words.{value-item}
+use Rattle.fields.specs.ItemsAndPlaces.{value-item}
 
 abbrev pub block-of : Graph → ℕ → ℕ → List Instr
 block-of g r b = getD (region g r .blocks) b []

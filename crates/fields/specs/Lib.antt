@@ -1,4 +1,4 @@
 pub mod Shape
 pub mod ByNumber
-pub mod Words
+pub mod ItemsAndPlaces
 pub mod laws

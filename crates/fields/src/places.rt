@@ -2,7 +2,7 @@
 ghost use mathlib.Core.Path.{_≡_};
 ghost use Prim.Native.Nat.{_≤_};
 ghost use lib.ListN.{getD};
-ghost use Rattle.fields.specs.Words as words;
+ghost use Rattle.fields.specs.ItemsAndPlaces as words;
 use super::words::behind_values;
 use super::words::behind_words;
 use super::words::place;

@@ -2,7 +2,7 @@
 ghost use mathlib.Core.Path.{_≡_};
 ghost use Rattle.format.specs.Read.{value-from-words};
 ghost use Rattle.fields.specs.Shape.{value-is};
-ghost use Rattle.fields.specs.Words.{placed, word-item, value-item, behind-words, behind-values, again};
+ghost use Rattle.fields.specs.ItemsAndPlaces.{placed, word-item, value-item, behind-words, behind-values, again};
 use super::shape::Value;
 use reading::kinds::BOOL_KIND;
 use reading::kinds::CONST_KIND;

@@ -14,7 +14,7 @@ use Rattle.nesting.specs.Sheet as sheet
 use Rattle.state_words.specs.Sections.{word, head}
 use Rattle.state_shown.specs.States.{ShowsBody}
 use Rattle.sheet_words.specs.declared.place.Place.{Place}
-use Rattle.sheet_words.specs.Puts.{Puts, written}
+use Rattle.sheet_words.specs.PutInFront.{Puts, written}
 use Rattle.sheet_words.specs.Parts.{OfState, most}
 use Rattle.sheet.specs.declared.whole.Sheet.{Sheet}
 use Rattle.sheet.specs.declared.whole.Sheet.the-variants.{Words, TooFew}

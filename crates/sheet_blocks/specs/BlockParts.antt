@@ -12,8 +12,8 @@ use Rattle.nesting.specs.Nesting.{NestState, plain, look-up-node, look-up-reads
 use Rattle.nesting.specs.Sheet as sheet
 use Rattle.nesting.specs.SheetNumbers.{lead-block, lead-exit}
 use Rattle.sheet_words.specs.declared.place.Place.{Place}
-use Rattle.sheet_words.specs.Puts.{Part, Puts}
-use Rattle.sheet_words.specs.laws.PutsLaws.{_⊕_, puts-as}
+use Rattle.sheet_words.specs.PutInFront.{Part, Puts}
+use Rattle.sheet_words.specs.laws.PutInFrontLaws.{_⊕_, puts-as}
 use Rattle.sheet_words.specs.laws.Rows.{run, run-all}
 use Rattle.sheet_words.specs.Parts.{output-nodes, look-up-at-end, values-part, node-part, nodes-part, node-words}
 use Rattle.meaning.specs.facts.Numbers.{one-further}

@@ -8,7 +8,7 @@ ghost use Rattle.nesting.specs.Nesting.{blocks-of};
 ghost use Rattle.fields.specs.ByNumber.{block-of, instr-of, instructions-before};
 ghost use Rattle.sheet_words.specs.Parts as parts;
 ghost use Rattle.sheet_words.specs.Parts.{OfState};
-ghost use Rattle.sheet_words.specs.Puts.{Puts};
+ghost use Rattle.sheet_words.specs.PutInFront.{Puts};
 ghost use Rattle.sheet_blocks.specs.BlockParts.{item-part};
 use sheet_words::leads::BLOCK_LINE;
 use sheet_words::place::Place;

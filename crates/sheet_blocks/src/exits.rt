@@ -10,7 +10,7 @@ ghost use Rattle.record.specs.Stands.{OfRecord};
 ghost use Rattle.fields.specs.ByNumber.{end-values};
 ghost use Rattle.sheet_words.specs.Parts as parts;
 ghost use Rattle.sheet_words.specs.Parts.{OfState};
-ghost use Rattle.sheet_words.specs.Puts.{Puts};
+ghost use Rattle.sheet_words.specs.PutInFront.{Puts};
 use fields::Terminator;
 use sheet_words::leads::EXIT_LINE;
 use sheet_words::place::Place;

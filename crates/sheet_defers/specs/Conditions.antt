@@ -6,7 +6,7 @@ use Rattle.nesting.specs.Nesting.{plain, LazyCond, undef-cond, false-cond, true
 use Rattle.nesting.specs.Sheet as sheet
 use Rattle.state_shown.specs.Tables.{ShowsCond}
 use Rattle.sheet_words.specs.declared.place.Place.{Place}
-use Rattle.sheet_words.specs.Puts.{Part, Puts}
+use Rattle.sheet_words.specs.PutInFront.{Part, Puts}
 
 -- What a routine that puts condition c makes of the lent words, and of the place.
 abbrev pub PutsCondition : List ℕ → ℕ → List ℕ → Place → List ℕ → Place → Type 0

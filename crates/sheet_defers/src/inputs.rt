@@ -2,7 +2,7 @@
 ghost use Rattle.nesting.specs.Nesting.{DeferredEdgeBundle};
 ghost use Rattle.state_shown.specs.Sets.{ShowsBundle};
 ghost use Rattle.sheet_words.specs.Parts.{OfState, values-part};
-ghost use Rattle.sheet_words.specs.Puts.{Puts};
+ghost use Rattle.sheet_words.specs.PutInFront.{Puts};
 use cfg_bundles::bundles::input_count;
 use sheet_words::place::Place;
 use sheet_words::place::put_word;

@@ -5,7 +5,7 @@ ghost use Rattle.nesting.specs.Nesting.{DeferredEdgeBundle, DeferredEdgeBundleS
 ghost use Rattle.state_shown.specs.Sets.{ShowsBundle};
 ghost use Rattle.state_shown.specs.States.{ShowsOwnSet};
 ghost use Rattle.sheet_words.specs.Parts.{OfState, each, defer-part};
-ghost use Rattle.sheet_words.specs.Puts.{Puts};
+ghost use Rattle.sheet_words.specs.PutInFront.{Puts};
 use crate::conditions::put_condition;
 use crate::inputs::put_target_inputs;
 use cfg_bundles::bundles::condition_in;

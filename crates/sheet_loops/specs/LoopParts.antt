@@ -6,8 +6,8 @@ use Prim.Native.Nat.{ℕ}
 use Rattle.meaning.specs.Runs.{Nodes, loop, LoopNode}
 use Rattle.nesting.specs.Nesting.{NestState, plain, _⊛_, with-values, look-up-each, look-up-node, look-up-nodes}
 use Rattle.nesting.specs.SheetNumbers.{lead-loop}
-use Rattle.sheet_words.specs.Puts.{Part}
-use Rattle.sheet_words.specs.laws.PutsLaws.{_⊕_}
+use Rattle.sheet_words.specs.PutInFront.{Part}
+use Rattle.sheet_words.specs.laws.PutInFrontLaws.{_⊕_}
 use Rattle.sheet_words.specs.laws.PartLaws.{kids-looked-up}
 use Rattle.sheet_words.specs.Parts.{most, output-nodes, look-up-at-end, value-part, values-part, node-part, nodes-part, region-part}
 use Rattle.sheet_words.specs.Parts.{loop-words, node-words}

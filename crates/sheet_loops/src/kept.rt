@@ -3,7 +3,7 @@ ghost use mathlib.Core.Path.{_≡_};
 ghost use Prim.Native.Nat.{ℕ};
 ghost use Rattle.nesting.specs.Nesting.{LoopInputs};
 ghost use Rattle.sheet_words.specs.Parts.{OfState, values-part};
-ghost use Rattle.sheet_words.specs.Puts.{Puts};
+ghost use Rattle.sheet_words.specs.PutInFront.{Puts};
 ghost use Rattle.sheet_regions.specs.Kept as kept;
 use sheet_words::place::Place;
 use sheet_words::place::put_word;

@@ -1,6 +1,6 @@
 // A loop's own line, and its body's region line.
 ghost use Rattle.sheet_words.specs.Parts.{OfState, region-part};
-ghost use Rattle.sheet_words.specs.Puts.{Puts};
+ghost use Rattle.sheet_words.specs.PutInFront.{Puts};
 ghost use Rattle.sheet_loops.specs.LoopParts.{loop-part, loop-lines};
 ghost use Rattle.sheet_loops.specs.OfLoop.{OfLoop};
 use crate::kept::put_kept_values;

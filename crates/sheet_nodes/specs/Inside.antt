@@ -12,7 +12,7 @@ use Rattle.state_words.specs.Rows.{tag-blocks, tag-join, tag-exit, tag-select, 
 use Rattle.state_words.specs.Rows.{exit-region, select-node, select-cases, loop-body, children-of-case}
 use Rattle.state_lists.specs.CellByCell.{case-cell, CaseTotal}
 use Rattle.sheet_words.specs.declared.place.Place.{Place}
-use Rattle.sheet_words.specs.Puts.{Puts}
+use Rattle.sheet_words.specs.PutInFront.{Puts}
 use Rattle.sheet_words.specs.Parts.{OfState, node-part, nodes-part}
 use Rattle.sheet_selects.specs.SelectLines.{PutsSelectLine, PutsCaseLine}
 use Rattle.sheet_nodes.specs.Regions.{PutsNodes}

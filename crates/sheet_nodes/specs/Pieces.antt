@@ -13,8 +13,8 @@ use Rattle.nesting.specs.Nesting.{NestState, Piece, plain, _⊛_, look-up-each,
 use Rattle.nesting.specs.Nesting.{DeferredEdgeBundle, DeferredEdgeBundleSet, look-up-bundle, condition-in, conclude-with, Outcome}
 use Rattle.nesting.specs.Nesting.{LazyCond}
 use Rattle.nesting.specs.Sheet as sheet
-use Rattle.sheet_words.specs.Puts.{Part}
-use Rattle.sheet_words.specs.laws.PutsLaws.{_⊕_}
+use Rattle.sheet_words.specs.PutInFront.{Part}
+use Rattle.sheet_words.specs.laws.PutInFrontLaws.{_⊕_}
 use Rattle.sheet_words.specs.Parts.{most, each, output-nodes, look-up-at-end, nodes-part, region-part}
 use Rattle.sheet_words.specs.Parts.{defer-part}
 use Rattle.sheet_words.specs.laws.PartLaws.{kids-looked-up}

@@ -12,7 +12,7 @@ use Rattle.state_words.specs.Sections.{section, cells, word, children}
 use Rattle.state_shown.specs.Cells.{ShowsNodes, ShowsChildren}
 use Rattle.state_shown.specs.States.{ShowsBody, ShowsOwnSet}
 use Rattle.sheet_words.specs.declared.place.Place.{Place}
-use Rattle.sheet_words.specs.Puts.{Puts}
+use Rattle.sheet_words.specs.PutInFront.{Puts}
 use Rattle.sheet_words.specs.laws.Rows.{run}
 use Rattle.sheet_words.specs.Parts.{OfState, nodes-part, values-part, each, defer-part}
 use Rattle.sheet_nodes.specs.Pieces.{region-lines, piece-part, set-part, lines-part}

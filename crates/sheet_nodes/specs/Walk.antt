@@ -10,8 +10,8 @@ use Rattle.state_words.specs.Rows.{cell-tag}
 use Rattle.state_shown.specs.Cells.{ShowsNodes, ShowsCaseCells}
 use Rattle.state_lists.specs.CellByCell.{CellAdded}
 use Rattle.sheet_words.specs.declared.place.Place.{Place}
-use Rattle.sheet_words.specs.Puts.{Part, Puts}
-use Rattle.sheet_words.specs.laws.PutsLaws.{_⊕_}
+use Rattle.sheet_words.specs.PutInFront.{Part, Puts}
+use Rattle.sheet_words.specs.laws.PutInFrontLaws.{_⊕_}
 use Rattle.sheet_words.specs.Parts.{OfState, nodes-part, cases-part}
 use Rattle.sheet_loops.specs.LoopParts.{loop-lines}
 use Rattle.sheet_loops.specs.OfLoop.{OfLoop}

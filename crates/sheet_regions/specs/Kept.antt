@@ -16,8 +16,8 @@ use Rattle.state_shown.specs.Values.{value}
 use Rattle.state_shown.specs.laws.ValueWords.{value-input}
 use Rattle.state_shown.specs.Cells.{ShowsKept, none-kept, one-kept}
 use Rattle.sheet_words.specs.declared.place.Place.{Place}
-use Rattle.sheet_words.specs.Puts.{Part, Puts}
-use Rattle.sheet_words.specs.laws.PutsLaws.{_⊕_}
+use Rattle.sheet_words.specs.PutInFront.{Part, Puts}
+use Rattle.sheet_words.specs.laws.PutInFrontLaws.{_⊕_}
 use Rattle.sheet_words.specs.laws.PartLaws.{numbers-listed, values-counted, each-map}
 use Rattle.sheet_words.specs.Parts.{each, value-part, values-part}
 

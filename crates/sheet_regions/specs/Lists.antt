@@ -14,7 +14,7 @@ use Rattle.state_words.specs.Rows.{tag-join, cell-tag}
 use Rattle.state_shown.specs.Cells.{ShowsNodes}
 use Rattle.state_lists.specs.CellByCell.{CellAdded}
 use Rattle.sheet_words.specs.declared.place.Place.{Place}
-use Rattle.sheet_words.specs.Puts.{Puts}
+use Rattle.sheet_words.specs.PutInFront.{Puts}
 use Rattle.sheet_words.specs.Parts.{most}
 use Rattle.sheet_regions.specs.declared.Counted.{Counted}
 use Rattle.sheet_regions.specs.Numbers.{PutsNumbers}

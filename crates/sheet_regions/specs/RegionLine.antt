@@ -10,7 +10,7 @@ use Rattle.nesting.specs.SheetNumbers.{lead-region}
 use Rattle.state_words.specs.Sections.{section, cells}
 use Rattle.state_shown.specs.Cells.{ShowsNodes}
 use Rattle.sheet_words.specs.declared.place.Place.{Place}
-use Rattle.sheet_words.specs.Puts.{Puts}
+use Rattle.sheet_words.specs.PutInFront.{Puts}
 use Rattle.sheet_words.specs.Parts.{OfState, most}
 use Rattle.sheet_regions.specs.declared.region_line.RegionInputs.{RegionInputs}
 use Rattle.sheet_regions.specs.declared.region_line.RegionInputs.the-variants.{None, All, Kept}

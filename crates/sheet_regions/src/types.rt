@@ -5,7 +5,7 @@ ghost use Rattle.meaning.specs.Graph.{region};
 ghost use Rattle.nesting.specs.Nesting.{plain, LoopInputs};
 ghost use Rattle.record.specs.Stands.{OfRecord};
 ghost use Rattle.sheet_words.specs.Parts.{OfState};
-ghost use Rattle.sheet_words.specs.Puts.{Puts};
+ghost use Rattle.sheet_words.specs.PutInFront.{Puts};
 ghost use Rattle.sheet_regions.specs.Kept as kept;
 use sheet_words::place::Place;
 use sheet_words::place::put_word;

@@ -9,7 +9,7 @@ use Rattle.nesting.specs.Sheet.{case-numbers}
 use Rattle.state_words.specs.Sections.{section, cells}
 use Rattle.state_shown.specs.Cells.{ShowsCaseCells}
 use Rattle.sheet_words.specs.declared.place.Place.{Place}
-use Rattle.sheet_words.specs.Puts.{Puts}
+use Rattle.sheet_words.specs.PutInFront.{Puts}
 use Rattle.sheet_regions.specs.declared.Counted.{Counted}
 use Rattle.sheet_regions.specs.Numbers.{PutsNumbers}
 

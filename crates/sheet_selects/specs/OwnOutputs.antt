@@ -10,7 +10,7 @@ use Rattle.nesting.specs.Nesting.{NestState, plain, case-outputs}
 use Rattle.state_shown.specs.Values.{value}
 use Rattle.state_shown.specs.Tables.{no-output}
 use Rattle.sheet_words.specs.declared.place.Place.{Place}
-use Rattle.sheet_words.specs.Puts.{Part, Puts}
+use Rattle.sheet_words.specs.PutInFront.{Part, Puts}
 use Rattle.sheet_words.specs.Parts.{OfState, value-part, values-part}
 use Rattle.sheet_selects.specs.SelectParts.{output-types}
 use Rattle.state_words.specs.Rows.{output-node, output-type, output-value}

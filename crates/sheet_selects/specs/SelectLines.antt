@@ -14,7 +14,7 @@ use Rattle.state_shown.specs.Values.{value}
 use Rattle.state_shown.specs.Tables.{ShowsShape}
 use Rattle.state_shown.specs.Cells.{ShowsNodes, ShowsCaseCells}
 use Rattle.sheet_words.specs.declared.place.Place.{Place}
-use Rattle.sheet_words.specs.Puts.{Puts}
+use Rattle.sheet_words.specs.PutInFront.{Puts}
 use Rattle.sheet_words.specs.Parts.{OfState, region-part}
 use Rattle.sheet_selects.specs.SelectParts.{select-part}
 use Rattle.sheet_selects.specs.OwnOutputs.{ValuesShown}

@@ -4,7 +4,7 @@ use Prim.Native.Nat.{ℕ}
 use Rattle.meaning.specs.Graph.{Value, SelectionKind}
 use Rattle.meaning.specs.Runs.{Cases}
 use Rattle.nesting.specs.Nesting.{NestState, plain, _⊛_, output-decls}
-use Rattle.sheet_words.specs.Puts.{Part}
+use Rattle.sheet_words.specs.PutInFront.{Part}
 use Rattle.sheet_words.specs.Parts.{most, output-nodes, look-up-at-end, select-words}
 
 -- The line of a select alone: node, kind, value, case regions, types of its outputs.

@@ -1,6 +1,6 @@
 // The line of a select, and the region lines of its cases.
 ghost use mathlib.Core.Path.{_≡_};
-ghost use Rattle.sheet_words.specs.Puts.{Puts};
+ghost use Rattle.sheet_words.specs.PutInFront.{Puts};
 ghost use Rattle.sheet_selects.specs.OwnOutputs as outputs;
 ghost use Rattle.sheet_selects.specs.CaseNumbers as numbers;
 ghost use Rattle.sheet_selects.specs.SelectLines as lines;

@@ -1,4 +1,4 @@
-pub mod Puts
+pub mod PutInFront
 pub mod Parts
 pub mod Outputs
 pub mod laws

@@ -14,7 +14,7 @@ use Rattle.nesting.specs.SheetNumbers.{lead-region, lead-block, lead-select, le
 use Rattle.nesting.specs.lookups.ChainEnds.{ChainsEnd}
 use Rattle.nesting.specs.decoding.Lines.{words-of}
 use Rattle.state_shown.specs.States.{ShowsState}
-use Rattle.sheet_words.specs.Puts.{Part}
+use Rattle.sheet_words.specs.PutInFront.{Part}
 
 -- ---- What the words show when nesting is done.
 pub record Concluded (g : Graph) (w : List ℕ) (s : NestState) : Type 0 where

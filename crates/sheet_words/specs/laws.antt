@@ -1,4 +1,4 @@
-pub mod PutsLaws
+pub mod PutInFrontLaws
 pub mod OutputsLaws
 pub mod Rows
 pub mod PartLaws

@@ -3,7 +3,7 @@ ghost use mathlib.Core.Path.{_≡_};
 ghost use mathlib.Core.List.{[], _∷_};
 ghost use Prim.Native.Nat.{_-_};
 ghost use Rattle.nesting.specs.Nesting.{plain};
-ghost use Rattle.sheet_words.specs.Puts as words;
+ghost use Rattle.sheet_words.specs.PutInFront as words;
 
 // The end of what is still to be put, and whether a value was met that counts for `twice`.
 pub struct Place {

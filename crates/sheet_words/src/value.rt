@@ -4,7 +4,7 @@ ghost use Rattle.nesting.specs.Nesting.{plain};
 ghost use Rattle.state_shown.specs.Values.{value};
 ghost use Rattle.sheet_words.specs.Outputs as words;
 ghost use Rattle.sheet_words.specs.Parts as parts;
-ghost use Rattle.sheet_words.specs.Puts.{Puts};
+ghost use Rattle.sheet_words.specs.PutInFront.{Puts};
 use crate::place::Place;
 use crate::place::note;
 use crate::place::put_three;

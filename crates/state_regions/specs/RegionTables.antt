@@ -22,8 +22,8 @@ case-row l j =
     let field : ℕ → ℕ = λ i. case-word l j i in
     record { kind = field 0; origin = field 1; body = field 2; children = field 3; start = field 4; length = field 5 }
 
-unfoldable pub taken-word : List ℕ → ℕ → ℕ → ℕ
-taken-word l r j = pick (ltb j 8) (level l r j) level-unreachable
+unfoldable pub target-answer : List ℕ → ℕ → ℕ → ℕ
+target-answer l r j = pick (ltb j 8) (level l r j) level-unreachable
 
-unfoldable pub taken-stored : List ℕ → ℕ → ℕ → ℕ → List ℕ
-taken-stored l r j x = pick (ltb j 8) (stored l levels (level-at r j) x) l
+unfoldable pub target-answer-stored : List ℕ → ℕ → ℕ → ℕ → List ℕ
+target-answer-stored l r j x = pick (ltb j 8) (stored l levels (level-at r j) x) l

@@ -1,5 +1,5 @@
 // The states of the record's regions, in fixed lists: kinds, back edge counts, where the deferred sets start and how many bundles they
-// have, children, structured bodies. And what a level of the cycle holds across a claim: how each target was taken so far.
+// have, children, structured bodies. And what a level of the cycle holds across a claim: how each target was answered so far.
 ghost use mathlib.Core.Path.{_≡_};
 ghost use Prim.Native.Nat.{_+_, _*_, _≤_};
 ghost use Rattle.state_words.specs.Sections as sections;
@@ -75,15 +75,15 @@ pub fn set_structured_body(w: &mut [u16; WORDS], r: u16, body: u16)
     put(w, BODIES, r as usize, body);
 }
 
-// How region r's target at place j was taken: nothing is deferred, its edge is, or it is claimed.
-pub const UNREACHABLE: u16 = 0;
+// How region r's target at place j was answered: nothing of it is left, its edge is deferred, or it is claimed.
+pub const TARGET_UNREACHABLE: u16 = 0;
 
-pub const DEFERRED: u16 = 1;
+pub const TARGET_DEFERRED: u16 = 1;
 
-pub const TAKEN: u16 = 2;
+pub const TARGET_CLAIMED: u16 = 2;
 
-pub fn target_taken(w: &[u16; WORDS], r: u16, j: u16) -> u16
-    ensures { λ a. ⌜ a ≡ tables.«taken-word» (now (w .entry)) r j ⌝ }
+pub fn target_answer(w: &[u16; WORDS], r: u16, j: u16) -> u16
+    ensures { λ a. ⌜ a ≡ tables.«target-answer» (now (w .entry)) r j ⌝ }
 {
     if j < 8 {
         return get(w, LEVELS, ROW * (r as usize) + (j as usize));
@@ -91,8 +91,8 @@ pub fn target_taken(w: &[u16; WORDS], r: u16, j: u16) -> u16
     0
 }
 
-pub fn set_target_taken(w: &mut [u16; WORDS], r: u16, j: u16, x: u16)
-    ensures { λ _. ⌜ now (w .exit) ≡ tables.«taken-stored» (now (w .entry)) r j x ⌝ }
+pub fn set_target_answer(w: &mut [u16; WORDS], r: u16, j: u16, x: u16)
+    ensures { λ _. ⌜ now (w .exit) ≡ tables.«target-answer-stored» (now (w .entry)) r j x ⌝ }
 {
     if j < 8 {
         put(w, LEVELS, ROW * (r as usize) + (j as usize), x);

@@ -13,17 +13,17 @@ use Rattle.state_shown.specs.Cells.{ShowsChildren}
 use Rattle.state_words.specs.Rows.{level, slot-size}
 
 -- ---- From w to w′ what was made stays made, and the record stands.
-pub record Later (g : Graph) (w w′ : List ℕ) : Type 0 where
+pub record PreservesMade (g : Graph) (w w′ : List ℕ) : Type 0 where
   pub front : SameFront w w′
   pub conditions-stay : {c : ℕ} {t : LazyCond} → ShowsCondition w c t → ShowsCondition w′ c t
   pub nodes-stay : {h : ℕ} {ks : Nodes} → ShowsChildren g w h ks → ShowsChildren g w′ h ks
 
--- ---- What region q has of its own: its slot and what stands there, its children, its structured body, how its targets were taken.
+-- ---- What region q has of its own: its slot and what stands there, its children, its structured body, how its targets were answered.
 pub record KeptRegion (w w′ : List ℕ) (q : ℕ) : Type 0 where
   pub set-start : word w′ set-starts q ≡ word w set-starts q
   pub set-length : word w′ set-lengths q ≡ word w set-lengths q
   pub handle : word w′ children q ≡ word w children q
   pub body : word w′ bodies q ≡ word w bodies q
   pub backedge : word w′ backedges q ≡ word w backedges q
-  pub taken : (j : ℕ) → j < 8 → level w′ q j ≡ level w q j
+  pub target-answers : (j : ℕ) → j < 8 → level w′ q j ≡ level w q j
   pub slot : (i : ℕ) → i < slot-size → SameBundle w w′ (word w set-starts q + i)

@@ -1,4 +1,4 @@
 pub mod Lines
 pub mod Texts
-pub mod Puts
+pub mod WordsToText
 pub mod laws

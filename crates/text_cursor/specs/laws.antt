@@ -1,2 +1,2 @@
-pub mod PutsSteps
+pub mod WordsToTextSteps
 pub mod Readers

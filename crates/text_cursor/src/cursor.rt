@@ -6,7 +6,7 @@ ghost use Rattle.text.specs.Buffer.{buffer, Wrote};
 ghost use Rattle.nesting.specs.Sheet.{dotted};
 ghost use Rattle.nesting.specs.decoding.Lines.{value-texts};
 ghost use Rattle.text_cursor.specs.Texts.{say, number-text, value-text, skip-text, either-text};
-ghost use Rattle.text_cursor.specs.Puts.{PutsText, Stopped};
+ghost use Rattle.text_cursor.specs.WordsToText.{PutsText, Stopped};
 use nesting::BOOL_KIND;
 use nesting::CONST_KIND;
 use nesting::INPUT_KIND;

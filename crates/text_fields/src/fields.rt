@@ -9,7 +9,7 @@ ghost use Rattle.text_cursor.specs.Texts.{say, _then_};
 ghost use Rattle.text_fields.specs.Fields.{field-within, list-within, field-text, list-text, none-text, item-head};
 ghost use Rattle.text_fields.specs.Fields.{merge-head};
 ghost use Rattle.text_cursor.specs.Texts.{plain-text};
-ghost use Rattle.text_cursor.specs.Puts.{PutsText, PutsWithin};
+ghost use Rattle.text_cursor.specs.WordsToText.{PutsText, PutsWithin};
 use nesting::LETTER_F;
 use nesting::LETTER_M;
 use nesting::LETTER_T;

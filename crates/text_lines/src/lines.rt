@@ -3,7 +3,7 @@ ghost use Rattle.nesting.specs.decoding.Decode.{decode-region, decode-block, de
 ghost use Rattle.nesting.specs.decoding.Decode.{line-by, decode-line};
 ghost use Rattle.text_cursor.specs.Lines.{shown, fields-text, line-text, decode-first, first-text, decoded-sheet-text};
 ghost use Rattle.text_cursor.specs.Texts.{say, _then_, skip-text, target-text, outcome-text};
-ghost use Rattle.text_cursor.specs.Puts.{PutsText, PutsOn};
+ghost use Rattle.text_cursor.specs.WordsToText.{PutsText, PutsOn};
 use nesting::LEAD_BLOCK;
 use nesting::LEAD_DEFER;
 use nesting::LEAD_EXIT;

@@ -18,16 +18,16 @@ use Rattle.state_shown.specs.Sets.{Names, ShowsTarget, shows-region, shows-retu
 use Rattle.state_shown.specs.States.{ShowsOwnSet, Slots, ShowsState, ShowsClaimed, ShowsCase, shows-ok, shows-nothing, shows-edge}
 use Rattle.state_shown.specs.States.{shows-others}
 use Rattle.state_shown.specs.States.{ShowsCases, no-case, HasSlot}
-use Rattle.state_shown.specs.Kept.{Later, KeptRegion}
+use Rattle.state_shown.specs.Kept.{PreservesMade, KeptRegion}
 use Rattle.state_shown.specs.laws.RegionsKept.{kept-then, set-stays, same-bundle-then, claimed-stays}
 use Rattle.state_shown.specs.laws.Stores.{head-same}
-use Rattle.state_shown.specs.laws.SetStores.{OnlySets, only-then, only-total, only-later, only-state, only-word-same, word-other}
+use Rattle.state_shown.specs.laws.SetStores.{OnlySets, only-then, only-total, only-preserves, only-state, only-word-same, word-other}
 use Rattle.state_shown.specs.laws.SetStores.{same-elsewhere}
 use Rattle.state_shown.specs.laws.SetStores.{same-elsewhere-run}
 use Rattle.state_shown.specs.laws.RegionSteps.{slots-stay}
 use Rattle.state_shown.specs.laws.SetSteps.{shift-removes, kept-beside}
 use Rattle.state_shown.specs.laws.Finds.{bundle-in}
-use Rattle.cfg_bundles.specs.Words.{claimed-case, unclaimed-case, given-word, given-inputs, split-filled}
+use Rattle.cfg_bundles.specs.EdgesAndCases.{claimed-case, unclaimed-case, given-word, given-inputs, split-filled}
 use Rattle.cfg_bundles.specs.laws.shown.CaseSteps.{one-row, Owner, of-claimed, of-others, case-placed, placed-apart, placed-not-spare}
 use Rattle.cfg_bundles.specs.laws.shown.CaseSteps.{CaseAndSet, shown-stays, claimed-row, others-row, one-kept}
 use Rattle.cfg_cases.specs.laws.CasesFilled.{total-of}
@@ -122,7 +122,7 @@ pub record SplitShown (g : Graph) (w w′ : List ℕ) (s : NestState) (r : ℕ) 
   pub cases-shown : ShowsCases g w′ r cs
   pub state : ShowsState g w′ s
   pub only : OnlySets w w′
-  pub later : Later g w w′
+  pub made-stays : PreservesMade g w w′
   pub kept : (q : ℕ) → HasSlot (length (g .regions)) q → (q ≡ r → ⊥) → KeptRegion w w′ q
 
 -- ---- The two cases, over words of which bundle i is shifted out.
@@ -165,9 +165,9 @@ module _ {g : Graph} (few : length (g .regions) ≤ 32) {r : ℕ} (here : r < le
       let slots₂ = slots-stay (λ a h. starts₂ a) slots in
       let n = word rest set-lengths r in
       let left : ShowsSet g w₂ start n (take i d ++ drop (suc i) d) =
-      set-stays (only-later (only-total rest 2) g) (λ k h. same-elsewhere rest head (omega arith) cases-at 2 _)
+      set-stays (only-preserves (only-total rest 2) g) (λ k h. same-elsewhere rest head (omega arith) cases-at 2 _)
       (rw (x .starts r) at (x .set)) in
-      let claimed₂ = claimed-stays (only-later only₂ g) (kept₂ o (omega arith) other)
+      let claimed₂ = claimed-stays (only-preserves only₂ g) (kept₂ o (omega arith) other)
       (only-word-same only₂ kinds (omega arith) o) claimed in
       let given = given-inputs g w p in
       let same-case : claimed-case w₂ o ≡ claimed-case w (bundle-target w p) =
@@ -189,7 +189,8 @@ module _ {g : Graph} (few : length (g .regions) ≤ 32) {r : ℕ} (here : r < le
       let slots₃ = slots-stay (λ a h. one₃ .starts a) slots₂ in
       let start₃ : word w₃ set-starts r ≡ start = one₃ .starts r ∙ starts₂ r in
       let left₃ : ShowsSet g w₃ (word w₃ set-starts r) n (take i d ++ drop (suc i) d) =
-      rw start₃ (set-stays (only-later (one₃ .only) g) (λ k h. same-elsewhere-run w₂ cases (omega arith) (case-row-at 0) row₀ _) left) in
+      rw start₃ (set-stays (only-preserves (one₃ .only) g) (λ k h. same-elsewhere-run w₂ cases (omega arith)
+      (case-row-at 0) row₀ _) left) in
       let row₁ = case-words (unclaimed-case case-others start n) in
       let w₄ = stored-all w₃ cases (case-row-at 1) row₁ in
       let one₄ = one-row w₃ 1 row₁ (omega arith) in
@@ -207,6 +208,6 @@ module _ {g : Graph} (few : length (g .regions) ≤ 32) {r : ℕ} (here : r < le
         cases-shown = two-cases few here slots₄ total other first₄ second;
         state = only-state only slots₄ (λ q h e. kept q (slot q h) (λ f. unready (ap (λ b. region-kind w b) (sym f) ∙ e))) state;
         only = only;
-        later = only-later only g;
+        made-stays = only-preserves only g;
         kept = kept;
       }

@@ -14,7 +14,7 @@ use Rattle.record.specs.Stands.{Stands}
 use Rattle.state_words.specs.Sections.{section, word, stored, kinds, bodies, backedges, children, set-lengths, levels, head}
 use Rattle.state_words.specs.laws.Apart.{section-stored}
 use Rattle.state_words.specs.Totals.{attempted}
-use Rattle.state_regions.specs.RegionTables.{taken-stored}
+use Rattle.state_regions.specs.RegionTables.{target-answer-stored}
 use Rattle.state_shown.specs.Front.{SameFront, SameKinds}
 use Rattle.state_shown.specs.laws.FrontKept.{front-same, front-then, front-stored, stands-on, kinds-same, kinds-stored, kinds-then}
 use Rattle.state_shown.specs.laws.FrontKept.{adds-kinds, defines-kinds}
@@ -117,9 +117,9 @@ steady-attempted w = elim (decLt (word w head attempts-at) largest) [
   | no h ↦ rw (le-ltb (word w head attempts-at) largest (omega arith)) (steady-same w)
 ]
 
-pub steady-taken : (w : List ℕ) (r j x : ℕ) → SteadyRecord w (taken-stored w r j x)
-unfolding taken-stored
-steady-taken w r j x = elim (decLt j 8) [
+pub steady-answer : (w : List ℕ) (r j x : ℕ) → SteadyRecord w (target-answer-stored w r j x)
+unfolding target-answer-stored
+steady-answer w r j x = elim (decLt j 8) [
   | yes h ↦ rw (lt-ltb j 8 h) (steady-of (kinds-stored w levels (omega arith) (level-at r j) x))
   | no h ↦ rw (le-ltb j 8 (omega arith)) (steady-same w)
 ]
@@ -202,9 +202,9 @@ module _ {g : Graph} {counts : List ℕ} where
     steady-targets {w} (no-target h e) st = rw e (steady-same w)
     steady-targets (target-refused h c) st = steady-claim c st
     steady-targets {r} {j} (target-claimed {w₁} h c t) st =
-        let x = steady-then (steady-claim c st) (steady-taken w₁ r j 2) in steady-then x (steady-targets t (stands-on (x .front) st))
+        let x = steady-then (steady-claim c st) (steady-answer w₁ r j 2) in steady-then x (steady-targets t (stands-on (x .front) st))
     steady-targets {r} {j} (target-waits {w₁} h c t) st =
-        let x = steady-then (steady-claim c st) (steady-taken w₁ r j _) in steady-then x (steady-targets t (stands-on (x .front) st))
+        let x = steady-then (steady-claim c st) (steady-answer w₁ r j _) in steady-then x (steady-targets t (stands-on (x .front) st))
 
     pub steady-scan : {w w′ : List ℕ} {r n i : ℕ} {a : SplitOut} → Scans g counts w r n i w′ a → Stands w g → SteadyRecord w w′
     steady-scan {w} (no-bundle-left h e) st = rw e (steady-same w)

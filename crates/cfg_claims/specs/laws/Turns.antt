@@ -10,7 +10,7 @@ use Rattle.record.specs.Stands.{Stands}
 use Rattle.fields.specs.ByNumber.{edge-of}
 use Rattle.state_words.specs.Sections.{word, stored, kinds, set-lengths, start, size, used}
 use Rattle.state_words.specs.Totals.{attempted}
-use Rattle.state_regions.specs.RegionTables.{taken-stored}
+use Rattle.state_regions.specs.RegionTables.{target-answer-stored}
 use Rattle.state_shown.specs.laws.FrontKept.{stands-on}
 use Rattle.state_shown.specs.laws.Stores.{part-length}
 use Rattle.state_words.specs.declared.defined.Made.{Made}
@@ -31,7 +31,7 @@ use Rattle.cfg_claims.specs.Claims.{TargetRegions, no-target, target-ref
 use Rattle.cfg_claims.specs.Claims.{passes-return, passes-waiting, claims-bundle, scan-refused, SplitsOut, splits-out, Resolves}
 use Rattle.cfg_claims.specs.Claims.{no-turn}
 use Rattle.cfg_claims.specs.Claims.{nothing-claimed, claim-refused, select-refused, claims-and, ResolvesAll, resolves-all}
-use Rattle.cfg_claims.specs.laws.Left.{left, SteadyRecord, steady-same, steady-then, steady-taken, steady-claim, steady-split}
+use Rattle.cfg_claims.specs.laws.Left.{left, SteadyRecord, steady-same, steady-then, steady-answer, steady-claim, steady-split}
 use Rattle.cfg_claims.specs.laws.Left.{steady-of}
 use Rattle.cfg_claims.specs.laws.Left.{begins-less, steady-attempted, steady-targets, inst-kinds, resolve-kinds}
 use Rattle.cfg_claims.specs.laws.Left.{steady-kind, steady-structurized}
@@ -68,12 +68,12 @@ module _ {counts w₀ : List ℕ} {r : ℕ} {w : List ℕ} {j n : ℕ} (passed :
     targets-refused e g st = passed .more g st (target-refused (rw (size g st) at more) (rw e at (its-claim g st)))
 
     module _ (stood : Stood w₀) {w₂ : List ℕ} where
-      passed-on : (y : ℕ) → w₂ ≡ taken-stored w₁ r j y → SteadyRecord w₀ w₂
+      passed-on : (y : ℕ) → w₂ ≡ target-answer-stored w₁ r j y → SteadyRecord w₀ w₂
       passed-on y e =
           steady-then (passed .steady)
-          (steady-then (steady-claim (claim (stood .graph) (on (stood .stands))) (on (stood .stands))) (rw e (steady-taken w₁ r j y)))
+          (steady-then (steady-claim (claim (stood .graph) (on (stood .stands))) (on (stood .stands))) (rw e (steady-answer w₁ r j y)))
 
-      pub targets-claimed : a ≡ Claimed → w₂ ≡ taken-stored w₁ r j level-claimed → TargetsPassed counts w₀ r w₂ (j + 1)
+      pub targets-claimed : a ≡ Claimed → w₂ ≡ target-answer-stored w₁ r j level-claimed → TargetsPassed counts w₀ r w₂ (j + 1)
       targets-claimed e s =
           record {
             steady = passed-on 2 s;
@@ -81,7 +81,7 @@ module _ {counts w₀ : List ℕ} {r : ℕ} {w : List ℕ} {j n : ℕ} (passed :
                 (rw (s, add-one j) at t));
           }
 
-      pub targets-waiting : a ≡ Unclaimed → w₂ ≡ taken-stored w₁ r j (unclaimed-word w₁ t) → TargetsPassed counts w₀ r w₂ (j + 1)
+      pub targets-waiting : a ≡ Unclaimed → w₂ ≡ target-answer-stored w₁ r j (unclaimed-word w₁ t) → TargetsPassed counts w₀ r w₂ (j + 1)
       targets-waiting e s =
           record {
             steady = passed-on (unclaimed-word w₁ t) s;

@@ -21,7 +21,7 @@ use Rattle.state_nodes.specs.NodeTables.{Adds}
 use Rattle.state_words.specs.Totals.{Defines}
 use Rattle.state_regions.specs.RegionTables.{case-row}
 use Rattle.state_words.specs.Values.{value-word}
-use Rattle.cfg_bundles.specs.Words.{condition-in, cases-filled, split-filled, Appends}
+use Rattle.cfg_bundles.specs.EdgesAndCases.{condition-in, cases-filled, split-filled, Appends}
 use Rattle.state_shown.specs.Front.{SameKinds}
 use Rattle.state_shown.specs.laws.FrontKept.{stands-kept, kinds-stored, kinds-then, adds-kinds}
 use Rattle.cfg_regions.specs.laws.Leaves.{cases-kinds, split-kinds}
@@ -53,25 +53,25 @@ module _ (g : Graph) (w : List ℕ) (r : ℕ) {w₁ : List ℕ} (st : Stands w g
   stands-filled : Stands w₁ g
   stands-filled = rw filled (stands-kept (cases-kinds g w r) st)
 
-  pub branch-taken : {x : Case} → x ≡ case-row w₁ 0 → {w₂ : List ℕ} → Appends w₁ w₂ r x 0 → Branches g w r w₂ Done
-  branch-taken e y = branches (rw (e, filled) at y)
+  pub branch-path : {x : Case} → x ≡ case-row w₁ 0 → {w₂ : List ℕ} → Appends w₁ w₂ r x 0 → Branches g w r w₂ Done
+  branch-path e y = branches (rw (e, filled) at y)
 
-  pub select-taken : (shape : ℕ) (v : Value) → (Stands w₁ g → value-is v ≡ getD (end-values g r) 0 no-value) → {x : ℕ} → x ≡ value-word v
+  pub select-path : (shape : ℕ) (v : Value) → (Stands w₁ g → value-is v ≡ getD (end-values g r) 0 no-value) → {x : ℕ} → x ≡ value-word v
       → {w₂ : List ℕ} {a : Made} → (Stands w₁ g → StructurizesInto g r shape (scrutinee.Value x) w₁ w₂ a) → Selects g w r shape w₂ a
-  select-taken shape v p e y = selects v (p stands-filled) (rw (e, filled) at (y stands-filled))
+  select-path shape v p e y = selects v (p stands-filled) (rw (e, filled) at (y stands-filled))
 
 module _ {g : Graph} {w w₁ w₂ : List ℕ} {r : ℕ} (st : Stands w g) (blocks : Stands w g → AddsBlocks g w r w₁)
     (emptied : w₂ ≡ stored w₁ set-lengths r 0) where
-  pub inst-taken : {w₃ : List ℕ} {a : Made} → (Stands w₂ g → ByTerminator g w₂ r w₃ a) → ByControlInst g w r w₃ a
-  inst-taken y =
+  pub inst-path : {w₃ : List ℕ} {a : Made} → (Stands w₂ g → ByTerminator g w₂ r w₃ a) → ByControlInst g w r w₃ a
+  inst-path y =
       let on : Stands w₂ g = rw emptied (stands-kept (kinds-then (blocks-kinds (blocks st))
       (kinds-stored w₁ set-lengths (omega arith) r 0)) st) in
       by-inst (blocks st) emptied (y on)
 
 module _ (g : Graph) (w : List ℕ) (r i : ℕ) {n p c : ℕ} {w₁ : List ℕ} (st : Stands w g) (of-length : n ≡ word w set-lengths r)
     (at : p ≡ own-bundle w r i) (under : c ≡ condition-in w p n) (filled : Stands w g → w₁ ≡ split-filled g w r i) where
-  pub resolve-taken : {w₂ : List ℕ} {a : Made} → (Stands w₁ g → StructurizesInto g r 0 (scrutinee.Lazy c) w₁ w₂ a) → ResolvesBy g w r i w₂ a
-  resolve-taken y =
+  pub resolve-path : {w₂ : List ℕ} {a : Made} → (Stands w₁ g → StructurizesInto g r 0 (scrutinee.Lazy c) w₁ w₂ a) → ResolvesBy g w r i w₂ a
+  resolve-path y =
       let on : Stands w₁ g = rw (filled st) (stands-kept (split-kinds g w r i) st) in
       resolves (rw (under, at, of-length, filled st) at (y on))
 

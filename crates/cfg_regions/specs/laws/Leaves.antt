@@ -22,8 +22,8 @@ use Rattle.state_shown.specs.Front.{SameKinds}
 use Rattle.state_shown.specs.laws.Rewrites.{insert-changes}
 use Rattle.state_shown.specs.laws.FrontKept.{stands-kept, kinds-same, kinds-stored, kinds-run, kinds-by, kinds-then, adds-kinds}
 use Rattle.state_shown.specs.laws.FrontKept.{defines-kinds}
-use Rattle.cfg_bundles.specs.Words.{Appends, appended, its-edge, its-rest, cases-filled, filled-from, split-filled, return-deferred}
-use Rattle.cfg_bundles.specs.Words.{case-inputs}
+use Rattle.cfg_bundles.specs.EdgesAndCases.{Appends, appended, its-edge, its-rest, cases-filled, filled-from, split-filled, return-deferred}
+use Rattle.cfg_bundles.specs.EdgesAndCases.{case-inputs}
 use Rattle.cfg_bundles.specs.laws.paths.Paths.{front-filled}
 use Rattle.cfg_select_nodes.specs.declared.define.Scrutinee.{Scrutinee}
 use Rattle.cfg_select_nodes.specs.Cases.{all-replaced, inputs-replaced}
@@ -37,7 +37,7 @@ use Rattle.cfg_selects.specs.Into.{with-plan}
 use Rattle.cfg_loops.specs.Inputs.{RewritesValue, looked-up, left-as-is, RewritesValues, none-yet, one-more, TakesInput, lifted, kept}
 use Rattle.cfg_loops.specs.Inputs.{beyond}
 use Rattle.cfg_loops.specs.Inputs.{TakesFrom, none-taken, one-taken}
-use Rattle.cfg_loops.specs.declared.inputs.Taken.{Taken}
+use Rattle.cfg_loops.specs.declared.inputs.LoopInputs.{LoopInputs}
 use Rattle.cfg_loops.specs.Exits.{exits-from}
 use Rattle.cfg_loops.specs.laws.paths.ExitsLaws.{exit-front}
 use Rattle.cfg_loops.specs.Loops as loops
@@ -182,11 +182,11 @@ values-kinds (one-more t x i e) = kinds-then (values-kinds t) (one x)
     one (looked-up h x) = rewrites-kinds x
     one {w} (left-as-is h s e) = rw s (kinds-same w)
 
-inputs-kinds : {r wrapper n k : ℕ} {w vs w′ ws : List ℕ} {x : Taken} → TakesFrom r wrapper n k w vs w′ ws x → SameKinds w w′
+inputs-kinds : {r wrapper n k : ℕ} {w vs w′ ws : List ℕ} {x : LoopInputs} → TakesFrom r wrapper n k w vs w′ ws x → SameKinds w w′
 inputs-kinds {w} (none-taken e s q c d) = rw s (kinds-same w)
 inputs-kinds (one-taken t x i e) = kinds-then (inputs-kinds t) (one x)
   where
-    one : {r wrapper n k v : ℕ} {x y : Taken} {w w′ : List ℕ} → TakesInput r wrapper n k v x w w′ y → SameKinds w w′
+    one : {r wrapper n k v : ℕ} {x y : LoopInputs} {w w′ : List ℕ} → TakesInput r wrapper n k v x w w′ y → SameKinds w w′
     one {w} (lifted h e s a b c) = rw s (kinds-same w)
     one (kept h d x) = adds-kinds (x .cell)
     one {w} (beyond h s a b c) = rw s (kinds-same w)

@@ -1,4 +1,4 @@
-use Rattle.cfg_start.specs.laws.paths.WordsLaws.{started-by}
+use Rattle.cfg_start.specs.laws.paths.InitialStateLaws.{started-by}
 use borrow.Author.Needs.{needs}
 use Rattle.cfg_start.proofs.initial_state.Statement.{statement}
 use Rattle.cfg_start.proofs.initial_state.Tie as tie

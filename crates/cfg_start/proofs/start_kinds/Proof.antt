@@ -2,7 +2,7 @@ use mathlib.Core.Path.{_≡_}
 use Prim.Native.Nat.{_-_}
 use Rattle.state_words.specs.Sections.{kinds, filled}
 use Rattle.state_words.specs.laws.Stored.{fill-start, fill-turn, fill-stop}
-use Rattle.cfg_start.specs.Words.{nothing-begun}
+use Rattle.cfg_start.specs.InitialState.{nothing-begun}
 use borrow.Author.Needs.{needs}
 use Rattle.cfg_start.proofs.start_kinds.Statement.{statement}
 use Rattle.cfg_start.proofs.start_kinds.Tie as tie

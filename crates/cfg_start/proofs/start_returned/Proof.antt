@@ -1,7 +1,7 @@
 use Prim.Native.Nat.{_-_}
 use Rattle.record.specs.Stands.{OfRecord}
-use Rattle.cfg_start.specs.Words.{ReturnedLeft}
-use Rattle.cfg_start.specs.laws.paths.WordsLaws.{returned-start, returned-turn, returned-stop}
+use Rattle.cfg_start.specs.InitialState.{ReturnedLeft}
+use Rattle.cfg_start.specs.laws.paths.InitialStateLaws.{returned-start, returned-turn, returned-stop}
 use borrow.Author.Needs.{needs}
 use Rattle.cfg_start.proofs.start_returned.Statement.{statement}
 use Rattle.cfg_start.proofs.start_returned.Tie as tie

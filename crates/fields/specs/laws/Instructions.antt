@@ -20,7 +20,7 @@ use Rattle.record.specs.laws.PartsWithin.{instr-parts}
 use Rattle.record.specs.Stands.{words-of-record, Stands}
 use Rattle.fields.specs.declared.shape.Instruction.{Instruction}
 use Rattle.fields.specs.Shape.{instruction-is}
-use Rattle.fields.specs.Words.{placed, value-at, behind-values, indexed, block-place, behind-instructions, instruction-place}
+use Rattle.fields.specs.ItemsAndPlaces.{placed, value-at, behind-values, indexed, block-place, behind-instructions, instruction-place}
 use Rattle.fields.specs.laws.Lists.{ListAt, front, value-fixed, counted-at, no-list, placed-small, behind-values-is}
 use Rattle.fields.specs.laws.Regions.{Known, small, beyond-words, no-word, region-case, block-count-is}
 

@@ -17,7 +17,7 @@ use Rattle.record.specs.laws.Parts.{word-parts, within-parts, counted-parts}
 use Rattle.record.specs.laws.PartsWithin.{ValueParts, value-parts}
 use Rattle.record.specs.Stands.{words-of-record}
 use Rattle.fields.specs.ByNumber.{ValuesAt}
-use Rattle.fields.specs.Words.{placed, value-at, word-item, value-item, behind-words, behind-values}
+use Rattle.fields.specs.ItemsAndPlaces.{placed, value-at, word-item, value-item, behind-words, behind-values}
 use Rattle.meaning.specs.Lists.{pick}
 
 -- A reader of items of one width, by what stands at their places.

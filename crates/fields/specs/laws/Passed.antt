@@ -17,7 +17,7 @@ use Rattle.format.specs.laws.Readers.{many-at}
 use Rattle.store.specs.Layout.{beyond}
 use Rattle.record.specs.laws.Parts.{counted-parts}
 use Rattle.record.specs.Stands.{words-of-record, Stands}
-use Rattle.fields.specs.Words.{value-at, word-item, behind-words, targets-place, list-for, passed-place}
+use Rattle.fields.specs.ItemsAndPlaces.{value-at, word-item, behind-words, targets-place, list-for, passed-place}
 use Rattle.fields.specs.laws.Repeats.{earlier}
 use Rattle.fields.specs.laws.Lists.{ListAt, ReadAt, word-fixed, value-fixed, counted-at, no-list, word-item-is, behind-words-is}
 use Rattle.fields.specs.laws.Regions.{Known, Beyond, small, beyond-words, region-case}

@@ -16,7 +16,7 @@ use Rattle.store.specs.Layout.{beyond, record-end, start-word, limit-word, exit
 use Rattle.record.specs.laws.Parts.{within-parts, counted-parts, RegionParts, region-parts, record-parts}
 use Rattle.record.specs.laws.PartsWithin.{HeadParts, head-parts}
 use Rattle.record.specs.Stands.{words-of-record, Stands}
-use Rattle.fields.specs.Words.{placed, behind-words, behind-values, indexed, blocks-place}
+use Rattle.fields.specs.ItemsAndPlaces.{placed, behind-words, behind-values, indexed, blocks-place}
 use Rattle.fields.specs.laws.Lists.{ListAt, front, word-fixed, type-fixed, counted-at, no-list, behind-words-is}
 
 -- A region of the record: its places in the index, and its parts there.

@@ -10,7 +10,7 @@ use borrow.Author.Tests.{lt-ltb, le-ltb, ltb-true}
 use Rattle.meaning.specs.Lists.{is-in}
 use Rattle.reading.specs.Readings.{stands}
 use Rattle.fields.specs.ByNumber.{before, stands-before}
-use Rattle.fields.specs.Words.{word-item, again}
+use Rattle.fields.specs.ItemsAndPlaces.{word-item, again}
 use Rattle.fields.specs.laws.Lists.{ListAt, word-item-is}
 
 -- Within the list.

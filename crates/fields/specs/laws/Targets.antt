@@ -17,7 +17,7 @@ use Rattle.meaning.specs.facts.Distinct.{distinct-again, distinct-new, rank-her
 use Rattle.format.specs.laws.Readers.{part, after-front}
 use Rattle.record.specs.laws.Parts.{counted-parts}
 use Rattle.record.specs.Stands.{words-of-record, Stands}
-use Rattle.fields.specs.Words.{word-item, behind-values, again, behind-list, list-for}
+use Rattle.fields.specs.ItemsAndPlaces.{word-item, behind-values, again, behind-list, list-for}
 use Rattle.fields.specs.laws.Repeats.{earlier, again-here}
 use Rattle.fields.specs.laws.Lists.{value-fixed, counted-at, behind-values-is}
 use Rattle.fields.specs.laws.Regions.{small}

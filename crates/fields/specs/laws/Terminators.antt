@@ -19,7 +19,7 @@ use Rattle.record.specs.laws.PartsWithin.{TerminatorParts, terminator-parts}
 use Rattle.record.specs.Stands.{words-of-record, Stands}
 use Rattle.fields.specs.declared.shape.Terminator.{Terminator}
 use Rattle.fields.specs.Shape.{kind-is, opcode-is, terminator-is}
-use Rattle.fields.specs.Words.{placed, value-at, behind-values, indexed, values-place, targets-place}
+use Rattle.fields.specs.ItemsAndPlaces.{placed, value-at, behind-values, indexed, values-place, targets-place}
 use Rattle.fields.specs.laws.Lists.{ListAt, ReadAt, front, word-fixed, value-fixed, counted-at, no-list, placed-small}
 use Rattle.fields.specs.laws.Lists.{behind-values-is}
 use Rattle.fields.specs.laws.Regions.{Known, Beyond, small, beyond-words, no-word, beyond-values, region-case}

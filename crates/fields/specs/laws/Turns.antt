@@ -5,7 +5,7 @@ use mathlib.Core.List.{List}
 use native.Mathlib.Numerals.{add-one}
 use borrow.Author.Tests.{eq-eqb, ne-eqb}
 use Rattle.meaning.specs.facts.Numbers.{one-less, none-left}
-use Rattle.fields.specs.Words.{placed, word-item, behind-values, behind-instructions, behind-list, list-for}
+use Rattle.fields.specs.ItemsAndPlaces.{placed, word-item, behind-values, behind-instructions, behind-list, list-for}
 use Rattle.fields.specs.laws.Targets.{list-here, list-next}
 
 module _ (w : List ℕ) (all i : ℕ) where

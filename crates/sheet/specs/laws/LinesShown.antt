@@ -11,8 +11,8 @@ use Rattle.nesting.specs.Nesting.{NestState, Nested, Outcome, untouched, whole,
 use Rattle.nesting.specs.Nesting.{unclaimed-from}
 use Rattle.nesting.specs.Nesting.{look-up-piece, look-up-nodes}
 use Rattle.sheet_words.specs.declared.place.Place.{Place}
-use Rattle.sheet_words.specs.Puts.{Puts}
-use Rattle.sheet_words.specs.laws.PutsLaws.{puts-then, puts-none, puts-as}
+use Rattle.sheet_words.specs.PutInFront.{Puts}
+use Rattle.sheet_words.specs.laws.PutInFrontLaws.{puts-then, puts-none, puts-as}
 use Rattle.sheet_words.specs.Parts.{each}
 use Rattle.sheet_words.specs.laws.PartLaws.{parts-assoc}
 use Rattle.sheet_nodes.specs.Pieces.{piece-part, lines-part, lines-are, twice-is}

@@ -20,8 +20,8 @@ use Rattle.state_shown.specs.Cells.{ShowsNodes, ShowsChildren}
 use Rattle.state_shown.specs.Sets.{ShowsBundle}
 use Rattle.state_shown.specs.States.{ShowsBody, ShowsOwnSet, ShowsRegion, is-not-begun, is-in-progress, is-ready, is-claimed}
 use Rattle.sheet_words.specs.declared.place.Place.{Place}
-use Rattle.sheet_words.specs.Puts.{Puts}
-use Rattle.sheet_words.specs.laws.PutsLaws.{puts-then, puts-none, puts-as}
+use Rattle.sheet_words.specs.PutInFront.{Puts}
+use Rattle.sheet_words.specs.laws.PutInFrontLaws.{puts-then, puts-none, puts-as}
 use Rattle.sheet_words.specs.laws.Rows.{run-start, run-turn, run-all}
 use Rattle.sheet_words.specs.Parts.{OfState, Concluded, values-part, nodes-part, each}
 use Rattle.sheet_regions.specs.declared.region_line.RegionInputs.the-variants.{All}

@@ -14,12 +14,12 @@ use Rattle.nesting.specs.Nesting.{NestState, Nested, Outcome, untouched, whole,
 use Rattle.nesting.specs.Sheet as sheet
 use Rattle.state_words.specs.Sections.{word, head}
 use Rattle.sheet_words.specs.declared.place.Place.{Place}
-use Rattle.sheet_words.specs.Puts.{written}
+use Rattle.sheet_words.specs.PutInFront.{written}
 use Rattle.sheet_words.specs.Parts.{most}
 use Rattle.sheet.specs.declared.whole.Sheet.the-variants.{Words, TooFew}
 use Rattle.sheet_nodes.specs.Whole.{nested-words, head-words}
 use lib.Seq.{take-suc, set-at}
-use Rattle.sheet_words.specs.laws.PutsLaws.{puts-then}
+use Rattle.sheet_words.specs.laws.PutInFrontLaws.{puts-then}
 use Rattle.sheet.specs.laws.Counts.{as-long, same-if-short}
 use Rattle.sheet.specs.Written.{ShowsAnswer, shows-untouched, shows-whole, shows-closed, shows-leftover, behind-head, PutsLines}
 use Rattle.sheet.specs.Written.{twice-word, PutsHead, PutsSheet, far, Measures, lent, sheet-written, too-few, WritesSheet}

@@ -21,7 +21,7 @@ use Rattle.fields.specs.Shape.{value-is}
 use Rattle.fields.specs.declared.shape.Value as fields
 use Rattle.state_words.specs.Values.{value-word}
 use Rattle.state_shown.specs.Values.{value}
-use Rattle.cfg_bundles.specs.Words.{record-word}
+use Rattle.cfg_bundles.specs.EdgesAndCases.{record-word}
 use Rattle.cfg_bundles.specs.laws.paths.Paths.{word-of-record}
 use Rattle.format.specs.laws.UndefinedTypes.{TypeRead}
 use Rattle.fields.specs.laws.UndefinedTypes.{instr-types-read, end-types-read}

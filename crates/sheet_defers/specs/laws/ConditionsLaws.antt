@@ -15,8 +15,8 @@ use Rattle.state_shown.specs.Tables.{part-and}
 use Rattle.state_shown.specs.laws.Conditions.{shape-cases}
 use Rattle.cfg_lookups.specs.laws.paths.MaterializedLaws.{part-below}
 use Rattle.sheet_words.specs.declared.place.Place.{Place}
-use Rattle.sheet_words.specs.Puts.{Puts}
-use Rattle.sheet_words.specs.laws.PutsLaws.{_⊕_}
+use Rattle.sheet_words.specs.PutInFront.{Puts}
+use Rattle.sheet_words.specs.laws.PutInFrontLaws.{_⊕_}
 use Rattle.sheet_words.specs.laws.Rows.{run, run-list}
 use Rattle.sheet_words.specs.laws.PartLaws.{each-plain}
 use Rattle.sheet_defers.specs.Conditions.{PutsCondition, condition-part}

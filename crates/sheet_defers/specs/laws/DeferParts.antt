@@ -19,9 +19,9 @@ use Rattle.state_sets.specs.SetTables.{bundle-at}
 use Rattle.state_shown.specs.Tables.{ShowsCond, shows-true}
 use Rattle.state_shown.specs.Sets.{ShowsTarget, shows-region, shows-return, ShowsBundle, no-bundle}
 use Rattle.state_shown.specs.States.{ShowsOwnSet}
-use Rattle.cfg_bundles.specs.Words.{condition-in}
-use Rattle.sheet_words.specs.Puts.{Part}
-use Rattle.sheet_words.specs.laws.PutsLaws.{_⊕_}
+use Rattle.cfg_bundles.specs.EdgesAndCases.{condition-in}
+use Rattle.sheet_words.specs.PutInFront.{Part}
+use Rattle.sheet_words.specs.laws.PutInFrontLaws.{_⊕_}
 use Rattle.sheet_words.specs.Parts.{look-up-at-end, values-part, defer-part}
 use Rattle.state_words.specs.Rows.{bundle-condition, bundle-count, bundle-target, most-bundles, return-word}
 

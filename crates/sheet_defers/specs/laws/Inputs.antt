@@ -11,10 +11,10 @@ use Rattle.nesting.specs.Nesting.{NestState, plain, DeferredEdgeBundle}
 use Rattle.state_sets.specs.SetTables.{input-word}
 use Rattle.state_shown.specs.Values.{value}
 use Rattle.state_shown.specs.Sets.{ShowsBundle}
-use Rattle.cfg_bundles.specs.Words.{input-count}
+use Rattle.cfg_bundles.specs.EdgesAndCases.{input-count}
 use Rattle.cfg_bundles.specs.laws.shown.Targets.{input-count-shown}
-use Rattle.sheet_words.specs.Puts.{Part}
-use Rattle.sheet_words.specs.laws.PutsLaws.{_⊕_}
+use Rattle.sheet_words.specs.PutInFront.{Part}
+use Rattle.sheet_words.specs.laws.PutInFrontLaws.{_⊕_}
 use Rattle.sheet_words.specs.laws.Rows.{run, run-list}
 use Rattle.sheet_words.specs.laws.PartLaws.{values-counted}
 use Rattle.sheet_words.specs.Parts.{Concluded, value-part, values-part}

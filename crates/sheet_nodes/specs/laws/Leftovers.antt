@@ -14,8 +14,8 @@ use Rattle.meaning.specs.facts.Numbers.{no-further, one-further}
 use Rattle.nesting.specs.Nesting.{NestState, Piece, plain, unclaimed-from, StructurizeRegionState, not-begun, in-progress, claimed}
 use Rattle.nesting.specs.Nesting.{ready, DeferredEdgeBundleSet}
 use Rattle.nesting.specs.Sheet as sheet
-use Rattle.sheet_words.specs.Puts.{Part}
-use Rattle.sheet_words.specs.laws.PutsLaws.{_⊕_}
+use Rattle.sheet_words.specs.PutInFront.{Part}
+use Rattle.sheet_words.specs.laws.PutInFrontLaws.{_⊕_}
 use Rattle.sheet_words.specs.Parts.{each}
 use Rattle.sheet_words.specs.laws.Rows.{run}
 use Rattle.sheet_nodes.specs.Pieces.{region-lines, piece-part, set-part}

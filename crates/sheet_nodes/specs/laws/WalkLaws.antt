@@ -19,8 +19,8 @@ use Rattle.state_lists.specs.CellByCell.{CellAdded, added-blocks, added-list, a
 use Rattle.state_lists.specs.CellByCell.{FirstCase, case-first, list-before, case-cell, CaseTotal}
 use Rattle.state_lists.specs.laws.CellByCellLaws.{appended, first-case, case-after, case-some}
 use Rattle.sheet_words.specs.declared.place.Place.{Place}
-use Rattle.sheet_words.specs.Puts.{Puts}
-use Rattle.sheet_words.specs.laws.PutsLaws.{_⊕_, puts-then, puts-none, puts-as}
+use Rattle.sheet_words.specs.PutInFront.{Puts}
+use Rattle.sheet_words.specs.laws.PutInFrontLaws.{_⊕_, puts-then, puts-none, puts-as}
 use Rattle.sheet_words.specs.Parts.{OfState, node-part, nodes-part, cases-part, region-part}
 use Rattle.sheet_words.specs.laws.PartLaws.{parts-assoc, part-last, no-nodes-part, one-node-part, joined-part}
 use Rattle.sheet_selects.specs.laws.SelectPartsLaws.{new-select-part, no-cases-part, new-case-part}

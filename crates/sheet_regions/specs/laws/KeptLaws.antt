@@ -8,8 +8,8 @@ use lib.ListN.{length}
 use Rattle.nesting.specs.Nesting.{plain}
 use Rattle.state_words.specs.Rows.{cell-before}
 use Rattle.sheet_words.specs.declared.place.Place.{Place}
-use Rattle.sheet_words.specs.Puts.{Part, Puts}
-use Rattle.sheet_words.specs.laws.PutsLaws.{_⊕_, puts-then, puts-none}
+use Rattle.sheet_words.specs.PutInFront.{Part, Puts}
+use Rattle.sheet_words.specs.laws.PutInFrontLaws.{_⊕_, puts-then, puts-none}
 use Rattle.sheet_words.specs.Parts.{each}
 use Rattle.sheet_regions.specs.Kept.{Chain, no-cell, then-cell, CellsBehindPut, CellsPut}
 

@@ -18,8 +18,8 @@ use Rattle.state_lists.specs.CellByCell.{CellAdded, added-blocks, added-list, a
 use Rattle.state_lists.specs.CellByCell.{list-before}
 use Rattle.state_lists.specs.laws.CellByCellLaws.{appended}
 use Rattle.sheet_words.specs.declared.place.Place.{Place}
-use Rattle.sheet_words.specs.Puts.{Puts}
-use Rattle.sheet_words.specs.laws.PutsLaws.{puts-then}
+use Rattle.sheet_words.specs.PutInFront.{Puts}
+use Rattle.sheet_words.specs.laws.PutInFrontLaws.{puts-then}
 use Rattle.sheet_regions.specs.declared.Counted.{Counted}
 use Rattle.fields.specs.ByNumber.{BlocksBefore}
 use Rattle.sheet_regions.specs.Numbers.{PutsNumbers}

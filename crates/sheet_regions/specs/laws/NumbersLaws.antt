@@ -6,7 +6,7 @@ use native.Mathlib.Omega.{arith}
 use native.Mathlib.Decide.{decLt}
 use lib.ListN.{length, length-append}
 use borrow.Author.Tests.{le-leb, lt-leb}
-use Rattle.sheet_words.specs.laws.PutsLaws.{puts-then, puts-none}
+use Rattle.sheet_words.specs.laws.PutInFrontLaws.{puts-then, puts-none}
 use Rattle.sheet_words.specs.Parts.{most}
 use Rattle.sheet_regions.specs.declared.Counted.{Counted}
 use Rattle.sheet_regions.specs.Numbers.{PutsNumbers}

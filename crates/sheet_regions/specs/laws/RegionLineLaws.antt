@@ -9,8 +9,8 @@ use Rattle.nesting.specs.Nesting.{NestState, LoopInputs, plain}
 use Rattle.nesting.specs.SheetNumbers.{lead-region}
 use Rattle.record.specs.Stands.{OfRecord}
 use Rattle.sheet_words.specs.declared.place.Place.{Place}
-use Rattle.sheet_words.specs.Puts.{Puts}
-use Rattle.sheet_words.specs.laws.PutsLaws.{puts-then}
+use Rattle.sheet_words.specs.PutInFront.{Puts}
+use Rattle.sheet_words.specs.laws.PutInFrontLaws.{puts-then}
 use Rattle.sheet_words.specs.Parts.{OfState, values-part, region-part}
 use Rattle.sheet_regions.specs.declared.region_line.RegionInputs.{RegionInputs}
 use Rattle.sheet_regions.specs.declared.region_line.RegionInputs.the-variants.{None, All, Kept}

@@ -3,7 +3,7 @@ use Prim.Native.Nat.{_+_, _-_, _≤_}
 use native.Mathlib.Omega.{arith}
 use lib.ListN.{length}
 use borrow.Author.Needs.{needs}
-use Rattle.sheet_words.specs.Puts.{Puts}
+use Rattle.sheet_words.specs.PutInFront.{Puts}
 use Rattle.sheet_words.specs.laws.Rows.{run, run-start}
 use Rattle.sheet_words.specs.Outputs.{node-times}
 use Rattle.sheet_selects.specs.OwnOutputs.{own, type-word}

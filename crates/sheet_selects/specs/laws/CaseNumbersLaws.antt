@@ -15,8 +15,8 @@ use Rattle.state_shown.specs.Cells.{ShowsCaseCells, no-cases, case-and}
 use Rattle.state_lists.specs.CellByCell.{FirstCase, case-first}
 use Rattle.state_lists.specs.laws.CellByCellLaws.{first-case}
 use Rattle.sheet_words.specs.declared.place.Place.{Place}
-use Rattle.sheet_words.specs.Puts.{Puts}
-use Rattle.sheet_words.specs.laws.PutsLaws.{puts-then}
+use Rattle.sheet_words.specs.PutInFront.{Puts}
+use Rattle.sheet_words.specs.laws.PutInFrontLaws.{puts-then}
 use Rattle.sheet_regions.specs.declared.Counted.{Counted}
 use Rattle.sheet_regions.specs.Numbers.{PutsNumbers}
 use Rattle.sheet_regions.specs.laws.NumbersLaws.{numbers-none, numbers-then, most-whole}

@@ -15,8 +15,8 @@ use Rattle.nesting.specs.Nesting.{NestState, NodeOutput, plain, case-outputs, o
 use Rattle.state_words.specs.Sections.{word, head}
 use Rattle.state_shown.specs.Tables.{ShowsTables, no-output}
 use Rattle.sheet_words.specs.declared.place.Place.{Place}
-use Rattle.sheet_words.specs.Puts.{Part, Puts}
-use Rattle.sheet_words.specs.laws.PutsLaws.{_⊕_, puts-then, puts-none, puts-as}
+use Rattle.sheet_words.specs.PutInFront.{Part, Puts}
+use Rattle.sheet_words.specs.laws.PutInFrontLaws.{_⊕_, puts-then, puts-none, puts-as}
 use Rattle.sheet_words.specs.laws.Rows.{run, run-turn, run-all, run-list}
 use Rattle.sheet_words.specs.Parts.{OfState, each, output-nodes, value-part}
 use Rattle.sheet_words.specs.Outputs.{node-times}

@@ -12,8 +12,8 @@ use Rattle.state_words.specs.Rows.{select-node, select-shape, select-scrutinee,
 use Rattle.state_shown.specs.Values.{value}
 use Rattle.state_shown.specs.Tables.{ShowsShape, shape-bool, shape-number}
 use Rattle.sheet_words.specs.declared.place.Place.{Place}
-use Rattle.sheet_words.specs.Puts.{Puts}
-use Rattle.sheet_words.specs.laws.PutsLaws.{puts-then, puts-as}
+use Rattle.sheet_words.specs.PutInFront.{Puts}
+use Rattle.sheet_words.specs.laws.PutInFrontLaws.{puts-then, puts-as}
 use Rattle.sheet_words.specs.Parts.{OfState, value-part}
 use Rattle.sheet_regions.specs.declared.region_line.RegionInputs.the-variants.{None}
 use Rattle.sheet_regions.specs.RegionLine.{no-types, PutsRegionLine}

@@ -9,7 +9,7 @@ use Rattle.meaning.specs.Runs.{Nodes, Cases, ∅}
 use Rattle.nesting.specs.Nesting.{NestState, plain, new-case, new-select, case-outputs, look-up-node}
 use Rattle.nesting.specs.Sheet as sheet
 use Rattle.nesting.specs.SheetNumbers.{lead-select}
-use Rattle.sheet_words.specs.laws.PutsLaws.{_⊕_}
+use Rattle.sheet_words.specs.laws.PutInFrontLaws.{_⊕_}
 use Rattle.sheet_words.specs.Parts.{look-up-at-end, node-words, value-part, node-part, nodes-part}
 use Rattle.sheet_words.specs.Parts.{cases-part, region-part}
 use Rattle.sheet_words.specs.laws.PartLaws.{parts-assoc, kids-looked-up, cases-looked-up, numbers-words}

@@ -14,8 +14,8 @@ use Rattle.meaning.specs.facts.Numbers.{one-further}
 use Rattle.nesting.specs.Nesting.{NestState, NodeOutput, LookUp, plain, join, look-up-node, look-up-nodes, look-up-cases}
 use Rattle.nesting.specs.Sheet as sheet
 use Rattle.sheet_words.specs.declared.place.Place.{Place}
-use Rattle.sheet_words.specs.Puts.{Part, Puts}
-use Rattle.sheet_words.specs.laws.PutsLaws.{_⊕_, puts-then, puts-as}
+use Rattle.sheet_words.specs.PutInFront.{Part, Puts}
+use Rattle.sheet_words.specs.laws.PutInFrontLaws.{_⊕_, puts-then, puts-as}
 use Rattle.sheet_words.specs.laws.Rows.{run, run-all, run-list}
 use Rattle.sheet_words.specs.Parts.{each, output-nodes, look-up-at-end, value-part, values-part, node-part, nodes-part}
 use Rattle.sheet_words.specs.Parts.{node-words}

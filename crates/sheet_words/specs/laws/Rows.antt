@@ -7,8 +7,8 @@ use lib.ListN.{length, getD}
 use Rattle.meaning.specs.facts.Numbers.{no-further, one-further, from-none}
 use Rattle.nesting.specs.Nesting.{plain}
 use Rattle.sheet_words.specs.declared.place.Place.{Place}
-use Rattle.sheet_words.specs.Puts.{Part, Puts}
-use Rattle.sheet_words.specs.laws.PutsLaws.{_⊕_, puts-then, puts-none}
+use Rattle.sheet_words.specs.PutInFront.{Part, Puts}
+use Rattle.sheet_words.specs.laws.PutInFrontLaws.{_⊕_, puts-then, puts-none}
 use Rattle.sheet_words.specs.Parts.{each}
 
 -- f k, f (k + 1), .., n of them.

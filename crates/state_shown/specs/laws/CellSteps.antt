@@ -29,8 +29,8 @@ use Rattle.state_shown.specs.laws.Conditions.{ConditionsStay, cond-stays
 use Rattle.state_shown.specs.laws.Elsewhere.{SameTables, same-words}
 use Rattle.state_shown.specs.Cells.{CellIs, ShowsKept, none-kept, one-kept, ShowsNodes, no-nodes, all-blocks, two-lists, then-exit}
 use Rattle.state_shown.specs.Cells.{then-select, the-loop, ShowsCaseCells, no-cases, case-and, ShowsChildren}
-use Rattle.state_shown.specs.Kept.{Later, KeptRegion}
-use Rattle.state_shown.specs.laws.RegionsKept.{later-same, kept-same}
+use Rattle.state_shown.specs.Kept.{PreservesMade, KeptRegion}
+use Rattle.state_shown.specs.laws.RegionsKept.{preserves-same, kept-same}
 use Rattle.state_shown.specs.laws.RegionSteps.{Aside, kept-by, tables-by, states-by, StatesStay}
 use Rattle.meaning.specs.facts.Parts.{run-before, run-in}
 use Rattle.state_words.specs.Rows.{cell-row-at, cell-row-size, cell-word-at, cells-at, merges-at, merges-from, most-cells}
@@ -147,8 +147,8 @@ module _ {w w′ : List ℕ} {x : Cell} {h : ℕ} (step : Adds w w′ x h) (free
         as-many = omega arith;
       }
 
-  pub cell-later : (g : Graph) → Later g w w′
-  cell-later g =
+  pub cell-preserves : (g : Graph) → PreservesMade g w w′
+  cell-preserves g =
       let c = cell-changes in
       record {
         front = front-by c (omega arith);
@@ -175,7 +175,7 @@ module _ {w w′ : List ℕ} {x : Cell} {h : ℕ} (step : Adds w w′ x h) (free
   cell-states = states-by cell-changes (omega arith) (omega arith) (omega arith)
 
   pub cell-aside : (g : Graph) → Aside g w w′
-  cell-aside g = record { later = cell-later g; states = cell-states g; regions = cell-regions }
+  cell-aside g = record { made-stays = cell-preserves g; states = cell-states g; regions = cell-regions }
 
   before-handle : {p : ℕ} → p < word w head cells-at → p < h
   before-handle m = let e = cell-handle in omega arith
@@ -237,7 +237,7 @@ module _ {w w′ : List ℕ} {h : ℕ} (free : word w head cells-at < most-cells
   exit-added step ns e =
       record {
         nodes = then-exit (cell-there step free room) (before-handle step free room (ns .made))
-            (cell-later step free room g .nodes-stay ns .nodes) e refl;
+            (cell-preserves step free room g .nodes-stay ns .nodes) e refl;
         made = new-made step free room;
       }
 
@@ -248,7 +248,7 @@ module _ {w w′ : List ℕ} {h : ℕ} (free : word w head cells-at < most-cells
   select-added step ns s v cs =
       record {
         nodes = then-select (cell-there step free room) (before-handle step free room (ns .made))
-            (before-handle step free room (cs .made)) (cell-later step free room g .nodes-stay ns .nodes) s v
+            (before-handle step free room (cs .made)) (cell-preserves step free room g .nodes-stay ns .nodes) s v
             (case-list-stays step free room cs .cases) refl;
         made = new-made step free room;
       }
@@ -258,7 +258,7 @@ module _ {w w′ : List ℕ} {h : ℕ} (free : word w head cells-at < most-cells
   loop-added y step ns v k =
       record {
         nodes = the-loop y (cell-there step free room) (before-handle step free room (ns .made))
-            (before-handle step free room (k .made)) (cell-later step free room g .nodes-stay ns .nodes) v
+            (before-handle step free room (k .made)) (cell-preserves step free room g .nodes-stay ns .nodes) v
             (kept-list-stays step free room k .kept) refl;
         made = new-made step free room;
       }
@@ -268,7 +268,7 @@ module _ {w w′ : List ℕ} {h : ℕ} (free : word w head cells-at < most-cells
   case-added step ns cs =
       record {
         cases = case-and (cell-there step free room) (before-handle step free room (cs .made))
-            (before-handle step free room (ns .made)) (cell-later step free room g .nodes-stay ns .nodes)
+            (before-handle step free room (ns .made)) (cell-preserves step free room g .nodes-stay ns .nodes)
             (case-list-stays step free room cs .cases) refl;
         made = new-made step free room;
       }
@@ -334,7 +334,7 @@ join-none (n ▸ ns) = ap (λ m. n ▸ m) (join-none ns)
 
 pub record Joined (g : Graph) (w w′ : List ℕ) (h : ℕ) (ks : Nodes) : Type 0 where
   pub nodes : ShowsChildren g w′ h ks
-  pub later : Later g w w′
+  pub made-stays : PreservesMade g w w′
   pub tables : SameTables w w′
   pub states : StatesStay g w w′
   pub regions : (q : ℕ) → KeptRegion w w′ q
@@ -353,7 +353,7 @@ list-joined {w} {w′} {a} {b} {h} {g} {ns} {ms} free room step n m = go step
         rw (same, e)
         record {
           nodes = x;
-          later = later-same g w;
+          made-stays = preserves-same g w;
           tables = same-words w;
           states = states-by changes (omega arith) (omega arith) (omega arith) g;
           regions = kept-same w;
@@ -368,14 +368,14 @@ list-joined {w} {w′} {a} {b} {h} {g} {ns} {ms} free room step n m = go step
     go (joined d e step) =
         let t = cell-total step free room in
         let q = cell-handle step free room in
-        let later = cell-later step free room g in
+        let made-stays = cell-preserves step free room g in
         record {
           nodes = record {
             nodes = two-lists (cell-there step free room) (omega arith) (before-handle step free room (n .made)) (omega arith)
-                (before-handle step free room (m .made)) (later .nodes-stay n .nodes) (later .nodes-stay m .nodes) refl;
+                (before-handle step free room (m .made)) (made-stays .nodes-stay n .nodes) (made-stays .nodes-stay m .nodes) refl;
             made = new-made step free room;
           };
-          later = later;
+          made-stays = made-stays;
           tables = cell-tables step free room;
           states = cell-states step free room g;
           regions = cell-regions step free room;

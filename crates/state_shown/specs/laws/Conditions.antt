@@ -14,7 +14,7 @@ use Rattle.state_words.specs.Sections.{section, word, stored, stored-all, head,
 use Rattle.state_words.specs.laws.Apart.{section-other}
 use Rattle.state_nodes.specs.NodeTables.{MergeDefined, merge-defined, merges-full, shape-size, select-word}
 use Rattle.state_shown.specs.Values.{value}
-use Rattle.state_shown.specs.Kept.{Later}
+use Rattle.state_shown.specs.Kept.{PreservesMade}
 use Rattle.state_shown.specs.laws.FrontKept.{front-by}
 use Rattle.state_shown.specs.laws.Stores.{section-run, part-length, head-same, ChangesOnly, head-changes, run-changes, changes-then}
 use Rattle.state_shown.specs.laws.Stores.{nothing-changes}
@@ -197,8 +197,8 @@ module _ {w w′ : List ℕ} {s : NestState} (t : ShowsTables w s) {h : ℕ} {ps
   condition-kept (merge-defined {m} p most r e) y = rw (e, r) (kept-after w h ps m (t .size) p most y)
   condition-kept (merges-full most e) y = rw e y
 
-  pub merge-later : {a : Defined} → MergeDefined h ps w w′ a → (g : Graph) → Later g w w′
-  merge-later d g =
+  pub merge-preserves : {a : Defined} → MergeDefined h ps w w′ a → (g : Graph) → PreservesMade g w w′
+  merge-preserves d g =
       let changes = merge-changes d in
       record {
         front = front-by changes (omega arith);

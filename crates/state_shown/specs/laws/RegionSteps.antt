@@ -24,8 +24,9 @@ use Rattle.state_shown.specs.Sets.{ShowsSet, SameBundle}
 use Rattle.state_shown.specs.Cells.{ShowsChildren}
 use Rattle.state_shown.specs.States.{ShowsOwnSet, ShowsRegion, is-not-begun, is-in-progress, is-ready, is-claimed, ShowsState}
 use Rattle.state_shown.specs.States.{NamedRewrites, HasSlot, Slots}
-use Rattle.state_shown.specs.Kept.{Later, KeptRegion}
-use Rattle.state_shown.specs.laws.RegionsKept.{later-same, later-then, kept-same, kept-then, region-stays, set-stays, same-bundle}
+use Rattle.state_shown.specs.Kept.{PreservesMade, KeptRegion}
+use Rattle.state_shown.specs.laws.RegionsKept.{preserves-same, preserves-then, kept-same, kept-then, region-stays, set-stays}
+use Rattle.state_shown.specs.laws.RegionsKept.{same-bundle}
 use Rattle.meaning.specs.facts.Parts.{run-before, run-behind}
 use Rattle.state_words.specs.Rows.{bundle-row-at, bundle-word-at, cases-at, cells-at, kind-ready, level-at, merges-at, no-total}
 use Rattle.state_words.specs.Rows.{region-kind}
@@ -54,8 +55,8 @@ pub bundles-same : {w w′ : List ℕ} → section w′ bundles ≡ section w bu
 bundles-same e p = record { words = λ i h. ap (λ l. getD l (bundle-word-at p i) 0) e }
 
 module _ {k : Section} {i : ℕ} {w w′ : List ℕ} (changes : ChangesOnly k i w w′) where
-  pub later-by : MakesNothing k i → (g : Graph) → Later g w w′
-  later-by d g =
+  pub preserves-by : MakesNothing k i → (g : Graph) → PreservesMade g w w′
+  preserves-by d g =
       record {
         front = front-by changes (d .not-front);
         conditions-stay = condition-same (changes .others conditions (d .not-conditions) (omega arith))
@@ -75,7 +76,7 @@ module _ {k : Section} {i : ℕ} {w w′ : List ℕ} (changes : ChangesOnly k i 
         handle = ap (λ l. getD l q 0) (changes .others children (d .not-children) (omega arith));
         body = ap (λ l. getD l q 0) (changes .others bodies (d .not-bodies) (omega arith));
         backedge = ap (λ l. getD l q 0) (changes .others backedges (d .not-backedges) (omega arith));
-        taken = λ j h. ap (λ l. getD l (level-at q j) 0) (changes .others levels (d .not-levels) (omega arith));
+        target-answers = λ j h. ap (λ l. getD l (level-at q j) 0) (changes .others levels (d .not-levels) (omega arith));
         slot = λ j h. bundles-same (changes .others bundles (d .not-bundles) (omega arith)) (word w set-starts q + j);
       }
 
@@ -125,11 +126,11 @@ named-by e n = record { below = λ r k a b d. rw e (n .below r k a b (λ z. d (a
 pub named-stay : {w w′ : List ℕ} → SameTables w w′ → NamedRewrites w → NamedRewrites w′
 named-stay t n = named-by (t .same-rewrites) n
 
-module _ {g : Graph} {w w′ : List ℕ} (later : Later g w w′) (stay : StatesStay g w w′) where
+module _ {g : Graph} {w w′ : List ℕ} (made-stays : PreservesMade g w w′) (stay : StatesStay g w w′) where
   region-next : (q : ℕ) → q < length (g .regions) → {x : StructurizeRegionState} → ShowsRegion g w q x → ShowsRegion g w′ q x
   region-next q h (is-not-begun a) = is-not-begun (stay .same-kinds q h ∙ a)
   region-next q h (is-in-progress a) = is-in-progress (stay .same-kinds q h ∙ a)
-  region-next q h (is-ready a b n d) = region-stays later (stay .ready-kept q h a) (stay .same-kinds q h) (is-ready a b n d)
+  region-next q h (is-ready a b n d) = region-stays made-stays (stay .ready-kept q h a) (stay .same-kinds q h) (is-ready a b n d)
   region-next q h (is-claimed a) = is-claimed (stay .same-kinds q h ∙ a)
 
   -- The tables may have changed, the states of regions not.
@@ -137,7 +138,7 @@ module _ {g : Graph} {w w′ : List ℕ} (later : Later g w w′) (stay : States
       → ShowsState g w′ s′
   state-next {s} {s′} t n e x =
       record {
-        stands = stands-on (later .front) (x .stands);
+        stands = stands-on (made-stays .front) (x .stands);
         tables = t;
         named = n;
         size = rw e (x .size);
@@ -154,14 +155,14 @@ module _ {g : Graph} {w w′ : List ℕ} (later : Later g w w′) (stay : States
 
 -- A step that stores nothing of any region's own.
 pub record Aside (g : Graph) (w w′ : List ℕ) : Type 0 where
-  pub later : Later g w w′
+  pub made-stays : PreservesMade g w w′
   pub states : StatesStay g w w′
   pub regions : (q : ℕ) → KeptRegion w w′ q
 
 pub aside-same : (g : Graph) (w : List ℕ) → Aside g w w
 aside-same g w =
     record {
-      later = later-same g w;
+      made-stays = preserves-same g w;
       states = states-by (nothing-changes head regions-at w) (omega arith) (omega arith) (omega arith) g;
       regions = kept-same w;
     }
@@ -169,7 +170,7 @@ aside-same g w =
 pub aside-then : {g : Graph} {w w₁ w₂ : List ℕ} → Aside g w w₁ → Aside g w₁ w₂ → Aside g w w₂
 aside-then a b =
     record {
-      later = later-then (a .later) (b .later);
+      made-stays = preserves-then (a .made-stays) (b .made-stays);
       states = states-then (a .states) (b .states);
       regions = λ q. kept-then (a .regions q) (b .regions q);
     }
@@ -178,7 +179,7 @@ pub aside-by : {k : Section} {i : ℕ} {w w′ : List ℕ} → ChangesOnly k i w
     → (number sections.kinds ≡ number k → ⊥) → i < 8
     → (g : Graph) → Aside g w w′
 aside-by changes m d e h g =
-    record { later = later-by changes m g; states = states-by changes d e h g; regions = kept-by changes d }
+    record { made-stays = preserves-by changes m g; states = states-by changes d e h g; regions = kept-by changes d }
 
 -- The tables have nothing of the regions' states.
 pub tables-of-states : {w : List ℕ} {s : NestState} (xs : List StructurizeRegionState) → ShowsTables w s
@@ -207,7 +208,7 @@ pub record OfOneRegion (k : Section) : Type 0 where
   pub no-start : number sections.set-starts ≡ number k → ⊥
 
 pub record Concerns (g : Graph) (r : ℕ) (w w′ : List ℕ) : Type 0 where
-  pub later : Later g w w′
+  pub made-stays : PreservesMade g w w′
   pub tables : SameTables w w′
   pub others : (q : ℕ) → HasSlot (length (g .regions)) q → (q ≡ r → ⊥) → KeptRegion w w′ q
   pub same-kinds : (q : ℕ) → region-kind w′ q ≡ region-kind w q
@@ -217,7 +218,7 @@ pub record Concerns (g : Graph) (r : ℕ) (w w′ : List ℕ) : Type 0 where
 pub concerns-then : {g : Graph} {r : ℕ} {w w₁ w₂ : List ℕ} → Concerns g r w w₁ → Concerns g r w₁ w₂ → Concerns g r w w₂
 concerns-then a b =
     record {
-      later = later-then (a .later) (b .later);
+      made-stays = preserves-then (a .made-stays) (b .made-stays);
       tables = same-then (a .tables) (b .tables);
       others = λ q h d. kept-then (a .others q h d) (b .others q h d);
       same-kinds = λ q. b .same-kinds q ∙ a .same-kinds q;
@@ -236,7 +237,7 @@ module _ (g : Graph) (w : List ℕ) where
         handle = word-apart w k r x children q n;
         body = word-apart w k r x bodies q n;
         backedge = word-apart w k r x backedges q n;
-        taken = λ j h. ap (λ l. getD l (level-at q j) 0) (section-other w k r x levels (omega arith));
+        target-answers = λ j h. ap (λ l. getD l (level-at q j) 0) (section-other w k r x levels (omega arith));
         slot = λ j h. bundles-same (section-other w k r x bundles (omega arith)) (word w set-starts q + j);
       }
 
@@ -246,7 +247,7 @@ module _ (g : Graph) (w : List ℕ) where
       let b = d .before-levels in
       let changes = word-changes k no-total w (omega arith) r x in
       record {
-        later = later-by changes (omega arith) g;
+        made-stays = preserves-by changes (omega arith) g;
         tables = tables-by changes (omega arith) (omega arith);
         others = λ q h n. kept-word k a b r x q n;
         same-kinds = λ q. ap (λ l. getD l q 0) (changes .others kinds (omega arith) (omega arith));
@@ -257,7 +258,8 @@ module _ (g : Graph) (w : List ℕ) where
   module _ (room : used ≤ length w) (r : ℕ) where
     pub children-set : r < 32 → {h : ℕ} {ks : Nodes} → ShowsChildren g w h ks
         → ShowsChildren g (stored w children r h) (word (stored w children r h) children r) ks
-    children-set b {h} n = rw (word-there w children r h (omega arith) b) (word-concerns children (omega arith) r h .later .nodes-stay n)
+    children-set b {h} n = rw (word-there w children r h (omega arith) b) (word-concerns children
+        (omega arith) r h .made-stays .nodes-stay n)
 
     pub body-set : r < 32 → (x : ℕ) → word (stored w bodies r x) bodies r ≡ x
     body-set b x = word-there w bodies r x (omega arith) b
@@ -267,7 +269,8 @@ module _ (g : Graph) (w : List ℕ) where
     length-set-to b {n} s =
         let c = word-concerns set-lengths (omega arith) r n in
         rw (c .same-starts r, word-there w set-lengths r n (omega arith) b)
-        (set-stays (c .later) (λ i h. bundles-same (section-other w set-lengths r n bundles (omega arith)) (word w set-starts r + i)) s)
+        (set-stays (c .made-stays) (λ i h. bundles-same (section-other w set-lengths r n bundles (omega arith))
+        (word w set-starts r + i)) s)
 
     -- The state of region r: the others' stay, and its own is as it is shown then.
     pub kind-set : {s : NestState} → r < 32 → (x : ℕ) {y : StructurizeRegionState} → ShowsState g w s → r < length (g .regions)
@@ -277,18 +280,18 @@ module _ (g : Graph) (w : List ℕ) where
     kind-set {s} b x {y} shown below own =
         let w′ = stored w kinds r x in
         let changes = word-changes kinds no-total w (omega arith) r x in
-        let later = later-by changes (omega arith) g in
+        let made-stays = preserves-by changes (omega arith) g in
         let t = tables-by changes (omega arith) (omega arith) in
         let n = shown .size in
         record {
-          stands = stands-on (later .front) (shown .stands);
+          stands = stands-on (made-stays .front) (shown .stands);
           tables = tables-of-states _ (tables-stay t (shown .tables));
           named = named-stay t (shown .named);
           size = length-set (s .region-states) r y ∙ shown .size;
           regions = λ q h. elim (ℕ-discrete q r) [
             | yes e ↦ rw (e, getD-set-same (s .region-states) r y not-begun (omega arith)) own
             | no d ↦ rw (getD-set-other (s .region-states) r q y not-begun d)
-                (region-stays later (kept-by changes (omega arith) q) (word-apart w kinds r x kinds q d) (shown .regions q h))
+                (region-stays made-stays (kept-by changes (omega arith) q) (word-apart w kinds r x kinds q d) (shown .regions q h))
           ];
           slots = slots-stay (λ a h. ap (λ l. getD l a 0) (changes .others set-starts (omega arith) (omega arith))) (shown .slots);
           returned = (let z = shown .returned in record {
@@ -297,14 +300,14 @@ module _ (g : Graph) (w : List ℕ) where
           });
         }
 
--- ---- How a target was taken. (A case of the select under way is of no region: `later-by`, `tables-by`, `kept-by` and `states-by`.)
+-- ---- How a target was answered. (A case of the select under way is of no region: `preserves-by`, `tables-by`, `kept-by` and `states-by`.)
 module _ (g : Graph) (w : List ℕ) where
-  pub taken-concerns : (r j x : ℕ) → j < 8 → Concerns g r w (stored w levels (level-at r j) x)
-  taken-concerns r j x b =
+  pub target-answer-concerns : (r j x : ℕ) → j < 8 → Concerns g r w (stored w levels (level-at r j) x)
+  target-answer-concerns r j x b =
       let i = level-at r j in
       let changes = word-changes levels no-total w (omega arith) i x in
       record {
-        later = later-by changes (omega arith) g;
+        made-stays = preserves-by changes (omega arith) g;
         tables = tables-by changes (omega arith) (omega arith);
         others = λ q h n. record {
           set-start = ap (λ l. getD l q 0) (changes .others set-starts (omega arith) (omega arith));
@@ -312,7 +315,7 @@ module _ (g : Graph) (w : List ℕ) where
           handle = ap (λ l. getD l q 0) (changes .others children (omega arith) (omega arith));
           body = ap (λ l. getD l q 0) (changes .others bodies (omega arith) (omega arith));
           backedge = ap (λ l. getD l q 0) (changes .others backedges (omega arith) (omega arith));
-          taken = λ k h. word-apart w levels i x levels (level-at q k) (omega arith);
+          target-answers = λ k h. word-apart w levels i x levels (level-at q k) (omega arith);
           slot = λ k h. bundles-same (changes .others bundles (omega arith) (omega arith)) (word w set-starts q + k);
         };
         same-kinds = λ q. ap (λ l. getD l q 0) (changes .others kinds (omega arith) (omega arith));
@@ -362,7 +365,7 @@ module _ {p : ℕ} {w w′ : List ℕ} (only : OnlyBundle p w w′) where
         handle = ap (λ l. getD l q 0) (changes .others children (omega arith) (omega arith));
         body = ap (λ l. getD l q 0) (changes .others bodies (omega arith) (omega arith));
         backedge = ap (λ l. getD l q 0) (changes .others backedges (omega arith) (omega arith));
-        taken = λ j h. ap (λ l. getD l (level-at q j) 0) (changes .others levels (omega arith) (omega arith));
+        target-answers = λ j h. ap (λ l. getD l (level-at q j) 0) (changes .others levels (omega arith) (omega arith));
         slot = λ j h. only .others (word w set-starts q + j) (d j h);
       }
 
@@ -372,7 +375,7 @@ module _ {p : ℕ} {w w′ : List ℕ} (only : OnlyBundle p w w′) where
   bundle-concerns g r i slots a b e =
       let changes = only .changes in
       record {
-        later = later-by changes (omega arith) g;
+        made-stays = preserves-by changes (omega arith) g;
         tables = tables-by changes (omega arith) (omega arith);
         others = λ q h d. kept-bundle q (λ j c z.
             let x = slots .starts q h in
@@ -385,7 +388,7 @@ module _ {p : ℕ} {w w′ : List ℕ} (only : OnlyBundle p w w′) where
 
 -- ---- Steps together, of which region r alone is concerned; the tables may change.
 pub record OnlyRegion (g : Graph) (r : ℕ) (w w′ : List ℕ) : Type 0 where
-  pub later : Later g w w′
+  pub made-stays : PreservesMade g w w′
   pub others : (q : ℕ) → HasSlot (length (g .regions)) q → (q ≡ r → ⊥) → KeptRegion w w′ q
   pub same-kinds : (q : ℕ) → q < length (g .regions) → region-kind w′ q ≡ region-kind w q
   pub same-starts : (a : ℕ) → a < 33 → word w′ set-starts a ≡ word w set-starts a
@@ -394,7 +397,7 @@ pub record OnlyRegion (g : Graph) (r : ℕ) (w w′ : List ℕ) : Type 0 where
 pub only-region-then : {g : Graph} {r : ℕ} {w w₁ w₂ : List ℕ} → OnlyRegion g r w w₁ → OnlyRegion g r w₁ w₂ → OnlyRegion g r w w₂
 only-region-then a b =
     record {
-      later = later-then (a .later) (b .later);
+      made-stays = preserves-then (a .made-stays) (b .made-stays);
       others = λ q h d. kept-then (a .others q h d) (b .others q h d);
       same-kinds = λ q h. b .same-kinds q h ∙ a .same-kinds q h;
       same-starts = λ q h. b .same-starts q h ∙ a .same-starts q h;
@@ -404,7 +407,7 @@ only-region-then a b =
 pub only-region-aside : {g : Graph} (r : ℕ) {w w′ : List ℕ} → Aside g w w′ → OnlyRegion g r w w′
 only-region-aside r a =
     record {
-      later = a .later;
+      made-stays = a .made-stays;
       others = λ q h d. a .regions q;
       same-kinds = a .states .same-kinds;
       same-starts = a .states .same-starts;
@@ -414,7 +417,7 @@ only-region-aside r a =
 pub only-region-concerns : {g : Graph} {r : ℕ} {w w′ : List ℕ} → Concerns g r w w′ → OnlyRegion g r w w′
 only-region-concerns c =
     record {
-      later = c .later;
+      made-stays = c .made-stays;
       others = c .others;
       same-kinds = λ q h. c .same-kinds q;
       same-starts = λ q h. c .same-starts q;

@@ -13,14 +13,14 @@ use Rattle.state_shown.specs.Sets.{ShowsBundle, ShowsSet, SameBundle}
 use Rattle.state_shown.specs.Cells.{ShowsChildren}
 use Rattle.state_shown.specs.States.{ShowsOwnSet, ShowsRegion, is-not-begun, is-in-progress, is-ready, is-claimed, ShowsBody}
 use Rattle.state_shown.specs.States.{ShowsClaimed}
-use Rattle.state_shown.specs.Kept.{Later, KeptRegion}
+use Rattle.state_shown.specs.Kept.{PreservesMade, KeptRegion}
 use Rattle.state_words.specs.Rows.{region-kind}
 
-pub later-same : (g : Graph) (w : List ℕ) → Later g w w
-later-same g w = record { front = front-same w; conditions-stay = λ c. c; nodes-stay = λ n. n }
+pub preserves-same : (g : Graph) (w : List ℕ) → PreservesMade g w w
+preserves-same g w = record { front = front-same w; conditions-stay = λ c. c; nodes-stay = λ n. n }
 
-pub later-then : {g : Graph} {w w₁ w₂ : List ℕ} → Later g w w₁ → Later g w₁ w₂ → Later g w w₂
-later-then a b =
+pub preserves-then : {g : Graph} {w w₁ w₂ : List ℕ} → PreservesMade g w w₁ → PreservesMade g w₁ w₂ → PreservesMade g w w₂
+preserves-then a b =
     record {
       front = front-then (a .front) (b .front);
       conditions-stay = λ c. b .conditions-stay (a .conditions-stay c);
@@ -34,14 +34,14 @@ pub same-bundle-then : {w w₁ w₂ : List ℕ} {p : ℕ} → SameBundle w w₁ 
 same-bundle-then a b = record { words = λ i h. b .words i h ∙ a .words i h }
 
 -- ---- Bundles and sets.
-module _ {g : Graph} {w w′ : List ℕ} (later : Later g w w′) where
+module _ {g : Graph} {w w′ : List ℕ} (made-stays : PreservesMade g w w′) where
   pub bundle-stays : {p : ℕ} {e : DeferredEdgeBundle} → SameBundle w w′ p → ShowsBundle g w p e → ShowsBundle g w′ p e
   bundle-stays same x =
       let four = x .few in
       record {
         target = rw (same .words 0 (omega arith)) (x .target);
         count = same .words 1 (omega arith) ∙ x .count;
-        condition = rw (same .words 2 (omega arith)) (later .conditions-stay (x .condition));
+        condition = rw (same .words 2 (omega arith)) (made-stays .conditions-stay (x .condition));
         size = x .size;
         few = x .few;
         inputs = λ k h. rw (same .words (3 + k) (omega arith)) (x .inputs k h);
@@ -67,7 +67,7 @@ kept-same w q =
       handle = refl;
       body = refl;
       backedge = refl;
-      taken = λ j h. refl;
+      target-answers = λ j h. refl;
       slot = λ i h. same-bundle w (word w set-starts q + i);
     }
 
@@ -79,18 +79,18 @@ kept-then {w₁} {w₂} a b =
       handle = b .handle ∙ a .handle;
       body = b .body ∙ a .body;
       backedge = b .backedge ∙ a .backedge;
-      taken = λ j h. b .taken j h ∙ a .taken j h;
+      target-answers = λ j h. b .target-answers j h ∙ a .target-answers j h;
       slot = λ i h. same-bundle-then (a .slot i h) (subst (λ p. SameBundle w₁ w₂ (p + i)) (a .set-start) (b .slot i h));
     }
 
-module _ {g : Graph} {w w′ : List ℕ} (later : Later g w w′) {q : ℕ} (kept : KeptRegion w w′ q) where
+module _ {g : Graph} {w w′ : List ℕ} (made-stays : PreservesMade g w w′) {q : ℕ} (kept : KeptRegion w w′ q) where
   pub own-set-stays : {d : DeferredEdgeBundleSet} → ShowsOwnSet g w q d → ShowsOwnSet g w′ q d
   own-set-stays x =
       let few = x .few in
-      rw (kept .set-start, kept .set-length) (set-stays later (λ i h. kept .slot i (omega arith)) x)
+      rw (kept .set-start, kept .set-length) (set-stays made-stays (λ i h. kept .slot i (omega arith)) x)
 
   pub children-stay : {ks : Nodes} → ShowsChildren g w (word w children q) ks → ShowsChildren g w′ (word w′ children q) ks
-  children-stay x = rw (kept .handle) (later .nodes-stay x)
+  children-stay x = rw (kept .handle) (made-stays .nodes-stay x)
 
   pub body-stays : {x : Body} → ShowsBody g w q x → ShowsBody g w′ q x
   body-stays y = record { nodes = children-stay (y .nodes); set = own-set-stays (y .set) }
@@ -101,15 +101,15 @@ module _ {g : Graph} {w w′ : List ℕ} (later : Later g w w′) {q : ℕ} (kep
   region-stays e (is-ready a b n d) = is-ready (e ∙ a) (kept .backedge ∙ b) (children-stay n) (own-set-stays d)
   region-stays e (is-claimed a) = is-claimed (e ∙ a)
 
-pub claimed-stays : {g : Graph} {w w′ : List ℕ} → Later g w w′ → {c : ClaimedRegion} → KeptRegion w w′ (c .origin)
+pub claimed-stays : {g : Graph} {w w′ : List ℕ} → PreservesMade g w w′ → {c : ClaimedRegion} → KeptRegion w w′ (c .origin)
     → region-kind w′ (c .origin) ≡ region-kind w (c .origin) → ShowsClaimed g w c → ShowsClaimed g w′ c
-claimed-stays later kept e x =
+claimed-stays made-stays kept e x =
     record {
       in-graph = x .in-graph;
       kind = e ∙ x .kind;
       body = kept .body ∙ x .body;
       body-below = x .body-below;
-      nodes = children-stay later kept (x .nodes);
-      set = own-set-stays later kept (x .set);
+      nodes = children-stay made-stays kept (x .nodes);
+      set = own-set-stays made-stays kept (x .set);
       size = x .size;
     }

@@ -20,25 +20,25 @@ use Rattle.state_shown.specs.Tables.{ShowsCondition, shows-true}
 use Rattle.state_shown.specs.Sets.{Names, target-size, ShowsTarget, ShowsBundle, ShowsSet, SameBundle}
 use Rattle.state_shown.specs.Sets.{no-bundle}
 use Rattle.state_shown.specs.States.{ShowsOwnSet, HasSlot, Slots}
-use Rattle.state_shown.specs.Kept.{Later, KeptRegion}
+use Rattle.state_shown.specs.Kept.{PreservesMade, KeptRegion}
 use Rattle.state_shown.specs.laws.RegionsKept.{set-stays, same-bundle, same-bundle-then}
 use Rattle.state_shown.specs.laws.Finds.{bundle-in}
 use Rattle.state_shown.specs.laws.Stores.{word-there, word-apart}
-use Rattle.state_shown.specs.laws.SetStores.{OnlySets, only-same, only-word, only-run, only-then, only-later, only-kept}
+use Rattle.state_shown.specs.laws.SetStores.{OnlySets, only-same, only-word, only-run, only-then, only-preserves, only-kept}
 use Rattle.state_shown.specs.laws.SetStores.{starts-of-sets}
 use Rattle.state_shown.specs.laws.SetStores.{lengths-of-sets, bundles-of-sets, word-other, run-elsewhere-word, Moves}
 use Rattle.state_shown.specs.laws.SetStores.{moves-then, same-moves, same-elsewhere, bundle-stored, copy-moves, copy-beside}
 use Rattle.state_words.specs.Rows.{bundle-condition, bundle-row-at, bundle-target, bundle-word, most-bundles}
 
 -- ---- Bundles and sets, moved.
-module _ {g : Graph} {w w′ : List ℕ} (later : Later g w w′) where
+module _ {g : Graph} {w w′ : List ℕ} (made-stays : PreservesMade g w w′) where
   pub bundle-moves : {p q : ℕ} {e : DeferredEdgeBundle} → Moves w w′ p q → ShowsBundle g w p e → ShowsBundle g w′ q e
   bundle-moves same x =
       let four = x .few in
       record {
         target = rw (same .words 0 (omega arith)) (x .target);
         count = same .words 1 (omega arith) ∙ x .count;
-        condition = rw (same .words 2 (omega arith)) (later .conditions-stay (x .condition));
+        condition = rw (same .words 2 (omega arith)) (made-stays .conditions-stay (x .condition));
         size = x .size;
         few = x .few;
         inputs = λ k h. rw (same .words (3 + k) (omega arith)) (x .inputs k h);
@@ -216,7 +216,7 @@ module _ {g : Graph} {w : List ℕ} (room : used ≤ length w) {r : ℕ} (below 
       rw whole (length-stored copied-words (n - 1) (rw counted room)) in
       let out-size = out .size in
       rw (swap-removed-starts w r b r, new-length)
-      (set-moves (only-later only g) (λ j. pick (eqb j i) (n - 1) j) (omega arith) (omega arith) (omega arith)
+      (set-moves (only-preserves only g) (λ j. pick (eqb j i) (n - 1) j) (omega arith) (omega arith) (omega arith)
       (λ j k. elim (ℕ-discrete j i) [ yes e ↦ rw (eq-eqb j i e) (omega arith) | no e ↦ rw (ne-eqb j i e) (omega arith) ])
       (λ j k a c. elim (ℕ-discrete j i) [
         | yes e ↦ rw (eq-eqb j i e, ne-eqb k i (omega arith)) (omega arith)
@@ -317,7 +317,7 @@ shift-removes {g} {w} room {r} below {d} shown i h =
       lengths = λ q e. word-apart moved set-lengths r (n - 1) set-lengths q e ∙ s .lengths q;
       beside = λ p e. same-bundle-then (s .beside p (λ x y. e (omega arith) (omega arith))) (same p);
       set = rw (starts r, new-length)
-          (set-moves (only-later only g) (λ j. pick (ltb j i) j (suc j)) (omega arith) (omega arith) (omega arith)
+          (set-moves (only-preserves only g) (λ j. pick (ltb j i) j (suc j)) (omega arith) (omega arith) (omega arith)
           (λ j k. elim (decLt j i) [ yes e ↦ rw (lt-ltb j i e) (omega arith) | no e ↦ rw (le-ltb j i (omega arith)) (omega arith) ])
           (λ j k a c. elim (decLt j i) [
             | yes e ↦ elim (decLt k i) [
@@ -380,7 +380,7 @@ module _ (w : List ℕ) (room : used ≤ length w) (a b : ℕ) (at-a : a < 33) (
   -- A set moves with its slot.
   pub swapped-first-set : {g : Graph} {n : ℕ} {d : DeferredEdgeBundleSet} → ShowsSet g w (word w set-starts b) n d
       → ShowsSet g (swapped w a b) (word (swapped w a b) set-starts a) n d
-  swapped-first-set {g} x = rw swapped-first (set-stays (only-later swapped-only g) (λ i h. swapped-bundle (word w set-starts b + i)) x)
+  swapped-first-set {g} x = rw swapped-first (set-stays (only-preserves swapped-only g) (λ i h. swapped-bundle (word w set-starts b + i)) x)
 
   -- Region q's slot is that of region `turned q`.
   abbrev turned : ℕ → ℕ
@@ -452,11 +452,11 @@ bundle-made {g} w p {t} {n} {c} ws room h four target condition size few names =
     let seven : length xs ≡ 7 = ap (λ m. suc (suc (suc m))) four in
     let at : (i : ℕ) → i < 7 → bundle-word (stored-all w bundles (bundle-row-at p) xs) p i ≡ getD xs i 0 =
     λ i k. bundle-stored w p xs seven room h i k in
-    let later = only-later (only-run w bundles-of-sets (bundle-row-at p) xs) g in
+    let made-stays = only-preserves (only-run w bundles-of-sets (bundle-row-at p) xs) g in
     record {
       target = rw (at 0 (omega arith)) target;
       count = at 1 (omega arith);
-      condition = rw (at 2 (omega arith)) (later .conditions-stay condition);
+      condition = rw (at 2 (omega arith)) (made-stays .conditions-stay condition);
       size = size;
       few = few;
       inputs = λ k j. let e : 3 + k ≡ suc (suc (suc k)) = omega arith in rw (at (3 + k) (omega arith), e) (names k j);

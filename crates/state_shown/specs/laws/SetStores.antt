@@ -21,7 +21,7 @@ use Rattle.state_shown.specs.laws.FrontKept.{stands-on}
 use Rattle.state_shown.specs.Sets.{SameBundle}
 use Rattle.state_shown.specs.States.{ShowsRegion, is-not-begun, is-in-progress, is-ready, is-claimed, Slots}
 use Rattle.state_shown.specs.States.{ShowsState}
-use Rattle.state_shown.specs.Kept.{Later, KeptRegion}
+use Rattle.state_shown.specs.Kept.{PreservesMade, KeptRegion}
 use Rattle.state_shown.specs.laws.RegionsKept.{region-stays}
 use Rattle.meaning.specs.facts.Parts.{run-before, run-behind, run-in}
 use Rattle.state_shown.specs.laws.RegionSteps.{bundle-run, named-stay}
@@ -134,8 +134,8 @@ module _ {w w′ : List ℕ} (only : OnlySets w w′) where
         totals = λ q a b. only .totals q (omega arith);
       }
 
-  pub only-later : (g : Graph) → Later g w w′
-  only-later g =
+  pub only-preserves : (g : Graph) → PreservesMade g w w′
+  only-preserves g =
       record {
         front = only-front;
         conditions-stay = condition-same (only .others conditions (omega arith)) (only .others cells (omega arith))
@@ -155,7 +155,7 @@ module _ {w w′ : List ℕ} (only : OnlySets w w′) where
         handle = only-word-same children (omega arith) q;
         body = only-word-same bodies (omega arith) q;
         backedge = only-word-same backedges (omega arith) q;
-        taken = λ j h. only-word-same levels (omega arith) (level-at q j);
+        target-answers = λ j h. only-word-same levels (omega arith) (level-at q j);
         slot = c;
       }
 
@@ -180,7 +180,7 @@ module _ {w w′ : List ℕ} (only : OnlySets w w′) where
       go q h (is-not-begun a) = is-not-begun (only-word-same kinds (omega arith) q ∙ a)
       go q h (is-in-progress a) = is-in-progress (only-word-same kinds (omega arith) q ∙ a)
       go q h (is-ready a b n d) =
-          region-stays (only-later g) (kept q h a) (only-word-same kinds (omega arith) q) (is-ready a b n d)
+          region-stays (only-preserves g) (kept q h a) (only-word-same kinds (omega arith) q) (is-ready a b n d)
       go q h (is-claimed a) = is-claimed (only-word-same kinds (omega arith) q ∙ a)
 
 -- ---- Bundle q has the words that bundle p had.

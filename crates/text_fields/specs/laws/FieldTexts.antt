@@ -15,8 +15,8 @@ use Rattle.text_fields.specs.declared.fields.Field.the-variants.{Value, 
 use Rattle.text_cursor.specs.Lines.{shown}
 use Rattle.text_cursor.specs.Texts.{say, _then_, plain-text}
 use Rattle.text_fields.specs.Fields.{item-text, condition-text, list-within, item-head, merge-head}
-use Rattle.text_cursor.specs.Puts.{PutsText, PutsWithin}
-use Rattle.text_cursor.specs.laws.PutsSteps.{puts-then, puts-there}
+use Rattle.text_cursor.specs.WordsToText.{PutsText, PutsWithin}
+use Rattle.text_cursor.specs.laws.WordsToTextSteps.{puts-then, puts-there}
 use Rattle.meaning.specs.facts.Elements.{first-dropped}
 use Rattle.text_cursor.specs.laws.Readers.{next-next, next-decoded}
 

@@ -10,8 +10,8 @@ use Rattle.text_cursor.specs.declared.cursor.SheetCursor.{SheetCursor}
 use Rattle.text_fields.specs.declared.fields.Field.{Field}
 use Rattle.text_cursor.specs.Texts.{say}
 use Rattle.text_fields.specs.Fields.{field-within, list-within, none-text}
-use Rattle.text_cursor.specs.Puts.{PutsText, PutsWithin, Stopped}
-use Rattle.text_cursor.specs.laws.PutsSteps.{puts-then, puts-said, puts-next, puts-ended, puts-beyond}
+use Rattle.text_cursor.specs.WordsToText.{PutsText, PutsWithin, Stopped}
+use Rattle.text_cursor.specs.laws.WordsToTextSteps.{puts-then, puts-said, puts-next, puts-ended, puts-beyond}
 use Rattle.text_fields.specs.laws.ListTexts.{others, list-uncounted, list-none, list-some}
 
 -- k of n fields stand behind the count at a place: the first, and behind it (`text₀`, `d₀`) the others so far.

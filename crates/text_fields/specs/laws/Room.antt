@@ -19,7 +19,7 @@ use Rattle.text_cursor.specs.Texts.{say, _then_, number-text, value-text, skip-
 use Rattle.text_fields.specs.Fields.{field-within, list-within, merge-head}
 use Rattle.text_cursor.specs.Texts.{plain-text}
 use Rattle.text_fields.specs.Fields.{condition-text, none-text}
-use Rattle.text_cursor.specs.laws.PutsSteps.{missing, then-parts}
+use Rattle.text_cursor.specs.laws.WordsToTextSteps.{missing, then-parts}
 use Rattle.text_fields.specs.laws.ListTexts.{others, list-uncounted, list-none, list-some}
 use Rattle.text_fields.specs.laws.FieldTexts.{item-shown, merge-shown, plain-shown}
 

@@ -11,8 +11,8 @@ use Rattle.text.specs.laws.BufferLaws.{wrote-none}
 use Rattle.text_cursor.specs.declared.cursor.SheetCursor.{SheetCursor}
 use Rattle.text_cursor.specs.Lines.{TextReader, shown, line-text, decode-first, first-text, lines-text, decoded-sheet-text}
 use Rattle.text_cursor.specs.Texts.{say, _then_}
-use Rattle.text_cursor.specs.Puts.{PutsText, PutsOn}
-use Rattle.text_cursor.specs.laws.PutsSteps.{puts-then, puts-as, puts-there, puts-said}
+use Rattle.text_cursor.specs.WordsToText.{PutsText, PutsOn}
+use Rattle.text_cursor.specs.laws.WordsToTextSteps.{puts-then, puts-as, puts-there, puts-said}
 use Rattle.text_cursor.specs.laws.Readers.{next-next, next-decoded}
 
 -- Lines to the last word, `most` at most.

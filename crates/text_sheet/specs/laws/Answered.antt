@@ -23,8 +23,8 @@ use Rattle.text_cursor.specs.declared.cursor.SheetCursor.{SheetCursor}
 use Rattle.text_sheet.specs.declared.Printed.{Printed}
 use Rattle.text_sheet.specs.declared.Printed.the-variants.{Line, Full, NoLine}
 use Rattle.text_cursor.specs.Lines.{TextReader, shown, decoded-sheet-text}
-use Rattle.text_cursor.specs.Puts.{PutsText, words-from, reading, read-text}
-use Rattle.text_cursor.specs.laws.PutsSteps.{from-inside, from-beyond, missing}
+use Rattle.text_cursor.specs.WordsToText.{PutsText, words-from, reading, read-text}
+use Rattle.text_cursor.specs.laws.WordsToTextSteps.{from-inside, from-beyond, missing}
 use Rattle.text_sheet.specs.Answers.{text-of, LinePrinted, SheetPrinted}
 use Rattle.text_fields.specs.laws.Room.{WordsOf32Bits, Fits}
 use Rattle.text_sheet.specs.laws.LineRoom.{words-text-fits}

@@ -17,7 +17,7 @@ use Rattle.text_fields.specs.declared.fields.Field.{Field}
 use Rattle.text_fields.specs.declared.fields.Field.the-variants.{Number, Value, Item, Condition}
 use Rattle.text_cursor.specs.Lines.{TextReader, shown, fields-text, line-text, decode-first, first-text, decoded-sheet-text}
 use Rattle.text_cursor.specs.Texts.{target-text, kind-text, outcome-text, twice-text}
-use Rattle.text_cursor.specs.laws.PutsSteps.{missing}
+use Rattle.text_cursor.specs.laws.WordsToTextSteps.{missing}
 use Rattle.text_lines.specs.laws.LineTexts.{labeled, listed, region-shown, block-shown, select-shown, loop-shown, exit-shown}
 use Rattle.text_lines.specs.laws.LineTexts.{defer-shown, no-words, line-shown, no-line, untouched-shown, whole-shown, closed-shown}
 use Rattle.text_lines.specs.laws.LineTexts.{leftover-shown, no-outcome, first-shown}

@@ -38,7 +38,7 @@ use Rattle.follows.specs.counting.CountScan.{aims, AllLive}
 use Rattle.follows.specs.counting.CountRegion.{Begun, targets-live, claim-counted, structurize-counted}
 use Rattle.state_words.specs.Sections.{word, stored, kinds, children, set-lengths, head, rewrites}
 use Rattle.state_words.specs.Totals.{attempted}
-use Rattle.state_regions.specs.RegionTables.{taken-word, taken-stored}
+use Rattle.state_regions.specs.RegionTables.{target-answer, target-answer-stored}
 use Rattle.state_shown.specs.laws.CellSteps.{has-list}
 use Rattle.state_shown.specs.laws.Steps.{attempt-counted}
 use Rattle.state_shown.specs.laws.Stores.{ChangesOnly, head-changes, word-there}
@@ -46,7 +46,7 @@ use Rattle.state_shown.specs.Sets.{ShowsTarget, shows-region, shows-return, no-
 use Rattle.state_shown.specs.States.{ShowsState, ShowsBody, ShowsRegion, is-not-begun, is-in-progress, is-ready, is-claimed, ShowsClaimed}
 use Rattle.state_shown.specs.States.{ShowsOwnSet, no-case}
 use Rattle.state_shown.specs.laws.RegionsKept.{body-stays, claimed-stays, own-set-stays}
-use Rattle.state_shown.specs.laws.RegionSteps.{state-stays, concerns-states, state-next, states-by, later-by, kept-by, named-by}
+use Rattle.state_shown.specs.laws.RegionSteps.{state-stays, concerns-states, state-next, states-by, preserves-by, kept-by, named-by}
 use Rattle.state_words.specs.declared.defined.Made.{Made}
 use Rattle.cfg_regions.specs.declared.claim.Claim as code
 use Rattle.cfg_regions.specs.declared.claim.Claim.the-variants.{Refused}
@@ -60,9 +60,9 @@ use Rattle.cfg_claims.specs.Claims.{later-claim, StructurizesRegion, refused-at
 use Rattle.cfg_claims.specs.Claims.{TargetRegions, no-target, target-refused, target-claimed, target-waits, Scans, no-bundle-left}
 use Rattle.cfg_claims.specs.Claims.{passes-return, passes-waiting, claims-bundle, scan-refused, SplitsOut, splits-out, Resolves, no-turn}
 use Rattle.cfg_claims.specs.Claims.{nothing-claimed, claim-refused, select-refused, claims-and, ResolvesAll, resolves-all}
-use Rattle.cfg.specs.laws.shown.Shows.{Occupied, still-occupied, unharmed-same, unharmed-then}
-use Rattle.cfg.specs.laws.shown.Shows.{unharmed-around, around-same}
-use Rattle.cfg.specs.laws.shown.Shows.{around-then, around-but}
+use Rattle.cfg.specs.laws.shown.Shows.{Occupied, still-occupied, occupied-same, occupied-then}
+use Rattle.cfg.specs.laws.shown.Shows.{others-of-occupied, others-same}
+use Rattle.cfg.specs.laws.shown.Shows.{others-then, others-but}
 use Rattle.cfg.specs.laws.shown.Shows.{cells-in-all, owed-stays}
 use Rattle.cfg.specs.laws.shown.TargetsShown.{Noted, notes, noted-cells, claimed-other, FirstNew, can-first, can-next, targets-more}
 use Rattle.cfg.specs.laws.shown.ScansShown.{own-bundle-shown, CanScan, bundle-live, bundle-counts, can-claim-bundle, scan-on}
@@ -73,7 +73,7 @@ use Rattle.cfg.specs.laws.shown.TurnsShown.{turns-full, turns-again}
 use Rattle.cfg.specs.laws.shown.RegionsShown.{CanBegin, can-targets, inv-targets, few-in-targets, right-in-targets, can-turn}
 use Rattle.cfg.specs.laws.shown.RegionsShown.{begun-shown}
 use Rattle.cfg.specs.laws.shown.RegionsShown.{begun-cells, beside-kind}
-use Rattle.cfg.specs.laws.shown.RegionsShown.{region-unharmed, ready-shown, ready-beside, ready-cells}
+use Rattle.cfg.specs.laws.shown.RegionsShown.{region-preserves, ready-shown, ready-beside, ready-cells}
 use Rattle.state_words.specs.Values.{parts}
 use Rattle.state_words.specs.Rows.{attempts-at, cells-at, kind-claimed, kind-in-progress, kind-not-begun, kind-ready, largest, level}
 use Rattle.state_words.specs.Rows.{level-claimed, region-kind, return-word}
@@ -92,7 +92,7 @@ pub record ShownParts (g : Graph) (valid : Valid g) : Type 0 where
   pub by-inst : {w w′ : List ℕ} {r : ℕ} {a : Made} → ByControlInst g w r w′ a → (s : NestState) (cs : List MaybeClaimedRegion)
       → ShowsState g w s → cells-in-all g w ≤ most-cells-in-all → r < length (g .regions) → region-kind w r ≡ kind-in-progress
       → length cs ≡ length (edges-of (region g r .terminator))
-      → ((k : ℕ) → k < length (edges-of (region g r .terminator)) → TakenAs g w r k (edge-of g r k) (getD cs k no-case))
+      → ((k : ℕ) → k < length (edges-of (region g r .terminator)) → AnsweredAs g w r k (edge-of g r k) (getD cs k no-case))
       → ((k : ℕ) (c : ClaimedRegion) → getD cs k no-case ≡ ok c → c .origin ≡ r → ⊥)
       → ((i j : ℕ) (c d : ClaimedRegion) → i < j → getD cs i no-case ≡ ok c → getD cs j no-case ≡ ok d → c .origin ≡ d .origin → ⊥)
       → Inv (world g valid) s → ((q : ℕ) → totals (edges-to q) cs ≤ largest) → totals edgeless cs ≡ 0
@@ -137,13 +137,13 @@ not-occupied w r e (inl p) = absurd (omega arith)
 not-occupied w r e (inr p) = absurd (omega arith)
 
 -- ---- An edge that was not claimed: nothing, or its own.
-module _ {g : Graph} {w : List ℕ} (r j : ℕ) (e : Edge) (noted : taken-word w r j ≡ unclaimed-word w (e .target)) where
-  unclaimed-taken : {x : StructurizeRegionState} → ShowsRegion g w (e .target) x → TakenAs g w r j e (unclaimed-edge e x)
+module _ {g : Graph} {w : List ℕ} (r j : ℕ) (e : Edge) (noted : target-answer w r j ≡ unclaimed-word w (e .target)) where
+  unclaimed-answer : {x : StructurizeRegionState} → ShowsRegion g w (e .target) x → AnsweredAs g w r j e (unclaimed-edge e x)
   unfolding is-trivial
-  unclaimed-taken (is-not-begun a) = was-deferred refl (noted ∙ rw (ne-eqb (region-kind w (e .target)) kind-ready (omega arith)))
-  unclaimed-taken (is-in-progress a) = was-deferred refl (noted ∙ rw (ne-eqb (region-kind w (e .target)) kind-ready (omega arith)))
-  unclaimed-taken (is-claimed a) = was-deferred refl (noted ∙ rw (ne-eqb (region-kind w (e .target)) kind-ready (omega arith)))
-  unclaimed-taken (is-ready {b} {ks} {d} a c n s) =
+  unclaimed-answer (is-not-begun a) = was-deferred refl (noted ∙ rw (ne-eqb (region-kind w (e .target)) kind-ready (omega arith)))
+  unclaimed-answer (is-in-progress a) = was-deferred refl (noted ∙ rw (ne-eqb (region-kind w (e .target)) kind-ready (omega arith)))
+  unclaimed-answer (is-claimed a) = was-deferred refl (noted ∙ rw (ne-eqb (region-kind w (e .target)) kind-ready (omega arith)))
+  unclaimed-answer (is-ready {b} {ks} {d} a c n s) =
       let childless : eqb (word w children (e .target)) 0 ≡ not (has-children ks) = go₁ (eqb (word w children (e .target)) 0)
       (has-list n) in
       let none : eqb (word w set-lengths (e .target)) 0 ≡ empty d = ap (λ k. eqb k 0) (s .size) ∙ go₂ d in
@@ -159,7 +159,7 @@ module _ {g : Graph} {w : List ℕ} (r j : ℕ) (e : Edge) (noted : taken-word w
       go₂ [] = refl
       go₂ (x ∷ l) = ne-eqb (suc (length l)) 0 (omega arith)
 
-      go : (t : Bool) → taken-word w r j ≡ pick t 0 1 → TakenAs g w r j e (pick t (err []) (defer-edge e))
+      go : (t : Bool) → target-answer w r j ≡ pick t 0 1 → AnsweredAs g w r j e (pick t (err []) (defer-edge e))
       go true p = was-nothing refl p
       go false p = was-deferred refl p
 
@@ -175,17 +175,17 @@ module _ {g : Graph} {w : List ℕ} {s : NestState} (shown : ShowsState g w s) (
   pub attempt-shown : ShowsState g (attempted w) (add-attempt s)
   attempt-shown =
       let e = changes .others rewrites (omega arith) (omega arith) in
-      state-next (later-by changes (omega arith) g) (states-by changes (omega arith) (omega arith) (omega arith) g)
+      state-next (preserves-by changes (omega arith) g) (states-by changes (omega arith) (omega arith) (omega arith) g)
       (attempt-counted (shown .tables) few refl)
       (named-by e (shown .named)) refl shown
 
   pub attempt-kinds : (q : ℕ) → region-kind (attempted w) q ≡ region-kind w q
   attempt-kinds q = ap (λ l. getD l q 0) (changes .others kinds (omega arith) (omega arith))
 
-  pub attempt-unharmed : Unharmed g w (attempted w)
-  attempt-unharmed =
+  pub attempt-preserves : PreservesOccupied g w (attempted w)
+  attempt-preserves =
       record {
-        later = later-by changes (omega arith) g;
+        made-stays = preserves-by changes (omega arith) g;
         kinds-stay = λ q h. attempt-kinds q;
         regions-stay = λ q l h. kept-by changes (omega arith) q;
       }
@@ -196,11 +196,12 @@ module _ {g : Graph} {w : List ℕ} {s : NestState} (shown : ShowsState g w s) (
 
 -- What is shown from later words on, from earlier ones on.
 claim-before : {g : Graph} {w w₁ w′ : List ℕ} {r : ℕ} {inputs : List Value} {b b′ : StepAnswer (Option ClaimedRegion)} {a : code.Claim}
-    → Unharmed g w w₁ → (Occupied w r → Occupied w₁ r) → cells-in-all g w₁ ≤ cells-in-all g w → b ≡ b′ → ClaimShows g w₁ w′ r inputs b′ a
+    → PreservesOccupied g w w₁ → (Occupied w r → Occupied w₁ r) → cells-in-all g w₁ ≤ cells-in-all g w → b ≡ b′
+    → ClaimShows g w₁ w′ r inputs b′ a
     → ClaimShows g w w′ r inputs b a
 claim-before u on c e (shows-claimed {c = y} {s′} p st cl o i f v k) =
-    shows-claimed {c = y} {s′ = s′} (e ∙ p) st cl o i (λ h. f (on h)) (unharmed-then u v) (omega arith)
-claim-before u on c e (shows-unclaimed {s′} p st v k) = shows-unclaimed {s′ = s′} (e ∙ p) st (unharmed-then u v) (omega arith)
+    shows-claimed {c = y} {s′ = s′} (e ∙ p) st cl o i (λ h. f (on h)) (occupied-then u v) (omega arith)
+claim-before u on c e (shows-unclaimed {s′} p st v k) = shows-unclaimed {s′ = s′} (e ∙ p) st (occupied-then u v) (omega arith)
 claim-before u on c e (shows-refused {m} {x} p) = shows-refused {m = m} {x = x} (e ∙ p)
 
 refused-from : {g : Graph} {w w₁ w′ : List ℕ} {r : ℕ} {inputs : List Value} {b : StepAnswer (Option ClaimedRegion)} {c : StepAnswer Unit}
@@ -345,11 +346,11 @@ busy-there : {g : Graph} {w : List ℕ} {s : NestState} → ShowsState g w s →
 busy-there {w} shown r new = let room = shown .tables .size in word-there w kinds r kind-in-progress (omega arith) (new .below)
 
 -- The region that a scan claimed was not occupied before.
-taken-new : (w : List ℕ) (y : SplitOut) (t : ℕ) → y .claimed-region .origin ≡ t → (Occupied w t → ⊥) → (j : ℕ) (c : ClaimedRegion)
+claimed-was-free : (w : List ℕ) (y : SplitOut) (t : ℕ) → y .claimed-region .origin ≡ t → (Occupied w t → ⊥) → (j : ℕ) (c : ClaimedRegion)
     → getD (ok (y .claimed-region) ∷ err (y .others) ∷ []) j no-case ≡ ok c → Occupied w (c .origin) → ⊥
-taken-new w y t o free zero c e h = free (subst (λ q. Occupied w q) (ap origin-of (sym e) ∙ o) h)
-taken-new w y t o free (suc zero) c e h = clash (cc)
-taken-new w y t o free (suc (suc j)) c e h = clash (cc)
+claimed-was-free w y t o free zero c e h = free (subst (λ q. Occupied w q) (ap origin-of (sym e) ∙ o) h)
+claimed-was-free w y t o free (suc zero) c e h = clash (cc)
+claimed-was-free w y t o free (suc (suc j)) c e h = clash (cc)
 
 -- ---- What a step of the targets leaves for the next.
 record NextStep (g : Graph) (w w₁ w₂ : List ℕ) (r j how : ℕ) (m : MaybeClaimedRegion) (s₁ : NestState) : Type 0 where
@@ -358,7 +359,7 @@ record NextStep (g : Graph) (w w₁ w₂ : List ℕ) (r j how : ℕ) (m : MaybeC
   levels-same : (k : ℕ) → k < 8 → level w₁ r k ≡ level w r k
   state : ShowsState g w₂ s₁
   busy : region-kind w₂ r ≡ kind-in-progress
-  taken : TakenAs g w₂ r j (edge-of g r j) m
+  answered : AnsweredAs g w₂ r j (edge-of g r j) m
   first : FirstNew w w₂ m
 
 module _ {g : Graph} {w w₁ : List ℕ} {r j : ℕ} {s₁ : NestState} (few : length (g .regions) ≤ 32)
@@ -366,8 +367,8 @@ module _ {g : Graph} {w w₁ : List ℕ} {r j : ℕ} {s₁ : NestState} (few : l
     (busy : region-kind w r ≡ kind-in-progress)
     (h : j < length (edges-of (region g r .terminator))) where
   claimed-next : {y : ClaimedRegion} → ShowsState g w₁ s₁ → ShowsClaimed g w₁ y → y .origin ≡ edge-of g r j .target
-      → y .structured-body-inputs ≡ edge-of g r j .inputs → (Occupied w (edge-of g r j .target) → ⊥) → Unharmed g w w₁
-      → NextStep g w w₁ (taken-stored w₁ r j level-claimed) r j 2 (ok y) s₁
+      → y .structured-body-inputs ≡ edge-of g r j .inputs → (Occupied w (edge-of g r j .target) → ⊥) → PreservesOccupied g w w₁
+      → NextStep g w w₁ (target-answer-stored w₁ r j level-claimed) r j 2 (ok y) s₁
   claimed-next {y} st cl o i free u =
       let below : r < 32 = omega arith in
       let place : j < 8 = omega arith in
@@ -376,12 +377,12 @@ module _ {g : Graph} {w w₁ : List ℕ} {r j : ℕ} {s₁ : NestState} (few : l
       record {
         place = place;
         noted = noted;
-        levels-same = λ k b. u .regions-stay r in-graph (inl busy) .taken k b;
-        state = state-stays (noted .concerns .later) (concerns-states (noted .concerns) few (λ z. absurd (omega arith)))
+        levels-same = λ k b. u .regions-stay r in-graph (inl busy) .target-answers k b;
+        state = state-stays (noted .concerns .made-stays) (concerns-states (noted .concerns) few (λ z. absurd (omega arith)))
             (noted .concerns .tables) st;
         busy = noted .concerns .same-kinds r ∙ busy₁;
-        taken = was-claimed refl (noted .here)
-            (claimed-stays (noted .concerns .later)
+        answered = was-claimed refl (noted .here)
+            (claimed-stays (noted .concerns .made-stays)
             (noted .concerns .others (y .origin) (let z = cl .in-graph in omega arith) (claimed-other w₁ busy₁ (cl .kind)))
             (noted .concerns .same-kinds (y .origin)) cl) o i;
         first = record {
@@ -392,8 +393,9 @@ module _ {g : Graph} {w w₁ : List ℕ} {r j : ℕ} {s₁ : NestState} (few : l
         };
       }
 
-  unclaimed-next : edge-of g r j .target < length (g .regions) → ShowsState g w₁ s₁ → Unharmed g w w₁
-      → NextStep g w w₁ (taken-stored w₁ r j (unclaimed-word w₁ (edge-of g r j .target))) r j (unclaimed-word w₁ (edge-of g r j .target))
+  unclaimed-next : edge-of g r j .target < length (g .regions) → ShowsState g w₁ s₁ → PreservesOccupied g w w₁
+      → NextStep g w w₁ (target-answer-stored w₁ r j (unclaimed-word w₁ (edge-of g r j .target))) r j (unclaimed-word w₁
+      (edge-of g r j .target))
       (unclaimed-edge (edge-of g r j) (state-of s₁ (edge-of g r j .target))) s₁
   unclaimed-next target st u =
       let below : r < 32 = omega arith in
@@ -401,15 +403,15 @@ module _ {g : Graph} {w w₁ : List ℕ} {r j : ℕ} {s₁ : NestState} (few : l
       let e = edge-of g r j in
       let noted = notes g w₁ r j (unclaimed-word w₁ (e .target)) (st .tables .size) below place in
       let busy₁ : region-kind w₁ r ≡ kind-in-progress = u .kinds-stay r (inl busy) ∙ busy in
-      let st₂ = state-stays (noted .concerns .later) (concerns-states (noted .concerns) few (λ z. absurd (omega arith)))
+      let st₂ = state-stays (noted .concerns .made-stays) (concerns-states (noted .concerns) few (λ z. absurd (omega arith)))
       (noted .concerns .tables) st in
       record {
         place = place;
         noted = noted;
-        levels-same = λ k b. u .regions-stay r in-graph (inl busy) .taken k b;
+        levels-same = λ k b. u .regions-stay r in-graph (inl busy) .target-answers k b;
         state = st₂;
         busy = noted .concerns .same-kinds r ∙ busy₁;
-        taken = unclaimed-taken r j e (noted .here ∙ sym (unclaimed-same noted (e .target))) (st₂ .regions (e .target) target);
+        answered = unclaimed-answer r j e (noted .here ∙ sym (unclaimed-same noted (e .target))) (st₂ .regions (e .target) target);
         first = record {
           free = λ z q. absurd (unclaimed-not e (state-of s₁ (e .target)) z q);
           occupied = λ z q. absurd (unclaimed-not e (state-of s₁ (e .target)) z q);
@@ -423,7 +425,7 @@ targets-over : (g : Graph) (valid : Valid g) (fuel r j : ℕ) (s : NestState) {w
 unfolding target-regions
 targets-over g valid fuel r j s {w} shown =
     shows-targets refl shown refl (λ k b. absurd (omega arith))
-    (record { free = λ k c p. absurd (clash (cc)); apart = λ i k c d l p. absurd (clash (cc)) }) (around-same g r w) (λ k b. refl)
+    (record { free = λ k c p. absurd (clash (cc)); apart = λ i k c d l p. absurd (clash (cc)) }) (others-same g r w) (λ k b. refl)
     (omega arith)
 
 -- ---- The cycle.
@@ -443,8 +445,8 @@ module _ (g : Graph) (valid : Valid g) (parts : ShownParts g valid) (counts : Li
       → (cs : List MaybeClaimedRegion) (s₁ : NestState)
       → target-regions g (defined fuel) (its-edges r) (with-state s r in-progress) ≡ done cs s₁ → ShowsState g w₁ s₁
       → length cs ≡ length (its-edges r)
-      → ((k : ℕ) → k < length (its-edges r) → TakenAs g w₁ r (0 + k) (getD (its-edges r) k no-edge) (getD cs k no-case))
-      → NewlyClaimed (stored w kinds r kind-in-progress) cs → Around g r (stored w kinds r kind-in-progress) w₁
+      → ((k : ℕ) → k < length (its-edges r) → AnsweredAs g w₁ r (0 + k) (getD (its-edges r) k no-edge) (getD cs k no-case))
+      → NewlyClaimed (stored w kinds r kind-in-progress) cs → PreservesOthers g r (stored w kinds r kind-in-progress) w₁
       → cells-in-all g w₁ ≤ cells-in-all g (stored w kinds r kind-in-progress)
       → BodyShows g w₁ w₂ r cs 11 (by-control-inst g (blocks-of g r) (region g r .terminator) cs s₁) a
   inst-from {w} {w₁} {r} i fuel H s shown room new can cs s₁ p st len each newly ar k =
@@ -465,13 +467,13 @@ module _ (g : Graph) (valid : Valid g) (parts : ShownParts g valid) (counts : Li
       → ShowsState g w₁ s₁ → i < length (x .deferred-edges) → y .bundle ≡ getD (x .deferred-edges) i no-bundle
       → y .others ≡ take i (x .deferred-edges) ++ drop (suc i) (x .deferred-edges) → y .bundle .target ≡ to-region t
       → ShowsClaimed g w₁ (y .claimed-region) → y .claimed-region .origin ≡ t
-      → y .claimed-region .structured-body-inputs ≡ y .bundle .target-inputs → (Occupied w t → ⊥) → Unharmed g w w₁
+      → y .claimed-region .structured-body-inputs ≡ y .bundle .target-inputs → (Occupied w t → ⊥) → PreservesOccupied g w w₁
       → cells-in-all g w₁ ≤ most-cells-in-all → BodyShows g w₁ w₂ r (ok (y .claimed-region) ∷ err (y .others) ∷ []) 4
       (structurize-select-into g (x .children) bool-cond (lazy (condition-in (x .deferred-edges) (y .bundle)))
       (ok (y .claimed-region) ∷ err (y .others) ∷ []) s₁) a
   select-from {w} {r} b fuel s₀ H x s body busy in-graph can y s₁ t p st l z o to cl origin many free u room =
       parts .by-resolve b s₁ x y t st room in-graph (u .kinds-stay r (inl busy) ∙ busy)
-      (body-stays (u .later) (u .regions-stay r in-graph (inl busy)) body) l z o to
+      (body-stays (u .made-stays) (u .regions-stay r in-graph (inl busy)) body) l z o to
       (λ e. free (inl (subst (λ q. region-kind w q ≡ kind-in-progress) (sym e) busy))) cl origin many
       (first-done g valid fuel s₀ r H x s can (some y) s₁ p .inv)
       (λ q. let v = few-in-cases g valid fuel s₀ r H x s can y s₁ p q in let c = parts .few-incoming q in omega arith)
@@ -551,7 +553,7 @@ module _ (g : Graph) (valid : Valid g) (parts : ShownParts g valid) (counts : Li
         let result = parts .by-state (subst (λ m. ClaimsByState g (attempted w) r n m w′ a) (right r in-graph) c) (suc fuel) H
         (add-attempt s)
         inputs at (let z = attempt-cells shown few in omega arith) live many d (can-later g valid fuel H r n s in-graph live pos can) in
-        claim-before (attempt-unharmed shown few) (λ x. still-occupied (attempt-unharmed shown few) r x)
+        claim-before (attempt-preserves shown few) (λ x. still-occupied (attempt-preserves shown few) r x)
         (let z = attempt-cells shown few in omega arith) (begun-before g fuel r n inputs s (state-of s r) refl old) result
     claim-shown {w} {r} {n} (refused-inside b t) (suc fuel) H s inputs shown room live pos many can =
         let in-graph = live-below r live in
@@ -570,7 +572,7 @@ module _ (g : Graph) (valid : Valid g) (parts : ShownParts g valid) (counts : Li
         (let z = attempt-cells shown few in omega arith) b (can-begin g valid fuel H r n s in-graph live pos can fresh)) λ s₁ p st u k.
         let after = can-after g valid fuel H r n s in-graph live pos can fresh s₁ p in
         let old = begun-counted g valid fuel H r n s in-graph live pos can fresh s₁ p .old in
-        let v = unharmed-then (attempt-unharmed shown few) u in
+        let v = occupied-then (attempt-preserves shown few) u in
         let cells = attempt-cells shown few in
         let z : region-kind w r ≡ kind-not-begun = sym (attempt-kinds shown few r) ∙ b .kind in
         let result = parts .by-state (subst (λ m. ClaimsByState g w₁ r n m w′ a) (right r in-graph) c) (suc fuel) H s₁ inputs st
@@ -592,30 +594,30 @@ module _ (g : Graph) (valid : Valid g) (parts : ShownParts g valid) (counts : Li
         if-targets (first-targets (λ f h z a b i d l u c. targets-shown t f h z a b i d l u c) fuel H s shown room new can) λ cs s₁ p st
         len each newly ar k.
         if-body (inst-from i fuel H s shown room new can cs s₁ p st len each newly ar k) λ y s₂ q st₂ body ar₂ k₂.
-        if-turns-refused (turns-from d fuel H s shown room new can cs s₁ p (around-but ar ar₂ (newly .free)) y s₂ q st₂ body
+        if-turns-refused (turns-from d fuel H s shown room new can cs s₁ p (others-but ar ar₂ (newly .free)) y s₂ q st₂ body
         (omega arith)) λ f.
         refuses-region {m = number} {x = x} (rw (p, q, f))
     region-shown {w} {w′} {r} (structurized {w₃} t i d e) fuel H s shown room new can =
         if-targets (first-targets (λ f h z a b i d l u c. targets-shown t f h z a b i d l u c) fuel H s shown room new can) λ cs s₁ p st
         len each newly ar k.
         if-body (inst-from i fuel H s shown room new can cs s₁ p st len each newly ar k) λ y s₂ q st₂ body ar₂ k₂.
-        if-turns (turns-from d fuel H s shown room new can cs s₁ p (around-but ar ar₂ (newly .free)) y s₂ q st₂ body (omega arith))
+        if-turns (turns-from d fuel H s shown room new can cs s₁ p (others-but ar ar₂ (newly .free)) y s₂ q st₂ body (omega arith))
         λ z s₃ f st₃ body₃ ar₃ k₃.
-        let all = around-then (around-but ar ar₂ (newly .free)) ar₃ in
+        let all = others-then (others-but ar ar₂ (newly .free)) ar₃ in
         let busy : region-kind w₃ r ≡ kind-in-progress = all .kinds-stay r (inl (busy-there shown r new)) ∙ busy-there shown r new in
         let last = ready-shown st₃ (parts .few) r (can .in-graph) busy z body₃ in
-        let unharmed = region-unharmed (not-occupied w r (new .kind)) (beside-kind g w r 1) all
+        let preserves-occupied = region-preserves (not-occupied w r (new .kind)) (beside-kind g w r 1) all
         (ready-beside st₃ (parts .few) r (can .in-graph) busy z body₃) in
         let c₀ = begun-cells shown (parts .few) r (can .in-graph) (new .kind) in
         let c₁ = ready-cells st₃ (parts .few) r (can .in-graph) busy z body₃ in
         rw e (shows-ready {s′ = with-state s₃ r (ready (count-to r (z .deferred-edges)) (z .children) (z .deferred-edges))}
-        (rw (p, q, f)) last unharmed (omega arith))
+        (rw (p, q, f)) last preserves-occupied (omega arith))
 
     turns-from : {w w₂ w₃ : List ℕ} {r : ℕ} {a : Checked} → ResolvesAll g counts w₂ r w₃ a → (fuel : ℕ) (H : ℕ → ℕ) (s : NestState)
         → ShowsState g w s → cells-in-all g w ≤ most-cells-in-all → NotBegun w r → (can : CanBegin g valid fuel H r s)
         → (cs : List MaybeClaimedRegion)
         (s₁ : NestState) → target-regions g (defined fuel) (its-edges r) (with-state s r in-progress) ≡ done cs s₁
-        → Around g r (stored w kinds r kind-in-progress) w₂ → (y : Body) (s₂ : NestState)
+        → PreservesOthers g r (stored w kinds r kind-in-progress) w₂ → (y : Body) (s₂ : NestState)
         → by-control-inst g (blocks-of g r) (region g r .terminator) cs s₁ ≡ done y s₂ → ShowsState g w₂ s₂ → ShowsBody g w₂ r y
         → cells-in-all g w₂ ≤ cells-in-all g (stored w kinds r kind-in-progress) + 11
         → TurnsShow g w₂ w₃ r (resolve-deferred g (defined fuel) (length (g .regions)) y s₂) a
@@ -647,8 +649,8 @@ module _ (g : Graph) (valid : Valid g) (parts : ShownParts g valid) (counts : Li
         (if-claimed (first-claim-shown r j (λ f h z v a b l n m x. claim-shown c f h z v a b l n m x) fuel H s shown room live′ fit′
         can′) λ y s₁ p st cl o i free u k.
         let next = claimed-next (parts .few) (parts .few-targets r) in-graph busy h st cl o i free u in
-        targets-more g valid fuel w (parts .few) busy (next .noted) (unharmed-around r u) (next .levels-same)
-        (edge-of g r j) (drop (suc j) (its-edges r)) s s₁ (next .place) (some y) (ok y) p refl (next .taken) (next .first) (omega arith)
+        targets-more g valid fuel w (parts .few) busy (next .noted) (others-of-occupied r u) (next .levels-same)
+        (edge-of g r j) (drop (suc j) (its-edges r)) s s₁ (next .place) (some y) (ok y) p refl (next .answered) (next .first) (omega arith)
         (targets-shown t fuel _ s₁ (next .state) (let z = noted-cells (next .noted .concerns) in omega arith) in-graph (next .busy)
         (live′ .1) (fit′ .1) (can-next g valid fuel r (edge-of g r j) (drop (suc j) (its-edges r)) H (ok y) (fit′ .0) (live′ .0) can′ p
         refl)))
@@ -663,8 +665,8 @@ module _ (g : Graph) (valid : Valid g) (parts : ShownParts g valid) (counts : Li
         let e = edge-of g r j in
         let m = unclaimed-edge e (state-of s₁ (e .target)) in
         let next = unclaimed-next (parts .few) (parts .few-targets r) in-graph busy h (fit′ .0 .target) st u in
-        targets-more g valid fuel w (parts .few) busy (next .noted) (unharmed-around r u) (next .levels-same)
-        e (drop (suc j) (its-edges r)) s s₁ (next .place) none m p refl (next .taken) (next .first) (omega arith)
+        targets-more g valid fuel w (parts .few) busy (next .noted) (others-of-occupied r u) (next .levels-same)
+        e (drop (suc j) (its-edges r)) s s₁ (next .place) none m p refl (next .answered) (next .first) (omega arith)
         (targets-shown t fuel _ s₁ (next .state) (let z = noted-cells (next .noted .concerns) in omega arith) in-graph (next .busy)
         (live′ .1) (fit′ .1) (can-next g valid fuel r e (drop (suc j) (its-edges r)) H m (fit′ .0) (live′ .0) can′ p refl)))
 
@@ -675,7 +677,7 @@ module _ (g : Graph) (valid : Valid g) (parts : ShownParts g valid) (counts : Li
         → ScanShows g w w′ d (split-out-matching g (defined fuel) (take i d) (drop i d) s) a
     scan-shown {w} {w′} {i} (no-bundle-left h e) fuel H s d shown room in-graph busy own size can =
         subst (λ l. ScanShows g w w′ d (split-out-matching g (defined fuel) (take i d) l s) split.Nothing)
-        (sym (drop-of-length-le d {i = i} (omega arith))) (rw e (shows-nothing refl shown (unharmed-same g w) (omega arith)))
+        (sym (drop-of-length-le d {i = i} (omega arith))) (rw e (shows-nothing refl shown (occupied-same g w) (omega arith)))
     scan-shown {w} {r} {i} (passes-return h e t) fuel H s d shown room in-graph busy own size can =
         let l : i < length d = omega arith in
         let p = returns-there (parts .few) (own-bundle-shown r own i l .target) e in
@@ -689,7 +691,7 @@ module _ (g : Graph) (valid : Valid g) (parts : ShownParts g valid) (counts : Li
         λ s₁ f st u k.
         passed-waiting g valid fuel d i l s p f (λ z hd. still-occupied u z hd) u (omega arith)
         (scan-shown t fuel H s₁ d st (omega arith) in-graph (u .kinds-stay r (inl busy) ∙ busy)
-        (own-set-stays (u .later) (u .regions-stay r in-graph (inl busy)) own) size
+        (own-set-stays (u .made-stays) (u .regions-stay r in-graph (inl busy)) own) size
         (scan-on g valid fuel H d i l s can (there .region) p (there .in-graph) f))
     scan-shown {w} {r} {i} (claims-bundle h e c) fuel H s d shown room in-graph busy own size can =
         let l : i < length d = omega arith in
@@ -709,7 +711,7 @@ module _ (g : Graph) (valid : Valid g) (parts : ShownParts g valid) (counts : Li
         → region-kind w r ≡ kind-in-progress → ShowsBody g w r x
         → CanTurn g valid fuel s₀ r H x s → TurnsShow g w w′ r (resolve-deferred g (defined fuel) n x s) a
     turns-shown {w} {r} (no-turn e) fuel s₀ H x s shown room in-graph busy body can =
-        rw e (shows-turns refl shown body (around-same g r w) (omega arith))
+        rw e (shows-turns refl shown body (others-same g r w) (omega arith))
     turns-shown {w} {r} (nothing-claimed {left} t) fuel s₀ H x s shown room in-graph busy body can =
         turns-nothing g valid fuel r left x s busy in-graph body
         (split-shown t fuel s₀ H x s shown room in-graph busy body can)
@@ -724,7 +726,7 @@ module _ (g : Graph) (valid : Valid g) (parts : ShownParts g valid) (counts : Li
         if-split (split-shown t fuel s₀ H x s shown room in-graph busy body can) λ q y s₁ p st l z o to cl origin many free u k.
         if-body (select-from b fuel s₀ H x s body busy in-graph can y s₁ q p st l z o to cl origin many free u (omega arith))
         λ x₂ s₂ f st₂ body₂ ar k₂.
-        let both = around-but (unharmed-around r u) ar (taken-new w y q origin free) in
+        let both = others-but (others-of-occupied r u) ar (claimed-was-free w y q origin free) in
         turns-again g valid fuel r left x s busy in-graph y s₁ p u k x₂ s₂ f both k₂
         (turns-shown rest fuel s₀ H x₂ s₂ st₂ (omega arith) in-graph (both .kinds-stay r (inl busy) ∙ busy) body₂
         (turn-on g valid fuel s₀ r H x s can y s₁ p x₂ s₂ f))

@@ -31,7 +31,7 @@ use Rattle.state_words.specs.Sections.{used}
 use Rattle.state_shown.specs.Front.{SameFront}
 use Rattle.state_shown.specs.laws.FrontKept.{front-then, stands-on}
 use Rattle.state_shown.specs.States.{ShowsBody, ShowsOwnSet}
-use Rattle.cfg_start.specs.Words.{started}
+use Rattle.cfg_start.specs.InitialState.{started}
 use Rattle.cfg_start.specs.laws.shown.Started.{started-front, initial-state-shown}
 use Rattle.cfg_regions.specs.declared.claim.Claim as claim
 use Rattle.cfg.specs.declared.func.Nested as code

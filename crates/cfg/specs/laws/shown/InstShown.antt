@@ -22,7 +22,7 @@ use Rattle.follows.specs.simulation.Invariant.{Inv}
 use Rattle.follows.specs.counting.Totals.{edges-to, totals, edgeless}
 use Rattle.state_words.specs.Sections.{word, stored, used, head, kinds, children, set-starts, set-lengths, bundles, levels, rewrites}
 use Rattle.state_words.specs.laws.Apart.{section-other}
-use Rattle.state_regions.specs.RegionTables.{taken-word}
+use Rattle.state_regions.specs.RegionTables.{target-answer}
 use Rattle.state_words.specs.Totals.{Defines, defined}
 use Rattle.state_words.specs.Values.{value-word}
 use Rattle.state_words.specs.declared.defined.Defined.the-variants.{Number}
@@ -36,21 +36,21 @@ use Rattle.state_shown.specs.Tables.{ShowsShape, shape-bool, shape-number}
 use Rattle.state_shown.specs.laws.DefinedShown.{done-of, full-of}
 use Rattle.state_shown.specs.Cells.{ShowsNodes, no-nodes, ShowsChildren}
 use Rattle.state_shown.specs.States.{ShowsState, ShowsBody, no-case, HasSlot}
-use Rattle.state_shown.specs.Kept.{Later, KeptRegion}
-use Rattle.state_shown.specs.laws.RegionsKept.{later-same, later-then, kept-same, kept-then, claimed-stays, body-stays, set-stays}
+use Rattle.state_shown.specs.Kept.{PreservesMade, KeptRegion}
+use Rattle.state_shown.specs.laws.RegionsKept.{preserves-same, preserves-then, kept-same, kept-then, claimed-stays, body-stays, set-stays}
 use Rattle.state_shown.specs.laws.RegionSteps.{word-concerns, concerns-then, concerns-states, state-stays, state-next, children-set}
 use Rattle.state_shown.specs.laws.RegionSteps.{named-by}
 use Rattle.state_shown.specs.laws.RegionSteps.{length-set-to, aside-by, bundles-same}
 use Rattle.state_shown.specs.laws.CellSteps.{blocks-added, exit-added, cell-aside, cell-tables, cell-handle, cell-total, cell-changes}
-use Rattle.state_shown.specs.laws.SetStores.{OnlySets, only-same, only-then, only-total, only-later, only-word-same, word-other}
-use Rattle.cfg_bundles.specs.Words.{cases-filled, filled-from, case-filled, padded-by, record-word, return-deferred}
+use Rattle.state_shown.specs.laws.SetStores.{OnlySets, only-same, only-then, only-total, only-preserves, only-word-same, word-other}
+use Rattle.cfg_bundles.specs.EdgesAndCases.{cases-filled, filled-from, case-filled, padded-by, record-word, return-deferred}
 use Rattle.cfg_bundles.specs.laws.paths.Paths.{padded-in}
 use Rattle.format.specs.laws.UndefinedTypes.{TypeRead}
 use Rattle.fields.specs.laws.UndefinedTypes.{end-types-read}
 use Rattle.cfg_bundles.specs.laws.shown.RecordValues.{usable-names, few-edges}
 use Rattle.cfg_bundles.specs.laws.shown.Deferred.{return-deferred-only, return-deferred-kept, return-deferred-state, return-deferred-shown}
 use Rattle.cfg_cases.specs.laws.CasesFilled as filling
-use Rattle.cfg_cases.specs.laws.CasesFilled.{Taken, filled-one, FilledCases, cases-filled-shown}
+use Rattle.cfg_cases.specs.laws.CasesFilled.{ShowsTargetRegion, filled-one, FilledCases, cases-filled-shown}
 use Rattle.cfg_bundles.specs.laws.shown.Appended.{row-alone, append-shown}
 use Rattle.cfg_select_nodes.specs.laws.shown.SelectsShown.{shows-value}
 use Rattle.cfg_selects.specs.laws.shown.IntoShown.{into-shown}
@@ -111,16 +111,16 @@ number-edges {g} valid {r} here {v} {es} is =
 record PreparedInst (g : Graph) (r : ℕ) (w w₂ : List ℕ) (s : NestState) : Type 0 where
   state : ShowsState g w₂ s
   body : ShowsBody g w₂ r (region-body (blocks-of g r) [])
-  later : Later g w w₂
+  made-stays : PreservesMade g w w₂
   kept : (q : ℕ) → HasSlot (length (g .regions)) q → (q ≡ r → ⊥) → KeptRegion w w₂ q
   same-kinds : (q : ℕ) → region-kind w₂ q ≡ region-kind w q
-  taken : (j : ℕ) → taken-word w₂ r j ≡ taken-word w r j
+  target-answers : (j : ℕ) → target-answer w₂ r j ≡ target-answer w r j
   total : word w₂ head cells-at ≤ word w head cells-at + 1
 
 module _ {g : Graph} (few : length (g .regions) ≤ 32) {r : ℕ} (here : r < length (g .regions)) where
   list-stored : {w : List ℕ} {s : NestState} → ShowsState g w s → (region-kind w r ≡ kind-ready → ⊥) → {h : ℕ}
       → ShowsChildren g w h (blocks-of g r) → PreparedInst g r w (stored (stored w children r h) set-lengths r 0) s
-  unfolding taken-word
+  unfolding target-answer
   list-stored {w} {s} state unready {h} list =
       let room = state .tables .size in
       let w₁ = stored w children r h in
@@ -133,10 +133,10 @@ module _ {g : Graph} (few : length (g .regions) ≤ 32) {r : ℕ} (here : r < le
       let start = a .same-starts r in
       let cells = c .same-head cells-at in
       record {
-        state = state-stays (c .later) (concerns-states c few unready) (c .tables) state;
+        state = state-stays (c .made-stays) (concerns-states c few unready) (c .tables) state;
         body = record {
           nodes = rw (word-other w₁ set-lengths r 0 children (omega arith) r)
-              (b .later .nodes-stay (children-set g w room r (omega arith) list));
+              (b .made-stays .nodes-stay (children-set g w room r (omega arith) list));
           set = length-set-to g w₁ (omega arith) r (omega arith)
               record {
                 size = refl;
@@ -146,22 +146,22 @@ module _ {g : Graph} (few : length (g .regions) ≤ 32) {r : ℕ} (here : r < le
                 apart = λ i k p q. absurd (omega arith);
               };
         };
-        later = c .later;
+        made-stays = c .made-stays;
         kept = c .others;
         same-kinds = c .same-kinds;
-        taken = λ j. rw (section-other w₁ set-lengths r 0 levels (omega arith), section-other w children r h levels (omega arith));
+        target-answers = λ j. rw (section-other w₁ set-lengths r 0 levels (omega arith), section-other w children r h levels (omega arith));
         total = omega arith;
       }
 
   prepared : {w w₁ w₂ : List ℕ} {s : NestState} → AddsBlocks g w r w₁ → w₂ ≡ stored w₁ set-lengths r 0 → ShowsState g w s
       → (region-kind w r ≡ kind-ready → ⊥) → 1 ≤ word w head cells-at → word w head cells-at < most-cells → PreparedInst g r w w₂ s
-  unfolding taken-word
+  unfolding target-answer
   prepared (no-blocks z e) f state unready one free =
       rw (f, e) (list-stored state unready (record { nodes = no-blocks-of _ r 0 (region g r .blocks) z; made = one }))
   prepared (some-blocks {w₁} {h} d x e) f state unready one free =
       let room = state .tables .size in
       let c = cell-aside x free room g in
-      let st = state-stays (c .later) (c .states) (cell-tables x free room) state in
+      let st = state-stays (c .made-stays) (c .states) (cell-tables x free room) state in
       let p = list-stored st (λ k. unready (sym (c .states .same-kinds r here) ∙ k)) (blocks-added free room x one (omega arith)) in
       let handle = cell-handle x free room in
       let cells = cell-total x free room in
@@ -172,25 +172,25 @@ module _ {g : Graph} (few : length (g .regions) ≤ 32) {r : ℕ} (here : r < le
       record {
         state = p .state;
         body = p .body;
-        later = later-then (c .later) (p .later);
+        made-stays = preserves-then (c .made-stays) (p .made-stays);
         kept = λ q l k. kept-then (c .regions q) (p .kept q l k);
         same-kinds = λ q. p .same-kinds q ∙ ap (λ l. getD l q 0) (changes .others kinds (omega arith) (omega arith));
-        taken = λ j. p .taken j ∙ rw (changes .others levels (omega arith) (omega arith));
+        target-answers = λ j. p .target-answers j ∙ rw (changes .others levels (omega arith) (omega arith));
         total = omega arith;
       }
 
-  -- How the targets were taken, then.
-  taken-on : {w w₂ : List ℕ} {s : NestState} → PreparedInst g r w w₂ s → {j : ℕ} {m : MaybeClaimedRegion}
-      → ((c : ClaimedRegion) → m ≡ ok c → c .origin ≡ r → ⊥) → TakenAs g w r j (edge-of g r j) m → Taken g w₂ r j m
-  taken-on p {j} other (was-claimed {c} e t cl o i) =
+  -- How the targets were answered, then.
+  target-region-on : {w w₂ : List ℕ} {s : NestState} → PreparedInst g r w w₂ s → {j : ℕ} {m : MaybeClaimedRegion}
+      → ((c : ClaimedRegion) → m ≡ ok c → c .origin ≡ r → ⊥) → AnsweredAs g w r j (edge-of g r j) m → ShowsTargetRegion g w₂ r j m
+  target-region-on p {j} other (was-claimed {c} e t cl o i) =
       let in-graph = cl .in-graph in
       rw e
-      (filling.was-claimed (p .taken j ∙ t)
-      (claimed-stays (p .later) (p .kept (c .origin) (omega arith) (other c e)) (p .same-kinds (c .origin)) cl) o i)
-  taken-on p {j} other (was-deferred e t) = filling.was-deferred (p .taken j ∙ t) e
-  taken-on p {j} other (was-nothing e t) = rw e (filling.was-nothing (p .taken j ∙ t))
+      (filling.was-claimed (p .target-answers j ∙ t)
+      (claimed-stays (p .made-stays) (p .kept (c .origin) (omega arith) (other c e)) (p .same-kinds (c .origin)) cl) o i)
+  target-region-on p {j} other (was-deferred e t) = filling.was-deferred (p .target-answers j ∙ t) e
+  target-region-on p {j} other (was-nothing e t) = rw e (filling.was-nothing (p .target-answers j ∙ t))
 
-  was-three : {w : List ℕ} {j : ℕ} {m : MaybeClaimedRegion} → TakenAs g w r j (edge-of g r j) m → (c : ClaimedRegion) → m ≡ ok c
+  was-three : {w : List ℕ} {j : ℕ} {m : MaybeClaimedRegion} → AnsweredAs g w r j (edge-of g r j) m → (c : ClaimedRegion) → m ≡ ok c
       → region-kind w (c .origin) ≡ kind-claimed
   was-three (was-claimed {c} e t cl o i) d f = let same : c ≡ d = cc in rw (← same) (cl .kind)
   was-three (was-deferred e t) d f = absurd (clash (cc))
@@ -198,15 +198,15 @@ module _ {g : Graph} (few : length (g .regions) ≤ 32) {r : ℕ} (here : r < le
 
   done-body : {w w₂ w′ : List ℕ} {s s′ : NestState} {cs : List MaybeClaimedRegion} {b : StepAnswer Body} {x : Body}
       → PreparedInst g r w w₂ s
-      → b ≡ done x s′ → ShowsState g w′ s′ → ShowsBody g w′ r x → Later g w₂ w′
+      → b ≡ done x s′ → ShowsState g w′ s′ → ShowsBody g w′ r x → PreservesMade g w₂ w′
       → ((q : ℕ) → q < length (g .regions) → (q ≡ r → ⊥)
       → ((j : ℕ) (c : ClaimedRegion) → j < length cs → getD cs j no-case ≡ ok c → q ≡ c .origin → ⊥) → KeptRegion w₂ w′ q)
       → SameKinds w w′ → word w′ head cells-at ≤ word w head cells-at + 11 → BodyShows g w w′ r cs 11 b Done
-  done-body {w} {w′} {s′} {x} p is state body later kept same room =
+  done-body {w} {w′} {s′} {x} p is state body made-stays kept same room =
       let owed = owed-stays g w w′ (λ q h. ap (λ l. getD l q 0) (same .kinds-words)) in
       shows-body {x = x} {s′ = s′} is state body
       (record {
-        later = later-then (p .later) later;
+        made-stays = preserves-then (p .made-stays) made-stays;
         kinds-stay = λ q h. ap (λ l. getD l q 0) (same .kinds-words);
         regions-stay = λ q l d f h. kept-then (p .kept q (omega arith) d) (kept q l d f);
       }) (omega arith)
@@ -232,10 +232,10 @@ module _ {g : Graph} (few : length (g .regions) ≤ 32) {r : ℕ} (here : r < le
         (ap (λ t. by-control-inst g (blocks-of g r) t cs s) e)
         (return-deferred-state g w₂ r room (omega arith) slots few unready (p .state))
         (record {
-          nodes = rw (only-word-same only children (omega arith) r) (only-later only g .nodes-stay (p .body .nodes));
+          nodes = rw (only-word-same only children (omega arith) r) (only-preserves only g .nodes-stay (p .body .nodes));
           set = return-deferred-shown g w₂ r room (omega arith) slots valid (p .state .stands) here e;
         })
-        (only-later only g) (λ q l d f. return-deferred-kept g w₂ r room (omega arith) slots q (omega arith) d) same (omega arith)
+        (only-preserves only g) (λ q l d f. return-deferred-kept g w₂ r room (omega arith) slots q (omega arith) d) same (omega arith)
 
     exit-of : (op : ℕ) (vs : List Value) (cs : List MaybeClaimedRegion) {n : ℕ} {s₁ : NestState} → define-node s ≡ done n s₁
         → by-control-inst g (blocks-of g r) (exit-invocation op vs) cs s ≡
@@ -257,18 +257,18 @@ module _ {g : Graph} (few : length (g .regions) ≤ 32) {r : ℕ} (here : r < le
         let changes = node-changes d in
         let c₃ = aside-by changes (omega arith) (omega arith) (omega arith) (omega arith) g in
         let re = changes .others rewrites (omega arith) (omega arith) in
-        let st₃ : ShowsState g w₁ (u .state) = state-next (c₃ .later) (c₃ .states) (u .tables)
+        let st₃ : ShowsState g w₁ (u .state) = state-next (c₃ .made-stays) (c₃ .states) (u .tables)
         (named-by re (p .state .named))
         (node-states s (u .is)) (p .state) in
-        let body₃ = body-stays (c₃ .later) (c₃ .regions r) (p .body) in
+        let body₃ = body-stays (c₃ .made-stays) (c₃ .regions r) (p .body) in
         let room₃ = st₃ .tables .size in
         let cells₃ = changes .totals cells-at (omega arith) in
         let more = p .total in
         let free₃ : word w₁ head cells-at < most-cells = omega arith in
         let c₄ = cell-aside x free₃ room₃ g in
-        let st₄ = state-stays (c₄ .later) (c₄ .states) (cell-tables x free₃ room₃) st₃ in
+        let st₄ = state-stays (c₄ .made-stays) (c₄ .states) (cell-tables x free₃ room₃) st₃ in
         let list = exit-added free₃ room₃ x (body₃ .nodes) e in
-        let body₄ = body-stays (c₄ .later) (c₄ .regions r) body₃ in
+        let body₄ = body-stays (c₄ .made-stays) (c₄ .regions r) body₃ in
         let room₄ = st₄ .tables .size in
         let handle₄ = cell-handle x free₃ room₃ in
         let cells₄ = cell-total x free₃ room₃ in
@@ -280,18 +280,18 @@ module _ {g : Graph} (few : length (g .regions) ≤ 32) {r : ℕ} (here : r < le
         rw f
         (done-body {x = region-body (join (blocks-of g r) (exit (u .value) op vs ▸ ⟨⟩)) []} p
         (ap (λ t. by-control-inst g (blocks-of g r) t cs s) e ∙ exit-of op vs cs (u .is))
-        (state-stays (c₅ .later) (concerns-states c₅ few unready₄) (c₅ .tables) st₄)
+        (state-stays (c₅ .made-stays) (concerns-states c₅ few unready₄) (c₅ .tables) st₄)
         (record {
           nodes = rw (← node-is) (children-set g w₄ room₄ r (omega arith) list);
           set = rw (word-other w₄ children r h set-starts (omega arith) r, word-other w₄ children r h set-lengths (omega arith) r)
-              (set-stays (c₅ .later) (λ i b. bundles-same (section-other w₄ children r h bundles (omega arith)) _) (body₄ .set));
+              (set-stays (c₅ .made-stays) (λ i b. bundles-same (section-other w₄ children r h bundles (omega arith)) _) (body₄ .set));
         })
-        (later-then (c₃ .later) (later-then (c₄ .later) (c₅ .later)))
+        (preserves-then (c₃ .made-stays) (preserves-then (c₄ .made-stays) (c₅ .made-stays)))
         (λ q l d f. kept-then (c₃ .regions q) (kept-then (c₄ .regions q) (c₅ .others q (omega arith) d))) (rw f at same) (omega arith))
 
     -- With the cases filled.
     module _ (valid : Valid g) (cs : List MaybeClaimedRegion) (size : length cs ≡ length (edges-of (region g r .terminator)))
-        (each : (k : ℕ) → k < length (edges-of (region g r .terminator)) → TakenAs g w r k (edge-of g r k) (getD cs k no-case))
+        (each : (k : ℕ) → k < length (edges-of (region g r .terminator)) → AnsweredAs g w r k (edge-of g r k) (getD cs k no-case))
         (other : (k : ℕ) (c : ClaimedRegion) → getD cs k no-case ≡ ok c → c .origin ≡ r → ⊥)
         (apart : (i j : ℕ) (c d : ClaimedRegion) → i < j → getD cs i no-case ≡ ok c → getD cs j no-case ≡ ok d → c .origin ≡ d .origin → ⊥)
       where
@@ -299,7 +299,7 @@ module _ {g : Graph} (few : length (g .regions) ≤ 32) {r : ℕ} (here : r < le
         w₃ = cases-filled g w₂ r
 
         filled : FilledCases g w₂ w₃ s r cs
-        filled = cases-filled-shown valid here cs size (p .state) (λ k h. taken-on p (other k) (each k (omega arith)))
+        filled = cases-filled-shown valid here cs size (p .state) (λ k h. target-region-on p (other k) (each k (omega arith)))
             (λ i j l h c d. apart i j c d l)
 
         same-kinds₃ : (q : ℕ) → region-kind w₃ q ≡ region-kind w q
@@ -312,7 +312,7 @@ module _ {g : Graph} (few : length (g .regions) ≤ 32) {r : ℕ} (here : r < le
         unready₃ e = let z = same-kinds₃ r in omega arith
 
         nodes₃ : ShowsChildren g w₃ (word w₃ children r) (blocks-of g r)
-        nodes₃ = body-stays (filled .later) (filled .kept r (omega arith)) (p .body) .nodes
+        nodes₃ = body-stays (filled .made-stays) (filled .kept r (omega arith)) (p .body) .nodes
 
         claimed₃ : (j : ℕ) → j < length cs → (c : ClaimedRegion) → getD cs j no-case ≡ ok c
             → (region-kind w₃ (c .origin) ≡ kind-claimed) × (c .origin ≡ r → ⊥)
@@ -337,7 +337,7 @@ module _ {g : Graph} (few : length (g .regions) ≤ 32) {r : ℕ} (here : r < le
             let last = o .cells-to in
             done-body {x = o .result} p (ap (λ t. by-control-inst g (blocks-of g r) t cs s) is ∙ first-case e cs one ∙ o .is) (o .state)
             (o .body)
-            (later-then (filled .later) (o .later))
+            (preserves-then (filled .made-stays) (o .made-stays))
             (λ q l d f. kept-then (filled .kept q (omega arith)) (o .kept q (omega arith) d (λ c h. f 0 c in-list h))) same (omega arith)
 
         module _ (inv : Inv (world g valid) s) (bound : (q : ℕ) → totals (edges-to q) cs ≤ largest)
@@ -358,7 +358,7 @@ module _ {g : Graph} (few : length (g .regions) ≤ 32) {r : ℕ} (here : r < le
               let same-cells = cells₃ in
               let more = p .total in
               subst (λ t. BodyShows g w w′ r cs 11 (by-control-inst g (blocks-of g r) t cs s) a) (sym is)
-              (into-body (later-then (p .later) (filled .later))
+              (into-body (preserves-then (p .made-stays) (filled .made-stays))
               (λ q l d. kept-then (p .kept q (omega arith) d) (filled .kept q (omega arith))) same
               (omega arith)
               (into-shown valid here (filled .state) (filled .cases-shown) (record { parent = unready₃; claimed = claimed₃ })
@@ -368,7 +368,7 @@ module _ (g : Graph) (valid : Valid g) (few : length (g .regions) ≤ 32) where
   pub inst-shown : {w w′ : List ℕ} {r : ℕ} {a : Made} → ByControlInst g w r w′ a → (s : NestState) (cs : List MaybeClaimedRegion)
       → ShowsState g w s → cells-in-all g w ≤ most-cells-in-all → r < length (g .regions) → region-kind w r ≡ kind-in-progress
       → length cs ≡ length (edges-of (region g r .terminator))
-      → ((k : ℕ) → k < length (edges-of (region g r .terminator)) → TakenAs g w r k (edge-of g r k) (getD cs k no-case))
+      → ((k : ℕ) → k < length (edges-of (region g r .terminator)) → AnsweredAs g w r k (edge-of g r k) (getD cs k no-case))
       → ((k : ℕ) (c : ClaimedRegion) → getD cs k no-case ≡ ok c → c .origin ≡ r → ⊥)
       → ((i j : ℕ) (c d : ClaimedRegion) → i < j → getD cs i no-case ≡ ok c → getD cs j no-case ≡ ok d → c .origin ≡ d .origin → ⊥)
       → Inv (world g valid) s → ((q : ℕ) → totals (edges-to q) cs ≤ largest) → totals edgeless cs ≡ 0
@@ -383,7 +383,7 @@ module _ (g : Graph) (valid : Valid g) (few : length (g .regions) ≤ 32) where
           let more = p .total in
           rw f
           (done-body few here {x = region-body (blocks-of g r) []} p (ap (λ t. by-control-inst g (blocks-of g r) t cs s) (sym e)) (p .state)
-          (p .body) (later-same g w₂) (λ q l d h. kept-same w₂ q) (rw f at same) (omega arith))
+          (p .body) (preserves-same g w₂) (λ q l d h. kept-same w₂ q) (rw f at same) (omega arith))
       by p (at-return e f) same = rw f (at-return-shown few here p busy (omega arith) valid (sym e) (rw f at same))
       by p (at-exit e x) same = at-exit-shown few here p busy (omega arith) (sym e) x same
       by p (at-branch e x) same = at-branch-shown few here p busy (omega arith) valid cs size each other apart (sym e) x same

@@ -37,9 +37,9 @@ use Rattle.state_shown.specs.laws.Stores.{word-changes, word-there, word-apart}
 use Rattle.state_shown.specs.Sets.{shows-region}
 use Rattle.state_shown.specs.laws.Finds.{Finds, found, none-found, finds}
 use Rattle.state_shown.specs.States.{ShowsState, ShowsBody, is-in-progress, is-ready}
-use Rattle.state_shown.specs.Kept.{Later, KeptRegion}
-use Rattle.state_shown.specs.laws.RegionsKept.{later-then, set-stays, kept-then}
-use Rattle.state_shown.specs.laws.RegionSteps.{later-by, kept-by, bundles-same, word-concerns}
+use Rattle.state_shown.specs.Kept.{PreservesMade, KeptRegion}
+use Rattle.state_shown.specs.laws.RegionsKept.{preserves-then, set-stays, kept-then}
+use Rattle.state_shown.specs.laws.RegionSteps.{preserves-by, kept-by, bundles-same, word-concerns}
 use Rattle.state_shown.specs.laws.RegionSteps.{concerns-states, state-stays}
 use Rattle.state_shown.specs.laws.RegionSteps.{kind-set, Concerns, MakesNothing}
 use Rattle.cfg_regions.specs.ByState.{backedge-at}
@@ -167,7 +167,7 @@ pub record OfBody (k : Section) : Type 0 where
 
 -- Only region r's state changes.
 pub record Beside (g : Graph) (r : ℕ) (w w′ : List ℕ) : Type 0 where
-  pub later : Later g w w′
+  pub made-stays : PreservesMade g w w′
   pub kinds-stay : (q : ℕ) → (q ≡ r → ⊥) → region-kind w′ q ≡ region-kind w q
   pub regions-stay : (q : ℕ) → q < length (g .regions) → (q ≡ r → ⊥) → KeptRegion w w′ q
 
@@ -175,17 +175,18 @@ pub beside-kind : (g : Graph) (w : List ℕ) (r x : ℕ) → Beside g r w (store
 beside-kind g w r x =
     let changes = word-changes kinds no-total w (omega arith) r x in
     record {
-      later = later-by changes (omega arith) g;
+      made-stays = preserves-by changes (omega arith) g;
       kinds-stay = λ q d. word-apart w kinds r x kinds q d;
       regions-stay = λ q l d. kept-by changes (omega arith) q;
     }
 
 -- From a region that begins to one that is Ready: what others hold is as it was.
-pub region-unharmed : {g : Graph} {r : ℕ} {w w₁ w₃ w′ : List ℕ} → (Occupied w r → ⊥) → Beside g r w w₁ → Around g r w₁ w₃ → Beside g r w₃ w′
-    → Unharmed g w w′
-region-unharmed {r} {w} {w₁} {w₃} free a b c =
+pub region-preserves : {g : Graph} {r : ℕ} {w w₁ w₃ w′ : List ℕ} → (Occupied w r → ⊥) → Beside g r w w₁ → PreservesOthers g r w₁ w₃
+    → Beside g r w₃ w′
+    → PreservesOccupied g w w′
+region-preserves {r} {w} {w₁} {w₃} free a b c =
     record {
-      later = later-then (a .later) (later-then (b .later) (c .later));
+      made-stays = preserves-then (a .made-stays) (preserves-then (b .made-stays) (c .made-stays));
       kinds-stay = λ q h. c .kinds-stay q (other q h) ∙ b .kinds-stay q (first q h) ∙ a .kinds-stay q (other q h);
       regions-stay = λ q l h. kept-then (a .regions-stay q l (other q h))
           (kept-then (b .regions-stay q l (other q h) (first q h)) (c .regions-stay q l (other q h)));
@@ -202,7 +203,7 @@ pub body-with : {g : Graph} (r : ℕ) (x : Body) (k : Section) (w : List ℕ) (y
     → ShowsBody g (stored w k r y) r x
 body-with {g} r x k w y o b =
     let changes = word-changes k no-total w (o .not-head) r y in
-    let later = later-by changes (o .nothing) g in
+    let made-stays = preserves-by changes (o .nothing) g in
     let starts : word (stored w k r y) set-starts r ≡ word w set-starts r = ap (λ l. getD l r 0)
     (changes .others set-starts (o .not-starts) (omega arith)) in
     let lengths : word (stored w k r y) set-lengths r ≡ word w set-lengths r =
@@ -210,9 +211,9 @@ body-with {g} r x k w y o b =
     let handle : word (stored w k r y) children r ≡ word w children r = ap (λ l. getD l r 0)
     (changes .others children (o .not-children) (omega arith)) in
     record {
-      nodes = rw handle (later .nodes-stay (b .nodes));
+      nodes = rw handle (made-stays .nodes-stay (b .nodes));
       set = rw (starts, lengths)
-          (set-stays later (λ i h. bundles-same (changes .others bundles (o .not-bundles) (omega arith)) (word w set-starts r + i))
+          (set-stays made-stays (λ i h. bundles-same (changes .others bundles (o .not-bundles) (omega arith)) (word w set-starts r + i))
           (b .set));
     }
 
@@ -249,7 +250,7 @@ module _ {g : Graph} {w : List ℕ} {s : NestState} (shown : ShowsState g w s) (
   pub ready-shown : ShowsState g (made-ready w r) (with-state s r (ready (count-to r d) (x .children) d))
   ready-shown =
       let room = shown .tables .size in
-      let st : ShowsState g w₁ s = state-stays (first .later) (concerns-states first few (λ e. absurd (omega arith))) (first .tables)
+      let st : ShowsState g w₁ s = state-stays (first .made-stays) (concerns-states first few (λ e. absurd (omega arith))) (first .tables)
       shown in
       let b₁ = body-with r x backedges w n (omega arith) body in
       let b₂ = body-with r x kinds w₁ kind-ready (omega arith) b₁ in
@@ -264,7 +265,7 @@ module _ {g : Graph} {w : List ℕ} {s : NestState} (shown : ShowsState g w s) (
   ready-beside =
       let b = beside-kind g w₁ r 2 in
       record {
-        later = later-then (first .later) (b .later);
+        made-stays = preserves-then (first .made-stays) (b .made-stays);
         kinds-stay = λ q d. b .kinds-stay q d ∙ first .same-kinds q;
         regions-stay = λ q l d. kept-then (first .others q (let many = few in omega arith) d) (b .regions-stay q l d);
       }

@@ -19,7 +19,7 @@ use Rattle.state_shown.specs.Sets.{no-bundle}
 use Rattle.state_shown.specs.States.{ShowsState, ShowsBody, ShowsClaimed, no-case}
 use Rattle.state_shown.specs.laws.SetStores.{only-word-same}
 use Rattle.state_shown.specs.laws.Finds.{bundle-in}
-use Rattle.cfg_bundles.specs.Words.{split-filled}
+use Rattle.cfg_bundles.specs.EdgesAndCases.{split-filled}
 use Rattle.cfg_bundles.specs.laws.shown.Targets.{condition-in-shown}
 use Rattle.cfg_cases.specs.laws.SplitFilled.{SplitShown, split-filled-shown}
 use Rattle.cfg_select_nodes.specs.laws.shown.SelectsShown.{shows-lazy}
@@ -65,15 +65,15 @@ module _ (g : Graph) (valid : Valid g) (few : length (g .regions) ≤ 32) where
       let under : ShowsCondition w (own-condition w r i) (nesting.condition-in d (y .bundle)) =
       rw (at, bundle) (condition-in-shown (body .set) i (omega arith)) in
       let own : ShowsChildren g w₁ (word w₁ children r) (x .children) =
-      rw (only-word-same (filled .only) children (omega arith) r) (filled .later .nodes-stay (body .nodes)) in
-      into-body (filled .later) (λ q l e. filled .kept q (omega arith) e) (resolve-kinds (resolves m)) (omega arith)
+      rw (only-word-same (filled .only) children (omega arith) r) (filled .made-stays .nodes-stay (body .nodes)) in
+      into-body (filled .made-stays) (λ q l e. filled .kept q (omega arith) e) (resolve-kinds (resolves m)) (omega arith)
       (into-shown valid here (filled .state) (filled .cases-shown)
       (record {
         parent = λ e. unready (sym (same-kinds r) ∙ e);
         claimed = λ j h z e.
             (same-kinds (z .origin) ∙ in-cases c (y .others) (claimed .kind) j z e, not-in-cases c (y .others) not-own j z e);
       })
-      (chains-of g valid inv) (edges-bound s cases most none) (shows-lazy (filled .later .conditions-stay under))
+      (chains-of g valid inv) (edges-bound s cases most none) (shows-lazy (filled .made-stays .conditions-stay under))
       (shape-bool refl refl) own (omega arith) m)
     where
       in-cases : (c : ClaimedRegion) (d : nesting.DeferredEdgeBundleSet) → region-kind w (c .origin) ≡ kind-claimed

@@ -30,7 +30,7 @@ use Rattle.state_shown.specs.laws.Finds.{bundle-in}
 use Rattle.state_shown.specs.States.{ShowsState, ShowsOwnSet, ShowsClaimed}
 use Rattle.cfg_claims.specs.SplitOut as split
 use Rattle.cfg_regions.specs.ByInst.{own-bundle}
-use Rattle.cfg.specs.laws.shown.Shows.{Occupied, unharmed-then, cells-in-all}
+use Rattle.cfg.specs.laws.shown.Shows.{Occupied, occupied-then, cells-in-all}
 
 -- ---- Bundle i of region r's set, in words.
 pub own-bundle-is : {g : Graph} {w : List ℕ} (r : ℕ) {d : DeferredEdgeBundleSet} → ShowsOwnSet g w r d → (i : ℕ) → i < length d
@@ -176,20 +176,21 @@ module _ (g : Graph) (valid : Valid g) (fuel : ℕ) where
 
     pub passed-waiting : {w w₁ w′ : List ℕ} {t : ℕ} → this .target ≡ to-region t → {s₁ : NestState}
         → claim t (this .accumulated-count) (this .target-inputs) s ≡ done none s₁ → ((q : ℕ) → Occupied w q → Occupied w₁ q)
-        → Unharmed g w w₁
+        → PreservesOccupied g w w₁
         → cells-in-all g w₁ ≤ cells-in-all g w
         → {a : split.SplitOut} → ScanShows g w₁ w′ d (scan-from (suc i) s₁) a → ScanShows g w w′ d (scan-from i s) a
     unfolding step-of
     passed-waiting {t} e p on u c (shows-nothing {s′} q st v k) =
-        shows-nothing {s′ = s′} (scan-step (to-region t) e ∙ rw (p, q)) st (unharmed-then u v) (omega arith)
+        shows-nothing {s′ = s′} (scan-step (to-region t) e ∙ rw (p, q)) st (occupied-then u v) (omega arith)
     passed-waiting {t} e p on u c (shows-split {i = j} {t = z} {y} {s′} q st l b o x cl g₁ n f v k) =
         shows-split {i = j} {t = z} {y = y} {s′ = s′} (scan-step (to-region t) e ∙ rw (p, q)) st l b o x cl g₁ n
-        (λ hd. f (on z hd)) (unharmed-then u v) (omega arith)
+        (λ hd. f (on z hd)) (occupied-then u v) (omega arith)
     passed-waiting {t} e p on u c (refuses-scan {m} {x} q) = refuses-scan {m = m} {x = x} (scan-step (to-region t) e ∙ rw (p, q))
 
     pub scan-claims : {w w′ : List ℕ} {t : ℕ} → this .target ≡ to-region t → {c : ClaimedRegion} {s′ : NestState}
         → claim t (this .accumulated-count) (this .target-inputs) s ≡ done (some c) s′ → ShowsState g w′ s′ → ShowsClaimed g w′ c
-        → c .origin ≡ t → c .structured-body-inputs ≡ this .target-inputs → (Occupied w t → ⊥) → Unharmed g w w′ → cells-in-all g w′ + 4 ≤
+        → c .origin ≡ t → c .structured-body-inputs ≡ this .target-inputs → (Occupied w t → ⊥) → PreservesOccupied g w w′
+        → cells-in-all g w′ + 4 ≤
         cells-in-all g w
         → ScanShows g w w′ d (scan-from i s) (split.At i)
     unfolding step-of

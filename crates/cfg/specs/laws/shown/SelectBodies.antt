@@ -12,8 +12,8 @@ use Rattle.follows.specs.counting.Totals.{edge-total, edges-to, totals, edgeles
 use Rattle.state_words.specs.Sections.{word, head}
 use Rattle.state_words.specs.declared.defined.Made.{Made}
 use Rattle.state_shown.specs.Front.{SameKinds}
-use Rattle.state_shown.specs.Kept.{Later, KeptRegion}
-use Rattle.state_shown.specs.laws.RegionsKept.{later-then, kept-then}
+use Rattle.state_shown.specs.Kept.{PreservesMade, KeptRegion}
+use Rattle.state_shown.specs.laws.RegionsKept.{preserves-then, kept-then}
 use Rattle.cfg_merging.specs.laws.shown.TargetsShown.{edges-of-set, edges-of-cases}
 use Rattle.cfg_merging.specs.laws.shown.RewritingShown.{bundle-found, case-found, cases-after}
 use Rattle.cfg_select_nodes.specs.laws.shown.RegionsShown.{ShowsMade, shows-made, shows-refused}
@@ -70,17 +70,18 @@ edges-bound s cs most none (to-region q) = rw (same-after s (to-region q) cs, ca
 edges-bound s cs most none to-return = rw (same-after s to-return cs, cases-return cs none) (omega arith)
 
 -- ---- From w to w₁ the cases were filled, from w₁ to w′ the select made.
-pub into-body : {g : Graph} {w w₁ w′ : List ℕ} {r more : ℕ} {cs : List MaybeClaimedRegion} {b : StepAnswer Body} {a : Made} → Later g w w₁
+pub into-body : {g : Graph} {w w₁ w′ : List ℕ} {r more : ℕ} {cs : List MaybeClaimedRegion} {b : StepAnswer Body} {a : Made}
+    → PreservesMade g w w₁
     → ((q : ℕ) → q < length (g .regions) → (q ≡ r → ⊥) → KeptRegion w w₁ q) → SameKinds w w′
     → word w₁ head cells-at + (length cs + 2) ≤ word w head cells-at + more → ShowsMade (IntoDone g r cs w₁ w′) a b
     → BodyShows g w w′ r cs more b a
-into-body {g} {w} {w′} later kept same room (shows-made {a = x} {s} m) =
+into-body {g} {w} {w′} made-stays kept same room (shows-made {a = x} {s} m) =
     let owed = owed-stays g w w′ (λ q h. ap (λ l. getD l q 0) (same .kinds-words)) in
     let total = m .total in
     shows-body {x = x} {s′ = s} refl (m .state) (m .body)
     (record {
-      later = later-then later (m .later);
+      made-stays = preserves-then made-stays (m .made-stays);
       kinds-stay = λ q h. ap (λ l. getD l q 0) (same .kinds-words);
       regions-stay = λ q l d f h. kept-then (kept q l d) (m .kept q l d f);
     }) (omega arith)
-into-body later kept same room shows-refused = refuses-body refl
+into-body made-stays kept same room shows-refused = refuses-body refl

@@ -25,7 +25,7 @@ use Rattle.follows.specs.counting.Attempts.{counting}
 use Rattle.state_words.specs.Sections.{section, word, stored, kinds, head, start, size, used}
 use Rattle.state_words.specs.laws.Apart.{section-stored}
 use Rattle.state_shown.specs.laws.Stores.{part-length}
-use Rattle.state_regions.specs.RegionTables.{taken-word}
+use Rattle.state_regions.specs.RegionTables.{target-answer}
 use Rattle.state_shown.specs.Sets.{no-bundle}
 use Rattle.state_shown.specs.States.{ShowsState, ShowsBody, ShowsClaimed, no-case}
 use Rattle.state_words.specs.declared.defined.Made.{Made}
@@ -34,8 +34,8 @@ use Rattle.store.specs.declared.Checked.{Checked}
 use Rattle.store.specs.declared.Checked.the-variants as step
 use Rattle.cfg_claims.specs.SplitOut as split
 use Rattle.state_shown.specs.laws.RegionSteps.{Concerns}
-use Rattle.state_shown.specs.Kept.{Later, KeptRegion}
-use Rattle.state_shown.specs.laws.RegionsKept.{later-same, later-then, kept-same, kept-then}
+use Rattle.state_shown.specs.Kept.{PreservesMade, KeptRegion}
+use Rattle.state_shown.specs.laws.RegionsKept.{preserves-same, preserves-then, kept-same, kept-then}
 use Rattle.cfg_regions.specs.declared.claim.Claim.{Claim}
 use Rattle.cfg_regions.specs.declared.claim.Claim.the-variants.{Claimed, Unclaimed, Refused}
 use Rattle.state_words.specs.Rows.{cells-at, kind-claimed, kind-in-progress, kind-not-begun, level-claimed, level-deferred}
@@ -46,53 +46,53 @@ use Rattle.state_words.specs.Rows.{region-kind}
 abbrev pub Occupied : List ℕ → ℕ → Type 0
 Occupied w q = (region-kind w q ≡ kind-in-progress) ⊎ (region-kind w q ≡ kind-claimed)
 
-pub record Unharmed (g : Graph) (w w′ : List ℕ) : Type 0 where
-  pub later : Later g w w′
+pub record PreservesOccupied (g : Graph) (w w′ : List ℕ) : Type 0 where
+  pub made-stays : PreservesMade g w w′
   pub kinds-stay : (q : ℕ) → Occupied w q → region-kind w′ q ≡ region-kind w q
   pub regions-stay : (q : ℕ) → q < length (g .regions) → Occupied w q → KeptRegion w w′ q
 
-pub unharmed-same : (g : Graph) (w : List ℕ) → Unharmed g w w
-unharmed-same g w = record { later = later-same g w; kinds-stay = λ q h. refl; regions-stay = λ q l h. kept-same w q }
+pub occupied-same : (g : Graph) (w : List ℕ) → PreservesOccupied g w w
+occupied-same g w = record { made-stays = preserves-same g w; kinds-stay = λ q h. refl; regions-stay = λ q l h. kept-same w q }
 
-pub still-occupied : {g : Graph} {w w′ : List ℕ} → Unharmed g w w′ → (q : ℕ) → Occupied w q → Occupied w′ q
+pub still-occupied : {g : Graph} {w w′ : List ℕ} → PreservesOccupied g w w′ → (q : ℕ) → Occupied w q → Occupied w′ q
 still-occupied u q (inl e) = inl (u .kinds-stay q (inl e) ∙ e)
 still-occupied u q (inr e) = inr (u .kinds-stay q (inr e) ∙ e)
 
-pub unharmed-then : {g : Graph} {w w₁ w₂ : List ℕ} → Unharmed g w w₁ → Unharmed g w₁ w₂ → Unharmed g w w₂
-unharmed-then a b =
+pub occupied-then : {g : Graph} {w w₁ w₂ : List ℕ} → PreservesOccupied g w w₁ → PreservesOccupied g w₁ w₂ → PreservesOccupied g w w₂
+occupied-then a b =
     record {
-      later = later-then (a .later) (b .later);
+      made-stays = preserves-then (a .made-stays) (b .made-stays);
       kinds-stay = λ q h. b .kinds-stay q (still-occupied a q h) ∙ a .kinds-stay q h;
       regions-stay = λ q l h. kept-then (a .regions-stay q l h) (b .regions-stay q l (still-occupied a q h));
     }
 
 -- A step of region r's own: what other regions have stays.
-pub record Around (g : Graph) (r : ℕ) (w w′ : List ℕ) : Type 0 where
-  pub later : Later g w w′
+pub record PreservesOthers (g : Graph) (r : ℕ) (w w′ : List ℕ) : Type 0 where
+  pub made-stays : PreservesMade g w w′
   pub kinds-stay : (q : ℕ) → Occupied w q → region-kind w′ q ≡ region-kind w q
   pub regions-stay : (q : ℕ) → q < length (g .regions) → (q ≡ r → ⊥) → Occupied w q → KeptRegion w w′ q
 
-pub around-same : (g : Graph) (r : ℕ) (w : List ℕ) → Around g r w w
-around-same g r w = record { later = later-same g w; kinds-stay = λ q h. refl; regions-stay = λ q l d h. kept-same w q }
+pub others-same : (g : Graph) (r : ℕ) (w : List ℕ) → PreservesOthers g r w w
+others-same g r w = record { made-stays = preserves-same g w; kinds-stay = λ q h. refl; regions-stay = λ q l d h. kept-same w q }
 
-occupied-around : {g : Graph} {r : ℕ} {w w′ : List ℕ} → Around g r w w′ → (q : ℕ) → Occupied w q → Occupied w′ q
-occupied-around u q (inl e) = inl (u .kinds-stay q (inl e) ∙ e)
-occupied-around u q (inr e) = inr (u .kinds-stay q (inr e) ∙ e)
+still-occupied-others : {g : Graph} {r : ℕ} {w w′ : List ℕ} → PreservesOthers g r w w′ → (q : ℕ) → Occupied w q → Occupied w′ q
+still-occupied-others u q (inl e) = inl (u .kinds-stay q (inl e) ∙ e)
+still-occupied-others u q (inr e) = inr (u .kinds-stay q (inr e) ∙ e)
 
-pub around-then : {g : Graph} {r : ℕ} {w w₁ w₂ : List ℕ} → Around g r w w₁ → Around g r w₁ w₂ → Around g r w w₂
-around-then a b =
+pub others-then : {g : Graph} {r : ℕ} {w w₁ w₂ : List ℕ} → PreservesOthers g r w w₁ → PreservesOthers g r w₁ w₂ → PreservesOthers g r w w₂
+others-then a b =
     record {
-      later = later-then (a .later) (b .later);
-      kinds-stay = λ q h. b .kinds-stay q (occupied-around a q h) ∙ a .kinds-stay q h;
-      regions-stay = λ q l d h. kept-then (a .regions-stay q l d h) (b .regions-stay q l d (occupied-around a q h));
+      made-stays = preserves-then (a .made-stays) (b .made-stays);
+      kinds-stay = λ q h. b .kinds-stay q (still-occupied-others a q h) ∙ a .kinds-stay q h;
+      regions-stay = λ q l d h. kept-then (a .regions-stay q l d h) (b .regions-stay q l d (still-occupied-others a q h));
     }
 
-pub unharmed-around : {g : Graph} (r : ℕ) {w w′ : List ℕ} → Unharmed g w w′ → Around g r w w′
-unharmed-around r u = record { later = u .later; kinds-stay = u .kinds-stay; regions-stay = λ q l d h. u .regions-stay q l h }
+pub others-of-occupied : {g : Graph} (r : ℕ) {w w′ : List ℕ} → PreservesOccupied g w w′ → PreservesOthers g r w w′
+others-of-occupied r u = record { made-stays = u .made-stays; kinds-stay = u .kinds-stay; regions-stay = λ q l d h. u .regions-stay q l h }
 
-pub concerns-around : {g : Graph} → length (g .regions) ≤ 32 → {r : ℕ} {w w′ : List ℕ} → Concerns g r w w′ → Around g r w w′
-concerns-around few c =
-    record { later = c .later; kinds-stay = λ q h. c .same-kinds q; regions-stay = λ q l d h. c .others q (omega arith) d }
+pub concerns-others : {g : Graph} → length (g .regions) ≤ 32 → {r : ℕ} {w w′ : List ℕ} → Concerns g r w w′ → PreservesOthers g r w w′
+concerns-others few c =
+    record { made-stays = c .made-stays; kinds-stay = λ q h. c .same-kinds q; regions-stay = λ q l d h. c .others q (omega arith) d }
 
 -- ---- Cells, with those that may still be asked for: 11 by a region that begins, 9 by one that is claimed.
 abbrev owe : ℕ → ℕ
@@ -182,18 +182,19 @@ module _ (g : Graph) (valid : Valid g) where
 -- ---- Answers shown. b is what the definition answers.
 pub data ClaimShows (g : Graph) (w w′ : List ℕ) (r : ℕ) (inputs : List Value) (b : StepAnswer (Option ClaimedRegion)) : Claim → Type 0 where
   shows-claimed : {c : ClaimedRegion} {s′ : NestState} → b ≡ done (some c) s′ → ShowsState g w′ s′ → ShowsClaimed g w′ c → c .origin ≡ r
-      → c .structured-body-inputs ≡ inputs → (Occupied w r → ⊥) → Unharmed g w w′ → cells-in-all g w′ + 4 ≤ cells-in-all g w
+      → c .structured-body-inputs ≡ inputs → (Occupied w r → ⊥) → PreservesOccupied g w w′ → cells-in-all g w′ + 4 ≤ cells-in-all g w
       → ClaimShows g w w′ r inputs b Claimed
-  shows-unclaimed : {s′ : NestState} → b ≡ done none s′ → ShowsState g w′ s′ → Unharmed g w w′ → cells-in-all g w′ ≤ cells-in-all g w
+  shows-unclaimed : {s′ : NestState} → b ≡ done none s′ → ShowsState g w′ s′ → PreservesOccupied g w w′
+      → cells-in-all g w′ ≤ cells-in-all g w
       → ClaimShows g w w′ r inputs b Unclaimed
   shows-refused : {m x : ℕ} → b ≡ turned-away m x → ClaimShows g w w′ r inputs b (Refused m x)
 
--- How region r's target at place j was taken, which is that of edge e.
-pub data TakenAs (g : Graph) (w : List ℕ) (r j : ℕ) (e : Edge) (m : MaybeClaimedRegion) : Type 0 where
-  was-claimed : {c : ClaimedRegion} → m ≡ ok c → taken-word w r j ≡ level-claimed → ShowsClaimed g w c → c .origin ≡ e .target
-      → c .structured-body-inputs ≡ e .inputs → TakenAs g w r j e m
-  was-deferred : m ≡ defer-edge e → taken-word w r j ≡ level-deferred → TakenAs g w r j e m
-  was-nothing : m ≡ err [] → taken-word w r j ≡ level-unreachable → TakenAs g w r j e m
+-- How region r's target at place j was answered, which is that of edge e.
+pub data AnsweredAs (g : Graph) (w : List ℕ) (r j : ℕ) (e : Edge) (m : MaybeClaimedRegion) : Type 0 where
+  was-claimed : {c : ClaimedRegion} → m ≡ ok c → target-answer w r j ≡ level-claimed → ShowsClaimed g w c → c .origin ≡ e .target
+      → c .structured-body-inputs ≡ e .inputs → AnsweredAs g w r j e m
+  was-deferred : m ≡ defer-edge e → target-answer w r j ≡ level-deferred → AnsweredAs g w r j e m
+  was-nothing : m ≡ err [] → target-answer w r j ≡ level-unreachable → AnsweredAs g w r j e m
 
 -- The regions that were claimed are different ones, and none was occupied before.
 pub record NewlyClaimed (w : List ℕ) (cs : List MaybeClaimedRegion) : Type 0 where
@@ -204,55 +205,58 @@ pub record NewlyClaimed (w : List ℕ) (cs : List MaybeClaimedRegion) : Type 0 w
 pub data TargetsShow (g : Graph) (w w′ : List ℕ) (r j : ℕ) (es : List Edge) (b : StepAnswer (List MaybeClaimedRegion)) :
     Checked → Type 0 where
   shows-targets : {cs : List MaybeClaimedRegion} {s′ : NestState} → b ≡ done cs s′ → ShowsState g w′ s′ → length cs ≡ length es
-      → ((k : ℕ) → k < length es → TakenAs g w′ r (j + k) (getD es k no-edge) (getD cs k no-case)) → NewlyClaimed w cs → Around g r w w′
-      → ((k : ℕ) → k < j → taken-word w′ r k ≡ taken-word w r k) → cells-in-all g w′ ≤ cells-in-all g w
+      → ((k : ℕ) → k < length es → AnsweredAs g w′ r (j + k) (getD es k no-edge) (getD cs k no-case)) → NewlyClaimed w cs
+      → PreservesOthers g r w w′
+      → ((k : ℕ) → k < j → target-answer w′ r k ≡ target-answer w r k) → cells-in-all g w′ ≤ cells-in-all g w
       → TargetsShow g w w′ r j es b step.Right
   refuses-targets : {m x : ℕ} → b ≡ turned-away m x → TargetsShow g w w′ r j es b (step.Refused m x)
 
 -- A step of region r's own that takes the claimed regions of these cases: what other regions have stays.
-pub record AroundBut (g : Graph) (r : ℕ) (cs : List MaybeClaimedRegion) (w w′ : List ℕ) : Type 0 where
-  pub later : Later g w w′
+pub record PreservesOthersBut (g : Graph) (r : ℕ) (cs : List MaybeClaimedRegion) (w w′ : List ℕ) : Type 0 where
+  pub made-stays : PreservesMade g w w′
   pub kinds-stay : (q : ℕ) → Occupied w q → region-kind w′ q ≡ region-kind w q
   pub regions-stay : (q : ℕ) → q < length (g .regions) → (q ≡ r → ⊥)
       → ((j : ℕ) (c : ClaimedRegion) → j < length cs → getD cs j no-case ≡ ok c → q ≡ c .origin → ⊥) → Occupied w q → KeptRegion w w′ q
 
 -- The regions that it takes were not occupied before.
-pub around-but : {g : Graph} {r : ℕ} {cs : List MaybeClaimedRegion} {w w₁ w₂ : List ℕ} → Around g r w w₁ → AroundBut g r cs w₁ w₂
-    → ((j : ℕ) (c : ClaimedRegion) → getD cs j no-case ≡ ok c → Occupied w (c .origin) → ⊥) → Around g r w w₂
-around-but {w} a b free =
+pub others-but : {g : Graph} {r : ℕ} {cs : List MaybeClaimedRegion} {w w₁ w₂ : List ℕ} → PreservesOthers g r w w₁
+    → PreservesOthersBut g r cs w₁ w₂
+    → ((j : ℕ) (c : ClaimedRegion) → getD cs j no-case ≡ ok c → Occupied w (c .origin) → ⊥) → PreservesOthers g r w w₂
+others-but {w} a b free =
     record {
-      later = later-then (a .later) (b .later);
-      kinds-stay = λ q h. b .kinds-stay q (occupied-around a q h) ∙ a .kinds-stay q h;
+      made-stays = preserves-then (a .made-stays) (b .made-stays);
+      kinds-stay = λ q h. b .kinds-stay q (still-occupied-others a q h) ∙ a .kinds-stay q h;
       regions-stay = λ q l d h. kept-then (a .regions-stay q l d h)
-          (b .regions-stay q l d (λ j c i p o. free j c p (subst (λ z. Occupied w z) o h)) (occupied-around a q h));
+          (b .regions-stay q l d (λ j c i p o. free j c p (subst (λ z. Occupied w z) o h)) (still-occupied-others a q h));
     }
 
 pub data BodyShows (g : Graph) (w w′ : List ℕ) (r : ℕ) (cs : List MaybeClaimedRegion) (more : ℕ) (b : StepAnswer Body) : Made → Type 0 where
-  shows-body : {x : Body} {s′ : NestState} → b ≡ done x s′ → ShowsState g w′ s′ → ShowsBody g w′ r x → AroundBut g r cs w w′
+  shows-body : {x : Body} {s′ : NestState} → b ≡ done x s′ → ShowsState g w′ s′ → ShowsBody g w′ r x → PreservesOthersBut g r cs w w′
       → cells-in-all g w′ ≤ cells-in-all g w + more → BodyShows g w w′ r cs more b made.Done
   refuses-body : b ≡ turned-away 9 0 → BodyShows g w w′ r cs more b made.Full
 
 -- A scan of the set d.
 pub data ScanShows (g : Graph) (w w′ : List ℕ) (d : DeferredEdgeBundleSet) (b : StepAnswer (Option SplitOut)) : split.SplitOut → Type 0
   where
-    shows-nothing : {s′ : NestState} → b ≡ done none s′ → ShowsState g w′ s′ → Unharmed g w w′ → cells-in-all g w′ ≤ cells-in-all g w
+    shows-nothing : {s′ : NestState} → b ≡ done none s′ → ShowsState g w′ s′ → PreservesOccupied g w w′
+        → cells-in-all g w′ ≤ cells-in-all g w
         → ScanShows g w w′ d b split.Nothing
     shows-split : {i t : ℕ} {y : SplitOut} {s′ : NestState} → b ≡ done (some y) s′ → ShowsState g w′ s′ → i < length d
         → y .bundle ≡ getD d i no-bundle → y .others ≡ take i d ++ drop (suc i) d → y .bundle .target ≡ to-region t
         → ShowsClaimed g w′ (y .claimed-region) → y .claimed-region .origin ≡ t
-        → y .claimed-region .structured-body-inputs ≡ y .bundle .target-inputs → (Occupied w t → ⊥) → Unharmed g w w′
+        → y .claimed-region .structured-body-inputs ≡ y .bundle .target-inputs → (Occupied w t → ⊥) → PreservesOccupied g w w′
         → cells-in-all g w′ + 4 ≤ cells-in-all g w
         → ScanShows g w w′ d b (split.At i)
     refuses-scan : {m x : ℕ} → b ≡ turned-away m x → ScanShows g w w′ d b (split.Refused m x)
 
 -- Turns over region r's set; and the region as a whole.
 pub data TurnsShow (g : Graph) (w w′ : List ℕ) (r : ℕ) (b : StepAnswer Body) : Checked → Type 0 where
-  shows-turns : {x : Body} {s′ : NestState} → b ≡ done x s′ → ShowsState g w′ s′ → ShowsBody g w′ r x → Around g r w w′
+  shows-turns : {x : Body} {s′ : NestState} → b ≡ done x s′ → ShowsState g w′ s′ → ShowsBody g w′ r x → PreservesOthers g r w w′
       → cells-in-all g w′ ≤ cells-in-all g w → TurnsShow g w w′ r b step.Right
   refuses-turns : {m x : ℕ} → b ≡ turned-away m x → TurnsShow g w w′ r b (step.Refused m x)
 
 pub data RegionShows (g : Graph) (w w′ : List ℕ) (b : StepAnswer Unit) : Checked → Type 0 where
-  shows-ready : {s′ : NestState} → b ≡ done tt s′ → ShowsState g w′ s′ → Unharmed g w w′ → cells-in-all g w′ ≤ cells-in-all g w
+  shows-ready : {s′ : NestState} → b ≡ done tt s′ → ShowsState g w′ s′ → PreservesOccupied g w w′ → cells-in-all g w′ ≤ cells-in-all g w
       → RegionShows g w w′ b step.Right
   refuses-region : {m x : ℕ} → b ≡ turned-away m x → RegionShows g w w′ b (step.Refused m x)
 
@@ -260,11 +264,12 @@ pub data RegionShows (g : Graph) (w w′ : List ℕ) (b : StepAnswer Unit) : Che
 module _ {g : Graph} {w w′ : List ℕ} {R : Type 0} where
   pub if-claimed : {r : ℕ} {inputs : List Value} {b : StepAnswer (Option ClaimedRegion)} → ClaimShows g w w′ r inputs b Claimed
       → ((c : ClaimedRegion) (s′ : NestState) → b ≡ done (some c) s′ → ShowsState g w′ s′ → ShowsClaimed g w′ c → c .origin ≡ r
-      → c .structured-body-inputs ≡ inputs → (Occupied w r → ⊥) → Unharmed g w w′ → cells-in-all g w′ + 4 ≤ cells-in-all g w → R) → R
+      → c .structured-body-inputs ≡ inputs → (Occupied w r → ⊥) → PreservesOccupied g w w′ → cells-in-all g w′ + 4 ≤ cells-in-all g w
+      → R) → R
   if-claimed (shows-claimed {c} {s′} p st cl o i f u k) go = go c s′ p st cl o i f u k
 
   pub if-unclaimed : {r : ℕ} {inputs : List Value} {b : StepAnswer (Option ClaimedRegion)} → ClaimShows g w w′ r inputs b Unclaimed
-      → ((s′ : NestState) → b ≡ done none s′ → ShowsState g w′ s′ → Unharmed g w w′ → cells-in-all g w′ ≤ cells-in-all g w → R) → R
+      → ((s′ : NestState) → b ≡ done none s′ → ShowsState g w′ s′ → PreservesOccupied g w w′ → cells-in-all g w′ ≤ cells-in-all g w → R) → R
   if-unclaimed (shows-unclaimed {s′} p st u k) go = go s′ p st u k
 
   pub if-refused : {r m x : ℕ} {inputs : List Value} {b : StepAnswer (Option ClaimedRegion)} → ClaimShows g w w′ r inputs b (Refused m x)
@@ -273,7 +278,8 @@ module _ {g : Graph} {w w′ : List ℕ} {R : Type 0} where
 
   pub if-targets : {r j : ℕ} {es : List Edge} {b : StepAnswer (List MaybeClaimedRegion)} → TargetsShow g w w′ r j es b step.Right
       → ((cs : List MaybeClaimedRegion) (s′ : NestState) → b ≡ done cs s′ → ShowsState g w′ s′ → length cs ≡ length es
-      → ((k : ℕ) → k < length es → TakenAs g w′ r (j + k) (getD es k no-edge) (getD cs k no-case)) → NewlyClaimed w cs → Around g r w w′
+      → ((k : ℕ) → k < length es → AnsweredAs g w′ r (j + k) (getD es k no-edge) (getD cs k no-case)) → NewlyClaimed w cs
+      → PreservesOthers g r w w′
       → cells-in-all g w′ ≤ cells-in-all g w → R) → R
   if-targets (shows-targets {cs} {s′} p st n each new ar same k) go = go cs s′ p st n each new ar k
 
@@ -282,7 +288,7 @@ module _ {g : Graph} {w w′ : List ℕ} {R : Type 0} where
   if-targets-refused (refuses-targets p) go = go p
 
   pub if-body : {r : ℕ} {cs : List MaybeClaimedRegion} {more : ℕ} {b : StepAnswer Body} → BodyShows g w w′ r cs more b made.Done
-      → ((x : Body) (s′ : NestState) → b ≡ done x s′ → ShowsState g w′ s′ → ShowsBody g w′ r x → AroundBut g r cs w w′
+      → ((x : Body) (s′ : NestState) → b ≡ done x s′ → ShowsState g w′ s′ → ShowsBody g w′ r x → PreservesOthersBut g r cs w w′
       → cells-in-all g w′ ≤ cells-in-all g w + more → R) → R
   if-body (shows-body {x} {s′} p st b ar k) go = go x s′ p st b ar k
 
@@ -294,11 +300,11 @@ module _ {g : Graph} {w w′ : List ℕ} {R : Type 0} where
       → ((t : ℕ) (y : SplitOut) (s′ : NestState) → b ≡ done (some y) s′ → ShowsState g w′ s′ → i < length d → y .bundle ≡ getD d i no-bundle
       → y .others ≡ take i d ++ drop (suc i) d → y .bundle .target ≡ to-region t → ShowsClaimed g w′ (y .claimed-region)
       → y .claimed-region .origin ≡ t → y .claimed-region .structured-body-inputs ≡ y .bundle .target-inputs → (Occupied w t → ⊥)
-      → Unharmed g w w′ → cells-in-all g w′ + 4 ≤ cells-in-all g w → R) → R
+      → PreservesOccupied g w w′ → cells-in-all g w′ + 4 ≤ cells-in-all g w → R) → R
   if-split (shows-split {t} {y} {s′} p st l z o to cl origin many free u k) go = go t y s′ p st l z o to cl origin many free u k
 
   pub if-turns : {r : ℕ} {b : StepAnswer Body} → TurnsShow g w w′ r b step.Right
-      → ((x : Body) (s′ : NestState) → b ≡ done x s′ → ShowsState g w′ s′ → ShowsBody g w′ r x → Around g r w w′
+      → ((x : Body) (s′ : NestState) → b ≡ done x s′ → ShowsState g w′ s′ → ShowsBody g w′ r x → PreservesOthers g r w w′
       → cells-in-all g w′ ≤ cells-in-all g w → R) → R
   if-turns (shows-turns {x} {s′} p st b ar k) go = go x s′ p st b ar k
 
@@ -306,5 +312,5 @@ module _ {g : Graph} {w w′ : List ℕ} {R : Type 0} where
   if-turns-refused (refuses-turns p) go = go p
 
   pub if-ready : {b : StepAnswer Unit} → RegionShows g w w′ b step.Right
-      → ((s′ : NestState) → b ≡ done tt s′ → ShowsState g w′ s′ → Unharmed g w w′ → cells-in-all g w′ ≤ cells-in-all g w → R) → R
+      → ((s′ : NestState) → b ≡ done tt s′ → ShowsState g w′ s′ → PreservesOccupied g w w′ → cells-in-all g w′ ≤ cells-in-all g w → R) → R
   if-ready (shows-ready {s′} p st u k) go = go s′ p st u k

@@ -27,8 +27,8 @@ use Rattle.state_shown.specs.laws.Finds.{Finds, found, none-found, finds}
 use Rattle.state_shown.specs.States.{ShowsState, ShowsOwnSet, ShowsRegion, is-not-begun, is-in-progress, is-ready, is-claimed, ShowsClaimed}
 use Rattle.state_shown.specs.States.{ShowsBody, HasSlot}
 use Rattle.state_shown.specs.Cells.{ShowsChildren}
-use Rattle.state_shown.specs.Kept.{Later, KeptRegion}
-use Rattle.state_shown.specs.laws.RegionsKept.{later-then, kept-then}
+use Rattle.state_shown.specs.Kept.{PreservesMade, KeptRegion}
+use Rattle.state_shown.specs.laws.RegionsKept.{preserves-then, kept-then}
 use Rattle.state_shown.specs.laws.Stores.{word-there}
 use Rattle.state_shown.specs.laws.RegionSteps.{word-concerns, Concerns, concerns-states, state-stays, kind-set}
 use Rattle.cfg_loops.specs.laws.shown.ClaimedLoops.{ClaimedLoop, ShowsLoop, shows-loop, loop-refused, structurize-loop-shown}
@@ -39,7 +39,7 @@ use Rattle.cfg_regions.specs.laws.Leaves.{loops-kinds}
 use Rattle.cfg_regions.specs.ByState.{ClaimsBody, no-backedges, none-found as none-leads-back, by-loop, ClaimsByState, ready-claimed}
 use Rattle.cfg_regions.specs.ByState.{ready-waits}
 use Rattle.cfg_regions.specs.ByState.{busy-claimed, busy-waits, other-state, as-claimed, backedge-at, claim-of}
-use Rattle.cfg.specs.laws.shown.Shows.{Occupied, unharmed-same, cells-in-all, owed-stays, owed-kind}
+use Rattle.cfg.specs.laws.shown.Shows.{Occupied, occupied-same, cells-in-all, owed-stays, owed-kind}
 use Rattle.cfg.specs.laws.shown.RegionsShown.{Beside, beside-kind, body-with}
 use Rattle.state_words.specs.Rows.{cells-at, kind-claimed, kind-not-begun, kind-ready, largest, no-bundle-word, region-kind}
 use Rattle.cfg.specs.laws.shown.Shows.{most-cells-in-all}
@@ -72,7 +72,7 @@ module _ {g : Graph} {w : List ℕ} {s : NestState} (shown : ShowsState g w s) (
   claimed-state : ShowsState g w₂ (with-state s r claimed)
   claimed-state =
       let first = kind-set g w room r below 3 shown in-graph (is-claimed kind-there) in
-      state-stays (second .later) (concerns-states second few (λ e. let z = kind-there in absurd (omega arith))) (second .tables) first
+      state-stays (second .made-stays) (concerns-states second few (λ e. let z = kind-there in absurd (omega arith))) (second .tables) first
 
   claimed-kind : region-kind w₂ r ≡ kind-claimed
   claimed-kind = second .same-kinds r ∙ kind-there
@@ -86,7 +86,7 @@ module _ {g : Graph} {w : List ℕ} {s : NestState} (shown : ShowsState g w s) (
   claimed-beside =
       let b = beside-kind g w r 3 in
       record {
-        later = later-then (b .later) (second .later);
+        made-stays = preserves-then (b .made-stays) (second .made-stays);
         kinds-stay = λ q n. second .same-kinds q ∙ b .kinds-stay q n;
         regions-stay = λ q l n. kept-then (b .regions-stay q l n) (second .others q (let many = few in omega arith) n);
       }
@@ -120,11 +120,11 @@ module _ {g : Graph} {w : List ℕ} {s : NestState} (shown : ShowsState g w s) (
   free-before (inr e) = absurd (omega arith)
 
   -- Nothing of the others changes, as far as the loop.
-  unharmed-by : {w′ : List ℕ} → Later g w₂ w′ → ((q : ℕ) → region-kind w′ q ≡ region-kind w₂ q)
-      → ((q : ℕ) → HasSlot (length (g .regions)) q → (q ≡ r → ⊥) → KeptRegion w₂ w′ q) → Unharmed g w w′
-  unharmed-by later same kept =
+  occupied-by : {w′ : List ℕ} → PreservesMade g w₂ w′ → ((q : ℕ) → region-kind w′ q ≡ region-kind w₂ q)
+      → ((q : ℕ) → HasSlot (length (g .regions)) q → (q ≡ r → ⊥) → KeptRegion w₂ w′ q) → PreservesOccupied g w w′
+  occupied-by made-stays same kept =
       record {
-        later = later-then (claimed-beside .later) later;
+        made-stays = preserves-then (claimed-beside .made-stays) made-stays;
         kinds-stay = λ q h. same q ∙ claimed-beside .kinds-stay q (other q h);
         regions-stay = λ q l h.
             kept-then (claimed-beside .regions-stay q l (other q h)) (kept q (let many = few in omega arith) (other q h));
@@ -171,10 +171,10 @@ module _ (g : Graph) (valid : Valid g) (few : length (g .regions) ≤ 32) (bound
     -- A Ready region that has all its edges.
     module _ (b : ℕ) (ks : Nodes) (d : DeferredEdgeBundleSet) (is : region-kind w r ≡ kind-ready) (back : word w backedges r ≡ b)
         (nodes : ShowsChildren g w (word w children r) ks) (set : ShowsOwnSet g w r d) (ready-now : state-of s r ≡ ready b ks d) where
-      abbrev taken : NestState
-      taken = with-state s r claimed
+      abbrev now-claimed : NestState
+      now-claimed = with-state s r claimed
 
-      as-region : ClaimShows g w (as-claimed w r) r inputs (done (some (claimed-as r r inputs ks d)) taken) Claimed
+      as-region : ClaimShows g w (as-claimed w r) r inputs (done (some (claimed-as r r inputs ks d)) now-claimed) Claimed
       as-region =
           let c = claimed-cells shown few r in-graph is nodes set in
           let b = claimed-beside shown few r in-graph is nodes set in
@@ -182,7 +182,7 @@ module _ (g : Graph) (valid : Valid g) (few : length (g .regions) ≤ 32) (bound
           refl refl
           (free-before shown few r in-graph is nodes set)
           (record {
-            later = b .later;
+            made-stays = b .made-stays;
             kinds-stay = λ q h. b .kinds-stay q (λ e. free-before shown few r in-graph is nodes set (subst (λ z. Occupied w z) e h));
             regions-stay = λ q l h. b .regions-stay q l
                 (λ e. free-before shown few r in-graph is nodes set (subst (λ z. Occupied w z) e h));
@@ -210,7 +210,7 @@ module _ (g : Graph) (valid : Valid g) (few : length (g .regions) ≤ 32) (bound
       loop-from : {w′ : List ℕ} {m : Made} → StructurizesLoop r (backedge-at (as-claimed w r) r) (as-claimed w r) w′ m
           → (word (as-claimed w r) backedges r ≡ 0 → ⊥) → (backedge-at (as-claimed w r) r ≡ no-bundle-word → ⊥)
           → Finds (word (as-claimed w r) set-starts r) (to-region r) d (backedge-at (as-claimed w r) r)
-          → ClaimShows g w w′ r inputs (claim-body g r inputs ks d (backedge-of r b d) taken) (claim-of m)
+          → ClaimShows g w w′ r inputs (claim-body g r inputs ks d (backedge-of r b d) now-claimed) (claim-of m)
       unfolding exit-targets
       loop-from x more there (none-found e q) = absurd (there e)
       loop-from {w′} {m} x more there (found i at l gets to before) =
@@ -218,7 +218,7 @@ module _ (g : Graph) (valid : Valid g) (few : length (g .regions) ≤ 32) (bound
           let body = claimed-body shown few r in-graph is nodes set in
           let c = claimed-cells shown few r in-graph is nodes set in
           let counts = ready-counts g valid r b ks d bound live can ready-now in
-          let loop : ClaimedLoop g (as-claimed w r) taken r (backedge-at (as-claimed w r) r) i ks d e inputs = record {
+          let loop : ClaimedLoop g (as-claimed w r) now-claimed r (backedge-at (as-claimed w r) r) i ks d e inputs = record {
             few = few;
             shown = claimed-state shown few r in-graph is nodes set;
             in-graph = in-graph;
@@ -243,15 +243,15 @@ module _ (g : Graph) (valid : Valid g) (few : length (g .regions) ≤ 32) (bound
           let up = y .total-to in
           rw (some-edges more, gets)
           (by (y .answer)
-          (unharmed-by shown few r in-graph is nodes set (y .within .later) same (y .within .others)) (omega arith))
+          (occupied-by shown few r in-graph is nodes set (y .within .made-stays) same (y .within .others)) (omega arith))
         where
-          by : {m : Made} {v : StepAnswer (Option ClaimedRegion)} → ShowsLoop g w′ r inputs taken m v → Unharmed g w w′
+          by : {m : Made} {v : StepAnswer (Option ClaimedRegion)} → ShowsLoop g w′ r inputs now-claimed m v → PreservesOccupied g w w′
               → cells-in-all g w′ + 4 ≤ cells-in-all g w → ClaimShows g w w′ r inputs v (claim-of m)
           by (shows-loop st same cl o i) u k = shows-claimed refl st cl o i (free-before shown few r in-graph is nodes set) u k
           by loop-refused u k = shows-refused refl
 
       body-shown : {w′ : List ℕ} {a : code.Claim} → ClaimsBody g w r w′ a
-          → ClaimShows g w w′ r inputs (claim-body g r inputs ks d (backedge-of r b d) taken) a
+          → ClaimShows g w w′ r inputs (claim-body g r inputs ks d (backedge-of r b d) now-claimed) a
       body-shown (no-backedges e s) = rw (s, ap (λ k. backedge-of r k d) (sym same-backedges ∙ e)) as-region
       body-shown (none-leads-back h e s) = rw (s, some-edges h, nowhere leads-back e) as-region
         where
@@ -279,7 +279,7 @@ module _ (g : Graph) (valid : Valid g) (few : length (g .regions) ≤ 32) (bound
         go in-progress p (is-in-progress e) a w′ (ready-waits f q t) = absurd (omega arith)
         go in-progress p (is-in-progress e) a w′ (busy-claimed f q t) = rw (claim-by-state, eq-eqb m n q) (shows-refused refl)
         go in-progress p (is-in-progress e) a w′ (busy-waits f q t) =
-            rw (claim-by-state, ne-eqb m n q, t) (shows-unclaimed refl shown (unharmed-same g w) (omega arith))
+            rw (claim-by-state, ne-eqb m n q, t) (shows-unclaimed refl shown (occupied-same g w) (omega arith))
         go in-progress p (is-in-progress e) a w′ (other-state f q t) = absurd (q e)
         go claimed p (is-claimed e) a w′ (ready-claimed f q b) = absurd (omega arith)
         go claimed p (is-claimed e) a w′ (ready-waits f q t) = absurd (omega arith)
@@ -289,7 +289,7 @@ module _ (g : Graph) (valid : Valid g) (few : length (g .regions) ≤ 32) (bound
         go (ready b ks d) p (is-ready e back nodes set) a w′ (ready-claimed f q y) =
             rw (claim-by-state, eq-eqb m (n + b) (q ∙ rw back)) (body-shown b ks d e back nodes set p y)
         go (ready b ks d) p (is-ready e back nodes set) a w′ (ready-waits f q t) =
-            rw (claim-by-state, ne-eqb m (n + b) (λ z. q (z ∙ rw back)), t) (shows-unclaimed refl shown (unharmed-same g w) (omega arith))
+            rw (claim-by-state, ne-eqb m (n + b) (λ z. q (z ∙ rw back)), t) (shows-unclaimed refl shown (occupied-same g w) (omega arith))
         go (ready b ks d) p (is-ready e back nodes set) a w′ (busy-claimed f q t) = absurd (omega arith)
         go (ready b ks d) p (is-ready e back nodes set) a w′ (busy-waits f q t) = absurd (omega arith)
         go (ready b ks d) p (is-ready e back nodes set) a w′ (other-state f q t) = absurd (f e)

@@ -26,29 +26,29 @@ use Rattle.follows.specs.counting.CountScan.{aims, CaseCounted, edge-case-count
 use Rattle.follows.specs.counting.CountRegion.{claim-counted}
 use Rattle.state_words.specs.Sections.{word, levels, children, set-lengths, used}
 use Rattle.state_words.specs.laws.Apart.{section-other}
-use Rattle.state_regions.specs.RegionTables.{taken-stored, taken-word}
+use Rattle.state_regions.specs.RegionTables.{target-answer-stored, target-answer}
 use Rattle.state_shown.specs.States.{no-case}
 use Rattle.state_shown.specs.laws.RegionsKept.{claimed-stays}
 use Rattle.state_shown.specs.laws.Stores.{word-there, word-apart}
-use Rattle.state_shown.specs.laws.RegionSteps.{Concerns, taken-concerns}
+use Rattle.state_shown.specs.laws.RegionSteps.{Concerns, target-answer-concerns}
 use Rattle.store.specs.declared.Checked.{Checked}
-use Rattle.cfg.specs.laws.shown.Shows.{Occupied, around-then, concerns-around, cells-in-all, owed-stays}
+use Rattle.cfg.specs.laws.shown.Shows.{Occupied, others-then, concerns-others, cells-in-all, owed-stays}
 use Rattle.state_words.specs.Rows.{cells-at, kind-claimed, kind-in-progress, level, level-at, region-kind}
 
--- ---- How a target was taken is noted in region r's own words.
+-- ---- How a target was answered is noted in region r's own words.
 pub record Noted (g : Graph) (w w′ : List ℕ) (r j y : ℕ) : Type 0 where
   pub concerns : Concerns g r w w′
-  pub here : taken-word w′ r j ≡ y
-  pub before : (k : ℕ) → k < j → taken-word w′ r k ≡ taken-word w r k
+  pub here : target-answer w′ r j ≡ y
+  pub before : (k : ℕ) → k < j → target-answer w′ r k ≡ target-answer w r k
   pub lengths : (q : ℕ) → word w′ set-lengths q ≡ word w set-lengths q
   pub handles : (q : ℕ) → word w′ children q ≡ word w children q
 
-pub notes : (g : Graph) (w : List ℕ) (r j y : ℕ) → used ≤ length w → r < 32 → j < 8 → Noted g w (taken-stored w r j y) r j y
-unfolding taken-stored taken-word
+pub notes : (g : Graph) (w : List ℕ) (r j y : ℕ) → used ≤ length w → r < 32 → j < 8 → Noted g w (target-answer-stored w r j y) r j y
+unfolding target-answer-stored target-answer
 notes g w r j y room b c =
     rw (lt-ltb j 8 c)
     record {
-      concerns = taken-concerns g w r j y (omega arith);
+      concerns = target-answer-concerns g w r j y (omega arith);
       here = rw (lt-ltb j 8 c) (word-there w levels (level-at r j) y (omega arith) (omega arith));
       before = λ k h. let l : k < 8 = omega arith in rw (lt-ltb k 8 l)
           (word-apart w levels (level-at r j) y levels (level-at r k) (omega arith));
@@ -69,17 +69,17 @@ pub record FirstNew (w w₂ : List ℕ) (m : MaybeClaimedRegion) : Type 0 where
   pub occupied : (c : ClaimedRegion) → m ≡ ok c → Occupied w₂ (c .origin)
   pub on : (q : ℕ) → Occupied w q → Occupied w₂ q
 
--- What was taken stays so.
-pub taken-on : {g : Graph} {w w′ : List ℕ} {r j : ℕ} {e : Edge} {m : MaybeClaimedRegion} → region-kind w r ≡ kind-in-progress
-    → Around g r w w′ → taken-word w′ r j ≡ taken-word w r j → TakenAs g w r j e m → TakenAs g w′ r j e m
-taken-on {w} {w′} busy a same (was-claimed {c} p t s o i) =
+-- What was answered stays so.
+pub target-region-on : {g : Graph} {w w′ : List ℕ} {r j : ℕ} {e : Edge} {m : MaybeClaimedRegion} → region-kind w r ≡ kind-in-progress
+    → PreservesOthers g r w w′ → target-answer w′ r j ≡ target-answer w r j → AnsweredAs g w r j e m → AnsweredAs g w′ r j e m
+target-region-on {w} {w′} busy a same (was-claimed {c} p t s o i) =
     let q = c .origin in
     was-claimed p (same ∙ t)
-    (claimed-stays (a .later) (a .regions-stay q (s .in-graph) (claimed-other w busy (s .kind)) (inr (s .kind)))
+    (claimed-stays (a .made-stays) (a .regions-stay q (s .in-graph) (claimed-other w busy (s .kind)) (inr (s .kind)))
     (a .kinds-stay q (inr (s .kind))) s)
     o i
-taken-on busy a same (was-deferred p t) = was-deferred p (same ∙ t)
-taken-on busy a same (was-nothing p t) = was-nothing p (same ∙ t)
+target-region-on busy a same (was-deferred p t) = was-deferred p (same ∙ t)
+target-region-on busy a same (was-nothing p t) = was-nothing p (same ∙ t)
 
 module _ (g : Graph) (valid : Valid g) (fuel : ℕ) where
   abbrev claim : Claim
@@ -115,34 +115,34 @@ module _ (g : Graph) (valid : Valid g) (fuel : ℕ) where
       }
 
   module _ (w : List ℕ) {w₁ w₂ : List ℕ} {r j y : ℕ} (few : length (g .regions) ≤ 32)
-      (busy : region-kind w r ≡ kind-in-progress) (noted : Noted g w₁ w₂ r j y) (around : Around g r w w₁)
+      (busy : region-kind w r ≡ kind-in-progress) (noted : Noted g w₁ w₂ r j y) (preserves-others : PreservesOthers g r w w₁)
       (levels-same : (k : ℕ) → k < 8 → level w₁ r k ≡ level w r k) where
     busy₁ : region-kind w₁ r ≡ kind-in-progress
-    busy₁ = around .kinds-stay r (inl busy) ∙ busy
+    busy₁ = preserves-others .kinds-stay r (inl busy) ∙ busy
 
     busy₂ : region-kind w₂ r ≡ kind-in-progress
     busy₂ = noted .concerns .same-kinds r ∙ busy₁
 
-    kept-before : (k : ℕ) → k < j → j < 8 → taken-word w₂ r k ≡ taken-word w r k
-    unfolding taken-word
+    kept-before : (k : ℕ) → k < j → j < 8 → target-answer w₂ r k ≡ target-answer w r k
+    unfolding target-answer
     kept-before k h b = noted .before k h ∙ (let l : k < 8 = omega arith in rw (lt-ltb k 8 l) (levels-same k (omega arith)))
 
     -- The others, put behind the first.
     pub targets-more : {w′ : List ℕ} (e : Edge) (es : List Edge) (s s₁ : NestState) → j < 8 → (o : Option ClaimedRegion)
         (c : MaybeClaimedRegion) → claim (e .target) 1 (e .inputs) s ≡ done o s₁
-        → edge-case e o s₁ ≡ done c s₁ → TakenAs g w₂ r j e c → FirstNew w w₂ c → cells-in-all g w₁ ≤ cells-in-all g w → {a : Checked}
+        → edge-case e o s₁ ≡ done c s₁ → AnsweredAs g w₂ r j e c → FirstNew w w₂ c → cells-in-all g w₁ ≤ cells-in-all g w → {a : Checked}
         → TargetsShow g w₂ w′ r (suc j) es (target-regions g claim es s₁) a
         → TargetsShow g w w′ r j (e ∷ es) (target-regions g claim (e ∷ es) s) a
     unfolding target-regions
     targets-more {w′} e es s s₁ b o c p q t first cells (shows-targets {cs} {s′} f st n each new ar same few-cells) =
-        let whole : Around g r w w′ = around-then around (around-then (concerns-around few (noted .concerns)) ar) in
-        shows-targets {cs = c ∷ cs} {s′ = s′} (rw (p, q, f)) st (ap suc n) taken newly whole
+        let whole : PreservesOthers g r w w′ = others-then preserves-others (others-then (concerns-others few (noted .concerns)) ar) in
+        shows-targets {cs = c ∷ cs} {s′ = s′} (rw (p, q, f)) st (ap suc n) answered newly whole
         (λ k h. same k (omega arith) ∙ kept-before k h b)
         (let z = noted-cells (noted .concerns) in omega arith)
       where
-        taken : (k : ℕ) → k < suc (length es) → TakenAs g w′ r (j + k) (getD (e ∷ es) k no-edge) (getD (c ∷ cs) k no-case)
-        taken zero h = let z : j + 0 ≡ j = omega arith in rw z (taken-on busy₂ ar (same j (omega arith)) t)
-        taken (suc k) h = let z : j + suc k ≡ suc j + k = omega arith in rw z (each k (omega arith))
+        answered : (k : ℕ) → k < suc (length es) → AnsweredAs g w′ r (j + k) (getD (e ∷ es) k no-edge) (getD (c ∷ cs) k no-case)
+        answered zero h = let z : j + 0 ≡ j = omega arith in rw z (target-region-on busy₂ ar (same j (omega arith)) t)
+        answered (suc k) h = let z : j + suc k ≡ suc j + k = omega arith in rw z (each k (omega arith))
 
         free : (k : ℕ) (d : ClaimedRegion) → getD (c ∷ cs) k no-case ≡ ok d → Occupied w (d .origin) → ⊥
         free zero d e h = first .free d e h

@@ -26,7 +26,7 @@ use Rattle.state_words.specs.declared.defined.Made.the-variants as made
 use Rattle.store.specs.declared.Checked.{Checked}
 use Rattle.store.specs.declared.Checked.the-variants as step
 use Rattle.cfg_claims.specs.SplitOut as split
-use Rattle.cfg.specs.laws.shown.Shows.{around-then, unharmed-around, cells-in-all}
+use Rattle.cfg.specs.laws.shown.Shows.{others-then, others-of-occupied, cells-in-all}
 use Rattle.cfg.specs.laws.shown.ScansShown.{CanScan}
 use Rattle.state_words.specs.Rows.{kind-in-progress, region-kind}
 
@@ -106,7 +106,8 @@ module _ (g : Graph) (valid : Valid g) (fuel : ℕ) where
         → TurnsShow g w w′ r (turns (suc n) x s) step.Right
     unfolding resolve-deferred
     turns-nothing b (shows-nothing {s′} p st u c) =
-        shows-turns {x = x} {s′ = s′} (rw p) st (body-stays (u .later) (u .regions-stay r in-graph (inl busy)) b) (unharmed-around r u) c
+        shows-turns {x = x} {s′ = s′} (rw p) st (body-stays (u .made-stays) (u .regions-stay r in-graph (inl busy)) b)
+        (others-of-occupied r u) c
 
     pub turns-refuse : {m k : ℕ} {w′ : List ℕ}
         → ScanShows g w w′ (x .deferred-edges) (split-out-matching g claim [] (x .deferred-edges) s) (split.Refused m k)
@@ -115,7 +116,7 @@ module _ (g : Graph) (valid : Valid g) (fuel : ℕ) where
     turns-refuse {m} {k} (refuses-scan p) = refuses-turns {m = m} {x = k} (rw p)
 
     module _ {w₁ : List ℕ} (y : SplitOut) (s₁ : NestState)
-        (p : split-out-matching g claim [] (x .deferred-edges) s ≡ done (some y) s₁) (u : Unharmed g w w₁)
+        (p : split-out-matching g claim [] (x .deferred-edges) s ≡ done (some y) s₁) (u : PreservesOccupied g w w₁)
         (c : cells-in-all g w₁ + 4 ≤ cells-in-all g w) where
       abbrev selected : StepAnswer Body
       selected = structurize-select-into g (x .children) bool-cond (lazy (condition-in (x .deferred-edges) (y .bundle)))
@@ -126,10 +127,10 @@ module _ (g : Graph) (valid : Valid g) (fuel : ℕ) where
       unfolding resolve-deferred
       turns-full (refuses-body q) = refuses-turns {m = 9} {x = 0} (rw (p, q))
 
-      pub turns-again : {w₂ w′ : List ℕ} (x′ : Body) (s₂ : NestState) → selected ≡ done x′ s₂ → Around g r w w₂
+      pub turns-again : {w₂ w′ : List ℕ} (x′ : Body) (s₂ : NestState) → selected ≡ done x′ s₂ → PreservesOthers g r w w₂
           → cells-in-all g w₂ ≤ cells-in-all g w₁ + 4 → {a : Checked} → TurnsShow g w₂ w′ r (turns n x′ s₂) a
           → TurnsShow g w w′ r (turns (suc n) x s) a
       unfolding resolve-deferred
       turns-again x′ s₂ q ar k (shows-turns {x = z} {s′} f st b ar₂ k₂) =
-          shows-turns {x = z} {s′ = s′} (rw (p, q, f)) st b (around-then ar ar₂) (omega arith)
+          shows-turns {x = z} {s′ = s′} (rw (p, q, f)) st b (others-then ar ar₂) (omega arith)
       turns-again x′ s₂ q ar k (refuses-turns {m} {x = j} f) = refuses-turns {m = m} {x = j} (rw (p, q, f))

@@ -1,5 +1,5 @@
 use Rattle.cfg_bundles.specs.laws.paths.Paths.{append-claimed, append-edge}
-use Rattle.cfg_bundles.specs.Words.{its-rest}
+use Rattle.cfg_bundles.specs.EdgesAndCases.{its-rest}
 use borrow.Author.Needs.{needs}
 use Rattle.cfg_bundles.proofs.append.append_maybe_claimed_region.Statement.{statement}
 use Rattle.cfg_bundles.proofs.append.append_maybe_claimed_region.Tie as tie

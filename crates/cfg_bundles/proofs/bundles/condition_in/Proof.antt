@@ -1,5 +1,5 @@
 use borrow.Author.Tests.{eq-eqb, ne-eqb}
-use Rattle.cfg_bundles.specs.Words.{condition-in}
+use Rattle.cfg_bundles.specs.EdgesAndCases.{condition-in}
 use borrow.Author.Needs.{needs}
 use Rattle.cfg_bundles.proofs.bundles.condition_in.Statement.{statement}
 use Rattle.cfg_bundles.proofs.bundles.condition_in.Tie as tie

@@ -1,5 +1,5 @@
 use borrow.Author.Tests.{eq-eqb, ne-eqb}
-use Rattle.cfg_bundles.specs.Words.{input-count}
+use Rattle.cfg_bundles.specs.EdgesAndCases.{input-count}
 use borrow.Author.Needs.{needs}
 use Rattle.cfg_bundles.proofs.bundles.input_count.Statement.{statement}
 use Rattle.cfg_bundles.proofs.bundles.input_count.Tie as tie

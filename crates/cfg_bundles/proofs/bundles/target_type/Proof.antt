@@ -1,5 +1,5 @@
 use borrow.Author.Tests.{eq-eqb, ne-eqb}
-use Rattle.cfg_bundles.specs.Words.{target-type}
+use Rattle.cfg_bundles.specs.EdgesAndCases.{target-type}
 use borrow.Author.Needs.{needs}
 use Rattle.cfg_bundles.proofs.bundles.target_type.Statement.{statement}
 use Rattle.cfg_bundles.proofs.bundles.target_type.Tie as tie

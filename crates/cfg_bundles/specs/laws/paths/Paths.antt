@@ -11,7 +11,7 @@ use Rattle.meaning.specs.Graph.{Graph, no-value, region, edges-of}
 use Rattle.meaning.specs.Graph as graph
 use Rattle.record.specs.Stands.{Stands}
 use Rattle.fields.specs.ByNumber.{ValuesAt, end-values, edge-of}
-use Rattle.fields.specs.Words.{value-item}
+use Rattle.fields.specs.ItemsAndPlaces.{value-item}
 use Rattle.fields.specs.Shape.{value-is}
 use Rattle.fields.specs.declared.shape.Value.{Value}
 use Rattle.fields.specs.declared.shape.Value.the-variants.{Const, Input, Instr, Bool as Truth, Undef, Nothing}
@@ -19,17 +19,18 @@ use Rattle.state_regions.specs.declared.cases.Case.{Case}
 use Rattle.state_words.specs.Sections.{Section, word, stored, stored-all, stored-all-at, head, children, set-starts, set-lengths, cases}
 use Rattle.state_words.specs.Sections.{bundles}
 use Rattle.state_sets.specs.SetTables.{bundle-at, own-edge, bundle-copied, shift-removed, swapped}
-use Rattle.state_regions.specs.RegionTables.{taken-word, case-words}
+use Rattle.state_regions.specs.RegionTables.{target-answer, case-words}
 use Rattle.state_nodes.specs.NodeTables.{inserted, Joins}
 use Rattle.state_words.specs.Totals.{edges-word}
 use Rattle.state_words.specs.Values.{value-word}
 use Rattle.state_shown.specs.Front.{SameKinds}
 use Rattle.state_shown.specs.laws.FrontKept.{stands-kept, kinds-stored, kinds-run, kinds-then}
-use Rattle.cfg_bundles.specs.Words.{record-word, padded-by, padded, listed-word, listed}
-use Rattle.cfg_bundles.specs.Words.{edge-deferred, return-deferred, unclaimed-case, claimed-case}
-use Rattle.cfg_bundles.specs.Words.{case-filled}
-use Rattle.cfg_bundles.specs.Words.{filled-from, cases-filled, given-word, given-inputs, split-filled, case-inputs, Appends, appended}
-use Rattle.cfg_bundles.specs.Words.{its-edge}
+use Rattle.cfg_bundles.specs.EdgesAndCases.{record-word, padded-by, padded, listed-word, listed}
+use Rattle.cfg_bundles.specs.EdgesAndCases.{edge-deferred, return-deferred, unclaimed-case, claimed-case}
+use Rattle.cfg_bundles.specs.EdgesAndCases.{case-filled}
+use Rattle.cfg_bundles.specs.EdgesAndCases.{filled-from, cases-filled, given-word, given-inputs, split-filled, case-inputs, Appends}
+use Rattle.cfg_bundles.specs.EdgesAndCases.{appended}
+use Rattle.cfg_bundles.specs.EdgesAndCases.{its-edge}
 use Rattle.state_words.specs.Values.{undef-from}
 use Rattle.state_words.specs.Rows.{bundle-row-at, bundle-target, case-claimed, case-nothing, case-others, case-own-edge, case-row-at}
 use Rattle.state_words.specs.Rows.{cases-at}
@@ -94,13 +95,13 @@ unfolding return-deferred
 return-by g l r a b c none d e = e ∙ rw (d, none, c, b, a)
 
 -- ---- Cases.
-module _ (g : Graph) (l : List ℕ) (r j : ℕ) {taken : ℕ} (read : taken ≡ taken-word l r j) where
-  pub fill-claimed : taken ≡ 2 → {t : ℕ} {x : Case} {vs l′ : List ℕ} → t ≡ edge-of g r j .target → x ≡ claimed-case l t
+module _ (g : Graph) (l : List ℕ) (r j : ℕ) {answer : ℕ} (read : answer ≡ target-answer l r j) where
+  pub fill-claimed : answer ≡ 2 → {t : ℕ} {x : Case} {vs l′ : List ℕ} → t ≡ edge-of g r j .target → x ≡ claimed-case l t
       → vs ≡ padded (edge-of g r j .inputs) → l′ ≡ stored-all l cases (case-row-at j) (case-words x ++ vs) → l′ ≡ case-filled g l r j
   unfolding case-filled
-  fill-claimed is a b c e = e ∙ rw (b, a, c, eq-eqb (taken-word l r j) level-claimed (sym read ∙ is))
+  fill-claimed is a b c e = e ∙ rw (b, a, c, eq-eqb (target-answer l r j) level-claimed (sym read ∙ is))
 
-  pub fill-edge : (taken ≡ 2 → ⊥) → taken ≡ 1 → {p : ℕ} {x : Case} {l₁ l₂ : List ℕ} → p ≡ own-edge j → l₁ ≡ edge-deferred g l p r j
+  pub fill-edge : (answer ≡ 2 → ⊥) → answer ≡ 1 → {p : ℕ} {x : Case} {l₁ l₂ : List ℕ} → p ≡ own-edge j → l₁ ≡ edge-deferred g l p r j
       → x ≡ unclaimed-case case-own-edge p 1 → l₂ ≡ stored-all l₁ cases (case-row-at j) (case-words x) → l₂ ≡ case-filled g l r j
   unfolding case-filled
   fill-edge unlike is a b c e =
@@ -108,19 +109,19 @@ module _ (g : Graph) (l : List ℕ) (r j : ℕ) {taken : ℕ} (read : taken ≡ 
         b,
         c,
         a,
-        ne-eqb (taken-word l r j) level-claimed (λ h. unlike (read ∙ h)),
-        eq-eqb (taken-word l r j) level-deferred
+        ne-eqb (target-answer l r j) level-claimed (λ h. unlike (read ∙ h)),
+        eq-eqb (target-answer l r j) level-deferred
             (sym read ∙ is),
       )
 
-  pub fill-nothing : (taken ≡ 2 → ⊥) → (taken ≡ 1 → ⊥) → {x : Case} {l′ : List ℕ} → x ≡ unclaimed-case case-nothing 0 0
+  pub fill-nothing : (answer ≡ 2 → ⊥) → (answer ≡ 1 → ⊥) → {x : Case} {l′ : List ℕ} → x ≡ unclaimed-case case-nothing 0 0
       → l′ ≡ stored-all l cases (case-row-at j) (case-words x) → l′ ≡ case-filled g l r j
   unfolding case-filled
   fill-nothing unlike nor a e =
       e ∙ rw (
         a,
-        ne-eqb (taken-word l r j) level-claimed (λ h. unlike (read ∙ h)),
-        ne-eqb (taken-word l r j) level-deferred
+        ne-eqb (target-answer l r j) level-claimed (λ h. unlike (read ∙ h)),
+        ne-eqb (target-answer l r j) level-deferred
             (λ h. nor (read ∙ h)),
       )
 
@@ -128,13 +129,13 @@ module _ (g : Graph) (l : List ℕ) (r j : ℕ) {taken : ℕ} (read : taken ≡ 
 pub front-filled : (g : Graph) (l : List ℕ) (r j : ℕ) → SameKinds l (case-filled g l r j)
 unfolding case-filled edge-deferred
 front-filled g l r j =
-    elim (ℕ-discrete (taken-word l r j) level-claimed) [
-      | yes e ↦ rw (eq-eqb (taken-word l r j) level-claimed e) (kinds-run l cases (omega arith) (case-row-at j) _)
-      | no d ↦ elim (ℕ-discrete (taken-word l r j) level-deferred) [
-        | yes e ↦ rw (ne-eqb (taken-word l r j) level-claimed d, eq-eqb (taken-word l r j) level-deferred e)
+    elim (ℕ-discrete (target-answer l r j) level-claimed) [
+      | yes e ↦ rw (eq-eqb (target-answer l r j) level-claimed e) (kinds-run l cases (omega arith) (case-row-at j) _)
+      | no d ↦ elim (ℕ-discrete (target-answer l r j) level-deferred) [
+        | yes e ↦ rw (ne-eqb (target-answer l r j) level-claimed d, eq-eqb (target-answer l r j) level-deferred e)
             (kinds-then (kinds-run l bundles (omega arith) (bundle-row-at (own-edge j)) _)
             (kinds-run _ cases (omega arith) (case-row-at j) _))
-        | no f ↦ rw (ne-eqb (taken-word l r j) level-claimed d, ne-eqb (taken-word l r j) level-deferred f)
+        | no f ↦ rw (ne-eqb (target-answer l r j) level-claimed d, ne-eqb (target-answer l r j) level-deferred f)
             (kinds-run l cases (omega arith) (case-row-at j) _)
       ]
     ]

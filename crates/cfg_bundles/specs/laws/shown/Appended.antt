@@ -22,18 +22,18 @@ use Rattle.state_shown.specs.laws.Rewrites.{insert-changes, rewrites-inserted}
 use Rattle.state_shown.specs.Sets.{Names, ShowsSet}
 use Rattle.state_shown.specs.Cells.{ShowsChildren}
 use Rattle.state_shown.specs.States.{Slots, ShowsState, ShowsBody, ShowsCase, shows-ok, shows-nothing, shows-edge, shows-others, HasSlot}
-use Rattle.state_shown.specs.Kept.{Later, KeptRegion}
-use Rattle.state_shown.specs.laws.RegionsKept.{later-same, later-then, kept-same, kept-then, set-stays}
-use Rattle.state_shown.specs.laws.RegionSteps.{later-by, kept-by, states-by, state-next, state-stays, Concerns, concerns-then}
+use Rattle.state_shown.specs.Kept.{PreservesMade, KeptRegion}
+use Rattle.state_shown.specs.laws.RegionsKept.{preserves-same, preserves-then, kept-same, kept-then, set-stays}
+use Rattle.state_shown.specs.laws.RegionSteps.{preserves-by, kept-by, states-by, state-next, state-stays, Concerns, concerns-then}
 use Rattle.state_shown.specs.laws.RegionSteps.{concerns-states}
 use Rattle.state_shown.specs.laws.RegionSteps.{word-concerns, children-set, length-set-to, bundle-run, bundle-concerns}
 use Rattle.state_shown.specs.laws.CellSteps.{list-joined}
 use Rattle.state_shown.specs.laws.NamedSteps.{named-inserted}
-use Rattle.state_shown.specs.laws.SetStores.{only-later, only-state, only-word-same, word-other, run-elsewhere-word, same-elsewhere}
+use Rattle.state_shown.specs.laws.SetStores.{only-preserves, only-state, only-word-same, word-other, run-elsewhere-word, same-elsewhere}
 use Rattle.state_shown.specs.laws.SetStores.{copy-moves}
 use Rattle.state_shown.specs.laws.SetSteps.{set-moves, swapped-only, swapped-first-set, swapped-kept, swapped-slots}
 use Rattle.state_shown.specs.laws.Finds.{bundle-in}
-use Rattle.cfg_bundles.specs.Words.{case-inputs, Appends, appended, its-edge, its-rest}
+use Rattle.cfg_bundles.specs.EdgesAndCases.{case-inputs, Appends, appended, its-edge, its-rest}
 use Rattle.cfg_bundles.specs.laws.shown.CaseSteps.{CaseAndSet}
 use Rattle.state_words.specs.Rows.{bundle-row-at, case-claimed, case-input, case-own-edge, case-set-length, case-set-start, cells-at}
 use Rattle.state_words.specs.Rows.{entry-replace, kind-claimed, kind-ready, most-cells, region-kind}
@@ -83,7 +83,7 @@ row-alone {g} {w} {r} {j} slots below x claimed = go (x .case) (x .set) claimed
 concerns-same : (g : Graph) (r : ℕ) (w : List ℕ) → Concerns g r w w
 concerns-same g r w =
     record {
-      later = later-same g w;
+      made-stays = preserves-same g w;
       tables = same-words w;
       others = λ q h d. kept-same w q;
       same-kinds = λ q. refl;
@@ -98,7 +98,7 @@ pub record AppendShown (g : Graph) (w w′ : List ℕ) (s : NestState) (parent :
   pub is : append-maybe-claimed-region parent m s ≡ done result next
   pub state : ShowsState g w′ next
   pub body : ShowsBody g w′ r result
-  pub later : Later g w w′
+  pub made-stays : PreservesMade g w w′
   pub kept : (q : ℕ) → HasSlot (length (g .regions)) q → (q ≡ r → ⊥) → ((c : ClaimedRegion) → m ≡ ok c → q ≡ c .origin → ⊥)
       → KeptRegion w w′ q
   pub cells-to : word w′ head cells-at ≤ suc (word w head cells-at)
@@ -127,13 +127,13 @@ module _ {g : Graph} (few : length (g .regions) ≤ 32) {r : ℕ} (here : r < le
         result = region-body parent d;
         next = s;
         is = refl;
-        state = state-stays (both .later) (concerns-states both few unready) (both .tables) state;
+        state = state-stays (both .made-stays) (concerns-states both few unready) (both .tables) state;
         body =
             record {
-              nodes = rw (word-other w₁ set-lengths r n children (omega arith) r, same) (both .later .nodes-stay nodes);
+              nodes = rw (word-other w₁ set-lengths r n children (omega arith) r, same) (both .made-stays .nodes-stay nodes);
               set = length-set-to g w₁ (omega arith) r (omega arith) set;
             };
-        later = both .later;
+        made-stays = both .made-stays;
         kept = λ q h e f. both .others q h e;
         cells-to = let z = both .same-head cells-at in omega arith;
       }
@@ -153,7 +153,7 @@ module _ {g : Graph} (few : length (g .regions) ≤ 32) {r : ℕ} (here : r < le
       rw front
       (set-appended first (run-elsewhere-word w bundles (bundle-row-at start) (bundle-words w p) children (omega arith) r)
       (rw (first .same-starts r)
-      (set-moves (first .later) (λ k. k) (set .size) (omega arith) (omega arith) (λ k h. h) (λ i k a b e. omega arith)
+      (set-moves (first .made-stays) (λ k. k) (set .size) (omega arith) (omega arith) (λ k h. h) (λ i k a b e. omega arith)
       (λ k h. let e : k ≡ 0 = omega arith in let y : p + 0 ≡ p = omega arith in rw (e, z, y) moved) (λ k h. refl) set)))
 
 -- ---- A claimed region: its inputs are entered, its children follow the parent's, its slot becomes the parent's.
@@ -163,14 +163,14 @@ record Entered (g : Graph) (w w₂ : List ℕ) (s : NestState) (r o h : ℕ) (ks
   unready : region-kind w₂ r ≡ kind-ready → ⊥
   origin-claimed : region-kind w₂ o ≡ kind-claimed
   nodes : ShowsChildren g w₂ h ks
-  later : Later g w w₂
+  made-stays : PreservesMade g w w₂
   kept : (q : ℕ) → KeptRegion w w₂ q
   cells-to : word w₂ head cells-at ≤ suc (word w head cells-at)
 
 record SlotTaken (g : Graph) (w w′ : List ℕ) (s : NestState) (r o : ℕ) (x : Body) : Type 0 where
   state : ShowsState g w′ s
   body : ShowsBody g w′ r x
-  later : Later g w w′
+  made-stays : PreservesMade g w w′
   kept : (q : ℕ) → HasSlot (length (g .regions)) q → (q ≡ r → ⊥) → (q ≡ o → ⊥) → KeptRegion w w′ q
   cells-to : word w′ head cells-at ≤ suc (word w head cells-at)
 
@@ -184,15 +184,15 @@ slot-taken {g} few {r} {o} here there {w} {w₂} {s} {h} {ks} x {n} {d} set =
     let o-33 = in-33 o there in
     let r-32 : r < 32 = omega arith in
     let few-bundles = set .few in
-    let set₂ : ShowsSet g w₂ (word w set-starts o) n d = set-stays (x .later) (λ i k. x .kept o .slot i (omega arith)) set in
+    let set₂ : ShowsSet g w₂ (word w set-starts o) n d = set-stays (x .made-stays) (λ i k. x .kept o .slot i (omega arith)) set in
     let w₃ = stored w₂ children r h in
     let c₃ = word-concerns g w₂ children (omega arith) r h in
-    let state₃ = state-stays (c₃ .later) (concerns-states c₃ few (x .unready)) (c₃ .tables) (x .state) in
+    let state₃ = state-stays (c₃ .made-stays) (concerns-states c₃ few (x .unready)) (c₃ .tables) (x .state) in
     let nodes₃ = children-set g w₂ (x .state .tables .size) r r-32 (x .nodes) in
     let room₃ = state₃ .tables .size in
     let w₄ = swapped w₃ r o in
     let only₄ = swapped-only w₃ room₃ r o r-33 o-33 in
-    let later₄ = only-later only₄ g in
+    let made-stays₄ = only-preserves only₄ g in
     let kind-r : region-kind w₃ r ≡ kind-ready → ⊥ = λ e. x .unready (sym (c₃ .same-kinds r) ∙ e) in
     let kind-o : region-kind w₃ o ≡ kind-claimed = c₃ .same-kinds o ∙ x .origin-claimed in
     let state₄ = only-state only₄ (swapped-slots w₃ room₃ r o r-33 o-33 (omega arith) (omega arith) (state₃ .slots))
@@ -202,7 +202,7 @@ slot-taken {g} few {r} {o} here there {w} {w₂} {s} {h} {ks} x {n} {d} set =
     let kind₄ : region-kind w₄ r ≡ kind-ready → ⊥ = λ e. kind-r (sym (only-word-same only₄ kinds (omega arith) r) ∙ e) in
     let start₃ : word w₃ set-starts o ≡ word w set-starts o = c₃ .same-starts o ∙ x .kept o .set-start in
     let set₃ : ShowsSet g w₃ (word w₃ set-starts o) n d =
-    rw start₃ (set-stays (c₃ .later) (λ i k. same-elsewhere w₂ children (omega arith) r h _) set₂) in
+    rw start₃ (set-stays (c₃ .made-stays) (λ i k. same-elsewhere w₂ children (omega arith) r h _) set₂) in
     let set₄ = swapped-first-set w₃ room₃ r o r-33 o-33 set₃ in
     let c₅ = word-concerns g w₄ set-lengths (omega arith) r n in
     let handle₄ : word w₄ children r ≡ word w₃ children r = only-word-same only₄ children (omega arith) r in
@@ -210,13 +210,13 @@ slot-taken {g} few {r} {o} here there {w} {w₂} {s} {h} {ks} x {n} {d} set =
     word-other w₄ set-lengths r n children (omega arith) r ∙ handle₄ in
     let total₅ = c₅ .same-head cells-at ∙ only₄ .totals cells-at (omega arith) ∙ c₃ .same-head cells-at in
     record {
-      state = state-stays (c₅ .later) (concerns-states c₅ few kind₄) (c₅ .tables) state₄;
+      state = state-stays (c₅ .made-stays) (concerns-states c₅ few kind₄) (c₅ .tables) state₄;
       body =
           record {
-            nodes = rw handle₅ (c₅ .later .nodes-stay (later₄ .nodes-stay nodes₃));
+            nodes = rw handle₅ (c₅ .made-stays .nodes-stay (made-stays₄ .nodes-stay nodes₃));
             set = length-set-to g w₄ room₄ r r-33 set₄;
           };
-      later = later-then (x .later) (later-then (c₃ .later) (later-then later₄ (c₅ .later)));
+      made-stays = preserves-then (x .made-stays) (preserves-then (c₃ .made-stays) (preserves-then made-stays₄ (c₅ .made-stays)));
       kept = λ q k a b.
           kept-then (x .kept q)
           (kept-then (c₃ .others q k a) (kept-then (swapped-kept w₃ room₃ r o r-33 o-33 q a b) (c₅ .others q k a)));
@@ -240,7 +240,7 @@ module _ {g : Graph} (few : length (g .regions) ≤ 32) {r : ℕ} (here : r < le
       let body-in : x .body < most-regions = omega arith in
       let vs = case-inputs w j in
       let changes = insert-changes w (x .body) 1 vs 0 in
-      let later₁ = later-by changes (omega arith) g in
+      let made-stays₁ = preserves-by changes (omega arith) g in
       let states₁ = states-by changes (omega arith) (omega arith) (omega arith) g in
       let kept₁ = kept-by changes (omega arith) in
       let room₁ : used ≤ length (inserted w (x .body) entry-replace vs) = rw (changes .words) room in
@@ -250,19 +250,19 @@ module _ {g : Graph} (few : length (g .regions) ≤ 32) {r : ℕ} (here : r < le
       let tables₁ = rewrites-inserted (state .tables) body-in refl entry refl in
       let named₁ = named-inserted w (x .body) entry-replace vs room body-in refl (λ k b. rw (inputs-at w j k b) (names k b .below))
       (state .named) in
-      let state₁ = state-next later₁ states₁ tables₁ named₁ refl state in
+      let state₁ = state-next made-stays₁ states₁ tables₁ named₁ refl state in
       let w₁ = inserted w (x .body) entry-replace vs in
       let free₁ : word w₁ head cells-at < most-cells = rw total₁ free in
-      let outer : ShowsChildren g w₁ (word w₁ children r) parent = rw (kept₁ r .handle) (later₁ .nodes-stay nodes) in
-      let y = list-joined free₁ room₁ joins outer (later₁ .nodes-stay inner) in
-      let state₂ = state-stays (y .later) (y .states) (y .tables) state₁ in
+      let outer : ShowsChildren g w₁ (word w₁ children r) parent = rw (kept₁ r .handle) (made-stays₁ .nodes-stay nodes) in
+      let y = list-joined free₁ room₁ joins outer (made-stays₁ .nodes-stay inner) in
+      let state₂ = state-stays (y .made-stays) (y .states) (y .tables) state₁ in
       let taken = slot-taken few here in-graph
       record {
         state = rw is-body at state₂;
         unready = λ e. unready (sym (states₁ .same-kinds r here) ∙ sym (y .states .same-kinds r here) ∙ e);
         origin-claimed = y .states .same-kinds o in-graph ∙ states₁ .same-kinds o in-graph ∙ is-claimed;
         nodes = y .nodes;
-        later = later-then later₁ (y .later);
+        made-stays = preserves-then made-stays₁ (y .made-stays);
         kept = λ q. kept-then (kept₁ q) (y .regions q);
         cells-to = rw (← total₁) (y .total-to);
       } set in
@@ -273,7 +273,7 @@ module _ {g : Graph} (few : length (g .regions) ≤ 32) {r : ℕ} (here : r < le
         is = refl;
         state = taken .state;
         body = taken .body;
-        later = taken .later;
+        made-stays = taken .made-stays;
         kept = λ q k a b. taken .kept q k a (b c refl);
         cells-to = taken .cells-to;
       }

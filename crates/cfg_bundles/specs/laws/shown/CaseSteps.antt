@@ -9,15 +9,15 @@ use Rattle.meaning.specs.Graph.{Graph, undef}
 use Rattle.nesting.specs.Nesting.{DeferredEdgeBundleSet, ClaimedRegion, MaybeClaimedRegion, ok, err, deferred-of}
 use Rattle.state_words.specs.Sections.{used, word, stored-all, head, set-starts, set-lengths, levels, cases}
 use Rattle.state_sets.specs.SetTables.{own-edge}
-use Rattle.state_regions.specs.RegionTables.{taken-word, case-words}
+use Rattle.state_regions.specs.RegionTables.{target-answer, case-words}
 use Rattle.state_shown.specs.Sets.{Names, ShowsSet, SameBundle}
 use Rattle.state_shown.specs.States.{Slots, ShowsClaimed, ShowsCase, shows-ok, shows-nothing, shows-edge, shows-others, HasSlot}
 use Rattle.state_shown.specs.Kept.{KeptRegion}
 use Rattle.state_shown.specs.laws.RegionsKept.{set-stays, same-bundle-then}
-use Rattle.state_shown.specs.laws.SetStores.{OnlySets, only-run, only-then, only-later, only-kept, only-word-same}
+use Rattle.state_shown.specs.laws.SetStores.{OnlySets, only-run, only-then, only-preserves, only-kept, only-word-same}
 use Rattle.state_shown.specs.laws.SetStores.{cases-of-sets, run-word, run-beside}
 use Rattle.state_shown.specs.laws.SetStores.{run-elsewhere-word, same-elsewhere-run}
-use Rattle.cfg_bundles.specs.Words.{claimed-case, unclaimed-case, edge-deferred}
+use Rattle.cfg_bundles.specs.EdgesAndCases.{claimed-case, unclaimed-case, edge-deferred}
 use Rattle.cfg_bundles.specs.laws.shown.Deferred.{edge-deferred-only, edge-deferred-beside, edge-deferred-word}
 use Rattle.state_words.specs.Rows.{case-claimed, case-kind, case-nothing, case-origin, case-others, case-own-edge, case-row-at}
 use Rattle.state_words.specs.Rows.{case-row-size}
@@ -78,9 +78,9 @@ pub one-kept : {n : ℕ} {w w′ : List ℕ} {j : ℕ} → OneCase w w′ j → 
 one-kept one slots q h =
     only-kept (one .only) q (one .starts q) (one .lengths q) (λ i k. one .beside _ (let z = in-slots slots q i h k in omega arith))
 
-pub taken-same : {w w′ : List ℕ} → OnlySets w w′ → (r j : ℕ) → taken-word w′ r j ≡ taken-word w r j
-unfolding taken-word
-taken-same only r j = rw (only-word-same only levels (omega arith) (level-at r j))
+pub target-answer-same : {w w′ : List ℕ} → OnlySets w w′ → (r j : ℕ) → target-answer w′ r j ≡ target-answer w r j
+unfolding target-answer
+target-answer-same only r j = rw (only-word-same only levels (omega arith) (level-at r j))
 
 -- ---- Where the set of a case lies: in the slot of a region, or in the bundle of its own edge, or nowhere.
 pub data Owner (w : List ℕ) (r j a : ℕ) : Type 0 where
@@ -141,7 +141,7 @@ module _ {g : Graph} {w w′ : List ℕ} {j : ℕ} (one : OneCase w w′ j) {r q
   case-stays (shows-ok {c} a b in-graph e f nodes start size inputs) =
       shows-ok {c = c} (other-row one q d 0 (omega arith) ∙ a) (other-row one q d 1 (omega arith) ∙ b) in-graph
       (other-row one q d 2 (omega arith) ∙ e) f
-      (rw (other-row one q d 3 (omega arith)) (only-later (one .only) g .nodes-stay nodes))
+      (rw (other-row one q d 3 (omega arith)) (only-preserves (one .only) g .nodes-stay nodes))
       (other-row one q d 4 (omega arith) ∙ start ∙ sym (one .starts (c .origin))) size
       (λ k h. rw (other-row one q d (6 + k) (omega arith)) (inputs k h))
   case-stays (shows-nothing a b) = shows-nothing (other-row one q d 0 (omega arith) ∙ a) (other-row one q d 5 (omega arith) ∙ b)
@@ -156,7 +156,7 @@ module _ {g : Graph} {w w′ : List ℕ} {j : ℕ} (one : OneCase w w′ j) {r q
       record {
         case = case-stays (x .case);
         set = rw (other-row one q d 4 (omega arith), other-row one q d 5 (omega arith))
-            (set-stays (only-later (one .only) g) (λ i h. one .beside _ (apart (case-placed few here (x .case)) i h)) (x .set));
+            (set-stays (only-preserves (one .only) g) (λ i h. one .beside _ (apart (case-placed few here (x .case)) i h)) (x .set));
       }
     where
       apart : CasePlaced (length (g .regions)) w r q → (i : ℕ) → i < case-set-length w q
@@ -181,15 +181,15 @@ module _ {g : Graph} (w : List ℕ) (room : used ≤ length w) {r j : ℕ} (belo
       let xs = case-words (claimed-case w o) ++ ws in
       let ten : length xs ≡ 10 = ap (λ n. suc (suc (suc (suc (suc (suc n)))))) four in
       let one = one-row w j xs (omega arith) in
-      let later = only-later (one .only) g in
+      let made-stays = only-preserves (one .only) g in
       let at : (k : ℕ) → k < 10 → case-word (stored-all w cases (case-row-at j) xs) j k ≡ getD xs k 0 =
       λ k h. row-word w room j below xs (omega arith) k (omega arith) in
       record {
         case = shows-ok {c = c} (at 0 (omega arith)) (at 1 (omega arith)) (x .in-graph) (at 2 (omega arith) ∙ x .body) (x .body-below)
-            (rw (at 3 (omega arith)) (later .nodes-stay (x .nodes))) (at 4 (omega arith) ∙ sym (one .starts o)) (x .size)
+            (rw (at 3 (omega arith)) (made-stays .nodes-stay (x .nodes))) (at 4 (omega arith) ∙ sym (one .starts o)) (x .size)
             (λ k h. let e : 6 + k ≡ suc (suc (suc (suc (suc (suc k))))) = omega arith in rw (at (6 + k) (omega arith), e) (names k h));
         set = rw (at 4 (omega arith), at 5 (omega arith))
-            (set-stays later (λ i h. same-elsewhere-run w cases (omega arith) (case-row-at j) xs _) (x .set));
+            (set-stays made-stays (λ i h. same-elsewhere-run w cases (omega arith) (case-row-at j) xs _) (x .set));
       }
 
   -- Nothing is deferred.
@@ -221,7 +221,7 @@ module _ {g : Graph} (w : List ℕ) (room : used ≤ length w) {r j : ℕ} (belo
       record {
         case = shows-edge (at 0 (omega arith)) (at 4 (omega arith) ∙ own) (at 5 (omega arith));
         set = rw (at 4 (omega arith) ∙ own, at 5 (omega arith))
-            (set-stays (only-later (only-run w cases-of-sets (case-row-at j) xs) g)
+            (set-stays (only-preserves (only-run w cases-of-sets (case-row-at j) xs) g)
             (λ i h. same-elsewhere-run w cases (omega arith) (case-row-at j) xs _) x);
       }
 
@@ -236,6 +236,6 @@ module _ {g : Graph} (w : List ℕ) (room : used ≤ length w) {r j : ℕ} (belo
         case = shows-others (at 0 (omega arith))
             (at 4 (omega arith) ∙ sym (run-elsewhere-word w cases (case-row-at j) xs set-starts (omega arith) r));
         set = rw (at 4 (omega arith), at 5 (omega arith))
-            (set-stays (only-later (only-run w cases-of-sets (case-row-at j) xs) g)
+            (set-stays (only-preserves (only-run w cases-of-sets (case-row-at j) xs) g)
             (λ i h. same-elsewhere-run w cases (omega arith) (case-row-at j) xs _) x);
       }

@@ -20,12 +20,12 @@ use Rattle.state_shown.specs.Kept.{KeptRegion}
 use Rattle.state_shown.specs.laws.RegionsKept.{bundle-stays, same-bundle-then}
 use Rattle.state_shown.specs.laws.Stores.{word-there, word-apart}
 use Rattle.state_shown.specs.laws.RegionSteps.{slots-stay}
-use Rattle.state_shown.specs.laws.SetStores.{OnlySets, only-run, only-word, only-then, only-later, only-state, bundles-of-sets}
+use Rattle.state_shown.specs.laws.SetStores.{OnlySets, only-run, only-word, only-then, only-preserves, only-state, bundles-of-sets}
 use Rattle.state_shown.specs.laws.SetStores.{lengths-of-sets}
 use Rattle.state_shown.specs.laws.SetStores.{word-other, run-elsewhere-word, bundle-beside, same-elsewhere}
 use Rattle.state_shown.specs.laws.SetSteps.{bundle-made, set-of-one, kept-beside}
 use Rattle.state_shown.specs.laws.Finds.{bundle-in}
-use Rattle.cfg_bundles.specs.Words.{padded, edge-deferred, return-deferred}
+use Rattle.cfg_bundles.specs.EdgesAndCases.{padded, edge-deferred, return-deferred}
 use Rattle.fields.specs.laws.UndefinedTypes.{end-types-read}
 use Rattle.cfg_bundles.specs.laws.shown.RecordValues.{passed-names, passed-types, passed-length, padded-names, valid-edge}
 use Rattle.state_words.specs.Rows.{bundle-row-at, condition-true, kind-ready, most-bundles, region-kind, return-word}
@@ -138,5 +138,5 @@ module _ (g : Graph) (w : List ℕ) (r : ℕ) where
         (passed-length g r (return-types g) vs (x .1)) (x .0) (λ k b. names k (omega arith))) in
         rw (return-deferred-starts r, word-there return-stored set-lengths r 1 (omega arith) (below .below))
         (set-of-one (omega arith)
-        (bundle-stays (only-later (only-word return-stored lengths-of-sets r 1) g)
+        (bundle-stays (only-preserves (only-word return-stored lengths-of-sets r 1) g)
         (same-elsewhere return-stored set-lengths (omega arith) r 1 start-of) made))

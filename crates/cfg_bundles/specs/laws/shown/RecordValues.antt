@@ -23,7 +23,7 @@ use Rattle.state_shown.specs.laws.ValueWords.{in-none}
 use Rattle.state_shown.specs.laws.ValueWords.{value-undef, value-input}
 use Rattle.state_shown.specs.Sets.{Names}
 use Rattle.format.specs.laws.UndefinedTypes.{TypeRead}
-use Rattle.cfg_bundles.specs.Words.{record-word, padded-by, padded}
+use Rattle.cfg_bundles.specs.EdgesAndCases.{record-word, padded-by, padded}
 use Rattle.nesting.specs.Nesting.{most-regions}
 use Rattle.state_words.specs.Values.{input-from, instr-from, instr-word-at}
 

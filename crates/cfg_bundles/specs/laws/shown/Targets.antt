@@ -12,7 +12,7 @@ use Rattle.state_shown.specs.Tables.{ShowsCondition}
 use Rattle.state_shown.specs.Sets.{ShowsTarget, shows-region, shows-return, target-size, ShowsSet, no-bundle}
 use Rattle.state_shown.specs.States.{ShowsReturned}
 use Rattle.state_shown.specs.laws.SetSteps.{condition-shown}
-use Rattle.cfg_bundles.specs.Words.{input-count, target-type, condition-in}
+use Rattle.cfg_bundles.specs.EdgesAndCases.{input-count, target-type, condition-in}
 use Rattle.state_words.specs.Rows.{return-word}
 
 module _ {g : Graph} (w : List ℕ) (few : length (g .regions) ≤ 32) (returned : ShowsReturned g w) where

@@ -35,7 +35,7 @@ pub +structurize-region+try-claim-edge-bundle-spec : {M : Type 1} → statement 
     (region.enum-known-claim t)
     (region.returns t)
     (region.enum-told t)
-    (region.set-target-taken-requires t)
+    (region.set-target-answer-requires t)
     (region.enum-told-2 t)
     (region.defer-target-requires t)
     (region.add-j t)

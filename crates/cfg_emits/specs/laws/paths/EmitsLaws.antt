@@ -19,7 +19,7 @@ use Rattle.state_nodes.specs.NodeTables.{merge-defined, merges-full}
 use Rattle.state_words.specs.Values.{undef-word, output-word}
 use Rattle.state_shown.specs.Front.{SameKinds}
 use Rattle.state_shown.specs.laws.FrontKept.{kinds-same, kinds-stored, kinds-run, kinds-then, kinds-input-stored}
-use Rattle.cfg_bundles.specs.Words.{input-count, target-type}
+use Rattle.cfg_bundles.specs.EdgesAndCases.{input-count, target-type}
 use Rattle.cfg_planning.specs.Planning.{per-case-deferred}
 use Rattle.state_words.specs.declared.defined.Made.{Made}
 use Rattle.state_words.specs.declared.defined.Made.the-variants.{Done, Full}

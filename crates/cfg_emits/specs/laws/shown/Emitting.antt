@@ -15,10 +15,10 @@ use Rattle.state_words.specs.laws.Apart.{section-other}
 use Rattle.state_shown.specs.laws.Stores.{ChangesOnly, word-changes}
 use Rattle.state_shown.specs.Sets.{SameBundle}
 use Rattle.state_shown.specs.States.{Slots, ShowsReturned, ShowsCases}
-use Rattle.state_shown.specs.Kept.{Later}
-use Rattle.state_shown.specs.laws.RegionsKept.{later-same, later-then, same-bundle, same-bundle-then}
+use Rattle.state_shown.specs.Kept.{PreservesMade}
+use Rattle.state_shown.specs.laws.RegionsKept.{preserves-same, preserves-then, same-bundle, same-bundle-then}
 use Rattle.state_shown.specs.laws.RegionSteps.{slots-stay}
-use Rattle.state_shown.specs.laws.RegionSteps.{bundles-same, later-by, bundle-word-concerns}
+use Rattle.state_shown.specs.laws.RegionSteps.{bundles-same, preserves-by, bundle-word-concerns}
 use Rattle.cfg_select_nodes.specs.laws.shown.StepsShown.{SelectStep, cases-stay}
 use Rattle.state_words.specs.Rows.{bundle-word-at, case-body-at, case-word-at, level-at, merges-at, no-total, outputs-at, returned-at}
 use Rattle.state_words.specs.Rows.{spare-slot, types-at}
@@ -30,7 +30,7 @@ pub record Emitting (g : Graph) (a b : ℕ) (w w′ : List ℕ) : Type 0 where
       → (number j ≡ number sections.bundles → ⊥) → (number j ≡ number sections.head → ⊥)
       → section w′ j ≡ section w j
   pub totals : (q : ℕ) → (q ≡ 2 → ⊥) → (q ≡ 3 → ⊥) → word w′ head q ≡ word w head q
-  pub later : Later g w w′
+  pub made-stays : PreservesMade g w w′
   pub beside : (p : ℕ) → (a ≤ p → p < b → ⊥) → SameBundle w w′ p
 
 pub emitting-none : (g : Graph) (a b : ℕ) (w : List ℕ) → Emitting g a b w w
@@ -39,7 +39,7 @@ emitting-none g a b w =
       words = refl;
       others = λ j c d e f. refl;
       totals = λ q c d. refl;
-      later = later-same g w;
+      made-stays = preserves-same g w;
       beside = λ p d. same-bundle w p;
     }
 
@@ -49,7 +49,7 @@ emitting-then x y =
       words = y .words ∙ x .words;
       others = λ j c d e f. y .others j c d e f ∙ x .others j c d e f;
       totals = λ q c d. y .totals q c d ∙ x .totals q c d;
-      later = later-then (x .later) (y .later);
+      made-stays = preserves-then (x .made-stays) (y .made-stays);
       beside = λ p d. same-bundle-then (x .beside p d) (y .beside p d);
     }
 
@@ -59,7 +59,7 @@ emitting-within x h k =
       words = x .words;
       others = x .others;
       totals = x .totals;
-      later = x .later;
+      made-stays = x .made-stays;
       beside = λ p e. x .beside p (λ f i. e (omega arith) (omega arith));
     }
 
@@ -70,18 +70,18 @@ emitting-output changes g a b =
       words = changes .words;
       others = λ j c d e f. changes .others j c f;
       totals = λ q c d. changes .totals q d;
-      later = later-by changes (omega arith) g;
+      made-stays = preserves-by changes (omega arith) g;
       beside = λ p d. bundles-same (changes .others bundles (omega arith) (omega arith)) p;
     }
 
-pub emitting-condition : {w w′ : List ℕ} → ChangesOnly conditions merges-at w w′ → (g : Graph) (a b : ℕ) → Later g w w′
+pub emitting-condition : {w w′ : List ℕ} → ChangesOnly conditions merges-at w w′ → (g : Graph) (a b : ℕ) → PreservesMade g w w′
     → Emitting g a b w w′
-emitting-condition changes g a b later =
+emitting-condition changes g a b made-stays =
     record {
       words = changes .words;
       others = λ j c d e f. changes .others j d f;
       totals = λ q c d. changes .totals q c;
-      later = later;
+      made-stays = made-stays;
       beside = λ p d. bundles-same (changes .others bundles (omega arith) (omega arith)) p;
     }
 
@@ -93,7 +93,7 @@ emitting-word g w p i x h =
       words = changes .words;
       others = λ j c d e f. changes .others j e f;
       totals = λ q c d. ap (λ l. getD l q 0) (section-other w bundles (bundle-word-at p i) x head (omega arith));
-      later = later-by changes (omega arith) g;
+      made-stays = preserves-by changes (omega arith) g;
       beside = λ q d. bundle-word-concerns w p i x h .others q (λ e. d (omega arith) (omega arith));
     }
 
@@ -115,7 +115,7 @@ module _ {g : Graph} {r base : ℕ} {cs : List MaybeClaimedRegion} {a b : ℕ} {
       let at = here .spare in
       let few = here .few in
       record {
-        later = x .later;
+        made-stays = x .made-stays;
         same-kinds = same kinds (omega arith) (omega arith);
         same-starts = same set-starts (omega arith) (omega arith);
         same-head = λ k h. x .totals k (omega arith) (omega arith);
@@ -127,7 +127,7 @@ module _ {g : Graph} {r base : ℕ} {cs : List MaybeClaimedRegion} {a b : ℕ} {
           handle = same children (omega arith) (omega arith) q;
           body = same bodies (omega arith) (omega arith) q;
           backedge = same backedges (omega arith) (omega arith) q;
-          taken = λ j i. same levels (omega arith) (omega arith) (level-at q j);
+          target-answers = λ j i. same levels (omega arith) (omega arith) (level-at q j);
           slot = λ j i. x .beside (word w set-starts q + j) (λ c e.
               let u = here .slots .starts q (omega arith) in
               let v = here .slots .starts 32 (omega arith) in

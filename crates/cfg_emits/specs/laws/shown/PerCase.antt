@@ -23,7 +23,7 @@ use Rattle.state_shown.specs.laws.SetSteps.{condition-shown}
 use Rattle.nesting.specs.steps.TargetsAndCases.{same-target-is, per-cases}
 use Rattle.state_shown.specs.laws.Finds.{Finds, found, none-found, finds}
 use Rattle.state_shown.specs.States.{ShowsCases, no-case}
-use Rattle.cfg_bundles.specs.Words as words
+use Rattle.cfg_bundles.specs.EdgesAndCases as words
 use Rattle.cfg_planning.specs.laws.shown.PerCaseShown.{place-is, inputs-nowhere}
 use Rattle.cfg_planning.specs.Planning.{per-case-deferred, per-case-condition}
 use Rattle.cfg_emits.specs.Emits.{InCases, value-in-case}

@@ -17,7 +17,7 @@ use Rattle.state_shown.specs.Values.{value}
 use Rattle.state_shown.specs.Tables.{ShowsTables, ShowsShape, ShowsCondition, shows-true, cond-count}
 use Rattle.state_shown.specs.laws.DefinedShown.{done-of, full-of}
 use Rattle.state_shown.specs.laws.Elsewhere.{tables-stay, word-elsewhere}
-use Rattle.state_shown.specs.laws.Conditions.{merge-made, merge-changes, merge-later}
+use Rattle.state_shown.specs.laws.Conditions.{merge-made, merge-changes, merge-preserves}
 use Rattle.state_shown.specs.Sets.{ShowsBundle, ShowsSet, SameBundle, no-bundle}
 use Rattle.state_shown.specs.laws.RegionsKept.{bundle-stays}
 use Rattle.state_shown.specs.laws.Finds.{bundle-in}
@@ -29,7 +29,7 @@ use Rattle.cfg_select_nodes.specs.laws.shown.Places.{From, first-of, rest-of, f
 use Rattle.cfg_emits.specs.Emits.{EmitCondition, condition-there, condition-made, no-condition, EmitBundle, inputs-refused}
 use Rattle.cfg_emits.specs.Emits.{bundle-emitted}
 use Rattle.cfg_emits.specs.Emits.{EmitAt, Emits, EmitInputs, places-of, target-at}
-use Rattle.cfg_bundles.specs.Words.{input-count}
+use Rattle.cfg_bundles.specs.EdgesAndCases.{input-count}
 use Rattle.cfg_bundles.specs.laws.shown.Targets.{input-count-shown}
 use Rattle.cfg_select_nodes.specs.laws.shown.RegionsShown.{ShowsMade, shows-made, shows-refused, made-of, refused-of}
 use Rattle.cfg_emits.specs.laws.shown.PerCase.{ShowsPlaces, places-shown, places-stay, parts-shown, count-conditions}
@@ -96,11 +96,12 @@ module _ {g : Graph} {r base : ℕ} {cs : List MaybeClaimedRegion} (n : DefinedS
       let size = y .tables .size in
       rw (u, y .is, p)
       (shows-made {a = merge (n .node) (n .kind) (n .scrutinee) (conditions-of (per-cases x cs))} {s = y .state} (record {
-        emitting = emitting-then (emitting-condition changes g q (q + 1) (merge-later tables m g)) last;
+        emitting = emitting-then (emitting-condition changes g q (q + 1) (merge-preserves tables m g)) last;
         tables = tables-stay (word-elsewhere l₁ bundles (omega arith) (bundle-condition-at q) c) (y .tables);
         others = λ i b d. word-apart l₁ bundles (bundle-condition-at q) c bundles (bundle-word-at q i) (omega arith)
             ∙ same (bundle-word-at q i);
-        shown = rw (word-there l₁ bundles (bundle-condition-at q) c (omega arith) (omega arith)) (last .later .conditions-stay (y .shows));
+        shown = rw (word-there l₁ bundles (bundle-condition-at q) c (omega arith) (omega arith)) (last .made-stays .conditions-stay
+            (y .shows));
       }))
   condition-shown (is-open z u) (no-condition e ps m) =
       let many : length cs ≡ cond-count (conditions-of (per-cases x cs)) =
@@ -255,7 +256,7 @@ with-bundle {base} {i} {many} {e} first (shows-made {a = d} rest) =
       ];
       size = ap suc (rest .size);
       each = elim [
-        | zero ↦ (λ b. rw z (bundle-stays (y .later) here (first .shown)))
+        | zero ↦ (λ b. rw z (bundle-stays (y .made-stays) here (first .shown)))
         | suc j ↦ (λ b. let u : i + suc j ≡ suc i + j = omega arith in rw u (rest .each j (omega arith)))
       ];
     })

@@ -50,7 +50,7 @@ use Rattle.state_shown.specs.laws.RegionSteps.{named-by, named-stay, slots-stay
 use Rattle.state_shown.specs.laws.RegionSteps.{only-region-concerns, only-region-states, state-next, body-set}
 use Rattle.state_words.specs.declared.defined.Made.{Made}
 use Rattle.state_words.specs.declared.defined.Made.the-variants.{Done, Full as Refused}
-use Rattle.cfg_bundles.specs.Words.{condition-in}
+use Rattle.cfg_bundles.specs.EdgesAndCases.{condition-in}
 use Rattle.cfg_loops.specs.Inputs.{backedge-inputs}
 use Rattle.cfg_loops.specs.Exits.{exits-added}
 use Rattle.cfg_loops.specs.Loops.{EntersInputs, LoopDefined, StructurizesLoop, looped, no-wrapper, no-loop}
@@ -315,17 +315,17 @@ module _ {g : Graph} {w : List ℕ} {s : NestState} {r p i : ℕ} {ks : Nodes} {
         let free = x .free in
         let total = total₁ in
         let to = entered .total-to in
-        loop-made-shown F g (entered .tables) (within₂ .later .conditions-stay (condition-shown d (x .set .size) bundle))
+        loop-made-shown F g (entered .tables) (within₂ .made-stays .conditions-stay (condition-shown d (x .set .size) bundle))
         nodes₂ (entered .kept) (omega arith) (omega arith) make
       where
         nodes₂ : ShowsChildren g l₂ (word l₂ children r) ks
         nodes₂ =
             let region-kept = aside-by (defines-changes wraps) (omega arith) (omega arith) (omega arith) (omega arith) g in
-            children-stay (entered .aside .later) (entered .aside .regions r)
-            (children-stay (region-kept .later) (region-kept .regions r) nodes₀)
+            children-stay (entered .aside .made-stays) (entered .aside .regions r)
+            (children-stay (region-kept .made-stays) (region-kept .regions r) nodes₀)
           where
             nodes₀ : ShowsChildren g w₀ (word w₀ children r) ks
-            nodes₀ = rw (only-word-same (swap-removed-only w r p) children (omega arith) r) (concerns₀ .later .nodes-stay (x .nodes))
+            nodes₀ = rw (only-word-same (swap-removed-only w r p) children (omega arith) r) (concerns₀ .made-stays .nodes-stay (x .nodes))
 
     gives-so : gives ≡ loop-step repeat F (entered-state g r wrapper (entered .values) (entered .between))
     gives-so = loop-steps g r ks e repeat exits inputs s is₁ (entered .looked-up)
@@ -370,7 +370,8 @@ module _ {g : Graph} {w : List ℕ} {s : NestState} {r p i : ℕ} {ks : Nodes} {
       set₂ : ShowsOwnSet g l₂ r exits
       set₂ =
           let kept = aside-by (defines-changes wraps) (omega arith) (omega arith) (omega arith) (omega arith) g in
-          own-set-stays (entered .aside .later) (entered .aside .regions r) (own-set-stays (kept .later) (kept .regions r) removed)
+          own-set-stays (entered .aside .made-stays) (entered .aside .regions r) (own-set-stays (kept .made-stays)
+          (kept .regions r) removed)
 
       set₄ : ShowsOwnSet g l₄ r exits
       set₄ = set-beside g l₃ bodies (omega arith) (omega arith) r wrapper (made .0 .own-set set₂)
@@ -379,13 +380,13 @@ module _ {g : Graph} {w : List ℕ} {s : NestState} {r p i : ℕ} {ks : Nodes} {
       exits₄ =
           let below = x .in-graph in
           let few = x .few in
-          let words = body₄ .later .front .words in
+          let words = body₄ .made-stays .front .words in
           let fits = fits₃ in
           let never = no-return-exit (length (g .regions)) (exit-targets g r) few (x .exits-below) in
           exits-shown g r l₄ exits never (omega arith) (slots-stay (within₄ .same-starts) (x .shown .slots)) (omega arith) set₄ low-exits
 
       counted : w′ ≡ exits-added g r l₄
-      counted = count-exits g (stands-on (within₄ .later .front) (x .shown .stands))
+      counted = count-exits g (stands-on (within₄ .made-stays .front) (x .shown .stands))
 
       within₅ : OnlyRegion g r w (exits-added g r l₄)
       within₅ = only-region-then within₄ (only-region-concerns (exits₄ .concerns))
@@ -409,7 +410,7 @@ module _ {g : Graph} {w : List ℕ} {s : NestState} {r p i : ℕ} {ks : Nodes} {
       state₅ : ShowsState g (exits-added g r l₄) (loop₃ .state)
       state₅ =
           let three = x .claimed in
-          state-next (within₅ .later) (only-region-states within₅ (x .few) (omega arith))
+          state-next (within₅ .made-stays) (only-region-states within₅ (x .few) (omega arith))
           (tables-stay (exits₄ .concerns .tables) (tables-stay (body₄ .tables) (loop₃ .tables)))
           (named-stay (exits₄ .concerns .tables) (named-stay (body₄ .tables) (made .0 .named (entered .named)))) same-states (x .shown)
 
@@ -424,7 +425,7 @@ module _ {g : Graph} {w : List ℕ} {s : NestState} {r p i : ℕ} {ks : Nodes} {
             body = own-word bodies (omega arith) (omega arith) ∙ body-set g l₃ fits₃ r (omega arith) wrapper;
             body-below = small;
             nodes = rw (own-word children (omega arith) (omega arith), beside)
-                (exits₄ .concerns .later .nodes-stay (body₄ .later .nodes-stay (loop₃ .nodes)));
+                (exits₄ .concerns .made-stays .nodes-stay (body₄ .made-stays .nodes-stay (loop₃ .nodes)));
             set = exits₄ .set;
             size = x .given;
           }

@@ -22,7 +22,7 @@ use Rattle.state_shown.specs.Sets.{ShowsTarget, shows-region, shows-return, Sho
 use Rattle.state_shown.specs.States.{Slots, ShowsOwnSet, HasSlot}
 use Rattle.state_shown.specs.laws.RegionsKept.{bundle-stays}
 use Rattle.state_shown.specs.laws.Finds.{bundle-in}
-use Rattle.state_shown.specs.laws.RegionSteps.{slots-stay, later-by, OnlyBundle, bundle-same}
+use Rattle.state_shown.specs.laws.RegionSteps.{slots-stay, preserves-by, OnlyBundle, bundle-same}
 use Rattle.state_shown.specs.laws.RegionSteps.{bundle-word-concerns, bundle-concerns}
 use Rattle.state_shown.specs.laws.RegionSteps.{Concerns, concerns-then}
 use Rattle.cfg_loops.specs.Exits.{exit-added, exits-from, exits-added}
@@ -100,13 +100,13 @@ module _ (g : Graph) (r : ℕ) (not-return : is-in 65535 (exit-targets g r) ≡ 
       unfolding exit-targets
       to-region-so t is =
           let four = x .few in
-          let later = later-by (only-exit g r p l .changes) (omega arith) g in
+          let made-stays = preserves-by (only-exit g r p l .changes) (omega arith) g in
           let at : ShowsTarget g (bundle-target l p) (to-region t) = rw is at (x .target) in
           rw is
           (record {
             target = rw (other-word 0 (omega arith)) at;
             count = count-word t (e .accumulated-count) (region-word-is at) (x .count) low-count;
-            condition = rw (other-word 2 (omega arith)) (later .conditions-stay (x .condition));
+            condition = rw (other-word 2 (omega arith)) (made-stays .conditions-stay (x .condition));
             size = rw is at (x .size);
             few = x .few;
             inputs = λ k h. rw (other-word (3 + k) (omega arith)) (x .inputs k h);
@@ -154,7 +154,7 @@ module _ (g : Graph) (r : ℕ) (not-return : is-in 65535 (exit-targets g r) ≡ 
       let at : bundle-at start i ≡ p = bundle-in start i (omega arith) (omega arith) in
       let only = only-exit g r p l in
       let c = x .concerns in
-      let words = c .later .front .words in
+      let words = c .made-stays .front .words in
       let here : p ≡ word l set-starts r + i = rw (c .same-starts r) (ap (λ z. z + i) own) in
       let step = bundle-concerns only g r i (slots-stay (λ a b. c .same-starts a) slots) below (omega arith) here in
       rw at
@@ -162,11 +162,11 @@ module _ (g : Graph) (r : ℕ) (not-return : is-in 65535 (exit-targets g r) ≡ 
         concerns = concerns-then c step;
         changes = changes-then (x .changes) (only .changes);
         passed = λ j b. elim (decLt j i) [
-          | yes lt ↦ bundle-stays (step .later) (only .others (start + j) (omega arith)) (x .passed j lt)
+          | yes lt ↦ bundle-stays (step .made-stays) (only .others (start + j) (omega arith)) (x .passed j lt)
           | no ge ↦ (let e : j ≡ i = omega arith in
               rw e (exit-bundle g r not-return p l (omega arith) (omega arith) (x .left i (omega arith) h) (low i h)))
         ];
-        left = λ j a b. bundle-stays (step .later) (only .others (start + j) (omega arith)) (x .left j (omega arith) b);
+        left = λ j a b. bundle-stays (step .made-stays) (only .others (start + j) (omega arith)) (x .left j (omega arith) b);
         targets = λ j. same-target-word g r not-return p (start + j) l ∙ x .targets j;
       }
 

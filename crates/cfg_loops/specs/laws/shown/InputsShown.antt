@@ -24,7 +24,7 @@ use Rattle.state_shown.specs.Cells.{none-kept}
 use Rattle.state_shown.specs.laws.RegionSteps.{Aside, aside-same, aside-then}
 use Rattle.state_shown.specs.laws.CellSteps.{ShowsKeptList, kept-added, cell-aside, cell-tables, cell-total, cell-handle}
 use Rattle.cfg_lookups.specs.laws.shown.Shown.{held-below}
-use Rattle.cfg_loops.specs.declared.inputs.Taken.{Taken}
+use Rattle.cfg_loops.specs.declared.inputs.LoopInputs as code
 use Rattle.cfg_loops.specs.Inputs.{KeepsInput, TakesInput, lifted, kept, beyond, TakesFrom, none-taken, one-taken}
 use Rattle.state_words.specs.Values.{held-from, input-from, input-word-at, names-nothing}
 use Rattle.state_words.specs.Rows.{cells-at, most-cells}
@@ -50,7 +50,7 @@ taken-more g r wrapper k (u ∷ vs) v x =
     ∙ ap (λ z. take-input g r wrapper z v (take-inputs g r wrapper (suc k) vs (take-input g r wrapper k u x))) (sym e)
 
 -- The first k are taken: from l and vs to l₁ and ws.
-pub record InputsTaken (g : Graph) (r wrapper k : ℕ) (l vs l₁ ws : List ℕ) (x : Taken) (vals : List Value) : Type 0 where
+pub record InputsTaken (g : Graph) (r wrapper k : ℕ) (l vs l₁ ws : List ℕ) (x : code.LoopInputs) (vals : List Value) : Type 0 where
   pub inputs : LoopInputs
   pub are : inputs ≡ take-inputs g r wrapper 0 (take k vals) no-inputs
   pub kept : ShowsKeptList g l₁ r (x .cells) inputs
@@ -69,10 +69,10 @@ pub record InputsTaken (g : Graph) (r wrapper k : ℕ) (l vs l₁ ws : List ℕ)
 module _ (g : Graph) (r wrapper n : ℕ) (l vs : List ℕ) (vals : List Value) (size : n ≡ length vals) (four : length vs ≡ 4) (few : n ≤ 4)
     (is : (j : ℕ) → j < n → value (getD vs j 0) ≡ getD vals j (undef 0)) (header : r < most-regions) (wraps : wrapper < most-regions)
     (free : word l head cells-at + 4 ≤ most-cells) (room : used ≤ length l) (one : 1 ≤ word l head cells-at) where
-  abbrev So : ℕ → List ℕ → List ℕ → Taken → Type 0
+  abbrev So : ℕ → List ℕ → List ℕ → code.LoopInputs → Type 0
   So k l₁ ws x = InputsTaken g r wrapper k l vs l₁ ws x vals
 
-  none-so : {x : Taken} → x .count ≡ 0 → x .cells ≡ 0 → So 0 l vs x
+  none-so : {x : code.LoopInputs} → x .count ≡ 0 → x .cells ≡ 0 → So 0 l vs x
   none-so {x} a b =
       record {
         inputs = no-inputs;
@@ -91,7 +91,7 @@ module _ (g : Graph) (r wrapper n : ℕ) (l vs : List ℕ) (vals : List Value) (
         total-to = omega arith;
       }
 
-  module _ {k : ℕ} {l₁ ws : List ℕ} {x : Taken} (so : So k l₁ ws x) (place : k < 4) (entry : ℕ) where
+  module _ {k : ℕ} {l₁ ws : List ℕ} {x : code.LoopInputs} (so : So k l₁ ws x) (place : k < 4) (entry : ℕ) where
     -- An entry more: those before it, and it.
     named-more : {ws′ : List ℕ} → ws′ ≡ set ws k entry → entry < names-nothing → (j : ℕ) → j < k + 1 → getD ws′ j 0 < names-nothing
     named-more e h j b =
@@ -132,7 +132,8 @@ module _ (g : Graph) (r wrapper n : ℕ) (l vs : List ℕ) (vals : List Value) (
         rw (e, taken-more g r wrapper 0 (take k vals) (getD vals k (undef 0)) no-inputs, m, so .are)
 
     -- Passed back unchanged.
-    lifted-so : {y : Taken} {ws′ : List ℕ} → k < n → getD ws k 0 ≡ region-word input-from r k → y .count ≡ x .count → y .cells ≡ x .cells
+    lifted-so : {y : code.LoopInputs} {ws′ : List ℕ} → k < n → getD ws k 0 ≡ region-word input-from r k → y .count ≡ x .count
+        → y .cells ≡ x .cells
         → entry ≡ region-word input-from wrapper k → ws′ ≡ set ws k entry → So (k + 1) l₁ ws′ y
     lifted-so {y} h e c d f w =
         let v = getD vals k (undef 0) in
@@ -171,7 +172,7 @@ module _ (g : Graph) (r wrapper n : ℕ) (l vs : List ℕ) (vals : List Value) (
         }
 
     -- Beyond the header's inputs the words have what the definition takes there.
-    beyond-so : {y : Taken} {ws′ : List ℕ} → n ≤ k → y .count ≡ x .count → y .cells ≡ x .cells → entry ≡ region-word held-from r k
+    beyond-so : {y : code.LoopInputs} {ws′ : List ℕ} → n ≤ k → y .count ≡ x .count → y .cells ≡ x .cells → entry ≡ region-word held-from r k
         → ws′ ≡ set ws k entry → So (k + 1) l₁ ws′ y
     beyond-so {y} h c d f w =
         let same : take (k + 1) vals ≡ take k vals = take-all (k + 1) vals (omega arith) ∙ sym (take-all k vals (omega arith)) in
@@ -200,7 +201,7 @@ module _ (g : Graph) (r wrapper n : ℕ) (l vs : List ℕ) (vals : List Value) (
         }
 
     -- Kept, and renumbered.
-    kept-so : {l′ ws′ : List ℕ} {y : Taken} → k < n → (getD ws k 0 ≡ region-word input-from r k → ⊥)
+    kept-so : {l′ ws′ : List ℕ} {y : code.LoopInputs} → k < n → (getD ws k 0 ≡ region-word input-from r k → ⊥)
         → KeepsInput r wrapper k (getD ws k 0) x l₁ l′ y → entry ≡ y .entry → ws′ ≡ set ws k entry → So (k + 1) l′ ws′ y
     kept-so {l′} {ws′} {y} h d step f w =
         let v = getD vals k (undef 0) in
@@ -220,7 +221,7 @@ module _ (g : Graph) (r wrapper n : ℕ) (l vs : List ℕ) (vals : List Value) (
         let few = so .few in
         let from = so .total-from in
         let to = so .total-to in
-        let words = so .aside .later .front .words in
+        let words = so .aside .made-stays .front .words in
         let free-cell : word l₁ head cells-at < most-cells = omega arith in
         let fits : used ≤ length l₁ = omega arith in
         let inputs = keep-input (input wrapper k) (getD (region g r .inputs) k 0) v (so .inputs) in
@@ -251,7 +252,8 @@ module _ (g : Graph) (r wrapper n : ℕ) (l vs : List ℕ) (vals : List Value) (
           total-to = omega arith;
         }
 
-  input-turn : {k i : ℕ} {l₁ ws l′ ws′ : List ℕ} {x y : Taken} → So k l₁ ws x → k < 4 → TakesInput r wrapper n k (getD ws k 0) x l₁ l′ y
+  input-turn : {k i : ℕ} {l₁ ws l′ ws′ : List ℕ} {x y : code.LoopInputs} → So k l₁ ws x → k < 4
+      → TakesInput r wrapper n k (getD ws k 0) x l₁ l′ y
       → i ≡ k + 1 → ws′ ≡ set ws k (y .entry) → So i l′ ws′ y
   input-turn {k} {i} {l₁} {ws} {l′} {ws′} {x} {y} so h (lifted a b c d e f) at w =
       subst (λ z. So z l′ ws′ y) (sym at)
@@ -262,7 +264,7 @@ module _ (g : Graph) (r wrapper n : ℕ) (l vs : List ℕ) (vals : List Value) (
       subst (λ z. So z l′ ws′ y) (sym at)
       (subst (λ z. So (k + 1) z ws′ y) (sym b) (beyond-so so h (y .entry) a c d e w))
 
-  pub taken-to : {k : ℕ} {l₁ ws : List ℕ} {x : Taken} → k ≤ 4 → TakesFrom r wrapper n k l vs l₁ ws x → So k l₁ ws x
+  pub taken-to : {k : ℕ} {l₁ ws : List ℕ} {x : code.LoopInputs} → k ≤ 4 → TakesFrom r wrapper n k l vs l₁ ws x → So k l₁ ws x
   taken-to {k} {l₁} {ws} {x} h (none-taken e f w c d) =
       subst (λ z. So z l₁ ws x) (sym e) (subst (λ z. So 0 z ws x) (sym f) (subst (λ z. So 0 l z x) (sym w) (none-so c d)))
   taken-to {k} h (one-taken made step at w) =

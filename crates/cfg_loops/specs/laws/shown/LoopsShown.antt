@@ -81,7 +81,7 @@ inputs-entered g {r} {wrapper} {n} {h} {l} {vs} {l′} {vals} {s} t named all si
     so .are ∙ ap (λ z. take-inputs g r wrapper 0 z no-inputs) (take-all 4 (x .values) (omega arith)) in
     let from = so .total-from in
     let to = so .total-to in
-    let mid = so .aside .later .front .words in
+    let mid = so .aside .made-stays .front .words in
     let wlen = so .len in
     let changes = insert-changes l₂ r 2 ws 7 in
     let after = changes .totals cells-at (omega arith) in
@@ -122,7 +122,7 @@ set-beside g w k o five r x s =
     let c = word-concerns g w k o r x in
     let lengths = ap (λ l. getD l r 0) (section-other w k r x set-lengths five) in
     rw (c .same-starts r, lengths)
-    (set-stays (c .later) (λ i h. bundles-same (section-other w k r x bundles (omega arith)) (word w set-starts r + i)) s)
+    (set-stays (c .made-stays) (λ i h. bundles-same (section-other w k r x bundles (omega arith)) (word w set-starts r + i)) s)
 
 pub record LoopWithin (g : Graph) (r : ℕ) (l l′ : List ℕ) : Type 0 where
   pub within : OnlyRegion g r l l′
@@ -146,7 +146,7 @@ aside-within : {g : Graph} (r : ℕ) {l l′ : List ℕ} → Aside g l l′ → 
 aside-within r a e f =
     record {
       within = only-region-aside r a;
-      own-set = λ s. own-set-stays (a .later) (a .regions r) s;
+      own-set = λ s. own-set-stays (a .made-stays) (a .regions r) s;
       named = λ n. named-by e n;
       total-from = omega arith;
       total-to = omega arith;
@@ -174,7 +174,7 @@ module _ {g : Graph} {r n x kept : ℕ} {l l′ : List ℕ} {y : LoopInputs} {ks
       let aside = cell-aside cell free room g in
       let tables = cell-tables cell free room in
       let c = word-concerns g l₁ children (omega arith) r h in
-      let words = aside .later .front .words in
+      let words = aside .made-stays .front .words in
       let total = cell-total cell free room in
       let handle = cell-handle cell free room in
       let same = c .same-head cells-at in
@@ -183,7 +183,7 @@ module _ {g : Graph} {r n x kept : ℕ} {l l′ : List ℕ} {y : LoopInputs} {ks
       subst (λ z. LoopWithin g r l z × SameTables l z × ShowsChildren g z (word z children r) looped) (sym e) (
         record {
           within = only-region-then (only-region-aside r aside) (only-region-concerns c);
-          own-set = λ s. set-beside g l₁ children (omega arith) (omega arith) r h (own-set-stays (aside .later) (aside .regions r) s);
+          own-set = λ s. set-beside g l₁ children (omega arith) (omega arith) r h (own-set-stays (aside .made-stays) (aside .regions r) s);
           named = λ q. named-stay (c .tables) (named-stay tables q);
           total-from = omega arith;
           total-to = omega arith;
@@ -230,7 +230,7 @@ module _ {A : Type 0} (F : Value → ℕ → A) (g : Graph) {r c kept : ℕ} {l 
       let total₂ = second .totals cells-at (omega arith) in
       let aside = aside-then (aside-by first (omega arith) (omega arith) (omega arith) (omega arith) g)
       (aside-by second (omega arith) (omega arith) (omega arith) (omega arith) g) in
-      let there : ShowsChildren g l₂ (word l₂ children r) ks = children-stay (aside .later) (aside .regions r) nodes in
+      let there : ShowsChildren g l₂ (word l₂ children r) ks = children-stay (aside .made-stays) (aside .regions r) nodes in
       let listed : ShowsKeptList g l₂ r kept y =
       kept-list-by second (omega arith) (omega arith) (kept-list-by first (omega arith) (omega arith) keeps) in
       let end = loop-cell-added {y = y} {ks = ks} {v = v .value} (omega arith) (omega arith) low added there (v .shows) listed in (

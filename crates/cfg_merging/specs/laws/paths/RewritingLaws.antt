@@ -16,7 +16,7 @@ use Rattle.cfg_lookups.specs.LookUps.{look-up, Rewrites}
 use Rattle.state_shown.specs.Front.{SameKinds}
 use Rattle.state_shown.specs.laws.FrontKept.{kinds-same, kinds-stored, kinds-then, stands-kept, kinds-input-stored}
 use Rattle.cfg_merging.specs.Turns.{turned, turn-last, front-turned}
-use Rattle.cfg_bundles.specs.Words.{input-count}
+use Rattle.cfg_bundles.specs.EdgesAndCases.{input-count}
 use Rattle.cfg_merging.specs.Rewriting.{noted, rewrite-input, rewrite-case-input, rewrite-bundle, rewrite-set, rewrite-inputs}
 use Rattle.cfg_merging.specs.Rewriting.{rewrite-given, rewrite-case}
 use Rattle.state_words.specs.Rows.{bundle-target, case-claimed, case-input, case-input-at, case-kind, case-origin, case-set-length}

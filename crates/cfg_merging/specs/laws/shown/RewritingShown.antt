@@ -31,11 +31,11 @@ use Rattle.state_shown.specs.States.{shows-others, no-case, HasSlot}
 use Rattle.state_shown.specs.States.{ShowsRegion, is-not-begun, is-in-progress, is-ready, is-claimed}
 use Rattle.state_shown.specs.laws.Conditions.{condition-same}
 use Rattle.state_shown.specs.laws.FrontKept.{stands-on}
-use Rattle.state_shown.specs.Kept.{Later, KeptRegion}
+use Rattle.state_shown.specs.Kept.{PreservesMade, KeptRegion}
 use Rattle.state_shown.specs.laws.RegionsKept.{bundle-stays, set-stays, same-bundle, same-bundle-then}
 use Rattle.cfg_merging.specs.Turns.{turned}
 use Rattle.cfg_merging.specs.Turns.{turned-same}
-use Rattle.cfg_bundles.specs.Words.{input-count}
+use Rattle.cfg_bundles.specs.EdgesAndCases.{input-count}
 use Rattle.cfg_merging.specs.Rewriting.{rewrite-input, rewrite-case-input, rewrite-bundle, rewrite-set, rewrite-inputs, rewrite-given}
 use Rattle.cfg_merging.specs.Rewriting.{rewrite-case, rewrite-cases}
 use Rattle.cfg_merging.specs.laws.shown.Spare.{case-stays}
@@ -70,8 +70,8 @@ stays-then a b =
       bundle-fields = λ p i h. b .bundle-fields p i h ∙ a .bundle-fields p i h;
     }
 
-pub stays-later : {w w′ : List ℕ} (g : Graph) → Stays w w′ → Later g w w′
-stays-later g x =
+pub stays-preserves : {w w′ : List ℕ} (g : Graph) → Stays w w′ → PreservesMade g w w′
+stays-preserves g x =
     record {
       front = record { words = x .words; front-words = x .others front (omega arith) (omega arith) (omega arith) };
       conditions-stay = condition-same (x .others conditions (omega arith) (omega arith) (omega arith))
@@ -169,7 +169,7 @@ module _ (g : Graph) (valid : Valid g) where
           shown = record {
             target = rw (row-stays .bundle-fields p 0 (omega arith)) (x .target);
             count = row-stays .bundle-fields p 1 (omega arith) ∙ x .count;
-            condition = rw (row-stays .bundle-fields p 2 (omega arith)) (stays-later g row-stays .conditions-stay (x .condition));
+            condition = rw (row-stays .bundle-fields p 2 (omega arith)) (stays-preserves g row-stays .conditions-stay (x .condition));
             size = same ∙ x .size;
             few = rw same few;
             inputs = λ k h. let e : 0 + k ≡ k = omega arith in rw e at (row-is .named k (rw same at h));
@@ -220,7 +220,7 @@ module _ (g : Graph) (valid : Valid g) where
       let ih = bundles-rewritten start d (with-twice b s) all l₁ (one .tables) (names-stay st names) (returned-stays st back) (suc i)
       (omega arith) (omega arith)
       (λ k h. let e : suc i + k ≡ i + suc k = omega arith in
-      rw e (bundle-stays (stays-later g st) (one .others (start + (i + suc k)) (omega arith)) (shown (suc k) (omega arith)))) in
+      rw e (bundle-stays (stays-preserves g st) (one .others (start + (i + suc k)) (omega arith)) (shown (suc k) (omega arith)))) in
       let l′ = turned (set-step start) l₁ (length d) (suc i) in
       subst (λ p. SetShown s l (turned (set-step start) (rewrite-bundle g l p) (length d) (suc i)) start i (e ∷ d))
       (sym (bundle-in start i (omega arith) (omega arith)))
@@ -228,7 +228,7 @@ module _ (g : Graph) (valid : Valid g) where
         stays = stays-then st (ih .stays);
         same-cases = ih .same-cases ∙ one .same-cases;
         each = at-cons (λ q x. ShowsBundle g l′ (start + q) x) no-bundle i (length d) (map (λ x. bundle-found s x .value) d)
-            (bundle-stays (stays-later g (ih .stays)) (ih .before (start + i) (omega arith)) (one .shown)) (ih .each);
+            (bundle-stays (stays-preserves g (ih .stays)) (ih .before (start + i) (omega arith)) (one .shown)) (ih .each);
         before = λ q h. same-bundle-then (one .others q (omega arith)) (ih .before q (omega arith));
         behind = λ q h. same-bundle-then (one .others q (omega arith)) (ih .behind q (omega arith));
         tables = subst (λ z. ShowsTables l′ z) (two-notes b (any (λ x. bundle-found s x .twice) d) s) (ih .tables);
@@ -277,7 +277,7 @@ module _ (g : Graph) (valid : Valid g) where
       → ((k : ℕ) → k < 4 → case-input l′ j k ≡ case-input l j k)
       → {c : MaybeClaimedRegion} → ShowsCase g l r j c → ShowsCase g l′ r j c
   inputs-stay st r j same x =
-      case-stays (stays-later g st) r j (λ q. ap (λ z. getD z q 0) (st .others set-starts (omega arith) (omega arith) (omega arith)))
+      case-stays (stays-preserves g st) r j (λ q. ap (λ z. getD z q 0) (st .others set-starts (omega arith) (omega arith) (omega arith)))
       (λ i h. st .case-fields j i h) same x
 
   module _ (s : NestState) (all : (r : ℕ) → ChainsEnd (s .region-input-rewrites) r) (l : List ℕ) (t : ShowsTables l s)
@@ -365,7 +365,7 @@ module _ (g : Graph) (valid : Valid g) where
               (map (λ e. bundle-found s e .value) (c .deferred-edges))}
               (st .case-fields j 0 (omega arith) ∙ kind) (st .case-fields j 1 (omega arith) ∙ origin) in-graph
               (st .case-fields j 2 (omega arith) ∙ body) lower
-              (rw (st .case-fields j 3 (omega arith)) (stays-later g st .nodes-stay nodes))
+              (rw (st .case-fields j 3 (omega arith)) (stays-preserves g st .nodes-stay nodes))
               (st .case-fields j 4 (omega arith) ∙ start ∙ ap (λ z. getD z (c .origin) 0) (sym starts))
               (length-map (c .structured-body-inputs) (λ v. ρ s v .value) ∙ size)
               (given-named c kind origin in-graph size inputs);
@@ -407,7 +407,7 @@ module _ (g : Graph) (valid : Valid g) where
       let n = case-set-length m j in
       let old-set : ShowsSet g m start n (deferred-of c) =
       rw (st .case-fields j 4 (omega arith), st .case-fields j 5 (omega arith))
-      (set-stays (stays-later g st) (λ i h. record {
+      (set-stays (stays-preserves g st) (λ i h. record {
         words = λ q b. ap (λ z. getD z (bundle-word-at (case-set-start l j + i) q) 0)
             (given .same-bundles);
       }) y) in
@@ -459,7 +459,7 @@ module _ (g : Graph) (valid : Valid g) where
       → {d : DeferredEdgeBundleSet} → ShowsSet g l (case-set-start l j) (case-set-length l j) d
       → ShowsSet g l′ (case-set-start l′ j) (case-set-length l′ j) d
   moved-set st j same x =
-      rw (st .case-fields j 4 (omega arith), st .case-fields j 5 (omega arith)) (set-stays (stays-later g st) same x)
+      rw (st .case-fields j 4 (omega arith), st .case-fields j 5 (omega arith)) (set-stays (stays-preserves g st) same x)
 
   cases-turned : (r : ℕ) (cs : List MaybeClaimedRegion) (s : NestState) → ((q : ℕ) → ChainsEnd (s .region-input-rewrites) q)
       → (l : List ℕ) → ShowsTables l s → NamedRewrites l → ShowsReturned g l → (j : ℕ) → j + length cs ≤ 8
@@ -547,7 +547,7 @@ rewrite-is cs s = refl
 pub record CasesRewritten (g : Graph) (w w′ : List ℕ) (r : ℕ) (s : NestState) (cs : List MaybeClaimedRegion) : Type 0 where
   pub cases-shown : ShowsCases g w′ r (cases-after s cs)
   pub state : ShowsState g w′ (state-after s cs)
-  pub later : Later g w w′
+  pub made-stays : PreservesMade g w w′
   pub stays : Stays w w′
   pub outside : (q : ℕ)
       → ((j p : ℕ) → j < length cs → p < case-set-length w j → q ≡ case-set-start w j + p → ⊥)
@@ -603,8 +603,8 @@ module _ (g : Graph) (valid : Valid g) (w : List ℕ) (r : ℕ) (s : NestState) 
         → ShowsRegion g (rewrite-cases g w) q y
     region-after none {q} h y = go y
       where
-        later : Later g w (rewrite-cases g w)
-        later = stays-later g (whole .stays)
+        made-stays : PreservesMade g w (rewrite-cases g w)
+        made-stays = stays-preserves g (whole .stays)
 
         same : (k : Section) → (number k ≡ number sections.cases → ⊥) → (number k ≡ number sections.bundles → ⊥)
             → (number k ≡ number sections.head → ⊥)
@@ -622,9 +622,9 @@ module _ (g : Graph) (valid : Valid g) (w : List ℕ) (r : ℕ) (s : NestState) 
             let few = d .few in
             let count = valid .count in
             is-ready {b = back} {ks = ks} {d = own} (kind ∙ a) (same backedges (omega arith) (omega arith) (omega arith) ∙ b)
-            (rw (same children (omega arith) (omega arith) (omega arith)) (later .nodes-stay n))
+            (rw (same children (omega arith) (omega arith) (omega arith)) (made-stays .nodes-stay n))
             (rw (same set-starts (omega arith) (omega arith) (omega arith), same set-lengths (omega arith) (omega arith) (omega arith))
-            (set-stays later (λ i z. bundles-outside (word w set-starts q + i) (λ j p u v e.
+            (set-stays made-stays (λ i z. bundles-outside (word w set-starts q + i) (λ j p u v e.
             case-apart q (omega arith) (none .parent-slot) (λ f. none .parent (ap (λ m. region-kind w m) (sym f) ∙ a)) j u
             (λ f m. none .origins j u f (ap (λ o. region-kind w o) (sym m) ∙ a)) i p (omega arith) v e)) d))
 
@@ -633,7 +633,7 @@ module _ (g : Graph) (valid : Valid g) (w : List ℕ) (r : ℕ) (s : NestState) 
     rewrite-cases-shown none =
         let w′ = rewrite-cases g w in
         let st = whole .stays in
-        let later = stays-later g st in
+        let made-stays = stays-preserves g st in
         let same = length-map cs (λ c. case-found s c .value) in
         let starts : (q : ℕ) → word w′ set-starts q ≡ word w set-starts q =
         λ q. ap (λ z. getD z q 0) (st .others set-starts (omega arith) (omega arith) (omega arith)) in
@@ -653,7 +653,7 @@ module _ (g : Graph) (valid : Valid g) (w : List ℕ) (r : ℕ) (s : NestState) 
                 (x .not-spare j p q (rw same at a));
           };
           state = record {
-            stands = stands-on (later .front) (shown .stands);
+            stands = stands-on (made-stays .front) (shown .stands);
             tables = whole .tables;
             named = names-stay st (shown .named);
             size = shown .size;
@@ -661,7 +661,7 @@ module _ (g : Graph) (valid : Valid g) (w : List ℕ) (r : ℕ) (s : NestState) 
             slots = slots-stay (λ a h. starts a) (shown .slots);
             returned = returned-stays st (shown .returned);
           };
-          later = later;
+          made-stays = made-stays;
           stays = st;
           outside = bundles-outside;
         }
@@ -680,6 +680,6 @@ module _ (g : Graph) (valid : Valid g) (w : List ℕ) (r : ℕ) (s : NestState) 
           handle = same children (omega arith) (omega arith) (omega arith) q;
           body = same bodies (omega arith) (omega arith) (omega arith) q;
           backedge = same backedges (omega arith) (omega arith) (omega arith) q;
-          taken = λ j z. same levels (omega arith) (omega arith) (omega arith) (level-at q j);
+          target-answers = λ j z. same levels (omega arith) (omega arith) (omega arith) (level-at q j);
           slot = λ i z. bundles-outside (word w set-starts q + i) (λ j p u v e. case-apart q h below d j u (f j u) i p z v e);
         }

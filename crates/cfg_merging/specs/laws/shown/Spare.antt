@@ -19,7 +19,7 @@ use Rattle.state_shown.specs.laws.Elsewhere.{SameTables, tables-stay}
 use Rattle.state_shown.specs.laws.FrontKept.{stands-on}
 use Rattle.state_shown.specs.Sets.{SameBundle}
 use Rattle.state_shown.specs.States.{Slots, ShowsState, ShowsCases, ShowsCase, shows-ok, shows-nothing, shows-edge, shows-others}
-use Rattle.state_shown.specs.Kept.{Later, KeptRegion}
+use Rattle.state_shown.specs.Kept.{PreservesMade, KeptRegion}
 use Rattle.state_shown.specs.laws.RegionsKept.{set-stays, region-stays}
 use Rattle.state_shown.specs.laws.Stores.{word-apart}
 use Rattle.state_shown.specs.laws.RegionSteps.{named-by, slots-stay}
@@ -27,18 +27,18 @@ use Rattle.state_words.specs.Rows.{bundle-row-at, bundle-word-at, case-input, c
 use Rattle.state_words.specs.Rows.{case-set-start-at, case-word, case-word-at, level-at, slot-words, spare-slot}
 
 -- ---- A case stays shown where its words and the slots do.
-pub case-stays : {g : Graph} {l l′ : List ℕ} → Later g l l′ → (r j : ℕ) → ((q : ℕ) → word l′ set-starts q ≡ word l set-starts q)
+pub case-stays : {g : Graph} {l l′ : List ℕ} → PreservesMade g l l′ → (r j : ℕ) → ((q : ℕ) → word l′ set-starts q ≡ word l set-starts q)
     → ((i : ℕ) → i < 6 → case-word l′ j i ≡ case-word l j i)
     → ((k : ℕ) → k < 4 → case-input l′ j k ≡ case-input l j k)
     → {c : MaybeClaimedRegion} → ShowsCase g l r j c → ShowsCase g l′ r j c
-case-stays later r j starts f same (shows-ok {c} kind origin in-graph body below nodes start size inputs) =
+case-stays made-stays r j starts f same (shows-ok {c} kind origin in-graph body below nodes start size inputs) =
     shows-ok {c = c} (f 0 (omega arith) ∙ kind) (f 1 (omega arith) ∙ origin) in-graph (f 2 (omega arith) ∙ body) below
-    (rw (f 3 (omega arith)) (later .nodes-stay nodes))
+    (rw (f 3 (omega arith)) (made-stays .nodes-stay nodes))
     (f 4 (omega arith) ∙ start ∙ sym (starts (c .origin))) size (λ k h. rw (same k h) (inputs k h))
-case-stays later r j starts f same (shows-nothing kind none) = shows-nothing (f 0 (omega arith) ∙ kind) (f 5 (omega arith) ∙ none)
-case-stays later r j starts f same (shows-edge {d} kind start one) =
+case-stays made-stays r j starts f same (shows-nothing kind none) = shows-nothing (f 0 (omega arith) ∙ kind) (f 5 (omega arith) ∙ none)
+case-stays made-stays r j starts f same (shows-edge {d} kind start one) =
     shows-edge {d = d} (f 0 (omega arith) ∙ kind) (f 4 (omega arith) ∙ start) (f 5 (omega arith) ∙ one)
-case-stays later r j starts f same (shows-others {d} kind start) =
+case-stays made-stays r j starts f same (shows-others {d} kind start) =
     shows-others {d = d} (f 0 (omega arith) ∙ kind) (f 4 (omega arith) ∙ start ∙ sym (starts r))
 
 -- ---- From w to w′ only the spare slot's bundles and length change; it starts at bundle o.
@@ -112,8 +112,8 @@ module _ {o : ℕ} {w w′ : List ℕ} (y : SpareOnly o w w′) where
         totals = λ q a b. spare-there head (omega arith) (omega arith) q;
       }
 
-  pub spare-later : (g : Graph) → Later g w w′
-  spare-later g =
+  pub spare-preserves : (g : Graph) → PreservesMade g w w′
+  spare-preserves g =
       record {
         front = record { words = y .words; front-words = y .others front (omega arith) (omega arith) };
         conditions-stay = condition-same (y .others conditions (omega arith) (omega arith)) (y .others cells (omega arith) (omega arith))
@@ -147,18 +147,18 @@ module _ {o : ℕ} {w w′ : List ℕ} (y : SpareOnly o w w′) where
           handle = spare-there children (omega arith) (omega arith) q;
           body = spare-there bodies (omega arith) (omega arith) q;
           backedge = spare-there backedges (omega arith) (omega arith) q;
-          taken = λ j d. spare-there levels (omega arith) (omega arith) (level-at q j);
+          target-answers = λ j d. spare-there levels (omega arith) (omega arith) (level-at q j);
           slot = λ i d. spare-outside (word w set-starts q + i) (λ k c e. apart (omega arith));
         }
 
     pub spare-state : Valid g → {s : NestState} → ShowsState g w s → ShowsState g w′ s
     spare-state valid x =
         record {
-          stands = stands-on (spare-later g .front) (x .stands);
+          stands = stands-on (spare-preserves g .front) (x .stands);
           tables = tables-stay spare-tables (x .tables);
           named = named-by (y .others rewrites (omega arith) (omega arith)) (x .named);
           size = x .size;
-          regions = λ q h. region-stays (spare-later g) (spare-keeps (valid .count .1) q h)
+          regions = λ q h. region-stays (spare-preserves g) (spare-keeps (valid .count .1) q h)
               (spare-there kinds (omega arith) (omega arith) q) (x .regions q h);
           slots = slots-stay (λ a h. spare-there set-starts (omega arith) (omega arith) a) slots;
           returned = record {
@@ -173,9 +173,10 @@ module _ {o : ℕ} {w w′ : List ℕ} (y : SpareOnly o w w′) where
         record {
           size = spare-total ∙ x .size;
           few = x .few;
-          each = λ j h. case-stays (spare-later g) r j (spare-there set-starts (omega arith) (omega arith)) (λ i b. f (case-word-at j i))
+          each = λ j h. case-stays (spare-preserves g) r j (spare-there set-starts (omega arith) (omega arith)) (λ i b. f
+              (case-word-at j i))
               (λ k b. f (case-input-at j k)) (x .each j h);
-          sets = λ j h. rw (f (case-set-start-at j), f (case-set-length-at j)) (set-stays (spare-later g) (λ i b.
+          sets = λ j h. rw (f (case-set-start-at j), f (case-set-length-at j)) (set-stays (spare-preserves g) (λ i b.
               spare-outside (case-set-start w j + i) (λ k c e. x .not-spare j i k h b c (e ∙ ap (λ z. z + k) (sym spare))))
               (x .sets j h));
           apart = λ i j p q a b. rw (f (case-set-length-at i), f (case-set-length-at j), f (case-set-start-at i), f (case-set-start-at j))

@@ -22,12 +22,12 @@ use Rattle.state_words.specs.laws.Apart.{section-other}
 use Rattle.state_shown.specs.laws.Stores.{section-run, run-length, part-length, word-there, word-apart}
 use Rattle.state_shown.specs.Sets.{ShowsTarget, shows-region, shows-return, target-size, ShowsBundle, ShowsSet, no-bundle}
 use Rattle.state_shown.specs.States.{ShowsState, ShowsCases, no-case}
-use Rattle.state_shown.specs.Kept.{Later, KeptRegion}
+use Rattle.state_shown.specs.Kept.{PreservesMade, KeptRegion}
 use Rattle.state_shown.specs.laws.RegionsKept.{bundle-stays, set-stays}
 use Rattle.cfg_merging.specs.Turns.{turned}
 use Rattle.cfg_merging.specs.Targets.{longer, summarize-bundle, summarize-set, summarize-case, deferred-targets}
 use Rattle.cfg_merging.specs.laws.shown.Spare.{SpareOnly, spare-same, spare-word, spare-length, spare-three, spare-then}
-use Rattle.cfg_merging.specs.laws.shown.Spare.{spare-there, spare-later}
+use Rattle.cfg_merging.specs.laws.shown.Spare.{spare-there, spare-preserves}
 use Rattle.cfg_merging.specs.laws.shown.Spare.{spare-outside}
 use Rattle.cfg_merging.specs.laws.shown.Spare.{spare-keeps, spare-state, spare-cases}
 use Rattle.meaning.specs.facts.Pigeonhole.{pigeonhole}
@@ -358,7 +358,7 @@ module _ (g : Graph) (valid : Valid g) where
       let next : (k : ℕ) → suc i + k ≡ i + suc k = λ k. omega arith in
       let ih = bundles-summarized o below start d l₁ (rw (one .spare .words) full)
       (spare-there (one .spare) set-starts (omega arith) (omega arith) 32 ∙ at) (suc i) (omega arith) (omega arith)
-      (λ k h. rw (next k) (bundle-stays (spare-later (one .spare) g)
+      (λ k h. rw (next k) (bundle-stays (spare-preserves (one .spare) g)
       (spare-outside (one .spare) (start + (i + suc k)) (λ q b. apart (suc k) q (omega arith) b)) (shown (suc k) (omega arith))))
       (λ k q h. rw (next k) (apart (suc k) q (omega arith)))
       (nesting.summarize-bundle e ts) (one .rows)
@@ -401,7 +401,7 @@ module _ (g : Graph) (valid : Valid g) where
       let sp = one .spare in
       let same : (i : ℕ) → word l₁ cases i ≡ word l cases i = spare-there sp cases (omega arith) (omega arith) in
       let ih = cases-summarized o below cs l₁ (rw (sp .words) full) (spare-there sp set-starts (omega arith) (omega arith) 32 ∙ at) (suc j)
-      (λ k h. rw (next k, same (case-set-start-at (j + suc k)), same (case-set-length-at (j + suc k))) (set-stays (spare-later sp g)
+      (λ k h. rw (next k, same (case-set-start-at (j + suc k)), same (case-set-length-at (j + suc k))) (set-stays (spare-preserves sp g)
       (λ i b. spare-outside sp (case-set-start l (j + suc k) + i) (λ q c. apart (suc k) i q (omega arith) b c))
       (sets (suc k) (omega arith))))
       (λ k p q h. rw (next k, same (case-set-start-at (j + suc k)), same (case-set-length-at (j + suc k)))
@@ -416,7 +416,7 @@ pub record TargetsDeferred (g : Graph) (w w′ : List ℕ) (r : ℕ) (s : NestSt
   pub spare : SpareOnly (word w set-starts spare-slot) w w′
   pub state : ShowsState g w′ s
   pub cases-shown : ShowsCases g w′ r cs
-  pub later : Later g w w′
+  pub made-stays : PreservesMade g w w′
   pub kept : (q : ℕ) → q < length (g .regions) → KeptRegion w w′ q
 
 pub deferred-targets-shown : (g : Graph) → Valid g → (w : List ℕ) (r : ℕ) (s : NestState) (cs : List MaybeClaimedRegion) → ShowsState g w s
@@ -450,6 +450,6 @@ deferred-targets-shown g valid w r s cs shown x bound =
       spare = sp;
       state = spare-state sp g slots refl valid shown;
       cases-shown = spare-cases sp g slots refl x;
-      later = spare-later sp g;
+      made-stays = spare-preserves sp g;
       kept = spare-keeps sp g slots refl (valid .count .1);
     })

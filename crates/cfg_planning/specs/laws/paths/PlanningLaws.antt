@@ -20,7 +20,7 @@ use Rattle.state_regions.specs.RegionTables.{case-total}
 use Rattle.state_shown.specs.Front.{SameKinds}
 use Rattle.state_shown.specs.laws.FrontKept.{kinds-stored, kinds-then, kinds-input-stored}
 use Rattle.cfg_merging.specs.Turns.{turned, turn-next, turn-last, front-turned, Left, left-next, left-last}
-use Rattle.cfg_bundles.specs.Words.{input-count, condition-in}
+use Rattle.cfg_bundles.specs.EdgesAndCases.{input-count, condition-in}
 use Rattle.cfg_planning.specs.Planning.{place-of, per-case-deferred, per-case-condition, in-parent, with-passed, unique-from}
 use Rattle.cfg_planning.specs.Planning.{unique-input}
 use Rattle.cfg_planning.specs.Planning.{is-true, all-from, all-true, Planned, planned, plan-input, also, plan-inputs, plan-bundle}

@@ -32,11 +32,11 @@ use Rattle.state_shown.specs.laws.RegionsKept.{bundle-stays}
 use Rattle.state_shown.specs.States.{ShowsCase, shows-ok, shows-nothing, shows-edge, shows-others, ShowsCases, no-case}
 use Rattle.cfg_lookups.specs.laws.shown.Shown.{input-in, input-below, input-above}
 use Rattle.cfg_merging.specs.Turns.{turned}
-use Rattle.cfg_bundles.specs.Words.{condition-in}
+use Rattle.cfg_bundles.specs.EdgesAndCases.{condition-in}
 use Rattle.cfg_planning.specs.Planning.{place-of, per-case-deferred, per-case-condition, in-parent, passed-by, with-passed}
 use Rattle.cfg_planning.specs.Planning.{unique-from}
 use Rattle.cfg_planning.specs.Planning.{unique-input, is-true, all-from, all-true}
-use Rattle.cfg_merging.specs.laws.shown.Spare.{SpareOnly, spare-there, spare-later, spare-outside, case-stays}
+use Rattle.cfg_merging.specs.laws.shown.Spare.{SpareOnly, spare-there, spare-preserves, spare-outside, case-stays}
 use Rattle.state_shown.specs.laws.Finds.{Finds, found as there-is, none-found, finds}
 use Rattle.nesting.specs.steps.TargetsAndCases.{same-target-is, per-cases}
 use Rattle.state_words.specs.Values.{held-from, input-from, names-nothing, output-from}
@@ -107,7 +107,7 @@ pub data ShowsPlace (g : Graph) (o : ℕ) (l : List ℕ) (p : ℕ) (x : Deferred
 place-stays : {g : Graph} {o : ℕ} {l l′ : List ℕ} → SpareOnly o l l′ → {p : ℕ} {x : DeferredTarget} {d : DeferredEdgeBundleSet}
     → ShowsPlace g o l p x d → ShowsPlace g o l′ p x d
 place-stays {g} sp {p} (stands-at {e} there apart shown is get) =
-    stands-at {e = e} there apart (bundle-stays (spare-later sp g) (spare-outside sp p apart) shown) is get
+    stands-at {e = e} there apart (bundle-stays (spare-preserves sp g) (spare-outside sp p apart) shown) is get
 place-stays sp (stands-nowhere gone get) = stands-nowhere gone get
 
 module _ (g : Graph) (valid : Valid g) (o : ℕ) (l : List ℕ) (t : ℕ) {x : DeferredTarget} (shown : ShowsTarget g t x) where
@@ -306,7 +306,7 @@ pub case-at-stays : {g : Graph} {o : ℕ} {l l′ : List ℕ} → SpareOnly o l 
 case-at-stays {g} sp {r} {j} y =
     let same = spare-there sp cases (omega arith) (omega arith) in
     record {
-      shown = case-stays (spare-later sp g) r j (spare-there sp set-starts (omega arith) (omega arith)) (λ i h. same (case-word-at j i))
+      shown = case-stays (spare-preserves sp g) r j (spare-there sp set-starts (omega arith) (omega arith)) (λ i h. same (case-word-at j i))
           (λ k h. same (case-input-at j k)) (y .shown);
       size = same (case-set-length-at j) ∙ y .size;
       place = place-stays sp (y .place);

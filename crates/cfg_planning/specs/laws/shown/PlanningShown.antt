@@ -23,16 +23,16 @@ use Rattle.state_sets.specs.SetTables.{input-stored}
 use Rattle.state_regions.specs.RegionTables.{case-total}
 use Rattle.state_shown.specs.Sets.{Names, ShowsTarget, target-size, SameBundle}
 use Rattle.state_shown.specs.States.{ShowsReturned, ShowsState, ShowsCases, no-case}
-use Rattle.state_shown.specs.Kept.{Later, KeptRegion}
+use Rattle.state_shown.specs.Kept.{PreservesMade, KeptRegion}
 use Rattle.state_shown.specs.laws.RegionsKept.{same-bundle, same-bundle-then}
 use Rattle.state_shown.specs.laws.Stores.{word-there, word-apart}
 use Rattle.cfg_merging.specs.Turns.{turned}
-use Rattle.cfg_bundles.specs.Words.{input-count}
+use Rattle.cfg_bundles.specs.EdgesAndCases.{input-count}
 use Rattle.cfg_planning.specs.Planning.{Planned, planned, also, per-case-deferred, unique-input, all-true, plan-input, plan-inputs}
 use Rattle.cfg_planning.specs.Planning.{plan-bundle}
 use Rattle.cfg_planning.specs.Planning.{plan-at, plan-bundles}
 use Rattle.cfg_merging.specs.laws.shown.Spare.{SpareOnly, spare-same, spare-word, spare-then, spare-there, spare-total}
-use Rattle.cfg_merging.specs.laws.shown.Spare.{spare-later, spare-keeps}
+use Rattle.cfg_merging.specs.laws.shown.Spare.{spare-preserves, spare-keeps}
 use Rattle.cfg_merging.specs.laws.shown.Spare.{spare-state, spare-cases}
 use Rattle.state_shown.specs.laws.Finds.{bundle-in}
 use Rattle.cfg_merging.specs.laws.shown.RewritingShown.{count-by}
@@ -353,7 +353,7 @@ pub record BundlesPlanned (g : Graph) (w : List ℕ) (y : Planned) (r : ℕ) (s 
   pub spare : SpareOnly (word w set-starts spare-slot) w (y .words)
   pub state : ShowsState g (y .words) s
   pub cases-shown : ShowsCases g (y .words) r cs
-  pub later : Later g w (y .words)
+  pub made-stays : PreservesMade g w (y .words)
   pub kept : (q : ℕ) → q < length (g .regions) → KeptRegion w (y .words) q
 
 pub plan-bundles-shown : (g : Graph) → Valid g → (w : List ℕ) (r : ℕ) (s : NestState) (cs : List MaybeClaimedRegion) → ShowsState g w s
@@ -379,6 +379,6 @@ plan-bundles-shown g valid w r s cs shown x rows =
       spare = sp;
       state = spare-state sp g slots refl valid shown;
       cases-shown = spare-cases sp g slots refl x;
-      later = spare-later sp g;
+      made-stays = spare-preserves sp g;
       kept = spare-keeps sp g slots refl (valid .count .1);
     })

@@ -1,7 +1,7 @@
 use borrow.Author.Needs.{needs}
 use Rattle.cfg_regions.proofs.inst.by_control_inst.Statement.{statement}
 use Rattle.cfg_regions.proofs.inst.by_control_inst.Tie as tie
-use Rattle.cfg_regions.specs.laws.ByInstLaws.{inst-taken}
+use Rattle.cfg_regions.specs.laws.ByInstLaws.{inst-path}
 
 add-blocks-requires : tie.Need-add-blocks-requires
 add-blocks-requires c κs = search needs
@@ -13,7 +13,7 @@ by-terminator-requires : tie.Need-by-terminator-requires
 by-terminator-requires c κs = search needs
 
 returns : tie.Need-returns
-returns c = λ g st. inst-taken st (c .before .before .before .before .add-blocks .ensures g)
+returns c = λ g st. inst-path st (c .before .before .before .before .add-blocks .ensures g)
     (c .before .before .put-set-length .ensures) (c .by-terminator .ensures g)
 
 pub by-control-inst-spec : {M : Type 1} → statement M

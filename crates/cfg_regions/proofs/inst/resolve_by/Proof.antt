@@ -1,7 +1,7 @@
 use borrow.Author.Needs.{needs}
 use Rattle.cfg_regions.proofs.inst.resolve_by.Statement.{statement}
 use Rattle.cfg_regions.proofs.inst.resolve_by.Tie as tie
-use Rattle.cfg_regions.specs.laws.ByInstLaws.{resolve-taken}
+use Rattle.cfg_regions.specs.laws.ByInstLaws.{resolve-path}
 
 set-length-requires : tie.Need-set-length-requires
 set-length-requires c κs = search needs
@@ -24,7 +24,7 @@ returns c =
     let at-condition-in = at-fill-split .before .before in
     let at-own-bundle = at-condition-in .before .before in
     let at-set-length = at-own-bundle .before .before in
-    λ g st. resolve-taken g _ _ _ st (at-set-length .set-length .ensures) (at-own-bundle .own-bundle .ensures)
+    λ g st. resolve-path g _ _ _ st (at-set-length .set-length .ensures) (at-own-bundle .own-bundle .ensures)
     (at-condition-in .condition-in .ensures) (at-fill-split .fill-split .ensures g) (c .structurize-select-into .ensures g)
 
 pub resolve-by-spec : {M : Type 1} → statement M

@@ -1,7 +1,7 @@
 use borrow.Author.Needs.{needs}
 use Rattle.cfg_regions.proofs.inst.select.Statement.{statement}
 use Rattle.cfg_regions.proofs.inst.select.Tie as tie
-use Rattle.cfg_regions.specs.laws.ByInstLaws.{select-taken}
+use Rattle.cfg_regions.specs.laws.ByInstLaws.{select-path}
 
 fill-cases-requires : tie.Need-fill-cases-requires
 fill-cases-requires c κs = search needs
@@ -16,7 +16,7 @@ structurize-select-into-requires : tie.Need-structurize-select-into-requires
 structurize-select-into-requires c κs = search needs
 
 returns : tie.Need-returns
-returns c = λ g st. select-taken g _ _ st (c .before .before .before .before .before .fill-cases .ensures g st) _
+returns c = λ g st. select-path g _ _ st (c .before .before .before .before .before .fill-cases .ensures g st) _
     (c .before .before .before .value .result) (c .before .before .before .value .ensures g) (c .before .value-word .ensures)
     (c .structurize-select-into .ensures g)
 

@@ -9,7 +9,7 @@ use native.Mathlib.Numerals.{add-one}
 use borrow.Author.Tests.{eq-eqb, ne-eqb}
 use Rattle.state_regions.specs.RegionTables.{case-total}
 use Rattle.state_nodes.specs.NodeTables.{inserted}
-use Rattle.cfg_bundles.specs.Words.{case-inputs}
+use Rattle.cfg_bundles.specs.EdgesAndCases.{case-inputs}
 use Rattle.cfg_select_nodes.specs.Cases.{convergent-from, convergent-case, children-of, any-from, any-non-empty-case, inputs-replaced}
 use Rattle.cfg_select_nodes.specs.Cases.{all-replaced}
 use Rattle.state_words.specs.Rows.{case-body, case-children, case-claimed, case-kind, case-set-length, entry-replace}

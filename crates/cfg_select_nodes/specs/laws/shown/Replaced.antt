@@ -18,7 +18,7 @@ use Rattle.state_shown.specs.laws.Rewrites.{insert-changes, rewrites-inserted}
 use Rattle.state_shown.specs.laws.NamedSteps.{named-inserted}
 use Rattle.state_shown.specs.Sets.{Names}
 use Rattle.state_shown.specs.States.{NamedRewrites, ShowsCases, ShowsCase, shows-ok, shows-nothing, shows-edge, shows-others, no-case}
-use Rattle.cfg_bundles.specs.Words.{case-inputs}
+use Rattle.cfg_bundles.specs.EdgesAndCases.{case-inputs}
 use Rattle.cfg_bundles.specs.laws.shown.Appended.{inputs-at}
 use Rattle.cfg_select_nodes.specs.Cases.{inputs-replaced, all-replaced}
 use Rattle.cfg_select_nodes.specs.laws.paths.CasesLaws.{replaced-claimed, replaced-not}

@@ -19,7 +19,7 @@ use Rattle.state_regions.specs.RegionTables.{case-total}
 use Rattle.state_shown.specs.laws.Stores.{word-apart}
 use Rattle.cfg_lookups.specs.LookUps.{look-up}
 use Rattle.cfg_merging.specs.Turns.{turned}
-use Rattle.cfg_bundles.specs.Words.{input-count}
+use Rattle.cfg_bundles.specs.EdgesAndCases.{input-count}
 use Rattle.cfg_merging.specs.Rewriting.{noted, rewrite-input, rewrite-case-input, rewrite-bundle, rewrite-set, rewrite-inputs}
 use Rattle.cfg_merging.specs.Rewriting.{rewrite-given}
 use Rattle.cfg_merging.specs.Rewriting.{rewrite-case, rewrite-cases}

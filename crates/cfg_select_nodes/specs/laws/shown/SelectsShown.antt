@@ -26,11 +26,12 @@ use Rattle.state_shown.specs.laws.Elsewhere.{SameTables, tables-stay, same-then
 use Rattle.state_shown.specs.laws.Steps.{node-defined}
 use Rattle.state_shown.specs.Cells.{ShowsChildren}
 use Rattle.state_shown.specs.States.{ShowsCases, no-case}
-use Rattle.state_shown.specs.Kept.{Later}
-use Rattle.state_shown.specs.laws.RegionsKept.{later-same, later-then}
-use Rattle.state_shown.specs.laws.CellSteps.{ShowsCaseList, no-case-list, case-added, select-added, cell-changes, cell-later, cell-total}
+use Rattle.state_shown.specs.Kept.{PreservesMade}
+use Rattle.state_shown.specs.laws.RegionsKept.{preserves-same, preserves-then}
+use Rattle.state_shown.specs.laws.CellSteps.{ShowsCaseList, no-case-list, case-added, select-added, cell-changes, cell-preserves}
+use Rattle.state_shown.specs.laws.CellSteps.{cell-total}
 use Rattle.state_shown.specs.laws.CellSteps.{cell-there, cell-handle, cell-tables}
-use Rattle.state_shown.specs.laws.RegionSteps.{later-by, word-concerns, children-set, tables-by}
+use Rattle.state_shown.specs.laws.RegionSteps.{preserves-by, word-concerns, children-set, tables-by}
 use Rattle.cfg_lookups.specs.laws.shown.ConditionsShown.{ShowsValue, materialize-shown}
 use Rattle.state_words.specs.declared.defined.Made.{Made}
 use Rattle.state_words.specs.declared.defined.Made.the-variants.{Done}
@@ -60,7 +61,7 @@ module _ (g : Graph) (cs : List MaybeClaimedRegion) (body : ℕ → ℕ) where
   record CellsShown (w w′ : List ℕ) (h n : ℕ) : Type 0 where
     list : ShowsCaseList g w′ h (cases-from body 0 cs)
     changes : ChangesOnly cells cells-at w w′
-    later : Later g w w′
+    made-stays : PreservesMade g w w′
     total : word w′ head cells-at ≡ word w head cells-at + n
 
   -- The cases from place n on have their cells.
@@ -74,7 +75,7 @@ module _ (g : Graph) (cs : List MaybeClaimedRegion) (body : ℕ → ℕ) where
       record {
         list = rw n at list;
         changes = nothing-changes cells cells-at w;
-        later = later-same g w;
+        made-stays = preserves-same g w;
         total = omega arith;
       }
   cells-shown {n} {w} (cell-more {m} {l₁} e x y) few free room kids own list =
@@ -82,19 +83,19 @@ module _ (g : Graph) (cs : List MaybeClaimedRegion) (body : ℕ → ℕ) where
       let handle = cell-handle x free₁ room in
       let total = cell-total x free₁ room in
       let changes = cell-changes x free₁ room in
-      let later = cell-later x free₁ room g in
+      let made-stays = cell-preserves x free₁ room g in
       let same = changes .others cases (omega arith) (omega arith) in
       let below : m < length cs = omega arith in
       let added = case-added free₁ room x (kids m below) (rw e at list) in
       let rest = cells-shown {n = m} y (omega arith) (omega arith) (rw (changes .words) room)
-      (λ j h. rw (children-same w l₁ same j) (later .nodes-stay (kids j h)))
+      (λ j h. rw (children-same w l₁ same j) (made-stays .nodes-stay (kids j h)))
       (λ j h. ap (λ l. getD l (case-body-at j) 0) same ∙ own j h)
       (rw (drop-cons cs m no-case below, ← own m below) added) in
       let more = rest .total in
       record {
         list = rest .list;
         changes = changes-then changes (rest .changes);
-        later = later-then later (rest .later);
+        made-stays = preserves-then made-stays (rest .made-stays);
         total = omega arith;
       }
 
@@ -128,7 +129,7 @@ module _ (g : Graph) (cs : List MaybeClaimedRegion) (r : ℕ) (below : r < 32) w
       let free₂ : word l₁ head cells-at < most-cells = omega arith in
       let room₂ : used ≤ length l₁ = rw (m .changes .words) room in
       let parent₁ : ShowsChildren g l₁ before parent =
-      rw (b, m .changes .others children (omega arith) (omega arith)) (m .later .nodes-stay p) in
+      rw (b, m .changes .others children (omega arith) (omega arith)) (m .made-stays .nodes-stay p) in
       let k₁ : ShowsShape shape (case-count (cases-from (body-at w) 0 cs)) kind = rw (count-from (body-at w) 0 cs) k in
       let chosen = select-added free₂ room₂ y parent₁ k₁ of-value (m .list) in
       let room₃ : used ≤ length l₂ = rw (cell-changes y free₂ room₂ .words) room₂ in
@@ -145,9 +146,9 @@ module _ (g : Graph) (cs : List MaybeClaimedRegion) (r : ℕ) (below : r < 32) w
         is-scrutinee = ap (λ l. getD l (cell-word-at h 4) 0) same ∙ there .is-c;
         is-made = (let z = c .same-head cells-at in omega arith);
         tables = same-then (tables-by (m .changes) (omega arith) (λ q a b e. b e)) (same-then (cell-tables y free₂ room₂) (c .tables));
-        step = step-then (step-by (m .changes) (omega arith) (omega arith) (omega arith) (omega arith) g r (m .later))
+        step = step-then (step-by (m .changes) (omega arith) (omega arith) (omega arith) (omega arith) g r (m .made-stays))
             (step-then (step-by (cell-changes y free₂ room₂) (omega arith) (omega arith) (omega arith) (omega arith) g r
-            (cell-later y free₂ room₂ g)) (step-children g r l₂ h));
+            (cell-preserves y free₂ room₂ g)) (step-children g r l₂ h));
         total = c .same-head cells-at ∙ omega arith;
         same = λ k a b d. section-other l₂ children r h k b ∙ cell-changes y free₂ room₂ .others k d a ∙ m .changes .others k d a;
       }
@@ -157,10 +158,10 @@ pub data ShowsScrutinee (w : List ℕ) : Scrutinee → nesting.Scrutinee → Typ
   shows-value : {x : ℕ} {v : graph.Value} → value x ≡ v → ShowsScrutinee w (Value x) (nesting.value v)
   shows-lazy : {c : ℕ} {t : LazyCond} → ShowsCondition w c t → ShowsScrutinee w (Lazy c) (nesting.lazy t)
 
-pub scrutinee-stays : {g : Graph} {w w′ : List ℕ} → Later g w w′ → {x : Scrutinee} {y : nesting.Scrutinee} → ShowsScrutinee w x y
+pub scrutinee-stays : {g : Graph} {w w′ : List ℕ} → PreservesMade g w w′ → {x : Scrutinee} {y : nesting.Scrutinee} → ShowsScrutinee w x y
     → ShowsScrutinee w′ x y
-scrutinee-stays later (shows-value e) = shows-value e
-scrutinee-stays later (shows-lazy c) = shows-lazy (later .conditions-stay c)
+scrutinee-stays made-stays (shows-value e) = shows-value e
+scrutinee-stays made-stays (shows-lazy c) = shows-lazy (made-stays .conditions-stay c)
 
 scrutinee-shown : {w w′ : List ℕ} {x : Scrutinee} {y : nesting.Scrutinee} {a : Defined} {s : NestState} → words.ScrutineeMade w x w′ a
     → ShowsScrutinee w x y → ShowsTables w s → ShowsValue w w′ a (scrutinee-value y s)
@@ -222,7 +223,7 @@ module _ {g : Graph} {r : ℕ} {cs : List MaybeClaimedRegion} {parent : Nodes} {
 
   scrutinee-after : {l l′ : List ℕ} {a : Defined} (z : WithRegions l) → words.ScrutineeMade l x l′ a
       → ShowsValue l l′ a (scrutinee-value y (z .state))
-  scrutinee-after z m = scrutinee-shown m (scrutinee-stays (step-regions (z .keeps) g r .later) scrutinee) (z .tables)
+  scrutinee-after z m = scrutinee-shown m (scrutinee-stays (step-regions (z .keeps) g r .made-stays) scrutinee) (z .tables)
 
   -- All is defined but the select's cells.
   finished : {l w′ : List ℕ} {h node c : ℕ} {v : graph.Value} {ks : Cases} {s₁ : NestState} → SelectStep g r w l → ShowsTables l s₁
@@ -235,7 +236,7 @@ module _ {g : Graph} {r : ℕ} {cs : List MaybeClaimedRegion} {parent : Nodes} {
   finished {l} step t₁ same same-total are of-value added =
       let shown₁ = cases-stay step shown in
       let own₁ : ShowsChildren g l (word l children r) parent =
-      rw (same children (omega arith) (omega arith) (omega arith)) (step .later .nodes-stay own) in
+      rw (same children (omega arith) (omega arith) (omega arith)) (step .made-stays .nodes-stay own) in
       let one = own₁ .made in
       let p = placed g cs r below added (shown₁ .size) (omega arith) (t₁ .size)
       (λ j h. children-shown (omega arith) j (getD cs j no-case) (shown₁ .each j h)) own₁ of-shape of-value in
@@ -280,8 +281,8 @@ module _ {g : Graph} {r : ℕ} {cs : List MaybeClaimedRegion} {parent : Nodes} {
       rw (z .is, q .is, d .is, ← d .shows)
       (shows-select (finished
       (step-then (step-regions (z .keeps) g r)
-      (step-then (step-by b (omega arith) (omega arith) (omega arith) (omega arith) g r (later-by b (omega arith) g))
-      (step-by c (omega arith) (omega arith) (omega arith) (omega arith) g r (later-by c (omega arith) g))))
+      (step-then (step-by b (omega arith) (omega arith) (omega arith) (omega arith) g r (preserves-by b (omega arith) g))
+      (step-by c (omega arith) (omega arith) (omega arith) (omega arith) g r (preserves-by c (omega arith) g))))
       (d .tables)
       (λ k d e f. c .others k f d ∙ b .others k f d ∙ a .others k e d)
       (c .totals cells-at (omega arith) ∙ b .totals cells-at (omega arith) ∙ a .totals cells-at (omega arith))

@@ -14,16 +14,17 @@ use Rattle.state_regions.specs.RegionTables.{case-total}
 use Rattle.state_shown.specs.laws.Stores.{ChangesOnly}
 use Rattle.state_shown.specs.Sets.{SameBundle}
 use Rattle.state_shown.specs.States.{ShowsCase, shows-ok, shows-nothing, shows-edge, shows-others, ShowsCases}
-use Rattle.state_shown.specs.Kept.{Later, KeptRegion}
-use Rattle.state_shown.specs.laws.RegionsKept.{later-same, later-then, kept-same, kept-then, same-bundle, same-bundle-then, set-stays}
-use Rattle.state_shown.specs.laws.RegionSteps.{OfNoRegion, kept-by, bundles-same, StatesStay, word-concerns, later-by, kept-word}
+use Rattle.state_shown.specs.Kept.{PreservesMade, KeptRegion}
+use Rattle.state_shown.specs.laws.RegionsKept.{preserves-same, preserves-then, kept-same, kept-then, same-bundle, same-bundle-then}
+use Rattle.state_shown.specs.laws.RegionsKept.{set-stays}
+use Rattle.state_shown.specs.laws.RegionSteps.{OfNoRegion, kept-by, bundles-same, StatesStay, word-concerns, preserves-by, kept-word}
 use Rattle.cfg_select_nodes.specs.laws.shown.RegionsShown.{KeepsCases}
 use Rattle.state_words.specs.Rows.{case-body, case-body-at, case-claimed, case-kind, case-set-length, case-set-start, case-word}
 use Rattle.state_words.specs.Rows.{case-word-at}
 use Rattle.state_words.specs.Rows.{cases-at, kind-ready, region-kind, spare-slot}
 
 pub record SelectStep (g : Graph) (r : ℕ) (w w′ : List ℕ) : Type 0 where
-  pub later : Later g w w′
+  pub made-stays : PreservesMade g w w′
   pub same-kinds : (q : ℕ) → region-kind w′ q ≡ region-kind w q
   pub same-starts : (q : ℕ) → word w′ set-starts q ≡ word w set-starts q
   pub same-head : (k : ℕ) → 7 ≤ k → word w′ head k ≡ word w head k
@@ -35,7 +36,7 @@ pub record SelectStep (g : Graph) (r : ℕ) (w w′ : List ℕ) : Type 0 where
 pub step-same : (g : Graph) (r : ℕ) (w : List ℕ) → SelectStep g r w w
 step-same g r w =
     record {
-      later = later-same g w;
+      made-stays = preserves-same g w;
       same-kinds = λ q. refl;
       same-starts = λ q. refl;
       same-head = λ k h. refl;
@@ -48,7 +49,7 @@ step-same g r w =
 pub step-then : {g : Graph} {r : ℕ} {w w₁ w₂ : List ℕ} → SelectStep g r w w₁ → SelectStep g r w₁ w₂ → SelectStep g r w w₂
 step-then a b =
     record {
-      later = later-then (a .later) (b .later);
+      made-stays = preserves-then (a .made-stays) (b .made-stays);
       same-kinds = λ q. b .same-kinds q ∙ a .same-kinds q;
       same-starts = λ q. b .same-starts q ∙ a .same-starts q;
       same-head = λ k h. b .same-head k h ∙ a .same-head k h;
@@ -62,11 +63,11 @@ step-then a b =
 -- A step that changes one section, none of the regions' and not the cases, and one total of the head.
 pub step-by : {k : Section} {i : ℕ} {w w′ : List ℕ} → ChangesOnly k i w w′ → OfNoRegion k → (number sections.kinds ≡ number k → ⊥)
     → (number sections.cases ≡ number k → ⊥) → i < 7
-    → (g : Graph) (r : ℕ) → Later g w w′ → SelectStep g r w w′
-step-by changes none d e few g r later =
+    → (g : Graph) (r : ℕ) → PreservesMade g w w′ → SelectStep g r w w′
+step-by changes none d e few g r made-stays =
     let same = changes .others cases e (omega arith) in
     record {
-      later = later;
+      made-stays = made-stays;
       same-kinds = λ q. ap (λ l. getD l q 0) (changes .others kinds d (omega arith));
       same-starts = λ q. ap (λ l. getD l q 0) (changes .others set-starts (none .not-starts) (omega arith));
       same-head = λ k b. changes .totals k (omega arith);
@@ -81,7 +82,7 @@ pub step-regions : {w w′ : List ℕ} → KeepsCases 0 w w′ → (g : Graph) (
 step-regions keeps g r =
     let changes = keeps .changes in
     record {
-      later = later-by changes (omega arith) g;
+      made-stays = preserves-by changes (omega arith) g;
       same-kinds = λ q. ap (λ l. getD l q 0) (changes .others kinds (omega arith) (omega arith));
       same-starts = λ q. ap (λ l. getD l q 0) (changes .others set-starts (omega arith) (omega arith));
       same-head = λ k h. changes .totals k (omega arith);
@@ -97,7 +98,7 @@ step-children g r w h =
     let c = word-concerns g w children (omega arith) r h in
     let same = section-other w children r h cases (omega arith) in
     record {
-      later = c .later;
+      made-stays = c .made-stays;
       same-kinds = c .same-kinds;
       same-starts = c .same-starts;
       same-head = λ k b. c .same-head k;
@@ -126,7 +127,7 @@ module _ {g : Graph} {r : ℕ} {w w′ : List ℕ} (x : SelectStep g r w w′) w
   case-stays {j} (shows-ok {c} k o b s t n a z i) =
       shows-ok {c = c} (field-same j 0 (omega arith) (omega arith) ∙ k) (field-same j 1 (omega arith) (omega arith) ∙ o) b
       (x .case-bodies j k ∙ s) t
-      (rw (field-same j 3 (omega arith) (omega arith)) (x .later .nodes-stay n))
+      (rw (field-same j 3 (omega arith) (omega arith)) (x .made-stays .nodes-stay n))
       (field-same j 4 (omega arith) (omega arith) ∙ a ∙ sym (x .same-starts (c .origin))) z
       (λ m h. rw (field-same j (6 + m) (omega arith) (omega arith)) (i m h))
   case-stays {j} (shows-nothing k z) =
@@ -147,7 +148,7 @@ module _ {g : Graph} {r : ℕ} {w w′ : List ℕ} (x : SelectStep g r w w′) w
         size = rw (x .same-head cases-at (omega arith)) (y .size);
         few = y .few;
         each = λ j h. case-stays (y .each j h);
-        sets = λ j h. rw (start j, many j) (set-stays (x .later)
+        sets = λ j h. rw (start j, many j) (set-stays (x .made-stays)
             (λ i b. x .bundles-kept (case-set-start w j + i) (λ q c e. y .not-spare j i q h b c (sym e))) (y .sets j h));
         apart = λ i j p q a b c d e.
             y .apart i j p q a b (rw (many i) at c) (rw (many j) at d) (rw (start i, start j) at e);

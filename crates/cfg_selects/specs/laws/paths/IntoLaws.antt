@@ -12,7 +12,7 @@ use Rattle.state_words.specs.Sections.{word, stored, stored-all, set-lengths, c
 use Rattle.state_regions.specs.RegionTables.{case-total, case-row, case-words}
 use Rattle.state_sets.specs.SetTables.{swapped}
 use Rattle.state_shown.specs.laws.FrontKept.{stands-kept, kinds-run}
-use Rattle.cfg_bundles.specs.Words.{unclaimed-case, Appends}
+use Rattle.cfg_bundles.specs.EdgesAndCases.{unclaimed-case, Appends}
 use Rattle.cfg_merging.specs.Rewriting.{rewrite-cases}
 use Rattle.cfg_merging.specs.Targets.{deferred-targets}
 use Rattle.cfg_planning.specs.Planning.{planned, plan-bundles}

@@ -14,9 +14,9 @@ use Rattle.state_words.specs.Sections.{word, used, set-starts}
 use Rattle.state_regions.specs.RegionTables.{case-total, case-words, case-row}
 use Rattle.state_shown.specs.Sets.{ShowsSet, SameBundle}
 use Rattle.state_shown.specs.States.{Slots, ShowsCase, shows-ok, shows-nothing, shows-edge, shows-others, ShowsCases, no-case, HasSlot}
-use Rattle.state_shown.specs.Kept.{Later}
+use Rattle.state_shown.specs.Kept.{PreservesMade}
 use Rattle.state_shown.specs.laws.RegionsKept.{set-stays}
-use Rattle.cfg_bundles.specs.Words.{unclaimed-case}
+use Rattle.cfg_bundles.specs.EdgesAndCases.{unclaimed-case}
 use Rattle.cfg_bundles.specs.laws.shown.CaseSteps.{CaseAndSet, OneCase, one-row, other-row, shown-stays, row-word, nothing-row}
 use Rattle.cfg_bundles.specs.laws.shown.Appended.{ShowsAlone, claimed-parts, edge-parts, rest-parts}
 use Rattle.cfg_merging.specs.laws.shown.RewritingShown.{cases-after, case-found}
@@ -86,7 +86,7 @@ module _ (s : NestState) (x : DeferredTarget) where
 
 -- ---- The parts of the case set aside stay shown.
 pub record PartsStay (g : Graph) (w w′ : List ℕ) (j : ℕ) : Type 0 where
-  pub later : Later g w w′
+  pub made-stays : PreservesMade g w w′
   pub same-kinds : (q : ℕ) → region-kind w′ q ≡ region-kind w q
   pub same-starts : (q : ℕ) → word w′ set-starts q ≡ word w set-starts q
   pub inputs : (k : ℕ) → k < 4 → case-input w′ j k ≡ case-input w j k
@@ -96,7 +96,7 @@ pub parts-then : {g : Graph} {w w′ : List ℕ} {r j : ℕ} {m : MaybeClaimedRe
     → HasSlot (length (g .regions)) r → PartsStay g w w′ j → CaseAndSet g w r j m
     → ((c : ClaimedRegion) → m ≡ ok c → (region-kind w (c .origin) ≡ kind-claimed) × (c .origin ≡ r → ⊥))
     → ShowsAlone g w′ r j (case-row w j) m
-parts-then {g} {w} {w′} {r} {j} slots below stay x claimed = go (x .case) (set-stays (stay .later) (stay .bundles) (x .set)) claimed
+parts-then {g} {w} {w′} {r} {j} slots below stay x claimed = go (x .case) (set-stays (stay .made-stays) (stay .bundles) (x .set)) claimed
   where
     go : {m : MaybeClaimedRegion} → ShowsCase g w r j m
         → ShowsSet g w′ (case-set-start w j) (case-set-length w j) (deferred-of m)
@@ -104,7 +104,7 @@ parts-then {g} {w} {w′} {r} {j} slots below stay x claimed = go (x .case) (set
         → ShowsAlone g w′ r j (case-row w j) m
     go (shows-ok {c} a b in-graph d e f start size names) s claimed =
         let y = claimed c refl in
-        claimed-parts {c = c} a b in-graph (y .1) (stay .same-kinds (c .origin) ∙ y .0) d e (stay .later .nodes-stay f)
+        claimed-parts {c = c} a b in-graph (y .1) (stay .same-kinds (c .origin) ∙ y .0) d e (stay .made-stays .nodes-stay f)
         (rw (start ∙ sym (stay .same-starts (c .origin))) at s) (λ k h. rw (stay .inputs k h) (names k h))
     go (shows-nothing a b) s claimed =
         let at = slots .starts r below in

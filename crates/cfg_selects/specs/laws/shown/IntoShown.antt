@@ -25,14 +25,14 @@ use Rattle.state_shown.specs.Cells.{ShowsChildren}
 use Rattle.state_shown.specs.States.{ShowsState, ShowsBody, ShowsCases, ShowsCase, shows-ok, shows-nothing, shows-edge, shows-others}
 use Rattle.state_shown.specs.States.{no-case}
 use Rattle.state_shown.specs.States.{HasSlot}
-use Rattle.state_shown.specs.Kept.{Later, KeptRegion}
-use Rattle.state_shown.specs.laws.RegionsKept.{later-then, kept-then, set-stays, same-bundle-then}
-use Rattle.state_shown.specs.laws.RegionSteps.{word-concerns, concerns-states, state-stays, length-set-to, later-by, kept-by}
+use Rattle.state_shown.specs.Kept.{PreservesMade, KeptRegion}
+use Rattle.state_shown.specs.laws.RegionsKept.{preserves-then, kept-then, set-stays, same-bundle-then}
+use Rattle.state_shown.specs.laws.RegionSteps.{word-concerns, concerns-states, state-stays, length-set-to, preserves-by, kept-by}
 use Rattle.state_shown.specs.laws.RegionSteps.{states-by, tables-by}
 use Rattle.state_shown.specs.laws.RegionSteps.{bundles-same}
-use Rattle.state_shown.specs.laws.SetStores.{only-later, only-state, only-word-same, word-other, run-beside}
+use Rattle.state_shown.specs.laws.SetStores.{only-preserves, only-state, only-word-same, word-other, run-beside}
 use Rattle.state_shown.specs.laws.SetSteps.{swapped-only, swapped-first, swapped-bundle, swapped-kept, swapped-slots}
-use Rattle.cfg_bundles.specs.Words.{unclaimed-case, Appends}
+use Rattle.cfg_bundles.specs.EdgesAndCases.{unclaimed-case, Appends}
 use Rattle.cfg_bundles.specs.laws.shown.CaseSteps.{row-word}
 use Rattle.cfg_bundles.specs.laws.shown.Appended.{append-shown}
 use Rattle.cfg_merging.specs.laws.shown.RewritingShown.{NoneReady, cases-after}
@@ -56,7 +56,7 @@ use Rattle.state_words.specs.Rows.{cells-at, kind-claimed, kind-ready, largest,
 record SpareTaken (g : Graph) (r : ℕ) (w w′ : List ℕ) (x : Body) (s : NestState) : Type 0 where
   state : ShowsState g w′ s
   body : ShowsBody g w′ r x
-  later : Later g w w′
+  made-stays : PreservesMade g w w′
   kept : (q : ℕ) → q < length (g .regions) → (q ≡ r → ⊥) → KeptRegion w w′ q
   same-total : word w′ head cells-at ≡ word w head cells-at
 
@@ -71,22 +71,22 @@ spare-shown {g} few {r} here {w} state unready {x} nodes set =
     let n = word w set-lengths spare-slot in
     let w₁ = swapped w r 32 in
     let only = swapped-only w room r 32 r-33 at in
-    let later₁ = only-later only g in
+    let made-stays₁ = only-preserves only g in
     let state₁ = only-state only (swapped-slots w room r 32 r-33 at (omega arith) (omega arith) (state .slots))
     (λ q k e. swapped-kept w room r 32 r-33 at q (λ f. unready (ap (λ b. region-kind w b) (sym f) ∙ e)) (omega arith)) state in
     let kind₁ : region-kind w₁ r ≡ kind-ready → ⊥ = λ e. unready (sym (only-word-same only kinds (omega arith) r) ∙ e) in
     let set₁ : ShowsSet g w₁ (word w₁ set-starts r) n (x .deferred-edges) =
-    rw (swapped-first w room r 32 r-33 at) (set-stays later₁ (λ i k. swapped-bundle w room r 32 r-33 at _) set) in
+    rw (swapped-first w room r 32 r-33 at) (set-stays made-stays₁ (λ i k. swapped-bundle w room r 32 r-33 at _) set) in
     let c = word-concerns g w₁ set-lengths (omega arith) r n in
     let handle : word (stored w₁ set-lengths r n) children r ≡ word w children r =
     word-other w₁ set-lengths r n children (omega arith) r ∙ only-word-same only children (omega arith) r in
     record {
-      state = state-stays (c .later) (concerns-states c few kind₁) (c .tables) state₁;
+      state = state-stays (c .made-stays) (concerns-states c few kind₁) (c .tables) state₁;
       body = record {
-        nodes = rw handle (c .later .nodes-stay (later₁ .nodes-stay nodes));
+        nodes = rw handle (c .made-stays .nodes-stay (made-stays₁ .nodes-stay nodes));
         set = length-set-to g w₁ (state₁ .tables .size) r r-33 set₁;
       };
-      later = later-then later₁ (c .later);
+      made-stays = preserves-then made-stays₁ (c .made-stays);
       kept = λ q k d. kept-then (swapped-kept w room r 32 r-33 at q d (omega arith)) (c .others q (omega arith) d);
       same-total = c .same-head cells-at ∙ only .totals cells-at (omega arith);
     }
@@ -121,7 +121,7 @@ none-ready {g} {w} {r} {cs} slot shown claimed =
 pub record IntoDone (g : Graph) (r : ℕ) (cs : List MaybeClaimedRegion) (w w′ : List ℕ) (x : Body) (s : NestState) : Type 0 where
   pub state : ShowsState g w′ s
   pub body : ShowsBody g w′ r x
-  pub later : Later g w w′
+  pub made-stays : PreservesMade g w w′
   pub kept : (q : ℕ) → q < length (g .regions) → (q ≡ r → ⊥)
       → ((j : ℕ) (c : ClaimedRegion) → j < length cs → getD cs j no-case ≡ ok c → q ≡ c .origin → ⊥) → KeptRegion w w′ q
   pub total : word w′ head cells-at ≤ word w head cells-at + (length cs + 2)
@@ -163,7 +163,7 @@ module _ {g : Graph} (valid : Valid g) {r : ℕ} (below : r < length (g .regions
       shows-made {a = z} (record {
         state = t .state;
         body = t .body;
-        later = later-then (c .later) (t .later);
+        made-stays = preserves-then (c .made-stays) (t .made-stays);
         kept = λ q h d f. kept-then (c .kept q h d (not-origin shown f)) (t .kept q h d);
         total = omega arith;
       })
@@ -189,11 +189,11 @@ module _ {g : Graph} (valid : Valid g) {r : ℕ} (below : r < length (g .regions
     changes : ChangesOnly cases cases-at w aside
     changes = run-changes cases cases-at w (omega arith) (case-row-at j) (case-words (unclaimed-case case-nothing 0 0))
 
-    later₀ : Later g w aside
-    later₀ = later-by changes (omega arith) g
+    made-stays₀ : PreservesMade g w aside
+    made-stays₀ = preserves-by changes (omega arith) g
 
     state₀ : ShowsState g aside s
-    state₀ = state-stays later₀ (states-by changes (omega arith) (omega arith) (omega arith) g)
+    state₀ = state-stays made-stays₀ (states-by changes (omega arith) (omega arith) (omega arith) g)
         (tables-by changes (omega arith) (λ q a b e. omega arith)) state
 
     shown₀ : ShowsCases g aside r rest
@@ -224,7 +224,7 @@ module _ {g : Graph} (valid : Valid g) {r : ℕ} (below : r < length (g .regions
     bound₀ x = rw (← without) (let z = none-deferred s x cs in omega arith)
 
     own₀ : ShowsChildren g aside (word aside children r) parent
-    own₀ = rw (changes .others children (omega arith) (omega arith)) (later₀ .nodes-stay own)
+    own₀ = rw (changes .others children (omega arith) (omega arith)) (made-stays₀ .nodes-stay own)
 
     total₀ : word aside head cells-at ≡ word w head cells-at
     total₀ = changes .totals cells-at (omega arith)
@@ -236,7 +236,7 @@ module _ {g : Graph} (valid : Valid g) {r : ℕ} (below : r < length (g .regions
         let size = same-size in
         let same = total₀ in
         structurized-shown valid below state₀ shown₀ (none-ready (omega arith) shown₀ claimed₀) chains bound₀
-        (scrutinee-stays later₀ scrutinee) (rw (← same-size) at of-shape) own₀ (omega arith) m
+        (scrutinee-stays made-stays₀ scrutinee) (rw (← same-size) at of-shape) own₀ (omega arith) m
 
     -- What the select leaves of the case that follows.
     parts-stay : {w₁ : List ℕ} {z : Body} {s₁ : NestState} → Structured g r rest aside w₁ z s₁ → PartsStay g w w₁ j
@@ -247,7 +247,7 @@ module _ {g : Graph} (valid : Valid g) {r : ℕ} (below : r < length (g .regions
         let same-starts : (q : ℕ) → word aside set-starts q ≡ word w set-starts q =
         λ q. ap (λ l. getD l q 0) (changes .others set-starts (omega arith) (omega arith)) in
         record {
-          later = later-then later₀ (c .later);
+          made-stays = preserves-then made-stays₀ (c .made-stays);
           same-kinds = λ q. c .same-kinds q ∙ same-kinds₀ q;
           same-starts = λ q. c .same-starts q ∙ same-starts q;
           inputs = λ k h. c .rows j (omega arith) (none-left few below room (state .slots) shown j inside) (6 + k) (omega arith)
@@ -284,7 +284,7 @@ module _ {g : Graph} (valid : Valid g) {r : ℕ} (below : r < length (g .regions
         (shows-made {a = o .result} (record {
           state = o .state;
           body = o .body;
-          later = later-then later₀ (later-then (c .later) (o .later));
+          made-stays = preserves-then made-stays₀ (preserves-then (c .made-stays) (o .made-stays));
           kept = λ q h d f. kept-then (kept-by changes (omega arith) q)
               (kept-then (c .kept q h d (not-origin shown₀ (λ k x b e. f k x (rw same-size at b) (was-claimed k x e .1))))
               (o .kept q (omega arith) d (λ x e. f j x inside e)));

@@ -29,10 +29,10 @@ use Rattle.state_shown.specs.Tables.{ShowsTables, ShowsShape}
 use Rattle.state_shown.specs.Sets.{ShowsSet, SameBundle}
 use Rattle.state_shown.specs.Cells.{ShowsChildren}
 use Rattle.state_shown.specs.States.{ShowsState, ShowsCases, NamedRewrites}
-use Rattle.state_shown.specs.Kept.{Later, KeptRegion}
-use Rattle.state_shown.specs.laws.RegionsKept.{later-then, kept-then, same-bundle-then, set-stays}
+use Rattle.state_shown.specs.Kept.{PreservesMade, KeptRegion}
+use Rattle.state_shown.specs.laws.RegionsKept.{preserves-then, kept-then, same-bundle-then, set-stays}
 use Rattle.state_shown.specs.laws.CellSteps.{join-none}
-use Rattle.state_shown.specs.laws.RegionSteps.{slots-stay, bundles-same, later-by, state-next, named-by}
+use Rattle.state_shown.specs.laws.RegionSteps.{slots-stay, bundles-same, preserves-by, state-next, named-by}
 use Rattle.cfg_planning.specs.Planning.{plan-bundles}
 use Rattle.cfg_merging.specs.Rewriting.{rewrite-cases}
 use Rattle.cfg_merging.specs.laws.shown.RewritingShown.{NoneReady, cases-after, state-after, rewrite-is, rewrite-cases-shown, rewrite-keeps}
@@ -147,7 +147,8 @@ module _ {g : Graph} (few : length (g .regions) ≤ 32) (small : SmallTypes g) {
         shows-made {a = region-body (n .children) d} (record {
           tables = y .tables;
           step = step-then (done₁ .step) (emitting-step spared-then e (omega arith) (omega arith));
-          nodes = rw (e .others children (omega arith) (omega arith) (omega arith) (omega arith)) (e .later .nodes-stay (done₁ .nodes));
+          nodes = rw (e .others children (omega arith) (omega arith) (omega arith) (omega arith)) (e .made-stays .nodes-stay
+              (done₁ .nodes));
           set = y .set;
           same-lengths = e .others set-lengths (omega arith) (omega arith) (omega arith) (omega arith)
               ∙ done₁ .same set-lengths (omega arith) (omega arith) (omega arith) (omega arith) (omega arith);
@@ -195,7 +196,7 @@ pub record Prepared (g : Graph) (r : ℕ) (cs : List MaybeClaimedRegion) (s : Ne
     pub shown : ShowsCases g w′ r (cases-after s cs)
     pub plan : ShowsPlan g (cases-after s cs) w′ base (nesting.plan-bundles g (cases-after s cs))
     pub is-needed : needed ≡ any-needs-select (nesting.plan-bundles g (cases-after s cs))
-    pub later : Later g w w′
+    pub made-stays : PreservesMade g w w′
     pub spare-at : word w′ set-starts spare-slot ≡ base
     pub same : (k : Section) → (number k ≡ number sections.head → ⊥) → (number k ≡ number sections.set-lengths → ⊥)
         → (number k ≡ number sections.cases → ⊥) → (number k ≡ number sections.bundles → ⊥)
@@ -233,7 +234,7 @@ module _ {g : Graph} (valid : Valid g) {r : ℕ} (below : r < length (g .regions
         shown = c .cases-shown;
         plan = plan-shown (cases-after s cs) rows (c .size) (c .each);
         is-needed = c .needed;
-        later = later-then (a .later) (later-then (b .later) (c .later));
+        made-stays = preserves-then (a .made-stays) (preserves-then (b .made-stays) (c .made-stays));
         spare-at = third;
         same = λ k h i j l. c .spare .others k i l ∙ b .spare .others k i l ∙ a .stays .others k j l h;
         totals = λ q d. spare-there (c .spare) head (omega arith) (omega arith) q ∙ spare-there (b .spare) head (omega arith) (omega arith)
@@ -254,7 +255,7 @@ pub record Structured (g : Graph) (r : ℕ) (cs : List MaybeClaimedRegion) (w w�
   pub nodes : ShowsChildren g w′ (word w′ children r) (x .children)
   -- It stands in the spare slot.
   pub set : ShowsSet g w′ (word w′ set-starts spare-slot) (word w′ set-lengths spare-slot) (x .deferred-edges)
-  pub later : Later g w w′
+  pub made-stays : PreservesMade g w w′
   pub same-kinds : (q : ℕ) → region-kind w′ q ≡ region-kind w q
   pub same-starts : (q : ℕ) → word w′ set-starts q ≡ word w set-starts q
   pub kept : (q : ℕ) → q < length (g .regions) → (q ≡ r → ⊥)
@@ -302,10 +303,10 @@ module _ {g : Graph} (valid : Valid g) {r : ℕ} (below : r < length (g .regions
       let p = before in
       let many = valid .count in
       let own₁ : ShowsChildren g (with-plan g w) (word (with-plan g w) children r) parent =
-      rw (p .same children (omega arith) (omega arith) (omega arith) (omega arith)) (p .later .nodes-stay own) in
+      rw (p .same children (omega arith) (omega arith) (omega arith) (omega arith)) (p .made-stays .nodes-stay own) in
       let counted = p .totals cells-at (omega arith) in
       chosen (omega arith) (small-types valid (state .stands)) (omega arith) (p .state .tables) cs s spared
-      (scrutinee-stays (p .later) scrutinee) of-shape own₁ (omega arith)
+      (scrutinee-stays (p .made-stays) scrutinee) of-shape own₁ (omega arith)
       (p .plan) (λ e. or-right (nesting.any-non-empty-case cs) (any-needs-select ps) e) (rw need-is at m)
 
   finished : {w₁ : List ℕ} {z : Body} {s₁ : NestState}
@@ -318,7 +319,8 @@ module _ {g : Graph} (valid : Valid g) {r : ℕ} (below : r < length (g .regions
       let many = valid .count in
       let named₁ : NamedRewrites w₁ = named-by (c .same-rewrites) (p .state .named) in
       let o = replaced-shown (cases-stay (c .step) (p .shown)) (c .tables) named₁ in
-      let last = step-by (o .changes) (omega arith) (omega arith) (omega arith) (omega arith) g r (later-by (o .changes) (omega arith) g) in
+      let last = step-by (o .changes) (omega arith) (omega arith) (omega arith) (omega arith) g r (preserves-by (o .changes)
+      (omega arith) g) in
       let step = step-then (c .step) last in
       let same-kinds : (q : ℕ) → region-kind (with-plan g w) q ≡ region-kind w q =
       λ q. ap (λ l. getD l q 0) (p .same kinds (omega arith) (omega arith) (omega arith) (omega arith)) in
@@ -337,11 +339,11 @@ module _ {g : Graph} (valid : Valid g) {r : ℕ} (below : r < length (g .regions
       let more = c .total in
       rw (o .is)
       (shows-made {a = region-body (join parent (z .children)) (z .deferred-edges)} (record {
-        state = state-next (step .later) stays (o .tables) (o .named) (o .same-states ∙ still) (p .state);
-        nodes = rw (o .changes .others children (omega arith) (omega arith)) (last .later .nodes-stay (c .nodes));
-        set = rw (at, rows) (set-stays (last .later)
+        state = state-next (step .made-stays) stays (o .tables) (o .named) (o .same-states ∙ still) (p .state);
+        nodes = rw (o .changes .others children (omega arith) (omega arith)) (last .made-stays .nodes-stay (c .nodes));
+        set = rw (at, rows) (set-stays (last .made-stays)
             (λ i h. bundles-same (o .changes .others bundles (omega arith) (omega arith)) (base + i)) (c .set));
-        later = later-then (p .later) (step .later);
+        made-stays = preserves-then (p .made-stays) (step .made-stays);
         same-kinds = λ q. step .same-kinds q ∙ same-kinds q;
         same-starts = λ q. step .same-starts q ∙ same-starts q;
         kept = λ q h d f. kept-then (p .kept q h d f) (step .others q h d);

@@ -30,9 +30,10 @@ use Rattle.state_shown.specs.Tables.{no-entry}
 use Rattle.state_shown.specs.States.{ShowsState, HasSlot, is-not-begun}
 use Rattle.state_shown.specs.laws.Finds.{slot-in}
 use Rattle.state_shown.specs.laws.Fills.{fill-length, fill-other, fill-front, fill-beside, fill-there}
-use Rattle.cfg_start.specs.Words.{nothing-rewritten, nothing-begun, emptied, returned-type, returned-count, totals, counted, started}
-use Rattle.cfg_start.specs.Words.{types-stored}
-use Rattle.cfg_start.specs.laws.paths.WordsLaws.{emptied-front}
+use Rattle.cfg_start.specs.InitialState.{nothing-rewritten, nothing-begun, emptied, returned-type, returned-count, totals, counted}
+use Rattle.cfg_start.specs.InitialState.{started}
+use Rattle.cfg_start.specs.InitialState.{types-stored}
+use Rattle.cfg_start.specs.laws.paths.InitialStateLaws.{emptied-front}
 use Rattle.state_words.specs.Rows.{cells-at, entries-at, entry-none, kind-not-begun, region-kind, regions-at, returned-at, spare-slot}
 use Rattle.state_words.specs.Rows.{types-at}
 

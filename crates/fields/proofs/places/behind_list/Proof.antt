@@ -2,7 +2,7 @@ use borrow.Author.Needs.{needs}
 use Rattle.fields.proofs.places.behind_list.Statement.{statement}
 use Rattle.fields.proofs.places.behind_list.Tie as tie
 use mathlib.Core.Path.{sym, _∙_}
-use Rattle.fields.specs.Words as words
+use Rattle.fields.specs.ItemsAndPlaces as words
 use Rattle.meaning.specs.facts.Tests.{picked, passed-over}
 
 stood-before-requires : tie.Need-stood-before-requires

@@ -1,7 +1,7 @@
 use borrow.Author.Needs.{needs}
 use Rattle.fields.proofs.places.block_place.Statement.{statement}
 use Rattle.fields.proofs.places.block_place.Tie as tie
-use Rattle.fields.specs.Words as words
+use Rattle.fields.specs.ItemsAndPlaces as words
 use mathlib.Core.Path.{_∙_}
 use Rattle.meaning.specs.facts.Tests.{picked, passed-over, is-below, not-below}
 

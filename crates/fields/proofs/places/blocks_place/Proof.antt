@@ -2,7 +2,7 @@ use borrow.Author.Needs.{needs}
 use Rattle.fields.proofs.places.blocks_place.Statement.{statement}
 use Rattle.fields.proofs.places.blocks_place.Tie as tie
 use mathlib.Core.Path.{_∙_, ap}
-use Rattle.fields.specs.Words as words
+use Rattle.fields.specs.ItemsAndPlaces as words
 
 indexed-requires : tie.Need-indexed-requires
 indexed-requires c κs = search needs

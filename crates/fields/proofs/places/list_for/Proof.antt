@@ -5,7 +5,7 @@ use mathlib.Core.Path.{_≡_, sym, _∙_}
 use Prim.Native.Nat.{_≤_, _-_}
 use native.Mathlib.Omega.{arith}
 use native.Mathlib.Nat.{sub-zero}
-use Rattle.fields.specs.Words as words
+use Rattle.fields.specs.ItemsAndPlaces as words
 use Rattle.fields.specs.laws.Turns.{list-found, list-turn, list-stop}
 
 abbrev Inv-loop : tie.InvT-loop

@@ -2,7 +2,7 @@ use borrow.Author.Needs.{needs}
 use Rattle.fields.proofs.places.targets_place.Statement.{statement}
 use Rattle.fields.proofs.places.targets_place.Tie as tie
 use mathlib.Core.Path.{_∙_, ap}
-use Rattle.fields.specs.Words as words
+use Rattle.fields.specs.ItemsAndPlaces as words
 
 values-place-requires : tie.Need-values-place-requires
 values-place-requires c κs = search needs

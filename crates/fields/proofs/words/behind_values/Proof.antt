@@ -3,7 +3,7 @@ use Rattle.fields.proofs.words.behind_values.Statement.{statement}
 use Rattle.fields.proofs.words.behind_values.Tie as tie
 use mathlib.Core.Path.{_∙_, ap}
 use Prim.Native.Nat.{_+_, _*_}
-use Rattle.fields.specs.Words.{placed, behind-values}
+use Rattle.fields.specs.ItemsAndPlaces.{placed, behind-values}
 
 add-place : tie.Need-add-place
 add-place c = search needs

@@ -3,7 +3,7 @@ use Rattle.fields.proofs.words.behind_words.Statement.{statement}
 use Rattle.fields.proofs.words.behind_words.Tie as tie
 use mathlib.Core.Path.{_∙_, ap}
 use Prim.Native.Nat.{_+_}
-use Rattle.fields.specs.Words.{placed, behind-words}
+use Rattle.fields.specs.ItemsAndPlaces.{placed, behind-words}
 
 add-place : tie.Need-add-place
 add-place c = search needs

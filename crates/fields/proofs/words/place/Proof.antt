@@ -2,7 +2,7 @@ use borrow.Author.Needs.{needs}
 use Rattle.fields.proofs.words.place.Statement.{statement}
 use Rattle.fields.proofs.words.place.Tie as tie
 use borrow.Author.Tests.{lt-ltb, le-ltb}
-use Rattle.fields.specs.Words.{placed}
+use Rattle.fields.specs.ItemsAndPlaces.{placed}
 use Rattle.meaning.specs.facts.Tests.{picked, passed-over}
 
 cast-if1 : tie.Need-cast-if1

@@ -2,7 +2,7 @@ use borrow.Author.Needs.{needs}
 use Rattle.fields.proofs.words.value_item.Statement.{statement}
 use Rattle.fields.proofs.words.value_item.Tie as tie
 use mathlib.Core.Path.{_∙_}
-use Rattle.fields.specs.Words.{value-item, value-at}
+use Rattle.fields.specs.ItemsAndPlaces.{value-item, value-at}
 use Rattle.meaning.specs.facts.Tests.{picked, passed-over, is-below, not-below}
 
 word-at-requires : tie.Need-word-at-requires

@@ -2,7 +2,7 @@ use borrow.Author.Needs.{needs}
 use Rattle.fields.proofs.words.word_item.Statement.{statement}
 use Rattle.fields.proofs.words.word_item.Tie as tie
 use mathlib.Core.Path.{_∙_}
-use Rattle.fields.specs.Words.{word-item}
+use Rattle.fields.specs.ItemsAndPlaces.{word-item}
 use Rattle.meaning.specs.facts.Tests.{picked, passed-over, is-below, not-below}
 
 word-at-requires : tie.Need-word-at-requires

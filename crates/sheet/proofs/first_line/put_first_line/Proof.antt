@@ -1,4 +1,4 @@
-use Rattle.sheet_words.specs.laws.PutsLaws.{puts-then}
+use Rattle.sheet_words.specs.laws.PutInFrontLaws.{puts-then}
 use borrow.Author.Needs.{needs}
 use Rattle.sheet.proofs.first_line.put_first_line.Statement.{statement}
 use Rattle.sheet.proofs.first_line.put_first_line.Tie as tie

@@ -4,8 +4,8 @@ use native.Mathlib.Omega.{arith}
 use lib.ListN.{length, getD}
 use Rattle.format.specs.References.{no-instr}
 use Rattle.fields.specs.ByNumber.{block-of}
-use Rattle.sheet_words.specs.Puts.{Puts}
-use Rattle.sheet_words.specs.laws.PutsLaws.{puts-as, puts-then}
+use Rattle.sheet_words.specs.PutInFront.{Puts}
+use Rattle.sheet_words.specs.laws.PutInFrontLaws.{puts-as, puts-then}
 use Rattle.sheet_words.specs.Parts.{OfState}
 use Rattle.sheet_words.specs.laws.Rows.{run, run-start, run-turn}
 use Rattle.sheet_words.specs.laws.PartLaws.{puts-from}

@@ -3,7 +3,7 @@ use Prim.Native.Nat.{_≤_, _-_}
 use native.Mathlib.Omega.{arith}
 use lib.ListN.{length}
 use Rattle.meaning.specs.Graph.{region}
-use Rattle.sheet_words.specs.Puts.{Puts}
+use Rattle.sheet_words.specs.PutInFront.{Puts}
 use Rattle.sheet_words.specs.Parts.{OfState}
 use Rattle.sheet_words.specs.laws.Rows.{run, run-start, run-turn}
 use Rattle.sheet_blocks.specs.BlockParts.{block-part, puts-blocks}

@@ -1,6 +1,6 @@
 use mathlib.Core.Path.{ap}
 use Rattle.fields.specs.declared.shape.Instruction.{Instruction}
-use Rattle.sheet_words.specs.laws.PutsLaws.{puts-then}
+use Rattle.sheet_words.specs.laws.PutInFrontLaws.{puts-then}
 use borrow.Author.Needs.{needs}
 use Rattle.sheet_blocks.proofs.blocks.put_item.Statement.{statement}
 use Rattle.sheet_blocks.proofs.blocks.put_item.Tie as tie

@@ -4,8 +4,8 @@ use native.Mathlib.Omega.{arith}
 use lib.ListN.{length, getD}
 use Rattle.meaning.specs.Graph.{no-value}
 use Rattle.fields.specs.ByNumber.{end-values}
-use Rattle.sheet_words.specs.Puts.{Puts}
-use Rattle.sheet_words.specs.laws.PutsLaws.{puts-as}
+use Rattle.sheet_words.specs.PutInFront.{Puts}
+use Rattle.sheet_words.specs.laws.PutInFrontLaws.{puts-as}
 use Rattle.sheet_words.specs.Parts.{OfState, value-part}
 use Rattle.sheet_words.specs.laws.Rows.{run, run-start, run-turn}
 use Rattle.sheet_words.specs.laws.PartLaws.{puts-listed, values-counted}

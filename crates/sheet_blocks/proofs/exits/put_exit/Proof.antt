@@ -1,5 +1,5 @@
 use mathlib.Core.Path.{sym}
-use Rattle.sheet_words.specs.laws.PutsLaws.{puts-as, puts-then}
+use Rattle.sheet_words.specs.laws.PutInFrontLaws.{puts-as, puts-then}
 use Rattle.sheet_blocks.specs.BlockParts.{exit-listed}
 use borrow.Author.Needs.{needs}
 use Rattle.sheet_blocks.proofs.exits.put_exit.Statement.{statement}

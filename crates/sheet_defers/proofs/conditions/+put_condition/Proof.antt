@@ -8,8 +8,8 @@ use borrow.Fn.Kinds.{In}
 use borrow.Fn.PlainCycle.{Measures, is, falls, and}
 use Rattle.nesting.specs.Nesting.{LazyCond}
 use Rattle.state_shown.specs.Tables.{ShowsCond}
-use Rattle.sheet_words.specs.Puts.{Puts}
-use Rattle.sheet_words.specs.laws.PutsLaws.{puts-then, puts-as}
+use Rattle.sheet_words.specs.PutInFront.{Puts}
+use Rattle.sheet_words.specs.laws.PutInFrontLaws.{puts-then, puts-as}
 use Rattle.sheet_words.specs.laws.Rows.{run, run-start, run-turn, run-all}
 use Rattle.sheet_defers.specs.Conditions.{condition-part}
 use Rattle.sheet_defers.specs.laws.ConditionsLaws.{part-turn, merge-is}

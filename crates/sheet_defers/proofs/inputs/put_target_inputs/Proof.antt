@@ -4,8 +4,8 @@ use native.Mathlib.Omega.{arith}
 use lib.ListN.{length}
 use mathlib.Core.Path.{_≡_, refl}
 use borrow.Author.Needs.{needs}
-use Rattle.sheet_words.specs.Puts.{Puts}
-use Rattle.sheet_words.specs.laws.PutsLaws.{puts-then, puts-as}
+use Rattle.sheet_words.specs.PutInFront.{Puts}
+use Rattle.sheet_words.specs.laws.PutInFrontLaws.{puts-then, puts-as}
 use Rattle.sheet_words.specs.laws.Rows.{run, run-start, run-turn, run-all}
 use Rattle.sheet_words.specs.Parts.{OfState}
 use Rattle.sheet_defers.specs.laws.Inputs.{input-part, inputs-are}

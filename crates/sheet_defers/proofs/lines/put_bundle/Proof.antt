@@ -1,7 +1,7 @@
 use mathlib.Core.Path.{_∙_}
 use borrow.Author.Needs.{needs}
 use Rattle.state_words.specs.laws.Edges.{edges-fit}
-use Rattle.sheet_words.specs.laws.PutsLaws.{puts-then, puts-as}
+use Rattle.sheet_words.specs.laws.PutInFrontLaws.{puts-then, puts-as}
 use Rattle.sheet_defers.specs.laws.DeferParts.{line-is, condition-is}
 use Rattle.sheet_defers.proofs.lines.put_bundle.Statement.{statement}
 use Rattle.sheet_defers.proofs.lines.put_bundle.Tie as tie

@@ -7,7 +7,7 @@ use borrow.Author.Needs.{needs}
 use Rattle.nesting.specs.Nesting.{DeferredEdgeBundleSet}
 use Rattle.state_shown.specs.Sets.{no-bundle}
 use Rattle.state_shown.specs.States.{ShowsOwnSet}
-use Rattle.sheet_words.specs.Puts.{Puts}
+use Rattle.sheet_words.specs.PutInFront.{Puts}
 use Rattle.sheet_words.specs.laws.Rows.{run, run-start, run-turn}
 use Rattle.sheet_words.specs.Parts.{OfState, defer-part}
 use Rattle.sheet_words.specs.laws.PartLaws.{puts-each}

@@ -5,7 +5,7 @@ use native.Mathlib.Omega.{arith}
 use lib.ListN.{length}
 use borrow.Author.Needs.{needs}
 use Rattle.state_shown.specs.Values.{value}
-use Rattle.sheet_words.specs.laws.PutsLaws.{puts-as}
+use Rattle.sheet_words.specs.laws.PutInFrontLaws.{puts-as}
 use Rattle.sheet_words.specs.Parts.{OfState, value-part}
 use Rattle.state_lists.specs.laws.CellByCellLaws.{named-below}
 use Rattle.sheet_regions.specs.Kept.{kept-word, CellsPut, kept-cells, values-are}

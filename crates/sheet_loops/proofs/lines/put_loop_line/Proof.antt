@@ -1,6 +1,6 @@
 use borrow.Author.Needs.{needs}
 use mathlib.Core.Path.{sym}
-use Rattle.sheet_words.specs.laws.PutsLaws.{puts-then, puts-as}
+use Rattle.sheet_words.specs.laws.PutInFrontLaws.{puts-then, puts-as}
 use Rattle.sheet_loops.specs.LoopParts.{loop-line}
 use Rattle.sheet_loops.proofs.lines.put_loop_line.Statement.{statement}
 use Rattle.sheet_loops.proofs.lines.put_loop_line.Tie as tie

@@ -1,5 +1,5 @@
 use borrow.Author.Needs.{needs}
-use Rattle.sheet_words.specs.laws.PutsLaws.{puts-then}
+use Rattle.sheet_words.specs.laws.PutInFrontLaws.{puts-then}
 use Rattle.sheet_loops.proofs.lines.put_loop_lines.Statement.{statement}
 use Rattle.sheet_loops.proofs.lines.put_loop_lines.Tie as tie
 

@@ -6,8 +6,8 @@ use lib.ListN.{length, getD}
 use Rattle.meaning.specs.Graph.{region}
 use Rattle.nesting.specs.Nesting.{plain}
 use Rattle.record.specs.Stands.{OfRecord}
-use Rattle.sheet_words.specs.Puts.{Puts}
-use Rattle.sheet_words.specs.laws.PutsLaws.{puts-as}
+use Rattle.sheet_words.specs.PutInFront.{Puts}
+use Rattle.sheet_words.specs.laws.PutInFrontLaws.{puts-as}
 use Rattle.sheet_words.specs.laws.Rows.{run, run-start, run-turn}
 use Rattle.sheet_words.specs.laws.PartLaws.{puts-listed, numbers-listed}
 use Rattle.sheet_regions.proofs.types.put_all_types.Statement.{statement}

@@ -6,7 +6,7 @@ use native.Mathlib.Omega.{arith}
 use lib.ListN.{length}
 use borrow.Author.Needs.{needs}
 use Rattle.nesting.specs.Nesting.{plain}
-use Rattle.sheet_words.specs.laws.PutsLaws.{puts-as}
+use Rattle.sheet_words.specs.laws.PutInFrontLaws.{puts-as}
 use Rattle.sheet_words.specs.Parts.{OfState}
 use Rattle.state_lists.specs.laws.CellByCellLaws.{named-below}
 use Rattle.sheet_regions.specs.Kept.{kept-type, CellsPut, kept-cells, types-are}

@@ -1,4 +1,4 @@
-use Rattle.sheet_words.specs.laws.PutsLaws.{noted-true, noted-false}
+use Rattle.sheet_words.specs.laws.PutInFrontLaws.{noted-true, noted-false}
 use Rattle.sheet_words.proofs.place.note.Statement.{statement}
 use Rattle.sheet_words.proofs.place.note.Tie as tie
 

@@ -1,4 +1,4 @@
-use Rattle.sheet_words.specs.laws.PutsLaws.{put-stored, put-nowhere}
+use Rattle.sheet_words.specs.laws.PutInFrontLaws.{put-stored, put-nowhere}
 use borrow.Author.Needs.{needs}
 use Rattle.sheet_words.proofs.place.put.Statement.{statement}
 use Rattle.sheet_words.proofs.place.put.Tie as tie

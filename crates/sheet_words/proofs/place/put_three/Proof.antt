@@ -1,4 +1,4 @@
-use Rattle.sheet_words.specs.laws.PutsLaws.{puts-then}
+use Rattle.sheet_words.specs.laws.PutInFrontLaws.{puts-then}
 use borrow.Author.Needs.{needs}
 use Rattle.sheet_words.proofs.place.put_three.Statement.{statement}
 use Rattle.sheet_words.proofs.place.put_three.Tie as tie

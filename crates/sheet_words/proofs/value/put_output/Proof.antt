@@ -1,6 +1,6 @@
 use native.Mathlib.Omega.{arith}
 use mathlib.Core.Path.{refl}
-use Rattle.sheet_words.specs.laws.PutsLaws.{nothing-lent}
+use Rattle.sheet_words.specs.laws.PutInFrontLaws.{nothing-lent}
 use borrow.Author.Needs.{needs}
 use Rattle.sheet_words.proofs.value.put_output.Statement.{statement}
 use Rattle.sheet_words.proofs.value.put_output.Tie as tie

@@ -1,4 +1,4 @@
-use Rattle.sheet_words.specs.laws.PutsLaws.{puts-as, puts-noted}
+use Rattle.sheet_words.specs.laws.PutInFrontLaws.{puts-as, puts-noted}
 use Rattle.sheet_words.specs.laws.ValueShown.{value-shown}
 use borrow.Author.Needs.{needs}
 use Rattle.sheet_words.proofs.value.put_value.Statement.{statement}

@@ -2,7 +2,7 @@ use mathlib.Core.Path.{refl}
 use borrow.Author.Needs.{needs}
 use Rattle.nesting.specs.decoding.Decode.{next-word}
 use Rattle.text_cursor.specs.Lines.{shown}
-use Rattle.text_cursor.specs.laws.PutsSteps.{puts-said, puts-next, puts-ended}
+use Rattle.text_cursor.specs.laws.WordsToTextSteps.{puts-said, puts-next, puts-ended}
 use Rattle.text_cursor.proofs.cursor.number.Statement.{statement}
 use Rattle.text_cursor.proofs.cursor.number.Tie as tie
 

@@ -1,6 +1,6 @@
 use mathlib.Core.Path.{refl}
 use borrow.Author.Needs.{needs}
-use Rattle.text_cursor.specs.laws.PutsSteps.{puts-said}
+use Rattle.text_cursor.specs.laws.WordsToTextSteps.{puts-said}
 use Rattle.text_cursor.proofs.cursor.say.Statement.{statement}
 use Rattle.text_cursor.proofs.cursor.say.Tie as tie
 

@@ -3,7 +3,7 @@ use borrow.Author.Needs.{needs}
 use Rattle.text.specs.laws.BufferLaws.{wrote-none}
 use Rattle.nesting.specs.decoding.Decode.{next-word}
 use Rattle.text_cursor.specs.Lines.{shown}
-use Rattle.text_cursor.specs.laws.PutsSteps.{puts-said, puts-next, puts-ended}
+use Rattle.text_cursor.specs.laws.WordsToTextSteps.{puts-said, puts-next, puts-ended}
 use Rattle.text_cursor.proofs.cursor.skip.Statement.{statement}
 use Rattle.text_cursor.proofs.cursor.skip.Tie as tie
 

@@ -5,7 +5,7 @@ use borrow.Author.Needs.{needs}
 use Rattle.nesting.specs.decoding.Decode.{next-word}
 use Rattle.text_cursor.specs.laws.Readers.{value-short}
 use Rattle.text_cursor.specs.Lines.{shown}
-use Rattle.text_cursor.specs.laws.PutsSteps.{puts-said, puts-three, puts-none}
+use Rattle.text_cursor.specs.laws.WordsToTextSteps.{puts-said, puts-three, puts-none}
 use Rattle.text_cursor.proofs.cursor.value.Statement.{statement}
 use Rattle.text_cursor.proofs.cursor.value.Tie as tie
 

@@ -8,7 +8,7 @@ use denote.Ref.{now}
 use borrow.Author.Needs.{needs}
 use borrow.Fn.Kinds.{In}
 use borrow.Fn.PlainCycle.{Measures, is, falls, and}
-use Rattle.text_cursor.specs.laws.PutsSteps.{puts-then, puts-as}
+use Rattle.text_cursor.specs.laws.WordsToTextSteps.{puts-then, puts-as}
 use Rattle.text_fields.specs.laws.FieldTexts.{item-shown, merge-there, plain-there}
 use Rattle.text_fields.specs.laws.ListTurns.{Turned, turned-first, turned-next, turned-all, turned-beyond, list-missing, list-empty}
 use Rattle.text_fields.proofs.fields.put_field.Reads as put-field

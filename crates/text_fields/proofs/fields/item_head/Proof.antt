@@ -1,6 +1,6 @@
 use mathlib.Core.Path.{_∙_}
 use borrow.Author.Needs.{needs}
-use Rattle.text_cursor.specs.laws.PutsSteps.{puts-then}
+use Rattle.text_cursor.specs.laws.WordsToTextSteps.{puts-then}
 use Rattle.text_fields.proofs.fields.item_head.Statement.{statement}
 use Rattle.text_fields.proofs.fields.item_head.Tie as tie
 

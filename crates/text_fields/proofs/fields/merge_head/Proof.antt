@@ -1,5 +1,5 @@
 use borrow.Author.Needs.{needs}
-use Rattle.text_cursor.specs.laws.PutsSteps.{puts-then}
+use Rattle.text_cursor.specs.laws.WordsToTextSteps.{puts-then}
 use Rattle.text_fields.proofs.fields.merge_head.Statement.{statement}
 use Rattle.text_fields.proofs.fields.merge_head.Tie as tie
 

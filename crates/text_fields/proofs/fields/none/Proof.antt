@@ -13,8 +13,8 @@ use Rattle.text_fields.specs.declared.fields.Field.the-variants.{Number,
 use Rattle.text_cursor.specs.declared.cursor.SheetCursor.{SheetCursor}
 use Rattle.text_cursor.specs.Texts.{say}
 use Rattle.text_fields.specs.Fields.{none-text}
-use Rattle.text_cursor.specs.Puts.{PutsText}
-use Rattle.text_cursor.specs.laws.PutsSteps.{puts-said}
+use Rattle.text_cursor.specs.WordsToText.{PutsText}
+use Rattle.text_cursor.specs.laws.WordsToTextSteps.{puts-said}
 use Rattle.text_fields.proofs.fields.Field.{the-type}
 use Rattle.text_fields.proofs.fields.none.Statement.{statement}
 use Rattle.text_fields.proofs.fields.none.Tie as tie

@@ -2,7 +2,7 @@ use mathlib.Core.Path.{refl}
 use borrow.Author.Needs.{needs}
 use Rattle.nesting.specs.decoding.Decode.{next-word}
 use Rattle.text_cursor.specs.laws.Readers.{plain-none}
-use Rattle.text_cursor.specs.laws.PutsSteps.{puts-next, puts-ended, puts-refused}
+use Rattle.text_cursor.specs.laws.WordsToTextSteps.{puts-next, puts-ended, puts-refused}
 use Rattle.text_fields.proofs.fields.plain_condition.Statement.{statement}
 use Rattle.text_fields.proofs.fields.plain_condition.Tie as tie
 

@@ -1,6 +1,6 @@
 use mathlib.Core.Path.{_∙_}
 use borrow.Author.Needs.{needs}
-use Rattle.text_cursor.specs.laws.PutsSteps.{puts-then, puts-as}
+use Rattle.text_cursor.specs.laws.WordsToTextSteps.{puts-then, puts-as}
 use Rattle.text_lines.specs.laws.LineTexts.{defer-shown}
 use Rattle.text_lines.proofs.lines.defer.Statement.{statement}
 use Rattle.text_lines.proofs.lines.defer.Tie as tie

@@ -1,6 +1,6 @@
 use native.Mathlib.Omega.{arith}
 use borrow.Author.Needs.{needs}
-use Rattle.text_cursor.specs.laws.PutsSteps.{puts-none}
+use Rattle.text_cursor.specs.laws.WordsToTextSteps.{puts-none}
 use Rattle.text_lines.specs.laws.LineTexts.{no-line}
 use Rattle.text_lines.proofs.lines.line_by.Statement.{statement}
 use Rattle.text_lines.proofs.lines.line_by.Tie as tie

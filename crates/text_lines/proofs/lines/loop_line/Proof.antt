@@ -1,5 +1,5 @@
 use borrow.Author.Needs.{needs}
-use Rattle.text_cursor.specs.laws.PutsSteps.{puts-then, puts-as}
+use Rattle.text_cursor.specs.laws.WordsToTextSteps.{puts-then, puts-as}
 use Rattle.text_lines.specs.laws.LineTexts.{loop-shown}
 use Rattle.text_lines.proofs.lines.loop_line.Statement.{statement}
 use Rattle.text_lines.proofs.lines.loop_line.Tie as tie

@@ -3,7 +3,7 @@ use native.Mathlib.Omega.{arith}
 use lib.ListN.{getD}
 use borrow.Author.Needs.{needs}
 use Rattle.nesting.specs.decoding.Decode.{next-word}
-use Rattle.text_cursor.specs.laws.PutsSteps.{puts-next, puts-ended, puts-refused}
+use Rattle.text_cursor.specs.laws.WordsToTextSteps.{puts-next, puts-ended, puts-refused}
 use Rattle.text_lines.specs.laws.LineTexts.{untouched-shown, whole-shown, closed-shown, leftover-shown, no-outcome}
 use Rattle.text_lines.proofs.lines.outcome.Statement.{statement}
 use Rattle.text_lines.proofs.lines.outcome.Tie as tie

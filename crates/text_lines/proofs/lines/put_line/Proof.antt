@@ -4,7 +4,7 @@ use native.Mathlib.Omega.{arith}
 use borrow.Author.Needs.{needs}
 use Rattle.nesting.specs.decoding.Decode.{next-word}
 use Rattle.text_cursor.specs.Lines.{shown}
-use Rattle.text_cursor.specs.laws.PutsSteps.{puts-then, puts-next, puts-ended}
+use Rattle.text_cursor.specs.laws.WordsToTextSteps.{puts-then, puts-next, puts-ended}
 use Rattle.text_lines.specs.laws.LineTexts.{line-shown}
 use Rattle.text_lines.proofs.lines.put_line.Statement.{statement}
 use Rattle.text_lines.proofs.lines.put_line.Tie as tie

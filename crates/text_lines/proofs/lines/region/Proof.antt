@@ -1,5 +1,5 @@
 use borrow.Author.Needs.{needs}
-use Rattle.text_cursor.specs.laws.PutsSteps.{puts-then, puts-as}
+use Rattle.text_cursor.specs.laws.WordsToTextSteps.{puts-then, puts-as}
 use Rattle.text_lines.specs.laws.LineTexts.{region-shown}
 use Rattle.text_lines.proofs.lines.region.Statement.{statement}
 use Rattle.text_lines.proofs.lines.region.Tie as tie

@@ -1,6 +1,6 @@
 use mathlib.Core.Path.{_∙_}
 use borrow.Author.Needs.{needs}
-use Rattle.text_cursor.specs.laws.PutsSteps.{puts-then, puts-as}
+use Rattle.text_cursor.specs.laws.WordsToTextSteps.{puts-then, puts-as}
 use Rattle.text_lines.specs.laws.LineTexts.{kind-shown, select-shown}
 use Rattle.text_lines.proofs.lines.select.Statement.{statement}
 use Rattle.text_lines.proofs.lines.select.Tie as tie

@@ -2,7 +2,7 @@ use mathlib.Core.Path.{refl, sym, _∙_}
 use borrow.Author.Needs.{needs}
 use Rattle.nesting.specs.decoding.Decode.{next-word}
 use Rattle.text_cursor.specs.Lines.{shown}
-use Rattle.text_cursor.specs.laws.PutsSteps.{puts-next, puts-ended, puts-there}
+use Rattle.text_cursor.specs.laws.WordsToTextSteps.{puts-next, puts-ended, puts-there}
 use Rattle.text_lines.specs.laws.LineTexts.{number-target}
 use Rattle.meaning.specs.facts.Elements.{first-dropped}
 use Rattle.text_lines.proofs.lines.target.Statement.{statement}

@@ -1,5 +1,5 @@
 use borrow.Author.Needs.{needs}
-use Rattle.text_cursor.specs.laws.PutsSteps.{puts-then}
+use Rattle.text_cursor.specs.laws.WordsToTextSteps.{puts-then}
 use Rattle.text_lines.proofs.lines.unshown.Statement.{statement}
 use Rattle.text_lines.proofs.lines.unshown.Tie as tie
 

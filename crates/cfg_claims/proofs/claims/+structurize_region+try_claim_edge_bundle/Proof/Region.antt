@@ -19,7 +19,7 @@ use cycle.Proof.Base.{structurize-region-at, try-claim-edge-bundle-below}
 use Rattle.state_regions.proofs.regions.set_region_state.Reads as set-region-state-reads
 use Rattle.fields.proofs.target_count.Reads as target-count-reads
 use Rattle.fields.proofs.target.Reads as target-reads
-use Rattle.state_regions.proofs.regions.set_target_taken.Reads as set-target-taken-reads
+use Rattle.state_regions.proofs.regions.set_target_answer.Reads as set-target-answer-reads
 use Rattle.cfg_regions.proofs.claim.defer_target.Reads as defer-target-reads
 use Rattle.cfg_regions.proofs.inst.by_control_inst.Reads as by-control-inst-reads
 use Rattle.fields.proofs.region_count.Reads as region-count-reads
@@ -41,8 +41,8 @@ called t = (
   target-reads.Learnt,
   try-claim-edge-bundle-below t,
   try-claim-edge-bundle.Post,
-  set-target-taken-reads.Asked,
-  set-target-taken-reads.Learnt,
+  set-target-answer-reads.Asked,
+  set-target-answer-reads.Learnt,
   defer-target-reads.Asked,
   defer-target-reads.Learnt,
   by-control-inst-reads.Asked,
@@ -138,9 +138,9 @@ module _ (t : ℕ) where
       Inv-targets μ-targets Inv-scan μ-scan Inv-turns μ-turns
   enum-told c = search needs
 
-  pub set-target-taken-requires : lts.Need-set-target-taken-requires (called t) (structurize-region-at t) structurize-region.Post
+  pub set-target-answer-requires : lts.Need-set-target-answer-requires (called t) (structurize-region-at t) structurize-region.Post
       Inv-targets μ-targets Inv-scan μ-scan Inv-turns μ-turns
-  set-target-taken-requires c κs = search needs
+  set-target-answer-requires c κs = search needs
 
   pub enum-told-2 : lts.Need-enum-told-2 (called t) (structurize-region-at t) structurize-region.Post
       Inv-targets μ-targets Inv-scan μ-scan Inv-turns μ-turns

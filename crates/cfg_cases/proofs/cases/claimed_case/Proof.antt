@@ -1,6 +1,6 @@
 use borrow.Author.Needs.{needs}
-use Rattle.cfg_cases.proofs.taken.claimed_case.Statement.{statement}
-use Rattle.cfg_cases.proofs.taken.claimed_case.Tie as tie
+use Rattle.cfg_cases.proofs.cases.claimed_case.Statement.{statement}
+use Rattle.cfg_cases.proofs.cases.claimed_case.Tie as tie
 
 structured-body-requires : tie.Need-structured-body-requires
 structured-body-requires c κs = search needs

@@ -10,7 +10,7 @@ use lib.Seq.{set-out}
 use Rattle.meaning.specs.facts.Tests.{or-assoc-comm}
 use Rattle.nesting.specs.Nesting.{plain}
 use Rattle.sheet_words.specs.declared.place.Place.{Place}
-use Rattle.sheet_words.specs.Puts.{written, Part, Puts, noted}
+use Rattle.sheet_words.specs.PutInFront.{written, Part, Puts, noted}
 
 infixr 35 _⊕_
 abbrev pub _⊕_ : Part → Part → Part

@@ -1,10 +1,10 @@
 use Rattle.cfg_bundles.specs.laws.paths.Paths.{fill-claimed, fill-edge, fill-nothing}
 use borrow.Author.Needs.{needs}
-use Rattle.cfg_cases.proofs.taken.fill_case.Statement.{statement}
-use Rattle.cfg_cases.proofs.taken.fill_case.Tie as tie
+use Rattle.cfg_cases.proofs.cases.fill_case.Statement.{statement}
+use Rattle.cfg_cases.proofs.cases.fill_case.Tie as tie
 
-target-taken-requires : tie.Need-target-taken-requires
-target-taken-requires c κs = search needs
+target-answer-requires : tie.Need-target-answer-requires
+target-answer-requires c κs = search needs
 
 target-requires : tie.Need-target-requires
 target-requires c κs = search needs
@@ -24,8 +24,8 @@ returns c g s =
     let at-claimed-case = at-passed-inputs .before .before in
     let at-target = at-claimed-case .before in
     let at-if = at-target .before .before in
-    let at-target-taken = at-if .before in
-    fill-claimed g _ _ _ (at-target-taken .target-taken .ensures)
+    let at-target-answer = at-if .before in
+    fill-claimed g _ _ _ (at-target-answer .target-answer .ensures)
     (at-if .if1 .taken)
     (at-target .target .ensures g s)
     (at-claimed-case .claimed-case .ensures)
@@ -49,8 +49,8 @@ returns-2 c g s =
     let at-own-edge = at-defer-edge .before .before in
     let at-if = at-own-edge .before in
     let at-if-2 = at-if .before in
-    let at-target-taken = at-if-2 .before in
-    fill-edge g _ _ _ (at-target-taken .target-taken .ensures)
+    let at-target-answer = at-if-2 .before in
+    fill-edge g _ _ _ (at-target-answer .target-answer .ensures)
     (at-if-2 .if1 .left)
     (at-if .if2 .taken) (at-own-edge .own-edge .ensures)
     (at-defer-edge .defer-edge .ensures g s) (c .before .unclaimed-case .ensures) (c .set-case .ensures)
@@ -62,7 +62,7 @@ set-case-requires-2 : tie.Need-set-case-requires-2
 set-case-requires-2 c κs = search needs
 
 returns-3 : tie.Need-returns-3
-returns-3 c g s = fill-nothing g _ _ _ (c .before .before .before .before .before .target-taken .ensures)
+returns-3 c g s = fill-nothing g _ _ _ (c .before .before .before .before .before .target-answer .ensures)
     (c .before .before .before .before .if1 .left) (c .before .before .before .if2 .left) (c .before .unclaimed-case2 .ensures)
     (c .set-case2 .ensures)
 
@@ -70,7 +70,7 @@ pub fill-case-spec : {M : Type 1} → statement M
 fill-case-spec =
     tie.close
     (tie.spec
-    target-taken-requires
+    target-answer-requires
     target-requires
     claimed-case-requires
     passed-inputs-requires

@@ -1,10 +1,10 @@
-// The cases of a select, or of a branch: how each target of a region was taken, and what follows a claimed bundle of its own set.
+// The cases of a select, or of a branch: how each target of a region was answered, and what follows a claimed bundle of its own set.
 ghost use mathlib.Core.Path.{_≡_};
 ghost use mathlib.Core.List.{_++_};
 ghost use Rattle.record.specs.Stands.{OfRecord};
 ghost use Rattle.state_words.specs.Sections as sections;
 ghost use Rattle.state_regions.specs.RegionTables as tables;
-ghost use Rattle.cfg_bundles.specs.Words as words;
+ghost use Rattle.cfg_bundles.specs.EdgesAndCases as words;
 ghost use Rattle.state_words.specs.Rows as rows;
 use cfg_bundles::bundles::defer_edge;
 use cfg_bundles::bundles::passed_inputs;
@@ -16,11 +16,11 @@ use state_regions::cases::OWN_EDGE;
 use state_regions::cases::set_case;
 use state_regions::cases::set_case_count;
 use state_regions::cases::set_case_inputs;
-use state_regions::regions::DEFERRED;
-use state_regions::regions::TAKEN;
+use state_regions::regions::TARGET_CLAIMED;
+use state_regions::regions::TARGET_DEFERRED;
 use state_regions::regions::children;
 use state_regions::regions::structured_body;
-use state_regions::regions::target_taken;
+use state_regions::regions::target_answer;
 use state_sets::sets::bundle_at;
 use state_sets::sets::own_edge;
 use state_sets::sets::set_length;
@@ -70,14 +70,14 @@ fn put_case(w: &mut [u16; WORDS], j: u16, x: Case, vs: &[u16; 4])
 fn fill_case(w: &mut [u16; WORDS], r: u16, j: u16)
     ensures { λ _. ⌜ OfRecord (now (w .entry)) (λ g. now (w .exit) ≡ words.«case-filled» g (now (w .entry)) r j) ⌝ }
 {
-    let taken = target_taken(w, r, j);
-    if taken == TAKEN {
+    let answer = target_answer(w, r, j);
+    if answer == TARGET_CLAIMED {
         let x = claimed_case(w, fields::target(w, r, j));
         let vs = passed_inputs(w, r, j);
         put_case(w, j, x, &vs);
         return;
     }
-    if taken == DEFERRED {
+    if answer == TARGET_DEFERRED {
         let p = own_edge(j);
         defer_edge(w, p, r, j);
         set_case(w, j, unclaimed_case(OWN_EDGE, p, 1));

@@ -1,10 +1,10 @@
-use Rattle.state_regions.specs.RegionTables.{taken-word}
+use Rattle.state_regions.specs.RegionTables.{target-answer}
 use mathlib.Core.Path.{_∙_}
 use Rattle.meaning.specs.facts.Tests.{picked, passed-over}
 use borrow.Author.Tests.{lt-ltb, le-ltb}
 use borrow.Author.Needs.{needs}
-use Rattle.state_regions.proofs.regions.target_taken.Statement.{statement}
-use Rattle.state_regions.proofs.regions.target_taken.Tie as tie
+use Rattle.state_regions.proofs.regions.target_answer.Statement.{statement}
+use Rattle.state_regions.proofs.regions.target_answer.Tie as tie
 
 mul-get : tie.Need-mul-get
 mul-get c = search needs
@@ -16,12 +16,12 @@ get-requires : tie.Need-get-requires
 get-requires c κs = search needs
 
 returns : tie.Need-returns
-unfolding taken-word
+unfolding target-answer
 returns c = c .get .ensures ∙ picked _ _ (lt-ltb _ _ (c .before .if1 .taken))
 
 returns-2 : tie.Need-returns-2
-unfolding taken-word
+unfolding target-answer
 returns-2 c = passed-over _ _ (le-ltb _ _ (c .if1 .left))
 
-pub target-taken-spec : {M : Type 1} → statement M
-target-taken-spec = tie.close (tie.spec mul-get add-get get-requires returns returns-2)
+pub target-answer-spec : {M : Type 1} → statement M
+target-answer-spec = tie.close (tie.spec mul-get add-get get-requires returns returns-2)

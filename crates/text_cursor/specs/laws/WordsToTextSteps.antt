@@ -17,7 +17,7 @@ use Rattle.nesting.specs.decoding.Decode.{Decoded, decoded, nothing, next-word,
 use Rattle.text_cursor.specs.declared.cursor.SheetCursor.{SheetCursor}
 use Rattle.text_cursor.specs.Lines.{TextReader}
 use Rattle.text_cursor.specs.Texts.{say, _then_}
-use Rattle.text_cursor.specs.Puts.{words-from, reading, read-text, PutsText, PutsWithin, Stopped}
+use Rattle.text_cursor.specs.WordsToText.{words-from, reading, read-text, PutsText, PutsWithin, Stopped}
 
 pub from-inside : (ws : List ℕ) (at : ℕ) → at ≤ length ws → words-from ws at ≡ decoded tt (drop at ws)
 unfolding words-from

@@ -1,8 +1,8 @@
 use borrow.Author.Tests.{lt-ltb, le-ltb}
-use Rattle.cfg_bundles.specs.Words.{given-word}
+use Rattle.cfg_bundles.specs.EdgesAndCases.{given-word}
 use borrow.Author.Needs.{needs}
-use Rattle.cfg_cases.proofs.taken.given_word.Statement.{statement}
-use Rattle.cfg_cases.proofs.taken.given_word.Tie as tie
+use Rattle.cfg_cases.proofs.cases.given_word.Statement.{statement}
+use Rattle.cfg_cases.proofs.cases.given_word.Tie as tie
 
 target-input-requires : tie.Need-target-input-requires
 target-input-requires c κs = search needs

@@ -7,11 +7,11 @@ use lib.Dec.{ltb, eqb}
 use Rattle.meaning.specs.Graph.{Graph, Value, const, input, instr, output, bool, undef, held, no-value, region, edges-of}
 use Rattle.meaning.specs.Lists.{pick}
 use Rattle.fields.specs.ByNumber.{end-values, edge-of}
-use Rattle.fields.specs.Words.{value-item}
+use Rattle.fields.specs.ItemsAndPlaces.{value-item}
 use Rattle.state_regions.specs.declared.cases.Case.{Case}
 use Rattle.state_words.specs.Sections.{word, stored, stored-all, head, children, bodies, set-starts, set-lengths, cases, bundles}
 use Rattle.state_sets.specs.SetTables.{bundle-at, own-edge, input-word, bundle-copied, shift-removed, swapped}
-use Rattle.state_regions.specs.RegionTables.{taken-word, case-words}
+use Rattle.state_regions.specs.RegionTables.{target-answer, case-words}
 use Rattle.state_nodes.specs.NodeTables.{inserted}
 use Rattle.state_nodes.specs.NodeTables.{Joins}
 use Rattle.state_words.specs.Values as state
@@ -86,9 +86,9 @@ claimed-case l t =
 unfoldable pub case-filled : Graph → List ℕ → ℕ → ℕ → List ℕ
 case-filled g l r j =
     let e = edge-of g r j in
-    pick (eqb (taken-word l r j) level-claimed)
+    pick (eqb (target-answer l r j) level-claimed)
     (stored-all l cases (case-row-at j) (case-words (claimed-case l (e .target)) ++ padded (e .inputs)))
-    (pick (eqb (taken-word l r j) level-deferred)
+    (pick (eqb (target-answer l r j) level-deferred)
     (stored-all (edge-deferred g l (own-edge j) r j) cases (case-row-at j) (case-words (unclaimed-case case-own-edge (own-edge j) 1)))
     (stored-all l cases (case-row-at j) (case-words (unclaimed-case case-nothing 0 0))))
 

@@ -15,8 +15,9 @@ use Rattle.state_words.specs.laws.Stored.{fill-start, fill-turn, fill-stop}
 use Rattle.state_shown.specs.Front.{SameFront}
 use Rattle.state_shown.specs.laws.FrontKept.{stands-on, front-same, front-stored, front-run, front-then}
 use Rattle.state_shown.specs.laws.Fills.{fill-front}
-use Rattle.cfg_start.specs.Words.{nothing-rewritten, nothing-begun, slots-placed, emptied, returned-type, returned-count, counted}
-use Rattle.cfg_start.specs.Words.{returned, started, ReturnedLeft}
+use Rattle.cfg_start.specs.InitialState.{nothing-rewritten, nothing-begun, slots-placed, emptied, returned-type, returned-count}
+use Rattle.cfg_start.specs.InitialState.{counted}
+use Rattle.cfg_start.specs.InitialState.{returned, started, ReturnedLeft}
 use Rattle.state_words.specs.Rows.{entries-at, regions-at, returned-at, types-at}
 
 pub returned-start : (g : Graph) (l : List ℕ) → ReturnedLeft g 0 l l

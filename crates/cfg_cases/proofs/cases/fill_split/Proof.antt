@@ -1,7 +1,7 @@
 use Rattle.cfg_bundles.specs.laws.paths.Paths.{split-by}
 use borrow.Author.Needs.{needs}
-use Rattle.cfg_cases.proofs.taken.fill_split.Statement.{statement}
-use Rattle.cfg_cases.proofs.taken.fill_split.Tie as tie
+use Rattle.cfg_cases.proofs.cases.fill_split.Statement.{statement}
+use Rattle.cfg_cases.proofs.cases.fill_split.Tie as tie
 
 set-start-requires : tie.Need-set-start-requires
 set-start-requires c κs = search needs

@@ -4,9 +4,9 @@ use native.Mathlib.Omega.{arith}
 use borrow.Author.Needs.{needs}
 use Rattle.cfg_bundles.specs.laws.paths.Paths.{fill-start, fill-turn, fill-stop, fill-end, stands-counted}
 use Rattle.record.specs.Stands.{Stands, OfRecord}
-use Rattle.cfg_bundles.specs.Words.{filled-from}
-use Rattle.cfg_cases.proofs.taken.fill_cases.Statement.{statement}
-use Rattle.cfg_cases.proofs.taken.fill_cases.Tie as tie
+use Rattle.cfg_bundles.specs.EdgesAndCases.{filled-from}
+use Rattle.cfg_cases.proofs.cases.fill_cases.Statement.{statement}
+use Rattle.cfg_cases.proofs.cases.fill_cases.Tie as tie
 
 abbrev Inv-loop : tie.InvT-loop
 Inv-loop w₀ r n j₀ w j = (j ≤ n) × OfRecord w₀ (λ g. Stands w g × (filled-from g w r (n - j) j ≡ filled-from g w₀ r n 0))

@@ -2,8 +2,8 @@ use Rattle.cfg_bundles.specs.laws.paths.Paths.{run-then}
 use Rattle.state_words.specs.Sections.{cases}
 use Rattle.state_regions.specs.RegionTables.{case-words}
 use borrow.Author.Needs.{needs}
-use Rattle.cfg_cases.proofs.taken.put_case.Statement.{statement}
-use Rattle.cfg_cases.proofs.taken.put_case.Tie as tie
+use Rattle.cfg_cases.proofs.cases.put_case.Statement.{statement}
+use Rattle.cfg_cases.proofs.cases.put_case.Tie as tie
 
 set-case-requires : tie.Need-set-case-requires
 set-case-requires c κs = search needs

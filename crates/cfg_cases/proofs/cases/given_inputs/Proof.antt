@@ -1,7 +1,7 @@
 use Rattle.cfg_bundles.specs.laws.paths.Paths.{given-all}
 use borrow.Author.Needs.{needs}
-use Rattle.cfg_cases.proofs.taken.given_inputs.Statement.{statement}
-use Rattle.cfg_cases.proofs.taken.given_inputs.Tie as tie
+use Rattle.cfg_cases.proofs.cases.given_inputs.Statement.{statement}
+use Rattle.cfg_cases.proofs.cases.given_inputs.Tie as tie
 
 target-requires : tie.Need-target-requires
 target-requires c κs = search needs
