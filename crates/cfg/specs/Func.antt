@@ -16,6 +16,8 @@ use Rattle.cfg.specs.declared.func.Nested.{Nested}
 use Rattle.cfg.specs.declared.func.Nested.the-variants.{Untouched, Whole, Closed, Leftover, Refused}
 use Rattle.cfg_claims.specs.Claims.{own-target, TriesClaim}
 use Rattle.state_words.specs.Rows.{return-word}
+use Rattle.store.specs.declared.refusals.Refusal.{Refusal}
+use Rattle.store.specs.declared.refusals.Refusal.the-variants.{Never}
 
 -- By the entry's set: none, Return alone, or another.
 pub data Outcomes (w : List ℕ) (entry : ℕ) : Nested → Type 0 where
@@ -35,8 +37,8 @@ entered-once g counts = eqb (getD counts (g .entry) 0) 1
 -- What is concluded from the claim's answer, which left the words w.
 pub data Concludes (g : Graph) (w : List ℕ) : Claim → Nested → Type 0 where
   claimed : {a : Nested} → Outcomes w (g .entry) a → Concludes g w claim.Claimed a
-  unclaimed : Concludes g w claim.Unclaimed (Refused 0 0)
-  refused : {number x : ℕ} → Concludes g w (claim.Refused number x) (Refused number x)
+  unclaimed : Concludes g w claim.Unclaimed (Refused (Never 0))
+  refused : {y : Refusal} → Concludes g w (claim.Refused y) (Refused y)
 
 pub data FuncBy (g : Graph) (counts w w′ : List ℕ) : Nested → Type 0 where
   untouched : (getD counts (g .entry) 0 ≡ 1 → ⊥) → w′ ≡ w → FuncBy g counts w w′ Untouched

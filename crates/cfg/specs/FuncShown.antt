@@ -13,6 +13,8 @@ use Rattle.state_shown.specs.States.{ShowsState, ShowsBody}
 use Rattle.cfg.specs.declared.func.Nested as code
 use Rattle.cfg.specs.declared.func.Nested.the-variants.{Untouched, Whole, Closed, Leftover, Refused}
 use Rattle.state_words.specs.Rows.{kind-claimed, region-kind}
+use Rattle.store.specs.declared.refusals.Refusal.{Refusal}
+use Rattle.store.specs.Refusals.{refused-as}
 
 abbrev pub outcome-code : Outcome → code.Nested
 outcome-code untouched = Untouched
@@ -29,4 +31,4 @@ pub data ShowsNested (g : Graph) (before w : List ℕ) (b : Answer Nested) : cod
       → ((r : ℕ) → ChainsEnd (s .region-input-rewrites) r) → region-kind w (g .entry) ≡ kind-claimed → ShowsBody g w (g .entry) x
       → b ≡ accepted (conclude-by g s (x .children) (x .deferred-edges) (outcome-of (x .deferred-edges)))
       → a ≡ outcome-code (outcome-of (x .deferred-edges)) → ShowsNested g before w b a
-  shows-refused : {number x : ℕ} → SameFront before w → b ≡ refused number x → ShowsNested g before w b (Refused number x)
+  shows-refused : {y : Refusal} → SameFront before w → b ≡ refused-as y → ShowsNested g before w b (Refused y)

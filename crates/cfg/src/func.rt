@@ -17,15 +17,16 @@ use state_sets::sets::RETURN;
 use state_sets::sets::set_length;
 use state_sets::sets::target;
 use state_words::edges::ONE;
+use store::Refusal;
 use store::WORDS;
 
-// Document 01's four outcomes, in its order; or a refusal's number and its word.
+// Document 01's four outcomes, in its order; or a refusal.
 pub enum Nested {
     Untouched,
     Whole,
     Closed,
     Leftover,
-    Refused(u16, u16),
+    Refused(Refusal),
 }
 
 // What comes before the first claim: the incoming counts are taken, and the state is set to its beginning.
@@ -75,8 +76,8 @@ fn conclude(w: &[u16; WORDS], claim: Claim) -> Nested
 {
     match claim {
         Claim::Claimed => outcome_of(w, fields::entry(w)),
-        Claim::Unclaimed => Nested::Refused(0, 0),
-        Claim::Refused(number, word) => Nested::Refused(number, word),
+        Claim::Unclaimed => Nested::Refused(Refusal::Never(0)),
+        Claim::Refused(why) => Nested::Refused(why),
     }
 }
 

@@ -24,13 +24,14 @@ use state_words::defined::Made;
 use state_words::defined::count_attempt;
 use state_words::edges::IncomingEdgeCount;
 use state_words::edges::ONE;
-use store::Checked;
+use store::Refusal;
+use store::Verdict;
 use store::WORDS;
 
 // A region becomes Ready, with its children and what they defer. Each target is claimed, or its edge is deferred; the terminator makes
 // children and a set of deferred edges of them; these are scanned, up to the first claim, until none is claimed. Each turn but the last
 // claims a region.
-fn structurize_region(w: &mut [u16; WORDS], counts: [u32; 32], r: u16) -> Checked
+fn structurize_region(w: &mut [u16; WORDS], counts: [u32; 32], r: u16) -> Verdict
     requires { ⌜ words.NotBegun (now w) r ⌝ }
     requires { ⌜ words.Stood (now w) ⌝ }
     ensures { λ a. ⌜ OfRecord (now (w .entry)) (λ g. words.StructurizesRegion g counts (now (w .entry)) r (now (w .exit)) a) ⌝ }
@@ -44,14 +45,14 @@ fn structurize_region(w: &mut [u16; WORDS], counts: [u32; 32], r: u16) -> Checke
         let t = fields::target(w, r, j);
         claim = try_claim_edge_bundle(w, counts, t, ONE);
         match claim {
-            Claim::Refused(number, word) => return Checked::Refused(number, word),
+            Claim::Refused(why) => return Verdict::Refused(why),
             Claim::Claimed => set_target_answer(w, r, j, TARGET_CLAIMED),
             Claim::Unclaimed => defer_target(w, r, j, t),
         }
         j += 1;
     }
     if let Made::Full = by_control_inst(w, r) {
-        return Checked::Refused(9, 0);
+        return Verdict::Refused(Refusal::TooMany);
     }
     let mut left = fields::region_count(w);
     // By value once more, beside the loop that hands them on: so the compiler keeps one copy of the counts in a level, and not two.
@@ -66,7 +67,7 @@ fn structurize_region(w: &mut [u16; WORDS], counts: [u32; 32], r: u16) -> Checke
                 let edges = accumulated_count(w, p);
                 claim = try_claim_edge_bundle(w, again, t, edges);
                 match claim {
-                    Claim::Refused(number, word) => return Checked::Refused(number, word),
+                    Claim::Refused(why) => return Verdict::Refused(why),
                     Claim::Claimed => break,
                     Claim::Unclaimed => {}
                 }
@@ -77,12 +78,12 @@ fn structurize_region(w: &mut [u16; WORDS], counts: [u32; 32], r: u16) -> Checke
             break;
         }
         if let Made::Full = resolve_by(w, r, i) {
-            return Checked::Refused(9, 0);
+            return Verdict::Refused(Refusal::TooMany);
         }
         left -= 1;
     }
     make_ready(w, r);
-    Checked::Right
+    Verdict::Right
 }
 
 // A region is structurized when it is first observed.
@@ -98,11 +99,11 @@ pub fn try_claim_edge_bundle(
 {
     count_attempt(w);
     if 32 <= r {
-        return Claim::Refused(0, r);
+        return Claim::Refused(Refusal::Never(r));
     }
     if region_state(w, r) == NOT_BEGUN {
-        if let Checked::Refused(number, word) = structurize_region(w, counts, r) {
-            return Claim::Refused(number, word);
+        if let Verdict::Refused(why) = structurize_region(w, counts, r) {
+            return Claim::Refused(why);
         }
     }
     claim_by_state(w, r, n, count_of(&counts, r))

@@ -10,7 +10,7 @@ use Rattle.state_words.specs.Values.{is-input, is-held, input-region, input-ind
 use Rattle.cfg_lookups.specs.declared.look_up.LookUp.{LookUp}
 use Rattle.meaning.specs.Lists.{pick}
 use Rattle.nesting.specs.Nesting.{most-regions}
-use Rattle.state_words.specs.Rows.{rewrite-value, twice-at}
+use Rattle.state_words.specs.Rows.{entry-none, entry-renumber, rewrite-value, twice-at}
 
 abbrev pub plain : ℕ → LookUp
 plain x = record { value = x; twice = false }
@@ -29,14 +29,15 @@ unfoldable pub stays : List ℕ → ℕ → LookUp
 stays l v = record { value = v; twice = pick (is-held v) (changes-again l v) false }
 
 unfoldable pub renumbers : ℕ → ℕ → Bool
-renumbers kind x = pick (eqb kind 2) (is-held x) false
+renumbers kind x = pick (eqb kind entry-renumber) (is-held x) false
 
 -- n turns of the look-up.
 unfoldable pub turns : ℕ → List ℕ → ℕ → LookUp
 turns zero l x = plain x
 turns (suc n) l x =
     pick (is-input x)
-    (pick (eqb (kind-at l x) 0) (plain x) (pick (renumbers (kind-at l x) (entry-at l x)) (plain (entry-at l x)) (turns n l (entry-at l x))))
+    (pick (eqb (kind-at l x) entry-none) (plain x)
+    (pick (renumbers (kind-at l x) (entry-at l x)) (plain (entry-at l x)) (turns n l (entry-at l x))))
     (stays l x)
 
 abbrev pub look-up : List ℕ → ℕ → LookUp

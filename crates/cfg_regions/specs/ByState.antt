@@ -14,10 +14,11 @@ use Rattle.cfg_loops.specs.Loops.{StructurizesLoop}
 use Rattle.cfg_regions.specs.declared.claim.Claim.{Claim}
 use Rattle.cfg_regions.specs.declared.claim.Claim.the-variants.{Claimed, Unclaimed, Refused}
 use Rattle.state_words.specs.Rows.{kind-claimed, kind-in-progress, kind-ready, no-bundle-word, region-kind}
+use Rattle.store.specs.declared.refusals.Refusal.the-variants.{TooMany, AlreadyClaimed}
 
 abbrev pub claim-of : Made → Claim
 claim-of Done = Claimed
-claim-of Full = Refused 9 0
+claim-of Full = Refused TooMany
 
 abbrev pub backedge-at : List ℕ → ℕ → ℕ
 backedge-at w r = find-by w (word w set-starts r) r (word w set-lengths r) 0
@@ -38,10 +39,10 @@ pub data ClaimsByState (g : Graph) (w : List ℕ) (r n incoming : ℕ) (w′ : L
       → ClaimsByState g w r n incoming w′ a
   ready-waits : region-kind w r ≡ kind-ready → (incoming ≡ n + word w backedges r → ⊥) → w′ ≡ w
       → ClaimsByState g w r n incoming w′ Unclaimed
-  busy-claimed : region-kind w r ≡ kind-in-progress → incoming ≡ n → w′ ≡ w → ClaimsByState g w r n incoming w′ (Refused 12 r)
+  busy-claimed : region-kind w r ≡ kind-in-progress → incoming ≡ n → w′ ≡ w → ClaimsByState g w r n incoming w′ (Refused (AlreadyClaimed r))
   busy-waits : region-kind w r ≡ kind-in-progress → (incoming ≡ n → ⊥) → w′ ≡ w → ClaimsByState g w r n incoming w′ Unclaimed
   other-state : (region-kind w r ≡ kind-ready → ⊥) → (region-kind w r ≡ kind-in-progress → ⊥) → w′ ≡ w
-      → ClaimsByState g w r n incoming w′ (Refused 12 r)
+      → ClaimsByState g w r n incoming w′ (Refused (AlreadyClaimed r))
 
 unfoldable pub is-trivial : List ℕ → ℕ → Bool
 is-trivial w t = pick (eqb (region-kind w t) kind-ready) (pick (eqb (word w set-lengths t) 0) (eqb (word w children t) 0) false) false

@@ -22,13 +22,14 @@ use state_sets::sets::set_length;
 use state_sets::sets::set_start;
 use state_words::defined::Made;
 use state_words::edges::IncomingEdgeCount;
+use store::Refusal;
 use store::WORDS;
 
-// What a claim answers: the region is claimed, or the bundle is handed back as it was, or a refusal's number and its word.
+// What a claim answers: the region is claimed, or the bundle is handed back as it was, or a refusal.
 pub enum Claim {
     Claimed,
     Unclaimed,
-    Refused(u16, u16),
+    Refused(Refusal),
 }
 
 fn claim_of(made: Made) -> Claim
@@ -36,7 +37,7 @@ fn claim_of(made: Made) -> Claim
 {
     match made {
         Made::Done => Claim::Claimed,
-        Made::Full => Claim::Refused(9, 0),
+        Made::Full => Claim::Refused(Refusal::TooMany),
     }
 }
 
@@ -82,11 +83,11 @@ pub fn claim_by_state(
     }
     if state == IN_PROGRESS {
         if incoming.same(n) {
-            return Claim::Refused(12, r);
+            return Claim::Refused(Refusal::AlreadyClaimed(r));
         }
         return Claim::Unclaimed;
     }
-    Claim::Refused(12, r)
+    Claim::Refused(Refusal::AlreadyClaimed(r))
 }
 
 // Whether a region is Ready, Unreachable and childless: a failed claim of it defers nothing.

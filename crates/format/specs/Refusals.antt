@@ -36,3 +36,7 @@ figure-too-large = 11
 
 abbrev pub already-claimed : ℕ
 already-claimed = 12
+
+-- No number of document 01: what a proof shows never to come.
+abbrev pub never : ℕ
+never = 0

@@ -5,6 +5,8 @@ use Prim.Native.Nat.{ℕ, _≤_}
 use Rattle.meaning.specs.Graph.{Graph}
 use Rattle.format.specs.Store.{Answer, accepted, refused, if-accepted}
 use Rattle.store.specs.Loaded.{words-counted, words-after}
+use Rattle.store.specs.declared.refusals.Refusal.{Refusal}
+use Rattle.store.specs.Refusals.{refusal-number, refusal-word}
 use Rattle.nesting.specs.Nesting.{structurize-func}
 use Rattle.nesting.specs.Sheet as sheet
 use Rattle.nesting.specs.Sheet.{sheet-of, sheet-words, figure-fits, words-fit}
@@ -17,6 +19,9 @@ use Rattle.nester.specs.declared.SheetAnswer.the-variants.{Sheet, Refuse
 abbrev pub nest-answered : SheetAnswer → Answer ℕ
 nest-answered (Sheet n) = accepted n
 nest-answered (Refused n w) = refused n w
+
+abbrev pub refused-with : Refusal → SheetAnswer
+refused-with why = Refused (refusal-number why) (refusal-word why)
 
 -- `b` has the sheet's words, or the refusal. The lent words then begin with the sheet and go on as lent; on a refusal all are as lent.
 pub record Ends (b : Answer (List ℕ)) (out out′ : List ℕ) (a : SheetAnswer) : Type 0 where

@@ -1,4 +1,5 @@
 // The public routine: from a store's bytes to the sheet in lent words, or a refusal.
+ghost use mathlib.Core.Path.{_≡_};
 ghost use Rattle.cfg_claims.specs.Claims.{Stood};
 ghost use Rattle.format.specs.Valid.{Valid};
 ghost use Rattle.record.specs.Stands.{OfRecord};
@@ -16,9 +17,12 @@ use sheet::whole::UNTOUCHED;
 use sheet::whole::WHOLE;
 use sheet::whole::write_sheet;
 use state_regions::regions::children;
+use store::Refusal;
 use store::WORDS;
 use store::refusals::FIGURE_TOO_LARGE;
 use store::refusals::TOO_FEW_WORDS;
+use store::refusals::number;
+use store::refusals::word;
 use store::span;
 
 // How many words the sheet has, or a refusal's number and its word.
@@ -48,6 +52,13 @@ fn formed(w: &[u16; WORDS], out: &mut [u32], outcome: u16) -> SheetAnswer
     written(w, out, outcome, cost as u32)
 }
 
+// The refusal as a user reads it.
+fn refused(why: Refusal) -> SheetAnswer
+    ensures { λ a. ⌜ a ≡ answers.«refused-with» why ⌝ }
+{
+    SheetAnswer::Refused(number(why), word(why))
+}
+
 // From an accepted record that stands in the words.
 fn nest_record(w: &mut [u16; WORDS], out: &mut [u32]) -> SheetAnswer
     requires { ⌜ Stood (now w) ⌝ }
@@ -59,7 +70,7 @@ fn nest_record(w: &mut [u16; WORDS], out: &mut [u32]) -> SheetAnswer
         Nested::Whole => formed(w, out, WHOLE),
         Nested::Closed => formed(w, out, CLOSED),
         Nested::Leftover => written(w, out, LEFTOVER, 0),
-        Nested::Refused(number, word) => SheetAnswer::Refused(number, word),
+        Nested::Refused(why) => refused(why),
     }
 }
 

@@ -6,17 +6,21 @@ use crate::first_line::put_first_line;
 use crate::leftover::put_leftover;
 use crate::pieces::put_piece;
 use crate::pieces::put_whole;
+use nesting::OUTCOME_CLOSED;
+use nesting::OUTCOME_LEFTOVER;
+use nesting::OUTCOME_UNTOUCHED;
+use nesting::OUTCOME_WHOLE;
 use sheet_words::place::Place;
 use store::WORDS;
 
 // Outcomes as line 1 has them.
-pub const UNTOUCHED: u16 = 0;
+pub const UNTOUCHED: u16 = OUTCOME_UNTOUCHED as u16;
 
-pub const WHOLE: u16 = 1;
+pub const WHOLE: u16 = OUTCOME_WHOLE as u16;
 
-pub const CLOSED: u16 = 2;
+pub const CLOSED: u16 = OUTCOME_CLOSED as u16;
 
-pub const LEFTOVER: u16 = 3;
+pub const LEFTOVER: u16 = OUTCOME_LEFTOVER as u16;
 
 // More words than any sheet has that is written, and than can be lent.
 const FAR: usize = 1099511627776;

@@ -122,7 +122,8 @@ pub fn set_case_input(w: &mut [u16; WORDS], j: u16, k: u16, v: u16)
 }
 
 pub fn set_case(w: &mut [u16; WORDS], j: u16, x: Case)
-    ensures { λ _. ⌜ now (w .exit) ≡ sections.«stored-all» (now (w .entry)) sections.cases (rows.«case-row-at» j) (tables.«case-words» x) ⌝ }
+    ensures { λ _. ⌜ now (w .exit) ≡ sections.«stored-all» (now (w .entry)) sections.cases (rows.«case-row-at» j)
+        (tables.«case-words» x) ⌝ }
 {
     let xs = [x.kind, x.origin, x.body, x.children, x.start, x.length];
     put_all(w, CASES, ROW * (j as usize), &xs);

@@ -126,7 +126,8 @@ pub fn accumulated_count(w: &[u16; WORDS], b: u16) -> IncomingEdgeCount
 }
 
 pub fn set_accumulated_count(w: &mut [u16; WORDS], b: u16, n: IncomingEdgeCount)
-    ensures { λ _. ⌜ now (w .exit) ≡ sections.stored (now (w .entry)) sections.bundles (rows.«bundle-count-at» b) (totals.«edges-word» (n .0)) ⌝ }
+    ensures { λ _. ⌜ now (w .exit) ≡ sections.stored (now (w .entry)) sections.bundles (rows.«bundle-count-at» b)
+        (totals.«edges-word» (n .0)) ⌝ }
 {
     set_word(w, b, 1, n.to_word());
 }
@@ -172,7 +173,8 @@ pub fn set_bundle(w: &mut [u16; WORDS], b: u16, t: u16, n: IncomingEdgeCount, c:
 
 // All four of its inputs.
 pub fn set_target_inputs(w: &mut [u16; WORDS], b: u16, vs: &[u16; 4])
-    ensures { λ _. ⌜ now (w .exit) ≡ sections.«stored-all» (now (w .entry)) sections.bundles (rows.«bundle-word-at» b 3) (now (vs .entry)) ⌝ }
+    ensures { λ _. ⌜ now (w .exit) ≡ sections.«stored-all» (now (w .entry)) sections.bundles (rows.«bundle-input-at» b 0)
+        (now (vs .entry)) ⌝ }
 {
     put_all(w, BUNDLES, ROW * (b as usize) + 3, vs);
 }

@@ -27,12 +27,6 @@ pub enum Verdict {
     Refused(Refusal),
 }
 
-// The same with a refusal's number and its word, as nesting's steps answer.
-pub enum Checked {
-    Right,
-    Refused(u16, u16),
-}
-
 fn wide(byte: u8) -> u16
     ensures { λ r. ⌜ r ≡ byte ⌝ }
 {

@@ -26,6 +26,9 @@ pub const FIGURE_TOO_LARGE: u16 = 11;
 
 pub const ALREADY_CLAIMED: u16 = 12;
 
+// No number of document 01: what a proof shows never to come.
+pub const NEVER: u16 = 0;
+
 // 2 and 3 have the block, 5 to 8 the region, 12 the target.
 pub enum Refusal {
     WrongLength,
@@ -40,6 +43,7 @@ pub enum Refusal {
     TooFewWords,
     FigureTooLarge,
     AlreadyClaimed(u16),
+    Never(u16),
 }
 
 pub fn number(why: Refusal) -> u16
@@ -58,6 +62,7 @@ pub fn number(why: Refusal) -> u16
         Refusal::TooFewWords => TOO_FEW_WORDS,
         Refusal::FigureTooLarge => FIGURE_TOO_LARGE,
         Refusal::AlreadyClaimed(_) => ALREADY_CLAIMED,
+        Refusal::Never(_) => NEVER,
     }
 }
 
@@ -77,5 +82,6 @@ pub fn word(why: Refusal) -> u16
         Refusal::TooFewWords => 0,
         Refusal::FigureTooLarge => 0,
         Refusal::AlreadyClaimed(target) => target,
+        Refusal::Never(region) => region,
     }
 }

@@ -21,7 +21,7 @@ use Rattle.state_shown.specs.laws.FrontKept.{adds-kinds, defines-kinds}
 use Rattle.cfg_regions.specs.laws.Leaves.{cases-kinds, split-kinds, return-kinds, appends-kinds, into-kinds, loops-kinds}
 use Rattle.state_words.specs.declared.defined.Made.{Made}
 use Rattle.cfg_regions.specs.declared.claim.Claim.{Claim}
-use Rattle.store.specs.declared.Checked.{Checked}
+use Rattle.store.specs.declared.Verdict.{Verdict}
 use Rattle.cfg_claims.specs.SplitOut.{SplitOut}
 use Rattle.cfg_regions.specs.ByState.{ClaimsBody, no-backedges, none-found, by-loop, ClaimsByState, ready-claimed, ready-waits}
 use Rattle.cfg_regions.specs.ByState.{busy-claimed}
@@ -183,7 +183,7 @@ module _ {g : Graph} {counts : List ℕ} where
         steady-then x (steady-state (stands-on (x .front) st) c)
     steady-claim {w} (later-claim h d c) st = steady-then (steady-attempted w) (steady-state (stands-on (steady-attempted w .front) st) c)
 
-    pub steady-structurized : {w w′ : List ℕ} {r : ℕ} {a : Checked} → StructurizesRegion g counts w r w′ a → Stands w g → SteadyRecord w w′
+    pub steady-structurized : {w w′ : List ℕ} {r : ℕ} {a : Verdict} → StructurizesRegion g counts w r w′ a → Stands w g → SteadyRecord w w′
     steady-structurized {w} {r} (refused-at-targets t) st =
         let x = steady-kind w r 1 (λ e. absurd (omega arith)) in steady-then x (steady-targets t (stands-on (x .front) st))
     steady-structurized {w} {r} (refused-at-inst t i) st =
@@ -198,7 +198,7 @@ module _ {g : Graph} {counts : List ℕ} where
         let y = steady-then x (steady-then (steady-targets t (stands-on (x .front) st)) (steady-of (inst-kinds i))) in
         steady-then (steady-then y (steady-all d (stands-on (y .front) st))) (rw e (steady-ready w₃ r))
 
-    pub steady-targets : {w w′ : List ℕ} {r j : ℕ} {a : Checked} → TargetRegions g counts w r j w′ a → Stands w g → SteadyRecord w w′
+    pub steady-targets : {w w′ : List ℕ} {r j : ℕ} {a : Verdict} → TargetRegions g counts w r j w′ a → Stands w g → SteadyRecord w w′
     steady-targets {w} (no-target h e) st = rw e (steady-same w)
     steady-targets (target-refused h c) st = steady-claim c st
     steady-targets {r} {j} (target-claimed {w₁} h c t) st =
@@ -216,7 +216,7 @@ module _ {g : Graph} {counts : List ℕ} where
     pub steady-split : {w w′ : List ℕ} {r : ℕ} {a : SplitOut} → SplitsOut g counts w r w′ a → Stands w g → SteadyRecord w w′
     steady-split (splits-out s) st = steady-scan s st
 
-    pub steady-resolves : {w w′ : List ℕ} {r n : ℕ} {a : Checked} → Resolves g counts w r n w′ a → Stands w g → SteadyRecord w w′
+    pub steady-resolves : {w w′ : List ℕ} {r n : ℕ} {a : Verdict} → Resolves g counts w r n w′ a → Stands w g → SteadyRecord w w′
     steady-resolves {w} (no-turn e) st = rw e (steady-same w)
     steady-resolves (nothing-claimed s) st = steady-split s st
     steady-resolves (claim-refused s) st = steady-split s st
@@ -224,5 +224,5 @@ module _ {g : Graph} {counts : List ℕ} where
     steady-resolves (claims-and s b t) st =
         let x = steady-then (steady-split s st) (steady-of (resolve-kinds b)) in steady-then x (steady-resolves t (stands-on (x .front) st))
 
-    pub steady-all : {w w′ : List ℕ} {r : ℕ} {a : Checked} → ResolvesAll g counts w r w′ a → Stands w g → SteadyRecord w w′
+    pub steady-all : {w w′ : List ℕ} {r : ℕ} {a : Verdict} → ResolvesAll g counts w r w′ a → Stands w g → SteadyRecord w w′
     steady-all (resolves-all t) st = steady-resolves t st

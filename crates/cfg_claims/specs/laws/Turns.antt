@@ -17,8 +17,8 @@ use Rattle.state_words.specs.declared.defined.Made.{Made}
 use Rattle.state_words.specs.declared.defined.Made.the-variants as made
 use Rattle.cfg_regions.specs.declared.claim.Claim.{Claim}
 use Rattle.cfg_regions.specs.declared.claim.Claim.the-variants.{Claimed, Unclaimed, Refused}
-use Rattle.store.specs.declared.Checked.{Checked}
-use Rattle.store.specs.declared.Checked.the-variants as step
+use Rattle.store.specs.declared.Verdict.{Verdict}
+use Rattle.store.specs.declared.Verdict.the-variants as step
 use Rattle.cfg_claims.specs.SplitOut.{SplitOut}
 use Rattle.cfg_claims.specs.SplitOut as split
 use Rattle.cfg_regions.specs.ByState.{ClaimsByState, unclaimed-word}
@@ -36,6 +36,8 @@ use Rattle.cfg_claims.specs.laws.Left.{steady-of}
 use Rattle.cfg_claims.specs.laws.Left.{begins-less, steady-attempted, steady-targets, inst-kinds, resolve-kinds}
 use Rattle.cfg_claims.specs.laws.Left.{steady-kind, steady-structurized}
 use Rattle.state_words.specs.Rows.{bundle-count, bundle-target, kind-in-progress, kind-not-begun, level-claimed, region-kind, return-word}
+use Rattle.store.specs.declared.refusals.Refusal.{Refusal}
+use Rattle.store.specs.declared.refusals.Refusal.the-variants.{TooMany, Never}
 
 -- What stood stands on.
 pub stood-on : {w w′ : List ℕ} → SteadyRecord w w′ → Stood w → Stood w′
@@ -45,7 +47,7 @@ stood-on y s =
 -- ---- Target regions.
 pub record TargetsPassed (counts w₀ : List ℕ) (r : ℕ) (w : List ℕ) (j : ℕ) : Type 0 where
   pub steady : SteadyRecord w₀ w
-  pub more : (g : Graph) → Stands w₀ g → {w′ : List ℕ} {a : Checked} → TargetRegions g counts w r j w′ a
+  pub more : (g : Graph) → Stands w₀ g → {w′ : List ℕ} {a : Verdict} → TargetRegions g counts w r j w′ a
       → TargetRegions g counts w₀ r 0 w′ a
 
 pub targets-none : (counts w : List ℕ) (r : ℕ) → TargetsPassed counts w r w 0
@@ -64,7 +66,7 @@ module _ {counts w₀ : List ℕ} {r : ℕ} {w : List ℕ} {j n : ℕ} (passed :
     its-claim : (g : Graph) → Stands w₀ g → TriesClaim g counts w (edge-of g r j .target) 1 w₁ a
     its-claim g st = rw (target g (on st)) at (claim g (on st))
 
-    pub targets-refused : {m x : ℕ} → a ≡ Refused m x → (g : Graph) → Stands w₀ g → TargetRegions g counts w₀ r 0 w₁ (step.Refused m x)
+    pub targets-refused : {y : Refusal} → a ≡ Refused y → (g : Graph) → Stands w₀ g → TargetRegions g counts w₀ r 0 w₁ (step.Refused y)
     targets-refused e g st = passed .more g st (target-refused (rw (size g st) at more) (rw e at (its-claim g st)))
 
     module _ (stood : Stood w₀) {w₂ : List ℕ} where
@@ -141,8 +143,8 @@ module _ {counts w₀ : List ℕ} {r n : ℕ} {w : List ℕ} {i : ℕ} (passed :
             claims-one = λ l g st. out-of size g st (claims-bundle more elsewhere (rw e at (bundle-claim g st)));
           }
 
-      pub scan-refuses : n ≡ word w₀ set-lengths r → {x y : ℕ} → a ≡ Refused x y → (g : Graph) → Stands w₀ g
-          → SplitsOut g counts w₀ r w₁ (split.Refused x y)
+      pub scan-refuses : n ≡ word w₀ set-lengths r → {y : Refusal} → a ≡ Refused y → (g : Graph) → Stands w₀ g
+          → SplitsOut g counts w₀ r w₁ (split.Refused y)
       scan-refuses size e g st = out-of size g st (scan-refused more elsewhere (rw e at (bundle-claim g st)))
 
       pub scan-waiting : Stood w₀ → a ≡ Unclaimed → ScanPassed counts w₀ r n w₁ (i + 1)
@@ -156,7 +158,7 @@ module _ {counts w₀ : List ℕ} {r n : ℕ} {w : List ℕ} {i : ℕ} (passed :
 -- ---- Turns over the deferred edges.
 pub record TurnsPassed (counts w₀ : List ℕ) (r : ℕ) (w : List ℕ) (turns : ℕ) : Type 0 where
   pub steady : SteadyRecord w₀ w
-  pub more : (g : Graph) → Stands w₀ g → {w′ : List ℕ} {a : Checked} → Resolves g counts w r turns w′ a → ResolvesAll g counts w₀ r w′ a
+  pub more : (g : Graph) → Stands w₀ g → {w′ : List ℕ} {a : Verdict} → Resolves g counts w r turns w′ a → ResolvesAll g counts w₀ r w′ a
 
 pub turns-none : (counts w : List ℕ) (r n : ℕ) → ((g : Graph) → Stands w g → n ≡ length (g .regions)) → TurnsPassed counts w r w n
 turns-none counts w r n size =
@@ -173,7 +175,7 @@ module _ {counts w₀ : List ℕ} {r : ℕ} {w : List ℕ} {turns : ℕ} (passed
     one-more : suc (turns - 1) ≡ turns
     one-more = omega arith
 
-    turned : (g : Graph) → Stands w₀ g → {w′ : List ℕ} {b : Checked} → Resolves g counts w r (suc (turns - 1)) w′ b
+    turned : (g : Graph) → Stands w₀ g → {w′ : List ℕ} {b : Verdict} → Resolves g counts w r (suc (turns - 1)) w′ b
         → ResolvesAll g counts w₀ r w′ b
     turned g st x = passed .more g st (rw one-more at x)
 
@@ -181,8 +183,8 @@ module _ {counts w₀ : List ℕ} {r : ℕ} {w : List ℕ} {turns : ℕ} (passed
         → ResolvesAll g counts w₀ r w₁ step.Right
     turn-nothing scan g st = turned g st (nothing-claimed (scan g (turn-on st)))
 
-    pub turn-refused : {w₁ : List ℕ} {m x : ℕ} → ((g : Graph) → Stands w g → SplitsOut g counts w r w₁ (split.Refused m x))
-        → (g : Graph) → Stands w₀ g → ResolvesAll g counts w₀ r w₁ (step.Refused m x)
+    pub turn-refused : {w₁ : List ℕ} {y : Refusal} → ((g : Graph) → Stands w g → SplitsOut g counts w r w₁ (split.Refused y))
+        → (g : Graph) → Stands w₀ g → ResolvesAll g counts w₀ r w₁ (step.Refused y)
     turn-refused scan g st = turned g st (claim-refused (scan g (turn-on st)))
 
     module _ {w₁ : List ℕ} {i : ℕ} (scan : (g : Graph) → Stands w g → SplitsOut g counts w r w₁ (split.At i)) {w₂ : List ℕ} {b : Made}
@@ -190,7 +192,7 @@ module _ {counts w₀ : List ℕ} {r : ℕ} {w : List ℕ} {turns : ℕ} (passed
       then-on : {g : Graph} → Stands w₀ g → Stands w₁ g
       then-on {g} st = stands-on (steady-split (scan g (turn-on st)) (turn-on st) .front) (turn-on st)
 
-      pub turn-full : b ≡ made.Full → (g : Graph) → Stands w₀ g → ResolvesAll g counts w₀ r w₂ (step.Refused 9 0)
+      pub turn-full : b ≡ made.Full → (g : Graph) → Stands w₀ g → ResolvesAll g counts w₀ r w₂ (step.Refused TooMany)
       turn-full e g st = turned g st (select-refused (scan g (turn-on st)) (rw e at (select g (then-on st))))
 
       pub turn-again : b ≡ made.Done → Stood w₀ → TurnsPassed counts w₀ r w₂ (turns - 1)
@@ -213,9 +215,9 @@ begun-steady {w} r e = rw e (steady-kind w r 1 (λ z. absurd (omega arith)))
 pub record BeforeTurns (counts w : List ℕ) (r : ℕ) (w₃ : List ℕ) : Type 0 where
   pub less : suc (left w₃) ≤ left w
   pub stood : Stood w₃
-  pub refused-late : (g : Graph) → Stands w g → {w₄ : List ℕ} {m x : ℕ}
-      → ((g : Graph) → Stands w₃ g → ResolvesAll g counts w₃ r w₄ (step.Refused m x))
-      → StructurizesRegion g counts w r w₄ (step.Refused m x)
+  pub refused-late : (g : Graph) → Stands w g → {w₄ : List ℕ} {y : Refusal}
+      → ((g : Graph) → Stands w₃ g → ResolvesAll g counts w₃ r w₄ (step.Refused y))
+      → StructurizesRegion g counts w r w₄ (step.Refused y)
   pub all-done : (g : Graph) → Stands w g → {w₄ : List ℕ} → ((g : Graph) → Stands w₃ g → ResolvesAll g counts w₃ r w₄ step.Right)
       → {w₅ : List ℕ} → w₅ ≡ made-ready w₄ r → StructurizesRegion g counts w r w₅ step.Right
 
@@ -223,8 +225,8 @@ module _ {w w₁ : List ℕ} (r : ℕ) (begun : w₁ ≡ stored w kinds r kind-i
   first-on : {g : Graph} → Stands w g → Stands w₁ g
   first-on st = stands-on (begun-steady r begun .front) st
 
-  pub region-refused : {counts w₂ : List ℕ} {m x : ℕ} → ((g : Graph) → Stands w₁ g → TargetRegions g counts w₁ r 0 w₂ (step.Refused m x))
-      → (g : Graph) → Stands w g → StructurizesRegion g counts w r w₂ (step.Refused m x)
+  pub region-refused : {counts w₂ : List ℕ} {y : Refusal} → ((g : Graph) → Stands w₁ g → TargetRegions g counts w₁ r 0 w₂ (step.Refused y))
+      → (g : Graph) → Stands w g → StructurizesRegion g counts w r w₂ (step.Refused y)
   region-refused targets g st = refused-at-targets (rw begun at (targets g (first-on st)))
 
   module _ {counts w₂ : List ℕ} (targets : (g : Graph) → Stands w₁ g → TargetRegions g counts w₁ r 0 w₂ step.Right) where
@@ -235,7 +237,7 @@ module _ {w w₁ : List ℕ} (r : ℕ) (begun : w₁ ≡ stored w kinds r kind-i
     second-on {g} st = stands-on (steady-targets (targets g (first-on st)) (first-on st) .front) (first-on st)
 
     module _ {w₃ : List ℕ} {b : Made} (inst : (g : Graph) → Stands w₂ g → ByControlInst g w₂ r w₃ b) where
-      pub region-full : b ≡ made.Full → (g : Graph) → Stands w g → StructurizesRegion g counts w r w₃ (step.Refused 9 0)
+      pub region-full : b ≡ made.Full → (g : Graph) → Stands w g → StructurizesRegion g counts w r w₃ (step.Refused TooMany)
       region-full e g st = refused-at-inst (its-targets st) (rw e at (inst g (second-on st)))
 
       third-on : {g : Graph} → Stands w g → Stands w₃ g
@@ -263,7 +265,7 @@ pub not-begun-yet : {w : List ℕ} {r state : ℕ} → r < 32 → state ≡ regi
 not-begun-yet below of-state new = record { below = below; kind = sym of-state ∙ new }
 
 module _ {counts w w₁ : List ℕ} {r : ℕ} (n : ℕ) (counted : w₁ ≡ attempted w) where
-  pub claim-nowhere : 32 ≤ r → (g : Graph) → Stands w g → TriesClaim g counts w r n w₁ (Refused 0 r)
+  pub claim-nowhere : 32 ≤ r → (g : Graph) → Stands w g → TriesClaim g counts w r n w₁ (Refused (Never r))
   claim-nowhere h g st = no-region h counted
 
   module _ (below : r < 32) {state : ℕ} (of-state : state ≡ region-kind w₁ r) where
@@ -275,8 +277,8 @@ module _ {counts w w₁ : List ℕ} {r : ℕ} (n : ℕ) (counted : w₁ ≡ atte
         (rw (i, same, counted) at (c g (rw same (stands-on (attempted-on counted .front) st))))
 
     module _ (new : state ≡ kind-not-begun) where
-      module _ {w₂ : List ℕ} {a : Checked} (inside : (g : Graph) → Stands w₁ g → StructurizesRegion g counts w₁ r w₂ a) where
-        pub claim-inside : {m x : ℕ} → a ≡ step.Refused m x → (g : Graph) → Stands w g → TriesClaim g counts w r n w₂ (Refused m x)
+      module _ {w₂ : List ℕ} {a : Verdict} (inside : (g : Graph) → Stands w₁ g → StructurizesRegion g counts w₁ r w₂ a) where
+        pub claim-inside : {y : Refusal} → a ≡ step.Refused y → (g : Graph) → Stands w g → TriesClaim g counts w r n w₂ (Refused y)
         claim-inside e g st = refused-inside (rw counted at (not-begun-yet below of-state new))
             (rw (e, counted) at (inside g (stands-on (attempted-on counted .front) st)))
 

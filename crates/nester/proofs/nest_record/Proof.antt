@@ -32,8 +32,11 @@ enum-told-4 c = search needs
 written-requires-2 : tie.Need-written-requires-2
 written-requires-2 c κs = search needs
 
-enum-known-number : tie.Need-enum-known-number
-enum-known-number c = search needs
+enum-known-why : tie.Need-enum-known-why
+enum-known-why c = search needs
+
+refused-requires : tie.Need-refused-requires
+refused-requires c κs = search needs
 
 same-length : tie.Need-same-length
 same-length c = search needs
@@ -88,8 +91,8 @@ returns-4 c =
     (at-written .written2 .ensures)
 
 returns-5 : tie.Need-returns-5
-returns-5 c = λ g st valid. nested-refused valid (c .before .before .before .structurize-func .ensures g st valid)
-    (c .before .number .given .1) _
+returns-5 c = λ g st valid. nested-refused valid (c .before .before .before .before .structurize-func .ensures g st valid)
+    (c .before .before .why .given .1) _ (c .refused .ensures)
 
 pub nest-record-spec : {M : Type 1} → statement M
 nest-record-spec =
@@ -104,7 +107,8 @@ nest-record-spec =
     formed-requires-2
     enum-told-4
     written-requires-2
-    enum-known-number
+    enum-known-why
+    refused-requires
     same-length
     returns
     same-length-2

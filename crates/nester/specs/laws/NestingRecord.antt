@@ -40,6 +40,8 @@ use Rattle.sheet.specs.Written as written
 use Rattle.nester.specs.declared.SheetAnswer.{SheetAnswer}
 use Rattle.nester.specs.declared.SheetAnswer.the-variants.{Sheet, Refused}
 use Rattle.nester.specs.Answers.{Ends, words-if-fit, words-if-figured, record-words, WritesAnswer, FormsAnswer, NestsRecord}
+use Rattle.nester.specs.Answers.{refused-with}
+use Rattle.store.specs.declared.refusals.Refusal.{Refusal}
 use Rattle.state_words.specs.Rows.{kind-claimed, region-kind}
 
 module _ {b : format.Answer (List ℕ)} {out out′ : List ℕ} where
@@ -146,7 +148,7 @@ number-of outcomes.Untouched = outcome-untouched
 number-of outcomes.Whole = outcome-whole
 number-of outcomes.Closed = outcome-closed
 number-of outcomes.Leftover = outcome-leftover
-number-of (outcomes.Refused n x) = 4
+number-of (outcomes.Refused y) = 4
 
 module _ {g : Graph} {w : List ℕ} {s : NestState} (c : Concluded g w s) (kind : region-kind w (g .entry) ≡ kind-claimed) (ks : Nodes) where
   leaves : (d : DeferredEdgeBundleSet) {o : Outcome} → outcome-of d ≡ o → ShowsBody g w (g .entry) (region-body ks d)
@@ -222,22 +224,21 @@ module _ {g : Graph} (valid : Valid g) {before w : List ℕ} where
           front = front-of shown;
         }
 
-  pub nested-refused : {a : code.Nested} → ShowsNested g before w (structurize-func g) a → {n x : ℕ} → a ≡ outcomes.Refused n x
-      → (out : List ℕ) → NestsRecord g before w out out (Refused n x)
+  pub nested-refused : {a : code.Nested} → ShowsNested g before w (structurize-func g) a → {y : Refusal} → a ≡ outcomes.Refused y
+      → (out : List ℕ) {b : SheetAnswer} → b ≡ refused-with y → NestsRecord g before w out out b
   unfolding record-words
-  nested-refused (shows-untouched front st b) e out = absurd (clash (cc))
-  nested-refused (shows-nested {x = x} front st chains kind body b a) e out =
+  nested-refused (shows-untouched front st b) e out r = absurd (clash (cc))
+  nested-refused (shows-nested {x = x} front st chains kind body b a) e out r =
       absurd (not-refused (outcome-of (x .deferred-edges)) (sym a ∙ e))
     where
-      not-refused : (o : Outcome) {n x : ℕ} → outcome-code o ≡ outcomes.Refused n x → ⊥
+      not-refused : (o : Outcome) {y : Refusal} → outcome-code o ≡ outcomes.Refused y → ⊥
       not-refused untouched e = clash (cc)
       not-refused whole e = clash (cc)
       not-refused closed e = clash (cc)
       not-refused leftover e = clash (cc)
-  nested-refused (shows-refused {number} {x} front b) {n} {x = y} e out =
-      let p : number ≡ n = cc in
-      let q : x ≡ y = cc in
-      rw (← p, ← q) (record {
+  nested-refused (shows-refused {y = why} front b) {y} e out r =
+      let p : why ≡ y = cc in
+      rw (r, ← p) (record {
         ends = ends-refused (ap (λ z. if-accepted z λ u. words-if-figured (lent out) (sheet-of g u)) b) refl;
         front = front;
       })

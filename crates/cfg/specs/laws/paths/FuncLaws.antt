@@ -22,6 +22,8 @@ use Rattle.cfg.specs.Func.{Outcomes, is-closed, is-whole, one-elsewhere,
 use Rattle.cfg.specs.Func.{unclaimed, refused, untouched, concluded, Func}
 use Rattle.cfg_claims.specs.laws.Left.{steady-claim}
 use Rattle.state_words.specs.Rows.{bundle-target, return-word}
+use Rattle.store.specs.declared.refusals.Refusal.{Refusal}
+use Rattle.store.specs.declared.refusals.Refusal.the-variants.{Never}
 
 -- ---- The functions, path by path.
 module _ (w : List ℕ) (entry : ℕ) {n : ℕ} (size : n ≡ word w set-lengths entry) where
@@ -45,10 +47,10 @@ module _ {g : Graph} {w : List ℕ} {c : code.Claim} where
   pub of-claimed : c ≡ claim.Claimed → {entry : ℕ} → entry ≡ g .entry → {o : Nested} → Outcomes w entry o → Concludes g w c o
   of-claimed e of-entry x = rw e (claimed (rw of-entry at x))
 
-  pub of-unclaimed : c ≡ claim.Unclaimed → Concludes g w c (Refused 0 0)
+  pub of-unclaimed : c ≡ claim.Unclaimed → Concludes g w c (Refused (Never 0))
   of-unclaimed e = rw e unclaimed
 
-  pub of-refused : {number x : ℕ} → c ≡ claim.Refused number x → Concludes g w c (Refused number x)
+  pub of-refused : {y : Refusal} → c ≡ claim.Refused y → Concludes g w c (Refused y)
   of-refused e = rw e refused
 
 -- ---- The three, one after the other.

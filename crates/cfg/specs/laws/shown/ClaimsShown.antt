@@ -50,8 +50,8 @@ use Rattle.state_shown.specs.laws.RegionSteps.{state-stays, concerns-states, st
 use Rattle.state_words.specs.declared.defined.Made.{Made}
 use Rattle.cfg_regions.specs.declared.claim.Claim as code
 use Rattle.cfg_regions.specs.declared.claim.Claim.the-variants.{Refused}
-use Rattle.store.specs.declared.Checked.{Checked}
-use Rattle.store.specs.declared.Checked.the-variants as step
+use Rattle.store.specs.declared.Verdict.{Verdict}
+use Rattle.store.specs.declared.Verdict.the-variants as step
 use Rattle.cfg_claims.specs.SplitOut as split
 use Rattle.cfg_regions.specs.ByState.{ClaimsByState, unclaimed-word, is-trivial}
 use Rattle.cfg_regions.specs.ByInst.{ByControlInst, ResolvesBy}
@@ -60,10 +60,13 @@ use Rattle.cfg_claims.specs.Claims.{later-claim, StructurizesRegion, refused-at
 use Rattle.cfg_claims.specs.Claims.{TargetRegions, no-target, target-refused, target-claimed, target-waits, Scans, no-bundle-left}
 use Rattle.cfg_claims.specs.Claims.{passes-return, passes-waiting, claims-bundle, scan-refused, SplitsOut, splits-out, Resolves, no-turn}
 use Rattle.cfg_claims.specs.Claims.{nothing-claimed, claim-refused, select-refused, claims-and, ResolvesAll, resolves-all}
-use Rattle.cfg.specs.laws.shown.Shows.{Occupied, still-occupied, occupied-same, occupied-then}
-use Rattle.cfg.specs.laws.shown.Shows.{others-of-occupied, others-same}
-use Rattle.cfg.specs.laws.shown.Shows.{others-then, others-but}
-use Rattle.cfg.specs.laws.shown.Shows.{cells-in-all, owed-stays}
+use Rattle.cfg.specs.laws.shown.Shows.{AnsweredAs, BodyShows, CanClaim, ClaimShows, K, NewlyClaimed, Occupied, PreservesOccupied}
+use Rattle.cfg.specs.laws.shown.Shows.{PreservesOthers, RegionShows, ScanShows, TargetsShow, TurnsShow, cells-in-all, if-body}
+use Rattle.cfg.specs.laws.shown.Shows.{if-claimed, if-full, if-ready, if-refused, if-split, if-targets, if-targets-refused, if-turns}
+use Rattle.cfg.specs.laws.shown.Shows.{if-turns-refused, if-unclaimed, most-cells-in-all, occupied-same, occupied-then, others-but}
+use Rattle.cfg.specs.laws.shown.Shows.{others-of-occupied, others-same, others-then, owed-stays, refuses-region, refuses-targets}
+use Rattle.cfg.specs.laws.shown.Shows.{shows-claimed, shows-nothing, shows-ready, shows-refused, shows-targets, shows-turns}
+use Rattle.cfg.specs.laws.shown.Shows.{shows-unclaimed, still-occupied, turned-as, was-claimed, was-deferred, was-nothing, world}
 use Rattle.cfg.specs.laws.shown.TargetsShown.{Noted, notes, noted-cells, claimed-other, FirstNew, can-first, can-next, targets-more}
 use Rattle.cfg.specs.laws.shown.ScansShown.{own-bundle-shown, CanScan, bundle-live, bundle-counts, can-claim-bundle, scan-on}
 use Rattle.cfg.specs.laws.shown.ScansShown.{scan-past-return, passed-return, passed-waiting, scan-claims, scan-refusal}
@@ -77,7 +80,9 @@ use Rattle.cfg.specs.laws.shown.RegionsShown.{region-preserves, ready-sh
 use Rattle.state_words.specs.Values.{parts}
 use Rattle.state_words.specs.Rows.{attempts-at, cells-at, kind-claimed, kind-in-progress, kind-not-begun, kind-ready, largest, level}
 use Rattle.state_words.specs.Rows.{level-claimed, region-kind, return-word}
-use Rattle.cfg.specs.laws.shown.Shows.{most-cells-in-all}
+use Rattle.store.specs.declared.refusals.Refusal.{Refusal}
+use Rattle.state_words.specs.Rows.{level-deferred, level-unreachable}
+use Rattle.store.specs.declared.refusals.Refusal.the-variants.{TooMany}
 
 -- ---- What the other files show, of a graph and of the counts that the code was given.
 pub record ShownParts (g : Graph) (valid : Valid g) : Type 0 where
@@ -159,7 +164,8 @@ module _ {g : Graph} {w : List ℕ} (r j : ℕ) (e : Edge) (noted : target-answe
       go₂ [] = refl
       go₂ (x ∷ l) = ne-eqb (suc (length l)) 0 (omega arith)
 
-      go : (t : Bool) → target-answer w r j ≡ pick t 0 1 → AnsweredAs g w r j e (pick t (err []) (defer-edge e))
+      go : (t : Bool) → target-answer w r j ≡ pick t level-unreachable level-deferred
+          → AnsweredAs g w r j e (pick t (err []) (defer-edge e))
       go true p = was-nothing refl p
       go false p = was-deferred refl p
 
@@ -202,12 +208,12 @@ claim-before : {g : Graph} {w w₁ w′ : List ℕ} {r : ℕ} {inputs : List Val
 claim-before u on c e (shows-claimed {c = y} {s′} p st cl o i f v k) =
     shows-claimed {c = y} {s′ = s′} (e ∙ p) st cl o i (λ h. f (on h)) (occupied-then u v) (omega arith)
 claim-before u on c e (shows-unclaimed {s′} p st v k) = shows-unclaimed {s′ = s′} (e ∙ p) st (occupied-then u v) (omega arith)
-claim-before u on c e (shows-refused {m} {x} p) = shows-refused {m = m} {x = x} (e ∙ p)
+claim-before u on c e (shows-refused {y} p) = shows-refused {y = y} (e ∙ p)
 
 refused-from : {g : Graph} {w w₁ w′ : List ℕ} {r : ℕ} {inputs : List Value} {b : StepAnswer (Option ClaimedRegion)} {c : StepAnswer Unit}
-    {m x : ℕ} → (c ≡ turned-away m x → b ≡ turned-away m x) → RegionShows g w₁ w′ c (step.Refused m x)
-    → ClaimShows g w w′ r inputs b (Refused m x)
-refused-from f (refuses-region {m} {x} p) = shows-refused {m = m} {x = x} (f p)
+    {y : Refusal} → (c ≡ turned-as y → b ≡ turned-as y) → RegionShows g w₁ w′ c (step.Refused y)
+    → ClaimShows g w w′ r inputs b (Refused y)
+refused-from f (refuses-region {y} p) = shows-refused {y = y} (f p)
 
 -- ---- The definition's claim, by the state of its region.
 module _ (g : Graph) (fuel r n : ℕ) (inputs : List Value) (s : NestState) where
@@ -368,11 +374,11 @@ module _ {g : Graph} {w w₁ : List ℕ} {r j : ℕ} {s₁ : NestState} (few : l
     (h : j < length (edges-of (region g r .terminator))) where
   claimed-next : {y : ClaimedRegion} → ShowsState g w₁ s₁ → ShowsClaimed g w₁ y → y .origin ≡ edge-of g r j .target
       → y .structured-body-inputs ≡ edge-of g r j .inputs → (Occupied w (edge-of g r j .target) → ⊥) → PreservesOccupied g w w₁
-      → NextStep g w w₁ (target-answer-stored w₁ r j level-claimed) r j 2 (ok y) s₁
+      → NextStep g w w₁ (target-answer-stored w₁ r j level-claimed) r j level-claimed (ok y) s₁
   claimed-next {y} st cl o i free u =
       let below : r < 32 = omega arith in
       let place : j < 8 = omega arith in
-      let noted = notes g w₁ r j 2 (st .tables .size) below place in
+      let noted = notes g w₁ r j level-claimed (st .tables .size) below place in
       let busy₁ : region-kind w₁ r ≡ kind-in-progress = u .kinds-stay r (inl busy) ∙ busy in
       record {
         place = place;
@@ -486,7 +492,7 @@ module _ (g : Graph) (valid : Valid g) (parts : ShownParts g valid) (counts : Li
       → is-in r (K g valid .live) ≡ true → 1 ≤ n → length inputs ≡ length (region g r .inputs)
       → CanClaim g valid fuel H (λ q. edges-to q (to-region r) n) 1 s → ClaimShows g w w′ r inputs (defined fuel r n inputs s) a
 
-  abbrev TargetsFor : List ℕ → List ℕ → ℕ → ℕ → Checked → Type 0
+  abbrev TargetsFor : List ℕ → List ℕ → ℕ → ℕ → Verdict → Type 0
   TargetsFor w w′ r j a =
       (fuel : ℕ) (H : ℕ → ℕ) (s : NestState) → ShowsState g w s → cells-in-all g w ≤ most-cells-in-all → r < length (g .regions)
       → region-kind w r ≡ kind-in-progress
@@ -494,7 +500,7 @@ module _ (g : Graph) (valid : Valid g) (parts : ShownParts g valid) (counts : Li
       → CanClaim g valid fuel H (aims (K g valid) (drop j (its-edges r))) (length (drop j (its-edges r))) s
       → TargetsShow g w w′ r j (drop j (its-edges r)) (target-regions g (defined fuel) (drop j (its-edges r)) s) a
 
-  first-targets : {w w₁ : List ℕ} {r : ℕ} {a : Checked} → TargetsFor (stored w kinds r kind-in-progress) w₁ r 0 a → (fuel : ℕ) (H : ℕ → ℕ)
+  first-targets : {w w₁ : List ℕ} {r : ℕ} {a : Verdict} → TargetsFor (stored w kinds r kind-in-progress) w₁ r 0 a → (fuel : ℕ) (H : ℕ → ℕ)
       (s : NestState) → ShowsState g w s → cells-in-all g w ≤ most-cells-in-all → NotBegun w r → CanBegin g valid fuel H r s
       → TargetsShow g (stored w kinds r kind-in-progress) w₁ r 0 (its-edges r)
       (target-regions g (defined fuel) (its-edges r) (with-state s r in-progress)) a
@@ -580,23 +586,23 @@ module _ (g : Graph) (valid : Valid g) (parts : ShownParts g valid) (counts : Li
         live many (kind-some r (st .regions r in-graph) old) after in
         claim-before v (λ x. absurd (not-occupied w r z x)) (omega arith) (begun-now g fuel r n inputs s fresh p) result
 
-    pub region-shown : {w w′ : List ℕ} {r : ℕ} {a : Checked} → StructurizesRegion g counts w r w′ a → (fuel : ℕ) (H : ℕ → ℕ) (s : NestState)
+    pub region-shown : {w w′ : List ℕ} {r : ℕ} {a : Verdict} → StructurizesRegion g counts w r w′ a → (fuel : ℕ) (H : ℕ → ℕ) (s : NestState)
         → ShowsState g w s → cells-in-all g w ≤ most-cells-in-all → NotBegun w r → CanBegin g valid fuel H r s
         → RegionShows g w w′ (structurize-region g (defined fuel) r s) a
-    region-shown (refused-at-targets {number} {x} t) fuel H s shown room new can =
+    region-shown (refused-at-targets {y = why} t) fuel H s shown room new can =
         if-targets-refused (first-targets (λ f h z a b i d l u c. targets-shown t f h z a b i d l u c) fuel H s shown room new can) λ p.
-        refuses-region {m = number} {x = x} (rw p)
+        refuses-region {y = why} (rw p)
     region-shown (refused-at-inst t i) fuel H s shown room new can =
         if-targets (first-targets (λ f h z a b i d l u c. targets-shown t f h z a b i d l u c) fuel H s shown room new can) λ cs s₁ p st
         len each newly ar k.
-        if-full (inst-from i fuel H s shown room new can cs s₁ p st len each newly ar k) λ q. refuses-region {m = 9} {x = 0} (rw (p, q))
-    region-shown (refused-at-edges {number} {x} t i d) fuel H s shown room new can =
+        if-full (inst-from i fuel H s shown room new can cs s₁ p st len each newly ar k) λ q. refuses-region {y = TooMany} (rw (p, q))
+    region-shown (refused-at-edges {y = why} t i d) fuel H s shown room new can =
         if-targets (first-targets (λ f h z a b i d l u c. targets-shown t f h z a b i d l u c) fuel H s shown room new can) λ cs s₁ p st
         len each newly ar k.
         if-body (inst-from i fuel H s shown room new can cs s₁ p st len each newly ar k) λ y s₂ q st₂ body ar₂ k₂.
         if-turns-refused (turns-from d fuel H s shown room new can cs s₁ p (others-but ar ar₂ (newly .free)) y s₂ q st₂ body
         (omega arith)) λ f.
-        refuses-region {m = number} {x = x} (rw (p, q, f))
+        refuses-region {y = why} (rw (p, q, f))
     region-shown {w} {w′} {r} (structurized {w₃} t i d e) fuel H s shown room new can =
         if-targets (first-targets (λ f h z a b i d l u c. targets-shown t f h z a b i d l u c) fuel H s shown room new can) λ cs s₁ p st
         len each newly ar k.
@@ -613,7 +619,7 @@ module _ (g : Graph) (valid : Valid g) (parts : ShownParts g valid) (counts : Li
         rw e (shows-ready {s′ = with-state s₃ r (ready (count-to r (z .deferred-edges)) (z .children) (z .deferred-edges))}
         (rw (p, q, f)) last preserves-occupied (omega arith))
 
-    turns-from : {w w₂ w₃ : List ℕ} {r : ℕ} {a : Checked} → ResolvesAll g counts w₂ r w₃ a → (fuel : ℕ) (H : ℕ → ℕ) (s : NestState)
+    turns-from : {w w₂ w₃ : List ℕ} {r : ℕ} {a : Verdict} → ResolvesAll g counts w₂ r w₃ a → (fuel : ℕ) (H : ℕ → ℕ) (s : NestState)
         → ShowsState g w s → cells-in-all g w ≤ most-cells-in-all → NotBegun w r → (can : CanBegin g valid fuel H r s)
         → (cs : List MaybeClaimedRegion)
         (s₁ : NestState) → target-regions g (defined fuel) (its-edges r) (with-state s r in-progress) ≡ done cs s₁
@@ -627,19 +633,19 @@ module _ (g : Graph) (valid : Valid g) (parts : ShownParts g valid) (counts : Li
         turns-shown t fuel s H y s₂ st (omega arith) (can .in-graph) (both .kinds-stay r (inl busy) ∙ busy) body
         (can-turn g valid fuel H r s can cs s₁ p y s₂ q)
 
-    pub targets-shown : {w w′ : List ℕ} {r j : ℕ} {a : Checked} → TargetRegions g counts w r j w′ a → TargetsFor w w′ r j a
+    pub targets-shown : {w w′ : List ℕ} {r j : ℕ} {a : Verdict} → TargetRegions g counts w r j w′ a → TargetsFor w w′ r j a
     targets-shown {w} {w′} {r} {j} (no-target h e) fuel H s shown room in-graph busy live fit can =
         subst (λ l. TargetsShow g w w′ r j l (target-regions g (defined fuel) l s) step.Right)
         (sym (drop-of-length-le (its-edges r) {i = j} h))
         (rw e (targets-over g valid fuel r j s shown))
-    targets-shown {w} {w′} {r} {j} {a} (target-refused {number} {x} h c) fuel H s shown room in-graph busy live fit can =
+    targets-shown {w} {w′} {r} {j} {a} (target-refused {y = why} h c) fuel H s shown room in-graph busy live fit can =
         let split = drop-cons (its-edges r) j no-edge h in
         let live′ = subst (λ l. AllLive (K g valid) l) split live in
         let fit′ = subst (λ l. EdgesUsable g r l) split fit in
         let can′ = subst (λ l. CanClaim g valid fuel H (aims (K g valid) l) (length l) s) split can in
         subst (λ l. TargetsShow g w w′ r j l (target-regions g (defined fuel) l s) a) (sym split)
         (if-refused (first-claim-shown r j (λ f h z v a b l n m x. claim-shown c f h z v a b l n m x) fuel H s shown room live′ fit′
-        can′) λ p. refuses-targets {m = number} {x = x} (rw p))
+        can′) λ p. refuses-targets {y = why} (rw p))
     targets-shown {w} {w′} {r} {j} {a} (target-claimed h c t) fuel H s shown room in-graph busy live fit can =
         let split = drop-cons (its-edges r) j no-edge h in
         let live′ = subst (λ l. AllLive (K g valid) l) split live in
@@ -705,7 +711,7 @@ module _ (g : Graph) (valid : Valid g) (parts : ShownParts g valid) (counts : Li
         if-refused (bundle-claim r i (λ f h z v a b l n m x. claim-shown c f h z v a b l n m x) fuel H s d shown room own l can there) λ
         f. scan-refusal g valid fuel d i l s (there .is) f
 
-    pub turns-shown : {w w′ : List ℕ} {r n : ℕ} {a : Checked} → Resolves g counts w r n w′ a → (fuel : ℕ) (s₀ : NestState) (H : ℕ → ℕ)
+    pub turns-shown : {w w′ : List ℕ} {r n : ℕ} {a : Verdict} → Resolves g counts w r n w′ a → (fuel : ℕ) (s₀ : NestState) (H : ℕ → ℕ)
         (x : Body)
         (s : NestState) → ShowsState g w s → cells-in-all g w ≤ most-cells-in-all → r < length (g .regions)
         → region-kind w r ≡ kind-in-progress → ShowsBody g w r x

@@ -40,7 +40,7 @@ use Rattle.cfg_claims.specs.Claims.{TriesClaim}
 use Rattle.cfg.specs.Func.{FuncBy, Func, Outcomes}
 use Rattle.cfg.specs.Func as func
 use Rattle.cfg_claims.specs.laws.Left.{steady-claim}
-use Rattle.cfg.specs.laws.shown.Shows.{owed-at-start}
+use Rattle.cfg.specs.laws.shown.Shows.{CanClaim, ClaimShows, K, if-claimed, if-refused, if-unclaimed, owed-at-start, world}
 use Rattle.cfg.specs.laws.shown.ClaimsShown.{claim-shown}
 use Rattle.meaning.specs.facts.Sums.{total-within}
 use Rattle.cfg.specs.laws.shown.WholeShown.{parts, few-targets, few-live}

@@ -58,11 +58,12 @@ use Rattle.cfg_regions.specs.ByInst as by-inst
 use Rattle.cfg_regions.specs.ByInst.{AddsBlocks, no-blocks, some-blocks, AddsExit, exit-full, Branches, branches, Selects, selects}
 use Rattle.cfg_regions.specs.ByInst.{ByTerminator, at-unreachable, at-return, at-exit, at-branch, at-bool, at-number, ByControlInst}
 use Rattle.cfg_claims.specs.laws.Left.{inst-kinds}
-use Rattle.cfg.specs.laws.shown.Shows.{cells-in-all, owed-stays}
+use Rattle.cfg.specs.laws.shown.Shows.{AnsweredAs, BodyShows, cells-in-all, chains-of, most-cells-in-all, owed-stays, refuses-body}
+use Rattle.cfg.specs.laws.shown.Shows.{shows-body, was-claimed, was-deferred, was-nothing, world}
 use Rattle.cfg.specs.laws.shown.SelectBodies.{edges-bound, into-body}
 use Rattle.state_words.specs.Rows.{cases-at, cells-at, kind-claimed, kind-in-progress, kind-ready, largest, most-cells, nodes-at}
 use Rattle.state_words.specs.Rows.{region-kind}
-use Rattle.cfg.specs.laws.shown.Shows.{most-cells-in-all}
+use Rattle.format.specs.Refusals.{too-many}
 
 no-blocks-of : {g : Graph} {l : List ℕ} (n r k : ℕ) (bs : List (List Instr)) → length bs ≡ 0 → ShowsNodes g l 0 (blocks-from n r k bs)
 no-blocks-of n r k [] e = no-nodes refl
@@ -72,7 +73,7 @@ node-states : (s : NestState) {n : ℕ} {s₁ : NestState} → define-node s ≡
 unfolding define-node
 node-states s {n} {s₁} e = go (ltb (s .node-count) most-nodes) e
   where
-    go : (b : Bool) → elim b [ true ↦ done (s .node-count) (add-node s) | false ↦ turned-away 9 0 ] ≡ done n s₁
+    go : (b : Bool) → elim b [ true ↦ done (s .node-count) (add-node s) | false ↦ turned-away too-many 0 ] ≡ done n s₁
         → s₁ .region-states ≡ s .region-states
     go true p = let z : add-node s ≡ s₁ = cc in rw (← z)
     go false p = absurd (clash (cc))
@@ -242,8 +243,8 @@ module _ {g : Graph} (few : length (g .regions) ≤ 32) {r : ℕ} (here : r < le
         done (region-body (join (blocks-of g r) (exit n op vs ▸ ⟨⟩)) []) s₁
     exit-of op vs cs e = rw e
 
-    exit-refused : (op : ℕ) (vs : List Value) (cs : List MaybeClaimedRegion) → define-node s ≡ turned-away 9 0
-        → by-control-inst g (blocks-of g r) (exit-invocation op vs) cs s ≡ turned-away 9 0
+    exit-refused : (op : ℕ) (vs : List Value) (cs : List MaybeClaimedRegion) → define-node s ≡ turned-away too-many 0
+        → by-control-inst g (blocks-of g r) (exit-invocation op vs) cs s ≡ turned-away too-many 0
     exit-refused op vs cs e = rw e
 
     at-exit-shown : {w′ : List ℕ} {a : Made} {cs : List MaybeClaimedRegion} {op : ℕ} {vs : List Value}

@@ -44,7 +44,8 @@ use Rattle.state_shown.specs.laws.RegionSteps.{concerns-states, state-stays}
 use Rattle.state_shown.specs.laws.RegionSteps.{kind-set, Concerns, MakesNothing}
 use Rattle.cfg_regions.specs.ByState.{backedge-at}
 use Rattle.cfg_regions.specs.ByInst.{backedges-deferred, made-ready}
-use Rattle.cfg.specs.laws.shown.Shows.{Occupied, cells-in-all, owed-stays, owed-kind}
+use Rattle.cfg.specs.laws.shown.Shows.{CanClaim, K, Occupied, PreservesOccupied, PreservesOthers, cells-in-all, owed-kind, owed-stays}
+use Rattle.cfg.specs.laws.shown.Shows.{world}
 use Rattle.cfg.specs.laws.shown.TurnsShown.{CanTurn}
 use Rattle.state_words.specs.Rows.{bundle-count, cells-at, kind-in-progress, kind-not-begun, kind-ready, no-bundle-word, no-total}
 use Rattle.state_words.specs.Rows.{region-kind}
@@ -158,7 +159,7 @@ module _ {g : Graph} {w : List ℕ} {s : NestState} (shown : ShowsState g w s) (
 
 -- A list that a region under way does not have of its own.
 pub record OfBody (k : Section) : Type 0 where
-  pub nothing : MakesNothing k 16
+  pub nothing : MakesNothing k no-total
   pub not-head : number k ≡ number sections.head → ⊥
   pub not-starts : number sections.set-starts ≡ number k → ⊥
   pub not-lengths : number sections.set-lengths ≡ number k → ⊥
@@ -258,12 +259,12 @@ module _ {g : Graph} {w : List ℕ} {s : NestState} (shown : ShowsState g w s) (
       let counted : word (made-ready w r) backedges r ≡ count-to r d =
       ap (λ l. getD l r 0) (section-other w₁ kinds r kind-ready backedges (omega arith)) ∙ word-there w backedges r n (omega arith) there ∙
       backedges-are in
-      kind-set g w₁ room₁ r there 2 st in-graph
+      kind-set g w₁ room₁ r there kind-ready st in-graph
       (is-ready (word-there w₁ kinds r kind-ready (omega arith) there) counted (b₂ .nodes) (b₂ .set))
 
   pub ready-beside : Beside g r w (made-ready w r)
   ready-beside =
-      let b = beside-kind g w₁ r 2 in
+      let b = beside-kind g w₁ r kind-ready in
       record {
         made-stays = preserves-then (first .made-stays) (b .made-stays);
         kinds-stay = λ q d. b .kinds-stay q d ∙ first .same-kinds q;
@@ -274,7 +275,7 @@ module _ {g : Graph} {w : List ℕ} {s : NestState} (shown : ShowsState g w s) (
   ready-cells =
       let room₁ : used ≤ length w₁ = rw (stored-length _ _ w r n) (shown .tables .size) in
       let e = owed-stays g w w₁ (λ q h. first .same-kinds q) in
-      let z = owed-kind g w₁ r 2 room₁ there in-graph in
+      let z = owed-kind g w₁ r kind-ready room₁ there in-graph in
       let k : region-kind w₁ r ≡ kind-in-progress = first .same-kinds r ∙ busy in
       let y = rw k at z in
       let h : word (made-ready w r) head cells-at ≡ word w head cells-at = ap (λ l. getD l 4 0)

@@ -26,10 +26,9 @@ use Rattle.cfg_select_nodes.specs.laws.shown.SelectsShown.{shows-lazy}
 use Rattle.cfg_selects.specs.laws.shown.IntoShown.{into-shown}
 use Rattle.cfg_regions.specs.ByInst.{ResolvesBy, resolves, own-condition}
 use Rattle.cfg_claims.specs.laws.Left.{resolve-kinds}
-use Rattle.cfg.specs.laws.shown.Shows.{cells-in-all}
+use Rattle.cfg.specs.laws.shown.Shows.{BodyShows, cells-in-all, chains-of, most-cells-in-all, world}
 use Rattle.cfg.specs.laws.shown.SelectBodies.{edges-bound, into-body}
 use Rattle.state_words.specs.Rows.{cells-at, kind-claimed, kind-in-progress, kind-ready, largest, region-kind}
-use Rattle.cfg.specs.laws.shown.Shows.{most-cells-in-all}
 
 module _ (g : Graph) (valid : Valid g) (few : length (g .regions) ≤ 32) where
   pub resolve-shown : {w w′ : List ℕ} {r i : ℕ} {a : Made} → ResolvesBy g w r i w′ a → (s : NestState) (x : Body) (y : SplitOut) (t : ℕ)

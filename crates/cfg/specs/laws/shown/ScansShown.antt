@@ -30,7 +30,9 @@ use Rattle.state_shown.specs.laws.Finds.{bundle-in}
 use Rattle.state_shown.specs.States.{ShowsState, ShowsOwnSet, ShowsClaimed}
 use Rattle.cfg_claims.specs.SplitOut as split
 use Rattle.cfg_regions.specs.ByInst.{own-bundle}
-use Rattle.cfg.specs.laws.shown.Shows.{Occupied, occupied-then, cells-in-all}
+use Rattle.cfg.specs.laws.shown.Shows.{CanClaim, K, Occupied, PreservesOccupied, ScanShows, cells-in-all, occupied-then, refuses-scan}
+use Rattle.cfg.specs.laws.shown.Shows.{shows-nothing, shows-split, turned-as, world}
+use Rattle.store.specs.declared.refusals.Refusal.{Refusal}
 
 -- ---- Bundle i of region r's set, in words.
 pub own-bundle-is : {g : Graph} {w : List ℕ} (r : ℕ) {d : DeferredEdgeBundleSet} → ShowsOwnSet g w r d → (i : ℕ) → i < length d
@@ -185,7 +187,7 @@ module _ (g : Graph) (valid : Valid g) (fuel : ℕ) where
     passed-waiting {t} e p on u c (shows-split {i = j} {t = z} {y} {s′} q st l b o x cl g₁ n f v k) =
         shows-split {i = j} {t = z} {y = y} {s′ = s′} (scan-step (to-region t) e ∙ rw (p, q)) st l b o x cl g₁ n
         (λ hd. f (on z hd)) (occupied-then u v) (omega arith)
-    passed-waiting {t} e p on u c (refuses-scan {m} {x} q) = refuses-scan {m = m} {x = x} (scan-step (to-region t) e ∙ rw (p, q))
+    passed-waiting {t} e p on u c (refuses-scan {y} q) = refuses-scan {y = y} (scan-step (to-region t) e ∙ rw (p, q))
 
     pub scan-claims : {w w′ : List ℕ} {t : ℕ} → this .target ≡ to-region t → {c : ClaimedRegion} {s′ : NestState}
         → claim t (this .accumulated-count) (this .target-inputs) s ≡ done (some c) s′ → ShowsState g w′ s′ → ShowsClaimed g w′ c
@@ -198,8 +200,8 @@ module _ (g : Graph) (valid : Valid g) (fuel : ℕ) where
         shows-split {i = i} {t = t} {y = record { bundle = this; claimed-region = c; others = take i d ++ drop (suc i) d }} {s′ = s′}
         (scan-step (to-region t) e ∙ rw p) st h refl refl e cl o n f u k
 
-    pub scan-refusal : {w w′ : List ℕ} {t : ℕ} → this .target ≡ to-region t → {m x : ℕ}
-        → claim t (this .accumulated-count) (this .target-inputs) s ≡ turned-away m x
-        → ScanShows g w w′ d (scan-from i s) (split.Refused m x)
+    pub scan-refusal : {w w′ : List ℕ} {t : ℕ} → this .target ≡ to-region t → {y : Refusal}
+        → claim t (this .accumulated-count) (this .target-inputs) s ≡ turned-as y
+        → ScanShows g w w′ d (scan-from i s) (split.Refused y)
     unfolding step-of
-    scan-refusal {t} e {m} {x} p = refuses-scan {m = m} {x = x} (scan-step (to-region t) e ∙ rw p)
+    scan-refusal {t} e {y} p = refuses-scan {y = y} (scan-step (to-region t) e ∙ rw p)

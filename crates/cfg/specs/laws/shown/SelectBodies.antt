@@ -18,7 +18,7 @@ use Rattle.cfg_merging.specs.laws.shown.TargetsShown.{edges-of-set, edges-of-ca
 use Rattle.cfg_merging.specs.laws.shown.RewritingShown.{bundle-found, case-found, cases-after}
 use Rattle.cfg_select_nodes.specs.laws.shown.RegionsShown.{ShowsMade, shows-made, shows-refused}
 use Rattle.cfg_selects.specs.laws.shown.IntoShown.{IntoDone}
-use Rattle.cfg.specs.laws.shown.Shows.{owed-stays}
+use Rattle.cfg.specs.laws.shown.Shows.{BodyShows, owed-stays, refuses-body, shows-body}
 use Rattle.state_words.specs.Rows.{cells-at, largest}
 
 -- ---- Rewriting keeps targets and counts.

@@ -30,8 +30,8 @@ use Rattle.state_shown.specs.Sets.{no-bundle}
 use Rattle.state_shown.specs.States.{ShowsState, ShowsBody, ShowsClaimed, no-case}
 use Rattle.state_words.specs.declared.defined.Made.{Made}
 use Rattle.state_words.specs.declared.defined.Made.the-variants as made
-use Rattle.store.specs.declared.Checked.{Checked}
-use Rattle.store.specs.declared.Checked.the-variants as step
+use Rattle.store.specs.declared.Verdict.{Verdict}
+use Rattle.store.specs.declared.Verdict.the-variants as step
 use Rattle.cfg_claims.specs.SplitOut as split
 use Rattle.state_shown.specs.laws.RegionSteps.{Concerns}
 use Rattle.state_shown.specs.Kept.{PreservesMade, KeptRegion}
@@ -41,6 +41,9 @@ use Rattle.cfg_regions.specs.declared.claim.Claim.the-variants.{Claimed, Unclai
 use Rattle.state_words.specs.Rows.{cells-at, kind-claimed, kind-in-progress, kind-not-begun, level-claimed, level-deferred}
 use Rattle.state_words.specs.Rows.{level-unreachable}
 use Rattle.state_words.specs.Rows.{region-kind}
+use Rattle.store.specs.declared.refusals.Refusal.{Refusal}
+use Rattle.format.specs.Refusals.{too-many}
+use Rattle.store.specs.Refusals.{refusal-number, refusal-word}
 
 -- ---- A region in progress, or claimed: what it has of its own is occupied by a step under way.
 abbrev pub Occupied : List ℕ → ℕ → Type 0
@@ -96,7 +99,7 @@ concerns-others few c =
 
 -- ---- Cells, with those that may still be asked for: 11 by a region that begins, 9 by one that is claimed.
 abbrev owe : ℕ → ℕ
-owe k = pick (eqb k 0) 20 (pick (eqb k 3) 0 9)
+owe k = pick (eqb k kind-not-begun) 20 (pick (eqb k kind-claimed) 0 9)
 
 abbrev owed-below : ℕ → List ℕ → ℕ
 owed-below zero l = 0
@@ -179,6 +182,10 @@ module _ (g : Graph) (valid : Valid g) where
   pub chains-of : {s : NestState} → Inv world s → (q : ℕ) → ChainsEnd (s .region-input-rewrites) q
   chains-of i q = rooted-ends (i .rooted q)
 
+-- The step that is turned away with this refusal.
+abbrev pub turned-as : {A : Type 0} → Refusal → StepAnswer A
+turned-as y = turned-away (refusal-number y) (refusal-word y)
+
 -- ---- Answers shown. b is what the definition answers.
 pub data ClaimShows (g : Graph) (w w′ : List ℕ) (r : ℕ) (inputs : List Value) (b : StepAnswer (Option ClaimedRegion)) : Claim → Type 0 where
   shows-claimed : {c : ClaimedRegion} {s′ : NestState} → b ≡ done (some c) s′ → ShowsState g w′ s′ → ShowsClaimed g w′ c → c .origin ≡ r
@@ -187,7 +194,7 @@ pub data ClaimShows (g : Graph) (w w′ : List ℕ) (r : ℕ) (inputs : List Val
   shows-unclaimed : {s′ : NestState} → b ≡ done none s′ → ShowsState g w′ s′ → PreservesOccupied g w w′
       → cells-in-all g w′ ≤ cells-in-all g w
       → ClaimShows g w w′ r inputs b Unclaimed
-  shows-refused : {m x : ℕ} → b ≡ turned-away m x → ClaimShows g w w′ r inputs b (Refused m x)
+  shows-refused : {y : Refusal} → b ≡ turned-as y → ClaimShows g w w′ r inputs b (Refused y)
 
 -- How region r's target at place j was answered, which is that of edge e.
 pub data AnsweredAs (g : Graph) (w : List ℕ) (r j : ℕ) (e : Edge) (m : MaybeClaimedRegion) : Type 0 where
@@ -203,13 +210,13 @@ pub record NewlyClaimed (w : List ℕ) (cs : List MaybeClaimedRegion) : Type 0 w
 
 -- The edges es of region r, from place j on.
 pub data TargetsShow (g : Graph) (w w′ : List ℕ) (r j : ℕ) (es : List Edge) (b : StepAnswer (List MaybeClaimedRegion)) :
-    Checked → Type 0 where
+    Verdict → Type 0 where
   shows-targets : {cs : List MaybeClaimedRegion} {s′ : NestState} → b ≡ done cs s′ → ShowsState g w′ s′ → length cs ≡ length es
       → ((k : ℕ) → k < length es → AnsweredAs g w′ r (j + k) (getD es k no-edge) (getD cs k no-case)) → NewlyClaimed w cs
       → PreservesOthers g r w w′
       → ((k : ℕ) → k < j → target-answer w′ r k ≡ target-answer w r k) → cells-in-all g w′ ≤ cells-in-all g w
       → TargetsShow g w w′ r j es b step.Right
-  refuses-targets : {m x : ℕ} → b ≡ turned-away m x → TargetsShow g w w′ r j es b (step.Refused m x)
+  refuses-targets : {y : Refusal} → b ≡ turned-as y → TargetsShow g w w′ r j es b (step.Refused y)
 
 -- A step of region r's own that takes the claimed regions of these cases: what other regions have stays.
 pub record PreservesOthersBut (g : Graph) (r : ℕ) (cs : List MaybeClaimedRegion) (w w′ : List ℕ) : Type 0 where
@@ -233,7 +240,7 @@ others-but {w} a b free =
 pub data BodyShows (g : Graph) (w w′ : List ℕ) (r : ℕ) (cs : List MaybeClaimedRegion) (more : ℕ) (b : StepAnswer Body) : Made → Type 0 where
   shows-body : {x : Body} {s′ : NestState} → b ≡ done x s′ → ShowsState g w′ s′ → ShowsBody g w′ r x → PreservesOthersBut g r cs w w′
       → cells-in-all g w′ ≤ cells-in-all g w + more → BodyShows g w w′ r cs more b made.Done
-  refuses-body : b ≡ turned-away 9 0 → BodyShows g w w′ r cs more b made.Full
+  refuses-body : b ≡ turned-away too-many 0 → BodyShows g w w′ r cs more b made.Full
 
 -- A scan of the set d.
 pub data ScanShows (g : Graph) (w w′ : List ℕ) (d : DeferredEdgeBundleSet) (b : StepAnswer (Option SplitOut)) : split.SplitOut → Type 0
@@ -247,18 +254,18 @@ pub data ScanShows (g : Graph) (w w′ : List ℕ) (d : DeferredEdgeBundleSet) (
         → y .claimed-region .structured-body-inputs ≡ y .bundle .target-inputs → (Occupied w t → ⊥) → PreservesOccupied g w w′
         → cells-in-all g w′ + 4 ≤ cells-in-all g w
         → ScanShows g w w′ d b (split.At i)
-    refuses-scan : {m x : ℕ} → b ≡ turned-away m x → ScanShows g w w′ d b (split.Refused m x)
+    refuses-scan : {y : Refusal} → b ≡ turned-as y → ScanShows g w w′ d b (split.Refused y)
 
 -- Turns over region r's set; and the region as a whole.
-pub data TurnsShow (g : Graph) (w w′ : List ℕ) (r : ℕ) (b : StepAnswer Body) : Checked → Type 0 where
+pub data TurnsShow (g : Graph) (w w′ : List ℕ) (r : ℕ) (b : StepAnswer Body) : Verdict → Type 0 where
   shows-turns : {x : Body} {s′ : NestState} → b ≡ done x s′ → ShowsState g w′ s′ → ShowsBody g w′ r x → PreservesOthers g r w w′
       → cells-in-all g w′ ≤ cells-in-all g w → TurnsShow g w w′ r b step.Right
-  refuses-turns : {m x : ℕ} → b ≡ turned-away m x → TurnsShow g w w′ r b (step.Refused m x)
+  refuses-turns : {y : Refusal} → b ≡ turned-as y → TurnsShow g w w′ r b (step.Refused y)
 
-pub data RegionShows (g : Graph) (w w′ : List ℕ) (b : StepAnswer Unit) : Checked → Type 0 where
+pub data RegionShows (g : Graph) (w w′ : List ℕ) (b : StepAnswer Unit) : Verdict → Type 0 where
   shows-ready : {s′ : NestState} → b ≡ done tt s′ → ShowsState g w′ s′ → PreservesOccupied g w w′ → cells-in-all g w′ ≤ cells-in-all g w
       → RegionShows g w w′ b step.Right
-  refuses-region : {m x : ℕ} → b ≡ turned-away m x → RegionShows g w w′ b (step.Refused m x)
+  refuses-region : {y : Refusal} → b ≡ turned-as y → RegionShows g w w′ b (step.Refused y)
 
 -- ---- Each taken apart by what the code answered.
 module _ {g : Graph} {w w′ : List ℕ} {R : Type 0} where
@@ -272,8 +279,9 @@ module _ {g : Graph} {w w′ : List ℕ} {R : Type 0} where
       → ((s′ : NestState) → b ≡ done none s′ → ShowsState g w′ s′ → PreservesOccupied g w w′ → cells-in-all g w′ ≤ cells-in-all g w → R) → R
   if-unclaimed (shows-unclaimed {s′} p st u k) go = go s′ p st u k
 
-  pub if-refused : {r m x : ℕ} {inputs : List Value} {b : StepAnswer (Option ClaimedRegion)} → ClaimShows g w w′ r inputs b (Refused m x)
-      → (b ≡ turned-away m x → R) → R
+  pub if-refused : {r : ℕ} {y : Refusal} {inputs : List Value} {b : StepAnswer (Option ClaimedRegion)}
+      → ClaimShows g w w′ r inputs b (Refused y)
+      → (b ≡ turned-as y → R) → R
   if-refused (shows-refused p) go = go p
 
   pub if-targets : {r j : ℕ} {es : List Edge} {b : StepAnswer (List MaybeClaimedRegion)} → TargetsShow g w w′ r j es b step.Right
@@ -283,8 +291,8 @@ module _ {g : Graph} {w w′ : List ℕ} {R : Type 0} where
       → cells-in-all g w′ ≤ cells-in-all g w → R) → R
   if-targets (shows-targets {cs} {s′} p st n each new ar same k) go = go cs s′ p st n each new ar k
 
-  pub if-targets-refused : {r j m x : ℕ} {es : List Edge} {b : StepAnswer (List MaybeClaimedRegion)}
-      → TargetsShow g w w′ r j es b (step.Refused m x) → (b ≡ turned-away m x → R) → R
+  pub if-targets-refused : {r j : ℕ} {y : Refusal} {es : List Edge} {b : StepAnswer (List MaybeClaimedRegion)}
+      → TargetsShow g w w′ r j es b (step.Refused y) → (b ≡ turned-as y → R) → R
   if-targets-refused (refuses-targets p) go = go p
 
   pub if-body : {r : ℕ} {cs : List MaybeClaimedRegion} {more : ℕ} {b : StepAnswer Body} → BodyShows g w w′ r cs more b made.Done
@@ -293,7 +301,7 @@ module _ {g : Graph} {w w′ : List ℕ} {R : Type 0} where
   if-body (shows-body {x} {s′} p st b ar k) go = go x s′ p st b ar k
 
   pub if-full : {r : ℕ} {cs : List MaybeClaimedRegion} {more : ℕ} {b : StepAnswer Body} → BodyShows g w w′ r cs more b made.Full
-      → (b ≡ turned-away 9 0 → R) → R
+      → (b ≡ turned-away too-many 0 → R) → R
   if-full (refuses-body p) go = go p
 
   pub if-split : {i : ℕ} {d : DeferredEdgeBundleSet} {b : StepAnswer (Option SplitOut)} → ScanShows g w w′ d b (split.At i)
@@ -308,7 +316,7 @@ module _ {g : Graph} {w w′ : List ℕ} {R : Type 0} where
       → cells-in-all g w′ ≤ cells-in-all g w → R) → R
   if-turns (shows-turns {x} {s′} p st b ar k) go = go x s′ p st b ar k
 
-  pub if-turns-refused : {r m x : ℕ} {b : StepAnswer Body} → TurnsShow g w w′ r b (step.Refused m x) → (b ≡ turned-away m x → R) → R
+  pub if-turns-refused : {r : ℕ} {y : Refusal} {b : StepAnswer Body} → TurnsShow g w w′ r b (step.Refused y) → (b ≡ turned-as y → R) → R
   if-turns-refused (refuses-turns p) go = go p
 
   pub if-ready : {b : StepAnswer Unit} → RegionShows g w w′ b step.Right

@@ -39,10 +39,11 @@ use Rattle.cfg_regions.specs.laws.Leaves.{loops-kinds}
 use Rattle.cfg_regions.specs.ByState.{ClaimsBody, no-backedges, none-found as none-leads-back, by-loop, ClaimsByState, ready-claimed}
 use Rattle.cfg_regions.specs.ByState.{ready-waits}
 use Rattle.cfg_regions.specs.ByState.{busy-claimed, busy-waits, other-state, as-claimed, backedge-at, claim-of}
-use Rattle.cfg.specs.laws.shown.Shows.{Occupied, occupied-same, cells-in-all, owed-stays, owed-kind}
+use Rattle.cfg.specs.laws.shown.Shows.{CanClaim, ClaimShows, K, Occupied, PreservesOccupied, cells-in-all, chains-of}
+use Rattle.cfg.specs.laws.shown.Shows.{most-cells-in-all, occupied-same, owed-kind, owed-stays, shows-claimed, shows-refused}
+use Rattle.cfg.specs.laws.shown.Shows.{shows-unclaimed}
 use Rattle.cfg.specs.laws.shown.RegionsShown.{Beside, beside-kind, body-with}
 use Rattle.state_words.specs.Rows.{cells-at, kind-claimed, kind-not-begun, kind-ready, largest, no-bundle-word, region-kind}
-use Rattle.cfg.specs.laws.shown.Shows.{most-cells-in-all}
 
 -- ---- Region r is claimed, and its own structured body: the others stay, and what it has.
 module _ {g : Graph} {w : List ℕ} {s : NestState} (shown : ShowsState g w s) (few : length (g .regions) ≤ 32) (r : ℕ)
@@ -61,7 +62,7 @@ module _ {g : Graph} {w : List ℕ} {s : NestState} (shown : ShowsState g w s) (
   w₂ = as-claimed w r
 
   room₁ : used ≤ length w₁
-  room₁ = rw (stored-length _ _ w r 3) room
+  room₁ = rw (stored-length _ _ w r kind-claimed) room
 
   second : Concerns g r w₁ w₂
   second = word-concerns g w₁ bodies (omega arith) r r
@@ -71,7 +72,7 @@ module _ {g : Graph} {w : List ℕ} {s : NestState} (shown : ShowsState g w s) (
 
   claimed-state : ShowsState g w₂ (with-state s r claimed)
   claimed-state =
-      let first = kind-set g w room r below 3 shown in-graph (is-claimed kind-there) in
+      let first = kind-set g w room r below kind-claimed shown in-graph (is-claimed kind-there) in
       state-stays (second .made-stays) (concerns-states second few (λ e. let z = kind-there in absurd (omega arith))) (second .tables) first
 
   claimed-kind : region-kind w₂ r ≡ kind-claimed
@@ -84,7 +85,7 @@ module _ {g : Graph} {w : List ℕ} {s : NestState} (shown : ShowsState g w s) (
 
   claimed-beside : Beside g r w w₂
   claimed-beside =
-      let b = beside-kind g w r 3 in
+      let b = beside-kind g w r kind-claimed in
       record {
         made-stays = preserves-then (b .made-stays) (second .made-stays);
         kinds-stay = λ q n. second .same-kinds q ∙ b .kinds-stay q n;
@@ -93,7 +94,7 @@ module _ {g : Graph} {w : List ℕ} {s : NestState} (shown : ShowsState g w s) (
 
   claimed-cells : cells-in-all g w₂ + 9 ≡ cells-in-all g w
   claimed-cells =
-      let z = owed-kind g w r 3 room below in-graph in
+      let z = owed-kind g w r kind-claimed room below in-graph in
       let y = rw is at z in
       let e = owed-stays g w₁ w₂ (λ q h. second .same-kinds q) in
       let h : word w₁ head cells-at ≡ word w head cells-at = ap (λ l. getD l 4 0)

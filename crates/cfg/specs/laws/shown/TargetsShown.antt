@@ -31,8 +31,10 @@ use Rattle.state_shown.specs.States.{no-case}
 use Rattle.state_shown.specs.laws.RegionsKept.{claimed-stays}
 use Rattle.state_shown.specs.laws.Stores.{word-there, word-apart}
 use Rattle.state_shown.specs.laws.RegionSteps.{Concerns, target-answer-concerns}
-use Rattle.store.specs.declared.Checked.{Checked}
-use Rattle.cfg.specs.laws.shown.Shows.{Occupied, others-then, concerns-others, cells-in-all, owed-stays}
+use Rattle.store.specs.declared.Verdict.{Verdict}
+use Rattle.cfg.specs.laws.shown.Shows.{AnsweredAs, CanClaim, K, NewlyClaimed, Occupied, PreservesOthers, TargetsShow, cells-in-all}
+use Rattle.cfg.specs.laws.shown.Shows.{concerns-others, others-then, owed-stays, refuses-targets, shows-targets, was-claimed}
+use Rattle.cfg.specs.laws.shown.Shows.{was-deferred, was-nothing, world}
 use Rattle.state_words.specs.Rows.{cells-at, kind-claimed, kind-in-progress, level, level-at, region-kind}
 
 -- ---- How a target was answered is noted in region r's own words.
@@ -130,7 +132,7 @@ module _ (g : Graph) (valid : Valid g) (fuel : ℕ) where
     -- The others, put behind the first.
     pub targets-more : {w′ : List ℕ} (e : Edge) (es : List Edge) (s s₁ : NestState) → j < 8 → (o : Option ClaimedRegion)
         (c : MaybeClaimedRegion) → claim (e .target) 1 (e .inputs) s ≡ done o s₁
-        → edge-case e o s₁ ≡ done c s₁ → AnsweredAs g w₂ r j e c → FirstNew w w₂ c → cells-in-all g w₁ ≤ cells-in-all g w → {a : Checked}
+        → edge-case e o s₁ ≡ done c s₁ → AnsweredAs g w₂ r j e c → FirstNew w w₂ c → cells-in-all g w₁ ≤ cells-in-all g w → {a : Verdict}
         → TargetsShow g w₂ w′ r (suc j) es (target-regions g claim es s₁) a
         → TargetsShow g w w′ r j (e ∷ es) (target-regions g claim (e ∷ es) s) a
     unfolding target-regions
@@ -157,4 +159,4 @@ module _ (g : Graph) (valid : Valid g) (fuel : ℕ) where
 
         newly : NewlyClaimed w (c ∷ cs)
         newly = record { free = free; apart = apart }
-    targets-more e es s s₁ b o c p q t first cells (refuses-targets {m} {x} f) = refuses-targets {m = m} {x = x} (rw (p, q, f))
+    targets-more e es s s₁ b o c p q t first cells (refuses-targets {y} f) = refuses-targets {y = y} (rw (p, q, f))

@@ -23,12 +23,16 @@ use Rattle.follows.specs.counting.CountRegion.{claim-counted, turn-counted}
 use Rattle.state_shown.specs.laws.RegionsKept.{body-stays}
 use Rattle.state_shown.specs.States.{ShowsBody}
 use Rattle.state_words.specs.declared.defined.Made.the-variants as made
-use Rattle.store.specs.declared.Checked.{Checked}
-use Rattle.store.specs.declared.Checked.the-variants as step
+use Rattle.store.specs.declared.Verdict.{Verdict}
+use Rattle.store.specs.declared.Verdict.the-variants as step
 use Rattle.cfg_claims.specs.SplitOut as split
-use Rattle.cfg.specs.laws.shown.Shows.{others-then, others-of-occupied, cells-in-all}
+use Rattle.cfg.specs.laws.shown.Shows.{BodyShows, K, PreservesOccupied, PreservesOthers, ScanShows, TurnsShow, cells-in-all}
+use Rattle.cfg.specs.laws.shown.Shows.{others-of-occupied, others-then, refuses-body, refuses-scan, refuses-turns, shows-nothing}
+use Rattle.cfg.specs.laws.shown.Shows.{shows-turns, world}
 use Rattle.cfg.specs.laws.shown.ScansShown.{CanScan}
 use Rattle.state_words.specs.Rows.{kind-in-progress, region-kind}
+use Rattle.store.specs.declared.refusals.Refusal.{Refusal}
+use Rattle.store.specs.declared.refusals.Refusal.the-variants.{TooMany}
 
 module _ (g : Graph) (valid : Valid g) (fuel : ℕ) where
   abbrev claim : Claim
@@ -109,11 +113,11 @@ module _ (g : Graph) (valid : Valid g) (fuel : ℕ) where
         shows-turns {x = x} {s′ = s′} (rw p) st (body-stays (u .made-stays) (u .regions-stay r in-graph (inl busy)) b)
         (others-of-occupied r u) c
 
-    pub turns-refuse : {m k : ℕ} {w′ : List ℕ}
-        → ScanShows g w w′ (x .deferred-edges) (split-out-matching g claim [] (x .deferred-edges) s) (split.Refused m k)
-        → TurnsShow g w w′ r (turns (suc n) x s) (step.Refused m k)
+    pub turns-refuse : {y : Refusal} {w′ : List ℕ}
+        → ScanShows g w w′ (x .deferred-edges) (split-out-matching g claim [] (x .deferred-edges) s) (split.Refused y)
+        → TurnsShow g w w′ r (turns (suc n) x s) (step.Refused y)
     unfolding resolve-deferred
-    turns-refuse {m} {k} (refuses-scan p) = refuses-turns {m = m} {x = k} (rw p)
+    turns-refuse {y} (refuses-scan p) = refuses-turns {y = y} (rw p)
 
     module _ {w₁ : List ℕ} (y : SplitOut) (s₁ : NestState)
         (p : split-out-matching g claim [] (x .deferred-edges) s ≡ done (some y) s₁) (u : PreservesOccupied g w w₁)
@@ -123,14 +127,14 @@ module _ (g : Graph) (valid : Valid g) (fuel : ℕ) where
           (ok (y .claimed-region) ∷ err (y .others) ∷ []) s₁
 
       pub turns-full : {w₂ : List ℕ} → BodyShows g w₁ w₂ r (ok (y .claimed-region) ∷ err (y .others) ∷ []) 4 selected made.Full
-          → TurnsShow g w w₂ r (turns (suc n) x s) (step.Refused 9 0)
+          → TurnsShow g w w₂ r (turns (suc n) x s) (step.Refused TooMany)
       unfolding resolve-deferred
-      turns-full (refuses-body q) = refuses-turns {m = 9} {x = 0} (rw (p, q))
+      turns-full (refuses-body q) = refuses-turns {y = TooMany} (rw (p, q))
 
       pub turns-again : {w₂ w′ : List ℕ} (x′ : Body) (s₂ : NestState) → selected ≡ done x′ s₂ → PreservesOthers g r w w₂
-          → cells-in-all g w₂ ≤ cells-in-all g w₁ + 4 → {a : Checked} → TurnsShow g w₂ w′ r (turns n x′ s₂) a
+          → cells-in-all g w₂ ≤ cells-in-all g w₁ + 4 → {a : Verdict} → TurnsShow g w₂ w′ r (turns n x′ s₂) a
           → TurnsShow g w w′ r (turns (suc n) x s) a
       unfolding resolve-deferred
       turns-again x′ s₂ q ar k (shows-turns {x = z} {s′} f st b ar₂ k₂) =
           shows-turns {x = z} {s′ = s′} (rw (p, q, f)) st b (others-then ar ar₂) (omega arith)
-      turns-again x′ s₂ q ar k (refuses-turns {m} {x = j} f) = refuses-turns {m = m} {x = j} (rw (p, q, f))
+      turns-again x′ s₂ q ar k (refuses-turns {y} f) = refuses-turns {y = y} (rw (p, q, f))

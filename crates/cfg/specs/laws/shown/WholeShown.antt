@@ -18,6 +18,7 @@ use Rattle.cfg.specs.laws.shown.ClaimsShown.{ShownParts}
 use Rattle.cfg.specs.laws.shown.StateShown.{state-shown}
 use Rattle.cfg.specs.laws.shown.InstShown.{inst-shown}
 use Rattle.cfg.specs.laws.shown.ResolveShown.{resolve-shown}
+use Rattle.cfg.specs.laws.shown.Shows.{K}
 
 -- ---- At most 32 regions are reachable, each with at most 8 edges and 32 exits: the counts are small.
 module _ (g : Graph) (valid : Valid g) where

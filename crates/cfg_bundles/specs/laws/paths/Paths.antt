@@ -96,12 +96,13 @@ return-by g l r a b c none d e = e ∙ rw (d, none, c, b, a)
 
 -- ---- Cases.
 module _ (g : Graph) (l : List ℕ) (r j : ℕ) {answer : ℕ} (read : answer ≡ target-answer l r j) where
-  pub fill-claimed : answer ≡ 2 → {t : ℕ} {x : Case} {vs l′ : List ℕ} → t ≡ edge-of g r j .target → x ≡ claimed-case l t
+  pub fill-claimed : answer ≡ level-claimed → {t : ℕ} {x : Case} {vs l′ : List ℕ} → t ≡ edge-of g r j .target → x ≡ claimed-case l t
       → vs ≡ padded (edge-of g r j .inputs) → l′ ≡ stored-all l cases (case-row-at j) (case-words x ++ vs) → l′ ≡ case-filled g l r j
   unfolding case-filled
   fill-claimed is a b c e = e ∙ rw (b, a, c, eq-eqb (target-answer l r j) level-claimed (sym read ∙ is))
 
-  pub fill-edge : (answer ≡ 2 → ⊥) → answer ≡ 1 → {p : ℕ} {x : Case} {l₁ l₂ : List ℕ} → p ≡ own-edge j → l₁ ≡ edge-deferred g l p r j
+  pub fill-edge : (answer ≡ level-claimed → ⊥) → answer ≡ level-deferred → {p : ℕ} {x : Case} {l₁ l₂ : List ℕ} → p ≡ own-edge j
+      → l₁ ≡ edge-deferred g l p r j
       → x ≡ unclaimed-case case-own-edge p 1 → l₂ ≡ stored-all l₁ cases (case-row-at j) (case-words x) → l₂ ≡ case-filled g l r j
   unfolding case-filled
   fill-edge unlike is a b c e =
@@ -114,7 +115,8 @@ module _ (g : Graph) (l : List ℕ) (r j : ℕ) {answer : ℕ} (read : answer �
             (sym read ∙ is),
       )
 
-  pub fill-nothing : (answer ≡ 2 → ⊥) → (answer ≡ 1 → ⊥) → {x : Case} {l′ : List ℕ} → x ≡ unclaimed-case case-nothing 0 0
+  pub fill-nothing : (answer ≡ level-claimed → ⊥) → (answer ≡ level-deferred → ⊥) → {x : Case} {l′ : List ℕ}
+      → x ≡ unclaimed-case case-nothing 0 0
       → l′ ≡ stored-all l cases (case-row-at j) (case-words x) → l′ ≡ case-filled g l r j
   unfolding case-filled
   fill-nothing unlike nor a e =

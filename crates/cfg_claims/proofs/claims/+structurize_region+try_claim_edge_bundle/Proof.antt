@@ -77,7 +77,7 @@ pub +structurize-region+try-claim-edge-bundle-spec : {M : Type 1} → statement 
     (claim.returns t)
     (claim.region-state-requires t)
     (claim.structurize-region-requires t)
-    (claim.enum-known-number t)
+    (claim.enum-known-why t)
     (claim.returns-2 t)
     (claim.enum-told t)
     (claim.count-of-requires t)

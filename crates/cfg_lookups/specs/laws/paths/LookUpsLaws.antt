@@ -13,6 +13,7 @@ use Rattle.cfg_lookups.specs.declared.look_up.LookUp.{LookUp}
 use Rattle.meaning.specs.Lists.{pick}
 use Rattle.cfg_lookups.specs.LookUps.{plain, kind-at, entry-at, changes-again, stays, renumbers, turns, look-up, Rewrites}
 use Rattle.state_words.specs.Rows.{rewrite-value, twice-at}
+use Rattle.state_words.specs.Rows.{entry-renumber}
 
 -- ---- A turn of the code's loop, by what it read: the region, its entry's kind, the index, the entry's word.
 module _ (l : List ℕ) (n x r k i y : ℕ) {whole : LookUp} (some-left : 0 < n) (left : turns n l x ≡ whole) where
@@ -89,11 +90,11 @@ module _ (l : List ℕ) (v : ℕ) (h : Bool) (test : h ≡ is-held v) where
   unfolding stays
   stays-plain e a p = p ∙ rw (← test, e)
 
-pub renumbers-held : (kind x : ℕ) (h : Bool) → kind ≡ 2 → h ≡ is-held x → h ≡ renumbers kind x
+pub renumbers-held : (kind x : ℕ) (h : Bool) → kind ≡ entry-renumber → h ≡ is-held x → h ≡ renumbers kind x
 unfolding renumbers
 renumbers-held kind x h e p = p ∙ rw (eq-eqb kind 2 e)
 
-pub renumbers-none : (kind x : ℕ) → (kind ≡ 2 → ⊥) → false ≡ renumbers kind x
+pub renumbers-none : (kind x : ℕ) → (kind ≡ entry-renumber → ⊥) → false ≡ renumbers kind x
 unfolding renumbers
 renumbers-none kind x d = rw (ne-eqb kind 2 d)
 

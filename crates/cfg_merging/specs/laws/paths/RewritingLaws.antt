@@ -89,11 +89,12 @@ module _ (l l′ : List ℕ) (p n t k : ℕ) (over : n ≤ k) where
       turn-last (λ m i. rewrite-case-input m p i) l′ n k left over ∙ rw (← of-origin, ← count g st)
 
 module _ (l : List ℕ) (j kind : ℕ) (of-kind : kind ≡ case-kind l j) where
-  pub given-path : kind ≡ 2 → {l₁ : List ℕ} → OfRecord l (λ g. l₁ ≡ rewrite-inputs g l j) → OfRecord l (λ g. l₁ ≡ rewrite-given g l j)
+  pub given-path : kind ≡ case-claimed → {l₁ : List ℕ} → OfRecord l (λ g. l₁ ≡ rewrite-inputs g l j)
+      → OfRecord l (λ g. l₁ ≡ rewrite-given g l j)
   unfolding rewrite-given
   given-path e inputs g st = inputs g st ∙ rw (← of-kind, eq-eqb kind 2 e)
 
-  pub none-given : (kind ≡ 2 → ⊥) → OfRecord l (λ g. l ≡ rewrite-given g l j)
+  pub none-given : (kind ≡ case-claimed → ⊥) → OfRecord l (λ g. l ≡ rewrite-given g l j)
   unfolding rewrite-given
   none-given d g st = rw (← of-kind, ne-eqb kind 2 d)
 

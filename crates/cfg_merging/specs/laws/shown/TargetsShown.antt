@@ -37,6 +37,7 @@ use Rattle.nesting.specs.steps.TargetsAndCases.{same-target-is, same-target-sel
 use Rattle.state_words.specs.Rows.{bundle-condition, bundle-condition-at, bundle-count, bundle-count-at, bundle-row-at, bundle-target}
 use Rattle.state_words.specs.Rows.{bundle-target-at, bundle-word, bundle-word-at, case-set-length, case-set-length-at, case-set-start}
 use Rattle.state_words.specs.Rows.{case-set-start-at, largest, most-bundles, own-edges-from, spare-slot}
+use Rattle.state_words.specs.Rows.{condition-true}
 
 -- ---- The definition's step, by the first row to a bundle's target.
 abbrev pub no-summary : DeferredTargetSummary
@@ -102,7 +103,7 @@ row-within x (t ∷ ts) (suc i) h is = let a = row-within x ts i (omega arith) i
 pub record ShowsRow (g : Graph) (l : List ℕ) (p : ℕ) (t : DeferredTargetSummary) : Type 0 where
   pub target : ShowsTarget g (bundle-target l p) (t .target)
   pub count : bundle-count l p ≡ t .total-edge-count
-  pub condition : bundle-condition l p ≡ 1
+  pub condition : bundle-condition l p ≡ condition-true
   pub size : t .input-count ≡ target-size g (t .target)
   pub few : t .input-count ≤ 4
 

@@ -29,6 +29,7 @@ use Rattle.cfg_planning.specs.Planning.{plan-bundles}
 use Rattle.state_words.specs.Values.{output-from}
 use Rattle.state_words.specs.Rows.{bundle-condition-at, bundle-target, case-body, case-input, case-kind, case-set-length, cases-at}
 use Rattle.state_words.specs.Rows.{no-bundle-word, spare-slot}
+use Rattle.state_words.specs.Rows.{case-claimed}
 
 -- ---- The record stands in front of all that is stored.
 front-inputs : (g : Graph) (l : List ℕ) (q : ℕ) (ps : List ℕ) → SameKinds l (plan-inputs g l q ps .words)
@@ -95,11 +96,11 @@ module _ (l : List ℕ) (j p n : ℕ) (of-length : n ≡ case-set-length l j) wh
     condition-there d e = e ∙ rw (← of-length, ne-eqb n 0 some-left, ne-eqb p 65535 d)
 
 module _ (l : List ℕ) (j v kind : ℕ) (of-kind : kind ≡ case-kind l j) where
-  pub parent-same : (kind ≡ 2 → ⊥) → v ≡ in-parent l j v
+  pub parent-same : (kind ≡ case-claimed → ⊥) → v ≡ in-parent l j v
   unfolding in-parent
   parent-same d = rw (← of-kind, ne-eqb kind 2 d)
 
-  module _ (claimed : kind ≡ 2) {const : Bool} (is-const : const ≡ ltb v output-from) where
+  module _ (claimed : kind ≡ case-claimed) {const : Bool} (is-const : const ≡ ltb v output-from) where
     pub parent-const : const ≡ true → v ≡ in-parent l j v
     unfolding in-parent
     parent-const e = rw (← of-kind, eq-eqb kind 2 claimed, ← is-const, e)

@@ -54,8 +54,8 @@ module _ (t : ℕ) where
         ),
       )
 
-  pub enum-known-number : lts.Need-enum-known-number (called t) (try-claim-edge-bundle-at t) try-claim-edge-bundle.Post
-  enum-known-number c = search needs
+  pub enum-known-why : lts.Need-enum-known-why (called t) (try-claim-edge-bundle-at t) try-claim-edge-bundle.Post
+  enum-known-why c = search needs
 
   pub returns-2 : lts.Need-returns-2 (called t) (try-claim-edge-bundle-at t) try-claim-edge-bundle.Post
   returns-2 c =
@@ -65,7 +65,7 @@ module _ (t : ℕ) where
       let at-if-2 = at-region-state .before .before in
       claim-inside _ (at-if-2 .before .count-attempt .ensures) (at-if-2 .if1 .left) (at-region-state .region-state .ensures)
       (at-if .if2 .taken)
-      (at-structurize-region .structurize-region .ensures) (c .before .number .given .1)
+      (at-structurize-region .structurize-region .ensures) (c .before .why .given .1)
 
   pub enum-told : lts.Need-enum-told (called t) (try-claim-edge-bundle-at t) try-claim-edge-bundle.Post
   enum-told c = search needs
