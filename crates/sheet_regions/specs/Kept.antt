@@ -59,11 +59,11 @@ kept-cells {g} w {r} {h} (one-kept {p = p} {k = k} {wrapper = wrapper} x below f
     let y = kept-cells w before in
     record {
       handles = y .handles ++ (h ∷ []);
-      chain = then-cell {h = h} {hs = y .handles} (omega arith) (rw (x .is-before, lt-ltb p h below) (y .chain)) refl;
+      chain = then-cell {h = h} {hs = y .handles} (omega arith) (rw (x .is 1 (omega arith), lt-ltb p h below) (y .chain)) refl;
       initial = one-more (λ h. value (kept-word w false h)) (y .handles) h a (y .initial)
-          (rw (x .is-a, x .is-b) (sym (value-input wrapper k low few)));
-      types = one-more (kept-type g w r) (y .handles) h b (y .types) (rw (x .is-a));
-      outputs = one-more (λ h. value (kept-word w true h)) (y .handles) h c (y .outputs) (rw (x .is-c) (sym v));
+          (rw (x .is 2 (omega arith), x .is 3 (omega arith)) (sym (value-input wrapper k low few)));
+      types = one-more (kept-type g w r) (y .handles) h b (y .types) (rw (x .is 2 (omega arith)));
+      outputs = one-more (λ h. value (kept-word w true h)) (y .handles) h c (y .outputs) (rw (x .is 4 (omega arith)) (sym v));
     }
 
 -- ---- A loop along the cells: those behind list h are put, n of them.

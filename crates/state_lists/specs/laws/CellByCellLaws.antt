@@ -9,6 +9,7 @@ use native.Mathlib.Decide.{decLt}
 use native.Mathlib.Numerals.{add-one}
 use lib.Dec.{eqb}
 use borrow.Author.Tests.{lt-ltb, le-ltb, eq-eqb, ne-eqb}
+use lib.ListN.{getD}
 use Rattle.meaning.specs.Lists.{pick}
 use Rattle.meaning.specs.Graph.{Graph}
 use Rattle.meaning.specs.Runs.{Nodes, ⟨⟩, _▸_, Cases, exit}
@@ -19,6 +20,8 @@ use Rattle.state_shown.specs.Cells.{CellIs, ShowsNodes, no-nodes, all-blocks, t
 use Rattle.state_shown.specs.Cells.{ShowsCaseCells, no-cases, case-and}
 use Rattle.state_lists.specs.CellByCell.{list-before, added-blocks, added-list, added-exit, added-select, added-loop}
 use Rattle.state_lists.specs.CellByCell.{ListAppended, appends, FirstCase, case-first, case-cell, CaseTotal}
+use Rattle.state_nodes.specs.declared.cells.Cell.{Cell}
+use Rattle.state_nodes.specs.NodeTables.{cell-words}
 
 -- ---- Every list but the empty one ends with a cell, its handle's.
 pub earlier-below : (p h : ℕ) → 1 ≤ h → earlier p h < h
@@ -46,34 +49,36 @@ unfolding list-before
 none-before w h e = rw (eq-eqb (cell-tag w h) tag-loop e)
 
 module _ (w : List ℕ) {h : ℕ} where
-  not-loop : {tag p a b c d : ℕ} → CellIs (section w cells) h tag p a b c d → tag < 5 → p < h → list-before w h ≡ p
+  not-loop : {x : Cell} → CellIs (section w cells) h x → getD (cell-words x) 0 0 < tag-loop → getD (cell-words x) 1 0 < h
+      → list-before w h ≡ getD (cell-words x) 1 0
   unfolding list-before
-  not-loop x t l = rw (ne-eqb (cell-tag w h) tag-loop (λ z. omega (arith, x .is-tag)), earlier-is (x .is-before) l)
+  not-loop x t l =
+      rw (ne-eqb (cell-tag w h) tag-loop (λ z. omega (arith, x .is 0 (omega arith))), earlier-is (x .is 1 (omega arith)) l)
 
 module _ {g : Graph} (w : List ℕ) {h : ℕ} where
   pub appended : {ks : Nodes} → ShowsNodes g (section w cells) h ks → 1 ≤ h → ListAppended g w h ks
   appended (no-nodes e) b = absurd (omega arith)
   appended {ks} (all-blocks x _ some e) b =
       appends {ns = ⟨⟩} {ms = ks} (no-nodes (not-loop w x (omega arith) b))
-      (rw (x .is-tag) (added-blocks (rw (x .is-a) some) (rw (x .is-a) e))) refl
+      (rw (x .is 0 (omega arith)) (added-blocks (rw (x .is 2 (omega arith)) some) (rw (x .is 2 (omega arith)) e))) refl
   appended (two-lists {ns = ns} {ms = ms} x _ p _ q a b e) _ =
-      appends {ns = ns} {ms = ms} (rw (not-loop w x (omega arith) p) a) (rw (x .is-tag) (added-list (rw (earlier-is (x .is-a) q) b))) e
+      appends {ns = ns} {ms = ms} (rw (not-loop w x (omega arith) p) a) (rw (x .is 0 (omega arith)) (added-list (rw (earlier-is (x .is 2 (omega arith)) q) b))) e
   appended (then-exit {n = n} {op = op} {vs = vs} {ns = ns} x p a t e) _ =
       appends {ns = ns} {ms = exit n op vs ▸ ⟨⟩} (rw (not-loop w x (omega arith) p) a)
-      (rw (x .is-tag) (added-exit {op = op} {vs = vs} (rw (x .is-b) t) (rw (x .is-a)))) e
+      (rw (x .is 0 (omega arith)) (added-exit {op = op} {vs = vs} (rw (x .is 3 (omega arith)) t) (rw (x .is 2 (omega arith))))) e
   appended (then-select {n = n} {kind = kind} {v = v} {cs = cs} {ns = ns} x p q a shape t c e) _ =
       appends {ns = ns} {ms = new-select n kind v cs ▸ ⟨⟩} (rw (not-loop w x (omega arith) p) a)
-      (rw (x .is-tag) (added-select {kind = kind} {v = v} {cs = cs} (rw (x .is-b) shape) (rw (x .is-c) t) (rw (earlier-is (x .is-d) q) c)
-      (rw (x .is-a)))) e
+      (rw (x .is 0 (omega arith)) (added-select {kind = kind} {v = v} {cs = cs} (rw (x .is 3 (omega arith)) shape) (rw (x .is 4 (omega arith)) t) (rw (earlier-is (x .is 5 (omega arith)) q) c)
+      (rw (x .is 2 (omega arith))))) e
   appended {ks} (the-loop {v = v} {ns = ns} y x p q a t kept e) _ =
-      appends {ns = ⟨⟩} {ms = ks} (no-nodes (none-before w h (x .is-tag)))
-      (rw (x .is-tag) (added-loop {v = v} {ns = ns} y (rw (earlier-is (x .is-before) p) a) (rw (x .is-c) t)
-      (rw (x .is-b, earlier-is (x .is-d) q) kept) (rw (x .is-a, x .is-b) e))) refl
+      appends {ns = ⟨⟩} {ms = ks} (no-nodes (none-before w h (x .is 0 (omega arith))))
+      (rw (x .is 0 (omega arith)) (added-loop {v = v} {ns = ns} y (rw (earlier-is (x .is 1 (omega arith)) p) a) (rw (x .is 4 (omega arith)) t)
+      (rw (x .is 3 (omega arith), earlier-is (x .is 5 (omega arith)) q) kept) (rw (x .is 2 (omega arith), x .is 3 (omega arith)) e))) refl
 
   pub first-case : {cs : Cases} → ShowsCaseCells g (section w cells) h cs → 1 ≤ h → FirstCase g w h cs
   first-case (no-cases e) b = absurd (omega arith)
   first-case (case-and {ns = ns} {cs = cs} x p q a c e) b =
-      case-first {ns = ns} {cs = cs} (rw (earlier-is (x .is-b) q) a) (rw (earlier-is (x .is-before) p) c) (rw (x .is-a) e)
+      case-first {ns = ns} {cs = cs} (rw (earlier-is (x .is 3 (omega arith)) q) a) (rw (earlier-is (x .is 1 (omega arith)) p) c) (rw (x .is 2 (omega arith)) e)
 
 -- ---- Cases by place.
 pub earlier-within : (p h : ℕ) → earlier p h ≤ h

@@ -37,17 +37,8 @@ use Rattle.state_words.specs.Rows.{cell-row-at, cell-row-size, cell-word-at, ce
 
 -- ---- Lists before a run of words stay.
 module _ (g : Graph) (l : List ℕ) (i : ℕ) (xs : List ℕ) where
-  cell-before : {h tag before a b c d : ℕ} → CellIs l h tag before a b c d → cell-row-at h + cell-row-size ≤ i
-      → CellIs (sets l i xs) h tag before a b c d
-  cell-before {h} x n =
-      record {
-        is-tag = run-before l i xs (cell-word-at h 0) (omega arith) ∙ x .is-tag;
-        is-before = run-before l i xs (cell-word-at h 1) (omega arith) ∙ x .is-before;
-        is-a = run-before l i xs (cell-word-at h 2) (omega arith) ∙ x .is-a;
-        is-b = run-before l i xs (cell-word-at h 3) (omega arith) ∙ x .is-b;
-        is-c = run-before l i xs (cell-word-at h 4) (omega arith) ∙ x .is-c;
-        is-d = run-before l i xs (cell-word-at h 5) (omega arith) ∙ x .is-d;
-      }
+  cell-before : {h : ℕ} {x : Cell} → CellIs l h x → cell-row-at h + cell-row-size ≤ i → CellIs (sets l i xs) h x
+  cell-before {h} x n = record { is = λ k b. run-before l i xs (cell-word-at h k) (omega arith) ∙ x .is k b }
 
   kept-before : {r h : ℕ} {is os : List Value} {ts : List ℕ} → ShowsKept g l r h is ts os → cell-row-at h + cell-row-size ≤ i
       → ShowsKept g (sets l i xs) r h is ts os
@@ -116,10 +107,7 @@ module _ {w w′ : List ℕ} {x : Cell} {h : ℕ} (step : Adds w w′ x h) (free
   cells-after = ap (λ l. section l cells) (is-added .words) ∙ section-other with-cell head cells-at (h + 1) cells (omega arith)
       ∙ section-run w cells (cell-row-at h) (cell-words x)
 
-  abbrev word-of : ℕ → ℕ
-  word-of i = getD (cell-words x) i 0
-
-  pub cell-there : CellIs (section w′ cells) h (word-of 0) (word-of 1) (word-of 2) (word-of 3) (word-of 4) (word-of 5)
+  pub cell-there : CellIs (section w′ cells) h x
   cell-there =
       let six = six-words x in
       let l = section w cells in
@@ -127,15 +115,7 @@ module _ {w w′ : List ℕ} {x : Cell} {h : ℕ} (step : Adds w w′ x h) (free
       let b = is-added .below in
       let at : (k : ℕ) → k < 6 → getD (sets l (cell-row-at h) (cell-words x)) (cell-word-at h k) 0 ≡ getD (cell-words x) k 0 =
       λ k i. run-in l (cell-row-at h) (cell-words x) k (omega arith) (rw six i) in
-      rw cells-after
-      record {
-        is-tag = at 0 (omega arith);
-        is-before = at 1 (omega arith);
-        is-a = at 2 (omega arith);
-        is-b = at 3 (omega arith);
-        is-c = at 4 (omega arith);
-        is-d = at 5 (omega arith);
-      }
+      rw cells-after (record { is = at })
 
   conditions-after : (m : ℕ) → ConditionsStay m w w′
   conditions-after m =

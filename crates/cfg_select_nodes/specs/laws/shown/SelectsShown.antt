@@ -141,9 +141,9 @@ module _ (g : Graph) (cs : List MaybeClaimedRegion) (r : ℕ) (below : r < 32) w
       rw e
       record {
         nodes = children-set g l₂ room₃ r below chosen;
-        is-node = ap (λ l. getD l (cell-word-at h 2) 0) same ∙ there .is-a;
-        is-shape = ap (λ l. getD l (cell-word-at h 3) 0) same ∙ there .is-b;
-        is-scrutinee = ap (λ l. getD l (cell-word-at h 4) 0) same ∙ there .is-c;
+        is-node = ap (λ l. getD l (cell-word-at h 2) 0) same ∙ there .is 2 (omega arith);
+        is-shape = ap (λ l. getD l (cell-word-at h 3) 0) same ∙ there .is 3 (omega arith);
+        is-scrutinee = ap (λ l. getD l (cell-word-at h 4) 0) same ∙ there .is 4 (omega arith);
         is-made = (let z = c .same-head cells-at in omega arith);
         tables = same-then (tables-by (m .changes) (omega arith) (λ q a b e. b e)) (same-then (cell-tables y free₂ room₂) (c .tables));
         step = step-then (step-by (m .changes) (omega arith) (omega arith) (omega arith) (omega arith) g r (m .made-stays))
