@@ -7,7 +7,7 @@ FLASH = 896 * 1024
 ROOT = pathlib.Path(__file__).resolve().parents[2]
 sys.path.insert(0, str(ROOT / "bench"))
 
-from packed import packed, stores       # noqa: E402  (found by the line above)
+from packed import packed, stores  # noqa: E402  (found by the line above)
 
 
 def refuse(sentence):

@@ -6,8 +6,8 @@ import statistics
 import sys
 
 CALLS = "accept", "nesting", "whole"
-OTHER = 256     # bytes for the caller's own frame, and for an interrupt's
-NAMED = 5       # lines of case A and the four chains
+OTHER = 256  # bytes for the caller's own frame, and for an interrupt's
+NAMED = 5  # lines of case A and the four chains
 COUNTS = {"--room": 2, "--budget": 3}
 
 
@@ -38,10 +38,14 @@ def budget(lines, state, board, words):
     stack = deepest(lines)
     left = board - state - stack - OTHER
     fit = sum(state + line.stack[2] + OTHER + 4 * line.sheet <= board for line in lines if line.sheet)
-    print(f"  {board:,} bytes: state {state:,}, deepest stack {stack:,}, caller {OTHER:,}, " +
-          (f"left for the sheet {left:,}, {words:,} words" if left > 0 else f"{-left:,} too many even without a sheet"))
-    print(f"  records for which state, own stack, caller and own sheet are no more than that: "
-          f"{fit:,} of the {sum(line.sheet > 0 for line in lines):,} that have a sheet")
+    print(
+        f"  {board:,} bytes: state {state:,}, deepest stack {stack:,}, caller {OTHER:,}, "
+        + (f"left for the sheet {left:,}, {words:,} words" if left > 0 else f"{-left:,} too many even without a sheet")
+    )
+    print(
+        f"  records for which state, own stack, caller and own sheet are no more than that: "
+        f"{fit:,} of the {sum(line.sheet > 0 for line in lines):,} that have a sheet"
+    )
 
 
 def refuse(sentence):

@@ -4,7 +4,7 @@ import os
 import sys
 
 
-def number(text):
+def whole(text):
     """A number from 0 on."""
     if not text.isdecimal():
         raise ValueError(f"`{text}` is no number")

@@ -16,7 +16,7 @@ from reading.record import refer, words_of
 from reading.runs import differs, rule
 from reading.sheet import CLOSED, OUTCOMES, WHOLE, nest
 from reading.store import Refused, pack
-from .arguments import arguments, number
+from .arguments import arguments, whole
 from .records import records
 
 RUNS, BUDGET = 8, 120
@@ -55,12 +55,16 @@ def claims(seed, wanted):
         if result.outcome not in (WHOLE, CLOSED):
             continue
         for _ in range(RUNS):
-            wrong, end, run = differs(result, words(rng, len(record.constants)),
-                                      words(rng, len(record.regions[record.entry].inputs)),
-                                      rule(rng.getrandbits(32)), BUDGET)
+            wrong, end, run = differs(
+                result,
+                words(rng, len(record.constants)),
+                words(rng, len(record.regions[record.entry].inputs)),
+                rule(rng.getrandbits(32)),
+                BUDGET,
+            )
             if isinstance(end, str):
                 seen[f"runs without an end: {end}"] += 1
-                if end == "budget":     # a loop without a way out, most often
+                if end == "budget":  # a loop without a way out, most often
                     break
                 continue
             seen["runs that end"] += 1
@@ -78,4 +82,4 @@ def claims(seed, wanted):
 
 
 if __name__ == "__main__":
-    claims(*arguments(__doc__, number, number))
+    claims(*arguments(__doc__, whole, whole))

@@ -19,7 +19,7 @@ from reading.record import refer, words_of
 from reading.sheet import nest, text
 from reading.store import Refused, pack
 from reading.unmarked import Panic, Unmarked
-from .arguments import arguments, number, source
+from .arguments import arguments, whole, source
 from .records import records
 
 TOOL = pathlib.Path(__file__).resolve().parents[2] / "tools" / "beside"
@@ -92,4 +92,4 @@ def main(source, seed, count):
 
 
 if __name__ == "__main__":
-    main(*arguments(__doc__, source, number, number))
+    main(*arguments(__doc__, source, whole, whole))

@@ -3,54 +3,51 @@
 from reading.record import CONST, INPUT, INSTR, RETURN, UNDEF, words_of
 from reading.store import BLOCK, WORDS, blocks, check, pack, payload
 
-EDGES = (0, 1, 2, 3, 4, 5, 6, 7, 8, 9, 31, 32, 33, 63, 64, 65, 255, 256, 4047, 4048, 4049,
-         32768, 65534, 65535)
+EDGES = (0, 1, 2, 3, 4, 5, 6, 7, 8, 9, 31, 32, 33, 63, 64, 65, 255, 256, 4047, 4048, 4049, 32768, 65534, 65535)
 
 
 def repaired(store):
     """The same blocks with right checks."""
-    return b"".join(store[at:at + 508] + check(store[at:at + BLOCK]).to_bytes(4, "little")
-                    for at in range(0, len(store), BLOCK))
+    return b"".join(store[at : at + 508] + check(store[at : at + BLOCK]).to_bytes(4, "little") for at in range(0, len(store), BLOCK))
 
 
 def length(rng, store):
     if rng.random() < 0.5:
-        return store[:rng.randrange(len(store))]
+        return store[: rng.randrange(len(store))]
     return store + bytes(rng.choice((1, 2, 10, 508, 511)))
 
 
 def byte(rng, store):
     at = rng.randrange(len(store))
-    return store[:at] + bytes([store[at] ^ 1 << rng.randrange(8)]) + store[at + 1:]
+    return store[:at] + bytes([store[at] ^ 1 << rng.randrange(8)]) + store[at + 1 :]
 
 
 def number(rng, store):
     at = rng.randrange(len(store) // BLOCK) * BLOCK + rng.randrange(2)
-    bad = store[:at] + bytes([store[at] ^ rng.randint(1, 255)]) + store[at + 1:]
+    bad = store[:at] + bytes([store[at] ^ rng.randint(1, 255)]) + store[at + 1 :]
     return repaired(bad) if rng.random() < 0.5 else bad
 
 
 def checked(rng, store):
     at = rng.randrange(len(store) // BLOCK) * BLOCK + 508 + rng.randrange(4)
-    return store[:at] + bytes([store[at] ^ rng.randint(1, 255)]) + store[at + 1:]
+    return store[:at] + bytes([store[at] ^ rng.randint(1, 255)]) + store[at + 1 :]
 
 
 def swapped(rng, store):
     """Two payload bytes or two blocks exchanged."""
     if len(store) > BLOCK and rng.random() < 0.5:
         one, two = sorted(rng.sample(range(len(store) // BLOCK), 2))
-        cut = [store[at:at + BLOCK] for at in range(0, len(store), BLOCK)]
+        cut = [store[at : at + BLOCK] for at in range(0, len(store), BLOCK)]
         cut[one], cut[two] = cut[two], cut[one]
         return b"".join(cut)
     at = rng.randrange(2, 507)
-    return store[:at] + store[at + 1:at + 2] + store[at:at + 1] + store[at + 2:]
+    return store[:at] + store[at + 1 : at + 2] + store[at : at + 1] + store[at + 2 :]
 
 
 def used(rng, store):
     """Another W."""
     words = payload(store)
-    words[0] = rng.choice((0, 1, words[0] - 1, words[0] + 1, WORDS, WORDS + 1, words[0] + WORDS,
-                           65535, rng.randrange(4100)))
+    words[0] = rng.choice((0, 1, words[0] - 1, words[0] + 1, WORDS, WORDS + 1, words[0] + WORDS, 65535, rng.randrange(4100)))
     return blocks(words)
 
 
@@ -58,16 +55,14 @@ def after(rng, store):
     """A word after W that is not zero, if there is one."""
     words = payload(store)
     if words[0] < len(words):
-        words[rng.choice((words[0], len(words) - 1, rng.randrange(words[0], len(words))))] = \
-            rng.randint(1, 65535)
+        words[rng.choice((words[0], len(words) - 1, rng.randrange(words[0], len(words))))] = rng.randint(1, 65535)
     return blocks(words)
 
 
 def count(rng, store):
     """A block too many or too few."""
     words = payload(store)
-    return blocks(words + [0] * WORDS if rng.random() < 0.5 or len(words) == WORDS
-                  else words[:-WORDS])
+    return blocks(words + [0] * WORDS if rng.random() < 0.5 or len(words) == WORDS else words[:-WORDS])
 
 
 def word(rng, store):
@@ -75,18 +70,17 @@ def word(rng, store):
     words = payload(store)
     for _ in range(rng.choice((1, 1, 1, 2, 3))):
         at = rng.randrange(1, words[0]) if words[0] > 1 else 0
-        words[at] = rng.choice((rng.choice(EDGES), words[at] + 1 & 65535, words[at] - 1 & 65535,
-                                rng.randrange(65536)))
+        words[at] = rng.choice((rng.choice(EDGES), words[at] + 1 & 65535, words[at] - 1 & 65535, rng.randrange(65536)))
     return blocks(words)
 
 
 def moved(rng, store):
     """Words left out or put in, with W put right or not."""
     words = payload(store)
-    record = words[1:words[0]]
+    record = words[1 : words[0]]
     at, size = rng.randint(0, len(record)), rng.randint(1, 3)
     if rng.random() < 0.5:
-        del record[at:at + size]
+        del record[at : at + size]
     else:
         record[at:at] = [rng.choice(EDGES[:9]) for _ in range(size)]
     return pack(record[:4047])
@@ -100,24 +94,35 @@ def meaning(rng, record):
     choice = rng.randrange(9)
 
     def value():
-        return rng.choice((
-            (CONST, 0, rng.choice((len(record.constants), 0, 64))), (CONST, 1, 0),
-            (INPUT, here, len(region.inputs)), (INPUT, (here + 1) % count, 0), (INPUT, 33, 0),
-            (INSTR, here, len(region.insts)), (INSTR, (here + 1) % count, 0),
-            (INSTR, here, max(0, len(region.insts) - 1)),
-            (4, 0, 2), (4, here + 1, 0), (UNDEF, 0, rng.choice((1, 2, 3, 255, 256, 0))),
-            (UNDEF, 1, 1), (3, 0, 0), (6, 0, 0), (65535, 0, 0)))
+        return rng.choice(
+            (
+                (CONST, 0, rng.choice((len(record.constants), 0, 64))),
+                (CONST, 1, 0),
+                (INPUT, here, len(region.inputs)),
+                (INPUT, (here + 1) % count, 0),
+                (INPUT, 33, 0),
+                (INSTR, here, len(region.insts)),
+                (INSTR, (here + 1) % count, 0),
+                (INSTR, here, max(0, len(region.insts) - 1)),
+                (4, 0, 2),
+                (4, here + 1, 0),
+                (UNDEF, 0, rng.choice((1, 2, 3, 255, 256, 0))),
+                (UNDEF, 1, 1),
+                (3, 0, 0),
+                (6, 0, 0),
+                (65535, 0, 0),
+            )
+        )
 
     if choice == 0:
         record.entry = rng.choice((count, count + 1, 65535))
     elif choice == 1 and region.insts:
         inst = rng.choice(region.insts)
-        inst.reads = [*inst.reads[:rng.randint(0, 2)], value()]
+        inst.reads = [*inst.reads[: rng.randint(0, 2)], value()]
     elif choice == 2 and region.values:
         region.values = [*region.values[:-1], value()]
     elif choice == 3 and region.kind == RETURN:
-        region.values = [*region.values[:3], (UNDEF, 0, 1)] if rng.random() < 0.5 \
-            else region.values[:-1]
+        region.values = [*region.values[:3], (UNDEF, 0, 1)] if rng.random() < 0.5 else region.values[:-1]
     elif choice == 4 and region.targets:
         old = rng.choice(region.targets)
         new = rng.choice((count, 31, 32, 65535))
@@ -125,8 +130,7 @@ def meaning(rng, record):
         region.passed = {new if t == old else t: v for t, v in region.passed.items()}
     elif choice == 5 and region.passed:
         target = rng.choice(list(region.passed))
-        region.passed[target] = rng.choice((region.passed[target] + [(UNDEF, 0, 2)],
-                                            region.passed[target][:-1]))
+        region.passed[target] = rng.choice((region.passed[target] + [(UNDEF, 0, 2)], region.passed[target][:-1]))
     elif choice == 6 and any(region.passed.values()):
         target = rng.choice([t for t, v in region.passed.items() if v])
         values = list(region.passed[target])

@@ -13,7 +13,7 @@ import itertools
 
 from reading.record import BRANCH, CONST, IF, SWITCH, TRUE, Inst, words_of
 from reading.store import pack
-from .arguments import arguments, number
+from .arguments import arguments, whole
 from .records import records
 from .stores import only, plain
 
@@ -31,17 +31,24 @@ def chain_of_loops():
     last, backward = REGIONS - 1, 5
     first = last - backward
     back = [[header for header in range(1 + 7 * part, 8 + 7 * part) if header < last] for part in range(backward)]
-    return only(*[link(BRANCH, [at + 1], blocks=BLOCK) for at in range(first)],
-                *[link(SWITCH, back[at - first] + [at + 1], values=[(CONST, 0, 0)], blocks=BLOCK) for at in range(first, last)],
-                plain(), constants=[2])
+    return only(
+        *[link(BRANCH, [at + 1], blocks=BLOCK) for at in range(first)],
+        *[link(SWITCH, back[at - first] + [at + 1], values=[(CONST, 0, 0)], blocks=BLOCK) for at in range(first, last)],
+        plain(),
+        constants=[2],
+    )
 
 
 def chains():
     last = REGIONS - 1
     yield only(*[link(BRANCH, [at + 1], blocks=BLOCK) for at in range(last)], plain())
     yield only(*[link(IF, [at + 1, last], values=[TRUE]) for at in range(last - 1)], link(BRANCH, [last]), plain())
-    yield only(*[link(SWITCH, [last] * 3 + [at + 1], values=[(CONST, 0, 0)], blocks=BLOCK) for at in range(last - 1)],
-               link(BRANCH, [last]), plain(), constants=[2])
+    yield only(
+        *[link(SWITCH, [last] * 3 + [at + 1], values=[(CONST, 0, 0)], blocks=BLOCK) for at in range(last - 1)],
+        link(BRANCH, [last]),
+        plain(),
+        constants=[2],
+    )
     yield chain_of_loops()
 
 
@@ -53,4 +60,4 @@ def main(seed, count):
 
 
 if __name__ == "__main__":
-    main(*arguments(__doc__, number, number))
+    main(*arguments(__doc__, whole, whole))

@@ -14,11 +14,13 @@ HEADER = ROOT / "interface" / "rukvetta.h"
 
 class Missing(Exception):
     """Something that is needed is not there; its text is the sentence to print. Status 2 where the command names it."""
+
     status = 3
 
 
 class NoLibrary(Missing):
     """A folder that was named has not our library."""
+
     status = 2
 
 
@@ -56,8 +58,9 @@ def linked(folder, into):
         raise wrong(f"{beside} has other numbers than interface/rukvetta.h: the library is of another version")
     if not shutil.which("cc"):
         raise Missing("this needs a C compiler (cc) to link the library for Python; Debian: gcc")
-    done = subprocess.run(["cc", "-shared", "-o", path, "-Wl,--whole-archive", archive, "-Wl,--no-whole-archive"],
-                          capture_output=True, text=True)
+    done = subprocess.run(
+        ["cc", "-shared", "-o", path, "-Wl,--whole-archive", archive, "-Wl,--no-whole-archive"], capture_output=True, text=True
+    )
     if done.returncode:
         raise wrong(f"cc could not link {archive}: {done.stderr.strip()}")
     if not hasattr(ctypes.CDLL(str(path)), "rukvetta_nest"):
@@ -82,21 +85,21 @@ class Library:
         ctypes.memmove(self.state, self.state_was, len(self.state_was))
         ctypes.memmove(self.out, self.out_was, len(self.out_was))
         answer = self.nest(store, len(store), ctypes.addressof(self.state), ctypes.addressof(self.out), lent)
-        return answer >> 32, answer & 0xffffffff
+        return answer >> 32, answer & 0xFFFFFFFF
 
     def sheet(self, n):
         return list(self.out[:n])
 
     def kept(self, n):
         """Whether the lent words behind the first n are as lent."""
-        return memoryview(self.out).cast("B")[4 * n:] == self.out_was[4 * n:]
+        return memoryview(self.out).cast("B")[4 * n :] == self.out_was[4 * n :]
 
     def state_right(self, front, number):
         """Whether the record's words stand in front; and, after a refusal 1 to 8, all else as lent, but for the index."""
         state = memoryview(self.state).cast("B")
-        if state[:len(front)] != front:
+        if state[: len(front)] != front:
             return False
         if number in range(1, 9):
             first, last = (2 * INDEX.start, 2 * INDEX.stop) if front else (len(front), len(front))
-            return state[len(front):first] == self.state_was[len(front):first] and state[last:] == self.state_was[last:]
+            return state[len(front) : first] == self.state_was[len(front) : first] and state[last:] == self.state_was[last:]
         return True

@@ -16,7 +16,6 @@ MOST = {"regions": 128, "node outputs": 512, "conditions": 512}
 
 
 class Unlimited(Nesting):
-
     def within(self, defined, most):
         pass
 
@@ -36,8 +35,12 @@ def limits(rng, times):
         above = {what: count - MOST[what] for what, count in zip(MOST, defined)}
         most = max(above.values())
         for what in MOST:
-            if most in (0, 1) and above[what] == most and len(found[what, most]) < times \
-                    and sum(over > 0 for over in above.values()) == most:
+            if (
+                most in (0, 1)
+                and above[what] == most
+                and len(found[what, most]) < times
+                and sum(over > 0 for over in above.values()) == most
+            ):
                 found[what, most].append(made)
     return found
 
@@ -54,8 +57,7 @@ def long_sheet(chain, others, spare):
         onward = [at + 1] if at + 1 < chain else []
         targets = onward + [ends[(7 * at + j) % others] for j in range(8 - len(onward))]
         passed = {target: [(INSTR, at, 0)] * 4 if target in ends else [] for target in targets}
-        regions.append(Region([], [[Inst(1, 1, 0, [])]], 1, SWITCH, 0, [(INSTR, at, 0)], targets,
-                              passed, list(ends) if at == 0 else []))
+        regions.append(Region([], [[Inst(1, 1, 0, [])]], 1, SWITCH, 0, [(INSTR, at, 0)], targets, passed, list(ends) if at == 0 else []))
     regions += [Region([1] * 4, [], 1, UNREACHABLE) for _ in ends]
     made = Record(0, 0, [], regions)
     room = 4047 - spare - len(words_of(made))

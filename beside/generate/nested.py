@@ -21,11 +21,11 @@ SEED = 11
 LISTS = pathlib.Path(__file__).resolve().parents[1] / "lists"
 STORES = LISTS / "stores.vectors"
 
-KEPT = 65536        # a vector of so many bytes is not kept whole (crates/vectors)
-SHORT = 6000        # every shorter sheet of sheets.vectors is taken
-LONGER = 20         # and so many of the others
-OTHERS = 300        # sheets of stores.vectors
-SMALL = 1024        # the longest refused store of stores.vectors
+KEPT = 65536  # a vector of so many bytes is not kept whole (crates/vectors)
+SHORT = 6000  # every shorter sheet of sheets.vectors is taken
+LONGER = 20  # and so many of the others
+OTHERS = 300  # sheets of stores.vectors
+SMALL = 1024  # the longest refused store of stores.vectors
 
 
 def words_of(store):
@@ -70,15 +70,17 @@ def words_changed(change):
 
 
 # Answers that are wrong on purpose: of a refusal or a sheet, and what is done to its words and its text.
-WRONG = ((False, words_changed(lambda sheet: [*sheet[:-3], sheet[-3] ^ 1, *sheet[-2:]])),
-         (False, words_changed(lambda sheet: [*sheet, 0])),
-         (False, words_changed(lambda sheet: sheet[:-1])),
-         (False, text_changed(next_digit)),
-         (True, text_changed(refusal(1, 0))),
-         (True, text_changed(refusal(0, 1))),
-         (True, words_changed(lambda sheet: [0])),
-         (True, lambda sheet, text: ([0, 0, 0, 0], "untouched figure - attempts 0 twice 0\n")),
-         (False, lambda sheet, text: ([], "refused 9 0\n")))
+WRONG = (
+    (False, words_changed(lambda sheet: [*sheet[:-3], sheet[-3] ^ 1, *sheet[-2:]])),
+    (False, words_changed(lambda sheet: [*sheet, 0])),
+    (False, words_changed(lambda sheet: sheet[:-1])),
+    (False, text_changed(next_digit)),
+    (True, text_changed(refusal(1, 0))),
+    (True, text_changed(refusal(0, 1))),
+    (True, words_changed(lambda sheet: [0])),
+    (True, lambda sheet, text: ([0, 0, 0, 0], "untouched figure - attempts 0 twice 0\n")),
+    (False, lambda sheet, text: ([], "refused 9 0\n")),
+)
 
 
 def wrong(rng, good):

@@ -3,8 +3,7 @@
 import random
 
 from reading.loops import loop_exits
-from reading.record import (BOOL, CONST, EXIT, IF, INPUT, INSTR, RETURN, SWITCH, UNDEF,
-                            Inst, Record, Region, words_of)
+from reading.record import BOOL, CONST, EXIT, IF, INPUT, INSTR, RETURN, SWITCH, UNDEF, Inst, Record, Region, words_of
 from .shapes import shape
 
 
@@ -17,8 +16,7 @@ def exit_lists(rng, entry, nodes, style=None):
     if style == "random":
         some = rng.choice((0.1, 0.3))
         named = [r for r in range(count) if r != entry or rng.random() < 0.1]
-        return [rng.sample(named, rng.randint(1, min(len(named), 3)))
-                if named and rng.random() < some else [] for _ in nodes]
+        return [rng.sample(named, rng.randint(1, min(len(named), 3))) if named and rng.random() < some else [] for _ in nodes]
     exits = loop_exits(entry, [kind for kind, _ in nodes], [targets for _, targets in nodes])
     if style == "damaged":
         for _ in range(rng.randint(1, 3)):
@@ -41,17 +39,17 @@ class Filler:
         self.constants = [rng.choice(self.types) for _ in range(rng.choice((0, 1, 2, 2, 3, 6)))]
         most = rng.choice((0, 1, 2, 2, 3, 4, 4)) if most is None else most
         self.variables = [rng.choice(self.types) for _ in range(most)]
-        every = rng.random() < 0.4      # every region takes every variable
+        every = rng.random() < 0.4  # every region takes every variable
         self.takes = []
         for number in range(len(nodes)):
             some = [v for v in range(most) if every or rng.random() < 0.6]
             if not every and rng.random() < 0.2:
                 rng.shuffle(some)
             self.takes.append([] if number == entry and rng.random() < 0.6 else some)
-        keep = rng.choice((0.3, 0.6, 0.8, 0.95))        # how often a variable stays itself
+        keep = rng.choice((0.3, 0.6, 0.8, 0.95))  # how often a variable stays itself
         self.keep = [rng.choice((keep, keep, 1, 0.2)) for _ in range(most)]
         self.undefined = rng.choice((0, 0.02, 0.1, 0.3))
-        self.busy = rng.choice((0.3, 0.6, 1.0, 1.6))    # instructions for each region
+        self.busy = rng.choice((0.3, 0.6, 1.0, 1.6))  # instructions for each region
         self.returned = [rng.choice(self.types) for _ in range(rng.choice((0, 1, 1, 2, 4)))]
         self.loops = rng.choice((1, 2, 3, 10, 100, 65535))
 
@@ -68,10 +66,8 @@ class Filler:
     def known(self, number, here, type):
         """What may be used in a region: its inputs, its instructions, the constants."""
         inputs = self.takes[number]
-        known = [(INPUT, number, k) for k, v in enumerate(inputs)
-                 if type in (None, self.variables[v])]
-        known += [(INSTR, number, k) for k, inst in enumerate(here)
-                  if inst.type and type in (None, inst.type)]
+        known = [(INPUT, number, k) for k, v in enumerate(inputs) if type in (None, self.variables[v])]
+        known += [(INSTR, number, k) for k, inst in enumerate(here) if inst.type and type in (None, inst.type)]
         return known
 
     def any(self, number, here, type=None):
@@ -111,11 +107,14 @@ class Filler:
             values = [self.any(number, here) for _ in range(rng.choice((0, 0, 1, 2, 4)))]
         elif kind in (IF, SWITCH):
             if rng.random() < 0.8 and len(here) < 60:
-                here.append(Inst(rng.randint(0, 20), 1 if kind == IF else rng.choice(self.types),
-                                 rng.randint(0, 9), [self.any(number, here)]))
-            values = [(INSTR, number, len(here) - 1) if here and rng.random() < 0.6 and
-                      here[-1].type in ((1,) if kind == IF else self.types) else
-                      self.any(number, here, 1 if kind == IF else None)]
+                here.append(
+                    Inst(rng.randint(0, 20), 1 if kind == IF else rng.choice(self.types), rng.randint(0, 9), [self.any(number, here)])
+                )
+            values = [
+                (INSTR, number, len(here) - 1)
+                if here and rng.random() < 0.6 and here[-1].type in ((1,) if kind == IF else self.types)
+                else self.any(number, here, 1 if kind == IF else None)
+            ]
         blocks, rest = [], here
         while rest:
             size = len(rest) if len(blocks) == 7 else rng.randint(1, min(8, len(rest)))
@@ -127,12 +126,15 @@ class Filler:
             if target not in passed:
                 passed[target] = self.passed(number, here, target)
         types = [self.variables[v] for v in self.takes[number]]
-        return Region(types, blocks, rng.randint(1, self.loops), kind, opcode, values, targets,
-                      passed, exits)
+        return Region(types, blocks, rng.randint(1, self.loops), kind, opcode, values, targets, passed, exits)
 
     def record(self, exits):
-        return Record(self.entry, self.rng.choice((0, 1, 2, 5, 65535)), self.constants,
-                      [self.region(number, exits[number]) for number in range(len(self.nodes))])
+        return Record(
+            self.entry,
+            self.rng.choice((0, 1, 2, 5, 65535)),
+            self.constants,
+            [self.region(number, exits[number]) for number in range(len(self.nodes))],
+        )
 
 
 def record(rng, most=32, make=None, exits=None, inputs=None):

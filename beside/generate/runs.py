@@ -12,8 +12,25 @@ import pathlib
 import random
 
 from reading.nesting import Nesting
-from reading.record import (BRANCH, CONST, EXIT, FALSE, HELD, IF, INPUT, INSTR, OUTPUT, SWITCH, TRUE,
-                            UNDEF, Inst, Record, joined, refer, words_of)
+from reading.record import (
+    BRANCH,
+    CONST,
+    EXIT,
+    FALSE,
+    HELD,
+    IF,
+    INPUT,
+    INSTR,
+    OUTPUT,
+    SWITCH,
+    TRUE,
+    UNDEF,
+    Inst,
+    Record,
+    joined,
+    refer,
+    words_of,
+)
 from reading.runs import NestedRun, graph_run
 from reading.sheet import CLOSED, OUTCOMES, WHOLE, nest
 from reading.store import Refused, pack
@@ -23,9 +40,9 @@ from .records import record
 from .stores import plain
 
 SEED, BUDGET, WORD = 11, 256, 1 << 32
-MOST, EACH = 400, 12            # vectors in all, and for each feature
-EVENTS, TURNS = 40, 60          # at most, of what is drawn
-DRAWS, RUNS = 15000, 8          # records, and runs of each
+MOST, EACH = 400, 12  # vectors in all, and for each feature
+EVENTS, TURNS = 40, 60  # at most, of what is drawn
+DRAWS, RUNS = 15000, 8  # records, and runs of each
 LISTS = pathlib.Path(__file__).resolve().parents[1] / "lists"
 
 
@@ -35,13 +52,13 @@ class Long(Exception):
 
 # What a run is written as.
 
+
 def words_text(words):
     return joined("u" if word is None else word for word in words)
 
 
 def events_text(events):
-    return ";".join(f"{region}.{place}/{opcode}/{words_text(reads)}"
-                    for region, place, opcode, reads in events) or "-"
+    return ";".join(f"{region}.{place}/{opcode}/{words_text(reads)}" for region, place, opcode, reads in events) or "-"
 
 
 def end_text(end):
@@ -61,6 +78,7 @@ def nested_line(run):
 
 
 # What is watched for.
+
 
 class Frame:
     """A select or a loop that the run stands in; of a loop its body and the turns begun."""
@@ -103,18 +121,17 @@ class Watched(NestedRun):
         super().loop(loop)
         self.inside.pop()
         limit = self.result.record.regions[loop.body].limit
-        self.seen.add("turns below the limit" if frame.turns < limit else
-                      "turns at the limit" if frame.turns == limit else "turns past the limit")
+        self.seen.add(
+            "turns below the limit" if frame.turns < limit else "turns at the limit" if frame.turns == limit else "turns past the limit"
+        )
         outs = self.result.regions[loop.body].outs
-        if frame.turns > 1 and any(value[0] == HELD and value[1] == loop.body and value[2] < place
-                                   for place, value in enumerate(outs)):
+        if frame.turns > 1 and any(value[0] == HELD and value[1] == loop.body and value[2] < place for place, value in enumerate(outs)):
             self.seen.add("inputs of a loop changed all at once")
 
     def test(self, kind, value, ways):
         word = self.word(value)
         if kind == SWITCH and word is not None:
-            self.seen.add("a number " + ("below" if word < ways - 1 else
-                                         "at" if word == ways - 1 else "past") + " its last place")
+            self.seen.add("a number " + ("below" if word < ways - 1 else "at" if word == ways - 1 else "past") + " its last place")
         if kind == IF and word and word > 1:
             self.seen.add("a word above 1 that tests true")
         return super().test(kind, value, ways)
@@ -154,6 +171,7 @@ def linear(numbers, seen=None):
         if seen is not None and whole >= WORD:
             seen.add("an answer taken modulo 2^32")
         return whole % WORD
+
     return answer
 
 
@@ -186,8 +204,7 @@ class Vector:
         if self.result.twice:
             seen.add("twice")
         seen.add(f"graph none: {NONE[end]}, {form}" if isinstance(end, str) else f"graph ends by {end[0]}, {form}")
-        seen.add(f"nested none: {NONE[run.end]}, {form}" if isinstance(run.end, str)
-                 else f"nested ends by {run.end[0]}, {form}")
+        seen.add(f"nested none: {NONE[run.end]}, {form}" if isinstance(run.end, str) else f"nested ends by {run.end[0]}, {form}")
         if isinstance(end, str) and not isinstance(run.end, str):
             seen.add("the nested run ends, the graph's does not")
         if run.end == "undefined":
@@ -205,29 +222,47 @@ class Vector:
     def __str__(self):
         constants, inputs = map(joined, self.given)
         numbers = " ".join(map(str, self.numbers))
-        return (f"store {pack(words_of(self.result.record)).hex()}\ngiven {constants} {inputs} {numbers}\n"
-                f"{graph_line(self.events, self.end)}\n{nested_line(self.run)}\n.\n")
+        return (
+            f"store {pack(words_of(self.result.record)).hex()}\ngiven {constants} {inputs} {numbers}\n"
+            f"{graph_line(self.events, self.end)}\n{nested_line(self.run)}\n.\n"
+        )
 
 
 # The vectors.
 
+
 def counting(limit):
     """A loop of one instruction, whose answer ends it."""
-    head = plain(blocks=[[Inst(3, 1, 1, [])]], limit=limit, kind=IF, values=[(INSTR, 1, 0)],
-                 targets=[1, 2], passed={1: [], 2: []}, exits=[2])
+    head = plain(
+        blocks=[[Inst(3, 1, 1, [])]], limit=limit, kind=IF, values=[(INSTR, 1, 0)], targets=[1, 2], passed={1: [], 2: []}, exits=[2]
+    )
     return Record(0, 2, [], [plain(kind=BRANCH, targets=[1], passed={1: []}), head, plain()])
 
 
 def entered_twice(limit):
     """A loop that counts its input down to 0, in a loop of two turns."""
     out = INSTR, 2, 0
-    return Record(0, 1, [1], [
-        plain(kind=BRANCH, targets=[1], passed={1: [TRUE]}),
-        plain(inputs=[1], kind=BRANCH, targets=[2], passed={2: [(INPUT, 1, 0), (CONST, 0, 0)]}, limit=2, exits=[4]),
-        plain(inputs=[1, 1], blocks=[[Inst(0, 1, 1, [(INPUT, 2, 1)])]], kind=IF, values=[out], targets=[2, 3],
-              limit=limit, passed={2: [(INPUT, 2, 0), out], 3: [(INPUT, 2, 0)]}, exits=[3]),
-        plain(inputs=[1], kind=IF, values=[(INPUT, 3, 0)], targets=[1, 4], passed={1: [FALSE], 4: []}),
-        plain(values=[])])
+    return Record(
+        0,
+        1,
+        [1],
+        [
+            plain(kind=BRANCH, targets=[1], passed={1: [TRUE]}),
+            plain(inputs=[1], kind=BRANCH, targets=[2], passed={2: [(INPUT, 1, 0), (CONST, 0, 0)]}, limit=2, exits=[4]),
+            plain(
+                inputs=[1, 1],
+                blocks=[[Inst(0, 1, 1, [(INPUT, 2, 1)])]],
+                kind=IF,
+                values=[out],
+                targets=[2, 3],
+                limit=limit,
+                passed={2: [(INPUT, 2, 0), out], 3: [(INPUT, 2, 0)]},
+                exits=[3],
+            ),
+            plain(inputs=[1], kind=IF, values=[(INPUT, 3, 0)], targets=[1, 4], passed={1: [FALSE], 4: []}),
+            plain(values=[]),
+        ],
+    )
 
 
 def forever(kind, **changed):
@@ -251,15 +286,15 @@ def budgets():
         yield Vector(nested(counting(255)), [], [], (0, 0, down, turns - 1), (300, 300))
     for turns in (1, 5, 6, 7):
         yield Vector(nested(counting(6)), [], [], (0, 0, down, turns - 1))
-    for turns in (3, 4, 150, 257):      # 150: all of 300 turns, in two entries
+    for turns in (3, 4, 150, 257):  # 150: all of 300 turns, in two entries
         yield Vector(nested(entered_twice(3)), [turns], [], (0, 1, 0, down), (300, 400))
 
 
 def draw(rng):
     """A record, and words and rules for it."""
+
     def words(count):
-        return [rng.choice((0, 0, 1, 1, 2, 3, 65535, 65536, 70000, WORD - 1, WORD - 6, rng.getrandbits(32)))
-                for _ in range(count)]
+        return [rng.choice((0, 0, 1, 1, 2, 3, 65535, 65536, 70000, WORD - 1, WORD - 6, rng.getrandbits(32))) for _ in range(count)]
 
     made = record(rng, rng.choice((3, 5, 8, 12)), rng.choice((None, None, shapes.structured, shapes.nest_of_loops)))
     if len(pack(words_of(made))) > 512:
@@ -269,8 +304,12 @@ def draw(rng):
     except Refused:
         return
     for _ in range(RUNS):
-        numbers = (rng.choice((0, 0, 1, 1, 2, WORD - 1, 65537)), rng.choice((0, 1, 1, 2, WORD - 1, 65536)),
-                   rng.choice((0, 0, 1, WORD - 1)), rng.choice((0, 0, 1, 2, 3, 5, WORD - 6)))
+        numbers = (
+            rng.choice((0, 0, 1, 1, 2, WORD - 1, 65537)),
+            rng.choice((0, 1, 1, 2, WORD - 1, 65536)),
+            rng.choice((0, 0, 1, WORD - 1)),
+            rng.choice((0, 0, 1, 2, 3, 5, WORD - 6)),
+        )
         try:
             yield Vector(result, words(len(made.constants)), words(len(made.regions[made.entry].inputs)), numbers)
         except Long:
@@ -294,7 +333,7 @@ def vectors(rng):
                 take(vector)
             elif not isinstance(vector.end, str) and len(vector.events) > 3 and len(others) < 2 * MOST:
                 others[str(vector)] = vector
-    for vector in list(others.values())[:MOST - len(found)]:
+    for vector in list(others.values())[: MOST - len(found)]:
         take(vector)
     return found, counts
 

@@ -102,14 +102,13 @@ class Program:
         head, out = self.new(), self.new()
         self.nodes[at] = (BRANCH, [head])
         begin = head
-        if rng.random() < 0.4 and self.room():      # while
+        if rng.random() < 0.4 and self.room():  # while
             begin = self.new()
             self.fork(head, [begin, out])
         near = rng.random() < 0.7
-        end = self.body(begin, depth - 1, [out] + ([] if near else breaks),
-                        [head] + ([] if near else continues))
+        end = self.body(begin, depth - 1, [out] + ([] if near else breaks), [head] + ([] if near else continues))
         if end is not None:
-            if rng.random() < 0.5:                  # do while
+            if rng.random() < 0.5:  # do while
                 self.fork(end, [head, out])
             else:
                 self.nodes[end] = (BRANCH, [head])
@@ -125,8 +124,7 @@ def structured(rng, most):
 
 
 def terminator(rng, target, ways):
-    kind = rng.choices((UNREACHABLE, RETURN, EXIT, BRANCH, IF, SWITCH),
-                       (1, 3, 1, 8, 10, ways))[0]
+    kind = rng.choices((UNREACHABLE, RETURN, EXIT, BRANCH, IF, SWITCH), (1, 3, 1, 8, 10, ways))[0]
     places = {BRANCH: 1, IF: 2, SWITCH: rng.choice((1, 2, 3, 3, 4, 8))}.get(kind, 0)
     return kind, [target() for _ in range(places)]
 
@@ -135,9 +133,8 @@ def wild(rng, most):
     """Any targets at all."""
     count = rng.randint(min(2, most), most)
     ways = rng.choice((0, 2, 10))
-    low = rng.choice((0, *[1] * 9))     # often nothing leads back to the entry
-    nodes = [terminator(rng, lambda: rng.randint(min(low, count - 1), count - 1), ways)
-             for _ in range(count)]
+    low = rng.choice((0, *[1] * 9))  # often nothing leads back to the entry
+    nodes = [terminator(rng, lambda: rng.randint(min(low, count - 1), count - 1), ways) for _ in range(count)]
     return 0, nodes
 
 
@@ -147,10 +144,12 @@ def near(rng, most):
     back, ways = rng.choice((0.05, 0.15, 0.3)), rng.choice((0, 2, 6))
     nodes = []
     for at in range(count):
+
         def target():
             if rng.random() < back:
                 return max(1 if count > 1 else 0, at - rng.randint(0, far))
             return min(count - 1, at + rng.randint(1, far))
+
         nodes.append(terminator(rng, target, ways))
     return 0, nodes
 
@@ -173,6 +172,7 @@ def reducible(rng, most):
             to = min(count - 1, at + 1 + int(rng.random() ** 3 * 6))
             incoming[to].append(at)
             return to
+
         if at == count - 1 and not heads:
             nodes.append((RETURN, []))
         else:
@@ -184,14 +184,17 @@ def nest_of_loops(rng, most):
     """Loops in loops, each header passing to an inner header, its exit or back."""
     depth = rng.randint(1, max(1, min(5, (most - 2) // 2)))
     nodes = [(BRANCH, [1])]
-    for level in range(1, depth + 1):       # heads, a tail for each, an end
+    for level in range(1, depth + 1):  # heads, a tail for each, an end
         inner, out = level + 1, 2 * depth + 2 - level
         nodes.append((IF, [inner, out]) if rng.random() < 0.5 else (BRANCH, [inner]))
     for level in range(depth, 0, -1):
         tail = 2 * depth + 1 - level
         outer = rng.randint(1, level) if rng.random() < 0.3 else level
-        nodes.append((IF, rng.sample([outer, tail + 1], 2)) if rng.random() < 0.8 else
-                     (SWITCH, rng.choices([outer, tail + 1, level], k=rng.randint(2, 8))))
+        nodes.append(
+            (IF, rng.sample([outer, tail + 1], 2))
+            if rng.random() < 0.8
+            else (SWITCH, rng.choices([outer, tail + 1, level], k=rng.randint(2, 8)))
+        )
     nodes.append((RETURN, []))
     return 0, nodes
 
@@ -215,7 +218,7 @@ def ladder(rng, most):
     chain = rng.randint(4, 8)
     others, wide = most - chain, rng.choice((0, 0.1, 0.2, 0.4))
     named = [[] for _ in range(chain)]
-    named[0], named[-1] = [0, 1], [0, 1]        # nothing can be claimed before region 0
+    named[0], named[-1] = [0, 1], [0, 1]  # nothing can be claimed before region 0
     for other in rng.sample(range(2, others), others - 2):
         room = [k for k in range(chain) if len(named[k]) < 7 + (k == chain - 1)]
         if room:
@@ -226,8 +229,9 @@ def ladder(rng, most):
         rng.shuffle(targets)
         nodes.append((IF if len(targets) == 2 else SWITCH, targets))
     for at in range(chain, most):
-        later = rng.sample(range(at + 2, most), min(most - at - 2, rng.choice((1, 2, 3, 7)))) \
-            if at + 2 < most and rng.random() < wide else []
+        later = (
+            rng.sample(range(at + 2, most), min(most - at - 2, rng.choice((1, 2, 3, 7)))) if at + 2 < most and rng.random() < wide else []
+        )
         if at == chain or at == most - 1:
             nodes.append((RETURN, []))
         elif later:
@@ -240,15 +244,14 @@ def ladder(rng, most):
 def small(rng, most):
     """Few regions, any targets: everything small sooner or later."""
     count = rng.randint(1, min(5, most))
-    nodes = [terminator(rng, lambda: rng.randint(min(1, count - 1), count - 1), 2)
-             for _ in range(count)]
+    nodes = [terminator(rng, lambda: rng.randint(min(1, count - 1), count - 1), 2) for _ in range(count)]
     return 0, nodes
 
 
 def shuffled(rng, entry, nodes):
     """The same graph with its regions numbered anew."""
     order = list(range(len(nodes)))
-    rng.shuffle(order)                      # old number at each new place
+    rng.shuffle(order)  # old number at each new place
     new = {old: place for place, old in enumerate(order)}
     return new[entry], [(nodes[old][0], [new[t] for t in nodes[old][1]]) for old in order]
 

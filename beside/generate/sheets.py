@@ -12,8 +12,7 @@ import re
 import sys
 
 from reading.nesting import Loop, Nesting, Select
-from reading.record import (BRANCH, EXIT, FALSE, IF, INPUT, INSTR, SWITCH, TRUE, UNDEF,
-                            UNREACHABLE, Inst, refer, words_of)
+from reading.record import BRANCH, EXIT, FALSE, IF, INPUT, INSTR, SWITCH, TRUE, UNDEF, UNREACHABLE, Inst, refer, words_of
 from reading.sheet import OUTCOMES, nest, printed, text
 from reading.store import Refused, pack
 from . import shapes
@@ -30,18 +29,30 @@ LISTS = pathlib.Path(__file__).resolve().parents[1] / "lists"
 
 def proved():
     """The cases of document 01 that are proved."""
-    yield only(plain(kind=IF, blocks=[[Inst(7, 1, 5, [])]], values=[(INSTR, 0, 0)],
-                     targets=[1, 2], passed={1: [], 2: []}),
-               plain(kind=BRANCH, blocks=[[Inst(8, 0, 3, [])]], targets=[3],
-                     passed={3: [(0, 0, 0)]}),
-               plain(kind=BRANCH, blocks=[[Inst(9, 0, 4, [])]], targets=[3],
-                     passed={3: [(0, 0, 1)]}),
-               plain(inputs=[2], values=[(INPUT, 3, 0)]), test=2, constants=[2, 2])
-    yield only(plain(kind=BRANCH, targets=[1], passed={1: [(0, 0, 0), TRUE]}),
-               plain(inputs=[2, 1], blocks=[[Inst(8, 1, 6, [])]], limit=10, kind=IF,
-                     values=[(INSTR, 1, 0)], targets=[1, 2],
-                     passed={1: [(INPUT, 1, 0), (INSTR, 1, 0)], 2: []}, exits=[2]),
-               plain(), test=2, constants=[2])
+    yield only(
+        plain(kind=IF, blocks=[[Inst(7, 1, 5, [])]], values=[(INSTR, 0, 0)], targets=[1, 2], passed={1: [], 2: []}),
+        plain(kind=BRANCH, blocks=[[Inst(8, 0, 3, [])]], targets=[3], passed={3: [(0, 0, 0)]}),
+        plain(kind=BRANCH, blocks=[[Inst(9, 0, 4, [])]], targets=[3], passed={3: [(0, 0, 1)]}),
+        plain(inputs=[2], values=[(INPUT, 3, 0)]),
+        test=2,
+        constants=[2, 2],
+    )
+    yield only(
+        plain(kind=BRANCH, targets=[1], passed={1: [(0, 0, 0), TRUE]}),
+        plain(
+            inputs=[2, 1],
+            blocks=[[Inst(8, 1, 6, [])]],
+            limit=10,
+            kind=IF,
+            values=[(INSTR, 1, 0)],
+            targets=[1, 2],
+            passed={1: [(INPUT, 1, 0), (INSTR, 1, 0)], 2: []},
+            exits=[2],
+        ),
+        plain(),
+        test=2,
+        constants=[2],
+    )
     yield only(plain())
     yield only(plain(kind=UNREACHABLE))
     yield only(plain(kind=BRANCH, targets=[0], passed={0: []}))
@@ -49,34 +60,47 @@ def proved():
     for ways in (8, 9):
         yield only(plain(kind=SWITCH, values=[TRUE], targets=[1] * ways, passed={1: []}), plain())
     for count in (32, 33):
-        yield only(*[plain(kind=BRANCH, targets=[at + 1], passed={at + 1: []})
-                     for at in range(count - 1)], plain())
+        yield only(*[plain(kind=BRANCH, targets=[at + 1], passed={at + 1: []}) for at in range(count - 1)], plain())
     yield b""
 
 
 def faults():
     """The smallest records that the Rust nests wrongly, and panics on."""
-    yield only(plain(kind=BRANCH, targets=[1], passed={1: [TRUE, FALSE]}),
-               plain(inputs=[1, 1], kind=IF, values=[(INPUT, 1, 1)], targets=[1, 2],
-                     passed={1: [(INPUT, 1, 0)] * 2, 2: [(INPUT, 1, 1)]}, exits=[2]),
-               plain(inputs=[1], kind=EXIT, values=[(INPUT, 2, 0)]))
+    yield only(
+        plain(kind=BRANCH, targets=[1], passed={1: [TRUE, FALSE]}),
+        plain(
+            inputs=[1, 1], kind=IF, values=[(INPUT, 1, 1)], targets=[1, 2], passed={1: [(INPUT, 1, 0)] * 2, 2: [(INPUT, 1, 1)]}, exits=[2]
+        ),
+        plain(inputs=[1], kind=EXIT, values=[(INPUT, 2, 0)]),
+    )
     no = (UNDEF, 0, 2)
-    yield only(plain(kind=BRANCH, targets=[1], passed={1: [FALSE, no]}),
-               plain(inputs=[1, 2], kind=SWITCH, values=[(INPUT, 1, 0)], targets=[1, 3, 2],
-                     passed={1: [(INPUT, 1, 0), no], 3: [], 2: [(INPUT, 1, 1)]}, exits=[2, 3]),
-               plain(inputs=[2], values=[(INPUT, 2, 0)]), plain(values=[no]))
+    yield only(
+        plain(kind=BRANCH, targets=[1], passed={1: [FALSE, no]}),
+        plain(
+            inputs=[1, 2],
+            kind=SWITCH,
+            values=[(INPUT, 1, 0)],
+            targets=[1, 3, 2],
+            passed={1: [(INPUT, 1, 0), no], 3: [], 2: [(INPUT, 1, 1)]},
+            exits=[2, 3],
+        ),
+        plain(inputs=[2], values=[(INPUT, 2, 0)]),
+        plain(values=[no]),
+    )
 
 
 def figures():
     """A figure of 4,294,967,295, and of one more."""
     for more in (0, 1):
-        yield only(plain(kind=BRANCH, targets=[1], passed={1: []}),
-                   plain(kind=BRANCH, targets=[2], passed={2: []}, limit=65535, exits=[4]),
-                   plain(blocks=[[Inst(1, 1, 1, [])]], kind=IF, values=[(INSTR, 2, 0)],
-                         targets=[2, 3], passed={2: [], 3: []}, limit=65535, exits=[3]),
-                   plain(blocks=[[Inst(1, 1, 0, [])]], kind=IF, values=[(INSTR, 3, 0)],
-                         targets=[1, 4], passed={1: [], 4: []}),
-                   plain(blocks=[[Inst(1, 0, 65535, [])] * 2 + [Inst(1, 0, more, [])]]))
+        yield only(
+            plain(kind=BRANCH, targets=[1], passed={1: []}),
+            plain(kind=BRANCH, targets=[2], passed={2: []}, limit=65535, exits=[4]),
+            plain(
+                blocks=[[Inst(1, 1, 1, [])]], kind=IF, values=[(INSTR, 2, 0)], targets=[2, 3], passed={2: [], 3: []}, limit=65535, exits=[3]
+            ),
+            plain(blocks=[[Inst(1, 1, 0, [])]], kind=IF, values=[(INSTR, 3, 0)], targets=[1, 4], passed={1: [], 4: []}),
+            plain(blocks=[[Inst(1, 0, 65535, [])] * 2 + [Inst(1, 0, more, [])]]),
+        )
 
 
 class Made:
@@ -101,6 +125,7 @@ class Made:
 
     def loops(self):
         """How deep loops stand in loops."""
+
         def depth(number):
             deepest = 0
             for kid in self.result.regions[number].kids:
@@ -110,6 +135,7 @@ class Made:
                 elif isinstance(node, Loop):
                     deepest = max(deepest, 1 + depth(node.body))
             return deepest
+
         return max(map(depth, self.result.roots), default=0) if self.result else 0
 
     def nested_condition(self):
@@ -122,27 +148,43 @@ class Made:
 # Each part: its name, how many, the makers' arguments, and what is wanted.
 PARTS = [
     ("whole", 150, (20,), lambda m: m.is_("whole") and not m.twice() and m.one_block()),
-    ("closed", 90, (20,), lambda m: m.is_("closed") and not m.twice() and m.one_block()
-     and len(m.record.regions) > 2),
+    ("closed", 90, (20,), lambda m: m.is_("closed") and not m.twice() and m.one_block() and len(m.record.regions) > 2),
     ("leftover", 110, (20,), lambda m: m.is_("leftover") and not m.twice() and m.one_block()),
     ("untouched", 25, (20,), lambda m: m.is_("untouched") and m.one_block()),
-    ("leftover with nested conditions", 90, (20,), lambda m: m.is_("leftover")
-     and not m.twice() and m.nested_condition() and len(m.store) <= 1024),
-    ("loops in loops", 100, (20, shapes.nest_of_loops), lambda m: m.loops() > 1
-     and not m.twice() and len(m.store) <= 1024),
-    ("loops in loops of programs", 60, (24, shapes.structured), lambda m: m.loops() > 1
-     and not m.twice() and len(m.store) <= 1024),
-    ("any exit lists", 120, (16, None, "random"), lambda m: m.result and not m.twice()
-     and not m.is_("untouched") and m.one_block() and len(m.record.regions) > 3),
-    ("8-way selects", 80, (14, None), lambda m: m.result and not m.twice() and m.ways() == 8
-     and not m.is_("untouched") and len(m.store) <= 1024),
-    ("26 to 32 regions", 70, (32, shapes.structured), lambda m: m.result and not m.twice()
-     and not m.is_("untouched") and len(m.record.regions) >= 26),
-    ("26 to 32 regions, wild", 40, (32, shapes.near), lambda m: m.result and not m.twice()
-     and not m.is_("untouched") and len(m.record.regions) >= 26),
+    (
+        "leftover with nested conditions",
+        90,
+        (20,),
+        lambda m: m.is_("leftover") and not m.twice() and m.nested_condition() and len(m.store) <= 1024,
+    ),
+    ("loops in loops", 100, (20, shapes.nest_of_loops), lambda m: m.loops() > 1 and not m.twice() and len(m.store) <= 1024),
+    ("loops in loops of programs", 60, (24, shapes.structured), lambda m: m.loops() > 1 and not m.twice() and len(m.store) <= 1024),
+    (
+        "any exit lists",
+        120,
+        (16, None, "random"),
+        lambda m: m.result and not m.twice() and not m.is_("untouched") and m.one_block() and len(m.record.regions) > 3,
+    ),
+    (
+        "8-way selects",
+        80,
+        (14, None),
+        lambda m: m.result and not m.twice() and m.ways() == 8 and not m.is_("untouched") and len(m.store) <= 1024,
+    ),
+    (
+        "26 to 32 regions",
+        70,
+        (32, shapes.structured),
+        lambda m: m.result and not m.twice() and not m.is_("untouched") and len(m.record.regions) >= 26,
+    ),
+    (
+        "26 to 32 regions, wild",
+        40,
+        (32, shapes.near),
+        lambda m: m.result and not m.twice() and not m.is_("untouched") and len(m.record.regions) >= 26,
+    ),
     ("twice", 90, (16,), lambda m: m.twice() and len(m.store) <= 1024),
-    ("twice, leftover", 30, (16,), lambda m: m.is_("leftover") and m.twice()
-     and len(m.store) <= 1024),
+    ("twice, leftover", 30, (16,), lambda m: m.is_("leftover") and m.twice() and len(m.store) <= 1024),
     ("refused 11", 12, (16, shapes.nest_of_loops), lambda m: m.refused == 11 and m.one_block()),
     ("refused 9", 16, (32, shapes.crowded), lambda m: m.refused == 9 and len(m.store) <= 2560),
 ]
@@ -162,7 +204,7 @@ def parts(rng):
         yield name, found
     for (what, over), found in limits(rng, 3).items():
         yield f"{what} {'one over' if over else 'at'} the limit", [pack(words_of(m)) for m in found]
-    refusals = {}       # a few of each refusal 1 to 8, from the other list
+    refusals = {}  # a few of each refusal 1 to 8, from the other list
     for store, answer in read_vectors(LISTS / "stores.vectors"):
         if answer.startswith("refused") and len(store) <= 1024:
             refusals.setdefault(answer.split()[1], []).append(store)

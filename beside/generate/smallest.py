@@ -10,19 +10,18 @@ import copy
 import random
 
 from reading.nesting import Nesting
-from reading.record import (BRANCH, EXIT, FALSE, IF, INPUT, INSTR, RETURN, SWITCH, TRUE, UNDEF,
-                            UNREACHABLE, refer, show, words_of)
+from reading.record import BRANCH, EXIT, FALSE, IF, INPUT, INSTR, RETURN, SWITCH, TRUE, UNDEF, UNREACHABLE, refer, show, words_of
 from reading.runs import differs, rule
 from reading.sheet import CLOSED, WHOLE, nest, text
 from reading.store import Refused, pack
 from reading.unmarked import Panic, Unmarked
-from .arguments import arguments, number
+from .arguments import arguments, whole
 from .claims import words
 from .records import record
 
 
 def fault(made):
-    """"panic", or the run that goes wrong in the Rust's nested form, or None."""
+    """ "panic", or the run that goes wrong in the Rust's nested form, or None."""
     try:
         returned = refer(made)
         state = Nesting(made, returned)
@@ -56,8 +55,10 @@ def size(made):
 
 def replaced(made, change):
     """Put another value everywhere `change` answers one (None: keep)."""
+
     def all(values):
         return [value if change(value) is None else change(value) for value in values]
+
     for region in made.regions:
         for inst in region.insts:
             inst.reads = all(inst.reads)
@@ -82,6 +83,7 @@ def without_region(made, gone, instead):
 
     def new(number):
         return number - (number > gone)
+
     made.entry = new(made.entry)
     for region in made.regions:
         region.targets = [new(t) for t in region.targets]
@@ -92,21 +94,21 @@ def without_region(made, gone, instead):
 
 def without_passage(made, gone):
     """An empty region with one target taken out; edges to it go on to its target."""
-    (target, onward), = made.regions[gone].passed.items()
+    ((target, onward),) = made.regions[gone].passed.items()
     for region in made.regions:
         if gone in region.targets:
             if target in region.targets:
                 raise ValueError
             given = region.passed[gone]
             region.passed[gone] = [given[v[2]] if v[0] == INPUT else v for v in onward]
-            region.passed = {target if t == gone else t: values
-                             for t, values in region.passed.items()}
+            region.passed = {target if t == gone else t: values for t, values in region.passed.items()}
             region.targets = [target if t == gone else t for t in region.targets]
     without_region(made, gone, target)
 
 
 def smaller(made):
     """Records that are a step smaller or plainer; many mean nothing."""
+
     def step(change, *of):
         one = copy.deepcopy(made)
         try:
@@ -127,6 +129,7 @@ def smaller(made):
         def change(v):
             if v[:2] == (INSTR, number):
                 return plain_values(type)[0] if v[2] == first else (*v[:2], v[2] - (v[2] > first))
+
         replaced(one, change)
 
     def drop_input(one, number, place, instead):
@@ -138,12 +141,12 @@ def smaller(made):
         def change(v):
             if v[:2] == (INPUT, number):
                 return instead if v[2] == place else (*v[:2], v[2] - (v[2] > place))
+
         replaced(one, change)
 
     def drop_constant(one, place, instead):
         del one.constants[place]
-        replaced(one, lambda v: (instead if v[2] == place else (0, 0, v[2] - (v[2] > place)))
-                 if v[0] == 0 else None)
+        replaced(one, lambda v: (instead if v[2] == place else (0, 0, v[2] - (v[2] > place))) if v[0] == 0 else None)
 
     def set_values(one, number, place, value):
         one.regions[number].values[place] = value
@@ -178,13 +181,13 @@ def smaller(made):
             yield from step(set_kind, number, BRANCH, [], [target])
         if region.kind == SWITCH:
             for place in range(len(region.targets)):
-                rest = region.targets[:place] + region.targets[place + 1:]
+                rest = region.targets[:place] + region.targets[place + 1 :]
                 yield from step(set_kind, number, SWITCH, region.values, rest)
             if len(region.targets) == 2:
                 yield from step(set_kind, number, IF, region.values, region.targets)
         if region.kind in (RETURN, EXIT) and region.values:
             for place in range(len(region.values)):
-                rest = region.values[:place] + region.values[place + 1:]
+                rest = region.values[:place] + region.values[place + 1 :]
                 yield from step(set_word, "regions", number, "values", rest)
         if region.kind == RETURN:
             yield from step(set_kind, number, EXIT, region.values, [])
@@ -204,7 +207,7 @@ def smaller(made):
             if type != 1:
                 yield from step(set_word, "regions", number, "inputs", place, 1)
         for place in range(len(region.exits)):
-            rest = list(region.exits[:place]) + list(region.exits[place + 1:])
+            rest = list(region.exits[:place]) + list(region.exits[place + 1 :])
             yield from step(set_word, "regions", number, "exits", rest)
         choices = [FALSE, TRUE, (UNDEF, 0, 1), (UNDEF, 0, 2), *own]
         for place in range(len(region.values)):
@@ -263,4 +266,4 @@ def main(seed, count):
 
 
 if __name__ == "__main__":
-    main(*arguments(__doc__, number, number))
+    main(*arguments(__doc__, whole, whole))

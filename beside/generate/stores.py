@@ -8,8 +8,7 @@ import collections
 import random
 import sys
 
-from reading.record import (BRANCH, EXIT, IF, RETURN, SWITCH, UNDEF, UNREACHABLE, Inst, Record,
-                            Region, read, refer, show, words_of)
+from reading.record import BRANCH, EXIT, IF, RETURN, SWITCH, UNDEF, UNREACHABLE, Inst, Record, Region, read, refer, show, words_of
 from reading.store import Refused, blocks, pack, payload
 from . import damage
 from .arguments import arguments
@@ -50,8 +49,7 @@ def filled(rng, used):
             size = 4 + 3 * reads + new
             if new and len(region.blocks) == 8 or size > missing or 0 < missing - size < 4:
                 continue
-            inst = Inst(rng.randint(0, 20), rng.randint(0, 2), rng.randint(0, 9),
-                        [(UNDEF, 0, 2)] * reads)
+            inst = Inst(rng.randint(0, 20), rng.randint(0, 2), rng.randint(0, 9), [(UNDEF, 0, 2)] * reads)
             if new:
                 region.blocks.append([inst])
             else:
@@ -64,6 +62,7 @@ def filled(rng, used):
 
 def edges():
     """Stores at the edges of every range."""
+
     def one(**changed):
         return only(plain(**changed))
 
@@ -80,8 +79,7 @@ def edges():
         yield one(values=[(UNDEF, 0, 9)] * n)
         yield one(kind=EXIT, values=[(UNDEF, 0, 9)] * n)
         yield one(blocks=[[Inst(1, 2, 1, [(4, 0, 0)] * n)]])
-        yield only(plain(kind=BRANCH, targets=[1], passed={1: [(4, 0, 0)] * n}),
-                   plain(inputs=[1] * min(n, 4)))
+        yield only(plain(kind=BRANCH, targets=[1], passed={1: [(4, 0, 0)] * n}), plain(inputs=[1] * min(n, 4)))
     for n in (0, 1, 2, 3):
         yield only(to(n, IF))
         yield one(kind=UNREACHABLE, values=[(4, 0, 0)] * n)
@@ -118,13 +116,10 @@ def edges():
     yield only(plain(exits=[0, 0]))
     yield only(plain(exits=[1, 1]))
     yield only(plain(values=[(UNDEF, 0, 1)]), plain(), plain(values=[(UNDEF, 0, 2)]))
-    yield only(plain(values=[(UNDEF, 0, 1)]), plain(values=[(UNDEF, 0, 1)]),
-               plain(values=[(UNDEF, 0, 2)]))
-    yield only(plain(kind=IF, values=[(0, 0, 0)], targets=[1, 1], passed={1: []}), plain(),
-               constants=[2])
+    yield only(plain(values=[(UNDEF, 0, 1)]), plain(values=[(UNDEF, 0, 1)]), plain(values=[(UNDEF, 0, 2)]))
+    yield only(plain(kind=IF, values=[(0, 0, 0)], targets=[1, 1], passed={1: []}), plain(), constants=[2])
     yield only(plain(kind=IF, values=[(UNDEF, 0, 1)], targets=[1, 1], passed={1: []}), plain())
-    for words in ([], [0], [1], [1, 0], [1, 0, 0], [1, 0, 0, 0], [33], [32, 0, 0, 65],
-                  [1, 0, 0, 1], [1, 0, 0, 1, 0]):
+    for words in ([], [0], [1], [1, 0], [1, 0, 0], [1, 0, 0, 0], [33], [32, 0, 0, 65], [1, 0, 0, 1], [1, 0, 0, 1, 0]):
         yield pack(words)
     yield blocks([0])
     yield blocks([1, 5])
@@ -159,10 +154,8 @@ def stores():
             yield damage.count(rng, store)
     full = filled(rng, 4048)
     yield full
-    for harm, block in ((damage.number, 15), (damage.number, 9), (damage.checked, 15),
-                        (damage.checked, 12)):
-        yield full[:512 * block] + harm(rng, full[512 * block:512 * block + 512]) + \
-            full[512 * block + 512:]
+    for harm, block in ((damage.number, 15), (damage.number, 9), (damage.checked, 15), (damage.checked, 12)):
+        yield full[: 512 * block] + harm(rng, full[512 * block : 512 * block + 512]) + full[512 * block + 512 :]
     yield full[:-512]
     yield full + bytes(512)
     yield damage.after(rng, filled(rng, 4047))
@@ -188,7 +181,7 @@ def stores():
         if len(store) <= 1024:
             yield store
     seen = collections.Counter()
-    while sum(seen.values()) < 480:     # at most nine of each answer
+    while sum(seen.values()) < 480:  # at most nine of each answer
         store = damage.meaning(rng, good())
         line = answer(store)
         if len(store) <= 1024 and line.startswith("refused") and seen[line] < 9:
@@ -198,26 +191,34 @@ def stores():
 
 def refusal(number, word):
     """The number and the word of a refusal, each so much higher."""
+
     def changed(text):
         refused, n, w = text.split()
         return f"{refused} {int(n) + number} {int(w) + word}\n"
+
     return changed
 
 
 def next_digit(text):
     """The last digit of a record's text one higher, 0 after 9."""
     at = max(i for i, c in enumerate(text) if c.isdigit())
-    return text[:at] + str((int(text[at]) + 1) % 10) + text[at + 1:]
+    return text[:at] + str((int(text[at]) + 1) % 10) + text[at + 1 :]
 
 
 def without_last_line(text):
-    return text[:text.rindex("\n", 0, -1) + 1]
+    return text[: text.rindex("\n", 0, -1) + 1]
 
 
 # Answers that are wrong on purpose: of a refused store or of a record, and what is done to the text.
-WRONG = ((True, refusal(1, 0)), (True, refusal(0, 1)), (True, lambda text: ""),
-         (False, next_digit), (False, without_last_line), (False, lambda text: text + "exits -\n"),
-         (False, lambda text: "refused 8 0\n"))
+WRONG = (
+    (True, refusal(1, 0)),
+    (True, refusal(0, 1)),
+    (True, lambda text: ""),
+    (False, next_digit),
+    (False, without_last_line),
+    (False, lambda text: text + "exits -\n"),
+    (False, lambda text: "refused 8 0\n"),
+)
 
 
 def wrong(good):
@@ -231,7 +232,7 @@ def wrong(good):
 
 if __name__ == "__main__":
     arguments(__doc__)
-    good = list(dict.fromkeys(stores()))    # each store once
+    good = list(dict.fromkeys(stores()))  # each store once
     for store in good:
         sys.stdout.write(vector(store, answer(store)))
     for store, text in wrong(good):

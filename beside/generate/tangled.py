@@ -9,7 +9,7 @@ stack among them.
 import random
 
 from reading.record import BRANCH, CONST, IF, SWITCH, TRUE
-from .arguments import arguments, number
+from .arguments import arguments, whole
 from .large import BLOCK, REGIONS, link
 from .stores import only, plain
 
@@ -45,4 +45,4 @@ def main(seed, count):
 
 
 if __name__ == "__main__":
-    main(*arguments(__doc__, number, number))
+    main(*arguments(__doc__, whole, whole))

@@ -25,33 +25,29 @@ def first(pattern, new, line):
 def ways():
     """A name, the line that is changed (1 given, 2 graph, 3 nested), and the change."""
     for line, run in ((2, "graph"), (3, "nested")):
-        yield f"{run}: an event without its reads", line, lambda l: first(r"(\d+\.\d+/\d+)/[\du,]+", r"\1/-", l)
-        yield f"{run}: a word of 16 bits", line, lambda l: first(
-            r"\b\d{6,}\b", lambda m: str(int(m[0]) % 65536), l)
-        yield f"{run}: a mark read as 0", line, lambda l: first(r"(?<=[,/ ])u\b", "0", l)
-        yield f"{run}: an event of another region", line, lambda l: first(
-            r"\b(\d+)(\.\d+/)", lambda m: f"{int(m[1]) + 1}{m[2]}", l)
-        yield f"{run}: an event of another index", line, lambda l: first(
-            r"(\d+\.)(\d+)/", lambda m: f"{m[1]}{int(m[2]) + 1}/", l)
-        yield f"{run}: another opcode", line, lambda l: first(
-            r"(\d+\.\d+/)(\d+)", lambda m: f"{m[1]}{int(m[2]) + 1}", l)
-        yield f"{run}: an event lost", line, lambda l: first(r";[^; ]+", "", l)
-        yield f"{run}: two events in the other order", line, lambda l: first(r" ([^; ]+);([^; ]+)", r" \2;\1", l)
-        yield f"{run}: another word returned", line, lambda l: first(
-            r"returned (\d+)", lambda m: f"returned {int(m[1]) ^ 1}", l)
-        yield f"{run}: nothing returned", line, lambda l: first(r"returned [\du,]+", "returned -", l)
-        yield f"{run}: an exit for a return", line, lambda l: first("returned", "exited 0", l)
-        yield f"{run}: an exit of another opcode", line, lambda l: first(
-            r"exited (\d+)", lambda m: f"exited {int(m[1]) + 1}", l)
-        yield f"{run}: no end", line, lambda l: f"{run} none"
-        yield f"{run}: an end for none", line, lambda l: first("none", "returned - -" + " cost 0 over 0" * (line == 3), l)
-    yield "another cost", 3, lambda l: first(r"cost (\d+)", lambda m: f"cost {int(m[1]) + 1}", l)
-    yield "another over", 3, lambda l: first(r"over (\d)", lambda m: f"over {1 - int(m[1])}", l)
+        yield f"{run}: an event without its reads", line, lambda t: first(r"(\d+\.\d+/\d+)/[\du,]+", r"\1/-", t)
+        yield f"{run}: a word of 16 bits", line, lambda t: first(r"\b\d{6,}\b", lambda m: str(int(m[0]) % 65536), t)
+        yield f"{run}: a mark read as 0", line, lambda t: first(r"(?<=[,/ ])u\b", "0", t)
+        yield f"{run}: an event of another region", line, lambda t: first(r"\b(\d+)(\.\d+/)", lambda m: f"{int(m[1]) + 1}{m[2]}", t)
+        yield f"{run}: an event of another index", line, lambda t: first(r"(\d+\.)(\d+)/", lambda m: f"{m[1]}{int(m[2]) + 1}/", t)
+        yield f"{run}: another opcode", line, lambda t: first(r"(\d+\.\d+/)(\d+)", lambda m: f"{m[1]}{int(m[2]) + 1}", t)
+        yield f"{run}: an event lost", line, lambda t: first(r";[^; ]+", "", t)
+        yield f"{run}: two events in the other order", line, lambda t: first(r" ([^; ]+);([^; ]+)", r" \2;\1", t)
+        yield f"{run}: another word returned", line, lambda t: first(r"returned (\d+)", lambda m: f"returned {int(m[1]) ^ 1}", t)
+        yield f"{run}: nothing returned", line, lambda t: first(r"returned [\du,]+", "returned -", t)
+        yield f"{run}: an exit for a return", line, lambda t: first("returned", "exited 0", t)
+        yield f"{run}: an exit of another opcode", line, lambda t: first(r"exited (\d+)", lambda m: f"exited {int(m[1]) + 1}", t)
+        yield f"{run}: no end", line, lambda t: f"{run} none"
+        yield f"{run}: an end for none", line, lambda t: first("none", "returned - -" + " cost 0 over 0" * (line == 3), t)
+    yield "another cost", 3, lambda t: first(r"cost (\d+)", lambda m: f"cost {int(m[1]) + 1}", t)
+    yield "another over", 3, lambda t: first(r"over (\d)", lambda m: f"over {1 - int(m[1])}", t)
     for place, what in enumerate(("opcode", "reads", "what went before", "the number")):
+
         def without(line, place=place):
             words = line.split(" ")
             words[3 + place] = "0"
             return " ".join(words)
+
         yield f"a rule without {what}", 1, without
 
 
@@ -60,7 +56,7 @@ def differs(lines):
     store = bytes.fromhex(lines[0].split()[1])
     _, constants, inputs, *numbers = lines[1].split()
     words = ([] if list == "-" else [int(word) for word in list.split(",")] for list in (constants, inputs))
-    made = Vector(nest(Nesting(*accepted(store))), *words, tuple(map(int, numbers)), (10 ** 4, 10 ** 4))
+    made = Vector(nest(Nesting(*accepted(store))), *words, tuple(map(int, numbers)), (10**4, 10**4))
     return str(made).splitlines()[2:4] != lines[2:4]
 
 
@@ -71,7 +67,7 @@ def main():
         rng.shuffle(vectors)
         made = 0
         for lines in vectors:
-            wrong = lines[:place] + [change(lines[place])] + lines[place + 1:]
+            wrong = lines[:place] + [change(lines[place])] + lines[place + 1 :]
             if wrong != lines and (place > 1 or differs(wrong)):
                 sys.stdout.write("\n".join(wrong) + "\n.\n")
                 made += 1

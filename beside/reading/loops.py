@@ -7,7 +7,7 @@ def loop_exits(entry, kinds, targets):
     """A list of exit targets for each region, given each region's terminator and targets."""
     exits = [[] for _ in kinds]
     stack = []
-    state = {}      # a place on the stack, or ("done", may return)
+    state = {}  # a place on the stack, or ("done", may return)
 
     def earliest(node):
         """The earliest place on the stack that node leads to, and whether it may return."""
@@ -24,7 +24,7 @@ def loop_exits(entry, kinds, targets):
             if found is not None and (root is None or found < root):
                 root = found
 
-        if root == place:   # node heads a loop: all on the stack from here on
+        if root == place:  # node heads a loop: all on the stack from here on
             for member in stack[place:]:
                 for target in targets[member]:
                     known = state[target]
@@ -32,7 +32,7 @@ def loop_exits(entry, kinds, targets):
                     if leaves and target not in exits[node]:
                         exits[node].append(target)
             state[node] = "done", returns
-            body = stack[place + 1:]
+            body = stack[place + 1 :]
             for member in body:
                 del state[member]
             for member in body:

@@ -4,14 +4,13 @@ A set of deferred edges is a list of Edge: none is Unreachable, one is Always (i
 is T), more are a Choice. A condition is T, F, U or a Merge of a select's cases.
 """
 
-from .record import (BOOL, BRANCH, CONST, EXIT, FALSE, HELD, IF, INPUT, OUTPUT, RETURN, SWITCH,
-                     TRUE, UNDEF)
+from .record import BOOL, BRANCH, CONST, EXIT, FALSE, HELD, IF, INPUT, OUTPUT, RETURN, SWITCH, TRUE, UNDEF
 from .store import Refused
 
-TO_RETURN = 65535       # the deferred target Return
+TO_RETURN = 65535  # the deferred target Return
 T, F, U = "t", "f", "u"
 PLAIN = {T: TRUE, F: FALSE, U: (UNDEF, 0, 1)}
-NEW, BEGUN, READY, CLAIMED = range(4)       # states of a region
+NEW, BEGUN, READY, CLAIMED = range(4)  # states of a region
 
 
 class Merge:
@@ -23,6 +22,7 @@ class Merge:
 
 class Edge:
     """A deferred edge bundle."""
+
     __slots__ = "target", "count", "inputs", "condition"
 
     def __init__(self, target, count, inputs, condition=T):
@@ -31,6 +31,7 @@ class Edge:
 
 class Case:
     """A claimed region with its inputs and set, or (body None) a set alone."""
+
     __slots__ = "body", "inputs", "edges"
 
     def __init__(self, body, inputs, edges):
@@ -39,6 +40,7 @@ class Case:
 
 class Nested:
     """A region of the nested form."""
+
     __slots__ = "inputs", "kids", "outs"
 
     def __init__(self, inputs):
@@ -47,6 +49,7 @@ class Nested:
 
 class Block:
     """Instructions of a region from place `first` on; `reads` for each of them."""
+
     __slots__ = "region", "first", "insts", "reads"
 
     def __init__(self, region, first, insts):
@@ -105,9 +108,9 @@ class Nesting:
         self.record, self.returned = record, returned
         self.counts = incoming_counts(record)
         self.states = [NEW] * len(record.regions)
-        self.back = [0] * len(record.regions)       # backedge counts of Ready regions
-        self.sets = [None] * len(record.regions)    # and their deferred edges
-        self.rewrites = {}      # region: the value that takes the place of each input
+        self.back = [0] * len(record.regions)  # backedge counts of Ready regions
+        self.sets = [None] * len(record.regions)  # and their deferred edges
+        self.rewrites = {}  # region: the value that takes the place of each input
         self.attempts = self.twice = self.outputs = self.conditions = 0
         self.regions, self.nodes = [Nested(list(r.inputs)) for r in record.regions], []
         for number, region in enumerate(record.regions):
@@ -155,11 +158,11 @@ class Nesting:
         """The value after all replacements; a renumbered input is held and stays."""
         while value[0] == INPUT and value[1] in self.rewrites:
             new = self.rewrites[value[1]][value[2]]
-            if new[0] == HELD and new[1] == value[1]:       # renumbered here and now
+            if new[0] == HELD and new[1] == value[1]:  # renumbered here and now
                 return new
             value = new
         if value[0] == HELD and self.rewrites[value[1]][value[2]] != value:
-            self.twice = 1      # looking it up once more would change it
+            self.twice = 1  # looking it up once more would change it
         return value
 
     def look_up_all(self, values):
@@ -222,8 +225,7 @@ class Nesting:
             inputs = region.passed[target]
             case = self.claim(target, 1, inputs)
             if case is None:
-                trivial = (self.states[target] == READY and not self.sets[target]
-                           and not self.regions[target].kids)
+                trivial = self.states[target] == READY and not self.sets[target] and not self.regions[target].kids
                 case = Case(None, (), [] if trivial else [Edge(target, 1, inputs)])
             cases.append(case)
 
@@ -248,9 +250,8 @@ class Nesting:
             if then is None:
                 place += 1
                 continue
-            rest = as_set(edges[:place] + edges[place + 1:])
-            edges = self.select(number, IF, lambda: self.materialize(edge.condition),
-                                [then, Case(None, (), rest)])
+            rest = as_set(edges[:place] + edges[place + 1 :])
+            edges = self.select(number, IF, lambda: self.materialize(edge.condition), [then, Case(None, (), rest)])
             place = 0
 
         self.states[number], self.sets[number] = READY, edges
@@ -287,13 +288,12 @@ class Nesting:
 
         merged = []
         for target, count in totals.items():
-            found = [next((edge for edge in case.edges if edge.target == target), None)
-                     for case in cases]
-            inputs = [self.merged_input(node, target, place, cases,
-                                        [edge and edge.inputs[place] for edge in found])
-                      for place in range(len(next(filter(None, found)).inputs))]
-            parts = [edge.condition if edge else F if case.edges else U
-                     for case, edge in zip(cases, found)]
+            found = [next((edge for edge in case.edges if edge.target == target), None) for case in cases]
+            inputs = [
+                self.merged_input(node, target, place, cases, [edge and edge.inputs[place] for edge in found])
+                for place in range(len(next(filter(None, found)).inputs))
+            ]
+            parts = [edge.condition if edge else F if case.edges else U for case, edge in zip(cases, found)]
             if all(part is T or part is U for part in parts):
                 condition = T
             else:
@@ -311,7 +311,7 @@ class Nesting:
 
     def merged_input(self, node, target, place, cases, values):
         """One passed value out of the cases that pass it: the same in all, or an output."""
-        outside = set()     # the values as seen outside the cases; None is seen only inside
+        outside = set()  # the values as seen outside the cases; None is seen only inside
         for case, value in zip(cases, values):
             if value is not None:
                 if case.body is None or value[0] in (CONST, BOOL, UNDEF):

@@ -23,11 +23,10 @@ class Inst:
 
 class Region:
     """A region; `passed` holds the inputs of each distinct target, by first standing."""
-    __slots__ = ("inputs", "blocks", "limit", "kind", "opcode", "values", "targets",
-                 "passed", "exits", "insts")
 
-    def __init__(self, inputs, blocks, limit, kind, opcode=0, values=(), targets=(),
-                 passed=None, exits=()):
+    __slots__ = ("inputs", "blocks", "limit", "kind", "opcode", "values", "targets", "passed", "exits", "insts")
+
+    def __init__(self, inputs, blocks, limit, kind, opcode=0, values=(), targets=(), passed=None, exits=()):
         self.inputs, self.blocks, self.limit = inputs, blocks, limit
         self.kind, self.opcode, self.values = kind, opcode, values
         self.targets, self.passed, self.exits = targets, passed or {}, exits
@@ -42,6 +41,7 @@ class Record:
 
 
 # Reading: 4 and 5.
+
 
 class Reader:
     """The words in front of W, one after another; `region` is the one being read."""
@@ -111,6 +111,7 @@ def read(words):
 
 # References: 6, 7 and 8.
 
+
 def type_of(record, number, value, before):
     """The type of a value used in a region after `before` instructions, or 6."""
     kind, region, index = value
@@ -171,12 +172,14 @@ def refer(record):
 
 # Writing, as words and as text.
 
+
 def list_words(items, words):
     return [len(items), *[word for item in items for word in words(item)]]
 
 
 def words_of(record):
     """The record's words after W. Nothing is checked: a bad record has words too."""
+
     def inst(i):
         return [i.opcode, i.type, i.cost, *list_words(i.reads, list)]
 
@@ -189,8 +192,14 @@ def words_of(record):
             words += list_words(values, list)
         return words + [len(r.exits), *r.exits]
 
-    return [len(record.regions), record.entry, record.test, len(record.constants),
-            *record.constants, *[word for r in record.regions for word in region(r)]]
+    return [
+        len(record.regions),
+        record.entry,
+        record.test,
+        len(record.constants),
+        *record.constants,
+        *[word for r in record.regions for word in region(r)],
+    ]
 
 
 def joined(items):
@@ -199,8 +208,15 @@ def joined(items):
 
 def value_text(value):
     kind, region, index = value
-    return (f"c{index}", f"i{region}.{index}", f"d{region}.{index}", f"n{region}.{index}",
-            ("false", "true")[index & 1], f"undef{index}", f"i{region}.{index}")[kind]
+    return (
+        f"c{index}",
+        f"i{region}.{index}",
+        f"d{region}.{index}",
+        f"n{region}.{index}",
+        ("false", "true")[index & 1],
+        f"undef{index}",
+        f"i{region}.{index}",
+    )[kind]
 
 
 def values_text(values):
@@ -209,22 +225,27 @@ def values_text(values):
 
 def show(record):
     """The text of an accepted record, a line for each part."""
-    lines = [f"record regions {len(record.regions)} entry {record.entry} test {record.test} "
-             f"constants {joined(record.constants)}"]
+    lines = [f"record regions {len(record.regions)} entry {record.entry} test {record.test} " f"constants {joined(record.constants)}"]
     for number, region in enumerate(record.regions):
         lines.append(f"region {number} in {joined(region.inputs)} limit {region.limit}")
         index = 0
         for block in region.blocks:
             items = []
             for inst in block:
-                items.append(f"{number}.{index}/{inst.opcode}/{inst.type}/{inst.cost}/"
-                             f"{values_text(inst.reads)}")
+                items.append(f"{number}.{index}/{inst.opcode}/{inst.type}/{inst.cost}/" f"{values_text(inst.reads)}")
                 index += 1
             lines.append(f"block {joined(items)}")
         values, targets = values_text(region.values), joined(region.targets)
-        lines.append((f"unreachable", f"return {values}", f"exit {region.opcode} {values}",
-                      f"branch to {targets}", f"select bool {values} to {targets}",
-                      f"select num {values} to {targets}")[region.kind])
+        lines.append(
+            (
+                "unreachable",
+                f"return {values}",
+                f"exit {region.opcode} {values}",
+                f"branch to {targets}",
+                f"select bool {values} to {targets}",
+                f"select num {values} to {targets}",
+            )[region.kind]
+        )
         for target, passed in region.passed.items():
             lines.append(f"pass {target} in {values_text(passed)}")
         lines.append(f"exits {joined(region.exits)}")

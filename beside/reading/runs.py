@@ -6,13 +6,13 @@ An undefined value is None. Events are (region, place, opcode, reads). An end is
 """
 
 from .nesting import Block, Loop, Select
-from .record import (BOOL, BRANCH, CONST, EXIT, HELD, IF, INPUT, INSTR, OUTPUT, RETURN,
-                     UNREACHABLE)
+from .record import BOOL, BRANCH, CONST, EXIT, HELD, IF, INPUT, INSTR, OUTPUT, RETURN, UNREACHABLE
 from .sheet import WHOLE
 
 
 def rule(seed):
     """A rule: a seeded answer to opcode, reads and the number of instructions before."""
+
     def answer(opcode, reads, before):
         h = (seed * 0x9E3779B1 + opcode * 0x85EBCA6B + before * 0xC2B2AE35) & 0xFFFFFFFF
         for read in reads:
@@ -21,6 +21,7 @@ def rule(seed):
         h = (h ^ h >> 12) * 0x297A2D39 & 0xFFFFFFFF
         h ^= h >> 15
         return (h >> 8 & 1, h >> 8 & 1, h >> 8 & 7, h)[h & 3]
+
     return answer
 
 
@@ -88,12 +89,12 @@ class NestedRun:
             outs = result.regions[result.record.entry].outs
             self.end = ("return", self.all(outs)) if result.outcome == WHOLE else "off"
         except Ended as ended:
-            self.end, = ended.args
+            (self.end,) = ended.args
 
     def word(self, value):
         """A value's word; reading what was never made is an error of the form (KeyError)."""
         kind, region, index = value
-        if kind in (INPUT, HELD):       # one and the same in the form that is printed
+        if kind in (INPUT, HELD):  # one and the same in the form that is printed
             return self.words[INPUT, region, index]
         if kind in (INSTR, OUTPUT):
             return self.words[value]
@@ -125,8 +126,7 @@ class NestedRun:
         place = block.first
         for inst, reads in zip(block.insts, block.reads):
             words = self.all(reads)
-            self.words[INSTR, block.region, place] = \
-                self.answer(inst.opcode, words, len(self.events))
+            self.words[INSTR, block.region, place] = self.answer(inst.opcode, words, len(self.events))
             self.events.append((block.region, place, inst.opcode, words))
             self.cost += inst.cost
             place += 1

@@ -4,7 +4,7 @@ from .nesting import READY, TO_RETURN, Block, Loop, Merge, Nesting, Select
 from .record import HELD, IF, INPUT, joined, list_words, read, refer, value_text, values_text
 from .store import Refused, payload
 
-UNTOUCHED, WHOLE, CLOSED, LEFTOVER = range(4)       # outcomes, in the order of document 01
+UNTOUCHED, WHOLE, CLOSED, LEFTOVER = range(4)  # outcomes, in the order of document 01
 OUTCOMES = "untouched", "whole", "closed", "leftover"
 
 
@@ -134,8 +134,7 @@ def item_words(item):
 
 
 def items(block):
-    return [(block.region, block.first + k, inst, reads)
-            for k, (inst, reads) in enumerate(zip(block.insts, block.reads))]
+    return [(block.region, block.first + k, inst, reads) for k, (inst, reads) in enumerate(zip(block.insts, block.reads))]
 
 
 def line_words(lead, number, of, *rest):
@@ -145,15 +144,13 @@ def line_words(lead, number, of, *rest):
     elif lead == BLOCK:
         fields = list_words(items(of), item_words)
     elif lead == SELECT:
-        fields = [int(of.kind != IF), *value_words(of.value), *list_words(of.cases, one),
-                  *list_words(of.types, one)]
+        fields = [int(of.kind != IF), *value_words(of.value), *list_words(of.cases, one), *list_words(of.types, one)]
     elif lead == LOOP:
         fields = [*list_words(of.first, value_words), of.body, *value_words(of.repeat)]
     elif lead == EXIT:
         fields = [of.opcode, *list_words(of.values, value_words)]
     else:
-        fields = [of.target, of.count, *list_words(of.inputs, value_words),
-                  *condition_words(of.condition)]
+        fields = [of.target, of.count, *list_words(of.inputs, value_words), *condition_words(of.condition)]
     return [lead, number, *fields]
 
 
@@ -179,26 +176,25 @@ def line_text(lead, number, of, *rest):
         return f"region {number} in {joined(of)} kids {joined(kids)} out {values_text(outs)}"
     if lead == BLOCK:
         return f"block {number} " + joined(
-            f"{region}.{place}/{inst.opcode}/{inst.type}/{values_text(reads)}"
-            for region, place, inst, reads in items(of))
+            f"{region}.{place}/{inst.opcode}/{inst.type}/{values_text(reads)}" for region, place, inst, reads in items(of)
+        )
     if lead == SELECT:
-        return (f"select {number} {'bool' if of.kind == IF else 'num'} {value_text(of.value)} "
-                f"cases {joined(of.cases)} out {joined(of.types)}")
+        return (
+            f"select {number} {'bool' if of.kind == IF else 'num'} {value_text(of.value)} "
+            f"cases {joined(of.cases)} out {joined(of.types)}"
+        )
     if lead == LOOP:
-        return (f"loop {number} in {values_text(of.first)} body {of.body} "
-                f"repeat {value_text(of.repeat)}")
+        return f"loop {number} in {values_text(of.first)} body {of.body} " f"repeat {value_text(of.repeat)}"
     if lead == EXIT:
         return f"exit {number} {of.opcode} in {values_text(of.values)}"
     target = "return" if of.target == TO_RETURN else of.target
-    return (f"defer {number} to {target} count {of.count} in {values_text(of.inputs)} "
-            f"if {condition_text(of.condition)}")
+    return f"defer {number} to {target} count {of.count} in {values_text(of.inputs)} " f"if {condition_text(of.condition)}"
 
 
 def text(result):
     """The sheet's lines."""
     most = "-" if result.figure is None else result.figure
-    head = (f"{OUTCOMES[result.outcome]} figure {most} attempts {result.attempts} "
-            f"twice {result.twice}\n")
+    head = f"{OUTCOMES[result.outcome]} figure {most} attempts {result.attempts} " f"twice {result.twice}\n"
     return head + "".join(line_text(*line) + "\n" for line in all_lines(result))
 
 

@@ -26,7 +26,7 @@ def payload(store):
         raise Refused(1)
     words = []
     for number in range(len(store) // BLOCK):
-        block = store[BLOCK * number:BLOCK * (number + 1)]
+        block = store[BLOCK * number : BLOCK * (number + 1)]
         if int.from_bytes(block[:2], "little") != number:
             raise Refused(2, number)
         if int.from_bytes(block[508:], "little") != check(block):
@@ -39,7 +39,7 @@ def blocks(words):
     """The store whose payload is these words, filled up with zeros."""
     store = b""
     for number in range(max(1, -(-len(words) // WORDS))):
-        part = list(words[WORDS * number:WORDS * (number + 1)])
+        part = list(words[WORDS * number : WORDS * (number + 1)])
         block = struct.pack("<254H", number, *part, *[0] * (WORDS - len(part)))
         store += block + check(block).to_bytes(4, "little")
     return store

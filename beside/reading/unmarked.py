@@ -9,7 +9,6 @@ class Panic(Exception):
 
 
 class Unmarked(Nesting):
-
     def within(self, defined, most):
         pass
 
