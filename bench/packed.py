@@ -28,6 +28,9 @@ def stores(names):
 
 
 if __name__ == "__main__":
+    if sys.argv[1:] in (["-h"], ["--help"]):
+        print(__doc__.strip())
+        sys.exit(0)
     if not sys.argv[1:]:
         print(__doc__, file=sys.stderr)
         sys.exit(2)

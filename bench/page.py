@@ -26,6 +26,9 @@ def main(folder, page):
 
 
 if __name__ == "__main__":
+    if sys.argv[1:] in (["-h"], ["--help"]):
+        print(__doc__.strip())
+        sys.exit(0)
     if len(sys.argv) != 3:
         refuse("usage: page.py FOLDER PAGE")
     try:

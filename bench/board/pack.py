@@ -27,6 +27,9 @@ def main(out, *files):
 
 
 if __name__ == "__main__":
+    if sys.argv[1:] in (["-h"], ["--help"]):
+        print(__doc__.strip())
+        sys.exit(0)
     if len(sys.argv) < 3:
         refuse("usage: pack.py OUT VECTORS..")
     if not pathlib.Path(sys.argv[1]).is_dir():

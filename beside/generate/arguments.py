@@ -22,6 +22,9 @@ def arguments(text, *kinds):
     """The arguments, each as its kind has it. `text` is the module's own, which says what they are."""
     usage = next((line.strip() for line in text.splitlines() if line.strip().startswith("python3 -m")), "")
     words = sys.argv[1:]
+    if words in (["-h"], ["--help"]):
+        print(text.strip())
+        sys.exit(0)
     try:
         if len(words) != len(kinds):
             raise ValueError(f"{len(words)} arguments in place of {len(kinds)}" if words else "arguments are missing")

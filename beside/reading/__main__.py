@@ -50,7 +50,9 @@ def vectors(answer):
 def main(asked):
     answers = {"": printed, "words": in_words, "show": shown}
     how = " ".join(asked)
-    if how in answers:
+    if how in ("-h", "--help"):
+        print(__doc__.strip())
+    elif how in answers:
         sys.stdout.write(answers[how](sys.stdin.buffer.read()))
     elif asked[0] == "vectors" and " ".join(asked[1:]) in answers:
         vectors(answers[" ".join(asked[1:])])
