@@ -2,8 +2,11 @@
 summary.py --room STATE BOARD < LINES           how many words of a sheet have room on the board beside the state and the deepest stack
 summary.py --budget STATE BOARD WORDS < LINES   where the board's bytes go; WORDS are lent for the sheet
 """
+
 import statistics
 import sys
+from dataclasses import dataclass
+from typing import NoReturn
 
 CALLS = "accept", "nesting", "whole"
 OTHER = 256  # bytes for the caller's own frame, and for an interrupt's
@@ -11,19 +14,30 @@ NAMED = 5  # lines of case A and the four chains
 COUNTS = {"--room": 2, "--budget": 3}
 
 
+@dataclass(frozen=True)
 class Line:
-    def __init__(self, text):
+    """Of one record: the words of its sheet, and the bytes of stack and the instructions of each call."""
+
+    sheet: int
+    stack: list[int]
+    took: list[int]
+
+    @staticmethod
+    def read(text: str) -> "Line":
+        """A line of main.c: nine numbers, or ValueError."""
         numbers = [int(word) for word in text.split()]
         if len(numbers) != 9:
-            raise ValueError
-        self.sheet, self.stack, self.took = numbers[2], numbers[3:6], numbers[6:9]
+            raise ValueError("a line has nine numbers")
+        return Line(numbers[2], numbers[3:6], numbers[6:9])
 
 
-def deepest(lines):
+def deepest(lines: list[Line]) -> int:
+    """The deepest stack of the whole."""
     return max(line.stack[2] for line in lines)
 
 
-def table(name, lines):
+def table(name: str, lines: list[Line]) -> None:
+    """Prints stack and instructions of each call."""
     print(f"{name}, {len(lines):,} records")
     print("             stack: case A, branches, selects, of four cases,   loops,   others | instructions: case A,    median,     worst")
     for place, call in enumerate(CALLS):
@@ -34,7 +48,8 @@ def table(name, lines):
         print(f"  {call:8} {stack[0]:13,} {stack[1]:9,} {stack[2]:8,} {stack[3]:14,} {stack[4]:8,} {others:8,} | {counted}")
 
 
-def budget(lines, state, board, words):
+def budget(lines: list[Line], state: int, board: int, words: int) -> None:
+    """Prints where the board's bytes go."""
     stack = deepest(lines)
     left = board - state - stack - OTHER
     fit = sum(state + line.stack[2] + OTHER + 4 * line.sheet <= board for line in lines if line.sheet)
@@ -48,15 +63,16 @@ def budget(lines, state, board, words):
     )
 
 
-def refuse(sentence):
+def refuse(sentence: str) -> NoReturn:
+    """Says what is wrong, and ends."""
     print(f"summary.py: {sentence}", file=sys.stderr)
     sys.exit(2)
 
 
-def read_lines():
+def read_lines() -> list[Line]:
     """What main.c printed; a sentence and status 2 where it is something else."""
     try:
-        lines = [Line(text) for text in sys.stdin]
+        lines = [Line.read(text) for text in sys.stdin]
     except OSError as error:
         refuse(f"standard input: {error.strerror}")
     except ValueError:
@@ -66,7 +82,8 @@ def read_lines():
     return lines
 
 
-def main(what="", *given):
+def main(what: str = "", *given: str) -> None:
+    """Reads the command and the lines, and prints what was asked for."""
     if not what or len(given) != COUNTS.get(what, 0) or (what.startswith("-") and what not in COUNTS):
         refuse("usage: summary.py NAME, or --room STATE BOARD, or --budget STATE BOARD WORDS")
     try:

@@ -1,0 +1,144 @@
+"""What tools/ does without rt: edits found, scripts told apart, equations written, a status given."""
+
+import contextlib
+import importlib.machinery
+import importlib.util
+import io
+import os
+import pathlib
+import subprocess
+import tempfile
+import types
+import unittest
+
+FOLDER = pathlib.Path(__file__).resolve().parents[1]
+COMMANDS = "beside", "compute", "edit", "lint", "pages", "situations", "status", "test"
+
+
+def script(name: str) -> types.ModuleType:
+    """A script without a suffix, as a module."""
+    loader = importlib.machinery.SourceFileLoader(name, str(FOLDER / name))
+    spec = importlib.util.spec_from_loader(name, loader)
+    assert spec is not None
+    module = importlib.util.module_from_spec(spec)
+    loader.exec_module(module)
+    return module
+
+
+class Edit(unittest.TestCase):
+    """tools/edit."""
+
+    def test_reached(self) -> None:
+        """A crate, and all that it stands on; libraries of the toolchain are none of these."""
+        edit = script("edit")
+        listed = edit.dependencies("# a: comment\na:\nb: a io\nc: b # more\nd: a\n")
+        self.assertEqual(listed, {"a": [], "b": ["a", "io"], "c": ["b"], "d": ["a"]})
+        self.assertEqual(edit.reached("c", listed), ["c", "b", "a"])
+
+    def test_no_such_edit(self) -> None:
+        """An edit that is not there is refused with status 2."""
+        told = subprocess.run([FOLDER / "edit", "store/nothing"], capture_output=True, text=True)
+        self.assertEqual((told.returncode, told.stderr), (2, "tools/edit: there is no edit store/nothing\n"))
+
+
+class Lint(unittest.TestCase):
+    """tools/lint."""
+
+    def test_language(self) -> None:
+        """A script is told by its suffix, or by its first line."""
+        lint = script("lint")
+        with tempfile.TemporaryDirectory() as made:
+            folder = pathlib.Path(made)
+            texts = {
+                "a.py": "",
+                "b": "#!/usr/bin/env python3\n",
+                "c": "#!/bin/sh\n",
+                "d": "#!/usr/bin/env bash\n",
+                "e": "text\n",
+                "f.c": "",
+            }
+            for name, text in texts.items():
+                (folder / name).write_text(text)
+            found = [lint.language(folder / name) for name in texts]
+        self.assertEqual(found, ["python", "python", "shell", "shell", "", ""])
+
+    def test_scripts(self) -> None:
+        """Scripts without a suffix are among those that are checked."""
+        lint = script("lint")
+        self.assertIn("tools/lint", lint.scripts(FOLDER.parent, "python"))
+        self.assertIn("bench/run", lint.scripts(FOLDER.parent, "shell"))
+
+
+class Compute(unittest.TestCase):
+    """tools/compute."""
+
+    def vectors(self, text: str) -> list[tuple[str, list[str]]]:
+        """The vectors of a file with this text."""
+        with tempfile.NamedTemporaryFile("w", suffix=".vectors") as file:
+            file.write(text)
+            file.flush()
+            return list(script("compute").vectors(file.name))
+
+    def test_vectors(self) -> None:
+        """Stores with their answers; those that are wrong on purpose are passed over."""
+        self.assertEqual(self.vectors("store 00ff\nrefused 1 0\n.\nwrong 00\nx\n.\n"), [("00ff", ["refused 1 0"])])
+
+    def test_no_vectors(self) -> None:
+        """A file that ends within a vector, or has none, is refused with status 2."""
+        for text in ("", "store 00\nrefused 1 0\n", "store 0g\nx\n.\n", "else 00\nx\n.\n"):
+            with self.assertRaises(SystemExit) as ended, contextlib.redirect_stderr(io.StringIO()):
+                self.vectors(text)
+            self.assertEqual(ended.exception.code, 2)
+
+    def test_equations(self) -> None:
+        """A sheet's equation has the bytes and the text; without `twice` it is compared without it."""
+        compute = script("compute")
+        self.assertIn('printed (hex "00") ≡ (ascii "refused 1 0\\n")', compute.sheet_equation("v0", "00", ["refused 1 0"]))
+        self.assertIn("without-twice", compute.sheet_equation("v0", "00", ["whole figure 0 attempts 1"]))
+        runs = compute.runs_equation("v0", "00", ["given 1,2 - 3 4 5 6", "graph none", "nested none"])
+        self.assertIn("(given-words (1 ∷ 2 ∷ []) ([]) 3 4 5 6)", runs)
+
+
+class Status(unittest.TestCase):
+    """tools/status, with programs that only say something."""
+
+    def status(self, text: str) -> int:
+        """The status that is given to a program with this text."""
+        with tempfile.TemporaryDirectory() as made:
+            program = pathlib.Path(made) / "nest"
+            program.write_text("#!/bin/sh\n" + text)
+            program.chmod(0o755)
+            given = {**os.environ, "RUKVETTA_PROGRAMS": made}
+            return subprocess.run([FOLDER / "status", "nest"], env=given, capture_output=True, stdin=subprocess.DEVNULL).returncode
+
+    def test_status(self) -> None:
+        """0 a sheet, 1 a refusal, 2 what failed, 3 a program that was ended."""
+        self.assertEqual(self.status("echo whole figure 0"), 0)
+        self.assertEqual(self.status("echo refused 1 0"), 1)
+        self.assertEqual(self.status("echo 'nest: standard input cannot be read' >&2"), 2)
+        self.assertEqual(self.status("kill -9 $$"), 3)
+
+    def test_command(self) -> None:
+        """Another program is refused with status 2."""
+        told = subprocess.run([FOLDER / "status", "ls"], capture_output=True)
+        self.assertEqual(told.returncode, 2)
+
+
+class Commands(unittest.TestCase):
+    """What a person types."""
+
+    def test_help(self) -> None:
+        """Each command answers --help."""
+        for name in COMMANDS:
+            told = subprocess.run([FOLDER / name, "--help"], capture_output=True, text=True, timeout=60)
+            self.assertEqual((told.returncode, told.stderr), (0, ""), name)
+            self.assertIn(f"tools/{name}", told.stdout)
+
+    def test_all_commands(self) -> None:
+        """No command is left out above."""
+        found = [path.name for path in FOLDER.iterdir() if path.is_file() and os.access(path, os.X_OK)]
+        self.assertEqual(sorted(found), sorted(COMMANDS))
+
+
+if __name__ == "__main__":
+    unittest.main()
