@@ -7,6 +7,8 @@
 """
 
 import sys
+from collections.abc import Callable
+from typing import NoReturn
 
 from .nesting import Nesting
 from .record import show
@@ -14,26 +16,26 @@ from .sheet import accepted, nest, printed, words
 from .store import Refused
 
 
-def refuse(sentence):
+def refuse(sentence: str) -> NoReturn:
     print(f"reading: {sentence}", file=sys.stderr)
     sys.exit(2)
 
 
-def shown(store):
+def shown(store: bytes) -> str:
     try:
         return show(accepted(store)[0])
     except Refused as refused:
         return f"{refused}\n"
 
 
-def in_words(store):
+def in_words(store: bytes) -> str:
     try:
         return " ".join(map(str, words(nest(Nesting(*accepted(store)))))) + "\n"
     except Refused as refused:
         return f"{refused}\n"
 
 
-def vectors(answer):
+def vectors(answer: Callable[[bytes], str]) -> None:
     found = False
     for line in sys.stdin:
         if line.startswith("store"):
@@ -47,7 +49,7 @@ def vectors(answer):
         refuse("no line begins with `store`: this is no vector file")
 
 
-def main(asked):
+def main(asked: list[str]) -> int:
     answers = {"": printed, "words": in_words, "show": shown}
     how = " ".join(asked)
     if how in ("-h", "--help"):

@@ -1,15 +1,17 @@
 """LoopFinder of cfg.rs: each loop header's exit targets, for records made here."""
 
+from collections.abc import Sequence
+
 from .record import RETURN
 
 
-def loop_exits(entry, kinds, targets):
+def loop_exits(entry: int, kinds: Sequence[int], targets: Sequence[Sequence[int]]) -> list[list[int]]:
     """A list of exit targets for each region, given each region's terminator and targets."""
-    exits = [[] for _ in kinds]
-    stack = []
-    state = {}  # a place on the stack, or ("done", may return)
+    exits: list[list[int]] = [[] for _ in kinds]
+    stack: list[int] = []
+    state: dict[int, int | tuple[str, bool]] = {}  # a place on the stack, or ("done", may return)
 
-    def earliest(node):
+    def earliest(node: int) -> tuple[int | None, bool]:
         """The earliest place on the stack that node leads to, and whether it may return."""
         if node in state:
             known = state[node]

@@ -4,7 +4,10 @@ A set of deferred edges is a list of Edge: none is Unreachable, one is Always (i
 is T), more are a Choice. A condition is T, F, U or a Merge of a select's cases.
 """
 
-from .record import BOOL, BRANCH, CONST, EXIT, FALSE, HELD, IF, INPUT, OUTPUT, RETURN, SWITCH, TRUE, UNDEF
+from collections.abc import Callable, Iterable, Sequence
+from dataclasses import dataclass, field
+
+from .record import BOOL, BRANCH, CONST, EXIT, FALSE, HELD, IF, INPUT, OUTPUT, RETURN, SWITCH, TRUE, UNDEF, Inst, Record, Value
 from .store import Refused
 
 TO_RETURN = 65535  # the deferred target Return
@@ -13,72 +16,89 @@ PLAIN = {T: TRUE, F: FALSE, U: (UNDEF, 0, 1)}
 NEW, BEGUN, READY, CLAIMED = range(4)  # states of a region
 
 
+@dataclass(eq=False, slots=True)
 class Merge:
-    __slots__ = "node", "parts"
+    """A condition by the cases of a select."""
 
-    def __init__(self, node, parts):
-        self.node, self.parts = node, parts
+    node: int
+    parts: "list[Condition]"
 
 
+Condition = str | Merge
+
+
+@dataclass(eq=False, slots=True)
 class Edge:
     """A deferred edge bundle."""
 
-    __slots__ = "target", "count", "inputs", "condition"
+    target: int
+    count: int
+    inputs: Sequence[Value]
+    condition: Condition = T
 
-    def __init__(self, target, count, inputs, condition=T):
-        self.target, self.count, self.inputs, self.condition = target, count, inputs, condition
 
-
+@dataclass(eq=False, slots=True)
 class Case:
     """A claimed region with its inputs and set, or (body None) a set alone."""
 
-    __slots__ = "body", "inputs", "edges"
+    body: int | None
+    inputs: Sequence[Value]
+    edges: list[Edge]
 
-    def __init__(self, body, inputs, edges):
-        self.body, self.inputs, self.edges = body, inputs, edges
 
-
+@dataclass(eq=False, slots=True)
 class Nested:
     """A region of the nested form."""
 
-    __slots__ = "inputs", "kids", "outs"
+    inputs: list[int]
+    kids: list[int] = field(default_factory=list)
+    outs: list[Value] = field(default_factory=list)
 
-    def __init__(self, inputs):
-        self.inputs, self.kids, self.outs = inputs, [], []
 
-
+@dataclass(eq=False, slots=True)
 class Block:
     """Instructions of a region from place `first` on; `reads` for each of them."""
 
-    __slots__ = "region", "first", "insts", "reads"
+    region: int
+    first: int
+    insts: list[Inst]
+    reads: list[list[Value]] = field(init=False)
 
-    def __init__(self, region, first, insts):
-        self.region, self.first, self.insts = region, first, insts
-        self.reads = [inst.reads for inst in insts]
+    def __post_init__(self) -> None:
+        self.reads = [inst.reads for inst in self.insts]
 
 
+@dataclass(eq=False, slots=True)
 class Select:
-    __slots__ = "kind", "value", "cases", "types"
+    """A select; the types of its outputs come as they are made."""
 
-    def __init__(self, kind, value, cases):
-        self.kind, self.value, self.cases, self.types = kind, value, cases, []
+    kind: int
+    value: Value
+    cases: list[int]
+    types: list[int] = field(default_factory=list)
 
 
+@dataclass(eq=False, slots=True)
 class Loop:
-    __slots__ = "first", "body", "repeat"
+    """A loop: first inputs, body region, repeat value."""
 
-    def __init__(self, first, body, repeat):
-        self.first, self.body, self.repeat = first, body, repeat
+    first: list[Value]
+    body: int
+    repeat: Value
 
 
+@dataclass(eq=False, slots=True)
 class Exit:
-    __slots__ = "opcode", "values"
+    """An exit with its opcode and values."""
 
-    def __init__(self, opcode, values):
-        self.opcode, self.values = opcode, values
+    opcode: int
+    values: Sequence[Value]
 
 
-def incoming_counts(record):
+Node = Block | Select | Loop | Exit
+
+
+def incoming_counts(record: Record) -> list[int]:
     """The number of edges into each region from regions in reach, exit lists included."""
     counts, todo, reached = [0] * len(record.regions), [record.entry], {record.entry}
     counts[record.entry] = 1
@@ -94,7 +114,7 @@ def incoming_counts(record):
     return counts
 
 
-def as_set(edges):
+def as_set(edges: list[Edge]) -> list[Edge]:
     """A set of one has no condition."""
     if len(edges) == 1:
         edges[0].condition = T
@@ -104,15 +124,16 @@ def as_set(edges):
 class Nesting:
     """The nesting state; `returned` are the types of the record's Return regions."""
 
-    def __init__(self, record, returned):
+    def __init__(self, record: Record, returned: list[int] | None) -> None:
         self.record, self.returned = record, returned
         self.counts = incoming_counts(record)
         self.states = [NEW] * len(record.regions)
         self.back = [0] * len(record.regions)  # backedge counts of Ready regions
-        self.sets = [None] * len(record.regions)  # and their deferred edges
-        self.rewrites = {}  # region: the value that takes the place of each input
+        self.sets: list[list[Edge]] = [[]] * len(record.regions)  # and their deferred edges
+        self.rewrites: dict[int, Sequence[Value]] = {}  # region: the value that takes the place of each input
         self.attempts = self.twice = self.outputs = self.conditions = 0
-        self.regions, self.nodes = [Nested(list(r.inputs)) for r in record.regions], []
+        self.regions = [Nested(list(r.inputs)) for r in record.regions]
+        self.nodes: list[Node] = []
         for number, region in enumerate(record.regions):
             first = 0
             for insts in region.blocks:
@@ -122,22 +143,22 @@ class Nesting:
 
     # Definitions, each within its limit.
 
-    def within(self, defined, most):
+    def within(self, defined: int, most: int) -> None:
         if defined == most:
             raise Refused(9)
 
-    def new_region(self):
+    def new_region(self) -> int:
         self.within(len(self.regions), 128)
         self.regions.append(Nested([]))
         return len(self.regions) - 1
 
-    def new_node(self, node, parent):
+    def new_node(self, node: Node, parent: int) -> int:
         self.within(len(self.nodes), 512)
         self.nodes.append(node)
         self.regions[parent].kids.append(len(self.nodes) - 1)
         return len(self.nodes) - 1
 
-    def new_output(self, number, type, values):
+    def new_output(self, number: int, type: int, values: Iterable[Value]) -> Value:
         """Another output of a select, with a value for each case."""
         self.within(self.outputs, 512)
         self.outputs += 1
@@ -147,14 +168,14 @@ class Nesting:
         select.types.append(type)
         return OUTPUT, number, len(select.types) - 1
 
-    def new_merge(self, node, parts):
+    def new_merge(self, node: int, parts: list[Condition]) -> Merge:
         self.within(self.conditions, 512)
         self.conditions += 1
         return Merge(node, parts)
 
     # Values.
 
-    def look_up(self, value):
+    def look_up(self, value: Value) -> Value:
         """The value after all replacements; a renumbered input is held and stays."""
         while value[0] == INPUT and value[1] in self.rewrites:
             new = self.rewrites[value[1]][value[2]]
@@ -165,12 +186,12 @@ class Nesting:
             self.twice = 1  # looking it up once more would change it
         return value
 
-    def look_up_all(self, values):
+    def look_up_all(self, values: Iterable[Value]) -> list[Value]:
         return [self.look_up(value) for value in values]
 
     # The Structurizer's functions.
 
-    def claim(self, target, count, inputs):
+    def claim(self, target: int, count: int, inputs: Sequence[Value]) -> Case | None:
         """try_claim_edge_bundle: the claimed Case, or None if the bundle has to wait."""
         self.attempts += 1
         if self.states[target] == NEW:
@@ -197,7 +218,8 @@ class Nesting:
         wrapper = self.new_region()
         body = self.regions[target]
         types, body.inputs = body.inputs, []
-        first, rewrites = [], []
+        first: list[Value] = []
+        rewrites: list[Value] = []
         for index, value in enumerate(self.look_up_all(backedge.inputs)):
             outer = (INPUT, wrapper, index)
             if value == (INPUT, target, index):
@@ -216,7 +238,7 @@ class Nesting:
                 edge.count += 1
         return Case(wrapper, inputs, edges)
 
-    def structurize(self, number):
+    def structurize(self, number: int) -> None:
         """structurize_region: nest all that a region owns into it; it becomes Ready."""
         self.states[number] = BEGUN
         region = self.record.regions[number]
@@ -257,7 +279,7 @@ class Nesting:
         self.states[number], self.sets[number] = READY, edges
         self.back[number] = sum(edge.count for edge in edges if edge.target == number)
 
-    def select(self, parent, kind, scrutinee, cases):
+    def select(self, parent: int, kind: int, scrutinee: Callable[[], Value], cases: list[Case]) -> list[Edge]:
         """structurize_select_into: append a select if one is needed; answer the merged set."""
         live = [place for place, case in enumerate(cases) if case.edges]
         if len(live) == 1:
@@ -279,7 +301,7 @@ class Nesting:
         if any(case.body is not None and self.regions[case.body].kids for case in cases):
             node()
 
-        totals = {}
+        totals: dict[int, int] = {}
         for case in cases:
             case.inputs = self.look_up_all(case.inputs)
             for edge in case.edges:
@@ -306,10 +328,10 @@ class Nesting:
                 self.regions[case.body].inputs = []
         return as_set(merged)
 
-    def type_of_input(self, target, place, values):
+    def type_of_input(self, target: int, place: int, values: Sequence[Value | None]) -> int:
         return (self.returned if target == TO_RETURN else self.record.regions[target].inputs)[place]
 
-    def merged_input(self, node, target, place, cases, values):
+    def merged_input(self, node: Callable[[], int], target: int, place: int, cases: list[Case], values: Sequence[Value | None]) -> Value:
         """One passed value out of the cases that pass it: the same in all, or an output."""
         outside = set()  # the values as seen outside the cases; None is seen only inside
         for case, value in zip(cases, values):
@@ -325,7 +347,7 @@ class Nesting:
         type = self.type_of_input(target, place, values)
         return self.new_output(node(), type, [value or (UNDEF, 0, type) for value in values])
 
-    def materialize(self, condition):
+    def materialize(self, condition: Condition) -> Value:
         """materialize_lazy_cond: the value of a condition, a new output if need be."""
         if condition in PLAIN:
             return PLAIN[condition]
@@ -335,7 +357,7 @@ class Nesting:
             return select.value
         return self.new_output(condition.node, 1, values)
 
-    def append(self, parent, case):
+    def append(self, parent: int, case: Case) -> list[Edge]:
         """append_maybe_claimed_region: the claimed region's children go to the parent."""
         if case.body is not None:
             if case.inputs:

@@ -1,6 +1,13 @@
 """Records: reading them (4, 5), their references (6, 7, 8), writing and showing them."""
 
+from collections.abc import Callable, Collection, Iterable, Sequence
+from dataclasses import dataclass, field
+from typing import TypeVar
+
 from .store import Refused, WORDS
+
+Item = TypeVar("Item")
+Value = tuple[int, int, int]  # kind, region, index
 
 # Kinds of values. Six is ours: an input that was renumbered, the mark of document 01.
 CONST, INPUT, INSTR, OUTPUT, BOOL, UNDEF, HELD = range(7)
@@ -14,30 +21,43 @@ VALUES = (0, 0), (0, 4), (0, 4), (0, 0), (1, 1), (1, 1)
 TARGETS = (0, 0), (0, 0), (0, 0), (1, 1), (2, 2), (1, 8)
 
 
+@dataclass(eq=False, slots=True)
 class Inst:
-    __slots__ = "opcode", "type", "cost", "reads"
+    """An instruction; type 0 is no output."""
 
-    def __init__(self, opcode, type, cost, reads):
-        self.opcode, self.type, self.cost, self.reads = opcode, type, cost, reads
+    opcode: int
+    type: int
+    cost: int
+    reads: list[Value]
 
 
+@dataclass(eq=False, slots=True)
 class Region:
     """A region; `passed` holds the inputs of each distinct target, by first standing."""
 
-    __slots__ = ("inputs", "blocks", "limit", "kind", "opcode", "values", "targets", "passed", "exits", "insts")
+    inputs: list[int]
+    blocks: list[list[Inst]]
+    limit: int
+    kind: int
+    opcode: int = 0
+    values: Sequence[Value] = ()
+    targets: Sequence[int] = ()
+    passed: dict[int, list[Value]] = field(default_factory=dict)
+    exits: Sequence[int] = ()
+    insts: list[Inst] = field(init=False)
 
-    def __init__(self, inputs, blocks, limit, kind, opcode=0, values=(), targets=(), passed=None, exits=()):
-        self.inputs, self.blocks, self.limit = inputs, blocks, limit
-        self.kind, self.opcode, self.values = kind, opcode, values
-        self.targets, self.passed, self.exits = targets, passed or {}, exits
-        self.insts = [inst for block in blocks for inst in block]
+    def __post_init__(self) -> None:
+        self.insts = [inst for block in self.blocks for inst in block]
 
 
+@dataclass(eq=False, slots=True)
 class Record:
-    __slots__ = "entry", "test", "constants", "regions"
+    """A record as it was read."""
 
-    def __init__(self, entry, test, constants, regions):
-        self.entry, self.test, self.constants, self.regions = entry, test, constants, regions
+    entry: int
+    test: int
+    constants: Sequence[int]
+    regions: list[Region]
 
 
 # Reading: 4 and 5.
@@ -46,37 +66,37 @@ class Record:
 class Reader:
     """The words in front of W, one after another; `region` is the one being read."""
 
-    def __init__(self, words):
+    def __init__(self, words: list[int]) -> None:
         self.words, self.at, self.end, self.region = words, 1, words[0], 0
 
-    def word(self):
+    def word(self) -> int:
         if self.at >= self.end:
             raise Refused(4)
         self.at += 1
         return self.words[self.at - 1]
 
-    def within(self, least, most):
+    def within(self, least: int, most: int) -> int:
         word = self.word()
         if not least <= word <= most:
             raise Refused(5, self.region)
         return word
 
-    def list(self, least, most, item):
+    def list(self, least: int, most: int, item: Callable[[], Item]) -> "list[Item]":
         return [item() for _ in range(self.within(least, most))]
 
-    def type(self):
+    def type(self) -> int:
         return self.within(1, 255)
 
-    def value(self):
+    def value(self) -> Value:
         kind = self.within(0, 5)
         if kind == OUTPUT:
             raise Refused(5, self.region)
         return kind, self.word(), self.type() if kind == UNDEF else self.word()
 
-    def inst(self):
+    def inst(self) -> Inst:
         return Inst(self.word(), self.within(0, 255), self.word(), self.list(0, 3, self.value))
 
-    def one_region(self):
+    def one_region(self) -> Region:
         inputs = self.list(0, 4, self.type)
         blocks = self.list(0, 8, lambda: self.list(1, 8, self.inst))
         limit = self.within(1, 65535)
@@ -84,7 +104,7 @@ class Reader:
         opcode = self.word() if kind == EXIT else 0
         values = self.list(*VALUES[kind], self.value)
         targets = self.list(*TARGETS[kind], self.word)
-        passed = {}
+        passed: dict[int, list[Value]] = {}
         for target in targets:
             if target not in passed:
                 passed[target] = self.list(0, 4, self.value)
@@ -92,7 +112,7 @@ class Reader:
         return Region(inputs, blocks, limit, kind, opcode, values, targets, passed, exits)
 
 
-def read(words):
+def read(words: list[int]) -> Record:
     """The record in these payload words, or 4 or 5."""
     used = words[0]
     if used == 0 or len(words) != WORDS * -(-used // WORDS) or any(words[used:]):
@@ -101,7 +121,7 @@ def read(words):
     count = reader.within(1, 32)
     entry, test = reader.word(), reader.word()
     constants = reader.list(0, 64, reader.type)
-    regions = []
+    regions: list[Region] = []
     for reader.region in range(count):
         regions.append(reader.one_region())
     if reader.at != used:
@@ -112,7 +132,7 @@ def read(words):
 # References: 6, 7 and 8.
 
 
-def type_of(record, number, value, before):
+def type_of(record: Record, number: int, value: Value, before: int) -> int:
     """The type of a value used in a region after `before` instructions, or 6."""
     kind, region, index = value
     own = record.regions[number]
@@ -132,9 +152,10 @@ def type_of(record, number, value, before):
     raise Refused(6, number)
 
 
-def refer(record):
+def refer(record: Record) -> list[int] | None:
     """Check all references in record order; answer the types that are returned, if any."""
-    count, returned = len(record.regions), None
+    count = len(record.regions)
+    returned: list[int] | None = None
     if record.entry >= count:
         raise Refused(6)
     for number, region in enumerate(record.regions):
@@ -173,17 +194,17 @@ def refer(record):
 # Writing, as words and as text.
 
 
-def list_words(items, words):
+def list_words(items: Collection[Item], words: Callable[[Item], Iterable[int]]) -> list[int]:
     return [len(items), *[word for item in items for word in words(item)]]
 
 
-def words_of(record):
+def words_of(record: Record) -> list[int]:
     """The record's words after W. Nothing is checked: a bad record has words too."""
 
-    def inst(i):
+    def inst(i: Inst) -> list[int]:
         return [i.opcode, i.type, i.cost, *list_words(i.reads, list)]
 
-    def region(r):
+    def region(r: Region) -> list[int]:
         words = [len(r.inputs), *r.inputs]
         words += list_words(r.blocks, lambda block: list_words(block, inst))
         words += [r.limit, r.kind] + [r.opcode] * (r.kind == EXIT)
@@ -202,11 +223,11 @@ def words_of(record):
     ]
 
 
-def joined(items):
+def joined(items: Iterable[object]) -> str:
     return ",".join(map(str, items)) or "-"
 
 
-def value_text(value):
+def value_text(value: Value) -> str:
     kind, region, index = value
     return (
         f"c{index}",
@@ -219,11 +240,11 @@ def value_text(value):
     )[kind]
 
 
-def values_text(values):
+def values_text(values: Iterable[Value]) -> str:
     return joined(map(value_text, values))
 
 
-def show(record):
+def show(record: Record) -> str:
     """The text of an accepted record, a line for each part."""
     lines = [f"record regions {len(record.regions)} entry {record.entry} test {record.test} " f"constants {joined(record.constants)}"]
     for number, region in enumerate(record.regions):

@@ -5,15 +5,23 @@ An undefined value is None. Events are (region, place, opcode, reads). An end is
 "unreachable", "undefined", "off", and "budget" where this reading gave up.
 """
 
+from collections.abc import Callable, Iterable, Sequence
+from typing import Any
+
 from .nesting import Block, Loop, Select
-from .record import BOOL, BRANCH, CONST, EXIT, HELD, IF, INPUT, INSTR, OUTPUT, RETURN, UNREACHABLE
-from .sheet import WHOLE
+from .record import BOOL, BRANCH, CONST, EXIT, HELD, IF, INPUT, INSTR, OUTPUT, RETURN, UNREACHABLE, Record, Value
+from .sheet import WHOLE, Result
+
+Word = int | None  # None is the mark
+Rule = Callable[[int, Sequence[Word], int], int]
+Event = tuple[int, int, int, list[Word]]
+End = Any  # as said above
 
 
-def rule(seed):
+def rule(seed: int) -> Rule:
     """A rule: a seeded answer to opcode, reads and the number of instructions before."""
 
-    def answer(opcode, reads, before):
+    def answer(opcode: int, reads: Sequence[Word], before: int) -> int:
         h = (seed * 0x9E3779B1 + opcode * 0x85EBCA6B + before * 0xC2B2AE35) & 0xFFFFFFFF
         for read in reads:
             h = ((h ^ h >> 15) * 0x2C1B3C6D + (0x12345 if read is None else read)) & 0xFFFFFFFF
@@ -25,7 +33,7 @@ def rule(seed):
     return answer
 
 
-def place_taken(kind, word, ways):
+def place_taken(kind: int, word: Word, ways: int) -> int | None:
     """The place a test takes, or None for an undefined one."""
     if word is None:
         return None
@@ -34,14 +42,16 @@ def place_taken(kind, word, ways):
     return min(word, ways - 1)
 
 
-def graph_run(record, constants, inputs, answer, budget):
+def graph_run(record: Record, constants: Sequence[int], inputs: Sequence[Word], answer: Rule, budget: int) -> tuple[list[Event], End, int]:
     """Events, end and the number of regions passed."""
-    events, number, steps = [], record.entry, 0
+    events: list[Event] = []
+    number, steps = record.entry, 0
     while True:
         if steps == budget:
             return events, "budget", steps
         steps += 1
-        region, outs = record.regions[number], []
+        region = record.regions[number]
+        outs: list[int] = []
 
         def word(value):
             kind, _, index = value
@@ -71,7 +81,7 @@ def graph_run(record, constants, inputs, answer, budget):
 
 
 class Ended(Exception):
-    pass
+    """A nested run has come to its end, or to what is none."""
 
 
 class NestedRun:
@@ -80,10 +90,11 @@ class NestedRun:
     `late` tells that a loop began more turns than its turn limit.
     """
 
-    def __init__(self, result, constants, inputs, answer, budget):
+    def __init__(self, result: Result, constants: Sequence[int], inputs: Sequence[Word], answer: Rule, budget: int) -> None:
         self.result, self.constants, self.answer = result, constants, answer
-        self.events, self.cost, self.late, self.budget = [], 0, False, budget
-        self.words = {(INPUT, result.record.entry, k): word for k, word in enumerate(inputs)}
+        self.cost, self.late, self.budget = 0, False, budget
+        self.events: list[Event] = []
+        self.words: dict[Value, Word] = {(INPUT, result.record.entry, k): word for k, word in enumerate(inputs)}
         try:
             self.region(result.record.entry)
             outs = result.regions[result.record.entry].outs
@@ -91,7 +102,7 @@ class NestedRun:
         except Ended as ended:
             (self.end,) = ended.args
 
-    def word(self, value):
+    def word(self, value: Value) -> Word:
         """A value's word; reading what was never made is an error of the form (KeyError)."""
         kind, region, index = value
         if kind in (INPUT, HELD):  # one and the same in the form that is printed
@@ -100,17 +111,17 @@ class NestedRun:
             return self.words[value]
         return self.constants[index] if kind == CONST else index if kind == BOOL else None
 
-    def all(self, values):
+    def all(self, values: Iterable[Value]) -> list[Word]:
         return [self.word(value) for value in values]
 
-    def test(self, kind, value, ways):
+    def test(self, kind: int, value: Value, ways: int) -> int:
         self.cost += self.result.record.test
         place = place_taken(kind, self.word(value), ways)
         if place is None:
             raise Ended("undefined")
         return place
 
-    def region(self, number):
+    def region(self, number: int) -> None:
         for kid in self.result.regions[number].kids:
             node = self.result.nodes[kid]
             if isinstance(node, Block):
@@ -122,7 +133,7 @@ class NestedRun:
             else:
                 raise Ended(("exit", node.opcode, self.all(node.values)))
 
-    def block(self, block):
+    def block(self, block: Block) -> None:
         place = block.first
         for inst, reads in zip(block.insts, block.reads):
             words = self.all(reads)
@@ -131,13 +142,13 @@ class NestedRun:
             self.cost += inst.cost
             place += 1
 
-    def select(self, number, node):
+    def select(self, number: int, node: Select) -> None:
         case = node.cases[self.test(node.kind, node.value, len(node.cases))]
         self.region(case)
         for place, word in enumerate(self.all(self.result.regions[case].outs)):
             self.words[OUTPUT, number, place] = word
 
-    def loop(self, loop):
+    def loop(self, loop: Loop) -> None:
         words, turns = self.all(loop.first), 0
         while True:
             for place, word in enumerate(words):
@@ -153,7 +164,9 @@ class NestedRun:
             words = self.all(self.result.regions[loop.body].outs)
 
 
-def differs(result, constants, inputs, answer, budget):
+def differs(
+    result: Result, constants: Sequence[int], inputs: Sequence[Word], answer: Rule, budget: int
+) -> tuple[str | None, End, NestedRun | None]:
     """What is wrong with the nested run beside the graph's, or None; and the two runs.
 
     Where the graph's run ends, the nested run has the same events and end, and costs at

@@ -1,23 +1,30 @@
 """The result of nesting: outcome, last rewriting, figure; the sheet as words and as text (10, 11)."""
 
-from .nesting import READY, TO_RETURN, Block, Loop, Merge, Nesting, Select
-from .record import HELD, IF, INPUT, joined, list_words, read, refer, value_text, values_text
+from collections.abc import Iterator, Sequence
+from typing import Any
+
+from .nesting import READY, TO_RETURN, Block, Condition, Edge, Loop, Merge, Nesting, Select
+from .record import HELD, IF, INPUT, Inst, Record, Value, joined, list_words, read, refer, value_text, values_text
 from .store import Refused, payload
 
 UNTOUCHED, WHOLE, CLOSED, LEFTOVER = range(4)  # outcomes, in the order of document 01
 OUTCOMES = "untouched", "whole", "closed", "leftover"
 
+Line = tuple[Any, ...]  # its lead, its number, and its fields
+Item = tuple[int, int, Inst, list[Value]]  # of a block: region, place, instruction, reads
+
 
 class Result:
     """`roots` are the regions that are printed with all below them, `deferred` their sets."""
 
-    def __init__(self, outcome, nesting, roots=(), deferred=()):
-        self.outcome, self.roots, self.deferred, self.figure = outcome, roots, deferred, None
+    def __init__(self, outcome: int, nesting: Nesting, roots: Sequence[int] = (), deferred: Sequence[tuple[int, list[Edge]]] = ()) -> None:
+        self.outcome, self.roots, self.deferred = outcome, roots, deferred
+        self.figure: int | None = None
         self.attempts, self.twice = nesting.attempts, nesting.twice
         self.regions, self.nodes, self.record = nesting.regions, nesting.nodes, nesting.record
 
 
-def nest(nesting):
+def nest(nesting: Nesting) -> Result:
     """The result of a nesting not yet begun. Refusals 9, 11, 12."""
     entry = nesting.record.entry
     if nesting.counts[entry] != 1:
@@ -46,7 +53,7 @@ def nest(nesting):
     return result
 
 
-def rewrite(nesting, number):
+def rewrite(nesting: Nesting, number: int) -> None:
     """The last rewriting of a region and all below it."""
     region = nesting.regions[number]
     for kid in region.kids:
@@ -66,7 +73,7 @@ def rewrite(nesting, number):
     region.outs = nesting.look_up_all(region.outs)
 
 
-def figure(result, number):
+def figure(result: Result, number: int) -> int:
     """The most a region can cost within the turn limits."""
     total = 0
     for kid in result.regions[number].kids:
@@ -86,7 +93,7 @@ def figure(result, number):
 REGION, BLOCK, SELECT, LOOP, EXIT, DEFER = range(6)
 
 
-def lines(result, number):
+def lines(result: Result, number: int) -> Iterator[Line]:
     """The lines of a region and of all below it."""
     region = result.regions[number]
     yield REGION, number, region.inputs, region.kids, region.outs
@@ -105,7 +112,7 @@ def lines(result, number):
             yield EXIT, kid, node
 
 
-def all_lines(result):
+def all_lines(result: Result) -> Iterator[Line]:
     for root in result.roots:
         yield from lines(result, root)
     for number, edges in result.deferred:
@@ -113,31 +120,31 @@ def all_lines(result):
             yield DEFER, number, edge
 
 
-def one(item):
+def one(item: int) -> list[int]:
     return [item]
 
 
-def value_words(value):
+def value_words(value: Value) -> list[int]:
     return [INPUT if value[0] == HELD else value[0], *value[1:]]
 
 
-def condition_words(condition):
+def condition_words(condition: Condition) -> list[int]:
     if isinstance(condition, Merge):
         return [4, condition.node, *list_words(condition.parts, condition_words)]
     return [1 + "tfu".index(condition)]
 
 
-def item_words(item):
+def item_words(item: Item) -> list[int]:
     """A block's item: region, place, instruction, reads."""
     region, place, inst, reads = item
     return [region, place, inst.opcode, inst.type, *list_words(reads, value_words)]
 
 
-def items(block):
+def items(block: Block) -> list[Item]:
     return [(block.region, block.first + k, inst, reads) for k, (inst, reads) in enumerate(zip(block.insts, block.reads))]
 
 
-def line_words(lead, number, of, *rest):
+def line_words(lead: int, number: int, of: Any, *rest: Any) -> list[int]:
     if lead == REGION:
         kids, outs = rest
         fields = [*list_words(of, one), *list_words(kids, one), *list_words(outs, value_words)]
@@ -154,7 +161,7 @@ def line_words(lead, number, of, *rest):
     return [lead, number, *fields]
 
 
-def words(result, lent=16384):
+def words(result: Result, lent: int = 16384) -> list[int]:
     """The sheet's words, or 10 if fewer are lent."""
     sheet = [result.outcome, result.figure or 0, result.attempts, result.twice]
     for line in all_lines(result):
@@ -164,13 +171,13 @@ def words(result, lent=16384):
     return sheet
 
 
-def condition_text(condition):
+def condition_text(condition: Condition) -> str:
     if isinstance(condition, Merge):
         return f"m{condition.node}[{joined(map(condition_text, condition.parts))}]"
     return condition
 
 
-def line_text(lead, number, of, *rest):
+def line_text(lead: int, number: int, of: Any, *rest: Any) -> str:
     if lead == REGION:
         kids, outs = rest
         return f"region {number} in {joined(of)} kids {joined(kids)} out {values_text(outs)}"
@@ -191,20 +198,20 @@ def line_text(lead, number, of, *rest):
     return f"defer {number} to {target} count {of.count} in {values_text(of.inputs)} " f"if {condition_text(of.condition)}"
 
 
-def text(result):
+def text(result: Result) -> str:
     """The sheet's lines."""
     most = "-" if result.figure is None else result.figure
     head = f"{OUTCOMES[result.outcome]} figure {most} attempts {result.attempts} " f"twice {result.twice}\n"
     return head + "".join(line_text(*line) + "\n" for line in all_lines(result))
 
 
-def accepted(store):
+def accepted(store: bytes) -> tuple[Record, list[int] | None]:
     """The record of a store and the types it returns, or a refusal 1 to 8."""
     record = read(payload(store))
     return record, refer(record)
 
 
-def printed(store, lent=16384):
+def printed(store: bytes, lent: int = 16384) -> str:
     """What the program prints for a store."""
     try:
         result = nest(Nesting(*accepted(store)))

@@ -1,6 +1,7 @@
 """Stores: blocks of 512 bytes with a number, 253 payload words and a check."""
 
 import struct
+from collections.abc import Sequence
 
 BLOCK, WORDS, MOST = 512, 253, 16
 
@@ -8,23 +9,23 @@ BLOCK, WORDS, MOST = 512, 253, 16
 class Refused(Exception):
     """A refusal: its number and its one word."""
 
-    def __init__(self, number, word=0):
+    def __init__(self, number: int, word: int = 0) -> None:
         super().__init__(number, word)
         self.number, self.word = number, word
 
-    def __str__(self):
+    def __str__(self) -> str:
         return f"refused {self.number} {self.word}"
 
 
-def check(block):
+def check(block: bytes) -> int:
     return sum(byte * (place + 1) for place, byte in enumerate(block[:508]))
 
 
-def payload(store):
+def payload(store: bytes) -> list[int]:
     """The payload words of all blocks, or 1, 2 or 3."""
     if not store or len(store) > MOST * BLOCK or len(store) % BLOCK:
         raise Refused(1)
-    words = []
+    words: list[int] = []
     for number in range(len(store) // BLOCK):
         block = store[BLOCK * number : BLOCK * (number + 1)]
         if int.from_bytes(block[:2], "little") != number:
@@ -35,7 +36,7 @@ def payload(store):
     return words
 
 
-def blocks(words):
+def blocks(words: Sequence[int]) -> bytes:
     """The store whose payload is these words, filled up with zeros."""
     store = b""
     for number in range(max(1, -(-len(words) // WORDS))):
@@ -45,6 +46,6 @@ def blocks(words):
     return store
 
 
-def pack(words):
+def pack(words: Sequence[int]) -> bytes:
     """The store of a record's words (those after W)."""
     return blocks([len(words) + 1, *words])
