@@ -5,6 +5,7 @@ WHAT is the name of a vector file, or `chains`: the four records of 32 regions t
 
 import pathlib
 import sys
+from collections.abc import Iterable, Iterator
 
 ROOT = pathlib.Path(__file__).resolve().parents[1]
 sys.path.insert(0, str(ROOT / "beside"))
@@ -13,11 +14,11 @@ from generate.large import chains  # noqa: E402  (found by the line above)
 from generate.vectors import read_vectors  # noqa: E402
 
 
-def packed(store):
+def packed(store: bytes) -> bytes:
     return len(store).to_bytes(3, "little") + store
 
 
-def stores(names):
+def stores(names: Iterable[str]) -> Iterator[bytes]:
     """The stores that are named; a sentence and status 2 where a file is no vector file."""
     for name in names:
         try:

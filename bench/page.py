@@ -7,17 +7,18 @@ as a block of text.
 import pathlib
 import re
 import sys
+from typing import NoReturn
 
 BLOCK = re.compile(r"(<!-- measured: (\w+) -->\n).*?(<!-- end -->\n)", re.DOTALL)
 
 
-def refuse(sentence):
+def refuse(sentence: str) -> NoReturn:
     print(f"page.py: {sentence}", file=sys.stderr)
     sys.exit(2)
 
 
-def main(folder, page):
-    def block(found):
+def main(folder: str, page: str) -> None:
+    def block(found: re.Match[str]) -> str:
         text = (pathlib.Path(folder) / f"{found[2]}.txt").read_text(encoding="utf-8")
         return found[1] + (f"\n{text}\n" if text.startswith("|") else f"\n```text\n{text}```\n\n") + found[3]
 

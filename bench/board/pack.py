@@ -2,6 +2,7 @@
 longer than the board's flash."""
 import pathlib
 import sys
+from typing import NoReturn
 
 FLASH = 896 * 1024
 ROOT = pathlib.Path(__file__).resolve().parents[2]
@@ -10,12 +11,12 @@ sys.path.insert(0, str(ROOT / "bench"))
 from packed import packed, stores  # noqa: E402  (found by the line above)
 
 
-def refuse(sentence):
+def refuse(sentence: str) -> NoReturn:
     print(f"pack.py: {sentence}", file=sys.stderr)
     sys.exit(2)
 
 
-def main(out, *files):
+def main(out: str, *files: str) -> None:
     lists = [b""]
     for store in [(ROOT / "crates/show/stdin").read_bytes(), *stores(["chains", *files])]:
         item = packed(store)

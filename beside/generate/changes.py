@@ -21,7 +21,7 @@ STORES = "lists/stores.vectors"
 WRONG = (0, 0, 1, 0), (0, 4095, 0, 1), (1, 0, 1, 0), (1, 2024, 0, 1), (1, 4047, 255, 0), (2, 0, 1, 0), (2, 8704, 0, 1)
 
 
-def brief(store):
+def brief(store: bytes) -> bytes:
     text = answer(store)
     if text.startswith("refused"):
         number, word = map(int, text.split()[1:])
@@ -29,17 +29,17 @@ def brief(store):
     return bytes([0, sum(text.encode()) % 256])
 
 
-def flipped(store, bit):
+def flipped(store: bytes, bit: int) -> bytes:
     changed = bytearray(store)
     changed[bit // 8] ^= 1 << bit % 8
     return bytes(changed)
 
 
-def accepted():
+def accepted() -> list[bytes]:
     return [store for store, text in read_vectors(STORES) if not text.startswith("refused")]
 
 
-def main():
+def main() -> None:
     """The store of one block with the longest text, and the longest store."""
     stores = accepted()
     one = max((store for store in stores if len(store) == BLOCK), key=lambda store: len(answer(store)))

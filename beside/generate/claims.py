@@ -12,7 +12,7 @@ import random
 import time
 
 from reading.nesting import Nesting
-from reading.record import refer, words_of
+from reading.record import Record, refer, words_of
 from reading.runs import differs, rule
 from reading.sheet import CLOSED, OUTCOMES, WHOLE, nest
 from reading.store import Refused, pack
@@ -22,11 +22,11 @@ from .records import records
 RUNS, BUDGET = 8, 120
 
 
-def words(rng, count):
+def words(rng: random.Random, count: int) -> list[int]:
     return [rng.choice((0, 0, 1, 1, 2, 3, rng.getrandbits(32))) for _ in range(count)]
 
 
-def bound(record):
+def bound(record: Record) -> int:
     """The most attempts that a record may take."""
     reached, todo = {record.entry}, [record.entry]
     for number in todo:
@@ -38,7 +38,7 @@ def bound(record):
     return 1 + edges + len(reached) * (2 * len(reached) - 1)
 
 
-def claims(seed, wanted):
+def claims(seed: int, wanted: int) -> None:
     rng, seen, worst, start = random.Random(seed + 1), collections.Counter(), 0, time.time()
     for record in records(seed):
         if seen["runs that end"] >= wanted:

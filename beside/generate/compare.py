@@ -13,9 +13,10 @@ import pathlib
 import subprocess
 import sys
 import time
+from collections.abc import Iterable
 
 from reading.nesting import Nesting
-from reading.record import refer, words_of
+from reading.record import Record, refer, words_of
 from reading.sheet import nest, text
 from reading.store import Refused, pack
 from reading.unmarked import Panic, Unmarked
@@ -25,14 +26,15 @@ from .records import records
 TOOL = pathlib.Path(__file__).resolve().parents[2] / "tools" / "beside"
 
 
-def rust(source, stores, *options):
+def rust(source: str, stores: Iterable[bytes], *options: str) -> list[str]:
     """The Rust's answers to some stores."""
     given = "".join(f"store {store.hex()}\n.\n" for store in stores)
     told = subprocess.run([TOOL, *options, source], input=given, capture_output=True, text=True)
     if told.returncode:
         print(told.stderr, end="", file=sys.stderr)
         sys.exit(2 if told.returncode == 2 else 3)
-    answers, answer = [], None
+    answers: list[str] = []
+    answer: str | None = None
     for line in told.stdout.splitlines(keepends=True):
         if answer is None:
             answer = ""
@@ -44,7 +46,7 @@ def rust(source, stores, *options):
     return answers
 
 
-def sheet(record, nesting=Nesting):
+def sheet(record: Record, nesting: type[Nesting] = Nesting) -> tuple[str, int]:
     """The reading's answer, without `twice`; and twice, also for a refusal."""
     state = nesting(record, refer(record))
     try:
@@ -56,7 +58,7 @@ def sheet(record, nesting=Nesting):
         return f"panic {panic}\n", 0
 
 
-def compare(record, answer, whole):
+def compare(record: Record, answer: str, whole: str) -> str:
     """How the answers to a record agree; prints what should not be."""
     ours, twice = sheet(record)
     bare, _ = sheet(record, Unmarked)
@@ -71,12 +73,13 @@ def compare(record, answer, whole):
     return f"{first}{' twice' * twice}, {theirs}"
 
 
-def wrong(what, record, *answers):
+def wrong(what: str, record: Record, *answers: str) -> None:
     print(what.upper(), pack(words_of(record)).hex(), *answers, sep="\n")
 
 
-def main(source, seed, count):
-    seen, start, theirs = collections.Counter(), time.time(), 0
+def main(source: str, seed: int, count: int) -> None:
+    seen: collections.Counter[str] = collections.Counter()
+    start, theirs = time.time(), 0.0
     made = records(seed)
     for batch in range(0, count, 5000):
         some = list(itertools.islice(made, min(5000, count - batch)))

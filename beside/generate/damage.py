@@ -1,39 +1,41 @@
 """Damage to stores. Word damage is repaired at the checks, so that deep refusals are reached."""
 
-from reading.record import CONST, INPUT, INSTR, RETURN, UNDEF, words_of
+from random import Random
+
+from reading.record import CONST, INPUT, INSTR, RETURN, UNDEF, Record, words_of
 from reading.store import BLOCK, WORDS, blocks, check, pack, payload
 
 EDGES = (0, 1, 2, 3, 4, 5, 6, 7, 8, 9, 31, 32, 33, 63, 64, 65, 255, 256, 4047, 4048, 4049, 32768, 65534, 65535)
 
 
-def repaired(store):
+def repaired(store: bytes) -> bytes:
     """The same blocks with right checks."""
     return b"".join(store[at : at + 508] + check(store[at : at + BLOCK]).to_bytes(4, "little") for at in range(0, len(store), BLOCK))
 
 
-def length(rng, store):
+def length(rng: Random, store: bytes) -> bytes:
     if rng.random() < 0.5:
         return store[: rng.randrange(len(store))]
     return store + bytes(rng.choice((1, 2, 10, 508, 511)))
 
 
-def byte(rng, store):
+def byte(rng: Random, store: bytes) -> bytes:
     at = rng.randrange(len(store))
     return store[:at] + bytes([store[at] ^ 1 << rng.randrange(8)]) + store[at + 1 :]
 
 
-def number(rng, store):
+def number(rng: Random, store: bytes) -> bytes:
     at = rng.randrange(len(store) // BLOCK) * BLOCK + rng.randrange(2)
     bad = store[:at] + bytes([store[at] ^ rng.randint(1, 255)]) + store[at + 1 :]
     return repaired(bad) if rng.random() < 0.5 else bad
 
 
-def checked(rng, store):
+def checked(rng: Random, store: bytes) -> bytes:
     at = rng.randrange(len(store) // BLOCK) * BLOCK + 508 + rng.randrange(4)
     return store[:at] + bytes([store[at] ^ rng.randint(1, 255)]) + store[at + 1 :]
 
 
-def swapped(rng, store):
+def swapped(rng: Random, store: bytes) -> bytes:
     """Two payload bytes or two blocks exchanged."""
     if len(store) > BLOCK and rng.random() < 0.5:
         one, two = sorted(rng.sample(range(len(store) // BLOCK), 2))
@@ -44,14 +46,14 @@ def swapped(rng, store):
     return store[:at] + store[at + 1 : at + 2] + store[at : at + 1] + store[at + 2 :]
 
 
-def used(rng, store):
+def used(rng: Random, store: bytes) -> bytes:
     """Another W."""
     words = payload(store)
     words[0] = rng.choice((0, 1, words[0] - 1, words[0] + 1, WORDS, WORDS + 1, words[0] + WORDS, 65535, rng.randrange(4100)))
     return blocks(words)
 
 
-def after(rng, store):
+def after(rng: Random, store: bytes) -> bytes:
     """A word after W that is not zero, if there is one."""
     words = payload(store)
     if words[0] < len(words):
@@ -59,13 +61,13 @@ def after(rng, store):
     return blocks(words)
 
 
-def count(rng, store):
+def count(rng: Random, store: bytes) -> bytes:
     """A block too many or too few."""
     words = payload(store)
     return blocks(words + [0] * WORDS if rng.random() < 0.5 or len(words) == WORDS else words[:-WORDS])
 
 
-def word(rng, store):
+def word(rng: Random, store: bytes) -> bytes:
     """One to three words of the record changed, often to the edge of a range."""
     words = payload(store)
     for _ in range(rng.choice((1, 1, 1, 2, 3))):
@@ -74,7 +76,7 @@ def word(rng, store):
     return blocks(words)
 
 
-def moved(rng, store):
+def moved(rng: Random, store: bytes) -> bytes:
     """Words left out or put in, with W put right or not."""
     words = payload(store)
     record = words[1 : words[0]]
@@ -86,7 +88,7 @@ def moved(rng, store):
     return pack(record[:4047])
 
 
-def meaning(rng, record):
+def meaning(rng: Random, record: Record) -> bytes:
     """A record changed in one place, so that it most often means nothing allowed."""
     count = len(record.regions)
     region = rng.choice(record.regions)

@@ -10,8 +10,10 @@ last; a chain of 30 loops, each inside the one before, with a block. Then COUNT 
 """
 
 import itertools
+from collections.abc import Iterator
+from typing import Any
 
-from reading.record import BRANCH, CONST, IF, SWITCH, TRUE, Inst, words_of
+from reading.record import BRANCH, CONST, IF, SWITCH, TRUE, Inst, Region, words_of
 from reading.store import pack
 from .arguments import arguments, whole
 from .records import records
@@ -21,12 +23,12 @@ REGIONS = 32
 BLOCK = [[Inst(7, 0, 1, [])]]
 
 
-def link(kind, targets, **more):
+def link(kind: int, targets: list[int], **more: Any) -> Region:
     """A region of a chain, which passes nothing on."""
     return plain(kind=kind, targets=targets, passed={target: [] for target in targets}, **more)
 
 
-def chain_of_loops():
+def chain_of_loops() -> bytes:
     """Regions 1 to 30 are headers. Regions 26 to 30 lead back to seven of them each, the last to two, and on to the next."""
     last, backward = REGIONS - 1, 5
     first = last - backward
@@ -39,7 +41,7 @@ def chain_of_loops():
     )
 
 
-def chains():
+def chains() -> Iterator[bytes]:
     last = REGIONS - 1
     yield only(*[link(BRANCH, [at + 1], blocks=BLOCK) for at in range(last)], plain())
     yield only(*[link(IF, [at + 1, last], values=[TRUE]) for at in range(last - 1)], link(BRANCH, [last]), plain())
@@ -52,7 +54,7 @@ def chains():
     yield chain_of_loops()
 
 
-def main(seed, count):
+def main(seed: int, count: int) -> None:
     large = (record for record in records(seed) if len(record.regions) == REGIONS)
     stores = [pack(words_of(record)) for record in itertools.islice(large, count)]
     for store in [*chains(), *stores]:

@@ -24,7 +24,7 @@ class NoLibrary(Missing):
     status = 2
 
 
-def numbers(header):
+def numbers(header: pathlib.Path) -> list[int]:
     """How many words are lent for a sheet and for the state, where the record ends and where its index does, by a header."""
     try:
         found = dict(re.findall(r"^#define RUKVETTA_(\w+) (\d+)$", header.read_text(encoding="latin-1"), re.MULTILINE))
@@ -43,7 +43,7 @@ except Missing as missing:
 INDEX = range(*ENDS)
 
 
-def linked(folder, into):
+def linked(folder: pathlib.Path | None, into: pathlib.Path) -> pathlib.Path:
     """The library of a folder, or the one that interface/build makes, linked to a file in `into`."""
     wrong = Missing if folder is None else NoLibrary
     if folder is None:
@@ -71,7 +71,7 @@ def linked(folder, into):
 class Library:
     """rukvetta_nest, with memory to lend that has a pattern in it."""
 
-    def __init__(self, path):
+    def __init__(self, path: pathlib.Path) -> None:
         self.nest = ctypes.CDLL(str(path)).rukvetta_nest
         self.nest.restype = ctypes.c_uint64
         self.nest.argtypes = ctypes.c_char_p, ctypes.c_size_t, ctypes.c_void_p, ctypes.c_void_p, ctypes.c_size_t
@@ -80,21 +80,21 @@ class Library:
         pattern = random.Random(1)
         self.state_was, self.out_was = pattern.randbytes(2 * STATE), pattern.randbytes(4 * LENT + 4)
 
-    def answer(self, store, lent):
+    def answer(self, store: bytes, lent: int) -> tuple[int, int]:
         """What is answered where so many words are lent: a number and a word. 0 and n are a sheet of n words."""
         ctypes.memmove(self.state, self.state_was, len(self.state_was))
         ctypes.memmove(self.out, self.out_was, len(self.out_was))
         answer = self.nest(store, len(store), ctypes.addressof(self.state), ctypes.addressof(self.out), lent)
         return answer >> 32, answer & 0xFFFFFFFF
 
-    def sheet(self, n):
+    def sheet(self, n: int) -> list[int]:
         return list(self.out[:n])
 
-    def kept(self, n):
+    def kept(self, n: int) -> bool:
         """Whether the lent words behind the first n are as lent."""
         return memoryview(self.out).cast("B")[4 * n :] == self.out_was[4 * n :]
 
-    def state_right(self, front, number):
+    def state_right(self, front: bytes, number: int) -> bool:
         """Whether the record's words stand in front; and, after a refusal 1 to 8, all else as lent, but for the index."""
         state = memoryview(self.state).cast("B")
         if state[: len(front)] != front:

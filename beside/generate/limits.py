@@ -4,6 +4,7 @@ The limit of 512 nodes cannot be met: 256 blocks, 32 exits, 32 loops and 63 sele
 """
 
 import itertools
+from random import Random
 
 from reading.nesting import Nesting
 from reading.record import INSTR, SWITCH, UNREACHABLE, Inst, Record, Region, refer, words_of
@@ -16,13 +17,15 @@ MOST = {"regions": 128, "node outputs": 512, "conditions": 512}
 
 
 class Unlimited(Nesting):
-    def within(self, defined, most):
+    """Nesting without the limits."""
+
+    def within(self, defined: int, most: int) -> None:
         pass
 
 
-def limits(rng, times):
+def limits(rng: Random, times: int) -> dict[tuple[str, int], list[Record]]:
     """So many records for each limit that just meet it, and that pass it by one."""
-    found = {(what, over): [] for what in MOST for over in (0, 1)}
+    found: dict[tuple[str, int], list[Record]] = {(what, over): [] for what in MOST for over in (0, 1)}
     while any(len(some) < times for some in found.values()):
         inputs = rng.choice((0, 0, 1, 2, 3, 4))
         made = record(rng, 32, rng.choice((crowded, ladder, ladder)), "none", inputs)
@@ -45,7 +48,7 @@ def limits(rng, times):
     return found
 
 
-def long_sheet(chain, others, spare):
+def long_sheet(chain: int, others: int, spare: int) -> Record:
     """A leftover with a long sheet: 8-way selects in a chain, and targets never claimed.
 
     Region 0 is no loop, so its exit list keeps the others from ever being claimed. What
@@ -71,9 +74,9 @@ def long_sheet(chain, others, spare):
     return made
 
 
-def full_sheets():
+def full_sheets() -> list[Record]:
     """Three records whose sheets have 16,384 words, 16,385, and many more."""
-    found = {}
+    found: dict[int, Record] = {}
     for chain, others in itertools.product((12, 13, 14), range(9, 16)):
         for spare in range(0, 1000, 1):
             if len(found) == 2:
@@ -84,3 +87,4 @@ def full_sheets():
                 break
             if length in (16384, 16385):
                 found.setdefault(length, made)
+    raise ValueError("no record has a sheet of 16,384 words and another one of 16,385")

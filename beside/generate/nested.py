@@ -9,6 +9,7 @@ wherever it does, for stores of lists/stores.vectors from the reading; words com
 
 import pathlib
 import random
+from collections.abc import Callable, Iterator
 
 from reading.nesting import Nesting
 from reading.sheet import accepted, nest, printed, words
@@ -16,6 +17,9 @@ from reading.store import Refused
 from .arguments import arguments
 from .stores import next_digit, refusal
 from .vectors import all_vectors, read_vectors, vector
+
+Answered = tuple[bytes, list[int], str]  # a store, its sheet's words, its text
+Change = Callable[[list[int], str], tuple[list[int], str]]
 
 SEED = 11
 LISTS = pathlib.Path(__file__).resolve().parents[1] / "lists"
@@ -28,22 +32,22 @@ OTHERS = 300  # sheets of stores.vectors
 SMALL = 1024  # the longest refused store of stores.vectors
 
 
-def words_of(store):
+def words_of(store: bytes) -> list[int]:
     try:
         return words(nest(Nesting(*accepted(store))))
     except Refused:
         return []
 
 
-def with_words(sheet, text):
+def with_words(sheet: list[int], text: str) -> str:
     return "".join(f"{word:08x}" for word in sheet) + f"\n{text}"
 
 
-def is_refused(text):
+def is_refused(text: str) -> bool:
     return text.startswith("refused")
 
 
-def taken(rng):
+def taken(rng: random.Random) -> Iterator[Answered]:
     """The chosen stores, each with its words and its text."""
     sheets = [(store, words_of(store), text) for name in ("sheets", "full") for store, text in read_vectors(LISTS / f"{name}.vectors")]
     seen = {store for store, _, _ in sheets}
@@ -61,11 +65,11 @@ def taken(rng):
     yield from (one for at, one in enumerate(stores) if at in left or is_refused(one[2]) and len(one[0]) <= SMALL)
 
 
-def text_changed(change):
+def text_changed(change: Callable[[str], str]) -> Change:
     return lambda sheet, text: (sheet, change(text))
 
 
-def words_changed(change):
+def words_changed(change: Callable[[list[int]], list[int]]) -> Change:
     return lambda sheet, text: (change(sheet), text)
 
 
@@ -83,13 +87,13 @@ WRONG = (
 )
 
 
-def wrong(rng, good):
+def wrong(rng: random.Random, good: list[Answered]) -> Iterator[tuple[bytes, tuple[list[int], str]]]:
     for refused, change in WRONG:
         store, sheet, text = rng.choice([one for one in good if is_refused(one[2]) == refused and len(one[0]) == 512])
         yield store, change(sheet, text)
 
 
-def main():
+def main() -> None:
     rng = random.Random(SEED)
     good = list(taken(rng))
     kept = [vector(store, answer, word) for word, store, answer in all_vectors(STORES) if not word.endswith("nest")]

@@ -1,13 +1,15 @@
 """Records: a shape filled with inputs, instructions, passed values and exit lists."""
 
 import random
+from collections.abc import Iterator
+from typing import Any
 
 from reading.loops import loop_exits
-from reading.record import BOOL, CONST, EXIT, IF, INPUT, INSTR, RETURN, SWITCH, UNDEF, Inst, Record, Region, words_of
-from .shapes import shape
+from reading.record import BOOL, CONST, EXIT, IF, INPUT, INSTR, RETURN, SWITCH, UNDEF, Inst, Record, Region, Value, words_of
+from .shapes import Maker, Nodes, shape
 
 
-def exit_lists(rng, entry, nodes, style=None):
+def exit_lists(rng: random.Random, entry: int, nodes: Nodes, style: str | None = None) -> list[list[int]]:
     """Exit lists as LoopFinder finds them, damaged, random or none."""
     count = len(nodes)
     style = style or rng.choices(("found", "damaged", "random", "none"), (5, 2, 2, 1))[0]
@@ -33,7 +35,7 @@ def exit_lists(rng, entry, nodes, style=None):
 class Filler:
     """Chooses values for one record. Each region's inputs stand for some of the variables."""
 
-    def __init__(self, rng, entry, nodes, most=None):
+    def __init__(self, rng: random.Random, entry: int, nodes: Nodes, most: int | None = None) -> None:
         self.rng, self.entry, self.nodes = rng, entry, nodes
         self.types = rng.choice(([1], [1, 2], [1, 2], [1, 2, 3, 255]))
         self.constants = [rng.choice(self.types) for _ in range(rng.choice((0, 1, 2, 2, 3, 6)))]
@@ -53,8 +55,9 @@ class Filler:
         self.returned = [rng.choice(self.types) for _ in range(rng.choice((0, 1, 1, 2, 4)))]
         self.loops = rng.choice((1, 2, 3, 10, 100, 65535))
 
-    def insts(self, number):
-        rng, here = self.rng, []
+    def insts(self, number: int) -> list[Inst]:
+        rng = self.rng
+        here: list[Inst] = []
         count = int(rng.expovariate(1 / self.busy)) if rng.random() < 0.97 else rng.randint(0, 20)
         for place in range(min(count, 20)):
             reads = [self.any(number, here) for _ in range(rng.choice((0, 0, 1, 1, 2, 3)))]
@@ -63,14 +66,14 @@ class Filler:
             here.append(Inst(rng.randint(0, 65535 if rng.random() < 0.02 else 20), kind, cost, reads))
         return here
 
-    def known(self, number, here, type):
+    def known(self, number: int, here: list[Inst], type: int | None) -> list[Value]:
         """What may be used in a region: its inputs, its instructions, the constants."""
         inputs = self.takes[number]
         known = [(INPUT, number, k) for k, v in enumerate(inputs) if type in (None, self.variables[v])]
         known += [(INSTR, number, k) for k, inst in enumerate(here) if inst.type and type in (None, inst.type)]
         return known
 
-    def any(self, number, here, type=None):
+    def any(self, number: int, here: list[Inst], type: int | None = None) -> Value:
         rng = self.rng
         if rng.random() < self.undefined:
             return (UNDEF, 0, type or rng.choice(self.types))
@@ -84,9 +87,10 @@ class Filler:
             return rng.choice(consts)
         return rng.choice(known) if known else (UNDEF, 0, type or rng.choice(self.types))
 
-    def passed(self, number, here, target):
+    def passed(self, number: int, here: list[Inst], target: int) -> list[Value]:
         """Inputs for a target: a variable as it is, now and then another value."""
-        rng, values = self.rng, []
+        rng = self.rng
+        values: list[Value] = []
         mine = self.takes[number]
         for variable in self.takes[target]:
             if variable in mine and rng.random() < self.keep[variable]:
@@ -95,11 +99,12 @@ class Filler:
                 values.append(self.any(number, here, self.variables[variable]))
         return values
 
-    def region(self, number, exits):
+    def region(self, number: int, exits: list[int]) -> Region:
         rng = self.rng
         kind, targets = self.nodes[number]
         here = self.insts(number)
-        values, opcode = [], 0
+        values: list[Value] = []
+        opcode = 0
         if kind == RETURN:
             values = [self.any(number, here, type) for type in self.returned]
         elif kind == EXIT:
@@ -115,20 +120,21 @@ class Filler:
                 if here and rng.random() < 0.6 and here[-1].type in ((1,) if kind == IF else self.types)
                 else self.any(number, here, 1 if kind == IF else None)
             ]
-        blocks, rest = [], here
+        blocks: list[list[Inst]] = []
+        rest = here
         while rest:
             size = len(rest) if len(blocks) == 7 else rng.randint(1, min(8, len(rest)))
             size = max(size, min(8, -(-len(rest) // (8 - len(blocks)))))
             blocks.append(rest[:size])
             rest = rest[size:]
-        passed = {}
+        passed: dict[int, list[Value]] = {}
         for target in targets:
             if target not in passed:
                 passed[target] = self.passed(number, here, target)
         types = [self.variables[v] for v in self.takes[number]]
         return Region(types, blocks, rng.randint(1, self.loops), kind, opcode, values, targets, passed, exits)
 
-    def record(self, exits):
+    def record(self, exits: list[list[int]]) -> Record:
         return Record(
             self.entry,
             self.rng.choice((0, 1, 2, 5, 65535)),
@@ -137,7 +143,7 @@ class Filler:
         )
 
 
-def record(rng, most=32, make=None, exits=None, inputs=None):
+def record(rng: random.Random, most: int = 32, make: Maker | None = None, exits: str | None = None, inputs: int | None = None) -> Record:
     """A random record of at most so many regions. Shape, exit lists and inputs may be given."""
     if most > 14 and rng.random() < 0.7 and not make:
         most = rng.randint(3, 14)
@@ -148,7 +154,7 @@ def record(rng, most=32, make=None, exits=None, inputs=None):
             return made
 
 
-def records(seed, *which):
+def records(seed: int, *which: Any) -> Iterator[Record]:
     rng = random.Random(seed)
     while True:
         yield record(rng, *which)

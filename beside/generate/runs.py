@@ -10,8 +10,11 @@ are drawn until what is watched for stands in as many vectors as are wanted.
 import collections
 import pathlib
 import random
+from collections.abc import Iterable, Iterator
+from dataclasses import dataclass
+from typing import Any
 
-from reading.nesting import Nesting
+from reading.nesting import Block, Loop, Nesting, Select
 from reading.record import (
     BRANCH,
     CONST,
@@ -27,17 +30,20 @@ from reading.record import (
     UNDEF,
     Inst,
     Record,
+    Value,
     joined,
     refer,
     words_of,
 )
-from reading.runs import NestedRun, graph_run
-from reading.sheet import CLOSED, OUTCOMES, WHOLE, nest
+from reading.runs import End, Event, NestedRun, Rule, Word, graph_run
+from reading.sheet import CLOSED, OUTCOMES, WHOLE, Result, nest
 from reading.store import Refused, pack
 from . import shapes
 from .arguments import arguments
 from .records import record
 from .stores import plain
+
+Numbers = tuple[int, int, int, int]  # of a rule
 
 SEED, BUDGET, WORD = 11, 256, 1 << 32
 MOST, EACH = 400, 12  # vectors in all, and for each feature
@@ -53,25 +59,25 @@ class Long(Exception):
 # What a run is written as.
 
 
-def words_text(words):
+def words_text(words: Iterable[Word]) -> str:
     return joined("u" if word is None else word for word in words)
 
 
-def events_text(events):
+def events_text(events: Iterable[Event]) -> str:
     return ";".join(f"{region}.{place}/{opcode}/{words_text(reads)}" for region, place, opcode, reads in events) or "-"
 
 
-def end_text(end):
+def end_text(end: End) -> str:
     if end[0] == "return":
         return f"returned {words_text(end[1])}"
     return f"exited {end[1]} {words_text(end[2])}"
 
 
-def graph_line(events, end):
+def graph_line(events: list[Event], end: End) -> str:
     return "graph none" if isinstance(end, str) else f"graph {end_text(end)} {events_text(events)}"
 
 
-def nested_line(run):
+def nested_line(run: NestedRun) -> str:
     if isinstance(run.end, str):
         return "nested none"
     return f"nested {end_text(run.end)} {events_text(run.events)} cost {run.cost} over {int(run.late)}"
@@ -80,24 +86,26 @@ def nested_line(run):
 # What is watched for.
 
 
+@dataclass
 class Frame:
     """A select or a loop that the run stands in; of a loop its body and the turns begun."""
 
-    def __init__(self, body=None):
-        self.body, self.turns = body, 0
+    body: int | None = None
+    turns: int = 0
 
 
 class Watched(NestedRun):
     """A nested run that notes what it comes upon in `seen`."""
 
-    def __init__(self, result, given, answer, seen, most):
-        self.seen, self.inside, self.turns, self.most = seen, [], 0, most
+    def __init__(self, result: Result, given: tuple[list[int], list[int]], answer: Rule, seen: set[str], most: int) -> None:
+        self.seen, self.turns, self.most = seen, 0, most
+        self.inside: list[Frame] = []
         super().__init__(result, *given, answer, BUDGET)
 
-    def loops(self):
+    def loops(self) -> list[Frame]:
         return [frame for frame in self.inside if frame.body is not None]
 
-    def region(self, number):
+    def region(self, number: int) -> None:
         if self.inside and self.inside[-1].body == number:
             self.inside[-1].turns += 1
             self.turns += 1
@@ -105,14 +113,14 @@ class Watched(NestedRun):
                 raise Long
         super().region(number)
 
-    def select(self, number, node):
+    def select(self, number: int, node: Select) -> None:
         self.inside.append(Frame())
         super().select(number, node)
         self.inside.pop()
         if len(node.types) > 1:
             self.seen.add("a select with two outputs")
 
-    def loop(self, loop):
+    def loop(self, loop: Loop) -> None:
         frame = Frame(loop.body)
         self.inside.append(frame)
         depth = len(self.loops())
@@ -128,7 +136,7 @@ class Watched(NestedRun):
         if frame.turns > 1 and any(value[0] == HELD and value[1] == loop.body and value[2] < place for place, value in enumerate(outs)):
             self.seen.add("inputs of a loop changed all at once")
 
-    def test(self, kind, value, ways):
+    def test(self, kind: int, value: Value, ways: int) -> int:
         word = self.word(value)
         if kind == SWITCH and word is not None:
             self.seen.add("a number " + ("below" if word < ways - 1 else "at" if word == ways - 1 else "past") + " its last place")
@@ -136,14 +144,14 @@ class Watched(NestedRun):
             self.seen.add("a word above 1 that tests true")
         return super().test(kind, value, ways)
 
-    def block(self, block):
+    def block(self, block: Block) -> None:
         for reads in block.reads:
             self.seen.update("reads " + self.kind(value) for value in reads)
         if block.first:
             self.seen.add("a second block")
         super().block(block)
 
-    def kind(self, value):
+    def kind(self, value: Value) -> str:
         """What kind of value is read. An output of the same block may not be there yet."""
         kind, region, index = value
         if kind == INSTR:
@@ -161,7 +169,7 @@ class Watched(NestedRun):
         return "undefined" if kind == UNDEF else "true" if word else "false"
 
 
-def linear(numbers, seen=None):
+def linear(numbers: Numbers, seen: set[str] | None = None) -> Rule:
     """The rule of a run vector."""
     a, b, c, d = numbers
 
@@ -178,7 +186,7 @@ def linear(numbers, seen=None):
 NONE = {"unreachable": "Unreachable", "undefined": "a tested mark", "off": "off the end", "budget": "budget"}
 
 
-def nested(record):
+def nested(record: Record) -> Result:
     """The form of a record, if it is whole or closed."""
     result = nest(Nesting(record, refer(record)))
     if result.outcome not in (WHOLE, CLOSED):
@@ -189,15 +197,18 @@ def nested(record):
 class Vector:
     """A nested record with words and a rule, both runs, and what was seen in them."""
 
-    def __init__(self, result, constants, inputs, numbers, most=(EVENTS, TURNS)):
-        self.result, self.given, self.numbers, self.seen = result, (constants, inputs), numbers, set()
+    def __init__(
+        self, result: Result, constants: list[int], inputs: list[int], numbers: Numbers, most: tuple[int, int] = (EVENTS, TURNS)
+    ) -> None:
+        self.result, self.given, self.numbers = result, (constants, inputs), numbers
+        self.seen: set[str] = set()
         self.events, self.end, self.steps = graph_run(result.record, *self.given, linear(numbers), BUDGET)
         self.run = Watched(self.result, self.given, linear(numbers, self.seen), self.seen, most[1])
         if len(self.run.events) > most[0]:
             raise Long
         self.note()
 
-    def note(self):
+    def note(self) -> None:
         seen, end, run = self.seen, self.end, self.run
         form = OUTCOMES[self.result.outcome]
         seen.add(form)
@@ -219,7 +230,7 @@ class Vector:
             if run.late:
                 seen.add("over 1")
 
-    def __str__(self):
+    def __str__(self) -> str:
         constants, inputs = map(joined, self.given)
         numbers = " ".join(map(str, self.numbers))
         return (
@@ -231,7 +242,7 @@ class Vector:
 # The vectors.
 
 
-def counting(limit):
+def counting(limit: int) -> Record:
     """A loop of one instruction, whose answer ends it."""
     head = plain(
         blocks=[[Inst(3, 1, 1, [])]], limit=limit, kind=IF, values=[(INSTR, 1, 0)], targets=[1, 2], passed={1: [], 2: []}, exits=[2]
@@ -239,7 +250,7 @@ def counting(limit):
     return Record(0, 2, [], [plain(kind=BRANCH, targets=[1], passed={1: []}), head, plain()])
 
 
-def entered_twice(limit):
+def entered_twice(limit: int) -> Record:
     """A loop that counts its input down to 0, in a loop of two turns."""
     out = INSTR, 2, 0
     return Record(
@@ -265,7 +276,7 @@ def entered_twice(limit):
     )
 
 
-def forever(kind, **changed):
+def forever(kind: int, **changed: Any) -> Record:
     """A loop without a way out but, at need, an exit."""
     head = plain(limit=9, kind=kind, targets=[1, 1] if kind == IF else [1], passed={1: []})
     for name, value in changed.items():
@@ -273,7 +284,7 @@ def forever(kind, **changed):
     return Record(0, 2, [], [plain(kind=BRANCH, targets=[1], passed={1: []}), head, plain(kind=EXIT, opcode=7)])
 
 
-def budgets():
+def budgets() -> Iterator[Vector]:
     """Runs at and past both budgets, and loops at and past their turn limits."""
     down = WORD - 1
     yield Vector(nested(forever(BRANCH)), [], [], (0, 0, 0, 0), (300, 300))
@@ -290,7 +301,7 @@ def budgets():
         yield Vector(nested(entered_twice(3)), [turns], [], (0, 1, 0, down), (300, 400))
 
 
-def draw(rng):
+def draw(rng: random.Random) -> Iterator[Vector]:
     """A record, and words and rules for it."""
 
     def words(count):
@@ -316,9 +327,11 @@ def draw(rng):
             pass
 
 
-def vectors(rng):
+def vectors(rng: random.Random) -> tuple[dict[str, Vector], collections.Counter[str]]:
     """Those at the budgets, those with something that is wanted still, then others that end."""
-    counts, found, others = collections.Counter(), {}, {}
+    counts: collections.Counter[str] = collections.Counter()
+    found: dict[str, Vector] = {}
+    others: dict[str, Vector] = {}
 
     def take(vector):
         if str(vector) not in found:
@@ -338,7 +351,7 @@ def vectors(rng):
     return found, counts
 
 
-def main():
+def main() -> None:
     found, counts = vectors(random.Random(SEED))
     with open(LISTS / "runs.vectors", "w") as out:
         out.writelines(found)

@@ -1,24 +1,32 @@
 """Shapes: graphs without values. A shape is an entry and a (kind, targets) for each region."""
 
+from collections.abc import Callable
+from random import Random
+
 from reading.record import BRANCH, EXIT, IF, RETURN, SWITCH, UNREACHABLE
+
+Terminator = tuple[int, list[int]]  # a kind and its targets
+Nodes = list[Terminator]
+Shape = tuple[int, Nodes]  # the entry, and the regions
+Maker = Callable[[Random, int], Shape]
 
 
 class Program:
     """A structured program, flattened as it is made."""
 
-    def __init__(self, rng, most, ends):
+    def __init__(self, rng: Random, most: int, ends: tuple[int, ...]) -> None:
         self.rng, self.most, self.ends = rng, most, ends
-        self.nodes = []
-        self.trap = None
+        self.nodes: Nodes = []
+        self.trap: int | None = None
 
-    def new(self):
+    def new(self) -> int:
         self.nodes.append((UNREACHABLE, []))
         return len(self.nodes) - 1
 
-    def room(self, wanted=1):
+    def room(self, wanted: int = 1) -> bool:
         return len(self.nodes) + wanted <= self.most
 
-    def leave(self, at):
+    def leave(self, at: int) -> None:
         """End a region for good: return, exit or a dead end, the latter at times shared."""
         kind = self.rng.choices((RETURN, EXIT, UNREACHABLE), self.ends)[0]
         if kind == UNREACHABLE and self.rng.random() < 0.5 and (self.trap or self.room()):
@@ -28,7 +36,7 @@ class Program:
         else:
             self.nodes[at] = (kind, [])
 
-    def fork(self, at, targets):
+    def fork(self, at: int, targets: list[int]) -> None:
         rng = self.rng
         if len(targets) == 1 and rng.random() < 0.8:
             self.nodes[at] = (BRANCH, targets)
@@ -41,7 +49,7 @@ class Program:
             rng.shuffle(targets)
             self.nodes[at] = (SWITCH, targets)
 
-    def body(self, at, depth, breaks, continues):
+    def body(self, at: int, depth: int, breaks: list[int], continues: list[int]) -> int | None:
         """Statements from region `at` on; answers the region where they end, or None."""
         rng = self.rng
         for _ in range(rng.randint(1, 3)):
@@ -73,7 +81,7 @@ class Program:
                 return None
         return at
 
-    def select(self, at, depth, breaks, continues):
+    def select(self, at: int, depth: int, breaks: list[int], continues: list[int]) -> int | None:
         rng = self.rng
         ways = rng.choice((2, 2, 2, 3, 4, 8))
         cases, join, used = [], None, False
@@ -97,7 +105,7 @@ class Program:
                     used = True
         return join if used else None
 
-    def loop(self, at, depth, breaks, continues):
+    def loop(self, at: int, depth: int, breaks: list[int], continues: list[int]) -> int | None:
         rng = self.rng
         head, out = self.new(), self.new()
         self.nodes[at] = (BRANCH, [head])
@@ -115,7 +123,7 @@ class Program:
         return out
 
 
-def structured(rng, most):
+def structured(rng: Random, most: int) -> Shape:
     program = Program(rng, most, rng.choice(((6, 1, 1), (2, 1, 1), (1, 0, 0), (1, 3, 3))))
     end = program.body(program.new(), rng.randint(1, 4), [], [])
     if end is not None:
@@ -123,13 +131,13 @@ def structured(rng, most):
     return 0, program.nodes
 
 
-def terminator(rng, target, ways):
+def terminator(rng: Random, target: Callable[[], int], ways: int) -> Terminator:
     kind = rng.choices((UNREACHABLE, RETURN, EXIT, BRANCH, IF, SWITCH), (1, 3, 1, 8, 10, ways))[0]
     places = {BRANCH: 1, IF: 2, SWITCH: rng.choice((1, 2, 3, 3, 4, 8))}.get(kind, 0)
     return kind, [target() for _ in range(places)]
 
 
-def wild(rng, most):
+def wild(rng: Random, most: int) -> Shape:
     """Any targets at all."""
     count = rng.randint(min(2, most), most)
     ways = rng.choice((0, 2, 10))
@@ -138,7 +146,7 @@ def wild(rng, most):
     return 0, nodes
 
 
-def near(rng, most):
+def near(rng: Random, most: int) -> Shape:
     """Targets not far off: chains and ladders with short loops, reducible or not."""
     count, far = rng.randint(min(2, most), most), rng.randint(2, 6)
     back, ways = rng.choice((0.05, 0.15, 0.3)), rng.choice((0, 2, 6))
@@ -154,7 +162,7 @@ def near(rng, most):
     return 0, nodes
 
 
-def reducible(rng, most):
+def reducible(rng: Random, most: int) -> Shape:
     """Forward edges, and back edges to dominators only."""
     count, ways = rng.randint(min(2, most), most), rng.choice((0, 2, 6))
     back = rng.choice((0.1, 0.3, 0.5))
@@ -180,7 +188,7 @@ def reducible(rng, most):
     return 0, nodes
 
 
-def nest_of_loops(rng, most):
+def nest_of_loops(rng: Random, most: int) -> Shape:
     """Loops in loops, each header passing to an inner header, its exit or back."""
     depth = rng.randint(1, max(1, min(5, (most - 2) // 2)))
     nodes = [(BRANCH, [1])]
@@ -199,7 +207,7 @@ def nest_of_loops(rng, most):
     return 0, nodes
 
 
-def crowded(rng, most):
+def crowded(rng: Random, most: int) -> Shape:
     """Many targets for each region, none far back: many cases, outputs and conditions."""
     count, far = rng.randint(min(most, 8), most), rng.choice((3, 6, 12, 31))
     ways, back = rng.choice((3, 4, 8, 8)), rng.choice((0, 0, 0.03))
@@ -213,7 +221,7 @@ def crowded(rng, most):
     return 0, nodes
 
 
-def ladder(rng, most):
+def ladder(rng: Random, most: int) -> Shape:
     """A chain that names all others, which come one after another: the most conditions."""
     chain = rng.randint(4, 8)
     others, wide = most - chain, rng.choice((0, 0.1, 0.2, 0.4))
@@ -241,14 +249,14 @@ def ladder(rng, most):
     return 0, nodes
 
 
-def small(rng, most):
+def small(rng: Random, most: int) -> Shape:
     """Few regions, any targets: everything small sooner or later."""
     count = rng.randint(1, min(5, most))
     nodes = [terminator(rng, lambda: rng.randint(min(1, count - 1), count - 1), 2) for _ in range(count)]
     return 0, nodes
 
 
-def shuffled(rng, entry, nodes):
+def shuffled(rng: Random, entry: int, nodes: Nodes) -> Shape:
     """The same graph with its regions numbered anew."""
     order = list(range(len(nodes)))
     rng.shuffle(order)  # old number at each new place
@@ -259,7 +267,7 @@ def shuffled(rng, entry, nodes):
 KINDS = {structured: 5, reducible: 3, nest_of_loops: 3, near: 2, wild: 1, crowded: 1, small: 1}
 
 
-def shape(rng, most, make=None):
+def shape(rng: Random, most: int, make: Maker | None = None) -> Shape:
     make = make or rng.choices(list(KINDS), KINDS.values())[0]
     entry, nodes = make(rng, most)
     if rng.random() < 0.3:

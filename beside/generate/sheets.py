@@ -10,10 +10,11 @@ import pathlib
 import random
 import re
 import sys
+from collections.abc import Iterator
 
 from reading.nesting import Loop, Nesting, Select
-from reading.record import BRANCH, EXIT, FALSE, IF, INPUT, INSTR, SWITCH, TRUE, UNDEF, UNREACHABLE, Inst, refer, words_of
-from reading.sheet import OUTCOMES, nest, printed, text
+from reading.record import BRANCH, EXIT, FALSE, IF, INPUT, INSTR, SWITCH, TRUE, UNDEF, UNREACHABLE, Inst, Record, refer, words_of
+from reading.sheet import OUTCOMES, Result, nest, printed, text
 from reading.store import Refused, pack
 from . import shapes
 from .arguments import arguments, source
@@ -27,7 +28,7 @@ SEED = 7
 LISTS = pathlib.Path(__file__).resolve().parents[1] / "lists"
 
 
-def proved():
+def proved() -> Iterator[bytes]:
     """The cases of document 01 that are proved."""
     yield only(
         plain(kind=IF, blocks=[[Inst(7, 1, 5, [])]], values=[(INSTR, 0, 0)], targets=[1, 2], passed={1: [], 2: []}),
@@ -64,7 +65,7 @@ def proved():
     yield b""
 
 
-def faults():
+def faults() -> Iterator[bytes]:
     """The smallest records that the Rust nests wrongly, and panics on."""
     yield only(
         plain(kind=BRANCH, targets=[1], passed={1: [TRUE, FALSE]}),
@@ -89,7 +90,7 @@ def faults():
     )
 
 
-def figures():
+def figures() -> Iterator[bytes]:
     """A figure of 4,294,967,295, and of one more."""
     for more in (0, 1):
         yield only(
@@ -106,24 +107,25 @@ def figures():
 class Made:
     """A record with its store, and its result or refusal."""
 
-    def __init__(self, record):
-        self.record, self.store, self.result, self.refused = record, pack(words_of(record)), None, 0
+    def __init__(self, record: Record) -> None:
+        self.record, self.store, self.refused = record, pack(words_of(record)), 0
+        self.result: Result | None = None
         try:
             self.result = nest(Nesting(record, refer(record)))
             self.text = text(self.result)
         except Refused as refused:
             self.refused, self.text = refused.number, f"{refused}\n"
 
-    def is_(self, outcome):
+    def is_(self, outcome: str) -> bool:
         return self.result is not None and OUTCOMES[self.result.outcome] == outcome
 
-    def twice(self):
-        return self.result is not None and self.result.twice
+    def twice(self) -> bool:
+        return self.result is not None and bool(self.result.twice)
 
-    def one_block(self):
+    def one_block(self) -> bool:
         return len(self.store) == 512
 
-    def loops(self):
+    def loops(self) -> int:
         """How deep loops stand in loops."""
 
         def depth(number):
@@ -138,10 +140,10 @@ class Made:
 
         return max(map(depth, self.result.roots), default=0) if self.result else 0
 
-    def nested_condition(self):
+    def nested_condition(self) -> bool:
         return bool(re.search(r"m\d+\[[^\n]*m", self.text))
 
-    def ways(self):
+    def ways(self) -> int:
         return max(len(region.targets) for region in self.record.regions)
 
 
@@ -190,7 +192,7 @@ PARTS = [
 ]
 
 
-def parts(rng):
+def parts(rng: random.Random) -> Iterator[tuple[str, list[bytes]]]:
     """The name and the stores of each part."""
     yield "proved cases", list(proved())
     yield "faults of the Rust", list(faults())
@@ -204,14 +206,14 @@ def parts(rng):
         yield name, found
     for (what, over), found in limits(rng, 3).items():
         yield f"{what} {'one over' if over else 'at'} the limit", [pack(words_of(m)) for m in found]
-    refusals = {}  # a few of each refusal 1 to 8, from the other list
+    refusals: dict[str, list[bytes]] = {}  # a few of each refusal 1 to 8, from the other list
     for store, answer in read_vectors(LISTS / "stores.vectors"):
         if answer.startswith("refused") and len(store) <= 1024:
             refusals.setdefault(answer.split()[1], []).append(store)
     yield "refused 1 to 8", [store for some in refusals.values() for store in rng.sample(some, 4)]
 
 
-def write(path, stores, source):
+def write(path: pathlib.Path, stores: list[bytes], source: str) -> int:
     """The vectors of some stores; answers how many came from the Rust."""
     told, ours = rust(source, stores), 0
     with open(path, "w") as out:
@@ -228,8 +230,8 @@ def write(path, stores, source):
     return len(stores) - ours
 
 
-def main(source):
-    stores = {}
+def main(source: str) -> None:
+    stores: dict[bytes, None] = {}
     for name, found in parts(random.Random(SEED)):
         stores.update(dict.fromkeys(found))
         print(f"{len(found):5} {name}")

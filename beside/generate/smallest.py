@@ -8,9 +8,27 @@ COUNT random records is made smaller step by step while the fault stays.
 
 import copy
 import random
+from collections.abc import Callable, Iterator
 
 from reading.nesting import Nesting
-from reading.record import BRANCH, EXIT, FALSE, IF, INPUT, INSTR, RETURN, SWITCH, TRUE, UNDEF, UNREACHABLE, refer, show, words_of
+from reading.record import (
+    BRANCH,
+    EXIT,
+    FALSE,
+    IF,
+    INPUT,
+    INSTR,
+    RETURN,
+    SWITCH,
+    TRUE,
+    UNDEF,
+    UNREACHABLE,
+    Record,
+    Value,
+    refer,
+    show,
+    words_of,
+)
 from reading.runs import differs, rule
 from reading.sheet import CLOSED, WHOLE, nest, text
 from reading.store import Refused, pack
@@ -19,8 +37,10 @@ from .arguments import arguments, whole
 from .claims import words
 from .records import record
 
+Fault = None | str | tuple[str, int]  # "panic", or what is wrong and the seed of the run
 
-def fault(made):
+
+def fault(made: Record) -> Fault:
     """ "panic", or the run that goes wrong in the Rust's nested form, or None."""
     try:
         returned = refer(made)
@@ -43,17 +63,17 @@ def fault(made):
     return None
 
 
-def kind_of(found):
-    return found if found in (None, "panic") else "wrong"
+def kind_of(found: Fault) -> str | None:
+    return found if found is None or isinstance(found, str) else "wrong"
 
 
-def size(made):
+def size(made: Record) -> tuple[int, int, int]:
     """Regions, then words, then how plain the words are."""
     flat = words_of(made)
     return len(made.regions), len(flat), sum(flat)
 
 
-def replaced(made, change):
+def replaced(made: Record, change: Callable[[Value], Value | None]) -> None:
     """Put another value everywhere `change` answers one (None: keep)."""
 
     def all(values):
@@ -66,11 +86,11 @@ def replaced(made, change):
         region.passed = {target: all(values) for target, values in region.passed.items()}
 
 
-def plain_values(type):
+def plain_values(type: int) -> list[Value]:
     return [FALSE, TRUE, (UNDEF, 0, 1)] if type == 1 else [(UNDEF, 0, type)]
 
 
-def without_region(made, gone, instead):
+def without_region(made: Record, gone: int, instead: int) -> None:
     """A region taken out; edges to it go to another, or vanish."""
     for region in made.regions:
         if gone in region.targets:
@@ -92,7 +112,7 @@ def without_region(made, gone, instead):
     replaced(made, lambda v: (v[0], new(v[1]), v[2]) if v[0] in (INPUT, INSTR) else None)
 
 
-def without_passage(made, gone):
+def without_passage(made: Record, gone: int) -> None:
     """An empty region with one target taken out; edges to it go on to its target."""
     ((target, onward),) = made.regions[gone].passed.items()
     for region in made.regions:
@@ -106,7 +126,7 @@ def without_passage(made, gone):
     without_region(made, gone, target)
 
 
-def smaller(made):
+def smaller(made: Record) -> Iterator[Record]:
     """Records that are a step smaller or plainer; many mean nothing."""
 
     def step(change, *of):
@@ -235,7 +255,7 @@ def smaller(made):
         yield one
 
 
-def shrink(made):
+def shrink(made: Record) -> Record:
     """The smallest record with the same fault that steps lead to."""
     what, going = kind_of(fault(made)), True
     while going:
@@ -247,8 +267,9 @@ def shrink(made):
     return made
 
 
-def main(seed, count):
-    rng, best = random.Random(seed), {}
+def main(seed: int, count: int) -> None:
+    rng = random.Random(seed)
+    best: dict[str, Record] = {}
     for _ in range(count):
         made = record(rng, rng.choice((3, 4, 5, 6, 8)))
         what = kind_of(fault(made))

@@ -7,6 +7,8 @@ answers that are wrong on purpose (`WRONG`).
 import collections
 import random
 import sys
+from collections.abc import Callable, Iterator, Sequence
+from typing import Any
 
 from reading.record import BRANCH, EXIT, IF, RETURN, SWITCH, UNDEF, UNREACHABLE, Inst, Record, Region, read, refer, show, words_of
 from reading.store import Refused, blocks, pack, payload
@@ -18,7 +20,7 @@ from .vectors import vector
 SEED = 5
 
 
-def answer(store):
+def answer(store: bytes) -> str:
     try:
         found = read(payload(store))
         refer(found)
@@ -27,17 +29,17 @@ def answer(store):
         return f"{refused}\n"
 
 
-def plain(**changed):
+def plain(**changed: Any) -> Region:
     """A region that returns nothing, but for what is changed."""
-    given = dict(inputs=[], blocks=[], limit=1, kind=RETURN)
+    given: dict[str, Any] = dict(inputs=[], blocks=[], limit=1, kind=RETURN)
     return Region(**{**given, **changed})
 
 
-def only(*regions, entry=0, test=0, constants=()):
-    return pack(words_of(Record(entry, test, constants, regions)))
+def only(*regions: Region, entry: int = 0, test: int = 0, constants: Sequence[int] = ()) -> bytes:
+    return pack(words_of(Record(entry, test, constants, list(regions))))
 
 
-def filled(rng, used):
+def filled(rng: random.Random, used: int) -> bytes:
     """An accepted record of exactly so many words (W), by instructions put in."""
     while True:
         made = record(rng, rng.choice((2, 6, 32)))
@@ -60,7 +62,7 @@ def filled(rng, used):
             return pack(words_of(made))
 
 
-def edges():
+def edges() -> Iterator[bytes]:
     """Stores at the edges of every range."""
 
     def one(**changed):
@@ -127,7 +129,7 @@ def edges():
     yield blocks([65535])
 
 
-def many_small(rng):
+def many_small(rng: random.Random) -> Record:
     """Up to 32 regions in one block, so that late regions can be wrong."""
     count = rng.randint(8, 30)
     regions = []
@@ -138,7 +140,7 @@ def many_small(rng):
     return Record(rng.randrange(count), rng.randrange(9), [], regions)
 
 
-def stores():
+def stores() -> Iterator[bytes]:
     rng = random.Random(SEED)
     for size in (0, 1, 2, 508, 511, 513, 1023, 1025, 8191, 8193, 8704, 9000):
         yield bytes(size)
@@ -180,7 +182,7 @@ def stores():
         store = rng.choice(damage.REPAIRED)(rng, pack(words_of(good())))
         if len(store) <= 1024:
             yield store
-    seen = collections.Counter()
+    seen: collections.Counter[str] = collections.Counter()
     while sum(seen.values()) < 480:  # at most nine of each answer
         store = damage.meaning(rng, good())
         line = answer(store)
@@ -189,7 +191,7 @@ def stores():
             yield store
 
 
-def refusal(number, word):
+def refusal(number: int, word: int) -> Callable[[str], str]:
     """The number and the word of a refusal, each so much higher."""
 
     def changed(text):
@@ -199,13 +201,13 @@ def refusal(number, word):
     return changed
 
 
-def next_digit(text):
+def next_digit(text: str) -> str:
     """The last digit of a record's text one higher, 0 after 9."""
     at = max(i for i, c in enumerate(text) if c.isdigit())
     return text[:at] + str((int(text[at]) + 1) % 10) + text[at + 1 :]
 
 
-def without_last_line(text):
+def without_last_line(text: str) -> str:
     return text[: text.rindex("\n", 0, -1) + 1]
 
 
@@ -221,7 +223,7 @@ WRONG = (
 )
 
 
-def wrong(good):
+def wrong(good: list[bytes]) -> Iterator[tuple[bytes, str]]:
     """A few of the stores once more, each with a wrong answer."""
     rng = random.Random(SEED)
     for is_refused, change in WRONG:

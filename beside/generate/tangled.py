@@ -16,7 +16,7 @@ from .stores import only, plain
 LAST = REGIONS - 1
 
 
-def tangled(rng):
+def tangled(rng: random.Random) -> bytes:
     blocks, selects, back, in_order = rng.random(), rng.random(), rng.random(), rng.random() < 0.5
 
     def other(at):
@@ -38,7 +38,7 @@ def tangled(rng):
     return only(*[region(at) for at in range(LAST)], plain(), constants=[2])
 
 
-def main(seed, count):
+def main(seed: int, count: int) -> None:
     rng = random.Random(seed)
     for _ in range(count):
         print(f"store {tangled(rng).hex()}\n.")

@@ -7,6 +7,7 @@ import pathlib
 import random
 import re
 import sys
+from collections.abc import Callable, Iterator
 
 from reading.nesting import Nesting
 from reading.sheet import accepted, nest
@@ -17,12 +18,12 @@ SEED, TIMES = 13, 4
 LIST = pathlib.Path(__file__).resolve().parents[1] / "lists" / "runs.vectors"
 
 
-def first(pattern, new, line):
+def first(pattern: str, new: str | Callable[[re.Match[str]], str], line: str) -> str:
     """The line with its first match replaced, or the line."""
     return re.sub(pattern, new, line, count=1)
 
 
-def ways():
+def ways() -> Iterator[tuple[str, int, Callable[[str], str]]]:
     """A name, the line that is changed (1 given, 2 graph, 3 nested), and the change."""
     for line, run in ((2, "graph"), (3, "nested")):
         yield f"{run}: an event without its reads", line, lambda t: first(r"(\d+\.\d+/\d+)/[\du,]+", r"\1/-", t)
@@ -43,7 +44,7 @@ def ways():
     yield "another over", 3, lambda t: first(r"over (\d)", lambda m: f"over {1 - int(m[1])}", t)
     for place, what in enumerate(("opcode", "reads", "what went before", "the number")):
 
-        def without(line, place=place):
+        def without(line: str, place: int = place) -> str:
             words = line.split(" ")
             words[3 + place] = "0"
             return " ".join(words)
@@ -51,7 +52,7 @@ def ways():
         yield f"a rule without {what}", 1, without
 
 
-def differs(lines):
+def differs(lines: list[str]) -> bool:
     """Whether the reading's runs with this `given` are others than these."""
     store = bytes.fromhex(lines[0].split()[1])
     _, constants, inputs, *numbers = lines[1].split()
@@ -60,7 +61,7 @@ def differs(lines):
     return str(made).splitlines()[2:4] != lines[2:4]
 
 
-def main():
+def main() -> None:
     rng = random.Random(SEED)
     vectors = [vector.splitlines() for vector in LIST.read_text().split(".\n") if vector]
     for name, place, change in ways():

@@ -1,5 +1,6 @@
 """What tools/ does without rt: edits found, scripts told apart, equations written, a status given."""
 
+import ast
 import contextlib
 import importlib.machinery
 import importlib.util
@@ -67,6 +68,37 @@ class Lint(unittest.TestCase):
         lint = script("lint")
         self.assertIn("tools/lint", lint.scripts(FOLDER.parent, "python"))
         self.assertIn("bench/run", lint.scripts(FOLDER.parent, "shell"))
+
+
+def untyped(text: str) -> list[str]:
+    """The public functions of a script, and methods of its classes, that lack a type; what stands inside of a function is not public."""
+    found = []
+    todo: list[ast.AST] = [ast.parse(text)]
+    while todo:
+        for node in ast.iter_child_nodes(todo.pop()):
+            if isinstance(node, ast.ClassDef):
+                todo.append(node)
+            elif isinstance(node, ast.FunctionDef) and (node.name == "__init__" or not node.name.startswith("_")):
+                every = node.args.posonlyargs + node.args.args + node.args.kwonlyargs + [node.args.vararg, node.args.kwarg]
+                given = [one for one in every if one is not None and one.arg not in ("self", "cls")]
+                if node.returns is None or any(one.annotation is None for one in given):
+                    found.append(node.name)
+    return found
+
+
+class Types(unittest.TestCase):
+    """Python has types on public functions."""
+
+    def test_untyped(self) -> None:
+        """A function without a type is found, at the top and in a class; an inner one is not."""
+        text = "def a(x: int) -> int:\n    def c(y): pass\n\ndef b(x): pass\n\n"
+        text += "class D:\n    def e(self): pass\n\n    def f(self) -> None: pass\n"
+        self.assertEqual(sorted(untyped(text)), ["b", "e"])
+
+    def test_all_scripts(self) -> None:
+        """All scripts have them."""
+        for name in script("lint").scripts(FOLDER.parent, "python"):
+            self.assertEqual(untyped((FOLDER.parent / name).read_text(encoding="utf-8")), [], name)
 
 
 class Compute(unittest.TestCase):
