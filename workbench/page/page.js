@@ -33,7 +33,7 @@ function facts(record, sheet, options) {
   if (!sheet.refused) {
     const most = record && mostAttempts(record);
     all.push(fact("figure", sheet.figure === null ? "none" : grouped(sheet.figure),
-      sheet.figure !== null && options.clock ? ` = ${seconds(sheet.figure, options.clock)}` : ""));
+      sheet.figure !== null && options.clock ? ` = ${seconds(sheet.figure, options.clock)} at ${options.clockText}` : ""));
     all.push(fact("attempts", grouped(sheet.attempts), ` of at most ${grouped(most)} `,
       html("span", { class: "meter" }, html("span", { style: `width: ${100 * sheet.attempts / most}%` }))));
     all.push(fact("twice", String(sheet.twice)));

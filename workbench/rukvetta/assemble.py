@@ -1,18 +1,21 @@
 """assemble < SOURCE > STORE"""
 
-import argparse
+from __future__ import annotations
+
 import sys
 
 from .faults import Fault
-from .needs import REFUSED
-from .record import record_words
-from .source import MOST_BYTES, read_source
+from .names import Names
+from .needs import REFUSED, Parser
+from .record import Record, record_words
+from .source import read_source
 from .store import MOST_WORDS, store_of
+from .streams import read_input, write_output
 
 DESCRIPTION = "Reads the source of a routine from standard input and writes its store to standard output."
 
 
-def assemble(data):
+def assemble(data: bytes) -> tuple[bytes, Record, Names]:
     """The store of a source's bytes, its record and its names."""
     record, names = read_source(data)
     words = record_words(record)
@@ -21,13 +24,13 @@ def assemble(data):
     return store_of(words), record, names
 
 
-def main():
-    argparse.ArgumentParser(prog="assemble", usage="assemble < SOURCE > STORE", description=DESCRIPTION).parse_args()
-    data = sys.stdin.buffer.read(MOST_BYTES + 1)
+def main() -> int:
+    Parser(prog="assemble", usage="assemble < SOURCE > STORE", description=DESCRIPTION).parse_args()
+    data = read_input()
     try:
         store, _, _ = assemble(data)
     except Fault as fault:
-        print(fault.text(data.decode("utf-8", "replace")), file=sys.stderr)
+        print(fault.text(data.decode("utf-8-sig", "replace")), file=sys.stderr)
         return REFUSED
-    sys.stdout.buffer.write(store)
+    write_output(store)
     return 0

@@ -1,15 +1,19 @@
 """explain STORE: why a store was refused, and where; or what it holds, in words."""
 
+from __future__ import annotations
+
 import argparse
 import re
 
-from .needs import MISSING, REFUSED, Missing
+from .answers import Answer, Output
+from .needs import MISSING, REFUSED, Missing, Parser
 from .places import read_store
 from .programs import Programs, add_option, refusal
-from .record import value_text
+from .record import Record, value_text
 from .references import check_references
 from .refusals import RULES, Refused, several
-from .routine import BadSource, load
+from .routine import BadSource, Routine, load
+from .sheet import verdict
 from .source import read_source
 from .store import words_of
 from .summary import record_sentences, sheet_sentences
@@ -21,13 +25,13 @@ DESCRIPTION = ("Says of a store, or of a source that it assembles first, why it 
 class Differs(Exception):
     """The proved program and the search for the place do not agree."""
 
-    def __init__(self, answer, found):
+    def __init__(self, answer: str, found: Refused | None) -> None:
         ours = f"refused {found.number} {found.word}: {found.sentence}" if found else "no fault."
         super().__init__(f"The proved program says `{answer}`; the search for the place found {ours} "
                          "The program is right, and no place is given.")
 
 
-def place_of(store):
+def place_of(store: bytes) -> Refused | None:
     """Our own search for a refusal from 1 to 8: the refusal, or None."""
     try:
         check_references(read_store(store))
@@ -36,7 +40,7 @@ def place_of(store):
     return None
 
 
-def line_of(record, part):
+def line_of(record: Record | None, part: tuple | None) -> str:
     """The line of a source that a part of its record stands in, as the end of a sentence."""
     if record is None or part is None:
         return ""
@@ -50,20 +54,20 @@ def line_of(record, part):
     return f" (line {line} of the source)" if line else ""
 
 
-def named(routine, sentence):
+def named(routine: Routine, sentence: str) -> str:
     """The sentence with the source's own names behind its regions and values."""
     if routine.names is None:
         return sentence
     called = {f"region {number}": name for name, number in routine.names.regions.items()}
     called |= {value_text(value): name for value, name in routine.names.values.items()}
 
-    def with_name(match):
+    def with_name(match: re.Match[str]) -> str:
         name = called.get(match[0].lower())
         return f"{match[0]} ({name})" if name else match[0]
     return re.sub(r"\b(?:[Rr]egion [0-9]+|c[0-9]+|[id][0-9]+\.[0-9]+)\b", with_name, sentence)
 
 
-def nesting_sentence(number, word, record):
+def nesting_sentence(number: int, word: int, record: Record) -> str:
     """For the refusals that nesting, figure and output give; the program does not say more than the number."""
     if number == 9:
         return (f"Nesting the record's {several(len(record.regions), 'region')} would define too much. Fewer ways that cross "
@@ -77,7 +81,7 @@ def nesting_sentence(number, word, record):
     return f"Region {word} is the target. This is proved never to happen: please keep the store."
 
 
-def refused_text(routine, answer, programs):
+def refused_text(routine: Routine, answer: str, programs: Programs) -> list[str]:
     """The sentences for a refusal that a proved program gave."""
     number, word = refusal(answer)
     found = place_of(routine.store)
@@ -91,7 +95,7 @@ def refused_text(routine, answer, programs):
     return [answer.strip(), f"Rule {number} of document 01: {RULES[number]}.", sentence]
 
 
-def accepted_text(routine, shown):
+def accepted_text(routine: Routine, shown: str) -> tuple[Record, list[str]]:
     """The summary of a record that `show` printed."""
     found = place_of(routine.store)
     if found:
@@ -100,7 +104,7 @@ def accepted_text(routine, shown):
     return record, list(record_sentences(record, words_of(routine.store)[0]))
 
 
-def explain(routine, programs):
+def explain(routine: Routine, programs: Programs) -> tuple[list[str], int]:
     """The sentences, and a status: 0 for what is accepted, and nested as far as that is known."""
     shown = programs.show(routine.store)
     if refusal(shown):
@@ -115,16 +119,37 @@ def explain(routine, programs):
     return [sheet.split("\n", 1)[0], *sentences, *sheet_sentences(record, sheet)], 0
 
 
-def main():
-    parser = argparse.ArgumentParser(prog="explain", description=DESCRIPTION)
+def arguments(parser: argparse.ArgumentParser) -> None:
     parser.add_argument("store", metavar="STORE", help="a store, or a source; - for standard input")
     add_option(parser)
-    options = parser.parse_args()
+
+
+def perform(options: argparse.Namespace, output: Output) -> int:
+    """Say what a store or a source is."""
+    answer = output.answer(options.store)
     try:
         routine = load(options.store)
         sentences, status = explain(routine, Programs(options.programs))
-    except (BadSource, Differs) as fault:
-        print(fault)
-        return REFUSED
-    print("\n".join(named(routine, sentence) for sentence in sentences))
+    except BadSource as fault:
+        answer.take_faults(fault.fault)
+        return failed(answer, output, str(fault))
+    except Differs as fault:
+        return failed(answer, output, str(fault))
+    answer.sentences = [named(routine, sentence) for sentence in sentences]
+    if sentences[0] != "accepted":
+        said = verdict(sentences[0])
+        answer.take_verdict(said.outcome, said.figure, said.attempts, said.twice)
+    output.say("\n".join(answer.sentences))
     return status
+
+
+def failed(answer: Answer, output: Output, wrong: str) -> int:
+    answer.wrong = wrong
+    output.say(wrong)
+    return REFUSED
+
+
+def main() -> int:
+    parser = Parser(prog="explain", description=DESCRIPTION)
+    arguments(parser)
+    return perform(parser.parse_args(), Output("explain"))

@@ -1,16 +1,18 @@
-"""The row of a routine in a table: what the programs say of it, and how long its figure lasts at a clock."""
+"""What the programs say of a routine, as the row of a table; and how long a figure lasts at a clock that was given."""
+
+from __future__ import annotations
 
 import argparse
 import re
+from dataclasses import dataclass
 
-from .sheet import verdict
+from .sheet import Verdict, verdict
 from .store import words_of
 
-HEADS = "routine", "outcome", "figure", "time", "attempts", "regions", "words"
-UNITS = {"": 1, "k": 1e3, "m": 1e6, "g": 1e9}
+UNITS = {"": 1.0, "k": 1e3, "m": 1e6, "g": 1e9}
 
 
-def clock(text):
+def clock(text: str) -> float:
     """A clock as 20MHz, 100 kHz or 5e6, in hertz; a cost of 1 is one of its ticks."""
     match = re.fullmatch(r"([0-9.]+(?:e[0-9]+)?)\s*(?:([kmg]?)hz)?", text.strip().lower())
     try:
@@ -22,29 +24,52 @@ def clock(text):
     raise argparse.ArgumentTypeError(f"{text} is no clock; 20MHz or 5e6 would be one")
 
 
-def add_clock(parser):
-    parser.add_argument("--clock", type=clock, default=1e6, metavar="HERTZ",
-                        help="ticks a second; a cost of 1 is one tick (else 1MHz)")
+def add_clock(parser: argparse.ArgumentParser) -> None:
+    parser.add_argument("--clock", type=clock, metavar="HERTZ",
+                        help="ticks a second, as 20MHz; a cost of 1 is one tick. Times are told only with it")
 
 
-def duration(figure, hertz):
+def clock_text(hertz: float) -> str:
+    """A clock for people: 10 MHz."""
+    for unit, scale in ("GHz", 1e9), ("MHz", 1e6), ("kHz", 1e3):
+        if hertz >= scale:
+            return f"{hertz / scale:.10g} {unit}"
+    return f"{hertz:.10g} Hz"
+
+
+def duration(figure: int, hertz: float) -> str:
     time = figure / hertz
-    for unit, scale in ("s", 1), ("ms", 1e3), ("\N{MICRO SIGN}s", 1e6), ("ns", 1e9):
-        if time * scale >= 1 or unit == "ns":
+    for unit, scale in ("s", 1.0), ("ms", 1e3), ("\N{MICRO SIGN}s", 1e6):
+        if time * scale >= 1:
             return f"{time * scale:.4g} {unit}"
-    raise AssertionError
+    return f"{time * 1e9:.4g} ns"
 
 
-def regions_of(shown):
-    """How many regions `show` counted, or nothing for a refusal."""
-    words = shown.split(" ", 3)
-    return words[2] if words[0] == "record" else "-"
+def heads(hertz: float | None) -> tuple[str, ...]:
+    """The heads of a table: a column of times only with a clock, which its head names."""
+    times = (f"time at {clock_text(hertz)}",) if hertz else ()
+    return ("routine", "outcome", "figure", *times, "attempts", "regions", "words")
 
 
-def row(name, store, shown, sheet, hertz):
-    """The cells of a table, as text."""
-    said = verdict(sheet)
-    figure = "-" if said.figure is None else f"{said.figure:,}"
-    time = "-" if said.figure is None else duration(said.figure, hertz)
-    words = str(words_of(store)[0]) if shown.startswith("record") else "-"
-    return name, said.outcome, figure, time, "-" if said.attempts is None else str(said.attempts), regions_of(shown), words
+@dataclass
+class Facts:
+    """One routine: its name, what line 1 of its sheet says, how many regions and words its record has."""
+    name: str
+    said: Verdict
+    regions: int | None = None
+    words: int | None = None
+
+    def cells(self, hertz: float | None) -> tuple[str, ...]:
+        """The cells of a table, as text."""
+        figure = self.said.figure
+        times = ("-" if figure is None else duration(figure, hertz),) if hertz else ()
+        numbers = (self.said.attempts, self.regions, self.words)
+        return (self.name, self.said.outcome, "-" if figure is None else f"{figure:,}", *times,
+                *("-" if number is None else str(number) for number in numbers))
+
+
+def facts_of(name: str, store: bytes, shown: str, sheet: str) -> Facts:
+    """The facts of a store, from what `show` and `nest` print of it."""
+    if not shown.startswith("record"):
+        return Facts(name, verdict(sheet))
+    return Facts(name, verdict(sheet), int(shown.split(" ", 3)[2]), words_of(store)[0])

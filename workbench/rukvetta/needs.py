@@ -1,8 +1,17 @@
 """What the workbench needs from Debian, in one place, and a sentence where it is missing."""
 
+from __future__ import annotations
+
+import argparse
 import importlib
 import os
 import sys
+from collections.abc import Callable
+from types import ModuleType
+from typing import NoReturn
+
+from . import streams
+from .faults import escaped
 
 PACKAGES = {
     "lark": "python3-lark",             # the source form
@@ -21,7 +30,7 @@ class Missing(Exception):
     """Something that is needed is not there; its text is the sentence to print."""
 
 
-def need(module):
+def need(module: str) -> ModuleType:
     """A Python module of a Debian package."""
     try:
         return importlib.import_module(module)
@@ -30,7 +39,7 @@ def need(module):
                       f"`{COMMAND}` installs all that the workbench uses.") from None
 
 
-def need_dagre():
+def need_dagre() -> str:
     """The text of the layout library."""
     try:
         with open(DAGRE, encoding="utf-8") as file:
@@ -40,13 +49,16 @@ def need_dagre():
                       f"`{COMMAND}` installs all that the workbench uses.") from None
 
 
-def run(main):
-    """Run a command's main; what is missing, or a broken pipe, ends in a sentence and a status."""
-    sys.stdout.reconfigure(errors="backslashreplace")     # a name or a locale may not be UTF-8
+def leave_output() -> None:
+    """Give up standard output, so that nothing is written to it when Python ends."""
+    os.dup2(os.open(os.devnull, os.O_WRONLY), 1)
+
+
+def run(main: Callable[[], int]) -> int:
+    """Run a command's main; what is missing, or cannot be read or written, ends in a sentence and a status."""
+    streams.prepare()
     try:
-        status = main()
-        sys.stdout.flush()
-        return status
+        return run_to_the_end(main)
     except Missing as missing:
         print(missing, file=sys.stderr)
         return MISSING
@@ -54,8 +66,27 @@ def run(main):
         print("Stopped.", file=sys.stderr)
         return MISSING
     except BrokenPipeError:
-        os.dup2(os.open(os.devnull, os.O_WRONLY), sys.stdout.fileno())
+        leave_output()
         return REFUSED
     except OSError as error:
-        print(f"{error.filename or 'a file'}: {error.strerror}", file=sys.stderr)
+        if error.filename == streams.OUTPUT:
+            leave_output()
+        print(f"{escaped(str(error.filename or 'a file'))}: {error.strerror}", file=sys.stderr)
         return USAGE
+
+
+def run_to_the_end(main: Callable[[], int]) -> int:
+    """Run it, and write what it printed."""
+    try:
+        status = main()
+    except SystemExit as ended:     # of the parser of arguments
+        status = ended.code if isinstance(ended.code, int) else 0
+    sys.stdout.flush()
+    return status
+
+
+class Parser(argparse.ArgumentParser):
+    """A parser of arguments whose messages are safe to print."""
+
+    def error(self, message: str) -> NoReturn:
+        super().error(escaped(message))

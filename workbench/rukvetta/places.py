@@ -2,21 +2,24 @@
 
 from . import record as r
 from .refusals import Refused, allowed, several
+from .streams import MOST_READ
 from .store import BLOCK, BLOCKS, CHECK, PAYLOAD, WORDS, blocks_of, check_of, words_of
 
 
 def check_store(store):
     """Length, block numbers and checks: 1 to 3."""
     if not store or len(store) > BLOCK * BLOCKS or len(store) % BLOCK:
-        raise Refused(1, 0, f"The store has {several(len(store), 'byte')}; 512 to 8,192 in blocks of 512 would be allowed.")
+        long = f"more than {MOST_READ - 1:,} bytes" if len(store) >= MOST_READ else several(len(store), "byte")
+        raise Refused(1, 0, f"The store has {long}; 512 to 8,192 in blocks of 512 would be allowed.")
     for number, block in enumerate(blocks_of(store)):
         found = int.from_bytes(block[:PAYLOAD], "little")
         if found != number:
             raise Refused(2, number, f"Block {number} has the number {found} in its bytes 0 and 1; {number} would be allowed.")
         found = int.from_bytes(block[CHECK:], "little")
         if found != check_of(block):
-            raise Refused(3, number, f"Block {number} has the check {found:,} in its bytes 508 to 511; "
-                          f"{check_of(block):,}, what its other bytes give, would be allowed.")
+            raise Refused(3, number, f"Block {number} has the check {found:,} in its bytes 508 to 511, which is not the one of its other "
+                          "bytes. The block is damaged; which byte is wrong cannot be told. Take the store from its source again: a "
+                          "check that is only made to fit would let the damage pass.")
 
 
 def check_used(words):

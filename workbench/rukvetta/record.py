@@ -1,6 +1,10 @@
 """A record: its parts, its words, and how its values are written."""
 
+from __future__ import annotations
+
+from collections.abc import Callable, Iterable
 from dataclasses import dataclass, field
+from typing import Any
 
 CONSTANT, INPUT, INSTRUCTION, OUTPUT, BOOLEAN, UNDEFINED = range(6)      # kinds of values
 UNREACHABLE, RETURN, EXIT, BRANCH, SELECT_BOOL, SELECT_NUM = range(6)   # kinds of terminators
@@ -12,7 +16,7 @@ TYPE, RESULT, WORD, LIMIT, EXITS = (1, 255), (0, 255), (0, 65535), (1, 65535), (
 VALUES = (0, 0), (0, 4), (0, 4), (0, 0), (1, 1), (1, 1)                 # by kind of terminator
 TARGETS = (0, 0), (0, 0), (0, 0), (1, 1), (2, 2), (1, 8)
 
-# A value is the triple of its words: kind, region, index.
+Value = tuple[int, int, int]        # its words: kind, region, index
 TRUE, FALSE = (BOOLEAN, 0, 1), (BOOLEAN, 0, 0)
 
 
@@ -21,24 +25,24 @@ class Instruction:
     opcode: int
     type: int
     cost: int
-    reads: list
+    reads: list[Value]
     line: int = 0       # of the source
 
 
 @dataclass
 class Region:
-    inputs: list
-    blocks: list
+    inputs: list[int]
+    blocks: list[list[Instruction]]
     limit: int
     kind: int
     opcode: int = 0
-    values: list = field(default_factory=list)
-    targets: list = field(default_factory=list)
-    passed: dict = field(default_factory=dict)      # each distinct target's inputs, by first standing
-    exits: list = field(default_factory=list)
-    lines: dict = field(default_factory=dict)       # of the source: region, terminator, exits, (pass, target)
+    values: list[Value] = field(default_factory=list)
+    targets: list[int] = field(default_factory=list)
+    passed: dict[int, list[Value]] = field(default_factory=dict)    # each distinct target's inputs, by first standing
+    exits: list[int] = field(default_factory=list)
+    lines: dict[Any, int] = field(default_factory=dict)             # of the source: region, terminator, exits, (pass, target)
 
-    def instructions(self):
+    def instructions(self) -> list[Instruction]:
         return [instruction for block in self.blocks for instruction in block]
 
 
@@ -46,19 +50,19 @@ class Region:
 class Record:
     entry: int
     test: int
-    constants: list
-    regions: list
+    constants: list[int]
+    regions: list[Region]
 
 
-def listed(items, words):
+def listed(items: list[Any], words: Callable[[Any], Iterable[int]]) -> list[int]:
     return [len(items), *(word for item in items for word in words(item))]
 
 
-def instruction_words(i):
+def instruction_words(i: Instruction) -> list[int]:
     return [i.opcode, i.type, i.cost, *listed(i.reads, list)]
 
 
-def region_words(r):
+def region_words(r: Region) -> list[int]:
     words = [len(r.inputs), *r.inputs]
     words += listed(r.blocks, lambda block: listed(block, instruction_words))
     words += [r.limit, r.kind, *[r.opcode] * (r.kind == EXIT)]
@@ -68,7 +72,7 @@ def region_words(r):
     return words + [len(r.exits), *r.exits]
 
 
-def record_words(record):
+def record_words(record: Record) -> list[int]:
     """The record's words, W in front."""
     words = [0, len(record.regions), record.entry, record.test, len(record.constants), *record.constants]
     for region in record.regions:
@@ -77,7 +81,7 @@ def record_words(record):
     return words
 
 
-def value_text(value):
+def value_text(value: Value) -> str:
     """A value as the printed sheet has it."""
     kind, region, index = value
     if kind == BOOLEAN and index < 2:

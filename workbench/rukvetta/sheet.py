@@ -1,5 +1,8 @@
 """The first line of a sheet, and its defer lines, as the program `nest` prints them."""
 
+from __future__ import annotations
+
+from collections.abc import Iterator
 from dataclasses import dataclass
 
 from .programs import refusal
@@ -14,11 +17,11 @@ class Verdict:
     twice: int | None = None
 
     @property
-    def refused(self):
+    def refused(self) -> bool:
         return self.outcome.startswith("refused")
 
 
-def verdict(sheet):
+def verdict(sheet: str) -> Verdict:
     """What line 1 says."""
     if refusal(sheet):
         return Verdict(sheet.strip())
@@ -26,7 +29,7 @@ def verdict(sheet):
     return Verdict(outcome, None if figure == "-" else int(figure), int(attempts), int(twice))
 
 
-def deferred(sheet):
+def deferred(sheet: str) -> Iterator[tuple[int, int | None, int]]:
     """Region, target (None for a return) and count of each defer line."""
     for line in sheet.splitlines():
         word, *rest = line.split()
@@ -34,5 +37,5 @@ def deferred(sheet):
             yield int(rest[0]), None if rest[2] == "return" else int(rest[2]), int(rest[4])
 
 
-def counted(sheet, word):
+def counted(sheet: str, word: str) -> int:
     return sum(line.startswith(word + " ") for line in sheet.splitlines())

@@ -32,7 +32,7 @@ def main():
             path = os.path.join(folder, name + ".html")
             words = record_words(load(os.path.join(WORKBENCH, "catalogue", name + ".routine")).record)[0]
             with open(path, "w", encoding="utf-8") as file:
-                file.write(routine_page(name, catalogue_texts(name), {"clock": 1e6, "words": words}))
+                file.write(routine_page(name, catalogue_texts(name), {"clock": 1e6, "clockText": "1 MHz", "words": words}))
             look.open(path, dark)
             below = look.run("return document.querySelector('.listings').getBoundingClientRect().top")
             look.screenshot(os.path.join(WORKBENCH, "docs", f"{name}-{'dark' if dark else 'light'}.png"), below - 4)

@@ -33,3 +33,10 @@ def command(name, *arguments, data=b"", folder=None):
     done = subprocess.run([os.path.join(WORKBENCH, name), *arguments], input=data, capture_output=True, check=False,
                           env={**os.environ, "RUKVETTA_PROGRAMS": folder or programs.folder, "COLUMNS": "160"})
     return done.returncode, done.stdout, done.stderr.decode()
+
+
+def put(path: str, data: bytes) -> str:
+    """Write a file; answer its path."""
+    with open(path, "wb") as file:
+        file.write(data)
+    return path

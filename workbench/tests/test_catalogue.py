@@ -67,7 +67,7 @@ class Check(unittest.TestCase):
         status, out, _ = command("check-catalogue", CATALOGUE, "--clock", "10MHz")
         lines = out.decode().splitlines()
         self.assertEqual((status, lines[-1]), (0, f"{len(routines())} passed, 0 failed"))
-        self.assertEqual(lines[0].split(), ["routine", "outcome", "figure", "time", "attempts", "regions", "words"])
+        self.assertEqual(lines[0].split(), ["routine", "outcome", "figure", "time", "at", "10", "MHz", "attempts", "regions", "words"])
         self.assertEqual([line.split()[0] for line in lines[1:-1]], routines())
         row = next(line for line in lines if line.startswith("case-a"))
         self.assertEqual(row.split(), ["case-a", "whole", "11", "1.1", "µs", "8", "4", "71"])

@@ -140,7 +140,7 @@ class Usage(unittest.TestCase):
             self.says(1, "found the byte 128, expected text in UTF-8", name, self.path("junk.routine"), *rest)
         self.says(1, "The store has 256 bytes", "explain", self.path("junk.store"))
         self.says(1, "The store has 0 bytes", "explain", self.path("empty.store"))
-        self.says(0, "", "report", self.path("one.store"), "-o", page)
+        self.says(1, "one.store: refused 1 0", "report", self.path("one.store"), "-o", page)
         self.says(2, "a page's name ends with .html", "report", self.path("one.store"), "-o", self.path("page"))
         self.says(2, "No such file or directory", "report", self.path("one.store"), "-o", self.path("none/page.html"))
         self.says(2, "No such file or directory", "check-catalogue", self.path("none"))
@@ -154,7 +154,7 @@ class Usage(unittest.TestCase):
         with open(source, "wb") as file:
             file.write(b"record\nregion a\nreturn\n")
         self.says(0, "It nests whole", "explain", source)
-        self.says(0, "", "report", source, self.path("one.store"), "-o", self.path("page.html"))
+        self.says(1, "one.store: refused 1 0", "report", source, self.path("one.store"), "-o", self.path("page.html"))
         with open(self.path("page.html"), encoding="utf-8") as page:
             self.assertIn('href="page/%FF.html"', page.read())
         self.says(1, "there is no \\udcff.sheet beside it", "check-catalogue", self.folder)

@@ -85,6 +85,7 @@ class SourceForm(unittest.TestCase):
         source = b"""# a comment
 type hertz 2
 opcode set 0x10 : hertz cost 3
+default cost 0
 record regions 8 entry first test 1 constants 3, base : hertz exits auto
 constant more : bool
 region first in -
@@ -111,7 +112,7 @@ region fifth
     exit set true, undef2
 region sixth
     return c1
-region seventh
+region seventh limit 1
     return base
     exits 6
 """

@@ -14,8 +14,8 @@ from rukvetta.record import record_words
 from rukvetta.routine import Routine
 from rukvetta.store import store_of
 
-HEAD = "record entry a test 1 constants 2\n"
-A = "region a in -\n"
+HEAD = "default cost 0\nrecord entry a test 1 constants 2\n"
+A = "region a in - limit 1\n"
 
 # A source, and what is said where the store that it gives is refused.
 REFUSALS = [
@@ -31,7 +31,7 @@ REFUSALS = [
     (HEAD + A + "7 : 2\n" * 7 + "return d0.7\n", "refused 6 0", "it has 7 instructions; d0.0, d0.1 .. d0.6 would be allowed."),
     (HEAD + A + "7 : 2\n8\n9 (d0.2)\nreturn\n", "refused 6 0", "that instruction is no earlier one; d0.0 would be allowed."),
     (HEAD + A + "branch to 7\n", "refused 6 0", "goes to region 7 (target 0); region 0 would be allowed"),
-    (HEAD + A + "return\nregion b\nreturn\nexits 2\n", "refused 6 1", "Region 1 has region 2 in its exit list (exit 0); regions 0 to 1"),
+    (HEAD + A + "return\nregion b limit 1\nreturn\nexits 2\n", "refused 6 1", "Region 1 has region 2 in its exit list (exit 0); regions 0 to 1"),
     (HEAD + A + "select bool c0 to a, a\n", "refused 7 0", "has a boolean test of c0, which has type 2; type 1 would be allowed"),
     (HEAD + A + "branch to b\nregion b in 2\nreturn\n", "refused 7 0", "passes 0 values to region 1, which has 1 input."),
     (HEAD + A + "branch to b(true)\nregion b in 2\nreturn\n", "refused 7 0",
@@ -142,8 +142,8 @@ class Summaries(Explain):
                 (SWEEP, "It nests whole: 1 select, 1 loop and 0 exits, after 7 attempts of at most 19."),
                 (SWEEP, "A run within the turn limits costs at most 7,619, the figure."),
                 (b"record\nregion a\nunreachable\n", "It nests closed (no run returns)"),
-                (b"record\nregion a\nbranch to a\n", "It stays untouched: the entry's incoming count is 2"),
-                (b"record\nregion a\nselect bool true to b, c\nregion b\nbranch to c\nregion c\nbranch to b\n",
+                (b"record\nregion a limit 9\nbranch to a\n", "It stays untouched: the entry's incoming count is 2"),
+                (b"record\nregion a\nselect bool true to b, c\nregion b limit 9\nbranch to c\nregion c\nbranch to b\n",
                  "Region 0 (a) still branches to region 1 (b), with 1 of that region's 2 incoming edges.")):
             status, text = self.explain(source, ".routine")
             self.assertEqual(status, 0)

@@ -36,7 +36,7 @@ class Page(unittest.TestCase):
     def open(self, name, texts=None, dark=False):
         path = os.path.join(self.folder.name, name + ".html")
         with open(path, "w", encoding="utf-8") as file:
-            file.write(routine_page(name, texts or catalogue_texts(name), {"clock": 1e6, "words": 71}))
+            file.write(routine_page(name, texts or catalogue_texts(name), {"clock": 1e6, "clockText": "1 MHz", "words": 71}))
         self.assertEqual([], self.browser.open(path, dark))
         return path
 
@@ -63,7 +63,7 @@ class Page(unittest.TestCase):
         self.open("case-a")
         look = self.browser
         self.assertEqual(look.texts("h1, .badge"), ["case-a", "whole"])
-        self.assertEqual(look.texts("[data-fact=figure] dd, [data-fact=attempts] dd"), ["11 = 11 µs", "8 of at most 33 "])
+        self.assertEqual(look.texts("[data-fact=figure] dd, [data-fact=attempts] dd"), ["11 = 11 µs at 1 MHz", "8 of at most 33 "])
         self.assertEqual(look.count("svg.graph a.box"), 4)
         self.assertEqual(look.count("svg.graph .edge"), 4)
         self.assertEqual(look.texts("svg.graph .edge text"), ["true", "false", "(left-value)", "(right-value)"])
@@ -167,7 +167,8 @@ class Page(unittest.TestCase):
         self.assertGreaterEqual(len(names), 24)
         index = os.path.join(self.folder.name, "all.html")
         paths = [os.path.join(CATALOGUE, name + ".routine") for name in names]
-        self.assertEqual(command("report", *paths, "-o", index), (0, b"", ""))
+        refused = os.path.join(CATALOGUE, "calibration.routine")
+        self.assertEqual(command("report", *paths, "-o", index), (1, b"", f"{refused}: refused 11 0\n"))
         self.assertEqual([], self.browser.open(index, True))
         self.assertEqual(self.browser.texts("td a"), names)
         links = self.browser.run("return [...document.querySelectorAll('td a')].map(a => a.href)")
@@ -207,7 +208,7 @@ class Command(unittest.TestCase):
             with open(one, encoding="utf-8") as page:
                 text = page.read()
             self.assertIn("whole figure 11 attempts 8 twice 0", text)
-            self.assertEqual(command("report", *paths, paths[0], "-o", index), (0, b"", ""))
+            self.assertEqual(command("report", *paths, paths[0], "-o", index), (1, b"", f"{paths[2]}: refused 11 0\n"))
             self.assertEqual(sorted(os.listdir(os.path.join(folder, "all"))),
                              ["calibration.html", "case-a-2.html", "case-a.html", "monitor.html"])
             with open(index, encoding="utf-8") as page:
