@@ -25,7 +25,8 @@ function priceNode(node, record) {
 }
 
 // Sets `times` and `share` of each part on the dearest path: how often it runs, and what it adds by itself.
-// `visits` becomes the regions of the record along the path, in order; a loop's header stands again after its body.
+// `visits` becomes the regions of the record along the path, in order; a loop's header stands again after its body, with the
+// place in `visits` where the loop begins.
 function share(region, times, record, visits) {
   region.times = times;
   if (region.id < record.regions.length) visits.push({ region: region.id });
@@ -42,8 +43,9 @@ function shareNode(node, times, record, visits) {
     share(node.bodies[node.dearest], times, record, visits);
   } else if (node.word === "loop") {
     node.share = times * node.limit * record.test;
+    const since = visits.length;
     share(node.region, times * node.limit, record, visits);
-    if (node.limit > 1) visits.push({ region: node.body, back: true });
+    visits.push({ region: node.body, since, back: node.limit > 1 });
   } else {
     node.share = 0;
   }
@@ -78,9 +80,17 @@ function markGraph(path, root, visits, record) {
   });
   add(root);
   visits.forEach(({ region }) => path.regions.has(region) || path.regions.set(region, 0));
-  visits.forEach(({ region, back }, k) => {
-    if (k && (back || visits[k - 1].region !== region)) way(record, visits[k - 1].region, region, path);
-  });
+  visits.forEach((visit, k) => k && markStep(path, visits, k, record));
+}
+
+// One step of the path: from the region before, or behind a loop from the last of its regions that has a way.
+function markStep(path, visits, k, record) {
+  const { region, since, back } = visits[k], before = visits[k - 1];
+  if (since !== undefined && !back) return;             // the end of a loop that takes one turn is no step
+  const from = since !== undefined ? since : before.since !== undefined ? before.since : k - 1;
+  const origins = visits.slice(from, k).filter(visit => visit.since === undefined).map(visit => visit.region).reverse();
+  if (since === undefined && origins.length === 1 && origins[0] === region) return;
+  origins.find(origin => way(record, origin, region, path));
 }
 
 // A region that only returns leaves nothing in the nest: it is the path's end if the last region that leads to one is on it.
@@ -92,7 +102,7 @@ function markEnd(path, visits, record) {
   if (last) way(record, last.region, ends(last.region)[0], path);
 }
 
-// Marks the shortest way between two regions that goes through regions without blocks alone, if there is one.
+// Marks the shortest way between two regions that goes through regions without blocks alone; answers whether there is one.
 function way(record, from, to, path) {
   const queue = [[from]], seen = new Set();
   while (queue.length) {
@@ -104,10 +114,11 @@ function way(record, from, to, path) {
           if (k) path.edges.add(all[k - 1] + ">" + region);
           if (!path.regions.has(region)) path.regions.set(region, 0);
         });
-        return;
+        return true;
       }
       if (!seen.has(target) && !record.regions[target].blocks.length) queue.push([...walked, target]);
       seen.add(target);
     }
   }
+  return false;
 }

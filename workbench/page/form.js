@@ -1,25 +1,23 @@
 // A nested form while it is drawn: its values' names, its regions' names, and boxes that know their line and their share.
 
 function formOf(record, sheet, names, path) {
-  const form = { record, sheet, names, path, kept: new Map(), selects: new Map() };
-  sheet.lines.forEach(line => {
-    if (line.word === "region") form.kept.set(line.id, line.inputs.length);
-    if (line.word === "select") form.selects.set(line.id, line);
-  });
+  const form = { record, sheet, names, path, kept: keptInputs(record, sheet), selects: new Map() };
+  sheet.lines.forEach(line => line.word === "select" && form.selects.set(line.id, line));
   return form;
 }
 
-// An input of a loop's body keeps its name only where none was left out: else the sheet's numbers are not the source's.
-function valueIn(form, text) {
-  const input = /^i(\d+)\./.exec(text);
-  if (input) {
-    const region = form.record.regions[input[1]];
-    return region && form.kept.get(region.number) === region.inputs.length ? form.names.value(text) : text;
-  }
-  return text.startsWith("undef") ? "undef" : form.names.value(text);
+// What a value of the sheet is called in a place that belongs to a region, or to none. An input of a loop's body is called as the
+// record's input that it is; where nesting left out an input and it cannot be told which, by a word of its own. A name that several
+// regions have stands with its region outside of it. So no name means two values.
+function valueIn(form, text, at) {
+  const is = recordValue(form.kept, text);
+  if (is === undefined) return text.replace(/^i/, "loop");
+  if (text.startsWith("undef")) return "undef";
+  const name = form.names.value(is), owner = /^[id](\d+)\./.exec(is);
+  return owner && name !== is && Number(owner[1]) !== at && form.names.isShared(name) ? `${form.names.region(owner[1])}.${name}` : name;
 }
 
-const valuesIn = (form, texts) => texts.map(text => valueIn(form, text));
+const valuesIn = (form, texts, at) => texts.map(text => valueIn(form, text, at));
 
 // Regions that nesting added have no name.
 const regionName = (form, number) => number < form.record.regions.length ? form.names.region(number) : "";

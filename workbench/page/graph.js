@@ -18,10 +18,29 @@ function endText(region, names) {
   return region.kind === "branch" ? "" : [region.kind, values.join(", ")].join(" ").trim();
 }
 
-function regionRows(region, names) {
+// The regions that head a loop: a way leads back to them, or they have an exit list.
+function loopHeads(record) {
+  const heads = new Set(record.regions.filter(region => region.exits.length).map(region => region.number));
+  const onTheWay = new Set(), done = new Set();
+  const walk = number => {
+    onTheWay.add(number);
+    for (const target of record.regions[number].targets) {
+      if (onTheWay.has(target)) heads.add(target);
+      else if (!done.has(target)) walk(target);
+    }
+    onTheWay.delete(number);
+    done.add(number);
+  };
+  [record.entry, ...record.regions.keys()].forEach(start => done.has(start) || walk(start));
+  return heads;
+}
+
+const turnsText = limit => `≤ ${grouped(limit)} ${limit === 1 ? "turn" : "turns"}`;
+
+function regionRows(region, names, heads) {
   const rows = instructionRows(region, names), end = endText(region, names);
   if (end) rows.push({ text: end, end: true });
-  const turns = region.limit > 1 ? `≤ ${grouped(region.limit)} turns` : "";
+  const turns = region.limit > 1 || heads.has(region.number) ? turnsText(region.limit) : "";
   const exits = region.exits.length ? "exits " + region.exits.map(names.region).join(", ") : "";
   if (turns || exits) rows.push({ text: [turns, exits].filter(Boolean).join(", "), faint: true });
   return rows;
@@ -32,9 +51,9 @@ function regionTitle(region, record, names) {
   return (record.entry === region.number ? "▸ " : "") + call(names.region(region.number), inputs);
 }
 
-function regionBox(region, record, names) {
+function regionBox(region, record, names, heads) {
   const title = short(regionTitle(region, record, names), 44);
-  const rows = regionRows(region, names).map(row => ({ ...row, shown: short(row.text, 46) }));
+  const rows = regionRows(region, names, heads).map(row => ({ ...row, shown: short(row.text, 46) }));
   const widths = rows.map(row => width(row.shown) + (row.cost !== undefined ? width(" " + row.cost) + 12 : 0));
   const top = width(title, "bold") + width("100.0%") + 12;
   return { title, rows, width: Math.max(90, top, ...widths) + 2 * FONT.pad + 3, height: (rows.length + 1) * FONT.line + 2 * FONT.pad };
@@ -85,15 +104,15 @@ function curve(points) {
   return points.length === 2 ? d + " L" + at(points[1]) : d;
 }
 
-function drawEdge(edge, text, on, back) {
-  const group = element("g", { class: "edge" + (on ? " dear" : "") + (back ? " back" : "") });
-  group.append(element("path", { d: curve(edge.points), "marker-end": on ? "url(#arrow-dear)" : "url(#arrow)" }));
-  if (text) {
-    const w = width(text) + 6;
-    group.append(box(edge.x - w / 2, edge.y - 9, w, 17, { class: "paper", rx: 3 }),
-      label(text, edge.x, edge.y + 4, { "text-anchor": "middle" }));
-  }
-  return group;
+// An edge's line and its label. All labels are drawn above all lines.
+function drawEdge(edge, on, back) {
+  const kind = (on ? " dear" : "") + (back ? " back" : "");
+  const line = element("g", { class: "edge" + kind },
+    element("path", { d: curve(edge.points), "marker-end": on ? "url(#arrow-dear)" : "url(#arrow)" }));
+  if (!edge.text) return [line];
+  const w = width(edge.text) + 6;
+  return [line, element("g", { class: "edge-label" + kind }, box(edge.x - w / 2, edge.y - 9, w, 17, { class: "paper", rx: 3 }),
+    label(edge.text, edge.x, edge.y + 4, { "text-anchor": "middle" }))];
 }
 
 function reached(record) {
@@ -110,9 +129,9 @@ function arrows() {
 
 function drawGraph(record, sheet, names, path) {
   const layout = new dagre.graphlib.Graph().setGraph({ rankdir: "TB", nodesep: 28, ranksep: 30, edgesep: 14, marginx: 8, marginy: 8 });
-  const live = reached(record);
+  const live = reached(record), heads = loopHeads(record);
   for (const region of record.regions) {
-    layout.setNode(region.number, { ...regionBox(region, record, names), live: live.has(region.number), names });
+    layout.setNode(region.number, { ...regionBox(region, record, names, heads), live: live.has(region.number), names });
   }
   for (const region of record.regions) {
     for (const target of new Set(region.targets)) {
@@ -123,8 +142,9 @@ function drawGraph(record, sheet, names, path) {
   dagre.layout(layout);
   const edges = layout.edges().map(({ v, w }) => {
     const back = layout.node(w).y <= layout.node(v).y;
-    return drawEdge(layout.edge(v, w), layout.edge(v, w).text, path.right && path.edges.has(v + ">" + w), back);
+    return drawEdge(layout.edge(v, w), path.right && path.edges.has(v + ">" + w), back);
   });
   const boxes = record.regions.map(region => drawRegion(region, layout.node(region.number), record, sheet, path));
-  return picture("graph", layout.graph().width, layout.graph().height, arrows(), ...edges, ...boxes);
+  return picture("graph", layout.graph().width, layout.graph().height, arrows(), ...edges.map(([line]) => line), ...boxes,
+    ...edges.map(([, text]) => text));
 }

@@ -45,7 +45,7 @@ function branchPart(form, defer) {
   const to = returns ? "return" : form.names.region(defer.target);
   const rows = [
     ...conditionRows(form, defer.condition).map(text => ({ text: short(text, 40), class: "faint" })),
-    { text: "→ " + short(call(to, valuesIn(form, defer.inputs)), 40), class: "title" },
+    { text: "→ " + short(call(to, valuesIn(form, defer.inputs, defer.region)), 40), class: "title" },
     ...returns ? [] : [{ text: `${defer.count} of ${incomingCounts(form.record)[defer.target]} edges`, class: "faint" }],
   ];
   return { min: roomFor(rows), tall: rows.length * ROW + 12, draw: (x, y, w, h) =>

@@ -1,7 +1,8 @@
 // The nested form as a structogram: boxes below each other, a select's cases side by side, a loop around its body.
 // A part has its least width `min`, its least height `tall`, and draw(x, y, w, h), which fills the place it is given.
 
-const ROW = FONT.line, STRIP = 19, HEAD = 44, BAR = 14, LETTERS = 46, ACROSS = 640;
+const ROW = FONT.line, STRIP = 19, BAR = 14, LETTERS = 46, ACROSS = 640;
+const TITLE = 21, OPENING = 11, HEAD = TITLE + OPENING + 17;     // of a select
 
 function roomFor(rows) {
   const wide = rows.map(row => width(row.text, "bold") + (row.right ? width(row.right) + 18 : 0));
@@ -50,7 +51,7 @@ function note(dear, ...texts) {
 
 function blockPart(form, node) {
   const owner = node.items[0].region;
-  const told = item => short(instructionText(item, form.names, text => valueIn(form, text)), LETTERS);
+  const told = item => short(instructionText(item, form.names, text => valueIn(form, text, item.region)), LETTERS);
   const rows = [{ text: regionName(form, owner), class: "title", right: portion(form, node), rightClass: "share" },
     ...node.items.map(item => ({ text: told(item), right: String(item.cost) }))];
   return { min: roomFor(rows), tall: rows.length * ROW + 10,
@@ -58,26 +59,26 @@ function blockPart(form, node) {
 }
 
 function exitPart(form, node) {
-  const rows = [{ text: "exit " + call(form.names.opcode(node.opcode), valuesIn(form, node.values)), class: "title" }];
+  const rows = [{ text: "exit " + call(form.names.opcode(node.opcode), valuesIn(form, node.values, exitOwner(form, node))), class: "title" }];
   const arrow = (x, y, h) => element("path", { class: "mark", d: `M${x + 22} ${y} L${x + 7} ${y + h / 2} L${x + 22} ${y + h}` });
   return { min: roomFor(rows) + 18, tall: ROW + 12,
     draw: (x, y, w, h) => [boxed(form, node, "nest-node-" + node.id, exitOwner(form, node), [x, y, w, h],
       arrow(x, y, h), drawRows(rows, x + 18, y + h / 2 + 4, w - 18))] };
 }
 
-// The head of a select: its test, its share, and lines that open the columns below it.
+// The head of a select: its test and its share, below them lines that open the columns, below those the cases' names. The lines
+// have a row of their own, so that they cross no text.
 function selectHead(text, share, labels, widths, [x, y, w], dearest) {
-  const split = x + w - widths[widths.length - 1], two = labels.length === 2;
+  const split = x + w - widths[widths.length - 1], top = y + TITLE, low = y + TITLE + OPENING;
   const title = label(text, x + w / 2, y + 15, { class: "title", "text-anchor": "middle" });
   if (share) title.append(element("tspan", { class: "share", dx: 9 }, share));
-  const drawn = [element("path", { class: "mark", d: `M${x} ${y} L${split} ${y + HEAD} L${x + w} ${y}` }), title];
+  const drawn = [element("path", { class: "mark", d: `M${x} ${top} L${split} ${low} L${x + w} ${top}` }), title];
   let left = x;
   labels.forEach((name, k) => {
-    const middle = two ? (k ? x + w - 8 : x + 8) : left + widths[k] / 2;
-    drawn.push(label(name, middle, y + HEAD - 5,
-      { "text-anchor": two ? (k ? "end" : "start") : "middle", class: k === dearest ? "share" : "faint" }));
+    drawn.push(label(name, left + widths[k] / 2, y + HEAD - 5, { "text-anchor": "middle", class: k === dearest ? "share" : "faint" }));
     left += widths[k];
-    if (k < labels.length - 2) drawn.push(element("line", { x1: left, x2: left, y1: y + HEAD * (left - x) / (split - x), y2: y + HEAD }));
+    const above = split > x ? top + OPENING * Math.min(1, (left - x) / (split - x)) : low;
+    if (k < labels.length - 1) drawn.push(element("line", { x1: left, x2: left, y1: above, y2: y + HEAD }));
   });
   return drawn;
 }
@@ -85,13 +86,13 @@ function selectHead(text, share, labels, widths, [x, y, w], dearest) {
 function selectPart(form, node) {
   const labels = node.cases.map((_, k) => caseName(node, k));
   const bodies = node.bodies.map((body, k) => {
-    const outs = body.out.map((out, place) => `n${node.id}.${place} = ${valueIn(form, out)}`);
+    const outs = body.out.map((out, place) => `n${node.id}.${place} = ${valueIn(form, out, body.id)}`);
     const part = casePart(form, body, outs);
     return { ...part, min: Math.max(part.min, width(labels[k]) + 24) };
   });
   const side = columns(bodies), share = portion(form, node);
   const text = short(valueIn(form, node.test) + (node.kind === "bool" ? " ?" : " = ?"), 40);
-  return { min: Math.max(side.min, (width(text, "bold") + width(share) + 9) * 1.6), tall: HEAD + side.tall, draw: (x, y, w, h) => {
+  return { min: Math.max(side.min, width(text, "bold") + width(share) + 9 + 2 * FONT.pad), tall: HEAD + side.tall, draw: (x, y, w, h) => {
     const head = selectHead(text, share, labels, side.widths(w), [x, y, w], isDear(form, node) ? node.dearest : -1);
     return [boxed(form, node, "nest-node-" + node.id, undefined, [x, y, w, HEAD], head), ...side.draw(x, y + HEAD, w, h - HEAD)];
   } };
@@ -99,14 +100,14 @@ function selectPart(form, node) {
 
 // A loop's rows above and below its body: what its inputs are at first, what they become, and when it goes on.
 function loopRows(form, node) {
-  const inputs = node.region.inputs.map((_, k) => valueIn(form, `i${node.body}.${k}`));
-  const limit = form.record.regions[node.body].limit, turns = `≤ ${grouped(limit)} ${limit === 1 ? "turn" : "turns"}`;
-  const row = (name, arrow, to) => ({ text: short(`${name} ${arrow} ${valueIn(form, to)}`, LETTERS), class: "faint" });
+  const inputs = node.region.inputs.map((_, k) => valueIn(form, `i${node.body}.${k}`, node.body));
+  const limit = form.record.regions[node.body].limit, turns = turnsText(limit);
+  const row = (name, arrow, to) => ({ text: short(`${name} ${arrow} ${valueIn(form, to, node.body)}`, LETTERS), class: "faint" });
   return [
     [{ text: "loop " + regionName(form, node.body), class: "title", right: portion(form, node), rightClass: "share" },
       ...inputs.map((name, k) => row(name, "=", node.first[k]))],
     [...inputs.map((name, k) => row(name, "←", node.region.out[k])),
-      { text: `repeat while ${valueIn(form, node.repeat)}`, class: "title", right: turns }]];
+      { text: `repeat while ${valueIn(form, node.repeat, node.body)}`, class: "title", right: turns }]];
 }
 
 function loopPart(form, node) {
@@ -139,19 +140,18 @@ const children = (form, region) => region.children.map(node => PARTS[node.word](
 
 // The entry, or for a leftover any region that was not claimed, with what follows it.
 function rootPart(form, region) {
-  const { sheet } = form, inputs = region.inputs.map((_, k) => valueIn(form, `i${region.id}.${k}`));
+  const { sheet } = form, inputs = region.inputs.map((_, k) => valueIn(form, `i${region.id}.${k}`, region.id));
   const title = [{ text: call(regionName(form, region.id), inputs), class: "title", right: region === sheet.roots[0] ? "entry" : "" }];
   const top = { min: roomFor(title), tall: ROW + 10, draw: (x, y, w, h) =>
     [boxed(form, region, "nest-region-" + region.id, region.id, [x, y, w, h], drawRows(title, x, y + 17, w))] };
-  const dear = isDear(form, region), returned = valuesIn(form, region.out).join(", ");
+  const dear = isDear(form, region), returned = valuesIn(form, region.out, region.id).join(", ");
   const end = { whole: () => note(dear, returned ? "return " + returned : "return"),
     closed: () => note(dear, "no run returns"), leftover: () => branchesPart(form, region) };
   return sequence([top, ...children(form, region), end[sheet.outcome]()]);
 }
 
-function drawNest(record, sheet, names, path) {
-  const form = formOf(record, sheet, names, path);
-  return shelved(sheet.roots.map(region => rootPart(form, region)));
+function drawNest(form) {
+  return shelved(form.sheet.roots.map(region => rootPart(form, region)));
 }
 
 // Parts beside each other, in rows of at most ACROSS or the widest part.

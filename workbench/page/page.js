@@ -49,14 +49,25 @@ function boxOf(line) {
 }
 
 function listing(title, rows, first) {
-  return html("section", { class: "listing" }, html("h2", {}, title), html("ol", { start: first }, ...rows));
+  return html("section", { class: "listing" }, html("h2", {}, title), movedNote(rows), html("ol", { start: first }, ...rows));
 }
 
-function sheetRows(sheet) {
+// A line of the sheet as it is. Behind an input that is not the record's input of that number stands what it is.
+function sheetText(text, form) {
+  return text.split(/(\bi\d+\.\d+)/).map((part, k) =>
+    k % 2 && form && recordValue(form.kept, part) !== part ? html("span", { class: "moved", "data-is": valueIn(form, part) }, part) : part);
+}
+
+function sheetRows(sheet, form) {
   const rows = [html("li", { id: "line-1" }, sheet.first)];
   (sheet.lines || []).forEach(line => rows.push(html("li", { id: "line-" + line.number, "data-box": boxOf(line) },
-    html("a", { href: "#" + boxOf(line) }, line.text))));
+    html("a", { href: "#" + boxOf(line) }, ...sheetText(line.text, form)))));
   return rows;
+}
+
+function movedNote(rows) {
+  return rows.some(row => row.querySelector(".moved")) ? html("p", { class: "legend" },
+    "Nesting left out inputs of a loop that do not change. Where the sheet's number is then another than the record's, its name follows it in brackets.") : "";
 }
 
 function recordRows(record) {
@@ -79,7 +90,8 @@ function legend(sheet, path) {
 }
 
 function panel(title, drawn) {
-  return html("figure", {}, html("figcaption", {}, title), html("div", { class: "scroll" }, drawn));
+  const scroll = html("div", { class: "scroll", tabindex: 0 }, drawn);
+  return html("figure", {}, html("figcaption", {}, title, viewer(scroll, drawn)), scroll);
 }
 
 // Pointing at a line or a box marks the other.
@@ -108,8 +120,9 @@ function drawRoutine(place, texts, options = {}) {
   const record = texts.record ? readRecord(texts.record) : null;
   const nested = record && !sheet.refused && sheet.outcome !== "untouched";
   const path = nested ? priceSheet(sheet, record) : { regions: new Map(), edges: new Set(), right: false };
+  const form = nested ? formOf(record, sheet, names, path) : null;
   const pictures = record ? [panel("Graph", drawGraph(record, sheet, names, path))] : [];
-  if (nested) pictures.push(panel("Nest", drawNest(record, sheet, names, path)));
+  if (nested) pictures.push(panel("Nest", drawNest(form)));
   const wide = pictures.some(one => one.querySelector("svg").width.baseVal.value > 980);    // then one below the other
   const badge = html("span", { class: "badge " + sheet.outcome }, sheet.refused ? sheet.first : sheet.outcome);
   place.append(
@@ -118,7 +131,7 @@ function drawRoutine(place, texts, options = {}) {
     ...(texts.explained ? [html("p", { class: "explained" }, texts.explained)] : []),
     ...[legend(sheet, path)].filter(Boolean),
     html("div", { class: "pictures" + (pictures.length > 1 ? " both" : "") + (wide ? " wide" : "") }, ...pictures),
-    html("div", { class: "listings" }, listing("Sheet", sheetRows(sheet), 1), ...record ? [listing("Record", recordRows(record), 1)] : []));
+    html("div", { class: "listings" }, listing("Sheet", sheetRows(sheet, form), 1), ...record ? [listing("Record", recordRows(record), 1)] : []));
   if (record) place.style.setProperty("--picture-height", pictureHeight(sheet, record, texts.explained) + "mm");
   linkUp(place);
 }

@@ -104,6 +104,7 @@ function readNames(text) {
     type: number => names.type.get(String(number)) || "type " + number,
     opcode: number => names.opcode.get(String(number)) || "op " + number,
     value: value => names.value.get(value) || value,
+    isShared: name => [...names.value.values()].filter(other => other === name).length > 1,
   };
 }
 

@@ -9,7 +9,7 @@ from urllib.parse import quote
 from .needs import need_dagre
 
 FOLDER = os.path.normpath(os.path.join(os.path.dirname(os.path.abspath(__file__)), "..", "page"))
-PARTS = "texts.js", "costs.js", "svg.js", "graph.js", "form.js", "nest.js", "leftover.js", "page.js"
+PARTS = "texts.js", "inputs.js", "costs.js", "svg.js", "view.js", "graph.js", "form.js", "nest.js", "leftover.js", "page.js"
 LAYOUT_NOTICE = "dagre, Copyright 2012-2014 Chris Pettitt, under the Expat licence, which the page repeats at its end."
 
 

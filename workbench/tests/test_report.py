@@ -66,7 +66,7 @@ class Page(unittest.TestCase):
         self.assertEqual(look.texts("[data-fact=figure] dd, [data-fact=attempts] dd"), ["11 = 11 µs at 1 MHz", "8 of at most 33 "])
         self.assertEqual(look.count("svg.graph a.box"), 4)
         self.assertEqual(look.count("svg.graph .edge"), 4)
-        self.assertEqual(look.texts("svg.graph .edge text"), ["true", "false", "(left-value)", "(right-value)"])
+        self.assertEqual(look.texts("svg.graph .edge-label text"), ["true", "false", "(left-value)", "(right-value)"])
         self.assertEqual(look.texts("#graph-0 text"), ["▸ test-it", "45%", "found = op 7", "5", "found ?"])
         self.assertEqual(look.texts("#nest-node-3 text"), ["found ?55%", "true", "false"])
         self.assertEqual(look.texts("#nest-node-2 text"), ["right", "36%", "op 9", "4"])
@@ -82,7 +82,7 @@ class Page(unittest.TestCase):
                          ["nest-region-0", "nest-node-0", "nest-node-3", "nest-region-2", "nest-node-2"])
 
     def test_a_way_back_is_marked_where_the_path_takes_it(self):
-        labels = "return [...document.querySelectorAll('svg.graph .edge.dear text')].map(e => e.textContent)"
+        labels = "return [...document.querySelectorAll('svg.graph .edge-label.dear text')].map(e => e.textContent)"
         self.open("sweep-stepped")
         self.assertEqual(self.browser.run(labels), ["(from)", "true (next)", "false"])
         self.open("front-panel")        # the key that does nothing leads back too, and is not the dearest
