@@ -59,10 +59,11 @@ function blockPart(form, node) {
 }
 
 function exitPart(form, node) {
-  const rows = [{ text: "exit " + call(form.names.opcode(node.opcode), valuesIn(form, node.values, exitOwner(form, node))), class: "title" }];
+  const owner = exitOwner(form, node);
+  const rows = [{ text: "exit " + call(form.names.opcode(node.opcode), valuesIn(form, node.values, owner)), class: "title" }];
   const arrow = (x, y, h) => element("path", { class: "mark", d: `M${x + 22} ${y} L${x + 7} ${y + h / 2} L${x + 22} ${y + h}` });
   return { min: roomFor(rows) + 18, tall: ROW + 12,
-    draw: (x, y, w, h) => [boxed(form, node, "nest-node-" + node.id, exitOwner(form, node), [x, y, w, h],
+    draw: (x, y, w, h) => [boxed(form, node, "nest-node-" + node.id, owner, [x, y, w, h],
       arrow(x, y, h), drawRows(rows, x + 18, y + h / 2 + 4, w - 18))] };
 }
 

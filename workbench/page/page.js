@@ -67,7 +67,8 @@ function sheetRows(sheet, form) {
 
 function movedNote(rows) {
   return rows.some(row => row.querySelector(".moved")) ? html("p", { class: "legend" },
-    "Nesting left out inputs of a loop that do not change. Where the sheet's number is then another than the record's, its name follows it in brackets.") : "";
+    "Nesting left out inputs of a loop that do not change. Where the sheet's number is then another than the record's, ",
+    "its name follows it in brackets.") : "";
 }
 
 function recordRows(record) {
@@ -131,7 +132,8 @@ function drawRoutine(place, texts, options = {}) {
     ...(texts.explained ? [html("p", { class: "explained" }, texts.explained)] : []),
     ...[legend(sheet, path)].filter(Boolean),
     html("div", { class: "pictures" + (pictures.length > 1 ? " both" : "") + (wide ? " wide" : "") }, ...pictures),
-    html("div", { class: "listings" }, listing("Sheet", sheetRows(sheet, form), 1), ...record ? [listing("Record", recordRows(record), 1)] : []));
+    html("div", { class: "listings" }, listing("Sheet", sheetRows(sheet, form), 1),
+      ...record ? [listing("Record", recordRows(record), 1)] : []));
   if (record) place.style.setProperty("--picture-height", pictureHeight(sheet, record, texts.explained) + "mm");
   linkUp(place);
 }

@@ -44,7 +44,8 @@ function draggable(scroll) {
   let from = null, moved = false;
   scroll.addEventListener("pointerdown", event => {
     if (event.button === 0 && event.pointerType === "mouse") {
-      [from, moved] = [{ x: event.clientX + scroll.scrollLeft, y: event.clientY + scroll.scrollTop, at: [event.clientX, event.clientY] }, false];
+      const at = [event.clientX, event.clientY];
+      [from, moved] = [{ x: at[0] + scroll.scrollLeft, y: at[1] + scroll.scrollTop, at }, false];
     }
   });
   window.addEventListener("pointermove", event => {

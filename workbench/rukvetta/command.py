@@ -8,14 +8,14 @@ from collections.abc import Callable
 from dataclasses import dataclass
 
 from . import catalogue, compare, explain, report
-from .answers import Output
+from .answers import Answer, Output
+from .assemble import assemble
 from .facts import add_clock, facts_of
 from .faults import Fault, escaped
 from .needs import MISSING, REFUSED, USAGE, Missing, Parser
 from .programs import Programs, add_option, refusal
 from .progress import tracked
 from .routine import BadSource, Routine, routine_of, text_of
-from .assemble import assemble
 from .streams import OUTPUT, read_file, write_file
 from .version import version
 
@@ -75,7 +75,7 @@ class Printer:
             answer.take_verdict(text.strip(), None, None, None)
         self.take(answer, routine, text)
 
-    def take(self, answer, routine: Routine, text: str) -> None:        # type: ignore[no-untyped-def]
+    def take(self, answer: Answer, routine: Routine, text: str) -> None:
         """What the document has of it."""
         if self.program == "show":
             answer.record = [] if refusal(text) else text.splitlines()

@@ -99,8 +99,9 @@ class Pairs:
                     break
 
     def match_instructions(self, new: int, old: int) -> None:
-        numbered = [list(enumerate(side.record.regions[at].instructions())) for side, at in ((self.old, old), (self.new, new))]
-        for (one, _), (other, _) in paired(*numbered, lambda item: instruction_key(item[1]), lambda item: bool(item[1].type)):
+        first = list(enumerate(self.old.record.regions[old].instructions()))
+        second = list(enumerate(self.new.record.regions[new].instructions()))
+        for (one, _), (other, _) in paired(first, second, lambda item: instruction_key(item[1]), lambda item: bool(item[1].type)):
             self.instructions[new, other] = old, one
 
 

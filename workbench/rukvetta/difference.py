@@ -4,7 +4,7 @@ of the old one, so that an instruction that was put in is one line and not a new
 from __future__ import annotations
 
 import re
-from collections.abc import Iterator
+from collections.abc import Callable, Iterator
 from dataclasses import dataclass, field
 
 from .alignment import Change, changed_lines, paired
@@ -48,6 +48,14 @@ class Sheet:
     defers: list[str]
 
 
+def item_parts(item: str) -> tuple[str, ...]:
+    """Region, place, opcode, type and reads of an instruction in a block."""
+    match = ITEM.fullmatch(item)
+    if not match:
+        raise ValueError(item)
+    return match.groups()
+
+
 def listed(text: str) -> list[str]:
     return [] if text == "-" else text.split(",")
 
@@ -74,15 +82,15 @@ class Reader:
         return made
 
 
-def read_sheet(text: str) -> Sheet | None:
-    """A sheet by its parts; None for what is no sheet."""
+def read_sheet(text: str) -> Sheet:
+    """A sheet by its parts; a ValueError for what is no sheet."""
     first, *lines = text.splitlines() or [""]
     reader, roots = Reader(lines), []
     try:
         while reader.at < len(lines) and not lines[reader.at].startswith("defer "):
             roots.append(reader.region())
     except (IndexError, RecursionError):
-        return None
+        raise ValueError(text) from None
     return Sheet(first, roots, lines[reader.at:])
 
 
@@ -100,7 +108,7 @@ class Matches:
         table = self.regions if new.kind == "region" else self.nodes
         table.setdefault(new.number, old.number)
         for one, other in paired(old.items(), new.items(), lambda item: ITEM.sub(r"\3/\4", item), lambda _: 0):
-            (region, index), (new_region, new_index) = (ITEM.match(item).group(1, 2) for item in (one, other))
+            (region, index), (new_region, new_index) = (item_parts(item)[:2] for item in (one, other))
             self.items[new_region, new_index] = region, index
             self.regions.setdefault(new_region, region)
         alike = (lambda part: 0) if new.kind in ("select", "loop") else (lambda part: part.kind)
@@ -141,8 +149,8 @@ class Same(Matches):
         return f"{region}.{index}"
 
 
-def numbers(text: str, renamed: object) -> str:
-    return ",".join(map(renamed, listed(text))) or "-"       # type: ignore[arg-type, call-overload]
+def numbers(text: str, renamed: Callable[[str], str]) -> str:
+    return ",".join(map(renamed, listed(text))) or "-"
 
 
 def part_lines(part: Part, by: Matches) -> Iterator[str]:
@@ -153,7 +161,7 @@ def part_lines(part: Part, by: Matches) -> Iterator[str]:
     elif part.kind == "block":
         yield f"block {by.node(w[1])}"
         for item in part.items():
-            region, index, *rest, reads = ITEM.match(item).groups()
+            region, index, *rest, reads = item_parts(item)
             yield f"  {by.item(region, index)}/{'/'.join(rest)}/{by.values(reads)}"
     elif part.kind == "select":
         yield f"select {by.node(w[1])} {w[2]} {by.values(w[3])} cases {numbers(w[5], by.region)} out {w[7]}"
@@ -183,6 +191,6 @@ def sheet_changes(old: str, new: str) -> list[Change]:
     try:
         one, other = read_sheet(old), read_sheet(new)
         lines = (sheet_lines(one, Same()), sheet_lines(other, Matches(one, other)))
-    except (AttributeError, IndexError, ValueError):        # a text that is no sheet: line by line
+    except (IndexError, ValueError):        # a text that is no sheet: line by line
         lines = (old.splitlines(), new.splitlines())
     return [(sign, escaped(text)) for sign, text in changed_lines(*lines)]

@@ -83,7 +83,7 @@ def nesting_sentence(number: int, word: int, record: Record) -> str:
 
 def refused_text(routine: Routine, answer: str, programs: Programs) -> list[str]:
     """The sentences for a refusal that a proved program gave."""
-    number, word = refusal(answer)
+    number, word = refusal(answer) or (0, 0)
     found = place_of(routine.store)
     expected = (number, word) if number <= 8 else None      # the search knows no later ones
     if (found and (found.number, found.word)) != expected:

@@ -16,10 +16,10 @@ def clock(text: str) -> float:
     """A clock as 20MHz, 100 kHz or 5e6, in hertz; a cost of 1 is one of its ticks."""
     match = re.fullmatch(r"([0-9.]+(?:e[0-9]+)?)\s*(?:([kmg]?)hz)?", text.strip().lower())
     try:
-        hertz = float(match[1]) * UNITS[match[2] or ""]
+        hertz = float(match[1]) * UNITS[match[2] or ""] if match else 0
         if 0 < hertz < 1e15:
             return hertz
-    except (TypeError, ValueError):
+    except ValueError:
         pass
     raise argparse.ArgumentTypeError(f"{text} is no clock; 20MHz or 5e6 would be one")
 

@@ -4,18 +4,20 @@ Tarjan's components, then again within each loop without its header. The loop_me
 the Rust is empty here, as it is for the nester.
 """
 
-from .record import RETURN
+from __future__ import annotations
+
+from .record import RETURN, Record
 
 
 class LoopFinder:
-    def __init__(self, record):
+    def __init__(self, record: Record) -> None:
         self.record = record
-        self.exit_targets = {}      # loop header: its exit targets, in order of finding
-        self.scc_stack = []
-        self.pending = {}           # region: its place on the stack
-        self.complete = {}          # region: whether it may return from the function
+        self.exit_targets: dict[int, list[int]] = {}      # loop header: its exit targets, in order of finding
+        self.scc_stack: list[int] = []
+        self.pending: dict[int, int] = {}           # region: its place on the stack
+        self.complete: dict[int, bool] = {}          # region: whether it may return from the function
 
-    def find_earliest_scc_root_of(self, node):
+    def find_earliest_scc_root_of(self, node: int) -> tuple[int | None, bool]:
         """The earliest place on the stack that node leads back to, or None; and whether it may return."""
         if node in self.pending:
             return self.pending[node], False
@@ -41,11 +43,11 @@ class LoopFinder:
             self.finish(node, may_return)
         return earliest, may_return
 
-    def finish(self, node, may_return):
+    def finish(self, node: int, may_return: bool) -> None:
         del self.pending[node]
         self.complete[node] = may_return
 
-    def complete_loop(self, header, place, may_return):
+    def complete_loop(self, header: int, place: int, may_return: bool) -> None:
         """Note the loop's exits: those that reconverge, if any does. Then look for loops within its body."""
         leaving = (target for node in self.scc_stack[place:] for target in self.record.regions[node].targets)
         self.exit_targets[header] = list(dict.fromkeys(
@@ -59,7 +61,7 @@ class LoopFinder:
         del self.scc_stack[place:]
 
 
-def loop_exits(record):
+def loop_exits(record: Record) -> dict[int, list[int]]:
     """The exit targets of each loop header that is in reach of the entry."""
     finder = LoopFinder(record)
     finder.find_earliest_scc_root_of(record.entry)

@@ -1,9 +1,12 @@
 """Self-contained pages: the texts that the programs print, and one script that draws them."""
 
+from __future__ import annotations
+
 import functools
 import html
 import json
 import os
+from typing import Any
 from urllib.parse import quote
 
 from .needs import need_dagre
@@ -13,43 +16,43 @@ PARTS = "texts.js", "inputs.js", "costs.js", "svg.js", "view.js", "graph.js", "f
 LAYOUT_NOTICE = "dagre, Copyright 2012-2014 Chris Pettitt, under the Expat licence, which the page repeats at its end."
 
 
-def text_of(name):
+def text_of(name: str) -> str:
     with open(os.path.join(FOLDER, name), encoding="utf-8") as file:
         return file.read()
 
 
 @functools.cache
-def script():
+def script() -> str:
     """The one script of a page: the layout library, then ours."""
     ours = "\n".join(text_of(part) for part in PARTS)
     return f"/* {LAYOUT_NOTICE} */\n{need_dagre()}\n(function () {{\n\"use strict\";\n{ours}}})();\n"
 
 
-def filled(title, body, scripts=""):
+def filled(title: str, body: str, scripts: str = "") -> str:
     page = text_of("page.html")
     for mark, text in ("@TITLE@", html.escape(title)), ("@STYLE@", text_of("style.css")), ("@BODY@", body), ("@SCRIPTS@", scripts):
         page = page.replace(mark, text, 1)
     return page
 
 
-def kept(name, text):
+def kept(name: str, text: str) -> str:
     """A text that the page keeps for the script."""
     return f'<pre hidden id="text-{name}">\n{html.escape(text, quote=False)}</pre>\n'
 
 
-def routine_page(title, texts, options):
+def routine_page(title: str, texts: dict[str, str], options: dict[str, Any]) -> str:
     """The page of a routine. `texts` has record, sheet, names and explained, each a text or empty."""
-    options = json.dumps({"title": title, **options}).replace("<", "\\u003c")
+    given = json.dumps({"title": title, **options}).replace("<", "\\u003c")
     wanted = json.dumps(sorted(texts))
     start = (f"const texts = {{}};\nfor (const name of {wanted}) "
              "texts[name] = document.getElementById('text-' + name).textContent.trim();\n"
-             f"drawRoutine(document.querySelector('main'), texts, {options});\n")
+             f"drawRoutine(document.querySelector('main'), texts, {given});\n")
     scripts = "".join(kept(name, text) for name, text in texts.items())
     scripts += f"<script>\n{script()}{start}</script>\n<!--\n{text_of('dagre-licence.txt')}-->\n"
     return filled(title, "", scripts)
 
 
-def index_page(title, rows):
+def index_page(title: str, rows: list[tuple]) -> str:
     """A table of routines; a row is a link and the cells of the catalogue's table."""
     heads = "".join(f'<th class="{"number" if k > 1 else ""}">{head}</th>' for k, head in enumerate(rows[0]))
     lines = []

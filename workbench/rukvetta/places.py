@@ -1,12 +1,19 @@
 """Finds where a store is refused with 1 to 5: which block, or which word of which part of the record."""
 
+from __future__ import annotations
+
+from collections.abc import Callable
+from typing import TypeVar
+
 from . import record as r
 from .refusals import Refused, allowed, several
-from .streams import MOST_READ
 from .store import BLOCK, BLOCKS, CHECK, PAYLOAD, WORDS, blocks_of, check_of, words_of
+from .streams import MOST_READ
+
+Made = TypeVar("Made")
 
 
-def check_store(store):
+def check_store(store: bytes) -> None:
     """Length, block numbers and checks: 1 to 3."""
     if not store or len(store) > BLOCK * BLOCKS or len(store) % BLOCK:
         long = f"more than {MOST_READ - 1:,} bytes" if len(store) >= MOST_READ else several(len(store), "byte")
@@ -22,7 +29,7 @@ def check_store(store):
                           "check that is only made to fit would let the damage pass.")
 
 
-def check_used(words):
+def check_used(words: list[int]) -> None:
     """W, the block count and the words after W: 4."""
     used, blocks = words[0], len(words) // WORDS
     wanted = -(-used // WORDS)
@@ -35,36 +42,36 @@ def check_used(words):
             raise Refused(4, 0, f"{where(at)} comes after W, {used}, and holds {words[at]}; 0 would be allowed.")
 
 
-def where(at):
+def where(at: int) -> str:
     return f"Word {at} (block {at // WORDS}, byte {PAYLOAD + at % WORDS * 2})"
 
 
 class Places:
     """The record's words, one after another. `part` says what is being read, for the sentence."""
 
-    def __init__(self, words):
+    def __init__(self, words: list[int]) -> None:
         self.words, self.at, self.region, self.part = words, 1, 0, ""
 
-    def word(self, what):
+    def word(self, what: str) -> int:
         if self.at >= self.words[0]:
             raise Refused(4, 0, f"The record runs past W: W is {self.words[0]}, and {self.part}{what} would be word {self.at}.")
         self.at += 1
         return self.words[self.at - 1]
 
-    def within(self, bounds, what):
+    def within(self, bounds: tuple[int, int], what: str) -> int:
         least, most = bounds
         word = self.word(what)
         if not least <= word <= most:
             raise self.out_of_range(word, what, allowed(least, most))
         return word
 
-    def out_of_range(self, word, what, would):
+    def out_of_range(self, word: int | str, what: str, would: str) -> Refused:
         return Refused(5, self.region, f"{where(self.at - 1)} is {self.part}{what} and holds {word}; {would}.")
 
-    def listed(self, bounds, what, item):
+    def listed(self, bounds: tuple[int, int], what: str, item: Callable[[int], Made]) -> list[Made]:
         return [item(place) for place in range(self.within(bounds, f"the count of {what}"))]
 
-    def value(self, what):
+    def value(self, what: str) -> r.Value:
         kind = self.word(f"the kind of {what}")
         if kind == r.OUTPUT or kind > r.UNDEFINED:
             why = "which arises only in nesting" if kind == r.OUTPUT else "which is no kind"
@@ -74,24 +81,24 @@ class Places:
             return kind, region, self.within(r.TYPE, f"the type of the undefined {what}")
         return kind, region, self.word(f"the index of {what}")
 
-    def within_part(self, part, read):
+    def within_part(self, part: str, read: Callable[[], Made]) -> Made:
         """Read something with a longer name for the part."""
         before, self.part = self.part, self.part + part
         made = read()
         self.part = before
         return made
 
-    def instruction(self, place):
-        def read():
+    def instruction(self, place: int) -> r.Instruction:
+        def read() -> r.Instruction:
             made = r.Instruction(self.word("the opcode"), self.within(r.RESULT, "the type"), self.word("the cost"), [])
             made.reads = self.listed(r.READS, "reads", lambda k: self.value(f"read {k}"))
             return made
         return self.within_part(f"instruction {place}: ", read)
 
-    def block(self, place):
+    def block(self, place: int) -> list[r.Instruction]:
         return self.within_part(f"block {place}, ", lambda: self.listed(r.INSTRUCTIONS, "instructions", self.instruction))
 
-    def one_region(self, number):
+    def one_region(self, number: int) -> r.Region:
         self.region, self.part = number, f"region {number}, "
         inputs = self.listed(r.INPUTS, "inputs", lambda k: self.within(r.TYPE, f"the type of input {k}"))
         blocks = self.listed(r.BLOCKS, "blocks", self.block)
@@ -106,7 +113,7 @@ class Places:
         made.exits = self.listed(r.EXITS, "loop exit targets", lambda k: self.word(f"exit {k}"))
         return made
 
-    def record(self):
+    def record(self) -> r.Record:
         count = self.within(r.REGIONS, "the region count")
         made = r.Record(self.word("the entry region"), self.word("the test cost"), [], [])
         made.constants = self.listed(r.CONSTANTS, "constants", lambda k: self.within(r.TYPE, f"the type of constant {k}"))
@@ -118,7 +125,7 @@ class Places:
         return made
 
 
-def read_store(store):
+def read_store(store: bytes) -> r.Record:
     """The record of a store, or a refusal from 1 to 5 with its place."""
     check_store(store)
     words = words_of(store)

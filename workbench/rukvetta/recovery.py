@@ -14,6 +14,7 @@ from .faults import MOST_TOLD, Fault, Gathered
 from .syntax import TERMINATORS, Unparsed, parse
 
 WORDS = re.compile(r"[A-Za-z_][\w.]*(?:-[\w.]+)*")
+NAME = re.compile(rf"{WORDS.pattern}|[0-9]+")
 MOST_WORK = 2_000_000       # letters read up to a fault, over all the times that a source is parsed
 LOST_REGION = "region lost-region"
 GOES_ON = re.compile(r",[ \t\r]*(#.*)?$")
@@ -62,13 +63,13 @@ class Draft:
 
 def stand_in(statement: str) -> str:
     """What stands for a statement that does not parse."""
-    words = WORDS.findall(statement.split("#")[0])
-    first = words[0] if words else ""
-    if first == "region":
-        return f"region {words[1]}" if words[1:] else LOST_REGION
-    if first == "record":
-        return "record"
-    return "unreachable" if first in TERMINATORS else ""
+    words = statement.split("#")[0].split() or [""]
+    if words[0] == "region":
+        name = NAME.match(words[1]) if words[1:] else None
+        return f"region {name[0]}" if name and name[0] not in ("in", "limit") else LOST_REGION
+    if words[0] in ("record", "block"):
+        return words[0]
+    return "unreachable" if words[0] in TERMINATORS else ""
 
 
 def repair(draft: Draft, fault: Unparsed) -> None:

@@ -1,24 +1,26 @@
 """Finds where a record is refused with 6 to 8: which value, target, type or exit, in record order."""
 
+from __future__ import annotations
+
 from . import record as r
 from .refusals import Refused, one_of, several
 
 
 class References:
-    def __init__(self, record):
+    def __init__(self, record: r.Record) -> None:
         self.record, self.count = record, len(record.regions)
-        self.first_return = None        # the first Return region and the types that it returns
+        self.first_return: tuple[int, list[int]] | None = None      # the first Return region and the types that it returns
 
-    def check(self):
+    def check(self) -> None:
         if self.record.entry >= self.count:
             raise Refused(6, 0, f"The entry is region {self.record.entry}; {self.regions()} would be allowed.", ("entry",))
         for number in range(self.count):
             self.region(number, self.record.regions[number])
 
-    def regions(self):
+    def regions(self) -> str:
         return "region 0" if self.count == 1 else f"regions 0 to {self.count - 1}"
 
-    def region(self, number, region):
+    def region(self, number: int, region: r.Region) -> None:
         place = 0
         for at, block in enumerate(region.blocks):
             for k, instruction in enumerate(block):
@@ -37,7 +39,7 @@ class References:
                 raise Refused(8, number, f"Region {number} has region {target} twice in its exit list (exits "
                               f"{region.exits.index(target)} and {k}); once would be allowed.", ("exits", number))
 
-    def type_of(self, number, value, before, how, part):
+    def type_of(self, number: int, value: r.Value, before: int, how: str, part: tuple) -> int:
         """The type of a value that is used in a region after so many instructions, or 6."""
         kind, owner, index = value
         region = self.record.regions[number]
@@ -67,7 +69,7 @@ class References:
             return index
         raise Refused(6, number, f"Region {number} {how}: {why}.", part)
 
-    def no_output(self, number, index, before):
+    def no_output(self, number: int, index: int, before: int) -> str | None:
         """Why an instruction's output may not be used after so many instructions, or None."""
         instructions = self.record.regions[number].instructions()
         earlier = one_of(f"d{number}.{k}" for k, instruction in enumerate(instructions[:before]) if instruction.type)
@@ -77,7 +79,7 @@ class References:
             return f"that instruction is no earlier one; {earlier}"
         return f"that instruction has type 0 and no output; {earlier}" if instructions[index].type == 0 else None
 
-    def terminator(self, number, region, place):
+    def terminator(self, number: int, region: r.Region, place: int) -> None:
         part = "terminator", number
         if region.kind == r.RETURN and self.first_return and len(region.values) != len(self.first_return[1]):
             first, types = self.first_return
@@ -100,8 +102,9 @@ class References:
                 raise Refused(6, number, f"Region {number} goes to region {target} (target {k}); "
                               f"{self.regions()} would be allowed.", part)
 
-    def passed(self, number, target, values, place):
-        inputs, part = self.record.regions[target].inputs, ("pass", number, target)
+    def passed(self, number: int, target: int, values: list[r.Value], place: int) -> None:
+        inputs = self.record.regions[target].inputs
+        part = ("pass", number, target)
         if len(values) != len(inputs):
             raise Refused(7, number, f"Region {number} passes {several(len(values), 'value')} to region {target}, "
                           f"which has {several(len(inputs), 'input')}.", part)
@@ -112,5 +115,5 @@ class References:
                               f"as input {k}, which has type {wanted}.", part)
 
 
-def check_references(record):
+def check_references(record: r.Record) -> None:
     References(record).check()

@@ -1,5 +1,9 @@
 """The refusals of document 01: what each number says, and an exception that has the place as well."""
 
+from __future__ import annotations
+
+from collections.abc import Iterable
+
 from .faults import either
 
 RULES = {
@@ -22,21 +26,21 @@ RULES = {
 class Refused(Exception):
     """A refusal with its place. `part` is the part of the record that a source has a line for."""
 
-    def __init__(self, number, word, sentence, part=None):
+    def __init__(self, number: int, word: int, sentence: str, part: tuple | None = None) -> None:
         super().__init__(sentence)
         self.number, self.word, self.sentence, self.part = number, word, sentence, part
 
 
-def several(count, what):
+def several(count: int, what: str) -> str:
     """1 value, 2 values."""
     return f"{count:,} {what}" if count == 1 else f"{count:,} {what}s"
 
 
-def allowed(least, most):
+def allowed(least: int, most: int) -> str:
     return f"{least} would be allowed" if least == most else f"{least} to {most:,} would be allowed"
 
 
-def one_of(values):
+def one_of(values: Iterable[str]) -> str:
     """Which of some values would be allowed; of many, the first and the last."""
     values = list(values)
     if not values:

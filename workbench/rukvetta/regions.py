@@ -97,16 +97,16 @@ class RegionReader:
     # Blocks.
 
     def block(self, tree: Any) -> None:
-        block = [self.instruction(*part.children, at=part.meta) for part in tree.children]
+        block = [self.instruction(part.meta, *part.children) for part in tree.children]
         self.made.blocks.append(self.held(block, r.INSTRUCTIONS, tree.meta, "instructions in a block"))
 
     loose = block
 
-    def instruction(self, name: Any, code: Any, reads: Any, given: Any, cost: Any, at: Any) -> r.Instruction:
+    def instruction(self, at: Any, name: Any, code: Any, reads: Any, given: Any, cost: Any) -> r.Instruction:
         opcode, known = Opcode(0, 1, 0), False
         with self.gathered.told():
             opcode, known = self.names.opcode(code), True
-        result, dear = opcode.type, 0
+        result, dear = 1 if given else opcode.type, 0
         with self.gathered.told():
             result = self.names.type(given) if given else result
         with self.gathered.told():
@@ -147,7 +147,8 @@ class RegionReader:
                     if decimal(digits) > most:
                         raise Fault.at(item, f"found {digits} in an item, expected up to {most}")
             values = self.values(reads.children[0], r.READS, "values read")
-            block.append(r.Instruction(*map(decimal, fields), values, item.line))
+            code, given, dear = map(decimal, fields)
+            block.append(r.Instruction(code, given, dear, values, item.line))
             self.count += 1
         self.made.blocks.append(self.held(block, r.INSTRUCTIONS, tree.meta, "instructions in a block"))
 

@@ -1,5 +1,9 @@
 """An accepted record in words, and what its sheet says."""
 
+from __future__ import annotations
+
+from collections.abc import Iterable, Iterator
+
 from . import record as r
 from .graph import differing_exits, incoming, most_attempts, reachable
 from .loops import loop_exits
@@ -7,16 +11,16 @@ from .refusals import several
 from .sheet import counted, deferred, verdict
 
 
-def numbers(items):
-    items = [str(item) for item in items]
-    return items[0] if len(items) == 1 else ", ".join(items[:-1]) + " and " + items[-1] if items else "none"
+def numbers(items: Iterable[int]) -> str:
+    texts = [str(item) for item in items]
+    return texts[0] if len(texts) == 1 else ", ".join(texts[:-1]) + " and " + texts[-1] if texts else "none"
 
 
-def regions(items):
+def regions(items: list[int]) -> str:
     return f"region{'s' * (len(items) != 1)} {numbers(items)}"
 
 
-def ends(record, live):
+def ends(record: r.Record, live: list[int]) -> Iterator[str]:
     """How a run can end, a sentence each."""
     for number in live:
         region = record.regions[number]
@@ -28,7 +32,7 @@ def ends(record, live):
             yield f"Region {number} ends in Unreachable: no run should come there."
 
 
-def loops(record):
+def loops(record: r.Record) -> Iterator[str]:
     found = loop_exits(record)
     for header, targets in sorted(found.items()):
         limit = record.regions[header].limit
@@ -40,7 +44,7 @@ def loops(record):
                "(`exits auto`).")
 
 
-def record_sentences(record, words):
+def record_sentences(record: r.Record, words: int) -> Iterator[str]:
     """What stands in the record."""
     live = reachable(record)
     instructions = sum(len(region.instructions()) for region in record.regions)
@@ -53,7 +57,7 @@ def record_sentences(record, words):
     yield from loops(record)
 
 
-def leftover_sentences(record, sheet):
+def leftover_sentences(record: r.Record, sheet: str) -> Iterator[str]:
     counts = incoming(record)
     for number, target, count in deferred(sheet):
         if target is None:
@@ -62,7 +66,7 @@ def leftover_sentences(record, sheet):
             yield f"Region {number} still branches to region {target}, with {count} of that region's {counts[target]} incoming edges."
 
 
-def sheet_sentences(record, sheet):
+def sheet_sentences(record: r.Record, sheet: str) -> Iterator[str]:
     """What the proved program says of it."""
     said = verdict(sheet)
     if said.outcome == "untouched":
@@ -72,7 +76,7 @@ def sheet_sentences(record, sheet):
     parts = f"{several(counted(sheet, 'select'), 'select')}, {several(counted(sheet, 'loop'), 'loop')} and " \
             f"{several(counted(sheet, 'exit'), 'exit')}"
     ending = {"whole": "It nests whole", "closed": "It nests closed (no run returns)", "leftover": "It nests in part"}
-    yield f"{ending[said.outcome]}: {parts}, after {several(said.attempts, 'attempt')} of at most {most_attempts(record):,}."
+    yield f"{ending[said.outcome]}: {parts}, after {several(said.attempts or 0, 'attempt')} of at most {most_attempts(record):,}."
     if said.figure is not None:
         yield f"A run within the turn limits costs at most {said.figure:,}, the figure."
     yield from leftover_sentences(record, sheet)

@@ -1,21 +1,25 @@
-"""Times check-catalogue on folders of random stores: /usr/bin/python3 -m tests.measure NUMBER..., in the folder of the workbench.
+"""Times `rukvetta check` in the folder of the workbench: /usr/bin/python3 -m tests.measure NUMBER... or routines
 
-A tenth of the stores is damaged. The sheets are written in a first run, which is not timed.
+A NUMBER is of random stores in a folder, a tenth of them damaged; `routines` are 212 sources, the catalogue copied and varied.
+The sheets are written before, which is not timed.
 """
 
 import os
 import random
+import re
 import subprocess
 import sys
 import tempfile
 import time
 
 from .random_records import damaged_store, random_store
-from .support import WORKBENCH
+from .support import CATALOGUE, ROOT, programs, put
 
-from rukvetta.needs import MISSING
+from rukvetta.assemble import assemble
+from rukvetta.needs import MISSING, USAGE
 
-CHECK = os.path.join(WORKBENCH, "check-catalogue")
+RUKVETTA = os.path.join(ROOT, "bin", "rukvetta")
+ROUTINES = 212
 
 
 def stores(count):
@@ -30,7 +34,7 @@ def timed(folder):
     """The last line, the seconds, those of the processor with all that was started, and the greatest process in megabytes of one run."""
     start = time.monotonic()
     with tempfile.TemporaryFile() as out:
-        child = subprocess.Popen([CHECK, folder], stdout=out)
+        child = subprocess.Popen([RUKVETTA, "check", folder], stdout=out)
         _, _, used = os.wait4(child.pid, 0)
         child.returncode = 0
         seconds = time.monotonic() - start
@@ -38,19 +42,42 @@ def timed(folder):
         return out.read().decode().splitlines()[-1], seconds, used.ru_utime + used.ru_stime, used.ru_maxrss / 1024
 
 
-def main():
-    if not sys.argv[1:] or not all(word.isdecimal() and int(word[:9]) for word in sys.argv[1:]):
-        print("usage: /usr/bin/python3 -m tests.measure NUMBER..., in the folder of the workbench", file=sys.stderr)
-        raise SystemExit(2)
-    for count in map(int, sys.argv[1:]):
+def random_stores(folder: str, count: int) -> None:
+    """Random stores with the sheets that `nest` prints; those of refusals too, as if written by hand."""
+    for number, store in enumerate(stores(count)):
+        put(os.path.join(folder, f"r{number:05d}.store"), store)
+        put(os.path.join(folder, f"r{number:05d}.sheet"), programs.nest(store).encode())
+
+
+def varied_routines(folder: str) -> None:
+    """The catalogue's sources, each six times with other costs, in folders of their own, until there are enough."""
+    names = sorted(name for name in os.listdir(CATALOGUE) if name.endswith(".routine"))
+    for number in range(ROUTINES):
+        name = names[number % len(names)]
+        with open(os.path.join(CATALOGUE, name), "rb") as file:
+            source = re.sub(rb"cost ([0-9]+)", lambda match: b"cost %d" % (int(match[1]) + number // len(names)), file.read())
+        place = os.path.join(folder, str(number // len(names)))
+        os.makedirs(place, exist_ok=True)
+        put(os.path.join(place, name), source)
+        put(os.path.join(place, name[:-8] + ".sheet"), programs.nest(assemble(source)[0]).encode())
+
+
+def main() -> None:
+    words = sys.argv[1:]
+    if not words or not all(word == "routines" or (word.isdecimal() and int(word[:9])) for word in words):
+        print("usage: /usr/bin/python3 -m tests.measure NUMBER... or routines, in the folder of the workbench", file=sys.stderr)
+        raise SystemExit(USAGE)
+    if not (programs.has("nest") and programs.has("show")):
+        print(f"There is no nest or no show in {programs.folder}.", file=sys.stderr)
+        raise SystemExit(MISSING)
+    for word in words:
         with tempfile.TemporaryDirectory() as folder:
-            for number, store in enumerate(stores(count)):
-                with open(os.path.join(folder, f"r{number:05d}.store"), "wb") as file:
-                    file.write(store)
-            if subprocess.run([CHECK, folder, "--write"], stdout=subprocess.DEVNULL, check=False).returncode == MISSING:
-                raise SystemExit(MISSING)       # check-catalogue has said what
+            if word == "routines":
+                varied_routines(folder)
+            else:
+                random_stores(folder, int(word))
             said, seconds, work, size = timed(folder)
-            print(f"{count} stores: {said}, {seconds:.1f} s, {work:.1f} s of processor time, {size:.1f} MB", flush=True)
+            print(f"{word}: {said}, {seconds:.1f} s, {work:.1f} s of processor time, {size:.1f} MB", flush=True)
 
 
 if __name__ == "__main__":

@@ -207,7 +207,8 @@ class Diff(Folder):
         """A line for it and two for the figure; in the sheets as text some ten lines differ, in the records more."""
         old = page("workbench", "catalogue", "sweep-markers.routine").encode()
         new = old.replace(b"    next = add(", b"    wait\n    next = add(")
-        expected = ["- whole figure 96078 attempts 21 twice 0", "+ whole figure 106128 attempts 21 twice 0", "region step-on:", "+ wait cost 50"]
+        expected = ["- whole figure 96078 attempts 21 twice 0", "+ whole figure 106128 attempts 21 twice 0",
+                    "region step-on:", "+ wait cost 50"]
         self.assertEqual(self.diff(old, new), (1, expected))
         status, lines = self.diff(assemble(old)[0], assemble(new)[0], ".store")
         self.assertEqual((status, lines), (1, [*expected[:2], "region 5:", "+ 25 cost 50"]))

@@ -6,10 +6,25 @@ import subprocess
 import tempfile
 import unittest
 
-from .support import CATALOGUE, WORKBENCH, command, needs_nest, needs_show, programs
+from .support import CATALOGUE, ROOT, WORKBENCH, command, needs_nest, needs_show, programs
 
 from rukvetta.assemble import assemble
+from rukvetta.command import COMMANDS
 from rukvetta.needs import COMMAND
+
+RUKVETTA = "../bin/rukvetta"
+
+
+def link_tree(folder):
+    """Make a folder look like that of the repository."""
+    for name in "bin", "workbench", "docs":
+        os.symlink(os.path.join(ROOT, name), os.path.join(folder, name))
+
+
+def run_line(line, folder):
+    """Run a line of a page, as a person would."""
+    return subprocess.run(line, shell=True, cwd=folder, capture_output=True, check=False,
+                          env={**os.environ, "RUKVETTA_PROGRAMS": os.path.abspath(programs.folder)})
 
 
 def page(name):
@@ -34,8 +49,9 @@ class TenMinutes(unittest.TestCase):
             assemble(source.encode())
 
     def test_the_fault(self):
-        status, _, said = command("assemble", data=blocks("routine")[-1].replace("frequency(f)", "frequncy(f)").encode())
-        self.assertEqual((status, said), (1, blocks("fault")[0]))
+        source = blocks("routine")[-1].replace("frequency(f)", "frequncy(f)").encode()
+        status, _, said = command(RUKVETTA, "assemble", "-o", "-", data=source)
+        self.assertEqual((status, said), (1, blocks("fault")[0].replace("ping.routine", "source")))
 
     @needs_show
     def test_the_explanation(self):
@@ -46,22 +62,50 @@ class TenMinutes(unittest.TestCase):
     def test_step_by_step(self):
         """The whole page: each source is written down as it comes, each command run, and the sheet is the page's."""
         with tempfile.TemporaryDirectory() as folder:
-            os.symlink(WORKBENCH, os.path.join(folder, "workbench"))
-            os.mkdir(os.path.join(folder, "target"))
-            os.symlink(os.path.abspath(programs.folder), os.path.join(folder, "target", "bin"))
+            link_tree(folder)
             printed = {}
             for source, line in steps():
                 if source:
                     with open(os.path.join(folder, "ping.routine"), "w", encoding="utf-8") as file:
                         file.write(source)
                 else:
-                    done = subprocess.run(line, shell=True, cwd=folder, capture_output=True, check=False)
+                    done = run_line(line, folder)
                     self.assertEqual((done.returncode, done.stderr), (0, b""), line)
                     printed[line] = done.stdout.decode()
             self.assertEqual(len(printed), 8)
-            self.assertEqual(printed["target/bin/nest < ping.store"], blocks("sheet")[0])
-            self.assertIn("costs at most 204", printed["workbench/explain ping.routine"])
+            self.assertEqual(printed["bin/rukvetta nest ping.routine"], blocks("sheet")[0])
+            self.assertIn("costs at most 204", printed["bin/rukvetta explain ping.routine"])
             self.assertEqual(sorted(os.listdir(os.path.join(folder, "pings"))), ["ping.routine", "ping.sheet"])
+
+
+class CommandPage(unittest.TestCase):
+    @needs_nest
+    def test_each_line_is_run(self):
+        with open(os.path.join(ROOT, "docs", "COMMAND.md"), encoding="utf-8") as file:
+            lines = re.findall(r"(?m)^    (bin/rukvetta .*)$", file.read())
+        self.assertEqual(len(lines), 10)
+        with tempfile.TemporaryDirectory() as folder:
+            link_tree(folder)
+            for line in lines:
+                wanted = re.search(r"# status (\d)", line)
+                done = run_line(line, folder)
+                self.assertEqual((done.returncode, done.stderr), (int(wanted[1]) if wanted else 0, b""), line)
+
+    def test_every_command_is_named(self):
+        with open(os.path.join(ROOT, "docs", "COMMAND.md"), encoding="utf-8") as file:
+            text = file.read()
+        for name in COMMANDS:
+            self.assertIn(f"| `rukvetta {name} ", text)
+
+
+class Sentences(unittest.TestCase):
+    """No sentence of the pages for users is longer than thirty words."""
+
+    def test_pages(self):
+        for name in "docs/JSON.md", "../docs/COMMAND.md":
+            text = re.sub(r"```.*?```|(?m:^    .*$)|(?m:^#.*$)", ". ", page(name), flags=re.S)
+            for sentence in re.split(r"[.:;|]\s", text):
+                self.assertLessEqual(len(sentence.split()), 30, sentence)
 
 
 class Readme(unittest.TestCase):
@@ -73,7 +117,7 @@ class Readme(unittest.TestCase):
         self.assertIn(f"runs all: {count} tests", text)
 
     def test_links_lead_somewhere(self):
-        for name in "README.md", "docs/TEN-MINUTES.md", "docs/SOURCE-FORM.md":
+        for name in "README.md", "docs/TEN-MINUTES.md", "docs/SOURCE-FORM.md", "docs/JSON.md", "../docs/COMMAND.md":
             for target in re.findall(r"\]\(([^)#]+)\)", page(name)):
                 self.assertTrue(os.path.exists(os.path.join(WORKBENCH, os.path.dirname(name), target)), target)
 

@@ -8,7 +8,7 @@ import unittest
 
 from .support import CATALOGUE, ROOT, WORKBENCH, command, needs_nest, needs_show, programs, put
 from .test_assemble import SWEEP
-from .test_silent import faults_of
+from .test_silent import catalogue, faults_of
 
 from rukvetta.assemble import assemble
 from rukvetta.explain import explain
@@ -48,6 +48,19 @@ class AllAtOnce(unittest.TestCase):
             with self.subTest(bad=bad):
                 self.assertIn(good, SWEEP)
                 self.assertEqual(len(faults_of(SWEEP.replace(good, bad))), 1, faults_of(SWEEP.replace(good, bad)))
+
+    def test_one_bad_line_is_one_fault(self):
+        """Each line of the catalogue's sources, spoilt at its end: one fault, at that line."""
+        spoilt = 0
+        for name, source in catalogue().items():
+            lines = source.split(b"\n")
+            for at, line in enumerate(lines):
+                code = line.split(b"#")[0].rstrip()
+                for end in (b" %", b" ( (") if code else ():
+                    found = faults_of(b"\n".join([*lines[:at], code + end, *lines[at + 1:]]))
+                    self.assertEqual([place for place, _, _ in found], [at + 1], (name, code, found))
+                    spoilt += 1
+        self.assertGreater(spoilt, 2000)
 
     def test_the_command_tells_them_all(self):
         status, store, said = command("assemble", data=SWEEP.replace(b"below(next", b"belw(nxt"))

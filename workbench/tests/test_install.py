@@ -62,8 +62,8 @@ class Install(Folder):
         self.assertEqual(self.run_it(program, "report", source, "-o", os.path.join(self.folder, "p.html"), **here), (0, ""))
         self.assertEqual(self.run_it(program, "check", CATALOGUE, **here)[0], 0)
         installed = all_files(self.prefix)
-        for name in ("bin/nest", "bin/show", "lib/librukvetta.a", "include/rukvetta.h", "lib/pkgconfig/rukvetta.pc", "share/doc/rukvetta/NOTICE",
-                     "share/man/man1/rukvetta.1", "share/man/man1/nest.1", "share/man/man3/rukvetta_nest.3"):
+        for name in ("bin/nest", "bin/show", "lib/librukvetta.a", "include/rukvetta.h", "lib/pkgconfig/rukvetta.pc",
+                     "share/doc/rukvetta/NOTICE", "share/man/man1/rukvetta.1", "share/man/man1/nest.1", "share/man/man3/rukvetta_nest.3"):
             self.assertIn(name, installed)
         for name in "LICENSE-MIT", "LICENSE-APACHE":
             self.assertEqual(f"share/doc/rukvetta/{name}" in installed, os.path.exists(os.path.join(ROOT, name)))
@@ -160,8 +160,8 @@ class Manual(unittest.TestCase):
     def test_they_can_be_set(self):
         for name in sorted(os.listdir(MAN)):
             if name != "rukvetta_accept.3":         # which leads to another
-                done = subprocess.run(["man", "--warnings=w", "-E", "UTF-8", "-l", os.path.join(MAN, name)], capture_output=True, check=False,
-                                      env={**os.environ, "MANWIDTH": "100"})
+                done = subprocess.run(["man", "--warnings=w", "-E", "UTF-8", "-l", os.path.join(MAN, name)], capture_output=True,
+                                      check=False, env={**os.environ, "MANWIDTH": "100"})
                 self.assertEqual((done.returncode, done.stderr), (0, b""), name)
                 self.assertIn(b"Rukvetta", done.stdout)
 

@@ -200,10 +200,10 @@ class Page(unittest.TestCase):
         self.assertEqual(self.browser.count("svg.graph a.box"), 32)
         self.assertGreaterEqual(self.scale() * 12, 10)
         self.click("fit")
-        self.assertEqual(self.browser.run("""
+        fits = self.browser.run("""
             const frame = document.querySelector('.scroll'), size = document.querySelector('svg.graph').getBoundingClientRect();
-            return [size.width <= frame.clientWidth + 1, size.height <= innerHeight, frame.scrollWidth <= frame.clientWidth + 1]"""),
-            [True, True, True])
+            return [size.width <= frame.clientWidth + 1, size.height <= innerHeight, frame.scrollWidth <= frame.clientWidth + 1]""")
+        self.assertEqual(fits, [True, True, True])
         small = self.scale()
         self.click("1:1")
         self.assertAlmostEqual(self.scale(), 1, 2)
