@@ -16,6 +16,14 @@ from .version import version
 SCHEMA = 1
 
 
+Told = dict[str, Any]       # a fault: line, column and message
+
+
+def told(fault: Fault) -> list[Told]:
+    """The faults of a source as plain data."""
+    return [{"line": one.line, "column": one.column, "message": one.message} for one in fault.all()]
+
+
 @dataclass
 class Answer:
     """What is known of one file. What a command does not ask for is None or empty."""
@@ -32,7 +40,7 @@ class Answer:
     record: list[str] = field(default_factory=list)
     sheet: list[str] = field(default_factory=list)
     sentences: list[str] = field(default_factory=list)
-    faults: list[dict[str, Any]] = field(default_factory=list)
+    faults: list[Told] = field(default_factory=list)
     wrong: str | None = None            # why it failed, for people
     written: str | None = None          # the file that was written for it
 
@@ -50,7 +58,7 @@ class Answer:
         self.figure, self.attempts, self.twice = figure, attempts, twice
 
     def take_faults(self, fault: Fault) -> None:
-        self.faults = [{"line": one.line, "column": one.column, "message": one.message} for one in fault.all()]
+        self.faults = told(fault)
 
 
 @dataclass

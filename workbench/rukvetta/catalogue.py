@@ -7,9 +7,10 @@ import multiprocessing
 import os
 import sys
 from collections.abc import Iterator
-from dataclasses import dataclass
+from dataclasses import dataclass, field
+from typing import NoReturn
 
-from .answers import Output
+from .answers import Output, Told, told
 from .difference import sheet_changes
 from .facts import Facts, add_clock, facts_of, heads
 from .faults import escaped
@@ -33,6 +34,7 @@ class Check:
     facts: Facts
     wrong: str = ""
     sheet: str | None = None
+    faults: list[Told] = field(default_factory=list)        # plain data: what a worker answers is pickled
 
 
 @dataclass
@@ -90,7 +92,7 @@ def check(job: Job) -> Check:
         proposed = sheet if wrong and not refusal(sheet) else None
         return Check(job.file(), facts_of(job.name(), routine.store, shown, sheet), wrong, proposed)
     except BadSource as fault:
-        return Check(job.file(), Facts(job.name(), Verdict("no store")), str(fault))
+        return Check(job.file(), Facts(job.name(), Verdict("no store")), str(fault), faults=told(fault.fault))
     except Missing as missing:
         return Check(job.file(), Facts(job.name(), Verdict("no answer")), str(missing))
     except OSError as error:
@@ -153,6 +155,7 @@ class Checker:
             answer = self.output.answer(done.path)
             if done.facts.said.attempts is not None or done.facts.said.refused:
                 answer.take_facts(done.facts, self.options.clock)
+            answer.faults = done.faults
             answer.wrong, answer.written = done.wrong or None, written
 
     def write(self, done: Check) -> str:
@@ -197,12 +200,15 @@ class Checker:
         return sys.stdin.readline().strip().lower() in ("y", "yes")
 
 
+def unreadable(error: OSError) -> NoReturn:
+    """A folder that cannot be read is told, and not passed over."""
+    raise error
+
+
 def routines_in(folder: str) -> Iterator[str]:
     """The sources and stores of a folder and of those in it, as paths within it, in order."""
-    os.listdir(folder)      # which says what is wrong with a folder; os.walk does not
-    found = []
-    for place, folders, names in os.walk(folder):
-        folders.sort()
+    found: list[str] = []
+    for place, _, names in os.walk(folder, onerror=unreadable):
         found += [os.path.relpath(os.path.join(place, name), folder) for name in names if name.endswith((SOURCE, STORE))]
     yield from sorted(found, key=os.path.splitext)
 

@@ -53,7 +53,8 @@ class Printer:
     def all(self) -> int:
         files = [(path, read_file(path)) for path in self.options.store]
         self.programs.path(self.program)
-        for place, (path, data) in enumerate(tracked(files, len(files))):
+        counted = files if sys.stdout.isatty() else tracked(files, len(files))      # on a terminal the text itself is the progress
+        for place, (path, data) in enumerate(counted):
             if len(files) > 1:
                 self.output.say("\n" * bool(place) + f"{escaped(path)}:")
             self.one(path, data)

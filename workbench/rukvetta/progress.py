@@ -24,7 +24,8 @@ def tracked(items: Iterable[Item], total: int, live: Any = None) -> Iterator[Ite
         return
     progress = need("rich.progress")
     columns = progress.BarColumn(), progress.MofNCompleteColumn(), progress.TimeElapsedColumn()
-    with progress.Progress(*columns, console=live or live_console(), transient=True) as bar:
+    console = live or live_console()
+    with progress.Progress(*columns, console=console, transient=True, redirect_stdout=False) as bar:     # which may be a file
         task = bar.add_task("", total=total)
         for item in items:
             yield item

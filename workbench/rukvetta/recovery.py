@@ -64,12 +64,14 @@ class Draft:
 def stand_in(statement: str) -> str:
     """What stands for a statement that does not parse."""
     words = statement.split("#")[0].split() or [""]
-    if words[0] == "region":
+    match = WORDS.match(words[0])
+    first = match[0] if match else ""
+    if first == "region":
         name = NAME.match(words[1]) if words[1:] else None
         return f"region {name[0]}" if name and name[0] not in ("in", "limit") else LOST_REGION
-    if words[0] in ("record", "block"):
-        return words[0]
-    return "unreachable" if words[0] in TERMINATORS else ""
+    if first in ("record", "block"):
+        return first
+    return "unreachable" if first in TERMINATORS else ""
 
 
 def repair(draft: Draft, fault: Unparsed) -> None:

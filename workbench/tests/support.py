@@ -30,7 +30,7 @@ def vectors(name):
 
 def command(name, *arguments, data=b"", folder=None):
     """Run a command of the workbench: its status, output and messages."""
-    done = subprocess.run([os.path.join(WORKBENCH, name), *arguments], input=data, capture_output=True, check=False,
+    done = subprocess.run([os.path.join(WORKBENCH, name), *arguments], input=data, capture_output=True, check=False, timeout=300,
                           env={**os.environ, "RUKVETTA_PROGRAMS": folder or programs.folder, "COLUMNS": "160"})
     return done.returncode, done.stdout, done.stderr.decode()
 

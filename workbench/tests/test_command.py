@@ -105,6 +105,34 @@ class Commands(Folder):
         self.assertEqual((done.returncode, out.split(b" ")[0]), (0, b"whole"))
         self.assertEqual(said, b"reading standard input, a terminal; Ctrl-D ends it\n")
 
+    def test_a_progress_line_stands_beside_the_text(self):
+        """Standard output is a file, standard error a terminal: the text goes to the one, the line to the other."""
+        paths = [os.path.join(CATALOGUE, name) for name in sorted(os.listdir(CATALOGUE)) if name.endswith(".routine")][:6]
+        for words, wanted in (["nest", *paths], b"whole figure"), (["report", *paths, "-o", self.path("i.html")], b""):
+            ours, theirs = pty.openpty()
+            done = subprocess.Popen([os.path.join(ROOT, "bin", "rukvetta"), *words, "--programs", programs.folder], stdout=subprocess.PIPE,
+                                    stderr=theirs, env={**os.environ, "TERM": "xterm", "COLUMNS": "100"})
+            os.close(theirs)
+            out = done.communicate(timeout=60)[0]
+            shown = b""
+            try:
+                while part := os.read(ours, 65536):
+                    shown += part
+            except OSError:         # the terminal's other end is closed
+                pass
+            os.close(ours)
+            self.assertIn(wanted, out)
+            self.assertIn(b"6/6", shown)
+            self.assertNotIn(b"whole figure", shown)
+
+    def test_it_decides_nothing_itself(self):
+        """What is printed is what the programs answer, whatever that is."""
+        for name, text in ("nest", "whole figure 5 attempts 1 twice 0"), ("show", "refused 8 3"):
+            put(self.path(name), f"#!/bin/sh\necho {text}\n".encode())
+            os.chmod(self.path(name), 0o755)
+        self.assertEqual(self.rukvetta("nest", data=SWEEP, folder=self.folder), (0, "whole figure 5 attempts 1 twice 0\n", ""))
+        self.assertEqual(self.rukvetta("show", data=SWEEP, folder=self.folder), (1, "refused 8 3\n", ""))
+
     def test_assemble_writes_nothing_where_it_fails(self):
         out = self.path("a.store")
         source = put(self.path("a.routine"), SWEEP)
@@ -298,7 +326,8 @@ class Json(Folder):
         made = self.document(0, "check", CATALOGUE)
         self.assertEqual((made["passed"], made["failed"], len(made["routines"])), (37, 0, 37))
         self.assertEqual(self.document(1, "diff", good, refused)["changes"][0], {"sign": "-", "text": "whole figure 11 attempts 8 twice 0"})
-        self.document(1, "check", self.folder, "--update")
+        made = self.document(1, "check", self.folder, "--update")
+        self.assertEqual({one["file"]: len(one["faults"]) for one in made["routines"]}, {self.path("a.store"): 0, bad: 2})
         self.document(3, "nest", good, folder=self.folder)
         self.document(2, "nest", self.path("none"))
 

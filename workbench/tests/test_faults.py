@@ -56,11 +56,11 @@ class AllAtOnce(unittest.TestCase):
             lines = source.split(b"\n")
             for at, line in enumerate(lines):
                 code = line.split(b"#")[0].rstrip()
-                for end in (b" %", b" ( (") if code else ():
+                for end in (b" %", b";", b" ( (") if code else ():
                     found = faults_of(b"\n".join([*lines[:at], code + end, *lines[at + 1:]]))
                     self.assertEqual([place for place, _, _ in found], [at + 1], (name, code, found))
                     spoilt += 1
-        self.assertGreater(spoilt, 2000)
+        self.assertGreater(spoilt, 3000)
 
     def test_the_command_tells_them_all(self):
         status, store, said = command("assemble", data=SWEEP.replace(b"below(next", b"belw(nxt"))

@@ -108,6 +108,21 @@ class Install(Folder):
         self.assertEqual(all_files(stage), [])
 
 
+@unittest.skipUnless(shutil.which("git") and os.path.exists(os.path.join(ROOT, ".git")), "this is no clone, or there is no git")
+class Archive(Folder):
+    """What `git archive` makes has all that the commands and the pages' first lines need."""
+
+    @needs_nest
+    def test_it_works_without_the_repository(self):
+        put(os.path.join(self.folder, "a.tar"), subprocess.run(["git", "-C", ROOT, "archive", "HEAD"], capture_output=True, check=True).stdout)
+        self.assertEqual(self.run_it("tar", "-xf", "a.tar"), (0, ""))
+        self.assertEqual(self.run_it("bin/rukvetta", "--version"), (0, f"rukvetta {read(ROOT, 'VERSION').strip()}\n"))
+        status, said = self.run_it("bin/rukvetta", "check", "workbench/catalogue")
+        self.assertEqual((status, said.splitlines()[-1]), (0, "37 passed, 0 failed"))
+        for name in "crates.txt", ".ci/run", "docs/example.store", "interface/build", "interface/rukvetta.h", "install", "uninstall":
+            self.assertTrue(os.path.exists(os.path.join(self.folder, name)), name)
+
+
 class Missing(Folder):
     def test_what_is_not_built(self):
         for name, variables in (("nest", {"RUKVETTA_PROGRAMS": self.folder}), ("librukvetta.a", {"RUKVETTA_LIBRARY": self.folder})):
