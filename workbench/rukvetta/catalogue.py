@@ -17,6 +17,7 @@ from .faults import escaped
 from .needs import REFUSED, USAGE, Missing, Parser, need
 from .programs import BUILT_BY, Programs, add_option, refusal
 from .progress import live_console, tracked
+from .refusals import several
 from .routine import SOURCE, STORE, BadSource, load
 from .sheet import Verdict
 from .streams import replace_file
@@ -178,7 +179,7 @@ class Checker:
             answer = answers.get(escaped(done.path))
             if answer:
                 answer.wrong, answer.written = None, path
-        self.output.say(f"{len(self.proposed)} sheets written")
+        self.output.say(f"{several(len(self.proposed), 'sheet')} written")
 
     def show(self, done: Check) -> None:
         path, old = escaped(beside(done.path)), expected_sheet(done.path)
@@ -196,7 +197,7 @@ class Checker:
         if not sys.stdin or not sys.stdin.isatty() or self.output.as_json:
             self.output.complain("Nothing is written: standard input is no terminal to ask on, and there is no --yes.")
             return False
-        print(f"\nWrite these {len(self.proposed)} sheets? [y/N] ", end="", flush=True)
+        print(f"\nWrite {several(len(self.proposed), 'sheet')}? [y/N] ", end="", flush=True)
         return sys.stdin.readline().strip().lower() in ("y", "yes")
 
 

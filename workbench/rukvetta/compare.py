@@ -141,12 +141,20 @@ class NewLabels(OldLabels):
     def value(self, value: r.Value) -> str:
         kind, region, index = value
         if kind == r.CONSTANT:
-            return self.side.names.values.get(value) or self.old.value(value)
+            return self.constant(value)
         if kind == r.INPUT and region in self.pairs.regions:
             return self.old.value((kind, self.pairs.regions[region], index))
         if kind == r.INSTRUCTION and (region, index) in self.pairs.instructions:
             return self.old.value((kind, *self.pairs.instructions[region, index]))
         return self.side.names.values.get(value) or (f"{NEW} {r.value_text(value)}" if kind == r.INSTRUCTION else r.value_text(value))
+
+
+    def constant(self, value: r.Value) -> str:
+        """A constant that has another name now, at the same place, is called as before."""
+        own, before = self.side.names.values.get(value), self.old.value(value)
+        if own is None or own in self.old.side.names.constants or before in self.side.names.constants:
+            return own or before
+        return before if value[2] < len(self.old.side.record.constants) else own
 
 
 def listed(items: list[str]) -> str:
@@ -187,7 +195,7 @@ def region_lines(number: int, region: r.Region, labels: OldLabels) -> Iterator[s
 
 
 def head_line(record: r.Record, labels: OldLabels) -> str:
-    constants = [f"{labels.side.names.values.get((r.CONSTANT, 0, k), '')}:{given}".lstrip(":") for k, given in enumerate(record.constants)]
+    constants = [f"{labels.value((r.CONSTANT, 0, k))}:{given}" for k, given in enumerate(record.constants)]
     return f"record entry {labels.region(record.entry)} test {record.test} constants {listed(constants)}"
 
 

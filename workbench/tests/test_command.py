@@ -208,7 +208,7 @@ class Check(Folder):
             out, _ = done.communicate(timeout=60)
             os.close(ours)
             os.close(theirs)
-            self.assertIn(b"Write these 1 sheets? [y/N]", out)
+            self.assertIn(b"Write 1 sheet? [y/N]", out)
             self.assertEqual(done.returncode, status)
             self.assertIn(figure, page(self.deep, "sweep-markers.sheet"))
 
@@ -230,6 +230,8 @@ class Diff(Folder):
         self.assertEqual(self.diff(SWEEP, SWEEP), (0, []))
         moved = SWEEP.replace(b"region done\n    return\n", b"").replace(b"region start\n", b"region done\n    return\nregion start\n")
         self.assertEqual(self.diff(SWEEP, moved), (0, []))
+        for name, other in (b"from", b"begin"), (b"sweep", b"tone"), (b"next", b"then"), (b"hertz", b"hz"):     # names are no difference
+            self.assertEqual(self.diff(SWEEP, SWEEP.replace(name, other)), (0, []), name)
 
     def test_one_instruction_more(self):
         """A line for it and two for the figure; in the sheets as text some ten lines differ, in the records more."""

@@ -114,7 +114,8 @@ class Archive(Folder):
 
     @needs_nest
     def test_it_works_without_the_repository(self):
-        put(os.path.join(self.folder, "a.tar"), subprocess.run(["git", "-C", ROOT, "archive", "HEAD"], capture_output=True, check=True).stdout)
+        archive = subprocess.run(["git", "-C", ROOT, "archive", "HEAD"], capture_output=True, check=True).stdout
+        put(os.path.join(self.folder, "a.tar"), archive)
         self.assertEqual(self.run_it("tar", "-xf", "a.tar"), (0, ""))
         self.assertEqual(self.run_it("bin/rukvetta", "--version"), (0, f"rukvetta {read(ROOT, 'VERSION').strip()}\n"))
         status, said = self.run_it("bin/rukvetta", "check", "workbench/catalogue")

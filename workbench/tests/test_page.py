@@ -123,7 +123,7 @@ class Page(unittest.TestCase):
         nest = self.browser.texts("svg.nest text")
         for text in "l = low", "l ← next", "set-level(l)", "next = add(l, l-step)":
             self.assertIn(text, nest)
-        for text in "f ← step-on.next", "repeat while step-on.more", "next = add(outer.f, f-step)":     # `inner` has a next and a more too
+        for text in "f ← step-on.next", "repeat while step-on.more", "next = add(outer.f, f-step)":     # `inner` has these names too
             self.assertIn(text, nest)
         self.assertFalse([text for text in nest if "i2." in text])
         self.assertEqual(set(self.browser.run("return [...document.querySelectorAll('.moved')].map(e => e.textContent + e.dataset.is)")),
