@@ -90,7 +90,7 @@ class Reporter:
         return page, facts, answer
 
     def write(self, path: str, page: str, answer: Answer | None = None) -> None:
-        replace_file(path, page.encode("utf-8"))
+        replace_file(os.path.realpath(path), page.encode("utf-8"))
         if answer:
             answer.written = escaped(path)
 

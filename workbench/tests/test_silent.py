@@ -6,11 +6,13 @@ import shutil
 import tempfile
 import unittest
 
-from .support import CATALOGUE, WORKBENCH, command, needs_nest, put
+from .support import CATALOGUE, WORKBENCH, command, needs_nest, programs, put, vectors
 from .test_assemble import SWEEP
 
 from rukvetta.assemble import assemble
 from rukvetta.faults import Fault
+from rukvetta.limits import ways_back
+from rukvetta.source import read_source
 
 
 def faults_of(source: bytes) -> list[tuple[int, int, str]]:
@@ -65,6 +67,18 @@ class Limits(unittest.TestCase):
                     needed += 1
         self.assertGreater(needed, 35)
         self.assertEqual(free, 4)
+
+
+    @needs_nest
+    def test_no_loop_of_the_list_is_missed(self):
+        """Each loop that nesting made, on all sheets of the list, is of a region that would need a limit."""
+        loops = 0
+        for store, sheet in vectors("sheets.vectors"):
+            bodies = set(map(int, re.findall(r"(?m)^loop \d+ in \S+ body (\d+) ", sheet)))
+            if bodies:
+                self.assertLessEqual(bodies, set(ways_back(read_source(programs.show(store).encode())[0])))
+                loops += len(bodies)
+        self.assertGreater(loops, 800)
 
 
 class Costs(unittest.TestCase):
