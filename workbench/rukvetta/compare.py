@@ -148,7 +148,6 @@ class NewLabels(OldLabels):
             return self.old.value((kind, *self.pairs.instructions[region, index]))
         return self.side.names.values.get(value) or (f"{NEW} {r.value_text(value)}" if kind == r.INSTRUCTION else r.value_text(value))
 
-
     def constant(self, value: r.Value) -> str:
         """A constant that has another name now, at the same place, is called as before."""
         own, before = self.side.names.values.get(value), self.old.value(value)

@@ -78,6 +78,13 @@ class TenMinutes(unittest.TestCase):
             self.assertEqual(sorted(os.listdir(os.path.join(folder, "pings"))), ["ping.routine", "ping.sheet"])
 
 
+def long_sentences(text):
+    """The sentences of more than thirty words; what is code is no sentence."""
+    text = re.sub(r"```.*?```", ". ", text, flags=re.S)
+    text = re.sub(r"(?m)^(    |#).*$", ". ", text)
+    return [sentence for sentence in re.split(r"[.:;|]\s", text) if len(sentence.split()) > 30]
+
+
 class CommandPage(unittest.TestCase):
     @needs_nest
     def test_each_line_is_run(self):
@@ -103,9 +110,8 @@ class Sentences(unittest.TestCase):
 
     def test_pages(self):
         for name in "docs/JSON.md", "../docs/COMMAND.md":
-            text = re.sub(r"```.*?```|(?m:^    .*$)|(?m:^#.*$)", ". ", page(name), flags=re.S)
-            for sentence in re.split(r"[.:;|]\s", text):
-                self.assertLessEqual(len(sentence.split()), 30, sentence)
+            self.assertEqual([], long_sentences(page(name)), name)
+        self.assertEqual(len(long_sentences("Short. " + "so " * 31 + "long.\n\n    " + "code " * 40 + "\n\nShort.\n")), 1)
 
 
 class Readme(unittest.TestCase):

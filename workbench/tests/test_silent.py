@@ -68,7 +68,6 @@ class Limits(unittest.TestCase):
         self.assertGreater(needed, 35)
         self.assertEqual(free, 4)
 
-
     @needs_nest
     def test_no_loop_of_the_list_is_missed(self):
         """Each loop that nesting made, on all sheets of the list, is of a region that would need a limit."""
